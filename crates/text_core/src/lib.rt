@@ -1,0 +1,22 @@
+//! Names, texts and lists, and what the outside is: files that are read and streams that are written.
+#![tactic(auto)]
+
+mod errors;
+mod lists;
+mod memory;
+mod outside;
+mod place;
+mod real;
+#[cfg(test)]
+mod tests;
+mod text;
+mod whole;
+
+pub use errors::{NoMemory, ReadEnd, ShelfFault, SinkFault};
+pub use lists::{FilePair, FilePairs, Items, Names, Numbers};
+pub use memory::{DropSink, MemoryShelf, MemorySink, SureShelf};
+pub use outside::{Shelf, Sink};
+pub use place::{Kind, Place, Refusal};
+pub use real::{FileShelf, StreamSink};
+pub use text::{Name, Text};
+pub use whole::{read_whole, write_whole};

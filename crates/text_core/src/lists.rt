@@ -1,0 +1,121 @@
+// One list type for all elements: it is seen as the list of its elements.
+ghost use Rattle.std.specs.Prelude.{◌≡◌, ◌==◌, ◌<◌, ◌++◌, [], ◌∷◌, length, None, IfSome, IfNone, OnOk, OnErr, slice_index_or};
+ghost use Rattle.std.specs.List.{list_any};
+ghost use Rattle.text_core.specs.Outside.{file_at};
+ghost use Rattle.text_core.specs.Memory.{IsPlaceOf};
+
+use crate::errors::NoMemory;
+use crate::text::Name;
+use std::alloc::Global;
+use std::marker::Model;
+
+/// A list, seen as the list of its elements.
+#[derive(Debug, Drop)]
+pub struct Items<T> {
+    items: Vec<T>,
+}
+
+impl<T> Model for Items<T> {
+    ghost use Rattle.std.specs.Prelude.{List};
+
+    ghost Value = { List T };
+
+    ghost view = { λ l. l.items.items };
+}
+
+impl<T: Drop> Items<T> {
+    /// The empty list. It takes no memory.
+    pub fn new(alloc: Global) -> Items<T>
+        ensures { result ≡ [] }
+    {
+        Items {
+            items: Vec::new(alloc),
+        }
+    }
+
+    /// Adds x at the end, and leaves the list unchanged where it is refused.
+    pub fn push(&mut self, x: T) -> Result<(), NoMemory>
+        ensures ok { OnOk result (self.new ≡ self.old ++ x ∷ []) }
+        ensures err { OnErr result (self.new ≡ self.old) }
+    {
+        match self.items.push(x) {
+            Ok(()) => Ok(()),
+            Err(_) => Err(NoMemory),
+        }
+    }
+
+    pub fn len(&self) -> usize
+        ensures { result ≡ length self.now }
+    {
+        self.items.len()
+    }
+
+    pub fn at(&self, i: usize) -> &T
+        requires { i < length self.now }
+        ensures { result.now ≡ slice_index_or self.now i result.now }
+    {
+        &self.items[i]
+    }
+}
+
+/// A list of names, seen as a list of their bytes.
+pub type Names = Items<Name>;
+
+/// A list of numbers.
+pub type Numbers = Items<u64>;
+
+impl Items<u64> {
+    /// Is x in the list?
+    pub fn contains(&self, x: u64) -> bool
+        ensures { result ≡ list_any (λ y. y == x) self.now }
+    {
+        self.items.contains(&x)
+    }
+}
+
+/// A file's name and its bytes, seen as that pair.
+#[derive(Debug, Drop)]
+pub struct FilePair {
+    pub name: Name,
+    pub bytes: Vec<u8>,
+}
+
+impl Model for FilePair {
+    ghost use Rattle.std.specs.Prelude.{List, ℕ};
+
+    ghost Value = { List ℕ × List ℕ };
+
+    ghost view = { λ p. (p.name, p.bytes.items) };
+}
+
+impl FilePair {
+    pub fn name(&self) -> &Name
+        ensures { result.now ≡ self.now.0 }
+    {
+        &self.name
+    }
+
+    pub fn bytes(&self) -> &[u8]
+        ensures { result.now ≡ self.now.1 }
+    {
+        self.bytes.as_slice()
+    }
+}
+
+/// A list of files, seen as pairs of a name and its bytes.
+pub type FilePairs = Items<FilePair>;
+
+impl Items<FilePair> {
+    /// The place of the first file with this name.
+    pub fn place_of(&self, name: &Name) -> Option<usize>
+        ensures found { IfSome result (IsPlaceOf self.now name.now) }
+        ensures missing { IfNone result (file_at self.now name.now ≡ None) }
+    {
+        for i in 0..self.len() {
+            if self.at(i).name().bytes() == name.bytes() {
+                return Some(i);
+            }
+        }
+        None
+    }
+}
