@@ -1,0 +1,14 @@
+use Rattle.moxi_cli.proofs.OutcomeLemmas.{run_done, run_prefix, run_complete}
+use Rattle.moxi_cli.proofs.command.run.Goals as goal
+
+pub returns-in-Ok-clause-done : goal.returns-in-Ok-clause-done
+returns-in-Ok-clause-done g c =
+    run_done _ _ _ c.in-Ok.answer c.deliver.result _ _ c.in-Ok.ensures.answer c.deliver.ensures.status c.deliver.ensures.text
+
+pub returns-in-Ok-clause-prefix : goal.returns-in-Ok-clause-prefix
+returns-in-Ok-clause-prefix g c = λ fault.
+    run_prefix _ _ _ c.in-Ok.answer _ _ c.in-Ok.ensures.answer c.deliver.ensures.part
+
+pub returns-in-Ok-clause-complete : goal.returns-in-Ok-clause-complete
+returns-in-Ok-clause-complete g c =
+    run_complete _ _ _ _ _ c.in-Ok.answer c.deliver.result c.in-Ok.ensures.answer c.deliver.ensures.status c.deliver.ensures.write_fault

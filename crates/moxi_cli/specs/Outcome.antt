@@ -1,0 +1,101 @@
+-- The answer that words and files define, and when a call may give an answer.
+use Rattle.std.specs.Prelude.{◌≡◌, ◌⊎◌, ◌≤◌, ◌<◌, ℕ, List, [], length, nat_lt, Option, Some, None, Result, Ok, Err, IfSome, if◌then◌else◌}
+use Rattle.text_core.specs.Outside.{Files, file_at}
+use Rattle.text_core.specs.declared.place.Refusal.{Refusal}
+use Rattle.text_core.specs.declared.place.Kind.TheVariants.{S}
+use Rattle.moxi_cli.specs.declared.status.Status.{Status}
+use Rattle.moxi_cli.specs.declared.status.Status.TheVariants.{Done, Refused, Usage, ReadFault}
+use Rattle.moxi_cli.specs.declared.answer.Answer.{Answer}
+use Rattle.moxi_cli.specs.declared.answer.Answer.TheVariants.{Misread, Unread, Refuses, Writes}
+use Rattle.moxi_cli.specs.declared.translate.TheConstants.{SMV_LIMIT}
+use Rattle.moxi_cli.specs.declared.words.Command.{Command}
+use Rattle.moxi_cli.specs.declared.words.Command.TheVariants.{SmvToBtor}
+use Rattle.moxi_cli.specs.Words.{command_of, Names}
+use Rattle.moxi_cli.specs.Translation.{Source, Accepts, btor_text}
+
+-- a refusal of an SMV text at its first byte
+abbrev pub at_start : ℕ → Refusal
+at_start n = record { kind = S n; place = record { line = 1; column = 1; offset = 0 } }
+
+abbrev pub too_long : Refusal
+too_long = at_start 1
+
+abbrev pub not_built : Refusal
+not_built = at_start 29
+
+-- the bytes of a model file, or the answer in their place
+abbrev pub within_limit : List ℕ → ℕ → Refusal → Result (List ℕ) Answer
+within_limit bytes limit refusal = if nat_lt limit (length bytes) then Err (Refuses refusal) else Ok bytes
+
+abbrev pub bytes_of : Option (List ℕ) → List ℕ → ℕ → Refusal → Result (List ℕ) Answer
+bytes_of None name limit refusal = Err (Unread name)
+bytes_of (Some bytes) name limit refusal = within_limit bytes limit refusal
+
+abbrev pub smv_model : Files → List ℕ → Result (List ℕ) Answer
+smv_model files name = bytes_of (file_at files name) name SMV_LIMIT too_long
+
+-- goes on with the bytes, or gives the answer in their place
+abbrev pub GoesOn : Result (List ℕ) Answer → (List ℕ → Answer → Type 0) → Answer → Type 0
+GoesOn (Ok bytes) next answer = next bytes answer
+GoesOn (Err instead) next answer = answer ≡ instead
+
+-- the BTOR2 text of the source that the bytes spell, or a refusal where they spell none
+abbrev pub IsTranslation : List ℕ → Answer → Type 0
+IsTranslation bytes Misread = ⊥
+IsTranslation bytes (Unread name) = ⊥
+IsTranslation bytes (Refuses refusal) = (refusal ≡ not_built) × ((source : Source) → Accepts bytes source → ⊥)
+IsTranslation bytes (Writes text) = (source : Source) × Accepts bytes source × (text ≡ btor_text source)
+
+-- the answer to a command
+abbrev pub Answers : Option Command → Files → Answer → Type 0
+Answers None files answer = answer ≡ Misread
+Answers (Some (SmvToBtor model)) files answer = GoesOn (smv_model files model) IsTranslation answer
+
+-- the answer that words and files define
+abbrev pub IsOutcome : List (List ℕ) → Files → Answer → Type 0
+IsOutcome words files answer = Answers (command_of words) files answer
+
+abbrev pub status_of : Answer → Status
+status_of Misread = Usage
+status_of (Unread name) = ReadFault
+status_of (Refuses refusal) = Refused
+status_of (Writes text) = Done
+
+-- the whole text that is written
+abbrev pub text_of : Answer → List ℕ
+text_of Misread = []
+text_of (Unread name) = []
+text_of (Refuses refusal) = []
+text_of (Writes text) = text
+
+-- the files are told, and this holds of them
+abbrev pub IsTold : Option Files → (Files → Type 0) → Type 0
+IsTold None P = ⊥
+IsTold (Some files) P = P files
+
+-- the files are told, and a file of this name that the command reads isn't there
+abbrev pub IsAbsent : Option Files → Option Command → Type 0
+IsAbsent None command = ⊥
+IsAbsent (Some files) None = ⊥
+IsAbsent (Some files) (Some (SmvToBtor model)) = file_at files model ≡ None
+
+-- When an answer may be given to a command that reads files of these names. It is the defined one, where the files are
+-- told. That a file was not read may also be said where the shelf's count rose.
+abbrev pub MayGive : Option Files → (Files → Answer → Type 0) → Type 0 → (List ℕ → Type 0) → Answer → Type 0
+MayGive files defined rose named Misread = ⊥
+MayGive files defined rose named (Unread name) = named name × (rose ⊎ IsTold files (λ fs. defined fs (Unread name)))
+MayGive files defined rose named (Refuses refusal) = IfSome files (λ fs. defined fs (Refuses refusal))
+MayGive files defined rose named (Writes text) = IfSome files (λ fs. defined fs (Writes text))
+
+-- when an answer may be given to words
+abbrev pub MayAnswer : Option Files → Option Command → Type 0 → Answer → Type 0
+MayAnswer files command rose Misread = command ≡ None
+MayAnswer files command rose (Unread name) = MayGive files (λ fs a. Answers command fs a) rose (Names command) (Unread name)
+MayAnswer files command rose (Refuses refusal) = MayGive files (λ fs a. Answers command fs a) rose (Names command) (Refuses refusal)
+MayAnswer files command rose (Writes text) = MayGive files (λ fs a. Answers command fs a) rose (Names command) (Writes text)
+
+-- the answer is that a file was not read
+abbrev pub SaysUnread : Answer → Type 0
+SaysUnread answer = status_of answer ≡ ReadFault
+
+-- what is written for a command stands for its model
