@@ -14,4 +14,3 @@ btor_text source = []
 
 pub record TranslatesText (source : Source) (text : List ℕ) : Type 0 where
   pub is : text ≡ btor_text source
-

@@ -4,8 +4,9 @@
 mod answer;
 mod command;
 mod notes;
-
 mod status;
+#[cfg(test)]
+mod tests;
 mod translate;
 mod words;
 

@@ -1,0 +1,325 @@
+// Runs over files and streams in memory, as tables.
+use crate::command::run;
+use crate::status::Status;
+use std::alloc::Global;
+use std::test::Fail;
+use text_core::{DropSink, FilePair, FilePairs, MemoryShelf, MemorySink, Name, Numbers, SureShelf};
+
+const ROOM: usize = 1_048_576;
+
+const SMALLEST: &[u8] = b"MODULE main VAR x : boolean; INVARSPEC !x";
+
+const SMALLEST_TEXT: &[u8] =
+    b"1 sort bitvec 1\n2 one 1\n3 zero 1\n4 state 1 first\n5 init 1 4 2\n6 next 1 4 3\n7 input 1 v.x\n8 state 1 v.x.prev\n9 next 1 8 7\n10 not 1 7\n11 not 1 10\n12 bad 11 q.0\n";
+
+const NOT_BUILT: &[u8] = b"refused: S29 NotBuilt at 1:1\n";
+
+// What a run was given beside the model's bytes.
+#[derive(Clone, Copy)]
+struct Setting {
+    words: &'static str,
+    shelf_fails: Option<u64>,
+    most: usize,
+    out_fails: Option<u64>,
+    notes_fails: Option<u64>,
+}
+
+// How a run ended, and what it wrote.
+#[derive(Drop)]
+struct Ended {
+    status: Status,
+    out: MemorySink,
+    notes: MemorySink,
+}
+
+fn plain() -> Setting {
+    Setting {
+        words: "smv2btor m.smv",
+        shelf_fails: None,
+        most: ROOM,
+        out_fails: None,
+        notes_fails: None,
+    }
+}
+
+fn model_file(alloc: Global, bytes: &[u8]) -> Result<FilePairs, Fail> {
+    let mut files = FilePairs::new(alloc);
+    files.push(FilePair {
+        name: Name::of(alloc, b"m.smv")?,
+        bytes: bytes.to_vec(alloc)?,
+    })?;
+    Ok(files)
+}
+
+fn words_of(alloc: Global, text: &str) -> Result<Vec<String>, Fail> {
+    let mut words = Vec::new(alloc);
+    for word in text.split_whitespace() {
+        words.push(String::from_str(alloc, word)?)?;
+    }
+    Ok(words)
+}
+
+fn numbers(alloc: Global, number: Option<u64>) -> Result<Numbers, Fail> {
+    let mut numbers = Numbers::new(alloc);
+    if let Some(number) = number {
+        numbers.push(number)?;
+    }
+    Ok(numbers)
+}
+
+fn run_on(alloc: Global, setting: &Setting, model: &[u8]) -> Result<Ended, Fail> {
+    let words = words_of(alloc, setting.words)?;
+    let mut shelf = MemoryShelf::new(
+        model_file(alloc, model)?,
+        numbers(alloc, setting.shelf_fails)?,
+    );
+    let most = setting.most.max(1);
+    let mut out = MemorySink::new(alloc, ROOM, most, numbers(alloc, setting.out_fails)?)?;
+    let mut notes = MemorySink::new(alloc, ROOM, most, numbers(alloc, setting.notes_fails)?)?;
+    let status = run(alloc, &words, &mut shelf, &mut out, &mut notes);
+    Ok(Ended { status, out, notes })
+}
+
+#[test]
+fn models_and_their_texts(rt: HostRuntime) -> Result<(), Fail> {
+    let alloc = rt.alloc();
+    let rows: [(&[u8], Status, &[u8], &[u8]); 12] = [
+        (SMALLEST, Status::Done, SMALLEST_TEXT, b""),
+        (
+            b"MODULE main VAR x : boolean; INVARSPEC !x;",
+            Status::Done,
+            SMALLEST_TEXT,
+            b"",
+        ),
+        (
+            b"-- a comment\nMODULE main\r\n\tVAR x:boolean;\nINVARSPEC--!\n((!(x)))--",
+            Status::Done,
+            SMALLEST_TEXT,
+            b"",
+        ),
+        (
+            b"MODULE main VAR x : boolean; y : boolean; INVARSPEC !(x & !y)",
+            Status::Done,
+            b"1 sort bitvec 1\n2 one 1\n3 zero 1\n4 state 1 first\n5 init 1 4 2\n6 next 1 4 3\n7 input 1 v.x\n8 state 1 v.x.prev\n9 next 1 8 7\n10 input 1 v.y\n11 state 1 v.y.prev\n12 next 1 11 10\n13 not 1 10\n14 and 1 7 13\n15 not 1 14\n16 not 1 15\n17 bad 16 q.0\n",
+            b"",
+        ),
+        (
+            b"MODULE main VAR x : 0..3; INVARSPEC x = 1",
+            Status::Refused,
+            b"",
+            NOT_BUILT,
+        ),
+        (
+            b"MODULE main VAR x : boolean; INVARSPEC y",
+            Status::Refused,
+            b"",
+            NOT_BUILT,
+        ),
+        (
+            b"MODULE main VAR x : boolean; x : boolean; INVARSPEC x",
+            Status::Refused,
+            b"",
+            NOT_BUILT,
+        ),
+        (
+            b"MODULE main VAR INVARSPEC x",
+            Status::Refused,
+            b"",
+            NOT_BUILT,
+        ),
+        (
+            b"MODULE main VAR TRUE : boolean; INVARSPEC TRUE",
+            Status::Refused,
+            b"",
+            NOT_BUILT,
+        ),
+        (
+            b"MODULE main VAR x : boolean; INVARSPEC x != x",
+            Status::Refused,
+            b"",
+            NOT_BUILT,
+        ),
+        (
+            b"MODULE main VAR x : boolean; INVARSPEC x-1",
+            Status::Refused,
+            b"",
+            NOT_BUILT,
+        ),
+        (b"", Status::Refused, b"", NOT_BUILT),
+    ];
+    for (model, status, text, line) in rows {
+        let end = run_on(alloc, &plain(), model)?;
+        assert_eq!(rt; end.status, status);
+        assert_eq!(rt; end.out.bytes(), text);
+        assert_eq!(rt; end.notes.bytes(), line);
+    }
+    for end in 0..SMALLEST.len() {
+        let refused = run_on(alloc, &plain(), &SMALLEST[..end])?;
+        assert_eq!(rt; refused.status, Status::Refused);
+        assert_eq!(rt; refused.notes.bytes(), NOT_BUILT);
+    }
+    Ok(())
+}
+
+#[test]
+fn words_and_files(rt: HostRuntime) -> Result<(), Fail> {
+    let alloc = rt.alloc();
+    let misread = [
+        "",
+        "smv2btor",
+        "smv2btor a b",
+        "judge-btor a",
+        "judge-smv a b --property x",
+        "smv2btor a --property 0",
+        "smv2btor -",
+        "smv2btor --help",
+        "-- smv2btor a",
+        "smv2moxi m.smv",
+    ];
+    for words in misread {
+        let end = run_on(alloc, &Setting { words, ..plain() }, SMALLEST)?;
+        assert_eq!(rt; end.status, Status::Usage);
+        assert_eq!(rt; end.out.bytes(), b"".as_slice());
+        assert_eq!(rt;
+            end.notes.bytes(),
+            b"usage: moxi_cli COMMAND MODEL [SECOND] [--property J]\n".as_slice()
+        );
+    }
+    let absent = run_on(
+        alloc,
+        &Setting {
+            words: "smv2btor none.smv",
+            ..plain()
+        },
+        SMALLEST,
+    )?;
+    assert_eq!(rt; absent.status, Status::ReadFault);
+    assert_eq!(rt; absent.notes.bytes(), b"read fault: none.smv\n".as_slice());
+    let longest = vec![in alloc; b' '; 1_048_576]?;
+    let read = run_on(alloc, &plain(), &longest)?;
+    assert_eq!(rt; read.notes.bytes(), NOT_BUILT);
+    let longer = vec![in alloc; b' '; 1_048_577]?;
+    let refused = run_on(alloc, &plain(), &longer)?;
+    assert_eq!(rt; refused.status, Status::Refused);
+    assert_eq!(rt;
+        refused.notes.bytes(),
+        b"refused: S1 TooLong at 1:1\n".as_slice()
+    );
+    Ok(())
+}
+
+#[test]
+fn faults(rt: HostRuntime) -> Result<(), Fail> {
+    let alloc = rt.alloc();
+    // The calls of the shelf: begin, read, read at the end.
+    for call in 0..3 {
+        let setting = Setting {
+            shelf_fails: Some(call),
+            ..plain()
+        };
+        let end = run_on(alloc, &setting, SMALLEST)?;
+        assert_eq!(rt; end.status, Status::ReadFault);
+        assert_eq!(rt; end.out.bytes(), b"".as_slice());
+        assert_eq!(rt; end.notes.bytes(), b"read fault: m.smv\n".as_slice());
+    }
+    for most in [1, 7, 16] {
+        let calls = SMALLEST_TEXT.len().div_ceil(most);
+        for call in 0..calls {
+            let setting = Setting {
+                most,
+                out_fails: Some(call as u64),
+                ..plain()
+            };
+            let end = run_on(alloc, &setting, SMALLEST)?;
+            assert_eq!(rt; end.status, Status::WriteFault);
+            assert_eq!(rt; end.out.bytes(), &SMALLEST_TEXT[..call * most]);
+            assert_eq!(rt; end.notes.bytes(), b"write fault\n".as_slice());
+        }
+        let setting = Setting {
+            most,
+            out_fails: Some(calls as u64),
+            ..plain()
+        };
+        let end = run_on(alloc, &setting, SMALLEST)?;
+        assert_eq!(rt; end.status, Status::Done);
+        assert_eq!(rt; end.out.bytes(), SMALLEST_TEXT);
+    }
+    // The pieces of the note.
+    for call in 0..10 {
+        let setting = Setting {
+            notes_fails: Some(call),
+            ..plain()
+        };
+        let end = run_on(alloc, &setting, b"")?;
+        assert_eq!(rt; end.status, Status::WriteFault);
+        assert_eq!(rt; end.out.bytes(), b"".as_slice());
+        assert!(rt; NOT_BUILT.starts_with(end.notes.bytes()));
+    }
+    Ok(())
+}
+
+#[test]
+fn nothing_fails_over_a_sure_shelf(rt: HostRuntime) -> Result<(), Fail> {
+    let alloc = rt.alloc();
+    let words = words_of(alloc, "smv2btor m.smv")?;
+    let mut shelf = SureShelf::new(model_file(alloc, SMALLEST)?);
+    let status = run(
+        alloc,
+        &words,
+        &mut shelf,
+        &mut DropSink::new(),
+        &mut DropSink::new(),
+    );
+    assert_eq!(rt; status, Status::Done);
+    Ok(())
+}
+
+// The piece this many times between two texts.
+fn repeated(
+    alloc: Global,
+    front: &str,
+    piece: &str,
+    count: usize,
+    back: &str,
+) -> Result<Vec<u8>, Fail> {
+    let mut text = front.as_bytes().to_vec(alloc)?;
+    for _ in 0..count {
+        text.extend_from_slice(piece.as_bytes())?;
+    }
+    text.extend_from_slice(back.as_bytes())?;
+    Ok(text)
+}
+
+#[test]
+fn limits(rt: HostRuntime) -> Result<(), Fail> {
+    let alloc = rt.alloc();
+    let front = "MODULE main VAR x : boolean; INVARSPEC ";
+    // Signs count for the height, operands for the tokens.
+    let rows = [
+        ("!", 379, "x", Status::Done),
+        ("!", 380, "x", Status::Refused),
+        ("x & ", 2043, "x;", Status::Done),
+        ("x & ", 2044, "x", Status::Refused),
+    ];
+    for (piece, count, back, status) in rows {
+        let text = repeated(alloc, front, piece, count, back)?;
+        assert_eq!(rt; run_on(alloc, &plain(), &text)?.status, status);
+    }
+    for (count, status) in [(100, Status::Done), (101, Status::Refused)] {
+        let open = repeated(alloc, front, "(", count, "x")?;
+        let text = repeated(alloc, std::str::from_utf8(&open)?, ")", count, "")?;
+        assert_eq!(rt; run_on(alloc, &plain(), &text)?.status, status);
+    }
+    for (count, status) in [(1000, Status::Done), (1001, Status::Refused)] {
+        let declared = repeated(
+            alloc,
+            "MODULE main VAR ",
+            "v",
+            count,
+            " : boolean; INVARSPEC ",
+        )?;
+        let text = repeated(alloc, std::str::from_utf8(&declared)?, "v", count, "")?;
+        assert_eq!(rt; run_on(alloc, &plain(), &text)?.status, status);
+    }
+    Ok(())
+}
