@@ -1,4 +1,11 @@
 pub mod Words
+pub mod Trees
+pub mod Machine
+pub mod Reading
+pub mod Meaning
+pub mod Lines
+pub mod Stands
+pub mod Headline
 pub mod Translation
 pub mod Outcome
 pub mod Stop

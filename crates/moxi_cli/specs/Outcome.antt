@@ -11,7 +11,8 @@ use Rattle.moxi_cli.specs.declared.translate.TheConstants.{SMV_LIMIT}
 use Rattle.moxi_cli.specs.declared.words.Command.{Command}
 use Rattle.moxi_cli.specs.declared.words.Command.TheVariants.{SmvToBtor}
 use Rattle.moxi_cli.specs.Words.{command_of, Names}
-use Rattle.moxi_cli.specs.Translation.{Source, Accepts, btor_text}
+use Rattle.smv_text.specs.Grammar.{Source}
+use Rattle.moxi_cli.specs.Translation.{Accepts, btor_text, IsServed}
 
 -- a refusal of an SMV text at its first byte
 abbrev pub at_start : ℕ → Refusal
@@ -98,4 +99,7 @@ MayAnswer files command rose (Writes text) = MayGive files (λ fs a. Answers com
 abbrev pub SaysUnread : Answer → Type 0
 SaysUnread answer = status_of answer ≡ ReadFault
 
--- what is written for a command stands for its model
+-- what was written for a command stands for its model
+abbrev pub Serves : Option Command → Files → Option (List ℕ) → Option (List ℕ) → Type 0
+Serves None files before now = ⊥
+Serves (Some (SmvToBtor model)) files before now = IsServed files model before now

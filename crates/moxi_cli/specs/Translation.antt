@@ -1,16 +1,40 @@
--- TEMPORARY: stands in for the parts that are made beside it.
-use Rattle.std.specs.Prelude.{◌≡◌, ◌≤◌, ℕ, List, [], ◌∷◌, ◌++◌, length}
+-- Which sources bytes spell, and which text is written for one.
+use Rattle.std.specs.Prelude.{◌≡◌, ◌≤◌, ℕ, List, length, Option, Some, None}
+use Rattle.text_core.specs.Outside.{Files, file_at, grown}
+use Rattle.smv_text.specs.declared.token.Token.{Token}
+use Rattle.smv_text.specs.Lexing.{LexesTo, kinds}
+use Rattle.smv_text.specs.Grammar.{Source, SpellsSource}
+use Rattle.btor_tree.specs.declared.lines.Line.{Line}
+use Rattle.btor_tree.specs.Texts.{SpellsLines}
+use Rattle.btor_tree.specs.Printing.{printed}
 use Rattle.moxi_cli.specs.declared.translate.TheConstants.{SMV_LIMIT}
+use Rattle.moxi_cli.specs.Lines.{lines_of}
+use Rattle.moxi_cli.specs.Headline.{Translates}
 
-pub record Source : Type 0 where
-  pub names : List (List ℕ)
-
+-- the bytes, within the limit, spell this source
 pub record Accepts (bytes : List ℕ) (source : Source) : Type 0 where
   pub within : length bytes ≤ SMV_LIMIT
-  pub spelled : bytes ∷ [] ≡ source.names
+  pub tokens : List Token
+  pub lexed : LexesTo bytes tokens
+  pub spelled : SpellsSource source (kinds tokens)
 
+-- the text that is written for a source
 unfoldable pub btor_text : Source → List ℕ
-btor_text source = []
+btor_text source = printed (lines_of source)
 
-pub record TranslatesText (source : Source) (text : List ℕ) : Type 0 where
-  pub is : text ≡ btor_text source
+-- the text spells one list of lines, and these stand for the source
+pub record TranslatesTo (source : Source) (text : List ℕ) : Type 0 where
+  pub lines : List Line
+  pub spells : SpellsLines text lines
+  pub only : (others : List Line) → SpellsLines text others → others ≡ lines
+  pub translates : Translates source lines
+
+-- the text that was written stands for the source that the model file spells
+pub record IsServed (files : Files) (model : List ℕ) (before now : Option (List ℕ)) : Type 0 where
+  pub bytes : List ℕ
+  pub there : file_at files model ≡ Some bytes
+  pub source : Source
+  pub accepted : Accepts bytes source
+  pub text : List ℕ
+  pub written : now ≡ grown before text
+  pub translated : TranslatesTo source text

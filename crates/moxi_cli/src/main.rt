@@ -3,7 +3,13 @@
 
 mod answer;
 mod command;
+mod declared;
+mod formula;
+mod limits;
+mod lines;
 mod notes;
+mod parse;
+mod read_formula;
 mod status;
 #[cfg(test)]
 mod tests;

@@ -1,0 +1,13 @@
+pub mod Grows
+pub mod Sorts
+pub mod Words
+pub mod Widths
+pub mod Rows
+pub mod Paths
+pub mod Numerals
+pub mod PartLaws
+pub mod ShapeLaws
+pub mod Readings
+pub mod IdLaws
+pub mod Printed
+pub mod Resolved

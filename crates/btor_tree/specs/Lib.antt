@@ -1,0 +1,9 @@
+pub mod Fits
+pub mod Frame
+pub mod Held
+pub mod Parts
+pub mod Shapes
+pub mod Resolving
+pub mod Texts
+pub mod Printing
+pub mod Reading

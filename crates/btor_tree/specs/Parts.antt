@@ -1,0 +1,80 @@
+-- Lines, parts and numerals of a BTOR2 text (BTOR2, CAV 2018, section 2 and figure 1).
+use Rattle.std.specs.Prelude.{◌==◌, ◌+◌, ◌-◌, ◌*◌, ◌^◌, ℕ, min, Bool, true, false, not, ◌&&◌, ◌||◌, nat_le, if◌then◌else◌, Option, Some, None, List, [], ◌∷◌}
+
+-- a list of byte lists
+abbrev pub Parts : Type 0
+Parts = List (List ℕ)
+
+-- a byte at the front of the first line
+abbrev pub onto_line : ℕ → Parts → Parts
+onto_line b [] = (b ∷ []) ∷ []
+onto_line b (l ∷ ls) = (b ∷ l) ∷ ls
+
+-- the lines of a text: each ends before byte 10, and the last at the text's end
+abbrev pub raw_lines : List ℕ → Parts
+raw_lines [] = [] ∷ []
+raw_lines (b ∷ bs) = if b == 10 then ([] ∷ raw_lines bs) else onto_line b (raw_lines bs)
+
+-- a line without its comment, which `;` begins, and without byte 13
+abbrev pub clean : List ℕ → List ℕ
+clean [] = []
+clean (b ∷ bs) = if b == 59 then [] else (if b == 13 then clean bs else (b ∷ clean bs))
+
+-- may a byte stand in a symbol? No tab, line end, CR, blank or `;` may.
+abbrev pub is_symbol_byte : ℕ → Bool
+is_symbol_byte b = not ((b == 9) || ((b == 10) || ((b == 13) || ((b == 32) || (b == 59)))))
+
+abbrev pub all_symbol : List ℕ → Bool
+all_symbol [] = true
+all_symbol (b ∷ bs) = is_symbol_byte b && all_symbol bs
+
+-- are these one or more such bytes?
+abbrev pub is_symbol : List ℕ → Bool
+is_symbol [] = false
+is_symbol (b ∷ bs) = all_symbol (b ∷ bs)
+
+-- a tab or a blank
+abbrev pub is_blank : ℕ → Bool
+is_blank b = (b == 9) || (b == 32)
+
+-- does a part end before these bytes?
+abbrev pub ends_part : List ℕ → Bool
+ends_part [] = true
+ends_part (b ∷ bs) = is_blank b
+
+-- a byte at the front of the first part, or a part of its own
+abbrev pub onto_part : ℕ → Bool → Parts → Parts
+onto_part b true ps = (b ∷ []) ∷ ps
+onto_part b false [] = (b ∷ []) ∷ []
+onto_part b false (p ∷ ps) = (b ∷ p) ∷ ps
+
+-- what tabs and blanks divide
+abbrev pub parts : List ℕ → Parts
+parts [] = []
+parts (b ∷ bs) = if is_blank b then parts bs else onto_part b (ends_part bs) (parts bs)
+
+-- the parts of a line
+abbrev pub line_parts : List ℕ → Parts
+line_parts raw = parts (clean raw)
+
+-- a decimal digit
+abbrev pub is_digit : ℕ → Bool
+is_digit b = nat_le 48 b && nat_le b 57
+
+abbrev pub all_digits : List ℕ → Bool
+all_digits [] = true
+all_digits (b ∷ bs) = is_digit b && all_digits bs
+
+-- the number that digits spell behind those of n
+abbrev pub value_after : ℕ → List ℕ → ℕ
+value_after n [] = n
+value_after n (b ∷ bs) = value_after (10 * n + (b - 48)) bs
+
+-- no id and no width is as large, so that all numbers from here on are as good as one
+abbrev pub cap : ℕ
+cap = 2 ^ 31
+
+-- the number that decimal digits spell, up to the cap
+abbrev pub numeral : List ℕ → Option ℕ
+numeral [] = None
+numeral (b ∷ bs) = if all_digits (b ∷ bs) then Some (min (value_after 0 (b ∷ bs)) cap) else None

@@ -1,0 +1,21 @@
+//! BTOR2 lines: a list whose lines fit one another, a builder that numbers them, what frames of them are, and the
+//! texts that spell them.
+#![tactic(auto)]
+
+mod args;
+mod builder;
+mod laws;
+mod lines;
+mod nodes;
+mod print;
+#[cfg(test)]
+mod print_tests;
+#[cfg(test)]
+mod tests;
+
+pub use args::{Arg, Args, one_arg, plain_arg, two_args};
+pub use builder::Builder;
+pub use laws::{no_reading, one_fault, one_reading, printed_spells, spelled_fits};
+pub use lines::{GREATEST_ID, Line, LineOp};
+pub use nodes::Nodes;
+pub use print::print_lines;

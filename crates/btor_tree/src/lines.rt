@@ -1,0 +1,47 @@
+// One line.
+ghost use Rattle.std.specs.Prelude.{◌≡◌};
+ghost use Rattle.btor_tree.specs.Fits as fits;
+
+use crate::args::Args;
+use text_core::Name;
+use word_core::{Binary, Unary};
+
+/// The greatest id of a line, 2^31 - 1.
+pub const GREATEST_ID: u32 = 2147483647;
+
+/// What a line does. `Sort` has the width of a bit vector.
+#[derive(Debug, Drop)]
+pub enum LineOp {
+    Sort(u32),
+    Input,
+    State,
+    One,
+    Zero,
+    Init,
+    Next,
+    Bad,
+    Constraint,
+    Unary(Unary),
+    Binary(Binary),
+}
+
+/// A line: its id, what it does, the place of its sort line (0 where its kind has no sort), its arguments, and its
+/// symbol where it ends in one.
+#[derive(Debug, Drop)]
+pub struct Line {
+    pub id: u32,
+    pub op: LineOp,
+    pub sort: u32,
+    pub args: Args,
+    pub symbol: Option<Name>,
+}
+
+/// The width that a sort line gives, or 0 at other lines.
+pub fn sort_width(op: &LineOp) -> u32
+    ensures { result ≡ fits.sort_width op.now }
+{
+    match op {
+        LineOp::Sort(width) => *width,
+        _ => 0,
+    }
+}

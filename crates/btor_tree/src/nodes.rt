@@ -1,0 +1,117 @@
+// A list of lines each of which fits the ones before it.
+ghost use Rattle.std.specs.Prelude.{◌≡◌, ◌<◌, ◌≤◌, [], ◌∷◌, ◌++◌, length, Some, slice_get, OnOk, OnErr, if◌then◌else◌};
+ghost use Rattle.btor_tree.specs.Fits.{Fits, IsWellFormed, width_at, count_of, is_input, is_state, is_bad};
+
+use crate::lines::{Line, LineOp, sort_width};
+use std::alloc::Global;
+use std::marker::Model;
+use text_core::NoMemory;
+
+/// The lines in order of their ids.
+#[derive(Debug, Drop)]
+pub struct Nodes {
+    items: Vec<Line>,
+    inputs: u32,
+    states: u32,
+    bads: u32,
+}
+
+impl Model for Nodes {
+    ghost use Rattle.std.specs.Prelude.{List};
+    ghost use Rattle.btor_tree.specs.declared.lines.Line.{Line};
+    ghost use Rattle.btor_tree.specs.Fits.{IsWellFormed};
+    ghost use Rattle.btor_tree.specs.Held.{IsCounted};
+
+    ghost Value = { List Line };
+
+    ghost view = { λ a. a.items.items };
+
+    ghost invariant = { λ a. IsWellFormed a.items.items × IsCounted a.items.items a.inputs a.states a.bads };
+}
+
+impl Nodes {
+    /// No lines. It takes no memory.
+    pub fn new(alloc: Global) -> Nodes
+        ensures { result ≡ [] }
+    {
+        Nodes {
+            items: Vec::new(alloc),
+            inputs: 0,
+            states: 0,
+            bads: 0,
+        }
+    }
+
+    /// Adds a line at the end, and leaves the list unchanged where it is refused.
+    #[tactic(auto, using(crate::proofs::Grows::well_formed_push, crate::proofs::Grows::count_push, crate::proofs::Grows::counts_small))]
+    pub fn add(&mut self, line: Line) -> Result<(), NoMemory>
+        requires { Fits self.old line }
+        ensures ok { OnOk result (self.new ≡ self.old ++ line ∷ []) }
+        ensures err { OnErr result (self.new ≡ self.old) }
+        ensures well_formed { IsWellFormed self.new }
+    {
+        let inputs = self.inputs + one_where(matches!(line.op, LineOp::Input));
+        let states = self.states + one_where(matches!(line.op, LineOp::State));
+        let bads = self.bads + one_where(matches!(line.op, LineOp::Bad));
+        if self.items.push(line).is_err() {
+            return Err(NoMemory);
+        }
+        self.inputs = inputs;
+        self.states = states;
+        self.bads = bads;
+        Ok(())
+    }
+
+    /// How many lines there are.
+    pub fn len(&self) -> usize
+        ensures value { result ≡ length self.now }
+        ensures well_formed { IsWellFormed self.now }
+    {
+        self.items.len()
+    }
+
+    /// The line at a place, counted from 0.
+    pub fn at(&self, i: usize) -> &Line
+        requires { i < length self.now }
+        ensures { slice_get self.now i ≡ Some result.now }
+    {
+        &self.items[i]
+    }
+
+    /// How many of the lines are inputs.
+    pub fn inputs(&self) -> u32
+        ensures { result ≡ count_of is_input self.now }
+    {
+        self.inputs
+    }
+
+    /// How many of the lines are states.
+    pub fn states(&self) -> u32
+        ensures { result ≡ count_of is_state self.now }
+    {
+        self.states
+    }
+
+    /// How many of the lines are bad lines.
+    pub fn bads(&self) -> u32
+        ensures { result ≡ count_of is_bad self.now }
+    {
+        self.bads
+    }
+
+    /// The width of the word of the line at a place. The caller owes a line of a kind that has a word.
+    pub fn width_of(&self, line: u32) -> u32
+        requires { 1 ≤ width_at self.now line }
+        ensures { result ≡ width_at self.now line }
+    {
+        let sort = self.items[line as usize].sort;
+        sort_width(&self.items[sort as usize].op)
+    }
+}
+
+// One where it is so, else nothing.
+fn one_where(holds: bool) -> u32
+    ensures { result ≡ if holds then 1 else 0 }
+{
+    if holds { 1 } else { 0 }
+}
