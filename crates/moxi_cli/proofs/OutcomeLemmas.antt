@@ -1,17 +1,19 @@
 -- Words and files define one answer, and what that says of a run.
-use Rattle.std.proofs.Common.{◌≡◌, ◌≢◌, ◌⊎◌, inl, inr, List, [], ℕ, Option, Some, None, Result, Ok, Err, refl, sym, ap, ◌∙◌, subst, take, arith}
-use Rattle.std.specs.Prelude.{IfSome}
-use Rattle.text_core.specs.Outside.{Files, grown}
+use Rattle.std.proofs.Common.{◌≡◌, ◌≢◌, ◌⊎◌, inl, inr, List, [], ℕ, Option, Some, None, Result, Ok, Err, refl, sym, ap, ◌∙◌, subst, take, arith, length, Bool, true, false, cond}
+use Rattle.std.specs.Prelude.{IfSome, nat_lt}
+use Rattle.text_core.specs.Outside.{Files, file_at, grown}
 use Rattle.moxi_cli.specs.declared.status.Status.{Status}
 use Rattle.moxi_cli.specs.declared.status.Status.TheVariants.{Done, Refused, Usage, ReadFault, WriteFault, NoMemory}
 use Rattle.moxi_cli.specs.declared.answer.Answer.{Answer}
 use Rattle.moxi_cli.specs.declared.answer.Answer.TheVariants.{Misread, Unread, Refuses, Writes}
 use Rattle.moxi_cli.specs.declared.words.Command.{Command}
 use Rattle.moxi_cli.specs.declared.words.Command.TheVariants.{SmvToBtor}
-use Rattle.moxi_cli.specs.Translation.{btor_text}
-use Rattle.moxi_cli.specs.Outcome.{IsTranslation, GoesOn, Answers, MayAnswer, smv_model, status_of, text_of}
+use Rattle.smv_text.specs.Grammar.{Source}
+use Rattle.moxi_cli.specs.declared.translate.TheConstants.{SMV_LIMIT}
+use Rattle.moxi_cli.specs.Translation.{Accepts, TranslatesTo, IsServed, btor_text}
+use Rattle.moxi_cli.specs.Outcome.{IsTranslation, GoesOn, Answers, MayAnswer, Serves, bytes_of, too_long, smv_model, status_of, text_of}
 use Rattle.moxi_cli.specs.Sinks.{IsPart}
-use Rattle.moxi_cli.proofs.Sources.{one_source}
+use Rattle.moxi_cli.proofs.Sources.{one_source, text_stands}
 
 one_translation : (bytes : List ℕ) (a b : Answer) → IsTranslation bytes a → IsTranslation bytes b → a ≡ b
 one_translation bytes Misread b h k = absurd h
@@ -81,4 +83,40 @@ run_complete (Some fs) command shelf out notes a status m ends w = λ s o n b d.
     elim ends [
       | inl e ↦ inl (e ∙ ap status_of (one_answer command fs a b (defined fs command shelf a m s) d))
       | inr f ↦ elim (w f) [ inl r ↦ absurd (o r) | inr r ↦ absurd (n r) ]
+    ]
+
+-- a text that was written whole stands for its model
+served_model : (fs : Files) (model : List ℕ) (content : Option (List ℕ)) (text : List ℕ) (before now : Option (List ℕ)) → file_at fs model ≡ content → GoesOn (bytes_of content model SMV_LIMIT too_long) IsTranslation (Writes text) → now ≡ grown before text → IsServed fs model before now
+served_model fs model None text before now there h w = absurd (cc)
+served_model fs model (Some bytes) text before now there h w = by_length (nat_lt SMV_LIMIT (length bytes)) h
+  where
+    by_length : (long : Bool) → GoesOn (cond long (Err (Refuses too_long)) (Ok bytes)) IsTranslation (Writes text) → IsServed fs model before now
+    by_length true g = absurd (cc)
+    by_length false g =
+        record { bytes = bytes; there = there; source = g.0; accepted = g.1; text = text; written = w; translated = subst (TranslatesTo g.0) (sym g.2) (text_stands bytes g.0 g.1) }
+
+served_by : (command : Option Command) (fs : Files) (text : List ℕ) (before now : Option (List ℕ)) → Answers command fs (Writes text) → now ≡ grown before text → Serves command fs before now
+served_by None fs text before now h w = absurd (cc)
+served_by (Some (SmvToBtor model)) fs text before now h w = served_model fs model (file_at fs model) text before now refl h w
+
+pub run_served : (files : Option Files) (command : Option Command) (before now : Option (List ℕ)) → IfSome files (λ fs. (text : List ℕ) × Answers command fs (Writes text) × (now ≡ grown before text)) → IfSome files (λ fs. Serves command fs before now)
+run_served None command before now h = tt
+run_served (Some fs) command before now h = served_by command fs h.0 before now h.1 h.2
+
+-- the defined answer to an accepted model
+accepted_answer : (fs : Files) (command : Option Command) (model bytes : List ℕ) (source : Source) → command ≡ Some (SmvToBtor model) → file_at fs model ≡ Some bytes → Accepts bytes source → Answers command fs (Writes (btor_text source))
+accepted_answer fs command model bytes source is there a =
+    let e : nat_lt SMV_LIMIT (length bytes) ≡ false = grind (arith, a.within) in
+    let step : smv_model fs model ≡ Ok bytes = ap (λ content. bytes_of content model SMV_LIMIT too_long) there ∙ ap (λ long. cond long (Err (Refuses too_long)) (Ok bytes)) e in
+    subst (λ c. Answers c fs (Writes (btor_text source))) (sym is) (subst (λ s. GoesOn s IsTranslation (Writes (btor_text source))) (sym step) (source, a, refl))
+
+pub run_translates : (files : Option Files) (command : Option Command) (shelf out notes : Type 0) (a : Answer) (status : Status) (before now : Option (List ℕ)) → MayAnswer files command shelf a → Ends status a → (status ≢ WriteFault → now ≡ grown before (text_of a)) → (status ≡ WriteFault → out ⊎ notes)
+    → IfSome files (λ fs. (model bytes : List ℕ) (source : Source) → command ≡ Some (SmvToBtor model) → file_at fs model ≡ Some bytes → Accepts bytes source → (shelf → ⊥) → (out → ⊥) → (notes → ⊥) → status ≢ NoMemory → (status ≡ Done) × ((text : List ℕ) × (now ≡ grown before text) × TranslatesTo source text))
+run_translates None command shelf out notes a status before now m ends taken w = tt
+run_translates (Some fs) command shelf out notes a status before now m ends taken w = λ model bytes source is there acc s o n memory.
+    let same : a ≡ Writes (btor_text source) = one_answer command fs a (Writes (btor_text source)) (defined fs command shelf a m s) (accepted_answer fs command model bytes source is there acc) in
+    let whole : status ≢ WriteFault = λ f. elim (w f) [ inl r ↦ o r | inr r ↦ n r ] in
+    elim ends [
+      | inl e ↦ (e ∙ ap status_of same, (btor_text source, taken whole ∙ ap (λ x. grown before (text_of x)) same, text_stands bytes source acc))
+      | inr f ↦ absurd (whole f)
     ]

@@ -1,10 +1,13 @@
 // The top call: reads the words, does what they say, and writes.
-ghost use Rattle.std.specs.Prelude.{◌≡◌, ◌≢◌, ◌⊎◌, ◌<◌, ◌≤◌, map, string_bytes, None, IfSome, List, ℕ};
-ghost use Rattle.text_core.specs.Outside.{grown, Rose};
+ghost use Rattle.std.specs.Prelude.{◌≡◌, ◌≢◌, ◌⊎◌, ◌<◌, ◌≤◌, map, string_bytes, None, Some, IfSome, List, ℕ};
+ghost use Rattle.text_core.specs.Outside.{file_at, grown, Rose};
+ghost use Rattle.smv_text.specs.Grammar.{Source};
+ghost use Rattle.moxi_cli.specs.declared.words.Command.{Command};
+ghost use Rattle.moxi_cli.specs.Translation.{Accepts, TranslatesTo};
 ghost use Rattle.moxi_cli.specs.Words.{command_of};
 ghost use Rattle.moxi_cli.specs.declared.answer.Answer.{Answer};
 ghost use Rattle.text_core.specs.declared.place.Refusal.{Refusal};
-ghost use Rattle.moxi_cli.specs.Outcome.{IsOutcome, IsAbsent, status_of, text_of};
+ghost use Rattle.moxi_cli.specs.Outcome.{IsOutcome, IsAbsent, Serves, status_of, text_of};
 ghost use Rattle.moxi_cli.specs.Sinks.{IsPart};
 
 use crate::answer::answer_words;
@@ -21,6 +24,19 @@ pub fn run<F: Shelf, K: Sink, N: Sink>(
     out: &mut K,
     notes: &mut N,
 ) -> Status
+    // For every accepted source that the model file spells, where nothing fails: the text that was written spells one list
+    // of lines, and for each invariant and each number k the source has a run of k transitions whose last state breaks the
+    // invariant exactly where the lines have frames 0 to k with every constraint true and the bad line true in frame k.
+    ensures translates { IfSome (F.files shelf.old) (λ files. (model bytes : List ℕ) (source : Source)
+        → command_of (map string_bytes words.now.items) ≡ Some (Command.SmvToBtor model) → file_at files model ≡ Some bytes → Accepts bytes source
+        → ¬ Rose (F.faults shelf.old) (F.faults shelf.new) → ¬ Rose (K.faults out.old) (K.faults out.new) → ¬ Rose (N.faults notes.old) (N.faults notes.new)
+        → result ≢ Status.NoMemory
+        → (result ≡ Status.Done) × ((text : List ℕ) × (K.taken out.new ≡ grown (K.taken out.old) text) × TranslatesTo source text)) }
+
+    // The same of every text that was written whole.
+    ensures served { result ≡ Status.Done → IfSome (F.files shelf.old) (λ files.
+        Serves (command_of (map string_bytes words.now.items)) files (K.taken out.old) (K.taken out.new)) }
+
     // The whole defined text was taken.
     ensures done { result ≡ Status.Done → IfSome (F.files shelf.old) (λ files. (text : List ℕ)
         × IsOutcome (map string_bytes words.now.items) files (Answer.Writes text) × (K.taken out.new ≡ grown (K.taken out.old) text)) }

@@ -92,7 +92,7 @@ fn models_and_their_texts(rt: HostRuntime) -> Result<(), Fail> {
             b"",
         ),
         (
-            b"-- a comment\nMODULE main\r\n\tVAR x:boolean;\nINVARSPEC--!\n((!(x)))--",
+            b"-- a comment\nMODULE main\r\n\tVAR x:boolean;\nINVARSPEC --!\n((!(x)))--",
             Status::Done,
             SMALLEST_TEXT,
             b"",

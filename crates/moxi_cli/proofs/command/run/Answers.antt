@@ -1,4 +1,4 @@
-use Rattle.moxi_cli.proofs.OutcomeLemmas.{run_done, run_prefix, run_complete}
+use Rattle.moxi_cli.proofs.OutcomeLemmas.{run_done, run_served, run_translates, run_prefix, run_complete}
 use Rattle.moxi_cli.proofs.command.run.Goals as goal
 
 pub returns-in-Ok-clause-done : goal.returns-in-Ok-clause-done
@@ -12,3 +12,11 @@ returns-in-Ok-clause-prefix g c = λ fault.
 pub returns-in-Ok-clause-complete : goal.returns-in-Ok-clause-complete
 returns-in-Ok-clause-complete g c =
     run_complete _ _ _ _ _ c.in-Ok.answer c.deliver.result c.in-Ok.ensures.answer c.deliver.ensures.status c.deliver.ensures.write_fault
+
+pub returns-in-Ok-clause-served : goal.returns-in-Ok-clause-served
+returns-in-Ok-clause-served g c = λ done.
+    run_served _ _ _ _ (run_done _ _ _ c.in-Ok.answer c.deliver.result _ _ c.in-Ok.ensures.answer c.deliver.ensures.status c.deliver.ensures.text done)
+
+pub returns-in-Ok-clause-translates : goal.returns-in-Ok-clause-translates
+returns-in-Ok-clause-translates g c =
+    run_translates _ _ _ _ _ c.in-Ok.answer c.deliver.result _ _ c.in-Ok.ensures.answer c.deliver.ensures.status c.deliver.ensures.text c.deliver.ensures.write_fault
