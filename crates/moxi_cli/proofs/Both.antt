@@ -1,11 +1,10 @@
 -- The two directions.
-use Rattle.std.proofs.Common.{◌≡◌, ℕ, zero, suc, ◌+◌, ◌-◌, ◌*◌, ◌/◌, ◌<◌, ◌≤◌, Bool, true, false, not, ◌&&◌, ◌==◌, List, [], ◌∷◌, ◌++◌, length, map, Some, refl, sym, ap, ◌∙◌, subst, arith}
+use Rattle.std.proofs.Common.{◌≡◌, ℕ, zero, suc, ◌+◌, ◌-◌, ◌/◌, ◌<◌, ◌≤◌, Bool, true, false, not, ◌&&◌, ◌==◌, List, [], ◌∷◌, ◌++◌, length, map, Some, refl, sym, ap, ◌∙◌, subst, arith}
 use Rattle.std.specs.Prelude.{slice_get, IsSomeAnd, codes}
 use Rattle.std.specs.List.{AllByRecursion, AllZip}
 use Rattle.std.proofs.lemmas.List.{length-map}
 use Rattle.smv_text.specs.Grammar.{Formula, variable, negation, conjunction, Formulas, no_formulas, formula, Source}
 use Rattle.word_core.specs.Words.{BitVector}
-use Rattle.btor_tree.specs.declared.args.Arg.{Arg}
 use Rattle.btor_tree.specs.declared.lines.TheConstants.{GREATEST_ID}
 use Rattle.btor_tree.specs.declared.lines.Line.{Line}
 use Rattle.btor_tree.specs.declared.lines.LineOp.TheVariants.{Bad}
@@ -14,16 +13,16 @@ use Rattle.btor_tree.specs.Frame.{FreeFits, true_word, word_at, operand, Meets, 
 use Rattle.btor_tree.proofs.Grows.{meets_front}
 use Rattle.btor_tree.proofs.Paths.{operands_append, Reads, path}
 use Rattle.smv_text.specs.Grammar.{Below, EachVariableOf}
-use Rattle.moxi_cli.specs.Meaning.{State, negated, value_of, all_true, invariants, IsRun, AtLast, Breaks}
-use Rattle.moxi_cli.specs.Lines.{Made, with_line, first_lines, with_variables, with_not, with_formula, with_bad, line_count, size, lines_of, input_place}
-use Rattle.moxi_cli.specs.Stands.{Ready, Stands, HasInputs}
+use Rattle.moxi_cli.specs.Meaning.{State, negated, value_of, all_true, IsRun, AtLast}
+use Rattle.moxi_cli.specs.Lines.{Made, first_lines, with_variables, with_not, with_formula, line_count, size, lines_of, input_place}
+use Rattle.moxi_cli.specs.Stands.{Stands, HasInputs}
 use Rattle.moxi_cli.specs.Headline.{HasRun, HasFrames, Translates, StandsFor}
 use Rattle.moxi_cli.proofs.Grown.{Grew, grew_then, grew_meets, grew_free, grew_bads, grew_constraints}
 use Rattle.moxi_cli.proofs.Bytes.{symbol_fits}
 use Rattle.moxi_cli.proofs.LineSteps.{line_here, ready_push, suits_bad, stands_not, length_not}
 use Rattle.moxi_cli.proofs.Parts.{Gives, gives, grew_not}
 use Rattle.moxi_cli.proofs.Heads.{bit, Head, head, has_inputs, InputAt, input_front, operands_line, free_other}
-use Rattle.moxi_cli.proofs.Truth.{truth_at, state_of, word_is_truth, truth_not, truth, bit_back}
+use Rattle.moxi_cli.proofs.Truth.{state_of, word_is_truth, truth_not, truth, bit_back}
 
 -- frames of a path
 frames_of : (lines : List Line) (row : List BitVector) (rows : List (List BitVector)) → Follow lines row rows → AllByRecursion (IsFrame lines) rows

@@ -1,5 +1,5 @@
 -- Symbols are symbols.
-use Rattle.std.proofs.Common.{◌≡◌, ◌≢◌, ℕ, suc, ◌+◌, ◌≤◌, ◌<◌, Bool, true, false, cond, not, ◌&&◌, List, [], ◌∷◌, ◌++◌, length, refl, sym, ap, ◌∙◌, subst, arith}
+use Rattle.std.proofs.Common.{ℕ, List, [], ◌∷◌, arith}
 use Rattle.std.specs.List.{AllByRecursion}
 use Rattle.btor_tree.specs.Fits.{IsSymbol, IsSymbolByte}
 use Rattle.moxi_cli.specs.Lines.{symbol_byte, symbol_of}

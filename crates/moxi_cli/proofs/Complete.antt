@@ -1,5 +1,5 @@
 -- The machine comes to each formula by each of its spellings.
-use Rattle.std.proofs.Common.{◌≡◌, ℕ, zero, suc, ◌+◌, zero-add, arith, true, false, cond, Some, None, List, [], ◌∷◌, ◌++◌, refl, sym, ap, ◌∙◌, append_assoc}
+use Rattle.std.proofs.Common.{◌≡◌, ℕ, zero, suc, ◌+◌, zero-add, arith, false, cond, Some, None, List, [], ◌∷◌, ◌++◌, refl, sym, ap, ◌∙◌, append_assoc}
 use Rattle.std.specs.Bool.{⊤}
 use Rattle.smv_text.specs.declared.token.Sign.TheVariants as sign
 use Rattle.smv_text.specs.declared.token.TokenKind.{TokenKind}

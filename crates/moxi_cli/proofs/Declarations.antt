@@ -1,5 +1,5 @@
 -- The tokens of declarations.
-use Rattle.std.proofs.Common.{◌≡◌, ◌||◌, ℕ, Bool, true, false, not, cond, Option, Some, None, is_none, List, [], ◌∷◌, ◌++◌, refl, sym, ap, ◌∙◌}
+use Rattle.std.proofs.Common.{◌≡◌, ◌||◌, ℕ, Bool, true, false, not, Option, Some, None, is_none, List, [], ◌∷◌, ◌++◌, refl, sym, ap, ◌∙◌}
 use Rattle.std.proofs.lemmas.List.Folds.{list_any-append}
 use Rattle.std.proofs.lemmas.Cmp.{nat_list_eq_equiv}
 use Rattle.std.specs.List.{list_any}
@@ -89,8 +89,7 @@ other_name m n e = nat_list_eq_equiv.symm n m ∙ e
 pub distinct_push : (names : List (List ℕ)) (name : List ℕ) → AreDistinct names → place_of names name ≡ None → AreDistinct (names ++ name ∷ [])
 distinct_push [] name d e = (refl, tt)
 distinct_push (m ∷ ms) name d e =
-    let h = neither (bytes_eq name m) (list_any (bytes_eq name) ms) (lacking (m ∷ ms) name e) in
-    (
+    let h = neither (bytes_eq name m) (list_any (bytes_eq name) ms) (lacking (m ∷ ms) name e) in (
       lacked (ms ++ name ∷ []) m
           (list_any-append (bytes_eq m) ms (name ∷ []) ∙ none_of _ _ (lacking ms m d.0) (none_of _ _ (other_name name m h.0) refl)),
       distinct_push ms name d.1 (lacked ms name h.1),

@@ -1,16 +1,16 @@
 -- Lines that grow by lines of operators alone.
-use Rattle.std.proofs.Common.{◌≡◌, ℕ, ◌+◌, ◌<◌, ◌≤◌, Bool, true, false, cond, List, [], ◌∷◌, ◌++◌, length, Option, refl, sym, ap, ◌∙◌, subst, arith, inl, inr, append_assoc}
+use Rattle.std.proofs.Common.{◌≡◌, ℕ, ◌+◌, ◌≤◌, Bool, true, false, cond, List, [], ◌∷◌, ◌++◌, length, Option, refl, sym, ap, ◌∙◌, subst, arith, inl, inr, append_assoc}
 use Rattle.std.specs.List.{AllByRecursion}
 use Rattle.std.proofs.lemmas.List.{take-append-le, take_all}
 use Rattle.word_core.specs.Words.{BitVector}
 use Rattle.btor_tree.specs.declared.args.Arg.{Arg}
 use Rattle.btor_tree.specs.declared.lines.Line.{Line}
 use Rattle.btor_tree.specs.declared.lines.LineOp.{LineOp}
-use Rattle.btor_tree.specs.declared.lines.LineOp.TheVariants.{Sort, Input, State, One, Zero, Init, Next, Bad, Constraint, Unary, Binary}
-use Rattle.btor_tree.specs.Fits.{sort_at, width_at, operands, is_constraint, is_bad}
+use Rattle.btor_tree.specs.declared.lines.LineOp.TheVariants.{Input, State, Bad, Constraint, Unary, Binary}
+use Rattle.btor_tree.specs.Fits.{width_at, operands, is_constraint, is_bad}
 use Rattle.btor_tree.specs.Frame.{GivenFits, FreeFits, Meets}
 use Rattle.btor_tree.proofs.Grows.{push_cases, meets_front}
-use Rattle.btor_tree.proofs.Widths.{width_front, sort_front}
+use Rattle.btor_tree.proofs.Widths.{width_front}
 use Rattle.btor_tree.proofs.Paths.{operands_append}
 use Rattle.moxi_cli.specs.Lines.{with_line}
 

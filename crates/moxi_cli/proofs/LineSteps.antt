@@ -1,6 +1,5 @@
 -- One more line, of each kind.
-use Rattle.std.proofs.Common.{◌≡◌, ℕ, suc, ◌+◌, ◌<◌, ◌≤◌, Bool, true, cond, List, [], ◌∷◌, ◌++◌, length, Option, Some, None, refl, sym, ap, ◌∙◌, subst, arith}
-use Rattle.std.specs.Prelude.{slice_get, IfSome}
+use Rattle.std.proofs.Common.{◌≡◌, ℕ, ◌+◌, ◌<◌, true, cond, List, [], ◌∷◌, ◌++◌, length, Option, Some, None, refl, sym, ap, ◌∙◌, arith}
 use Rattle.std.specs.Option.{option_or}
 use Rattle.std.proofs.lemmas.List.{length_push}
 use Rattle.word_core.specs.declared.kinds.Unary.TheVariants.{Not}
@@ -10,11 +9,11 @@ use Rattle.btor_tree.specs.declared.lines.TheConstants.{GREATEST_ID}
 use Rattle.btor_tree.specs.declared.lines.Line.{Line}
 use Rattle.btor_tree.specs.declared.lines.LineOp.{LineOp}
 use Rattle.btor_tree.specs.declared.lines.LineOp.TheVariants.{Input, State, Next, Bad, Unary, Binary}
-use Rattle.btor_tree.specs.Fits.{plain_arg, Suits, Fits, IsSymbol, sort_at, width_at, width_of_line, has_word, state_value, is_next, is_state, kind_at, is_kind}
+use Rattle.btor_tree.specs.Fits.{plain_arg, Suits, IsSymbol, sort_at, width_at, width_of_line, has_word, state_value, is_next, is_state, kind_at, is_kind}
 use Rattle.btor_tree.proofs.Grows.{slice_get_end, slice_get_inside, well_formed_push, last_push}
 use Rattle.btor_tree.proofs.Widths.{line_at, width_front, sort_front}
 use Rattle.btor_tree.proofs.Paths.{fresh, state_value_append}
-use Rattle.moxi_cli.specs.Lines.{with_line, Made, made, with_not, with_and}
+use Rattle.moxi_cli.specs.Lines.{with_line, Made, with_not, with_and}
 use Rattle.moxi_cli.specs.Stands.{Ready, Stands}
 
 -- the line that is added

@@ -1,5 +1,5 @@
 -- How the machine goes on, one frame at a time.
-use Rattle.std.proofs.Common.{◌≡◌, ℕ, zero, suc, Bool, true, false, cond, Option, Some, None, List, [], ◌∷◌, ◌++◌, length, refl, option_map, Result, Ok, Err, subst, sym, ap, ◌∙◌, arith, ◌<◌}
+use Rattle.std.proofs.Common.{◌≡◌, ℕ, zero, suc, Bool, true, false, cond, Option, Some, None, List, [], ◌∷◌, length, refl, option_map, Result, Err, subst, sym, ap, ◌∙◌, arith, ◌<◌}
 use Rattle.smv_text.specs.declared.token.Reserved.{Reserved}
 use Rattle.smv_text.specs.declared.token.Sign.{Sign}
 use Rattle.smv_text.specs.declared.token.Sign.TheVariants as sign
@@ -7,7 +7,7 @@ use Rattle.smv_text.specs.declared.token.TokenKind.{TokenKind}
 use Rattle.smv_text.specs.declared.token.TokenKind.TheVariants as kind
 use Rattle.smv_text.specs.Grammar.{Formula, variable, negation, conjunction, Level, Conjunction, Negation, all_levels, place_of}
 use Rattle.moxi_cli.specs.Trees.{formulas_of}
-use Rattle.moxi_cli.specs.Machine.{is, primary, Move, push, moved, or_else, next, give, Chained, Front, bare, joined, taken, whole, Frame, operand, signs, bracket, State, ask, signed, have, ended, Outcome, done, dead, run}
+use Rattle.moxi_cli.specs.Machine.{is, Move, push, moved, or_else, next, give, Chained, Front, bare, joined, taken, whole, Frame, operand, signs, bracket, State, ask, signed, have, ended, Outcome, done, dead, run}
 use Rattle.moxi_cli.specs.Reading.{after, is_end, Dies, Follows}
 use Rattle.moxi_cli.specs.declared.read_formula.Stop.{Stop}
 use Rattle.moxi_cli.specs.declared.read_formula.Stop.TheVariants.{Unspelled, NoMemory}

@@ -1,13 +1,8 @@
 -- What the lines of a formula's parts give.
 use Rattle.std.proofs.Common.{◌≡◌, ℕ, zero, suc, ◌+◌, ◌<◌, ◌≤◌, List, [], ◌∷◌, ◌++◌, length, refl, sym, ap, ◌∙◌, subst, arith, append_assoc}
-use Rattle.std.specs.List.{AllByRecursion}
 use Rattle.smv_text.specs.Grammar.{Formula, variable, negation, conjunction, Formulas, no_formulas, formula}
-use Rattle.word_core.specs.declared.kinds.Unary.TheVariants.{Not}
-use Rattle.word_core.specs.declared.kinds.Binary.TheVariants.{And}
 use Rattle.btor_tree.specs.declared.lines.TheConstants.{GREATEST_ID}
 use Rattle.btor_tree.specs.declared.lines.Line.{Line}
-use Rattle.btor_tree.specs.declared.lines.LineOp.TheVariants.{Unary, Binary}
-use Rattle.btor_tree.specs.Fits.{plain_arg, width_at}
 use Rattle.smv_text.specs.Grammar.{EachVariable, EachVariableOf}
 use Rattle.moxi_cli.specs.Lines.{Made, made, AllMade, all_made, with_not, with_signs, with_and, with_ands, with_chain, followed_by, with_formula, with_formulas, size, sizes, input_place}
 use Rattle.moxi_cli.specs.Stands.{Ready, Stands, AllStand, HasInputs, HaveInputs}

@@ -1,5 +1,5 @@
 -- The lines of a formula have its value.
-use Rattle.std.proofs.Common.{◌≡◌, ℕ, zero, suc, ◌+◌, ◌<◌, ◌≤◌, ◌^◌, Bool, true, false, cond, not, ◌&&◌, ◌==◌, eqb, List, [], ◌∷◌, length, take, Option, refl, sym, ap, ◌∙◌, subst, arith}
+use Rattle.std.proofs.Common.{◌≡◌, ℕ, zero, suc, ◌+◌, ◌<◌, ◌≤◌, ◌^◌, Bool, true, false, cond, not, ◌&&◌, ◌==◌, eqb, List, [], ◌∷◌, length, take, Option, refl, ap, ◌∙◌, subst, arith}
 use Rattle.smv_text.specs.Grammar.{Formula, variable, negation, conjunction, Formulas, no_formulas, formula}
 use Rattle.word_core.specs.Words.{BitVector, IsWord}
 use Rattle.word_core.specs.Table.{unary_of, binary_of}
@@ -15,11 +15,11 @@ use Rattle.btor_tree.specs.Frame.{word_at, Equation, Meets}
 use Rattle.btor_tree.proofs.Grows.{slice_get_end}
 use Rattle.btor_tree.proofs.Widths.{wide}
 use Rattle.moxi_cli.specs.Meaning.{State, negated, value_of, all_true}
-use Rattle.moxi_cli.specs.Lines.{Made, made, AllMade, with_line, with_not, with_signs, with_and, with_ands, with_formula, with_formulas, size, sizes, input_place}
+use Rattle.moxi_cli.specs.Lines.{Made, made, with_line, with_not, with_signs, with_and, with_ands, with_formula, with_formulas, size, sizes, input_place}
 use Rattle.moxi_cli.specs.Stands.{Ready, Stands, AllStand, HasInputs, HaveInputs}
 use Rattle.moxi_cli.proofs.Grown.{grew_meets, grew_width}
 use Rattle.moxi_cli.proofs.LineSteps.{line_here, stands_and, length_and}
-use Rattle.moxi_cli.proofs.Parts.{grew_not, grew_and, grew_signs, grew_ands, length_signs, stands_signs, all_stand_grew, all_inputs_grew, gives, gives_all}
+use Rattle.moxi_cli.proofs.Parts.{grew_not, grew_and, grew_signs, grew_ands, stands_signs, all_stand_grew, all_inputs_grew, gives, gives_all}
 use Rattle.moxi_cli.proofs.Heads.{bit}
 
 -- the truth value at a place

@@ -1,17 +1,19 @@
-// Models as they are read: formulas over declared variables.
+// The trees of a source.
+
 use text_core::Names;
 
-/// A formula. A variable is named by its place among the declared names.
+/// A formula over the declared variables.
 #[derive(Drop)]
 pub enum Formula {
+    /// A variable, by its place among the declared names.
     Variable(u32),
-    /// A sign of negation, repeated so many times, at least once.
+    /// A sign `!`, so many times, and its operand.
     Not(u32, Box<Formula>),
-    /// A chain of two or more.
+    /// A chain of `&`: its first operand and the further ones.
     And(Box<Formula>, Vec<Formula>),
 }
 
-/// A model: the names of its boolean variables, in the order of their declarations, and its invariant.
+/// The declared names and the invariant.
 #[derive(Drop)]
 pub struct Source {
     pub names: Names,

@@ -12,7 +12,9 @@ use smv_text::{Sign, Token, TokenKind};
 pub const MOST_HEIGHT: u32 = 380;
 
 const MOST_TOKENS: usize = 4096;
+
 const MOST_BRACKETS: u32 = 100;
+
 const MOST_BYTES: usize = 1000;
 
 /// Whether the tokens are few, the brackets shallow and the names short enough.

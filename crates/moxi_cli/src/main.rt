@@ -14,6 +14,8 @@ mod status;
 #[cfg(test)]
 mod tests;
 mod translate;
+#[cfg(test)]
+mod tree_tests;
 mod words;
 
 use command::run;

@@ -148,13 +148,7 @@ fn after_word(tokens: &[Token], word: Reserved) -> Option<&[Token]>
     match tokens.split_first() {
         None => None,
         Some((token, rest)) => match &token.kind {
-            TokenKind::Reserved(other) => {
-                if *other == word {
-                    Some(rest)
-                } else {
-                    None
-                }
-            }
+            TokenKind::Reserved(other) => { if *other == word { Some(rest) } else { None } }
             TokenKind::Ident(_) => None,
             TokenKind::Sign(_) => None,
         },
@@ -169,13 +163,7 @@ fn after_sign(tokens: &[Token], sign: Sign) -> Option<&[Token]>
     match tokens.split_first() {
         None => None,
         Some((token, rest)) => match &token.kind {
-            TokenKind::Sign(other) => {
-                if *other == sign {
-                    Some(rest)
-                } else {
-                    None
-                }
-            }
+            TokenKind::Sign(other) => { if *other == sign { Some(rest) } else { None } }
             TokenKind::Ident(_) => None,
             TokenKind::Reserved(_) => None,
         },

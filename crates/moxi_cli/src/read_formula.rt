@@ -190,10 +190,7 @@ fn operand<'a>(
 }
 
 // A declared name.
-fn variable<'a>(
-    declared: &Declared,
-    tokens: &'a [Token],
-) -> Result<(Formula, &'a [Token]), Stop>
+fn variable<'a>(declared: &Declared, tokens: &'a [Token]) -> Result<(Formula, &'a [Token]), Stop>
     requires unopened { after Sign.Open (kinds tokens.now) ≡ None }
     ensures reads { Follows declared.now (λ x. (plain x.0, kinds x.1.now)) (ask []) (kinds tokens.now) result }
     ensures shorter { IfOk result (λ x. length x.1.now < length tokens.now) }

@@ -1,4 +1,8 @@
 // Runs over files and streams in memory, as tables.
+ghost use Rattle.std.specs.Prelude.{◌≡◌, ◌≢◌, Some, map, string_bytes};
+ghost use Rattle.moxi_cli.specs.Words.{command_of};
+ghost use Rattle.moxi_cli.specs.Outcome.{IsAbsent};
+
 use crate::command::run;
 use crate::status::Status;
 use std::alloc::Global;
@@ -258,19 +262,31 @@ fn faults(rt: HostRuntime) -> Result<(), Fail> {
     Ok(())
 }
 
+// A run over files that are always read, with no fault of a sink: only a missing file is a fault.
+fn sure_run(alloc: Global, words: &Vec<String>, shelf: &mut SureShelf) -> Status
+    ensures writes { result ≢ Status.WriteFault }
+    ensures reads { result ≡ Status.ReadFault → IsAbsent (Some shelf.old.files) (command_of (map string_bytes words.now.items)) }
+{
+    run(
+        alloc,
+        words,
+        shelf,
+        &mut DropSink::new(),
+        &mut DropSink::new(),
+    )
+}
+
 #[test]
 fn nothing_fails_over_a_sure_shelf(rt: HostRuntime) -> Result<(), Fail> {
     let alloc = rt.alloc();
-    let words = words_of(alloc, "smv2btor m.smv")?;
-    let mut shelf = SureShelf::new(model_file(alloc, SMALLEST)?);
-    let status = run(
-        alloc,
-        &words,
-        &mut shelf,
-        &mut DropSink::new(),
-        &mut DropSink::new(),
-    );
-    assert_eq!(rt; status, Status::Done);
+    for (words, wanted) in [
+        ("smv2btor m.smv", Status::Done),
+        ("smv2btor n.smv", Status::ReadFault),
+    ] {
+        let mut shelf = SureShelf::new(model_file(alloc, SMALLEST)?);
+        let status = sure_run(alloc, &words_of(alloc, words)?, &mut shelf);
+        assert_eq!(rt; status, wanted);
+    }
     Ok(())
 }
 

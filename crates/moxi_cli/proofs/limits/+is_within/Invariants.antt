@@ -1,4 +1,4 @@
-use Rattle.std.proofs.Common.{◌<◌, ◌≤◌, ◌+◌, ◌-◌, length, map}
+use Rattle.std.proofs.Common.{◌<◌, ◌≤◌, ◌-◌, length, map}
 use Rattle.smv_text.specs.Grammar.{height, highest}
 use Rattle.moxi_cli.specs.Trees.{plain, formulas_of}
 use Rattle.moxi_cli.proofs.PlainForms.{size, sizes}

@@ -1,9 +1,7 @@
-use Rattle.std.proofs.Common.{◌≡◌, ◌+◌, ◌<◌, ◌≤◌, ℕ, ◌∷◌, [], ◌++◌, length, map, drop, get_or, arith, not, cond, sym, ap, ◌∙◌, subst, Fits}
+use Rattle.std.proofs.Common.{◌≡◌, ◌+◌, ◌∷◌, [], ◌++◌, length, map, drop, arith, not, cond, sym, ap, ◌∙◌, subst}
 use Rattle.std.proofs.lemmas.List.{drop_more}
-use Rattle.btor_tree.specs.declared.lines.TheConstants.{GREATEST_ID}
-use Rattle.btor_tree.specs.Fits.{width_at}
 use Rattle.moxi_cli.specs.Trees.{plain, formulas_of}
-use Rattle.moxi_cli.specs.Lines.{made, all_made, with_formulas}
+use Rattle.moxi_cli.specs.Lines.{with_formulas}
 use Rattle.moxi_cli.specs.Stands.{HasInputs, AllStand}
 use Rattle.moxi_cli.proofs.TreeForms.{variable_is, not_is, and_is}
 use Rattle.moxi_cli.proofs.LineSteps.{inside}

@@ -1,4 +1,4 @@
-use Rattle.std.proofs.Common.{◌+◌, length, arith, ap, ◌∙◌}
+use Rattle.std.proofs.Common.{arith, ap, ◌∙◌}
 use Rattle.moxi_cli.specs.Trees.{plain}
 use Rattle.moxi_cli.specs.Lines.{with_variables}
 use Rattle.moxi_cli.proofs.Heads.{invariant_owed, bad_owed}

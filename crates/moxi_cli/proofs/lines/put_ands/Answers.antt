@@ -1,6 +1,6 @@
-use Rattle.std.proofs.Common.{◌+◌, ◌∷◌, drop, get_or, arith}
+use Rattle.std.proofs.Common.{◌+◌, drop, get_or, arith}
 use Rattle.std.proofs.lemmas.List.{drop_more}
-use Rattle.moxi_cli.specs.Lines.{made, with_ands}
+use Rattle.moxi_cli.specs.Lines.{made}
 use Rattle.moxi_cli.proofs.Parts.{ands_step}
 use Rattle.moxi_cli.proofs.lines.put_ands.Goals as goal
 

@@ -1,6 +1,5 @@
-use Rattle.std.proofs.Common.{◌≤◌, ◌+◌, length, arith, sym, ap, subst}
-use Rattle.btor_tree.specs.declared.lines.TheConstants.{GREATEST_ID}
-use Rattle.moxi_cli.specs.Lines.{made, with_signs}
+use Rattle.std.proofs.Common.{length, arith, sym, ap, subst}
+use Rattle.moxi_cli.specs.Lines.{made}
 use Rattle.moxi_cli.specs.Stands.{Stands}
 use Rattle.moxi_cli.proofs.Parts.{length_signs, stands_signs}
 use Rattle.moxi_cli.proofs.lines.put_signs.Goals as goal

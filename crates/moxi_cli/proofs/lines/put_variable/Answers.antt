@@ -1,4 +1,4 @@
-use Rattle.std.proofs.Common.{◌+◌, [], ◌∷◌, ◌++◌, ap, ◌∙◌, arith}
+use Rattle.std.proofs.Common.{[], ◌∷◌, ◌++◌, ap, ◌∙◌, arith}
 use Rattle.std.specs.Prelude.{codes}
 use Rattle.btor_tree.specs.Fits.{plain_arg}
 use Rattle.moxi_cli.proofs.Heads.{fits_input, ready_input, fits_state, fits_next}

@@ -1,4 +1,4 @@
-use Rattle.std.proofs.Common.{◌≡◌, [], ◌∷◌, length, subst, sym, ap, ◌∙◌, Err}
+use Rattle.std.proofs.Common.{length, subst, sym, ap, ◌∙◌, Err}
 use Rattle.std.proofs.lemmas.Result.{err_from_is_err_and}
 use Rattle.smv_text.specs.Lexing.{kinds}
 use Rattle.moxi_cli.specs.Reading.{Finishes}

@@ -1,4 +1,3 @@
-use Rattle.smv_text.specs.Lexing.{kinds}
 use Rattle.moxi_cli.proofs.Judged.{below_names}
 use Rattle.moxi_cli.proofs.parse.parse.Goals as goal
 

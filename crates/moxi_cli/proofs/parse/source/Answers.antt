@@ -2,7 +2,6 @@ use Rattle.std.proofs.Common.{◌≡◌, ◌∙◌, sym, true, arith}
 use Rattle.std.proofs.lemmas.Result.{err_from_is_err_and}
 use Rattle.smv_text.specs.Lexing.{kinds}
 use Rattle.moxi_cli.specs.Trees.{source_of}
-use Rattle.moxi_cli.specs.Reading.{keeps_limits}
 use Rattle.moxi_cli.proofs.Judged.{spelled_from, model_unread, too_high}
 use Rattle.moxi_cli.proofs.Kept.{kept, length-kinds}
 use Rattle.moxi_cli.proofs.parse.source.Goals as goal

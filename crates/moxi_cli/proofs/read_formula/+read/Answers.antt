@@ -1,12 +1,10 @@
-use Rattle.std.proofs.Common.{◌≡◌, ◌<◌, ◌∷◌, [], ◌++◌, length, map, Some, None, sym, ap, ◌∙◌, arith, rules, add-one}
+use Rattle.std.proofs.Common.{◌≡◌, ◌<◌, ◌∷◌, [], ◌++◌, length, map, sym, ap, ◌∙◌, arith, rules, add-one}
 use Rattle.std.proofs.lemmas.List.{length-map}
 use Rattle.std.proofs.lemmas.Result.{err_from_is_err_and}
-use Rattle.smv_text.specs.declared.token.Sign.TheVariants as sign
 use Rattle.smv_text.specs.Lexing.{kinds}
 use Rattle.smv_text.specs.Grammar.{Conjunction, Negation, all_levels}
 use Rattle.moxi_cli.specs.Machine.{ask, have, operand, bare, joined, bracket, run}
 use Rattle.moxi_cli.specs.Trees.{plain}
-use Rattle.moxi_cli.specs.Reading.{after}
 use Rattle.moxi_cli.proofs.PlainForms.{made-Not, made-And, one_more}
 use Rattle.moxi_cli.proofs.MachineSteps.{chained, chain_goes, chain_begins, operand_goes, whole_chain, signing, signing_goes, signing_ends, signing_folds, unsigned, bracket_opens, bracket_goes, bracket_dies, follows_err}
 use Rattle.moxi_cli.proofs.read_formula.+read.Goals as goal

@@ -7,7 +7,7 @@ use Rattle.moxi_cli.proofs.declared.Declared.declare.Goals.{in-Ok-insert_full, i
 pub returns-clause-fresh : goal.returns-clause-fresh
 returns-clause-fresh c =
     elim c.match-insert_full.branch [
-      in-Ok-insert_full w ↦ subst (λ r. IfOk r (λ fresh. fresh ≡ is_none (place_of c.args.self.now c.args.name.now))) (sym w.result-is)
+      | in-Ok-insert_full w ↦ subst (λ r. IfOk r (λ fresh. fresh ≡ is_none (place_of c.args.self.now c.args.name.now))) (sym w.result-is)
           (w.in-Ok-insert_full.ensures.added ∙ fresh_name c.args.self.now c.args.name.now c.self.inside.numbers.keys c.in-Ok.key c.self.view_is c.in-Ok.ensures.items)
-    | in-Err w ↦ subst (λ r. IfOk r (λ fresh. fresh ≡ is_none (place_of c.args.self.now c.args.name.now))) (sym w.result-is) tt
+      | in-Err w ↦ subst (λ r. IfOk r (λ fresh. fresh ≡ is_none (place_of c.args.self.now c.args.name.now))) (sym w.result-is) tt
     ]
