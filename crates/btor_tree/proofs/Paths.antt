@@ -11,7 +11,7 @@ use Rattle.word_core.specs.declared.word.TheConstants.{WIDEST}
 use Rattle.btor_tree.specs.declared.args.Arg.{Arg}
 use Rattle.btor_tree.specs.declared.lines.Line.{Line}
 use Rattle.btor_tree.specs.declared.lines.LineOp.{LineOp}
-use Rattle.btor_tree.specs.declared.lines.LineOp.TheVariants.{Input, State, One, Zero, Init, Next}
+use Rattle.btor_tree.specs.declared.lines.LineOp.TheVariants.{Input, State, Constant, One, Zero, Ones, Init, Next}
 use Rattle.btor_tree.specs.Fits.{OnTwo, AreEarlier, OpFits, GivesValue, InitRule, IsWellFormed, sort_at, width_at, width_of_line, has_word, state_value, value_in, value_for, operands, is_init, is_next, is_state, is_constant, is_kind, kind_at}
 use Rattle.btor_tree.specs.Frame.{GivenFits, FreeFits, read_or, word_at, signed_word, operand, constant_word, constant_of, init_operand, Equation, Meets, IsFrame, InitsHold, NextsHold, Follow, IsPath}
 use Rattle.btor_tree.proofs.Grows.{slice_get_front, slice_get_inside, well_formed_front}
@@ -165,19 +165,25 @@ operands_append kind (x ∷ xs) ys =
     ap (λ r. cond (kind x.op) x.args [] ++ r) (operands_append kind xs ys) ∙ sym (append_assoc (cond (kind x.op) x.args []) (operands kind xs) (operands kind ys))
 
 constant_has_word : (op : LineOp) → is_constant op ≡ true → has_word op ≡ true
+constant_has_word (Constant c) h = refl
 constant_has_word One h = refl
 constant_has_word Zero h = refl
+constant_has_word Ones h = refl
 constant_has_word op h = absurd (cc)
 
 constant_equation : (before : List Line) (row : List BitVector) (s : ℕ) (op : LineOp) (args : List Arg) (x : BitVector) → is_constant op ≡ true → Equation before row s op args x → x ≡ constant_word (sort_at before s) op
+constant_equation before row s (Constant c) args x h e = e
 constant_equation before row s One args x h e = e
 constant_equation before row s Zero args x h e = e
+constant_equation before row s Ones args x h e = e
 constant_equation before row s op args x h e = absurd (cc)
 
-constant_wide : (w : ℕ) (op : LineOp) → is_constant op ≡ true → 1 ≤ w → w ≤ WIDEST → IsOfWidth (constant_word w op) w
-constant_wide w One h p q = ((p, q, one_lt w p), refl)
-constant_wide w Zero h p q = ((p, q, one-le-pow w 2 (omega arith)), refl)
-constant_wide w op h p q = absurd (cc)
+constant_wide : (before : List Line) (s : ℕ) (op : LineOp) (args : List Arg) → is_constant op ≡ true → OpFits before s op args → sort_at before s ≤ WIDEST → IsOfWidth (constant_word (sort_at before s) op) (sort_at before s)
+constant_wide before s (Constant c) args h f q = (f.0, f.1)
+constant_wide before s One args h f q = ((f.0, q, one_lt (sort_at before s) f.0), refl)
+constant_wide before s Zero args h f q = ((f.0, q, one-le-pow (sort_at before s) 2 (omega arith)), refl)
+constant_wide before s Ones args h f q = ((f.0, q, omega (arith, one-le-pow (sort_at before s) 2 (omega arith))), refl)
+constant_wide before s op args h f q = absurd (cc)
 
 abbrev pub constant_at : List Line → ℕ → BitVector
 constant_at lines i = constant_of lines (slice_get lines i)
@@ -199,8 +205,13 @@ constant_at_wide lines i w h =
     let l = line_of_kind is_constant lines i h in
     let has = constant_has_word l.0.op l.2 in
     let e : width_at lines i ≡ sort_at lines l.0.sort = ap (λ o. width_of_line lines o) l.1 ∙ ap (λ b. cond b (sort_at lines l.0.sort) 0) has in
-    let p : 1 ≤ sort_at lines l.0.sort = omega (arith, e, (width_is lines i l.0 w l.1 has).1) in
-    subst (λ x. IsOfWidth x (width_at lines i)) (sym (ap (constant_of lines) l.1)) (subst (IsOfWidth (constant_word (sort_at lines l.0.sort) l.0.op)) (sym e) (constant_wide (sort_at lines l.0.sort) l.0.op l.2 p (sort_small lines l.0.sort w)))
+    let before = take i lines in
+    let fits = (w.by_line i l.0 l.1).body.sorts in
+    let s : sort_at lines l.0.sort ≡ sort_at before l.0.sort =
+    ap (λ ls. sort_at ls l.0.sort) (sym (take-append-drop i lines)) ∙ sort_front before (drop i lines) l.0.sort (sort_there before l.0.sort l.0.op l.0.args fits has) in
+    let there = constant_wide before l.0.sort l.0.op l.0.args l.2 fits (sort_small before l.0.sort (well_formed_take lines i w)) in
+    let here : IsOfWidth (constant_word (sort_at lines l.0.sort) l.0.op) (sort_at lines l.0.sort) = subst (λ n. IsOfWidth (constant_word n l.0.op) n) (sym s) there in
+    subst (λ x. IsOfWidth x (width_at lines i)) (sym (ap (constant_of lines) l.1)) (subst (IsOfWidth (constant_word (sort_at lines l.0.sort) l.0.op)) (sym e) here)
 
 -- the word that an init reads, in a row of the whole list
 pub init_operand_is : (lines : List Line) (row : List BitVector) (a : Arg) → IsWellFormed lines → Meets lines row → init_operand lines row a ≡ operand row a

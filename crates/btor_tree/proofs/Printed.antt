@@ -1,18 +1,20 @@
 -- What is printed is spelled.
-use Rattle.std.proofs.Common.{◌≡◌, ℕ, ◌<◌, ◌≤◌, ◌^◌, Bool, true, false, cond, eqb, ltb, List, [], ◌∷◌, ◌++◌, length, take, map, Option, Some, None, Ok, refl, sym, ap, ◌∙◌, subst, arith, inl, inr}
-use Rattle.std.specs.Prelude.{option_and_then, option_map, IfSome, slice_get}
+use Rattle.std.proofs.Common.{◌≡◌, ℕ, ◌+◌, ◌-◌, ◌<◌, ◌≤◌, ◌^◌, Bool, true, false, cond, eqb, ltb, List, [], ◌∷◌, ◌++◌, length, take, map, Option, Some, None, Ok, refl, sym, ap, ◌∙◌, subst, arith, inl, inr}
+use Rattle.std.specs.Prelude.{option_and_then, option_map, IfSome, slice_get, codes}
 use Rattle.std.specs.Fmt.{decimal}
 use Rattle.std.specs.List.{flat_map}
 use Rattle.std.proofs.lemmas.Fmt.{decimal_nonempty}
 use Rattle.std.proofs.lemmas.List.{append_assoc, append-nil, take_at}
-use Rattle.std.proofs.lemmas.Bool.{cond-true, cond-false, lt-ltb, le-leb, eq-eqb, and_parts, or_right, cases_lt}
+use Rattle.std.proofs.lemmas.Bool.{cond-true, cond-false, lt-ltb, le-leb, eq-eqb, and_parts, and_from, or_right, cases_lt}
 use Rattle.std.proofs.lemmas.Bool.Decides.{nat_tests}
 use Rattle.std.proofs.lemmas.Option.{slice_get_past}
 use Rattle.word_core.specs.declared.word.TheConstants.{WIDEST}
 use Rattle.word_core.specs.declared.kinds.Unary.{Unary}
-use Rattle.word_core.specs.declared.kinds.Unary.TheVariants.{Not}
+use Rattle.word_core.specs.declared.kinds.Unary.TheVariants.{Not, Inc, Dec, Neg, RedAnd, RedOr, RedXor}
 use Rattle.word_core.specs.declared.kinds.Binary.{Binary}
-use Rattle.word_core.specs.declared.kinds.Binary.TheVariants.{And}
+use Rattle.word_core.specs.declared.kinds.Binary.TheVariants.{Iff, Implies, Eq, Neq, Sgt, Sgte, Slt, Slte, Ugt, Ugte, Ult, Ulte, And, Nand, Nor, Or, Xnor, Xor, Sll, Srl, Sra, Add, Sub, Mul, Udiv, Sdiv, Urem, Srem, Smod, Concat}
+use Rattle.text_core.specs.Binary.{binary_digits}
+use Rattle.word_core.specs.Words.{BitVector, IsWord}
 use Rattle.word_core.specs.Table.{unary_width, BinaryFits, binary_width}
 use Rattle.btor_tree.specs.declared.args.Arg.{Arg}
 use Rattle.btor_tree.specs.declared.lines.Line.{Line}
@@ -20,12 +22,14 @@ use Rattle.btor_tree.specs.declared.lines.LineOp.{LineOp}
 use Rattle.btor_tree.specs.declared.lines.LineOp.TheVariants as op
 use Rattle.btor_tree.specs.Fits.{Fits, OpFits, IsWellFormed, last_id, sort_at, width_at, width_of_sort, width_of_line, kind_at, is_state, is_init, is_next, is_constant, InitRule, GivesValue, IsSymbol}
 use Rattle.btor_tree.specs.Parts.{Parts, is_symbol, cap, is_digit, all_digits, numeral, raw_lines, line_parts}
-use Rattle.btor_tree.specs.Shapes.{Operand, Source, input, state, one, zero, Binding, init, next, Property, bad, constraint, Content, sort_content, source_content, binding_content, property_content, unary_content, binary_content, Shape, source_text, binding_text, property_text, unary_text, binary_text, minus, plus, operand_of, symbol_parts, SpellsContent}
-use Rattle.btor_tree.specs.Resolving.{place_of_id, sort_of_id, state_of_id, word_of_id, source_op, property_op, binary_fits, is_in_time, filled, resolve_content}
+use Rattle.btor_tree.specs.Shapes.{Operand, Source, input, state, one, zero, ones, in_binary, Extension, uext, sext, Binding, init, next, Property, bad, constraint, output, Content, sort_content, source_content, constant_content, binding_content, property_content, unary_content, binary_content, ite_content, slice_content, extension_content, Shape, source_text, binding_text, property_text, extension_text, unary_text, binary_text, minus, plus, operand_of, symbol_parts, SpellsContent}
+use Rattle.btor_tree.specs.Resolving.{place_of_id, sort_of_id, state_of_id, word_of_id, source_op, property_op, extension_op, property_takes, is_supported, binary_fits, is_in_time, filled, resolve_content}
 use Rattle.btor_tree.specs.Texts.{IsNext, blank, spelled, good, Reads, ends, passed, line, SpellsLines}
-use Rattle.btor_tree.specs.Printing.{id_at, operand_text, op_text, sort_parts, printed_rest, spaced, line_text, printed}
+use Rattle.btor_tree.specs.Printing.{id_at, operand_text, op_text, sort_parts, number_parts, printed_rest, spaced, line_text, printed}
 use Rattle.btor_tree.proofs.Numerals.{numeral_again, decimal_digits}
 use Rattle.btor_tree.proofs.PartLaws.{AllParts, parts_append, symbol_bytes, joined_parts, joined_end, decimal_part, line_at, symbol_test}
+use Rattle.btor_tree.proofs.Widths.{sort_small, width_small}
+use Rattle.btor_tree.proofs.Literals.{digits_part, digits_are, literal_again}
 use Rattle.btor_tree.proofs.IdLaws.{Knows, place_again, small_id, get_end, front_known}
 
 -- the place of a printed id
@@ -71,6 +75,7 @@ unsigned_text lines x e = cond-false x.negated (45 ∷ decimal (id_at lines x.li
 -- what the printed parts of a line say, and what that is behind the lines before it
 record Again (before lines : List Line) (l : Line) : Type 0 where
   content : Content
+  supported : is_supported content ≡ true
   spells : SpellsContent content (symbol_parts l.symbol) (printed_rest lines l)
   resolves : resolve_content before (record { id = l.id; content = content; symbol = l.symbol }) content ≡ Ok l
 
@@ -89,10 +94,29 @@ source_resolves : (before lines : List Line) → Printing before lines → (k : 
     → resolve_content before sh (source_content k (id_at lines s)) ≡ Ok (filled sh (source_op k) s [])
 source_resolves before lines p k s sh le = rw (sort_back before lines p.knows s le) refl
 
-property_resolves : (before lines : List Line) → Printing before lines → (k : Property) (a : Arg) (sh : Shape) → width_at before a.line ≡ 1
+property_resolves : (before lines : List Line) → Printing before lines → (k : Property) (a : Arg) (sh : Shape) → 1 ≤ width_at before a.line → property_takes k (width_at before a.line) ≡ true
     → resolve_content before sh (property_content k (back lines a)) ≡ Ok (filled sh (property_op k) 0 (a ∷ []))
-property_resolves before lines p k a sh e =
-    rw (word_back before lines p.knows a.line (omega arith), eq-eqb (width_at before a.line) 1 e) refl
+property_resolves before lines p k a sh le e = rw (word_back before lines p.knows a.line le, e) refl
+
+constant_resolves : (before lines : List Line) → Printing before lines → (s : ℕ) (c : BitVector) (sh : Shape) → IsWord c → c.width ≡ sort_at before s
+    → resolve_content before sh (constant_content in_binary (id_at lines s) (binary_digits c.width c.bits)) ≡ Ok (filled sh (op.Constant c) s [])
+constant_resolves before lines p s c sh word e =
+    rw (sort_back before lines p.knows s (omega (arith, word.0, e)), literal_again c (sort_at before s) word e) refl
+
+ite_resolves : (before lines : List Line) → Printing before lines → (s : ℕ) (c a b : Arg) (sh : Shape) → 1 ≤ sort_at before s → width_at before c.line ≡ 1 → width_at before a.line ≡ sort_at before s → width_at before b.line ≡ sort_at before s
+    → resolve_content before sh (ite_content (id_at lines s) (back lines c) (back lines a) (back lines b)) ≡ Ok (filled sh op.Ite s (c ∷ a ∷ b ∷ []))
+ite_resolves before lines p s c a b sh wide one_bit first second =
+    rw (sort_back before lines p.knows s wide, word_back before lines p.knows c.line (omega (arith, one_bit)), word_back before lines p.knows a.line (omega (arith, wide, first)), word_back before lines p.knows b.line (omega (arith, wide, second)), eq-eqb (width_at before c.line) 1 one_bit, eq-eqb (width_at before a.line) (sort_at before s) first, eq-eqb (width_at before b.line) (sort_at before s) second) refl
+
+slice_resolves : (before lines : List Line) → Printing before lines → (s : ℕ) (a : Arg) (high low : ℕ) (sh : Shape) → 1 ≤ sort_at before s → low ≤ high → high < width_at before a.line → high - low + 1 ≡ sort_at before s
+    → resolve_content before sh (slice_content (id_at lines s) (back lines a) high low) ≡ Ok (filled sh (op.Slice high low) s (a ∷ []))
+slice_resolves before lines p s a high low sh wide order range e =
+    rw (sort_back before lines p.knows s wide, word_back before lines p.knows a.line (omega (arith, range)), le-leb low high order, lt-ltb high (width_at before a.line) range, eq-eqb (high - low + 1) (sort_at before s) e) refl
+
+extension_resolves : (before lines : List Line) → Printing before lines → (k : Extension) (s : ℕ) (a : Arg) (n : ℕ) (sh : Shape) → 1 ≤ sort_at before s → 1 ≤ width_at before a.line → width_at before a.line + n ≡ sort_at before s
+    → resolve_content before sh (extension_content k (id_at lines s) (back lines a) n) ≡ Ok (filled sh (extension_op k n) s (a ∷ []))
+extension_resolves before lines p k s a n sh wide word e =
+    rw (sort_back before lines p.knows s wide, word_back before lines p.knows a.line word, eq-eqb (width_at before a.line + n) (sort_at before s) e) refl
 
 unary_resolves : (before lines : List Line) → Printing before lines → (o : Unary) (s : ℕ) (a : Arg) (sh : Shape) → 1 ≤ sort_at before s → 1 ≤ width_at before a.line → unary_width o (width_at before a.line) ≡ sort_at before s
     → resolve_content before sh (unary_content o (id_at lines s) (back lines a)) ≡ Ok (filled sh (op.Unary o) s (a ∷ []))
@@ -100,7 +124,10 @@ unary_resolves before lines p o s a sh wide word e =
     rw (sort_back before lines p.knows s wide, word_back before lines p.knows a.line word, eq-eqb (unary_width o (width_at before a.line)) (sort_at before s) e) refl
 
 fits_test : (o : Binary) (v w : ℕ) → BinaryFits o v w → binary_fits o v w ≡ true
-fits_test And v w e = eq-eqb v w e
+fits_test Iff v w e = and_from (eqb v 1) (eqb w 1) (eq-eqb v 1 e.0) (eq-eqb w 1 e.1)
+fits_test Implies v w e = and_from (eqb v 1) (eqb w 1) (eq-eqb v 1 e.0) (eq-eqb w 1 e.1)
+fits_test Concat v w e = le-leb (v + w) WIDEST e
+fits_test op v w e = eq-eqb v w e
 
 binary_resolves : (before lines : List Line) → Printing before lines → (o : Binary) (s : ℕ) (a b : Arg) (sh : Shape) → 1 ≤ sort_at before s → 1 ≤ width_at before a.line → 1 ≤ width_at before b.line
     → BinaryFits o (width_at before a.line) (width_at before b.line) → binary_width o (width_at before a.line) (width_at before b.line) ≡ sort_at before s
@@ -144,6 +171,25 @@ binary_spells : (before lines : List Line) → Printing before lines → (o : Bi
 binary_spells before lines p o s a b tail =
     (decimal (id_at lines s), operand_text lines a, operand_text lines b, refl, number before lines p s, operand_back before lines p a, operand_back before lines p b)
 
+constant_spells : (before lines : List Line) → Printing before lines → (s : ℕ) (c : BitVector) (tail : Parts) → IsWord c
+    → SpellsContent (constant_content in_binary (id_at lines s) (binary_digits c.width c.bits)) tail (codes "const" ∷ decimal (id_at lines s) ∷ binary_digits c.width c.bits ∷ tail)
+constant_spells before lines p s c tail word = (decimal (id_at lines s), refl, number before lines p s, digits_are c.width c.bits word.0)
+
+ite_spells : (before lines : List Line) → Printing before lines → (s : ℕ) (c a b : Arg) (tail : Parts)
+    → SpellsContent (ite_content (id_at lines s) (back lines c) (back lines a) (back lines b)) tail (codes "ite" ∷ decimal (id_at lines s) ∷ operand_text lines c ∷ operand_text lines a ∷ operand_text lines b ∷ tail)
+ite_spells before lines p s c a b tail =
+    (decimal (id_at lines s), operand_text lines c, operand_text lines a, operand_text lines b, refl, number before lines p s, operand_back before lines p c, operand_back before lines p a, operand_back before lines p b)
+
+slice_spells : (before lines : List Line) → Printing before lines → (s : ℕ) (a : Arg) (high low : ℕ) (tail : Parts) → high < cap → low < cap
+    → SpellsContent (slice_content (id_at lines s) (back lines a) high low) tail (codes "slice" ∷ decimal (id_at lines s) ∷ operand_text lines a ∷ decimal high ∷ decimal low ∷ tail)
+slice_spells before lines p s a high low tail h l =
+    (decimal (id_at lines s), operand_text lines a, decimal high, decimal low, refl, number before lines p s, operand_back before lines p a, numeral_again high h, numeral_again low l)
+
+extension_spells : (before lines : List Line) → Printing before lines → (k : Extension) (s : ℕ) (a : Arg) (n : ℕ) (tail : Parts) → n < cap
+    → SpellsContent (extension_content k (id_at lines s) (back lines a) n) tail (extension_text k ∷ decimal (id_at lines s) ∷ operand_text lines a ∷ decimal n ∷ tail)
+extension_spells before lines p k s a n tail h =
+    (decimal (id_at lines s), operand_text lines a, decimal n, refl, number before lines p s, operand_back before lines p a, numeral_again n h)
+
 abbrev shape : ℕ → Option (List ℕ) → Content → Shape
 shape id symbol content = record { id = id; content = content; symbol = symbol }
 
@@ -151,54 +197,100 @@ shape id symbol content = record { id = id; content = content; symbol = symbol }
 again_source : (before lines : List Line) → Printing before lines → (id s : ℕ) (symbol : Option (List ℕ)) (k : Source) → 1 ≤ sort_at before s → Again before lines (record { id = id; op = source_op k; sort = s; args = []; symbol = symbol })
 again_source before lines p id s symbol input le =
     let content = source_content input (id_at lines s) in
-    record { content = content; spells = source_spells before lines p input s (symbol_parts symbol); resolves = source_resolves before lines p input s (shape id symbol content) le }
+    record { content = content; supported = refl; spells = source_spells before lines p input s (symbol_parts symbol); resolves = source_resolves before lines p input s (shape id symbol content) le }
 again_source before lines p id s symbol state le =
     let content = source_content state (id_at lines s) in
-    record { content = content; spells = source_spells before lines p state s (symbol_parts symbol); resolves = source_resolves before lines p state s (shape id symbol content) le }
+    record { content = content; supported = refl; spells = source_spells before lines p state s (symbol_parts symbol); resolves = source_resolves before lines p state s (shape id symbol content) le }
 again_source before lines p id s symbol one le =
     let content = source_content one (id_at lines s) in
-    record { content = content; spells = source_spells before lines p one s (symbol_parts symbol); resolves = source_resolves before lines p one s (shape id symbol content) le }
+    record { content = content; supported = refl; spells = source_spells before lines p one s (symbol_parts symbol); resolves = source_resolves before lines p one s (shape id symbol content) le }
 again_source before lines p id s symbol zero le =
     let content = source_content zero (id_at lines s) in
-    record { content = content; spells = source_spells before lines p zero s (symbol_parts symbol); resolves = source_resolves before lines p zero s (shape id symbol content) le }
+    record { content = content; supported = refl; spells = source_spells before lines p zero s (symbol_parts symbol); resolves = source_resolves before lines p zero s (shape id symbol content) le }
+again_source before lines p id s symbol ones le =
+    let content = source_content ones (id_at lines s) in
+    record { content = content; supported = refl; spells = source_spells before lines p ones s (symbol_parts symbol); resolves = source_resolves before lines p ones s (shape id symbol content) le }
+
+-- a constant
+again_constant : (before lines : List Line) → Printing before lines → (id s : ℕ) (symbol : Option (List ℕ)) (c : BitVector) → IsWord c → c.width ≡ sort_at before s → Again before lines (record { id = id; op = op.Constant c; sort = s; args = []; symbol = symbol })
+again_constant before lines p id s symbol c word e =
+    let content = constant_content in_binary (id_at lines s) (binary_digits c.width c.bits) in
+    record { content = content; supported = refl; spells = constant_spells before lines p s c (symbol_parts symbol) word; resolves = constant_resolves before lines p s c (shape id symbol content) word e }
 
 -- a line of one operand and no sort
-again_property : (before lines : List Line) → Printing before lines → (id : ℕ) (a : Arg) (symbol : Option (List ℕ)) (k : Property) → width_at before a.line ≡ 1 → Again before lines (record { id = id; op = property_op k; sort = 0; args = a ∷ []; symbol = symbol })
-again_property before lines p id a symbol bad e =
+again_property : (before lines : List Line) → Printing before lines → (id : ℕ) (a : Arg) (symbol : Option (List ℕ)) (k : Property) → 1 ≤ width_at before a.line → property_takes k (width_at before a.line) ≡ true → Again before lines (record { id = id; op = property_op k; sort = 0; args = a ∷ []; symbol = symbol })
+again_property before lines p id a symbol bad le e =
     let content = property_content bad (back lines a) in
-    record { content = content; spells = property_spells before lines p bad a (symbol_parts symbol); resolves = property_resolves before lines p bad a (shape id symbol content) e }
-again_property before lines p id a symbol constraint e =
+    record { content = content; supported = refl; spells = property_spells before lines p bad a (symbol_parts symbol); resolves = property_resolves before lines p bad a (shape id symbol content) le e }
+again_property before lines p id a symbol constraint le e =
     let content = property_content constraint (back lines a) in
-    record { content = content; spells = property_spells before lines p constraint a (symbol_parts symbol); resolves = property_resolves before lines p constraint a (shape id symbol content) e }
+    record { content = content; supported = refl; spells = property_spells before lines p constraint a (symbol_parts symbol); resolves = property_resolves before lines p constraint a (shape id symbol content) le e }
+again_property before lines p id a symbol output le e =
+    let content = property_content output (back lines a) in
+    record { content = content; supported = refl; spells = property_spells before lines p output a (symbol_parts symbol); resolves = property_resolves before lines p output a (shape id symbol content) le e }
+
+-- a line of one operand of one bit
+again_bit : (before lines : List Line) → Printing before lines → (id : ℕ) (a : Arg) (symbol : Option (List ℕ)) → width_at before a.line ≡ 1
+    → Again before lines (record { id = id; op = op.Bad; sort = 0; args = a ∷ []; symbol = symbol }) × Again before lines (record { id = id; op = op.Constraint; sort = 0; args = a ∷ []; symbol = symbol })
+again_bit before lines p id a symbol e =
+    let le : 1 ≤ width_at before a.line = omega (arith, e) in
+    (again_property before lines p id a symbol bad le (eq-eqb (width_at before a.line) 1 e), again_property before lines p id a symbol constraint le (eq-eqb (width_at before a.line) 1 e))
 
 again_sort : (before lines : List Line) (id w : ℕ) (symbol : Option (List ℕ)) → 1 ≤ w → w ≤ WIDEST → Again before lines (record { id = id; op = op.Sort w; sort = 0; args = []; symbol = symbol })
 again_sort before lines id w symbol low high =
-    record { content = sort_content w; spells = (decimal w, refl, numeral_again w (omega arith)); resolves = rw (le-leb 1 w low, le-leb w WIDEST high) refl }
+    record { content = sort_content w; supported = refl; spells = (decimal w, refl, numeral_again w (omega arith)); resolves = rw (le-leb 1 w low, le-leb w WIDEST high) refl }
 
 again_unary : (before lines : List Line) → Printing before lines → (id s : ℕ) (a : Arg) (symbol : Option (List ℕ)) (o : Unary) → 1 ≤ sort_at before s → 1 ≤ width_at before a.line → unary_width o (width_at before a.line) ≡ sort_at before s
     → Again before lines (record { id = id; op = op.Unary o; sort = s; args = a ∷ []; symbol = symbol })
 again_unary before lines p id s a symbol o wide word e =
     let content = unary_content o (id_at lines s) (back lines a) in
-    record { content = content; spells = unary_spells before lines p o s a (symbol_parts symbol); resolves = unary_resolves before lines p o s a (shape id symbol content) wide word e }
+    record { content = content; supported = refl; spells = unary_spells before lines p o s a (symbol_parts symbol); resolves = unary_resolves before lines p o s a (shape id symbol content) wide word e }
 
 again_binary : (before lines : List Line) → Printing before lines → (id s : ℕ) (a b : Arg) (symbol : Option (List ℕ)) (o : Binary) → 1 ≤ sort_at before s → 1 ≤ width_at before a.line → 1 ≤ width_at before b.line
     → BinaryFits o (width_at before a.line) (width_at before b.line) → binary_width o (width_at before a.line) (width_at before b.line) ≡ sort_at before s
     → Again before lines (record { id = id; op = op.Binary o; sort = s; args = a ∷ b ∷ []; symbol = symbol })
 again_binary before lines p id s a b symbol o wide first second fits e =
     let content = binary_content o (id_at lines s) (back lines a) (back lines b) in
-    record { content = content; spells = binary_spells before lines p o s a b (symbol_parts symbol); resolves = binary_resolves before lines p o s a b (shape id symbol content) wide first second fits e }
+    record { content = content; supported = refl; spells = binary_spells before lines p o s a b (symbol_parts symbol); resolves = binary_resolves before lines p o s a b (shape id symbol content) wide first second fits e }
 
 again_init : (before lines : List Line) → Printing before lines → (id s : ℕ) (x v : Arg) (symbol : Option (List ℕ)) → GivesValue is_init before s x v → InitRule before x v
     → Again before lines (record { id = id; op = op.Init; sort = s; args = x ∷ v ∷ []; symbol = symbol })
 again_init before lines p id s x v symbol h early =
     let content = binding_content init (id_at lines s) (id_at lines x.line) (back lines v) in
-    record { content = content; spells = binding_spells before lines p init s x v (symbol_parts symbol) h.1; resolves = init_resolves before lines p s x v (shape id symbol content) h early }
+    record { content = content; supported = refl; spells = binding_spells before lines p init s x v (symbol_parts symbol) h.1; resolves = init_resolves before lines p s x v (shape id symbol content) h early }
 
 again_next : (before lines : List Line) → Printing before lines → (id s : ℕ) (x v : Arg) (symbol : Option (List ℕ)) → GivesValue is_next before s x v
     → Again before lines (record { id = id; op = op.Next; sort = s; args = x ∷ v ∷ []; symbol = symbol })
 again_next before lines p id s x v symbol h =
     let content = binding_content next (id_at lines s) (id_at lines x.line) (back lines v) in
-    record { content = content; spells = binding_spells before lines p next s x v (symbol_parts symbol) h.1; resolves = next_resolves before lines p s x v (shape id symbol content) h }
+    record { content = content; supported = refl; spells = binding_spells before lines p next s x v (symbol_parts symbol) h.1; resolves = next_resolves before lines p s x v (shape id symbol content) h }
+
+again_ite : (before lines : List Line) → Printing before lines → (id s : ℕ) (c a b : Arg) (symbol : Option (List ℕ)) → 1 ≤ sort_at before s → width_at before c.line ≡ 1 → width_at before a.line ≡ sort_at before s → width_at before b.line ≡ sort_at before s
+    → Again before lines (record { id = id; op = op.Ite; sort = s; args = c ∷ a ∷ b ∷ []; symbol = symbol })
+again_ite before lines p id s c a b symbol wide one_bit first second =
+    let content = ite_content (id_at lines s) (back lines c) (back lines a) (back lines b) in
+    record { content = content; supported = refl; spells = ite_spells before lines p s c a b (symbol_parts symbol); resolves = ite_resolves before lines p s c a b (shape id symbol content) wide one_bit first second }
+
+again_slice : (before lines : List Line) → Printing before lines → (id s : ℕ) (a : Arg) (high low : ℕ) (symbol : Option (List ℕ)) → 1 ≤ sort_at before s → low ≤ high → high < width_at before a.line → high - low + 1 ≡ sort_at before s
+    → Again before lines (record { id = id; op = op.Slice high low; sort = s; args = a ∷ []; symbol = symbol })
+again_slice before lines p id s a high low symbol wide order range e =
+    let content = slice_content (id_at lines s) (back lines a) high low in
+    let most : width_at before a.line ≤ WIDEST = width_small before a.line p.knows.well in
+    record { content = content; supported = refl; spells = slice_spells before lines p s a high low (symbol_parts symbol) (omega (arith, range, most)) (omega (arith, order, range, most)); resolves = slice_resolves before lines p s a high low (shape id symbol content) wide order range e }
+
+again_uext : (before lines : List Line) → Printing before lines → (id s : ℕ) (a : Arg) (n : ℕ) (symbol : Option (List ℕ)) → 1 ≤ sort_at before s → 1 ≤ width_at before a.line → width_at before a.line + n ≡ sort_at before s
+    → Again before lines (record { id = id; op = op.Uext n; sort = s; args = a ∷ []; symbol = symbol })
+again_uext before lines p id s a n symbol wide word e =
+    let content = extension_content uext (id_at lines s) (back lines a) n in
+    let most : sort_at before s ≤ WIDEST = sort_small before s p.knows.well in
+    record { content = content; supported = refl; spells = extension_spells before lines p uext s a n (symbol_parts symbol) (omega (arith, e, most)); resolves = extension_resolves before lines p uext s a n (shape id symbol content) wide word e }
+
+again_sext : (before lines : List Line) → Printing before lines → (id s : ℕ) (a : Arg) (n : ℕ) (symbol : Option (List ℕ)) → 1 ≤ sort_at before s → 1 ≤ width_at before a.line → width_at before a.line + n ≡ sort_at before s
+    → Again before lines (record { id = id; op = op.Sext n; sort = s; args = a ∷ []; symbol = symbol })
+again_sext before lines p id s a n symbol wide word e =
+    let content = extension_content sext (id_at lines s) (back lines a) n in
+    let most : sort_at before s ≤ WIDEST = sort_small before s p.knows.well in
+    record { content = content; supported = refl; spells = extension_spells before lines p sext s a n (symbol_parts symbol) (omega (arith, e, most)); resolves = extension_resolves before lines p sext s a n (shape id symbol content) wide word e }
 
 -- with no arguments
 no_args : (before lines : List Line) (id : ℕ) (o : LineOp) (s : ℕ) (args : List Arg) (symbol : Option (List ℕ)) → args ≡ [] → Again before lines (record { id = id; op = o; sort = s; args = []; symbol = symbol })
@@ -215,8 +307,10 @@ again : (before lines : List Line) → Printing before lines → (id s : ℕ) (o
 again before lines p id s (op.Sort w) args symbol h = no_args before lines id (op.Sort w) s args symbol h.3 (no_sort before lines id (op.Sort w) s [] symbol h.2 (again_sort before lines id w symbol h.0 h.1))
 again before lines p id s op.Input args symbol h = no_args before lines id op.Input s args symbol h.1 (again_source before lines p id s symbol input h.0)
 again before lines p id s op.State args symbol h = no_args before lines id op.State s args symbol h.1 (again_source before lines p id s symbol state h.0)
+again before lines p id s (op.Constant c) args symbol h = no_args before lines id (op.Constant c) s args symbol h.2 (again_constant before lines p id s symbol c h.0 h.1)
 again before lines p id s op.One args symbol h = no_args before lines id op.One s args symbol h.1 (again_source before lines p id s symbol one h.0)
 again before lines p id s op.Zero args symbol h = no_args before lines id op.Zero s args symbol h.1 (again_source before lines p id s symbol zero h.0)
+again before lines p id s op.Ones args symbol h = no_args before lines id op.Ones s args symbol h.1 (again_source before lines p id s symbol ones h.0)
 again before lines p id s op.Init [] symbol h = absurd h
 again before lines p id s op.Init (x ∷ []) symbol h = absurd h
 again before lines p id s op.Init (x ∷ v ∷ []) symbol h = again_init before lines p id s x v symbol h.0 h.1
@@ -226,11 +320,14 @@ again before lines p id s op.Next (x ∷ []) symbol h = absurd h
 again before lines p id s op.Next (x ∷ v ∷ []) symbol h = again_next before lines p id s x v symbol h
 again before lines p id s op.Next (x ∷ v ∷ y ∷ more) symbol h = absurd h
 again before lines p id s op.Bad [] symbol h = absurd h.1
-again before lines p id s op.Bad (a ∷ []) symbol h = no_sort before lines id op.Bad s (a ∷ []) symbol h.0 (again_property before lines p id a symbol bad h.1)
+again before lines p id s op.Bad (a ∷ []) symbol h = no_sort before lines id op.Bad s (a ∷ []) symbol h.0 (again_bit before lines p id a symbol h.1).0
 again before lines p id s op.Bad (a ∷ b ∷ more) symbol h = absurd h.1
 again before lines p id s op.Constraint [] symbol h = absurd h.1
-again before lines p id s op.Constraint (a ∷ []) symbol h = no_sort before lines id op.Constraint s (a ∷ []) symbol h.0 (again_property before lines p id a symbol constraint h.1)
+again before lines p id s op.Constraint (a ∷ []) symbol h = no_sort before lines id op.Constraint s (a ∷ []) symbol h.0 (again_bit before lines p id a symbol h.1).1
 again before lines p id s op.Constraint (a ∷ b ∷ more) symbol h = absurd h.1
+again before lines p id s op.Output [] symbol h = absurd h.1
+again before lines p id s op.Output (a ∷ []) symbol h = no_sort before lines id op.Output s (a ∷ []) symbol h.0 (again_property before lines p id a symbol output h.1 refl)
+again before lines p id s op.Output (a ∷ b ∷ more) symbol h = absurd h.1
 again before lines p id s (op.Unary o) [] symbol h = absurd h.1
 again before lines p id s (op.Unary o) (a ∷ []) symbol h = again_unary before lines p id s a symbol o h.0 h.1.0 h.1.1
 again before lines p id s (op.Unary o) (a ∷ b ∷ more) symbol h = absurd h.1
@@ -238,6 +335,20 @@ again before lines p id s (op.Binary o) [] symbol h = absurd h.1
 again before lines p id s (op.Binary o) (a ∷ []) symbol h = absurd h.1
 again before lines p id s (op.Binary o) (a ∷ b ∷ []) symbol h = again_binary before lines p id s a b symbol o h.0 h.1.0 h.1.1 h.1.2 h.1.3
 again before lines p id s (op.Binary o) (a ∷ b ∷ c ∷ more) symbol h = absurd h.1
+again before lines p id s op.Ite [] symbol h = absurd h.1
+again before lines p id s op.Ite (c ∷ []) symbol h = absurd h.1
+again before lines p id s op.Ite (c ∷ a ∷ []) symbol h = absurd h.1
+again before lines p id s op.Ite (c ∷ a ∷ b ∷ []) symbol h = again_ite before lines p id s c a b symbol h.0 h.1.0 h.1.1 h.1.2
+again before lines p id s op.Ite (c ∷ a ∷ b ∷ d ∷ more) symbol h = absurd h.1
+again before lines p id s (op.Slice high low) [] symbol h = absurd h.1
+again before lines p id s (op.Slice high low) (a ∷ []) symbol h = again_slice before lines p id s a high low symbol h.0 h.1.0 h.1.1 h.1.2
+again before lines p id s (op.Slice high low) (a ∷ b ∷ more) symbol h = absurd h.1
+again before lines p id s (op.Uext n) [] symbol h = absurd h.1
+again before lines p id s (op.Uext n) (a ∷ []) symbol h = again_uext before lines p id s a n symbol h.0 h.1.0 h.1.1
+again before lines p id s (op.Uext n) (a ∷ b ∷ more) symbol h = absurd h.1
+again before lines p id s (op.Sext n) [] symbol h = absurd h.1
+again before lines p id s (op.Sext n) (a ∷ []) symbol h = again_sext before lines p id s a n symbol h.0 h.1.0 h.1.1
+again before lines p id s (op.Sext n) (a ∷ b ∷ more) symbol h = absurd h.1
 
 small_line : (before : List Line) (l : Line) → Fits before l → l.id < cap
 small_line before l f = omega (arith, f.small)
@@ -250,27 +361,69 @@ line_spelled before lines l p f =
     let a = again before lines p l.id l.sort l.op l.args l.symbol f.body.sorts in
     let sh : Shape = record { id = l.id; content = a.content; symbol = l.symbol } in
     spelled sh (record { id_part = decimal l.id; rest = printed_rest lines l; splits = refl; id_is = numeral_again l.id (small_line before l f); first = first_line before l f; small = f.small; content = a.spells; symbol = f.body.symbol })
-    (rw (lt-ltb (last_id before) l.id f.rises) a.resolves)
+    (rw (a.supported, lt-ltb (last_id before) l.id f.rises) a.resolves)
 
 -- the parts of a printed line
 unary_part : (o : Unary) → is_symbol (unary_text o) ≡ true
 unary_part Not = refl
+unary_part Inc = refl
+unary_part Dec = refl
+unary_part Neg = refl
+unary_part RedAnd = refl
+unary_part RedOr = refl
+unary_part RedXor = refl
 
 binary_part : (o : Binary) → is_symbol (binary_text o) ≡ true
+binary_part Iff = refl
+binary_part Implies = refl
+binary_part Eq = refl
+binary_part Neq = refl
+binary_part Sgt = refl
+binary_part Sgte = refl
+binary_part Slt = refl
+binary_part Slte = refl
+binary_part Ugt = refl
+binary_part Ugte = refl
+binary_part Ult = refl
+binary_part Ulte = refl
 binary_part And = refl
+binary_part Nand = refl
+binary_part Nor = refl
+binary_part Or = refl
+binary_part Xnor = refl
+binary_part Xor = refl
+binary_part Sll = refl
+binary_part Srl = refl
+binary_part Sra = refl
+binary_part Add = refl
+binary_part Sub = refl
+binary_part Mul = refl
+binary_part Udiv = refl
+binary_part Sdiv = refl
+binary_part Urem = refl
+binary_part Srem = refl
+binary_part Smod = refl
+binary_part Concat = refl
 
 op_part : (o : LineOp) → is_symbol (op_text o) ≡ true
 op_part (op.Sort w) = refl
 op_part op.Input = refl
 op_part op.State = refl
+op_part (op.Constant c) = refl
 op_part op.One = refl
 op_part op.Zero = refl
+op_part op.Ones = refl
 op_part op.Init = refl
 op_part op.Next = refl
 op_part op.Bad = refl
 op_part op.Constraint = refl
+op_part op.Output = refl
 op_part (op.Unary o) = unary_part o
 op_part (op.Binary o) = binary_part o
+op_part op.Ite = refl
+op_part (op.Slice high low) = refl
+op_part (op.Uext n) = refl
+op_part (op.Sext n) = refl
 
 id_part : (lines : List Line) → IsWellFormed lines → (s : ℕ) → AllParts (decimal (id_at lines s) ∷ [])
 id_part lines w s = (decimal_part (id_at lines s) (small_id lines w s), tt)
@@ -279,14 +432,38 @@ sort_part : (lines before : List Line) → IsWellFormed lines → (o : LineOp) (
 sort_part lines before w (op.Sort n) s args f = (refl, (decimal_part n (omega (arith, f.1)), tt))
 sort_part lines before w op.Input s args f = id_part lines w s
 sort_part lines before w op.State s args f = id_part lines w s
+sort_part lines before w (op.Constant c) s args f = (decimal_part (id_at lines s) (small_id lines w s), (digits_part c.width c.bits f.0.0, tt))
 sort_part lines before w op.One s args f = id_part lines w s
 sort_part lines before w op.Zero s args f = id_part lines w s
+sort_part lines before w op.Ones s args f = id_part lines w s
 sort_part lines before w op.Init s args f = id_part lines w s
 sort_part lines before w op.Next s args f = id_part lines w s
 sort_part lines before w op.Bad s args f = tt
 sort_part lines before w op.Constraint s args f = tt
+sort_part lines before w op.Output s args f = tt
 sort_part lines before w (op.Unary o) s args f = id_part lines w s
 sort_part lines before w (op.Binary o) s args f = id_part lines w s
+sort_part lines before w op.Ite s args f = id_part lines w s
+sort_part lines before w (op.Slice high low) s args f = id_part lines w s
+sort_part lines before w (op.Uext n) s args f = id_part lines w s
+sort_part lines before w (op.Sext n) s args f = id_part lines w s
+
+count_parts : (before : List Line) → IsWellFormed before → (s n v : ℕ) → v + n ≡ sort_at before s → AllParts (decimal n ∷ [])
+count_parts before w s n v e = (decimal_part n (omega (arith, e, sort_small before s w)), tt)
+
+number_part : (before : List Line) → IsWellFormed before → (o : LineOp) (s : ℕ) (args : List Arg) → OpFits before s o args → AllParts (number_parts o)
+number_part before w (op.Slice high low) s [] f = absurd f.1
+number_part before w (op.Slice high low) s (a ∷ []) f =
+    let most : width_at before a.line ≤ WIDEST = width_small before a.line w in
+    (decimal_part high (omega (arith, f.1.1, most)), (decimal_part low (omega (arith, f.1.0, f.1.1, most)), tt))
+number_part before w (op.Slice high low) s (a ∷ b ∷ more) f = absurd f.1
+number_part before w (op.Uext n) s [] f = absurd f.1
+number_part before w (op.Uext n) s (a ∷ []) f = count_parts before w s n (width_at before a.line) f.1.1
+number_part before w (op.Uext n) s (a ∷ b ∷ more) f = absurd f.1
+number_part before w (op.Sext n) s [] f = absurd f.1
+number_part before w (op.Sext n) s (a ∷ []) f = count_parts before w s n (width_at before a.line) f.1.1
+number_part before w (op.Sext n) s (a ∷ b ∷ more) f = absurd f.1
+number_part before w o s args f = tt
 
 signed_part : (negated : Bool) (n : ℕ) → n < cap → is_symbol (cond negated (45 ∷ decimal n) (decimal n)) ≡ true
 signed_part true n lt = symbol_bytes (decimal n) (decimal_part n lt)
@@ -300,14 +477,17 @@ symbol_part : (o : Option (List ℕ)) → IfSome o IsSymbol → AllParts (symbol
 symbol_part None h = tt
 symbol_part (Some s) h = (symbol_test s h, tt)
 
-all_parts : (lines before : List Line) → IsWellFormed lines → (l : Line) → Fits before l → AllParts (printed_rest lines l)
-all_parts lines before w l f =
-    (op_part l.op, parts_append (sort_parts lines l.op l.sort) _ (sort_part lines before w l.op l.sort l.args f.body.sorts) (parts_append (map (operand_text lines) l.args) (symbol_parts l.symbol) (arg_parts lines w l.args) (symbol_part l.symbol f.body.symbol)))
+all_parts : (lines before : List Line) → IsWellFormed lines → IsWellFormed before → (l : Line) → Fits before l → AllParts (printed_rest lines l)
+all_parts lines before w b l f = (
+  op_part l.op,
+  parts_append (sort_parts lines l.op l.sort) _ (sort_part lines before w l.op l.sort l.args f.body.sorts) (parts_append (map (operand_text lines) l.args) _ (arg_parts lines w l.args)
+      (parts_append (number_parts l.op) (symbol_parts l.symbol) (number_part before b l.op l.sort l.args f.body.sorts) (symbol_part l.symbol f.body.symbol))),
+)
 
-text_line : (lines before : List Line) → IsWellFormed lines → (l : Line) → Fits before l → (text : List ℕ) → raw_lines (line_text lines l ++ text) ≡ (decimal l.id ++ spaced (printed_rest lines l)) ∷ raw_lines text
-text_line lines before w l f text =
+text_line : (lines before : List Line) → IsWellFormed lines → IsWellFormed before → (l : Line) → Fits before l → (text : List ℕ) → raw_lines (line_text lines l ++ text) ≡ (decimal l.id ++ spaced (printed_rest lines l)) ∷ raw_lines text
+text_line lines before w b l f text =
     let front = decimal l.id ++ spaced (printed_rest lines l) in
-    ap raw_lines (append_assoc front (10 ∷ []) text) ∙ line_at front text (joined_end (decimal l.id) (printed_rest lines l) (decimal_part l.id (small_line before l f)) (all_parts lines before w l f))
+    ap raw_lines (append_assoc front (10 ∷ []) text) ∙ line_at front text (joined_end (decimal l.id) (printed_rest lines l) (decimal_part l.id (small_line before l f)) (all_parts lines before w b l f))
 
 reads_printed : (lines : List Line) → IsWellFormed lines → (rest before : List Line) → before ++ rest ≡ lines → Reads before (raw_lines (flat_map (line_text lines) rest)) lines
 reads_printed lines w [] before e = subst (λ (x : List Line). Reads before ([] ∷ []) x) (sym (append-nil before) ∙ e) (passed blank ends)
@@ -317,8 +497,8 @@ reads_printed lines w (l ∷ ls) before e =
     let p : Printing before lines = record { knows = front_known before (l ∷ ls) lines e w; small = small_id lines w } in
     let text = flat_map (line_text lines) ls in
     let next : IsNext before (line_parts (decimal l.id ++ spaced (printed_rest lines l))) (good l) =
-    subst (λ (x : Parts). IsNext before x (good l)) (sym (joined_parts (decimal l.id) (printed_rest lines l) (decimal_part l.id (small_line before l fits)) (all_parts lines before w l fits))) (line_spelled before lines l p fits) in
-    subst (λ (x : Parts). Reads before x lines) (sym (text_line lines before w l fits text)) (line l next (reads_printed lines w ls (before ++ l ∷ []) (append_assoc before (l ∷ []) ls ∙ e)))
+    subst (λ (x : Parts). IsNext before x (good l)) (sym (joined_parts (decimal l.id) (printed_rest lines l) (decimal_part l.id (small_line before l fits)) (all_parts lines before w p.knows.well l fits))) (line_spelled before lines l p fits) in
+    subst (λ (x : Parts). Reads before x lines) (sym (text_line lines before w p.knows.well l fits text)) (line l next (reads_printed lines w ls (before ++ l ∷ []) (append_assoc before (l ∷ []) ls ∙ e)))
 
 pub printed_spells : (lines : List Line) → IsWellFormed lines → SpellsLines (printed lines) lines
 printed_spells lines w = reads_printed lines w lines [] refl

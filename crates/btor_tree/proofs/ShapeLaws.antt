@@ -1,5 +1,5 @@
 -- What the parts of a line spell is what is read from their front.
-use Rattle.std.proofs.Common.{◌≡◌, ℕ, ◌<◌, ◌≤◌, ltb, leb, ◌&&◌, List, [], ◌∷◌, Option, Some, None, option_map, refl, sym, inl, inr, ap, ◌∙◌, subst}
+use Rattle.std.proofs.Common.{◌≡◌, ℕ, ◌<◌, ◌≤◌, true, false, ltb, leb, ◌&&◌, List, [], ◌∷◌, Option, Some, None, option_map, refl, sym, inl, inr, ap, ◌∙◌, subst}
 use Rattle.std.specs.Prelude.{option_and_then, IfSome, codes}
 use Rattle.std.proofs.lemmas.Bool.{cond-true, cond-false, cond_both, cases_Bool, lt-ltb, le-leb, ltb-true, leb-true, and_parts, and_from}
 use Rattle.std.proofs.lemmas.Option.{same_Some, none-some}
@@ -7,14 +7,14 @@ use Rattle.std.specs.Str.{bytes_eq}
 use Rattle.std.proofs.lemmas.Slice.Eq.{bytes_eq-Decides}
 use Rattle.word_core.specs.declared.kinds.Unary.{Unary}
 use Rattle.word_core.specs.declared.kinds.Binary.{Binary}
-use Rattle.word_core.specs.declared.kinds.Unary.TheVariants.{Not}
-use Rattle.word_core.specs.declared.kinds.Binary.TheVariants.{And}
+use Rattle.word_core.specs.declared.kinds.Unary.TheVariants.{Not, Inc, Dec, Neg, RedAnd, RedOr, RedXor}
+use Rattle.word_core.specs.declared.kinds.Binary.TheVariants.{Iff, Implies, Eq, Neq, Sgt, Sgte, Slt, Slte, Ugt, Ugte, Ult, Ulte, And, Nand, Nor, Or, Xnor, Xor, Sll, Srl, Sra, Add, Sub, Mul, Udiv, Sdiv, Urem, Srem, Smod, Concat}
 use Rattle.btor_tree.specs.declared.lines.TheConstants.{GREATEST_ID}
 use Rattle.btor_tree.specs.Fits.{IsSymbol}
 use Rattle.btor_tree.specs.Parts.{Parts, numeral, is_symbol}
 use Rattle.btor_tree.proofs.PartLaws.{symbol_test, symbol_tested}
-use Rattle.btor_tree.specs.Shapes.{Operand, Source, input, state, one, zero, Binding, init, next, Property, bad, constraint, Word, sort_word, source_word, binding_word, property_word, unary_word, binary_word, word_text, Content, sort_content, source_content, binding_content, property_content, unary_content, binary_content, Shape, source_text, binding_text, property_text, unary_text, binary_text, operand_of, symbol_parts, SpellsContent, Spells}
-use Rattle.btor_tree.specs.Reading.{words, word_among, word_of, Read, sort_args, source_args, binding_args, property_args, unary_args, binary_args, content_at, content_of, shaped, numbered, shape_of}
+use Rattle.btor_tree.specs.Shapes.{Operand, Source, input, state, one, zero, ones, Base, in_binary, in_decimal, in_hex, Extension, uext, sext, Binding, init, next, Property, bad, constraint, output, Word, sort_word, source_word, base_word, binding_word, property_word, unary_word, binary_word, ite_word, slice_word, extension_word, word_text, is_unsupported, StartsUnsupported, is_literal, base_text, extension_text, Content, sort_content, source_content, constant_content, binding_content, property_content, unary_content, binary_content, ite_content, slice_content, extension_content, unsupported_content, Shape, source_text, binding_text, property_text, unary_text, binary_text, operand_of, symbol_parts, SpellsContent, Spells}
+use Rattle.btor_tree.specs.Reading.{words, word_among, word_of, Read, bitvec_args, sort_args, source_args, constant_args, binding_args, property_args, unary_args, binary_args, ite_args, slice_args, extension_args, content_at, content_of, shaped, numbered, shape_of}
 
 word_reads : (w : Word) → word_of (word_text w) ≡ Some w
 word_reads sort_word = refl
@@ -22,20 +22,131 @@ word_reads (source_word input) = refl
 word_reads (source_word state) = refl
 word_reads (source_word one) = refl
 word_reads (source_word zero) = refl
+word_reads (source_word ones) = refl
+word_reads (base_word in_binary) = refl
+word_reads (base_word in_decimal) = refl
+word_reads (base_word in_hex) = refl
 word_reads (binding_word init) = refl
 word_reads (binding_word next) = refl
 word_reads (property_word bad) = refl
 word_reads (property_word constraint) = refl
+word_reads (property_word output) = refl
 word_reads (unary_word Not) = refl
+word_reads (unary_word Inc) = refl
+word_reads (unary_word Dec) = refl
+word_reads (unary_word Neg) = refl
+word_reads (unary_word RedAnd) = refl
+word_reads (unary_word RedOr) = refl
+word_reads (unary_word RedXor) = refl
+word_reads (binary_word Iff) = refl
+word_reads (binary_word Implies) = refl
+word_reads (binary_word Eq) = refl
+word_reads (binary_word Neq) = refl
+word_reads (binary_word Sgt) = refl
+word_reads (binary_word Sgte) = refl
+word_reads (binary_word Slt) = refl
+word_reads (binary_word Slte) = refl
+word_reads (binary_word Ugt) = refl
+word_reads (binary_word Ugte) = refl
+word_reads (binary_word Ult) = refl
+word_reads (binary_word Ulte) = refl
 word_reads (binary_word And) = refl
+word_reads (binary_word Nand) = refl
+word_reads (binary_word Nor) = refl
+word_reads (binary_word Or) = refl
+word_reads (binary_word Xnor) = refl
+word_reads (binary_word Xor) = refl
+word_reads (binary_word Sll) = refl
+word_reads (binary_word Srl) = refl
+word_reads (binary_word Sra) = refl
+word_reads (binary_word Add) = refl
+word_reads (binary_word Sub) = refl
+word_reads (binary_word Mul) = refl
+word_reads (binary_word Udiv) = refl
+word_reads (binary_word Sdiv) = refl
+word_reads (binary_word Urem) = refl
+word_reads (binary_word Srem) = refl
+word_reads (binary_word Smod) = refl
+word_reads (binary_word Concat) = refl
+word_reads ite_word = refl
+word_reads slice_word = refl
+word_reads (extension_word uext) = refl
+word_reads (extension_word sext) = refl
+
+-- no word of a line is left out
+word_supported : (w : Word) → is_unsupported (word_text w) ≡ false
+word_supported sort_word = refl
+word_supported (source_word input) = refl
+word_supported (source_word state) = refl
+word_supported (source_word one) = refl
+word_supported (source_word zero) = refl
+word_supported (source_word ones) = refl
+word_supported (base_word in_binary) = refl
+word_supported (base_word in_decimal) = refl
+word_supported (base_word in_hex) = refl
+word_supported (binding_word init) = refl
+word_supported (binding_word next) = refl
+word_supported (property_word bad) = refl
+word_supported (property_word constraint) = refl
+word_supported (property_word output) = refl
+word_supported (unary_word Not) = refl
+word_supported (unary_word Inc) = refl
+word_supported (unary_word Dec) = refl
+word_supported (unary_word Neg) = refl
+word_supported (unary_word RedAnd) = refl
+word_supported (unary_word RedOr) = refl
+word_supported (unary_word RedXor) = refl
+word_supported (binary_word Iff) = refl
+word_supported (binary_word Implies) = refl
+word_supported (binary_word Eq) = refl
+word_supported (binary_word Neq) = refl
+word_supported (binary_word Sgt) = refl
+word_supported (binary_word Sgte) = refl
+word_supported (binary_word Slt) = refl
+word_supported (binary_word Slte) = refl
+word_supported (binary_word Ugt) = refl
+word_supported (binary_word Ugte) = refl
+word_supported (binary_word Ult) = refl
+word_supported (binary_word Ulte) = refl
+word_supported (binary_word And) = refl
+word_supported (binary_word Nand) = refl
+word_supported (binary_word Nor) = refl
+word_supported (binary_word Or) = refl
+word_supported (binary_word Xnor) = refl
+word_supported (binary_word Xor) = refl
+word_supported (binary_word Sll) = refl
+word_supported (binary_word Srl) = refl
+word_supported (binary_word Sra) = refl
+word_supported (binary_word Add) = refl
+word_supported (binary_word Sub) = refl
+word_supported (binary_word Mul) = refl
+word_supported (binary_word Udiv) = refl
+word_supported (binary_word Sdiv) = refl
+word_supported (binary_word Urem) = refl
+word_supported (binary_word Srem) = refl
+word_supported (binary_word Smod) = refl
+word_supported (binary_word Concat) = refl
+word_supported ite_word = refl
+word_supported slice_word = refl
+word_supported (extension_word uext) = refl
+word_supported (extension_word sext) = refl
 
 -- the content behind a word's own text
 behind : (w : Word) (args ps : Parts) → ps ≡ word_text w ∷ args → content_of ps ≡ content_at args w
-behind w args ps e = ap content_of e ∙ ap (option_and_then (content_at args)) (word_reads w)
+behind w args ps e = ap content_of e ∙ cond-false (is_unsupported (word_text w)) _ _ (word_supported w) ∙ ap (option_and_then (content_at args)) (word_reads w)
+
+unsupported_reads : (ps tail : Parts) → tail ≡ [] → StartsUnsupported ps → content_of ps ≡ Some (unsupported_content, tail)
+unsupported_reads [] tail e h = absurd h
+unsupported_reads (w ∷ args) tail e (inl t) = cond-true (is_unsupported w) _ _ t ∙ ap (λ x. Some (unsupported_content, x)) (sym e)
+unsupported_reads (w ∷ []) tail e (inr h) = absurd h.1
+unsupported_reads (w ∷ (k ∷ more)) tail e (inr h) =
+    ap (λ x. content_of (x ∷ (k ∷ more))) h.0 ∙ ap (λ x. content_of (codes "sort" ∷ (x ∷ more))) h.1 ∙ ap (λ x. Some (unsupported_content, x)) (sym e)
 
 content_reads : (content : Content) (tail ps : Parts) → SpellsContent content tail ps → content_of ps ≡ Some (content, tail)
 content_reads (sort_content w) tail ps h = behind sort_word _ ps h.1 ∙ ap (option_map (λ n. (sort_content n, tail))) h.2
 content_reads (source_content k s) tail ps h = behind (source_word k) _ ps h.1 ∙ ap (option_map (λ n. (source_content k n, tail))) h.2
+content_reads (constant_content k s digits) tail ps h =
+    behind (base_word k) _ ps h.1 ∙ cond-true (is_literal k digits) _ _ h.3 ∙ ap (option_map (λ s. (constant_content k s digits, tail))) h.2
 content_reads (binding_content k s x v) tail ps h =
     behind (binding_word k) _ ps h.3
     ∙ ap (option_and_then (λ s. option_and_then (λ x. option_map (λ v. (binding_content k s x v, tail)) (operand_of h.2)) (numeral h.1))) h.4
@@ -50,6 +161,24 @@ content_reads (binary_content op s x y) tail ps h =
     ∙ ap (option_and_then (λ s. option_and_then (λ x. option_map (λ y. (binary_content op s x y, tail)) (operand_of h.2)) (operand_of h.1))) h.4
     ∙ ap (option_and_then (λ x. option_map (λ y. (binary_content op s x y, tail)) (operand_of h.2))) h.5
     ∙ ap (option_map (λ y. (binary_content op s x y, tail))) h.6
+content_reads (ite_content s x y z) tail ps h =
+    behind ite_word _ ps h.4
+    ∙ ap (option_and_then (λ s. option_and_then (λ x. option_and_then (λ y. option_map (λ z. (ite_content s x y z, tail)) (operand_of h.3)) (operand_of h.2)) (operand_of h.1))) h.5
+    ∙ ap (option_and_then (λ x. option_and_then (λ y. option_map (λ z. (ite_content s x y z, tail)) (operand_of h.3)) (operand_of h.2))) h.6
+    ∙ ap (option_and_then (λ y. option_map (λ z. (ite_content s x y z, tail)) (operand_of h.3))) h.7
+    ∙ ap (option_map (λ z. (ite_content s x y z, tail))) h.8
+content_reads (slice_content s x high low) tail ps h =
+    behind slice_word _ ps h.4
+    ∙ ap (option_and_then (λ s. option_and_then (λ x. option_and_then (λ high. option_map (λ low. (slice_content s x high low, tail)) (numeral h.3)) (numeral h.2)) (operand_of h.1))) h.5
+    ∙ ap (option_and_then (λ x. option_and_then (λ high. option_map (λ low. (slice_content s x high low, tail)) (numeral h.3)) (numeral h.2))) h.6
+    ∙ ap (option_and_then (λ high. option_map (λ low. (slice_content s x high low, tail)) (numeral h.3))) h.7
+    ∙ ap (option_map (λ low. (slice_content s x high low, tail))) h.8
+content_reads (extension_content k s x n) tail ps h =
+    behind (extension_word k) _ ps h.3
+    ∙ ap (option_and_then (λ s. option_and_then (λ x. option_map (λ n. (extension_content k s x n, tail)) (numeral h.2)) (operand_of h.1))) h.4
+    ∙ ap (option_and_then (λ x. option_map (λ n. (extension_content k s x n, tail)) (numeral h.2))) h.5
+    ∙ ap (option_map (λ n. (extension_content k s x n, tail))) h.6
+content_reads unsupported_content tail ps h = unsupported_reads ps tail h.0 h.1
 
 symbol_reads : (n : ℕ) (content : Content) (o : Option (List ℕ)) → IfSome o IsSymbol → shaped n (content, symbol_parts o) ≡ Some (record { id = n; content = content; symbol = o })
 symbol_reads n content None h = refl
@@ -78,12 +207,17 @@ width_from : (x : List ℕ) (tail ps : Parts) (o : Option ℕ) → numeral x ≡
 width_from x tail ps None e f = tt
 width_from x tail ps (Some w) e f = (x, f, e)
 
-sort_from : (text : List ℕ) (args : Parts) → text ≡ codes "sort" → OnRead (text ∷ args) (sort_args args)
-sort_from text [] e = tt
-sort_from text (k ∷ []) e = tt
-sort_from text (k ∷ (x ∷ tail)) e =
+bitvec_from : (text k : List ℕ) (args : Parts) → text ≡ codes "sort" → OnRead (text ∷ (k ∷ args)) (bitvec_args k args)
+bitvec_from text k [] e = tt
+bitvec_from text k (x ∷ tail) e =
     cond_both (bytes_eq k (codes "bitvec")) (option_map (λ w. (sort_content w, tail)) (numeral x)) None (OnRead (text ∷ (k ∷ (x ∷ tail))))
     (λ t. let k_is = (bytes_eq-Decides k (codes "bitvec")).0 t in width_from x tail _ (numeral x) refl cc) (λ _. tt)
+
+sort_from : (text : List ℕ) (args : Parts) → text ≡ codes "sort" → OnRead (text ∷ args) (sort_args args)
+sort_from text [] e = tt
+sort_from text (k ∷ more) e =
+    cond_both (bytes_eq k (codes "array")) (Some (unsupported_content, [])) (bitvec_args k more) (OnRead (text ∷ (k ∷ more)))
+    (λ t. (refl, inr (e, (bytes_eq-Decides k (codes "array")).0 t))) (λ _. bitvec_from text k more e)
 
 source_at : (k : Source) (text x : List ℕ) (tail : Parts) (o : Option ℕ) → numeral x ≡ o → text ≡ source_text k → OnRead (text ∷ (x ∷ tail)) (option_map (λ s. (source_content k s, tail)) o)
 source_at k text x tail None e f = tt
@@ -92,6 +226,18 @@ source_at k text x tail (Some s) e f = (x, ap (λ w. w ∷ (x ∷ tail)) f, e)
 source_from : (k : Source) (text : List ℕ) (args : Parts) → text ≡ source_text k → OnRead (text ∷ args) (source_args k args)
 source_from k text [] e = tt
 source_from k text (x ∷ tail) e = source_at k text x tail (numeral x) refl e
+
+constant_at : (k : Base) (text a digits : List ℕ) (tail : Parts) (o : Option ℕ) → numeral a ≡ o → text ≡ base_text k → is_literal k digits ≡ true
+    → OnRead (text ∷ (a ∷ (digits ∷ tail))) (option_map (λ s. (constant_content k s digits, tail)) o)
+constant_at k text a digits tail None e f g = tt
+constant_at k text a digits tail (Some s) e f g = (a, ap (λ w. w ∷ (a ∷ (digits ∷ tail))) f, e, g)
+
+constant_from : (k : Base) (text : List ℕ) (args : Parts) → text ≡ base_text k → OnRead (text ∷ args) (constant_args k args)
+constant_from k text [] e = tt
+constant_from k text (a ∷ []) e = tt
+constant_from k text (a ∷ (digits ∷ tail)) e =
+    cond_both (is_literal k digits) (option_map (λ s. (constant_content k s digits, tail)) (numeral a)) None (OnRead (text ∷ (a ∷ (digits ∷ tail))))
+    (λ t. constant_at k text a digits tail (numeral a) refl e t) (λ _. tt)
 
 binding_at : (k : Binding) (text a b c : List ℕ) (tail : Parts) (o p : Option ℕ) (q : Option Operand) → numeral a ≡ o → numeral b ≡ p → operand_of c ≡ q → text ≡ binding_text k
     → OnRead (text ∷ (a ∷ (b ∷ (c ∷ tail)))) (option_and_then (λ s. option_and_then (λ x. option_map (λ v. (binding_content k s x v, tail)) q) p) o)
@@ -138,13 +284,60 @@ binary_from op text (a ∷ []) e = tt
 binary_from op text (a ∷ (b ∷ [])) e = tt
 binary_from op text (a ∷ (b ∷ (c ∷ tail))) e = binary_at op text a b c tail (numeral a) (operand_of b) (operand_of c) refl refl refl e
 
+ite_at : (text a b c d : List ℕ) (tail : Parts) (o : Option ℕ) (p q r : Option Operand) → numeral a ≡ o → operand_of b ≡ p → operand_of c ≡ q → operand_of d ≡ r → text ≡ codes "ite"
+    → OnRead (text ∷ (a ∷ (b ∷ (c ∷ (d ∷ tail))))) (option_and_then (λ s. option_and_then (λ x. option_and_then (λ y. option_map (λ z. (ite_content s x y z, tail)) r) q) p) o)
+ite_at text a b c d tail None p q r e f g i h = tt
+ite_at text a b c d tail (Some s) None q r e f g i h = tt
+ite_at text a b c d tail (Some s) (Some x) None r e f g i h = tt
+ite_at text a b c d tail (Some s) (Some x) (Some y) None e f g i h = tt
+ite_at text a b c d tail (Some s) (Some x) (Some y) (Some z) e f g i h = (a, b, c, d, ap (λ w. w ∷ (a ∷ (b ∷ (c ∷ (d ∷ tail))))) h, e, f, g, i)
+
+ite_from : (text : List ℕ) (args : Parts) → text ≡ codes "ite" → OnRead (text ∷ args) (ite_args args)
+ite_from text [] e = tt
+ite_from text (a ∷ []) e = tt
+ite_from text (a ∷ (b ∷ [])) e = tt
+ite_from text (a ∷ (b ∷ (c ∷ []))) e = tt
+ite_from text (a ∷ (b ∷ (c ∷ (d ∷ tail)))) e = ite_at text a b c d tail (numeral a) (operand_of b) (operand_of c) (operand_of d) refl refl refl refl e
+
+slice_at : (text a b c d : List ℕ) (tail : Parts) (o : Option ℕ) (p : Option Operand) (q r : Option ℕ) → numeral a ≡ o → operand_of b ≡ p → numeral c ≡ q → numeral d ≡ r → text ≡ codes "slice"
+    → OnRead (text ∷ (a ∷ (b ∷ (c ∷ (d ∷ tail))))) (option_and_then (λ s. option_and_then (λ x. option_and_then (λ high. option_map (λ low. (slice_content s x high low, tail)) r) q) p) o)
+slice_at text a b c d tail None p q r e f g i h = tt
+slice_at text a b c d tail (Some s) None q r e f g i h = tt
+slice_at text a b c d tail (Some s) (Some x) None r e f g i h = tt
+slice_at text a b c d tail (Some s) (Some x) (Some y) None e f g i h = tt
+slice_at text a b c d tail (Some s) (Some x) (Some y) (Some z) e f g i h = (a, b, c, d, ap (λ w. w ∷ (a ∷ (b ∷ (c ∷ (d ∷ tail))))) h, e, f, g, i)
+
+slice_from : (text : List ℕ) (args : Parts) → text ≡ codes "slice" → OnRead (text ∷ args) (slice_args args)
+slice_from text [] e = tt
+slice_from text (a ∷ []) e = tt
+slice_from text (a ∷ (b ∷ [])) e = tt
+slice_from text (a ∷ (b ∷ (c ∷ []))) e = tt
+slice_from text (a ∷ (b ∷ (c ∷ (d ∷ tail)))) e = slice_at text a b c d tail (numeral a) (operand_of b) (numeral c) (numeral d) refl refl refl refl e
+
+extension_at : (k : Extension) (text a b c : List ℕ) (tail : Parts) (o : Option ℕ) (p : Option Operand) (q : Option ℕ) → numeral a ≡ o → operand_of b ≡ p → numeral c ≡ q → text ≡ extension_text k
+    → OnRead (text ∷ (a ∷ (b ∷ (c ∷ tail)))) (option_and_then (λ s. option_and_then (λ x. option_map (λ n. (extension_content k s x n, tail)) q) p) o)
+extension_at k text a b c tail None p q e f g h = tt
+extension_at k text a b c tail (Some s) None q e f g h = tt
+extension_at k text a b c tail (Some s) (Some x) None e f g h = tt
+extension_at k text a b c tail (Some s) (Some x) (Some n) e f g h = (a, b, c, ap (λ w. w ∷ (a ∷ (b ∷ (c ∷ tail)))) h, e, f, g)
+
+extension_from : (k : Extension) (text : List ℕ) (args : Parts) → text ≡ extension_text k → OnRead (text ∷ args) (extension_args k args)
+extension_from k text [] e = tt
+extension_from k text (a ∷ []) e = tt
+extension_from k text (a ∷ (b ∷ [])) e = tt
+extension_from k text (a ∷ (b ∷ (c ∷ tail))) e = extension_at k text a b c tail (numeral a) (operand_of b) (numeral c) refl refl refl e
+
 args_from : (w : Word) (text : List ℕ) (args : Parts) → text ≡ word_text w → OnRead (text ∷ args) (content_at args w)
 args_from sort_word text args e = sort_from text args e
 args_from (source_word k) text args e = source_from k text args e
+args_from (base_word k) text args e = constant_from k text args e
 args_from (binding_word k) text args e = binding_from k text args e
 args_from (property_word k) text args e = property_from k text args e
 args_from (unary_word op) text args e = unary_from op text args e
 args_from (binary_word op) text args e = binary_from op text args e
+args_from ite_word text args e = ite_from text args e
+args_from slice_word text args e = slice_from text args e
+args_from (extension_word k) text args e = extension_from k text args e
 
 word_at : (text : List ℕ) (args : Parts) (o : Option Word) → word_of text ≡ o → OnRead (text ∷ args) (option_and_then (content_at args) o)
 word_at text args None e = tt
@@ -152,7 +345,9 @@ word_at text args (Some w) e = args_from w text args (word_from words text w e)
 
 content_from : (ps : Parts) → OnRead ps (content_of ps)
 content_from [] = tt
-content_from (text ∷ args) = word_at text args (word_of text) refl
+content_from (text ∷ args) =
+    cond_both (is_unsupported text) (Some (unsupported_content, [])) (option_and_then (content_at args) (word_of text)) (OnRead (text ∷ args))
+    (λ t. (refl, inl t)) (λ _. word_at text args (word_of text) refl)
 
 abbrev OnShape : Parts → Option Shape → Type 0
 OnShape ps None = Unit {0}

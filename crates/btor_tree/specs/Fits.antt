@@ -1,14 +1,15 @@
 -- Which lines may follow which (BTOR2, CAV 2018, section 2 and figure 1).
-use Rattle.std.specs.Prelude.{◌≡◌, ◌≢◌, ◌⊎◌, ℕ, suc, ◌+◌, ◌<◌, ◌≤◌, Bool, true, false, List, [], ◌∷◌, ◌++◌, length, take, Option, Some, None, option_map, slice_get, IfSome, if◌then◌else◌, ◌==◌}
+use Rattle.std.specs.Prelude.{◌≡◌, ◌≢◌, ◌⊎◌, ℕ, suc, ◌+◌, ◌<◌, ◌≤◌, Bool, true, false, List, [], ◌∷◌, ◌++◌, length, take, ◌-◌, Option, Some, None, option_map, slice_get, IfSome, if◌then◌else◌, ◌==◌}
 use Rattle.std.specs.Option.{option_or}
 use Rattle.std.specs.List.{AllByRecursion}
 use Rattle.word_core.specs.declared.word.TheConstants.{WIDEST}
+use Rattle.word_core.specs.Words.{IsWord}
 use Rattle.word_core.specs.Table.{unary_width, BinaryFits, binary_width}
 use Rattle.btor_tree.specs.declared.args.Arg.{Arg}
 use Rattle.btor_tree.specs.declared.lines.TheConstants.{GREATEST_ID}
 use Rattle.btor_tree.specs.declared.lines.Line.{Line}
 use Rattle.btor_tree.specs.declared.lines.LineOp.{LineOp}
-use Rattle.btor_tree.specs.declared.lines.LineOp.TheVariants.{Sort, Input, State, One, Zero, Init, Next, Bad, Constraint, Unary, Binary}
+use Rattle.btor_tree.specs.declared.lines.LineOp.TheVariants.{Sort, Input, State, Constant, One, Zero, Ones, Init, Next, Bad, Constraint, Output, Unary, Binary, Ite, Slice, Uext, Sext}
 
 -- the word of the line at a place, as it is
 abbrev pub plain_arg : ℕ → Arg
@@ -27,6 +28,14 @@ OnTwo (a ∷ []) P = ⊥
 OnTwo (a ∷ b ∷ []) P = P a b
 OnTwo (a ∷ b ∷ c ∷ more) P = ⊥
 
+-- a fact of the only three arguments
+abbrev pub OnThree : List Arg → (Arg → Arg → Arg → Type 0) → Type 0
+OnThree [] P = ⊥
+OnThree (a ∷ []) P = ⊥
+OnThree (a ∷ b ∷ []) P = ⊥
+OnThree (a ∷ b ∷ c ∷ []) P = P a b c
+OnThree (a ∷ b ∷ c ∷ d ∷ more) P = ⊥
+
 -- the width that a sort line gives, or 0 at other lines
 abbrev pub sort_width : LineOp → ℕ
 sort_width (Sort w) = w
@@ -37,14 +46,21 @@ abbrev pub has_word : LineOp → Bool
 has_word (Sort w) = false
 has_word Input = true
 has_word State = true
+has_word (Constant c) = true
 has_word One = true
 has_word Zero = true
+has_word Ones = true
 has_word Init = false
 has_word Next = false
 has_word Bad = false
 has_word Constraint = false
+has_word Output = false
 has_word (Unary op) = true
 has_word (Binary op) = true
+has_word Ite = true
+has_word (Slice high low) = true
+has_word (Uext n) = true
+has_word (Sext n) = true
 
 abbrev pub is_input : LineOp → Bool
 is_input Input = true
@@ -56,8 +72,10 @@ is_state op = false
 
 -- a line whose word is fixed by the line alone
 abbrev pub is_constant : LineOp → Bool
+is_constant (Constant c) = true
 is_constant One = true
 is_constant Zero = true
+is_constant Ones = true
 is_constant op = false
 
 abbrev pub is_init : LineOp → Bool
@@ -144,16 +162,25 @@ abbrev pub OpFits : List Line → ℕ → LineOp → List Arg → Type 0
 OpFits before s (Sort w) args = (1 ≤ w) × (w ≤ WIDEST) × (s ≡ 0) × (args ≡ [])
 OpFits before s Input args = (1 ≤ sort_at before s) × (args ≡ [])
 OpFits before s State args = (1 ≤ sort_at before s) × (args ≡ [])
+OpFits before s (Constant c) args = IsWord c × (c.width ≡ sort_at before s) × (args ≡ [])
 OpFits before s One args = (1 ≤ sort_at before s) × (args ≡ [])
 OpFits before s Zero args = (1 ≤ sort_at before s) × (args ≡ [])
+OpFits before s Ones args = (1 ≤ sort_at before s) × (args ≡ [])
 OpFits before s Init args = OnTwo args (λ x v. GivesValue is_init before s x v × InitRule before x v)
 OpFits before s Next args = OnTwo args (λ x v. GivesValue is_next before s x v)
 OpFits before s Bad args = (s ≡ 0) × OnOne args (λ a. width_at before a.line ≡ 1)
 OpFits before s Constraint args = (s ≡ 0) × OnOne args (λ a. width_at before a.line ≡ 1)
+OpFits before s Output args = (s ≡ 0) × OnOne args (λ a. 1 ≤ width_at before a.line)
 OpFits before s (Unary op) args =
     (1 ≤ sort_at before s) × OnOne args (λ a. (1 ≤ width_at before a.line) × (unary_width op (width_at before a.line) ≡ sort_at before s))
 OpFits before s (Binary op) args =
     (1 ≤ sort_at before s) × OnTwo args (λ a b. (1 ≤ width_at before a.line) × (1 ≤ width_at before b.line) × BinaryFits op (width_at before a.line) (width_at before b.line) × (binary_width op (width_at before a.line) (width_at before b.line) ≡ sort_at before s))
+OpFits before s Ite args =
+    (1 ≤ sort_at before s) × OnThree args (λ c a b. (width_at before c.line ≡ 1) × (width_at before a.line ≡ sort_at before s) × (width_at before b.line ≡ sort_at before s))
+OpFits before s (Slice high low) args =
+    (1 ≤ sort_at before s) × OnOne args (λ a. (low ≤ high) × (high < width_at before a.line) × (high - low + 1 ≡ sort_at before s))
+OpFits before s (Uext n) args = (1 ≤ sort_at before s) × OnOne args (λ a. (1 ≤ width_at before a.line) × (width_at before a.line + n ≡ sort_at before s))
+OpFits before s (Sext n) args = (1 ≤ sort_at before s) × OnOne args (λ a. (1 ≤ width_at before a.line) × (width_at before a.line + n ≡ sort_at before s))
 
 -- a byte of a symbol: no tab, line end, CR, blank or `;`
 abbrev pub IsSymbolByte : ℕ → Type 0

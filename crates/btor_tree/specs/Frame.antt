@@ -1,14 +1,14 @@
 -- Frames as sets of equations over line places, and frames that follow one another (BTOR2, CAV 2018, section 2).
-use Rattle.std.specs.Prelude.{◌≡◌, ℕ, Bool, List, [], ◌∷◌, length, take, Option, Some, None, slice_get, slice_index_or, if◌then◌else◌, IsSomeAnd}
+use Rattle.std.specs.Prelude.{◌≡◌, ◌-◌, ◌^◌, ℕ, Bool, List, [], ◌∷◌, length, take, Option, Some, None, slice_get, slice_index_or, if◌then◌else◌, IsSomeAnd}
 use Rattle.std.specs.List.{AllByRecursion}
 use Rattle.word_core.specs.Words.{BitVector, IsWord}
-use Rattle.word_core.specs.Table.{unary_of, binary_of}
+use Rattle.word_core.specs.Table.{unary_of, binary_of, ite_of, slice_of, uext_of, sext_of}
 use Rattle.word_core.specs.declared.kinds.Unary.TheVariants.{Not}
 use Rattle.btor_tree.specs.declared.args.Arg.{Arg}
 use Rattle.btor_tree.specs.declared.lines.Line.{Line}
 use Rattle.btor_tree.specs.declared.lines.LineOp.{LineOp}
-use Rattle.btor_tree.specs.declared.lines.LineOp.TheVariants.{Sort, Input, State, One, Zero, Init, Next, Bad, Constraint, Unary, Binary}
-use Rattle.btor_tree.specs.Fits.{OnOne, OnTwo, sort_at, state_value, operands, is_init, is_next, is_bad, is_constraint, is_constant, kind_at}
+use Rattle.btor_tree.specs.declared.lines.LineOp.TheVariants.{Sort, Input, State, Constant, One, Zero, Ones, Init, Next, Bad, Constraint, Output, Unary, Binary, Ite, Slice, Uext, Sext}
+use Rattle.btor_tree.specs.Fits.{OnOne, OnTwo, OnThree, sort_at, state_value, operands, is_init, is_next, is_bad, is_constraint, is_constant, kind_at}
 
 -- what stands at the place of a line that has no word
 abbrev pub nothing : BitVector
@@ -35,14 +35,21 @@ abbrev pub Equation : List Line → List BitVector → ℕ → LineOp → List A
 Equation before row s (Sort w) args x = x ≡ nothing
 Equation before row s Input args x = IsWord x × (x.width ≡ sort_at before s)
 Equation before row s State args x = IsWord x × (x.width ≡ sort_at before s)
+Equation before row s (Constant c) args x = x ≡ c
 Equation before row s One args x = x ≡ record { width = sort_at before s; bits = 1 }
 Equation before row s Zero args x = x ≡ record { width = sort_at before s; bits = 0 }
+Equation before row s Ones args x = x ≡ record { width = sort_at before s; bits = 2 ^ sort_at before s - 1 }
 Equation before row s Init args x = x ≡ nothing
 Equation before row s Next args x = x ≡ nothing
 Equation before row s Bad args x = x ≡ nothing
 Equation before row s Constraint args x = x ≡ nothing
+Equation before row s Output args x = x ≡ nothing
 Equation before row s (Unary op) args x = OnOne args (λ a. x ≡ unary_of op (operand row a))
 Equation before row s (Binary op) args x = OnTwo args (λ a b. x ≡ binary_of op (operand row a) (operand row b))
+Equation before row s Ite args x = OnThree args (λ c a b. x ≡ ite_of (operand row c) (operand row a) (operand row b))
+Equation before row s (Slice high low) args x = OnOne args (λ a. x ≡ slice_of (operand row a) high low)
+Equation before row s (Uext n) args x = OnOne args (λ a. x ≡ uext_of (operand row a) n)
+Equation before row s (Sext n) args x = OnOne args (λ a. x ≡ sext_of (operand row a) n)
 
 -- what is given fits, where it is read
 abbrev pub GivenFits : List Line → ℕ → LineOp → BitVector → Type 0
@@ -63,6 +70,8 @@ read_or (Some a) read x = read a
 abbrev pub constant_word : ℕ → LineOp → BitVector
 constant_word w One = record { width = w; bits = 1 }
 constant_word w Zero = record { width = w; bits = 0 }
+constant_word w Ones = record { width = w; bits = 2 ^ w - 1 }
+constant_word w (Constant c) = c
 constant_word w op = nothing
 
 abbrev pub constant_of : List Line → Option Line → BitVector

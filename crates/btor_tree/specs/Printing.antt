@@ -1,10 +1,11 @@
 -- The printed form of lines: single blanks, no comments, and byte 10 at the end of each line.
 use Rattle.std.specs.Prelude.{ℕ, List, [], ◌∷◌, ◌++◌, Option, Some, None, slice_get, codes, decimal, map, if◌then◌else◌}
 use Rattle.std.specs.List.{flat_map}
+use Rattle.text_core.specs.Binary.{binary_digits}
 use Rattle.btor_tree.specs.declared.args.Arg.{Arg}
 use Rattle.btor_tree.specs.declared.lines.Line.{Line}
 use Rattle.btor_tree.specs.declared.lines.LineOp.{LineOp}
-use Rattle.btor_tree.specs.declared.lines.LineOp.TheVariants.{Sort, Input, State, One, Zero, Init, Next, Bad, Constraint, Unary, Binary}
+use Rattle.btor_tree.specs.declared.lines.LineOp.TheVariants.{Sort, Input, State, Constant, One, Zero, Ones, Init, Next, Bad, Constraint, Output, Unary, Binary, Ite, Slice, Uext, Sext}
 use Rattle.btor_tree.specs.Parts.{Parts}
 use Rattle.btor_tree.specs.Shapes.{unary_text, binary_text, symbol_parts}
 
@@ -26,32 +27,53 @@ abbrev pub op_text : LineOp → List ℕ
 op_text (Sort w) = codes "sort"
 op_text Input = codes "input"
 op_text State = codes "state"
+op_text (Constant c) = codes "const"
 op_text One = codes "one"
 op_text Zero = codes "zero"
+op_text Ones = codes "ones"
 op_text Init = codes "init"
 op_text Next = codes "next"
 op_text Bad = codes "bad"
 op_text Constraint = codes "constraint"
+op_text Output = codes "output"
 op_text (Unary op) = unary_text op
 op_text (Binary op) = binary_text op
+op_text Ite = codes "ite"
+op_text (Slice high low) = codes "slice"
+op_text (Uext n) = codes "uext"
+op_text (Sext n) = codes "sext"
 
--- what stands between the word of a line and its arguments: the id of its sort, in most lines
+-- what stands between the word of a line and its arguments: the id of its sort, in most lines, and the digits of a constant
 abbrev pub sort_parts : List Line → LineOp → ℕ → Parts
 sort_parts lines (Sort w) s = codes "bitvec" ∷ decimal w ∷ []
 sort_parts lines Input s = decimal (id_at lines s) ∷ []
 sort_parts lines State s = decimal (id_at lines s) ∷ []
+sort_parts lines (Constant c) s = decimal (id_at lines s) ∷ binary_digits c.width c.bits ∷ []
 sort_parts lines One s = decimal (id_at lines s) ∷ []
 sort_parts lines Zero s = decimal (id_at lines s) ∷ []
+sort_parts lines Ones s = decimal (id_at lines s) ∷ []
 sort_parts lines Init s = decimal (id_at lines s) ∷ []
 sort_parts lines Next s = decimal (id_at lines s) ∷ []
 sort_parts lines Bad s = []
 sort_parts lines Constraint s = []
+sort_parts lines Output s = []
 sort_parts lines (Unary op) s = decimal (id_at lines s) ∷ []
 sort_parts lines (Binary op) s = decimal (id_at lines s) ∷ []
+sort_parts lines Ite s = decimal (id_at lines s) ∷ []
+sort_parts lines (Slice high low) s = decimal (id_at lines s) ∷ []
+sort_parts lines (Uext n) s = decimal (id_at lines s) ∷ []
+sort_parts lines (Sext n) s = decimal (id_at lines s) ∷ []
+
+-- the numbers behind the operand of a line
+abbrev pub number_parts : LineOp → Parts
+number_parts (Slice high low) = decimal high ∷ decimal low ∷ []
+number_parts (Uext n) = decimal n ∷ []
+number_parts (Sext n) = decimal n ∷ []
+number_parts op = []
 
 -- the parts of a line behind its id
 abbrev pub printed_rest : List Line → Line → Parts
-printed_rest lines l = op_text l.op ∷ (sort_parts lines l.op l.sort ++ (map (operand_text lines) l.args ++ symbol_parts l.symbol))
+printed_rest lines l = op_text l.op ∷ (sort_parts lines l.op l.sort ++ (map (operand_text lines) l.args ++ (number_parts l.op ++ symbol_parts l.symbol)))
 
 -- each part behind a single blank
 abbrev pub spaced : Parts → List ℕ

@@ -3,18 +3,18 @@ use Rattle.std.specs.Prelude.{ℕ, ◌&&◌, List, [], ◌∷◌, Option, Some, 
 use Rattle.std.specs.Str.{bytes_eq}
 use Rattle.word_core.specs.declared.kinds.Unary.{Unary}
 use Rattle.word_core.specs.declared.kinds.Binary.{Binary}
-use Rattle.word_core.specs.declared.kinds.Unary.TheVariants.{Not}
-use Rattle.word_core.specs.declared.kinds.Binary.TheVariants.{And}
+use Rattle.word_core.specs.declared.kinds.Unary.TheVariants.{Not, Inc, Dec, Neg, RedAnd, RedOr, RedXor}
+use Rattle.word_core.specs.declared.kinds.Binary.TheVariants.{Iff, Implies, Eq, Neq, Sgt, Sgte, Slt, Slte, Ugt, Ugte, Ult, Ulte, And, Nand, Nor, Or, Xnor, Xor, Sll, Srl, Sra, Add, Sub, Mul, Udiv, Sdiv, Urem, Srem, Smod, Concat}
 use Rattle.btor_tree.specs.declared.lines.TheConstants.{GREATEST_ID}
 use Rattle.btor_tree.specs.Parts.{Parts, numeral, is_symbol}
 use Rattle.btor_tree.specs.declared.lines.Line.{Line}
 use Rattle.btor_tree.specs.Resolving.{Fault, no_shape, resolve}
 use Rattle.btor_tree.specs.Texts.{Next, nothing, good, faulty}
-use Rattle.btor_tree.specs.Shapes.{Source, input, state, one, zero, Binding, init, next, Property, bad, constraint, Word, sort_word, source_word, binding_word, property_word, unary_word, binary_word, word_text, Content, sort_content, source_content, binding_content, property_content, unary_content, binary_content, Shape, operand_of}
+use Rattle.btor_tree.specs.Shapes.{Source, input, state, one, zero, ones, Base, in_binary, in_decimal, in_hex, Extension, uext, sext, Binding, init, next, Property, bad, constraint, output, Word, sort_word, source_word, base_word, binding_word, property_word, unary_word, binary_word, ite_word, slice_word, extension_word, word_text, is_unsupported, is_literal, Content, sort_content, source_content, constant_content, binding_content, property_content, unary_content, binary_content, ite_content, slice_content, extension_content, unsupported_content, Shape, operand_of}
 
 -- the words of lines
 abbrev pub words : List Word
-words = sort_word ∷ source_word input ∷ source_word state ∷ source_word one ∷ source_word zero ∷ binding_word init ∷ binding_word next ∷ property_word bad ∷ property_word constraint ∷ unary_word Not ∷ binary_word And ∷ []
+words = sort_word ∷ source_word input ∷ source_word state ∷ source_word one ∷ source_word zero ∷ source_word ones ∷ base_word in_binary ∷ base_word in_decimal ∷ base_word in_hex ∷ binding_word init ∷ binding_word next ∷ property_word bad ∷ property_word constraint ∷ property_word output ∷ unary_word Not ∷ unary_word Inc ∷ unary_word Dec ∷ unary_word Neg ∷ unary_word RedAnd ∷ unary_word RedOr ∷ unary_word RedXor ∷ binary_word Iff ∷ binary_word Implies ∷ binary_word Eq ∷ binary_word Neq ∷ binary_word Sgt ∷ binary_word Sgte ∷ binary_word Slt ∷ binary_word Slte ∷ binary_word Ugt ∷ binary_word Ugte ∷ binary_word Ult ∷ binary_word Ulte ∷ binary_word And ∷ binary_word Nand ∷ binary_word Nor ∷ binary_word Or ∷ binary_word Xnor ∷ binary_word Xor ∷ binary_word Sll ∷ binary_word Srl ∷ binary_word Sra ∷ binary_word Add ∷ binary_word Sub ∷ binary_word Mul ∷ binary_word Udiv ∷ binary_word Sdiv ∷ binary_word Urem ∷ binary_word Srem ∷ binary_word Smod ∷ binary_word Concat ∷ ite_word ∷ slice_word ∷ extension_word uext ∷ extension_word sext ∷ []
 
 -- the first of these words that has this text
 abbrev pub word_among : List Word → List ℕ → Option Word
@@ -28,14 +28,22 @@ word_of text = word_among words text
 abbrev pub Read : Type 0
 Read = Option (Content × Parts)
 
+abbrev pub bitvec_args : List ℕ → Parts → Read
+bitvec_args k [] = None
+bitvec_args k (x ∷ tail) = if bytes_eq k (codes "bitvec") then option_map (λ w. (sort_content w, tail)) (numeral x) else None
+
 abbrev pub sort_args : Parts → Read
 sort_args [] = None
-sort_args (k ∷ []) = None
-sort_args (k ∷ (x ∷ tail)) = if bytes_eq k (codes "bitvec") then option_map (λ w. (sort_content w, tail)) (numeral x) else None
+sort_args (k ∷ more) = if bytes_eq k (codes "array") then Some (unsupported_content, []) else bitvec_args k more
 
 abbrev pub source_args : Source → Parts → Read
 source_args k [] = None
 source_args k (x ∷ tail) = option_map (λ s. (source_content k s, tail)) (numeral x)
+
+abbrev pub constant_args : Base → Parts → Read
+constant_args k [] = None
+constant_args k (a ∷ []) = None
+constant_args k (a ∷ (digits ∷ tail)) = if is_literal k digits then option_map (λ s. (constant_content k s digits, tail)) (numeral a) else None
 
 abbrev pub binding_args : Binding → Parts → Read
 binding_args k [] = None
@@ -60,17 +68,44 @@ binary_args op (a ∷ (b ∷ [])) = None
 binary_args op (a ∷ (b ∷ (c ∷ tail))) =
     option_and_then (λ s. option_and_then (λ x. option_map (λ y. (binary_content op s x y, tail)) (operand_of c)) (operand_of b)) (numeral a)
 
+abbrev pub ite_args : Parts → Read
+ite_args [] = None
+ite_args (a ∷ []) = None
+ite_args (a ∷ (b ∷ [])) = None
+ite_args (a ∷ (b ∷ (c ∷ []))) = None
+ite_args (a ∷ (b ∷ (c ∷ (d ∷ tail)))) =
+    option_and_then (λ s. option_and_then (λ x. option_and_then (λ y. option_map (λ z. (ite_content s x y z, tail)) (operand_of d)) (operand_of c)) (operand_of b)) (numeral a)
+
+abbrev pub slice_args : Parts → Read
+slice_args [] = None
+slice_args (a ∷ []) = None
+slice_args (a ∷ (b ∷ [])) = None
+slice_args (a ∷ (b ∷ (c ∷ []))) = None
+slice_args (a ∷ (b ∷ (c ∷ (d ∷ tail)))) =
+    option_and_then (λ s. option_and_then (λ x. option_and_then (λ high. option_map (λ low. (slice_content s x high low, tail)) (numeral d)) (numeral c)) (operand_of b)) (numeral a)
+
+abbrev pub extension_args : Extension → Parts → Read
+extension_args k [] = None
+extension_args k (a ∷ []) = None
+extension_args k (a ∷ (b ∷ [])) = None
+extension_args k (a ∷ (b ∷ (c ∷ tail))) =
+    option_and_then (λ s. option_and_then (λ x. option_map (λ n. (extension_content k s x n, tail)) (numeral c)) (operand_of b)) (numeral a)
+
 abbrev pub content_at : Parts → Word → Read
 content_at args sort_word = sort_args args
 content_at args (source_word k) = source_args k args
+content_at args (base_word k) = constant_args k args
 content_at args (binding_word k) = binding_args k args
 content_at args (property_word k) = property_args k args
 content_at args (unary_word op) = unary_args op args
 content_at args (binary_word op) = binary_args op args
+content_at args ite_word = ite_args args
+content_at args slice_word = slice_args args
+content_at args (extension_word k) = extension_args k args
 
 abbrev pub content_of : Parts → Read
 content_of [] = None
-content_of (word ∷ args) = option_and_then (content_at args) (word_of word)
+content_of (word ∷ args) = if is_unsupported word then Some (unsupported_content, []) else option_and_then (content_at args) (word_of word)
 
 -- with the symbol, if there is one, and nothing behind it
 abbrev pub shaped : ℕ → Content × Parts → Option Shape

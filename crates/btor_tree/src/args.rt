@@ -33,6 +33,17 @@ pub fn one_arg(alloc: Global, a: Arg) -> Result<Args, NoMemory>
     Ok(args)
 }
 
+/// A list of three arguments.
+pub fn three_args(alloc: Global, a: Arg, b: Arg, c: Arg) -> Result<Args, NoMemory>
+    ensures { IfOk result (λ args. args ≡ a ∷ b ∷ c ∷ []) }
+{
+    let mut args = Args::new(alloc);
+    args.push(a)?;
+    args.push(b)?;
+    args.push(c)?;
+    Ok(args)
+}
+
 /// A list of two arguments.
 pub fn two_args(alloc: Global, a: Arg, b: Arg) -> Result<Args, NoMemory>
     ensures { IfOk result (λ args. args ≡ a ∷ b ∷ []) }

@@ -11,12 +11,15 @@ use std::marker::Model;
 use text_core::{Name, NoMemory};
 use word_core::WIDEST;
 
+// How many widths there are.
+const WIDTHS: usize = WIDEST as usize;
+
 /// Lines with the ids 1, 2, 3 and so on, seen as the list of those made so far.
 #[derive(Debug, Drop)]
 pub struct Builder {
     nodes: Nodes,
     alloc: Global,
-    sorts: [Option<u32>; 64],
+    sorts: [Option<u32>; WIDTHS],
 }
 
 impl Model for Builder {
@@ -40,7 +43,7 @@ impl Builder {
         Builder {
             nodes: Nodes::new(alloc),
             alloc,
-            sorts: [None; 64],
+            sorts: [None; WIDTHS],
         }
     }
 
@@ -124,7 +127,7 @@ impl Builder {
 }
 
 // Enters the place of a sort line of this width, where the table has none. A width of 0 is of no sort line.
-fn note_sort(sorts: &mut [Option<u32>; 64], width: u32, place: u32)
+fn note_sort(sorts: &mut [Option<u32>; WIDTHS], width: u32, place: u32)
     requires { width ≤ WIDEST }
     ensures { sorts.new ≡ noted sorts.old width place }
 {

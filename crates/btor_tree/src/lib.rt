@@ -13,7 +13,7 @@ mod print_tests;
 #[cfg(test)]
 mod tests;
 
-pub use args::{Arg, Args, one_arg, plain_arg, two_args};
+pub use args::{Arg, Args, one_arg, plain_arg, three_args, two_args};
 pub use builder::Builder;
 pub use laws::{no_reading, one_fault, one_reading, printed_spells, spelled_fits};
 pub use lines::{GREATEST_ID, Line, LineOp};

@@ -4,25 +4,33 @@ ghost use Rattle.btor_tree.specs.Fits as fits;
 
 use crate::args::Args;
 use text_core::Name;
-use word_core::{Binary, Unary};
+use word_core::{Binary, Unary, Word};
 
 /// The greatest id of a line, 2^31 - 1.
 pub const GREATEST_ID: u32 = 2147483647;
 
-/// What a line does. `Sort` has the width of a bit vector.
+/// What a line does. `Sort` has the width of a bit vector, `Slice` the highest and the lowest bit that it keeps, `Uext` and
+/// `Sext` the number of new bits.
 #[derive(Debug, Drop)]
 pub enum LineOp {
     Sort(u32),
     Input,
     State,
+    Constant(Word),
     One,
     Zero,
+    Ones,
     Init,
     Next,
     Bad,
     Constraint,
+    Output,
     Unary(Unary),
     Binary(Binary),
+    Ite,
+    Slice(u32, u32),
+    Uext(u32),
+    Sext(u32),
 }
 
 /// A line: its id, what it does, the place of its sort line (0 where its kind has no sort), its arguments, and its

@@ -5,7 +5,7 @@ ghost use Rattle.btor_tree.specs.declared.lines.Line.{Line};
 ghost use Rattle.btor_tree.specs.Fits.{IsWellFormed};
 ghost use Rattle.btor_tree.specs.Shapes.{unary_text, binary_text, symbol_parts};
 ghost use Rattle.btor_tree.specs.Texts.{SpellsLines};
-ghost use Rattle.btor_tree.specs.Printing.{id_at, operand_text, op_text, sort_parts, spaced, line_text, printed};
+ghost use Rattle.btor_tree.specs.Printing.{id_at, operand_text, op_text, sort_parts, number_parts, spaced, line_text, printed};
 
 use crate::args::{Arg, Args};
 use crate::lines::{Line, LineOp};
@@ -47,6 +47,12 @@ fn unary_text(op: Unary) -> &'static [u8]
 {
     match op {
         Unary::Not => b"not",
+        Unary::Inc => b"inc",
+        Unary::Dec => b"dec",
+        Unary::Neg => b"neg",
+        Unary::RedAnd => b"redand",
+        Unary::RedOr => b"redor",
+        Unary::RedXor => b"redxor",
     }
 }
 
@@ -54,7 +60,36 @@ fn binary_text(op: Binary) -> &'static [u8]
     ensures { result.now ≡ binary_text op }
 {
     match op {
+        Binary::Iff => b"iff",
+        Binary::Implies => b"implies",
+        Binary::Eq => b"eq",
+        Binary::Neq => b"neq",
+        Binary::Sgt => b"sgt",
+        Binary::Sgte => b"sgte",
+        Binary::Slt => b"slt",
+        Binary::Slte => b"slte",
+        Binary::Ugt => b"ugt",
+        Binary::Ugte => b"ugte",
+        Binary::Ult => b"ult",
+        Binary::Ulte => b"ulte",
         Binary::And => b"and",
+        Binary::Nand => b"nand",
+        Binary::Nor => b"nor",
+        Binary::Or => b"or",
+        Binary::Xnor => b"xnor",
+        Binary::Xor => b"xor",
+        Binary::Sll => b"sll",
+        Binary::Srl => b"srl",
+        Binary::Sra => b"sra",
+        Binary::Add => b"add",
+        Binary::Sub => b"sub",
+        Binary::Mul => b"mul",
+        Binary::Udiv => b"udiv",
+        Binary::Sdiv => b"sdiv",
+        Binary::Urem => b"urem",
+        Binary::Srem => b"srem",
+        Binary::Smod => b"smod",
+        Binary::Concat => b"concat",
     }
 }
 
@@ -65,14 +100,21 @@ fn op_text(op: &LineOp) -> &'static [u8]
         LineOp::Sort(_) => b"sort",
         LineOp::Input => b"input",
         LineOp::State => b"state",
+        LineOp::Constant(_) => b"const",
         LineOp::One => b"one",
         LineOp::Zero => b"zero",
+        LineOp::Ones => b"ones",
         LineOp::Init => b"init",
         LineOp::Next => b"next",
         LineOp::Bad => b"bad",
         LineOp::Constraint => b"constraint",
+        LineOp::Output => b"output",
         LineOp::Unary(op) => unary_text(*op),
         LineOp::Binary(op) => binary_text(*op),
+        LineOp::Ite => b"ite",
+        LineOp::Slice(_, _) => b"slice",
+        LineOp::Uext(_) => b"uext",
+        LineOp::Sext(_) => b"sext",
     }
 }
 
@@ -85,7 +127,13 @@ fn put_sort(out: &mut Text, nodes: &Nodes, op: &LineOp, sort: u32) -> Result<(),
             put_count(out, *width)?;
             Ok(())
         }
-        LineOp::Bad | LineOp::Constraint => Ok(()),
+        LineOp::Constant(word) => {
+            put_count(out, id_at(nodes, sort))?;
+            out.put(b" ")?;
+            out.put_binary(word.width(), word.bits())?;
+            Ok(())
+        }
+        LineOp::Bad | LineOp::Constraint | LineOp::Output => Ok(()),
         _ => put_count(out, id_at(nodes, sort)),
     }
 }
@@ -111,6 +159,20 @@ fn put_args(out: &mut Text, nodes: &Nodes, args: &Args) -> Result<(), NoMemory>
     Ok(())
 }
 
+fn put_numbers(out: &mut Text, op: &LineOp) -> Result<(), NoMemory>
+    ensures { OnOk result (out.new ≡ out.old ++ spaced (number_parts op.now)) }
+{
+    match op {
+        LineOp::Slice(high, low) => {
+            put_count(out, *high)?;
+            put_count(out, *low)?;
+            Ok(())
+        }
+        LineOp::Uext(count) | LineOp::Sext(count) => put_count(out, *count),
+        _ => Ok(()),
+    }
+}
+
 fn put_symbol(out: &mut Text, symbol: &Option<Name>) -> Result<(), NoMemory>
     ensures { OnOk result (out.new ≡ out.old ++ spaced (symbol_parts symbol.now)) }
 {
@@ -120,6 +182,13 @@ fn put_symbol(out: &mut Text, symbol: &Option<Name>) -> Result<(), NoMemory>
     }
 }
 
+fn put_tail(out: &mut Text, line: &Line) -> Result<(), NoMemory>
+    ensures { OnOk result (out.new ≡ out.old ++ spaced (number_parts line.now.op ++ symbol_parts line.now.symbol)) }
+{
+    put_numbers(out, &line.op)?;
+    put_symbol(out, &line.symbol)
+}
+
 fn put_line(out: &mut Text, nodes: &Nodes, line: &Line) -> Result<(), NoMemory>
     ensures { OnOk result (out.new ≡ out.old ++ line_text nodes.now line.now) }
 {
@@ -127,7 +196,7 @@ fn put_line(out: &mut Text, nodes: &Nodes, line: &Line) -> Result<(), NoMemory>
     put_part(out, op_text(&line.op))?;
     put_sort(out, nodes, &line.op, line.sort)?;
     put_args(out, nodes, &line.args)?;
-    put_symbol(out, &line.symbol)?;
+    put_tail(out, line)?;
     out.put(b"\n")?;
     Ok(())
 }

@@ -1,12 +1,15 @@
 //! Words of 1 to 64 bits, and operators on them.
 #![tactic(auto)]
 
+mod digits;
 mod kinds;
+mod numbers;
 mod operators;
 #[cfg(test)]
 mod tests;
 mod word;
 
+pub use digits::read_digits;
 pub use kinds::{Binary, Unary};
-pub use operators::{binary, unary};
+pub use operators::{binary, ite, sext, slice, uext, unary};
 pub use word::{WIDEST, Word};

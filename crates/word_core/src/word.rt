@@ -8,7 +8,7 @@ use std::marker::Model;
 pub const WIDEST: u32 = 64;
 
 /// A width from 1 to `WIDEST`, and bits below two to that width.
-#[derive(Clone, Copy)]
+#[derive(Clone, Copy, Debug)]
 pub struct Word {
     width: u32,
     bits: u128,

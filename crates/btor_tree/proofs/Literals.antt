@@ -1,0 +1,162 @@
+-- Constants: what digits spell is a word of its width, and the digits of a word spell it.
+use Rattle.std.proofs.Common.{◌≡◌, ℕ, zero, suc, ◌+◌, ◌-◌, ◌*◌, ◌/◌, ◌%◌, ◌<◌, ◌≤◌, ◌^◌, ◌&&◌, ◌⊎◌, Bool, true, false, cond, eqb, ltb, leb, List, [], ◌∷◌, ◌++◌, length, Option, Some, None, refl, sym, ap, ◌∙◌, subst, arith, inl, inr}
+use Rattle.std.specs.Prelude.{option_and_then}
+use Rattle.std.proofs.lemmas.Bool.{cond-true, lt-ltb, le-leb, eq-eqb, ltb-true, leb-true, and_parts, and_from}
+use Rattle.std.proofs.lemmas.Option.{same_Some, none-some}
+use Rattle.std.proofs.lemmas.List.{length_push}
+use Rattle.text_core.specs.Binary.{binary_digits}
+use Rattle.word_core.specs.Words.{BitVector, IsWord}
+use Rattle.word_core.specs.declared.word.TheConstants.{WIDEST}
+use Rattle.word_core.specs.declared.kinds.Unary.TheVariants.{Neg}
+use Rattle.word_core.specs.Table.{unary_of}
+use Rattle.word_core.specs.Digits.{digit_number, number_after, digits_value, fitted, read_word}
+use Rattle.word_core.proofs.Rows.{unary_is_word}
+use Rattle.btor_tree.specs.Parts.{is_symbol_byte, all_symbol, is_symbol}
+use Rattle.btor_tree.specs.Shapes.{Base, in_binary, in_decimal, in_hex, all_of_base, are_digits, is_negative, magnitude_of}
+use Rattle.btor_tree.specs.Resolving.{minus_word, literal_word}
+use Rattle.btor_tree.proofs.Widths.{IsOfWidth}
+
+cond_some : {X : Type 0} (b : Bool) (o : Option X) (v : X) → cond b o None ≡ Some v → (b ≡ true) × (o ≡ Some v)
+cond_some true o v h = (refl, h)
+cond_some false o v h = absurd (none-some v h)
+
+then_some : {X Y : Type 0} (f : X → Option Y) (o : Option X) (v : Y) → option_and_then f o ≡ Some v → (x : X) × (f x ≡ Some v) × (o ≡ Some x)
+then_some f None v h = absurd (none-some v h)
+then_some f (Some x) v h = (x, h, refl)
+
+fitted_is : (w n : ℕ) (c : BitVector) → 1 ≤ w → w ≤ WIDEST → fitted w n ≡ Some c → IsOfWidth c w
+fitted_is w n c low high e =
+    let p = cond_some (ltb n (2 ^ w)) (Some (record { width = w; bits = n })) c e in
+    let same : record { width = w; bits = n } ≡ c = same_Some (record { width = w; bits = n }) c p.1 in
+    subst (λ x. IsOfWidth x w) same ((low, high, ltb-true n (2 ^ w) p.0), refl)
+
+read_is : (w base : ℕ) (text : List ℕ) (c : BitVector) → read_word w base text ≡ Some c → IsOfWidth c w
+read_is w base text c e =
+    let p = cond_some (leb 1 w && leb w WIDEST) (option_and_then (fitted w) (digits_value base text)) c e in
+    let wide = and_parts (leb 1 w) (leb w WIDEST) p.0 in
+    let n = then_some (fitted w) (digits_value base text) c p.1 in
+    fitted_is w n.0 c (leb-true 1 w wide.0) (leb-true w WIDEST wide.1) n.1
+
+minus_is : (a c : BitVector) (w : ℕ) → IsOfWidth a w → minus_word a ≡ Some c → IsOfWidth c w
+minus_is a c w h e =
+    let p = cond_some (leb a.bits (2 ^ (a.width - 1))) (Some (unary_of Neg a)) c e in
+    subst (λ x. IsOfWidth x w) (same_Some (unary_of Neg a) c p.1) (unary_is_word Neg a h.0, h.1)
+
+decimal_is : (b : Bool) (w : ℕ) (digits text : List ℕ) (c : BitVector) → cond b (option_and_then minus_word (read_word w 10 digits)) (read_word w 10 text) ≡ Some c → IsOfWidth c w
+decimal_is true w digits text c e =
+    let a = then_some minus_word (read_word w 10 digits) c e in
+    minus_is a.0 c w (read_is w 10 digits a.0 a.2) a.1
+decimal_is false w digits text c e = read_is w 10 text c e
+
+-- what a constant's digits spell is a word of its width
+pub literal_is : (k : Base) (w : ℕ) (text : List ℕ) (c : BitVector) → literal_word k w text ≡ Some c → IsOfWidth c w
+literal_is in_binary w text c e = read_is w 2 text c (cond_some (eqb (length text) w) (read_word w 2 text) c e).1
+literal_is in_decimal w text c e = decimal_is (is_negative text) w (magnitude_of text) text c e
+literal_is in_hex w text c e = read_is w 16 text c e
+
+bit_cases : (n : ℕ) → (n % 2 ≡ 0) ⊎ (n % 2 ≡ 1)
+bit_cases n = below_two (n % 2) (omega arith)
+  where
+    below_two : (d : ℕ) → d < 2 → (d ≡ 0) ⊎ (d ≡ 1)
+    below_two zero h = inl refl
+    below_two (suc zero) h = inr refl
+    below_two (suc (suc d)) h = absurd (omega (arith, h))
+
+digit_fact : (P : ℕ → Type 0) (n : ℕ) → P 48 → P 49 → P (48 + n % 2)
+digit_fact P n a b = elim (bit_cases n) [ inl z ↦ subst (λ d. P (48 + d)) (sym z) a | inr o ↦ subst (λ d. P (48 + d)) (sym o) b ]
+
+digit_is : (n : ℕ) → digit_number (48 + n % 2) ≡ n % 2
+digit_is n = elim (bit_cases n) [ inl z ↦ subst (λ d. digit_number (48 + d) ≡ d) (sym z) refl | inr o ↦ subst (λ d. digit_number (48 + d) ≡ d) (sym o) refl ]
+
+pub digits_long : (w n : ℕ) → length (binary_digits w n) ≡ w
+unfolding binary_digits
+digits_long zero n = refl
+digits_long (suc w) n = let e = length_push (binary_digits w (n / 2)) (48 + n % 2) in omega (arith, e, digits_long w (n / 2))
+
+base_push : (xs : List ℕ) (b : ℕ) → all_of_base 2 xs ≡ true → ltb (digit_number b) 2 ≡ true → all_of_base 2 (xs ++ b ∷ []) ≡ true
+base_push [] b e f = and_from (ltb (digit_number b) 2) true f refl
+base_push (x ∷ xs) b e f =
+    let p = and_parts (ltb (digit_number x) 2) (all_of_base 2 xs) e in
+    and_from (ltb (digit_number x) 2) (all_of_base 2 (xs ++ b ∷ [])) p.0 (base_push xs b p.1 f)
+
+symbol_push : (xs : List ℕ) (b : ℕ) → all_symbol xs ≡ true → is_symbol_byte b ≡ true → all_symbol (xs ++ b ∷ []) ≡ true
+symbol_push [] b e f = and_from (is_symbol_byte b) true f refl
+symbol_push (x ∷ xs) b e f =
+    let p = and_parts (is_symbol_byte x) (all_symbol xs) e in
+    and_from (is_symbol_byte x) (all_symbol (xs ++ b ∷ [])) p.0 (symbol_push xs b p.1 f)
+
+digits_of_base : (w n : ℕ) → all_of_base 2 (binary_digits w n) ≡ true
+unfolding binary_digits
+digits_of_base zero n = refl
+digits_of_base (suc w) n = base_push (binary_digits w (n / 2)) (48 + n % 2) (digits_of_base w (n / 2)) (digit_fact (λ b. ltb (digit_number b) 2 ≡ true) n refl refl)
+
+digits_symbol : (w n : ℕ) → all_symbol (binary_digits w n) ≡ true
+unfolding binary_digits
+digits_symbol zero n = refl
+digits_symbol (suc w) n = symbol_push (binary_digits w (n / 2)) (48 + n % 2) (digits_symbol w (n / 2)) (digit_fact (λ b. is_symbol_byte b ≡ true) n refl refl)
+
+some_symbol : (xs : List ℕ) → 1 ≤ length xs → all_symbol xs ≡ true → is_symbol xs ≡ true
+some_symbol [] h e = absurd (omega (arith, h))
+some_symbol (x ∷ xs) h e = e
+
+some_digits : (xs : List ℕ) → 1 ≤ length xs → all_of_base 2 xs ≡ true → are_digits 2 xs ≡ true
+some_digits [] h e = absurd (omega (arith, h))
+some_digits (x ∷ xs) h e = e
+
+-- the digits of a word may stand as a part
+pub digits_part : (w n : ℕ) → 1 ≤ w → is_symbol (binary_digits w n) ≡ true
+digits_part w n h = some_symbol (binary_digits w n) (omega (arith, h, digits_long w n)) (digits_symbol w n)
+
+pub digits_are : (w n : ℕ) → 1 ≤ w → are_digits 2 (binary_digits w n) ≡ true
+digits_are w n h = some_digits (binary_digits w n) (omega (arith, h, digits_long w n)) (digits_of_base w n)
+
+-- one more digit behind those before
+one_behind : (d : ℕ) → ℕ → Option ℕ
+one_behind d m = cond (ltb (digit_number d) 2) (Some (m * 2 + digit_number d)) None
+
+unfold_behind : (d m : ℕ) → cond (ltb (digit_number d) 2) (number_after 2 (m * 2 + digit_number d) []) None ≡ one_behind d m
+unfolding one_behind
+unfold_behind d m = refl
+
+number_push : (xs : List ℕ) (d m : ℕ) → number_after 2 m (xs ++ d ∷ []) ≡ option_and_then (one_behind d) (number_after 2 m xs)
+number_push [] d m = unfold_behind d m
+number_push (x ∷ xs) d m =
+    choice _ _ (ltb (digit_number x) 2) (number_push xs d (m * 2 + digit_number x))
+  where
+    choice : (o p : Option ℕ) (b : Bool) → o ≡ option_and_then (one_behind d) p → cond b o None ≡ option_and_then (one_behind d) (cond b p None)
+    choice o p true e = e
+    choice o p false e = refl
+
+behind_is : (n m : ℕ) → one_behind (48 + n % 2) m ≡ Some (m * 2 + n % 2)
+unfolding one_behind
+behind_is n m =
+    cond-true (ltb (digit_number (48 + n % 2)) 2) _ _ (digit_fact (λ b. ltb (digit_number b) 2 ≡ true) n refl refl) ∙ ap (λ d. Some (m * 2 + d)) (digit_is n)
+
+half_small : (w n : ℕ) → n < 2 ^ suc w → n / 2 < 2 ^ w
+half_small w n h = omega (arith, h)
+
+number_back : (w n : ℕ) → n < 2 ^ w → number_after 2 0 (binary_digits w n) ≡ Some n
+unfolding binary_digits
+number_back zero n h = let z : 0 ≡ n = omega (arith, h) in ap Some z
+number_back (suc w) n h =
+    let whole : n / 2 * 2 + n % 2 ≡ n = omega arith in
+    number_push (binary_digits w (n / 2)) (48 + n % 2) 0
+    ∙ ap (option_and_then (one_behind (48 + n % 2))) (number_back w (n / 2) (half_small w n h))
+    ∙ behind_is n (n / 2) ∙ ap Some whole
+
+value_of_some : (xs : List ℕ) → 1 ≤ length xs → digits_value 2 xs ≡ number_after 2 0 xs
+value_of_some [] h = absurd (omega (arith, h))
+value_of_some (x ∷ xs) h = refl
+
+-- the digits of a word spell it
+literal_here : (c : BitVector) → IsWord c → literal_word in_binary c.width (binary_digits c.width c.bits) ≡ Some c
+literal_here c h =
+    let digits = binary_digits c.width c.bits in
+    let long = digits_long c.width c.bits in
+    cond-true (eqb (length digits) c.width) _ _ (eq-eqb (length digits) c.width long)
+    ∙ cond-true (leb 1 c.width && leb c.width WIDEST) _ _ (and_from (leb 1 c.width) (leb c.width WIDEST) (le-leb 1 c.width h.0) (le-leb c.width WIDEST h.1))
+    ∙ ap (option_and_then (fitted c.width)) (value_of_some digits (omega (arith, long, h.0)) ∙ number_back c.width c.bits h.2)
+    ∙ cond-true (ltb c.bits (2 ^ c.width)) _ _ (lt-ltb c.bits (2 ^ c.width) h.2)
+
+pub literal_again : (c : BitVector) (w : ℕ) → IsWord c → c.width ≡ w → literal_word in_binary w (binary_digits c.width c.bits) ≡ Some c
+literal_again c w h e = subst (λ n. literal_word in_binary n (binary_digits c.width c.bits) ≡ Some c) e (literal_here c h)
