@@ -6,6 +6,8 @@ mod kinds;
 mod numbers;
 mod operators;
 #[cfg(test)]
+mod table_tests;
+#[cfg(test)]
 mod tests;
 mod word;
 
