@@ -10,6 +10,7 @@ mod real;
 #[cfg(test)]
 mod tests;
 mod text;
+mod verdict;
 mod whole;
 
 pub use errors::{NoMemory, ReadEnd, ShelfFault, SinkFault};
@@ -19,4 +20,5 @@ pub use outside::{Shelf, Sink};
 pub use place::{Kind, Place, Refusal};
 pub use real::{FileShelf, StreamSink};
 pub use text::{Name, Text};
+pub use verdict::{Clause, Verdict};
 pub use whole::{read_whole, write_whole};
