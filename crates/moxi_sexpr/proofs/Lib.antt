@@ -1,0 +1,9 @@
+pub mod Runs
+pub mod Strings
+pub mod Scanning
+pub mod Laws
+pub mod Forming
+pub mod Leading
+pub mod Again
+pub mod Endings
+pub mod Readable

@@ -1,0 +1,74 @@
+-- Bytes by what they may stand in (SMT-LIB 2.6, section 3.1), and places.
+use Rattle.std.specs.Prelude.{◌≡◌, ◌==◌, ◌+◌, ◌^◌, ◌≤◌, ℕ, Bool, false, not, ◌&&◌, ◌||◌, nat_le, if◌then◌else◌, List, [], ◌∷◌, codes}
+use Rattle.std.specs.List.{list_any}
+use Rattle.text_core.specs.declared.place.Place.{Place}
+use Rattle.moxi_sexpr.specs.declared.bytes.ByteSet.{ByteSet}
+use Rattle.moxi_sexpr.specs.declared.bytes.ByteSet.TheVariants as set
+
+abbrev pub is_digit : ℕ → Bool
+is_digit b = nat_le 48 b && nat_le b 57
+
+abbrev pub is_letter : ℕ → Bool
+is_letter b = (nat_le 65 b && nat_le b 90) || (nat_le 97 b && nat_le b 122)
+
+-- the signs of a simple symbol
+abbrev pub is_sign : ℕ → Bool
+is_sign b = list_any (λ c. c == b) (codes "~!@$%^&*_-+=<>.?/")
+
+-- tab, line feed, carriage return and space
+abbrev pub is_blank : ℕ → Bool
+is_blank b = (b == 9) || ((b == 10) || ((b == 13) || (b == 32)))
+
+-- a comment ends before these
+abbrev pub ends_line : ℕ → Bool
+ends_line b = (b == 10) || (b == 13)
+
+abbrev pub is_symbol_byte : ℕ → Bool
+is_symbol_byte b = is_letter b || (is_digit b || is_sign b)
+
+abbrev pub is_binary_digit : ℕ → Bool
+is_binary_digit b = (b == 48) || (b == 49)
+
+abbrev pub is_hex_digit : ℕ → Bool
+is_hex_digit b = is_digit b || ((nat_le 65 b && nat_le b 70) || (nat_le 97 b && nat_le b 102))
+
+-- any byte but a bar and a backslash
+abbrev pub is_barred_byte : ℕ → Bool
+is_barred_byte b = not ((b == 124) || (b == 92))
+
+abbrev pub belongs : ByteSet → ℕ → Bool
+belongs set.Symbol b = is_symbol_byte b
+belongs set.Decimal b = is_digit b
+belongs set.Binary b = is_binary_digit b
+belongs set.Hexadecimal b = is_hex_digit b
+belongs set.Barred b = is_barred_byte b
+
+-- the text begins with this byte
+abbrev pub heads : ℕ → List ℕ → Bool
+heads c [] = false
+heads c (b ∷ bs) = b == c
+
+-- the first byte of the text, if there is one, fails the test
+abbrev pub Stops : (ℕ → Bool) → List ℕ → Type 0
+Stops p [] = Unit {0}
+Stops p (b ∷ bs) = p b ≡ false
+
+-- the place behind one byte: a line ends after byte 10
+abbrev pub next_place : Place → ℕ → Place
+next_place p b =
+    if b == 10 then record { line = p.line + 1; column = 1; offset = p.offset + 1 } else record { line = p.line; column = p.column + 1; offset = p.offset + 1 }
+
+-- the place behind these bytes
+abbrev pub after : Place → List ℕ → Place
+after p [] = p
+after p (b ∷ bs) = after (next_place p b) bs
+
+-- the place of a text's first byte
+abbrev pub first : Place
+first = record { line = 1; column = 1; offset = 0 }
+
+-- so many more bytes leave the place within its numbers
+pub record Reaches (p : Place) (more : ℕ) : Type 0 where
+  pub line : p.line + more ≤ 2 ^ 31 + 1
+  pub column : p.column + more ≤ 2 ^ 31 + 1
+  pub offset : p.offset + more ≤ 2 ^ 31

@@ -1,0 +1,10 @@
+pub mod Bytes
+pub mod Atoms
+pub mod Tree
+pub mod Lexing
+pub mod Grammar
+pub mod Printing
+pub mod Writing
+pub mod Reading
+pub mod Machine
+pub mod Answer

@@ -1,0 +1,144 @@
+// Bytes by what they may stand in, and the places behind them.
+
+ghost use Rattle.std.specs.Prelude.{◌≡◌, ◌+◌, ◌<◌, ◌≤◌, ◌^◌, length};
+ghost use Rattle.std.specs.List.{list_all};
+ghost use Rattle.moxi_sexpr.specs.Bytes.{is_digit, is_letter, is_sign, is_blank, ends_line, is_hex_digit, belongs, after};
+ghost use Rattle.moxi_sexpr.specs.Atoms.{starts_simple, is_simple};
+ghost use Rattle.moxi_sexpr.specs.Reading.{run_length};
+
+use text_core::Place;
+
+/// The bytes that one part of the lexical form allows.
+#[derive(Clone, Copy, Debug, PartialEq, Eq)]
+pub enum ByteSet {
+    /// Bytes of a simple symbol.
+    Symbol,
+    /// Decimal digits.
+    Decimal,
+    /// Binary digits.
+    Binary,
+    /// Hexadecimal digits.
+    Hexadecimal,
+    /// Bytes between bars.
+    Barred,
+}
+
+/// The place of a text's first byte.
+pub const FIRST: Place = Place {
+    line: 1,
+    column: 1,
+    offset: 0,
+};
+
+pub fn is_digit(b: u8) -> bool
+    ensures { result ≡ is_digit b }
+{
+    b >= b'0' && b <= b'9'
+}
+
+pub fn is_letter(b: u8) -> bool
+    ensures { result ≡ is_letter b }
+{
+    (b >= b'A' && b <= b'Z') || (b >= b'a' && b <= b'z')
+}
+
+pub fn is_sign(b: u8) -> bool
+    ensures { result ≡ is_sign b }
+{
+    b"~!@$%^&*_-+=<>.?/".contains(&b)
+}
+
+pub fn is_blank(b: u8) -> bool
+    ensures { result ≡ is_blank b }
+{
+    b == b'\t' || b == b'\n' || b == b'\r' || b == b' '
+}
+
+/// Whether a comment ends before this byte.
+pub fn ends_line(b: u8) -> bool
+    ensures { result ≡ ends_line b }
+{
+    b == b'\n' || b == b'\r'
+}
+
+fn is_hex_digit(b: u8) -> bool
+    ensures { result ≡ is_hex_digit b }
+{
+    is_digit(b) || (b >= b'A' && b <= b'F') || (b >= b'a' && b <= b'f')
+}
+
+pub fn belongs(set: ByteSet, b: u8) -> bool
+    ensures { result ≡ belongs set b }
+{
+    match set {
+        ByteSet::Symbol => is_letter(b) || is_digit(b) || is_sign(b),
+        ByteSet::Decimal => is_digit(b),
+        ByteSet::Binary => b == b'0' || b == b'1',
+        ByteSet::Hexadecimal => is_hex_digit(b),
+        ByteSet::Barred => !(b == b'|' || b == b'\\'),
+    }
+}
+
+/// How many bytes of the set a text begins with.
+pub fn run_length(set: ByteSet, text: &[u8]) -> usize
+    ensures value { result ≡ run_length (belongs set) text.now }
+    ensures within { result ≤ length text.now }
+{
+    let mut count = 0;
+    for b in text {
+        if !belongs(set, *b) {
+            return count;
+        }
+        count += 1;
+    }
+    count
+}
+
+/// Whether a simple symbol stands at the front of the text.
+pub fn starts_simple(text: &[u8]) -> bool
+    ensures { result ≡ starts_simple text.now }
+{
+    match text {
+        [b, ..] => belongs(ByteSet::Symbol, *b) && !is_digit(*b),
+        [] => false,
+    }
+}
+
+/// Whether each byte is one of the set.
+fn all_belong(set: ByteSet, bytes: &[u8]) -> bool
+    ensures { result ≡ list_all (belongs set) bytes.now }
+{
+    for b in bytes {
+        if !belongs(set, *b) {
+            return false;
+        }
+    }
+    true
+}
+
+/// Whether the bytes are a simple symbol.
+pub fn is_simple(name: &[u8]) -> bool
+    ensures { result ≡ is_simple name.now }
+{
+    starts_simple(name) && all_belong(ByteSet::Symbol, name)
+}
+
+/// The place behind these bytes.
+pub fn after(place: Place, bytes: &[u8]) -> Place
+    requires line { place.line + length bytes.now < 2 ^ 32 }
+    requires column { place.column + length bytes.now + 1 < 2 ^ 32 }
+    requires offset { place.offset + length bytes.now < 2 ^ 32 }
+    ensures { result ≡ after place bytes.now }
+{
+    let mut place = place;
+    for b in bytes {
+        if *b == b'\n' {
+            place.line += 1;
+            place.column = 1;
+        } else {
+            place.column += 1;
+        }
+        place.offset += 1;
+    }
+    place
+}

@@ -1,0 +1,14 @@
+//! S-expressions: SMT-LIB's lexical form with primes, read from a text and printed.
+#![tactic(auto)]
+
+mod bytes;
+mod form;
+mod print;
+mod read;
+mod scan;
+#[cfg(test)]
+mod tests;
+
+pub use form::{Atom, Form, FormShape, Forms};
+pub use print::{print_forms, written_forms_read_back};
+pub use read::{FormEnd, end_of, read_forms, readings_are_one};

@@ -1,0 +1,160 @@
+// Forms as a text.
+
+ghost use Rattle.std.specs.Prelude.{◌≡◌, ◌≤◌, ◌++◌, ℕ, List, [], map, IfOk, OnOk};
+ghost use Rattle.moxi_sexpr.specs.Atoms.{doubled, spelled};
+ghost use Rattle.moxi_sexpr.specs.Tree.{Trees, plain, plain_forms, depths};
+ghost use Rattle.moxi_sexpr.specs.Printing.{is_among, bytes_behind, reserved_words, symbol_spelling, printed_atom, printed, printed_parts, printed_forms, ArePrintable, ReadsBack};
+ghost use Rattle.moxi_sexpr.specs.Lexing.{limit};
+ghost use Rattle.moxi_sexpr.specs.Writing.{WritesLines};
+
+use crate::bytes::is_simple;
+use crate::form::{Atom, Form, FormShape, Forms};
+use crate::scan::Spelling;
+use std::alloc::Global;
+use text_core::{NoMemory, Text};
+
+/// The simple symbols that are printed in bars, since SMT-LIB reserves them.
+const RESERVED: [&[u8]; 13] = [
+    b"_",
+    b"!",
+    b"as",
+    b"let",
+    b"exists",
+    b"forall",
+    b"match",
+    b"par",
+    b"BINARY",
+    b"DECIMAL",
+    b"HEXADECIMAL",
+    b"NUMERAL",
+    b"STRING",
+];
+
+fn is_among(name: &[u8], words: &[&[u8]]) -> bool
+    ensures { result ≡ is_among name.now (map bytes_behind words.now) }
+{
+    for word in words {
+        if name == *word {
+            return true;
+        }
+    }
+    false
+}
+
+fn is_reserved(name: &[u8]) -> bool
+    ensures { result ≡ is_among name.now reserved_words }
+{
+    is_among(name, &RESERVED)
+}
+
+// Bytes between two signs.
+fn put_between(out: &mut Text, opening: &[u8], bytes: &[u8], closing: &[u8]) -> Result<(), NoMemory>
+    ensures { OnOk result (out.new ≡ out.old ++ (opening.now ++ (bytes.now ++ closing.now))) }
+{
+    out.put(opening)?;
+    out.put(bytes)?;
+    out.put(closing)
+}
+
+fn put_symbol(out: &mut Text, name: &[u8], primed: bool) -> Result<(), NoMemory>
+    ensures { OnOk result (out.new ≡ out.old ++ spelled (symbol_spelling name.now primed) name.now) }
+{
+    let prime: &[u8] = if primed { b"'" } else { b"" };
+    if is_simple(name) && !is_reserved(name) {
+        put_between(out, b"", name, prime)
+    } else {
+        put_between(out, b"|", name, b"|")?;
+        out.put(prime)
+    }
+}
+
+// Bytes with each quote doubled.
+fn put_doubled(out: &mut Text, bytes: &[u8]) -> Result<(), NoMemory>
+    ensures { OnOk result (out.new ≡ out.old ++ doubled bytes.now) }
+{
+    for b in bytes {
+        out.put(&[*b])?;
+        if *b == b'"' {
+            out.put(b"\"")?;
+        }
+    }
+    Ok(())
+}
+
+fn put_quote(out: &mut Text, bytes: &[u8]) -> Result<(), NoMemory>
+    ensures { OnOk result (out.new ≡ out.old ++ spelled Spelling.Quote bytes.now) }
+{
+    out.put(b"\"")?;
+    put_doubled(out, bytes)?;
+    out.put(b"\"")
+}
+
+fn put_atom(out: &mut Text, atom: &Atom) -> Result<(), NoMemory>
+    ensures { OnOk result (out.new ≡ out.old ++ printed_atom atom.now) }
+{
+    match atom {
+        Atom::Symbol(name, primed) => put_symbol(out, name.bytes(), *primed),
+        Atom::Keyword(name) => put_between(out, b":", name.bytes(), b""),
+        Atom::Numeral(name) => out.put(name.bytes()),
+        Atom::Binary(name) => put_between(out, b"#b", name.bytes(), b""),
+        Atom::Hex(name) => put_between(out, b"#x", name.bytes(), b""),
+        Atom::Quote(name) => put_quote(out, name.bytes()),
+    }
+}
+
+// A form.
+#[cycle(put)]
+fn put_form(out: &mut Text, form: &Form) -> Result<(), NoMemory>
+    ensures { OnOk result (out.new ≡ out.old ++ printed (plain form.now)) }
+{
+    match &form.shape {
+        FormShape::Atom(atom) => put_atom(out, atom),
+        FormShape::List(forms) => {
+            out.put(b"(")?;
+            put_parts(out, forms)?;
+            out.put(b")")
+        }
+    }
+}
+
+// Forms with a blank between two.
+#[cycle(put)]
+fn put_parts(out: &mut Text, forms: &[Form]) -> Result<(), NoMemory>
+    ensures { OnOk result (out.new ≡ out.old ++ printed_parts [] (plain_forms forms.now)) }
+{
+    let mut separator: &[u8] = b"";
+    for form in forms {
+        out.put(separator)?;
+        put_form(out, form)?;
+        separator = b" ";
+    }
+    Ok(())
+}
+
+fn text_of(alloc: Global, forms: &Forms) -> Result<Text, NoMemory>
+    ensures { IfOk result (λ text. text ≡ printed_forms (plain_forms forms.now.items)) }
+{
+    let mut out = Text::new(alloc);
+    for form in forms {
+        put_form(&mut out, form)?;
+        out.put(b"\n")?;
+    }
+    Ok(out)
+}
+
+/// Writes each form on a line of its own, with single blanks between the parts of a list and none inside a bracket. A
+/// symbol stands in bars unless it is simple and no reserved word. A form whose atoms can be spelled as their kinds ask
+/// is read again as the same form but for its places.
+pub fn print_forms(alloc: Global, forms: &Forms) -> Result<Text, NoMemory>
+    // The text is the printed form.
+    ensures printed { IfOk result (λ text. text ≡ printed_forms (plain_forms forms.now.items)) }
+    // It reads back to the same forms but for places, where no more brackets stand open than may be read.
+    ensures reads_back { ArePrintable (plain_forms forms.now.items) → depths (plain_forms forms.now.items) ≤ limit → IfOk result (λ text. ReadsBack text (plain_forms forms.now.items)) }
+{
+    text_of(alloc, forms)
+}
+
+/// A text that writes forms so, each on a line, reads back to them but for places, in whatever spelling each atom stands.
+pub fn written_forms_read_back()
+    ensures { (text : List ℕ) (ts : Trees) → WritesLines ts text → depths ts ≤ limit → ReadsBack text ts }
+{}

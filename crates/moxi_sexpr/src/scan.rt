@@ -1,0 +1,238 @@
+// What stands at the front of a text: blanks and comments, or the bytes of an atom.
+
+ghost use Rattle.std.specs.Prelude.{◌≡◌, ◌<◌, ◌≤◌, ◌∷◌, ◌++◌, ℕ, List, false, length, IfOk, IfSome};
+ghost use Rattle.moxi_sexpr.specs.Bytes.{belongs};
+ghost use Rattle.moxi_sexpr.specs.Atoms.{atom_of};
+ghost use Rattle.moxi_sexpr.specs.Reading.{gap_step, gap_length, run_of, simple_of, has_prime, past_prime, bare_of, barred_of, quote_length, quote_of, digits_of, scan_of, undoubled, value_of};
+ghost use Rattle.moxi_sexpr.specs.Answer.{Scans};
+
+use crate::bytes::{ByteSet, belongs, ends_line, is_blank, is_digit, run_length, starts_simple};
+use crate::form::Atom;
+use std::alloc::Global;
+use text_core::{Name, NoMemory};
+
+/// How an atom is spelled.
+#[derive(Clone, Copy, Debug, PartialEq, Eq)]
+pub enum Spelling {
+    /// A simple symbol, primed or not.
+    Bare(bool),
+    /// A symbol in bars, primed or not.
+    Barred(bool),
+    /// A simple symbol behind a colon.
+    Keyword,
+    /// Decimal digits.
+    Numeral,
+    /// Binary digits behind `#b`.
+    Binary,
+    /// Hexadecimal digits behind `#x`.
+    Hex,
+    /// Bytes between quotes, each quote among them doubled.
+    Quote,
+}
+
+/// Whether a byte goes on with blanks and comments, and whether a comment stands open behind it.
+fn gap_step(inside: bool, b: u8) -> Option<bool>
+    ensures { result ≡ gap_step inside b }
+{
+    if inside {
+        Some(!ends_line(b))
+    } else if is_blank(b) {
+        Some(false)
+    } else if b == b';' {
+        Some(true)
+    } else {
+        None
+    }
+}
+
+/// The length of the blanks and comments that a text begins with.
+pub fn gap_length(text: &[u8]) -> usize
+    ensures value { result ≡ gap_length false text.now }
+    ensures within { result ≤ length text.now }
+{
+    let mut count = 0;
+    let mut inside = false;
+    for b in text {
+        let Some(next) = gap_step(inside, *b) else {
+            return count
+        };
+        inside = next;
+        count += 1;
+    }
+    count
+}
+
+/// A run of the set's bytes that isn't empty, and what stands behind it.
+fn scan_run(how: Spelling, set: ByteSet, text: &[u8]) -> Option<(Spelling, &[u8], &[u8])>
+    ensures { Scans result (run_of how (belongs set) text.now) }
+{
+    let size = run_length(set, text);
+    if size == 0 {
+        return None;
+    }
+    let (content, rest) = text.split_at(size);
+    Some((how, content, rest))
+}
+
+/// A simple symbol, and what stands behind it.
+fn scan_simple(how: Spelling, text: &[u8]) -> Option<(Spelling, &[u8], &[u8])>
+    ensures { Scans result (simple_of how text.now) }
+{
+    if !starts_simple(text) {
+        return None;
+    }
+    scan_run(how, ByteSet::Symbol, text)
+}
+
+/// Whether a prime stands at the front of the text, and what stands behind it.
+fn split_prime(text: &[u8]) -> (bool, &[u8])
+    ensures primed { result.0 ≡ has_prime text.now }
+    ensures rest { result.1.now ≡ past_prime text.now }
+{
+    match text.split_first() {
+        Some((b, more)) => {
+            if *b == b'\'' {
+                (true, more)
+            } else {
+                (false, text)
+            }
+        }
+        None => (false, text),
+    }
+}
+
+/// A simple symbol with or without a prime, and what stands behind it.
+fn scan_bare(text: &[u8]) -> Option<(Spelling, &[u8], &[u8])>
+    ensures { Scans result (bare_of text.now) }
+{
+    if !starts_simple(text) {
+        return None;
+    }
+    let (content, more) = text.split_at(run_length(ByteSet::Symbol, text));
+    let (primed, rest) = split_prime(more);
+    Some((Spelling::Bare(primed), content, rest))
+}
+
+/// The rest of a symbol in bars, behind the first bar.
+fn scan_barred(text: &[u8]) -> Option<(Spelling, &[u8], &[u8])>
+    ensures { Scans result (barred_of text.now) }
+{
+    let (content, closing) = text.split_at(run_length(ByteSet::Barred, text));
+    let (b, more) = closing.split_first()?;
+    if *b != b'|' {
+        return None;
+    }
+    let (primed, rest) = split_prime(more);
+    Some((Spelling::Barred(primed), content, rest))
+}
+
+/// How many bytes stand before the quote that closes a string, of which the text is what follows its first quote.
+fn quote_length(text: &[u8]) -> Option<usize>
+    ensures value { result ≡ quote_length 0 false text.now }
+    ensures within { IfSome result (λ n. n < length text.now) }
+{
+    let mut count = 0;
+    let mut pending = false;
+    for b in text {
+        if pending {
+            if *b != b'"' {
+                return Some(count);
+            }
+            pending = false;
+            count += 2;
+        } else if *b == b'"' {
+            pending = true;
+        } else {
+            count += 1;
+        }
+    }
+    if pending { Some(count) } else { None }
+}
+
+/// The rest of a string, behind its first quote.
+fn scan_quote(text: &[u8]) -> Option<(Spelling, &[u8], &[u8])>
+    ensures { Scans result (quote_of text.now) }
+{
+    let size = quote_length(text)?;
+    let (content, closing) = text.split_at(size);
+    Some((Spelling::Quote, content, &closing[1..]))
+}
+
+/// The rest of a binary or hexadecimal literal, behind its `#`.
+fn scan_digits(text: &[u8]) -> Option<(Spelling, &[u8], &[u8])>
+    ensures { Scans result (digits_of text.now) }
+{
+    let (b, rest) = text.split_first()?;
+    match *b {
+        b'b' => scan_run(Spelling::Binary, ByteSet::Binary, rest),
+        b'x' => scan_run(Spelling::Hex, ByteSet::Hexadecimal, rest),
+        _ => None,
+    }
+}
+
+/// The atom at the front of a text: how it is spelled, the bytes between the signs of its spelling, and what stands
+/// behind it.
+pub fn scan(text: &[u8]) -> Option<(Spelling, &[u8], &[u8])>
+    ensures { Scans result (scan_of text.now) }
+{
+    let (b, rest) = text.split_first()?;
+    match *b {
+        b':' => scan_simple(Spelling::Keyword, rest),
+        b'|' => scan_barred(rest),
+        b'"' => scan_quote(rest),
+        b'#' => scan_digits(rest),
+        b if is_digit(b) => scan_run(Spelling::Numeral, ByteSet::Decimal, text),
+        _ => scan_bare(text),
+    }
+}
+
+/// Adds the byte unless it is to be skipped, and answers whether the next one is.
+fn put_unless(bytes: &mut Vec<u8>, skip: bool, b: u8) -> Result<bool, NoMemory>
+    ensures { IfOk result (λ next. (rest : List ℕ) → bytes.new.items ++ undoubled next rest ≡ bytes.old.items ++ undoubled skip (b ∷ rest)) }
+{
+    if skip {
+        return Ok(false);
+    }
+    match bytes.push(b) {
+        Ok(()) => Ok(b == b'"'),
+        Err(_) => Err(NoMemory),
+    }
+}
+
+/// The bytes of a string of which these stand between its quotes.
+fn undoubled(alloc: Global, raw: &[u8]) -> Result<Name, NoMemory>
+    ensures { IfOk result (λ name. name ≡ undoubled false raw.now) }
+{
+    let mut bytes = Vec::new(alloc);
+    let mut skip = false;
+    for b in raw {
+        skip = put_unless(&mut bytes, skip, *b)?;
+    }
+    Name::of(alloc, &bytes)
+}
+
+/// The name of an atom that is spelled so, by the bytes between the signs of its spelling.
+fn make_name(alloc: Global, how: Spelling, raw: &[u8]) -> Result<Name, NoMemory>
+    ensures { IfOk result (λ name. name ≡ value_of how raw.now) }
+{
+    match how {
+        Spelling::Quote => undoubled(alloc, raw),
+        _ => Name::of(alloc, raw),
+    }
+}
+
+/// The atom that is spelled so, by the bytes between the signs of its spelling.
+pub fn make_atom(alloc: Global, how: Spelling, raw: &[u8]) -> Result<Atom, NoMemory>
+    ensures { IfOk result (λ atom. atom ≡ atom_of how (value_of how raw.now)) }
+{
+    let name = make_name(alloc, how, raw)?;
+    Ok(match how {
+        Spelling::Bare(primed) => Atom::Symbol(name, primed),
+        Spelling::Barred(primed) => Atom::Symbol(name, primed),
+        Spelling::Keyword => Atom::Keyword(name),
+        Spelling::Numeral => Atom::Numeral(name),
+        Spelling::Binary => Atom::Binary(name),
+        Spelling::Hex => Atom::Hex(name),
+        Spelling::Quote => Atom::Quote(name),
+    })
+}
