@@ -19,24 +19,37 @@ mod tree_tests;
 mod words;
 
 use command::run;
+use notes::note;
 use status::Status;
-use std::env;
 use std::process::ExitCode;
-use text_core::{FileShelf, StreamSink};
+use std::rt::Env;
+use std::{env, io};
+use text_core::{FileShelf, NoMemory, StreamSink};
 
-// Where the system doesn't give the command words as text, there are none.
 fn main(rt: HostRuntime) -> ExitCode {
-    let alloc = rt.alloc();
-    let read = match env::args(&rt) {
-        Ok(args) => args.skip(1).collect(alloc),
-        Err(_) => Ok(Vec::new(alloc)),
-    };
-    let Ok(words) = read else {
-        return ExitCode::from(Status::NoMemory as u8);
-    };
     let mut shelf = FileShelf::new(&rt);
     let mut out = StreamSink::new(rt.stdout());
     let mut notes = StreamSink::new(rt.stderr());
-    let status = run(alloc, &words, &mut shelf, &mut out, &mut notes);
+    let status = match command_words(&rt) {
+        Ok(words) => run(rt.alloc(), &words, &mut shelf, &mut out, &mut notes),
+        Err(NoMemory) => note(&mut notes, &[b"no memory\n"], Status::NoMemory),
+    };
     ExitCode::from(status as u8)
+}
+
+// The command words without the program's name. Where the system doesn't give them as text, there are none.
+fn command_words<R: Env + AllocGlobal>(rt: &R) -> Result<Vec<String>, NoMemory> {
+    match env::args(rt) {
+        Ok(args) => match args.skip(1).collect(rt.alloc()) {
+            Ok(words) => Ok(words),
+            Err(_) => Err(NoMemory),
+        },
+        Err(error) => {
+            if error.kind() == io::ErrorKind::OutOfMemory {
+                Err(NoMemory)
+            } else {
+                Ok(Vec::new(rt.alloc()))
+            }
+        }
+    }
 }
