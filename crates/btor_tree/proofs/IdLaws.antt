@@ -17,7 +17,7 @@ line_there [] j lt = absurd (omega arith)
 line_there (l ∷ ls) zero lt = (l, refl, refl)
 line_there (l ∷ ls) (suc j) lt = line_there ls j (omega arith)
 
-place_found : (xs : List ℕ) (n i : ℕ) → i < length xs → get_or xs i 0 ≡ n → ((k : ℕ) → k < i → get_or xs k 0 < n) → place_in n xs ≡ Some i
+pub place_found : (xs : List ℕ) (n i : ℕ) → i < length xs → get_or xs i 0 ≡ n → ((k : ℕ) → k < i → get_or xs k 0 < n) → place_in n xs ≡ Some i
 place_found [] n i lt e below = absurd (omega arith)
 place_found (x ∷ xs) n zero lt e below = rw (eq-eqb x n e) refl
 place_found (x ∷ xs) n (suc i) lt e below =

@@ -7,9 +7,6 @@ mod builder;
 mod laws;
 mod lines;
 mod nodes;
-mod print;
-#[cfg(test)]
-mod print_tests;
 #[cfg(test)]
 mod tests;
 
@@ -18,4 +15,3 @@ pub use builder::Builder;
 pub use laws::{no_reading, one_fault, one_reading, printed_spells, spelled_fits};
 pub use lines::{GREATEST_ID, Line, LineOp};
 pub use nodes::Nodes;
-pub use print::print_lines;

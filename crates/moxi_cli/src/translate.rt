@@ -9,7 +9,7 @@ ghost use Rattle.moxi_cli.specs.Translation.{Accepts, TranslatesTo, btor_text};
 use crate::formula::Source;
 use crate::lines::lines_of;
 use crate::parse::parse;
-use btor_tree::print_lines;
+use btor_text::print_btor;
 use smv_text::{LexEnd, lex};
 use std::alloc::Global;
 use text_core::{NoMemory, Text};
@@ -55,7 +55,7 @@ fn text_of(alloc: Global, source: &Source) -> Result<Text, NoMemory>
     ensures { IfOk result (λ text. text ≡ btor_text (source_of source.now)) }
 {
     let nodes = lines_of(alloc, source)?;
-    print_lines(alloc, &nodes)
+    print_btor(alloc, &nodes)
 }
 
 /// No bytes spell two sources.

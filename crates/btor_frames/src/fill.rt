@@ -1,0 +1,246 @@
+// One row of words, filled in order of the lines.
+ghost use Rattle.std.specs.Prelude.{◌≡◌, ◌<◌, ◌≤◌, ◌+◌, ◌^◌, ℕ, Bool, true, false, if◌then◌else◌, List, length, take, Some, None, slice_get, IfSome, IsTrue};
+ghost use Rattle.word_core.specs.Words.{BitVector, IsWord};
+ghost use Rattle.word_core.specs.Table.{unary_of, binary_of, ite_of, slice_of, uext_of, sext_of, BinaryFits};
+ghost use Rattle.btor_tree.specs.Fits.{IsWellFormed, OnOne, OnTwo, OnThree, count_of, is_constant, is_input, is_state, kind_at, state_value};
+ghost use Rattle.btor_tree.specs.Frame.{operand, init_operand, signed_word, word_at, read_or, IsFrame};
+ghost use Rattle.btor_tree.proofs.Words.{computed};
+ghost use Rattle.btor_tree.proofs.Rows.{row_upto};
+ghost use Rattle.btor_tree.proofs.Paths.{constant_at, pick, given_of};
+ghost use Rattle.btor_frames.specs.Tables.{IsFoundIn};
+ghost use Rattle.btor_frames.specs.Steps.{value_kind, value_word, handed_at, HandedFit};
+
+use crate::handed::{handed_word, with_input, with_state, word_of};
+use crate::tables::Tables;
+use crate::words::Words;
+use btor_tree::{Arg, Args, LineOp, Nodes};
+use word_core::{Binary, Unary, WIDEST, Word, binary, ite, sext, slice, uext, unary};
+
+// The word, or the bitwise not of it.
+fn signed_word(word: Word, negated: bool) -> Word
+    ensures { result ≡ signed_word negated word }
+{
+    if negated {
+        unary(Unary::Not, word)
+    } else {
+        word
+    }
+}
+
+// The word of an argument.
+pub fn operand(row: &Words, a: &Arg) -> Word
+    requires { a.now.line < length row.now }
+    ensures { result ≡ operand row.now a.now }
+{
+    signed_word(row.at(a.line as usize), a.negated)
+}
+
+fn is_constant(op: &LineOp) -> bool
+    ensures { result ≡ is_constant op.now }
+{
+    matches!(
+        op,
+        LineOp::Constant(_) | LineOp::One | LineOp::Zero | LineOp::Ones
+    )
+}
+
+// The word of a constant line, which is the same in every row.
+fn constant_word(nodes: &Nodes, i: usize) -> Word
+    requires well_formed { IsWellFormed nodes.now }
+    requires constant { kind_at is_constant nodes.now i ≡ true }
+    ensures { result ≡ constant_at nodes.now i }
+{
+    let width = nodes.width_of(i as u32);
+    match nodes.at(i).op {
+        LineOp::Constant(word) => word,
+        LineOp::One => word_of(width, 1),
+        LineOp::Zero => word_of(width, 0),
+        LineOp::Ones => unary(Unary::Not, word_of(width, 0)),
+        _ => word_of(1, 0),
+    }
+}
+
+// The word of an init's value: a constant's, which may stand later, or an earlier word.
+fn init_operand(nodes: &Nodes, row: &Words, a: &Arg) -> Word
+    requires well_formed { IsWellFormed nodes.now }
+    requires long { length row.now ≡ length nodes.now }
+    requires there { a.now.line < length nodes.now }
+    ensures { result ≡ init_operand nodes.now row.now a.now }
+{
+    let i = a.line as usize;
+    let word = if is_constant(&nodes.at(i).op) {
+        constant_word(nodes, i)
+    } else {
+        row.at(i)
+    };
+    signed_word(word, a.negated)
+}
+
+// The word of a state's value.
+fn value_word(nodes: &Nodes, begun: bool, last: &Words, row: &Words, a: &Arg) -> Word
+    requires well_formed { IsWellFormed nodes.now }
+    requires long { length row.now ≡ length nodes.now }
+    requires last_long { length last.now ≡ length nodes.now }
+    requires there { a.now.line < length nodes.now }
+    ensures { result ≡ value_word begun nodes.now last.now row.now a.now }
+{
+    if begun {
+        operand(last, a)
+    } else {
+        init_operand(nodes, row, a)
+    }
+}
+
+// The word that a state takes: its value where it has one, and else the one that is handed in.
+fn state_word(
+    nodes: &Nodes,
+    tables: &Tables,
+    i: usize,
+    begun: bool,
+    last: &Words,
+    spare: &Words,
+    handed: Word,
+) -> Word
+    requires inside { i < length nodes.now }
+    requires long { length spare.now ≡ length nodes.now }
+    requires last_long { length last.now ≡ length nodes.now }
+    requires well_formed { IsWellFormed nodes.now }
+    requires found { IsFoundIn nodes.now tables.now }
+    ensures { result ≡ read_or (state_value (value_kind begun) nodes.now i) (value_word begun nodes.now last.now (take i spare.now)) handed }
+{
+    match tables.value(begun, i) {
+        None => handed,
+        Some(a) => value_word(nodes, begun, last, spare, &a),
+    }
+}
+
+// The word that an input or a state takes; at other lines it is not read.
+fn given_word(
+    nodes: &Nodes,
+    tables: &Tables,
+    i: usize,
+    begun: bool,
+    last: &Words,
+    spare: &Words,
+    handed: Word,
+) -> Word
+    requires inside { i < length nodes.now }
+    requires long { length spare.now ≡ length nodes.now }
+    requires last_long { length last.now ≡ length nodes.now }
+    requires well_formed { IsWellFormed nodes.now }
+    requires found { IsFoundIn nodes.now tables.now }
+    ensures { IfSome (slice_get nodes.now i) (λ l. result ≡ pick l.op (state_value (value_kind begun) nodes.now i)
+        (value_word begun nodes.now last.now (take i spare.now)) handed) }
+{
+    match nodes.at(i).op {
+        LineOp::State => state_word(nodes, tables, i, begun, last, spare, handed),
+        _ => handed,
+    }
+}
+
+// The word of an operator line on one argument.
+fn unary_word(op: Unary, args: &Args, row: &Words) -> Word
+    requires { OnOne args.now (λ a. a.line < length row.now) }
+    ensures { OnOne args.now (λ a. result ≡ unary_of op (operand row.now a)) }
+{
+    unary(op, operand(row, args.at(0)))
+}
+
+// The word of an operator line on two arguments.
+fn binary_word(op: Binary, args: &Args, row: &Words) -> Word
+    requires { OnTwo args.now (λ a b. (a.line < length row.now) × (b.line < length row.now)
+        × BinaryFits op (operand row.now a).width (operand row.now b).width) }
+    ensures { OnTwo args.now (λ a b. result ≡ binary_of op (operand row.now a) (operand row.now b)) }
+{
+    binary(op, operand(row, args.at(0)), operand(row, args.at(1)))
+}
+
+// The word of a choice: the second argument's where the first's is one, else the third's.
+fn ite_word(args: &Args, row: &Words) -> Word
+    requires { OnThree args.now (λ c a b. (c.line < length row.now) × (a.line < length row.now) × (b.line < length row.now)
+        × ((operand row.now c).width ≡ 1) × ((operand row.now a).width ≡ (operand row.now b).width)) }
+    ensures { OnThree args.now (λ c a b. result ≡ ite_of (operand row.now c) (operand row.now a) (operand row.now b)) }
+{
+    ite(
+        operand(row, args.at(0)),
+        operand(row, args.at(1)),
+        operand(row, args.at(2)),
+    )
+}
+
+// The bits of the argument's word from high down to low.
+fn slice_word(high: u32, low: u32, args: &Args, row: &Words) -> Word
+    requires { OnOne args.now (λ a. (a.line < length row.now) × (low ≤ high) × (high < (operand row.now a).width)) }
+    ensures { OnOne args.now (λ a. result ≡ slice_of (operand row.now a) high low) }
+{
+    slice(operand(row, args.at(0)), high, low)
+}
+
+// The argument's word with zeros in front.
+fn uext_word(count: u32, args: &Args, row: &Words) -> Word
+    requires { OnOne args.now (λ a. (a.line < length row.now) × ((operand row.now a).width + count ≤ WIDEST)) }
+    ensures { OnOne args.now (λ a. result ≡ uext_of (operand row.now a) count) }
+{
+    uext(operand(row, args.at(0)), count)
+}
+
+// The argument's word with its sign in front.
+fn sext_word(count: u32, args: &Args, row: &Words) -> Word
+    requires { OnOne args.now (λ a. (a.line < length row.now) × ((operand row.now a).width + count ≤ WIDEST)) }
+    ensures { OnOne args.now (λ a. result ≡ sext_of (operand row.now a) count) }
+{
+    sext(operand(row, args.at(0)), count)
+}
+
+// The word of a line, over the words of the lines before it; an input or a state takes the given one.
+fn line_word(nodes: &Nodes, i: usize, spare: &Words, given: Word) -> Word
+    requires inside { i < length nodes.now }
+    requires long { length spare.now ≡ length nodes.now }
+    requires well_formed { IsWellFormed nodes.now }
+    requires frame { IsFrame (take i nodes.now) (take i spare.now) }
+    ensures { IfSome (slice_get nodes.now i)
+        (λ l. result ≡ computed (take i nodes.now) (take i spare.now) l.sort l.op l.args given) }
+{
+    let line = nodes.at(i);
+    match line.op {
+        LineOp::Input | LineOp::State => given,
+        LineOp::Constant(_) | LineOp::One | LineOp::Zero | LineOp::Ones => constant_word(nodes, i),
+        LineOp::Unary(op) => unary_word(op, &line.args, spare),
+        LineOp::Binary(op) => binary_word(op, &line.args, spare),
+        LineOp::Ite => ite_word(&line.args, spare),
+        LineOp::Slice(high, low) => slice_word(high, low, &line.args, spare),
+        LineOp::Uext(count) => uext_word(count, &line.args, spare),
+        LineOp::Sext(count) => sext_word(count, &line.args, spare),
+        _ => word_of(1, 0),
+    }
+}
+
+/// Fills a row: the frame after `last` where one has begun, and else frame 0.
+pub fn fill(
+    nodes: &Nodes,
+    tables: &Tables,
+    begun: bool,
+    last: &Words,
+    inputs: &Words,
+    free: &Words,
+    spare: &mut Words,
+)
+    requires long { length spare.old ≡ length nodes.now }
+    requires last_long { length last.now ≡ length nodes.now }
+    requires last_frame { IsTrue begun → IsFrame nodes.now last.now }
+    requires found { IsFoundIn nodes.now tables.now }
+    requires handed { HandedFit nodes.now inputs.now free.now }
+    ensures { spare.new ≡ row_upto nodes.now (given_of (state_value (value_kind begun) nodes.now)
+        (value_word begun nodes.now last.now) (handed_at nodes.now inputs.now free.now)) (length nodes.now) }
+{
+    let mut input = 0usize;
+    let mut state = 0usize;
+    for i in 0..nodes.len() {
+        let handed = handed_word(nodes, i, inputs, free, input, state);
+        let given = given_word(nodes, tables, i, begun, last, spare, handed);
+        let word = line_word(nodes, i, spare, given);
+        spare.set(i, word);
+        input = with_input(nodes.at(i), input);
+        state = with_state(nodes.at(i), state);
+    }
+}

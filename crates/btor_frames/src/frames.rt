@@ -1,0 +1,139 @@
+// The current frame, one row of words.
+ghost use Rattle.std.specs.Prelude.{◌≡◌, ◌<◌, ◌↔◌, ℕ, Bool, true, false, List, length, IfOk, IsTrue};
+ghost use Rattle.word_core.specs.Words.{BitVector};
+ghost use Rattle.btor_tree.specs.Fits.{count_of, is_bad, is_constraint};
+ghost use Rattle.btor_tree.specs.Frame.{word_at, operand, true_word, ConstraintsHold, IsBad};
+ghost use Rattle.btor_frames.specs.Steps.{IsStep, HandedFit};
+ghost use Rattle.btor_frames.specs.Held.{Held, FramesFit};
+
+use crate::fill::{fill, operand};
+use crate::handed::word_of;
+use crate::tables::Tables;
+use crate::words::Words;
+use btor_tree::{Arg, Nodes};
+use std::alloc::Global;
+use std::marker::Model;
+use std::mem;
+use text_core::NoMemory;
+use word_core::Word;
+
+/// The words of the current frame of a list of lines, and room for the next. The list stays with the caller, who hands
+/// the same one to each call.
+#[derive(Drop)]
+pub struct Frames {
+    row: Words,
+    spare: Words,
+    tables: Tables,
+    begun: bool,
+}
+
+impl Model for Frames {
+    ghost use Rattle.std.specs.Prelude.{◌≡◌, length};
+    ghost use Rattle.btor_frames.specs.Held.{Held};
+
+    ghost Value = { Held };
+
+    ghost view = { λ a. record { begun = a.begun; row = a.row; found = a.tables } };
+
+    ghost invariant = { λ a. length a.spare ≡ length a.row };
+}
+
+impl Frames {
+    /// No frame yet, and room for the frames of these lines.
+    pub fn new(alloc: Global, nodes: &Nodes) -> Result<Frames, NoMemory>
+        ensures fits { IfOk result (λ f. FramesFit nodes.now f) }
+        ensures none { IfOk result (λ f. f.begun ≡ false) }
+    {
+        let row = zeros(alloc, nodes.len())?;
+        let spare = zeros(alloc, nodes.len())?;
+        let tables = Tables::of(alloc, nodes)?;
+        Ok(Frames {
+            row,
+            spare,
+            tables,
+            begun: false,
+        })
+    }
+
+    /// Goes to the next frame: to frame 0 where there is none yet. `inputs` has a word for each input line and `free`
+    /// one for each state line, in order and of their widths. A word of `free` is read for a state without an init in
+    /// frame 0, and for a state without a next in every later frame. It takes no memory.
+    pub fn step(&mut self, nodes: &Nodes, inputs: &Words, free: &Words)
+        requires fits { FramesFit nodes.now self.old }
+        requires handed { HandedFit nodes.now inputs.now free.now }
+        ensures fits { FramesFit nodes.now self.new }
+        ensures begun { self.new.begun ≡ true }
+        ensures next { IsStep nodes.now self.old.begun self.old.row inputs.now free.now self.new.row }
+        ensures only { (row : List BitVector) → IsStep nodes.now self.old.begun self.old.row inputs.now free.now row
+            → row ≡ self.new.row }
+    {
+        let _count = nodes.len();
+        fill(
+            nodes,
+            &self.tables,
+            self.begun,
+            &self.row,
+            inputs,
+            free,
+            &mut self.spare,
+        );
+        mem::swap(&mut self.row, &mut self.spare);
+        self.begun = true;
+    }
+
+    /// Is every constraint true in the current frame? The caller owes a frame.
+    pub fn constraints_hold(&self, nodes: &Nodes) -> bool
+        requires fits { FramesFit nodes.now self.now }
+        requires begun { self.now.begun ≡ true }
+        ensures { IsTrue result ↔ ConstraintsHold nodes.now self.now.row }
+    {
+        let _count = nodes.len();
+        let constraints = self.tables.constraints();
+        for i in 0..constraints.len() {
+            if !is_true(&self.row, constraints.at(i)) {
+                return false;
+            }
+        }
+        true
+    }
+
+    /// Is bad line number j, counted from 0, true in the current frame? The caller owes a frame, and a number below
+    /// that of the bad lines.
+    pub fn bad(&self, nodes: &Nodes, j: u32) -> bool
+        requires fits { FramesFit nodes.now self.now }
+        requires begun { self.now.begun ≡ true }
+        requires there { j < count_of is_bad nodes.now }
+        ensures { IsTrue result ↔ IsBad nodes.now self.now.row j }
+    {
+        let _count = nodes.len();
+        is_true(&self.row, self.tables.bads().at(j as usize))
+    }
+
+    /// The word of the line at a place in the current frame. The caller owes a frame, and a line that has a word.
+    pub fn value(&self, line: u32) -> Word
+        requires { line < length self.now.row }
+        ensures { result ≡ word_at self.now.row line }
+    {
+        self.row.at(line as usize)
+    }
+}
+
+// Is the argument's word the 1 of one bit?
+fn is_true(row: &Words, a: &Arg) -> bool
+    requires { a.now.line < length row.now }
+    ensures { IsTrue result ↔ (operand row.now a.now ≡ true_word) }
+{
+    let word = operand(row, a);
+    word.width() == 1 && word.bits() == 1
+}
+
+// A list of zeros.
+fn zeros(alloc: Global, n: usize) -> Result<Words, NoMemory>
+    ensures { IfOk result (λ words. length words ≡ n) }
+{
+    let mut words = Words::new(alloc);
+    for _i in 0..n {
+        words.push(word_of(1, 0))?;
+    }
+    Ok(words)
+}

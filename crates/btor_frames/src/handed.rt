@@ -1,0 +1,102 @@
+// The words that are handed in for inputs and for states without a value.
+ghost use Rattle.std.specs.Prelude.{◌≡◌, ◌<◌, ◌+◌, ◌^◌, ◌↔◌, ℕ, Bool, true, false, if◌then◌else◌, List, length, take, Some, slice_get, IfSome, IsTrue};
+ghost use Rattle.word_core.specs.Words.{IsWord};
+ghost use Rattle.btor_tree.specs.Fits.{IsWellFormed, count_of, is_input, is_state};
+ghost use Rattle.btor_tree.specs.Frame.{word_at, GivenFits};
+ghost use Rattle.btor_frames.specs.Steps.{handed_at, HandedFit};
+
+use crate::words::Words;
+use btor_tree::{Line, LineOp, Nodes};
+use word_core::Word;
+
+// The word of a width and bits that fit.
+pub fn word_of(width: u32, bits: u128) -> Word
+    requires { IsWord (record { width = width; bits = bits }) }
+    ensures { result ≡ record { width = width; bits = bits } }
+{
+    Word::of(width, bits).unwrap()
+}
+
+// The word at a place, or a zero where there is none.
+fn word_or(words: &Words, i: usize) -> Word
+    ensures { result ≡ word_at words.now i }
+{
+    if i < words.len() {
+        words.at(i)
+    } else {
+        word_of(1, 0)
+    }
+}
+
+// The word that is handed in for a line, after so many inputs and states.
+pub fn handed_word(
+    nodes: &Nodes,
+    i: usize,
+    inputs: &Words,
+    free: &Words,
+    input: usize,
+    state: usize,
+) -> Word
+    requires inside { i < length nodes.now }
+    requires input_is { input ≡ count_of is_input (take i nodes.now) }
+    requires state_is { state ≡ count_of is_state (take i nodes.now) }
+    ensures { result ≡ handed_at nodes.now inputs.now free.now i }
+{
+    match nodes.at(i).op {
+        LineOp::Input => word_or(inputs, input),
+        LineOp::State => word_or(free, state),
+        _ => word_of(1, 0),
+    }
+}
+
+// One more, at an input line.
+pub fn with_input(line: &Line, n: usize) -> usize
+    requires { n < 2 ^ 63 }
+    ensures { result ≡ n + (if is_input line.now.op then 1 else 0) }
+{
+    match line.op {
+        LineOp::Input => n + 1,
+        _ => n,
+    }
+}
+
+// One more, at a state line.
+pub fn with_state(line: &Line, n: usize) -> usize
+    requires { n < 2 ^ 63 }
+    ensures { result ≡ n + (if is_state line.now.op then 1 else 0) }
+{
+    match line.op {
+        LineOp::State => n + 1,
+        _ => n,
+    }
+}
+
+// Does the word fit the line, where it is an input or a state?
+fn line_fits(nodes: &Nodes, i: usize, word: Word) -> bool
+    requires inside { i < length nodes.now }
+    requires well_formed { IsWellFormed nodes.now }
+    ensures { IsTrue result ↔ IfSome (slice_get nodes.now i) (λ l. GivenFits (take i nodes.now) l.sort l.op word) }
+{
+    match nodes.at(i).op {
+        LineOp::Input | LineOp::State => word.width() == nodes.width_of(i as u32),
+        _ => true,
+    }
+}
+
+/// Is there one word for each input line and one for each state line, in order and of their widths? `Frames::step`
+/// asks for such words.
+pub fn words_fit(nodes: &Nodes, inputs: &Words, free: &Words) -> bool
+    ensures { IsTrue result ↔ HandedFit nodes.now inputs.now free.now }
+{
+    let mut input = 0usize;
+    let mut state = 0usize;
+    for i in 0..nodes.len() {
+        let handed = handed_word(nodes, i, inputs, free, input, state);
+        if !line_fits(nodes, i, handed) {
+            return false;
+        }
+        input = with_input(nodes.at(i), input);
+        state = with_state(nodes.at(i), state);
+    }
+    inputs.len() == input && free.len() == state
+}

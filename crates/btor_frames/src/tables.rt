@@ -1,0 +1,151 @@
+// What lines give to states, and the arguments of bad and constraint lines, found once for all frames.
+ghost use Rattle.std.specs.Prelude.{◌≡◌, ◌<◌, ◌++◌, Bool, true, false, List, length, get_or, None, IfOk, OnOk, if◌then◌else◌};
+ghost use Rattle.btor_tree.specs.Fits.{AreEarlier, IsWellFormed, operands};
+ghost use Rattle.btor_frames.specs.Tables.{has_role, HoldsNone, HoldsValues, IsFoundIn, values_of, own_operands, noted};
+
+use btor_tree::{Arg, Args, Line, LineOp, Nodes};
+use std::alloc::Global;
+use std::marker::Model;
+use text_core::NoMemory;
+
+// The kinds of line whose arguments are kept.
+#[derive(Clone, Copy)]
+pub enum Role {
+    Init,
+    Next,
+    Bad,
+    Constraint,
+}
+
+/// The value of each state in frame 0 and in later frames, by the state's place, and the arguments of bad and
+/// constraint lines in order.
+#[derive(Drop)]
+pub struct Tables {
+    inits: Vec<Option<Arg>>,
+    nexts: Vec<Option<Arg>>,
+    bads: Args,
+    constraints: Args,
+}
+
+impl Model for Tables {
+    ghost use Rattle.btor_frames.specs.Tables.{Found};
+
+    ghost Value = { Found };
+
+    ghost view = { λ a. record { inits = a.inits.items; nexts = a.nexts.items; bads = a.bads; constraints = a.constraints } };
+}
+
+impl Tables {
+    /// What is found in these lines.
+    pub fn of(alloc: Global, nodes: &Nodes) -> Result<Tables, NoMemory>
+        ensures { IfOk result (λ tables. IsFoundIn nodes.now tables) }
+    {
+        Ok(Tables {
+            inits: values(alloc, nodes, Role::Init)?,
+            nexts: values(alloc, nodes, Role::Next)?,
+            bads: role_operands(alloc, nodes, Role::Bad)?,
+            constraints: role_operands(alloc, nodes, Role::Constraint)?,
+        })
+    }
+
+    /// What gives the state at a place its word: in a later frame, or else in frame 0.
+    pub fn value(&self, begun: bool, s: usize) -> Option<Arg>
+        requires { s < length (values_of begun self.now) }
+        ensures { result ≡ get_or (values_of begun self.now) s None }
+    {
+        if begun { self.nexts[s] } else { self.inits[s] }
+    }
+
+    /// The arguments of the bad lines.
+    pub fn bads(&self) -> &Args
+        ensures { result.now ≡ self.now.bads }
+    {
+        &self.bads
+    }
+
+    /// The arguments of the constraint lines.
+    pub fn constraints(&self) -> &Args
+        ensures { result.now ≡ self.now.constraints }
+    {
+        &self.constraints
+    }
+}
+
+// Is the line of this role?
+fn has_role(role: Role, op: &LineOp) -> bool
+    ensures { result ≡ has_role role op.now }
+{
+    match role {
+        Role::Init => matches!(op, LineOp::Init),
+        Role::Next => matches!(op, LineOp::Next),
+        Role::Bad => matches!(op, LineOp::Bad),
+        Role::Constraint => matches!(op, LineOp::Constraint),
+    }
+}
+
+// What the lines of a role give to each state, by the state's place.
+fn values(alloc: Global, nodes: &Nodes, role: Role) -> Result<Vec<Option<Arg>>, NoMemory>
+    ensures { IfOk result (λ values. HoldsValues (has_role role) nodes.now values.items) }
+{
+    let mut values = no_values(alloc, nodes.len())?;
+    for i in 0..nodes.len() {
+        note_value(&mut values, role, nodes.at(i));
+    }
+    Ok(values)
+}
+
+// A list of no values.
+fn no_values(alloc: Global, n: usize) -> Result<Vec<Option<Arg>>, NoMemory>
+    ensures { IfOk result (λ values. HoldsNone n values.items) }
+{
+    let mut values = Vec::new(alloc);
+    for _i in 0..n {
+        if values.push(None).is_err() {
+            return Err(NoMemory);
+        }
+    }
+    Ok(values)
+}
+
+// Enters what a line gives to a state, where it is of the role and the state has no value yet.
+fn note_value(values: &mut Vec<Option<Arg>>, role: Role, line: &Line)
+    requires { AreEarlier (length values.old.items) line.now.args }
+    ensures { values.new.items ≡ (if has_role role line.now.op then noted values.old.items line.now.args else values.old.items) }
+{
+    if has_role(role, &line.op) && line.args.len() == 2 {
+        let state = line.args.at(0).line as usize;
+        let value = *line.args.at(1);
+        values[state] = values[state].or(Some(value));
+    }
+}
+
+// The arguments of the lines of a role, in order.
+fn role_operands(alloc: Global, nodes: &Nodes, role: Role) -> Result<Args, NoMemory>
+    ensures { IfOk result (λ args. args ≡ operands (has_role role) nodes.now) }
+{
+    let mut args = Args::new(alloc);
+    for i in 0..nodes.len() {
+        add_operands(&mut args, role, nodes.at(i))?;
+    }
+    Ok(args)
+}
+
+// Adds the arguments of a line, where it is of the role.
+fn add_operands(args: &mut Args, role: Role, line: &Line) -> Result<(), NoMemory>
+    ensures { OnOk result (args.new ≡ args.old ++ own_operands (has_role role) line.now) }
+{
+    if has_role(role, &line.op) {
+        add_all(args, &line.args)?;
+    }
+    Ok(())
+}
+
+// Adds arguments at the end.
+fn add_all(args: &mut Args, more: &Args) -> Result<(), NoMemory>
+    ensures { OnOk result (args.new ≡ args.old ++ more.now) }
+{
+    for i in 0..more.len() {
+        args.push(*more.at(i))?;
+    }
+    Ok(())
+}

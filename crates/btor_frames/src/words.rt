@@ -1,0 +1,67 @@
+// Lists of words.
+ghost use Rattle.std.specs.Prelude.{◌≡◌, ◌<◌, [], ◌∷◌, ◌++◌, length, Some, slice_get, slice_set, OnOk, OnErr};
+
+use std::alloc::Global;
+use std::marker::Model;
+use text_core::NoMemory;
+use word_core::Word;
+
+/// A list of words, each of its own width.
+#[derive(Drop)]
+pub struct Words {
+    items: Vec<Word>,
+}
+
+impl Model for Words {
+    ghost use Rattle.std.specs.Prelude.{List};
+    ghost use Rattle.word_core.specs.Words.{BitVector};
+
+    ghost Value = { List BitVector };
+
+    ghost view = { λ a. a.items.items };
+}
+
+impl Words {
+    /// No words. It takes no memory.
+    pub fn new(alloc: Global) -> Words
+        ensures { result ≡ [] }
+    {
+        Words {
+            items: Vec::new(alloc),
+        }
+    }
+
+    /// Adds a word at the end, and leaves the list unchanged where it is refused.
+    pub fn push(&mut self, x: Word) -> Result<(), NoMemory>
+        ensures ok { OnOk result (self.new ≡ self.old ++ x ∷ []) }
+        ensures err { OnErr result (self.new ≡ self.old) }
+    {
+        match self.items.push(x) {
+            Ok(()) => Ok(()),
+            Err(_) => Err(NoMemory),
+        }
+    }
+
+    /// How many words there are.
+    pub fn len(&self) -> usize
+        ensures { result ≡ length self.now }
+    {
+        self.items.len()
+    }
+
+    /// The word at a place, counted from 0.
+    pub fn at(&self, i: usize) -> Word
+        requires { i < length self.now }
+        ensures { slice_get self.now i ≡ Some result }
+    {
+        self.items[i]
+    }
+
+    /// Puts a word in place of the one at a place. It takes no memory.
+    pub fn set(&mut self, i: usize, x: Word)
+        requires { i < length self.old }
+        ensures { self.new ≡ slice_set self.old i x }
+    {
+        self.items[i] = x;
+    }
+}

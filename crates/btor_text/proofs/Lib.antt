@@ -1,0 +1,5 @@
+mod Numbers
+mod Fronts
+mod Search
+mod MarkLaws
+mod Laws

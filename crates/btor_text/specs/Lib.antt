@@ -1,0 +1,4 @@
+pub mod Bytes
+pub mod Seen
+pub mod Marks
+pub mod Answer

@@ -1,0 +1,137 @@
+// Earlier lines by their ids.
+ghost use Rattle.std.specs.Prelude.{◌≡◌};
+ghost use Rattle.btor_tree.specs.Fits.{is_constant, is_state, has_word, kind_at, sort_at, sort_width, width_at};
+ghost use Rattle.btor_tree.specs.Resolving.{line_ids, place_in, sort_of_id, state_of_id, word_of_id};
+
+use btor_tree::{LineOp, Nodes};
+
+// The place of the line of an id.
+fn place_of(nodes: &Nodes, id: u32) -> Option<u32>
+    ensures { result ≡ place_in id (line_ids nodes.now) }
+{
+    let mut low = 0;
+    let mut high = nodes.len();
+    'search: while low < high {
+        let middle = low + (high - low) / 2;
+        let there = nodes.at(middle).id;
+        if there == id {
+            return Some(middle as u32);
+        }
+        if there < id {
+            low = middle + 1;
+        } else {
+            high = middle;
+        }
+    }
+    None
+}
+
+fn sort_width(op: &LineOp) -> u32
+    ensures { result ≡ sort_width op.now }
+{
+    match op {
+        LineOp::Sort(width) => *width,
+        _ => 0,
+    }
+}
+
+fn has_word(op: &LineOp) -> bool
+    ensures { result ≡ has_word op.now }
+{
+    match op {
+        LineOp::Sort(_)
+        | LineOp::Init
+        | LineOp::Next
+        | LineOp::Bad
+        | LineOp::Constraint
+        | LineOp::Output => false,
+        _ => true,
+    }
+}
+
+/// The width of the sort line at a place, or 0.
+pub fn sort_at(nodes: &Nodes, place: u32) -> u32
+    ensures { result ≡ sort_at nodes.now place }
+{
+    if (place as usize) < nodes.len() {
+        sort_width(&nodes.at(place as usize).op)
+    } else {
+        0
+    }
+}
+
+/// The width of the word of the line at a place, or 0.
+pub fn width_at(nodes: &Nodes, place: u32) -> u32
+    ensures { result ≡ width_at nodes.now place }
+{
+    if place as usize >= nodes.len() {
+        return 0;
+    }
+    let line = nodes.at(place as usize);
+    if has_word(&line.op) {
+        sort_at(nodes, line.sort)
+    } else {
+        0
+    }
+}
+
+fn is_state_at(nodes: &Nodes, place: u32) -> bool
+    ensures { result ≡ kind_at is_state nodes.now place }
+{
+    if place as usize >= nodes.len() {
+        return false;
+    }
+    match nodes.at(place as usize).op {
+        LineOp::State => true,
+        _ => false,
+    }
+}
+
+/// Whether the line at a place is a constant.
+pub fn is_constant_at(nodes: &Nodes, place: u32) -> bool
+    ensures { result ≡ kind_at is_constant nodes.now place }
+{
+    if place as usize >= nodes.len() {
+        return false;
+    }
+    match nodes.at(place as usize).op {
+        LineOp::Constant(_) | LineOp::One | LineOp::Zero | LineOp::Ones => true,
+        _ => false,
+    }
+}
+
+/// The place of the sort line of an id.
+pub fn sort_of_id(nodes: &Nodes, id: u32) -> Option<u32>
+    ensures { result ≡ sort_of_id nodes.now id }
+{
+    let place = place_of(nodes, id)?;
+    if sort_at(nodes, place) > 0 {
+        Some(place)
+    } else {
+        None
+    }
+}
+
+/// The place of the state line of an id.
+pub fn state_of_id(nodes: &Nodes, id: u32) -> Option<u32>
+    ensures { result ≡ state_of_id nodes.now id }
+{
+    let place = place_of(nodes, id)?;
+    if is_state_at(nodes, place) {
+        Some(place)
+    } else {
+        None
+    }
+}
+
+/// The place of the line of an id that has a word.
+pub fn word_of_id(nodes: &Nodes, id: u32) -> Option<u32>
+    ensures { result ≡ word_of_id nodes.now id }
+{
+    let place = place_of(nodes, id)?;
+    if width_at(nodes, place) > 0 {
+        Some(place)
+    } else {
+        None
+    }
+}

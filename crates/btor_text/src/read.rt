@@ -1,0 +1,211 @@
+// The reader.
+ghost use Rattle.std.specs.Prelude.{◌≡◌, ◌≤◌, ◌^◌, ℕ, List, length, IfOk, IfErr, IfSome};
+ghost use Rattle.text_core.specs.declared.place.Kind.TheVariants as kind;
+ghost use Rattle.btor_tree.specs.declared.lines.Line as node;
+ghost use Rattle.btor_tree.specs.Parts.{parts, line_parts};
+ghost use Rattle.btor_tree.specs.Fits.{Fits, IsWellFormed};
+ghost use Rattle.btor_tree.specs.Resolving as rules;
+ghost use Rattle.btor_tree.specs.Reading.{next_of};
+ghost use Rattle.btor_tree.specs.Texts.{SpellsLines, RefusesText};
+ghost use Rattle.btor_text.specs.Seen.{line_of, seen_arguments, seen_fault, seen_shape, seen_symbol};
+ghost use Rattle.btor_text.specs.Answer.{Answers, Fails, Gives, IsRefused, IsResolved, Stops, Takes, kind_of};
+
+use crate::bytes::{clean, first_part, line_length};
+use crate::progress::Progress;
+use crate::resolve::{Arguments, Body, Fault, resolve};
+use crate::shape::{Shape, shape_of};
+use btor_tree::{Args, Line, Nodes, one_arg, three_args, two_args};
+use std::alloc::Global;
+use text_core::{Kind, Name, NoMemory, Place, Refusal};
+
+/// Why a text has no lines: the first line that can't follow the lines before it, or want of memory. The place of a
+/// refusal is the beginning of that line.
+#[derive(Debug, Drop)]
+pub enum BtorEnd {
+    Bad(Refusal),
+    NoMemory,
+}
+
+/// Why a line isn't taken.
+#[derive(Debug, Drop)]
+pub enum LineEnd {
+    Bad(Fault),
+    NoMemory,
+}
+
+impl From<NoMemory> for LineEnd {
+    ghost use Rattle.std.specs.Prelude.{◌≡◌};
+    ghost use Rattle.btor_text.specs.declared.read.LineEnd.TheVariants.{NoMemory};
+
+    ghost from_gives = { λ _ e. e ≡ NoMemory };
+
+    fn from(_: NoMemory) -> LineEnd {
+        LineEnd::NoMemory
+    }
+}
+
+fn args_of(alloc: Global, arguments: Arguments) -> Result<Args, NoMemory>
+    ensures { IfOk result (λ args. args ≡ seen_arguments arguments) }
+{
+    match arguments {
+        Arguments::None => Ok(Args::new(alloc)),
+        Arguments::One(a) => one_arg(alloc, a),
+        Arguments::Two(a, b) => two_args(alloc, a, b),
+        Arguments::Three(a, b, c) => three_args(alloc, a, b, c),
+    }
+}
+
+fn symbol_of(alloc: Global, symbol: Option<&[u8]>) -> Result<Option<Name>, NoMemory>
+    ensures { IfOk result (λ name. name ≡ seen_symbol symbol.entry) }
+{
+    match symbol {
+        None => Ok(None),
+        Some(bytes) => {
+            let name = Name::of(alloc, bytes)?;
+            Ok(Some(name))
+        }
+    }
+}
+
+// The line of a shape, with what was found for it.
+fn built(alloc: Global, shape: &Shape<'_>, body: Body) -> Result<Line, NoMemory>
+    ensures { IfOk result (λ line. line ≡ rules.filled (seen_shape shape.now) body.op body.sort (seen_arguments body.args)) }
+{
+    let Body { op, sort, args } = body;
+    let args = args_of(alloc, args)?;
+    let symbol = symbol_of(alloc, shape.symbol)?;
+    Ok(Line {
+        id: shape.id,
+        op,
+        sort,
+        args,
+        symbol,
+    })
+}
+
+// What a shape is behind the lines so far.
+fn shaped_line(alloc: Global, progress: &Progress, shape: &Shape<'_>) -> Result<Line, LineEnd>
+    ensures { IsResolved result (rules.resolve progress.now (seen_shape shape.now)) }
+{
+    match resolve(progress, shape) {
+        Ok(body) => {
+            let line = built(alloc, shape, body)?;
+            Ok(line)
+        }
+        Err(fault) => Err(LineEnd::Bad(fault)),
+    }
+}
+
+// What the parts of a line are behind the lines so far.
+fn next_line(alloc: Global, progress: &Progress, line: &[u8]) -> Result<Option<Line>, LineEnd>
+    ensures next { Answers result (next_of progress.now (parts line.now)) }
+    ensures fits { IfOk result (λ o. IfSome o (λ l. Fits progress.now l)) }
+{
+    let Some(_) = first_part(line) else {
+        return Ok(None)
+    };
+    let Some(shape) = shape_of(line) else {
+        return Err(LineEnd::Bad(Fault::NoShape))
+    };
+    match shaped_line(alloc, progress, &shape) {
+        Ok(line) => Ok(Some(line)),
+        Err(end) => Err(end),
+    }
+}
+
+// Takes one line of a text, with a buffer that is free for it.
+fn take_line(
+    alloc: Global,
+    progress: Progress,
+    buffer: &mut Vec<u8>,
+    raw: &[u8],
+) -> Result<Progress, LineEnd>
+    ensures takes { IfOk result (λ new. Takes (next_of progress (line_parts raw.now)) progress new) }
+    ensures fails { IfErr result (Fails (next_of progress (line_parts raw.now))) }
+{
+    clean(buffer, raw)?;
+    match next_line(alloc, &progress, buffer.as_slice())? {
+        Some(line) => {
+            let more = progress.add(line)?;
+            Ok(more)
+        }
+        None => Ok(progress),
+    }
+}
+
+fn kind_of(fault: Fault) -> Kind
+    ensures { result ≡ kind_of (seen_fault fault) }
+{
+    match fault {
+        Fault::NoShape => Kind::B(1),
+        Fault::IdOrder => Kind::B(2),
+        Fault::NoSuchNode => Kind::B(3),
+        Fault::SortClash => Kind::B(4),
+        Fault::NotSupported => Kind::B(5),
+        Fault::WideSort => Kind::B(6),
+        Fault::Twice => Kind::B(7),
+        Fault::InitLate => Kind::B(8),
+    }
+}
+
+// The refusal of the line with this number that begins at the offset.
+fn refusal(fault: Fault, line: u32, offset: u32) -> Refusal
+    ensures kind { result.kind ≡ kind_of (seen_fault fault) }
+    ensures line { result.place.line ≡ line }
+    ensures column { result.place.column ≡ 1 }
+{
+    let place = Place {
+        line,
+        column: 1,
+        offset,
+    };
+    Refusal {
+        kind: kind_of(fault),
+        place,
+    }
+}
+
+// The lines of a text, or the first that can't follow.
+fn nodes_of(alloc: Global, text: &[u8]) -> Result<Nodes, BtorEnd>
+    requires { length text.now ≤ 2 ^ 31 }
+    ensures spelled { IfOk result (λ nodes. SpellsLines text.now nodes) }
+    ensures refused { IfErr result (IsRefused text.now) }
+{
+    let mut progress = Progress::new(alloc);
+    let mut buffer = Vec::new(alloc);
+    let mut rest = text;
+    let mut number = 1;
+    'lines: loop {
+        let (raw, more) = rest.split_at(line_length(rest));
+        match take_line(alloc, progress, &mut buffer, raw) {
+            Ok(taken) => progress = taken,
+            Err(end) => match end {
+                LineEnd::Bad(fault) => {
+                    let offset = (text.len() - rest.len()) as u32;
+                    return Err(BtorEnd::Bad(refusal(fault, number, offset)));
+                }
+                LineEnd::NoMemory => return Err(BtorEnd::NoMemory),
+            },
+        }
+        let Some((_, last)) = more.split_first() else {
+            return Ok(progress.done())
+        };
+        rest = last;
+        number += 1;
+    }
+}
+
+/// The lines that a BTOR2 text spells, or the kind and the line of its first refusal.
+pub fn read_btor(alloc: Global, text: &[u8]) -> Result<Nodes, BtorEnd>
+    requires { length text.now ≤ 2 ^ 31 }
+    // The text spells the lines.
+    ensures spelled { IfOk result (λ nodes. SpellsLines text.now nodes) }
+    // What it spells is read, unless memory runs out.
+    ensures exact { (lines : List node.Line) → SpellsLines text.now lines → Gives lines result }
+    // The text is refused at this line.
+    ensures refused { IfErr result (IsRefused text.now) }
+    // As it is refused, so it is answered, unless memory runs out.
+    ensures stops { (fault : rules.Fault) (at : ℕ) → RefusesText text.now fault at → Stops fault at result }
+{
+    nodes_of(alloc, text)
+}
