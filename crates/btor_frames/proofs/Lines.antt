@@ -12,13 +12,12 @@ use Rattle.btor_tree.specs.declared.lines.Line.{Line}
 use Rattle.btor_tree.specs.declared.lines.LineOp.{LineOp}
 use Rattle.btor_tree.specs.declared.lines.LineOp.TheVariants.{Constant, One, Zero, Ones, Unary, Binary, Ite, Slice, Uext, Sext}
 use Rattle.btor_tree.specs.Fits.{OnOne, OnTwo, OnThree, has_word, AreEarlier, OpFits, IsWellFormed, sort_at, width_at, kind_at, is_constant, state_value}
-use Rattle.btor_tree.specs.Frame.{nothing, word_at, signed_word, operand, init_operand, constant_word, constant_of, IsFrame, read_or}
+use Rattle.btor_tree.specs.Frame.{nothing, word_at, signed_word, operand, constant_word, constant_of, IsFrame, read_or}
 use Rattle.btor_tree.proofs.Words.{computed}
 use Rattle.btor_tree.proofs.Widths.{sort_small, sort_there, sort_front, one_lt, Wide, wide, operand_is, line_at}
 use Rattle.btor_tree.proofs.Paths.{well_formed_take, init_facts, next_facts, init_operand_same, line_of_kind, constant_at, constant_at_wide}
 use Rattle.btor_tree.proofs.Grows.{slice_get_inside, lines_short}
 use Rattle.btor_frames.specs.Steps.{value_kind, value_word}
-use Rattle.btor_frames.proofs.Finding.{earlier_inside}
 
 -- a constant line is there, and its width is that of a word
 pub record ConstantFacts (lines : List Line) (i : ℕ) : Type 0 where

@@ -67,6 +67,7 @@ impl Frames {
         ensures only { (row : List BitVector) → IsStep nodes.now self.old.begun self.old.row inputs.now free.now row
             → row ≡ self.new.row }
     {
+        // This call's contract says that the lines fit one another.
         let _count = nodes.len();
         fill(
             nodes,
@@ -87,6 +88,7 @@ impl Frames {
         requires begun { self.now.begun ≡ true }
         ensures { IsTrue result ↔ ConstraintsHold nodes.now self.now.row }
     {
+        // This call's contract says that the lines fit one another.
         let _count = nodes.len();
         let constraints = self.tables.constraints();
         for i in 0..constraints.len() {
@@ -105,6 +107,7 @@ impl Frames {
         requires there { j < count_of is_bad nodes.now }
         ensures { IsTrue result ↔ IsBad nodes.now self.now.row j }
     {
+        // This call's contract says that the lines fit one another.
         let _count = nodes.len();
         is_true(&self.row, self.tables.bads().at(j as usize))
     }

@@ -1,7 +1,7 @@
 -- The first part of a line, and the first line of a text.
 use Rattle.std.proofs.Common.{◌≡◌, ◌+◌, ℕ, suc, Bool, true, false, eqb, List, [], ◌∷◌, take, drop, sym, ap, ◌∙◌, add-one, inl, inr, refl}
 use Rattle.std.proofs.lemmas.Bool.{cond-true, cond-false, cases_Bool}
-use Rattle.btor_tree.specs.Parts.{Parts, is_blank, parts, onto_part, onto_line, raw_lines}
+use Rattle.btor_tree.specs.Parts.{is_blank, parts, onto_part, onto_line, raw_lines}
 use Rattle.btor_text.specs.Bytes.{part_length, line_length, split_line, front_line, StartsPart}
 
 front_step : (t : Bool) (b c : ℕ) (bs : List ℕ) (n : ℕ) → (t ≡ true → n ≡ 0) → (t ≡ false → parts (c ∷ bs) ≡ take n (c ∷ bs) ∷ parts (drop n (c ∷ bs)))

@@ -1,13 +1,13 @@
 -- What the reader answers is what the text spells, or its first fault.
-use Rattle.std.proofs.Common.{◌≡◌, ◌≢◌, ◌≤◌, ℕ, ◌+◌, List, [], ◌∷◌, ◌++◌, Option, Some, None, Result, Ok, Err, refl, sym, ap, ◌∙◌, subst}
+use Rattle.std.proofs.Common.{◌≡◌, ◌≢◌, ℕ, ◌+◌, List, [], ◌∷◌, Option, Some, Result, Ok, Err, refl, ap, ◌∙◌, subst}
 use Rattle.std.specs.Prelude.{IfOk, IfErr}
 use Rattle.btor_tree.specs.declared.lines.Line.{Line}
 use Rattle.btor_tree.specs.Fits.{Fits}
-use Rattle.btor_tree.specs.Parts.{Parts, raw_lines, line_parts}
+use Rattle.btor_tree.specs.Parts.{Parts, line_parts}
 use Rattle.btor_tree.specs.Shapes.{Shape}
 use Rattle.btor_tree.specs.Reading.{shape_of, shaped_next, resolved, next_of}
 use Rattle.btor_tree.specs.Resolving.{Fault, resolve}
-use Rattle.btor_tree.specs.Texts.{Next, nothing, good, faulty, IsNext, Reads, ends, passed, line, Refuses, here, past_blank, past_line, SpellsLines, RefusesText}
+use Rattle.btor_tree.specs.Texts.{Next, nothing, good, faulty, IsNext, Reads, passed, line, Refuses, here, past_blank, past_line, SpellsLines, RefusesText}
 use Rattle.btor_tree.proofs.Readings.{next_there, one_list, no_list, one_fault}
 use Rattle.btor_tree.proofs.ShapeLaws.{shape_from}
 use Rattle.btor_tree.proofs.Resolved.{resolve_fits}

@@ -2,10 +2,9 @@
 use Rattle.std.specs.Prelude.{◌≡◌, ℕ, List, ◌∷◌, [], ◌++◌, Result, Ok, Err, Option, Some, None}
 use Rattle.text_core.specs.declared.place.Kind.{Kind}
 use Rattle.text_core.specs.declared.place.Kind.TheVariants.{B}
-use Rattle.text_core.specs.declared.place.Refusal.{Refusal}
 use Rattle.btor_tree.specs.declared.lines.Line.{Line}
 use Rattle.btor_tree.specs.Resolving.{Fault, no_shape, not_supported, id_order, wide_sort, no_such_node, sort_clash, twice, init_late}
-use Rattle.btor_tree.specs.Texts.{Next, nothing, good, faulty, SpellsLines, RefusesText}
+use Rattle.btor_tree.specs.Texts.{Next, nothing, good, faulty, RefusesText}
 use Rattle.btor_text.specs.Seen.{seen_fault}
 use Rattle.btor_text.specs.declared.read.BtorEnd.{BtorEnd}
 use Rattle.btor_text.specs.declared.read.BtorEnd.TheVariants.{Bad, NoMemory}

@@ -1,5 +1,5 @@
 -- Lines, parts and numbers of a text, byte by byte.
-use Rattle.std.specs.Prelude.{◌≡◌, ◌==◌, ◌+◌, ◌-◌, ◌*◌, ℕ, min, Bool, true, false, if◌then◌else◌, Option, Some, None, List, [], ◌∷◌, take, drop}
+use Rattle.std.specs.Prelude.{◌≡◌, ◌==◌, ◌+◌, ◌-◌, ◌*◌, ℕ, min, false, if◌then◌else◌, Option, Some, None, List, [], ◌∷◌, take, drop}
 use Rattle.std.specs.Borrow.{Bor}
 use Rattle.btor_tree.specs.Parts.{Parts, cap, is_blank, is_digit, parts, raw_lines}
 

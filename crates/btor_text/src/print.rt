@@ -1,8 +1,6 @@
 // The printed form of lines, and what it spells.
 
-ghost use Rattle.std.specs.Prelude.{◌≡◌, ◌<◌, ◌++◌, [], ◌∷◌, List, ℕ, map, length, decimal, OnOk, IfOk};
-ghost use Rattle.btor_tree.specs.declared.lines.Line.{Line};
-ghost use Rattle.btor_tree.specs.Fits.{IsWellFormed};
+ghost use Rattle.std.specs.Prelude.{◌≡◌, ◌++◌, [], ◌∷◌, map, decimal, OnOk, IfOk};
 ghost use Rattle.btor_tree.specs.Shapes.{unary_text, binary_text, symbol_parts};
 ghost use Rattle.btor_tree.specs.Texts.{SpellsLines};
 ghost use Rattle.btor_tree.specs.Printing.{id_at, operand_text, op_text, sort_parts, number_parts, spaced, line_text, printed};

@@ -1,13 +1,12 @@
 // The reader.
 ghost use Rattle.std.specs.Prelude.{◌≡◌, ◌≤◌, ◌^◌, ℕ, List, length, IfOk, IfErr, IfSome};
-ghost use Rattle.text_core.specs.declared.place.Kind.TheVariants as kind;
 ghost use Rattle.btor_tree.specs.declared.lines.Line as node;
 ghost use Rattle.btor_tree.specs.Parts.{parts, line_parts};
-ghost use Rattle.btor_tree.specs.Fits.{Fits, IsWellFormed};
+ghost use Rattle.btor_tree.specs.Fits.{Fits};
 ghost use Rattle.btor_tree.specs.Resolving as rules;
 ghost use Rattle.btor_tree.specs.Reading.{next_of};
 ghost use Rattle.btor_tree.specs.Texts.{SpellsLines, RefusesText};
-ghost use Rattle.btor_text.specs.Seen.{line_of, seen_arguments, seen_fault, seen_shape, seen_symbol};
+ghost use Rattle.btor_text.specs.Seen.{seen_arguments, seen_fault, seen_shape, seen_symbol};
 ghost use Rattle.btor_text.specs.Answer.{Answers, Fails, Gives, IsRefused, IsResolved, Stops, Takes, kind_of};
 
 use crate::bytes::{clean, first_part, line_length};

@@ -27,14 +27,26 @@ const REFUSED: [(&[u8], u8, u32); 52] = [
     (b"1 sort bitvec 1\n2 not 1 2147483648", 3, 2),
     (b"1 sort bitvec 1\n2 input 1\n3 next 1 2 2", 3, 3),
     (b"1 sort bitvec 1\n2 input 1\n3 bad 2\n4 not 1 3", 3, 4),
-    (b"1 sort bitvec 1\n2 sort bitvec 2\n3 input 2\n4 not 1 3", 4, 4),
+    (
+        b"1 sort bitvec 1\n2 sort bitvec 2\n3 input 2\n4 not 1 3",
+        4,
+        4,
+    ),
     (b"1 sort bitvec 2\n2 input 1\n3 bad 2", 4, 3),
     (b"1 sort bitvec 2\n2 const 1 1", 4, 2),
     (b"1 sort bitvec 4\n2 constd 1 -9", 4, 2),
     (b"1 sort bitvec 4\n2 constd 1 16", 4, 2),
     (b"1 sort bitvec 4\n2 consth 1 1f", 4, 2),
-    (b"1 sort bitvec 2\n2 sort bitvec 1\n3 input 1\n4 slice 2 3 0 1", 4, 4),
-    (b"1 sort bitvec 2\n2 sort bitvec 1\n3 input 1\n4 slice 2 3 2 2", 4, 4),
+    (
+        b"1 sort bitvec 2\n2 sort bitvec 1\n3 input 1\n4 slice 2 3 0 1",
+        4,
+        4,
+    ),
+    (
+        b"1 sort bitvec 2\n2 sort bitvec 1\n3 input 1\n4 slice 2 3 2 2",
+        4,
+        4,
+    ),
     (b"1 sort bitvec 64\n2 input 1\n3 concat 1 2 2", 4, 3),
     (b"1 sort bitvec 2\n2 input 1\n3 ite 1 2 2 2", 4, 3),
     (b"1 sort array 1 1", 5, 1),
@@ -53,14 +65,25 @@ const REFUSED: [(&[u8], u8, u32); 52] = [
     (b"2 sort bitvec 1\n1 sdivo", 5, 2),
     (b"1 sort bitvec 65", 6, 1),
     (b"1 sort bitvec 0", 6, 1),
-    (b"1 sort bitvec 1\n2 zero 1\n3 state 1\n4 init 1 3 2\n5 init 1 3 2", 7, 5),
-    (b"1 sort bitvec 1\n2 state 1\n3 next 1 2 2\n4 next 1 2 2", 7, 4),
+    (
+        b"1 sort bitvec 1\n2 zero 1\n3 state 1\n4 init 1 3 2\n5 init 1 3 2",
+        7,
+        5,
+    ),
+    (
+        b"1 sort bitvec 1\n2 state 1\n3 next 1 2 2\n4 next 1 2 2",
+        7,
+        4,
+    ),
     (b"1 sort bitvec 1\n2 state 1\n3 input 1\n4 init 1 2 3", 8, 4),
     (b"1 sort bitvec 1\n2 state 1\n3 init 1 2 2", 8, 3),
 ];
 
 // Whether the text is refused so.
 fn is_refused(alloc: Global, text: &[u8], number: u8, line: u32) -> bool {
+    if text.len() > 1000 {
+        return false;
+    }
     match read_btor(alloc, text) {
         Err(BtorEnd::Bad(refusal)) => {
             refusal.kind == Kind::B(number) && refusal.place.line == line
@@ -103,6 +126,9 @@ const READ: [(&[u8], &[u8]); 8] = [
 
 // Whether the text is read, and printed so.
 fn is_read(alloc: Global, text: &[u8], printed: &[u8]) -> bool {
+    if text.len() > 1000 {
+        return false;
+    }
     match read_btor(alloc, text) {
         Ok(nodes) => match print_btor(alloc, &nodes) {
             Ok(out) => out.bytes() == printed,

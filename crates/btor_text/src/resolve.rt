@@ -1,11 +1,9 @@
 // What a line is behind the lines before it.
 ghost use Rattle.std.specs.Prelude.{◌≡◌};
-ghost use Rattle.word_core.specs.declared.word.TheConstants.{WIDEST};
-ghost use Rattle.btor_tree.specs.Fits.{IsWellFormed, sort_at, width_at};
 ghost use Rattle.word_core.specs.Table as table;
 ghost use Rattle.btor_tree.specs.Shapes as shapes;
 ghost use Rattle.btor_tree.specs.Resolving as rules;
-ghost use Rattle.btor_text.specs.Seen.{line_of, seen_arguments, seen_base, seen_binding, seen_content, seen_extension, seen_operand, seen_property, seen_shape, seen_source};
+ghost use Rattle.btor_text.specs.Seen.{line_of, seen_base, seen_binding, seen_content, seen_extension, seen_operand, seen_property, seen_shape, seen_source};
 
 use crate::place::{is_constant_at, sort_at, sort_of_id, state_of_id, width_at, word_of_id};
 use crate::progress::Progress;
@@ -119,12 +117,7 @@ fn resolve_source(nodes: &Nodes, kind: Source, sort: u32) -> Result<Body, Fault>
     })
 }
 
-fn resolve_constant(
-    nodes: &Nodes,
-    kind: Base,
-    sort: u32,
-    digits: &[u8],
-) -> Result<Body, Fault>
+fn resolve_constant(nodes: &Nodes, kind: Base, sort: u32, digits: &[u8]) -> Result<Body, Fault>
     ensures { (sh : shapes.Shape) → line_of sh result ≡ rules.resolve_content nodes.now sh (shapes.constant_content (seen_base kind) sort digits.now) }
 {
     let Some(sort) = sort_of_id(nodes, sort) else {

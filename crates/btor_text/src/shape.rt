@@ -6,7 +6,9 @@ ghost use Rattle.btor_tree.specs.Reading.{sort_args, source_args, constant_args,
 ghost use Rattle.btor_text.specs.Seen.{seen_base, seen_binding, seen_content, seen_extension, seen_operand, seen_property, seen_read, seen_shape, seen_source, seen_word};
 
 use crate::bytes::{first_part, is_symbol, numeral};
-use crate::word::{Base, Binding, Extension, LineWord, Property, Source, is_literal, is_unsupported, word_of};
+use crate::word::{
+    Base, Binding, Extension, LineWord, Property, Source, is_literal, is_unsupported, word_of,
+};
 use btor_tree::GREATEST_ID;
 use word_core::{Binary, Unary};
 

@@ -124,19 +124,8 @@ const WORDS: [(&[u8], LineWord); 55] = [
 
 // The words that are left out.
 const UNSUPPORTED: [&[u8]; 13] = [
-    b"fair",
-    b"justice",
-    b"rol",
-    b"ror",
-    b"read",
-    b"write",
-    b"saddo",
-    b"uaddo",
-    b"smulo",
-    b"umulo",
-    b"ssubo",
-    b"usubo",
-    b"sdivo",
+    b"fair", b"justice", b"rol", b"ror", b"read", b"write", b"saddo", b"uaddo", b"smulo", b"umulo",
+    b"ssubo", b"usubo", b"sdivo",
 ];
 
 fn look_up(text: &[u8], table: &[(&[u8], LineWord)]) -> Option<LineWord>
@@ -204,9 +193,7 @@ fn magnitude_of(text: &[u8]) -> &[u8]
     ensures { result.now ≡ magnitude_of text.now }
 {
     match text.split_first() {
-        Some((b, digits)) => {
-            if *b == b'-' { digits } else { text }
-        }
+        Some((b, digits)) => { if *b == b'-' { digits } else { text } }
         None => text,
     }
 }

@@ -17,3 +17,6 @@ pub mod Parts
 pub mod Heads
 pub mod Truth
 pub mod Both
+pub mod Judgements
+pub mod JudgeLemmas
+pub mod SinkLemmas

@@ -2,14 +2,15 @@
 ghost use Rattle.std.specs.Prelude.{◌≡◌, ◌⊎◌, ◌<◌, ◌≤◌, map, string_bytes, Ok, IfOk, IfErr, IfSome, IsErrAnd, length, vec_len};
 ghost use Rattle.text_core.specs.Outside.{Rose};
 ghost use Rattle.moxi_cli.specs.Words.{command_of};
-ghost use Rattle.moxi_cli.specs.Outcome.{IsTranslation, MayAnswer, MayGive, GoesOn, SaysUnread, at_start, smv_model, status_of, text_of};
+ghost use Rattle.moxi_cli.specs.Outcome.{IsTranslation, MayAnswer, MayGive, GoesOn, SaysUnread, smv_model, status_of};
 ghost use Rattle.moxi_cli.specs.Stop.{MayStop, StopsUnread};
 
+use crate::judge::judge_files;
 use crate::status::Status;
 use crate::translate::{SMV_LIMIT, translate};
 use crate::words::{Command, read_command};
 use std::alloc::Global;
-use text_core::{Kind, Name, NoMemory, Place, ReadEnd, Refusal, Shelf, Text, read_whole};
+use text_core::{Clause, Kind, Name, NoMemory, Place, ReadEnd, Refusal, Shelf, Text, read_whole};
 
 /// What a run is to answer.
 #[derive(Debug, Drop)]
@@ -20,6 +21,12 @@ pub enum Answer {
     Unread(Name),
     /// The model is refused.
     Refuses(Refusal),
+    /// The second file is refused.
+    SecondRefuses(Refusal),
+    /// The stated run fails this clause first, at this step.
+    Denies(u32, Clause),
+    /// The stated run shows this bad line, at this step.
+    Judges(u32, u32),
     /// This text is to be written.
     Writes(Text),
 }
@@ -40,17 +47,9 @@ impl Answer {
             Answer::Misread => Status::Usage,
             Answer::Unread(_) => Status::ReadFault,
             Answer::Refuses(_) => Status::Refused,
-            Answer::Writes(_) => Status::Done,
-        }
-    }
-
-    /// The whole text that it writes.
-    pub fn text(&self) -> &[u8]
-        ensures { result.now ≡ text_of self.now }
-    {
-        match self {
-            Answer::Writes(text) => text.bytes(),
-            _ => &[],
+            Answer::SecondRefuses(_) => Status::SecondRefused,
+            Answer::Denies(_, _) => Status::No,
+            Answer::Judges(_, _) | Answer::Writes(_) => Status::Done,
         }
     }
 }
@@ -68,6 +67,7 @@ pub fn answer_words<F: Shelf>(
     match read_command(alloc, words)? {
         None => Ok(Answer::Misread),
         Some(Command::SmvToBtor(model)) => smv_to_btor(alloc, &model, shelf),
+        Some(Command::JudgeBtor(model, second)) => judge_files(alloc, &model, &second, shelf),
     }
 }
 
@@ -94,17 +94,17 @@ fn read_smv<F: Shelf>(alloc: Global, name: &Name, shelf: &mut F) -> Result<Vec<u
     match read_whole(alloc, shelf, name, SMV_LIMIT) {
         Ok(bytes) => Ok(bytes),
         Err(ReadEnd::Fault) => Err(unread(alloc, name)),
-        Err(ReadEnd::TooLong) => Err(Stop::Gives(Answer::Refuses(at_start(1)))),
+        Err(ReadEnd::TooLong) => Err(Stop::Gives(Answer::Refuses(refusal(Kind::S(1))))),
         Err(ReadEnd::NoMemory) => Err(Stop::NoMemory),
     }
 }
 
-// A refusal of an SMV text at its first byte.
-fn at_start(number: u8) -> Refusal
-    ensures { result ≡ at_start number }
+/// A refusal at a text's first byte.
+pub fn refusal(kind: Kind) -> Refusal
+    ensures { result ≡ record { kind = kind; place = record { line = 1; column = 1; offset = 0 } } }
 {
     Refusal {
-        kind: Kind::S(number),
+        kind,
         place: Place {
             line: 1,
             column: 1,
@@ -113,7 +113,8 @@ fn at_start(number: u8) -> Refusal
     }
 }
 
-fn unread(alloc: Global, name: &Name) -> Stop
+/// The answer that the file was not read.
+pub fn unread(alloc: Global, name: &Name) -> Stop
     ensures { (result ≡ Stop.Gives (Answer.Unread name.now)) ⊎ (result ≡ Stop.NoMemory) }
 {
     match Name::of(alloc, name.bytes()) {
@@ -129,6 +130,6 @@ fn translation(alloc: Global, bytes: &[u8]) -> Result<Answer, NoMemory>
 {
     match translate(alloc, bytes)? {
         Some(text) => Ok(Answer::Writes(text)),
-        None => Ok(Answer::Refuses(at_start(29))),
+        None => Ok(Answer::Refuses(refusal(Kind::S(29)))),
     }
 }

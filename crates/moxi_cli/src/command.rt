@@ -7,6 +7,7 @@ ghost use Rattle.moxi_cli.specs.Translation.{Accepts, TranslatesTo};
 ghost use Rattle.moxi_cli.specs.Words.{command_of};
 ghost use Rattle.moxi_cli.specs.declared.answer.Answer.{Answer};
 ghost use Rattle.text_core.specs.declared.place.Refusal.{Refusal};
+ghost use Rattle.text_core.specs.declared.verdict.Clause.{Clause};
 ghost use Rattle.moxi_cli.specs.Outcome.{IsOutcome, IsAbsent, Serves, status_of, text_of};
 ghost use Rattle.moxi_cli.specs.Sinks.{IsPart};
 
@@ -38,17 +39,19 @@ pub fn run<F: Shelf, K: Sink, N: Sink>(
         Serves (command_of (map string_bytes words.now.items)) files (K.taken out.old) (K.taken out.new)) }
 
     // The whole defined text was taken.
-    ensures done { result ≡ Status.Done → IfSome (F.files shelf.old) (λ files. (text : List ℕ)
-        × IsOutcome (map string_bytes words.now.items) files (Answer.Writes text) × (K.taken out.new ≡ grown (K.taken out.old) text)) }
+    ensures done { result ≡ Status.Done → IfSome (F.files shelf.old) (λ files. (answer : Answer)
+        × IsOutcome (map string_bytes words.now.items) files answer × (status_of answer ≡ Status.Done) × (K.taken out.new ≡ grown (K.taken out.old) (text_of answer))) }
+
+    // The judge denies the stated run as it is defined.
+    ensures no { result ≡ Status.No → IfSome (F.files shelf.old) (λ files. (step : ℕ) × (clause : Clause)
+        × IsOutcome (map string_bytes words.now.items) files (Answer.Denies step clause)) }
 
     // The model is refused as it is defined.
     ensures refused { result ≡ Status.Refused → IfSome (F.files shelf.old) (λ files. (refusal : Refusal)
         × IsOutcome (map string_bytes words.now.items) files (Answer.Refuses refusal)) }
+    ensures second_refused { result ≡ Status.SecondRefused → IfSome (F.files shelf.old) (λ files. (refusal : Refusal)
+        × IsOutcome (map string_bytes words.now.items) files (Answer.SecondRefuses refusal)) }
     ensures usage { result ≡ Status.Usage → command_of (map string_bytes words.now.items) ≡ None }
-
-    // No command judges, and none reads a second file.
-    ensures no { result ≢ Status.No }
-    ensures second_refused { result ≢ Status.SecondRefused }
 
     // Each fault has its cause.
     ensures read_fault { result ≡ Status.ReadFault

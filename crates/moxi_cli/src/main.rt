@@ -1,10 +1,11 @@
-//! Translates SMV models to BTOR2 texts.
+//! Translates SMV models to BTOR2 texts, and judges witnesses for these.
 #![tactic(auto)]
 
 mod answer;
 mod command;
 mod declared;
 mod formula;
+mod judge;
 mod limits;
 mod lines;
 mod notes;

@@ -1,4 +1,3 @@
-use Rattle.std.proofs.Common.{sym, ◌∙◌}
 use Rattle.btor_frames.specs.Tables.{has_role}
 use Rattle.btor_frames.proofs.Finding.{earlier_inside, values_step}
 use Rattle.btor_frames.proofs.tables.values.Goals as goal

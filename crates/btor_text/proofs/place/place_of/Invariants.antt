@@ -1,4 +1,4 @@
-use Rattle.std.proofs.Common.{ℕ, ◌-◌, ◌≤◌, length}
+use Rattle.std.proofs.Common.{◌-◌, ◌≤◌, length}
 use Rattle.btor_text.proofs.Search.{Between}
 use Rattle.btor_text.proofs.place.place_of.Given as goal
 

@@ -1,5 +1,5 @@
-use Rattle.std.proofs.Common.{◌≡◌, ◌≢◌, [], Some, None, sym, ap, ◌∙◌}
-use Rattle.btor_tree.specs.Parts.{Parts, parts}
+use Rattle.std.proofs.Common.{Some, None, sym, ap, ◌∙◌}
+use Rattle.btor_tree.specs.Parts.{parts}
 use Rattle.btor_tree.specs.Reading.{resolved}
 use Rattle.btor_tree.specs.Resolving.{resolve}
 use Rattle.btor_text.specs.Seen.{seen_shape}

@@ -1,4 +1,4 @@
-use Rattle.moxi_cli.proofs.OutcomeLemmas.{run_done, run_served, run_translates, run_prefix, run_complete}
+use Rattle.moxi_cli.proofs.OutcomeLemmas.{run_done, run_served, run_translates, run_prefix, run_complete, run_refused, run_second_refused, run_no, run_read_fault, run_absent}
 use Rattle.moxi_cli.proofs.command.run.Goals as goal
 
 pub returns-in-Ok-clause-done : goal.returns-in-Ok-clause-done
@@ -20,3 +20,18 @@ returns-in-Ok-clause-served g c = λ done.
 pub returns-in-Ok-clause-translates : goal.returns-in-Ok-clause-translates
 returns-in-Ok-clause-translates g c =
     run_translates _ _ _ _ _ c.in-Ok.answer c.deliver.result _ _ c.in-Ok.ensures.answer c.deliver.ensures.status c.deliver.ensures.text c.deliver.ensures.write_fault
+
+pub returns-in-Ok-clause-refused : goal.returns-in-Ok-clause-refused
+returns-in-Ok-clause-refused g c = run_refused _ _ _ c.in-Ok.answer c.deliver.result c.in-Ok.ensures.answer c.deliver.ensures.status
+
+pub returns-in-Ok-clause-second_refused : goal.returns-in-Ok-clause-second_refused
+returns-in-Ok-clause-second_refused g c = run_second_refused _ _ _ c.in-Ok.answer c.deliver.result c.in-Ok.ensures.answer c.deliver.ensures.status
+
+pub returns-in-Ok-clause-no : goal.returns-in-Ok-clause-no
+returns-in-Ok-clause-no g c = run_no _ _ _ c.in-Ok.answer c.deliver.result c.in-Ok.ensures.answer c.deliver.ensures.status
+
+pub returns-in-Ok-clause-read_fault : goal.returns-in-Ok-clause-read_fault
+returns-in-Ok-clause-read_fault g c = run_read_fault _ _ _ c.in-Ok.answer c.deliver.result c.in-Ok.ensures.answer c.deliver.ensures.status
+
+pub returns-in-Ok-clause-absent : goal.returns-in-Ok-clause-absent
+returns-in-Ok-clause-absent g c = run_absent _ _ _ c.in-Ok.answer c.deliver.result c.in-Ok.ensures.answer c.deliver.ensures.status

@@ -1,4 +1,4 @@
-use Rattle.std.proofs.Common.{length, sym, ap, ◌∙◌, arith}
+use Rattle.std.proofs.Common.{length, ap, ◌∙◌, arith}
 use Rattle.btor_tree.specs.Fits.{is_bad}
 use Rattle.btor_frames.proofs.Truths.{bad_there, operand_inside, bad_both}
 use Rattle.btor_frames.proofs.frames.Frames.bad.Goals as goal

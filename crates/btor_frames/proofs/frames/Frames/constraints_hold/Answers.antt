@@ -1,6 +1,6 @@
 use Rattle.std.proofs.Common.{◌<◌, ◌≤◌, length, arith, ap, ◌∙◌, refl}
 use Rattle.btor_tree.specs.Fits.{is_constraint}
-use Rattle.btor_frames.proofs.Truths.{operand_inside, constraints_all, constraint_one}
+use Rattle.btor_frames.proofs.Truths.{operand_inside, constraints_all}
 use Rattle.btor_frames.proofs.frames.Frames.constraints_hold.Goals as goal
 
 pub is_true-requires : goal.is_true-requires

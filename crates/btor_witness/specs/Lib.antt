@@ -1,0 +1,11 @@
+pub mod Bytes
+pub mod Sizes
+pub mod Shapes
+pub mod Parts
+pub mod Held
+pub mod Reading
+pub mod Texts
+pub mod Answer
+pub mod Printing
+pub mod Judging
+pub mod Room

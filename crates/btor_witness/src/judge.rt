@@ -1,0 +1,68 @@
+// The judge.
+ghost use Rattle.std.specs.Prelude.{◌≡◌, ◌<◌, Bool, List, true, IfOk, IfSome, IfNone};
+ghost use Rattle.text_core.specs.declared.verdict.Verdict.TheVariants.{No};
+ghost use Rattle.word_core.specs.Words.{BitVector};
+ghost use Rattle.btor_tree.specs.Fits as fits;
+ghost use Rattle.btor_frames.specs.Judged.{IsStatedFrame};
+ghost use Rattle.btor_witness.specs.Sizes.{sizes_of, widths_of};
+ghost use Rattle.btor_witness.specs.Printing.{IsPart, IsWitness};
+ghost use Rattle.btor_witness.specs.Judging.{statement_of, Passes, FailsFirst, IsJudged};
+ghost use Rattle.btor_witness.specs.Room.{RoomFits};
+
+use crate::room::Room;
+use crate::witness::{Frame, Witness};
+use btor_tree::Nodes;
+use std::alloc::Global;
+use text_core::{Clause, NoMemory, Verdict};
+
+/// Judges a witness: yes, or the earliest step whose frame fails and the first clause that it fails. The stated words of
+/// states with an init in frame 0, or with a next later, are compared with the states' own (`StateDiffers`); then every
+/// constraint has to hold (`ConstraintFails`); then, in the last frame alone, the bad line (`NotBroken`). A word that is
+/// not stated is zero. The caller owes a witness for the lines: a bad line, one or more frames, and in each part words of
+/// the right widths, of which each is stated once. A step past the numbers of 32 bits is answered as want of memory.
+pub fn judge_btor(alloc: Global, nodes: &Nodes, witness: &Witness) -> Result<Verdict, NoMemory>
+    requires { IsWitness (sizes_of nodes.now) witness.now }
+    ensures { IfOk result (λ verdict. IsJudged nodes.now witness.now verdict) }
+{
+    let mut room = Room::new(alloc, nodes)?;
+    let frames = witness.frames.len();
+    for step in 0..frames {
+        let frame = witness.frames.at(step);
+        room.step(nodes, frame);
+        let failure = failure(&room, nodes, frame, step + 1 == frames, witness.bad);
+        if let Some(clause) = failure {
+            return no(step, clause);
+        }
+    }
+    Ok(Verdict::Yes)
+}
+
+// The first clause that the current frame fails.
+fn failure(room: &Room, nodes: &Nodes, frame: &Frame, last: bool, j: u32) -> Option<Clause>
+    requires fits { RoomFits nodes.now room.now }
+    requires begun { room.now.frames.begun ≡ true }
+    requires states { IsPart (widths_of fits.is_state nodes.now) frame.now.states }
+    requires there { j < fits.count_of fits.is_bad nodes.now }
+    ensures some { IfSome result (λ clause. (begun : Bool) (before : List BitVector) → IsStatedFrame nodes.now begun before (statement_of frame.now) room.now.frames.row → FailsFirst nodes.now j begun last (statement_of frame.now) room.now.frames.row clause) }
+    ensures none { IfNone result ((begun : Bool) (before : List BitVector) → IsStatedFrame nodes.now begun before (statement_of frame.now) room.now.frames.row → Passes nodes.now j begun last (statement_of frame.now) room.now.frames.row) }
+{
+    if !room.agrees(nodes, &frame.states) {
+        return Some(Clause::StateDiffers);
+    }
+    if !room.constraints_hold(nodes) {
+        return Some(Clause::ConstraintFails);
+    }
+    if last && !room.bad(nodes, j) {
+        return Some(Clause::NotBroken);
+    }
+    None
+}
+
+fn no(step: usize, clause: Clause) -> Result<Verdict, NoMemory>
+    ensures { IfOk result (λ verdict. verdict ≡ No step clause) }
+{
+    match u32::try_from(step) {
+        Ok(step) => Ok(Verdict::No(step, clause)),
+        Err(_) => Err(NoMemory),
+    }
+}

@@ -1,0 +1,29 @@
+//! Witnesses of BTOR2 lines: read against the lines, printed and judged.
+#![tactic(auto)]
+
+mod bytes;
+mod ends;
+mod judge;
+#[cfg(test)]
+mod judge_tests;
+mod part;
+mod phase;
+mod print;
+mod read;
+mod reader;
+mod room;
+mod shape;
+#[cfg(test)]
+mod tests;
+mod unique;
+mod witness;
+
+pub use judge::judge_btor;
+pub use print::print_witness;
+pub use read::{MOST_BYTES, read_witness};
+pub use reader::{MOST_FRAMES, MOST_WORDS};
+pub use unique::{
+    not_both, one_of_both, one_refusal, one_verdict, one_witness, printed_is_read,
+    yes_where_accepted,
+};
+pub use witness::{Frame, FrameList, Stated, Stateds, Witness, WitnessEnd};

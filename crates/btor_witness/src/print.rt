@@ -1,0 +1,117 @@
+// The printer.
+ghost use Rattle.std.specs.Prelude.{◌≡◌, ◌<◌, ◌≤◌, ◌++◌, ◌∷◌, [], ◌^◌, length, map, replicate, None, decimal, codes, OnOk, IfOk};
+ghost use Rattle.std.specs.List.{flat_map, AllByRecursion};
+ghost use Rattle.btor_tree.specs.Fits.{is_state, is_input};
+ghost use Rattle.btor_witness.specs.Sizes.{sizes_of, widths_of};
+ghost use Rattle.btor_witness.specs.Printing.{IsBelow, IsPart, IsWitness, TableOf, rising, rising_frame, number_line, statement_line, states_text, inputs_text, frame_text, frames_text, printed};
+
+use crate::witness::{Frame, Stated, Stateds, Witness};
+use btor_tree::Nodes;
+use std::alloc::Global;
+use text_core::{NoMemory, Text};
+use word_core::Word;
+
+// The word that is stated for each number.
+fn table_of(alloc: Global, stated: &Stateds, count: u32) -> Result<Vec<Option<Word>>, NoMemory>
+    requires { AllByRecursion (IsBelow count) stated.now }
+    ensures { IfOk result (λ table. TableOf stated.now count table.items) }
+{
+    let Ok(mut table) = vec![in alloc; None; count as usize] else {
+        return Err(NoMemory);
+    };
+    for i in 0..stated.len() {
+        let stated = stated.at(i);
+        table[stated.index as usize] = Some(stated.value);
+    }
+    Ok(table)
+}
+
+// The statements in rising order.
+fn rising(alloc: Global, stated: &Stateds, count: u32) -> Result<Stateds, NoMemory>
+    requires { AllByRecursion (IsBelow count) stated.now }
+    ensures { IfOk result (λ r. r ≡ rising stated.now count) }
+{
+    let table = table_of(alloc, stated, count)?;
+    let mut rising = Stateds::new(alloc);
+    for index in 0..count {
+        if let Some(value) = table[index as usize] {
+            rising.push(Stated { index, value })?;
+        }
+    }
+    Ok(rising)
+}
+
+fn put_number_line(out: &mut Text, mark: u8, number: usize) -> Result<(), NoMemory>
+    ensures { OnOk result (out.new ≡ out.old ++ number_line mark number) }
+{
+    out.put(&[mark])?;
+    out.put_unsigned(number as u128)?;
+    out.put(b"\n")?;
+    Ok(())
+}
+
+fn put_statement(out: &mut Text, stated: &Stated) -> Result<(), NoMemory>
+    ensures { OnOk result (out.new ≡ out.old ++ statement_line stated.now) }
+{
+    out.put_unsigned(u128::from(stated.index))?;
+    out.put(b" ")?;
+    out.put_binary(stated.value.width(), stated.value.bits())?;
+    out.put(b"\n")?;
+    Ok(())
+}
+
+fn put_statements(out: &mut Text, stated: &Stateds) -> Result<(), NoMemory>
+    ensures { OnOk result (out.new ≡ out.old ++ flat_map statement_line stated.now) }
+{
+    for i in 0..stated.len() {
+        put_statement(out, stated.at(i))?;
+    }
+    Ok(())
+}
+
+fn put_states(out: &mut Text, number: usize, states: &Stateds) -> Result<(), NoMemory>
+    ensures { OnOk result (out.new ≡ out.old ++ states_text number states.now) }
+{
+    if states.len() == 0 {
+        return Ok(());
+    }
+    put_number_line(out, b'#', number)?;
+    put_statements(out, states)
+}
+
+fn put_frame(out: &mut Text, number: usize, frame: &Frame) -> Result<(), NoMemory>
+    ensures { OnOk result (out.new ≡ out.old ++ frame_text number frame.now) }
+{
+    put_states(out, number, &frame.states)?;
+    put_number_line(out, b'@', number)?;
+    put_statements(out, &frame.inputs)
+}
+
+fn rising_frame(alloc: Global, nodes: &Nodes, frame: &Frame) -> Result<Frame, NoMemory>
+    requires states { IsPart (widths_of is_state nodes.now) frame.now.states }
+    requires inputs { IsPart (widths_of is_input nodes.now) frame.now.inputs }
+    ensures { IfOk result (λ f. f ≡ rising_frame (sizes_of nodes.now) frame.now) }
+{
+    Ok(Frame {
+        states: rising(alloc, &frame.states, nodes.states())?,
+        inputs: rising(alloc, &frame.inputs, nodes.inputs())?,
+    })
+}
+
+/// The printed form of a witness: of each frame the states behind `#` where there are any, and the inputs behind `@`,
+/// each part in rising order and without symbols. The caller owes a witness for the lines: a bad line, one or more
+/// frames, and in each part words of the right widths, of which each is stated once.
+pub fn print_witness(alloc: Global, nodes: &Nodes, witness: &Witness) -> Result<Text, NoMemory>
+    requires { IsWitness (sizes_of nodes.now) witness.now }
+    ensures { IfOk result (λ text. text ≡ printed nodes.now witness.now) }
+{
+    let mut out = Text::new(alloc);
+    out.put(b"sat\n")?;
+    put_number_line(&mut out, b'b', witness.bad as usize)?;
+    for number in 0..witness.frames.len() {
+        let frame = rising_frame(alloc, nodes, witness.frames.at(number))?;
+        put_frame(&mut out, number, &frame)?;
+    }
+    out.put(b".\n")?;
+    Ok(out)
+}

@@ -1,0 +1,281 @@
+// The reader of a witness, line by line.
+ghost use Rattle.std.specs.Prelude.{◌≡◌, ◌<◌, ◌≤◌, ◌++◌, ◌∷◌, [], length, map, IfOk, OnOk, OnErr};
+ghost use Rattle.btor_tree.specs.Fits as fits;
+ghost use Rattle.btor_witness.specs.Bytes.{line_parts, parts};
+ghost use Rattle.btor_witness.specs.Sizes.{sizes_of, widths_of, is_within};
+ghost use Rattle.btor_witness.specs.Reading.{Reading, begin, frames_of, sat_line, property_line, justice_line, new_frame, states_line, inputs_line, assignment_line, end_line, step};
+ghost use Rattle.btor_witness.specs.Texts.{next_of};
+ghost use Rattle.btor_witness.specs.Answer.{ReaderState, Steps, Takes};
+
+use crate::bytes::without_return;
+use crate::ends::{FRAME_ORDER, JUSTICE, LineEnd, NO_BAD, NO_SHAPE, TOO_LONG};
+use crate::part::Part;
+use crate::phase::Phase;
+use crate::shape::{Shape, is_passed, shape_of};
+use crate::witness::{Frame, FrameList, Witness};
+use btor_tree::{LineOp, Nodes};
+use std::alloc::Global;
+use std::marker::Model;
+use text_core::{Items, NoMemory};
+use word_core::Word;
+
+/// The most frames of a witness.
+pub const MOST_FRAMES: u64 = 100000;
+/// The most that the frames of a witness times the states and inputs may be.
+pub const MOST_WORDS: u64 = 4000000;
+
+/// Where the reading of a witness stands.
+#[derive(Drop)]
+pub struct Reader {
+    bads: u32,
+    phase: Phase,
+    bad: u32,
+    frames: FrameList,
+    states: Part,
+    inputs: Part,
+}
+
+impl Model for Reader {
+    ghost use Rattle.btor_witness.specs.Answer.{ReaderState};
+
+    ghost Value = { ReaderState };
+
+    ghost view = { λ r. record { sizes = record { bads = r.bads; states = r.states.widths; inputs = r.inputs.widths }; reading = record { phase = r.phase; bad = r.bad; frames = r.frames; states = r.states.stated; inputs = r.inputs.stated } } };
+}
+
+impl Reader {
+    /// A reader that has read nothing.
+    pub fn new(alloc: Global, nodes: &Nodes) -> Result<Reader, NoMemory>
+        ensures { IfOk result (λ r. r ≡ record { sizes = sizes_of nodes.now; reading = begin }) }
+    {
+        let states = state_widths(alloc, nodes)?;
+        let inputs = input_widths(alloc, nodes)?;
+        Ok(Reader {
+            bads: nodes.bads(),
+            phase: Phase::Start,
+            bad: 0,
+            frames: FrameList::new(alloc),
+            states: Part::new(alloc, states)?,
+            inputs: Part::new(alloc, inputs)?,
+        })
+    }
+
+    /// Reads one line. `true` says that it ends the witness.
+    pub fn take_line(&mut self, alloc: Global, raw: &[u8]) -> Result<bool, LineEnd>
+        ensures sizes { self.new.sizes ≡ self.old.sizes }
+        ensures next { Takes (next_of self.old.sizes self.old.reading (line_parts raw.now)) self.old.reading self.new.reading result }
+    {
+        let line = without_return(raw);
+        if is_passed(line) {
+            return Ok(false);
+        }
+        match shape_of(line) {
+            Some(shape) => self.step(alloc, shape),
+            None => Err(LineEnd::Bad(NO_SHAPE)),
+        }
+    }
+
+    /// The witness that was read.
+    pub fn witness(self) -> Witness
+        ensures { result ≡ record { bad = self.reading.bad; frames = self.reading.frames } }
+    {
+        Witness {
+            bad: self.bad,
+            frames: self.frames,
+        }
+    }
+
+    fn step(&mut self, alloc: Global, shape: Shape) -> Result<bool, LineEnd>
+        ensures sizes { self.new.sizes ≡ self.old.sizes }
+        ensures next { Steps (step self.old.sizes self.old.reading shape) self.new.reading result }
+    {
+        match shape {
+            Shape::Sat => self.sat_line(),
+            Shape::Property(number) => self.property_line(number),
+            Shape::Justice(_) => self.justice_line(),
+            Shape::States(number) => self.states_line(alloc, number),
+            Shape::Inputs(number) => self.inputs_line(alloc, number),
+            Shape::End => self.end_line(alloc),
+            Shape::Assignment(index, word) => self.assignment_line(index, word),
+        }
+    }
+
+    fn sat_line(&mut self) -> Result<bool, LineEnd>
+        ensures sizes { self.new.sizes ≡ self.old.sizes }
+        ensures next { Steps (sat_line self.old.reading.phase self.old.reading) self.new.reading result }
+    {
+        match self.phase {
+            Phase::Start => {
+                self.phase = Phase::Property;
+                Ok(false)
+            }
+            _ => Err(LineEnd::Bad(NO_SHAPE)),
+        }
+    }
+
+    fn property_line(&mut self, number: u32) -> Result<bool, LineEnd>
+        ensures sizes { self.new.sizes ≡ self.old.sizes }
+        ensures next { Steps (property_line self.old.sizes number self.old.reading.phase self.old.reading) self.new.reading result }
+    {
+        match self.phase {
+            Phase::Property => {
+                if number >= self.bads {
+                    return Err(LineEnd::Bad(NO_BAD));
+                }
+                self.bad = number;
+                self.phase = Phase::Heading;
+                Ok(false)
+            }
+            _ => Err(LineEnd::Bad(NO_SHAPE)),
+        }
+    }
+
+    fn justice_line(&self) -> Result<bool, LineEnd>
+        ensures { Steps (justice_line self.now.reading.phase) self.now.reading result }
+    {
+        match self.phase {
+            Phase::Property => Err(LineEnd::Bad(JUSTICE)),
+            _ => Err(LineEnd::Bad(NO_SHAPE)),
+        }
+    }
+
+    fn states_line(&mut self, alloc: Global, number: u32) -> Result<bool, LineEnd>
+        ensures sizes { self.new.sizes ≡ self.old.sizes }
+        ensures next { Steps (states_line self.old.sizes number self.old.reading.phase self.old.reading) self.new.reading result }
+    {
+        match self.phase {
+            Phase::Start => Err(LineEnd::Bad(NO_SHAPE)),
+            Phase::Property => Err(LineEnd::Bad(NO_SHAPE)),
+            _ => self.new_frame(alloc, Phase::States, number),
+        }
+    }
+
+    fn inputs_line(&mut self, alloc: Global, number: u32) -> Result<bool, LineEnd>
+        ensures sizes { self.new.sizes ≡ self.old.sizes }
+        ensures next { Steps (inputs_line self.old.sizes number self.old.reading.phase self.old.reading) self.new.reading result }
+    {
+        match self.phase {
+            Phase::Start => Err(LineEnd::Bad(NO_SHAPE)),
+            Phase::Property => Err(LineEnd::Bad(NO_SHAPE)),
+            Phase::States => {
+                if number as usize == self.frames.len() {
+                    self.phase = Phase::Inputs;
+                    return Ok(false);
+                }
+                self.new_frame(alloc, Phase::Inputs, number)
+            }
+            _ => self.new_frame(alloc, Phase::Inputs, number),
+        }
+    }
+
+    // Begins a frame with this part.
+    fn new_frame(&mut self, alloc: Global, part: Phase, number: u32) -> Result<bool, LineEnd>
+        ensures sizes { self.new.sizes ≡ self.old.sizes }
+        ensures next { Steps (new_frame self.old.sizes part number self.old.reading) self.new.reading result }
+    {
+        self.close(alloc)?;
+        if number as usize != self.frames.len() {
+            return Err(LineEnd::Bad(FRAME_ORDER));
+        }
+        if !self.is_within(u64::from(number) + 1) {
+            return Err(LineEnd::Bad(TOO_LONG));
+        }
+        self.phase = part;
+        Ok(false)
+    }
+
+    // Adds the last frame to the frames, where there is one.
+    fn close(&mut self, alloc: Global) -> Result<(), NoMemory>
+        ensures sizes { self.new.sizes ≡ self.old.sizes }
+        ensures closed { OnOk result (self.new.reading ≡ record { phase = self.old.reading.phase; bad = self.old.reading.bad; frames = frames_of self.old.reading; states = []; inputs = [] }) }
+    {
+        let states = self.states.take(alloc);
+        let inputs = self.inputs.take(alloc);
+        match self.phase {
+            Phase::States => self.frames.push(Frame { states, inputs }),
+            Phase::Inputs => self.frames.push(Frame { states, inputs }),
+            _ => Ok(()),
+        }
+    }
+
+    fn assignment_line(&mut self, index: u32, word: Option<Word>) -> Result<bool, LineEnd>
+        ensures sizes { self.new.sizes ≡ self.old.sizes }
+        ensures next { Steps (assignment_line self.old.sizes index word self.old.reading.phase self.old.reading) self.new.reading result }
+    {
+        match self.phase {
+            Phase::States => {
+                self.states.state(index, word)?;
+                Ok(false)
+            }
+            Phase::Inputs => {
+                self.inputs.state(index, word)?;
+                Ok(false)
+            }
+            _ => Err(LineEnd::Bad(NO_SHAPE)),
+        }
+    }
+
+    fn end_line(&mut self, alloc: Global) -> Result<bool, LineEnd>
+        ensures sizes { self.new.sizes ≡ self.old.sizes }
+        ensures next { Steps (end_line self.old.reading.phase self.old.reading) self.new.reading result }
+    {
+        match self.phase {
+            Phase::States => {
+                self.close(alloc)?;
+                Ok(true)
+            }
+            Phase::Inputs => {
+                self.close(alloc)?;
+                Ok(true)
+            }
+            _ => Err(LineEnd::Bad(NO_SHAPE)),
+        }
+    }
+
+    fn is_within(&self, frames: u64) -> bool
+        ensures { result ≡ is_within self.now.sizes frames }
+    {
+        let lines = self.states.len() as u128 + self.inputs.len() as u128;
+        frames <= MOST_FRAMES && u128::from(frames) * lines <= u128::from(MOST_WORDS)
+    }
+}
+
+pub fn is_state(op: &LineOp) -> bool
+    ensures { result ≡ fits.is_state op.now }
+{
+    matches!(op, LineOp::State)
+}
+
+fn is_input(op: &LineOp) -> bool
+    ensures { result ≡ fits.is_input op.now }
+{
+    matches!(op, LineOp::Input)
+}
+
+// The widths of the states, in order.
+#[tactic(auto, using(btor_tree::proofs::Grows::lines_short))]
+pub fn state_widths(alloc: Global, nodes: &Nodes) -> Result<Items<u32>, NoMemory>
+    ensures { IfOk result (λ widths. widths ≡ widths_of fits.is_state nodes.now) }
+{
+    let mut widths = Items::new(alloc);
+    for i in 0..nodes.len() {
+        if is_state(&nodes.at(i).op) {
+            widths.push(nodes.width_of(i as u32))?;
+        }
+    }
+    Ok(widths)
+}
+
+// The widths of the inputs, in order.
+#[tactic(auto, using(btor_tree::proofs::Grows::lines_short))]
+pub fn input_widths(alloc: Global, nodes: &Nodes) -> Result<Items<u32>, NoMemory>
+    ensures { IfOk result (λ widths. widths ≡ widths_of fits.is_input nodes.now) }
+{
+    let mut widths = Items::new(alloc);
+    for i in 0..nodes.len() {
+        if is_input(&nodes.at(i).op) {
+            widths.push(nodes.width_of(i as u32))?;
+        }
+    }
+    Ok(widths)
+}

@@ -1,0 +1,166 @@
+// What a judge holds from frame to frame.
+ghost use Rattle.std.specs.Prelude.{◌≡◌, ◌<◌, ◌≤◌, ◌↔◌, ℕ, [], map, length, false, true, IfOk, IfSome, IfNone, IsTrue, slice_get, Some};
+ghost use Rattle.std.specs.List.{AllByRecursion};
+ghost use Rattle.word_core.specs.Words.{IsWord};
+ghost use Rattle.word_core.specs.declared.word.TheConstants.{WIDEST};
+ghost use Rattle.btor_tree.specs.Fits as fits;
+ghost use Rattle.btor_tree.specs.Frame.{ConstraintsHold, IsBad};
+ghost use Rattle.btor_frames.specs.Judged.{IsStatedFrame};
+ghost use Rattle.btor_witness.specs.Sizes.{widths_of};
+ghost use Rattle.btor_witness.specs.Printing.{IsBelow, IsPart};
+ghost use Rattle.btor_witness.specs.Judging.{statement_of, Passes, FailsFirst};
+ghost use Rattle.btor_witness.specs.Room as spec;
+ghost use Rattle.btor_witness.specs.Room.{ArePut, HoldsStated, AreWidths, IsWordThere, RoomFits, places_of, zeroed};
+
+use crate::reader::{input_widths, is_state, state_widths};
+use crate::witness::{Frame, Stateds};
+use btor_frames::{Frames, Words};
+use btor_tree::Nodes;
+use std::alloc::Global;
+use text_core::{Clause, Items, NoMemory};
+use word_core::Word;
+
+/// The current frame, a word for each input and each state that is zero between two steps, and the places of the state
+/// lines.
+#[derive(Drop)]
+pub struct Room {
+    frames: Frames,
+    inputs: Words,
+    free: Words,
+    places: Items<u32>,
+}
+
+impl Room {
+    /// No frame yet.
+    pub fn new(alloc: Global, nodes: &Nodes) -> Result<Room, NoMemory>
+        ensures fits { IfOk result (λ room. RoomFits nodes.now room) }
+        ensures none { IfOk result (λ room. room.frames.begun ≡ false) }
+    {
+        let _count = nodes.len();
+        let inputs = input_widths(alloc, nodes)?;
+        let states = state_widths(alloc, nodes)?;
+        Ok(Room {
+            frames: Frames::new(alloc, nodes)?,
+            inputs: zeros(alloc, &inputs)?,
+            free: zeros(alloc, &states)?,
+            places: state_places(alloc, nodes)?,
+        })
+    }
+
+    /// Goes to the next frame, the one that the statements mean. It takes no memory.
+    pub fn step(&mut self, nodes: &Nodes, frame: &Frame)
+        requires fits { RoomFits nodes.now self.old }
+        requires states { IsPart (widths_of fits.is_state nodes.now) frame.now.states }
+        requires inputs { IsPart (widths_of fits.is_input nodes.now) frame.now.inputs }
+        ensures fits { RoomFits nodes.now self.new }
+        ensures begun { self.new.frames.begun ≡ true }
+        ensures next { IsStatedFrame nodes.now self.old.frames.begun self.old.frames.row (statement_of frame.now) self.new.frames.row }
+    {
+        let _count = nodes.len();
+        put_stated(&mut self.inputs, &frame.inputs);
+        put_stated(&mut self.free, &frame.states);
+        self.frames.step(nodes, &self.inputs, &self.free);
+        put_zeros(&mut self.inputs, &frame.inputs);
+        put_zeros(&mut self.free, &frame.states);
+    }
+
+    /// Are the stated words those of the current frame? A state that is not determined has its stated word, so that only
+    /// those of determined states can differ.
+    pub fn agrees(&self, nodes: &Nodes, stated: &Stateds) -> bool
+        requires fits { RoomFits nodes.now self.now }
+        requires below { AllByRecursion (IsBelow (fits.count_of fits.is_state nodes.now)) stated.now }
+        ensures { IsTrue result ↔ AllByRecursion (IsWordThere (places_of fits.is_state nodes.now) self.now.frames.row) stated.now }
+    {
+        for i in 0..stated.len() {
+            let statement = stated.at(i);
+            let place = *self.places.at(statement.index as usize);
+            if !is_same(self.frames.value(place), statement.value) {
+                return false;
+            }
+        }
+        true
+    }
+
+    /// Is every constraint true in the current frame?
+    pub fn constraints_hold(&self, nodes: &Nodes) -> bool
+        requires fits { RoomFits nodes.now self.now }
+        requires begun { self.now.frames.begun ≡ true }
+        ensures { IsTrue result ↔ ConstraintsHold nodes.now self.now.frames.row }
+    {
+        self.frames.constraints_hold(nodes)
+    }
+
+    /// Is bad line number j true in the current frame?
+    pub fn bad(&self, nodes: &Nodes, j: u32) -> bool
+        requires fits { RoomFits nodes.now self.now }
+        requires begun { self.now.frames.begun ≡ true }
+        requires there { j < fits.count_of fits.is_bad nodes.now }
+        ensures { IsTrue result ↔ IsBad nodes.now self.now.frames.row j }
+    {
+        self.frames.bad(nodes, j)
+    }
+}
+
+fn is_same(x: Word, y: Word) -> bool
+    ensures { IsTrue result ↔ (x ≡ y) }
+{
+    x.width() == y.width() && x.bits() == y.bits()
+}
+
+// The word 0 of a width.
+fn zero_of(width: u32) -> Word
+    requires some { 1 ≤ width }
+    requires small { width ≤ WIDEST }
+    ensures { result ≡ spec.zero_of width }
+{
+    Word::of(width, 0).unwrap()
+}
+
+// The word 0 for each width.
+fn zeros(alloc: Global, widths: &Items<u32>) -> Result<Words, NoMemory>
+    requires { AreWidths widths.now }
+    ensures { IfOk result (λ words. HoldsStated widths.now [] words) }
+{
+    let mut words = Words::new(alloc);
+    for k in 0..widths.len() {
+        words.push(zero_of(*widths.at(k)))?;
+    }
+    Ok(words)
+}
+
+// The places of the states, in order.
+#[tactic(auto, using(btor_tree::proofs::Grows::lines_short))]
+fn state_places(alloc: Global, nodes: &Nodes) -> Result<Items<u32>, NoMemory>
+    ensures { IfOk result (λ places. places ≡ places_of fits.is_state nodes.now) }
+{
+    let mut places = Items::new(alloc);
+    for i in 0..nodes.len() {
+        if is_state(&nodes.at(i).op) {
+            places.push(i as u32)?;
+        }
+    }
+    Ok(places)
+}
+
+// Puts the stated words in their places.
+fn put_stated(words: &mut Words, stated: &Stateds)
+    requires { AllByRecursion (IsBelow (length words.old)) stated.now }
+    ensures { ArePut stated.now words.old words.new }
+{
+    for i in 0..stated.len() {
+        let statement = stated.at(i);
+        words.set(statement.index as usize, statement.value);
+    }
+}
+
+// Puts zeros in the places of the stated words.
+fn put_zeros(words: &mut Words, stated: &Stateds)
+    requires below { AllByRecursion (IsBelow (length words.old)) stated.now }
+    requires words { AllByRecursion (λ s. IsWord s.value) stated.now }
+    ensures { ArePut (map zeroed stated.now) words.old words.new }
+{
+    for i in 0..stated.len() {
+        let statement = stated.at(i);
+        words.set(statement.index as usize, zero_of(statement.value.width()));
+    }
+}

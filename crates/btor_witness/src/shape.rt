@@ -1,0 +1,90 @@
+// What one line of a witness says by itself.
+ghost use Rattle.std.specs.Prelude.{◌≡◌};
+ghost use Rattle.btor_witness.specs.Bytes.{parts};
+ghost use Rattle.btor_witness.specs.Shapes.{number_shape, single_shape, assignment_shape, shape_of, is_passed, marked};
+ghost use Rattle.btor_witness.specs.Bytes as bytes;
+
+use crate::bytes::{all_binary, next_part, numeral, word_of};
+use word_core::Word;
+
+/// A line by its shape: `sat`, `b` and a number, `j` and a number, `#` and a number, `@` and a number, `.`, or a number
+/// and binary digits. A word of more digits than a word has is none.
+#[derive(Drop)]
+pub enum Shape {
+    Sat,
+    Property(u32),
+    Justice(u32),
+    States(u32),
+    Inputs(u32),
+    End,
+    Assignment(u32, Option<Word>),
+}
+
+fn marked(mark: u8, number: u32) -> Option<Shape>
+    ensures { result ≡ marked mark number }
+{
+    match mark {
+        b'b' => Some(Shape::Property(number)),
+        b'j' => Some(Shape::Justice(number)),
+        b'#' => Some(Shape::States(number)),
+        b'@' => Some(Shape::Inputs(number)),
+        _ => None,
+    }
+}
+
+fn number_shape(part: &[u8]) -> Option<Shape>
+    ensures { result ≡ number_shape part.now }
+{
+    let (mark, digits) = part.split_first()?;
+    let number = numeral(digits)?;
+    marked(*mark, number)
+}
+
+fn single_shape(part: &[u8]) -> Option<Shape>
+    ensures { result ≡ single_shape part.now }
+{
+    if part == b"sat".as_slice() {
+        Some(Shape::Sat)
+    } else if part == b".".as_slice() {
+        Some(Shape::End)
+    } else {
+        number_shape(part)
+    }
+}
+
+fn assignment_shape(index: &[u8], digits: &[u8]) -> Option<Shape>
+    ensures { result ≡ assignment_shape (bytes.numeral index.now) digits.now }
+{
+    let index = numeral(index)?;
+    if digits.is_empty() || !all_binary(digits) {
+        return None;
+    }
+    Some(Shape::Assignment(index, word_of(digits)))
+}
+
+/// The shape of a line, where one fits.
+pub fn shape_of(line: &[u8]) -> Option<Shape>
+    ensures { result ≡ shape_of (parts line.now) }
+{
+    let (first, rest) = next_part(line)?;
+    let Some((second, rest)) = next_part(rest) else {
+        return single_shape(first)
+    };
+    let Some((_, rest)) = next_part(rest) else {
+        return assignment_shape(first, second)
+    };
+    if next_part(rest).is_some() {
+        return None;
+    }
+    assignment_shape(first, second)
+}
+
+/// Is a line passed over? Blank lines are, and those that begin with `;`.
+pub fn is_passed(line: &[u8]) -> bool
+    ensures { result ≡ is_passed (parts line.now) }
+{
+    match next_part(line) {
+        Some((part, _)) => part.first() == Some(&b';'),
+        None => true,
+    }
+}

@@ -1,0 +1,51 @@
+// Laws of what a text spells and of its refusal.
+ghost use Rattle.std.specs.Prelude.{◌≡◌, ◌≢◌, ◌⊎◌, ◌↔◌, ◌≤◌, ℕ, List, [], length, true};
+ghost use Rattle.text_core.specs.declared.place.Kind.{Kind};
+ghost use Rattle.text_core.specs.declared.verdict.Verdict.{Verdict};
+ghost use Rattle.text_core.specs.declared.verdict.Verdict.TheVariants.{Yes};
+ghost use Rattle.btor_tree.specs.declared.lines.Line.{Line};
+ghost use Rattle.btor_tree.specs.Fits.{IsWellFormed};
+ghost use Rattle.btor_frames.specs.Judged.{IsAccepted};
+ghost use Rattle.btor_witness.specs.declared.witness.Witness.{Witness};
+ghost use Rattle.btor_witness.specs.declared.read.TheConstants.{MOST_BYTES};
+ghost use Rattle.btor_witness.specs.Sizes.{sizes_of, is_within};
+ghost use Rattle.btor_witness.specs.Printing.{IsWitness, printed, rising_witness};
+ghost use Rattle.btor_witness.specs.Judging.{statements_of, IsJudged};
+ghost use Rattle.btor_witness.specs.Texts.{SpellsWitness, RefusesWitness};
+
+/// A text spells one witness at most.
+pub fn one_witness()
+    ensures { (lines : List Line) (text : List ℕ) (w v : Witness) → SpellsWitness lines text w → SpellsWitness lines text v → w ≡ v }
+{}
+
+/// A text has one refusal at most.
+pub fn one_refusal()
+    ensures { (lines : List Line) (text : List ℕ) (j k : Kind) (at to : ℕ) → RefusesWitness lines text j at → RefusesWitness lines text k to → (j ≡ k) × (at ≡ to) }
+{}
+
+/// No text that spells a witness is refused.
+pub fn not_both()
+    ensures { (lines : List Line) (text : List ℕ) (w : Witness) (k : Kind) (at : ℕ) → SpellsWitness lines text w → RefusesWitness lines text k at → ⊥ }
+{}
+
+/// Each text spells a witness or is refused.
+pub fn one_of_both()
+    ensures { (lines : List Line) (text : List ℕ) → ((w : Witness) × SpellsWitness lines text w) ⊎ ((k : Kind) × (at : ℕ) × RefusesWitness lines text k at) }
+{}
+
+/// A printed witness that keeps the limits is read, with the same statements in rising order.
+pub fn printed_is_read()
+    ensures { (lines : List Line) (w : Witness) → IsWellFormed lines → IsWitness (sizes_of lines) w → is_within (sizes_of lines) (length w.frames) ≡ true → length (printed lines w) ≤ MOST_BYTES → SpellsWitness lines (printed lines w) (rising_witness (sizes_of lines) w) }
+{}
+
+/// A witness has one verdict at most.
+#[tactic(auto, using(crate::proofs::Verdicts::one_verdict))]
+pub fn one_verdict()
+    ensures { (lines : List Line) (w : Witness) (v u : Verdict) → IsWellFormed lines → IsJudged lines w v → IsJudged lines w u → v ≡ u }
+{}
+
+/// The verdict is `Yes` exactly where the frames that the witness states pass.
+#[tactic(auto, using(crate::proofs::Verdicts::yes_where_accepted))]
+pub fn yes_where_accepted()
+    ensures { (lines : List Line) (w : Witness) → w.frames ≢ [] → IsJudged lines w Yes ↔ IsAccepted lines w.bad (statements_of w) }
+{}
