@@ -14,7 +14,6 @@ given None model bytes rose named (Refuses refusal) e h = tt
 given (Some fs) model bytes rose named (Refuses refusal) e h = goes_on (smv_model fs model) bytes IsTranslation (Refuses refusal) e h
 given None model bytes rose named (Writes text) e h = tt
 given (Some fs) model bytes rose named (Writes text) e h = goes_on (smv_model fs model) bytes IsTranslation (Writes text) e h
-
 given files model bytes rose named answer e h = absurd h
 
 pub translation_given : {E : Type 0} (files : Option Files) (model bytes : List ℕ) (rose : Type 0) (named : List ℕ → Type 0) (result : Result Answer E) → IfSome files (λ fs. smv_model fs model ≡ Ok bytes) → IfOk result (IsTranslation bytes) → IfOk result (MayGive files (λ fs. GoesOn (smv_model fs model) IsTranslation) rose named)

@@ -31,13 +31,13 @@ same_witness : (lines : List Line) → IsWellFormed lines → (text : List ℕ) 
 same_witness lines well text a b h k =
     elim h [
       | inl x ↦ elim k [
-          | inl y ↦ same_verdict lines well y.0 a b (subst (λ w. IsVerdict lines w a) (one_witness lines text x.0 y.0 x.1 y.1) x.2) y.2
-          | inr r ↦ absurd (not_both lines text x.0 r.0.kind r.0.place.line x.1 r.1)
-        ]
+        | inl y ↦ same_verdict lines well y.0 a b (subst (λ w. IsVerdict lines w a) (one_witness lines text x.0 y.0 x.1 y.1) x.2) y.2
+        | inr r ↦ absurd (not_both lines text x.0 r.0.kind r.0.place.line x.1 r.1)
+      ]
       | inr r ↦ elim k [
-          | inl y ↦ absurd (not_both lines text y.0 r.0.kind r.0.place.line y.1 r.1)
-          | inr q ↦ by_equals a b (SecondRefuses r.0) (SecondRefuses q.0) r.3 q.3 (refl, refl)
-        ]
+        | inl y ↦ absurd (not_both lines text y.0 r.0.kind r.0.place.line y.1 r.1)
+        | inr q ↦ by_equals a b (SecondRefuses r.0) (SecondRefuses q.0) r.3 q.3 (refl, refl)
+      ]
     ]
 
 same_second : (lines : List Line) → IsWellFormed lines → (content : Option (List ℕ)) (name : List ℕ) (a b : Answer) → OnSecond content name (λ text. OnWitness lines text (IsVerdict lines)) a → OnSecond content name (λ text. OnWitness lines text (IsVerdict lines)) b → Same a b
@@ -48,13 +48,13 @@ pub same_judgement : (files : Files) (second bytes : List ℕ) (a b : Answer) �
 same_judgement files second bytes a b h k =
     elim h [
       | inl x ↦ elim k [
-          | inl y ↦
-              let same : x.0 ≡ y.0 = one_list x.1 y.1 refl in
-              same_second y.0 (reads_well_formed y.1 empty_well_formed) (file_at files second) second a b (subst (λ ls. OnSecond (file_at files second) second (λ text. OnWitness ls text (IsVerdict ls)) a) same x.2) y.2
-          | inr r ↦ absurd (no_list x.1 r.1.1 refl)
-        ]
+        | inl y ↦
+            let same : x.0 ≡ y.0 = one_list x.1 y.1 refl in
+            same_second y.0 (reads_well_formed y.1 empty_well_formed) (file_at files second) second a b (subst (λ ls. OnSecond (file_at files second) second (λ text. OnWitness ls text (IsVerdict ls)) a) same x.2) y.2
+        | inr r ↦ absurd (no_list x.1 r.1.1 refl)
+      ]
       | inr r ↦ elim k [
-          | inl y ↦ absurd (no_list y.1 r.1.1 refl)
-          | inr q ↦ by_equals a b (Refuses r.0) (Refuses q.0) r.2 q.2 (refl, refl)
-        ]
+        | inl y ↦ absurd (no_list y.1 r.1.1 refl)
+        | inr q ↦ by_equals a b (Refuses r.0) (Refuses q.0) r.2 q.2 (refl, refl)
+      ]
     ]

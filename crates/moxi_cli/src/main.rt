@@ -6,6 +6,8 @@ mod command;
 mod declared;
 mod formula;
 mod judge;
+#[cfg(test)]
+mod judge_tests;
 mod limits;
 mod lines;
 mod notes;

@@ -13,7 +13,7 @@ const ROOM: usize = 1_048_576;
 
 const SMALLEST: &[u8] = b"MODULE main VAR x : boolean; INVARSPEC !x";
 
-const SMALLEST_TEXT: &[u8] =
+pub const SMALLEST_TEXT: &[u8] =
     b"1 sort bitvec 1\n2 one 1\n3 zero 1\n4 state 1 first\n5 init 1 4 2\n6 next 1 4 3\n7 input 1 v.x\n8 state 1 v.x.prev\n9 next 1 8 7\n10 not 1 7\n11 not 1 10\n12 bad 11 q.0\n";
 
 const NOT_BUILT: &[u8] = b"refused: S29 NotBuilt at 1:1\n";
