@@ -1,5 +1,6 @@
 // Lines, parts and numbers of a witness's text.
 ghost use Rattle.std.specs.Prelude.{◌≡◌, ◌<◌, ◌≤◌, ◌^◌, ◌++◌, ◌∷◌, [], length, true};
+ghost use Rattle.word_core.specs.declared.word.TheConstants.{WIDEST};
 ghost use Rattle.btor_witness.specs.Bytes.{is_digit, is_blank, is_binary, all_binary, bits_after, word_of, numeral, number_after, parts, part_length, line_length, without_return, FirstPart, ends_part};
 
 use word_core::{WIDEST, Word};
@@ -54,7 +55,7 @@ pub fn all_binary(digits: &[u8]) -> bool
 }
 
 fn bits(digits: &[u8]) -> u128
-    requires few { length digits.now ≤ 64 }
+    requires few { length digits.now ≤ WIDEST }
     requires binary { all_binary digits.now ≡ true }
     ensures value { result ≡ bits_after 0 digits.now }
     ensures fits { result < 2 ^ length digits.now }

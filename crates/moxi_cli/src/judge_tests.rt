@@ -14,10 +14,14 @@ const WITNESS: &[u8] = b"sat\nb0\n@0\n0 1\n.\n";
 const NO_TRANSITION: &[u8] =
     b"1 sort bitvec 1\n2 one 1\n3 zero 1\n4 state 1 first\n5 init 1 4 2\n6 next 1 4 3\n7 input 1 v.x\n8 state 1 v.x.prev\n9 next 1 8 7\n10 or 1 4 3\n11 constraint 10\n12 not 1 7\n13 not 1 12\n14 bad 13 q.0\n";
 
-// The bad line is broken where 1 + 1 is not 0 in one bit.
+// The bad line is true where 1 + 1 is not 0 in one bit.
 const SUM: &[u8] = b"1 sort bitvec 1\n2 input 1\n3 add 1 2 2\n4 bad 3\n";
 
-// A free state, an assumption and two bad lines.
+// A signed quotient, cut: -7 by 2 is -3.
+const QUOTIENT: &[u8] =
+    b"1 sort bitvec 4\n2 constd 1 -7\n3 constd 1 2\n4 sdiv 1 2 3\n5 const 1 1101\n6 sort bitvec 1\n7 eq 6 4 5\n8 bad 7\n";
+
+// A free state that flips, and two bad lines, of which the second is never true.
 const TWO_BAD: &[u8] =
     b"1 sort bitvec 1\n2 one 1\n3 zero 1\n4 state 1 first\n5 init 1 4 2\n6 next 1 4 3\n7 state 1 v.x\n8 not 1 7\n9 next 1 7 8\n10 bad 7 q1.0\n11 and 1 7 8\n12 bad 11 q2.0\n";
 
@@ -60,7 +64,7 @@ fn witnesses_and_verdicts(rt: HostRuntime) -> Result<(), Fail> {
     let alloc = rt.alloc();
     let named: &[u8] =
         b"1 sort bitvec 1\n2 one 1\n3 zero 1\n4 state 1 first\n5 init 1 4 2\n6 next 1 4 3\n7 input 1 v.x\n8 state 1 v.x.prev\n9 next 1 8 7\n10 not 1 7 $not$a.v:3$1\n11 not 1 10\n12 bad 11 q.0\n";
-    let rows: [(&[u8], &[u8], Status, &[u8], &[u8]); 15] = [
+    let rows: [(&[u8], &[u8], Status, &[u8], &[u8]); 16] = [
         (
             SMALLEST_TEXT,
             WITNESS,
@@ -105,6 +109,13 @@ fn witnesses_and_verdicts(rt: HostRuntime) -> Result<(), Fail> {
             b"no: step 1: ConstraintFails\n",
         ),
         (SUM, WITNESS, Status::No, b"", b"no: step 0: NotBroken\n"),
+        (
+            QUOTIENT,
+            b"sat\nb0\n@0\n.\n",
+            Status::Done,
+            b"yes: bad 0 at step 0\n",
+            b"",
+        ),
         (
             TWO_BAD,
             b"sat\nb0\n@0\n@1\n.\n",
