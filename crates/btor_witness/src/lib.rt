@@ -8,6 +8,8 @@ mod judge;
 mod judge_tests;
 mod part;
 mod phase;
+#[cfg(test)]
+mod plain_tests;
 mod print;
 mod read;
 mod reader;
