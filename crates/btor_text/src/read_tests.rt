@@ -126,7 +126,7 @@ const READ: [(&[u8], &[u8]); 8] = [
 
 // Whether the text is read, and printed so.
 fn is_read(alloc: Global, text: &[u8], printed: &[u8]) -> bool {
-    if text.len() > 1000 {
+    if text.len() > 2_000_000 {
         return false;
     }
     match read_btor(alloc, text) {
@@ -144,5 +144,17 @@ fn texts_are_read_and_printed(rt: HostRuntime) -> Result<(), Fail> {
         assert_eq!(rt; is_read(rt.alloc(), *text, *printed), true);
         assert_eq!(rt; is_read(rt.alloc(), *printed, *printed), true);
     }
+    Ok(())
+}
+
+// A line with a symbol of 1 MiB.
+#[test]
+fn a_long_line(rt: HostRuntime) -> Result<(), Fail> {
+    let alloc = rt.alloc();
+    let mut text = b"1 sort bitvec 1 ".to_vec(alloc)?;
+    let symbol = vec![in alloc; b's'; 1_048_576]?;
+    text.extend_from_slice(&symbol)?;
+    text.push(b'\n')?;
+    assert_eq!(rt; is_read(alloc, &text, &text), true);
     Ok(())
 }

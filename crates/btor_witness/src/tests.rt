@@ -88,17 +88,33 @@ fn each_refusal(rt: HostRuntime) -> Result<(), Fail> {
     Ok(())
 }
 
+// Each witness with its printed form.
+const PRINTED: [(&[u8], &[u8]); 2] = [
+    (
+        b"sat\nb0\n#0\n0 0\n@0\n0 1\n.\n",
+        b"sat\nb0\n#0\n0 0\n@0\n0 1\n.\n",
+    ),
+    (
+        b"sat\nb0\n#0\n0 1 first\n@0\n1 0110 y\n0 1 x\n#1\n@1\n@2\n0 0\n.\n",
+        b"sat\nb0\n#0\n0 1\n@0\n0 1\n1 0110\n@1\n@2\n0 0\n.\n",
+    ),
+];
+
 #[test]
 fn printed_and_read(rt: HostRuntime) -> Result<(), Fail> {
     let alloc = rt.alloc();
     let nodes = lines(alloc)?;
-    let text = b"sat\nb0\n#0\n0 1 first\n@0\n1 0110 y\n0 1 x\n#1\n@1\n@2\n0 0\n.\n";
-    let Ok(witness) = read_witness(alloc, &nodes, text) else {
-        return Err(Fail::from("a witness"));
-    };
-    let printed = print_witness(alloc, &nodes, &witness)?;
-    let form = b"sat\nb0\n#0\n0 1\n@0\n0 1\n1 0110\n@1\n@2\n0 0\n.\n";
-    assert_eq!(rt; printed.bytes(), form.as_slice());
+    for (text, form) in &PRINTED {
+        let bytes: &[u8] = *text;
+        if bytes.len() > 1000 {
+            return Err(Fail::from("a text that is too long"));
+        }
+        let Ok(witness) = read_witness(alloc, &nodes, bytes) else {
+            return Err(Fail::from("a witness"));
+        };
+        let printed = print_witness(alloc, &nodes, &witness)?;
+        assert_eq!(rt; printed.bytes(), *form);
+    }
     Ok(())
 }
 
