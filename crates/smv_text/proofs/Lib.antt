@@ -1,3 +1,5 @@
 pub mod Longest
+pub mod Keywords
+pub mod Spellings
 pub mod Laws
-pub mod OtherWords
+pub mod Answered

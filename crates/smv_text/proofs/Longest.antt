@@ -3,11 +3,13 @@ use Rattle.std.proofs.Common.{◌≡◌, ◌≤◌, ◌<◌, ◌+◌, ℕ, suc, 
 use Rattle.std.specs.Prelude.{IsTrue}
 use Rattle.std.proofs.lemmas.List.{take_at, drop_at, append_assoc, length-append, take-append-drop, length-take-le}
 use Rattle.std.proofs.lemmas.Bool.{eqb-true, cond_both, and_parts}
+use Rattle.std.proofs.lemmas.Bool.Decides.{nat_tests}
 use Rattle.smv_text.specs.declared.token.Sign.{Sign}
 use Rattle.smv_text.specs.declared.token.Sign.TheVariants as sign
-use Rattle.smv_text.specs.Bytes.{is_letter, is_blank, AllPass, IsLongest, heads}
-use Rattle.smv_text.specs.Words.{IsGap, no_gap, blank, comment, IsLexeme, in_word, sign_bytes, sign_at}
-use Rattle.smv_text.specs.Reading.{on_some, gap_step, gap_length, front_length, lexeme_length, sign_length}
+use Rattle.smv_text.specs.Bytes.{is_digit, is_letter, is_blank, AllPass, IsLongest, front_length, heads}
+use Rattle.smv_text.specs.Signs.{sign_bytes, may_stand, begins_comment, colon_sign, dot_sign, bang_sign, less_sign, greater_sign, dash_sign, slash_sign, sign_at}
+use Rattle.smv_text.specs.Words.{IsGap, no_gap, blank, comment, IsLexeme, in_word, in_run}
+use Rattle.smv_text.specs.Reading.{on_some, gap_step, gap_length, lexeme_length, sign_length}
 
 pub same_front : {P : List ℕ → List ℕ → Type 0} (f r g s : List ℕ) → f ++ r ≡ g ++ s → IsLongest P f r → IsLongest P g s → (f ≡ g) × (r ≡ s)
 same_front {P = P} f r g s e a b =
@@ -117,66 +119,231 @@ longest_gap text = longest_from {P = λ f r. IsGap f} (gap_length false) text (g
 -- signs
 pub OnSign : List ℕ → Option Sign → Type 0
 OnSign text None = Unit {0}
-OnSign text (Some s) = (rest : List ℕ) × (text ≡ sign_bytes s ++ rest)
+OnSign text (Some s) = (rest : List ℕ) × (text ≡ sign_bytes s ++ rest) × IsTrue (may_stand s rest)
 
-abbrev begins : (b c : ℕ) (bs : List ℕ) → Type 0
-begins b c bs = (eqb b c ≡ true) → b ∷ bs ≡ c ∷ bs
+head_is : (c : ℕ) (bs : List ℕ) → heads c bs ≡ true → bs ≡ c ∷ drop 1 bs
+head_is c [] e = absurd (cc)
+head_is c (b ∷ bs) e = ap (λ x. x ∷ bs) (eqb-true b c e)
 
-first : (b c : ℕ) (bs : List ℕ) → begins b c bs
-first b c bs e = ap (λ x. x ∷ bs) (eqb-true b c e)
-
-pub sign_fits : (b : ℕ) (bs : List ℕ) → OnSign (b ∷ bs) (sign_at b)
+-- the sign at a byte, and one byte that goes on with it
+fits_two : (c d : ℕ) (bs : List ℕ) (s : Sign) → sign_bytes s ≡ c ∷ (d ∷ []) → IsTrue (may_stand s (drop 1 bs)) → heads d bs ≡ true → OnSign (c ∷ bs) (Some s)
 unfolding OnSign
+fits_two c d bs s spelled stands e = (drop 1 bs, ap (λ x. c ∷ x) (head_is d bs e) ∙ ap (λ x. x ++ drop 1 bs) (sym spelled), stands)
+
+fits_one : (c : ℕ) (bs : List ℕ) (s : Sign) → sign_bytes s ≡ c ∷ [] → IsTrue (may_stand s bs) → OnSign (c ∷ bs) (Some s)
+unfolding OnSign
+fits_one c bs s spelled stands = (bs, ap (λ x. x ++ bs) (sym spelled), stands)
+
+colon_fits : (bs : List ℕ) → OnSign (58 ∷ bs) (Some (colon_sign bs))
+colon_fits bs =
+    let P : Sign → Type 0 = λ s. OnSign (58 ∷ bs) (Some s) in
+    cond_both (heads 61 bs) _ _ P (fits_two 58 61 bs sign.Assign refl refl) (λ _.
+    cond_both (heads 58 bs) _ _ P (fits_two 58 58 bs sign.Concat refl refl) (λ _. fits_one 58 bs sign.Colon refl refl))
+
+dot_fits : (bs : List ℕ) → OnSign (46 ∷ bs) (Some (dot_sign bs))
+dot_fits bs =
+    let P : Sign → Type 0 = λ s. OnSign (46 ∷ bs) (Some s) in
+    cond_both (heads 46 bs) _ _ P (fits_two 46 46 bs sign.Range refl refl) (λ _. fits_one 46 bs sign.Dot refl refl)
+
+bang_fits : (bs : List ℕ) → OnSign (33 ∷ bs) (Some (bang_sign bs))
+bang_fits bs =
+    let P : Sign → Type 0 = λ s. OnSign (33 ∷ bs) (Some s) in
+    cond_both (heads 61 bs) _ _ P (fits_two 33 61 bs sign.Unequal refl refl) (λ _. fits_one 33 bs sign.Not refl refl)
+
+iff_fits : (bs : List ℕ) → (heads 45 bs && heads 62 (drop 1 bs)) ≡ true → OnSign (60 ∷ bs) (Some sign.Iff)
+unfolding OnSign
+iff_fits bs e =
+    let parts = and_parts (heads 45 bs) (heads 62 (drop 1 bs)) e in
+    (drop 1 (drop 1 bs), ap (λ x. 60 ∷ x) (head_is 45 bs parts.0) ∙ ap (λ x. 60 ∷ (45 ∷ x)) (head_is 62 (drop 1 bs) parts.1), refl)
+
+less_fits : (bs : List ℕ) → OnSign (60 ∷ bs) (Some (less_sign bs))
+less_fits bs =
+    let P : Sign → Type 0 = λ s. OnSign (60 ∷ bs) (Some s) in
+    cond_both (heads 61 bs) _ _ P (fits_two 60 61 bs sign.LessEqual refl refl) (λ _.
+    cond_both (heads 60 bs) _ _ P (fits_two 60 60 bs sign.ShiftLeft refl refl) (λ _.
+    cond_both (heads 45 bs && heads 62 (drop 1 bs)) sign.Iff sign.Less P (iff_fits bs) (λ _. fits_one 60 bs sign.Less refl refl)))
+
+greater_fits : (bs : List ℕ) → OnSign (62 ∷ bs) (Some (greater_sign bs))
+greater_fits bs =
+    let P : Sign → Type 0 = λ s. OnSign (62 ∷ bs) (Some s) in
+    cond_both (heads 61 bs) _ _ P (fits_two 62 61 bs sign.GreaterEqual refl refl) (λ _.
+    cond_both (heads 62 bs) _ _ P (fits_two 62 62 bs sign.ShiftRight refl refl) (λ _. fits_one 62 bs sign.Greater refl refl))
+
+dash_fits : (bs : List ℕ) → OnSign (45 ∷ bs) (Some (dash_sign bs))
+dash_fits bs =
+    let P : Sign → Type 0 = λ s. OnSign (45 ∷ bs) (Some s) in
+    cond_both (heads 62 bs) _ _ P (fits_two 45 62 bs sign.Implies refl refl) (λ _. fits_one 45 bs sign.Minus refl refl)
+
+no_sign : (text : List ℕ) → OnSign text None
+unfolding OnSign
+no_sign text = tt
+
+slash_fits : (bs : List ℕ) → OnSign (47 ∷ bs) (slash_sign bs)
+slash_fits bs = cond_both (begins_comment bs) None (Some sign.Divide) (OnSign (47 ∷ bs)) (λ _. no_sign (47 ∷ bs)) (λ e. fits_one 47 bs sign.Divide refl (ap not e))
+
+at_byte : (b c : ℕ) (bs : List ℕ) (o : Option Sign) → OnSign (c ∷ bs) o → eqb b c ≡ true → OnSign (b ∷ bs) o
+at_byte b c bs o h e = subst (λ (x : ℕ). OnSign (x ∷ bs) o) (sym (eqb-true b c e)) h
+
+pub sign_fits : (b : ℕ) (bs : List ℕ) → OnSign (b ∷ bs) (sign_at b bs)
 sign_fits b bs =
     let P : Option Sign → Type 0 = OnSign (b ∷ bs) in
-    cond_both (eqb b 40) _ _ P (λ e. (bs, first b 40 bs e)) (λ _.
-    cond_both (eqb b 41) _ _ P (λ e. (bs, first b 41 bs e)) (λ _.
-    cond_both (eqb b 59) _ _ P (λ e. (bs, first b 59 bs e)) (λ _.
-    cond_both (eqb b 58) _ _ P (λ e. (bs, first b 58 bs e)) (λ _.
-    cond_both (eqb b 33) _ _ P (λ e. (bs, first b 33 bs e)) (λ _.
-    cond_both (eqb b 38) (Some sign.And) None P (λ e. (bs, first b 38 bs e)) (λ _. tt))))))
+    cond_both (eqb b 40) _ _ P (at_byte b 40 bs _ (fits_one 40 bs sign.Open refl refl)) (λ _.
+    cond_both (eqb b 41) _ _ P (at_byte b 41 bs _ (fits_one 41 bs sign.Close refl refl)) (λ _.
+    cond_both (eqb b 123) _ _ P (at_byte b 123 bs _ (fits_one 123 bs sign.OpenBrace refl refl)) (λ _.
+    cond_both (eqb b 125) _ _ P (at_byte b 125 bs _ (fits_one 125 bs sign.CloseBrace refl refl)) (λ _.
+    cond_both (eqb b 91) _ _ P (at_byte b 91 bs _ (fits_one 91 bs sign.OpenBracket refl refl)) (λ _.
+    cond_both (eqb b 93) _ _ P (at_byte b 93 bs _ (fits_one 93 bs sign.CloseBracket refl refl)) (λ _.
+    cond_both (eqb b 44) _ _ P (at_byte b 44 bs _ (fits_one 44 bs sign.Comma refl refl)) (λ _.
+    cond_both (eqb b 59) _ _ P (at_byte b 59 bs _ (fits_one 59 bs sign.Semicolon refl refl)) (λ _.
+    cond_both (eqb b 58) _ _ P (at_byte b 58 bs _ (colon_fits bs)) (λ _.
+    cond_both (eqb b 46) _ _ P (at_byte b 46 bs _ (dot_fits bs)) (λ _.
+    cond_both (eqb b 61) _ _ P (at_byte b 61 bs _ (fits_one 61 bs sign.Equal refl refl)) (λ _.
+    cond_both (eqb b 33) _ _ P (at_byte b 33 bs _ (bang_fits bs)) (λ _.
+    cond_both (eqb b 60) _ _ P (at_byte b 60 bs _ (less_fits bs)) (λ _.
+    cond_both (eqb b 62) _ _ P (at_byte b 62 bs _ (greater_fits bs)) (λ _.
+    cond_both (eqb b 38) _ _ P (at_byte b 38 bs _ (fits_one 38 bs sign.And refl refl)) (λ _.
+    cond_both (eqb b 124) _ _ P (at_byte b 124 bs _ (fits_one 124 bs sign.Or refl refl)) (λ _.
+    cond_both (eqb b 43) _ _ P (at_byte b 43 bs _ (fits_one 43 bs sign.Plus refl refl)) (λ _.
+    cond_both (eqb b 45) _ _ P (at_byte b 45 bs _ (dash_fits bs)) (λ _.
+    cond_both (eqb b 42) _ _ P (at_byte b 42 bs _ (fits_one 42 bs sign.Times refl refl)) (λ _.
+    cond_both (eqb b 47) _ _ P (at_byte b 47 bs _ (slash_fits bs)) (λ _.
+    cond_both (eqb b 63) (Some sign.Question) None P (at_byte b 63 bs _ (fits_one 63 bs sign.Question refl refl)) (λ _. no_sign (b ∷ bs))))))))))))))))))))))
 
-pub sign_longest : (s : Sign) (r : List ℕ) → length (sign_bytes s) ≤ lexeme_length (sign_bytes s ++ r)
-sign_longest sign.Open r = omega arith
-sign_longest sign.Close r = omega arith
-sign_longest sign.Semicolon r = omega arith
-sign_longest sign.Colon r = omega arith
-sign_longest sign.Not r = omega arith
-sign_longest sign.And r = omega arith
+-- every sign has a byte
+some_bytes : (s : Sign) → 1 ≤ length (sign_bytes s)
+some_bytes sign.Open = omega arith
+some_bytes sign.Close = omega arith
+some_bytes sign.OpenBrace = omega arith
+some_bytes sign.CloseBrace = omega arith
+some_bytes sign.OpenBracket = omega arith
+some_bytes sign.CloseBracket = omega arith
+some_bytes sign.Comma = omega arith
+some_bytes sign.Semicolon = omega arith
+some_bytes sign.Colon = omega arith
+some_bytes sign.Dot = omega arith
+some_bytes sign.Range = omega arith
+some_bytes sign.Assign = omega arith
+some_bytes sign.Equal = omega arith
+some_bytes sign.Unequal = omega arith
+some_bytes sign.Less = omega arith
+some_bytes sign.Greater = omega arith
+some_bytes sign.LessEqual = omega arith
+some_bytes sign.GreaterEqual = omega arith
+some_bytes sign.Not = omega arith
+some_bytes sign.And = omega arith
+some_bytes sign.Or = omega arith
+some_bytes sign.Plus = omega arith
+some_bytes sign.Minus = omega arith
+some_bytes sign.Times = omega arith
+some_bytes sign.Divide = omega arith
+some_bytes sign.ShiftLeft = omega arith
+some_bytes sign.ShiftRight = omega arith
+some_bytes sign.Concat = omega arith
+some_bytes sign.Question = omega arith
+some_bytes sign.Implies = omega arith
+some_bytes sign.Iff = omega arith
+
+not_true : (b : Bool) → not b ≡ true → b ≡ false
+not_true true e = cc
+not_true false e = refl
+
+pub sign_longest : (s : Sign) (r : List ℕ) → IsTrue (may_stand s r) → length (sign_bytes s) ≤ lexeme_length (sign_bytes s ++ r)
+sign_longest sign.Open r h = omega arith
+sign_longest sign.Close r h = omega arith
+sign_longest sign.OpenBrace r h = omega arith
+sign_longest sign.CloseBrace r h = omega arith
+sign_longest sign.OpenBracket r h = omega arith
+sign_longest sign.CloseBracket r h = omega arith
+sign_longest sign.Comma r h = omega arith
+sign_longest sign.Semicolon r h = omega arith
+sign_longest sign.Colon r h = some_bytes (colon_sign r)
+sign_longest sign.Dot r h = some_bytes (dot_sign r)
+sign_longest sign.Range r h = omega arith
+sign_longest sign.Assign r h = omega arith
+sign_longest sign.Equal r h = omega arith
+sign_longest sign.Unequal r h = omega arith
+sign_longest sign.Less r h = some_bytes (less_sign r)
+sign_longest sign.Greater r h = some_bytes (greater_sign r)
+sign_longest sign.LessEqual r h = omega arith
+sign_longest sign.GreaterEqual r h = omega arith
+sign_longest sign.Not r h = some_bytes (bang_sign r)
+sign_longest sign.And r h = omega arith
+sign_longest sign.Or r h = omega arith
+sign_longest sign.Plus r h = omega arith
+sign_longest sign.Minus r h = some_bytes (dash_sign r)
+sign_longest sign.Times r h = omega arith
+sign_longest sign.Divide r h = rw (not_true (begins_comment r) h) (omega arith)
+sign_longest sign.ShiftLeft r h = omega arith
+sign_longest sign.ShiftRight r h = omega arith
+sign_longest sign.Concat r h = omega arith
+sign_longest sign.Question r h = omega arith
+sign_longest sign.Implies r h = omega arith
+sign_longest sign.Iff r h = omega arith
+
+digit_no_letter : (b : ℕ) → is_digit b ≡ true → is_letter b ≡ false
+digit_no_letter b e = grind (arith, nat_tests)
 
 pub lexeme_longest : (f r : List ℕ) → IsLexeme f r → length f ≤ lexeme_length (f ++ r)
 lexeme_longest [] r a = absurd a
 lexeme_longest (b ∷ f) r (inl (letter, passes)) = rw letter (omega (arith, front_longest in_word f r passes))
-lexeme_longest (b ∷ f) r (inr (s, e)) = let P : List ℕ → Type 0 = λ x. length x ≤ lexeme_length (x ++ r) in subst P (sym e) (sign_longest s r)
+lexeme_longest (b ∷ f) r (inr (inl (digit, passes))) = rw (digit_no_letter b digit, digit) (omega (arith, front_longest in_run f r passes))
+lexeme_longest (b ∷ f) r (inr (inr (s, e, h))) = let P : List ℕ → Type 0 = λ x. length x ≤ lexeme_length (x ++ r) in subst P (sym e) (sign_longest s r h)
 
 abbrev sized : List ℕ → ℕ → Type 0
 sized text n = (n ≤ length text) × (0 < n → IsLexeme (take n text) (drop n text))
 
-sign_lexeme : (s : Sign) (r : List ℕ) → IsLexeme (sign_bytes s) r
-sign_lexeme sign.Open r = inr (sign.Open, refl)
-sign_lexeme sign.Close r = inr (sign.Close, refl)
-sign_lexeme sign.Semicolon r = inr (sign.Semicolon, refl)
-sign_lexeme sign.Colon r = inr (sign.Colon, refl)
-sign_lexeme sign.Not r = inr (sign.Not, refl)
-sign_lexeme sign.And r = inr (sign.And, refl)
+sign_lexeme : (s : Sign) (r : List ℕ) → IsTrue (may_stand s r) → IsLexeme (sign_bytes s) r
+sign_lexeme sign.Open r h = inr (inr (sign.Open, refl, h))
+sign_lexeme sign.Close r h = inr (inr (sign.Close, refl, h))
+sign_lexeme sign.OpenBrace r h = inr (inr (sign.OpenBrace, refl, h))
+sign_lexeme sign.CloseBrace r h = inr (inr (sign.CloseBrace, refl, h))
+sign_lexeme sign.OpenBracket r h = inr (inr (sign.OpenBracket, refl, h))
+sign_lexeme sign.CloseBracket r h = inr (inr (sign.CloseBracket, refl, h))
+sign_lexeme sign.Comma r h = inr (inr (sign.Comma, refl, h))
+sign_lexeme sign.Semicolon r h = inr (inr (sign.Semicolon, refl, h))
+sign_lexeme sign.Colon r h = inr (inr (sign.Colon, refl, h))
+sign_lexeme sign.Dot r h = inr (inr (sign.Dot, refl, h))
+sign_lexeme sign.Range r h = inr (inr (sign.Range, refl, h))
+sign_lexeme sign.Assign r h = inr (inr (sign.Assign, refl, h))
+sign_lexeme sign.Equal r h = inr (inr (sign.Equal, refl, h))
+sign_lexeme sign.Unequal r h = inr (inr (sign.Unequal, refl, h))
+sign_lexeme sign.Less r h = inr (inr (sign.Less, refl, h))
+sign_lexeme sign.Greater r h = inr (inr (sign.Greater, refl, h))
+sign_lexeme sign.LessEqual r h = inr (inr (sign.LessEqual, refl, h))
+sign_lexeme sign.GreaterEqual r h = inr (inr (sign.GreaterEqual, refl, h))
+sign_lexeme sign.Not r h = inr (inr (sign.Not, refl, h))
+sign_lexeme sign.And r h = inr (inr (sign.And, refl, h))
+sign_lexeme sign.Or r h = inr (inr (sign.Or, refl, h))
+sign_lexeme sign.Plus r h = inr (inr (sign.Plus, refl, h))
+sign_lexeme sign.Minus r h = inr (inr (sign.Minus, refl, h))
+sign_lexeme sign.Times r h = inr (inr (sign.Times, refl, h))
+sign_lexeme sign.Divide r h = inr (inr (sign.Divide, refl, h))
+sign_lexeme sign.ShiftLeft r h = inr (inr (sign.ShiftLeft, refl, h))
+sign_lexeme sign.ShiftRight r h = inr (inr (sign.ShiftRight, refl, h))
+sign_lexeme sign.Concat r h = inr (inr (sign.Concat, refl, h))
+sign_lexeme sign.Question r h = inr (inr (sign.Question, refl, h))
+sign_lexeme sign.Implies r h = inr (inr (sign.Implies, refl, h))
+sign_lexeme sign.Iff r h = inr (inr (sign.Iff, refl, h))
 
-sized_sign : (s : Sign) (r : List ℕ) → sized (sign_bytes s ++ r) (length (sign_bytes s))
-sized_sign s r = (
+sized_sign : (s : Sign) (r : List ℕ) → IsTrue (may_stand s r) → sized (sign_bytes s ++ r) (length (sign_bytes s))
+sized_sign s r h = (
   omega (arith, length-append (sign_bytes s) r),
-  λ lt. let P : List ℕ → Type 0 = λ x. IsLexeme x (drop (length (sign_bytes s)) (sign_bytes s ++ r)) in
-      subst P (sym (take_at (sign_bytes s) r (length (sign_bytes s)) refl)) (sign_lexeme s (drop (length (sign_bytes s)) (sign_bytes s ++ r))),
+  λ lt. let P : List ℕ → List ℕ → Type 0 = λ x y. IsLexeme x y in
+      subst (λ (x : List ℕ). P x (drop (length (sign_bytes s)) (sign_bytes s ++ r))) (sym (take_at (sign_bytes s) r (length (sign_bytes s)) refl))
+      (subst (P (sign_bytes s)) (sym (drop_at (sign_bytes s) r (length (sign_bytes s)) refl)) (sign_lexeme s r h)),
 )
 
 from_sign : (b : ℕ) (bs : List ℕ) (o : Option Sign) → OnSign (b ∷ bs) o → sized (b ∷ bs) (sign_length o)
 unfolding OnSign
 from_sign b bs None h = (omega arith, λ lt. absurd (omega arith))
-from_sign b bs (Some s) (rest, e) = subst (λ (text : List ℕ). sized text (length (sign_bytes s))) (sym e) (sized_sign s rest)
+from_sign b bs (Some s) (rest, e, h) = subst (λ (text : List ℕ). sized text (length (sign_bytes s))) (sym e) (sized_sign s rest h)
 
 pub lexeme_is : (text : List ℕ) → sized text (lexeme_length text)
 lexeme_is [] = (omega arith, λ lt. absurd (omega arith))
 lexeme_is (b ∷ bs) =
     cond_both (is_letter b) (suc (front_length in_word bs)) _ (sized (b ∷ bs)) (λ letter. (omega (arith, front_within in_word bs), λ lt. inl (letter, front_passes in_word bs)))
-    (λ _. from_sign b bs (sign_at b) (sign_fits b bs))
+    (λ _. cond_both (is_digit b) (suc (front_length in_run bs)) _ (sized (b ∷ bs)) (λ digit. (omega (arith, front_within in_run bs), λ lt. inr (inl (digit, front_passes in_run bs))))
+    (λ _. from_sign b bs (sign_at b bs) (sign_fits b bs)))
 
 pub longest_lexeme : (text : List ℕ) → 0 < lexeme_length text → IsLongest IsLexeme (take (lexeme_length text) text) (drop (lexeme_length text) text)
 longest_lexeme text lt = longest_from lexeme_length text (lexeme_is text).0 ((lexeme_is text).1 lt) lexeme_longest

@@ -1,5 +1,5 @@
 -- Bytes, fronts of lists of bytes, and places.
-use Rattle.std.specs.Prelude.{◌≡◌, ◌==◌, ◌+◌, ◌^◌, ◌≤◌, ℕ, Bool, false, ◌&&◌, ◌||◌, IsTrue, nat_le, if◌then◌else◌, List, [], ◌∷◌, ◌++◌, length}
+use Rattle.std.specs.Prelude.{◌≡◌, ◌==◌, ◌+◌, ◌^◌, ◌≤◌, ℕ, suc, Bool, false, ◌&&◌, ◌||◌, IsTrue, nat_le, if◌then◌else◌, List, [], ◌∷◌, ◌++◌, length}
 use Rattle.text_core.specs.declared.place.Place.{Place}
 
 -- 0 to 9
@@ -18,6 +18,11 @@ is_blank b = (nat_le 9 b && nat_le b 13) || (b == 32)
 abbrev pub heads : ℕ → List ℕ → Bool
 heads c [] = false
 heads c (b ∷ bs) = b == c
+
+-- how many bytes pass from the front on
+abbrev pub front_length : (ℕ → List ℕ → Bool) → List ℕ → ℕ
+front_length p [] = 0
+front_length p (b ∷ bs) = if p b bs then suc (front_length p bs) else 0
 
 -- Each byte of the front passes, with what stands behind it.
 abbrev pub AllPass : (ℕ → List ℕ → Bool) → List ℕ → List ℕ → Type 0

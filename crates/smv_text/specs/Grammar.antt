@@ -1,11 +1,12 @@
 -- Which tokens spell which model: one module main of boolean variables, and one invariant (NuSMV 2.6 User Manual: basic
 -- expressions in 2.2.3, variables in 2.3.1, modules in 2.3.10, the main module in 2.3.13, invariants in 2.4.2).
-use Rattle.std.specs.Prelude.{◌≡◌, ◌≢◌, ◌⊎◌, ℕ, suc, ◌+◌, ◌-◌, ◌≤◌, ◌<◌, max, Bool, true, ◌&&◌, Option, Some, None, List, [], ◌∷◌, ◌++◌, length, nat_le, position, codes}
+use Rattle.std.specs.Prelude.{◌≡◌, ◌≢◌, ◌⊎◌, ℕ, suc, ◌+◌, ◌≤◌, ◌<◌, max, Bool, true, ◌&&◌, Option, Some, None, List, [], ◌∷◌, ◌++◌, length, nat_le, position, codes}
 use Rattle.std.specs.Str.{bytes_eq}
 use Rattle.smv_text.specs.declared.token.TokenKind.{TokenKind}
 use Rattle.smv_text.specs.declared.token.TokenKind.TheVariants as kind
 use Rattle.smv_text.specs.declared.token.Reserved.TheVariants as word
 use Rattle.smv_text.specs.declared.token.Sign.TheVariants as sign
+use Rattle.smv_text.specs.Lexing.{most_brackets, opened_by}
 
 -- formulas; a variable is named by its place among the declared names
 mutual
@@ -23,12 +24,9 @@ pub record Source : Type 0 where
   pub names : List (List ℕ)
   pub invariant : Formula
 
--- at most so many tokens, open brackets, bytes of a name, and levels of a formula
+-- at most so many tokens, bytes of a name, and levels of a formula
 abbrev pub most_tokens : ℕ
 most_tokens = 4096
-
-abbrev pub most_brackets : ℕ
-most_brackets = 100
 
 abbrev pub most_bytes : ℕ
 most_bytes = 1000
@@ -80,12 +78,6 @@ declared (name ∷ names) = kind.Ident name ∷ kind.Sign sign.Colon ∷ kind.Re
 abbrev pub AreDistinct : List (List ℕ) → Type 0
 AreDistinct [] = Unit {0}
 AreDistinct (name ∷ names) = (place_of names name ≡ None) × AreDistinct names
-
--- how many brackets stand open behind a token; a closing one closes one where one stands open
-abbrev pub opened_by : ℕ → TokenKind → ℕ
-opened_by opened (kind.Sign sign.Open) = suc opened
-opened_by opened (kind.Sign sign.Close) = opened - 1
-opened_by opened _ = opened
 
 -- where so many brackets stand open, at most so many stand open behind each token
 abbrev pub nests_within : ℕ → ℕ → List TokenKind → Bool

@@ -1,10 +1,15 @@
--- What a text lexes to.
-use Rattle.std.specs.Prelude.{◌≡◌, ℕ, Some, List, [], ◌∷◌, ◌++◌, length}
+-- What a text lexes to, and how it is refused (NuSMV 2.6 User Manual, chapter 2, before section 2.1).
+use Rattle.std.specs.Prelude.{◌≡◌, ◌≢◌, ℕ, suc, ◌-◌, ◌≤◌, ◌<◌, IsTrue, Some, None, List, [], ◌∷◌, ◌++◌, length}
 use Rattle.text_core.specs.declared.place.Place.{Place}
+use Rattle.text_core.specs.declared.place.Kind.TheVariants.{S}
+use Rattle.text_core.specs.declared.place.Refusal.{Refusal}
 use Rattle.smv_text.specs.declared.token.Token.{Token}
 use Rattle.smv_text.specs.declared.token.TokenKind.{TokenKind}
+use Rattle.smv_text.specs.declared.token.TokenKind.TheVariants as kind
+use Rattle.smv_text.specs.declared.token.Reserved.TheVariants as word
+use Rattle.smv_text.specs.declared.token.Sign.TheVariants as sign
 use Rattle.smv_text.specs.Bytes.{IsLongest, after, start}
-use Rattle.smv_text.specs.Words.{IsGap, IsLexeme, kind_of}
+use Rattle.smv_text.specs.Words.{IsGap, IsLexeme, is_run, kind_of}
 
 -- a text's tokens, and the place of its end
 pub record TokenList : Type 0 where
@@ -16,33 +21,78 @@ abbrev pub kinds : List Token → List TokenKind
 kinds [] = []
 kinds (t ∷ ts) = t.kind ∷ kinds ts
 
--- What stands next: nothing more, a token with the place behind it and the rest, or what is no token.
+-- How many brackets stand open behind a token. A closing one closes one where one stands open, of whatever kind; `case` and
+-- `esac` count as brackets. This rule and the limit are our own.
+abbrev pub opened_by : ℕ → TokenKind → ℕ
+opened_by n (kind.Sign sign.Open) = suc n
+opened_by n (kind.Sign sign.OpenBrace) = suc n
+opened_by n (kind.Sign sign.OpenBracket) = suc n
+opened_by n (kind.Reserved word.Case) = suc n
+opened_by n (kind.Sign sign.Close) = n - 1
+opened_by n (kind.Sign sign.CloseBrace) = n - 1
+opened_by n (kind.Sign sign.CloseBracket) = n - 1
+opened_by n (kind.Reserved word.Esac) = n - 1
+opened_by n _ = n
+
+-- how many brackets stand open behind these tokens, where n stand open before them
+abbrev pub opened_after : ℕ → List Token → ℕ
+opened_after n [] = n
+opened_after n (t ∷ ts) = opened_after (opened_by n t.kind) ts
+
+abbrev pub opened : List Token → ℕ
+opened ts = opened_after 0 ts
+
+-- at most so many brackets stand open
+abbrev pub most_brackets : ℕ
+most_brackets = 100
+
+-- What stands next: nothing more, a token with the place behind it and the rest, or what is refused.
 pub data Next : Type 0 where
   finished : Next
   go : Token → Place → List ℕ → Next
-  stuck : Next
+  bad : Refusal → Next
 
 -- the token of this kind and spelling at a place
 abbrev pub token_at : Place → List ℕ → TokenKind → Token
 token_at at lexeme kind = record { kind = kind; place = at; length = length lexeme }
 
--- A gap alone, or a gap and the spelling of a token, each the longest at its place.
-pub data Steps : Place → List ℕ → Next → Type 0 where
-  ends : (at : Place) (gap : List ℕ) → IsGap gap → Steps at gap finished
-  token : (at : Place) (gap lexeme rest : List ℕ) (kind : TokenKind)
-      → IsLongest (λ f r. IsGap f) gap (lexeme ++ rest) → IsLongest IsLexeme lexeme rest → kind_of lexeme ≡ Some kind
-      → Steps at (gap ++ (lexeme ++ rest)) (go (token_at (after at gap) lexeme kind) (after (after at gap) lexeme) rest)
+-- the refusal of this number at a place
+abbrev pub refusal_at : ℕ → Place → Refusal
+refusal_at n at = record { kind = S n; place = at }
 
--- From this place on the text is gaps and tokens in turn.
-pub data Lexes : Place → List ℕ → List Token → Type 0 where
-  last : {at : Place} {text : List ℕ} → Steps at text finished → Lexes at text []
-  more : {at : Place} {text : List ℕ} {ts : List Token} (t : Token) (next : Place) (rest : List ℕ)
-      → Steps at text (go t next rest) → Lexes next rest ts → Lexes at text (t ∷ ts)
+-- Where n brackets stand open: a gap alone, or a gap and the spelling of a token, each the longest at its place; or, behind
+-- the longest gap, a byte at which no token starts, a run that spells nothing, or a bracket too many.
+pub data Steps (n : ℕ) : Place → List ℕ → Next → Type 0 where
+  ends : (at : Place) (gap : List ℕ) → IsGap gap → Steps n at gap finished
+  token : (at : Place) (gap lexeme rest : List ℕ) (kind : TokenKind)
+      → IsLongest (λ f r. IsGap f) gap (lexeme ++ rest) → IsLongest IsLexeme lexeme rest → kind_of lexeme ≡ Some kind → opened_by n kind ≤ most_brackets
+      → Steps n at (gap ++ (lexeme ++ rest)) (go (token_at (after at gap) lexeme kind) (after (after at gap) lexeme) rest)
+  stray : (at : Place) (gap rest : List ℕ)
+      → IsLongest (λ f r. IsGap f) gap rest → rest ≢ [] → ((f r : List ℕ) → f ++ r ≡ rest → IsLexeme f r → ⊥)
+      → Steps n at (gap ++ rest) (bad (refusal_at 2 (after at gap)))
+  misspelled : (at : Place) (gap lexeme rest : List ℕ)
+      → IsLongest (λ f r. IsGap f) gap (lexeme ++ rest) → IsLongest IsLexeme lexeme rest → IsTrue (is_run lexeme) → kind_of lexeme ≡ None
+      → Steps n at (gap ++ (lexeme ++ rest)) (bad (refusal_at 3 (after at gap)))
+  too_nested : (at : Place) (gap lexeme rest : List ℕ) (kind : TokenKind)
+      → IsLongest (λ f r. IsGap f) gap (lexeme ++ rest) → IsLongest IsLexeme lexeme rest → kind_of lexeme ≡ Some kind → most_brackets < opened_by n kind
+      → Steps n at (gap ++ (lexeme ++ rest)) (bad (refusal_at 4 (after at gap)))
+
+-- Behind the tokens before, from this place on, the text is gaps and tokens in turn, and these are all tokens.
+pub data Lexes : List Token → Place → List ℕ → List Token → Type 0 where
+  last : {all : List Token} {at : Place} {text : List ℕ} → Steps (opened all) at text finished → Lexes all at text all
+  more : {before all : List Token} {at : Place} {text : List ℕ} (t : Token) (next : Place) (rest : List ℕ)
+      → Steps (opened before) at text (go t next rest) → Lexes (before ++ t ∷ []) next rest all → Lexes before at text all
+
+-- Behind the tokens before, from this place on, the text is gaps and tokens in turn up to what is refused.
+pub data Refuses : List Token → Place → List ℕ → Refusal → Type 0 where
+  here : {before : List Token} {at : Place} {text : List ℕ} (why : Refusal) → Steps (opened before) at text (bad why) → Refuses before at text why
+  later : {before : List Token} {at : Place} {text : List ℕ} {why : Refusal} (t : Token) (next : Place) (rest : List ℕ)
+      → Steps (opened before) at text (go t next rest) → Refuses (before ++ t ∷ []) next rest why → Refuses before at text why
 
 -- The whole text lexes to these tokens.
 abbrev pub LexesTo : List ℕ → List Token → Type 0
-LexesTo = Lexes start
+LexesTo = Lexes [] start
 
--- The whole text lexes to no tokens.
-abbrev pub IsUnlexed : List ℕ → Type 0
-IsUnlexed text = (ts : List Token) → LexesTo text ts → ⊥
+-- This is the refusal of the text.
+abbrev pub IsLexRefusal : List ℕ → Refusal → Type 0
+IsLexRefusal = Refuses [] start

@@ -1,4 +1,7 @@
 pub mod Bytes
+pub mod Signs
+pub mod Keywords
+pub mod Numbers
 pub mod Words
 pub mod Lexing
 pub mod Reading

@@ -1,9 +1,11 @@
 // Parts of a text: gaps, lexemes, kinds and places.
-ghost use Rattle.std.specs.Prelude.{◌≡◌, ◌+◌, ◌<◌, ◌≤◌, ◌^◌, length, false, IfOk};
-ghost use Rattle.smv_text.specs.Bytes.{is_digit, is_letter, is_blank, heads, after};
-ghost use Rattle.smv_text.specs.Words.{is_word_byte, in_word, sign_at, kind_of};
-ghost use Rattle.smv_text.specs.Reading.{gap_step, gap_length, front_length, sign_length, lexeme_length};
+ghost use Rattle.std.specs.Prelude.{◌≡◌, ◌+◌, ◌<◌, ◌≤◌, ◌^◌, length, false, option_map, IfOk};
+ghost use Rattle.smv_text.specs.Bytes.{is_digit, is_letter, is_blank, front_length, after};
+ghost use Rattle.smv_text.specs.Words.{is_word_byte, in_word, is_run_byte, in_run, kind_of};
+ghost use Rattle.smv_text.specs.Reading.{gap_step, gap_length, lexeme_length};
 
+use crate::numbers::run_kind;
+use crate::signs::{heads, sign_at, sign_length};
 use crate::token::{Sign, TokenKind};
 use crate::words::word_kind;
 use std::alloc::Global;
@@ -25,16 +27,6 @@ fn is_blank(b: u8) -> bool
     ensures { result ≡ is_blank b }
 {
     (b >= 9 && b <= 13) || b == b' '
-}
-
-/// Whether the text begins with this byte.
-fn heads(c: u8, text: &[u8]) -> bool
-    ensures { result ≡ heads c text.now }
-{
-    match text {
-        [b, ..] => *b == c,
-        [] => false,
-    }
 }
 
 /// Whether a byte goes on with a gap, and whether the gap is then inside a comment.
@@ -101,27 +93,27 @@ fn word_length(text: &[u8]) -> usize
     count
 }
 
-fn sign_at(b: u8) -> Option<Sign>
-    ensures { result ≡ sign_at b }
+fn is_run_byte(b: u8) -> bool
+    ensures { result ≡ is_run_byte b }
 {
-    match b {
-        b'(' => Some(Sign::Open),
-        b')' => Some(Sign::Close),
-        b';' => Some(Sign::Semicolon),
-        b':' => Some(Sign::Colon),
-        b'!' => Some(Sign::Not),
-        b'&' => Some(Sign::And),
-        _ => None,
-    }
+    is_letter(b) || is_digit(b)
 }
 
-fn sign_length(sign: Option<Sign>) -> usize
-    ensures { result ≡ sign_length sign }
+/// How many bytes go on with a run of letters and digits.
+fn run_length(text: &[u8]) -> usize
+    ensures value { result ≡ front_length in_run text.now }
+    ensures within { result ≤ length text.now }
 {
-    match sign {
-        None => 0,
-        Some(_) => 1,
+    let mut rest = text;
+    let mut count = 0;
+    while let Some((b, more)) = rest.split_first() {
+        if !is_run_byte(*b) {
+            return count;
+        }
+        count += 1;
+        rest = more;
     }
+    count
 }
 
 /// The length of the lexeme that a text begins with, or 0 where none stands there.
@@ -134,29 +126,40 @@ pub fn lexeme_length(text: &[u8]) -> usize
         Some((b, rest)) => {
             if is_letter(*b) {
                 word_length(rest) + 1
+            } else if is_digit(*b) {
+                run_length(rest) + 1
             } else {
-                sign_length(sign_at(*b))
+                sign_length(sign_at(*b, rest))
             }
         }
     }
 }
 
-/// The kind of a lexeme, or None where the grammar has no use for it.
+/// The kind of a lexeme, or None where it spells nothing.
 pub fn kind_of(alloc: Global, lexeme: &[u8]) -> Result<Option<TokenKind>, NoMemory>
     ensures { IfOk result (λ kind. kind ≡ kind_of lexeme.now) }
 {
     match lexeme.split_first() {
         None => Ok(None),
-        Some((b, _)) => {
+        Some((b, rest)) => {
             if is_letter(*b) {
-                word_kind(alloc, lexeme)
+                Ok(Some(word_kind(alloc, lexeme)?))
+            } else if is_digit(*b) {
+                run_kind(alloc, lexeme)
             } else {
-                match sign_at(*b) {
-                    None => Ok(None),
-                    Some(sign) => Ok(Some(TokenKind::Sign(sign))),
-                }
+                Ok(sign_kind(sign_at(*b, rest)))
             }
         }
+    }
+}
+
+/// The kind of a sign.
+fn sign_kind(sign: Option<Sign>) -> Option<TokenKind>
+    ensures { result ≡ option_map TokenKind.Sign sign }
+{
+    match sign {
+        Some(sign) => Some(TokenKind::Sign(sign)),
+        None => None,
     }
 }
 

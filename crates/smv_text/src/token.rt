@@ -3,35 +3,152 @@ ghost use Rattle.std.specs.Prelude.{◌≡◌, ◌<◌, length, slice_index_or};
 
 use std::marker::Model;
 use text_core::{Name, Place};
+use word_core::Word;
 
-/// A reserved word that the grammar uses.
+/// A reserved word (NuSMV 2.6 User Manual, chapter 2, before section 2.1, reserved keywords).
 #[derive(Clone, Copy, Debug, PartialEq, Eq)]
 pub enum Reserved {
     /// `MODULE`
     Module,
     /// `VAR`
     Var,
+    /// `IVAR`
+    Ivar,
+    /// `FROZENVAR`
+    Frozenvar,
+    /// `DEFINE`
+    Define,
+    /// `CONSTANTS`
+    Constants,
+    /// `ASSIGN`
+    Assign,
+    /// `INIT`
+    Init,
+    /// `TRANS`
+    Trans,
+    /// `INVAR`
+    Invar,
     /// `INVARSPEC`
     Invarspec,
+    /// `NAME`
+    Name,
+    /// `TRUE`
+    True,
+    /// `FALSE`
+    False,
     /// `boolean`
     Boolean,
+    /// `word`
+    Word,
+    /// `unsigned`
+    Unsigned,
+    /// `case`
+    Case,
+    /// `esac`
+    Esac,
+    /// `next`
+    Next,
+    /// `init`
+    Initial,
+    /// `self`
+    Itself,
+    /// `mod`
+    Mod,
+    /// `union`
+    Union,
+    /// `in`
+    In,
+    /// `xor`
+    Xor,
+    /// `xnor`
+    Xnor,
+    /// `bool`
+    Bool,
+    /// `word1`
+    Word1,
+    /// `toint`
+    Toint,
+    /// `uwconst`
+    Uwconst,
+    /// `extend`
+    Extend,
+    /// `resize`
+    Resize,
+    /// `count`
+    Count,
+    /// `max`
+    Max,
+    /// `min`
+    Min,
+    /// `abs`
+    Abs,
 }
 
-/// A sign that the grammar uses.
+/// A sign: a bracket, a separator or an operator (NuSMV 2.6 User Manual, sections 2.2.3 and 2.3).
 #[derive(Clone, Copy, Debug, PartialEq, Eq)]
 pub enum Sign {
     /// `(`
     Open,
     /// `)`
     Close,
+    /// `{`
+    OpenBrace,
+    /// `}`
+    CloseBrace,
+    /// `[`
+    OpenBracket,
+    /// `]`
+    CloseBracket,
+    /// `,`
+    Comma,
     /// `;`
     Semicolon,
     /// `:`
     Colon,
+    /// `.`
+    Dot,
+    /// `..`
+    Range,
+    /// `:=`
+    Assign,
+    /// `=`
+    Equal,
+    /// `!=`
+    Unequal,
+    /// `<`
+    Less,
+    /// `>`
+    Greater,
+    /// `<=`
+    LessEqual,
+    /// `>=`
+    GreaterEqual,
     /// `!`
     Not,
     /// `&`
     And,
+    /// `|`
+    Or,
+    /// `+`
+    Plus,
+    /// `-`
+    Minus,
+    /// `*`
+    Times,
+    /// `/`
+    Divide,
+    /// `<<`
+    ShiftLeft,
+    /// `>>`
+    ShiftRight,
+    /// `::`
+    Concat,
+    /// `?`
+    Question,
+    /// `->`
+    Implies,
+    /// `<->`
+    Iff,
 }
 
 /// What a token is.
@@ -39,8 +156,14 @@ pub enum Sign {
 pub enum TokenKind {
     /// A reserved word.
     Reserved(Reserved),
+    /// A word of a part of the language that is not supported.
+    Refused,
     /// An identifier, with its bytes.
     Ident(Name),
+    /// A decimal number below 2^62.
+    Number(u64),
+    /// A word literal: a width from 1 to 64, and a value below two to that width.
+    Literal(Word),
     /// A sign.
     Sign(Sign),
 }

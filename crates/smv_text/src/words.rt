@@ -1,55 +1,139 @@
-// The kinds of words: reserved ones, identifiers, and words of the whole language that the grammar has no use for.
-ghost use Rattle.std.specs.Prelude.{◌≡◌, ◌==◌, length, map, IfOk};
-ghost use Rattle.std.specs.List.{list_any, filter};
+// The kinds of words: reserved ones, those of parts of the language that are not supported, and identifiers.
+ghost use Rattle.std.specs.Prelude.{◌≡◌, ◌==◌, ℕ, length, map, IfOk};
+ghost use Rattle.std.specs.List.{filter};
 ghost use Rattle.std.specs.Str.{bytes_eq};
-ghost use Rattle.smv_text.specs.Words.{reserved_of, other_words, is_other_word, word_kind, name_kind};
+ghost use Rattle.smv_text.specs.Keywords.{keywords, look_up, row};
+ghost use Rattle.smv_text.specs.Words.{keyword_kind, word_kind};
 
 use crate::token::{Reserved, TokenKind};
 use std::alloc::Global;
 use text_core::{Name, NoMemory};
 
-// The words that are no identifiers and that the grammar has no use for, by their length: a word is compared with
-// those of its own length alone.
-const ONE: [&[u8]; 13] = [
-    b"A", b"E", b"F", b"G", b"H", b"O", b"S", b"T", b"U", b"V", b"X", b"Y", b"Z",
+/// A word that is no identifier, and which reserved one it is, if it is supported.
+type Keyword = (&'static [u8], Option<Reserved>);
+
+// These words by their length: a word is compared with those of its own length alone.
+const ONE: [Keyword; 13] = [
+    (b"A", None),
+    (b"E", None),
+    (b"F", None),
+    (b"G", None),
+    (b"H", None),
+    (b"O", None),
+    (b"S", None),
+    (b"T", None),
+    (b"U", None),
+    (b"V", None),
+    (b"X", None),
+    (b"Y", None),
+    (b"Z", None),
 ];
 
-const TWO: [&[u8]; 10] = [
-    b"in", b"IN", b"of", b"AF", b"AG", b"AX", b"EF", b"EG", b"EX", b"BU",
+const TWO: [Keyword; 10] = [
+    (b"in", Some(Reserved::In)),
+    (b"IN", None),
+    (b"of", None),
+    (b"AF", None),
+    (b"AG", None),
+    (b"AX", None),
+    (b"EF", None),
+    (b"EG", None),
+    (b"EX", None),
+    (b"BU", None),
 ];
 
-const THREE: [&[u8]; 12] = [
-    b"mod", b"xor", b"max", b"min", b"abs", b"ISA", b"MIN", b"MAX", b"ABF", b"ABG", b"EBF", b"EBG",
+const THREE: [Keyword; 13] = [
+    (b"VAR", Some(Reserved::Var)),
+    (b"mod", Some(Reserved::Mod)),
+    (b"xor", Some(Reserved::Xor)),
+    (b"max", Some(Reserved::Max)),
+    (b"min", Some(Reserved::Min)),
+    (b"abs", Some(Reserved::Abs)),
+    (b"ISA", None),
+    (b"MIN", None),
+    (b"MAX", None),
+    (b"ABF", None),
+    (b"ABG", None),
+    (b"EBF", None),
+    (b"EBG", None),
 ];
 
-const FOUR: [&[u8]; 15] = [
-    b"IVAR", b"INIT", b"NAME", b"TRUE", b"word", b"case", b"esac", b"next", b"init", b"self",
-    b"xnor", b"bool", b"SPEC", b"PRED", b"real",
+const FOUR: [Keyword; 15] = [
+    (b"IVAR", Some(Reserved::Ivar)),
+    (b"INIT", Some(Reserved::Init)),
+    (b"NAME", Some(Reserved::Name)),
+    (b"TRUE", Some(Reserved::True)),
+    (b"word", Some(Reserved::Word)),
+    (b"case", Some(Reserved::Case)),
+    (b"esac", Some(Reserved::Esac)),
+    (b"next", Some(Reserved::Next)),
+    (b"init", Some(Reserved::Initial)),
+    (b"self", Some(Reserved::Itself)),
+    (b"xnor", Some(Reserved::Xnor)),
+    (b"bool", Some(Reserved::Bool)),
+    (b"SPEC", None),
+    (b"PRED", None),
+    (b"real", None),
 ];
 
-const FIVE: [&[u8]; 8] = [
-    b"TRANS", b"INVAR", b"FALSE", b"union", b"word1", b"toint", b"count", b"array",
+const FIVE: [Keyword; 8] = [
+    (b"TRANS", Some(Reserved::Trans)),
+    (b"INVAR", Some(Reserved::Invar)),
+    (b"FALSE", Some(Reserved::False)),
+    (b"union", Some(Reserved::Union)),
+    (b"word1", Some(Reserved::Word1)),
+    (b"toint", Some(Reserved::Toint)),
+    (b"count", Some(Reserved::Count)),
+    (b"array", None),
 ];
 
-const SIX: [&[u8]; 10] = [
-    b"DEFINE", b"ASSIGN", b"extend", b"resize", b"CTLWFF", b"LTLWFF", b"PSLWFF", b"MIRROR",
-    b"signed", b"sizeof",
+const SIX: [Keyword; 11] = [
+    (b"MODULE", Some(Reserved::Module)),
+    (b"DEFINE", Some(Reserved::Define)),
+    (b"ASSIGN", Some(Reserved::Assign)),
+    (b"extend", Some(Reserved::Extend)),
+    (b"resize", Some(Reserved::Resize)),
+    (b"CTLWFF", None),
+    (b"LTLWFF", None),
+    (b"PSLWFF", None),
+    (b"MIRROR", None),
+    (b"signed", None),
+    (b"sizeof", None),
 ];
 
-const SEVEN: [&[u8]; 12] = [
-    b"uwconst", b"CTLSPEC", b"LTLSPEC", b"PSLSPEC", b"COMPUTE", b"JUSTICE", b"SIMPWFF", b"COMPWFF",
-    b"MDEFINE", b"process", b"integer", b"swconst",
+const SEVEN: [Keyword; 13] = [
+    (b"boolean", Some(Reserved::Boolean)),
+    (b"uwconst", Some(Reserved::Uwconst)),
+    (b"CTLSPEC", None),
+    (b"LTLSPEC", None),
+    (b"PSLSPEC", None),
+    (b"COMPUTE", None),
+    (b"JUSTICE", None),
+    (b"SIMPWFF", None),
+    (b"COMPWFF", None),
+    (b"MDEFINE", None),
+    (b"process", None),
+    (b"integer", None),
+    (b"swconst", None),
 ];
 
-const EIGHT: [&[u8]; 2] = [b"unsigned", b"FAIRNESS"];
+const EIGHT: [Keyword; 2] = [(b"unsigned", Some(Reserved::Unsigned)), (b"FAIRNESS", None)];
 
-const NINE: [&[u8]; 2] = [b"FROZENVAR", b"CONSTANTS"];
+const NINE: [Keyword; 3] = [
+    (b"FROZENVAR", Some(Reserved::Frozenvar)),
+    (b"CONSTANTS", Some(Reserved::Constants)),
+    (b"INVARSPEC", Some(Reserved::Invarspec)),
+];
 
-const TEN: [&[u8]; 3] = [b"COMPASSION", b"CONSTRAINT", b"PREDICATES"];
+const TEN: [Keyword; 3] = [
+    (b"COMPASSION", None),
+    (b"CONSTRAINT", None),
+    (b"PREDICATES", None),
+];
 
-/// The words of this length that are no identifiers and that the grammar has no use for.
-fn other_words_of(size: usize) -> &'static [&'static [u8]]
-    ensures { map (λ w. w.now) result.now ≡ filter (λ w. length w == size) other_words }
+/// The words of this length that are no identifiers.
+fn keywords_of(size: usize) -> &'static [Keyword]
+    ensures { map row result.now ≡ filter (λ w. length w.0 == size) keywords }
 {
     if size == 1 {
         &ONE
@@ -76,57 +160,42 @@ fn other_words_of(size: usize) -> &'static [&'static [u8]]
     }
 }
 
-fn is_among(word: &[u8], words: &[&[u8]]) -> bool
-    ensures { result ≡ list_any (λ w. bytes_eq word.now w) (map (λ w. w.now) words.now) }
+/// Whether two words are equal. Most words differ in their first byte.
+fn is_same(word: &[u8], other: &[u8]) -> bool
+    ensures { result ≡ bytes_eq word.now other.now }
 {
-    for other in words {
-        if word == *other {
-            return true;
+    match (word.split_first(), other.split_first()) {
+        (Some((b, rest)), Some((c, others))) => *b == *c && rest == others,
+        (None, None) => true,
+        _ => false,
+    }
+}
+
+fn look_up(word: &[u8], keywords: &[Keyword]) -> Option<Option<Reserved>>
+    ensures { result ≡ look_up word.now (map row keywords.now) }
+{
+    for (bytes, reserved) in keywords {
+        if is_same(word, bytes) {
+            return Some(*reserved);
         }
     }
-    false
+    None
 }
 
-/// Is it a word that is no identifier and that the grammar has no use for?
-fn is_other_word(word: &[u8]) -> bool
-    ensures { result ≡ is_other_word word.now }
+/// What a word is, if it is no identifier.
+fn keyword_of(word: &[u8]) -> Option<Option<Reserved>>
+    ensures { result ≡ look_up word.now keywords }
 {
-    is_among(word, other_words_of(word.len()))
+    look_up(word, keywords_of(word.len()))
 }
 
-fn reserved_of(word: &[u8]) -> Option<Reserved>
-    ensures { result ≡ reserved_of word.now }
+/// The kind of a word.
+pub fn word_kind(alloc: Global, word: &[u8]) -> Result<TokenKind, NoMemory>
+    ensures { IfOk result (λ kind. kind ≡ word_kind word.now) }
 {
-    if word == b"MODULE".as_slice() {
-        Some(Reserved::Module)
-    } else if word == b"VAR".as_slice() {
-        Some(Reserved::Var)
-    } else if word == b"INVARSPEC".as_slice() {
-        Some(Reserved::Invarspec)
-    } else if word == b"boolean".as_slice() {
-        Some(Reserved::Boolean)
-    } else {
-        None
-    }
-}
-
-/// The kind of a word that is not reserved here, or None where it is no identifier.
-fn name_kind(alloc: Global, word: &[u8]) -> Result<Option<TokenKind>, NoMemory>
-    ensures { IfOk result (λ kind. kind ≡ name_kind word.now) }
-{
-    if is_other_word(word) {
-        return Ok(None);
-    }
-    let name = Name::of(alloc, word)?;
-    Ok(Some(TokenKind::Ident(name)))
-}
-
-/// The kind of a word, or None where the grammar has no use for it.
-pub fn word_kind(alloc: Global, word: &[u8]) -> Result<Option<TokenKind>, NoMemory>
-    ensures { IfOk result (λ kind. kind ≡ word_kind word.now (reserved_of word.now)) }
-{
-    match reserved_of(word) {
-        Some(reserved) => Ok(Some(TokenKind::Reserved(reserved))),
-        None => name_kind(alloc, word),
+    match keyword_of(word) {
+        Some(Some(reserved)) => Ok(TokenKind::Reserved(reserved)),
+        Some(None) => Ok(TokenKind::Refused),
+        None => Ok(TokenKind::Ident(Name::of(alloc, word)?)),
     }
 }

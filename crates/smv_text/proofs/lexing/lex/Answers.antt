@@ -1,5 +1,8 @@
-use Rattle.smv_text.proofs.Laws.{exact_from}
+use Rattle.smv_text.proofs.Laws.{exact_from, stops_from}
 use Rattle.smv_text.proofs.lexing.lex.Goals as goal
 
 pub returns-clause-exact : goal.returns-clause-exact
 returns-clause-exact c = exact_from c.args.text.now _ c.tokens_of.ensures.lexed c.tokens_of.ensures.refused
+
+pub returns-clause-stops : goal.returns-clause-stops
+returns-clause-stops c = stops_from c.args.text.now _ c.tokens_of.ensures.lexed c.tokens_of.ensures.refused

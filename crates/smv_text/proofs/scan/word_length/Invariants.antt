@@ -1,6 +1,6 @@
 use Rattle.std.proofs.Common.{◌≡◌, ◌+◌, length}
+use Rattle.smv_text.specs.Bytes.{front_length}
 use Rattle.smv_text.specs.Words.{in_word}
-use Rattle.smv_text.specs.Reading.{front_length}
 use Rattle.smv_text.proofs.scan.word_length.Given as goal
 
 abbrev pub invariant-loop-b : goal.invariant-loop-b

@@ -1,0 +1,84 @@
+-- Words that are no identifiers: the reserved words, and those of parts of the language that aren't supported (NuSMV 2.6 User
+-- Manual, chapter 2, before section 2.1, reserved keywords; the names of operators of temporal logic in section 2.4).
+use Rattle.std.specs.Prelude.{◌==◌, ℕ, if◌then◌else◌, Option, Some, None, List, [], ◌∷◌, ◌++◌, map, codes}
+use Rattle.std.specs.Str.{bytes_eq}
+use Rattle.std.specs.Borrow.{Bor}
+use Rattle.smv_text.specs.declared.token.Reserved.{Reserved}
+use Rattle.smv_text.specs.declared.token.Reserved.TheVariants as word
+
+-- the spelling of a reserved word
+abbrev pub word_bytes : Reserved → List ℕ
+word_bytes word.Module = codes "MODULE"
+word_bytes word.Var = codes "VAR"
+word_bytes word.Ivar = codes "IVAR"
+word_bytes word.Frozenvar = codes "FROZENVAR"
+word_bytes word.Define = codes "DEFINE"
+word_bytes word.Constants = codes "CONSTANTS"
+word_bytes word.Assign = codes "ASSIGN"
+word_bytes word.Init = codes "INIT"
+word_bytes word.Trans = codes "TRANS"
+word_bytes word.Invar = codes "INVAR"
+word_bytes word.Invarspec = codes "INVARSPEC"
+word_bytes word.Name = codes "NAME"
+word_bytes word.True = codes "TRUE"
+word_bytes word.False = codes "FALSE"
+word_bytes word.Boolean = codes "boolean"
+word_bytes word.Word = codes "word"
+word_bytes word.Unsigned = codes "unsigned"
+word_bytes word.Case = codes "case"
+word_bytes word.Esac = codes "esac"
+word_bytes word.Next = codes "next"
+word_bytes word.Initial = codes "init"
+word_bytes word.Itself = codes "self"
+word_bytes word.Mod = codes "mod"
+word_bytes word.Union = codes "union"
+word_bytes word.In = codes "in"
+word_bytes word.Xor = codes "xor"
+word_bytes word.Xnor = codes "xnor"
+word_bytes word.Bool = codes "bool"
+word_bytes word.Word1 = codes "word1"
+word_bytes word.Toint = codes "toint"
+word_bytes word.Uwconst = codes "uwconst"
+word_bytes word.Extend = codes "extend"
+word_bytes word.Resize = codes "resize"
+word_bytes word.Count = codes "count"
+word_bytes word.Max = codes "max"
+word_bytes word.Min = codes "min"
+word_bytes word.Abs = codes "abs"
+
+abbrev pub all_reserved : List Reserved
+all_reserved =
+    word.Module ∷ word.Var ∷ word.Ivar ∷ word.Frozenvar ∷ word.Define ∷ word.Constants ∷ word.Assign ∷ word.Init ∷ word.Trans ∷ word.Invar ∷ word.Invarspec ∷ word.Name ∷ word.True ∷ word.False ∷ word.Boolean ∷ word.Word ∷ word.Unsigned ∷ word.Case ∷ word.Esac ∷ word.Next ∷ word.Initial ∷ word.Itself ∷ word.Mod ∷ word.Union ∷ word.In ∷ word.Xor ∷ word.Xnor ∷ word.Bool ∷ word.Word1 ∷ word.Toint ∷ word.Uwconst ∷ word.Extend ∷ word.Resize ∷ word.Count ∷ word.Max ∷ word.Min ∷ word.Abs ∷ []
+
+-- this byte before the first of these words
+abbrev pub in_first : ℕ → List (List ℕ) → List (List ℕ)
+in_first b [] = (b ∷ []) ∷ []
+in_first b (w ∷ ws) = (b ∷ w) ∷ ws
+
+-- the words of a line, which single blanks part
+abbrev pub words_in : List ℕ → List (List ℕ)
+words_in [] = [] ∷ []
+words_in (b ∷ bs) = if b == 32 then [] ∷ words_in bs else in_first b (words_in bs)
+
+abbrev pub unsupported_words : List (List ℕ)
+unsupported_words =
+    words_in (codes "SPEC CTLSPEC LTLSPEC PSLSPEC COMPUTE FAIRNESS JUSTICE COMPASSION ISA CONSTRAINT SIMPWFF CTLWFF LTLWFF")
+    ++ words_in (codes "PSLWFF COMPWFF IN MIN MAX MDEFINE PRED PREDICATES MIRROR process array of integer real signed swconst sizeof")
+    ++ words_in (codes "A E F G H O S T U V X Y Z AF AG AX EF EG EX ABF ABG EBF EBG BU")
+
+-- a word, and which reserved one it is, if it is supported
+abbrev pub Keyword : Type 0
+Keyword = List ℕ × Option Reserved
+
+-- a row of a table of words
+abbrev pub row : Bor (List ℕ) × Option Reserved → Keyword
+row w = (w.0.now, w.1)
+
+-- all words that are no identifiers
+unfoldable pub keywords : List Keyword
+keywords = map (λ r. (word_bytes r, Some r)) all_reserved ++ map (λ w. (w, None)) unsupported_words
+
+-- what the first of these words that is equal to the bytes stands for
+abbrev pub look_up : List ℕ → List Keyword → Option (Option Reserved)
+look_up bs [] = None
+look_up bs (w ∷ ws) = if bytes_eq bs w.0 then Some w.1 else look_up bs ws
