@@ -3,3 +3,4 @@ pub mod Keywords
 pub mod Spellings
 pub mod Laws
 pub mod Answered
+pub mod Spaces

@@ -1,134 +1,128 @@
--- Which tokens spell which model: one module main of boolean variables, and one invariant (NuSMV 2.6 User Manual: basic
--- expressions in 2.2.3, variables in 2.3.1, modules in 2.3.10, the main module in 2.3.13, invariants in 2.4.2).
-use Rattle.std.specs.Prelude.{◌≡◌, ◌≢◌, ◌⊎◌, ℕ, suc, ◌+◌, ◌≤◌, ◌<◌, max, Bool, true, ◌&&◌, Option, Some, None, List, [], ◌∷◌, ◌++◌, length, nat_le, position, codes}
-use Rattle.std.specs.Str.{bytes_eq}
+-- Which tokens spell which expression, by the levels of the grammar (NuSMV 2.6 User Manual, 2.2.3). Round brackets may stand at
+-- any level and leave no trace in the tree. The place of an expression is that of its first token.
+use Rattle.std.specs.Prelude.{◌≡◌, ℕ, ℤ, pos, ◌-ℤ◌, suc, true, false, Option, Some, List, [], ◌∷◌, ◌++◌}
+use Rattle.text_core.specs.declared.place.Place.{Place}
+use Rattle.word_core.specs.Words.{BitVector}
+use Rattle.smv_text.specs.declared.token.Reserved.TheVariants as word
+use Rattle.smv_text.specs.declared.token.Sign.{Sign}
+use Rattle.smv_text.specs.declared.token.Sign.TheVariants as sign
+use Rattle.smv_text.specs.declared.token.Token.{Token}
 use Rattle.smv_text.specs.declared.token.TokenKind.{TokenKind}
 use Rattle.smv_text.specs.declared.token.TokenKind.TheVariants as kind
-use Rattle.smv_text.specs.declared.token.Reserved.TheVariants as word
-use Rattle.smv_text.specs.declared.token.Sign.TheVariants as sign
-use Rattle.smv_text.specs.Lexing.{most_brackets, opened_by}
+use Rattle.smv_text.specs.declared.tree.Path.{Path}
+use Rattle.smv_text.specs.declared.tree.Prefix.{Prefix}
+use Rattle.smv_text.specs.declared.tree.Infix.{Infix}
+use Rattle.smv_text.specs.declared.tree.Function.{Function}
+use Rattle.smv_text.specs.declared.level.Joint.{Joint}
+use Rattle.smv_text.specs.declared.level.Level.{Level}
+use Rattle.smv_text.specs.declared.level.Level.TheVariants.{Chain, Choice, Range, Before, Selection}
+use Rattle.smv_text.specs.Levels.{all_levels, infix_of, prefix_kind, function_at}
+use Rattle.smv_text.specs.Tree.{Tree, truth, number, literal, name, prefix, chain, choice, cases, select, call, next, set, range, Links, no_links, link, Branches, no_branches, branch, Trees, no_trees, tree}
 
--- formulas; a variable is named by its place among the declared names
-mutual
-  pub data Formula : Type 0 where
-    variable : ℕ → Formula
-    negation : ℕ → Formula → Formula  -- a sign, repeated so many times
-    conjunction : Formula → Formulas → Formula  -- a chain of two or more
+-- the place of the first token; a text's first byte where there is none
+abbrev pub start : List Token → Place
+start [] = record { line = 1; column = 1; offset = 0 }
+start (t ∷ ts) = t.place
 
-  pub data Formulas : Type 0 where
-    no_formulas : Formulas
-    formula : Formula → Formulas → Formulas
+-- a token of this sign
+abbrev pub IsSign : Sign → Token → Type 0
+IsSign s x = x.kind ≡ kind.Sign s
 
--- a model: its declared names, and its invariant
-pub record Source : Type 0 where
-  pub names : List (List ℕ)
-  pub invariant : Formula
+-- so many prefix signs and nothing else
+pub data Signs (pre : Prefix) : ℕ → List Token → Type 0 where
+  no_signs : Signs pre 0 []
+  sign_then : {n : ℕ} {xs : List Token} (x : Token) → x.kind ≡ prefix_kind pre → Signs pre n xs → Signs pre (suc n) (x ∷ xs)
 
--- at most so many tokens, bytes of a name, and levels of a formula
-abbrev pub most_tokens : ℕ
-most_tokens = 4096
+-- a decimal number, with or without a minus
+pub data SpellsInteger : ℤ → List Token → Type 0 where
+  unsigned : {n : ℕ} (x : Token) → x.kind ≡ kind.Number n → SpellsInteger (pos n) (x ∷ [])
+  negative : {n : ℕ} (minus x : Token) → IsSign sign.Minus minus → x.kind ≡ kind.Number n → SpellsInteger (pos 0 -ℤ pos n) (minus ∷ x ∷ [])
 
-abbrev pub most_bytes : ℕ
-most_bytes = 1000
+-- further names of a path, each behind a dot
+pub data SpellsSteps : List (List ℕ) → List Token → Type 0 where
+  no_steps : SpellsSteps [] []
+  step : {n : List ℕ} {ns : List (List ℕ)} {xs : List Token} (dot x : Token)
+      → IsSign sign.Dot dot → x.kind ≡ kind.Ident n → SpellsSteps ns xs → SpellsSteps (n ∷ ns) (dot ∷ x ∷ xs)
 
-abbrev pub most_height : ℕ
-most_height = 380
-
--- the levels of the grammar of formulas, from the loosest to the tightest (NuSMV 2.6 User Manual, 2.2.3)
-pub data Level : Type 0 where
-  Conjunction : Level
-  Negation : Level
-
-abbrev pub all_levels : List Level
-all_levels = Conjunction ∷ Negation ∷ []
-
--- the place of the first name equal to these bytes
-abbrev pub place_of : List (List ℕ) → List ℕ → Option ℕ
-place_of names name = position (bytes_eq name) names
-
--- so many signs of negation and nothing else
-pub data Signs : ℕ → List TokenKind → Type 0 where
-  no_signs : Signs 0 []
-  one_sign : {n : ℕ} {xs : List TokenKind} → Signs n xs → Signs (suc n) (kind.Sign sign.Not ∷ xs)
+-- a path: `self` or an identifier, and the names that it steps into (manual, 2.3.16)
+pub data SpellsPath : Path → List Token → Type 0 where
+  from_name : {n : List ℕ} {ns : List (List ℕ)} {xs : List Token} (x : Token)
+      → x.kind ≡ kind.Ident n → SpellsSteps ns xs → SpellsPath (record { from_self = false; names = n ∷ ns; place = x.place }) (x ∷ xs)
+  from_itself : {ns : List (List ℕ)} {xs : List Token} (x : Token)
+      → x.kind ≡ kind.Reserved word.Itself → SpellsSteps ns xs → SpellsPath (record { from_self = true; names = ns; place = x.place }) (x ∷ xs)
 
 mutual
-  -- With these names declared, the tokens spell the formula at the first of these levels. Below all levels stand names
-  -- and brackets.
-  pub data Spells (names : List (List ℕ)) : List Level → Formula → List TokenKind → Type 0 where
-    pass : {level : Level} {below : List Level} {t : Formula} {xs : List TokenKind} → Spells names below t xs → Spells names (level ∷ below) t xs
-    conjoins : {below : List Level} {t u : Formula} {us : Formulas} {xs ys : List TokenKind}
-        → Spells names below t xs → Operands names below (formula u us) ys → Spells names (Conjunction ∷ below) (conjunction t (formula u us)) (xs ++ ys)
-    negates : {below : List Level} {n : ℕ} {t : Formula} {xs ys : List TokenKind}
-        → Signs (suc n) xs → Spells names below t ys → Spells names (Negation ∷ below) (negation (suc n) t) (xs ++ ys)
-    stands : {name : List ℕ} {i : ℕ} → place_of names name ≡ Some i → Spells names [] (variable i) (kind.Ident name ∷ [])
-    brackets : {t : Formula} {xs : List TokenKind} → Spells names all_levels t xs → Spells names [] t (kind.Sign sign.Open ∷ (xs ++ kind.Sign sign.Close ∷ []))
+  -- The tokens spell the tree at the first of these levels. Below all levels stand names, constants, functions, cases, sets and
+  -- brackets.
+  pub data Spells : List Level → Tree → List Token → Type 0 where
+    pass : {level : Level} {below : List Level} {t : Tree} {xs : List Token} → Spells below t xs → Spells (level ∷ below) t xs
+    -- operands of one level and the operators between them; an operand is of the levels below, or in brackets
+    chains : {j : Joint} {below : List Level} {t u : Tree} {op : Infix} {links : Links} {xs ys : List Token}
+        → Spells below t xs → SpellsLinks j below (link op u links) ys
+        → Spells (Chain j ∷ below) (chain (start xs) t (link op u links)) (xs ++ ys)
+    -- conditions with their values, and what stands behind the last colon, each of the levels below, or in brackets
+    chooses : {below : List Level} {w v t : Tree} {bs : Branches} {xs : List Token}
+        → SpellsBranches below (branch w v bs) t xs → Spells (Choice ∷ below) (choice (start xs) (branch w v bs) t) xs
+    ranges : {below : List Level} {low high : ℤ} {xs ys : List Token}
+        → SpellsInteger low xs → (dots : Token) → IsSign sign.Range dots → SpellsInteger high ys
+        → Spells (Range ∷ below) (range (start xs) low high) (xs ++ dots ∷ ys)
+    prefixes : {pre : Prefix} {below : List Level} {n : ℕ} {t : Tree} {xs ys : List Token}
+        → Signs pre (suc n) xs → Spells below t ys → Spells (Before pre ∷ below) (prefix (start xs) pre (suc n) t) (xs ++ ys)
+    selects : {below : List Level} {t : Tree} {high low : ℕ} {xs : List Token}
+        → Spells (Selection ∷ below) t xs → (opening first colon last closing : Token)
+        → IsSign sign.OpenBracket opening → first.kind ≡ kind.Number high → IsSign sign.Colon colon → last.kind ≡ kind.Number low → IsSign sign.CloseBracket closing
+        → Spells (Selection ∷ below) (select (start xs) t high low) (xs ++ opening ∷ first ∷ colon ∷ last ∷ closing ∷ [])
+    is_true : (x : Token) → x.kind ≡ kind.Reserved word.True → Spells [] (truth x.place true) (x ∷ [])
+    is_false : (x : Token) → x.kind ≡ kind.Reserved word.False → Spells [] (truth x.place false) (x ∷ [])
+    numbers : {n : ℕ} (x : Token) → x.kind ≡ kind.Number n → Spells [] (number x.place n) (x ∷ [])
+    literals : {w : BitVector} (x : Token) → x.kind ≡ kind.Literal w → Spells [] (literal x.place w) (x ∷ [])
+    names : {path : Path} {xs : List Token} → SpellsPath path xs → Spells [] (name (start xs) path) xs
+    brackets : {t : Tree} {xs : List Token}
+        → (opening : Token) → IsSign sign.Open opening → Spells all_levels t xs → (closing : Token) → IsSign sign.Close closing
+        → Spells [] t (opening ∷ (xs ++ closing ∷ []))
+    nexts : {t : Tree} {xs : List Token}
+        → (x : Token) → x.kind ≡ kind.Reserved word.Next → (opening : Token) → IsSign sign.Open opening
+        → Spells all_levels t xs → (closing : Token) → IsSign sign.Close closing
+        → Spells [] (next x.place t) (x ∷ opening ∷ (xs ++ closing ∷ []))
+    calls : {f : Function} {ts : Trees} {xs : List Token}
+        → (x : Token) → function_at x.kind ≡ Some f → (opening : Token) → IsSign sign.Open opening → SpellsListed sign.Close ts xs
+        → Spells [] (call x.place f ts) (x ∷ opening ∷ xs)
+    sets : {ts : Trees} {xs : List Token}
+        → (opening : Token) → IsSign sign.OpenBrace opening → SpellsListed sign.CloseBrace ts xs
+        → Spells [] (set opening.place ts) (opening ∷ xs)
+    switches : {bs : Branches} {xs : List Token}
+        → (x : Token) → x.kind ≡ kind.Reserved word.Case → SpellsCases bs xs → Spells [] (cases x.place bs) (x ∷ xs)
 
-  -- each further operand of a conjunction, behind its sign
-  pub data Operands (names : List (List ℕ)) : List Level → Formulas → List TokenKind → Type 0 where
-    no_operands : {below : List Level} → Operands names below no_formulas []
-    operand : {below : List Level} {t : Formula} {ts : Formulas} {xs ys : List TokenKind}
-        → Spells names below t xs → Operands names below ts ys → Operands names below (formula t ts) (kind.Sign sign.And ∷ (xs ++ ys))
+  -- further operands, each behind its operator
+  pub data SpellsLinks : Joint → List Level → Links → List Token → Type 0 where
+    no_more : {j : Joint} {below : List Level} → SpellsLinks j below no_links []
+    one_more : {j : Joint} {below : List Level} {op : Infix} {t : Tree} {links : Links} {xs ys : List Token}
+        → (x : Token) → infix_of j x.kind ≡ Some op → Spells below t xs → SpellsLinks j below links ys
+        → SpellsLinks j below (link op t links) (x ∷ (xs ++ ys))
 
--- the tokens of declarations of boolean variables with these names
-abbrev pub declared : List (List ℕ) → List TokenKind
-declared [] = []
-declared (name ∷ names) = kind.Ident name ∷ kind.Sign sign.Colon ∷ kind.Reserved word.Boolean ∷ kind.Sign sign.Semicolon ∷ declared names
+  -- conditions with their values, and what counts where none is true
+  pub data SpellsBranches : List Level → Branches → Tree → List Token → Type 0 where
+    otherwise : {below : List Level} {t : Tree} {xs : List Token} → Spells below t xs → SpellsBranches below no_branches t xs
+    picks : {below : List Level} {w v t : Tree} {bs : Branches} {xs ys zs : List Token}
+        → Spells below w xs → (question : Token) → IsSign sign.Question question
+        → Spells below v ys → (colon : Token) → IsSign sign.Colon colon → SpellsBranches below bs t zs
+        → SpellsBranches below (branch w v bs) t (xs ++ question ∷ (ys ++ colon ∷ zs))
 
--- no name is declared twice
-abbrev pub AreDistinct : List (List ℕ) → Type 0
-AreDistinct [] = Unit {0}
-AreDistinct (name ∷ names) = (place_of names name ≡ None) × AreDistinct names
+  -- one or more expressions with commas between them, and the sign that closes the list
+  pub data SpellsListed : Sign → Trees → List Token → Type 0 where
+    last_one : {s : Sign} {t : Tree} {xs : List Token}
+        → Spells all_levels t xs → (closing : Token) → IsSign s closing → SpellsListed s (tree t no_trees) (xs ++ closing ∷ [])
+    one_before : {s : Sign} {t u : Tree} {ts : Trees} {xs ys : List Token}
+        → Spells all_levels t xs → (comma : Token) → IsSign sign.Comma comma → SpellsListed s (tree u ts) ys
+        → SpellsListed s (tree t (tree u ts)) (xs ++ comma ∷ ys)
 
--- where so many brackets stand open, at most so many stand open behind each token
-abbrev pub nests_within : ℕ → ℕ → List TokenKind → Bool
-nests_within most opened [] = true
-nests_within most opened (k ∷ ks) = nat_le (opened_by opened k) most && nests_within most (opened_by opened k) ks
-
--- a name has at most so many bytes
-abbrev pub is_short : ℕ → TokenKind → Bool
-is_short most (kind.Ident name) = nat_le (length name) most
-is_short most _ = true
-
-abbrev pub names_within : ℕ → List TokenKind → Bool
-names_within most [] = true
-names_within most (k ∷ ks) = is_short most k && names_within most ks
-
--- the height of a formula: a leaf has 1, each sign adds 1, and a chain has 1 more than its highest operand
-abbrev mutual
-  pub height : Formula → ℕ
-  height (variable i) = 1
-  height (negation n t) = n + height t
-  height (conjunction t ts) = suc (max (height t) (highest ts))
-
-  pub highest : Formulas → ℕ
-  highest no_formulas = 0
-  highest (formula t ts) = max (height t) (highest ts)
-
--- a fact of each variable of a formula, and of each of a list's
-abbrev mutual
-  pub EachVariable : (ℕ → Type 0) → Formula → Type 0
-  EachVariable P (variable i) = P i
-  EachVariable P (negation n t) = EachVariable P t
-  EachVariable P (conjunction t ts) = EachVariable P t × EachVariableOf P ts
-
-  pub EachVariableOf : (ℕ → Type 0) → Formulas → Type 0
-  EachVariableOf P no_formulas = Unit {0}
-  EachVariableOf P (formula t ts) = EachVariable P t × EachVariableOf P ts
-
--- every variable is one of the first n
-abbrev pub Below : ℕ → Formula → Type 0
-Below n t = EachVariable (λ i. i < n) t
-
--- the tokens spell the model
-pub record SpellsSource (source : Source) (ks : List TokenKind) : Type 0 where
-  pub formula : List TokenKind
-  pub ending : List TokenKind
-  pub splits : ks ≡ kind.Reserved word.Module ∷ kind.Ident (codes "main") ∷ kind.Reserved word.Var ∷ (declared source.names ++ (kind.Reserved word.Invarspec ∷ (formula ++ ending)))
-  pub some : source.names ≢ []
-  pub distinct : AreDistinct source.names
-  pub invariant : Spells source.names all_levels source.invariant formula
-  pub ends : (ending ≡ []) ⊎ (ending ≡ kind.Sign sign.Semicolon ∷ [])
-  pub few : length ks ≤ most_tokens
-  pub shallow : nests_within most_brackets 0 ks ≡ true
-  pub short : names_within most_bytes ks ≡ true
-  pub low : height source.invariant ≤ most_height
+  -- one or more conditions with their values, and the word that closes the cases
+  pub data SpellsCases : Branches → List Token → Type 0 where
+    last_case : {w v : Tree} {xs ys : List Token}
+        → Spells all_levels w xs → (colon : Token) → IsSign sign.Colon colon
+        → Spells all_levels v ys → (semicolon : Token) → IsSign sign.Semicolon semicolon → (esac : Token) → esac.kind ≡ kind.Reserved word.Esac
+        → SpellsCases (branch w v no_branches) (xs ++ colon ∷ (ys ++ semicolon ∷ esac ∷ []))
+    case_before : {w v a b : Tree} {bs : Branches} {xs ys zs : List Token}
+        → Spells all_levels w xs → (colon : Token) → IsSign sign.Colon colon
+        → Spells all_levels v ys → (semicolon : Token) → IsSign sign.Semicolon semicolon → SpellsCases (branch a b bs) zs
+        → SpellsCases (branch w v (branch a b bs)) (xs ++ colon ∷ (ys ++ semicolon ∷ zs))

@@ -1,16 +1,27 @@
-//! The tokens of an SMV model: their kinds, their places, and the lexer that reads them from a text.
+//! The tokens and the trees of SMV models: the lexer that reads tokens from a text, and the printed form of a tree.
 #![tactic(auto)]
 
 mod brackets;
+mod level;
 mod lexing;
 mod numbers;
+mod printing;
 mod scan;
 mod signs;
+mod spelling;
 #[cfg(test)]
 mod tests;
 mod token;
+mod tree;
 mod words;
 
 pub use brackets::{MOST_BRACKETS, opened_by};
+pub use level::{Joint, LEVELS, Level};
 pub use lexing::{LexEnd, lex, one_lexing, spellings_are_read};
+pub use printing::print;
 pub use token::{Reserved, Sign, Token, TokenKind, Tokens};
+pub use tree::{
+    Assignment, Assignments, Branch, Branches, Definition, Definitions, Domain, Element, Elements,
+    Expr, Exprs, Function, Infix, Item, Items, Link, Links, Member, Members, Module, Modules,
+    Parameter, Parameters, Path, Prefix, Shape, Source, VarKind, When,
+};
