@@ -4,3 +4,4 @@ pub mod Spellings
 pub mod Laws
 pub mod Answered
 pub mod Spaces
+pub mod Printed

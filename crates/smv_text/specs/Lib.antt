@@ -15,4 +15,5 @@ pub mod Sources
 pub mod Ranks
 pub mod Spelling
 pub mod Printing
+pub mod Printable
 pub mod FirstGrammar
