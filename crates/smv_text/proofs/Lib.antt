@@ -5,3 +5,4 @@ pub mod Laws
 pub mod Answered
 pub mod Spaces
 pub mod Printed
+pub mod Again

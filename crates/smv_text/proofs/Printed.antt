@@ -359,7 +359,7 @@ number_again n lt =
     let below : nat_lt n (2 ^ 62) ≡ true = grind (arith, lt) in
     rw (value_again n (small n lt), below) refl
 
-digit_kind : {A : Type 0} (l d : Bool) (x y z : A) → l ≡ false → d ≡ true → cond l x (cond d y z) ≡ y
+pub digit_kind : {A : Type 0} (l d : Bool) (x y z : A) → l ≡ false → d ≡ true → cond l x (cond d y z) ≡ y
 digit_kind l d x y z e f = rw (e, f) refl
 
 number_as : (n : ℕ) → n < 2 ^ 62 → IsReadAs (kind.Number n) (decimal n)
@@ -427,3 +427,50 @@ literal_as w is =
     option_map_literal : Option BitVector → Option TokenKind
     option_map_literal None = None
     option_map_literal (Some v) = Some (kind.Literal v)
+
+word_length_is : {A : Type 0} (l : Bool) (x y : A) → l ≡ true → cond l x y ≡ x
+word_length_is l x y e = rw e refl
+
+-- what doesn't begin with a letter is no identifier
+no_name : (b : ℕ) (bs : List ℕ) → is_letter b ≡ false → kind_of (b ∷ bs) ≡ Some (kind.Ident (b ∷ bs)) → ⊥
+no_name b bs l e = go (is_letter b) (is_digit b) l e
+  where
+    by_sign : (o : Option Sign) → option_map kind.Sign o ≡ Some (kind.Ident (b ∷ bs)) → ⊥
+    by_sign None e = cc
+    by_sign (Some s) e = cc
+
+    by_literal : (o : Option BitVector) → option_map kind.Literal o ≡ Some (kind.Ident (b ∷ bs)) → ⊥
+    by_literal None e = cc
+    by_literal (Some w) e = cc
+
+    by_number : (o : Option ℕ) → or_literal o (b ∷ bs) ≡ Some (kind.Ident (b ∷ bs)) → ⊥
+    by_number None e = by_literal (literal_of (b ∷ bs)) e
+    by_number (Some n) e = cc
+
+    go : (l d : Bool) → l ≡ false → cond l (Some (word_kind (b ∷ bs))) (cond d (or_literal (number_of (b ∷ bs)) (b ∷ bs)) (option_map kind.Sign (sign_at b bs))) ≡ Some (kind.Ident (b ∷ bs)) → ⊥
+    go true d l e = cc
+    go false true l e = by_number (number_of (b ∷ bs)) e
+    go false false l e = by_sign (sign_at b bs) e
+
+none_some : (k : TokenKind) (o : Option TokenKind) → o ≡ None → o ≡ Some k → ⊥
+none_some k o e f = cc
+
+-- each token that can be printed is read as itself
+identifier_as : (n : List ℕ) → IsIdentifier n → IsReadAs (kind.Ident n) n
+identifier_as [] i = absurd (none_some (kind.Ident []) (kind_of []) refl i.read)
+identifier_as (b ∷ bs) i = by_letter (is_letter b) refl
+  where
+    by_letter : (l : Bool) → is_letter b ≡ l → IsReadAs (kind.Ident (b ∷ bs)) (b ∷ bs)
+    by_letter true e =
+        let whole : suc (front_length in_word bs) ≡ suc (length bs) = sym (word_length_is (is_letter b) (suc (front_length in_word bs)) _ e) ∙ i.whole in
+        word_as (kind.Ident (b ∷ bs)) b bs e (omega (arith, whole)) i.read
+    by_letter false e = absurd (no_name b bs e i.read)
+
+pub printed_as : (k : TokenKind) → IsPrintable k → IsReadAs k (spelled k)
+unfolding spelled
+printed_as (kind.Reserved w) p = reserved_as w
+printed_as kind.Refused p = absurd p
+printed_as (kind.Ident n) p = identifier_as n p
+printed_as (kind.Number n) p = number_as n p
+printed_as (kind.Literal w) p = literal_as w p
+printed_as (kind.Sign s) p = sign_as s

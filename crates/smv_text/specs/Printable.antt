@@ -1,5 +1,5 @@
 -- Which tokens a printed form can spell, so that they are read again.
-use Rattle.std.specs.Prelude.{◌≡◌, ◌<◌, ◌≤◌, ◌^◌, ℕ, Some, List, [], ◌∷◌, length}
+use Rattle.std.specs.Prelude.{◌≡◌, ◌⊎◌, ◌<◌, ◌≤◌, ◌^◌, ℕ, Some, List, [], ◌∷◌, length}
 use Rattle.word_core.specs.Words.{IsWord}
 use Rattle.smv_text.specs.declared.token.TokenKind.{TokenKind}
 use Rattle.smv_text.specs.declared.token.TokenKind.TheVariants as kind
@@ -25,3 +25,11 @@ IsPrintable (kind.Sign s) = Unit {0}
 abbrev pub ArePrintable : ℕ → List TokenKind → Type 0
 ArePrintable n [] = Unit {0}
 ArePrintable n (k ∷ ks) = IsPrintable k × (opened_by n k ≤ most_brackets) × ArePrintable (opened_by n k) ks
+
+-- a token of some text: it can be printed, or is a word of a part that isn't supported
+abbrev pub CanBePrinted : TokenKind → Type 0
+CanBePrinted k = (k ≡ kind.Refused) ⊎ IsPrintable k
+
+abbrev pub CanAllBePrinted : ℕ → List TokenKind → Type 0
+CanAllBePrinted n [] = Unit {0}
+CanAllBePrinted n (k ∷ ks) = CanBePrinted k × (opened_by n k ≤ most_brackets) × CanAllBePrinted (opened_by n k) ks

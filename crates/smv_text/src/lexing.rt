@@ -11,7 +11,9 @@ ghost use Rattle.smv_text.specs.Keywords.{word_bytes};
 ghost use Rattle.smv_text.specs.Words.{kind_of};
 ghost use Rattle.smv_text.specs.Reading.{gap_length, Gives};
 ghost use Rattle.smv_text.specs.Answer.{Reads, Stops, IsRefused, IsAnswered};
-ghost use Rattle.smv_text.specs.Lexing.{LexesTo, IsLexRefusal, refusal_at, opened_by, most_brackets};
+ghost use Rattle.smv_text.specs.Spelling.{joined};
+ghost use Rattle.smv_text.specs.Printable.{ArePrintable, CanAllBePrinted};
+ghost use Rattle.smv_text.specs.Lexing.{kinds, LexesTo, IsLexRefusal, refusal_at, opened_by, most_brackets};
 
 use crate::brackets::{MOST_BRACKETS, opened_by};
 use crate::scan::{after, gap_length, kind_of, lexeme_length};
@@ -165,4 +167,10 @@ pub fn one_lexing()
 pub fn spellings_are_read()
     ensures signs { (s : Sign) → kind_of (sign_bytes s) ≡ Some (TokenKind.Sign s) }
     ensures words { (r : Reserved) → kind_of (word_bytes r) ≡ Some (TokenKind.Reserved r) }
+{}
+
+/// Tokens that are printed with single blanks between them are lexed again, and the tokens of a text can be printed.
+pub fn printed_is_lexed()
+    ensures again { (ks : List TokenKind) → ArePrintable 0 ks → (ts : List Token) × LexesTo (joined ks) ts × (kinds ts ≡ ks) }
+    ensures printable { (text : List ℕ) (ts : List Token) → LexesTo text ts → CanAllBePrinted 0 (kinds ts) }
 {}
