@@ -3,7 +3,7 @@ use Rattle.std.proofs.Common.{◌≡◌, List, ℕ, Option, Some, None, Result, 
 use Rattle.std.specs.Prelude.{IfOk, IfSome}
 use Rattle.text_core.specs.Outside.{Files}
 use Rattle.moxi_cli.specs.declared.answer.Answer.{Answer}
-use Rattle.moxi_cli.specs.declared.answer.Answer.TheVariants.{Misread, Unread, Refuses, SecondRefuses, Denies, Judges, Writes}
+use Rattle.moxi_cli.specs.declared.answer.Answer.TheVariants.{Refuses, Writes}
 use Rattle.moxi_cli.specs.Outcome.{IsTranslation, GoesOn, MayGive, smv_model}
 
 goes_on : (step : Result (List ℕ) Answer) (bytes : List ℕ) (next : List ℕ → Answer → Type 0) (answer : Answer) → step ≡ Ok bytes → next bytes answer → GoesOn step next answer

@@ -1,7 +1,7 @@
 -- When the answers of a judgement may be given.
-use Rattle.std.proofs.Common.{◌≡◌, ◌⊎◌, ◌≤◌, ◌<◌, ◌+◌, ◌-◌, ◌^◌, min, inl, inr, ℕ, Bool, true, false, cond, List, length, Option, Some, None, Result, Ok, Err, refl, sym, ap, ◌∙◌, subst, arith}
+use Rattle.std.proofs.Common.{◌≡◌, ◌⊎◌, ◌≤◌, inl, inr, ℕ, false, cond, List, length, Option, Some, None, Result, Ok, Err, refl, sym, ap, ◌∙◌, subst, arith}
 use Rattle.std.specs.Prelude.{IfOk, IfErr, IfSome, nat_lt}
-use Rattle.text_core.specs.Outside.{Files, file_at, IsFile, IsLonger, IsMissing, Rose}
+use Rattle.text_core.specs.Outside.{Files, file_at, IsFile, IsLonger, Rose}
 use Rattle.text_core.specs.declared.verdict.Verdict.{Verdict}
 use Rattle.text_core.specs.declared.verdict.Verdict.TheVariants as verdict
 use Rattle.btor_tree.specs.declared.lines.Line.{Line}
@@ -14,7 +14,7 @@ use Rattle.moxi_cli.specs.declared.answer.Stop.TheVariants.{Gives, NoMemory}
 use Rattle.btor_witness.specs.declared.read.TheConstants.{MOST_BYTES}
 use Rattle.moxi_cli.specs.declared.judge.TheConstants.{BTOR_LIMIT}
 use Rattle.moxi_cli.specs.Stop.{IsLineRefused, MayLack, MayStop, StopsWith, witness_too_long}
-use Rattle.moxi_cli.specs.Outcome.{GoesOn, IsJudgement, IsVerdict, MayGive, OnSecond, OnWitness, IsTold, btor_model, btor_too_long, bytes_of, verdict_answer}
+use Rattle.moxi_cli.specs.Outcome.{GoesOn, IsJudgement, IsVerdict, MayGive, OnSecond, OnWitness, btor_model, btor_too_long, bytes_of, verdict_answer}
 
 -- the judgement of these files
 abbrev pub Defined : List ℕ → List ℕ → Files → Answer → Type 0

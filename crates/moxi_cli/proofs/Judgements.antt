@@ -1,9 +1,8 @@
 -- Files define one judgement.
-use Rattle.std.proofs.Common.{◌≡◌, ◌⊎◌, inl, inr, ℕ, suc, Bool, true, false, List, [], ◌∷◌, ◌-◌, length, Option, Some, None, refl, sym, ap, ◌∙◌, subst}
+use Rattle.std.proofs.Common.{◌≡◌, inl, inr, ℕ, List, Option, Some, None, refl, sym, ap, ◌∙◌, subst}
 use Rattle.text_core.specs.Outside.{Files, file_at}
 use Rattle.btor_tree.specs.declared.lines.Line.{Line}
 use Rattle.btor_tree.specs.Fits.{IsWellFormed}
-use Rattle.btor_tree.specs.Texts.{SpellsLines}
 use Rattle.btor_tree.proofs.Readings.{one_list, no_list}
 use Rattle.btor_tree.proofs.Resolved.{reads_well_formed}
 use Rattle.btor_tree.proofs.Grows.{empty_well_formed}
@@ -12,7 +11,7 @@ use Rattle.btor_witness.proofs.Verdicts.{one_verdict}
 use Rattle.btor_witness.proofs.Laws.{one_witness, not_both}
 use Rattle.moxi_cli.specs.declared.answer.Answer.{Answer}
 use Rattle.moxi_cli.specs.declared.answer.Answer.TheVariants.{Unread, Refuses, SecondRefuses}
-use Rattle.moxi_cli.specs.Outcome.{IsJudgement, IsVerdict, OnLines, OnSecond, OnWitness, status_of, text_of, verdict_answer}
+use Rattle.moxi_cli.specs.Outcome.{IsJudgement, IsVerdict, OnSecond, OnWitness, status_of, text_of, verdict_answer}
 
 -- two answers have one status and one text
 abbrev pub Same : Answer → Answer → Type 0

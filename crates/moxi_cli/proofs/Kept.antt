@@ -2,8 +2,8 @@
 use Rattle.std.proofs.Common.{ℕ, suc, ◌≡◌, ◌≤◌, ◌<◌, ◌&&◌, Bool, true, false, List, [], ◌∷◌, length, nat_le, refl, ap, arith}
 use Rattle.smv_text.specs.declared.token.Token.{Token}
 use Rattle.smv_text.specs.declared.token.TokenKind.{TokenKind}
-use Rattle.smv_text.specs.Lexing.{kinds}
-use Rattle.smv_text.specs.Grammar.{most_tokens, most_brackets, most_bytes, nests_within, names_within, SpellsSource, Source}
+use Rattle.smv_text.specs.Lexing.{kinds, most_brackets}
+use Rattle.smv_text.specs.Grammar.{most_tokens, most_bytes, nests_within, names_within, SpellsSource, Source}
 use Rattle.moxi_cli.specs.Reading.{keeps_limits}
 
 pub length-kinds : (tokens : List Token) → length (kinds tokens) ≡ length tokens

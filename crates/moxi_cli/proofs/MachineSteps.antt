@@ -1,6 +1,5 @@
 -- How the machine goes on, one frame at a time.
 use Rattle.std.proofs.Common.{◌≡◌, ℕ, zero, suc, Bool, true, false, cond, Option, Some, None, List, [], ◌∷◌, length, refl, option_map, Result, Err, subst, sym, ap, ◌∙◌, arith, ◌<◌}
-use Rattle.smv_text.specs.declared.token.Reserved.{Reserved}
 use Rattle.smv_text.specs.declared.token.Sign.{Sign}
 use Rattle.smv_text.specs.declared.token.Sign.TheVariants as sign
 use Rattle.smv_text.specs.declared.token.TokenKind.{TokenKind}
@@ -147,14 +146,12 @@ module _ (names : List (List ℕ)) where
   nothing_comes levels k = refl
 
   -- no formula begins so
-  pub nothing_reserved : (k : List Frame) (w : Reserved) (xs : List TokenKind) → run names (kind.Reserved w ∷ xs) (ask [] k) ≡ dead
+  pub no_primary : (k : List Frame) (xs : List TokenKind) → after sign.Open xs ≡ None → ((name : List ℕ) (ys : List TokenKind) → xs ≡ kind.Ident name ∷ ys → ⊥) → run names xs (ask [] k) ≡ dead
   unfolding run
-  nothing_reserved k w xs = refl
-
-  pub no_primary : (k : List Frame) (s : Sign) (xs : List TokenKind) → after sign.Open (kind.Sign s ∷ xs) ≡ None → run names (kind.Sign s ∷ xs) (ask [] k) ≡ dead
-  unfolding run
-  no_primary k sign.Open xs e = cc
-  no_primary k _ xs e = refl
+  no_primary k [] e none = refl
+  no_primary k (kind.Ident name ∷ xs) e none = absurd (none name xs refl)
+  no_primary k (kind.Sign sign.Open ∷ xs) e none = cc
+  no_primary k (_ ∷ xs) e none = refl
 
   -- where a part dies, the whole dies
   pub dies_along : (from from' : List Frame → State) (xs xs' : List TokenKind) → ((k : List Frame) → (k' : List Frame) × (run names xs (from k) ≡ run names xs' (from' k')))

@@ -15,14 +15,14 @@ use Rattle.moxi_cli.specs.Outcome.{IsTranslation, IsJudgement, IsAbsent, IsTold,
 use Rattle.moxi_cli.specs.Sinks.{IsPart}
 use Rattle.text_core.specs.declared.place.Refusal.{Refusal}
 use Rattle.text_core.specs.declared.verdict.Clause.{Clause}
-use Rattle.moxi_cli.proofs.Sources.{one_source, text_stands}
+use Rattle.moxi_cli.proofs.Sources.{one_source, one_smv_refusal, not_refused, text_stands}
 use Rattle.moxi_cli.proofs.Judgements.{Same, same_judgement}
 
 one_translation : (bytes : List ℕ) (a b : Answer) → IsTranslation bytes a → IsTranslation bytes b → a ≡ b
-one_translation bytes (Refuses r) (Refuses q) h k = ap Refuses (h.0 ∙ sym k.0)
-one_translation bytes (Refuses r) (Writes text) h k = absurd (h.1 k.0 k.1)
+one_translation bytes (Refuses r) (Refuses q) h k = ap Refuses (one_smv_refusal bytes r q h k)
+one_translation bytes (Refuses r) (Writes text) h k = absurd (not_refused bytes r k.0 h k.1)
 one_translation bytes (Refuses r) b h k = absurd k
-one_translation bytes (Writes text) (Refuses q) h k = absurd (k.1 h.0 h.1)
+one_translation bytes (Writes text) (Refuses q) h k = absurd (not_refused bytes q h.0 k h.1)
 one_translation bytes (Writes text) (Writes other) h k = ap Writes (h.2 ∙ ap btor_text (one_source bytes h.0 k.0 h.1 k.1) ∙ sym k.2)
 one_translation bytes (Writes text) b h k = absurd k
 one_translation bytes a b h k = absurd h

@@ -1,6 +1,7 @@
 -- Sources are spelled once, and what is written for one stands for it.
-use Rattle.std.proofs.Common.{◌≡◌, ℕ, suc, ◌+◌, ◌*◌, ◌≤◌, List, [], ◌∷◌, ◌++◌, length, refl, sym, ap, ◌∙◌, subst, arith}
+use Rattle.std.proofs.Common.{◌≡◌, ℕ, suc, ◌*◌, ◌≤◌, List, [], ◌∷◌, ◌++◌, length, refl, sym, ap, ◌∙◌, subst, arith, inl, inr}
 use Rattle.std.proofs.lemmas.List.{length-append}
+use Rattle.text_core.specs.declared.place.Refusal.{Refusal}
 use Rattle.smv_text.specs.declared.token.TokenKind.{TokenKind}
 use Rattle.smv_text.specs.declared.token.TokenKind.TheVariants as kind
 use Rattle.smv_text.specs.declared.token.Reserved.TheVariants as word
@@ -8,22 +9,20 @@ use Rattle.smv_text.specs.declared.token.Sign.TheVariants as sign
 use Rattle.smv_text.specs.declared.token.Token.{Token}
 use Rattle.smv_text.specs.Grammar.{Formula, Formulas, Source, Level, declared, Spells, pass, conjoins, negates, stands, brackets, Operands, no_operands, operand, Signs, no_signs, one_sign, SpellsSource, Below}
 use Rattle.smv_text.specs.Lexing.{kinds, LexesTo}
-use Rattle.smv_text.proofs.Laws.{one_lexing}
-use Rattle.btor_tree.specs.declared.lines.Line.{Line}
+use Rattle.smv_text.proofs.Laws.{one_lexing, one_lex_refusal, not_both}
 use Rattle.btor_tree.specs.declared.lines.TheConstants.{GREATEST_ID}
 use Rattle.btor_tree.specs.Fits.{IsWellFormed}
 use Rattle.btor_tree.specs.Printing.{printed}
-use Rattle.btor_tree.specs.Texts.{SpellsLines}
 use Rattle.btor_tree.proofs.Printed.{printed_spells}
 use Rattle.btor_tree.proofs.Readings.{one_list}
 use Rattle.moxi_cli.proofs.Judged as judged
 use Rattle.moxi_cli.proofs.Both as both
-use Rattle.std.specs.Prelude.{Option, Some, None, Result, Ok, Err, IfOk, IfSome, IfNone}
+use Rattle.std.specs.Prelude.{Option, Some, None, IfSome, IfNone}
 use Rattle.moxi_cli.specs.declared.formula.Source as code
 use Rattle.moxi_cli.specs.Trees.{source_of}
 use Rattle.moxi_cli.specs.Lines.{size, sizes, line_count, lines_of}
 use Rattle.moxi_cli.specs.Headline.{Translates}
-use Rattle.moxi_cli.specs.Translation.{Accepts, TranslatesTo, btor_text}
+use Rattle.moxi_cli.specs.Translation.{Accepts, IsSmvRefusal, not_built, TranslatesTo, btor_text}
 
 sign_count : {n : ℕ} {xs : List TokenKind} → Signs n xs → length xs ≡ n
 sign_count no_signs = refl
@@ -77,13 +76,22 @@ pub spells_none : (bytes : List ℕ) (tokens : List Token) → LexesTo bytes tok
 spells_none bytes tokens lexed none source a =
     none source (subst (λ ts. SpellsSource source (kinds ts)) (one_lexing bytes a.tokens tokens a.lexed lexed) a.spelled)
 
--- what parsing answers, said of the bytes
-pub parsed_none : {E : Type 0} (bytes : List ℕ) (lexed tokens : List Token) (result : Result (Option code.Source) E) → LexesTo bytes lexed → tokens ≡ lexed → IfOk result (λ o. IfNone o ((source : Source) → SpellsSource source (kinds tokens) → ⊥)) → IfOk result (λ o. IfNone o ((source : Source) → Accepts bytes source → ⊥))
-parsed_none bytes lexed tokens (Err e) l is h = tt
-parsed_none bytes lexed tokens (Ok (Some source)) l is h = tt
-parsed_none bytes lexed tokens (Ok None) l is h = spells_none bytes tokens (subst (LexesTo bytes) (sym is) l) h
+-- bytes have one refusal
+pub one_smv_refusal : (bytes : List ℕ) (why other : Refusal) → IsSmvRefusal bytes why → IsSmvRefusal bytes other → why ≡ other
+one_smv_refusal bytes why other (inl a) (inl b) = one_lex_refusal bytes why other a b
+one_smv_refusal bytes why other (inl a) (inr (tokens, lexed, none, is)) = absurd (not_both bytes tokens why lexed a)
+one_smv_refusal bytes why other (inr (tokens, lexed, none, is)) (inl b) = absurd (not_both bytes tokens other lexed b)
+one_smv_refusal bytes why other (inr (tokens, lexed, none, is)) (inr (tokens', lexed', none', is')) = is ∙ sym is'
 
-pub parsed_room : {E : Type 0} (tokens : List Token) (result : Result (Option code.Source) E) → IfOk result (λ o. IfSome o (λ source. SpellsSource (source_of source) (kinds tokens))) → IfOk result (λ o. IfSome o (λ source. line_count (source_of source) ≤ GREATEST_ID))
-parsed_room tokens (Err e) h = tt
-parsed_room tokens (Ok None) h = tt
-parsed_room tokens (Ok (Some source)) h = few_lines (source_of source) (kinds tokens) h
+-- and none where they spell a source
+pub not_refused : (bytes : List ℕ) (why : Refusal) (source : Source) → IsSmvRefusal bytes why → Accepts bytes source → ⊥
+not_refused bytes why source (inl a) accepted = not_both bytes accepted.tokens why accepted.lexed a
+not_refused bytes why source (inr (tokens, lexed, none, is)) accepted = none source accepted
+
+-- what parsing answers, said of the bytes
+pub parsed_none : (bytes : List ℕ) (lexed tokens : List Token) (parsed : Option code.Source) (refusal : Refusal) → LexesTo bytes lexed → tokens ≡ lexed → IfNone parsed ((source : Source) → SpellsSource source (kinds tokens) → ⊥) → parsed ≡ None → refusal ≡ not_built → IsSmvRefusal bytes refusal
+parsed_none bytes lexed tokens (Some source) refusal l same h none is = absurd (cc)
+parsed_none bytes lexed tokens None refusal l same h none is = let k = subst (LexesTo bytes) (sym same) l in inr (tokens, k, spells_none bytes tokens k h, is)
+
+pub parsed_room : (tokens : List Token) (parsed : Option code.Source) (source : code.Source) → IfSome parsed (λ source. SpellsSource (source_of source) (kinds tokens)) → parsed ≡ Some source → line_count (source_of source) ≤ GREATEST_ID
+parsed_room tokens parsed source h some = few_lines (source_of source) (kinds tokens) (subst (λ o. IfSome o (λ s. SpellsSource (source_of s) (kinds tokens))) some h)

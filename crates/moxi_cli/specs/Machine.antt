@@ -11,10 +11,35 @@ use Rattle.moxi_cli.specs.Trees.{formulas_of}
 abbrev pub sign_number : Sign → ℕ
 sign_number sign.Open = 0
 sign_number sign.Close = 1
-sign_number sign.Semicolon = 2
-sign_number sign.Colon = 3
-sign_number sign.Not = 4
-sign_number sign.And = 5
+sign_number sign.OpenBrace = 2
+sign_number sign.CloseBrace = 3
+sign_number sign.OpenBracket = 4
+sign_number sign.CloseBracket = 5
+sign_number sign.Comma = 6
+sign_number sign.Semicolon = 7
+sign_number sign.Colon = 8
+sign_number sign.Dot = 9
+sign_number sign.Range = 10
+sign_number sign.Assign = 11
+sign_number sign.Equal = 12
+sign_number sign.Unequal = 13
+sign_number sign.Less = 14
+sign_number sign.Greater = 15
+sign_number sign.LessEqual = 16
+sign_number sign.GreaterEqual = 17
+sign_number sign.Not = 18
+sign_number sign.And = 19
+sign_number sign.Or = 20
+sign_number sign.Plus = 21
+sign_number sign.Minus = 22
+sign_number sign.Times = 23
+sign_number sign.Divide = 24
+sign_number sign.ShiftLeft = 25
+sign_number sign.ShiftRight = 26
+sign_number sign.Concat = 27
+sign_number sign.Question = 28
+sign_number sign.Implies = 29
+sign_number sign.Iff = 30
 
 -- the token is this sign
 abbrev pub is : TokenKind → Sign → Bool

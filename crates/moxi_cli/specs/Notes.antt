@@ -1,5 +1,5 @@
 -- The line that is noted for an answer.
-use Rattle.std.specs.Prelude.{◌==◌, ℕ, Bool, true, false, List, [], ◌∷◌, ◌++◌, if◌then◌else◌, codes, decimal}
+use Rattle.std.specs.Prelude.{◌==◌, ℕ, Bool, true, false, List, [], ◌++◌, if◌then◌else◌, codes, decimal}
 use Rattle.std.specs.Borrow.{Bor}
 use Rattle.std.specs.List.{flat_map}
 use Rattle.text_core.specs.declared.place.Kind.{Kind}
@@ -25,7 +25,11 @@ kind_number (B n) = n
 kind_number (X n) = n
 kind_number (Y n) = n
 
--- the names of the kinds of a BTOR2 text, and of a witness, by their numbers
+-- the names of the kinds of an SMV model, of a BTOR2 text, and of a witness, by their numbers
+abbrev pub smv_name : ℕ → List ℕ
+smv_name n =
+    if n == 1 then codes "TooLong" else (if n == 2 then codes "BadByte" else (if n == 3 then codes "BadNumber" else (if n == 4 then codes "TooNested" else (if n == 29 then codes "NotBuilt" else []))))
+
 abbrev pub btor_name : ℕ → List ℕ
 btor_name n =
     if n == 1 then codes "Line" else (if n == 2 then codes "IdOrder" else (if n == 3 then codes "NoSuchNode" else (if n == 4 then codes "SortClash" else (if n == 5 then codes "NotSupported" else (if n == 6 then codes "Width" else (if n == 7 then codes "Twice" else (if n == 8 then codes "InitLate" else (if n == 9 then codes "TooLong" else []))))))))
@@ -36,7 +40,7 @@ witness_name n =
 
 -- the name of a kind that can come
 abbrev pub kind_name : Kind → List ℕ
-kind_name (S n) = if n == 1 then codes "TooLong" else (if n == 29 then codes "NotBuilt" else [])
+kind_name (S n) = smv_name n
 kind_name (M n) = []
 kind_name (B n) = btor_name n
 kind_name (X n) = witness_name n

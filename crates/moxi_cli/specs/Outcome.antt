@@ -23,17 +23,11 @@ use Rattle.btor_witness.specs.Texts.{SpellsWitness, RefusesWitness}
 use Rattle.btor_witness.specs.Judging.{IsJudged}
 use Rattle.moxi_cli.specs.declared.judge.TheConstants.{BTOR_LIMIT}
 use Rattle.moxi_cli.specs.Notes.{judged_line}
-use Rattle.moxi_cli.specs.Translation.{Accepts, btor_text, IsServed}
+use Rattle.moxi_cli.specs.Translation.{Accepts, IsSmvRefusal, btor_text, IsServed}
 
--- a refusal of an SMV text at its first byte
-abbrev pub at_start : ℕ → Refusal
-at_start n = record { kind = S n; place = record { line = 1; column = 1; offset = 0 } }
-
+-- the refusal of an SMV text that is too long, at its first byte
 abbrev pub too_long : Refusal
-too_long = at_start 1
-
-abbrev pub not_built : Refusal
-not_built = at_start 29
+too_long = record { kind = S 1; place = record { line = 1; column = 1; offset = 0 } }
 
 -- the bytes of a model file, or the answer in their place
 abbrev pub within_limit : List ℕ → ℕ → Refusal → Result (List ℕ) Answer
@@ -51,11 +45,11 @@ abbrev pub GoesOn : Result (List ℕ) Answer → (List ℕ → Answer → Type 0
 GoesOn (Ok bytes) next answer = next bytes answer
 GoesOn (Err instead) next answer = answer ≡ instead
 
--- the BTOR2 text of the source that the bytes spell, or a refusal where they spell none
+-- the BTOR2 text of the source that the bytes spell, or their refusal
 abbrev pub IsTranslation : List ℕ → Answer → Type 0
 IsTranslation bytes Misread = ⊥
 IsTranslation bytes (Unread name) = ⊥
-IsTranslation bytes (Refuses refusal) = (refusal ≡ not_built) × ((source : Source) → Accepts bytes source → ⊥)
+IsTranslation bytes (Refuses refusal) = IsSmvRefusal bytes refusal
 IsTranslation bytes (SecondRefuses refusal) = ⊥
 IsTranslation bytes (Denies step clause) = ⊥
 IsTranslation bytes (Judges bad step) = ⊥

@@ -11,7 +11,7 @@ use Rattle.btor_tree.specs.declared.lines.Line.{Line}
 use Rattle.btor_text.specs.declared.read.BtorEnd.TheVariants.{Bad}
 use Rattle.btor_text.specs.Answer as btor
 use Rattle.btor_witness.specs.Texts.{RefusesWitness}
-use Rattle.moxi_cli.specs.declared.answer.Answer.TheVariants.{Misread, Unread, Refuses, SecondRefuses, Denies, Judges, Writes}
+use Rattle.moxi_cli.specs.declared.answer.Answer.TheVariants.{Unread, Refuses, SecondRefuses}
 use Rattle.btor_witness.specs.declared.read.TheConstants.{MOST_BYTES}
 use Rattle.moxi_cli.specs.Outcome.{MayGive, SaysUnread}
 

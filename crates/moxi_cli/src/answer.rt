@@ -7,7 +7,7 @@ ghost use Rattle.moxi_cli.specs.Stop.{MayStop, StopsUnread};
 
 use crate::judge::judge_files;
 use crate::status::Status;
-use crate::translate::{SMV_LIMIT, translate};
+use crate::translate::{ModelEnd, SMV_LIMIT, translate};
 use crate::words::{Command, read_command};
 use std::alloc::Global;
 use text_core::{Clause, Kind, Name, NoMemory, Place, ReadEnd, Refusal, Shelf, Text, read_whole};
@@ -128,8 +128,9 @@ fn translation(alloc: Global, bytes: &[u8]) -> Result<Answer, NoMemory>
     requires { length bytes.now ≤ SMV_LIMIT }
     ensures { IfOk result (IsTranslation bytes.now) }
 {
-    match translate(alloc, bytes)? {
-        Some(text) => Ok(Answer::Writes(text)),
-        None => Ok(Answer::Refuses(refusal(Kind::S(29)))),
+    match translate(alloc, bytes) {
+        Ok(text) => Ok(Answer::Writes(text)),
+        Err(ModelEnd::Refused(refusal)) => Ok(Answer::Refuses(refusal)),
+        Err(ModelEnd::NoMemory) => Err(NoMemory),
     }
 }

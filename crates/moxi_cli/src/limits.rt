@@ -1,19 +1,17 @@
 // The limits of a model: they bound the parser's time and the depth of its calls.
 ghost use Rattle.std.specs.Prelude.{◌≡◌, ◌<◌, ◌≤◌, ◌-◌, ◌^◌, ◌↔◌, IsTrue};
-ghost use Rattle.smv_text.specs.Lexing.{kinds};
-ghost use Rattle.smv_text.specs.Grammar.{most_brackets, most_bytes, opened_by, nests_within, is_short, names_within, height};
+ghost use Rattle.smv_text.specs.Lexing.{kinds, most_brackets};
+ghost use Rattle.smv_text.specs.Grammar.{most_bytes, nests_within, is_short, names_within, height};
 ghost use Rattle.moxi_cli.specs.Trees.{plain};
 ghost use Rattle.moxi_cli.specs.Reading.{keeps_limits};
 
 use crate::formula::Formula;
-use smv_text::{Sign, Token, TokenKind};
+use smv_text::{MOST_BRACKETS, Token, TokenKind, opened_by};
 
 /// The greatest height of a formula.
 pub const MOST_HEIGHT: u32 = 380;
 
 const MOST_TOKENS: usize = 4096;
-
-const MOST_BRACKETS: u32 = 100;
 
 const MOST_BYTES: usize = 1000;
 
@@ -25,25 +23,6 @@ pub fn keeps_limits(tokens: &[Token]) -> bool
         return false;
     }
     nests_within_limit(tokens) && has_short_names(tokens)
-}
-
-// How many brackets stand open behind this token.
-fn opened_by(opened: u32, kind: &TokenKind) -> u32
-    requires { opened < 2 ^ 32 - 1 }
-    ensures { result ≡ opened_by opened kind.now }
-{
-    match kind {
-        TokenKind::Sign(sign) => match sign {
-            Sign::Open => opened + 1,
-            Sign::Close => opened.saturating_sub(1),
-            Sign::Semicolon => opened,
-            Sign::Colon => opened,
-            Sign::Not => opened,
-            Sign::And => opened,
-        },
-        TokenKind::Reserved(_) => opened,
-        TokenKind::Ident(_) => opened,
-    }
 }
 
 // Whether never too many brackets stand open.
@@ -67,8 +46,7 @@ fn is_short(kind: &TokenKind) -> bool
 {
     match kind {
         TokenKind::Ident(name) => name.bytes().len() <= MOST_BYTES,
-        TokenKind::Reserved(_) => true,
-        TokenKind::Sign(_) => true,
+        _ => true,
     }
 }
 

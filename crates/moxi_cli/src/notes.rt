@@ -3,7 +3,7 @@ ghost use Rattle.std.specs.Prelude.{◌≡◌, ◌≢◌, ◌⊎◌, ◌<◌, �
 ghost use Rattle.text_core.specs.Outside.{grown, Rose, Counts};
 ghost use Rattle.moxi_cli.specs.Outcome.{status_of, text_of};
 ghost use Rattle.moxi_cli.specs.Sinks.{IsPart};
-ghost use Rattle.moxi_cli.specs.Notes.{btor_name, clause_name, colon_text, column_text, denied_line, joined, judged_line, kind_letter, kind_name, kind_number, line_of, refused_line, refused_words, unread_line, witness_name};
+ghost use Rattle.moxi_cli.specs.Notes.{btor_name, clause_name, colon_text, column_text, denied_line, joined, judged_line, kind_letter, kind_name, kind_number, line_of, refused_line, refused_words, smv_name, unread_line, witness_name};
 
 use crate::answer::Answer;
 use crate::status::Status;
@@ -211,10 +211,22 @@ fn name_of(kind: Kind) -> &'static [u8]
     ensures { result.now ≡ kind_name kind }
 {
     match kind {
-        Kind::S(1) => b"TooLong",
-        Kind::S(29) => b"NotBuilt",
+        Kind::S(n) => smv_name(n),
         Kind::B(n) => btor_name(n),
         Kind::X(n) => witness_name(n),
+        _ => b"",
+    }
+}
+
+fn smv_name(n: u8) -> &'static [u8]
+    ensures { result.now ≡ smv_name n }
+{
+    match n {
+        1 => b"TooLong",
+        2 => b"BadByte",
+        3 => b"BadNumber",
+        4 => b"TooNested",
+        29 => b"NotBuilt",
         _ => b"",
     }
 }

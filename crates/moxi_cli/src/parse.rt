@@ -9,7 +9,7 @@ ghost use Rattle.moxi_cli.specs.Reading.{Passes, IsDeclared, DeclaresNone, Reads
 use crate::declared::Declared;
 use crate::formula::Source;
 use crate::limits::{MOST_HEIGHT, is_within, keeps_limits};
-use crate::read_formula::{Stop, formula};
+use crate::read_formula::{Stop, formula, name_first};
 use smv_text::{Reserved, Sign, Token, TokenKind};
 use std::alloc::Global;
 use text_core::{Name, Names, NoMemory};
@@ -124,22 +124,6 @@ fn after_type(tokens: &[Token]) -> Option<&[Token]>
     after_sign(end, Sign::Semicolon)
 }
 
-// A name that comes first, and the tokens after it.
-fn name_first(tokens: &[Token]) -> Option<(&Name, &[Token])>
-    ensures found { IfSome result (λ x. kinds tokens.now ≡ TokenKind.Ident x.0.now ∷ kinds x.1.now) }
-    ensures none { IfNone result ((name : List ℕ) (xs : List TokenKind) → kinds tokens.now ≡ TokenKind.Ident name ∷ xs → ⊥) }
-    ensures shorter { IfSome result (λ x. length x.1.now < length tokens.now) }
-{
-    match tokens.split_first() {
-        None => None,
-        Some((token, rest)) => match &token.kind {
-            TokenKind::Ident(name) => Some((name, rest)),
-            TokenKind::Reserved(_) => None,
-            TokenKind::Sign(_) => None,
-        },
-    }
-}
-
 // The tokens after this word, where it comes first.
 fn after_word(tokens: &[Token], word: Reserved) -> Option<&[Token]>
     ensures reads { Passes (λ rest. kinds rest.now) (TokenKind.Reserved word ∷ []) (kinds tokens.now) result }
@@ -149,8 +133,7 @@ fn after_word(tokens: &[Token], word: Reserved) -> Option<&[Token]>
         None => None,
         Some((token, rest)) => match &token.kind {
             TokenKind::Reserved(other) => { if *other == word { Some(rest) } else { None } }
-            TokenKind::Ident(_) => None,
-            TokenKind::Sign(_) => None,
+            _ => None,
         },
     }
 }
@@ -164,8 +147,7 @@ fn after_sign(tokens: &[Token], sign: Sign) -> Option<&[Token]>
         None => None,
         Some((token, rest)) => match &token.kind {
             TokenKind::Sign(other) => { if *other == sign { Some(rest) } else { None } }
-            TokenKind::Ident(_) => None,
-            TokenKind::Reserved(_) => None,
+            _ => None,
         },
     }
 }

@@ -1,5 +1,6 @@
 // The parser of formulas: a function for each level, with one token of lookahead.
-ghost use Rattle.std.specs.Prelude.{◌≡◌, ◌<◌, ◌≤◌, ◌^◌, ◌∷◌, [], suc, length, option_map, IfOk, IfSome, None};
+ghost use Rattle.std.specs.Prelude.{◌≡◌, ◌<◌, ◌≤◌, ◌^◌, ◌∷◌, ℕ, List, [], suc, length, option_map, IfOk, IfSome, IfNone, None};
+ghost use Rattle.smv_text.specs.declared.token.TokenKind.{TokenKind};
 ghost use Rattle.smv_text.specs.Lexing.{kinds};
 ghost use Rattle.smv_text.specs.Grammar.{Conjunction, Negation};
 ghost use Rattle.moxi_cli.specs.Machine.{ask, is, sign_number};
@@ -10,7 +11,7 @@ use crate::declared::Declared;
 use crate::formula::Formula;
 use smv_text::{Sign, Token, TokenKind};
 use std::alloc::{AllocError, AllocFailed, Global};
-use text_core::NoMemory;
+use text_core::{Name, NoMemory};
 
 /// Why nothing was read.
 #[derive(Debug, Drop)]
@@ -59,10 +60,35 @@ fn sign_number(sign: Sign) -> u8
     match sign {
         Sign::Open => 0,
         Sign::Close => 1,
-        Sign::Semicolon => 2,
-        Sign::Colon => 3,
-        Sign::Not => 4,
-        Sign::And => 5,
+        Sign::OpenBrace => 2,
+        Sign::CloseBrace => 3,
+        Sign::OpenBracket => 4,
+        Sign::CloseBracket => 5,
+        Sign::Comma => 6,
+        Sign::Semicolon => 7,
+        Sign::Colon => 8,
+        Sign::Dot => 9,
+        Sign::Range => 10,
+        Sign::Assign => 11,
+        Sign::Equal => 12,
+        Sign::Unequal => 13,
+        Sign::Less => 14,
+        Sign::Greater => 15,
+        Sign::LessEqual => 16,
+        Sign::GreaterEqual => 17,
+        Sign::Not => 18,
+        Sign::And => 19,
+        Sign::Or => 20,
+        Sign::Plus => 21,
+        Sign::Minus => 22,
+        Sign::Times => 23,
+        Sign::Divide => 24,
+        Sign::ShiftLeft => 25,
+        Sign::ShiftRight => 26,
+        Sign::Concat => 27,
+        Sign::Question => 28,
+        Sign::Implies => 29,
+        Sign::Iff => 30,
     }
 }
 
@@ -71,8 +97,7 @@ fn is(kind: &TokenKind, sign: Sign) -> bool
 {
     match kind {
         TokenKind::Sign(other) => sign_number(*other) == sign_number(sign),
-        TokenKind::Reserved(_) => false,
-        TokenKind::Ident(_) => false,
+        _ => false,
     }
 }
 
@@ -195,15 +220,26 @@ fn variable<'a>(declared: &Declared, tokens: &'a [Token]) -> Result<(Formula, &'
     ensures reads { Follows declared.now (λ x. (plain x.0, kinds x.1.now)) (ask []) (kinds tokens.now) result }
     ensures shorter { IfOk result (λ x. length x.1.now < length tokens.now) }
 {
-    match tokens.split_first() {
+    match name_first(tokens) {
         None => Err(Stop::Unspelled),
+        Some((name, rest)) => match declared.number_of(name.bytes()) {
+            Some(place) => Ok((Formula::Variable(place), rest)),
+            None => Err(Stop::Unspelled),
+        },
+    }
+}
+
+/// A name that comes first, and the tokens after it.
+pub fn name_first(tokens: &[Token]) -> Option<(&Name, &[Token])>
+    ensures found { IfSome result (λ x. kinds tokens.now ≡ TokenKind.Ident x.0.now ∷ kinds x.1.now) }
+    ensures none { IfNone result ((name : List ℕ) (xs : List TokenKind) → kinds tokens.now ≡ TokenKind.Ident name ∷ xs → ⊥) }
+    ensures shorter { IfSome result (λ x. length x.1.now < length tokens.now) }
+{
+    match tokens.split_first() {
+        None => None,
         Some((token, rest)) => match &token.kind {
-            TokenKind::Ident(name) => match declared.number_of(name.bytes()) {
-                Some(place) => Ok((Formula::Variable(place), rest)),
-                None => Err(Stop::Unspelled),
-            },
-            TokenKind::Reserved(_) => Err(Stop::Unspelled),
-            TokenKind::Sign(_) => Err(Stop::Unspelled),
+            TokenKind::Ident(name) => Some((name, rest)),
+            _ => None,
         },
     }
 }

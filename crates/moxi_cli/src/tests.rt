@@ -87,7 +87,7 @@ fn run_on(alloc: Global, setting: &Setting, model: &[u8]) -> Result<Ended, Fail>
 #[test]
 fn models_and_their_texts(rt: HostRuntime) -> Result<(), Fail> {
     let alloc = rt.alloc();
-    let rows: [(&[u8], Status, &[u8], &[u8]); 12] = [
+    let rows: [(&[u8], Status, &[u8], &[u8]); 17] = [
         (SMALLEST, Status::Done, SMALLEST_TEXT, b""),
         (
             b"MODULE main VAR x : boolean; INVARSPEC !x;",
@@ -150,6 +150,36 @@ fn models_and_their_texts(rt: HostRuntime) -> Result<(), Fail> {
             NOT_BUILT,
         ),
         (b"", Status::Refused, b"", NOT_BUILT),
+        (
+            b"MODULE main VAR x : boolean; INVARSPEC x @",
+            Status::Refused,
+            b"",
+            b"refused: S2 BadByte at 1:42\n",
+        ),
+        (
+            b"MODULE main VAR x : boolean; INVARSPEC 0ud2_4 = 0ud2_1",
+            Status::Refused,
+            b"",
+            b"refused: S3 BadNumber at 1:40\n",
+        ),
+        (
+            b"MODULE main -- @\r\n\tVAR x : 1_000; /--",
+            Status::Refused,
+            b"",
+            b"refused: S3 BadNumber at 2:10\n",
+        ),
+        (
+            b"MODULE main VAR x : boolean; INVARSPEC 0ud2_3 / x -> case x : !x; esac",
+            Status::Refused,
+            b"",
+            NOT_BUILT,
+        ),
+        (
+            b"MODULE main VAR x : boolean; LTLSPEC x",
+            Status::Refused,
+            b"",
+            NOT_BUILT,
+        ),
     ];
     for (model, status, text, line) in rows {
         let end = run_on(alloc, &plain(), model)?;
@@ -321,10 +351,16 @@ fn limits(rt: HostRuntime) -> Result<(), Fail> {
         let text = repeated(alloc, front, piece, count, back)?;
         assert_eq!(rt; run_on(alloc, &plain(), &text)?.status, status);
     }
-    for (count, status) in [(100, Status::Done), (101, Status::Refused)] {
+    let nested: [(usize, Status, &[u8]); 2] = [
+        (100, Status::Done, b""),
+        (101, Status::Refused, b"refused: S4 TooNested at 1:140\n"),
+    ];
+    for (count, status, line) in nested {
         let open = repeated(alloc, front, "(", count, "x")?;
         let text = repeated(alloc, std::str::from_utf8(&open)?, ")", count, "")?;
-        assert_eq!(rt; run_on(alloc, &plain(), &text)?.status, status);
+        let end = run_on(alloc, &plain(), &text)?;
+        assert_eq!(rt; end.status, status);
+        assert_eq!(rt; end.notes.bytes(), line);
     }
     for (count, status) in [(1000, Status::Done), (1001, Status::Refused)] {
         let declared = repeated(

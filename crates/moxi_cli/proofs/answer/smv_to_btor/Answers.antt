@@ -1,4 +1,4 @@
-use Rattle.std.proofs.Common.{sym, subst, ◌∙◌}
+use Rattle.std.proofs.Common.{subst}
 use Rattle.std.specs.Prelude.{IfOk}
 use Rattle.moxi_cli.specs.Outcome.{IsTranslation}
 use Rattle.moxi_cli.proofs.AnswerLemmas.{translation_given}

@@ -1,4 +1,4 @@
-use Rattle.std.proofs.Common.{◌≡◌, ◌∙◌, ap, ◌++◌, ◌∷◌, []}
+use Rattle.std.proofs.Common.{◌∙◌, ap, ◌++◌, ◌∷◌, []}
 use Rattle.text_core.specs.Outside.{grown}
 use Rattle.moxi_cli.specs.Notes.{unread_line}
 use Rattle.moxi_cli.proofs.notes.note_unread.Goals as goal
