@@ -4,7 +4,7 @@ use Rattle.std.specs.Bool.{⊤}
 use Rattle.smv_text.specs.declared.token.Sign.TheVariants as sign
 use Rattle.smv_text.specs.declared.token.TokenKind.{TokenKind}
 use Rattle.smv_text.specs.declared.token.TokenKind.TheVariants as kind
-use Rattle.smv_text.specs.Grammar.{Formula, Formulas, no_formulas, formula, Level, Conjunction, Negation, all_levels, Signs, no_signs, one_sign, Spells, pass, conjoins, negates, stands, brackets, Operands, no_operands, operand}
+use Rattle.smv_text.specs.FirstGrammar.{Formula, Formulas, no_formulas, formula, Level, Conjunction, Negation, all_levels, Signs, no_signs, one_sign, Spells, pass, conjoins, negates, stands, brackets, Operands, no_operands, operand}
 use Rattle.moxi_cli.specs.Trees.{formulas_of}
 use Rattle.moxi_cli.specs.Machine.{is, Chained, bare, joined, taken, chain_of, Frame, signs, bracket, ask, have, run}
 use Rattle.moxi_cli.specs.Machine as machine

@@ -8,7 +8,7 @@ use Rattle.smv_text.specs.declared.token.Reserved.TheVariants as word
 use Rattle.smv_text.specs.declared.token.Sign.TheVariants as sign
 use Rattle.smv_text.specs.declared.token.TokenKind.{TokenKind}
 use Rattle.smv_text.specs.declared.token.TokenKind.TheVariants as kind
-use Rattle.smv_text.specs.Grammar.{declared, place_of, AreDistinct}
+use Rattle.smv_text.specs.FirstGrammar.{declared, place_of, AreDistinct}
 use Rattle.moxi_cli.specs.Reading.{IsDeclared}
 use Rattle.moxi_cli.proofs.Names.{placed}
 

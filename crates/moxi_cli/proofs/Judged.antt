@@ -5,7 +5,7 @@ use Rattle.smv_text.specs.declared.token.Sign.TheVariants as sign
 use Rattle.smv_text.specs.declared.token.TokenKind.{TokenKind}
 use Rattle.smv_text.specs.declared.token.TokenKind.TheVariants as kind
 use Rattle.smv_text.specs.Lexing.{most_brackets}
-use Rattle.smv_text.specs.Grammar.{Formula, Formulas, Source, Level, all_levels, declared, Spells, pass, conjoins, negates, stands, brackets, Operands, no_operands, operand, SpellsSource, Below, EachVariableOf, most_tokens, most_bytes, most_height, nests_within, names_within, height}
+use Rattle.smv_text.specs.FirstGrammar.{Formula, Formulas, Source, Level, all_levels, declared, Spells, pass, conjoins, negates, stands, brackets, Operands, no_operands, operand, SpellsSource, Below, EachVariableOf, most_tokens, most_bytes, most_height, nests_within, names_within, height}
 use Rattle.moxi_cli.specs.Machine.{ask, done, dead, run}
 use Rattle.moxi_cli.specs.Reading.{IsRead, IsDeclared, Finishes, ReadsModel, SpellsModel, main_name}
 use Rattle.moxi_cli.specs.declared.formula.Source as code_source

@@ -3,7 +3,7 @@ use Rattle.std.proofs.Common.{ℕ, suc, ◌≡◌, ◌≤◌, ◌<◌, ◌&&◌,
 use Rattle.smv_text.specs.declared.token.Token.{Token}
 use Rattle.smv_text.specs.declared.token.TokenKind.{TokenKind}
 use Rattle.smv_text.specs.Lexing.{kinds, most_brackets}
-use Rattle.smv_text.specs.Grammar.{most_tokens, most_bytes, nests_within, names_within, SpellsSource, Source}
+use Rattle.smv_text.specs.FirstGrammar.{most_tokens, most_bytes, nests_within, names_within, SpellsSource, Source}
 use Rattle.moxi_cli.specs.Reading.{keeps_limits}
 
 pub length-kinds : (tokens : List Token) → length (kinds tokens) ≡ length tokens

@@ -4,7 +4,7 @@ use Rattle.smv_text.specs.declared.token.Sign.{Sign}
 use Rattle.smv_text.specs.declared.token.Sign.TheVariants as sign
 use Rattle.smv_text.specs.declared.token.TokenKind.{TokenKind}
 use Rattle.smv_text.specs.declared.token.TokenKind.TheVariants as kind
-use Rattle.smv_text.specs.Grammar.{Formula, variable, negation, conjunction, Level, Conjunction, Negation, all_levels, place_of}
+use Rattle.smv_text.specs.FirstGrammar.{Formula, variable, negation, conjunction, Level, Conjunction, Negation, all_levels, place_of}
 use Rattle.moxi_cli.specs.Trees.{formulas_of}
 use Rattle.moxi_cli.specs.Machine.{is, Move, push, moved, or_else, next, give, Chained, Front, bare, joined, taken, whole, Frame, operand, signs, bracket, State, ask, signed, have, ended, Outcome, done, dead, run}
 use Rattle.moxi_cli.specs.Reading.{after, is_end, Dies, Follows}

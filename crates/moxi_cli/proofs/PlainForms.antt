@@ -1,8 +1,8 @@
 -- The plain form of each formula.
 use Rattle.std.proofs.Common.{◌≡◌, ◌+◌, ℕ, suc, List, [], ◌∷◌, ◌++◌, map, Vec, Box, Global, ap, ◌∙◌, rules}
 use Rattle.std.proofs.lemmas.List.{map-append}
-use Rattle.smv_text.specs.Grammar.{variable, negation, conjunction, no_formulas, formula}
-use Rattle.smv_text.specs.Grammar as grammar
+use Rattle.smv_text.specs.FirstGrammar.{variable, negation, conjunction, no_formulas, formula}
+use Rattle.smv_text.specs.FirstGrammar as grammar
 use Rattle.moxi_cli.specs.declared.formula.Formula.{Formula, Variable, Not, And, the_lemmas}
 use Rattle.moxi_cli.specs.Trees.{plain, formulas_of}
 

@@ -4,7 +4,7 @@ use Rattle.std.proofs.lemmas.List.{append-nil}
 use Rattle.smv_text.specs.declared.token.Sign.TheVariants as sign
 use Rattle.smv_text.specs.declared.token.TokenKind.{TokenKind}
 use Rattle.smv_text.specs.declared.token.TokenKind.TheVariants as kind
-use Rattle.smv_text.specs.Grammar.{Formula, variable, negation, conjunction, Formulas, no_formulas, formula, Level, Conjunction, Negation, all_levels, place_of, Signs, no_signs, one_sign, Spells, pass, conjoins, negates, stands, brackets, Operands, no_operands, operand}
+use Rattle.smv_text.specs.FirstGrammar.{Formula, variable, negation, conjunction, Formulas, no_formulas, formula, Level, Conjunction, Negation, all_levels, place_of, Signs, no_signs, one_sign, Spells, pass, conjoins, negates, stands, brackets, Operands, no_operands, operand}
 use Rattle.moxi_cli.specs.Trees.{formulas_of}
 use Rattle.moxi_cli.specs.Machine.{is, Chained, Front, bare, joined, taken, whole, chain_of, Frame, signs, bracket, State, ask, signed, have, ended, Move, push, closed, moved, accept, folded, with_folded, or_else, give, finish, begin, primary, step, stop, next, done, dead, run}
 use Rattle.moxi_cli.specs.Machine as machine

@@ -7,7 +7,7 @@ use Rattle.smv_text.specs.declared.token.TokenKind.TheVariants as kind
 use Rattle.smv_text.specs.declared.token.Reserved.TheVariants as word
 use Rattle.smv_text.specs.declared.token.Sign.TheVariants as sign
 use Rattle.smv_text.specs.declared.token.Token.{Token}
-use Rattle.smv_text.specs.Grammar.{Formula, Formulas, Source, Level, declared, Spells, pass, conjoins, negates, stands, brackets, Operands, no_operands, operand, Signs, no_signs, one_sign, SpellsSource, Below}
+use Rattle.smv_text.specs.FirstGrammar.{Formula, Formulas, Source, Level, declared, Spells, pass, conjoins, negates, stands, brackets, Operands, no_operands, operand, Signs, no_signs, one_sign, SpellsSource, Below}
 use Rattle.smv_text.specs.Lexing.{kinds, LexesTo}
 use Rattle.smv_text.proofs.Laws.{one_lexing, one_lex_refusal, not_both}
 use Rattle.btor_tree.specs.declared.lines.TheConstants.{GREATEST_ID}

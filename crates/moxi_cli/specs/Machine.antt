@@ -4,7 +4,7 @@ use Rattle.smv_text.specs.declared.token.Sign.{Sign}
 use Rattle.smv_text.specs.declared.token.Sign.TheVariants as sign
 use Rattle.smv_text.specs.declared.token.TokenKind.{TokenKind}
 use Rattle.smv_text.specs.declared.token.TokenKind.TheVariants as kind
-use Rattle.smv_text.specs.Grammar.{Formula, variable, negation, conjunction, Formulas, no_formulas, formula, Level, Conjunction, Negation, all_levels, place_of}
+use Rattle.smv_text.specs.FirstGrammar.{Formula, variable, negation, conjunction, Formulas, no_formulas, formula, Level, Conjunction, Negation, all_levels, place_of}
 use Rattle.moxi_cli.specs.Trees.{formulas_of}
 
 -- a number for each sign

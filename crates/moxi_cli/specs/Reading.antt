@@ -6,7 +6,7 @@ use Rattle.smv_text.specs.declared.token.Sign.TheVariants as sign
 use Rattle.smv_text.specs.declared.token.TokenKind.{TokenKind}
 use Rattle.smv_text.specs.declared.token.TokenKind.TheVariants as kind
 use Rattle.smv_text.specs.Lexing.{most_brackets}
-use Rattle.smv_text.specs.Grammar.{Formula, Source, all_levels, declared, AreDistinct, most_tokens, most_bytes, nests_within, names_within, SpellsSource}
+use Rattle.smv_text.specs.FirstGrammar.{Formula, Source, all_levels, declared, AreDistinct, most_tokens, most_bytes, nests_within, names_within, SpellsSource}
 use Rattle.moxi_cli.specs.declared.formula.Formula as code
 use Rattle.moxi_cli.specs.declared.formula.Source as code_source
 use Rattle.moxi_cli.specs.declared.read_formula.Stop.{Stop}

@@ -6,7 +6,7 @@ use Rattle.text_core.specs.Outside.{Files, file_at, grown}
 use Rattle.smv_text.specs.declared.token.Token.{Token}
 use Rattle.smv_text.specs.Bytes.{start}
 use Rattle.smv_text.specs.Lexing.{LexesTo, IsLexRefusal, kinds}
-use Rattle.smv_text.specs.Grammar.{Source, SpellsSource}
+use Rattle.smv_text.specs.FirstGrammar.{Source, SpellsSource}
 use Rattle.btor_tree.specs.declared.lines.Line.{Line}
 use Rattle.btor_tree.specs.Texts.{SpellsLines}
 use Rattle.btor_tree.specs.Printing.{printed}

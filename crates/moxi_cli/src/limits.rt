@@ -1,7 +1,7 @@
 // The limits of a model: they bound the parser's time and the depth of its calls.
 ghost use Rattle.std.specs.Prelude.{◌≡◌, ◌<◌, ◌≤◌, ◌-◌, ◌^◌, ◌↔◌, IsTrue};
 ghost use Rattle.smv_text.specs.Lexing.{kinds, most_brackets};
-ghost use Rattle.smv_text.specs.Grammar.{most_bytes, nests_within, is_short, names_within, height};
+ghost use Rattle.smv_text.specs.FirstGrammar.{most_bytes, nests_within, is_short, names_within, height};
 ghost use Rattle.moxi_cli.specs.Trees.{plain};
 ghost use Rattle.moxi_cli.specs.Reading.{keeps_limits};
 

@@ -1,7 +1,7 @@
 // The parser of models: one module main of boolean variables, and one invariant.
 ghost use Rattle.std.specs.Prelude.{◌≡◌, ◌<◌, ◌≤◌, ◌-◌, ◌^◌, ◌∷◌, [], length, ℕ, List, option_map, Some, None, IfOk, IfErr, IfSome, IfNone};
 ghost use Rattle.smv_text.specs.Lexing.{kinds};
-ghost use Rattle.smv_text.specs.Grammar.{Source as PlainSource, SpellsSource, Below};
+ghost use Rattle.smv_text.specs.FirstGrammar.{Source as PlainSource, SpellsSource, Below};
 ghost use Rattle.smv_text.specs.declared.token.TokenKind.{TokenKind};
 ghost use Rattle.moxi_cli.specs.Trees.{plain, source_of};
 ghost use Rattle.moxi_cli.specs.Reading.{Passes, IsDeclared, DeclaresNone, ReadsModel, SpellsModel, main_name};

@@ -2,7 +2,7 @@
 ghost use Rattle.std.specs.Prelude.{◌≡◌, ◌<◌, ◌≤◌, ◌^◌, ◌∷◌, ℕ, List, [], suc, length, option_map, IfOk, IfSome, IfNone, None};
 ghost use Rattle.smv_text.specs.declared.token.TokenKind.{TokenKind};
 ghost use Rattle.smv_text.specs.Lexing.{kinds};
-ghost use Rattle.smv_text.specs.Grammar.{Conjunction, Negation};
+ghost use Rattle.smv_text.specs.FirstGrammar.{Conjunction, Negation};
 ghost use Rattle.moxi_cli.specs.Machine.{ask, is, sign_number};
 ghost use Rattle.moxi_cli.specs.Trees.{plain};
 ghost use Rattle.moxi_cli.specs.Reading.{Follows, Finishes, after, is_end};

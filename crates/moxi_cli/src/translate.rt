@@ -1,6 +1,6 @@
 // From the bytes of a model to its BTOR2 text.
 ghost use Rattle.std.specs.Prelude.{◌≡◌, ◌≤◌, List, ℕ, length, IfOk, IfErr};
-ghost use Rattle.smv_text.specs.Grammar.{Source as PlainSource, Below};
+ghost use Rattle.smv_text.specs.FirstGrammar.{Source as PlainSource, Below};
 ghost use Rattle.btor_tree.specs.declared.lines.TheConstants.{GREATEST_ID};
 ghost use Rattle.moxi_cli.specs.Trees.{plain, source_of};
 ghost use Rattle.moxi_cli.specs.Lines.{line_count};

@@ -1,5 +1,5 @@
 use Rattle.std.proofs.Common.{◌<◌, ◌≤◌, ◌-◌, length, map}
-use Rattle.smv_text.specs.Grammar.{height, highest}
+use Rattle.smv_text.specs.FirstGrammar.{height, highest}
 use Rattle.moxi_cli.specs.Trees.{plain, formulas_of}
 use Rattle.moxi_cli.proofs.PlainForms.{size, sizes}
 use Rattle.moxi_cli.proofs.limits.+is_within.Given as goal

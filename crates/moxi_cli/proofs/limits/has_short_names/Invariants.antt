@@ -1,6 +1,6 @@
 use Rattle.std.proofs.Common.{◌≡◌, length}
 use Rattle.smv_text.specs.Lexing.{kinds}
-use Rattle.smv_text.specs.Grammar.{most_bytes, names_within}
+use Rattle.smv_text.specs.FirstGrammar.{most_bytes, names_within}
 use Rattle.moxi_cli.proofs.limits.has_short_names.Given as goal
 
 abbrev pub invariant-loop-token : goal.invariant-loop-token

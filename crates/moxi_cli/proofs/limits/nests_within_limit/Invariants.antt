@@ -1,6 +1,6 @@
 use Rattle.std.proofs.Common.{◌≡◌, ◌≤◌, length}
 use Rattle.smv_text.specs.Lexing.{kinds, most_brackets}
-use Rattle.smv_text.specs.Grammar.{nests_within}
+use Rattle.smv_text.specs.FirstGrammar.{nests_within}
 use Rattle.moxi_cli.proofs.limits.nests_within_limit.Given as goal
 
 abbrev pub invariant-loop-token : goal.invariant-loop-token

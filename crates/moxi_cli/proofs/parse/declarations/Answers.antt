@@ -1,7 +1,7 @@
 use Rattle.std.proofs.Common.{◌≡◌, [], ◌∷◌, ◌++◌, true, false, is_none, None, if◌then◌else◌, length, length-append, subst, sym, ap, ◌∙◌, arith}
 use Rattle.smv_text.specs.declared.token.TokenKind.TheVariants as kind
 use Rattle.smv_text.specs.Lexing.{kinds}
-use Rattle.smv_text.specs.Grammar.{declared, AreDistinct, place_of}
+use Rattle.smv_text.specs.FirstGrammar.{declared, AreDistinct, place_of}
 use Rattle.moxi_cli.proofs.Declarations.{declared_push, declared_next, distinct_push, distinct_before, no_place}
 use Rattle.moxi_cli.proofs.parse.declarations.Goals as goal
 

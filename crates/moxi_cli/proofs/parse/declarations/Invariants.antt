@@ -1,6 +1,6 @@
 use Rattle.std.proofs.Common.{◌≡◌, ◌≤◌, ◌+◌, ◌++◌, length}
 use Rattle.smv_text.specs.Lexing.{kinds}
-use Rattle.smv_text.specs.Grammar.{declared, AreDistinct}
+use Rattle.smv_text.specs.FirstGrammar.{declared, AreDistinct}
 use Rattle.moxi_cli.proofs.parse.declarations.Given as goal
 
 abbrev pub invariant-loop-name : goal.invariant-loop-name

@@ -2,7 +2,7 @@ use Rattle.std.proofs.Common.{◌≡◌, ◌<◌, ◌∷◌, [], ◌++◌, lengt
 use Rattle.std.proofs.lemmas.List.{length-map}
 use Rattle.std.proofs.lemmas.Result.{err_from_is_err_and}
 use Rattle.smv_text.specs.Lexing.{kinds}
-use Rattle.smv_text.specs.Grammar.{Conjunction, Negation, all_levels}
+use Rattle.smv_text.specs.FirstGrammar.{Conjunction, Negation, all_levels}
 use Rattle.moxi_cli.specs.Machine.{ask, have, operand, bare, joined, bracket, run}
 use Rattle.moxi_cli.specs.Trees.{plain}
 use Rattle.moxi_cli.proofs.PlainForms.{made-Not, made-And, one_more}

@@ -1,6 +1,6 @@
 use Rattle.std.proofs.Common.{◌≡◌, ◌+◌, ◌*◌, ◌<◌, ◌∷◌, [], List, length, map}
 use Rattle.smv_text.specs.Lexing.{kinds}
-use Rattle.smv_text.specs.Grammar.{Conjunction, Negation}
+use Rattle.smv_text.specs.FirstGrammar.{Conjunction, Negation}
 use Rattle.moxi_cli.specs.Machine.{Frame, ask, run}
 use Rattle.moxi_cli.specs.Trees.{plain}
 use Rattle.moxi_cli.proofs.MachineSteps.{chained, signing}

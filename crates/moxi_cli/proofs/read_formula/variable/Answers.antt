@@ -1,6 +1,6 @@
 use Rattle.std.proofs.Common.{[], sym, ap, ◌∙◌}
 use Rattle.smv_text.specs.Lexing.{kinds}
-use Rattle.smv_text.specs.Grammar.{place_of}
+use Rattle.smv_text.specs.FirstGrammar.{place_of}
 use Rattle.moxi_cli.specs.Machine.{ask, have, run}
 use Rattle.moxi_cli.proofs.PlainForms.{plain-Variable}
 use Rattle.moxi_cli.proofs.MachineSteps.{named, unnamed, no_primary}
