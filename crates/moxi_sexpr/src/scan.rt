@@ -215,16 +215,29 @@ fn put_unless(bytes: &mut Vec<u8>, skip: bool, b: u8) -> Result<bool, NoMemory>
     }
 }
 
-/// The bytes of a string of which these stand between its quotes.
+/// The bytes of a string of which these stand between its quotes, with quotes among them.
 fn undoubled(alloc: Global, raw: &[u8]) -> Result<Name, NoMemory>
     ensures { IfOk result (λ name. name ≡ undoubled false raw.now) }
 {
-    let mut bytes = Vec::new(alloc);
+    let Ok(mut bytes) = Vec::with_capacity(alloc, raw.len()) else {
+        return Err(NoMemory);
+    };
     let mut skip = false;
     for b in raw {
         skip = put_unless(&mut bytes, skip, *b)?;
     }
     Name::of(alloc, &bytes)
+}
+
+/// The bytes of a string of which these stand between its quotes. Most strings hold no quote.
+fn unquoted(alloc: Global, raw: &[u8]) -> Result<Name, NoMemory>
+    ensures { IfOk result (λ name. name ≡ undoubled false raw.now) }
+{
+    if raw.contains(&b'"') {
+        undoubled(alloc, raw)
+    } else {
+        Name::of(alloc, raw)
+    }
 }
 
 /// The atom that is spelled so, by the bytes between the signs of its spelling.
@@ -238,6 +251,6 @@ pub fn make_atom(alloc: Global, how: Spelling, raw: &[u8]) -> Result<Atom, NoMem
         Spelling::Numeral => Atom::Numeral(Name::of(alloc, raw)?),
         Spelling::Binary => Atom::Binary(Name::of(alloc, raw)?),
         Spelling::Hex => Atom::Hex(Name::of(alloc, raw)?),
-        Spelling::Quote => Atom::Quote(undoubled(alloc, raw)?),
+        Spelling::Quote => Atom::Quote(unquoted(alloc, raw)?),
     })
 }
