@@ -1,5 +1,5 @@
 -- The place behind a token that neither a bar nor a quote begins: it stands in one line.
-use Rattle.std.proofs.Common.{◌≡◌, ◌-◌, ◌≤◌, ◌+◌, ℕ, Bool, true, false, not, ◌&&◌, eqb, Option, Some, None, List, [], ◌∷◌, ◌++◌, length, refl, sym, ap, ◌∙◌, subst, arith}
+use Rattle.std.proofs.Common.{◌≡◌, ◌-◌, ◌≤◌, ◌+◌, ℕ, Bool, true, false, not, eqb, Option, Some, None, List, [], ◌∷◌, ◌++◌, length, refl, sym, ap, ◌∙◌, subst, arith}
 use Rattle.std.specs.Prelude.{IsTrue}
 use Rattle.std.specs.List.{list_all}
 use Rattle.std.proofs.lemmas.List.{length-take}
@@ -14,7 +14,6 @@ use Rattle.moxi_sexpr.specs.Atoms.{prime, may_stand, spelled}
 use Rattle.moxi_sexpr.specs.Reading.{Scan, scan_of, value_of, token_from, token_of, front}
 use Rattle.moxi_sexpr.proofs.Runs.{other_byte, run_all, simple_all, front_is}
 use Rattle.moxi_sexpr.proofs.Scanning.{Found, scan_found}
-use Rattle.moxi_sexpr.proofs.Leading.{token_splits}
 
 abbrev is_inner : ℕ → Bool
 is_inner b = not (eqb b 10)
