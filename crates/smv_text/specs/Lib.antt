@@ -17,3 +17,4 @@ pub mod Spelling
 pub mod Printing
 pub mod Printable
 pub mod FirstGrammar
+pub mod Unplaced
