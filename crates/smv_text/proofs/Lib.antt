@@ -3,6 +3,7 @@ pub mod Keywords
 pub mod Spellings
 pub mod Laws
 pub mod Answered
+pub mod Fewer
 pub mod Spaces
 pub mod Printed
 pub mod LexedAgain
@@ -10,3 +11,7 @@ pub mod Parting
 pub mod Raised
 pub mod Again
 pub mod SourceAgain
+pub mod OneText
+pub mod Nesting
+pub mod NestingSources
+pub mod PrintedAgain
