@@ -8,7 +8,7 @@ use Rattle.moxi_cli.specs.declared.answer.Answer.{Answer}
 use Rattle.moxi_cli.specs.declared.answer.Answer.TheVariants.{Misread, Unread, Refuses, SecondRefuses, Denies, Judges, Writes}
 use Rattle.moxi_cli.specs.declared.words.Command.{Command}
 use Rattle.moxi_cli.specs.declared.words.Command.TheVariants.{SmvToBtor, JudgeBtor}
-use Rattle.smv_text.specs.FirstGrammar.{Source}
+use Rattle.moxi_cli.specs.Formulas.{Source}
 use Rattle.moxi_cli.specs.declared.translate.TheConstants.{SMV_LIMIT}
 use Rattle.moxi_cli.specs.Translation.{Accepts, TranslatesTo, IsServed, btor_text}
 use Rattle.moxi_cli.specs.Outcome.{IsTranslation, IsJudgement, IsAbsent, IsTold, GoesOn, Answers, MayAnswer, Serves, btor_model, bytes_of, too_long, smv_model, status_of, text_of}

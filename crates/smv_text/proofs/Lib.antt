@@ -5,4 +5,8 @@ pub mod Laws
 pub mod Answered
 pub mod Spaces
 pub mod Printed
+pub mod LexedAgain
+pub mod Parting
+pub mod Raised
 pub mod Again
+pub mod SourceAgain

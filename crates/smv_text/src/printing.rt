@@ -1,13 +1,18 @@
 // The printed form of a model.
-ghost use Rattle.std.specs.Prelude.{◌≡◌, ◌++◌, [], ◌∷◌, true, false, map, IfOk, OnOk, suc};
+ghost use Rattle.std.specs.Prelude.{◌≡◌, ◌++◌, List, [], ◌∷◌, true, false, map, IfOk, OnOk, suc};
 ghost use Rattle.std.specs.List.{flat_map};
-ghost use Rattle.smv_text.specs.Tree.{trees_of, links_of, branches_of};
+ghost use Rattle.smv_text.specs.Tree.{Tree, PlainSource, trees_of, links_of, branches_of};
 ghost use Rattle.smv_text.specs.View.{plain, plain_link, plain_branch, plain_domain, plain_item, plain_definition, plain_assignment, plain_element, plain_module, plain_source};
-ghost use Rattle.smv_text.specs.Levels.{joint_of, prefix_kind};
+ghost use Rattle.smv_text.specs.Levels.{all_levels, joint_of, prefix_kind};
 ghost use Rattle.smv_text.specs.Ranks.{rank, chain_joint, tree_rank};
-ghost use Rattle.smv_text.specs.Sources.{section_word};
+ghost use Rattle.smv_text.specs.Sources.{section_word, SpellsSource};
+ghost use Rattle.smv_text.specs.Lexing.{kinds};
+ghost use Rattle.smv_text.specs.Grammar.{Spells};
+ghost use Rattle.smv_text.specs.Unplaced.{SpellsSame, SpellsSameSource};
+ghost use Rattle.smv_text.specs.declared.token.Token.{Token};
+ghost use Rattle.text_core.specs.declared.place.Place.{Place};
 ghost use Rattle.smv_text.specs.Spelling.{spaced, written};
-ghost use Rattle.smv_text.specs.Printing.{repeated, parted, ident, path_kinds, standing, tree_kinds, link_kinds, choice_kinds, case_kinds, argument_kinds, in_brackets, member_kinds, actual_kinds, domain_kinds, item_kinds, body_kinds, definition_kinds, target_kinds, assignment_kinds, spec_name_kinds, formula_kinds, element_kinds, parameter_name, parameter_kinds, rest_kinds, module_kinds, printed};
+ghost use Rattle.smv_text.specs.Printing.{repeated, parted, ident, path_kinds, standing, tree_kinds, link_kinds, choice_kinds, case_kinds, argument_kinds, in_brackets, member_kinds, actual_kinds, domain_kinds, item_kinds, body_kinds, definition_kinds, target_kinds, assignment_kinds, spec_name_kinds, formula_kinds, element_kinds, parameter_name, parameter_kinds, rest_kinds, module_kinds, source_kinds, printed};
 
 use crate::level::{Joint, Level};
 use crate::spelling::{
@@ -557,3 +562,11 @@ pub fn print(alloc: Global, source: &Source) -> Result<Text, NoMemory>
     }
     Ok(out)
 }
+
+/// Tokens of the kinds that are printed spell the same again. Where some tokens spell an expression, all tokens of the
+/// kinds that are printed for it spell one that differs from it in places alone; so do those of a model, which may also
+/// differ in its counts of tokens.
+pub fn printed_spells()
+    ensures expressions { (levels : List Level) (t : Tree) (xs ys : List Token) → Spells levels t xs → kinds ys ≡ tree_kinds t → SpellsSame all_levels t ys }
+    ensures sources { (source : PlainSource) (end place : Place) (xs ys : List Token) → SpellsSource source end xs → kinds ys ≡ source_kinds source → SpellsSameSource source place ys }
+{}

@@ -1,4 +1,4 @@
-use Rattle.smv_text.proofs.Again.{lexed_again, lexed_printable}
+use Rattle.smv_text.proofs.LexedAgain.{lexed_again, lexed_printable}
 use Rattle.smv_text.proofs.lexing.printed_is_lexed.Goals as goal
 
 pub returns-clause-again : goal.returns-clause-again

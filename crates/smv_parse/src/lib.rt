@@ -1,0 +1,6 @@
+//! The parser of SMV models.
+#![tactic(auto)]
+
+mod parser;
+
+pub use parser::{ParseEnd, parse};
