@@ -1,9 +1,11 @@
+pub mod Tables
 pub mod Runs
 pub mod Strings
 pub mod Scanning
 pub mod Laws
 pub mod Forming
 pub mod Leading
+pub mod Lines
 pub mod Again
 pub mod Endings
 pub mod Readable

@@ -1,6 +1,7 @@
 -- Strings: each quote is doubled.
 use Rattle.std.proofs.Common.{◌≡◌, ◌+◌, ℕ, Bool, true, false, cond, eqb, Option, Some, None, List, [], ◌∷◌, ◌++◌, length, refl, sym, ap, ◌∙◌, subst, arith}
-use Rattle.std.proofs.lemmas.Bool.{eqb-true, cond_both, cond-false}
+use Rattle.std.specs.List.{list_any}
+use Rattle.std.proofs.lemmas.Bool.{eqb-true, cond_both, cond-false, or_parts}
 use Rattle.moxi_sexpr.specs.Bytes.{Stops}
 use Rattle.moxi_sexpr.specs.Atoms.{doubled}
 use Rattle.moxi_sexpr.specs.Reading.{quote_length, undoubled}
@@ -13,6 +14,17 @@ undoubled_step false b bs e ih = rw e (ap (λ x. b ∷ x) ih)
 pub undoubled_doubled : (s : List ℕ) → undoubled false (doubled s) ≡ s
 undoubled_doubled [] = refl
 undoubled_doubled (b ∷ bs) = undoubled_step (eqb b 34) b bs refl (undoubled_doubled bs)
+
+plain_step : (t : Bool) (b : ℕ) (bs : List ℕ) → eqb b 34 ≡ t → t ≡ false → undoubled false bs ≡ bs → undoubled false (b ∷ bs) ≡ b ∷ bs
+plain_step true b bs e f ih = absurd (cc)
+plain_step false b bs e f ih = rw e (ap (λ x. b ∷ x) ih)
+
+-- bytes without a quote
+pub undoubled_plain : (s : List ℕ) → list_any (λ b. eqb b 34) s ≡ false → undoubled false s ≡ s
+undoubled_plain [] e = refl
+undoubled_plain (b ∷ bs) e =
+    let parts = or_parts (eqb b 34) (list_any (λ b. eqb b 34) bs) e in
+    plain_step (eqb b 34) b bs refl parts.0 (undoubled_plain bs parts.1)
 
 closed_here : (n : ℕ) (rest : List ℕ) → Stops (λ b. eqb b 34) rest → quote_length n true rest ≡ Some n
 closed_here n [] f = refl

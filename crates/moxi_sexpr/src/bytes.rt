@@ -2,7 +2,7 @@
 
 ghost use Rattle.std.specs.Prelude.{◌≡◌, ◌+◌, ◌<◌, ◌≤◌, ◌^◌, length};
 ghost use Rattle.std.specs.List.{list_all};
-ghost use Rattle.moxi_sexpr.specs.Bytes.{is_digit, is_letter, is_sign, is_blank, ends_line, is_hex_digit, belongs, after};
+ghost use Rattle.moxi_sexpr.specs.Bytes.{is_digit, is_symbol_byte, is_blank, ends_line, is_hex_digit, belongs, next_place, after, Reaches};
 ghost use Rattle.moxi_sexpr.specs.Atoms.{starts_simple, is_simple};
 ghost use Rattle.moxi_sexpr.specs.Reading.{run_length};
 
@@ -23,6 +23,17 @@ pub enum ByteSet {
     Barred,
 }
 
+/// The bytes of a simple symbol, each at its own number, and `#` at all others.
+const SYMBOL_BYTES: [u8; 256] = *b"\
+    ################################\
+    #!##$%&###*+#-./0123456789##<=>?\
+    @ABCDEFGHIJKLMNOPQRSTUVWXYZ###^_\
+    #abcdefghijklmnopqrstuvwxyz###~#\
+    ################################\
+    ################################\
+    ################################\
+    ################################";
+
 /// The place of a text's first byte.
 pub const FIRST: Place = Place {
     line: 1,
@@ -36,16 +47,10 @@ pub fn is_digit(b: u8) -> bool
     b >= b'0' && b <= b'9'
 }
 
-pub fn is_letter(b: u8) -> bool
-    ensures { result ≡ is_letter b }
+fn is_symbol_byte(b: u8) -> bool
+    ensures { result ≡ is_symbol_byte b }
 {
-    (b >= b'A' && b <= b'Z') || (b >= b'a' && b <= b'z')
-}
-
-pub fn is_sign(b: u8) -> bool
-    ensures { result ≡ is_sign b }
-{
-    b"~!@$%^&*_-+=<>.?/".contains(&b)
+    SYMBOL_BYTES[b as usize] != b'#'
 }
 
 pub fn is_blank(b: u8) -> bool
@@ -71,7 +76,7 @@ pub fn belongs(set: ByteSet, b: u8) -> bool
     ensures { result ≡ belongs set b }
 {
     match set {
-        ByteSet::Symbol => is_letter(b) || is_digit(b) || is_sign(b),
+        ByteSet::Symbol => is_symbol_byte(b),
         ByteSet::Decimal => is_digit(b),
         ByteSet::Binary => b == b'0' || b == b'1',
         ByteSet::Hexadecimal => is_hex_digit(b),
@@ -80,6 +85,7 @@ pub fn belongs(set: ByteSet, b: u8) -> bool
 }
 
 /// How many bytes of the set a text begins with.
+#[inline(always)]
 pub fn run_length(set: ByteSet, text: &[u8]) -> usize
     ensures value { result ≡ run_length (belongs set) text.now }
     ensures within { result ≤ length text.now }
@@ -95,6 +101,7 @@ pub fn run_length(set: ByteSet, text: &[u8]) -> usize
 }
 
 /// Whether a simple symbol stands at the front of the text.
+#[inline(always)]
 pub fn starts_simple(text: &[u8]) -> bool
     ensures { result ≡ starts_simple text.now }
 {
@@ -121,6 +128,39 @@ pub fn is_simple(name: &[u8]) -> bool
     ensures { result ≡ is_simple name.now }
 {
     starts_simple(name) && all_belong(ByteSet::Symbol, name)
+}
+
+/// The place behind one byte.
+pub fn next_place(place: Place, b: u8) -> Place
+    requires { Reaches place 1 }
+    ensures { result ≡ next_place place b }
+{
+    if b == b'\n' {
+        Place {
+            line: place.line + 1,
+            column: 1,
+            offset: place.offset + 1,
+        }
+    } else {
+        Place {
+            line: place.line,
+            column: place.column + 1,
+            offset: place.offset + 1,
+        }
+    }
+}
+
+/// The place so many bytes further in the same line.
+pub fn further(place: Place, count: usize) -> Place
+    requires { Reaches place count }
+    ensures { result ≡ record { line = place.line; column = place.column + count; offset = place.offset + count } }
+{
+    let count = count as u32;
+    Place {
+        line: place.line,
+        column: place.column + count,
+        offset: place.offset + count,
+    }
 }
 
 /// The place behind these bytes.

@@ -1,8 +1,9 @@
 // Forms from a text.
 
-ghost use Rattle.std.specs.Prelude.{◌≡◌, ◌≤◌, ◌^◌, ◌⊎◌, ℕ, List, false, length, take, drop, map, IfOk, IfErr};
+ghost use Rattle.std.specs.Prelude.{◌≡◌, ◌≤◌, ◌^◌, ◌⊎◌, ℕ, List, false, length, take, drop, map, Some, IfOk, IfErr};
 ghost use Rattle.text_core.specs.declared.place.Place.{Place};
 ghost use Rattle.text_core.specs.declared.place.Refusal.{Refusal};
+ghost use Rattle.moxi_sexpr.specs.declared.read.TokenKind.{TokenKind};
 ghost use Rattle.moxi_sexpr.specs.Bytes.{first, after, Reaches};
 ghost use Rattle.moxi_sexpr.specs.Tree.{Trees, plain, plain_forms, depths};
 ghost use Rattle.moxi_sexpr.specs.Lexing.{refusal, limit};
@@ -12,9 +13,9 @@ ghost use Rattle.moxi_sexpr.specs.Machine.{step, open_lists};
 ghost use Rattle.moxi_sexpr.specs.Printing.{ArePrintable};
 ghost use Rattle.moxi_sexpr.specs.Answer.{Gives, Moves, IsRefused, Reads, IsAnswered};
 
-use crate::bytes::{FIRST, after};
+use crate::bytes::{FIRST, after, further};
 use crate::form::{Atom, Form, FormShape, Forms};
-use crate::scan::{gap_length, make_atom, scan};
+use crate::scan::{make_atom, pass_gap, scan, starts_quoted};
 use std::alloc::{AllocFailed, Global};
 use std::mem;
 use text_core::{Kind, NoMemory, Place, Refusal};
@@ -84,18 +85,24 @@ fn skip_gap(place: Place, text: &[u8]) -> (Place, &[u8])
     ensures rest { result.1.now ≡ drop (gap_length false text.now) text.now }
     ensures reaches { Reaches result.0 (length result.1.now) }
 {
-    let (gap, rest) = text.split_at(gap_length(text));
-    (after(place, gap), rest)
+    let (behind, count) = pass_gap(place, text);
+    let (_, rest) = text.split_at(count);
+    (behind, rest)
 }
 
-/// The place of the rest of a text that has this place.
+/// The place behind the token at the front of a text. Only bars and quotes may hold the end of a line.
 fn place_of_rest(place: Place, text: &[u8], rest: &[u8]) -> Place
     requires reaches { Reaches place (length text.now) }
     requires within { length rest.now ≤ length text.now }
+    requires token { (kind : TokenKind) × (token_of text.now ≡ Some (kind, rest.now)) }
     ensures { result ≡ after place (front text.now rest.now) }
 {
-    let (bytes, _) = text.split_at(text.len() - rest.len());
-    after(place, bytes)
+    let count = text.len() - rest.len();
+    if starts_quoted(text) {
+        after(place, &text[..count])
+    } else {
+        further(place, count)
+    }
 }
 
 /// The token at the front of a text, and what stands behind it.

@@ -1,15 +1,17 @@
 // What stands at the front of a text: blanks and comments, or the bytes of an atom.
 
-ghost use Rattle.std.specs.Prelude.{◌≡◌, ◌<◌, ◌≤◌, ◌∷◌, ◌++◌, ℕ, List, false, length, IfOk, IfSome};
-ghost use Rattle.moxi_sexpr.specs.Bytes.{belongs};
+ghost use Rattle.std.specs.Prelude.{◌≡◌, ◌<◌, ◌≤◌, ◌∷◌, ◌++◌, ◌||◌, ℕ, List, false, length, take, IfOk, IfSome};
+ghost use Rattle.moxi_sexpr.specs.Bytes.{belongs, heads, after, Reaches};
 ghost use Rattle.moxi_sexpr.specs.Atoms.{atom_of};
 ghost use Rattle.moxi_sexpr.specs.Reading.{gap_step, gap_length, run_of, simple_of, has_prime, past_prime, bare_of, barred_of, quote_length, quote_of, digits_of, scan_of, undoubled, value_of};
 ghost use Rattle.moxi_sexpr.specs.Answer.{Scans};
 
-use crate::bytes::{ByteSet, belongs, ends_line, is_blank, is_digit, run_length, starts_simple};
+use crate::bytes::{
+    ByteSet, belongs, ends_line, is_blank, is_digit, next_place, run_length, starts_simple,
+};
 use crate::form::Atom;
 use std::alloc::Global;
-use text_core::{Name, NoMemory};
+use text_core::{Name, NoMemory, Place};
 
 /// How an atom is spelled.
 #[derive(Clone, Copy, Debug, PartialEq, Eq)]
@@ -45,21 +47,25 @@ fn gap_step(inside: bool, b: u8) -> Option<bool>
     }
 }
 
-/// The length of the blanks and comments that a text begins with.
-pub fn gap_length(text: &[u8]) -> usize
-    ensures value { result ≡ gap_length false text.now }
-    ensures within { result ≤ length text.now }
+/// The place behind the blanks and comments that a text begins with, and their length.
+pub fn pass_gap(place: Place, text: &[u8]) -> (Place, usize)
+    requires { Reaches place (length text.now) }
+    ensures place { result.0 ≡ after place (take (gap_length false text.now) text.now) }
+    ensures length { result.1 ≡ gap_length false text.now }
+    ensures within { result.1 ≤ length text.now }
 {
+    let mut place = place;
     let mut count = 0;
     let mut inside = false;
     for b in text {
         let Some(next) = gap_step(inside, *b) else {
-            return count
+            return (place, count)
         };
         inside = next;
+        place = next_place(place, *b);
         count += 1;
     }
-    count
+    (place, count)
 }
 
 /// A run of the set's bytes that isn't empty, and what stands behind it.
@@ -158,6 +164,16 @@ fn scan_quote(text: &[u8]) -> Option<(Spelling, &[u8], &[u8])>
     Some((Spelling::Quote, content, &closing[1..]))
 }
 
+/// Whether a bar or a quote stands at the front of the text.
+pub fn starts_quoted(text: &[u8]) -> bool
+    ensures { result ≡ (heads 124 text.now || heads 34 text.now) }
+{
+    match text {
+        [b, ..] => *b == b'|' || *b == b'"',
+        [] => false,
+    }
+}
+
 /// The rest of a binary or hexadecimal literal, behind its `#`.
 fn scan_digits(text: &[u8]) -> Option<(Spelling, &[u8], &[u8])>
     ensures { Scans result (digits_of text.now) }
@@ -199,11 +215,13 @@ fn put_unless(bytes: &mut Vec<u8>, skip: bool, b: u8) -> Result<bool, NoMemory>
     }
 }
 
-/// The bytes of a string of which these stand between its quotes.
+/// The bytes of a string of which these stand between its quotes, with quotes among them.
 fn undoubled(alloc: Global, raw: &[u8]) -> Result<Name, NoMemory>
     ensures { IfOk result (λ name. name ≡ undoubled false raw.now) }
 {
-    let mut bytes = Vec::new(alloc);
+    let Ok(mut bytes) = Vec::with_capacity(alloc, raw.len()) else {
+        return Err(NoMemory);
+    };
     let mut skip = false;
     for b in raw {
         skip = put_unless(&mut bytes, skip, *b)?;
@@ -211,13 +229,14 @@ fn undoubled(alloc: Global, raw: &[u8]) -> Result<Name, NoMemory>
     Name::of(alloc, &bytes)
 }
 
-/// The name of an atom that is spelled so, by the bytes between the signs of its spelling.
-fn make_name(alloc: Global, how: Spelling, raw: &[u8]) -> Result<Name, NoMemory>
-    ensures { IfOk result (λ name. name ≡ value_of how raw.now) }
+/// The bytes of a string of which these stand between its quotes. Most strings hold no quote.
+fn unquoted(alloc: Global, raw: &[u8]) -> Result<Name, NoMemory>
+    ensures { IfOk result (λ name. name ≡ undoubled false raw.now) }
 {
-    match how {
-        Spelling::Quote => undoubled(alloc, raw),
-        _ => Name::of(alloc, raw),
+    if raw.contains(&b'"') {
+        undoubled(alloc, raw)
+    } else {
+        Name::of(alloc, raw)
     }
 }
 
@@ -225,14 +244,13 @@ fn make_name(alloc: Global, how: Spelling, raw: &[u8]) -> Result<Name, NoMemory>
 pub fn make_atom(alloc: Global, how: Spelling, raw: &[u8]) -> Result<Atom, NoMemory>
     ensures { IfOk result (λ atom. atom ≡ atom_of how (value_of how raw.now)) }
 {
-    let name = make_name(alloc, how, raw)?;
     Ok(match how {
-        Spelling::Bare(primed) => Atom::Symbol(name, primed),
-        Spelling::Barred(primed) => Atom::Symbol(name, primed),
-        Spelling::Keyword => Atom::Keyword(name),
-        Spelling::Numeral => Atom::Numeral(name),
-        Spelling::Binary => Atom::Binary(name),
-        Spelling::Hex => Atom::Hex(name),
-        Spelling::Quote => Atom::Quote(name),
+        Spelling::Bare(primed) => Atom::Symbol(Name::of(alloc, raw)?, primed),
+        Spelling::Barred(primed) => Atom::Symbol(Name::of(alloc, raw)?, primed),
+        Spelling::Keyword => Atom::Keyword(Name::of(alloc, raw)?),
+        Spelling::Numeral => Atom::Numeral(Name::of(alloc, raw)?),
+        Spelling::Binary => Atom::Binary(Name::of(alloc, raw)?),
+        Spelling::Hex => Atom::Hex(Name::of(alloc, raw)?),
+        Spelling::Quote => Atom::Quote(unquoted(alloc, raw)?),
     })
 }

@@ -6,18 +6,22 @@ use std::test::Fail;
 use text_core::{Kind, NoMemory, Place, Refusal, Text};
 
 /// A text, what its forms are printed as, and the lines and columns of the forms, outer before inner.
-const READ: [(&[u8], &[u8], &[u8]); 29] = [
+const READ: [(&[u8], &[u8], &[u8]); 36] = [
     (b"", b"", b""),
     // Blanks, and comments with any bytes in them, which end at a line feed or a carriage return.
     (b" \t\r\n; free ( | \" \\ \x00\xff\n", b"", b""),
     (b"a;c\rb", b"a\nb\n", b"1:1 1:5 "),
     (b"a;c\nb;", b"a\nb\n", b"1:1 2:1 "),
     (b"(;)\n)", b"()\n", b"1:1 "),
+    // A line ends after byte 10 alone, in the text and behind a comment.
+    (b"a\tb\nc\rd e", b"a\nb\nc\nd\ne\n", b"1:1 1:3 2:1 2:3 2:5 "),
+    (b"; a\n;b\r;c\n(;)\r)", b"()\n", b"3:1 "),
     (b"(a b)c", b"(a b)\nc\n", b"1:1 1:2 1:4 1:6 "),
     (b"((())\n())", b"((()) ())\n", b"1:1 1:2 1:3 2:1 "),
     (b"( a\n\t( b ) )", b"(a (b))\n", b"1:1 1:3 2:2 2:4 "),
     // Tokens touch where the longest match divides them, and decimals don't exist.
     (b"1.5", b"1\n.5\n", b"1:1 1:2 "),
+    (b".5 1.", b".5\n1\n.\n", b"1:1 1:4 1:5 "),
     (b"007a", b"007\na\n", b"1:1 1:4 "),
     (b"#b012#xAfg", b"#b01\n2\n#xAf\ng\n", b"1:1 1:5 1:6 1:10 "),
     (b"a|b|c|d e|", b"a\nb\nc\n|d e|\n", b"1:1 1:2 1:5 1:6 "),
@@ -28,6 +32,11 @@ const READ: [(&[u8], &[u8], &[u8]); 29] = [
     ),
     (b"a\"b\"1", b"a\n\"b\"\n1\n", b"1:1 1:2 1:5 "),
     (b"a1a#b1", b"a1a\n#b1\n", b"1:1 1:4 "),
+    (
+        b"\"a\"\"b\"|c|:d#b1x",
+        b"\"a\"\"b\"\nc\n:d\n#b1\nx\n",
+        b"1:1 1:7 1:10 1:12 1:15 ",
+    ),
     // A prime directly behind a symbol belongs to it.
     (b"x' |y|' z", b"x'\ny'\nz\n", b"1:1 1:4 1:9 "),
     (b"x'y'|z|'w", b"x'\ny'\nz'\nw\n", b"1:1 1:3 1:5 1:9 "),
@@ -58,8 +67,19 @@ const READ: [(&[u8], &[u8], &[u8]); 29] = [
         b"1:1 1:6 1:10 1:15 1:18 ",
     ),
     (b"~!@$%^&*_-+=<>.?/", b"~!@$%^&*_-+=<>.?/\n", b"1:1 "),
+    (
+        b"(_ let (let' |_|'))",
+        b"(|_| |let| (|let|' |_|'))\n",
+        b"1:1 1:2 1:4 1:8 1:9 1:14 ",
+    ),
     (b"|a\nb|c", b"|a\nb|\nc\n", b"1:1 2:3 "),
-    // Strings, each quote doubled.
+    (
+        b"|(\"#:'\t\r\n;)|'x",
+        b"|(\"#:'\t\r\n;)|'\nx\n",
+        b"1:1 2:5 ",
+    ),
+    // Strings, each quote doubled; a backslash is a byte as any other.
+    (b"\"\\\"x", b"\"\\\"\nx\n", b"1:1 1:4 "),
     (b"\"a \"\" b\"\"\"c", b"\"a \"\" b\"\"\"\nc\n", b"1:1 1:11 "),
     (b"\"\"\"\"\"\"", b"\"\"\"\"\"\"\n", b"1:1 "),
     (b"\"\" \"\"", b"\"\"\n\"\"\n", b"1:1 1:4 "),
@@ -72,26 +92,31 @@ const READ: [(&[u8], &[u8], &[u8]); 29] = [
 ];
 
 /// A text, and the number, line, column and offset of its refusal.
-const REFUSED: [(&[u8], u8, u32, u32, u32); 34] = [
+const REFUSED: [(&[u8], u8, u32, u32, u32); 44] = [
     (b")", 1, 1, 1, 0),
     (b"a\n)", 1, 2, 1, 2),
     (b"(a))", 1, 1, 4, 3),
     (b"())(", 1, 1, 3, 2),
     (b"(", 2, 1, 2, 1),
     (b"(a\n", 2, 2, 1, 3),
+    (b"(\n)\n))", 1, 3, 1, 4),
     (b"(()", 2, 1, 4, 3),
+    (b"(a;)\r(b", 2, 1, 8, 7),
     (b"(;)", 2, 1, 4, 3),
     (b"(,", 1, 1, 2, 1),
     (b" \x0b", 1, 1, 2, 1),
     (b"a\x0c", 1, 1, 2, 1),
     (b"[", 1, 1, 1, 0),
+    (b"a\x00", 1, 1, 2, 1),
     // A backslash in bars, and bars and strings without end.
     (b"a |b\\c| d", 1, 1, 3, 2),
+    (b"(a |b\nc\\|)", 1, 1, 4, 3),
     (b"(|ab", 1, 1, 2, 1),
     (b"(\"ab\"\"", 1, 1, 2, 1),
     (b" \"a\"\"b", 1, 1, 2, 1),
     (b"\n|a\n", 1, 2, 1, 1),
     (b"\"", 1, 1, 1, 0),
+    (b"\"a\n\"\"", 1, 1, 1, 0),
     // Signs without what has to stand behind them.
     (b"#b", 1, 1, 1, 0),
     (b"#b2", 1, 1, 1, 0),
@@ -101,6 +126,7 @@ const REFUSED: [(&[u8], u8, u32, u32, u32); 34] = [
     (b"#", 1, 1, 1, 0),
     (b"a : b", 1, 1, 3, 2),
     (b":1", 1, 1, 1, 0),
+    (b"1.5 (\n:)", 1, 2, 1, 6),
     (b":|a|", 1, 1, 1, 0),
     // A prime that stands behind no symbol, or is the second one.
     (b"'", 1, 1, 1, 0),
@@ -108,6 +134,10 @@ const REFUSED: [(&[u8], u8, u32, u32, u32); 34] = [
     (b"x '", 1, 1, 3, 2),
     (b":k'", 1, 1, 3, 2),
     (b"1'", 1, 1, 2, 1),
+    (b"|a|''", 1, 1, 5, 4),
+    (b"\"a\"'", 1, 1, 4, 3),
+    (b"#b1'", 1, 1, 4, 3),
+    (b"('a)", 1, 1, 2, 1),
     (b"( a \\", 1, 1, 5, 4),
     (b"(a\xc3", 1, 1, 3, 2),
 ];
@@ -235,15 +265,15 @@ fn every_byte_survives(rt: HostRuntime) -> Result<(), Fail> {
 #[test]
 fn a_long_text_is_read(rt: HostRuntime) -> Result<(), Fail> {
     let mut text = Text::new(rt.alloc());
-    for _ in 0..1 << 20 {
+    for _ in 0..1 << 14 {
         text.put(b"(a |b c| \"\"\"\")\n")?;
     }
     if text.bytes().len() <= 1 << 31 {
-        let forms = read_forms(rt.alloc(), text.bytes()).map_err(|_| "a text of 16 MiB")?;
-        assert_eq!(rt; forms.len(), 1 << 20);
+        let forms = read_forms(rt.alloc(), text.bytes()).map_err(|_| "a long text")?;
+        assert_eq!(rt; forms.len(), 1 << 14);
         let out = print_forms(rt.alloc(), &forms)?;
         assert!(rt; out.bytes() == text.bytes());
-        assert_eq!(rt; end_of(text.bytes()).line, (1 << 20) + 1);
+        assert_eq!(rt; end_of(text.bytes()).line, (1 << 14) + 1);
     }
     Ok(())
 }

@@ -58,6 +58,9 @@ pub place_of_rest-place-requires-clause-within : goal.place_of_rest-place-requir
 place_of_rest-place-requires-clause-within c =
     let shorter = token_shorter c.skip_gap.result.1.now c.in_ok-token.last.now c.in_ok-token.token c.in_ok-token.ensures in omega (arith, shorter)
 
+pub place_of_rest-place-requires-clause-token : goal.place_of_rest-place-requires-clause-token
+place_of_rest-place-requires-clause-token c = (c.in_ok-token.token, c.in_ok-token.ensures)
+
 pub tokens-smaller : goal.tokens-smaller
 tokens-smaller c =
     let shorter = token_shorter c.skip_gap.result.1.now c.in_ok-token.last.now c.in_ok-token.token c.in_ok-token.ensures in
