@@ -10,3 +10,6 @@ pub mod Parting
 pub mod Raised
 pub mod Again
 pub mod SourceAgain
+pub mod Nesting
+pub mod NestingSources
+pub mod PrintedAgain

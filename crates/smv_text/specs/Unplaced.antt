@@ -1,5 +1,5 @@
 -- The same model but for its places and its counts of tokens.
-use Rattle.std.specs.Prelude.{◌≡◌, List, map}
+use Rattle.std.specs.Prelude.{◌≡◌, ℕ, None, List, map}
 use Rattle.text_core.specs.declared.place.Place.{Place}
 use Rattle.smv_text.specs.declared.tree.Path.{Path}
 use Rattle.smv_text.specs.declared.tree.Parameter.{Parameter}
@@ -7,6 +7,9 @@ use Rattle.smv_text.specs.declared.token.Token.{Token}
 use Rattle.smv_text.specs.declared.level.Level.{Level}
 use Rattle.smv_text.specs.Tree.{Tree, truth, number, literal, name, prefix, chain, choice, cases, select, call, next, set, range, Links, no_links, link, Branches, no_branches, branch, Trees, no_trees, tree, PlainDomain, boolean, members, between, bits, instance, PlainItem, PlainDefinition, PlainAssignment, PlainElement, vars, defines, constants, assigns, init, trans, invar, spec, PlainModule, PlainSource}
 use Rattle.smv_text.specs.Grammar.{Spells}
+use Rattle.smv_text.specs.Bytes.{start, after}
+use Rattle.smv_text.specs.Lexing.{LexesTo}
+use Rattle.smv_text.specs.Heights.{first_high, of_modules}
 use Rattle.smv_text.specs.Sources.{SpellsSource}
 
 -- one place for all
@@ -91,3 +94,11 @@ pub record SpellsSameSource (source : PlainSource) (end : Place) (xs : List Toke
   pub model : PlainSource
   pub spelled : SpellsSource model end xs
   pub same : unplaced_source model ≡ unplaced_source source
+
+-- The text lexes to tokens that spell this model but for its places and its counts of tokens, and where none of its expressions
+-- is too high, none of theirs is.
+pub record IsReadAgain (source : PlainSource) (text : List ℕ) : Type 0 where
+  pub tokens : List Token
+  pub lexed : LexesTo text tokens
+  pub spells : SpellsSameSource source (after start text) tokens
+  pub low : first_high (of_modules source.modules) ≡ None → first_high (of_modules spells.model.modules) ≡ None

@@ -18,7 +18,7 @@ mod words;
 pub use brackets::{MOST_BRACKETS, opened_by};
 pub use level::{Joint, LEVELS, Level};
 pub use lexing::{LexEnd, lex, one_lexing, printed_is_lexed, spellings_are_read};
-pub use printing::{print, printed_spells};
+pub use printing::{print, printed_is_read, printed_spells};
 pub use token::{Reserved, Sign, Token, TokenKind, Tokens};
 pub use tree::{
     Assignment, Assignments, Branch, Branches, Definition, Definitions, Domain, Element, Elements,

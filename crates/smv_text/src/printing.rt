@@ -1,14 +1,14 @@
 // The printed form of a model.
-ghost use Rattle.std.specs.Prelude.{◌≡◌, ◌++◌, List, [], ◌∷◌, true, false, map, IfOk, OnOk, suc};
+ghost use Rattle.std.specs.Prelude.{◌≡◌, ◌++◌, ℕ, List, [], ◌∷◌, true, false, map, IfOk, OnOk, suc};
 ghost use Rattle.std.specs.List.{flat_map};
 ghost use Rattle.smv_text.specs.Tree.{Tree, PlainSource, trees_of, links_of, branches_of};
 ghost use Rattle.smv_text.specs.View.{plain, plain_link, plain_branch, plain_domain, plain_item, plain_definition, plain_assignment, plain_element, plain_module, plain_source};
 ghost use Rattle.smv_text.specs.Levels.{all_levels, joint_of, prefix_kind};
 ghost use Rattle.smv_text.specs.Ranks.{rank, chain_joint, tree_rank};
 ghost use Rattle.smv_text.specs.Sources.{section_word, SpellsSource};
-ghost use Rattle.smv_text.specs.Lexing.{kinds};
+ghost use Rattle.smv_text.specs.Lexing.{kinds, LexesTo};
 ghost use Rattle.smv_text.specs.Grammar.{Spells};
-ghost use Rattle.smv_text.specs.Unplaced.{SpellsSame, SpellsSameSource};
+ghost use Rattle.smv_text.specs.Unplaced.{SpellsSame, SpellsSameSource, IsReadAgain};
 ghost use Rattle.smv_text.specs.declared.token.Token.{Token};
 ghost use Rattle.text_core.specs.declared.place.Place.{Place};
 ghost use Rattle.smv_text.specs.Spelling.{spaced, written};
@@ -569,4 +569,10 @@ pub fn print(alloc: Global, source: &Source) -> Result<Text, NoMemory>
 pub fn printed_spells()
     ensures expressions { (levels : List Level) (t : Tree) (xs ys : List Token) → Spells levels t xs → kinds ys ≡ tree_kinds t → SpellsSame all_levels t ys }
     ensures sources { (source : PlainSource) (end place : Place) (xs ys : List Token) → SpellsSource source end xs → kinds ys ≡ source_kinds source → SpellsSameSource source place ys }
+{}
+
+/// What is printed for a model that a text spells is lexed and spelled again, as the same model but for its places and its
+/// counts of tokens.
+pub fn printed_is_read()
+    ensures { (source : PlainSource) (end : Place) (text : List ℕ) (xs : List Token) → LexesTo text xs → SpellsSource source end xs → IsReadAgain source (printed source) }
 {}
