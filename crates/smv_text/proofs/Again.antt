@@ -2,7 +2,6 @@
 use Rattle.std.proofs.Common.{◌≡◌, ◌≤◌, ℕ, zero, suc, ℤ, pos, negsuc, ◌-ℤ◌, Bool, true, false, cond, nat_le, Some, List, [], ◌∷◌, ◌++◌, map, drop, refl, sym, ap, ◌∙◌, subst, append_assoc, append-nil, arith}
 use Rattle.std.proofs.lemmas.Int.{ints}
 use Rattle.text_core.specs.declared.place.Place.{Place}
-use Rattle.word_core.specs.Words.{BitVector}
 use Rattle.smv_text.specs.declared.token.Token.{Token}
 use Rattle.smv_text.specs.declared.token.Reserved.TheVariants as word
 use Rattle.smv_text.specs.declared.token.Sign.{Sign}
@@ -15,15 +14,15 @@ use Rattle.smv_text.specs.declared.tree.Infix.{Infix}
 use Rattle.smv_text.specs.declared.tree.Function.{Function}
 use Rattle.smv_text.specs.declared.level.Joint.{Joint}
 use Rattle.smv_text.specs.declared.level.Level.{Level}
-use Rattle.smv_text.specs.declared.level.Level.TheVariants.{Chain, Choice, Range, Before, Selection}
+use Rattle.smv_text.specs.declared.level.Level.TheVariants.{Chain, Range, Before, Selection}
 use Rattle.smv_text.specs.Lexing.{kinds}
 use Rattle.smv_text.specs.Levels.{all_levels, joint_of, infix_of, prefix_kind, function_at}
 use Rattle.smv_text.specs.Tree.{Tree, truth, number, literal, name, prefix, chain, choice, cases, select, call, next, set, range, Links, no_links, link, Branches, no_branches, branch, Trees, no_trees, tree}
 use Rattle.smv_text.specs.Grammar.{start, IsSign, Signs, no_signs, sign_then, SpellsInteger, unsigned, negative, SpellsSteps, no_steps, step, SpellsPath, from_name, from_itself, Spells, pass, chains, chooses, ranges, prefixes, selects, is_true, is_false, numbers, literals, names, brackets, nexts, calls, sets, switches, SpellsLinks, no_more, one_more, SpellsBranches, otherwise, picks, SpellsListed, last_one, one_before, SpellsCases, last_case, case_before}
-use Rattle.smv_text.specs.Ranks.{rank, chain_joint, tree_rank}
-use Rattle.smv_text.specs.Printing.{infix_kind, function_word, truth_word, wanted, repeated, parted, ident, in_brackets, int_kinds, range_kinds, self_kinds, path_kinds, standing, tree_kinds, link_kinds, choice_kinds, case_kinds, argument_kinds}
+use Rattle.smv_text.specs.Ranks.{rank, tree_rank}
+use Rattle.smv_text.specs.Printing.{infix_kind, function_word, repeated, parted, ident, in_brackets, int_kinds, path_kinds, standing, tree_kinds, link_kinds, choice_kinds, case_kinds, argument_kinds}
 use Rattle.smv_text.specs.Unplaced.{nowhere, unplaced_path, unplaced, unplaced_links, unplaced_branches, unplaced_trees, SpellsSame}
-use Rattle.smv_text.proofs.Parting.{Headed, Parted, headed, nothing}
+use Rattle.smv_text.proofs.Parting.{headed, nothing}
 use Rattle.smv_text.proofs.Parting.{parted as cut}
 use Rattle.smv_text.proofs.Raised.{from_below, raised, level_first, infix_again, function_again, joint_is}
 
@@ -88,10 +87,10 @@ prefixed pre n p t own ys e =
     let s = stands t own (suc (rank (Before pre))) c.back c.back_kinds in
     along (Before pre ∷ drop (suc (rank (Before pre))) all_levels) (prefix p pre (suc n) t) (c.front ++ c.back) ys c.is
     (record {
-        expression = prefix (start c.front) pre (suc n) s.expression;
-        spelled = prefixes (signs_again pre (suc n) c.front c.front_kinds) s.spelled;
-        same = ap (prefix nowhere pre (suc n)) s.same;
-      })
+      expression = prefix (start c.front) pre (suc n) s.expression;
+      spelled = prefixes (signs_again pre (suc n) c.front c.front_kinds) s.spelled;
+      same = ap (prefix nowhere pre (suc n)) s.same;
+    })
 
 minus_is : (n : ℕ) → pos 0 -ℤ pos (suc n) ≡ negsuc n
 minus_is n = omega (arith, ints)
@@ -114,10 +113,10 @@ ranged p low high ys e =
     let d = headed (kind.Sign sign.Range) (int_kinds high) l.back l.back_kinds in
     along (drop (rank Range) all_levels) (range p low high) (l.front ++ d.token ∷ d.rest) ys (l.is ∙ ap (λ xs. l.front ++ xs) d.is)
     (record {
-        expression = range (start l.front) low high;
-        spelled = ranges (integer_again low l.front l.front_kinds) d.token d.kind (integer_again high d.rest d.rest_kinds);
-        same = refl;
-      })
+      expression = range (start l.front) low high;
+      spelled = ranges (integer_again low l.front l.front_kinds) d.token d.kind (integer_again high d.rest d.rest_kinds);
+      same = refl;
+    })
 
 -- names
 steps_again : (ns : List (List ℕ)) (ys : List Token) → kinds ys ≡ parted sign.Dot true (map ident ns) → SpellsSteps ns ys
@@ -172,10 +171,10 @@ links_again j n o t ls same own more ys e =
     let is_infix : infix_of j h.token.kind ≡ Some o = ap (infix_of j) h.kind ∙ subst (λ (i : Joint). infix_of i (infix_kind o) ≡ Some o) same (infix_again o) in
     subst (λ (xs : List Token). SameLinks j (drop n all_levels) (link o t ls) xs) (sym (h.is ∙ ap (λ xs. h.token ∷ xs) c.is))
     (record {
-        others = link o s.expression m.others;
-        spelled = one_more h.token is_infix s.spelled m.spelled;
-        same = ap (λ u. link o u (unplaced_links m.others)) s.same ∙ ap (link o (unplaced t)) m.same;
-      })
+      others = link o s.expression m.others;
+      spelled = one_more h.token is_infix s.spelled m.spelled;
+      same = ap (λ u. link o u (unplaced_links m.others)) s.same ∙ ap (link o (unplaced t)) m.same;
+    })
 
 chain_by : (j : Joint) (below : List Level) (p : Place) (t : Tree) (o : Infix) (u : Tree) (ls : Links) (xs ys : List Token) → SpellsSame below t xs
     → (others : Links) → SpellsLinks j below others ys → unplaced_links others ≡ unplaced_links (link o u ls)
@@ -242,12 +241,12 @@ picks_again w v bs t own_w own_v more ys e =
     let is : ys ≡ a.front ++ q.token ∷ (b.front ++ c.token ∷ c.rest) = a.is ∙ ap (λ xs. a.front ++ xs) (q.is ∙ ap (λ xs. q.token ∷ xs) (b.is ∙ ap (λ xs. b.front ++ xs) c.is)) in
     subst (λ (xs : List Token). SameBranches (drop 3 all_levels) (branch w v bs) t xs) (sym is)
     (record {
-        others = branch s.expression u.expression m.others;
-        last = m.last;
-        spelled = picks s.spelled q.token q.kind u.spelled c.token c.kind m.spelled;
-        same = let f : unplaced s.expression ≡ unplaced w = s.same in let g : unplaced u.expression ≡ unplaced v = u.same in let h : unplaced_branches m.others ≡ unplaced_branches bs = m.same in cc;
-        same_last = m.same_last;
-      })
+      others = branch s.expression u.expression m.others;
+      last = m.last;
+      spelled = picks s.spelled q.token q.kind u.spelled c.token c.kind m.spelled;
+      same = let f : unplaced s.expression ≡ unplaced w = s.same in let g : unplaced u.expression ≡ unplaced v = u.same in let h : unplaced_branches m.others ≡ unplaced_branches bs = m.same in cc;
+      same_last = m.same_last;
+    })
 
 choice_by : (p : Place) (w v t : Tree) (bs : Branches) (ys : List Token) (others : Branches) (last : Tree) → SpellsBranches (drop 3 all_levels) others last ys
     → unplaced_branches others ≡ unplaced_branches (branch w v bs) → unplaced last ≡ unplaced t → SpellsSame (drop 2 all_levels) (choice p (branch w v bs) t) ys
@@ -341,10 +340,10 @@ selected p t high low own ys e =
     a.is ∙ ap (λ xs. a.front ++ xs) (o.is ∙ ap (λ xs. o.token ∷ xs) (h.is ∙ ap (λ xs. h.token ∷ xs) (c.is ∙ ap (λ xs. c.token ∷ xs) (l.is ∙ ap (λ xs. l.token ∷ xs) (d.is ∙ ap (λ xs. d.token ∷ xs) (nothing d.rest d.rest_kinds)))))) in
     along (Selection ∷ []) (select p t high low) (a.front ++ ends) ys is
     (record {
-        expression = select (start a.front) s.expression high low;
-        spelled = selects s.spelled o.token h.token c.token l.token d.token o.kind h.kind c.kind l.kind d.kind;
-        same = ap (λ v. select nowhere v high low) s.same;
-      })
+      expression = select (start a.front) s.expression high low;
+      spelled = selects s.spelled o.token h.token c.token l.token d.token o.kind h.kind c.kind l.kind d.kind;
+      same = ap (λ v. select nowhere v high low) s.same;
+    })
 
 -- cases
 record SameCases (bs : Branches) (ys : List Token) : Type 0 where
@@ -405,10 +404,10 @@ last_case_again w v own_w own_v ys e =
     let is : ys ≡ c.condition ++ c.colon ∷ (c.value ++ c.semicolon ∷ d.token ∷ []) = c.is ∙ ap (λ xs. c.condition ++ c.colon ∷ (c.value ++ c.semicolon ∷ xs)) (d.is ∙ ap (λ xs. d.token ∷ xs) (nothing d.rest d.rest_kinds)) in
     subst (λ (xs : List Token). SameCases (branch w v no_branches) xs) (sym is)
     (record {
-        others = branch s.expression u.expression no_branches;
-        spelled = last_case s.spelled c.colon c.is_colon u.spelled c.semicolon c.is_semicolon d.token d.kind;
-        same = let f : unplaced s.expression ≡ unplaced w = s.same in let g : unplaced u.expression ≡ unplaced v = u.same in cc;
-      })
+      others = branch s.expression u.expression no_branches;
+      spelled = last_case s.spelled c.colon c.is_colon u.spelled c.semicolon c.is_semicolon d.token d.kind;
+      same = let f : unplaced s.expression ≡ unplaced w = s.same in let g : unplaced u.expression ≡ unplaced v = u.same in cc;
+    })
 
 case_by : (w v a b : Tree) (bs : Branches) (ys : List Token) (ks : List TokenKind) (c : Case w v ks ys) (others : Branches) → SpellsCases others c.rest → unplaced_branches others ≡ unplaced_branches (branch a b bs)
     → SameCases (branch w v (branch a b bs)) ys
@@ -418,10 +417,10 @@ case_by w v a b bs ys ks c (branch a' b' bs') m e =
     let u = c.value_spelled in
     subst (λ (xs : List Token). SameCases (branch w v (branch a b bs)) xs) (sym c.is)
     (record {
-        others = branch s.expression u.expression (branch a' b' bs');
-        spelled = case_before s.spelled c.colon c.is_colon u.spelled c.semicolon c.is_semicolon m;
-        same = ap (λ x. branch x (unplaced u.expression) (unplaced_branches (branch a' b' bs'))) s.same ∙ ap (λ x. branch (unplaced w) x (unplaced_branches (branch a' b' bs'))) u.same ∙ ap (branch (unplaced w) (unplaced v)) e;
-      })
+      others = branch s.expression u.expression (branch a' b' bs');
+      spelled = case_before s.spelled c.colon c.is_colon u.spelled c.semicolon c.is_semicolon m;
+      same = ap (λ x. branch x (unplaced u.expression) (unplaced_branches (branch a' b' bs'))) s.same ∙ ap (λ x. branch (unplaced w) x (unplaced_branches (branch a' b' bs'))) u.same ∙ ap (branch (unplaced w) (unplaced v)) e;
+    })
 
 case_again : (w v a b : Tree) (bs : Branches) → Own w → Own v → CasesAgain (branch a b bs) → CasesAgain (branch w v (branch a b bs))
 case_again w v a b bs own_w own_v more ys e =

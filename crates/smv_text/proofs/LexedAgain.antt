@@ -1,26 +1,25 @@
 -- A printed list of tokens is lexed again, and the tokens of a text can be printed.
-use Rattle.std.proofs.Common.{◌≡◌, ◌<◌, ◌≤◌, ◌^◌, ◌+◌, ℕ, suc, Bool, true, false, not, cond, ◌&&◌, ◌||◌, eqb, Option, Some, None, option_map, List, [], ◌∷◌, ◌++◌, length, take, drop, refl, sym, ap, ◌∙◌, subst, inl, inr, arith, ◌⊎◌}
-use Rattle.std.proofs.lemmas.List.{append_assoc, length-append, take_at, drop_at, append-nil}
+use Rattle.std.proofs.Common.{◌≡◌, ◌<◌, ◌≤◌, ◌^◌, ℕ, suc, Bool, true, false, not, cond, ◌&&◌, ◌||◌, eqb, Option, Some, None, option_map, List, [], ◌∷◌, ◌++◌, length, take, drop, refl, sym, ap, ◌∙◌, subst, inl, inr, arith}
+use Rattle.std.proofs.lemmas.List.{append_assoc, take_at, drop_at, append-nil}
 use Rattle.std.proofs.lemmas.Bool.{and_parts}
 use Rattle.std.proofs.lemmas.Bool.Decides.{nat_tests}
-use Rattle.std.specs.Prelude.{nat_lt, nat_le, option_and_then, IsTrue}
+use Rattle.std.specs.Prelude.{nat_lt, nat_le, option_and_then}
 use Rattle.text_core.specs.declared.place.Place.{Place}
 use Rattle.word_core.specs.Words.{BitVector, IsWord}
 use Rattle.word_core.specs.Digits.{below, fitted, digits_value, read_word}
 use Rattle.smv_text.specs.declared.token.Reserved.{Reserved}
-use Rattle.smv_text.specs.declared.token.Sign.{Sign}
 use Rattle.smv_text.specs.declared.token.Token.{Token}
 use Rattle.smv_text.specs.declared.token.TokenKind.{TokenKind}
 use Rattle.smv_text.specs.declared.token.TokenKind.TheVariants as kind
-use Rattle.smv_text.specs.Bytes.{AllPass, IsLongest, after, start, front_length, is_letter, is_digit, heads}
+use Rattle.smv_text.specs.Bytes.{AllPass, after, start, front_length, is_letter, is_digit, heads}
 use Rattle.smv_text.specs.Signs.{sign_at}
-use Rattle.smv_text.specs.Numbers.{number_of, literal_of, based_word, past_sign, parted_word, marked_word, sized_word, bare, base_of, is_unmarked}
+use Rattle.smv_text.specs.Numbers.{number_of, literal_of, based_word, past_sign, parted_word, marked_word, bare, base_of, is_unmarked}
 use Rattle.smv_text.specs.Keywords.{look_up, keywords}
 use Rattle.smv_text.specs.Words.{IsLexeme, no_gap, in_word, is_word_byte, kind_of, word_kind, keyword_kind, run_kind, or_literal}
-use Rattle.smv_text.specs.Lexing.{Steps, ends, token, stray, misspelled, too_nested, Next, finished, go, bad, Lexes, last, more, LexesTo, kinds, token_at, opened_by, opened_after, opened, most_brackets, refusal_at}
-use Rattle.smv_text.specs.Reading.{gap_length, lexeme_length, next_of, behind, sized, kinded}
+use Rattle.smv_text.specs.Lexing.{Steps, ends, token, stray, misspelled, too_nested, Next, finished, go, bad, Lexes, last, more, LexesTo, kinds, token_at, opened_by, opened, most_brackets, refusal_at}
+use Rattle.smv_text.specs.Reading.{lexeme_length, next_of, behind, sized, kinded}
 use Rattle.smv_text.specs.Spelling.{spelled, spaced, joined}
-use Rattle.smv_text.specs.Printable.{IsIdentifier, IsPrintable, ArePrintable, CanBePrinted, CanAllBePrinted}
+use Rattle.smv_text.specs.Printable.{ArePrintable, CanBePrinted, CanAllBePrinted}
 use Rattle.smv_text.proofs.Laws.{next_steps, opened_more}
 use Rattle.smv_text.proofs.Printed.{Apart, at_end, blank_first, IsReadAs, printed_as, digit_kind}
 use Rattle.smv_text.proofs.Spellings.{sign_read}

@@ -10,6 +10,7 @@ pub mod Parting
 pub mod Raised
 pub mod Again
 pub mod SourceAgain
+pub mod OneText
 pub mod Nesting
 pub mod NestingSources
 pub mod PrintedAgain

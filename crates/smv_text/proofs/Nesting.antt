@@ -1,9 +1,8 @@
 -- What is printed for a model nests no deeper than what spelled it, and its tokens can be printed.
-use Rattle.std.proofs.Common.{◌≡◌, ◌≤◌, ◌<◌, ◌+◌, ◌-◌, ◌^◌, ℕ, zero, suc, ℤ, pos, negsuc, ◌-ℤ◌, Bool, true, false, cond, nat_le, Some, None, List, [], ◌∷◌, ◌++◌, map, drop, length, refl, sym, ap, ◌∙◌, subst, append_assoc, append-nil, arith, inl, inr, ◌⊎◌}
+use Rattle.std.proofs.Common.{◌≡◌, ◌≤◌, ◌<◌, ◌+◌, ℕ, zero, suc, ℤ, pos, negsuc, ◌-ℤ◌, Bool, true, false, cond, nat_le, Some, List, [], ◌∷◌, ◌++◌, map, drop, length, refl, sym, ap, ◌∙◌, subst, append_assoc, arith, inl, inr}
 use Rattle.std.proofs.lemmas.Bool.Decides.{nat_tests}
 use Rattle.std.proofs.lemmas.Int.{ints}
-use Rattle.text_core.specs.declared.place.Place.{Place}
-use Rattle.word_core.specs.Words.{BitVector, IsWord}
+use Rattle.word_core.specs.Words.{BitVector}
 use Rattle.smv_text.specs.declared.token.Token.{Token}
 use Rattle.smv_text.specs.declared.token.Reserved.{Reserved}
 use Rattle.smv_text.specs.declared.token.Reserved.TheVariants as word
@@ -23,12 +22,12 @@ use Rattle.smv_text.specs.declared.level.Level.{Level}
 use Rattle.smv_text.specs.declared.level.Level.TheVariants.{Chain, Choice, Range, Before, Selection}
 use Rattle.smv_text.specs.Lexing.{kinds, opened_by, most_brackets}
 use Rattle.smv_text.specs.Levels.{all_levels, joint_of, infix_of, prefix_kind, function_at}
-use Rattle.smv_text.specs.Tree.{Tree, truth, number, literal, name, prefix, chain, choice, cases, select, call, next, set, range, Links, no_links, link, Branches, no_branches, branch, Trees, no_trees, tree}
-use Rattle.smv_text.specs.Grammar.{start, IsSign, Signs, no_signs, sign_then, SpellsInteger, unsigned, negative, SpellsSteps, no_steps, step, SpellsPath, from_name, from_itself, Spells, pass, chains, chooses, ranges, prefixes, selects, is_true, is_false, numbers, literals, names, brackets, nexts, calls, sets, switches, SpellsLinks, no_more, one_more, SpellsBranches, otherwise, picks, SpellsListed, last_one, one_before, SpellsCases, last_case, case_before}
-use Rattle.smv_text.specs.Ranks.{rank, chain_joint, tree_rank, tightest}
-use Rattle.smv_text.specs.Printing.{infix_kind, function_word, truth_word, wanted, repeated, parted, ident, in_brackets, int_kinds, range_kinds, self_kinds, path_kinds, standing, tree_kinds, link_kinds, choice_kinds, case_kinds, argument_kinds}
-use Rattle.smv_text.specs.Printable.{IsIdentifier, IsPrintable, ArePrintable, CanBePrinted, CanAllBePrinted}
-use Rattle.smv_text.proofs.Raised.{level_first, joint_is}
+use Rattle.smv_text.specs.Tree.{Tree, truth, number, literal, name, prefix, chain, choice, cases, select, call, next, set, range, Links, link, Branches, no_branches, branch, Trees, tree}
+use Rattle.smv_text.specs.Grammar.{Signs, no_signs, sign_then, SpellsInteger, unsigned, negative, SpellsSteps, no_steps, step, SpellsPath, from_name, from_itself, Spells, pass, chains, chooses, ranges, prefixes, selects, is_true, is_false, numbers, literals, names, brackets, nexts, calls, sets, switches, SpellsLinks, no_more, one_more, SpellsBranches, otherwise, picks, SpellsListed, last_one, one_before, SpellsCases, last_case, case_before}
+use Rattle.smv_text.specs.Ranks.{rank, tree_rank, tightest}
+use Rattle.smv_text.specs.Printing.{infix_kind, function_word, repeated, parted, ident, in_brackets, int_kinds, path_kinds, standing, tree_kinds, link_kinds, choice_kinds, case_kinds, argument_kinds}
+use Rattle.smv_text.specs.Printable.{IsPrintable, ArePrintable, CanBePrinted, CanAllBePrinted}
+use Rattle.smv_text.proofs.Raised.{joint_is}
 
 -- how many brackets stand open behind tokens of these kinds
 abbrev pub open_behind : ℕ → List TokenKind → ℕ
@@ -565,6 +564,7 @@ one_case n w v more few a b c =
 
 mutual
   unfolding branch_at
+
   pub nests : {ls : List Level} {t : Tree} {xs : List Token} → Spells ls t xs → (f n : ℕ) → drop f all_levels ≡ ls → f ≤ tightest → n ≤ most_brackets → CanPrint n xs → Nests f n t
   nests (pass {level = l} {below = below} {t = t} s) f n e most few c =
       let h = first_of f l below e in

@@ -1,5 +1,5 @@
 -- What is printed for a model can be printed where its own tokens could.
-use Rattle.std.proofs.Common.{◌≡◌, ◌≤◌, ℕ, suc, ℤ, Option, Some, None, true, false, List, [], ◌∷◌, ◌++◌, map, refl, sym, ap, ◌∙◌, subst, arith, append-nil}
+use Rattle.std.proofs.Common.{◌≡◌, ◌≤◌, ℕ, suc, Option, true, false, List, [], ◌∷◌, ◌++◌, map, refl, arith}
 use Rattle.std.specs.List.{flat_map}
 use Rattle.smv_text.specs.declared.token.Token.{Token}
 use Rattle.smv_text.specs.declared.token.Reserved.{Reserved}
@@ -16,13 +16,12 @@ use Rattle.smv_text.specs.declared.tree.When.{When}
 use Rattle.smv_text.specs.declared.tree.Parameter.{Parameter}
 use Rattle.smv_text.specs.Lexing.{kinds, opened_by, most_brackets}
 use Rattle.smv_text.specs.Levels.{all_levels}
-use Rattle.smv_text.specs.Tree.{Tree, Trees, no_trees, tree, PlainDomain, PlainItem, PlainDefinition, PlainAssignment, PlainElement, PlainModule, PlainSource}
-use Rattle.smv_text.specs.Grammar.{IsSign, Spells, SpellsListed, SpellsInteger, last_one, one_before}
-use Rattle.smv_text.specs.Sources.{IsWord, section_word, SpellsNames, no_names, name_then, SpellsParameters, no_parameters, parameter_then, SpellsFormals, no_formals, empty_formals, formals, SpellsActuals, no_actuals, empty_actuals, actuals, SpellsMember, symbols, integers, SpellsMembers, no_members, member_then, IsUnsigned, unstated, stated, SpellsType, booleans, enumerations, intervals, words, SpellsDomain, types, instances, SpellsItems, no_items, item_then, SpellsDefinitions, no_definitions, definition_then, SpellsTarget, always, first, following, SpellsAssignments, no_assignments, assignment_then, IsOptional, left_out, semicolon, SpellsLabel, no_label, label, SpellsElement, variables, definitions, symbol_names, assignments, inits, transitions, invariants, specifications, SpellsElements, no_elements, element_then, SpellsModules, no_modules, module_then, SpellsSource}
-use Rattle.smv_text.specs.Printing.{parted, ident, in_brackets, int_kinds, tree_kinds, argument_kinds, member_kinds, actual_kinds, domain_kinds, item_kinds, body_kinds, definition_kinds, target_kinds, assignment_kinds, spec_name_kinds, formula_kinds, element_kinds, parameter_name, parameter_kinds, module_kinds, source_kinds}
-use Rattle.smv_text.specs.Printable.{IsPrintable, ArePrintable, CanAllBePrinted}
-use Rattle.smv_text.proofs.Nesting.{Prints, prints_none, prints_append, prints_one, prints_within, IsPlain, plain_of, CanPrint, front, back, past, room, first_can, number_fits, name_fits, OpensNone, OpensOneLess, none_none, none_less, plain_none, plain_less, open_none, close_less, no_tokens, opens_none_at, opens_round, closes_round, opens_curly, closes_curly, opens_square, closes_square, integer_none, path_none, spelled_none, listed_less, integer_prints, path_prints, nests, listed_nest, ident_plain, number_plain, comma_plain, semicolon_plain, colon_plain, range_plain, open_behind}
-
+use Rattle.smv_text.specs.Tree.{Tree, Trees, no_trees, tree, PlainDomain, PlainItem, PlainDefinition, PlainAssignment, PlainElement, PlainModule}
+use Rattle.smv_text.specs.Grammar.{IsSign, Spells, SpellsListed}
+use Rattle.smv_text.specs.Sources.{IsWord, section_word, SpellsNames, no_names, name_then, SpellsParameters, no_parameters, parameter_then, SpellsFormals, no_formals, empty_formals, formals, SpellsActuals, no_actuals, empty_actuals, actuals, SpellsMember, symbols, integers, SpellsMembers, no_members, member_then, IsUnsigned, unstated, stated, SpellsType, booleans, enumerations, intervals, words, SpellsDomain, types, instances, SpellsItems, no_items, item_then, SpellsDefinitions, no_definitions, definition_then, SpellsTarget, always, first, following, SpellsAssignments, no_assignments, assignment_then, IsOptional, left_out, semicolon, SpellsLabel, no_label, label, SpellsElement, variables, definitions, symbol_names, assignments, inits, transitions, invariants, specifications, SpellsElements, no_elements, element_then, SpellsModules, no_modules, module_then}
+use Rattle.smv_text.specs.Printing.{parted, ident, in_brackets, int_kinds, tree_kinds, argument_kinds, member_kinds, actual_kinds, domain_kinds, item_kinds, body_kinds, definition_kinds, target_kinds, assignment_kinds, spec_name_kinds, formula_kinds, element_kinds, parameter_name, parameter_kinds, module_kinds}
+use Rattle.smv_text.specs.Printable.{ArePrintable, CanAllBePrinted}
+use Rattle.smv_text.proofs.Nesting.{Prints, prints_none, prints_append, prints_one, prints_within, IsPlain, plain_of, CanPrint, front, back, past, room, first_can, number_fits, name_fits, OpensNone, none_none, none_less, plain_none, plain_less, open_none, close_less, no_tokens, opens_none_at, opens_round, closes_round, opens_curly, closes_curly, opens_square, closes_square, integer_none, path_none, spelled_none, listed_less, integer_prints, path_prints, nests, listed_nest, ident_plain, number_plain, comma_plain, semicolon_plain, colon_plain, range_plain}
 
 -- one token that is no bracket
 reserved_prints : (n : ℕ) (w : Reserved) (ks : List TokenKind) → ((m : ℕ) → opened_by m (kind.Reserved w) ≡ m) → n ≤ most_brackets → Prints n ks → Prints n (kind.Reserved w ∷ ks)

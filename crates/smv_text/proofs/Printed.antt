@@ -1,26 +1,25 @@
 -- A printed token is read again, whatever stands behind the blank that follows it.
-use Rattle.std.proofs.Common.{◌≡◌, ◌<◌, ◌≤◌, ◌^◌, ◌+◌, ◌*◌, ◌-◌, ℕ, suc, Bool, true, false, not, cond, ◌&&◌, ◌||◌, eqb, Option, Some, None, option_map, List, [], ◌∷◌, ◌++◌, length, take, drop, refl, sym, ap, ◌∙◌, subst, arith, rules}
-use Rattle.std.proofs.lemmas.List.{append_assoc, length-append, take_at, drop_at}
+use Rattle.std.proofs.Common.{◌≡◌, ◌<◌, ◌≤◌, ◌^◌, ◌+◌, ◌*◌, ◌-◌, ℕ, suc, Bool, true, false, cond, ◌&&◌, eqb, Option, Some, None, option_map, List, [], ◌∷◌, ◌++◌, length, take, drop, refl, sym, ap, ◌∙◌, arith, rules}
+use Rattle.std.proofs.lemmas.List.{take_at, drop_at}
 use Rattle.std.proofs.lemmas.Str.Parse.{IsNumeralModel, numerals_by_fold}
 use Rattle.std.proofs.lemmas.Fmt.{digits_decimal, digits_value-decimal, decimal_nonempty}
 use Rattle.std.proofs.lemmas.Bool.{and_parts}
 use Rattle.std.proofs.lemmas.Bool.Decides.{nat_tests}
 use Rattle.std.proofs.Math.Nat.{pow-le-pow_right}
 use Rattle.std.specs.Fmt.{decimal}
-use Rattle.std.specs.Prelude.{nat_lt, nat_le, option_and_then, IsTrue}
-use Rattle.std.specs.List.{filter}
+use Rattle.std.specs.Prelude.{nat_lt, nat_le, option_and_then}
 use Rattle.word_core.specs.Words.{BitVector, IsWord}
-use Rattle.word_core.specs.Digits.{digit_number, number_after, digits_value, below, fitted, read_word}
+use Rattle.word_core.specs.Digits.{digit_number, number_after, digits_value, read_word}
 use Rattle.smv_text.specs.declared.token.Reserved.{Reserved}
 use Rattle.smv_text.specs.declared.token.Reserved.TheVariants as word
 use Rattle.smv_text.specs.declared.token.Sign.{Sign}
 use Rattle.smv_text.specs.declared.token.Sign.TheVariants as sign
 use Rattle.smv_text.specs.declared.token.TokenKind.{TokenKind}
 use Rattle.smv_text.specs.declared.token.TokenKind.TheVariants as kind
-use Rattle.smv_text.specs.Bytes.{is_digit, is_letter, is_blank, heads, front_length}
+use Rattle.smv_text.specs.Bytes.{is_digit, is_letter, is_blank, front_length}
 use Rattle.smv_text.specs.Signs.{sign_bytes, sign_at}
 use Rattle.smv_text.specs.Keywords.{word_bytes}
-use Rattle.smv_text.specs.Numbers.{number_of, literal_of, is_unmarked, bare, sized_word, marked_word, parted_word}
+use Rattle.smv_text.specs.Numbers.{number_of, literal_of, is_unmarked, bare, marked_word, parted_word}
 use Rattle.smv_text.specs.Words.{in_word, in_run, is_run_byte, kind_of, word_kind, or_literal}
 use Rattle.smv_text.specs.Reading.{gap_length, lexeme_length}
 use Rattle.smv_text.specs.Spelling.{spelled, literal_bytes}

@@ -1,16 +1,15 @@
 -- What is printed for a model that a text spells is lexed and spelled again, as the same model but for places.
-use Rattle.std.proofs.Common.{◌≡◌, ℕ, suc, ◌+◌, max, Bool, true, false, cond, nat_le, Option, Some, None, List, [], ◌∷◌, ◌++◌, map, refl, sym, ap, ◌∙◌, subst}
+use Rattle.std.proofs.Common.{◌≡◌, ℕ, suc, ◌+◌, Bool, true, false, cond, nat_le, Option, Some, None, List, [], ◌∷◌, ◌++◌, map, refl, sym, ap, ◌∙◌}
 use Rattle.std.proofs.lemmas.List.{map-append}
 use Rattle.text_core.specs.declared.place.Place.{Place}
 use Rattle.smv_text.specs.declared.token.Token.{Token}
-use Rattle.smv_text.specs.declared.tree.Infix.{Infix}
 use Rattle.smv_text.specs.Bytes.{start, after}
-use Rattle.smv_text.specs.Lexing.{LexesTo, kinds}
+use Rattle.smv_text.specs.Lexing.{LexesTo}
 use Rattle.smv_text.specs.Tree.{Tree, truth, number, literal, name, prefix, chain, choice, cases, select, call, next, set, range, Links, no_links, link, Branches, no_branches, branch, Trees, no_trees, tree, PlainDomain, boolean, members, between, bits, instance, PlainItem, PlainDefinition, PlainAssignment, PlainElement, vars, defines, constants, assigns, init, trans, invar, spec, PlainModule, PlainSource}
 use Rattle.smv_text.specs.Heights.{height, link_heights, branch_heights, heights, chain_height, branches_height, highest, most_height, place_of, first_high, list_of, of_domain, of_items, of_definitions, of_assignments, of_element, of_elements, of_modules}
 use Rattle.smv_text.specs.Sources.{SpellsSource}
 use Rattle.smv_text.specs.Printing.{printed, source_kinds}
-use Rattle.smv_text.specs.Unplaced.{unplaced, unplaced_links, unplaced_branches, unplaced_trees, unplaced_domain, unplaced_item, unplaced_definition, unplaced_assignment, unplaced_element, unplaced_module, unplaced_source, SpellsSameSource, IsReadAgain}
+use Rattle.smv_text.specs.Unplaced.{unplaced, unplaced_links, unplaced_branches, unplaced_trees, unplaced_domain, unplaced_item, unplaced_definition, unplaced_assignment, unplaced_element, unplaced_module, unplaced_source, IsReadAgain}
 use Rattle.smv_text.proofs.LexedAgain.{lexed_again, lexed_printable}
 use Rattle.smv_text.proofs.NestingSources.{source_prints}
 use Rattle.smv_text.proofs.SourceAgain.{source_again}

@@ -1,7 +1,6 @@
 -- What is spelled at a level is spelled at the looser ones.
-use Rattle.std.proofs.Common.{◌≡◌, ◌≤◌, ◌+◌, ℕ, zero, suc, Bool, true, false, cond, Option, Some, None, nat_eq, nat_le, List, [], ◌∷◌, ◌++◌, drop, get_or, refl, sym, ap, ◌∙◌, subst, arith}
+use Rattle.std.proofs.Common.{◌≡◌, ◌≤◌, ℕ, zero, suc, Bool, true, false, cond, Option, Some, None, nat_eq, List, [], ◌∷◌, drop, get_or, refl, sym, ap, ◌∙◌, arith}
 use Rattle.smv_text.specs.declared.token.Token.{Token}
-use Rattle.smv_text.specs.declared.token.Sign.TheVariants as sign
 use Rattle.smv_text.specs.declared.token.TokenKind.{TokenKind}
 use Rattle.smv_text.specs.declared.token.TokenKind.TheVariants as kind
 use Rattle.smv_text.specs.declared.tree.Infix.{Infix}

@@ -1,5 +1,5 @@
 -- Tokens of the kinds that are printed for a model spell it but for its places and its counts of tokens.
-use Rattle.std.proofs.Common.{◌≡◌, ℕ, ℤ, true, false, Option, Some, None, List, [], ◌∷◌, ◌++◌, map, length, refl, sym, ap, ◌∙◌, subst, append_assoc}
+use Rattle.std.proofs.Common.{◌≡◌, ℕ, true, false, Option, Some, None, List, [], ◌∷◌, ◌++◌, map, length, refl, sym, ap, ◌∙◌, subst, append_assoc}
 use Rattle.std.specs.List.{flat_map}
 use Rattle.text_core.specs.declared.place.Place.{Place}
 use Rattle.smv_text.specs.declared.token.Token.{Token}
@@ -19,14 +19,14 @@ use Rattle.smv_text.specs.declared.tree.When.TheVariants as when_
 use Rattle.smv_text.specs.declared.tree.Parameter.{Parameter}
 use Rattle.smv_text.specs.Lexing.{kinds}
 use Rattle.smv_text.specs.Levels.{all_levels}
-use Rattle.smv_text.specs.Tree.{Tree, Trees, no_trees, tree, PlainDomain, boolean, members, between, bits, instance, PlainItem, PlainDefinition, PlainAssignment, PlainElement, vars, defines, constants, assigns, init, trans, invar, spec, PlainModule, PlainSource}
-use Rattle.smv_text.specs.Grammar.{start, IsSign, SpellsInteger, SpellsPath, Spells, SpellsListed, last_one, one_before}
-use Rattle.smv_text.specs.Sources.{IsWord, SpellsNames, no_names, name_then, SpellsParameters, no_parameters, parameter_then, SpellsFormals, no_formals, empty_formals, formals, SpellsActuals, no_actuals, empty_actuals, actuals, SpellsMember, symbols, integers, SpellsMembers, no_members, member_then, IsUnsigned, unstated, stated, SpellsType, booleans, enumerations, intervals, words, SpellsDomain, types, instances, SpellsItems, no_items, item_then, SpellsDefinitions, no_definitions, definition_then, SpellsTarget, always, first, following, SpellsAssignments, no_assignments, assignment_then, IsOptional, left_out, semicolon, SpellsLabel, no_label, label, section_word, SpellsElement, variables, definitions, symbol_names, assignments, inits, transitions, invariants, specifications, SpellsElements, no_elements, element_then, SpellsModules, no_modules, module_then, SpellsSource}
-use Rattle.smv_text.specs.Printing.{parted, ident, in_brackets, int_kinds, range_kinds, path_kinds, tree_kinds, argument_kinds, member_kinds, actual_kinds, domain_kinds, item_kinds, body_kinds, definition_kinds, target_kinds, assignment_kinds, spec_name_kinds, formula_kinds, element_kinds, parameter_name, parameter_kinds, module_kinds, source_kinds}
-use Rattle.smv_text.specs.Unplaced.{nowhere, unplaced_path, unplaced, unplaced_trees, unplaced_domain, unplaced_item, unplaced_definition, unplaced_assignment, unplaced_element, unplaced_parameter, unplaced_module, unplaced_source, SpellsSame, SpellsSameSource}
-use Rattle.smv_text.proofs.Parting.{Headed, Parted, headed, nothing}
+use Rattle.smv_text.specs.Tree.{Tree, Trees, no_trees, PlainDomain, boolean, members, between, bits, instance, PlainItem, PlainDefinition, PlainAssignment, PlainElement, vars, defines, constants, assigns, init, trans, invar, spec, PlainModule, PlainSource}
+use Rattle.smv_text.specs.Grammar.{start, IsSign, Spells, SpellsListed, last_one, one_before}
+use Rattle.smv_text.specs.Sources.{IsWord, SpellsNames, no_names, name_then, SpellsParameters, no_parameters, parameter_then, SpellsFormals, no_formals, formals, SpellsActuals, no_actuals, empty_actuals, actuals, SpellsMember, symbols, integers, SpellsMembers, no_members, member_then, unstated, SpellsType, booleans, enumerations, intervals, words, SpellsDomain, types, instances, SpellsItems, no_items, item_then, SpellsDefinitions, no_definitions, definition_then, SpellsTarget, always, first, following, SpellsAssignments, no_assignments, assignment_then, semicolon, SpellsLabel, no_label, label, section_word, SpellsElement, variables, definitions, symbol_names, assignments, inits, transitions, invariants, specifications, SpellsElements, no_elements, element_then, SpellsModules, no_modules, module_then, SpellsSource}
+use Rattle.smv_text.specs.Printing.{parted, ident, in_brackets, int_kinds, path_kinds, tree_kinds, argument_kinds, member_kinds, actual_kinds, domain_kinds, item_kinds, body_kinds, definition_kinds, target_kinds, assignment_kinds, spec_name_kinds, formula_kinds, element_kinds, parameter_name, parameter_kinds, module_kinds, source_kinds}
+use Rattle.smv_text.specs.Unplaced.{nowhere, unplaced_path, unplaced, unplaced_trees, unplaced_domain, unplaced_item, unplaced_definition, unplaced_assignment, unplaced_element, unplaced_parameter, unplaced_module, SpellsSame, SpellsSameSource}
+use Rattle.smv_text.proofs.Parting.{headed, nothing}
 use Rattle.smv_text.proofs.Parting.{parted as cut}
-use Rattle.smv_text.proofs.Again.{SpellsSamePath, path_again, integer_again, SameListed, listed_again, expression_again}
+use Rattle.smv_text.proofs.Again.{path_again, integer_again, listed_again, expression_again}
 
 -- a front, a token, and what stands behind it
 record Ended (ahead : List TokenKind) (k : TokenKind) (bs : List TokenKind) (xs : List Token) : Type 0 where
@@ -81,10 +81,10 @@ parameters_again (p ∷ ps) ys e =
     let m = parameters_again ps h.rest h.rest_kinds in
     subst (λ (xs : List Token). SameParameters (p ∷ ps) xs) (sym (c.is ∙ ap (λ xs. c.token ∷ xs) h.is))
     (record {
-        others = record { name = p.name; place = h.token.place } ∷ m.others;
-        spelled = parameter_then c.token h.token c.kind h.kind m.spelled;
-        same = ap (λ qs. unplaced_parameter p ∷ qs) m.same;
-      })
+      others = record { name = p.name; place = h.token.place } ∷ m.others;
+      spelled = parameter_then c.token h.token c.kind h.kind m.spelled;
+      same = ap (λ qs. unplaced_parameter p ∷ qs) m.same;
+    })
 
 record SameFormals (ps : List Parameter) (ys : List Token) : Type 0 where
   pub others : List Parameter
@@ -101,10 +101,10 @@ formals_again (p ∷ ps) ys e =
     let m = parameters_again ps c.front c.front_kinds in
     subst (λ (xs : List Token). SameFormals (p ∷ ps) xs) (sym (o.is ∙ ap (λ xs. o.token ∷ xs) (h.is ∙ ap (λ xs. h.token ∷ xs) c.is)))
     (record {
-        others = record { name = p.name; place = h.token.place } ∷ m.others;
-        spelled = formals o.token h.token c.token o.kind h.kind m.spelled c.kind;
-        same = ap (λ qs. unplaced_parameter p ∷ qs) m.same;
-      })
+      others = record { name = p.name; place = h.token.place } ∷ m.others;
+      spelled = formals o.token h.token c.token o.kind h.kind m.spelled c.kind;
+      same = ap (λ qs. unplaced_parameter p ∷ qs) m.same;
+    })
 
 -- actuals
 record SameActuals (ts : Trees) (ys : List Token) : Type 0 where
@@ -199,10 +199,10 @@ items_again {k = k} (item_then {n = n} {d = d} {is = is} {xs = xs} x colon a b s
     let r = items_again m p.back p.back_kinds in
     subst (λ (zs : List Token). SameItems k (i ∷ is) zs) (sym (h.is ∙ ap (λ zs. h.token ∷ zs) (o.is ∙ ap (λ zs. o.token ∷ zs) p.is)))
     (record {
-        others = record { name = n; place = h.token.place; domain = u.other; domain_place = start p.front } ∷ r.others;
-        spelled = item_then h.token o.token h.kind o.kind u.spelled p.token p.kind r.spelled;
-        same = ap (λ v. record { name = n; place = nowhere; domain = v; domain_place = nowhere } ∷ map unplaced_item r.others) u.same ∙ ap (λ vs. unplaced_item i ∷ vs) r.same;
-      })
+      others = record { name = n; place = h.token.place; domain = u.other; domain_place = start p.front } ∷ r.others;
+      spelled = item_then h.token o.token h.kind o.kind u.spelled p.token p.kind r.spelled;
+      same = ap (λ v. record { name = n; place = nowhere; domain = v; domain_place = nowhere } ∷ map unplaced_item r.others) u.same ∙ ap (λ vs. unplaced_item i ∷ vs) r.same;
+    })
 
 -- definitions
 record SameDefinitions (ds : List PlainDefinition) (ys : List Token) : Type 0 where
@@ -222,10 +222,10 @@ definitions_again (definition_then {n = n} {t = t} {ds = ds} x assign a b s c l 
     let r = definitions_again m p.back p.back_kinds in
     subst (λ (zs : List Token). SameDefinitions (d ∷ ds) zs) (sym (h.is ∙ ap (λ zs. h.token ∷ zs) (o.is ∙ ap (λ zs. o.token ∷ zs) p.is)))
     (record {
-        others = record { name = n; place = h.token.place; body = u.expression } ∷ r.others;
-        spelled = definition_then h.token o.token h.kind o.kind u.spelled p.token p.kind r.spelled;
-        same = ap (λ v. record { name = n; place = nowhere; body = v } ∷ map unplaced_definition r.others) u.same ∙ ap (λ vs. unplaced_definition d ∷ vs) r.same;
-      })
+      others = record { name = n; place = h.token.place; body = u.expression } ∷ r.others;
+      spelled = definition_then h.token o.token h.kind o.kind u.spelled p.token p.kind r.spelled;
+      same = ap (λ v. record { name = n; place = nowhere; body = v } ∷ map unplaced_definition r.others) u.same ∙ ap (λ vs. unplaced_definition d ∷ vs) r.same;
+    })
 
 -- assignments
 record SameTarget (w : When) (path : Path) (ys : List Token) : Type 0 where
@@ -269,11 +269,11 @@ assignments_again (assignment_then {w = w} {path = path} {t = t} {rest = items} 
     let r = assignments_again m p.back p.back_kinds in
     subst (λ (zs : List Token). SameAssignments (d ∷ items) zs) (sym (g.is ∙ ap (λ zs. g.front ++ zs) (o.is ∙ ap (λ zs. o.token ∷ zs) p.is)))
     (record {
-        others = record { when = w; target = v.other; body = u.expression } ∷ r.others;
-        spelled = assignment_then v.spelled o.token o.kind u.spelled p.token p.kind r.spelled;
-        same = ap (λ x. record { when = w; target = x; body = unplaced u.expression } ∷ map unplaced_assignment r.others) v.same
-        ∙ ap (λ x. record { when = w; target = unplaced_path path; body = x } ∷ map unplaced_assignment r.others) u.same ∙ ap (λ vs. unplaced_assignment d ∷ vs) r.same;
-      })
+      others = record { when = w; target = v.other; body = u.expression } ∷ r.others;
+      spelled = assignment_then v.spelled o.token o.kind u.spelled p.token p.kind r.spelled;
+      same = ap (λ x. record { when = w; target = x; body = unplaced u.expression } ∷ map unplaced_assignment r.others) v.same
+          ∙ ap (λ x. record { when = w; target = unplaced_path path; body = x } ∷ map unplaced_assignment r.others) u.same ∙ ap (λ vs. unplaced_assignment d ∷ vs) r.same;
+    })
 
 -- sections
 record SameElement (d : PlainElement) (ys : List Token) : Type 0 where
@@ -384,11 +384,11 @@ modules_again (module_then {n = n} {ps = ps} {es = ds} {ms = ms} {ys = body} x i
     let r = modules_again m p.back p.back_kinds in
     subst (λ (zs : List Token). SameModules (d ∷ ms) zs) (sym (h.is ∙ ap (λ zs. h.token ∷ zs) (i.is ∙ ap (λ zs. i.token ∷ zs) (g.is ∙ ap (λ zs. g.front ++ zs) p.is))))
     (record {
-        others = record { name = n; place = i.token.place; parameters = v.others; elements = u.others; tokens = length p.front } ∷ r.others;
-        spelled = module_then h.token i.token h.kind i.kind v.spelled u.spelled r.spelled;
-        same = ap (λ x. record { name = n; place = nowhere; parameters = x; elements = map unplaced_element u.others; tokens = 0 } ∷ map unplaced_module r.others) v.same
-        ∙ ap (λ x. record { name = n; place = nowhere; parameters = map unplaced_parameter ps; elements = x; tokens = 0 } ∷ map unplaced_module r.others) u.same ∙ ap (λ vs. unplaced_module d ∷ vs) r.same;
-      })
+      others = record { name = n; place = i.token.place; parameters = v.others; elements = u.others; tokens = length p.front } ∷ r.others;
+      spelled = module_then h.token i.token h.kind i.kind v.spelled u.spelled r.spelled;
+      same = ap (λ x. record { name = n; place = nowhere; parameters = x; elements = map unplaced_element u.others; tokens = 0 } ∷ map unplaced_module r.others) v.same
+          ∙ ap (λ x. record { name = n; place = nowhere; parameters = map unplaced_parameter ps; elements = x; tokens = 0 } ∷ map unplaced_module r.others) u.same ∙ ap (λ vs. unplaced_module d ∷ vs) r.same;
+    })
 
 pub source_again : (source : PlainSource) (end place : Place) (xs ys : List Token) → SpellsSource source end xs → kinds ys ≡ source_kinds source → SpellsSameSource source place ys
 source_again source end place xs ys s e =

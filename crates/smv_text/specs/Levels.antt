@@ -1,9 +1,7 @@
 -- The levels of the grammar of expressions, and the tokens that are operators (NuSMV 2.6 User Manual, 2.2.3). How tightly each
 -- level binds is our own.
-use Rattle.std.specs.Prelude.{ℕ, Bool, false, nat_eq, cond, Option, Some, None, List, [], ◌∷◌}
-use Rattle.smv_text.specs.declared.token.Reserved.{Reserved}
+use Rattle.std.specs.Prelude.{ℕ, nat_eq, cond, Option, Some, None, List, [], ◌∷◌}
 use Rattle.smv_text.specs.declared.token.Reserved.TheVariants as word
-use Rattle.smv_text.specs.declared.token.Sign.{Sign}
 use Rattle.smv_text.specs.declared.token.Sign.TheVariants as sign
 use Rattle.smv_text.specs.declared.token.TokenKind.{TokenKind}
 use Rattle.smv_text.specs.declared.token.TokenKind.TheVariants as kind

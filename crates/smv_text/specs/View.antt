@@ -1,5 +1,5 @@
 -- The plain form that a model of the code stands for.
-use Rattle.std.specs.Prelude.{ℕ, true, false, List, map, Option}
+use Rattle.std.specs.Prelude.{true, false, map}
 use Rattle.text_core.specs.declared.place.Place.{Place}
 use Rattle.smv_text.specs.declared.tree.Infix.{Infix}
 use Rattle.smv_text.specs.declared.tree.Expr.{Expr, Expr-F, fold-Expr}

@@ -5,6 +5,8 @@ mod brackets;
 mod level;
 mod lexing;
 mod numbers;
+#[cfg(test)]
+mod print_tests;
 mod printing;
 mod scan;
 mod signs;

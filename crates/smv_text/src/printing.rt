@@ -8,7 +8,7 @@ ghost use Rattle.smv_text.specs.Ranks.{rank, chain_joint, tree_rank};
 ghost use Rattle.smv_text.specs.Sources.{section_word, SpellsSource};
 ghost use Rattle.smv_text.specs.Lexing.{kinds, LexesTo};
 ghost use Rattle.smv_text.specs.Grammar.{Spells};
-ghost use Rattle.smv_text.specs.Unplaced.{SpellsSame, SpellsSameSource, IsReadAgain};
+ghost use Rattle.smv_text.specs.Unplaced.{unplaced_source, SpellsSame, SpellsSameSource, IsReadAgain};
 ghost use Rattle.smv_text.specs.declared.token.Token.{Token};
 ghost use Rattle.text_core.specs.declared.place.Place.{Place};
 ghost use Rattle.smv_text.specs.Spelling.{spaced, written};
@@ -565,10 +565,11 @@ pub fn print(alloc: Global, source: &Source) -> Result<Text, NoMemory>
 
 /// Tokens of the kinds that are printed spell the same again. Where some tokens spell an expression, all tokens of the
 /// kinds that are printed for it spell one that differs from it in places alone; so do those of a model, which may also
-/// differ in its counts of tokens.
+/// differ in its counts of tokens. Models that differ in nothing else have one printed form.
 pub fn printed_spells()
     ensures expressions { (levels : List Level) (t : Tree) (xs ys : List Token) → Spells levels t xs → kinds ys ≡ tree_kinds t → SpellsSame all_levels t ys }
     ensures sources { (source : PlainSource) (end place : Place) (xs ys : List Token) → SpellsSource source end xs → kinds ys ≡ source_kinds source → SpellsSameSource source place ys }
+    ensures one_text { (source model : PlainSource) → unplaced_source source ≡ unplaced_source model → printed source ≡ printed model }
 {}
 
 /// What is printed for a model that a text spells is lexed and spelled again, as the same model but for its places and its

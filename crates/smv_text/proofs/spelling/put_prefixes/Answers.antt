@@ -1,4 +1,4 @@
-use Rattle.std.proofs.Common.{◌≡◌, ◌++◌, [], ◌∷◌, sym, ap, ◌∙◌, append_assoc}
+use Rattle.std.proofs.Common.{◌++◌, [], ◌∷◌, sym, ap, ◌∙◌, append_assoc}
 use Rattle.smv_text.specs.Levels.{prefix_kind}
 use Rattle.smv_text.specs.Spelling.{spaced}
 use Rattle.smv_text.specs.Printing.{repeated}
