@@ -3,6 +3,7 @@ pub mod Keywords
 pub mod Spellings
 pub mod Laws
 pub mod Answered
+pub mod Fewer
 pub mod Spaces
 pub mod Printed
 pub mod LexedAgain

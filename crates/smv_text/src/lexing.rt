@@ -141,6 +141,8 @@ pub fn lex(alloc: Global, text: &[u8]) -> Result<Tokens, LexEnd>
     ensures lexed { IfOk result (λ tokens. LexesTo text.now tokens.items) }
     // Their list has the place of the text's end.
     ensures end { IfOk result (λ tokens. tokens.end ≡ after start text.now) }
+    // There are no more tokens than bytes.
+    ensures few { IfOk result (λ tokens. length tokens.items ≤ length text.now) }
     // What it lexes to is read, unless memory runs out.
     ensures exact { (ts : List Token) → LexesTo text.now ts → Reads ts result }
     // The refusal is that of the text.

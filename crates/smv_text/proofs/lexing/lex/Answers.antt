@@ -1,3 +1,4 @@
+use Rattle.smv_text.proofs.Fewer.{few_from}
 use Rattle.smv_text.proofs.Laws.{exact_from, stops_from}
 use Rattle.smv_text.proofs.lexing.lex.Goals as goal
 
@@ -6,3 +7,6 @@ returns-clause-exact c = exact_from c.args.text.now _ c.tokens_of.ensures.lexed 
 
 pub returns-clause-stops : goal.returns-clause-stops
 returns-clause-stops c = stops_from c.args.text.now _ c.tokens_of.ensures.lexed c.tokens_of.ensures.refused
+
+pub returns-clause-few : goal.returns-clause-few
+returns-clause-few c = few_from c.args.text.now _ c.tokens_of.ensures.lexed
