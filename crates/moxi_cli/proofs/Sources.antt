@@ -9,10 +9,10 @@ use Rattle.smv_text.specs.Heights.{first_high, of_modules}
 use Rattle.smv_text.specs.Sources.{SpellsSource}
 use Rattle.smv_text.proofs.Laws.{one_lexing, one_lex_refusal}
 use Rattle.smv_text.proofs.Laws as laws
-use Rattle.smv_parse.specs.Answer.{IsSyntaxRefusal}
-use Rattle.smv_parse.proofs.Unique.{one_model}
-use Rattle.smv_parse.proofs.Refusals.{one_syntax_refusal}
-use Rattle.smv_parse.proofs.Refusals as refusals
+use Rattle.smv_parse.specs.declared.source.ParseEnd.TheVariants.{Bad}
+use Rattle.smv_parse.specs.Parsing.{IsRefused}
+use Rattle.smv_parse.proofs.Models.{one_list}
+use Rattle.smv_parse.proofs.Refusals.{one_refusal, refused_not_low}
 use Rattle.btor_tree.specs.declared.lines.TheConstants.{GREATEST_ID}
 use Rattle.btor_tree.specs.Fits.{IsWellFormed}
 use Rattle.btor_tree.specs.Printing.{printed}
@@ -44,7 +44,7 @@ same_source m n e f = ap (λ (ms : List PlainModule). record { modules = ms; end
 same_model : (bytes : List ℕ) (m n : PlainSource) → IsModel bytes m → IsModel bytes n → m ≡ n
 same_model bytes m n a b =
     let spelled = subst (SpellsSource m (after start bytes)) (one_lexing bytes a.tokens b.tokens a.lexed b.lexed) a.spelled in
-    same_source m n (one_model b.tokens m.modules n.modules spelled.0 b.spelled.0) (spelled.1 ∙ sym b.spelled.1)
+    same_source m n (one_list b.tokens m.modules n.modules spelled.0 b.spelled.0) (spelled.1 ∙ sym b.spelled.1)
 
 same_form : (m n : PlainSource) (s t : Source) → m ≡ n → form_of m ≡ Some s → form_of n ≡ Some t → s ≡ t
 same_form m n s t same e f = go (form_of n) (ap form_of (sym same) ∙ e) f
@@ -66,13 +66,14 @@ unfolding btor_text
 text_stands bytes source a =
     let s = both.stands_for source (below_names bytes source a) (few_lines bytes source a) in printed_stands source s.0 s.1
 
--- a refusal of the grammar is none of the words, and none where a model is spelled
-syntax_no_lex : (bytes : List ℕ) (why : Refusal) (tokens : List Token) → LexesTo bytes tokens → (other : Refusal) → IsLexRefusal bytes other → ⊥
-syntax_no_lex bytes why tokens l other r = laws.not_both bytes tokens other l r
+-- the refusal of the grammar, with the place of the text's end
+abbrev pub GrammarRefusal : List ℕ → List Token → Refusal → Type 0
+GrammarRefusal bytes tokens why = IsRefused (record { items = tokens; end = after start bytes }) (Bad why)
 
-syntax_no_model : (bytes : List ℕ) (why : Refusal) (tokens : List Token) (m : PlainSource) → LexesTo bytes tokens → IsSyntaxRefusal tokens (after start bytes) why → IsModel bytes m → ⊥
-syntax_no_model bytes why tokens m l r a =
-    refusals.not_both tokens (after start bytes) why m.modules r (subst (SpellsSource m (after start bytes)) (one_lexing bytes a.tokens tokens a.lexed l) a.spelled).0 a.low
+-- it is none where a model is spelled
+grammar_no_model : (bytes : List ℕ) (why : Refusal) (tokens : List Token) (m : PlainSource) → LexesTo bytes tokens → GrammarRefusal bytes tokens why → IsModel bytes m → ⊥
+grammar_no_model bytes why tokens m l r a =
+    refused_not_low (record { items = tokens; end = after start bytes }) why m.modules r (subst (SpellsSource m (after start bytes)) (one_lexing bytes a.tokens tokens a.lexed l) a.spelled).0 a.low
 
 -- bytes have one refusal
 pub one_smv_refusal : (bytes : List ℕ) (why other : Refusal) → IsSmvRefusal bytes why → IsSmvRefusal bytes other → why ≡ other
@@ -81,16 +82,16 @@ one_smv_refusal bytes why other (inl a) (inr (inl (tokens, lexed, r))) = absurd 
 one_smv_refusal bytes why other (inl a) (inr (inr (m, is, none, e))) = absurd (laws.not_both bytes is.tokens why is.lexed a)
 one_smv_refusal bytes why other (inr (inl (tokens, lexed, r))) (inl b) = absurd (laws.not_both bytes tokens other lexed b)
 one_smv_refusal bytes why other (inr (inl (tokens, lexed, r))) (inr (inl (others, lexed', r'))) =
-    one_syntax_refusal others (after start bytes) why other (subst (λ ts. IsSyntaxRefusal ts (after start bytes) why) (one_lexing bytes tokens others lexed lexed') r) r'
-one_smv_refusal bytes why other (inr (inl (tokens, lexed, r))) (inr (inr (m, is, none, e))) = absurd (syntax_no_model bytes why tokens m lexed r is)
+    one_refusal (record { items = others; end = after start bytes }) why other (subst (λ ts. GrammarRefusal bytes ts why) (one_lexing bytes tokens others lexed lexed') r) r'
+one_smv_refusal bytes why other (inr (inl (tokens, lexed, r))) (inr (inr (m, is, none, e))) = absurd (grammar_no_model bytes why tokens m lexed r is)
 one_smv_refusal bytes why other (inr (inr (m, is, none, e))) (inl b) = absurd (laws.not_both bytes is.tokens other is.lexed b)
-one_smv_refusal bytes why other (inr (inr (m, is, none, e))) (inr (inl (tokens, lexed, r))) = absurd (syntax_no_model bytes other tokens m lexed r is)
+one_smv_refusal bytes why other (inr (inr (m, is, none, e))) (inr (inl (tokens, lexed, r))) = absurd (grammar_no_model bytes other tokens m lexed r is)
 one_smv_refusal bytes why other (inr (inr (m, is, none, e))) (inr (inr (n, is', none', e'))) = e ∙ sym e'
 
 -- and none where they spell a source
 pub not_refused : (bytes : List ℕ) (why : Refusal) (source : Source) → IsSmvRefusal bytes why → Accepts bytes source → ⊥
 not_refused bytes why source (inl a) accepted = laws.not_both bytes accepted.is_model.tokens why accepted.is_model.lexed a
-not_refused bytes why source (inr (inl (tokens, lexed, r))) accepted = syntax_no_model bytes why tokens accepted.model lexed r accepted.is_model
+not_refused bytes why source (inr (inl (tokens, lexed, r))) accepted = grammar_no_model bytes why tokens accepted.model lexed r accepted.is_model
 not_refused bytes why source (inr (inr (m, is, none, e))) accepted = none source accepted
 
 -- what is said of a model that was read

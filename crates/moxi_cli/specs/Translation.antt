@@ -11,7 +11,8 @@ use Rattle.smv_text.specs.Bytes.{start, after}
 use Rattle.smv_text.specs.Tree.{PlainSource}
 use Rattle.smv_text.specs.Heights.{first_high, of_modules}
 use Rattle.smv_text.specs.Sources.{SpellsSource}
-use Rattle.smv_parse.specs.Answer.{IsSyntaxRefusal}
+use Rattle.smv_parse.specs.declared.source.ParseEnd.TheVariants.{Bad}
+use Rattle.smv_parse.specs.Parsing.{IsRefused}
 use Rattle.smv_text.specs.Lexing.{LexesTo, IsLexRefusal}
 use Rattle.moxi_cli.specs.Formulas.{Source}
 use Rattle.moxi_cli.specs.Form.{form_of}
@@ -66,7 +67,7 @@ not_built = record { kind = S 29; place = start }
 abbrev pub IsSmvRefusal : List ℕ → Refusal → Type 0
 IsSmvRefusal bytes refusal =
     IsLexRefusal bytes refusal
-    ⊎ ((tokens : List Token) × LexesTo bytes tokens × IsSyntaxRefusal tokens (after start bytes) refusal)
+    ⊎ ((tokens : List Token) × LexesTo bytes tokens × IsRefused (record { items = tokens; end = after start bytes }) (Bad refusal))
     ⊎ ((model : PlainSource) × IsModel bytes model × ((source : Source) → Accepts bytes source → ⊥) × (refusal ≡ not_built))
 
 -- why a model has no text: its refusal, or want of memory

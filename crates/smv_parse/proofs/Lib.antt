@@ -1,2 +1,13 @@
-pub mod Unique
+pub mod Lawful
+pub mod Mapped
+pub mod Choices
+pub mod Loops
+pub mod Expressions
+pub mod Asked
+pub mod Tokens
+pub mod Lists
+pub mod Types
+pub mod Sections
+pub mod Modules
+pub mod Models
 pub mod Refusals

@@ -1,1 +1,9 @@
-pub mod Answer
+pub mod Marks
+pub mod Kept
+pub mod Ranks
+pub mod Machine
+pub mod Reading
+pub mod Readers
+pub mod Rules
+pub mod Answers
+pub mod Parsing

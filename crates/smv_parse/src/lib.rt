@@ -1,6 +1,14 @@
 //! The parser of SMV models.
 #![tactic(auto)]
 
-mod parser;
+mod expression;
+mod kept;
+mod leaves;
+mod levels;
+mod marks;
+mod module_sections;
+mod module_types;
+mod source;
+mod stop;
 
-pub use parser::{ParseEnd, parse};
+pub use source::{ParseEnd, one_source, parse};
