@@ -1,5 +1,5 @@
 -- An expression as a reader.
-use Rattle.std.proofs.Common.{◌≡◌, ◌⊎◌, inl, inr, ℕ, suc, ◌≤◌, Bool, true, false, Option, Some, None, List, [], ◌∷◌, ◌++◌, length, refl, sym, ap, ◌∙◌, subst, arith}
+use Rattle.std.proofs.Common.{◌≡◌, ◌⊎◌, inl, inr, ℕ, suc, ◌≤◌, Bool, true, false, Option, Some, None, Err, List, [], ◌∷◌, ◌++◌, length, refl, sym, ap, ◌∙◌, subst, arith}
 use Rattle.std.proofs.lemmas.List.{length-append}
 use Rattle.std.specs.Prelude.{nat_le, if◌then◌else◌}
 use Rattle.text_core.specs.declared.place.Place.{Place}
@@ -12,6 +12,13 @@ use Rattle.smv_text.specs.Tree.{Tree, number, truth}
 use Rattle.smv_parse.specs.Kept.{Read, cap, kept}
 use Rattle.smv_parse.specs.Machine.{ask, run, took, dead, Outcome, State, Advance, goes, ended, stuck, step, stop, at_end, next, Ends}
 use Rattle.smv_parse.specs.Readers.{Reading, found, died, Reader, expression, from_run, high_or, highs}
+use Rattle.std.specs.Borrow.{Bor}
+use Rattle.smv_parse.specs.declared.kept.Kept.{Kept}
+use Rattle.smv_parse.specs.declared.stop.Stop.{Stop}
+use Rattle.smv_parse.specs.declared.stop.Stop.TheVariants.{Dead, NoMemory}
+use Rattle.smv_parse.specs.Answers.{Loses}
+use Rattle.smv_parse.specs.Reading.{Takes}
+use Rattle.smv_parse.specs.Gathered.{read_of}
 use Rattle.smv_parse.proofs.Expressions.{taken_spells, spelled_taken, dead_begins, one_tree}
 use Rattle.smv_parse.proofs.Lawful.{Sound, Complete, Begun, Lawful, Inhabited, found_same, not_both, same_front, highs_none, died_count}
 
@@ -117,17 +124,17 @@ asked_sound h xs t g rest e = elim (run_ends xs) [
   | inl i ↦
       let m = found_same (sym (expression_reads h xs i.1 i.0 i.2) ∙ e) in
       let p = taken_spells xs i.1 i.0 i.2 in
-      let high : g ≡ high_or h (height p.tree) (place_of p.tree) =
-      sym m.1 ∙ ap (λ (r : Read). high_or h r.height (place_of r.tree)) p.kept ∙ kept_high h p.tree in
+      let high : g ≡ high_or h (height p.t) (place_of p.t) =
+      sym m.1 ∙ ap (λ (r : Read). high_or h r.height (place_of r.tree)) p.kept ∙ kept_high h p.t in
       record {
-        value = p.tree;
-        tokens = p.tokens;
-        split = p.split ∙ ap (λ z. p.tokens ++ z) m.2;
+        value = p.t;
+        tokens = p.ys;
+        split = p.parts ∙ ap (λ z. p.ys ++ z) m.2;
         spells = p.spells;
         high = high;
         same = λ none.
-            let start : h ≡ None = highs_none h (alone p.tree) (sym high ∙ none) in
-            sym m.0 ∙ ap (λ (r : Read). r.tree) p.kept ∙ kept_same p.tree (ap (λ z. high_or z (height p.tree) (place_of p.tree)) (sym start) ∙ sym high ∙ none);
+            let start : h ≡ None = highs_none h (alone p.t) (sym high ∙ none) in
+            sym m.0 ∙ ap (λ (r : Read). r.tree) p.kept ∙ kept_same p.t (ap (λ z. high_or z (height p.t) (place_of p.t)) (sym start) ∙ sym high ∙ none);
       }
   | inr i ↦ absurd (not_both (sym e ∙ expression_dies h xs i.0 i.1))
 ]
@@ -175,10 +182,10 @@ lawful_expression = record {
   begins = λ h xs n e. let b = dead_begins xs n (asked_died h xs n e) in record {
     front = b.front;
     back = b.back;
-    further = b.further;
-    value = b.tree;
-    split = b.split;
-    count = b.count;
+    further = b.zs;
+    value = b.t;
+    split = b.parts;
+    count = b.left;
     spells = b.spells;
   };
   unique = asked_one;
@@ -194,3 +201,7 @@ some_expression = (
   where
     a_number : Token
     a_number = record { kind = kind.Number 0; place = record { line = 1; column = 1; offset = 0 }; length = 1 }
+
+pub expression_loses : (h : Option Place) (xs : List Token) (e : Stop) → Takes {Y = Kept × Bor (List Token)} (λ x. (read_of x.0, x.1.now)) xs (Err e) → Loses (expression h xs) e
+expression_loses h xs (Dead n) f = expression_dies h xs n f
+expression_loses h xs NoMemory f = tt

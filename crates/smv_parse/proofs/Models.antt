@@ -1,5 +1,5 @@
 -- What the reader of models says of the grammar.
-use Rattle.std.proofs.Common.{◌≡◌, ◌⊎◌, inl, inr, ℕ, zero, suc, ◌+◌, ◌≤◌, ◌<◌, Bool, true, false, Option, Some, None, List, [], ◌∷◌, ◌++◌, length, take, refl, sym, ap, ◌∙◌, subst, append_assoc, arith}
+use Rattle.std.proofs.Common.{◌≡◌, ◌⊎◌, inl, inr, ℕ, zero, suc, ◌+◌, ◌≤◌, ◌<◌, Bool, true, false, Option, Some, None, List, [], ◌∷◌, ◌++◌, length, take, drop, ◌-◌, refl, sym, ap, ◌∙◌, subst, append_assoc, arith}
 use Rattle.std.specs.Prelude.{nat_le, if◌then◌else◌}
 use Rattle.std.proofs.lemmas.List.{append-nil, length-append}
 use Rattle.text_core.specs.declared.place.Place.{Place}
@@ -9,6 +9,12 @@ use Rattle.smv_text.specs.Sources.{SpellsModules, BeginsNone, IsDeadAt}
 use Rattle.smv_text.specs.Tree.{Tree, PlainModule, PlainSource}
 use Rattle.smv_parse.specs.Readers.{Reading, found, died, many, high_or, highs}
 use Rattle.smv_parse.specs.Rules.{module_pick, ended, model}
+use Rattle.text_core.specs.declared.place.Refusal.{Refusal}
+use Rattle.smv_text.specs.Lexing.{TokenList}
+use Rattle.smv_parse.specs.declared.stop.Stop.{Stop}
+use Rattle.smv_parse.specs.declared.stop.Stop.TheVariants.{Dead}
+use Rattle.smv_parse.specs.Answers.{Loses}
+use Rattle.smv_parse.specs.Parsing.{refusal, dead_refusal, IsTooHigh, HasDead}
 use Rattle.smv_parse.proofs.Lawful.{Lawful, found_same, not_both, died_count}
 use Rattle.smv_parse.proofs.Modules.{lawful_modules, of_module, all_modules}
 use Rattle.smv_parse.proofs.Loops.{of_all}
@@ -65,13 +71,13 @@ one_further (f ∷ fs) x back zero e = absurd (omega arith)
 one_further (f ∷ fs) x back (suc i) e = ap (λ z. f ∷ z) (one_further fs x back i (omega arith))
 
 -- where the tokens part: those before the dead one begin a spelling, and with it they begin none
-record Halts (xs : List Token) (n : ℕ) : Type 0 where
-  front : List Token
-  back : List Token
-  split : xs ≡ front ++ back
-  count : length back ≡ n
-  begins : (ms : List PlainModule) × (ys : List Token) × SpellsModules ms (front ++ ys)
-  stays : (x : Token) (others : List Token) → back ≡ x ∷ others → (ms : List PlainModule) (ys : List Token) → SpellsModules ms (front ++ x ∷ ys) → ⊥
+pub record Halts (xs : List Token) (n : ℕ) : Type 0 where
+  pub front : List Token
+  pub back : List Token
+  pub split : xs ≡ front ++ back
+  pub count : length back ≡ n
+  pub begins : (ms : List PlainModule) × (ys : List Token) × SpellsModules ms (front ++ ys)
+  pub stays : (x : Token) (others : List Token) → back ≡ x ∷ others → (ms : List PlainModule) (ys : List Token) → SpellsModules ms (front ++ x ∷ ys) → ⊥
 
 died_halts : (xs : List Token) (n : ℕ) → reading xs ≡ died n → Halts xs n
 died_halts xs n e =
@@ -147,3 +153,60 @@ dead_at xs n i e at =
         go (x ∷ others) same =
             h.stays x others same ms ys
             (subst (SpellsModules ms) (ap (λ z. z ++ ys) (ap (take (suc i)) (h.split ∙ ap (λ z. h.front ++ z) same) ∙ one_further h.front x others i here) ∙ append_assoc h.front (x ∷ []) ys) d)
+
+-- what the code finds, told by all tokens
+pub model_within : (xs : List Token) (n : ℕ) → model xs ≡ died n → n ≤ length xs
+model_within xs n e =
+    let h = model_halts xs n e in
+    let lengths : length xs ≡ length (h.front ++ h.back) = ap length h.split in
+    let count : length h.back ≡ n = h.count in
+    omega (arith, length-append h.front h.back)
+
+pub rest_dies : (xs : List Token) (ms : List PlainModule) (g : Option Place) (rest : List Token) → reading xs ≡ found ms g rest → 0 < length rest → model xs ≡ died (length rest)
+unfolding model
+rest_dies xs ms g [] e some = absurd (omega arith)
+rest_dies xs ms g (x ∷ others) e some = ap ended e
+
+pub left_dies : (xs : List Token) (n : ℕ) → reading xs ≡ died n → model xs ≡ died n
+unfolding model
+left_dies xs n e = ap ended e
+
+drop_front : (front back : List Token) (i : ℕ) → length front ≡ i → drop i (front ++ back) ≡ back
+drop_front [] back zero e = refl
+drop_front [] back (suc i) e = absurd (omega arith)
+drop_front (f ∷ fs) back zero e = absurd (omega arith)
+drop_front (f ∷ fs) back (suc i) e = drop_front fs back i (omega arith)
+
+pub rest_is : (xs : List Token) (ms : List PlainModule) (g : Option Place) (rest : List Token) → reading xs ≡ found ms g rest → drop (length xs - length rest) xs ≡ rest
+rest_is xs ms g rest e =
+    let p = lawful_modules.sound None xs ms g rest e in
+    let lengths : length xs ≡ length (p.tokens ++ rest) = ap length p.split in
+    ap (drop (length xs - length rest)) p.split ∙ drop_front p.tokens rest (length xs - length rest) (omega (arith, length-append p.tokens rest))
+
+pub all_read : (xs : List Token) (ms : List PlainModule) (g : Option Place) (rest : List Token) → reading xs ≡ found ms g rest → length rest ≡ 0 → (h : Option Place) → g ≡ h → reading xs ≡ found ms h []
+all_read xs ms g [] e none h same = e ∙ ap (λ z. found ms z []) same
+all_read xs ms g (x ∷ rest) e none h same = absurd (omega arith)
+
+pub exact_none : (xs : List Token) (ms : List PlainModule) (end : Place) (s : PlainSource) → reading xs ≡ found ms None [] → SpellsModules s.modules xs → s.end ≡ end
+    → (record { modules = ms; end = end } ≡ s) × (first_high (of_modules s.modules) ≡ None)
+exact_none xs ms end s e d ends =
+    let p = spelled_found s.modules xs d in
+    let m = found_same (sym e ∙ p.1) in
+    let low : first_high (of_modules s.modules) ≡ None = sym m.1 in
+    (ap (λ (z : List PlainModule). record { modules = z; end = end }) (m.0 ∙ p.2 low) ∙ ap (λ (z : Place). record { modules = s.modules; end = z }) (sym ends), low)
+
+pub exact_high : (xs : List Token) (ms : List PlainModule) (q : Place) (s : PlainSource) → reading xs ≡ found ms (Some q) [] → SpellsModules s.modules xs → first_high (of_modules s.modules) ≡ Some q
+exact_high xs ms q s e d = let p = spelled_found s.modules xs d in let m = found_same (sym e ∙ p.1) in sym m.1
+
+pub is_too_high : (tokens : TokenList) (ms : List PlainModule) (q : Place) (why : Refusal) → reading tokens.items ≡ found ms (Some q) [] → why ≡ refusal 7 q → IsTooHigh tokens why
+is_too_high tokens ms q why e is =
+    let p = found_high tokens.items ms q e in
+    record { source = record { modules = p.0; end = tokens.end }; spelled = (p.1, refl); place = q; first = p.2; is = is }
+
+pub has_dead : (tokens : TokenList) (n : ℕ) (why : Refusal) → model tokens.items ≡ died n → why ≡ dead_refusal tokens.end (drop (length tokens.items - n) tokens.items) → HasDead tokens why
+has_dead tokens n why e is =
+    let within : n ≤ length tokens.items = model_within tokens.items n e in
+    record { index = length tokens.items - n; dead = dead_at tokens.items n (length tokens.items - n) e (omega arith); is = is }
+
+pub lost : {A : Type 0} (o : Reading A) (e : Stop) (n : ℕ) → e ≡ Dead n → Loses o e → o ≡ died n
+lost o e n same l = subst (Loses o) same l

@@ -39,7 +39,7 @@ use Rattle.smv_parse.proofs.Tokens.{token, sign_is, word_is, name_is, lawful_as,
 use Rattle.smv_parse.proofs.Lists.{Behind, behind_law, Listed, lawful_listed, some_listed, Bracketed, no_brackets, empty_brackets, in_brackets, NotOpen, lawful_bracketed}
 
 -- what ends a section: a word that begins the next one or the next module, or the end
-abbrev closes : TokenKind → Bool
+abbrev pub closes : TokenKind → Bool
 closes (kind.Reserved words.Module) = true
 closes (kind.Reserved words.Var) = true
 closes (kind.Reserved words.Ivar) = true
@@ -53,7 +53,7 @@ closes (kind.Reserved words.Invar) = true
 closes (kind.Reserved words.Invarspec) = true
 closes _ = false
 
-abbrev Closed : List Token → Type 0
+abbrev pub Closed : List Token → Type 0
 Closed [] = Unit {0}
 Closed (x ∷ xs) = closes x.kind ≡ true
 
@@ -101,7 +101,7 @@ closed_assignments [] c = tt
 closed_assignments (x ∷ xs) c = (facts x.kind x.place c).5
 
 -- a semicolon, or nothing
-abbrev OptionalAt : Unit {0} → List Token → Type 0
+abbrev pub OptionalAt : Unit {0} → List Token → Type 0
 OptionalAt u ys = IsOptional ys
 
 abbrev NotSemicolon : List Token → Type 0
@@ -128,10 +128,10 @@ lawful_optional = lawful_as optional (Either (Behind signs.Semicolon (Nothing tt
     optional_to optional_from
 
 -- a constraint
-abbrev constraint_of : Tree × Unit {0} → Tree
+abbrev pub constraint_of : Tree × Unit {0} → Tree
 constraint_of q = q.0
 
-abbrev ConstraintAt : Tree → List Token → Type 0
+abbrev pub ConstraintAt : Tree → List Token → Type 0
 ConstraintAt = Made constraint_of (Both (Spells all_levels) OptionalAt)
 
 optional_ends : (u : Unit {0}) (zs rest : List Token) → IsOptional zs → Closed rest → Ends (zs ++ rest)
@@ -201,7 +201,7 @@ constraint_opens t zs rest d stop =
     let o = expression_opens d.0.0 q.0 q.3 in
     subst (λ z. NotLabel (z ++ rest)) (sym (q.2 ∙ ap (λ z. z ++ q.1) o.split)) (not_label o.first.kind o.first.place o.not_name)
 
-abbrev specification_of : Option (List ℕ) × Tree → PlainElement
+abbrev pub specification_of : Option (List ℕ) × Tree → PlainElement
 specification_of q = spec q.0 q.1
 
 some_constraint : Inhabited ConstraintAt
@@ -225,7 +225,7 @@ names_from no_names = none
 names_from (name_then {n = n} comma x c e m) = more {ys = x ∷ []} comma (c, ((n, x.place), refl, (x, refl, e, refl))) (names_from m)
 
 -- sections
-abbrev ElementAt : TokenKind → Place → PlainElement → List Token → Type 0
+abbrev pub ElementAt : TokenKind → Place → PlainElement → List Token → Type 0
 ElementAt (kind.Reserved words.Var) p e ys = Made (vars State) (SpellsItems State) e ys
 ElementAt (kind.Reserved words.Ivar) p e ys = Made (vars Input) (SpellsItems Input) e ys
 ElementAt (kind.Reserved words.Frozenvar) p e ys = Made (vars Frozen) (SpellsItems Frozen) e ys
@@ -242,7 +242,7 @@ variables_law : (k : VarKind) → Lawful (mapped (vars k) (many (item_pick k))) 
 variables_law k = lawful_made (vars k) (many (item_pick k)) (SpellsItems k) (of_all of_item) of_element Closed
     (lawful_before (many (item_pick k)) (SpellsItems k) (of_all of_item) (Unpicked (item_pick k)) Closed (lawful_items k) (closed_items k)) (λ is. sym (all_items is))
 
-element_law : (k : TokenKind) (p : Place) → PickLaw (element_pick k p) (ElementAt k p) of_element Closed
+pub element_law : (k : TokenKind) (p : Place) → PickLaw (element_pick k p) (ElementAt k p) of_element Closed
 element_law (kind.Reserved words.Var) p = variables_law State
 element_law (kind.Reserved words.Ivar) p = variables_law Input
 element_law (kind.Reserved words.Frozenvar) p = variables_law Frozen
@@ -339,7 +339,7 @@ elements_from no_elements = none
 elements_from (element_then {e = e} {xs = xs} {ys = zs} d m) = let p = element_from e xs d in carried (Many ElementAt) refl (ap (λ z. z ++ zs) (sym p.2)) (more {ys = p.1} p.0 p.3 (elements_from m))
 
 -- the next module, or the end
-abbrev Outside : List Token → Type 0
+abbrev pub Outside : List Token → Type 0
 Outside [] = Unit {0}
 Outside (x ∷ xs) = x.kind ≡ kind.Reserved words.Module
 
@@ -361,19 +361,19 @@ all_elements [] = refl
 all_elements (e ∷ es) = ap (λ z. of_element e ++ z) (all_elements es)
 
 -- modules
-abbrev Parts : Type 0
+abbrev pub Parts : Type 0
 Parts = (List ℕ × Place) × (List Parameter × (ℕ × List PlainElement))
 
-abbrev module_of : Parts → PlainModule
+abbrev pub module_of : Parts → PlainModule
 module_of q = record { name = q.0.0; place = q.0.1; parameters = q.1.0; elements = q.1.1.1; tokens = q.1.1.0 }
 
 abbrev pub of_module : PlainModule → List Tree
 of_module m = of_elements m.elements
 
-abbrev PartsAt : Parts → List Token → Type 0
+abbrev pub PartsAt : Parts → List Token → Type 0
 PartsAt = Both NameAt (Both SpellsFormals (Counted SpellsElements))
 
-abbrev ModuleAt : TokenKind → Place → PlainModule → List Token → Type 0
+abbrev pub ModuleAt : TokenKind → Place → PlainModule → List Token → Type 0
 ModuleAt (kind.Reserved words.Module) p m ys = Made module_of PartsAt m ys
 ModuleAt _ p m ys = ⊥
 
@@ -395,7 +395,7 @@ lawful_module =
     (([], (0, [])), [], ([], [], refl, no_formals, (no_elements, refl))) (λ w zs rest d stop. tt))
     (λ q. sym (ap (λ z. z ++ of_all of_element q.1.1.1) (all_none q.1.0) ∙ all_elements q.1.1.1))
 
-module_law : (k : TokenKind) (p : Place) → PickLaw (module_pick k p) (ModuleAt k p) of_module Outside
+pub module_law : (k : TokenKind) (p : Place) → PickLaw (module_pick k p) (ModuleAt k p) of_module Outside
 module_law (kind.Reserved words.Module) p = lawful_module
 module_law _ p = λ v ys d. d
 

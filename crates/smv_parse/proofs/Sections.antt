@@ -63,19 +63,19 @@ named_law {A} pick Q of stops r l k p is no_pick = go k refl
     go (kind.Sign s) e = other (λ n f. let g : kind.Sign s ≡ kind.Ident n = sym e ∙ f in cc)
 
 -- declarations
-abbrev Domained : Type 0
+abbrev pub Domained : Type 0
 Domained = (Unit {0} × Place) × ((Place × PlainDomain) × (Unit {0} × Place))
 
-abbrev item_of : List ℕ → Place → Domained → PlainItem
+abbrev pub item_of : List ℕ → Place → Domained → PlainItem
 item_of n p q = record { name = n; place = p; domain = q.1.0.1; domain_place = q.1.0.0 }
 
 abbrev pub of_item : PlainItem → List Tree
 of_item i = of_domain i.domain
 
-abbrev DomainedAt : VarKind → Domained → List Token → Type 0
+abbrev pub DomainedAt : VarKind → Domained → List Token → Type 0
 DomainedAt k = Both (SignAt signs.Colon) (Both (Placed (SpellsDomain k)) (SignAt signs.Semicolon))
 
-abbrev ItemAt : VarKind → List ℕ → Place → PlainItem → List Token → Type 0
+abbrev pub ItemAt : VarKind → List ℕ → Place → PlainItem → List Token → Type 0
 ItemAt k n p = Made (item_of n p) (DomainedAt k)
 
 some_domain : (k : VarKind) → Inhabited (SpellsDomain k)
@@ -97,7 +97,7 @@ lawful_item k n p =
     (((start some.1, some.0), s.0), some.1 ++ s.1, (some.1, s.1, refl, (some.2, refl), s.2)) (λ w zs rest d stop. tt))
     (λ q. sym (append-nil (of_domain q.1.0.1)))
 
-item_law : (k : VarKind) (t : TokenKind) (p : Place) → PickLaw (item_pick k t p) (Named (ItemAt k) t p) of_item Free
+pub item_law : (k : VarKind) (t : TokenKind) (p : Place) → PickLaw (item_pick k t p) (Named (ItemAt k) t p) of_item Free
 item_law k t p = named_law (item_pick k) (ItemAt k) of_item Free (item k) (lawful_item k) t p (λ n e. ap (λ z. item_pick k z p) e) (none_picked t)
   where
     none_picked : (t : TokenKind) → ((n : List ℕ) → t ≡ kind.Ident n → ⊥) → item_pick k t p ≡ None
@@ -135,10 +135,10 @@ lawful_items k = lawful_as (many (item_pick k)) (Many (Named (ItemAt k))) (Spell
     (λ v ys d. items_to d) (λ v ys d. items_from d)
 
 -- what is assigned
-abbrev BodyAt : Tree → List Token → Type 0
+abbrev pub BodyAt : Tree → List Token → Type 0
 BodyAt = Made (λ (q : (Unit {0} × Place) × (Tree × (Unit {0} × Place))). q.1.0) (Both (SignAt signs.Assign) (Both (Spells all_levels) (SignAt signs.Semicolon)))
 
-lawful_body : Lawful body BodyAt alone Free
+pub lawful_body : Lawful body BodyAt alone Free
 unfolding body
 lawful_body =
     let s = some_sign signs.Semicolon in
@@ -183,16 +183,16 @@ body_from : (t : Tree) (xs : List Token) (assign semi : Token) → IsSign signs.
 body_from t xs assign semi a e s = (((tt, assign.place), (t, (tt, semi.place))), refl, (assign ∷ [], xs ++ semi ∷ [], refl, (assign, refl, a, refl), (xs, semi ∷ [], refl, e, (semi, refl, s, refl))))
 
 -- definitions
-abbrev definition_of : List ℕ → Place → Tree → PlainDefinition
+abbrev pub definition_of : List ℕ → Place → Tree → PlainDefinition
 definition_of n p t = record { name = n; place = p; body = t }
 
 abbrev pub of_definition : PlainDefinition → List Tree
 of_definition d = d.body ∷ []
 
-abbrev DefinitionAt : List ℕ → Place → PlainDefinition → List Token → Type 0
+abbrev pub DefinitionAt : List ℕ → Place → PlainDefinition → List Token → Type 0
 DefinitionAt n p = Made (definition_of n p) BodyAt
 
-definition_law : (t : TokenKind) (p : Place) → PickLaw (definition_pick t p) (Named DefinitionAt t p) of_definition Free
+pub definition_law : (t : TokenKind) (p : Place) → PickLaw (definition_pick t p) (Named DefinitionAt t p) of_definition Free
 definition_law t p = named_law definition_pick DefinitionAt of_definition Free (λ n p. mapped (definition_of n p) body)
     (λ n p. lawful_made (definition_of n p) body BodyAt alone of_definition Free lawful_body (λ q. refl)) t p (λ n e. ap (λ z. definition_pick z p) e) (none_picked t)
   where
@@ -252,13 +252,13 @@ lawful_steps = lawful_as (many (behind signs.Dot symbol)) (Many (Behind signs.Do
     (λ rest stop. (stop, tt)) (λ x v ys zs d. tt))
     (λ v ys d. steps_to d) (λ v ys d. steps_from d)
 
-abbrev path_of : List ℕ → Place → List (List ℕ) → Path
+abbrev pub path_of : List ℕ → Place → List (List ℕ) → Path
 path_of n p ns = record { from_self = false; names = n ∷ ns; place = p }
 
-abbrev self_path : Place → List (List ℕ) → Path
+abbrev pub self_path : Place → List (List ℕ) → Path
 self_path p ns = record { from_self = true; names = ns; place = p }
 
-abbrev PathAt : TokenKind → Place → Path → List Token → Type 0
+abbrev pub PathAt : TokenKind → Place → Path → List Token → Type 0
 PathAt (kind.Ident n) p q ys = Made (path_of n p) SpellsSteps q ys
 PathAt (kind.Reserved words.Itself) p q ys = Made (self_path p) SpellsSteps q ys
 PathAt _ p q ys = ⊥
@@ -287,19 +287,19 @@ path_to q ys (inl d) = subst (SpellsPath q) (sym d.2) (path_at_to d.0 q d.1 d.3)
 some_path : Inhabited SpellsPath
 some_path = (path_of [] (token (kind.Ident [])).place [], token (kind.Ident []) ∷ [], from_name (token (kind.Ident [])) refl no_steps)
 
-lawful_path : Lawful path SpellsPath of_none NotDot
+pub lawful_path : Lawful path SpellsPath of_none NotDot
 unfolding path
 lawful_path = lawful_as path (Either PathAt Never) SpellsPath of_none NotDot
     (lawful_switch path_pick PathAt of_none NotDot path_law (some_path.0, some_path.1, path_from some_path.0 some_path.1 some_path.2)) path_to (λ q ys d. inl (path_from q ys d))
 
 -- the left side of an assignment
-abbrev Shut : Type 0
+abbrev pub Shut : Type 0
 Shut = (Unit {0} × Place) × (Path × (Unit {0} × Place))
 
-abbrev enclosed_of : When → Shut → When × Path
+abbrev pub enclosed_of : When → Shut → When × Path
 enclosed_of w q = (w, q.1.0)
 
-abbrev EnclosedAt : When → When × Path → List Token → Type 0
+abbrev pub EnclosedAt : When → When × Path → List Token → Type 0
 EnclosedAt w = Made (enclosed_of w) (Both (SignAt signs.Open) (Both SpellsPath (SignAt signs.Close)))
 
 close_after : (w : Unit {0} × Place) (zs rest : List Token) (s : Sign) → SignAt s w zs → is_sign signs.Dot (kind.Sign s) ≡ false → NotDot (zs ++ rest)
@@ -315,10 +315,10 @@ lawful_enclosed w =
     ((some_path.0, s.0), some_path.1 ++ s.1, (some_path.1, s.1, refl, some_path.2, s.2)) (λ w zs rest d stop. tt))
     (λ q. refl)
 
-abbrev always_of : Path → When × Path
+abbrev pub always_of : Path → When × Path
 always_of q = (Always, q)
 
-abbrev TargetAt : TokenKind → Place → When × Path → List Token → Type 0
+abbrev pub TargetAt : TokenKind → Place → When × Path → List Token → Type 0
 TargetAt (kind.Reserved words.Initial) p v ys = EnclosedAt First v ys
 TargetAt (kind.Reserved words.Next) p v ys = EnclosedAt Following v ys
 TargetAt k p v ys = Made always_of (PathAt k p) v ys
@@ -367,13 +367,13 @@ target_from w q ys (following_target {xs = xs} x opening i o d closing c) =
     (x, opening ∷ (xs ++ closing ∷ []), refl, subst (λ k. TargetAt k x.place (Following, q) (opening ∷ (xs ++ closing ∷ []))) (sym i) (enclosed_from Following q opening closing xs o d c))
 
 -- assignments
-abbrev assignment_of : (When × Path) × Tree → PlainAssignment
+abbrev pub assignment_of : (When × Path) × Tree → PlainAssignment
 assignment_of q = record { when = q.0.0; target = q.0.1; body = q.1 }
 
 abbrev pub of_assignment : PlainAssignment → List Tree
 of_assignment a = a.body ∷ []
 
-abbrev AssignmentAt : TokenKind → Place → PlainAssignment → List Token → Type 0
+abbrev pub AssignmentAt : TokenKind → Place → PlainAssignment → List Token → Type 0
 AssignmentAt k p = Made assignment_of (Both (TargetAt k p) BodyAt)
 
 body_follows : (w : Tree) (zs rest : List Token) → BodyAt w zs → Free rest → NotDot (zs ++ rest)
@@ -385,7 +385,7 @@ assigned_law None Q l = λ v ys d. l d.0.0 d.2.0 d.2.3
 assigned_law (Some r) Q l = lawful_made assignment_of (both r body) (Both Q BodyAt) (of_both of_none alone) of_assignment Free
     (lawful_both r body Q BodyAt of_none alone NotDot Free l lawful_body some_body body_follows) (λ q. refl)
 
-assignment_law : (k : TokenKind) (p : Place) → PickLaw (assignment_pick k p) (AssignmentAt k p) of_assignment Free
+pub assignment_law : (k : TokenKind) (p : Place) → PickLaw (assignment_pick k p) (AssignmentAt k p) of_assignment Free
 assignment_law k p = assigned_law (target_pick k p) (TargetAt k p) (target_law k p)
 
 assignments_to : {rest : List PlainAssignment} {ys : List Token} → Many AssignmentAt rest ys → SpellsAssignments rest ys

@@ -2,6 +2,7 @@ pub mod Marks
 pub mod Kept
 pub mod Ranks
 pub mod Machine
+pub mod Gathered
 pub mod Reading
 pub mod Readers
 pub mod Rules

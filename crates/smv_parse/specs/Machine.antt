@@ -25,10 +25,13 @@ use Rattle.smv_parse.specs.declared.levels.Leader.TheVariants as leader
 use Rattle.smv_parse.specs.Marks.{is_sign, is_word}
 use Rattle.smv_parse.specs.Kept.{Read, cap}
 
+abbrev pub prefix_sign : Prefix → Sign
+prefix_sign prefixes.Not = sign.Not
+prefix_sign prefixes.Minus = sign.Minus
+
 -- the token is the sign of this prefix
 abbrev pub is_prefix : Prefix → TokenKind → Bool
-is_prefix prefixes.Not x = is_sign sign.Not x
-is_prefix prefixes.Minus x = is_sign sign.Minus x
+is_prefix pre x = is_sign (prefix_sign pre) x
 
 -- the operands of a chain so far, the first alone
 pub record Chained : Type 0 where
@@ -218,32 +221,35 @@ abbrev pub after_sign : Prefix → List Level → Place → ℕ → List Frame �
 after_sign pre below p n k q x = cond (is_prefix pre x) (onto (signed pre below p (suc n) k)) (begin below (signs pre below p n ∷ k) q x)
 
 -- the levels below that of the minus, and what waits over it
-abbrev pub minus_below : List Level → List Level
-minus_below [] = []
-minus_below (Chain j ∷ below) = minus_below below
-minus_below (Choice ∷ below) = minus_below below
-minus_below (Range ∷ below) = minus_below below
-minus_below (Before prefixes.Minus ∷ below) = below
-minus_below (Before prefixes.Not ∷ below) = minus_below below
-minus_below (Selection ∷ below) = minus_below below
+abbrev pub minus_to : List Level → Place → List Frame → Option (List Level × List Frame)
+minus_to [] p k = None
+minus_to (Chain j ∷ below) p k = minus_to below p (operand j below p bare ∷ k)
+minus_to (Choice ∷ below) p k = minus_to below p (when below p [] ∷ k)
+minus_to (Range ∷ below) p k = minus_to below p k
+minus_to (Before prefixes.Minus ∷ below) p k = Some (below, k)
+minus_to (Before prefixes.Not ∷ below) p k = minus_to below p k
+minus_to (Selection ∷ below) p k = minus_to below p (selected p ∷ k)
 
-abbrev pub minus_pushed : List Level → Place → List Frame → List Frame
-minus_pushed [] p k = k
-minus_pushed (Chain j ∷ below) p k = minus_pushed below p (operand j below p bare ∷ k)
-minus_pushed (Choice ∷ below) p k = minus_pushed below p (when below p [] ∷ k)
-minus_pushed (Range ∷ below) p k = minus_pushed below p k
-minus_pushed (Before prefixes.Minus ∷ below) p k = k
-minus_pushed (Before prefixes.Not ∷ below) p k = minus_pushed below p k
-minus_pushed (Selection ∷ below) p k = minus_pushed below p (selected p ∷ k)
-
--- a minus and a number were read, before what is no range: what waits for the number
-abbrev pub number_pushed : List Level → Place → List Frame → Place → List Frame
-number_pushed below p k q = pushed (minus_below below) q (signs prefixes.Minus (minus_below below) p 1 ∷ minus_pushed below p k)
+abbrev pub after_one : Option (List Level × List Frame) → Place → Place → TokenKind → Move
+after_one None p q x = nowhere
+after_one (Some f) p q x = after_sign prefixes.Minus f.0 p 1 f.1 q x
 
 -- a minus was read where an expression of these levels begins, and a token comes
 abbrev pub after_minus : List Level → Place → List Frame → Place → TokenKind → Move
 after_minus below p k q (kind.Number n) = onto (negative below p q n k)
-after_minus below p k q x = after_sign prefixes.Minus (minus_below below) p 1 (minus_pushed below p k) q x
+after_minus below p k q x = after_one (minus_to below p k) p q x
+
+-- a minus and a number were read, before what is no range: what waits for the number
+abbrev pub number_pushed : Place → Place → List Level × List Frame → List Frame
+number_pushed p q f = pushed f.0 q (signs prefixes.Minus f.0 p 1 ∷ f.1)
+
+abbrev pub number_gives : Option (List Level × List Frame) → Place → Place → ℕ → TokenKind → Move
+number_gives None p q n x = nowhere
+number_gives (Some f) p q n x = give (number_pushed p q f) (number q n) x
+
+abbrev pub number_halts : Option (List Level × List Frame) → Place → Place → ℕ → Option Tree
+number_halts None p q n = None
+number_halts (Some f) p q n = finish (number_pushed p q f) (number q n)
 
 abbrev pub expects : Bool → State → Move
 expects true s = onto s
@@ -274,7 +280,7 @@ move (signed pre below p n k) x = after_sign pre below p n k x.place x.kind
 move (integer below p n k) x = cond (is_sign sign.Range x.kind) (onto (upto p (pos n) k)) (give (pushed below p k) (number p n) x.kind)
 move (minus below p k) x = after_minus below p k x.place x.kind
 move (negative below p q n k) x =
-    cond (is_sign sign.Range x.kind) (onto (upto p (pos 0 -ℤ pos n) k)) (give (number_pushed below p k q) (number q n) x.kind)
+    cond (is_sign sign.Range x.kind) (onto (upto p (pos 0 -ℤ pos n) k)) (number_gives (minus_to below p k) p q n x.kind)
 move (upto p low k) x = range_end p low k x.kind
 move (upto_minus p low k) x = take_number x.kind (λ n. have (range p low (pos 0 -ℤ pos n)) k)
 move (named path k) x = cond (is_sign sign.Dot x.kind) (onto (dotted path k)) (give k (name path.place path) x.kind)
@@ -291,7 +297,7 @@ move (case_goes p bs k) x = cond (is_word word.Esac x.kind) (onto (have (cases p
 abbrev pub halt : State → Option Tree
 halt (have t k) = finish k t
 halt (integer below p n k) = finish (pushed below p k) (number p n)
-halt (negative below p q n k) = finish (number_pushed below p k q) (number q n)
+halt (negative below p q n k) = number_halts (minus_to below p k) p q n
 halt (named path k) = finish k (name path.place path)
 halt _ = None
 

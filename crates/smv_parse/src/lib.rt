@@ -2,6 +2,8 @@
 #![tactic(auto)]
 
 mod expression;
+#[cfg(test)]
+mod expression_tests;
 mod kept;
 mod leaves;
 mod levels;
@@ -9,6 +11,8 @@ mod marks;
 mod module_sections;
 mod module_types;
 mod source;
+#[cfg(test)]
+mod source_tests;
 mod stop;
 
 pub use source::{ParseEnd, one_source, parse};

@@ -6,9 +6,10 @@ ghost use Rattle.smv_text.specs.declared.token.Sign.TheVariants as sign;
 ghost use Rattle.smv_text.specs.declared.token.TokenKind.TheVariants as kind;
 ghost use Rattle.smv_text.specs.declared.tree.VarKind.{VarKind};
 ghost use Rattle.smv_text.specs.Grammar.{start};
+ghost use Rattle.smv_text.specs.Heights.{place_of};
 ghost use Rattle.smv_text.specs.View.{plain, plain_domain};
 ghost use Rattle.smv_parse.specs.Answers.{Gives, first_is, is_name};
-ghost use Rattle.smv_parse.specs.Readers.{expression, picked, died};
+ghost use Rattle.smv_parse.specs.Readers.{expression, high_or, picked, died};
 ghost use Rattle.smv_parse.specs.Rules.{name, parameter, symbol, listed, bracketed, member, width, interval, domain, domain_pick, instance_pick};
 
 use crate::expression::expression;
@@ -80,17 +81,30 @@ pub(crate) fn kept_expression<'a>(
     ensures shorter { IfOk result (λ y. length y.2.now < length tokens.now) }
 {
     let (kept, rest) = expression(alloc, tokens)?;
-    let high = match high {
-        Some(place) => Some(place),
+    let high_now = high_after(high, kept.height, place_of(&kept.expr));
+    Ok((kept.expr, high_now, rest))
+}
+
+// The first place that is too high, where an expression of this height stands here.
+fn high_after(high: Option<Place>, height: u32, place: Place) -> Option<Place>
+    ensures { result ≡ high_or high height place }
+{
+    match high {
+        Some(first) => Some(first),
         None => {
-            if kept.height <= MOST_HEIGHT {
+            if height <= MOST_HEIGHT {
                 None
             } else {
-                Some(kept.expr.place)
+                Some(place)
             }
         }
-    };
-    Ok((kept.expr, high, rest))
+    }
+}
+
+fn place_of(expr: &Expr) -> Place
+    ensures { result ≡ place_of (plain expr.now) }
+{
+    expr.place
 }
 
 /// The parameters of a module's head: none, or those in brackets.

@@ -1,0 +1,17 @@
+use Rattle.std.proofs.Common.{◌≡◌, ◌<◌, ◌≤◌, Option, List, map, length}
+use Rattle.text_core.specs.declared.place.Place.{Place}
+use Rattle.smv_text.specs.declared.token.Sign.TheVariants as signs
+use Rattle.smv_text.specs.View.{plain, plain_item, plain_definition, plain_assignment, plain_element, plain_module}
+use Rattle.smv_parse.specs.Readers.{many, expression}
+use Rattle.smv_parse.specs.Rules.{behind, listed, parameter, member, symbol, item_pick, definition_pick, assignment_pick, element_pick, module_pick}
+use Rattle.smv_parse.proofs.Leads.{closed_by, onto}
+use Rattle.smv_parse.proofs.module_types.arguments.Given as goal
+
+abbrev pub invariant-loop-more : goal.invariant-loop-more
+invariant-loop-more l = record {
+  reads : listed expression signs.Close l.fn.high l.tokens ≡ closed_by signs.Close (onto (map plain l.all.items) (many (behind signs.Comma expression) l.high l.rest));
+  within : length l.rest ≤ length l.tokens;
+}
+
+abbrev pub decreases-loop-more : goal.decreases-loop-more
+decreases-loop-more l = length l.rest
