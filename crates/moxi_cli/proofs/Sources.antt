@@ -11,7 +11,7 @@ use Rattle.smv_text.proofs.Laws.{one_lexing, one_lex_refusal}
 use Rattle.smv_text.proofs.Laws as laws
 use Rattle.smv_parse.specs.declared.source.ParseEnd.TheVariants.{Bad}
 use Rattle.smv_parse.specs.Parsing.{IsRefused}
-use Rattle.smv_parse.proofs.Models.{one_list}
+use Rattle.smv_parse.proofs.Models.{one_list as one_model}
 use Rattle.smv_parse.proofs.Refusals.{one_refusal, refused_not_low}
 use Rattle.btor_tree.specs.declared.lines.TheConstants.{GREATEST_ID}
 use Rattle.btor_tree.specs.Fits.{IsWellFormed}
@@ -44,7 +44,7 @@ same_source m n e f = ap (λ (ms : List PlainModule). record { modules = ms; end
 same_model : (bytes : List ℕ) (m n : PlainSource) → IsModel bytes m → IsModel bytes n → m ≡ n
 same_model bytes m n a b =
     let spelled = subst (SpellsSource m (after start bytes)) (one_lexing bytes a.tokens b.tokens a.lexed b.lexed) a.spelled in
-    same_source m n (one_list b.tokens m.modules n.modules spelled.0 b.spelled.0) (spelled.1 ∙ sym b.spelled.1)
+    same_source m n (one_model b.tokens m.modules n.modules spelled.0 b.spelled.0) (spelled.1 ∙ sym b.spelled.1)
 
 same_form : (m n : PlainSource) (s t : Source) → m ≡ n → form_of m ≡ Some s → form_of n ≡ Some t → s ≡ t
 same_form m n s t same e f = go (form_of n) (ap form_of (sym same) ∙ e) f

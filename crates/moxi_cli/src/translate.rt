@@ -76,6 +76,7 @@ fn source_of_tokens(alloc: Global, bytes: &[u8], tokens: &Tokens) -> Result<Sour
     requires within { length bytes.now ≤ SMV_LIMIT }
     requires lexed { LexesTo bytes.now tokens.now.items }
     requires end { tokens.now.end ≡ after start bytes.now }
+    requires few { length tokens.now.items ≤ length bytes.now }
     ensures accepted { IfOk result (λ source. Accepts bytes.now (source_of source)) }
     ensures refused { IfErr result (IsModelEnd bytes.now) }
 {
@@ -97,7 +98,10 @@ fn source_of_model(
     ensures accepted { IfOk result (λ source. Accepts bytes.now (source_of source)) }
     ensures refused { IfErr result (IsModelEnd bytes.now) }
 {
-    if tokens.len() > MOST_TOKENS || !has_no_brackets(tokens.as_slice()) {
+    if tokens.len() > MOST_TOKENS {
+        return Err(ModelEnd::Refused(refusal(Kind::S(29))));
+    }
+    if !has_no_brackets(tokens.as_slice()) {
         return Err(ModelEnd::Refused(refusal(Kind::S(29))));
     }
     match form_of(alloc, model)? {

@@ -1,11 +1,11 @@
 -- What is kept of an expression, and the heights of chains and branches that grow.
-use Rattle.std.proofs.Common.{◌≡◌, ℕ, zero, suc, ◌+◌, ◌≤◌, ◌<◌, max, min, Bool, true, false, ◌&&◌, if◌then◌else◌, leb, Option, Some, None, is_some, List, [], ◌∷◌, ◌++◌, map, length, refl, sym, ap, ◌∙◌, arith}
+use Rattle.std.proofs.Common.{◌≡◌, ℕ, suc, ◌+◌, ◌≤◌, ◌<◌, max, Bool, true, false, ◌&&◌, if◌then◌else◌, leb, Option, Some, None, is_some, List, [], ◌∷◌, ◌++◌, map, length, refl, ap, ◌∙◌, arith}
 use Rattle.std.proofs.lemmas.Bool.{leb-true, leb-false}
 use Rattle.text_core.specs.declared.place.Place.{Place}
 use Rattle.smv_text.specs.declared.tree.Infix.{Infix}
 use Rattle.smv_text.specs.Tree.{Tree, truth, links_of, branches_of, trees_of}
-use Rattle.smv_text.specs.Heights.{height, highest, highest_link, folded, folded_right, chain_height, branches_height, is_joined, joined_as, all_joined, has_number, is_implied, is_implies, joined_number, link_heights, branch_heights, heights, place_of}
-use Rattle.smv_parse.specs.Kept.{Read, kept, cap, capped, keep_at}
+use Rattle.smv_text.specs.Heights.{height, highest, highest_link, folded, folded_right, chain_height, branches_height, is_joined, joined_as, all_joined, has_number, is_implied, joined_number, link_heights, branch_heights, heights, place_of}
+use Rattle.smv_parse.specs.Kept.{Read, cap, capped, keep_at}
 use Rattle.smv_parse.specs.Gathered.{low, low_link, low_branch, highest_branch, first_number, highest_before, last_height, same_number}
 
 -- what is kept of a tree

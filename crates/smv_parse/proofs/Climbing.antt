@@ -1,5 +1,5 @@
 -- How the machine goes through the levels: down to the first operand, and up to the level that a token goes on with.
-use Rattle.std.proofs.Common.{◌≡◌, ℕ, ℤ, pos, ◌-ℤ◌, zero, suc, ◌+◌, ◌<◌, ◌≤◌, Bool, true, false, ◌&&◌, cond, nat_lt, nat_le, nat_eq, Option, Some, None, option_map, Result, Ok, Err, ◌⊎◌, inl, inr, List, [], ◌∷◌, length, refl, sym, ap, ◌∙◌, subst, arith}
+use Rattle.std.proofs.Common.{◌≡◌, ℕ, ℤ, pos, ◌-ℤ◌, zero, suc, ◌<◌, ◌≤◌, Bool, true, false, ◌&&◌, cond, nat_lt, nat_le, nat_eq, Some, None, option_map, Result, Ok, Err, ◌⊎◌, inl, inr, List, [], ◌∷◌, length, refl, sym, ap, ◌∙◌, subst, arith}
 use Rattle.std.proofs.lemmas.Bool.{ltb-true, ltb-false, lt-ltb, le-ltb, eqb-true, eqb-false, leb-true, le-leb, and_parts}
 use Rattle.text_core.specs.declared.place.Place.{Place}
 use Rattle.smv_text.specs.declared.token.Sign.{Sign}
@@ -11,23 +11,21 @@ use Rattle.smv_text.specs.declared.token.Reserved.TheVariants as word
 use Rattle.smv_text.specs.declared.tree.Path.{Path}
 use Rattle.smv_text.specs.declared.tree.Prefix.{Prefix}
 use Rattle.smv_text.specs.declared.tree.Prefix.TheVariants as prefixes
-use Rattle.smv_text.specs.declared.tree.Infix.{Infix}
 use Rattle.smv_text.specs.declared.level.Joint.{Joint}
 use Rattle.smv_text.specs.declared.level.Level.{Level}
 use Rattle.smv_text.specs.declared.level.Level.TheVariants.{Chain, Choice, Range, Before, Selection}
-use Rattle.smv_text.specs.Levels.{infix_of}
-use Rattle.smv_text.specs.Tree.{Tree, number, name, range}
+use Rattle.smv_text.specs.Tree.{Tree, number}
 use Rattle.smv_text.specs.Grammar.{start}
 use Rattle.smv_parse.specs.declared.levels.Leader.{Leader}
 use Rattle.smv_parse.specs.declared.levels.Leader.TheVariants as leader
 use Rattle.smv_parse.specs.declared.stop.Stop.{Stop}
 use Rattle.smv_parse.specs.declared.stop.Stop.TheVariants.{Dead, NoMemory}
 use Rattle.smv_parse.specs.Marks.{is_sign}
-use Rattle.smv_parse.specs.Kept.{Read, cap}
+use Rattle.smv_parse.specs.Kept.{Read}
 use Rattle.smv_parse.specs.Ranks.{level_at, tightest, level_rank, rank_of, first_rank}
-use Rattle.smv_parse.specs.Machine.{prefix_sign, is_prefix, bare, Frame, operand, when, selected, signs, State, ask, have, signed, integer, minus, negative, upto, high_end, Move, onto, opened, pushed, minus_to, number_pushed, number_gives, primary, leader_of, path_head, longer, begin, begin_integer, after_minus, after_sign, give, Reach, failed, along, walk}
-use Rattle.smv_parse.specs.Reading.{after, joint_after, Found, found, lost, number_at, first_number, negated, first_integer, integer_at, starts_with_dots, dots_behind, starts_range, with_name, path_on, path_step, path_at, first_path, IsLost, waiting, Reads, Dies, Leads, Misses, Selects, SelectsNone}
-use Rattle.smv_parse.proofs.Signs.{after_found, not_minus, sign_is}
+use Rattle.smv_parse.specs.Machine.{prefix_sign, is_prefix, bare, Frame, operand, when, selected, State, ask, have, signed, integer, minus, negative, upto, high_end, Move, onto, opened, pushed, minus_to, number_pushed, number_gives, primary, leader_of, path_head, longer, begin, begin_integer, after_minus, after_sign, give, failed, along, walk}
+use Rattle.smv_parse.specs.Reading.{after, joint_after, found, number_at, first_number, negated, first_integer, integer_at, starts_with_dots, dots_behind, starts_range, with_name, path_on, path_step, path_at, first_path, IsLost, waiting, Dies, Leads, Misses, Selects, SelectsNone}
+use Rattle.smv_parse.proofs.Signs.{after_found, not_minus}
 use Rattle.smv_parse.proofs.Ranked.{no_joint, not_sign, rank_at, EachBelow, each_below}
 use Rattle.smv_parse.proofs.Steps.{operand_goes, chain_goes, when_leaves, selected_leaves, named_on, named_goes, upto_dies}
 

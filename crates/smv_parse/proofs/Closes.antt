@@ -1,5 +1,5 @@
 -- Each state of the machine can come to an end.
-use Rattle.std.proofs.Common.{◌≡◌, ℕ, suc, ◌<◌, ◌≤◌, Bool, false, cond, Option, Some, None, List, [], ◌∷◌, ◌++◌, length, refl, sym, ap, ◌∙◌, arith}
+use Rattle.std.proofs.Common.{◌≡◌, ◌<◌, false, None, List, [], ◌∷◌, ◌++◌, refl, ap, ◌∙◌, arith}
 use Rattle.text_core.specs.declared.place.Place.{Place}
 use Rattle.smv_text.specs.declared.token.Reserved.TheVariants as word
 use Rattle.smv_text.specs.declared.token.Sign.{Sign}
@@ -15,13 +15,11 @@ use Rattle.smv_text.specs.declared.level.Joint.TheVariants as joints
 use Rattle.smv_text.specs.declared.level.Level.{Level}
 use Rattle.smv_text.specs.declared.level.Level.TheVariants.{Chain, Choice, Range, Before, Selection}
 use Rattle.smv_text.specs.Levels.{all_levels}
-use Rattle.smv_text.specs.Tree.{Tree, number, name}
-use Rattle.smv_parse.specs.declared.kept.Listing.{Listing}
+use Rattle.smv_text.specs.Tree.{Tree, name}
 use Rattle.smv_parse.specs.declared.kept.Listing.TheVariants.{Arguments, Elements}
-use Rattle.smv_parse.specs.Marks.{is_sign}
 use Rattle.smv_parse.specs.Ranks.{joint_rank, level_rank, rank_of, first_rank}
-use Rattle.smv_parse.specs.Machine.{prefix_sign, bare, taken, Frame, operand, when, value, signs, selected, bracket, following, listing, condition, result, closing_of, State, ask, have, signed, integer, minus, negative, upto, upto_minus, named, dotted, open_next, open_call, high_end, high_colon, low_end, low_close, case_goes, opened, pushed, longer, Reach, reached, walk}
-use Rattle.smv_parse.specs.Reading.{after, joint_after, path_on, starts_with_dots}
+use Rattle.smv_parse.specs.Machine.{prefix_sign, bare, taken, Frame, operand, when, value, signs, selected, bracket, following, listing, condition, result, closing_of, State, ask, have, signed, integer, minus, negative, upto, upto_minus, named, dotted, open_next, open_call, high_end, high_colon, low_end, low_close, case_goes, pushed, longer, Reach, reached, walk}
+use Rattle.smv_parse.specs.Reading.{after, starts_with_dots}
 use Rattle.smv_parse.proofs.Ranked.{not_sign}
 use Rattle.smv_parse.proofs.First.{path_on-ends}
 use Rattle.smv_parse.proofs.Steps.{chain_goes, operand_goes, when_leaves, value_goes, selected_leaves, signs_fold, signed_ends, bracket_goes, following_goes, listing_ends, condition_goes, result_goes, case_ends, named_on, named_goes, open_next_goes, open_call_goes}

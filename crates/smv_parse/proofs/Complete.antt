@@ -1,5 +1,5 @@
 -- The machine comes to each expression by each of its spellings.
-use Rattle.std.proofs.Common.{◌≡◌, ℕ, ℤ, pos, ◌-ℤ◌, zero, suc, ◌+◌, ◌<◌, ◌≤◌, Bool, true, false, cond, Option, Some, None, option_map, List, [], ◌∷◌, ◌++◌, length, refl, sym, ap, ◌∙◌, append_assoc, subst, arith}
+use Rattle.std.proofs.Common.{◌≡◌, ℕ, ℤ, zero, suc, ◌+◌, ◌<◌, ◌≤◌, true, false, cond, Some, None, option_map, List, [], ◌∷◌, ◌++◌, refl, sym, ap, ◌∙◌, append_assoc, arith}
 use Rattle.std.proofs.lemmas.List.{append-nil}
 use Rattle.text_core.specs.declared.place.Place.{Place}
 use Rattle.smv_text.specs.declared.token.Reserved.TheVariants as word
@@ -18,17 +18,16 @@ use Rattle.smv_text.specs.declared.level.Joint.TheVariants as joints
 use Rattle.smv_text.specs.declared.level.Level.{Level}
 use Rattle.smv_text.specs.declared.level.Level.TheVariants.{Chain, Choice, Range, Before, Selection}
 use Rattle.smv_text.specs.Levels.{all_levels, infix_of, prefix_kind, function_at}
-use Rattle.smv_text.specs.Tree.{Tree, name, cases, call, set, next as next_value, select, range, Links, no_links, link, Branches, no_branches, branch, Trees, no_trees, tree, links_of, branches_of, trees_of}
+use Rattle.smv_text.specs.Tree.{Tree, cases, call, set, select, range, Links, no_links, link, Branches, no_branches, branch, Trees, no_trees, tree, links_of, branches_of, trees_of}
 use Rattle.smv_text.specs.Grammar.{start, Signs, no_signs, sign_then, SpellsInteger, unsigned, negative, SpellsSteps, no_steps, step, SpellsPath, from_name, from_itself, Spells, pass, chains, chooses, ranges, prefixes, selects, is_true, is_false, numbers, literals, names, brackets, nexts, calls, sets, switches, SpellsLinks, no_more, one_more, SpellsBranches, otherwise, picks, SpellsListed, last_one, one_before, SpellsCases, last_case, case_before}
 use Rattle.smv_parse.specs.declared.kept.Listing.{Listing}
 use Rattle.smv_parse.specs.declared.kept.Listing.TheVariants.{Arguments, Elements}
 use Rattle.smv_parse.specs.declared.levels.Leader.TheVariants as leader
 use Rattle.smv_parse.specs.Marks.{is_sign, is_word}
 use Rattle.smv_parse.specs.Ranks.{level_at, tightest, joint_rank, level_rank, rank_of, first_rank}
-use Rattle.smv_parse.specs.Machine.{prefix_sign, is_prefix, Chained, bare, joined, taken, chain_at, choice_at, Frame, operand, when, value, signs, selected, bracket, following, listing, condition, result, closing_of, listed, ask, have, signed, case_goes, opened, longer, leader_of, calling, walk}
-use Rattle.smv_parse.specs.Reading.{after, after_word, joint_after, Found, found, lost, number_at, first_number, negated, integer_at, first_integer, starts_with_dots, dots_behind, starts_range, first_name, name_at, path_on, first_path, path_at}
-use Rattle.smv_parse.proofs.Signs.{sign_is}
-use Rattle.smv_parse.proofs.Ranked.{rank_at, joint_ranks, question_ranks, not_sign, Stops}
+use Rattle.smv_parse.specs.Machine.{prefix_sign, is_prefix, Chained, bare, joined, taken, chain_at, choice_at, Frame, operand, when, value, selected, bracket, following, listing, condition, result, closing_of, listed, ask, have, signed, opened, longer, leader_of, calling, walk}
+use Rattle.smv_parse.specs.Reading.{after, after_word, Found, found, lost, number_at, first_number, negated, integer_at, first_integer, starts_with_dots, dots_behind, starts_range, name_at, path_on, path_at}
+use Rattle.smv_parse.proofs.Ranked.{rank_at, joint_ranks, not_sign, Stops}
 use Rattle.smv_parse.proofs.First.{path_on-step, path_on-ends}
 use Rattle.smv_parse.proofs.Steps.{chained, chain_goes, when_goes, value_goes, selected_goes, bracket_goes, following_goes, condition_goes, result_goes, listing_goes, listing_ends, when_leaves, selected_leaves, signs_fold, operand_goes, signed_goes, open_next_goes, open_call_goes, high_colon_goes, low_close_goes, signed_ends, case_more, case_ends, high_end_goes, low_end_goes, upto_goes, named_on}
 use Rattle.smv_parse.proofs.Climbing.{none_after, none_joined, opened_leaves, chain_begins, choice_begins, selection_begins, IsPlain, passes, prefix_begins, range_goes, leads_by, path_begins}

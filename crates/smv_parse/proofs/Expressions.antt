@@ -6,7 +6,7 @@ use Rattle.smv_text.specs.Levels.{all_levels}
 use Rattle.smv_text.specs.Tree.{Tree}
 use Rattle.smv_text.specs.Grammar.{Spells}
 use Rattle.smv_parse.specs.Kept.{Read, cap}
-use Rattle.smv_parse.specs.Machine.{State, ask, have, Move, onto, behind, nowhere, move, halt, halted, along, Reach, reached, failed, walk, Outcome, took, dead, run, Ends}
+use Rattle.smv_parse.specs.Machine.{State, ask, Move, onto, behind, nowhere, move, halt, halted, along, Reach, reached, failed, walk, took, dead, run, Ends}
 use Rattle.smv_parse.proofs.Ranked.{ends_stop}
 use Rattle.smv_parse.proofs.Running.{outcome, runs, had}
 use Rattle.smv_parse.proofs.Complete.{comes}

@@ -1,15 +1,15 @@
 -- Numbers, integers and paths that come first.
-use Rattle.std.proofs.Common.{◌≡◌, ℕ, ℤ, pos, ◌-ℤ◌, suc, Bool, true, false, cond, Option, Some, None, Result, Ok, Err, List, [], ◌∷◌, length, refl, sym, ap, ◌∙◌, subst}
+use Rattle.std.proofs.Common.{◌≡◌, ℕ, ℤ, pos, suc, Bool, true, false, cond, Some, None, Result, Err, List, [], ◌∷◌, length, refl, sym, ap, ◌∙◌, subst}
 use Rattle.smv_text.specs.declared.token.Sign.TheVariants as sign
 use Rattle.smv_text.specs.declared.token.Token.{Token}
 use Rattle.smv_text.specs.declared.token.TokenKind.{TokenKind}
 use Rattle.smv_text.specs.declared.token.TokenKind.TheVariants as kind
 use Rattle.smv_text.specs.declared.tree.Path.{Path}
 use Rattle.smv_parse.specs.declared.stop.Stop.{Stop}
-use Rattle.smv_parse.specs.declared.stop.Stop.TheVariants.{Dead, NoMemory}
+use Rattle.smv_parse.specs.declared.stop.Stop.TheVariants.{NoMemory}
 use Rattle.smv_parse.specs.Marks.{is_sign}
 use Rattle.smv_parse.specs.Machine.{longer}
-use Rattle.smv_parse.specs.Reading.{after, Finds, Found, found, lost, IsLost, number_at, first_number, negated, first_integer, integer_at, starts_with_dots, dots_behind, starts_range, first_name, name_at, with_name, path_on, path_step}
+use Rattle.smv_parse.specs.Reading.{after, Finds, Found, found, lost, number_at, first_number, negated, first_integer, integer_at, starts_with_dots, dots_behind, starts_range, first_name, name_at, with_name, path_on, path_step}
 use Rattle.smv_parse.proofs.Signs.{sign_is, not_minus}
 
 pub starts_range-number : (x : Token) (xs : List Token) (n : ℕ) → x.kind ≡ kind.Number n → starts_range (x ∷ xs) ≡ starts_with_dots xs

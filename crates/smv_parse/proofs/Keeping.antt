@@ -11,10 +11,9 @@ use Rattle.smv_text.specs.declared.tree.Link.{Link, roll-Link}
 use Rattle.smv_text.specs.declared.tree.Branch.{Branch, roll-Branch}
 use Rattle.smv_text.specs.declared.tree.Shape.{True, False, Number, Literal, Name, Range, Chain, Choice, Case, Call, Set, the_lemmas}
 use Rattle.smv_text.specs.Tree.{Tree, truth, number, literal, name, range, chain, choice, cases, call, set, links_of, branches_of, trees_of}
-use Rattle.smv_text.specs.Heights.{height, highest, chain_height, link_heights, branches_height, branch_heights, heights}
+use Rattle.smv_text.specs.Heights.{height, highest, chain_height, link_heights}
 use Rattle.smv_text.specs.View.{plain, plain_link, plain_branch}
 use Rattle.smv_parse.specs.declared.kept.Kept.{Kept}
-use Rattle.smv_parse.specs.declared.kept.Listing.{Listing}
 use Rattle.smv_parse.specs.declared.kept.Listing.TheVariants.{Arguments, Elements}
 use Rattle.smv_parse.specs.Kept.{cap, capped, keep_at}
 use Rattle.smv_parse.specs.Machine.{whole, choice_at, listed}

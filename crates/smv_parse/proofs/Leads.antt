@@ -12,15 +12,16 @@ use Rattle.smv_text.specs.declared.token.Token.{Token}
 use Rattle.smv_text.specs.declared.token.TokenKind.{TokenKind}
 use Rattle.smv_text.specs.declared.token.TokenKind.TheVariants as kind
 use Rattle.smv_text.specs.declared.tree.Path.{Path}
+use Rattle.smv_text.specs.Grammar.{start}
 use Rattle.smv_text.specs.Tree.{Tree}
 use Rattle.smv_parse.specs.declared.stop.Stop.{Stop}
 use Rattle.smv_parse.specs.declared.stop.Stop.TheVariants.{Dead, NoMemory}
 use Rattle.smv_parse.specs.Answers.{Loses, Gives, first_is}
 use Rattle.smv_parse.specs.Marks.{is_sign, is_word}
 use Rattle.smv_parse.specs.Readers.{Reading, found, died, Reader, and_then, nothing, fail, one, both, mapped, Pick, picked, either, with_first, loop, many}
-use Rattle.smv_parse.specs.Reading.{after, after_word, first_number, number_at, Finds, Misses}
+use Rattle.smv_parse.specs.Reading.{after, after_word, first_name, name_at, first_number, number_at, Finds, Misses}
 use Rattle.smv_parse.specs.Reading as reading
-use Rattle.smv_parse.specs.Rules.{sign, word, number, number_of, mark, behind, listed}
+use Rattle.smv_parse.specs.Rules.{sign, word, number, number_of, name, name_of, mark, behind, listed}
 use Rattle.smv_parse.proofs.Choices.{PickLaw, Unpicked, one_reads, one_dies, one_ends, either_picks, either_passes}
 use Rattle.smv_parse.proofs.Lawful.{Lawful, then_reads, then_dies, both_reads, both_dies, both_dies_first}
 use Rattle.smv_parse.proofs.Loops.{loop_ends, loop_steps}
@@ -125,6 +126,33 @@ number_lost h (x ∷ xs) n e = go x.kind refl e
 pub number_loses : (h : Option Place) (xs : List Token) (e : Stop) → Finds {Y = ℕ × Bor (List Token)} (λ x. (x.0, x.1.now)) (first_number xs) (Err e) → Loses (number h xs) e
 number_loses h xs (Dead n) f = number_lost h xs n f
 number_loses h xs NoMemory f = tt
+
+-- names
+pub name_found : (h : Option Place) (xs : List Token) (n : List ℕ) (rest : List Token) → first_name xs ≡ reading.found n rest → name h xs ≡ found (n, start xs) h rest
+name_found h [] n rest e = absurd (let f : reading.lost 0 ≡ reading.found n rest = e in cc)
+name_found h (x ∷ xs) n rest e = go x.kind refl e
+  where
+    lost : reading.lost (suc (length xs)) ≡ reading.found n rest → name h (x ∷ xs) ≡ found (n, x.place) h rest
+    lost f = absurd (let g : reading.lost (suc (length xs)) ≡ reading.found n rest = f in cc)
+
+    go : (k : TokenKind) → x.kind ≡ k → name_at k xs ≡ reading.found n rest → name h (x ∷ xs) ≡ found (n, x.place) h rest
+    go (kind.Ident m) f g =
+        let first : m ≡ n = cc in
+        let behind_it : xs ≡ rest = cc in
+        one_reads name_of h x xs n (ap name_of f ∙ ap Some first) ∙ ap (found (n, x.place) h) behind_it
+    go k f g = lost g
+
+name_lost : (h : Option Place) (xs : List Token) (n : ℕ) → first_name xs ≡ reading.lost n → name h xs ≡ died n
+name_lost h [] n e = one_ends name_of h ∙ ap died (let f : 0 ≡ n = cc in f)
+name_lost h (x ∷ xs) n e = go x.kind refl e
+  where
+    go : (k : TokenKind) → x.kind ≡ k → name_at k xs ≡ reading.lost n → name h (x ∷ xs) ≡ died n
+    go (kind.Ident m) f g = absurd (let i : reading.found m xs ≡ reading.lost n = g in cc)
+    go k f g = one_dies name_of h x xs (ap name_of f) ∙ ap died (let same : suc (length xs) ≡ n = cc in same)
+
+pub name_loses : (h : Option Place) (xs : List Token) (e : Stop) → Finds {Y = List ℕ × Bor (List Token)} (λ x. (x.0, x.1.now)) (first_name xs) (Err e) → Loses (name h xs) e
+name_loses h xs (Dead n) f = name_lost h xs n f
+name_loses h xs NoMemory f = tt
 
 -- a list
 abbrev pub onto : {A : Type 0} → List A → Reading (List A) → Reading (List A)

@@ -1,6 +1,6 @@
 -- The levels by their number, and which tokens go on with them.
-use Rattle.std.proofs.Common.{◌≡◌, ℕ, zero, suc, ◌+◌, ◌-◌, ◌<◌, ◌≤◌, Bool, true, false, cond, nat_eq, nat_lt, get_or, is_some, ◌||◌, Option, Some, None, option_map, List, [], ◌∷◌, length, refl, sym, ap, ◌∙◌, subst, arith}
-use Rattle.std.proofs.lemmas.Bool.{eqb-true, eqb-false, leb-true, leb-false}
+use Rattle.std.proofs.Common.{◌≡◌, ℕ, zero, suc, ◌-◌, ◌<◌, Bool, true, false, cond, nat_eq, get_or, is_some, ◌||◌, Option, Some, None, List, [], ◌∷◌, refl, sym, ap, ◌∙◌, subst, arith}
+use Rattle.std.proofs.lemmas.Bool.{eqb-true, eqb-false}
 use Rattle.smv_text.specs.declared.token.Sign.{Sign}
 use Rattle.smv_text.specs.declared.token.Sign.TheVariants as sign
 use Rattle.smv_text.specs.declared.token.Token.{Token}
@@ -10,13 +10,11 @@ use Rattle.smv_text.specs.declared.tree.Infix.{Infix}
 use Rattle.smv_text.specs.declared.level.Joint.{Joint}
 use Rattle.smv_text.specs.declared.level.Joint.TheVariants as joints
 use Rattle.smv_text.specs.declared.level.Level.{Level}
-use Rattle.smv_text.specs.declared.level.Level.TheVariants.{Chain, Choice, Range, Before, Selection}
 use Rattle.smv_text.specs.declared.level.TheConstants.{LEVELS}
 use Rattle.smv_text.specs.Levels.{infix_at, infix_of, at_joint, joint_of, joint_number}
 use Rattle.smv_parse.specs.Marks.{is_sign}
-use Rattle.smv_parse.specs.Ranks.{level_at, tightest, joint_rank, level_rank, rank_by, rank_of, first_rank}
+use Rattle.smv_parse.specs.Ranks.{level_at, joint_rank, level_rank, rank_by, rank_of, first_rank}
 use Rattle.smv_parse.specs.Machine.{goes_on, Ends}
-use Rattle.smv_parse.specs.Reading.{after, joint_after}
 use Rattle.smv_parse.proofs.Signs.{sign_is}
 
 -- what holds of each number below a bound

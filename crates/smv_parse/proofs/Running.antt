@@ -1,12 +1,12 @@
 -- What the machine comes to, with what is kept in the expression's place.
-use Rattle.std.proofs.Common.{◌≡◌, ℕ, Option, Some, None, option_map, Result, Ok, Err, List, [], ◌∷◌, length, refl, sym, ap, ◌∙◌}
+use Rattle.std.proofs.Common.{◌≡◌, Option, Some, None, option_map, Result, Ok, Err, List, [], ◌∷◌, refl, sym, ap, ◌∙◌}
 use Rattle.smv_text.specs.declared.token.Token.{Token}
 use Rattle.smv_text.specs.Levels.{all_levels}
 use Rattle.smv_text.specs.Tree.{Tree}
 use Rattle.smv_parse.specs.declared.stop.Stop.{Stop}
 use Rattle.smv_parse.specs.declared.stop.Stop.TheVariants.{Dead, NoMemory}
 use Rattle.smv_parse.specs.Kept.{Read, cap}
-use Rattle.smv_parse.specs.Machine.{State, ask, have, Move, onto, behind, nowhere, move, halt, halted, along, Reach, reached, failed, walk, advance, step, stop, Outcome, took, dead, at_end, next as next_of, run}
+use Rattle.smv_parse.specs.Machine.{State, ask, have, Move, onto, behind, nowhere, move, halt, halted, along, Reach, reached, failed, walk, advance, Outcome, took, dead, at_end, next as next_of, run}
 use Rattle.smv_parse.specs.Reading.{Follows, Takes}
 
 abbrev pub outcome : Reach → Outcome

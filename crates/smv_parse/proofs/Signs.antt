@@ -1,5 +1,5 @@
 -- What it says that a token is a sign, a reserved word or an operator.
-use Rattle.std.proofs.Common.{◌≡◌, ℕ, suc, Bool, true, false, cond, nat_eq, get_or, Option, Some, None, option_map, List, [], ◌∷◌, length, refl, sym, ap, ◌∙◌}
+use Rattle.std.proofs.Common.{◌≡◌, suc, Bool, true, false, cond, get_or, Some, None, List, [], ◌∷◌, length, refl, sym, ap, ◌∙◌}
 use Rattle.std.proofs.lemmas.Bool.{eqb-true}
 use Rattle.smv_text.specs.declared.token.Reserved.{Reserved}
 use Rattle.smv_text.specs.declared.token.Reserved.TheVariants as word
@@ -8,11 +8,8 @@ use Rattle.smv_text.specs.declared.token.Sign.TheVariants as sign
 use Rattle.smv_text.specs.declared.token.Token.{Token}
 use Rattle.smv_text.specs.declared.token.TokenKind.{TokenKind}
 use Rattle.smv_text.specs.declared.token.TokenKind.TheVariants as kind
-use Rattle.smv_text.specs.declared.tree.Infix.{Infix}
-use Rattle.smv_text.specs.declared.level.Joint.{Joint}
-use Rattle.smv_text.specs.Levels.{infix_of}
 use Rattle.smv_parse.specs.Marks.{is_sign, is_word, sign_number, word_number}
-use Rattle.smv_parse.specs.Reading.{after, after_word, joint_after}
+use Rattle.smv_parse.specs.Reading.{after, after_word}
 
 all_signs : List Sign
 all_signs =

@@ -1,8 +1,7 @@
 -- What the machine comes to is spelled by the tokens that it read.
-use Rattle.std.proofs.Common.{◌≡◌, ℕ, ℤ, pos, ◌-ℤ◌, zero, suc, Bool, true, false, cond, Option, Some, None, option_map, List, [], ◌∷◌, ◌++◌, length, refl, sym, ap, ◌∙◌, append_assoc, subst}
+use Rattle.std.proofs.Common.{◌≡◌, ℕ, ℤ, pos, ◌-ℤ◌, suc, Bool, true, false, cond, Option, Some, None, option_map, List, [], ◌∷◌, ◌++◌, refl, sym, ap, ◌∙◌, append_assoc, subst}
 use Rattle.std.proofs.lemmas.List.{append-nil}
 use Rattle.text_core.specs.declared.place.Place.{Place}
-use Rattle.smv_text.specs.declared.token.Reserved.{Reserved}
 use Rattle.smv_text.specs.declared.token.Reserved.TheVariants as word
 use Rattle.smv_text.specs.declared.token.Sign.{Sign}
 use Rattle.smv_text.specs.declared.token.Sign.TheVariants as sign
@@ -18,14 +17,14 @@ use Rattle.smv_text.specs.declared.level.Joint.{Joint}
 use Rattle.smv_text.specs.declared.level.Level.{Level}
 use Rattle.smv_text.specs.declared.level.Level.TheVariants.{Chain, Choice, Range, Before, Selection}
 use Rattle.smv_text.specs.Levels.{all_levels, infix_of, prefix_kind, function_at}
-use Rattle.smv_text.specs.Tree.{Tree, number, name, prefix as prefix_tree, chain, choice, cases, call, set, next as next_value, select, range, Links, no_links, link, Branches, no_branches, branch, Trees, no_trees, tree, links_of, branches_of, trees_of}
+use Rattle.smv_text.specs.Tree.{Tree, number, name, prefix as prefix_tree, chain, choice, cases, call, next as next_value, select, range, Links, no_links, link, Branches, no_branches, branch, Trees, no_trees, tree, links_of, branches_of}
 use Rattle.smv_text.specs.Grammar.{start, IsSign, Signs, no_signs, sign_then, SpellsInteger, unsigned, negative as negative_integer, SpellsSteps, no_steps, step, SpellsPath, from_name, from_itself, Spells, pass, chains, chooses, ranges, prefixes, selects, is_true, is_false, numbers, literals, names, brackets, nexts, calls, sets, switches, SpellsLinks, no_more, one_more, SpellsBranches, otherwise, picks, SpellsListed, last_one, one_before, SpellsCases, last_case, case_before}
 use Rattle.smv_parse.specs.declared.kept.Listing.{Listing}
 use Rattle.smv_parse.specs.declared.kept.Listing.TheVariants.{Arguments, Elements}
 use Rattle.smv_parse.specs.declared.levels.Leader.{Leader}
 use Rattle.smv_parse.specs.declared.levels.Leader.TheVariants as leader
 use Rattle.smv_parse.specs.Marks.{is_sign, is_word}
-use Rattle.smv_parse.specs.Machine.{prefix_sign, is_prefix, Chained, Front, bare, joined, taken, whole, chain_at, choice_at, Frame, operand, when, value, signs, selected, bracket, following, listing, condition, result, closing_of, listed, State, ask, have, signed, integer, minus, negative, upto, upto_minus, named, dotted, open_next, open_call, high_end, high_colon, low_end, low_close, case_goes, Move, onto, behind, nowhere, accept, folded, or_else, with_folded, give, finish, opened, pushed, path_head, primary, calling, leader_of, begin_integer, begin, after_sign, minus_to, after_one, after_minus, number_pushed, number_gives, number_halts, expects, take_number, take_name, range_end, longer, move, halt, Reach, reached, failed, halted, along, walk}
+use Rattle.smv_parse.specs.Machine.{is_prefix, Chained, Front, bare, joined, taken, whole, chain_at, choice_at, Frame, operand, when, value, signs, selected, bracket, following, listing, condition, result, closing_of, listed, State, ask, have, signed, integer, minus, negative, upto, upto_minus, named, dotted, open_next, open_call, high_end, high_colon, low_end, low_close, case_goes, Move, onto, behind, nowhere, accept, folded, or_else, with_folded, give, finish, opened, pushed, path_head, primary, calling, leader_of, begin_integer, begin, after_sign, minus_to, after_one, after_minus, number_pushed, number_gives, number_halts, expects, take_number, take_name, range_end, longer, move, halt, reached, halted, along, walk}
 use Rattle.smv_parse.proofs.Signs.{sign_is, word_is}
 use Rattle.smv_parse.proofs.Complete.{links_onto, branches_onto, trees_onto, links_all, links_push, branches_all, branches_push, trees_all, trees_push, made, listed_made, Filled, filled, start_front}
 

@@ -1,5 +1,5 @@
 -- How the machine goes on, one frame at a time.
-use Rattle.std.proofs.Common.{◌≡◌, ℕ, ℤ, pos, ◌-ℤ◌, zero, suc, ◌<◌, ◌≤◌, Bool, true, false, cond, nat_lt, Option, Some, None, option_map, Result, Ok, Err, List, [], ◌∷◌, ◌++◌, length, refl, sym, ap, ◌∙◌, subst, arith}
+use Rattle.std.proofs.Common.{◌≡◌, ℕ, ℤ, pos, ◌-ℤ◌, suc, Bool, true, false, cond, Option, Some, None, option_map, List, [], ◌∷◌, ◌++◌, length, refl, ap, ◌∙◌, subst}
 use Rattle.text_core.specs.declared.place.Place.{Place}
 use Rattle.smv_text.specs.declared.token.Reserved.TheVariants as word
 use Rattle.smv_text.specs.declared.token.Sign.{Sign}
@@ -9,27 +9,18 @@ use Rattle.smv_text.specs.declared.token.TokenKind.{TokenKind}
 use Rattle.smv_text.specs.declared.token.TokenKind.TheVariants as kind
 use Rattle.smv_text.specs.declared.tree.Path.{Path}
 use Rattle.smv_text.specs.declared.tree.Prefix.{Prefix}
-use Rattle.smv_text.specs.declared.tree.Prefix.TheVariants as prefixes
 use Rattle.smv_text.specs.declared.tree.Infix.{Infix}
 use Rattle.smv_text.specs.declared.tree.Function.{Function}
 use Rattle.smv_text.specs.declared.level.Joint.{Joint}
 use Rattle.smv_text.specs.declared.level.Level.{Level}
-use Rattle.smv_text.specs.declared.level.Level.TheVariants.{Chain, Choice, Range, Before, Selection}
 use Rattle.smv_text.specs.Levels.{all_levels, infix_of}
-use Rattle.smv_text.specs.Tree.{Tree, number, name, prefix, cases, select, next, range, branches_of}
-use Rattle.smv_text.specs.Grammar.{start}
+use Rattle.smv_text.specs.Tree.{Tree, name, prefix, cases, select, next, range, branches_of}
 use Rattle.smv_parse.specs.declared.kept.Listing.{Listing}
-use Rattle.smv_parse.specs.declared.kept.Listing.TheVariants.{Arguments, Elements}
-use Rattle.smv_parse.specs.declared.levels.Leader.{Leader}
-use Rattle.smv_parse.specs.declared.stop.Stop.{Stop}
-use Rattle.smv_parse.specs.declared.stop.Stop.TheVariants.{Dead, NoMemory}
+use Rattle.smv_parse.specs.declared.kept.Listing.TheVariants.{Arguments}
 use Rattle.smv_parse.specs.Marks.{is_sign, is_word}
-use Rattle.smv_parse.specs.Kept.{Read, cap}
-use Rattle.smv_parse.specs.Ranks.{level_at, tightest, joint_rank, level_rank, rank_of, first_rank}
-use Rattle.smv_parse.specs.Machine.{prefix_sign, is_prefix, Chained, Front, bare, joined, taken, whole, choice_at, Frame, operand, when, value, signs, selected, bracket, following, listing, condition, result, closing_of, listed, State, ask, have, signed, integer, minus, negative, upto, upto_minus, named, dotted, open_next, open_call, high_end, high_colon, low_end, low_close, case_goes, Move, onto, behind, nowhere, or_else, give, opened, pushed, primary, leader_of, begin, longer, Reach, reached, failed, along, walk, expects, take_number, take_name, range_end}
-use Rattle.smv_parse.specs.Reading.{after, after_word, joint_after, Found, found, lost, number_at, first_number, negated, first_integer, integer_at, with_name, path_on, path_step, starts_with_dots, dots_behind, starts_range, waiting, Reads, Dies, Leads, Misses}
+use Rattle.smv_parse.specs.Machine.{prefix_sign, Chained, Front, joined, taken, whole, choice_at, Frame, operand, when, value, signs, selected, bracket, following, listing, condition, result, closing_of, listed, State, ask, have, signed, upto, upto_minus, named, dotted, open_next, open_call, high_end, high_colon, low_end, low_close, case_goes, Move, onto, or_else, give, begin, longer, Reach, failed, along, walk, expects, take_number, take_name, range_end}
+use Rattle.smv_parse.specs.Reading.{after, after_word, joint_after, Found, found, lost, number_at, first_number, negated, first_integer, integer_at, with_name, path_on, path_step}
 use Rattle.smv_parse.proofs.Signs.{after_found, not_minus}
-use Rattle.smv_parse.proofs.Ranked.{no_joint, not_sign}
 
 -- what a test leads to
 taking : (b : Bool) (s : State) (o : Move) (x : Token) (xs : List Token) (go : State → Reach) → b ≡ true → along (or_else (cond b (Some s) None) o) x xs go ≡ go s

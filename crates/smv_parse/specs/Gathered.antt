@@ -1,8 +1,8 @@
 -- What the parts that were read so far are kept as, and what is kept of a chain's and of branches' heights.
-use Rattle.std.specs.Prelude.{◌≡◌, ℕ, zero, suc, ◌+◌, max, Bool, false, nat_eq, Option, Some, None, List, [], ◌∷◌, map, length}
+use Rattle.std.specs.Prelude.{◌≡◌, ℕ, suc, ◌+◌, max, Bool, false, nat_eq, Option, Some, None, List, [], ◌∷◌, map, length}
 use Rattle.text_core.specs.declared.place.Place.{Place}
 use Rattle.smv_text.specs.declared.tree.Infix.{Infix}
-use Rattle.smv_text.specs.declared.tree.Expr.{Expr, roll-Expr}
+use Rattle.smv_text.specs.declared.tree.Expr.{roll-Expr}
 use Rattle.smv_text.specs.declared.tree.Shape.{Shape}
 use Rattle.smv_text.specs.Tree.{Tree, links_of}
 use Rattle.smv_text.specs.Heights.{height, highest, highest_link, folded, is_joined, is_implied, joined_number, link_heights}

@@ -1,7 +1,6 @@
 -- Reading an expression token by token: a stack of what waits for an expression.
 use Rattle.std.specs.Prelude.{◌≡◌, ◌||◌, is_some, ℕ, ℤ, pos, ◌-ℤ◌, suc, true, false, Bool, cond, Option, Some, None, option_map, List, [], ◌∷◌, ◌++◌, length}
 use Rattle.text_core.specs.declared.place.Place.{Place}
-use Rattle.word_core.specs.Words.{BitVector}
 use Rattle.smv_text.specs.declared.token.Reserved.TheVariants as word
 use Rattle.smv_text.specs.declared.token.Sign.{Sign}
 use Rattle.smv_text.specs.declared.token.Sign.TheVariants as sign

@@ -1,8 +1,8 @@
 // The parser of expressions: an operand, and then level by level what goes on with it.
 
-ghost use Rattle.std.specs.Prelude.{◌≡◌, ◌<◌, ◌≤◌, ◌-◌, ◌^◌, ◌&&◌, nat_le, ◌∷◌, [], true, length, IfOk};
+ghost use Rattle.std.specs.Prelude.{◌≡◌, ◌<◌, ◌≤◌, ◌-◌, ◌^◌, ◌&&◌, nat_le, List, ◌∷◌, [], true, length, IfOk};
 ghost use Rattle.smv_text.specs.Levels.{all_levels};
-ghost use Rattle.smv_text.specs.Grammar.{start};
+ghost use Rattle.smv_text.specs.Grammar.{start, Spells};
 ghost use Rattle.smv_text.specs.Tree.{Tree};
 ghost use Rattle.smv_parse.specs.Kept.{cap};
 ghost use Rattle.smv_parse.specs.Ranks.{level_at, tightest};
@@ -34,8 +34,13 @@ pub(crate) fn expression<'a>(
     read(alloc, 16, tokens)
 }
 
-// The place of the first token.
-fn start(tokens: &[Token]) -> Place
+/// No tokens spell two expressions.
+pub fn one_tree()
+    ensures { (xs : List Token) (t u : Tree) → Spells all_levels t xs → Spells all_levels u xs → t ≡ u }
+{}
+
+/// The place of the first token; a text's first byte where there is none.
+pub(crate) fn start(tokens: &[Token]) -> Place
     ensures { result ≡ start tokens.now }
 {
     match tokens.first() {

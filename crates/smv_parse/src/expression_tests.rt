@@ -1,4 +1,5 @@
 use crate::expression::expression;
+use crate::leaves::{integer, path};
 use crate::stop::Stop;
 use smv_text::{Expr, Infix, Prefix, Reserved, Shape, Sign, Token, TokenKind};
 use std::alloc::Global;
@@ -342,5 +343,42 @@ fn selects_in_a_loop(rt: HostRuntime) -> Result<(), Fail> {
             assert_eq!(rt; height(alloc, &all), Some(wanted));
         }
     }
+    Ok(())
+}
+
+// Brackets, calls and cases stand one in another, with each level of operators before them.
+#[test]
+fn nests_a_hundred_brackets(rt: HostRuntime) -> Result<(), Fail> {
+    let alloc = rt.alloc();
+    let part = "( a -> b <-> c ? d : e | f & g = h in i union j + k * - l :: ! ";
+    let mut all = repeated(alloc, part, 100, "a")?;
+    for token in repeated(alloc, ")", 100, "; a")? {
+        all.push(token)?;
+    }
+    assert_eq!(rt; height(alloc, &all), Some(381));
+    let mut cases = repeated(alloc, "case next (", 50, "a")?;
+    for token in repeated(alloc, ") : max ( b , { c } ) ; esac", 50, "")? {
+        cases.push(token)?;
+    }
+    assert_eq!(rt; height(alloc, &cases), Some(103));
+    Ok(())
+}
+
+#[test]
+fn reads_integers_and_paths(rt: HostRuntime) -> Result<(), Fail> {
+    let alloc = rt.alloc();
+    let integers = tokens(alloc, "- 12 .. 3")?;
+    let (low, rest) = integer(&integers)?;
+    assert_eq!(rt; low, -12);
+    assert_eq!(rt; rest.len(), 2);
+    let none = tokens(alloc, "- x")?;
+    assert!(rt; matches!(integer(&none), Err(Stop::Dead(1))));
+    let names = tokens(alloc, "self . a . b = c")?;
+    let (path, rest) = path(alloc, &names)?;
+    assert!(rt; path.from_self);
+    assert_eq!(rt; path.names.len(), 2);
+    assert_eq!(rt; rest.len(), 2);
+    let dead = tokens(alloc, "a . case")?;
+    assert!(rt; matches!(crate::leaves::path(alloc, &dead), Err(Stop::Dead(1))));
     Ok(())
 }

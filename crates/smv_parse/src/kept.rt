@@ -29,8 +29,8 @@ pub(crate) enum Listing {
     Elements,
 }
 
-// The most that a height may be.
-const MOST: u32 = 380;
+/// The most that a height may be.
+pub(crate) const MOST: u32 = 380;
 
 // A height, or where it is over the limit one more than that.
 fn capped(height: u32) -> u32

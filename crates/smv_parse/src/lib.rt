@@ -11,8 +11,9 @@ mod marks;
 mod module_sections;
 mod module_types;
 mod source;
-#[cfg(test)]
-mod source_tests;
 mod stop;
+#[cfg(test)]
+mod tests;
 
+pub use expression::one_tree;
 pub use source::{ParseEnd, one_source, parse};

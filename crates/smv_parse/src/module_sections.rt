@@ -10,9 +10,10 @@ ghost use Rattle.smv_parse.specs.Answers.{Gives, first_is, begins_target, begins
 ghost use Rattle.smv_parse.specs.Readers.{both, mapped, either, fail, picked, died, many};
 ghost use Rattle.smv_parse.specs.Rules.{item_pick, body, definition_pick, enclosed, target_pick, assignment_pick, constraint, label, element_pick, module_rest, module_pick};
 
+use crate::expression::start;
 use crate::leaves::{expect, path};
 use crate::marks::{after, after_word};
-use crate::module_types::{domain, first_is_name, formals, kept_expression, name, start, symbols};
+use crate::module_types::{domain, first_is_name, formals, kept_expression, placed_name, symbols};
 use crate::stop::Stop;
 use smv_text::{
     Assignment, Assignments, Definition, Definitions, Element, Elements, Expr, Item, Items, Module,
@@ -32,7 +33,7 @@ fn item<'a>(
     ensures reads { Gives (λ y. (plain_item y.0, y.1, y.2.now)) (either (item_pick kind) fail high tokens.now) result }
     ensures shorter { IfOk result (λ y. length y.2.now < length tokens.now) }
 {
-    let (name, place, rest) = name(alloc, tokens)?;
+    let (name, place, rest) = placed_name(alloc, tokens)?;
     let more = expect(rest, Sign::Colon)?;
     let domain_place = start(more);
     let (domain, high, rest) = domain(alloc, kind, high, more)?;
@@ -97,7 +98,7 @@ fn definition<'a>(
     ensures reads { Gives (λ y. (plain_definition y.0, y.1, y.2.now)) (either definition_pick fail high tokens.now) result }
     ensures shorter { IfOk result (λ y. length y.2.now < length tokens.now) }
 {
-    let (name, place, rest) = name(alloc, tokens)?;
+    let (name, place, rest) = placed_name(alloc, tokens)?;
     let (body, high, last) = body(alloc, high, rest)?;
     Ok((Definition { name, place, body }, high, last))
 }
@@ -231,7 +232,7 @@ fn label<'a>(alloc: Global, tokens: &'a [Token]) -> Result<(Option<Name>, &'a [T
 {
     match after_word(tokens, Reserved::Name) {
         Some(more) => {
-            let (label, _, rest) = name(alloc, more)?;
+            let (label, _, rest) = placed_name(alloc, more)?;
             let last = expect(rest, Sign::Assign)?;
             Ok((Some(label), last))
         }
@@ -388,7 +389,7 @@ fn module_rest<'a>(
     ensures reads { Gives (λ y. (plain_module y.0, y.1, y.2.now)) (module_rest high tokens.now) result }
     ensures within { IfOk result (λ y. length y.2.now ≤ length tokens.now) }
 {
-    let (name, place, rest) = name(alloc, tokens)?;
+    let (name, place, rest) = placed_name(alloc, tokens)?;
     let (parameters, body) = formals(alloc, rest)?;
     let (elements, high, last) = elements(alloc, high, body)?;
     let tokens = (body.len() - last.len()) as u32;

@@ -12,8 +12,9 @@ ghost use Rattle.smv_parse.specs.Answers.{Gives, first_is, is_name};
 ghost use Rattle.smv_parse.specs.Readers.{expression, high_or, picked, died};
 ghost use Rattle.smv_parse.specs.Rules.{name, parameter, symbol, listed, bracketed, member, width, interval, domain, domain_pick, instance_pick};
 
-use crate::expression::expression;
-use crate::leaves::{expect, integer, number};
+use crate::expression::{expression, start};
+use crate::kept::MOST;
+use crate::leaves::{expect, integer, name, number};
 use crate::marks::{after, after_word};
 use crate::stop::Stop;
 use smv_text::{
@@ -23,38 +24,16 @@ use smv_text::{
 use std::alloc::Global;
 use text_core::{Name, Names, Place};
 
-// The most that the height of an expression may be.
-const MOST_HEIGHT: u32 = 380;
-
-/// The place of the first token; a text's first byte where there is none.
-pub(crate) fn start(tokens: &[Token]) -> Place
-    ensures { result ≡ start tokens.now }
-{
-    match tokens.first() {
-        Some(token) => token.place,
-        None => Place {
-            line: 1,
-            column: 1,
-            offset: 0,
-        },
-    }
-}
-
 /// An identifier that comes first, its place and the tokens behind it.
-pub(crate) fn name<'a>(
+pub(crate) fn placed_name<'a>(
     alloc: Global,
     tokens: &'a [Token],
 ) -> Result<(Name, Place, &'a [Token]), Stop>
     ensures reads { (h : Option Place) → Gives (λ y. ((y.0, y.1), h, y.2.now)) (name h tokens.now) result }
     ensures shorter { IfOk result (λ y. length y.2.now < length tokens.now) }
 {
-    match tokens.split_first() {
-        None => Err(Stop::Dead(0)),
-        Some((token, rest)) => match &token.kind {
-            TokenKind::Ident(name) => Ok((Name::of(alloc, name.bytes())?, token.place, rest)),
-            _ => Err(Stop::Dead(tokens.len())),
-        },
-    }
+    let (name, rest) = name(alloc, tokens)?;
+    Ok((name, start(tokens), rest))
 }
 
 /// Does an identifier come first?
@@ -91,13 +70,7 @@ fn high_after(high: Option<Place>, height: u32, place: Place) -> Option<Place>
 {
     match high {
         Some(first) => Some(first),
-        None => {
-            if height <= MOST_HEIGHT {
-                None
-            } else {
-                Some(place)
-            }
-        }
+        None => { if height <= MOST { None } else { Some(place) } }
     }
 }
 
@@ -145,7 +118,7 @@ fn parameter<'a>(alloc: Global, tokens: &'a [Token]) -> Result<(Parameter, &'a [
     ensures reads { (h : Option Place) → Gives (λ y. (y.0, h, y.1.now)) (parameter h tokens.now) result }
     ensures shorter { IfOk result (λ y. length y.1.now < length tokens.now) }
 {
-    let (name, place, rest) = name(alloc, tokens)?;
+    let (name, place, rest) = placed_name(alloc, tokens)?;
     Ok((Parameter { name, place }, rest))
 }
 
@@ -155,7 +128,7 @@ fn member<'a>(alloc: Global, tokens: &'a [Token]) -> Result<(Member, &'a [Token]
     ensures shorter { IfOk result (λ y. length y.1.now < length tokens.now) }
 {
     if first_is_name(tokens) {
-        let (symbol, _, rest) = name(alloc, tokens)?;
+        let (symbol, _, rest) = placed_name(alloc, tokens)?;
         Ok((Member::Symbol(symbol), rest))
     } else {
         let (n, rest) = integer(tokens)?;
@@ -186,10 +159,10 @@ pub(crate) fn symbols<'a>(alloc: Global, tokens: &'a [Token]) -> Result<(Names, 
     ensures within { IfOk result (λ y. length y.1.now ≤ length tokens.now) }
 {
     let mut all = Names::new(alloc);
-    let (first, _, mut rest) = name(alloc, tokens)?;
+    let (first, _, mut rest) = placed_name(alloc, tokens)?;
     all.push(first)?;
     while let Some(more) = after(rest, Sign::Comma) {
-        let (next, _, last) = name(alloc, more)?;
+        let (next, _, last) = placed_name(alloc, more)?;
         all.push(next)?;
         rest = last;
     }
