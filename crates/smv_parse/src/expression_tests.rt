@@ -360,7 +360,7 @@ fn nests_a_hundred_brackets(rt: HostRuntime) -> Result<(), Fail> {
     for token in repeated(alloc, ") : max ( b , { c } ) ; esac", 50, "")? {
         cases.push(token)?;
     }
-    assert_eq!(rt; height(alloc, &cases), Some(103));
+    assert_eq!(rt; height(alloc, &cases), Some(102));
     Ok(())
 }
 
