@@ -281,7 +281,7 @@ fn prefixed<'a>(
     ensures reads { Follows (λ x. (read_of x.0, x.1.now)) (signed prefix (tightest below) place 1) tokens.now result }
     ensures shorter { IfOk result (λ x. length x.1.now < length tokens.now) }
 {
-    let mut count = 1;
+    let mut count: u32 = 1;
     let mut rest = tokens;
     while let Some(more) = after(rest, sign_of(prefix)) {
         count += 1;
