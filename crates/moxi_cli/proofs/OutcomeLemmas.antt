@@ -183,7 +183,7 @@ run_served (Some fs) command before now h = served_by command fs h.0 before now 
 -- the defined answer to an accepted model
 accepted_answer : (fs : Files) (command : Option Command) (model bytes : List ℕ) (source : Source) → command ≡ Some (SmvToBtor model) → file_at fs model ≡ Some bytes → Accepts bytes source → Answers command fs (Writes (btor_text source))
 accepted_answer fs command model bytes source is there a =
-    let e : nat_lt SMV_LIMIT (length bytes) ≡ false = grind (arith, a.within) in
+    let e : nat_lt SMV_LIMIT (length bytes) ≡ false = grind (arith, a.is_model.within) in
     let step : smv_model fs model ≡ Ok bytes = ap (λ content. bytes_of content model SMV_LIMIT too_long) there ∙ ap (λ long. cond long (Err (Refuses too_long)) (Ok bytes)) e in
     subst (λ c. Answers c fs (Writes (btor_text source))) (sym is) (subst (λ s. GoesOn s IsTranslation (Writes (btor_text source))) (sym step) (source, a, refl))
 

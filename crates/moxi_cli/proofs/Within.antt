@@ -70,6 +70,7 @@ below_more n (Some f) (Some fs) b bs = (b, bs)
 
 mutual
   unfolding BelowIn AllBelowIn
+
   below : (names : List (List ℕ)) (t : Tree) → BelowIn (length names) (formula_of names t)
   below names (name p path) = below_path names path.from_self path.names
   below names (prefix p pre n t) = below_negation (length names) pre n (formula_of names t) (below names t)

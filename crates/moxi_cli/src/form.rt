@@ -8,7 +8,9 @@ ghost use Rattle.moxi_cli.specs.Form.{form_of, formula_of, formulas_of, variable
 
 use crate::declared::Declared;
 use crate::formula::{Formula, Source};
-use smv_text::{Domain, Element, Expr, Infix, Item, Items, Link, Module, Modules, Path, Prefix, Shape, VarKind};
+use smv_text::{
+    Domain, Element, Expr, Infix, Item, Items, Link, Module, Modules, Path, Prefix, Shape, VarKind,
+};
 use std::alloc::{AllocError, AllocFailed, Global};
 use text_core::{Name, Names, NoMemory};
 

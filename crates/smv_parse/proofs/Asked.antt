@@ -1,17 +1,17 @@
 -- An expression as a reader.
 use Rattle.std.proofs.Common.{◌≡◌, ◌⊎◌, inl, inr, ℕ, suc, ◌≤◌, Bool, true, false, Option, Some, None, Err, List, [], ◌∷◌, ◌++◌, length, refl, sym, ap, ◌∙◌, subst, arith}
 use Rattle.std.proofs.lemmas.List.{length-append}
-use Rattle.std.specs.Prelude.{nat_le, if◌then◌else◌}
+use Rattle.std.specs.Prelude.{nat_le}
 use Rattle.text_core.specs.declared.place.Place.{Place}
 use Rattle.smv_text.specs.declared.token.Token.{Token}
 use Rattle.smv_text.specs.declared.token.TokenKind.TheVariants as kind
 use Rattle.smv_text.specs.Levels.{all_levels}
 use Rattle.smv_text.specs.Grammar.{Spells, pass, numbers}
 use Rattle.smv_text.specs.Heights.{height, most_height, place_of}
-use Rattle.smv_text.specs.Tree.{Tree, number, truth}
-use Rattle.smv_parse.specs.Kept.{Read, cap, kept}
+use Rattle.smv_text.specs.Tree.{Tree, number}
+use Rattle.smv_parse.specs.Kept.{Read, cap}
 use Rattle.smv_parse.specs.Machine.{ask, run, took, dead, Outcome, State, Advance, goes, ended, stuck, step, stop, at_end, next, Ends}
-use Rattle.smv_parse.specs.Readers.{Reading, found, died, Reader, expression, from_run, high_or, highs}
+use Rattle.smv_parse.specs.Readers.{found, died, expression, from_run, high_or}
 use Rattle.std.specs.Borrow.{Bor}
 use Rattle.smv_parse.specs.declared.kept.Kept.{Kept}
 use Rattle.smv_parse.specs.declared.stop.Stop.{Stop}
@@ -20,7 +20,7 @@ use Rattle.smv_parse.specs.Answers.{Loses}
 use Rattle.smv_parse.specs.Reading.{Takes}
 use Rattle.smv_parse.specs.Gathered.{read_of}
 use Rattle.smv_parse.proofs.Expressions.{taken_spells, spelled_taken, dead_begins, one_tree}
-use Rattle.smv_parse.proofs.Lawful.{Sound, Complete, Begun, Lawful, Inhabited, found_same, not_both, same_front, highs_none, died_count}
+use Rattle.smv_parse.proofs.Lawful.{Sound, Complete, Lawful, Inhabited, found_same, not_both, same_front, highs_none, died_count}
 
 -- what is left is no longer than what there was
 ended_within : (o : Option Read) (r : Read) (rest : List Token) → at_end o ≡ took r rest → rest ≡ []

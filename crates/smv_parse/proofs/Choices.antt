@@ -1,13 +1,12 @@
 -- Single tokens, and choices by the first token.
-use Rattle.std.proofs.Common.{◌≡◌, ◌⊎◌, inl, inr, ℕ, zero, suc, ◌+◌, ◌-◌, ◌≤◌, ◌<◌, Option, Some, None, List, [], ◌∷◌, ◌++◌, length, refl, sym, ap, ◌∙◌, subst, append_assoc, arith}
-use Rattle.std.proofs.lemmas.List.{append-nil, length-append}
+use Rattle.std.proofs.Common.{◌≡◌, ◌⊎◌, inl, inr, ℕ, suc, Option, Some, None, List, [], ◌∷◌, ◌++◌, length, refl, sym, ap, ◌∙◌, subst, arith}
+use Rattle.std.proofs.lemmas.List.{length-append}
 use Rattle.text_core.specs.declared.place.Place.{Place}
 use Rattle.smv_text.specs.declared.token.TokenKind.{TokenKind}
 use Rattle.smv_text.specs.declared.token.Token.{Token}
-use Rattle.smv_text.specs.Grammar.{start}
 use Rattle.smv_text.specs.Tree.{Tree}
-use Rattle.smv_parse.specs.Readers.{Reading, found, died, Reader, and_then, nothing, fail, one_of, one, both, mapped, Pick, picked, either, with_first, again, loop, many, placed, counted, high_or, highs}
-use Rattle.smv_parse.proofs.Lawful.{Sound, Complete, Begun, Lawful, Inhabited, found_same, not_both, highs_append, highs_none, behind_front, begun_within, then_found, then_died, then_reads, then_dies, same_front, died_count}
+use Rattle.smv_parse.specs.Readers.{found, died, Reader, nothing, fail, one_of, one, Pick, picked, either, highs}
+use Rattle.smv_parse.proofs.Lawful.{Sound, Complete, Begun, Lawful, Inhabited, found_same, not_both, begun_within, same_front, died_count}
 
 abbrev pub Free : List Token → Type 0
 Free xs = Unit {0}

@@ -1,13 +1,11 @@
 -- What each reader owes: it finds what the grammar spells, all of it and no more, and what lies behind the dead token matters not.
-use Rattle.std.proofs.Common.{◌≡◌, ◌⊎◌, inl, inr, ℕ, zero, suc, ◌+◌, ◌-◌, ◌≤◌, ◌<◌, Option, Some, None, List, [], ◌∷◌, ◌++◌, length, refl, sym, ap, ◌∙◌, subst, append_assoc, arith}
-use Rattle.std.proofs.lemmas.List.{append-nil, length-append}
+use Rattle.std.proofs.Common.{◌≡◌, ◌⊎◌, inl, inr, ℕ, suc, ◌≤◌, Option, Some, None, List, [], ◌∷◌, ◌++◌, length, refl, sym, ap, ◌∙◌, append_assoc, arith}
+use Rattle.std.proofs.lemmas.List.{length-append}
 use Rattle.text_core.specs.declared.place.Place.{Place}
-use Rattle.smv_text.specs.declared.token.TokenKind.{TokenKind}
 use Rattle.smv_text.specs.declared.token.Token.{Token}
-use Rattle.smv_text.specs.Grammar.{start}
-use Rattle.smv_text.specs.Heights.{height, most_height, place_of}
+use Rattle.smv_text.specs.Heights.{height, place_of}
 use Rattle.smv_text.specs.Tree.{Tree}
-use Rattle.smv_parse.specs.Readers.{Reading, found, died, Reader, and_then, nothing, fail, one_of, one, both, mapped, Pick, picked, either, with_first, again, loop, many, placed, counted, high_or, highs}
+use Rattle.smv_parse.specs.Readers.{Reading, found, died, Reader, and_then, both, high_or, highs}
 
 -- what was read is spelled, but for expressions that are too high
 pub record Sound {A : Type 0} (R : A → List Token → Type 0) (of : A → List Tree) (h : Option Place) (xs : List Token) (a : A) (g : Option Place) (rest : List Token) : Type 0 where

@@ -1,31 +1,29 @@
 -- What the parser's functions answer, by what the functions answer that they call.
-use Rattle.std.proofs.Common.{◌≡◌, ℕ, ℤ, pos, ◌-ℤ◌, zero, suc, ◌≤◌, ◌<◌, Bool, true, false, cond, Option, Some, None, Result, Ok, Err, List, [], ◌∷◌, ◌++◌, map, length, refl, sym, ap, ◌∙◌, subst, append_assoc, arith}
+use Rattle.std.proofs.Common.{◌≡◌, ℕ, zero, suc, ◌≤◌, Bool, true, false, cond, Option, Some, None, Result, Err, List, [], ◌∷◌, ◌++◌, map, length, refl, sym, ap, ◌∙◌, subst, append_assoc, arith}
 use Rattle.std.specs.Prelude.{is_some}
 use Rattle.std.specs.Borrow.{Bor}
 use Rattle.std.proofs.lemmas.List.{append-nil, length-append}
 use Rattle.text_core.specs.declared.place.Place.{Place}
 use Rattle.smv_text.specs.declared.token.Reserved.{Reserved}
-use Rattle.smv_text.specs.declared.token.Reserved.TheVariants as words
 use Rattle.smv_text.specs.declared.token.Sign.{Sign}
 use Rattle.smv_text.specs.declared.token.Sign.TheVariants as signs
 use Rattle.smv_text.specs.declared.token.Token.{Token}
 use Rattle.smv_text.specs.declared.token.TokenKind.{TokenKind}
 use Rattle.smv_text.specs.declared.token.TokenKind.TheVariants as kind
-use Rattle.smv_text.specs.declared.tree.Path.{Path}
 use Rattle.smv_text.specs.Grammar.{start}
 use Rattle.smv_text.specs.Tree.{Tree}
 use Rattle.smv_parse.specs.declared.stop.Stop.{Stop}
 use Rattle.smv_parse.specs.declared.stop.Stop.TheVariants.{Dead, NoMemory}
 use Rattle.smv_parse.specs.Answers.{Loses, Gives, first_is}
 use Rattle.smv_parse.specs.Marks.{is_sign, is_word}
-use Rattle.smv_parse.specs.Readers.{Reading, found, died, Reader, and_then, nothing, fail, one, both, mapped, Pick, picked, either, with_first, loop, many}
+use Rattle.smv_parse.specs.Readers.{Reading, found, died, Reader, and_then, fail, both, mapped, Pick, either, with_first, loop, many}
 use Rattle.smv_parse.specs.Reading.{after, after_word, first_name, name_at, first_number, number_at, Finds, Misses}
 use Rattle.smv_parse.specs.Reading as reading
 use Rattle.smv_parse.specs.Rules.{sign, word, number, number_of, name, name_of, mark, behind, listed}
-use Rattle.smv_parse.proofs.Choices.{PickLaw, Unpicked, one_reads, one_dies, one_ends, either_picks, either_passes}
-use Rattle.smv_parse.proofs.Lawful.{Lawful, then_reads, then_dies, both_reads, both_dies, both_dies_first}
+use Rattle.smv_parse.proofs.Choices.{PickLaw, Unpicked, one_reads, one_dies, one_ends, either_picks}
+use Rattle.smv_parse.proofs.Lawful.{Lawful, then_reads, then_dies, both_dies_first}
 use Rattle.smv_parse.proofs.Loops.{loop_ends, loop_steps}
-use Rattle.smv_parse.proofs.Mapped.{mapped_reads, mapped_dies}
+use Rattle.smv_parse.proofs.Mapped.{mapped_dies}
 use Rattle.smv_parse.proofs.Tokens.{sign_is, word_is}
 
 -- where a part dies, the whole does

@@ -1,5 +1,5 @@
 -- Lists with commas, and lists in brackets.
-use Rattle.std.proofs.Common.{◌≡◌, ◌⊎◌, inl, inr, ℕ, Bool, true, false, cond, Option, Some, None, List, [], ◌∷◌, ◌++◌, length, refl, sym, ap, ◌∙◌, subst, append_assoc}
+use Rattle.std.proofs.Common.{◌≡◌, inl, inr, Bool, true, false, cond, Some, None, List, [], ◌∷◌, ◌++◌, refl, sym, ap, ◌∙◌, subst}
 use Rattle.std.proofs.lemmas.List.{append-nil}
 use Rattle.text_core.specs.declared.place.Place.{Place}
 use Rattle.smv_text.specs.declared.token.Sign.{Sign}
@@ -10,10 +10,10 @@ use Rattle.smv_text.specs.declared.token.Token.{Token}
 use Rattle.smv_text.specs.Tree.{Tree}
 use Rattle.smv_text.specs.Grammar.{IsSign}
 use Rattle.smv_parse.specs.Marks.{is_sign}
-use Rattle.smv_parse.specs.Readers.{Reader, Pick, one, both, mapped, many, either, nothing}
+use Rattle.smv_parse.specs.Readers.{Reader, both, many, either, nothing}
 use Rattle.smv_parse.specs.Rules.{sign, behind, listed, bracketed}
 use Rattle.smv_parse.proofs.Lawful.{Lawful, Inhabited, Both, of_both, lawful_both}
-use Rattle.smv_parse.proofs.Choices.{Free, of_none, PickLaw, Picked, Either, Unpicked, Nothing, lawful_nothing, lawful_either}
+use Rattle.smv_parse.proofs.Choices.{Free, of_none, PickLaw, Either, Unpicked, Nothing, lawful_nothing, lawful_either}
 use Rattle.smv_parse.proofs.Mapped.{lawful_mapped}
 use Rattle.smv_parse.proofs.Loops.{Many, none, more, of_all, lawful_many}
 use Rattle.smv_parse.proofs.Tokens.{sign_is, sign_itself, lawful_as, lawful_before, SignAt, lawful_sign, some_sign}

@@ -1,13 +1,12 @@
 -- Loops that go on as long as a token may stand.
-use Rattle.std.proofs.Common.{◌≡◌, ◌⊎◌, inl, inr, ℕ, zero, suc, ◌+◌, ◌-◌, ◌≤◌, ◌<◌, Option, Some, None, List, [], ◌∷◌, ◌++◌, length, refl, sym, ap, ◌∙◌, subst, append_assoc, arith}
+use Rattle.std.proofs.Common.{◌≡◌, ◌⊎◌, inl, inr, ℕ, zero, suc, ◌≤◌, ◌<◌, Option, Some, None, List, [], ◌∷◌, ◌++◌, length, refl, sym, ap, ◌∙◌, subst, append_assoc, arith}
 use Rattle.std.proofs.lemmas.List.{append-nil, length-append}
 use Rattle.text_core.specs.declared.place.Place.{Place}
 use Rattle.smv_text.specs.declared.token.TokenKind.{TokenKind}
 use Rattle.smv_text.specs.declared.token.Token.{Token}
-use Rattle.smv_text.specs.Grammar.{start}
 use Rattle.smv_text.specs.Tree.{Tree}
-use Rattle.smv_parse.specs.Readers.{Reading, found, died, Reader, and_then, nothing, fail, one_of, one, both, mapped, Pick, picked, either, with_first, again, loop, many, placed, counted, high_or, highs}
-use Rattle.smv_parse.proofs.Lawful.{Sound, Complete, Begun, Lawful, Inhabited, found_same, not_both, highs_append, highs_none, behind_front, begun_within, then_found, then_died, then_reads, then_dies, same_front, same_back}
+use Rattle.smv_parse.specs.Readers.{Reading, found, died, Reader, and_then, Pick, with_first, again, loop, many, highs}
+use Rattle.smv_parse.proofs.Lawful.{Sound, Complete, Begun, Lawful, found_same, not_both, highs_append, highs_none, behind_front, begun_within, then_found, then_died, then_reads, then_dies, same_front, same_back}
 use Rattle.smv_parse.proofs.Choices.{PickLaw, Unpicked}
 
 -- spellings one after another, each with its first token

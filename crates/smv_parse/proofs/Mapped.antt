@@ -1,13 +1,12 @@
 -- Readers whose value is made from that of another.
-use Rattle.std.proofs.Common.{◌≡◌, ◌⊎◌, inl, inr, ℕ, zero, suc, ◌+◌, ◌-◌, ◌≤◌, ◌<◌, Option, Some, None, List, [], ◌∷◌, ◌++◌, length, refl, sym, ap, ◌∙◌, subst, append_assoc, arith}
-use Rattle.std.proofs.lemmas.List.{append-nil, length-append}
+use Rattle.std.proofs.Common.{◌≡◌, inl, inr, ℕ, suc, ◌-◌, Option, List, [], ◌∷◌, ◌++◌, length, refl, sym, ap, ◌∙◌, arith}
+use Rattle.std.proofs.lemmas.List.{length-append}
 use Rattle.text_core.specs.declared.place.Place.{Place}
-use Rattle.smv_text.specs.declared.token.TokenKind.{TokenKind}
 use Rattle.smv_text.specs.declared.token.Token.{Token}
 use Rattle.smv_text.specs.Grammar.{start}
 use Rattle.smv_text.specs.Tree.{Tree}
-use Rattle.smv_parse.specs.Readers.{Reading, found, died, Reader, and_then, nothing, fail, one_of, one, both, mapped, Pick, picked, either, with_first, again, loop, many, placed, counted, high_or, highs}
-use Rattle.smv_parse.proofs.Lawful.{Sound, Complete, Begun, Lawful, Inhabited, found_same, not_both, highs_append, highs_none, behind_front, begun_within, then_found, then_died, then_reads, then_dies}
+use Rattle.smv_parse.specs.Readers.{Reading, found, died, Reader, and_then, mapped, placed, counted, highs}
+use Rattle.smv_parse.proofs.Lawful.{Sound, Complete, Lawful, found_same, not_both, then_found, then_died, then_reads, then_dies}
 
 module _ {A B : Type 0} (f : A → B) (r : Reader A) where
   ends : A → Option Place → List Token → Reading B

@@ -1,13 +1,13 @@
 -- What the reader of models says of the grammar.
-use Rattle.std.proofs.Common.{◌≡◌, ◌⊎◌, inl, inr, ℕ, zero, suc, ◌+◌, ◌≤◌, ◌<◌, Bool, true, false, Option, Some, None, List, [], ◌∷◌, ◌++◌, length, take, drop, ◌-◌, refl, sym, ap, ◌∙◌, subst, append_assoc, arith}
+use Rattle.std.proofs.Common.{◌≡◌, ℕ, zero, suc, ◌+◌, ◌≤◌, ◌<◌, Bool, true, false, Option, Some, None, List, [], ◌∷◌, ◌++◌, length, take, drop, ◌-◌, refl, sym, ap, ◌∙◌, subst, append_assoc, arith}
 use Rattle.std.specs.Prelude.{nat_le, if◌then◌else◌}
 use Rattle.std.proofs.lemmas.List.{append-nil, length-append}
 use Rattle.text_core.specs.declared.place.Place.{Place}
 use Rattle.smv_text.specs.declared.token.Token.{Token}
 use Rattle.smv_text.specs.Heights.{height, most_height, place_of, first_high, of_modules}
-use Rattle.smv_text.specs.Sources.{SpellsModules, BeginsNone, IsDeadAt}
+use Rattle.smv_text.specs.Sources.{SpellsModules, IsDeadAt}
 use Rattle.smv_text.specs.Tree.{Tree, PlainModule, PlainSource}
-use Rattle.smv_parse.specs.Readers.{Reading, found, died, many, high_or, highs}
+use Rattle.smv_parse.specs.Readers.{Reading, found, died, many, highs}
 use Rattle.smv_parse.specs.Rules.{module_pick, ended, model}
 use Rattle.text_core.specs.declared.place.Refusal.{Refusal}
 use Rattle.smv_text.specs.Lexing.{TokenList}
@@ -15,7 +15,7 @@ use Rattle.smv_parse.specs.declared.stop.Stop.{Stop}
 use Rattle.smv_parse.specs.declared.stop.Stop.TheVariants.{Dead}
 use Rattle.smv_parse.specs.Answers.{Loses}
 use Rattle.smv_parse.specs.Parsing.{refusal, dead_refusal, IsTooHigh, HasDead}
-use Rattle.smv_parse.proofs.Lawful.{Lawful, found_same, not_both, died_count}
+use Rattle.smv_parse.proofs.Lawful.{found_same, not_both, died_count}
 use Rattle.smv_parse.proofs.Modules.{lawful_modules, of_module, all_modules}
 use Rattle.smv_parse.proofs.Loops.{of_all}
 

@@ -1,8 +1,7 @@
 -- The readers of declarations, definitions and assignments.
-use Rattle.std.proofs.Common.{◌≡◌, ◌⊎◌, inl, inr, ℕ, ℤ, pos, ◌-ℤ◌, Bool, true, false, cond, Option, Some, None, List, [], ◌∷◌, ◌++◌, length, refl, sym, ap, ◌∙◌, subst, append_assoc}
+use Rattle.std.proofs.Common.{◌≡◌, inl, inr, ℕ, true, false, cond, Option, Some, None, List, [], ◌∷◌, ◌++◌, refl, sym, ap, ◌∙◌, subst, append_assoc}
 use Rattle.std.proofs.lemmas.List.{append-nil}
 use Rattle.text_core.specs.declared.place.Place.{Place}
-use Rattle.smv_text.specs.declared.token.Reserved.{Reserved}
 use Rattle.smv_text.specs.declared.token.Reserved.TheVariants as words
 use Rattle.smv_text.specs.declared.token.Sign.{Sign}
 use Rattle.smv_text.specs.declared.token.Sign.TheVariants as signs
@@ -10,32 +9,26 @@ use Rattle.smv_text.specs.declared.token.TokenKind.{TokenKind}
 use Rattle.smv_text.specs.declared.token.TokenKind.TheVariants as kind
 use Rattle.smv_text.specs.declared.token.Token.{Token}
 use Rattle.smv_text.specs.declared.tree.Path.{Path}
-use Rattle.smv_text.specs.declared.tree.Member.{Member}
-use Rattle.smv_text.specs.declared.tree.Member.TheVariants.{Symbol, Integer}
 use Rattle.smv_text.specs.declared.tree.VarKind.{VarKind}
-use Rattle.smv_text.specs.declared.tree.VarKind.TheVariants.{State, Input, Frozen}
 use Rattle.smv_text.specs.declared.tree.When.{When}
 use Rattle.smv_text.specs.declared.tree.When.TheVariants.{Always, First, Following}
-use Rattle.smv_text.specs.declared.tree.Parameter.{Parameter}
 use Rattle.smv_text.specs.Levels.{all_levels}
-use Rattle.smv_text.specs.Grammar.{start, IsSign, SpellsInteger, unsigned, negative, SpellsSteps, no_steps, step, SpellsPath, from_name, from_itself, Spells, SpellsListed, last_one, one_before}
-use Rattle.smv_text.specs.Heights.{list_of, of_domain, of_items, of_definitions, of_assignments, of_element, of_elements, of_modules}
-use Rattle.smv_text.specs.Sources.{IsWord, SpellsNames, no_names, name_then, SpellsParameters, no_parameters, parameter_then, SpellsFormals, no_formals, empty_formals, formals, SpellsActuals, no_actuals, empty_actuals, actuals, SpellsMember, symbols, integers, SpellsMembers, no_members, member_then, IsUnsigned, unstated, stated, SpellsType, booleans, enumerations, intervals, words as word_types, SpellsDomain, types, instances, SpellsItems, no_items, item_then, SpellsDefinitions, no_definitions, definition_then, SpellsTarget, always as always_target, first as first_target, following as following_target, SpellsAssignments, no_assignments, assignment_then, IsOptional, left_out, semicolon, SpellsLabel, no_label, label as label_stated, section_word, SpellsElement, variables, definitions, symbol_names, assignments, inits, transitions, invariants, specifications, SpellsElements, no_elements, element_then, SpellsModules, no_modules, module_then}
-use Rattle.smv_text.specs.Tree.{Tree, Trees, no_trees, tree, trees_of, PlainDomain, boolean, members, between, bits, instance, PlainItem, PlainDefinition, PlainAssignment, PlainElement, vars, defines, constants, assigns, init, trans, invar, spec, PlainModule}
-use Rattle.smv_parse.specs.Marks.{is_sign, is_word}
-use Rattle.smv_parse.specs.Machine.{goes_on, Ends, run, ask, took, dead, stuck}
-use Rattle.smv_parse.specs.Machine as machine
-use Rattle.smv_parse.specs.Readers.{Reader, Pick, Reading, found, died, one, both, mapped, many, either, nothing, fail, placed, counted, expression}
-use Rattle.smv_parse.specs.Rules.{symbol, sign, word, name, number, behind, listed, bracketed, parameter, integer_pick, integer, symbol_pick, member, width, interval, instance_pick, domain_pick, domain, item, item_pick, body, definition_pick, steps, path_pick, path, enclosed, always, target_pick, assigned, assignment_pick, optional, constraint, label_pick, label, element_pick, module_rest, module_pick}
-use Rattle.smv_parse.proofs.Expressions.{spelled_taken}
+use Rattle.smv_text.specs.Grammar.{start, IsSign, SpellsSteps, no_steps, step, SpellsPath, from_name, from_itself, Spells}
+use Rattle.smv_text.specs.Heights.{of_domain, of_items, of_definitions, of_assignments}
+use Rattle.smv_text.specs.Sources.{booleans, SpellsDomain, types, SpellsItems, no_items, item_then, SpellsDefinitions, no_definitions, definition_then, SpellsTarget, always as always_target, first as first_target, following as following_target, SpellsAssignments, no_assignments, assignment_then}
+use Rattle.smv_text.specs.Tree.{Tree, PlainDomain, boolean, PlainItem, PlainDefinition, PlainAssignment}
+use Rattle.smv_parse.specs.Marks.{is_sign}
+use Rattle.smv_parse.specs.Machine.{goes_on, Ends}
+use Rattle.smv_parse.specs.Readers.{Reader, Pick, both, mapped, many, placed, expression}
+use Rattle.smv_parse.specs.Rules.{symbol, sign, name, behind, domain, item, item_pick, body, definition_pick, steps, path_pick, path, enclosed, always, target_pick, assigned, assignment_pick}
 use Rattle.smv_parse.proofs.Lawful.{Lawful, Inhabited, Both, of_both, lawful_both}
-use Rattle.smv_parse.proofs.Choices.{Free, of_none, PickLaw, Picked, Either, Unpicked, Nothing, Never, lawful_nothing, lawful_either, lawful_switch}
-use Rattle.smv_parse.proofs.Mapped.{lawful_mapped, Placed, Counted, of_second, lawful_placed, lawful_counted}
+use Rattle.smv_parse.proofs.Choices.{Free, of_none, PickLaw, Picked, Either, Unpicked, Never, lawful_switch}
+use Rattle.smv_parse.proofs.Mapped.{Placed, of_second, lawful_placed}
 use Rattle.smv_parse.proofs.Loops.{Many, none, more, of_all, lawful_many}
-use Rattle.smv_parse.proofs.Types.{carried, all_none, all_alone, expression_opens, lawful_formals, lawful_domain, domain_some}
+use Rattle.smv_parse.proofs.Types.{carried, all_none, lawful_domain, domain_some}
 use Rattle.smv_parse.proofs.Asked.{alone, lawful_expression, some_expression}
-use Rattle.smv_parse.proofs.Tokens.{token, sign_is, word_is, name_is, lawful_as, lawful_before, At, SignAt, WordAt, NameAt, NumberAt, lawful_sign, lawful_word, lawful_name, lawful_number, Made, lawful_made, some_sign, some_word, some_name, some_number}
-use Rattle.smv_parse.proofs.Lists.{Behind, behind_law, Listed, lawful_listed, some_listed, Bracketed, no_brackets, empty_brackets, in_brackets, NotOpen, lawful_bracketed}
+use Rattle.smv_parse.proofs.Tokens.{token, lawful_as, lawful_before, SignAt, NameAt, lawful_sign, lawful_name, Made, lawful_made, some_sign}
+use Rattle.smv_parse.proofs.Lists.{Behind, behind_law, NotOpen}
 
 -- behind an identifier
 abbrev pub Named : {A : Type 0} → (List ℕ → Place → A → List Token → Type 0) → TokenKind → Place → A → List Token → Type 0

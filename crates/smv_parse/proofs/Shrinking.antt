@@ -1,5 +1,5 @@
 -- No reader leaves more tokens than there were.
-use Rattle.std.proofs.Common.{◌≡◌, ℕ, true, false, Option, Some, None, List, [], ◌∷◌, refl, ap, ◌∙◌, sym}
+use Rattle.std.proofs.Common.{◌≡◌, ℕ, true, false, Option, None, List, [], ◌∷◌, refl}
 use Rattle.text_core.specs.declared.place.Place.{Place}
 use Rattle.smv_text.specs.declared.token.Reserved.TheVariants as words
 use Rattle.smv_text.specs.declared.token.Sign.TheVariants as signs
@@ -12,7 +12,7 @@ use Rattle.smv_text.specs.Levels.{all_levels}
 use Rattle.smv_text.specs.Sources.{SpellsMember}
 use Rattle.smv_parse.specs.Machine.{Ends}
 use Rattle.smv_parse.specs.Marks.{is_word}
-use Rattle.smv_parse.specs.Readers.{found, died, mapped, expression}
+use Rattle.smv_parse.specs.Readers.{found, died, expression}
 use Rattle.smv_parse.specs.Reading.{after_word}
 use Rattle.smv_parse.specs.Rules.{behind, name, symbol, parameter, member, item_pick, definition_pick, assignment_pick, element_pick, module_pick}
 use Rattle.smv_parse.proofs.Asked.{alone, lawful_expression}

@@ -1,5 +1,5 @@
 -- Signs, words, names and numbers as readers.
-use Rattle.std.proofs.Common.{◌≡◌, ℕ, Bool, true, false, nat_eq, Option, Some, None, List, [], ◌∷◌, ◌++◌, length, get_or, refl, sym, ap, ◌∙◌, subst}
+use Rattle.std.proofs.Common.{◌≡◌, ℕ, Bool, true, false, Some, List, [], ◌∷◌, ◌++◌, get_or, refl, sym, ap, ◌∙◌}
 use Rattle.std.proofs.lemmas.Bool.{eqb-true}
 use Rattle.text_core.specs.declared.place.Place.{Place}
 use Rattle.smv_text.specs.declared.token.Reserved.{Reserved}
@@ -10,12 +10,10 @@ use Rattle.smv_text.specs.declared.token.TokenKind.{TokenKind}
 use Rattle.smv_text.specs.declared.token.TokenKind.TheVariants as kind
 use Rattle.smv_text.specs.declared.token.Token.{Token}
 use Rattle.smv_text.specs.Tree.{Tree}
-use Rattle.smv_text.specs.Grammar.{IsSign}
-use Rattle.smv_text.specs.Sources.{IsWord}
 use Rattle.smv_parse.specs.Marks.{is_sign, is_word, sign_number, word_number}
-use Rattle.smv_parse.specs.Readers.{Reader, one, mapped}
+use Rattle.smv_parse.specs.Readers.{Reader, mapped}
 use Rattle.smv_parse.specs.Rules.{mark, sign, word, name, number, name_of, number_of}
-use Rattle.smv_parse.proofs.Lawful.{Lawful, Sound, Complete, Begun}
+use Rattle.smv_parse.proofs.Lawful.{Lawful}
 use Rattle.smv_parse.proofs.Choices.{Free, of_none, One, lawful_one}
 use Rattle.smv_parse.proofs.Mapped.{lawful_mapped}
 

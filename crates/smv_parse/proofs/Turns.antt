@@ -1,5 +1,5 @@
 -- Which reader the first token leads to.
-use Rattle.std.proofs.Common.{◌≡◌, ℕ, ℤ, suc, Bool, true, false, cond, Option, Some, None, List, [], ◌∷◌, length, refl, sym, ap, ◌∙◌, subst}
+use Rattle.std.proofs.Common.{◌≡◌, ℕ, suc, true, false, cond, Option, Some, None, List, [], ◌∷◌, length, refl, sym, ap, ◌∙◌}
 use Rattle.std.specs.Prelude.{is_some}
 use Rattle.text_core.specs.declared.place.Place.{Place}
 use Rattle.smv_text.specs.declared.token.Reserved.{Reserved}
@@ -9,22 +9,20 @@ use Rattle.smv_text.specs.declared.token.Sign.TheVariants as signs
 use Rattle.smv_text.specs.declared.token.Token.{Token}
 use Rattle.smv_text.specs.declared.token.TokenKind.{TokenKind}
 use Rattle.smv_text.specs.declared.token.TokenKind.TheVariants as kind
-use Rattle.smv_text.specs.declared.tree.Member.{Member}
 use Rattle.smv_text.specs.declared.tree.Member.TheVariants.{Symbol, Integer}
 use Rattle.smv_text.specs.declared.tree.Path.{Path}
 use Rattle.smv_text.specs.declared.tree.VarKind.{VarKind}
-use Rattle.smv_text.specs.declared.tree.VarKind.TheVariants.{State, Input, Frozen}
 use Rattle.smv_text.specs.declared.tree.When.{When}
-use Rattle.smv_text.specs.declared.tree.When.TheVariants.{Always, First, Following}
+use Rattle.smv_text.specs.declared.tree.When.TheVariants.{Always}
 use Rattle.smv_text.specs.Tree.{PlainDomain, PlainAssignment, PlainElement}
 use Rattle.smv_text.specs.Tree.{Tree}
 use Rattle.smv_parse.specs.Answers.{first_is, is_name, begins_target, begins_section}
-use Rattle.smv_parse.specs.Marks.{is_sign, is_word}
-use Rattle.smv_parse.specs.Readers.{Reading, found, died, Reader, nothing, fail, one, both, mapped, Pick, picked, either, and_then}
+use Rattle.smv_parse.specs.Marks.{is_word}
+use Rattle.smv_parse.specs.Readers.{Reading, found, died, Reader, nothing, fail, both, mapped, Pick, picked, either}
 use Rattle.smv_parse.specs.Reading.{after, after_word}
-use Rattle.smv_parse.specs.Rules.{name, name_of, behind, listed, bracketed, member, symbol_pick, integer, integer_pick, interval, domain, domain_pick, instance_pick, item, item_pick, definition_pick, body, path, path_pick, always, target_pick, enclosed, assigned, assignment_pick, optional, constraint, label_pick, label, element_pick, module_pick, module_rest}
+use Rattle.smv_parse.specs.Rules.{name, name_of, behind, listed, bracketed, member, symbol_pick, integer, integer_pick, interval, domain, domain_pick, item_pick, definition_pick, body, path, path_pick, target_pick, assigned, assignment_pick, optional, label_pick, label, element_pick}
 use Rattle.smv_parse.proofs.Choices.{Unpicked, either_picks, either_passes, one_reads, one_dies, one_ends}
-use Rattle.smv_parse.proofs.Lawful.{found_same, not_both, died_count, then_found, then_died, both_found, both_died, both_reads, both_dies, both_dies_first}
+use Rattle.smv_parse.proofs.Lawful.{found_same, not_both, died_count, both_reads, both_dies, both_dies_first}
 use Rattle.smv_parse.proofs.Leads.{after_found, word_found, not_first, not_first_word}
 use Rattle.smv_parse.proofs.Mapped.{mapped_reads, mapped_dies}
 

@@ -1,5 +1,5 @@
 -- What the functions of the parser of models answer, told by the readers.
-use Rattle.std.specs.Prelude.{◌≡◌, ℕ, Bool, true, false, Option, Some, None, Result, Ok, Err, List, [], ◌∷◌}
+use Rattle.std.specs.Prelude.{◌≡◌, Bool, true, false, Option, Result, Ok, Err, List, [], ◌∷◌}
 use Rattle.text_core.specs.declared.place.Place.{Place}
 use Rattle.smv_text.specs.declared.token.Reserved.TheVariants as words
 use Rattle.smv_text.specs.declared.token.Token.{Token}

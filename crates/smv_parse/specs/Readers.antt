@@ -1,6 +1,6 @@
 -- Readers, from which the grammar of models is made: each reads tokens from the front of a list, one pass, one token ahead. A
 -- reader carries the place of the first expression that is too high.
-use Rattle.std.specs.Prelude.{◌≡◌, ℕ, zero, suc, Option, Some, None, nat_le, if◌then◌else◌, List, [], ◌∷◌, ◌++◌, ◌-◌, length}
+use Rattle.std.specs.Prelude.{ℕ, zero, suc, Option, Some, None, nat_le, if◌then◌else◌, List, [], ◌∷◌, ◌-◌, length}
 use Rattle.text_core.specs.declared.place.Place.{Place}
 use Rattle.smv_text.specs.declared.token.TokenKind.{TokenKind}
 use Rattle.smv_text.specs.declared.token.Token.{Token}
@@ -8,7 +8,6 @@ use Rattle.smv_text.specs.Levels.{all_levels}
 use Rattle.smv_text.specs.Grammar.{start}
 use Rattle.smv_text.specs.Heights.{height, most_height, place_of}
 use Rattle.smv_text.specs.Tree.{Tree}
-use Rattle.smv_parse.specs.Kept.{Read}
 use Rattle.smv_parse.specs.Machine.{ask, run, Outcome}
 use Rattle.smv_parse.specs.Machine as machine
 

@@ -1,4 +1,6 @@
 // The parser of expressions: an operand, and then level by level what goes on with it.
+//
+// Its functions are kept apart, so that each has a small frame: a hundred brackets with all levels in each fit a usual stack.
 
 ghost use Rattle.std.specs.Prelude.{◌≡◌, ◌<◌, ◌≤◌, ◌-◌, ◌^◌, ◌&&◌, nat_le, List, ◌∷◌, [], true, length, IfOk};
 ghost use Rattle.smv_text.specs.Levels.{all_levels};
@@ -67,6 +69,7 @@ fn read<'a>(alloc: Global, levels: usize, tokens: &'a [Token]) -> Result<(Kept, 
 
 // The first operand of an expression of so many levels: how many levels it was read at, and the tokens behind it.
 #[cycle(read)]
+#[inline(never)]
 fn begin<'a>(
     alloc: Global,
     levels: usize,
@@ -109,6 +112,7 @@ fn begins_prefix(levels: usize, least: usize, prefix: Prefix, kind: &TokenKind) 
     least <= levels && is_sign(kind, sign_of(prefix))
 }
 
+#[inline(never)]
 fn range(place: Place, tokens: &[Token]) -> Result<(Kept, &[Token]), Stop>
     requires starts { starts_range tokens.now ≡ true }
     requires first { place ≡ start tokens.now }
@@ -124,6 +128,7 @@ fn range(place: Place, tokens: &[Token]) -> Result<(Kept, &[Token]), Stop>
 // What goes on with an operand that was read at so many of the levels: each time the level that the next token goes on with, as
 // long as it is one of those between.
 #[cycle(read)]
+#[inline(never)]
 fn climb<'a>(
     alloc: Global,
     levels: usize,
@@ -154,6 +159,7 @@ fn climb<'a>(
 
 // What the level over so many others makes of its first operand.
 #[cycle(read)]
+#[inline(never)]
 fn grown<'a>(
     alloc: Global,
     below: usize,
@@ -176,6 +182,7 @@ fn grown<'a>(
 }
 
 #[cycle(read)]
+#[inline(never)]
 fn chain<'a>(
     alloc: Global,
     joint: Joint,
@@ -200,6 +207,7 @@ fn chain<'a>(
 }
 
 #[cycle(read)]
+#[inline(never)]
 fn choice<'a>(
     alloc: Global,
     below: usize,
@@ -226,6 +234,7 @@ fn choice<'a>(
     Ok((branches.choice(alloc, place, last)?, rest))
 }
 
+#[inline(never)]
 fn selections<'a>(
     alloc: Global,
     place: Place,
@@ -259,6 +268,7 @@ fn ends(tokens: &[Token]) -> Result<(u64, u64, &[Token]), Stop>
 
 // An operand behind one sign of a prefix, and more of these signs.
 #[cycle(read)]
+#[inline(never)]
 fn prefixed<'a>(
     alloc: Global,
     prefix: Prefix,
@@ -271,7 +281,7 @@ fn prefixed<'a>(
     ensures reads { Follows (λ x. (read_of x.0, x.1.now)) (signed prefix (tightest below) place 1) tokens.now result }
     ensures shorter { IfOk result (λ x. length x.1.now < length tokens.now) }
 {
-    let mut count = 1;
+    let mut count: u32 = 1;
     let mut rest = tokens;
     while let Some(more) = after(rest, sign_of(prefix)) {
         count += 1;
@@ -292,6 +302,7 @@ fn sign_of(prefix: Prefix) -> Sign
 
 // An expression below all levels.
 #[cycle(read)]
+#[inline(never)]
 fn primary<'a>(alloc: Global, tokens: &'a [Token]) -> Result<(Kept, &'a [Token]), Stop>
     requires short { length tokens.now < 2 ^ 32 }
     ensures reads { Follows (λ x. (read_of x.0, x.1.now)) (ask []) tokens.now result }
@@ -329,6 +340,7 @@ fn primary<'a>(alloc: Global, tokens: &'a [Token]) -> Result<(Kept, &'a [Token])
 
 // The argument of `next`, from its bracket on.
 #[cycle(read)]
+#[inline(never)]
 fn following<'a>(
     alloc: Global,
     place: Place,
@@ -346,6 +358,7 @@ fn following<'a>(
 
 // A list, behind its opening bracket.
 #[cycle(read)]
+#[inline(never)]
 fn listed<'a>(
     alloc: Global,
     place: Place,
@@ -382,6 +395,7 @@ fn closing_of(what: Listing) -> Sign
 
 // The conditions of a case with their values, behind the word `case`.
 #[cycle(read)]
+#[inline(never)]
 fn cases<'a>(alloc: Global, place: Place, tokens: &'a [Token]) -> Result<(Kept, &'a [Token]), Stop>
     requires short { length tokens.now < 2 ^ 32 }
     ensures reads { Follows (λ x. (read_of x.0, x.1.now)) (λ k. ask all_levels (condition place [] ∷ k)) tokens.now result }

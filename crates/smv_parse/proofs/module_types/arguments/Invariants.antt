@@ -1,9 +1,8 @@
-use Rattle.std.proofs.Common.{◌≡◌, ◌<◌, ◌≤◌, Option, List, map, length}
-use Rattle.text_core.specs.declared.place.Place.{Place}
+use Rattle.std.proofs.Common.{◌≡◌, ◌≤◌, map, length}
 use Rattle.smv_text.specs.declared.token.Sign.TheVariants as signs
-use Rattle.smv_text.specs.View.{plain, plain_item, plain_definition, plain_assignment, plain_element, plain_module}
+use Rattle.smv_text.specs.View.{plain}
 use Rattle.smv_parse.specs.Readers.{many, expression}
-use Rattle.smv_parse.specs.Rules.{behind, listed, parameter, member, symbol, item_pick, definition_pick, assignment_pick, element_pick, module_pick}
+use Rattle.smv_parse.specs.Rules.{behind, listed}
 use Rattle.smv_parse.proofs.Leads.{closed_by, onto}
 use Rattle.smv_parse.proofs.module_types.arguments.Given as goal
 
