@@ -4,7 +4,7 @@ ghost use Rattle.smv_text.specs.Tree.{links_of};
 ghost use Rattle.smv_text.specs.View.{plain, plain_link};
 ghost use Rattle.smv_meaning.specs.Types.{infix_fits, infix_type, is_shift_amount, divides, shifts, joins, is_union, logical_fits, number_fits};
 ghost use Rattle.smv_meaning.specs.Checks.{across, behind, are_unions};
-ghost use Rattle.smv_meaning.specs.Expressions.{is_implies, is_from_right};
+ghost use Rattle.smv_meaning.specs.Expressions.{is_implies, are_implies, is_from_right};
 ghost use Rattle.smv_types.specs.View.{seen, standing_seen};
 ghost use Rattle.smv_types.specs.Outcome.{Answers, Kept};
 ghost use Rattle.smv_types.specs.Steps.{front_step, is_concat};
@@ -197,14 +197,25 @@ pub(crate) fn front(
     }
 }
 
-// Is the chain read from the right?
+// Is the chain read from the right? A chain of `->` has no other operator.
 pub(crate) fn is_from_right(links: &[Link]) -> bool
     ensures { result ≡ is_from_right (links_of (map plain_link links.now)) }
 {
-    match links {
-        [] => false,
-        [link, ..] => is_implies(link.op),
+    match links.split_first() {
+        None => false,
+        Some((link, rest)) => is_implies(link.op) && are_implies(rest),
     }
+}
+
+fn are_implies(links: &[Link]) -> bool
+    ensures { result ≡ are_implies (links_of (map plain_link links.now)) }
+{
+    for link in links {
+        if !is_implies(link.op) {
+            return false;
+        }
+    }
+    true
 }
 
 fn is_implies(op: Infix) -> bool
