@@ -1,9 +1,7 @@
 -- A model has no more names and signs than tokens.
-use Rattle.std.proofs.Common.{◌≡◌, ℕ, suc, ◌+◌, ◌≤◌, ◌<◌, ◌&&◌, Bool, true, false, Option, Some, None, option_map, List, [], ◌∷◌, ◌++◌, length, refl, sym, ap, ◌∙◌, subst, arith}
+use Rattle.std.proofs.Common.{◌≡◌, ℕ, suc, ◌+◌, ◌≤◌, Bool, true, false, Option, Some, None, option_map, List, [], ◌∷◌, length, refl, ap, arith}
 use Rattle.std.proofs.lemmas.List.{length-append}
-use Rattle.std.specs.Prelude.{if◌then◌else◌, codes, nat_le, is_none}
-use Rattle.std.specs.Str.{bytes_eq}
-use Rattle.text_core.specs.declared.place.Place.{Place}
+use Rattle.std.specs.Prelude.{if◌then◌else◌}
 use Rattle.smv_text.specs.declared.level.Level.{Level}
 use Rattle.smv_text.specs.declared.level.Joint.{Joint}
 use Rattle.smv_text.specs.declared.token.Token.{Token}
@@ -12,13 +10,12 @@ use Rattle.smv_text.specs.declared.tree.Prefix.TheVariants as prefixes
 use Rattle.smv_text.specs.declared.tree.Infix.{Infix}
 use Rattle.smv_text.specs.declared.tree.Infix.TheVariants as infixes
 use Rattle.smv_text.specs.declared.tree.VarKind.{VarKind}
-use Rattle.smv_text.specs.declared.tree.VarKind.TheVariants as var_kind
-use Rattle.smv_text.specs.Tree.{Tree, Links, no_links, link, PlainItem, PlainElement, vars, defines, constants, assigns, init, trans, invar, spec, PlainModule, PlainSource}
+use Rattle.smv_text.specs.Tree.{Tree, Links, link, PlainItem}
 use Rattle.smv_text.specs.Grammar.{Signs, no_signs, sign_then, Spells, pass, chains, chooses, ranges, prefixes, selects, is_true, is_false, numbers, literals, names, brackets, nexts, calls, sets, switches, SpellsLinks, no_more, one_more}
-use Rattle.smv_text.specs.Sources.{SpellsItems, no_items, item_then, SpellsElement, variables, definitions, symbol_names, assignments, inits, transitions, invariants, specifications, SpellsElements, no_elements, element_then, SpellsModules, no_modules, module_then, SpellsSource}
+use Rattle.smv_text.specs.Sources.{SpellsItems, no_items, item_then}
 use Rattle.moxi_cli.specs.Lines.{size, sizes}
-use Rattle.moxi_cli.specs.Formulas.{Formula, variable, negation, conjunction, Formulas, no_formulas, formula, Source, place_of}
-use Rattle.moxi_cli.specs.Form.{formula_of, formulas_of, negation_of, conjunction_of, operand_of, more_of, variable_of, variable_named, names_of, is_declared_after}
+use Rattle.moxi_cli.specs.Formulas.{Formula, variable, Formulas, place_of}
+use Rattle.moxi_cli.specs.Form.{formula_of, formulas_of, negation_of, conjunction_of, operand_of, more_of, variable_named}
 
 abbrev pub size_in : Option Formula → ℕ
 size_in None = 0

@@ -1,5 +1,5 @@
 -- Formulas, front by front.
-use Rattle.std.proofs.Common.{◌≡◌, ◌≤◌, ◌<◌, ◌+◌, suc, ℕ, Result, Ok, Err, map, sym, arith, List, [], ◌∷◌, ◌++◌, Option, Some, None, option_map, refl, ap, ◌∙◌, subst, Vec, Global}
+use Rattle.std.proofs.Common.{◌≡◌, ℕ, Result, Err, map, sym, List, [], ◌∷◌, ◌++◌, Option, Some, None, option_map, refl, ap, ◌∙◌, subst, Vec, Global}
 use Rattle.std.proofs.lemmas.List.{map-append}
 use Rattle.moxi_cli.specs.Formulas.{Formula, Formulas, no_formulas, formula}
 use Rattle.moxi_cli.specs.Form.{more_of, formula_of, formulas_of, operand_of}
@@ -11,7 +11,6 @@ use Rattle.moxi_cli.specs.Trees.{plain, formulas_of as formulas_from}
 use Rattle.smv_text.specs.declared.tree.Link.{Link}
 use Rattle.smv_text.specs.Tree.{links_of}
 use Rattle.smv_text.specs.View.{plain_link}
-use Rattle.moxi_cli.proofs.PlainTrees.{link_size, size}
 
 -- these formulas before further ones
 abbrev pub before : List Formula → Option Formulas → Option Formulas

@@ -1,11 +1,10 @@
 -- Sources are spelled once, and what is written for one stands for it.
-use Rattle.std.proofs.Common.{◌≡◌, ℕ, Bool, ◌+◌, ◌*◌, ◌<◌, ◌≤◌, ◌^◌, ◌-◌, ◌⊎◌, true, false, List, length, refl, sym, ap, ◌∙◌, subst, arith, inl, inr, Option, Some, None}
+use Rattle.std.proofs.Common.{◌≡◌, ℕ, Bool, ◌<◌, ◌≤◌, ◌⊎◌, true, false, List, length, refl, sym, ap, ◌∙◌, subst, arith, inl, inr, Option, Some, None}
 use Rattle.text_core.specs.declared.place.Refusal.{Refusal}
 use Rattle.smv_text.specs.declared.token.Token.{Token}
 use Rattle.smv_text.specs.Bytes.{start, after}
-use Rattle.smv_text.specs.Lexing.{LexesTo, IsLexRefusal}
+use Rattle.smv_text.specs.Lexing.{LexesTo}
 use Rattle.smv_text.specs.Tree.{PlainModule, PlainSource}
-use Rattle.smv_text.specs.Heights.{first_high, of_modules}
 use Rattle.smv_text.specs.Sources.{SpellsSource}
 use Rattle.smv_text.proofs.Laws.{one_lexing, one_lex_refusal}
 use Rattle.smv_text.proofs.Laws as laws

@@ -1,21 +1,18 @@
 -- A model of the first grammar is within what its lines can number.
-use Rattle.std.proofs.Common.{◌≡◌, ℕ, suc, ◌+◌, ◌-◌, ◌^◌, ◌*◌, ◌≤◌, ◌<◌, ◌&&◌, Bool, true, false, Option, Some, None, option_map, List, [], ◌∷◌, ◌++◌, length, refl, sym, ap, ◌∙◌, subst, arith}
+use Rattle.std.proofs.Common.{◌≡◌, ℕ, ◌+◌, ◌-◌, ◌^◌, ◌≤◌, ◌<◌, ◌&&◌, Bool, true, false, Option, Some, None, option_map, List, [], ◌∷◌, ◌++◌, length, refl, ap, subst, arith}
 use Rattle.std.proofs.lemmas.List.{length-append}
-use Rattle.std.specs.Prelude.{if◌then◌else◌, codes, nat_le, is_none}
+use Rattle.std.specs.Prelude.{if◌then◌else◌, codes}
 use Rattle.std.specs.Str.{bytes_eq}
-use Rattle.text_core.specs.declared.place.Place.{Place}
 use Rattle.smv_text.specs.declared.token.Token.{Token}
 use Rattle.smv_text.specs.declared.tree.Prefix.{Prefix}
 use Rattle.smv_text.specs.declared.tree.Prefix.TheVariants as prefixes
 use Rattle.smv_text.specs.declared.tree.Infix.{Infix}
 use Rattle.smv_text.specs.declared.tree.Infix.TheVariants as infixes
-use Rattle.smv_text.specs.declared.tree.VarKind.{VarKind}
 use Rattle.smv_text.specs.declared.tree.VarKind.TheVariants as var_kind
-use Rattle.smv_text.specs.Tree.{Tree, truth, number, literal, name, prefix, chain, choice, cases, select, call, next, set, range, Links, no_links, link, PlainItem, PlainElement, vars, defines, constants, assigns, init, trans, invar, spec, PlainModule, PlainSource}
-use Rattle.smv_text.specs.Grammar.{Spells, IsSign}
-use Rattle.smv_text.specs.Sources.{SpellsElement, variables, definitions, symbol_names, assignments, inits, transitions, invariants, specifications, SpellsElements, no_elements, element_then, SpellsModules, no_modules, module_then, SpellsSource}
-use Rattle.moxi_cli.specs.Formulas.{Formula, variable, negation, conjunction, Formulas, no_formulas, formula, Source, place_of, Below, EachVariable, EachVariableOf}
-use Rattle.moxi_cli.specs.Form.{formula_of, formulas_of, negation_of, conjunction_of, operand_of, more_of, variable_of, variable_named, names_of, is_declared_after, items_of, invariant_of, pair_of, parts_of, is_none_of, elements_of, source_over, source_of_parts, source_of_elements, HasFew, few_of_elements}
+use Rattle.smv_text.specs.Tree.{Tree, truth, number, literal, name, prefix, chain, choice, cases, select, call, next, set, range, Links, no_links, link, PlainItem, PlainElement, PlainModule}
+use Rattle.smv_text.specs.Sources.{SpellsElement, variables, definitions, symbol_names, assignments, inits, transitions, invariants, specifications, SpellsElements, no_elements, element_then, SpellsModules, no_modules, module_then}
+use Rattle.moxi_cli.specs.Formulas.{Formula, variable, Formulas, Source, place_of, Below, EachVariableOf}
+use Rattle.moxi_cli.specs.Form.{formula_of, formulas_of, negation_of, conjunction_of, operand_of, more_of, variable_named, names_of, is_declared_after, items_of, invariant_of, pair_of, parts_of, is_none_of, elements_of, source_over, source_of_parts, source_of_elements, HasFew, few_of_elements}
 use Rattle.moxi_cli.proofs.Names.{place_below}
 use Rattle.moxi_cli.specs.Lines.{size}
 use Rattle.moxi_cli.proofs.Bounds.{size_in, size_within, items_within}

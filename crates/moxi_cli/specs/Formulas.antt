@@ -1,5 +1,5 @@
 -- The models that are translated today: boolean variables and one invariant.
-use Rattle.std.specs.Prelude.{ℕ, suc, ◌<◌, List, [], ◌∷◌, Option, position}
+use Rattle.std.specs.Prelude.{ℕ, ◌<◌, List, Option, position}
 use Rattle.std.specs.Str.{bytes_eq}
 
 -- formulas; a variable is named by its place among the declared names

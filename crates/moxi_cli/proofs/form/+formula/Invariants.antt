@@ -1,8 +1,8 @@
-use Rattle.std.proofs.Common.{◌≡◌, ◌≤◌, ◌+◌, ◌*◌, ℕ, suc, map, length}
+use Rattle.std.proofs.Common.{◌≡◌, ◌≤◌, ◌+◌, ◌*◌, map, length}
 use Rattle.smv_text.specs.View.{plain as plain_tree}
 use Rattle.smv_text.specs.View.{plain_link}
 use Rattle.smv_text.specs.Tree.{links_of}
-use Rattle.moxi_cli.specs.Trees.{plain, formulas_of as formulas_from}
+use Rattle.moxi_cli.specs.Trees.{plain}
 use Rattle.moxi_cli.specs.Form.{formulas_of}
 use Rattle.moxi_cli.proofs.PlainTrees.{size, link_size}
 use Rattle.moxi_cli.proofs.Formed.{before}

@@ -1,4 +1,4 @@
-use Rattle.std.proofs.Common.{rules, ◌≡◌, ◌≤◌, ◌<◌, false, true, length, option_map, inl, inr, sym, ap, ◌∙◌, arith}
+use Rattle.std.proofs.Common.{rules, ◌≡◌, ◌≤◌, false, true, length, option_map, inl, inr, sym, ap, ◌∙◌, arith}
 use Rattle.smv_text.specs.View.{plain_source}
 use Rattle.moxi_cli.specs.Trees.{source_of}
 use Rattle.moxi_cli.specs.Translation.{most_tokens, has_no_brackets}
