@@ -3,7 +3,7 @@ use Rattle.std.proofs.Common.{◌≡◌, ℕ, zero, suc, ◌+◌, ◌-◌, ◌/�
 use Rattle.std.specs.Prelude.{slice_get, IsSomeAnd, codes}
 use Rattle.std.specs.List.{AllByRecursion, AllZip}
 use Rattle.std.proofs.lemmas.List.{length-map}
-use Rattle.smv_text.specs.FirstGrammar.{Formula, variable, negation, conjunction, Formulas, no_formulas, formula, Source}
+use Rattle.moxi_cli.specs.Formulas.{Formula, variable, negation, conjunction, Formulas, no_formulas, formula, Source}
 use Rattle.word_core.specs.Words.{BitVector}
 use Rattle.btor_tree.specs.declared.lines.TheConstants.{GREATEST_ID}
 use Rattle.btor_tree.specs.declared.lines.Line.{Line}
@@ -12,7 +12,7 @@ use Rattle.btor_tree.specs.Fits.{plain_arg, IsWellFormed, operands, is_constrain
 use Rattle.btor_tree.specs.Frame.{FreeFits, true_word, word_at, operand, Meets, IsFrame, IsBad, ConstraintsHold, Follow, IsPath, AreFrames}
 use Rattle.btor_tree.proofs.Grows.{meets_front}
 use Rattle.btor_tree.proofs.Paths.{operands_append, Reads, path}
-use Rattle.smv_text.specs.FirstGrammar.{Below, EachVariableOf}
+use Rattle.moxi_cli.specs.Formulas.{Below, EachVariableOf}
 use Rattle.moxi_cli.specs.Meaning.{State, negated, value_of, all_true, IsRun, AtLast}
 use Rattle.moxi_cli.specs.Lines.{Made, first_lines, with_variables, with_not, with_formula, line_count, size, lines_of, input_place}
 use Rattle.moxi_cli.specs.Stands.{Stands, HasInputs}

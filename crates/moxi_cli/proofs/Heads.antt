@@ -15,8 +15,8 @@ use Rattle.btor_tree.specs.Frame.{GivenFits, FreeFits}
 use Rattle.btor_tree.proofs.Grows.{slice_get_front, slice_get_end, well_formed_push, empty_well_formed}
 use Rattle.btor_tree.proofs.Widths.{width_front}
 use Rattle.btor_tree.proofs.Paths.{operands_append}
-use Rattle.smv_text.specs.FirstGrammar.{Formula}
-use Rattle.smv_text.specs.FirstGrammar.{Below}
+use Rattle.moxi_cli.specs.Formulas.{Formula}
+use Rattle.moxi_cli.specs.Formulas.{Below}
 use Rattle.moxi_cli.specs.Lines.{symbol_of, with_line, first_lines, input_symbol, state_symbol, with_variable, with_variables, input_place, made, with_formula, size}
 use Rattle.moxi_cli.specs.Stands.{Ready, Stands, HasInputs}
 use Rattle.moxi_cli.proofs.Grown.{free_push, append_nil}

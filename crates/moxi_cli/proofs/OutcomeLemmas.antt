@@ -8,7 +8,7 @@ use Rattle.moxi_cli.specs.declared.answer.Answer.{Answer}
 use Rattle.moxi_cli.specs.declared.answer.Answer.TheVariants.{Misread, Unread, Refuses, SecondRefuses, Denies, Judges, Writes}
 use Rattle.moxi_cli.specs.declared.words.Command.{Command}
 use Rattle.moxi_cli.specs.declared.words.Command.TheVariants.{SmvToBtor, JudgeBtor}
-use Rattle.smv_text.specs.FirstGrammar.{Source}
+use Rattle.moxi_cli.specs.Formulas.{Source}
 use Rattle.moxi_cli.specs.declared.translate.TheConstants.{SMV_LIMIT}
 use Rattle.moxi_cli.specs.Translation.{Accepts, TranslatesTo, IsServed, btor_text}
 use Rattle.moxi_cli.specs.Outcome.{IsTranslation, IsJudgement, IsAbsent, IsTold, GoesOn, Answers, MayAnswer, Serves, btor_model, bytes_of, too_long, smv_model, status_of, text_of}
@@ -183,7 +183,7 @@ run_served (Some fs) command before now h = served_by command fs h.0 before now 
 -- the defined answer to an accepted model
 accepted_answer : (fs : Files) (command : Option Command) (model bytes : List ℕ) (source : Source) → command ≡ Some (SmvToBtor model) → file_at fs model ≡ Some bytes → Accepts bytes source → Answers command fs (Writes (btor_text source))
 accepted_answer fs command model bytes source is there a =
-    let e : nat_lt SMV_LIMIT (length bytes) ≡ false = grind (arith, a.within) in
+    let e : nat_lt SMV_LIMIT (length bytes) ≡ false = grind (arith, a.is_model.within) in
     let step : smv_model fs model ≡ Ok bytes = ap (λ content. bytes_of content model SMV_LIMIT too_long) there ∙ ap (λ long. cond long (Err (Refuses too_long)) (Ok bytes)) e in
     subst (λ c. Answers c fs (Writes (btor_text source))) (sym is) (subst (λ s. GoesOn s IsTranslation (Writes (btor_text source))) (sym step) (source, a, refl))
 

@@ -1,9 +1,9 @@
 -- What the lines of a formula's parts give.
 use Rattle.std.proofs.Common.{◌≡◌, ℕ, zero, suc, ◌+◌, ◌<◌, ◌≤◌, List, [], ◌∷◌, ◌++◌, length, refl, sym, ap, ◌∙◌, subst, arith, append_assoc}
-use Rattle.smv_text.specs.FirstGrammar.{Formula, variable, negation, conjunction, Formulas, no_formulas, formula}
+use Rattle.moxi_cli.specs.Formulas.{Formula, variable, negation, conjunction, Formulas, no_formulas, formula}
 use Rattle.btor_tree.specs.declared.lines.TheConstants.{GREATEST_ID}
 use Rattle.btor_tree.specs.declared.lines.Line.{Line}
-use Rattle.smv_text.specs.FirstGrammar.{EachVariable, EachVariableOf}
+use Rattle.moxi_cli.specs.Formulas.{EachVariable, EachVariableOf}
 use Rattle.moxi_cli.specs.Lines.{Made, made, AllMade, all_made, with_not, with_signs, with_and, with_ands, with_chain, followed_by, with_formula, with_formulas, size, sizes, input_place}
 use Rattle.moxi_cli.specs.Stands.{Ready, Stands, AllStand, HasInputs, HaveInputs}
 use Rattle.moxi_cli.proofs.Grown.{Grew, grew_none, grew_then, grew_line, grew_width}

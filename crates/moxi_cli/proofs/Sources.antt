@@ -1,63 +1,58 @@
 -- Sources are spelled once, and what is written for one stands for it.
-use Rattle.std.proofs.Common.{◌≡◌, ℕ, suc, ◌*◌, ◌≤◌, List, [], ◌∷◌, ◌++◌, length, refl, sym, ap, ◌∙◌, subst, arith, inl, inr}
-use Rattle.std.proofs.lemmas.List.{length-append}
+use Rattle.std.proofs.Common.{◌≡◌, ℕ, Bool, ◌<◌, ◌≤◌, ◌⊎◌, true, false, List, length, refl, sym, ap, ◌∙◌, subst, arith, inl, inr, Option, Some, None}
 use Rattle.text_core.specs.declared.place.Refusal.{Refusal}
-use Rattle.smv_text.specs.declared.token.TokenKind.{TokenKind}
-use Rattle.smv_text.specs.declared.token.TokenKind.TheVariants as kind
-use Rattle.smv_text.specs.declared.token.Reserved.TheVariants as word
-use Rattle.smv_text.specs.declared.token.Sign.TheVariants as sign
 use Rattle.smv_text.specs.declared.token.Token.{Token}
-use Rattle.smv_text.specs.FirstGrammar.{Formula, Formulas, Source, Level, declared, Spells, pass, conjoins, negates, stands, brackets, Operands, no_operands, operand, Signs, no_signs, one_sign, SpellsSource, Below}
-use Rattle.smv_text.specs.Lexing.{kinds, LexesTo}
-use Rattle.smv_text.proofs.Laws.{one_lexing, one_lex_refusal, not_both}
+use Rattle.smv_text.specs.Bytes.{start, after}
+use Rattle.smv_text.specs.Lexing.{LexesTo}
+use Rattle.smv_text.specs.Tree.{PlainModule, PlainSource}
+use Rattle.smv_text.specs.Sources.{SpellsSource}
+use Rattle.smv_text.proofs.Laws.{one_lexing, one_lex_refusal}
+use Rattle.smv_text.proofs.Laws as laws
+use Rattle.smv_parse.specs.declared.source.ParseEnd.TheVariants.{Bad}
+use Rattle.smv_parse.specs.Parsing.{IsRefused}
+use Rattle.smv_parse.proofs.Models.{one_list as one_model}
+use Rattle.smv_parse.proofs.Refusals.{one_refusal, refused_not_low}
 use Rattle.btor_tree.specs.declared.lines.TheConstants.{GREATEST_ID}
 use Rattle.btor_tree.specs.Fits.{IsWellFormed}
 use Rattle.btor_tree.specs.Printing.{printed}
 use Rattle.btor_tree.proofs.Printed.{printed_spells}
 use Rattle.btor_tree.proofs.Readings.{one_list}
-use Rattle.moxi_cli.proofs.Judged as judged
-use Rattle.moxi_cli.proofs.Both as both
-use Rattle.std.specs.Prelude.{Option, Some, None, IfSome, IfNone}
-use Rattle.moxi_cli.specs.declared.formula.Source as code
-use Rattle.moxi_cli.specs.Trees.{source_of}
-use Rattle.moxi_cli.specs.Lines.{size, sizes, line_count, lines_of}
+use Rattle.moxi_cli.specs.Formulas.{Source, Below}
+use Rattle.moxi_cli.specs.Form.{form_of, few_items}
+use Rattle.moxi_cli.specs.Lines.{line_count, lines_of}
 use Rattle.moxi_cli.specs.Headline.{Translates}
-use Rattle.moxi_cli.specs.Translation.{Accepts, IsSmvRefusal, not_built, TranslatesTo, btor_text}
+use Rattle.moxi_cli.specs.Translation.{IsModel, IsReadModel, Accepts, IsSmvRefusal, not_built, TranslatesTo, btor_text, most_tokens, has_no_brackets}
+use Rattle.moxi_cli.proofs.Within.{Fits, form_fits, form_is_few}
+use Rattle.moxi_cli.proofs.Both as both
 
-sign_count : {n : ℕ} {xs : List TokenKind} → Signs n xs → length xs ≡ n
-sign_count no_signs = refl
-sign_count (one_sign s) = ap suc (sign_count s)
+-- an accepted source is over few tokens
+fits : (bytes : List ℕ) (source : Source) (a : Accepts bytes source) → Fits (length a.is_model.tokens) source
+fits bytes source a = form_fits a.model.modules a.is_model.tokens source a.is_model.spelled.0 a.form
 
--- a formula has no more lines than tokens
-mutual
-  size_within : (names : List (List ℕ)) {ls : List Level} {t : Formula} {xs : List TokenKind} → Spells names ls t xs → size t ≤ length xs
-  size_within names (pass s) = size_within names s
-  size_within names (conjoins {xs = xs} {ys = ys} s ts) = omega (arith, size_within names s, sizes_within names ts, length-append xs ys)
-  size_within names (negates {xs = xs} {ys = ys} n s) = omega (arith, size_within names s, sign_count n, length-append xs ys)
-  size_within names (stands e) = omega arith
-  size_within names (brackets {xs = xs} s) = omega (arith, size_within names s, length-append xs (kind.Sign sign.Close ∷ []))
+pub below_names : (bytes : List ℕ) (source : Source) → Accepts bytes source → Below (length source.names) source.invariant
+below_names bytes source a = (fits bytes source a).below
 
-  sizes_within : (names : List (List ℕ)) {ls : List Level} {ts : Formulas} {xs : List TokenKind} → Operands names ls ts xs → sizes ts ≤ length xs
-  sizes_within names no_operands = omega arith
-  sizes_within names (operand {xs = xs} {ys = ys} s ts) = omega (arith, size_within names s, sizes_within names ts, length-append xs ys)
+-- the lines of a source have ids enough
+pub few_lines : (bytes : List ℕ) (source : Source) → Accepts bytes source → line_count source ≤ GREATEST_ID
+few_lines bytes source a = let f = fits bytes source a in omega (arith, f.names, f.size, a.few)
 
-declared_count : (names : List (List ℕ)) → length (declared names) ≡ 4 * length names
-declared_count [] = refl
-declared_count (name ∷ names) = omega (arith, declared_count names)
+-- bytes spell one model
+same_source : (m n : PlainSource) → m.modules ≡ n.modules → m.end ≡ n.end → m ≡ n
+same_source m n e f = ap (λ (ms : List PlainModule). record { modules = ms; end = m.end }) e ∙ ap (λ p. record { modules = n.modules; end = p }) f
 
--- the lines of a model have ids enough
-pub few_lines : (source : Source) (ks : List TokenKind) → SpellsSource source ks → line_count source ≤ GREATEST_ID
-few_lines source ks d =
-    let all = ap length d.splits in
-    let front = length-append (declared source.names) (kind.Reserved word.Invarspec ∷ (d.formula ++ d.ending)) in
-    omega (arith, all, front, length-append d.formula d.ending, declared_count source.names, size_within source.names d.invariant, d.few)
+same_model : (bytes : List ℕ) (m n : PlainSource) → IsModel bytes m → IsModel bytes n → m ≡ n
+same_model bytes m n a b =
+    let spelled = subst (SpellsSource m (after start bytes)) (one_lexing bytes a.tokens b.tokens a.lexed b.lexed) a.spelled in
+    same_source m n (one_model b.tokens m.modules n.modules spelled.0 b.spelled.0) (spelled.1 ∙ sym b.spelled.1)
 
-pub below_names : (source : Source) (ks : List TokenKind) → SpellsSource source ks → Below (length source.names) source.invariant
-below_names source ks d = judged.below_names source.names d.invariant
+same_form : (m n : PlainSource) (s t : Source) → m ≡ n → form_of m ≡ Some s → form_of n ≡ Some t → s ≡ t
+same_form m n s t same e f = go (form_of n) (ap form_of (sym same) ∙ e) f
+  where
+    go : (o : Option Source) → o ≡ Some s → o ≡ Some t → s ≡ t
+    go o e f = cc
 
 pub one_source : (bytes : List ℕ) (s t : Source) → Accepts bytes s → Accepts bytes t → s ≡ t
-one_source bytes s t a b =
-    judged.one_source (kinds b.tokens) s t (subst (λ ts. SpellsSource s (kinds ts)) (one_lexing bytes a.tokens b.tokens a.lexed b.lexed) a.spelled) b.spelled
+one_source bytes s t a b = same_form a.model b.model s t (same_model bytes a.model b.model a.is_model b.is_model) a.form b.form
 
 printed_stands : (source : Source) → IsWellFormed (lines_of source) → Translates source (lines_of source) → TranslatesTo source (printed (lines_of source))
 printed_stands source w t =
@@ -68,30 +63,69 @@ printed_stands source w t =
 pub text_stands : (bytes : List ℕ) (source : Source) → Accepts bytes source → TranslatesTo source (btor_text source)
 unfolding btor_text
 text_stands bytes source a =
-    let s = both.stands_for source (below_names source (kinds a.tokens) a.spelled) (few_lines source (kinds a.tokens) a.spelled) in
-    printed_stands source s.0 s.1
+    let s = both.stands_for source (below_names bytes source a) (few_lines bytes source a) in printed_stands source s.0 s.1
 
--- tokens that spell no model come from bytes that spell none
-pub spells_none : (bytes : List ℕ) (tokens : List Token) → LexesTo bytes tokens → ((source : Source) → SpellsSource source (kinds tokens) → ⊥) → (source : Source) → Accepts bytes source → ⊥
-spells_none bytes tokens lexed none source a =
-    none source (subst (λ ts. SpellsSource source (kinds ts)) (one_lexing bytes a.tokens tokens a.lexed lexed) a.spelled)
+-- the refusal of the grammar, with the place of the text's end
+abbrev pub GrammarRefusal : List ℕ → List Token → Refusal → Type 0
+GrammarRefusal bytes tokens why = IsRefused (record { items = tokens; end = after start bytes }) (Bad why)
+
+-- it is none where a model is spelled
+grammar_no_model : (bytes : List ℕ) (why : Refusal) (tokens : List Token) (m : PlainSource) → LexesTo bytes tokens → GrammarRefusal bytes tokens why → IsModel bytes m → ⊥
+grammar_no_model bytes why tokens m l r a =
+    refused_not_low (record { items = tokens; end = after start bytes }) why m.modules r (subst (SpellsSource m (after start bytes)) (one_lexing bytes a.tokens tokens a.lexed l) a.spelled).0 a.low
 
 -- bytes have one refusal
 pub one_smv_refusal : (bytes : List ℕ) (why other : Refusal) → IsSmvRefusal bytes why → IsSmvRefusal bytes other → why ≡ other
 one_smv_refusal bytes why other (inl a) (inl b) = one_lex_refusal bytes why other a b
-one_smv_refusal bytes why other (inl a) (inr (tokens, lexed, none, is)) = absurd (not_both bytes tokens why lexed a)
-one_smv_refusal bytes why other (inr (tokens, lexed, none, is)) (inl b) = absurd (not_both bytes tokens other lexed b)
-one_smv_refusal bytes why other (inr (tokens, lexed, none, is)) (inr (tokens', lexed', none', is')) = is ∙ sym is'
+one_smv_refusal bytes why other (inl a) (inr (inl (tokens, lexed, r))) = absurd (laws.not_both bytes tokens why lexed a)
+one_smv_refusal bytes why other (inl a) (inr (inr (m, is, none, e))) = absurd (laws.not_both bytes is.tokens why is.lexed a)
+one_smv_refusal bytes why other (inr (inl (tokens, lexed, r))) (inl b) = absurd (laws.not_both bytes tokens other lexed b)
+one_smv_refusal bytes why other (inr (inl (tokens, lexed, r))) (inr (inl (others, lexed', r'))) =
+    one_refusal (record { items = others; end = after start bytes }) why other (subst (λ ts. GrammarRefusal bytes ts why) (one_lexing bytes tokens others lexed lexed') r) r'
+one_smv_refusal bytes why other (inr (inl (tokens, lexed, r))) (inr (inr (m, is, none, e))) = absurd (grammar_no_model bytes why tokens m lexed r is)
+one_smv_refusal bytes why other (inr (inr (m, is, none, e))) (inl b) = absurd (laws.not_both bytes is.tokens other is.lexed b)
+one_smv_refusal bytes why other (inr (inr (m, is, none, e))) (inr (inl (tokens, lexed, r))) = absurd (grammar_no_model bytes other tokens m lexed r is)
+one_smv_refusal bytes why other (inr (inr (m, is, none, e))) (inr (inr (n, is', none', e'))) = e ∙ sym e'
 
 -- and none where they spell a source
 pub not_refused : (bytes : List ℕ) (why : Refusal) (source : Source) → IsSmvRefusal bytes why → Accepts bytes source → ⊥
-not_refused bytes why source (inl a) accepted = not_both bytes accepted.tokens why accepted.lexed a
-not_refused bytes why source (inr (tokens, lexed, none, is)) accepted = none source accepted
+not_refused bytes why source (inl a) accepted = laws.not_both bytes accepted.is_model.tokens why accepted.is_model.lexed a
+not_refused bytes why source (inr (inl (tokens, lexed, r))) accepted = grammar_no_model bytes why tokens accepted.model lexed r accepted.is_model
+not_refused bytes why source (inr (inr (m, is, none, e))) accepted = none source accepted
 
--- what parsing answers, said of the bytes
-pub parsed_none : (bytes : List ℕ) (lexed tokens : List Token) (parsed : Option code.Source) (refusal : Refusal) → LexesTo bytes lexed → tokens ≡ lexed → IfNone parsed ((source : Source) → SpellsSource source (kinds tokens) → ⊥) → parsed ≡ None → refusal ≡ not_built → IsSmvRefusal bytes refusal
-parsed_none bytes lexed tokens (Some source) refusal l same h none is = absurd (cc)
-parsed_none bytes lexed tokens None refusal l same h none is = let k = subst (LexesTo bytes) (sym same) l in inr (tokens, k, spells_none bytes tokens k h, is)
+-- what is said of a model that was read
+pub few_read : (bytes : List ℕ) (tokens : List Token) (m : PlainSource) → IsReadModel bytes tokens m → length tokens ≤ most_tokens → few_items m
+few_read bytes tokens m r few =
+    form_is_few m.modules r.is_model.tokens r.is_model.spelled.0 (omega (arith, ap length r.tokens_are, few))
 
-pub parsed_room : (tokens : List Token) (parsed : Option code.Source) (source : code.Source) → IfSome parsed (λ source. SpellsSource (source_of source) (kinds tokens)) → parsed ≡ Some source → line_count (source_of source) ≤ GREATEST_ID
-parsed_room tokens parsed source h some = few_lines (source_of source) (kinds tokens) (subst (λ o. IfSome o (λ s. SpellsSource (source_of s) (kinds tokens))) some h)
+pub accepted_read : (bytes : List ℕ) (tokens : List Token) (m : PlainSource) (s : Source) → IsReadModel bytes tokens m → length tokens ≤ most_tokens → has_no_brackets tokens ≡ true → form_of m ≡ Some s → Accepts bytes s
+accepted_read bytes tokens m s r few bare form = record {
+  model = m;
+  is_model = r.is_model;
+  few = subst (λ ts. length ts ≤ most_tokens) (sym r.tokens_are) few;
+  bare = ap has_no_brackets r.tokens_are ∙ bare;
+  form = form;
+}
+
+-- whatever source the bytes spell, they spell this model and these tokens
+read_again : (bytes : List ℕ) (tokens : List Token) (m : PlainSource) (s : Source) → IsReadModel bytes tokens m → (a : Accepts bytes s) → (a.is_model.tokens ≡ tokens) × (form_of m ≡ Some s)
+read_again bytes tokens m s r a = (
+  one_lexing bytes a.is_model.tokens r.is_model.tokens a.is_model.lexed r.is_model.lexed ∙ r.tokens_are,
+  ap form_of (same_model bytes m a.model r.is_model a.is_model) ∙ a.form,
+)
+
+-- a model that isn't translated today
+pub refused_read : (bytes : List ℕ) (tokens : List Token) (m : PlainSource) (why : Refusal) → IsReadModel bytes tokens m → why ≡ not_built
+    → (most_tokens < length tokens) ⊎ ((has_no_brackets tokens ≡ false) ⊎ (form_of m ≡ None)) → IsSmvRefusal bytes why
+refused_read bytes tokens m why r is other = inr (inr (m, r.is_model, λ s a. none s a other, is))
+  where
+    falsely : (b : Bool) → b ≡ true → b ≡ false → ⊥
+    falsely b e f = cc
+
+    nothing : (o : Option Source) (s : Source) → o ≡ Some s → o ≡ None → ⊥
+    nothing o s e f = cc
+
+    none : (s : Source) → (a : Accepts bytes s) → (most_tokens < length tokens) ⊎ ((has_no_brackets tokens ≡ false) ⊎ (form_of m ≡ None)) → ⊥
+    none s a (inl many) = omega (arith, many, a.few, ap length (read_again bytes tokens m s r a).0)
+    none s a (inr (inl bracketed)) = falsely (has_no_brackets tokens) (ap has_no_brackets (sym (read_again bytes tokens m s r a).0) ∙ a.bare) bracketed
+    none s a (inr (inr without)) = nothing (form_of m) s (read_again bytes tokens m s r a).1 without

@@ -1,7 +1,7 @@
 -- The plain form of each tree.
 use Rattle.std.proofs.Common.{◌≡◌, ℕ, List, map, Vec, Box, Global, rules, ap, ◌∙◌, sym}
 use Rattle.moxi_cli.specs.declared.formula.Formula.{Formula, Variable, Not, And, the_lemmas}
-use Rattle.smv_text.specs.FirstGrammar.{variable, negation, conjunction}
+use Rattle.moxi_cli.specs.Formulas.{variable, negation, conjunction}
 use Rattle.moxi_cli.specs.Trees.{plain, formulas_of}
 
 pub plain-Variable : (v : ℕ) → plain (Variable v) ≡ variable v

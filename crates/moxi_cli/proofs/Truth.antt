@@ -1,6 +1,6 @@
 -- The lines of a formula have its value.
 use Rattle.std.proofs.Common.{◌≡◌, ℕ, zero, suc, ◌+◌, ◌<◌, ◌≤◌, ◌^◌, Bool, true, false, cond, not, ◌&&◌, ◌==◌, eqb, List, [], ◌∷◌, length, take, Option, refl, ap, ◌∙◌, subst, arith}
-use Rattle.smv_text.specs.FirstGrammar.{Formula, variable, negation, conjunction, Formulas, no_formulas, formula}
+use Rattle.moxi_cli.specs.Formulas.{Formula, variable, negation, conjunction, Formulas, no_formulas, formula}
 use Rattle.word_core.specs.Words.{BitVector, IsWord}
 use Rattle.word_core.specs.Table.{unary_of, binary_of}
 use Rattle.word_core.specs.declared.kinds.Unary.TheVariants.{Not}

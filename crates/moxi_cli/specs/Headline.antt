@@ -1,6 +1,6 @@
 -- What the lines of a source stand for.
 use Rattle.std.specs.Prelude.{◌≡◌, ℕ, ◌+◌, ◌<◌, ◌≤◌, List, length}
-use Rattle.smv_text.specs.FirstGrammar.{Source, Below}
+use Rattle.moxi_cli.specs.Formulas.{Source, Below}
 use Rattle.word_core.specs.Words.{BitVector}
 use Rattle.btor_tree.specs.declared.lines.TheConstants.{GREATEST_ID}
 use Rattle.btor_tree.specs.declared.lines.Line.{Line}

@@ -1,7 +1,8 @@
 pub mod Words
+pub mod Formulas
+pub mod Form
 pub mod Trees
-pub mod Machine
-pub mod Reading
+pub mod Forming
 pub mod Meaning
 pub mod Lines
 pub mod Stands

@@ -1,6 +1,6 @@
 -- The BTOR2 lines of a source.
 use Rattle.std.specs.Prelude.{ℕ, zero, suc, ◌+◌, ◌*◌, not, ◌&&◌, List, [], ◌∷◌, ◌++◌, length, map, Option, Some, None, if◌then◌else◌, nat_le, nat_eq, codes}
-use Rattle.smv_text.specs.FirstGrammar.{Formula, variable, negation, conjunction, Formulas, no_formulas, formula, Source}
+use Rattle.moxi_cli.specs.Formulas.{Formula, variable, negation, conjunction, Formulas, no_formulas, formula, Source}
 use Rattle.word_core.specs.declared.kinds.Unary.TheVariants.{Not}
 use Rattle.word_core.specs.declared.kinds.Binary.TheVariants.{And}
 use Rattle.btor_tree.specs.declared.args.Arg.{Arg}

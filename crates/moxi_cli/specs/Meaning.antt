@@ -1,6 +1,6 @@
 -- What sources mean (NuSMV 2.6 User Manual, section 2.2 on expressions and section 2.3 on finite state machines).
 use Rattle.std.specs.Prelude.{◌≡◌, ℕ, zero, suc, Bool, true, false, not, ◌&&◌, List, [], ◌∷◌, slice_get, IsSomeAnd}
-use Rattle.smv_text.specs.FirstGrammar.{Formula, variable, negation, conjunction, Formulas, no_formulas, formula, Source}
+use Rattle.moxi_cli.specs.Formulas.{Formula, variable, negation, conjunction, Formulas, no_formulas, formula, Source}
 
 -- a truth value for each variable, by its place among the declared ones
 abbrev pub State : Type 0

@@ -28,7 +28,7 @@ kind_number (Y n) = n
 -- the names of the kinds of an SMV model, of a BTOR2 text, and of a witness, by their numbers
 abbrev pub smv_name : ℕ → List ℕ
 smv_name n =
-    if n == 1 then codes "TooLong" else (if n == 2 then codes "BadByte" else (if n == 3 then codes "BadNumber" else (if n == 4 then codes "TooNested" else (if n == 29 then codes "NotBuilt" else []))))
+    if n == 1 then codes "TooLong" else (if n == 2 then codes "BadByte" else (if n == 3 then codes "BadNumber" else (if n == 4 then codes "TooNested" else (if n == 5 then codes "Dead" else (if n == 6 then codes "NotSupported" else (if n == 7 then codes "TooTall" else (if n == 29 then codes "NotBuilt" else [])))))))
 
 abbrev pub btor_name : ℕ → List ℕ
 btor_name n =

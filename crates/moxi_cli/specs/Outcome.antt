@@ -13,7 +13,7 @@ use Rattle.moxi_cli.specs.declared.words.Command.TheVariants.{SmvToBtor, JudgeBt
 use Rattle.moxi_cli.specs.Words.{command_of, Names}
 use Rattle.text_core.specs.declared.verdict.Verdict.{Verdict}
 use Rattle.text_core.specs.declared.verdict.Verdict.TheVariants as verdict
-use Rattle.smv_text.specs.FirstGrammar.{Source}
+use Rattle.moxi_cli.specs.Formulas.{Source}
 use Rattle.btor_tree.specs.declared.lines.Line.{Line}
 use Rattle.btor_tree.specs.Texts.{SpellsLines}
 use Rattle.btor_text.specs.declared.read.BtorEnd.TheVariants.{Bad}

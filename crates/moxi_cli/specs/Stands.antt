@@ -1,7 +1,7 @@
 -- What holds of the lines of a source while they are made.
 use Rattle.std.specs.Prelude.{◌≡◌, ℕ, List, length}
 use Rattle.std.specs.List.{AllByRecursion}
-use Rattle.smv_text.specs.FirstGrammar.{Formula, Formulas, EachVariable, EachVariableOf}
+use Rattle.moxi_cli.specs.Formulas.{Formula, Formulas, EachVariable, EachVariableOf}
 use Rattle.btor_tree.specs.declared.lines.Line.{Line}
 use Rattle.btor_tree.specs.Fits.{IsWellFormed, last_id, sort_at, width_at}
 use Rattle.moxi_cli.specs.Lines.{Made, input_place}

@@ -1,12 +1,21 @@
 -- Which sources bytes spell, and which text is written for one.
-use Rattle.std.specs.Prelude.{◌≡◌, ◌⊎◌, ◌≤◌, ℕ, List, length, Option, Some}
+use Rattle.std.specs.Prelude.{◌≡◌, ◌⊎◌, ◌≤◌, ℕ, Bool, true, false, List, ◌∷◌, length, Option, Some, None}
 use Rattle.text_core.specs.declared.place.Kind.TheVariants.{S}
 use Rattle.text_core.specs.declared.place.Refusal.{Refusal}
 use Rattle.text_core.specs.Outside.{Files, file_at, grown}
 use Rattle.smv_text.specs.declared.token.Token.{Token}
-use Rattle.smv_text.specs.Bytes.{start}
-use Rattle.smv_text.specs.Lexing.{LexesTo, IsLexRefusal, kinds}
-use Rattle.smv_text.specs.FirstGrammar.{Source, SpellsSource}
+use Rattle.smv_text.specs.declared.token.TokenKind.{TokenKind}
+use Rattle.smv_text.specs.declared.token.TokenKind.TheVariants as kind
+use Rattle.smv_text.specs.declared.token.Reserved.TheVariants as word
+use Rattle.smv_text.specs.Bytes.{start, after}
+use Rattle.smv_text.specs.Tree.{PlainSource}
+use Rattle.smv_text.specs.Heights.{first_high, of_modules}
+use Rattle.smv_text.specs.Sources.{SpellsSource}
+use Rattle.smv_parse.specs.declared.source.ParseEnd.TheVariants.{Bad}
+use Rattle.smv_parse.specs.Parsing.{IsRefused}
+use Rattle.smv_text.specs.Lexing.{LexesTo, IsLexRefusal}
+use Rattle.moxi_cli.specs.Formulas.{Source}
+use Rattle.moxi_cli.specs.Form.{form_of}
 use Rattle.btor_tree.specs.declared.lines.Line.{Line}
 use Rattle.btor_tree.specs.Texts.{SpellsLines}
 use Rattle.btor_tree.specs.Printing.{printed}
@@ -16,22 +25,50 @@ use Rattle.moxi_cli.specs.declared.translate.ModelEnd.TheVariants as model
 use Rattle.moxi_cli.specs.Lines.{lines_of}
 use Rattle.moxi_cli.specs.Headline.{Translates}
 
--- the bytes, within the limit, spell this source
-pub record Accepts (bytes : List ℕ) (source : Source) : Type 0 where
+-- at most so many tokens
+abbrev pub most_tokens : ℕ
+most_tokens = 4096
+
+abbrev pub is_section : TokenKind → Bool
+is_section (kind.Reserved word.Var) = true
+is_section _ = false
+
+-- the third token is `VAR`: the module's name has no brackets behind it
+abbrev pub has_no_brackets : List Token → Bool
+has_no_brackets (x ∷ y ∷ z ∷ zs) = is_section z.kind
+has_no_brackets _ = false
+
+-- the bytes, within the limit, spell this model, and none of its expressions is too high
+pub record IsModel (bytes : List ℕ) (model : PlainSource) : Type 0 where
   pub within : length bytes ≤ SMV_LIMIT
   pub tokens : List Token
   pub lexed : LexesTo bytes tokens
-  pub spelled : SpellsSource source (kinds tokens)
+  pub spelled : SpellsSource model (after start bytes) tokens
+  pub low : first_high (of_modules model.modules) ≡ None
 
--- the refusal of a text whose words are those of the language, and that isn't accepted today
+-- these are the tokens, and this is the model
+pub record IsReadModel (bytes : List ℕ) (tokens : List Token) (model : PlainSource) : Type 0 where
+  pub is_model : IsModel bytes model
+  pub tokens_are : is_model.tokens ≡ tokens
+
+-- the bytes spell this source of the first grammar
+pub record Accepts (bytes : List ℕ) (source : Source) : Type 0 where
+  pub model : PlainSource
+  pub is_model : IsModel bytes model
+  pub few : length is_model.tokens ≤ most_tokens
+  pub bare : has_no_brackets is_model.tokens ≡ true
+  pub form : form_of model ≡ Some source
+
+-- the refusal of a text that spells a model, but none that is translated today
 abbrev pub not_built : Refusal
 not_built = record { kind = S 29; place = start }
 
--- the refusal of a text that spells no source: that of its words, or else that it isn't built
+-- the refusal of a text that spells no source: that of its words, or else of its grammar, or else that it isn't built
 abbrev pub IsSmvRefusal : List ℕ → Refusal → Type 0
 IsSmvRefusal bytes refusal =
     IsLexRefusal bytes refusal
-    ⊎ ((tokens : List Token) × LexesTo bytes tokens × ((source : Source) → Accepts bytes source → ⊥) × (refusal ≡ not_built))
+    ⊎ ((tokens : List Token) × LexesTo bytes tokens × IsRefused (record { items = tokens; end = after start bytes }) (Bad refusal))
+    ⊎ ((model : PlainSource) × IsModel bytes model × ((source : Source) → Accepts bytes source → ⊥) × (refusal ≡ not_built))
 
 -- why a model has no text: its refusal, or want of memory
 abbrev pub IsModelEnd : List ℕ → ModelEnd → Type 0

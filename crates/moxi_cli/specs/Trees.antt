@@ -1,7 +1,7 @@
 -- The trees of the language that the trees of the code stand for.
 use Rattle.std.specs.Prelude.{List, [], ◌∷◌}
-use Rattle.smv_text.specs.FirstGrammar.{variable, negation, conjunction, Formulas, no_formulas, formula}
-use Rattle.smv_text.specs.FirstGrammar as grammar
+use Rattle.moxi_cli.specs.Formulas.{variable, negation, conjunction, Formulas, no_formulas, formula}
+use Rattle.moxi_cli.specs.Formulas as grammar
 use Rattle.moxi_cli.specs.declared.formula.Formula.{Formula, Formula-F, fold-Formula}
 use Rattle.moxi_cli.specs.declared.formula.Source.{Source}
 

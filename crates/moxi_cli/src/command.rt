@@ -1,7 +1,7 @@
 // The top call: reads the words, does what they say, and writes.
 ghost use Rattle.std.specs.Prelude.{◌≡◌, ◌≢◌, ◌⊎◌, ◌<◌, ◌≤◌, map, string_bytes, None, Some, IfSome, List, ℕ};
 ghost use Rattle.text_core.specs.Outside.{file_at, grown, Rose};
-ghost use Rattle.smv_text.specs.FirstGrammar.{Source};
+ghost use Rattle.moxi_cli.specs.Formulas.{Source};
 ghost use Rattle.moxi_cli.specs.declared.words.Command.{Command};
 ghost use Rattle.moxi_cli.specs.Translation.{Accepts, TranslatesTo};
 ghost use Rattle.moxi_cli.specs.Words.{command_of};

@@ -1,6 +1,6 @@
 // The names that are declared.
 ghost use Rattle.std.specs.Prelude.{◌≡◌, ◌++◌, ◌∷◌, ◌<◌, ◌-◌, ◌^◌, [], is_none, length, IfOk, if◌then◌else◌};
-ghost use Rattle.smv_text.specs.FirstGrammar.{place_of};
+ghost use Rattle.moxi_cli.specs.Formulas.{place_of};
 
 use indexmap::IndexSet;
 use std::alloc::Global;

@@ -1,10 +1,10 @@
 // From a source to its BTOR2 lines.
 ghost use Rattle.std.specs.Prelude.{◌≡◌, ℕ, ◌+◌, ◌*◌, ◌<◌, ◌≤◌, [], ◌∷◌, ◌++◌, length, map, IfOk, OnOk, codes};
-ghost use Rattle.smv_text.specs.FirstGrammar as grammar;
+ghost use Rattle.moxi_cli.specs.Formulas as grammar;
 ghost use Rattle.btor_tree.specs.declared.lines.TheConstants.{GREATEST_ID};
 ghost use Rattle.btor_tree.specs.Fits.{IsWellFormed};
 ghost use Rattle.moxi_cli.specs.Trees.{plain, formulas_of, source_of};
-ghost use Rattle.smv_text.specs.FirstGrammar.{Below};
+ghost use Rattle.moxi_cli.specs.Formulas.{Below};
 ghost use Rattle.moxi_cli.specs.Lines as spec;
 ghost use Rattle.moxi_cli.specs.Headline.{StandsFor};
 ghost use Rattle.moxi_cli.specs.Stands.{Ready, Stands, AllStand, HasInputs, HaveInputs};

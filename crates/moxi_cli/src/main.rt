@@ -4,21 +4,17 @@
 mod answer;
 mod command;
 mod declared;
+mod form;
 mod formula;
 mod judge;
 #[cfg(test)]
 mod judge_tests;
-mod limits;
 mod lines;
 mod notes;
-mod parse;
-mod read_formula;
 mod status;
 #[cfg(test)]
 mod tests;
 mod translate;
-#[cfg(test)]
-mod tree_tests;
 mod words;
 
 use command::run;

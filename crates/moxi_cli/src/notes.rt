@@ -226,6 +226,9 @@ fn smv_name(n: u8) -> &'static [u8]
         2 => b"BadByte",
         3 => b"BadNumber",
         4 => b"TooNested",
+        5 => b"Dead",
+        6 => b"NotSupported",
+        7 => b"TooTall",
         29 => b"NotBuilt",
         _ => b"",
     }

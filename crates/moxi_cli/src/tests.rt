@@ -87,7 +87,7 @@ fn run_on(alloc: Global, setting: &Setting, model: &[u8]) -> Result<Ended, Fail>
 #[test]
 fn models_and_their_texts(rt: HostRuntime) -> Result<(), Fail> {
     let alloc = rt.alloc();
-    let rows: [(&[u8], Status, &[u8], &[u8]); 17] = [
+    let rows: [(&[u8], Status, &[u8], &[u8]); 19] = [
         (SMALLEST, Status::Done, SMALLEST_TEXT, b""),
         (
             b"MODULE main VAR x : boolean; INVARSPEC !x;",
@@ -135,6 +135,18 @@ fn models_and_their_texts(rt: HostRuntime) -> Result<(), Fail> {
             b"MODULE main VAR TRUE : boolean; INVARSPEC TRUE",
             Status::Refused,
             b"",
+            b"refused: S5 Dead at 1:17\n",
+        ),
+        (
+            b"MODULE main VAR x : boolean; INVARSPEC x)",
+            Status::Refused,
+            b"",
+            b"refused: S5 Dead at 1:41\n",
+        ),
+        (
+            b"MODULE main() VAR x : boolean; INVARSPEC !x",
+            Status::Refused,
+            b"",
             NOT_BUILT,
         ),
         (
@@ -175,10 +187,10 @@ fn models_and_their_texts(rt: HostRuntime) -> Result<(), Fail> {
             NOT_BUILT,
         ),
         (
-            b"MODULE main VAR x : boolean; LTLSPEC x",
+            b"MODULE main VAR x : boolean; LTLSPEC G x",
             Status::Refused,
             b"",
-            NOT_BUILT,
+            b"refused: S6 NotSupported at 1:30\n",
         ),
     ];
     for (model, status, text, line) in rows {
@@ -187,11 +199,32 @@ fn models_and_their_texts(rt: HostRuntime) -> Result<(), Fail> {
         assert_eq!(rt; end.out.bytes(), text);
         assert_eq!(rt; end.notes.bytes(), line);
     }
-    for end in 0..SMALLEST.len() {
+    Ok(())
+}
+
+// What is refused in each front of the smallest model: a model that isn't translated (n), an end that comes too early (e), a
+// dead token (d at column 1, D at 13, b at 21), or a word that isn't supported (v at column 13, u at 30).
+const FRONTS: &[u8] = b"ndddddeennnnnvDnneeeeeeebeeenneueeeeeeeee";
+
+#[test]
+fn fronts_of_a_model(rt: HostRuntime) -> Result<(), Fail> {
+    let alloc = rt.alloc();
+    for end in 0..SMALLEST.len().min(FRONTS.len()) {
+        let early = format!(in alloc; "refused: S5 Dead at 1:{}\n", end + 1)?;
+        let line: &[u8] = match FRONTS[end] {
+            b'n' => NOT_BUILT,
+            b'e' => early.as_bytes(),
+            b'd' => b"refused: S5 Dead at 1:1\n",
+            b'D' => b"refused: S5 Dead at 1:13\n",
+            b'b' => b"refused: S5 Dead at 1:21\n",
+            b'v' => b"refused: S6 NotSupported at 1:13\n",
+            _ => b"refused: S6 NotSupported at 1:30\n",
+        };
         let refused = run_on(alloc, &plain(), &SMALLEST[..end])?;
         assert_eq!(rt; refused.status, Status::Refused);
-        assert_eq!(rt; refused.notes.bytes(), NOT_BUILT);
+        assert_eq!(rt; refused.notes.bytes(), line);
     }
+    assert_eq!(rt; FRONTS.len(), SMALLEST.len());
     Ok(())
 }
 
@@ -340,16 +373,24 @@ fn repeated(
 fn limits(rt: HostRuntime) -> Result<(), Fail> {
     let alloc = rt.alloc();
     let front = "MODULE main VAR x : boolean; INVARSPEC ";
-    // Signs count for the height, operands for the tokens.
-    let rows = [
-        ("!", 379, "x", Status::Done),
-        ("!", 380, "x", Status::Refused),
-        ("x & ", 2043, "x;", Status::Done),
-        ("x & ", 2044, "x", Status::Refused),
+    // Signs and selections count for the height, operands for the tokens.
+    let tall: &[u8] = b"refused: S7 TooTall at 1:40\n";
+    let rows: [(&str, &str, usize, &str, Status, &[u8]); 8] = [
+        ("", "!", 379, "x", Status::Done, b""),
+        ("", "!", 380, "x", Status::Refused, tall),
+        ("", "!", 400, "x", Status::Refused, tall),
+        ("x", "[0:0]", 379, "", Status::Refused, NOT_BUILT),
+        ("x", "[0:0]", 380, "", Status::Refused, tall),
+        ("", "x & ", 2043, "x;", Status::Done, b""),
+        ("", "x & ", 2044, "x", Status::Refused, NOT_BUILT),
+        ("", "x & ", 59_999, "x", Status::Refused, NOT_BUILT),
     ];
-    for (piece, count, back, status) in rows {
-        let text = repeated(alloc, front, piece, count, back)?;
-        assert_eq!(rt; run_on(alloc, &plain(), &text)?.status, status);
+    for (first, piece, count, back, status, line) in rows {
+        let head = repeated(alloc, front, first, 1, "")?;
+        let text = repeated(alloc, std::str::from_utf8(&head)?, piece, count, back)?;
+        let end = run_on(alloc, &plain(), &text)?;
+        assert_eq!(rt; end.status, status);
+        assert_eq!(rt; end.notes.bytes(), line);
     }
     let nested: [(usize, Status, &[u8]); 2] = [
         (100, Status::Done, b""),

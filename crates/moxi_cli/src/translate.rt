@@ -1,22 +1,29 @@
 // From the bytes of a model to its BTOR2 text.
 ghost use Rattle.std.specs.Prelude.{◌≡◌, ◌≤◌, List, ℕ, length, IfOk, IfErr};
-ghost use Rattle.smv_text.specs.FirstGrammar.{Source as PlainSource, Below};
+ghost use Rattle.moxi_cli.specs.Formulas.{Source as PlainSource, Below};
 ghost use Rattle.btor_tree.specs.declared.lines.TheConstants.{GREATEST_ID};
 ghost use Rattle.moxi_cli.specs.Trees.{plain, source_of};
 ghost use Rattle.moxi_cli.specs.Lines.{line_count};
-ghost use Rattle.moxi_cli.specs.Translation.{Accepts, IsModelEnd, TranslatesTo, btor_text};
+ghost use Rattle.smv_text.specs.Bytes.{start, after};
+ghost use Rattle.smv_text.specs.Lexing.{LexesTo};
+ghost use Rattle.smv_text.specs.View.{plain_source};
+ghost use Rattle.moxi_cli.specs.Translation.{Accepts, IsModelEnd, IsReadModel, TranslatesTo, btor_text, has_no_brackets, is_section};
 
 use crate::answer::refusal;
+use crate::form::form_of;
 use crate::formula::Source;
 use crate::lines::lines_of;
-use crate::parse::parse;
 use btor_text::print_btor;
-use smv_text::{LexEnd, lex};
+use smv_parse::{ParseEnd, parse};
+use smv_text::{LexEnd, Reserved, Source as Model, Token, TokenKind, Tokens, lex};
 use std::alloc::Global;
 use text_core::{Kind, NoMemory, Refusal, Text};
 
 /// The most bytes that an SMV model may have.
 pub const SMV_LIMIT: usize = 1_048_576;
+
+// The most tokens that a model of the first grammar may have.
+const MOST_TOKENS: usize = 4096;
 
 /// Why a model has no text.
 #[derive(Debug, Drop)]
@@ -55,17 +62,73 @@ pub fn translate(alloc: Global, bytes: &[u8]) -> Result<Text, ModelEnd>
 fn read_source(alloc: Global, bytes: &[u8]) -> Result<Source, ModelEnd>
     requires { length bytes.now ≤ SMV_LIMIT }
     ensures accepted { IfOk result (λ source. Accepts bytes.now (source_of source)) }
-    ensures below { IfOk result (λ source. Below (length source.names) (plain source.invariant)) }
-    ensures room { IfOk result (λ source. line_count (source_of source) ≤ GREATEST_ID) }
     ensures refused { IfErr result (IsModelEnd bytes.now) }
 {
     match lex(alloc, bytes) {
-        Ok(tokens) => match parse(alloc, tokens.as_slice())? {
-            Some(source) => Ok(source),
-            None => Err(ModelEnd::Refused(refusal(Kind::S(29)))),
-        },
+        Ok(tokens) => source_of_tokens(alloc, bytes, &tokens),
         Err(LexEnd::Bad(refusal)) => Err(ModelEnd::Refused(refusal)),
         Err(LexEnd::NoMemory) => Err(ModelEnd::NoMemory),
+    }
+}
+
+// The source that the tokens of the bytes spell.
+fn source_of_tokens(alloc: Global, bytes: &[u8], tokens: &Tokens) -> Result<Source, ModelEnd>
+    requires within { length bytes.now ≤ SMV_LIMIT }
+    requires lexed { LexesTo bytes.now tokens.now.items }
+    requires end { tokens.now.end ≡ after start bytes.now }
+    requires few { length tokens.now.items ≤ length bytes.now }
+    ensures accepted { IfOk result (λ source. Accepts bytes.now (source_of source)) }
+    ensures refused { IfErr result (IsModelEnd bytes.now) }
+{
+    match parse(alloc, tokens) {
+        Ok(model) => source_of_model(alloc, bytes, tokens, &model),
+        Err(ParseEnd::Bad(refusal)) => Err(ModelEnd::Refused(refusal)),
+        Err(ParseEnd::NoMemory) => Err(ModelEnd::NoMemory),
+    }
+}
+
+// The source that the model is, if it is one of those that are translated today.
+fn source_of_model(
+    alloc: Global,
+    bytes: &[u8],
+    tokens: &Tokens,
+    model: &Model,
+) -> Result<Source, ModelEnd>
+    requires model { IsReadModel bytes.now tokens.now.items (plain_source model.now) }
+    ensures accepted { IfOk result (λ source. Accepts bytes.now (source_of source)) }
+    ensures refused { IfErr result (IsModelEnd bytes.now) }
+{
+    if tokens.len() > MOST_TOKENS {
+        return Err(ModelEnd::Refused(refusal(Kind::S(29))));
+    }
+    if !has_no_brackets(tokens.as_slice()) {
+        return Err(ModelEnd::Refused(refusal(Kind::S(29))));
+    }
+    match form_of(alloc, model)? {
+        Some(source) => Ok(source),
+        None => Err(ModelEnd::Refused(refusal(Kind::S(29)))),
+    }
+}
+
+// Is the third token the word that begins a section of variables?
+fn has_no_brackets(tokens: &[Token]) -> bool
+    ensures { result ≡ has_no_brackets tokens.now }
+{
+    match tokens {
+        [_, _, third, ..] => is_section(&third.kind),
+        _ => false,
+    }
+}
+
+fn is_section(kind: &TokenKind) -> bool
+    ensures { result ≡ is_section kind.now }
+{
+    match kind {
+        TokenKind::Reserved(word) => match word {
+            Reserved::Var => true,
+            _ => false,
+        },
+        _ => false,
     }
 }
 

@@ -16,5 +16,4 @@ pub mod Ranks
 pub mod Spelling
 pub mod Printing
 pub mod Printable
-pub mod FirstGrammar
 pub mod Unplaced

@@ -1,5 +1,5 @@
 use Rattle.std.proofs.Common.{◌≡◌, IfOk, is_none, subst, sym, ◌∙◌}
-use Rattle.smv_text.specs.FirstGrammar.{place_of}
+use Rattle.moxi_cli.specs.Formulas.{place_of}
 use Rattle.moxi_cli.proofs.Names.{fresh_name}
 use Rattle.moxi_cli.proofs.declared.Declared.declare.Goals as goal
 use Rattle.moxi_cli.proofs.declared.Declared.declare.Goals.{in-Ok-insert_full, in-Err}

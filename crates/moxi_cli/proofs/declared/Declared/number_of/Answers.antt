@@ -1,5 +1,5 @@
 use Rattle.std.proofs.Common.{◌∙◌, ap}
-use Rattle.smv_text.specs.FirstGrammar.{place_of}
+use Rattle.moxi_cli.specs.Formulas.{place_of}
 use Rattle.moxi_cli.proofs.Names.{place_in}
 use Rattle.moxi_cli.proofs.declared.Declared.number_of.Goals as goal
 

@@ -1,0 +1,12 @@
+mod Examples
+pub mod Lists
+pub mod Plain
+pub mod Evaluating
+pub mod NameLemmas
+pub mod Grow
+pub mod Intervals
+pub mod OperatorLaws
+pub mod TypeLaws
+pub mod SafeLaws
+pub mod FoundLaws
+pub mod ValueAt

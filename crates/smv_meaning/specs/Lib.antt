@@ -1,0 +1,15 @@
+pub mod Values
+pub mod Operators
+pub mod Expressions
+pub mod Instances
+pub mod Names
+pub mod Meaning
+pub mod Types
+pub mod Checks
+pub mod Naming
+pub mod Phases
+pub mod Runs
+pub mod Typed
+pub mod Safety
+pub mod View
+pub mod Owed

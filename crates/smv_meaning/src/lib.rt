@@ -1,0 +1,18 @@
+//! The meaning of SMV models: values, instances, names, expressions, types, checks and runs.
+#![tactic(auto)]
+
+mod evaluate;
+mod functions;
+mod laws;
+mod model_value;
+mod names;
+mod operators;
+mod seen;
+mod table;
+#[cfg(test)]
+mod tests;
+mod value;
+
+pub use laws::{typed_is_safe, values_lie};
+pub use model_value::value_at;
+pub use value::{Given, Run, State, States, Value};

@@ -1,0 +1,136 @@
+// Values whose symbols are borrowed, so that an evaluation copies no name.
+ghost use Rattle.std.specs.Prelude.{◌≡◌, ◌++◌, ◌∷◌, ◌^◌, ◌<◌, IfOk, bytes_eq};
+ghost use Rattle.smv_meaning.specs.Values.{given, is_true, value_same, no_value};
+ghost use Rattle.smv_meaning.specs.Instances.{dotted};
+ghost use Rattle.smv_meaning.specs.View.{seen_value, stated};
+
+use crate::value::{Given, State, Value};
+use std::alloc::Global;
+use text_core::{Name, NoMemory};
+use word_core::Word;
+
+/// A value, its symbol borrowed.
+#[derive(Drop)]
+pub enum Seen<'a> {
+    Truth(bool),
+    Integer(i64),
+    Symbol(&'a [u8]),
+    Bits(Word),
+}
+
+/// What stands for the value where there is none.
+pub fn no_seen<'a>() -> Seen<'a>
+    ensures { seen_value result ≡ no_value }
+{
+    Seen::Truth(false)
+}
+
+/// The value itself.
+pub fn borrowed<'a>(value: &'a Value) -> Seen<'a>
+    ensures { seen_value result ≡ value.now }
+{
+    match value {
+        Value::Truth(b) => Seen::Truth(*b),
+        Value::Integer(z) => Seen::Integer(*z),
+        Value::Symbol(s) => Seen::Symbol(s.bytes()),
+        Value::Bits(w) => Seen::Bits(*w),
+    }
+}
+
+/// The same value with a symbol of its own.
+pub fn owned(alloc: Global, value: Seen) -> Result<Value, NoMemory>
+    ensures { IfOk result (λ v. v ≡ seen_value value.entry) }
+{
+    match value {
+        Seen::Truth(b) => Ok(Value::Truth(b)),
+        Seen::Integer(z) => Ok(Value::Integer(z)),
+        Seen::Symbol(s) => Ok(Value::Symbol(Name::of(alloc, s)?)),
+        Seen::Bits(w) => Ok(Value::Bits(w)),
+    }
+}
+
+/// Is it the truth value TRUE?
+pub fn truth_of(value: &Seen) -> bool
+    ensures { result ≡ is_true (seen_value value.now) }
+{
+    match value {
+        Seen::Truth(b) => *b,
+        Seen::Integer(_) => false,
+        Seen::Symbol(_) => false,
+        Seen::Bits(_word) => false,
+    }
+}
+
+/// Are two values one?
+pub fn same(a: &Seen, b: &Seen) -> bool
+    ensures { result ≡ value_same (seen_value a.now) (seen_value b.now) }
+{
+    match a {
+        Seen::Truth(x) => match b {
+            Seen::Truth(y) => x == y,
+            _ => false,
+        },
+        Seen::Integer(x) => match b {
+            Seen::Integer(y) => x <= y && y <= x,
+            _ => false,
+        },
+        Seen::Symbol(x) => match b {
+            Seen::Symbol(y) => *x == *y,
+            _ => false,
+        },
+        Seen::Bits(x) => match b {
+            Seen::Bits(y) => x.width() == y.width() && x.bits() == y.bits(),
+            _ => false,
+        },
+    }
+}
+
+// Is the text the path, a dot and the name?
+fn follows(text: &[u8], path: &[u8], name: &[u8]) -> bool
+    ensures { result ≡ bytes_eq text.now (path.now ++ 46 ∷ name.now) }
+{
+    match path.split_first() {
+        None => match text.split_first() {
+            None => false,
+            Some((first, rest)) => *first == 46 && rest == name,
+        },
+        Some((step, more)) => match text.split_first() {
+            None => false,
+            Some((first, rest)) => *first == *step && follows(rest, more, name),
+        },
+    }
+}
+
+/// Is the text the name in the instance with this path?
+pub fn is_dotted(text: &[u8], path: &[u8], name: &[u8]) -> bool
+    ensures { result ≡ bytes_eq text.now (dotted path.now name.now) }
+{
+    if path.is_empty() {
+        text == name
+    } else {
+        follows(text, path, name)
+    }
+}
+
+/// The value that a state gives a name in the instance with this path.
+pub fn value_in<'a>(state: Option<&'a State>, path: &[u8], name: &[u8]) -> Seen<'a>
+    ensures { seen_value result ≡ stated state.entry (dotted path.now name.now) }
+{
+    match state {
+        None => no_seen(),
+        Some(state) => value_given(state, path, name),
+    }
+}
+
+#[tactic(auto, using(crate::proofs::Lists::front_is, crate::proofs::Lists::end_is))]
+fn value_given<'a>(state: &'a State, path: &[u8], name: &[u8]) -> Seen<'a>
+    ensures { seen_value result ≡ given state.now (dotted path.now name.now) }
+{
+    for i in 0..state.len() {
+        let entry = state.at(i);
+        if is_dotted(entry.name.bytes(), path, name) {
+            return borrowed(&entry.value);
+        }
+    }
+    no_seen()
+}

@@ -1,0 +1,15 @@
+use Rattle.std.proofs.Common.{◌≡◌, ◌≤◌, map, length}
+use Rattle.smv_text.specs.View.{plain_assignment}
+use Rattle.smv_parse.specs.Readers.{many}
+use Rattle.smv_parse.specs.Rules.{assignment_pick}
+use Rattle.smv_parse.proofs.Leads.{onto}
+use Rattle.smv_parse.proofs.module_sections.assignments.Given as goal
+
+abbrev pub invariant-loop-alloc : goal.invariant-loop-alloc
+invariant-loop-alloc l = record {
+  reads : many assignment_pick l.fn.high l.tokens ≡ onto (map plain_assignment l.all) (many assignment_pick l.high l.rest);
+  within : length l.rest ≤ length l.tokens;
+}
+
+abbrev pub decreases-loop-alloc : goal.decreases-loop-alloc
+decreases-loop-alloc l = length l.rest

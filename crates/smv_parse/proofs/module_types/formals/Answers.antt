@@ -1,0 +1,19 @@
+use Rattle.std.proofs.Common.{sym, ap, ◌∙◌}
+use Rattle.smv_text.specs.declared.token.Sign.TheVariants as signs
+use Rattle.smv_parse.specs.Readers.{found}
+use Rattle.smv_parse.specs.Rules.{listed, bracketed, parameter}
+use Rattle.smv_parse.proofs.Leads.{gives_same}
+use Rattle.smv_parse.proofs.Turns.{bracketed_none, bracketed_empty, bracketed_some}
+use Rattle.smv_parse.proofs.module_types.formals.Goals as goal
+
+pub returns-in-None-clause-reads : goal.returns-in-None-clause-reads
+returns-in-None-clause-reads c h =
+    bracketed_none parameter h c.args.tokens.now (sym c.in-None.ensures.found) ∙ ap (λ z. found z h c.args.tokens.now) (sym c.new.ensures)
+
+pub returns-in-Some-after-clause-reads : goal.returns-in-Some-after-clause-reads
+returns-in-Some-after-clause-reads c h =
+    bracketed_empty parameter h c.args.tokens.now c.in-Some.rest.now c.in-Some-after.last.now (sym c.in-Some.ensures.found) (sym c.in-Some-after.ensures.found) ∙ ap (λ z. found z h c.in-Some-after.last.now) (sym c.new-in-Some-after.ensures)
+
+pub returns-in-None-after-clause-reads : goal.returns-in-None-after-clause-reads
+returns-in-None-after-clause-reads c h =
+    gives_same _ (bracketed parameter h c.args.tokens.now) (listed parameter signs.Close h c.in-Some.rest.now) _ (bracketed_some parameter h c.args.tokens.now c.in-Some.rest.now (sym c.in-Some.ensures.found) (sym c.in-None-after.ensures.found)) (c.parameters.ensures.reads h)

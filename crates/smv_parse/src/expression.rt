@@ -1,0 +1,417 @@
+// The parser of expressions: an operand, and then level by level what goes on with it.
+//
+// Its functions are kept apart, so that each has a small frame: a hundred brackets with all levels in each fit a usual stack.
+
+ghost use Rattle.std.specs.Prelude.{◌≡◌, ◌<◌, ◌≤◌, ◌-◌, ◌^◌, ◌&&◌, nat_le, List, ◌∷◌, [], true, length, IfOk};
+ghost use Rattle.smv_text.specs.Levels.{all_levels};
+ghost use Rattle.smv_text.specs.Grammar.{start, Spells};
+ghost use Rattle.smv_text.specs.Tree.{Tree};
+ghost use Rattle.smv_parse.specs.Kept.{cap};
+ghost use Rattle.smv_parse.specs.Ranks.{level_at, tightest};
+ghost use Rattle.smv_parse.specs.Gathered.{read_of};
+ghost use Rattle.smv_parse.specs.Machine.{bare, operand, when, selected, condition, listing, ask, have, signed, open_next, opened, is_prefix, prefix_sign, closing_of};
+ghost use Rattle.smv_parse.specs.Reading.{starts_range, waiting, Leads, Follows, Selects, Takes};
+
+use crate::kept::{
+    Cases, Kept, Listing, Members, Operands, leaf, next_value, prefixed as with_prefix, selected,
+};
+use crate::leaves::{expect, integer, number, path, starts_range};
+use crate::levels::{Leader, first_rank, joint_after, leader_of, level_at};
+use crate::marks::{after, after_word, is_sign};
+use crate::stop::Stop;
+use smv_text::{Joint, Level, Prefix, Reserved, Shape, Sign, Token, TokenKind};
+use std::alloc::Global;
+use text_core::Place;
+
+/// The expression that comes first, and the tokens behind it. It goes on as long as it can.
+pub(crate) fn expression<'a>(
+    alloc: Global,
+    tokens: &'a [Token],
+) -> Result<(Kept, &'a [Token]), Stop>
+    requires { length tokens.now < 2 ^ 32 }
+    // It is what the machine comes to, with the tokens behind it.
+    ensures takes { Takes (λ x. (read_of x.0, x.1.now)) tokens.now result }
+    ensures shorter { IfOk result (λ x. length x.1.now < length tokens.now) }
+{
+    read(alloc, 16, tokens)
+}
+
+/// No tokens spell two expressions.
+pub fn one_tree()
+    ensures { (xs : List Token) (t u : Tree) → Spells all_levels t xs → Spells all_levels u xs → t ≡ u }
+{}
+
+/// The place of the first token; a text's first byte where there is none.
+pub(crate) fn start(tokens: &[Token]) -> Place
+    ensures { result ≡ start tokens.now }
+{
+    match tokens.first() {
+        Some(token) => token.place,
+        None => Place {
+            line: 1,
+            column: 1,
+            offset: 0,
+        },
+    }
+}
+
+// An expression of so many levels.
+#[cycle(read)]
+fn read<'a>(alloc: Global, levels: usize, tokens: &'a [Token]) -> Result<(Kept, &'a [Token]), Stop>
+    requires few { levels ≤ 16 }
+    requires short { length tokens.now < 2 ^ 32 }
+    ensures reads { Follows (λ x. (read_of x.0, x.1.now)) (ask (tightest levels)) tokens.now result }
+    ensures shorter { IfOk result (λ x. length x.1.now < length tokens.now) }
+{
+    let (kept, level, rest) = begin(alloc, levels, tokens)?;
+    climb(alloc, levels, start(tokens), level, kept, rest)
+}
+
+// The first operand of an expression of so many levels: how many levels it was read at, and the tokens behind it.
+#[cycle(read)]
+#[inline(never)]
+fn begin<'a>(
+    alloc: Global,
+    levels: usize,
+    tokens: &'a [Token],
+) -> Result<(Kept, usize, &'a [Token]), Stop>
+    requires few { levels ≤ 16 }
+    requires short { length tokens.now < 2 ^ 32 }
+    ensures reads { Leads (λ x. (read_of x.0, x.2.now)) (λ x. waiting x.1 levels (start tokens.now)) (ask (tightest levels)) tokens.now result }
+    ensures shorter { IfOk result (λ x. length x.2.now < length tokens.now) }
+{
+    match tokens.split_first() {
+        None => Err(Stop::Dead(0)),
+        Some((token, rest)) => {
+            if begins_range(levels, tokens) {
+                let (kept, last) = range(token.place, tokens)?;
+                Ok((kept, 8, last))
+            } else if begins_prefix(levels, 4, Prefix::Minus, &token.kind) {
+                let (kept, last) = prefixed(alloc, Prefix::Minus, 3, token.place, rest)?;
+                Ok((kept, 4, last))
+            } else if begins_prefix(levels, 2, Prefix::Not, &token.kind) {
+                let (kept, last) = prefixed(alloc, Prefix::Not, 1, token.place, rest)?;
+                Ok((kept, 2, last))
+            } else {
+                let (kept, last) = primary(alloc, tokens)?;
+                Ok((kept, 0, last))
+            }
+        }
+    }
+}
+
+fn begins_range(levels: usize, tokens: &[Token]) -> bool
+    ensures { result ≡ (nat_le 8 levels && starts_range tokens.now) }
+{
+    8 <= levels && starts_range(tokens)
+}
+
+fn begins_prefix(levels: usize, least: usize, prefix: Prefix, kind: &TokenKind) -> bool
+    ensures { result ≡ (nat_le least levels && is_prefix prefix kind.now) }
+{
+    least <= levels && is_sign(kind, sign_of(prefix))
+}
+
+#[inline(never)]
+fn range(place: Place, tokens: &[Token]) -> Result<(Kept, &[Token]), Stop>
+    requires starts { starts_range tokens.now ≡ true }
+    requires first { place ≡ start tokens.now }
+    ensures reads { Follows (λ x. (read_of x.0, x.1.now)) (ask (tightest 8)) tokens.now result }
+    ensures shorter { IfOk result (λ x. length x.1.now < length tokens.now) }
+{
+    let (low, dots) = integer(tokens)?;
+    let behind = expect(dots, Sign::Range)?;
+    let (high, rest) = integer(behind)?;
+    Ok((leaf(place, Shape::Range(low, high)), rest))
+}
+
+// What goes on with an operand that was read at so many of the levels: each time the level that the next token goes on with, as
+// long as it is one of those between.
+#[cycle(read)]
+#[inline(never)]
+fn climb<'a>(
+    alloc: Global,
+    levels: usize,
+    place: Place,
+    level: usize,
+    first: Kept,
+    tokens: &'a [Token],
+) -> Result<(Kept, &'a [Token]), Stop>
+    requires few { levels ≤ 16 }
+    requires short { length tokens.now < 2 ^ 32 }
+    ensures reads { (t : Tree) → read_of first ≡ cap t → Follows (λ x. (read_of x.0, x.1.now)) (λ k. have t (waiting level levels place k)) tokens.now result }
+    ensures shorter { IfOk result (λ x. length x.1.now ≤ length tokens.now) }
+{
+    let mut kept = first;
+    let mut below = level;
+    let mut rest = tokens;
+    loop {
+        let rank = first_rank(rest);
+        if rank <= below || levels < rank {
+            return Ok((kept, rest));
+        }
+        let (more, last) = grown(alloc, rank - 1, place, kept, rest)?;
+        kept = more;
+        below = rank;
+        rest = last;
+    }
+}
+
+// What the level over so many others makes of its first operand.
+#[cycle(read)]
+#[inline(never)]
+fn grown<'a>(
+    alloc: Global,
+    below: usize,
+    place: Place,
+    first: Kept,
+    tokens: &'a [Token],
+) -> Result<(Kept, &'a [Token]), Stop>
+    requires few { below < 16 }
+    requires short { length tokens.now < 2 ^ 32 }
+    ensures reads { (t : Tree) → read_of first ≡ cap t → Follows (λ x. (read_of x.0, x.1.now)) (λ k. have t (opened (level_at below) (tightest below) place k)) tokens.now result }
+    ensures shorter { IfOk result (λ x. length x.1.now ≤ length tokens.now) }
+{
+    match level_at(below) {
+        Level::Chain(joint) => chain(alloc, joint, below, place, first, tokens),
+        Level::Choice => choice(alloc, below, place, first, tokens),
+        Level::Range => Ok((first, tokens)),
+        Level::Before(_) => Ok((first, tokens)),
+        Level::Selection => selections(alloc, place, first, tokens),
+    }
+}
+
+#[cycle(read)]
+#[inline(never)]
+fn chain<'a>(
+    alloc: Global,
+    joint: Joint,
+    below: usize,
+    place: Place,
+    first: Kept,
+    tokens: &'a [Token],
+) -> Result<(Kept, &'a [Token]), Stop>
+    requires few { below < 16 }
+    requires short { length tokens.now < 2 ^ 32 }
+    ensures reads { (t : Tree) → read_of first ≡ cap t → Follows (λ x. (read_of x.0, x.1.now)) (λ k. have t (operand joint (tightest below) place bare ∷ k)) tokens.now result }
+    ensures shorter { IfOk result (λ x. length x.1.now ≤ length tokens.now) }
+{
+    let mut operands = Operands::new(alloc, first.height);
+    let mut rest = tokens;
+    while let Some((op, more)) = joint_after(rest, joint) {
+        let (operand, last) = read(alloc, below, more)?;
+        operands.push(op, operand)?;
+        rest = last;
+    }
+    Ok((operands.chain(alloc, place, first)?, rest))
+}
+
+#[cycle(read)]
+#[inline(never)]
+fn choice<'a>(
+    alloc: Global,
+    below: usize,
+    place: Place,
+    first: Kept,
+    tokens: &'a [Token],
+) -> Result<(Kept, &'a [Token]), Stop>
+    requires few { below < 16 }
+    requires short { length tokens.now < 2 ^ 32 }
+    ensures reads { (t : Tree) → read_of first ≡ cap t → Follows (λ x. (read_of x.0, x.1.now)) (λ k. have t (when (tightest below) place [] ∷ k)) tokens.now result }
+    ensures shorter { IfOk result (λ x. length x.1.now ≤ length tokens.now) }
+{
+    let mut branches = Cases::new(alloc);
+    let mut last = first;
+    let mut rest = tokens;
+    while let Some(more) = after(rest, Sign::Question) {
+        let (value, next) = read(alloc, below, more)?;
+        let behind = expect(next, Sign::Colon)?;
+        let (other, end) = read(alloc, below, behind)?;
+        branches.push(last, value)?;
+        last = other;
+        rest = end;
+    }
+    Ok((branches.choice(alloc, place, last)?, rest))
+}
+
+#[inline(never)]
+fn selections<'a>(
+    alloc: Global,
+    place: Place,
+    first: Kept,
+    tokens: &'a [Token],
+) -> Result<(Kept, &'a [Token]), Stop>
+    ensures reads { (t : Tree) → read_of first ≡ cap t → Follows (λ x. (read_of x.0, x.1.now)) (λ k. have t (selected place ∷ k)) tokens.now result }
+    ensures shorter { IfOk result (λ x. length x.1.now ≤ length tokens.now) }
+{
+    let mut kept = first;
+    let mut rest = tokens;
+    while let Some(more) = after(rest, Sign::OpenBracket) {
+        let (high, low, last) = ends(more)?;
+        kept = selected(alloc, place, kept, high, low)?;
+        rest = last;
+    }
+    Ok((kept, rest))
+}
+
+// The ends of a selection, behind its opening bracket.
+fn ends(tokens: &[Token]) -> Result<(u64, u64, &[Token]), Stop>
+    ensures reads { Selects (λ x. (x.0, x.1, x.2.now)) tokens.now result }
+    ensures shorter { IfOk result (λ x. length x.2.now < length tokens.now) }
+{
+    let (high, colon) = number(tokens)?;
+    let behind = expect(colon, Sign::Colon)?;
+    let (low, closing) = number(behind)?;
+    let rest = expect(closing, Sign::CloseBracket)?;
+    Ok((high, low, rest))
+}
+
+// An operand behind one sign of a prefix, and more of these signs.
+#[cycle(read)]
+#[inline(never)]
+fn prefixed<'a>(
+    alloc: Global,
+    prefix: Prefix,
+    below: usize,
+    place: Place,
+    tokens: &'a [Token],
+) -> Result<(Kept, &'a [Token]), Stop>
+    requires few { below < 16 }
+    requires short { length tokens.now < 2 ^ 32 - 1 }
+    ensures reads { Follows (λ x. (read_of x.0, x.1.now)) (signed prefix (tightest below) place 1) tokens.now result }
+    ensures shorter { IfOk result (λ x. length x.1.now < length tokens.now) }
+{
+    let mut count: u32 = 1;
+    let mut rest = tokens;
+    while let Some(more) = after(rest, sign_of(prefix)) {
+        count += 1;
+        rest = more;
+    }
+    let (operand, last) = read(alloc, below, rest)?;
+    Ok((with_prefix(alloc, place, prefix, count, operand)?, last))
+}
+
+fn sign_of(prefix: Prefix) -> Sign
+    ensures { result ≡ prefix_sign prefix }
+{
+    match prefix {
+        Prefix::Not => Sign::Not,
+        Prefix::Minus => Sign::Minus,
+    }
+}
+
+// An expression below all levels.
+#[cycle(read)]
+#[inline(never)]
+fn primary<'a>(alloc: Global, tokens: &'a [Token]) -> Result<(Kept, &'a [Token]), Stop>
+    requires short { length tokens.now < 2 ^ 32 }
+    ensures reads { Follows (λ x. (read_of x.0, x.1.now)) (ask []) tokens.now result }
+    ensures shorter { IfOk result (λ x. length x.1.now < length tokens.now) }
+{
+    match tokens.split_first() {
+        None => Err(Stop::Dead(0)),
+        Some((token, rest)) => {
+            let place = token.place;
+            match leader_of(&token.kind) {
+                Leader::Number(n) => Ok((leaf(place, Shape::Number(n)), rest)),
+                Leader::Literal(word) => Ok((leaf(place, Shape::Literal(word)), rest)),
+                Leader::Truth(true) => Ok((leaf(place, Shape::True), rest)),
+                Leader::Truth(false) => Ok((leaf(place, Shape::False), rest)),
+                Leader::Path => {
+                    let (path, last) = path(alloc, tokens)?;
+                    Ok((leaf(place, Shape::Name(path)), last))
+                }
+                Leader::Bracket => {
+                    let (kept, closing) = read(alloc, 16, rest)?;
+                    Ok((kept, expect(closing, Sign::Close)?))
+                }
+                Leader::Set => listed(alloc, place, Listing::Elements, rest),
+                Leader::Next => following(alloc, place, rest),
+                Leader::Case => cases(alloc, place, rest),
+                Leader::Call(function) => {
+                    let more = expect(rest, Sign::Open)?;
+                    listed(alloc, place, Listing::Arguments(function), more)
+                }
+                Leader::Nothing => Err(Stop::Dead(tokens.len())),
+            }
+        }
+    }
+}
+
+// The argument of `next`, from its bracket on.
+#[cycle(read)]
+#[inline(never)]
+fn following<'a>(
+    alloc: Global,
+    place: Place,
+    tokens: &'a [Token],
+) -> Result<(Kept, &'a [Token]), Stop>
+    requires short { length tokens.now < 2 ^ 32 }
+    ensures reads { Follows (λ x. (read_of x.0, x.1.now)) (open_next place) tokens.now result }
+    ensures shorter { IfOk result (λ x. length x.1.now < length tokens.now) }
+{
+    let rest = expect(tokens, Sign::Open)?;
+    let (argument, closing) = read(alloc, 16, rest)?;
+    let last = expect(closing, Sign::Close)?;
+    Ok((next_value(alloc, place, argument)?, last))
+}
+
+// A list, behind its opening bracket.
+#[cycle(read)]
+#[inline(never)]
+fn listed<'a>(
+    alloc: Global,
+    place: Place,
+    what: Listing,
+    tokens: &'a [Token],
+) -> Result<(Kept, &'a [Token]), Stop>
+    requires short { length tokens.now < 2 ^ 32 }
+    ensures reads { Follows (λ x. (read_of x.0, x.1.now)) (λ k. ask all_levels (listing place what [] ∷ k)) tokens.now result }
+    ensures shorter { IfOk result (λ x. length x.1.now < length tokens.now) }
+{
+    let mut members = Members::new(alloc);
+    let mut rest = tokens;
+    loop {
+        let (member, more) = read(alloc, 16, rest)?;
+        members.push(member)?;
+        match after(more, Sign::Comma) {
+            Some(next) => rest = next,
+            None => {
+                let last = expect(more, closing_of(what))?;
+                return Ok((members.kept(place, what), last));
+            }
+        }
+    }
+}
+
+fn closing_of(what: Listing) -> Sign
+    ensures { result ≡ closing_of what }
+{
+    match what {
+        Listing::Arguments(_) => Sign::Close,
+        Listing::Elements => Sign::CloseBrace,
+    }
+}
+
+// The conditions of a case with their values, behind the word `case`.
+#[cycle(read)]
+#[inline(never)]
+fn cases<'a>(alloc: Global, place: Place, tokens: &'a [Token]) -> Result<(Kept, &'a [Token]), Stop>
+    requires short { length tokens.now < 2 ^ 32 }
+    ensures reads { Follows (λ x. (read_of x.0, x.1.now)) (λ k. ask all_levels (condition place [] ∷ k)) tokens.now result }
+    ensures shorter { IfOk result (λ x. length x.1.now < length tokens.now) }
+{
+    let mut branches = Cases::new(alloc);
+    let mut rest = tokens;
+    loop {
+        let (when, more) = read(alloc, 16, rest)?;
+        let behind = expect(more, Sign::Colon)?;
+        let (value, end) = read(alloc, 16, behind)?;
+        let last = expect(end, Sign::Semicolon)?;
+        branches.push(when, value)?;
+        match after_word(last, Reserved::Esac) {
+            Some(done) => return Ok((branches.case(place), done)),
+            None => rest = last,
+        }
+    }
+}

@@ -1,0 +1,90 @@
+// The parser of models.
+
+ghost use Rattle.std.specs.Prelude.{◌≡◌, ◌<◌, ◌^◌, ℕ, List, None, length, IfOk, IfErr};
+ghost use Rattle.text_core.specs.declared.place.Place.{Place};
+ghost use Rattle.smv_text.specs.declared.token.Token.{Token};
+ghost use Rattle.smv_text.specs.Heights.{first_high, of_modules};
+ghost use Rattle.smv_text.specs.Sources.{SpellsSource};
+ghost use Rattle.smv_text.specs.Tree.{PlainSource};
+ghost use Rattle.smv_text.specs.View.{plain_source};
+ghost use Rattle.smv_parse.specs.Parsing.{refusal, ReadsOrHigh, number_at, dead_refusal, IsRefused};
+
+use crate::module_sections::modules;
+use crate::stop::Stop;
+use smv_text::{Source, Token, TokenKind, Tokens};
+use std::alloc::Global;
+use text_core::{Kind, Place, Refusal};
+
+/// Why tokens give no model.
+#[derive(Clone, Copy, Debug, PartialEq, Eq)]
+pub enum ParseEnd {
+    /// The tokens are refused: S5 at the first token that no model's text goes on with, or at the end of the text where it
+    /// only ends too early; S6 there, where that token is a word of NuSMV that is not supported; S7 at the first token of
+    /// the first expression that is more than 380 levels high, where the tokens are a model's.
+    Bad(Refusal),
+    NoMemory,
+}
+
+/// The model that the tokens spell (NuSMV 2.6 User Manual, 2.3). Each module counts the tokens of its body.
+pub fn parse(alloc: Global, tokens: &Tokens) -> Result<Source, ParseEnd>
+    requires { length tokens.now.items < 2 ^ 32 }
+    // The tokens spell the model, and no expression of it is too high.
+    ensures spelled { IfOk result (λ s. SpellsSource (plain_source s) tokens.now.end tokens.now.items × (first_high (of_modules (plain_source s).modules) ≡ None)) }
+    // What they spell is read, unless an expression is too high or memory runs out.
+    ensures exact { (s : PlainSource) → SpellsSource s tokens.now.end tokens.now.items → ReadsOrHigh s result }
+    // A refusal has its cause: an expression that is too high, or the dead token.
+    ensures refused { IfErr result (IsRefused tokens.now) }
+{
+    let all = tokens.as_slice();
+    let end = tokens.end();
+    match modules(alloc, None, all) {
+        Ok((modules, high, rest)) => {
+            if !rest.is_empty() {
+                return Err(ParseEnd::Bad(dead_refusal(end, rest)));
+            }
+            match high {
+                None => Ok(Source { modules, end }),
+                Some(place) => Err(ParseEnd::Bad(refusal(7, place))),
+            }
+        }
+        Err(Stop::Dead(left)) => {
+            let (_, rest) = all.split_at(all.len() - left);
+            Err(ParseEnd::Bad(dead_refusal(end, rest)))
+        }
+        Err(Stop::NoMemory) => Err(ParseEnd::NoMemory),
+    }
+}
+
+/// No tokens spell two models.
+pub fn one_source()
+    ensures { (end : Place) (xs : List Token) (s t : PlainSource) → SpellsSource s end xs → SpellsSource t end xs → s ≡ t }
+{}
+
+fn refusal(number: u8, place: Place) -> Refusal
+    ensures { result ≡ refusal number place }
+{
+    Refusal {
+        kind: Kind::S(number),
+        place,
+    }
+}
+
+// The refusal of the first token, which is dead, or of the end.
+fn dead_refusal(end: Place, tokens: &[Token]) -> Refusal
+    ensures { result ≡ dead_refusal end tokens.now }
+{
+    match tokens.first() {
+        None => refusal(5, end),
+        Some(token) => refusal(number_at(&token.kind), token.place),
+    }
+}
+
+// The number of the refusal of a dead token.
+fn number_at(kind: &TokenKind) -> u8
+    ensures { result ≡ number_at kind.now }
+{
+    match kind {
+        TokenKind::Refused => 6,
+        _ => 5,
+    }
+}

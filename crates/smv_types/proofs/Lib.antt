@@ -1,0 +1,5 @@
+pub mod Fitting
+pub mod Composing
+pub mod Stepping
+pub mod Known
+pub mod Shapes

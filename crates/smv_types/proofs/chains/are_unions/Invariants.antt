@@ -1,0 +1,8 @@
+use Rattle.std.proofs.Common.{◌≡◌, map, drop}
+use Rattle.smv_text.specs.Tree.{links_of}
+use Rattle.smv_text.specs.View.{plain_link}
+use Rattle.smv_meaning.specs.Checks.{are_unions}
+use Rattle.smv_types.proofs.chains.are_unions.Given as goal
+
+abbrev pub invariant-loop-link : goal.invariant-loop-link
+invariant-loop-link l = are_unions (links_of (map plain_link (drop l.link-index l.links))) ≡ are_unions (links_of (map plain_link l.links))

@@ -1,0 +1,257 @@
+// Chains that are read from the left: each front that ends with an operand is a node of its own.
+ghost use Rattle.std.specs.Prelude.{◌≡◌, false, map, None, Some, option_map};
+ghost use Rattle.smv_text.specs.Tree.{links_of};
+ghost use Rattle.smv_text.specs.View.{plain, plain_link};
+ghost use Rattle.smv_meaning.specs.Types.{infix_fits, infix_type, is_shift_amount, divides, shifts, joins, is_union, logical_fits, number_fits};
+ghost use Rattle.smv_meaning.specs.Checks.{across, behind, are_unions};
+ghost use Rattle.smv_meaning.specs.Expressions.{is_implies, are_implies, is_from_right};
+ghost use Rattle.smv_types.specs.View.{seen, standing_seen};
+ghost use Rattle.smv_types.specs.Outcome.{Answers, Kept};
+ghost use Rattle.smv_types.specs.Steps.{front_step, is_concat};
+
+use crate::arguments::{divisor_of, is_divisor, number_of};
+use crate::ends::{
+    BAD_DIVISOR, BAD_SELECT, BAD_SHIFT, INT_TOO_WIDE, SET_HERE, TYPE_CLASH, check, refusal,
+};
+use crate::intervals::{
+    difference_type, hull, kept, product_type, quotient_type, rest_type, sum_type,
+};
+use crate::positions::Standing;
+use crate::types::Ty;
+use smv_text::{Expr, Infix, Link};
+use text_core::{Place, Refusal};
+use word_core::WIDEST;
+
+pub(crate) fn logical_fits(t: Ty, u: Ty) -> bool
+    ensures { result ≡ logical_fits (seen t) (seen u) }
+{
+    (t.is_truth() && u.is_truth()) || t.is_as_wide(u)
+}
+
+fn number_fits(t: Ty, u: Ty) -> bool
+    ensures { result ≡ number_fits (seen t) (seen u) }
+{
+    (t.is_integer() && u.is_integer()) || t.is_as_wide(u)
+}
+
+// Do the operands fit the operator?
+fn infix_fits(op: Infix, t: Ty, u: Ty) -> bool
+    ensures { result ≡ infix_fits op (seen t) (seen u) }
+{
+    match op {
+        Infix::Implies | Infix::Iff | Infix::Or | Infix::Xor | Infix::Xnor | Infix::And => {
+            logical_fits(t, u)
+        }
+        Infix::Equal | Infix::Unequal | Infix::Member | Infix::Union => t.is_same(u),
+        Infix::Less
+        | Infix::Greater
+        | Infix::LessEq
+        | Infix::GreaterEq
+        | Infix::Plus
+        | Infix::Minus
+        | Infix::Times
+        | Infix::Divide
+        | Infix::Mod => number_fits(t, u),
+        Infix::ShiftLeft | Infix::ShiftRight => t.is_word(),
+        Infix::Concat => t.is_word() && u.is_word(),
+    }
+}
+
+// The type of the whole, where its interval is within the limit.
+fn infix_type(op: Infix, t: Ty, u: Ty, operand: &Expr) -> Option<Ty>
+    requires { is_concat op ≡ false }
+    ensures { Kept result (infix_type op (seen t) (seen u) (plain operand.now)) }
+{
+    match op {
+        Infix::Implies
+        | Infix::Iff
+        | Infix::Or
+        | Infix::Xor
+        | Infix::Xnor
+        | Infix::And
+        | Infix::ShiftLeft
+        | Infix::ShiftRight => kept(t),
+        Infix::Equal
+        | Infix::Unequal
+        | Infix::Less
+        | Infix::Greater
+        | Infix::LessEq
+        | Infix::GreaterEq
+        | Infix::Member => Some(Ty::Truth),
+        Infix::Union => kept(hull(t, u)),
+        Infix::Plus => sum_type(t, u),
+        Infix::Minus => difference_type(t, u),
+        Infix::Times => product_type(t, u),
+        Infix::Divide => quotient_type(t, divisor_of(operand)),
+        Infix::Mod => rest_type(t, divisor_of(operand)),
+        Infix::Concat => unreachable!(),
+    }
+}
+
+// The right operand of a division is a divisor.
+fn divides(op: Infix, operand: &Expr) -> bool
+    ensures { result ≡ divides op (plain operand.now) }
+{
+    match op {
+        Infix::Divide | Infix::Mod => is_divisor(operand),
+        _ => true,
+    }
+}
+
+// The right operand of a shift is a number from 0 to the width.
+fn shifts(op: Infix, t: Ty, operand: &Expr) -> bool
+    ensures { result ≡ shifts op (seen t) (plain operand.now) }
+{
+    match op {
+        Infix::ShiftLeft | Infix::ShiftRight => match number_of(operand) {
+            Some(n) => n <= t.width() as u64,
+            None => false,
+        },
+        _ => true,
+    }
+}
+
+fn is_union(op: Infix) -> bool
+    ensures { result ≡ is_union op }
+{
+    match op {
+        Infix::Union => true,
+        _ => false,
+    }
+}
+
+fn is_concat(op: Infix) -> bool
+    ensures { result ≡ is_concat op }
+{
+    match op {
+        Infix::Concat => true,
+        _ => false,
+    }
+}
+
+// Words that are joined.
+fn joined(at: Standing, place: Place, t: Ty, u: Ty, operand: &Expr) -> Result<Option<Ty>, Refusal>
+    ensures { Answers result (front_step Infix.Concat (standing_seen at) place (Some (seen t)) (Some (seen u)) (plain operand.now)) }
+{
+    check(TYPE_CLASH, place, t.is_word() && u.is_word())?;
+    let width = t.width() as u64 + u.width() as u64;
+    check(BAD_SELECT, place, 1 <= width && width <= WIDEST as u64)?;
+    Ok(Some(Ty::Bits(width as u32)))
+}
+
+fn combined(
+    op: Infix,
+    at: Standing,
+    place: Place,
+    t: Ty,
+    u: Ty,
+    operand: &Expr,
+) -> Result<Option<Ty>, Refusal>
+    requires { is_concat op ≡ false }
+    ensures { Answers result (front_step op (standing_seen at) place (Some (seen t)) (Some (seen u)) (plain operand.now)) }
+{
+    check(TYPE_CLASH, place, infix_fits(op, t, u))?;
+    match infix_type(op, t, u, operand) {
+        None => Err(refusal(INT_TOO_WIDE, place)),
+        Some(whole) => {
+            check(SET_HERE, place, !is_union(op) || at.sets)?;
+            check(BAD_DIVISOR, place, divides(op, operand))?;
+            check(BAD_SHIFT, place, shifts(op, t, operand))?;
+            Ok(Some(whole))
+        }
+    }
+}
+
+// Where an operand has no type, the position of a set and the text of a divisor are checked alone.
+fn untyped(op: Infix, at: Standing, place: Place, operand: &Expr) -> Result<Option<Ty>, Refusal>
+    ensures { Answers result (front_step op (standing_seen at) place None None (plain operand.now)) }
+{
+    check(SET_HERE, place, !is_union(op) || at.sets)?;
+    check(BAD_DIVISOR, place, divides(op, operand))?;
+    Ok(None)
+}
+
+// The front of a chain that ends with an operand, given the types of what stands before it and of the operand.
+pub(crate) fn front(
+    op: Infix,
+    at: Standing,
+    place: Place,
+    left: Option<Ty>,
+    right: Option<Ty>,
+    operand: &Expr,
+) -> Result<Option<Ty>, Refusal>
+    ensures { Answers result (front_step op (standing_seen at) place (option_map seen left) (option_map seen right) (plain operand.now)) }
+{
+    match left {
+        None => untyped(op, at, place, operand),
+        Some(t) => match right {
+            None => untyped(op, at, place, operand),
+            Some(u) => {
+                if is_concat(op) {
+                    joined(at, place, t, u, operand)
+                } else {
+                    combined(op, at, place, t, u, operand)
+                }
+            }
+        },
+    }
+}
+
+// Is the chain read from the right? A chain of `->` has no other operator.
+pub(crate) fn is_from_right(links: &[Link]) -> bool
+    ensures { result ≡ is_from_right (links_of (map plain_link links.now)) }
+{
+    match links.split_first() {
+        None => false,
+        Some((link, rest)) => is_implies(link.op) && are_implies(rest),
+    }
+}
+
+fn are_implies(links: &[Link]) -> bool
+    ensures { result ≡ are_implies (links_of (map plain_link links.now)) }
+{
+    for link in links {
+        if !is_implies(link.op) {
+            return false;
+        }
+    }
+    true
+}
+
+fn is_implies(op: Infix) -> bool
+    ensures { result ≡ is_implies op }
+{
+    match op {
+        Infix::Implies => true,
+        _ => false,
+    }
+}
+
+fn are_unions(links: &[Link]) -> bool
+    ensures { result ≡ are_unions (links_of (map plain_link links.now)) }
+{
+    for link in links {
+        if !is_union(link.op) {
+            return false;
+        }
+    }
+    true
+}
+
+// The position of a chain's first operand: a set stands in a chain of `union`, where the whole may be one.
+pub(crate) fn across(links: &[Link], at: Standing) -> Standing
+    ensures { standing_seen result ≡ across (links_of (map plain_link links.now)) (standing_seen at) }
+{
+    if are_unions(links) { at } else { at.single() }
+}
+
+// The position of the operand behind an operator: behind `in` a set may stand.
+pub(crate) fn behind(op: Infix, at: Standing) -> Standing
+    ensures { standing_seen result ≡ behind op (standing_seen at) }
+{
+    match op {
+        Infix::Member => at.with_sets(),
+        Infix::Union => at,
+        _ => at.single(),
+    }
+}

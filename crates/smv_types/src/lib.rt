@@ -1,0 +1,22 @@
+//! The types of SMV expressions, with the intervals of integers, and the checks of expressions in their order.
+#![tactic(auto)]
+
+mod arguments;
+mod calls;
+mod chains;
+mod ends;
+mod intervals;
+mod lists;
+mod names;
+mod nodes;
+mod positions;
+#[cfg(test)]
+mod tests;
+mod types;
+mod typing;
+
+pub use ends::CheckEnd;
+pub use names::{Named, Scope};
+pub use positions::Position;
+pub use types::Ty;
+pub use typing::type_of;

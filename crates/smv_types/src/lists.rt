@@ -1,0 +1,194 @@
+// The types of several operands.
+ghost use Rattle.std.specs.Prelude.{◌≡◌, map, option_map, MatchResult};
+ghost use Rattle.std.specs.List.{list_all};
+ghost use Rattle.smv_meaning.specs.Types.{is_truth_type, type_same, logical_fits, are_same, hull_with, hull_of, implies_fits};
+ghost use Rattle.smv_meaning.specs.Checks.{all_types};
+ghost use Rattle.smv_types.specs.View.{seen, standing_seen};
+ghost use Rattle.smv_types.specs.Outcome.{Answers, Ends};
+ghost use Rattle.smv_types.specs.Steps.{implies_step, branches_step, set_step};
+
+use crate::chains::logical_fits;
+use crate::ends::{CheckEnd, SET_HERE, TYPE_CLASH, answered, check, refusal};
+use crate::intervals::hull;
+use crate::positions::Standing;
+use crate::types::Ty;
+use std::alloc::Global;
+use text_core::{Place, Refusal};
+
+// The types of operands that all have one.
+pub(crate) fn all_types(alloc: Global, types: &[Option<Ty>]) -> Result<Option<Vec<Ty>>, CheckEnd>
+    ensures { MatchResult result (λ o. option_map (λ v. map seen v.items) o ≡ all_types (map (option_map seen) types.now)) (λ e. e ≡ CheckEnd.NoMemory) }
+{
+    let mut all = Vec::new(alloc);
+    for t in types {
+        match t {
+            Some(t) => all.push(*t)?,
+            None => return Ok(None),
+        }
+    }
+    Ok(Some(all))
+}
+
+pub(crate) fn are_truths(types: &[Ty]) -> bool
+    ensures { result ≡ list_all is_truth_type (map seen types.now) }
+{
+    for t in types {
+        if !t.is_truth() {
+            return false;
+        }
+    }
+    true
+}
+
+// Are they all as this one?
+fn are_as(t: Ty, types: &[Ty]) -> bool
+    ensures { result ≡ list_all (type_same (seen t)) (map seen types.now) }
+{
+    for u in types {
+        if !t.is_same(*u) {
+            return false;
+        }
+    }
+    true
+}
+
+// Are there some, and have they one type?
+fn are_same(types: &[Ty]) -> bool
+    ensures { result ≡ are_same (map seen types.now) }
+{
+    match types {
+        [] => false,
+        [t, rest @ ..] => are_as(*t, rest),
+    }
+}
+
+fn hull_with(t: Ty, types: &[Ty]) -> Ty
+    ensures { seen result ≡ hull_with (seen t) (map seen types.now) }
+{
+    let mut all = t;
+    for u in types {
+        all = hull(all, *u);
+    }
+    all
+}
+
+// The type that holds all.
+fn hull_of(types: &[Ty]) -> Ty
+    ensures { seen result ≡ hull_of (map seen types.now) }
+{
+    match types {
+        [] => Ty::Truth,
+        [t, rest @ ..] => hull_with(*t, rest),
+    }
+}
+
+// Do all fit this one as the operands of a logical operator?
+fn all_fit(t: Ty, types: &[Ty]) -> bool
+    ensures { result ≡ list_all (logical_fits (seen t)) (map seen types.now) }
+{
+    for u in types {
+        if !logical_fits(t, *u) {
+            return false;
+        }
+    }
+    true
+}
+
+fn implication(place: Place, types: &Option<Vec<Ty>>) -> Result<Option<Ty>, Refusal>
+    ensures { Answers result (implies_step place (option_map (λ v. map seen v.items) types.now)) }
+{
+    match types {
+        None => Ok(None),
+        Some(types) => match types.as_slice() {
+            [] => Err(refusal(TYPE_CLASH, place)),
+            [t, rest @ ..] => {
+                check(TYPE_CLASH, place, all_fit(*t, rest))?;
+                Ok(Some(*t))
+            }
+        },
+    }
+}
+
+fn branching(
+    place: Place,
+    conditions: &Option<Vec<Ty>>,
+    values: &Option<Vec<Ty>>,
+) -> Result<Option<Ty>, Refusal>
+    ensures { Answers result (branches_step place (option_map (λ v. map seen v.items) conditions.now) (option_map (λ v. map seen v.items) values.now)) }
+{
+    match conditions {
+        None => Ok(None),
+        Some(conditions) => match values {
+            None => Ok(None),
+            Some(values) => {
+                check(
+                    TYPE_CLASH,
+                    place,
+                    are_truths(conditions) && are_same(values),
+                )?;
+                Ok(Some(hull_of(values)))
+            }
+        },
+    }
+}
+
+fn gathering(place: Place, at: Standing, types: &Option<Vec<Ty>>) -> Result<Option<Ty>, Refusal>
+    ensures { Answers result (set_step place (standing_seen at) (option_map (λ v. map seen v.items) types.now)) }
+{
+    match types {
+        None => {
+            check(SET_HERE, place, at.sets)?;
+            Ok(None)
+        }
+        Some(types) => {
+            check(TYPE_CLASH, place, are_same(types))?;
+            check(SET_HERE, place, at.sets)?;
+            Ok(Some(hull_of(types)))
+        }
+    }
+}
+
+// The operands of a chain of `->`.
+pub(crate) fn implied(
+    alloc: Global,
+    place: Place,
+    types: &[Option<Ty>],
+) -> Result<Option<Ty>, CheckEnd>
+    ensures { Ends result (implies_step place (all_types (map (option_map seen) types.now))) }
+{
+    let types = all_types(alloc, types)?;
+    answered(implication(place, &types))
+}
+
+// The types of the conditions and of the values of branches.
+#[derive(Drop)]
+pub(crate) struct BranchTypes {
+    pub(crate) conditions: Vec<Option<Ty>>,
+    pub(crate) values: Vec<Option<Ty>>,
+}
+
+// The branches of a case or of a choice.
+pub(crate) fn branched(
+    alloc: Global,
+    place: Place,
+    types: &BranchTypes,
+) -> Result<Option<Ty>, CheckEnd>
+    ensures { Ends result (branches_step place (all_types (map (option_map seen) types.now.conditions.items)) (all_types (map (option_map seen) types.now.values.items))) }
+{
+    let conditions = all_types(alloc, &types.conditions)?;
+    let values = all_types(alloc, &types.values)?;
+    answered(branching(place, &conditions, &values))
+}
+
+// The elements of a set.
+pub(crate) fn gathered(
+    alloc: Global,
+    place: Place,
+    at: Standing,
+    types: &[Option<Ty>],
+) -> Result<Option<Ty>, CheckEnd>
+    ensures { Ends result (set_step place (standing_seen at) (all_types (map (option_map seen) types.now))) }
+{
+    let types = all_types(alloc, types)?;
+    answered(gathering(place, at, &types))
+}

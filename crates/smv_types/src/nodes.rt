@@ -1,0 +1,121 @@
+// The checks and the types of single nodes, given the types of their operands.
+ghost use Rattle.std.specs.Prelude.{◌≡◌, MatchResult, Some, option_map, pos};
+ghost use Rattle.smv_meaning.specs.Types.{prefix_fits, prefix_type};
+ghost use Rattle.smv_types.specs.View.{seen, named_seen, standing_seen};
+ghost use Rattle.smv_types.specs.Outcome.{Answers, Kept};
+ghost use Rattle.smv_types.specs.Steps.{number_step, name_step, prefix_step, select_step, next_step, range_step};
+
+use crate::ends::{
+    BAD_SELECT, EMPTY_RANGE, INPUT_HERE, INT_TOO_WIDE, NEXT_HERE, SET_HERE, TYPE_CLASH, check,
+    refusal,
+};
+use crate::intervals::{kept, limited, negation_type, within};
+use crate::names::Named;
+use crate::positions::Standing;
+use crate::types::Ty;
+use smv_text::Prefix;
+use text_core::{Place, Refusal};
+
+pub(crate) fn number(place: Place, n: u64) -> Result<Option<Ty>, Refusal>
+    ensures { Answers result (number_step place n) }
+{
+    match within(n as i128, n as i128) {
+        Some(t) => Ok(Some(t)),
+        None => Err(refusal(INT_TOO_WIDE, place)),
+    }
+}
+
+pub(crate) fn name(place: Place, at: Standing, named: Named) -> Result<Option<Ty>, Refusal>
+    ensures { Answers result (name_step place (standing_seen at) (named_seen named)) }
+{
+    check(TYPE_CLASH, place, !named.is_instance)?;
+    check(INPUT_HERE, place, at.inputs || !named.reaches_input)?;
+    Ok(named.ty)
+}
+
+// Does the sign fit the type?
+fn sign_fits(sign: Prefix, t: Ty) -> bool
+    ensures { result ≡ prefix_fits sign (seen t) }
+{
+    match sign {
+        Prefix::Not => t.is_truth() || t.is_word(),
+        Prefix::Minus => t.is_integer() || t.is_word(),
+    }
+}
+
+fn signed_type(sign: Prefix, count: u32, t: Ty) -> Option<Ty>
+    ensures { Kept result (prefix_type sign count (seen t)) }
+{
+    match sign {
+        Prefix::Not => kept(t),
+        Prefix::Minus => {
+            if count % 2 == 1 {
+                negation_type(t)
+            } else {
+                kept(t)
+            }
+        }
+    }
+}
+
+pub(crate) fn signed(
+    place: Place,
+    sign: Prefix,
+    count: u32,
+    operand: Option<Ty>,
+) -> Result<Option<Ty>, Refusal>
+    ensures { Answers result (prefix_step place sign count (option_map seen operand)) }
+{
+    match operand {
+        None => Ok(None),
+        Some(t) => {
+            check(TYPE_CLASH, place, sign_fits(sign, t))?;
+            match signed_type(sign, count, t) {
+                Some(whole) => Ok(Some(whole)),
+                None => Err(refusal(INT_TOO_WIDE, place)),
+            }
+        }
+    }
+}
+
+pub(crate) fn selected(
+    place: Place,
+    operand: Option<Ty>,
+    high: u64,
+    low: u64,
+) -> Result<Option<Ty>, Refusal>
+    ensures { Answers result (select_step place high low (option_map seen operand)) }
+{
+    match operand {
+        None => Ok(None),
+        Some(t) => {
+            check(TYPE_CLASH, place, t.is_word())?;
+            check(BAD_SELECT, place, high < t.width() as u64 && low <= high)?;
+            Ok(Some(Ty::Bits((high - low + 1) as u32)))
+        }
+    }
+}
+
+pub(crate) fn following(
+    place: Place,
+    at: Standing,
+    operand: Option<Ty>,
+) -> Result<Option<Ty>, Refusal>
+    ensures { Answers result (next_step place (standing_seen at) (option_map seen operand)) }
+{
+    check(NEXT_HERE, place, at.nexts)?;
+    Ok(operand)
+}
+
+pub(crate) fn range(place: Place, at: Standing, low: i64, high: i64) -> Result<Option<Ty>, Refusal>
+    ensures { Answers result (range_step place (standing_seen at) low high) }
+{
+    match limited(low, high) {
+        None => Err(refusal(INT_TOO_WIDE, place)),
+        Some(t) => {
+            check(SET_HERE, place, at.sets)?;
+            check(EMPTY_RANGE, place, low <= high)?;
+            Ok(Some(t))
+        }
+    }
+}

@@ -1,0 +1,290 @@
+// The checks of an expression and its type, in one pass.
+ghost use Rattle.std.specs.Prelude.{◌≡◌, [], ◌∷◌, IsTrue, IfOk, IfErr, None, map, option_map};
+ghost use Rattle.std.specs.List.{list_all};
+ghost use Rattle.smv_text.specs.Tree.{prefix, cases, select, call, next, set, links_of, branches_of, trees_of};
+ghost use Rattle.smv_text.specs.View.{plain, plain_link, plain_branch};
+ghost use Rattle.smv_meaning.specs.Expressions.{paths_of};
+ghost use Rattle.smv_meaning.specs.Checks.{typing, single, linked, tree_checks, tree_types, link_checks, link_types, branch_checks, condition_types, value_types, first_failing};
+ghost use Rattle.smv_types.specs.View.{seen, standing_seen, position_seen};
+ghost use Rattle.smv_types.specs.Outcome.{Ends, IsBad, is_known, links_known, branches_known, trees_known};
+ghost use Rattle.smv_types.specs.Steps.{passed, implications_step};
+
+use crate::calls::called;
+use crate::chains::{across, behind, front, is_from_right};
+use crate::ends::{CheckEnd, answered};
+use crate::lists::{BranchTypes, branched, gathered, implied};
+use crate::names::Scope;
+use crate::nodes::{following, name, number, range, selected, signed};
+use crate::positions::{Position, Standing};
+use crate::types::Ty;
+use smv_text::{Branch, Expr, Function, Link, Prefix, Shape};
+use std::alloc::Global;
+use text_core::Place;
+
+/// The type of an expression, with the interval of an integer, where all its checks hold; `Ok(None)` where they hold and it
+/// has no type. Otherwise the first refusal, with S16 to S20 and S23 to S26. Checks come in the order of the text, those of the
+/// operands before those of their node. (NuSMV 2.6 User Manual, 2.2; intervals and their limit are this translator's own.)
+pub fn type_of<C: Scope>(
+    alloc: Global,
+    scope: &C,
+    expr: &Expr,
+    position: Position,
+) -> Result<Option<Ty>, CheckEnd>
+    requires { IsTrue (list_all (C.knows scope.now) (paths_of (plain expr.now) [])) }
+    ensures passes { IfOk result (λ o. first_failing (typing (C.names scope.now) (position_seen position) (plain expr.now)).checks ≡ None) }
+    ensures typed { IfOk result (λ o. option_map seen o ≡ (typing (C.names scope.now) (position_seen position) (plain expr.now)).type) }
+    ensures refused { IfErr result (λ e. IsBad e (first_failing (typing (C.names scope.now) (position_seen position) (plain expr.now)).checks)) }
+{
+    typed(alloc, scope, expr, Standing::of(position))
+}
+
+#[cycle(typing)]
+fn typed<C: Scope>(
+    alloc: Global,
+    scope: &C,
+    expr: &Expr,
+    at: Standing,
+) -> Result<Option<Ty>, CheckEnd>
+    requires { IsTrue (is_known (C.knows scope.now) (plain expr.now)) }
+    ensures { Ends result (typing (C.names scope.now) (standing_seen at) (plain expr.now)) }
+{
+    let place = expr.place;
+    match &expr.shape {
+        Shape::True | Shape::False => Ok(Some(Ty::Truth)),
+        Shape::Number(n) => answered(number(place, *n)),
+        Shape::Literal(word) => Ok(Some(Ty::Bits(word.width()))),
+        Shape::Name(path) => answered(name(place, at, scope.named(path))),
+        Shape::Prefix(sign, count, operand) => {
+            prefix_typed(alloc, scope, place, *sign, *count, operand, at)
+        }
+        Shape::Chain(first, links) => {
+            let links = links.as_slice();
+            if is_from_right(links) {
+                let t = typed(alloc, scope, first, at.single())?;
+                implications_typed(alloc, scope, place, t, links, at.single())
+            } else {
+                let at = across(links, at);
+                let t = typed(alloc, scope, first, at)?;
+                fronts_typed(alloc, scope, place, t, links, at)
+            }
+        }
+        Shape::Choice(branches, last) => {
+            let mut types = branch_types(alloc, scope, branches, at)?;
+            let t = typed(alloc, scope, last, at)?;
+            types.values.push(t)?;
+            branched(alloc, place, &types)
+        }
+        Shape::Case(branches) => case_typed(alloc, scope, place, branches, at),
+        Shape::Select(operand, high, low) => {
+            select_typed(alloc, scope, place, operand, *high, *low, at)
+        }
+        Shape::Call(function, arguments) => {
+            call_typed(alloc, scope, place, *function, arguments, at)
+        }
+        Shape::Next(operand) => next_typed(alloc, scope, place, operand, at),
+        Shape::Set(elements) => set_typed(alloc, scope, place, elements, at),
+        Shape::Range(low, high) => answered(range(place, at, *low, *high)),
+    }
+}
+
+#[cycle(typing)]
+fn prefix_typed<C: Scope>(
+    alloc: Global,
+    scope: &C,
+    place: Place,
+    sign: Prefix,
+    count: u32,
+    operand: &Expr,
+    at: Standing,
+) -> Result<Option<Ty>, CheckEnd>
+    requires { IsTrue (is_known (C.knows scope.now) (plain operand.now)) }
+    ensures { Ends result (typing (C.names scope.now) (standing_seen at) (prefix place sign count (plain operand.now))) }
+{
+    let t = typed(alloc, scope, operand, at.single())?;
+    answered(signed(place, sign, count, t))
+}
+
+#[cycle(typing)]
+fn select_typed<C: Scope>(
+    alloc: Global,
+    scope: &C,
+    place: Place,
+    operand: &Expr,
+    high: u64,
+    low: u64,
+    at: Standing,
+) -> Result<Option<Ty>, CheckEnd>
+    requires { IsTrue (is_known (C.knows scope.now) (plain operand.now)) }
+    ensures { Ends result (typing (C.names scope.now) (standing_seen at) (select place (plain operand.now) high low)) }
+{
+    let t = typed(alloc, scope, operand, at.single())?;
+    answered(selected(place, t, high, low))
+}
+
+#[cycle(typing)]
+fn next_typed<C: Scope>(
+    alloc: Global,
+    scope: &C,
+    place: Place,
+    operand: &Expr,
+    at: Standing,
+) -> Result<Option<Ty>, CheckEnd>
+    requires { IsTrue (is_known (C.knows scope.now) (plain operand.now)) }
+    ensures { Ends result (typing (C.names scope.now) (standing_seen at) (next place (plain operand.now))) }
+{
+    let t = typed(alloc, scope, operand, Standing::under_next())?;
+    answered(following(place, at, t))
+}
+
+// A chain of `->`, given the type of its first operand.
+#[cycle(typing)]
+fn implications_typed<C: Scope>(
+    alloc: Global,
+    scope: &C,
+    place: Place,
+    first: Option<Ty>,
+    links: &[Link],
+    at: Standing,
+) -> Result<Option<Ty>, CheckEnd>
+    requires { IsTrue (links_known (C.knows scope.now) (links_of (map plain_link links.now))) }
+    ensures { Ends result (implications_step place (option_map seen first) (link_checks (C.names scope.now) (standing_seen at) (links_of (map plain_link links.now))) (link_types (C.names scope.now) (standing_seen at) (links_of (map plain_link links.now)))) }
+{
+    let types = operand_types(alloc, scope, first, links, at)?;
+    implied(alloc, place, &types)
+}
+
+// The fronts of a chain in turn, given the type of its first operand.
+#[cycle(typing)]
+fn fronts_typed<C: Scope>(
+    alloc: Global,
+    scope: &C,
+    place: Place,
+    first: Option<Ty>,
+    links: &[Link],
+    at: Standing,
+) -> Result<Option<Ty>, CheckEnd>
+    requires { IsTrue (links_known (C.knows scope.now) (links_of (map plain_link links.now))) }
+    ensures { Ends result (linked (C.names scope.now) (standing_seen at) place (passed (option_map seen first)) (links_of (map plain_link links.now))) }
+{
+    let mut whole = first;
+    for link in links {
+        let t = typed(alloc, scope, &link.operand, behind(link.op, at))?;
+        whole = answered(front(link.op, at, place, whole, t, &link.operand))?;
+    }
+    Ok(whole)
+}
+
+// The types of the operands behind the operators of a chain, behind that of its first operand.
+#[cycle(typing)]
+fn operand_types<C: Scope>(
+    alloc: Global,
+    scope: &C,
+    first: Option<Ty>,
+    links: &[Link],
+    at: Standing,
+) -> Result<Vec<Option<Ty>>, CheckEnd>
+    requires { IsTrue (links_known (C.knows scope.now) (links_of (map plain_link links.now))) }
+    ensures passes { IfOk result (λ v. first_failing (link_checks (C.names scope.now) (standing_seen at) (links_of (map plain_link links.now))) ≡ None) }
+    ensures types { IfOk result (λ v. map (option_map seen) v.items ≡ option_map seen first ∷ link_types (C.names scope.now) (standing_seen at) (links_of (map plain_link links.now))) }
+    ensures refused { IfErr result (λ e. IsBad e (first_failing (link_checks (C.names scope.now) (standing_seen at) (links_of (map plain_link links.now))))) }
+{
+    let mut types = Vec::new(alloc);
+    types.push(first)?;
+    for link in links {
+        let t = typed(alloc, scope, &link.operand, at)?;
+        types.push(t)?;
+    }
+    Ok(types)
+}
+
+#[cycle(typing)]
+fn call_typed<C: Scope>(
+    alloc: Global,
+    scope: &C,
+    place: Place,
+    function: Function,
+    arguments: &[Expr],
+    at: Standing,
+) -> Result<Option<Ty>, CheckEnd>
+    requires { IsTrue (trees_known (C.knows scope.now) (trees_of (map plain arguments.now))) }
+    ensures { Ends result (typing (C.names scope.now) (standing_seen at) (call place function (trees_of (map plain arguments.now)))) }
+{
+    let types = part_types(alloc, scope, arguments, at.single())?;
+    called(alloc, place, function, &types, arguments)
+}
+
+#[cycle(typing)]
+fn set_typed<C: Scope>(
+    alloc: Global,
+    scope: &C,
+    place: Place,
+    elements: &[Expr],
+    at: Standing,
+) -> Result<Option<Ty>, CheckEnd>
+    requires { IsTrue (trees_known (C.knows scope.now) (trees_of (map plain elements.now))) }
+    ensures { Ends result (typing (C.names scope.now) (standing_seen at) (set place (trees_of (map plain elements.now)))) }
+{
+    let types = part_types(alloc, scope, elements, at)?;
+    gathered(alloc, place, at, &types)
+}
+
+// The types of arguments or elements.
+#[cycle(typing)]
+fn part_types<C: Scope>(
+    alloc: Global,
+    scope: &C,
+    parts: &[Expr],
+    at: Standing,
+) -> Result<Vec<Option<Ty>>, CheckEnd>
+    requires { IsTrue (trees_known (C.knows scope.now) (trees_of (map plain parts.now))) }
+    ensures passes { IfOk result (λ v. first_failing (tree_checks (C.names scope.now) (standing_seen at) (trees_of (map plain parts.now))) ≡ None) }
+    ensures types { IfOk result (λ v. map (option_map seen) v.items ≡ tree_types (C.names scope.now) (standing_seen at) (trees_of (map plain parts.now))) }
+    ensures refused { IfErr result (λ e. IsBad e (first_failing (tree_checks (C.names scope.now) (standing_seen at) (trees_of (map plain parts.now))))) }
+{
+    let mut types = Vec::new(alloc);
+    for part in parts {
+        let t = typed(alloc, scope, part, at)?;
+        types.push(t)?;
+    }
+    Ok(types)
+}
+
+#[cycle(typing)]
+fn case_typed<C: Scope>(
+    alloc: Global,
+    scope: &C,
+    place: Place,
+    branches: &[Branch],
+    at: Standing,
+) -> Result<Option<Ty>, CheckEnd>
+    requires { IsTrue (branches_known (C.knows scope.now) (branches_of (map plain_branch branches.now))) }
+    ensures { Ends result (typing (C.names scope.now) (standing_seen at) (cases place (branches_of (map plain_branch branches.now)))) }
+{
+    let types = branch_types(alloc, scope, branches, at)?;
+    branched(alloc, place, &types)
+}
+
+// The types of the conditions and of the values of branches.
+#[cycle(typing)]
+fn branch_types<C: Scope>(
+    alloc: Global,
+    scope: &C,
+    branches: &[Branch],
+    at: Standing,
+) -> Result<BranchTypes, CheckEnd>
+    requires { IsTrue (branches_known (C.knows scope.now) (branches_of (map plain_branch branches.now))) }
+    ensures passes { IfOk result (λ v. first_failing (branch_checks (C.names scope.now) (standing_seen at) (branches_of (map plain_branch branches.now))) ≡ None) }
+    ensures conditions { IfOk result (λ v. map (option_map seen) v.conditions.items ≡ condition_types (C.names scope.now) (single (standing_seen at)) (branches_of (map plain_branch branches.now))) }
+    ensures values { IfOk result (λ v. map (option_map seen) v.values.items ≡ value_types (C.names scope.now) (standing_seen at) (branches_of (map plain_branch branches.now)) []) }
+    ensures refused { IfErr result (λ e. IsBad e (first_failing (branch_checks (C.names scope.now) (standing_seen at) (branches_of (map plain_branch branches.now))))) }
+{
+    let mut conditions = Vec::new(alloc);
+    let mut values = Vec::new(alloc);
+    for branch in branches {
+        let condition = typed(alloc, scope, &branch.when, at.single())?;
+        let value = typed(alloc, scope, &branch.value, at)?;
+        conditions.push(condition)?;
+        values.push(value)?;
+    }
+    Ok(BranchTypes { conditions, values })
+}
