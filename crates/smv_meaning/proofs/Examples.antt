@@ -1,7 +1,7 @@
 -- The smallest examples of refusals and of accepted models, computed by the definitions. P stands for
 -- `MODULE main VAR x : boolean; `.
 use Rattle.std.proofs.Common.{◌≡◌, ℕ, true, false, [], ◌∷◌, Option, Some, None, pos, negsuc, refl}
-use Rattle.std.specs.Prelude.{codes}
+use Rattle.std.specs.Prelude.{codes, replicate}
 use Rattle.text_core.specs.declared.place.Place.{Place}
 use Rattle.text_core.specs.declared.place.Kind.TheVariants.{S}
 use Rattle.text_core.specs.declared.place.Refusal.{Refusal}
@@ -365,3 +365,18 @@ verdict_11 = refl
 verdict_12 : judged_smv (record { modules = ((record { name = codes "main"; place = (at 1 8 7); parameters = ([]); elements = ((vars K.State ((record { name = codes "s"; place = (at 1 17 16); domain = (members ((M.Symbol (codes "a")) ∷ (M.Symbol (codes "b")) ∷ (M.Symbol (codes "c")) ∷ [])); domain_place = (at 1 21 20) }) ∷ [])) ∷ (spec None (chain (at 1 42 41) (name (at 1 42 41) (record { from_self = false; names = (codes "s" ∷ []); place = (at 1 42 41) })) (link I.Member (set (at 1 47 46) (tree (name (at 1 48 47) (record { from_self = false; names = (codes "a" ∷ []); place = (at 1 48 47) })) (tree (name (at 1 51 50) (record { from_self = false; names = (codes "b" ∷ []); place = (at 1 51 50) })) no_trees))) no_links))) ∷ []); tokens = 19 }) ∷ []); end = (at 1 53 52) }) 0 ((λ x. (if bytes_eq x (codes "s") then Symbol (codes "b") else no_value)) ∷ []) [] ≡ No 0 NotBroken
 unfolding grow look reading at
 verdict_12 = refl
+
+-- `MODULE main VAR x : boolean; INIT TRUE TRANS FALSE INVARSPEC !x`
+verdict_13 : judged_smv (record { modules = ((record { name = codes "main"; place = (at 1 8 7); parameters = ([]); elements = ((vars K.State ((record { name = codes "x"; place = (at 1 17 16); domain = boolean; domain_place = (at 1 21 20) }) ∷ [])) ∷ (init (truth (at 1 35 34) true)) ∷ (trans (truth (at 1 46 45) false)) ∷ (spec None (prefix (at 1 62 61) F.Not 1 (name (at 1 63 62) (record { from_self = false; names = (codes "x" ∷ []); place = (at 1 63 62) })))) ∷ []); tokens = 12 }) ∷ []); end = (at 1 64 63) }) 0 ((λ x. (if bytes_eq x (codes "x") then Truth true else no_value)) ∷ []) [] ≡ Yes
+unfolding grow look reading at
+verdict_13 = refl
+
+-- `MODULE main VAR x : boolean; INIT TRUE TRANS FALSE INVARSPEC !x`
+verdict_14 : judged_smv (record { modules = ((record { name = codes "main"; place = (at 1 8 7); parameters = ([]); elements = ((vars K.State ((record { name = codes "x"; place = (at 1 17 16); domain = boolean; domain_place = (at 1 21 20) }) ∷ [])) ∷ (init (truth (at 1 35 34) true)) ∷ (trans (truth (at 1 46 45) false)) ∷ (spec None (prefix (at 1 62 61) F.Not 1 (name (at 1 63 62) (record { from_self = false; names = (codes "x" ∷ []); place = (at 1 63 62) })))) ∷ []); tokens = 12 }) ∷ []); end = (at 1 64 63) }) 0 ((λ x. (if bytes_eq x (codes "x") then Truth true else no_value)) ∷ (λ x. (if bytes_eq x (codes "x") then Truth true else no_value)) ∷ []) (no_values ∷ []) ≡ No 1 TransFails
+unfolding grow look reading at
+verdict_14 = refl
+
+-- P`VAR y…y : boolean;`, a name of 1,001 letters
+example_54 : first_refusal (record { modules = ((record { name = codes "main"; place = (at 1 8 7); parameters = ([]); elements = ((vars K.State ((record { name = codes "x"; place = (at 1 17 16); domain = boolean; domain_place = (at 1 21 20) }) ∷ [])) ∷ (vars K.State ((record { name = replicate 1001 121; place = (at 1 34 33); domain = boolean; domain_place = (at 1 1038 1037) }) ∷ [])) ∷ []); tokens = 10 }) ∷ []); end = (at 1 1046 1045) }) 0 ≡ refused 28 (at 1 34 33)
+unfolding grow look naming reaches at refused
+example_54 = refl

@@ -670,6 +670,7 @@ enum Operation {
     Lesser,
     Quotient,
     Rest,
+    Magnitude,
 }
 
 fn result(operation: Operation, a: i64, b: i64) -> Option<i64> {
@@ -681,6 +682,7 @@ fn result(operation: Operation, a: i64, b: i64) -> Option<i64> {
         Operation::Lesser => Some(a.min(b)),
         Operation::Quotient => a.checked_div(b),
         Operation::Rest => a.checked_rem(b),
+        Operation::Magnitude => a.checked_abs(),
     }
 }
 
@@ -794,11 +796,40 @@ fn intervals_by_enumeration(rt: HostRuntime) -> Result<(), Fail> {
         (Operation::Rest, b"a3%".as_slice(), 3, false),
         (Operation::Rest, b"a2_%".as_slice(), -2, false),
         (Operation::Rest, b"a3_%".as_slice(), -3, false),
+        (Operation::Magnitude, b"(aZ".as_slice(), 0, true),
     ] {
         assert!(rt;
             is_bound(alloc, operation, program, number, exact)?,
             "at {operation:?} {number}"
         );
+    }
+    Ok(())
+}
+
+// The number of a word of each width, and how many of some truth values hold.
+#[test]
+fn intervals_of_words_and_counts(rt: HostRuntime) -> Result<(), Fail> {
+    let alloc = rt.alloc();
+    let number = built(alloc, b"(aD".as_slice())?;
+    for width in 1u32..63 {
+        let scope = Pair {
+            left: plain_name(Some(Ty::Bits(width))),
+            right: plain_name(None),
+        };
+        let most = i64::MAX >> (63 - width);
+        assert_eq!(rt; interval_of(alloc, &scope, &number)?, Some((0, most)));
+    }
+    let scope = Pair {
+        left: plain_name(Some(Ty::Truth)),
+        right: plain_name(Some(Ty::Truth)),
+    };
+    for (program, most) in [
+        (b"(aC".as_slice(), 1),
+        (b"(abC".as_slice(), 2),
+        (b"(ababaC".as_slice(), 5),
+    ] {
+        let counted = built(alloc, program)?;
+        assert_eq!(rt; interval_of(alloc, &scope, &counted)?, Some((0, most)));
     }
     Ok(())
 }
