@@ -277,3 +277,22 @@ fn a_long_text_is_read(rt: HostRuntime) -> Result<(), Fail> {
     }
     Ok(())
 }
+
+// A script of 16 MiB, most of it comments.
+#[test]
+fn a_large_script(rt: HostRuntime) -> Result<(), Fail> {
+    let mut line = Text::new(rt.alloc());
+    line.put(b"(a |b c| d);")?;
+    put_many(&mut line, 1011, b'-')?;
+    line.put(b"\n")?;
+    let mut text = Text::new(rt.alloc());
+    for _ in 0..1 << 14 {
+        text.put(line.bytes())?;
+    }
+    assert_eq!(rt; text.bytes().len(), 1 << 24);
+    if text.bytes().len() <= 1 << 31 {
+        let forms = read_forms(rt.alloc(), text.bytes()).map_err(|_| "16 MiB")?;
+        assert_eq!(rt; forms.len(), 1 << 14);
+    }
+    Ok(())
+}
