@@ -1,0 +1,9 @@
+//! Directed graphs: an order in which each node stands after those to which it leads, or the first node that leads to itself.
+#![tactic(auto)]
+
+mod mark;
+mod order;
+mod search;
+
+pub use order::Graph;
+pub use search::Search;

@@ -1,0 +1,201 @@
+// A search along edges, as deep as it can: nodes are put in order as they are left.
+ghost use Rattle.std.specs.Prelude.{◌≡◌, ◌<◌, ◌≤◌, ◌++◌, [], ◌∷◌, IfOk, OnOk, length, true, false, nat_lt, take, slice_index_or, Ok};
+ghost use Rattle.std.specs.List.{list_all};
+ghost use Rattle.digraph.specs.Graph.{is_graph, NodeLists};
+ghost use Rattle.digraph.specs.Searching.{IsSearch, IsTaken, IsStep, Finishes, is_done, is_new, is_open, opened, closed, turned};
+
+use crate::mark::Mark;
+use crate::order::Graph;
+use std::alloc::Global;
+use std::marker::Model;
+use text_core::{Items, NoMemory};
+
+/// The marks, how many edges of each node were gone, the path from the root on, and the nodes that are done, in order.
+#[derive(Drop)]
+pub struct Search {
+    marks: Vec<Mark>,
+    gone: Vec<usize>,
+    path: Vec<usize>,
+    order: Items<usize>,
+}
+
+impl Model for Search {
+    ghost use Rattle.digraph.specs.Searching.{State};
+
+    ghost Value = { State };
+
+    ghost view = { λ s. record { marks = s.marks.items; gone = s.gone.items; path = s.path.items; order = s.order } };
+}
+
+// The number of the first edge from this one on that leads to a node that isn't done, else that of edges.
+fn front(row: &Items<usize>, from: usize, marks: &[Mark]) -> usize
+    requires within { list_all (λ k. nat_lt k (length marks.now)) row.now ≡ true }
+    requires low { from ≤ length row.now }
+    requires done { list_all (is_done marks.now) (take from row.now) ≡ true }
+    ensures low { result ≤ length row.now }
+    ensures done { list_all (is_done marks.now) (take result row.now) ≡ true }
+    ensures stops { result < length row.now → is_done marks.now (slice_index_or row.now result 0) ≡ false }
+{
+    let mut to = from;
+    while to < row.len() {
+        if !marks[*row.at(to)].is_done() {
+            return to;
+        }
+        to += 1;
+    }
+    to
+}
+
+// The end of the path, and the number of one of its edges.
+#[derive(Clone, Copy)]
+struct End {
+    node: usize,
+    edge: usize,
+}
+
+/// What a step of a search came to.
+pub enum Step {
+    /// The path is empty.
+    Ended,
+    /// A node was met or left.
+    Went,
+    /// An edge leads to a node of the path.
+    Returned,
+}
+
+impl Search {
+    /// The search that has met no node of so many.
+    pub fn of(alloc: Global, nodes: usize) -> Result<Search, NoMemory>
+        ensures { (g : NodeLists) → length g ≡ nodes → IfOk result (λ s. IsSearch g s × (s.path ≡ [])) }
+    {
+        let marks = match vec![in alloc; Mark::New; nodes] {
+            Ok(marks) => marks,
+            Err(_) => return Err(NoMemory),
+        };
+        let gone = match vec![in alloc; 0; nodes] {
+            Ok(gone) => gone,
+            Err(_) => return Err(NoMemory),
+        };
+        Ok(Search {
+            marks,
+            gone,
+            path: Vec::new(alloc),
+            order: Items::new(alloc),
+        })
+    }
+
+    fn is_new(&self, node: usize) -> bool
+        requires { node < length self.now.marks }
+        ensures { result ≡ is_new self.now.marks node }
+    {
+        self.marks[node].is_new()
+    }
+
+    fn is_open(&self, node: usize) -> bool
+        requires { node < length self.now.marks }
+        ensures { result ≡ is_open self.now.marks node }
+    {
+        self.marks[node].is_open()
+    }
+
+    // Adds a node to the path.
+    fn open(&mut self, node: usize) -> Result<(), NoMemory>
+        requires { node < length self.old.marks }
+        ensures { OnOk result (self.new ≡ opened self.old node) }
+    {
+        match self.path.push(node) {
+            Ok(()) => {}
+            Err(_) => return Err(NoMemory),
+        }
+        self.marks[node] = Mark::Open;
+        Ok(())
+    }
+
+    // Leaves a node that was taken off the path.
+    fn close(&mut self, node: usize) -> Result<(), NoMemory>
+        requires { node < length self.old.marks }
+        ensures { OnOk result (self.new ≡ closed self.old node) }
+    {
+        self.order.push(node)?;
+        self.marks[node] = Mark::Done;
+        Ok(())
+    }
+
+    // Puts a node back on the path, and the node there to which its next edge leads.
+    fn turn(&mut self, node: usize, next: usize) -> Result<(), NoMemory>
+        requires { next < length self.old.marks }
+        ensures { OnOk result (self.new ≡ turned self.old node next) }
+    {
+        match self.path.push(node) {
+            Ok(()) => {}
+            Err(_) => return Err(NoMemory),
+        }
+        self.open(next)
+    }
+
+    // Takes the end of the path off, with the number of its first edge to a node that isn't done, or of all its edges.
+    fn take_end(&mut self, graph: &Graph) -> Option<End>
+        requires graph { is_graph graph.now ≡ true }
+        requires search { IsSearch graph.now self.old }
+        ensures { IsTaken graph.now self.old self.new result }
+    {
+        let node = match self.path.pop() {
+            None => return None,
+            Some(node) => node,
+        };
+        let edge = front(graph.at(node), self.gone[node], self.marks.as_slice());
+        self.gone[node] = edge;
+        Some(End { node, edge })
+    }
+
+    // Goes on from the end of the path.
+    fn step(&mut self, graph: &Graph) -> Result<Step, NoMemory>
+        requires graph { is_graph graph.now ≡ true }
+        requires search { IsSearch graph.now self.old }
+        ensures { IfOk result (IsStep graph.now self.old self.new) }
+    {
+        let end = match self.take_end(graph) {
+            None => return Ok(Step::Ended),
+            Some(end) => end,
+        };
+        let row = graph.at(end.node);
+        if end.edge == row.len() {
+            self.close(end.node)?;
+            return Ok(Step::Went);
+        }
+        let next = *row.at(end.edge);
+        if self.is_open(next) {
+            return Ok(Step::Returned);
+        }
+        self.turn(end.node, next)?;
+        Ok(Step::Went)
+    }
+
+    /// Goes on until the path is empty. False where an edge leads to a node of the path.
+    pub fn finish(&mut self, graph: &Graph, root: usize) -> Result<bool, NoMemory>
+        requires graph { is_graph graph.now ≡ true }
+        requires search { IsSearch graph.now self.old }
+        requires empty { self.old.path ≡ [] }
+        requires there { root < length graph.now }
+        ensures { IfOk result (Finishes graph.now root self.old self.new) }
+    {
+        if !self.is_new(root) {
+            return Ok(true);
+        }
+        self.open(root)?;
+        loop {
+            match self.step(graph)? {
+                Step::Ended => return Ok(true),
+                Step::Went => {}
+                Step::Returned => return Ok(false),
+            }
+        }
+    }
+
+    /// The nodes that are done, in order.
+    pub fn sorted(self) -> Items<usize>
+        ensures { result ≡ self.order }
+    {
+        self.order
+    }
+}
