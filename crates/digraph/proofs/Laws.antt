@@ -79,7 +79,7 @@ path_tail g j (i ∷ ks) k h = and_right (is_in (next_of g j) i) (is_path g (i �
 
 -- ---- from a path to a return
 
-any_in : (f : ℕ → Bool) (xs : List ℕ) (x : ℕ) → is_in xs x ≡ true → f x ≡ true → list_any f xs ≡ true
+pub any_in : (f : ℕ → Bool) (xs : List ℕ) (x : ℕ) → is_in xs x ≡ true → f x ≡ true → list_any f xs ≡ true
 any_in f [] x h e = cc
 any_in f (y ∷ ys) x h e =
     elim (or_cases (y == x) (is_in ys x) h) [

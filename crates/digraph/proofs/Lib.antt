@@ -1,2 +1,4 @@
 pub mod Lists
 pub mod Laws
+pub mod Visits
+pub mod Sorting

@@ -90,3 +90,11 @@ pub all_get : {X : Type 0} (p : X → Bool) (xs : List X) (i : ℕ) (d : X) → 
 all_get p [] i d h a = absurd (omega (arith, h))
 all_get p (x ∷ xs) zero d h a = and_left (p x) (list_all p xs) a
 all_get p (x ∷ xs) (suc i) d h a = all_get p xs i d (omega (arith, h)) (and_right (p x) (list_all p xs) a)
+
+pub bool_cases : (b : Bool) → (b ≡ true) ⊎ (b ≡ false)
+bool_cases true = inl refl
+bool_cases false = inr refl
+
+pub last_at : (xs : List ℕ) (x : ℕ) → slice_index_or (xs ++ x ∷ []) (length xs) 0 ≡ x
+last_at [] x = refl
+last_at (y ∷ ys) x = last_at ys x

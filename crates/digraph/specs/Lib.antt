@@ -1,2 +1,4 @@
 pub mod Graph
 pub mod Searching
+pub mod Visiting
+pub mod Ordering

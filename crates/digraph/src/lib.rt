@@ -3,7 +3,7 @@
 
 mod mark;
 mod order;
+mod returns;
 mod search;
 
-pub use order::Graph;
-pub use search::Search;
+pub use order::{Graph, Order, sort};
