@@ -4,6 +4,7 @@ pub mod Plain
 pub mod Evaluating
 pub mod NameLemmas
 pub mod Grow
+pub mod TableLemmas
 pub mod Intervals
 pub mod OperatorLaws
 pub mod TypeLaws

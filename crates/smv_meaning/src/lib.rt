@@ -3,6 +3,7 @@
 
 mod evaluate;
 mod functions;
+mod instances;
 mod laws;
 mod model_value;
 mod names;
@@ -13,6 +14,9 @@ mod table;
 mod tests;
 mod value;
 
+pub use instances::Table;
 pub use laws::{typed_is_safe, values_lie};
 pub use model_value::value_at;
+pub use names::{Known, Target};
+pub use table::Instance;
 pub use value::{Given, Run, State, States, Value};

@@ -148,7 +148,8 @@ pub fn known_in<'a>(table: &[Instance<'a>], i: usize, x: &[u8]) -> Known<'a>
     }
 }
 
-fn child_of<'a>(table: &[Instance<'a>], i: usize, x: &[u8]) -> Option<usize>
+/// The first instance with this name in the numbered one.
+pub fn child_of<'a>(table: &[Instance<'a>], i: usize, x: &[u8]) -> Option<usize>
     ensures { result ≡ position (λ p. is_child i x.now (instance_plain p)) table.now }
 {
     table.iter().position(|p| p.parent == Some(i) && p.own == x)
