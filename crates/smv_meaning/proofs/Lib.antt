@@ -11,3 +11,7 @@ pub mod TypeLaws
 pub mod SafeLaws
 pub mod FoundLaws
 pub mod ValueAt
+pub mod Cycles
+pub mod Ranked
+pub mod Agreeing
+pub mod Settling

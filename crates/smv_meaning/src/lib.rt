@@ -9,6 +9,7 @@ mod model_value;
 mod names;
 mod operators;
 mod seen;
+mod settled;
 mod table;
 #[cfg(test)]
 mod tests;
@@ -19,4 +20,8 @@ pub use laws::{typed_is_safe, values_lie};
 pub use model_value::value_at;
 pub use names::{Known, Target};
 pub use table::Instance;
+pub use settled::{
+    acyclic_is_ranked, cycles_are_checked, names_settle, ranked_is_acyclic, types_settle,
+    values_are_one, values_settle,
+};
 pub use value::{Given, Run, State, States, Value};
