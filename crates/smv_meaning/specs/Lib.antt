@@ -13,3 +13,4 @@ pub mod Typed
 pub mod Safety
 pub mod View
 pub mod Owed
+pub mod NameMap
