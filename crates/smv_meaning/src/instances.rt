@@ -5,7 +5,11 @@ ghost use Rattle.smv_meaning.specs.Instances.{instances_of};
 ghost use Rattle.smv_meaning.specs.Names.{definitions_in, formulas_in, steps_of, local, is_child, has_symbol, found_in, look};
 ghost use Rattle.smv_meaning.specs.View.{instance_plain, local_plain, found_plain};
 
-use crate::names::{Known, Target, child_of, found_by_name, found_by_path, known_in, model_has};
+use crate::children::{Children, child_in, children_of};
+use crate::name_map::value_under;
+use crate::names::{Known, Target, found_by_name, found_by_path};
+use crate::scopes::{Scope, scopes_of};
+use crate::symbols::{Symbols, symbols_of};
 use crate::table::{Instance, instances};
 use smv_text::{Element, Elements, Path, Source};
 use std::alloc::Global;
@@ -16,6 +20,9 @@ use text_core::NoMemory;
 #[derive(Drop)]
 pub struct Table<'a> {
     parts: Vec<Instance<'a>>,
+    scopes: Vec<Scope<'a>>,
+    children: Children<'a>,
+    symbols: Symbols<'a>,
     steps: usize,
 }
 
@@ -36,7 +43,9 @@ impl<'a> Model for Table<'a> {
 
     ghost view = { λ t. t.parts.items };
 
-    ghost invariant = { λ t. t.steps ≡ steps_of (map instance_plain t.parts.items) };
+    ghost use Rattle.smv_meaning.specs.NameMap.{Knows, Bears, Holds};
+
+    ghost invariant = { λ t. (t.steps ≡ steps_of (map instance_plain t.parts.items)) × Knows t.parts.items t.scopes.items × Bears t.parts.items t.children × Holds t.parts.items t.symbols };
 }
 
 impl<'a> Table<'a> {
@@ -48,7 +57,18 @@ impl<'a> Table<'a> {
         let parts = instances(alloc, source)?;
         match counted(parts.as_slice()) {
             None => Err(NoMemory),
-            Some(steps) => Ok(Table { parts, steps }),
+            Some(steps) => {
+                let scopes = scopes_of(alloc, parts.as_slice())?;
+                let children = children_of(alloc, parts.as_slice())?;
+                let symbols = symbols_of(alloc, parts.as_slice())?;
+                Ok(Table {
+                    parts,
+                    scopes,
+                    children,
+                    symbols,
+                    steps,
+                })
+            }
         }
     }
 
@@ -71,22 +91,24 @@ impl<'a> Table<'a> {
     pub fn local(&self, i: usize, x: &[u8]) -> Known<'a>
         ensures { local_plain result ≡ local (map instance_plain self.now) i x.now }
     {
-        known_in(self.parts.as_slice(), i, x)
+        match self.scopes.get(i) {
+            None => Known::Nothing,
+            Some(scope) => value_under(scope, x).unwrap_or(Known::Nothing),
+        }
     }
 
     /// The first instance with this name in the numbered one.
-    #[tactic(auto, using(crate::proofs::TableLemmas::child_is))]
     pub fn child(&self, i: usize, x: &[u8]) -> Option<usize>
         ensures { result ≡ position (is_child i x.now) (map instance_plain self.now) }
     {
-        child_of(self.parts.as_slice(), i, x)
+        child_in(&self.children, i, x)
     }
 
     /// Is the name in an enumeration or CONSTANTS of an instantiated module?
     pub fn has_symbol(&self, x: &[u8]) -> bool
         ensures { result ≡ has_symbol (map instance_plain self.now) x.now }
     {
-        model_has(self.parts.as_slice(), x)
+        value_under(&self.symbols, x).is_some()
     }
 
     /// What a path leads to in the numbered instance.

@@ -1,15 +1,19 @@
 //! The meaning of SMV models: values, instances, names, expressions, types, checks and runs.
 #![tactic(auto)]
 
+mod children;
 mod evaluate;
 mod functions;
 mod instances;
 mod laws;
 mod model_value;
+mod name_map;
 mod names;
 mod operators;
+mod scopes;
 mod seen;
 mod settled;
+mod symbols;
 mod table;
 #[cfg(test)]
 mod tests;
@@ -18,6 +22,7 @@ mod value;
 pub use instances::Table;
 pub use laws::{typed_is_safe, values_lie};
 pub use model_value::value_at;
+pub use name_map::{NameMap, no_names, put, value_under};
 pub use names::{Known, Target};
 pub use table::Instance;
 pub use settled::{
