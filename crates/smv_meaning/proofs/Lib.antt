@@ -17,3 +17,4 @@ pub mod Cycles
 pub mod Ranked
 pub mod Agreeing
 pub mod Settling
+pub mod FormulaLemmas

@@ -15,3 +15,4 @@ pub mod View
 pub mod Owed
 pub mod Settled
 pub mod NameMap
+pub mod Formulas

@@ -27,6 +27,8 @@ use Rattle.smv_meaning.specs.Names.{found_in, Local, alias, formula, variable_of
 use Rattle.smv_meaning.specs.declared.table.Instance.{Instance as PartOf}
 use Rattle.smv_meaning.specs.Instances.{Instance}
 use Rattle.smv_meaning.specs.Values.{Valuation, no_value, given}
+use Rattle.smv_meaning.specs.declared.formulas.Formula.{Formula as KeptFormula}
+use Rattle.smv_meaning.specs.Formulas.{Placed}
 
 abbrev pub seen_value : Seen → Value
 seen_value (OfSeen.Truth b) = OfValue.Truth b
@@ -100,3 +102,6 @@ SafeReads ts n i state label = SafePath (found_here ts) n (stated state) (stated
 abbrev pub denoted_or_none : (Path → Value) → (Path → Value) → Option (Bor Expr) → Denotation
 denoted_or_none f g None = alone no_value
 denoted_or_none f g (Some e) = denote f g (plain e.now)
+
+abbrev pub formula_plain : KeptFormula → Placed
+formula_plain f = record { formula = (f.instance, f.name.now); place = f.place }

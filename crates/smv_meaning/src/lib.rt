@@ -3,6 +3,7 @@
 
 mod children;
 mod evaluate;
+mod formulas;
 mod functions;
 mod instances;
 mod laws;
@@ -19,6 +20,7 @@ mod table;
 mod tests;
 mod value;
 
+pub use formulas::{Formula, formulas_in};
 pub use instances::Table;
 pub use laws::{typed_is_safe, values_lie};
 pub use model_value::value_at;
