@@ -105,3 +105,6 @@ denoted_or_none f g (Some e) = denote f g (plain e.now)
 
 abbrev pub formula_plain : KeptFormula → Placed
 formula_plain f = record { formula = (f.instance, f.name.now); place = f.place }
+
+abbrev pub path_seen : Bor Path → Path
+path_seen p = p.now

@@ -11,6 +11,7 @@ mod model_value;
 mod name_map;
 mod names;
 mod operators;
+mod paths;
 mod scopes;
 mod seen;
 mod settled;
