@@ -54,22 +54,26 @@ impl<'a> Table<'a> {
     pub fn of(alloc: Global, source: &'a Source) -> Result<Table<'a>, NoMemory>
         ensures { IfOk result (λ t. map instance_plain t ≡ instances_of (plain_source source.now)) }
     {
-        let parts = instances(alloc, source)?;
-        match counted(parts.as_slice()) {
-            None => Err(NoMemory),
-            Some(steps) => {
-                let scopes = scopes_of(alloc, parts.as_slice())?;
-                let children = children_of(alloc, parts.as_slice())?;
-                let symbols = symbols_of(alloc, parts.as_slice())?;
-                Ok(Table {
-                    parts,
-                    scopes,
-                    children,
-                    symbols,
-                    steps,
-                })
-            }
-        }
+        Table::over(alloc, instances(alloc, source)?)
+    }
+
+    /// A table of instances, which stand in preorder.
+    pub fn over(alloc: Global, parts: Vec<Instance<'a>>) -> Result<Table<'a>, NoMemory>
+        ensures { IfOk result (λ t. t ≡ parts.entry.items) }
+    {
+        let Some(steps) = counted(parts.as_slice()) else {
+            return Err(NoMemory);
+        };
+        let scopes = scopes_of(alloc, parts.as_slice())?;
+        let children = children_of(alloc, parts.as_slice())?;
+        let symbols = symbols_of(alloc, parts.as_slice())?;
+        Ok(Table {
+            parts,
+            scopes,
+            children,
+            symbols,
+            steps,
+        })
     }
 
     /// The number of instances.

@@ -8,6 +8,7 @@ mod functions;
 mod instances;
 mod laws;
 mod model_value;
+mod modules;
 mod name_map;
 mod names;
 mod operators;
@@ -25,6 +26,7 @@ pub use formulas::{Formula, formulas_in};
 pub use instances::Table;
 pub use laws::{typed_is_safe, values_lie};
 pub use model_value::value_at;
+pub use modules::ModuleTable;
 pub use name_map::{NameMap, no_names, put, value_under};
 pub use names::{Known, Target};
 pub use table::Instance;
@@ -32,4 +34,5 @@ pub use settled::{
     acyclic_is_ranked, cycles_are_checked, names_settle, ranked_is_acyclic, types_settle,
     values_are_one, values_settle,
 };
+pub use table::{Instance, instances as instance_list, path_below};
 pub use value::{Given, Run, State, States, Value};
