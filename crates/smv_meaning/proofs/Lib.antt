@@ -18,3 +18,4 @@ pub mod Ranked
 pub mod Agreeing
 pub mod Settling
 pub mod FormulaLemmas
+pub mod ReferenceLemmas

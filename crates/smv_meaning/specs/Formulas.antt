@@ -5,9 +5,13 @@ use Rattle.text_core.specs.declared.place.Refusal.{Refusal}
 use Rattle.digraph.specs.Graph.{NodeLists, IsSorted}
 use Rattle.smv_text.specs.declared.tree.Parameter.{Parameter}
 use Rattle.smv_text.specs.Tree.{Trees, no_trees, tree, PlainDefinition, PlainElement, vars, defines, constants, assigns, init, trans, invar, spec}
+use Rattle.smv_meaning.specs.declared.references.Ordering.{Ordering}
+use Rattle.smv_meaning.specs.declared.references.Ordering.TheVariants.{Ordered, Cycle}
 use Rattle.smv_meaning.specs.Instances.{Instance}
+use Rattle.smv_text.specs.declared.tree.Path.{Path}
+use Rattle.smv_meaning.specs.Names.{Found, instance_at, look, steps_of}
 use Rattle.smv_meaning.specs.Checks.{check, first_failing}
-use Rattle.smv_meaning.specs.Phases.{Formula, formula_same, refers, place_of, over_instances}
+use Rattle.smv_meaning.specs.Phases.{Formula, formula_same, refers, touched, place_of, over_instances}
 use Rattle.smv_meaning.specs.Settled.{Acyclic, cycle_checks_of}
 
 -- a definition or an actual, and where it stands
@@ -39,14 +43,29 @@ formulas_of t = map (λ f. f.formula) (placed_formulas t)
 
 -- the number of a definition or an actual, by its instance and its name
 abbrev pub number_in : List Formula → Formula → Option ℕ
-number_in ks k = position (formula_same k) ks
+number_in ks k = position (λ m. formula_same m k) ks
 
 abbrev pub number_or : List Formula → Formula → ℕ
 number_or ks k = unwrap_or (number_in ks k) 0
 
+abbrev pub instance_within : Found → Option ℕ
+instance_within (instance_at c) = Some c
+instance_within m = None
+
+-- the numbers of those that a path goes through
+abbrev pub touched_numbers : List Instance → ℕ → List (List ℕ) → List ℕ
+touched_numbers t i names = map (number_or (formulas_of t)) (touched t (look t (steps_of t)) i names)
+
+abbrev pub all_touched : List Instance → ℕ → List Path → List ℕ
+all_touched t i [] = []
+all_touched t i (q ∷ qs) = touched_numbers t i q.names ++ all_touched t i qs
+
+abbrev pub references_of : List Instance → Formula → List ℕ
+references_of t k = map (number_or (formulas_of t)) (refers t k)
+
 -- each leads to those to which it refers
 abbrev pub reference_graph : List Instance → NodeLists
-reference_graph t = map (λ k. map (number_or (formulas_of t)) (refers t k)) (formulas_of t)
+reference_graph t = map (references_of t) (formulas_of t)
 
 abbrev pub refusal_of : Option Placed → Option Refusal
 refusal_of None = None
@@ -61,3 +80,7 @@ pub record IsFormulaOrder (t : List Instance) (order : List ℕ) : Type 0 where
 pub record IsFirstCycle (t : List Instance) (k : ℕ) : Type 0 where
   pub there : k < length (formulas_of t)
   pub failing : first_failing (cycle_checks_of t) ≡ refusal_of (slice_get (placed_formulas t) k)
+
+abbrev pub IsOrdering : List Instance → Ordering → Type 0
+IsOrdering t (Ordered order) = IsFormulaOrder t order
+IsOrdering t (Cycle k) = IsFirstCycle t k

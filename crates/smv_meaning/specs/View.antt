@@ -29,6 +29,7 @@ use Rattle.smv_meaning.specs.Instances.{Instance}
 use Rattle.smv_meaning.specs.Values.{Valuation, no_value, given}
 use Rattle.smv_meaning.specs.declared.formulas.Formula.{Formula as KeptFormula}
 use Rattle.smv_meaning.specs.Formulas.{Placed}
+use Rattle.smv_meaning.specs.Phases.{Formula}
 
 abbrev pub seen_value : Seen → Value
 seen_value (OfSeen.Truth b) = OfValue.Truth b
@@ -108,3 +109,6 @@ formula_plain f = record { formula = (f.instance, f.name.now); place = f.place }
 
 abbrev pub path_seen : Bor Path → Path
 path_seen p = p.now
+
+abbrev pub key_of : KeptFormula → Formula
+key_of f = (f.instance, f.name.now)

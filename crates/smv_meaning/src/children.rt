@@ -29,7 +29,7 @@ fn put<'a>(children: &mut Children<'a>, i: usize, x: &'a [u8], c: usize) -> Resu
 }
 
 // The first number that is put under a name counts.
-fn put_first<'a>(
+pub fn put_first<'a>(
     children: &mut Children<'a>,
     i: usize,
     x: &'a [u8],

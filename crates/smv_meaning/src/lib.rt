@@ -13,6 +13,7 @@ mod name_map;
 mod names;
 mod operators;
 mod paths;
+mod references;
 mod scopes;
 mod seen;
 mod settled;
@@ -27,9 +28,9 @@ pub use instances::Table;
 pub use laws::{typed_is_safe, values_lie};
 pub use model_value::value_at;
 pub use modules::ModuleTable;
+pub use references::{Ordering, formula_order};
 pub use name_map::{NameMap, no_names, put, value_under};
 pub use names::{Known, Target};
-pub use table::Instance;
 pub use settled::{
     acyclic_is_ranked, cycles_are_checked, names_settle, ranked_is_acyclic, types_settle,
     values_are_one, values_settle,

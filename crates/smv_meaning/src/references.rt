@@ -1,0 +1,185 @@
+// To which definitions and actuals each refers, and an order in which each stands after these.
+ghost use Rattle.std.specs.Prelude.{◌≡◌, ◌<◌, ◌++◌, ◌∷◌, [], List, ℕ, map, length, IfOk, OnOk, position, slice_index_or, unwrap_or, flat_map};
+ghost use Rattle.smv_meaning.specs.Names.{look, local, steps_of};
+ghost use Rattle.smv_meaning.specs.Phases.{formula_here};
+ghost use Rattle.smv_meaning.specs.Formulas.{placed_formulas, formulas_of, number_in, number_or, references_of, reference_graph, IsOrdering, touched_numbers, all_touched, instance_within};
+ghost use Rattle.smv_meaning.specs.NameMap.{named_in};
+ghost use Rattle.smv_meaning.specs.View.{instance_plain, formula_plain, path_seen, key_of, local_plain};
+
+use crate::children::{Children, child_in, put_first};
+use crate::formulas::Formula;
+use crate::instances::Table;
+use crate::names::{Known, Target};
+use crate::paths::add_paths;
+use digraph::{Graph, Order, sort};
+use smv_text::{Expr, Path};
+use std::alloc::Global;
+use std::collections::HashMap;
+use text_core::{Items, Names, NoMemory};
+
+/// How the definitions and actuals of a model refer to one another.
+#[derive(Debug, Drop)]
+pub enum Ordering {
+    /// None reaches itself; in this order of their numbers each stands after those to which it refers.
+    Ordered(Items<usize>),
+    /// The number of the first one that reaches itself.
+    Cycle(usize),
+}
+
+/// The numbers of definitions and actuals by their instances and names.
+pub fn numbers_of<'a>(
+    alloc: Global,
+    formulas: &[Formula<'a>],
+) -> Result<Children<'a>, NoMemory>
+    ensures { IfOk result (λ m. (i : ℕ) (x : List ℕ) → named_in m i x ≡ number_in (map key_of formulas.now) (i, x)) }
+{
+    let mut numbers = HashMap::new(alloc);
+    for k in 0..formulas.len() {
+        let formula = &formulas[k];
+        put_first(&mut numbers, formula.instance, formula.name, k)?;
+    }
+    Ok(numbers)
+}
+
+fn number<'a>(numbers: &Children<'a>, i: usize, x: &[u8]) -> usize
+    ensures { result ≡ unwrap_or (named_in numbers.now i x.now) 0 }
+{
+    match child_in(numbers, i, x) {
+        None => 0,
+        Some(k) => k,
+    }
+}
+
+// Adds the number of a name that is a definition or an actual.
+fn note<'a>(
+    table: &Table<'a>,
+    numbers: &Children<'a>,
+    i: usize,
+    x: &[u8],
+    row: &mut Items<usize>,
+) -> Result<(), NoMemory>
+    requires { (i : ℕ) (x : List ℕ) → named_in numbers.now i x ≡ number_in (formulas_of (map instance_plain table.now)) (i, x) }
+    ensures { OnOk result (row.new ≡ row.old ++ map (number_or (formulas_of (map instance_plain table.now))) (formula_here i x.now (local (map instance_plain table.now) i x.now))) }
+{
+    match table.local(i, x) {
+        Known::Alias(_, _) => row.push(number(numbers, i, x))?,
+        Known::Formula(_, _) => row.push(number(numbers, i, x))?,
+        Known::Variable(_, _) => {}
+        Known::Inner => {}
+        Known::Nothing => {}
+    }
+    Ok(())
+}
+
+// The instance that a name leads to, where it leads to one.
+fn inner<'a>(table: &Table<'a>, i: usize, x: &'a [u8]) -> Option<usize>
+    ensures { result ≡ instance_within (look (map instance_plain table.now) (steps_of (map instance_plain table.now)) i x.now) }
+{
+    match table.found_name(i, x) {
+        Target::Within(c) => Some(c),
+        Target::Variable(_, _, _, _) => None,
+        Target::Body(_, _, _, _) => None,
+        Target::Symbol(_) => None,
+        Target::Cyclic => None,
+        Target::Missing => None,
+    }
+}
+
+// Adds the numbers of the definitions and actuals that a path goes through.
+#[tactic(auto, using(crate::proofs::Lists::front_is, crate::proofs::Lists::end_is, crate::proofs::ReferenceLemmas::touched_none, crate::proofs::ReferenceLemmas::touched_last, crate::proofs::ReferenceLemmas::touched_more))]
+fn touch<'a>(
+    table: &Table<'a>,
+    numbers: &Children<'a>,
+    i: usize,
+    names: &'a Names,
+    row: &mut Items<usize>,
+) -> Result<(), NoMemory>
+    requires { (i : ℕ) (x : List ℕ) → named_in numbers.now i x ≡ number_in (formulas_of (map instance_plain table.now)) (i, x) }
+    ensures { OnOk result (row.new ≡ row.old ++ touched_numbers (map instance_plain table.now) i names.now) }
+{
+    let mut at = i;
+    for k in 0..names.len() {
+        let x = names.at(k).bytes();
+        note(table, numbers, at, x, row)?;
+        match inner(table, at, x) {
+            None => return Ok(()),
+            Some(c) => at = c,
+        }
+    }
+    Ok(())
+}
+
+#[tactic(auto, using(crate::proofs::ReferenceLemmas::seen_front, crate::proofs::ReferenceLemmas::seen_end))]
+fn touch_all<'a>(
+    table: &Table<'a>,
+    numbers: &Children<'a>,
+    i: usize,
+    paths: &[&'a Path],
+    row: &mut Items<usize>,
+) -> Result<(), NoMemory>
+    requires { (i : ℕ) (x : List ℕ) → named_in numbers.now i x ≡ number_in (formulas_of (map instance_plain table.now)) (i, x) }
+    ensures { OnOk result (row.new ≡ row.old ++ all_touched (map instance_plain table.now) i (map path_seen paths.now)) }
+{
+    for k in 0..paths.len() {
+        touch(table, numbers, i, &paths[k].names, row)?;
+    }
+    Ok(())
+}
+
+// The numbers of the definitions and actuals to which one refers.
+fn row_of<'a>(
+    alloc: Global,
+    table: &Table<'a>,
+    numbers: &Children<'a>,
+    formula: &Formula<'a>,
+) -> Result<Items<usize>, NoMemory>
+    requires { (i : ℕ) (x : List ℕ) → named_in numbers.now i x ≡ number_in (formulas_of (map instance_plain table.now)) (i, x) }
+    ensures { IfOk result (λ row. row ≡ references_of (map instance_plain table.now) (key_of formula.now)) }
+{
+    let mut row = Items::new(alloc);
+    match table.local(formula.instance, formula.name) {
+        Known::Alias(j, path) => touch(table, numbers, j, &path.names, &mut row)?,
+        Known::Formula(j, e) => {
+            let mut paths = Vec::new(alloc);
+            add_paths(&mut paths, e)?;
+            touch_all(table, numbers, j, paths.as_slice(), &mut row)?;
+        }
+        Known::Variable(_, _) => {}
+        Known::Inner => {}
+        Known::Nothing => {}
+    }
+    Ok(row)
+}
+
+fn graph_of<'a>(
+    alloc: Global,
+    table: &Table<'a>,
+    formulas: &[Formula<'a>],
+) -> Result<Graph, NoMemory>
+    requires { map formula_plain formulas.now ≡ placed_formulas (map instance_plain table.now) }
+    ensures { IfOk result (λ g. g ≡ reference_graph (map instance_plain table.now)) }
+{
+    let numbers = numbers_of(alloc, formulas)?;
+    let mut graph = Items::new(alloc);
+    for k in 0..formulas.len() {
+        graph.push(row_of(alloc, table, &numbers, &formulas[k])?)?;
+    }
+    Ok(graph)
+}
+
+/// An order in which each definition and actual stands after those to which it refers, where none reaches itself, else the first
+/// one that does, in the order of their numbers.
+pub fn formula_order<'a>(
+    alloc: Global,
+    table: &Table<'a>,
+    formulas: &[Formula<'a>],
+) -> Result<Ordering, NoMemory>
+    requires { map formula_plain formulas.now ≡ placed_formulas (map instance_plain table.now) }
+    ensures { IfOk result (IsOrdering (map instance_plain table.now)) }
+{
+    let graph = graph_of(alloc, table, formulas)?;
+    match sort(alloc, &graph)? {
+        Order::Sorted(order) => Ok(Ordering::Ordered(order)),
+        Order::Returns(k) => Ok(Ordering::Cycle(k)),
+    }
+}
