@@ -88,24 +88,24 @@ unfolding look
 look_good P k t g zero i x = k.circles
 look_good P k t g (suc n) i x = landed_good P k t (look t n) (look_good P k t g n) i x (local t i x) (g i x)
 
-found_good : (P : Found → Type 0) → Closed P → (t : List Instance) → ((i : ℕ) (x : List ℕ) → LocalGood P (path_in (slice_get t i)) i x (local t i x)) → (i : ℕ) (path : Path) → P (found_in t i path)
+pub found_good : (P : Found → Type 0) → Closed P → (t : List Instance) → ((i : ℕ) (x : List ℕ) → LocalGood P (path_in (slice_get t i)) i x (local t i x)) → (i : ℕ) (path : Path) → P (found_in t i path)
 found_good P k t g i path = resolved_good P k t (look t (steps_of t)) (look_good P k t g (steps_of t)) i path
 
 -- ---- what one name is in its instance
 
-in_place : (P : Found → Type 0) (i : ℕ) (x : List ℕ) (o : Option Instance) → ((at : Instance) → o ≡ Some at → LocalGood P at.path i x (local_in i x (Some at))) → LocalGood P (path_in o) i x (local_in i x o)
+pub in_place : (P : Found → Type 0) (i : ℕ) (x : List ℕ) (o : Option Instance) → ((at : Instance) → o ≡ Some at → LocalGood P at.path i x (local_in i x (Some at))) → LocalGood P (path_in o) i x (local_in i x o)
 in_place P i x None h = tt
 in_place P i x (Some at) h = h at refl
 
 some_inj : {X : Type 0} (a b : X) → Some a ≡ Some b → a ≡ b
 some_inj a b e = cc
 
-there : {X : Type 0} (q : X → Bool) (xs : List X) (i : ℕ) (x : X) → list_all q xs ≡ true → slice_get xs i ≡ Some x → q x ≡ true
+pub there : {X : Type 0} (q : X → Bool) (xs : List X) (i : ℕ) (x : X) → list_all q xs ≡ true → slice_get xs i ≡ Some x → q x ≡ true
 there q [] i x h e = cc
 there q (y ∷ ys) zero x h e = let same : y ≡ x = some_inj y x e in subst (λ z. q z ≡ true) same (both_true (q y) (list_all q ys) h).0
 there q (y ∷ ys) (suc i) x h e = there q ys i x (both_true (q y) (list_all q ys) h).1 e
 
-by_name : (P : List ℕ → Local → Type 0) (y x : List ℕ) (l other : Local) → (y ≡ x → P x l) → P x other → P x (if bytes_eq y x then l else other)
+pub by_name : (P : List ℕ → Local → Type 0) (y x : List ℕ) (l other : Local) → (y ≡ x → P x l) → P x other → P x (if bytes_eq y x then l else other)
 by_name P y x l other h k = by (bytes_eq y x) refl
   where
     by : (b : Bool) → bytes_eq y x ≡ b → P x (if b then l else other)

@@ -14,3 +14,7 @@ pub mod Cycles
 pub mod Ranked
 pub mod Agreeing
 pub mod Settling
+pub mod Typable
+pub mod PartLaws
+pub mod CheckedLaws
+pub mod SafeExpressions

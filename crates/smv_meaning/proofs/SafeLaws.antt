@@ -287,7 +287,7 @@ safe_found inputs found state label gives n (symbol_of x) low ih h = tt
 safe_found inputs found state label gives n cyclic low ih h = tt
 safe_found inputs found state label gives n none low ih h = tt
 
-safe_path : (inputs : Bool) (found : ℕ → Path → Found) (state label : Valuation) → Gives inputs found state label → Low found
+pub safe_path : (inputs : Bool) (found : ℕ → Path → Found) (state label : Valuation) → Gives inputs found state label → Low found
     → (n i : ℕ) (x : Path) → HasType (naming inputs found n i x).type → SafePath found n state label i x
 unfolding SafePath naming
 safe_path inputs found state label gives low zero i x h = tt

@@ -14,3 +14,6 @@ pub mod Safety
 pub mod View
 pub mod Owed
 pub mod Settled
+pub mod Literals
+pub mod Parts
+pub mod Checked

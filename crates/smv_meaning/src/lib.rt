@@ -1,6 +1,7 @@
 //! The meaning of SMV models: values, instances, names, expressions, types, checks and runs.
 #![tactic(auto)]
 
+mod checked;
 mod evaluate;
 mod functions;
 mod laws;
@@ -14,6 +15,9 @@ mod table;
 mod tests;
 mod value;
 
+pub use checked::{
+    accepted_is_checked, expressions_are_safe, expressions_have_types, names_have_types,
+};
 pub use laws::{typed_is_safe, values_lie};
 pub use model_value::value_at;
 pub use settled::{
