@@ -18,8 +18,7 @@ use Rattle.smv_meaning.specs.Types.{ExprType, is_unmixed, has_width, has_order, 
 use Rattle.smv_meaning.specs.Checks.{Check, passes, Position, Named, typing, on_type, domain_checks, variable_type}
 use Rattle.smv_meaning.specs.Naming.{in_body, typed_variable, named_found}
 use Rattle.smv_meaning.specs.Phases.{over_instances, path_check, path_checks, element_paths, is_something, in_state, in_step, in_assignment, actual_typing, actuals_typing, formula_typing, assigned_typing, element_typing, type_checks, names_in}
-use Rattle.smv_meaning.specs.Safety.{depth, deepest}
-use Rattle.smv_meaning.specs.Owed.{HasType, expression_low}
+use Rattle.smv_meaning.specs.Owed.{HasType}
 use Rattle.smv_meaning.specs.Literals.{words_fit}
 use Rattle.smv_meaning.specs.Parts.{IsPart, InTrees, InOne, expressions_in, InElements, InActuals, StandsIn}
 use Rattle.smv_meaning.specs.Settled.{Acyclic, types_in, rank_of}
@@ -62,7 +61,6 @@ lead t i xs h q g =
 pub record Placed (t : List Instance) (i : ℕ) (at : Position) (e : Tree) : Type 0 where
   pub paths : Lead t i (paths_of e [])
   pub words : words_fit e ≡ true
-  pub low : depth e ≤ deepest
   pub checks : passes (typing (types_in true t i) at e).checks ≡ true
 
 -- a body is placed, and a variable has a type
@@ -103,24 +101,16 @@ given_items t path i kind (item ∷ items) x other h k =
     by_name (λ y l. LocalGood (Given t) path i y l) item.name x (of_domain kind item.domain) (among_items kind items x other)
     (λ e. given_domain t path i x kind item.domain_place item.domain b.0) (given_items t path i kind items x other b.1 k)
 
--- what is asked of the trees of a list
-record Trees_fit (es : List Tree) : Type 0 where
-  words : list_all words_fit es ≡ true
-  lows : list_all expression_low es ≡ true
+-- ---- word literals
 
-first_fits : (e : Tree) (es : List Tree) → Trees_fit (e ∷ es) → (words_fit e ≡ true) × (depth e ≤ deepest)
-first_fits e es f =
-    ((both_true (words_fit e) (list_all words_fit es) f.words).0, leb-true (depth e) deepest (both_true (expression_low e) (list_all expression_low es) f.lows).0)
+abbrev Words : List Tree → Type 0
+Words es = list_all words_fit es ≡ true
 
-rest_fits : (e : Tree) (es : List Tree) → Trees_fit (e ∷ es) → Trees_fit es
-rest_fits e es f =
-    record { words = (both_true (words_fit e) (list_all words_fit es) f.words).1; lows = (both_true (expression_low e) (list_all expression_low es) f.lows).1 }
+both_words : (e : Tree) (es : List Tree) → Words (e ∷ es) → (words_fit e ≡ true) × Words es
+both_words e es f = both_true (words_fit e) (list_all words_fit es) f
 
-both_fit : (xs ys : List Tree) → Trees_fit (xs ++ ys) → Trees_fit xs × Trees_fit ys
-both_fit xs ys f =
-    let w = both_true (list_all words_fit xs) (list_all words_fit ys) (sym (list_all-append words_fit xs ys) ∙ f.words) in
-    let l = both_true (list_all expression_low xs) (list_all expression_low ys) (sym (list_all-append expression_low xs ys) ∙ f.lows) in
-    (record { words = w.0; lows = l.0 }, record { words = w.1; lows = l.1 })
+both_fit : (xs ys : List Tree) → Words (xs ++ ys) → Words xs × Words ys
+both_fit xs ys f = both_true (list_all words_fit xs) (list_all words_fit ys) (sym (list_all-append words_fit xs ys) ∙ f)
 
 left_lead : (t : List Instance) (i : ℕ) (xs ys : List Path) → Lead t i (xs ++ ys) → Lead t i xs
 left_lead t i xs ys h q g = h q (in_left q xs ys g)
@@ -132,23 +122,22 @@ abbrev names_at : List Instance → ℕ → Path → Named
 names_at t i = types_in true t i
 
 given_definitions : (t : List Instance) (path : List ℕ) (i : ℕ) (ds : List PlainDefinition) (x : List ℕ) (other : Local)
-    → passes (flat_map (λ d. (typing (names_at t i) in_body d.body).checks) ds) ≡ true → Lead t i (flat_map (λ d. paths_of d.body []) ds) → Trees_fit (of_definitions ds)
+    → passes (flat_map (λ d. (typing (names_at t i) in_body d.body).checks) ds) ≡ true → Lead t i (flat_map (λ d. paths_of d.body []) ds) → Words (of_definitions ds)
     → LocalGood (Given t) path i x other → LocalGood (Given t) path i x (among_definitions i ds x other)
 given_definitions t path i [] x other h l f k = k
 given_definitions t path i (d ∷ ds) x other h l f k =
     let b = split (typing (names_at t i) in_body d.body).checks (flat_map (λ (c : PlainDefinition). (typing (names_at t i) in_body c.body).checks) ds) h in
-    let w = first_fits d.body (of_definitions ds) f in
+    let w = both_words d.body (of_definitions ds) f in
     by_name (λ y m. LocalGood (Given t) path i y m) d.name x (formula i d.body) (among_definitions i ds x other)
     (λ e. record {
       paths = left_lead t i (paths_of d.body []) (flat_map (λ (c : PlainDefinition). paths_of c.body []) ds) l;
       words = w.0;
-      low = w.1;
       checks = b.0;
     })
-    (given_definitions t path i ds x other b.1 (right_lead t i (paths_of d.body []) (flat_map (λ (c : PlainDefinition). paths_of c.body []) ds) l) (rest_fits d.body (of_definitions ds) f) k)
+    (given_definitions t path i ds x other b.1 (right_lead t i (paths_of d.body []) (flat_map (λ (c : PlainDefinition). paths_of c.body []) ds) l) (both_words d.body (of_definitions ds) f).1 k)
 
 given_elements : (t : List Instance) (path : List ℕ) (i : ℕ) (es : List PlainElement) (x : List ℕ) → passes (flat_map (element_typing (names_at t i)) es) ≡ true → Lead t i (flat_map element_paths es)
-    → Trees_fit (flat_map expressions_in es) → LocalGood (Given t) path i x (among_elements i es x)
+    → Words (flat_map expressions_in es) → LocalGood (Given t) path i x (among_elements i es x)
 given_elements t path i [] x h l f = tt
 given_elements t path i (vars kind items ∷ es) x h l f =
     let b = split (element_typing (names_at t i) (vars kind items)) (flat_map (element_typing (names_at t i)) es) h in
@@ -163,24 +152,24 @@ given_elements t path i (e ∷ es) x h l f =
     given_elements t path i es x b.1 (right_lead t i (element_paths e) (flat_map element_paths es) l) (both_fit (expressions_in e) (flat_map expressions_in es) f).1
 
 given_actual : (t : List Instance) (path : List ℕ) (i j : ℕ) (x : List ℕ) (e : Tree) (more : List Path) → passes (actual_typing (names_at t j) e) ≡ true → Lead t j (paths_of e more)
-    → words_fit e ≡ true → depth e ≤ deepest → LocalGood (Given t) path i x (of_actual j e)
-given_actual t path i j x (name p q) more h l w d = tt
-given_actual t path i j x e more h l w d = record { paths = λ r g. l r (own_paths e more r g); words = w; low = d; checks = h }
+    → words_fit e ≡ true → LocalGood (Given t) path i x (of_actual j e)
+given_actual t path i j x (name p q) more h l w = tt
+given_actual t path i j x e more h l w = record { paths = λ r g. l r (own_paths e more r g); words = w; checks = h }
 
 more_lead : (t : List Instance) (i : ℕ) (e : Tree) (more : List Path) → Lead t i (paths_of e more) → Lead t i more
 more_lead t i e more h q g = h q (more_paths e more q g)
 
 given_parameters : (t : List Instance) (path : List ℕ) (i j : ℕ) (qs : List Parameter) (es : Trees) (x : List ℕ) (other : Local)
-    → passes (actuals_typing (names_at t j) es) ≡ true → Lead t j (tree_paths es []) → Trees_fit (list_of es) → LocalGood (Given t) path i x other
+    → passes (actuals_typing (names_at t j) es) ≡ true → Lead t j (tree_paths es []) → Words (list_of es) → LocalGood (Given t) path i x other
     → LocalGood (Given t) path i x (among_parameters j qs es x other)
 given_parameters t path i j [] es x other h l f k = k
 given_parameters t path i j (q ∷ qs) no_trees x other h l f k = k
 given_parameters t path i j (q ∷ qs) (tree e es) x other h l f k =
     let b = split (actual_typing (names_at t j) e) (actuals_typing (names_at t j) es) h in
-    let w = first_fits e (list_of es) f in
+    let w = both_words e (list_of es) f in
     by_name (λ y m. LocalGood (Given t) path i y m) q.name x (of_actual j e) (among_parameters j qs es x other)
-    (λ s. given_actual t path i j x e (tree_paths es []) b.0 l w.0 w.1)
-    (given_parameters t path i j qs es x other b.1 (more_lead t j e (tree_paths es []) l) (rest_fits e (list_of es) f) k)
+    (λ s. given_actual t path i j x e (tree_paths es []) b.0 l w.0)
+    (given_parameters t path i j qs es x other b.1 (more_lead t j e (tree_paths es []) l) (both_words e (list_of es) f).1 k)
 
 -- ---- an instance's checks
 
@@ -190,25 +179,20 @@ pub record Checked (t : List Instance) (i : ℕ) (at : Instance) : Type 0 where
   pub actual_paths : Lead t (parent_of at) (tree_paths at.actuals [])
   pub own_paths : Lead t i (flat_map element_paths at.plan.elements)
   pub actual_words : list_all words_fit (list_of at.actuals) ≡ true
-  pub actual_lows : list_all expression_low (list_of at.actuals) ≡ true
   pub own_words : list_all words_fit (flat_map expressions_in at.plan.elements) ≡ true
-  pub own_lows : list_all expression_low (flat_map expressions_in at.plan.elements) ≡ true
 
-pub checked_at : (t : List Instance) → IsChecked t → all_trees words_fit t ≡ true → all_trees expression_low t ≡ true → (i : ℕ) (at : Instance) → slice_get t i ≡ Some at → Checked t i at
-checked_at t c w l i at e =
+pub checked_at : (t : List Instance) → IsChecked t → all_trees words_fit t ≡ true → (i : ℕ) (at : Instance) → slice_get t i ≡ Some at → Checked t i at
+checked_at t c w i at e =
     let types = split (actuals_typing (types_in true t (parent_of at)) at.actuals) (flat_map (element_typing (types_in true t i)) at.plan.elements) (at_pass (type_checks (names_in t)) t i at c.types e) in
     let paths = split (map (path_check (found_in t) (parent_of at)) (tree_paths at.actuals [])) (map (path_check (found_in t) i) (flat_map element_paths at.plan.elements)) (at_pass (path_checks (found_in t)) t i at c.paths e) in
     let words = both_true (list_all words_fit (list_of at.actuals)) (list_all words_fit (flat_map expressions_in at.plan.elements)) (there (instance_all words_fit) t i at w e) in
-    let lows = both_true (list_all expression_low (list_of at.actuals)) (list_all expression_low (flat_map expressions_in at.plan.elements)) (there (instance_all expression_low) t i at l e) in
     record {
       actual_types = types.0;
       element_types = types.1;
       actual_paths = lead t (parent_of at) (tree_paths at.actuals []) paths.0;
       own_paths = lead t i (flat_map element_paths at.plan.elements) paths.1;
       actual_words = words.0;
-      actual_lows = lows.0;
       own_words = words.1;
-      own_lows = lows.1;
     }
 
 pub all_given : (t : List Instance) → ((i : ℕ) (at : Instance) → slice_get t i ≡ Some at → Checked t i at) → (i : ℕ) (path : Path) → Given t (found_in t i path)
@@ -216,8 +200,8 @@ all_given t c i path = found_good (Given t) (given_closed t) t
     (λ i x. in_place (Given t) i x (slice_get t i)
     (λ at e.
     let k = c i at e in
-    given_parameters t at.path i (parent_of at) at.plan.parameters at.actuals x (among_elements i at.plan.elements x) k.actual_types k.actual_paths (record { words = k.actual_words; lows = k.actual_lows })
-    (given_elements t at.path i at.plan.elements x k.element_types k.own_paths (record { words = k.own_words; lows = k.own_lows }))))
+    given_parameters t at.path i (parent_of at) at.plan.parameters at.actuals x (among_elements i at.plan.elements x) k.actual_types k.actual_paths k.actual_words
+    (given_elements t at.path i at.plan.elements x k.element_types k.own_paths k.own_words)))
     i path
 
 -- ---- names have types
@@ -277,40 +261,40 @@ AllTyped t = (i : ℕ) (path : Path) → is_something (found_in t i path) ≡ tr
 typed_paths : (t : List Instance) (i : ℕ) (xs : List Path) → AllTyped t → Lead t i xs → TypedPaths (types_in true t i) xs
 typed_paths t i xs g l q h f = g i q (l q h) f
 
-part_of : (t : List Instance) (i : ℕ) (x : Tree) → AllTyped t → Lead t i (paths_of x []) → words_fit x ≡ true → depth x ≤ deepest → AnyHold (types_in true t i) x → (e : Tree) → IsPart e x
+part_of : (t : List Instance) (i : ℕ) (x : Tree) → AllTyped t → Lead t i (paths_of x []) → words_fit x ≡ true → AnyHold (types_in true t i) x → (e : Tree) → IsPart e x
     → SoundOrName t i e
-part_of t i x g l w d k e h = inl (part_sound (types_in true t i) x [] (typed_paths t i (paths_of x []) g l) w k d e h)
+part_of t i x g l w k e h = inl (part_sound (types_in true t i) x [] (typed_paths t i (paths_of x []) g l) w k e h)
 
 in_definitions : (t : List Instance) (i : ℕ) (ds : List PlainDefinition) → AllTyped t → passes (flat_map (λ d. (typing (names_at t i) in_body d.body).checks) ds) ≡ true
-    → Lead t i (flat_map (λ d. paths_of d.body []) ds) → Trees_fit (of_definitions ds) → (e : Tree) → InOne e (of_definitions ds) → SoundOrName t i e
+    → Lead t i (flat_map (λ d. paths_of d.body []) ds) → Words (of_definitions ds) → (e : Tree) → InOne e (of_definitions ds) → SoundOrName t i e
 in_definitions t i [] g h l f e k = absurd k
 in_definitions t i (d ∷ ds) g h l f e k =
     let b = split (typing (names_at t i) in_body d.body).checks (flat_map (λ (c : PlainDefinition). (typing (names_at t i) in_body c.body).checks) ds) h in
-    let w = first_fits d.body (of_definitions ds) f in
-    ⊎_elim (λ s. part_of t i d.body g (left_lead t i (paths_of d.body []) (flat_map (λ (c : PlainDefinition). paths_of c.body []) ds) l) w.0 w.1 (in_body, b.0) e s)
-    (λ s. in_definitions t i ds g b.1 (right_lead t i (paths_of d.body []) (flat_map (λ (c : PlainDefinition). paths_of c.body []) ds) l) (rest_fits d.body (of_definitions ds) f) e s) k
+    let w = both_words d.body (of_definitions ds) f in
+    ⊎_elim (λ s. part_of t i d.body g (left_lead t i (paths_of d.body []) (flat_map (λ (c : PlainDefinition). paths_of c.body []) ds) l) w.0 (in_body, b.0) e s)
+    (λ s. in_definitions t i ds g b.1 (right_lead t i (paths_of d.body []) (flat_map (λ (c : PlainDefinition). paths_of c.body []) ds) l) (both_words d.body (of_definitions ds) f).1 e s) k
 
 first_lead : (t : List Instance) (i : ℕ) (x : Path) (xs : List Path) → Lead t i (x ∷ xs) → Lead t i xs
 first_lead t i x xs h q g = h q (inr g)
 
 in_assignments : (t : List Instance) (i : ℕ) (xs : List PlainAssignment) → AllTyped t → passes (flat_map (assigned_typing (names_at t i)) xs) ≡ true
-    → Lead t i (flat_map (λ a. a.target ∷ paths_of a.body []) xs) → Trees_fit (of_assignments xs) → (e : Tree) → InOne e (of_assignments xs) → SoundOrName t i e
+    → Lead t i (flat_map (λ a. a.target ∷ paths_of a.body []) xs) → Words (of_assignments xs) → (e : Tree) → InOne e (of_assignments xs) → SoundOrName t i e
 in_assignments t i [] g h l f e k = absurd k
 in_assignments t i (a ∷ xs) g h l f e k =
     let b = split (assigned_typing (names_at t i) a) (flat_map (assigned_typing (names_at t i)) xs) h in
     let c = split (typing (names_at t i) (in_assignment a.when) a.body).checks _ b.0 in
-    let w = first_fits a.body (of_assignments xs) f in
+    let w = both_words a.body (of_assignments xs) f in
     let own = left_lead t i (a.target ∷ paths_of a.body []) (flat_map (λ (z : PlainAssignment). z.target ∷ paths_of z.body []) xs) l in
-    ⊎_elim (λ s. part_of t i a.body g (first_lead t i a.target (paths_of a.body []) own) w.0 w.1 (in_assignment a.when, c.0) e s)
-    (λ s. in_assignments t i xs g b.1 (right_lead t i (a.target ∷ paths_of a.body []) (flat_map (λ (z : PlainAssignment). z.target ∷ paths_of z.body []) xs) l) (rest_fits a.body (of_assignments xs) f) e s) k
+    ⊎_elim (λ s. part_of t i a.body g (first_lead t i a.target (paths_of a.body []) own) w.0 (in_assignment a.when, c.0) e s)
+    (λ s. in_assignments t i xs g b.1 (right_lead t i (a.target ∷ paths_of a.body []) (flat_map (λ (z : PlainAssignment). z.target ∷ paths_of z.body []) xs) l) (both_words a.body (of_assignments xs) f).1 e s) k
 
-in_formula : (t : List Instance) (i : ℕ) (at : Position) (x : Tree) → AllTyped t → passes (formula_typing (names_at t i) at x) ≡ true → Lead t i (paths_of x []) → Trees_fit (x ∷ []) → (e : Tree)
+in_formula : (t : List Instance) (i : ℕ) (at : Position) (x : Tree) → AllTyped t → passes (formula_typing (names_at t i) at x) ≡ true → Lead t i (paths_of x []) → Words (x ∷ []) → (e : Tree)
     → InOne e (x ∷ []) → SoundOrName t i e
 in_formula t i at x g h l f e k =
-    let w = first_fits x [] f in
-    ⊎_elim (λ s. part_of t i x g l w.0 w.1 (at, (split (typing (names_at t i) at x).checks _ h).0) e s) (λ s. absurd s) k
+    let w = both_words x [] f in
+    ⊎_elim (λ s. part_of t i x g l w.0 (at, (split (typing (names_at t i) at x).checks _ h).0) e s) (λ s. absurd s) k
 
-in_element : (t : List Instance) (i : ℕ) (m : PlainElement) → AllTyped t → passes (element_typing (names_at t i) m) ≡ true → Lead t i (element_paths m) → Trees_fit (expressions_in m) → (e : Tree)
+in_element : (t : List Instance) (i : ℕ) (m : PlainElement) → AllTyped t → passes (element_typing (names_at t i) m) ≡ true → Lead t i (element_paths m) → Words (expressions_in m) → (e : Tree)
     → InOne e (expressions_in m) → SoundOrName t i e
 in_element t i (vars kind items) g h l f e k = absurd k
 in_element t i (defines ds) g h l f e k = in_definitions t i ds g h l f e k
@@ -327,7 +311,7 @@ either_one e (x ∷ xs) ys (inl h) = inl (inl h)
 either_one e (x ∷ xs) ys (inr h) = ⊎_elim (λ a. inl (inr a)) (λ b. inr b) (either_one e xs ys h)
 
 in_elements : (t : List Instance) (i : ℕ) (ms : List PlainElement) → AllTyped t → passes (flat_map (element_typing (names_at t i)) ms) ≡ true → Lead t i (flat_map element_paths ms)
-    → Trees_fit (flat_map expressions_in ms) → (e : Tree) → InOne e (flat_map expressions_in ms) → SoundOrName t i e
+    → Words (flat_map expressions_in ms) → (e : Tree) → InOne e (flat_map expressions_in ms) → SoundOrName t i e
 in_elements t i [] g h l f e k = absurd k
 in_elements t i (m ∷ ms) g h l f e k =
     let b = split (element_typing (names_at t i) m) (flat_map (element_typing (names_at t i)) ms) h in
@@ -335,18 +319,18 @@ in_elements t i (m ∷ ms) g h l f e k =
     ⊎_elim (λ s. in_element t i m g b.0 (left_lead t i (element_paths m) (flat_map element_paths ms) l) w.0 e s)
     (λ s. in_elements t i ms g b.1 (right_lead t i (element_paths m) (flat_map element_paths ms) l) w.1 e s) (either_one e (expressions_in m) (flat_map expressions_in ms) k)
 
-in_actual : (t : List Instance) (i : ℕ) (x : Tree) (more : List Path) → AllTyped t → passes (actual_typing (names_at t i) x) ≡ true → Lead t i (paths_of x more) → words_fit x ≡ true → depth x ≤ deepest
+in_actual : (t : List Instance) (i : ℕ) (x : Tree) (more : List Path) → AllTyped t → passes (actual_typing (names_at t i) x) ≡ true → Lead t i (paths_of x more) → words_fit x ≡ true
     → (e : Tree) → IsPart e x → SoundOrName t i e
-in_actual t i (name p q) more g h l w d e k = inr (p, q, k, l q (inl refl))
-in_actual t i x more g h l w d e k = part_of t i x g (λ r s. l r (own_paths x more r s)) w d (in_body, h) e k
+in_actual t i (name p q) more g h l w e k = inr (p, q, k, l q (inl refl))
+in_actual t i x more g h l w e k = part_of t i x g (λ r s. l r (own_paths x more r s)) w (in_body, h) e k
 
-in_trees : (t : List Instance) (i : ℕ) (xs : Trees) → AllTyped t → passes (actuals_typing (names_at t i) xs) ≡ true → Lead t i (tree_paths xs []) → Trees_fit (list_of xs) → (e : Tree) → InTrees e xs
+in_trees : (t : List Instance) (i : ℕ) (xs : Trees) → AllTyped t → passes (actuals_typing (names_at t i) xs) ≡ true → Lead t i (tree_paths xs []) → Words (list_of xs) → (e : Tree) → InTrees e xs
     → SoundOrName t i e
 in_trees t i no_trees g h l f e k = absurd k
 in_trees t i (tree x xs) g h l f e k =
     let b = split (actual_typing (names_at t i) x) (actuals_typing (names_at t i) xs) h in
-    let w = first_fits x (list_of xs) f in
-    ⊎_elim (λ s. in_actual t i x (tree_paths xs []) g b.0 l w.0 w.1 e s) (λ s. in_trees t i xs g b.1 (more_lead t i x (tree_paths xs []) l) (rest_fits x (list_of xs) f) e s) k
+    let w = both_words x (list_of xs) f in
+    ⊎_elim (λ s. in_actual t i x (tree_paths xs []) g b.0 l w.0 e s) (λ s. in_trees t i xs g b.1 (more_lead t i x (tree_paths xs []) l) (both_words x (list_of xs) f).1 e s) k
 
 -- where an instance stands in the list
 actual_at : (i : ℕ) (e : Tree) (t : List Instance) → InActuals i e t → (c : ℕ) × (at : Instance) × (slice_get t c ≡ Some at) × (parent_of at ≡ i) × InTrees e at.actuals
@@ -359,8 +343,8 @@ stands_sound t g c i e (inl h) = by (slice_get t i) refl h
   where
     by : (o : Option Instance) → slice_get t i ≡ o → InElements e o → SoundOrName t i e
     by None s k = absurd k
-    by (Some at) s k = let r = c i at s in in_elements t i at.plan.elements g r.element_types r.own_paths (record { words = r.own_words; lows = r.own_lows }) e k
+    by (Some at) s k = let r = c i at s in in_elements t i at.plan.elements g r.element_types r.own_paths r.own_words e k
 stands_sound t g c i e (inr h) =
     let r = actual_at i e t h in
     let k = c r.0 r.1 r.2 in
-    subst (λ j. SoundOrName t j e) r.3 (in_trees t (parent_of r.1) r.1.actuals g k.actual_types k.actual_paths (record { words = k.actual_words; lows = k.actual_lows }) e r.4)
+    subst (λ j. SoundOrName t j e) r.3 (in_trees t (parent_of r.1) r.1.actuals g k.actual_types k.actual_paths k.actual_words e r.4)

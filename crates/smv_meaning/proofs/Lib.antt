@@ -18,3 +18,4 @@ pub mod Typable
 pub mod PartLaws
 pub mod CheckedLaws
 pub mod SafeExpressions
+pub mod LiteralLemmas

@@ -18,7 +18,7 @@ use Rattle.smv_meaning.specs.Naming.{in_body, typed_variable, named_found}
 use Rattle.smv_meaning.specs.Phases.{is_something, module_checks, declaration_checks, size_checks, later_checks}
 use Rattle.smv_meaning.specs.Safety.{Safe, SafeFound, SafePath}
 use Rattle.smv_meaning.specs.Typed.{Gives}
-use Rattle.smv_meaning.specs.Owed.{LowFound, HasType, expression_low}
+use Rattle.smv_meaning.specs.Owed.{HasType}
 use Rattle.smv_meaning.specs.Literals.{words_fit}
 use Rattle.smv_meaning.specs.Settled.{Acyclic, cycle_checks_of, types_in, rank_of}
 use Rattle.smv_meaning.specs.Checked.{path_checks_of, type_checks_of, IsChecked, AcceptedIsChecked, all_trees, names_instance, NamesHaveTypes, ExpressionsHaveTypes, reaches_an_input, ExpressionsAreSafe}
@@ -47,20 +47,12 @@ accepted_is_checked_law source needed h =
 acyclic : (t : List Instance) → IsChecked t → Acyclic t
 acyclic t c = (cycles_are_checked_law t).0 c.cycles
 
--- where words and depths are in order
+-- what paths lead to is in order
 abbrev Placing : List Instance → Type 0
 Placing t = (i : ℕ) (path : Path) → Given t (found_in t i path)
 
-placing : (t : List Instance) → IsChecked t → all_trees words_fit t ≡ true → all_trees expression_low t ≡ true → Placing t
-placing t c w l = all_given t (checked_at t c w l)
-
-low_given : (t : List Instance) (m : Found) → Given t m → LowFound m
-low_given t (body_at i x j e) h = h.low
-low_given t (variable_at x kind d) h = tt
-low_given t (instance_at i) h = tt
-low_given t (symbol_of x) h = tt
-low_given t cyclic h = tt
-low_given t none h = tt
+placing : (t : List Instance) → IsChecked t → all_trees words_fit t ≡ true → Placing t
+placing t c w = all_given t (checked_at t c w)
 
 -- ---- where no input is reached, types are the same without a label
 
@@ -153,17 +145,17 @@ name_safe t c g inputs state label gives i x s same = by (is_body (found_in t i 
     by true e =
         let no : (types_in true t i x).is_instance ≡ false =
         ap (λ (m : Named). m.is_instance) (types_settle_law t (acyclic t c) true i x) ∙ named_instance t (found_in t i x) ∙ body_names (found_in t i x) e in
-        safe_path inputs (found_in t) state label gives (λ j q. low_given t (found_in t j q) (g j q)) (steps_of t) i x
+        safe_path inputs (found_in t) state label gives (steps_of t) i x
         (subst (λ (m : Named). HasType m.type) (sym same) (names_have_types_from t c g i x s no))
 
 pub expressions_are_safe_law : ExpressionsAreSafe
-expressions_are_safe_law t c w l inputs state label following gives later i e stands reach =
-    let g = placing t c w l in
+expressions_are_safe_law t c w inputs state label following gives later i e stands reach =
+    let g = placing t c w in
     let a = acyclic t c in
     ⊎_elim
     (λ s.
     let same = typing_same (types_in inputs t i) (types_in true t i) s.at e [] (types_for t a inputs i e reach) in
-    typed_is_safe_law inputs (found_in t) state label following gives later (λ j q. low_given t (found_in t j q) (g j q)) (steps_of t) i s.at e
+    typed_is_safe_law inputs (found_in t) state label following gives later (steps_of t) i s.at e
     (subst (λ (m : Typing). HasType m.type) (sym same) (sound_type (types_in true t i) e s)))
     (λ s.
     let named : (inputs || not (reaches_an_input t i (name s.0 s.1))) ≡ true = subst (λ z. (inputs || not (reaches_an_input t i z)) ≡ true) s.2 reach in
@@ -171,11 +163,11 @@ expressions_are_safe_law t c w l inputs state label following gives later i e st
     let P : Tree → Type 0 =
     λ z. Safe (SafePath (found_in t) (steps_of t) state label i) (SafePath (found_in t) (steps_of t) following label i) (reading (found_in t) (steps_of t) state label i) (reading (found_in t) (steps_of t) following label i) z in
     subst P (sym s.2) (name_safe t c g inputs state label gives i s.1 s.3 same))
-    (stands_sound t (names_have_types_from t c g) (checked_at t c w l) i e stands)
+    (stands_sound t (names_have_types_from t c g) (checked_at t c w) i e stands)
 
 pub names_have_types_law : NamesHaveTypes
-names_have_types_law t c w l i path s f =
-    names_have_types_from t c (placing t c w l) i path s (ap (λ (m : Named). m.is_instance) (types_settle_law t (acyclic t c) true i path) ∙ named_instance t (found_in t i path) ∙ f)
+names_have_types_law t c w i path s f =
+    names_have_types_from t c (placing t c w) i path s (ap (λ (m : Named). m.is_instance) (types_settle_law t (acyclic t c) true i path) ∙ named_instance t (found_in t i path) ∙ f)
 
 name_has : (names : Path → Named) (p : Place) (x : Path) → (names x).is_instance ≡ false → HasType (names x).type → HasType (typing names in_body (name p x)).type
 name_has names p x f h = by (names x).is_instance f
@@ -185,14 +177,14 @@ name_has names p x f h = by (names x).is_instance f
     by false e = h
 
 pub expressions_have_types_law : ExpressionsHaveTypes
-expressions_have_types_law t c w l i e stands =
+expressions_have_types_law t c w i e stands =
     ⊎_elim (λ s. inl (s.at, sound_type (types_in true t i) e s)) (λ s. by s.0 s.1 s.2 s.3 (names_instance (found_in t i s.1)) refl)
-    (stands_sound t (names_have_types_from t c (placing t c w l)) (checked_at t c w l) i e stands)
+    (stands_sound t (names_have_types_from t c (placing t c w)) (checked_at t c w) i e stands)
   where
     by : (p : Place) (x : Path) → e ≡ name p x → is_something (found_in t i x) ≡ true → (b : Bool) → names_instance (found_in t i x) ≡ b
         → ((at : Position) × HasType (typing (types_in true t i) at e).type) ⊎ ((p : Place) × (x : Path) × (e ≡ name p x) × (names_instance (found_in t i x) ≡ true))
     by p x same s true k = inr (p, x, same, k)
     by p x same s false k =
         let f : (types_in true t i x).is_instance ≡ false = ap (λ (m : Named). m.is_instance) (types_settle_law t (acyclic t c) true i x) ∙ named_instance t (found_in t i x) ∙ k in
-        let h : HasType (typing (types_in true t i) in_body (name p x)).type = name_has (types_in true t i) p x f (names_have_types_law t c w l i x s k) in
+        let h : HasType (typing (types_in true t i) in_body (name p x)).type = name_has (types_in true t i) p x f (names_have_types_law t c w i x s k) in
         inl (in_body, subst (λ z. HasType (typing (types_in true t i) in_body z).type) (sym same) h)

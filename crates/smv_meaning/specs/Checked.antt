@@ -14,7 +14,7 @@ use Rattle.smv_meaning.specs.Checks.{Check, passes, Position, typing}
 use Rattle.smv_meaning.specs.Phases.{over_instances, path_checks, type_checks, is_something, names_in, IsAccepted}
 use Rattle.smv_meaning.specs.Safety.{Safe, SafePath}
 use Rattle.smv_meaning.specs.Typed.{Gives}
-use Rattle.smv_meaning.specs.Owed.{HasType, expression_low}
+use Rattle.smv_meaning.specs.Owed.{HasType}
 use Rattle.smv_meaning.specs.Literals.{words_fit}
 use Rattle.smv_meaning.specs.Parts.{expressions_in, StandsIn}
 use Rattle.smv_meaning.specs.Settled.{cycle_checks_of, types_in}
@@ -48,12 +48,12 @@ names_instance m = false
 
 -- what a path leads to has a type, but for an instance
 abbrev pub NamesHaveTypes : Type 0
-NamesHaveTypes = (t : List Instance) → IsChecked t → IsTrue (all_trees words_fit t) → IsTrue (all_trees expression_low t) → (i : ℕ) (path : Path) → IsTrue (is_something (found_in t i path)) → names_instance (found_in t i path) ≡ false
+NamesHaveTypes = (t : List Instance) → IsChecked t → IsTrue (all_trees words_fit t) → (i : ℕ) (path : Path) → IsTrue (is_something (found_in t i path)) → names_instance (found_in t i path) ≡ false
     → HasType (types_in true t i path).type
 
 -- an expression of an instance has a type in some position, but where it is the name of an instance
 abbrev pub ExpressionsHaveTypes : Type 0
-ExpressionsHaveTypes = (t : List Instance) → IsChecked t → IsTrue (all_trees words_fit t) → IsTrue (all_trees expression_low t) → (i : ℕ) (e : Tree) → StandsIn t i e
+ExpressionsHaveTypes = (t : List Instance) → IsChecked t → IsTrue (all_trees words_fit t) → (i : ℕ) (e : Tree) → StandsIn t i e
     → ((at : Position) × HasType (typing (types_in true t i) at e).type) ⊎ ((p : Place) × (x : Path) × (e ≡ name p x) × (names_instance (found_in t i x) ≡ true))
 
 -- the expression reaches an input from the numbered instance
@@ -62,7 +62,7 @@ reaches_an_input t i e = list_any (λ q. (types_in true t i q).reaches_input) (p
 
 -- an expression of an instance is evaluated safely, where a label is given or the expression reaches no input
 abbrev pub ExpressionsAreSafe : Type 0
-ExpressionsAreSafe = (t : List Instance) → IsChecked t → IsTrue (all_trees words_fit t) → IsTrue (all_trees expression_low t)
+ExpressionsAreSafe = (t : List Instance) → IsChecked t → IsTrue (all_trees words_fit t)
     → (inputs : Bool) (state label following : Valuation) → Gives inputs (found_in t) state label → Gives inputs (found_in t) following label
     → (i : ℕ) (e : Tree) → StandsIn t i e → IsTrue (inputs || not (reaches_an_input t i e))
     → Safe (SafePath (found_in t) (steps_of t) state label i) (SafePath (found_in t) (steps_of t) following label i)

@@ -5,6 +5,7 @@ mod checked;
 mod evaluate;
 mod functions;
 mod laws;
+mod literals;
 mod model_value;
 mod names;
 mod operators;
