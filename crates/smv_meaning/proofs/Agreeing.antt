@@ -43,6 +43,46 @@ mutual
   more_trees no_trees more q h = h
   more_trees (tree e es) more q h = more_paths e (tree_paths es more) q (more_trees es more q h)
 
+-- more may follow
+abbrev Among : List Path → List Path → Type 0
+Among xs ys = (q : Path) → In q xs → In q ys
+
+cons_among : (x : Path) (xs ys : List Path) → Among xs ys → Among (x ∷ xs) (x ∷ ys)
+cons_among x xs ys h q (inl s) = inl s
+cons_among x xs ys h q (inr s) = inr (h q s)
+
+mutual
+  among_paths : (e : Tree) (xs ys : List Path) → Among xs ys → Among (paths_of e xs) (paths_of e ys)
+  among_paths (truth p b) xs ys h = h
+  among_paths (number p n) xs ys h = h
+  among_paths (literal p w) xs ys h = h
+  among_paths (name p x) xs ys h = cons_among x xs ys h
+  among_paths (prefix p sign n e) xs ys h = among_paths e xs ys h
+  among_paths (chain p e ls) xs ys h = among_paths e (link_paths ls xs) (link_paths ls ys) (among_links ls xs ys h)
+  among_paths (choice p bs e) xs ys h = among_branches bs (paths_of e xs) (paths_of e ys) (among_paths e xs ys h)
+  among_paths (cases p bs) xs ys h = among_branches bs xs ys h
+  among_paths (select p e high low) xs ys h = among_paths e xs ys h
+  among_paths (call p f es) xs ys h = among_trees es xs ys h
+  among_paths (next p e) xs ys h = among_paths e xs ys h
+  among_paths (set p es) xs ys h = among_trees es xs ys h
+  among_paths (range p low high) xs ys h = h
+
+  among_links : (ls : Links) (xs ys : List Path) → Among xs ys → Among (link_paths ls xs) (link_paths ls ys)
+  among_links no_links xs ys h = h
+  among_links (link op e ls) xs ys h = among_paths e (link_paths ls xs) (link_paths ls ys) (among_links ls xs ys h)
+
+  among_branches : (bs : Branches) (xs ys : List Path) → Among xs ys → Among (branch_paths bs xs) (branch_paths bs ys)
+  among_branches no_branches xs ys h = h
+  among_branches (branch c e rest) xs ys h =
+      among_paths c (paths_of e (branch_paths rest xs)) (paths_of e (branch_paths rest ys)) (among_paths e (branch_paths rest xs) (branch_paths rest ys) (among_branches rest xs ys h))
+
+  among_trees : (es : Trees) (xs ys : List Path) → Among xs ys → Among (tree_paths es xs) (tree_paths es ys)
+  among_trees no_trees xs ys h = h
+  among_trees (tree e es) xs ys h = among_paths e (tree_paths es xs) (tree_paths es ys) (among_trees es xs ys h)
+
+pub own_paths : (e : Tree) (more : List Path) (q : Path) → In q (paths_of e []) → In q (paths_of e more)
+own_paths e more q h = among_paths e [] more (λ z i. absurd i) q h
+
 -- ---- values
 
 if_same : {X : Type 0} (b : Bool) (x y z w : X) → x ≡ z → y ≡ w → (if b then x else y) ≡ (if b then z else w)

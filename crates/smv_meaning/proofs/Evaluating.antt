@@ -1,5 +1,5 @@
 -- Steps of evaluating an expression.
-use Rattle.std.proofs.Common.{◌≡◌, ℕ, suc, ◌+◌, ◌-◌, ◌<◌, ◌≤◌, max, Bool, true, false, ◌&&◌, ◌||◌, if◌then◌else◌, List, [], ◌∷◌, ◌++◌, map, pos, negsuc, Option, refl, sym, ap, ◌∙◌, subst, arith}
+use Rattle.std.proofs.Common.{◌≡◌, ℕ, suc, ◌+◌, ◌*◌, ◌-◌, ◌<◌, ◌≤◌, max, Bool, true, false, ◌&&◌, ◌||◌, if◌then◌else◌, List, [], ◌∷◌, ◌++◌, map, pos, negsuc, Option, refl, sym, ap, ◌∙◌, subst, arith}
 use Rattle.std.specs.Borrow.{Bor}
 use Rattle.text_core.specs.declared.place.Place.{Place}
 use Rattle.smv_text.specs.declared.tree.Path.{Path}
@@ -14,6 +14,9 @@ use Rattle.smv_text.specs.declared.tree.Expr.{Expr}
 use Rattle.smv_text.specs.declared.tree.Link.{Link}
 use Rattle.smv_text.specs.declared.tree.Shape.{Chain}
 use Rattle.smv_text.specs.View.{plain, plain_branch, plain_link}
+use Rattle.smv_meaning.specs.Instances.{Instance}
+use Rattle.smv_meaning.proofs.FoundLaws.{depths_of, LowFound, low_found}
+use Rattle.std.proofs.Math.Nat.{add-mul}
 use Rattle.smv_meaning.proofs.Plain.{plain_branch-at, plain_link-at, plain-chain}
 use Rattle.smv_meaning.specs.declared.value.Value.{Value}
 use Rattle.smv_meaning.specs.declared.value.Value.TheVariants.{Truth, Integer, Bits}
@@ -54,6 +57,27 @@ safe_step ts d n i s l path m h e at safe =
     let step : n ≡ suc (n - 1) = omega arith in
     let here : SafePath (found_here ts) (suc (n - 1)) (stated s) (stated l) i path = subst (λ k. SafePath (found_here ts) k (stated s) (stated l) i path) step safe in
     subst (SafeFound (SafePath (found_here ts) (n - 1) (stated s) (stated l)) (reading (found_here ts) (n - 1) (stated s) (stated l))) (sym (found_at ts d i path m e at)) here
+
+-- what an evaluation of so many steps has to spend: each step one body
+unfoldable pub budget : List Instance → ℕ → ℕ
+budget t n = n * (8 * depths_of t + 8)
+
+one_more : (m k x : ℕ) → x < k → m * k + x < (m + 1) * k
+one_more m k x h = let e = add-mul m 1 k in omega (arith, e)
+
+pub budget_falls : (t : List Instance) (n : ℕ) (e : Tree) → depth e ≤ depths_of t → 0 < n → budget t (n - 1) + 8 * depth e + 1 < budget t n
+unfolding budget
+budget_falls t n e l h =
+    let step : n ≡ (n - 1) + 1 = omega arith in
+    let less = one_more (n - 1) (8 * depths_of t + 8) (8 * depth e + 1) (omega arith) in
+    subst (λ m. (n - 1) * (8 * depths_of t + 8) + 8 * depth e + 1 < m * (8 * depths_of t + 8)) (sym step) (omega (arith, less))
+
+low_at : (n : ℕ) (m : Found) (k : Found) → k ≡ m → LowFound n m → LowFound n k
+low_at n m k e h = subst (LowFound n) (sym e) h
+
+pub body_low : (ts : List PartOf) (d i : ℕ) (path : Path) (m : Found) → d ≡ steps_of (map instance_plain ts) → m ≡ resolved (map instance_plain ts) (look (map instance_plain ts) d) i path
+    → LowFound (depths_of (map instance_plain ts)) m
+body_low ts d i path m e at = low_at (depths_of (map instance_plain ts)) (found_here ts i path) m (found_at ts d i path m e at) (low_found (map instance_plain ts) i path)
 
 -- ---- chains
 

@@ -1,5 +1,5 @@
 -- What holds of the variables, definitions and actuals of all instances holds of what paths lead to.
-use Rattle.std.proofs.Common.{◌≡◌, ℕ, zero, suc, ◌<◌, ◌^◌, Bool, true, false, not, ◌&&◌, ◌==◌, nat_lt, nat_le, if◌then◌else◌, List, [], ◌∷◌, map, position, Option, Some, None, bytes_eq, refl, sym, subst, arith}
+use Rattle.std.proofs.Common.{ap, sum_by, ◌+◌, ◌≤◌, ◌≡◌, ℕ, zero, suc, ◌<◌, ◌^◌, Bool, true, false, not, ◌&&◌, ◌==◌, nat_lt, nat_le, if◌then◌else◌, List, [], ◌∷◌, map, position, Option, Some, None, bytes_eq, refl, sym, subst, arith}
 use Rattle.std.proofs.lemmas.Bool.{eqb-true, ltb-true, leb-true}
 use Rattle.std.proofs.lemmas.Slice.Eq.{bytes_eq-Decides}
 use mathlib.Core.Logic.{inl, inr, ⊎_elim}
@@ -18,9 +18,9 @@ use Rattle.smv_meaning.specs.Instances.{Instance, dotted}
 use Rattle.smv_meaning.specs.Names.{Local, alias, formula, variable_of, inner, nothing, of_actual, of_domain, among_items, among_definitions, among_elements, among_parameters, parent_of, local_in, local, Found, variable_at, body_at, instance_at, symbol_of, cyclic, none, at_child, is_child, path_in, onward, is_end, walk, has_symbol, single, through, resolved, landed, look, steps_of, found_in}
 use Rattle.smv_meaning.specs.Meaning.{is_input}
 use Rattle.smv_meaning.specs.Runs.{domain_fits, is_fit, element_fits, state_fits, label_fits}
-use Rattle.smv_meaning.specs.Safety.{depth, deepest}
+use Rattle.smv_meaning.specs.Safety.{depth}
 use Rattle.smv_meaning.specs.Typed.{LiesIn, Lies, GivesFound, Gives}
-use Rattle.smv_meaning.specs.Owed.{LowFound, Low, expression_low, trees_low, element_low, instance_low, is_low}
+use Rattle.std.proofs.lemmas.List.Sums.{sum_by-cons}
 use Rattle.std.proofs.lemmas.Int.{ints}
 use Rattle.smv_meaning.specs.Operators.{is_width}
 use Rattle.smv_meaning.specs.Types.{ExprType, integer_type, word_type, in_limit, are_same, hull_of, member_type}
@@ -88,80 +88,104 @@ unfolding look
 look_good P k t g zero i x = k.circles
 look_good P k t g (suc n) i x = landed_good P k t (look t n) (look_good P k t g n) i x (local t i x) (g i x)
 
-found_good : (P : Found → Type 0) → Closed P → (t : List Instance) → ((i : ℕ) (x : List ℕ) → LocalGood P (path_in (slice_get t i)) i x (local t i x)) → (i : ℕ) (path : Path) → P (found_in t i path)
+pub found_good : (P : Found → Type 0) → Closed P → (t : List Instance) → ((i : ℕ) (x : List ℕ) → LocalGood P (path_in (slice_get t i)) i x (local t i x)) → (i : ℕ) (path : Path) → P (found_in t i path)
 found_good P k t g i path = resolved_good P k t (look t (steps_of t)) (look_good P k t g (steps_of t)) i path
 
 -- ---- what one name is in its instance
 
-in_place : (P : Found → Type 0) (i : ℕ) (x : List ℕ) (o : Option Instance) → ((at : Instance) → o ≡ Some at → LocalGood P at.path i x (local_in i x (Some at))) → LocalGood P (path_in o) i x (local_in i x o)
+pub in_place : (P : Found → Type 0) (i : ℕ) (x : List ℕ) (o : Option Instance) → ((at : Instance) → o ≡ Some at → LocalGood P at.path i x (local_in i x (Some at))) → LocalGood P (path_in o) i x (local_in i x o)
 in_place P i x None h = tt
 in_place P i x (Some at) h = h at refl
 
 some_inj : {X : Type 0} (a b : X) → Some a ≡ Some b → a ≡ b
 some_inj a b e = cc
 
-there : {X : Type 0} (q : X → Bool) (xs : List X) (i : ℕ) (x : X) → list_all q xs ≡ true → slice_get xs i ≡ Some x → q x ≡ true
+pub there : {X : Type 0} (q : X → Bool) (xs : List X) (i : ℕ) (x : X) → list_all q xs ≡ true → slice_get xs i ≡ Some x → q x ≡ true
 there q [] i x h e = cc
 there q (y ∷ ys) zero x h e = let same : y ≡ x = some_inj y x e in subst (λ z. q z ≡ true) same (both_true (q y) (list_all q ys) h).0
 there q (y ∷ ys) (suc i) x h e = there q ys i x (both_true (q y) (list_all q ys) h).1 e
 
-by_name : (P : List ℕ → Local → Type 0) (y x : List ℕ) (l other : Local) → (y ≡ x → P x l) → P x other → P x (if bytes_eq y x then l else other)
+pub by_name : (P : List ℕ → Local → Type 0) (y x : List ℕ) (l other : Local) → (y ≡ x → P x l) → P x other → P x (if bytes_eq y x then l else other)
 by_name P y x l other h k = by (bytes_eq y x) refl
   where
     by : (b : Bool) → bytes_eq y x ≡ b → P x (if b then l else other)
     by true e = h ((bytes_eq-Decides y x).0 e)
     by false e = k
 
--- ---- no body is too deep
+-- ---- how deep bodies are: no deeper than all of them together
 
-low_closed : Closed LowFound
-low_closed = record { instances = λ i. tt; symbols = λ x. tt; circles = tt; missing = tt }
+abbrev pub element_depths : PlainElement → ℕ
+element_depths (defines ds) = sum_by (λ d. depth d.body) ds
+element_depths e = 0
 
-low_items : (path : List ℕ) (i : ℕ) (kind : VarKind) (items : List PlainItem) (x : List ℕ) (other : Local) → LocalGood LowFound path i x other → LocalGood LowFound path i x (among_items kind items x other)
-low_items path i kind [] x other h = h
-low_items path i kind (item ∷ items) x other h =
-    by_name (λ y l. LocalGood LowFound path i y l) item.name x (of_domain kind item.domain) (among_items kind items x other) (λ e. of_any item.domain) (low_items path i kind items x other h)
+abbrev pub actual_depths : Trees → ℕ
+actual_depths no_trees = 0
+actual_depths (tree e es) = depth e + actual_depths es
+
+abbrev pub depths_in : Instance → ℕ
+depths_in at = actual_depths at.actuals + sum_by element_depths at.plan.elements
+
+abbrev pub depths_of : List Instance → ℕ
+depths_of t = sum_by depths_in t
+
+abbrev pub LowFound : ℕ → Found → Type 0
+LowFound n (body_at i x j e) = depth e ≤ n
+LowFound n m = Unit {0}
+
+low_closed : (n : ℕ) → Closed (LowFound n)
+low_closed n = record { instances = λ i. tt; symbols = λ x. tt; circles = tt; missing = tt }
+
+low_items : (n : ℕ) (path : List ℕ) (i : ℕ) (kind : VarKind) (items : List PlainItem) (x : List ℕ) (other : Local) → LocalGood (LowFound n) path i x other → LocalGood (LowFound n) path i x (among_items kind items x other)
+low_items n path i kind [] x other h = h
+low_items n path i kind (item ∷ items) x other h =
+    by_name (λ y l. LocalGood (LowFound n) path i y l) item.name x (of_domain kind item.domain) (among_items kind items x other) (λ e. of_any item.domain) (low_items n path i kind items x other h)
   where
-    of_any : (d : PlainDomain) → LocalGood LowFound path i x (of_domain kind d)
+    of_any : (d : PlainDomain) → LocalGood (LowFound n) path i x (of_domain kind d)
     of_any boolean = tt
     of_any (members ms) = tt
     of_any (between low high) = tt
-    of_any (bits n) = tt
+    of_any (bits m) = tt
     of_any (instance m actuals) = tt
 
-low_definitions : (path : List ℕ) (i : ℕ) (ds : List PlainDefinition) (x : List ℕ) (other : Local) → list_all (λ d. expression_low d.body) ds ≡ true → LocalGood LowFound path i x other
-    → LocalGood LowFound path i x (among_definitions i ds x other)
-low_definitions path i [] x other a h = h
-low_definitions path i (d ∷ ds) x other a h =
-    let b = both_true (expression_low d.body) (list_all (λ d. expression_low d.body) ds) a in
-    by_name (λ y l. LocalGood LowFound path i y l) d.name x (formula i d.body) (among_definitions i ds x other) (λ e. leb-true (depth d.body) deepest b.0) (low_definitions path i ds x other b.1 h)
+low_definitions : (n : ℕ) (path : List ℕ) (i : ℕ) (ds : List PlainDefinition) (x : List ℕ) (other : Local) → sum_by (λ d. depth d.body) ds ≤ n → LocalGood (LowFound n) path i x other
+    → LocalGood (LowFound n) path i x (among_definitions i ds x other)
+low_definitions n path i [] x other a h = h
+low_definitions n path i (d ∷ ds) x other a h =
+    let b = sum_by-cons (λ (c : PlainDefinition). depth c.body) d ds in
+    by_name (λ y l. LocalGood (LowFound n) path i y l) d.name x (formula i d.body) (among_definitions i ds x other) (λ e. omega arith) (low_definitions n path i ds x other (omega arith) h)
 
-low_elements : (path : List ℕ) (i : ℕ) (es : List PlainElement) (x : List ℕ) → list_all element_low es ≡ true → LocalGood LowFound path i x (among_elements i es x)
-low_elements path i [] x a = tt
-low_elements path i (vars kind items ∷ es) x a = low_items path i kind items x (among_elements i es x) (low_elements path i es x a)
-low_elements path i (defines ds ∷ es) x a =
-    let b = both_true (element_low (defines ds)) (list_all element_low es) a in low_definitions path i ds x (among_elements i es x) b.0 (low_elements path i es x b.1)
-low_elements path i (e ∷ es) x a = low_elements path i es x (both_true (element_low e) (list_all element_low es) a).1
+low_elements : (n : ℕ) (path : List ℕ) (i : ℕ) (es : List PlainElement) (x : List ℕ) → sum_by element_depths es ≤ n → LocalGood (LowFound n) path i x (among_elements i es x)
+low_elements n path i [] x a = tt
+low_elements n path i (vars kind items ∷ es) x a =
+    let b = sum_by-cons element_depths (vars kind items) es in low_items n path i kind items x (among_elements i es x) (low_elements n path i es x (omega arith))
+low_elements n path i (defines ds ∷ es) x a =
+    let b = sum_by-cons element_depths (defines ds) es in low_definitions n path i ds x (among_elements i es x) (omega arith) (low_elements n path i es x (omega arith))
+low_elements n path i (e ∷ es) x a = let b = sum_by-cons element_depths e es in low_elements n path i es x (omega arith)
 
-low_actual : (path : List ℕ) (i j : ℕ) (x : List ℕ) (e : Tree) → expression_low e ≡ true → LocalGood LowFound path i x (of_actual j e)
-low_actual path i j x (name p q) h = tt
-low_actual path i j x e h = leb-true (depth e) deepest h
+low_actual : (n : ℕ) (path : List ℕ) (i j : ℕ) (x : List ℕ) (e : Tree) → depth e ≤ n → LocalGood (LowFound n) path i x (of_actual j e)
+low_actual n path i j x (name p q) h = tt
+low_actual n path i j x e h = h
 
-low_parameters : (path : List ℕ) (i j : ℕ) (qs : List Parameter) (es : Trees) (x : List ℕ) (other : Local) → trees_low es ≡ true → LocalGood LowFound path i x other
-    → LocalGood LowFound path i x (among_parameters j qs es x other)
-low_parameters path i j [] es x other a h = h
-low_parameters path i j (q ∷ qs) no_trees x other a h = h
-low_parameters path i j (q ∷ qs) (tree e es) x other a h =
-    let b = both_true (expression_low e) (trees_low es) a in
-    by_name (λ y l. LocalGood LowFound path i y l) q.name x (of_actual j e) (among_parameters j qs es x other) (λ s. low_actual path i j x e b.0) (low_parameters path i j qs es x other b.1 h)
+low_parameters : (n : ℕ) (path : List ℕ) (i j : ℕ) (qs : List Parameter) (es : Trees) (x : List ℕ) (other : Local) → actual_depths es ≤ n → LocalGood (LowFound n) path i x other
+    → LocalGood (LowFound n) path i x (among_parameters j qs es x other)
+low_parameters n path i j [] es x other a h = h
+low_parameters n path i j (q ∷ qs) no_trees x other a h = h
+low_parameters n path i j (q ∷ qs) (tree e es) x other a h =
+    by_name (λ y l. LocalGood (LowFound n) path i y l) q.name x (of_actual j e) (among_parameters j qs es x other) (λ s. low_actual n path i j x e (omega arith))
+    (low_parameters n path i j qs es x other (omega arith) h)
 
-pub low_found : (t : List Instance) → is_low t ≡ true → Low (found_in t)
-low_found t a i path = found_good LowFound low_closed t
-    (λ i x. in_place LowFound i x (slice_get t i)
+in_sum : (t : List Instance) (i : ℕ) (at : Instance) → slice_get t i ≡ Some at → depths_in at ≤ depths_of t
+in_sum [] i at e = cc
+in_sum (a ∷ t) zero at e = let same : depths_in a ≡ depths_in at = ap depths_in (some_inj a at e) in let b = sum_by-cons depths_in a t in omega arith
+in_sum (a ∷ t) (suc i) at e = let h = in_sum t i at e in let b = sum_by-cons depths_in a t in omega arith
+
+pub low_found : (t : List Instance) (i : ℕ) (path : Path) → LowFound (depths_of t) (found_in t i path)
+low_found t i path = found_good (LowFound (depths_of t)) (low_closed (depths_of t)) t
+    (λ i x. in_place (LowFound (depths_of t)) i x (slice_get t i)
     (λ at e.
-    let b = there instance_low t i at a e in
-    let c = both_true (trees_low at.actuals) (list_all element_low at.plan.elements) b in
-    low_parameters at.path i (parent_of at) at.plan.parameters at.actuals x (among_elements i at.plan.elements x) c.0 (low_elements at.path i at.plan.elements x c.1)))
+    let h = in_sum t i at e in
+    low_parameters (depths_of t) at.path i (parent_of at) at.plan.parameters at.actuals x (among_elements i at.plan.elements x) (omega arith)
+    (low_elements (depths_of t) at.path i at.plan.elements x (omega arith))))
     i path
 
 -- ---- states of the declared types

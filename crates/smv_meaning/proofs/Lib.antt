@@ -19,3 +19,8 @@ pub mod Agreeing
 pub mod Settling
 pub mod FormulaLemmas
 pub mod ReferenceLemmas
+pub mod Typable
+pub mod PartLaws
+pub mod CheckedLaws
+pub mod SafeExpressions
+pub mod LiteralLemmas

@@ -23,7 +23,7 @@ use Rattle.smv_meaning.specs.Checks.{check, passes, Position, single, under_next
 use Rattle.smv_meaning.specs.Naming.{in_body, named_found, naming}
 use Rattle.smv_meaning.specs.Safety.{Fits, front_value, Safe, SafeLinks, SafeOperands, SafeBranches, SafeTrees, SafeFound, SafePath}
 use Rattle.smv_meaning.specs.Typed.{LiesIn, Lies, Gives}
-use Rattle.smv_meaning.specs.Owed.{LowFound, Low, HasType, TypedIsSafe}
+use Rattle.smv_meaning.specs.Owed.{HasType, TypedIsSafe}
 use Rattle.smv_meaning.proofs.Evaluating.{front_value_is}
 use Rattle.smv_meaning.proofs.OperatorLaws.{both_true, AllLie, NumbersAre, infix_lies, prefix_lies, called_lies}
 use Rattle.smv_meaning.proofs.TypeLaws.{Fine, NamesLie, alone_fine, front_fine, fine, trees_lie, names_lie, six_true, two_tests, three_tests, number_is, divisor_is, numbers_are, all_cons, absurd_bool, may_join, first_joins}
@@ -275,26 +275,26 @@ mutual
 
 -- ---- the law of the closed ones
 
-safe_found : (inputs : Bool) (found : ℕ → Path → Found) (state label : Valuation) → Gives inputs found state label → (n : ℕ) (m : Found) → LowFound m
+safe_found : (inputs : Bool) (found : ℕ → Path → Found) (state label : Valuation) → Gives inputs found state label → (n : ℕ) (m : Found)
     → ((i : ℕ) (x : Path) → HasType (naming inputs found n i x).type → SafePath found n state label i x)
     → HasType (named_found inputs (naming inputs found n) m).type → SafeFound (SafePath found n state label) (reading found n state label) m
-safe_found inputs found state label gives n (variable_at x kind d) low ih h = tt
-safe_found inputs found state label gives n (body_at i x j e) low ih h =
+safe_found inputs found state label gives n (variable_at x kind d) ih h = tt
+safe_found inputs found state label gives n (body_at i x j e) ih h =
     let lies = names_lie inputs found state label gives n j in
-    (low, safe (naming inputs found n j) (reading found n state label j) (reading found n state label j) (SafePath found n state label j) (SafePath found n state label j) lies lies (ih j) (ih j) in_body e h)
-safe_found inputs found state label gives n (instance_at i) low ih h = tt
-safe_found inputs found state label gives n (symbol_of x) low ih h = tt
-safe_found inputs found state label gives n cyclic low ih h = tt
-safe_found inputs found state label gives n none low ih h = tt
+    safe (naming inputs found n j) (reading found n state label j) (reading found n state label j) (SafePath found n state label j) (SafePath found n state label j) lies lies (ih j) (ih j) in_body e h
+safe_found inputs found state label gives n (instance_at i) ih h = tt
+safe_found inputs found state label gives n (symbol_of x) ih h = tt
+safe_found inputs found state label gives n cyclic ih h = tt
+safe_found inputs found state label gives n none ih h = tt
 
-safe_path : (inputs : Bool) (found : ℕ → Path → Found) (state label : Valuation) → Gives inputs found state label → Low found
+pub safe_path : (inputs : Bool) (found : ℕ → Path → Found) (state label : Valuation) → Gives inputs found state label
     → (n i : ℕ) (x : Path) → HasType (naming inputs found n i x).type → SafePath found n state label i x
 unfolding SafePath naming
-safe_path inputs found state label gives low zero i x h = tt
-safe_path inputs found state label gives low (suc n) i x h =
-    safe_found inputs found state label gives n (found i x) (low i x) (safe_path inputs found state label gives low n) h
+safe_path inputs found state label gives zero i x h = tt
+safe_path inputs found state label gives (suc n) i x h =
+    safe_found inputs found state label gives n (found i x) (safe_path inputs found state label gives n) h
 
 pub typed_is_safe_law : TypedIsSafe
-typed_is_safe_law inputs found state label following g k low n i at e h =
+typed_is_safe_law inputs found state label following g k n i at e h =
     safe (naming inputs found n i) (reading found n state label i) (reading found n following label i) (SafePath found n state label i) (SafePath found n following label i)
-    (names_lie inputs found state label g n i) (names_lie inputs found following label k n i) (safe_path inputs found state label g low n i) (safe_path inputs found following label k low n i) at e h
+    (names_lie inputs found state label g n i) (names_lie inputs found following label k n i) (safe_path inputs found state label g n i) (safe_path inputs found following label k n i) at e h

@@ -348,20 +348,20 @@ other_names inputs f h (symbol_of x) b = refl
 other_names inputs f h cyclic b = refl
 other_names inputs f h none b = refl
 
-any_same : (f h : Path → Named) (xs : List Path) → ((q : Path) → In q xs → f q ≡ h q) → list_any (λ q. (f q).reaches_input) xs ≡ list_any (λ q. (h q).reaches_input) xs
+pub any_same : (f h : Path → Named) (xs : List Path) → ((q : Path) → In q xs → f q ≡ h q) → list_any (λ q. (f q).reaches_input) xs ≡ list_any (λ q. (h q).reaches_input) xs
 any_same f h [] s = refl
 any_same f h (x ∷ xs) s =
     ap (λ (m : Named). m.reaches_input || list_any (λ q. (f q).reaches_input) xs) (s x (inl refl))
     ∙ ap (λ b. (h x).reaches_input || b) (any_same f h xs (λ q i. s q (inr i)))
 
-body_named : Option ExprType → Bool → Named
+abbrev pub body_named : Option ExprType → Bool → Named
 body_named t b = record { type = t; is_instance = false; reaches_input = b }
 
-two_same : {A B C : Type 0} (f : A → B → C) (a x : A) (b y : B) → a ≡ x → b ≡ y → f a b ≡ f x y
+pub two_same : {A B C : Type 0} (f : A → B → C) (a x : A) (b y : B) → a ≡ x → b ≡ y → f a b ≡ f x y
 two_same f a x b y p q = ap (λ w. f w b) p ∙ ap (λ w. f x w) q
 
 pub types_close : (inputs : Bool) (found : ℕ → Path → Found) → Closing found (λ f m. named_found inputs f m) (λ n i path. naming inputs found n i path)
-unfolding naming body_named
+unfolding naming
 types_close inputs found = record {
   goes = λ n i path. refl;
   bodies = λ f h i x j e s. two_same body_named _ _ _ _ (ap (λ (a : Typing). a.type) (typing_same (f j) (h j) in_body e [] s)) (any_same (f j) (h j) (paths_of e []) s);

@@ -16,11 +16,11 @@ use Rattle.smv_meaning.specs.Checks.{typing}
 use Rattle.smv_meaning.specs.Naming.{naming}
 use Rattle.smv_meaning.specs.Phases.{in_step}
 use Rattle.smv_meaning.specs.Safety.{Safe, SafePath}
-use Rattle.smv_meaning.specs.Owed.{HasType, following_or, is_low, label_given, following_given}
+use Rattle.smv_meaning.specs.Owed.{HasType, following_or, label_given, following_given}
 use Rattle.smv_meaning.specs.Runs.{state_fits, label_fits}
 use Rattle.smv_meaning.specs.View.{instance_plain, stated, reads, SafeReads}
 use Rattle.smv_meaning.proofs.SafeLaws.{typed_is_safe_law}
-use Rattle.smv_meaning.proofs.FoundLaws.{low_found, gives_found}
+use Rattle.smv_meaning.proofs.FoundLaws.{gives_found}
 
 abbrev States : Type 0
 States = Option (Bor (List Given))
@@ -36,14 +36,14 @@ following_there t state (Some f) h k = k
 -- in the code's table, with the code's states
 pub safe_at : (ts : List PartOf) (t : List Instance) (n i k : ℕ) (e : Tree) (now label later following : States) (state : Valuation) → map instance_plain ts ≡ t → n ≡ steps_of t → i ≡ k
     → stated now ≡ state → stated later ≡ following_or state following
-    → is_low t ≡ true → HasType (typing (naming (is_some label) (found_in t) (steps_of t) k) in_step e).type
+    → HasType (typing (naming (is_some label) (found_in t) (steps_of t) k) in_step e).type
     → state_fits t state ≡ true → label_given t label ≡ true → following_given t following ≡ true
     → Safe (SafeReads ts n i now label) (SafeReads ts n i later label) (reads ts n i now label) (reads ts n i later label) e
-safe_at ts t n i k e now label later following state et en ei es ef low typed now_fits label_fits next_fits =
+safe_at ts t n i k e now label later following state et en ei es ef typed now_fits label_fits next_fits =
     let P : List Instance → ℕ → Valuation → Valuation → Type 0 = λ u m s r. Safe (SafePath (found_in u) m s (stated label) i) (SafePath (found_in u) m r (stated label) i) (reading (found_in u) m s (stated label) i) (reading (found_in u) m r (stated label) i) e in
     let g = gives_found (is_some label) t state (stated label) now_fits (label_there t label label_fits) in
     let h = gives_found (is_some label) t (following_or state following) (stated label) (following_there t state following now_fits next_fits) (label_there t label label_fits) in
-    let base : P t (steps_of t) state (following_or state following) = typed_is_safe_law (is_some label) (found_in t) state (stated label) (following_or state following) g h (low_found t low) (steps_of t) i in_step e (subst (λ j. HasType (typing (naming (is_some label) (found_in t) (steps_of t) j) in_step e).type) (sym ei) typed) in
+    let base : P t (steps_of t) state (following_or state following) = typed_is_safe_law (is_some label) (found_in t) state (stated label) (following_or state following) g h (steps_of t) i in_step e (subst (λ j. HasType (typing (naming (is_some label) (found_in t) (steps_of t) j) in_step e).type) (sym ei) typed) in
     let a : P t (steps_of t) state (stated later) = subst (λ r. P t (steps_of t) state r) (sym ef) base in
     let b : P t (steps_of t) (stated now) (stated later) = subst (λ s. P t (steps_of t) s (stated later)) (sym es) a in
     let c : P t n (stated now) (stated later) = subst (λ m. P t m (stated now) (stated later)) (sym en) b in

@@ -16,3 +16,6 @@ pub mod Owed
 pub mod Settled
 pub mod NameMap
 pub mod Formulas
+pub mod Literals
+pub mod Parts
+pub mod Checked

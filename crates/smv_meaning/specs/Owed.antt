@@ -15,23 +15,15 @@ use Rattle.smv_meaning.specs.Meaning.{reading}
 use Rattle.smv_meaning.specs.Types.{ExprType}
 use Rattle.smv_meaning.specs.Checks.{Position, typing}
 use Rattle.smv_meaning.specs.Naming.{naming}
-use Rattle.smv_meaning.specs.Safety.{depth, deepest, Safe, SafePath}
+use Rattle.smv_meaning.specs.Safety.{Safe, SafePath}
 use Rattle.smv_meaning.specs.Typed.{Gives}
-
-abbrev pub LowFound : Found → Type 0
-LowFound (body_at i x j e) = depth e ≤ deepest
-LowFound m = Unit {0}
-
--- no body is too deep
-abbrev pub Low : (ℕ → Path → Found) → Type 0
-Low found = (i : ℕ) (path : Path) → LowFound (found i path)
 
 abbrev pub HasType : Option ExprType → Type 0
 HasType t = is_some t ≡ true
 
 -- an expression that has a type is evaluated safely
 abbrev pub TypedIsSafe : Type 0
-TypedIsSafe = (inputs : Bool) (found : ℕ → Path → Found) (state label following : Valuation) → Gives inputs found state label → Gives inputs found following label → Low found
+TypedIsSafe = (inputs : Bool) (found : ℕ → Path → Found) (state label following : Valuation) → Gives inputs found state label → Gives inputs found following label
     → (n i : ℕ) (at : Position) (e : Tree) → HasType (typing (naming inputs found n i) at e).type
     → Safe (SafePath found n state label i) (SafePath found n following label i) (reading found n state label i) (reading found n following label i) e
 
@@ -44,31 +36,7 @@ abbrev pub following_or : Valuation → Option (Bor (List Given)) → Valuation
 following_or state None = state
 following_or state (Some following) = given following.now
 
--- ---- tests of a model and of states that give what an evaluation needs
-
-abbrev pub expression_low : Tree → Bool
-expression_low e = nat_le (depth e) deepest
-
-abbrev pub trees_low : Trees → Bool
-trees_low no_trees = true
-trees_low (tree e es) = expression_low e && trees_low es
-
-abbrev pub element_low : PlainElement → Bool
-element_low (vars kind items) = true
-element_low (defines ds) = list_all (λ d. expression_low d.body) ds
-element_low (constants names) = true
-element_low (assigns xs) = list_all (λ a. expression_low a.body) xs
-element_low (init e) = expression_low e
-element_low (trans e) = expression_low e
-element_low (invar e) = expression_low e
-element_low (spec label e) = expression_low e
-
--- no expression of the instance is too deep
-abbrev pub instance_low : Instance → Bool
-instance_low at = trees_low at.actuals && list_all element_low at.plan.elements
-
-abbrev pub is_low : List Instance → Bool
-is_low t = list_all instance_low t
+-- ---- what is asked of the states
 
 -- the state, the label or the following state, where it is given, gives each of its variables a value of its type
 abbrev pub label_given : List Instance → Option (Bor (List Given)) → Bool

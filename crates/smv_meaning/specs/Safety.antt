@@ -1,4 +1,4 @@
--- What an evaluation needs: each integer that it comes to fits 64 bits, and no body is too deep.
+-- What an evaluation needs: each integer that it comes to fits 64 bits.
 use Rattle.std.specs.Prelude.{◌||◌, if◌then◌else◌, Bool, ℕ, zero, suc, ◌+◌, ◌≤◌, max, pos, FitsSigned}
 use Rattle.std.specs.Int.{w64}
 use Rattle.smv_text.specs.declared.tree.Path.{Path}
@@ -45,10 +45,6 @@ abbrev mutual
   pub tree_depth : Trees → ℕ
   tree_depth no_trees = 0
   tree_depth (tree e es) = max (depth e) (tree_depth es)
-
--- the greatest depth
-abbrev pub deepest : ℕ
-deepest = 380
 
 abbrev pub Fits : Value → Type 0
 Fits (Integer z) = FitsSigned w64 z
@@ -112,7 +108,7 @@ abbrev mutual
   SafeTrees P Q f g (tree e es) = Safe P Q f g e × SafeTrees P Q f g es
 
 abbrev pub SafeFound : (ℕ → Path → Type 0) → (ℕ → Path → Value) → Found → Type 0
-SafeFound Fine read (body_at i x j e) = (depth e ≤ deepest) × Safe (Fine j) (Fine j) (read j) (read j) e
+SafeFound Fine read (body_at i x j e) = Safe (Fine j) (Fine j) (read j) (read j) e
 SafeFound Fine read m = Unit {0}
 
 unfoldable pub SafePath : (ℕ → Path → Found) → ℕ → Valuation → Valuation → ℕ → Path → Type 0

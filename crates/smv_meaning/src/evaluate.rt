@@ -8,7 +8,7 @@ ghost use Rattle.smv_meaning.specs.Expressions.{is_from_right as right_first, ar
 ghost use Rattle.smv_meaning.specs.Names.{steps_of, dotted_at};
 ghost use Rattle.smv_meaning.specs.Instances.{dotted};
 ghost use Rattle.smv_meaning.specs.Meaning.{is_input};
-ghost use Rattle.smv_meaning.specs.Safety.{depth, right_depth, link_depth, branch_depth, tree_depth, deepest, Fits, front_value, fronts_value, front_permits, fronts_permit, Safe, SafeLinks, SafeBranches, SafeTrees, SafeOperands};
+ghost use Rattle.smv_meaning.specs.Safety.{depth, right_depth, link_depth, branch_depth, tree_depth, Fits, front_value, fronts_value, front_permits, fronts_permit, Safe, SafeLinks, SafeBranches, SafeTrees, SafeOperands};
 ghost use Rattle.smv_meaning.specs.View.{seen_value, plain_value, stated, instance_plain, reads, SafeReads, denoted_or_none, plain_or};
 
 use crate::functions::{call_one, call_two};
@@ -96,7 +96,6 @@ pub fn evaluate<'a>(
     later: Option<&'a State>,
 ) -> Seen<'a>
     requires deep { deep ≡ steps_of (map instance_plain table.now) }
-    requires low { depth (plain e.now) ≤ deepest }
     requires safe { Safe (SafeReads table.now steps i now label) (SafeReads table.now steps i later label) (reads table.now steps i now label) (reads table.now steps i later label) (plain e.now) }
     ensures { seen_value result ≡ (denote (reads table.now steps i now.entry label.entry) (reads table.now steps i later.entry label.entry) (plain e.now)).value }
 {
@@ -244,7 +243,6 @@ fn rest_implied<'a>(
     later: Option<&'a State>,
 ) -> Option<Plain>
     requires deep { deep ≡ steps_of (map instance_plain table.now) }
-    requires low { right_depth (links_of (map plain_link links.now)) ≤ deepest }
     requires safe { SafeOperands (SafeReads table.now steps i now label) (SafeReads table.now steps i later label) (reads table.now steps i now label) (reads table.now steps i later label) (links_of (map plain_link links.now)) }
     ensures { plain_or result (seen_value first.now) ≡ implications (reads table.now steps i now.entry label.entry) (reads table.now steps i later.entry label.entry) (seen_value first.now) (links_of (map plain_link links.now)) }
 {
@@ -274,7 +272,6 @@ fn last_front<'a>(
     later: Option<&'a State>,
 ) -> Option<Plain>
     requires deep { deep ≡ steps_of (map instance_plain table.now) }
-    requires low { link_depth (links_of (map plain_link links.now)) ≤ deepest }
     requires safe { SafeLinks (SafeReads table.now steps i now label) (SafeReads table.now steps i later label) (reads table.now steps i now label) (reads table.now steps i later label) (seen_value first.now) (links_of (map plain_link links.now)) }
     ensures { plain_or result (seen_value first.now) ≡ fronts_value (reads table.now steps i now.entry label.entry) (reads table.now steps i later.entry label.entry) (seen_value first.now) (links_of (map plain_link links.now)) }
 {
@@ -328,7 +325,6 @@ fn next_front<'a>(
     later: Option<&'a State>,
 ) -> Plain
     requires deep { deep ≡ steps_of (map instance_plain table.now) }
-    requires low { depth (plain operand.now) ≤ deepest }
     requires safe { Safe (SafeReads table.now steps i now label) (SafeReads table.now steps i later label) (reads table.now steps i now label) (reads table.now steps i later label) (plain operand.now) }
     requires fits { Fits (front_value op (seen_value front.now) (denote (reads table.now steps i now label) (reads table.now steps i later label) (plain operand.now))) }
     ensures { plain_value result ≡ front_value op (seen_value front.now) (denote (reads table.now steps i now.entry label.entry) (reads table.now steps i later.entry label.entry) (plain operand.now)) }
@@ -359,7 +355,6 @@ fn chosen_branch<'a>(
     later: Option<&'a State>,
 ) -> &'a Expr
     requires deep { deep ≡ steps_of (map instance_plain table.now) }
-    requires low { max (branch_depth (branches_of (map plain_branch branches.now))) (depth (plain last.now)) ≤ deepest }
     requires safe { SafeBranches (SafeReads table.now steps i now label) (SafeReads table.now steps i later label) (reads table.now steps i now label) (reads table.now steps i later label) (branches_of (map plain_branch branches.now)) }
     requires safe_last { Safe (SafeReads table.now steps i now label) (SafeReads table.now steps i later label) (reads table.now steps i now label) (reads table.now steps i later label) (plain last.now) }
     ensures value { denote (reads table.now steps i now.entry label.entry) (reads table.now steps i later.entry label.entry) (plain result.now) ≡ chosen (reads table.now steps i now.entry label.entry) (reads table.now steps i later.entry label.entry) (branches_of (map plain_branch branches.now)) (denote (reads table.now steps i now.entry label.entry) (reads table.now steps i later.entry label.entry) (plain last.now)) }
@@ -390,7 +385,6 @@ fn taken_branch<'a>(
     later: Option<&'a State>,
 ) -> Option<&'a Expr>
     requires deep { deep ≡ steps_of (map instance_plain table.now) }
-    requires low { branch_depth (branches_of (map plain_branch branches.now)) ≤ deepest }
     requires safe { SafeBranches (SafeReads table.now steps i now label) (SafeReads table.now steps i later label) (reads table.now steps i now label) (reads table.now steps i later label) (branches_of (map plain_branch branches.now)) }
     ensures value { denoted_or_none (reads table.now steps i now.entry label.entry) (reads table.now steps i later.entry label.entry) result ≡ taken (reads table.now steps i now.entry label.entry) (reads table.now steps i later.entry label.entry) (branches_of (map plain_branch branches.now)) }
     ensures low { IfSome result (λ x. depth (plain x.now) ≤ branch_depth (branches_of (map plain_branch branches.now))) }
@@ -426,7 +420,6 @@ fn call_value<'a>(
     later: Option<&'a State>,
 ) -> Plain
     requires deep { deep ≡ steps_of (map instance_plain table.now) }
-    requires low { tree_depth (trees_of (map plain arguments.now)) ≤ deepest }
     requires safe { SafeTrees (SafeReads table.now steps i now label) (SafeReads table.now steps i later label) (reads table.now steps i now label) (reads table.now steps i later label) (trees_of (map plain arguments.now)) }
     requires fits { Fits (called f (values_of (reads table.now steps i now label) (reads table.now steps i later label) (trees_of (map plain arguments.now)))) }
     ensures { plain_value result ≡ called f (values_of (reads table.now steps i now.entry label.entry) (reads table.now steps i later.entry label.entry) (trees_of (map plain arguments.now))) }
@@ -475,7 +468,6 @@ pub fn permits<'a>(
     later: Option<&'a State>,
 ) -> bool
     requires deep { deep ≡ steps_of (map instance_plain table.now) }
-    requires low { depth (plain e.now) ≤ deepest }
     requires safe { Safe (SafeReads table.now steps i now label) (SafeReads table.now steps i later label) (reads table.now steps i now label) (reads table.now steps i later label) (plain e.now) }
     ensures { result ≡ (denote (reads table.now steps i now.entry label.entry) (reads table.now steps i later.entry label.entry) (plain e.now)).permits (seen_value value.now) }
 {
@@ -568,7 +560,6 @@ fn one_has<'a>(
     later: Option<&'a State>,
 ) -> bool
     requires deep { deep ≡ steps_of (map instance_plain table.now) }
-    requires low { tree_depth (trees_of (map plain elements.now)) ≤ deepest }
     requires safe { SafeTrees (SafeReads table.now steps i now label) (SafeReads table.now steps i later label) (reads table.now steps i now label) (reads table.now steps i later label) (trees_of (map plain elements.now)) }
     ensures { result ≡ one_permits (reads table.now steps i now.entry label.entry) (reads table.now steps i later.entry label.entry) (trees_of (map plain elements.now)) (seen_value value.now) }
 {
@@ -598,7 +589,6 @@ fn last_has<'a>(
     later: Option<&'a State>,
 ) -> bool
     requires deep { deep ≡ steps_of (map instance_plain table.now) }
-    requires low { link_depth (links_of (map plain_link links.now)) ≤ deepest }
     requires safe { SafeLinks (SafeReads table.now steps i now label) (SafeReads table.now steps i later label) (reads table.now steps i now label) (reads table.now steps i later label) (seen_value first.now) (links_of (map plain_link links.now)) }
     ensures { result ≡ fronts_permit (reads table.now steps i now.entry label.entry) (reads table.now steps i later.entry label.entry) (seen_value value.now) (seen_value first.now) first_has (links_of (map plain_link links.now)) }
 {

@@ -2,11 +2,13 @@
 #![tactic(auto)]
 
 mod children;
+mod checked;
 mod evaluate;
 mod formulas;
 mod functions;
 mod instances;
 mod laws;
+mod literals;
 mod model_value;
 mod modules;
 mod name_map;
@@ -25,6 +27,9 @@ mod value;
 
 pub use formulas::{Formula, formulas_in};
 pub use instances::Table;
+pub use checked::{
+    accepted_is_checked, expressions_are_safe, expressions_have_types, names_have_types,
+};
 pub use laws::{typed_is_safe, values_lie};
 pub use model_value::value_at;
 pub use modules::ModuleTable;

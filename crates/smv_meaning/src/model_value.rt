@@ -8,9 +8,8 @@ ghost use Rattle.smv_meaning.specs.Meaning.{value_of};
 ghost use Rattle.smv_meaning.specs.Checks.{typing};
 ghost use Rattle.smv_meaning.specs.Naming.{naming};
 ghost use Rattle.smv_meaning.specs.Phases.{in_step};
-ghost use Rattle.smv_meaning.specs.Safety.{depth, deepest};
 ghost use Rattle.smv_meaning.specs.Runs.{state_fits};
-ghost use Rattle.smv_meaning.specs.Owed.{HasType, instance_number, following_or, is_low, label_given, following_given};
+ghost use Rattle.smv_meaning.specs.Owed.{HasType, instance_number, following_or, label_given, following_given};
 ghost use Rattle.smv_meaning.specs.View.{instance_plain, stated};
 
 use crate::evaluate::evaluate;
@@ -90,8 +89,6 @@ pub fn value_at<'a>(
     following: Option<&'a State>,
 ) -> Result<Value, NoMemory>
     requires few { steps_of (instances_of (plain_source source.now)) < 2 ^ 64 }
-    requires low { depth (plain expr.now) ≤ deepest }
-    requires low_bodies { IsTrue (is_low (instances_of (plain_source source.now))) }
     requires typed { HasType (typing (naming (is_some label) (found_in (instances_of (plain_source source.now))) (steps_of (instances_of (plain_source source.now))) (instance_number (instances_of (plain_source source.now)) instance.now)) in_step (plain expr.now)).type }
     requires now_given { IsTrue (state_fits (instances_of (plain_source source.now)) (given now.now)) }
     requires label_given { IsTrue (label_given (instances_of (plain_source source.now)) label) }

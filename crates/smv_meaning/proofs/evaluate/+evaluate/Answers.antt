@@ -1,6 +1,6 @@
-use Rattle.std.proofs.Common.{arith, rules, ap, ◌∙◌, sym}
-use Rattle.smv_meaning.specs.View.{seen_value, plain_or}
-use Rattle.smv_meaning.proofs.Evaluating.{reading_none, reads_step, safe_step, left_value, left_permits, taken_is_chosen, safe_firsts, depth_firsts}
+use Rattle.std.proofs.Common.{map, arith, rules, ap, ◌∙◌, sym}
+use Rattle.smv_meaning.specs.View.{instance_plain, seen_value, plain_or}
+use Rattle.smv_meaning.proofs.Evaluating.{reading_none, reads_step, safe_step, left_value, left_permits, budget_falls, body_low, taken_is_chosen, safe_firsts, depth_firsts}
 use Rattle.smv_meaning.proofs.evaluate.+evaluate.Goals as goal
 
 pub value_of_path-returns-then-steps-eq0 : goal.value_of_path-returns-then-steps-eq0
@@ -10,7 +10,8 @@ value_of_path-returns-then-steps-eq0 t c =
 pub value_of_path-evaluate-requires : goal.value_of_path-evaluate-requires
 value_of_path-evaluate-requires t c =
     let s = safe_step c.args.table.now c.args.deep c.args.steps c.args.i c.args.state c.args.label c.args.path.now _ (omega arith) c.requires.deep c.in-Body.ensures c.requires.safe in
-    let low = s.0 in (omega arith, (c.requires.deep, (s.0, s.1)))
+    let b = budget_falls (map instance_plain c.args.table.now) c.args.steps _ (body_low c.args.table.now c.args.deep c.args.i c.args.path.now _ c.requires.deep c.in-Body.ensures) (omega arith) in
+    (omega arith, (c.requires.deep, s))
 
 pub value_of_path-returns-in-Variable : goal.value_of_path-returns-in-Variable
 value_of_path-returns-in-Variable t c = c.variable_value.ensures ∙ reads_step c.args.table.now c.args.deep c.args.steps c.args.i c.args.state c.args.label c.args.path.now _ (omega arith) c.requires.deep c.in-Variable.ensures
@@ -35,8 +36,7 @@ taken_branch-chosen_branch-requires t c =
     let split = c.in-Some.ensures.cases.0 in
     let s = safe_firsts _ _ _ _ c.in-Some.firsts.now c.in-Some.last.now c.args.branches.now split c.requires.safe in
     let d = depth_firsts c.in-Some.firsts.now c.in-Some.last.now c.args.branches.now split in
-    let low = c.requires.low in
-    (omega arith, (c.requires.deep, (omega arith, (s.0, s.1))))
+    (omega arith, (c.requires.deep, (s.0, s.1)))
 
 pub taken_branch-returns-in-Some : goal.taken_branch-returns-in-Some
 taken_branch-returns-in-Some t c =

@@ -4,41 +4,42 @@ use Rattle.smv_text.specs.View.{plain, plain_branch, plain_link}
 use Rattle.smv_meaning.specs.Expressions.{denote, chosen, values_of, one_permits}
 use Rattle.smv_meaning.specs.Operators.{trues}
 use Rattle.smv_meaning.specs.Safety.{depth, right_depth, link_depth, branch_depth, tree_depth, fronts_value, fronts_permit, SafeLinks, SafeBranches, SafeTrees}
-use Rattle.smv_meaning.specs.View.{seen_value, plain_or, reads, SafeReads}
+use Rattle.smv_meaning.specs.View.{instance_plain, seen_value, plain_or, reads, SafeReads}
+use Rattle.smv_meaning.proofs.Evaluating.{budget}
 use Rattle.smv_meaning.proofs.evaluate.+evaluate.Given as goal
 
 abbrev pub decreases-value_of_path : goal.decreases-value_of_path
-decreases-value_of_path l = 4000 * l.steps
+decreases-value_of_path l = budget (map instance_plain l.table.now) l.steps
 
 abbrev pub decreases-evaluate : goal.decreases-evaluate
-decreases-evaluate l = 4000 * l.steps + 8 * depth (plain l.e.now) + 1
+decreases-evaluate l = budget (map instance_plain l.table.now) l.steps + 8 * depth (plain l.e.now) + 1
 
 abbrev pub decreases-permits : goal.decreases-permits
-decreases-permits l = 4000 * l.steps + 8 * depth (plain l.e.now) + 2
+decreases-permits l = budget (map instance_plain l.table.now) l.steps + 8 * depth (plain l.e.now) + 2
 
 abbrev pub decreases-next_front : goal.decreases-next_front
-decreases-next_front l = 4000 * l.steps + 8 * depth (plain l.operand.now) + 3
+decreases-next_front l = budget (map instance_plain l.table.now) l.steps + 8 * depth (plain l.operand.now) + 3
 
 abbrev pub decreases-rest_implied : goal.decreases-rest_implied
-decreases-rest_implied l = 4000 * l.steps + 8 * right_depth (links_of (map plain_link l.links.now)) + 4
+decreases-rest_implied l = budget (map instance_plain l.table.now) l.steps + 8 * right_depth (links_of (map plain_link l.links.now)) + 4
 
 abbrev pub decreases-last_front : goal.decreases-last_front
-decreases-last_front l = 4000 * l.steps + 8 * link_depth (links_of (map plain_link l.links.now)) + 4
+decreases-last_front l = budget (map instance_plain l.table.now) l.steps + 8 * link_depth (links_of (map plain_link l.links.now)) + 4
 
 abbrev pub decreases-last_has : goal.decreases-last_has
-decreases-last_has l = 4000 * l.steps + 8 * link_depth (links_of (map plain_link l.links.now)) + 4
+decreases-last_has l = budget (map instance_plain l.table.now) l.steps + 8 * link_depth (links_of (map plain_link l.links.now)) + 4
 
 abbrev pub decreases-chosen_branch : goal.decreases-chosen_branch
-decreases-chosen_branch l = 4000 * l.steps + 8 * max (branch_depth (branches_of (map plain_branch l.branches.now))) (depth (plain l.last.now)) + 3
+decreases-chosen_branch l = budget (map instance_plain l.table.now) l.steps + 8 * max (branch_depth (branches_of (map plain_branch l.branches.now))) (depth (plain l.last.now)) + 3
 
 abbrev pub decreases-taken_branch : goal.decreases-taken_branch
-decreases-taken_branch l = 4000 * l.steps + 8 * branch_depth (branches_of (map plain_branch l.branches.now)) + 4
+decreases-taken_branch l = budget (map instance_plain l.table.now) l.steps + 8 * branch_depth (branches_of (map plain_branch l.branches.now)) + 4
 
 abbrev pub decreases-call_value : goal.decreases-call_value
-decreases-call_value l = 4000 * l.steps + 8 * tree_depth (trees_of (map plain l.arguments.now)) + 3
+decreases-call_value l = budget (map instance_plain l.table.now) l.steps + 8 * tree_depth (trees_of (map plain l.arguments.now)) + 3
 
 abbrev pub decreases-one_has : goal.decreases-one_has
-decreases-one_has l = 4000 * l.steps + 8 * tree_depth (trees_of (map plain l.elements.now)) + 3
+decreases-one_has l = budget (map instance_plain l.table.now) l.steps + 8 * tree_depth (trees_of (map plain l.elements.now)) + 3
 
 abbrev pub invariant-last_front-loop-link : goal.invariant-last_front-loop-link
 invariant-last_front-loop-link l = record {

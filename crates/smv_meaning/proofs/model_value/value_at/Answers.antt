@@ -16,7 +16,7 @@ evaluate-value-requires-clause-safe c =
     c.number_of-i.ensures ∙ ap (λ t. instance_number t c.bytes.result.now) (ap (map instance_plain) c.as_slice-2.ensures.value ∙ c.in_ok-table.ensures) ∙ ap (instance_number (instances_of (plain_source c.args.source.now))) c.bytes.ensures in
     safe_at c.as_slice-3.result.now (instances_of (plain_source c.args.source.now)) c.steps-bound.result c.number_of-i.result (instance_number (instances_of (plain_source c.args.source.now)) c.args.instance.now)
     (plain c.args.expr.now) (Some c.args.now) c.args.label c.later_of-later.result c.args.following (given c.args.now.now) et en ei refl c.later_of-later.ensures
-    c.requires.low_bodies c.requires.typed c.requires.now_given c.requires.label_given c.requires.following_given
+    c.requires.typed c.requires.now_given c.requires.label_given c.requires.following_given
 
 pub returns : goal.returns
 returns c =
