@@ -24,3 +24,6 @@ pub mod PartLaws
 pub mod CheckedLaws
 pub mod SafeExpressions
 pub mod LiteralLemmas
+pub mod OrderLaws
+pub mod FirstCycle
+pub mod NumberLemmas

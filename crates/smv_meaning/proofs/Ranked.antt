@@ -197,12 +197,12 @@ all_tests t = test_all holds (is_clear t) (cycle_checks t) keys_in (instance_tes
 
 -- ---- what isn't a formula refers to nothing, and what is referred to is one
 
-no_reference : (t : List Instance) (f : ℕ → List ℕ → Found) (l : Local) → is_formula l ≡ false → referred t f l ≡ []
+pub no_reference : (t : List Instance) (f : ℕ → List ℕ → Found) (l : Local) → is_formula l ≡ false → referred t f l ≡ []
 no_reference t f (alias j path) h = cc
 no_reference t f (formula j e) h = cc
 no_reference t f l h = refl
 
-reaches_none : (f : Formula → List Formula) (n : ℕ) (k m : Formula) → f k ≡ [] → reaches f n k m ≡ false
+pub reaches_none : (f : Formula → List Formula) (n : ℕ) (k m : Formula) → f k ≡ [] → reaches f n k m ≡ false
 unfolding reaches
 reaches_none f zero k m e = refl
 reaches_none f (suc n) k m e = ap (list_any (λ r. formula_same r m || reaches f n r m)) e
@@ -239,7 +239,7 @@ referred_is t f (variable_of kind d) k h = absurd h
 referred_is t f inner k h = absurd h
 referred_is t f nothing k h = absurd h
 
-within_keys : (t : List Instance) → Within (refers t) (keys_of t)
+pub within_keys : (t : List Instance) → Within (refers t) (keys_of t)
 within_keys t k m h = let r = referred_is t (look t (steps_of t)) (local t k.0 k.1) m h in (in_keys t k.0 k.1 r.0, in_keys t m.0 m.1 r.1)
 
 -- ---- the laws

@@ -1,5 +1,5 @@
 -- What a path goes through, name by name.
-use Rattle.std.proofs.Common.{◌≡◌, ℕ, ◌+◌, ◌<◌, ◌≤◌, List, [], ◌∷◌, ◌++◌, length, drop, map, Option, Some, None, refl, sym, ap, ◌∙◌, append_assoc}
+use Rattle.std.proofs.Common.{◌≡◌, ℕ, ◌+◌, ◌<◌, ◌≤◌, false, List, [], ◌∷◌, ◌++◌, length, drop, map, Option, Some, None, refl, sym, ap, ◌∙◌, append_assoc}
 use Rattle.std.specs.Prelude.{slice_index_or, flat_map}
 use Rattle.std.specs.Borrow.{Bor}
 use Rattle.std.proofs.lemmas.List.{map-append}
@@ -7,9 +7,10 @@ use Rattle.smv_text.specs.declared.tree.Path.{Path}
 use Rattle.smv_text.specs.Tree.{Tree}
 use Rattle.smv_meaning.specs.Expressions.{paths_of}
 use Rattle.smv_meaning.specs.Instances.{Instance}
-use Rattle.smv_meaning.specs.Names.{Found, variable_at, body_at, instance_at, symbol_of, cyclic, none, local, look, steps_of}
-use Rattle.smv_meaning.specs.Phases.{Formula, formula_here, from_instance, touched}
-use Rattle.smv_meaning.specs.Formulas.{formulas_of, number_or, touched_numbers, all_touched, instance_within}
+use Rattle.smv_meaning.specs.Names.{Found, variable_at, body_at, instance_at, symbol_of, cyclic, none, Local, alias, formula, local, look, steps_of}
+use Rattle.smv_meaning.specs.Phases.{Formula, formula_here, from_instance, touched, referred, refers}
+use Rattle.smv_meaning.specs.Formulas.{formulas_of, number_or, touched_numbers, all_touched, instance_within, references_of}
+use Rattle.smv_meaning.proofs.Ranked.{is_formula, no_reference}
 use Rattle.smv_meaning.specs.View.{path_seen}
 use Rattle.smv_meaning.proofs.Lists.{front_is, end_is}
 use Rattle.smv_meaning.proofs.FormulaLemmas.{append_none}
@@ -61,3 +62,13 @@ all_touched_is t j [] = refl
 all_touched_is t j (q ∷ qs) =
     ap (λ ns. touched_numbers t j q.names ++ ns) (all_touched_is t j qs)
     ∙ sym (map-append (number_or (formulas_of t)) (touched t (look t (steps_of t)) j q.names) (flat_map (λ r. touched t (look t (steps_of t)) j r.names) qs))
+
+-- the row of a definition or an actual
+pub alias_row : (t : List Instance) (k : Formula) (j : ℕ) (p : Path) → alias j p ≡ local t k.0 k.1 → touched_numbers t j p.names ≡ references_of t k
+alias_row t k j p h = ap (λ l. map (number_or (formulas_of t)) (referred t (look t (steps_of t)) l)) h
+
+pub formula_row : (t : List Instance) (k : Formula) (j : ℕ) (e : Tree) → formula j e ≡ local t k.0 k.1 → all_touched t j (paths_of e []) ≡ references_of t k
+formula_row t k j e h = all_touched_is t j (paths_of e []) ∙ ap (λ l. map (number_or (formulas_of t)) (referred t (look t (steps_of t)) l)) h
+
+pub no_row : (t : List Instance) (k : Formula) (l : Local) → l ≡ local t k.0 k.1 → is_formula l ≡ false → references_of t k ≡ []
+no_row t k l h e = ap (λ fs. map (number_or (formulas_of t)) fs) (ap (referred t (look t (steps_of t))) (sym h) ∙ no_reference t (look t (steps_of t)) l e)

@@ -6,8 +6,19 @@ ghost use Rattle.smv_meaning.specs.Expressions.{paths_of, link_paths, branch_pat
 ghost use Rattle.smv_text.specs.declared.tree.Path.{Path as PlainPath};
 ghost use Rattle.smv_meaning.specs.View.{path_seen};
 
+use std::alloc::Global;
 use smv_text::{Branch, Expr, Link, Path, Shape};
 use text_core::NoMemory;
+
+/// The paths of an expression, in the order of the text.
+#[tactic(auto, using(crate::proofs::FormulaLemmas::append_none))]
+pub fn paths_in<'a>(alloc: Global, e: &'a Expr) -> Result<Vec<&'a Path>, NoMemory>
+    ensures { IfOk result (λ ps. map path_seen ps.items ≡ paths_of (plain e.now) []) }
+{
+    let mut paths = Vec::new(alloc);
+    add_paths(&mut paths, e)?;
+    Ok(paths)
+}
 
 /// Adds the paths of an expression, in the order of the text.
 #[cycle(paths)]

@@ -1,8 +1,12 @@
 // To which definitions and actuals each refers, and an order in which each stands after these.
 ghost use Rattle.std.specs.Prelude.{◌≡◌, ◌<◌, ◌++◌, ◌∷◌, [], List, ℕ, map, length, IfOk, OnOk, position, slice_index_or, unwrap_or, flat_map};
+ghost use Rattle.digraph.specs.Ordering.{IsOrder};
+ghost use Rattle.smv_meaning.specs.Instances.{Instance as Specified};
 ghost use Rattle.smv_meaning.specs.Names.{look, local, steps_of};
 ghost use Rattle.smv_meaning.specs.Phases.{formula_here};
 ghost use Rattle.smv_meaning.specs.Formulas.{placed_formulas, formulas_of, number_in, number_or, references_of, reference_graph, IsOrdering, touched_numbers, all_touched, instance_within};
+ghost use Rattle.smv_text.specs.View.{plain};
+ghost use Rattle.smv_meaning.specs.Expressions.{paths_of};
 ghost use Rattle.smv_meaning.specs.NameMap.{named_in};
 ghost use Rattle.smv_meaning.specs.View.{instance_plain, formula_plain, path_seen, key_of, local_plain};
 
@@ -10,7 +14,7 @@ use crate::children::{Children, child_in, put_first};
 use crate::formulas::Formula;
 use crate::instances::Table;
 use crate::names::{Known, Target};
-use crate::paths::add_paths;
+use crate::paths::paths_in;
 use digraph::{Graph, Order, sort};
 use smv_text::{Expr, Path};
 use std::alloc::Global;
@@ -126,7 +130,39 @@ fn touch_all<'a>(
     Ok(())
 }
 
+fn alias_row<'a>(
+    alloc: Global,
+    table: &Table<'a>,
+    numbers: &Children<'a>,
+    j: usize,
+    path: &'a Path,
+) -> Result<Items<usize>, NoMemory>
+    requires { (i : ℕ) (x : List ℕ) → named_in numbers.now i x ≡ number_in (formulas_of (map instance_plain table.now)) (i, x) }
+    ensures { IfOk result (λ row. row ≡ touched_numbers (map instance_plain table.now) j path.now.names) }
+{
+    let mut row = Items::new(alloc);
+    touch(table, numbers, j, &path.names, &mut row)?;
+    Ok(row)
+}
+
+fn body_row<'a>(
+    alloc: Global,
+    table: &Table<'a>,
+    numbers: &Children<'a>,
+    j: usize,
+    e: &'a Expr,
+) -> Result<Items<usize>, NoMemory>
+    requires { (i : ℕ) (x : List ℕ) → named_in numbers.now i x ≡ number_in (formulas_of (map instance_plain table.now)) (i, x) }
+    ensures { IfOk result (λ row. row ≡ all_touched (map instance_plain table.now) j (paths_of (plain e.now) [])) }
+{
+    let paths = paths_in(alloc, e)?;
+    let mut row = Items::new(alloc);
+    touch_all(table, numbers, j, paths.as_slice(), &mut row)?;
+    Ok(row)
+}
+
 // The numbers of the definitions and actuals to which one refers.
+#[tactic(auto, using(crate::proofs::ReferenceLemmas::alias_row, crate::proofs::ReferenceLemmas::formula_row, crate::proofs::ReferenceLemmas::no_row))]
 fn row_of<'a>(
     alloc: Global,
     table: &Table<'a>,
@@ -136,19 +172,13 @@ fn row_of<'a>(
     requires { (i : ℕ) (x : List ℕ) → named_in numbers.now i x ≡ number_in (formulas_of (map instance_plain table.now)) (i, x) }
     ensures { IfOk result (λ row. row ≡ references_of (map instance_plain table.now) (key_of formula.now)) }
 {
-    let mut row = Items::new(alloc);
     match table.local(formula.instance, formula.name) {
-        Known::Alias(j, path) => touch(table, numbers, j, &path.names, &mut row)?,
-        Known::Formula(j, e) => {
-            let mut paths = Vec::new(alloc);
-            add_paths(&mut paths, e)?;
-            touch_all(table, numbers, j, paths.as_slice(), &mut row)?;
-        }
-        Known::Variable(_, _) => {}
-        Known::Inner => {}
-        Known::Nothing => {}
+        Known::Alias(j, path) => Ok(alias_row(alloc, table, numbers, j, path)?),
+        Known::Formula(j, e) => Ok(body_row(alloc, table, numbers, j, e)?),
+        Known::Variable(_, _) => Ok(Items::new(alloc)),
+        Known::Inner => Ok(Items::new(alloc)),
+        Known::Nothing => Ok(Items::new(alloc)),
     }
-    Ok(row)
 }
 
 fn graph_of<'a>(
@@ -167,6 +197,15 @@ fn graph_of<'a>(
     Ok(graph)
 }
 
+fn ordering_of(order: Order) -> Ordering
+    ensures { (t : List Specified) → IsOrder (reference_graph t) order → IsOrdering t result }
+{
+    match order {
+        Order::Sorted(order) => Ordering::Ordered(order),
+        Order::Returns(k) => Ordering::Cycle(k),
+    }
+}
+
 /// An order in which each definition and actual stands after those to which it refers, where none reaches itself, else the first
 /// one that does, in the order of their numbers.
 pub fn formula_order<'a>(
@@ -178,8 +217,5 @@ pub fn formula_order<'a>(
     ensures { IfOk result (IsOrdering (map instance_plain table.now)) }
 {
     let graph = graph_of(alloc, table, formulas)?;
-    match sort(alloc, &graph)? {
-        Order::Sorted(order) => Ok(Ordering::Ordered(order)),
-        Order::Returns(k) => Ok(Ordering::Cycle(k)),
-    }
+    Ok(ordering_of(sort(alloc, &graph)?))
 }
