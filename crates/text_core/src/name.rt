@@ -84,7 +84,7 @@ impl Name {
     }
 
     /// The same name once more.
-    pub fn again(&self, alloc: Global) -> Result<Name, NoMemory>
+    pub fn duplicate(&self, alloc: Global) -> Result<Name, NoMemory>
         ensures { IfOk result (λ name. name ≡ self.now) }
     {
         match &self.content {
