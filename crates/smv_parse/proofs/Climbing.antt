@@ -1,5 +1,5 @@
 -- How the machine goes through the levels: down to the first operand, and up to the level that a token goes on with.
-use Rattle.std.proofs.Common.{◌≡◌, ℕ, ℤ, pos, ◌-ℤ◌, zero, suc, ◌<◌, ◌≤◌, Bool, true, false, ◌&&◌, cond, nat_lt, nat_le, nat_eq, Some, None, option_map, Result, Ok, Err, ◌⊎◌, inl, inr, List, [], ◌∷◌, length, refl, sym, ap, ◌∙◌, subst, arith}
+use Rattle.std.proofs.Common.{◌≡◌, ℕ, ℤ, pos, ◌-ℤ◌, zero, suc, ◌<◌, ◌≤◌, Bool, true, false, ◌&&◌, cond, nat_lt, nat_le, nat_eq, Option, Some, None, option_map, is_some, Result, Ok, Err, ◌⊎◌, inl, inr, List, [], ◌∷◌, length, refl, sym, ap, ◌∙◌, subst, arith}
 use Rattle.std.proofs.lemmas.Bool.{ltb-true, ltb-false, lt-ltb, le-ltb, eqb-true, eqb-false, leb-true, le-leb, and_parts}
 use Rattle.text_core.specs.declared.place.Place.{Place}
 use Rattle.smv_text.specs.declared.token.Sign.{Sign}
@@ -22,9 +22,11 @@ use Rattle.smv_parse.specs.declared.stop.Stop.{Stop}
 use Rattle.smv_parse.specs.declared.stop.Stop.TheVariants.{Dead, NoMemory}
 use Rattle.smv_parse.specs.Marks.{is_sign}
 use Rattle.smv_parse.specs.Kept.{Read}
+use Rattle.smv_parse.specs.Gathered.{single}
 use Rattle.smv_parse.specs.Ranks.{level_at, tightest, level_rank, rank_of, first_rank}
 use Rattle.smv_parse.specs.Machine.{prefix_sign, is_prefix, bare, Frame, operand, when, selected, State, ask, have, signed, integer, minus, negative, upto, high_end, Move, onto, opened, pushed, minus_to, number_pushed, number_gives, primary, leader_of, path_head, longer, begin, begin_integer, after_minus, after_sign, give, failed, along, walk}
 use Rattle.smv_parse.specs.Reading.{after, joint_after, found, number_at, first_number, negated, first_integer, integer_at, starts_with_dots, dots_behind, starts_range, with_name, path_on, path_step, path_at, first_path, IsLost, waiting, Dies, Leads, Misses, Selects, SelectsNone}
+use Rattle.smv_parse.proofs.First.{path_on-ends}
 use Rattle.smv_parse.proofs.Signs.{after_found, not_minus}
 use Rattle.smv_parse.proofs.Ranked.{no_joint, not_sign, rank_at, EachBelow, each_below}
 use Rattle.smv_parse.proofs.Steps.{operand_goes, chain_goes, when_leaves, selected_leaves, named_on, named_goes, upto_dies}
@@ -343,6 +345,22 @@ module _ (n : ℕ) (few : n ≤ 16) (x : Token) (xs : List Token) (k : List Fram
         no_minus = λ a b. no_sign_first sign.Minus x xs (and_false (nat_le 4 n) _ (le-leb 4 n (omega arith)) m);
         no_range = λ a b. no_range_from r b;
       })
+
+pub none_left : {A : Type 0} (o : Option A) → is_some o ≡ false → o ≡ None
+none_left None e = refl
+none_left (Some x) e = cc
+
+neither : (b : Bool) (z : Bool) → z ≡ false → (b && z) ≡ false
+neither true z e = e
+neither false z e = refl
+
+-- a single name begins
+pub name_leads : (n : ℕ) → n ≤ 16 → (x : Token) (xs : List Token) (k : List Frame) (m : List ℕ) → x.kind ≡ kind.Ident m → after sign.Dot xs ≡ None
+    → walk (x ∷ xs) (ask (tightest n) k) ≡ walk xs (have (single x.place m) (waiting 0 n x.place k))
+name_leads n few x xs k m e alone =
+    let w = waiting 0 n x.place k in
+    plain_descends n few x xs k (neither (nat_le 8 n) _ (ap (λ z. dots_behind (integer_at z xs)) e)) (neither (nat_le 4 n) _ (ap (is_prefix prefixes.Minus) e)) (neither (nat_le 2 n) _ (ap (is_prefix prefixes.Not) e))
+    ∙ path_begins w x xs (sym (ap leader_of e)) ∙ ap (λ z. named_on (path_at z x.place xs) w) e ∙ ap (λ f. named_on f w) (path_on-ends (path_head (kind.Ident m) x.place) xs alone)
 
 pub beside : (m n r : ℕ) → (r ≤ m) ⊎ ((m < r) × (n < r)) → (i : ℕ) → m ≤ i → i < n → r ≡ suc i → ⊥
 beside m n r (inl h) i low high same = omega arith

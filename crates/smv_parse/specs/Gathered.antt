@@ -4,7 +4,7 @@ use Rattle.text_core.specs.declared.place.Place.{Place}
 use Rattle.smv_text.specs.declared.tree.Infix.{Infix}
 use Rattle.smv_text.specs.declared.tree.Expr.{roll-Expr}
 use Rattle.smv_text.specs.declared.tree.Shape.{Shape}
-use Rattle.smv_text.specs.Tree.{Tree, links_of}
+use Rattle.smv_text.specs.Tree.{Tree, name, links_of}
 use Rattle.smv_text.specs.Heights.{height, highest, highest_link, folded, is_joined, is_implied, joined_number, link_heights}
 use Rattle.smv_text.specs.View.{plain, plain_link, plain_branch}
 use Rattle.smv_parse.specs.declared.kept.Kept.{Kept}
@@ -21,6 +21,10 @@ read_of x = record { tree = plain x.expr; height = x.height }
 -- the tree of a shape
 abbrev pub shaped : Place → Shape → Tree
 shaped p shape = plain (roll-Expr (record { place = p; shape = shape }))
+
+-- the expression of a single name
+abbrev pub single : Place → List ℕ → Tree
+single p n = name p (record { from_self = false; names = n ∷ []; place = p })
 
 -- what stands for an expression in what is kept of its parts
 abbrev pub low : Tree → Tree

@@ -13,11 +13,12 @@ ghost use Rattle.smv_parse.specs.Machine.{bare, operand, when, selected, conditi
 ghost use Rattle.smv_parse.specs.Reading.{starts_range, waiting, Leads, Follows, Selects, Takes};
 
 use crate::kept::{
-    Cases, Kept, Listing, Members, Operands, leaf, next_value, prefixed as with_prefix, selected,
+    Cases, Kept, Listing, Members, Operands, leaf, name_leaf, next_value, prefixed as with_prefix,
+    put_leaf, selected, taken,
 };
 use crate::leaves::{expect, integer, number, path, starts_range};
 use crate::levels::{Leader, first_rank, joint_after, leader_of, level_at};
-use crate::marks::{after, after_word, is_sign};
+use crate::marks::{after, after_word, is_first, is_sign};
 use crate::stop::Stop;
 use smv_text::{Joint, Level, Prefix, Reserved, Shape, Sign, Token, TokenKind};
 use std::alloc::Global;
@@ -27,13 +28,14 @@ use text_core::Place;
 pub(crate) fn expression<'a>(
     alloc: Global,
     tokens: &'a [Token],
-) -> Result<(Kept, &'a [Token]), Stop>
+    kept: &mut Kept,
+) -> Result<&'a [Token], Stop>
     requires { length tokens.now < 2 ^ 32 }
     // It is what the machine comes to, with the tokens behind it.
-    ensures takes { Takes (λ x. (read_of x.0, x.1.now)) tokens.now result }
-    ensures shorter { IfOk result (λ x. length x.1.now < length tokens.now) }
+    ensures takes { Takes (λ r. (read_of kept.new, r.now)) tokens.now result }
+    ensures shorter { IfOk result (λ r. length r.now < length tokens.now) }
 {
-    read(alloc, 16, tokens)
+    read(alloc, 16, tokens, kept)
 }
 
 /// No tokens spell two expressions.
@@ -57,14 +59,28 @@ pub(crate) fn start(tokens: &[Token]) -> Place
 
 // An expression of so many levels.
 #[cycle(read)]
-fn read<'a>(alloc: Global, levels: usize, tokens: &'a [Token]) -> Result<(Kept, &'a [Token]), Stop>
+fn read<'a>(
+    alloc: Global,
+    levels: usize,
+    tokens: &'a [Token],
+    kept: &mut Kept,
+) -> Result<&'a [Token], Stop>
     requires few { levels ≤ 16 }
     requires short { length tokens.now < 2 ^ 32 }
-    ensures reads { Follows (λ x. (read_of x.0, x.1.now)) (ask (tightest levels)) tokens.now result }
-    ensures shorter { IfOk result (λ x. length x.1.now < length tokens.now) }
+    ensures reads { Follows (λ r. (read_of kept.new, r.now)) (ask (tightest levels)) tokens.now result }
+    ensures shorter { IfOk result (λ r. length r.now < length tokens.now) }
 {
-    let (kept, level, rest) = begin(alloc, levels, tokens)?;
-    climb(alloc, levels, start(tokens), level, kept, rest)
+    // Most operands are a single name.
+    if let Some((token, rest)) = tokens.split_first() {
+        if let TokenKind::Ident(name) = &token.kind {
+            if !is_first(rest, Sign::Dot) {
+                name_leaf(alloc, token.place, name, kept)?;
+                return climb(alloc, levels, token.place, 0, rest, kept);
+            }
+        }
+    }
+    let (level, rest) = begin(alloc, levels, tokens, kept)?;
+    climb(alloc, levels, start(tokens), level, rest, kept)
 }
 
 // The first operand of an expression of so many levels: how many levels it was read at, and the tokens behind it.
@@ -74,27 +90,28 @@ fn begin<'a>(
     alloc: Global,
     levels: usize,
     tokens: &'a [Token],
-) -> Result<(Kept, usize, &'a [Token]), Stop>
+    kept: &mut Kept,
+) -> Result<(usize, &'a [Token]), Stop>
     requires few { levels ≤ 16 }
     requires short { length tokens.now < 2 ^ 32 }
-    ensures reads { Leads (λ x. (read_of x.0, x.2.now)) (λ x. waiting x.1 levels (start tokens.now)) (ask (tightest levels)) tokens.now result }
-    ensures shorter { IfOk result (λ x. length x.2.now < length tokens.now) }
+    ensures reads { Leads (λ x. (read_of kept.new, x.1.now)) (λ x. waiting x.0 levels (start tokens.now)) (ask (tightest levels)) tokens.now result }
+    ensures shorter { IfOk result (λ x. length x.1.now < length tokens.now) }
 {
     match tokens.split_first() {
         None => Err(Stop::Dead(0)),
         Some((token, rest)) => {
             if begins_range(levels, tokens) {
-                let (kept, last) = range(token.place, tokens)?;
-                Ok((kept, 8, last))
+                let last = range(token.place, tokens, kept)?;
+                Ok((8, last))
             } else if begins_prefix(levels, 4, Prefix::Minus, &token.kind) {
-                let (kept, last) = prefixed(alloc, Prefix::Minus, 3, token.place, rest)?;
-                Ok((kept, 4, last))
+                let last = prefixed(alloc, Prefix::Minus, 3, token.place, rest, kept)?;
+                Ok((4, last))
             } else if begins_prefix(levels, 2, Prefix::Not, &token.kind) {
-                let (kept, last) = prefixed(alloc, Prefix::Not, 1, token.place, rest)?;
-                Ok((kept, 2, last))
+                let last = prefixed(alloc, Prefix::Not, 1, token.place, rest, kept)?;
+                Ok((2, last))
             } else {
-                let (kept, last) = primary(alloc, tokens)?;
-                Ok((kept, 0, last))
+                let last = primary(alloc, tokens, kept)?;
+                Ok((0, last))
             }
         }
     }
@@ -113,16 +130,17 @@ fn begins_prefix(levels: usize, least: usize, prefix: Prefix, kind: &TokenKind) 
 }
 
 #[inline(never)]
-fn range(place: Place, tokens: &[Token]) -> Result<(Kept, &[Token]), Stop>
+fn range<'a>(place: Place, tokens: &'a [Token], kept: &mut Kept) -> Result<&'a [Token], Stop>
     requires starts { starts_range tokens.now ≡ true }
     requires first { place ≡ start tokens.now }
-    ensures reads { Follows (λ x. (read_of x.0, x.1.now)) (ask (tightest 8)) tokens.now result }
-    ensures shorter { IfOk result (λ x. length x.1.now < length tokens.now) }
+    ensures reads { Follows (λ r. (read_of kept.new, r.now)) (ask (tightest 8)) tokens.now result }
+    ensures shorter { IfOk result (λ r. length r.now < length tokens.now) }
 {
     let (low, dots) = integer(tokens)?;
     let behind = expect(dots, Sign::Range)?;
     let (high, rest) = integer(behind)?;
-    Ok((leaf(place, Shape::Range(low, high)), rest))
+    put_leaf(kept, place, Shape::Range(low, high));
+    Ok(rest)
 }
 
 // What goes on with an operand that was read at so many of the levels: each time the level that the next token goes on with, as
@@ -134,24 +152,22 @@ fn climb<'a>(
     levels: usize,
     place: Place,
     level: usize,
-    first: Kept,
     tokens: &'a [Token],
-) -> Result<(Kept, &'a [Token]), Stop>
+    kept: &mut Kept,
+) -> Result<&'a [Token], Stop>
     requires few { levels ≤ 16 }
     requires short { length tokens.now < 2 ^ 32 }
-    ensures reads { (t : Tree) → read_of first ≡ cap t → Follows (λ x. (read_of x.0, x.1.now)) (λ k. have t (waiting level levels place k)) tokens.now result }
-    ensures shorter { IfOk result (λ x. length x.1.now ≤ length tokens.now) }
+    ensures reads { (t : Tree) → read_of kept.old ≡ cap t → Follows (λ r. (read_of kept.new, r.now)) (λ k. have t (waiting level levels place k)) tokens.now result }
+    ensures shorter { IfOk result (λ r. length r.now ≤ length tokens.now) }
 {
-    let mut kept = first;
     let mut below = level;
     let mut rest = tokens;
     loop {
         let rank = first_rank(rest);
         if rank <= below || levels < rank {
-            return Ok((kept, rest));
+            return Ok(rest);
         }
-        let (more, last) = grown(alloc, rank - 1, place, kept, rest)?;
-        kept = more;
+        let last = grown(alloc, rank - 1, place, rest, kept)?;
         below = rank;
         rest = last;
     }
@@ -164,20 +180,20 @@ fn grown<'a>(
     alloc: Global,
     below: usize,
     place: Place,
-    first: Kept,
     tokens: &'a [Token],
-) -> Result<(Kept, &'a [Token]), Stop>
+    kept: &mut Kept,
+) -> Result<&'a [Token], Stop>
     requires few { below < 16 }
     requires short { length tokens.now < 2 ^ 32 }
-    ensures reads { (t : Tree) → read_of first ≡ cap t → Follows (λ x. (read_of x.0, x.1.now)) (λ k. have t (opened (level_at below) (tightest below) place k)) tokens.now result }
-    ensures shorter { IfOk result (λ x. length x.1.now ≤ length tokens.now) }
+    ensures reads { (t : Tree) → read_of kept.old ≡ cap t → Follows (λ r. (read_of kept.new, r.now)) (λ k. have t (opened (level_at below) (tightest below) place k)) tokens.now result }
+    ensures shorter { IfOk result (λ r. length r.now ≤ length tokens.now) }
 {
     match level_at(below) {
-        Level::Chain(joint) => chain(alloc, joint, below, place, first, tokens),
-        Level::Choice => choice(alloc, below, place, first, tokens),
-        Level::Range => Ok((first, tokens)),
-        Level::Before(_) => Ok((first, tokens)),
-        Level::Selection => selections(alloc, place, first, tokens),
+        Level::Chain(joint) => chain(alloc, joint, below, place, tokens, kept),
+        Level::Choice => choice(alloc, below, place, tokens, kept),
+        Level::Range => Ok(tokens),
+        Level::Before(_) => Ok(tokens),
+        Level::Selection => selections(alloc, place, tokens, kept),
     }
 }
 
@@ -188,22 +204,25 @@ fn chain<'a>(
     joint: Joint,
     below: usize,
     place: Place,
-    first: Kept,
     tokens: &'a [Token],
-) -> Result<(Kept, &'a [Token]), Stop>
+    kept: &mut Kept,
+) -> Result<&'a [Token], Stop>
     requires few { below < 16 }
     requires short { length tokens.now < 2 ^ 32 }
-    ensures reads { (t : Tree) → read_of first ≡ cap t → Follows (λ x. (read_of x.0, x.1.now)) (λ k. have t (operand joint (tightest below) place bare ∷ k)) tokens.now result }
-    ensures shorter { IfOk result (λ x. length x.1.now ≤ length tokens.now) }
+    ensures reads { (t : Tree) → read_of kept.old ≡ cap t → Follows (λ r. (read_of kept.new, r.now)) (λ k. have t (operand joint (tightest below) place bare ∷ k)) tokens.now result }
+    ensures shorter { IfOk result (λ r. length r.now ≤ length tokens.now) }
 {
-    let mut operands = Operands::new(alloc, first.height);
+    let mut operands = Operands::new(alloc, kept.height);
     let mut rest = tokens;
     while let Some((op, more)) = joint_after(rest, joint) {
-        let (operand, last) = read(alloc, below, more)?;
+        let mut operand = leaf(place, Shape::True);
+        let last = read(alloc, below, more, &mut operand)?;
         operands.push(op, operand)?;
         rest = last;
     }
-    Ok((operands.chain(alloc, place, first)?, rest))
+    let first = taken(kept);
+    *kept = operands.chain(alloc, place, first)?;
+    Ok(rest)
 }
 
 #[cycle(read)]
@@ -212,46 +231,47 @@ fn choice<'a>(
     alloc: Global,
     below: usize,
     place: Place,
-    first: Kept,
     tokens: &'a [Token],
-) -> Result<(Kept, &'a [Token]), Stop>
+    kept: &mut Kept,
+) -> Result<&'a [Token], Stop>
     requires few { below < 16 }
     requires short { length tokens.now < 2 ^ 32 }
-    ensures reads { (t : Tree) → read_of first ≡ cap t → Follows (λ x. (read_of x.0, x.1.now)) (λ k. have t (when (tightest below) place [] ∷ k)) tokens.now result }
-    ensures shorter { IfOk result (λ x. length x.1.now ≤ length tokens.now) }
+    ensures reads { (t : Tree) → read_of kept.old ≡ cap t → Follows (λ r. (read_of kept.new, r.now)) (λ k. have t (when (tightest below) place [] ∷ k)) tokens.now result }
+    ensures shorter { IfOk result (λ r. length r.now ≤ length tokens.now) }
 {
     let mut branches = Cases::new(alloc);
-    let mut last = first;
     let mut rest = tokens;
     while let Some(more) = after(rest, Sign::Question) {
-        let (value, next) = read(alloc, below, more)?;
+        let mut value = leaf(place, Shape::True);
+        let next = read(alloc, below, more, &mut value)?;
         let behind = expect(next, Sign::Colon)?;
-        let (other, end) = read(alloc, below, behind)?;
-        branches.push(last, value)?;
-        last = other;
+        branches.push(taken(kept), value)?;
+        let end = read(alloc, below, behind, kept)?;
         rest = end;
     }
-    Ok((branches.choice(alloc, place, last)?, rest))
+    let last = taken(kept);
+    *kept = branches.choice(alloc, place, last)?;
+    Ok(rest)
 }
 
 #[inline(never)]
 fn selections<'a>(
     alloc: Global,
     place: Place,
-    first: Kept,
     tokens: &'a [Token],
-) -> Result<(Kept, &'a [Token]), Stop>
-    ensures reads { (t : Tree) → read_of first ≡ cap t → Follows (λ x. (read_of x.0, x.1.now)) (λ k. have t (selected place ∷ k)) tokens.now result }
-    ensures shorter { IfOk result (λ x. length x.1.now ≤ length tokens.now) }
+    kept: &mut Kept,
+) -> Result<&'a [Token], Stop>
+    ensures reads { (t : Tree) → read_of kept.old ≡ cap t → Follows (λ r. (read_of kept.new, r.now)) (λ k. have t (selected place ∷ k)) tokens.now result }
+    ensures shorter { IfOk result (λ r. length r.now ≤ length tokens.now) }
 {
-    let mut kept = first;
     let mut rest = tokens;
     while let Some(more) = after(rest, Sign::OpenBracket) {
         let (high, low, last) = ends(more)?;
-        kept = selected(alloc, place, kept, high, low)?;
+        let word = taken(kept);
+        *kept = selected(alloc, place, word, high, low)?;
         rest = last;
     }
-    Ok((kept, rest))
+    Ok(rest)
 }
 
 // The ends of a selection, behind its opening bracket.
@@ -275,11 +295,12 @@ fn prefixed<'a>(
     below: usize,
     place: Place,
     tokens: &'a [Token],
-) -> Result<(Kept, &'a [Token]), Stop>
+    kept: &mut Kept,
+) -> Result<&'a [Token], Stop>
     requires few { below < 16 }
     requires short { length tokens.now < 2 ^ 32 - 1 }
-    ensures reads { Follows (λ x. (read_of x.0, x.1.now)) (signed prefix (tightest below) place 1) tokens.now result }
-    ensures shorter { IfOk result (λ x. length x.1.now < length tokens.now) }
+    ensures reads { Follows (λ r. (read_of kept.new, r.now)) (signed prefix (tightest below) place 1) tokens.now result }
+    ensures shorter { IfOk result (λ r. length r.now < length tokens.now) }
 {
     let mut count: u32 = 1;
     let mut rest = tokens;
@@ -287,8 +308,10 @@ fn prefixed<'a>(
         count += 1;
         rest = more;
     }
-    let (operand, last) = read(alloc, below, rest)?;
-    Ok((with_prefix(alloc, place, prefix, count, operand)?, last))
+    let last = read(alloc, below, rest, kept)?;
+    let operand = taken(kept);
+    *kept = with_prefix(alloc, place, prefix, count, operand)?;
+    Ok(last)
 }
 
 fn sign_of(prefix: Prefix) -> Sign
@@ -303,34 +326,48 @@ fn sign_of(prefix: Prefix) -> Sign
 // An expression below all levels.
 #[cycle(read)]
 #[inline(never)]
-fn primary<'a>(alloc: Global, tokens: &'a [Token]) -> Result<(Kept, &'a [Token]), Stop>
+fn primary<'a>(alloc: Global, tokens: &'a [Token], kept: &mut Kept) -> Result<&'a [Token], Stop>
     requires short { length tokens.now < 2 ^ 32 }
-    ensures reads { Follows (λ x. (read_of x.0, x.1.now)) (ask []) tokens.now result }
-    ensures shorter { IfOk result (λ x. length x.1.now < length tokens.now) }
+    ensures reads { Follows (λ r. (read_of kept.new, r.now)) (ask []) tokens.now result }
+    ensures shorter { IfOk result (λ r. length r.now < length tokens.now) }
 {
     match tokens.split_first() {
         None => Err(Stop::Dead(0)),
         Some((token, rest)) => {
             let place = token.place;
             match leader_of(&token.kind) {
-                Leader::Number(n) => Ok((leaf(place, Shape::Number(n)), rest)),
-                Leader::Literal(word) => Ok((leaf(place, Shape::Literal(word)), rest)),
-                Leader::Truth(true) => Ok((leaf(place, Shape::True), rest)),
-                Leader::Truth(false) => Ok((leaf(place, Shape::False), rest)),
+                Leader::Number(n) => {
+                    put_leaf(kept, place, Shape::Number(n));
+                    Ok(rest)
+                }
+                Leader::Literal(word) => {
+                    put_leaf(kept, place, Shape::Literal(word));
+                    Ok(rest)
+                }
+                Leader::Truth(true) => {
+                    put_leaf(kept, place, Shape::True);
+                    Ok(rest)
+                }
+                Leader::Truth(false) => {
+                    put_leaf(kept, place, Shape::False);
+                    Ok(rest)
+                }
                 Leader::Path => {
                     let (path, last) = path(alloc, tokens)?;
-                    Ok((leaf(place, Shape::Name(path)), last))
+                    put_leaf(kept, place, Shape::Name(path));
+                    Ok(last)
                 }
                 Leader::Bracket => {
-                    let (kept, closing) = read(alloc, 16, rest)?;
-                    Ok((kept, expect(closing, Sign::Close)?))
+                    let closing = read(alloc, 16, rest, kept)?;
+                    let last = expect(closing, Sign::Close)?;
+                    Ok(last)
                 }
-                Leader::Set => listed(alloc, place, Listing::Elements, rest),
-                Leader::Next => following(alloc, place, rest),
-                Leader::Case => cases(alloc, place, rest),
+                Leader::Set => listed(alloc, place, Listing::Elements, rest, kept),
+                Leader::Next => following(alloc, place, rest, kept),
+                Leader::Case => cases(alloc, place, rest, kept),
                 Leader::Call(function) => {
                     let more = expect(rest, Sign::Open)?;
-                    listed(alloc, place, Listing::Arguments(function), more)
+                    listed(alloc, place, Listing::Arguments(function), more, kept)
                 }
                 Leader::Nothing => Err(Stop::Dead(tokens.len())),
             }
@@ -345,15 +382,18 @@ fn following<'a>(
     alloc: Global,
     place: Place,
     tokens: &'a [Token],
-) -> Result<(Kept, &'a [Token]), Stop>
+    kept: &mut Kept,
+) -> Result<&'a [Token], Stop>
     requires short { length tokens.now < 2 ^ 32 }
-    ensures reads { Follows (λ x. (read_of x.0, x.1.now)) (open_next place) tokens.now result }
-    ensures shorter { IfOk result (λ x. length x.1.now < length tokens.now) }
+    ensures reads { Follows (λ r. (read_of kept.new, r.now)) (open_next place) tokens.now result }
+    ensures shorter { IfOk result (λ r. length r.now < length tokens.now) }
 {
     let rest = expect(tokens, Sign::Open)?;
-    let (argument, closing) = read(alloc, 16, rest)?;
+    let closing = read(alloc, 16, rest, kept)?;
     let last = expect(closing, Sign::Close)?;
-    Ok((next_value(alloc, place, argument)?, last))
+    let argument = taken(kept);
+    *kept = next_value(alloc, place, argument)?;
+    Ok(last)
 }
 
 // A list, behind its opening bracket.
@@ -364,21 +404,24 @@ fn listed<'a>(
     place: Place,
     what: Listing,
     tokens: &'a [Token],
-) -> Result<(Kept, &'a [Token]), Stop>
+    kept: &mut Kept,
+) -> Result<&'a [Token], Stop>
     requires short { length tokens.now < 2 ^ 32 }
-    ensures reads { Follows (λ x. (read_of x.0, x.1.now)) (λ k. ask all_levels (listing place what [] ∷ k)) tokens.now result }
-    ensures shorter { IfOk result (λ x. length x.1.now < length tokens.now) }
+    ensures reads { Follows (λ r. (read_of kept.new, r.now)) (λ k. ask all_levels (listing place what [] ∷ k)) tokens.now result }
+    ensures shorter { IfOk result (λ r. length r.now < length tokens.now) }
 {
     let mut members = Members::new(alloc);
     let mut rest = tokens;
     loop {
-        let (member, more) = read(alloc, 16, rest)?;
+        let mut member = leaf(place, Shape::True);
+        let more = read(alloc, 16, rest, &mut member)?;
         members.push(member)?;
         match after(more, Sign::Comma) {
             Some(next) => rest = next,
             None => {
                 let last = expect(more, closing_of(what))?;
-                return Ok((members.kept(place, what), last));
+                *kept = members.kept(place, what);
+                return Ok(last);
             }
         }
     }
@@ -396,21 +439,31 @@ fn closing_of(what: Listing) -> Sign
 // The conditions of a case with their values, behind the word `case`.
 #[cycle(read)]
 #[inline(never)]
-fn cases<'a>(alloc: Global, place: Place, tokens: &'a [Token]) -> Result<(Kept, &'a [Token]), Stop>
+fn cases<'a>(
+    alloc: Global,
+    place: Place,
+    tokens: &'a [Token],
+    kept: &mut Kept,
+) -> Result<&'a [Token], Stop>
     requires short { length tokens.now < 2 ^ 32 }
-    ensures reads { Follows (λ x. (read_of x.0, x.1.now)) (λ k. ask all_levels (condition place [] ∷ k)) tokens.now result }
-    ensures shorter { IfOk result (λ x. length x.1.now < length tokens.now) }
+    ensures reads { Follows (λ r. (read_of kept.new, r.now)) (λ k. ask all_levels (condition place [] ∷ k)) tokens.now result }
+    ensures shorter { IfOk result (λ r. length r.now < length tokens.now) }
 {
     let mut branches = Cases::new(alloc);
     let mut rest = tokens;
     loop {
-        let (when, more) = read(alloc, 16, rest)?;
+        let mut when = leaf(place, Shape::True);
+        let more = read(alloc, 16, rest, &mut when)?;
         let behind = expect(more, Sign::Colon)?;
-        let (value, end) = read(alloc, 16, behind)?;
+        let mut value = leaf(place, Shape::True);
+        let end = read(alloc, 16, behind, &mut value)?;
         let last = expect(end, Sign::Semicolon)?;
         branches.push(when, value)?;
         match after_word(last, Reserved::Esac) {
-            Some(done) => return Ok((branches.case(place), done)),
+            Some(done) => {
+                *kept = branches.case(place);
+                return Ok(done);
+            }
             None => rest = last,
         }
     }

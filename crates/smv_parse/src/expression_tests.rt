@@ -1,4 +1,5 @@
-use crate::expression::expression;
+use crate::expression::{expression, start};
+use crate::kept::leaf;
 use crate::leaves::{integer, path};
 use crate::stop::Stop;
 use smv_text::{Expr, Infix, Prefix, Reserved, Shape, Sign, Token, TokenKind};
@@ -206,8 +207,9 @@ fn read(alloc: Global, words: &str) -> Result<Text, Fail> {
     if all.len() > 1000 {
         return Ok(text);
     }
-    match expression(alloc, &all) {
-        Ok((kept, rest)) => {
+    let mut kept = leaf(start(&all), Shape::True);
+    match expression(alloc, &all, &mut kept) {
+        Ok(rest) => {
             put(&mut text, &kept.expr)?;
             text.put(b" ")?;
             text.put_decimal(i128::from(kept.height))?;
@@ -292,8 +294,9 @@ fn height(alloc: Global, tokens: &[Token]) -> Option<u32> {
     if tokens.len() > 1000000 {
         return None;
     }
-    match expression(alloc, tokens) {
-        Ok((kept, _)) => Some(kept.height),
+    let mut kept = leaf(start(tokens), Shape::True);
+    match expression(alloc, tokens, &mut kept) {
+        Ok(_) => Some(kept.height),
         Err(_) => None,
     }
 }

@@ -7,12 +7,13 @@ ghost use Rattle.smv_text.specs.View.{plain};
 ghost use Rattle.smv_parse.specs.declared.stop.Stop.TheVariants.{NoMemory};
 ghost use Rattle.smv_parse.specs.Kept.{cap, capped, keep_at};
 ghost use Rattle.smv_parse.specs.Machine.{listed, choice_at, whole};
-ghost use Rattle.smv_parse.specs.Gathered.{read_of, shaped, AreMembers, AreCases, AreHeights, AreOperands, first_number, same_number};
+ghost use Rattle.smv_parse.specs.Gathered.{read_of, shaped, single, AreMembers, AreCases, AreHeights, AreOperands, first_number, same_number};
 
 use crate::stop::Stop;
-use smv_text::{Branch, Branches, Expr, Exprs, Function, Infix, Link, Links, Prefix, Shape};
+use smv_text::{Branch, Branches, Expr, Exprs, Function, Infix, Link, Links, Path, Prefix, Shape};
 use std::alloc::Global;
-use text_core::Place;
+use std::mem;
+use text_core::{Name, Names, Place};
 
 /// An expression that was read and its height. Where it is too high it is not kept: a leaf stands at its place, with a height
 /// over the limit.
@@ -79,6 +80,41 @@ pub(crate) fn leaf(place: Place, shape: Shape) -> Kept
         expr: Expr { place, shape },
         height: 1,
     }
+}
+
+/// Keeps an expression with no parts.
+#[inline(never)]
+pub(crate) fn put_leaf(kept: &mut Kept, place: Place, shape: Shape)
+    ensures { read_of kept.new ≡ record { tree = shaped place shape; height = 1 } }
+{
+    *kept = leaf(place, shape);
+}
+
+/// Keeps a single name, at its place.
+pub(crate) fn name_leaf(
+    alloc: Global,
+    place: Place,
+    name: &Name,
+    kept: &mut Kept,
+) -> Result<(), Stop>
+    ensures made { OnOk result (read_of kept.new ≡ cap (single place name.now)) }
+    ensures free { IfErr result (λ e. e ≡ NoMemory) }
+{
+    let path = Path {
+        from_self: false,
+        names: Names::one(alloc, name.duplicate(alloc)?),
+        place,
+    };
+    *kept = leaf(place, Shape::Name(path));
+    Ok(())
+}
+
+/// Takes out what is kept, and leaves a leaf.
+pub(crate) fn taken(kept: &mut Kept) -> Kept
+    ensures { result ≡ kept.old }
+{
+    let place = kept.expr.place;
+    mem::replace(kept, leaf(place, Shape::True))
 }
 
 /// A sign of a prefix, repeated so many times, and its operand.

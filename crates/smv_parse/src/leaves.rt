@@ -129,31 +129,23 @@ fn path_head(alloc: Global, tokens: &[Token]) -> Result<(Path, &[Token]), Stop>
     match tokens.split_first() {
         None => Err(Stop::Dead(0)),
         Some((token, rest)) => {
-            let mut names = Names::new(alloc);
             let place = token.place;
             match &token.kind {
                 TokenKind::Ident(name) => {
-                    names.push(Name::of(alloc, name.bytes())?)?;
-                    let from_self = false;
-                    Ok((
-                        Path {
-                            from_self,
-                            names,
-                            place,
-                        },
-                        rest,
-                    ))
+                    let path = Path {
+                        from_self: false,
+                        names: Names::one(alloc, name.duplicate(alloc)?),
+                        place,
+                    };
+                    Ok((path, rest))
                 }
                 TokenKind::Reserved(Reserved::Itself) => {
-                    let from_self = true;
-                    Ok((
-                        Path {
-                            from_self,
-                            names,
-                            place,
-                        },
-                        rest,
-                    ))
+                    let path = Path {
+                        from_self: true,
+                        names: Names::new(alloc),
+                        place,
+                    };
+                    Ok((path, rest))
                 }
                 _ => Err(Stop::Dead(tokens.len())),
             }
@@ -169,7 +161,7 @@ pub(crate) fn name(alloc: Global, tokens: &[Token]) -> Result<(Name, &[Token]), 
     match tokens.split_first() {
         None => Err(Stop::Dead(0)),
         Some((token, rest)) => match &token.kind {
-            TokenKind::Ident(name) => Ok((Name::of(alloc, name.bytes())?, rest)),
+            TokenKind::Ident(name) => Ok((name.duplicate(alloc)?, rest)),
             _ => Err(Stop::Dead(tokens.len())),
         },
     }

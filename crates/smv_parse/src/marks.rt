@@ -1,6 +1,6 @@
 // Which sign or reserved word a token is.
 
-ghost use Rattle.std.specs.Prelude.{◌≡◌, option_map, IfSome, suc, length};
+ghost use Rattle.std.specs.Prelude.{◌≡◌, is_some, option_map, IfSome, suc, length};
 ghost use Rattle.smv_parse.specs.Marks.{is_sign, is_word, sign_number, word_number};
 ghost use Rattle.smv_parse.specs.Reading.{after, after_word};
 
@@ -60,6 +60,16 @@ pub(crate) fn after(tokens: &[Token], sign: Sign) -> Option<&[Token]>
             }
         }
         None => None,
+    }
+}
+
+/// Does this sign come first?
+pub(crate) fn is_first(tokens: &[Token], sign: Sign) -> bool
+    ensures { result ≡ is_some (after sign tokens.now) }
+{
+    match tokens.first() {
+        Some(token) => is_sign(&token.kind, sign),
+        None => false,
     }
 }
 

@@ -13,13 +13,13 @@ ghost use Rattle.smv_parse.specs.Readers.{expression, high_or, picked, died};
 ghost use Rattle.smv_parse.specs.Rules.{name, parameter, symbol, listed, bracketed, member, width, interval, domain, domain_pick, instance_pick};
 
 use crate::expression::{expression, start};
-use crate::kept::MOST;
+use crate::kept::{MOST, leaf};
 use crate::leaves::{expect, integer, name, number};
 use crate::marks::{after, after_word};
 use crate::stop::Stop;
 use smv_text::{
-    Domain, Expr, Exprs, Member, Members, Parameter, Parameters, Reserved, Sign, Token, TokenKind,
-    VarKind,
+    Domain, Expr, Exprs, Member, Members, Parameter, Parameters, Reserved, Shape, Sign, Token,
+    TokenKind, VarKind,
 };
 use std::alloc::Global;
 use text_core::{Name, Names, Place};
@@ -59,7 +59,8 @@ pub(crate) fn kept_expression<'a>(
     ensures reads { Gives (λ y. (plain y.0, y.1, y.2.now)) (expression high tokens.now) result }
     ensures shorter { IfOk result (λ y. length y.2.now < length tokens.now) }
 {
-    let (kept, rest) = expression(alloc, tokens)?;
+    let mut kept = leaf(start(tokens), Shape::True);
+    let rest = expression(alloc, tokens, &mut kept)?;
     let high_now = high_after(high, kept.height, place_of(&kept.expr));
     Ok((kept.expr, high_now, rest))
 }
@@ -302,11 +303,7 @@ fn instance<'a>(
     match kind {
         VarKind::State => {
             let (all, high, last) = actuals(alloc, high, tokens)?;
-            Ok((
-                Domain::Instance(Name::of(alloc, module.bytes())?, all),
-                high,
-                last,
-            ))
+            Ok((Domain::Instance(module.duplicate(alloc)?, all), high, last))
         }
         _ => Err(Stop::Dead(tokens.len() + 1)),
     }

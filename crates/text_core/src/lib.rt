@@ -4,6 +4,8 @@
 mod errors;
 mod lists;
 mod memory;
+mod name;
+mod names;
 mod outside;
 mod place;
 mod real;
@@ -14,11 +16,13 @@ mod verdict;
 mod whole;
 
 pub use errors::{NoMemory, ReadEnd, ShelfFault, SinkFault};
-pub use lists::{FilePair, FilePairs, Items, Names, Numbers};
+pub use lists::{FilePair, FilePairs, Items, Numbers};
 pub use memory::{DropSink, MemoryShelf, MemorySink, SureShelf};
+pub use name::Name;
+pub use names::Names;
 pub use outside::{Shelf, Sink};
 pub use place::{Kind, Place, Refusal};
 pub use real::{FileShelf, StreamSink};
-pub use text::{Name, Text};
+pub use text::Text;
 pub use verdict::{Clause, Verdict};
 pub use whole::{read_whole, write_whole};

@@ -5,7 +5,7 @@ ghost use Rattle.text_core.specs.Outside.{file_at};
 ghost use Rattle.text_core.specs.Memory.{IsPlaceOf};
 
 use crate::errors::NoMemory;
-use crate::text::Name;
+use crate::name::Name;
 use std::alloc::Global;
 use std::marker::Model;
 
@@ -57,9 +57,6 @@ impl<T: Drop> Items<T> {
         &self.items[i]
     }
 }
-
-/// A list of names, seen as a list of their bytes.
-pub type Names = Items<Name>;
 
 /// A list of numbers.
 pub type Numbers = Items<u64>;

@@ -11,7 +11,7 @@ pub const WIDEST: u32 = 64;
 #[derive(Clone, Copy, Debug)]
 pub struct Word {
     width: u32,
-    bits: u128,
+    bits: u64,
 }
 
 impl Model for Word {
@@ -33,7 +33,7 @@ impl Word {
         ensures value { IfSome result (λ w. w ≡ record { width = width; bits = bits }) }
     {
         if width >= 1 && width <= WIDEST && bits < 1u128 << width {
-            Some(Word { width, bits })
+            Some(made_word(width, bits))
         } else {
             None
         }
@@ -52,7 +52,7 @@ impl Word {
         ensures value { result ≡ self.now.bits }
         ensures word { IsWord self.now }
     {
-        self.bits
+        u128::from(self.bits)
     }
 
     /// Bit number i, counted from the low end.
@@ -69,5 +69,8 @@ pub fn made_word(width: u32, bits: u128) -> Word
     requires { IsWord (record { width = width; bits = bits }) }
     ensures { result ≡ record { width = width; bits = bits } }
 {
-    Word { width, bits }
+    Word {
+        width,
+        bits: bits as u64,
+    }
 }

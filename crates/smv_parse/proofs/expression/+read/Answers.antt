@@ -1,4 +1,4 @@
-use Rattle.std.proofs.Common.{◌≡◌, true, false, ◌&&◌, nat_le, suc, ◌-◌, Some, None, [], ◌∷◌, ◌++◌, length, sym, ap, ◌∙◌, subst, arith, add-one}
+use Rattle.std.proofs.Common.{◌≡◌, true, false, ◌&&◌, nat_le, is_some, suc, ◌-◌, Some, None, [], ◌∷◌, ◌++◌, length, sym, ap, ◌∙◌, subst, arith, add-one}
 use Rattle.std.proofs.lemmas.Result.{err_from_is_err_and}
 use Rattle.smv_text.specs.declared.token.Sign.TheVariants as sign
 use Rattle.smv_text.specs.declared.tree.Prefix.TheVariants as prefixes
@@ -7,17 +7,38 @@ use Rattle.smv_text.specs.Tree.{truth, number, literal, name, prefix, cases, nex
 use Rattle.smv_text.specs.Grammar.{start}
 use Rattle.smv_parse.specs.declared.kept.Listing.TheVariants.{Arguments, Elements}
 use Rattle.smv_parse.specs.declared.levels.Leader.TheVariants as leader
+use Rattle.smv_parse.specs.Gathered.{read_of, single}
 use Rattle.smv_parse.specs.Ranks.{level_at, tightest}
 use Rattle.smv_parse.specs.Machine.{bare, joined, operand, when, value, signs, bracket, following, listing, condition, result, closing_of, listed, choice_at, prefix_sign, leader_of, opened, ask, have, signed, open_next, failed, walk}
 use Rattle.smv_parse.specs.Reading.{after, found, first_path, starts_range, IsLost, waiting, Misses}
 use Rattle.smv_parse.proofs.Capping.{none_so_far}
 use Rattle.smv_parse.proofs.Keeping.{read_height, leaf_number, leaf_literal, leaf_true, leaf_false, leaf_name}
 use Rattle.smv_parse.proofs.Steps.{when_goes, value_goes, bracket_goes, following_goes, condition_goes, result_goes, listing_goes, listing_ends, when_leaves, value_dies, signs_fold, bracket_dies, following_dies, condition_dies, result_dies, listing_dies, chain_goes, operand_goes, signed_goes, open_next_goes, open_call_goes, signed_ends, open_next_dies, open_call_dies, case_more, case_ends, named_on}
-use Rattle.smv_parse.proofs.Climbing.{settles, climbs, beside, range_descends, minus_descends, not_descends, plain_descends, leads_by, nothing_comes, path_begins, path_place, path_dies, follows_err, follows_along, follows_missed, follows_free}
+use Rattle.smv_parse.proofs.Climbing.{settles, climbs, beside, range_descends, minus_descends, not_descends, plain_descends, name_leads, none_left, leads_by, nothing_comes, path_begins, path_place, path_dies, follows_err, follows_along, follows_missed, follows_free}
 use Rattle.smv_parse.proofs.expression.+read.Goals as goal
 
-pub begin-returns-in_err-kept-in-Some-clause-reads : goal.begin-returns-in_err-kept-in-Some-clause-reads
-begin-returns-in_err-kept-in-Some-clause-reads t c =
+pub read-returns-in_err-name_leaf-clause-reads : goal.read-returns-in_err-name_leaf-clause-reads
+read-returns-in_err-name_leaf-clause-reads m c =
+    let q = c.from_residual in
+    let p = err_from_is_err_and q.result q.ensures.1 in
+    follows_free _ _ (ask (tightest c.args.levels)) c.args.tokens.now _ p.0 _ p.1 p.2 c.in_err-name_leaf.ensures.free
+
+pub read-returns-then-not-is_first-clause-reads : goal.read-returns-then-not-is_first-clause-reads
+read-returns-then-not-is_first-clause-reads m c =
+    let n = c.args.levels in
+    let x = c.in-Some.token.now in
+    let xs = c.in-Some.rest.now in
+    let ys = c.args.tokens.now in
+    let is : ys ≡ x ∷ xs = c.in-Some.ensures.cases.0 in
+    let bytes = c.in-Ident.name in
+    let e = c.is_first.ensures in
+    let f = c.if-not-is_first.true in
+    let no : is_some (after sign.Dot xs) ≡ false = first_of (cc, grind (arith, e, f)) in
+    follows_along _ _ (ask (tightest n)) (λ k. have (single x.place bytes) (waiting 0 n x.place k)) ys xs c.climb.result
+    (λ k. ap (λ zs. walk zs (ask (tightest n) k)) is ∙ name_leads n c.requires.few x xs k bytes c.in-Ident.is (none_left (after sign.Dot xs) no)) (c.climb.ensures.reads (single x.place bytes) c.in_ok-name_leaf.ensures.made)
+
+pub begin-returns-in_err-last-in-Some-clause-reads : goal.begin-returns-in_err-last-in-Some-clause-reads
+begin-returns-in_err-last-in-Some-clause-reads t c =
     let q = c.from_residual in
     let p = err_from_is_err_and q.result q.ensures.1 in
     let n = c.args.levels in
@@ -26,26 +47,26 @@ begin-returns-in_err-kept-in-Some-clause-reads t c =
     let ys = c.args.tokens.now in
     let is : ys ≡ x ∷ xs = c.in-Some.ensures.cases.0 in
     let r = subst (λ zs. (nat_le 8 n && starts_range zs) ≡ true) is (sym c.begins_range.ensures ∙ c.if-begins_range.true) in
-    follows_err _ _ (ask (tightest n)) (ask (tightest 8)) ys ys _ p.0 _ p.1 p.2 (λ k. (waiting 8 n x.place k, ap (λ zs. walk zs (ask (tightest n) k)) is ∙ range_descends n c.requires.few x xs k r ∙ ap (λ zs. walk zs (ask (tightest 8) (waiting 8 n x.place k))) (sym is))) c.in_err-kept-in-Some.ensures.reads
+    follows_err _ _ (ask (tightest n)) (ask (tightest 8)) ys ys _ p.0 _ p.1 p.2 (λ k. (waiting 8 n x.place k, ap (λ zs. walk zs (ask (tightest n) k)) is ∙ range_descends n c.requires.few x xs k r ∙ ap (λ zs. walk zs (ask (tightest 8) (waiting 8 n x.place k))) (sym is))) c.in_err-last-in-Some.ensures.reads
 
-pub begin-returns-in_ok-kept-in-Some-clause-reads : goal.begin-returns-in_ok-kept-in-Some-clause-reads
-begin-returns-in_ok-kept-in-Some-clause-reads t c =
+pub begin-returns-in_ok-last-in-Some-clause-reads : goal.begin-returns-in_ok-last-in-Some-clause-reads
+begin-returns-in_ok-last-in-Some-clause-reads t c =
     let n = c.args.levels in
     let x = c.in-Some.token.now in
     let xs = c.in-Some.rest.now in
     let ys = c.args.tokens.now in
     let is : ys ≡ x ∷ xs = c.in-Some.ensures.cases.0 in
     let r = subst (λ zs. (nat_le 8 n && starts_range zs) ≡ true) is (sym c.begins_range.ensures ∙ c.if-begins_range.true) in
-    let f = c.in_ok-kept-in-Some.ensures.reads in
+    let f = c.in_ok-last-in-Some.ensures.reads in
     record {
       tree = f.tree;
       kept = f.kept;
-      leads = λ k. ap (λ zs. walk zs (ask (tightest n) k)) is ∙ range_descends n c.requires.few x xs k r ∙ ap (λ zs. walk zs (ask (tightest 8) (waiting 8 n x.place k))) (sym is) ∙ f.leads (waiting 8 n x.place k) ∙ ap (λ q. walk c.in_ok-kept-in-Some.last.now (have f.tree (waiting 8 n q k))) (sym (ap start is));
+      leads = λ k. ap (λ zs. walk zs (ask (tightest n) k)) is ∙ range_descends n c.requires.few x xs k r ∙ ap (λ zs. walk zs (ask (tightest 8) (waiting 8 n x.place k))) (sym is) ∙ f.leads (waiting 8 n x.place k) ∙ ap (λ q. walk c.in_ok-last-in-Some.last.now (have f.tree (waiting 8 n q k))) (sym (ap start is));
     }
 
-pub begin-returns-in_err-kept-in-Some-2-clause-reads : goal.begin-returns-in_err-kept-in-Some-2-clause-reads
-begin-returns-in_err-kept-in-Some-2-clause-reads t c =
-    let q = c.from_residual-in_err-kept-in-Some-2 in
+pub begin-returns-in_err-last-in-Some-2-clause-reads : goal.begin-returns-in_err-last-in-Some-2-clause-reads
+begin-returns-in_err-last-in-Some-2-clause-reads t c =
+    let q = c.from_residual-in_err-last-in-Some-2 in
     let p = err_from_is_err_and q.result q.ensures.1 in
     let n = c.args.levels in
     let x = c.in-Some.token.now in
@@ -54,10 +75,10 @@ begin-returns-in_err-kept-in-Some-2-clause-reads t c =
     let is : ys ≡ x ∷ xs = c.in-Some.ensures.cases.0 in
     let r = subst (λ zs. (nat_le 8 n && starts_range zs) ≡ false) is (sym c.begins_range.ensures ∙ c.if-begins_range.false) in
     let m = sym c.begins_prefix.ensures ∙ c.if-begins_prefix.true in
-    follows_err _ _ (ask (tightest n)) (signed prefixes.Minus (tightest 3) x.place 1) ys xs _ p.0 _ p.1 p.2 (λ k. (waiting 4 n x.place k, ap (λ zs. walk zs (ask (tightest n) k)) is ∙ minus_descends n c.requires.few x xs k r m)) c.in_err-kept-in-Some-2.ensures.reads
+    follows_err _ _ (ask (tightest n)) (signed prefixes.Minus (tightest 3) x.place 1) ys xs _ p.0 _ p.1 p.2 (λ k. (waiting 4 n x.place k, ap (λ zs. walk zs (ask (tightest n) k)) is ∙ minus_descends n c.requires.few x xs k r m)) c.in_err-last-in-Some-2.ensures.reads
 
-pub begin-returns-in_ok-kept-in-Some-2-clause-reads : goal.begin-returns-in_ok-kept-in-Some-2-clause-reads
-begin-returns-in_ok-kept-in-Some-2-clause-reads t c =
+pub begin-returns-in_ok-last-in-Some-2-clause-reads : goal.begin-returns-in_ok-last-in-Some-2-clause-reads
+begin-returns-in_ok-last-in-Some-2-clause-reads t c =
     let n = c.args.levels in
     let x = c.in-Some.token.now in
     let xs = c.in-Some.rest.now in
@@ -65,16 +86,16 @@ begin-returns-in_ok-kept-in-Some-2-clause-reads t c =
     let is : ys ≡ x ∷ xs = c.in-Some.ensures.cases.0 in
     let r = subst (λ zs. (nat_le 8 n && starts_range zs) ≡ false) is (sym c.begins_range.ensures ∙ c.if-begins_range.false) in
     let m = sym c.begins_prefix.ensures ∙ c.if-begins_prefix.true in
-    let f = c.in_ok-kept-in-Some-2.ensures.reads in
+    let f = c.in_ok-last-in-Some-2.ensures.reads in
     record {
       tree = f.tree;
       kept = f.kept;
-      leads = λ k. ap (λ zs. walk zs (ask (tightest n) k)) is ∙ minus_descends n c.requires.few x xs k r m ∙ f.leads (waiting 4 n x.place k) ∙ ap (λ q. walk c.in_ok-kept-in-Some-2.last.now (have f.tree (waiting 4 n q k))) (sym (ap start is));
+      leads = λ k. ap (λ zs. walk zs (ask (tightest n) k)) is ∙ minus_descends n c.requires.few x xs k r m ∙ f.leads (waiting 4 n x.place k) ∙ ap (λ q. walk c.in_ok-last-in-Some-2.last.now (have f.tree (waiting 4 n q k))) (sym (ap start is));
     }
 
-pub begin-returns-in_err-kept-in-Some-3-clause-reads : goal.begin-returns-in_err-kept-in-Some-3-clause-reads
-begin-returns-in_err-kept-in-Some-3-clause-reads t c =
-    let q = c.from_residual-in_err-kept-in-Some-3 in
+pub begin-returns-in_err-last-in-Some-3-clause-reads : goal.begin-returns-in_err-last-in-Some-3-clause-reads
+begin-returns-in_err-last-in-Some-3-clause-reads t c =
+    let q = c.from_residual-in_err-last-in-Some-3 in
     let p = err_from_is_err_and q.result q.ensures.1 in
     let n = c.args.levels in
     let x = c.in-Some.token.now in
@@ -84,10 +105,10 @@ begin-returns-in_err-kept-in-Some-3-clause-reads t c =
     let r = subst (λ zs. (nat_le 8 n && starts_range zs) ≡ false) is (sym c.begins_range.ensures ∙ c.if-begins_range.false) in
     let m = sym c.begins_prefix.ensures ∙ c.if-begins_prefix.false in
     let o = sym c.begins_prefix-else-begins_prefix.ensures ∙ c.if-begins_prefix-2.true in
-    follows_err _ _ (ask (tightest n)) (signed prefixes.Not (tightest 1) x.place 1) ys xs _ p.0 _ p.1 p.2 (λ k. (waiting 2 n x.place k, ap (λ zs. walk zs (ask (tightest n) k)) is ∙ not_descends n c.requires.few x xs k r m o)) c.in_err-kept-in-Some-3.ensures.reads
+    follows_err _ _ (ask (tightest n)) (signed prefixes.Not (tightest 1) x.place 1) ys xs _ p.0 _ p.1 p.2 (λ k. (waiting 2 n x.place k, ap (λ zs. walk zs (ask (tightest n) k)) is ∙ not_descends n c.requires.few x xs k r m o)) c.in_err-last-in-Some-3.ensures.reads
 
-pub begin-returns-in_ok-kept-in-Some-3-clause-reads : goal.begin-returns-in_ok-kept-in-Some-3-clause-reads
-begin-returns-in_ok-kept-in-Some-3-clause-reads t c =
+pub begin-returns-in_ok-last-in-Some-3-clause-reads : goal.begin-returns-in_ok-last-in-Some-3-clause-reads
+begin-returns-in_ok-last-in-Some-3-clause-reads t c =
     let n = c.args.levels in
     let x = c.in-Some.token.now in
     let xs = c.in-Some.rest.now in
@@ -96,16 +117,16 @@ begin-returns-in_ok-kept-in-Some-3-clause-reads t c =
     let r = subst (λ zs. (nat_le 8 n && starts_range zs) ≡ false) is (sym c.begins_range.ensures ∙ c.if-begins_range.false) in
     let m = sym c.begins_prefix.ensures ∙ c.if-begins_prefix.false in
     let o = sym c.begins_prefix-else-begins_prefix.ensures ∙ c.if-begins_prefix-2.true in
-    let f = c.in_ok-kept-in-Some-3.ensures.reads in
+    let f = c.in_ok-last-in-Some-3.ensures.reads in
     record {
       tree = f.tree;
       kept = f.kept;
-      leads = λ k. ap (λ zs. walk zs (ask (tightest n) k)) is ∙ not_descends n c.requires.few x xs k r m o ∙ f.leads (waiting 2 n x.place k) ∙ ap (λ q. walk c.in_ok-kept-in-Some-3.last.now (have f.tree (waiting 2 n q k))) (sym (ap start is));
+      leads = λ k. ap (λ zs. walk zs (ask (tightest n) k)) is ∙ not_descends n c.requires.few x xs k r m o ∙ f.leads (waiting 2 n x.place k) ∙ ap (λ q. walk c.in_ok-last-in-Some-3.last.now (have f.tree (waiting 2 n q k))) (sym (ap start is));
     }
 
-pub begin-returns-in_err-kept-in-Some-4-clause-reads : goal.begin-returns-in_err-kept-in-Some-4-clause-reads
-begin-returns-in_err-kept-in-Some-4-clause-reads t c =
-    let q = c.from_residual-in_err-kept-in-Some-4 in
+pub begin-returns-in_err-last-in-Some-4-clause-reads : goal.begin-returns-in_err-last-in-Some-4-clause-reads
+begin-returns-in_err-last-in-Some-4-clause-reads t c =
+    let q = c.from_residual-in_err-last-in-Some-4 in
     let p = err_from_is_err_and q.result q.ensures.1 in
     let n = c.args.levels in
     let x = c.in-Some.token.now in
@@ -115,10 +136,10 @@ begin-returns-in_err-kept-in-Some-4-clause-reads t c =
     let r = subst (λ zs. (nat_le 8 n && starts_range zs) ≡ false) is (sym c.begins_range.ensures ∙ c.if-begins_range.false) in
     let m = sym c.begins_prefix.ensures ∙ c.if-begins_prefix.false in
     let o = sym c.begins_prefix-else-begins_prefix.ensures ∙ c.if-begins_prefix-2.false in
-    follows_err _ _ (ask (tightest n)) (ask []) ys ys _ p.0 _ p.1 p.2 (λ k. (waiting 0 n x.place k, ap (λ zs. walk zs (ask (tightest n) k)) is ∙ plain_descends n c.requires.few x xs k r m o ∙ ap (λ zs. walk zs (ask [] (waiting 0 n x.place k))) (sym is))) c.in_err-kept-in-Some-4.ensures.reads
+    follows_err _ _ (ask (tightest n)) (ask []) ys ys _ p.0 _ p.1 p.2 (λ k. (waiting 0 n x.place k, ap (λ zs. walk zs (ask (tightest n) k)) is ∙ plain_descends n c.requires.few x xs k r m o ∙ ap (λ zs. walk zs (ask [] (waiting 0 n x.place k))) (sym is))) c.in_err-last-in-Some-4.ensures.reads
 
-pub begin-returns-in_ok-kept-in-Some-4-clause-reads : goal.begin-returns-in_ok-kept-in-Some-4-clause-reads
-begin-returns-in_ok-kept-in-Some-4-clause-reads t c =
+pub begin-returns-in_ok-last-in-Some-4-clause-reads : goal.begin-returns-in_ok-last-in-Some-4-clause-reads
+begin-returns-in_ok-last-in-Some-4-clause-reads t c =
     let n = c.args.levels in
     let x = c.in-Some.token.now in
     let xs = c.in-Some.rest.now in
@@ -127,11 +148,11 @@ begin-returns-in_ok-kept-in-Some-4-clause-reads t c =
     let r = subst (λ zs. (nat_le 8 n && starts_range zs) ≡ false) is (sym c.begins_range.ensures ∙ c.if-begins_range.false) in
     let m = sym c.begins_prefix.ensures ∙ c.if-begins_prefix.false in
     let o = sym c.begins_prefix-else-begins_prefix.ensures ∙ c.if-begins_prefix-2.false in
-    let f = c.in_ok-kept-in-Some-4.ensures.reads in
+    let f = c.in_ok-last-in-Some-4.ensures.reads in
     record {
       tree = f.tree;
       kept = f.kept;
-      leads = λ k. ap (λ zs. walk zs (ask (tightest n) k)) is ∙ plain_descends n c.requires.few x xs k r m o ∙ ap (λ zs. walk zs (ask [] (waiting 0 n x.place k))) (sym is) ∙ f.leads (waiting 0 n x.place k) ∙ ap (λ q. walk c.in_ok-kept-in-Some-4.last.now (have f.tree (waiting 0 n q k))) (sym (ap start is));
+      leads = λ k. ap (λ zs. walk zs (ask (tightest n) k)) is ∙ plain_descends n c.requires.few x xs k r m o ∙ ap (λ zs. walk zs (ask [] (waiting 0 n x.place k))) (sym is) ∙ f.leads (waiting 0 n x.place k) ∙ ap (λ q. walk c.in_ok-last-in-Some-4.last.now (have f.tree (waiting 0 n q k))) (sym (ap start is));
     }
 
 pub begin-returns-in-None-clause-reads : goal.begin-returns-in-None-clause-reads
@@ -151,8 +172,8 @@ climb-returns-then-rank-below-clause-reads m c t h =
       leads = λ k. f.leads k ∙ settles l.below n c.args.place k f.tree l.rest.now c.requires.few (λ i low high same. beside l.below n rank c.then-rank-below.either i low high (c.first_rank-rank.ensures ∙ same));
     }
 
-pub climb-returns-in_err-more-clause-reads : goal.climb-returns-in_err-more-clause-reads
-climb-returns-in_err-more-clause-reads m c t h =
+pub climb-returns-in_err-last-clause-reads : goal.climb-returns-in_err-last-clause-reads
+climb-returns-in_err-last-clause-reads m c t h =
     let q = c.from_residual in
     let p = err_from_is_err_and q.result q.ensures.1 in
     let l = c.loop-below in
@@ -161,7 +182,7 @@ climb-returns-in_err-more-clause-reads m c t h =
     let rank = c.first_rank-rank.result in
     let over : rank ≡ suc (rank - 1) = omega arith in
     follows_err _ _ (λ k. have t (waiting c.args.level n c.args.place k)) (λ k. have f.tree (opened (level_at (rank - 1)) (tightest (rank - 1)) c.args.place k)) c.args.tokens.now l.rest.now _ p.0 _ p.1 p.2
-    (λ k. (waiting (suc (rank - 1)) n c.args.place k, f.leads k ∙ climbs l.below n (rank - 1) c.args.place k f.tree l.rest.now c.requires.few (omega arith) (omega arith) (sym c.first_rank-rank.ensures ∙ over))) (c.in_err-more.ensures.reads f.tree f.kept)
+    (λ k. (waiting (suc (rank - 1)) n c.args.place k, f.leads k ∙ climbs l.below n (rank - 1) c.args.place k f.tree l.rest.now c.requires.few (omega arith) (omega arith) (sym c.first_rank-rank.ensures ∙ over))) (c.in_err-last.ensures.reads f.tree f.kept)
 
 pub climb-loop-below-preserved : goal.climb-loop-below-preserved
 climb-loop-below-preserved m c =
@@ -172,13 +193,13 @@ climb-loop-below-preserved m c =
     record {
       reads = λ t h.
           let f = l.invariant.reads t h in
-          let g = c.in_ok-more.ensures.reads f.tree f.kept in
+          let g = c.in_ok-last.ensures.reads f.tree f.kept in
           record {
             tree = g.tree;
             kept = g.kept;
-            leads = λ k. f.leads k ∙ climbs l.below n (rank - 1) c.args.place k f.tree l.rest.now c.requires.few (omega arith) (omega arith) (sym c.first_rank-rank.ensures ∙ over) ∙ g.leads (waiting (suc (rank - 1)) n c.args.place k) ∙ ap (λ i. walk c.in_ok-more.last.now (have g.tree (waiting i n c.args.place k))) (sym over);
+            leads = λ k. f.leads k ∙ climbs l.below n (rank - 1) c.args.place k f.tree l.rest.now c.requires.few (omega arith) (omega arith) (sym c.first_rank-rank.ensures ∙ over) ∙ g.leads (waiting (suc (rank - 1)) n c.args.place k) ∙ ap (λ i. walk c.in_ok-last.last.now (have g.tree (waiting i n c.args.place k))) (sym over);
           };
-      shorter = omega (arith, l.invariant.shorter, c.in_ok-more.ensures.shorter);
+      shorter = omega (arith, l.invariant.shorter, c.in_ok-last.ensures.shorter);
     }
 
 pub chain-loop-op-init : goal.chain-loop-op-init
@@ -187,7 +208,7 @@ chain-loop-op-init m c =
     let below = tightest c.args.below in
     let place = c.args.place in
     record {
-      reads = λ t h. ([], c.new-operands.ensures t (read_height c.args.first t h), λ k. operand_goes k below j place bare t c.args.tokens.now);
+      reads = λ t h. ([], c.new-operands.ensures t (read_height c.args.kept.now t h), λ k. operand_goes k below j place bare t c.args.tokens.now);
       shorter = omega arith;
     }
 
@@ -197,11 +218,11 @@ chain-returns-in_err-push-clause-reads m c t h =
     let p = err_from_is_err_and q.result q.ensures.1 in
     follows_free _ _ (λ k. have t (operand c.args.joint (tightest c.args.below) c.args.place bare ∷ k)) c.args.tokens.now _ p.0 _ p.1 p.2 c.in_err-push.ensures.free
 
-pub chain-returns-in_err-chain-clause-reads : goal.chain-returns-in_err-chain-clause-reads
-chain-returns-in_err-chain-clause-reads m c t h =
-    let q = c.from_residual-in_err-chain in
+pub chain-returns-in_err-kept-clause-reads : goal.chain-returns-in_err-kept-clause-reads
+chain-returns-in_err-kept-clause-reads m c t h =
+    let q = c.from_residual-in_err-kept in
     let p = err_from_is_err_and q.result q.ensures.1 in
-    follows_free _ _ (λ k. have t (operand c.args.joint (tightest c.args.below) c.args.place bare ∷ k)) c.args.tokens.now _ p.0 _ p.1 p.2 c.in_err-chain.ensures.free
+    follows_free _ _ (λ k. have t (operand c.args.joint (tightest c.args.below) c.args.place bare ∷ k)) c.args.tokens.now _ p.0 _ p.1 p.2 c.in_err-kept.ensures.free
 
 pub chain-loop-op-preserved : goal.chain-loop-op-preserved
 chain-loop-op-preserved m c =
@@ -210,20 +231,20 @@ chain-loop-op-preserved m c =
     let place = c.args.place in
     let l = c.loop-op in
     let op = c.in-Some.op in
-    let o = c.in_ok-operand.ensures.reads in
+    let o = c.in_ok-last.ensures.reads in
     record {
       reads = λ t h.
           let i = l.invariant.reads t h in (
             i.0 ++ (op, o.tree) ∷ [],
             c.in_ok-push.ensures.made t i.0 o.tree i.1 o.kept,
             λ k. i.2 k ∙ ap (chain_goes j below place (record { first = t; links = i.0 }) k l.rest.now) (sym c.in-Some.ensures.found) ∙ o.leads _
-                ∙ operand_goes k below j place (joined (record { first = t; links = i.0 }) op) o.tree c.in_ok-operand.last.now,
+                ∙ operand_goes k below j place (joined (record { first = t; links = i.0 }) op) o.tree c.in_ok-last.last.now,
           );
-      shorter = omega (arith, l.invariant.shorter, c.in-Some.ensures.shorter, c.in_ok-operand.ensures.shorter);
+      shorter = omega (arith, l.invariant.shorter, c.in-Some.ensures.shorter, c.in_ok-last.ensures.shorter);
     }
 
-pub choice-returns-in_err-value-clause-reads : goal.choice-returns-in_err-value-clause-reads
-choice-returns-in_err-value-clause-reads m c t h =
+pub choice-returns-in_err-next-clause-reads : goal.choice-returns-in_err-next-clause-reads
+choice-returns-in_err-next-clause-reads m c t h =
     let q = c.from_residual in
     let p = err_from_is_err_and q.result q.ensures.1 in
     let l = c.loop-more in
@@ -233,7 +254,7 @@ choice-returns-in_err-value-clause-reads m c t h =
     let bs = i.0 in
     let f = i.2 in
     let rest = l.rest.now in
-    follows_err _ _ (λ k. have t (when b place [] ∷ k)) (ask b) c.args.tokens.now c.in-Some.more.now _ p.0 _ p.1 p.2 (λ k. (value b place bs f.tree ∷ k, f.leads k ∙ when_goes k f.tree rest c.in-Some.more.now b place bs (sym c.in-Some.ensures.found))) c.in_err-value.ensures.reads
+    follows_err _ _ (λ k. have t (when b place [] ∷ k)) (ask b) c.args.tokens.now c.in-Some.more.now _ p.0 _ p.1 p.2 (λ k. (value b place bs f.tree ∷ k, f.leads k ∙ when_goes k f.tree rest c.in-Some.more.now b place bs (sym c.in-Some.ensures.found))) c.in_err-next.ensures.reads
 
 pub choice-returns-in_err-behind-clause-reads : goal.choice-returns-in_err-behind-clause-reads
 choice-returns-in_err-behind-clause-reads m c t h =
@@ -246,13 +267,13 @@ choice-returns-in_err-behind-clause-reads m c t h =
     let bs = i.0 in
     let f = i.2 in
     let rest = l.rest.now in
-    let v = c.in_ok-value.ensures.reads in
-    let next = c.in_ok-value.next.now in
+    let v = c.in_ok-next.ensures.reads in
+    let next = c.in_ok-next.next.now in
     follows_missed _ _ (λ k. have t (when b place [] ∷ k)) c.args.tokens.now next sign.Colon _ p.0 _ p.1 p.2 (λ k none. f.leads k ∙ when_goes k f.tree rest c.in-Some.more.now b place bs (sym c.in-Some.ensures.found) ∙ v.leads _ ∙ value_dies k v.tree next b place bs f.tree none) c.in_err-behind.ensures.passes
 
-pub choice-returns-in_err-other-clause-reads : goal.choice-returns-in_err-other-clause-reads
-choice-returns-in_err-other-clause-reads m c t h =
-    let q = c.from_residual-in_err-other in
+pub choice-returns-in_err-end-clause-reads : goal.choice-returns-in_err-end-clause-reads
+choice-returns-in_err-end-clause-reads m c t h =
+    let q = c.from_residual-in_err-end in
     let p = err_from_is_err_and q.result q.ensures.1 in
     let l = c.loop-more in
     let b = tightest c.args.below in
@@ -261,9 +282,9 @@ choice-returns-in_err-other-clause-reads m c t h =
     let bs = i.0 in
     let f = i.2 in
     let rest = l.rest.now in
-    let v = c.in_ok-value.ensures.reads in
-    let next = c.in_ok-value.next.now in
-    follows_err _ _ (λ k. have t (when b place [] ∷ k)) (ask b) c.args.tokens.now c.in_ok-behind.behind.now _ p.0 _ p.1 p.2 (λ k. (when b place (bs ++ (f.tree, v.tree) ∷ []) ∷ k, f.leads k ∙ when_goes k f.tree rest c.in-Some.more.now b place bs (sym c.in-Some.ensures.found) ∙ v.leads _ ∙ value_goes k v.tree next c.in_ok-behind.behind.now b place bs f.tree c.in_ok-behind.ensures.passes)) c.in_err-other.ensures.reads
+    let v = c.in_ok-next.ensures.reads in
+    let next = c.in_ok-next.next.now in
+    follows_err _ _ (λ k. have t (when b place [] ∷ k)) (ask b) c.args.tokens.now c.in_ok-behind.behind.now _ p.0 _ p.1 p.2 (λ k. (when b place (bs ++ (f.tree, v.tree) ∷ []) ∷ k, f.leads k ∙ when_goes k f.tree rest c.in-Some.more.now b place bs (sym c.in-Some.ensures.found) ∙ v.leads _ ∙ value_goes k v.tree next c.in_ok-behind.behind.now b place bs f.tree c.in_ok-behind.ensures.passes)) c.in_err-end.ensures.reads
 
 pub choice-returns-in_err-push-clause-reads : goal.choice-returns-in_err-push-clause-reads
 choice-returns-in_err-push-clause-reads m c t h =
@@ -271,11 +292,11 @@ choice-returns-in_err-push-clause-reads m c t h =
     let p = err_from_is_err_and q.result q.ensures.1 in
     follows_free _ _ (λ k. have t (when (tightest c.args.below) c.args.place [] ∷ k)) c.args.tokens.now _ p.0 _ p.1 p.2 c.in_err-push.ensures.free
 
-pub choice-returns-in_err-choice-clause-reads : goal.choice-returns-in_err-choice-clause-reads
-choice-returns-in_err-choice-clause-reads m c t h =
-    let q = c.from_residual-in_err-choice in
+pub choice-returns-in_err-kept-clause-reads : goal.choice-returns-in_err-kept-clause-reads
+choice-returns-in_err-kept-clause-reads m c t h =
+    let q = c.from_residual-in_err-kept in
     let p = err_from_is_err_and q.result q.ensures.1 in
-    follows_free _ _ (λ k. have t (when (tightest c.args.below) c.args.place [] ∷ k)) c.args.tokens.now _ p.0 _ p.1 p.2 c.in_err-choice.ensures.free
+    follows_free _ _ (λ k. have t (when (tightest c.args.below) c.args.place [] ∷ k)) c.args.tokens.now _ p.0 _ p.1 p.2 c.in_err-kept.ensures.free
 
 pub choice-loop-more-preserved : goal.choice-loop-more-preserved
 choice-loop-more-preserved m c =
@@ -283,28 +304,28 @@ choice-loop-more-preserved m c =
     let b = tightest c.args.below in
     let place = c.args.place in
     let rest = l.rest.now in
-    let v = c.in_ok-value.ensures.reads in
-    let next = c.in_ok-value.next.now in
-    let o = c.in_ok-other.ensures.reads in
+    let v = c.in_ok-next.ensures.reads in
+    let next = c.in_ok-next.next.now in
+    let o = c.in_ok-end.ensures.reads in
     record {
       reads = λ t h.
           let i = l.invariant.reads t h in
           let bs = i.0 in
           let f = i.2 in (
             bs ++ (f.tree, v.tree) ∷ [],
-            c.in_ok-push.ensures.made bs f.tree v.tree i.1 f.kept v.kept,
+            c.in_ok-push.ensures.made bs f.tree v.tree i.1 (ap read_of c.taken.ensures ∙ f.kept) v.kept,
             record {
               tree = o.tree;
               kept = o.kept;
               leads = λ k. f.leads k ∙ when_goes k f.tree rest c.in-Some.more.now b place bs (sym c.in-Some.ensures.found) ∙ v.leads _ ∙ value_goes k v.tree next c.in_ok-behind.behind.now b place bs f.tree c.in_ok-behind.ensures.passes ∙ o.leads _;
             },
           );
-      shorter = omega (arith, l.invariant.shorter, c.in-Some.ensures.shorter, c.in_ok-value.ensures.shorter, c.in_ok-behind.ensures.shorter, c.in_ok-other.ensures.shorter);
+      shorter = omega (arith, l.invariant.shorter, c.in-Some.ensures.shorter, c.in_ok-next.ensures.shorter, c.in_ok-behind.ensures.shorter, c.in_ok-end.ensures.shorter);
     }
 
 pub choice-loop-more-smaller : goal.choice-loop-more-smaller
 choice-loop-more-smaller m c =
-    omega (arith, c.in-Some.ensures.shorter, c.in_ok-value.ensures.shorter, c.in_ok-behind.ensures.shorter, c.in_ok-other.ensures.shorter)
+    omega (arith, c.in-Some.ensures.shorter, c.in_ok-next.ensures.shorter, c.in_ok-behind.ensures.shorter, c.in_ok-end.ensures.shorter)
 
 pub choice-returns-clause-reads : goal.choice-returns-clause-reads
 choice-returns-clause-reads m c t h =
@@ -317,7 +338,7 @@ choice-returns-clause-reads m c t h =
     let rest = l.rest.now in
     record {
       tree = choice_at place (branches_of bs) f.tree;
-      kept = c.in_ok-choice.ensures.made bs f.tree i.1 f.kept;
+      kept = c.in_ok-kept.ensures.made bs f.tree i.1 (ap read_of c.taken-last.ensures ∙ f.kept);
       leads = λ k. f.leads k ∙ when_leaves k f.tree rest b place bs (sym c.in_default.ensures.found);
     }
 
@@ -338,8 +359,8 @@ pub prefixed-read-requires : goal.prefixed-read-requires
 prefixed-read-requires m c =
     (omega (arith, c.loop-more.invariant.counted, c.loop-more.invariant.some, c.decreases), (omega arith, omega (arith, c.loop-more.invariant.counted, c.loop-more.invariant.some)))
 
-pub prefixed-returns-in_err-operand-clause-reads : goal.prefixed-returns-in_err-operand-clause-reads
-prefixed-returns-in_err-operand-clause-reads m c =
+pub prefixed-returns-in_err-last-clause-reads : goal.prefixed-returns-in_err-last-clause-reads
+prefixed-returns-in_err-last-clause-reads m c =
     let q = c.from_residual in
     let p = err_from_is_err_and q.result q.ensures.1 in
     let l = c.loop-more in
@@ -347,13 +368,13 @@ prefixed-returns-in_err-operand-clause-reads m c =
     let b = tightest c.args.below in
     let place = c.args.place in
     let none : after (prefix_sign pre) l.rest.now ≡ None = ap (λ s. after s l.rest.now) (sym c.sign_of.ensures) ∙ sym c.in_default.ensures.found in
-    follows_err _ _ (signed pre b place 1) (ask b) c.args.tokens.now l.rest.now _ p.0 _ p.1 p.2 (λ k. (signs pre b place l.count ∷ k, l.invariant.reads k ∙ signed_ends k l.rest.now pre b place l.count none)) c.in_err-operand.ensures.reads
+    follows_err _ _ (signed pre b place 1) (ask b) c.args.tokens.now l.rest.now _ p.0 _ p.1 p.2 (λ k. (signs pre b place l.count ∷ k, l.invariant.reads k ∙ signed_ends k l.rest.now pre b place l.count none)) c.in_err-last.ensures.reads
 
-pub prefixed-returns-in_err-prefixed-clause-reads : goal.prefixed-returns-in_err-prefixed-clause-reads
-prefixed-returns-in_err-prefixed-clause-reads m c =
-    let q = c.from_residual-in_err-prefixed in
+pub prefixed-returns-in_err-kept-clause-reads : goal.prefixed-returns-in_err-kept-clause-reads
+prefixed-returns-in_err-kept-clause-reads m c =
+    let q = c.from_residual-in_err-kept in
     let p = err_from_is_err_and q.result q.ensures.1 in
-    follows_free _ _ (signed c.args.prefix (tightest c.args.below) c.args.place 1) c.args.tokens.now _ p.0 _ p.1 p.2 c.in_err-prefixed.ensures.free
+    follows_free _ _ (signed c.args.prefix (tightest c.args.below) c.args.place 1) c.args.tokens.now _ p.0 _ p.1 p.2 c.in_err-kept.ensures.free
 
 pub prefixed-returns-clause-reads : goal.prefixed-returns-clause-reads
 prefixed-returns-clause-reads m c =
@@ -362,16 +383,16 @@ prefixed-returns-clause-reads m c =
     let b = tightest c.args.below in
     let place = c.args.place in
     let none : after (prefix_sign pre) l.rest.now ≡ None = ap (λ s. after s l.rest.now) (sym c.sign_of.ensures) ∙ sym c.in_default.ensures.found in
-    let o = c.in_ok-operand.ensures.reads in
+    let o = c.in_ok-last.ensures.reads in
     record {
       tree = prefix place pre l.count o.tree;
-      kept = c.in_ok-prefixed.ensures.made o.tree o.kept;
-      leads = λ k. l.invariant.reads k ∙ signed_ends k l.rest.now pre b place l.count none ∙ o.leads _ ∙ signs_fold k o.tree c.in_ok-operand.last.now pre b place l.count;
+      kept = c.in_ok-kept.ensures.made o.tree (ap read_of c.taken-operand.ensures ∙ o.kept);
+      leads = λ k. l.invariant.reads k ∙ signed_ends k l.rest.now pre b place l.count none ∙ o.leads _ ∙ signs_fold k o.tree c.in_ok-last.last.now pre b place l.count;
     }
 
 pub prefixed-returns-clause-shorter : goal.prefixed-returns-clause-shorter
 prefixed-returns-clause-shorter m c =
-    omega (arith, c.loop-more.invariant.counted, c.loop-more.invariant.some, c.in_ok-operand.ensures.shorter)
+    omega (arith, c.loop-more.invariant.counted, c.loop-more.invariant.some, c.in_ok-last.ensures.shorter)
 
 pub following-returns-in_err-rest-clause-reads : goal.following-returns-in_err-rest-clause-reads
 following-returns-in_err-rest-clause-reads m c =
@@ -381,13 +402,13 @@ following-returns-in_err-rest-clause-reads m c =
     let place = c.args.place in
     follows_missed _ _ (open_next place) xs xs sign.Open _ p.0 _ p.1 p.2 (λ k none. open_next_dies k xs place none) c.in_err-rest.ensures.passes
 
-pub following-returns-in_err-argument-clause-reads : goal.following-returns-in_err-argument-clause-reads
-following-returns-in_err-argument-clause-reads m c =
-    let q = c.from_residual-in_err-argument in
+pub following-returns-in_err-closing-clause-reads : goal.following-returns-in_err-closing-clause-reads
+following-returns-in_err-closing-clause-reads m c =
+    let q = c.from_residual-in_err-closing in
     let p = err_from_is_err_and q.result q.ensures.1 in
     let xs = c.args.tokens.now in
     let place = c.args.place in
-    follows_err _ _ (open_next place) (ask all_levels) xs c.in_ok-rest.rest.now _ p.0 _ p.1 p.2 (λ k. (following place ∷ k, open_next_goes k xs c.in_ok-rest.rest.now place c.in_ok-rest.ensures.passes)) c.in_err-argument.ensures.reads
+    follows_err _ _ (open_next place) (ask all_levels) xs c.in_ok-rest.rest.now _ p.0 _ p.1 p.2 (λ k. (following place ∷ k, open_next_goes k xs c.in_ok-rest.rest.now place c.in_ok-rest.ensures.passes)) c.in_err-closing.ensures.reads
 
 pub following-returns-in_err-last-clause-reads : goal.following-returns-in_err-last-clause-reads
 following-returns-in_err-last-clause-reads m c =
@@ -395,38 +416,38 @@ following-returns-in_err-last-clause-reads m c =
     let p = err_from_is_err_and q.result q.ensures.1 in
     let xs = c.args.tokens.now in
     let place = c.args.place in
-    let a = c.in_ok-argument.ensures.reads in
-    let closing = c.in_ok-argument.closing.now in
+    let a = c.in_ok-closing.ensures.reads in
+    let closing = c.in_ok-closing.closing.now in
     follows_missed _ _ (open_next place) xs closing sign.Close _ p.0 _ p.1 p.2 (λ k none. open_next_goes k xs c.in_ok-rest.rest.now place c.in_ok-rest.ensures.passes ∙ a.leads _ ∙ following_dies k a.tree closing place none) c.in_err-last.ensures.passes
 
-pub following-returns-in_err-next_value-clause-reads : goal.following-returns-in_err-next_value-clause-reads
-following-returns-in_err-next_value-clause-reads m c =
-    let q = c.from_residual-in_err-next_value in
+pub following-returns-in_err-kept-clause-reads : goal.following-returns-in_err-kept-clause-reads
+following-returns-in_err-kept-clause-reads m c =
+    let q = c.from_residual-in_err-kept in
     let p = err_from_is_err_and q.result q.ensures.1 in
-    follows_free _ _ (open_next c.args.place) c.args.tokens.now _ p.0 _ p.1 p.2 c.in_err-next_value.ensures.free
+    follows_free _ _ (open_next c.args.place) c.args.tokens.now _ p.0 _ p.1 p.2 c.in_err-kept.ensures.free
 
 pub following-returns-clause-reads : goal.following-returns-clause-reads
 following-returns-clause-reads m c =
     let xs = c.args.tokens.now in
     let place = c.args.place in
-    let a = c.in_ok-argument.ensures.reads in
-    let closing = c.in_ok-argument.closing.now in
+    let a = c.in_ok-closing.ensures.reads in
+    let closing = c.in_ok-closing.closing.now in
     record {
       tree = next place a.tree;
-      kept = c.in_ok-next_value.ensures.made a.tree a.kept;
+      kept = c.in_ok-kept.ensures.made a.tree (ap read_of c.taken-argument.ensures ∙ a.kept);
       leads = λ k. open_next_goes k xs c.in_ok-rest.rest.now place c.in_ok-rest.ensures.passes ∙ a.leads _ ∙ following_goes k a.tree closing c.in_ok-last.last.now place c.in_ok-last.ensures.passes;
     }
 
-pub listed-returns-in_err-member-clause-reads : goal.listed-returns-in_err-member-clause-reads
-listed-returns-in_err-member-clause-reads m c =
+pub listed-returns-in_err-more-clause-reads : goal.listed-returns-in_err-more-clause-reads
+listed-returns-in_err-more-clause-reads m c =
     let q = c.from_residual in
     let p = err_from_is_err_and q.result q.ensures.1 in
-    let l = c.loop-members in
+    let l = c.loop-member in
     let place = c.args.place in
     let what = c.args.what in
     let i = l.invariant.reads in
     let ts = i.0 in
-    follows_err _ _ (λ k. ask all_levels (listing place what [] ∷ k)) (ask all_levels) c.args.tokens.now l.rest.now _ p.0 _ p.1 p.2 (λ k. (listing place what ts ∷ k, i.2 k)) c.in_err-member.ensures.reads
+    follows_err _ _ (λ k. ask all_levels (listing place what [] ∷ k)) (ask all_levels) c.args.tokens.now l.rest.now _ p.0 _ p.1 p.2 (λ k. (listing place what ts ∷ k, i.2 k)) c.in_err-more.ensures.reads
 
 pub listed-returns-in_err-push-clause-reads : goal.listed-returns-in_err-push-clause-reads
 listed-returns-in_err-push-clause-reads m c =
@@ -434,47 +455,47 @@ listed-returns-in_err-push-clause-reads m c =
     let p = err_from_is_err_and q.result q.ensures.1 in
     follows_free _ _ (λ k. ask all_levels (listing c.args.place c.args.what [] ∷ k)) c.args.tokens.now _ p.0 _ p.1 p.2 c.in_err-push.ensures.free
 
-pub listed-loop-members-preserved : goal.listed-loop-members-preserved
-listed-loop-members-preserved m c =
-    let l = c.loop-members in
+pub listed-loop-member-preserved : goal.listed-loop-member-preserved
+listed-loop-member-preserved m c =
+    let l = c.loop-member in
     let place = c.args.place in
     let what = c.args.what in
     let i = l.invariant.reads in
     let ts = i.0 in
-    let f = c.in_ok-member.ensures.reads in
-    let more = c.in_ok-member.more.now in
+    let f = c.in_ok-more.ensures.reads in
+    let more = c.in_ok-more.more.now in
     record {
       reads = (
         ts ++ f.tree ∷ [],
         c.in_ok-push.ensures.made ts f.tree i.1 f.kept,
         λ k. i.2 k ∙ f.leads _ ∙ listing_goes k f.tree more c.in-Some.next.now place what ts (sym c.in-Some.ensures.found),
       );
-      shorter = omega (arith, l.invariant.shorter, c.in_ok-member.ensures.shorter, c.in-Some.ensures.shorter);
+      shorter = omega (arith, l.invariant.shorter, c.in_ok-more.ensures.shorter, c.in-Some.ensures.shorter);
     }
 
 pub listed-returns-in_err-last-in-None-clause-reads : goal.listed-returns-in_err-last-in-None-clause-reads
 listed-returns-in_err-last-in-None-clause-reads m c =
     let q = c.from_residual-in_err-last-in-None in
     let p = err_from_is_err_and q.result q.ensures.1 in
-    let l = c.loop-members in
+    let l = c.loop-member in
     let place = c.args.place in
     let what = c.args.what in
     let i = l.invariant.reads in
     let ts = i.0 in
-    let f = c.in_ok-member.ensures.reads in
-    let more = c.in_ok-member.more.now in
+    let f = c.in_ok-more.ensures.reads in
+    let more = c.in_ok-more.more.now in
     follows_missed _ _ (λ k. ask all_levels (listing place what [] ∷ k)) c.args.tokens.now more (closing_of what) _ p.0 _ p.1 p.2
     (λ k none. i.2 k ∙ f.leads _ ∙ listing_dies k f.tree more place what ts (sym c.in-None.ensures.found) none) (subst (λ s. Misses s more c.in_err-last-in-None.field-0.0) c.closing_of.ensures c.in_err-last-in-None.ensures.passes)
 
 pub listed-returns-in-None-clause-reads : goal.listed-returns-in-None-clause-reads
 listed-returns-in-None-clause-reads m c =
-    let l = c.loop-members in
+    let l = c.loop-member in
     let place = c.args.place in
     let what = c.args.what in
     let i = l.invariant.reads in
     let ts = i.0 in
-    let f = c.in_ok-member.ensures.reads in
-    let more = c.in_ok-member.more.now in
+    let f = c.in_ok-more.ensures.reads in
+    let more = c.in_ok-more.more.now in
     let last = c.in_ok-last-in-None.last.now in
     record {
       tree = listed place what (ts ++ f.tree ∷ []);
@@ -482,52 +503,52 @@ listed-returns-in-None-clause-reads m c =
       leads = λ k. i.2 k ∙ f.leads _ ∙ listing_ends k f.tree more last place what ts (sym c.in-None.ensures.found) (ap (λ s. after s more) (sym c.closing_of.ensures) ∙ c.in_ok-last-in-None.ensures.passes);
     }
 
-pub cases-returns-in_err-when-clause-reads : goal.cases-returns-in_err-when-clause-reads
-cases-returns-in_err-when-clause-reads m c =
+pub cases-returns-in_err-more-clause-reads : goal.cases-returns-in_err-more-clause-reads
+cases-returns-in_err-more-clause-reads m c =
     let q = c.from_residual in
     let p = err_from_is_err_and q.result q.ensures.1 in
-    let l = c.loop-branches in
+    let l = c.loop-when in
     let place = c.args.place in
     let i = l.invariant.reads in
     let bs = i.0 in
-    follows_err _ _ (λ k. ask all_levels (condition place [] ∷ k)) (ask all_levels) c.args.tokens.now l.rest.now _ p.0 _ p.1 p.2 (λ k. (condition place bs ∷ k, i.2 k)) c.in_err-when.ensures.reads
+    follows_err _ _ (λ k. ask all_levels (condition place [] ∷ k)) (ask all_levels) c.args.tokens.now l.rest.now _ p.0 _ p.1 p.2 (λ k. (condition place bs ∷ k, i.2 k)) c.in_err-more.ensures.reads
 
 pub cases-returns-in_err-behind-clause-reads : goal.cases-returns-in_err-behind-clause-reads
 cases-returns-in_err-behind-clause-reads m c =
     let q = c.from_residual-in_err-behind in
     let p = err_from_is_err_and q.result q.ensures.1 in
-    let l = c.loop-branches in
+    let l = c.loop-when in
     let place = c.args.place in
     let i = l.invariant.reads in
     let bs = i.0 in
-    let w = c.in_ok-when.ensures.reads in
-    let more = c.in_ok-when.more.now in
+    let w = c.in_ok-more.ensures.reads in
+    let more = c.in_ok-more.more.now in
     follows_missed _ _ (λ k. ask all_levels (condition place [] ∷ k)) c.args.tokens.now more sign.Colon _ p.0 _ p.1 p.2 (λ k none. i.2 k ∙ w.leads _ ∙ condition_dies k w.tree more place bs none) c.in_err-behind.ensures.passes
 
-pub cases-returns-in_err-value-clause-reads : goal.cases-returns-in_err-value-clause-reads
-cases-returns-in_err-value-clause-reads m c =
-    let q = c.from_residual-in_err-value in
+pub cases-returns-in_err-end-clause-reads : goal.cases-returns-in_err-end-clause-reads
+cases-returns-in_err-end-clause-reads m c =
+    let q = c.from_residual-in_err-end in
     let p = err_from_is_err_and q.result q.ensures.1 in
-    let l = c.loop-branches in
+    let l = c.loop-when in
     let place = c.args.place in
     let i = l.invariant.reads in
     let bs = i.0 in
-    let w = c.in_ok-when.ensures.reads in
-    let more = c.in_ok-when.more.now in
-    follows_err _ _ (λ k. ask all_levels (condition place [] ∷ k)) (ask all_levels) c.args.tokens.now c.in_ok-behind.behind.now _ p.0 _ p.1 p.2 (λ k. (result place bs w.tree ∷ k, i.2 k ∙ w.leads _ ∙ condition_goes k w.tree more c.in_ok-behind.behind.now place bs c.in_ok-behind.ensures.passes)) c.in_err-value.ensures.reads
+    let w = c.in_ok-more.ensures.reads in
+    let more = c.in_ok-more.more.now in
+    follows_err _ _ (λ k. ask all_levels (condition place [] ∷ k)) (ask all_levels) c.args.tokens.now c.in_ok-behind.behind.now _ p.0 _ p.1 p.2 (λ k. (result place bs w.tree ∷ k, i.2 k ∙ w.leads _ ∙ condition_goes k w.tree more c.in_ok-behind.behind.now place bs c.in_ok-behind.ensures.passes)) c.in_err-end.ensures.reads
 
 pub cases-returns-in_err-last-clause-reads : goal.cases-returns-in_err-last-clause-reads
 cases-returns-in_err-last-clause-reads m c =
     let q = c.from_residual-in_err-last in
     let p = err_from_is_err_and q.result q.ensures.1 in
-    let l = c.loop-branches in
+    let l = c.loop-when in
     let place = c.args.place in
     let i = l.invariant.reads in
     let bs = i.0 in
-    let w = c.in_ok-when.ensures.reads in
-    let more = c.in_ok-when.more.now in
-    let v = c.in_ok-value.ensures.reads in
-    let end = c.in_ok-value.end.now in
+    let w = c.in_ok-more.ensures.reads in
+    let more = c.in_ok-more.more.now in
+    let v = c.in_ok-end.ensures.reads in
+    let end = c.in_ok-end.end.now in
     follows_missed _ _ (λ k. ask all_levels (condition place [] ∷ k)) c.args.tokens.now end sign.Semicolon _ p.0 _ p.1 p.2 (λ k none. i.2 k ∙ w.leads _ ∙ condition_goes k w.tree more c.in_ok-behind.behind.now place bs c.in_ok-behind.ensures.passes ∙ v.leads _ ∙ result_dies k v.tree end place bs w.tree none) c.in_err-last.ensures.passes
 
 pub cases-returns-in_err-push-clause-reads : goal.cases-returns-in_err-push-clause-reads
@@ -538,14 +559,14 @@ cases-returns-in_err-push-clause-reads m c =
 
 pub cases-returns-in-Some-clause-reads : goal.cases-returns-in-Some-clause-reads
 cases-returns-in-Some-clause-reads m c =
-    let l = c.loop-branches in
+    let l = c.loop-when in
     let place = c.args.place in
     let i = l.invariant.reads in
     let bs = i.0 in
-    let w = c.in_ok-when.ensures.reads in
-    let more = c.in_ok-when.more.now in
-    let v = c.in_ok-value.ensures.reads in
-    let end = c.in_ok-value.end.now in
+    let w = c.in_ok-more.ensures.reads in
+    let more = c.in_ok-more.more.now in
+    let v = c.in_ok-end.ensures.reads in
+    let end = c.in_ok-end.end.now in
     let last = c.in_ok-last.last.now in
     let bs' = bs ++ (w.tree, v.tree) ∷ [] in
     record {
@@ -556,22 +577,22 @@ cases-returns-in-Some-clause-reads m c =
 
 pub cases-returns-in-Some-clause-shorter : goal.cases-returns-in-Some-clause-shorter
 cases-returns-in-Some-clause-shorter m c =
-    omega (arith, c.loop-branches.invariant.shorter, c.in_ok-when.ensures.shorter, c.in_ok-behind.ensures.shorter, c.in_ok-value.ensures.shorter, c.in_ok-last.ensures.shorter, c.in-Some.ensures.shorter)
+    omega (arith, c.loop-when.invariant.shorter, c.in_ok-more.ensures.shorter, c.in_ok-behind.ensures.shorter, c.in_ok-end.ensures.shorter, c.in_ok-last.ensures.shorter, c.in-Some.ensures.shorter)
 
-pub cases-loop-branches-smaller : goal.cases-loop-branches-smaller
-cases-loop-branches-smaller m c =
-    omega (arith, c.in_ok-when.ensures.shorter, c.in_ok-behind.ensures.shorter, c.in_ok-value.ensures.shorter, c.in_ok-last.ensures.shorter)
+pub cases-loop-when-smaller : goal.cases-loop-when-smaller
+cases-loop-when-smaller m c =
+    omega (arith, c.in_ok-more.ensures.shorter, c.in_ok-behind.ensures.shorter, c.in_ok-end.ensures.shorter, c.in_ok-last.ensures.shorter)
 
-pub cases-loop-branches-preserved : goal.cases-loop-branches-preserved
-cases-loop-branches-preserved m c =
-    let l = c.loop-branches in
+pub cases-loop-when-preserved : goal.cases-loop-when-preserved
+cases-loop-when-preserved m c =
+    let l = c.loop-when in
     let place = c.args.place in
     let i = l.invariant.reads in
     let bs = i.0 in
-    let w = c.in_ok-when.ensures.reads in
-    let more = c.in_ok-when.more.now in
-    let v = c.in_ok-value.ensures.reads in
-    let end = c.in_ok-value.end.now in
+    let w = c.in_ok-more.ensures.reads in
+    let more = c.in_ok-more.more.now in
+    let v = c.in_ok-end.ensures.reads in
+    let end = c.in_ok-end.end.now in
     let last = c.in_ok-last.last.now in
     let bs' = bs ++ (w.tree, v.tree) ∷ [] in
     record {
@@ -580,7 +601,7 @@ cases-loop-branches-preserved m c =
         c.in_ok-push.ensures.made bs w.tree v.tree i.1 w.kept v.kept,
         λ k. i.2 k ∙ w.leads _ ∙ condition_goes k w.tree more c.in_ok-behind.behind.now place bs c.in_ok-behind.ensures.passes ∙ v.leads _ ∙ result_goes k v.tree end last place bs w.tree c.in_ok-last.ensures.passes ∙ case_more k last place bs' (sym c.in-None.ensures.found),
       );
-      shorter = omega (arith, l.invariant.shorter, c.in_ok-when.ensures.shorter, c.in_ok-behind.ensures.shorter, c.in_ok-value.ensures.shorter, c.in_ok-last.ensures.shorter);
+      shorter = omega (arith, l.invariant.shorter, c.in_ok-more.ensures.shorter, c.in_ok-behind.ensures.shorter, c.in_ok-end.ensures.shorter, c.in_ok-last.ensures.shorter);
     }
 
 pub primary-returns-in-None-clause-reads : goal.primary-returns-in-None-clause-reads
@@ -597,7 +618,7 @@ primary-returns-in-Number-clause-reads m c =
     let by : leader.Number c.in-Number.n ≡ leader_of x.kind = sym c.in-Number.is ∙ c.leader_of.ensures in
     record {
       tree = number x.place c.in-Number.n;
-      kept = leaf_number _ x.place c.in-Number.n c.leaf.ensures;
+      kept = leaf_number _ x.place c.in-Number.n c.put_leaf.ensures;
       leads = λ k. ap (λ zs. walk zs (ask [] k)) is ∙ leads_by k x xs (leader.Number c.in-Number.n) by;
     }
 
@@ -610,7 +631,7 @@ primary-returns-in-Literal-clause-reads m c =
     let by : leader.Literal c.in-Literal.word ≡ leader_of x.kind = sym c.in-Literal.is ∙ c.leader_of.ensures in
     record {
       tree = literal x.place c.in-Literal.word;
-      kept = leaf_literal _ x.place c.in-Literal.word c.leaf-in-Literal.ensures;
+      kept = leaf_literal _ x.place c.in-Literal.word c.put_leaf-in-Literal.ensures;
       leads = λ k. ap (λ zs. walk zs (ask [] k)) is ∙ leads_by k x xs (leader.Literal c.in-Literal.word) by;
     }
 
@@ -623,7 +644,7 @@ primary-returns-in-Truth-true-clause-reads m c =
     let by : leader.Truth true ≡ leader_of x.kind = ap leader.Truth (sym c.in-Truth-true.field-0-test) ∙ sym c.in-Truth-true.is ∙ c.leader_of.ensures in
     record {
       tree = truth x.place true;
-      kept = leaf_true _ x.place c.leaf-in-Truth-true.ensures;
+      kept = leaf_true _ x.place c.put_leaf-in-Truth-true.ensures;
       leads = λ k. ap (λ zs. walk zs (ask [] k)) is ∙ leads_by k x xs (leader.Truth true) by;
     }
 
@@ -636,7 +657,7 @@ primary-returns-in-Truth-false-clause-reads m c =
     let by : leader.Truth false ≡ leader_of x.kind = ap leader.Truth (sym c.in-Truth-false.field-0-test) ∙ sym c.in-Truth-false.is ∙ c.leader_of.ensures in
     record {
       tree = truth x.place false;
-      kept = leaf_false _ x.place c.leaf-in-Truth-false.ensures;
+      kept = leaf_false _ x.place c.put_leaf-in-Truth-false.ensures;
       leads = λ k. ap (λ zs. walk zs (ask [] k)) is ∙ leads_by k x xs (leader.Truth false) by;
     }
 
@@ -663,47 +684,47 @@ primary-returns-in_ok-path-in-Path-clause-reads m c =
     let f : first_path (x ∷ xs) ≡ found q last = subst (λ zs. first_path zs ≡ found q last) is c.in_ok-path-in-Path.ensures.found in
     record {
       tree = name x.place q;
-      kept = leaf_name _ x.place q c.leaf-in-Path.ensures;
+      kept = leaf_name _ x.place q c.put_leaf-in-Path.ensures;
       leads = λ k. ap (λ zs. walk zs (ask [] k)) is ∙ path_begins k x xs by ∙ ap (λ g. named_on g k) f ∙ ap (λ p. walk last (have (name p q) k)) (path_place x xs last q f);
     }
 
-pub primary-returns-in_err-kept-in-Bracket-clause-reads : goal.primary-returns-in_err-kept-in-Bracket-clause-reads
-primary-returns-in_err-kept-in-Bracket-clause-reads m c =
-    let q = c.from_residual-in_err-kept-in-Bracket in
+pub primary-returns-in_err-closing-in-Bracket-clause-reads : goal.primary-returns-in_err-closing-in-Bracket-clause-reads
+primary-returns-in_err-closing-in-Bracket-clause-reads m c =
+    let q = c.from_residual-in_err-closing-in-Bracket in
     let p = err_from_is_err_and q.result q.ensures.1 in
     let x = c.in-Some.token.now in
     let xs = c.in-Some.rest.now in
     let ys = c.args.tokens.now in
     let is : ys ≡ x ∷ xs = c.in-Some.ensures.cases.0 in
     let by : leader.Bracket ≡ leader_of x.kind = sym c.in-Bracket.is ∙ c.leader_of.ensures in
-    follows_err _ _ (ask []) (ask all_levels) ys xs _ p.0 _ p.1 p.2 (λ k. (bracket ∷ k, ap (λ zs. walk zs (ask [] k)) is ∙ leads_by k x xs (leader.Bracket) by)) c.in_err-kept-in-Bracket.ensures.reads
+    follows_err _ _ (ask []) (ask all_levels) ys xs _ p.0 _ p.1 p.2 (λ k. (bracket ∷ k, ap (λ zs. walk zs (ask [] k)) is ∙ leads_by k x xs (leader.Bracket) by)) c.in_err-closing-in-Bracket.ensures.reads
 
-pub primary-returns-in_err-expect-in-Bracket-clause-reads : goal.primary-returns-in_err-expect-in-Bracket-clause-reads
-primary-returns-in_err-expect-in-Bracket-clause-reads m c =
-    let q = c.from_residual-in_err-expect-in-Bracket in
+pub primary-returns-in_err-last-in-Bracket-clause-reads : goal.primary-returns-in_err-last-in-Bracket-clause-reads
+primary-returns-in_err-last-in-Bracket-clause-reads m c =
+    let q = c.from_residual-in_err-last-in-Bracket in
     let p = err_from_is_err_and q.result q.ensures.1 in
     let x = c.in-Some.token.now in
     let xs = c.in-Some.rest.now in
     let ys = c.args.tokens.now in
     let is : ys ≡ x ∷ xs = c.in-Some.ensures.cases.0 in
     let by : leader.Bracket ≡ leader_of x.kind = sym c.in-Bracket.is ∙ c.leader_of.ensures in
-    let f = c.in_ok-kept-in-Bracket.ensures.reads in
-    let closing = c.in_ok-kept-in-Bracket.closing.now in
-    follows_missed _ _ (ask []) ys closing sign.Close _ p.0 _ p.1 p.2 (λ k none. ap (λ zs. walk zs (ask [] k)) is ∙ leads_by k x xs (leader.Bracket) by ∙ f.leads _ ∙ bracket_dies k f.tree closing none) c.in_err-expect-in-Bracket.ensures.passes
+    let f = c.in_ok-closing-in-Bracket.ensures.reads in
+    let closing = c.in_ok-closing-in-Bracket.closing.now in
+    follows_missed _ _ (ask []) ys closing sign.Close _ p.0 _ p.1 p.2 (λ k none. ap (λ zs. walk zs (ask [] k)) is ∙ leads_by k x xs (leader.Bracket) by ∙ f.leads _ ∙ bracket_dies k f.tree closing none) c.in_err-last-in-Bracket.ensures.passes
 
-pub primary-returns-in_ok-expect-in-Bracket-clause-reads : goal.primary-returns-in_ok-expect-in-Bracket-clause-reads
-primary-returns-in_ok-expect-in-Bracket-clause-reads m c =
+pub primary-returns-in_ok-last-in-Bracket-clause-reads : goal.primary-returns-in_ok-last-in-Bracket-clause-reads
+primary-returns-in_ok-last-in-Bracket-clause-reads m c =
     let x = c.in-Some.token.now in
     let xs = c.in-Some.rest.now in
     let ys = c.args.tokens.now in
     let is : ys ≡ x ∷ xs = c.in-Some.ensures.cases.0 in
     let by : leader.Bracket ≡ leader_of x.kind = sym c.in-Bracket.is ∙ c.leader_of.ensures in
-    let f = c.in_ok-kept-in-Bracket.ensures.reads in
-    let closing = c.in_ok-kept-in-Bracket.closing.now in
+    let f = c.in_ok-closing-in-Bracket.ensures.reads in
+    let closing = c.in_ok-closing-in-Bracket.closing.now in
     record {
       tree = f.tree;
       kept = f.kept;
-      leads = λ k. ap (λ zs. walk zs (ask [] k)) is ∙ leads_by k x xs (leader.Bracket) by ∙ f.leads _ ∙ bracket_goes k f.tree closing c.in_ok-expect-in-Bracket.field-0.now c.in_ok-expect-in-Bracket.ensures.passes;
+      leads = λ k. ap (λ zs. walk zs (ask [] k)) is ∙ leads_by k x xs (leader.Bracket) by ∙ f.leads _ ∙ bracket_goes k f.tree closing c.in_ok-last-in-Bracket.last.now c.in_ok-last-in-Bracket.ensures.passes;
     }
 
 pub primary-returns-in-Set-clause-reads : goal.primary-returns-in-Set-clause-reads

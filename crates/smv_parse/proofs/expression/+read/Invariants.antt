@@ -46,7 +46,7 @@ decreases-cases l = 50 * length l.tokens.now + 40
 
 abbrev pub invariant-climb-loop-below : goal.invariant-climb-loop-below
 invariant-climb-loop-below l = record {
-  reads : (t : Tree) → read_of l.fn.first ≡ cap t
+  reads : (t : Tree) → read_of l.fn.kept ≡ cap t
       → Reads (λ k. have t (waiting l.level l.levels l.place k)) (λ k. waiting l.below l.levels l.place k) l.tokens (read_of l.kept) l.rest;
   shorter : length l.rest ≤ length l.tokens;
 }
@@ -56,7 +56,7 @@ decreases-climb-loop-below l = l.levels - l.below
 
 abbrev pub invariant-chain-loop-op : goal.invariant-chain-loop-op
 invariant-chain-loop-op l = record {
-  reads : (t : Tree) → read_of l.first ≡ cap t
+  reads : (t : Tree) → read_of l.kept ≡ cap t
       → (ls : List (Infix × Tree)) × AreOperands t ls l.operands
       × ((k : List Frame) → walk l.tokens (have t (operand l.joint (tightest l.below) l.place bare ∷ k)) ≡ chained l.joint (tightest l.below) l.place (record { first = t; links = ls }) k l.rest);
   shorter : length l.rest ≤ length l.tokens;
@@ -67,9 +67,9 @@ decreases-chain-loop-op l = length l.rest
 
 abbrev pub invariant-choice-loop-more : goal.invariant-choice-loop-more
 invariant-choice-loop-more l = record {
-  reads : (t : Tree) → read_of l.fn.first ≡ cap t
+  reads : (t : Tree) → read_of l.fn.kept ≡ cap t
       → (bs : List (Tree × Tree)) × AreCases bs l.branches
-      × Reads (λ k. have t (when (tightest l.below) l.place [] ∷ k)) (λ k. when (tightest l.below) l.place bs ∷ k) l.tokens (read_of l.last) l.rest;
+      × Reads (λ k. have t (when (tightest l.below) l.place [] ∷ k)) (λ k. when (tightest l.below) l.place bs ∷ k) l.tokens (read_of l.kept) l.rest;
   shorter : length l.rest ≤ length l.tokens;
 }
 
@@ -86,22 +86,22 @@ invariant-prefixed-loop-more l = record {
 abbrev pub decreases-prefixed-loop-more : goal.decreases-prefixed-loop-more
 decreases-prefixed-loop-more l = length l.rest
 
-abbrev pub invariant-listed-loop-members : goal.invariant-listed-loop-members
-invariant-listed-loop-members l = record {
+abbrev pub invariant-listed-loop-member : goal.invariant-listed-loop-member
+invariant-listed-loop-member l = record {
   reads : (ts : List Tree) × AreMembers ts l.members
       × ((k : List Frame) → walk l.tokens (ask all_levels (listing l.place l.what [] ∷ k)) ≡ walk l.rest (ask all_levels (listing l.place l.what ts ∷ k)));
   shorter : length l.rest ≤ length l.tokens;
 }
 
-abbrev pub decreases-listed-loop-members : goal.decreases-listed-loop-members
-decreases-listed-loop-members l = length l.rest
+abbrev pub decreases-listed-loop-member : goal.decreases-listed-loop-member
+decreases-listed-loop-member l = length l.rest
 
-abbrev pub invariant-cases-loop-branches : goal.invariant-cases-loop-branches
-invariant-cases-loop-branches l = record {
+abbrev pub invariant-cases-loop-when : goal.invariant-cases-loop-when
+invariant-cases-loop-when l = record {
   reads : (bs : List (Tree × Tree)) × AreCases bs l.branches
       × ((k : List Frame) → walk l.tokens (ask all_levels (condition l.place [] ∷ k)) ≡ walk l.rest (ask all_levels (condition l.place bs ∷ k)));
   shorter : length l.rest ≤ length l.tokens;
 }
 
-abbrev pub decreases-cases-loop-branches : goal.decreases-cases-loop-branches
-decreases-cases-loop-branches l = length l.rest
+abbrev pub decreases-cases-loop-when : goal.decreases-cases-loop-when
+decreases-cases-loop-when l = length l.rest

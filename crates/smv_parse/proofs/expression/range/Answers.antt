@@ -35,7 +35,7 @@ returns-clause-reads c =
     let high_is : to_z w64 (of_z w64 high) ≡ high = omega (arith, ints) in
     record {
       tree = range c.args.place low high;
-      kept = leaf_range _ c.args.place _ _ c.leaf.ensures ∙ ap (λ z. cap (range c.args.place z (to_z w64 (of_z w64 high)))) low_is ∙ ap (λ z. cap (range c.args.place low z)) high_is;
+      kept = leaf_range _ c.args.place _ _ c.put_leaf.ensures ∙ ap (λ z. cap (range c.args.place z (to_z w64 (of_z w64 high)))) low_is ∙ ap (λ z. cap (range c.args.place low z)) high_is;
       leads = λ k. range_goes k xs c.in_ok-low.dots.now behind low c.in_ok-low.ensures.found c.in_ok-behind.ensures.passes ∙ upto_goes k behind rest (start xs) low high c.in_ok-high.ensures.found
           ∙ ap (λ p. walk rest (have (range p low high) k)) (sym c.requires.first);
     }

@@ -1,6 +1,7 @@
-use Rattle.std.proofs.Common.{◌∷◌, sym, ◌∙◌, arith}
+use Rattle.std.proofs.Common.{◌∷◌, sym, ap, ◌∙◌, arith}
 use Rattle.std.proofs.lemmas.Result.{err_from_is_err_and}
 use Rattle.smv_text.specs.Tree.{select}
+use Rattle.smv_parse.specs.Gathered.{read_of}
 use Rattle.smv_parse.specs.Machine.{selected, have, high_end}
 use Rattle.smv_parse.proofs.Steps.{selected_goes, selected_leaves}
 use Rattle.smv_parse.proofs.Climbing.{selects_dies, follows_err, follows_free}
@@ -31,7 +32,7 @@ loop-more-preserved c =
           let f = l.invariant.reads t h in
           record {
             tree = select place f.tree c.in_ok-high.high c.in_ok-high.low;
-            kept = c.in_ok-kept.ensures.made f.tree f.kept;
+            kept = c.in_ok-kept.ensures.made f.tree (ap read_of c.taken-word.ensures ∙ f.kept);
             leads = λ k. f.leads k ∙ selected_goes k f.tree l.rest.now c.in-Some.more.now place (sym c.in-Some.ensures.found) ∙ c.in_ok-high.ensures.reads place f.tree k;
           };
       shorter = omega (arith, l.invariant.shorter, c.in-Some.ensures.shorter, c.in_ok-high.ensures.shorter);

@@ -8,7 +8,7 @@ use Rattle.smv_parse.proofs.expression.selections.Given as goal
 
 abbrev pub invariant-loop-more : goal.invariant-loop-more
 invariant-loop-more l = record {
-  reads : (t : Tree) → read_of l.fn.first ≡ cap t → Reads (λ k. have t (selected l.place ∷ k)) (λ k. selected l.place ∷ k) l.tokens (read_of l.kept) l.rest;
+  reads : (t : Tree) → read_of l.fn.kept ≡ cap t → Reads (λ k. have t (selected l.place ∷ k)) (λ k. selected l.place ∷ k) l.tokens (read_of l.kept) l.rest;
   shorter : length l.rest ≤ length l.tokens;
 }
 

@@ -8,11 +8,11 @@ use Rattle.smv_parse.specs.Gathered.{read_of}
 use Rattle.smv_parse.proofs.Asked.{expression_reads, expression_loses}
 use Rattle.smv_parse.proofs.module_types.kept_expression.Goals as goal
 
-pub returns-in_err-kept-clause-reads : goal.returns-in_err-kept-clause-reads
-returns-in_err-kept-clause-reads c =
-    gives_exit _ (expression c.args.high c.args.tokens.now) (expression c.args.high c.args.tokens.now) _ _ (err_from_is_err_and c.from_residual.result c.from_residual.ensures.1) (λ n e. e) (expression_loses c.args.high c.args.tokens.now _ c.in_err-kept.ensures.takes)
+pub returns-in_err-rest-clause-reads : goal.returns-in_err-rest-clause-reads
+returns-in_err-rest-clause-reads c =
+    gives_exit _ (expression c.args.high c.args.tokens.now) (expression c.args.high c.args.tokens.now) _ _ (err_from_is_err_and c.from_residual.result c.from_residual.ensures.1) (λ n e. e) (expression_loses c.args.high c.args.tokens.now _ c.in_err-rest.ensures.takes)
 
 pub returns-clause-reads : goal.returns-clause-reads
 returns-clause-reads c =
-    expression_reads c.args.high c.args.tokens.now c.in_ok-kept.rest.now (read_of c.in_ok-kept.kept) c.in_ok-kept.ensures.takes
-    ∙ ap (λ z. found (plain c.in_ok-kept.kept.expr) z c.in_ok-kept.rest.now) (ap (high_or c.args.high c.in_ok-kept.kept.height) (sym c.place_of.ensures) ∙ sym c.high_after-high_now.ensures)
+    expression_reads c.args.high c.args.tokens.now c.in_ok-rest.rest.now (read_of c.expression.new.kept) c.in_ok-rest.ensures.takes
+    ∙ ap (λ z. found (plain c.expression.new.kept.expr) z c.in_ok-rest.rest.now) (ap (high_or c.args.high c.expression.new.kept.height) (sym c.place_of.ensures) ∙ sym c.high_after-high_now.ensures)

@@ -1,0 +1,106 @@
+// A name: few bytes that don't change.
+ghost use Rattle.std.specs.Prelude.{◌≡◌, ◌≤◌, [], IfOk, length};
+
+use crate::errors::NoMemory;
+use std::alloc::Global;
+use std::marker::Model;
+
+// The most bytes that lie in place: with them a name is as small as a list of bytes.
+const SHORT: usize = 22;
+
+/// A name, seen as its bytes. A short one lies in place, since most names are short and there are many of them.
+#[derive(Debug, Drop)]
+pub struct Name {
+    content: Content,
+}
+
+// The bytes of a name. A long one has a box, so that it is no larger than a short one.
+#[derive(Debug, Drop)]
+enum Content {
+    // How many bytes there are, and room with them at its front.
+    Short(u8, [u8; SHORT]),
+    Long(Box<Vec<u8>>),
+}
+
+impl Model for Name {
+    ghost use Rattle.std.specs.Prelude.{List, ℕ};
+    ghost use Rattle.text_core.specs.NameBytes.{content_bytes, IsSound};
+
+    ghost Value = { List ℕ };
+
+    ghost view = { λ n. content_bytes n.content };
+
+    ghost invariant = { λ n. IsSound n.content };
+}
+
+impl Name {
+    /// The name with exactly these bytes.
+    pub fn of(alloc: Global, bytes: &[u8]) -> Result<Name, NoMemory>
+        ensures { IfOk result (λ name. name ≡ bytes.now) }
+    {
+        if bytes.len() <= SHORT {
+            Ok(Name::short(bytes))
+        } else {
+            Name::long(alloc, bytes)
+        }
+    }
+
+    // The name with no bytes.
+    pub(crate) fn empty() -> Name
+        ensures { result ≡ [] }
+    {
+        Name {
+            content: Content::Short(0, [0u8; SHORT]),
+        }
+    }
+
+    // The name with these bytes, in place.
+    fn short(bytes: &[u8]) -> Name
+        requires { length bytes.now ≤ 22 }
+        ensures { result ≡ bytes.now }
+    {
+        let mut room = [0u8; SHORT];
+        room[..bytes.len()].copy_from_slice(bytes);
+        Name {
+            content: Content::Short(bytes.len() as u8, room),
+        }
+    }
+
+    // The name with these bytes, in memory of its own.
+    #[cold]
+    #[inline(never)]
+    fn long(alloc: Global, bytes: &[u8]) -> Result<Name, NoMemory>
+        ensures { IfOk result (λ name. name ≡ bytes.now) }
+    {
+        match Vec::from_slice(alloc, bytes) {
+            Ok(own) => match Box::new(alloc, own) {
+                Ok(own) => Ok(Name {
+                    content: Content::Long(own),
+                }),
+                Err(_) => Err(NoMemory),
+            },
+            Err(_) => Err(NoMemory),
+        }
+    }
+
+    /// The same name once more.
+    pub fn duplicate(&self, alloc: Global) -> Result<Name, NoMemory>
+        ensures { IfOk result (λ name. name ≡ self.now) }
+    {
+        match &self.content {
+            Content::Short(length, room) => Ok(Name {
+                content: Content::Short(*length, *room),
+            }),
+            Content::Long(bytes) => Name::long(alloc, bytes.as_slice()),
+        }
+    }
+
+    pub fn bytes(&self) -> &[u8]
+        ensures { result.now ≡ self.now }
+    {
+        match &self.content {
+            Content::Short(length, room) => &room[..*length as usize],
+            Content::Long(bytes) => bytes.as_slice(),
+        }
+    }
+}

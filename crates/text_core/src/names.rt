@@ -1,0 +1,100 @@
+// A list of names: a single one lies in place, since most paths are a single name.
+ghost use Rattle.std.specs.Prelude.{◌≡◌, ◌<◌, ◌++◌, [], ◌∷◌, length, OnOk, OnErr, slice_index_or};
+
+use crate::errors::NoMemory;
+use crate::name::Name;
+use std::alloc::Global;
+use std::marker::Model;
+use std::mem;
+
+/// A list of names, seen as a list of their bytes.
+#[derive(Debug, Drop)]
+pub struct Names {
+    held: Held,
+    alloc: Global,
+}
+
+#[derive(Debug, Drop)]
+enum Held {
+    One(Name),
+    Many(Vec<Name>),
+}
+
+impl Model for Names {
+    ghost use Rattle.std.specs.Prelude.{List, ℕ};
+    ghost use Rattle.text_core.specs.Names.{held_names};
+
+    ghost Value = { List (List ℕ) };
+
+    ghost view = { λ l. held_names l.held };
+}
+
+impl Names {
+    /// The empty list. It takes no memory.
+    pub fn new(alloc: Global) -> Names
+        ensures { result ≡ [] }
+    {
+        Names {
+            held: Held::Many(Vec::new(alloc)),
+            alloc,
+        }
+    }
+
+    /// The list of this name alone.
+    pub fn one(alloc: Global, name: Name) -> Names
+        ensures { result ≡ name ∷ [] }
+    {
+        Names {
+            held: Held::One(name),
+            alloc,
+        }
+    }
+
+    /// Adds x at the end, and leaves the list unchanged where it is refused.
+    pub fn push(&mut self, x: Name) -> Result<(), NoMemory>
+        ensures ok { OnOk result (self.new ≡ self.old ++ x ∷ []) }
+        ensures err { OnErr result (self.new ≡ self.old) }
+    {
+        match &mut self.held {
+            Held::Many(names) => {
+                if !names.is_empty() {
+                    return match names.push(x) {
+                        Ok(()) => Ok(()),
+                        Err(_) => Err(NoMemory),
+                    };
+                }
+            }
+            Held::One(first) => match Vec::with_capacity(self.alloc, 4) {
+                Ok(names) => {
+                    let mut names = names;
+                    names.push_reserved(mem::replace(first, Name::empty()));
+                    names.push_reserved(x);
+                    self.held = Held::Many(names);
+                    return Ok(());
+                }
+                Err(_) => return Err(NoMemory),
+            },
+        }
+        self.held = Held::One(x);
+        Ok(())
+    }
+
+    pub fn len(&self) -> usize
+        ensures { result ≡ length self.now }
+    {
+        match &self.held {
+            Held::One(_) => 1,
+            Held::Many(names) => names.len(),
+        }
+    }
+
+    pub fn at(&self, i: usize) -> &Name
+        requires { i < length self.now }
+        ensures { result.now ≡ slice_index_or self.now i result.now }
+    {
+        match &self.held {
+            Held::One(name) => name,
+            Held::Many(names) => &names[i],
+        }
+    }
+}
