@@ -33,6 +33,7 @@ pub use checked::{
 pub use laws::{typed_is_safe, values_lie};
 pub use model_value::value_at;
 pub use modules::ModuleTable;
+pub use paths::{put_all_paths, put_paths};
 pub use references::{Ordering, formula_order};
 pub use name_map::{NameMap, no_names, put, value_under};
 pub use names::{Known, Target};

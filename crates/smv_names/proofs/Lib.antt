@@ -4,3 +4,4 @@ pub mod Above
 pub mod Walks
 pub mod FirstPart
 pub mod Visiting
+pub mod PathLemmas
