@@ -5,3 +5,4 @@ pub mod Walks
 pub mod FirstPart
 pub mod Visiting
 pub mod PathLemmas
+pub mod CycleLemmas
