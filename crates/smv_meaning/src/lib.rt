@@ -3,6 +3,7 @@
 
 mod children;
 mod evaluate;
+mod found;
 mod functions;
 mod instances;
 mod laws;
