@@ -14,3 +14,4 @@ pub mod Safety
 pub mod View
 pub mod Owed
 pub mod NameMap
+pub mod Leads

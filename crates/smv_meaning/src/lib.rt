@@ -1,17 +1,20 @@
 //! The meaning of SMV models: values, instances, names, expressions, types, checks and runs.
 #![tactic(auto)]
 
+mod aliases;
 mod children;
 mod evaluate;
-mod found;
 mod functions;
 mod instances;
+mod keys;
 mod laws;
+mod leads;
 mod model_value;
 mod modules;
 mod name_map;
 mod names;
 mod operators;
+mod parts;
 mod scopes;
 mod seen;
 mod symbols;
