@@ -5,6 +5,8 @@ pub mod Evaluating
 pub mod NameLemmas
 pub mod ChildLemmas
 pub mod Grow
+pub mod KeyLemmas
+pub mod LeadLemmas
 pub mod ScopeLemmas
 pub mod TableLemmas
 pub mod Intervals

@@ -1,14 +1,17 @@
 //! The meaning of SMV models: values, instances, names, expressions, types, checks and runs.
 #![tactic(auto)]
 
+mod aliases;
 mod children;
 mod checked;
 mod evaluate;
 mod formulas;
 mod functions;
 mod instances;
+mod keys;
 mod laws;
 mod literals;
+mod leads;
 mod model_value;
 mod modules;
 mod name_map;
@@ -16,6 +19,7 @@ mod names;
 mod operators;
 mod paths;
 mod references;
+mod parts;
 mod scopes;
 mod seen;
 mod settled;
