@@ -3,7 +3,10 @@ pub mod Lists
 pub mod Plain
 pub mod Evaluating
 pub mod NameLemmas
+pub mod ChildLemmas
 pub mod Grow
+pub mod ScopeLemmas
+pub mod TableLemmas
 pub mod Intervals
 pub mod OperatorLaws
 pub mod TypeLaws

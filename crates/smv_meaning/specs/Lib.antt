@@ -17,3 +17,4 @@ pub mod Settled
 pub mod Literals
 pub mod Parts
 pub mod Checked
+pub mod NameMap

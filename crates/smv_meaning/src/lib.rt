@@ -2,15 +2,21 @@
 #![tactic(auto)]
 
 mod checked;
+mod children;
 mod evaluate;
 mod functions;
+mod instances;
 mod laws;
 mod literals;
 mod model_value;
+mod modules;
+mod name_map;
 mod names;
 mod operators;
+mod scopes;
 mod seen;
 mod settled;
+mod symbols;
 mod table;
 #[cfg(test)]
 mod tests;
@@ -19,10 +25,16 @@ mod value;
 pub use checked::{
     accepted_is_checked, expressions_are_safe, expressions_have_types, names_have_types,
 };
+pub use instances::Table;
 pub use laws::{typed_is_safe, values_lie};
+pub use literals::literals_are_words;
 pub use model_value::value_at;
+pub use modules::ModuleTable;
+pub use name_map::{NameMap, no_names, put, value_under};
+pub use names::{Known, Target};
 pub use settled::{
     acyclic_is_ranked, cycles_are_checked, names_settle, ranked_is_acyclic, types_settle,
     values_are_one, values_settle,
 };
+pub use table::{Instance, instances as instance_list, path_below};
 pub use value::{Given, Run, State, States, Value};

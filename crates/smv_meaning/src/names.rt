@@ -15,7 +15,7 @@ use smv_text::{
 use text_core::Names;
 
 /// What one name is in its own instance.
-#[derive(Drop)]
+#[derive(Clone, Copy)]
 pub enum Known<'a> {
     /// A parameter whose actual is a path, read in the numbered instance.
     Alias(usize, &'a Path),
@@ -28,7 +28,7 @@ pub enum Known<'a> {
 }
 
 /// What a path leads to.
-#[derive(Drop)]
+#[derive(Clone, Copy)]
 pub enum Target<'a> {
     /// A variable: its instance, its name there, its kind and its type.
     Variable(usize, &'a [u8], VarKind, &'a Domain),
@@ -40,7 +40,8 @@ pub enum Target<'a> {
     Missing,
 }
 
-fn actual<'a>(parent: usize, e: &'a Expr) -> Known<'a>
+/// What a parameter is: an alias where its actual is a path.
+pub fn actual<'a>(parent: usize, e: &'a Expr) -> Known<'a>
     ensures { local_plain result ≡ of_actual parent (plain e.now) }
 {
     match &e.shape {
@@ -49,7 +50,8 @@ fn actual<'a>(parent: usize, e: &'a Expr) -> Known<'a>
     }
 }
 
-fn domain<'a>(kind: VarKind, d: &'a Domain) -> Known<'a>
+/// What a declared name is: a variable or an instance.
+pub fn domain<'a>(kind: VarKind, d: &'a Domain) -> Known<'a>
     ensures { local_plain result ≡ of_domain kind (plain_domain d.now) }
 {
     match d {
@@ -148,7 +150,8 @@ pub fn known_in<'a>(table: &[Instance<'a>], i: usize, x: &[u8]) -> Known<'a>
     }
 }
 
-fn child_of<'a>(table: &[Instance<'a>], i: usize, x: &[u8]) -> Option<usize>
+/// The first instance with this name in the numbered one.
+pub fn child_of<'a>(table: &[Instance<'a>], i: usize, x: &[u8]) -> Option<usize>
     ensures { result ≡ position (λ p. is_child i x.now (instance_plain p)) table.now }
 {
     table.iter().position(|p| p.parent == Some(i) && p.own == x)

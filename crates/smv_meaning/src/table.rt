@@ -1,10 +1,11 @@
 // The instances of a model, numbered in preorder.
 ghost use Rattle.std.specs.Prelude.{◌≡◌, ◌++◌, ◌∷◌, [], map, List, IfOk, length};
 ghost use Rattle.smv_text.specs.View.{plain_module, plain_element, plain_item, plain_source};
-ghost use Rattle.smv_meaning.specs.Instances.{dotted, module_named, child_of, grow, grow_items, instances_of};
-ghost use Rattle.smv_meaning.specs.View.{instance_plain, instance_or_none, module_or_none};
+ghost use Rattle.smv_meaning.specs.Instances.{dotted, child_of, grow, grow_items, instances_of};
+ghost use Rattle.smv_meaning.specs.View.{instance_plain, instance_or_none};
 
-use smv_text::{Domain, Element, Expr, Item, Items, Module, Modules, Source};
+use crate::modules::ModuleTable;
+use smv_text::{Domain, Element, Expr, Item, Items, Module, Source};
 use std::alloc::Global;
 use text_core::{NoMemory, Text};
 
@@ -17,20 +18,6 @@ pub struct Instance<'a> {
     pub path: Text,
     pub plan: &'a Module,
     pub actuals: &'a [Expr],
-}
-
-/// The first module with this name.
-#[tactic(auto, using(crate::proofs::Lists::front_is, crate::proofs::Lists::end_is))]
-pub fn named_module<'a>(modules: &'a Modules, name: &[u8]) -> Option<&'a Module>
-    ensures { module_or_none result ≡ module_named (map plain_module modules.now) name.now }
-{
-    for i in 0..modules.len() {
-        let module = modules.at(i);
-        if module.name.bytes() == name {
-            return Some(module);
-        }
-    }
-    None
 }
 
 /// The dotted path of a name in the instance with this path.
@@ -49,7 +36,7 @@ pub fn path_below(alloc: Global, path: &[u8], name: &[u8]) -> Result<Text, NoMem
 // The instance that a declaration in the instance i, which has this path, makes.
 fn child<'a>(
     alloc: Global,
-    modules: &'a Modules,
+    modules: &ModuleTable<'a>,
     i: usize,
     path: &[u8],
     item: &'a Item,
@@ -61,7 +48,7 @@ fn child<'a>(
         Domain::Members(_) => Ok(None),
         Domain::Between(_, _) => Ok(None),
         Domain::Bits(_) => Ok(None),
-        Domain::Instance(name, actuals) => match named_module(modules, name.bytes()) {
+        Domain::Instance(name, actuals) => match modules.named(name.bytes()) {
             None => Ok(None),
             Some(plan) => {
                 let below = path_below(alloc, path, item.name.bytes())?;
@@ -82,7 +69,7 @@ fn child<'a>(
 #[tactic(auto, using(crate::proofs::Lists::front_is, crate::proofs::Lists::end_is, crate::proofs::Grow::grow_none, crate::proofs::Grow::grow_begins))]
 fn extend<'a>(
     alloc: Global,
-    modules: &'a Modules,
+    modules: &ModuleTable<'a>,
     deep: usize,
     new: Instance<'a>,
     table: &mut Vec<Instance<'a>>,
@@ -123,7 +110,7 @@ fn extend<'a>(
 #[tactic(auto, using(crate::proofs::Lists::front_is, crate::proofs::Lists::end_is, crate::proofs::Grow::grow_none, crate::proofs::Grow::grow_begins))]
 fn extend_items<'a>(
     alloc: Global,
-    modules: &'a Modules,
+    modules: &ModuleTable<'a>,
     deep: usize,
     i: usize,
     path: &[u8],
@@ -145,9 +132,9 @@ fn extend_items<'a>(
 pub fn instances<'a>(alloc: Global, source: &'a Source) -> Result<Vec<Instance<'a>>, NoMemory>
     ensures { IfOk result (λ t. map instance_plain t.items ≡ instances_of (plain_source source.now)) }
 {
-    let modules = &source.modules;
+    let modules = ModuleTable::of(alloc, &source.modules)?;
     let mut table = Vec::new(alloc);
-    match named_module(modules, b"main") {
+    match modules.named(b"main") {
         None => Ok(table),
         Some(plan) => {
             let main = Instance {
@@ -157,7 +144,7 @@ pub fn instances<'a>(alloc: Global, source: &'a Source) -> Result<Vec<Instance<'
                 plan,
                 actuals: &[],
             };
-            extend(alloc, modules, modules.len(), main, &mut table)?;
+            extend(alloc, &modules, modules.len(), main, &mut table)?;
             Ok(table)
         }
     }

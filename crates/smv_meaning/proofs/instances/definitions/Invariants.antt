@@ -1,7 +1,7 @@
 use Rattle.std.proofs.Common.{◌≡◌, ◌+◌, drop, map, sum_by}
 use Rattle.smv_text.specs.View.{plain_element}
 use Rattle.smv_meaning.specs.Names.{definitions_in}
-use Rattle.smv_meaning.proofs.model_value.definitions.Given as goal
+use Rattle.smv_meaning.proofs.instances.definitions.Given as goal
 
 abbrev pub invariant-loop-k : goal.invariant-loop-k
 invariant-loop-k l =
