@@ -6,8 +6,9 @@ ghost use Rattle.smv_meaning.specs.Names.{definitions_in, formulas_in, steps_of,
 ghost use Rattle.smv_meaning.specs.View.{instance_plain, local_plain, found_plain};
 
 use crate::children::{Children, child_in, children_of};
+use crate::found::{name_target, path_target};
 use crate::name_map::value_under;
-use crate::names::{Known, Target, found_by_name, found_by_path};
+use crate::names::{Known, Target};
 use crate::scopes::{Scope, scopes_of};
 use crate::symbols::{Symbols, symbols_of};
 use crate::table::{Instance, instances};
@@ -119,14 +120,14 @@ impl<'a> Table<'a> {
     pub fn found(&self, i: usize, path: &'a Path) -> Target<'a>
         ensures { found_plain (map instance_plain self.now) result ≡ found_in (map instance_plain self.now) i path.now }
     {
-        found_by_path(self.parts.as_slice(), self.steps, i, path)
+        path_target(self, self.steps, i, path)
     }
 
     /// What a name, and no symbol, leads to in the numbered instance.
     pub fn found_name(&self, i: usize, x: &'a [u8]) -> Target<'a>
         ensures { found_plain (map instance_plain self.now) result ≡ look (map instance_plain self.now) (steps_of (map instance_plain self.now)) i x.now }
     {
-        found_by_name(self.parts.as_slice(), self.steps, i, x)
+        name_target(self, self.steps, i, x)
     }
 
     /// How many definitions and actuals there are, and one more: no more of them lead into one another without a cycle.

@@ -4,6 +4,7 @@
 mod checked;
 mod children;
 mod evaluate;
+mod found;
 mod functions;
 mod instances;
 mod laws;

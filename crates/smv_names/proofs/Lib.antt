@@ -1,0 +1,6 @@
+pub mod Lists
+pub mod Composing
+pub mod Above
+pub mod Walks
+pub mod FirstPart
+pub mod Visiting

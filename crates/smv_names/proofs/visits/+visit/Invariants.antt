@@ -1,0 +1,20 @@
+use Rattle.std.proofs.Common.{◌≡◌, ◌+◌, ◌-◌, ◌*◌, ◌++◌, ◌∷◌, [], drop, take, length, map}
+use Rattle.smv_text.specs.View.{plain_module}
+use Rattle.smv_meaning.specs.Checks.{first_failing}
+use Rattle.smv_names.specs.View.{declared_plain, names_above}
+use Rattle.smv_names.specs.Visits.{declared_visits, visits, visit_checks, visit_count}
+use Rattle.smv_names.proofs.visits.+visit.Given as goal
+
+abbrev pub decreases-visited : goal.decreases-visited
+decreases-visited l = 2 * l.deep
+
+abbrev pub decreases-item_visited : goal.decreases-item_visited
+decreases-item_visited l = 2 * l.deep + 1
+
+abbrev pub invariant-visited-loop-k : goal.invariant-visited-loop-k
+invariant-visited-loop-k l = record {
+  above : names_above l.above.items ≡ l.plan.name ∷ names_above l.fn.above.items;
+  kept : take (length l.fn.above.items) l.above.items ≡ l.fn.above.items;
+  checks : first_failing (visit_checks (map plain_module l.modules) l.count (declared_visits (visits (l.deep - 1) (map plain_module l.modules) (l.plan.name ∷ names_above l.fn.above.items)) (map plain_module l.modules) l.path (map declared_plain (drop l.k l.list.items)))) ≡ first_failing (visit_checks (map plain_module l.modules) l.fn.met (visits l.deep (map plain_module l.modules) (names_above l.fn.above.items) l.path (plain_module l.plan)));
+  count : visit_count l.count (declared_visits (visits (l.deep - 1) (map plain_module l.modules) (l.plan.name ∷ names_above l.fn.above.items)) (map plain_module l.modules) l.path (map declared_plain (drop l.k l.list.items))) ≡ visit_count l.fn.met (visits l.deep (map plain_module l.modules) (names_above l.fn.above.items) l.path (plain_module l.plan));
+}

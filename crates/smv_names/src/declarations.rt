@@ -1,0 +1,162 @@
+// The checks of what an instance declares.
+ghost use Rattle.std.specs.Prelude.{◌≡◌, ◌≤◌, [], length, map, nat_le, Some};
+ghost use Rattle.smv_text.specs.View.{plain_item, plain_module, plain_source};
+ghost use Rattle.smv_meaning.specs.Instances.{dotted, is_one_of, instances_of};
+ghost use Rattle.smv_meaning.specs.Checks.{first_failing};
+ghost use Rattle.smv_meaning.specs.Phases.{takes, item_checks, declares_instance, longest_path, most_instances, declared_checks, counted_all, declaration_checks};
+ghost use Rattle.smv_names.specs.Outcome.{Settles, Counts};
+ghost use Rattle.smv_names.specs.View.{declared_plain, names_above};
+ghost use Rattle.smv_names.specs.Visits.{own_checks};
+
+use crate::declared::Declaration;
+use crate::ends::{
+    ARG_COUNT, MODULE_CYCLE, NAME_TWICE, NO_SUCH_MODULE, NamesEnd, TOO_LARGE, refusal,
+};
+use crate::visits::visited;
+use smv_meaning::{ModuleTable, no_names, put, value_under};
+use smv_text::{Domain, Item, Source};
+use std::alloc::Global;
+use text_core::Refusal;
+
+/// The most bytes of a dotted path.
+const LONGEST_PATH: usize = 1000;
+/// The most instances, main among them.
+const MOST_INSTANCES: usize = 4096;
+
+#[tactic(auto, using(crate::proofs::Lists::front_is, crate::proofs::Lists::end_is))]
+fn is_among(names: &[&[u8]], name: &[u8]) -> bool
+    ensures { result ≡ is_one_of (map (λ m. m.now) names.now) name.now }
+{
+    for k in 0..names.len() {
+        if names[k] == name {
+            return true;
+        }
+    }
+    false
+}
+
+#[tactic(auto, using(crate::proofs::Above::named_above))]
+fn is_above(above: &[&[u8]], name: &[u8]) -> bool
+    ensures { result ≡ is_one_of (names_above above.now) name.now }
+{
+    is_among(above, name)
+}
+
+// An instance is one of a module that is there, isn't inside itself, and takes that many actuals.
+#[tactic(auto, using(crate::proofs::Composing::trees_length))]
+fn item_failing(modules: &ModuleTable, above: &[&[u8]], item: &Item) -> Option<Refusal>
+    ensures { result ≡ first_failing (item_checks (map plain_module modules.now) (names_above above.now) (Some (plain_item item.now))) }
+{
+    match &item.domain {
+        Domain::Boolean => None,
+        Domain::Members(_) => None,
+        Domain::Between(_, _) => None,
+        Domain::Bits(_) => None,
+        Domain::Instance(name, actuals) => match modules.named(name.bytes()) {
+            None => Some(refusal(NO_SUCH_MODULE, item.domain_place)),
+            Some(plan) => if is_above(above, name.bytes()) {
+                Some(refusal(MODULE_CYCLE, item.domain_place))
+            } else if plan.parameters.len() != actuals.len() {
+                Some(refusal(ARG_COUNT, item.domain_place))
+            } else {
+                None
+            },
+        },
+    }
+}
+
+// Is the dotted path of the name no longer than it may be?
+fn is_short(path: &[u8], name: &[u8]) -> bool
+    ensures { result ≡ nat_le (length (dotted path.now name.now)) longest_path }
+{
+    if path.is_empty() {
+        name.len() <= LONGEST_PATH
+    } else {
+        path.len() < LONGEST_PATH && name.len() <= LONGEST_PATH - 1 - path.len()
+    }
+}
+
+fn is_instance(declaration: &Declaration) -> bool
+    ensures { result ≡ declares_instance (declared_plain declaration.now) }
+{
+    match declaration.item {
+        None => false,
+        Some(item) => match &item.domain {
+            Domain::Boolean => false,
+            Domain::Members(_) => false,
+            Domain::Between(_, _) => false,
+            Domain::Bits(_) => false,
+            Domain::Instance(_, _) => true,
+        },
+    }
+}
+
+// The checks of a declaration but for that of its name: given the modules above and how many instances are met.
+fn declaration_failing(
+    modules: &ModuleTable,
+    above: &[&[u8]],
+    path: &[u8],
+    met: usize,
+    declaration: &Declaration,
+) -> Option<Refusal>
+    ensures { result ≡ first_failing (own_checks (map plain_module modules.now) (names_above above.now) path.now met (declared_plain declaration.now)) }
+{
+    if let Some(item) = declaration.item {
+        if let Some(why) = item_failing(modules, above, item) {
+            return Some(why);
+        }
+    }
+    let fits = !is_instance(declaration) || met < MOST_INSTANCES;
+    if is_short(path, declaration.name) && fits {
+        None
+    } else {
+        Some(refusal(TOO_LARGE, declaration.place))
+    }
+}
+
+/// The checks of what an instance declares, given the modules above, its path and how many instances were met so far; it
+/// answers how many are met then.
+#[tactic(auto, using(crate::proofs::Lists::front_is, crate::proofs::Lists::end_is))]
+pub(crate) fn declared_checked<'a>(
+    alloc: Global,
+    modules: &ModuleTable<'a>,
+    above: &[&'a [u8]],
+    path: &[u8],
+    met: usize,
+    list: &[Declaration<'a>],
+) -> Result<usize, NamesEnd>
+    ensures { Counts result (declared_checks (map plain_module modules.now) (names_above above.now) path.now [] met (map declared_plain list.now)) (counted_all met (map declared_plain list.now)) }
+{
+    let mut seen = no_names(alloc);
+    let mut count = met;
+    for k in 0..list.len() {
+        let declaration = &list[k];
+        if value_under(&seen, declaration.name).is_some() {
+            return Err(NamesEnd::Bad(refusal(NAME_TWICE, declaration.place)));
+        }
+        if let Some(why) = declaration_failing(modules, above, path, count, declaration) {
+            return Err(NamesEnd::Bad(why));
+        }
+        if is_instance(declaration) {
+            count += 1;
+        }
+        put(&mut seen, declaration.name, ())?;
+    }
+    Ok(count)
+}
+
+/// The checks of the second phase, for a source that passes the first: over the instances in preorder, what each declares
+/// (S10 to S13, and S28 for paths and instances). No instance past the first that fails is looked at.
+pub fn declarations_checked(alloc: Global, source: &Source) -> Result<(), NamesEnd>
+    ensures { Settles result (declaration_checks (plain_source source.now).modules (instances_of (plain_source source.now)) 0 1 (instances_of (plain_source source.now))) }
+{
+    let modules = ModuleTable::of(alloc, &source.modules)?;
+    let Some(plan) = modules.named(b"main") else {
+        return Ok(());
+    };
+    let mut above = Vec::new(alloc);
+    match visited(alloc, &modules, modules.len(), &mut above, &[], plan, 1) {
+        Ok(_) => Ok(()),
+        Err(end) => Err(end),
+    }
+}

@@ -1,0 +1,113 @@
+// What a module declares, in the order of its checks.
+ghost use Rattle.std.specs.Prelude.{◌≡◌, ◌++◌, ◌∷◌, [], map, flat_map, IfOk, OnOk};
+ghost use Rattle.smv_text.specs.View.{plain_item, plain_definition, plain_element, plain_module};
+ghost use Rattle.smv_meaning.specs.Phases.{element_declares, declared_in};
+ghost use Rattle.smv_names.specs.View.{declared_plain, parameter_declared, item_declared, definition_declared};
+
+use smv_text::{Definitions, Element, Elements, Item, Items, Module, Parameters};
+use std::alloc::Global;
+use text_core::{NoMemory, Place};
+
+/// A declared name: a parameter, a variable or an instance, which has an item, or a definition.
+#[derive(Clone, Copy)]
+pub struct Declaration<'a> {
+    pub name: &'a [u8],
+    pub place: Place,
+    pub item: Option<&'a Item>,
+}
+
+/// Declarations, in order.
+pub type Declarations<'a> = Vec<Declaration<'a>>;
+
+fn add<'a>(list: &mut Declarations<'a>, declaration: Declaration<'a>) -> Result<(), NoMemory>
+    ensures { OnOk result (map declared_plain list.new.items ≡ map declared_plain list.old.items ++ declared_plain declaration.entry ∷ []) }
+{
+    match list.push(declaration) {
+        Ok(()) => Ok(()),
+        Err(_) => Err(NoMemory),
+    }
+}
+
+#[tactic(auto, using(crate::proofs::Lists::front_is, crate::proofs::Lists::end_is))]
+fn add_parameters<'a>(
+    list: &mut Declarations<'a>,
+    parameters: &'a Parameters,
+) -> Result<(), NoMemory>
+    ensures { OnOk result (map declared_plain list.new.items ≡ map declared_plain list.old.items ++ map parameter_declared parameters.now) }
+{
+    for k in 0..parameters.len() {
+        let parameter = parameters.at(k);
+        add(
+            list,
+            Declaration {
+                name: parameter.name.bytes(),
+                place: parameter.place,
+                item: None,
+            },
+        )?;
+    }
+    Ok(())
+}
+
+#[tactic(auto, using(crate::proofs::Lists::front_is, crate::proofs::Lists::end_is))]
+fn add_items<'a>(list: &mut Declarations<'a>, items: &'a Items) -> Result<(), NoMemory>
+    ensures { OnOk result (map declared_plain list.new.items ≡ map declared_plain list.old.items ++ map item_declared (map plain_item items.now)) }
+{
+    for k in 0..items.len() {
+        let item = items.at(k);
+        add(
+            list,
+            Declaration {
+                name: item.name.bytes(),
+                place: item.place,
+                item: Some(item),
+            },
+        )?;
+    }
+    Ok(())
+}
+
+#[tactic(auto, using(crate::proofs::Lists::front_is, crate::proofs::Lists::end_is))]
+fn add_definitions<'a>(
+    list: &mut Declarations<'a>,
+    definitions: &'a Definitions,
+) -> Result<(), NoMemory>
+    ensures { OnOk result (map declared_plain list.new.items ≡ map declared_plain list.old.items ++ map definition_declared (map plain_definition definitions.now)) }
+{
+    for k in 0..definitions.len() {
+        let definition = definitions.at(k);
+        add(
+            list,
+            Declaration {
+                name: definition.name.bytes(),
+                place: definition.place,
+                item: None,
+            },
+        )?;
+    }
+    Ok(())
+}
+
+#[tactic(auto, using(crate::proofs::Lists::front_is, crate::proofs::Lists::end_is))]
+fn add_elements<'a>(list: &mut Declarations<'a>, elements: &'a Elements) -> Result<(), NoMemory>
+    ensures { OnOk result (map declared_plain list.new.items ≡ map declared_plain list.old.items ++ flat_map element_declares (map plain_element elements.now)) }
+{
+    for k in 0..elements.len() {
+        match elements.at(k) {
+            Element::Vars(_, items) => add_items(list, items)?,
+            Element::Defines(definitions) => add_definitions(list, definitions)?,
+            _ => {}
+        }
+    }
+    Ok(())
+}
+
+/// What a module declares: parameters first, then in the order of the text.
+pub fn declared_of<'a>(alloc: Global, plan: &'a Module) -> Result<Declarations<'a>, NoMemory>
+    ensures { IfOk result (λ ds. map declared_plain ds.items ≡ declared_in (plain_module plan.now)) }
+{
+    let mut list = Vec::new(alloc);
+    add_parameters(&mut list, &plan.parameters)?;
+    add_elements(&mut list, &plan.elements)?;
+    Ok(list)
+}

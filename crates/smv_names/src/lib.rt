@@ -1,0 +1,14 @@
+//! The names of SMV models: the checks of modules, of what is declared, and of a model's size, phase by phase.
+#![tactic(auto)]
+
+mod declarations;
+mod declared;
+mod ends;
+mod module_names;
+mod sizes;
+mod visits;
+
+pub use declarations::declarations_checked;
+pub use ends::NamesEnd;
+pub use module_names::modules_checked;
+pub use sizes::sizes_checked;

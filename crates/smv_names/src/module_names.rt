@@ -1,0 +1,60 @@
+// The names of modules, and main.
+ghost use Rattle.std.specs.Prelude.{◌≡◌, [], ◌∷◌, map};
+ghost use Rattle.smv_text.specs.View.{plain_module, plain_source};
+ghost use Rattle.smv_meaning.specs.Instances.{module_named, main_name};
+ghost use Rattle.smv_meaning.specs.Checks.{first_failing};
+ghost use Rattle.smv_meaning.specs.Phases.{name_checks, main_check, module_checks};
+ghost use Rattle.smv_names.specs.Outcome.{Settles};
+
+use crate::ends::{MODULE_TWICE, NO_MAIN, NamesEnd, refusal};
+use smv_meaning::{ModuleTable, no_names, put, value_under};
+use smv_text::{Modules, Source};
+use std::alloc::Global;
+use text_core::{Place, Refusal};
+
+// Each module has a name of its own.
+#[tactic(auto, using(crate::proofs::Lists::front_is, crate::proofs::Lists::end_is))]
+fn names_checked(alloc: Global, modules: &Modules) -> Result<(), NamesEnd>
+    ensures { Settles result (name_checks [] (map plain_module modules.now)) }
+{
+    let mut seen = no_names(alloc);
+    for k in 0..modules.len() {
+        let module = modules.at(k);
+        let name = module.name.bytes();
+        if value_under(&seen, name).is_some() {
+            return Err(NamesEnd::Bad(refusal(MODULE_TWICE, module.place)));
+        }
+        put(&mut seen, name, ())?;
+    }
+    Ok(())
+}
+
+fn main_failing(table: &ModuleTable, end: Place) -> Option<Refusal>
+    ensures { result ≡ first_failing (main_check end (module_named (map plain_module table.now) main_name) ∷ []) }
+{
+    match table.named(b"main") {
+        None => Some(refusal(NO_MAIN, end)),
+        Some(module) => if module.parameters.len() == 0 {
+            None
+        } else {
+            Some(refusal(NO_MAIN, module.place))
+        },
+    }
+}
+
+/// The checks of the first phase: each module has a name of its own (S9), and there is a `main`, which has no parameters
+/// (S8).
+#[tactic(auto, using(crate::proofs::Composing::ends, crate::proofs::Composing::both_pass, crate::proofs::Composing::fails_behind))]
+pub fn modules_checked(alloc: Global, source: &Source) -> Result<(), NamesEnd>
+    ensures { Settles result (module_checks (plain_source source.now)) }
+{
+    match names_checked(alloc, &source.modules) {
+        Ok(()) => {}
+        Err(end) => return Err(end),
+    }
+    let table = ModuleTable::of(alloc, &source.modules)?;
+    match main_failing(&table, source.end) {
+        None => Ok(()),
+        Some(why) => Err(NamesEnd::Bad(why)),
+    }
+}

@@ -1,0 +1,83 @@
+// The size of a model, and names of main that are symbols.
+ghost use Rattle.std.specs.Prelude.{◌≡◌, map, not, sum_by, nat_le, slice_get, IfOk};
+ghost use Rattle.smv_text.specs.View.{plain_source};
+ghost use Rattle.smv_meaning.specs.Instances.{instances_of};
+ghost use Rattle.smv_meaning.specs.Names.{has_symbol};
+ghost use Rattle.smv_meaning.specs.Checks.{check, first_failing};
+ghost use Rattle.smv_meaning.specs.Phases.{most_tokens, symbol_checks, size_checks};
+ghost use Rattle.smv_meaning.specs.View.{instance_plain};
+ghost use Rattle.smv_names.specs.Outcome.{Settles};
+ghost use Rattle.smv_names.specs.View.{declared_plain};
+
+use crate::declared::{Declaration, declared_of};
+use crate::ends::{NAME_TWICE, NamesEnd, TOO_LARGE, refusal};
+use smv_meaning::{Instance, Table, instance_list};
+use smv_text::Source;
+use std::alloc::Global;
+use text_core::{NoMemory, Place, Refusal};
+
+/// The most tokens of the modules' bodies, summed over the instances.
+const MOST_TOKENS: u64 = 200_000;
+
+// Is the weight no greater than it may be?
+#[tactic(auto, using(crate::proofs::Lists::front_is, crate::proofs::Lists::end_is))]
+fn is_light(parts: &[Instance]) -> bool
+    ensures { result ≡ nat_le (sum_by (λ at. at.plan.tokens) (map instance_plain parts.now)) most_tokens }
+{
+    let mut weight: u64 = 0;
+    for i in 0..parts.len() {
+        weight += parts[i].plan.tokens as u64;
+        if weight > MOST_TOKENS {
+            return false;
+        }
+    }
+    true
+}
+
+// No declared name is a symbol.
+#[tactic(auto, using(crate::proofs::Lists::front_is, crate::proofs::Lists::end_is))]
+fn symbol_failing(table: &Table, list: &[Declaration]) -> Option<Refusal>
+    ensures { result ≡ first_failing (map (λ d. check 10 d.place (not (has_symbol (map instance_plain table.now) d.name))) (map declared_plain list.now)) }
+{
+    for k in 0..list.len() {
+        let declaration = &list[k];
+        if table.has_symbol(declaration.name) {
+            return Some(refusal(NAME_TWICE, declaration.place));
+        }
+    }
+    None
+}
+
+// No name of main is a symbol.
+#[tactic(auto, using(crate::proofs::FirstPart::main_first, crate::proofs::FirstPart::no_main))]
+fn main_failing(alloc: Global, table: &Table) -> Result<Option<Refusal>, NoMemory>
+    ensures { IfOk result (λ o. o ≡ first_failing (symbol_checks (map instance_plain table.now) (slice_get (map instance_plain table.now) 0))) }
+{
+    if table.len() == 0 {
+        return Ok(None);
+    }
+    let list = declared_of(alloc, table.at(0).plan)?;
+    Ok(symbol_failing(table, list.as_slice()))
+}
+
+/// The checks of the third phase, for a source that passes the first two: the weight (S28), and no name of main is a symbol
+/// (S10). It answers the table of the instances.
+pub fn sizes_checked<'a>(alloc: Global, source: &'a Source) -> Result<Table<'a>, NamesEnd>
+    ensures checks { Settles result (size_checks (plain_source source.now)) }
+    ensures table { IfOk result (λ t. map instance_plain t ≡ instances_of (plain_source source.now)) }
+{
+    let parts = instance_list(alloc, source)?;
+    if !is_light(parts.as_slice()) {
+        let start = Place {
+            line: 1,
+            column: 1,
+            offset: 0,
+        };
+        return Err(NamesEnd::Bad(refusal(TOO_LARGE, start)));
+    }
+    let table = Table::over(alloc, parts)?;
+    match main_failing(alloc, &table)? {
+        None => Ok(table),
+        Some(why) => Err(NamesEnd::Bad(why)),
+    }
+}

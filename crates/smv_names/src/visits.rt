@@ -1,0 +1,96 @@
+// A walk over the instances of a model in preorder, which ends at the first check that fails.
+ghost use Rattle.std.specs.Prelude.{◌≡◌, ◌++◌, ◌∷◌, [], map, OnOk};
+ghost use Rattle.smv_text.specs.View.{plain_module};
+ghost use Rattle.smv_names.specs.Outcome.{Counts};
+ghost use Rattle.smv_names.specs.View.{item_or_none, names_above};
+ghost use Rattle.smv_names.specs.Visits.{item_visits, visits, visit_checks, visit_count};
+
+use crate::declarations::declared_checked;
+use crate::declared::declared_of;
+use crate::ends::NamesEnd;
+use smv_meaning::{ModuleTable, path_below};
+use smv_text::{Domain, Item, Module};
+use std::alloc::Global;
+use text_core::NoMemory;
+
+fn push<'a>(above: &mut Vec<&'a [u8]>, name: &'a [u8]) -> Result<(), NoMemory>
+    ensures { OnOk result (above.new.items ≡ above.old.items ++ name.entry ∷ []) }
+{
+    match above.push(name) {
+        Ok(()) => Ok(()),
+        Err(_) => Err(NoMemory),
+    }
+}
+
+// The instance that an item makes, with all below it.
+#[cycle(visit)]
+fn item_visited<'a>(
+    alloc: Global,
+    modules: &ModuleTable<'a>,
+    deep: usize,
+    above: &mut Vec<&'a [u8]>,
+    path: &[u8],
+    item: Option<&'a Item>,
+    met: usize,
+) -> Result<usize, NamesEnd>
+    ensures counts { let vs = item_visits (visits deep (map plain_module modules.now) (names_above above.old.items)) (map plain_module modules.now) path.now (item_or_none item.entry) in Counts result (visit_checks (map plain_module modules.now) met vs) (visit_count met vs) }
+    ensures same { OnOk result (above.new.items ≡ above.old.items) }
+{
+    let Some(item) = item else {
+        return Ok(met);
+    };
+    match &item.domain {
+        Domain::Boolean => Ok(met),
+        Domain::Members(_) => Ok(met),
+        Domain::Between(_, _) => Ok(met),
+        Domain::Bits(_) => Ok(met),
+        Domain::Instance(name, _) => match modules.named(name.bytes()) {
+            None => Ok(met),
+            Some(plan) => {
+                let below = path_below(alloc, path, item.name.bytes())?;
+                visited(alloc, modules, deep, above, below.bytes(), plan, met)
+            }
+        },
+    }
+}
+
+/// The checks of an instance of the module and of all below it.
+#[cycle(visit)]
+pub(crate) fn visited<'a>(
+    alloc: Global,
+    modules: &ModuleTable<'a>,
+    deep: usize,
+    above: &mut Vec<&'a [u8]>,
+    path: &[u8],
+    plan: &'a Module,
+    met: usize,
+) -> Result<usize, NamesEnd>
+    ensures counts { let vs = visits deep (map plain_module modules.now) (names_above above.old.items) path.now (plain_module plan.now) in Counts result (visit_checks (map plain_module modules.now) met vs) (visit_count met vs) }
+    ensures same { OnOk result (above.new.items ≡ above.old.items) }
+{
+    if deep == 0 {
+        return Ok(met);
+    }
+    let depth = above.len();
+    push(above, plan.name.bytes())?;
+    let list = declared_of(alloc, plan)?;
+    let mut count = match declared_checked(
+        alloc,
+        modules,
+        above.as_slice(),
+        path,
+        met,
+        list.as_slice(),
+    ) {
+        Ok(count) => count,
+        Err(end) => return Err(end),
+    };
+    for k in 0..list.len() {
+        match item_visited(alloc, modules, deep - 1, above, path, list[k].item, count) {
+            Ok(more) => count = more,
+            Err(end) => return Err(end),
+        }
+    }
+    above.truncate(depth);
+    Ok(count)
+}
