@@ -15,6 +15,7 @@ pub mod FoundLaws
 pub mod ValueAt
 pub mod Cycles
 pub mod Ranked
+pub mod Ordered
 pub mod Agreeing
 pub mod Settling
 pub mod Typable

@@ -113,30 +113,12 @@ pub fn evaluate<'a>(
         Shape::Chain(a, links) => {
             let first = evaluate(table, steps, i, a, now, label, later);
             if is_from_right(links.as_slice()) {
-                match rest_implied(
-                    table,
-                    steps,
-                    i,
-                    &first,
-                    links.as_slice(),
-                    now,
-                    label,
-                    later,
-                ) {
+                match rest_implied(table, steps, i, &first, links.as_slice(), now, label, later) {
                     None => first,
                     Some(value) => seen_of(value),
                 }
             } else {
-                match last_front(
-                    table,
-                    steps,
-                    i,
-                    &first,
-                    links.as_slice(),
-                    now,
-                    label,
-                    later,
-                ) {
+                match last_front(table, steps, i, &first, links.as_slice(), now, label, later) {
                     None => first,
                     Some(value) => seen_of(value),
                 }
@@ -314,9 +296,7 @@ fn next_front<'a>(
     ensures { plain_value result ≡ front_value op (seen_value front.now) (denote (reads table.now steps i now.entry label.entry) (reads table.now steps i later.entry label.entry) (plain operand.now)) }
 {
     match op {
-        Infix::Member => Plain::Truth(permits(
-            table, steps, i, operand, front, now, label, later,
-        )),
+        Infix::Member => Plain::Truth(permits(table, steps, i, operand, front, now, label, later)),
         Infix::Union => no_plain(),
         _ => {
             let value = evaluate(table, steps, i, operand, now, label, later);
@@ -588,16 +568,7 @@ fn last_has<'a>(
             ),
         };
         if let Infix::Union = link.op {
-            let operand_has = permits(
-                table,
-                steps,
-                i,
-                &link.operand,
-                value,
-                now,
-                label,
-                later,
-            );
+            let operand_has = permits(table, steps, i, &link.operand, value, now, label, later);
             has = has || operand_has;
         } else {
             has = plain_same(&next, value);

@@ -34,8 +34,8 @@ pub use modules::ModuleTable;
 pub use name_map::{NameMap, no_names, put, value_under};
 pub use names::{Known, Target};
 pub use settled::{
-    acyclic_is_ranked, cycles_are_checked, names_settle, ranked_is_acyclic, types_settle,
-    values_are_one, values_settle,
+    acyclic_is_ranked, cycles_are_checked, names_settle, ordered_is_acyclic, ranked_is_acyclic,
+    types_settle, values_are_one, values_settle,
 };
 pub use table::{Instance, instances as instance_list, path_below};
 pub use value::{Given, Run, State, States, Value};
