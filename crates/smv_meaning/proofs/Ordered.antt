@@ -1,12 +1,11 @@
 -- A list in which each definition and actual stands after those to which it refers gives them ranks.
-use Rattle.std.proofs.Common.{◌≡◌, ℕ, suc, ◌<◌, Bool, true, false, nat_lt, ◌&&◌, ◌||◌, if◌then◌else◌, List, [], ◌∷◌, refl, sym, ap, ◌∙◌, subst, arith}
+use Rattle.std.proofs.Common.{◌≡◌, ℕ, suc, ◌<◌, Bool, true, false, nat_lt, ◌||◌, if◌then◌else◌, List, [], ◌∷◌, refl, sym, subst, arith}
 use Rattle.std.proofs.lemmas.Bool.Decides.{Decides-ltb}
 use mathlib.Core.Logic.{◌⊎◌, inl, inr, ⊎_elim}
 use Rattle.std.specs.List.{list_all, list_any}
-use Rattle.smv_meaning.specs.Instances.{Instance}
 use Rattle.smv_meaning.specs.Names.{local, look, steps_of}
 use Rattle.smv_meaning.specs.Phases.{Formula, formula_same, refers}
-use Rattle.smv_meaning.specs.Settled.{Acyclic, is_formula, is_ordered, OrderedIsAcyclic}
+use Rattle.smv_meaning.specs.Settled.{is_ordered, OrderedIsAcyclic}
 use Rattle.smv_meaning.proofs.OperatorLaws.{both_true}
 use Rattle.smv_meaning.proofs.TypeLaws.{or_true, absurd_bool}
 use Rattle.smv_meaning.proofs.Cycles.{In, in_all, all_in, same_is}

@@ -21,8 +21,8 @@ evaluate-value-requires c =
     let words : all_trees words_fit t ≡ true = ap (all_trees words_fit) (sym (ap (map instance_plain) c.as_slice.ensures.value ∙ ep)) ∙ c.literals_are_words.ensures in
     record {
       safe = safe_at c.in_ok-table.table t c.steps.result c.number_of-i.result (instance_number t c.args.instance.now)
-      (plain c.args.expr.now) (Some c.args.now) c.args.label c.later_of-later.result c.args.following (given c.args.now.now) et en ei refl c.later_of-later.ensures
-      c.requires.checked words c.requires.stands c.requires.labelled c.requires.now_given c.requires.label_given c.requires.following_given;
+          (plain c.args.expr.now) (Some c.args.now) c.args.label c.later_of-later.result c.args.following (given c.args.now.now) et en ei refl c.later_of-later.ensures
+          c.requires.checked words c.requires.stands c.requires.labelled c.requires.now_given c.requires.label_given c.requires.following_given;
     }
 
 pub returns : goal.returns
