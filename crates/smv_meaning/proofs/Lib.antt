@@ -17,6 +17,7 @@ pub mod FoundLaws
 pub mod ValueAt
 pub mod Cycles
 pub mod Ranked
+pub mod Ordered
 pub mod Agreeing
 pub mod Settling
 pub mod FormulaLemmas

@@ -4,6 +4,8 @@
 mod aliases;
 mod children;
 mod checked;
+mod checked;
+mod children;
 mod evaluate;
 mod formulas;
 mod functions;
@@ -44,6 +46,19 @@ pub use names::{Known, Target};
 pub use settled::{
     acyclic_is_ranked, cycles_are_checked, names_settle, ranked_is_acyclic, types_settle,
     values_are_one, values_settle,
+pub use checked::{
+    accepted_is_checked, expressions_are_safe, expressions_have_types, names_have_types,
+};
+pub use instances::Table;
+pub use laws::{typed_is_safe, values_lie};
+pub use literals::literals_are_words;
+pub use model_value::value_at;
+pub use modules::ModuleTable;
+pub use name_map::{NameMap, no_names, put, value_under};
+pub use names::{Known, Target};
+pub use settled::{
+    acyclic_is_ranked, cycles_are_checked, names_settle, ordered_is_acyclic, ranked_is_acyclic,
+    types_settle, values_are_one, values_settle,
 };
 pub use table::{Instance, instances as instance_list, path_below};
 pub use value::{Given, Run, State, States, Value};
