@@ -20,4 +20,3 @@ pub mod Literals
 pub mod Parts
 pub mod Checked
 pub mod Leads
-pub mod NameMap

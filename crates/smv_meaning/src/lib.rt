@@ -2,8 +2,6 @@
 #![tactic(auto)]
 
 mod aliases;
-mod children;
-mod checked;
 mod checked;
 mod children;
 mod evaluate;
@@ -12,16 +10,16 @@ mod functions;
 mod instances;
 mod keys;
 mod laws;
-mod literals;
 mod leads;
+mod literals;
 mod model_value;
 mod modules;
 mod name_map;
 mod names;
 mod operators;
+mod parts;
 mod paths;
 mod references;
-mod parts;
 mod scopes;
 mod seen;
 mod settled;
@@ -31,24 +29,10 @@ mod table;
 mod tests;
 mod value;
 
+pub use checked::{
+    accepted_is_checked, expressions_are_safe, expressions_have_types, names_have_types,
+};
 pub use formulas::{Formula, formulas_in};
-pub use instances::Table;
-pub use checked::{
-    accepted_is_checked, expressions_are_safe, expressions_have_types, names_have_types,
-};
-pub use laws::{typed_is_safe, values_lie};
-pub use model_value::value_at;
-pub use modules::ModuleTable;
-pub use paths::{put_all_paths, put_paths};
-pub use references::{Ordering, formula_order};
-pub use name_map::{NameMap, no_names, put, value_under};
-pub use names::{Known, Target};
-pub use settled::{
-    acyclic_is_ranked, cycles_are_checked, names_settle, ranked_is_acyclic, types_settle,
-    values_are_one, values_settle,
-pub use checked::{
-    accepted_is_checked, expressions_are_safe, expressions_have_types, names_have_types,
-};
 pub use instances::Table;
 pub use laws::{typed_is_safe, values_lie};
 pub use literals::literals_are_words;
@@ -56,6 +40,8 @@ pub use model_value::value_at;
 pub use modules::ModuleTable;
 pub use name_map::{NameMap, no_names, put, value_under};
 pub use names::{Known, Target};
+pub use paths::{put_all_paths, put_paths};
+pub use references::{Ordering, formula_order};
 pub use settled::{
     acyclic_is_ranked, cycles_are_checked, names_settle, ordered_is_acyclic, ranked_is_acyclic,
     types_settle, values_are_one, values_settle,
