@@ -6,6 +6,8 @@ mod declared;
 mod ends;
 mod module_names;
 mod sizes;
+#[cfg(test)]
+mod tests;
 mod visits;
 
 pub use declarations::declarations_checked;
