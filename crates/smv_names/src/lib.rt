@@ -8,6 +8,8 @@ mod ends;
 mod module_names;
 mod paths;
 mod sizes;
+#[cfg(test)]
+mod tests;
 mod visits;
 
 pub use cycles::cycles_checked;
