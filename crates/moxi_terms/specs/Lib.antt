@@ -1,0 +1,17 @@
+pub mod Tree
+pub mod View
+pub mod Operators
+pub mod Sorts
+pub mod Applied
+pub mod Value
+pub mod Sorted
+pub mod Words
+pub mod Rows
+pub mod Names
+pub mod Scopes
+pub mod Evaluated
+pub mod Finding
+pub mod Heads
+pub mod Failures
+pub mod Reading
+pub mod Answer
