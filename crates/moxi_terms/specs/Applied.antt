@@ -1,15 +1,13 @@
 -- What the evaluator of operators asks for.
-use Rattle.std.specs.Prelude.{◌≡◌, ◌<◌, ◌≤◌, ◌+◌, Ok, List, [], ◌∷◌}
+use Rattle.std.specs.Prelude.{◌≡◌, Ok, List, [], ◌∷◌}
 use Rattle.std.specs.List.{AllByRecursion}
 use Rattle.word_core.specs.Words.{BitVector}
 use Rattle.word_core.specs.Table.{BinaryFits, binary_of}
-use Rattle.word_core.specs.declared.word.TheConstants.{WIDEST}
 use Rattle.word_core.specs.declared.kinds.Binary.{Binary}
 use Rattle.moxi_terms.specs.declared.data.Sort.{Sort}
 use Rattle.moxi_terms.specs.declared.data.Datum.{Datum}
 use Rattle.moxi_terms.specs.declared.data.Datum.TheVariants as datum
 use Rattle.moxi_terms.specs.declared.data.TermOp.{TermOp}
-use Rattle.moxi_terms.specs.declared.data.TermOp.TheVariants as op
 use Rattle.moxi_terms.specs.declared.term.Enumeration.{Enumeration}
 use Rattle.moxi_terms.specs.Operators.{word_of}
 use Rattle.moxi_terms.specs.Sorts.{Fit, op_sort}
@@ -30,10 +28,3 @@ IsBits d = ⊥
 abbrev pub AreWide : Binary → BitVector → List Datum → Type 0
 AreWide b w [] = Unit {0}
 AreWide b w (v ∷ vs) = IsBits v × BinaryFits b w.width (word_of v).width × AreWide b (binary_of b w (word_of v)) vs
-
--- the operator with its indices takes the word
-abbrev pub IsWide : TermOp → BitVector → Type 0
-IsWide (op.Extract high low) w = (low ≤ high) × (high < w.width)
-IsWide (op.ZeroExtend n) w = w.width + n ≤ WIDEST
-IsWide (op.SignExtend n) w = w.width + n ≤ WIDEST
-IsWide o w = Unit {0}

@@ -10,8 +10,9 @@ pub mod Rows
 pub mod Names
 pub mod Scopes
 pub mod Evaluated
+pub mod Cost
 pub mod Finding
-pub mod Heads
 pub mod Failures
+pub mod Forms
 pub mod Reading
 pub mod Answer

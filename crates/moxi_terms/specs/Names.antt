@@ -23,7 +23,7 @@ is_among names name = is_some (place_of names name)
 -- each name stands neither among those before nor earlier in its own list
 abbrev pub are_fresh : List (List ℕ) → List (List ℕ) → Bool
 are_fresh before [] = true
-are_fresh before (name ∷ names) = not (is_among before name) && are_fresh (before ++ name ∷ []) names
+are_fresh before (name ∷ names) = is_none (place_of before name) && are_fresh (before ++ name ∷ []) names
 
 abbrev pub enumeration_names : ScopeState → List (List ℕ)
 enumeration_names s = map (λ (e : Enumeration). e.name) s.enumerations

@@ -1,6 +1,6 @@
 -- What a form spells as a term (SMT-LIB 2.6, section 3.6; primes as in MoXI, SPIN 2024): the term, its sort, and the tests that
 -- fail. A test that rests on a part without a sort holds.
-use Rattle.std.specs.Prelude.{◌==◌, ◌*◌, ℕ, suc, nat_le, Bool, true, false, ◌&&◌, ◌||◌, if◌then◌else◌, Option, None, Some, is_some, option_and_then, Result, Ok, Err, List, [], ◌∷◌, ◌++◌, length, slice_get, codes}
+use Rattle.std.specs.Prelude.{◌==◌, ◌*◌, ℕ, suc, nat_le, Bool, true, false, not, ◌&&◌, ◌||◌, if◌then◌else◌, Option, None, Some, is_some, option_and_then, Result, Ok, Err, List, [], ◌∷◌, ◌++◌, length, slice_get, codes}
 use Rattle.std.specs.Option.{option_map}
 use Rattle.std.specs.List.{list_all}
 use Rattle.std.specs.Str.{bytes_eq}
@@ -27,12 +27,13 @@ use Rattle.moxi_terms.specs.declared.names.Meaning.TheVariants as meaning
 use Rattle.moxi_terms.specs.declared.names.Head.{Head}
 use Rattle.moxi_terms.specs.declared.names.Head.TheVariants as heads
 use Rattle.moxi_terms.specs.declared.names.Local.{Local}
-use Rattle.moxi_terms.specs.Tree.{Tree, constant, variable, bound, apply, binding, call, Trees, no_trees, tree, sorts_of}
+use Rattle.moxi_terms.specs.Tree.{Tree, constant, variable, bound, apply, binding, call, Trees, no_trees, tree, trees_of, sorts_of}
 use Rattle.moxi_terms.specs.View.{ScopeState}
 use Rattle.moxi_terms.specs.declared.term.Function.{Function}
 use Rattle.moxi_terms.specs.Words.{is_one_of, operator_named, left_out_operators, left_out_sorts, indexed_operators}
 use Rattle.moxi_terms.specs.Names.{place_of, or_else, sort_named, constant_named, function_names}
 use Rattle.moxi_terms.specs.Operators.{nothing}
+use Rattle.moxi_terms.specs.Forms.{place_in, symbol_atom, symbol_of, numeral_of, only_of, pair_of, is_word, is_primed}
 use Rattle.moxi_terms.specs.Sorts.{same_sorts, count_fits, op_sort}
 
 -- a test of primes: it fails at a primed symbol
@@ -67,28 +68,42 @@ width_sort w p q first r second =
     if is_width w then (if first then Err (refusal 7 q) else (if second then Err (refusal 7 r) else Ok (Bits w))) else Err (refusal 8 p)
 
 -- what stands behind `BitVec`
-abbrev pub vector_sort : Place → Place → Bool → Place → Bool → form.Trees → Result Sort Refusal
-vector_sort p q first r second (form.tree (form.atom u (Numeral digits)) form.no_trees) = width_sort (index_of digits) p q first r second
-vector_sort p q first r second ts = Err (refusal 12 p)
+abbrev pub vector_sort : Place → Place → Bool → Place → Bool → Option (List ℕ) → Result Sort Refusal
+vector_sort p q first r second None = Err (refusal 12 p)
+vector_sort p q first r second (Some digits) = width_sort (index_of digits) p q first r second
+
+-- the digits of the only form, where it is a numeral
+abbrev pub only_numeral : form.Trees → Option (List ℕ)
+only_numeral ts = option_and_then numeral_of (only_of ts)
+
+-- behind the `_` at q of a sort at p, the symbol at r, and what stands behind it
+abbrev pub symbol_indexed : Place → Place → Bool → Place → Option (List ℕ × Bool) → form.Trees → Result Sort Refusal
+symbol_indexed p q first r None ts = Err (refusal 12 p)
+symbol_indexed p q first r (Some x) ts =
+    if bytes_eq x.0 (codes "BitVec") then vector_sort p q first r x.1 (only_numeral ts) else Err (unknown (is_one_of left_out_sorts x.0) p q)
 
 -- what stands behind the `_` at q of a sort at p
 abbrev pub indexed_sort : Place → Place → Bool → form.Trees → Result Sort Refusal
-indexed_sort p q first (form.tree (form.atom r (Symbol name second)) ts) =
-    if bytes_eq name (codes "BitVec") then vector_sort p q first r second ts else Err (unknown (is_one_of left_out_sorts name) p q)
-indexed_sort p q first ts = Err (refusal 12 p)
+indexed_sort p q first form.no_trees = Err (refusal 12 p)
+indexed_sort p q first (form.tree t ts) = symbol_indexed p q first (place_in t) (symbol_of t) ts
 
 -- a list at p in a sort's place, that has this symbol at its head at q; a sort without indices stands in no list
-abbrev pub listed_sort : ScopeState → Place → Place → List ℕ → Bool → form.Trees → Result Sort Refusal
-listed_sort s p q name primed ts =
-    if bytes_eq name (codes "_") then indexed_sort p q primed ts
-    else (if bytes_eq name (codes "BitVec") || is_some (sort_named s name) then Err (refusal 12 p) else Err (unknown (is_one_of left_out_sorts name) p q))
+abbrev pub listed_sort : ScopeState → Place → Place → Option (List ℕ × Bool) → form.Trees → Result Sort Refusal
+listed_sort s p q None ts = Err (refusal 12 p)
+listed_sort s p q (Some x) ts =
+    if bytes_eq x.0 (codes "_") then indexed_sort p q x.1 ts
+    else (if bytes_eq x.0 (codes "BitVec") || is_some (sort_named s x.0) then Err (refusal 12 p) else Err (unknown (is_one_of left_out_sorts x.0) p q))
+
+-- an atom in a sort's place
+abbrev pub atom_sort : ScopeState → Place → Place → Option (List ℕ × Bool) → Result Sort Refusal
+atom_sort s around p None = Err (refusal 12 around)
+atom_sort s around p (Some x) = symbol_sort (sort_named s x.0) x.0 x.1 p
 
 -- The sort that a form spells, or the failing test with the least place; the form stands in a list at `around`.
 abbrev pub sort_reading : ScopeState → Place → form.Tree → Result Sort Refusal
-sort_reading s around (form.atom p (Symbol name primed)) = symbol_sort (sort_named s name) name primed p
-sort_reading s around (form.atom p a) = Err (refusal 12 around)
-sort_reading s around (form.list p (form.tree (form.atom q (Symbol name primed)) ts)) = listed_sort s p q name primed ts
-sort_reading s around (form.list p ts) = Err (refusal 12 p)
+sort_reading s around (form.atom p a) = atom_sort s around p (symbol_atom a)
+sort_reading s around (form.list p form.no_trees) = Err (refusal 12 p)
+sort_reading s around (form.list p (form.tree t ts)) = listed_sort s p (place_in t) (symbol_of t) ts
 
 -- a name that is found: its number, and its sort where it has one
 pub record Found : Type 0 where
@@ -182,26 +197,30 @@ atom_reading c bounds p a = failed (refusal 12 p)
 
 -- the digits of `bvN`
 abbrev pub decimal_digits : List ℕ → Option (List ℕ)
-decimal_digits [] = None
-decimal_digits (b ∷ bs) = if list_all is_digit (b ∷ bs) then Some (b ∷ bs) else None
+decimal_digits bs = if (length bs == 0) || not (list_all is_digit bs) then None else Some bs
 
 abbrev pub literal_digits : List ℕ → Option (List ℕ)
 literal_digits (b ∷ c ∷ bs) = if (b == 98) && (c == 118) then decimal_digits bs else None
 literal_digits bs = None
 
--- what stands behind `bvN`, whose digits are these
-abbrev pub literal_reading : Place → List ℕ → List Refusal → form.Trees → Reading
-literal_reading p digits fs (form.tree (form.atom q (Numeral width)) form.no_trees) = word_reading p (read_word (index_of width) 10 digits) fs
-literal_reading p digits fs ts = failed (refusal 12 p)
+-- what stands behind `bvN`, whose digits are these: the numeral of the width
+abbrev pub literal_reading : Place → List ℕ → List Refusal → Option (List ℕ) → Reading
+literal_reading p digits fs None = failed (refusal 12 p)
+literal_reading p digits fs (Some width) = word_reading p (read_word (index_of width) 10 digits) fs
+
+-- behind the `_` at q of a term at p, a name with these digits at r, and what stands behind it
+abbrev pub underscored : Place → Place → Bool → Place → List ℕ × Bool → Option (List ℕ) → form.Trees → Reading
+underscored p q first r x None ts = failed (unknown (is_one_of left_out_operators x.0) p q)
+underscored p q first r x (Some digits) ts = literal_reading p digits (prime_failures first q ++ prime_failures x.1 r) (only_numeral ts)
+
+abbrev pub symbol_underscored : Place → Place → Bool → Place → Option (List ℕ × Bool) → form.Trees → Reading
+symbol_underscored p q first r None ts = failed (refusal 4 q)
+symbol_underscored p q first r (Some x) ts = underscored p q first r x (literal_digits x.0) ts
 
 -- what stands behind the `_` at q of a term at p
-abbrev pub underscored : Place → Place → Bool → List ℕ → Place → Bool → form.Trees → Option (List ℕ) → Reading
-underscored p q first name r second ts (Some digits) = literal_reading p digits (prime_failures first q ++ prime_failures second r) ts
-underscored p q first name r second ts None = failed (unknown (is_one_of left_out_operators name) p q)
-
 abbrev pub underscore_reading : Place → Place → Bool → form.Trees → Reading
-underscore_reading p q first (form.tree (form.atom r (Symbol name second)) ts) = underscored p q first name r second ts (literal_digits name)
-underscore_reading p q first ts = failed (refusal 4 q)
+underscore_reading p q first form.no_trees = failed (refusal 4 q)
+underscore_reading p q first (form.tree t ts) = symbol_underscored p q first (place_in t) (symbol_of t) ts
 
 -- a function with parameters, at the head of a list
 abbrev pub head_call : ℕ → Option Function → Option Head
@@ -221,33 +240,56 @@ abbrev pub known_head : Option Head → Refusal → Result Head Refusal
 known_head (Some h) f = Ok h
 known_head None f = Err f
 
+-- an operator with one index
+abbrev pub extended_head : Place → List ℕ → Option (List ℕ) → Result Head Refusal
+extended_head q name None = Err (refusal 12 q)
+extended_head q name (Some count) =
+    if bytes_eq name (codes "zero_extend") then Ok (heads.Operator (op.ZeroExtend (index_of count))) else Ok (heads.Operator (op.SignExtend (index_of count)))
+
+abbrev pub extracted_head : Place → Option (List ℕ) → Option (List ℕ) → Result Head Refusal
+extracted_head q (Some high) (Some low) = Ok (heads.Operator (op.Extract (index_of high) (index_of low)))
+extracted_head q (Some high) None = Err (refusal 12 q)
+extracted_head q None low = Err (refusal 12 q)
+
+-- an operator with two indices
+abbrev pub paired_head : Place → Option (form.Tree × form.Tree) → Result Head Refusal
+paired_head q None = Err (refusal 12 q)
+paired_head q (Some x) = extracted_head q (numeral_of x.0) (numeral_of x.1)
+
 -- the operator with indices at the head at q
 abbrev pub indexed_head : Place → List ℕ → form.Trees → Result Head Refusal
-indexed_head q name (form.tree (form.atom u (Numeral high)) (form.tree (form.atom v (Numeral low)) form.no_trees)) =
-    if bytes_eq name (codes "extract") then Ok (heads.Operator (op.Extract (index_of high) (index_of low))) else Err (refusal 12 q)
-indexed_head q name (form.tree (form.atom u (Numeral count)) form.no_trees) =
-    if bytes_eq name (codes "zero_extend") then Ok (heads.Operator (op.ZeroExtend (index_of count)))
-    else (if bytes_eq name (codes "sign_extend") then Ok (heads.Operator (op.SignExtend (index_of count))) else Err (refusal 12 q))
-indexed_head q name ts = Err (refusal 12 q)
+indexed_head q name ts = if bytes_eq name (codes "extract") then paired_head q (pair_of ts) else extended_head q name (only_numeral ts)
 
--- what stands behind the `_` of a head at q, in a term at p
+-- behind the `_` of a head at q, in a term at p, the symbol, and what stands behind it
+abbrev pub symbol_head : Place → Place → Option (List ℕ × Bool) → form.Trees → Result Head Refusal
+symbol_head p q None ts = Err (refusal 4 q)
+symbol_head p q (Some x) ts = if is_one_of indexed_operators x.0 then indexed_head q x.0 ts else Err (unknown (is_one_of left_out_operators x.0) p q)
+
+-- what stands behind the first form of a head at q
 abbrev pub listed_head : Place → Place → form.Trees → Result Head Refusal
-listed_head p q (form.tree (form.atom r (Symbol name primed)) ts) =
-    if is_one_of indexed_operators name then indexed_head q name ts else Err (unknown (is_one_of left_out_operators name) p q)
-listed_head p q ts = Err (refusal 4 q)
+listed_head p q form.no_trees = Err (refusal 4 q)
+listed_head p q (form.tree t ts) = symbol_head p q (symbol_of t) ts
+
+abbrev pub atom_head : ScopeState → Place → Place → Option (List ℕ × Bool) → Result Head Refusal
+atom_head s p q None = Err (refusal 4 q)
+atom_head s p q (Some x) = known_head (head_named s x.0) (unknown (is_one_of left_out_operators x.0) p q)
 
 -- what the head of a term at p stands for, or its failing test
 abbrev pub head_of : ScopeState → Place → form.Tree → Result Head Refusal
-head_of s p (form.atom q (Symbol name primed)) = known_head (head_named s name) (unknown (is_one_of left_out_operators name) p q)
-head_of s p (form.atom q a) = Err (refusal 4 q)
-head_of s p (form.list q (form.tree (form.atom r (Symbol name primed)) ts)) = if bytes_eq name (codes "_") then listed_head p q ts else Err (refusal 4 q)
-head_of s p (form.list q ts) = Err (refusal 4 q)
+head_of s p (form.atom q a) = atom_head s p q (symbol_atom a)
+head_of s p (form.list q form.no_trees) = Err (refusal 4 q)
+head_of s p (form.list q (form.tree t ts)) = if is_word (codes "_") t then listed_head p q ts else Err (refusal 4 q)
 
--- the primed symbols of a head
+-- the test of the prime of a symbol
+abbrev pub symbol_primes : form.Tree → List Refusal
+symbol_primes t = prime_failures (is_primed t) (place_in t)
+
+-- the tests of the primes of a head: its symbol, or the first two of a list
 abbrev pub head_primes : form.Tree → List Refusal
-head_primes (form.atom q (Symbol name primed)) = prime_failures primed q
-head_primes (form.list q (form.tree (form.atom r (Symbol name first)) (form.tree (form.atom u (Symbol other second)) ts))) = prime_failures first r ++ prime_failures second u
-head_primes f = []
+head_primes (form.atom q a) = symbol_primes (form.atom q a)
+head_primes (form.list q form.no_trees) = []
+head_primes (form.list q (form.tree t form.no_trees)) = symbol_primes t
+head_primes (form.list q (form.tree t (form.tree u ts))) = symbol_primes t ++ symbol_primes u
 
 -- the sorts of a function's parameters and its result
 abbrev pub call_sort : Option Function → List Sort → Result Sort ℕ
@@ -270,23 +312,25 @@ abbrev pub headed : Head → Trees → Tree
 headed (heads.Operator o) ts = apply o ts
 headed (heads.Function n) ts = call n ts
 
--- terms one behind the other: their sorts, where each has one, and how many there are
+-- terms one behind the other, and their sorts, where each has one
 pub record Arguments : Type 0 where
-  pub terms : Trees
+  pub terms : List Tree
   pub sorts : Option (List Sort)
-  pub count : ℕ
   pub failures : List Refusal
 
-abbrev pub with_front : Option Sort → Option (List Sort) → Option (List Sort)
-with_front None ss = None
-with_front (Some s) None = None
-with_front (Some s) (Some ss) = Some (s ∷ ss)
+abbrev pub joined : Option (List Sort) → Option (List Sort) → Option (List Sort)
+joined None ss = None
+joined (Some ss) None = None
+joined (Some ss) (Some ts) = Some (ss ++ ts)
 
 abbrev pub no_arguments : Arguments
-no_arguments = record { terms = no_trees; sorts = Some []; count = 0; failures = [] }
+no_arguments = record { terms = []; sorts = Some []; failures = [] }
 
-abbrev pub argument : Reading → Arguments → Arguments
-argument r rs = record { terms = tree r.term rs.terms; sorts = with_front r.sort rs.sorts; count = suc rs.count; failures = r.failures ++ rs.failures }
+abbrev pub argument : Reading → Arguments
+argument r = record { terms = r.term ∷ []; sorts = option_map (λ s. s ∷ []) r.sort; failures = r.failures }
+
+abbrev pub both_arguments : Arguments → Arguments → Arguments
+both_arguments x y = record { terms = x.terms ++ y.terms; sorts = joined x.sorts y.sorts; failures = x.failures ++ y.failures }
 
 abbrev pub sort_failures : Place → Result Sort ℕ → List Refusal
 sort_failures p (Ok s) = []
@@ -305,14 +349,18 @@ abbrev pub applied_sort : List Function → Head → Option (List Sort) → Opti
 applied_sort fs h None = None
 applied_sort fs h (Some ss) = sort_result (head_sort fs h ss)
 
+-- the tests of the number and of the sorts of the arguments
+abbrev pub argument_tests : List Function → Place → Head → ℕ → Option (List Sort) → List Refusal
+argument_tests fs p h n ss = if head_count_fits fs h n then sorts_tested fs p h ss else refusal 12 p ∷ []
+
 abbrev pub application_tests : List Function → Place → Head → Arguments → List Refusal
-application_tests fs p h rs = if head_count_fits fs h rs.count then sorts_tested fs p h rs.sorts else refusal 12 p ∷ []
+application_tests fs p h rs = argument_tests fs p h (length rs.terms) rs.sorts
 
 -- an application at p of a head whose primes fail like this
 abbrev pub application : List Function → Place → List Refusal → Result Head Refusal → Arguments → Reading
 application fs p primes (Err f) rs = record { term = no_term; sort = None; failures = rs.failures ++ f ∷ [] }
 application fs p primes (Ok h) rs = record {
-  term = headed h rs.terms;
+  term = headed h (trees_of rs.terms);
   sort = unless_failed (primes ++ application_tests fs p h rs) (applied_sort fs h rs.sorts);
   failures = rs.failures ++ (primes ++ application_tests fs p h rs);
 }
@@ -320,19 +368,27 @@ application fs p primes (Ok h) rs = record {
 -- what a `let` binds: the names with their sorts, the terms, the failing tests of its form, and those of its terms
 pub record Bindings : Type 0 where
   pub locals : List Local
-  pub terms : Trees
+  pub terms : List Tree
   pub shape : List Refusal
   pub failures : List Refusal
 
 abbrev pub no_bindings : Bindings
-no_bindings = record { locals = []; terms = no_trees; shape = []; failures = [] }
+no_bindings = record { locals = []; terms = []; shape = []; failures = [] }
 
 -- a binding that hasn't its shape binds nothing
-abbrev pub misshapen : Place → Bindings → Bindings
-misshapen p bs = record bs { shape = refusal 12 p ∷ bs.shape }
+abbrev pub misshapen : Place → Bindings
+misshapen p = record { locals = []; terms = []; shape = refusal 12 p ∷ []; failures = [] }
 
-abbrev pub bound_to : List ℕ → List Refusal → Reading → Bindings → Bindings
-bound_to name primes r bs = record { locals = record { name = name; sort = r.sort } ∷ bs.locals; terms = tree r.term bs.terms; shape = primes ++ bs.shape; failures = r.failures ++ bs.failures }
+abbrev pub bound_to : List ℕ → List Refusal → Reading → Bindings
+bound_to name primes r = record { locals = record { name = name; sort = r.sort } ∷ []; terms = r.term ∷ []; shape = primes; failures = r.failures }
+
+-- the binding of a list at p, whose first form is this
+abbrev pub binding_of : Place → form.Tree → Option (List ℕ × Bool) → Reading → Bindings
+binding_of p t None r = misshapen p
+binding_of p t (Some x) r = bound_to x.0 (prime_failures x.1 (place_in t)) r
+
+abbrev pub both_bindings : Bindings → Bindings → Bindings
+both_bindings x y = record { locals = x.locals ++ y.locals; terms = x.terms ++ y.terms; shape = x.shape ++ y.shape; failures = x.failures ++ y.failures }
 
 -- one or more bindings stand in the list at q
 abbrev pub bindings_tests : Place → form.Trees → List Refusal
@@ -345,23 +401,10 @@ names_of (x ∷ xs) = x.name ∷ names_of xs
 
 abbrev pub let_reading : List Refusal → Bindings → Reading → Reading
 let_reading own bs body = record {
-  term = binding (names_of bs.locals) bs.terms body.term;
+  term = binding (names_of bs.locals) (trees_of bs.terms) body.term;
   sort = unless_failed (own ++ bs.shape) body.sort;
   failures = own ++ (bs.shape ++ (bs.failures ++ body.failures));
 }
-
--- the head is this symbol
-abbrev pub is_word : List ℕ → form.Tree → Bool
-is_word word (form.atom p (Symbol name primed)) = bytes_eq name word
-is_word word f = false
-
-abbrev pub place_in : form.Tree → Place
-place_in (form.atom p a) = p
-place_in (form.list p ts) = p
-
-abbrev pub is_primed : form.Tree → Bool
-is_primed (form.atom p (Symbol name primed)) = primed
-is_primed f = false
 
 -- the place of a form counts with its failing tests
 abbrev mutual
@@ -375,7 +418,7 @@ abbrev mutual
 
   pub read_all : Context → List Local → form.Trees → Arguments
   read_all c bounds form.no_trees = no_arguments
-  read_all c bounds (form.tree t ts) = argument (read c bounds t) (read_all c bounds ts)
+  read_all c bounds (form.tree t ts) = both_arguments (argument (read c bounds t)) (read_all c bounds ts)
 
   -- the two forms behind the `let` of a term at p
   pub read_let : Context → List Local → Place → List Refusal → form.Trees → Reading
@@ -386,7 +429,9 @@ abbrev mutual
   -- the bindings of a list at q; the values are read outside the `let`
   pub read_bindings : Context → List Local → Place → form.Trees → Bindings
   read_bindings c bounds q form.no_trees = no_bindings
-  read_bindings c bounds q (form.tree (form.list p (form.tree (form.atom r (Symbol name primed)) (form.tree t form.no_trees))) bs) =
-      bound_to name (prime_failures primed r) (read c bounds t) (read_bindings c bounds q bs)
-  read_bindings c bounds q (form.tree (form.list p ts) bs) = misshapen p (read_bindings c bounds q bs)
-  read_bindings c bounds q (form.tree (form.atom p a) bs) = misshapen q (read_bindings c bounds q bs)
+  read_bindings c bounds q (form.tree b bs) = both_bindings (read_binding c bounds q b) (read_bindings c bounds q bs)
+
+  pub read_binding : Context → List Local → Place → form.Tree → Bindings
+  read_binding c bounds q (form.list p (form.tree x (form.tree t form.no_trees))) = binding_of p x (symbol_of x) (read c bounds t)
+  read_binding c bounds q (form.list p ts) = misshapen p
+  read_binding c bounds q (form.atom p a) = misshapen q

@@ -53,11 +53,15 @@ pub record IsFunction (es : List Enumeration) (fs : List PlainFunction) (f : Pla
   pub unprimed : IsUnprimed f.body
   pub body : HasSort es fs (sorts_of f.parameters) [] f.body f.result
 
+-- each of these calls earlier ones alone
+abbrev pub AreFunctions : List Enumeration → List PlainFunction → Type 0
+AreFunctions es fs = (n : ℕ) (f : PlainFunction) → slice_get fs n ≡ Some f → IsFunction es (take n fs) f
+
 -- what a scope keeps: each enumeration has a constant, each sort is one of the scope, and each function calls earlier ones alone
 pub record IsScope (s : ScopeState) : Type 0 where
   pub enumerations : AllByRecursion (λ (e : Enumeration). 0 < length e.constants) s.enumerations
   pub sorts : AllByRecursion (λ (n : NamedSort). IsSort s.enumerations n.sort) s.sorts
-  pub functions : (n : ℕ) (f : PlainFunction) → slice_get (plain_functions s) n ≡ Some f → IsFunction s.enumerations (take n (plain_functions s)) f
+  pub functions : AreFunctions s.enumerations (plain_functions s)
 
 -- the later values are of the variables' sorts; without any, no variable is primed
 abbrev pub FitLater : List Enumeration → List Sort → Tree → Option (Bor (List Datum)) → Type 0

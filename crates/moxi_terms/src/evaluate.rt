@@ -1,11 +1,11 @@
 // The value of a term.
-ghost use Rattle.std.specs.Prelude.{◌≡◌, ◌≤◌, ◌++◌, [], map, length, List, IfOk, OnOk, Some, None};
+ghost use Rattle.std.specs.Prelude.{◌≡◌, ◌++◌, ◌∷◌, [], map, length, List, IfOk, OnOk, Some, None};
 ghost use Rattle.moxi_terms.specs.declared.data.Sort.{Sort};
 ghost use Rattle.moxi_terms.specs.Sorted.{HasSort, IsReady, IsScope};
 ghost use Rattle.moxi_terms.specs.Sorts.{Fit, IsOf};
 ghost use Rattle.moxi_terms.specs.Tree.{Tree, trees_of};
 ghost use Rattle.moxi_terms.specs.Value.{at, calls_upto, later_of, term_value, term_values};
-ghost use Rattle.moxi_terms.specs.Evaluated.{values_in};
+ghost use Rattle.moxi_terms.specs.Evaluated.{CanCall, CanEvaluate, CanEvaluateAll, values_in};
 ghost use Rattle.moxi_terms.specs.View.{ScopeState, plain, plain_function, plain_functions};
 
 use crate::data::Datum;
@@ -71,18 +71,28 @@ pub fn eval(
         functions,
         upto: functions.len(),
         now: Valuation::Given(now),
-        later: match later {
-            Some(env) => Valuation::Given(env),
-            None => Valuation::Given(now),
-        },
+        later: later_valuation(now, later),
     };
     let mut bound = Vec::new(alloc);
     value(alloc, scene, &mut bound, term)
 }
 
+fn later_valuation<'a>(now: &'a Env, later: Option<&'a Env>) -> Valuation<'a>
+    ensures { values_in result ≡ later_of now.now later.entry }
+{
+    match later {
+        Some(env) => Valuation::Given(env),
+        None => Valuation::Given(now),
+    }
+}
+
 #[cycle(value)]
 #[inline(never)]
-fn value(alloc: Global, scene: Scene, bound: &mut Vec<Datum>, t: &Term) -> Result<Datum, NoMemory> {
+fn value(alloc: Global, scene: Scene, bound: &mut Vec<Datum>, t: &Term) -> Result<Datum, NoMemory>
+    requires { CanEvaluate (map plain_function scene.functions.now) scene.upto (values_in scene.now) (values_in scene.later) bound.old.items (plain t.now) }
+    ensures value { IfOk result (λ d. d ≡ term_value (calls_upto (map plain_function scene.entry.functions.now) scene.entry.upto) (at (values_in scene.entry.now)) (at (values_in scene.entry.later)) bound.old.items (plain t.now)) }
+    ensures kept { OnOk result (bound.new.items ≡ bound.old.items) }
+{
     match t {
         Term::Constant(d) => Ok(*d),
         Term::Variable(v, primed) => Ok(if *primed {
@@ -97,17 +107,34 @@ fn value(alloc: Global, scene: Scene, bound: &mut Vec<Datum>, t: &Term) -> Resul
         }
         Term::Let(_, terms, body) => {
             let more = values(alloc, scene, bound, terms)?;
-            let before = bound.len();
-            append(bound, &more)?;
-            let result = value(alloc, scene, bound, body)?;
-            bound.truncate(before);
-            Ok(result)
+            inner_value(alloc, scene, bound, &more, body)
         }
         Term::Call(n, terms) => {
             let args = values(alloc, scene, bound, terms)?;
             call(alloc, scene.functions, scene.upto, *n, &args)
         }
     }
+}
+
+// The value of a term around which these values more are bound.
+#[cycle(value)]
+#[inline(never)]
+fn inner_value(
+    alloc: Global,
+    scene: Scene,
+    bound: &mut Vec<Datum>,
+    more: &[Datum],
+    t: &Term,
+) -> Result<Datum, NoMemory>
+    requires { CanEvaluate (map plain_function scene.functions.now) scene.upto (values_in scene.now) (values_in scene.later) (bound.old.items ++ more.now) (plain t.now) }
+    ensures value { IfOk result (λ d. d ≡ term_value (calls_upto (map plain_function scene.entry.functions.now) scene.entry.upto) (at (values_in scene.entry.now)) (at (values_in scene.entry.later)) (bound.old.items ++ more.now) (plain t.now)) }
+    ensures kept { OnOk result (bound.new.items ≡ bound.old.items) }
+{
+    let before = bound.len();
+    append(bound, more)?;
+    let d = value(alloc, scene, bound, t)?;
+    bound.truncate(before);
+    Ok(d)
 }
 
 fn append(all: &mut Vec<Datum>, more: &[Datum]) -> Result<(), NoMemory>
@@ -119,6 +146,7 @@ fn append(all: &mut Vec<Datum>, more: &[Datum]) -> Result<(), NoMemory>
     }
 }
 
+// What a function gives for these arguments, which are the values of its variables.
 #[cycle(value)]
 #[inline(never)]
 fn call(
@@ -127,21 +155,22 @@ fn call(
     upto: usize,
     n: u32,
     args: &[Datum],
-) -> Result<Datum, NoMemory> {
-    let upto_here = n as usize;
-    if upto_here >= upto {
-        return Ok(Datum::Truth(false));
-    }
+) -> Result<Datum, NoMemory>
+    requires { CanCall (map plain_function functions.now) upto n args.now }
+    ensures { IfOk result (λ d. d ≡ calls_upto (map plain_function functions.now) upto n args.now) }
+{
+    let number = n as usize;
     let scene = Scene {
         functions,
-        upto: upto_here,
+        upto: number,
         now: Valuation::Arguments(args),
         later: Valuation::Arguments(args),
     };
     let mut bound = Vec::new(alloc);
-    value(alloc, scene, &mut bound, &functions.at(upto_here).body)
+    value(alloc, scene, &mut bound, &functions.at(number).body)
 }
 
+// The values of terms.
 #[cycle(value)]
 #[inline(never)]
 fn values(
@@ -149,16 +178,26 @@ fn values(
     scene: Scene,
     bound: &mut Vec<Datum>,
     terms: &[Term],
-) -> Result<Vec<Datum>, NoMemory> {
+) -> Result<Vec<Datum>, NoMemory>
+    requires { CanEvaluateAll (map plain_function scene.functions.now) scene.upto (values_in scene.now) (values_in scene.later) bound.old.items (trees_of (map plain terms.now)) }
+    ensures values { IfOk result (λ all. all.items ≡ term_values (calls_upto (map plain_function scene.entry.functions.now) scene.entry.upto) (at (values_in scene.entry.now)) (at (values_in scene.entry.later)) bound.old.items (trees_of (map plain terms.now))) }
+    ensures kept { OnOk result (bound.new.items ≡ bound.old.items) }
+{
     let mut all = Vec::new(alloc);
     for t in terms {
         let d = value(alloc, scene, bound, t)?;
-        match all.push(d) {
-            Ok(()) => {}
-            Err(_) => return Err(NoMemory),
-        }
+        put(&mut all, d)?;
     }
     Ok(all)
+}
+
+fn put(all: &mut Vec<Datum>, d: Datum) -> Result<(), NoMemory>
+    ensures { OnOk result (all.new.items ≡ all.old.items ++ d ∷ []) }
+{
+    match all.push(d) {
+        Ok(()) => Ok(()),
+        Err(_) => Err(NoMemory),
+    }
 }
 
 /// A term that has a sort has a value of that sort.

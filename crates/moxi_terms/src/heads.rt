@@ -1,17 +1,18 @@
-// Heads of applications, and literals with an `_`.
+// Heads of applications, and the names of literals with an `_`.
 ghost use Rattle.std.specs.Prelude.{◌≡◌, Some, None};
-ghost use Rattle.moxi_sexpr.specs.Lexing.{refusal};
 ghost use Rattle.moxi_sexpr.specs.Tree.{plain, plain_forms};
 ghost use Rattle.moxi_terms.specs.Failures.{least};
-ghost use Rattle.moxi_terms.specs.Heads.{digits_now};
-ghost use Rattle.moxi_terms.specs.Reading.{head_of, head_primes, indexed_head, is_primed, is_word, known_head, listed_head, literal_digits, place_in, prime_failures};
+ghost use Rattle.moxi_terms.specs.Forms.{digits_now, pair_now, symbol_now};
+ghost use Rattle.moxi_terms.specs.Reading.{atom_head, decimal_digits, extended_head, extracted_head, head_of, head_primes, indexed_head, listed_head, literal_digits, paired_head, prime_failures, symbol_primes};
 
 use crate::data::TermOp;
+use crate::failures::sooner;
+use crate::forms::{is_primed, is_word, numeral_of, only_numeral, pair, symbol_atom, symbol_of};
 use crate::names::{Head, is_same};
 use crate::scope::Scope;
 use crate::sorts::{index_of, refusal, unknown};
 use crate::words::{is_indexed, is_left_out};
-use moxi_sexpr::{Atom, Form, FormShape};
+use moxi_sexpr::{Form, FormShape};
 use text_core::{Place, Refusal};
 
 /// The failing test of a prime.
@@ -21,70 +22,67 @@ pub fn prime(primed: bool, p: Place) -> Option<Refusal>
     if primed { Some(refusal(7, p)) } else { None }
 }
 
-/// Is the form this symbol?
-pub fn is_word(word: &[u8], form: &Form) -> bool
-    ensures { result ≡ is_word word.now (plain form.now) }
-{
-    match &form.shape {
-        FormShape::Atom(Atom::Symbol(name, _)) => name.bytes() == word,
-        _ => false,
-    }
-}
-
-/// Is the form a primed symbol?
-pub fn is_primed(form: &Form) -> bool
-    ensures { result ≡ is_primed (plain form.now) }
-{
-    match &form.shape {
-        FormShape::Atom(Atom::Symbol(_, primed)) => *primed,
-        _ => false,
-    }
-}
-
 /// The digits of `bvN`.
 pub fn literal_digits<'a>(name: &'a [u8]) -> Option<&'a [u8]>
     ensures { digits_now result ≡ literal_digits name.now }
 {
     match name {
-        [b'b', b'v', digits @ ..] => if digits.is_empty() || !are_digits(digits) {
-            None
+        [b, c, digits @ ..] => if *b == b'b' && *c == b'v' {
+            decimal_digits(digits)
         } else {
-            Some(digits)
+            None
         },
         _ => None,
     }
 }
 
-fn are_digits(bytes: &[u8]) -> bool {
-    bytes.iter().all(|b| (b'0'..=b'9').contains(b))
+// The bytes, where they are one or more digits.
+fn decimal_digits<'a>(bytes: &'a [u8]) -> Option<&'a [u8]>
+    ensures { digits_now result ≡ decimal_digits bytes.now }
+{
+    if bytes.is_empty() || !bytes.iter().all(|b| *b >= 48 && *b <= 57) {
+        None
+    } else {
+        Some(bytes)
+    }
+}
+
+fn extracted_head(q: Place, high: Option<&[u8]>, low: Option<&[u8]>) -> Result<Head, Refusal>
+    ensures { result ≡ extracted_head q (digits_now high.entry) (digits_now low.entry) }
+{
+    match high {
+        Some(h) => match low {
+            Some(l) => Ok(Head::Operator(TermOp::Extract(index_of(h), index_of(l)))),
+            None => Err(refusal(12, q)),
+        },
+        None => Err(refusal(12, q)),
+    }
+}
+
+fn extended_head(q: Place, name: &[u8], count: Option<&[u8]>) -> Result<Head, Refusal>
+    ensures { result ≡ extended_head q name.now (digits_now count.entry) }
+{
+    match count {
+        Some(n) => if is_same(name, b"zero_extend") {
+            Ok(Head::Operator(TermOp::ZeroExtend(index_of(n))))
+        } else {
+            Ok(Head::Operator(TermOp::SignExtend(index_of(n))))
+        },
+        None => Err(refusal(12, q)),
+    }
 }
 
 // The operator with indices at the head at q.
 fn indexed_head(q: Place, name: &[u8], indices: &[Form]) -> Result<Head, Refusal>
     ensures { result ≡ indexed_head q name.now (plain_forms indices.now) }
 {
-    match indices {
-        [high, low] => match (&high.shape, &low.shape) {
-            (FormShape::Atom(Atom::Numeral(h)), FormShape::Atom(Atom::Numeral(l))) => if is_same(
-                name, b"extract",
-            ) {
-                Ok(Head::Operator(TermOp::Extract(index_of(h.bytes()), index_of(l.bytes()))))
-            } else {
-                Err(refusal(12, q))
-            },
-            _ => Err(refusal(12, q)),
-        },
-        [count] => match &count.shape {
-            FormShape::Atom(Atom::Numeral(n)) => if is_same(name, b"zero_extend") {
-                Ok(Head::Operator(TermOp::ZeroExtend(index_of(n.bytes()))))
-            } else if is_same(name, b"sign_extend") {
-                Ok(Head::Operator(TermOp::SignExtend(index_of(n.bytes()))))
-            } else {
-                Err(refusal(12, q))
-            },
-            _ => Err(refusal(12, q)),
-        },
-        _ => Err(refusal(12, q)),
+    if is_same(name, b"extract") {
+        match pair(indices) {
+            Some((high, low)) => extracted_head(q, numeral_of(high), numeral_of(low)),
+            None => Err(refusal(12, q)),
+        }
+    } else {
+        extended_head(q, name, only_numeral(indices))
     }
 }
 
@@ -93,13 +91,25 @@ fn listed_head(p: Place, q: Place, rest: &[Form]) -> Result<Head, Refusal>
     ensures { result ≡ listed_head p q (plain_forms rest.now) }
 {
     match rest.split_first() {
-        Some((form, indices)) => match &form.shape {
-            FormShape::Atom(Atom::Symbol(name, _)) => if is_indexed(name.bytes()) {
-                indexed_head(q, name.bytes(), indices)
+        Some((form, indices)) => match symbol_of(form) {
+            Some((name, _)) => if is_indexed(name) {
+                indexed_head(q, name, indices)
             } else {
-                Err(unknown(is_left_out(name.bytes()), p, q))
+                Err(unknown(is_left_out(name), p, q))
             },
-            _ => Err(refusal(4, q)),
+            None => Err(refusal(4, q)),
+        },
+        None => Err(refusal(4, q)),
+    }
+}
+
+fn atom_head(scope: &Scope, p: Place, q: Place, symbol: Option<(&[u8], bool)>) -> Result<Head, Refusal>
+    ensures { result ≡ atom_head scope.now p q (symbol_now symbol.entry) }
+{
+    match symbol {
+        Some((name, _)) => match scope.head(name) {
+            Some(h) => Ok(h),
+            None => Err(unknown(is_left_out(name), p, q)),
         },
         None => Err(refusal(4, q)),
     }
@@ -111,11 +121,7 @@ pub fn head_of(scope: &Scope, p: Place, head: &Form) -> Result<Head, Refusal>
 {
     let q = head.place;
     match &head.shape {
-        FormShape::Atom(Atom::Symbol(name, _)) => match scope.head(name.bytes()) {
-            Some(h) => Ok(h),
-            None => Err(unknown(is_left_out(name.bytes()), p, q)),
-        },
-        FormShape::Atom(_) => Err(refusal(4, q)),
+        FormShape::Atom(a) => atom_head(scope, p, q, symbol_atom(a)),
         FormShape::List(parts) => match parts.split_first() {
             Some((first, rest)) => if is_word(b"_", first) {
                 listed_head(p, q, rest)
@@ -123,6 +129,29 @@ pub fn head_of(scope: &Scope, p: Place, head: &Form) -> Result<Head, Refusal>
                 Err(refusal(4, q))
             },
             None => Err(refusal(4, q)),
+        },
+    }
+}
+
+// The failing test of the prime of a symbol.
+fn symbol_prime(form: &Form) -> Option<Refusal>
+    ensures { result ≡ least (symbol_primes (plain form.now)) }
+{
+    prime(is_primed(form), form.place)
+}
+
+/// The failing test of the primes of a head.
+pub fn head_prime(head: &Form) -> Option<Refusal>
+    ensures { result ≡ least (head_primes (plain head.now)) }
+{
+    match &head.shape {
+        FormShape::Atom(_) => symbol_prime(head),
+        FormShape::List(parts) => match parts.split_first() {
+            None => None,
+            Some((first, rest)) => match rest.split_first() {
+                None => symbol_prime(first),
+                Some((second, _)) => sooner(symbol_prime(first), symbol_prime(second)),
+            },
         },
     }
 }

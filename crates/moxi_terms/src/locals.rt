@@ -126,7 +126,6 @@ impl Bounds {
 
     /// Binds these names.
     pub fn bind_all(&mut self, names: &Items<Local>) -> Result<(), NoMemory>
-        requires { length self.old + length names.now < 2 ^ 32 }
         ensures { OnOk result (self.new ≡ self.old ++ names.now) }
     {
         for i in 0..names.len() {
@@ -136,10 +135,11 @@ impl Bounds {
     }
 
     fn bind(&mut self, local: &Local) -> Result<(), NoMemory>
-        requires { length self.old < 2 ^ 32 - 1 }
         ensures { OnOk result (self.new ≡ self.old ++ local.now ∷ []) }
     {
-        let number = self.bindings.len() as u32;
+        let Ok(number) = u32::try_from(self.bindings.len()) else {
+            return Err(NoMemory);
+        };
         let key = self.key_of(local.name.bytes())?;
         let before = self.lasts[key];
         match self.bindings.push(Binding {

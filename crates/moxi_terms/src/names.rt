@@ -1,6 +1,6 @@
 // Names in the order in which they were declared, found with no scan, and what names stand for.
-ghost use Rattle.std.specs.Prelude.{◌≡◌, true, false, ◌++◌, ◌∷◌, ◌≤◌, [], length, take, IfOk, OnErr, if◌then◌else◌};
-ghost use Rattle.moxi_terms.specs.Names.{are_fresh, is_among, place_of};
+ghost use Rattle.std.specs.Prelude.{◌≡◌, true, is_none, ◌++◌, ◌∷◌, ◌≤◌, [], length, take, IfOk, OnErr, if◌then◌else◌};
+ghost use Rattle.moxi_terms.specs.Names.{are_fresh, place_of};
 ghost use Rattle.std.specs.Str.{bytes_eq};
 
 use crate::data::{Datum, Sort, TermOp};
@@ -79,7 +79,7 @@ impl Numbering {
 
     /// Declares a name, and says whether it is new. Nothing changes where it isn't, nor where memory is refused.
     pub fn declare(&mut self, alloc: Global, name: &[u8]) -> Result<bool, NoMemory>
-        ensures fresh { IfOk result (λ fresh. is_among self.old name.now ≡ (if fresh then false else true)) }
+        ensures fresh { IfOk result (λ fresh. fresh ≡ is_none (place_of self.old name.now)) }
         ensures names { IfOk result (λ fresh. self.new ≡ (if fresh then self.old ++ name.now ∷ [] else self.old)) }
         ensures err { OnErr result (self.new ≡ self.old) }
     {
@@ -117,6 +117,8 @@ impl Numbering {
     // Declares these names up to the first that isn't new.
     fn declare_each(&mut self, alloc: Global, names: &Names) -> Result<bool, NoMemory>
         ensures fresh { IfOk result (λ fresh. fresh ≡ are_fresh self.old names.now) }
+        ensures all { IfOk result (λ fresh. fresh ≡ true → self.new ≡ self.old ++ names.now) }
+        ensures begun { take (length self.old) self.new ≡ self.old }
     {
         for i in 0..names.len() {
             if !self.declare(alloc, names.at(i).bytes())? {

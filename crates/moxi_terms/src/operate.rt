@@ -4,7 +4,7 @@ ghost use Rattle.std.specs.List.{list_all, list_any};
 ghost use Rattle.word_core.specs.Table.{BinaryFits};
 ghost use Rattle.moxi_terms.specs.Operators.{all_differ, all_equal, folded, implied, is_comparison, nothing, on_words, op_value, parity, same, same_truth, truth_of, word_of};
 ghost use Rattle.moxi_terms.specs.declared.data.Datum.TheVariants as datum;
-ghost use Rattle.moxi_terms.specs.Applied.{AreWide, CanApply, IsWide};
+ghost use Rattle.moxi_terms.specs.Applied.{AreWide, CanApply, IsBits};
 
 use crate::data::{Datum, TermOp};
 use word_core::{Binary, Word, binary, sext, slice, uext, unary};
@@ -165,17 +165,14 @@ fn on_words(op: Binary, first: Word, rest: &[Datum]) -> Datum
     }
 }
 
-// The value of an operator on one word.
-fn on_word(op: TermOp, w: Word) -> Datum
-    requires { IsWide op w }
-    ensures { result ≡ op_value op (datum.Bits w ∷ []) }
+// The value of an operator on values that are words.
+fn on_data(op: Binary, first: &Datum, rest: &[Datum]) -> Datum
+    requires { IsBits first.now × AreWide op (word_of first.now) rest.now }
+    ensures { result ≡ on_words op (word_of first.now) rest.now }
 {
-    match op {
-        TermOp::Extract(high, low) => Datum::Bits(slice(w, high, low)),
-        TermOp::ZeroExtend(count) => Datum::Bits(uext(w, count)),
-        TermOp::SignExtend(count) => Datum::Bits(sext(w, count)),
-        TermOp::BvUnary(u) => Datum::Bits(unary(u, w)),
-        _ => Datum::Truth(false),
+    match first {
+        Datum::Bits(w) => on_words(op, *w, rest),
+        Datum::Truth(_) | Datum::Constant(_, _) => Datum::Truth(false),
     }
 }
 
@@ -210,14 +207,23 @@ pub fn operate(op: TermOp, args: &[Datum]) -> Datum
             _ => Datum::Truth(false),
         },
         TermOp::BvBinary(b) => match args.split_first() {
-            Some((Datum::Bits(w), rest)) => on_words(b, *w, rest),
+            Some((first, rest)) => on_data(b, first, rest),
+            None => Datum::Truth(false),
+        },
+        TermOp::Extract(high, low) => match args {
+            [Datum::Bits(w)] => Datum::Bits(slice(*w, high, low)),
             _ => Datum::Truth(false),
         },
-        TermOp::Extract(_, _)
-        | TermOp::ZeroExtend(_)
-        | TermOp::SignExtend(_)
-        | TermOp::BvUnary(_) => match args {
-            [Datum::Bits(w)] => on_word(op, *w),
+        TermOp::ZeroExtend(count) => match args {
+            [Datum::Bits(w)] => Datum::Bits(uext(*w, count)),
+            _ => Datum::Truth(false),
+        },
+        TermOp::SignExtend(count) => match args {
+            [Datum::Bits(w)] => Datum::Bits(sext(*w, count)),
+            _ => Datum::Truth(false),
+        },
+        TermOp::BvUnary(u) => match args {
+            [Datum::Bits(w)] => Datum::Bits(unary(u, *w)),
             _ => Datum::Truth(false),
         },
     }

@@ -1,15 +1,17 @@
 // The sort that a form spells.
 ghost use Rattle.std.specs.Prelude.{◌≡◌, Some, None};
 ghost use Rattle.moxi_sexpr.specs.Tree.{plain, plain_forms};
-ghost use Rattle.moxi_terms.specs.Reading.{index_of, indexed_sort, is_width, listed_sort, sort_reading, symbol_sort, unknown, vector_sort, width_sort};
+ghost use Rattle.moxi_terms.specs.Forms.{digits_now, symbol_now};
+ghost use Rattle.moxi_terms.specs.Reading.{atom_sort, index_of, indexed_sort, is_width, listed_sort, sort_reading, symbol_sort, unknown, vector_sort, width_sort};
 ghost use Rattle.moxi_terms.specs.Words.{is_one_of, left_out_sorts};
 ghost use Rattle.moxi_sexpr.specs.Lexing.{refusal};
 
 use crate::data::Sort;
+use crate::forms::{only_numeral, symbol_atom, symbol_of};
 use crate::names::is_same;
 use crate::scope::Scope;
 use crate::words::is_left_out_sort;
-use moxi_sexpr::{Atom, Form, FormShape};
+use moxi_sexpr::{Form, FormShape};
 use text_core::{Kind, Place, Refusal};
 use word_core::{WIDEST, read_digits};
 
@@ -74,64 +76,73 @@ fn width_sort(
     }
 }
 
+// What stands behind `BitVec`: the numeral of the width.
 fn vector_sort(
     p: Place,
     q: Place,
     first: bool,
     r: Place,
     second: bool,
-    rest: &[Form],
+    width: Option<&[u8]>,
 ) -> Result<Sort, Refusal>
-    ensures { result ≡ vector_sort p q first r second (plain_forms rest.now) }
+    ensures { result ≡ vector_sort p q first r second (digits_now width.entry) }
 {
-    match rest {
-        [width] => match &width.shape {
-            FormShape::Atom(Atom::Numeral(digits)) => width_sort(
-                index_of(digits.bytes()),
-                p,
-                q,
-                first,
-                r,
-                second,
-            ),
-            _ => Err(refusal(12, p)),
-        },
-        _ => Err(refusal(12, p)),
+    match width {
+        Some(digits) => width_sort(index_of(digits), p, q, first, r, second),
+        None => Err(refusal(12, p)),
     }
 }
 
+// What stands behind the `_` at q of a sort at p.
 fn indexed_sort(p: Place, q: Place, first: bool, rest: &[Form]) -> Result<Sort, Refusal>
     ensures { result ≡ indexed_sort p q first (plain_forms rest.now) }
 {
     match rest.split_first() {
-        Some((form, more)) => match &form.shape {
-            FormShape::Atom(Atom::Symbol(name, second)) => if is_same(name.bytes(), b"BitVec") {
-                vector_sort(p, q, first, form.place, *second, more)
+        Some((form, more)) => match symbol_of(form) {
+            Some((name, second)) => if is_same(name, b"BitVec") {
+                vector_sort(p, q, first, form.place, second, only_numeral(more))
             } else {
-                Err(unknown(is_left_out_sort(name.bytes()), p, q))
+                Err(unknown(is_left_out_sort(name), p, q))
             },
-            _ => Err(refusal(12, p)),
+            None => Err(refusal(12, p)),
         },
         None => Err(refusal(12, p)),
     }
 }
 
+// A list at p, that has this symbol at its head at q.
 fn listed_sort(
     scope: &Scope,
     p: Place,
     q: Place,
-    name: &[u8],
-    primed: bool,
+    symbol: Option<(&[u8], bool)>,
     rest: &[Form],
 ) -> Result<Sort, Refusal>
-    ensures { result ≡ listed_sort scope.now p q name.now primed (plain_forms rest.now) }
+    ensures { result ≡ listed_sort scope.now p q (symbol_now symbol.entry) (plain_forms rest.now) }
 {
-    if is_same(name, b"_") {
-        indexed_sort(p, q, primed, rest)
-    } else if is_same(name, b"BitVec") || scope.sort_named(name).is_some() {
-        Err(refusal(12, p))
-    } else {
-        Err(unknown(is_left_out_sort(name), p, q))
+    match symbol {
+        None => Err(refusal(12, p)),
+        Some((name, primed)) => if is_same(name, b"_") {
+            indexed_sort(p, q, primed, rest)
+        } else if is_same(name, b"BitVec") || scope.sort_named(name).is_some() {
+            Err(refusal(12, p))
+        } else {
+            Err(unknown(is_left_out_sort(name), p, q))
+        },
+    }
+}
+
+fn atom_sort(
+    scope: &Scope,
+    around: Place,
+    p: Place,
+    symbol: Option<(&[u8], bool)>,
+) -> Result<Sort, Refusal>
+    ensures { result ≡ atom_sort scope.now around p (symbol_now symbol.entry) }
+{
+    match symbol {
+        Some((name, primed)) => symbol_sort(scope.sort_named(name), name, primed, p),
+        None => Err(refusal(12, around)),
     }
 }
 
@@ -140,25 +151,9 @@ pub fn sort_of(scope: &Scope, around: Place, form: &Form) -> Result<Sort, Refusa
     ensures { result ≡ sort_reading scope.now around (plain form.now) }
 {
     match &form.shape {
-        FormShape::Atom(Atom::Symbol(name, primed)) => symbol_sort(
-            scope.sort_named(name.bytes()),
-            name.bytes(),
-            *primed,
-            form.place,
-        ),
-        FormShape::Atom(_) => Err(refusal(12, around)),
+        FormShape::Atom(a) => atom_sort(scope, around, form.place, symbol_atom(a)),
         FormShape::List(parts) => match parts.split_first() {
-            Some((head, rest)) => match &head.shape {
-                FormShape::Atom(Atom::Symbol(name, primed)) => listed_sort(
-                    scope,
-                    form.place,
-                    head.place,
-                    name.bytes(),
-                    *primed,
-                    rest,
-                ),
-                _ => Err(refusal(12, form.place)),
-            },
+            Some((head, rest)) => listed_sort(scope, form.place, head.place, symbol_of(head), rest),
             None => Err(refusal(12, form.place)),
         },
     }

@@ -1,10 +1,12 @@
 // The sort of an application.
 ghost use Rattle.std.specs.Prelude.{◌≡◌, ◌+◌, Some, None, map, [], ◌∷◌};
+ghost use Rattle.std.specs.List.{list_all};
 ghost use Rattle.moxi_terms.specs.Reading.{call_sort, head_count_fits, head_sort, parameter_count};
 ghost use Rattle.moxi_terms.specs.Scopes.{function_now};
 ghost use Rattle.moxi_terms.specs.Sorts.{calculated, chosen, common, compared, count_fits, fitting, is_arithmetic, is_chain, is_negation, logical, op_sort, same_sort, same_sorts, widened};
 ghost use Rattle.moxi_terms.specs.Tree.{sorts_of};
 ghost use Rattle.moxi_terms.specs.declared.data.Sort.TheVariants as sort;
+ghost use Rattle.moxi_terms.specs.declared.data.TermOp.TheVariants as op;
 ghost use Rattle.moxi_terms.specs.Operators.{is_comparison};
 
 use crate::data::{Sort, TermOp};
@@ -34,6 +36,7 @@ fn same_sort(s: Sort, t: Sort) -> bool
 }
 
 // Are the parameters of these sorts?
+#[tactic(auto, using(crate::proofs::TypingLaws::sorts_end, crate::proofs::TypingLaws::sorts_front, crate::proofs::TypingLaws::other_length))]
 fn same_sorts(parameters: &Variables, sorts: &[Sort]) -> bool
     ensures { result ≡ same_sorts (sorts_of parameters.now) sorts.now }
 {
@@ -48,16 +51,25 @@ fn same_sorts(parameters: &Variables, sorts: &[Sort]) -> bool
     true
 }
 
+// Are all of them this sort?
+fn are_all(s: Sort, sorts: &[Sort]) -> bool
+    ensures { result ≡ list_all (same_sort s) sorts.now }
+{
+    for t in sorts {
+        if !same_sort(s, *t) {
+            return false;
+        }
+    }
+    true
+}
+
 // The one sort that all of them are.
+#[tactic(auto, using(crate::proofs::TypingLaws::common_none))]
 fn common(sorts: &[Sort]) -> Option<Sort>
     ensures { result ≡ common sorts.now }
 {
     match sorts.split_first() {
-        Some((first, rest)) => if rest.iter().all(|s| same_sort(*first, *s)) {
-            Some(*first)
-        } else {
-            None
-        },
+        Some((first, rest)) => if are_all(*first, rest) { Some(*first) } else { None },
         None => None,
     }
 }
@@ -185,34 +197,29 @@ fn fitting(op: TermOp, sorts: &[Sort]) -> Result<Sort, u8>
             _ => Err(5),
         },
         TermOp::BvBinary(b) => calculated(b, common(sorts)),
-        TermOp::Extract(_, _)
-        | TermOp::ZeroExtend(_)
-        | TermOp::SignExtend(_)
-        | TermOp::BvUnary(_) => match sorts {
-            [Sort::Bits(w)] => fitting_one(op, *w),
+        TermOp::Extract(high, low) => match sorts {
+            [Sort::Bits(w)] => extracted(high, low, *w),
+            _ => Err(5),
+        },
+        TermOp::ZeroExtend(n) | TermOp::SignExtend(n) => match sorts {
+            [Sort::Bits(w)] => widened(*w, n),
+            _ => Err(5),
+        },
+        TermOp::BvUnary(u) => match sorts {
+            [Sort::Bits(w)] if is_negation(u) => Ok(Sort::Bits(*w)),
             _ => Err(5),
         },
     }
 }
 
-// The sort of an operator on one word of this width.
-fn fitting_one(op: TermOp, w: u32) -> Result<Sort, u8>
-    ensures { result ≡ fitting op (sort.Bits w ∷ []) }
+// The bits from high down to low of words of this width.
+fn extracted(high: u32, low: u32, w: u32) -> Result<Sort, u8>
+    ensures { result ≡ fitting (op.Extract high low) (sort.Bits w ∷ []) }
 {
-    match op {
-        TermOp::Extract(high, low) => if low <= high && high < w {
-            Ok(Sort::Bits(high - low + 1))
-        } else {
-            Err(8)
-        },
-        TermOp::ZeroExtend(n) => widened(w, n),
-        TermOp::SignExtend(n) => widened(w, n),
-        TermOp::BvUnary(u) => if is_negation(u) {
-            Ok(Sort::Bits(w))
-        } else {
-            Err(5)
-        },
-        _ => Err(5),
+    if low <= high && high < w {
+        Ok(Sort::Bits(high - low + 1))
+    } else {
+        Err(8)
     }
 }
 

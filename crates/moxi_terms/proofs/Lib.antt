@@ -1,0 +1,9 @@
+pub mod NameLaws
+pub mod FormLaws
+pub mod TypingLaws
+pub mod Least
+pub mod SortLaws
+pub mod OperatorLaws
+pub mod ValueLaws
+pub mod Plain
+pub mod Evaluating
