@@ -1,5 +1,7 @@
 pub mod NameLaws
 pub mod FormLaws
+pub mod FindingLaws
+pub mod StackLaws
 pub mod TypingLaws
 pub mod Least
 pub mod SortLaws
@@ -7,3 +9,5 @@ pub mod OperatorLaws
 pub mod ValueLaws
 pub mod Plain
 pub mod Evaluating
+pub mod ReadingLaws
+pub mod ScopeLaws

@@ -1,9 +1,10 @@
 -- How names are found with no scan.
-use Rattle.std.specs.Prelude.{◌≡◌, ◌<◌, ◌^◌, ℕ, suc, nat_eq, if◌then◌else◌, Option, None, Some, List, [], ◌∷◌, ◌++◌, length, take, map, slice_get, slice_index_or}
+use Rattle.std.specs.Prelude.{◌≡◌, ◌<◌, ◌^◌, ℕ, suc, Option, None, Some, List, [], ◌∷◌, length, take, map, slice_get, slice_index_or}
+use Rattle.std.specs.List.{AllByRecursion}
 use Rattle.moxi_terms.specs.declared.data.Sort.{Sort}
 use Rattle.moxi_terms.specs.declared.names.Local.{Local}
 use Rattle.moxi_terms.specs.declared.locals.Binding.{Binding}
-use Rattle.moxi_terms.specs.Names.{place_of, or_else}
+use Rattle.moxi_terms.specs.Names.{place_of}
 use Rattle.moxi_terms.specs.Reading.{Found, first_of, last_of}
 
 abbrev pub found : Option (ℕ × Option Sort) → Option Found
@@ -30,14 +31,10 @@ name_at names key = slice_index_or names key []
 abbrev pub locals_in : List (List ℕ) → List Binding → List Local
 locals_in names bs = map (λ (b : Binding). record { name = name_at names b.key; sort = b.sort }) bs
 
--- the number, counted from n, of the last binding with this key
-abbrev pub last_key : ℕ → List Binding → ℕ → Option ℕ
-last_key n [] key = None
-last_key n (b ∷ bs) key = or_else (last_key (suc n) bs key) (if nat_eq b.key key then Some n else None)
-
--- each name has the number of its last binding, and each binding that of the one before it
+-- Each name has the number of its last binding, and each binding that of the last one of its name before it. What stands
+-- behind the names counts for nothing.
 pub record IsStacked (names : List (List ℕ)) (bindings : List Binding) (lasts : List (Option ℕ)) : Type 0 where
-  pub last : (key : ℕ) → key < length names → slice_get lasts key ≡ Some (last_key 0 bindings key)
-  pub before : (i : ℕ) (b : Binding) → slice_get bindings i ≡ Some b → (b.key < length names) × (b.before ≡ last_key 0 (take i bindings) b.key)
-  pub distinct : (i : ℕ) → i < length names → place_of names (name_at names i) ≡ Some i
-  pub few : length bindings < 2 ^ 32
+  pub last : (name : List ℕ) (key : ℕ) → place_of names name ≡ Some key → slice_get lasts key ≡ Some (found_number (last_of 0 (locals_in names bindings) name))
+  pub placed : AllByRecursion (λ (b : Binding). place_of names (name_at names b.key) ≡ Some b.key) bindings
+  pub before : (i : ℕ) (b : Binding) → slice_get bindings i ≡ Some b → b.before ≡ found_number (last_of 0 (take i (locals_in names bindings)) (name_at names b.key))
+  pub long : length names < suc (length lasts)

@@ -1,7 +1,7 @@
 -- Names: their places in lists, and what a scope declares by them.
 use Rattle.std.specs.Prelude.{ℕ, suc, Bool, true, false, not, ◌&&◌, ◌||◌, if◌then◌else◌, Option, None, Some, is_some, is_none, option_and_then, List, [], ◌∷◌, ◌++◌, map, length, slice_get, codes}
 use Rattle.std.specs.Option.{option_map}
-use Rattle.std.specs.List.{position, list_all}
+use Rattle.std.specs.List.{position, list_any}
 use Rattle.std.specs.Str.{bytes_eq}
 use Rattle.moxi_terms.specs.declared.data.Sort.{Sort}
 use Rattle.moxi_terms.specs.declared.data.Sort.TheVariants.{Truth, Bits, Choice}
@@ -78,7 +78,7 @@ is_term_name s name =
 -- each of these constants has a name of its own
 abbrev pub may_be_constants : ScopeState → List (List ℕ) → Bool
 may_be_constants s names =
-    list_all (λ name. not (is_term_name s name)) names && are_fresh (all_constants s.enumerations) names
+    not (list_any (is_term_name s) names) && are_fresh (all_constants s.enumerations) names
 
 -- the enumeration may be added
 abbrev pub may_be_enumeration : ScopeState → List ℕ → List (List ℕ) → Bool

@@ -113,12 +113,12 @@ pub record Found : Type 0 where
 -- the first of this name, counted from n
 abbrev pub first_of : ℕ → List Local → List ℕ → Option Found
 first_of n [] name = None
-first_of n (x ∷ xs) name = if bytes_eq x.name name then Some (record { number = n; sort = x.sort }) else first_of (suc n) xs name
+first_of n (x ∷ xs) name = if bytes_eq name x.name then Some (record { number = n; sort = x.sort }) else first_of (suc n) xs name
 
 -- the last of this name
 abbrev pub last_of : ℕ → List Local → List ℕ → Option Found
 last_of n [] name = None
-last_of n (x ∷ xs) name = or_else (last_of (suc n) xs name) (if bytes_eq x.name name then Some (record { number = n; sort = x.sort }) else None)
+last_of n (x ∷ xs) name = or_else (last_of (suc n) xs name) (if bytes_eq name x.name then Some (record { number = n; sort = x.sort }) else None)
 
 -- where a term stands: the scope, the variables, and whether they may be primed
 pub record Context : Type 0 where

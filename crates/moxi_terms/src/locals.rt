@@ -1,7 +1,9 @@
 // The variables of a term, and the names that the `let`s around it bind, found with no scan.
-ghost use Rattle.std.specs.Prelude.{◌≡◌, ◌<◌, ◌^◌, ◌-◌, ◌≤◌, ◌+◌, ◌++◌, ◌∷◌, [], length, take, Some, None, OnOk, OnErr};
+ghost use Rattle.std.specs.Prelude.{◌≡◌, ◌<◌, ◌^◌, ◌-◌, ◌≤◌, ◌+◌, ◌++◌, ◌∷◌, [], List, length, take, Some, None, IfOk, OnOk, OnErr};
 ghost use Rattle.moxi_terms.specs.Reading.{first_of, last_of};
-ghost use Rattle.moxi_terms.specs.Finding.{found};
+ghost use Rattle.moxi_terms.specs.Finding.{IsStacked, found, locals_in};
+ghost use Rattle.moxi_terms.specs.Names.{place_of};
+ghost use Rattle.moxi_terms.specs.declared.locals.Binding.{Binding};
 
 use crate::data::Sort;
 use crate::names::{Local, Numbering};
@@ -134,13 +136,16 @@ impl Bounds {
         Ok(())
     }
 
+    // Binds a name. There is no memory for more names than 32 bits number.
     fn bind(&mut self, local: &Local) -> Result<(), NoMemory>
         ensures { OnOk result (self.new ≡ self.old ++ local.now ∷ []) }
     {
-        let Ok(number) = u32::try_from(self.bindings.len()) else {
+        let count = self.len();
+        if count >= 1 << 32 {
             return Err(NoMemory);
-        };
-        let key = self.key_of(local.name.bytes())?;
+        }
+        let number = count as u32;
+        let key = key_of(self.alloc, &mut self.names, &mut self.lasts, local.name.bytes())?;
         let before = self.lasts[key];
         match self.bindings.push(Binding {
             key,
@@ -154,34 +159,21 @@ impl Bounds {
         Ok(())
     }
 
-    // The place of this name, which is declared where it isn't yet.
-    fn key_of(&mut self, name: &[u8]) -> Result<usize, NoMemory> {
-        match self.names.place(name) {
-            Some(key) => Ok(key),
-            None => {
-                let key = self.names.len();
-                self.lasts.truncate(key);
-                match self.lasts.push(None) {
-                    Ok(()) => {}
-                    Err(_) => return Err(NoMemory),
-                }
-                self.names.declare(self.alloc, name)?;
-                Ok(key)
-            }
-        }
-    }
-
     /// Unbinds the last names, so that this many are left.
     pub fn keep(&mut self, count: usize)
         requires { count ≤ length self.old }
         ensures { self.new ≡ take count self.old }
     {
-        while self.bindings.len() > count {
+        while self.len() > count {
             self.unbind();
         }
     }
 
-    fn unbind(&mut self) {
+    // Unbinds the last name.
+    fn unbind(&mut self)
+        requires { 0 < length self.old }
+        ensures { self.new ≡ take (length self.old - 1) self.old }
+    {
         if let Some(binding) = self.bindings.pop() {
             self.lasts[binding.key] = binding.before;
         }
@@ -197,8 +189,41 @@ impl Bounds {
     pub fn find(&self, name: &[u8]) -> Option<(u32, Option<Sort>)>
         ensures { found result ≡ last_of 0 self.now name.now }
     {
-        let key = self.names.place(name)?;
-        let number = self.lasts[key]?;
-        Some((number, self.bindings[number as usize].sort))
+        match self.names.place(name) {
+            None => None,
+            Some(key) => match self.lasts[key] {
+                None => None,
+                Some(number) => {
+                    let binding = self.bindings[number as usize];
+                    Some((number, binding.sort))
+                }
+            },
+        }
+    }
+}
+
+// The place of this name, which is declared where it isn't yet.
+fn key_of(
+    alloc: Global,
+    names: &mut Numbering,
+    lasts: &mut Vec<Option<u32>>,
+    name: &[u8],
+) -> Result<usize, NoMemory>
+    ensures stacked { (bs : List Binding) → IsStacked names.old bs lasts.old.items → IsStacked names.new bs lasts.new.items }
+    ensures same { (bs : List Binding) → IsStacked names.old bs lasts.old.items → locals_in names.new bs ≡ locals_in names.old bs }
+    ensures key { IfOk result (λ key. place_of names.new name.now ≡ Some key) }
+{
+    match names.place(name) {
+        Some(key) => Ok(key),
+        None => {
+            let key = names.len();
+            lasts.truncate(key);
+            match lasts.push(None) {
+                Ok(()) => {}
+                Err(_) => return Err(NoMemory),
+            }
+            names.declare(alloc, name)?;
+            Ok(key)
+        }
     }
 }

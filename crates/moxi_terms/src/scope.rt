@@ -1,7 +1,8 @@
 // What a script declares: enumerations, sorts and functions.
-ghost use Rattle.std.specs.Prelude.{◌≡◌, ◌<◌, ◌^◌, ◌-◌, ◌+◌, not, length, map, IfOk, OnOk, OnErr, Some, None, if◌then◌else◌, option_and_then, slice_get, IsTrue};
+ghost use Rattle.std.specs.Prelude.{◌≡◌, ◌<◌, ◌≤◌, ◌^◌, ◌-◌, ◌+◌, ◌++◌, take, not, length, map, IfOk, OnOk, OnErr, Some, None, if◌then◌else◌, option_and_then, slice_get, IsTrue};
+ghost use Rattle.std.specs.List.{list_any};
 ghost use Rattle.std.specs.Option.{option_map};
-ghost use Rattle.moxi_terms.specs.Names.{all_constants, constant_named, is_sort_name, is_term_name, may_be_enumeration, no_scope, or_else, place_of, function_names, sort_named, with_enumeration, with_function, with_sort};
+ghost use Rattle.moxi_terms.specs.Names.{all_constants, constant_named, is_sort_name, is_term_name, may_be_enumeration, no_scope, numbered, or_else, place_of, function_names, sort_named, with_enumeration, with_function, with_sort};
 ghost use Rattle.moxi_terms.specs.Reading.{bare_call, call_of, head_named, parameter_count, value_named};
 ghost use Rattle.moxi_terms.specs.Scopes.{enumeration_now, constants_now, named_sort_now, function_now};
 ghost use Rattle.moxi_terms.specs.Sorted.{IsFunction, IsScope};
@@ -77,48 +78,48 @@ impl Scope {
         if self.is_sort_name(name.bytes()) || self.has_term_name(&constants) {
             return Ok(false);
         }
-        self.number_constants(constants.len())?;
-        let enumerations = self.enumerations.len();
         let before = self.constant_names.len();
+        let enumerations = self.enumerations.len();
+        number_constants(
+            &mut self.constant_numbers,
+            before,
+            enumerations as u32,
+            &constants,
+        )?;
         self.enumeration_names.declare(self.alloc, name.bytes())?;
         match self.constant_names.declare_all(self.alloc, &constants) {
             Ok(true) => {}
-            other => {
+            Ok(false) => {
                 self.enumeration_names.keep(enumerations);
-                return other;
+                return Ok(false);
+            }
+            Err(e) => {
+                self.enumeration_names.keep(enumerations);
+                return Err(e);
             }
         }
         match self.enumerations.push(Enumeration { name, constants }) {
-            Ok(()) => Ok(true),
+            Ok(()) => {}
             Err(e) => {
                 self.enumeration_names.keep(enumerations);
                 self.constant_names.keep(before);
-                Err(e)
+                return Err(e);
             }
         }
+        Ok(true)
     }
 
     // Does a constant or a function have the name of one of these?
-    fn has_term_name(&self, names: &Names) -> bool {
+    #[tactic(auto, using(crate::proofs::ScopeLaws::names_front, crate::proofs::ScopeLaws::names_end))]
+    fn has_term_name(&self, names: &Names) -> bool
+        ensures { result ≡ list_any (is_term_name self.now) names.now }
+    {
         for i in 0..names.len() {
             if self.is_term_name(names.at(i).bytes()) {
                 return true;
             }
         }
         false
-    }
-
-    // Numbers the constants of the next enumeration.
-    fn number_constants(&mut self, count: usize) -> Result<(), NoMemory> {
-        let n = self.enumerations.len() as u32;
-        self.constant_numbers.truncate(self.constant_names.len());
-        for i in 0..count {
-            match self.constant_numbers.push((n, i as u32)) {
-                Ok(()) => {}
-                Err(_) => return Err(NoMemory),
-            }
-        }
-        Ok(())
     }
 
     /// Adds a name for a sort of the scope. It answers false, and changes nothing, where a sort has that name.
@@ -307,4 +308,26 @@ impl Scope {
             },
         }
     }
+}
+
+// Puts the numbers of an enumeration's constants behind those of the constants before.
+fn number_constants(
+    numbers: &mut Vec<(u32, u32)>,
+    before: usize,
+    n: u32,
+    constants: &Names,
+) -> Result<(), NoMemory>
+    requires few { length constants.now < 2 ^ 32 }
+    requires before { before ≤ length numbers.old.items }
+    ensures ok { OnOk result (numbers.new.items ≡ take before numbers.old.items ++ numbered n 0 constants.now) }
+    ensures front { take before numbers.new.items ≡ take before numbers.old.items }
+{
+    numbers.truncate(before);
+    for i in 0..constants.len() {
+        match numbers.push((n, i as u32)) {
+            Ok(()) => {}
+            Err(_) => return Err(NoMemory),
+        }
+    }
+    Ok(())
 }

@@ -1,0 +1,95 @@
+-- What is read by parts.
+use Rattle.std.proofs.Common.{◌≡◌, ℕ, suc, ◌+◌, ◌<◌, ◌≤◌, Bool, true, false, cond, List, [], ◌∷◌, ◌++◌, map, length, drop, Option, None, Some, Result, Ok, Err, Vec, Box, Global, refl, sym, ap, ◌∙◌, subst, arith, rules, append_assoc, append-nil, drop-cons, add-one}
+use Rattle.std.specs.Prelude.{slice_index_or}
+use Rattle.std.specs.Option.{option_map}
+use Rattle.text_core.specs.declared.place.Place.{Place}
+use Rattle.text_core.specs.declared.place.Refusal.{Refusal}
+use Rattle.moxi_sexpr.specs.declared.form.Atom.{Atom}
+use Rattle.moxi_sexpr.specs.declared.form.Form.{Form, out-Form}
+use Rattle.moxi_sexpr.specs.declared.form.FormShape.{List as Listed, the_lemmas}
+use Rattle.moxi_sexpr.specs.declared.form.FormShape as shapes
+use Rattle.moxi_sexpr.specs.Lexing.{refusal}
+use Rattle.moxi_sexpr.specs.Tree as form
+use Rattle.moxi_terms.specs.declared.data.Sort.{Sort}
+use Rattle.moxi_terms.specs.declared.names.Local.{Local}
+use Rattle.moxi_terms.specs.declared.names.Head.{Head}
+use Rattle.moxi_terms.specs.declared.term.Term.{Term}
+use Rattle.moxi_terms.specs.declared.term.Function.{Function}
+use Rattle.moxi_terms.specs.declared.outcome.ReadTerm.{ReadTerm}
+use Rattle.moxi_terms.specs.declared.applications.ReadArguments.{ReadArguments}
+use Rattle.moxi_terms.specs.declared.lets.ReadBindings.{ReadBindings}
+use Rattle.moxi_terms.specs.Tree.{Tree, trees_of}
+use Rattle.moxi_terms.specs.View.{plain}
+use Rattle.moxi_terms.specs.Failures.{sooner, least}
+use Rattle.moxi_terms.specs.Reading.{Reading, Arguments, Bindings, joined, no_arguments, argument, both_arguments, no_bindings, both_bindings, names_of, unless_failed}
+use Rattle.moxi_terms.specs.Answer.{IsRead, AreRead, AreBound, kept, unless_some}
+use Rattle.moxi_terms.proofs.Least.{sooner_none, sooner_assoc, least_append, least_none}
+
+-- tests one after another
+pub tests_both : (f g : Option Refusal) (xs ys : List Refusal) → f ≡ least xs → g ≡ least ys → sooner f g ≡ least (xs ++ ys)
+tests_both f g xs ys e h = ap (λ f. sooner f g) e ∙ ap (sooner (least xs)) h ∙ sym (least_append xs ys)
+
+pub unless_least : (fs : List Refusal) (s : Option Sort) (f : Option Refusal) → f ≡ least fs → unless_some f s ≡ unless_failed fs s
+unless_least fs s f e = ap (λ f. unless_some f s) e ∙ go fs
+  where
+    some_least : (x : Refusal) (o : Option Refusal) → unless_some (sooner (Some x) o) s ≡ None
+    some_least x None = refl
+    some_least x (Some y) = refl
+    go : (fs : List Refusal) → unless_some (least fs) s ≡ unless_failed fs s
+    go [] = refl
+    go (x ∷ xs) = some_least x (least xs)
+
+-- ARGUMENTS
+
+joined_assoc : (a b c : Option (List Sort)) → joined (joined a b) c ≡ joined a (joined b c)
+joined_assoc None b c = refl
+joined_assoc (Some x) None c = refl
+joined_assoc (Some x) (Some y) None = refl
+joined_assoc (Some x) (Some y) (Some z) = ap Some (append_assoc x y z)
+
+joined_end : (a : Option (List Sort)) → joined a (Some []) ≡ a
+joined_end None = refl
+joined_end (Some x) = ap Some (append-nil x)
+
+joined_front : (a : Option (List Sort)) → joined (Some []) a ≡ a
+joined_front None = refl
+joined_front (Some x) = refl
+
+pub arguments_assoc : (x y z : Arguments) → both_arguments (both_arguments x y) z ≡ both_arguments x (both_arguments y z)
+arguments_assoc x y z =
+    ap (λ ts. record { terms = ts; sorts = joined (joined x.sorts y.sorts) z.sorts; failures = (x.failures ++ y.failures) ++ z.failures }) (append_assoc x.terms y.terms z.terms)
+    ∙ ap (λ ss. record { terms = x.terms ++ (y.terms ++ z.terms); sorts = ss; failures = (x.failures ++ y.failures) ++ z.failures }) (joined_assoc x.sorts y.sorts z.sorts)
+    ∙ ap (λ fs. record { terms = x.terms ++ (y.terms ++ z.terms); sorts = joined x.sorts (joined y.sorts z.sorts); failures = fs }) (append_assoc x.failures y.failures z.failures)
+
+pub arguments_end : (x : Arguments) → both_arguments x no_arguments ≡ x
+arguments_end x =
+    ap (λ ts. record { terms = ts; sorts = joined x.sorts (Some []); failures = x.failures ++ [] }) (append-nil x.terms)
+    ∙ ap (λ ss. record { terms = x.terms; sorts = ss; failures = x.failures ++ [] }) (joined_end x.sorts)
+    ∙ ap (λ fs. record { terms = x.terms; sorts = x.sorts; failures = fs }) (append-nil x.failures)
+
+pub arguments_front : (x : Arguments) → both_arguments no_arguments x ≡ x
+arguments_front x = ap (λ ss. record { terms = x.terms; sorts = ss; failures = x.failures }) (joined_front x.sorts)
+
+pub bindings_assoc : (x y z : Bindings) → both_bindings (both_bindings x y) z ≡ both_bindings x (both_bindings y z)
+bindings_assoc x y z =
+    ap (λ ls. record { locals = ls; terms = (x.terms ++ y.terms) ++ z.terms; shape = (x.shape ++ y.shape) ++ z.shape; failures = (x.failures ++ y.failures) ++ z.failures }) (append_assoc x.locals y.locals z.locals)
+    ∙ ap (λ ts. record { locals = x.locals ++ (y.locals ++ z.locals); terms = ts; shape = (x.shape ++ y.shape) ++ z.shape; failures = (x.failures ++ y.failures) ++ z.failures }) (append_assoc x.terms y.terms z.terms)
+    ∙ ap (λ fs. record { locals = x.locals ++ (y.locals ++ z.locals); terms = x.terms ++ (y.terms ++ z.terms); shape = fs; failures = (x.failures ++ y.failures) ++ z.failures }) (append_assoc x.shape y.shape z.shape)
+    ∙ ap (λ fs. record { locals = x.locals ++ (y.locals ++ z.locals); terms = x.terms ++ (y.terms ++ z.terms); shape = x.shape ++ (y.shape ++ z.shape); failures = fs }) (append_assoc x.failures y.failures z.failures)
+
+pub bindings_end : (x : Bindings) → both_bindings x no_bindings ≡ x
+bindings_end x =
+    ap (λ ls. record { locals = ls; terms = x.terms ++ []; shape = x.shape ++ []; failures = x.failures ++ [] }) (append-nil x.locals)
+    ∙ ap (λ ts. record { locals = x.locals; terms = ts; shape = x.shape ++ []; failures = x.failures ++ [] }) (append-nil x.terms)
+    ∙ ap (λ fs. record { locals = x.locals; terms = x.terms; shape = fs; failures = x.failures ++ [] }) (append-nil x.shape)
+    ∙ ap (λ fs. record { locals = x.locals; terms = x.terms; shape = x.shape; failures = fs }) (append-nil x.failures)
+
+names_append : (xs ys : List Local) → names_of (xs ++ ys) ≡ names_of xs ++ names_of ys
+names_append [] ys = refl
+names_append (x ∷ xs) ys = ap (λ ns. x.name ∷ ns) (names_append xs ys)
+
+pub names_more : (ls xs : List Local) (names all : List (List ℕ)) (name : List ℕ) (s : Option Sort) → names ≡ names_of ls → all ≡ names ++ name ∷ [] → all ≡ names_of (ls ++ record { name = name; sort = s } ∷ [])
+names_more ls xs names all name s e f = f ∙ ap (λ ns. ns ++ name ∷ []) e ∙ sym (names_append ls (record { name = name; sort = s } ∷ []))
+
+pub forms_step : (fs : List Form) (i : ℕ) (x : Form) → i < length fs → x ≡ slice_index_or fs i x → form.plain_forms (drop i fs) ≡ form.tree (form.plain x) (form.plain_forms (drop (i + 1) fs))
+forms_step fs i x h e = ap form.plain_forms (drop-cons fs i x h ∙ ap (λ y. y ∷ drop (suc i) fs) (sym e)) ∙ ap (λ k. form.tree (form.plain x) (form.plain_forms (drop k fs))) (sym (add-one i))
