@@ -1,13 +1,12 @@
 -- What is read by parts.
-use Rattle.std.proofs.Common.{◌≡◌, ℕ, suc, ◌+◌, ◌<◌, ◌≤◌, Bool, true, false, cond, List, [], ◌∷◌, ◌++◌, map, length, drop, Option, None, Some, Result, Ok, Err, Vec, Box, Global, refl, sym, ap, ◌∙◌, subst, arith, rules, append_assoc, append-nil, drop-cons, add-one}
+use Rattle.std.proofs.Common.{◌≡◌, ℕ, suc, ◌+◌, ◌<◌, ◌≤◌, Bool, true, false, cond, List, [], ◌∷◌, ◌++◌, map, length, drop, Option, None, Some, Result, Ok, Err, IfOk, Vec, Box, Global, refl, sym, ap, ◌∙◌, subst, arith, rules, append_assoc, append-nil, drop-cons, add-one}
 use Rattle.std.specs.Prelude.{slice_index_or}
 use Rattle.std.specs.Option.{option_map}
 use Rattle.text_core.specs.declared.place.Place.{Place}
 use Rattle.text_core.specs.declared.place.Refusal.{Refusal}
 use Rattle.moxi_sexpr.specs.declared.form.Atom.{Atom}
 use Rattle.moxi_sexpr.specs.declared.form.Form.{Form, out-Form}
-use Rattle.moxi_sexpr.specs.declared.form.FormShape.{List as Listed, the_lemmas}
-use Rattle.moxi_sexpr.specs.declared.form.FormShape as shapes
+use Rattle.moxi_sexpr.specs.declared.form.FormShape.{List as Listed, Atom as Single, the_lemmas}
 use Rattle.moxi_sexpr.specs.Lexing.{refusal}
 use Rattle.moxi_sexpr.specs.Tree as form
 use Rattle.moxi_terms.specs.declared.data.Sort.{Sort}
@@ -21,7 +20,7 @@ use Rattle.moxi_terms.specs.declared.lets.ReadBindings.{ReadBindings}
 use Rattle.moxi_terms.specs.Tree.{Tree, trees_of}
 use Rattle.moxi_terms.specs.View.{plain}
 use Rattle.moxi_terms.specs.Failures.{sooner, least}
-use Rattle.moxi_terms.specs.Reading.{Reading, Arguments, Bindings, joined, no_arguments, argument, both_arguments, no_bindings, both_bindings, names_of, unless_failed}
+use Rattle.moxi_terms.specs.Reading.{Reading, Arguments, Bindings, joined, no_arguments, argument, both_arguments, no_bindings, both_bindings, names_of, unless_failed, bindings_tests}
 use Rattle.moxi_terms.specs.Answer.{IsRead, AreRead, AreBound, kept, unless_some}
 use Rattle.moxi_terms.proofs.Least.{sooner_none, sooner_assoc, least_append, least_none}
 
@@ -93,3 +92,21 @@ names_more ls xs names all name s e f = f ∙ ap (λ ns. ns ++ name ∷ []) e �
 
 pub forms_step : (fs : List Form) (i : ℕ) (x : Form) → i < length fs → x ≡ slice_index_or fs i x → form.plain_forms (drop i fs) ≡ form.tree (form.plain x) (form.plain_forms (drop (i + 1) fs))
 forms_step fs i x h e = ap form.plain_forms (drop-cons fs i x h ∙ ap (λ y. y ∷ drop (suc i) fs) (sym e)) ∙ ap (λ k. form.tree (form.plain x) (form.plain_forms (drop k fs))) (sym (add-one i))
+
+pub empty_bindings : (q : Place) (fs : List Form) → length fs ≡ 0 → least (bindings_tests q (form.plain_forms fs)) ≡ Some (refusal 12 q)
+empty_bindings q [] h = refl
+empty_bindings q (f ∷ fs) h = absurd (omega arith)
+
+pub plain_end : (ts : List Term) (t : Term) → map plain (ts ++ t ∷ []) ≡ map plain ts ++ plain t ∷ []
+plain_end [] t = refl
+plain_end (u ∷ us) t = ap (λ xs. plain u ∷ xs) (plain_end us t)
+
+pub if_ok_map : {A E : Type 0} (P Q : A → Type 0) (r : Result A E) → ((x : A) → P x → Q x) → IfOk r P → IfOk r Q
+if_ok_map P Q (Ok x) f h = f x h
+if_ok_map P Q (Err e) f h = tt
+
+pub plain_list : (f : Form) (fs : Vec Form Global) → (out-Form f).shape ≡ Listed fs → form.plain f ≡ form.list (out-Form f).place (form.plain_forms fs.items)
+plain_list f fs e = search (rules, the_lemmas)
+
+pub plain_atom : (f : Form) (a : Atom) → (out-Form f).shape ≡ Single a → form.plain f ≡ form.atom (out-Form f).place a
+plain_atom f a e = search (rules, the_lemmas)

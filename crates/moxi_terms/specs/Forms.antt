@@ -1,5 +1,5 @@
 -- The parts of forms.
-use Rattle.std.specs.Prelude.{ℕ, Bool, false, Option, None, Some, List}
+use Rattle.std.specs.Prelude.{ℕ, ◌+◌, Bool, false, Option, None, Some, List}
 use Rattle.std.specs.Borrow.{Bor}
 use Rattle.std.specs.Str.{bytes_eq}
 use Rattle.text_core.specs.declared.place.Place.{Place}
@@ -83,3 +83,13 @@ only_now (Some f) = Some (plain f.now)
 abbrev pub pair_now : Option (Bor Form × Bor Form) → Option (Tree × Tree)
 pair_now None = None
 pair_now (Some x) = Some (plain x.0.now, plain x.1.now)
+
+-- how large a form is
+abbrev mutual
+  pub size : Tree → ℕ
+  size (atom p a) = 1
+  size (list p ts) = sizes ts + 4
+
+  pub sizes : Trees → ℕ
+  sizes no_trees = 0
+  sizes (tree t ts) = size t + sizes ts + 1

@@ -1,6 +1,6 @@
 -- What a form spells as a term (SMT-LIB 2.6, section 3.6; primes as in MoXI, SPIN 2024): the term, its sort, and the tests that
 -- fail. A test that rests on a part without a sort holds.
-use Rattle.std.specs.Prelude.{◌==◌, ◌*◌, ℕ, suc, nat_le, Bool, true, false, not, ◌&&◌, ◌||◌, if◌then◌else◌, Option, None, Some, is_some, option_and_then, Result, Ok, Err, List, [], ◌∷◌, ◌++◌, length, slice_get, codes}
+use Rattle.std.specs.Prelude.{◌==◌, ◌*◌, ℕ, suc, nat_le, Bool, true, false, ◌&&◌, ◌||◌, if◌then◌else◌, Option, None, Some, is_some, option_and_then, Result, Ok, Err, List, [], ◌∷◌, ◌++◌, length, slice_get, codes}
 use Rattle.std.specs.Option.{option_map}
 use Rattle.std.specs.List.{list_all}
 use Rattle.std.specs.Str.{bytes_eq}
@@ -197,7 +197,7 @@ atom_reading c bounds p a = failed (refusal 12 p)
 
 -- the digits of `bvN`
 abbrev pub decimal_digits : List ℕ → Option (List ℕ)
-decimal_digits bs = if (length bs == 0) || not (list_all is_digit bs) then None else Some bs
+decimal_digits bs = if length bs == 0 then None else (if list_all is_digit bs then Some bs else None)
 
 abbrev pub literal_digits : List ℕ → Option (List ℕ)
 literal_digits (b ∷ c ∷ bs) = if (b == 98) && (c == 118) then decimal_digits bs else None
@@ -208,14 +208,15 @@ abbrev pub literal_reading : Place → List ℕ → List Refusal → Option (Lis
 literal_reading p digits fs None = failed (refusal 12 p)
 literal_reading p digits fs (Some width) = word_reading p (read_word (index_of width) 10 digits) fs
 
--- behind the `_` at q of a term at p, a name with these digits at r, and what stands behind it
-abbrev pub underscored : Place → Place → Bool → Place → List ℕ × Bool → Option (List ℕ) → form.Trees → Reading
-underscored p q first r x None ts = failed (unknown (is_one_of left_out_operators x.0) p q)
-underscored p q first r x (Some digits) ts = literal_reading p digits (prime_failures first q ++ prime_failures x.1 r) (only_numeral ts)
+-- behind the `_` at q of a term at p, a name with these digits, and what stands behind it
+abbrev pub literal_named : Place → Place → List ℕ → List Refusal → Option (List ℕ) → form.Trees → Reading
+literal_named p q name fs None ts = failed (unknown (is_one_of left_out_operators name) p q)
+literal_named p q name fs (Some digits) ts = literal_reading p digits fs (only_numeral ts)
 
+-- the symbol at r behind the `_`
 abbrev pub symbol_underscored : Place → Place → Bool → Place → Option (List ℕ × Bool) → form.Trees → Reading
 symbol_underscored p q first r None ts = failed (refusal 4 q)
-symbol_underscored p q first r (Some x) ts = underscored p q first r x (literal_digits x.0) ts
+symbol_underscored p q first r (Some x) ts = literal_named p q x.0 (prime_failures first q ++ prime_failures x.1 r) (literal_digits x.0) ts
 
 -- what stands behind the `_` at q of a term at p
 abbrev pub underscore_reading : Place → Place → Bool → form.Trees → Reading

@@ -1,9 +1,10 @@
 // Applications of operators and functions.
-ghost use Rattle.std.specs.Prelude.{◌≡◌, ◌++◌, ◌∷◌, [], Ok, None, List, map, OnOk};
+ghost use Rattle.std.specs.Prelude.{◌≡◌, ◌++◌, ◌∷◌, [], Ok, None, List, length, map, IfOk, OnOk};
+ghost use Rattle.std.specs.Option.{option_map};
 ghost use Rattle.text_core.specs.declared.place.Refusal.{Refusal};
 ghost use Rattle.moxi_terms.specs.Answer.{AreRead, IsRead, kept};
 ghost use Rattle.moxi_terms.specs.Failures.{least};
-ghost use Rattle.moxi_terms.specs.Reading.{Arguments, Reading, application, applied_sort, argument, argument_tests, both_arguments, headed, no_term};
+ghost use Rattle.moxi_terms.specs.Reading.{Arguments, Reading, application, applied_sort, argument, argument_tests, both_arguments, headed, joined, no_term};
 ghost use Rattle.moxi_terms.specs.Tree.{trees_of};
 ghost use Rattle.moxi_terms.specs.View.{plain};
 
@@ -31,12 +32,29 @@ pub fn add_argument(r: ReadTerm, args: &mut ReadArguments) -> Result<(), NoMemor
     ensures { OnOk result ((x : Arguments) (y : Reading) → AreRead x args.old → IsRead y r → AreRead (both_arguments x (argument y)) args.new) }
 {
     put(&mut args.terms, r.term)?;
-    match r.sort {
-        Some(sort) => put(&mut args.sorts, sort)?,
-        None => args.whole = false,
-    }
+    args.whole = add_sort(&mut args.sorts, args.whole, r.sort)?;
     args.failure = sooner(args.failure, r.failure);
     Ok(())
+}
+
+// One more sort, where there is one.
+fn add_sort(all: &mut Vec<Sort>, whole: bool, sort: Option<Sort>) -> Result<bool, NoMemory>
+    ensures { IfOk result (λ b. kept b all.new.items ≡ joined (kept whole all.old.items) (option_map (λ s. s ∷ []) sort)) }
+{
+    match sort {
+        None => Ok(false),
+        Some(s) => {
+            put(all, s)?;
+            Ok(whole)
+        }
+    }
+}
+
+// How many terms there are.
+fn count(terms: &[Term]) -> usize
+    ensures { result ≡ length terms.now }
+{
+    terms.len()
 }
 
 /// Adds an element at the end.
@@ -88,7 +106,7 @@ fn headed(
     ensures { (x : Arguments) (fs : List Refusal) → AreRead x args → primes ≡ least fs → IsRead (application scope.now.functions p fs (Ok head) x) result }
 {
     let sort = applied_sort(scope, head, &args.sorts, args.whole);
-    let test = application_test(scope, p, head, &args.sorts, args.whole, args.terms.len());
+    let test = application_test(scope, p, head, &args.sorts, args.whole, count(&args.terms));
     let own = sooner(primes, test);
     ReadTerm {
         term: head_term(head, args.terms),

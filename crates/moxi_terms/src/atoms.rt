@@ -6,11 +6,11 @@ ghost use Rattle.moxi_sexpr.specs.Tree.{plain_forms};
 ghost use Rattle.moxi_terms.specs.Answer.{IsRead, context_of};
 ghost use Rattle.moxi_terms.specs.Failures.{least};
 ghost use Rattle.moxi_terms.specs.Forms.{digits_now};
-ghost use Rattle.moxi_terms.specs.Reading.{atom_reading, literal_reading, meaning_of, named_reading, underscore_reading, variable_primes, word_reading};
+ghost use Rattle.moxi_terms.specs.Reading.{atom_reading, literal_digits, literal_named, literal_reading, meaning_of, named_reading, underscore_reading, variable_primes, word_reading};
 
 use crate::data::{Datum, Primes, Sort};
 use crate::failures::sooner;
-use crate::forms::{only_numeral, symbol_of};
+use crate::forms::{only_numeral, place_in, symbol_of};
 use crate::heads::{literal_digits, prime};
 use crate::locals::Bounds;
 use crate::names::Meaning;
@@ -138,21 +138,32 @@ fn literal(p: Place, digits: &[u8], failure: Option<Refusal>, width: Option<&[u8
     }
 }
 
+// The literal of this name, of which the tests of the primes fail so.
+fn named_literal(
+    p: Place,
+    q: Place,
+    primes: Option<Refusal>,
+    name: &[u8],
+    rest: &[Form],
+) -> ReadTerm
+    ensures { (fs : List Refusal) → primes ≡ least fs → IsRead (literal_named p q name.now fs (literal_digits name.now) (plain_forms rest.now)) result }
+{
+    match literal_digits(name) {
+        Some(digits) => literal(p, digits, primes, only_numeral(rest)),
+        None => failed(unknown(is_left_out(name), p, q)),
+    }
+}
+
 /// The term at p behind whose `_` at q these forms stand.
 pub fn underscored(p: Place, q: Place, first: bool, rest: &[Form]) -> ReadTerm
     ensures { IsRead (underscore_reading p q first (plain_forms rest.now)) result }
 {
     match rest.split_first() {
         Some((form, more)) => match symbol_of(form) {
-            Some((name, second)) => match literal_digits(name) {
-                Some(digits) => literal(
-                    p,
-                    digits,
-                    sooner(prime(first, q), prime(second, form.place)),
-                    only_numeral(more),
-                ),
-                None => failed(unknown(is_left_out(name), p, q)),
-            },
+            Some((name, second)) => {
+                let primes = sooner(prime(first, q), prime(second, place_in(form)));
+                named_literal(p, q, primes, name, more)
+            }
             None => failed(refusal(4, q)),
         },
         None => failed(refusal(4, q)),

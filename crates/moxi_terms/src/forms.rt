@@ -1,11 +1,12 @@
 // The parts of forms.
 ghost use Rattle.std.specs.Prelude.{◌≡◌};
 ghost use Rattle.moxi_sexpr.specs.Tree.{plain, plain_forms};
-ghost use Rattle.moxi_terms.specs.Forms.{digits_now, is_primed, is_word, numeral_atom, numeral_of, only_now, only_of, pair_now, pair_of, symbol_atom, symbol_now, symbol_of};
+ghost use Rattle.moxi_terms.specs.Forms.{digits_now, is_primed, is_word, numeral_atom, numeral_of, only_now, only_of, pair_now, pair_of, place_in, symbol_atom, symbol_now, symbol_of};
 ghost use Rattle.moxi_terms.specs.Reading.{only_numeral};
 
 use crate::names::is_same;
 use moxi_sexpr::{Atom, Form, FormShape};
+use text_core::Place;
 
 /// The name of a symbol, and whether it is primed.
 pub fn symbol_atom<'a>(a: &'a Atom) -> Option<(&'a [u8], bool)>
@@ -19,6 +20,13 @@ pub fn symbol_atom<'a>(a: &'a Atom) -> Option<(&'a [u8], bool)>
         Atom::Hex(_) => None,
         Atom::Quote(_) => None,
     }
+}
+
+/// The place of the form.
+pub fn place_in(form: &Form) -> Place
+    ensures { result ≡ place_in (plain form.now) }
+{
+    form.place
 }
 
 /// The name of the form, where it is a symbol, and whether it is primed.

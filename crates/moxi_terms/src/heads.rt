@@ -1,5 +1,7 @@
 // Heads of applications, and the names of literals with an `_`.
 ghost use Rattle.std.specs.Prelude.{◌≡◌, Some, None};
+ghost use Rattle.std.specs.List.{list_all};
+ghost use Rattle.moxi_sexpr.specs.Bytes.{is_digit};
 ghost use Rattle.moxi_sexpr.specs.Tree.{plain, plain_forms};
 ghost use Rattle.moxi_terms.specs.Failures.{least};
 ghost use Rattle.moxi_terms.specs.Forms.{digits_now, pair_now, symbol_now};
@@ -40,11 +42,24 @@ pub fn literal_digits<'a>(name: &'a [u8]) -> Option<&'a [u8]>
 fn decimal_digits<'a>(bytes: &'a [u8]) -> Option<&'a [u8]>
     ensures { digits_now result ≡ decimal_digits bytes.now }
 {
-    if bytes.is_empty() || !bytes.iter().all(|b| *b >= 48 && *b <= 57) {
+    if bytes.is_empty() {
         None
-    } else {
+    } else if are_digits(bytes) {
         Some(bytes)
+    } else {
+        None
     }
+}
+
+fn are_digits(bytes: &[u8]) -> bool
+    ensures { result ≡ list_all is_digit bytes.now }
+{
+    for b in bytes {
+        if *b < 48 || *b > 57 {
+            return false;
+        }
+    }
+    true
 }
 
 fn extracted_head(q: Place, high: Option<&[u8]>, low: Option<&[u8]>) -> Result<Head, Refusal>

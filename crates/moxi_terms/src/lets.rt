@@ -28,10 +28,14 @@ pub struct ReadBindings {
 }
 
 /// One or more bindings stand in the list at q.
+#[tactic(auto, using(crate::proofs::ReadingLaws::empty_bindings))]
 pub fn some_binding(q: Place, bindings: &[Form]) -> Option<Refusal>
     ensures { result ≡ least (bindings_tests q (plain_forms bindings.now)) }
 {
-    if bindings.is_empty() { Some(refusal(12, q)) } else { None }
+    match bindings.split_first() {
+        None => Some(refusal(12, q)),
+        Some(_) => None,
+    }
 }
 
 /// A `let` whose own tests fail so, of these bindings and this body.

@@ -10,7 +10,7 @@ use crate::applications::{ReadArguments, add_argument, application};
 use crate::atoms::{read_atom, underscored};
 use crate::data::{Primes, Sort};
 use crate::failures::sooner;
-use crate::forms::{is_primed, is_word, pair, symbol_of};
+use crate::forms::{is_primed, is_word, pair, place_in, symbol_of};
 use crate::heads::{head_of, head_prime, prime};
 use crate::lets::{ReadBindings, bind_to, let_term, misshapen, some_binding};
 use crate::locals::{Bounds, Locals};
@@ -58,7 +58,7 @@ fn read_form(
             Some((head, rest)) => if is_word(b"let", head) {
                 read_let(alloc, setting, bounds, form.place, head_prime(head), rest)
             } else if is_word(b"_", head) {
-                Ok(underscored(form.place, head.place, is_primed(head), rest))
+                Ok(underscored(form.place, place_in(head), is_primed(head), rest))
             } else {
                 let args = read_all(alloc, setting, bounds, rest)?;
                 Ok(application(
@@ -194,7 +194,7 @@ fn read_binding(
             Some((symbol, value)) => match symbol_of(symbol) {
                 Some((name, primed)) => {
                     let r = read_form(alloc, setting, bounds, value)?;
-                    bind_to(alloc, name, prime(primed, symbol.place), r, all)
+                    bind_to(alloc, name, prime(primed, place_in(symbol)), r, all)
                 }
                 None => {
                     misshapen(form.place, all);
