@@ -1,5 +1,5 @@
 -- What is read by parts.
-use Rattle.std.proofs.Common.{◌≡◌, ℕ, suc, ◌+◌, ◌<◌, ◌≤◌, Bool, true, false, cond, List, [], ◌∷◌, ◌++◌, map, length, drop, Option, None, Some, Result, Ok, Err, IfOk, Vec, Box, Global, refl, sym, ap, ◌∙◌, subst, arith, rules, append_assoc, append-nil, drop-cons, add-one}
+use Rattle.std.proofs.Common.{◌≡◌, ℕ, suc, ◌+◌, ◌<◌, ◌≤◌, Bool, true, false, cond, List, [], ◌∷◌, ◌++◌, map, length, drop, Option, None, Some, Result, Ok, Err, IfOk, OnOk, Vec, Box, Global, refl, sym, ap, ◌∙◌, subst, arith, rules, append_assoc, append-nil, drop-cons, add-one}
 use Rattle.std.specs.Prelude.{slice_index_or}
 use Rattle.std.specs.Option.{option_map}
 use Rattle.text_core.specs.declared.place.Place.{Place}
@@ -21,6 +21,8 @@ use Rattle.moxi_terms.specs.Tree.{Tree, trees_of}
 use Rattle.moxi_terms.specs.View.{plain}
 use Rattle.moxi_terms.specs.Failures.{sooner, least}
 use Rattle.moxi_terms.specs.Reading.{Reading, Arguments, Bindings, joined, no_arguments, argument, both_arguments, no_bindings, both_bindings, names_of, unless_failed, bindings_tests}
+use Rattle.std.proofs.lemmas.Option.{same_Some, none-some}
+use Rattle.moxi_terms.specs.Forms.{pair_of}
 use Rattle.moxi_terms.specs.Answer.{IsRead, AreRead, AreBound, kept, unless_some}
 use Rattle.moxi_terms.proofs.Least.{sooner_none, sooner_assoc, least_append, least_none}
 
@@ -110,3 +112,15 @@ plain_list f fs e = search (rules, the_lemmas)
 
 pub plain_atom : (f : Form) (a : Atom) → (out-Form f).shape ≡ Single a → form.plain f ≡ form.atom (out-Form f).place a
 plain_atom f a e = search (rules, the_lemmas)
+
+pub pair_is : (ts : form.Trees) (a b : form.Tree) → Some (a, b) ≡ pair_of ts → ts ≡ form.tree a (form.tree b form.no_trees)
+pair_is form.no_trees a b h = absurd (none-some (a, b) (sym h))
+pair_is (form.tree t form.no_trees) a b h = absurd (none-some (a, b) (sym h))
+pair_is (form.tree t (form.tree u form.no_trees)) a b h =
+    let e = same_Some (a, b) (t, u) h in
+    ap (λ t. form.tree t (form.tree u form.no_trees)) (sym (ap (λ (p : form.Tree × form.Tree). p.0) e)) ∙ ap (λ u. form.tree a (form.tree u form.no_trees)) (sym (ap (λ (p : form.Tree × form.Tree). p.1) e))
+pair_is (form.tree t (form.tree u (form.tree v vs))) a b h = absurd (none-some (a, b) (sym h))
+
+pub on_ok_map : {A E : Type 0} (P Q : Type 0) (r : Result A E) → (P → Q) → OnOk r P → OnOk r Q
+on_ok_map P Q (Ok x) f h = f h
+on_ok_map P Q (Err e) f h = tt
