@@ -1,5 +1,5 @@
 -- What is read by parts.
-use Rattle.std.proofs.Common.{◌≡◌, ℕ, suc, ◌+◌, ◌<◌, ◌≤◌, Bool, true, false, cond, List, [], ◌∷◌, ◌++◌, map, length, drop, Option, None, Some, Result, Ok, Err, IfOk, OnOk, Vec, Box, Global, refl, sym, ap, ◌∙◌, subst, arith, rules, append_assoc, append-nil, drop-cons, add-one}
+use Rattle.std.proofs.Common.{◌≡◌, ℕ, suc, ◌+◌, ◌<◌, ◌≤◌, Bool, true, false, cond, List, [], ◌∷◌, ◌++◌, map, length, take, drop, zero, Option, None, Some, Result, Ok, Err, IfOk, OnOk, Vec, Box, Global, refl, sym, ap, ◌∙◌, subst, arith, rules, append_assoc, append-nil, drop-cons, add-one}
 use Rattle.std.specs.Prelude.{slice_index_or}
 use Rattle.std.specs.Option.{option_map}
 use Rattle.text_core.specs.declared.place.Place.{Place}
@@ -23,7 +23,8 @@ use Rattle.moxi_terms.specs.Failures.{sooner, least}
 use Rattle.moxi_terms.specs.Reading.{Reading, Arguments, Bindings, joined, no_arguments, argument, both_arguments, no_bindings, both_bindings, names_of, unless_failed, bindings_tests}
 use Rattle.std.proofs.lemmas.Option.{same_Some, none-some}
 use Rattle.moxi_terms.specs.Forms.{pair_of}
-use Rattle.moxi_terms.specs.Answer.{IsRead, AreRead, AreBound, kept, unless_some}
+use Rattle.moxi_terms.specs.declared.term.Variable.{Variable}
+use Rattle.moxi_terms.specs.Answer.{IsRead, AreRead, AreBound, kept, unless_some, locals_of}
 use Rattle.moxi_terms.proofs.Least.{sooner_none, sooner_assoc, least_append, least_none}
 
 -- tests one after another
@@ -124,3 +125,14 @@ pair_is (form.tree t (form.tree u (form.tree v vs))) a b h = absurd (none-some (
 pub on_ok_map : {A E : Type 0} (P Q : Type 0) (r : Result A E) → (P → Q) → OnOk r P → OnOk r Q
 on_ok_map P Q (Ok x) f h = f h
 on_ok_map P Q (Err e) f h = tt
+
+pub locals_taken : (vs : List Variable) (i : ℕ) → i ≤ length vs → length (locals_of (take i vs)) ≡ i
+locals_taken vs zero h = refl
+locals_taken [] (suc i) h = absurd (omega arith)
+locals_taken (v ∷ vs) (suc i) h = ap suc (locals_taken vs i (omega arith))
+
+pub locals_more : (vs : List Variable) (i : ℕ) (v : Variable) → i < length vs → v ≡ slice_index_or vs i v → locals_of (take (i + 1) vs) ≡ locals_of (take i vs) ++ record { name = v.name; sort = Some v.sort } ∷ []
+locals_more [] i v h e = absurd (omega arith)
+locals_more (x ∷ xs) zero v h e = ap (λ k. locals_of (take k (x ∷ xs))) (let z : 0 + 1 ≡ 1 = omega arith in z) ∙ ap (λ (w : Variable). record { name = w.name; sort = Some w.sort } ∷ []) (sym e)
+locals_more (x ∷ xs) (suc i) v h e =
+    ap (λ k. locals_of (take k (x ∷ xs))) (let z : suc i + 1 ≡ suc (i + 1) = omega arith in z) ∙ ap (λ ls. record { name = x.name; sort = Some x.sort } ∷ ls) (locals_more xs i v (omega arith) e)

@@ -229,6 +229,19 @@ pub fn read_term(
     read_form(alloc, setting, &mut bounds, form)
 }
 
+// The variables, found by their names.
+fn by_name(alloc: Global, variables: &Variables) -> Result<Locals, NoMemory>
+    requires { length variables.now < 2 ^ 32 }
+    ensures { IfOk result (λ l. l ≡ locals_of variables.now) }
+{
+    let mut locals = Locals::new(alloc);
+    for i in 0..variables.len() {
+        let variable = variables.at(i);
+        locals.add(Name::of(alloc, variable.name.bytes())?, Some(variable.sort))?;
+    }
+    Ok(locals)
+}
+
 /// The term and the sort that a form spells over these variables, or the failing test of M4 to M8 and M12 with the least
 /// place, and at one place with the least number.
 pub fn term_of(
@@ -241,11 +254,7 @@ pub fn term_of(
     requires { length variables.now < 2 ^ 32 }
     ensures { Answers (read (record { scope = scope.now; variables = locals_of variables.now; primes = primes }) [] (plain_form form.now)) result }
 {
-    let mut locals = Locals::new(alloc);
-    for i in 0..variables.len() {
-        let variable = variables.at(i);
-        locals.add(Name::of(alloc, variable.name.bytes())?, Some(variable.sort))?;
-    }
+    let locals = by_name(alloc, variables)?;
     let r = read_term(alloc, scope, &locals, form, primes)?;
     match (r.failure, r.sort) {
         (Some(f), _) => Err(TermEnd::Bad(f)),
