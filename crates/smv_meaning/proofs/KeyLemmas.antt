@@ -1,5 +1,5 @@
 -- An alias is a parameter.
-use Rattle.std.proofs.Common.{◌≡◌, ℕ, ◌+◌, ◌<◌, ◌≤◌, Bool, true, false, ◌&&◌, ◌||◌, ◌==◌, if◌then◌else◌, List, [], ◌∷◌, map, length, Option, Some, None, bytes_eq, refl, sym, ap, ◌∙◌, subst, arith}
+use Rattle.std.proofs.Common.{◌≡◌, ℕ, ◌+◌, ◌<◌, ◌≤◌, Bool, true, false, ◌&&◌, ◌||◌, ◌==◌, if◌then◌else◌, List, [], ◌∷◌, map, length, Some, None, bytes_eq, refl, sym, ap, ◌∙◌, arith}
 use mathlib.Core.Logic.{⊎_elim}
 use Rattle.std.specs.Prelude.{slice_get, slice_index_or}
 use Rattle.std.specs.Option.{option_map}
@@ -9,11 +9,10 @@ use Rattle.std.proofs.lemmas.List.{length-map}
 use Rattle.std.proofs.lemmas.Option.{slice_get-map, slice_get_read, slice_get_past}
 use Rattle.smv_text.specs.declared.tree.Parameter.{Parameter}
 use Rattle.smv_text.specs.declared.tree.VarKind.{VarKind}
-use Rattle.smv_text.specs.Tree.{Trees, no_trees, tree, PlainDomain, boolean, members, between, bits, instance, PlainItem, PlainDefinition, PlainElement, vars, defines, constants, assigns, init, trans, invar, spec}
+use Rattle.smv_text.specs.Tree.{Trees, no_trees, tree, PlainDomain, boolean, members, between, bits, instance, PlainItem, PlainDefinition, PlainElement, vars, defines}
 use Rattle.smv_meaning.specs.declared.table.Instance.{Instance as PartOf}
 use Rattle.smv_meaning.specs.declared.leads.Key.{Key}
-use Rattle.smv_meaning.specs.Instances.{Instance}
-use Rattle.smv_meaning.specs.Names.{Local, nothing, of_actual, of_domain, among_items, among_definitions, among_elements, among_parameters, formula, parent_of, local_in, local}
+use Rattle.smv_meaning.specs.Names.{Local, of_actual, of_domain, among_items, among_definitions, among_elements, among_parameters, formula, parent_of, local_in, local}
 use Rattle.smv_meaning.specs.Leads.{is_alias, is_key}
 use Rattle.smv_meaning.specs.View.{instance_plain}
 

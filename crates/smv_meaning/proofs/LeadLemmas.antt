@@ -1,5 +1,5 @@
 -- Steps of a walk over leads.
-use Rattle.std.proofs.Common.{◌≡◌, ℕ, zero, suc, ◌+◌, ◌<◌, ◌≤◌, max, nat_lt, Bool, true, false, ◌&&◌, ◌||◌, ◌==◌, if◌then◌else◌, List, [], ◌∷◌, ◌++◌, take, length, Option, Some, None, bytes_eq, refl, sym, ap, ◌∙◌, subst, arith}
+use Rattle.std.proofs.Common.{◌≡◌, ℕ, zero, suc, ◌+◌, ◌<◌, ◌≤◌, max, nat_lt, Bool, true, false, ◌&&◌, ◌||◌, ◌==◌, if◌then◌else◌, List, [], ◌∷◌, ◌++◌, take, length, Some, None, bytes_eq, refl, sym, ap, ◌∙◌, subst, arith}
 use mathlib.Core.Logic.{⊎_elim}
 use Rattle.std.specs.Prelude.{slice_index_or}
 use Rattle.std.specs.List.{list_any}
@@ -14,7 +14,7 @@ use Rattle.smv_text.specs.declared.tree.Path.{Path}
 use Rattle.smv_meaning.specs.declared.leads.Lead.{Lead}
 use Rattle.smv_meaning.specs.declared.leads.Key.{Key}
 use Rattle.smv_meaning.specs.Instances.{Instance}
-use Rattle.smv_meaning.specs.Names.{Local, alias, local, Found, cyclic, instance_at, none, onward, ended, landed, look, resolved}
+use Rattle.smv_meaning.specs.Names.{Local, alias, local, Found, cyclic, instance_at, onward, ended, landed, look, resolved}
 use Rattle.smv_meaning.specs.NameMap.{named_in}
 use Rattle.smv_meaning.specs.Leads.{until, LeadsTo, NameLeads, Right, IsOpen, IsWaiting, AllWait, AreAll, IsClosed, is_key, WalkOf, KeyWalk}
 use Rattle.smv_meaning.specs.declared.leads.Walk.{Walk}
