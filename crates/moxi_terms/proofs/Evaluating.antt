@@ -29,8 +29,16 @@ all_fit fs k now later vals ts c =
 module _ (fs : List PlainFunction) (k : ℕ) (now later bound_now : List Datum) where
   abbrev all_of : (ts : Trees) (ss : List Sort) (t : Tree) (c : CanEvaluate fs k now later bound_now t) → HaveSorts c.enumerations (take k fs) c.vars c.bounds ts ss → CanEvaluateAll fs k now later bound_now ts
   all_of ts ss t c h = record {
-    enumerations = c.enumerations; vars = c.vars; bounds = c.bounds; sorts = ss; within = c.within; functions = c.functions;
-    fit_now = c.fit_now; fit_later = c.fit_later; fit_bound = c.fit_bound; sorted = h;
+    enumerations = c.enumerations;
+    vars = c.vars;
+    bounds = c.bounds;
+    sorts = ss;
+    within = c.within;
+    functions = c.functions;
+    fit_now = c.fit_now;
+    fit_later = c.fit_later;
+    fit_bound = c.fit_bound;
+    sorted = h;
   }
 
   sorted_at : (t u : Tree) (c : CanEvaluate fs k now later bound_now t) → t ≡ u → HasSort c.enumerations (take k fs) c.vars c.bounds u c.sort
@@ -43,7 +51,9 @@ module _ (fs : List PlainFunction) (k : ℕ) (now later bound_now : List Datum) 
   apply_can t o ts vs c e f =
       let h = sorted_at t (apply o ts) c e in
       record {
-        enumerations = c.enumerations; sorts = h.0; sort = c.sort;
+        enumerations = c.enumerations;
+        sorts = h.0;
+        sort = c.sort;
         fit = subst (Fit c.enumerations h.0) (sym f) (all_fit fs k now later bound_now ts (all_of ts h.0 t c h.1));
         sorted = h.2;
       }
@@ -56,8 +66,14 @@ module _ (fs : List PlainFunction) (k : ℕ) (now later bound_now : List Datum) 
   let_body t names ts u vs c e f =
       let h = sorted_at t (binding names ts u) c e in
       record {
-        enumerations = c.enumerations; vars = c.vars; bounds = c.bounds ++ h.0; sort = c.sort; within = c.within; functions = c.functions;
-        fit_now = c.fit_now; fit_later = c.fit_later;
+        enumerations = c.enumerations;
+        vars = c.vars;
+        bounds = c.bounds ++ h.0;
+        sort = c.sort;
+        within = c.within;
+        functions = c.functions;
+        fit_now = c.fit_now;
+        fit_later = c.fit_later;
         fit_bound = fit_append c.enumerations c.bounds h.0 bound_now vs c.fit_bound (subst (Fit c.enumerations h.0) (sym f) (all_fit fs k now later bound_now ts (all_of ts h.0 t c h.2)));
         sorted = h.3;
       }
@@ -69,7 +85,11 @@ module _ (fs : List PlainFunction) (k : ℕ) (now later bound_now : List Datum) 
   call_can t n ts vs c e f =
       let h = sorted_at t (call n ts) c e in
       record {
-        enumerations = c.enumerations; function = h.0; there = h.1; within = c.within; functions = c.functions;
+        enumerations = c.enumerations;
+        function = h.0;
+        there = h.1;
+        within = c.within;
+        functions = c.functions;
         fit = subst (Fit c.enumerations (sorts_of h.0.parameters)) (sym f) (all_fit fs k now later bound_now ts (all_of ts (sorts_of h.0.parameters) t c h.2));
       }
 
@@ -82,16 +102,32 @@ module _ (fs : List PlainFunction) (k : ℕ) (now later bound_now : List Datum) 
   first_can ts t us c e =
       let h = split c.enumerations c.vars c.bounds t us c.sorts (subst (λ ts. HaveSorts c.enumerations (take k fs) c.vars c.bounds ts c.sorts) e c.sorted) in
       record {
-        enumerations = c.enumerations; vars = c.vars; bounds = c.bounds; sort = h.0; within = c.within; functions = c.functions;
-        fit_now = c.fit_now; fit_later = c.fit_later; fit_bound = c.fit_bound; sorted = h.2;
+        enumerations = c.enumerations;
+        vars = c.vars;
+        bounds = c.bounds;
+        sort = h.0;
+        within = c.within;
+        functions = c.functions;
+        fit_now = c.fit_now;
+        fit_later = c.fit_later;
+        fit_bound = c.fit_bound;
+        sorted = h.2;
       }
 
   pub rest_can : (ts : Trees) (t : Tree) (us : Trees) → CanEvaluateAll fs k now later bound_now ts → ts ≡ tree t us → CanEvaluateAll fs k now later bound_now us
   rest_can ts t us c e =
       let h = split c.enumerations c.vars c.bounds t us c.sorts (subst (λ ts. HaveSorts c.enumerations (take k fs) c.vars c.bounds ts c.sorts) e c.sorted) in
       record {
-        enumerations = c.enumerations; vars = c.vars; bounds = c.bounds; sorts = h.1; within = c.within; functions = c.functions;
-        fit_now = c.fit_now; fit_later = c.fit_later; fit_bound = c.fit_bound; sorted = h.3;
+        enumerations = c.enumerations;
+        vars = c.vars;
+        bounds = c.bounds;
+        sorts = h.1;
+        within = c.within;
+        functions = c.functions;
+        fit_now = c.fit_now;
+        fit_later = c.fit_later;
+        fit_bound = c.fit_bound;
+        sorted = h.3;
       }
 
 -- a function's body may be evaluated under its arguments
@@ -100,9 +136,15 @@ body_can fs k n args body c e =
     let p = taken_at fs k n c.function c.there in
     let f = c.functions n c.function p.0 in
     record {
-      enumerations = c.enumerations; vars = sorts_of c.function.parameters; bounds = []; sort = c.function.result;
-      within = (let l : n < k = p.1 in let m : k ≤ length fs = c.within in omega arith); functions = c.functions;
-      fit_now = c.fit; fit_later = c.fit; fit_bound = tt;
+      enumerations = c.enumerations;
+      vars = sorts_of c.function.parameters;
+      bounds = [];
+      sort = c.function.result;
+      within = (let l : n < k = p.1 in let m : k ≤ length fs = c.within in omega arith);
+      functions = c.functions;
+      fit_now = c.fit;
+      fit_later = c.fit;
+      fit_bound = tt;
       sorted = subst (λ b. HasSort c.enumerations (take n fs) (sorts_of c.function.parameters) [] b c.function.result) e f.body;
     }
 
@@ -113,8 +155,15 @@ ready_can s now later t fs n l vals scope r e f g h =
     let all : map plain_function fs ≡ plain_functions s = ap (map plain_function) e in
     let long : n ≡ length (plain_functions s) = f ∙ sym (length-map fs plain_function) ∙ ap length all in
     let here : CanEvaluate (plain_functions s) (length (plain_functions s)) now (later_of now later) [] t = record {
-      enumerations = s.enumerations; vars = r.vars; bounds = []; sort = r.sort; within = omega arith; functions = scope.functions;
-      fit_now = r.fit; fit_later = later_fits s.enumerations r.vars now t later r.fit r.fit_later; fit_bound = tt;
+      enumerations = s.enumerations;
+      vars = r.vars;
+      bounds = [];
+      sort = r.sort;
+      within = omega arith;
+      functions = scope.functions;
+      fit_now = r.fit;
+      fit_later = later_fits s.enumerations r.vars now t later r.fit r.fit_later;
+      fit_bound = tt;
       sorted = subst (λ gs. HasSort s.enumerations gs r.vars [] t r.sort) (sym (take_all (length (plain_functions s)) (plain_functions s) (omega arith))) r.sorted;
     } in
     subst (λ fs. CanEvaluate fs n now l vals t) (sym all) (subst (λ n. CanEvaluate (plain_functions s) n now l vals t) (sym long)

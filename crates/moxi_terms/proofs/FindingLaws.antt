@@ -256,9 +256,13 @@ pub first_index : (locals : List Local) (names : List (List ℕ)) (firsts : List
 first_index locals names firsts q k i e =
     let f = first_some locals names firsts q k i e in
     let r = first_there 0 locals q f.0 f.1 in
-    let same : r.0 ≡ f.0.number = omega (arith, r.2) in
-    (f.0, f.1, (λ d. index_read firsts k f.0.number d f.2), subst (λ n. n < length locals) same (slice_get_within locals r.0 r.1 r.3),
-     (λ d g. ap (λ (x : Local). x.sort) (g ∙ ap (λ n. slice_index_or locals n d) (sym same) ∙ index_read locals r.0 r.1 d r.3) ∙ sym r.4))
+    let same : r.0 ≡ f.0.number = omega (arith, r.2) in (
+      f.0,
+      f.1,
+      (λ d. index_read firsts k f.0.number d f.2),
+      subst (λ n. n < length locals) same (slice_get_within locals r.0 r.1 r.3),
+      (λ d g. ap (λ (x : Local). x.sort) (g ∙ ap (λ n. slice_index_or locals n d) (sym same) ∙ index_read locals r.0 r.1 d r.3) ∙ sym r.4),
+    )
 
 pub first_lacks : (locals : List Local) (names : List (List ℕ)) (firsts : List ℕ) (q : List ℕ) → IsIndexed locals names firsts → place_of names q ≡ None → first_of 0 locals q ≡ None
 first_lacks = first_none

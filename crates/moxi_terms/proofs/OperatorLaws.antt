@@ -173,6 +173,7 @@ words_wide es b ss v vs s h f =
     is_bits es w (datum.Truth b) h = absurd h
     is_bits es w (datum.Bits v) h = tt
     is_bits es w (datum.Constant n i) h = absurd h
+
     go : (w : ℕ) → Calculated b w s → (word_of v).width ≡ w → IsWord (word_of v) → AllOf es (Bits w) vs → count_fits (op.BvBinary b) (length ss) ≡ true → AreWide b (word_of v) vs
     go w (comparison c e) d i a n =
         compared_wide es b w (word_of v) vs c (let two_of : length ss ≡ 2 = comparison_count b (length ss) c n in let l : suc (length vs) ≡ length ss = fit_long es ss (v ∷ vs) f in omega arith) d a

@@ -37,6 +37,7 @@ unless_least fs s f e = ap (λ f. unless_some f s) e ∙ go fs
     some_least : (x : Refusal) (o : Option Refusal) → unless_some (sooner (Some x) o) s ≡ None
     some_least x None = refl
     some_least x (Some y) = refl
+
     go : (fs : List Refusal) → unless_some (least fs) s ≡ unless_failed fs s
     go [] = refl
     go (x ∷ xs) = some_least x (least xs)

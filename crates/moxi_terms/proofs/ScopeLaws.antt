@@ -83,7 +83,8 @@ pub kept_function : (s : ScopeState) (e so f c : List (List ℕ)) (n : List (ℕ
     → IsKept (with_function s g) e so (f ++ g.name ∷ []) c n
 kept_function s e so f c n g k is few = record {
   scope = record {
-    enumerations = k.scope.enumerations; sorts = k.scope.sorts;
+    enumerations = k.scope.enumerations;
+    sorts = k.scope.sorts;
     functions = subst (AreFunctions s.enumerations) (sym (map_end plain_function s.functions g)) (functions_end s.enumerations (plain_functions s) (plain_function g) k.scope.functions is);
   };
   enumeration_names = k.enumeration_names;
@@ -168,9 +169,16 @@ numbers_long n (x ∷ xs) =
 -- other numbers behind those of the constants
 pub kept_numbers : (s : ScopeState) (e so f c : List (List ℕ)) (n m : List (ℕ × ℕ)) → IsKept s e so f c n → take (length c) m ≡ take (length c) n → IsKept s e so f c m
 kept_numbers s e so f c n m k h = record {
-  scope = k.scope; enumeration_names = k.enumeration_names; sort_names = k.sort_names; function_names = k.function_names; constant_names = k.constant_names;
+  scope = k.scope;
+  enumeration_names = k.enumeration_names;
+  sort_names = k.sort_names;
+  function_names = k.function_names;
+  constant_names = k.constant_names;
   constant_numbers = ap (λ c. take (length c) m) (sym k.constant_names) ∙ h ∙ ap (λ c. take (length c) n) k.constant_names ∙ k.constant_numbers;
-  few_enumerations = k.few_enumerations; few_sorts = k.few_sorts; few_functions = k.few_functions; few_constants = k.few_constants;
+  few_enumerations = k.few_enumerations;
+  few_sorts = k.few_sorts;
+  few_functions = k.few_functions;
+  few_constants = k.few_constants;
 }
 
 -- one more enumeration
@@ -233,9 +241,11 @@ constant_read s e so f c n q p k h =
     let same : length c ≡ all = ap length k.constant_names in
     let less : p < length (constant_numbers 0 s.enumerations) = omega (arith, numbers_long 0 s.enumerations) in
     let x = get_or (constant_numbers 0 s.enumerations) p (0, 0) in
-    let there : slice_get (constant_numbers 0 s.enumerations) p ≡ Some x = slice_get-get_or (constant_numbers 0 s.enumerations) p (0, 0) less in
-    (x, sym (get_taken all n p (omega arith)) ∙ ap (λ ns. slice_get ns p) k.constant_numbers ∙ there,
-     ap (option_and_then (slice_get (constant_numbers 0 s.enumerations))) (ap (λ c. place_of c q) (sym k.constant_names) ∙ h) ∙ there)
+    let there : slice_get (constant_numbers 0 s.enumerations) p ≡ Some x = slice_get-get_or (constant_numbers 0 s.enumerations) p (0, 0) less in (
+      x,
+      sym (get_taken all n p (omega arith)) ∙ ap (λ ns. slice_get ns p) k.constant_numbers ∙ there,
+      ap (option_and_then (slice_get (constant_numbers 0 s.enumerations))) (ap (λ c. place_of c q) (sym k.constant_names) ∙ h) ∙ there,
+    )
 
 or_right : (a b : Bool) → (a || b) ≡ false → b ≡ false
 or_right true b h = absurd (cc)

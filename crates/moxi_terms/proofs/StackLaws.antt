@@ -213,11 +213,11 @@ module _ (names : List (List ℕ)) (bs : List Binding) (lasts : List (Option ℕ
       ap (slice_get (set lasts b.key (Some n))) e ∙ get_set_same lasts b.key (Some n) within
       ∙ ap (λ n. Some (Some n)) z
       ∙ sym (ap (λ ls. Some (found_number (last_of 0 ls p))) (locals_append names bs b) ∙ ap (λ o. Some (found_number o)) (last_append 0 (locals_in names bs) (record { name = name_at names b.key; sort = b.sort }) p
-        ∙ ap (λ c. cond c (Some (found_at (0 + length (locals_in names bs)) b.sort)) (last_of 0 (locals_in names bs) p)) eq))
+      ∙ ap (λ c. cond c (Some (found_at (0 + length (locals_in names bs)) b.sort)) (last_of 0 (locals_in names bs) p)) eq))
   at_key p k h (inr e) =
       get_set_other lasts b.key k (Some n) e ∙ i.last p k h
       ∙ sym (ap (λ ls. Some (found_number (last_of 0 ls p))) (locals_append names bs b) ∙ ap (λ o. Some (found_number o)) (last_append 0 (locals_in names bs) (record { name = name_at names b.key; sort = b.sort }) p
-        ∙ ap (λ c. cond c (Some (found_at (0 + length (locals_in names bs)) b.sort)) (last_of 0 (locals_in names bs) p)) (other_place names p (name_at names b.key) k b.key _ h placed e refl)))
+      ∙ ap (λ c. cond c (Some (found_at (0 + length (locals_in names bs)) b.sort)) (last_of 0 (locals_in names bs) p)) (other_place names p (name_at names b.key) k b.key _ h placed e refl)))
 
   before_at : (j : ℕ) (d : Binding) → (slice_get bs j ≡ Some d × (j < length bs)) ⊎ ((j ≡ length bs) × (b ≡ d)) → d.before ≡ found_number (last_of 0 (take j (locals_in names (bs ++ b ∷ []))) (name_at names d.key))
   before_at j d (inl p) =
@@ -239,7 +239,7 @@ module _ (names : List (List ℕ)) (bs : List Binding) (lasts : List (Option ℕ
   }
     where
       decide : (k j : ℕ) → (k ≡ j) ⊎ (k ≢ j)
-      decide k j = elim (eqb_tells k j) [ | inl e ↦ inl e.1 | inr e ↦ inr e.1 ]
+      decide k j = elim (eqb_tells k j) [ inl e ↦ inl e.1 | inr e ↦ inr e.1 ]
 
 pub bound_locals : (names : List (List ℕ)) (bs : List Binding) (b : Binding) (q : List ℕ) → place_of names q ≡ Some b.key → locals_in names (bs ++ b ∷ []) ≡ locals_in names bs ++ record { name = q; sort = b.sort } ∷ []
 bound_locals names bs b q h = locals_append names bs b ∙ ap (λ n. locals_in names bs ++ record { name = n; sort = b.sort } ∷ []) (name_there names q b.key h)
@@ -255,7 +255,7 @@ module _ (names : List (List ℕ)) (bs : List Binding) (b : Binding) (lasts : Li
   its_before =
       i.before (length bs) b (get_end bs b (length bs) refl)
       ∙ ap (λ ls. found_number (last_of 0 ls (name_at names b.key)))
-        (ap (λ k. take k (locals_in names (bs ++ b ∷ []))) (sym (locals_long names bs)) ∙ ap (take (length (locals_in names bs))) (locals_append names bs b) ∙ front_of (locals_in names bs) _)
+      (ap (λ k. take k (locals_in names (bs ++ b ∷ []))) (sym (locals_long names bs)) ∙ ap (take (length (locals_in names bs))) (locals_append names bs b) ∙ front_of (locals_in names bs) _)
 
   back_at : (p : List ℕ) (k : ℕ) → place_of names p ≡ Some k → (k ≡ b.key) ⊎ (k ≢ b.key) → slice_get (set lasts b.key b.before) k ≡ Some (found_number (last_of 0 (locals_in names bs) p))
   back_at p k h (inl e) =
@@ -265,7 +265,7 @@ module _ (names : List (List ℕ)) (bs : List Binding) (b : Binding) (lasts : Li
       get_set_other lasts b.key k b.before e ∙ i.last p k h
       ∙ ap (λ ls. Some (found_number (last_of 0 ls p))) (locals_append names bs b)
       ∙ ap (λ o. Some (found_number o)) (last_append 0 (locals_in names bs) (record { name = name_at names b.key; sort = b.sort }) p
-        ∙ ap (λ c. cond c (Some (found_at (0 + length (locals_in names bs)) b.sort)) (last_of 0 (locals_in names bs) p)) (other_place names p (name_at names b.key) k b.key _ h its_place e refl))
+      ∙ ap (λ c. cond c (Some (found_at (0 + length (locals_in names bs)) b.sort)) (last_of 0 (locals_in names bs) p)) (other_place names p (name_at names b.key) k b.key _ h its_place e refl))
 
   pub stacked_unbind : IsStacked names bs (set lasts b.key b.before)
   stacked_unbind = record {
@@ -279,7 +279,7 @@ module _ (names : List (List ℕ)) (bs : List Binding) (b : Binding) (lasts : Li
   }
     where
       decide : (k j : ℕ) → (k ≡ j) ⊎ (k ≢ j)
-      decide k j = elim (eqb_tells k j) [ | inl e ↦ inl e.1 | inr e ↦ inr e.1 ]
+      decide k j = elim (eqb_tells k j) [ inl e ↦ inl e.1 | inr e ↦ inr e.1 ]
 
 pub unbound_locals : (names : List (List ℕ)) (bs all : List Binding) (b : Binding) → all ≡ bs ++ b ∷ [] → locals_in names bs ≡ take (length (locals_in names all) - 1) (locals_in names all)
 unbound_locals names bs all b e =
@@ -315,9 +315,13 @@ is_bound names bs q n o e g =
     let s = some_last (last_of 0 (locals_in names bs) q) n (sym e ∙ g) in
     let r = last_there 0 (locals_in names bs) q s.0 s.1 in
     let same : r.0 ≡ n = omega (arith, r.2, s.2) in
-    let b = local_binding names bs r.0 r.1 r.3 in
-    (s.0, s.1, s.2, subst (λ k. k < length bs) same (slice_get_within bs r.0 b.0 b.1),
-     (λ d h. ap (λ (b : Binding). b.sort) (h ∙ ap (λ k. slice_index_or bs k d) (sym same) ∙ index_read bs r.0 b.0 d b.1) ∙ sym b.2 ∙ sym r.4))
+    let b = local_binding names bs r.0 r.1 r.3 in (
+      s.0,
+      s.1,
+      s.2,
+      subst (λ k. k < length bs) same (slice_get_within bs r.0 b.0 b.1),
+      (λ d h. ap (λ (b : Binding). b.sort) (h ∙ ap (λ k. slice_index_or bs k d) (sym same) ∙ index_read bs r.0 b.0 d b.1) ∙ sym b.2 ∙ sym r.4),
+    )
 
 pub before_read : (names : List (List ℕ)) (bs : List Binding) (lasts : List (Option ℕ)) (q : List ℕ) (key : ℕ) (o : Option ℕ) → IsStacked names bs lasts → place_of names q ≡ Some key → o ≡ slice_index_or lasts key o → slice_get lasts key ≡ Some o
 before_read names bs lasts q key o i h e = i.last q key h ∙ ap Some (sym (number_is names bs lasts q key o i h e))

@@ -160,4 +160,3 @@ fn application_test(
         None
     }
 }
-

@@ -169,4 +169,3 @@ pub fn underscored(p: Place, q: Place, first: bool, rest: &[Form]) -> ReadTerm
         None => failed(refusal(4, q)),
     }
 }
-

@@ -118,7 +118,12 @@ fn listed_head(p: Place, q: Place, rest: &[Form]) -> Result<Head, Refusal>
     }
 }
 
-fn atom_head(scope: &Scope, p: Place, q: Place, symbol: Option<(&[u8], bool)>) -> Result<Head, Refusal>
+fn atom_head(
+    scope: &Scope,
+    p: Place,
+    q: Place,
+    symbol: Option<(&[u8], bool)>,
+) -> Result<Head, Refusal>
     ensures { result ≡ atom_head scope.now p q (symbol_now symbol.entry) }
 {
     match symbol {

@@ -86,4 +86,3 @@ pub fn bind_to(
     all.failure = sooner(all.failure, r.failure);
     Ok(())
 }
-

@@ -145,7 +145,12 @@ impl Bounds {
             return Err(NoMemory);
         }
         let number = count as u32;
-        let key = key_of(self.alloc, &mut self.names, &mut self.lasts, local.name.bytes())?;
+        let key = key_of(
+            self.alloc,
+            &mut self.names,
+            &mut self.lasts,
+            local.name.bytes(),
+        )?;
         let before = self.lasts[key];
         match self.bindings.push(Binding {
             key,

@@ -67,4 +67,3 @@ pub fn own_tests(term: Term, sort: Option<Sort>, failure: Option<Refusal>) -> Re
         failure,
     }
 }
-

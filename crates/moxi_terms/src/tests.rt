@@ -71,7 +71,12 @@ const REFUSED: [(&[u8], bool, u8, u32); 57] = [
     (b"(_ bv5)", false, 12, 1),
     (b"(_ bv16 4)", false, 8, 1),
     (b"(_ bv5 65)", false, 8, 1),
-    (b"#b00000000000000000000000000000000000000000000000000000000000000000", false, 8, 1),
+    (
+        b"#b00000000000000000000000000000000000000000000000000000000000000000",
+        false,
+        8,
+        1,
+    ),
     (b"()", false, 12, 1),
     (b"(not 5)", false, 12, 6),
     (b"(let () b)", false, 12, 6),
@@ -163,7 +168,11 @@ fn forms_are_refused(rt: HostRuntime) -> Result<(), Fail> {
     let scope = scope(rt.alloc())?;
     let variables = variables(rt.alloc())?;
     for (text, allowed, number, column) in &REFUSED {
-        let primes = if *allowed { Primes::Allowed } else { Primes::Refused };
+        let primes = if *allowed {
+            Primes::Allowed
+        } else {
+            Primes::Refused
+        };
         let (kind, at) = refused(rt.alloc(), &scope, &variables, text, primes);
         assert_eq!(rt; kind, *number);
         assert_eq!(rt; at, *column);

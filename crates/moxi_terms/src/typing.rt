@@ -69,7 +69,11 @@ fn common(sorts: &[Sort]) -> Option<Sort>
     ensures { result ≡ common sorts.now }
 {
     match sorts.split_first() {
-        Some((first, rest)) => if are_all(*first, rest) { Some(*first) } else { None },
+        Some((first, rest)) => if are_all(*first, rest) {
+            Some(*first)
+        } else {
+            None
+        },
         None => None,
     }
 }

@@ -45,10 +45,11 @@ value-inner_value-requires t c =
     let more = c.deref-in-Let-2.ensures.value ∙ got ∙ ap (λ ts. values (trees_of (map plain ts))) c.deref-in-Let.ensures.value in
     let body : plain c.deref-in-Let-3.result.now ≡ plain c.in-Let.body.value = ap plain c.deref-in-Let-3.ensures in
     let kept : c.values-in-Let.new.bound.items ≡ old = c.in_ok-more-in-Let.ensures.kept in
-    let can = let_body fs s.upto (values_in s.now) (values_in s.later) old (plain c.args.t.now) c.in-Let.field-0 (trees_of (map plain c.in-Let.terms.items)) (plain c.in-Let.body.value) c.deref-in-Let-2.result.now c.requires e more in
-    (omega (arith, ap cost_of e, ap cost_of body),
-     (subst (λ b. CanEvaluate fs s.upto (values_in s.now) (values_in s.later) (b ++ c.deref-in-Let-2.result.now) (plain c.deref-in-Let-3.result.now)) (sym kept)
-      (subst (CanEvaluate fs s.upto (values_in s.now) (values_in s.later) (old ++ c.deref-in-Let-2.result.now)) (sym body) can)))
+    let can = let_body fs s.upto (values_in s.now) (values_in s.later) old (plain c.args.t.now) c.in-Let.field-0 (trees_of (map plain c.in-Let.terms.items)) (plain c.in-Let.body.value) c.deref-in-Let-2.result.now c.requires e more in (
+      omega (arith, ap cost_of e, ap cost_of body),
+      (subst (λ b. CanEvaluate fs s.upto (values_in s.now) (values_in s.later) (b ++ c.deref-in-Let-2.result.now) (plain c.deref-in-Let-3.result.now)) (sym kept)
+          (subst (CanEvaluate fs s.upto (values_in s.now) (values_in s.later) (old ++ c.deref-in-Let-2.result.now)) (sym body) can)),
+    )
 
 pub value-returns-in_ok-more-in-Let-clause-value : goal.value-returns-in_ok-more-in-Let-clause-value
 value-returns-in_ok-more-in-Let-clause-value t c =
@@ -77,9 +78,10 @@ value-call-requires t c =
     let values = term_values (calls_upto fs s.upto) (at (values_in s.now)) (at (values_in s.later)) old in
     let e = ap plain c.in-Call.is ∙ plain-Call c.in-Call.n c.in-Call.terms in
     let got : c.in_ok-args-in-Call.args.items ≡ values (trees_of (map plain c.deref-in-Call.result.now)) = c.in_ok-args-in-Call.ensures.values in
-    let more = c.deref-in-Call-2.ensures.value ∙ got ∙ ap (λ ts. values (trees_of (map plain ts))) c.deref-in-Call.ensures.value in
-    (omega (arith, ap (cost (cost_upto fs s.upto)) e),
-     call_can fs s.upto (values_in s.now) (values_in s.later) old (plain c.args.t.now) c.in-Call.n (trees_of (map plain c.in-Call.terms.items)) c.deref-in-Call-2.result.now c.requires e more)
+    let more = c.deref-in-Call-2.ensures.value ∙ got ∙ ap (λ ts. values (trees_of (map plain ts))) c.deref-in-Call.ensures.value in (
+      omega (arith, ap (cost (cost_upto fs s.upto)) e),
+      call_can fs s.upto (values_in s.now) (values_in s.later) old (plain c.args.t.now) c.in-Call.n (trees_of (map plain c.in-Call.terms.items)) c.deref-in-Call-2.result.now c.requires e more,
+    )
 
 pub call-value-requires : goal.call-value-requires
 call-value-requires t c =
@@ -91,9 +93,10 @@ call-value-requires t c =
     let within : n < length all = subst (λ k. n < k) (length-map all plain_function) (found_within fs n c.requires.function p.0) in
     let d = c.at.result.now in
     let here : plain (slice_index_or all n d).body ≡ plain d.body = ap (λ f. plain f.body) (sym c.at.ensures) in
-    let same : c.requires.function.body ≡ plain d.body = sym (ap (λ f. f.body) (read_at fs n c.requires.function _ p.0)) ∙ body_of all n d within ∙ here in
-    (omega (arith, called_cost all c.args.upto n d less within, ap (cost (cost_upto fs n)) here),
-     subst (λ b. CanEvaluate fs n c.args.args.now c.args.args.now b (plain d.body)) (sym c.new-bound.ensures.items) (body_can fs c.args.upto n c.args.args.now (plain d.body) c.requires same))
+    let same : c.requires.function.body ≡ plain d.body = sym (ap (λ f. f.body) (read_at fs n c.requires.function _ p.0)) ∙ body_of all n d within ∙ here in (
+      omega (arith, called_cost all c.args.upto n d less within, ap (cost (cost_upto fs n)) here),
+      subst (λ b. CanEvaluate fs n c.args.args.now c.args.args.now b (plain d.body)) (sym c.new-bound.ensures.items) (body_can fs c.args.upto n c.args.args.now (plain d.body) c.requires same),
+    )
 
 pub call-returns : goal.call-returns
 call-returns t c =
@@ -122,9 +125,10 @@ values-value-requires t c =
     let x = c.t-item.result in
     let e = terms_step ts l.t-index x c.loop-t-test.true c.t-item.is in
     let rest = trees_of (map plain (drop (l.t-index + 1) ts)) in
-    let can = first_can fs s.upto (values_in s.now) (values_in s.later) old (trees_of (map plain (drop l.t-index ts))) (plain x) rest l.invariant.can e in
-    (omega (arith, ap (costs (cost_upto fs s.upto)) e, l.invariant.left),
-     subst (λ b. CanEvaluate fs s.upto (values_in s.now) (values_in s.later) b (plain x)) (sym l.invariant.kept) can)
+    let can = first_can fs s.upto (values_in s.now) (values_in s.later) old (trees_of (map plain (drop l.t-index ts))) (plain x) rest l.invariant.can e in (
+      omega (arith, ap (costs (cost_upto fs s.upto)) e, l.invariant.left),
+      subst (λ b. CanEvaluate fs s.upto (values_in s.now) (values_in s.later) b (plain x)) (sym l.invariant.kept) can,
+    )
 
 pub values-loop-t-preserved : goal.values-loop-t-preserved
 values-loop-t-preserved t c =

@@ -15,5 +15,5 @@ pub returns : goal.returns
 returns c =
     if_ok_same c.value.result _ _
     (ready_value c.args.scope.now c.args.now.now (later_of c.args.now.now c.args.later) (plain c.args.term.now) c.functions-functions.result.now c.len.result (values_in c.later_valuation.result) c.new-bound.result.items
-      c.functions-functions.ensures.functions c.len.ensures c.later_valuation.ensures c.new-bound.ensures.items)
+    c.functions-functions.ensures.functions c.len.ensures c.later_valuation.ensures c.new-bound.ensures.items)
     c.value.ensures.value

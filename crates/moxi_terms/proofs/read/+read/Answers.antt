@@ -76,8 +76,8 @@ read_body-returns-clause-read t c =
     let bound : c.bind_all.new.self ≡ b ++ c.args.bindings.locals = c.in_ok-bind_all.ensures in
     if_ok_map _ _ c.let_term.result
     (λ r h fs x e a.
-      let here : c.bind_all.new.self ≡ b ++ x.locals = bound ∙ ap (λ ls. b ++ ls) a.locals in
-      h x (read ctx (b ++ x.locals) body) fs e a (subst (λ b. IsRead (read ctx b body) c.in_ok-r.r) here c.in_ok-r.ensures.read))
+    let here : c.bind_all.new.self ≡ b ++ x.locals = bound ∙ ap (λ ls. b ++ ls) a.locals in
+    h x (read ctx (b ++ x.locals) body) fs e a (subst (λ b. IsRead (read ctx b body) c.in_ok-r.r) here c.in_ok-r.ensures.read))
     c.let_term.ensures
 
 pub read_form-returns-then-is_word-clause-read : goal.read_form-returns-then-is_word-clause-read
@@ -134,7 +134,7 @@ read_let-returns-in_ok-bindings-in-List-clause-read t c =
     let kept : c.read_bindings.new.bounds ≡ b = c.in_ok-bindings-in-List.ensures.kept in
     if_ok_map _ _ c.read_body.result
     (λ r g fs e.
-      let own = c.sooner-own.ensures ∙ tests_both c.args.primes c.some_binding.result fs (bindings_tests q bs) e some in
-      subst (λ ts. IsRead (read_let ctx b p fs ts) r) (sym rest)
-      (subst (λ d. IsRead (let_reading (fs ++ bindings_tests q bs) x (read ctx (d ++ x.locals) body)) r) kept (g (fs ++ bindings_tests q bs) x own bound)))
+    let own = c.sooner-own.ensures ∙ tests_both c.args.primes c.some_binding.result fs (bindings_tests q bs) e some in
+    subst (λ ts. IsRead (read_let ctx b p fs ts) r) (sym rest)
+    (subst (λ d. IsRead (let_reading (fs ++ bindings_tests q bs) x (read ctx (d ++ x.locals) body)) r) kept (g (fs ++ bindings_tests q bs) x own bound)))
     c.read_body.ensures.read

@@ -34,5 +34,5 @@ returns-in-Some c =
     ap (λ (x : ℕ × ℕ). Some (meaning.Value (datum.Constant x.0 x.1) (Choice x.0))) got
     ∙ ap (option_map (λ (c : ℕ × ℕ). meaning.Value (datum.Constant c.0 c.1) (Choice c.0))) (sym r.2)
     ∙ sym (ap (λ b. cond b (Some (meaning.Value (datum.Truth true) Truth)) (cond (bytes_eq name (codes "false")) (Some (meaning.Value (datum.Truth false) Truth)) found)) one
-      ∙ ap (λ b. cond b (Some (meaning.Value (datum.Truth false) Truth)) found) two)
+    ∙ ap (λ b. cond b (Some (meaning.Value (datum.Truth false) Truth)) found) two)
     ∙ ap (λ s. value_named s name) c.self.view_is
