@@ -5,5 +5,7 @@ mod mark;
 mod order;
 mod returns;
 mod search;
+#[cfg(test)]
+mod tests;
 
 pub use order::{Graph, Order, sort};

@@ -1,6 +1,5 @@
 -- What the checks of paths, cycles and types give.
-use Rattle.std.proofs.Common.{◌≡◌, ℕ, zero, suc, ◌+◌, ◌<◌, ◌≤◌, Bool, true, false, not, ◌&&◌, if◌then◌else◌, List, [], ◌∷◌, ◌++◌, map, Option, Some, None, flat_map, refl, sym, ap, ◌∙◌, subst, arith}
-use Rattle.std.proofs.lemmas.Bool.{leb-true}
+use Rattle.std.proofs.Common.{◌≡◌, ℕ, zero, suc, ◌+◌, ◌<◌, Bool, true, false, not, ◌&&◌, if◌then◌else◌, List, [], ◌∷◌, ◌++◌, map, Option, Some, None, flat_map, refl, sym, ap, ◌∙◌, subst, arith}
 use Rattle.std.proofs.lemmas.List.Folds.{list_all-append, list_all-map}
 use mathlib.Core.Logic.{◌⊎◌, inl, inr, ⊎_elim}
 use Rattle.std.specs.List.{slice_get, list_all}
@@ -21,7 +20,7 @@ use Rattle.smv_meaning.specs.Phases.{over_instances, path_check, path_checks, el
 use Rattle.smv_meaning.specs.Owed.{HasType}
 use Rattle.smv_meaning.specs.Literals.{words_fit}
 use Rattle.smv_meaning.specs.Parts.{IsPart, InTrees, InOne, expressions_in, InElements, InActuals, StandsIn}
-use Rattle.smv_meaning.specs.Settled.{Acyclic, types_in, rank_of}
+use Rattle.smv_meaning.specs.Settled.{is_formula, Acyclic, types_in, rank_of}
 use Rattle.smv_meaning.specs.Checked.{IsChecked, instance_all, all_trees, names_instance}
 use Rattle.smv_meaning.proofs.OperatorLaws.{both_true}
 use Rattle.smv_meaning.proofs.TypeLaws.{absurd_bool}
@@ -29,7 +28,7 @@ use Rattle.smv_meaning.proofs.FoundLaws.{Closed, LocalGood, by_name, in_place, t
 use Rattle.smv_meaning.proofs.Cycles.{In, in_all, in_left, in_right}
 use Rattle.smv_meaning.proofs.Agreeing.{more_paths, own_paths}
 use Rattle.smv_meaning.proofs.Typable.{TypedPaths, split, has_type}
-use Rattle.smv_meaning.proofs.Ranked.{key, is_formula}
+use Rattle.smv_meaning.proofs.Ranked.{key}
 use Rattle.smv_meaning.proofs.Settling.{Under, under_more, all_under, body_under, ranking, types_settle_law}
 use Rattle.smv_meaning.proofs.PartLaws.{Sound, AnyHold, part_sound}
 

@@ -25,7 +25,7 @@ use Rattle.smv_meaning.specs.declared.table.Instance.{Instance as PartOf}
 use Rattle.smv_meaning.specs.Values.{no_value, is_true}
 use Rattle.smv_meaning.specs.Operators.{called}
 use Rattle.smv_meaning.specs.Expressions.{Denotation, alone, joined, is_implies, are_implies, is_from_right, is_last, denote, implications, linked, chosen, taken}
-use Rattle.smv_meaning.specs.Names.{Found, look, resolved, steps_of}
+use Rattle.smv_meaning.specs.Names.{Found}
 use Rattle.smv_meaning.specs.Meaning.{value_found, reading}
 use Rattle.smv_meaning.specs.Safety.{depth, link_depth, right_depth, branch_depth, front_value, fronts_value, front_permits, fronts_permit, Safe, SafeBranches, SafeFound, SafePath}
 use Rattle.smv_meaning.specs.View.{stated, instance_plain, found_here, reads, SafeReads}
@@ -36,27 +36,23 @@ pub reading_none : (ts : List PartOf) (n i : ℕ) (s l : Option (Bor (List Given
 unfolding reading
 reading_none ts n i s l path e = sym (ap (λ k. reading (found_here ts) k (stated s) (stated l) i path) e)
 
-found_at : (ts : List PartOf) (d i : ℕ) (path : Path) (m : Found) → d ≡ steps_of (map instance_plain ts) → m ≡ resolved (map instance_plain ts) (look (map instance_plain ts) d) i path
+pub reads_step : (ts : List PartOf) (n i : ℕ) (s l : Option (Bor (List Given))) (path : Path) (m : Found) → 0 < n
     → m ≡ found_here ts i path
-found_at ts d i path m e h = h ∙ ap (λ n. resolved (map instance_plain ts) (look (map instance_plain ts) n) i path) e
-
-pub reads_step : (ts : List PartOf) (d n i : ℕ) (s l : Option (Bor (List Given))) (path : Path) (m : Found) → 0 < n → d ≡ steps_of (map instance_plain ts)
-    → m ≡ resolved (map instance_plain ts) (look (map instance_plain ts) d) i path
     → value_found (reading (found_here ts) (n - 1) (stated s) (stated l)) (stated s) (stated l) m ≡ reads ts n i s l path
 unfolding reading
-reads_step ts d n i s l path m h e at =
+reads_step ts n i s l path m h at =
     let step : n ≡ suc (n - 1) = omega arith in
-    ap (value_found (reading (found_here ts) (n - 1) (stated s) (stated l)) (stated s) (stated l)) (found_at ts d i path m e at)
+    ap (value_found (reading (found_here ts) (n - 1) (stated s) (stated l)) (stated s) (stated l)) at
     ∙ sym (ap (λ k. reading (found_here ts) k (stated s) (stated l) i path) step)
 
-pub safe_step : (ts : List PartOf) (d n i : ℕ) (s l : Option (Bor (List Given))) (path : Path) (m : Found) → 0 < n → d ≡ steps_of (map instance_plain ts)
-    → m ≡ resolved (map instance_plain ts) (look (map instance_plain ts) d) i path → SafeReads ts n i s l path
+pub safe_step : (ts : List PartOf) (n i : ℕ) (s l : Option (Bor (List Given))) (path : Path) (m : Found) → 0 < n
+    → m ≡ found_here ts i path → SafeReads ts n i s l path
     → SafeFound (SafePath (found_here ts) (n - 1) (stated s) (stated l)) (reading (found_here ts) (n - 1) (stated s) (stated l)) m
 unfolding SafePath
-safe_step ts d n i s l path m h e at safe =
+safe_step ts n i s l path m h at safe =
     let step : n ≡ suc (n - 1) = omega arith in
     let here : SafePath (found_here ts) (suc (n - 1)) (stated s) (stated l) i path = subst (λ k. SafePath (found_here ts) k (stated s) (stated l) i path) step safe in
-    subst (SafeFound (SafePath (found_here ts) (n - 1) (stated s) (stated l)) (reading (found_here ts) (n - 1) (stated s) (stated l))) (sym (found_at ts d i path m e at)) here
+    subst (SafeFound (SafePath (found_here ts) (n - 1) (stated s) (stated l)) (reading (found_here ts) (n - 1) (stated s) (stated l))) (sym at) here
 
 -- what an evaluation of so many steps has to spend: each step one body
 unfoldable pub budget : List Instance → ℕ → ℕ
@@ -75,9 +71,9 @@ budget_falls t n e l h =
 low_at : (n : ℕ) (m : Found) (k : Found) → k ≡ m → LowFound n m → LowFound n k
 low_at n m k e h = subst (LowFound n) (sym e) h
 
-pub body_low : (ts : List PartOf) (d i : ℕ) (path : Path) (m : Found) → d ≡ steps_of (map instance_plain ts) → m ≡ resolved (map instance_plain ts) (look (map instance_plain ts) d) i path
+pub body_low : (ts : List PartOf) (i : ℕ) (path : Path) (m : Found) → m ≡ found_here ts i path
     → LowFound (depths_of (map instance_plain ts)) m
-body_low ts d i path m e at = low_at (depths_of (map instance_plain ts)) (found_here ts i path) m (found_at ts d i path m e at) (low_found (map instance_plain ts) i path)
+body_low ts i path m at = low_at (depths_of (map instance_plain ts)) (found_here ts i path) m at (low_found (map instance_plain ts) i path)
 
 -- ---- chains
 

@@ -1,6 +1,6 @@
 -- What holds of the variables, definitions and actuals of all instances holds of what paths lead to.
 use Rattle.std.proofs.Common.{ap, sum_by, ◌+◌, ◌≤◌, ◌≡◌, ℕ, zero, suc, ◌<◌, ◌^◌, Bool, true, false, not, ◌&&◌, ◌==◌, nat_lt, nat_le, if◌then◌else◌, List, [], ◌∷◌, map, position, Option, Some, None, bytes_eq, refl, sym, subst, arith}
-use Rattle.std.proofs.lemmas.Bool.{eqb-true, ltb-true, leb-true}
+use Rattle.std.proofs.lemmas.Bool.{eqb-true, ltb-true}
 use Rattle.std.proofs.lemmas.Slice.Eq.{bytes_eq-Decides}
 use mathlib.Core.Logic.{inl, inr, ⊎_elim}
 use Rattle.std.specs.List.{slice_get, list_all}

@@ -5,6 +5,8 @@ pub mod Evaluating
 pub mod NameLemmas
 pub mod ChildLemmas
 pub mod Grow
+pub mod KeyLemmas
+pub mod LeadLemmas
 pub mod ScopeLemmas
 pub mod TableLemmas
 pub mod Intervals
@@ -15,6 +17,7 @@ pub mod FoundLaws
 pub mod ValueAt
 pub mod Cycles
 pub mod Ranked
+pub mod Ordered
 pub mod Agreeing
 pub mod Settling
 pub mod FormulaLemmas

@@ -17,7 +17,7 @@ use Rattle.smv_meaning.specs.Phases.{Formula, formula_same, refers, reaches, cyc
 use Rattle.smv_meaning.specs.Settled.{Acyclic, cycle_checks_of}
 use Rattle.smv_meaning.specs.Formulas.{Placed, actual_formulas, placed_definition, element_formulas, formulas_here, placed_formulas, formulas_of, number_in, number_or, references_of, reference_graph, refusal_of, IsFormulaOrder, IsFirstCycle}
 use Rattle.smv_meaning.proofs.Cycles.{In, same_is, same_self}
-use Rattle.smv_meaning.proofs.Ranked.{is_formula, key, actual_keys, element_keys, keys_in, keys_of, keys_counted, in_keys, within_keys, no_reference, reaches_none}
+use Rattle.smv_meaning.proofs.Ranked.{is_formula, key, actual_keys, element_keys, keys_in, keys_of, keys_counted, in_keys, within_keys, no_reference, reaches_none, cycles_are_checked_law}
 
 -- ---- numbers
 
@@ -253,3 +253,15 @@ never_is_acyclic t h k =
     ap (λ q. reaches (refers t) (steps_of t) q k) (sym (place_is (keys_of t) k there)) ∙ sym (leads_is t (steps_of t) (number t k) k (place_within (keys_of t) k there) there) ∙ h (steps_of t) (number t k)
     | inr e ↦ reaches_none (refers t) (steps_of t) k k (no_reference t (look t (steps_of t)) (local t k.0 k.1) e)
     ]
+
+-- where nothing reaches itself no check of a cycle fails
+none_fails : (cs : List Check) → list_all (λ c. c.holds) cs ≡ true → first_failing cs ≡ None
+none_fails [] h = refl
+none_fails (c ∷ cs) h =
+    elim (bool_cases c.holds) [
+    inl e ↦ ap (λ b. if b then first_failing cs else Some c.refusal) e ∙ none_fails cs (sym (ap (λ b. b && list_all (λ d. d.holds) cs) e) ∙ h)
+    | inr e ↦ let f : false ≡ true = sym (ap (λ b. b && list_all (λ d. d.holds) cs) e) ∙ h in cc
+    ]
+
+pub acyclic_passes : (t : List Instance) → Acyclic t → first_failing (cycle_checks_of t) ≡ None
+acyclic_passes t h = none_fails (cycle_checks_of t) ((cycles_are_checked_law t).1 h)

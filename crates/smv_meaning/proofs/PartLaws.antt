@@ -1,5 +1,5 @@
 -- What holds of an expression holds of its parts: the checks, and what they need of names, of word literals and of depths.
-use Rattle.std.proofs.Common.{◌≡◌, ◌≤◌, max, Bool, true, false, ◌&&◌, if◌then◌else◌, List, ◌++◌, sym, subst, arith}
+use Rattle.std.proofs.Common.{◌≡◌, Bool, true, false, ◌&&◌, if◌then◌else◌, List, ◌++◌, sym, subst}
 use mathlib.Core.Logic.{inl, inr}
 use Rattle.text_core.specs.declared.place.Place.{Place}
 use Rattle.smv_text.specs.declared.tree.Path.{Path}

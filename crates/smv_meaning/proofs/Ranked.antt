@@ -16,16 +16,11 @@ use Rattle.smv_meaning.specs.Names.{Local, alias, formula, variable_of, inner, n
 use Rattle.smv_meaning.specs.Expressions.{paths_of}
 use Rattle.smv_meaning.specs.Checks.{Check, passes}
 use Rattle.smv_meaning.specs.Phases.{Formula, formula_same, formula_here, from_instance, touched, referred, refers, reaches, actual_cycles, element_cycles, cycle_checks, over_instances}
-use Rattle.smv_meaning.specs.Settled.{Acyclic, cycle_checks_of, IsRank, RankedIsAcyclic, CyclesAreChecked, AcyclicIsRanked, rank_of}
+use Rattle.smv_meaning.specs.Settled.{Acyclic, is_formula, cycle_checks_of, IsRank, RankedIsAcyclic, CyclesAreChecked, AcyclicIsRanked, rank_of}
 use Rattle.smv_meaning.proofs.TypeLaws.{or_true, absurd_bool}
 use Rattle.smv_meaning.proofs.Cycles.{In, any_in, in_all, all_in, in_left, in_right, in_either, in_flat, same_is, Within, chain_falls, chain_most}
 
 -- ---- the definitions and actuals of a model
-
-abbrev pub is_formula : Local → Bool
-is_formula (alias j path) = true
-is_formula (formula j e) = true
-is_formula l = false
 
 abbrev pub key : ℕ → List ℕ → Formula
 key i x = (i, x)
@@ -232,7 +227,7 @@ touched_is t f i (x ∷ xs) k h =
     ⊎_elim (λ s. here_is t i x k s) (λ s. let r = in_from (f i x) (λ c. touched t f c xs) k s in touched_is t f r.0 xs k r.1)
     (in_either k (formula_here i x (local t i x)) (from_instance (f i x) (λ c. touched t f c xs)) h)
 
-referred_is : (t : List Instance) (f : ℕ → List ℕ → Found) (l : Local) (k : Formula) → In k (referred t f l) → (is_formula l ≡ true) × (is_formula (local t k.0 k.1) ≡ true)
+pub referred_is : (t : List Instance) (f : ℕ → List ℕ → Found) (l : Local) (k : Formula) → In k (referred t f l) → (is_formula l ≡ true) × (is_formula (local t k.0 k.1) ≡ true)
 referred_is t f (alias j path) k h = (refl, touched_is t f j path.names k h)
 referred_is t f (formula j e) k h = let r = in_flat (λ q. touched t f j q.names) k (paths_of e []) h in (refl, touched_is t f j r.0.names k r.2)
 referred_is t f (variable_of kind d) k h = absurd h

@@ -20,13 +20,13 @@ use Rattle.smv_meaning.specs.Safety.{Safe, SafeFound, SafePath}
 use Rattle.smv_meaning.specs.Typed.{Gives}
 use Rattle.smv_meaning.specs.Owed.{HasType}
 use Rattle.smv_meaning.specs.Literals.{words_fit}
-use Rattle.smv_meaning.specs.Settled.{Acyclic, cycle_checks_of, types_in, rank_of}
+use Rattle.smv_meaning.specs.Settled.{is_formula, Acyclic, cycle_checks_of, types_in, rank_of}
 use Rattle.smv_meaning.specs.Checked.{path_checks_of, type_checks_of, IsChecked, AcceptedIsChecked, all_trees, names_instance, NamesHaveTypes, ExpressionsHaveTypes, reaches_an_input, ExpressionsAreSafe}
 use Rattle.smv_meaning.proofs.TypeLaws.{absurd_bool}
 use Rattle.smv_meaning.proofs.SafeLaws.{safe_path, typed_is_safe_law}
 use Rattle.smv_meaning.proofs.Cycles.{In}
 use Rattle.smv_meaning.proofs.Agreeing.{typing_same}
-use Rattle.smv_meaning.proofs.Ranked.{key, is_formula, cycles_are_checked_law}
+use Rattle.smv_meaning.proofs.Ranked.{key, cycles_are_checked_law}
 use Rattle.smv_meaning.proofs.Settling.{Under, under_more, all_under, body_under, ranking, types_settle_law, is_body, body_named, two_same, any_same}
 use Rattle.smv_meaning.proofs.Typable.{split}
 use Rattle.smv_meaning.proofs.PartLaws.{sound_type}

@@ -14,10 +14,10 @@ use Rattle.smv_meaning.specs.Types.{ExprType}
 use Rattle.smv_meaning.specs.Checks.{Named, Typing}
 use Rattle.smv_meaning.specs.Naming.{in_body, named_found, naming}
 use Rattle.smv_meaning.specs.Phases.{Formula, formula_here, from_instance, touched, referred, refers}
-use Rattle.smv_meaning.specs.Settled.{Acyclic, chain_length, rank_of, is_cyclic, NamesSettle, ValuesSettle, ValuesAreOne, TypesSettle}
+use Rattle.smv_meaning.specs.Settled.{is_formula, Acyclic, chain_length, rank_of, is_cyclic, NamesSettle, ValuesSettle, ValuesAreOne, TypesSettle}
 use Rattle.smv_meaning.proofs.TypeLaws.{absurd_bool}
 use Rattle.smv_meaning.proofs.Cycles.{In, in_left, in_right, flat_in, chain_most}
-use Rattle.smv_meaning.proofs.Ranked.{key, is_formula, in_keys, keys_of, keys_counted, acyclic_falls}
+use Rattle.smv_meaning.proofs.Ranked.{key, in_keys, keys_of, keys_counted, acyclic_falls}
 use Rattle.smv_meaning.proofs.Agreeing.{denote_same, typing_same}
 
 -- ---- the rank

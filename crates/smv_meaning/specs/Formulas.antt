@@ -75,6 +75,7 @@ refusal_of (Some f) = Some (check 15 f.place false).refusal
 pub record IsFormulaOrder (t : List Instance) (order : List ℕ) : Type 0 where
   pub sorted : IsSorted (reference_graph t) order
   pub acyclic : Acyclic t
+  pub passing : first_failing (cycle_checks_of t) ≡ None
 
 -- the first that reaches itself
 pub record IsFirstCycle (t : List Instance) (k : ℕ) : Type 0 where

@@ -19,3 +19,4 @@ pub mod Formulas
 pub mod Literals
 pub mod Parts
 pub mod Checked
+pub mod Leads

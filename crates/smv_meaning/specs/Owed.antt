@@ -1,8 +1,5 @@
 -- What the caller of an evaluation owes.
-use Rattle.std.specs.Prelude.{◌≡◌, ℕ, ◌≤◌, true, Bool, List, length, position, unwrap_or, bytes_eq, Option, Some, None, is_some}
-use Rattle.std.specs.Prelude.{nat_le, ◌&&◌}
-use Rattle.std.specs.List.{list_all}
-use Rattle.smv_text.specs.Tree.{Trees, no_trees, tree, PlainElement, vars, defines, constants, assigns, init, trans, invar, spec}
+use Rattle.std.specs.Prelude.{◌≡◌, ℕ, true, Bool, List, length, position, unwrap_or, bytes_eq, Option, Some, None, is_some}
 use Rattle.smv_meaning.specs.Runs.{state_fits, label_fits}
 use Rattle.std.specs.Borrow.{Bor}
 use Rattle.smv_meaning.specs.declared.value.Given.{Given}
@@ -10,7 +7,7 @@ use Rattle.smv_meaning.specs.Instances.{Instance}
 use Rattle.smv_text.specs.declared.tree.Path.{Path}
 use Rattle.smv_text.specs.Tree.{Tree}
 use Rattle.smv_meaning.specs.Values.{Valuation, given}
-use Rattle.smv_meaning.specs.Names.{Found, body_at}
+use Rattle.smv_meaning.specs.Names.{Found}
 use Rattle.smv_meaning.specs.Meaning.{reading}
 use Rattle.smv_meaning.specs.Types.{ExprType}
 use Rattle.smv_meaning.specs.Checks.{Position, typing}

@@ -1,5 +1,5 @@
 -- What an evaluation needs: each integer that it comes to fits 64 bits.
-use Rattle.std.specs.Prelude.{◌||◌, if◌then◌else◌, Bool, ℕ, zero, suc, ◌+◌, ◌≤◌, max, pos, FitsSigned}
+use Rattle.std.specs.Prelude.{◌||◌, if◌then◌else◌, Bool, ℕ, zero, suc, ◌+◌, max, pos, FitsSigned}
 use Rattle.std.specs.Int.{w64}
 use Rattle.smv_text.specs.declared.tree.Path.{Path}
 use Rattle.smv_text.specs.declared.tree.Infix.{Infix}

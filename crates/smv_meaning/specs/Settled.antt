@@ -1,15 +1,15 @@
 -- Where no definition and no actual reaches itself, names, values and types come to an end within their bounds.
-use Rattle.std.specs.Prelude.{◌≡◌, ℕ, zero, suc, ◌<◌, max, Bool, true, false, nat_lt, List, [], ◌∷◌, IsTrue, sum_by}
-use Rattle.std.specs.List.{list_all}
+use Rattle.std.specs.Prelude.{◌≡◌, ℕ, zero, suc, ◌<◌, max, Bool, true, false, ◌&&◌, nat_lt, List, [], ◌∷◌, IsTrue, sum_by}
+use Rattle.std.specs.List.{list_all, list_any}
 use Rattle.smv_text.specs.declared.tree.Path.{Path}
 use Rattle.smv_meaning.specs.declared.value.Value.{Value}
 use Rattle.smv_meaning.specs.Values.{Valuation}
 use Rattle.smv_meaning.specs.Instances.{Instance}
-use Rattle.smv_meaning.specs.Names.{local, Found, cyclic, look, landed, found_in, formulas_in, steps_of}
+use Rattle.smv_meaning.specs.Names.{Local, alias, formula, local, Found, cyclic, look, landed, found_in, formulas_in, steps_of}
 use Rattle.smv_meaning.specs.Meaning.{value_found, reading}
 use Rattle.smv_meaning.specs.Checks.{Check, passes, Named}
 use Rattle.smv_meaning.specs.Naming.{named_found, naming}
-use Rattle.smv_meaning.specs.Phases.{Formula, refers, reaches, over_instances, cycle_checks}
+use Rattle.smv_meaning.specs.Phases.{Formula, formula_same, refers, reaches, over_instances, cycle_checks}
 
 -- no definition and no actual reaches itself
 abbrev pub Acyclic : List Instance → Type 0
@@ -32,6 +32,22 @@ IsRank t rank = (k : Formula) → IsTrue (list_all (λ m. nat_lt (rank m) (rank 
 -- whatever numbers them so, nothing reaches itself
 abbrev pub RankedIsAcyclic : Type 0
 RankedIsAcyclic = (t : List Instance) (rank : Formula → ℕ) → IsRank t rank → Acyclic t
+
+-- the name stands for a definition or an actual
+abbrev pub is_formula : Local → Bool
+is_formula (alias j path) = true
+is_formula (formula j e) = true
+is_formula l = false
+
+-- each of a list stands after those to which it refers, or these were seen before
+abbrev pub is_ordered : (Formula → List Formula) → List Formula → List Formula → Bool
+is_ordered refers seen [] = true
+is_ordered refers seen (k ∷ ks) = list_all (λ m. list_any (formula_same m) seen) (refers k) && is_ordered refers (k ∷ seen) ks
+
+-- where all definitions and actuals can be listed so, nothing reaches itself
+abbrev pub OrderedIsAcyclic : Type 0
+OrderedIsAcyclic = (t : List Instance) (ks : List Formula) → IsTrue (is_ordered (refers t) [] ks)
+    → ((k : Formula) → is_formula (local t k.0 k.1) ≡ true → IsTrue (list_any (formula_same k) ks)) → Acyclic t
 
 abbrev pub greatest : (Formula → ℕ) → List Formula → ℕ
 greatest f [] = 0

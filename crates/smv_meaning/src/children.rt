@@ -19,7 +19,8 @@ pub fn child_in<'a>(children: &Children<'a>, i: usize, x: &[u8]) -> Option<usize
     children.get(&(i, x)).copied()
 }
 
-fn put<'a>(children: &mut Children<'a>, i: usize, x: &'a [u8], c: usize) -> Result<(), NoMemory>
+/// Gives the name in the numbered instance this number.
+pub fn put<'a>(children: &mut Children<'a>, i: usize, x: &'a [u8], c: usize) -> Result<(), NoMemory>
     ensures { OnOk result ((j : ℕ) (y : List ℕ) → named_in children.new j y ≡ (if i == j && bytes_eq x.now y then Some c else named_in children.old j y)) }
 {
     match children.insert((i, x), c) {

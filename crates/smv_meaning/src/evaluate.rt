@@ -5,43 +5,41 @@ ghost use Rattle.smv_text.specs.View.{plain, plain_branch, plain_link};
 ghost use Rattle.smv_meaning.specs.Values.{is_true, value_same};
 ghost use Rattle.smv_meaning.specs.Operators.{called};
 ghost use Rattle.smv_meaning.specs.Expressions.{is_from_right as right_first, are_implies, is_implies, denote, implications, chosen, taken, values_of, one_permits};
-ghost use Rattle.smv_meaning.specs.Names.{steps_of, dotted_at};
+ghost use Rattle.smv_meaning.specs.Names.{dotted_at};
 ghost use Rattle.smv_meaning.specs.Instances.{dotted};
 ghost use Rattle.smv_meaning.specs.Meaning.{is_input};
 ghost use Rattle.smv_meaning.specs.Safety.{depth, right_depth, link_depth, branch_depth, tree_depth, Fits, front_value, fronts_value, front_permits, fronts_permit, Safe, SafeLinks, SafeBranches, SafeTrees, SafeOperands};
 ghost use Rattle.smv_meaning.specs.View.{seen_value, plain_value, stated, instance_plain, reads, SafeReads, denoted_or_none, plain_or};
 
 use crate::functions::{call_one, call_two};
-use crate::names::{Target, found_by_path};
+use crate::instances::Table;
+use crate::names::Target;
 use crate::operators::{
     Plain, apply, implication, no_plain, opposite, plain_same, seen_of, selection,
 };
 use crate::seen::{Seen, no_seen, same, truth_of, value_in};
-use crate::table::Instance;
 use crate::value::State;
 use smv_text::{Branch, Expr, Function, Infix, Link, Path, Shape, VarKind};
 
 /// The value of a path: of a variable in the state or the label, of a definition or an actual in its own instance.
 #[cycle(evaluate)]
 pub fn value_of_path<'a>(
-    table: &[Instance<'a>],
-    deep: usize,
+    table: &Table<'a>,
     steps: usize,
     i: usize,
     path: &'a Path,
     state: Option<&'a State>,
     label: Option<&'a State>,
 ) -> Seen<'a>
-    requires deep { deep ≡ steps_of (map instance_plain table.now) }
     requires safe { SafeReads table.now steps i state label path.now }
     ensures { seen_value result ≡ reads table.now steps i state.entry label.entry path.now }
 {
     if steps == 0 {
         return no_seen();
     }
-    match found_by_path(table, deep, i, path) {
+    match table.found(i, path) {
         Target::Variable(j, x, kind, _) => variable_value(table, j, x, kind, state, label),
-        Target::Body(_, _, j, e) => evaluate(table, deep, steps - 1, j, e, state, label, state),
+        Target::Body(_, _, j, e) => evaluate(table, steps - 1, j, e, state, label, state),
         Target::Within(_) => no_seen(),
         Target::Symbol(s) => Seen::Symbol(s),
         Target::Cyclic => no_seen(),
@@ -51,7 +49,7 @@ pub fn value_of_path<'a>(
 
 // A variable's value: an input's in the label, any other's in the state.
 fn variable_value<'a>(
-    table: &[Instance<'a>],
+    table: &Table<'a>,
     i: usize,
     x: &[u8],
     kind: VarKind,
@@ -60,9 +58,10 @@ fn variable_value<'a>(
 ) -> Seen<'a>
     ensures { seen_value result ≡ (if is_input kind then stated label.entry (dotted_at (map instance_plain table.now) i x.now) else stated state.entry (dotted_at (map instance_plain table.now) i x.now)) }
 {
-    match table.get(i) {
-        None => by_kind(kind, &[], x, state, label),
-        Some(at) => by_kind(kind, at.path.bytes(), x, state, label),
+    if i < table.len() {
+        by_kind(kind, table.at(i).path.bytes(), x, state, label)
+    } else {
+        by_kind(kind, &[], x, state, label)
     }
 }
 
@@ -86,8 +85,7 @@ fn by_kind<'a>(
 #[cycle(evaluate)]
 #[tactic(auto, using(crate::proofs::Evaluating::right_low))]
 pub fn evaluate<'a>(
-    table: &[Instance<'a>],
-    deep: usize,
+    table: &Table<'a>,
     steps: usize,
     i: usize,
     e: &'a Expr,
@@ -95,7 +93,6 @@ pub fn evaluate<'a>(
     label: Option<&'a State>,
     later: Option<&'a State>,
 ) -> Seen<'a>
-    requires deep { deep ≡ steps_of (map instance_plain table.now) }
     requires safe { Safe (SafeReads table.now steps i now label) (SafeReads table.now steps i later label) (reads table.now steps i now label) (reads table.now steps i later label) (plain e.now) }
     ensures { seen_value result ≡ (denote (reads table.now steps i now.entry label.entry) (reads table.now steps i later.entry label.entry) (plain e.now)).value }
 {
@@ -104,9 +101,9 @@ pub fn evaluate<'a>(
         Shape::False => Seen::Truth(false),
         Shape::Number(n) => Seen::Integer(*n as i64),
         Shape::Literal(w) => Seen::Bits(*w),
-        Shape::Name(path) => value_of_path(table, deep, steps, i, path, now, label),
+        Shape::Name(path) => value_of_path(table, steps, i, path, now, label),
         Shape::Prefix(sign, count, a) => {
-            let value = evaluate(table, deep, steps, i, a, now, label, later);
+            let value = evaluate(table, steps, i, a, now, label, later);
             if *count % 2 == 0 {
                 value
             } else {
@@ -114,34 +111,14 @@ pub fn evaluate<'a>(
             }
         }
         Shape::Chain(a, links) => {
-            let first = evaluate(table, deep, steps, i, a, now, label, later);
+            let first = evaluate(table, steps, i, a, now, label, later);
             if is_from_right(links.as_slice()) {
-                match rest_implied(
-                    table,
-                    deep,
-                    steps,
-                    i,
-                    &first,
-                    links.as_slice(),
-                    now,
-                    label,
-                    later,
-                ) {
+                match rest_implied(table, steps, i, &first, links.as_slice(), now, label, later) {
                     None => first,
                     Some(value) => seen_of(value),
                 }
             } else {
-                match last_front(
-                    table,
-                    deep,
-                    steps,
-                    i,
-                    &first,
-                    links.as_slice(),
-                    now,
-                    label,
-                    later,
-                ) {
+                match last_front(table, steps, i, &first, links.as_slice(), now, label, later) {
                     None => first,
                     Some(value) => seen_of(value),
                 }
@@ -150,7 +127,6 @@ pub fn evaluate<'a>(
         Shape::Choice(branches, last) => {
             let branch = chosen_branch(
                 table,
-                deep,
                 steps,
                 i,
                 branches.as_slice(),
@@ -159,11 +135,10 @@ pub fn evaluate<'a>(
                 label,
                 later,
             );
-            evaluate(table, deep, steps, i, branch, now, label, later)
+            evaluate(table, steps, i, branch, now, label, later)
         }
         Shape::Case(branches) => match taken_branch(
             table,
-            deep,
             steps,
             i,
             branches.as_slice(),
@@ -172,15 +147,14 @@ pub fn evaluate<'a>(
             later,
         ) {
             None => no_seen(),
-            Some(branch) => evaluate(table, deep, steps, i, branch, now, label, later),
+            Some(branch) => evaluate(table, steps, i, branch, now, label, later),
         },
         Shape::Select(a, high, low) => {
-            let value = evaluate(table, deep, steps, i, a, now, label, later);
+            let value = evaluate(table, steps, i, a, now, label, later);
             seen_of(selection(*high, *low, &value))
         }
         Shape::Call(f, arguments) => seen_of(call_value(
             table,
-            deep,
             steps,
             i,
             *f,
@@ -189,7 +163,7 @@ pub fn evaluate<'a>(
             label,
             later,
         )),
-        Shape::Next(a) => evaluate(table, deep, steps, i, a, later, label, later),
+        Shape::Next(a) => evaluate(table, steps, i, a, later, label, later),
         Shape::Set(_) => no_seen(),
         Shape::Range(_, _) => no_seen(),
     }
@@ -232,8 +206,7 @@ fn is_implication(op: Infix) -> bool
 // The value with the implications that follow it.
 #[cycle(evaluate)]
 fn rest_implied<'a>(
-    table: &[Instance<'a>],
-    deep: usize,
+    table: &Table<'a>,
     steps: usize,
     i: usize,
     first: &Seen<'a>,
@@ -242,15 +215,14 @@ fn rest_implied<'a>(
     label: Option<&'a State>,
     later: Option<&'a State>,
 ) -> Option<Plain>
-    requires deep { deep ≡ steps_of (map instance_plain table.now) }
     requires safe { SafeOperands (SafeReads table.now steps i now label) (SafeReads table.now steps i later label) (reads table.now steps i now label) (reads table.now steps i later label) (links_of (map plain_link links.now)) }
     ensures { plain_or result (seen_value first.now) ≡ implications (reads table.now steps i now.entry label.entry) (reads table.now steps i later.entry label.entry) (seen_value first.now) (links_of (map plain_link links.now)) }
 {
     match links.split_first() {
         None => None,
         Some((link, more)) => {
-            let operand = evaluate(table, deep, steps, i, &link.operand, now, label, later);
-            match rest_implied(table, deep, steps, i, &operand, more, now, label, later) {
+            let operand = evaluate(table, steps, i, &link.operand, now, label, later);
+            match rest_implied(table, steps, i, &operand, more, now, label, later) {
                 None => Some(implication(first, &operand)),
                 Some(rest) => Some(implication(first, &seen_of(rest))),
             }
@@ -261,8 +233,7 @@ fn rest_implied<'a>(
 // The front of a chain with the links that follow it, from the left.
 #[cycle(evaluate)]
 fn last_front<'a>(
-    table: &[Instance<'a>],
-    deep: usize,
+    table: &Table<'a>,
     steps: usize,
     i: usize,
     first: &Seen<'a>,
@@ -271,7 +242,6 @@ fn last_front<'a>(
     label: Option<&'a State>,
     later: Option<&'a State>,
 ) -> Option<Plain>
-    requires deep { deep ≡ steps_of (map instance_plain table.now) }
     requires safe { SafeLinks (SafeReads table.now steps i now label) (SafeReads table.now steps i later label) (reads table.now steps i now label) (reads table.now steps i later label) (seen_value first.now) (links_of (map plain_link links.now)) }
     ensures { plain_or result (seen_value first.now) ≡ fronts_value (reads table.now steps i now.entry label.entry) (reads table.now steps i later.entry label.entry) (seen_value first.now) (links_of (map plain_link links.now)) }
 {
@@ -281,7 +251,6 @@ fn last_front<'a>(
         let next = match front {
             None => next_front(
                 table,
-                deep,
                 steps,
                 i,
                 link.op,
@@ -293,7 +262,6 @@ fn last_front<'a>(
             ),
             Some(value) => next_front(
                 table,
-                deep,
                 steps,
                 i,
                 link.op,
@@ -313,8 +281,7 @@ fn last_front<'a>(
 // A front with the operand behind its last operator.
 #[cycle(evaluate)]
 fn next_front<'a>(
-    table: &[Instance<'a>],
-    deep: usize,
+    table: &Table<'a>,
     steps: usize,
     i: usize,
     op: Infix,
@@ -324,18 +291,15 @@ fn next_front<'a>(
     label: Option<&'a State>,
     later: Option<&'a State>,
 ) -> Plain
-    requires deep { deep ≡ steps_of (map instance_plain table.now) }
     requires safe { Safe (SafeReads table.now steps i now label) (SafeReads table.now steps i later label) (reads table.now steps i now label) (reads table.now steps i later label) (plain operand.now) }
     requires fits { Fits (front_value op (seen_value front.now) (denote (reads table.now steps i now label) (reads table.now steps i later label) (plain operand.now))) }
     ensures { plain_value result ≡ front_value op (seen_value front.now) (denote (reads table.now steps i now.entry label.entry) (reads table.now steps i later.entry label.entry) (plain operand.now)) }
 {
     match op {
-        Infix::Member => Plain::Truth(permits(
-            table, deep, steps, i, operand, front, now, label, later,
-        )),
+        Infix::Member => Plain::Truth(permits(table, steps, i, operand, front, now, label, later)),
         Infix::Union => no_plain(),
         _ => {
-            let value = evaluate(table, deep, steps, i, operand, now, label, later);
+            let value = evaluate(table, steps, i, operand, now, label, later);
             apply(op, front, &value)
         }
     }
@@ -344,8 +308,7 @@ fn next_front<'a>(
 // The value of the first branch whose condition is true, else what stands behind the last colon.
 #[cycle(evaluate)]
 fn chosen_branch<'a>(
-    table: &[Instance<'a>],
-    deep: usize,
+    table: &Table<'a>,
     steps: usize,
     i: usize,
     branches: &'a [Branch],
@@ -354,7 +317,6 @@ fn chosen_branch<'a>(
     label: Option<&'a State>,
     later: Option<&'a State>,
 ) -> &'a Expr
-    requires deep { deep ≡ steps_of (map instance_plain table.now) }
     requires safe { SafeBranches (SafeReads table.now steps i now label) (SafeReads table.now steps i later label) (reads table.now steps i now label) (reads table.now steps i later label) (branches_of (map plain_branch branches.now)) }
     requires safe_last { Safe (SafeReads table.now steps i now label) (SafeReads table.now steps i later label) (reads table.now steps i now label) (reads table.now steps i later label) (plain last.now) }
     ensures value { denote (reads table.now steps i now.entry label.entry) (reads table.now steps i later.entry label.entry) (plain result.now) ≡ chosen (reads table.now steps i now.entry label.entry) (reads table.now steps i later.entry label.entry) (branches_of (map plain_branch branches.now)) (denote (reads table.now steps i now.entry label.entry) (reads table.now steps i later.entry label.entry) (plain last.now)) }
@@ -363,7 +325,7 @@ fn chosen_branch<'a>(
 {
     let mut rest = branches;
     while let Some((branch, more)) = rest.split_first() {
-        let condition = evaluate(table, deep, steps, i, &branch.when, now, label, later);
+        let condition = evaluate(table, steps, i, &branch.when, now, label, later);
         if truth_of(&condition) {
             return &branch.value;
         }
@@ -375,8 +337,7 @@ fn chosen_branch<'a>(
 // The value of the first branch whose condition is true, and that of the last branch if none is.
 #[cycle(evaluate)]
 fn taken_branch<'a>(
-    table: &[Instance<'a>],
-    deep: usize,
+    table: &Table<'a>,
     steps: usize,
     i: usize,
     branches: &'a [Branch],
@@ -384,7 +345,6 @@ fn taken_branch<'a>(
     label: Option<&'a State>,
     later: Option<&'a State>,
 ) -> Option<&'a Expr>
-    requires deep { deep ≡ steps_of (map instance_plain table.now) }
     requires safe { SafeBranches (SafeReads table.now steps i now label) (SafeReads table.now steps i later label) (reads table.now steps i now label) (reads table.now steps i later label) (branches_of (map plain_branch branches.now)) }
     ensures value { denoted_or_none (reads table.now steps i now.entry label.entry) (reads table.now steps i later.entry label.entry) result ≡ taken (reads table.now steps i now.entry label.entry) (reads table.now steps i later.entry label.entry) (branches_of (map plain_branch branches.now)) }
     ensures low { IfSome result (λ x. depth (plain x.now) ≤ branch_depth (branches_of (map plain_branch branches.now))) }
@@ -394,7 +354,6 @@ fn taken_branch<'a>(
         None => None,
         Some((last, firsts)) => Some(chosen_branch(
             table,
-            deep,
             steps,
             i,
             firsts,
@@ -409,8 +368,7 @@ fn taken_branch<'a>(
 // A function of its arguments.
 #[cycle(evaluate)]
 fn call_value<'a>(
-    table: &[Instance<'a>],
-    deep: usize,
+    table: &Table<'a>,
     steps: usize,
     i: usize,
     f: Function,
@@ -419,7 +377,6 @@ fn call_value<'a>(
     label: Option<&'a State>,
     later: Option<&'a State>,
 ) -> Plain
-    requires deep { deep ≡ steps_of (map instance_plain table.now) }
     requires safe { SafeTrees (SafeReads table.now steps i now label) (SafeReads table.now steps i later label) (reads table.now steps i now label) (reads table.now steps i later label) (trees_of (map plain arguments.now)) }
     requires fits { Fits (called f (values_of (reads table.now steps i now label) (reads table.now steps i later label) (trees_of (map plain arguments.now)))) }
     ensures { plain_value result ≡ called f (values_of (reads table.now steps i now.entry label.entry) (reads table.now steps i later.entry label.entry) (trees_of (map plain arguments.now))) }
@@ -428,7 +385,7 @@ fn call_value<'a>(
         let mut count = 0i64;
         let mut rest = arguments;
         while let Some((first, more)) = rest.split_first() {
-            let value = evaluate(table, deep, steps, i, first, now, label, later);
+            let value = evaluate(table, steps, i, first, now, label, later);
             if truth_of(&value) {
                 count += 1;
             }
@@ -439,11 +396,11 @@ fn call_value<'a>(
     match arguments.split_first() {
         None => no_plain(),
         Some((first, more)) => {
-            let a = evaluate(table, deep, steps, i, first, now, label, later);
+            let a = evaluate(table, steps, i, first, now, label, later);
             match more.split_first() {
                 None => call_one(f, &a),
                 Some((second, others)) => {
-                    let b = evaluate(table, deep, steps, i, second, now, label, later);
+                    let b = evaluate(table, steps, i, second, now, label, later);
                     match others.split_first() {
                         None => call_two(f, &a, &b),
                         Some(_) => no_plain(),
@@ -457,8 +414,7 @@ fn call_value<'a>(
 /// Does the expression permit the value?
 #[cycle(evaluate)]
 pub fn permits<'a>(
-    table: &[Instance<'a>],
-    deep: usize,
+    table: &Table<'a>,
     steps: usize,
     i: usize,
     e: &'a Expr,
@@ -467,14 +423,12 @@ pub fn permits<'a>(
     label: Option<&'a State>,
     later: Option<&'a State>,
 ) -> bool
-    requires deep { deep ≡ steps_of (map instance_plain table.now) }
     requires safe { Safe (SafeReads table.now steps i now label) (SafeReads table.now steps i later label) (reads table.now steps i now label) (reads table.now steps i later label) (plain e.now) }
     ensures { result ≡ (denote (reads table.now steps i now.entry label.entry) (reads table.now steps i later.entry label.entry) (plain e.now)).permits (seen_value value.now) }
 {
     match &e.shape {
         Shape::Set(elements) => one_has(
             table,
-            deep,
             steps,
             i,
             elements.as_slice(),
@@ -492,7 +446,6 @@ pub fn permits<'a>(
         Shape::Choice(branches, last) => {
             let branch = chosen_branch(
                 table,
-                deep,
                 steps,
                 i,
                 branches.as_slice(),
@@ -501,11 +454,10 @@ pub fn permits<'a>(
                 label,
                 later,
             );
-            permits(table, deep, steps, i, branch, value, now, label, later)
+            permits(table, steps, i, branch, value, now, label, later)
         }
         Shape::Case(branches) => match taken_branch(
             table,
-            deep,
             steps,
             i,
             branches.as_slice(),
@@ -514,19 +466,18 @@ pub fn permits<'a>(
             later,
         ) {
             None => same(&no_seen(), value),
-            Some(branch) => permits(table, deep, steps, i, branch, value, now, label, later),
+            Some(branch) => permits(table, steps, i, branch, value, now, label, later),
         },
-        Shape::Next(a) => permits(table, deep, steps, i, a, value, later, label, later),
+        Shape::Next(a) => permits(table, steps, i, a, value, later, label, later),
         Shape::Chain(a, links) => {
             if is_from_right(links.as_slice()) {
-                let own = evaluate(table, deep, steps, i, e, now, label, later);
+                let own = evaluate(table, steps, i, e, now, label, later);
                 same(&own, value)
             } else {
-                let first = evaluate(table, deep, steps, i, a, now, label, later);
-                let has = permits(table, deep, steps, i, a, value, now, label, later);
+                let first = evaluate(table, steps, i, a, now, label, later);
+                let has = permits(table, steps, i, a, value, now, label, later);
                 last_has(
                     table,
-                    deep,
                     steps,
                     i,
                     &first,
@@ -540,7 +491,7 @@ pub fn permits<'a>(
             }
         }
         _ => {
-            let own = evaluate(table, deep, steps, i, e, now, label, later);
+            let own = evaluate(table, steps, i, e, now, label, later);
             same(&own, value)
         }
     }
@@ -549,8 +500,7 @@ pub fn permits<'a>(
 // Does one of the expressions permit the value?
 #[cycle(evaluate)]
 fn one_has<'a>(
-    table: &[Instance<'a>],
-    deep: usize,
+    table: &Table<'a>,
     steps: usize,
     i: usize,
     elements: &'a [Expr],
@@ -559,13 +509,12 @@ fn one_has<'a>(
     label: Option<&'a State>,
     later: Option<&'a State>,
 ) -> bool
-    requires deep { deep ≡ steps_of (map instance_plain table.now) }
     requires safe { SafeTrees (SafeReads table.now steps i now label) (SafeReads table.now steps i later label) (reads table.now steps i now label) (reads table.now steps i later label) (trees_of (map plain elements.now)) }
     ensures { result ≡ one_permits (reads table.now steps i now.entry label.entry) (reads table.now steps i later.entry label.entry) (trees_of (map plain elements.now)) (seen_value value.now) }
 {
     let mut rest = elements;
     while let Some((first, more)) = rest.split_first() {
-        if permits(table, deep, steps, i, first, value, now, label, later) {
+        if permits(table, steps, i, first, value, now, label, later) {
             return true;
         }
         rest = more;
@@ -576,8 +525,7 @@ fn one_has<'a>(
 // Does a chain permit the value, given the value of its first operand and whether that permits it?
 #[cycle(evaluate)]
 fn last_has<'a>(
-    table: &[Instance<'a>],
-    deep: usize,
+    table: &Table<'a>,
     steps: usize,
     i: usize,
     first: &Seen<'a>,
@@ -588,7 +536,6 @@ fn last_has<'a>(
     label: Option<&'a State>,
     later: Option<&'a State>,
 ) -> bool
-    requires deep { deep ≡ steps_of (map instance_plain table.now) }
     requires safe { SafeLinks (SafeReads table.now steps i now label) (SafeReads table.now steps i later label) (reads table.now steps i now label) (reads table.now steps i later label) (seen_value first.now) (links_of (map plain_link links.now)) }
     ensures { result ≡ fronts_permit (reads table.now steps i now.entry label.entry) (reads table.now steps i later.entry label.entry) (seen_value value.now) (seen_value first.now) first_has (links_of (map plain_link links.now)) }
 {
@@ -599,7 +546,6 @@ fn last_has<'a>(
         let next = match front {
             None => next_front(
                 table,
-                deep,
                 steps,
                 i,
                 link.op,
@@ -611,7 +557,6 @@ fn last_has<'a>(
             ),
             Some(before) => next_front(
                 table,
-                deep,
                 steps,
                 i,
                 link.op,
@@ -623,17 +568,7 @@ fn last_has<'a>(
             ),
         };
         if let Infix::Union = link.op {
-            let operand_has = permits(
-                table,
-                deep,
-                steps,
-                i,
-                &link.operand,
-                value,
-                now,
-                label,
-                later,
-            );
+            let operand_has = permits(table, steps, i, &link.operand, value, now, label, later);
             has = has || operand_has;
         } else {
             has = plain_same(&next, value);

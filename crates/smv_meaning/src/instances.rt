@@ -1,17 +1,17 @@
 // The instances of a model in a table, with what their names mean.
-ghost use Rattle.std.specs.Prelude.{◌≡◌, ◌<◌, length, map, position, slice_index_or, sum_by, IfOk, IfSome};
-ghost use Rattle.smv_text.specs.View.{plain_element, plain_source};
-ghost use Rattle.smv_meaning.specs.Instances.{instances_of};
-ghost use Rattle.smv_meaning.specs.Names.{definitions_in, formulas_in, steps_of, local, is_child, has_symbol, found_in, look};
+ghost use Rattle.std.specs.Prelude.{◌≡◌, ◌<◌, List, length, map, position, slice_index_or, IfOk};
+ghost use Rattle.smv_text.specs.View.{plain_source};
+ghost use Rattle.smv_meaning.specs.Instances.{Instance as Specified, instances_of};
+ghost use Rattle.smv_meaning.specs.Names.{steps_of, local, is_child, has_symbol, found_in, look};
+ghost use Rattle.smv_meaning.specs.Leads.{until};
 ghost use Rattle.smv_meaning.specs.View.{instance_plain, local_plain, found_plain};
 
-use crate::children::{Children, child_in, children_of};
-use crate::name_map::value_under;
-use crate::names::{Known, Target, found_by_name, found_by_path};
-use crate::scopes::{Scope, scopes_of};
-use crate::symbols::{Symbols, symbols_of};
+use crate::aliases::leads_of;
+use crate::leads::{Lead, Leads, Walk, lead_at, path_walk};
+use crate::names::{Known, Target};
+use crate::parts::Parts;
 use crate::table::{Instance, instances};
-use smv_text::{Element, Elements, Path, Source};
+use smv_text::{Path, Source};
 use std::alloc::Global;
 use std::marker::Model;
 use text_core::NoMemory;
@@ -19,11 +19,8 @@ use text_core::NoMemory;
 /// The instances of a model, numbered in preorder, with what their names mean (NuSMV 2.6 User Manual, 2.3.12 and 2.3.16).
 #[derive(Drop)]
 pub struct Table<'a> {
-    parts: Vec<Instance<'a>>,
-    scopes: Vec<Scope<'a>>,
-    children: Children<'a>,
-    symbols: Symbols<'a>,
-    steps: usize,
+    parts: Parts<'a>,
+    leads: Leads<'a>,
 }
 
 impl<'a> Model for Table<'a> {
@@ -37,15 +34,24 @@ impl<'a> Model for Table<'a> {
 
     ghost coded = { Prim.hlevel (codes, expr.the_row.coded, shape.the_row.coded) };
 
-    ghost use Rattle.std.specs.Prelude.{◌≡◌, map};
-    ghost use Rattle.smv_meaning.specs.Names.{steps_of};
+    ghost use Rattle.std.specs.Prelude.{map};
+    ghost use Rattle.smv_meaning.specs.Leads.{Right, IsClosed};
     ghost use Rattle.smv_meaning.specs.View.{instance_plain};
 
-    ghost view = { λ t. t.parts.items };
+    ghost view = { λ t. t.parts };
 
-    ghost use Rattle.smv_meaning.specs.NameMap.{Knows, Bears, Holds};
+    ghost invariant = { λ t. Right (map instance_plain t.parts) t.leads × IsClosed (map instance_plain t.parts) t.leads };
+}
 
-    ghost invariant = { λ t. (t.steps ≡ steps_of (map instance_plain t.parts.items)) × Knows t.parts.items t.scopes.items × Bears t.parts.items t.children × Holds t.parts.items t.symbols };
+// What is reached in so many steps.
+fn reached<'a>(steps: usize, lead: Lead<'a>) -> Target<'a>
+    ensures { (t : List Specified) → found_plain t result ≡ until lead.entry.depth steps (found_plain t lead.entry.target) }
+{
+    if steps < lead.depth {
+        Target::Cyclic
+    } else {
+        lead.target
+    }
 }
 
 impl<'a> Table<'a> {
@@ -58,22 +64,12 @@ impl<'a> Table<'a> {
     }
 
     /// A table of instances, which stand in preorder.
-    pub fn over(alloc: Global, parts: Vec<Instance<'a>>) -> Result<Table<'a>, NoMemory>
-        ensures { IfOk result (λ t. t ≡ parts.entry.items) }
+    pub fn over(alloc: Global, list: Vec<Instance<'a>>) -> Result<Table<'a>, NoMemory>
+        ensures { IfOk result (λ t. t ≡ list.entry.items) }
     {
-        let Some(steps) = counted(parts.as_slice()) else {
-            return Err(NoMemory);
-        };
-        let scopes = scopes_of(alloc, parts.as_slice())?;
-        let children = children_of(alloc, parts.as_slice())?;
-        let symbols = symbols_of(alloc, parts.as_slice())?;
-        Ok(Table {
-            parts,
-            scopes,
-            children,
-            symbols,
-            steps,
-        })
+        let parts = Parts::over(alloc, list)?;
+        let leads = leads_of(alloc, &parts)?;
+        Ok(Table { parts, leads })
     }
 
     /// The number of instances.
@@ -88,78 +84,54 @@ impl<'a> Table<'a> {
         requires { i < length self.now }
         ensures { result.now ≡ slice_index_or self.now i result.now }
     {
-        &self.parts[i]
+        self.parts.at(i)
     }
 
     /// What one name is in its own instance: a parameter, a variable, an instance, a definition, or nothing.
     pub fn local(&self, i: usize, x: &[u8]) -> Known<'a>
         ensures { local_plain result ≡ local (map instance_plain self.now) i x.now }
     {
-        match self.scopes.get(i) {
-            None => Known::Nothing,
-            Some(scope) => value_under(scope, x).unwrap_or(Known::Nothing),
-        }
+        self.parts.local(i, x)
     }
 
     /// The first instance with this name in the numbered one.
     pub fn child(&self, i: usize, x: &[u8]) -> Option<usize>
         ensures { result ≡ position (is_child i x.now) (map instance_plain self.now) }
     {
-        child_in(&self.children, i, x)
+        self.parts.child(i, x)
     }
 
     /// Is the name in an enumeration or CONSTANTS of an instantiated module?
     pub fn has_symbol(&self, x: &[u8]) -> bool
         ensures { result ≡ has_symbol (map instance_plain self.now) x.now }
     {
-        value_under(&self.symbols, x).is_some()
+        self.parts.has_symbol(x)
     }
 
     /// What a path leads to in the numbered instance.
     pub fn found(&self, i: usize, path: &'a Path) -> Target<'a>
         ensures { found_plain (map instance_plain self.now) result ≡ found_in (map instance_plain self.now) i path.now }
     {
-        found_by_path(self.parts.as_slice(), self.steps, i, path)
+        match path_walk(&self.parts, &self.leads, i, path) {
+            Walk::Ends(lead) => reached(self.parts.steps(), lead),
+            Walk::Waits(_) => Target::Cyclic,
+        }
     }
 
     /// What a name, and no symbol, leads to in the numbered instance.
     pub fn found_name(&self, i: usize, x: &'a [u8]) -> Target<'a>
         ensures { found_plain (map instance_plain self.now) result ≡ look (map instance_plain self.now) (steps_of (map instance_plain self.now)) i x.now }
     {
-        found_by_name(self.parts.as_slice(), self.steps, i, x)
+        match lead_at(&self.parts, &self.leads, i, x) {
+            Some(lead) => reached(self.parts.steps(), lead),
+            None => Target::Cyclic,
+        }
     }
 
     /// How many definitions and actuals there are, and one more: no more of them lead into one another without a cycle.
     pub fn steps(&self) -> usize
         ensures { result ≡ steps_of (map instance_plain self.now) }
     {
-        self.steps
+        self.parts.steps()
     }
-}
-
-// How many definitions and actuals there are, and one more, where a number can tell it.
-#[tactic(auto, using(crate::proofs::Lists::end_is, crate::proofs::TableLemmas::steps_on))]
-fn counted<'a>(table: &[Instance<'a>]) -> Option<usize>
-    ensures { IfSome result (λ n. n ≡ steps_of (map instance_plain table.now)) }
-{
-    let mut count: usize = 1;
-    for i in 0..table.len() {
-        let part = &table[i];
-        count = count.checked_add(definitions(&part.plan.elements)?)?;
-        count = count.checked_add(part.actuals.len())?;
-    }
-    Some(count)
-}
-
-#[tactic(auto, using(crate::proofs::Lists::front_is, crate::proofs::Lists::end_is))]
-fn definitions(elements: &Elements) -> Option<usize>
-    ensures { IfSome result (λ n. n ≡ sum_by definitions_in (map plain_element elements.now)) }
-{
-    let mut count: usize = 0;
-    for k in 0..elements.len() {
-        if let Element::Defines(list) = elements.at(k) {
-            count = count.checked_add(list.len())?;
-        }
-    }
-    Some(count)
 }

@@ -1,19 +1,23 @@
 //! The meaning of SMV models: values, instances, names, expressions, types, checks and runs.
 #![tactic(auto)]
 
-mod children;
+mod aliases;
 mod checked;
+mod children;
 mod evaluate;
 mod formulas;
 mod functions;
 mod instances;
+mod keys;
 mod laws;
+mod leads;
 mod literals;
 mod model_value;
 mod modules;
 mod name_map;
 mod names;
 mod operators;
+mod parts;
 mod paths;
 mod references;
 mod scopes;
@@ -25,20 +29,22 @@ mod table;
 mod tests;
 mod value;
 
-pub use formulas::{Formula, formulas_in};
-pub use instances::Table;
 pub use checked::{
     accepted_is_checked, expressions_are_safe, expressions_have_types, names_have_types,
 };
+pub use formulas::{Formula, formulas_in};
+pub use instances::Table;
 pub use laws::{typed_is_safe, values_lie};
+pub use literals::literals_are_words;
 pub use model_value::value_at;
 pub use modules::ModuleTable;
-pub use references::{Ordering, formula_order};
 pub use name_map::{NameMap, no_names, put, value_under};
 pub use names::{Known, Target};
+pub use paths::{put_all_paths, put_paths};
+pub use references::{Ordering, formula_order};
 pub use settled::{
-    acyclic_is_ranked, cycles_are_checked, names_settle, ranked_is_acyclic, types_settle,
-    values_are_one, values_settle,
+    acyclic_is_ranked, cycles_are_checked, names_settle, ordered_is_acyclic, ranked_is_acyclic,
+    types_settle, values_are_one, values_settle,
 };
 pub use table::{Instance, instances as instance_list, path_below};
 pub use value::{Given, Run, State, States, Value};

@@ -12,9 +12,7 @@ ghost use Rattle.smv_meaning.specs.Checked.{instance_all, all_trees};
 ghost use Rattle.smv_meaning.specs.View.{instance_plain};
 
 use crate::table::Instance;
-use smv_text::{
-    Assignments, Branch, Definitions, Element, Elements, Expr, Link, Shape,
-};
+use smv_text::{Assignments, Branch, Definitions, Element, Elements, Expr, Link, Shape};
 use word_core::Word;
 
 #[tactic(auto, using(crate::proofs::LiteralLemmas::literal_is))]

@@ -150,8 +150,7 @@ pub fn known_in<'a>(table: &[Instance<'a>], i: usize, x: &[u8]) -> Known<'a>
     }
 }
 
-/// The first instance with this name in the numbered one.
-pub fn child_of<'a>(table: &[Instance<'a>], i: usize, x: &[u8]) -> Option<usize>
+fn child_of<'a>(table: &[Instance<'a>], i: usize, x: &[u8]) -> Option<usize>
     ensures { result ≡ position (λ p. is_child i x.now (instance_plain p)) table.now }
 {
     table.iter().position(|p| p.parent == Some(i) && p.own == x)
@@ -239,8 +238,8 @@ pub fn model_has(table: &[Instance], x: &[u8]) -> bool
 
 // ---- paths
 
-// What is no instance ends its path.
-fn last<'a>(found: Target<'a>, at_end: bool) -> Target<'a>
+/// What is no instance ends its path.
+pub fn last<'a>(found: Target<'a>, at_end: bool) -> Target<'a>
     ensures { (t : List Specified) → found_plain t result ≡ ended (found_plain t found.entry) at_end }
 {
     match found {

@@ -21,8 +21,26 @@ pub fn paths_in<'a>(alloc: Global, e: &'a Expr) -> Result<Vec<&'a Path>, NoMemor
 }
 
 /// Adds the paths of an expression, in the order of the text.
+#[tactic(auto, using(crate::proofs::FormulaLemmas::append_none))]
+pub fn put_paths<'a>(paths: &mut Vec<&'a Path>, e: &'a Expr) -> Result<(), NoMemory>
+    ensures { OnOk result (map path_seen paths.new.items ≡ map path_seen paths.old.items ++ paths_of (plain e.now) []) }
+{
+    add_paths(paths, e)?;
+    Ok(())
+}
+
+/// Adds the paths of expressions, in the order of the text.
+#[tactic(auto, using(crate::proofs::FormulaLemmas::append_none))]
+pub fn put_all_paths<'a>(paths: &mut Vec<&'a Path>, trees: &'a [Expr]) -> Result<(), NoMemory>
+    ensures { OnOk result (map path_seen paths.new.items ≡ map path_seen paths.old.items ++ tree_paths (trees_of (map plain trees.now)) []) }
+{
+    add_tree_paths(paths, trees)?;
+    Ok(())
+}
+
+// More at the end is a list of its own, so that the clause holds within longer ones.
 #[cycle(paths)]
-pub fn add_paths<'a>(paths: &mut Vec<&'a Path>, e: &'a Expr) -> Result<(), NoMemory>
+fn add_paths<'a>(paths: &mut Vec<&'a Path>, e: &'a Expr) -> Result<(), NoMemory>
     ensures { (more : List PlainPath) → OnOk result (map path_seen paths.new.items ++ more ≡ map path_seen paths.old.items ++ paths_of (plain e.now) more) }
 {
     match &e.shape {

@@ -1,5 +1,5 @@
 // Laws of models in which nothing reaches itself; these functions do nothing.
-ghost use Rattle.smv_meaning.specs.Settled.{CyclesAreChecked, RankedIsAcyclic, AcyclicIsRanked, NamesSettle, ValuesSettle, ValuesAreOne, TypesSettle};
+ghost use Rattle.smv_meaning.specs.Settled.{CyclesAreChecked, RankedIsAcyclic, OrderedIsAcyclic, AcyclicIsRanked, NamesSettle, ValuesSettle, ValuesAreOne, TypesSettle};
 
 /// The checks of definitions and actuals that reach themselves hold exactly where none does.
 pub fn cycles_are_checked()
@@ -10,6 +10,11 @@ pub fn cycles_are_checked()
 /// reaches itself.
 pub fn ranked_is_acyclic()
     ensures { RankedIsAcyclic }
+{}
+
+/// Where they can be listed so that each stands after those to which it refers, none reaches itself.
+pub fn ordered_is_acyclic()
+    ensures { OrderedIsAcyclic }
 {}
 
 /// Where none reaches itself, they can be numbered so: by how many lead into one another from each on, which is fewer than

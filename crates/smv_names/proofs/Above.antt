@@ -1,7 +1,6 @@
 -- The names of modules that stand one inside another.
 use Rattle.std.proofs.Common.{◌≡◌, ℕ, Bool, true, false, ◌||◌, List, [], ◌∷◌, ◌++◌, map, reverse, bytes_eq, refl, sym, ◌∙◌, ap}
 use Rattle.std.specs.Borrow.{Bor}
-use Rattle.std.specs.List.{list_any}
 use Rattle.std.proofs.lemmas.List.{reverse-append, map-append}
 use Rattle.smv_meaning.specs.Instances.{is_one_of}
 use Rattle.smv_names.specs.View.{names_above}

@@ -4,3 +4,5 @@ pub mod Above
 pub mod Walks
 pub mod FirstPart
 pub mod Visiting
+pub mod PathLemmas
+pub mod CycleLemmas

@@ -1,11 +1,11 @@
 -- Steps of the walk over the modules.
-use Rattle.std.proofs.Common.{◌≡◌, ℕ, zero, suc, ◌-◌, ◌<◌, List, [], ◌∷◌, ◌++◌, length, Option, Some, None, append_assoc, refl, sym, ap, ◌∙◌, subst, arith}
+use Rattle.std.proofs.Common.{◌≡◌, ℕ, suc, ◌-◌, ◌<◌, List, [], ◌∷◌, ◌++◌, None, append_assoc, refl, sym, ap, ◌∙◌, subst, arith}
 use Rattle.smv_text.specs.Tree.{PlainModule}
-use Rattle.smv_meaning.specs.Checks.{Check, first_failing}
+use Rattle.smv_meaning.specs.Checks.{first_failing}
 use Rattle.smv_meaning.specs.Phases.{Declared, declared_in, declared_checks, counted_all}
 use Rattle.smv_names.specs.declared.ends.NamesEnd.{NamesEnd}
 use Rattle.smv_names.specs.Outcome.{IsBad}
-use Rattle.smv_names.specs.Visits.{Visit, item_visits, declared_visits, visits, visit_checks, visit_count}
+use Rattle.smv_names.specs.Visits.{Visit, declared_visits, visits, visit_checks, visit_count}
 use Rattle.smv_names.proofs.Composing.{goes, ends}
 
 pub checks_append : (ms : List PlainModule) (met : ℕ) (vs ws : List Visit) → visit_checks ms met (vs ++ ws) ≡ visit_checks ms met vs ++ visit_checks ms (visit_count met vs) ws

@@ -8,9 +8,9 @@ use Rattle.text_core.specs.declared.place.Place.{Place}
 use Rattle.smv_text.specs.declared.tree.Module.{Module}
 use Rattle.smv_text.specs.View.{plain_module}
 use Rattle.smv_text.specs.declared.tree.Parameter.{Parameter}
-use Rattle.smv_text.specs.Tree.{PlainDomain, instance, PlainItem, PlainDefinition, PlainElement, vars, defines, constants, assigns, init, trans, invar, spec, PlainModule, PlainSource}
+use Rattle.smv_text.specs.Tree.{PlainDomain, instance, PlainItem, PlainDefinition, PlainElement, vars, defines, PlainModule, PlainSource}
 use Rattle.smv_meaning.specs.Instances.{Instance, dotted, module_named, placed, child_in, child_of, with_child, grow_items, grow_elements, grow, main_name, main_instance, grown_from, instances_of, module_and_above, modules_above}
-use Rattle.smv_meaning.specs.Checks.{Check, first_failing}
+use Rattle.smv_meaning.specs.Checks.{first_failing}
 use Rattle.smv_meaning.specs.Phases.{Declared, element_declares, declared_in, declared_checks, counted_all, declaration_checks}
 use Rattle.smv_names.specs.Visits.{Visit, placed_visits, domain_visits, item_visits, declared_visits, visits, visit_checks}
 

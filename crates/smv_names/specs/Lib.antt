@@ -1,3 +1,4 @@
 pub mod Outcome
 pub mod Visits
 pub mod View
+pub mod Paths

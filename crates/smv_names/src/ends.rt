@@ -36,6 +36,10 @@ pub(crate) const NO_SUCH_MODULE: u8 = 11;
 pub(crate) const MODULE_CYCLE: u8 = 12;
 // Another number of actuals than of parameters.
 pub(crate) const ARG_COUNT: u8 = 13;
+// A path that leads to nothing.
+pub(crate) const UNKNOWN: u8 = 14;
+// A definition or an actual that reaches itself.
+pub(crate) const DEFINE_CYCLE: u8 = 15;
 // Too many instances, too long a path, or too many tokens.
 pub(crate) const TOO_LARGE: u8 = 28;
 

@@ -1,14 +1,20 @@
 //! The names of SMV models: the checks of modules, of what is declared, and of a model's size, phase by phase.
 #![tactic(auto)]
 
+mod cycles;
 mod declarations;
 mod declared;
 mod ends;
 mod module_names;
+mod paths;
 mod sizes;
+#[cfg(test)]
+mod tests;
 mod visits;
 
+pub use cycles::cycles_checked;
 pub use declarations::declarations_checked;
 pub use ends::NamesEnd;
 pub use module_names::modules_checked;
+pub use paths::paths_checked;
 pub use sizes::sizes_checked;

@@ -9,34 +9,34 @@ value_of_path-returns-then-steps-eq0 t c =
 
 pub value_of_path-evaluate-requires : goal.value_of_path-evaluate-requires
 value_of_path-evaluate-requires t c =
-    let s = safe_step c.args.table.now c.args.deep c.args.steps c.args.i c.args.state c.args.label c.args.path.now _ (omega arith) c.requires.deep c.in-Body.ensures c.requires.safe in
-    let b = budget_falls (map instance_plain c.args.table.now) c.args.steps _ (body_low c.args.table.now c.args.deep c.args.i c.args.path.now _ c.requires.deep c.in-Body.ensures) (omega arith) in
-    (omega arith, (c.requires.deep, s))
+    let s = safe_step c.args.table.now c.args.steps c.args.i c.args.state c.args.label c.args.path.now _ (omega arith) c.in-Body.ensures c.requires.safe in
+    let b = budget_falls (map instance_plain c.args.table.now) c.args.steps _ (body_low c.args.table.now c.args.i c.args.path.now _ c.in-Body.ensures) (omega arith) in
+    (omega arith, s)
 
 pub value_of_path-returns-in-Variable : goal.value_of_path-returns-in-Variable
-value_of_path-returns-in-Variable t c = c.variable_value.ensures ∙ reads_step c.args.table.now c.args.deep c.args.steps c.args.i c.args.state c.args.label c.args.path.now _ (omega arith) c.requires.deep c.in-Variable.ensures
+value_of_path-returns-in-Variable t c = c.variable_value.ensures ∙ reads_step c.args.table.now c.args.steps c.args.i c.args.state c.args.label c.args.path.now _ (omega arith) c.in-Variable.ensures
 
 pub value_of_path-returns-in-Body : goal.value_of_path-returns-in-Body
-value_of_path-returns-in-Body t c = c.evaluate.ensures ∙ reads_step c.args.table.now c.args.deep c.args.steps c.args.i c.args.state c.args.label c.args.path.now _ (omega arith) c.requires.deep c.in-Body.ensures
+value_of_path-returns-in-Body t c = c.evaluate.ensures ∙ reads_step c.args.table.now c.args.steps c.args.i c.args.state c.args.label c.args.path.now _ (omega arith) c.in-Body.ensures
 
 pub value_of_path-returns-in-Within : goal.value_of_path-returns-in-Within
-value_of_path-returns-in-Within t c = c.no_seen-in-Within.ensures ∙ reads_step c.args.table.now c.args.deep c.args.steps c.args.i c.args.state c.args.label c.args.path.now _ (omega arith) c.requires.deep c.in-Within.ensures
+value_of_path-returns-in-Within t c = c.no_seen-in-Within.ensures ∙ reads_step c.args.table.now c.args.steps c.args.i c.args.state c.args.label c.args.path.now _ (omega arith) c.in-Within.ensures
 
 pub value_of_path-returns-in-Symbol : goal.value_of_path-returns-in-Symbol
-value_of_path-returns-in-Symbol t c = reads_step c.args.table.now c.args.deep c.args.steps c.args.i c.args.state c.args.label c.args.path.now _ (omega arith) c.requires.deep c.in-Symbol.ensures
+value_of_path-returns-in-Symbol t c = reads_step c.args.table.now c.args.steps c.args.i c.args.state c.args.label c.args.path.now _ (omega arith) c.in-Symbol.ensures
 
 pub value_of_path-returns-in-Cyclic : goal.value_of_path-returns-in-Cyclic
-value_of_path-returns-in-Cyclic t c = c.no_seen-in-Cyclic.ensures ∙ reads_step c.args.table.now c.args.deep c.args.steps c.args.i c.args.state c.args.label c.args.path.now _ (omega arith) c.requires.deep c.in-Cyclic.ensures
+value_of_path-returns-in-Cyclic t c = c.no_seen-in-Cyclic.ensures ∙ reads_step c.args.table.now c.args.steps c.args.i c.args.state c.args.label c.args.path.now _ (omega arith) c.in-Cyclic.ensures
 
 pub value_of_path-returns-in-Missing : goal.value_of_path-returns-in-Missing
-value_of_path-returns-in-Missing t c = c.no_seen-in-Missing.ensures ∙ reads_step c.args.table.now c.args.deep c.args.steps c.args.i c.args.state c.args.label c.args.path.now _ (omega arith) c.requires.deep c.in-Missing.ensures
+value_of_path-returns-in-Missing t c = c.no_seen-in-Missing.ensures ∙ reads_step c.args.table.now c.args.steps c.args.i c.args.state c.args.label c.args.path.now _ (omega arith) c.in-Missing.ensures
 
 pub taken_branch-chosen_branch-requires : goal.taken_branch-chosen_branch-requires
 taken_branch-chosen_branch-requires t c =
     let split = c.in-Some.ensures.cases.0 in
     let s = safe_firsts _ _ _ _ c.in-Some.firsts.now c.in-Some.last.now c.args.branches.now split c.requires.safe in
     let d = depth_firsts c.in-Some.firsts.now c.in-Some.last.now c.args.branches.now split in
-    (omega arith, (c.requires.deep, (s.0, s.1)))
+    (omega arith, (s.0, s.1))
 
 pub taken_branch-returns-in-Some : goal.taken_branch-returns-in-Some
 taken_branch-returns-in-Some t c =

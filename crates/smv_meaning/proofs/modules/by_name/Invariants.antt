@@ -1,4 +1,4 @@
-use Rattle.std.proofs.Common.{◌≡◌, ◌≤◌, ℕ, List, drop, map, length}
+use Rattle.std.proofs.Common.{◌≤◌, drop, length}
 use Rattle.smv_meaning.specs.NameMap.{Finds}
 use Rattle.smv_meaning.proofs.modules.by_name.Given as goal
 

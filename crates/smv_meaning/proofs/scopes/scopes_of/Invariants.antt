@@ -1,4 +1,3 @@
-use Rattle.std.proofs.Common.{take}
 use Rattle.std.proofs.Common.{◌≡◌, ℕ, ◌<◌, List, length, map}
 use Rattle.std.specs.Prelude.{slice_get}
 use Rattle.smv_meaning.specs.Names.{local}

@@ -1,4 +1,4 @@
-use Rattle.std.proofs.Common.{◌≡◌, ◌||◌, ℕ, List, drop, map, is_some}
+use Rattle.std.proofs.Common.{◌≡◌, ◌||◌, ℕ, List, drop, is_some}
 use Rattle.smv_meaning.specs.Instances.{is_one_of}
 use Rattle.smv_meaning.specs.NameMap.{named}
 use Rattle.smv_meaning.proofs.symbols.put_constants.Given as goal

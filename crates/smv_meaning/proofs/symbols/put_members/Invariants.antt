@@ -1,4 +1,4 @@
-use Rattle.std.proofs.Common.{◌≡◌, ◌||◌, ℕ, List, drop, map, is_some}
+use Rattle.std.proofs.Common.{◌≡◌, ◌||◌, ℕ, List, drop, is_some}
 use Rattle.std.specs.List.{list_any}
 use Rattle.smv_meaning.specs.Names.{is_symbol}
 use Rattle.smv_meaning.specs.NameMap.{named}

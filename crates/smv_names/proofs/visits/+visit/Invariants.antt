@@ -1,4 +1,4 @@
-use Rattle.std.proofs.Common.{◌≡◌, ◌+◌, ◌-◌, ◌*◌, ◌++◌, ◌∷◌, [], drop, take, length, map}
+use Rattle.std.proofs.Common.{◌≡◌, ◌+◌, ◌-◌, ◌*◌, ◌∷◌, drop, take, length, map}
 use Rattle.smv_text.specs.View.{plain_module}
 use Rattle.smv_meaning.specs.Checks.{first_failing}
 use Rattle.smv_names.specs.View.{declared_plain, names_above}

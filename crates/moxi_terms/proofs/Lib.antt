@@ -1,0 +1,13 @@
+pub mod NameLaws
+pub mod FormLaws
+pub mod FindingLaws
+pub mod StackLaws
+pub mod TypingLaws
+pub mod Least
+pub mod SortLaws
+pub mod OperatorLaws
+pub mod ValueLaws
+pub mod Plain
+pub mod Evaluating
+pub mod ReadingLaws
+pub mod ScopeLaws

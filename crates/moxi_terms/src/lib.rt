@@ -1,0 +1,34 @@
+//! Sorts, terms and scopes of MoXI: what a form spells as a term, and the value of a term.
+#![tactic(auto)]
+
+mod applications;
+mod atoms;
+mod data;
+mod evaluate;
+mod failures;
+mod forms;
+mod heads;
+mod lets;
+mod locals;
+mod names;
+mod operate;
+mod outcome;
+mod read;
+mod scope;
+mod sorts;
+mod term;
+#[cfg(test)]
+mod tests;
+mod typing;
+mod words;
+
+pub use data::{Datum, Primes, Sort, TermOp};
+pub use evaluate::{eval, values_have_sorts};
+pub use failures::sooner;
+pub use locals::Locals;
+pub use names::Local;
+pub use outcome::ReadTerm;
+pub use read::{TermEnd, read_term, term_of};
+pub use scope::Scope;
+pub use sorts::sort_of;
+pub use term::{Enumeration, Env, Function, NamedSort, Term, Terms, Variable, Variables};

@@ -1,0 +1,333 @@
+// What a script declares: enumerations, sorts and functions.
+ghost use Rattle.std.specs.Prelude.{◌≡◌, ◌<◌, ◌≤◌, ◌^◌, ◌-◌, ◌+◌, ◌++◌, take, not, length, map, IfOk, OnOk, OnErr, Some, None, if◌then◌else◌, option_and_then, slice_get, IsTrue};
+ghost use Rattle.std.specs.List.{list_any};
+ghost use Rattle.std.specs.Option.{option_map};
+ghost use Rattle.moxi_terms.specs.Names.{all_constants, constant_named, is_sort_name, is_term_name, may_be_enumeration, no_scope, numbered, or_else, place_of, function_names, sort_named, with_enumeration, with_function, with_sort};
+ghost use Rattle.moxi_terms.specs.Reading.{bare_call, call_of, head_named, parameter_count, value_named};
+ghost use Rattle.moxi_terms.specs.Scopes.{enumeration_now, constants_now, named_sort_now, function_now};
+ghost use Rattle.moxi_terms.specs.Sorted.{IsFunction, IsScope};
+ghost use Rattle.moxi_terms.specs.Sorts.{IsSort};
+ghost use Rattle.moxi_terms.specs.View.{plain_function, plain_functions};
+
+use crate::data::{Datum, Sort};
+use crate::names::{Head, Meaning, Numbering, is_same};
+use crate::term::{Enumeration, Function, NamedSort};
+use crate::words::{is_operator, operator_named};
+use std::alloc::Global;
+use std::marker::Model;
+use text_core::{Items, Name, Names, NoMemory};
+
+/// The enumerations, sorts and functions of a script, each kind numbered from 0 in the order of adding. It is seen as the
+/// lists of what was added; names are found with no scan.
+#[derive(Drop)]
+pub struct Scope {
+    alloc: Global,
+    enumerations: Items<Enumeration>,
+    enumeration_names: Numbering,
+    sorts: Items<NamedSort>,
+    sort_names: Numbering,
+    functions: Items<Function>,
+    function_names: Numbering,
+    constant_names: Numbering,
+    constant_numbers: Vec<(u32, u32)>,
+}
+
+impl Model for Scope {
+    ghost use Rattle.moxi_terms.specs.View.{ScopeState};
+    ghost use Rattle.moxi_terms.specs.Scopes.{IsKept};
+    ghost use Rattle.moxi_terms.specs.contracts.term.Term as e;
+    ghost use Rattle.std.specs.Coded.{codes};
+
+    ghost Value = { ScopeState };
+
+    ghost coded = { Prim.hlevel (codes, e.the_row.coded) };
+
+    ghost view = { λ s. record { enumerations = s.enumerations; sorts = s.sorts; functions = s.functions } };
+
+    ghost invariant = { λ s. IsKept (record { enumerations = s.enumerations; sorts = s.sorts; functions = s.functions }) s.enumeration_names s.sort_names s.function_names s.constant_names s.constant_numbers.items };
+}
+
+impl Scope {
+    /// Nothing is declared. It takes no memory.
+    pub fn new(alloc: Global) -> Scope
+        ensures { result ≡ no_scope }
+    {
+        Scope {
+            alloc,
+            enumerations: Items::new(alloc),
+            enumeration_names: Numbering::new(alloc),
+            sorts: Items::new(alloc),
+            sort_names: Numbering::new(alloc),
+            functions: Items::new(alloc),
+            function_names: Numbering::new(alloc),
+            constant_names: Numbering::new(alloc),
+            constant_numbers: Vec::new(alloc),
+        }
+    }
+
+    /// Adds an enumeration sort with one or more constants. It answers false, and changes nothing, where a sort has its
+    /// name, where a constant or a function has the name of one of its constants, or where two of these have one name.
+    pub fn add_enumeration(&mut self, name: Name, constants: Names) -> Result<bool, NoMemory>
+        requires some { 0 < length constants }
+        requires room { length self.old.enumerations < 2 ^ 32 - 1 }
+        requires room_for_constants { length (all_constants self.old.enumerations) + length constants < 2 ^ 32 }
+        ensures added { IfOk result (λ added. added ≡ may_be_enumeration self.old name constants) }
+        ensures scope { IfOk result (λ added. self.new ≡ (if added then with_enumeration self.old name constants else self.old)) }
+        ensures err { OnErr result (self.new ≡ self.old) }
+    {
+        if self.is_sort_name(name.bytes()) || self.has_term_name(&constants) {
+            return Ok(false);
+        }
+        let before = self.constant_names.len();
+        let enumerations = self.enumerations.len();
+        number_constants(
+            &mut self.constant_numbers,
+            before,
+            enumerations as u32,
+            &constants,
+        )?;
+        self.enumeration_names.declare(self.alloc, name.bytes())?;
+        match self.constant_names.declare_all(self.alloc, &constants) {
+            Ok(true) => {}
+            Ok(false) => {
+                self.enumeration_names.keep(enumerations);
+                return Ok(false);
+            }
+            Err(e) => {
+                self.enumeration_names.keep(enumerations);
+                return Err(e);
+            }
+        }
+        match self.enumerations.push(Enumeration { name, constants }) {
+            Ok(()) => {}
+            Err(e) => {
+                self.enumeration_names.keep(enumerations);
+                self.constant_names.keep(before);
+                return Err(e);
+            }
+        }
+        Ok(true)
+    }
+
+    // Does a constant or a function have the name of one of these?
+    #[tactic(auto, using(crate::proofs::ScopeLaws::names_front, crate::proofs::ScopeLaws::names_end))]
+    fn has_term_name(&self, names: &Names) -> bool
+        ensures { result ≡ list_any (is_term_name self.now) names.now }
+    {
+        for i in 0..names.len() {
+            if self.is_term_name(names.at(i).bytes()) {
+                return true;
+            }
+        }
+        false
+    }
+
+    /// Adds a name for a sort of the scope. It answers false, and changes nothing, where a sort has that name.
+    pub fn add_sort(&mut self, name: Name, sort: Sort) -> Result<bool, NoMemory>
+        requires sort { IsSort self.old.enumerations sort }
+        requires room { length self.old.sorts < 2 ^ 32 - 1 }
+        ensures added { IfOk result (λ added. added ≡ not (is_sort_name self.old name)) }
+        ensures scope { IfOk result (λ added. self.new ≡ (if added then with_sort self.old name sort else self.old)) }
+        ensures err { OnErr result (self.new ≡ self.old) }
+    {
+        if self.is_sort_name(name.bytes()) {
+            return Ok(false);
+        }
+        let sorts = self.sorts.len();
+        self.sort_names.declare(self.alloc, name.bytes())?;
+        match self.sorts.push(NamedSort { name, sort }) {
+            Ok(()) => Ok(true),
+            Err(e) => {
+                self.sort_names.keep(sorts);
+                Err(e)
+            }
+        }
+    }
+
+    /// Adds a function over sorts of the scope, whose body has no primes, is well sorted over the scope and the parameters
+    /// and has the sort of the result. It answers false, and changes nothing, where a constant or a function has its name.
+    pub fn add_function(&mut self, function: Function) -> Result<bool, NoMemory>
+        requires function { IsFunction self.old.enumerations (plain_functions self.old) (plain_function function) }
+        requires room { length self.old.functions < 2 ^ 32 - 1 }
+        ensures added { IfOk result (λ added. added ≡ not (is_term_name self.old function.name)) }
+        ensures scope { IfOk result (λ added. self.new ≡ (if added then with_function self.old function else self.old)) }
+        ensures err { OnErr result (self.new ≡ self.old) }
+    {
+        if self.is_term_name(function.name.bytes()) {
+            return Ok(false);
+        }
+        let functions = self.functions.len();
+        self.function_names
+            .declare(self.alloc, function.name.bytes())?;
+        match self.functions.push(function) {
+            Ok(()) => Ok(true),
+            Err(e) => {
+                self.function_names.keep(functions);
+                Err(e)
+            }
+        }
+    }
+
+    /// The name of the enumeration sort number n.
+    pub fn enumeration(&self, n: u32) -> Option<&Name>
+        ensures { enumeration_now result ≡ option_map (λ e. e.name) (slice_get self.now.enumerations n) }
+    {
+        if (n as usize) < self.enumerations.len() {
+            Some(&self.enumerations.at(n as usize).name)
+        } else {
+            None
+        }
+    }
+
+    /// The constants of the enumeration sort number n.
+    pub fn constants(&self, n: u32) -> Option<&Names>
+        ensures { constants_now result ≡ option_map (λ e. e.constants) (slice_get self.now.enumerations n) }
+    {
+        if (n as usize) < self.enumerations.len() {
+            Some(&self.enumerations.at(n as usize).constants)
+        } else {
+            None
+        }
+    }
+
+    /// The defined sort number n.
+    pub fn sort(&self, n: u32) -> Option<&NamedSort>
+        ensures { named_sort_now result ≡ slice_get self.now.sorts n }
+    {
+        if (n as usize) < self.sorts.len() {
+            Some(self.sorts.at(n as usize))
+        } else {
+            None
+        }
+    }
+
+    /// The function number n.
+    pub fn function(&self, n: u32) -> Option<&Function>
+        ensures { function_now result ≡ slice_get self.now.functions n }
+    {
+        if (n as usize) < self.functions.len() {
+            Some(self.functions.at(n as usize))
+        } else {
+            None
+        }
+    }
+
+    /// The functions. What is declared fits together.
+    pub fn functions(&self) -> &Items<Function>
+        ensures functions { result.now ≡ self.now.functions }
+        ensures scope { IsScope self.now }
+    {
+        &self.functions
+    }
+
+    /// Does a sort have this name? `Bool` and `BitVec` count as declared.
+    pub fn is_sort_name(&self, name: &[u8]) -> bool
+        ensures { result ≡ is_sort_name self.now name.now }
+    {
+        is_same(name, b"Bool")
+            || is_same(name, b"BitVec")
+            || self.enumeration_names.place(name).is_some()
+            || self.sort_names.place(name).is_some()
+    }
+
+    /// Does a constant or a function have this name? The operators, `true` and `false` count as declared.
+    pub fn is_term_name(&self, name: &[u8]) -> bool
+        ensures { result ≡ is_term_name self.now name.now }
+    {
+        is_operator(name)
+            || is_same(name, b"true")
+            || is_same(name, b"false")
+            || self.constant_names.place(name).is_some()
+            || self.function_names.place(name).is_some()
+    }
+
+    /// The sort of this name.
+    pub fn sort_named(&self, name: &[u8]) -> Option<Sort>
+        ensures { result ≡ sort_named self.now name.now }
+    {
+        if is_same(name, b"Bool") {
+            return Some(Sort::Truth);
+        }
+        match self.enumeration_names.place(name) {
+            Some(n) => Some(Sort::Choice(n as u32)),
+            None => match self.sort_names.place(name) {
+                Some(n) => Some(self.sorts.at(n).sort),
+                None => None,
+            },
+        }
+    }
+
+    // The constant of this name, `true` and `false` among them.
+    fn value_named(&self, name: &[u8]) -> Option<Meaning>
+        ensures { result ≡ value_named self.now name.now }
+    {
+        if is_same(name, b"true") {
+            Some(Meaning::Value(Datum::Truth(true), Sort::Truth))
+        } else if is_same(name, b"false") {
+            Some(Meaning::Value(Datum::Truth(false), Sort::Truth))
+        } else {
+            match self.constant_names.place(name) {
+                Some(p) => {
+                    let (n, i) = self.constant_numbers[p];
+                    Some(Meaning::Value(Datum::Constant(n, i), Sort::Choice(n)))
+                }
+                None => None,
+            }
+        }
+    }
+
+    /// The constant, or else the function without parameters, of this name.
+    pub(crate) fn bare(&self, name: &[u8]) -> Option<Meaning>
+        ensures { result ≡ or_else (value_named self.now name.now) (call_of bare_call self.now.functions (place_of (function_names self.now) name.now)) }
+    {
+        match self.value_named(name) {
+            Some(m) => Some(m),
+            None => match self.function_names.place(name) {
+                None => None,
+                Some(n) => {
+                    let function = self.functions.at(n);
+                    if function.parameters.len() == 0 {
+                        Some(Meaning::Call(n as u32, function.result))
+                    } else {
+                        None
+                    }
+                }
+            },
+        }
+    }
+
+    /// The function with parameters, or else the operator, of this name.
+    pub(crate) fn head(&self, name: &[u8]) -> Option<Head>
+        ensures { result ≡ head_named self.now name.now }
+    {
+        match self.function_names.place(name) {
+            Some(n) if self.functions.at(n).parameters.len() != 0 => Some(Head::Function(n as u32)),
+            _ => match operator_named(name) {
+                Some(op) => Some(Head::Operator(op)),
+                None => None,
+            },
+        }
+    }
+}
+
+// Puts the numbers of an enumeration's constants behind those of the constants before.
+fn number_constants(
+    numbers: &mut Vec<(u32, u32)>,
+    before: usize,
+    n: u32,
+    constants: &Names,
+) -> Result<(), NoMemory>
+    requires few { length constants.now < 2 ^ 32 }
+    requires before { before ≤ length numbers.old.items }
+    ensures ok { OnOk result (numbers.new.items ≡ take before numbers.old.items ++ numbered n 0 constants.now) }
+    ensures front { take before numbers.new.items ≡ take before numbers.old.items }
+{
+    numbers.truncate(before);
+    for i in 0..constants.len() {
+        match numbers.push((n, i as u32)) {
+            Ok(()) => {}
+            Err(_) => return Err(NoMemory),
+        }
+    }
+    Ok(())
+}

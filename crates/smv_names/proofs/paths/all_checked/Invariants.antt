@@ -1,0 +1,11 @@
+use Rattle.std.proofs.Common.{◌≡◌, drop, map}
+use Rattle.smv_meaning.specs.Names.{found_in}
+use Rattle.smv_meaning.specs.Checks.{first_failing}
+use Rattle.smv_meaning.specs.Phases.{path_check}
+use Rattle.smv_meaning.specs.View.{instance_plain, path_seen}
+use Rattle.smv_names.proofs.paths.all_checked.Given as goal
+
+abbrev pub invariant-loop-k : goal.invariant-loop-k
+invariant-loop-k l =
+    first_failing (map (path_check (found_in (map instance_plain l.table)) l.i) (map path_seen (drop l.k l.paths)))
+    ≡ first_failing (map (path_check (found_in (map instance_plain l.table)) l.i) (map path_seen l.paths))

@@ -1,0 +1,28 @@
+// No definition and no actual reaches itself.
+ghost use Rattle.std.specs.Prelude.{◌≡◌, map, IfOk};
+ghost use Rattle.smv_meaning.specs.Formulas.{IsFormulaOrder, placed_formulas};
+ghost use Rattle.smv_meaning.specs.Settled.{cycle_checks_of};
+ghost use Rattle.smv_meaning.specs.View.{instance_plain, formula_plain};
+ghost use Rattle.smv_names.specs.Outcome.{Settles};
+
+use crate::ends::{DEFINE_CYCLE, NamesEnd, refusal};
+use smv_meaning::{Formula, Ordering, Table, formula_order};
+use std::alloc::Global;
+use text_core::Items;
+
+/// The checks that no definition and no actual reaches itself: S15, at the first that does. Else an order of their numbers in
+/// which each stands after those to which it refers.
+pub fn cycles_checked<'a>(
+    alloc: Global,
+    table: &Table<'a>,
+    formulas: &[Formula<'a>],
+) -> Result<Items<usize>, NamesEnd>
+    requires { map formula_plain formulas.now ≡ placed_formulas (map instance_plain table.now) }
+    ensures checks { Settles result (cycle_checks_of (map instance_plain table.now)) }
+    ensures order { IfOk result (IsFormulaOrder (map instance_plain table.now)) }
+{
+    match formula_order(alloc, table, formulas)? {
+        Ordering::Ordered(order) => Ok(order),
+        Ordering::Cycle(k) => Err(NamesEnd::Bad(refusal(DEFINE_CYCLE, formulas[k].place))),
+    }
+}

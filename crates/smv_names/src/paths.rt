@@ -1,0 +1,124 @@
+// Each path leads to something.
+ghost use Rattle.std.specs.Prelude.{◌≡◌, ◌++◌, ◌∷◌, [], List, ℕ, map, flat_map, OnOk, unwrap_or};
+ghost use Rattle.smv_text.specs.Tree.{trees_of};
+ghost use Rattle.smv_text.specs.View.{plain, plain_definition, plain_assignment, plain_element};
+ghost use Rattle.smv_meaning.specs.Names.{found_in, Found};
+ghost use Rattle.smv_meaning.specs.Expressions.{paths_of, tree_paths};
+ghost use Rattle.smv_meaning.specs.Phases.{is_something, path_check, path_checks, element_paths, over_instances};
+ghost use Rattle.smv_meaning.specs.View.{instance_plain, found_plain, path_seen};
+ghost use Rattle.smv_names.specs.Outcome.{Settles};
+ghost use Rattle.smv_names.specs.Paths.{assignment_paths, definition_paths};
+
+use crate::ends::{NamesEnd, UNKNOWN, refusal};
+use smv_meaning::{Instance, Table, Target, put_all_paths, put_paths};
+use smv_text::{Assignments, Definitions, Element, Elements, Path};
+use std::alloc::Global;
+use text_core::NoMemory;
+
+fn leads_somewhere<'a>(table: &Table<'a>, i: usize, path: &'a Path) -> bool
+    ensures { result ≡ is_something (found_in (map instance_plain table.now) i path.now) }
+{
+    match table.found(i, path) {
+        Target::Variable(_, _, _, _) => true,
+        Target::Body(_, _, _, _) => true,
+        Target::Within(_) => true,
+        Target::Symbol(_) => true,
+        Target::Cyclic => true,
+        Target::Missing => false,
+    }
+}
+
+// The paths, read in the numbered instance.
+#[tactic(auto, using(crate::proofs::PathLemmas::seen_front, crate::proofs::PathLemmas::seen_end))]
+fn all_checked<'a>(table: &Table<'a>, i: usize, paths: &[&'a Path]) -> Result<(), NamesEnd>
+    ensures { Settles result (map (path_check (found_in (map instance_plain table.now)) i) (map path_seen paths.now)) }
+{
+    for k in 0..paths.len() {
+        let path = paths[k];
+        if !leads_somewhere(table, i, path) {
+            return Err(NamesEnd::Bad(refusal(UNKNOWN, path.place)));
+        }
+    }
+    Ok(())
+}
+
+#[tactic(auto, using(crate::proofs::Lists::front_is, crate::proofs::Lists::end_is, crate::proofs::PathLemmas::joined))]
+fn put_assignment_paths<'a>(paths: &mut Vec<&'a Path>, assignments: &'a Assignments) -> Result<(), NoMemory>
+    ensures { OnOk result (map path_seen paths.new.items ≡ map path_seen paths.old.items ++ flat_map assignment_paths (map plain_assignment assignments.now)) }
+{
+    for k in 0..assignments.len() {
+        let assignment = assignments.at(k);
+        match paths.push(&assignment.target) {
+            Ok(()) => {}
+            Err(_) => return Err(NoMemory),
+        }
+        put_paths(paths, &assignment.body)?;
+    }
+    Ok(())
+}
+
+#[tactic(auto, using(crate::proofs::Lists::front_is, crate::proofs::Lists::end_is, crate::proofs::PathLemmas::joined))]
+fn put_definition_paths<'a>(paths: &mut Vec<&'a Path>, definitions: &'a Definitions) -> Result<(), NoMemory>
+    ensures { OnOk result (map path_seen paths.new.items ≡ map path_seen paths.old.items ++ flat_map definition_paths (map plain_definition definitions.now)) }
+{
+    for k in 0..definitions.len() {
+        put_paths(paths, &definitions.at(k).body)?;
+    }
+    Ok(())
+}
+
+fn put_element_paths<'a>(paths: &mut Vec<&'a Path>, element: &'a Element) -> Result<(), NoMemory>
+    ensures { OnOk result (map path_seen paths.new.items ≡ map path_seen paths.old.items ++ element_paths (plain_element element.now)) }
+{
+    match element {
+        Element::Vars(_, _) => {}
+        Element::Defines(definitions) => put_definition_paths(paths, definitions)?,
+        Element::Constants(_) => {}
+        Element::Assigns(assignments) => put_assignment_paths(paths, assignments)?,
+        Element::Init(e) => put_paths(paths, e)?,
+        Element::Trans(e) => put_paths(paths, e)?,
+        Element::Invar(e) => put_paths(paths, e)?,
+        Element::Spec(_, e) => put_paths(paths, e)?,
+    }
+    Ok(())
+}
+
+#[tactic(auto, using(crate::proofs::Lists::front_is, crate::proofs::Lists::end_is, crate::proofs::PathLemmas::joined))]
+fn put_elements_paths<'a>(paths: &mut Vec<&'a Path>, elements: &'a Elements) -> Result<(), NoMemory>
+    ensures { OnOk result (map path_seen paths.new.items ≡ map path_seen paths.old.items ++ flat_map element_paths (map plain_element elements.now)) }
+{
+    for k in 0..elements.len() {
+        put_element_paths(paths, elements.at(k))?;
+    }
+    Ok(())
+}
+
+// The paths of the actuals, read in the instance that it stands in, and then those of its own elements.
+#[tactic(auto, using(crate::proofs::Composing::both_pass, crate::proofs::Composing::ends, crate::proofs::Composing::ends_behind))]
+fn instance_checked<'a>(
+    alloc: Global,
+    table: &Table<'a>,
+    i: usize,
+    at: &Instance<'a>,
+) -> Result<(), NamesEnd>
+    ensures { Settles result (path_checks (found_in (map instance_plain table.now)) i (instance_plain at.now)) }
+{
+    let mut outer = Vec::new(alloc);
+    put_all_paths(&mut outer, at.actuals)?;
+    all_checked(table, at.parent.unwrap_or(0), outer.as_slice())?;
+    let mut own = Vec::new(alloc);
+    put_elements_paths(&mut own, &at.plan.elements)?;
+    all_checked(table, i, own.as_slice())?;
+    Ok(())
+}
+
+/// The checks that each path of an instantiated module leads to something: S14, at the first that doesn't.
+#[tactic(auto, using(crate::proofs::Lists::front_is, crate::proofs::Lists::end_is, crate::proofs::Composing::goes, crate::proofs::Composing::ends))]
+pub fn paths_checked<'a>(alloc: Global, table: &Table<'a>) -> Result<(), NamesEnd>
+    ensures { Settles result (over_instances (path_checks (found_in (map instance_plain table.now))) 0 (map instance_plain table.now)) }
+{
+    for i in 0..table.len() {
+        instance_checked(alloc, table, i, table.at(i))?;
+    }
+    Ok(())
+}
