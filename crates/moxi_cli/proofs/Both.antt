@@ -1,5 +1,5 @@
 -- The two directions.
-use Rattle.std.proofs.Common.{◌≡◌, ℕ, zero, suc, ◌+◌, ◌-◌, ◌/◌, ◌<◌, ◌≤◌, Bool, true, false, not, ◌&&◌, ◌==◌, List, [], ◌∷◌, ◌++◌, length, map, Some, refl, sym, ap, ◌∙◌, subst, arith}
+use Rattle.std.proofs.Common.{◌≡◌, ℕ, suc, ◌+◌, ◌-◌, ◌/◌, ◌<◌, ◌≤◌, Bool, true, false, not, ◌&&◌, ◌==◌, List, [], ◌∷◌, ◌++◌, length, map, Some, refl, sym, ap, ◌∙◌, subst, arith}
 use Rattle.std.specs.Prelude.{slice_get, IsSomeAnd, codes}
 use Rattle.std.specs.List.{AllByRecursion, AllZip}
 use Rattle.std.proofs.lemmas.List.{length-map}
@@ -13,10 +13,11 @@ use Rattle.btor_tree.specs.Frame.{FreeFits, true_word, word_at, operand, Meets, 
 use Rattle.btor_tree.proofs.Grows.{meets_front}
 use Rattle.btor_tree.proofs.Paths.{operands_append, Reads, path}
 use Rattle.moxi_cli.specs.Formulas.{Below, EachVariableOf}
-use Rattle.moxi_cli.specs.Meaning.{State, negated, value_of, all_true, IsRun, AtLast}
+use Rattle.moxi_cli.specs.Truths.{Truths, negated, truth_of, all_true}
 use Rattle.moxi_cli.specs.Lines.{Made, first_lines, with_variables, with_not, with_formula, line_count, size, lines_of, input_place}
 use Rattle.moxi_cli.specs.Stands.{Stands, HasInputs}
-use Rattle.moxi_cli.specs.Headline.{HasRun, HasFrames, Translates, StandsFor}
+use Rattle.moxi_cli.specs.Headline.{AtLast, HasFrames}
+use Rattle.moxi_cli.specs.Matching.{IsFalse, HasTruths, Matches, StandsFor}
 use Rattle.moxi_cli.proofs.Grown.{Grew, grew_then, grew_meets, grew_free, grew_bads, grew_constraints}
 use Rattle.moxi_cli.proofs.Bytes.{symbol_fits}
 use Rattle.moxi_cli.proofs.LineSteps.{line_here, ready_push, suits_bad, stands_not, length_not}
@@ -60,23 +61,18 @@ all_rows : {X : Type 0} (P : X → Type 0) → ((x : X) → P x) → (xs : List 
 all_rows P h [] = tt
 all_rows P h (x ∷ xs) = (h x, all_rows P h xs)
 
--- any list with a last state is a run
-is_run : (source : Source) (P : State → Type 0) (states : List State) → AtLast P states → IsRun source states
-is_run source P [] l = l
-is_run source P (state ∷ states) l = tt
-
 -- the value reads the formula's variables alone
 mutual
-  same_value : (n : ℕ) (a b : State) (f : Formula) → Below n f → ((v : ℕ) → v < n → a v ≡ b v) → value_of a f ≡ value_of b f
+  same_value : (n : ℕ) (a b : Truths) (f : Formula) → Below n f → ((v : ℕ) → v < n → a v ≡ b v) → truth_of a f ≡ truth_of b f
   same_value n a b (variable v) h s = s v h
   same_value n a b (negation k f) h s = ap (negated k) (same_value n a b f h s)
   same_value n a b (conjunction f fs) h s =
-      ap (λ u. u && all_true a fs) (same_value n a b f h.0 s) ∙ ap (λ w. value_of b f && w) (same_values n a b fs h.1 s)
+      ap (λ u. u && all_true a fs) (same_value n a b f h.0 s) ∙ ap (λ w. truth_of b f && w) (same_values n a b fs h.1 s)
 
-  same_values : (n : ℕ) (a b : State) (fs : Formulas) → EachVariableOf (λ v. v < n) fs → ((v : ℕ) → v < n → a v ≡ b v) → all_true a fs ≡ all_true b fs
+  same_values : (n : ℕ) (a b : Truths) (fs : Formulas) → EachVariableOf (λ v. v < n) fs → ((v : ℕ) → v < n → a v ≡ b v) → all_true a fs ≡ all_true b fs
   same_values n a b no_formulas h s = refl
   same_values n a b (formula f fs) h s =
-      ap (λ u. u && all_true a fs) (same_value n a b f h.0 s) ∙ ap (λ w. value_of b f && w) (same_values n a b fs h.1 s)
+      ap (λ u. u && all_true a fs) (same_value n a b f h.0 s) ∙ ap (λ w. truth_of b f && w) (same_values n a b fs h.1 s)
 
 not_true : (b : Bool) → bit (not b) ≡ true_word → b ≡ false
 not_true true h = absurd (omega (arith, ap (λ w. w.bits) h))
@@ -142,28 +138,28 @@ module _ (source : Source) (below : Below (length source.names) source.invariant
       ∙ grew_constraints before negative.lines to_negative ∙ heads_are.constraints
 
   -- the bad line's argument is the negation
-  bad_word : (row : List BitVector) → Meets lines row → word_at row negative.place ≡ bit (not (value_of (state_of row) f))
+  bad_word : (row : List BitVector) → Meets lines row → word_at row negative.place ≡ bit (not (truth_of (state_of row) f))
   bad_word row met =
       let there = meets_front negative.lines (bad_line ∷ []) row met in
       word_is_truth negative.lines row negative.place negative_stands.ready.well_formed there negative_stands.wide
       ∙ ap bit (truth_not m row given.stands there
       ∙ ap not (truth before f row heads_are.ready inputs_are (omega (arith, fits)) (grew_meets m.lines negative.lines row (grew_not m) there)))
 
-  bad_means : (row : List BitVector) → IsFrame lines row → IsBad lines row 0 → value_of (state_of row) f ≡ false
+  bad_means : (row : List BitVector) → IsFrame lines row → IsBad lines row 0 → truth_of (state_of row) f ≡ false
   bad_means row fr b =
       let at = subst (λ o. IsSomeAnd (slice_get o 0) (λ a. operand row a ≡ true_word)) bads_are b in
-      not_true (value_of (state_of row) f) (sym (bad_word row fr.meets) ∙ at)
+      not_true (truth_of (state_of row) f) (sym (bad_word row fr.meets) ∙ at)
 
-  means_bad : (row : List BitVector) → IsFrame lines row → value_of (state_of row) f ≡ false → IsBad lines row 0
+  means_bad : (row : List BitVector) → IsFrame lines row → truth_of (state_of row) f ≡ false → IsBad lines row 0
   means_bad row fr h =
-      let at : operand row (plain_arg negative.place) ≡ true_word = bad_word row fr.meets ∙ true_not (value_of (state_of row) f) h in
+      let at : operand row (plain_arg negative.place) ≡ true_word = bad_word row fr.meets ∙ true_not (truth_of (state_of row) f) h in
       subst (λ o. IsSomeAnd (slice_get o 0) (λ a. operand row a ≡ true_word)) (sym bads_are) at
 
   -- the words of a state's inputs
-  abbrev free_of : State → ℕ → BitVector
+  abbrev free_of : Truths → ℕ → BitVector
   free_of state i = bit (state ((i - 6) / 3))
 
-  frees : (state : State) → FreeFits lines (free_of state)
+  frees : (state : Truths) → FreeFits lines (free_of state)
   frees state =
       free_other negative.lines Bad (plain_arg negative.place ∷ []) (Some (codes "q.0")) (free_of state) (λ x. tt)
       (grew_free before negative.lines (free_of state) to_negative (heads_are.free (λ i. state ((i - 6) / 3))))
@@ -173,16 +169,13 @@ module _ (source : Source) (below : Below (length source.names) source.invariant
       let a : InputAt negative.lines (input_place v) = subst (λ ls. InputAt ls (input_place v)) (sym to_negative.is) (input_front before to_negative.more (input_place v) (heads_are.inputs v h)) in
       input_front negative.lines (bad_line ∷ []) (input_place v) a
 
-  state_reads : (row : List BitVector) (state : State) → Reads lines row (free_of state) → (v : ℕ) → v < n → state_of row v ≡ state v
+  state_reads : (row : List BitVector) (state : Truths) → Reads lines row (free_of state) → (v : ℕ) → v < n → state_of row v ≡ state v
   state_reads row state reads v h =
       let a = input_lines v h in
       let place : (input_place v - 6) / 3 ≡ v = omega arith in
       ap (λ x. x.bits == 1) (reads (input_place v) a.line a.at a.is) ∙ bit_back (state ((input_place v - 6) / 3)) ∙ ap state place
 
-  abbrev IsBroken : State → Type 0
-  IsBroken state = value_of state f ≡ false
-
-  complete_rows : (states : List State) → AtLast IsBroken states → (rows : List (List BitVector)) × (length rows ≡ length states) × AreFrames lines rows × AtLast (λ row. IsBad lines row 0) rows
+  complete_rows : (states : List Truths) → AtLast (IsFalse source) states → (rows : List (List BitVector)) × (length rows ≡ length states) × AreFrames lines rows × AtLast (λ row. IsBad lines row 0) rows
   complete_rows [] l = absurd l
   complete_rows (state ∷ states) l =
       let found = path lines well_formed (free_of state) (map free_of states) (all_of (FreeFits lines) free_of frees (state ∷ states)) in
@@ -191,26 +184,23 @@ module _ (source : Source) (below : Below (length source.names) source.invariant
         rows,
         length_zip (Reads lines) rows (map free_of (state ∷ states)) found.2 ∙ length-map (state ∷ states) free_of,
         (found.1, all_rows (ConstraintsHold lines) (λ row. subst (AllByRecursion (λ a. operand row a ≡ true_word)) (sym constraints_are) tt) rows),
-        at_last_zip (IsFrame lines) (λ row. IsBad lines row 0) (Reads lines) free_of IsBroken rows (state ∷ states)
+        at_last_zip (IsFrame lines) (λ row. IsBad lines row 0) (Reads lines) free_of (IsFalse source) rows (state ∷ states)
             (λ row s fr reads v. means_bad row fr (same_value n (state_of row) s f below (state_reads row s reads) ∙ v)) framed found.2 l,
       )
 
-  sound : (j k : ℕ) → j < 1 → HasFrames lines j k → HasRun source j k
-  sound (suc j) k lt has = absurd (omega (arith, lt))
-  sound zero k lt has =
-      let rows = has.0 in
-      let broken : AtLast IsBroken (map state_of rows) =
-      at_last_map (IsFrame lines) (λ row. IsBad lines row 0) IsBroken state_of rows bad_means (path_frames lines rows has.2.0) has.3 in
-      (map state_of rows, length-map rows state_of ∙ has.1, is_run source IsBroken (map state_of rows) broken, broken)
+  sound : (k : ℕ) → HasFrames lines 0 k → HasTruths source k
+  sound k has =
+      let broken : AtLast (IsFalse source) (map state_of has.0) =
+      at_last_map (IsFrame lines) (λ row. IsBad lines row 0) (IsFalse source) state_of has.0 bad_means (path_frames lines has.0 has.2.0) has.3 in
+      record { states = map state_of has.0; count = length-map has.0 state_of ∙ has.1; breaks = broken }
 
-  complete : (j k : ℕ) → j < 1 → HasRun source j k → HasFrames lines j k
-  complete (suc j) k lt has = absurd (omega (arith, lt))
-  complete zero k lt has =
-      let found = complete_rows has.0 has.3 in
-      (found.0, found.1 ∙ has.1, found.2, found.3)
+  complete : (k : ℕ) → HasTruths source k → HasFrames lines 0 k
+  complete k has =
+      let found = complete_rows has.states has.breaks in
+      (found.0, found.1 ∙ has.count, found.2, found.3)
 
-  translates : Translates source lines
-  translates = record { bads = ap length bads_are; sound = sound; complete = complete }
+  matches : Matches source lines
+  matches = record { bads = ap length bads_are; sound = sound; complete = complete }
 
 pub stands_for : (source : Source) → StandsFor source
-stands_for source below room = (well_formed source below room, translates source below room)
+stands_for source below room = (well_formed source below room, matches source below room)

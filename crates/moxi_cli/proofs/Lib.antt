@@ -17,3 +17,7 @@ pub mod Both
 pub mod Judgements
 pub mod JudgeLemmas
 pub mod SinkLemmas
+pub mod FormShape
+pub mod FormValues
+pub mod FormItems
+pub mod FormRuns

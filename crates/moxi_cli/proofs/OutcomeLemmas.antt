@@ -8,14 +8,15 @@ use Rattle.moxi_cli.specs.declared.answer.Answer.{Answer}
 use Rattle.moxi_cli.specs.declared.answer.Answer.TheVariants.{Misread, Unread, Refuses, SecondRefuses, Denies, Judges, Writes}
 use Rattle.moxi_cli.specs.declared.words.Command.{Command}
 use Rattle.moxi_cli.specs.declared.words.Command.TheVariants.{SmvToBtor, JudgeBtor}
+use Rattle.smv_text.specs.Tree.{PlainSource}
 use Rattle.moxi_cli.specs.Formulas.{Source}
 use Rattle.moxi_cli.specs.declared.translate.TheConstants.{SMV_LIMIT}
-use Rattle.moxi_cli.specs.Translation.{Accepts, TranslatesTo, IsServed, btor_text}
+use Rattle.moxi_cli.specs.Translation.{HasForm, Accepts, TranslatesTo, IsServed, btor_text}
 use Rattle.moxi_cli.specs.Outcome.{IsTranslation, IsJudgement, IsAbsent, IsTold, GoesOn, Answers, MayAnswer, Serves, btor_model, bytes_of, too_long, smv_model, status_of, text_of}
 use Rattle.moxi_cli.specs.Sinks.{IsPart}
 use Rattle.text_core.specs.declared.place.Refusal.{Refusal}
 use Rattle.text_core.specs.declared.verdict.Clause.{Clause}
-use Rattle.moxi_cli.proofs.Sources.{one_source, one_smv_refusal, not_refused, text_stands}
+use Rattle.moxi_cli.proofs.Sources.{one_form, one_smv_refusal, not_refused, text_stands}
 use Rattle.moxi_cli.proofs.Judgements.{Same, same_judgement}
 
 one_translation : (bytes : List ℕ) (a b : Answer) → IsTranslation bytes a → IsTranslation bytes b → a ≡ b
@@ -23,7 +24,7 @@ one_translation bytes (Refuses r) (Refuses q) h k = ap Refuses (one_smv_refusal 
 one_translation bytes (Refuses r) (Writes text) h k = absurd (not_refused bytes r k.0 h k.1)
 one_translation bytes (Refuses r) b h k = absurd k
 one_translation bytes (Writes text) (Refuses q) h k = absurd (not_refused bytes q h.0 k h.1)
-one_translation bytes (Writes text) (Writes other) h k = ap Writes (h.2 ∙ ap btor_text (one_source bytes h.0 k.0 h.1 k.1) ∙ sym k.2)
+one_translation bytes (Writes text) (Writes other) h k = ap Writes (h.2 ∙ ap btor_text (one_form bytes h.0 k.0 h.1 k.1) ∙ sym k.2)
 one_translation bytes (Writes text) b h k = absurd k
 one_translation bytes a b h k = absurd h
 
@@ -159,7 +160,7 @@ run_complete (Some fs) command shelf out notes a status m ends w = λ s o n b d.
 -- a text that was written whole stands for its model
 served_text : (fs : Files) (model bytes : List ℕ) (b : Answer) (before now : Option (List ℕ)) → file_at fs model ≡ Some bytes → IsTranslation bytes b → status_of b ≡ Done → now ≡ grown before (text_of b) → IsServed fs model before now
 served_text fs model bytes (Writes text) before now there h s w =
-    record { bytes = bytes; there = there; source = h.0; accepted = h.1; text = text; written = w; translated = subst (TranslatesTo h.0) (sym h.2) (text_stands bytes h.0 h.1) }
+    record { bytes = bytes; there = there; source = h.1.0; accepted = (h.0, h.1.1); text = text; written = w; translated = subst (TranslatesTo h.1.0) (sym h.2) (text_stands bytes h.1.0 h.0 h.1.1) }
 served_text fs model bytes (Refuses r) before now there h s w = absurd (cc)
 served_text fs model bytes b before now there h s w = absurd h
 
@@ -181,19 +182,19 @@ run_served None command before now h = tt
 run_served (Some fs) command before now h = served_by command fs h.0 before now h.1 h.2 h.3
 
 -- the defined answer to an accepted model
-accepted_answer : (fs : Files) (command : Option Command) (model bytes : List ℕ) (source : Source) → command ≡ Some (SmvToBtor model) → file_at fs model ≡ Some bytes → Accepts bytes source → Answers command fs (Writes (btor_text source))
-accepted_answer fs command model bytes source is there a =
-    let e : nat_lt SMV_LIMIT (length bytes) ≡ false = grind (arith, a.is_model.within) in
+accepted_answer : (fs : Files) (command : Option Command) (model bytes : List ℕ) (form : Source) → command ≡ Some (SmvToBtor model) → file_at fs model ≡ Some bytes → HasForm bytes form → Answers command fs (Writes (btor_text form))
+accepted_answer fs command model bytes form is there a =
+    let e : nat_lt SMV_LIMIT (length bytes) ≡ false = grind (arith, a.1.is_model.within) in
     let step : smv_model fs model ≡ Ok bytes = ap (λ content. bytes_of content model SMV_LIMIT too_long) there ∙ ap (λ long. cond long (Err (Refuses too_long)) (Ok bytes)) e in
-    subst (λ c. Answers c fs (Writes (btor_text source))) (sym is) (subst (λ s. GoesOn s IsTranslation (Writes (btor_text source))) (sym step) (source, a, refl))
+    subst (λ c. Answers c fs (Writes (btor_text form))) (sym is) (subst (λ s. GoesOn s IsTranslation (Writes (btor_text form))) (sym step) (form, a, refl))
 
 pub run_translates : (files : Option Files) (command : Option Command) (shelf out notes : Type 0) (a : Answer) (status : Status) (before now : Option (List ℕ)) → MayAnswer files command shelf a → Ends status a → (status ≢ WriteFault → now ≡ grown before (text_of a)) → (status ≡ WriteFault → out ⊎ notes)
-    → IfSome files (λ fs. (model bytes : List ℕ) (source : Source) → command ≡ Some (SmvToBtor model) → file_at fs model ≡ Some bytes → Accepts bytes source → (shelf → ⊥) → (out → ⊥) → (notes → ⊥) → status ≢ NoMemory → (status ≡ Done) × ((text : List ℕ) × (now ≡ grown before text) × TranslatesTo source text))
+    → IfSome files (λ fs. (model bytes : List ℕ) (source : PlainSource) → command ≡ Some (SmvToBtor model) → file_at fs model ≡ Some bytes → Accepts bytes source → (shelf → ⊥) → (out → ⊥) → (notes → ⊥) → status ≢ NoMemory → (status ≡ Done) × ((text : List ℕ) × (now ≡ grown before text) × TranslatesTo source text))
 run_translates None command shelf out notes a status before now m ends taken w = tt
 run_translates (Some fs) command shelf out notes a status before now m ends taken w = λ model bytes source is there acc s o n memory.
-    let once = same_answer command fs a (Writes (btor_text source)) (defined fs command shelf a m s) (accepted_answer fs command model bytes source is there acc) in
+    let once = same_answer command fs a (Writes (btor_text acc.0)) (defined fs command shelf a m s) (accepted_answer fs command model bytes acc.0 is there (source, acc.1)) in
     let whole : status ≢ WriteFault = λ f. elim (w f) [ inl r ↦ o r | inr r ↦ n r ] in
     elim ends [
-      | inl e ↦ (e ∙ once.0, (btor_text source, taken whole ∙ ap (grown before) once.1, text_stands bytes source acc))
+      | inl e ↦ (e ∙ once.0, (btor_text acc.0, taken whole ∙ ap (grown before) once.1, text_stands bytes source acc.0 acc.1))
       | inr f ↦ absurd (whole f)
     ]

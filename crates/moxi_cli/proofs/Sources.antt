@@ -1,4 +1,4 @@
--- Sources are spelled once, and what is written for one stands for it.
+-- Models are spelled once, and what is written for one stands for it.
 use Rattle.std.proofs.Common.{◌≡◌, ℕ, Bool, ◌<◌, ◌≤◌, ◌⊎◌, true, false, List, length, refl, sym, ap, ◌∙◌, subst, arith, inl, inr, Option, Some, None}
 use Rattle.text_core.specs.declared.place.Refusal.{Refusal}
 use Rattle.smv_text.specs.declared.token.Token.{Token}
@@ -21,20 +21,21 @@ use Rattle.moxi_cli.specs.Formulas.{Source, Below}
 use Rattle.moxi_cli.specs.Form.{form_of, few_items}
 use Rattle.moxi_cli.specs.Lines.{line_count, lines_of}
 use Rattle.moxi_cli.specs.Headline.{Translates}
-use Rattle.moxi_cli.specs.Translation.{IsModel, IsReadModel, Accepts, IsSmvRefusal, not_built, TranslatesTo, btor_text, most_tokens, has_no_brackets}
+use Rattle.moxi_cli.specs.Translation.{IsModel, IsReadModel, IsFormed, HasForm, Accepts, IsSmvRefusal, not_built, TranslatesTo, btor_text, most_tokens, has_no_brackets}
 use Rattle.moxi_cli.proofs.Within.{Fits, form_fits, form_is_few}
 use Rattle.moxi_cli.proofs.Both as both
+use Rattle.moxi_cli.proofs.FormRuns.{translated}
 
--- an accepted source is over few tokens
-fits : (bytes : List ℕ) (source : Source) (a : Accepts bytes source) → Fits (length a.is_model.tokens) source
-fits bytes source a = form_fits a.model.modules a.is_model.tokens source a.is_model.spelled.0 a.form
+-- a form that bytes have is over few tokens
+fits : (bytes : List ℕ) (form : Source) (a : HasForm bytes form) → Fits (length a.1.is_model.tokens) form
+fits bytes form a = form_fits a.0.modules a.1.is_model.tokens form a.1.is_model.spelled.0 a.1.formed
 
-pub below_names : (bytes : List ℕ) (source : Source) → Accepts bytes source → Below (length source.names) source.invariant
-below_names bytes source a = (fits bytes source a).below
+pub below_names : (bytes : List ℕ) (form : Source) → HasForm bytes form → Below (length form.names) form.invariant
+below_names bytes form a = (fits bytes form a).below
 
--- the lines of a source have ids enough
-pub few_lines : (bytes : List ℕ) (source : Source) → Accepts bytes source → line_count source ≤ GREATEST_ID
-few_lines bytes source a = let f = fits bytes source a in omega (arith, f.names, f.size, a.few)
+-- its lines have ids enough
+pub few_lines : (bytes : List ℕ) (form : Source) → HasForm bytes form → line_count form ≤ GREATEST_ID
+few_lines bytes form a = let f = fits bytes form a in omega (arith, f.names, f.size, a.1.few)
 
 -- bytes spell one model
 same_source : (m n : PlainSource) → m.modules ≡ n.modules → m.end ≡ n.end → m ≡ n
@@ -51,19 +52,23 @@ same_form m n s t same e f = go (form_of n) (ap form_of (sym same) ∙ e) f
     go : (o : Option Source) → o ≡ Some s → o ≡ Some t → s ≡ t
     go o e f = cc
 
-pub one_source : (bytes : List ℕ) (s t : Source) → Accepts bytes s → Accepts bytes t → s ≡ t
-one_source bytes s t a b = same_form a.model b.model s t (same_model bytes a.model b.model a.is_model b.is_model) a.form b.form
+pub one_source : (bytes : List ℕ) (source other : PlainSource) → Accepts bytes source → Accepts bytes other → source ≡ other
+one_source bytes source other a b = same_model bytes source other a.1.is_model b.1.is_model
 
-printed_stands : (source : Source) → IsWellFormed (lines_of source) → Translates source (lines_of source) → TranslatesTo source (printed (lines_of source))
-printed_stands source w t =
-    let spells = printed_spells (lines_of source) w in
-    record { lines = lines_of source; spells = spells; only = λ others o. one_list o spells refl; translates = t }
+pub one_form : (bytes : List ℕ) (s t : Source) → HasForm bytes s → HasForm bytes t → s ≡ t
+one_form bytes s t a b = same_form a.0 b.0 s t (same_model bytes a.0 b.0 a.1.is_model b.1.is_model) a.1.formed b.1.formed
 
--- the text that is written for a source stands for it
-pub text_stands : (bytes : List ℕ) (source : Source) → Accepts bytes source → TranslatesTo source (btor_text source)
+printed_stands : (source : PlainSource) (form : Source) → IsWellFormed (lines_of form) → Translates source (lines_of form) → TranslatesTo source (printed (lines_of form))
+printed_stands source form w t =
+    let spells = printed_spells (lines_of form) w in
+    record { lines = lines_of form; spells = spells; only = λ others o. one_list o spells refl; translates = t }
+
+-- the text that is written for a model stands for it
+pub text_stands : (bytes : List ℕ) (source : PlainSource) (form : Source) → IsFormed bytes source form → TranslatesTo source (btor_text form)
 unfolding btor_text
-text_stands bytes source a =
-    let s = both.stands_for source (below_names bytes source a) (few_lines bytes source a) in printed_stands source s.0 s.1
+text_stands bytes source form a =
+    let s = both.stands_for form (below_names bytes form (source, a)) (few_lines bytes form (source, a)) in
+    printed_stands source form s.0 (translated source form (lines_of form) a.formed s.1)
 
 -- the refusal of the grammar, with the place of the text's end
 abbrev pub GrammarRefusal : List ℕ → List Token → Refusal → Type 0
@@ -87,31 +92,33 @@ one_smv_refusal bytes why other (inr (inr (m, is, none, e))) (inl b) = absurd (l
 one_smv_refusal bytes why other (inr (inr (m, is, none, e))) (inr (inl (tokens, lexed, r))) = absurd (grammar_no_model bytes other tokens m lexed r is)
 one_smv_refusal bytes why other (inr (inr (m, is, none, e))) (inr (inr (n, is', none', e'))) = e ∙ sym e'
 
--- and none where they spell a source
-pub not_refused : (bytes : List ℕ) (why : Refusal) (source : Source) → IsSmvRefusal bytes why → Accepts bytes source → ⊥
-not_refused bytes why source (inl a) accepted = laws.not_both bytes accepted.is_model.tokens why accepted.is_model.lexed a
-not_refused bytes why source (inr (inl (tokens, lexed, r))) accepted = grammar_no_model bytes why tokens accepted.model lexed r accepted.is_model
-not_refused bytes why source (inr (inr (m, is, none, e))) accepted = none source accepted
+-- and none where they have a form
+pub not_refused : (bytes : List ℕ) (why : Refusal) (form : Source) → IsSmvRefusal bytes why → HasForm bytes form → ⊥
+not_refused bytes why form (inl a) has = laws.not_both bytes has.1.is_model.tokens why has.1.is_model.lexed a
+not_refused bytes why form (inr (inl (tokens, lexed, r))) has = grammar_no_model bytes why tokens has.0 lexed r has.1.is_model
+not_refused bytes why form (inr (inr (m, is, none, e))) has = none form has
 
 -- what is said of a model that was read
 pub few_read : (bytes : List ℕ) (tokens : List Token) (m : PlainSource) → IsReadModel bytes tokens m → length tokens ≤ most_tokens → few_items m
 few_read bytes tokens m r few =
     form_is_few m.modules r.is_model.tokens r.is_model.spelled.0 (omega (arith, ap length r.tokens_are, few))
 
-pub accepted_read : (bytes : List ℕ) (tokens : List Token) (m : PlainSource) (s : Source) → IsReadModel bytes tokens m → length tokens ≤ most_tokens → has_no_brackets tokens ≡ true → form_of m ≡ Some s → Accepts bytes s
-accepted_read bytes tokens m s r few bare form = record {
-  model = m;
-  is_model = r.is_model;
-  few = subst (λ ts. length ts ≤ most_tokens) (sym r.tokens_are) few;
-  bare = ap has_no_brackets r.tokens_are ∙ bare;
-  form = form;
-}
+pub accepted_read : (bytes : List ℕ) (tokens : List Token) (m : PlainSource) (s : Source) → IsReadModel bytes tokens m → length tokens ≤ most_tokens → has_no_brackets tokens ≡ true → form_of m ≡ Some s → HasForm bytes s
+accepted_read bytes tokens m s r few bare formed = (
+  m,
+  record {
+    is_model = r.is_model;
+    few = subst (λ ts. length ts ≤ most_tokens) (sym r.tokens_are) few;
+    bare = ap has_no_brackets r.tokens_are ∙ bare;
+    formed = formed;
+  },
+)
 
--- whatever source the bytes spell, they spell this model and these tokens
-read_again : (bytes : List ℕ) (tokens : List Token) (m : PlainSource) (s : Source) → IsReadModel bytes tokens m → (a : Accepts bytes s) → (a.is_model.tokens ≡ tokens) × (form_of m ≡ Some s)
+-- whatever form the bytes have, they spell this model and these tokens
+read_again : (bytes : List ℕ) (tokens : List Token) (m : PlainSource) (s : Source) → IsReadModel bytes tokens m → (a : HasForm bytes s) → (a.1.is_model.tokens ≡ tokens) × (form_of m ≡ Some s)
 read_again bytes tokens m s r a = (
-  one_lexing bytes a.is_model.tokens r.is_model.tokens a.is_model.lexed r.is_model.lexed ∙ r.tokens_are,
-  ap form_of (same_model bytes m a.model r.is_model a.is_model) ∙ a.form,
+  one_lexing bytes a.1.is_model.tokens r.is_model.tokens a.1.is_model.lexed r.is_model.lexed ∙ r.tokens_are,
+  ap form_of (same_model bytes m a.0 r.is_model a.1.is_model) ∙ a.1.formed,
 )
 
 -- a model that isn't translated today
@@ -125,7 +132,7 @@ refused_read bytes tokens m why r is other = inr (inr (m, r.is_model, λ s a. no
     nothing : (o : Option Source) (s : Source) → o ≡ Some s → o ≡ None → ⊥
     nothing o s e f = cc
 
-    none : (s : Source) → (a : Accepts bytes s) → (most_tokens < length tokens) ⊎ ((has_no_brackets tokens ≡ false) ⊎ (form_of m ≡ None)) → ⊥
-    none s a (inl many) = omega (arith, many, a.few, ap length (read_again bytes tokens m s r a).0)
-    none s a (inr (inl bracketed)) = falsely (has_no_brackets tokens) (ap has_no_brackets (sym (read_again bytes tokens m s r a).0) ∙ a.bare) bracketed
+    none : (s : Source) → (a : HasForm bytes s) → (most_tokens < length tokens) ⊎ ((has_no_brackets tokens ≡ false) ⊎ (form_of m ≡ None)) → ⊥
+    none s a (inl many) = omega (arith, many, a.1.few, ap length (read_again bytes tokens m s r a).0)
+    none s a (inr (inl bracketed)) = falsely (has_no_brackets tokens) (ap has_no_brackets (sym (read_again bytes tokens m s r a).0) ∙ a.1.bare) bracketed
     none s a (inr (inr without)) = nothing (form_of m) s (read_again bytes tokens m s r a).1 without

@@ -14,7 +14,7 @@ use Rattle.btor_tree.specs.Fits.{plain_arg, IsWellFormed, width_at}
 use Rattle.btor_tree.specs.Frame.{word_at, Equation, Meets}
 use Rattle.btor_tree.proofs.Grows.{slice_get_end}
 use Rattle.btor_tree.proofs.Widths.{wide}
-use Rattle.moxi_cli.specs.Meaning.{State, negated, value_of, all_true}
+use Rattle.moxi_cli.specs.Truths.{Truths, negated, truth_of, all_true}
 use Rattle.moxi_cli.specs.Lines.{Made, made, with_line, with_not, with_signs, with_and, with_ands, with_formula, with_formulas, size, sizes, input_place}
 use Rattle.moxi_cli.specs.Stands.{Ready, Stands, AllStand, HasInputs, HaveInputs}
 use Rattle.moxi_cli.proofs.Grown.{grew_meets, grew_width}
@@ -26,8 +26,8 @@ use Rattle.moxi_cli.proofs.Heads.{bit}
 abbrev pub truth_at : List BitVector → ℕ → Bool
 truth_at row place = (word_at row place).bits == 1
 
--- the state that a frame's inputs spell
-abbrev pub state_of : List BitVector → State
+-- the truth values that a frame's inputs spell
+abbrev pub state_of : List BitVector → Truths
 state_of row v = truth_at row (input_place v)
 
 -- whether all places have the value true
@@ -111,7 +111,7 @@ truth_ands m (p ∷ places) row s a h met =
     ∙ and_and (truth_at row m.place) (truth_at row p) (all_at row places)
 
 mutual
-  pub truth : (lines : List Line) (f : Formula) (row : List BitVector) → Ready lines → HasInputs lines f → length lines + size f ≤ GREATEST_ID → Meets (with_formula lines f).lines row → truth_at row (with_formula lines f).place ≡ value_of (state_of row) f
+  pub truth : (lines : List Line) (f : Formula) (row : List BitVector) → Ready lines → HasInputs lines f → length lines + size f ≤ GREATEST_ID → Meets (with_formula lines f).lines row → truth_at row (with_formula lines f).place ≡ truth_of (state_of row) f
   truth lines (variable v) row r i h met = refl
   truth lines (negation n f) row r i h met =
       let m = with_formula lines f in
@@ -129,7 +129,7 @@ mutual
       let there : Meets a.lines row = grew_meets a.lines (with_ands first a.places).lines row (grew_ands first a.places) met in
       truth_ands first a.places row stands k.all (omega (arith, g.sized, k.sized)) met
       ∙ ap (λ b. b && all_at row a.places) (truth lines f row r i.0 (omega arith) (grew_meets m.lines a.lines row k.grew there))
-      ∙ ap (λ b. value_of (state_of row) f && b) (truth_all m.lines fs row g.stands.ready inputs (omega (arith, g.sized)) there)
+      ∙ ap (λ b. truth_of (state_of row) f && b) (truth_all m.lines fs row g.stands.ready inputs (omega (arith, g.sized)) there)
 
   pub truth_all : (lines : List Line) (fs : Formulas) (row : List BitVector) → Ready lines → HaveInputs lines fs → length lines + sizes fs ≤ GREATEST_ID → Meets (with_formulas lines fs).lines row → all_at row (with_formulas lines fs).places ≡ all_true (state_of row) fs
   truth_all lines no_formulas row r i h met = refl
@@ -140,4 +140,4 @@ mutual
       let a = with_formulas m.lines fs in
       let k = gives_all m.lines fs g.stands.ready inputs (omega (arith, g.sized)) in
       ap (λ b. b && all_at row a.places) (truth lines f row r i.0 (omega arith) (grew_meets m.lines a.lines row k.grew met))
-      ∙ ap (λ b. value_of (state_of row) f && b) (truth_all m.lines fs row g.stands.ready inputs (omega (arith, g.sized)) met)
+      ∙ ap (λ b. truth_of (state_of row) f && b) (truth_all m.lines fs row g.stands.ready inputs (omega (arith, g.sized)) met)

@@ -3,10 +3,11 @@ pub mod Formulas
 pub mod Form
 pub mod Trees
 pub mod Forming
-pub mod Meaning
+pub mod Truths
 pub mod Lines
 pub mod Stands
 pub mod Headline
+pub mod Matching
 pub mod Translation
 pub mod Outcome
 pub mod Stop

@@ -23,7 +23,7 @@ use Rattle.btor_witness.specs.Texts.{SpellsWitness, RefusesWitness}
 use Rattle.btor_witness.specs.Judging.{IsJudged}
 use Rattle.moxi_cli.specs.declared.judge.TheConstants.{BTOR_LIMIT}
 use Rattle.moxi_cli.specs.Notes.{judged_line}
-use Rattle.moxi_cli.specs.Translation.{Accepts, IsSmvRefusal, btor_text, IsServed}
+use Rattle.moxi_cli.specs.Translation.{HasForm, IsSmvRefusal, btor_text, IsServed}
 
 -- the refusal of an SMV text that is too long, at its first byte
 abbrev pub too_long : Refusal
@@ -45,7 +45,7 @@ abbrev pub GoesOn : Result (List ℕ) Answer → (List ℕ → Answer → Type 0
 GoesOn (Ok bytes) next answer = next bytes answer
 GoesOn (Err instead) next answer = answer ≡ instead
 
--- the BTOR2 text of the source that the bytes spell, or their refusal
+-- the BTOR2 text of the model that the bytes spell, or their refusal
 abbrev pub IsTranslation : List ℕ → Answer → Type 0
 IsTranslation bytes Misread = ⊥
 IsTranslation bytes (Unread name) = ⊥
@@ -53,7 +53,7 @@ IsTranslation bytes (Refuses refusal) = IsSmvRefusal bytes refusal
 IsTranslation bytes (SecondRefuses refusal) = ⊥
 IsTranslation bytes (Denies step clause) = ⊥
 IsTranslation bytes (Judges bad step) = ⊥
-IsTranslation bytes (Writes text) = (source : Source) × Accepts bytes source × (text ≡ btor_text source)
+IsTranslation bytes (Writes text) = (form : Source) × HasForm bytes form × (text ≡ btor_text form)
 
 abbrev pub btor_too_long : Refusal
 btor_too_long = record { kind = B 9; place = record { line = 1; column = 1; offset = 0 } }

@@ -1,4 +1,4 @@
--- Which sources bytes spell, and which text is written for one.
+-- Which models bytes spell, and which text is written for one.
 use Rattle.std.specs.Prelude.{◌≡◌, ◌⊎◌, ◌≤◌, ℕ, Bool, true, false, List, ◌∷◌, length, Option, Some, None}
 use Rattle.text_core.specs.declared.place.Kind.TheVariants.{S}
 use Rattle.text_core.specs.declared.place.Refusal.{Refusal}
@@ -51,46 +51,53 @@ pub record IsReadModel (bytes : List ℕ) (tokens : List Token) (model : PlainSo
   pub is_model : IsModel bytes model
   pub tokens_are : is_model.tokens ≡ tokens
 
--- the bytes spell this source of the first grammar
-pub record Accepts (bytes : List ℕ) (source : Source) : Type 0 where
-  pub model : PlainSource
-  pub is_model : IsModel bytes model
+-- the bytes spell this model, which has this form of the first grammar
+pub record IsFormed (bytes : List ℕ) (source : PlainSource) (form : Source) : Type 0 where
+  pub is_model : IsModel bytes source
   pub few : length is_model.tokens ≤ most_tokens
   pub bare : has_no_brackets is_model.tokens ≡ true
-  pub form : form_of model ≡ Some source
+  pub formed : form_of source ≡ Some form
+
+-- the bytes spell a model of this form
+abbrev pub HasForm : List ℕ → Source → Type 0
+HasForm bytes form = (source : PlainSource) × IsFormed bytes source form
+
+-- the bytes spell this model, and it is one of those that are translated today
+abbrev pub Accepts : List ℕ → PlainSource → Type 0
+Accepts bytes source = (form : Source) × IsFormed bytes source form
 
 -- the refusal of a text that spells a model, but none that is translated today
 abbrev pub not_built : Refusal
 not_built = record { kind = S 29; place = start }
 
--- the refusal of a text that spells no source: that of its words, or else of its grammar, or else that it isn't built
+-- the refusal of a text: that of its words, or else of its grammar, or else that its model isn't translated today
 abbrev pub IsSmvRefusal : List ℕ → Refusal → Type 0
 IsSmvRefusal bytes refusal =
     IsLexRefusal bytes refusal
     ⊎ ((tokens : List Token) × LexesTo bytes tokens × IsRefused (record { items = tokens; end = after start bytes }) (Bad refusal))
-    ⊎ ((model : PlainSource) × IsModel bytes model × ((source : Source) → Accepts bytes source → ⊥) × (refusal ≡ not_built))
+    ⊎ ((model : PlainSource) × IsModel bytes model × ((form : Source) → HasForm bytes form → ⊥) × (refusal ≡ not_built))
 
 -- why a model has no text: its refusal, or want of memory
 abbrev pub IsModelEnd : List ℕ → ModelEnd → Type 0
 IsModelEnd bytes (model.Refused refusal) = IsSmvRefusal bytes refusal
 IsModelEnd bytes model.NoMemory = Unit {0}
 
--- the text that is written for a source
+-- the text that is written for a model of this form
 unfoldable pub btor_text : Source → List ℕ
-btor_text source = printed (lines_of source)
+btor_text form = printed (lines_of form)
 
--- the text spells one list of lines, and these stand for the source
-pub record TranslatesTo (source : Source) (text : List ℕ) : Type 0 where
+-- the text spells one list of lines, and these stand for the model
+pub record TranslatesTo (source : PlainSource) (text : List ℕ) : Type 0 where
   pub lines : List Line
   pub spells : SpellsLines text lines
   pub only : (others : List Line) → SpellsLines text others → others ≡ lines
   pub translates : Translates source lines
 
--- the text that was written stands for the source that the file of this name spells
+-- the text that was written stands for the model that the file of this name spells
 pub record IsServed (files : Files) (name : List ℕ) (before now : Option (List ℕ)) : Type 0 where
   pub bytes : List ℕ
   pub there : file_at files name ≡ Some bytes
-  pub source : Source
+  pub source : PlainSource
   pub accepted : Accepts bytes source
   pub text : List ℕ
   pub written : now ≡ grown before text

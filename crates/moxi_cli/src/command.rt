@@ -1,7 +1,7 @@
 // The top call: reads the words, does what they say, and writes.
 ghost use Rattle.std.specs.Prelude.{◌≡◌, ◌≢◌, ◌⊎◌, ◌<◌, ◌≤◌, map, string_bytes, None, Some, IfSome, List, ℕ};
 ghost use Rattle.text_core.specs.Outside.{file_at, grown, Rose};
-ghost use Rattle.moxi_cli.specs.Formulas.{Source};
+ghost use Rattle.smv_text.specs.Tree.{PlainSource};
 ghost use Rattle.moxi_cli.specs.declared.words.Command.{Command};
 ghost use Rattle.moxi_cli.specs.Translation.{Accepts, TranslatesTo};
 ghost use Rattle.moxi_cli.specs.Words.{command_of};
@@ -25,10 +25,11 @@ pub fn run<F: Shelf, K: Sink, N: Sink>(
     out: &mut K,
     notes: &mut N,
 ) -> Status
-    // For every accepted source that the model file spells, where nothing fails: the text that was written spells one list
-    // of lines, and for each invariant and each number k the source has a run of k transitions whose last state breaks the
-    // invariant exactly where the lines have frames 0 to k with every constraint true and the bad line true in frame k.
-    ensures translates { IfSome (F.files shelf.old) (λ files. (model bytes : List ℕ) (source : Source)
+    // For every accepted model that the file spells, where nothing fails: the text that was written spells one list of
+    // lines, and for each invariant j and each number k the model has a run of k transitions whose last state breaks the
+    // invariant exactly where the lines have frames 0 to k with every constraint true and bad line j true in frame k. Runs
+    // and what they break are those of the whole language.
+    ensures translates { IfSome (F.files shelf.old) (λ files. (model bytes : List ℕ) (source : PlainSource)
         → command_of (map string_bytes words.now.items) ≡ Some (Command.SmvToBtor model) → file_at files model ≡ Some bytes → Accepts bytes source
         → ¬ Rose (F.faults shelf.old) (F.faults shelf.new) → ¬ Rose (K.faults out.old) (K.faults out.new) → ¬ Rose (N.faults notes.old) (N.faults notes.new)
         → result ≢ Status.NoMemory

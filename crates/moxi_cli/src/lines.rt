@@ -6,7 +6,7 @@ ghost use Rattle.btor_tree.specs.Fits.{IsWellFormed};
 ghost use Rattle.moxi_cli.specs.Trees.{plain, formulas_of, source_of};
 ghost use Rattle.moxi_cli.specs.Formulas.{Below};
 ghost use Rattle.moxi_cli.specs.Lines as spec;
-ghost use Rattle.moxi_cli.specs.Headline.{StandsFor};
+ghost use Rattle.moxi_cli.specs.Matching.{StandsFor};
 ghost use Rattle.moxi_cli.specs.Stands.{Ready, Stands, AllStand, HasInputs, HaveInputs};
 
 use crate::formula::{Formula, Source};
@@ -227,8 +227,8 @@ pub fn lines_of(alloc: Global, source: &Source) -> Result<Nodes, NoMemory>
     Ok(builder.done())
 }
 
-/// The lines of a source are well formed and stand for it: frames 0 to k with a bad line true in frame k are there
-/// exactly where a run of k transitions is whose last state breaks the invariant.
+/// The lines of a source are well formed and match it: frames 0 to k with the bad line true in frame k are there exactly
+/// where k + 1 times truth values are, the last of which make the invariant false.
 pub fn stands_for()
     ensures { (source : grammar.Source) → StandsFor source }
 {}

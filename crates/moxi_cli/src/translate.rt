@@ -1,13 +1,14 @@
 // From the bytes of a model to its BTOR2 text.
 ghost use Rattle.std.specs.Prelude.{◌≡◌, ◌≤◌, List, ℕ, length, IfOk, IfErr};
-ghost use Rattle.moxi_cli.specs.Formulas.{Source as PlainSource, Below};
+ghost use Rattle.moxi_cli.specs.Formulas.{Source as Form, Below};
+ghost use Rattle.smv_text.specs.Tree.{PlainSource};
 ghost use Rattle.btor_tree.specs.declared.lines.TheConstants.{GREATEST_ID};
 ghost use Rattle.moxi_cli.specs.Trees.{plain, source_of};
 ghost use Rattle.moxi_cli.specs.Lines.{line_count};
 ghost use Rattle.smv_text.specs.Bytes.{start, after};
 ghost use Rattle.smv_text.specs.Lexing.{LexesTo};
 ghost use Rattle.smv_text.specs.View.{plain_source};
-ghost use Rattle.moxi_cli.specs.Translation.{Accepts, IsModelEnd, IsReadModel, TranslatesTo, btor_text, has_no_brackets, is_section};
+ghost use Rattle.moxi_cli.specs.Translation.{Accepts, HasForm, IsFormed, IsModelEnd, IsReadModel, TranslatesTo, btor_text, has_no_brackets, is_section};
 
 use crate::answer::refusal;
 use crate::form::form_of;
@@ -48,7 +49,7 @@ impl From<NoMemory> for ModelEnd {
 /// The BTOR2 text of the source that the bytes spell, or their refusal.
 pub fn translate(alloc: Global, bytes: &[u8]) -> Result<Text, ModelEnd>
     requires { length bytes.now ≤ SMV_LIMIT }
-    ensures text { IfOk result (λ text. (source : PlainSource) × Accepts bytes.now source × (text ≡ btor_text source)) }
+    ensures text { IfOk result (λ text. (form : Form) × HasForm bytes.now form × (text ≡ btor_text form)) }
     ensures refused { IfErr result (IsModelEnd bytes.now) }
 {
     let source = read_source(alloc, bytes)?;
@@ -61,7 +62,7 @@ pub fn translate(alloc: Global, bytes: &[u8]) -> Result<Text, ModelEnd>
 // The source that the bytes spell. Its tokens are gone when it is there.
 fn read_source(alloc: Global, bytes: &[u8]) -> Result<Source, ModelEnd>
     requires { length bytes.now ≤ SMV_LIMIT }
-    ensures accepted { IfOk result (λ source. Accepts bytes.now (source_of source)) }
+    ensures accepted { IfOk result (λ source. HasForm bytes.now (source_of source)) }
     ensures refused { IfErr result (IsModelEnd bytes.now) }
 {
     match lex(alloc, bytes) {
@@ -77,7 +78,7 @@ fn source_of_tokens(alloc: Global, bytes: &[u8], tokens: &Tokens) -> Result<Sour
     requires lexed { LexesTo bytes.now tokens.now.items }
     requires end { tokens.now.end ≡ after start bytes.now }
     requires few { length tokens.now.items ≤ length bytes.now }
-    ensures accepted { IfOk result (λ source. Accepts bytes.now (source_of source)) }
+    ensures accepted { IfOk result (λ source. HasForm bytes.now (source_of source)) }
     ensures refused { IfErr result (IsModelEnd bytes.now) }
 {
     match parse(alloc, tokens) {
@@ -95,7 +96,7 @@ fn source_of_model(
     model: &Model,
 ) -> Result<Source, ModelEnd>
     requires model { IsReadModel bytes.now tokens.now.items (plain_source model.now) }
-    ensures accepted { IfOk result (λ source. Accepts bytes.now (source_of source)) }
+    ensures accepted { IfOk result (λ source. HasForm bytes.now (source_of source)) }
     ensures refused { IfErr result (IsModelEnd bytes.now) }
 {
     if tokens.len() > MOST_TOKENS {
@@ -143,12 +144,12 @@ fn text_of(alloc: Global, source: &Source) -> Result<Text, NoMemory>
     print_btor(alloc, &nodes)
 }
 
-/// No bytes spell two sources.
+/// No bytes spell two models.
 pub fn one_source()
     ensures { (bytes : List ℕ) (source other : PlainSource) → Accepts bytes source → Accepts bytes other → source ≡ other }
 {}
 
-/// What is written for an accepted source stands for it.
+/// What is written for an accepted model stands for it, by the meaning of the whole language.
 pub fn text_stands()
-    ensures { (bytes : List ℕ) (source : PlainSource) → Accepts bytes source → TranslatesTo source (btor_text source) }
+    ensures { (bytes : List ℕ) (source : PlainSource) (form : Form) → IsFormed bytes source form → TranslatesTo source (btor_text form) }
 {}
