@@ -14,10 +14,10 @@ use Rattle.smv_meaning.specs.Instances.{Instance}
 use Rattle.smv_meaning.specs.Names.{local, look, steps_of, formulas_in}
 use Rattle.smv_meaning.specs.Checks.{Check, check, first_failing}
 use Rattle.smv_meaning.specs.Phases.{Formula, formula_same, refers, reaches, cycle_check, actual_cycles, element_cycles, cycle_checks, over_instances, place_of}
-use Rattle.smv_meaning.specs.Settled.{Acyclic, cycle_checks_of}
+use Rattle.smv_meaning.specs.Settled.{is_formula, Acyclic, cycle_checks_of}
 use Rattle.smv_meaning.specs.Formulas.{Placed, actual_formulas, placed_definition, element_formulas, formulas_here, placed_formulas, formulas_of, number_in, number_or, references_of, reference_graph, refusal_of, IsFormulaOrder, IsFirstCycle}
 use Rattle.smv_meaning.proofs.Cycles.{In, same_is, same_self}
-use Rattle.smv_meaning.proofs.Ranked.{is_formula, key, actual_keys, element_keys, keys_in, keys_of, keys_counted, in_keys, within_keys, no_reference, reaches_none, cycles_are_checked_law}
+use Rattle.smv_meaning.proofs.Ranked.{key, actual_keys, element_keys, keys_in, keys_of, keys_counted, in_keys, within_keys, no_reference, reaches_none, cycles_are_checked_law}
 
 -- ---- numbers
 
