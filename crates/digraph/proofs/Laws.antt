@@ -21,16 +21,16 @@ mark_cases : (marks : List Mark) (k j : ℕ) (m : Mark) → k < length marks
     → ((j ≡ k) × (slice_index_or (set marks k m) j New ≡ m)) ⊎ ((j ≢ k) × (slice_index_or (set marks k m) j New ≡ slice_index_or marks j New))
 mark_cases marks k j m l =
     elim (eqb_tells j k) [
-    inl e ↦ inl (e.1, ap (λ i. slice_index_or (set marks k m) i New) e.1 ∙ get_or-set_same marks k m New l)
-    | inr d ↦ inr (d.1, get_or-set_other marks k j m New d.1)
+      | inl e ↦ inl (e.1, ap (λ i. slice_index_or (set marks k m) i New) e.1 ∙ get_or-set_same marks k m New l)
+      | inr d ↦ inr (d.1, get_or-set_other marks k j m New d.1)
     ]
 
 -- what was done stays so
 done_kept : (marks : List Mark) (k j : ℕ) (m : Mark) → k < length marks → (is_done marks k ≡ true → is_done_mark m ≡ true) → is_done marks j ≡ true → is_done (set marks k m) j ≡ true
 done_kept marks k j m l f h =
     elim (mark_cases marks k j m l) [
-    inl e ↦ let d : is_done marks k ≡ true = subst (λ (i : ℕ). is_done marks i ≡ true) e.0 h in ap is_done_mark e.1 ∙ f d
-    | inr e ↦ ap is_done_mark e.1 ∙ h
+      | inl e ↦ let d : is_done marks k ≡ true = subst (λ (i : ℕ). is_done marks i ≡ true) e.0 h in ap is_done_mark e.1 ∙ f d
+      | inr e ↦ ap is_done_mark e.1 ∙ h
     ]
 
 not_done : (m : Mark) → is_new_mark m ≡ true → is_done_mark m ≡ true → is_done_mark Open ≡ true
@@ -83,8 +83,8 @@ pub any_in : (f : ℕ → Bool) (xs : List ℕ) (x : ℕ) → is_in xs x ≡ tru
 any_in f [] x h e = cc
 any_in f (y ∷ ys) x h e =
     elim (or_cases (y == x) (is_in ys x) h) [
-    inl i ↦ let s : y ≡ x = same y x i in or_left (f y) (list_any f ys) (ap f s ∙ e)
-    | inr m ↦ or_right (f y) (list_any f ys) (any_in f ys x m e)
+      | inl i ↦ let s : y ≡ x = same y x i in or_left (f y) (list_any f ys) (ap f s ∙ e)
+      | inr m ↦ or_right (f y) (list_any f ys) (any_in f ys x m e)
     ]
 
 pub one_edge : (g : NodeLists) (k m : ℕ) → is_in (next_of g k) m ≡ true → leads g 1 k m ≡ true
@@ -106,15 +106,15 @@ path_leads g j (i ∷ ks) k m h e =
 path_returns : (g : NodeLists) (ks : List ℕ) (k m : ℕ) → is_path g (ks ++ k ∷ []) ≡ true → is_in (ks ++ k ∷ []) m ≡ true → is_in (next_of g k) m ≡ true → (n : ℕ) × (leads g n m m ≡ true)
 path_returns g [] k m h i e =
     elim (or_cases (k == m) false i) [
-    inl s ↦ (1, subst (λ (j : ℕ). leads g 1 j m ≡ true) (same k m s) (one_edge g k m e))
-    | inr c ↦ cc
+      | inl s ↦ (1, subst (λ (j : ℕ). leads g 1 j m ≡ true) (same k m s) (one_edge g k m e))
+      | inr c ↦ cc
     ]
 path_returns g (j ∷ ks) k m h i e =
     elim (or_cases (j == m) (is_in (ks ++ k ∷ []) m) i) [
-    inl s ↦
-    let way = path_leads g j ks k m h e in
-    (way.0, subst (λ (i : ℕ). leads g way.0 i m ≡ true) (same j m s) way.1)
-    | inr c ↦ path_returns g ks k m (path_tail g j ks k h) c e
+      | inl s ↦
+          let way = path_leads g j ks k m h e in
+          (way.0, subst (λ (i : ℕ). leads g way.0 i m ≡ true) (same j m s) way.1)
+      | inr c ↦ path_returns g ks k m (path_tail g j ks k h) c e
     ]
 
 -- ---- steps
@@ -123,8 +123,8 @@ front_cases : (gone : List ℕ) (k j n : ℕ) → k < length gone
     → ((j ≡ k) × (slice_index_or (set gone k n) j 0 ≡ n)) ⊎ ((j ≢ k) × (slice_index_or (set gone k n) j 0 ≡ slice_index_or gone j 0))
 front_cases gone k j n l =
     elim (eqb_tells j k) [
-    inl e ↦ inl (e.1, ap (λ i. slice_index_or (set gone k n) i 0) e.1 ∙ get_or-set_same gone k n 0 l)
-    | inr d ↦ inr (d.1, get_or-set_other gone k j n 0 d.1)
+      | inl e ↦ inl (e.1, ap (λ i. slice_index_or (set gone k n) i 0) e.1 ∙ get_or-set_same gone k n 0 l)
+      | inr d ↦ inr (d.1, get_or-set_other gone k j n 0 d.1)
     ]
 
 -- the counts of edges that lead to what is done, with one written anew
@@ -133,21 +133,21 @@ fronts_kept : (g : NodeLists) (s : State) (marks : List Mark) (k n : ℕ) → Is
     → (j : ℕ) → fronts_done g marks j (slice_index_or (set s.gone k n) j 0) ≡ true
 fronts_kept g s marks k n h l more d j =
     elim (front_cases s.gone k j n (omega (arith, h.counted, l))) [
-    inl e ↦
-    let here : fronts_done g s.marks j (slice_index_or (set s.gone k n) j 0) ≡ true =
-        subst (λ (i : ℕ). fronts_done g s.marks j i ≡ true) (sym e.1) (subst (λ (i : ℕ). fronts_done g s.marks i n ≡ true) (sym e.0) d) in
-    all_more (is_done s.marks) (is_done marks) more (take (slice_index_or (set s.gone k n) j 0) (next_of g j)) here
-    | inr e ↦
-    let here : fronts_done g s.marks j (slice_index_or (set s.gone k n) j 0) ≡ true =
-        subst (λ (i : ℕ). fronts_done g s.marks j i ≡ true) (sym e.1) (h.fronts j) in
-    all_more (is_done s.marks) (is_done marks) more (take (slice_index_or (set s.gone k n) j 0) (next_of g j)) here
+      | inl e ↦
+          let here : fronts_done g s.marks j (slice_index_or (set s.gone k n) j 0) ≡ true =
+          subst (λ (i : ℕ). fronts_done g s.marks j i ≡ true) (sym e.1) (subst (λ (i : ℕ). fronts_done g s.marks i n ≡ true) (sym e.0) d) in
+          all_more (is_done s.marks) (is_done marks) more (take (slice_index_or (set s.gone k n) j 0) (next_of g j)) here
+      | inr e ↦
+          let here : fronts_done g s.marks j (slice_index_or (set s.gone k n) j 0) ≡ true =
+          subst (λ (i : ℕ). fronts_done g s.marks j i ≡ true) (sym e.1) (h.fronts j) in
+          all_more (is_done s.marks) (is_done marks) more (take (slice_index_or (set s.gone k n) j 0) (next_of g j)) here
     ]
 
 low_kept : (g : NodeLists) (s : State) (k n : ℕ) → IsSearch g s → k < length g → n ≤ length (next_of g k) → (j : ℕ) → slice_index_or (set s.gone k n) j 0 ≤ length (next_of g j)
 low_kept g s k n h l low j =
     elim (front_cases s.gone k j n (omega (arith, h.counted, l))) [
-    inl e ↦ subst (λ (i : ℕ). i ≤ length (next_of g j)) (sym e.1) (subst (λ (i : ℕ). n ≤ length (next_of g i)) (sym e.0) low)
-    | inr e ↦ subst (λ (i : ℕ). i ≤ length (next_of g j)) (sym e.1) (h.low j)
+      | inl e ↦ subst (λ (i : ℕ). i ≤ length (next_of g j)) (sym e.1) (subst (λ (i : ℕ). n ≤ length (next_of g i)) (sym e.0) low)
+      | inr e ↦ subst (λ (i : ℕ). i ≤ length (next_of g j)) (sym e.1) (h.low j)
     ]
 
 pub ltb_lt : (a b : ℕ) → nat_lt a b ≡ true → a < b
@@ -169,7 +169,7 @@ closes g s ks k n h e len d =
     let lm : k < length s.marks = omega (arith, h.marked, l) in
     let more : (j : ℕ) → is_done s.marks j ≡ true → is_done (set s.marks k Done) j ≡ true = λ j i. done_kept s.marks k j Done lm (λ x. refl) i in
     let all_done : list_all (is_done s.marks) (next_of g k) ≡ true =
-        subst (λ (xs : List ℕ). list_all (is_done s.marks) xs ≡ true) (take_all n (next_of g k) (omega (arith, len))) d in
+    subst (λ (xs : List ℕ). list_all (is_done s.marks) xs ≡ true) (take_all n (next_of g k) (omega (arith, len))) d in
     record {
       marked = length-set s.marks k Done ∙ h.marked;
       counted = length-set s.gone k n ∙ h.counted;
@@ -178,16 +178,16 @@ closes g s ks k n h e len d =
       low = low_kept g s k n h l (omega (arith, len));
       fronts = fronts_kept g s (set s.marks k Done) k n h l more d;
       done = λ j i. elim (mark_cases s.marks k j Done lm) [
-        inl c ↦ subst (λ (x : ℕ). is_in (s.order ++ k ∷ []) x ≡ true) (sym c.0) (in_end s.order k)
+        | inl c ↦ subst (λ (x : ℕ). is_in (s.order ++ k ∷ []) x ≡ true) (sym c.0) (in_end s.order k)
         | inr c ↦ in_front s.order k j (h.done j (sym (ap is_done_mark c.1) ∙ i))
-        ];
+      ];
       opens = λ j i. elim (mark_cases s.marks k j Done lm) [
-        inl c ↦ let o : is_open_mark Done ≡ true = sym (ap is_open_mark c.1) ∙ i in cc
+        | inl c ↦ let o : is_open_mark Done ≡ true = sym (ap is_open_mark c.1) ∙ i in cc
         | inr c ↦ elim (in_cases ks k j (subst (λ (p : List ℕ). is_in p j ≡ true) e (h.opens j (sym (ap is_open_mark c.1) ∙ i)))) [
-          inl m ↦ m
+          | inl m ↦ m
           | inr m ↦ absurd (c.0 (sym m))
-          ]
-        ];
+        ]
+      ];
       falls = falls_end g [] s.order k h.falls (all_more (is_done s.marks) (is_in s.order) h.done (next_of g k) all_done);
       path = path_front g ks k (subst (λ (p : List ℕ). is_path g p ≡ true) e h.path);
     }
@@ -209,13 +209,13 @@ opens_node g s ks marks k h l fresh within way keep gone counted low fronts =
       low = low;
       fronts = λ j. all_more (is_done s.marks) (is_done (set s.marks k Open)) more (take (slice_index_or gone j 0) (next_of g j)) (fronts j);
       done = λ j i. elim (mark_cases s.marks k j Open lm) [
-        inl c ↦ let o : is_done_mark Open ≡ true = sym (ap is_done_mark c.1) ∙ i in cc
+        | inl c ↦ let o : is_done_mark Open ≡ true = sym (ap is_done_mark c.1) ∙ i in cc
         | inr c ↦ h.done j (sym (ap is_done_mark c.1) ∙ i)
-        ];
+      ];
       opens = λ j i. elim (mark_cases s.marks k j Open lm) [
-        inl c ↦ subst (λ (x : ℕ). is_in (ks ++ k ∷ []) x ≡ true) (sym c.0) (in_end ks k)
+        | inl c ↦ subst (λ (x : ℕ). is_in (ks ++ k ∷ []) x ≡ true) (sym c.0) (in_end ks k)
         | inr c ↦ in_front ks k j (keep j (h.opens j (sym (ap is_open_mark c.1) ∙ i)))
-        ];
+      ];
       falls = h.falls;
       path = way;
     }
@@ -236,7 +236,7 @@ turns g s ks k n next h e low d i l fresh =
 pub starts : (g : NodeLists) (s : State) (k : ℕ) → IsSearch g s → s.path ≡ [] → k < length g → is_new s.marks k ≡ true → IsSearch g (opened s k)
 starts g s k h e l fresh =
     let there : IsSearch g (record s { marks = set s.marks k Open; path = [] ++ k ∷ []; gone = s.gone }) =
-        opens_node g s [] s.marks k h l fresh refl refl (λ j m. subst (λ (p : List ℕ). is_in p j ≡ true) e m) s.gone h.counted h.low h.fronts in
+    opens_node g s [] s.marks k h l fresh refl refl (λ j m. subst (λ (p : List ℕ). is_in p j ≡ true) e m) s.gone h.counted h.low h.fronts in
     let P : List ℕ → Type 0 = λ p. IsSearch g (record s { marks = set s.marks k Open; path = p ++ k ∷ [] }) in
     subst P (sym e) there
 
@@ -267,8 +267,8 @@ turn_lighter g s ks k n next h e l fresh =
 pub keeps_set : (g : NodeLists) (s : State) (k : ℕ) (m : Mark) → k < length s.marks → is_new_mark m ≡ false → (j : ℕ) → is_new (set s.marks k m) j ≡ true → is_new s.marks j ≡ true
 keeps_set g s k m l old j h =
     elim (mark_cases s.marks k j m l) [
-    inl c ↦ let o : is_new_mark m ≡ true = sym (ap is_new_mark c.1) ∙ h in cc
-    | inr c ↦ sym (ap is_new_mark c.1) ∙ h
+      | inl c ↦ let o : is_new_mark m ≡ true = sym (ap is_new_mark c.1) ∙ h in cc
+      | inr c ↦ sym (ap is_new_mark c.1) ∙ h
     ]
 
 -- ---- what the code reads
@@ -298,7 +298,7 @@ pub closed_step : (g : NodeLists) (s t : State) (end : End) → IsSearch g s →
 closed_step g s t end h e all =
     let T = taken s t.path end.node end.edge in
     let there : IsStep g s (closed T end.node) Went =
-        (closes g s t.path end.node end.edge h e.ends all e.done, close_lighter g s t.path end.node end.edge h e.ends, keeps_set g s end.node Done (omega (arith, h.marked, e.there)) refl) in
+    (closes g s t.path end.node end.edge h e.ends all e.done, close_lighter g s t.path end.node end.edge h e.ends, keeps_set g s end.node Done (omega (arith, h.marked, e.there)) refl) in
     subst (λ (u : State). IsStep g s (closed u end.node) Went) (sym e.takes) there
 
 -- the target of the edge at which the scan stopped
@@ -333,8 +333,9 @@ turned_step g s t end x row gr h e r off is o =
     let there : slice_index_or (next_of g end.node) end.edge 0 ≡ x = ap (λ xs. slice_index_or xs end.edge 0) same ∙ read_is row end.edge x 0 low is in
     let shut : is_open s.marks x ≡ false = subst (λ (u : State). is_open u.marks x ≡ false) e.takes o in
     let fresh : is_new s.marks x ≡ true = is_fresh (slice_index_or s.marks x New) (subst (λ (y : ℕ). is_done s.marks y ≡ false) there undone) shut in
-    let step : IsStep g s (turned (taken s t.path end.node end.edge) end.node x) Went =
-        (turns g s t.path end.node end.edge x h e.ends e.low e.done (next_in g end.node end.edge x row same low is) l fresh
-        , turn_lighter g s t.path end.node end.edge x h e.ends l fresh
-        , keeps_set g s x Open (omega (arith, h.marked, l)) refl) in
+    let step : IsStep g s (turned (taken s t.path end.node end.edge) end.node x) Went = (
+      turns g s t.path end.node end.edge x h e.ends e.low e.done (next_in g end.node end.edge x row same low is) l fresh,
+      turn_lighter g s t.path end.node end.edge x h e.ends l fresh,
+      keeps_set g s x Open (omega (arith, h.marked, l)) refl,
+    ) in
     subst (λ (u : State). IsStep g s (turned u end.node x) Went) (sym e.takes) step

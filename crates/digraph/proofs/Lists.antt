@@ -57,8 +57,8 @@ pub all_at : (p : ℕ → Bool) (xs : List ℕ) (x : ℕ) → list_all p xs ≡ 
 all_at p [] x h g = cc
 all_at p (y ∷ ys) x h g =
     elim (or_cases (y == x) (is_in ys x) g) [
-    inl e ↦ let s : y ≡ x = same y x e in let k : p y ≡ true = and_left (p y) (list_all p ys) h in cc
-    | inr m ↦ all_at p ys x (and_right (p y) (list_all p ys) h) m
+      | inl e ↦ let s : y ≡ x = same y x e in let k : p y ≡ true = and_left (p y) (list_all p ys) h in cc
+      | inr m ↦ all_at p ys x (and_right (p y) (list_all p ys) h) m
     ]
 
 pub in_end : (xs : List ℕ) (x : ℕ) → is_in (xs ++ x ∷ []) x ≡ true
@@ -69,16 +69,16 @@ pub in_front : (xs : List ℕ) (y x : ℕ) → is_in xs x ≡ true → is_in (xs
 in_front [] y x h = cc
 in_front (z ∷ zs) y x h =
     elim (or_cases (z == x) (is_in zs x) h) [
-    inl e ↦ or_left (z == x) (is_in (zs ++ y ∷ []) x) e
-    | inr m ↦ or_right (z == x) (is_in (zs ++ y ∷ []) x) (in_front zs y x m)
+      | inl e ↦ or_left (z == x) (is_in (zs ++ y ∷ []) x) e
+      | inr m ↦ or_right (z == x) (is_in (zs ++ y ∷ []) x) (in_front zs y x m)
     ]
 
 pub in_cases : (xs : List ℕ) (y x : ℕ) → is_in (xs ++ y ∷ []) x ≡ true → (is_in xs x ≡ true) ⊎ (y ≡ x)
 in_cases [] y x h = elim (or_cases (y == x) false h) [ inl e ↦ inr (same y x e) | inr m ↦ cc ]
 in_cases (z ∷ zs) y x h =
     elim (or_cases (z == x) (is_in (zs ++ y ∷ []) x) h) [
-    inl e ↦ inl (or_left (z == x) (is_in zs x) e)
-    | inr m ↦ elim (in_cases zs y x m) [ inl k ↦ inl (or_right (z == x) (is_in zs x) k) | inr k ↦ inr k ]
+      | inl e ↦ inl (or_left (z == x) (is_in zs x) e)
+      | inr m ↦ elim (in_cases zs y x m) [ inl k ↦ inl (or_right (z == x) (is_in zs x) k) | inr k ↦ inr k ]
     ]
 
 pub at_in : (xs : List ℕ) (i d : ℕ) → i < length xs → is_in xs (slice_index_or xs i d) ≡ true

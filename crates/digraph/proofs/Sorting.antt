@@ -22,9 +22,9 @@ pub sorts : (g : NodeLists) (s : State) → IsSearch g s → s.path ≡ [] → (
 sorts g s h e met = record {
   within = h.order_within;
   whole = λ k l. elim (bool_cases (is_open s.marks k)) [
-    inl o ↦ let i : is_in [] k ≡ true = subst (λ (p : List ℕ). is_in p k ≡ true) e (h.opens k o) in cc
+    | inl o ↦ let i : is_in [] k ≡ true = subst (λ (p : List ℕ). is_in p k ≡ true) e (h.opens k o) in cc
     | inr o ↦ h.done k (known_done (slice_index_or s.marks k New) (met k l) o)
-    ];
+  ];
   falls = h.falls;
 }
 
@@ -36,16 +36,16 @@ record IsFree (g : NodeLists) (done : List ℕ) : Type 0 where
 free_end : (g : NodeLists) (done : List ℕ) (k : ℕ) → IsFree g done → list_all (is_in done) (next_of g k) ≡ true → IsFree g (done ++ k ∷ [])
 free_end g done k h all = record {
   closed = λ j i. all_more (is_in done) (is_in (done ++ k ∷ [])) (λ x m. in_front done k x m) (next_of g j) (elim (in_cases done k j i) [
-    inl m ↦ h.closed j m
+    | inl m ↦ h.closed j m
     | inr m ↦ subst (λ (x : ℕ). list_all (is_in done) (next_of g x) ≡ true) m all
-    ]);
+  ]);
   free = λ n j i. elim (bool_cases (is_in done j)) [
-    inl m ↦ h.free n j m
+    | inl m ↦ h.free n j m
     | inr m ↦ elim (in_cases done k j i) [
-      inl x ↦ absurd (not_both (is_in done j) x m)
+      | inl x ↦ absurd (not_both (is_in done j) x m)
       | inr x ↦ closed_never g done j h.closed m n j (subst (λ (y : ℕ). list_all (is_in done) (next_of g y) ≡ true) x all)
-      ]
-    ];
+    ]
+  ];
 }
 
 append_none : (xs : List ℕ) → xs ++ [] ≡ xs
@@ -75,6 +75,6 @@ outside g n k e = elim (bool_cases (leads g n k k)) [ inl t ↦ absurd (nowhere 
 pub never_returns : (g : NodeLists) (order : List ℕ) → IsSorted g order → NeverReturns g
 never_returns g order h n k =
     elim (bool_cases (nat_lt k (length g))) [
-    inl t ↦ (free_all g [] order (free_none g) h.falls).free n k (h.whole k (ltb_lt k (length g) t))
-    | inr f ↦ outside g n k (get_or-eq_default g [] (not_below k (length g) f))
+      | inl t ↦ (free_all g [] order (free_none g) h.falls).free n k (h.whole k (ltb_lt k (length g) t))
+      | inr f ↦ outside g n k (get_or-eq_default g [] (not_below k (length g) f))
     ]

@@ -19,8 +19,8 @@ any_out : (f : ℕ → Bool) (xs : List ℕ) → list_any f xs ≡ true → (x :
 any_out f [] h = cc
 any_out f (x ∷ xs) h =
     elim (or_cases (f x) (list_any f xs) h) [
-    inl e ↦ (x, or_left (x == x) (is_in xs x) (same_back x x refl), e)
-    | inr m ↦ let more = any_out f xs m in (more.0, or_right (x == more.0) (is_in xs more.0) more.1, more.2)
+      | inl e ↦ (x, or_left (x == x) (is_in xs x) (same_back x x refl), e)
+      | inr m ↦ let more = any_out f xs m in (more.0, or_right (x == more.0) (is_in xs more.0) more.1, more.2)
     ]
 
 pub first_edge : (g : NodeLists) (n k m : ℕ) → leads g (suc n) k m ≡ true → (r : ℕ) × (is_in (next_of g k) r ≡ true) × ((r == m || leads g n r m) ≡ true)
@@ -40,8 +40,8 @@ longer g zero k m h = absurd (no_edges g k m h)
 longer g (suc n) k m h =
     let e = first_edge g n k m h in
     elim (or_cases (e.0 == m) (leads g n e.0 m) e.2) [
-    inl s ↦ through_here g (suc n) k e.0 m e.1 s
-    | inr l ↦ edge_more g (suc n) k e.0 m e.1 (longer g n e.0 m l)
+      | inl s ↦ through_here g (suc n) k e.0 m e.1 s
+      | inr l ↦ edge_more g (suc n) k e.0 m e.1 (longer g n e.0 m l)
     ]
 
 pub longest : (g : NodeLists) (d n k m : ℕ) → leads g n k m ≡ true → leads g (d + n) k m ≡ true
@@ -57,10 +57,10 @@ onward g zero k r m h e = absurd (no_edges g k r h)
 onward g (suc n) k r m h e =
     let f = first_edge g n k r h in
     elim (or_cases (f.0 == r) (leads g n f.0 r) f.2) [
-    inl s ↦
-    let here : is_in (next_of g f.0) m ≡ true = subst (λ (i : ℕ). is_in (next_of g i) m ≡ true) (sym (same f.0 r s)) e in
-    edge_more g (suc n) k f.0 m f.1 (through_here g n f.0 m m here (same_back m m refl))
-    | inr l ↦ edge_more g (suc n) k f.0 m f.1 (onward g n f.0 r m l e)
+      | inl s ↦
+          let here : is_in (next_of g f.0) m ≡ true = subst (λ (i : ℕ). is_in (next_of g i) m ≡ true) (sym (same f.0 r s)) e in
+          edge_more g (suc n) k f.0 m f.1 (through_here g n f.0 m m here (same_back m m refl))
+      | inr l ↦ edge_more g (suc n) k f.0 m f.1 (onward g n f.0 r m l e)
     ]
 
 never_so : (g : NodeLists) (all : List ℕ) (m : ℕ) → ((k : ℕ) → is_in all k ≡ true → list_all (is_in all) (next_of g k) ≡ true)
@@ -70,8 +70,8 @@ never_so g all m closed out (suc n) k h t =
     let e = first_edge g n k m t in
     let r : is_in all e.0 ≡ true = all_at (is_in all) (next_of g k) e.0 h e.1 in
     elim (or_cases (e.0 == m) (leads g n e.0 m) e.2) [
-    inl s ↦ not_both (is_in all m) (subst (λ (i : ℕ). is_in all i ≡ true) (same e.0 m s) r) out
-    | inr l ↦ never_so g all m closed out n e.0 (closed e.0 r) l
+      | inl s ↦ not_both (is_in all m) (subst (λ (i : ℕ). is_in all i ≡ true) (same e.0 m s) r) out
+      | inr l ↦ never_so g all m closed out n e.0 (closed e.0 r) l
     ]
 
 -- from a node of a closed list without m nothing leads to m
@@ -94,8 +94,8 @@ place_of : (xs : List ℕ) (x : ℕ) → is_in xs x ≡ true → (p : ℕ) × (p
 place_of [] x h = cc
 place_of (y ∷ ys) x h =
     elim (or_cases (y == x) (is_in ys x) h) [
-    inl e ↦ (0, omega arith, same y x e)
-    | inr m ↦ let more = place_of ys x m in (suc more.0, omega (arith, more.1), more.2)
+      | inl e ↦ (0, omega arith, same y x e)
+      | inr m ↦ let more = place_of ys x m in (suc more.0, omega (arith, more.1), more.2)
     ]
 
 -- what is in a list is so in a longer one with the same front
@@ -124,28 +124,28 @@ adds_new g start k v h l other near f =
       within = all_end (λ i. nat_lt i (length g)) v.queue k h.within (lt_ltb k (length g) l);
       counted = omega (arith, w, z, q, h.counted);
       found = λ j m. elim (eqb_tells j k) [
-        inl e ↦ subst (λ (i : ℕ). is_in (v.queue ++ k ∷ []) i ≡ true) (sym e.1) (in_end v.queue k)
+        | inl e ↦ subst (λ (i : ℕ). is_in (v.queue ++ k ∷ []) i ≡ true) (sym e.1) (in_end v.queue k)
         | inr d ↦ in_front v.queue k j (h.found j (sym (get_or-set_other v.met k j true false d.1) ∙ m))
-        ];
+      ];
       others = all_end (λ i. not (i == start)) v.queue k h.others (ap not other);
       near = λ p s. elim (eqb_tells p (length v.queue)) [
-        inl e ↦
-        let at : slice_index_or (v.queue ++ k ∷ []) p 0 ≡ k = ap (λ i. slice_index_or (v.queue ++ k ∷ []) i 0) e.1 ∙ last_at v.queue k in
-        let P : ℕ → ℕ → Type 0 = λ i j. leads g (i + 1) start j ≡ true in
-        subst (λ (j : ℕ). P p j) (sym at) (subst (λ (i : ℕ). P i k) (sym e.1) near)
+        | inl e ↦
+            let at : slice_index_or (v.queue ++ k ∷ []) p 0 ≡ k = ap (λ i. slice_index_or (v.queue ++ k ∷ []) i 0) e.1 ∙ last_at v.queue k in
+            let P : ℕ → ℕ → Type 0 = λ i j. leads g (i + 1) start j ≡ true in
+            subst (λ (j : ℕ). P p j) (sym at) (subst (λ (i : ℕ). P i k) (sym e.1) near)
         | inr d ↦
-        let low : p < length v.queue = omega (arith, s, q, d.1) in
-        subst (λ (j : ℕ). leads g (p + 1) start j ≡ true) (sym (get_or_append_left v.queue (k ∷ []) 0 p low)) (h.near p low)
-        ];
+            let low : p < length v.queue = omega (arith, s, q, d.1) in
+            subst (λ (j : ℕ). leads g (p + 1) start j ≡ true) (sym (get_or_append_left v.queue (k ∷ []) 0 p low)) (h.near p low)
+      ];
     }
 
 pub adds : (g : NodeLists) (start k : ℕ) (v : Visited) → IsVisit g start v → k < length g → (k == start) ≡ false → leads g (length v.queue + 1) start k ≡ true → IsAdded g start k v (added v k)
 adds g start k v h l other near =
     elim (bool_cases (slice_index_or v.met k false)) [
-    inl t ↦ subst (λ (b : Bool). IsAdded g start k v (if b then v else record { met = set v.met k true; queue = v.queue ++ k ∷ [] })) (sym t)
-      (record { visit = h; there = h.found k t; extends = extends_refl v })
-    | inr f ↦ subst (λ (b : Bool). IsAdded g start k v (if b then v else record { met = set v.met k true; queue = v.queue ++ k ∷ [] })) (sym f)
-      (record { visit = adds_new g start k v h l other near f; there = in_end v.queue k; extends = extends_end v k (set v.met k true) })
+      | inl t ↦ subst (λ (b : Bool). IsAdded g start k v (if b then v else record { met = set v.met k true; queue = v.queue ++ k ∷ [] })) (sym t)
+          (record { visit = h; there = h.found k t; extends = extends_refl v })
+      | inr f ↦ subst (λ (b : Bool). IsAdded g start k v (if b then v else record { met = set v.met k true; queue = v.queue ++ k ∷ [] })) (sym f)
+          (record { visit = adds_new g start k v h l other near f; there = in_end v.queue k; extends = extends_end v k (set v.met k true) })
     ]
 
 -- ---- bounds
@@ -208,13 +208,13 @@ pub done_stays : (g : NodeLists) (start p u : ℕ) (v w : Visited) → p < lengt
     → (q : ℕ) → q < p + 1 → list_all (is_in w.queue) (next_of g (slice_index_or w.queue q 0)) ≡ true
 done_stays g start p u v w l e s done q h =
     elim (eqb_tells q p) [
-    inl x ↦
-    let at : u ≡ slice_index_or w.queue q 0 = e ∙ sym (s.extends.kept p l) ∙ ap (λ i. slice_index_or w.queue i 0) (sym x.1) in
-    subst (λ (i : ℕ). list_all (is_in w.queue) (next_of g i) ≡ true) at s.all
-    | inr x ↦
-    let low : q < p = omega (arith, h, x.1) in
-    let at : slice_index_or v.queue q 0 ≡ slice_index_or w.queue q 0 = sym (s.extends.kept q (omega (arith, low, l))) in
-    subst (λ (i : ℕ). list_all (is_in w.queue) (next_of g i) ≡ true) at (first_stays g (slice_index_or v.queue q 0) v w s.extends (done q low))
+      | inl x ↦
+          let at : u ≡ slice_index_or w.queue q 0 = e ∙ sym (s.extends.kept p l) ∙ ap (λ i. slice_index_or w.queue i 0) (sym x.1) in
+          subst (λ (i : ℕ). list_all (is_in w.queue) (next_of g i) ≡ true) at s.all
+      | inr x ↦
+          let low : q < p = omega (arith, h, x.1) in
+          let at : slice_index_or v.queue q 0 ≡ slice_index_or w.queue q 0 = sym (s.extends.kept q (omega (arith, low, l))) in
+          subst (λ (i : ℕ). list_all (is_in w.queue) (next_of g i) ≡ true) at (first_stays g (slice_index_or v.queue q 0) v w s.extends (done q low))
     ]
 
 flip : (b : Bool) → not b ≡ true → b ≡ false
@@ -229,8 +229,8 @@ none_of : (xs : List ℕ) (x : ℕ) → list_all (λ k. not (k == x)) xs ≡ tru
 none_of [] x h = refl
 none_of (y ∷ ys) x h =
     elim (bool_cases (y == x)) [
-    inl t ↦ let f : not (y == x) ≡ true = and_left (not (y == x)) (list_all (λ k. not (k == x)) ys) h in absurd (not_both (y == x) t (flip (y == x) f))
-    | inr f ↦ either (y == x) (is_in ys x) f (none_of ys x (and_right (not (y == x)) (list_all (λ k. not (k == x)) ys) h))
+      | inl t ↦ let f : not (y == x) ≡ true = and_left (not (y == x)) (list_all (λ k. not (k == x)) ys) h in absurd (not_both (y == x) t (flip (y == x) f))
+      | inr f ↦ either (y == x) (is_in ys x) f (none_of ys x (and_right (not (y == x)) (list_all (λ k. not (k == x)) ys) h))
     ]
 
 pub never_back : (g : NodeLists) (start p : ℕ) (v : Visited) → IsVisit g start v → length v.queue ≤ p → list_all (is_in v.queue) (next_of g start) ≡ true

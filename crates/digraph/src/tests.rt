@@ -51,9 +51,15 @@ fn told(alloc: Global, order: &Order) -> Result<Text, NoMemory> {
 fn nodes_stand_after_those_to_which_they_lead(rt: HostRuntime) -> Result<(), Fail> {
     let alloc = rt.alloc();
     let graph = three(alloc, &[1, 2], &[2], &[])?;
-    assert_eq!(rt; told(alloc, &sort(alloc, &graph)?)?.bytes(), b"210".as_slice());
+    assert_eq!(rt;
+        told(alloc, &sort(alloc, &graph)?)?.bytes(),
+        b"210".as_slice()
+    );
     let graph = three(alloc, &[], &[0, 0], &[1])?;
-    assert_eq!(rt; told(alloc, &sort(alloc, &graph)?)?.bytes(), b"012".as_slice());
+    assert_eq!(rt;
+        told(alloc, &sort(alloc, &graph)?)?.bytes(),
+        b"012".as_slice()
+    );
     Ok(())
 }
 
@@ -61,8 +67,14 @@ fn nodes_stand_after_those_to_which_they_lead(rt: HostRuntime) -> Result<(), Fai
 fn the_first_node_that_leads_to_itself(rt: HostRuntime) -> Result<(), Fail> {
     let alloc = rt.alloc();
     let graph = three(alloc, &[1], &[2], &[1])?;
-    assert_eq!(rt; told(alloc, &sort(alloc, &graph)?)?.bytes(), b"returns 1".as_slice());
+    assert_eq!(rt;
+        told(alloc, &sort(alloc, &graph)?)?.bytes(),
+        b"returns 1".as_slice()
+    );
     let graph = three(alloc, &[1, 2], &[], &[2])?;
-    assert_eq!(rt; told(alloc, &sort(alloc, &graph)?)?.bytes(), b"returns 2".as_slice());
+    assert_eq!(rt;
+        told(alloc, &sort(alloc, &graph)?)?.bytes(),
+        b"returns 2".as_slice()
+    );
     Ok(())
 }

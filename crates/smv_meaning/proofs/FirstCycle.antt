@@ -24,21 +24,21 @@ hit t zero a b l h = absurd_bool (sym (leads_zero (reference_graph t) a b) ∙ h
 hit t (suc n) a b l h =
     let k = slice_index_or (keys_of t) a nobody in
     let some = any_in (λ r. r == b || leads (reference_graph t) n r b) (references_of t k)
-        (ap (list_any (λ r. r == b || leads (reference_graph t) n r b)) (sym (row_at t a l)) ∙ sym (leads_step (reference_graph t) n a b) ∙ h) in
+    (ap (list_any (λ r. r == b || leads (reference_graph t) n r b)) (sym (row_at t a l)) ∙ sym (leads_step (reference_graph t) n a b) ∙ h) in
     let from = in_map (number_or (formulas_of t)) (refers t k) some.0 some.1 in
     let there : In from.0 (keys_of t) = (within_keys t k from.0 from.1).1 in
     let is : number t from.0 ≡ some.0 = sym (number_to t from.0 there) ∙ from.2 in
     elim (or_true (some.0 == b) (leads (reference_graph t) n some.0 b) some.2) [
-    inl e ↦ (from.0, there, is ∙ equal some.0 b e)
-    | inr e ↦ hit t n some.0 b (subst (λ i. i < length (keys_of t)) is (place_within (keys_of t) from.0 there)) e
+      | inl e ↦ (from.0, there, is ∙ equal some.0 b e)
+      | inr e ↦ hit t n some.0 b (subst (λ i. i < length (keys_of t)) is (place_within (keys_of t) from.0 there)) e
     ]
   where
     in_map : {X Y : Type 0} (f : X → Y) (xs : List X) (y : Y) → In y (map f xs) → (x : X) × In x xs × (f x ≡ y)
     in_map f [] y h = absurd h
     in_map f (x ∷ xs) y h = elim h [
-      inl e ↦ (x, inl refl, sym e)
+      | inl e ↦ (x, inl refl, sym e)
       | inr m ↦ let r = in_map f xs y m in (r.0, inr r.1, r.2)
-      ]
+    ]
 
     equal : (a b : ℕ) → (a == b) ≡ true → a ≡ b
     equal a b e = elim (eqb_tells a b) [ inl d ↦ d.1 | inr d ↦ absurd_bool (sym d.0 ∙ e) ]
@@ -76,18 +76,18 @@ first_is_first t a h =
     let lf : a < length (placed_formulas t) = omega (arith, l, sym (ap length (formulas_are t)) ∙ refl, length-map (placed_formulas t) formula_in) in
     let d : Placed = record { formula = nobody; place = record { line = 0; column = 0; offset = 0 } } in
     let key_at : (j : ℕ) → j < length (placed_formulas t) → (slice_index_or (placed_formulas t) j d).formula ≡ slice_index_or (keys_of t) j nobody =
-        λ j m. sym (get_or-map formula_in (placed_formulas t) j d nobody m) ∙ ap (λ ks. slice_index_or ks j nobody) (formulas_are t) in
+    λ j m. sym (get_or-map formula_in (placed_formulas t) j d nobody m) ∙ ap (λ ks. slice_index_or ks j nobody) (formulas_are t) in
     let C = check_of t in
     record {
       there = omega (arith, lf, length-map (placed_formulas t) formula_in);
       failing =
-        ap first_failing (sym (checks_are t))
-        ∙ fails_at C (placed_formulas t) a d lf
-        (λ j m. holds_if (reaches (refers t) (steps_of t) (slice_index_or (placed_formulas t) j d).formula (slice_index_or (placed_formulas t) j d).formula)
-        (ap (λ q. reaches (refers t) (steps_of t) q q) (key_at j (omega (arith, m, lf))) ∙ clear t a h l j m))
-        (fails_if (reaches (refers t) (steps_of t) (slice_index_or (placed_formulas t) a d).formula (slice_index_or (placed_formulas t) a d).formula)
-        (ap (λ q. reaches (refers t) (steps_of t) q q) (key_at a lf) ∙ reached))
-        ∙ sym (ap refusal_of (get_some (placed_formulas t) a d lf));
+          ap first_failing (sym (checks_are t))
+          ∙ fails_at C (placed_formulas t) a d lf
+          (λ j m. holds_if (reaches (refers t) (steps_of t) (slice_index_or (placed_formulas t) j d).formula (slice_index_or (placed_formulas t) j d).formula)
+          (ap (λ q. reaches (refers t) (steps_of t) q q) (key_at j (omega (arith, m, lf))) ∙ clear t a h l j m))
+          (fails_if (reaches (refers t) (steps_of t) (slice_index_or (placed_formulas t) a d).formula (slice_index_or (placed_formulas t) a d).formula)
+          (ap (λ q. reaches (refers t) (steps_of t) q q) (key_at a lf) ∙ reached))
+          ∙ sym (ap refusal_of (get_some (placed_formulas t) a d lf));
     }
   where
     -- those before it don't reach themselves

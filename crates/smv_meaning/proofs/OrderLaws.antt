@@ -14,10 +14,10 @@ use Rattle.smv_meaning.specs.Instances.{Instance}
 use Rattle.smv_meaning.specs.Names.{local, look, steps_of, formulas_in}
 use Rattle.smv_meaning.specs.Checks.{Check, check, first_failing}
 use Rattle.smv_meaning.specs.Phases.{Formula, formula_same, refers, reaches, cycle_check, actual_cycles, element_cycles, cycle_checks, over_instances, place_of}
-use Rattle.smv_meaning.specs.Settled.{Acyclic, cycle_checks_of}
+use Rattle.smv_meaning.specs.Settled.{is_formula, Acyclic, cycle_checks_of}
 use Rattle.smv_meaning.specs.Formulas.{Placed, actual_formulas, placed_definition, element_formulas, formulas_here, placed_formulas, formulas_of, number_in, number_or, references_of, reference_graph, refusal_of, IsFormulaOrder, IsFirstCycle}
 use Rattle.smv_meaning.proofs.Cycles.{In, same_is, same_self}
-use Rattle.smv_meaning.proofs.Ranked.{is_formula, key, actual_keys, element_keys, keys_in, keys_of, keys_counted, in_keys, within_keys, no_reference, reaches_none, cycles_are_checked_law}
+use Rattle.smv_meaning.proofs.Ranked.{key, actual_keys, element_keys, keys_in, keys_of, keys_counted, in_keys, within_keys, no_reference, reaches_none, cycles_are_checked_law}
 
 -- ---- numbers
 
@@ -45,10 +45,10 @@ different x k h e = let s : formula_same x k ≡ true = ap (formula_same x) e �
 pub place_within : (ks : List Formula) (k : Formula) → In k ks → place ks k < length ks
 place_within (x ∷ xs) k h =
     elim (bool_cases (formula_same x k)) [
-    inl e ↦ omega (arith, place_here x k xs e)
-    | inr e ↦ elim h [
-      inl s ↦ absurd (different x k e s)
-      | inr m ↦ omega (arith, place_there x k xs e, place_within xs k m)
+      | inl e ↦ omega (arith, place_here x k xs e)
+      | inr e ↦ elim h [
+        | inl s ↦ absurd (different x k e s)
+        | inr m ↦ omega (arith, place_there x k xs e, place_within xs k m)
       ]
     ]
 place_within [] k h = absurd h
@@ -57,10 +57,10 @@ pub place_is : (ks : List Formula) (k : Formula) → In k ks → slice_index_or 
 place_is [] k h = absurd h
 place_is (x ∷ xs) k h =
     elim (bool_cases (formula_same x k)) [
-    inl e ↦ ap (λ n. slice_index_or (x ∷ xs) n nobody) (place_here x k xs e) ∙ same_is x k e
-    | inr e ↦ elim h [
-      inl s ↦ absurd (different x k e s)
-      | inr m ↦ let far : place (x ∷ xs) k ≡ suc (place xs k) = omega (arith, place_there x k xs e) in ap (λ n. slice_index_or (x ∷ xs) n nobody) far ∙ place_is xs k m
+      | inl e ↦ ap (λ n. slice_index_or (x ∷ xs) n nobody) (place_here x k xs e) ∙ same_is x k e
+      | inr e ↦ elim h [
+        | inl s ↦ absurd (different x k e s)
+        | inr m ↦ let far : place (x ∷ xs) k ≡ suc (place xs k) = omega (arith, place_there x k xs e) in ap (λ n. slice_index_or (x ∷ xs) n nobody) far ∙ place_is xs k m
       ]
     ]
 
@@ -70,8 +70,8 @@ place_first [] a l = absurd (omega (arith, l))
 place_first (x ∷ xs) zero l = omega (arith, place_here x x xs (same_self x))
 place_first (x ∷ xs) (suc a) l =
     elim (bool_cases (formula_same x (slice_index_or xs a nobody))) [
-    inl e ↦ omega (arith, place_here x (slice_index_or xs a nobody) xs e)
-    | inr e ↦ omega (arith, place_there x (slice_index_or xs a nobody) xs e, place_first xs a (omega (arith, l)))
+      | inl e ↦ omega (arith, place_here x (slice_index_or xs a nobody) xs e)
+      | inr e ↦ omega (arith, place_there x (slice_index_or xs a nobody) xs e, place_first xs a (omega (arith, l)))
     ]
 
 pub at_in : (ks : List Formula) (a : ℕ) → a < length ks → In (slice_index_or ks a nobody) ks
@@ -180,12 +180,12 @@ number_to t k h = ap (λ ks. number_or ks k) (formulas_are t) ∙ number_is (key
 same_numbers : (t : List Instance) (r m : Formula) → In r (keys_of t) → In m (keys_of t) → (number t r == number t m) ≡ formula_same r m
 same_numbers t r m h g =
     elim (eqb_tells (number t r) (number t m)) [
-    inl e ↦
-    let s : r ≡ m = sym (place_is (keys_of t) r h) ∙ ap (λ n. slice_index_or (keys_of t) n nobody) e.1 ∙ place_is (keys_of t) m g in
-    e.0 ∙ sym (ap (λ k. formula_same k m) s ∙ same_self m)
-    | inr e ↦ elim (bool_cases (formula_same r m)) [
-      inl s ↦ absurd (e.1 (ap (number t) (same_is r m s)))
-      | inr s ↦ e.0 ∙ sym s
+      | inl e ↦
+          let s : r ≡ m = sym (place_is (keys_of t) r h) ∙ ap (λ n. slice_index_or (keys_of t) n nobody) e.1 ∙ place_is (keys_of t) m g in
+          e.0 ∙ sym (ap (λ k. formula_same k m) s ∙ same_self m)
+      | inr e ↦ elim (bool_cases (formula_same r m)) [
+        | inl s ↦ absurd (e.1 (ap (number t) (same_is r m s)))
+        | inr s ↦ e.0 ∙ sym s
       ]
     ]
 
@@ -248,10 +248,10 @@ graph_within t = all_rows t (formulas_of t)
 pub never_is_acyclic : (t : List Instance) → NeverReturns (reference_graph t) → Acyclic t
 never_is_acyclic t h k =
     elim (bool_cases (is_formula (local t k.0 k.1))) [
-    inl e ↦
-    let there : In k (keys_of t) = in_keys t k.0 k.1 e in
-    ap (λ q. reaches (refers t) (steps_of t) q k) (sym (place_is (keys_of t) k there)) ∙ sym (leads_is t (steps_of t) (number t k) k (place_within (keys_of t) k there) there) ∙ h (steps_of t) (number t k)
-    | inr e ↦ reaches_none (refers t) (steps_of t) k k (no_reference t (look t (steps_of t)) (local t k.0 k.1) e)
+      | inl e ↦
+          let there : In k (keys_of t) = in_keys t k.0 k.1 e in
+          ap (λ q. reaches (refers t) (steps_of t) q k) (sym (place_is (keys_of t) k there)) ∙ sym (leads_is t (steps_of t) (number t k) k (place_within (keys_of t) k there) there) ∙ h (steps_of t) (number t k)
+      | inr e ↦ reaches_none (refers t) (steps_of t) k k (no_reference t (look t (steps_of t)) (local t k.0 k.1) e)
     ]
 
 -- where nothing reaches itself no check of a cycle fails
@@ -259,8 +259,8 @@ none_fails : (cs : List Check) → list_all (λ c. c.holds) cs ≡ true → firs
 none_fails [] h = refl
 none_fails (c ∷ cs) h =
     elim (bool_cases c.holds) [
-    inl e ↦ ap (λ b. if b then first_failing cs else Some c.refusal) e ∙ none_fails cs (sym (ap (λ b. b && list_all (λ d. d.holds) cs) e) ∙ h)
-    | inr e ↦ let f : false ≡ true = sym (ap (λ b. b && list_all (λ d. d.holds) cs) e) ∙ h in cc
+      | inl e ↦ ap (λ b. if b then first_failing cs else Some c.refusal) e ∙ none_fails cs (sym (ap (λ b. b && list_all (λ d. d.holds) cs) e) ∙ h)
+      | inr e ↦ let f : false ≡ true = sym (ap (λ b. b && list_all (λ d. d.holds) cs) e) ∙ h in cc
     ]
 
 pub acyclic_passes : (t : List Instance) → Acyclic t → first_failing (cycle_checks_of t) ≡ None

@@ -10,7 +10,8 @@ use Rattle.smv_meaning.specs.Instances.{Instance}
 use Rattle.smv_meaning.specs.Names.{Found, variable_at, body_at, instance_at, symbol_of, cyclic, none, Local, alias, formula, local, look, steps_of}
 use Rattle.smv_meaning.specs.Phases.{Formula, formula_here, from_instance, touched, referred, refers}
 use Rattle.smv_meaning.specs.Formulas.{formulas_of, number_or, touched_numbers, all_touched, instance_within, references_of}
-use Rattle.smv_meaning.proofs.Ranked.{is_formula, no_reference}
+use Rattle.smv_meaning.specs.Settled.{is_formula}
+use Rattle.smv_meaning.proofs.Ranked.{no_reference}
 use Rattle.smv_meaning.specs.View.{path_seen}
 use Rattle.smv_meaning.proofs.Lists.{front_is, end_is}
 use Rattle.smv_meaning.proofs.FormulaLemmas.{append_none}

@@ -93,12 +93,7 @@ fn add_definitions<'a>(
 {
     for k in 0..definitions.len() {
         let definition = definitions.at(k);
-        add(
-            formulas,
-            i,
-            definition.name.bytes(),
-            definition.place,
-        )?;
+        add(formulas, i, definition.name.bytes(), definition.place)?;
     }
     Ok(())
 }

@@ -6,8 +6,8 @@ ghost use Rattle.smv_meaning.specs.Expressions.{paths_of, link_paths, branch_pat
 ghost use Rattle.smv_text.specs.declared.tree.Path.{Path as PlainPath};
 ghost use Rattle.smv_meaning.specs.View.{path_seen};
 
-use std::alloc::Global;
 use smv_text::{Branch, Expr, Link, Path, Shape};
+use std::alloc::Global;
 use text_core::NoMemory;
 
 /// The paths of an expression, in the order of the text.
@@ -93,10 +93,7 @@ fn add_link_paths<'a>(paths: &mut Vec<&'a Path>, links: &'a [Link]) -> Result<()
 }
 
 #[cycle(paths)]
-fn add_branch_paths<'a>(
-    paths: &mut Vec<&'a Path>,
-    branches: &'a [Branch],
-) -> Result<(), NoMemory>
+fn add_branch_paths<'a>(paths: &mut Vec<&'a Path>, branches: &'a [Branch]) -> Result<(), NoMemory>
     ensures { (more : List PlainPath) → OnOk result (map path_seen paths.new.items ++ more ≡ map path_seen paths.old.items ++ branch_paths (branches_of (map plain_branch branches.now)) more) }
 {
     let mut rest = branches;

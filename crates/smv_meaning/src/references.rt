@@ -31,10 +31,7 @@ pub enum Ordering {
 }
 
 /// The numbers of definitions and actuals by their instances and names.
-pub fn numbers_of<'a>(
-    alloc: Global,
-    formulas: &[Formula<'a>],
-) -> Result<Children<'a>, NoMemory>
+pub fn numbers_of<'a>(alloc: Global, formulas: &[Formula<'a>]) -> Result<Children<'a>, NoMemory>
     ensures { IfOk result (λ m. (i : ℕ) (x : List ℕ) → named_in m i x ≡ number_in (map key_of formulas.now) (i, x)) }
 {
     let mut numbers = HashMap::new(alloc);

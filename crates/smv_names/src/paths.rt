@@ -43,7 +43,10 @@ fn all_checked<'a>(table: &Table<'a>, i: usize, paths: &[&'a Path]) -> Result<()
 }
 
 #[tactic(auto, using(crate::proofs::Lists::front_is, crate::proofs::Lists::end_is, crate::proofs::PathLemmas::joined))]
-fn put_assignment_paths<'a>(paths: &mut Vec<&'a Path>, assignments: &'a Assignments) -> Result<(), NoMemory>
+fn put_assignment_paths<'a>(
+    paths: &mut Vec<&'a Path>,
+    assignments: &'a Assignments,
+) -> Result<(), NoMemory>
     ensures { OnOk result (map path_seen paths.new.items ≡ map path_seen paths.old.items ++ flat_map assignment_paths (map plain_assignment assignments.now)) }
 {
     for k in 0..assignments.len() {
@@ -58,7 +61,10 @@ fn put_assignment_paths<'a>(paths: &mut Vec<&'a Path>, assignments: &'a Assignme
 }
 
 #[tactic(auto, using(crate::proofs::Lists::front_is, crate::proofs::Lists::end_is, crate::proofs::PathLemmas::joined))]
-fn put_definition_paths<'a>(paths: &mut Vec<&'a Path>, definitions: &'a Definitions) -> Result<(), NoMemory>
+fn put_definition_paths<'a>(
+    paths: &mut Vec<&'a Path>,
+    definitions: &'a Definitions,
+) -> Result<(), NoMemory>
     ensures { OnOk result (map path_seen paths.new.items ≡ map path_seen paths.old.items ++ flat_map definition_paths (map plain_definition definitions.now)) }
 {
     for k in 0..definitions.len() {
