@@ -11,3 +11,5 @@ pub mod Plain
 pub mod Evaluating
 pub mod ReadingLaws
 pub mod ScopeLaws
+pub mod SortedParts
+pub mod WellSorted

@@ -1,10 +1,12 @@
 // The term that a form spells.
 ghost use Rattle.std.specs.Prelude.{◌≡◌, ◌<◌, ◌^◌, ◌++◌, [], List, length, IfOk, OnOk};
 ghost use Rattle.text_core.specs.declared.place.Refusal.{Refusal};
-ghost use Rattle.moxi_sexpr.specs.Tree.{plain as plain_form, plain_forms};
+ghost use Rattle.moxi_sexpr.specs.Tree.{Tree, plain as plain_form, plain_forms};
 ghost use Rattle.moxi_terms.specs.Answer.{Answers, AreBound, AreRead, IsRead, context_of, locals_of};
 ghost use Rattle.moxi_terms.specs.Failures.{least};
-ghost use Rattle.moxi_terms.specs.Reading.{Bindings, both_bindings, let_reading, read, read_all, read_binding, read_bindings, read_let};
+ghost use Rattle.moxi_terms.specs.declared.data.Sort.{Sort};
+ghost use Rattle.moxi_terms.specs.WellSorted.{HaveKnownSorts, IsWellSorted};
+ghost use Rattle.moxi_terms.specs.Reading.{Bindings, Context, both_bindings, let_reading, read, read_all, read_binding, read_bindings, read_let};
 
 use crate::applications::{ReadArguments, add_argument, application};
 use crate::atoms::{read_atom, underscored};
@@ -262,3 +264,9 @@ pub fn term_of(
         (None, None) => Err(TermEnd::NoMemory),
     }
 }
+
+/// A form of which no test fails, over variables that have sorts, spells a term that has the sort that is read for it; where
+/// primes are refused, no variable in it is primed.
+pub fn read_terms_have_sorts()
+    ensures { (c : Context) (vars : List Sort) (t : Tree) → HaveKnownSorts c.variables vars → (read c [] t).failures ≡ [] → IsWellSorted c vars [] (read c [] t) }
+{}

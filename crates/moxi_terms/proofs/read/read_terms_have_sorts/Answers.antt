@@ -1,0 +1,6 @@
+use Rattle.std.proofs.Common.{[]}
+use Rattle.moxi_terms.proofs.WellSorted.{read_sorted}
+use Rattle.moxi_terms.proofs.read.read_terms_have_sorts.Goals as goal
+
+pub returns : goal.returns
+returns c ctx vars t known holds = read_sorted ctx vars known [] [] t tt holds
