@@ -13,3 +13,4 @@ pub mod ReadingLaws
 pub mod ScopeLaws
 pub mod SortedParts
 pub mod WellSorted
+pub mod ReadSorts

@@ -33,13 +33,16 @@ use Rattle.moxi_terms.specs.Sorts.{IsOf}
 use Rattle.moxi_terms.specs.Sorted.{HasSort, HaveSorts, IsUnprimed, AreUnprimed}
 use Rattle.moxi_terms.specs.Reading as reading
 use Rattle.moxi_terms.specs.Reading.{Context, Reading, Arguments, Bindings, Found}
-use Rattle.moxi_terms.specs.WellSorted.{HaveKnownSorts, IsWellSorted}
+use Rattle.moxi_terms.specs.declared.outcome.ReadTerm.{ReadTerm}
+use Rattle.moxi_terms.specs.Answer.{IsRead}
+use Rattle.moxi_terms.specs.WellSorted.{HaveKnownSorts, IsTerm, IsWellSorted, IsSortedTerm}
+use Rattle.moxi_terms.proofs.Least.{least_none}
 use Rattle.moxi_terms.proofs.SortedParts.{some_fails, none_in, stays, FoundIn, first_found, last_found, known_append, names_long, constant_is, read_is_word, tests_hold, call_fits, plain_at}
 
 module _ (c : Context) (vars : List Sort) (of_vars : HaveKnownSorts c.variables vars) where
   own_sorted : (ss : List Sort) (t : Tree) (s : Option Sort) (fs : List Refusal) (sort : Sort) → fs ≡ [] → s ≡ Some sort
       → HasSort c.scope.enumerations (plain_functions c.scope) vars ss t sort → (c.primes ≡ Refused → IsUnprimed t) → IsWellSorted c vars ss (reading.own_tests t s fs)
-  own_sorted ss t s fs sort h e g u = record { sort = sort; known = stays fs s h ∙ e; sorted = g; unprimed = u }
+  own_sorted ss t s fs sort h e g u = record { sort = sort; known = stays fs s h ∙ e; term = record { sorted = g; unprimed = u } }
 
   never : (ss : List Sort) (f : Refusal) (fs : List Refusal) (r : Reading) → f ∷ fs ≡ [] → IsWellSorted c vars ss r
   never ss f fs r h = absurd (some_fails f fs h)
@@ -162,8 +165,8 @@ module _ (c : Context) (vars : List Sort) (of_vars : HaveKnownSorts c.variables 
   both_sorted ss r x h g = record {
     sorts = h.sort ∷ g.sorts;
     known = ap (λ o. reading.joined (option_map (λ s. s ∷ []) o) x.sorts) h.known ∙ ap (reading.joined (Some (h.sort ∷ []))) g.known;
-    sorted = (h.sorted, g.sorted);
-    unprimed = λ e. (h.unprimed e, g.unprimed e);
+    sorted = (h.term.sorted, g.sorted);
+    unprimed = λ e. (h.term.unprimed e, g.unprimed e);
   }
 
   headed_sorted : (ss : List Sort) (h : Head) (x : Arguments) (g : AreWellSorted ss x) (s : Sort) → reading.head_sort c.scope.functions h g.sorts ≡ Ok s
@@ -188,8 +191,7 @@ module _ (c : Context) (vars : List Sort) (of_vars : HaveKnownSorts c.variables 
       record {
         sort = t.0;
         known = stays _ _ e1.1 ∙ ap (reading.applied_sort c.scope.functions h) a.known ∙ ap reading.sort_result t.1;
-        sorted = headed_sorted ss h x a t.0 t.1;
-        unprimed = λ e. headed_unprimed h x (a.unprimed e);
+        term = record { sorted = headed_sorted ss h x a t.0 t.1; unprimed = λ e. headed_unprimed h x (a.unprimed e) };
       }
 
   -- what a `let` binds
@@ -231,7 +233,7 @@ module _ (c : Context) (vars : List Sort) (of_vars : HaveKnownSorts c.variables 
   binding_sorted ss p t None r g h f = absurd (some_fails (refusal 12 p) [] h)
   binding_sorted ss p t (Some x) r g h f =
       let w = g f in
-      record { sorts = w.sort ∷ []; known = (w.known, tt); sorted = (w.sorted, tt); unprimed = λ e. (w.unprimed e, tt) }
+      record { sorts = w.sort ∷ []; known = (w.known, tt); sorted = (w.term.sorted, tt); unprimed = λ e. (w.term.unprimed e, tt) }
 
   let_sorted : (ls : List Local) (ss : List Sort) (own : List Refusal) (x : Bindings) (r : Reading) → HaveKnownSorts ls ss → (x.shape ≡ [] → x.failures ≡ [] → AreBoundTo ss x)
       → ((ts : List Sort) → HaveKnownSorts (ls ++ x.locals) ts → r.failures ≡ [] → IsWellSorted c vars ts r) → (reading.let_reading own x r).failures ≡ []
@@ -245,8 +247,7 @@ module _ (c : Context) (vars : List Sort) (of_vars : HaveKnownSorts c.variables 
       record {
         sort = w.sort;
         known = stays _ r.sort (ap (λ fs. fs ++ x.shape) e1.0 ∙ e2.0) ∙ w.known;
-        sorted = (a.sorts, names_long x.locals a.sorts a.known, a.sorted, w.sorted);
-        unprimed = λ e. (a.unprimed e, w.unprimed e);
+        term = record { sorted = (a.sorts, names_long x.locals a.sorts a.known, a.sorted, w.term.sorted); unprimed = λ e. (a.unprimed e, w.term.unprimed e) };
       }
 
   mutual
@@ -295,3 +296,13 @@ module _ (c : Context) (vars : List Sort) (of_vars : HaveKnownSorts c.variables 
     read_binding_sorted ls ss q (form.list p (form.tree x (form.tree t form.no_trees))) k h f =
         binding_sorted ss p x (symbol_of x) (reading.read c ls t) (λ e. read_sorted ls ss t k e) h f
     read_binding_sorted ls ss q (form.list p (form.tree x (form.tree t (form.tree u us)))) k h f = absurd (some_fails (refusal 12 p) [] h)
+
+-- what the code reads, where it names no failing test
+pub term_sorted : (c : Context) (vars : List Sort) (t : form.Tree) (r : ReadTerm) → HaveKnownSorts c.variables vars → IsRead (reading.read c [] t) r → r.failure ≡ None → IsSortedTerm c vars r
+term_sorted c vars t r k g h =
+    let w = read_sorted c vars k [] [] t tt (least_none (reading.read c [] t).failures (sym g.failure ∙ h)) in
+    record {
+      sort = w.sort;
+      known = g.sort ∙ w.known;
+      term = subst (λ u. IsTerm c.scope c.primes vars [] u w.sort) (sym g.term) w.term;
+    }

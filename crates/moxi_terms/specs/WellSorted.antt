@@ -3,7 +3,10 @@ use Rattle.std.specs.Prelude.{◌≡◌, Some, Option, List, [], ◌∷◌}
 use Rattle.moxi_terms.specs.declared.data.Sort.{Sort}
 use Rattle.moxi_terms.specs.declared.data.Primes.TheVariants.{Refused}
 use Rattle.moxi_terms.specs.declared.names.Local.{Local}
-use Rattle.moxi_terms.specs.View.{plain_functions}
+use Rattle.moxi_terms.specs.declared.data.Primes.{Primes}
+use Rattle.moxi_terms.specs.declared.outcome.ReadTerm.{ReadTerm}
+use Rattle.moxi_terms.specs.View.{ScopeState, plain, plain_functions}
+use Rattle.moxi_terms.specs.Tree.{Tree}
 use Rattle.moxi_terms.specs.Sorted.{HasSort, IsUnprimed}
 use Rattle.moxi_terms.specs.Reading.{Context, Reading}
 
@@ -14,10 +17,19 @@ HaveKnownSorts (l ∷ ls) (s ∷ ss) = (l.sort ≡ Some s) × HaveKnownSorts ls 
 HaveKnownSorts [] (s ∷ ss) = ⊥
 HaveKnownSorts (l ∷ ls) [] = ⊥
 
--- The term has the sort that was read for it, over variables and bound values of these sorts; where primes are refused, none of its
--- variables is primed.
+-- The term has this sort over variables and bound values of these sorts; where primes are refused, none of its variables is primed.
+pub record IsTerm (s : ScopeState) (primes : Primes) (vars bounds : List Sort) (t : Tree) (sort : Sort) : Type 0 where
+  pub sorted : HasSort s.enumerations (plain_functions s) vars bounds t sort
+  pub unprimed : primes ≡ Refused → IsUnprimed t
+
+-- the form spells a term that has the sort that is read for it
 pub record IsWellSorted (c : Context) (vars bounds : List Sort) (r : Reading) : Type 0 where
   pub sort : Sort
   pub known : r.sort ≡ Some sort
-  pub sorted : HasSort c.scope.enumerations (plain_functions c.scope) vars bounds r.term sort
-  pub unprimed : c.primes ≡ Refused → IsUnprimed r.term
+  pub term : IsTerm c.scope c.primes vars bounds r.term sort
+
+-- the same of what the code reads
+pub record IsSortedTerm (c : Context) (vars : List Sort) (r : ReadTerm) : Type 0 where
+  pub sort : Sort
+  pub known : r.sort ≡ Some sort
+  pub term : IsTerm c.scope c.primes vars [] (plain r.term) sort
