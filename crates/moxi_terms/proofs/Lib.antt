@@ -11,3 +11,6 @@ pub mod Plain
 pub mod Evaluating
 pub mod ReadingLaws
 pub mod ScopeLaws
+pub mod SortedParts
+pub mod WellSorted
+pub mod ReadSorts

@@ -16,3 +16,4 @@ pub mod Failures
 pub mod Forms
 pub mod Reading
 pub mod Answer
+pub mod WellSorted

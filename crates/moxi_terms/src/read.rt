@@ -1,10 +1,15 @@
 // The term that a form spells.
-ghost use Rattle.std.specs.Prelude.{◌≡◌, ◌<◌, ◌^◌, ◌++◌, [], List, length, IfOk, OnOk};
+ghost use Rattle.std.specs.Prelude.{◌≡◌, ◌<◌, ◌^◌, ◌++◌, [], List, None, length, IfOk, OnOk};
+ghost use Rattle.moxi_terms.specs.declared.outcome.ReadTerm.{ReadTerm};
+ghost use Rattle.moxi_terms.specs.Tree.{sorts_of};
+ghost use Rattle.moxi_terms.specs.View.{plain};
 ghost use Rattle.text_core.specs.declared.place.Refusal.{Refusal};
-ghost use Rattle.moxi_sexpr.specs.Tree.{plain as plain_form, plain_forms};
+ghost use Rattle.moxi_sexpr.specs.Tree.{Tree, plain as plain_form, plain_forms};
 ghost use Rattle.moxi_terms.specs.Answer.{Answers, AreBound, AreRead, IsRead, context_of, locals_of};
 ghost use Rattle.moxi_terms.specs.Failures.{least};
-ghost use Rattle.moxi_terms.specs.Reading.{Bindings, both_bindings, let_reading, read, read_all, read_binding, read_bindings, read_let};
+ghost use Rattle.moxi_terms.specs.declared.data.Sort.{Sort};
+ghost use Rattle.moxi_terms.specs.WellSorted.{HaveKnownSorts, IsSortedTerm, IsTerm, IsWellSorted};
+ghost use Rattle.moxi_terms.specs.Reading.{Bindings, Context, both_bindings, let_reading, read, read_all, read_binding, read_bindings, read_let};
 
 use crate::applications::{ReadArguments, add_argument, application};
 use crate::atoms::{read_atom, underscored};
@@ -243,7 +248,8 @@ fn by_name(alloc: Global, variables: &Variables) -> Result<Locals, NoMemory>
 }
 
 /// The term and the sort that a form spells over these variables, or the failing test of M4 to M8 and M12 with the least
-/// place, and at one place with the least number.
+/// place, and at one place with the least number. The term is well sorted: it may be evaluated, and it may be the body of a
+/// function.
 pub fn term_of(
     alloc: Global,
     scope: &Scope,
@@ -252,13 +258,21 @@ pub fn term_of(
     primes: Primes,
 ) -> Result<(Term, Sort), TermEnd>
     requires { length variables.now < 2 ^ 32 }
-    ensures { Answers (read (record { scope = scope.now; variables = locals_of variables.now; primes = primes }) [] (plain_form form.now)) result }
+    ensures answers { Answers (read (record { scope = scope.now; variables = locals_of variables.now; primes = primes }) [] (plain_form form.now)) result }
+    ensures sorted { IfOk result (λ r. IsTerm scope.now primes (sorts_of variables.now) [] (plain r.0) r.1) }
 {
     let locals = by_name(alloc, variables)?;
     let r = read_term(alloc, scope, &locals, form, primes)?;
     match (r.failure, r.sort) {
         (Some(f), _) => Err(TermEnd::Bad(f)),
         (None, Some(sort)) => Ok((r.term, sort)),
-        (None, None) => Err(TermEnd::NoMemory),
+        (None, None) => unreachable!(),
     }
 }
+
+/// A form of which no test fails, over variables that have sorts, spells a term that has the sort that is read for it; where
+/// primes are refused, no variable in it is primed.
+pub fn read_terms_have_sorts()
+    ensures forms { (c : Context) (vars : List Sort) (t : Tree) → HaveKnownSorts c.variables vars → (read c [] t).failures ≡ [] → IsWellSorted c vars [] (read c [] t) }
+    ensures terms { (c : Context) (vars : List Sort) (t : Tree) (r : ReadTerm) → HaveKnownSorts c.variables vars → IsRead (read c [] t) r → r.failure ≡ None → IsSortedTerm c vars r }
+{}

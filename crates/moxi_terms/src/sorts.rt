@@ -1,6 +1,10 @@
 // The sort that a form spells.
-ghost use Rattle.std.specs.Prelude.{◌≡◌, Some, None};
-ghost use Rattle.moxi_sexpr.specs.Tree.{plain, plain_forms};
+ghost use Rattle.std.specs.Prelude.{◌≡◌, Some, None, IfOk};
+ghost use Rattle.text_core.specs.declared.place.Place.{Place};
+ghost use Rattle.moxi_sexpr.specs.Tree.{Tree, plain, plain_forms};
+ghost use Rattle.moxi_terms.specs.Sorted.{IsScope};
+ghost use Rattle.moxi_terms.specs.Sorts.{IsSort};
+ghost use Rattle.moxi_terms.specs.View.{ScopeState};
 ghost use Rattle.moxi_terms.specs.Forms.{digits_now, symbol_now};
 ghost use Rattle.moxi_terms.specs.Reading.{atom_sort, index_of, indexed_sort, is_width, listed_sort, sort_reading, symbol_sort, unknown, vector_sort, width_sort};
 ghost use Rattle.moxi_terms.specs.Words.{is_one_of, left_out_sorts};
@@ -158,3 +162,8 @@ pub fn sort_of(scope: &Scope, around: Place, form: &Form) -> Result<Sort, Refusa
         },
     }
 }
+
+/// A sort that a form spells is one of the scope.
+pub fn read_sorts_are_of_the_scope()
+    ensures { (s : ScopeState) (around : Place) (t : Tree) → IsScope s → IfOk (sort_reading s around t) (IsSort s.enumerations) }
+{}
