@@ -25,7 +25,7 @@ use crate::sorts::refusal;
 use crate::term::{Term, Variables};
 use moxi_sexpr::{Form, FormShape};
 use std::alloc::Global;
-use text_core::{Items, Name, NoMemory, Place, Refusal};
+use text_core::{Items, Name, Names, NoMemory, Place, Refusal};
 
 /// Why a form spells no term.
 #[derive(Debug, Drop)]
@@ -164,7 +164,7 @@ fn read_bindings(
     ensures kept { OnOk result (bounds.new ≡ bounds.old) }
 {
     let mut all = ReadBindings {
-        names: Items::new(alloc),
+        names: Names::new(alloc),
         locals: Items::new(alloc),
         terms: Vec::new(alloc),
         shape: None,
