@@ -1,11 +1,13 @@
-// Models made by hand, through the three phases.
+// Models made by hand, through the five phases.
 use super::*;
+use smv_meaning::formulas_in;
 use smv_text::{
-    Domain, Element, Elements, Item, Items, Module, Modules, Parameters, Source, VarKind,
+    Definition, Definitions, Domain, Element, Elements, Expr, Item, Items, Module, Modules,
+    Parameters, Path, Shape, Source, VarKind,
 };
 use std::alloc::Global;
 use std::test::Fail;
-use text_core::{Kind, Name, NoMemory, Place};
+use text_core::{Kind, Name, Names, NoMemory, Place};
 
 fn place(offset: u32) -> Place {
     Place {
@@ -25,7 +27,7 @@ fn item(alloc: Global, name: &[u8], module: Option<&[u8]>, offset: u32) -> Resul
         name: Name::of(alloc, name)?,
         place: place(offset),
         domain,
-        domain_place: place(offset + 1),
+        domain_place: place(offset.saturating_add(1)),
     })
 }
 
@@ -58,24 +60,71 @@ fn source(alloc: Global, other: Item) -> Result<Source, NoMemory> {
     })
 }
 
-/// The number of the first refusal and its offset, or 0 and the number of instances.
-fn checked(alloc: Global, source: &Source) -> Result<(u8, u32), NoMemory> {
-    let first = match modules_checked(alloc, source) {
-        Ok(()) => declarations_checked(alloc, source),
-        Err(end) => Err(end),
+/// A definition of the name by another one.
+fn definition(
+    alloc: Global,
+    name: &[u8],
+    other: &[u8],
+    offset: u32,
+) -> Result<Definition, NoMemory> {
+    let there = place(offset.saturating_add(1));
+    let mut names = Names::new(alloc);
+    names.push(Name::of(alloc, other)?)?;
+    let path = Path {
+        from_self: false,
+        names,
+        place: there,
     };
-    let answer = match first {
-        Ok(()) => match sizes_checked(alloc, source) {
-            Ok(table) => return Ok((0, table.len() as u32)),
-            Err(end) => end,
+    Ok(Definition {
+        name: Name::of(alloc, name)?,
+        place: place(offset),
+        body: Expr {
+            place: there,
+            shape: Shape::Name(path),
         },
-        Err(end) => end,
-    };
-    match answer {
-        NamesEnd::NoMemory => Err(NoMemory),
-        NamesEnd::Bad(why) => match why.kind {
-            Kind::S(number) => Ok((number, why.place.offset)),
-            _ => Ok((255, 0)),
+    })
+}
+
+/// `main` with the definitions of `d` by `e`, and of `e` by another name.
+fn defining(alloc: Global, other: &[u8]) -> Result<Source, NoMemory> {
+    let mut definitions = Definitions::new(alloc);
+    definitions.push(definition(alloc, b"d", b"e", 10)?)?;
+    definitions.push(definition(alloc, b"e", other, 20)?)?;
+    let mut elements = Elements::new(alloc);
+    elements.push(Element::Defines(definitions))?;
+    let mut modules = Modules::new(alloc);
+    modules.push(Module {
+        name: Name::of(alloc, b"main")?,
+        place: place(0),
+        parameters: Parameters::new(alloc),
+        elements,
+        tokens: 9,
+    })?;
+    Ok(Source {
+        modules,
+        end: place(99),
+    })
+}
+
+/// The number of instances, where each check holds.
+fn all_checked(alloc: Global, source: &Source) -> Result<usize, NamesEnd> {
+    modules_checked(alloc, source)?;
+    declarations_checked(alloc, source)?;
+    let table = sizes_checked(alloc, source)?;
+    paths_checked(alloc, &table)?;
+    let formulas = formulas_in(alloc, &table)?;
+    let order = cycles_checked(alloc, &table, formulas.as_slice())?;
+    Ok(table.len().saturating_add(order.len()))
+}
+
+/// The number of the first refusal and its offset, or 0 and the numbers of instances and of definitions together.
+fn checked(alloc: Global, source: &Source) -> Result<(u8, usize), NoMemory> {
+    match all_checked(alloc, source) {
+        Ok(count) => Ok((0, count)),
+        Err(NamesEnd::NoMemory) => Err(NoMemory),
+        Err(NamesEnd::Bad(why)) => match why.kind {
+            Kind::S(number) => Ok((number, why.place.offset as usize)),
+            Kind::M(_) | Kind::B(_) | Kind::X(_) | Kind::Y(_) => Ok((255, 0)),
         },
     }
 }
@@ -91,5 +140,9 @@ fn phases(rt: HostRuntime) -> Result<(), Fail> {
     assert_eq!(rt; checked(alloc, &none)?, (11, 21));
     let inside = source(alloc, item(alloc, b"q", Some(b"main"), 20)?)?;
     assert_eq!(rt; checked(alloc, &inside)?, (12, 21));
+    let unknown = defining(alloc, b"z")?;
+    assert_eq!(rt; checked(alloc, &unknown)?, (14, 21));
+    let cycle = defining(alloc, b"d")?;
+    assert_eq!(rt; checked(alloc, &cycle)?, (15, 10));
     Ok(())
 }
