@@ -35,3 +35,5 @@ pub mod RowReads
 pub mod Reaching
 pub mod Filling
 pub mod Keeping
+pub mod Passing
+pub mod StandingBefore
