@@ -8,6 +8,8 @@ mod elements;
 mod ends;
 mod names;
 mod row;
+#[cfg(test)]
+mod tests;
 mod types;
 mod variables;
 

@@ -51,9 +51,9 @@ impl<'a> Types<'a> {
         path_named(table, &self.row, i, path)
     }
 
-    /// The checks of an expression in the numbered instance, and its type.
+    /// The checks of an expression that stands in the numbered instance, and its type: none where it has none.
     #[tactic(auto, using(crate::proofs::Paths::always_known))]
-    pub(crate) fn expression_checked(
+    pub fn expression_checked(
         &self,
         alloc: Global,
         table: &Table<'a>,
