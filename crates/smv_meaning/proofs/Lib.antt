@@ -30,3 +30,5 @@ pub mod LiteralLemmas
 pub mod OrderLaws
 pub mod FirstCycle
 pub mod NumberLemmas
+pub mod Passing
+pub mod StandingBefore

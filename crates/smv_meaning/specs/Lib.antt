@@ -20,3 +20,4 @@ pub mod Literals
 pub mod Parts
 pub mod Checked
 pub mod Leads
+pub mod Orders
