@@ -3,19 +3,19 @@ use Rattle.smv_text.specs.View.{plain_source}
 use Rattle.moxi_cli.specs.Trees.{source_of}
 use Rattle.moxi_cli.specs.Translation.{most_tokens, has_no_brackets}
 use Rattle.moxi_cli.proofs.Sources.{few_read, accepted_read, refused_read}
-use Rattle.moxi_cli.proofs.translate.source_of_model.Goals as goal
+use Rattle.moxi_cli.proofs.translate.form_of_model.Goals as goal
 
 pub returns-then-len-gt-MOST_TOKENS-clause-refused :
     goal.returns-then-len-gt-MOST_TOKENS-clause-refused
 returns-then-len-gt-MOST_TOKENS-clause-refused c =
-    refused_read c.args.bytes.now c.args.tokens.now.items (plain_source c.args.model.now) c.refusal.result c.requires.model c.refusal.ensures
+    refused_read c.args.bytes.now c.args.tokens.now.items (plain_source c.args.model.now) c.refusal.result c.requires.model c.requires.passes c.refusal.ensures
     (inl (omega (arith, c.if-len-gt-MOST_TOKENS.true, c.len.ensures)))
 
 pub returns-then-not-has_no_brackets-clause-refused :
     goal.returns-then-not-has_no_brackets-clause-refused
 returns-then-not-has_no_brackets-clause-refused c =
     let bracketed : has_no_brackets c.args.tokens.now.items ≡ false = search rules in
-    refused_read c.args.bytes.now c.args.tokens.now.items (plain_source c.args.model.now) c.refusal-then-not-has_no_brackets.result c.requires.model c.refusal-then-not-has_no_brackets.ensures
+    refused_read c.args.bytes.now c.args.tokens.now.items (plain_source c.args.model.now) c.refusal-then-not-has_no_brackets.result c.requires.model c.requires.passes c.refusal-then-not-has_no_brackets.ensures
     (inr (inl bracketed))
 
 pub form_of-requires : goal.form_of-requires
@@ -31,5 +31,5 @@ returns-in-Some-clause-accepted c =
 
 pub returns-in-None-clause-refused : goal.returns-in-None-clause-refused
 returns-in-None-clause-refused c =
-    refused_read c.args.bytes.now c.args.tokens.now.items (plain_source c.args.model.now) c.refusal-in-None.result c.requires.model c.refusal-in-None.ensures
+    refused_read c.args.bytes.now c.args.tokens.now.items (plain_source c.args.model.now) c.refusal-in-None.result c.requires.model c.requires.passes c.refusal-in-None.ensures
     (inr (inr (sym c.in_ok-source.ensures ∙ ap (option_map source_of) c.in-None.is)))
