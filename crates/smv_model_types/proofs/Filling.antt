@@ -1,5 +1,5 @@
 -- How a row is filled: what is put into it is right, and at the end it has all.
-use Rattle.std.proofs.Common.{◌≡◌, ℕ, Bool, true, false, ◌&&◌, ◌||◌, ◌==◌, if◌then◌else◌, List, [], ◌∷◌, ◌++◌, map, Option, Some, None, is_some, bytes_eq, flat_map, refl, sym, ap, ◌∙◌, subst}
+use Rattle.std.proofs.Common.{◌≡◌, ℕ, Bool, true, false, ◌&&◌, ◌||◌, ◌==◌, if◌then◌else◌, List, [], ◌∷◌, ◌++◌, map, Option, Some, None, is_some, bytes_eq, flat_map, refl, sym, ap, ◌∙◌}
 use Rattle.std.specs.List.{list_all, list_any, position}
 use Rattle.std.proofs.lemmas.Bool.{eqb-true, eq-eqb}
 use Rattle.std.proofs.lemmas.Slice.Eq.{bytes_eq-Decides}
@@ -9,7 +9,7 @@ use Rattle.smv_text.specs.Tree.{Tree}
 use Rattle.smv_meaning.specs.Types.{ExprType}
 use Rattle.smv_meaning.specs.Instances.{Instance}
 use Rattle.smv_meaning.specs.Expressions.{paths_of}
-use Rattle.smv_meaning.specs.Names.{Local, alias, formula, variable_of, inner, nothing, local, Found, variable_at, body_at, instance_at, symbol_of, cyclic, none, is_child, is_end, at_child, ended, onward, walk, has_symbol, symbol_or_none, single, through, resolved, landed, look, found_in, steps_of}
+use Rattle.smv_meaning.specs.Names.{Local, alias, formula, variable_of, inner, nothing, local, Found, variable_at, body_at, instance_at, symbol_of, cyclic, none, is_child, is_end, at_child, onward, walk, has_symbol, single, through, landed, look, found_in, steps_of}
 use Rattle.smv_meaning.specs.Checks.{Named, Typing, typing}
 use Rattle.smv_meaning.specs.Naming.{in_body, unnamed, named_found}
 use Rattle.smv_meaning.specs.Phases.{Formula, formula_same, formula_here, from_instance, touched, referred, refers}

@@ -1,13 +1,13 @@
 -- Definitions and actuals by their numbers, in order.
-use Rattle.std.proofs.Common.{◌≡◌, ℕ, zero, suc, ◌+◌, ◌<◌, Bool, true, ◌&&◌, nat_lt, List, [], ◌∷◌, ◌++◌, map, length, take, drop, refl, sym, ap, ◌∙◌, subst, arith}
+use Rattle.std.proofs.Common.{◌≡◌, ℕ, zero, suc, ◌+◌, ◌<◌, true, nat_lt, List, [], ◌∷◌, ◌++◌, map, length, take, drop, sym, ap, ◌∙◌, subst, arith}
 use Rattle.std.specs.Prelude.{slice_index_or}
 use Rattle.std.specs.List.{list_all}
 use Rattle.std.proofs.lemmas.Bool.{ltb-true}
-use Rattle.std.proofs.lemmas.List.{length-map, get_or-map, map-append, take_more, drop_more, take-append-drop, get_or_default}
+use Rattle.std.proofs.lemmas.List.{length-map, get_or-map, map-append, take_more, drop_more, take-append-drop}
 use Rattle.smv_meaning.specs.declared.formulas.Formula.{Formula as Kept}
 use Rattle.smv_meaning.specs.Instances.{Instance}
 use Rattle.smv_meaning.specs.Names.{local}
-use Rattle.smv_meaning.specs.Phases.{Formula, refers}
+use Rattle.smv_meaning.specs.Phases.{refers}
 use Rattle.smv_meaning.specs.Settled.{NamesSettle, TypesSettle}
 use Rattle.smv_meaning.specs.Formulas.{Placed, placed_formulas, formulas_of, references_of, reference_graph, IsFormulaOrder}
 use Rattle.smv_meaning.specs.Orders.{numbered, is_listed, ReferencesStandBefore, TypesHangOnPaths}

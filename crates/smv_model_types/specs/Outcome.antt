@@ -3,7 +3,7 @@ use Rattle.std.specs.Prelude.{◌≡◌, ℕ, Bool, true, false, List, Option, S
 use Rattle.text_core.specs.declared.place.Place.{Place}
 use Rattle.smv_text.specs.Tree.{Tree, name, PlainDomain, PlainDefinition, PlainItem}
 use Rattle.smv_text.specs.declared.tree.Path.{Path}
-use Rattle.smv_meaning.specs.Types.{ExprType, domain_type}
+use Rattle.smv_meaning.specs.Types.{domain_type}
 use Rattle.smv_meaning.specs.Checks.{Check, check, first_failing, Named, Typing, typing, domain_checks}
 use Rattle.smv_meaning.specs.Naming.{in_body}
 use Rattle.smv_types.specs.declared.types.Ty.{Ty}

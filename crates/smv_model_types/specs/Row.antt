@@ -1,13 +1,11 @@
 -- What names are to the types, as a row has them.
-use Rattle.std.specs.Prelude.{◌≡◌, ℕ, Bool, true, false, ◌&&◌, ◌==◌, if◌then◌else◌, List, [], ◌∷◌, Option, Some, None, option_map, is_some, bytes_eq, IsTrue}
-use Rattle.std.specs.List.{list_any}
+use Rattle.std.specs.Prelude.{◌≡◌, ℕ, Bool, true, false, if◌then◌else◌, List, [], ◌∷◌, Option, Some, None, option_map, is_some}
 use Rattle.std.specs.Borrow.{Bor}
 use Rattle.std.specs.HashMap.{HashMap}
 use Rattle.smv_text.specs.declared.tree.Path.{Path}
-use Rattle.smv_text.specs.Tree.{Tree}
 use Rattle.smv_meaning.specs.Instances.{Instance}
 use Rattle.smv_meaning.specs.Types.{symbol_type}
-use Rattle.smv_meaning.specs.Names.{Local, alias, formula, variable_of, inner, nothing, local, Found, variable_at, body_at, is_end, look, steps_of, symbol_or_none}
+use Rattle.smv_meaning.specs.Names.{Local, alias, formula, variable_of, nothing, local, variable_at, body_at, is_end, look, steps_of, symbol_or_none}
 use Rattle.smv_meaning.specs.Checks.{Named}
 use Rattle.smv_meaning.specs.Naming.{unnamed, named_found}
 use Rattle.smv_meaning.specs.Phases.{Formula, formula_same}

@@ -1,6 +1,6 @@
-use Rattle.std.proofs.Common.{◌≡◌, true, false, map, option_map, Ok, sym, ap, ◌∙◌, subst}
+use Rattle.std.proofs.Common.{true, false, map, option_map, Ok, sym, ap, ◌∙◌, subst}
 use Rattle.smv_text.specs.View.{plain}
-use Rattle.smv_meaning.specs.Types.{ExprType, type_same}
+use Rattle.smv_meaning.specs.Types.{type_same}
 use Rattle.smv_meaning.specs.Checks.{check, typing, on_types, Named, Position}
 use Rattle.smv_meaning.specs.Phases.{place_of, in_assignment}
 use Rattle.smv_meaning.specs.Settled.{types_in}

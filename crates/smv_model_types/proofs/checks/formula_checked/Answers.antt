@@ -1,4 +1,4 @@
-use Rattle.std.proofs.Common.{◌≡◌, true, map, sym, ap, ◌∙◌}
+use Rattle.std.proofs.Common.{true, map, sym, ap, ◌∙◌}
 use Rattle.smv_text.specs.View.{plain}
 use Rattle.smv_meaning.specs.Types.{is_truth_type}
 use Rattle.smv_meaning.specs.Checks.{check, typing, on_type}
