@@ -35,3 +35,4 @@ pub mod RowReads
 pub mod Reaching
 pub mod Filling
 pub mod Keeping
+pub mod ConjunctionLaws

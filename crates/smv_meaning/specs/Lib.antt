@@ -21,3 +21,4 @@ pub mod Parts
 pub mod Checked
 pub mod Leads
 pub mod Rows
+pub mod Conjunctions
