@@ -37,3 +37,4 @@ pub mod Filling
 pub mod Keeping
 pub mod Passing
 pub mod StandingBefore
+pub mod ConjunctionLaws

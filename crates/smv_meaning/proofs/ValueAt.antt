@@ -89,7 +89,7 @@ pub record IsRow {S : Type 0} (ts : List PartOf) (marks : HashMap (ℕ × Bor (L
   pub right : AreGiven ts row.state
   pub kept : MarkedKept ts marks row label
 
-found_kept : {S : Type 0} (ts : List PartOf) (marks : HashMap (ℕ × Bor (List ℕ)) Bool S) (row : Row) (label : Values) → MarkedKept ts marks row label → (rank : ℕ)
+pub found_kept : {S : Type 0} (ts : List PartOf) (marks : HashMap (ℕ × Bor (List ℕ)) Bool S) (row : Row) (label : Values) → MarkedKept ts marks row label → (rank : ℕ)
     → (m : Found) → Under (map instance_plain ts) (rank_of (map instance_plain ts)) rank m → ((k : ℕ) (x : List ℕ) → is_body_of k x m ≡ true → is_marked marks k x ≡ true) → FoundKept ts row label m
 found_kept ts marks row label h rank (body_at k x j e) u s = h k x j e (s k x (same_self (key k x))) u.1
 found_kept ts marks row label h rank (variable_at x kind d) u s = tt

@@ -22,3 +22,4 @@ pub mod Checked
 pub mod Leads
 pub mod Rows
 pub mod Orders
+pub mod Conjunctions

@@ -32,6 +32,8 @@ mod table;
 #[cfg(test)]
 mod tests;
 mod value;
+#[cfg(test)]
+mod value_tests;
 
 pub use checked::{
     accepted_is_checked, expressions_are_safe, expressions_have_types, names_have_types,
