@@ -1,5 +1,5 @@
 -- How the machine goes through the levels: down to the first operand, and up to the level that a token goes on with.
-use Rattle.std.proofs.Common.{◌≡◌, ℕ, ℤ, pos, ◌-ℤ◌, zero, suc, ◌<◌, ◌≤◌, Bool, true, false, ◌&&◌, cond, nat_lt, nat_le, nat_eq, Option, Some, None, option_map, is_some, Result, Ok, Err, ◌⊎◌, inl, inr, List, [], ◌∷◌, length, refl, sym, ap, ◌∙◌, subst, arith}
+use Rattle.std.proofs.Common.{◌≡◌, ℕ, ℤ, pos, ◌-ℤ◌, zero, suc, ◌<◌, ◌≤◌, Bool, true, false, ◌&&◌, cond, if◌then◌else◌, nat_lt, nat_le, nat_eq, Option, Some, None, option_map, is_some, Result, Ok, Err, ◌⊎◌, inl, inr, List, [], ◌∷◌, length, refl, sym, ap, ◌∙◌, subst, arith}
 use Rattle.std.proofs.lemmas.Bool.{ltb-true, ltb-false, lt-ltb, le-ltb, eqb-true, eqb-false, leb-true, le-leb, and_parts}
 use Rattle.text_core.specs.declared.place.Place.{Place}
 use Rattle.smv_text.specs.declared.token.Sign.{Sign}
@@ -14,7 +14,7 @@ use Rattle.smv_text.specs.declared.tree.Prefix.TheVariants as prefixes
 use Rattle.smv_text.specs.declared.level.Joint.{Joint}
 use Rattle.smv_text.specs.declared.level.Level.{Level}
 use Rattle.smv_text.specs.declared.level.Level.TheVariants.{Chain, Choice, Range, Before, Selection}
-use Rattle.smv_text.specs.Tree.{Tree, number}
+use Rattle.smv_text.specs.Tree.{Tree, number, truth}
 use Rattle.smv_text.specs.Grammar.{start}
 use Rattle.smv_parse.specs.declared.levels.Leader.{Leader}
 use Rattle.smv_parse.specs.declared.levels.Leader.TheVariants as leader
@@ -353,6 +353,34 @@ none_left (Some x) e = cc
 neither : (b : Bool) (z : Bool) → z ≡ false → (b && z) ≡ false
 neither true z e = e
 neither false z e = refl
+
+-- a token that begins neither a range nor signs is read below all levels
+pub alone_leads : (n : ℕ) → n ≤ 16 → (x : Token) (xs : List Token) (k : List Frame) (l : Leader) → l ≡ leader_of x.kind
+    → starts_range (x ∷ xs) ≡ false → is_prefix prefixes.Minus x.kind ≡ false → is_prefix prefixes.Not x.kind ≡ false
+    → walk (x ∷ xs) (ask (tightest n) k) ≡ along (primary l (waiting 0 n x.place k) x.place x.kind) x xs (λ s. walk xs s)
+alone_leads n few x xs k l e no_range no_minus no_negation =
+    plain_descends n few x xs k (neither (nat_le 8 n) _ no_range) (neither (nat_le 4 n) _ no_minus) (neither (nat_le 2 n) _ no_negation) ∙ leads_by (waiting 0 n x.place k) x xs l e
+
+-- a number begins a range where `..` is behind it
+no_dots : (xs : List Token) → is_some (after sign.Range xs) ≡ false → starts_with_dots xs ≡ false
+no_dots [] h = refl
+no_dots (x ∷ xs) h = go (is_sign sign.Range x.kind) refl h
+  where
+    go : (b : Bool) → is_sign sign.Range x.kind ≡ b → is_some (cond b (Some xs) None) ≡ false → is_sign sign.Range x.kind ≡ false
+    go true e h = absurd (cc)
+    go false e h = e
+
+pub number_leads : (n : ℕ) → n ≤ 16 → (x : Token) (xs : List Token) (k : List Frame) (m : ℕ) → x.kind ≡ kind.Number m → is_some (after sign.Range xs) ≡ false
+    → walk (x ∷ xs) (ask (tightest n) k) ≡ walk xs (have (number x.place m) (waiting 0 n x.place k))
+number_leads n few x xs k m e none =
+    alone_leads n few x xs k (leader.Number m) (sym (ap leader_of e)) (ap (λ z. dots_behind (integer_at z xs)) e ∙ no_dots xs none) (ap (is_prefix prefixes.Minus) e) (ap (is_prefix prefixes.Not) e)
+
+pub truth_leads : (n : ℕ) → n ≤ 16 → (x : Token) (xs : List Token) (k : List Frame) (b : Bool) → x.kind ≡ kind.Reserved (if b then word.True else word.False)
+    → walk (x ∷ xs) (ask (tightest n) k) ≡ walk xs (have (truth x.place b) (waiting 0 n x.place k))
+truth_leads n few x xs k true e =
+    alone_leads n few x xs k (leader.Truth true) (sym (ap leader_of e)) (ap (λ z. dots_behind (integer_at z xs)) e) (ap (is_prefix prefixes.Minus) e) (ap (is_prefix prefixes.Not) e)
+truth_leads n few x xs k false e =
+    alone_leads n few x xs k (leader.Truth false) (sym (ap leader_of e)) (ap (λ z. dots_behind (integer_at z xs)) e) (ap (is_prefix prefixes.Minus) e) (ap (is_prefix prefixes.Not) e)
 
 -- a single name begins
 pub name_leads : (n : ℕ) → n ≤ 16 → (x : Token) (xs : List Token) (k : List Frame) (m : List ℕ) → x.kind ≡ kind.Ident m → after sign.Dot xs ≡ None

@@ -1,5 +1,5 @@
 -- What the parser's functions answer, told by the machine.
-use Rattle.std.specs.Prelude.{◌≡◌, ℕ, ℤ, pos, ◌-ℤ◌, zero, suc, Bool, false, nat_lt, cond, Option, Some, None, option_map, Result, Ok, Err, List, [], ◌∷◌, length}
+use Rattle.std.specs.Prelude.{◌≡◌, ◌≤◌, ℕ, ℤ, pos, ◌-ℤ◌, zero, suc, Bool, false, nat_lt, cond, Option, Some, None, option_map, Result, Ok, Err, List, [], ◌∷◌, length}
 use Rattle.text_core.specs.declared.place.Place.{Place}
 use Rattle.smv_text.specs.declared.token.Reserved.{Reserved}
 use Rattle.smv_text.specs.declared.token.Reserved.TheVariants as word
@@ -122,6 +122,12 @@ pub record Reads (from : List Frame → State) (onto : List Frame → List Frame
   pub tree : Tree
   pub kept : r ≡ cap tree
   pub leads : (k : List Frame) → walk xs (from k) ≡ walk rest (have tree (onto k))
+
+-- The token is an operand by itself: at however many levels, the machine comes to have it with all of them waiting.
+pub record IsOperand (x : Token) (xs : List Token) (r : Read) : Type 0 where
+  pub tree : Tree
+  pub kept : r ≡ cap tree
+  pub leads : (n : ℕ) → n ≤ 16 → (k : List Frame) → walk (x ∷ xs) (ask (tightest n) k) ≡ walk xs (have tree (waiting 0 n x.place k))
 
 -- The machine dies where the function does.
 abbrev pub Dies : (List Frame → State) → List Token → Stop → Type 0

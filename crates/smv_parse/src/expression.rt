@@ -10,7 +10,8 @@ ghost use Rattle.smv_parse.specs.Kept.{cap};
 ghost use Rattle.smv_parse.specs.Ranks.{level_at, tightest};
 ghost use Rattle.smv_parse.specs.Gathered.{read_of};
 ghost use Rattle.smv_parse.specs.Machine.{bare, operand, when, selected, condition, listing, ask, have, signed, open_next, opened, is_prefix, prefix_sign, closing_of};
-ghost use Rattle.smv_parse.specs.Reading.{starts_range, waiting, Leads, Follows, Selects, Takes};
+ghost use Rattle.std.specs.Bool.{OnTrue};
+ghost use Rattle.smv_parse.specs.Reading.{starts_range, waiting, IsOperand, Leads, Follows, Selects, Takes};
 
 use crate::kept::{
     Cases, Kept, Listing, Members, Operands, leaf, name_leaf, next_value, prefixed as with_prefix,
@@ -70,7 +71,7 @@ fn read<'a>(
     ensures reads { Follows (λ r. (read_of kept.new, r.now)) (ask (tightest levels)) tokens.now result }
     ensures shorter { IfOk result (λ r. length r.now < length tokens.now) }
 {
-    // Most operands are a single name.
+    // Most operands are a single token.
     if let Some((token, rest)) = tokens.split_first() {
         if let TokenKind::Ident(name) = &token.kind {
             if !is_first(rest, Sign::Dot) {
@@ -78,9 +79,41 @@ fn read<'a>(
                 return climb(alloc, levels, token.place, 0, rest, kept);
             }
         }
+        if put_constant(token, rest, kept) {
+            return climb(alloc, levels, token.place, 0, rest, kept);
+        }
     }
     let (level, rest) = begin(alloc, levels, tokens, kept)?;
     climb(alloc, levels, start(tokens), level, rest, kept)
+}
+
+// Keeps the operand that the token is by itself, where it is a number or a truth value: is it one?
+#[inline(never)]
+fn put_constant(token: &Token, rest: &[Token], kept: &mut Kept) -> bool
+    ensures { OnTrue result (IsOperand token.now rest.now (read_of kept.new)) }
+{
+    match &token.kind {
+        TokenKind::Number(n) => {
+            if is_first(rest, Sign::Range) {
+                false
+            } else {
+                put_leaf(kept, token.place, Shape::Number(*n));
+                true
+            }
+        }
+        TokenKind::Reserved(word) => match word {
+            Reserved::True => {
+                put_leaf(kept, token.place, Shape::True);
+                true
+            }
+            Reserved::False => {
+                put_leaf(kept, token.place, Shape::False);
+                true
+            }
+            _ => false,
+        },
+        _ => false,
+    }
 }
 
 // The first operand of an expression of so many levels: how many levels it was read at, and the tokens behind it.
@@ -146,8 +179,31 @@ fn range<'a>(place: Place, tokens: &'a [Token], kept: &mut Kept) -> Result<&'a [
 // What goes on with an operand that was read at so many of the levels: each time the level that the next token goes on with, as
 // long as it is one of those between.
 #[cycle(read)]
-#[inline(never)]
+#[inline(always)]
 fn climb<'a>(
+    alloc: Global,
+    levels: usize,
+    place: Place,
+    level: usize,
+    tokens: &'a [Token],
+    kept: &mut Kept,
+) -> Result<&'a [Token], Stop>
+    requires few { levels ≤ 16 }
+    requires short { length tokens.now < 2 ^ 32 }
+    ensures reads { (t : Tree) → read_of kept.old ≡ cap t → Follows (λ r. (read_of kept.new, r.now)) (λ k. have t (waiting level levels place k)) tokens.now result }
+    ensures shorter { IfOk result (λ r. length r.now ≤ length tokens.now) }
+{
+    let rank = first_rank(tokens);
+    if rank <= level || levels < rank {
+        return Ok(tokens);
+    }
+    ascend(alloc, levels, place, level, tokens, kept)
+}
+
+// The same, where the next token may go on with one of the levels.
+#[cycle(read)]
+#[inline(never)]
+fn ascend<'a>(
     alloc: Global,
     levels: usize,
     place: Place,
@@ -175,7 +231,7 @@ fn climb<'a>(
 
 // What the level over so many others makes of its first operand.
 #[cycle(read)]
-#[inline(never)]
+#[inline(always)]
 fn grown<'a>(
     alloc: Global,
     below: usize,
@@ -198,7 +254,7 @@ fn grown<'a>(
 }
 
 #[cycle(read)]
-#[inline(never)]
+#[inline(always)]
 fn chain<'a>(
     alloc: Global,
     joint: Joint,
@@ -220,8 +276,7 @@ fn chain<'a>(
         operands.push(op, operand)?;
         rest = last;
     }
-    let first = taken(kept);
-    *kept = operands.chain(alloc, place, first)?;
+    operands.chain(alloc, place, kept)?;
     Ok(rest)
 }
 
@@ -249,8 +304,7 @@ fn choice<'a>(
         let end = read(alloc, below, behind, kept)?;
         rest = end;
     }
-    let last = taken(kept);
-    *kept = branches.choice(alloc, place, last)?;
+    branches.choice(alloc, place, kept)?;
     Ok(rest)
 }
 
@@ -267,8 +321,7 @@ fn selections<'a>(
     let mut rest = tokens;
     while let Some(more) = after(rest, Sign::OpenBracket) {
         let (high, low, last) = ends(more)?;
-        let word = taken(kept);
-        *kept = selected(alloc, place, word, high, low)?;
+        selected(alloc, place, kept, high, low)?;
         rest = last;
     }
     Ok(rest)
@@ -309,8 +362,7 @@ fn prefixed<'a>(
         rest = more;
     }
     let last = read(alloc, below, rest, kept)?;
-    let operand = taken(kept);
-    *kept = with_prefix(alloc, place, prefix, count, operand)?;
+    with_prefix(alloc, place, prefix, count, kept)?;
     Ok(last)
 }
 
@@ -391,8 +443,7 @@ fn following<'a>(
     let rest = expect(tokens, Sign::Open)?;
     let closing = read(alloc, 16, rest, kept)?;
     let last = expect(closing, Sign::Close)?;
-    let argument = taken(kept);
-    *kept = next_value(alloc, place, argument)?;
+    next_value(alloc, place, kept)?;
     Ok(last)
 }
 
@@ -420,7 +471,7 @@ fn listed<'a>(
             Some(next) => rest = next,
             None => {
                 let last = expect(more, closing_of(what))?;
-                *kept = members.kept(place, what);
+                members.put(place, what, kept);
                 return Ok(last);
             }
         }
@@ -461,7 +512,7 @@ fn cases<'a>(
         branches.push(when, value)?;
         match after_word(last, Reserved::Esac) {
             Some(done) => {
-                *kept = branches.case(place);
+                branches.case(place, kept);
                 return Ok(done);
             }
             None => rest = last,

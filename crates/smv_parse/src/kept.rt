@@ -50,26 +50,38 @@ fn higher(a: u32, b: u32) -> u32
 fn under(depth: u32, height: u32) -> u32
     ensures { result ≡ capped (depth + height) }
 {
-    capped(capped(depth) + capped(height))
+    capped(depth.saturating_add(height))
 }
 
-fn keep(place: Place, shape: Shape, height: u32) -> Kept
-    ensures { read_of result ≡ keep_at place (shaped place shape) height }
+// Keeps an expression that has this height, or where that is over the limit a leaf.
+#[inline(always)]
+fn keep(kept: &mut Kept, place: Place, shape: Shape, height: u32)
+    ensures { read_of kept.new ≡ keep_at place (shaped place shape) height }
 {
     if height <= MOST {
-        Kept {
-            expr: Expr { place, shape },
-            height,
-        }
+        kept.expr = Expr { place, shape };
+        kept.height = height;
     } else {
-        Kept {
-            expr: Expr {
-                place,
-                shape: Shape::True,
-            },
-            height: MOST + 1,
-        }
+        kept.expr = Expr {
+            place,
+            shape: Shape::True,
+        };
+        kept.height = MOST + 1;
     }
+}
+
+// Puts what is kept into a box, and leaves a leaf.
+#[inline(always)]
+fn boxed(alloc: Global, kept: &mut Kept) -> Result<Box<Expr>, Stop>
+    ensures made { IfOk result (λ b. b.value ≡ kept.old.expr) }
+    ensures free { IfErr result (λ e. e ≡ NoMemory) }
+{
+    let place = kept.expr.place;
+    let left = Expr {
+        place,
+        shape: Shape::True,
+    };
+    Ok(Box::new(alloc, mem::replace(&mut kept.expr, left))?)
 }
 
 /// An expression with no parts.
@@ -83,14 +95,16 @@ pub(crate) fn leaf(place: Place, shape: Shape) -> Kept
 }
 
 /// Keeps an expression with no parts.
-#[inline(never)]
+#[inline(always)]
 pub(crate) fn put_leaf(kept: &mut Kept, place: Place, shape: Shape)
     ensures { read_of kept.new ≡ record { tree = shaped place shape; height = 1 } }
 {
-    *kept = leaf(place, shape);
+    kept.expr = Expr { place, shape };
+    kept.height = 1;
 }
 
 /// Keeps a single name, at its place.
+#[inline(always)]
 pub(crate) fn name_leaf(
     alloc: Global,
     place: Place,
@@ -105,7 +119,7 @@ pub(crate) fn name_leaf(
         names: Names::one(alloc, name.duplicate(alloc)?),
         place,
     };
-    *kept = leaf(place, Shape::Name(path));
+    put_leaf(kept, place, Shape::Name(path));
     Ok(())
 }
 
@@ -117,46 +131,49 @@ pub(crate) fn taken(kept: &mut Kept) -> Kept
     mem::replace(kept, leaf(place, Shape::True))
 }
 
-/// A sign of a prefix, repeated so many times, and its operand.
+/// Keeps a sign of a prefix, repeated so many times, before what is kept.
 pub(crate) fn prefixed(
     alloc: Global,
     place: Place,
     sign: Prefix,
     count: u32,
-    operand: Kept,
-) -> Result<Kept, Stop>
-    ensures made { (t : Tree) → read_of operand ≡ cap t → IfOk result (λ r. read_of r ≡ cap (prefix place sign count t)) }
+    kept: &mut Kept,
+) -> Result<(), Stop>
+    ensures made { (t : Tree) → read_of kept.old ≡ cap t → OnOk result (read_of kept.new ≡ cap (prefix place sign count t)) }
     ensures free { IfErr result (λ e. e ≡ NoMemory) }
 {
-    let height = under(count, operand.height);
-    let shape = Shape::Prefix(sign, count, Box::new(alloc, operand.expr)?);
-    Ok(keep(place, shape, height))
+    let height = under(count, kept.height);
+    let operand = boxed(alloc, kept)?;
+    keep(kept, place, Shape::Prefix(sign, count, operand), height);
+    Ok(())
 }
 
-/// A selection of bits.
+/// Keeps a selection of bits of what is kept.
 pub(crate) fn selected(
     alloc: Global,
     place: Place,
-    word: Kept,
+    kept: &mut Kept,
     high: u64,
     low: u64,
-) -> Result<Kept, Stop>
-    ensures made { (t : Tree) → read_of word ≡ cap t → IfOk result (λ r. read_of r ≡ cap (select place t high low)) }
+) -> Result<(), Stop>
+    ensures made { (t : Tree) → read_of kept.old ≡ cap t → OnOk result (read_of kept.new ≡ cap (select place t high low)) }
     ensures free { IfErr result (λ e. e ≡ NoMemory) }
 {
-    let height = under(1, word.height);
-    let shape = Shape::Select(Box::new(alloc, word.expr)?, high, low);
-    Ok(keep(place, shape, height))
+    let height = under(1, kept.height);
+    let word = boxed(alloc, kept)?;
+    keep(kept, place, Shape::Select(word, high, low), height);
+    Ok(())
 }
 
-/// The value in the next state.
-pub(crate) fn next_value(alloc: Global, place: Place, argument: Kept) -> Result<Kept, Stop>
-    ensures made { (t : Tree) → read_of argument ≡ cap t → IfOk result (λ r. read_of r ≡ cap (next place t)) }
+/// Keeps the value in the next state of what is kept.
+pub(crate) fn next_value(alloc: Global, place: Place, kept: &mut Kept) -> Result<(), Stop>
+    ensures made { (t : Tree) → read_of kept.old ≡ cap t → OnOk result (read_of kept.new ≡ cap (next place t)) }
     ensures free { IfErr result (λ e. e ≡ NoMemory) }
 {
-    let height = under(1, argument.height);
-    let shape = Shape::Next(Box::new(alloc, argument.expr)?);
-    Ok(keep(place, shape, height))
+    let height = under(1, kept.height);
+    let argument = boxed(alloc, kept)?;
+    keep(kept, place, Shape::Next(argument), height);
+    Ok(())
 }
 
 /// The expressions of a list so far, and the highest of their heights.
@@ -185,13 +202,16 @@ impl Members {
         Ok(())
     }
 
-    pub(crate) fn kept(self, place: Place, what: Listing) -> Kept
-        ensures { (ts : List Tree) → AreMembers ts self → read_of result ≡ cap (listed place what ts) }
+    /// Keeps the list.
+    pub(crate) fn put(self, place: Place, what: Listing, kept: &mut Kept)
+        ensures { (ts : List Tree) → AreMembers ts self → read_of kept.new ≡ cap (listed place what ts) }
     {
         let height = under(1, self.highest);
         match what {
-            Listing::Arguments(function) => keep(place, Shape::Call(function, self.exprs), height),
-            Listing::Elements => keep(place, Shape::Set(self.exprs), height),
+            Listing::Arguments(function) => {
+                keep(kept, place, Shape::Call(function, self.exprs), height);
+            }
+            Listing::Elements => keep(kept, place, Shape::Set(self.exprs), height),
         }
     }
 }
@@ -215,6 +235,7 @@ impl Cases {
         }
     }
 
+    #[inline(always)]
     pub(crate) fn push(&mut self, when: Kept, value: Kept) -> Result<(), Stop>
         ensures made { (bs : List (Tree × Tree)) (w v : Tree) → AreCases bs self.old → read_of when ≡ cap w → read_of value ≡ cap v → OnOk result (AreCases (bs ++ (w, v) ∷ []) self.new) }
         ensures free { IfErr result (λ e. e ≡ NoMemory) }
@@ -229,24 +250,26 @@ impl Cases {
         Ok(())
     }
 
-    /// The choice, with what stands behind the last colon.
-    pub(crate) fn choice(self, alloc: Global, place: Place, last: Kept) -> Result<Kept, Stop>
-        ensures made { (bs : List (Tree × Tree)) (t : Tree) → AreCases bs self → read_of last ≡ cap t → IfOk result (λ r. read_of r ≡ cap (choice_at place (branches_of bs) t)) }
+    /// Keeps the choice, where what stands behind the last colon is kept; without a branch that alone.
+    pub(crate) fn choice(self, alloc: Global, place: Place, kept: &mut Kept) -> Result<(), Stop>
+        ensures made { (bs : List (Tree × Tree)) (t : Tree) → AreCases bs self → read_of kept.old ≡ cap t → OnOk result (read_of kept.new ≡ cap (choice_at place (branches_of bs) t)) }
         ensures free { IfErr result (λ e. e ≡ NoMemory) }
     {
         if self.branches.is_empty() {
-            return Ok(last);
+            return Ok(());
         }
-        let height = higher(self.highest, under(self.depth, last.height));
-        let shape = Shape::Choice(self.branches, Box::new(alloc, last.expr)?);
-        Ok(keep(place, shape, height))
+        let height = higher(self.highest, under(self.depth, kept.height));
+        let last = boxed(alloc, kept)?;
+        keep(kept, place, Shape::Choice(self.branches, last), height);
+        Ok(())
     }
 
-    pub(crate) fn case(self, place: Place) -> Kept
-        ensures { (bs : List (Tree × Tree)) → AreCases bs self → read_of result ≡ cap (cases place (branches_of bs)) }
+    /// Keeps the case.
+    pub(crate) fn case(self, place: Place, kept: &mut Kept)
+        ensures { (bs : List (Tree × Tree)) → AreCases bs self → read_of kept.new ≡ cap (cases place (branches_of bs)) }
     {
         let height = higher(self.highest, self.depth);
-        keep(place, Shape::Case(self.branches), height)
+        keep(kept, place, Shape::Case(self.branches), height);
     }
 }
 
@@ -411,16 +434,17 @@ impl Operands {
         Ok(())
     }
 
-    /// The chain, or where nothing was pushed its first operand alone.
-    pub(crate) fn chain(self, alloc: Global, place: Place, first: Kept) -> Result<Kept, Stop>
-        ensures made { (t : Tree) (ls : List (Infix × Tree)) → AreOperands t ls self → read_of first ≡ cap t → IfOk result (λ r. read_of r ≡ cap (whole place (record { first = t; links = ls }))) }
+    /// Keeps the chain, where its first operand is kept; where nothing was pushed that alone.
+    pub(crate) fn chain(self, alloc: Global, place: Place, kept: &mut Kept) -> Result<(), Stop>
+        ensures made { (t : Tree) (ls : List (Infix × Tree)) → AreOperands t ls self → read_of kept.old ≡ cap t → OnOk result (read_of kept.new ≡ cap (whole place (record { first = t; links = ls }))) }
         ensures free { IfErr result (λ e. e ≡ NoMemory) }
     {
         if self.links.is_empty() {
-            return Ok(first);
+            return Ok(());
         }
         let height = self.heights.height();
-        let shape = Shape::Chain(Box::new(alloc, first.expr)?, self.links);
-        Ok(keep(place, shape, height))
+        let first = boxed(alloc, kept)?;
+        keep(kept, place, Shape::Chain(first, self.links), height);
+        Ok(())
     }
 }

@@ -107,6 +107,7 @@ fn starts_with_number_and_dots(tokens: &[Token]) -> bool
 }
 
 /// A path that comes first, and the tokens after it.
+#[inline(always)]
 pub(crate) fn path(alloc: Global, tokens: &[Token]) -> Result<(Path, &[Token]), Stop>
     ensures found { Finds (λ x. (x.0, x.1.now)) (first_path tokens.now) result }
     ensures shorter { IfOk result (λ x. length x.1.now < length tokens.now) }
@@ -121,6 +122,7 @@ pub(crate) fn path(alloc: Global, tokens: &[Token]) -> Result<(Path, &[Token]), 
 }
 
 // The beginning of a path: `self`, or an identifier.
+#[inline(always)]
 fn path_head(alloc: Global, tokens: &[Token]) -> Result<(Path, &[Token]), Stop>
     ensures found { IfOk result (λ x. first_path tokens.now ≡ path_on x.0 x.1.now) }
     ensures dead { IfErr result (IsLost (first_path tokens.now)) }
@@ -154,6 +156,7 @@ fn path_head(alloc: Global, tokens: &[Token]) -> Result<(Path, &[Token]), Stop>
 }
 
 /// An identifier that comes first, and the tokens after it.
+#[inline(always)]
 pub(crate) fn name(alloc: Global, tokens: &[Token]) -> Result<(Name, &[Token]), Stop>
     ensures found { Finds (λ x. (x.0, x.1.now)) (first_name tokens.now) result }
     ensures shorter { IfOk result (λ x. length x.1.now < length tokens.now) }

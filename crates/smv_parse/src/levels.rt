@@ -80,6 +80,7 @@ fn function_at(kind: &TokenKind) -> Option<Function>
     }
 }
 
+#[inline(always)]
 fn infix_at(kind: &TokenKind) -> Option<Infix>
     ensures { result ≡ infix_at kind.now }
 {
@@ -116,6 +117,7 @@ fn infix_at(kind: &TokenKind) -> Option<Infix>
     }
 }
 
+#[inline(always)]
 fn joint_of(op: Infix) -> Joint
     ensures { result ≡ joint_of op }
 {
@@ -145,12 +147,14 @@ fn joint_of(op: Infix) -> Joint
     }
 }
 
+#[inline(always)]
 fn joint_number(joint: Joint) -> u8
     ensures { result ≡ joint_number joint }
 {
     joint as u8
 }
 
+#[inline(always)]
 fn joint_rank(joint: Joint) -> usize
     ensures { result ≡ joint_rank joint }
 {
@@ -170,6 +174,7 @@ fn joint_rank(joint: Joint) -> usize
 }
 
 /// The operator of this level that a token is.
+#[inline(always)]
 fn infix_of(joint: Joint, kind: &TokenKind) -> Option<Infix>
     ensures { result ≡ infix_of joint kind.now }
 {
@@ -186,6 +191,7 @@ fn infix_of(joint: Joint, kind: &TokenKind) -> Option<Infix>
 }
 
 /// The operator of this level that comes first, and the tokens after it.
+#[inline(always)]
 pub(crate) fn joint_after(tokens: &[Token], joint: Joint) -> Option<(Infix, &[Token])>
     ensures found { option_map (λ r. (r.0, r.1.now)) result ≡ joint_after joint tokens.now }
     ensures shorter { IfSome result (λ r. length tokens.now ≡ suc (length r.1.now)) }
@@ -200,6 +206,7 @@ pub(crate) fn joint_after(tokens: &[Token], joint: Joint) -> Option<(Infix, &[To
 }
 
 // The rank of the level that a token goes on with: 17 where it goes on with none, 0 where with a name or an integer.
+#[inline(always)]
 fn rank_of(kind: &TokenKind) -> usize
     ensures { result ≡ rank_of kind.now }
 {
@@ -219,6 +226,7 @@ fn rank_of(kind: &TokenKind) -> usize
 }
 
 /// The rank of the first token, 17 where there is none.
+#[inline(always)]
 pub(crate) fn first_rank(tokens: &[Token]) -> usize
     ensures { result ≡ first_rank tokens.now }
 {

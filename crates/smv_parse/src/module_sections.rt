@@ -74,6 +74,7 @@ fn items<'a>(
 }
 
 // What is assigned, from `:=` to the semicolon.
+#[inline(always)]
 fn body<'a>(
     alloc: Global,
     high: Option<Place>,
@@ -126,6 +127,7 @@ fn definitions<'a>(
 }
 
 // A path in round brackets.
+#[inline(always)]
 fn enclosed<'a>(alloc: Global, tokens: &'a [Token]) -> Result<(Path, &'a [Token]), Stop>
     ensures reads { (h : Option Place) → (w : When) → Gives (λ y. ((w, y.0), h, y.1.now)) (enclosed w h tokens.now) result }
     ensures within { IfOk result (λ y. length y.1.now ≤ length tokens.now) }
@@ -137,6 +139,7 @@ fn enclosed<'a>(alloc: Global, tokens: &'a [Token]) -> Result<(Path, &'a [Token]
 }
 
 // The left side of an assignment.
+#[inline(always)]
 fn target<'a>(alloc: Global, tokens: &'a [Token]) -> Result<(When, Path, &'a [Token]), Stop>
     ensures reads { (h : Option Place) → Gives (λ y. ((y.0, y.1), h, y.2.now)) (either target_pick fail h tokens.now) result }
     ensures shorter { IfOk result (λ y. length y.2.now < length tokens.now) }

@@ -25,6 +25,7 @@ use std::alloc::Global;
 use text_core::{Name, Names, Place};
 
 /// An identifier that comes first, its place and the tokens behind it.
+#[inline(always)]
 pub(crate) fn placed_name<'a>(
     alloc: Global,
     tokens: &'a [Token],
@@ -50,6 +51,7 @@ pub(crate) fn first_is_name(tokens: &[Token]) -> bool
 }
 
 /// An expression that comes first, the tokens behind it, and the place of the first that is too high so far.
+#[inline(always)]
 pub(crate) fn kept_expression<'a>(
     alloc: Global,
     high: Option<Place>,

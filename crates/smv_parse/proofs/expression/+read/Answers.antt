@@ -10,7 +10,8 @@ use Rattle.smv_parse.specs.declared.levels.Leader.TheVariants as leader
 use Rattle.smv_parse.specs.Gathered.{read_of, single}
 use Rattle.smv_parse.specs.Ranks.{level_at, tightest}
 use Rattle.smv_parse.specs.Machine.{bare, joined, operand, when, value, signs, bracket, following, listing, condition, result, closing_of, listed, choice_at, prefix_sign, leader_of, opened, ask, have, signed, open_next, failed, walk}
-use Rattle.smv_parse.specs.Reading.{after, found, first_path, starts_range, IsLost, waiting, Misses}
+use Rattle.std.specs.Bool.{OnTrue}
+use Rattle.smv_parse.specs.Reading.{after, found, first_path, starts_range, IsLost, IsOperand, waiting, Misses}
 use Rattle.smv_parse.proofs.Capping.{none_so_far}
 use Rattle.smv_parse.proofs.Keeping.{read_height, leaf_number, leaf_literal, leaf_true, leaf_false, leaf_name}
 use Rattle.smv_parse.proofs.Steps.{when_goes, value_goes, bracket_goes, following_goes, condition_goes, result_goes, listing_goes, listing_ends, when_leaves, value_dies, signs_fold, bracket_dies, following_dies, condition_dies, result_dies, listing_dies, chain_goes, operand_goes, signed_goes, open_next_goes, open_call_goes, signed_ends, open_next_dies, open_call_dies, case_more, case_ends, named_on}
@@ -36,6 +37,17 @@ read-returns-then-not-is_first-clause-reads m c =
     let no : is_some (after sign.Dot xs) ≡ false = first_of (cc, grind (arith, e, f)) in
     follows_along _ _ (ask (tightest n)) (λ k. have (single x.place bytes) (waiting 0 n x.place k)) ys xs c.climb.result
     (λ k. ap (λ zs. walk zs (ask (tightest n) k)) is ∙ name_leads n c.requires.few x xs k bytes c.in-Ident.is (none_left (after sign.Dot xs) no)) (c.climb.ensures.reads (single x.place bytes) c.in_ok-name_leaf.ensures.made)
+
+pub read-returns-then-put_constant-clause-reads : goal.read-returns-then-put_constant-clause-reads
+read-returns-then-put_constant-clause-reads m c =
+    let n = c.args.levels in
+    let x = c.in-Some.token.now in
+    let xs = c.in-Some.rest.now in
+    let ys = c.args.tokens.now in
+    let is : ys ≡ x ∷ xs = c.in-Some.ensures.cases.0 in
+    let f : IsOperand x xs (read_of c.put_constant.new.kept) = subst (λ b. OnTrue b (IsOperand x xs (read_of c.put_constant.new.kept))) c.if-put_constant.true c.put_constant.ensures in
+    follows_along _ _ (ask (tightest n)) (λ k. have f.tree (waiting 0 n x.place k)) ys xs c.climb-then-put_constant.result
+    (λ k. ap (λ zs. walk zs (ask (tightest n) k)) is ∙ f.leads n c.requires.few k) (c.climb-then-put_constant.ensures.reads f.tree f.kept)
 
 pub begin-returns-in_err-last-in-Some-clause-reads : goal.begin-returns-in_err-last-in-Some-clause-reads
 begin-returns-in_err-last-in-Some-clause-reads t c =
@@ -160,8 +172,18 @@ begin-returns-in-None-clause-reads t c k =
     let none : c.args.tokens.now ≡ [] = none_so_far _ c.in-None.ensures.cases in
     ap (λ zs. walk zs (ask (tightest c.args.levels) k)) none ∙ nothing_comes (tightest c.args.levels) k
 
-pub climb-returns-then-rank-below-clause-reads : goal.climb-returns-then-rank-below-clause-reads
-climb-returns-then-rank-below-clause-reads m c t h =
+pub climb-returns-then-rank-level-clause-reads : goal.climb-returns-then-rank-level-clause-reads
+climb-returns-then-rank-level-clause-reads m c t h =
+    let n = c.args.levels in
+    let rank = c.first_rank-rank.result in
+    record {
+      tree = t;
+      kept = h;
+      leads = λ k. settles c.args.level n c.args.place k t c.args.tokens.now c.requires.few (λ i low high same. beside c.args.level n rank c.then-rank-level.either i low high (c.first_rank-rank.ensures ∙ same));
+    }
+
+pub ascend-returns-then-rank-below-clause-reads : goal.ascend-returns-then-rank-below-clause-reads
+ascend-returns-then-rank-below-clause-reads m c t h =
     let l = c.loop-below in
     let f = l.invariant.reads t h in
     let n = c.args.levels in
@@ -172,8 +194,8 @@ climb-returns-then-rank-below-clause-reads m c t h =
       leads = λ k. f.leads k ∙ settles l.below n c.args.place k f.tree l.rest.now c.requires.few (λ i low high same. beside l.below n rank c.then-rank-below.either i low high (c.first_rank-rank.ensures ∙ same));
     }
 
-pub climb-returns-in_err-last-clause-reads : goal.climb-returns-in_err-last-clause-reads
-climb-returns-in_err-last-clause-reads m c t h =
+pub ascend-returns-in_err-last-clause-reads : goal.ascend-returns-in_err-last-clause-reads
+ascend-returns-in_err-last-clause-reads m c t h =
     let q = c.from_residual in
     let p = err_from_is_err_and q.result q.ensures.1 in
     let l = c.loop-below in
@@ -184,8 +206,8 @@ climb-returns-in_err-last-clause-reads m c t h =
     follows_err _ _ (λ k. have t (waiting c.args.level n c.args.place k)) (λ k. have f.tree (opened (level_at (rank - 1)) (tightest (rank - 1)) c.args.place k)) c.args.tokens.now l.rest.now _ p.0 _ p.1 p.2
     (λ k. (waiting (suc (rank - 1)) n c.args.place k, f.leads k ∙ climbs l.below n (rank - 1) c.args.place k f.tree l.rest.now c.requires.few (omega arith) (omega arith) (sym c.first_rank-rank.ensures ∙ over))) (c.in_err-last.ensures.reads f.tree f.kept)
 
-pub climb-loop-below-preserved : goal.climb-loop-below-preserved
-climb-loop-below-preserved m c =
+pub ascend-loop-below-preserved : goal.ascend-loop-below-preserved
+ascend-loop-below-preserved m c =
     let l = c.loop-below in
     let n = c.args.levels in
     let rank = c.first_rank-rank.result in
@@ -218,11 +240,11 @@ chain-returns-in_err-push-clause-reads m c t h =
     let p = err_from_is_err_and q.result q.ensures.1 in
     follows_free _ _ (λ k. have t (operand c.args.joint (tightest c.args.below) c.args.place bare ∷ k)) c.args.tokens.now _ p.0 _ p.1 p.2 c.in_err-push.ensures.free
 
-pub chain-returns-in_err-kept-clause-reads : goal.chain-returns-in_err-kept-clause-reads
-chain-returns-in_err-kept-clause-reads m c t h =
-    let q = c.from_residual-in_err-kept in
+pub chain-returns-in_err-chain-clause-reads : goal.chain-returns-in_err-chain-clause-reads
+chain-returns-in_err-chain-clause-reads m c t h =
+    let q = c.from_residual-in_err-chain in
     let p = err_from_is_err_and q.result q.ensures.1 in
-    follows_free _ _ (λ k. have t (operand c.args.joint (tightest c.args.below) c.args.place bare ∷ k)) c.args.tokens.now _ p.0 _ p.1 p.2 c.in_err-kept.ensures.free
+    follows_free _ _ (λ k. have t (operand c.args.joint (tightest c.args.below) c.args.place bare ∷ k)) c.args.tokens.now _ p.0 _ p.1 p.2 c.in_err-chain.ensures.free
 
 pub chain-loop-op-preserved : goal.chain-loop-op-preserved
 chain-loop-op-preserved m c =
@@ -292,11 +314,11 @@ choice-returns-in_err-push-clause-reads m c t h =
     let p = err_from_is_err_and q.result q.ensures.1 in
     follows_free _ _ (λ k. have t (when (tightest c.args.below) c.args.place [] ∷ k)) c.args.tokens.now _ p.0 _ p.1 p.2 c.in_err-push.ensures.free
 
-pub choice-returns-in_err-kept-clause-reads : goal.choice-returns-in_err-kept-clause-reads
-choice-returns-in_err-kept-clause-reads m c t h =
-    let q = c.from_residual-in_err-kept in
+pub choice-returns-in_err-choice-clause-reads : goal.choice-returns-in_err-choice-clause-reads
+choice-returns-in_err-choice-clause-reads m c t h =
+    let q = c.from_residual-in_err-choice in
     let p = err_from_is_err_and q.result q.ensures.1 in
-    follows_free _ _ (λ k. have t (when (tightest c.args.below) c.args.place [] ∷ k)) c.args.tokens.now _ p.0 _ p.1 p.2 c.in_err-kept.ensures.free
+    follows_free _ _ (λ k. have t (when (tightest c.args.below) c.args.place [] ∷ k)) c.args.tokens.now _ p.0 _ p.1 p.2 c.in_err-choice.ensures.free
 
 pub choice-loop-more-preserved : goal.choice-loop-more-preserved
 choice-loop-more-preserved m c =
@@ -338,7 +360,7 @@ choice-returns-clause-reads m c t h =
     let rest = l.rest.now in
     record {
       tree = choice_at place (branches_of bs) f.tree;
-      kept = c.in_ok-kept.ensures.made bs f.tree i.1 (ap read_of c.taken-last.ensures ∙ f.kept);
+      kept = c.in_ok-choice.ensures.made bs f.tree i.1 f.kept;
       leads = λ k. f.leads k ∙ when_leaves k f.tree rest b place bs (sym c.in_default.ensures.found);
     }
 
@@ -370,11 +392,11 @@ prefixed-returns-in_err-last-clause-reads m c =
     let none : after (prefix_sign pre) l.rest.now ≡ None = ap (λ s. after s l.rest.now) (sym c.sign_of.ensures) ∙ sym c.in_default.ensures.found in
     follows_err _ _ (signed pre b place 1) (ask b) c.args.tokens.now l.rest.now _ p.0 _ p.1 p.2 (λ k. (signs pre b place l.count ∷ k, l.invariant.reads k ∙ signed_ends k l.rest.now pre b place l.count none)) c.in_err-last.ensures.reads
 
-pub prefixed-returns-in_err-kept-clause-reads : goal.prefixed-returns-in_err-kept-clause-reads
-prefixed-returns-in_err-kept-clause-reads m c =
-    let q = c.from_residual-in_err-kept in
+pub prefixed-returns-in_err-prefixed-clause-reads : goal.prefixed-returns-in_err-prefixed-clause-reads
+prefixed-returns-in_err-prefixed-clause-reads m c =
+    let q = c.from_residual-in_err-prefixed in
     let p = err_from_is_err_and q.result q.ensures.1 in
-    follows_free _ _ (signed c.args.prefix (tightest c.args.below) c.args.place 1) c.args.tokens.now _ p.0 _ p.1 p.2 c.in_err-kept.ensures.free
+    follows_free _ _ (signed c.args.prefix (tightest c.args.below) c.args.place 1) c.args.tokens.now _ p.0 _ p.1 p.2 c.in_err-prefixed.ensures.free
 
 pub prefixed-returns-clause-reads : goal.prefixed-returns-clause-reads
 prefixed-returns-clause-reads m c =
@@ -386,7 +408,7 @@ prefixed-returns-clause-reads m c =
     let o = c.in_ok-last.ensures.reads in
     record {
       tree = prefix place pre l.count o.tree;
-      kept = c.in_ok-kept.ensures.made o.tree (ap read_of c.taken-operand.ensures ∙ o.kept);
+      kept = c.in_ok-prefixed.ensures.made o.tree o.kept;
       leads = λ k. l.invariant.reads k ∙ signed_ends k l.rest.now pre b place l.count none ∙ o.leads _ ∙ signs_fold k o.tree c.in_ok-last.last.now pre b place l.count;
     }
 
@@ -420,11 +442,11 @@ following-returns-in_err-last-clause-reads m c =
     let closing = c.in_ok-closing.closing.now in
     follows_missed _ _ (open_next place) xs closing sign.Close _ p.0 _ p.1 p.2 (λ k none. open_next_goes k xs c.in_ok-rest.rest.now place c.in_ok-rest.ensures.passes ∙ a.leads _ ∙ following_dies k a.tree closing place none) c.in_err-last.ensures.passes
 
-pub following-returns-in_err-kept-clause-reads : goal.following-returns-in_err-kept-clause-reads
-following-returns-in_err-kept-clause-reads m c =
-    let q = c.from_residual-in_err-kept in
+pub following-returns-in_err-next_value-clause-reads : goal.following-returns-in_err-next_value-clause-reads
+following-returns-in_err-next_value-clause-reads m c =
+    let q = c.from_residual-in_err-next_value in
     let p = err_from_is_err_and q.result q.ensures.1 in
-    follows_free _ _ (open_next c.args.place) c.args.tokens.now _ p.0 _ p.1 p.2 c.in_err-kept.ensures.free
+    follows_free _ _ (open_next c.args.place) c.args.tokens.now _ p.0 _ p.1 p.2 c.in_err-next_value.ensures.free
 
 pub following-returns-clause-reads : goal.following-returns-clause-reads
 following-returns-clause-reads m c =
@@ -434,7 +456,7 @@ following-returns-clause-reads m c =
     let closing = c.in_ok-closing.closing.now in
     record {
       tree = next place a.tree;
-      kept = c.in_ok-kept.ensures.made a.tree (ap read_of c.taken-argument.ensures ∙ a.kept);
+      kept = c.in_ok-next_value.ensures.made a.tree a.kept;
       leads = λ k. open_next_goes k xs c.in_ok-rest.rest.now place c.in_ok-rest.ensures.passes ∙ a.leads _ ∙ following_goes k a.tree closing c.in_ok-last.last.now place c.in_ok-last.ensures.passes;
     }
 
@@ -499,7 +521,7 @@ listed-returns-in-None-clause-reads m c =
     let last = c.in_ok-last-in-None.last.now in
     record {
       tree = listed place what (ts ++ f.tree ∷ []);
-      kept = c.kept.ensures (ts ++ f.tree ∷ []) (c.in_ok-push.ensures.made ts f.tree i.1 f.kept);
+      kept = c.put.ensures (ts ++ f.tree ∷ []) (c.in_ok-push.ensures.made ts f.tree i.1 f.kept);
       leads = λ k. i.2 k ∙ f.leads _ ∙ listing_ends k f.tree more last place what ts (sym c.in-None.ensures.found) (ap (λ s. after s more) (sym c.closing_of.ensures) ∙ c.in_ok-last-in-None.ensures.passes);
     }
 

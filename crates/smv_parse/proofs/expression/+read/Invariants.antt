@@ -21,7 +21,10 @@ abbrev pub decreases-primary : goal.decreases-primary
 decreases-primary l = 50 * length l.tokens.now + 1
 
 abbrev pub decreases-climb : goal.decreases-climb
-decreases-climb l = 50 * length l.tokens.now + 30
+decreases-climb l = 50 * length l.tokens.now + 31
+
+abbrev pub decreases-ascend : goal.decreases-ascend
+decreases-ascend l = 50 * length l.tokens.now + 30
 
 abbrev pub decreases-grown : goal.decreases-grown
 decreases-grown l = 50 * length l.tokens.now + 20
@@ -44,15 +47,15 @@ decreases-listed l = 50 * length l.tokens.now + 40
 abbrev pub decreases-cases : goal.decreases-cases
 decreases-cases l = 50 * length l.tokens.now + 40
 
-abbrev pub invariant-climb-loop-below : goal.invariant-climb-loop-below
-invariant-climb-loop-below l = record {
+abbrev pub invariant-ascend-loop-below : goal.invariant-ascend-loop-below
+invariant-ascend-loop-below l = record {
   reads : (t : Tree) → read_of l.fn.kept ≡ cap t
       → Reads (λ k. have t (waiting l.level l.levels l.place k)) (λ k. waiting l.below l.levels l.place k) l.tokens (read_of l.kept) l.rest;
   shorter : length l.rest ≤ length l.tokens;
 }
 
-abbrev pub decreases-climb-loop-below : goal.decreases-climb-loop-below
-decreases-climb-loop-below l = l.levels - l.below
+abbrev pub decreases-ascend-loop-below : goal.decreases-ascend-loop-below
+decreases-ascend-loop-below l = l.levels - l.below
 
 abbrev pub invariant-chain-loop-op : goal.invariant-chain-loop-op
 invariant-chain-loop-op l = record {

@@ -1,7 +1,6 @@
-use Rattle.std.proofs.Common.{◌∷◌, sym, ap, ◌∙◌, arith}
+use Rattle.std.proofs.Common.{◌∷◌, sym, ◌∙◌, arith}
 use Rattle.std.proofs.lemmas.Result.{err_from_is_err_and}
 use Rattle.smv_text.specs.Tree.{select}
-use Rattle.smv_parse.specs.Gathered.{read_of}
 use Rattle.smv_parse.specs.Machine.{selected, have, high_end}
 use Rattle.smv_parse.proofs.Steps.{selected_goes, selected_leaves}
 use Rattle.smv_parse.proofs.Climbing.{selects_dies, follows_err, follows_free}
@@ -17,11 +16,11 @@ returns-in_err-high-clause-reads c t h =
     follows_err _ _ (λ k. have t (selected c.args.place ∷ k)) (high_end c.args.place f.tree) c.args.tokens.now more _ p.0 _ p.1 p.2
     (λ k. (k, f.leads k ∙ selected_goes k f.tree l.rest.now more c.args.place (sym c.in-Some.ensures.found))) (selects_dies more _ c.in_err-high.ensures.reads c.args.place f.tree)
 
-pub returns-in_err-kept-clause-reads : goal.returns-in_err-kept-clause-reads
-returns-in_err-kept-clause-reads c t h =
-    let q = c.from_residual-in_err-kept in
+pub returns-in_err-selected-clause-reads : goal.returns-in_err-selected-clause-reads
+returns-in_err-selected-clause-reads c t h =
+    let q = c.from_residual-in_err-selected in
     let p = err_from_is_err_and q.result q.ensures.1 in
-    follows_free _ _ (λ k. have t (selected c.args.place ∷ k)) c.args.tokens.now _ p.0 _ p.1 p.2 c.in_err-kept.ensures.free
+    follows_free _ _ (λ k. have t (selected c.args.place ∷ k)) c.args.tokens.now _ p.0 _ p.1 p.2 c.in_err-selected.ensures.free
 
 pub loop-more-preserved : goal.loop-more-preserved
 loop-more-preserved c =
@@ -32,7 +31,7 @@ loop-more-preserved c =
           let f = l.invariant.reads t h in
           record {
             tree = select place f.tree c.in_ok-high.high c.in_ok-high.low;
-            kept = c.in_ok-kept.ensures.made f.tree (ap read_of c.taken-word.ensures ∙ f.kept);
+            kept = c.in_ok-selected.ensures.made f.tree f.kept;
             leads = λ k. f.leads k ∙ selected_goes k f.tree l.rest.now c.in-Some.more.now place (sym c.in-Some.ensures.found) ∙ c.in_ok-high.ensures.reads place f.tree k;
           };
       shorter = omega (arith, l.invariant.shorter, c.in-Some.ensures.shorter, c.in_ok-high.ensures.shorter);

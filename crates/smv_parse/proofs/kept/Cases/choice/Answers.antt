@@ -6,5 +6,5 @@ pub returns-clause-made : goal.returns-clause-made
 returns-clause-made c bs t h is =
     let e = c.is_empty.ensures in
     let f = c.if-is_empty.false in
-    c.keep.ensures ∙ keeps_choice c.args.place c.args.self.branches c.in_ok-new.field-0 c.args.last bs t c.higher-height.result (grind (arith, e, f)) c.in_ok-new.ensures.ok is h.trees
-    (omega (arith, c.higher-height.ensures, c.under.ensures, h.depth, h.highest, read_height c.args.last t is))
+    c.keep.ensures ∙ keeps_choice c.args.place c.args.self.branches c.in_ok-last.last c.args.kept.now bs t c.higher-height.result (grind (arith, e, f)) c.in_ok-last.ensures.made is h.trees
+    (omega (arith, c.higher-height.ensures, c.under.ensures, h.depth, h.highest, read_height c.args.kept.now t is))

@@ -22,5 +22,5 @@ pub returns-clause-made : goal.returns-clause-made
 returns-clause-made c t ls h is =
     let e = c.is_empty.ensures in
     let f = c.if-is_empty.false in
-    c.keep.ensures ∙ keeps_chain c.args.place c.in_ok-new.field-0 c.args.self.links c.args.first t ls c.height-height.result (grind (arith, e, f)) c.in_ok-new.ensures.ok is h.trees
+    c.keep.ensures ∙ keeps_chain c.args.place c.in_ok-first.first c.args.self.links c.args.kept.now t ls c.height-height.result (grind (arith, e, f)) c.in_ok-first.ensures.made is h.trees
     (c.height-height.ensures (height t) (link_heights (links_of ls)) h.heights)

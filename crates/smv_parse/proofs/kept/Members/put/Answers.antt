@@ -2,7 +2,7 @@ use Rattle.std.proofs.Common.{ap, ◌∙◌, sym, arith}
 use Rattle.smv_parse.specs.Kept.{cap}
 use Rattle.smv_parse.specs.Machine.{listed}
 use Rattle.smv_parse.proofs.Keeping.{keeps_call, keeps_set}
-use Rattle.smv_parse.proofs.kept.Members.kept.Goals as goal
+use Rattle.smv_parse.proofs.kept.Members.put.Goals as goal
 
 pub returns-in-Arguments : goal.returns-in-Arguments
 returns-in-Arguments c ts h =
