@@ -1,0 +1,9 @@
+pub mod Collecting
+pub mod Shapes
+pub mod Entries
+pub mod Declarations
+pub mod FunctionView
+pub mod Script
+pub mod Behaviour
+pub mod Meeting
+pub mod Attributes
