@@ -1,5 +1,5 @@
 -- The least of failing tests, and tests one after another.
-use Rattle.std.proofs.Common.{◌≡◌, ◌<◌, ◌≤◌, Bool, ◌&&◌, inl, inr, true, false, cond, nat_lt, Option, None, Some, List, [], ◌∷◌, ◌++◌, append_assoc, refl, sym, ap, ◌∙◌, arith}
+use Rattle.std.proofs.Common.{◌≡◌, ◌<◌, ◌≤◌, Bool, ◌&&◌, inl, inr, true, false, cond, nat_lt, Option, None, Some, List, [], ◌∷◌, ◌++◌, append-nil, append_assoc, refl, sym, ap, ◌∙◌, arith}
 use Rattle.std.proofs.lemmas.Bool.{cases_lt}
 use Rattle.std.proofs.lemmas.Bool.Decides.{nat_tests}
 use Rattle.text_core.specs.declared.place.Refusal.{Refusal}
@@ -73,3 +73,9 @@ and_step all now one more whole total e f g = ap (λ b. b && more) e ∙ regroup
     regroup : (a b c : Bool) → ((a && b) && c) ≡ (a && (b && c))
     regroup true b c = refl
     regroup false b c = refl
+
+pub nothing_more : {A : Type 0} (xs : List A) → xs ++ [] ≡ xs
+nothing_more xs = append-nil xs
+
+pub joined : {A : Type 0} (a b c d x y z : List A) → x ≡ [] ++ a → y ≡ x ++ b → z ≡ y ++ c → z ≡ (a ++ b) ++ c
+joined a b c d x y z e f g = g ∙ ap (λ w. w ++ c) (f ∙ ap (λ w. w ++ b) e)

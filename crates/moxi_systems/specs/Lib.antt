@@ -7,3 +7,7 @@ pub mod Script
 pub mod Behaviour
 pub mod Meeting
 pub mod Attributes
+pub mod Lists
+pub mod Formulas
+pub mod Uses
+pub mod Systems

@@ -84,7 +84,8 @@ pub fn read_constants(
     Ok(symbols)
 }
 
-fn both(a: bool, b: bool) -> bool
+/// Both.
+pub fn both(a: bool, b: bool) -> bool
     ensures { result ≡ (a && b) }
 {
     a && b
