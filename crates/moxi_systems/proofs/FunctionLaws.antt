@@ -1,6 +1,6 @@
 -- Functions that are read: where no test of its parts fails, a definition's body has its result's sort.
-use Rattle.std.proofs.Common.{arith, ◌≡◌, ℕ, Bool, true, false, cond, eqb, IfOk, IfSome, Result, Ok, Err, Option, None, Some, List, [], ◌∷◌, ◌++◌, is_none, not, refl, sym, ap, ◌∙◌, subst, inl, inr}
-use Rattle.std.proofs.lemmas.Bool.Decides.{eqb_tells, nat_tests}
+use Rattle.std.proofs.Common.{arith, ◌≡◌, ℕ, Bool, true, false, IfOk, IfSome, Result, Ok, Err, Option, None, Some, List, [], ◌∷◌, ◌++◌, is_none, not, refl, sym, ap, subst}
+use Rattle.std.proofs.lemmas.Bool.Decides.{nat_tests}
 use Rattle.std.proofs.lemmas.Option.{none-some, same_Some}
 use Rattle.text_core.specs.declared.place.Place.{Place}
 use Rattle.text_core.specs.declared.place.Refusal.{Refusal}
@@ -12,8 +12,8 @@ use Rattle.moxi_terms.specs.Failures.{least, sooner}
 use Rattle.moxi_terms.specs.Forms.{place_in}
 use Rattle.moxi_terms.specs.Reading.{Context, read, sort_reading, prime_failures}
 use Rattle.moxi_terms.specs.Sorts.{IsSort, same_sort}
-use Rattle.moxi_terms.specs.Sorted.{AreSorts, HasSort, IsFunction, IsScope}
-use Rattle.moxi_terms.specs.Tree.{Tree, sorts_of}
+use Rattle.moxi_terms.specs.Sorted.{AreSorts, HasSort, IsFunction}
+use Rattle.moxi_terms.specs.Tree.{sorts_of}
 use Rattle.moxi_terms.specs.View.{ScopeState}
 use Rattle.moxi_terms.specs.WellSorted.{HaveKnownSorts, IsWellSorted}
 use Rattle.moxi_systems.specs.Collecting.{also, fails_if}

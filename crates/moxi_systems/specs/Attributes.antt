@@ -1,5 +1,5 @@
 -- The attributes of a command. A known keyword takes the next form, an unknown one the forms up to the next keyword.
-use Rattle.std.specs.Prelude.{◌==◌, ℕ, zero, suc, ◌+◌, nat_le, Bool, true, false, ◌&&◌, ◌||◌, is_some, is_none, if◌then◌else◌, Option, None, Some, List, [], ◌∷◌, ◌++◌, codes}
+use Rattle.std.specs.Prelude.{◌==◌, ℕ, ◌+◌, nat_le, Bool, true, false, ◌&&◌, ◌||◌, is_some, is_none, if◌then◌else◌, Option, None, Some, List, [], ◌++◌, codes}
 use Rattle.std.specs.Borrow.{Bor}
 use Rattle.std.specs.Str.{bytes_eq}
 use Rattle.text_core.specs.declared.place.Refusal.{Refusal}
@@ -7,7 +7,6 @@ use Rattle.text_core.specs.declared.place.Place.{Place}
 use Rattle.moxi_sexpr.specs.declared.form.Atom.{Atom}
 use Rattle.moxi_sexpr.specs.declared.form.Atom.TheVariants.{Symbol, Keyword, Numeral, Binary, Hex, Quote}
 use Rattle.moxi_sexpr.specs.declared.form.Form.{Form}
-use Rattle.moxi_sexpr.specs.Lexing.{refusal}
 use Rattle.moxi_sexpr.specs.Tree.{Tree, atom, list, Trees, no_trees, tree, plain}
 use Rattle.moxi_terms.specs.Forms.{place_in}
 use Rattle.moxi_terms.specs.Names.{or_else}

@@ -1,14 +1,14 @@
 -- Enumerations, sorts and functions: what a command declares, and the tests that fail.
-use Rattle.std.specs.Prelude.{ℕ, nat_lt, length, Bool, true, false, not, ◌&&◌, ◌||◌, is_none, is_some, if◌then◌else◌, Option, None, Some, Result, Ok, Err, List, [], ◌∷◌, ◌++◌}
+use Rattle.std.specs.Prelude.{ℕ, nat_lt, length, Bool, true, false, not, ◌&&◌, ◌||◌, is_none, is_some, if◌then◌else◌, Option, None, Some, Result, List, [], ◌∷◌, ◌++◌}
 use Rattle.text_core.specs.declared.place.Place.{Place}
 use Rattle.text_core.specs.declared.place.Refusal.{Refusal}
 use Rattle.moxi_sexpr.specs.Lexing.{refusal}
 use Rattle.moxi_sexpr.specs.Tree.{Tree, atom, list, Trees, no_trees, tree}
 use Rattle.moxi_terms.specs.declared.data.Sort.{Sort}
 use Rattle.moxi_terms.specs.declared.data.Primes.TheVariants.{Refused}
-use Rattle.moxi_terms.specs.Forms.{place_in, symbol_of, only_of, pair_of}
-use Rattle.moxi_terms.specs.Names.{is_among, is_sort_name, is_term_name, may_be_enumeration, with_enumeration, with_function, with_sort, place_of}
-use Rattle.moxi_terms.specs.Reading.{Reading, Context, prime_failures, read, sort_reading}
+use Rattle.moxi_terms.specs.Forms.{place_in, symbol_of, pair_of}
+use Rattle.moxi_terms.specs.Names.{is_sort_name, is_term_name, may_be_enumeration, with_enumeration, with_function, with_sort, place_of}
+use Rattle.moxi_terms.specs.Reading.{Reading, prime_failures, read, sort_reading}
 use Rattle.moxi_terms.specs.Sorts.{same_sort}
 use Rattle.moxi_terms.specs.Tree.{PlainFunction, Tree as TermTree}
 use Rattle.moxi_terms.specs.View.{ScopeState}

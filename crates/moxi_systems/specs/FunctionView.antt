@@ -1,5 +1,5 @@
 -- The parts of a function's definition behind references.
-use Rattle.std.specs.Prelude.{ℕ, Option, None, Some, List, []}
+use Rattle.std.specs.Prelude.{Option, None, Some}
 use Rattle.moxi_sexpr.specs.Tree.{plain, plain_forms}
 use Rattle.moxi_systems.specs.declared.functions.FunctionParts.{FunctionParts}
 use Rattle.moxi_systems.specs.Declarations.{FunctionForms}

@@ -11,3 +11,10 @@ pub mod Lists
 pub mod Formulas
 pub mod Uses
 pub mod Systems
+pub mod Labels
+pub mod QueryReading
+pub mod Checks
+pub mod Commands
+pub mod Links
+pub mod Cycles
+pub mod Spelling

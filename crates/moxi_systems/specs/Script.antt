@@ -1,10 +1,9 @@
 -- The plain form of scripts (MoXI, SPIN 2024): numbers, names and lists.
 use Rattle.std.specs.Prelude.{ℕ, List, [], ◌++◌, length, map, Option, slice_index_or}
 use Rattle.text_core.specs.declared.place.Place.{Place}
-use Rattle.moxi_terms.specs.declared.data.Sort.{Sort}
 use Rattle.moxi_terms.specs.declared.term.Variable.{Variable}
 use Rattle.moxi_terms.specs.Operators.{nothing}
-use Rattle.moxi_terms.specs.Tree.{Tree, constant, sorts_of}
+use Rattle.moxi_terms.specs.Tree.{Tree, constant}
 use Rattle.moxi_terms.specs.Value.{Calls, calls_upto}
 use Rattle.moxi_terms.specs.View.{ScopeState, plain}
 use Rattle.moxi_systems.specs.declared.script.Subsystem.{Subsystem}

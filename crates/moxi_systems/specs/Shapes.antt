@@ -1,5 +1,5 @@
 -- The shapes of lists.
-use Rattle.std.specs.Prelude.{ℕ, Bool, Option, None, Some, List, option_and_then}
+use Rattle.std.specs.Prelude.{ℕ, Bool, Option, None, Some, List}
 use Rattle.std.specs.Borrow.{Bor}
 use Rattle.text_core.specs.declared.place.Place.{Place}
 use Rattle.text_core.specs.declared.place.Refusal.{Refusal}

@@ -1,5 +1,5 @@
-use Rattle.std.proofs.Common.{◌+◌, drop, ap, sym, ◌∙◌}
-use Rattle.moxi_sexpr.specs.Tree.{plain, plain_forms}
+use Rattle.std.proofs.Common.{◌+◌, drop, ap, ◌∙◌}
+use Rattle.moxi_sexpr.specs.Tree.{plain_forms}
 use Rattle.moxi_systems.specs.Collecting.{also}
 use Rattle.moxi_systems.specs.Attributes.{unknown_failures}
 use Rattle.moxi_systems.proofs.Collecting.{also_end, also_step}

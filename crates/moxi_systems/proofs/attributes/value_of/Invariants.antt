@@ -1,4 +1,4 @@
-use Rattle.std.proofs.Common.{◌≡◌, ◌+◌, ◌≤◌, drop}
+use Rattle.std.proofs.Common.{◌≡◌, drop}
 use Rattle.moxi_sexpr.specs.Tree.{plain_forms}
 use Rattle.moxi_systems.specs.Attributes.{value_of}
 use Rattle.moxi_systems.specs.declared.attributes.Turn.TheVariants.{AtKeyword}

@@ -1,4 +1,4 @@
-use Rattle.std.proofs.Common.{◌≡◌, ◌++◌, ◌+◌, ◌≤◌, drop, length}
+use Rattle.std.proofs.Common.{◌≡◌, ◌++◌, drop, length}
 use Rattle.moxi_systems.specs.Entries.{locals_among}
 use Rattle.moxi_systems.proofs.entries.locals_among.Given as goal
 

@@ -1,6 +1,6 @@
 use Rattle.std.proofs.Common.{◌+◌, drop, ap, sym, ◌∙◌}
 use Rattle.moxi_systems.specs.Collecting.{also}
-use Rattle.moxi_systems.specs.Entries.{names_after, names_with, twice_failures, twice_tests}
+use Rattle.moxi_systems.specs.Entries.{names_after, twice_failures}
 use Rattle.moxi_systems.proofs.Collecting.{also_end, also_step}
 use Rattle.moxi_systems.proofs.Forms.{items_end, items_step}
 use Rattle.moxi_systems.proofs.entries.test_twice.Goals as goal

@@ -1,5 +1,4 @@
-use Rattle.std.proofs.Common.{◌≡◌, ◌++◌, [], ℕ, List, Option, Some, IfSome, cond, is_none, ap, sym, subst, ◌∙◌}
-use Rattle.moxi_sexpr.specs.Tree.{plain_forms}
+use Rattle.std.proofs.Common.{◌≡◌, ◌++◌, [], List, Option, IfSome, cond, is_none, ap, sym, subst, ◌∙◌}
 use Rattle.moxi_terms.specs.declared.data.Sort.{Sort}
 use Rattle.moxi_terms.specs.Tree.{Tree}
 use Rattle.moxi_terms.specs.Reading.{prime_failures}

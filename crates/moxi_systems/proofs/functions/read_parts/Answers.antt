@@ -1,4 +1,4 @@
-use Rattle.std.proofs.Common.{◌≡◌, ◌++◌, ap, sym, subst, ◌∙◌}
+use Rattle.std.proofs.Common.{◌≡◌, ◌++◌, ap, subst, ◌∙◌}
 use Rattle.moxi_sexpr.specs.Tree.{plain as plain_form}
 use Rattle.moxi_sexpr.specs.Tree.{plain_forms}
 use Rattle.moxi_terms.specs.Answer.{IsRead}

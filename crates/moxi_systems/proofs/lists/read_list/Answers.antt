@@ -5,7 +5,6 @@ use Rattle.moxi_systems.specs.declared.entries.Declared.{Declared}
 use Rattle.moxi_systems.specs.declared.lists.DeclaredList.{DeclaredList}
 use Rattle.moxi_systems.specs.Attributes.{value_now, value_of}
 use Rattle.moxi_systems.specs.Collecting.{also}
-use Rattle.moxi_systems.specs.Declarations.{is_nil}
 use Rattle.moxi_systems.specs.Lists.{listed_entries, listed_failures}
 use Rattle.moxi_systems.proofs.FunctionLaws.{none_is_nil, own_least}
 use Rattle.moxi_systems.proofs.lists.read_list.Goals as goal

@@ -1,4 +1,4 @@
-use Rattle.std.proofs.Common.{◌+◌, ◌++◌, [], drop, refl, ap, ◌∙◌}
+use Rattle.std.proofs.Common.{◌+◌, ◌++◌, drop, refl, ap, ◌∙◌}
 use Rattle.moxi_sexpr.specs.Tree.{plain, plain_forms}
 use Rattle.moxi_systems.specs.declared.attributes.Turn.TheVariants.{AtKeyword}
 use Rattle.moxi_systems.specs.declared.attributes.Command.TheVariants.{System}
