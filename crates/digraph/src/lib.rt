@@ -9,3 +9,4 @@ mod search;
 mod tests;
 
 pub use order::{Graph, Order, sort};
+pub use returns::leads_back;

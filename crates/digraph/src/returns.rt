@@ -88,8 +88,8 @@ impl Visit {
     }
 }
 
-// Does the node lead to itself?
-fn leads_back(alloc: Global, graph: &Graph, start: usize) -> Result<bool, NoMemory>
+/// Does the node lead to itself?
+pub fn leads_back(alloc: Global, graph: &Graph, start: usize) -> Result<bool, NoMemory>
     requires graph { is_graph graph.now ≡ true }
     requires there { start < length graph.now }
     ensures { IfOk result (Returning graph.now start) }

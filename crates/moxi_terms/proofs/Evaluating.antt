@@ -1,20 +1,19 @@
 -- What an evaluation of a term asks for gives what those of its parts ask for.
-use Rattle.std.proofs.Common.{◌≡◌, ℕ, ◌<◌, ◌≤◌, ◌++◌, List, [], ◌∷◌, length, take, map, Option, None, Some, Ok, refl, sym, ap, ◌∙◌, subst, arith}
-use Rattle.std.specs.Prelude.{slice_get}
+use Rattle.std.proofs.Common.{◌≡◌, ℕ, ◌<◌, ◌≤◌, ◌++◌, List, [], ◌∷◌, length, take, map, Option, None, Some, sym, ap, ◌∙◌, subst, arith}
 use Rattle.moxi_terms.specs.declared.data.Sort.{Sort}
 use Rattle.moxi_terms.specs.declared.data.Datum.{Datum}
 use Rattle.moxi_terms.specs.declared.data.TermOp.{TermOp}
 use Rattle.moxi_terms.specs.declared.term.Enumeration.{Enumeration}
 use Rattle.moxi_terms.specs.Applied.{CanApply}
 use Rattle.moxi_terms.specs.Sorts.{Fit}
-use Rattle.moxi_terms.specs.Sorted.{HasSort, HaveSorts, AreFunctions}
-use Rattle.moxi_terms.specs.Tree.{Tree, constant, variable, bound, apply, binding, call, Trees, no_trees, tree, PlainFunction, sorts_of}
-use Rattle.moxi_terms.specs.Value.{Calls, Values, at, term_value, term_values, calls_upto}
+use Rattle.moxi_terms.specs.Sorted.{HasSort, HaveSorts}
+use Rattle.moxi_terms.specs.Tree.{Tree, apply, binding, call, Trees, tree, PlainFunction, sorts_of}
+use Rattle.moxi_terms.specs.Value.{at, term_value, term_values, calls_upto}
 use Rattle.std.specs.Borrow.{Bor}
 use Rattle.std.proofs.lemmas.List.{length-map, take_all}
 use Rattle.moxi_terms.specs.declared.term.Function.{Function}
 use Rattle.moxi_terms.specs.Value.{later_of}
-use Rattle.moxi_terms.specs.View.{ScopeState, plain_function, plain_functions}
+use Rattle.moxi_terms.specs.View.{ScopeState, plain_function}
 use Rattle.moxi_terms.specs.Sorted.{IsScope, IsReady, FitLater}
 use Rattle.moxi_terms.specs.Evaluated.{CanEvaluate, CanEvaluateAll, CanCall}
 use Rattle.moxi_terms.proofs.ValueLaws.{calls_suit, suits, values_sorted, fit_append, taken_at}
@@ -150,11 +149,11 @@ body_can fs k n args body c e =
 
 -- what the evaluation of a whole term asks for
 pub ready_can : (s : ScopeState) (now : List Datum) (later : Option (Bor (List Datum))) (t : Tree) (fs : List Function) (n : ℕ) (l vals : List Datum)
-    → IsScope s → IsReady s now later t → fs ≡ s.functions → n ≡ length fs → l ≡ later_of now later → vals ≡ [] → CanEvaluate (map plain_function fs) n now l vals t
+    → IsScope s → IsReady s now later t → map plain_function fs ≡ s.functions → n ≡ length fs → l ≡ later_of now later → vals ≡ [] → CanEvaluate (map plain_function fs) n now l vals t
 ready_can s now later t fs n l vals scope r e f g h =
-    let all : map plain_function fs ≡ plain_functions s = ap (map plain_function) e in
-    let long : n ≡ length (plain_functions s) = f ∙ sym (length-map fs plain_function) ∙ ap length all in
-    let here : CanEvaluate (plain_functions s) (length (plain_functions s)) now (later_of now later) [] t = record {
+    let all : map plain_function fs ≡ s.functions = e in
+    let long : n ≡ length s.functions = f ∙ sym (length-map fs plain_function) ∙ ap length all in
+    let here : CanEvaluate s.functions (length s.functions) now (later_of now later) [] t = record {
       enumerations = s.enumerations;
       vars = r.vars;
       bounds = [];
@@ -164,19 +163,19 @@ ready_can s now later t fs n l vals scope r e f g h =
       fit_now = r.fit;
       fit_later = later_fits s.enumerations r.vars now t later r.fit r.fit_later;
       fit_bound = tt;
-      sorted = subst (λ gs. HasSort s.enumerations gs r.vars [] t r.sort) (sym (take_all (length (plain_functions s)) (plain_functions s) (omega arith))) r.sorted;
+      sorted = subst (λ gs. HasSort s.enumerations gs r.vars [] t r.sort) (sym (take_all (length s.functions) s.functions (omega arith))) r.sorted;
     } in
-    subst (λ fs. CanEvaluate fs n now l vals t) (sym all) (subst (λ n. CanEvaluate (plain_functions s) n now l vals t) (sym long)
-    (subst (λ l. CanEvaluate (plain_functions s) (length (plain_functions s)) now l vals t) (sym g) (subst (λ b. CanEvaluate (plain_functions s) (length (plain_functions s)) now (later_of now later) b t) (sym h) here)))
+    subst (λ fs. CanEvaluate fs n now l vals t) (sym all) (subst (λ n. CanEvaluate s.functions n now l vals t) (sym long)
+    (subst (λ l. CanEvaluate s.functions (length s.functions) now l vals t) (sym g) (subst (λ b. CanEvaluate s.functions (length s.functions) now (later_of now later) b t) (sym h) here)))
   where
     later_fits : (es : List Enumeration) (vars : List Sort) (now : List Datum) (t : Tree) (later : Option (Bor (List Datum))) → Fit es vars now → FitLater es vars t later → Fit es vars (later_of now later)
     later_fits es vars now t None f g = f
     later_fits es vars now t (Some x) f g = g
 
-pub ready_value : (s : ScopeState) (now m : List Datum) (t : Tree) (fs : List Function) (n : ℕ) (l vals : List Datum) → fs ≡ s.functions → n ≡ length fs → l ≡ m → vals ≡ []
-    → term_value (calls_upto (map plain_function fs) n) (at now) (at l) vals t ≡ term_value (calls_upto (plain_functions s) (length s.functions)) (at now) (at m) [] t
+pub ready_value : (s : ScopeState) (now m : List Datum) (t : Tree) (fs : List Function) (n : ℕ) (l vals : List Datum) → map plain_function fs ≡ s.functions → n ≡ length fs → l ≡ m → vals ≡ []
+    → term_value (calls_upto (map plain_function fs) n) (at now) (at l) vals t ≡ term_value (calls_upto s.functions (length s.functions)) (at now) (at m) [] t
 ready_value s now m t fs n l vals e f g h =
-    ap (λ fs. term_value (calls_upto (map plain_function fs) n) (at now) (at l) vals t) e
-    ∙ ap (λ n. term_value (calls_upto (plain_functions s) n) (at now) (at l) vals t) (f ∙ ap length e)
-    ∙ ap (λ l. term_value (calls_upto (plain_functions s) (length s.functions)) (at now) (at l) vals t) g
-    ∙ ap (λ b. term_value (calls_upto (plain_functions s) (length s.functions)) (at now) (at m) b t) h
+    ap (λ fs. term_value (calls_upto fs n) (at now) (at l) vals t) e
+    ∙ ap (λ n. term_value (calls_upto s.functions n) (at now) (at l) vals t) (f ∙ sym (length-map fs plain_function) ∙ ap length e)
+    ∙ ap (λ l. term_value (calls_upto s.functions (length s.functions)) (at now) (at l) vals t) g
+    ∙ ap (λ b. term_value (calls_upto s.functions (length s.functions)) (at now) (at m) b t) h

@@ -1,7 +1,7 @@
 -- Places of names, and the first and the last of a name.
-use Rattle.std.proofs.Common.{◌≡◌, ◌≢◌, ◌⊎◌, ℕ, zero, suc, ◌+◌, ◌-◌, ◌<◌, ◌≤◌, ◌^◌, Bool, true, false, not, cond, nat_lt, List, [], ◌∷◌, ◌++◌, map, length, take, drop, Option, None, Some, is_none, refl, sym, ap, ◌∙◌, subst, arith, inl, inr, append-nil, append_assoc}
+use Rattle.std.proofs.Common.{◌≡◌, ℕ, zero, suc, ◌+◌, ◌-◌, ◌<◌, ◌≤◌, ◌^◌, Bool, true, false, not, cond, nat_lt, List, [], ◌∷◌, ◌++◌, length, take, Option, None, Some, is_none, refl, sym, ap, ◌∙◌, subst, arith, inl, inr, append-nil}
 use Rattle.std.specs.Prelude.{slice_get, slice_index_or}
-use Rattle.std.specs.List.{AllByRecursion, position, position_or_len}
+use Rattle.std.specs.List.{position_or_len}
 use Rattle.std.specs.Str.{bytes_eq}
 use Rattle.std.proofs.lemmas.Bool.{cases_Bool}
 use Rattle.std.proofs.lemmas.Slice.Eq.{bytes_eq-Decides}
@@ -9,10 +9,9 @@ use Rattle.std.proofs.lemmas.Option.{same_Some, none-some, slice_get_within}
 use Rattle.std.proofs.lemmas.List.{take-append-le, length-append}
 use Rattle.moxi_terms.specs.declared.data.Sort.{Sort}
 use Rattle.moxi_terms.specs.declared.names.Local.{Local}
-use Rattle.moxi_terms.specs.declared.locals.Binding.{Binding}
 use Rattle.moxi_terms.specs.Names.{place_of, or_else}
-use Rattle.moxi_terms.specs.Reading.{Found, first_of, last_of}
-use Rattle.moxi_terms.specs.Finding.{IsIndexed, IsStacked, found_number, number_at, name_at, locals_in}
+use Rattle.moxi_terms.specs.Reading.{Found, first_of}
+use Rattle.moxi_terms.specs.Finding.{IsIndexed, found_number, number_at, name_at}
 
 -- the place of the first name equal to these bytes, counted from n
 abbrev pub place_from : ℕ → List (List ℕ) → List ℕ → Option ℕ

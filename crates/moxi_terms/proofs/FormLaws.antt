@@ -1,8 +1,7 @@
 -- Lists of forms.
-use Rattle.std.proofs.Common.{◌≡◌, ℕ, suc, List, [], ◌∷◌, map, length, Option, None, Some, refl, sym, ap, ◌∙◌, arith}
-use Rattle.std.proofs.lemmas.Option.{same_Some, none-some}
+use Rattle.std.proofs.Common.{◌≡◌, List, [], ◌∷◌, length, Option, None, Some, refl, arith}
 use Rattle.moxi_sexpr.specs.declared.form.Form.{Form}
-use Rattle.moxi_sexpr.specs.Tree.{Tree, Trees, no_trees, tree, plain, plain_forms}
+use Rattle.moxi_sexpr.specs.Tree.{Tree, plain, plain_forms}
 use Rattle.moxi_terms.specs.Forms.{only_of, pair_of}
 
 pub only_none : (fs : List Form) → length fs ≡ 0 → only_of (plain_forms fs) ≡ None

@@ -1,10 +1,10 @@
 -- An operator gives a value of the sort that its application has, and its arguments have the widths that its row asks for.
-use Rattle.std.proofs.Common.{◌≡◌, ℕ, suc, ◌+◌, ◌-◌, ◌^◌, ◌/◌, ◌%◌, ◌<◌, ◌≤◌, Bool, true, false, cond, ◌&&◌, nat_le, nat_lt, eqb, List, [], ◌∷◌, length, Option, Some, None, Result, Ok, Err, refl, sym, ap, ◌∙◌, subst, arith}
+use Rattle.std.proofs.Common.{◌≡◌, ℕ, suc, ◌+◌, ◌-◌, ◌^◌, ◌/◌, ◌<◌, ◌≤◌, Bool, true, false, cond, ◌&&◌, nat_le, nat_lt, eqb, List, [], ◌∷◌, length, Some, Result, Ok, Err, refl, sym, ap, ◌∙◌, subst, arith}
 use Rattle.std.proofs.lemmas.Bool.{and_parts}
 use Rattle.std.proofs.lemmas.Bool.Decides.{nat_tests}
 use Rattle.std.proofs.Math.Nat.{one-le-pow, mod-lt}
 use Rattle.word_core.specs.Words.{BitVector, IsWord}
-use Rattle.word_core.specs.Table.{BinaryFits, unary_of, binary_of, slice_of, uext_of, sext_of, is_minus}
+use Rattle.word_core.specs.Table.{unary_of, binary_of, slice_of, uext_of, sext_of, is_minus}
 use Rattle.word_core.specs.declared.word.TheConstants.{WIDEST}
 use Rattle.word_core.specs.declared.kinds.Unary.{Unary}
 use Rattle.word_core.specs.declared.kinds.Unary.TheVariants as one
@@ -12,16 +12,16 @@ use Rattle.word_core.specs.declared.kinds.Binary.{Binary}
 use Rattle.word_core.specs.declared.kinds.Binary.TheVariants as two
 use Rattle.word_core.proofs.Rows.{unary_is_word, binary_is_word, uext_is_word, sext_is_word}
 use Rattle.moxi_terms.specs.declared.data.Sort.{Sort}
-use Rattle.moxi_terms.specs.declared.data.Sort.TheVariants.{Truth, Bits, Choice}
+use Rattle.moxi_terms.specs.declared.data.Sort.TheVariants.{Truth, Bits}
 use Rattle.moxi_terms.specs.declared.data.Datum.{Datum}
 use Rattle.moxi_terms.specs.declared.data.Datum.TheVariants as datum
 use Rattle.moxi_terms.specs.declared.data.TermOp.{TermOp}
 use Rattle.moxi_terms.specs.declared.data.TermOp.TheVariants as op
 use Rattle.moxi_terms.specs.declared.term.Enumeration.{Enumeration}
-use Rattle.moxi_terms.specs.Operators.{truth_of, word_of, op_value, on_words, folded, is_comparison}
-use Rattle.moxi_terms.specs.Sorts.{IsOf, Fit, common, is_chain, is_arithmetic, is_negation, count_fits, calculated, widened, fitting, op_sort}
+use Rattle.moxi_terms.specs.Operators.{truth_of, word_of, op_value, on_words, folded}
+use Rattle.moxi_terms.specs.Sorts.{IsOf, Fit, common, is_chain, is_negation, count_fits, fitting, op_sort}
 use Rattle.moxi_terms.specs.Applied.{AreWide, CanApply, IsBits}
-use Rattle.moxi_terms.proofs.SortLaws.{taken, same_ok, AllOne, AllOf, common_one, fit_all, fit_long, fit_one, fit_two, fit_three, bits_are, truths, logical_truth, compared_truth, chosen_is, folded_word, folded_wide, compared_wide, comparison_count, Calculated, comparison, arithmetic, calculated_is, widened_is, arithmetic_fits}
+use Rattle.moxi_terms.proofs.SortLaws.{taken, same_ok, AllOf, common_one, fit_all, fit_long, fit_one, fit_two, fit_three, bits_are, truths, logical_truth, compared_truth, chosen_is, folded_word, folded_wide, compared_wide, comparison_count, Calculated, comparison, arithmetic, calculated_is, widened_is}
 
 chosen_of : (es : List Enumeration) (s : Sort) (c : Bool) (a b : Datum) → IsOf es s a → IsOf es s b → IsOf es s (cond c a b)
 chosen_of es s true a b x y = x

@@ -1,5 +1,5 @@
 -- The plain form of each kind of term, and the bodies of functions.
-use Rattle.std.proofs.Common.{◌≡◌, ℕ, zero, suc, ◌<◌, ◌≤◌, ◌+◌, Bool, true, false, cond, List, [], ◌∷◌, ◌++◌, map, drop, length, Some, Vec, Box, Global, IfOk, Result, Ok, Err, refl, sym, ap, ◌∙◌, subst, arith, rules, inl, inr, append_assoc, append-nil, drop-cons, add-one}
+use Rattle.std.proofs.Common.{◌≡◌, ℕ, zero, suc, ◌<◌, ◌+◌, Bool, cond, List, [], ◌∷◌, map, drop, length, Some, Vec, Box, Global, IfOk, Result, Ok, Err, refl, sym, ap, ◌∙◌, arith, rules, inl, inr, drop-cons, add-one}
 use Rattle.std.specs.Prelude.{slice_get, slice_index_or}
 use Rattle.std.proofs.lemmas.Bool.Decides.{eqb_tells}
 use Rattle.std.proofs.lemmas.Option.{none-some}
@@ -7,7 +7,7 @@ use Rattle.moxi_terms.specs.declared.data.Datum.{Datum}
 use Rattle.moxi_terms.specs.declared.data.TermOp.{TermOp}
 use Rattle.moxi_terms.specs.declared.term.Function.{Function}
 use Rattle.moxi_terms.specs.declared.term.Term.{Term, Constant, Variable, Bound, Apply, Let, Call, the_lemmas}
-use Rattle.moxi_terms.specs.Tree.{Tree, constant, variable, bound, apply, binding, call, trees_of, tree, PlainFunction}
+use Rattle.moxi_terms.specs.Tree.{constant, variable, bound, apply, binding, call, trees_of, tree, PlainFunction}
 use Rattle.moxi_terms.specs.Value.{at, term_value, calls_upto, body_at}
 use Rattle.moxi_terms.specs.Cost.{cost, cost_upto}
 use Rattle.moxi_terms.specs.View.{plain, plain_function}

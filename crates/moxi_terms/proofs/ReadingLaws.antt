@@ -1,7 +1,6 @@
 -- What is read by parts.
-use Rattle.std.proofs.Common.{◌≡◌, ℕ, suc, ◌+◌, ◌<◌, ◌≤◌, Bool, true, false, cond, List, [], ◌∷◌, ◌++◌, map, length, take, drop, zero, Option, None, Some, Result, Ok, Err, IfOk, OnOk, Vec, Box, Global, refl, sym, ap, ◌∙◌, subst, arith, rules, append_assoc, append-nil, drop-cons, add-one}
+use Rattle.std.proofs.Common.{◌≡◌, ℕ, suc, ◌+◌, ◌<◌, ◌≤◌, List, [], ◌∷◌, ◌++◌, map, length, take, drop, zero, Option, None, Some, Result, Ok, Err, IfOk, OnOk, Vec, Global, refl, sym, ap, ◌∙◌, arith, rules, append_assoc, append-nil, drop-cons, add-one}
 use Rattle.std.specs.Prelude.{slice_index_or}
-use Rattle.std.specs.Option.{option_map}
 use Rattle.text_core.specs.declared.place.Place.{Place}
 use Rattle.text_core.specs.declared.place.Refusal.{Refusal}
 use Rattle.moxi_sexpr.specs.declared.form.Atom.{Atom}
@@ -11,21 +10,15 @@ use Rattle.moxi_sexpr.specs.Lexing.{refusal}
 use Rattle.moxi_sexpr.specs.Tree as form
 use Rattle.moxi_terms.specs.declared.data.Sort.{Sort}
 use Rattle.moxi_terms.specs.declared.names.Local.{Local}
-use Rattle.moxi_terms.specs.declared.names.Head.{Head}
 use Rattle.moxi_terms.specs.declared.term.Term.{Term}
-use Rattle.moxi_terms.specs.declared.term.Function.{Function}
-use Rattle.moxi_terms.specs.declared.outcome.ReadTerm.{ReadTerm}
-use Rattle.moxi_terms.specs.declared.applications.ReadArguments.{ReadArguments}
-use Rattle.moxi_terms.specs.declared.lets.ReadBindings.{ReadBindings}
-use Rattle.moxi_terms.specs.Tree.{Tree, trees_of}
 use Rattle.moxi_terms.specs.View.{plain}
 use Rattle.moxi_terms.specs.Failures.{sooner, least}
-use Rattle.moxi_terms.specs.Reading.{Reading, Arguments, Bindings, joined, no_arguments, argument, both_arguments, no_bindings, both_bindings, names_of, unless_failed, bindings_tests}
+use Rattle.moxi_terms.specs.Reading.{Arguments, Bindings, joined, no_arguments, both_arguments, no_bindings, both_bindings, names_of, unless_failed, bindings_tests}
 use Rattle.std.proofs.lemmas.Option.{same_Some, none-some}
 use Rattle.moxi_terms.specs.Forms.{pair_of}
 use Rattle.moxi_terms.specs.declared.term.Variable.{Variable}
-use Rattle.moxi_terms.specs.Answer.{IsRead, AreRead, AreBound, kept, unless_some, locals_of}
-use Rattle.moxi_terms.proofs.Least.{sooner_none, sooner_assoc, least_append, least_none}
+use Rattle.moxi_terms.specs.Answer.{unless_some, locals_of}
+use Rattle.moxi_terms.proofs.Least.{least_append}
 
 -- tests one after another
 pub tests_both : (f g : Option Refusal) (xs ys : List Refusal) → f ≡ least xs → g ≡ least ys → sooner f g ≡ least (xs ++ ys)

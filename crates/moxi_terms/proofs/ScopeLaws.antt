@@ -3,25 +3,22 @@ use Rattle.std.proofs.Common.{◌≡◌, ◌⊎◌, ℕ, zero, suc, ◌+◌, ◌
 use Rattle.std.specs.Prelude.{slice_get, slice_index_or, option_and_then, codes}
 use Rattle.std.specs.List.{AllByRecursion}
 use Rattle.std.proofs.lemmas.Option.{same_Some, none-some, slice_get_within, slice_get-get_or}
-use Rattle.std.proofs.lemmas.List.{take-append-le, length-append, length-map, length-take, drop_more, drop_all}
-use Rattle.word_core.specs.declared.word.TheConstants.{WIDEST}
+use Rattle.std.proofs.lemmas.List.{take-append-le, length-append, length-take, drop_more, drop_all}
 use Rattle.moxi_terms.specs.declared.data.Sort.{Sort}
 use Rattle.moxi_terms.specs.declared.data.Sort.TheVariants.{Truth, Bits, Choice}
 use Rattle.moxi_terms.specs.declared.data.Datum.{Datum}
 use Rattle.moxi_terms.specs.declared.data.Datum.TheVariants as datum
 use Rattle.moxi_terms.specs.declared.term.Enumeration.{Enumeration}
 use Rattle.moxi_terms.specs.declared.term.NamedSort.{NamedSort}
-use Rattle.moxi_terms.specs.declared.term.Function.{Function}
-use Rattle.moxi_terms.specs.declared.term.Variable.{Variable}
 use Rattle.moxi_terms.specs.Tree.{Tree, constant, variable, bound, apply, binding, call, Trees, no_trees, tree, PlainFunction, sorts_of}
-use Rattle.moxi_terms.specs.View.{ScopeState, plain_function, plain_functions}
+use Rattle.moxi_terms.specs.View.{ScopeState}
 use Rattle.moxi_terms.specs.Sorts.{IsSort, IsConstant, IsOf}
-use Rattle.moxi_terms.specs.Sorted.{HasSort, HaveSorts, AreSorts, IsFunction, AreFunctions, IsScope}
+use Rattle.moxi_terms.specs.Sorted.{HasSort, HaveSorts, IsFunction, AreFunctions}
 use Rattle.moxi_terms.specs.Names.{enumeration_names, sort_names, function_names, all_constants, numbered, constant_numbers, with_enumeration, with_sort, with_function, place_of, is_among, is_term_name, is_sort_name, constant_named}
 use Rattle.moxi_terms.specs.Words.{is_operator}
 use Rattle.std.specs.Str.{bytes_eq}
 use Rattle.moxi_terms.specs.Scopes.{IsKept}
-use Rattle.moxi_terms.proofs.FindingLaws.{get_front, get_end, get_taken, take_whole, length_taken, place_within}
+use Rattle.moxi_terms.proofs.FindingLaws.{get_front, get_taken, take_whole, length_taken, place_within}
 
 pub names_front : {X : Type 0} (xs : List X) (i n : ℕ) (x : X) → n ≡ length xs → i < n → x ≡ slice_index_or xs i x → drop i xs ≡ x ∷ drop (i + 1) xs
 names_front xs i n x e l is = drop_more xs i x (omega (arith, e, l)) ∙ ap (λ y. y ∷ drop (i + 1) xs) (sym is)
@@ -29,7 +26,7 @@ names_front xs i n x e l is = drop_more xs i x (omega (arith, e, l)) ∙ ap (λ 
 pub names_end : {X : Type 0} (xs : List X) (i n : ℕ) → n ≡ length xs → n ≤ i → drop i xs ≡ []
 names_end xs i n e l = drop_all i xs (omega (arith, e, l))
 
-map_end : {A B : Type 0} (f : A → B) (xs : List A) (x : A) → map f (xs ++ x ∷ []) ≡ map f xs ++ f x ∷ []
+pub map_end : {A B : Type 0} (f : A → B) (xs : List A) (x : A) → map f (xs ++ x ∷ []) ≡ map f xs ++ f x ∷ []
 map_end f [] x = refl
 map_end f (y ∷ ys) x = ap (λ zs. f y ∷ zs) (map_end f ys x)
 
@@ -79,17 +76,17 @@ functions_end es fs f a is n g h = elim (append_cases fs f g n h) [
 ]
 
 -- one more function
-pub kept_function : (s : ScopeState) (e so f c : List (List ℕ)) (n : List (ℕ × ℕ)) (g : Function) → IsKept s e so f c n → IsFunction s.enumerations (plain_functions s) (plain_function g) → length s.functions < 2 ^ 32 - 1
+pub kept_function : (s : ScopeState) (e so f c : List (List ℕ)) (n : List (ℕ × ℕ)) (g : PlainFunction) → IsKept s e so f c n → IsFunction s.enumerations s.functions g → length s.functions < 2 ^ 32 - 1
     → IsKept (with_function s g) e so (f ++ g.name ∷ []) c n
 kept_function s e so f c n g k is few = record {
   scope = record {
     enumerations = k.scope.enumerations;
     sorts = k.scope.sorts;
-    functions = subst (AreFunctions s.enumerations) (sym (map_end plain_function s.functions g)) (functions_end s.enumerations (plain_functions s) (plain_function g) k.scope.functions is);
+    functions = functions_end s.enumerations s.functions g k.scope.functions is;
   };
   enumeration_names = k.enumeration_names;
   sort_names = k.sort_names;
-  function_names = ap (λ ns. ns ++ g.name ∷ []) k.function_names ∙ sym (map_end (λ (f : Function). f.name) s.functions g);
+  function_names = ap (λ ns. ns ++ g.name ∷ []) k.function_names ∙ sym (map_end (λ (f : PlainFunction). f.name) s.functions g);
   constant_names = k.constant_names;
   constant_numbers = k.constant_numbers;
   few_enumerations = k.few_enumerations;
@@ -194,7 +191,7 @@ kept_enumeration s e so f c n m x k some few room g =
       scope = record {
         enumerations = all_end (λ (e : Enumeration). 0 < length e.constants) es x k.scope.enumerations some;
         sorts = all_of (λ (n : NamedSort). IsSort es n.sort) (λ (n : NamedSort). IsSort (es ++ x ∷ []) n.sort) s.sorts (λ n h. sort_stays es x n.sort h) k.scope.sorts;
-        functions = λ n f h. function_stays es x (take n (plain_functions s)) f (k.scope.functions n f h);
+        functions = λ n f h. function_stays es x (take n s.functions) f (k.scope.functions n f h);
       };
       enumeration_names = ap (λ ns. ns ++ x.name ∷ []) k.enumeration_names ∙ sym (map_end (λ (e : Enumeration). e.name) es x);
       sort_names = k.sort_names;

@@ -1,27 +1,23 @@
 -- An operator gives a value of the sort that its application has.
-use Rattle.std.proofs.Common.{◌≡◌, ℕ, suc, ◌+◌, ◌-◌, ◌^◌, ◌%◌, ◌<◌, ◌≤◌, Bool, true, false, cond, ◌&&◌, nat_le, nat_lt, nat_eq, eqb, List, [], ◌∷◌, length, Option, Some, None, Result, Ok, Err, refl, sym, ap, ◌∙◌, subst, arith}
+use Rattle.std.proofs.Common.{◌≡◌, ℕ, suc, ◌≤◌, Bool, true, false, cond, nat_le, eqb, List, [], ◌∷◌, length, Option, Some, None, Result, Ok, Err, refl, sym, ap, ◌∙◌, subst, arith}
 use Rattle.std.specs.List.{AllByRecursion, list_all}
 use Rattle.std.proofs.lemmas.Bool.{and_parts}
 use Rattle.std.proofs.lemmas.Bool.Decides.{nat_tests}
 use Rattle.std.proofs.lemmas.Option.{same_Some, none-some}
 use Rattle.word_core.specs.Words.{BitVector, IsWord}
-use Rattle.word_core.specs.Table.{BinaryFits, unary_of, binary_of, slice_of, uext_of, sext_of, unary_width, binary_width}
+use Rattle.word_core.specs.Table.{BinaryFits, binary_of, binary_width}
 use Rattle.word_core.specs.declared.word.TheConstants.{WIDEST}
-use Rattle.word_core.specs.declared.kinds.Unary.{Unary}
-use Rattle.word_core.specs.declared.kinds.Unary.TheVariants as one
 use Rattle.word_core.specs.declared.kinds.Binary.{Binary}
 use Rattle.word_core.specs.declared.kinds.Binary.TheVariants as two
-use Rattle.word_core.proofs.Rows.{unary_is_word, binary_is_word, uext_is_word, sext_is_word}
+use Rattle.word_core.proofs.Rows.{binary_is_word}
 use Rattle.moxi_terms.specs.declared.data.Sort.{Sort}
 use Rattle.moxi_terms.specs.declared.data.Sort.TheVariants.{Truth, Bits, Choice}
 use Rattle.moxi_terms.specs.declared.data.Datum.{Datum}
 use Rattle.moxi_terms.specs.declared.data.Datum.TheVariants as datum
-use Rattle.moxi_terms.specs.declared.data.TermOp.{TermOp}
-use Rattle.moxi_terms.specs.declared.data.TermOp.TheVariants as op
 use Rattle.moxi_terms.specs.declared.term.Enumeration.{Enumeration}
-use Rattle.moxi_terms.specs.Operators.{truth_of, word_of, op_value, on_words, folded, is_comparison, nothing}
-use Rattle.moxi_terms.specs.Sorts.{IsOf, Fit, same_sort, common, is_chain, is_arithmetic, is_negation, count_fits, logical, compared, chosen, calculated, widened, fitting, op_sort}
-use Rattle.moxi_terms.specs.Applied.{CanApply, AreWide, IsBits}
+use Rattle.moxi_terms.specs.Operators.{word_of, folded, is_comparison}
+use Rattle.moxi_terms.specs.Sorts.{IsOf, Fit, same_sort, common, is_chain, is_arithmetic, logical, compared, chosen, calculated, widened}
+use Rattle.moxi_terms.specs.Applied.{AreWide, IsBits}
 
 -- a choice that came out well
 pub taken : {A : Type 0} (b : Bool) (x : Result A ℕ) (n : ℕ) (y : A) → cond b x (Err n) ≡ Ok y → (b ≡ true) × (x ≡ Ok y)

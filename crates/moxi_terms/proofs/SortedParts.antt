@@ -1,45 +1,29 @@
 -- The parts of forms of which no test fails: names that are found, constants, words and the sorts of applications.
-use Rattle.std.proofs.Common.{◌≡◌, ℕ, zero, suc, ◌+◌, ◌^◌, ◌<◌, ◌≤◌, nat_le, nat_lt, Bool, true, false, cond, eqb, ◌&&◌, List, [], ◌∷◌, ◌++◌, map, length, Option, None, Some, Result, Ok, Err, refl, sym, ap, ◌∙◌, subst, arith}
-use Rattle.std.specs.Prelude.{slice_get, codes, option_and_then}
-use Rattle.std.specs.Option.{option_map}
+use Rattle.std.proofs.Common.{◌≡◌, ℕ, zero, suc, ◌+◌, ◌^◌, ◌<◌, ◌≤◌, nat_le, nat_lt, Bool, true, false, cond, ◌&&◌, List, [], ◌∷◌, ◌++◌, length, Option, None, Some, Result, Ok, Err, refl, ap, ◌∙◌, subst, arith}
+use Rattle.std.specs.Prelude.{slice_get, option_and_then}
 use Rattle.std.specs.List.{AllByRecursion}
 use Rattle.std.specs.Str.{bytes_eq}
 use Rattle.std.proofs.lemmas.Bool.{and_parts}
 use Rattle.std.proofs.lemmas.Bool.Decides.{nat_tests}
-use Rattle.std.proofs.lemmas.Option.{same_Some, none-some, slice_get-map}
+use Rattle.std.proofs.lemmas.Option.{same_Some, none-some}
 use Rattle.text_core.specs.declared.place.Place.{Place}
 use Rattle.text_core.specs.declared.place.Refusal.{Refusal}
 use Rattle.word_core.specs.Words.{BitVector, IsWord}
 use Rattle.word_core.specs.Digits.{read_word, digits_value, fitted}
 use Rattle.word_core.specs.declared.word.TheConstants.{WIDEST}
-use Rattle.moxi_sexpr.specs.declared.form.Atom.{Atom}
-use Rattle.moxi_sexpr.specs.declared.form.Atom.TheVariants.{Symbol, Keyword, Numeral, Binary, Hex, Quote}
 use Rattle.moxi_sexpr.specs.Lexing.{refusal}
-use Rattle.moxi_sexpr.specs.Tree as form
 use Rattle.moxi_terms.specs.declared.data.Sort.{Sort}
-use Rattle.moxi_terms.specs.declared.data.Sort.TheVariants.{Truth, Bits, Choice}
-use Rattle.moxi_terms.specs.declared.data.Datum.{Datum}
-use Rattle.moxi_terms.specs.declared.data.Datum.TheVariants as datum
-use Rattle.moxi_terms.specs.declared.data.Primes.{Primes}
-use Rattle.moxi_terms.specs.declared.data.Primes.TheVariants.{Allowed, Refused}
-use Rattle.moxi_terms.specs.declared.names.Meaning.{Meaning}
-use Rattle.moxi_terms.specs.declared.names.Meaning.TheVariants as meaning
 use Rattle.moxi_terms.specs.declared.names.Head.{Head}
-use Rattle.moxi_terms.specs.declared.names.Head.TheVariants as heads
 use Rattle.moxi_terms.specs.declared.names.Local.{Local}
 use Rattle.moxi_terms.specs.declared.term.Enumeration.{Enumeration}
-use Rattle.moxi_terms.specs.declared.term.Function.{Function}
 use Rattle.moxi_terms.specs.declared.term.Variable.{Variable}
-use Rattle.moxi_terms.specs.Tree.{Tree, constant, variable, bound, apply, binding, call, Trees, no_trees, tree, trees_of, PlainFunction, sorts_of}
-use Rattle.moxi_terms.specs.View.{ScopeState, plain_function, plain_functions}
-use Rattle.moxi_terms.specs.Names.{or_else, place_of, function_names, constant_named, numbered, constant_numbers, all_constants}
-use Rattle.moxi_terms.specs.Forms.{place_in, symbol_of, symbol_atom, is_word, is_primed}
-use Rattle.moxi_terms.specs.Sorts.{IsConstant, IsOf, same_sort, same_sorts, op_sort}
-use Rattle.moxi_terms.specs.Sorted.{HasSort, HaveSorts, IsUnprimed, AreUnprimed}
+use Rattle.moxi_terms.specs.Tree.{PlainFunction, sorts_of}
+use Rattle.moxi_terms.specs.Names.{or_else, numbered, constant_numbers}
+use Rattle.moxi_terms.specs.Sorts.{IsConstant, same_sort, same_sorts}
 use Rattle.moxi_terms.specs.Reading as reading
 use Rattle.moxi_terms.specs.Reading.{Context, Reading, Arguments, Bindings, Found, first_of, last_of}
 use Rattle.moxi_terms.specs.Answer.{locals_of}
-use Rattle.moxi_terms.specs.WellSorted.{HaveKnownSorts, IsWellSorted}
+use Rattle.moxi_terms.specs.WellSorted.{HaveKnownSorts}
 use Rattle.moxi_terms.proofs.SortLaws.{same_sorts_are, same_ok}
 
 -- TESTS THAT HOLD
@@ -175,21 +159,18 @@ pub sort_holds : (p : Place) (r : Result Sort ℕ) → reading.sort_failures p r
 sort_holds p (Ok s) h = (s, refl)
 sort_holds p (Err n) h = absurd (some_fails (refusal n p) [] h)
 
-pub tests_hold : (fs : List Function) (p : Place) (h : Head) (n : ℕ) (ss : List Sort) → reading.argument_tests fs p h n (Some ss) ≡ [] → (s : Sort) × (reading.head_sort fs h ss ≡ Ok s)
+pub tests_hold : (fs : List PlainFunction) (p : Place) (h : Head) (n : ℕ) (ss : List Sort) → reading.argument_tests fs p h n (Some ss) ≡ [] → (s : Sort) × (reading.head_sort fs h ss ≡ Ok s)
 tests_hold fs p h n ss e = by_count (reading.head_count_fits fs h n) e
   where
     by_count : (b : Bool) → cond b (reading.sorts_tested fs p h (Some ss)) (refusal 12 p ∷ []) ≡ [] → (s : Sort) × (reading.head_sort fs h ss ≡ Ok s)
     by_count true e = sort_holds p (reading.head_sort fs h ss) e
     by_count false e = absurd (some_fails (refusal 12 p) [] e)
 
-pub call_fits : (o : Option Function) (ss : List Sort) (s : Sort) → reading.call_sort o ss ≡ Ok s → (f : Function) × (o ≡ Some f) × (sorts_of f.parameters ≡ ss) × (f.result ≡ s)
+pub call_fits : (o : Option PlainFunction) (ss : List Sort) (s : Sort) → reading.call_sort o ss ≡ Ok s → (f : PlainFunction) × (o ≡ Some f) × (sorts_of f.parameters ≡ ss) × (f.result ≡ s)
 call_fits None ss s h = absurd (cc)
 call_fits (Some f) ss s h = by_test (same_sorts (sorts_of f.parameters) ss) refl h
   where
     by_test : (b : Bool) → same_sorts (sorts_of f.parameters) ss ≡ b → (let r : Result Sort ℕ = cond b (Ok f.result) (Err 5) in r) ≡ Ok s
-        → (g : Function) × (Some f ≡ Some g) × (sorts_of g.parameters ≡ ss) × (g.result ≡ s)
+        → (g : PlainFunction) × (Some f ≡ Some g) × (sorts_of g.parameters ≡ ss) × (g.result ≡ s)
     by_test true e g = (f, refl, sorts_same (sorts_of f.parameters) ss e, same_ok f.result s g)
     by_test false e g = absurd (cc)
-
-pub plain_at : (fs : List Function) (n : ℕ) (f : Function) → slice_get fs n ≡ Some f → slice_get (map plain_function fs) n ≡ Some (plain_function f)
-plain_at fs n f h = slice_get-map plain_function fs n ∙ ap (option_map plain_function) h

@@ -1,20 +1,19 @@
 -- The names that `let`s bind, as a stack.
-use Rattle.std.proofs.Common.{◌≡◌, ◌≢◌, ◌⊎◌, ℕ, zero, suc, ◌+◌, ◌-◌, ◌<◌, ◌≤◌, Bool, true, false, cond, List, [], ◌∷◌, ◌++◌, map, length, take, Option, None, Some, is_none, set, refl, sym, ap, ◌∙◌, subst, arith, inl, inr, append-nil}
+use Rattle.std.proofs.Common.{◌≡◌, ◌≢◌, ◌⊎◌, ℕ, zero, suc, ◌+◌, ◌-◌, ◌<◌, ◌≤◌, Bool, true, false, cond, List, [], ◌∷◌, ◌++◌, length, take, Option, None, Some, set, refl, sym, ap, ◌∙◌, subst, arith, inl, inr, append-nil}
 use Rattle.std.specs.Prelude.{slice_get, slice_index_or}
 use Rattle.std.specs.List.{AllByRecursion}
 use Rattle.std.specs.Str.{bytes_eq}
-use Rattle.std.proofs.lemmas.Bool.{cases_Bool}
 use Rattle.std.proofs.lemmas.Bool.Decides.{eqb_tells}
 use Rattle.std.proofs.lemmas.Slice.Eq.{bytes_eq-Decides}
 use Rattle.std.proofs.lemmas.Option.{same_Some, none-some, slice_get_within}
-use Rattle.std.proofs.lemmas.List.{take-append-le, length-append, length-map}
+use Rattle.std.proofs.lemmas.List.{take-append-le, length-append}
 use Rattle.moxi_terms.specs.declared.data.Sort.{Sort}
 use Rattle.moxi_terms.specs.declared.names.Local.{Local}
 use Rattle.moxi_terms.specs.declared.locals.Binding.{Binding}
 use Rattle.moxi_terms.specs.Names.{place_of, or_else}
 use Rattle.moxi_terms.specs.Reading.{Found, last_of}
 use Rattle.moxi_terms.specs.Finding.{IsStacked, found_number, name_at, locals_in}
-use Rattle.moxi_terms.proofs.FindingLaws.{place_append, place_there, place_within, name_there, get_kept, get_front, get_end, found_at, length_taken, take_whole, index_read}
+use Rattle.moxi_terms.proofs.FindingLaws.{place_append, place_within, name_there, get_kept, get_front, get_end, found_at, length_taken, take_whole, index_read}
 
 -- the last of a name, with one more name behind
 last_more : (n m : ℕ) (t : Option Sort) (c : Bool) (o r : Option Found) (x : Option Found) → o ≡ cond c (Some (found_at (suc n + m) t)) r → or_else o x ≡ cond c (Some (found_at (n + suc m) t)) (or_else r x)

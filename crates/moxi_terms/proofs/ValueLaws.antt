@@ -1,5 +1,5 @@
 -- A term that has a sort has a value of that sort.
-use Rattle.std.proofs.Common.{◌≡◌, ℕ, zero, suc, ◌<◌, ◌≤◌, cond, true, false, List, [], ◌∷◌, ◌++◌, map, length, take, Some, None, Ok, refl, sym, ap, ◌∙◌, subst, arith, inl, inr}
+use Rattle.std.proofs.Common.{◌≡◌, ℕ, zero, suc, ◌<◌, ◌≤◌, cond, true, false, List, [], ◌∷◌, ◌++◌, length, take, Some, sym, ap, ◌∙◌, subst, arith, inl, inr}
 use Rattle.std.specs.Prelude.{slice_get, slice_index_or}
 use Rattle.std.proofs.lemmas.Option.{same_Some, none-some}
 use Rattle.std.proofs.lemmas.Bool.Decides.{eqb_tells}
@@ -7,11 +7,10 @@ use Rattle.std.proofs.lemmas.List.{take_all}
 use Rattle.moxi_terms.specs.declared.data.Sort.{Sort}
 use Rattle.moxi_terms.specs.declared.data.Datum.{Datum}
 use Rattle.moxi_terms.specs.declared.term.Enumeration.{Enumeration}
-use Rattle.moxi_terms.specs.Operators.{nothing}
 use Rattle.moxi_terms.specs.Sorts.{IsOf, Fit}
 use Rattle.moxi_terms.specs.Tree.{Tree, constant, variable, bound, apply, binding, call, Trees, no_trees, tree, PlainFunction, sorts_of}
 use Rattle.moxi_terms.specs.Value.{Calls, Values, at, term_value, term_values, calls_upto, body_at}
-use Rattle.moxi_terms.specs.Sorted.{HasSort, HaveSorts, AreFunctions, IsFunction}
+use Rattle.moxi_terms.specs.Sorted.{HasSort, HaveSorts, AreFunctions}
 use Rattle.moxi_terms.proofs.OperatorLaws.{op_sorted}
 
 -- a function's value is its body's

@@ -1,10 +1,9 @@
 -- A form of which no test fails spells a term that has its sort, by induction over the form.
-use Rattle.std.proofs.Common.{◌≡◌, ℕ, zero, suc, ◌+◌, Bool, true, false, cond, eqb, List, [], ◌∷◌, ◌++◌, map, length, Option, None, Some, Result, Ok, Err, refl, sym, ap, ◌∙◌, subst, arith}
+use Rattle.std.proofs.Common.{◌≡◌, ℕ, ◌+◌, Bool, true, false, cond, eqb, List, [], ◌∷◌, ◌++◌, map, length, Option, None, Some, Result, Ok, Err, refl, sym, ap, ◌∙◌, subst, arith}
 use Rattle.std.specs.Prelude.{slice_get, codes, option_and_then, ◌*◌}
 use Rattle.std.specs.Option.{option_map}
 use Rattle.std.specs.Str.{bytes_eq}
 use Rattle.std.proofs.lemmas.Bool.Decides.{nat_tests}
-use Rattle.std.proofs.lemmas.Option.{same_Some, none-some}
 use Rattle.text_core.specs.declared.place.Place.{Place}
 use Rattle.text_core.specs.declared.place.Refusal.{Refusal}
 use Rattle.word_core.specs.Words.{BitVector}
@@ -23,10 +22,7 @@ use Rattle.moxi_terms.specs.declared.names.Meaning.TheVariants as meaning
 use Rattle.moxi_terms.specs.declared.names.Head.{Head}
 use Rattle.moxi_terms.specs.declared.names.Head.TheVariants as heads
 use Rattle.moxi_terms.specs.declared.names.Local.{Local}
-use Rattle.moxi_terms.specs.declared.term.Enumeration.{Enumeration}
-use Rattle.moxi_terms.specs.declared.term.Function.{Function}
-use Rattle.moxi_terms.specs.Tree.{Tree, constant, variable, bound, apply, binding, call, no_trees, tree, trees_of, PlainFunction, sorts_of}
-use Rattle.moxi_terms.specs.View.{plain_function, plain_functions}
+use Rattle.moxi_terms.specs.Tree.{Tree, constant, variable, bound, call, no_trees, trees_of, PlainFunction, sorts_of}
 use Rattle.moxi_terms.specs.Names.{or_else, place_of, function_names, constant_named, constant_numbers, all_constants}
 use Rattle.moxi_terms.specs.Forms.{place_in, symbol_of, is_word, is_primed}
 use Rattle.moxi_terms.specs.Sorts.{IsOf}
@@ -37,11 +33,11 @@ use Rattle.moxi_terms.specs.declared.outcome.ReadTerm.{ReadTerm}
 use Rattle.moxi_terms.specs.Answer.{IsRead}
 use Rattle.moxi_terms.specs.WellSorted.{HaveKnownSorts, IsTerm, IsWellSorted, IsSortedTerm}
 use Rattle.moxi_terms.proofs.Least.{least_none}
-use Rattle.moxi_terms.proofs.SortedParts.{some_fails, none_in, stays, FoundIn, first_found, last_found, known_append, names_long, constant_is, read_is_word, tests_hold, call_fits, plain_at}
+use Rattle.moxi_terms.proofs.SortedParts.{some_fails, none_in, stays, FoundIn, first_found, last_found, known_append, names_long, constant_is, read_is_word, tests_hold, call_fits}
 
 module _ (c : Context) (vars : List Sort) (of_vars : HaveKnownSorts c.variables vars) where
   own_sorted : (ss : List Sort) (t : Tree) (s : Option Sort) (fs : List Refusal) (sort : Sort) → fs ≡ [] → s ≡ Some sort
-      → HasSort c.scope.enumerations (plain_functions c.scope) vars ss t sort → (c.primes ≡ Refused → IsUnprimed t) → IsWellSorted c vars ss (reading.own_tests t s fs)
+      → HasSort c.scope.enumerations c.scope.functions vars ss t sort → (c.primes ≡ Refused → IsUnprimed t) → IsWellSorted c vars ss (reading.own_tests t s fs)
   own_sorted ss t s fs sort h e g u = record { sort = sort; known = stays fs s h ∙ e; term = record { sorted = g; unprimed = u } }
 
   never : (ss : List Sort) (f : Refusal) (fs : List Refusal) (r : Reading) → f ∷ fs ≡ [] → IsWellSorted c vars ss r
@@ -53,7 +49,7 @@ module _ (c : Context) (vars : List Sort) (of_vars : HaveKnownSorts c.variables 
   Fits ss (Some (meaning.Bound i s)) = (sort : Sort) × (s ≡ Some sort) × (slice_get ss i ≡ Some sort)
   Fits ss (Some (meaning.Variable v s)) = (sort : Sort) × (s ≡ Some sort) × (slice_get vars v ≡ Some sort)
   Fits ss (Some (meaning.Value d s)) = IsOf c.scope.enumerations s d
-  Fits ss (Some (meaning.Call n s)) = (f : PlainFunction) × (slice_get (plain_functions c.scope) n ≡ Some f) × (sorts_of f.parameters ≡ []) × (f.result ≡ s)
+  Fits ss (Some (meaning.Call n s)) = (f : PlainFunction) × (slice_get c.scope.functions n ≡ Some f) × (sorts_of f.parameters ≡ []) × (f.result ≡ s)
 
   either_fits : (ss : List Sort) (a b : Option Meaning) → Fits ss a → Fits ss b → Fits ss (or_else a b)
   either_fits ss None b h g = g
@@ -92,12 +88,12 @@ module _ (c : Context) (vars : List Sort) (of_vars : HaveKnownSorts c.variables 
   call_named ss None = tt
   call_named ss (Some n) = by_function (slice_get c.scope.functions n) refl
     where
-      by_function : (o : Option Function) → slice_get c.scope.functions n ≡ o → Fits ss (reading.bare_call n o)
+      by_function : (o : Option PlainFunction) → slice_get c.scope.functions n ≡ o → Fits ss (reading.bare_call n o)
       by_function None e = tt
       by_function (Some f) e = by_count (eqb (length f.parameters) 0) refl
         where
           by_count : (b : Bool) → eqb (length f.parameters) 0 ≡ b → Fits ss (cond b (Some (meaning.Call n f.result)) None)
-          by_count true h = (plain_function f, plain_at c.scope.functions n f e, no_length _ f.parameters h, refl)
+          by_count true h = (f, e, no_length _ f.parameters h, refl)
           by_count false h = tt
 
   name_fits : (ls : List Local) (ss : List Sort) (name : List ℕ) → HaveKnownSorts ls ss → Fits ss (reading.meaning_of c ls name)
@@ -118,7 +114,7 @@ module _ (c : Context) (vars : List Sort) (of_vars : HaveKnownSorts c.variables 
   named_sorted ss p primed (Some (meaning.Variable v s)) f h = own_sorted ss (variable v primed) s _ f.0 h f.1 f.2 (no_prime c.primes primed p h)
   named_sorted ss p primed (Some (meaning.Value d s)) f h = own_sorted ss (constant d) (Some s) _ s h refl f (λ e. tt)
   named_sorted ss p primed (Some (meaning.Call n s)) f h =
-      own_sorted ss (call n no_trees) (Some s) _ s h refl (f.0, f.1, subst (HaveSorts c.scope.enumerations (plain_functions c.scope) vars ss no_trees) (sym f.2) tt, f.3) (λ e. tt)
+      own_sorted ss (call n no_trees) (Some s) _ s h refl (f.0, f.1, subst (HaveSorts c.scope.enumerations c.scope.functions vars ss no_trees) (sym f.2) tt, f.3) (λ e. tt)
 
   word_sorted : (ss : List Sort) (p : Place) (w base : ℕ) (digits : List ℕ) (fs : List Refusal) → (reading.word_reading p (read_word w base digits) fs).failures ≡ []
       → IsWellSorted c vars ss (reading.word_reading p (read_word w base digits) fs)
@@ -158,7 +154,7 @@ module _ (c : Context) (vars : List Sort) (of_vars : HaveKnownSorts c.variables 
   record AreWellSorted (ss : List Sort) (x : Arguments) : Type 0 where
     pub sorts : List Sort
     pub known : x.sorts ≡ Some sorts
-    pub sorted : HaveSorts c.scope.enumerations (plain_functions c.scope) vars ss (trees_of x.terms) sorts
+    pub sorted : HaveSorts c.scope.enumerations c.scope.functions vars ss (trees_of x.terms) sorts
     pub unprimed : c.primes ≡ Refused → AreUnprimed (trees_of x.terms)
 
   both_sorted : (ss : List Sort) (r : Reading) (x : Arguments) → IsWellSorted c vars ss r → AreWellSorted ss x → AreWellSorted ss (reading.both_arguments (reading.argument r) x)
@@ -170,11 +166,11 @@ module _ (c : Context) (vars : List Sort) (of_vars : HaveKnownSorts c.variables 
   }
 
   headed_sorted : (ss : List Sort) (h : Head) (x : Arguments) (g : AreWellSorted ss x) (s : Sort) → reading.head_sort c.scope.functions h g.sorts ≡ Ok s
-      → HasSort c.scope.enumerations (plain_functions c.scope) vars ss (reading.headed h (trees_of x.terms)) s
+      → HasSort c.scope.enumerations c.scope.functions vars ss (reading.headed h (trees_of x.terms)) s
   headed_sorted ss (heads.Operator o) x g s e = (g.sorts, g.sorted, e)
   headed_sorted ss (heads.Function n) x g s e =
       let f = call_fits (slice_get c.scope.functions n) g.sorts s e in
-      (plain_function f.0, plain_at c.scope.functions n f.0 f.1, subst (HaveSorts c.scope.enumerations (plain_functions c.scope) vars ss (trees_of x.terms)) (sym f.2) g.sorted, f.3)
+      (f.0, f.1, subst (HaveSorts c.scope.enumerations c.scope.functions vars ss (trees_of x.terms)) (sym f.2) g.sorted, f.3)
 
   headed_unprimed : (h : Head) (x : Arguments) → AreUnprimed (trees_of x.terms) → IsUnprimed (reading.headed h (trees_of x.terms))
   headed_unprimed (heads.Operator o) x u = u
@@ -198,19 +194,19 @@ module _ (c : Context) (vars : List Sort) (of_vars : HaveKnownSorts c.variables 
   record AreBoundTo (ss : List Sort) (x : Bindings) : Type 0 where
     pub sorts : List Sort
     pub known : HaveKnownSorts x.locals sorts
-    pub sorted : HaveSorts c.scope.enumerations (plain_functions c.scope) vars ss (trees_of x.terms) sorts
+    pub sorted : HaveSorts c.scope.enumerations c.scope.functions vars ss (trees_of x.terms) sorts
     pub unprimed : c.primes ≡ Refused → AreUnprimed (trees_of x.terms)
 
   nothing_bound : (ss : List Sort) (x : Bindings) → x.locals ≡ [] → x.terms ≡ [] → AreBoundTo ss x
   nothing_bound ss x h g = record {
     sorts = [];
     known = subst (λ ls. HaveKnownSorts ls []) (sym h) tt;
-    sorted = subst (λ ts. HaveSorts c.scope.enumerations (plain_functions c.scope) vars ss (trees_of ts) []) (sym g) tt;
+    sorted = subst (λ ts. HaveSorts c.scope.enumerations c.scope.functions vars ss (trees_of ts) []) (sym g) tt;
     unprimed = λ e. subst (λ ts. AreUnprimed (trees_of ts)) (sym g) tt;
   }
 
-  sorted_append : (ss : List Sort) (ts us : List Tree) (s1 s2 : List Sort) → HaveSorts c.scope.enumerations (plain_functions c.scope) vars ss (trees_of ts) s1
-      → HaveSorts c.scope.enumerations (plain_functions c.scope) vars ss (trees_of us) s2 → HaveSorts c.scope.enumerations (plain_functions c.scope) vars ss (trees_of (ts ++ us)) (s1 ++ s2)
+  sorted_append : (ss : List Sort) (ts us : List Tree) (s1 s2 : List Sort) → HaveSorts c.scope.enumerations c.scope.functions vars ss (trees_of ts) s1
+      → HaveSorts c.scope.enumerations c.scope.functions vars ss (trees_of us) s2 → HaveSorts c.scope.enumerations c.scope.functions vars ss (trees_of (ts ++ us)) (s1 ++ s2)
   sorted_append ss [] us [] s2 h g = g
   sorted_append ss [] us (s ∷ s1) s2 h g = absurd h
   sorted_append ss (t ∷ ts) us [] s2 h g = absurd h

@@ -1,6 +1,5 @@
 -- What the evaluator of operators asks for.
 use Rattle.std.specs.Prelude.{◌≡◌, Ok, List, [], ◌∷◌}
-use Rattle.std.specs.List.{AllByRecursion}
 use Rattle.word_core.specs.Words.{BitVector}
 use Rattle.word_core.specs.Table.{BinaryFits, binary_of}
 use Rattle.word_core.specs.declared.kinds.Binary.{Binary}

@@ -1,5 +1,6 @@
 pub mod Tree
 pub mod View
+pub mod Code
 pub mod Operators
 pub mod Sorts
 pub mod Applied

@@ -1,15 +1,13 @@
 -- Names: their places in lists, and what a scope declares by them.
-use Rattle.std.specs.Prelude.{ℕ, suc, Bool, true, false, not, ◌&&◌, ◌||◌, if◌then◌else◌, Option, None, Some, is_some, is_none, option_and_then, List, [], ◌∷◌, ◌++◌, map, length, slice_get, codes}
+use Rattle.std.specs.Prelude.{ℕ, ◌+◌, ◌-◌, ◌^◌, nat_lt, suc, Bool, true, not, ◌&&◌, ◌||◌, if◌then◌else◌, Option, None, Some, is_some, is_none, option_and_then, List, [], ◌∷◌, ◌++◌, map, length, slice_get, codes}
 use Rattle.std.specs.Option.{option_map}
 use Rattle.std.specs.List.{position, list_any}
 use Rattle.std.specs.Str.{bytes_eq}
 use Rattle.moxi_terms.specs.declared.data.Sort.{Sort}
-use Rattle.moxi_terms.specs.declared.data.Sort.TheVariants.{Truth, Bits, Choice}
-use Rattle.moxi_terms.specs.declared.data.Datum.{Datum}
-use Rattle.moxi_terms.specs.declared.data.Datum.TheVariants as datum
+use Rattle.moxi_terms.specs.declared.data.Sort.TheVariants.{Truth, Choice}
 use Rattle.moxi_terms.specs.declared.term.Enumeration.{Enumeration}
 use Rattle.moxi_terms.specs.declared.term.NamedSort.{NamedSort}
-use Rattle.moxi_terms.specs.declared.term.Function.{Function}
+use Rattle.moxi_terms.specs.Tree.{PlainFunction}
 use Rattle.moxi_terms.specs.View.{ScopeState}
 use Rattle.moxi_terms.specs.Words.{is_operator}
 
@@ -32,7 +30,7 @@ abbrev pub sort_names : ScopeState → List (List ℕ)
 sort_names s = map (λ (n : NamedSort). n.name) s.sorts
 
 abbrev pub function_names : ScopeState → List (List ℕ)
-function_names s = map (λ (f : Function). f.name) s.functions
+function_names s = map (λ (f : PlainFunction). f.name) s.functions
 
 -- the constants of all enumerations
 abbrev pub all_constants : List Enumeration → List (List ℕ)
@@ -90,9 +88,15 @@ with_enumeration s name constants = record s { enumerations = s.enumerations ++ 
 abbrev pub with_sort : ScopeState → List ℕ → Sort → ScopeState
 with_sort s name sort = record s { sorts = s.sorts ++ record { name = name; sort = sort } ∷ [] }
 
-abbrev pub with_function : ScopeState → Function → ScopeState
+abbrev pub with_function : ScopeState → PlainFunction → ScopeState
 with_function s f = record s { functions = s.functions ++ f ∷ [] }
 
 -- nothing is declared
 abbrev pub no_scope : ScopeState
 no_scope = record { enumerations = []; sorts = []; functions = [] }
+
+-- so many constants more, and one more of each other kind, can be numbered with 32 bits
+abbrev pub has_room : ScopeState → ℕ → Bool
+has_room s constants =
+    nat_lt (length s.enumerations) (2 ^ 32 - 1) && (nat_lt (length s.sorts) (2 ^ 32 - 1) && (nat_lt (length s.functions) (2 ^ 32 - 1)
+    && (nat_lt constants (2 ^ 32) && nat_lt (length (all_constants s.enumerations) + constants) (2 ^ 32))))

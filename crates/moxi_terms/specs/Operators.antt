@@ -1,5 +1,5 @@
 -- The value that an operator gives (SMT-LIB 2.6, theories Core and FixedSizeBitVectors), by the operator table.
-use Rattle.std.specs.Prelude.{◌==◌, ℕ, Bool, true, false, not, ◌&&◌, ◌||◌, if◌then◌else◌, List, [], ◌∷◌}
+use Rattle.std.specs.Prelude.{◌==◌, Bool, true, false, not, ◌&&◌, ◌||◌, if◌then◌else◌, List, [], ◌∷◌}
 use Rattle.std.specs.List.{list_all, list_any}
 use Rattle.word_core.specs.Words.{BitVector}
 use Rattle.word_core.specs.Table.{unary_of, binary_of, slice_of, uext_of, sext_of}

@@ -10,26 +10,23 @@ use Rattle.word_core.specs.Words.{BitVector}
 use Rattle.word_core.specs.Digits.{read_word}
 use Rattle.word_core.specs.declared.word.TheConstants.{WIDEST}
 use Rattle.moxi_sexpr.specs.declared.form.Atom.{Atom}
-use Rattle.moxi_sexpr.specs.declared.form.Atom.TheVariants.{Symbol, Keyword, Numeral, Binary, Hex, Quote}
+use Rattle.moxi_sexpr.specs.declared.form.Atom.TheVariants.{Symbol, Binary, Hex}
 use Rattle.moxi_sexpr.specs.Bytes.{is_digit}
 use Rattle.moxi_sexpr.specs.Lexing.{refusal}
 use Rattle.moxi_sexpr.specs.Tree as form
 use Rattle.moxi_terms.specs.declared.data.Sort.{Sort}
 use Rattle.moxi_terms.specs.declared.data.Sort.TheVariants.{Truth, Bits, Choice}
-use Rattle.moxi_terms.specs.declared.data.Datum.{Datum}
 use Rattle.moxi_terms.specs.declared.data.Datum.TheVariants as datum
 use Rattle.moxi_terms.specs.declared.data.Primes.{Primes}
 use Rattle.moxi_terms.specs.declared.data.Primes.TheVariants.{Allowed, Refused}
-use Rattle.moxi_terms.specs.declared.data.TermOp.{TermOp}
 use Rattle.moxi_terms.specs.declared.data.TermOp.TheVariants as op
 use Rattle.moxi_terms.specs.declared.names.Meaning.{Meaning}
 use Rattle.moxi_terms.specs.declared.names.Meaning.TheVariants as meaning
 use Rattle.moxi_terms.specs.declared.names.Head.{Head}
 use Rattle.moxi_terms.specs.declared.names.Head.TheVariants as heads
 use Rattle.moxi_terms.specs.declared.names.Local.{Local}
-use Rattle.moxi_terms.specs.Tree.{Tree, constant, variable, bound, apply, binding, call, Trees, no_trees, tree, trees_of, sorts_of}
+use Rattle.moxi_terms.specs.Tree.{Tree, constant, variable, bound, apply, binding, call, Trees, no_trees, trees_of, sorts_of, PlainFunction}
 use Rattle.moxi_terms.specs.View.{ScopeState}
-use Rattle.moxi_terms.specs.declared.term.Function.{Function}
 use Rattle.moxi_terms.specs.Words.{is_one_of, operator_named, left_out_operators, left_out_sorts, indexed_operators}
 use Rattle.moxi_terms.specs.Names.{place_of, or_else, sort_named, constant_named, function_names}
 use Rattle.moxi_terms.specs.Operators.{nothing}
@@ -134,11 +131,11 @@ value_named s name =
     else option_map (λ (c : ℕ × ℕ). meaning.Value (datum.Constant c.0 c.1) (Choice c.0)) (constant_named s name))
 
 -- a function that is called by its bare name
-abbrev pub bare_call : ℕ → Option Function → Option Meaning
+abbrev pub bare_call : ℕ → Option PlainFunction → Option Meaning
 bare_call n None = None
 bare_call n (Some f) = if length f.parameters == 0 then Some (meaning.Call n f.result) else None
 
-abbrev pub call_of : (ℕ → Option Function → Option Meaning) → List Function → Option ℕ → Option Meaning
+abbrev pub call_of : (ℕ → Option PlainFunction → Option Meaning) → List PlainFunction → Option ℕ → Option Meaning
 call_of g fs None = None
 call_of g fs (Some n) = g n (slice_get fs n)
 
@@ -224,11 +221,11 @@ underscore_reading p q first form.no_trees = failed (refusal 4 q)
 underscore_reading p q first (form.tree t ts) = symbol_underscored p q first (place_in t) (symbol_of t) ts
 
 -- a function with parameters, at the head of a list
-abbrev pub head_call : ℕ → Option Function → Option Head
+abbrev pub head_call : ℕ → Option PlainFunction → Option Head
 head_call n None = None
 head_call n (Some f) = if length f.parameters == 0 then None else Some (heads.Function n)
 
-abbrev pub head_function : List Function → Option ℕ → Option Head
+abbrev pub head_function : List PlainFunction → Option ℕ → Option Head
 head_function fs None = None
 head_function fs (Some n) = head_call n (slice_get fs n)
 
@@ -293,19 +290,19 @@ head_primes (form.list q (form.tree t form.no_trees)) = symbol_primes t
 head_primes (form.list q (form.tree t (form.tree u ts))) = symbol_primes t ++ symbol_primes u
 
 -- the sorts of a function's parameters and its result
-abbrev pub call_sort : Option Function → List Sort → Result Sort ℕ
+abbrev pub call_sort : Option PlainFunction → List Sort → Result Sort ℕ
 call_sort None ss = Err 5
 call_sort (Some f) ss = if same_sorts (sorts_of f.parameters) ss then Ok f.result else Err 5
 
-abbrev pub head_sort : List Function → Head → List Sort → Result Sort ℕ
+abbrev pub head_sort : List PlainFunction → Head → List Sort → Result Sort ℕ
 head_sort fs (heads.Operator o) ss = op_sort o ss
 head_sort fs (heads.Function n) ss = call_sort (slice_get fs n) ss
 
-abbrev pub parameter_count : Option Function → ℕ
+abbrev pub parameter_count : Option PlainFunction → ℕ
 parameter_count None = 0
 parameter_count (Some f) = length f.parameters
 
-abbrev pub head_count_fits : List Function → Head → ℕ → Bool
+abbrev pub head_count_fits : List PlainFunction → Head → ℕ → Bool
 head_count_fits fs (heads.Operator o) n = count_fits o n
 head_count_fits fs (heads.Function k) n = n == parameter_count (slice_get fs k)
 
@@ -342,23 +339,23 @@ sort_result (Ok s) = Some s
 sort_result (Err n) = None
 
 -- the test of the sorts of an application at p, which rests on all arguments
-abbrev pub sorts_tested : List Function → Place → Head → Option (List Sort) → List Refusal
+abbrev pub sorts_tested : List PlainFunction → Place → Head → Option (List Sort) → List Refusal
 sorts_tested fs p h None = []
 sorts_tested fs p h (Some ss) = sort_failures p (head_sort fs h ss)
 
-abbrev pub applied_sort : List Function → Head → Option (List Sort) → Option Sort
+abbrev pub applied_sort : List PlainFunction → Head → Option (List Sort) → Option Sort
 applied_sort fs h None = None
 applied_sort fs h (Some ss) = sort_result (head_sort fs h ss)
 
 -- the tests of the number and of the sorts of the arguments
-abbrev pub argument_tests : List Function → Place → Head → ℕ → Option (List Sort) → List Refusal
+abbrev pub argument_tests : List PlainFunction → Place → Head → ℕ → Option (List Sort) → List Refusal
 argument_tests fs p h n ss = if head_count_fits fs h n then sorts_tested fs p h ss else refusal 12 p ∷ []
 
-abbrev pub application_tests : List Function → Place → Head → Arguments → List Refusal
+abbrev pub application_tests : List PlainFunction → Place → Head → Arguments → List Refusal
 application_tests fs p h rs = argument_tests fs p h (length rs.terms) rs.sorts
 
 -- an application at p of a head whose primes fail like this
-abbrev pub application : List Function → Place → List Refusal → Result Head Refusal → Arguments → Reading
+abbrev pub application : List PlainFunction → Place → List Refusal → Result Head Refusal → Arguments → Reading
 application fs p primes (Err f) rs = record { term = no_term; sort = None; failures = rs.failures ++ f ∷ [] }
 application fs p primes (Ok h) rs = record {
   term = headed h (trees_of rs.terms);

@@ -3,7 +3,8 @@ use Rattle.std.specs.Prelude.{◌≡◌, ◌<◌, ◌^◌, ℕ, Option, None, So
 use Rattle.std.specs.Borrow.{Bor}
 use Rattle.moxi_terms.specs.declared.term.NamedSort.{NamedSort}
 use Rattle.moxi_terms.specs.declared.term.Function.{Function}
-use Rattle.moxi_terms.specs.View.{ScopeState}
+use Rattle.moxi_terms.specs.Tree.{PlainFunction}
+use Rattle.moxi_terms.specs.View.{ScopeState, plain_function}
 use Rattle.moxi_terms.specs.Names.{enumeration_names, sort_names, function_names, all_constants, constant_numbers}
 use Rattle.moxi_terms.specs.Sorted.{IsScope}
 
@@ -32,6 +33,6 @@ abbrev pub named_sort_now : Option (Bor NamedSort) → Option NamedSort
 named_sort_now None = None
 named_sort_now (Some x) = Some x.now
 
-abbrev pub function_now : Option (Bor Function) → Option Function
+abbrev pub function_now : Option (Bor Function) → Option PlainFunction
 function_now None = None
-function_now (Some x) = Some x.now
+function_now (Some x) = Some (plain_function x.now)

@@ -5,12 +5,10 @@ use Rattle.std.specs.Borrow.{Bor}
 use Rattle.moxi_terms.specs.declared.data.Sort.{Sort}
 use Rattle.moxi_terms.specs.declared.data.Datum.{Datum}
 use Rattle.moxi_terms.specs.declared.term.Enumeration.{Enumeration}
-use Rattle.moxi_terms.specs.declared.term.Variable.{Variable}
 use Rattle.moxi_terms.specs.declared.term.NamedSort.{NamedSort}
 use Rattle.moxi_terms.specs.Sorts.{IsSort, IsOf, Fit, op_sort}
 use Rattle.moxi_terms.specs.Tree.{Tree, constant, variable, bound, apply, binding, call, Trees, no_trees, tree, PlainFunction, sorts_of}
-use Rattle.moxi_terms.specs.View.{ScopeState, plain_functions}
-use Rattle.moxi_terms.specs.Value.{Values}
+use Rattle.moxi_terms.specs.View.{ScopeState}
 
 -- over the enumerations and functions, the sorts of the variables and those of the bound values
 abbrev mutual
@@ -61,7 +59,7 @@ AreFunctions es fs = (n : ℕ) (f : PlainFunction) → slice_get fs n ≡ Some f
 pub record IsScope (s : ScopeState) : Type 0 where
   pub enumerations : AllByRecursion (λ (e : Enumeration). 0 < length e.constants) s.enumerations
   pub sorts : AllByRecursion (λ (n : NamedSort). IsSort s.enumerations n.sort) s.sorts
-  pub functions : AreFunctions s.enumerations (plain_functions s)
+  pub functions : AreFunctions s.enumerations s.functions
 
 -- the later values are of the variables' sorts; without any, no variable is primed
 abbrev pub FitLater : List Enumeration → List Sort → Tree → Option (Bor (List Datum)) → Type 0
@@ -72,6 +70,6 @@ FitLater es vars t (Some later) = Fit es vars later.now
 pub record IsReady (s : ScopeState) (now : List Datum) (later : Option (Bor (List Datum))) (t : Tree) : Type 0 where
   pub vars : List Sort
   pub sort : Sort
-  pub sorted : HasSort s.enumerations (plain_functions s) vars [] t sort
+  pub sorted : HasSort s.enumerations s.functions vars [] t sort
   pub fit : Fit s.enumerations vars now
   pub fit_later : FitLater s.enumerations vars t later

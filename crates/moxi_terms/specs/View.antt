@@ -1,5 +1,5 @@
 -- The plain form that a term of the code stands for.
-use Rattle.std.specs.Prelude.{List, map}
+use Rattle.std.specs.Prelude.{List}
 use Rattle.moxi_terms.specs.declared.term.Term.{Term, Term-F, fold-Term}
 use Rattle.moxi_terms.specs.declared.term.Function.{Function}
 use Rattle.moxi_terms.specs.declared.term.Enumeration.{Enumeration}
@@ -25,7 +25,4 @@ plain_function f = record { name = f.name; parameters = f.parameters; result = f
 pub record ScopeState : Type 0 where
   pub enumerations : List Enumeration
   pub sorts : List NamedSort
-  pub functions : List Function
-
-abbrev pub plain_functions : ScopeState → List PlainFunction
-plain_functions s = map plain_function s.functions
+  pub functions : List PlainFunction

@@ -1,11 +1,11 @@
 -- Terms that are read: each has a sort, where no test fails.
-use Rattle.std.specs.Prelude.{◌≡◌, Some, Option, List, [], ◌∷◌}
+use Rattle.std.specs.Prelude.{◌≡◌, Some, List, [], ◌∷◌}
 use Rattle.moxi_terms.specs.declared.data.Sort.{Sort}
 use Rattle.moxi_terms.specs.declared.data.Primes.TheVariants.{Refused}
 use Rattle.moxi_terms.specs.declared.names.Local.{Local}
 use Rattle.moxi_terms.specs.declared.data.Primes.{Primes}
 use Rattle.moxi_terms.specs.declared.outcome.ReadTerm.{ReadTerm}
-use Rattle.moxi_terms.specs.View.{ScopeState, plain, plain_functions}
+use Rattle.moxi_terms.specs.View.{ScopeState, plain}
 use Rattle.moxi_terms.specs.Tree.{Tree}
 use Rattle.moxi_terms.specs.Sorted.{HasSort, IsUnprimed}
 use Rattle.moxi_terms.specs.Reading.{Context, Reading}
@@ -19,7 +19,7 @@ HaveKnownSorts (l ∷ ls) [] = ⊥
 
 -- The term has this sort over variables and bound values of these sorts; where primes are refused, none of its variables is primed.
 pub record IsTerm (s : ScopeState) (primes : Primes) (vars bounds : List Sort) (t : Tree) (sort : Sort) : Type 0 where
-  pub sorted : HasSort s.enumerations (plain_functions s) vars bounds t sort
+  pub sorted : HasSort s.enumerations s.functions vars bounds t sort
   pub unprimed : primes ≡ Refused → IsUnprimed t
 
 -- the form spells a term that has the sort that is read for it

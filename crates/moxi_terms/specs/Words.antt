@@ -1,5 +1,5 @@
 -- The operators' names (SMT-LIB 2.6, theories Core and FixedSizeBitVectors), and the names that are left out.
-use Rattle.std.specs.Prelude.{ℕ, Bool, true, false, ◌||◌, if◌then◌else◌, Option, None, Some, is_some, List, [], ◌∷◌, codes}
+use Rattle.std.specs.Prelude.{ℕ, Bool, ◌||◌, if◌then◌else◌, Option, None, Some, is_some, List, [], ◌∷◌, codes}
 use Rattle.std.specs.List.{list_any}
 use Rattle.std.specs.Str.{bytes_eq}
 use Rattle.word_core.specs.declared.kinds.Unary.TheVariants as one

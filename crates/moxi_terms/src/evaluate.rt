@@ -6,7 +6,7 @@ ghost use Rattle.moxi_terms.specs.Sorts.{Fit, IsOf};
 ghost use Rattle.moxi_terms.specs.Tree.{Tree, trees_of};
 ghost use Rattle.moxi_terms.specs.Value.{at, calls_upto, later_of, term_value, term_values};
 ghost use Rattle.moxi_terms.specs.Evaluated.{CanCall, CanEvaluate, CanEvaluateAll, values_in};
-ghost use Rattle.moxi_terms.specs.View.{ScopeState, plain, plain_function, plain_functions};
+ghost use Rattle.moxi_terms.specs.View.{ScopeState, plain, plain_function};
 
 use crate::data::Datum;
 use crate::operate::operate;
@@ -64,7 +64,7 @@ pub fn eval(
     later: Option<&Env>,
 ) -> Result<Datum, NoMemory>
     requires { IsReady scope.now now.now later (plain term.now) }
-    ensures { IfOk result (λ d. d ≡ term_value (calls_upto (plain_functions scope.now) (length scope.now.functions)) (at now.now) (at (later_of now.now later.entry)) [] (plain term.now)) }
+    ensures { IfOk result (λ d. d ≡ term_value (calls_upto scope.now.functions (length scope.now.functions)) (at now.now) (at (later_of now.now later.entry)) [] (plain term.now)) }
 {
     let functions = scope.functions();
     let scene = Scene {
@@ -203,5 +203,5 @@ fn put(all: &mut Vec<Datum>, d: Datum) -> Result<(), NoMemory>
 /// A term that has a sort has a value of that sort.
 pub fn values_have_sorts()
     ensures { (s : ScopeState) (vars : List Sort) (now later : List Datum) (t : Tree) (sort : Sort) → IsScope s → Fit s.enumerations vars now → Fit s.enumerations vars later
-        → HasSort s.enumerations (plain_functions s) vars [] t sort → IsOf s.enumerations sort (term_value (calls_upto (plain_functions s) (length (plain_functions s))) (at now) (at later) [] t) }
+        → HasSort s.enumerations s.functions vars [] t sort → IsOf s.enumerations sort (term_value (calls_upto s.functions (length s.functions)) (at now) (at later) [] t) }
 {}

@@ -62,8 +62,9 @@ pub fn numeral_of<'a>(form: &'a Form) -> Option<&'a [u8]>
     }
 }
 
+/// The form, where it is the only one.
 #[tactic(auto, using(crate::proofs::FormLaws::only_none, crate::proofs::FormLaws::only_one))]
-fn only<'a>(forms: &'a [Form]) -> Option<&'a Form>
+pub fn only<'a>(forms: &'a [Form]) -> Option<&'a Form>
     ensures { only_now result ≡ only_of (plain_forms forms.now) }
 {
     match forms.split_first() {

@@ -69,7 +69,7 @@ impl Locals {
     }
 
     /// The number of the first variable of this name, and its sort.
-    pub(crate) fn find(&self, name: &[u8]) -> Option<(u32, Option<Sort>)>
+    pub fn find(&self, name: &[u8]) -> Option<(u32, Option<Sort>)>
         ensures { found result ≡ first_of 0 self.now name.now }
     {
         match self.names.place(name) {

@@ -2,12 +2,12 @@
 ghost use Rattle.std.specs.Prelude.{◌≡◌, ◌<◌, ◌≤◌, ◌^◌, ◌-◌, ◌+◌, ◌++◌, take, not, length, map, IfOk, OnOk, OnErr, Some, None, if◌then◌else◌, option_and_then, slice_get, IsTrue};
 ghost use Rattle.std.specs.List.{list_any};
 ghost use Rattle.std.specs.Option.{option_map};
-ghost use Rattle.moxi_terms.specs.Names.{all_constants, constant_named, is_sort_name, is_term_name, may_be_enumeration, no_scope, numbered, or_else, place_of, function_names, sort_named, with_enumeration, with_function, with_sort};
+ghost use Rattle.moxi_terms.specs.Names.{all_constants, constant_named, has_room, is_sort_name, is_term_name, may_be_enumeration, no_scope, numbered, or_else, place_of, function_names, sort_named, with_enumeration, with_function, with_sort};
 ghost use Rattle.moxi_terms.specs.Reading.{bare_call, call_of, head_named, parameter_count, value_named};
 ghost use Rattle.moxi_terms.specs.Scopes.{enumeration_now, constants_now, named_sort_now, function_now};
 ghost use Rattle.moxi_terms.specs.Sorted.{IsFunction, IsScope};
 ghost use Rattle.moxi_terms.specs.Sorts.{IsSort};
-ghost use Rattle.moxi_terms.specs.View.{plain_function, plain_functions};
+ghost use Rattle.moxi_terms.specs.View.{plain_function};
 
 use crate::data::{Datum, Sort};
 use crate::names::{Head, Meaning, Numbering, is_same};
@@ -33,18 +33,19 @@ pub struct Scope {
 }
 
 impl Model for Scope {
-    ghost use Rattle.moxi_terms.specs.View.{ScopeState};
+    ghost use Rattle.moxi_terms.specs.Code.{Node, tree_code};
+    ghost use Rattle.moxi_terms.specs.View.{ScopeState, plain_function};
     ghost use Rattle.moxi_terms.specs.Scopes.{IsKept};
-    ghost use Rattle.moxi_terms.specs.contracts.term.Term as e;
-    ghost use Rattle.std.specs.Coded.{codes};
+    ghost use Rattle.std.specs.Coded.{Coded, codes};
+    ghost use Rattle.std.specs.Prelude.{map};
 
     ghost Value = { ScopeState };
 
-    ghost coded = { Prim.hlevel (codes, e.the_row.coded) };
+    ghost coded = { let node : Coded Node = Prim.hlevel codes in Prim.hlevel (codes, tree_code node) };
 
-    ghost view = { λ s. record { enumerations = s.enumerations; sorts = s.sorts; functions = s.functions } };
+    ghost view = { λ s. record { enumerations = s.enumerations; sorts = s.sorts; functions = map plain_function s.functions } };
 
-    ghost invariant = { λ s. IsKept (record { enumerations = s.enumerations; sorts = s.sorts; functions = s.functions }) s.enumeration_names s.sort_names s.function_names s.constant_names s.constant_numbers.items };
+    ghost invariant = { λ s. IsKept (record { enumerations = s.enumerations; sorts = s.sorts; functions = map plain_function s.functions }) s.enumeration_names s.sort_names s.function_names s.constant_names s.constant_numbers.items };
 }
 
 impl Scope {
@@ -147,10 +148,10 @@ impl Scope {
     /// Adds a function over sorts of the scope, whose body has no primes, is well sorted over the scope and the parameters
     /// and has the sort of the result. It answers false, and changes nothing, where a constant or a function has its name.
     pub fn add_function(&mut self, function: Function) -> Result<bool, NoMemory>
-        requires function { IsFunction self.old.enumerations (plain_functions self.old) (plain_function function) }
+        requires function { IsFunction self.old.enumerations self.old.functions (plain_function function) }
         requires room { length self.old.functions < 2 ^ 32 - 1 }
         ensures added { IfOk result (λ added. added ≡ not (is_term_name self.old function.name)) }
-        ensures scope { IfOk result (λ added. self.new ≡ (if added then with_function self.old function else self.old)) }
+        ensures scope { IfOk result (λ added. self.new ≡ (if added then with_function self.old (plain_function function) else self.old)) }
         ensures err { OnErr result (self.new ≡ self.old) }
     {
         if self.is_term_name(function.name.bytes()) {
@@ -214,10 +215,22 @@ impl Scope {
 
     /// The functions. What is declared fits together.
     pub fn functions(&self) -> &Items<Function>
-        ensures functions { result.now ≡ self.now.functions }
+        ensures functions { map plain_function result.now ≡ self.now.functions }
         ensures scope { IsScope self.now }
     {
         &self.functions
+    }
+
+    /// May so many constants more, and one more of each other kind, be numbered with 32 bits?
+    pub fn has_room(&self, constants: usize) -> bool
+        ensures { result ≡ has_room self.now constants }
+    {
+        let most = u32::MAX as usize;
+        self.enumerations.len() < most
+            && self.sorts.len() < most
+            && self.functions.len() < most
+            && constants <= most
+            && self.constant_names.len() <= most - constants
     }
 
     /// Does a sort have this name? `Bool` and `BitVec` count as declared.

@@ -1,8 +1,7 @@
-use Rattle.std.proofs.Common.{◌≡◌, ◌++◌, ◌∷◌, [], Some, map, length, refl, sym, ap, ◌∙◌, subst, append-nil, append_assoc}
+use Rattle.std.proofs.Common.{◌++◌, ◌∷◌, [], map, ap, ◌∙◌}
 use Rattle.std.specs.Option.{option_map}
 use Rattle.moxi_terms.specs.View.{plain}
 use Rattle.moxi_terms.specs.Reading.{joined}
-use Rattle.moxi_terms.specs.Answer.{kept}
 use Rattle.moxi_terms.proofs.ReadingLaws.{tests_both, plain_end}
 use Rattle.moxi_terms.proofs.applications.add_argument.Goals as goal
 

@@ -1,8 +1,8 @@
-use Rattle.std.proofs.Common.{◌≡◌, ◌++◌, ◌∷◌, [], Some, map, length, refl, sym, ap, ◌∙◌, subst, append-nil, append_assoc}
+use Rattle.std.proofs.Common.{◌≡◌, ◌++◌, length, sym, ap, ◌∙◌}
 use Rattle.std.proofs.lemmas.List.{length-map}
 use Rattle.moxi_terms.specs.Tree.{trees_of}
 use Rattle.moxi_terms.specs.View.{plain}
-use Rattle.moxi_terms.specs.Failures.{sooner, least}
+use Rattle.moxi_terms.specs.Failures.{least}
 use Rattle.moxi_terms.specs.Reading.{unless_failed, headed, applied_sort, argument_tests}
 use Rattle.moxi_terms.specs.Answer.{kept}
 use Rattle.moxi_terms.proofs.ReadingLaws.{tests_both, unless_least}

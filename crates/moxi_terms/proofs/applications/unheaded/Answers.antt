@@ -1,4 +1,4 @@
-use Rattle.std.proofs.Common.{◌≡◌, ◌++◌, ◌∷◌, [], Some, map, length, refl, sym, ap, ◌∙◌, subst, append-nil, append_assoc}
+use Rattle.std.proofs.Common.{◌∷◌, [], Some, refl, ◌∙◌}
 use Rattle.moxi_terms.proofs.ReadingLaws.{tests_both}
 use Rattle.moxi_terms.proofs.applications.unheaded.Goals as goal
 

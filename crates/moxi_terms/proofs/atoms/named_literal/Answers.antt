@@ -1,4 +1,4 @@
-use Rattle.std.proofs.Common.{◌≡◌, ◌++◌, ◌∷◌, [], Some, map, length, refl, sym, ap, ◌∙◌, subst, append-nil, append_assoc}
+use Rattle.std.proofs.Common.{◌≡◌, Some, sym, ap, ◌∙◌, subst}
 use Rattle.moxi_terms.specs.Reading.{literal_named, literal_reading, literal_digits}
 use Rattle.moxi_terms.specs.Forms.{digits_now}
 use Rattle.moxi_terms.specs.Answer.{IsRead}

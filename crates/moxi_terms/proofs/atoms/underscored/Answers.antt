@@ -1,4 +1,4 @@
-use Rattle.std.proofs.Common.{◌≡◌, ◌++◌, ◌∷◌, [], Some, map, length, refl, sym, ap, ◌∙◌, subst}
+use Rattle.std.proofs.Common.{◌≡◌, ◌++◌, Some, sym, ap, ◌∙◌, subst}
 use Rattle.moxi_terms.specs.Reading.{symbol_underscored, underscore_reading, prime_failures}
 use Rattle.moxi_terms.specs.Forms.{symbol_now, symbol_of, place_in}
 use Rattle.moxi_terms.specs.Failures.{least}

@@ -1,15 +1,14 @@
 use Rattle.std.proofs.lemmas.List.{length-map}
-use Rattle.std.proofs.Common.{◌≡◌, ◌≤◌, ◌<◌, [], ◌∷◌, ◌++◌, ◌+◌, length, map, drop, slice_index_or, refl, sym, ap, ◌∙◌, subst, arith, append_assoc}
-use Rattle.moxi_terms.specs.Applied.{CanApply}
+use Rattle.std.proofs.Common.{◌≡◌, ◌<◌, [], ◌∷◌, ◌++◌, ◌+◌, length, map, drop, slice_index_or, sym, ap, ◌∙◌, subst, arith, append_assoc}
 use Rattle.moxi_terms.specs.Operators.{op_value}
-use Rattle.moxi_terms.specs.Tree.{trees_of, tree, apply, binding, call}
+use Rattle.moxi_terms.specs.Tree.{trees_of}
 use Rattle.moxi_terms.specs.View.{plain, plain_function}
-use Rattle.moxi_terms.specs.Value.{at, term_value, term_values, calls_upto, body_at}
+use Rattle.moxi_terms.specs.Value.{at, term_value, term_values, calls_upto}
 use Rattle.moxi_terms.specs.Cost.{cost, costs, cost_upto}
-use Rattle.moxi_terms.specs.Evaluated.{CanEvaluate, CanEvaluateAll, CanCall, values_in}
+use Rattle.moxi_terms.specs.Evaluated.{CanEvaluate, values_in}
 use Rattle.moxi_terms.proofs.Plain.{plain-Apply, plain-Let, plain-Call, terms_step, called, called_cost, body_of, found_within, if_ok_same}
 use Rattle.moxi_terms.proofs.ValueLaws.{taken_at, read_at}
-use Rattle.moxi_terms.proofs.Evaluating.{apply_parts, apply_can, let_parts, let_body, call_parts, call_can, first_can, rest_can, body_can}
+use Rattle.moxi_terms.proofs.Evaluating.{apply_can, let_body, call_can, first_can, rest_can, body_can}
 use Rattle.moxi_terms.proofs.evaluate.+value.Goals as goal
 
 pub value-operate-requires : goal.value-operate-requires

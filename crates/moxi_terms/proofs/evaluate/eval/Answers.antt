@@ -1,4 +1,3 @@
-use Rattle.std.proofs.Common.{◌≡◌, sym, ap, ◌∙◌}
 use Rattle.moxi_terms.specs.Value.{later_of}
 use Rattle.moxi_terms.specs.View.{plain}
 use Rattle.moxi_terms.specs.Evaluated.{values_in}

@@ -1,6 +1,5 @@
-use Rattle.std.proofs.Common.{◌≡◌, ◌++◌, ◌∷◌, [], Some, map, length, refl, sym, ap, ◌∙◌, subst, append-nil, append_assoc}
+use Rattle.std.proofs.Common.{◌++◌, ◌∷◌, [], map, ap, ◌∙◌}
 use Rattle.moxi_terms.specs.View.{plain}
-use Rattle.moxi_terms.specs.Reading.{names_of}
 use Rattle.moxi_terms.proofs.ReadingLaws.{tests_both, plain_end, names_more}
 use Rattle.moxi_terms.proofs.lets.bind_to.Goals as goal
 

@@ -1,9 +1,8 @@
-use Rattle.std.proofs.Common.{◌≡◌, ◌++◌, ◌∷◌, [], Some, map, length, refl, sym, ap, ◌∙◌, subst, append-nil, append_assoc}
+use Rattle.std.proofs.Common.{◌++◌, map, ap, ◌∙◌, append_assoc}
 use Rattle.moxi_terms.specs.Tree.{binding, trees_of}
 use Rattle.moxi_terms.specs.View.{plain}
-use Rattle.moxi_terms.specs.Failures.{sooner, least}
+use Rattle.moxi_terms.specs.Failures.{least}
 use Rattle.moxi_terms.specs.Reading.{names_of, unless_failed}
-use Rattle.moxi_terms.specs.Answer.{unless_some}
 use Rattle.moxi_terms.proofs.Plain.{plain-Let}
 use Rattle.moxi_terms.proofs.ReadingLaws.{tests_both, unless_least}
 use Rattle.moxi_terms.proofs.lets.let_term.Goals as goal

@@ -1,4 +1,4 @@
-use Rattle.std.proofs.Common.{◌≡◌, map, drop}
+use Rattle.std.proofs.Common.{◌≡◌, drop}
 use Rattle.moxi_terms.specs.Operators.{all_equal}
 use Rattle.moxi_terms.proofs.operate.are_all_equal.Given as goal
 

@@ -1,4 +1,4 @@
-use Rattle.std.proofs.Common.{◌≡◌, map, drop}
+use Rattle.std.proofs.Common.{◌≡◌, drop}
 use Rattle.std.specs.List.{list_all}
 use Rattle.moxi_terms.specs.Operators.{truth_of}
 use Rattle.moxi_terms.proofs.operate.are_all_true.Given as goal

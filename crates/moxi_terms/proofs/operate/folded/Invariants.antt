@@ -1,4 +1,4 @@
-use Rattle.std.proofs.Common.{◌≡◌, map, drop}
+use Rattle.std.proofs.Common.{◌≡◌, drop}
 use Rattle.moxi_terms.specs.Operators.{folded}
 use Rattle.moxi_terms.specs.Applied.{AreWide}
 use Rattle.moxi_terms.proofs.operate.folded.Given as goal

@@ -1,4 +1,4 @@
-use Rattle.std.proofs.Common.{◌≡◌, map, drop}
+use Rattle.std.proofs.Common.{◌≡◌, drop}
 use Rattle.std.specs.List.{list_any}
 use Rattle.moxi_terms.specs.Operators.{truth_of}
 use Rattle.moxi_terms.proofs.operate.is_any_true.Given as goal

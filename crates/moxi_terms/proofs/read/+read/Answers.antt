@@ -1,13 +1,12 @@
-use Rattle.std.proofs.Common.{◌≡◌, ◌++◌, ◌∷◌, ◌+◌, [], true, false, cond, Some, map, drop, length, refl, sym, ap, ◌∙◌, subst, arith}
+use Rattle.std.proofs.Common.{◌≡◌, ◌++◌, ◌+◌, true, false, cond, Some, map, drop, refl, sym, ap, ◌∙◌, subst, arith}
 use Rattle.std.specs.Prelude.{codes}
-use Rattle.text_core.specs.declared.place.Refusal.{Refusal}
 use Rattle.moxi_sexpr.specs.declared.form.Form.{out-Form}
 use Rattle.moxi_sexpr.specs.Tree as form
 use Rattle.moxi_terms.specs.View.{plain}
-use Rattle.moxi_terms.specs.Failures.{least, sooner}
-use Rattle.moxi_terms.specs.Forms.{size, sizes, is_word, pair_of, pair_now, symbol_of, symbol_now, place_in, is_primed}
-use Rattle.moxi_terms.specs.Reading.{Arguments, Bindings, Reading, no_arguments, argument, both_arguments, no_bindings, both_bindings, bound_to, binding_of, bindings_tests, prime_failures, let_reading, application, underscore_reading, head_primes, head_of, read, read_all, read_let, read_binding, read_bindings}
-use Rattle.moxi_terms.specs.Answer.{IsRead, AreRead, AreBound, context_of}
+use Rattle.moxi_terms.specs.Failures.{least}
+use Rattle.moxi_terms.specs.Forms.{sizes, is_word, pair_now, symbol_of, symbol_now, place_in, is_primed}
+use Rattle.moxi_terms.specs.Reading.{no_arguments, argument, both_arguments, no_bindings, both_bindings, bound_to, binding_of, bindings_tests, prime_failures, let_reading, application, underscore_reading, head_primes, head_of, read, read_all, read_let, read_binding, read_bindings}
+use Rattle.moxi_terms.specs.Answer.{IsRead, AreBound, context_of}
 use Rattle.moxi_terms.proofs.ReadingLaws.{tests_both, arguments_assoc, arguments_front, forms_step, plain_list, pair_is, if_ok_map, on_ok_map}
 use Rattle.moxi_terms.proofs.read.+read.Goals as goal
 

@@ -1,4 +1,4 @@
-use Rattle.std.proofs.Common.{◌≡◌, ◌++◌, ◌∷◌, ◌<◌, [], take, length, arith, sym, ap, ◌∙◌, append_assoc}
+use Rattle.std.proofs.Common.{◌++◌, ◌∷◌, ◌<◌, [], take, length, arith, sym, ap, ◌∙◌, append_assoc}
 use Rattle.moxi_terms.specs.Names.{numbered}
 use Rattle.moxi_terms.proofs.ScopeLaws.{front_kept, numbered_take}
 use Rattle.moxi_terms.proofs.scope.number_constants.Goals as goal

@@ -1,6 +1,5 @@
-use Rattle.std.proofs.Common.{◌≡◌, ◌<◌, length, rules, Some, slice_index_or, sym, ap, ◌∙◌, subst}
+use Rattle.std.proofs.Common.{◌≡◌, ◌<◌, length, rules, Some, sym, ap, ◌∙◌}
 use Rattle.moxi_terms.specs.Reading.{last_of}
-use Rattle.moxi_terms.specs.Finding.{locals_in, found_number}
 use Rattle.moxi_terms.proofs.FindingLaws.{found_at}
 use Rattle.moxi_terms.proofs.StackLaws.{unbound, number_is, not_bound, is_bound}
 use Rattle.moxi_terms.proofs.locals.Bounds.find.Goals as goal

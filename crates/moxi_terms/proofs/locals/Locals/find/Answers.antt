@@ -1,6 +1,5 @@
 use Rattle.std.proofs.Common.{◌≡◌, ◌<◌, length, slice_index_or, Some, sym, ap, ◌∙◌, subst}
 use Rattle.moxi_terms.specs.Reading.{first_of}
-use Rattle.moxi_terms.specs.Names.{place_of}
 use Rattle.moxi_terms.proofs.FindingLaws.{first_index, found_at}
 use Rattle.moxi_terms.proofs.locals.Locals.find.Goals as goal
 

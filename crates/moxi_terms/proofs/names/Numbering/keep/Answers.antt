@@ -1,4 +1,4 @@
-use Rattle.std.proofs.Common.{take, map, ap, sym, ◌∙◌}
+use Rattle.std.proofs.Common.{take, map, ap, ◌∙◌}
 use Rattle.moxi_terms.proofs.NameLaws.{take_names}
 use Rattle.moxi_terms.proofs.names.Numbering.keep.Goals as goal
 

@@ -1,6 +1,6 @@
-use Rattle.std.proofs.Common.{◌≡◌, ◌++◌, ◌∷◌, ◌<◌, ◌≤◌, ◌+◌, ◌-◌, ◌^◌, [], false, None, cond, length, take, sym, ap, ◌∙◌, subst}
+use Rattle.std.proofs.Common.{◌≡◌, ◌++◌, ◌∷◌, ◌<◌, ◌≤◌, ◌+◌, ◌-◌, ◌^◌, [], false, None, cond, length, map, take, sym, ap, ◌∙◌, subst}
 use Rattle.moxi_terms.specs.declared.term.Enumeration.{Enumeration}
-use Rattle.moxi_terms.specs.View.{ScopeState}
+use Rattle.moxi_terms.specs.View.{ScopeState, plain_function}
 use Rattle.moxi_terms.specs.Names.{is_sort_name, place_of, all_constants, numbered}
 use Rattle.moxi_terms.specs.Scopes.{IsKept}
 use Rattle.moxi_terms.proofs.ScopeLaws.{kept_enumeration, no_enumeration, with_new, numbers_within}
@@ -9,13 +9,13 @@ use Rattle.moxi_terms.proofs.scope.Scope.add_enumeration.Goals as goal
 pub number_constants-requires-clause-before : goal.number_constants-requires-clause-before
 number_constants-requires-clause-before c =
     let s = c.self.inside in
-    let v : ScopeState = record { enumerations = s.enumerations; sorts = s.sorts; functions = s.functions } in
+    let v : ScopeState = record { enumerations = s.enumerations; sorts = s.sorts; functions = map plain_function s.functions } in
     subst (λ n. n ≤ length s.constant_numbers.items) (sym c.len-before.ensures) (numbers_within v s.enumeration_names s.sort_names s.function_names s.constant_names s.constant_numbers.items c.self.invariant)
 
 pub invariant_of-self-2 : goal.invariant_of-self-2
 invariant_of-self-2 c =
     let s = c.self.inside in
-    let v : ScopeState = record { enumerations = s.enumerations; sorts = s.sorts; functions = s.functions } in
+    let v : ScopeState = record { enumerations = s.enumerations; sorts = s.sorts; functions = map plain_function s.functions } in
     let x : Enumeration = record { name = c.args.name; constants = c.args.constants } in
     let k : IsKept v s.enumeration_names s.sort_names s.function_names s.constant_names s.constant_numbers.items = c.self.invariant in
     let here : is_sort_name v x.name ≡ false =
@@ -31,7 +31,7 @@ invariant_of-self-2 c =
     let few : length v.enumerations < 2 ^ 32 - 1 = subst (λ (s : ScopeState). length s.enumerations < 2 ^ 32 - 1) (sym c.self.view_is) c.requires.room in
     let room : length (all_constants v.enumerations) + length x.constants < 2 ^ 32 = subst (λ (s : ScopeState). length (all_constants s.enumerations) + length x.constants < 2 ^ 32) (sym c.self.view_is) c.requires.room_for_constants in
     let enumerations : c.push.new.self ≡ s.enumerations ++ x ∷ [] = c.in-Ok.ensures.ok in
-    subst (λ es. IsKept (record { enumerations = es; sorts = s.sorts; functions = s.functions }) c.declare.new.self s.sort_names s.function_names c.declare_all.new.self c.number_constants.new.numbers.items) (sym enumerations)
-    (subst (λ ns. IsKept (record { enumerations = s.enumerations ++ x ∷ []; sorts = s.sorts; functions = s.functions }) ns s.sort_names s.function_names c.declare_all.new.self c.number_constants.new.numbers.items) (sym names)
-    (subst (λ cs. IsKept (record { enumerations = s.enumerations ++ x ∷ []; sorts = s.sorts; functions = s.functions }) (s.enumeration_names ++ x.name ∷ []) s.sort_names s.function_names cs c.number_constants.new.numbers.items) (sym constants)
+    subst (λ es. IsKept (record { enumerations = es; sorts = s.sorts; functions = map plain_function s.functions }) c.declare.new.self s.sort_names s.function_names c.declare_all.new.self c.number_constants.new.numbers.items) (sym enumerations)
+    (subst (λ ns. IsKept (record { enumerations = s.enumerations ++ x ∷ []; sorts = s.sorts; functions = map plain_function s.functions }) ns s.sort_names s.function_names c.declare_all.new.self c.number_constants.new.numbers.items) (sym names)
+    (subst (λ cs. IsKept (record { enumerations = s.enumerations ++ x ∷ []; sorts = s.sorts; functions = map plain_function s.functions }) (s.enumeration_names ++ x.name ∷ []) s.sort_names s.function_names cs c.number_constants.new.numbers.items) (sym constants)
     (kept_enumeration v s.enumeration_names s.sort_names s.function_names s.constant_names s.constant_numbers.items c.number_constants.new.numbers.items x k c.requires.some few room numbers)))

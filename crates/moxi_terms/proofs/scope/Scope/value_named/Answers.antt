@@ -1,4 +1,4 @@
-use Rattle.std.proofs.Common.{◌≡◌, ◌<◌, ℕ, true, false, cond, length, Some, None, sym, ap, ◌∙◌, subst, rules}
+use Rattle.std.proofs.Common.{◌≡◌, ◌<◌, ℕ, true, false, cond, length, map, Some, sym, ap, ◌∙◌, rules}
 use Rattle.std.specs.Option.{option_map}
 use Rattle.std.specs.Prelude.{codes}
 use Rattle.std.specs.Str.{bytes_eq}
@@ -6,7 +6,7 @@ use Rattle.std.proofs.lemmas.Option.{slice_get_within}
 use Rattle.moxi_terms.specs.declared.data.Datum.TheVariants as datum
 use Rattle.moxi_terms.specs.declared.data.Sort.TheVariants.{Truth, Choice}
 use Rattle.moxi_terms.specs.declared.names.Meaning.TheVariants as meaning
-use Rattle.moxi_terms.specs.View.{ScopeState}
+use Rattle.moxi_terms.specs.View.{ScopeState, plain_function}
 use Rattle.moxi_terms.specs.Names.{constant_named}
 use Rattle.moxi_terms.specs.Reading.{value_named}
 use Rattle.moxi_terms.proofs.FindingLaws.{index_read}
@@ -16,7 +16,7 @@ use Rattle.moxi_terms.proofs.scope.Scope.value_named.Goals as goal
 pub index-requires : goal.index-requires
 index-requires c =
     let s = c.self.inside in
-    let v : ScopeState = record { enumerations = s.enumerations; sorts = s.sorts; functions = s.functions } in
+    let v : ScopeState = record { enumerations = s.enumerations; sorts = s.sorts; functions = map plain_function s.functions } in
     let r = constant_read v s.enumeration_names s.sort_names s.function_names s.constant_names s.constant_numbers.items c.args.name.now c.in-Some.p c.self.invariant (sym c.place.ensures ∙ c.in-Some.is) in
     let h : c.in-Some.p < length s.constant_numbers.items = slice_get_within s.constant_numbers.items c.in-Some.p r.0 r.1 in
     search (rules, h)
@@ -24,7 +24,7 @@ index-requires c =
 pub returns-in-Some : goal.returns-in-Some
 returns-in-Some c =
     let s = c.self.inside in
-    let v : ScopeState = record { enumerations = s.enumerations; sorts = s.sorts; functions = s.functions } in
+    let v : ScopeState = record { enumerations = s.enumerations; sorts = s.sorts; functions = map plain_function s.functions } in
     let name = c.args.name.now in
     let r = constant_read v s.enumeration_names s.sort_names s.function_names s.constant_names s.constant_numbers.items name c.in-Some.p c.self.invariant (sym c.place.ensures ∙ c.in-Some.is) in
     let got : c.index.result.now ≡ r.0 = c.index.ensures ∙ index_read s.constant_numbers.items c.in-Some.p r.0 c.index.result.now r.1 in

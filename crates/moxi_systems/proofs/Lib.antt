@@ -1,0 +1,4 @@
+pub mod Collecting
+pub mod Forms
+pub mod FunctionLaws
+pub mod LinkLaws

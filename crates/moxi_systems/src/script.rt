@@ -1,0 +1,59 @@
+// Systems, and what is checked of one.
+
+use moxi_terms::{Term, Variables};
+use text_core::{Items, Name, Numbers, Place};
+
+/// A subsystem: its name, the number of its system, and for the inputs and then the outputs of that system the numbers of
+/// variables of the system in which it stands.
+#[derive(Drop)]
+pub struct Subsystem {
+    pub name: Name,
+    pub system: u32,
+    pub actuals: Numbers,
+}
+
+/// Subsystems, in the order in which they stand.
+pub type Subsystems = Items<Subsystem>;
+
+/// A system. Its variables are numbered from 0: inputs, outputs, locals.
+#[derive(Drop)]
+pub struct System {
+    pub name: Name,
+    pub inputs: Variables,
+    pub outputs: Variables,
+    pub locals: Variables,
+    pub init: Term,
+    pub trans: Term,
+    pub inv: Term,
+    pub subsystems: Subsystems,
+}
+
+/// An assumption, a current condition or a reachable formula.
+#[derive(Drop)]
+pub struct Formula {
+    pub name: Name,
+    pub term: Term,
+}
+
+/// A query: the numbers of its assumptions and of its current conditions, and that of its one reachable formula.
+#[derive(Drop)]
+pub struct Query {
+    pub name: Name,
+    pub assumptions: Numbers,
+    pub currents: Numbers,
+    pub reachable: u64,
+}
+
+/// What is checked of a system, with names of its own for the system's variables.
+#[derive(Drop)]
+pub struct Check {
+    pub place: Place,
+    pub system: u32,
+    pub inputs: Variables,
+    pub outputs: Variables,
+    pub locals: Variables,
+    pub assumptions: Vec<Formula>,
+    pub currents: Vec<Formula>,
+    pub reachables: Vec<Formula>,
+    pub queries: Items<Query>,
+}
