@@ -163,6 +163,8 @@ pub fn values_of<'a>(
     Ok(Values { given, kept })
 }
 
+// What a state gives a name of which no value is kept: where there is no state, or the name is that of no declared variable.
+// Paths lead to declared variables alone, so that no state is searched.
 fn searched<'a>(table: &Table<'a>, given: Option<&'a State>, i: usize, x: &[u8]) -> Seen<'a>
     ensures { seen_value result ≡ stated given.entry (dotted_at (map instance_plain table.now) i x.now) }
 {
@@ -173,7 +175,7 @@ fn searched<'a>(table: &Table<'a>, given: Option<&'a State>, i: usize, x: &[u8])
     }
 }
 
-// What a state gives a variable. Of each declared variable a value is kept.
+// What a state gives a variable: the value that is kept, as one is of each declared variable.
 fn value_of_variable<'a>(table: &Table<'a>, values: &Values<'a>, i: usize, x: &[u8]) -> Seen<'a>
     requires { AreGiven table.now values.now }
     ensures { seen_value result ≡ stated values.now.given (dotted_at (map instance_plain table.now) i x.now) }
