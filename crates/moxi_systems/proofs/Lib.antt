@@ -2,3 +2,4 @@ pub mod Collecting
 pub mod Forms
 pub mod FunctionLaws
 pub mod LinkLaws
+pub mod CycleLaws
