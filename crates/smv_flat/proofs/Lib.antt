@@ -1,0 +1,4 @@
+pub mod FlatSame
+pub mod FlatPlaces
+pub mod FlatFound
+pub mod FlatRows

@@ -1,0 +1,5 @@
+pub mod FlatTree
+pub mod FlatItems
+pub mod FlatForms
+pub mod FlatTruth
+pub mod FlatLaws
