@@ -2,3 +2,8 @@ pub mod FlatSame
 pub mod FlatPlaces
 pub mod FlatFound
 pub mod FlatRows
+pub mod FlatApart
+pub mod FlatTruths
+pub mod FlatSections
+pub mod FlatStays
+pub mod FlatLaw

@@ -1,6 +1,9 @@
 -- The flat form of an accepted model has the truth of the model.
 use Rattle.std.specs.Prelude.{◌≡◌, ℕ, ◌<◌, Bool, if◌then◌else◌, List, length, Option, Some, None, slice_get}
+use Rattle.text_core.specs.declared.place.Place.{Place}
+use Rattle.smv_text.specs.declared.token.Token.{Token}
 use Rattle.smv_text.specs.Tree.{PlainSource}
+use Rattle.smv_text.specs.Sources.{SpellsSource}
 use Rattle.smv_meaning.specs.declared.value.Value.{Value}
 use Rattle.smv_meaning.specs.Values.{Valuation, no_value}
 use Rattle.smv_meaning.specs.Expressions.{denote}
@@ -47,6 +50,6 @@ pub record HasTruth (t : List Instance) (flat : PlainFlat) (state label followin
   pub broken : (j : ℕ) → flat_broken flat j now later ≡ is_broken t j state
 
 abbrev pub SameTruth : Type 0
-SameTruth = (source : PlainSource) (needed : ℕ) → IsAccepted source needed
+SameTruth = (source : PlainSource) (end : Place) (xs : List Token) → SpellsSource source end xs → (needed : ℕ) → IsAccepted source needed
     → (state label following other : Valuation) (now later : Row) → IsRow (flat_smv source) state label now → IsRow (flat_smv source) following other later
     → HasTruth (instances_of source) (flat_smv source) state label following now later

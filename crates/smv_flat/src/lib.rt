@@ -11,4 +11,4 @@ pub use expressions::{
 };
 pub use forms::{FlatFormula, Role};
 pub use items::{FlatItem, ItemKind};
-pub use laws::{row_is_one, row_is_there};
+pub use laws::{row_is_one, row_is_there, same_truth};
