@@ -7,3 +7,5 @@ pub mod FlatTruths
 pub mod FlatSections
 pub mod FlatStays
 pub mod FlatLaw
+pub mod FlatSteps
+pub mod Lists

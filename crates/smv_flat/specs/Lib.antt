@@ -3,3 +3,4 @@ pub mod FlatItems
 pub mod FlatForms
 pub mod FlatTruth
 pub mod FlatLaws
+pub mod FlatView

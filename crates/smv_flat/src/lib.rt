@@ -5,6 +5,8 @@ mod expressions;
 mod forms;
 mod items;
 mod laws;
+mod node_types;
+mod nodes;
 
 pub use expressions::{
     FlatBranch, FlatBranches, FlatExpr, FlatExprs, FlatLink, FlatLinks, FlatShape,
