@@ -9,3 +9,9 @@ pub mod FlatStays
 pub mod FlatLaw
 pub mod FlatSteps
 pub mod Lists
+pub mod OriginLemmas
+pub mod SymbolLemmas
+pub mod NumberLemmas
+pub mod FlatMade
+pub mod FlatViews
+pub mod FlatShapes

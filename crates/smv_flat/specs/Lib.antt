@@ -4,3 +4,4 @@ pub mod FlatForms
 pub mod FlatTruth
 pub mod FlatLaws
 pub mod FlatView
+pub mod FlatOrigins

@@ -2,11 +2,16 @@
 #![tactic(auto)]
 
 mod expressions;
+mod flat;
 mod forms;
 mod items;
 mod laws;
+mod naming;
 mod node_types;
 mod nodes;
+mod numbers;
+mod origins;
+mod symbols;
 
 pub use expressions::{
     FlatBranch, FlatBranches, FlatExpr, FlatExprs, FlatLink, FlatLinks, FlatShape,

@@ -1,5 +1,5 @@
 // Single nodes of flat expressions, each with its full type and whether it is a set.
-ghost use Rattle.std.specs.Prelude.{◌≡◌, Bool, true, false, ◌||◌, ◌++◌, ◌∷◌, [], List, Option, None, map, option_map, IfOk};
+ghost use Rattle.std.specs.Prelude.{◌≡◌, Bool, true, false, ◌||◌, ◌++◌, ◌∷◌, [], List, Option, None, map, option_map, IfOk, OnOk};
 ghost use Rattle.smv_text.specs.Tree.{links_of, trees_of};
 ghost use Rattle.smv_text.specs.View.{plain, plain_link};
 ghost use Rattle.smv_meaning.specs.Types.{ExprType, numbers_of};
@@ -7,13 +7,15 @@ ghost use Rattle.smv_meaning.specs.Checks.{all_types, are_unions};
 ghost use Rattle.smv_types.specs.View.{seen, standing_seen};
 ghost use Rattle.smv_types.specs.Steps.{prefix_step, select_step, branches_step, call_step, set_step};
 ghost use Rattle.smv_flat.specs.FlatTree.{FlatTree, FlatLinks as PlainLinks, FlatBranches as PlainBranches, FlatTrees as PlainTrees, flat_prefix, flat_chain, flat_choice, flat_cases, flat_select, flat_call, flat_set, unless_set};
-ghost use Rattle.smv_flat.specs.FlatView.{IsNode, AreOperands, AreParts, AreCases, chain_type};
+ghost use Rattle.smv_flat.specs.FlatView.{plain_flat, plain_flat_link, plain_flat_branch, IsNode, AreOperands, AreParts, AreCases, chain_type};
 
-use crate::expressions::{FlatBranches, FlatExpr, FlatExprs, FlatLinks, FlatShape};
+use crate::expressions::{
+    FlatBranch, FlatBranches, FlatExpr, FlatExprs, FlatLink, FlatLinks, FlatShape,
+};
 use crate::node_types::{
     branches_type, call_type, fronts_type, implies_type, prefix_type, select_type, set_type,
 };
-use smv_text::{Expr, Function, Link, Prefix};
+use smv_text::{Expr, Function, Infix, Link, Prefix};
 use smv_types::chains::{are_unions, is_from_right};
 use smv_types::lists::BranchTypes;
 use smv_types::{Standing, Ty};
@@ -233,4 +235,72 @@ pub fn gathered(alloc: Global, place: Place, at: Standing, parts: Parts) -> Resu
         ty,
         is_set: true,
     })
+}
+
+/// Puts an operand behind an operator at the end.
+pub fn add_link(operands: &mut Operands, op: Infix, operand: Typed) -> Result<(), NoMemory>
+    ensures links { OnOk result (map plain_flat_link operands.new.links.items ≡ map plain_flat_link operands.old.links.items ++ (op, plain_flat operand.expr) ∷ []) }
+    ensures types { OnOk result (map (option_map seen) operands.new.types.items ≡ map (option_map seen) operands.old.types.items ++ option_map seen operand.ty ∷ []) }
+{
+    match operands.types.push(operand.ty) {
+        Ok(()) => {}
+        Err(_) => return Err(NoMemory),
+    }
+    match operands.links.push(FlatLink {
+        op,
+        operand: operand.expr,
+    }) {
+        Ok(()) => Ok(()),
+        Err(_) => Err(NoMemory),
+    }
+}
+
+/// Puts an argument or an element at the end.
+pub fn add_part(parts: &mut Parts, part: Typed) -> Result<(), NoMemory>
+    ensures exprs { OnOk result (map plain_flat parts.new.exprs.items ≡ map plain_flat parts.old.exprs.items ++ plain_flat part.expr ∷ []) }
+    ensures types { OnOk result (map (option_map seen) parts.new.types.items ≡ map (option_map seen) parts.old.types.items ++ option_map seen part.ty ∷ []) }
+{
+    match parts.types.push(part.ty) {
+        Ok(()) => {}
+        Err(_) => return Err(NoMemory),
+    }
+    match parts.exprs.push(part.expr) {
+        Ok(()) => Ok(()),
+        Err(_) => Err(NoMemory),
+    }
+}
+
+fn either(a: bool, b: bool) -> bool
+    ensures { result ≡ (a || b) }
+{
+    a || b
+}
+
+/// Puts a branch at the end.
+pub fn add_branch(cases: &mut Cases, when: Typed, value: Typed) -> Result<(), NoMemory>
+    ensures branches { OnOk result (map plain_flat_branch cases.new.branches.items ≡ map plain_flat_branch cases.old.branches.items ++ (plain_flat when.expr, plain_flat value.expr) ∷ []) }
+    ensures conditions { OnOk result (map (option_map seen) cases.new.types.conditions.items ≡ map (option_map seen) cases.old.types.conditions.items ++ option_map seen when.ty ∷ []) }
+    ensures values { OnOk result (map (option_map seen) cases.new.types.values.items ≡ map (option_map seen) cases.old.types.values.items ++ option_map seen value.ty ∷ []) }
+    ensures set { OnOk result (cases.new.has_set ≡ (cases.old.has_set || value.is_set)) }
+{
+    cases.has_set = either(cases.has_set, value.is_set);
+    match cases.types.conditions.push(when.ty) {
+        Ok(()) => {}
+        Err(_) => return Err(NoMemory),
+    }
+    match cases.types.values.push(value.ty) {
+        Ok(()) => {}
+        Err(_) => return Err(NoMemory),
+    }
+    push_branch(&mut cases.branches, when.expr, value.expr)
+}
+
+#[tactic(auto, using(crate::proofs::FlatViews::branch_pushed))]
+fn push_branch(branches: &mut FlatBranches, when: FlatExpr, value: FlatExpr) -> Result<(), NoMemory>
+    ensures { OnOk result (map plain_flat_branch branches.new.items ≡ map plain_flat_branch branches.old.items ++ (plain_flat when, plain_flat value) ∷ []) }
+{
+    match branches.push(FlatBranch { when, value }) {
+        Ok(()) => Ok(()),
+        Err(_) => Err(NoMemory),
+    }
 }
