@@ -15,3 +15,4 @@ pub mod NumberLemmas
 pub mod FlatMade
 pub mod FlatViews
 pub mod FlatShapes
+pub mod FormLemmas

@@ -5,3 +5,4 @@ pub mod FlatTruth
 pub mod FlatLaws
 pub mod FlatView
 pub mod FlatOrigins
+pub mod FlatFormulas

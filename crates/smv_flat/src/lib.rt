@@ -4,6 +4,7 @@
 mod expressions;
 mod flat;
 mod forms;
+mod formulas;
 mod items;
 mod laws;
 mod naming;

@@ -182,6 +182,15 @@ fn add_instance<'a>(origins: &mut Origins<'a>, i: usize, at: &Instance<'a>) -> R
     add_elements(origins, i, &plan.elements)
 }
 
+/// The items of the instance with this number.
+pub fn origins_at<'a>(alloc: Global, i: usize, at: &Instance<'a>) -> Result<Origins<'a>, NoMemory>
+    ensures { IfOk result (λ os. map origin_plain os.items ≡ items_here i (instance_plain at.now)) }
+{
+    let mut origins = Vec::new(alloc);
+    add_instance(&mut origins, i, at)?;
+    Ok(origins)
+}
+
 /// The items of a model in their order.
 #[tactic(auto, using(crate::proofs::Lists::front_is, crate::proofs::Lists::end_is, crate::proofs::OriginLemmas::joined_on))]
 pub fn origins_in<'a>(alloc: Global, table: &Table<'a>) -> Result<Origins<'a>, NoMemory>
