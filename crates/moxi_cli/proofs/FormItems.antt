@@ -19,7 +19,7 @@ use Rattle.moxi_cli.proofs.FormShape.{name_of, has_truths, both}
 
 -- ---- boolean items
 
-boolean_domain : (d : PlainDomain) → is_boolean d ≡ true → d ≡ boolean
+pub boolean_domain : (d : PlainDomain) → is_boolean d ≡ true → d ≡ boolean
 boolean_domain boolean e = refl
 boolean_domain (members ms) e = cc
 boolean_domain (between a b) e = cc

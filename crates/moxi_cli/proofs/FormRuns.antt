@@ -26,7 +26,7 @@ use Rattle.moxi_cli.proofs.FormValues.{Reads, value_is_truth}
 use Rattle.moxi_cli.proofs.FormItems.{no_children, declared, has_place, fits_truth, truth_fits, state_with, truths_in, state_gives, truths_give}
 
 -- the module of a form, and its one instance
-abbrev module_of : List ℕ → Place → List PlainItem → Tree → ℕ → PlainModule
+abbrev pub module_of : List ℕ → Place → List PlainItem → Tree → ℕ → PlainModule
 module_of x place is e tokens = record { name = x; place = place; parameters = []; elements = vars State is ∷ spec None e ∷ []; tokens = tokens }
 
 abbrev pub table_of : PlainModule → List Instance
@@ -84,7 +84,7 @@ module _ (form : Source) (x : List ℕ) (place : Place) (is : List PlainItem) (e
   is_declared y v h = ap (list_any (bytes_eq y)) (sym named) ∙ has_place form.names y v h
 
   -- the one instance is main
-  one_instance : bytes_eq x main_name ≡ true → (end : Place) → instances_of (record { modules = m ∷ []; end = end }) ≡ t
+  pub one_instance : bytes_eq x main_name ≡ true → (end : Place) → instances_of (record { modules = m ∷ []; end = end }) ≡ t
   unfolding grow
   one_instance h end =
       ap (λ b. grown_from (m ∷ []) (if b then Some m else None)) h ∙ no_children (grow 0 (m ∷ [])) (m ∷ []) 0 [] is t truths
@@ -101,7 +101,7 @@ module _ (form : Source) (x : List ℕ) (place : Place) (is : List PlainItem) (e
   unfolding look
   looked y v h = ap (landed t (look t 0) 0 y) (is_local y v h)
 
-  found : (path : Path) (y : List ℕ) (v : ℕ) → path.from_self ≡ false → path.names ≡ y ∷ [] → place_of form.names y ≡ Some v → found_in t 0 path ≡ variable_at y State boolean
+  pub found : (path : Path) (y : List ℕ) (v : ℕ) → path.from_self ≡ false → path.names ≡ y ∷ [] → place_of form.names y ≡ Some v → found_in t 0 path ≡ variable_at y State boolean
   found path y v f n h =
       ap (λ b. if b then walk (look t (steps_of t)) 0 path.names else through t (look t (steps_of t)) 0 path.names) f
       ∙ ap (through t (look t (steps_of t)) 0) n ∙ ap (single t (look t (steps_of t)) 0 y) (is_local y v h)

@@ -21,3 +21,5 @@ pub mod FormShape
 pub mod FormValues
 pub mod FormItems
 pub mod FormRuns
+pub mod FormTypes
+pub mod FormChecks

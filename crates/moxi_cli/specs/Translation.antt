@@ -11,6 +11,7 @@ use Rattle.smv_text.specs.Bytes.{start, after}
 use Rattle.smv_text.specs.Tree.{PlainSource}
 use Rattle.smv_text.specs.Heights.{first_high, of_modules}
 use Rattle.smv_text.specs.Sources.{SpellsSource}
+use Rattle.smv_meaning.specs.Phases.{IsAccepted, first_refusal}
 use Rattle.smv_parse.specs.declared.source.ParseEnd.TheVariants.{Bad}
 use Rattle.smv_parse.specs.Parsing.{IsRefused}
 use Rattle.smv_text.specs.Lexing.{LexesTo, IsLexRefusal}
@@ -66,21 +67,32 @@ HasForm bytes form = (source : PlainSource) × IsFormed bytes source form
 abbrev pub Accepts : List ℕ → PlainSource → Type 0
 Accepts bytes source = (form : Source) × IsFormed bytes source form
 
--- the refusal of a text that spells a model, but none that is translated today
+-- the refusal of a model that is accepted, but is none that is translated today
 abbrev pub not_built : Refusal
 not_built = record { kind = S 29; place = start }
 
--- the refusal of a text: that of its words, or else of its grammar, or else that its model isn't translated today
+-- the refusal of a model: that of the first check that fails, or else that it isn't translated today
+abbrev pub IsModelRefusal : List ℕ → Refusal → Type 0
+IsModelRefusal bytes refusal =
+    ((model : PlainSource) × IsModel bytes model × (first_refusal model 0 ≡ Some refusal))
+    ⊎ ((model : PlainSource) × IsModel bytes model × IsAccepted model 0 × ((form : Source) → HasForm bytes form → ⊥) × (refusal ≡ not_built))
+
+-- the refusal of a text: that of its words, or else of its grammar, or else of its model
 abbrev pub IsSmvRefusal : List ℕ → Refusal → Type 0
 IsSmvRefusal bytes refusal =
     IsLexRefusal bytes refusal
     ⊎ ((tokens : List Token) × LexesTo bytes tokens × IsRefused (record { items = tokens; end = after start bytes }) (Bad refusal))
-    ⊎ ((model : PlainSource) × IsModel bytes model × ((form : Source) → HasForm bytes form → ⊥) × (refusal ≡ not_built))
+    ⊎ IsModelRefusal bytes refusal
 
 -- why a model has no text: its refusal, or want of memory
 abbrev pub IsModelEnd : List ℕ → ModelEnd → Type 0
 IsModelEnd bytes (model.Refused refusal) = IsSmvRefusal bytes refusal
 IsModelEnd bytes model.NoMemory = Unit {0}
+
+-- why a model isn't accepted: the first check that fails, or want of memory
+abbrev pub IsCheckEnd : PlainSource → ModelEnd → Type 0
+IsCheckEnd source (model.Refused refusal) = first_refusal source 0 ≡ Some refusal
+IsCheckEnd source model.NoMemory = Unit {0}
 
 -- the text that is written for a model of this form
 unfoldable pub btor_text : Source → List ℕ

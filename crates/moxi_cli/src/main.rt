@@ -2,6 +2,8 @@
 #![tactic(auto)]
 
 mod answer;
+#[cfg(test)]
+mod check_tests;
 mod command;
 mod declared;
 mod form;

@@ -18,25 +18,27 @@ pub const SMALLEST_TEXT: &[u8] =
 
 const NOT_BUILT: &[u8] = b"refused: S29 NotBuilt at 1:1\n";
 
+const NO_MAIN: &[u8] = b"refused: S8 NoMain at 1:1\n";
+
 // What a run was given beside the model's bytes.
 #[derive(Clone, Copy)]
-struct Setting {
-    words: &'static str,
-    shelf_fails: Option<u64>,
-    most: usize,
-    out_fails: Option<u64>,
-    notes_fails: Option<u64>,
+pub struct Setting {
+    pub words: &'static str,
+    pub shelf_fails: Option<u64>,
+    pub most: usize,
+    pub out_fails: Option<u64>,
+    pub notes_fails: Option<u64>,
 }
 
 // How a run ended, and what it wrote.
 #[derive(Drop)]
-struct Ended {
-    status: Status,
-    out: MemorySink,
-    notes: MemorySink,
+pub struct Ended {
+    pub status: Status,
+    pub out: MemorySink,
+    pub notes: MemorySink,
 }
 
-fn plain() -> Setting {
+pub fn plain() -> Setting {
     Setting {
         words: "smv2btor m.smv",
         shelf_fails: None,
@@ -71,7 +73,7 @@ fn numbers(alloc: Global, number: Option<u64>) -> Result<Numbers, Fail> {
     Ok(numbers)
 }
 
-fn run_on(alloc: Global, setting: &Setting, model: &[u8]) -> Result<Ended, Fail> {
+pub fn run_on(alloc: Global, setting: &Setting, model: &[u8]) -> Result<Ended, Fail> {
     let words = words_of(alloc, setting.words)?;
     let mut shelf = MemoryShelf::new(
         model_file(alloc, model)?,
@@ -117,19 +119,19 @@ fn models_and_their_texts(rt: HostRuntime) -> Result<(), Fail> {
             b"MODULE main VAR x : boolean; INVARSPEC y",
             Status::Refused,
             b"",
-            NOT_BUILT,
+            b"refused: S14 Unknown at 1:40\n",
         ),
         (
             b"MODULE main VAR x : boolean; x : boolean; INVARSPEC x",
             Status::Refused,
             b"",
-            NOT_BUILT,
+            b"refused: S10 NameTwice at 1:30\n",
         ),
         (
             b"MODULE main VAR INVARSPEC x",
             Status::Refused,
             b"",
-            NOT_BUILT,
+            b"refused: S14 Unknown at 1:27\n",
         ),
         (
             b"MODULE main VAR TRUE : boolean; INVARSPEC TRUE",
@@ -159,9 +161,9 @@ fn models_and_their_texts(rt: HostRuntime) -> Result<(), Fail> {
             b"MODULE main VAR x : boolean; INVARSPEC x-1",
             Status::Refused,
             b"",
-            NOT_BUILT,
+            b"refused: S14 Unknown at 1:40\n",
         ),
-        (b"", Status::Refused, b"", NOT_BUILT),
+        (b"", Status::Refused, b"", NO_MAIN),
         (
             b"MODULE main VAR x : boolean; INVARSPEC x @",
             Status::Refused,
@@ -184,7 +186,7 @@ fn models_and_their_texts(rt: HostRuntime) -> Result<(), Fail> {
             b"MODULE main VAR x : boolean; INVARSPEC 0ud2_3 / x -> case x : !x; esac",
             Status::Refused,
             b"",
-            NOT_BUILT,
+            b"refused: S16 TypeClash at 1:40\n",
         ),
         (
             b"MODULE main VAR x : boolean; LTLSPEC G x",
@@ -202,18 +204,22 @@ fn models_and_their_texts(rt: HostRuntime) -> Result<(), Fail> {
     Ok(())
 }
 
-// What is refused in each front of the smallest model: a model that isn't translated (n), an end that comes too early (e), a
-// dead token (d at column 1, D at 13, b at 21), or a word that isn't supported (v at column 13, u at 30).
-const FRONTS: &[u8] = b"ndddddeennnnnvDnneeeeeeebeeenneueeeeeeeee";
+// What is refused in each front of the smallest model: a model without main (m) or without an invariant (i), an end that
+// comes too early (e), a dead token (d at column 1, D at 13, b at 21), or a word that isn't supported (v at column 13, u at 30).
+const FRONTS: &[u8] = b"mdddddeemmmiivDiieeeeeeebeeeiieueeeeeeeee";
 
 #[test]
 fn fronts_of_a_model(rt: HostRuntime) -> Result<(), Fail> {
     let alloc = rt.alloc();
     for end in 0..SMALLEST.len().min(FRONTS.len()) {
-        let early = format!(in alloc; "refused: S5 Dead at 1:{}\n", end + 1)?;
+        let kind = match FRONTS[end] {
+            b'm' => "S8 NoMain",
+            b'i' => "S27 NoInvarspec",
+            _ => "S5 Dead",
+        };
+        let ended = format!(in alloc; "refused: {kind} at 1:{}\n", end + 1)?;
         let line: &[u8] = match FRONTS[end] {
-            b'n' => NOT_BUILT,
-            b'e' => early.as_bytes(),
+            b'm' | b'i' | b'e' => ended.as_bytes(),
             b'd' => b"refused: S5 Dead at 1:1\n",
             b'D' => b"refused: S5 Dead at 1:13\n",
             b'b' => b"refused: S5 Dead at 1:21\n",
@@ -264,7 +270,10 @@ fn words_and_files(rt: HostRuntime) -> Result<(), Fail> {
     assert_eq!(rt; absent.notes.bytes(), b"read fault: none.smv\n".as_slice());
     let longest = vec![in alloc; b' '; 1_048_576]?;
     let read = run_on(alloc, &plain(), &longest)?;
-    assert_eq!(rt; read.notes.bytes(), NOT_BUILT);
+    assert_eq!(rt;
+        read.notes.bytes(),
+        b"refused: S8 NoMain at 1:1048577\n".as_slice()
+    );
     let longer = vec![in alloc; b' '; 1_048_577]?;
     let refused = run_on(alloc, &plain(), &longer)?;
     assert_eq!(rt; refused.status, Status::Refused);
@@ -320,7 +329,7 @@ fn faults(rt: HostRuntime) -> Result<(), Fail> {
         let end = run_on(alloc, &setting, b"")?;
         assert_eq!(rt; end.status, Status::WriteFault);
         assert_eq!(rt; end.out.bytes(), b"".as_slice());
-        assert!(rt; NOT_BUILT.starts_with(end.notes.bytes()));
+        assert!(rt; NO_MAIN.starts_with(end.notes.bytes()));
     }
     Ok(())
 }
@@ -354,7 +363,7 @@ fn nothing_fails_over_a_sure_shelf(rt: HostRuntime) -> Result<(), Fail> {
 }
 
 // The piece this many times between two texts.
-fn repeated(
+pub fn repeated(
     alloc: Global,
     front: &str,
     piece: &str,
@@ -375,11 +384,12 @@ fn limits(rt: HostRuntime) -> Result<(), Fail> {
     let front = "MODULE main VAR x : boolean; INVARSPEC ";
     // Signs and selections count for the height, operands for the tokens.
     let tall: &[u8] = b"refused: S7 TooTall at 1:40\n";
+    let clash: &[u8] = b"refused: S16 TypeClash at 1:40\n";
     let rows: [(&str, &str, usize, &str, Status, &[u8]); 8] = [
         ("", "!", 379, "x", Status::Done, b""),
         ("", "!", 380, "x", Status::Refused, tall),
         ("", "!", 400, "x", Status::Refused, tall),
-        ("x", "[0:0]", 379, "", Status::Refused, NOT_BUILT),
+        ("x", "[0:0]", 379, "", Status::Refused, clash),
         ("x", "[0:0]", 380, "", Status::Refused, tall),
         ("", "x & ", 2043, "x;", Status::Done, b""),
         ("", "x & ", 2044, "x", Status::Refused, NOT_BUILT),

@@ -1,5 +1,5 @@
 // From the bytes of a model to its BTOR2 text.
-ghost use Rattle.std.specs.Prelude.{◌≡◌, ◌≤◌, List, ℕ, length, IfOk, IfErr};
+ghost use Rattle.std.specs.Prelude.{◌≡◌, ◌≤◌, List, ℕ, length, IfOk, IfErr, OnOk};
 ghost use Rattle.moxi_cli.specs.Formulas.{Source as Form, Below};
 ghost use Rattle.smv_text.specs.Tree.{PlainSource};
 ghost use Rattle.btor_tree.specs.declared.lines.TheConstants.{GREATEST_ID};
@@ -8,13 +8,16 @@ ghost use Rattle.moxi_cli.specs.Lines.{line_count};
 ghost use Rattle.smv_text.specs.Bytes.{start, after};
 ghost use Rattle.smv_text.specs.Lexing.{LexesTo};
 ghost use Rattle.smv_text.specs.View.{plain_source};
-ghost use Rattle.moxi_cli.specs.Translation.{Accepts, HasForm, IsFormed, IsModelEnd, IsReadModel, TranslatesTo, btor_text, has_no_brackets, is_section};
+ghost use Rattle.smv_meaning.specs.Phases.{IsAccepted};
+ghost use Rattle.moxi_cli.specs.Translation.{Accepts, HasForm, IsCheckEnd, IsFormed, IsModelEnd, IsReadModel, TranslatesTo, btor_text, has_no_brackets, is_section};
 
 use crate::answer::refusal;
 use crate::form::form_of;
 use crate::formula::Source;
 use crate::lines::lines_of;
 use btor_text::print_btor;
+use smv_flatten::accepted;
+use smv_names::NamesEnd;
 use smv_parse::{ParseEnd, parse};
 use smv_text::{LexEnd, Reserved, Source as Model, Token, TokenKind, Tokens, lex};
 use std::alloc::Global;
@@ -88,7 +91,7 @@ fn source_of_tokens(alloc: Global, bytes: &[u8], tokens: &Tokens) -> Result<Sour
     }
 }
 
-// The source that the model is, if it is one of those that are translated today.
+// The source that the model is, if it is accepted and one of those that are translated today.
 fn source_of_model(
     alloc: Global,
     bytes: &[u8],
@@ -96,6 +99,36 @@ fn source_of_model(
     model: &Model,
 ) -> Result<Source, ModelEnd>
     requires model { IsReadModel bytes.now tokens.now.items (plain_source model.now) }
+    ensures accepted { IfOk result (λ source. HasForm bytes.now (source_of source)) }
+    ensures refused { IfErr result (IsModelEnd bytes.now) }
+{
+    match checked(alloc, model) {
+        Ok(()) => form_of_model(alloc, bytes, tokens, model),
+        Err(end) => Err(end),
+    }
+}
+
+// Does every check of the model hold?
+fn checked(alloc: Global, model: &Model) -> Result<(), ModelEnd>
+    ensures accepted { OnOk result (IsAccepted (plain_source model.now) 0) }
+    ensures refused { IfErr result (IsCheckEnd (plain_source model.now)) }
+{
+    match accepted(alloc, model, 0) {
+        Ok(_) => Ok(()),
+        Err(NamesEnd::Bad(refusal)) => Err(ModelEnd::Refused(refusal)),
+        Err(NamesEnd::NoMemory) => Err(ModelEnd::NoMemory),
+    }
+}
+
+// The source that an accepted model is, if it is one of those that are translated today.
+fn form_of_model(
+    alloc: Global,
+    bytes: &[u8],
+    tokens: &Tokens,
+    model: &Model,
+) -> Result<Source, ModelEnd>
+    requires model { IsReadModel bytes.now tokens.now.items (plain_source model.now) }
+    requires passes { IsAccepted (plain_source model.now) 0 }
     ensures accepted { IfOk result (λ source. HasForm bytes.now (source_of source)) }
     ensures refused { IfErr result (IsModelEnd bytes.now) }
 {
@@ -147,6 +180,11 @@ fn text_of(alloc: Global, source: &Source) -> Result<Text, NoMemory>
 /// No bytes spell two models.
 pub fn one_source()
     ensures { (bytes : List ℕ) (source other : PlainSource) → Accepts bytes source → Accepts bytes other → source ≡ other }
+{}
+
+/// Every check of a model that is translated today holds.
+pub fn formed_is_accepted()
+    ensures { (bytes : List ℕ) (source : PlainSource) → Accepts bytes source → IsAccepted source 0 }
 {}
 
 /// What is written for an accepted model stands for it, by the meaning of the whole language.

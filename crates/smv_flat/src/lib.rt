@@ -18,5 +18,10 @@ pub use expressions::{
     FlatBranch, FlatBranches, FlatExpr, FlatExprs, FlatLink, FlatLinks, FlatShape,
 };
 pub use forms::{FlatFormula, Role};
+pub use formulas::formulas_in;
 pub use items::{FlatItem, ItemKind};
 pub use laws::{row_is_one, row_is_there, same_truth};
+pub use naming::Naming;
+pub use numbers::{Bodies, Numbers, numbers_of, paths_of};
+pub use origins::{Content, Origin, Origins, origins_in};
+pub use symbols::{Symbols, symbols_in};

@@ -11,7 +11,7 @@ use Rattle.smv_text.specs.Tree.{Tree, name, Trees, no_trees, tree, PlainDomain, 
 use Rattle.smv_text.specs.Heights.{list_of, of_definitions, of_assignments}
 use Rattle.smv_meaning.specs.Expressions.{paths_of, tree_paths}
 use Rattle.smv_meaning.specs.Instances.{Instance}
-use Rattle.smv_meaning.specs.Names.{Local, formula, of_actual, of_domain, among_items, among_definitions, among_elements, among_parameters, parent_of, Found, variable_at, body_at, instance_at, symbol_of, cyclic, none, found_in, steps_of}
+use Rattle.smv_meaning.specs.Names.{Local, formula, of_actual, of_domain, among_items, among_definitions, among_elements, among_parameters, parent_of, Found, variable_at, body_at, instance_at, symbol_of, cyclic, none, found_in, steps_of, path_in, local}
 use Rattle.smv_meaning.specs.Meaning.{is_input}
 use Rattle.smv_meaning.specs.Types.{ExprType, is_unmixed, has_width, has_order, domain_type, in_limit}
 use Rattle.smv_meaning.specs.Checks.{Check, passes, Position, Named, typing, on_type, domain_checks, variable_type}
@@ -29,7 +29,7 @@ use Rattle.smv_meaning.proofs.Cycles.{In, in_all, in_left, in_right}
 use Rattle.smv_meaning.proofs.Agreeing.{more_paths, own_paths}
 use Rattle.smv_meaning.proofs.Typable.{TypedPaths, split, has_type}
 use Rattle.smv_meaning.proofs.Ranked.{key}
-use Rattle.smv_meaning.proofs.Settling.{Under, under_more, all_under, body_under, ranking, types_settle_law}
+use Rattle.smv_meaning.proofs.Settling.{Under, under_more, all_under, body_under, descent, ranking, types_settle_law}
 use Rattle.smv_meaning.proofs.PartLaws.{Sound, AnyHold, part_sound}
 
 -- ---- the checks of an instance
@@ -194,14 +194,16 @@ checked_at t c w i at e =
       own_words = words.1;
     }
 
-pub all_given : (t : List Instance) → ((i : ℕ) (at : Instance) → slice_get t i ≡ Some at → Checked t i at) → (i : ℕ) (path : Path) → Given t (found_in t i path)
-all_given t c i path = found_good (Given t) (given_closed t) t
-    (λ i x. in_place (Given t) i x (slice_get t i)
+-- what a name is in its instance is in order
+pub local_given : (t : List Instance) → ((i : ℕ) (at : Instance) → slice_get t i ≡ Some at → Checked t i at) → (i : ℕ) (x : List ℕ) → LocalGood (Given t) (path_in (slice_get t i)) i x (local t i x)
+local_given t c i x = in_place (Given t) i x (slice_get t i)
     (λ at e.
     let k = c i at e in
     given_parameters t at.path i (parent_of at) at.plan.parameters at.actuals x (among_elements i at.plan.elements x) k.actual_types k.actual_paths k.actual_words
-    (given_elements t at.path i at.plan.elements x k.element_types k.own_paths k.own_words)))
-    i path
+    (given_elements t at.path i at.plan.elements x k.element_types k.own_paths k.own_words))
+
+pub all_given : (t : List Instance) → ((i : ℕ) (at : Instance) → slice_get t i ≡ Some at → Checked t i at) → (i : ℕ) (path : Path) → Given t (found_in t i path)
+all_given t c i path = found_good (Given t) (given_closed t) t (local_given t c) i path
 
 -- ---- names have types
 
@@ -236,7 +238,7 @@ typed_names t a g (suc n) i path u p s f =
         let less = v.0 in
         let above = (ranking t a).positive (key k x) (ap is_formula v.1) in
         has_type (types_in true t j) in_body c []
-        (λ q i f. ih j q (under_more t (rank_of t) (rank_of t (key k x)) n (omega arith) (found_in t j q) (body_under t (rank_of t) (ranking t a) k x j c v.1 q i)) (omega arith) (h.paths q i) f)
+        (λ q i f. ih j q (under_more t (rank_of t) (rank_of t (key k x)) n (omega arith) (found_in t j q) (body_under t (rank_of t) (descent t (rank_of t) (ranking t a)) k x j c v.1 q i)) (omega arith) (h.paths q i) f)
         h.words h.checks
     by (instance_at k) h v r b ih = absurd_bool (sym b)
     by (symbol_of x) h v r b ih = refl

@@ -1,6 +1,5 @@
 -- Steps of evaluating an expression.
-use Rattle.std.proofs.Common.{◌≡◌, ℕ, suc, ◌+◌, ◌*◌, ◌-◌, ◌<◌, ◌≤◌, max, Bool, true, false, ◌&&◌, ◌||◌, if◌then◌else◌, List, [], ◌∷◌, ◌++◌, map, pos, negsuc, Option, refl, sym, ap, ◌∙◌, subst, arith}
-use Rattle.std.specs.Borrow.{Bor}
+use Rattle.std.proofs.Common.{◌≡◌, ℕ, ◌+◌, ◌≤◌, max, Bool, true, false, ◌&&◌, ◌||◌, if◌then◌else◌, List, [], ◌∷◌, ◌++◌, map, pos, negsuc, refl, sym, ap, ◌∙◌, subst, arith}
 use Rattle.text_core.specs.declared.place.Place.{Place}
 use Rattle.smv_text.specs.declared.tree.Path.{Path}
 use Rattle.smv_text.specs.declared.tree.Branch.{Branch}
@@ -14,66 +13,13 @@ use Rattle.smv_text.specs.declared.tree.Expr.{Expr}
 use Rattle.smv_text.specs.declared.tree.Link.{Link}
 use Rattle.smv_text.specs.declared.tree.Shape.{Chain}
 use Rattle.smv_text.specs.View.{plain, plain_branch, plain_link}
-use Rattle.smv_meaning.specs.Instances.{Instance}
-use Rattle.smv_meaning.proofs.FoundLaws.{depths_of, LowFound, low_found}
-use Rattle.std.proofs.Math.Nat.{add-mul}
 use Rattle.smv_meaning.proofs.Plain.{plain_branch-at, plain_link-at, plain-chain}
 use Rattle.smv_meaning.specs.declared.value.Value.{Value}
 use Rattle.smv_meaning.specs.declared.value.Value.TheVariants.{Truth, Integer, Bits}
-use Rattle.smv_meaning.specs.declared.value.Given.{Given}
-use Rattle.smv_meaning.specs.declared.table.Instance.{Instance as PartOf}
 use Rattle.smv_meaning.specs.Values.{no_value, is_true}
 use Rattle.smv_meaning.specs.Operators.{called}
 use Rattle.smv_meaning.specs.Expressions.{Denotation, alone, joined, is_implies, are_implies, is_from_right, is_last, denote, implications, linked, chosen, taken}
-use Rattle.smv_meaning.specs.Names.{Found}
-use Rattle.smv_meaning.specs.Meaning.{value_found, reading}
-use Rattle.smv_meaning.specs.Safety.{depth, link_depth, right_depth, branch_depth, front_value, fronts_value, front_permits, fronts_permit, Safe, SafeBranches, SafeFound, SafePath}
-use Rattle.smv_meaning.specs.View.{stated, instance_plain, found_here, reads, SafeReads}
-
--- ---- names
-
-pub reading_none : (ts : List PartOf) (n i : ℕ) (s l : Option (Bor (List Given))) (path : Path) → n ≡ 0 → no_value ≡ reads ts n i s l path
-unfolding reading
-reading_none ts n i s l path e = sym (ap (λ k. reading (found_here ts) k (stated s) (stated l) i path) e)
-
-pub reads_step : (ts : List PartOf) (n i : ℕ) (s l : Option (Bor (List Given))) (path : Path) (m : Found) → 0 < n
-    → m ≡ found_here ts i path
-    → value_found (reading (found_here ts) (n - 1) (stated s) (stated l)) (stated s) (stated l) m ≡ reads ts n i s l path
-unfolding reading
-reads_step ts n i s l path m h at =
-    let step : n ≡ suc (n - 1) = omega arith in
-    ap (value_found (reading (found_here ts) (n - 1) (stated s) (stated l)) (stated s) (stated l)) at
-    ∙ sym (ap (λ k. reading (found_here ts) k (stated s) (stated l) i path) step)
-
-pub safe_step : (ts : List PartOf) (n i : ℕ) (s l : Option (Bor (List Given))) (path : Path) (m : Found) → 0 < n
-    → m ≡ found_here ts i path → SafeReads ts n i s l path
-    → SafeFound (SafePath (found_here ts) (n - 1) (stated s) (stated l)) (reading (found_here ts) (n - 1) (stated s) (stated l)) m
-unfolding SafePath
-safe_step ts n i s l path m h at safe =
-    let step : n ≡ suc (n - 1) = omega arith in
-    let here : SafePath (found_here ts) (suc (n - 1)) (stated s) (stated l) i path = subst (λ k. SafePath (found_here ts) k (stated s) (stated l) i path) step safe in
-    subst (SafeFound (SafePath (found_here ts) (n - 1) (stated s) (stated l)) (reading (found_here ts) (n - 1) (stated s) (stated l))) (sym at) here
-
--- what an evaluation of so many steps has to spend: each step one body
-unfoldable pub budget : List Instance → ℕ → ℕ
-budget t n = n * (8 * depths_of t + 8)
-
-one_more : (m k x : ℕ) → x < k → m * k + x < (m + 1) * k
-one_more m k x h = let e = add-mul m 1 k in omega (arith, e)
-
-pub budget_falls : (t : List Instance) (n : ℕ) (e : Tree) → depth e ≤ depths_of t → 0 < n → budget t (n - 1) + 8 * depth e + 1 < budget t n
-unfolding budget
-budget_falls t n e l h =
-    let step : n ≡ (n - 1) + 1 = omega arith in
-    let less = one_more (n - 1) (8 * depths_of t + 8) (8 * depth e + 1) (omega arith) in
-    subst (λ m. (n - 1) * (8 * depths_of t + 8) + 8 * depth e + 1 < m * (8 * depths_of t + 8)) (sym step) (omega (arith, less))
-
-low_at : (n : ℕ) (m : Found) (k : Found) → k ≡ m → LowFound n m → LowFound n k
-low_at n m k e h = subst (LowFound n) (sym e) h
-
-pub body_low : (ts : List PartOf) (i : ℕ) (path : Path) (m : Found) → m ≡ found_here ts i path
-    → LowFound (depths_of (map instance_plain ts)) m
-body_low ts i path m at = low_at (depths_of (map instance_plain ts)) (found_here ts i path) m at (low_found (map instance_plain ts) i path)
+use Rattle.smv_meaning.specs.Safety.{depth, link_depth, right_depth, branch_depth, front_value, fronts_value, front_permits, fronts_permit, Safe, SafeBranches}
 
 -- ---- chains
 

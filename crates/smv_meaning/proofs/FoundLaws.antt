@@ -1,5 +1,5 @@
 -- What holds of the variables, definitions and actuals of all instances holds of what paths lead to.
-use Rattle.std.proofs.Common.{ap, sum_by, ◌+◌, ◌≤◌, ◌≡◌, ℕ, zero, suc, ◌<◌, ◌^◌, Bool, true, false, not, ◌&&◌, ◌==◌, nat_lt, nat_le, if◌then◌else◌, List, [], ◌∷◌, map, position, Option, Some, None, bytes_eq, refl, sym, subst, arith}
+use Rattle.std.proofs.Common.{◌≡◌, ℕ, zero, suc, ◌<◌, ◌^◌, Bool, true, false, not, ◌&&◌, ◌==◌, nat_lt, nat_le, if◌then◌else◌, List, [], ◌∷◌, map, position, Option, Some, None, bytes_eq, refl, sym, subst, arith}
 use Rattle.std.proofs.lemmas.Bool.{eqb-true, ltb-true}
 use Rattle.std.proofs.lemmas.Slice.Eq.{bytes_eq-Decides}
 use mathlib.Core.Logic.{inl, inr, ⊎_elim}
@@ -18,9 +18,7 @@ use Rattle.smv_meaning.specs.Instances.{Instance, dotted}
 use Rattle.smv_meaning.specs.Names.{Local, alias, formula, variable_of, inner, nothing, of_actual, of_domain, among_items, among_definitions, among_elements, among_parameters, parent_of, local_in, local, Found, variable_at, body_at, instance_at, symbol_of, cyclic, none, at_child, is_child, path_in, onward, is_end, walk, has_symbol, single, through, resolved, landed, look, steps_of, found_in}
 use Rattle.smv_meaning.specs.Meaning.{is_input}
 use Rattle.smv_meaning.specs.Runs.{domain_fits, is_fit, element_fits, state_fits, label_fits}
-use Rattle.smv_meaning.specs.Safety.{depth}
 use Rattle.smv_meaning.specs.Typed.{LiesIn, Lies, GivesFound, Gives}
-use Rattle.std.proofs.lemmas.List.Sums.{sum_by-cons}
 use Rattle.std.proofs.lemmas.Int.{ints}
 use Rattle.smv_meaning.specs.Operators.{is_width}
 use Rattle.smv_meaning.specs.Types.{ExprType, integer_type, word_type, in_limit, are_same, hull_of, member_type}
@@ -111,82 +109,6 @@ by_name P y x l other h k = by (bytes_eq y x) refl
     by : (b : Bool) → bytes_eq y x ≡ b → P x (if b then l else other)
     by true e = h ((bytes_eq-Decides y x).0 e)
     by false e = k
-
--- ---- how deep bodies are: no deeper than all of them together
-
-abbrev pub element_depths : PlainElement → ℕ
-element_depths (defines ds) = sum_by (λ d. depth d.body) ds
-element_depths e = 0
-
-abbrev pub actual_depths : Trees → ℕ
-actual_depths no_trees = 0
-actual_depths (tree e es) = depth e + actual_depths es
-
-abbrev pub depths_in : Instance → ℕ
-depths_in at = actual_depths at.actuals + sum_by element_depths at.plan.elements
-
-abbrev pub depths_of : List Instance → ℕ
-depths_of t = sum_by depths_in t
-
-abbrev pub LowFound : ℕ → Found → Type 0
-LowFound n (body_at i x j e) = depth e ≤ n
-LowFound n m = Unit {0}
-
-low_closed : (n : ℕ) → Closed (LowFound n)
-low_closed n = record { instances = λ i. tt; symbols = λ x. tt; circles = tt; missing = tt }
-
-low_items : (n : ℕ) (path : List ℕ) (i : ℕ) (kind : VarKind) (items : List PlainItem) (x : List ℕ) (other : Local) → LocalGood (LowFound n) path i x other → LocalGood (LowFound n) path i x (among_items kind items x other)
-low_items n path i kind [] x other h = h
-low_items n path i kind (item ∷ items) x other h =
-    by_name (λ y l. LocalGood (LowFound n) path i y l) item.name x (of_domain kind item.domain) (among_items kind items x other) (λ e. of_any item.domain) (low_items n path i kind items x other h)
-  where
-    of_any : (d : PlainDomain) → LocalGood (LowFound n) path i x (of_domain kind d)
-    of_any boolean = tt
-    of_any (members ms) = tt
-    of_any (between low high) = tt
-    of_any (bits m) = tt
-    of_any (instance m actuals) = tt
-
-low_definitions : (n : ℕ) (path : List ℕ) (i : ℕ) (ds : List PlainDefinition) (x : List ℕ) (other : Local) → sum_by (λ d. depth d.body) ds ≤ n → LocalGood (LowFound n) path i x other
-    → LocalGood (LowFound n) path i x (among_definitions i ds x other)
-low_definitions n path i [] x other a h = h
-low_definitions n path i (d ∷ ds) x other a h =
-    let b = sum_by-cons (λ (c : PlainDefinition). depth c.body) d ds in
-    by_name (λ y l. LocalGood (LowFound n) path i y l) d.name x (formula i d.body) (among_definitions i ds x other) (λ e. omega arith) (low_definitions n path i ds x other (omega arith) h)
-
-low_elements : (n : ℕ) (path : List ℕ) (i : ℕ) (es : List PlainElement) (x : List ℕ) → sum_by element_depths es ≤ n → LocalGood (LowFound n) path i x (among_elements i es x)
-low_elements n path i [] x a = tt
-low_elements n path i (vars kind items ∷ es) x a =
-    let b = sum_by-cons element_depths (vars kind items) es in low_items n path i kind items x (among_elements i es x) (low_elements n path i es x (omega arith))
-low_elements n path i (defines ds ∷ es) x a =
-    let b = sum_by-cons element_depths (defines ds) es in low_definitions n path i ds x (among_elements i es x) (omega arith) (low_elements n path i es x (omega arith))
-low_elements n path i (e ∷ es) x a = let b = sum_by-cons element_depths e es in low_elements n path i es x (omega arith)
-
-low_actual : (n : ℕ) (path : List ℕ) (i j : ℕ) (x : List ℕ) (e : Tree) → depth e ≤ n → LocalGood (LowFound n) path i x (of_actual j e)
-low_actual n path i j x (name p q) h = tt
-low_actual n path i j x e h = h
-
-low_parameters : (n : ℕ) (path : List ℕ) (i j : ℕ) (qs : List Parameter) (es : Trees) (x : List ℕ) (other : Local) → actual_depths es ≤ n → LocalGood (LowFound n) path i x other
-    → LocalGood (LowFound n) path i x (among_parameters j qs es x other)
-low_parameters n path i j [] es x other a h = h
-low_parameters n path i j (q ∷ qs) no_trees x other a h = h
-low_parameters n path i j (q ∷ qs) (tree e es) x other a h =
-    by_name (λ y l. LocalGood (LowFound n) path i y l) q.name x (of_actual j e) (among_parameters j qs es x other) (λ s. low_actual n path i j x e (omega arith))
-    (low_parameters n path i j qs es x other (omega arith) h)
-
-in_sum : (t : List Instance) (i : ℕ) (at : Instance) → slice_get t i ≡ Some at → depths_in at ≤ depths_of t
-in_sum [] i at e = cc
-in_sum (a ∷ t) zero at e = let same : depths_in a ≡ depths_in at = ap depths_in (some_inj a at e) in let b = sum_by-cons depths_in a t in omega arith
-in_sum (a ∷ t) (suc i) at e = let h = in_sum t i at e in let b = sum_by-cons depths_in a t in omega arith
-
-pub low_found : (t : List Instance) (i : ℕ) (path : Path) → LowFound (depths_of t) (found_in t i path)
-low_found t i path = found_good (LowFound (depths_of t)) (low_closed (depths_of t)) t
-    (λ i x. in_place (LowFound (depths_of t)) i x (slice_get t i)
-    (λ at e.
-    let h = in_sum t i at e in
-    low_parameters (depths_of t) at.path i (parent_of at) at.plan.parameters at.actuals x (among_elements i at.plan.elements x) (omega arith)
-    (low_elements (depths_of t) at.path i at.plan.elements x (omega arith))))
-    i path
 
 -- ---- states of the declared types
 

@@ -30,3 +30,10 @@ pub mod LiteralLemmas
 pub mod OrderLaws
 pub mod FirstCycle
 pub mod NumberLemmas
+pub mod Positions
+pub mod RowReads
+pub mod Reaching
+pub mod Filling
+pub mod Keeping
+pub mod Passing
+pub mod StandingBefore

@@ -1,23 +1,22 @@
 -- The graph of references stands for what refers to what.
-use Rattle.std.proofs.Common.{◌≡◌, ◌≢◌, ℕ, zero, suc, ◌+◌, ◌<◌, ◌≤◌, Bool, true, false, not, ◌&&◌, ◌||◌, ◌==◌, nat_lt, cond, if◌then◌else◌, List, [], ◌∷◌, ◌++◌, map, length, Option, Some, None, refl, sym, ap, ◌∙◌, subst, arith, rules, zero-add}
-use Rattle.std.specs.Prelude.{slice_index_or, slice_get, unwrap_or, flat_map}
-use Rattle.std.specs.List.{list_all, list_any, position_or_len, position}
+use Rattle.std.proofs.Common.{◌≡◌, ℕ, zero, suc, ◌+◌, ◌<◌, ◌≤◌, Bool, true, false, ◌&&◌, ◌||◌, ◌==◌, nat_lt, cond, if◌then◌else◌, List, [], ◌∷◌, ◌++◌, map, length, Some, None, refl, sym, ap, ◌∙◌, arith, rules}
+use Rattle.std.specs.Prelude.{slice_index_or, unwrap_or, flat_map}
+use Rattle.std.specs.List.{list_all, list_any, position_or_len}
 use mathlib.Core.Logic.{◌⊎◌, inl, inr}
 use Rattle.std.proofs.lemmas.Bool.Decides.{eqb_tells}
-use Rattle.std.proofs.lemmas.List.{length-map, get_or-map, get_or_default, map-append}
+use Rattle.std.proofs.lemmas.List.{length-map, get_or-map, map-append}
 use Rattle.std.proofs.lemmas.List.Recursion.{is_position_or_len}
-use Rattle.text_core.specs.declared.place.Refusal.{Refusal}
-use Rattle.digraph.specs.Graph.{NodeLists, next_of, is_graph, leads, IsSorted, NeverReturns, IsFirstReturn}
+use Rattle.digraph.specs.Graph.{NodeLists, next_of, is_graph, leads, NeverReturns}
 use Rattle.smv_text.specs.declared.tree.Parameter.{Parameter}
-use Rattle.smv_text.specs.Tree.{Trees, no_trees, tree, PlainDefinition, PlainElement, vars, defines, constants, assigns, init, trans, invar, spec}
+use Rattle.smv_text.specs.Tree.{Trees, no_trees, tree, PlainElement, vars, defines, constants, assigns, init, trans, invar, spec}
 use Rattle.smv_meaning.specs.Instances.{Instance}
-use Rattle.smv_meaning.specs.Names.{local, look, steps_of, formulas_in}
-use Rattle.smv_meaning.specs.Checks.{Check, check, first_failing}
+use Rattle.smv_meaning.specs.Names.{local, look, steps_of}
+use Rattle.smv_meaning.specs.Checks.{Check, first_failing}
 use Rattle.smv_meaning.specs.Phases.{Formula, formula_same, refers, reaches, cycle_check, actual_cycles, element_cycles, cycle_checks, over_instances, place_of}
 use Rattle.smv_meaning.specs.Settled.{is_formula, Acyclic, cycle_checks_of}
-use Rattle.smv_meaning.specs.Formulas.{Placed, actual_formulas, placed_definition, element_formulas, formulas_here, placed_formulas, formulas_of, number_in, number_or, references_of, reference_graph, refusal_of, IsFormulaOrder, IsFirstCycle}
+use Rattle.smv_meaning.specs.Formulas.{Placed, actual_formulas, placed_definition, element_formulas, formulas_here, placed_formulas, formulas_of, number_or, references_of, reference_graph}
 use Rattle.smv_meaning.proofs.Cycles.{In, same_is, same_self}
-use Rattle.smv_meaning.proofs.Ranked.{key, actual_keys, element_keys, keys_in, keys_of, keys_counted, in_keys, within_keys, no_reference, reaches_none, cycles_are_checked_law}
+use Rattle.smv_meaning.proofs.Ranked.{key, actual_keys, element_keys, keys_in, keys_of, in_keys, within_keys, no_reference, reaches_none, cycles_are_checked_law}
 
 -- ---- numbers
 
@@ -255,7 +254,7 @@ never_is_acyclic t h k =
     ]
 
 -- where nothing reaches itself no check of a cycle fails
-none_fails : (cs : List Check) → list_all (λ c. c.holds) cs ≡ true → first_failing cs ≡ None
+pub none_fails : (cs : List Check) → list_all (λ c. c.holds) cs ≡ true → first_failing cs ≡ None
 none_fails [] h = refl
 none_fails (c ∷ cs) h =
     elim (bool_cases c.holds) [

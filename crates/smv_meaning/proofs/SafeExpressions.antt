@@ -1,7 +1,7 @@
 -- Expressions of a model whose checks hold are evaluated safely.
 use Rattle.std.proofs.Common.{◌≡◌, ℕ, zero, suc, ◌<◌, Bool, true, false, not, ◌&&◌, ◌||◌, if◌then◌else◌, List, [], ◌∷◌, ◌++◌, Option, None, refl, sym, ap, ◌∙◌, subst, arith}
 use mathlib.Core.Logic.{◌⊎◌, inl, inr, ⊎_elim}
-use Rattle.std.specs.List.{list_any}
+use Rattle.std.specs.List.{slice_get, list_any}
 use Rattle.text_core.specs.declared.place.Place.{Place}
 use Rattle.smv_text.specs.declared.tree.Path.{Path}
 use Rattle.smv_text.specs.declared.tree.VarKind.{VarKind}
@@ -10,27 +10,29 @@ use Rattle.smv_text.specs.Tree.{Tree, name, PlainDomain}
 use Rattle.smv_meaning.specs.Values.{Valuation}
 use Rattle.smv_meaning.specs.Expressions.{paths_of}
 use Rattle.smv_meaning.specs.Instances.{Instance, instances_of}
-use Rattle.smv_meaning.specs.Names.{Found, variable_at, body_at, instance_at, symbol_of, cyclic, none, found_in, steps_of}
+use Rattle.smv_meaning.specs.Names.{Local, alias, formula, variable_of, inner, nothing, local, path_in, Found, variable_at, body_at, instance_at, symbol_of, cyclic, none, found_in, steps_of}
 use Rattle.smv_meaning.specs.Meaning.{is_input, reading}
 use Rattle.smv_meaning.specs.Types.{ExprType}
 use Rattle.smv_meaning.specs.Checks.{Position, Named, Typing, typing}
 use Rattle.smv_meaning.specs.Naming.{in_body, typed_variable, named_found}
-use Rattle.smv_meaning.specs.Phases.{is_something, module_checks, declaration_checks, size_checks, later_checks}
+use Rattle.smv_meaning.specs.Phases.{Formula, is_something, module_checks, declaration_checks, size_checks, later_checks}
 use Rattle.smv_meaning.specs.Safety.{Safe, SafeFound, SafePath}
 use Rattle.smv_meaning.specs.Typed.{Gives}
 use Rattle.smv_meaning.specs.Owed.{HasType}
 use Rattle.smv_meaning.specs.Literals.{words_fit}
-use Rattle.smv_meaning.specs.Settled.{is_formula, Acyclic, cycle_checks_of, types_in, rank_of}
+use Rattle.smv_meaning.specs.Settled.{is_formula, Acyclic, cycle_checks_of, types_in, values_in, rank_of}
+use Rattle.smv_meaning.specs.Rows.{is_body_of, leads_to, local_leads_to}
 use Rattle.smv_meaning.specs.Checked.{path_checks_of, type_checks_of, IsChecked, AcceptedIsChecked, all_trees, names_instance, NamesHaveTypes, ExpressionsHaveTypes, reaches_an_input, ExpressionsAreSafe}
 use Rattle.smv_meaning.proofs.TypeLaws.{absurd_bool}
 use Rattle.smv_meaning.proofs.SafeLaws.{safe_path, typed_is_safe_law}
-use Rattle.smv_meaning.proofs.Cycles.{In}
+use Rattle.smv_meaning.proofs.Cycles.{In, any_in, same_is}
+use Rattle.smv_meaning.proofs.FoundLaws.{LocalGood}
 use Rattle.smv_meaning.proofs.Agreeing.{typing_same}
 use Rattle.smv_meaning.proofs.Ranked.{key, cycles_are_checked_law}
-use Rattle.smv_meaning.proofs.Settling.{Under, under_more, all_under, body_under, ranking, types_settle_law, is_body, body_named, two_same, any_same}
-use Rattle.smv_meaning.proofs.Typable.{split}
+use Rattle.smv_meaning.proofs.Settling.{Under, under_more, all_under, body_under, descent, ranking, types_settle_law, is_body, body_named, two_same, any_same}
+use Rattle.smv_meaning.proofs.Typable.{split, has_type}
 use Rattle.smv_meaning.proofs.PartLaws.{sound_type}
-use Rattle.smv_meaning.proofs.CheckedLaws.{Given, checked_at, all_given, AllTyped, all_typed, stands_sound, named_instance}
+use Rattle.smv_meaning.proofs.CheckedLaws.{Given, Placed, checked_at, local_given, all_given, AllTyped, all_typed, stands_sound, named_instance}
 
 -- ---- what the checks give
 
@@ -44,7 +46,7 @@ accepted_is_checked_law source needed h =
     let e = split (path_checks_of t) (cycle_checks_of t) d.0 in
     record { paths = e.0; cycles = e.1; types = d.1 }
 
-acyclic : (t : List Instance) → IsChecked t → Acyclic t
+pub acyclic : (t : List Instance) → IsChecked t → Acyclic t
 acyclic t c = (cycles_are_checked_law t).0 c.cycles
 
 -- what paths lead to is in order
@@ -90,7 +92,7 @@ names_without t a (suc n) i path u p r =
         let less = v.0 in
         let above = (ranking t a).positive (key k x) (ap is_formula v.1) in
         let same : (q : Path) → In q (paths_of e []) → types_in false t j q ≡ types_in true t j q =
-        λ q g. ih j q (under_more t (rank_of t) (rank_of t (key k x)) n (omega arith) (found_in t j q) (body_under t (rank_of t) (ranking t a) k x j e v.1 q g)) (omega arith)
+        λ q g. ih j q (under_more t (rank_of t) (rank_of t (key k x)) n (omega arith) (found_in t j q) (body_under t (rank_of t) (descent t (rank_of t) (ranking t a)) k x j e v.1 q g)) (omega arith)
         (any_false (λ z. (types_in true t j z).reaches_input) (paths_of e []) s q g) in
         two_same body_named _ _ _ _ (ap (λ (b : Typing). b.type) (typing_same (types_in false t j) (types_in true t j) in_body e [] same)) (any_same (types_in false t j) (types_in true t j) (paths_of e []) same)
     by (instance_at k) v s ih = refl
@@ -164,6 +166,57 @@ expressions_are_safe_law t c w inputs state label following gives later i e stan
     λ z. Safe (SafePath (found_in t) (steps_of t) state label i) (SafePath (found_in t) (steps_of t) following label i) (reading (found_in t) (steps_of t) state label i) (reading (found_in t) (steps_of t) following label i) z in
     subst P (sym s.2) (name_safe t c g inputs state label gives i s.1 s.3 same))
     (stands_sound t (names_have_types_from t c g) (checked_at t c w) i e stands)
+
+-- ---- bodies
+
+-- what is written in an instance reaches an input
+abbrev pub local_reaches : List Instance → Local → Bool
+local_reaches t (formula j e) = reaches_an_input t j e
+local_reaches t l = false
+
+-- a body is evaluated safely, where a label is given or it reaches no input
+pub body_is_safe : (t : List Instance) → IsChecked t → all_trees words_fit t ≡ true → (inputs : Bool) (state label : Valuation) → Gives inputs (found_in t) state label
+    → (k : ℕ) (x : List ℕ) (j : ℕ) (e : Tree) → local t k x ≡ formula j e → (inputs || not (reaches_an_input t j e)) ≡ true
+    → Safe (SafePath (found_in t) (steps_of t) state label j) (SafePath (found_in t) (steps_of t) state label j) (values_in t state label j) (values_in t state label j) e
+body_is_safe t c w inputs state label gives k x j e is reach =
+    let a = acyclic t c in
+    let placed : Placed t j in_body e = subst (LocalGood (Given t) (path_in (slice_get t k)) k x) is (local_given t (checked_at t c w) k x) in
+    let typed = names_have_types_from t c (placing t c w) in
+    let h : HasType (typing (types_in true t j) in_body e).type = has_type (types_in true t j) in_body e [] (λ q i f. typed j q (placed.paths q i) f) placed.words placed.checks in
+    let same = typing_same (types_in inputs t j) (types_in true t j) in_body e [] (types_for t a inputs j e reach) in
+    typed_is_safe_law inputs (found_in t) state label state gives gives (steps_of t) j in_body e (subst (λ (m : Typing). HasType m.type) (sym same) h)
+
+no_input : (b : Bool) → not b ≡ true → b ≡ false
+no_input true h = absurd_bool h
+no_input false h = refl
+
+-- where an expression reaches no input, neither does what its paths lead to
+pub leads_clear : (t : List Instance) → Acyclic t → (inputs : Bool) (i : ℕ) (e : Tree) → (inputs || not (reaches_an_input t i e)) ≡ true
+    → (k : ℕ) (x : List ℕ) → leads_to t i e k x ≡ true → (inputs || not (local_reaches t (local t k x))) ≡ true
+leads_clear t a true i e h k x r = refl
+leads_clear t a false i e h k x r =
+    let w = any_in (λ q. is_body_of k x (found_in t i q)) (paths_of e []) r in
+    let clear : (types_in true t i w.0).reaches_input ≡ false = any_false (λ z. (types_in true t i z).reaches_input) (paths_of e []) (no_input (reaches_an_input t i e) h) w.0 w.1 in
+    ap not (by (found_in t i w.0) w.2 (all_under t (rank_of t) (ranking t a) i w.0) (ap (λ (m : Named). m.reaches_input) (sym (types_settle_law t a true i w.0)) ∙ clear))
+  where
+    by : (m : Found) → is_body_of k x m ≡ true → Under t (rank_of t) (steps_of t) m → (named_found true (types_in true t) m).reaches_input ≡ false → local_reaches t (local t k x) ≡ false
+    by (body_at l y j b) s u f =
+        let same : (l, y) ≡ (k, x) = same_is (l, y) (k, x) s in
+        ap (λ (z : Formula). local_reaches t (local t z.0 z.1)) (sym same) ∙ ap (local_reaches t) u.1 ∙ f
+    by (variable_at y kind d) s u f = absurd_bool s
+    by (instance_at l) s u f = absurd_bool s
+    by (symbol_of y) s u f = absurd_bool s
+    by cyclic s u f = absurd_bool s
+    by none s u f = absurd_bool s
+
+-- nor what is written in the bodies
+pub local_clear : (t : List Instance) → Acyclic t → (inputs : Bool) (l : Local) → (inputs || not (local_reaches t l)) ≡ true
+    → (k : ℕ) (x : List ℕ) → local_leads_to t l k x ≡ true → (inputs || not (local_reaches t (local t k x))) ≡ true
+local_clear t a inputs (formula j e) h k x r = leads_clear t a inputs j e h k x r
+local_clear t a inputs (alias j path) h k x r = absurd_bool r
+local_clear t a inputs (variable_of kind d) h k x r = absurd_bool r
+local_clear t a inputs inner h k x r = absurd_bool r
+local_clear t a inputs nothing h k x r = absurd_bool r
 
 pub names_have_types_law : NamesHaveTypes
 names_have_types_law t c w i path s f =

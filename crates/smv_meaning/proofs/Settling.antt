@@ -69,14 +69,23 @@ rest_below t rank r i c x xs h e m k =
     h m (in_right m (formula_here i x (local t i x)) (from_instance (last_look t i x) (λ d. touched t (last_look t) d xs))
     (subst (λ f. In m (from_instance f (λ d. touched t (last_look t) d xs))) (sym e) k))
 
--- what an actual that is a path goes through, and what the paths of a body do
-pub alias_below : (t : List Instance) (rank : Formula → ℕ) → Ranking t rank → (i : ℕ) (x : List ℕ) (j : ℕ) (path : Path) → local t i x ≡ alias j path → Below t rank (rank (key i x)) j path.names
-alias_below t rank k i x j path e m h = k.falls (key i x) m (subst (λ l. In m (referred t (last_look t) l)) (sym e) h)
+-- each has a greater number than those to which it refers
+abbrev pub Falls : List Instance → (Formula → ℕ) → Type 0
+Falls t rank = (k m : Formula) → In m (refers t k) → rank m < rank k
 
-pub body_below : (t : List Instance) (rank : Formula → ℕ) → Ranking t rank → (i : ℕ) (x : List ℕ) (j : ℕ) (b : Tree) → local t i x ≡ formula j b
+-- what an actual that is a path goes through, and what the paths of a body do
+pub alias_below : (t : List Instance) (rank : Formula → ℕ) → Falls t rank → (i : ℕ) (x : List ℕ) (j : ℕ) (path : Path) → local t i x ≡ alias j path → Below t rank (rank (key i x)) j path.names
+alias_below t rank falls i x j path e m h = falls (key i x) m (subst (λ l. In m (referred t (last_look t) l)) (sym e) h)
+
+-- what a path of a body goes through is among that to which it refers
+pub path_refers : (t : List Instance) (i : ℕ) (x : List ℕ) (j : ℕ) (b : Tree) → local t i x ≡ formula j b
+    → (q : Path) → In q (paths_of b []) → (m : Formula) → In m (touched t (last_look t) j q.names) → In m (refers t (key i x))
+path_refers t i x j b e q g m h =
+    subst (λ l. In m (referred t (last_look t) l)) (sym e) (flat_in (λ p. touched t (last_look t) j p.names) m q (paths_of b []) g h)
+
+pub body_below : (t : List Instance) (rank : Formula → ℕ) → Falls t rank → (i : ℕ) (x : List ℕ) (j : ℕ) (b : Tree) → local t i x ≡ formula j b
     → (q : Path) → In q (paths_of b []) → Below t rank (rank (key i x)) j q.names
-body_below t rank k i x j b e q g m h =
-    k.falls (key i x) m (subst (λ l. In m (referred t (last_look t) l)) (sym e) (flat_in (λ p. touched t (last_look t) j p.names) m q (paths_of b []) g h))
+body_below t rank falls i x j b e q g m h = falls (key i x) m (path_refers t i x j b e q g m h)
 
 -- ---- fewer steps find the same
 
@@ -144,11 +153,19 @@ look_same t rank k (suc n) l i x b p (suc m) g = landed_same t (look t n) (look 
     let ih : (j' : ℕ) (y : List ℕ) → NameBelow t rank (rank (key i x)) j' y → (m' : ℕ) → n ≤ m' → look t n j' y ≡ look t m' j' y =
     λ j' y s m' g'. look_same t rank k n (omega arith) j' y (λ w. let z = s w in omega arith) (omega arith) m' g' in
     resolved_same t rank (rank (key i x)) (look t n) (look t m)
-    (λ j' y s. (ih j' y s (steps_of t) (omega arith), sym (ih j' y s m (omega arith)) ∙ ih j' y s (steps_of t) (omega arith))) j path (alias_below t rank k i x j path e))
+    (λ j' y s. (ih j' y s (steps_of t) (omega arith), sym (ih j' y s m (omega arith)) ∙ ih j' y s (steps_of t) (omega arith))) j path (alias_below t rank k.falls i x j path e))
 
 pub look_settles : (t : List Instance) (rank : Formula → ℕ) → Ranking t rank → (i : ℕ) (x : List ℕ) → look t (steps_of t) i x ≡ landed t (look t (steps_of t)) i x (local t i x)
 unfolding look
 look_settles t rank k i x = look_same t rank k (steps_of t) (omega arith) i x (λ e. k.few (key i x)) (omega arith) (suc (steps_of t)) (omega arith)
+
+-- the numbers fall, and names are what their declarations say
+pub record Descent (t : List Instance) (rank : Formula → ℕ) : Type 0 where
+  pub falls : Falls t rank
+  pub settles : (i : ℕ) (x : List ℕ) → look t (steps_of t) i x ≡ landed t (look t (steps_of t)) i x (local t i x)
+
+pub descent : (t : List Instance) (rank : Formula → ℕ) → Ranking t rank → Descent t rank
+descent t rank k = record { falls = k.falls; settles = look_settles t rank k }
 
 -- ---- what is found along a path
 
@@ -231,25 +248,25 @@ landed_under t rank r i x b h = by (local t i x) refl
     by inner e = child_has (Under t rank r) (under_kept t rank r) (position (is_child i x) t)
     by nothing e = tt
 
-look_under : (t : List Instance) (rank : Formula → ℕ) → Ranking t rank → (b r : ℕ) → r ≤ b → NamesHave t rank r (Under t rank r)
+look_under : (t : List Instance) (rank : Formula → ℕ) → Descent t rank → (b r : ℕ) → r ≤ b → NamesHave t rank r (Under t rank r)
 look_under t rank k zero r l i x n =
-    subst (Under t rank r) (sym (look_settles t rank k i x)) (landed_under t rank r i x n (λ j path e less. absurd (omega arith)))
+    subst (Under t rank r) (sym (k.settles i x)) (landed_under t rank r i x n (λ j path e less. absurd (omega arith)))
 look_under t rank k (suc b) r l i x n =
-    subst (Under t rank r) (sym (look_settles t rank k i x)) (landed_under t rank r i x n
+    subst (Under t rank r) (sym (k.settles i x)) (landed_under t rank r i x n
     (λ j path e less. under_more t rank (rank (key i x)) r (omega arith) (found_in t j path)
-    (resolved_has t rank (rank (key i x)) (Under t rank (rank (key i x))) (under_kept t rank (rank (key i x))) (look_under t rank k b (rank (key i x)) (omega arith)) j path (alias_below t rank k i x j path e))))
+    (resolved_has t rank (rank (key i x)) (Under t rank (rank (key i x))) (under_kept t rank (rank (key i x))) (look_under t rank k b (rank (key i x)) (omega arith)) j path (alias_below t rank k.falls i x j path e))))
 
-pub found_under : (t : List Instance) (rank : Formula → ℕ) → Ranking t rank → (r i : ℕ) (path : Path) → Below t rank r i path.names → Under t rank r (found_in t i path)
+pub found_under : (t : List Instance) (rank : Formula → ℕ) → Descent t rank → (r i : ℕ) (path : Path) → Below t rank r i path.names → Under t rank r (found_in t i path)
 found_under t rank k r i path h = resolved_has t rank r (Under t rank r) (under_kept t rank r) (look_under t rank k r r (omega arith)) i path h
 
 -- all that is found
 pub all_under : (t : List Instance) (rank : Formula → ℕ) → Ranking t rank → (i : ℕ) (path : Path) → Under t rank (steps_of t) (found_in t i path)
-all_under t rank k i path = found_under t rank k (steps_of t) i path (λ m h. k.few m)
+all_under t rank k i path = found_under t rank (descent t rank k) (steps_of t) i path (λ m h. k.few m)
 
 -- what the paths of a body lead to
-pub body_under : (t : List Instance) (rank : Formula → ℕ) → Ranking t rank → (i : ℕ) (x : List ℕ) (j : ℕ) (e : Tree) → local t i x ≡ formula j e
+pub body_under : (t : List Instance) (rank : Formula → ℕ) → Descent t rank → (i : ℕ) (x : List ℕ) (j : ℕ) (e : Tree) → local t i x ≡ formula j e
     → (q : Path) → In q (paths_of e []) → Under t rank (rank (key i x)) (found_in t j q)
-body_under t rank k i x j e h q g = found_under t rank k (rank (key i x)) j q (body_below t rank k i x j e h q g)
+body_under t rank k i x j e h q g = found_under t rank k (rank (key i x)) j q (body_below t rank k.falls i x j e h q g)
 
 -- ---- the laws
 
@@ -284,7 +301,7 @@ step_same t rank k step g c n f h ih (body_at i x j e) u = c.bodies f h i x j e
     (λ q s.
     let less = u.0 in
     let above = k.positive (key i x) (ap is_formula u.1) in
-    ih j q (under_more t rank (rank (key i x)) n (omega arith) (found_in t j q) (body_under t rank k i x j e u.1 q s)) (omega arith))
+    ih j q (under_more t rank (rank (key i x)) n (omega arith) (found_in t j q) (body_under t rank (descent t rank k) i x j e u.1 q s)) (omega arith))
 step_same t rank k step g c n f h ih (variable_at x kind d) u = c.others f h (variable_at x kind d) refl
 step_same t rank k step g c n f h ih (instance_at i) u = c.others f h (instance_at i) refl
 step_same t rank k step g c n f h ih (symbol_of x) u = c.others f h (symbol_of x) refl

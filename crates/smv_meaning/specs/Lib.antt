@@ -20,3 +20,5 @@ pub mod Literals
 pub mod Parts
 pub mod Checked
 pub mod Leads
+pub mod Rows
+pub mod Orders

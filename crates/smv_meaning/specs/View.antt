@@ -21,8 +21,6 @@ use Rattle.smv_meaning.specs.declared.names.Target.TheVariants as OfTarget
 use Rattle.smv_text.specs.declared.tree.Path.{Path}
 use Rattle.smv_text.specs.declared.tree.Expr.{Expr}
 use Rattle.smv_meaning.specs.Expressions.{Denotation, alone, denote}
-use Rattle.smv_meaning.specs.Meaning.{reading}
-use Rattle.smv_meaning.specs.Safety.{SafePath}
 use Rattle.smv_meaning.specs.Names.{found_in, Local, alias, formula, variable_of, inner, nothing, Found, variable_at, body_at, instance_at, symbol_of, cyclic, none, dotted_at}
 use Rattle.smv_meaning.specs.declared.table.Instance.{Instance as PartOf}
 use Rattle.smv_meaning.specs.Instances.{Instance}
@@ -91,13 +89,6 @@ found_plain t OfTarget.Missing = none
 
 abbrev pub found_here : List PartOf → ℕ → Path → Found
 found_here ts = found_in (map instance_plain ts)
-
--- the values of the names of an instance, where a state and a label are given
-abbrev pub reads : List PartOf → ℕ → ℕ → Option (Bor (List Given)) → Option (Bor (List Given)) → Path → Value
-reads ts n i state label = reading (found_here ts) n (stated state) (stated label) i
-
-abbrev pub SafeReads : List PartOf → ℕ → ℕ → Option (Bor (List Given)) → Option (Bor (List Given)) → Path → Type 0
-SafeReads ts n i state label = SafePath (found_here ts) n (stated state) (stated label) i
 
 -- what an expression denotes, where there is one
 abbrev pub denoted_or_none : (Path → Value) → (Path → Value) → Option (Bor Expr) → Denotation

@@ -1,109 +1,45 @@
-// The value of an expression in an instance, by plain evaluation.
+// The value of an expression in an instance, given what is kept of its names.
 ghost use Rattle.std.specs.Prelude.{◌≡◌, ◌≤◌, ◌<◌, ◌+◌, ◌^◌, map, max, ℕ, if◌then◌else◌, IfSome};
 ghost use Rattle.smv_text.specs.Tree.{links_of, branches_of, trees_of};
 ghost use Rattle.smv_text.specs.View.{plain, plain_branch, plain_link};
 ghost use Rattle.smv_meaning.specs.Values.{is_true, value_same};
 ghost use Rattle.smv_meaning.specs.Operators.{called};
 ghost use Rattle.smv_meaning.specs.Expressions.{is_from_right as right_first, are_implies, is_implies, denote, implications, chosen, taken, values_of, one_permits};
-ghost use Rattle.smv_meaning.specs.Names.{dotted_at};
-ghost use Rattle.smv_meaning.specs.Instances.{dotted};
-ghost use Rattle.smv_meaning.specs.Meaning.{is_input};
 ghost use Rattle.smv_meaning.specs.Safety.{depth, right_depth, link_depth, branch_depth, tree_depth, Fits, front_value, fronts_value, front_permits, fronts_permit, Safe, SafeLinks, SafeBranches, SafeTrees, SafeOperands};
-ghost use Rattle.smv_meaning.specs.View.{seen_value, plain_value, stated, instance_plain, reads, SafeReads, denoted_or_none, plain_or};
+ghost use Rattle.smv_meaning.specs.Rows.{row_reads, IsKept};
+ghost use Rattle.smv_meaning.specs.View.{seen_value, plain_value, denoted_or_none, plain_or};
 
 use crate::functions::{call_one, call_two};
 use crate::instances::Table;
-use crate::names::Target;
 use crate::operators::{
     Plain, apply, implication, no_plain, opposite, plain_same, seen_of, selection,
 };
-use crate::seen::{Seen, no_seen, same, truth_of, value_in};
-use crate::value::State;
-use smv_text::{Branch, Expr, Function, Infix, Link, Path, Shape, VarKind};
-
-/// The value of a path: of a variable in the state or the label, of a definition or an actual in its own instance.
-#[cycle(evaluate)]
-pub fn value_of_path<'a>(
-    table: &Table<'a>,
-    steps: usize,
-    i: usize,
-    path: &'a Path,
-    state: Option<&'a State>,
-    label: Option<&'a State>,
-) -> Seen<'a>
-    requires safe { SafeReads table.now steps i state label path.now }
-    ensures { seen_value result ≡ reads table.now steps i state.entry label.entry path.now }
-{
-    if steps == 0 {
-        return no_seen();
-    }
-    match table.found(i, path) {
-        Target::Variable(j, x, kind, _) => variable_value(table, j, x, kind, state, label),
-        Target::Body(_, _, j, e) => evaluate(table, steps - 1, j, e, state, label, state),
-        Target::Within(_) => no_seen(),
-        Target::Symbol(s) => Seen::Symbol(s),
-        Target::Cyclic => no_seen(),
-        Target::Missing => no_seen(),
-    }
-}
-
-// A variable's value: an input's in the label, any other's in the state.
-fn variable_value<'a>(
-    table: &Table<'a>,
-    i: usize,
-    x: &[u8],
-    kind: VarKind,
-    state: Option<&'a State>,
-    label: Option<&'a State>,
-) -> Seen<'a>
-    ensures { seen_value result ≡ (if is_input kind then stated label.entry (dotted_at (map instance_plain table.now) i x.now) else stated state.entry (dotted_at (map instance_plain table.now) i x.now)) }
-{
-    if i < table.len() {
-        by_kind(kind, table.at(i).path.bytes(), x, state, label)
-    } else {
-        by_kind(kind, &[], x, state, label)
-    }
-}
-
-fn by_kind<'a>(
-    kind: VarKind,
-    path: &[u8],
-    x: &[u8],
-    state: Option<&'a State>,
-    label: Option<&'a State>,
-) -> Seen<'a>
-    ensures { seen_value result ≡ (if is_input kind then stated label.entry (dotted path.now x.now) else stated state.entry (dotted path.now x.now)) }
-{
-    match kind {
-        VarKind::Input => value_in(label, path, x),
-        VarKind::State => value_in(state, path, x),
-        VarKind::Frozen => value_in(state, path, x),
-    }
-}
+use crate::rows::{Row, Values, value_of_path};
+use crate::seen::{Seen, no_seen, same, truth_of};
+use smv_text::{Branch, Expr, Function, Infix, Link, Shape};
 
 /// The value of an expression, its names read in the numbered instance.
 #[cycle(evaluate)]
 #[tactic(auto, using(crate::proofs::Evaluating::right_low))]
 pub fn evaluate<'a>(
     table: &Table<'a>,
-    steps: usize,
     i: usize,
     e: &'a Expr,
-    now: Option<&'a State>,
-    label: Option<&'a State>,
-    later: Option<&'a State>,
+    now: &Row<'a>,
+    label: &Values<'a>,
+    later: &Row<'a>,
 ) -> Seen<'a>
-    requires safe { Safe (SafeReads table.now steps i now label) (SafeReads table.now steps i later label) (reads table.now steps i now label) (reads table.now steps i later label) (plain e.now) }
-    ensures { seen_value result ≡ (denote (reads table.now steps i now.entry label.entry) (reads table.now steps i later.entry label.entry) (plain e.now)).value }
+    requires safe { Safe (IsKept table.now i now.now label.now) (IsKept table.now i later.now label.now) (row_reads table.now i now.now label.now) (row_reads table.now i later.now label.now) (plain e.now) }
+    ensures { seen_value result ≡ (denote (row_reads table.now i now.now label.now) (row_reads table.now i later.now label.now) (plain e.now)).value }
 {
     match &e.shape {
         Shape::True => Seen::Truth(true),
         Shape::False => Seen::Truth(false),
         Shape::Number(n) => Seen::Integer(*n as i64),
         Shape::Literal(w) => Seen::Bits(*w),
-        Shape::Name(path) => value_of_path(table, steps, i, path, now, label),
+        Shape::Name(path) => value_of_path(table, i, path, now, label),
         Shape::Prefix(sign, count, a) => {
-            let value = evaluate(table, steps, i, a, now, label, later);
+            let value = evaluate(table, i, a, now, label, later);
             if *count % 2 == 0 {
                 value
             } else {
@@ -111,35 +47,25 @@ pub fn evaluate<'a>(
             }
         }
         Shape::Chain(a, links) => {
-            let first = evaluate(table, steps, i, a, now, label, later);
+            let first = evaluate(table, i, a, now, label, later);
             if is_from_right(links.as_slice()) {
-                match rest_implied(table, steps, i, &first, links.as_slice(), now, label, later) {
+                match rest_implied(table, i, &first, links.as_slice(), now, label, later) {
                     None => first,
                     Some(value) => seen_of(value),
                 }
             } else {
-                match last_front(table, steps, i, &first, links.as_slice(), now, label, later) {
+                match last_front(table, i, &first, links.as_slice(), now, label, later) {
                     None => first,
                     Some(value) => seen_of(value),
                 }
             }
         }
         Shape::Choice(branches, last) => {
-            let branch = chosen_branch(
-                table,
-                steps,
-                i,
-                branches.as_slice(),
-                last,
-                now,
-                label,
-                later,
-            );
-            evaluate(table, steps, i, branch, now, label, later)
+            let branch = chosen_branch(table, i, branches.as_slice(), last, now, label, later);
+            evaluate(table, i, branch, now, label, later)
         }
         Shape::Case(branches) => match taken_branch(
             table,
-            steps,
             i,
             branches.as_slice(),
             now,
@@ -147,15 +73,14 @@ pub fn evaluate<'a>(
             later,
         ) {
             None => no_seen(),
-            Some(branch) => evaluate(table, steps, i, branch, now, label, later),
+            Some(branch) => evaluate(table, i, branch, now, label, later),
         },
         Shape::Select(a, high, low) => {
-            let value = evaluate(table, steps, i, a, now, label, later);
+            let value = evaluate(table, i, a, now, label, later);
             seen_of(selection(*high, *low, &value))
         }
         Shape::Call(f, arguments) => seen_of(call_value(
             table,
-            steps,
             i,
             *f,
             arguments.as_slice(),
@@ -163,7 +88,7 @@ pub fn evaluate<'a>(
             label,
             later,
         )),
-        Shape::Next(a) => evaluate(table, steps, i, a, later, label, later),
+        Shape::Next(a) => evaluate(table, i, a, later, label, later),
         Shape::Set(_) => no_seen(),
         Shape::Range(_, _) => no_seen(),
     }
@@ -207,22 +132,21 @@ fn is_implication(op: Infix) -> bool
 #[cycle(evaluate)]
 fn rest_implied<'a>(
     table: &Table<'a>,
-    steps: usize,
     i: usize,
     first: &Seen<'a>,
     links: &'a [Link],
-    now: Option<&'a State>,
-    label: Option<&'a State>,
-    later: Option<&'a State>,
+    now: &Row<'a>,
+    label: &Values<'a>,
+    later: &Row<'a>,
 ) -> Option<Plain>
-    requires safe { SafeOperands (SafeReads table.now steps i now label) (SafeReads table.now steps i later label) (reads table.now steps i now label) (reads table.now steps i later label) (links_of (map plain_link links.now)) }
-    ensures { plain_or result (seen_value first.now) ≡ implications (reads table.now steps i now.entry label.entry) (reads table.now steps i later.entry label.entry) (seen_value first.now) (links_of (map plain_link links.now)) }
+    requires safe { SafeOperands (IsKept table.now i now.now label.now) (IsKept table.now i later.now label.now) (row_reads table.now i now.now label.now) (row_reads table.now i later.now label.now) (links_of (map plain_link links.now)) }
+    ensures { plain_or result (seen_value first.now) ≡ implications (row_reads table.now i now.now label.now) (row_reads table.now i later.now label.now) (seen_value first.now) (links_of (map plain_link links.now)) }
 {
     match links.split_first() {
         None => None,
         Some((link, more)) => {
-            let operand = evaluate(table, steps, i, &link.operand, now, label, later);
-            match rest_implied(table, steps, i, &operand, more, now, label, later) {
+            let operand = evaluate(table, i, &link.operand, now, label, later);
+            match rest_implied(table, i, &operand, more, now, label, later) {
                 None => Some(implication(first, &operand)),
                 Some(rest) => Some(implication(first, &seen_of(rest))),
             }
@@ -234,35 +158,23 @@ fn rest_implied<'a>(
 #[cycle(evaluate)]
 fn last_front<'a>(
     table: &Table<'a>,
-    steps: usize,
     i: usize,
     first: &Seen<'a>,
     links: &'a [Link],
-    now: Option<&'a State>,
-    label: Option<&'a State>,
-    later: Option<&'a State>,
+    now: &Row<'a>,
+    label: &Values<'a>,
+    later: &Row<'a>,
 ) -> Option<Plain>
-    requires safe { SafeLinks (SafeReads table.now steps i now label) (SafeReads table.now steps i later label) (reads table.now steps i now label) (reads table.now steps i later label) (seen_value first.now) (links_of (map plain_link links.now)) }
-    ensures { plain_or result (seen_value first.now) ≡ fronts_value (reads table.now steps i now.entry label.entry) (reads table.now steps i later.entry label.entry) (seen_value first.now) (links_of (map plain_link links.now)) }
+    requires safe { SafeLinks (IsKept table.now i now.now label.now) (IsKept table.now i later.now label.now) (row_reads table.now i now.now label.now) (row_reads table.now i later.now label.now) (seen_value first.now) (links_of (map plain_link links.now)) }
+    ensures { plain_or result (seen_value first.now) ≡ fronts_value (row_reads table.now i now.now label.now) (row_reads table.now i later.now label.now) (seen_value first.now) (links_of (map plain_link links.now)) }
 {
     let mut front = None;
     let mut rest = links;
     while let Some((link, more)) = rest.split_first() {
         let next = match front {
-            None => next_front(
-                table,
-                steps,
-                i,
-                link.op,
-                first,
-                &link.operand,
-                now,
-                label,
-                later,
-            ),
+            None => next_front(table, i, link.op, first, &link.operand, now, label, later),
             Some(value) => next_front(
                 table,
-                steps,
                 i,
                 link.op,
                 &seen_of(value),
@@ -282,24 +194,23 @@ fn last_front<'a>(
 #[cycle(evaluate)]
 fn next_front<'a>(
     table: &Table<'a>,
-    steps: usize,
     i: usize,
     op: Infix,
     front: &Seen<'a>,
     operand: &'a Expr,
-    now: Option<&'a State>,
-    label: Option<&'a State>,
-    later: Option<&'a State>,
+    now: &Row<'a>,
+    label: &Values<'a>,
+    later: &Row<'a>,
 ) -> Plain
-    requires safe { Safe (SafeReads table.now steps i now label) (SafeReads table.now steps i later label) (reads table.now steps i now label) (reads table.now steps i later label) (plain operand.now) }
-    requires fits { Fits (front_value op (seen_value front.now) (denote (reads table.now steps i now label) (reads table.now steps i later label) (plain operand.now))) }
-    ensures { plain_value result ≡ front_value op (seen_value front.now) (denote (reads table.now steps i now.entry label.entry) (reads table.now steps i later.entry label.entry) (plain operand.now)) }
+    requires safe { Safe (IsKept table.now i now.now label.now) (IsKept table.now i later.now label.now) (row_reads table.now i now.now label.now) (row_reads table.now i later.now label.now) (plain operand.now) }
+    requires fits { Fits (front_value op (seen_value front.now) (denote (row_reads table.now i now.now label.now) (row_reads table.now i later.now label.now) (plain operand.now))) }
+    ensures { plain_value result ≡ front_value op (seen_value front.now) (denote (row_reads table.now i now.now label.now) (row_reads table.now i later.now label.now) (plain operand.now)) }
 {
     match op {
-        Infix::Member => Plain::Truth(permits(table, steps, i, operand, front, now, label, later)),
+        Infix::Member => Plain::Truth(permits(table, i, operand, front, now, label, later)),
         Infix::Union => no_plain(),
         _ => {
-            let value = evaluate(table, steps, i, operand, now, label, later);
+            let value = evaluate(table, i, operand, now, label, later);
             apply(op, front, &value)
         }
     }
@@ -309,23 +220,22 @@ fn next_front<'a>(
 #[cycle(evaluate)]
 fn chosen_branch<'a>(
     table: &Table<'a>,
-    steps: usize,
     i: usize,
     branches: &'a [Branch],
     last: &'a Expr,
-    now: Option<&'a State>,
-    label: Option<&'a State>,
-    later: Option<&'a State>,
+    now: &Row<'a>,
+    label: &Values<'a>,
+    later: &Row<'a>,
 ) -> &'a Expr
-    requires safe { SafeBranches (SafeReads table.now steps i now label) (SafeReads table.now steps i later label) (reads table.now steps i now label) (reads table.now steps i later label) (branches_of (map plain_branch branches.now)) }
-    requires safe_last { Safe (SafeReads table.now steps i now label) (SafeReads table.now steps i later label) (reads table.now steps i now label) (reads table.now steps i later label) (plain last.now) }
-    ensures value { denote (reads table.now steps i now.entry label.entry) (reads table.now steps i later.entry label.entry) (plain result.now) ≡ chosen (reads table.now steps i now.entry label.entry) (reads table.now steps i later.entry label.entry) (branches_of (map plain_branch branches.now)) (denote (reads table.now steps i now.entry label.entry) (reads table.now steps i later.entry label.entry) (plain last.now)) }
+    requires safe { SafeBranches (IsKept table.now i now.now label.now) (IsKept table.now i later.now label.now) (row_reads table.now i now.now label.now) (row_reads table.now i later.now label.now) (branches_of (map plain_branch branches.now)) }
+    requires safe_last { Safe (IsKept table.now i now.now label.now) (IsKept table.now i later.now label.now) (row_reads table.now i now.now label.now) (row_reads table.now i later.now label.now) (plain last.now) }
+    ensures value { denote (row_reads table.now i now.now label.now) (row_reads table.now i later.now label.now) (plain result.now) ≡ chosen (row_reads table.now i now.now label.now) (row_reads table.now i later.now label.now) (branches_of (map plain_branch branches.now)) (denote (row_reads table.now i now.now label.now) (row_reads table.now i later.now label.now) (plain last.now)) }
     ensures low { depth (plain result.now) ≤ max (branch_depth (branches_of (map plain_branch branches.now))) (depth (plain last.now)) }
-    ensures safe { Safe (SafeReads table.now steps i now.entry label.entry) (SafeReads table.now steps i later.entry label.entry) (reads table.now steps i now.entry label.entry) (reads table.now steps i later.entry label.entry) (plain result.now) }
+    ensures safe { Safe (IsKept table.now i now.now label.now) (IsKept table.now i later.now label.now) (row_reads table.now i now.now label.now) (row_reads table.now i later.now label.now) (plain result.now) }
 {
     let mut rest = branches;
     while let Some((branch, more)) = rest.split_first() {
-        let condition = evaluate(table, steps, i, &branch.when, now, label, later);
+        let condition = evaluate(table, i, &branch.when, now, label, later);
         if truth_of(&condition) {
             return &branch.value;
         }
@@ -338,23 +248,21 @@ fn chosen_branch<'a>(
 #[cycle(evaluate)]
 fn taken_branch<'a>(
     table: &Table<'a>,
-    steps: usize,
     i: usize,
     branches: &'a [Branch],
-    now: Option<&'a State>,
-    label: Option<&'a State>,
-    later: Option<&'a State>,
+    now: &Row<'a>,
+    label: &Values<'a>,
+    later: &Row<'a>,
 ) -> Option<&'a Expr>
-    requires safe { SafeBranches (SafeReads table.now steps i now label) (SafeReads table.now steps i later label) (reads table.now steps i now label) (reads table.now steps i later label) (branches_of (map plain_branch branches.now)) }
-    ensures value { denoted_or_none (reads table.now steps i now.entry label.entry) (reads table.now steps i later.entry label.entry) result ≡ taken (reads table.now steps i now.entry label.entry) (reads table.now steps i later.entry label.entry) (branches_of (map plain_branch branches.now)) }
+    requires safe { SafeBranches (IsKept table.now i now.now label.now) (IsKept table.now i later.now label.now) (row_reads table.now i now.now label.now) (row_reads table.now i later.now label.now) (branches_of (map plain_branch branches.now)) }
+    ensures value { denoted_or_none (row_reads table.now i now.now label.now) (row_reads table.now i later.now label.now) result ≡ taken (row_reads table.now i now.now label.now) (row_reads table.now i later.now label.now) (branches_of (map plain_branch branches.now)) }
     ensures low { IfSome result (λ x. depth (plain x.now) ≤ branch_depth (branches_of (map plain_branch branches.now))) }
-    ensures safe { IfSome result (λ x. Safe (SafeReads table.now steps i now.entry label.entry) (SafeReads table.now steps i later.entry label.entry) (reads table.now steps i now.entry label.entry) (reads table.now steps i later.entry label.entry) (plain x.now)) }
+    ensures safe { IfSome result (λ x. Safe (IsKept table.now i now.now label.now) (IsKept table.now i later.now label.now) (row_reads table.now i now.now label.now) (row_reads table.now i later.now label.now) (plain x.now)) }
 {
     match branches.split_last() {
         None => None,
         Some((last, firsts)) => Some(chosen_branch(
             table,
-            steps,
             i,
             firsts,
             &last.value,
@@ -369,23 +277,22 @@ fn taken_branch<'a>(
 #[cycle(evaluate)]
 fn call_value<'a>(
     table: &Table<'a>,
-    steps: usize,
     i: usize,
     f: Function,
     arguments: &'a [Expr],
-    now: Option<&'a State>,
-    label: Option<&'a State>,
-    later: Option<&'a State>,
+    now: &Row<'a>,
+    label: &Values<'a>,
+    later: &Row<'a>,
 ) -> Plain
-    requires safe { SafeTrees (SafeReads table.now steps i now label) (SafeReads table.now steps i later label) (reads table.now steps i now label) (reads table.now steps i later label) (trees_of (map plain arguments.now)) }
-    requires fits { Fits (called f (values_of (reads table.now steps i now label) (reads table.now steps i later label) (trees_of (map plain arguments.now)))) }
-    ensures { plain_value result ≡ called f (values_of (reads table.now steps i now.entry label.entry) (reads table.now steps i later.entry label.entry) (trees_of (map plain arguments.now))) }
+    requires safe { SafeTrees (IsKept table.now i now.now label.now) (IsKept table.now i later.now label.now) (row_reads table.now i now.now label.now) (row_reads table.now i later.now label.now) (trees_of (map plain arguments.now)) }
+    requires fits { Fits (called f (values_of (row_reads table.now i now.now label.now) (row_reads table.now i later.now label.now) (trees_of (map plain arguments.now)))) }
+    ensures { plain_value result ≡ called f (values_of (row_reads table.now i now.now label.now) (row_reads table.now i later.now label.now) (trees_of (map plain arguments.now))) }
 {
     if let Function::Count = f {
         let mut count = 0i64;
         let mut rest = arguments;
         while let Some((first, more)) = rest.split_first() {
-            let value = evaluate(table, steps, i, first, now, label, later);
+            let value = evaluate(table, i, first, now, label, later);
             if truth_of(&value) {
                 count += 1;
             }
@@ -396,11 +303,11 @@ fn call_value<'a>(
     match arguments.split_first() {
         None => no_plain(),
         Some((first, more)) => {
-            let a = evaluate(table, steps, i, first, now, label, later);
+            let a = evaluate(table, i, first, now, label, later);
             match more.split_first() {
                 None => call_one(f, &a),
                 Some((second, others)) => {
-                    let b = evaluate(table, steps, i, second, now, label, later);
+                    let b = evaluate(table, i, second, now, label, later);
                     match others.split_first() {
                         None => call_two(f, &a, &b),
                         Some(_) => no_plain(),
@@ -415,28 +322,18 @@ fn call_value<'a>(
 #[cycle(evaluate)]
 pub fn permits<'a>(
     table: &Table<'a>,
-    steps: usize,
     i: usize,
     e: &'a Expr,
     value: &Seen<'a>,
-    now: Option<&'a State>,
-    label: Option<&'a State>,
-    later: Option<&'a State>,
+    now: &Row<'a>,
+    label: &Values<'a>,
+    later: &Row<'a>,
 ) -> bool
-    requires safe { Safe (SafeReads table.now steps i now label) (SafeReads table.now steps i later label) (reads table.now steps i now label) (reads table.now steps i later label) (plain e.now) }
-    ensures { result ≡ (denote (reads table.now steps i now.entry label.entry) (reads table.now steps i later.entry label.entry) (plain e.now)).permits (seen_value value.now) }
+    requires safe { Safe (IsKept table.now i now.now label.now) (IsKept table.now i later.now label.now) (row_reads table.now i now.now label.now) (row_reads table.now i later.now label.now) (plain e.now) }
+    ensures { result ≡ (denote (row_reads table.now i now.now label.now) (row_reads table.now i later.now label.now) (plain e.now)).permits (seen_value value.now) }
 {
     match &e.shape {
-        Shape::Set(elements) => one_has(
-            table,
-            steps,
-            i,
-            elements.as_slice(),
-            value,
-            now,
-            label,
-            later,
-        ),
+        Shape::Set(elements) => one_has(table, i, elements.as_slice(), value, now, label, later),
         Shape::Range(low, high) => match value {
             Seen::Truth(_) => false,
             Seen::Integer(z) => *low <= *z && *z <= *high,
@@ -444,21 +341,11 @@ pub fn permits<'a>(
             Seen::Bits(_) => false,
         },
         Shape::Choice(branches, last) => {
-            let branch = chosen_branch(
-                table,
-                steps,
-                i,
-                branches.as_slice(),
-                last,
-                now,
-                label,
-                later,
-            );
-            permits(table, steps, i, branch, value, now, label, later)
+            let branch = chosen_branch(table, i, branches.as_slice(), last, now, label, later);
+            permits(table, i, branch, value, now, label, later)
         }
         Shape::Case(branches) => match taken_branch(
             table,
-            steps,
             i,
             branches.as_slice(),
             now,
@@ -466,19 +353,18 @@ pub fn permits<'a>(
             later,
         ) {
             None => same(&no_seen(), value),
-            Some(branch) => permits(table, steps, i, branch, value, now, label, later),
+            Some(branch) => permits(table, i, branch, value, now, label, later),
         },
-        Shape::Next(a) => permits(table, steps, i, a, value, later, label, later),
+        Shape::Next(a) => permits(table, i, a, value, later, label, later),
         Shape::Chain(a, links) => {
             if is_from_right(links.as_slice()) {
-                let own = evaluate(table, steps, i, e, now, label, later);
+                let own = evaluate(table, i, e, now, label, later);
                 same(&own, value)
             } else {
-                let first = evaluate(table, steps, i, a, now, label, later);
-                let has = permits(table, steps, i, a, value, now, label, later);
+                let first = evaluate(table, i, a, now, label, later);
+                let has = permits(table, i, a, value, now, label, later);
                 last_has(
                     table,
-                    steps,
                     i,
                     &first,
                     has,
@@ -491,7 +377,7 @@ pub fn permits<'a>(
             }
         }
         _ => {
-            let own = evaluate(table, steps, i, e, now, label, later);
+            let own = evaluate(table, i, e, now, label, later);
             same(&own, value)
         }
     }
@@ -501,20 +387,19 @@ pub fn permits<'a>(
 #[cycle(evaluate)]
 fn one_has<'a>(
     table: &Table<'a>,
-    steps: usize,
     i: usize,
     elements: &'a [Expr],
     value: &Seen<'a>,
-    now: Option<&'a State>,
-    label: Option<&'a State>,
-    later: Option<&'a State>,
+    now: &Row<'a>,
+    label: &Values<'a>,
+    later: &Row<'a>,
 ) -> bool
-    requires safe { SafeTrees (SafeReads table.now steps i now label) (SafeReads table.now steps i later label) (reads table.now steps i now label) (reads table.now steps i later label) (trees_of (map plain elements.now)) }
-    ensures { result ≡ one_permits (reads table.now steps i now.entry label.entry) (reads table.now steps i later.entry label.entry) (trees_of (map plain elements.now)) (seen_value value.now) }
+    requires safe { SafeTrees (IsKept table.now i now.now label.now) (IsKept table.now i later.now label.now) (row_reads table.now i now.now label.now) (row_reads table.now i later.now label.now) (trees_of (map plain elements.now)) }
+    ensures { result ≡ one_permits (row_reads table.now i now.now label.now) (row_reads table.now i later.now label.now) (trees_of (map plain elements.now)) (seen_value value.now) }
 {
     let mut rest = elements;
     while let Some((first, more)) = rest.split_first() {
-        if permits(table, steps, i, first, value, now, label, later) {
+        if permits(table, i, first, value, now, label, later) {
             return true;
         }
         rest = more;
@@ -526,38 +411,26 @@ fn one_has<'a>(
 #[cycle(evaluate)]
 fn last_has<'a>(
     table: &Table<'a>,
-    steps: usize,
     i: usize,
     first: &Seen<'a>,
     first_has: bool,
     links: &'a [Link],
     value: &Seen<'a>,
-    now: Option<&'a State>,
-    label: Option<&'a State>,
-    later: Option<&'a State>,
+    now: &Row<'a>,
+    label: &Values<'a>,
+    later: &Row<'a>,
 ) -> bool
-    requires safe { SafeLinks (SafeReads table.now steps i now label) (SafeReads table.now steps i later label) (reads table.now steps i now label) (reads table.now steps i later label) (seen_value first.now) (links_of (map plain_link links.now)) }
-    ensures { result ≡ fronts_permit (reads table.now steps i now.entry label.entry) (reads table.now steps i later.entry label.entry) (seen_value value.now) (seen_value first.now) first_has (links_of (map plain_link links.now)) }
+    requires safe { SafeLinks (IsKept table.now i now.now label.now) (IsKept table.now i later.now label.now) (row_reads table.now i now.now label.now) (row_reads table.now i later.now label.now) (seen_value first.now) (links_of (map plain_link links.now)) }
+    ensures { result ≡ fronts_permit (row_reads table.now i now.now label.now) (row_reads table.now i later.now label.now) (seen_value value.now) (seen_value first.now) first_has (links_of (map plain_link links.now)) }
 {
     let mut front = None;
     let mut has = first_has;
     let mut rest = links;
     while let Some((link, more)) = rest.split_first() {
         let next = match front {
-            None => next_front(
-                table,
-                steps,
-                i,
-                link.op,
-                first,
-                &link.operand,
-                now,
-                label,
-                later,
-            ),
+            None => next_front(table, i, link.op, first, &link.operand, now, label, later),
             Some(before) => next_front(
                 table,
-                steps,
                 i,
                 link.op,
                 &seen_of(before),
@@ -568,7 +441,7 @@ fn last_has<'a>(
             ),
         };
         if let Infix::Union = link.op {
-            let operand_has = permits(table, steps, i, &link.operand, value, now, label, later);
+            let operand_has = permits(table, i, &link.operand, value, now, label, later);
             has = has || operand_has;
         } else {
             has = plain_same(&next, value);

@@ -38,8 +38,8 @@ fn add<'a>(
     }
 }
 
-// Where an expression stands.
-fn place(e: &Expr) -> Place
+/// Where an expression stands.
+pub fn place(e: &Expr) -> Place
     ensures { result ≡ place_of (plain e.now) }
 {
     match &e.shape {

@@ -5,6 +5,7 @@ mod aliases;
 mod checked;
 mod children;
 mod evaluate;
+mod fill;
 mod formulas;
 mod functions;
 mod instances;
@@ -17,9 +18,12 @@ mod modules;
 mod name_map;
 mod names;
 mod operators;
+mod orders;
 mod parts;
 mod paths;
+mod reached;
 mod references;
+mod rows;
 mod scopes;
 mod seen;
 mod settled;
@@ -32,7 +36,7 @@ mod value;
 pub use checked::{
     accepted_is_checked, expressions_are_safe, expressions_have_types, names_have_types,
 };
-pub use formulas::{Formula, formulas_in};
+pub use formulas::{Formula, formulas_in, place};
 pub use instances::Table;
 pub use laws::{typed_is_safe, values_lie};
 pub use literals::literals_are_words;
@@ -40,7 +44,10 @@ pub use model_value::value_at;
 pub use modules::ModuleTable;
 pub use name_map::{NameMap, no_names, put, value_under};
 pub use names::{Known, Target};
-pub use paths::{put_all_paths, put_paths};
+pub use orders::{
+    order_is_whole, references_stand_before, refused_have_no_type, types_hang_on_paths,
+};
+pub use paths::{paths_in, put_all_paths, put_paths};
 pub use references::{Ordering, formula_order};
 pub use settled::{
     acyclic_is_ranked, cycles_are_checked, names_settle, ordered_is_acyclic, ranked_is_acyclic,

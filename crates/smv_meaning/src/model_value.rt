@@ -11,8 +11,11 @@ ghost use Rattle.smv_meaning.specs.Checked.{IsChecked, reaches_an_input};
 ghost use Rattle.smv_meaning.specs.View.{instance_plain, stated};
 
 use crate::evaluate::evaluate;
+use crate::fill::row_of;
 use crate::instances::Table;
 use crate::literals::literals_are_words;
+use crate::reached::reach_of;
+use crate::rows::values_of;
 use crate::seen::owned;
 use crate::table::{Instance, instances};
 use crate::value::{State, Value};
@@ -36,22 +39,14 @@ fn place_of<'a>(table: &[Instance<'a>], path: &[u8]) -> Option<usize>
     table.iter().position(|at| at.path.bytes() == path)
 }
 
-// The following state, or where there is none the state itself.
-fn later_of<'a>(now: &'a State, following: Option<&'a State>) -> Option<&'a State>
-    ensures { stated result ≡ following_or (given now.now) following.entry }
-{
-    match following {
-        None => Some(now),
-        Some(later) => Some(later),
-    }
-}
-
 /// The value of an expression in the instance with this dotted path (empty for main): names of state and frozen variables
 /// are read in the state `now`, those of inputs in the label, and under `next` in the following state (NuSMV 2.6 User
 /// Manual, 2.2.3). The model's paths, cycles and types are checked. The expression is one of the instance's module, or part of
 /// one; a set has no value, and neither has the name of an instance. The states give each variable a value of its type, and a
-/// label is there where the expression reaches an input. Where no following state is given, `next` reads the state itself. It
-/// takes as much of the stack as expressions nest.
+/// label is there where the expression reaches an input. Where no following state is given, `next` reads the state itself. Each
+/// definition and actual that the expression reaches is evaluated once for the state and once for the following state, each
+/// after those to which it refers, so that none is evaluated within another: it takes as much of the stack as one expression
+/// nests.
 pub fn value_at<'a>(
     alloc: Global,
     source: &'a Source,
@@ -73,7 +68,14 @@ pub fn value_at<'a>(
     literals_are_words(parts.as_slice());
     let i = number_of(parts.as_slice(), instance.bytes());
     let table = Table::over(alloc, parts)?;
-    let later = later_of(now, following);
-    let value = evaluate(&table, table.steps(), i, expr, Some(now), label, later);
-    owned(alloc, value)
+    let reach = reach_of(alloc, &table, i, expr)?;
+    let label = values_of(alloc, &table, label)?;
+    let here = row_of(alloc, &table, &reach, now, &label)?;
+    match following {
+        None => owned(alloc, evaluate(&table, i, expr, &here, &label, &here)),
+        Some(later) => {
+            let there = row_of(alloc, &table, &reach, later, &label)?;
+            owned(alloc, evaluate(&table, i, expr, &here, &label, &there))
+        }
+    }
 }

@@ -37,6 +37,18 @@ pub fn borrowed<'a>(value: &'a Value) -> Seen<'a>
     }
 }
 
+/// A copy, which borrows the same symbol.
+pub fn copied<'a>(value: &Seen<'a>) -> Seen<'a>
+    ensures { result ≡ value.now }
+{
+    match value {
+        Seen::Truth(b) => Seen::Truth(*b),
+        Seen::Integer(z) => Seen::Integer(*z),
+        Seen::Symbol(s) => Seen::Symbol(*s),
+        Seen::Bits(w) => Seen::Bits(*w),
+    }
+}
+
 /// The same value with a symbol of its own.
 pub fn owned(alloc: Global, value: Seen) -> Result<Value, NoMemory>
     ensures { IfOk result (λ v. v ≡ seen_value value.entry) }

@@ -6,3 +6,4 @@ pub mod FirstPart
 pub mod Visiting
 pub mod PathLemmas
 pub mod CycleLemmas
+pub mod AssignLemmas

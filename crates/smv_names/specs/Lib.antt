@@ -2,3 +2,4 @@ pub mod Outcome
 pub mod Visits
 pub mod View
 pub mod Paths
+pub mod Assigning

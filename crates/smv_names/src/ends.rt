@@ -40,6 +40,12 @@ pub(crate) const ARG_COUNT: u8 = 13;
 pub(crate) const UNKNOWN: u8 = 14;
 // A definition or an actual that reaches itself.
 pub(crate) const DEFINE_CYCLE: u8 = 15;
+// A variable that is assigned twice at one time.
+pub(crate) const ASSIGNED_TWICE: u8 = 21;
+// A target that is no variable to be assigned at that time.
+pub(crate) const NOT_ASSIGNABLE: u8 = 22;
+// No invariant of the wanted number.
+pub(crate) const NO_INVARSPEC: u8 = 27;
 // Too many instances, too long a path, or too many tokens.
 pub(crate) const TOO_LARGE: u8 = 28;
 

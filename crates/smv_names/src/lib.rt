@@ -1,10 +1,12 @@
 //! The names of SMV models: the checks of modules, of what is declared, and of a model's size, phase by phase.
 #![tactic(auto)]
 
+mod assignments;
 mod cycles;
 mod declarations;
 mod declared;
 mod ends;
+mod invariants;
 mod module_names;
 mod paths;
 mod sizes;
@@ -12,9 +14,11 @@ mod sizes;
 mod tests;
 mod visits;
 
+pub use assignments::assignments_checked;
 pub use cycles::cycles_checked;
 pub use declarations::declarations_checked;
 pub use ends::NamesEnd;
+pub use invariants::invariants_checked;
 pub use module_names::modules_checked;
 pub use paths::paths_checked;
 pub use sizes::sizes_checked;

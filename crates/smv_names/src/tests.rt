@@ -1,9 +1,9 @@
-// Models made by hand, through the five phases.
+// Models made by hand, through the phases.
 use super::*;
 use smv_meaning::formulas_in;
 use smv_text::{
-    Definition, Definitions, Domain, Element, Elements, Expr, Item, Items, Module, Modules,
-    Parameters, Path, Shape, Source, VarKind,
+    Assignment, Assignments, Definition, Definitions, Domain, Element, Elements, Expr, Item, Items,
+    Module, Modules, Parameters, Path, Shape, Source, VarKind, When,
 };
 use std::alloc::Global;
 use std::test::Fail;
@@ -106,6 +106,61 @@ fn defining(alloc: Global, other: &[u8]) -> Result<Source, NoMemory> {
     })
 }
 
+fn truth(offset: u32) -> Expr {
+    Expr {
+        place: place(offset),
+        shape: Shape::True,
+    }
+}
+
+/// An assignment to x.
+fn assignment(alloc: Global, when: When, offset: u32) -> Result<Assignment, NoMemory> {
+    let mut names = Names::new(alloc);
+    names.push(Name::of(alloc, b"x")?)?;
+    Ok(Assignment {
+        when,
+        target: Path {
+            from_self: false,
+            names,
+            place: place(offset),
+        },
+        body: truth(offset),
+    })
+}
+
+/// `main` with a variable x of the kind, two assignments to it and an invariant.
+fn assigning(alloc: Global, kind: VarKind, first: When, second: When) -> Result<Source, NoMemory> {
+    let mut items = Items::new(alloc);
+    items.push(item(alloc, b"x", None, 10)?)?;
+    let mut assignments = Assignments::new(alloc);
+    assignments.push(assignment(alloc, first, 50)?)?;
+    assignments.push(assignment(alloc, second, 60)?)?;
+    let mut elements = Elements::new(alloc);
+    elements.push(Element::Vars(kind, items))?;
+    elements.push(Element::Assigns(assignments))?;
+    elements.push(Element::Spec(None, truth(70)))?;
+    let mut modules = Modules::new(alloc);
+    modules.push(Module {
+        name: Name::of(alloc, b"main")?,
+        place: place(0),
+        parameters: Parameters::new(alloc),
+        elements,
+        tokens: 20,
+    })?;
+    Ok(Source {
+        modules,
+        end: place(99),
+    })
+}
+
+/// The number of instances, where the last two phases hold.
+fn last_checked(alloc: Global, source: &Source, needed: u32) -> Result<usize, NamesEnd> {
+    let table = sizes_checked(alloc, source)?;
+    assignments_checked(alloc, &table)?;
+    invariants_checked(&table, source.end, needed)?;
+    Ok(table.len())
+}
+
 /// The number of instances, where each check holds.
 fn all_checked(alloc: Global, source: &Source) -> Result<usize, NamesEnd> {
     modules_checked(alloc, source)?;
@@ -119,7 +174,12 @@ fn all_checked(alloc: Global, source: &Source) -> Result<usize, NamesEnd> {
 
 /// The number of the first refusal and its offset, or 0 and the numbers of instances and of definitions together.
 fn checked(alloc: Global, source: &Source) -> Result<(u8, usize), NoMemory> {
-    match all_checked(alloc, source) {
+    outcome(all_checked(alloc, source))
+}
+
+/// The number of the refusal and its offset, or 0 and the count.
+fn outcome(ended: Result<usize, NamesEnd>) -> Result<(u8, usize), NoMemory> {
+    match ended {
         Ok(count) => Ok((0, count)),
         Err(NamesEnd::NoMemory) => Err(NoMemory),
         Err(NamesEnd::Bad(why)) => match why.kind {
@@ -144,5 +204,24 @@ fn phases(rt: HostRuntime) -> Result<(), Fail> {
     assert_eq!(rt; checked(alloc, &unknown)?, (14, 21));
     let cycle = defining(alloc, b"d")?;
     assert_eq!(rt; checked(alloc, &cycle)?, (15, 10));
+    Ok(())
+}
+
+#[test]
+fn last_phases(rt: HostRuntime) -> Result<(), Fail> {
+    let alloc = rt.alloc();
+    let rows = [
+        (VarKind::State, When::First, When::Following, 0, (0, 1)),
+        (VarKind::State, When::First, When::Following, 1, (27, 99)),
+        (VarKind::State, When::First, When::First, 1, (21, 60)),
+        (VarKind::State, When::Always, When::Following, 0, (21, 60)),
+        (VarKind::Frozen, When::First, When::Always, 0, (22, 60)),
+        (VarKind::Frozen, When::Following, When::First, 0, (22, 50)),
+        (VarKind::Input, When::First, When::First, 0, (22, 50)),
+    ];
+    for (kind, first, second, needed, wanted) in rows {
+        let source = assigning(alloc, kind, first, second)?;
+        assert_eq!(rt; outcome(last_checked(alloc, &source, needed))?, wanted);
+    }
     Ok(())
 }

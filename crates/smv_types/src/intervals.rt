@@ -67,8 +67,8 @@ fn over_four(a: i128, b: i128, c: i128, d: i128) -> Option<Ty>
     within(least(a, b, c, d), greatest(a, b, c, d))
 }
 
-// A type, where its interval is within the limit.
-pub(crate) fn kept(t: Ty) -> Option<Ty>
+/// The type, where its interval is within the limit.
+pub fn kept(t: Ty) -> Option<Ty>
     ensures { Kept result (seen t) }
 {
     match t {
@@ -77,8 +77,8 @@ pub(crate) fn kept(t: Ty) -> Option<Ty>
     }
 }
 
-// The type that holds both.
-pub(crate) fn hull(t: Ty, u: Ty) -> Ty
+/// The type that holds both.
+pub fn hull(t: Ty, u: Ty) -> Ty
     ensures { seen result ≡ hull (seen t) (seen u) }
 {
     match t {

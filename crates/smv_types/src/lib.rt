@@ -16,6 +16,7 @@ mod types;
 mod typing;
 
 pub use ends::CheckEnd;
+pub use intervals::{hull, kept};
 pub use names::{Named, Scope};
 pub use positions::{Position, Standing};
 pub use types::Ty;

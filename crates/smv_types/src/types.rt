@@ -17,7 +17,8 @@ pub enum Ty {
 }
 
 impl Ty {
-    pub(crate) fn is_truth(self) -> bool
+    /// Is it `boolean`?
+    pub fn is_truth(self) -> bool
         ensures { result ≡ is_truth_type (seen self) }
     {
         match self {
@@ -61,8 +62,8 @@ impl Ty {
         self.is_word() && other.is_word() && self.width() == other.width()
     }
 
-    // Are they one type, whatever the intervals are?
-    pub(crate) fn is_same(self, other: Ty) -> bool
+    /// Are they one type, whatever the intervals are?
+    pub fn is_same(self, other: Ty) -> bool
         ensures { result ≡ type_same (seen self) (seen other) }
     {
         match self {

@@ -1,35 +1,7 @@
-use Rattle.std.proofs.Common.{map, arith, rules, ap, ◌∙◌, sym}
-use Rattle.smv_meaning.specs.View.{instance_plain, seen_value, plain_or}
-use Rattle.smv_meaning.proofs.Evaluating.{reading_none, reads_step, safe_step, left_value, left_permits, budget_falls, body_low, taken_is_chosen, safe_firsts, depth_firsts}
+use Rattle.std.proofs.Common.{arith, rules, ap, ◌∙◌, sym}
+use Rattle.smv_meaning.specs.View.{seen_value, plain_or}
+use Rattle.smv_meaning.proofs.Evaluating.{left_value, left_permits, taken_is_chosen, safe_firsts, depth_firsts}
 use Rattle.smv_meaning.proofs.evaluate.+evaluate.Goals as goal
-
-pub value_of_path-returns-then-steps-eq0 : goal.value_of_path-returns-then-steps-eq0
-value_of_path-returns-then-steps-eq0 t c =
-    c.no_seen.ensures ∙ reading_none c.args.table.now c.args.steps c.args.i c.args.state c.args.label c.args.path.now (search c.if-steps-eq0.true)
-
-pub value_of_path-evaluate-requires : goal.value_of_path-evaluate-requires
-value_of_path-evaluate-requires t c =
-    let s = safe_step c.args.table.now c.args.steps c.args.i c.args.state c.args.label c.args.path.now _ (omega arith) c.in-Body.ensures c.requires.safe in
-    let b = budget_falls (map instance_plain c.args.table.now) c.args.steps _ (body_low c.args.table.now c.args.i c.args.path.now _ c.in-Body.ensures) (omega arith) in
-    (omega arith, s)
-
-pub value_of_path-returns-in-Variable : goal.value_of_path-returns-in-Variable
-value_of_path-returns-in-Variable t c = c.variable_value.ensures ∙ reads_step c.args.table.now c.args.steps c.args.i c.args.state c.args.label c.args.path.now _ (omega arith) c.in-Variable.ensures
-
-pub value_of_path-returns-in-Body : goal.value_of_path-returns-in-Body
-value_of_path-returns-in-Body t c = c.evaluate.ensures ∙ reads_step c.args.table.now c.args.steps c.args.i c.args.state c.args.label c.args.path.now _ (omega arith) c.in-Body.ensures
-
-pub value_of_path-returns-in-Within : goal.value_of_path-returns-in-Within
-value_of_path-returns-in-Within t c = c.no_seen-in-Within.ensures ∙ reads_step c.args.table.now c.args.steps c.args.i c.args.state c.args.label c.args.path.now _ (omega arith) c.in-Within.ensures
-
-pub value_of_path-returns-in-Symbol : goal.value_of_path-returns-in-Symbol
-value_of_path-returns-in-Symbol t c = reads_step c.args.table.now c.args.steps c.args.i c.args.state c.args.label c.args.path.now _ (omega arith) c.in-Symbol.ensures
-
-pub value_of_path-returns-in-Cyclic : goal.value_of_path-returns-in-Cyclic
-value_of_path-returns-in-Cyclic t c = c.no_seen-in-Cyclic.ensures ∙ reads_step c.args.table.now c.args.steps c.args.i c.args.state c.args.label c.args.path.now _ (omega arith) c.in-Cyclic.ensures
-
-pub value_of_path-returns-in-Missing : goal.value_of_path-returns-in-Missing
-value_of_path-returns-in-Missing t c = c.no_seen-in-Missing.ensures ∙ reads_step c.args.table.now c.args.steps c.args.i c.args.state c.args.label c.args.path.now _ (omega arith) c.in-Missing.ensures
 
 pub taken_branch-chosen_branch-requires : goal.taken_branch-chosen_branch-requires
 taken_branch-chosen_branch-requires t c =

@@ -1,0 +1,90 @@
+// The phases of checks, one after another.
+ghost use Rattle.std.specs.Prelude.{◌≡◌, ◌++◌, map, IfOk};
+ghost use Rattle.smv_text.specs.View.{plain_source};
+ghost use Rattle.smv_meaning.specs.Instances.{instances_of};
+ghost use Rattle.smv_meaning.specs.Phases.{checks_of, IsAccepted};
+ghost use Rattle.smv_meaning.specs.View.{instance_plain};
+ghost use Rattle.smv_names.specs.Outcome.{Settles};
+ghost use Rattle.smv_flatten.specs.Accepting.{early_checks, typing_checks, IsKept, AreFound};
+
+use crate::kept::Accepted;
+use smv_meaning::{Formula, Table, formulas_in};
+use smv_model_types::{Types, types_checked};
+use smv_names::{
+    NamesEnd, assignments_checked, cycles_checked, declarations_checked, invariants_checked,
+    modules_checked, paths_checked, sizes_checked,
+};
+use smv_text::Source;
+use std::alloc::Global;
+use text_core::Items;
+
+// What is found of the definitions and actuals.
+#[derive(Drop)]
+struct Found<'a> {
+    formulas: Vec<Formula<'a>>,
+    order: Items<usize>,
+    types: Types<'a>,
+}
+
+// The first three phases, which answer the table of the instances.
+#[tactic(auto, using(crate::proofs::Composing::ends, crate::proofs::Composing::ends_behind, crate::proofs::Composing::both_pass))]
+fn sized<'a>(alloc: Global, source: &'a Source) -> Result<Table<'a>, NamesEnd>
+    ensures checks { Settles result (early_checks (plain_source source.now)) }
+    ensures table { IfOk result (λ t. map instance_plain t ≡ instances_of (plain_source source.now)) }
+{
+    modules_checked(alloc, source)?;
+    declarations_checked(alloc, source)?;
+    sizes_checked(alloc, source)
+}
+
+// The phases from the paths to the types.
+#[tactic(auto, using(crate::proofs::Composing::ends, crate::proofs::Composing::ends_behind, crate::proofs::Composing::both_pass))]
+fn typed<'a>(alloc: Global, table: &Table<'a>) -> Result<Found<'a>, NamesEnd>
+    ensures checks { Settles result (typing_checks (map instance_plain table.now)) }
+    ensures found { IfOk result (AreFound (map instance_plain table.now)) }
+{
+    paths_checked(alloc, table)?;
+    let formulas = formulas_in(alloc, table)?;
+    let order = cycles_checked(alloc, table, formulas.as_slice())?;
+    let types = types_checked(alloc, table, formulas.as_slice(), &order)?;
+    Ok(Found {
+        formulas,
+        order,
+        types,
+    })
+}
+
+// All phases.
+#[tactic(auto, using(crate::proofs::Composing::ends, crate::proofs::Composing::ends_behind, crate::proofs::Composing::both_pass))]
+fn joined<'a>(alloc: Global, source: &'a Source, needed: u32) -> Result<Accepted<'a>, NamesEnd>
+    ensures checks { Settles result (checks_of (plain_source source.now) needed) }
+    ensures kept { IfOk result (IsKept (instances_of (plain_source source.now))) }
+{
+    let table = sized(alloc, source)?;
+    let found = typed(alloc, &table)?;
+    assignments_checked(alloc, &table)?;
+    invariants_checked(&table, source.end, needed)?;
+    Ok(Accepted {
+        table,
+        formulas: found.formulas,
+        order: found.order,
+        types: found.types,
+    })
+}
+
+/// Checks a model of which the invariant with this number is wanted: the refusal is that of the first check that fails, in
+/// the order of the phases.
+pub fn accepted<'a>(
+    alloc: Global,
+    source: &'a Source,
+    needed: u32,
+) -> Result<Accepted<'a>, NamesEnd>
+    ensures checks { Settles result (checks_of (plain_source source.now) needed) }
+    ensures passes { IfOk result (λ a. IsAccepted (plain_source source.now) needed) }
+    ensures kept { IfOk result (IsKept (instances_of (plain_source source.now))) }
+{
+    match joined(alloc, source, needed) {
+        Ok(kept) => Ok(kept),
+        Err(end) => Err(end),
+    }
+}

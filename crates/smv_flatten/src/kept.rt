@@ -1,0 +1,14 @@
+// What is known of a model that passes its checks.
+use smv_meaning::{Formula, Table};
+use smv_model_types::Types;
+use text_core::Items;
+
+/// What the checks found of a model that passes them all: its instances, its definitions and actuals, an order of these in
+/// which each stands after those to which it refers, and their types.
+#[derive(Drop)]
+pub struct Accepted<'a> {
+    pub table: Table<'a>,
+    pub formulas: Vec<Formula<'a>>,
+    pub order: Items<usize>,
+    pub types: Types<'a>,
+}

@@ -1,0 +1,10 @@
+use Rattle.std.proofs.Common.{◌≡◌, drop, map}
+use Rattle.std.specs.List.{list_any}
+use Rattle.smv_meaning.specs.View.{instance_plain, path_seen}
+use Rattle.smv_model_types.specs.Row.{row_seen, row_names}
+use Rattle.smv_model_types.proofs.bodies.one_reaches.Given as goal
+
+abbrev pub invariant-loop-k : goal.invariant-loop-k
+invariant-loop-k l =
+    list_any (λ q. (row_names (map instance_plain l.table) (row_seen l.row) l.j q).reaches_input) (map path_seen (drop l.k l.paths))
+    ≡ list_any (λ q. (row_names (map instance_plain l.table) (row_seen l.row) l.j q).reaches_input) (map path_seen l.paths)

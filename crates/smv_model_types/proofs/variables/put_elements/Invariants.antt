@@ -1,0 +1,7 @@
+use Rattle.std.proofs.Common.{map}
+use Rattle.smv_meaning.specs.View.{instance_plain}
+use Rattle.smv_model_types.specs.Row.{row_seen, Right}
+use Rattle.smv_model_types.proofs.variables.put_elements.Given as goal
+
+abbrev pub invariant-loop-k : goal.invariant-loop-k
+invariant-loop-k l = Right (map instance_plain l.table) (row_seen l.row)

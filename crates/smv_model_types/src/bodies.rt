@@ -1,0 +1,134 @@
+// The types of definitions and actuals, each after those to which it refers.
+ghost use Rattle.std.specs.Prelude.{◌≡◌, ◌<◌, true, [], length, map, option_map, slice_index_or, IfOk, OnOk};
+ghost use Rattle.std.specs.List.{list_any};
+ghost use Rattle.smv_text.specs.View.{plain};
+ghost use Rattle.smv_meaning.specs.Names.{local, body_at};
+ghost use Rattle.smv_meaning.specs.Checks.{typing};
+ghost use Rattle.smv_meaning.specs.Naming.{in_body, named_found};
+ghost use Rattle.smv_meaning.specs.Formulas.{placed_formulas, IsFormulaOrder};
+ghost use Rattle.smv_meaning.specs.View.{instance_plain, formula_plain, path_seen, key_of};
+ghost use Rattle.smv_types.specs.View.{seen, named_seen};
+ghost use Rattle.smv_model_types.specs.Row.{row_seen, row_names, put_for, Becomes, HasEach};
+
+use crate::names::{Reader, path_named};
+use crate::row::{Row, keep};
+use crate::variables::variables_of;
+use smv_meaning::{
+    Formula, Known, Table, names_settle, order_is_whole, paths_in, references_stand_before,
+    refused_have_no_type, types_hang_on_paths, types_settle,
+};
+use smv_text::{Expr, Path};
+use smv_types::{CheckEnd, Named, Position, Ty, type_of};
+use std::alloc::Global;
+use text_core::{Items, NoMemory};
+
+// Does one of the paths reach an input?
+#[tactic(auto, using(crate::proofs::Paths::seen_front, crate::proofs::Paths::seen_end))]
+fn one_reaches<'a>(table: &Table<'a>, row: &Row<'a>, j: usize, paths: &[&Path]) -> bool
+    ensures { result ≡ list_any (λ q. (row_names (map instance_plain table.now) (row_seen row.now) j q).reaches_input) (map path_seen paths.now) }
+{
+    for k in 0..paths.len() {
+        if path_named(table, row, j, paths[k]).reaches_input {
+            return true;
+        }
+    }
+    false
+}
+
+// The type of a body: none where one of its checks fails.
+#[tactic(auto, using(crate::proofs::Paths::always_known))]
+fn body_type<'a>(
+    alloc: Global,
+    table: &Table<'a>,
+    row: &Row<'a>,
+    j: usize,
+    e: &Expr,
+) -> Result<Option<Ty>, NoMemory>
+    ensures { IfOk result (λ o. option_map seen o ≡ (typing (row_names (map instance_plain table.now) (row_seen row.now) j) in_body (plain e.now)).type) }
+{
+    refused_have_no_type();
+    let names = Reader {
+        table,
+        row,
+        instance: j,
+    };
+    match type_of(alloc, &names, e, Position::Define) {
+        Ok(t) => Ok(t),
+        Err(CheckEnd::Bad(_)) => Ok(None),
+        Err(CheckEnd::NoMemory) => Err(NoMemory),
+    }
+}
+
+// What a body is.
+fn body_named<'a>(
+    alloc: Global,
+    table: &Table<'a>,
+    row: &Row<'a>,
+    j: usize,
+    e: &Expr,
+) -> Result<Named, NoMemory>
+    ensures { IfOk result (λ n. named_seen n ≡ named_found true (row_names (map instance_plain table.now) (row_seen row.now)) (body_at 0 [] j (plain e.now))) }
+{
+    let ty = body_type(alloc, table, row, j, e)?;
+    let paths = paths_in(alloc, e)?;
+    Ok(Named {
+        ty,
+        is_instance: false,
+        reaches_input: one_reaches(table, row, j, paths.as_slice()),
+    })
+}
+
+// Gives the row what a definition or an actual is.
+fn put_formula<'a>(
+    alloc: Global,
+    table: &Table<'a>,
+    row: &mut Row<'a>,
+    formula: &Formula<'a>,
+) -> Result<(), NoMemory>
+    ensures { OnOk result (Becomes (row_seen row.old) (key_of formula.now) (put_for (map instance_plain table.now) (row_seen row.old) (local (map instance_plain table.now) formula.now.instance formula.now.name.now)) (row_seen row.new)) }
+{
+    match table.local(formula.instance, formula.name) {
+        Known::Alias(j, path) => {
+            let named = path_named(table, row, j, path);
+            keep(row, formula.instance, formula.name, named)
+        }
+        Known::Formula(j, e) => {
+            let named = body_named(alloc, table, row, j, e)?;
+            keep(row, formula.instance, formula.name, named)
+        }
+        Known::Variable(_, _) => Ok(()),
+        Known::Inner => Ok(()),
+        Known::Nothing => Ok(()),
+    }
+}
+
+fn formula_at<'f, 'a>(formulas: &'f [Formula<'a>], n: usize) -> &'f Formula<'a>
+    requires { n < length formulas.now }
+    ensures { result.now ≡ slice_index_or formulas.now n result.now }
+{
+    &formulas[n]
+}
+
+/// What each variable, definition and actual of the model is.
+pub(crate) fn row_of<'a>(
+    alloc: Global,
+    table: &Table<'a>,
+    formulas: &[Formula<'a>],
+    order: &Items<usize>,
+) -> Result<Row<'a>, NoMemory>
+    requires formulas { map formula_plain formulas.now ≡ placed_formulas (map instance_plain table.now) }
+    requires order { IsFormulaOrder (map instance_plain table.now) order.now }
+    ensures { IfOk result (λ row. HasEach (map instance_plain table.now) (row_seen row)) }
+{
+    names_settle();
+    types_settle();
+    types_hang_on_paths();
+    references_stand_before();
+    order_is_whole();
+    let mut row = variables_of(alloc, table)?;
+    for k in 0..order.len() {
+        let formula = formula_at(formulas, *order.at(k));
+        put_formula(alloc, table, &mut row, formula)?;
+    }
+    Ok(row)
+}

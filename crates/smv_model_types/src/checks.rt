@@ -1,0 +1,139 @@
+// The checks of expressions in their places.
+ghost use Rattle.std.specs.Prelude.{◌≡◌, true, map, option_map};
+ghost use Rattle.smv_text.specs.View.{plain, plain_assignment};
+ghost use Rattle.smv_meaning.specs.Types.{is_truth_type, type_same};
+ghost use Rattle.smv_meaning.specs.Checks.{typing, on_type, on_types};
+ghost use Rattle.smv_meaning.specs.Naming.{in_body};
+ghost use Rattle.smv_meaning.specs.Phases.{in_assignment, actual_typing, formula_typing, assigned_typing};
+ghost use Rattle.smv_meaning.specs.Settled.{types_in};
+ghost use Rattle.smv_meaning.specs.View.{instance_plain};
+ghost use Rattle.smv_types.specs.View.{seen, position_seen};
+ghost use Rattle.smv_names.specs.Outcome.{Settles};
+ghost use Rattle.smv_model_types.specs.Outcome.{AreTypesOf, is_path};
+
+use crate::ends::{TYPE_CLASH, refusal};
+use crate::types::Types;
+use smv_meaning::{Table, place};
+use smv_names::NamesEnd;
+use smv_text::{Assignment, Expr, Shape, When};
+use smv_types::{Position, Ty};
+use std::alloc::Global;
+
+/// The checks of a body of a definition or of an actual.
+pub(crate) fn body_checked<'a>(
+    alloc: Global,
+    table: &Table<'a>,
+    types: &Types<'a>,
+    i: usize,
+    e: &Expr,
+) -> Result<(), NamesEnd>
+    requires { AreTypesOf (map instance_plain table.now) types.now }
+    ensures { Settles result (typing (types_in true (map instance_plain table.now) i) in_body (plain e.now)).checks }
+{
+    match types.expression_checked(alloc, table, i, e, Position::Define) {
+        Ok(_) => Ok(()),
+        Err(end) => Err(end),
+    }
+}
+
+fn is_path(e: &Expr) -> bool
+    ensures { result ≡ is_path (plain e.now) }
+{
+    match &e.shape {
+        Shape::Name(_) => true,
+        _ => false,
+    }
+}
+
+/// The checks of an actual: one that is a path may name anything.
+#[tactic(auto, using(crate::proofs::BodyLemmas::path_actual, crate::proofs::BodyLemmas::other_actual))]
+pub(crate) fn actual_checked<'a>(
+    alloc: Global,
+    table: &Table<'a>,
+    types: &Types<'a>,
+    i: usize,
+    e: &Expr,
+) -> Result<(), NamesEnd>
+    requires { AreTypesOf (map instance_plain table.now) types.now }
+    ensures { Settles result (actual_typing (types_in true (map instance_plain table.now) i) (plain e.now)) }
+{
+    if is_path(e) {
+        Ok(())
+    } else {
+        body_checked(alloc, table, types, i, e)
+    }
+}
+
+// Is it a truth value, or has it no type?
+fn is_truth(t: Option<Ty>) -> bool
+    ensures { result ≡ on_type (option_map seen t) is_truth_type }
+{
+    match t {
+        None => true,
+        Some(t) => t.is_truth(),
+    }
+}
+
+// Have they one type, or one of them none?
+fn are_same(t: Option<Ty>, u: Option<Ty>) -> bool
+    ensures { result ≡ on_types (option_map seen t) (option_map seen u) type_same }
+{
+    match t {
+        None => true,
+        Some(t) => match u {
+            None => true,
+            Some(u) => t.is_same(u),
+        },
+    }
+}
+
+#[tactic(auto, using(crate::proofs::Composing::ends, crate::proofs::Composing::both_pass, crate::proofs::Composing::fails_behind))]
+pub(crate) fn formula_checked<'a>(
+    alloc: Global,
+    table: &Table<'a>,
+    types: &Types<'a>,
+    i: usize,
+    e: &Expr,
+    position: Position,
+) -> Result<(), NamesEnd>
+    requires { AreTypesOf (map instance_plain table.now) types.now }
+    ensures { Settles result (formula_typing (types_in true (map instance_plain table.now) i) (position_seen position) (plain e.now)) }
+{
+    let t = types.expression_checked(alloc, table, i, e, position)?;
+    if is_truth(t) {
+        Ok(())
+    } else {
+        Err(NamesEnd::Bad(refusal(TYPE_CLASH, place(e))))
+    }
+}
+
+fn position_of(when: When) -> Position
+    ensures { position_seen result ≡ in_assignment when }
+{
+    match when {
+        When::Always => Position::AssignNow,
+        When::First => Position::AssignFirst,
+        When::Following => Position::AssignFollowing,
+    }
+}
+
+#[tactic(auto, using(crate::proofs::Composing::ends, crate::proofs::Composing::both_pass, crate::proofs::Composing::fails_behind))]
+pub(crate) fn assignment_checked<'a>(
+    alloc: Global,
+    table: &Table<'a>,
+    types: &Types<'a>,
+    i: usize,
+    assignment: &Assignment,
+) -> Result<(), NamesEnd>
+    requires { AreTypesOf (map instance_plain table.now) types.now }
+    ensures { Settles result (assigned_typing (types_in true (map instance_plain table.now) i) (plain_assignment assignment.now)) }
+{
+    let position = position_of(assignment.when);
+    let value = types.expression_checked(alloc, table, i, &assignment.body, position)?;
+    let target = types.named(table, i, &assignment.target).ty;
+    if are_same(target, value) {
+        Ok(())
+    } else {
+        Err(NamesEnd::Bad(refusal(TYPE_CLASH, place(&assignment.body))))
+    }
+}

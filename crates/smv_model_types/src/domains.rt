@@ -1,0 +1,133 @@
+// Declared types: their checks, and the types of variables.
+ghost use Rattle.std.specs.Prelude.{◌≡◌, true, [], map, option_map};
+ghost use Rattle.smv_text.specs.View.{plain_domain};
+ghost use Rattle.smv_meaning.specs.Names.{variable_at};
+ghost use Rattle.smv_meaning.specs.Types.{member_type, are_same, hull_of};
+ghost use Rattle.smv_meaning.specs.Checks.{domain_checks, variable_type};
+ghost use Rattle.smv_meaning.specs.Meaning.{is_input};
+ghost use Rattle.smv_meaning.specs.Naming.{named_found, unnamed};
+ghost use Rattle.smv_types.specs.View.{seen, named_seen};
+ghost use Rattle.smv_names.specs.Outcome.{Settles};
+ghost use Rattle.smv_model_types.specs.Outcome.{IsDeclared};
+
+use crate::ends::{BAD_WIDTH, EMPTY_RANGE, INT_TOO_WIDE, TYPE_CLASH, refusal};
+use smv_names::NamesEnd;
+use smv_text::{Domain, Member, Members, VarKind};
+use smv_types::{Named, Ty, hull, kept};
+use text_core::Place;
+use word_core::WIDEST;
+
+fn member_type(member: &Member) -> Ty
+    ensures { seen result ≡ member_type member.now }
+{
+    match member {
+        Member::Symbol(_) => Ty::Symbol,
+        Member::Integer(z) => Ty::Integer(*z, *z),
+    }
+}
+
+// Are there some, and have they one type?
+#[tactic(auto, using(crate::proofs::Lists::front_is, crate::proofs::Lists::end_is))]
+fn are_same(members: &Members) -> bool
+    ensures { result ≡ are_same (map member_type members.now) }
+{
+    if members.len() == 0 {
+        return false;
+    }
+    let first = member_type(members.at(0));
+    for k in 1..members.len() {
+        if !first.is_same(member_type(members.at(k))) {
+            return false;
+        }
+    }
+    true
+}
+
+// The type that holds all.
+#[tactic(auto, using(crate::proofs::Lists::front_is, crate::proofs::Lists::end_is))]
+fn hull_of(members: &Members) -> Ty
+    ensures { seen result ≡ hull_of (map member_type members.now) }
+{
+    if members.len() == 0 {
+        return Ty::Truth;
+    }
+    let mut whole = member_type(members.at(0));
+    for k in 1..members.len() {
+        whole = hull(whole, member_type(members.at(k)));
+    }
+    whole
+}
+
+// The type, or the kind of the first check that fails.
+fn declared(domain: &Domain) -> Result<Option<Ty>, u8>
+    ensures { IsDeclared result (plain_domain domain.now) }
+{
+    match domain {
+        Domain::Boolean => Ok(Some(Ty::Truth)),
+        Domain::Members(members) => {
+            if !are_same(members) {
+                return Err(TYPE_CLASH);
+            }
+            match kept(hull_of(members)) {
+                Some(t) => Ok(Some(t)),
+                None => Err(INT_TOO_WIDE),
+            }
+        }
+        Domain::Between(low, high) => match kept(Ty::Integer(*low, *high)) {
+            Some(t) => if *low <= *high {
+                Ok(Some(t))
+            } else {
+                Err(EMPTY_RANGE)
+            },
+            None => Err(INT_TOO_WIDE),
+        },
+        Domain::Bits(n) => if 1 <= *n && *n <= WIDEST as u64 {
+            Ok(Some(Ty::Bits(*n as u32)))
+        } else {
+            Err(BAD_WIDTH)
+        },
+        Domain::Instance(_, _) => Ok(None),
+    }
+}
+
+/// The checks of a declared type.
+pub(crate) fn domain_checked(place: Place, domain: &Domain) -> Result<(), NamesEnd>
+    ensures { Settles result (domain_checks place (plain_domain domain.now)) }
+{
+    match declared(domain) {
+        Ok(_) => Ok(()),
+        Err(kind) => Err(NamesEnd::Bad(refusal(kind, place))),
+    }
+}
+
+#[tactic(auto, using(crate::proofs::DomainLemmas::typed, crate::proofs::DomainLemmas::untyped))]
+fn variable_type(domain: &Domain) -> Option<Ty>
+    ensures { option_map seen result ≡ variable_type (plain_domain domain.now) }
+{
+    match declared(domain) {
+        Ok(t) => t,
+        Err(_) => None,
+    }
+}
+
+fn is_input(kind: VarKind) -> bool
+    ensures { result ≡ is_input kind }
+{
+    match kind {
+        VarKind::State => false,
+        VarKind::Input => true,
+        VarKind::Frozen => false,
+    }
+}
+
+/// What a variable is.
+#[tactic(auto, using(crate::proofs::DomainLemmas::with_label))]
+pub(crate) fn variable_named(kind: VarKind, domain: &Domain) -> Named
+    ensures { named_seen result ≡ named_found true (λ i path. unnamed) (variable_at [] kind (plain_domain domain.now)) }
+{
+    Named {
+        ty: variable_type(domain),
+        is_instance: false,
+        reaches_input: is_input(kind),
+    }
+}

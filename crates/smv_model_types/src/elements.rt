@@ -1,0 +1,146 @@
+// The checks of the elements of instances, in the order of the text.
+ghost use Rattle.std.specs.Prelude.{◌≡◌, ◌<◌, true, map, flat_map, length, slice_index_or};
+ghost use Rattle.smv_text.specs.Tree.{trees_of};
+ghost use Rattle.smv_text.specs.View.{plain, plain_item, plain_definition, plain_assignment, plain_element};
+ghost use Rattle.smv_meaning.specs.Phases.{actuals_typing, assigned_typing, element_typing, type_checks, names_in};
+ghost use Rattle.smv_meaning.specs.Settled.{types_in};
+ghost use Rattle.smv_meaning.specs.View.{instance_plain};
+ghost use Rattle.smv_names.specs.Outcome.{Settles};
+ghost use Rattle.smv_model_types.specs.Outcome.{AreTypesOf, item_typing, definition_typing};
+
+use crate::checks::{actual_checked, assignment_checked, body_checked, formula_checked};
+use crate::domains::domain_checked;
+use crate::types::Types;
+use smv_meaning::{Instance, Table};
+use smv_names::NamesEnd;
+use smv_text::{Assignments, Definitions, Element, Elements, Expr, Items};
+use smv_types::Position;
+use std::alloc::Global;
+
+#[tactic(auto, using(crate::proofs::Lists::front_is, crate::proofs::Lists::end_is, crate::proofs::Lists::trees_front, crate::proofs::Lists::trees_end, crate::proofs::Composing::goes, crate::proofs::Composing::ends))]
+fn actuals_checked<'a>(
+    alloc: Global,
+    table: &Table<'a>,
+    types: &Types<'a>,
+    i: usize,
+    actuals: &[Expr],
+) -> Result<(), NamesEnd>
+    requires { AreTypesOf (map instance_plain table.now) types.now }
+    ensures { Settles result (actuals_typing (types_in true (map instance_plain table.now) i) (trees_of (map plain actuals.now))) }
+{
+    for k in 0..actuals.len() {
+        actual_checked(alloc, table, types, i, &actuals[k])?;
+    }
+    Ok(())
+}
+
+#[tactic(auto, using(crate::proofs::Lists::front_is, crate::proofs::Lists::end_is, crate::proofs::Composing::goes, crate::proofs::Composing::ends))]
+fn items_checked(items: &Items) -> Result<(), NamesEnd>
+    ensures { Settles result (flat_map item_typing (map plain_item items.now)) }
+{
+    for k in 0..items.len() {
+        let item = items.at(k);
+        domain_checked(item.domain_place, &item.domain)?;
+    }
+    Ok(())
+}
+
+#[tactic(auto, using(crate::proofs::Lists::front_is, crate::proofs::Lists::end_is, crate::proofs::Composing::goes, crate::proofs::Composing::ends))]
+fn definitions_checked<'a>(
+    alloc: Global,
+    table: &Table<'a>,
+    types: &Types<'a>,
+    i: usize,
+    definitions: &Definitions,
+) -> Result<(), NamesEnd>
+    requires { AreTypesOf (map instance_plain table.now) types.now }
+    ensures { Settles result (flat_map (definition_typing (types_in true (map instance_plain table.now) i)) (map plain_definition definitions.now)) }
+{
+    for k in 0..definitions.len() {
+        match body_checked(alloc, table, types, i, &definitions.at(k).body) {
+            Ok(()) => {}
+            Err(end) => return Err(end),
+        }
+    }
+    Ok(())
+}
+
+#[tactic(auto, using(crate::proofs::Lists::front_is, crate::proofs::Lists::end_is, crate::proofs::Composing::goes, crate::proofs::Composing::ends))]
+fn assignments_checked<'a>(
+    alloc: Global,
+    table: &Table<'a>,
+    types: &Types<'a>,
+    i: usize,
+    assignments: &Assignments,
+) -> Result<(), NamesEnd>
+    requires { AreTypesOf (map instance_plain table.now) types.now }
+    ensures { Settles result (flat_map (assigned_typing (types_in true (map instance_plain table.now) i)) (map plain_assignment assignments.now)) }
+{
+    for k in 0..assignments.len() {
+        match assignment_checked(alloc, table, types, i, assignments.at(k)) {
+            Ok(()) => {}
+            Err(end) => return Err(end),
+        }
+    }
+    Ok(())
+}
+
+fn element_checked<'a>(
+    alloc: Global,
+    table: &Table<'a>,
+    types: &Types<'a>,
+    i: usize,
+    element: &Element,
+) -> Result<(), NamesEnd>
+    requires { AreTypesOf (map instance_plain table.now) types.now }
+    ensures { Settles result (element_typing (types_in true (map instance_plain table.now) i) (plain_element element.now)) }
+{
+    match element {
+        Element::Vars(_, items) => items_checked(items),
+        Element::Defines(definitions) => {
+            definitions_checked(alloc, table, types, i, definitions)
+        }
+        Element::Constants(_) => Ok(()),
+        Element::Assigns(assignments) => {
+            assignments_checked(alloc, table, types, i, assignments)
+        }
+        Element::Init(e) => formula_checked(alloc, table, types, i, e, Position::Now),
+        Element::Trans(e) => formula_checked(alloc, table, types, i, e, Position::Step),
+        Element::Invar(e) => formula_checked(alloc, table, types, i, e, Position::Now),
+        Element::Spec(_, e) => formula_checked(alloc, table, types, i, e, Position::Now),
+    }
+}
+
+#[tactic(auto, using(crate::proofs::Lists::front_is, crate::proofs::Lists::end_is, crate::proofs::Composing::goes, crate::proofs::Composing::ends))]
+fn elements_checked<'a>(
+    alloc: Global,
+    table: &Table<'a>,
+    types: &Types<'a>,
+    i: usize,
+    elements: &Elements,
+) -> Result<(), NamesEnd>
+    requires { AreTypesOf (map instance_plain table.now) types.now }
+    ensures { Settles result (flat_map (element_typing (types_in true (map instance_plain table.now) i)) (map plain_element elements.now)) }
+{
+    for k in 0..elements.len() {
+        element_checked(alloc, table, types, i, elements.at(k))?;
+    }
+    Ok(())
+}
+
+/// The checks of an instance: its actuals, read in the instance that it stands in, and then its own elements.
+#[tactic(auto, using(crate::proofs::Composing::both_pass, crate::proofs::Composing::ends, crate::proofs::Composing::ends_behind))]
+pub(crate) fn instance_checked<'a>(
+    alloc: Global,
+    table: &Table<'a>,
+    types: &Types<'a>,
+    i: usize,
+    at: &Instance<'a>,
+) -> Result<(), NamesEnd>
+    requires { AreTypesOf (map instance_plain table.now) types.now }
+    ensures { Settles result (type_checks (names_in (map instance_plain table.now)) i (instance_plain at.now)) }
+{
+    actuals_checked(alloc, table, types, at.parent.unwrap_or(0), at.actuals)?;
+    elements_checked(alloc, table, types, i, &at.plan.elements)?;
+    Ok(())
+}

@@ -1,0 +1,16 @@
+//! The types of SMV models: the checks of types and positions over a whole model, in their order, and what each name is.
+#![tactic(auto)]
+
+mod bodies;
+mod checks;
+mod domains;
+mod elements;
+mod ends;
+mod names;
+mod row;
+#[cfg(test)]
+mod tests;
+mod types;
+mod variables;
+
+pub use types::{Types, types_checked};

@@ -1,0 +1,136 @@
+// What paths are to the types, as far as the row has what they go through.
+ghost use Rattle.std.specs.Prelude.{◌≡◌, List, ℕ, Bool, true, map};
+ghost use Rattle.smv_meaning.specs.Instances.{Instance};
+ghost use Rattle.smv_meaning.specs.Names.{local, look, steps_of};
+ghost use Rattle.smv_meaning.specs.Naming.{unnamed};
+ghost use Rattle.smv_meaning.specs.Formulas.{instance_within};
+ghost use Rattle.smv_meaning.specs.View.{instance_plain};
+ghost use Rattle.smv_types.specs.View.{named_seen};
+ghost use Rattle.smv_model_types.specs.Row.{row_seen, entry_or, named_instance, named_symbol, row_walk, row_names};
+
+use crate::domains::variable_named;
+use crate::row::{Row, kept};
+use smv_meaning::{Known, Table, Target};
+use smv_text::Path;
+use smv_types::{Named, Scope, Ty};
+use text_core::Names;
+
+fn unnamed() -> Named
+    ensures { named_seen result ≡ unnamed }
+{
+    Named {
+        ty: None,
+        is_instance: false,
+        reaches_input: false,
+    }
+}
+
+fn instance() -> Named
+    ensures { named_seen result ≡ named_instance }
+{
+    Named {
+        ty: None,
+        is_instance: true,
+        reaches_input: false,
+    }
+}
+
+fn symbol() -> Named
+    ensures { named_seen result ≡ named_symbol }
+{
+    Named {
+        ty: Some(Ty::Symbol),
+        is_instance: false,
+        reaches_input: false,
+    }
+}
+
+// What a name is that leads to no instance.
+fn entry<'a>(table: &Table<'a>, row: &Row<'a>, i: usize, x: &[u8]) -> Named
+    ensures { named_seen result ≡ entry_or (local (map instance_plain table.now) i x.now) (row_seen row.now i x.now) }
+{
+    match kept(row, i, x) {
+        Some(named) => named,
+        None => match table.local(i, x) {
+            Known::Alias(_, _) => unnamed(),
+            Known::Formula(_, _) => unnamed(),
+            Known::Variable(kind, domain) => variable_named(kind, domain),
+            Known::Inner => unnamed(),
+            Known::Nothing => unnamed(),
+        },
+    }
+}
+
+// The instance that a name leads to, where it leads to one.
+fn inner<'a>(table: &Table<'a>, i: usize, x: &[u8]) -> Option<usize>
+    ensures { result ≡ instance_within (look (map instance_plain table.now) (steps_of (map instance_plain table.now)) i x.now) }
+{
+    match table.found_name(i, x) {
+        Target::Within(c) => Some(c),
+        Target::Variable(_, _, _, _) => None,
+        Target::Body(_, _, _, _) => None,
+        Target::Symbol(_) => None,
+        Target::Cyclic => None,
+        Target::Missing => None,
+    }
+}
+
+// Steps from name to name.
+#[tactic(auto, using(crate::proofs::Lists::front_is, crate::proofs::Lists::end_is))]
+fn walked<'a>(table: &Table<'a>, row: &Row<'a>, i: usize, names: &Names) -> Named
+    ensures { named_seen result ≡ row_walk (map instance_plain table.now) (row_seen row.now) i names.now }
+{
+    let mut at = i;
+    for k in 0..names.len() {
+        let x = names.at(k).bytes();
+        match inner(table, at, x) {
+            Some(c) => at = c,
+            None => return if k + 1 == names.len() {
+                entry(table, row, at, x)
+            } else {
+                unnamed()
+            },
+        }
+    }
+    instance()
+}
+
+/// What a path is, by the row.
+#[tactic(auto, using(crate::proofs::Lists::front_is, crate::proofs::Lists::end_is))]
+pub(crate) fn path_named<'a>(table: &Table<'a>, row: &Row<'a>, i: usize, path: &Path) -> Named
+    ensures { named_seen result ≡ row_names (map instance_plain table.now) (row_seen row.now) i path.now }
+{
+    if !path.from_self && path.names.len() == 1 {
+        let x = path.names.at(0).bytes();
+        if let Known::Nothing = table.local(i, x) {
+            return if table.has_symbol(x) {
+                symbol()
+            } else {
+                unnamed()
+            };
+        }
+    }
+    walked(table, row, i, &path.names)
+}
+
+/// The names of an instance, by the row.
+#[derive(Drop)]
+pub(crate) struct Reader<'s, 'a> {
+    pub(crate) table: &'s Table<'a>,
+    pub(crate) row: &'s Row<'a>,
+    pub(crate) instance: usize,
+}
+
+impl<'s, 'a> Scope for Reader<'s, 'a> {
+    ghost use Rattle.std.specs.Prelude.{true, map};
+    ghost use Rattle.smv_meaning.specs.View.{instance_plain};
+    ghost use Rattle.smv_model_types.specs.Row.{row_seen, row_names};
+
+    ghost names = { λ s. row_names (map instance_plain s.table.now) (row_seen s.row.now) s.instance };
+
+    ghost knows = { λ s path. true };
+
+    fn named(&self, path: &Path) -> Named {
+        path_named(self.table, self.row, self.instance, path)
+    }
+}

@@ -1,0 +1,100 @@
+// The types of a model, and its checks of types.
+ghost use Rattle.std.specs.Prelude.{◌≡◌, true, map, IfOk};
+ghost use Rattle.smv_text.specs.View.{plain};
+ghost use Rattle.smv_meaning.specs.Checks.{typing};
+ghost use Rattle.smv_meaning.specs.Checked.{type_checks_of};
+ghost use Rattle.smv_meaning.specs.Settled.{types_in};
+ghost use Rattle.smv_meaning.specs.Formulas.{placed_formulas, IsFormulaOrder};
+ghost use Rattle.smv_meaning.specs.View.{instance_plain, formula_plain};
+ghost use Rattle.smv_types.specs.View.{named_seen, position_seen};
+ghost use Rattle.smv_names.specs.Outcome.{Settles};
+ghost use Rattle.smv_model_types.specs.Outcome.{AreTypesOf, Finds};
+
+use crate::bodies::row_of;
+use crate::elements::instance_checked;
+use crate::names::{Reader, path_named};
+use crate::row::Row;
+use smv_meaning::{Formula, Table, types_hang_on_paths};
+use smv_names::NamesEnd;
+use smv_text::{Expr, Path};
+use smv_types::{CheckEnd, Named, Position, Ty, type_of};
+use std::alloc::Global;
+use text_core::{Items, NoMemory};
+
+/// The types of a model's variables, definitions and actuals.
+#[derive(Drop)]
+pub struct Types<'a> {
+    row: Row<'a>,
+}
+
+impl<'a> Types<'a> {
+    fn of(
+        alloc: Global,
+        table: &Table<'a>,
+        formulas: &[Formula<'a>],
+        order: &Items<usize>,
+    ) -> Result<Types<'a>, NoMemory>
+        requires formulas { map formula_plain formulas.now ≡ placed_formulas (map instance_plain table.now) }
+        requires order { IsFormulaOrder (map instance_plain table.now) order.now }
+        ensures { IfOk result (λ t. AreTypesOf (map instance_plain table.now) t) }
+    {
+        let row = row_of(alloc, table, formulas, order)?;
+        Ok(Types { row })
+    }
+
+    /// What a path is in the numbered instance: its type, where it has one, whether it is an instance, and whether it reaches an
+    /// input.
+    pub fn named(&self, table: &Table<'a>, i: usize, path: &Path) -> Named
+        requires { AreTypesOf (map instance_plain table.now) self.now }
+        ensures { named_seen result ≡ types_in true (map instance_plain table.now) i path.now }
+    {
+        path_named(table, &self.row, i, path)
+    }
+
+    /// The checks of an expression that stands in the numbered instance, and its type: none where it has none.
+    #[tactic(auto, using(crate::proofs::Paths::always_known))]
+    pub fn expression_checked(
+        &self,
+        alloc: Global,
+        table: &Table<'a>,
+        i: usize,
+        e: &Expr,
+        position: Position,
+    ) -> Result<Option<Ty>, NamesEnd>
+        requires { AreTypesOf (map instance_plain table.now) self.now }
+        ensures { Finds result (typing (types_in true (map instance_plain table.now) i) (position_seen position) (plain e.now)) }
+    {
+        types_hang_on_paths();
+        let names = Reader {
+            table,
+            row: &self.row,
+            instance: i,
+        };
+        match type_of(alloc, &names, e, position) {
+            Ok(t) => Ok(t),
+            Err(CheckEnd::Bad(why)) => Err(NamesEnd::Bad(why)),
+            Err(CheckEnd::NoMemory) => Err(NamesEnd::NoMemory),
+        }
+    }
+}
+
+/// The checks that types and positions fit: S16 to S20 and S23 to S26, at the first place where one fails; instances in preorder,
+/// in each its actuals first, then its elements in the order of the text. It answers what each path is.
+#[tactic(auto, using(crate::proofs::Lists::front_is, crate::proofs::Lists::end_is, crate::proofs::Composing::goes, crate::proofs::Composing::ends))]
+pub fn types_checked<'a>(
+    alloc: Global,
+    table: &Table<'a>,
+    formulas: &[Formula<'a>],
+    order: &Items<usize>,
+) -> Result<Types<'a>, NamesEnd>
+    requires formulas { map formula_plain formulas.now ≡ placed_formulas (map instance_plain table.now) }
+    requires order { IsFormulaOrder (map instance_plain table.now) order.now }
+    ensures checks { Settles result (type_checks_of (map instance_plain table.now)) }
+    ensures types { IfOk result (λ t. AreTypesOf (map instance_plain table.now) t) }
+{
+    let types = Types::of(alloc, table, formulas, order)?;
+    for i in 0..table.len() {
+        instance_checked(alloc, table, &types, i, table.at(i))?;
+    }
+    Ok(types)
+}

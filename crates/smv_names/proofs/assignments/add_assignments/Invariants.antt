@@ -1,0 +1,13 @@
+use Rattle.std.proofs.Common.{◌≡◌, ◌++◌, drop, map}
+use Rattle.smv_text.specs.Tree.{assigns}
+use Rattle.smv_text.specs.View.{plain_assignment}
+use Rattle.smv_meaning.specs.Names.{found_in}
+use Rattle.smv_meaning.specs.Phases.{element_assigns}
+use Rattle.smv_meaning.specs.View.{instance_plain}
+use Rattle.smv_names.specs.Assigning.{assigned_plain}
+use Rattle.smv_names.proofs.assignments.add_assignments.Given as goal
+
+abbrev pub invariant-loop-k : goal.invariant-loop-k
+invariant-loop-k l =
+    map (assigned_plain l.table) l.list.items ++ element_assigns (found_in (map instance_plain l.table)) l.i (assigns (map plain_assignment (drop l.k l.assignments)))
+    ≡ map (assigned_plain l.table) l.fn.list.items ++ element_assigns (found_in (map instance_plain l.table)) l.i (assigns (map plain_assignment l.assignments))

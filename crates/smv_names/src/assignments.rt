@@ -1,0 +1,204 @@
+// What is assigned: variables alone, and each once.
+ghost use Rattle.std.specs.Prelude.{◌≡◌, ◌++◌, List, map, flat_map, IfOk, OnOk};
+ghost use Rattle.smv_meaning.specs.declared.table.Instance.{Instance as PartOf};
+ghost use Rattle.smv_text.specs.Tree.{assigns};
+ghost use Rattle.smv_text.specs.View.{plain_assignment, plain_element};
+ghost use Rattle.smv_meaning.specs.Names.{found_in};
+ghost use Rattle.smv_meaning.specs.Phases.{element_assigns, assignment_checks, is_assignable, over_instances};
+ghost use Rattle.smv_meaning.specs.View.{instance_plain, found_plain};
+ghost use Rattle.smv_names.specs.Outcome.{Settles};
+ghost use Rattle.smv_names.specs.Assigning.{assigned_plain, assigned_path, target_path, with_kind, kinds_or_none, kinds_clash};
+
+use crate::ends::{ASSIGNED_TWICE, NOT_ASSIGNABLE, NamesEnd, refusal};
+use smv_meaning::{Table, Target, no_names, path_below, put, value_under};
+use smv_text::{Assignments, Element, Elements, VarKind, When};
+use std::alloc::Global;
+use text_core::{NoMemory, Place, Text};
+
+/// An assignment: when it holds, what its target leads to, and where the target stands.
+#[derive(Clone, Copy)]
+pub struct Assignment<'a> {
+    pub when: When,
+    pub target: Target<'a>,
+    pub place: Place,
+}
+
+/// The kinds of assignments that a variable has.
+#[derive(Clone, Copy)]
+pub struct Kinds {
+    pub always: bool,
+    pub first: bool,
+    pub following: bool,
+}
+
+// A state variable is assigned at any time, a frozen one in the first state alone.
+fn is_assignable(when: When, target: &Target) -> bool
+    ensures { (ts : List PartOf) → result ≡ is_assignable when (found_plain (map instance_plain ts) target.now) }
+{
+    match target {
+        Target::Variable(_, _, kind, _) => match kind {
+            VarKind::State => true,
+            VarKind::Frozen => match when {
+                When::First => true,
+                When::Always | When::Following => false,
+            },
+            VarKind::Input => false,
+        },
+        Target::Body(_, _, _, _) => false,
+        Target::Within(_) => false,
+        Target::Symbol(_) => false,
+        Target::Cyclic => false,
+        Target::Missing => false,
+    }
+}
+
+// The kinds with one more.
+fn with_kind(kinds: Option<Kinds>, when: When) -> Kinds
+    ensures { result ≡ with_kind (kinds_or_none kinds) when }
+{
+    let none = Kinds {
+        always: false,
+        first: false,
+        following: false,
+    };
+    let kinds = kinds.unwrap_or(none);
+    match when {
+        When::Always => Kinds {
+            always: true,
+            first: kinds.first,
+            following: kinds.following,
+        },
+        When::First => Kinds {
+            always: kinds.always,
+            first: true,
+            following: kinds.following,
+        },
+        When::Following => Kinds {
+            always: kinds.always,
+            first: kinds.first,
+            following: true,
+        },
+    }
+}
+
+// Two assignments of one kind clash, and one that holds always with each other.
+fn clashes(kinds: Option<Kinds>, when: When) -> bool
+    ensures { result ≡ kinds_clash (kinds_or_none kinds) when }
+{
+    match kinds {
+        None => false,
+        Some(kinds) => match when {
+            When::Always => kinds.always || kinds.first || kinds.following,
+            When::First => kinds.always || kinds.first,
+            When::Following => kinds.always || kinds.following,
+        },
+    }
+}
+
+#[tactic(auto, using(crate::proofs::Lists::front_is, crate::proofs::Lists::end_is))]
+fn add_assignments<'a>(
+    list: &mut Vec<Assignment<'a>>,
+    table: &Table<'a>,
+    i: usize,
+    assignments: &'a Assignments,
+) -> Result<(), NoMemory>
+    ensures { OnOk result (map (assigned_plain table.now) list.new.items ≡ map (assigned_plain table.now) list.old.items ++ element_assigns (found_in (map instance_plain table.now)) i (assigns (map plain_assignment assignments.now))) }
+{
+    for k in 0..assignments.len() {
+        let assignment = assignments.at(k);
+        let target = &assignment.target;
+        match list.push(Assignment {
+            when: assignment.when,
+            target: table.found(i, target),
+            place: target.place,
+        }) {
+            Ok(()) => {}
+            Err(_) => return Err(NoMemory),
+        }
+    }
+    Ok(())
+}
+
+#[tactic(auto, using(crate::proofs::Lists::front_is, crate::proofs::Lists::end_is, crate::proofs::PathLemmas::joined))]
+fn add_elements<'a>(
+    list: &mut Vec<Assignment<'a>>,
+    table: &Table<'a>,
+    i: usize,
+    elements: &'a Elements,
+) -> Result<(), NoMemory>
+    ensures { OnOk result (map (assigned_plain table.now) list.new.items ≡ map (assigned_plain table.now) list.old.items ++ flat_map (element_assigns (found_in (map instance_plain table.now)) i) (map plain_element elements.now)) }
+{
+    for k in 0..elements.len() {
+        if let Element::Assigns(assignments) = elements.at(k) {
+            add_assignments(list, table, i, assignments)?;
+        }
+    }
+    Ok(())
+}
+
+// The assignments of a model: instances in preorder, and in each in the order of the text.
+#[tactic(auto, using(crate::proofs::Lists::front_is, crate::proofs::Lists::end_is, crate::proofs::PathLemmas::joined))]
+fn assignments_in<'a>(alloc: Global, table: &Table<'a>) -> Result<Vec<Assignment<'a>>, NoMemory>
+    ensures { IfOk result (λ list. map (assigned_plain table.now) list.items ≡ over_instances (λ i at. flat_map (element_assigns (found_in (map instance_plain table.now)) i) at.plan.elements) 0 (map instance_plain table.now)) }
+{
+    let mut list = Vec::new(alloc);
+    for i in 0..table.len() {
+        add_elements(&mut list, table, i, &table.at(i).plan.elements)?;
+    }
+    Ok(list)
+}
+
+// The dotted path of a target that is a variable.
+fn path_of(alloc: Global, table: &Table, target: &Target) -> Result<Text, NoMemory>
+    ensures { IfOk result (λ p. p ≡ target_path (found_plain (map instance_plain table.now) target.now)) }
+{
+    match target {
+        Target::Variable(i, x, _, _) => if *i < table.len() {
+            path_below(alloc, table.at(*i).path.bytes(), x)
+        } else {
+            path_below(alloc, &[], x)
+        },
+        Target::Body(_, _, _, _) => Ok(Text::new(alloc)),
+        Target::Within(_) => Ok(Text::new(alloc)),
+        Target::Symbol(_) => Ok(Text::new(alloc)),
+        Target::Cyclic => Ok(Text::new(alloc)),
+        Target::Missing => Ok(Text::new(alloc)),
+    }
+}
+
+#[tactic(auto, using(crate::proofs::Lists::front_is, crate::proofs::Lists::end_is))]
+fn paths_of(alloc: Global, table: &Table, list: &[Assignment]) -> Result<Vec<Text>, NoMemory>
+    ensures { IfOk result (λ ps. ps.items ≡ map assigned_path (map (assigned_plain table.now) list.now)) }
+{
+    let mut paths = Vec::new(alloc);
+    for k in 0..list.len() {
+        match paths.push(path_of(alloc, table, &list[k].target)?) {
+            Ok(()) => {}
+            Err(_) => return Err(NoMemory),
+        }
+    }
+    Ok(paths)
+}
+
+/// The checks that state variables and frozen ones alone are assigned, these in the first state (S22), and none twice at
+/// one time (S21). Assignments are counted for a variable over all instances, whatever path leads to it.
+pub fn assignments_checked(alloc: Global, table: &Table) -> Result<(), NamesEnd>
+    ensures { Settles result (assignment_checks (found_in (map instance_plain table.now)) (map instance_plain table.now)) }
+{
+    let list = assignments_in(alloc, table)?;
+    let paths = paths_of(alloc, table, list.as_slice())?;
+    let mut seen = no_names(alloc);
+    for k in 0..list.len() {
+        let assignment = &list[k];
+        if !is_assignable(assignment.when, &assignment.target) {
+            return Err(NamesEnd::Bad(refusal(NOT_ASSIGNABLE, assignment.place)));
+        }
+        let path = paths[k].bytes();
+        let before = value_under(&seen, path);
+        if clashes(before, assignment.when) {
+            return Err(NamesEnd::Bad(refusal(ASSIGNED_TWICE, assignment.place)));
+        }
+        put(&mut seen, path, with_kind(before, assignment.when))?;
+    }
+    Ok(())
+}

@@ -1,0 +1,54 @@
+// The invariants of a model are counted.
+ghost use Rattle.std.specs.Prelude.{◌≡◌, ◌-◌, ◌∷◌, [], ℕ, map, flat_map, length, nat_lt};
+ghost use Rattle.smv_text.specs.View.{plain_element};
+ghost use Rattle.smv_meaning.specs.Checks.{check};
+ghost use Rattle.smv_meaning.specs.Phases.{element_invariants, invariants_in};
+ghost use Rattle.smv_meaning.specs.View.{instance_plain};
+ghost use Rattle.smv_names.specs.Outcome.{Settles};
+
+use crate::ends::{NO_INVARSPEC, NamesEnd, refusal};
+use smv_meaning::Table;
+use smv_text::{Element, Elements};
+use text_core::Place;
+
+// How many invariants are still missing behind an element.
+fn missing_after(missing: u64, element: &Element) -> u64
+    ensures { (i : ℕ) → result ≡ missing - length (element_invariants i (plain_element element.now)) }
+{
+    match element {
+        Element::Vars(_, _) => missing,
+        Element::Defines(_) => missing,
+        Element::Constants(_) => missing,
+        Element::Assigns(_) => missing,
+        Element::Init(_) => missing,
+        Element::Trans(_) => missing,
+        Element::Invar(_) => missing,
+        Element::Spec(_, _) => missing.saturating_sub(1),
+    }
+}
+
+// How many are still missing behind these elements.
+fn missing_behind(missing: u64, elements: &Elements) -> u64
+    ensures { (i : ℕ) → result ≡ missing - length (flat_map (element_invariants i) (map plain_element elements.now)) }
+{
+    let mut missing = missing;
+    for k in 0..elements.len() {
+        missing = missing_after(missing, elements.at(k));
+    }
+    missing
+}
+
+/// The check that the model, over all its instances, has an invariant of this number: S27, at the end of the text.
+pub fn invariants_checked(table: &Table, end: Place, needed: u32) -> Result<(), NamesEnd>
+    ensures { Settles result (check 27 end (nat_lt needed (length (invariants_in (map instance_plain table.now)))) ∷ []) }
+{
+    let mut missing = needed as u64 + 1;
+    for i in 0..table.len() {
+        missing = missing_behind(missing, &table.at(i).plan.elements);
+    }
+    if missing == 0 {
+        Ok(())
+    } else {
+        Err(NamesEnd::Bad(refusal(NO_INVARSPEC, end)))
+    }
+}
