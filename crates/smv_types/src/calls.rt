@@ -257,8 +257,8 @@ fn application(
     }
 }
 
-// A call, given the types of its arguments.
-pub(crate) fn called(
+/// The checks and the type of a call, given the types of its arguments.
+pub fn called(
     alloc: Global,
     place: Place,
     function: Function,

@@ -171,8 +171,9 @@ fn untyped(op: Infix, at: Standing, place: Place, operand: &Expr) -> Result<Opti
     Ok(None)
 }
 
-// The front of a chain that ends with an operand, given the types of what stands before it and of the operand.
-pub(crate) fn front(
+/// The checks and the type of the front of a chain that ends with an operand, given the types of what stands before it and of the
+/// operand.
+pub fn front(
     op: Infix,
     at: Standing,
     place: Place,
@@ -197,8 +198,8 @@ pub(crate) fn front(
     }
 }
 
-// Is the chain read from the right? A chain of `->` has no other operator.
-pub(crate) fn is_from_right(links: &[Link]) -> bool
+/// Is the chain read from the right? A chain of `->` has no other operator.
+pub fn is_from_right(links: &[Link]) -> bool
     ensures { result ≡ is_from_right (links_of (map plain_link links.now)) }
 {
     match links.split_first() {
@@ -227,7 +228,8 @@ fn is_implies(op: Infix) -> bool
     }
 }
 
-fn are_unions(links: &[Link]) -> bool
+/// Are its operators all `union`?
+pub fn are_unions(links: &[Link]) -> bool
     ensures { result ≡ are_unions (links_of (map plain_link links.now)) }
 {
     for link in links {
@@ -238,15 +240,15 @@ fn are_unions(links: &[Link]) -> bool
     true
 }
 
-// The position of a chain's first operand: a set stands in a chain of `union`, where the whole may be one.
-pub(crate) fn across(links: &[Link], at: Standing) -> Standing
+/// Where a chain's first operand stands: it may be a set in a chain of `union`, where the whole may be one.
+pub fn across(links: &[Link], at: Standing) -> Standing
     ensures { standing_seen result ≡ across (links_of (map plain_link links.now)) (standing_seen at) }
 {
     if are_unions(links) { at } else { at.single() }
 }
 
-// The position of the operand behind an operator: behind `in` a set may stand.
-pub(crate) fn behind(op: Infix, at: Standing) -> Standing
+/// Where the operand behind an operator stands: behind `in` a set may stand.
+pub fn behind(op: Infix, at: Standing) -> Standing
     ensures { standing_seen result ≡ behind op (standing_seen at) }
 {
     match op {

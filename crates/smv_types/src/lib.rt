@@ -2,13 +2,13 @@
 #![tactic(auto)]
 
 mod arguments;
-mod calls;
-mod chains;
+pub mod calls;
+pub mod chains;
 mod ends;
 mod intervals;
-mod lists;
+pub mod lists;
 mod names;
-mod nodes;
+pub mod nodes;
 mod positions;
 #[cfg(test)]
 mod tests;
@@ -18,6 +18,6 @@ mod typing;
 pub use ends::CheckEnd;
 pub use intervals::{hull, kept};
 pub use names::{Named, Scope};
-pub use positions::Position;
+pub use positions::{Position, Standing};
 pub use types::Ty;
 pub use typing::type_of;

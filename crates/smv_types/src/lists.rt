@@ -148,31 +148,23 @@ fn gathering(place: Place, at: Standing, types: &Option<Vec<Ty>>) -> Result<Opti
     }
 }
 
-// The operands of a chain of `->`.
-pub(crate) fn implied(
-    alloc: Global,
-    place: Place,
-    types: &[Option<Ty>],
-) -> Result<Option<Ty>, CheckEnd>
+/// The checks and the type of a chain of `->`, given the types of its operands.
+pub fn implied(alloc: Global, place: Place, types: &[Option<Ty>]) -> Result<Option<Ty>, CheckEnd>
     ensures { Ends result (implies_step place (all_types (map (option_map seen) types.now))) }
 {
     let types = all_types(alloc, types)?;
     answered(implication(place, &types))
 }
 
-// The types of the conditions and of the values of branches.
+/// The types of the conditions and of the values of branches.
 #[derive(Drop)]
-pub(crate) struct BranchTypes {
-    pub(crate) conditions: Vec<Option<Ty>>,
-    pub(crate) values: Vec<Option<Ty>>,
+pub struct BranchTypes {
+    pub conditions: Vec<Option<Ty>>,
+    pub values: Vec<Option<Ty>>,
 }
 
-// The branches of a case or of a choice.
-pub(crate) fn branched(
-    alloc: Global,
-    place: Place,
-    types: &BranchTypes,
-) -> Result<Option<Ty>, CheckEnd>
+/// The checks and the type of a case or a choice.
+pub fn branched(alloc: Global, place: Place, types: &BranchTypes) -> Result<Option<Ty>, CheckEnd>
     ensures { Ends result (branches_step place (all_types (map (option_map seen) types.now.conditions.items)) (all_types (map (option_map seen) types.now.values.items))) }
 {
     let conditions = all_types(alloc, &types.conditions)?;
@@ -180,8 +172,8 @@ pub(crate) fn branched(
     answered(branching(place, &conditions, &values))
 }
 
-// The elements of a set.
-pub(crate) fn gathered(
+/// The checks and the type of a set, given the types of its elements.
+pub fn gathered(
     alloc: Global,
     place: Place,
     at: Standing,

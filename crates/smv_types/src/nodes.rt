@@ -16,7 +16,8 @@ use crate::types::Ty;
 use smv_text::Prefix;
 use text_core::{Place, Refusal};
 
-pub(crate) fn number(place: Place, n: u64) -> Result<Option<Ty>, Refusal>
+/// The checks and the type of a number.
+pub fn number(place: Place, n: u64) -> Result<Option<Ty>, Refusal>
     ensures { Answers result (number_step place n) }
 {
     match within(n as i128, n as i128) {
@@ -25,7 +26,8 @@ pub(crate) fn number(place: Place, n: u64) -> Result<Option<Ty>, Refusal>
     }
 }
 
-pub(crate) fn name(place: Place, at: Standing, named: Named) -> Result<Option<Ty>, Refusal>
+/// Those of a name, given what it is.
+pub fn name(place: Place, at: Standing, named: Named) -> Result<Option<Ty>, Refusal>
     ensures { Answers result (name_step place (standing_seen at) (named_seen named)) }
 {
     check(TYPE_CLASH, place, !named.is_instance)?;
@@ -58,7 +60,8 @@ fn signed_type(sign: Prefix, count: u32, t: Ty) -> Option<Ty>
     }
 }
 
-pub(crate) fn signed(
+/// Those of a sign that stands so many times before an operand of this type.
+pub fn signed(
     place: Place,
     sign: Prefix,
     count: u32,
@@ -78,7 +81,8 @@ pub(crate) fn signed(
     }
 }
 
-pub(crate) fn selected(
+/// Those of the bits of a word from the high end to the low end.
+pub fn selected(
     place: Place,
     operand: Option<Ty>,
     high: u64,
@@ -96,18 +100,16 @@ pub(crate) fn selected(
     }
 }
 
-pub(crate) fn following(
-    place: Place,
-    at: Standing,
-    operand: Option<Ty>,
-) -> Result<Option<Ty>, Refusal>
+/// Those of `next`, given the type of its operand.
+pub fn following(place: Place, at: Standing, operand: Option<Ty>) -> Result<Option<Ty>, Refusal>
     ensures { Answers result (next_step place (standing_seen at) (option_map seen operand)) }
 {
     check(NEXT_HERE, place, at.nexts)?;
     Ok(operand)
 }
 
-pub(crate) fn range(place: Place, at: Standing, low: i64, high: i64) -> Result<Option<Ty>, Refusal>
+/// Those of a range in a set.
+pub fn range(place: Place, at: Standing, low: i64, high: i64) -> Result<Option<Ty>, Refusal>
     ensures { Answers result (range_step place (standing_seen at) low high) }
 {
     match limited(low, high) {

@@ -22,19 +22,20 @@ pub enum Position {
     AssignFollowing,
 }
 
-// What may stand at a place within an expression.
+/// What may stand at a place within an expression.
 #[derive(Clone, Copy, Debug, PartialEq, Eq)]
-pub(crate) struct Standing {
-    // May inputs be reached?
-    pub(crate) inputs: bool,
-    // May `next` stand?
-    pub(crate) nexts: bool,
-    // May a set stand?
-    pub(crate) sets: bool,
+pub struct Standing {
+    /// May inputs be reached?
+    pub inputs: bool,
+    /// May `next` stand?
+    pub nexts: bool,
+    /// May a set stand?
+    pub sets: bool,
 }
 
 impl Standing {
-    pub(crate) fn of(position: Position) -> Standing
+    /// That of a whole expression.
+    pub fn of(position: Position) -> Standing
         ensures { standing_seen result ≡ position_seen position }
     {
         let (inputs, nexts, sets) = match position {
@@ -51,8 +52,8 @@ impl Standing {
         }
     }
 
-    // The same, where no set may stand.
-    pub(crate) fn single(self) -> Standing
+    /// The same, where no set may stand.
+    pub fn single(self) -> Standing
         ensures { standing_seen result ≡ single (standing_seen self) }
     {
         Standing {
@@ -61,14 +62,15 @@ impl Standing {
         }
     }
 
-    // The same, where a set may stand.
-    pub(crate) fn with_sets(self) -> Standing
+    /// The same, where a set may stand.
+    pub fn with_sets(self) -> Standing
         ensures { standing_seen result ≡ with_sets (standing_seen self) }
     {
         Standing { sets: true, ..self }
     }
 
-    pub(crate) fn under_next() -> Standing
+    /// That under `next`.
+    pub fn under_next() -> Standing
         ensures { standing_seen result ≡ under_next }
     {
         Standing {

@@ -1,0 +1,12 @@
+use Rattle.std.proofs.Common.{map}
+use Rattle.smv_text.specs.View.{plain}
+use Rattle.smv_meaning.specs.View.{instance_plain}
+use Rattle.smv_types.specs.View.{standing_seen, position_seen}
+use Rattle.smv_flat.specs.FlatView.{plain_flat}
+use Rattle.smv_flat.proofs.FormLemmas.{form_made}
+use Rattle.smv_flat.proofs.formulas.formula.Goals as goal
+
+pub returns : goal.returns
+returns g c =
+    form_made (g.N.Naming.names c.args.names.now) (map instance_plain c.args.table.now) c.args.i c.in_ok-owner.owner c.args.instance c.args.role (standing_seen c.of-at.result) (position_seen c.args.position)
+    (plain c.args.e.now) (plain_flat c.in_ok-x.x.expr) c.requires.typed c.of-at.ensures c.in_ok-owner.ensures c.in_ok-x.ensures.expr

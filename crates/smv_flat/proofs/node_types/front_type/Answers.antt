@@ -1,0 +1,4 @@
+use Rattle.smv_flat.proofs.node_types.front_type.Goals as goal
+
+pub returns : goal.returns
+returns c = c.settled.ensures _ _ c.front.ensures

@@ -1,0 +1,362 @@
+// Expressions over the numbers of items and symbols, each node with its type.
+ghost use Rattle.std.specs.Prelude.{◌≡◌, Bool, Option, Some, None, false, true, [], map, IfOk};
+ghost use Rattle.smv_text.specs.Tree.{links_of, branches_of, trees_of};
+ghost use Rattle.smv_text.specs.View.{plain, plain_link, plain_branch};
+ghost use Rattle.smv_meaning.specs.Types.{ExprType, truth_type};
+ghost use Rattle.smv_meaning.specs.Checks.{typing, single, condition_types, value_types, tree_types, literal_type};
+ghost use Rattle.smv_types.specs.View.{named_seen, standing_seen};
+ghost use Rattle.smv_types.specs.Steps.{number_step, name_step, next_step, range_step};
+ghost use Rattle.smv_flat.specs.FlatTree.{FlatTree, flat_truth, flat_number, flat_literal, flat_range, leaf_tree, flat_tree, flat_links, flat_branches, flat_trees, is_set, has_set};
+ghost use Rattle.smv_meaning.specs.View.{instance_plain};
+ghost use Rattle.smv_flat.specs.FlatItems.{origins_of, symbols_of, leaf_in};
+ghost use Rattle.smv_flat.specs.FlatOrigins.{leaf_plain, AreNumbers};
+ghost use Rattle.smv_flat.specs.FlatView.{IsNode, AreOperands, AreParts, AreCases, behind_types};
+
+use crate::expressions::{FlatExpr, FlatShape};
+use crate::naming::Naming;
+use crate::node_types::{name_type, next_type, number_type, range_type};
+use crate::nodes::{
+    Cases, Operands, Parts, Typed, add_branch, add_link, add_part, called, cased, chained, chosen,
+    gathered, prefixed, selected,
+};
+use crate::numbers::{Leaf, Numbers, leaf_at};
+use crate::symbols::Symbols;
+use smv_meaning::Table;
+use smv_text::{Branch, Expr, Link, Shape};
+use smv_types::chains::{across, behind};
+use smv_types::lists::BranchTypes;
+use smv_types::{Named, Standing, Ty};
+use std::alloc::Global;
+use text_core::{NoMemory, Place};
+use word_core::Word;
+
+fn truth_node(b: bool) -> Typed
+    ensures { IsNode result (flat_truth (Some truth_type) b) (Some truth_type) false }
+{
+    let ty = Some(Ty::Truth);
+    let shape = if b { FlatShape::True } else { FlatShape::False };
+    Typed {
+        expr: FlatExpr { ty, shape },
+        ty,
+        is_set: false,
+    }
+}
+
+fn number_node(place: Place, n: u64) -> Typed
+    ensures { IsNode result (flat_number (number_step place n).type n) (number_step place n).type false }
+{
+    let ty = number_type(place, n);
+    let shape = FlatShape::Number(n);
+    Typed {
+        expr: FlatExpr { ty, shape },
+        ty,
+        is_set: false,
+    }
+}
+
+#[tactic(auto, using(crate::proofs::FlatMade::literal_is))]
+fn literal_node(word: &Word) -> Typed
+    ensures { IsNode result (flat_literal (literal_type word.now) word.now) (literal_type word.now) false }
+{
+    let ty = Some(Ty::Bits(word.width()));
+    let shape = FlatShape::Literal(*word);
+    Typed {
+        expr: FlatExpr { ty, shape },
+        ty,
+        is_set: false,
+    }
+}
+
+fn name_node(place: Place, at: Standing, named: Named, leaf: Leaf, under: bool) -> Typed
+    ensures { IsNode result (leaf_tree (name_step place (standing_seen at) (named_seen named)).type under (leaf_plain leaf)) (name_step place (standing_seen at) (named_seen named)).type false }
+{
+    let ty = name_type(place, at, named);
+    let shape = match leaf {
+        Leaf::Item(k) => FlatShape::Item(k, under),
+        Leaf::Symbol(s) => FlatShape::Symbol(s),
+        Leaf::Nothing => FlatShape::False,
+    };
+    Typed {
+        expr: FlatExpr { ty, shape },
+        ty,
+        is_set: false,
+    }
+}
+
+fn range_node(place: Place, at: Standing, low: i64, high: i64) -> Typed
+    ensures { IsNode result (flat_range None low high) (range_step place (standing_seen at) low high).type true }
+{
+    let ty = range_type(place, at, low, high);
+    let shape = FlatShape::Range(low, high);
+    Typed {
+        expr: FlatExpr { ty: None, shape },
+        ty,
+        is_set: true,
+    }
+}
+
+// `next` is in the items below it.
+fn next_node(place: Place, at: Standing, operand: Typed) -> Typed
+    ensures { (tree : FlatTree) (type : Option ExprType) (set : Bool) → IsNode operand tree type set → IsNode result tree (next_step place (standing_seen at) type).type set }
+{
+    let ty = next_type(place, at, operand.ty);
+    Typed {
+        expr: operand.expr,
+        ty,
+        is_set: operand.is_set,
+    }
+}
+
+/// The flat form of an expression that stands at such a place in the numbered instance.
+#[cycle(flat_form)]
+pub fn flat<'a, 'n, N: Naming>(
+    alloc: Global,
+    names: &N,
+    table: &Table<'a>,
+    numbers: &Numbers<'a, 'n>,
+    symbols: &Symbols,
+    i: usize,
+    e: &'a Expr,
+    at: Standing,
+    under: bool,
+) -> Result<Typed, NoMemory>
+    requires numbers { AreNumbers (map instance_plain table.now) (origins_of (map instance_plain table.now)) numbers.now }
+    requires symbols { symbols.now ≡ symbols_of (map instance_plain table.now) }
+    ensures { IfOk result (λ x. IsNode x (flat_tree (N.names names.now i) (leaf_in (map instance_plain table.now) i) (standing_seen at) under (plain e.now)) (typing (N.names names.now i) (standing_seen at) (plain e.now)).type (is_set (plain e.now))) }
+{
+    let place = e.place;
+    match &e.shape {
+        Shape::True => Ok(truth_node(true)),
+        Shape::False => Ok(truth_node(false)),
+        Shape::Number(n) => Ok(number_node(place, *n)),
+        Shape::Literal(word) => Ok(literal_node(word)),
+        Shape::Name(path) => {
+            let leaf = leaf_at(alloc, table, numbers, symbols, i, path)?;
+            Ok(name_node(place, at, names.named(i, path), leaf, under))
+        }
+        Shape::Prefix(sign, count, operand) => {
+            let x = flat(
+                alloc,
+                names,
+                table,
+                numbers,
+                symbols,
+                i,
+                operand,
+                at.single(),
+                under,
+            )?;
+            prefixed(alloc, place, *sign, *count, x)
+        }
+        Shape::Chain(first, links) => {
+            let links = links.as_slice();
+            let at = across(links, at);
+            let x = flat(alloc, names, table, numbers, symbols, i, first, at, under)?;
+            let operands = flat_links(alloc, names, table, numbers, symbols, i, links, at, under)?;
+            chained(alloc, place, at, x, links, operands)
+        }
+        Shape::Choice(branches, last) => {
+            let cases = flat_branches(
+                alloc,
+                names,
+                table,
+                numbers,
+                symbols,
+                i,
+                branches.as_slice(),
+                at,
+                under,
+            )?;
+            let x = flat(alloc, names, table, numbers, symbols, i, last, at, under)?;
+            chosen(alloc, place, cases, x)
+        }
+        Shape::Case(branches) => {
+            let cases = flat_branches(
+                alloc,
+                names,
+                table,
+                numbers,
+                symbols,
+                i,
+                branches.as_slice(),
+                at,
+                under,
+            )?;
+            cased(alloc, place, cases)
+        }
+        Shape::Select(operand, high, low) => {
+            let x = flat(
+                alloc,
+                names,
+                table,
+                numbers,
+                symbols,
+                i,
+                operand,
+                at.single(),
+                under,
+            )?;
+            selected(alloc, place, x, *high, *low)
+        }
+        Shape::Call(function, arguments) => {
+            let arguments = arguments.as_slice();
+            let parts = flat_parts(
+                alloc,
+                names,
+                table,
+                numbers,
+                symbols,
+                i,
+                arguments,
+                at.single(),
+                under,
+            )?;
+            called(alloc, place, *function, arguments, parts)
+        }
+        Shape::Next(operand) => {
+            let x = flat(
+                alloc,
+                names,
+                table,
+                numbers,
+                symbols,
+                i,
+                operand,
+                Standing::under_next(),
+                true,
+            )?;
+            Ok(next_node(place, at, x))
+        }
+        Shape::Set(elements) => {
+            let parts = flat_parts(
+                alloc,
+                names,
+                table,
+                numbers,
+                symbols,
+                i,
+                elements.as_slice(),
+                at,
+                under,
+            )?;
+            gathered(alloc, place, at, parts)
+        }
+        Shape::Range(low, high) => Ok(range_node(place, at, *low, *high)),
+    }
+}
+
+#[cycle(flat_form)]
+fn flat_links<'a, 'n, N: Naming>(
+    alloc: Global,
+    names: &N,
+    table: &Table<'a>,
+    numbers: &Numbers<'a, 'n>,
+    symbols: &Symbols,
+    i: usize,
+    links: &'a [Link],
+    at: Standing,
+    under: bool,
+) -> Result<Operands, NoMemory>
+    requires numbers { AreNumbers (map instance_plain table.now) (origins_of (map instance_plain table.now)) numbers.now }
+    requires symbols { symbols.now ≡ symbols_of (map instance_plain table.now) }
+    ensures { IfOk result (λ x. AreOperands x (flat_links (N.names names.now i) (leaf_in (map instance_plain table.now) i) (standing_seen at) under (links_of (map plain_link links.now))) (behind_types (N.names names.now i) (standing_seen at) (links_of (map plain_link links.now)))) }
+{
+    let mut operands = Operands {
+        links: Vec::new(alloc),
+        types: Vec::new(alloc),
+    };
+    for link in links {
+        let x = flat(
+            alloc,
+            names,
+            table,
+            numbers,
+            symbols,
+            i,
+            &link.operand,
+            behind(link.op, at),
+            under,
+        )?;
+        add_link(&mut operands, link.op, x)?;
+    }
+    Ok(operands)
+}
+
+#[cycle(flat_form)]
+fn flat_branches<'a, 'n, N: Naming>(
+    alloc: Global,
+    names: &N,
+    table: &Table<'a>,
+    numbers: &Numbers<'a, 'n>,
+    symbols: &Symbols,
+    i: usize,
+    branches: &'a [Branch],
+    at: Standing,
+    under: bool,
+) -> Result<Cases, NoMemory>
+    requires numbers { AreNumbers (map instance_plain table.now) (origins_of (map instance_plain table.now)) numbers.now }
+    requires symbols { symbols.now ≡ symbols_of (map instance_plain table.now) }
+    ensures { IfOk result (λ x. AreCases x (flat_branches (N.names names.now i) (leaf_in (map instance_plain table.now) i) (standing_seen at) under (branches_of (map plain_branch branches.now))) (condition_types (N.names names.now i) (single (standing_seen at)) (branches_of (map plain_branch branches.now))) (value_types (N.names names.now i) (standing_seen at) (branches_of (map plain_branch branches.now)) []) (has_set (branches_of (map plain_branch branches.now)))) }
+{
+    let mut cases = Cases {
+        branches: Vec::new(alloc),
+        types: BranchTypes {
+            conditions: Vec::new(alloc),
+            values: Vec::new(alloc),
+        },
+        has_set: false,
+    };
+    for branch in branches {
+        let when = flat(
+            alloc,
+            names,
+            table,
+            numbers,
+            symbols,
+            i,
+            &branch.when,
+            at.single(),
+            under,
+        )?;
+        let value = flat(
+            alloc,
+            names,
+            table,
+            numbers,
+            symbols,
+            i,
+            &branch.value,
+            at,
+            under,
+        )?;
+        add_branch(&mut cases, when, value)?;
+    }
+    Ok(cases)
+}
+
+#[cycle(flat_form)]
+fn flat_parts<'a, 'n, N: Naming>(
+    alloc: Global,
+    names: &N,
+    table: &Table<'a>,
+    numbers: &Numbers<'a, 'n>,
+    symbols: &Symbols,
+    i: usize,
+    parts: &'a [Expr],
+    at: Standing,
+    under: bool,
+) -> Result<Parts, NoMemory>
+    requires numbers { AreNumbers (map instance_plain table.now) (origins_of (map instance_plain table.now)) numbers.now }
+    requires symbols { symbols.now ≡ symbols_of (map instance_plain table.now) }
+    ensures { IfOk result (λ x. AreParts x (flat_trees (N.names names.now i) (leaf_in (map instance_plain table.now) i) (standing_seen at) under (trees_of (map plain parts.now))) (tree_types (N.names names.now i) (standing_seen at) (trees_of (map plain parts.now)))) }
+{
+    let mut all = Parts {
+        exprs: Vec::new(alloc),
+        types: Vec::new(alloc),
+    };
+    for part in parts {
+        let x = flat(alloc, names, table, numbers, symbols, i, part, at, under)?;
+        add_part(&mut all, x)?;
+    }
+    Ok(all)
+}

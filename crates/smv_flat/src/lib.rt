@@ -1,0 +1,27 @@
+//! The flat form of SMV models: items and formulas over their numbers, and what they say of rows of values.
+#![tactic(auto)]
+
+mod expressions;
+mod flat;
+mod forms;
+mod formulas;
+mod items;
+mod laws;
+mod naming;
+mod node_types;
+mod nodes;
+mod numbers;
+mod origins;
+mod symbols;
+
+pub use expressions::{
+    FlatBranch, FlatBranches, FlatExpr, FlatExprs, FlatLink, FlatLinks, FlatShape,
+};
+pub use forms::{FlatFormula, Role};
+pub use formulas::formulas_in;
+pub use items::{FlatItem, ItemKind};
+pub use laws::{row_is_one, row_is_there, same_truth};
+pub use naming::Naming;
+pub use numbers::{Bodies, Numbers, numbers_of, paths_of};
+pub use origins::{Content, Origin, Origins, origins_in};
+pub use symbols::{Symbols, symbols_in};

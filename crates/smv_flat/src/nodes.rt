@@ -1,0 +1,306 @@
+// Single nodes of flat expressions, each with its full type and whether it is a set.
+ghost use Rattle.std.specs.Prelude.{◌≡◌, Bool, true, false, ◌||◌, ◌++◌, ◌∷◌, [], List, Option, None, map, option_map, IfOk, OnOk};
+ghost use Rattle.smv_text.specs.Tree.{links_of, trees_of};
+ghost use Rattle.smv_text.specs.View.{plain, plain_link};
+ghost use Rattle.smv_meaning.specs.Types.{ExprType, numbers_of};
+ghost use Rattle.smv_meaning.specs.Checks.{all_types, are_unions};
+ghost use Rattle.smv_types.specs.View.{seen, standing_seen};
+ghost use Rattle.smv_types.specs.Steps.{prefix_step, select_step, branches_step, call_step, set_step};
+ghost use Rattle.smv_flat.specs.FlatTree.{FlatTree, FlatLinks as PlainLinks, FlatBranches as PlainBranches, FlatTrees as PlainTrees, flat_prefix, flat_chain, flat_choice, flat_cases, flat_select, flat_call, flat_set, unless_set};
+ghost use Rattle.smv_flat.specs.FlatView.{plain_flat, plain_flat_link, plain_flat_branch, IsNode, AreOperands, AreParts, AreCases, chain_type};
+
+use crate::expressions::{
+    FlatBranch, FlatBranches, FlatExpr, FlatExprs, FlatLink, FlatLinks, FlatShape,
+};
+use crate::node_types::{
+    branches_type, call_type, fronts_type, implies_type, prefix_type, select_type, set_type,
+};
+use smv_text::{Expr, Function, Infix, Link, Prefix};
+use smv_types::chains::{are_unions, is_from_right};
+use smv_types::lists::BranchTypes;
+use smv_types::{Standing, Ty};
+use std::alloc::Global;
+use text_core::{NoMemory, Place};
+
+/// A flat expression, its type, which a set has too, and whether it is a set.
+#[derive(Drop)]
+pub struct Typed {
+    pub expr: FlatExpr,
+    pub ty: Option<Ty>,
+    pub is_set: bool,
+}
+
+/// The operands behind the operators of a chain, and their types.
+#[derive(Drop)]
+pub struct Operands {
+    pub links: FlatLinks,
+    pub types: Vec<Option<Ty>>,
+}
+
+/// Arguments or elements, and their types.
+#[derive(Drop)]
+pub struct Parts {
+    pub exprs: FlatExprs,
+    pub types: Vec<Option<Ty>>,
+}
+
+/// Branches, their types, and whether a value is a set.
+#[derive(Drop)]
+pub struct Cases {
+    pub branches: FlatBranches,
+    pub types: BranchTypes,
+    pub has_set: bool,
+}
+
+fn boxed(alloc: Global, expr: FlatExpr) -> Result<Box<FlatExpr>, NoMemory>
+    ensures { IfOk result (λ b. b.value ≡ expr) }
+{
+    match Box::new(alloc, expr) {
+        Ok(own) => Ok(own),
+        Err(_) => Err(NoMemory),
+    }
+}
+
+// What doesn't fit 32 bits stands in no accepted model.
+fn small(n: u64) -> Result<u32, NoMemory>
+    ensures { IfOk result (λ m. m ≡ n) }
+{
+    match u32::try_from(n) {
+        Ok(m) => Ok(m),
+        Err(_) => Err(NoMemory),
+    }
+}
+
+// A set has no type of its own.
+fn own_type(is_set: bool, ty: Option<Ty>) -> Option<Ty>
+    ensures { option_map seen result ≡ unless_set is_set (option_map seen ty) }
+{
+    if is_set { None } else { ty }
+}
+
+/// An operand behind a sign.
+pub fn prefixed(
+    alloc: Global,
+    place: Place,
+    sign: Prefix,
+    count: u32,
+    operand: Typed,
+) -> Result<Typed, NoMemory>
+    ensures { (tree : FlatTree) (type : Option ExprType) (set : Bool) → IsNode operand tree type set → IfOk result (λ x. IsNode x (flat_prefix (prefix_step place sign count type).type sign count tree) (prefix_step place sign count type).type false) }
+{
+    let ty = prefix_type(place, sign, count, operand.ty);
+    let inner = boxed(alloc, operand.expr)?;
+    let shape = FlatShape::Prefix(sign, count, inner);
+    Ok(Typed {
+        expr: FlatExpr { ty, shape },
+        ty,
+        is_set: false,
+    })
+}
+
+/// Bits of a word.
+pub fn selected(
+    alloc: Global,
+    place: Place,
+    operand: Typed,
+    high: u64,
+    low: u64,
+) -> Result<Typed, NoMemory>
+    ensures { (tree : FlatTree) (type : Option ExprType) (set : Bool) → IsNode operand tree type set → IfOk result (λ x. IsNode x (flat_select (select_step place high low type).type tree high low) (select_step place high low type).type false) }
+{
+    let ty = select_type(place, operand.ty, high, low);
+    let inner = boxed(alloc, operand.expr)?;
+    let shape = FlatShape::Select(inner, small(high)?, small(low)?);
+    Ok(Typed {
+        expr: FlatExpr { ty, shape },
+        ty,
+        is_set: false,
+    })
+}
+
+// The type of a chain.
+fn chain_type(
+    alloc: Global,
+    place: Place,
+    at: Standing,
+    first: Option<Ty>,
+    links: &[Link],
+    types: &[Option<Ty>],
+) -> Result<Option<Ty>, NoMemory>
+    ensures { IfOk result (λ o. option_map seen o ≡ chain_type (standing_seen at) place (option_map seen first) (links_of (map plain_link links.now)) (map (option_map seen) types.now)) }
+{
+    if is_from_right(links) {
+        implies_type(alloc, place, first, types)
+    } else {
+        Ok(fronts_type(at, place, first, links, types))
+    }
+}
+
+/// A chain, whose operands stand in this position or behind their operators.
+pub fn chained(
+    alloc: Global,
+    place: Place,
+    at: Standing,
+    first: Typed,
+    links: &[Link],
+    operands: Operands,
+) -> Result<Typed, NoMemory>
+    ensures { (tree : FlatTree) (type : Option ExprType) (set : Bool) (ls : PlainLinks) (ts : List (Option ExprType)) → IsNode first tree type set → AreOperands operands ls ts → IfOk result (λ x. IsNode x (flat_chain (unless_set (are_unions (links_of (map plain_link links.now))) (chain_type (standing_seen at) place type (links_of (map plain_link links.now)) ts)) tree ls) (chain_type (standing_seen at) place type (links_of (map plain_link links.now)) ts) (are_unions (links_of (map plain_link links.now)))) }
+{
+    let ty = chain_type(alloc, place, at, first.ty, links, &operands.types)?;
+    let is_set = are_unions(links);
+    let inner = boxed(alloc, first.expr)?;
+    let shape = FlatShape::Chain(inner, operands.links);
+    Ok(Typed {
+        expr: FlatExpr {
+            ty: own_type(is_set, ty),
+            shape,
+        },
+        ty,
+        is_set,
+    })
+}
+
+/// A choice, with what stands behind its last colon.
+pub fn chosen(alloc: Global, place: Place, cases: Cases, last: Typed) -> Result<Typed, NoMemory>
+    ensures { (bs : PlainBranches) (cs vs : List (Option ExprType)) (some : Bool) (tree : FlatTree) (type : Option ExprType) (set : Bool) → AreCases cases bs cs vs some → IsNode last tree type set → IfOk result (λ x. IsNode x (flat_choice (unless_set (some || set) (branches_step place (all_types cs) (all_types (vs ++ type ∷ []))).type) bs tree) (branches_step place (all_types cs) (all_types (vs ++ type ∷ []))).type (some || set)) }
+{
+    let Cases {
+        branches,
+        mut types,
+        has_set,
+    } = cases;
+    match types.values.push(last.ty) {
+        Ok(()) => {}
+        Err(_) => return Err(NoMemory),
+    }
+    let ty = branches_type(alloc, place, &types)?;
+    let is_set = has_set || last.is_set;
+    let inner = boxed(alloc, last.expr)?;
+    let shape = FlatShape::Choice(branches, inner);
+    Ok(Typed {
+        expr: FlatExpr {
+            ty: own_type(is_set, ty),
+            shape,
+        },
+        ty,
+        is_set,
+    })
+}
+
+/// A case.
+pub fn cased(alloc: Global, place: Place, cases: Cases) -> Result<Typed, NoMemory>
+    ensures { (bs : PlainBranches) (cs vs : List (Option ExprType)) (some : Bool) → AreCases cases bs cs vs some → IfOk result (λ x. IsNode x (flat_cases (unless_set some (branches_step place (all_types cs) (all_types vs)).type) bs) (branches_step place (all_types cs) (all_types vs)).type some) }
+{
+    let ty = branches_type(alloc, place, &cases.types)?;
+    let is_set = cases.has_set;
+    let shape = FlatShape::Case(cases.branches);
+    Ok(Typed {
+        expr: FlatExpr {
+            ty: own_type(is_set, ty),
+            shape,
+        },
+        ty,
+        is_set,
+    })
+}
+
+/// A call of a function.
+pub fn called(
+    alloc: Global,
+    place: Place,
+    function: Function,
+    arguments: &[Expr],
+    parts: Parts,
+) -> Result<Typed, NoMemory>
+    ensures { (es : PlainTrees) (ts : List (Option ExprType)) → AreParts parts es ts → IfOk result (λ x. IsNode x (flat_call (call_step place function (all_types ts) (numbers_of (trees_of (map plain arguments.now)))).type function es) (call_step place function (all_types ts) (numbers_of (trees_of (map plain arguments.now)))).type false) }
+{
+    let ty = call_type(alloc, place, function, &parts.types, arguments)?;
+    let shape = FlatShape::Call(function, parts.exprs);
+    Ok(Typed {
+        expr: FlatExpr { ty, shape },
+        ty,
+        is_set: false,
+    })
+}
+
+/// A set of elements.
+pub fn gathered(alloc: Global, place: Place, at: Standing, parts: Parts) -> Result<Typed, NoMemory>
+    ensures { (es : PlainTrees) (ts : List (Option ExprType)) → AreParts parts es ts → IfOk result (λ x. IsNode x (flat_set None es) (set_step place (standing_seen at) (all_types ts)).type true) }
+{
+    let ty = set_type(alloc, place, at, &parts.types)?;
+    let shape = FlatShape::Set(parts.exprs);
+    Ok(Typed {
+        expr: FlatExpr { ty: None, shape },
+        ty,
+        is_set: true,
+    })
+}
+
+/// Puts an operand behind an operator at the end.
+pub fn add_link(operands: &mut Operands, op: Infix, operand: Typed) -> Result<(), NoMemory>
+    ensures links { OnOk result (map plain_flat_link operands.new.links.items ≡ map plain_flat_link operands.old.links.items ++ (op, plain_flat operand.expr) ∷ []) }
+    ensures types { OnOk result (map (option_map seen) operands.new.types.items ≡ map (option_map seen) operands.old.types.items ++ option_map seen operand.ty ∷ []) }
+{
+    match operands.types.push(operand.ty) {
+        Ok(()) => {}
+        Err(_) => return Err(NoMemory),
+    }
+    match operands.links.push(FlatLink {
+        op,
+        operand: operand.expr,
+    }) {
+        Ok(()) => Ok(()),
+        Err(_) => Err(NoMemory),
+    }
+}
+
+/// Puts an argument or an element at the end.
+pub fn add_part(parts: &mut Parts, part: Typed) -> Result<(), NoMemory>
+    ensures exprs { OnOk result (map plain_flat parts.new.exprs.items ≡ map plain_flat parts.old.exprs.items ++ plain_flat part.expr ∷ []) }
+    ensures types { OnOk result (map (option_map seen) parts.new.types.items ≡ map (option_map seen) parts.old.types.items ++ option_map seen part.ty ∷ []) }
+{
+    match parts.types.push(part.ty) {
+        Ok(()) => {}
+        Err(_) => return Err(NoMemory),
+    }
+    match parts.exprs.push(part.expr) {
+        Ok(()) => Ok(()),
+        Err(_) => Err(NoMemory),
+    }
+}
+
+fn either(a: bool, b: bool) -> bool
+    ensures { result ≡ (a || b) }
+{
+    a || b
+}
+
+/// Puts a branch at the end.
+pub fn add_branch(cases: &mut Cases, when: Typed, value: Typed) -> Result<(), NoMemory>
+    ensures branches { OnOk result (map plain_flat_branch cases.new.branches.items ≡ map plain_flat_branch cases.old.branches.items ++ (plain_flat when.expr, plain_flat value.expr) ∷ []) }
+    ensures conditions { OnOk result (map (option_map seen) cases.new.types.conditions.items ≡ map (option_map seen) cases.old.types.conditions.items ++ option_map seen when.ty ∷ []) }
+    ensures values { OnOk result (map (option_map seen) cases.new.types.values.items ≡ map (option_map seen) cases.old.types.values.items ++ option_map seen value.ty ∷ []) }
+    ensures set { OnOk result (cases.new.has_set ≡ (cases.old.has_set || value.is_set)) }
+{
+    cases.has_set = either(cases.has_set, value.is_set);
+    match cases.types.conditions.push(when.ty) {
+        Ok(()) => {}
+        Err(_) => return Err(NoMemory),
+    }
+    match cases.types.values.push(value.ty) {
+        Ok(()) => {}
+        Err(_) => return Err(NoMemory),
+    }
+    push_branch(&mut cases.branches, when.expr, value.expr)
+}
+
+#[tactic(auto, using(crate::proofs::FlatViews::branch_pushed))]
+fn push_branch(branches: &mut FlatBranches, when: FlatExpr, value: FlatExpr) -> Result<(), NoMemory>
+    ensures { OnOk result (map plain_flat_branch branches.new.items ≡ map plain_flat_branch branches.old.items ++ (plain_flat when, plain_flat value) ∷ []) }
+{
+    match branches.push(FlatBranch { when, value }) {
+        Ok(()) => Ok(()),
+        Err(_) => Err(NoMemory),
+    }
+}
