@@ -34,5 +34,5 @@ pub mod Positions
 pub mod RowReads
 pub mod Reaching
 pub mod Filling
-pub mod Keeping
 pub mod ConjunctionLaws
+pub mod DottedLemmas

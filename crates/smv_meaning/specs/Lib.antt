@@ -20,5 +20,6 @@ pub mod Literals
 pub mod Parts
 pub mod Checked
 pub mod Leads
+pub mod Dotting
 pub mod Rows
 pub mod Conjunctions
