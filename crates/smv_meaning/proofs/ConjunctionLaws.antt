@@ -116,7 +116,7 @@ all_conjunctions t fs e h k x = by (local t k x) refl
 
 -- by what is kept
 pub conjunction_kept : {S : Type 0} (ts : List PartOf) → Acyclic (map instance_plain ts) → (i : ℕ) (e : Tree) → is_conjunction e ≡ true → (marks : HashMap (ℕ × Bor (List ℕ)) Bool S) → MarksStart (map instance_plain ts) i e marks
-    → (row : Row) (label : Values) → AreGiven ts row.state → AreGiven ts label → MarkedKept ts marks row label
+    → (row : Row) (label : Values) → AreGiven row.state → AreGiven label → MarkedKept ts marks row label
     → Safe (IsKept ts i row label) (IsKept ts i row label) (row_reads ts i row label) (row_reads ts i row label) e
 conjunction_kept ts a i e h marks start row label right labelled all =
     safely_kept ts a (λ q. Unit {0}) (λ q. Unit {0}) i row row label e (conjunction_safe (row_values ts row label i) e h) (λ q g. (each q g, each q g))

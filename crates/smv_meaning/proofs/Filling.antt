@@ -44,7 +44,7 @@ found_kept ts order marks row label n h none u s = tt
 
 -- a marked one at a place is safely evaluated
 pub ready : {S : Type 0} (ts : List PartOf) (order : List ℕ) → IsFormulaOrder (map instance_plain ts) order → (marks : HashMap (ℕ × Bor (List ℕ)) Bool S) → MarksClosed (map instance_plain ts) marks
-    → (row : Row) (label : Values) → AreGiven ts row.state → AreGiven ts label → MarkedSafe (map instance_plain ts) marks (stated row.state.given) (stated label.given)
+    → (row : Row) (label : Values) → AreGiven row.state → AreGiven label → MarkedSafe (map instance_plain ts) marks (stated row.state.given) (stated label.given)
     → (n : ℕ) → n < length order → KeptUpto ts order marks row label n → (i : ℕ) (x : List ℕ) → at_place (map instance_plain ts) order n ≡ key i x → is_marked marks i x ≡ true
     → LocalReady ts row label (local (map instance_plain ts) i x)
 ready ts order o marks closed row label right labelled safe n l h i x at marked = by (local (map instance_plain ts) i x) refl (safe i x marked)

@@ -34,7 +34,7 @@ pub mod Positions
 pub mod RowReads
 pub mod Reaching
 pub mod Filling
-pub mod Keeping
 pub mod Passing
 pub mod StandingBefore
 pub mod ConjunctionLaws
+pub mod DottedLemmas

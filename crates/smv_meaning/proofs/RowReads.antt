@@ -80,12 +80,12 @@ pub reads_are : (ts : List PartOf) → Acyclic (map instance_plain ts) → (i : 
 unfolding row_reads
 reads_are ts a i row label = fun_ext (λ path. sym (values_settle_law (map instance_plain ts) a (stated row.state.given) (stated label.given) i path))
 
-pub kept : (ts : List PartOf) (i : ℕ) (row : Row) (label : Values) (q : Path) → AreGiven ts row.state → AreGiven ts label → FoundKept ts row label (found_here ts i q) → IsKept ts i row label q
+pub kept : (ts : List PartOf) (i : ℕ) (row : Row) (label : Values) (q : Path) → AreGiven row.state → AreGiven label → FoundKept ts row label (found_here ts i q) → IsKept ts i row label q
 unfolding IsKept
 kept ts i row label q s l f = (s, l, f)
 
 -- what is owed of a name
-pub is_kept : (ts : List PartOf) (i : ℕ) (row : Row) (label : Values) (q : Path) → IsKept ts i row label q → AreGiven ts row.state × AreGiven ts label × FoundKept ts row label (found_here ts i q)
+pub is_kept : (ts : List PartOf) (i : ℕ) (row : Row) (label : Values) (q : Path) → IsKept ts i row label q → AreGiven row.state × AreGiven label × FoundKept ts row label (found_here ts i q)
 unfolding IsKept
 is_kept ts i row label q h = h
 

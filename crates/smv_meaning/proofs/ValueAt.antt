@@ -86,7 +86,7 @@ marked_safe t i e state label following a marks least s gives k x m =
 -- a row of a state, in which all that is marked is kept
 pub record IsRow {S : Type 0} (ts : List PartOf) (marks : HashMap (ℕ × Bor (List ℕ)) Bool S) (row : Row) (label : Values) (values : Valuation) : Type 0 where
   pub state : stated row.state.given ≡ values
-  pub right : AreGiven ts row.state
+  pub right : AreGiven row.state
   pub kept : MarkedKept ts marks row label
 
 pub found_kept : {S : Type 0} (ts : List PartOf) (marks : HashMap (ℕ × Bor (List ℕ)) Bool S) (row : Row) (label : Values) → MarkedKept ts marks row label → (rank : ℕ)
@@ -99,7 +99,7 @@ found_kept ts marks row label h rank cyclic u s = tt
 found_kept ts marks row label h rank none u s = tt
 
 pub safe_at : {S : Type 0} (ts : List PartOf) (i : ℕ) (e : Tree) (state : Valuation) (label following : States) → Asked (map instance_plain ts) i e state label following
-    → (marks : HashMap (ℕ × Bor (List ℕ)) Bool S) → MarksStart (map instance_plain ts) i e marks → (here later : Row) (labels : Values) → labels.given ≡ label → AreGiven ts labels
+    → (marks : HashMap (ℕ × Bor (List ℕ)) Bool S) → MarksStart (map instance_plain ts) i e marks → (here later : Row) (labels : Values) → labels.given ≡ label → AreGiven labels
     → IsRow ts marks here labels state → IsRow ts marks later labels (following_or state following)
     → Safe (IsKept ts i here labels) (IsKept ts i later labels) (row_reads ts i here labels) (row_reads ts i later labels) e
 safe_at ts i e state label following a marks start here later labels el right r s =
@@ -113,7 +113,7 @@ safe_at ts i e state label following a marks start here later labels el right r 
     safely_kept ts (acyclic (map instance_plain ts) a.checked) (P state) (P (following_or state following)) i here later labels e third
     (λ q g. (each here r.right r.kept q g, each later s.right s.kept q g))
   where
-    each : (row : Row) → AreGiven ts row.state → MarkedKept ts marks row labels → (q : Path) → In q (paths_of e []) → IsKept ts i row labels q
+    each : (row : Row) → AreGiven row.state → MarkedKept ts marks row labels → (q : Path) → In q (paths_of e []) → IsKept ts i row labels q
     each row k h q g =
         kept ts i row labels q k right
         (found_kept ts marks row labels h (steps_of (map instance_plain ts)) (found_in (map instance_plain ts) i q)

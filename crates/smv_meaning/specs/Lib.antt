@@ -20,6 +20,7 @@ pub mod Literals
 pub mod Parts
 pub mod Checked
 pub mod Leads
+pub mod Dotting
 pub mod Rows
 pub mod Orders
 pub mod Conjunctions

@@ -2,11 +2,12 @@
 use Rattle.std.specs.Prelude.{◌≡◌, ℕ, ◌==◌, ◌&&◌, Bool, true, false, List, [], map, Option, Some, None, is_some, bytes_eq}
 use Rattle.std.specs.List.{list_any}
 use Rattle.std.specs.Borrow.{Bor}
-use Rattle.std.specs.HashMap.{HashMap}
+use Rattle.std.specs.HashMap.{HashMap, get_by}
 use Rattle.smv_text.specs.declared.tree.Path.{Path}
 use Rattle.smv_text.specs.Tree.{Tree}
 use Rattle.smv_meaning.specs.declared.value.Value.{Value}
 use Rattle.smv_meaning.specs.declared.seen.Seen.{Seen}
+use Rattle.smv_meaning.specs.declared.dotted.Dotted.{Dotted}
 use Rattle.smv_meaning.specs.declared.rows.Values.{Values}
 use Rattle.smv_meaning.specs.declared.rows.Row.{Row}
 use Rattle.smv_meaning.specs.declared.reached.Reach.{Reach}
@@ -14,8 +15,9 @@ use Rattle.smv_meaning.specs.Formulas.{placed_formulas, IsFormulaOrder}
 use Rattle.smv_meaning.specs.declared.table.Instance.{Instance as PartOf}
 use Rattle.smv_meaning.specs.Values.{Valuation, no_value}
 use Rattle.smv_meaning.specs.Expressions.{denote, paths_of}
-use Rattle.smv_meaning.specs.Instances.{Instance}
-use Rattle.smv_meaning.specs.Names.{Local, formula, local, Found, body_at, found_in, dotted_at}
+use Rattle.smv_meaning.specs.Instances.{Instance, dotted}
+use Rattle.smv_meaning.specs.Dotting.{dotted_name}
+use Rattle.smv_meaning.specs.Names.{Local, formula, local, Found, body_at, found_in}
 use Rattle.smv_meaning.specs.Meaning.{value_found}
 use Rattle.smv_meaning.specs.NameMap.{named_in}
 use Rattle.smv_meaning.specs.Safety.{Safe}
@@ -29,17 +31,13 @@ abbrev pub found_value : Option (Bor Value) → Value
 found_value None = no_value
 found_value (Some v) = v.now
 
--- nothing is kept, or this value
-abbrev pub MayKeep : Option Seen → Value → Type 0
-MayKeep None v = Unit {0}
-MayKeep (Some s) v = seen_value s ≡ v
+-- the value of a dotted name
+abbrev pub at_dotted : {X S : Type 0} → HashMap Dotted X S → List ℕ → List ℕ → Option X
+at_dotted m p x = get_by (λ k. bytes_eq (dotted p x) (dotted_name k)) m
 
--- what is kept of names is what the state gives these
-abbrev pub KeepsGiven : {S : Type 0} → List PartOf → Valuation → HashMap (ℕ × Bor (List ℕ)) Seen S → Type 0
-KeepsGiven ts state kept = (k : ℕ) (x : List ℕ) → MayKeep (named_in kept k x) (state (dotted_at (map instance_plain ts) k x))
-
-abbrev pub AreGiven : List PartOf → Values → Type 0
-AreGiven ts values = KeepsGiven ts (stated values.given) values.kept
+-- each name has the value that the state gives it
+abbrev pub AreGiven : Values → Type 0
+AreGiven values = (p : List ℕ) (x : List ℕ) → found_value (at_dotted values.named p x) ≡ stated values.given (dotted p x)
 
 -- ---- values of names
 
@@ -63,7 +61,7 @@ FoundKept ts row label m = Unit {0}
 
 -- what is owed of a name, so that its value is read in the row
 unfoldable pub IsKept : List PartOf → ℕ → Row → Values → Path → Type 0
-IsKept ts i row label path = AreGiven ts row.state × AreGiven ts label × FoundKept ts row label (found_here ts i path)
+IsKept ts i row label path = AreGiven row.state × AreGiven label × FoundKept ts row label (found_here ts i path)
 
 -- ---- what an expression reaches
 

@@ -69,8 +69,8 @@ fn keep_all<'a>(
     requires ordered { IsOrdered (map instance_plain table.now) reach.now }
     requires closed { MarksClosed (map instance_plain table.now) reach.now.marks }
     requires safe { MarkedSafe (map instance_plain table.now) reach.now.marks (stated row.old.state.given) (stated label.now.given) }
-    requires state { AreGiven table.now row.old.state }
-    requires label { AreGiven table.now label.now }
+    requires state { AreGiven row.old.state }
+    requires label { AreGiven label.now }
     ensures state { OnOk result (row.new.state ≡ row.old.state) }
     ensures kept { OnOk result (MarkedKept table.now reach.now.marks row.new label.now) }
 {
@@ -93,13 +93,13 @@ pub fn row_of<'a>(
     requires ordered { IsOrdered (map instance_plain table.now) reach.now }
     requires closed { MarksClosed (map instance_plain table.now) reach.now.marks }
     requires safe { MarkedSafe (map instance_plain table.now) reach.now.marks (given state.now) (stated label.now.given) }
-    requires label { AreGiven table.now label.now }
+    requires label { AreGiven label.now }
     ensures given { IfOk result (λ r. r.state.given ≡ Some state.entry) }
-    ensures state { IfOk result (λ r. AreGiven table.now r.state) }
+    ensures state { IfOk result (λ r. AreGiven r.state) }
     ensures kept { IfOk result (λ r. MarkedKept table.now reach.now.marks r label.now) }
 {
     let mut row = Row {
-        state: values_of(alloc, table, Some(state))?,
+        state: values_of(alloc, Some(state))?,
         formulas: nothing_kept(alloc),
     };
     keep_all(table, reach, label, &mut row)?;

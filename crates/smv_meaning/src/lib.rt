@@ -4,6 +4,7 @@
 mod aliases;
 mod checked;
 mod children;
+mod dotted;
 mod evaluate;
 mod fill;
 mod formulas;

@@ -69,7 +69,7 @@ pub fn value_at<'a>(
     let i = number_of(parts.as_slice(), instance.bytes());
     let table = Table::over(alloc, parts)?;
     let reach = reach_of(alloc, &table, i, expr)?;
-    let label = values_of(alloc, &table, label)?;
+    let label = values_of(alloc, label)?;
     let here = row_of(alloc, &table, &reach, now, &label)?;
     match following {
         None => owned(alloc, evaluate(&table, i, expr, &here, &label, &here)),

@@ -3,17 +3,17 @@ ghost use Rattle.std.specs.Prelude.{◌≡◌, ◌<◌, ◌&&◌, ◌==◌, List
 ghost use Rattle.smv_meaning.specs.Values.{given};
 ghost use Rattle.smv_meaning.specs.Names.{dotted_at};
 ghost use Rattle.smv_meaning.specs.Meaning.{is_input};
-ghost use Rattle.smv_meaning.specs.NameMap.{named, named_in};
-ghost use Rattle.smv_meaning.specs.Rows.{found_value, KeepsGiven, AreGiven, kept_value, row_reads, IsKept};
+ghost use Rattle.smv_meaning.specs.Instances.{dotted};
+ghost use Rattle.smv_meaning.specs.NameMap.{named_in};
+ghost use Rattle.smv_meaning.specs.Rows.{found_value, at_dotted, AreGiven, kept_value, row_reads, IsKept};
 ghost use Rattle.smv_meaning.specs.View.{instance_plain, seen_value, stated};
 
+use crate::dotted::Dotted;
 use crate::instances::Table;
-use crate::name_map::{NameMap, no_names, put, value_under};
 use crate::names::Target;
-use crate::seen::{Seen, borrowed, copied, no_seen, value_in};
-use crate::table::path_below;
+use crate::seen::{Seen, borrowed, copied, no_seen};
 use crate::value::{State, Value};
-use smv_text::{Element, Elements, Items, Path, VarKind};
+use smv_text::{Path, VarKind};
 use std::alloc::Global;
 use std::collections::HashMap;
 use text_core::NoMemory;
@@ -21,11 +21,14 @@ use text_core::NoMemory;
 /// Values by the number of an instance and a name there.
 pub type Kept<'a> = HashMap<(usize, &'a [u8]), Seen<'a>>;
 
-/// The values that a state or a label gives; those of all declared variables are kept, so that none is searched for.
+/// Values by the dotted names of variables.
+pub type Named<'a> = HashMap<Dotted<'a>, &'a Value>;
+
+/// The values that a state or a label gives, found by dotted names with no search.
 #[derive(Drop)]
 pub struct Values<'a> {
     pub given: Option<&'a State>,
-    pub kept: Kept<'a>,
+    pub named: Named<'a>,
 }
 
 /// The values of names in a state: of its variables, and of definitions and actuals that were evaluated.
@@ -68,121 +71,65 @@ fn seen_under<'a>(kept: &Kept<'a>, i: usize, x: &[u8]) -> Option<Seen<'a>>
 
 // ---- variables
 
-// The values of a state by their names; of two values of one name the first counts.
-fn by_name<'a>(alloc: Global, state: &'a State) -> Result<NameMap<'a, &'a Value>, NoMemory>
-    ensures { IfOk result (λ m. (x : List ℕ) → found_value (named m x) ≡ given state.now x) }
+fn nothing_named<'a>(alloc: Global) -> Named<'a>
+    ensures { (p : List ℕ) (x : List ℕ) → at_dotted result p x ≡ None }
 {
-    let mut names = no_names(alloc);
+    HashMap::new(alloc)
+}
+
+fn put_named<'a>(names: &mut Named<'a>, name: &'a [u8], value: &'a Value) -> Result<(), NoMemory>
+    ensures { OnOk result ((p : List ℕ) (x : List ℕ) → at_dotted names.new p x ≡ (if bytes_eq name.now (dotted p x) then Some value.entry else at_dotted names.old p x)) }
+{
+    match names.insert(Dotted { path: &[], name }, value) {
+        Ok(_) => Ok(()),
+        Err(_) => Err(NoMemory),
+    }
+}
+
+// The values of a state; of two values of one name the first counts.
+fn by_name<'a>(alloc: Global, state: &'a State) -> Result<Named<'a>, NoMemory>
+    ensures { IfOk result (λ m. (p : List ℕ) (x : List ℕ) → found_value (at_dotted m p x) ≡ given state.now (dotted p x)) }
+{
+    let mut names = nothing_named(alloc);
     let mut k = state.len();
     while k > 0 {
         k -= 1;
         let entry = state.at(k);
-        put(&mut names, entry.name.bytes(), &entry.value)?;
+        put_named(&mut names, entry.name.bytes(), &entry.value)?;
     }
     Ok(names)
 }
 
-fn value_named<'a>(names: &NameMap<'a, &'a Value>, name: &[u8]) -> Seen<'a>
-    ensures { seen_value result ≡ found_value (named names.now name.now) }
+fn value_named<'a>(names: &Named<'a>, path: &[u8], name: &[u8]) -> Seen<'a>
+    ensures { seen_value result ≡ found_value (at_dotted names.now path.now name.now) }
 {
-    match value_under(names, name) {
+    match names.get(&Dotted { path, name }).copied() {
         None => no_seen(),
         Some(value) => borrowed(value),
     }
 }
 
-fn keep_items<'a>(
-    alloc: Global,
-    table: &Table<'a>,
-    state: &'a State,
-    names: &NameMap<'a, &'a Value>,
-    i: usize,
-    items: &'a Items,
-    kept: &mut Kept<'a>,
-) -> Result<(), NoMemory>
-    requires within { i < length table.now }
-    requires names { (x : List ℕ) → found_value (named names.now x) ≡ given state.now x }
-    requires right { KeepsGiven table.now (given state.now) kept.old }
-    ensures { OnOk result (KeepsGiven table.now (given state.now) kept.new) }
-{
-    for k in 0..items.len() {
-        let name = items.at(k).name.bytes();
-        let path = path_below(alloc, table.at(i).path.bytes(), name)?;
-        keep_under(kept, i, name, value_named(names, path.bytes()))?;
-    }
-    Ok(())
-}
-
-fn keep_elements<'a>(
-    alloc: Global,
-    table: &Table<'a>,
-    state: &'a State,
-    names: &NameMap<'a, &'a Value>,
-    i: usize,
-    elements: &'a Elements,
-    kept: &mut Kept<'a>,
-) -> Result<(), NoMemory>
-    requires within { i < length table.now }
-    requires names { (x : List ℕ) → found_value (named names.now x) ≡ given state.now x }
-    requires right { KeepsGiven table.now (given state.now) kept.old }
-    ensures { OnOk result (KeepsGiven table.now (given state.now) kept.new) }
-{
-    for k in 0..elements.len() {
-        if let Element::Vars(_, items) = elements.at(k) {
-            keep_items(alloc, table, state, names, i, items, kept)?;
-        }
-    }
-    Ok(())
-}
-
-fn kept_of<'a>(alloc: Global, table: &Table<'a>, state: &'a State) -> Result<Kept<'a>, NoMemory>
-    ensures { IfOk result (KeepsGiven table.now (given state.now)) }
-{
-    let names = by_name(alloc, state)?;
-    let mut kept = nothing_kept(alloc);
-    for i in 0..table.len() {
-        let plan = table.at(i).plan;
-        keep_elements(alloc, table, state, &names, i, &plan.elements, &mut kept)?;
-    }
-    Ok(kept)
-}
-
 /// The values that a state or a label gives, where there is one.
-pub fn values_of<'a>(
-    alloc: Global,
-    table: &Table<'a>,
-    given: Option<&'a State>,
-) -> Result<Values<'a>, NoMemory>
+pub fn values_of<'a>(alloc: Global, given: Option<&'a State>) -> Result<Values<'a>, NoMemory>
     ensures given { IfOk result (λ v. v.given ≡ given.entry) }
-    ensures right { IfOk result (AreGiven table.now) }
+    ensures right { IfOk result AreGiven }
 {
-    let kept = match given {
-        None => nothing_kept(alloc),
-        Some(state) => kept_of(alloc, table, state)?,
+    let named = match given {
+        None => nothing_named(alloc),
+        Some(state) => by_name(alloc, state)?,
     };
-    Ok(Values { given, kept })
+    Ok(Values { given, named })
 }
 
-// What a state gives a name of which no value is kept: where there is no state, or the name is that of no declared variable.
-// Paths lead to declared variables alone, so that no state is searched.
-fn searched<'a>(table: &Table<'a>, given: Option<&'a State>, i: usize, x: &[u8]) -> Seen<'a>
-    ensures { seen_value result ≡ stated given.entry (dotted_at (map instance_plain table.now) i x.now) }
-{
-    if i < table.len() {
-        value_in(given, table.at(i).path.bytes(), x)
-    } else {
-        value_in(given, &[], x)
-    }
-}
-
-// What a state gives a variable: the value that is kept, as one is of each declared variable.
+// What a state or a label gives a variable.
 fn value_of_variable<'a>(table: &Table<'a>, values: &Values<'a>, i: usize, x: &[u8]) -> Seen<'a>
-    requires { AreGiven table.now values.now }
+    requires { AreGiven values.now }
     ensures { seen_value result ≡ stated values.now.given (dotted_at (map instance_plain table.now) i x.now) }
 {
-    match seen_under(&values.kept, i, x) {
-        None => searched(table, values.given, i, x),
-        Some(value) => value,
+    if i < table.len() {
+        value_named(&values.named, table.at(i).path.bytes(), x)
+    } else {
+        value_named(&values.named, &[], x)
     }
 }
 
@@ -195,8 +142,8 @@ fn value_of_kind<'a>(
     row: &Row<'a>,
     label: &Values<'a>,
 ) -> Seen<'a>
-    requires state { AreGiven table.now row.now.state }
-    requires label { AreGiven table.now label.now }
+    requires state { AreGiven row.now.state }
+    requires label { AreGiven label.now }
     ensures { seen_value result ≡ (if is_input kind then stated label.now.given (dotted_at (map instance_plain table.now) i x.now) else stated row.now.state.given (dotted_at (map instance_plain table.now) i x.now)) }
 {
     match kind {

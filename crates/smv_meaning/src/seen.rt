@@ -1,10 +1,10 @@
 // Values whose symbols are borrowed, so that an evaluation copies no name.
 ghost use Rattle.std.specs.Prelude.{◌≡◌, ◌++◌, ◌∷◌, ◌^◌, ◌<◌, IfOk, bytes_eq};
-ghost use Rattle.smv_meaning.specs.Values.{given, is_true, value_same, no_value};
+ghost use Rattle.smv_meaning.specs.Values.{is_true, value_same, no_value};
 ghost use Rattle.smv_meaning.specs.Instances.{dotted};
-ghost use Rattle.smv_meaning.specs.View.{seen_value, stated};
+ghost use Rattle.smv_meaning.specs.View.{seen_value};
 
-use crate::value::{Given, State, Value};
+use crate::value::Value;
 use std::alloc::Global;
 use text_core::{Name, NoMemory};
 use word_core::Word;
@@ -97,8 +97,8 @@ pub fn same(a: &Seen, b: &Seen) -> bool
     }
 }
 
-// Is the text the path, a dot and the name?
-fn follows(text: &[u8], path: &[u8], name: &[u8]) -> bool
+/// Is the text the path, a dot and the name?
+pub fn follows(text: &[u8], path: &[u8], name: &[u8]) -> bool
     ensures { result ≡ bytes_eq text.now (path.now ++ 46 ∷ name.now) }
 {
     match path.split_first() {
@@ -122,27 +122,4 @@ pub fn is_dotted(text: &[u8], path: &[u8], name: &[u8]) -> bool
     } else {
         follows(text, path, name)
     }
-}
-
-/// The value that a state gives a name in the instance with this path.
-pub fn value_in<'a>(state: Option<&'a State>, path: &[u8], name: &[u8]) -> Seen<'a>
-    ensures { seen_value result ≡ stated state.entry (dotted path.now name.now) }
-{
-    match state {
-        None => no_seen(),
-        Some(state) => value_given(state, path, name),
-    }
-}
-
-#[tactic(auto, using(crate::proofs::Lists::front_is, crate::proofs::Lists::end_is))]
-fn value_given<'a>(state: &'a State, path: &[u8], name: &[u8]) -> Seen<'a>
-    ensures { seen_value result ≡ given state.now (dotted path.now name.now) }
-{
-    for i in 0..state.len() {
-        let entry = state.at(i);
-        if is_dotted(entry.name.bytes(), path, name) {
-            return borrowed(&entry.value);
-        }
-    }
-    no_seen()
 }

@@ -106,7 +106,7 @@ fn joined_value<'a>(
     requires own { is_conjunction (plain e.now) ≡ true }
 {
     let reach = reach_of(alloc, table, 0, e)?;
-    let label = values_of(alloc, table, None)?;
+    let label = values_of(alloc, None)?;
     let row = row_of(alloc, table, &reach, state, &label)?;
     Ok(truth_of(&evaluate(table, 0, e, &row, &label, &row)))
 }

@@ -25,7 +25,7 @@ keep_marked-requires c =
     let low = kept_low fs t order many c.requires.ordered.order c.loop-n.n c.at-k.result.now less c.at-k.ensures in
     let at : at_place t order c.loop-n.n ≡ key f.instance f.name.now =
     kept_at fs t order many c.requires.ordered.order c.loop-n.n c.at-k.result.now f less c.at-k.ensures (get_or_default fs c.at-k.result.now _ _ low) in
-    let right : AreGiven ts c.loop-n.row.state = subst (λ (v : Values). AreGiven ts v) (sym c.loop-n.invariant.state) c.requires.state in
+    let right : AreGiven c.loop-n.row.state = subst (λ (v : Values). AreGiven v) (sym c.loop-n.invariant.state) c.requires.state in
     let safe : MarkedSafe t c.args.reach.now.marks (stated c.loop-n.row.state.given) (stated c.args.label.now.given) =
     subst (λ (v : Values). MarkedSafe t c.args.reach.now.marks (stated v.given) (stated c.args.label.now.given)) (sym c.loop-n.invariant.state) c.requires.safe in
     λ m. ready ts order c.requires.ordered.order c.args.reach.now.marks c.requires.closed c.loop-n.row c.args.label.now right c.requires.label safe c.loop-n.n less c.loop-n.invariant.kept f.instance f.name.now at m
