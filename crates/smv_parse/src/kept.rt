@@ -70,7 +70,7 @@ fn keep(kept: &mut Kept, place: Place, shape: Shape, height: u32)
     }
 }
 
-// Puts what is kept into a box, and leaves a leaf.
+// Puts what is kept into a box, and leaves a leaf. The room comes first: behind the swap it is clear that what `keep` drops is a leaf.
 #[inline(always)]
 fn boxed(alloc: Global, kept: &mut Kept) -> Result<Box<Expr>, Stop>
     ensures made { IfOk result (λ b. b.value ≡ kept.old.expr) }
@@ -81,7 +81,9 @@ fn boxed(alloc: Global, kept: &mut Kept) -> Result<Box<Expr>, Stop>
         place,
         shape: Shape::True,
     };
-    Ok(Box::new(alloc, mem::replace(&mut kept.expr, left))?)
+    let mut room = Box::new(alloc, left)?;
+    mem::swap(&mut *room, &mut kept.expr);
+    Ok(room)
 }
 
 /// An expression with no parts.
