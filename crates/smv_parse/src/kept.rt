@@ -53,20 +53,37 @@ fn under(depth: u32, height: u32) -> u32
     capped(depth.saturating_add(height))
 }
 
+// Keeps an expression that has this height. Mostly a mere leaf was kept, which is told apart first: a drop takes much longer.
+#[inline(always)]
+fn put(kept: &mut Kept, place: Place, shape: Shape, height: u32)
+    ensures { read_of kept.new ≡ record { tree = shaped place shape; height = height } }
+{
+    match &kept.expr.shape {
+        Shape::True => {
+            kept.expr = Expr { place, shape };
+            kept.height = height;
+        }
+        _ => put_over(kept, place, shape, height),
+    }
+}
+
+#[inline(never)]
+fn put_over(kept: &mut Kept, place: Place, shape: Shape, height: u32)
+    ensures { read_of kept.new ≡ record { tree = shaped place shape; height = height } }
+{
+    kept.expr = Expr { place, shape };
+    kept.height = height;
+}
+
 // Keeps an expression that has this height, or where that is over the limit a leaf.
 #[inline(always)]
 fn keep(kept: &mut Kept, place: Place, shape: Shape, height: u32)
     ensures { read_of kept.new ≡ keep_at place (shaped place shape) height }
 {
     if height <= MOST {
-        kept.expr = Expr { place, shape };
-        kept.height = height;
+        put(kept, place, shape, height);
     } else {
-        kept.expr = Expr {
-            place,
-            shape: Shape::True,
-        };
-        kept.height = MOST + 1;
+        put_over(kept, place, Shape::True, MOST + 1);
     }
 }
 
@@ -101,8 +118,7 @@ pub(crate) fn leaf(place: Place, shape: Shape) -> Kept
 pub(crate) fn put_leaf(kept: &mut Kept, place: Place, shape: Shape)
     ensures { read_of kept.new ≡ record { tree = shaped place shape; height = 1 } }
 {
-    kept.expr = Expr { place, shape };
-    kept.height = 1;
+    put(kept, place, shape, 1);
 }
 
 /// Keeps a single name, at its place.
