@@ -18,6 +18,8 @@ mod script;
 mod shapes;
 mod sorts;
 mod systems;
+#[cfg(test)]
+mod tests;
 mod uses;
 
 pub use attributes::{Command, Key};
