@@ -4,6 +4,8 @@
 mod applications;
 mod atoms;
 mod data;
+#[cfg(test)]
+mod eval_tests;
 mod evaluate;
 mod failures;
 mod forms;
