@@ -1,0 +1,3 @@
+pub mod StandingNumbers
+pub mod StandingShapes
+pub mod StandingRead

@@ -1,2 +1,6 @@
 //! Terms of MoXI as a text: what is printed of them, and which terms are read again.
 #![tactic(auto)]
+
+mod reading_laws;
+
+pub use reading_laws::shown_terms_are_read;
