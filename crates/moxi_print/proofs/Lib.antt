@@ -1,3 +1,4 @@
 pub mod StandingNumbers
 pub mod StandingShapes
 pub mod StandingRead
+pub mod StandingStand
