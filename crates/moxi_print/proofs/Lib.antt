@@ -2,3 +2,5 @@ pub mod StandingNumbers
 pub mod StandingShapes
 pub mod StandingRead
 pub mod StandingStand
+pub mod StandingPlaces
+pub mod StandingSorts

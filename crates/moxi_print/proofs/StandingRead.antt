@@ -118,28 +118,10 @@ word_head c p o f e g =
     let d = operator_apart o in
     subst (λ f. IsHead c p f (heads.Operator o)) (sym a.1) (symbol_head c p a.0 (operator_word o) (heads.Operator o) d.0 d.1 e)
 
--- `(_ name ..)`
-listed : (f : form.Tree) (name : List ℕ) (xs : Showns) → Shows f (group (shown (word (codes "_")) (shown (word name) xs)))
-    → (q r t : Place) × (ts : form.Trees) × (f ≡ form.list q (form.tree (form.atom r (atoms.Symbol (codes "_") false)) (form.tree (form.atom t (atoms.Symbol name false)) ts))) × ShowEach ts xs
-listed f name xs h =
-    let g = shape.is_group f _ h in
-    let a = shape.is_more g.1 _ _ g.3 in
-    let b = shape.is_more a.1 _ _ a.4 in
-    let u = shape.is_word a.0 (codes "_") a.3 in
-    let v = shape.is_word b.0 name b.3 in
-    (
-      g.0,
-      u.0,
-      v.0,
-      b.1,
-      g.2 ∙ ap (form.list g.0) (a.2 ∙ ap (λ t. form.tree t a.1) u.1 ∙ ap (form.tree (form.atom u.0 (atoms.Symbol (codes "_") false))) (b.2 ∙ ap (λ t. form.tree t b.1) v.1)),
-      b.4,
-    )
-
 indexed_head : (c : Context) (p : Place) (f : form.Tree) (name : List ℕ) (xs : Showns) (h : Head) → Shows f (group (shown (word (codes "_")) (shown (word name) xs)))
     → ((q : Place) (ts : form.Trees) → ShowEach ts xs → reading.symbol_head p q (Some (name, false)) ts ≡ Ok h) → IsHead c p f h
 indexed_head c p f name xs h g e =
-    let a = listed f name xs g in
+    let a = shape.is_indexed f name xs g in
     subst (λ f. IsHead c p f h) (sym a.4) (record { no_let = refl; no_literal = refl; primes = refl; meant = e a.0 a.3 a.5 })
 
 extract_head : (p q : Place) (high low : ℕ) (ts : form.Trees) → high < 4294967296 → low < 4294967296 → ShowEach ts (shown (numeral high) (shown (numeral low) no_showns))

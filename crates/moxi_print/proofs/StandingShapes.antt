@@ -1,5 +1,6 @@
 -- Forms that are shown as words, as atoms and as lists.
 use Rattle.std.proofs.Common.{◌≡◌, ℕ, false, List, refl, ap, ◌∙◌}
+use Rattle.std.specs.Prelude.{codes}
 use Rattle.text_core.specs.declared.place.Place.{Place}
 use Rattle.moxi_sexpr.specs.declared.form.Atom.{Atom}
 use Rattle.moxi_sexpr.specs.declared.form.Atom.TheVariants.{Symbol}
@@ -38,3 +39,21 @@ is_two ts x y h =
     let m = is_more ts x (shown y no_showns) h in
     let n = is_one m.1 y m.4 in
     (m.0, n.0, m.2 ∙ ap (tree m.0) n.1, m.3, n.2)
+
+-- `(_ name ..)`
+pub is_indexed : (f : Tree) (name : List ℕ) (xs : Showns) → Shows f (group (shown (word (codes "_")) (shown (word name) xs)))
+    → (q r t : Place) × (ts : Trees) × (f ≡ list q (tree (atom r (Symbol (codes "_") false)) (tree (atom t (Symbol name false)) ts))) × ShowEach ts xs
+is_indexed f name xs h =
+    let g = is_group f _ h in
+    let a = is_more g.1 _ _ g.3 in
+    let b = is_more a.1 _ _ a.4 in
+    let u = is_word a.0 (codes "_") a.3 in
+    let v = is_word b.0 name b.3 in
+    (
+      g.0,
+      u.0,
+      v.0,
+      b.1,
+      g.2 ∙ ap (list g.0) (a.2 ∙ ap (λ t. tree t a.1) u.1 ∙ ap (tree (atom u.0 (Symbol (codes "_") false))) (b.2 ∙ ap (λ t. tree t b.1) v.1)),
+      b.4,
+    )
