@@ -4,3 +4,5 @@ pub mod StandingRead
 pub mod StandingStand
 pub mod StandingPlaces
 pub mod StandingSorts
+pub mod StandingGrow
+pub mod StandingScopes

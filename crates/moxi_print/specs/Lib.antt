@@ -2,3 +2,4 @@ pub mod Shown
 pub mod Terms
 pub mod Standing
 pub mod StandingReads
+pub mod StandingGrows

@@ -3,4 +3,4 @@
 
 mod reading_laws;
 
-pub use reading_laws::{read_terms_stand, shown_sorts_are_read, shown_terms_are_read};
+pub use reading_laws::{read_terms_stand, scopes_grow, shown_sorts_are_read, shown_terms_are_read, terms_stand_on};
