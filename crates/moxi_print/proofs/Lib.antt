@@ -6,3 +6,4 @@ pub mod StandingPlaces
 pub mod StandingSorts
 pub mod StandingGrow
 pub mod StandingScopes
+pub mod StandingSpelled

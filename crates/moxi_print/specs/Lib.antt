@@ -3,3 +3,4 @@ pub mod Terms
 pub mod Standing
 pub mod StandingReads
 pub mod StandingGrows
+pub mod StandingNames
