@@ -7,3 +7,5 @@ pub mod StandingSorts
 pub mod StandingGrow
 pub mod StandingScopes
 pub mod StandingSpelled
+pub mod StandingShown
+pub mod StandingAgain

@@ -11,7 +11,9 @@ use Rattle.text_core.specs.Binary.{binary_digits}
 use Rattle.word_core.specs.Words.{BitVector, IsWord}
 use Rattle.word_core.specs.declared.word.TheConstants.{WIDEST}
 use Rattle.word_core.specs.Digits.{digit_number, number_after, digits_value, fitted, read_word}
-use Rattle.moxi_sexpr.specs.Bytes.{is_digit}
+use Rattle.std.specs.List.{list_all}
+use Rattle.moxi_sexpr.specs.Atoms.{is_run}
+use Rattle.moxi_sexpr.specs.Bytes.{is_digit, is_binary_digit}
 use Rattle.moxi_terms.specs.Reading.{index_of, number_or_most}
 
 -- BINARY DIGITS
@@ -125,3 +127,32 @@ index_again n h =
     let value : digits_value 10 (decimal n) ≡ Some n =
       value_of_some 10 (decimal n) (decimal_nonempty n small) ∙ number_of (decimal n) 0 0 refl (digits_decimal own n small) ∙ ap Some (digits_value-decimal own n small) in
     ap number_or_most (read_back 10 32 n (decimal n) (omega arith) (omega arith) (omega (arith, h)) value)
+
+-- SPELLING
+
+list_push : (p : ℕ → Bool) (xs : List ℕ) (b : ℕ) → list_all p xs ≡ true → p b ≡ true → list_all p (xs ++ b ∷ []) ≡ true
+list_push p [] b e f = and_from (p b) true f refl
+list_push p (x ∷ xs) b e f = let q = and_parts (p x) (list_all p xs) e in and_from (p x) (list_all p (xs ++ b ∷ [])) q.0 (list_push p xs b q.1 f)
+
+digits_binary : (w n : ℕ) → list_all is_binary_digit (binary_digits w n) ≡ true
+unfolding binary_digits
+digits_binary zero n = refl
+digits_binary (suc w) n = list_push is_binary_digit (binary_digits w (n / 2)) (48 + n % 2) (digits_binary w (n / 2)) (digit_fact (λ b. is_binary_digit b ≡ true) n refl refl)
+
+run_of : (p : ℕ → Bool) (xs : List ℕ) → 0 < length xs → list_all p xs ≡ true → is_run p xs ≡ true
+run_of p [] h e = absurd (omega (arith, h))
+run_of p (x ∷ xs) h e = e
+
+-- the digits of a word can be spelled
+pub digits_run : (w n : ℕ) → 1 ≤ w → is_run is_binary_digit (binary_digits w n) ≡ true
+digits_run w n h = run_of is_binary_digit (binary_digits w n) (omega (arith, h, digits_long w n)) (digits_binary w n)
+
+all_decimal : (bs : List ℕ) → all_digits bs ≡ true → list_all is_digit bs ≡ true
+all_decimal [] h = refl
+all_decimal (b ∷ bs) h = let q = and_parts (is_digit b) (all_digits bs) h in and_from (is_digit b) (list_all is_digit bs) q.0 (all_decimal bs q.1)
+
+-- a number can be spelled
+pub decimal_run : (n : ℕ) → n < 4294967296 → is_run is_digit (decimal n) ≡ true
+decimal_run n h =
+    let small : n < 2 ^ 64 = omega (arith, h) in
+    run_of is_digit (decimal n) (decimal_nonempty n small) (all_decimal (decimal n) (digits_decimal own n small))

@@ -257,12 +257,12 @@ call_read c bounds n fn name (tree t us) (s ∷ ss) f there same sorts ih each h
 abbrev all_bound : List (List ℕ) → Trees → List Sort → Bindings
 all_bound names us ss = record { locals = bound_locals names ss; terms = list_of us; shape = []; failures = [] }
 
-bound_names : (names : List (List ℕ)) (ss : List Sort) → length names ≡ length ss → names_of (bound_locals names ss) ≡ names
+pub bound_names : (names : List (List ℕ)) (ss : List Sort) → length names ≡ length ss → names_of (bound_locals names ss) ≡ names
 bound_names [] ss h = refl
 bound_names (name ∷ names) [] h = absurd (omega (arith, h))
 bound_names (name ∷ names) (s ∷ ss) h = ap (λ ns. name ∷ ns) (bound_names names ss (omega (arith, h)))
 
-names_append : (xs ys : List Local) → names_of (xs ++ ys) ≡ names_of xs ++ names_of ys
+pub names_append : (xs ys : List Local) → names_of (xs ++ ys) ≡ names_of xs ++ names_of ys
 names_append [] ys = refl
 names_append (x ∷ xs) ys = ap (λ ns. x.name ∷ ns) (names_append xs ys)
 

@@ -3,4 +3,7 @@
 
 mod reading_laws;
 
-pub use reading_laws::{read_terms_stand, scopes_grow, shown_sorts_are_read, shown_terms_are_read, terms_stand_on};
+pub use reading_laws::{
+    read_names_are_spellable, read_terms_are_read_again, read_terms_stand, scopes_grow,
+    shown_sorts_are_read, shown_terms_are_read, standing_terms_can_be_shown, terms_stand_on,
+};

@@ -1,6 +1,7 @@
 // Laws of terms that are printed and read again; these functions do nothing.
 ghost use Rattle.std.specs.Prelude.{◌≡◌, [], List, ℕ, Ok, codes, false, true};
 ghost use Rattle.text_core.specs.declared.place.Place.{Place};
+ghost use Rattle.moxi_sexpr.specs.Printing.{IsPrintable};
 ghost use Rattle.moxi_sexpr.specs.Tree.{Tree as Form};
 ghost use Rattle.moxi_terms.specs.declared.data.Sort.{Sort};
 ghost use Rattle.moxi_terms.specs.declared.names.Local.{Local};
@@ -10,10 +11,11 @@ ghost use Rattle.moxi_terms.specs.Sorts.{IsSort};
 ghost use Rattle.moxi_terms.specs.Tree.{PlainFunction, Tree};
 ghost use Rattle.moxi_terms.specs.View.{ScopeState};
 ghost use Rattle.moxi_terms.specs.WellSorted.{HaveKnownSorts};
-ghost use Rattle.moxi_print.specs.Shown.{Shows};
+ghost use Rattle.moxi_print.specs.Shown.{CanBeShown, Shows};
 ghost use Rattle.moxi_print.specs.Terms.{shown_sort, shown_term};
 ghost use Rattle.moxi_print.specs.Standing.{Stands};
 ghost use Rattle.moxi_print.specs.StandingGrows.{Grows, in_scope, sorts_first};
+ghost use Rattle.moxi_print.specs.StandingNames.{AreSpellable, IsSpellableScope, NamesAreSpellable};
 ghost use Rattle.moxi_print.specs.StandingReads.{IsStanding, StandsSort, whole};
 
 /// A form that is shown as a term that can stand in its place spells this term, with its sort, and no test of it fails
@@ -35,6 +37,11 @@ pub fn shown_sorts_are_read()
     ensures stand { (s : ScopeState) (sort : Sort) → are_fresh [] (enumeration_names s) ≡ true → is_among (enumeration_names s) (codes "Bool") ≡ false → IsSort s.enumerations sort → StandsSort s sort }
 {}
 
+/// What is printed of a term that was read spells this term again, with its sort, also where more has been declared.
+pub fn read_terms_are_read_again()
+    ensures { (c : Context) (bounds : List Local) (vars ss : List Sort) (f : Form) (u : ScopeState) (g : Form) → HaveKnownSorts c.variables vars → HaveKnownSorts bounds ss → (read c bounds f).failures ≡ [] → Grows c.scope u → Shows g (shown_term u (names_of c.variables) (names_of bounds) (read c bounds f).term) → read (in_scope c u) bounds g ≡ read c bounds f }
+{}
+
 /// In a scope that has grown, a term can stand where it could before, and a sort's name means it as before.
 pub fn terms_stand_on()
     ensures terms { (c : Context) (bounds : List Local) (t : Tree) (s : Sort) (u : ScopeState) → Stands c bounds t s → Grows c.scope u → Stands (in_scope c u) bounds t s }
@@ -51,4 +58,16 @@ pub fn scopes_grow()
     ensures function { (s : ScopeState) (f : PlainFunction) → is_term_name s f.name ≡ false → Grows s (with_function s f) }
     ensures sorts_first { (s t : ScopeState) → Grows s t → Grows s (sorts_first s t) }
     ensures one_function { (s : ScopeState) (f : PlainFunction) (t : ScopeState) → is_term_name s f.name ≡ false → Grows (with_function s f) t → Grows (sorts_first s t) (sorts_first (with_function s f) t) }
+{}
+
+/// The term of a form that can be printed binds names that can be spelled (SMT-LIB 2.6, section 3.1).
+pub fn read_names_are_spellable()
+    ensures { (c : Context) (bounds : List Local) (f : Form) → IsPrintable f → NamesAreSpellable (read c bounds f).term }
+{}
+
+/// What is shown of a term that can stand in its place, or of a sort whose name means it, can be shown, where the names that
+/// it is made of can be spelled.
+pub fn standing_terms_can_be_shown()
+    ensures terms { (c : Context) (bounds : List Local) (t : Tree) (s : Sort) → IsSpellableScope c.scope → AreSpellable (names_of c.variables) → AreSpellable (names_of bounds) → Stands c bounds t s → NamesAreSpellable t → CanBeShown (shown_term c.scope (names_of c.variables) (names_of bounds) t) }
+    ensures sorts { (s : ScopeState) (sort : Sort) → IsSpellableScope s → StandsSort s sort → CanBeShown (shown_sort s sort) }
 {}
