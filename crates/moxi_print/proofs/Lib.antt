@@ -9,3 +9,4 @@ pub mod StandingScopes
 pub mod StandingSpelled
 pub mod StandingShown
 pub mod StandingAgain
+pub mod StandingAdded

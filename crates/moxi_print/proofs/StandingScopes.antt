@@ -31,11 +31,11 @@ or_both : (a b c d : Bool) → (a ≡ true → c ≡ true) → (b ≡ true → d
 or_both true b c d f g h = ap (λ c. c || d) (f refl)
 or_both false b c d f g h = or_later c d (g h)
 
-or_neither : (a b : Bool) → (a || b) ≡ false → (a ≡ false) × (b ≡ false)
+pub or_neither : (a b : Bool) → (a || b) ≡ false → (a ≡ false) × (b ≡ false)
 or_neither true b h = absurd (cc)
 or_neither false b h = (refl, h)
 
-neither_or : (a b : Bool) → a ≡ false → b ≡ false → (a || b) ≡ false
+pub neither_or : (a b : Bool) → a ≡ false → b ≡ false → (a || b) ≡ false
 neither_or a b e f = ap (λ a. a || b) e ∙ f
 
 -- NAMES IN LISTS
@@ -47,7 +47,7 @@ some_place (Some k) h = (k, refl)
 among_front : (xs ys : List (List ℕ)) (q : List ℕ) → is_among xs q ≡ true → is_among (xs ++ ys) q ≡ true
 among_front xs ys q h = let k = some_place (place_of xs q) h in ap is_some (place_front xs ys q k.0 k.1)
 
-among_neither : (xs ys : List (List ℕ)) (q : List ℕ) → is_among xs q ≡ false → is_among ys q ≡ false → is_among (xs ++ ys) q ≡ false
+pub among_neither : (xs ys : List (List ℕ)) (q : List ℕ) → is_among xs q ≡ false → is_among ys q ≡ false → is_among (xs ++ ys) q ≡ false
 among_neither xs ys q h g = ap is_some (place_neither xs ys q (not_among _ h) (not_among _ g))
 
 any_at : (p : List ℕ → Bool) (xs : List (List ℕ)) (k : ℕ) (x : List ℕ) → slice_get xs k ≡ Some x → p x ≡ true → list_any p xs ≡ true
@@ -56,7 +56,7 @@ any_at p (y ∷ ys) zero x h g = ap (λ b. b || list_any p ys) (ap p (same_Some 
 any_at p (y ∷ ys) (suc k) x h g = or_later (p y) (list_any p ys) (any_at p ys k x h g)
 
 -- a name that passes is none of those of which none passes
-none_among : (p : List ℕ → Bool) (xs : List (List ℕ)) (q : List ℕ) → list_any p xs ≡ false → p q ≡ true → is_among xs q ≡ false
+pub none_among : (p : List ℕ → Bool) (xs : List (List ℕ)) (q : List ℕ) → list_any p xs ≡ false → p q ≡ true → is_among xs q ≡ false
 none_among p xs q h g = by_place (is_among xs q) refl
   where
     by_place : (b : Bool) → is_among xs q ≡ b → b ≡ false
@@ -116,7 +116,7 @@ grows_more s t u g h = record {
   );
 }
 
-opposite : (b : Bool) → not b ≡ true → b ≡ false
+pub opposite : (b : Bool) → not b ≡ true → b ≡ false
 opposite true h = absurd (cc)
 opposite false h = refl
 
@@ -211,7 +211,7 @@ get_some [] n h = absurd (omega arith)
 get_some (x ∷ xs) zero h = (x, refl)
 get_some (x ∷ xs) (suc n) h = get_some xs n (omega arith)
 
-enumerations_append : (xs ys : List Enumeration) → map (λ (e : Enumeration). e.name) (xs ++ ys) ≡ map (λ (e : Enumeration). e.name) xs ++ map (λ (e : Enumeration). e.name) ys
+pub enumerations_append : (xs ys : List Enumeration) → map (λ (e : Enumeration). e.name) (xs ++ ys) ≡ map (λ (e : Enumeration). e.name) xs ++ map (λ (e : Enumeration). e.name) ys
 enumerations_append [] ys = refl
 enumerations_append (x ∷ xs) ys = ap (λ ns. x.name ∷ ns) (enumerations_append xs ys)
 

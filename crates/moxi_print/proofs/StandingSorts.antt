@@ -20,7 +20,7 @@ use Rattle.moxi_terms.specs.Sorts.{IsSort}
 use Rattle.moxi_terms.specs.View.{ScopeState}
 use Rattle.moxi_print.specs.Shown.{Shows}
 use Rattle.moxi_print.specs.Terms.{name_at, numeral, shown_sort}
-use Rattle.moxi_print.specs.StandingReads.{StandsSort}
+use Rattle.moxi_print.specs.StandingReads.{StandsSort, HasSortNames}
 use Rattle.moxi_print.proofs.StandingNumbers.{index_again}
 use Rattle.moxi_print.proofs.StandingPlaces.{fresh_place}
 use Rattle.moxi_print.proofs.StandingShapes as shape
@@ -61,7 +61,7 @@ choice_stands s n fresh apart l =
         absurd (let t : true ≡ false = ap is_some (sym (sym (ap (place_of (enumeration_names s)) same) ∙ place)) ∙ apart in cc)
     by_test false e place = chosen_first (place_of (enumeration_names s) (name_at (enumeration_names s) n)) n _ place
 
-pub sort_stands : (s : ScopeState) (sort : Sort) → are_fresh [] (enumeration_names s) ≡ true → is_among (enumeration_names s) (codes "Bool") ≡ false → IsSort s.enumerations sort → StandsSort s sort
-sort_stands s Truth fresh apart h = tt
-sort_stands s (Bits w) fresh apart h = h
-sort_stands s (Choice n) fresh apart h = choice_stands s n fresh apart h
+pub sort_stands : (s : ScopeState) (sort : Sort) → HasSortNames s → IsSort s.enumerations sort → StandsSort s sort
+sort_stands s Truth names h = tt
+sort_stands s (Bits w) names h = h
+sort_stands s (Choice n) names h = choice_stands s n names.fresh names.apart h

@@ -5,5 +5,6 @@ mod reading_laws;
 
 pub use reading_laws::{
     read_names_are_spellable, read_terms_are_read_again, read_terms_stand, scopes_grow,
-    shown_sorts_are_read, shown_terms_are_read, standing_terms_can_be_shown, terms_stand_on,
+    scopes_stay_spellable, shown_sorts_are_read, shown_terms_are_read, sort_names_differ,
+    standing_terms_can_be_shown, terms_stand_on,
 };

@@ -1,11 +1,11 @@
 // Laws of terms that are printed and read again; these functions do nothing.
-ghost use Rattle.std.specs.Prelude.{◌≡◌, [], List, ℕ, Ok, codes, false, true};
+ghost use Rattle.std.specs.Prelude.{◌≡◌, [], List, ℕ, Ok, false, true};
 ghost use Rattle.text_core.specs.declared.place.Place.{Place};
 ghost use Rattle.moxi_sexpr.specs.Printing.{IsPrintable};
 ghost use Rattle.moxi_sexpr.specs.Tree.{Tree as Form};
 ghost use Rattle.moxi_terms.specs.declared.data.Sort.{Sort};
 ghost use Rattle.moxi_terms.specs.declared.names.Local.{Local};
-ghost use Rattle.moxi_terms.specs.Names.{are_fresh, enumeration_names, is_among, is_term_name, may_be_enumeration, with_enumeration, with_function, with_sort};
+ghost use Rattle.moxi_terms.specs.Names.{is_term_name, may_be_enumeration, no_scope, with_enumeration, with_function, with_sort};
 ghost use Rattle.moxi_terms.specs.Reading.{Context, names_of, read, sort_reading};
 ghost use Rattle.moxi_terms.specs.Sorts.{IsSort};
 ghost use Rattle.moxi_terms.specs.Tree.{PlainFunction, Tree};
@@ -15,8 +15,8 @@ ghost use Rattle.moxi_print.specs.Shown.{CanBeShown, Shows};
 ghost use Rattle.moxi_print.specs.Terms.{shown_sort, shown_term};
 ghost use Rattle.moxi_print.specs.Standing.{Stands};
 ghost use Rattle.moxi_print.specs.StandingGrows.{Grows, in_scope, sorts_first};
-ghost use Rattle.moxi_print.specs.StandingNames.{AreSpellable, IsSpellableScope, NamesAreSpellable};
-ghost use Rattle.moxi_print.specs.StandingReads.{IsStanding, StandsSort, whole};
+ghost use Rattle.moxi_print.specs.StandingNames.{AreSpellable, IsSpellable, IsSpellableScope, NamesAreSpellable};
+ghost use Rattle.moxi_print.specs.StandingReads.{HasSortNames, IsStanding, StandsSort, whole};
 
 /// A form that is shown as a term that can stand in its place spells this term, with its sort, and no test of it fails
 /// (SMT-LIB 2.6, section 3.6).
@@ -34,7 +34,7 @@ pub fn read_terms_stand()
 /// names differ and none is `Bool`, the name of each of the scope's sorts means it.
 pub fn shown_sorts_are_read()
     ensures read { (s : ScopeState) (around : Place) (sort : Sort) (f : Form) → StandsSort s sort → Shows f (shown_sort s sort) → sort_reading s around f ≡ Ok sort }
-    ensures stand { (s : ScopeState) (sort : Sort) → are_fresh [] (enumeration_names s) ≡ true → is_among (enumeration_names s) (codes "Bool") ≡ false → IsSort s.enumerations sort → StandsSort s sort }
+    ensures stand { (s : ScopeState) (sort : Sort) → HasSortNames s → IsSort s.enumerations sort → StandsSort s sort }
 {}
 
 /// What is printed of a term that was read spells this term again, with its sort, also where more has been declared.
@@ -70,4 +70,21 @@ pub fn read_names_are_spellable()
 pub fn standing_terms_can_be_shown()
     ensures terms { (c : Context) (bounds : List Local) (t : Tree) (s : Sort) → IsSpellableScope c.scope → AreSpellable (names_of c.variables) → AreSpellable (names_of bounds) → Stands c bounds t s → NamesAreSpellable t → CanBeShown (shown_term c.scope (names_of c.variables) (names_of bounds) t) }
     ensures sorts { (s : ScopeState) (sort : Sort) → IsSpellableScope s → StandsSort s sort → CanBeShown (shown_sort s sort) }
+{}
+
+/// In a scope that is made by what may be added to it the enumerations' names differ, and none is `Bool`.
+pub fn sort_names_differ()
+    ensures none { HasSortNames no_scope }
+    ensures enumeration { (s : ScopeState) (name : List ℕ) (constants : List (List ℕ)) → may_be_enumeration s name constants ≡ true → HasSortNames s → HasSortNames (with_enumeration s name constants) }
+    ensures sort { (s : ScopeState) (name : List ℕ) (sort : Sort) → HasSortNames s → HasSortNames (with_sort s name sort) }
+    ensures function { (s : ScopeState) (f : PlainFunction) → HasSortNames s → HasSortNames (with_function s f) }
+{}
+
+/// The names of a scope can be spelled where those of all that is added can.
+pub fn scopes_stay_spellable()
+    ensures none { IsSpellableScope no_scope }
+    ensures enumeration { (s : ScopeState) (name : List ℕ) (constants : List (List ℕ)) → IsSpellable name → AreSpellable constants → IsSpellableScope s → IsSpellableScope (with_enumeration s name constants) }
+    ensures sort { (s : ScopeState) (name : List ℕ) (sort : Sort) → IsSpellableScope s → IsSpellableScope (with_sort s name sort) }
+    ensures function { (s : ScopeState) (f : PlainFunction) → IsSpellable f.name → IsSpellableScope s → IsSpellableScope (with_function s f) }
+    ensures sorts_first { (s t : ScopeState) → IsSpellableScope s → IsSpellableScope t → IsSpellableScope (sorts_first s t) }
 {}
