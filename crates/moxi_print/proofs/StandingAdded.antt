@@ -1,17 +1,14 @@
 -- What is kept of a scope when something is added to it: its sorts' names differ, and its names can be spelled.
-use Rattle.std.proofs.Common.{◌≡◌, ℕ, Bool, true, false, not, cond, is_none, ◌||◌, List, [], ◌∷◌, ◌++◌, map, Option, None, Some, refl, sym, ap, ◌∙◌, subst, append_assoc, append-nil}
-use Rattle.std.specs.Prelude.{codes, ◌&&◌}
-use Rattle.std.specs.List.{AllByRecursion}
+use Rattle.std.proofs.Common.{◌≡◌, ℕ, true, false, not, is_none, List, [], ◌∷◌, ◌++◌, None, refl, sym, ap, ◌∙◌, subst, append_assoc, append-nil}
+use Rattle.std.specs.Prelude.{codes}
 use Rattle.std.specs.Str.{bytes_eq}
 use Rattle.std.proofs.lemmas.Bool.{and_parts, and_from}
-use Rattle.moxi_terms.specs.declared.term.Enumeration.{Enumeration}
 use Rattle.moxi_terms.specs.Tree.{PlainFunction}
 use Rattle.moxi_terms.specs.View.{ScopeState}
 use Rattle.moxi_terms.specs.Names.{place_of, is_among, are_fresh, enumeration_names, sort_names, function_names, all_constants, is_sort_name, may_be_constants, may_be_enumeration, with_enumeration, with_function}
 use Rattle.moxi_terms.proofs.SortedParts.{all_append}
 use Rattle.moxi_print.specs.StandingReads.{HasSortNames}
 use Rattle.moxi_print.specs.StandingNames.{IsSpellable, AreSpellable, IsSpellableScope}
-use Rattle.moxi_print.specs.StandingGrows.{sorts_first}
 use Rattle.moxi_print.proofs.StandingPlaces.{same_bytes}
 use Rattle.moxi_print.proofs.StandingGrow.{constants_append, names_append, not_among}
 use Rattle.moxi_print.proofs.StandingScopes.{opposite, or_neither, neither_or, none_among, among_neither, enumerations_append}
@@ -48,7 +45,7 @@ spelled_enumeration s name constants h g n =
     record {
       enumerations = subst AreSpellable (sym (enumerations_append s.enumerations e)) (all_append IsSpellable (enumeration_names s) (name ∷ []) n.enumerations (h, tt));
       constants =
-        subst AreSpellable (sym (constants_append s.enumerations e)) (all_append IsSpellable (all_constants s.enumerations) (constants ++ []) n.constants (all_append IsSpellable constants [] g tt));
+          subst AreSpellable (sym (constants_append s.enumerations e)) (all_append IsSpellable (all_constants s.enumerations) (constants ++ []) n.constants (all_append IsSpellable constants [] g tt));
       functions = n.functions;
     }
 

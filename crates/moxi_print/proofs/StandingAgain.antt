@@ -1,16 +1,15 @@
 -- What is printed of a term that was read is read as this term again, also in a scope that has grown.
-use Rattle.std.proofs.Common.{◌≡◌, ℕ, Bool, true, false, List, [], ◌∷◌, ◌++◌, Some, refl, sym, ap, ◌∙◌}
+use Rattle.std.proofs.Common.{◌≡◌, List, [], Some, sym, ap, ◌∙◌}
 use Rattle.moxi_sexpr.specs.Tree as form
 use Rattle.moxi_terms.specs.declared.data.Sort.{Sort}
 use Rattle.moxi_terms.specs.declared.names.Local.{Local}
-use Rattle.moxi_terms.specs.Tree.{Tree}
 use Rattle.moxi_terms.specs.View.{ScopeState}
 use Rattle.moxi_terms.specs.Reading.{Context, Reading, read, names_of}
 use Rattle.moxi_terms.specs.WellSorted.{HaveKnownSorts}
 use Rattle.moxi_print.specs.Shown.{Shows}
 use Rattle.moxi_print.specs.Terms.{shown_term}
 use Rattle.moxi_print.specs.StandingGrows.{Grows, in_scope}
-use Rattle.moxi_print.specs.StandingReads.{whole, IsStanding}
+use Rattle.moxi_print.specs.StandingReads.{whole}
 use Rattle.moxi_print.proofs.StandingGrow.{stands_on}
 use Rattle.moxi_print.proofs.StandingRead.{term_read}
 use Rattle.moxi_print.proofs.StandingStand.{read_stands}

@@ -1,14 +1,12 @@
 -- In a scope that has grown the names of before mean what they meant, by induction over the term.
-use Rattle.std.proofs.Common.{◌≡◌, ℕ, zero, suc, ◌+◌, ◌<◌, Bool, true, false, not, cond, eqb, is_some, ◌||◌, List, [], ◌∷◌, ◌++◌, map, length, Option, None, Some, refl, sym, ap, ◌∙◌, subst, arith, append_assoc, append-nil}
-use Rattle.std.specs.Prelude.{slice_get, slice_index_or, codes, option_and_then, ◌&&◌}
+use Rattle.std.proofs.Common.{◌≡◌, ℕ, zero, suc, ◌+◌, ◌<◌, Bool, true, false, cond, eqb, is_some, ◌||◌, List, [], ◌∷◌, ◌++◌, map, length, Option, None, Some, refl, sym, ap, ◌∙◌, subst, arith, append_assoc}
+use Rattle.std.specs.Prelude.{slice_get, codes, option_and_then}
 use Rattle.std.specs.Option.{option_map}
-use Rattle.std.specs.List.{list_any}
 use Rattle.std.specs.Str.{bytes_eq}
-use Rattle.std.proofs.lemmas.Bool.{and_parts}
-use Rattle.std.proofs.lemmas.Option.{same_Some, none-some, slice_get_within}
+use Rattle.std.proofs.lemmas.Option.{none-some, slice_get_within}
 use Rattle.std.proofs.lemmas.List.{length-append, length-map}
 use Rattle.moxi_terms.specs.declared.data.Sort.{Sort}
-use Rattle.moxi_terms.specs.declared.data.Sort.TheVariants.{Truth, Bits, Choice}
+use Rattle.moxi_terms.specs.declared.data.Sort.TheVariants.{Truth, Choice}
 use Rattle.moxi_terms.specs.declared.data.Datum.{Datum}
 use Rattle.moxi_terms.specs.declared.data.Datum.TheVariants as datum
 use Rattle.moxi_terms.specs.declared.data.TermOp.{TermOp}
@@ -21,8 +19,7 @@ use Rattle.moxi_terms.specs.declared.names.Local.{Local}
 use Rattle.moxi_terms.specs.declared.term.Enumeration.{Enumeration}
 use Rattle.moxi_terms.specs.Tree.{Tree, constant, variable, bound, apply, binding, call, Trees, no_trees, tree, PlainFunction, sorts_of}
 use Rattle.moxi_terms.specs.View.{ScopeState}
-use Rattle.moxi_terms.specs.Names.{or_else, place_of, is_among, function_names, enumeration_names, all_constants, numbered, constant_numbers, constant_named, is_term_name, sort_named}
-use Rattle.moxi_terms.specs.Sorts.{IsSort, IsConstant}
+use Rattle.moxi_terms.specs.Names.{or_else, place_of, is_among, function_names, all_constants, numbered, constant_numbers, constant_named, is_term_name}
 use Rattle.moxi_terms.specs.Words.{is_operator, operator_named}
 use Rattle.moxi_terms.specs.Reading as reading
 use Rattle.moxi_terms.specs.Reading.{Context, Found, meaning_of, head_named, value_named, names_of}

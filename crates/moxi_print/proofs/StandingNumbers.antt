@@ -125,7 +125,7 @@ pub index_again : (n : ℕ) → n < 4294967296 → index_of (decimal n) ≡ n
 index_again n h =
     let small : n < 2 ^ 64 = omega (arith, h) in
     let value : digits_value 10 (decimal n) ≡ Some n =
-      value_of_some 10 (decimal n) (decimal_nonempty n small) ∙ number_of (decimal n) 0 0 refl (digits_decimal own n small) ∙ ap Some (digits_value-decimal own n small) in
+    value_of_some 10 (decimal n) (decimal_nonempty n small) ∙ number_of (decimal n) 0 0 refl (digits_decimal own n small) ∙ ap Some (digits_value-decimal own n small) in
     ap number_or_most (read_back 10 32 n (decimal n) (omega arith) (omega arith) (omega (arith, h)) value)
 
 -- SPELLING

@@ -1,6 +1,6 @@
 -- What is printed of a term that can stand in its place is read as this term, by induction over the term.
-use Rattle.std.proofs.Common.{◌≡◌, ℕ, zero, suc, ◌+◌, ◌<◌, Bool, true, false, cond, eqb, List, [], ◌∷◌, ◌++◌, map, length, Option, None, Some, Result, Ok, Err, refl, sym, ap, ◌∙◌, subst, arith}
-use Rattle.std.specs.Prelude.{slice_get, slice_index_or, codes, decimal, ◌&&◌}
+use Rattle.std.proofs.Common.{◌≡◌, ℕ, zero, suc, ◌<◌, Bool, true, false, cond, eqb, List, [], ◌∷◌, ◌++◌, map, length, Option, Some, Ok, Err, refl, sym, ap, ◌∙◌, subst, arith}
+use Rattle.std.specs.Prelude.{slice_get, codes, decimal}
 use Rattle.std.specs.Str.{bytes_eq}
 use Rattle.std.proofs.lemmas.Bool.{and_from, eq-eqb}
 use Rattle.std.proofs.lemmas.Option.{same_Some, none-some}
@@ -8,13 +8,10 @@ use Rattle.std.proofs.lemmas.List.{length-map}
 use Rattle.text_core.specs.declared.place.Place.{Place}
 use Rattle.text_core.specs.declared.place.Refusal.{Refusal}
 use Rattle.text_core.specs.Binary.{binary_digits}
-use Rattle.word_core.specs.Words.{BitVector, IsWord}
-use Rattle.word_core.specs.Digits.{read_word}
 use Rattle.word_core.specs.declared.kinds.Unary.{Unary}
 use Rattle.word_core.specs.declared.kinds.Unary.TheVariants as one
 use Rattle.word_core.specs.declared.kinds.Binary.{Binary}
 use Rattle.word_core.specs.declared.kinds.Binary.TheVariants as two
-use Rattle.moxi_sexpr.specs.declared.form.Atom.{Atom}
 use Rattle.moxi_sexpr.specs.declared.form.Atom.TheVariants as atoms
 use Rattle.moxi_sexpr.specs.Lexing.{refusal}
 use Rattle.moxi_sexpr.specs.Tree as form
@@ -28,13 +25,12 @@ use Rattle.moxi_terms.specs.declared.data.TermOp.{TermOp}
 use Rattle.moxi_terms.specs.declared.data.TermOp.TheVariants as op
 use Rattle.moxi_terms.specs.declared.names.Local.{Local}
 use Rattle.moxi_terms.specs.declared.names.Meaning.{Meaning}
-use Rattle.moxi_terms.specs.declared.names.Meaning.TheVariants as meaning
 use Rattle.moxi_terms.specs.declared.names.Head.{Head}
 use Rattle.moxi_terms.specs.declared.names.Head.TheVariants as heads
 use Rattle.moxi_terms.specs.Tree.{Tree, constant, variable, bound, apply, binding, call, Trees, no_trees, tree, trees_of, list_of, PlainFunction, sorts_of}
 use Rattle.moxi_terms.specs.View.{ScopeState}
 use Rattle.moxi_terms.specs.Names.{function_names}
-use Rattle.moxi_terms.specs.Forms.{is_word, symbol_of, symbol_atom, place_in}
+use Rattle.moxi_terms.specs.Forms.{is_word}
 use Rattle.moxi_terms.specs.Sorts.{same_sort, same_sorts, count_fits, fitting, op_sort}
 use Rattle.moxi_terms.specs.Reading as reading
 use Rattle.moxi_terms.specs.Reading.{Context, Reading, Arguments, Bindings, read, read_all, read_bindings, meaning_of, head_named, names_of}
@@ -319,7 +315,7 @@ mutual
       let_read c bounds names us t h.0 s (shown_bindings c.scope (names_of c.variables) (names_of bounds) names us) (shown_term c.scope (names_of c.variables) (names_of bounds ++ names) t) f h.1 h.2
       (λ q bs e. (some_bindings c bounds c.scope (names_of c.variables) (names_of bounds) names us h.0 q bs h.3 h.2 h.1 e, bindings_read c bounds names us h.0 q bs h.3 h.2 e))
       (λ b e. term_read c (bounds ++ bound_locals names h.0) t s b h.4
-        (subst (λ ns. Shows b (shown_term c.scope (names_of c.variables) ns t)) (sym (names_append bounds (bound_locals names h.0) ∙ ap (λ ns. names_of bounds ++ ns) (bound_names names h.0 h.2))) e)) g
+      (subst (λ ns. Shows b (shown_term c.scope (names_of c.variables) ns t)) (sym (names_append bounds (bound_locals names h.0) ∙ ap (λ ns. names_of bounds ++ ns) (bound_names names h.0 h.2))) e)) g
   term_read c bounds (call n us) s f h g =
       call_read c bounds n h.0 (name_at (function_names c.scope) n) us (sorts_of h.0.parameters) f h.1 (function_name c.scope.functions n h.0 h.1) refl
       (λ fs e. terms_read c bounds us (sorts_of h.0.parameters) fs h.3 e) h.3 h.4 g ∙ ap (whole (call n us)) (sym h.2)

@@ -1,6 +1,6 @@
 -- Which scopes grow from which, and the sorts of a scope that has grown.
-use Rattle.std.proofs.Common.{◌≡◌, ℕ, zero, suc, ◌+◌, ◌<◌, Bool, true, false, not, cond, is_some, ◌||◌, List, [], ◌∷◌, ◌++◌, map, length, Option, None, Some, refl, sym, ap, ◌∙◌, subst, arith, append_assoc, append-nil}
-use Rattle.std.specs.Prelude.{slice_get, slice_index_or, codes, option_and_then, ◌&&◌}
+use Rattle.std.proofs.Common.{◌≡◌, ℕ, zero, suc, ◌<◌, Bool, true, false, not, cond, is_some, ◌||◌, List, [], ◌∷◌, ◌++◌, map, length, Option, None, Some, refl, sym, ap, ◌∙◌, subst, arith, append_assoc, append-nil}
+use Rattle.std.specs.Prelude.{slice_get, codes, option_and_then}
 use Rattle.std.specs.Option.{option_map}
 use Rattle.std.specs.List.{list_any}
 use Rattle.std.specs.Str.{bytes_eq}
@@ -110,9 +110,9 @@ grows_more s t u g h = record {
   all_functions = h.all_functions ∙ ap (λ xs. xs ++ h.functions) g.all_functions ∙ append_assoc s.functions g.functions h.functions;
   fresh = λ name e. (
     ap (λ ns. is_among ns name) (constants_append g.enumerations h.enumerations)
-    ∙ among_neither (all_constants g.enumerations) (all_constants h.enumerations) name (g.fresh name e).0 (h.fresh name (taken_still s t name g e)).0,
+        ∙ among_neither (all_constants g.enumerations) (all_constants h.enumerations) name (g.fresh name e).0 (h.fresh name (taken_still s t name g e)).0,
     ap (λ ns. is_among ns name) (names_append g.functions h.functions)
-    ∙ among_neither (map (λ (f : PlainFunction). f.name) g.functions) (map (λ (f : PlainFunction). f.name) h.functions) name (g.fresh name e).1 (h.fresh name (taken_still s t name g e)).1,
+        ∙ among_neither (map (λ (f : PlainFunction). f.name) g.functions) (map (λ (f : PlainFunction). f.name) h.functions) name (g.fresh name e).1 (h.fresh name (taken_still s t name g e)).1,
   );
 }
 
@@ -178,7 +178,7 @@ free_first s t f h g =
     let c = or_neither (bytes_eq f.name (codes "false")) _ b.1 in
     let d = or_neither (is_among (all_constants s.enumerations) f.name) (is_among (function_names s) f.name) c.1 in
     let there : is_among (function_names (with_function s f)) f.name ≡ true =
-      ap (λ ns. is_among ns f.name) (names_append s.functions (f ∷ [])) ∙ last_among (function_names s) f.name in
+    ap (λ ns. is_among ns f.name) (names_append s.functions (f ∷ [])) ∙ last_among (function_names s) f.name in
     let later = (g.fresh f.name (function_taken (with_function s f) f.name there)).0 in
     neither_or (is_operator f.name) _ a.0
     (neither_or (bytes_eq f.name (codes "true")) _ b.0

@@ -48,8 +48,7 @@ is_indexed f name xs h =
     let a = is_more g.1 _ _ g.3 in
     let b = is_more a.1 _ _ a.4 in
     let u = is_word a.0 (codes "_") a.3 in
-    let v = is_word b.0 name b.3 in
-    (
+    let v = is_word b.0 name b.3 in (
       g.0,
       u.0,
       v.0,

@@ -1,23 +1,20 @@
 -- What is shown of a term that can stand in its place can be shown, where its names can be spelled, by induction over the term.
-use Rattle.std.proofs.Common.{◌≡◌, ℕ, zero, suc, ◌+◌, ◌<◌, ◌≤◌, Bool, true, false, not, cond, List, [], ◌∷◌, ◌++◌, map, length, Option, None, Some, Result, Ok, Err, refl, sym, ap, ◌∙◌, subst, arith}
-use Rattle.std.specs.Prelude.{◌==◌, slice_get, slice_index_or, codes, decimal, IsTrue, ◌&&◌}
+use Rattle.std.proofs.Common.{◌≡◌, ℕ, zero, suc, ◌≤◌, Bool, true, false, cond, List, [], ◌∷◌, ◌++◌, length, Option, None, Some, refl, sym, ap, ◌∙◌, subst, arith}
+use Rattle.std.specs.Prelude.{◌==◌, slice_get, IsTrue}
 use Rattle.std.specs.Option.{option_map}
-use Rattle.std.specs.List.{AllByRecursion, list_all}
+use Rattle.std.specs.List.{list_all}
 use Rattle.std.specs.Str.{bytes_eq}
 use Rattle.std.proofs.lemmas.Bool.{and_parts}
 use Rattle.std.proofs.lemmas.Slice.Eq.{bytes_eq-Decides}
 use Rattle.std.proofs.lemmas.Option.{same_Some, none-some}
-use Rattle.word_core.specs.Words.{IsWord}
 use Rattle.word_core.specs.declared.word.TheConstants.{WIDEST}
-use Rattle.moxi_sexpr.specs.Atoms.{is_simple, may_stand}
-use Rattle.moxi_sexpr.specs.Printing.{symbol_spelling}
+use Rattle.moxi_sexpr.specs.Atoms.{is_simple}
 use Rattle.moxi_terms.specs.declared.data.Sort.{Sort}
 use Rattle.moxi_terms.specs.declared.data.Sort.TheVariants.{Truth, Bits, Choice}
 use Rattle.moxi_terms.specs.declared.data.Datum.{Datum}
 use Rattle.moxi_terms.specs.declared.data.Datum.TheVariants as datum
 use Rattle.moxi_terms.specs.declared.data.TermOp.{TermOp}
 use Rattle.moxi_terms.specs.declared.data.TermOp.TheVariants as op
-use Rattle.moxi_terms.specs.declared.names.Head.{Head}
 use Rattle.moxi_terms.specs.declared.names.Head.TheVariants as heads
 use Rattle.moxi_terms.specs.declared.names.Local.{Local}
 use Rattle.moxi_terms.specs.declared.term.Enumeration.{Enumeration}
@@ -27,9 +24,8 @@ use Rattle.moxi_terms.specs.Names.{or_else, place_of, function_names, enumeratio
 use Rattle.moxi_terms.specs.Words.{operators, row_named, operator_named}
 use Rattle.moxi_terms.specs.Reading as reading
 use Rattle.moxi_terms.specs.Reading.{Context, head_named, names_of}
-use Rattle.moxi_terms.proofs.SortedParts.{all_append}
-use Rattle.moxi_print.specs.Shown.{Shown, word, part, group, Showns, no_showns, shown, CanBeShown, AllCanBeShown}
-use Rattle.moxi_print.specs.Terms.{name_at, constants_or_none, constant_name, symbol, numeral, operator_word, shown_operator, truth_word, shown_value, shown_sort, shown_call, shown_term, shown_terms, shown_bindings}
+use Rattle.moxi_print.specs.Shown.{Showns, no_showns, shown, CanBeShown, AllCanBeShown}
+use Rattle.moxi_print.specs.Terms.{name_at, constants_or_none, operator_word, shown_operator, truth_word, shown_value, shown_sort, shown_call, shown_term, shown_terms, shown_bindings}
 use Rattle.moxi_print.specs.Standing.{bound_locals, StandsValue, StandsOperator, Stands, StandEach}
 use Rattle.moxi_print.specs.StandingReads.{StandsSort}
 use Rattle.moxi_print.specs.StandingNames.{IsSpellable, AreSpellable, NamesAreSpellable, AllNamesAreSpellable, IsSpellableScope}
@@ -153,7 +149,7 @@ module _ (c : Context) (scope : IsSpellableScope c.scope) (vars : AreSpellable (
             bindings_shown bounds names us h.0 k h.3 n.0 n.1,
             (
               subst (λ ns. CanBeShown (shown_term c.scope (names_of c.variables) ns t)) all
-              (term_shown (bounds ++ bound_locals names h.0) t s (spelled_both bounds (bound_locals names h.0) k (subst AreSpellable (sym same) n.0)) h.4 n.2),
+                  (term_shown (bounds ++ bound_locals names h.0) t s (spelled_both bounds (bound_locals names h.0) k (subst AreSpellable (sym same) n.0)) h.4 n.2),
               tt,
             ),
           ),

@@ -1,7 +1,6 @@
 -- The term of a form that can be printed binds names that can be spelled, by induction over the form.
-use Rattle.std.proofs.Common.{◌≡◌, ℕ, ◌+◌, Bool, true, false, not, cond, List, [], ◌∷◌, ◌++◌, length, Option, None, Some, Result, Ok, Err, refl, sym, ap, ◌∙◌, subst, arith}
-use Rattle.std.specs.Prelude.{codes, IsTrue, ◌*◌, ◌&&◌}
-use Rattle.std.specs.List.{AllByRecursion}
+use Rattle.std.proofs.Common.{◌≡◌, ℕ, Bool, true, false, not, cond, List, [], ◌∷◌, ◌++◌, length, Option, None, Some, Result, Ok, Err, refl, sym, ◌∙◌}
+use Rattle.std.specs.Prelude.{codes, ◌*◌, ◌&&◌}
 use Rattle.text_core.specs.declared.place.Place.{Place}
 use Rattle.text_core.specs.declared.place.Refusal.{Refusal}
 use Rattle.word_core.specs.Words.{BitVector}
@@ -10,8 +9,7 @@ use Rattle.moxi_sexpr.specs.declared.form.Atom.{Atom}
 use Rattle.moxi_sexpr.specs.declared.form.Atom.TheVariants.{Symbol, Keyword, Numeral, Binary, Hex, Quote}
 use Rattle.moxi_sexpr.specs.declared.scan.Spelling.TheVariants as how
 use Rattle.moxi_sexpr.specs.Atoms.{is_simple, may_stand}
-use Rattle.moxi_sexpr.specs.Lexing.{refusal}
-use Rattle.moxi_sexpr.specs.Printing.{reserved_words, is_among, symbol_spelling, IsPrintable, ArePrintable, CanBeSpelled}
+use Rattle.moxi_sexpr.specs.Printing.{reserved_words, is_among, symbol_spelling, IsPrintable, ArePrintable}
 use Rattle.moxi_sexpr.specs.Tree as form
 use Rattle.moxi_terms.specs.declared.names.Meaning.{Meaning}
 use Rattle.moxi_terms.specs.declared.names.Meaning.TheVariants as meaning
@@ -19,11 +17,10 @@ use Rattle.moxi_terms.specs.declared.names.Head.{Head}
 use Rattle.moxi_terms.specs.declared.names.Head.TheVariants as heads
 use Rattle.moxi_terms.specs.declared.names.Local.{Local}
 use Rattle.moxi_terms.specs.declared.data.Primes.{Primes}
-use Rattle.moxi_terms.specs.Tree.{Tree, Trees, no_trees, tree, trees_of, PlainFunction}
-use Rattle.moxi_terms.specs.Forms.{place_in, symbol_of, symbol_atom, is_word, is_primed}
+use Rattle.moxi_terms.specs.Tree.{Tree, Trees, trees_of, PlainFunction}
+use Rattle.moxi_terms.specs.Forms.{place_in, symbol_of, is_word, is_primed}
 use Rattle.moxi_terms.specs.Reading as reading
 use Rattle.moxi_terms.specs.Reading.{Context, Reading, Arguments, Bindings, names_of}
-use Rattle.moxi_terms.proofs.SortedParts.{all_append}
 use Rattle.moxi_print.specs.StandingNames.{IsSpellable, AreSpellable, NamesAreSpellable, AllNamesAreSpellable}
 
 -- a prime does not change how a name can be spelled

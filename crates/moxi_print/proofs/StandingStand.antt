@@ -1,17 +1,17 @@
 -- A form of which no test fails spells a term that can stand in its place, by induction over the form.
-use Rattle.std.proofs.Common.{◌≡◌, ℕ, zero, suc, ◌+◌, ◌<◌, ◌≤◌, Bool, true, false, not, cond, eqb, List, [], ◌∷◌, ◌++◌, ◌⊎◌, map, length, Option, None, Some, Result, Ok, Err, IfOk, nat_lt, nat_le, refl, sym, ap, ◌∙◌, subst, arith, inl, inr}
-use Rattle.std.specs.Prelude.{slice_get, slice_index_or, codes, option_and_then, ◌*◌, ◌&&◌, ◌^◌}
+use Rattle.std.proofs.Common.{◌≡◌, ℕ, zero, suc, ◌+◌, ◌<◌, Bool, true, false, not, cond, eqb, List, [], ◌∷◌, ◌++◌, ◌⊎◌, map, length, Option, None, Some, Result, Ok, Err, IfOk, nat_lt, nat_le, refl, sym, ap, ◌∙◌, subst, arith, inl, inr}
+use Rattle.std.specs.Prelude.{slice_get, codes, option_and_then, ◌*◌, ◌&&◌}
 use Rattle.std.specs.Option.{option_map}
 use Rattle.std.specs.List.{list_all}
 use Rattle.std.specs.Str.{bytes_eq}
-use Rattle.std.proofs.lemmas.Bool.{cases_Bool, and_parts}
+use Rattle.std.proofs.lemmas.Bool.{and_parts}
 use Rattle.std.proofs.lemmas.Bool.Decides.{nat_tests}
 use Rattle.std.proofs.lemmas.Slice.Eq.{bytes_eq-Decides}
 use Rattle.std.proofs.lemmas.Option.{same_Some, none-some}
 use Rattle.std.proofs.lemmas.List.{length-append}
 use Rattle.text_core.specs.declared.place.Place.{Place}
 use Rattle.text_core.specs.declared.place.Refusal.{Refusal}
-use Rattle.word_core.specs.Words.{BitVector, IsWord}
+use Rattle.word_core.specs.Words.{BitVector}
 use Rattle.word_core.specs.Digits.{digits_value, fitted, read_word}
 use Rattle.word_core.specs.declared.word.TheConstants.{WIDEST}
 use Rattle.moxi_sexpr.specs.declared.form.Atom.{Atom}
@@ -20,7 +20,6 @@ use Rattle.moxi_sexpr.specs.Lexing.{refusal}
 use Rattle.moxi_sexpr.specs.Tree as form
 use Rattle.moxi_terms.specs.declared.data.Sort.{Sort}
 use Rattle.moxi_terms.specs.declared.data.Sort.TheVariants.{Truth, Bits, Choice}
-use Rattle.moxi_terms.specs.declared.data.Datum.{Datum}
 use Rattle.moxi_terms.specs.declared.data.Datum.TheVariants as datum
 use Rattle.moxi_terms.specs.declared.data.Primes.{Primes}
 use Rattle.moxi_terms.specs.declared.data.Primes.TheVariants.{Allowed, Refused}
@@ -33,19 +32,18 @@ use Rattle.moxi_terms.specs.declared.names.Head.TheVariants as heads
 use Rattle.moxi_terms.specs.declared.names.Local.{Local}
 use Rattle.moxi_terms.specs.declared.term.Enumeration.{Enumeration}
 use Rattle.moxi_terms.specs.declared.term.Variable.{Variable}
-use Rattle.moxi_terms.specs.Tree.{Tree, constant, variable, bound, apply, binding, call, Trees, no_trees, tree, trees_of, PlainFunction, sorts_of}
+use Rattle.moxi_terms.specs.Tree.{Tree, constant, variable, bound, call, no_trees, trees_of, PlainFunction, sorts_of}
 use Rattle.moxi_terms.specs.View.{ScopeState}
 use Rattle.moxi_terms.specs.Names.{or_else, place_of, function_names, constant_named, numbered, constant_numbers, all_constants}
 use Rattle.moxi_terms.specs.Words.{operators, indexed_operators, left_out_operators, row_named, operator_named, is_one_of}
-use Rattle.moxi_terms.specs.Forms.{place_in, symbol_of, symbol_atom, numeral_of, only_of, pair_of, is_named, is_word, is_primed}
-use Rattle.moxi_terms.specs.Sorts.{op_sort}
+use Rattle.moxi_terms.specs.Forms.{place_in, symbol_of, symbol_atom, numeral_of, pair_of, is_named, is_word, is_primed}
 use Rattle.moxi_terms.specs.Reading as reading
 use Rattle.moxi_terms.specs.Reading.{Context, Reading, Arguments, Bindings, Found, meaning_of, head_named, names_of}
 use Rattle.moxi_terms.specs.WellSorted.{HaveKnownSorts}
 use Rattle.moxi_terms.proofs.FindingLaws.{place_there, index_read}
 use Rattle.moxi_terms.proofs.SortedParts.{some_fails, none_in, stays, FoundIn, first_found, last_found, known_append, names_long, read_is_word, tests_hold, call_fits}
 use Rattle.moxi_print.specs.Terms.{name_at, constants_or_none, constant_name, operator_word, truth_word}
-use Rattle.moxi_print.specs.Standing.{bound_locals, StandsValue, StandsPrime, StandsOperator, StandsCall, Stands, StandEach}
+use Rattle.moxi_print.specs.Standing.{bound_locals, StandsPrime, StandsOperator, StandsCall, Stands, StandEach}
 use Rattle.moxi_print.specs.StandingReads.{IsStanding}
 
 -- NAMES THAT ARE FOUND

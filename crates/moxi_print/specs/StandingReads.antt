@@ -1,5 +1,5 @@
 -- What is read of a form that no test refuses.
-use Rattle.std.specs.Prelude.{◌≡◌, ℕ, ◌≤◌, true, false, List, [], Some, codes}
+use Rattle.std.specs.Prelude.{◌≡◌, ◌≤◌, true, false, List, [], Some, codes}
 use Rattle.word_core.specs.declared.word.TheConstants.{WIDEST}
 use Rattle.moxi_terms.specs.declared.data.Sort.{Sort}
 use Rattle.moxi_terms.specs.declared.data.Sort.TheVariants.{Truth, Bits, Choice}
