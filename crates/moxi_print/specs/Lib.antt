@@ -1,3 +1,5 @@
 pub mod Shown
 pub mod Terms
 pub mod Standing
+pub mod Declarations
+pub mod Bindings

@@ -1,2 +1,13 @@
 //! Terms of MoXI as a text: what is printed of them, and which terms are read again.
 #![tactic(auto)]
+
+mod declarations;
+mod named;
+mod operators;
+mod sorts;
+mod terms;
+mod values;
+
+pub use declarations::{put_enumeration, put_function, put_named_sort};
+pub use sorts::{put_sort, put_variables};
+pub use terms::put_term;
