@@ -2,6 +2,7 @@
 #![tactic(auto)]
 
 mod declarations;
+mod laws;
 mod named;
 mod operators;
 mod sorts;
@@ -9,5 +10,6 @@ mod terms;
 mod values;
 
 pub use declarations::{put_enumeration, put_function, put_named_sort};
+pub use laws::shown_is_read_back;
 pub use sorts::{put_sort, put_variables};
 pub use terms::put_term;

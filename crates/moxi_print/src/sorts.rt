@@ -30,11 +30,7 @@ fn put_variable(out: &mut Text, scope: &Scope, variable: &Variable) -> Result<()
     out.put(b")")
 }
 
-fn put_each_variable(
-    out: &mut Text,
-    scope: &Scope,
-    variables: &Variables,
-) -> Result<(), NoMemory>
+fn put_each_variable(out: &mut Text, scope: &Scope, variables: &Variables) -> Result<(), NoMemory>
     ensures { OnOk result (out.new ≡ out.old ++ parts_text [] (shown_variables scope.now variables.now)) }
 {
     let mut separator: &[u8] = b"";
