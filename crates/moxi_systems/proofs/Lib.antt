@@ -3,3 +3,5 @@ pub mod Forms
 pub mod FunctionLaws
 pub mod LinkLaws
 pub mod CycleLaws
+pub mod ScriptLaws
+pub mod Building

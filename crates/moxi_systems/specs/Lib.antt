@@ -18,3 +18,6 @@ pub mod Commands
 pub mod Links
 pub mod Cycles
 pub mod Spelling
+pub mod Invariant
+pub mod Answer
+pub mod ScriptView
