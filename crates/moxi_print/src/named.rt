@@ -1,9 +1,9 @@
 // Names by their numbers: none where a number names nothing.
 ghost use Rattle.std.specs.Prelude.{◌≡◌};
 ghost use Rattle.moxi_terms.specs.Names.{enumeration_names, function_names};
-ghost use Rattle.moxi_print.specs.Terms.{constant_name, name_at, variable_names};
+ghost use Rattle.moxi_print.specs.Terms.{constant_name, name_at};
 
-use moxi_terms::{Scope, Variables};
+use moxi_terms::Scope;
 use text_core::Names;
 
 /// The name of an enumeration.
@@ -43,16 +43,5 @@ pub fn constant_name(scope: &Scope, n: u32, i: u32) -> &[u8]
     match scope.constants(n) {
         Some(names) => name_in(names, i),
         None => b"",
-    }
-}
-
-/// The name of a variable.
-pub fn variable_name(variables: &Variables, v: u32) -> &[u8]
-    ensures { result.now ≡ name_at (variable_names variables.now) v }
-{
-    if (v as usize) < variables.len() {
-        variables.at(v as usize).name.bytes()
-    } else {
-        b""
     }
 }

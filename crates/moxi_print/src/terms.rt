@@ -8,7 +8,7 @@ ghost use Rattle.moxi_print.specs.Shown.{parts_text, text_of};
 ghost use Rattle.moxi_print.specs.Bindings.{shown_binding};
 ghost use Rattle.moxi_print.specs.Terms.{name_at, shown_bindings, shown_call, shown_term, shown_terms, variable_names};
 
-use crate::named::{function_name, variable_name};
+use crate::named::function_name;
 use crate::operators::put_operator;
 use crate::values::put_value;
 use moxi_sexpr::put_symbol;
@@ -20,7 +20,7 @@ use text_core::{Names, NoMemory, Text};
 #[derive(Clone, Copy)]
 struct Scene<'a> {
     scope: &'a Scope,
-    variables: &'a Variables,
+    variables: &'a [&'a [u8]],
 }
 
 /// Appends a term over these variables (SMT-LIB 2.6, section 3.6). A name that a `let` binds stands bare wherever the term
@@ -34,15 +34,43 @@ pub fn put_term(
 ) -> Result<(), NoMemory>
     ensures { OnOk result (out.new ≡ out.old ++ text_of (shown_term scope.now (variable_names variables.now) [] (plain term.now))) }
 {
+    let mut names = Vec::new(alloc);
+    push_variable_names(&mut names, variables)?;
+    put_term_over(alloc, out, scope, &names, term)
+}
+
+/// Appends a term over variables of these names, as `put_term` does: for many terms over the same variables.
+pub fn put_term_over(
+    alloc: Global,
+    out: &mut Text,
+    scope: &Scope,
+    variables: &[&[u8]],
+    term: &Term,
+) -> Result<(), NoMemory>
+    ensures { OnOk result (out.new ≡ out.old ++ text_of (shown_term scope.now (map bytes_behind variables.now) [] (plain term.now))) }
+{
     let scene = Scene { scope, variables };
     let mut bound = Vec::new(alloc);
     put_tree(out, scene, &mut bound, term)
 }
 
-fn bound_name<'a>(bound: &[&'a [u8]], i: u32) -> &'a [u8]
-    ensures { result.now ≡ name_at (map bytes_behind bound.now) i }
+/// Adds the names of variables.
+pub fn push_variable_names<'a>(
+    names: &mut Vec<&'a [u8]>,
+    variables: &'a Variables,
+) -> Result<(), NoMemory>
+    ensures { OnOk result (map bytes_behind names.new.items ≡ map bytes_behind names.old.items ++ variable_names variables.now) }
 {
-    match bound.get(i as usize) {
+    for i in 0..variables.len() {
+        push(names, variables.at(i).name.bytes())?;
+    }
+    Ok(())
+}
+
+fn name_in<'a>(names: &[&'a [u8]], i: u32) -> &'a [u8]
+    ensures { result.now ≡ name_at (map bytes_behind names.now) i }
+{
+    match names.get(i as usize) {
         Some(name) => *name,
         None => b"",
     }
@@ -75,13 +103,13 @@ fn put_tree<'a>(
     bound: &mut Vec<&'a [u8]>,
     term: &'a Term,
 ) -> Result<(), NoMemory>
-    ensures text { OnOk result (out.new ≡ out.old ++ text_of (shown_term scene.entry.scope.now (variable_names scene.entry.variables.now) (map bytes_behind bound.old.items) (plain term.now))) }
+    ensures text { OnOk result (out.new ≡ out.old ++ text_of (shown_term scene.entry.scope.now (map bytes_behind scene.entry.variables.now) (map bytes_behind bound.old.items) (plain term.now))) }
     ensures kept { OnOk result (bound.new.items ≡ bound.old.items) }
 {
     match term {
         Term::Constant(value) => put_value(out, scene.scope, value),
-        Term::Variable(v, primed) => put_symbol(out, variable_name(scene.variables, *v), *primed),
-        Term::Bound(i) => put_symbol(out, bound_name(bound, *i), false),
+        Term::Variable(v, primed) => put_symbol(out, name_in(scene.variables, *v), *primed),
+        Term::Bound(i) => put_symbol(out, name_in(bound, *i), false),
         Term::Apply(op, terms) => {
             out.put(b"(")?;
             put_operator(out, *op)?;
@@ -108,7 +136,7 @@ fn put_trees<'a>(
     bound: &mut Vec<&'a [u8]>,
     terms: &'a [Term],
 ) -> Result<(), NoMemory>
-    ensures text { OnOk result (out.new ≡ out.old ++ parts_text (32 ∷ []) (shown_terms scene.entry.scope.now (variable_names scene.entry.variables.now) (map bytes_behind bound.old.items) (trees_of (map plain terms.now)))) }
+    ensures text { OnOk result (out.new ≡ out.old ++ parts_text (32 ∷ []) (shown_terms scene.entry.scope.now (map bytes_behind scene.entry.variables.now) (map bytes_behind bound.old.items) (trees_of (map plain terms.now)))) }
     ensures kept { OnOk result (bound.new.items ≡ bound.old.items) }
 {
     for term in terms {
@@ -127,7 +155,7 @@ fn put_call<'a>(
     name: &[u8],
     terms: &'a [Term],
 ) -> Result<(), NoMemory>
-    ensures text { OnOk result (out.new ≡ out.old ++ text_of (shown_call name.now (shown_terms scene.entry.scope.now (variable_names scene.entry.variables.now) (map bytes_behind bound.old.items) (trees_of (map plain terms.now))))) }
+    ensures text { OnOk result (out.new ≡ out.old ++ text_of (shown_call name.now (shown_terms scene.entry.scope.now (map bytes_behind scene.entry.variables.now) (map bytes_behind bound.old.items) (trees_of (map plain terms.now))))) }
     ensures kept { OnOk result (bound.new.items ≡ bound.old.items) }
 {
     if terms.is_empty() {
@@ -149,7 +177,7 @@ fn put_body<'a>(
     names: &'a Names,
     term: &'a Term,
 ) -> Result<(), NoMemory>
-    ensures text { OnOk result (out.new ≡ out.old ++ text_of (shown_term scene.entry.scope.now (variable_names scene.entry.variables.now) (map bytes_behind bound.old.items ++ names.now) (plain term.now))) }
+    ensures text { OnOk result (out.new ≡ out.old ++ text_of (shown_term scene.entry.scope.now (map bytes_behind scene.entry.variables.now) (map bytes_behind bound.old.items ++ names.now) (plain term.now))) }
     ensures kept { OnOk result (bound.new.items ≡ bound.old.items) }
 {
     let before = bound.len();
@@ -169,7 +197,7 @@ fn put_binding<'a>(
     name: &[u8],
     term: &'a Term,
 ) -> Result<(), NoMemory>
-    ensures text { OnOk result (out.new ≡ out.old ++ text_of (shown_binding scene.entry.scope.now (variable_names scene.entry.variables.now) (map bytes_behind bound.old.items) name.now (plain term.now))) }
+    ensures text { OnOk result (out.new ≡ out.old ++ text_of (shown_binding scene.entry.scope.now (map bytes_behind scene.entry.variables.now) (map bytes_behind bound.old.items) name.now (plain term.now))) }
     ensures kept { OnOk result (bound.new.items ≡ bound.old.items) }
 {
     out.put(b"(")?;
@@ -189,7 +217,7 @@ fn put_bindings<'a>(
     names: &'a Names,
     terms: &'a [Term],
 ) -> Result<(), NoMemory>
-    ensures text { OnOk result (out.new ≡ out.old ++ parts_text [] (shown_bindings scene.entry.scope.now (variable_names scene.entry.variables.now) (map bytes_behind bound.old.items) names.now (trees_of (map plain terms.now)))) }
+    ensures text { OnOk result (out.new ≡ out.old ++ parts_text [] (shown_bindings scene.entry.scope.now (map bytes_behind scene.entry.variables.now) (map bytes_behind bound.old.items) names.now (trees_of (map plain terms.now)))) }
     ensures kept { OnOk result (bound.new.items ≡ bound.old.items) }
 {
     let mut separator: &[u8] = b"";

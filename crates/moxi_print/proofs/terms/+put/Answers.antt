@@ -4,14 +4,14 @@ use Rattle.moxi_sexpr.specs.Printing.{bytes_behind, printed_atom}
 use Rattle.moxi_terms.specs.Tree.{trees_of}
 use Rattle.moxi_terms.specs.View.{plain}
 use Rattle.moxi_print.specs.Shown.{parts_text}
-use Rattle.moxi_print.specs.Terms.{shown_terms, variable_names}
+use Rattle.moxi_print.specs.Terms.{shown_terms}
 use Rattle.moxi_print.proofs.TextLaws.{ok_same, onto, call_text}
 use Rattle.moxi_print.proofs.terms.+put.Goals as goal
 
 pub put_call-returns-clause-text : goal.put_call-returns-clause-text
 put_call-returns-clause-text t c =
     let s = c.args.scene.scope.now in
-    let vars = variable_names c.args.scene.variables.now in
+    let vars = map bytes_behind c.args.scene.variables.now in
     let bounds = map bytes_behind c.args.bound.now.items in
     let ts = c.args.terms.now in
     let some : 0 < length ts = grind (arith, c.is_empty.ensures, c.if-is_empty.false) in
