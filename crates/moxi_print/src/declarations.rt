@@ -1,5 +1,6 @@
 // Declarations as a text.
-ghost use Rattle.std.specs.Prelude.{◌≡◌, ◌++◌, ◌∷◌, [], OnOk};
+ghost use Rattle.std.specs.Prelude.{◌≡◌, ◌++◌, ◌∷◌, [], map, OnOk};
+ghost use Rattle.moxi_sexpr.specs.Printing.{bytes_behind};
 ghost use Rattle.moxi_terms.specs.View.{plain_function};
 ghost use Rattle.moxi_print.specs.Shown.{parts_text, text_of};
 ghost use Rattle.moxi_print.specs.Declarations.{shown_enumeration, shown_function, shown_named_sort, shown_symbols};
@@ -11,7 +12,20 @@ use moxi_terms::{Enumeration, Function, NamedSort, Scope};
 use std::alloc::Global;
 use text_core::{Names, NoMemory, Text};
 
-fn put_symbols(out: &mut Text, names: &Names) -> Result<(), NoMemory>
+/// Appends names as symbols, with a blank between two.
+pub fn put_symbols(out: &mut Text, names: &[&[u8]]) -> Result<(), NoMemory>
+    ensures { OnOk result (out.new ≡ out.old ++ parts_text [] (shown_symbols (map bytes_behind names.now))) }
+{
+    let mut separator: &[u8] = b"";
+    for name in names {
+        out.put(separator)?;
+        put_symbol(out, name, false)?;
+        separator = b" ";
+    }
+    Ok(())
+}
+
+fn put_constants(out: &mut Text, names: &Names) -> Result<(), NoMemory>
     ensures { OnOk result (out.new ≡ out.old ++ parts_text [] (shown_symbols names.now)) }
 {
     let mut separator: &[u8] = b"";
@@ -30,7 +44,7 @@ pub fn put_enumeration(out: &mut Text, enumeration: &Enumeration) -> Result<(), 
     out.put(b"(declare-enum-sort ")?;
     put_symbol(out, enumeration.name.bytes(), false)?;
     out.put(b" (")?;
-    put_symbols(out, &enumeration.constants)?;
+    put_constants(out, &enumeration.constants)?;
     out.put(b"))")
 }
 

@@ -9,7 +9,7 @@ mod sorts;
 mod terms;
 mod values;
 
-pub use declarations::{put_enumeration, put_function, put_named_sort};
+pub use declarations::{put_enumeration, put_function, put_named_sort, put_symbols};
 pub use laws::shown_is_read_back;
 pub use sorts::{put_sort, put_variables};
 pub use terms::{push_variable_names, put_term, put_term_over};

@@ -15,5 +15,5 @@ returns c =
     let parts : List ℕ = parts_text [] (shown_symbols c.args.enumeration.now.constants) in
     let symbols = onto old _ _ _ name c.in_ok-put.ensures.ok (c.in_ok-put_symbol.ensures ∙ ap (λ n. c.put.new.self ++ printed_atom (Symbol n false)) c.bytes.ensures) in
     let opened = onto old _ _ _ (32 ∷ (40 ∷ [])) symbols c.in_ok-put-2.ensures.ok in
-    let all = onto old _ _ _ parts opened c.in_ok-put_symbols.ensures in
+    let all = onto old _ _ _ parts opened c.in_ok-put_constants.ensures in
     ok_same c.put-3.result _ _ _ (ap (λ x. x ++ 41 ∷ (41 ∷ [])) all ∙ append_assoc old _ _ ∙ ap (λ x. old ++ x) (enumeration_pieces w name parts)) c.put-3.ensures.ok
