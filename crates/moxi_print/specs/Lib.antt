@@ -3,3 +3,5 @@ pub mod Terms
 pub mod Standing
 pub mod Declarations
 pub mod Bindings
+pub mod StandingReads
+pub mod StandingGrows

@@ -13,3 +13,6 @@ pub use declarations::{put_enumeration, put_function, put_named_sort, put_symbol
 pub use laws::shown_is_read_back;
 pub use sorts::{put_sort, put_variables};
 pub use terms::{push_variable_names, put_term, put_term_over};
+mod reading_laws;
+
+pub use reading_laws::{read_terms_stand, scopes_grow, shown_sorts_are_read, shown_terms_are_read, terms_stand_on};
