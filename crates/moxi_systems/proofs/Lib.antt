@@ -5,3 +5,12 @@ pub mod LinkLaws
 pub mod CycleLaws
 pub mod ScriptLaws
 pub mod Building
+pub mod WholeNames
+pub mod WholeParts
+pub mod WholeEntries
+pub mod WholeUses
+pub mod WholeQueries
+pub mod WholeScopes
+pub mod WholeFormulas
+pub mod WholeLabels
+pub mod WholeSystems

@@ -22,3 +22,4 @@ pub mod Invariant
 pub mod Answer
 pub mod ScriptView
 pub mod Printing
+pub mod Whole
