@@ -14,3 +14,5 @@ pub mod WholeScopes
 pub mod WholeFormulas
 pub mod WholeLabels
 pub mod WholeSystems
+pub mod AgainShapes
+pub mod AgainEntries

@@ -23,3 +23,4 @@ pub mod Answer
 pub mod ScriptView
 pub mod Printing
 pub mod Whole
+pub mod Again

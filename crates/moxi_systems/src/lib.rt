@@ -1,6 +1,7 @@
 //! Scripts of MoXI: systems, checks and queries, read from forms and printed.
 #![tactic(auto)]
 
+mod again_laws;
 mod attributes;
 #[cfg(test)]
 mod behaving_tests;
@@ -29,6 +30,7 @@ mod systems;
 mod tests;
 mod uses;
 
+pub use again_laws::printed_scripts_are_spelled;
 pub use attributes::{Command, Key};
 pub use checks::{ListPlaces, ReadCheck};
 pub use commands::{Draft, nothing_read, read_commands};
