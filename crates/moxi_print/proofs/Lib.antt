@@ -1,3 +1,6 @@
+pub mod NumberLaws
+pub mod TextLaws
+pub mod ReadBack
 pub mod StandingNumbers
 pub mod StandingShapes
 pub mod StandingRead

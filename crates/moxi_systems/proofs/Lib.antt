@@ -3,3 +3,16 @@ pub mod Forms
 pub mod FunctionLaws
 pub mod LinkLaws
 pub mod CycleLaws
+pub mod ScriptLaws
+pub mod Building
+pub mod WholeNames
+pub mod WholeParts
+pub mod WholeEntries
+pub mod WholeUses
+pub mod WholeQueries
+pub mod WholeScopes
+pub mod WholeFormulas
+pub mod WholeLabels
+pub mod WholeSystems
+pub mod AgainShapes
+pub mod AgainEntries
