@@ -16,3 +16,6 @@ pub mod WholeLabels
 pub mod WholeSystems
 pub mod AgainShapes
 pub mod AgainEntries
+pub mod NamesLaws
+pub mod NamesLawsScopes
+pub mod NamesLawsScript

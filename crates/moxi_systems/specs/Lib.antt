@@ -24,3 +24,4 @@ pub mod ScriptView
 pub mod Printing
 pub mod Whole
 pub mod Again
+pub mod NamesOfScripts
