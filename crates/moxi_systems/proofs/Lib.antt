@@ -19,3 +19,5 @@ pub mod AgainEntries
 pub mod NamesLaws
 pub mod NamesLawsScopes
 pub mod NamesLawsScript
+pub mod NamesLawsGrowth
+pub mod NamesLawsShown

@@ -41,7 +41,7 @@ pub use labels::{Labelled, Labels};
 pub use laws::{least_is_least, one_script};
 pub use links::test_links;
 pub use lists::{DeclaredList, Lists};
-pub use name_laws::printable_forms_give_spellable_names;
+pub use name_laws::{printable_forms_give_spellable_names, whole_scripts_can_be_shown};
 pub use outcome::ScriptEnd;
 pub use read::read_script;
 pub use script::{
