@@ -16,3 +16,6 @@ pub mod WholeLabels
 pub mod WholeSystems
 pub mod AgainShapes
 pub mod AgainEntries
+pub mod AgainAttributes
+pub mod AgainFormulas
+pub mod AgainUses
