@@ -19,3 +19,4 @@ pub mod AgainEntries
 pub mod AgainAttributes
 pub mod AgainFormulas
 pub mod AgainUses
+pub mod AgainSystems
