@@ -20,3 +20,4 @@ pub mod AgainAttributes
 pub mod AgainFormulas
 pub mod AgainUses
 pub mod AgainSystems
+pub mod AgainLabels

@@ -1,4 +1,5 @@
 use Rattle.moxi_systems.proofs.AgainSystems.{system_read}
+use Rattle.moxi_systems.proofs.AgainLabels.{all_labels_read}
 use Rattle.moxi_systems.proofs.AgainFormulas.{term_passes}
 use Rattle.moxi_systems.proofs.again_laws.printed_scripts_are_spelled.Goals as goal
 
