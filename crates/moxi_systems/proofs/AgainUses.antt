@@ -66,7 +66,7 @@ have_sorts vs [] (s ∷ ss) h = absurd (cc)
 have_sorts vs (n ∷ ns) [] h = absurd (cc)
 have_sorts vs (n ∷ ns) (s ∷ ss) h = (ap (first_or None) h, have_sorts vs ns ss (ap rest_of h))
 
-absent_at : (before names : List (List ℕ)) (i : ℕ) → are_fresh before names ≡ true → i < length names → Absent before (name_at names i)
+pub absent_at : (before names : List (List ℕ)) (i : ℕ) → are_fresh before names ≡ true → i < length names → Absent before (name_at names i)
 absent_at before [] i h l = absurd (omega arith)
 absent_at before (x ∷ xs) zero h l = (fresh_first before x xs h).0
 absent_at before (x ∷ xs) (suc i) h l = (absent_parts before (x ∷ []) (name_at xs i) (absent_at (before ++ x ∷ []) xs i (fresh_first before x xs h).1 (omega arith))).0

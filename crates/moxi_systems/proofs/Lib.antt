@@ -21,3 +21,4 @@ pub mod AgainFormulas
 pub mod AgainUses
 pub mod AgainSystems
 pub mod AgainLabels
+pub mod AgainQueries
