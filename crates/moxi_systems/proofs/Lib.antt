@@ -22,3 +22,4 @@ pub mod AgainUses
 pub mod AgainSystems
 pub mod AgainLabels
 pub mod AgainQueries
+pub mod AgainChecks

@@ -1,4 +1,4 @@
-use Rattle.moxi_systems.proofs.AgainQueries.{queries_read}
+use Rattle.moxi_systems.proofs.AgainChecks.{check_read}
 use Rattle.moxi_systems.proofs.AgainSystems.{system_read}
 use Rattle.moxi_systems.proofs.AgainLabels.{all_labels_read}
 use Rattle.moxi_systems.proofs.AgainFormulas.{term_passes}
