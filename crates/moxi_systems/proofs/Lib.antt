@@ -23,3 +23,5 @@ pub mod AgainSystems
 pub mod AgainLabels
 pub mod AgainQueries
 pub mod AgainChecks
+pub mod AgainScopes
+pub mod AgainDeclarations

@@ -1,4 +1,6 @@
 use Rattle.moxi_systems.proofs.AgainChecks.{check_read}
+use Rattle.moxi_systems.proofs.AgainDeclarations.{function_read}
+use Rattle.moxi_systems.proofs.AgainScopes.{term_shown}
 use Rattle.moxi_systems.proofs.AgainSystems.{system_read}
 use Rattle.moxi_systems.proofs.AgainLabels.{all_labels_read}
 use Rattle.moxi_systems.proofs.AgainFormulas.{term_passes}
