@@ -25,3 +25,4 @@ pub mod AgainQueries
 pub mod AgainChecks
 pub mod AgainScopes
 pub mod AgainDeclarations
+pub mod AgainCommands

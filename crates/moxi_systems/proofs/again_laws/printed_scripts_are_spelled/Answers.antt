@@ -1,3 +1,4 @@
+use Rattle.moxi_systems.proofs.AgainCommands.{commands_go}
 use Rattle.moxi_systems.proofs.AgainChecks.{check_read}
 use Rattle.moxi_systems.proofs.AgainDeclarations.{function_read}
 use Rattle.moxi_systems.proofs.AgainScopes.{term_shown}
