@@ -174,7 +174,7 @@ sort_definition_read r n f mean i new h =
 
 -- FUNCTIONS
 
-same_refl : (s : Sort) → same_sort s s ≡ true
+pub same_refl : (s : Sort) → same_sort s s ≡ true
 same_refl Truth = refl
 same_refl (Bits w) = same_number w
   where

@@ -26,3 +26,6 @@ pub mod AgainChecks
 pub mod AgainScopes
 pub mod AgainDeclarations
 pub mod AgainCommands
+pub mod AgainLinks
+pub mod AgainCycles
+pub mod AgainScript
