@@ -21,3 +21,16 @@ pub mod NamesLawsScopes
 pub mod NamesLawsScript
 pub mod NamesLawsGrowth
 pub mod NamesLawsShown
+pub mod AgainAttributes
+pub mod AgainFormulas
+pub mod AgainUses
+pub mod AgainSystems
+pub mod AgainLabels
+pub mod AgainQueries
+pub mod AgainChecks
+pub mod AgainScopes
+pub mod AgainDeclarations
+pub mod AgainCommands
+pub mod AgainLinks
+pub mod AgainCycles
+pub mod AgainScript
