@@ -3,3 +3,12 @@ pub mod Forms
 pub mod FunctionLaws
 pub mod LinkLaws
 pub mod CycleLaws
+pub mod WholeNames
+pub mod WholeParts
+pub mod WholeEntries
+pub mod WholeUses
+pub mod WholeQueries
+pub mod WholeScopes
+pub mod WholeFormulas
+pub mod WholeLabels
+pub mod WholeSystems

@@ -18,3 +18,4 @@ pub mod Commands
 pub mod Links
 pub mod Cycles
 pub mod Spelling
+pub mod Whole
