@@ -12,3 +12,8 @@ pub mod WholeScopes
 pub mod WholeFormulas
 pub mod WholeLabels
 pub mod WholeSystems
+pub mod WholeSteps
+pub mod WholeCommands
+pub mod WholeLinks
+pub mod WholeCycles
+pub mod WholeLaw
