@@ -17,3 +17,4 @@ pub mod WholeCommands
 pub mod WholeLinks
 pub mod WholeCycles
 pub mod WholeLaw
+pub mod WholeGrowth

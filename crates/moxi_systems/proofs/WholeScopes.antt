@@ -36,7 +36,7 @@ some_of_none (Some x) h = absurd (cc)
 pub among_absent : (names : List (List ℕ)) (name : List ℕ) → is_among names name ≡ false → Absent names name
 among_absent names name h = absent_is names name (none_of_some (place_of names name) h)
 
-absent_among : (names : List (List ℕ)) (name : List ℕ) → Absent names name → is_among names name ≡ false
+pub absent_among : (names : List (List ℕ)) (name : List ℕ) → Absent names name → is_among names name ≡ false
 absent_among names name h = some_of_none (place_of names name) (placed names name ∙ ap not h)
 
 pub record IsNewTerm (s : ScopeState) (name : List ℕ) : Type 0 where

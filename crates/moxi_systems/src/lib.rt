@@ -21,6 +21,7 @@ mod systems;
 #[cfg(test)]
 mod tests;
 mod uses;
+mod whole_laws;
 
 pub use attributes::{Command, Key};
 pub use checks::{ListPlaces, ReadCheck};
@@ -33,3 +34,4 @@ pub use lists::{DeclaredList, Lists};
 pub use script::{Check, Formula, Query, Subsystem, Subsystems, System};
 pub use systems::ReadSystem;
 pub use uses::{Actual, Use};
+pub use whole_laws::spelled_scripts_are_whole;
