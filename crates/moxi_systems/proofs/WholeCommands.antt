@@ -173,7 +173,7 @@ module _ (sorts : SortsAreKnown) (terms : TermsAreSorted) (stand : TermsStand) (
       record {
         parameters = variables_whole end.scope ds (known_on s end.scope g ds known) twice u;
         body = subst (λ ls. Stands (let x : Context = record { scope = before end.scope (length s.functions); variables = ls; primes = Refused } in x) [] t r) same
-        (on c (before end.scope (length s.functions)) (grows_before s end.scope g) t r (subst (Stands c [] t) (sym one) w.2));
+            (on c (before end.scope (length s.functions)) (grows_before s end.scope g) t r (subst (Stands c [] t) (sym one) w.2));
       }
 
   abbrev WholeFunctions : ScopeState → Type 0
@@ -219,8 +219,8 @@ module _ (sorts : SortsAreKnown) (terms : TermsAreSorted) (stand : TermsStand) (
         functions = i.functions;
         systems = all_append (IsSystemSoFar end.scope) r.systems (read_systems r.scope r.system_names ts) i.systems (subst (AllByRecursion (IsSystemSoFar end.scope)) (sym n.only) (n.is, tt));
         names = map_append (λ (x : SystemReading). x.name) r.systems (read_systems r.scope r.system_names ts)
-        ∙ ap (λ ns. ns ++ map (λ (x : SystemReading). x.name) (read_systems r.scope r.system_names ts)) i.names
-        ∙ ap (λ xs. r.system_names ++ map (λ (x : SystemReading). x.name) xs) n.only ∙ sym n.names_then;
+            ∙ ap (λ ns. ns ++ map (λ (x : SystemReading). x.name) (read_systems r.scope r.system_names ts)) i.names
+            ∙ ap (λ xs. r.system_names ++ map (λ (x : SystemReading). x.name) xs) n.only ∙ sym n.names_then;
         differ = ap (are_fresh []) n.names_then ∙ fresh_end r.system_names n.system.name i.differ n.fresh;
         check = i.check;
       }

@@ -69,7 +69,7 @@ not_true (v ∷ vs) s a =
 pub true_stands : (s : ScopeState) (vs : List Variable) (primes : Primes) → AreVariables s vs → IsFormula s vs primes true_term
 true_stands s vs primes v = (refl, by_first (first_of 0 (locals_of vs) (codes "true")) (no_first 0 vs (codes "true") (not_true vs s v.names.own)))
   where
-    by_first : (o : Option Found) → o ≡ None → or_else (let x : Option Meaning = None in x) (or_else (elim o [ | None ↦ let x : Option Meaning = None in x | Some f ↦ Some (meaning.Variable f.number f.sort) ]) (Some (meaning.Value (datum.Truth true) Truth)))
+    by_first : (o : Option Found) → o ≡ None → or_else (let x : Option Meaning = None in x) (or_else (elim o [ None ↦ let x : Option Meaning = None in x | Some f ↦ Some (meaning.Variable f.number f.sort) ]) (Some (meaning.Value (datum.Truth true) Truth)))
         ≡ Some (meaning.Value (datum.Truth true) Truth)
     by_first None e = refl
     by_first (Some f) e = absurd (cc)

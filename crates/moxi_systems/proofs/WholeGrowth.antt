@@ -26,6 +26,8 @@ grows_is s t g = record {
   all_enumerations = g.enumerations;
   all_sorts = g.sorts;
   all_functions = g.functions;
-  fresh = λ name h. (absent_among (all_constants g.more_enumerations) name (none_equal s name (all_constants g.more_enumerations) h g.constants_new),
-  absent_among (map (λ (f : PlainFunction). f.name) g.more_functions) name (none_equal s name (map (λ (f : PlainFunction). f.name) g.more_functions) h g.functions_new));
+  fresh = λ name h. (
+    absent_among (all_constants g.more_enumerations) name (none_equal s name (all_constants g.more_enumerations) h g.constants_new),
+    absent_among (map (λ (f : PlainFunction). f.name) g.more_functions) name (none_equal s name (map (λ (f : PlainFunction). f.name) g.more_functions) h g.functions_new),
+  );
 }

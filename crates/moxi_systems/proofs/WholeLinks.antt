@@ -204,13 +204,13 @@ module _ (s : ScopeState) (rs : List SystemReading) (names : List (List ℕ)) (s
       record {
         there = number_below u.target f;
         actuals = use_sorts ds u x k a (all_at (IsSystemSoFar s) rs f.number x each f.there) fits
-        ∙ ap (λ (z : PlainSystem). map Some (sorts_of (z.inputs ++ z.outputs))) (sym (system_there u.target f));
+            ∙ ap (λ (z : PlainSystem). map Some (sorts_of (z.inputs ++ z.outputs))) (sym (system_there u.target f));
       }
     where
       lists_there : (j : ℕ) (x : SystemReading) → slice_get rs j ≡ Some x → lists_at rs j ≡ Some x.lists
       lists_there j x e = by_get (slice_get rs j) e
         where
-          by_get : (o : Option SystemReading) → o ≡ Some x → elim o [ | None ↦ let n : Option Lists = None in n | Some r ↦ Some r.lists ] ≡ Some x.lists
+          by_get : (o : Option SystemReading) → o ≡ Some x → elim o [ None ↦ let n : Option Lists = None in n | Some r ↦ Some r.lists ] ≡ Some x.lists
           by_get None e = absurd (none-some x e)
           by_get (Some r) e = ap (λ (r : SystemReading). Some r.lists) (same_Some r x e)
 
@@ -260,7 +260,7 @@ module _ (s : ScopeState) (rs : List SystemReading) (names : List (List ℕ)) (s
         locals = list_sorts es l.locals c.lists.locals c.places.locals x.known.locals i.known.locals x.known.locals_whole i.known.locals_whole p.1;
       }
     where
-      by_get : (o : Option SystemReading) → o ≡ Some f.reading → elim o [ | None ↦ let n : Option Lists = None in n | Some r ↦ Some r.lists ] ≡ Some f.reading.lists
+      by_get : (o : Option SystemReading) → o ≡ Some f.reading → elim o [ None ↦ let n : Option Lists = None in n | Some r ↦ Some r.lists ] ≡ Some f.reading.lists
       by_get None e = absurd (none-some f.reading e)
       by_get (Some r) e = ap (λ (r : SystemReading). Some r.lists) (same_Some r f.reading e)
 
@@ -285,9 +285,9 @@ module _ (s : ScopeState) (rs : List SystemReading) (names : List (List ℕ)) (s
             variables = subst (AreVariables s) vs i.variables;
             formulas = record {
               names = ap (are_fresh [])
-              (ap (λ ns. ns ++ (formula_names ls.currents.formulas ++ formula_names ls.reachables.formulas)) (sym i.labels.assumptions.names)
-              ∙ ap (λ ns. ls.assumptions.names ++ (ns ++ formula_names ls.reachables.formulas)) (sym i.labels.currents.names)
-              ∙ ap (λ ns. ls.assumptions.names ++ (ls.currents.names ++ ns)) (sym i.labels.reachables.names)) ∙ i.labels.differ;
+                  (ap (λ ns. ns ++ (formula_names ls.currents.formulas ++ formula_names ls.reachables.formulas)) (sym i.labels.assumptions.names)
+                  ∙ ap (λ ns. ls.assumptions.names ++ (ns ++ formula_names ls.reachables.formulas)) (sym i.labels.currents.names)
+                  ∙ ap (λ ns. ls.assumptions.names ++ (ls.currents.names ++ ns)) (sym i.labels.reachables.names)) ∙ i.labels.differ;
               assumptions = subst (formulas ls.assumptions.formulas) vs i.labels.assumptions.formulas;
               currents = subst (formulas ls.currents.formulas) vs i.labels.currents.formulas;
               reachables = subst (formulas ls.reachables.formulas) vs i.labels.reachables.formulas;
@@ -295,7 +295,7 @@ module _ (s : ScopeState) (rs : List SystemReading) (names : List (List ℕ)) (s
             queries = record {
               names = i.names;
               queries = subst (λ n. AllByRecursion (IsWholeQuery n (length ls.currents.formulas) (length ls.reachables.formulas)) c.queries) la
-              (subst (λ n. AllByRecursion (IsWholeQuery (length ls.assumptions.names) n (length ls.reachables.formulas)) c.queries) lc
-              (subst (λ n. AllByRecursion (IsWholeQuery (length ls.assumptions.names) (length ls.currents.names) n) c.queries) lr i.queries));
+                  (subst (λ n. AllByRecursion (IsWholeQuery (length ls.assumptions.names) n (length ls.reachables.formulas)) c.queries) lc
+                  (subst (λ n. AllByRecursion (IsWholeQuery (length ls.assumptions.names) (length ls.currents.names) n) c.queries) lr i.queries));
             };
           }

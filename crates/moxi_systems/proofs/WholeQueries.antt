@@ -165,6 +165,7 @@ module _ (ls : FormulaLists) where
         let then = queries.names_with_queries names (queries.query_forms turn t) in
         let b = all_queries_are then (turn_after Check turn t) ts e.1 in
         let xs = queries.queries_in ls (queries.query_forms turn t) in
-        let ys = queries.queries_after ls (turn_after Check turn t) ts in
-        (all_append IsQuery xs ys a.each b.0,
-        ap (are_fresh names) (map_append (λ (q : Query). q.name) xs ys) ∙ fresh_join names (query_names xs) (query_names ys) a.fresh (subst (λ x. are_fresh x (query_names ys) ≡ true) a.names_then b.1))
+        let ys = queries.queries_after ls (turn_after Check turn t) ts in (
+          all_append IsQuery xs ys a.each b.0,
+          ap (are_fresh names) (map_append (λ (q : Query). q.name) xs ys) ∙ fresh_join names (query_names xs) (query_names ys) a.fresh (subst (λ x. are_fresh x (query_names ys) ≡ true) a.names_then b.1),
+        )

@@ -128,6 +128,7 @@ module _ (ds : List Declared) where
           let n = named_is names t (named t) e.0 in
           let r = rest (uses.names_with_use names t) e.1 in
           let one = uses.use_of (locals_among ds) t in
-          let more = uses.uses_in (locals_among ds) (turn_after System turn t) ts in
-          (all_append (IsUse ds) one more n.each r.0,
-          ap (are_fresh names) (map_append (λ (u : Use). u.name) one more) ∙ fresh_join names (use_names one) (use_names more) n.fresh (subst (λ x. are_fresh x (use_names more) ≡ true) n.names_then r.1))
+          let more = uses.uses_in (locals_among ds) (turn_after System turn t) ts in (
+            all_append (IsUse ds) one more n.each r.0,
+            ap (are_fresh names) (map_append (λ (u : Use). u.name) one more) ∙ fresh_join names (use_names one) (use_names more) n.fresh (subst (λ x. are_fresh x (use_names more) ≡ true) n.names_then r.1),
+          )
