@@ -18,3 +18,4 @@ pub mod WholeLinks
 pub mod WholeCycles
 pub mod WholeLaw
 pub mod WholeGrowth
+pub mod WholeWalks
