@@ -19,3 +19,4 @@ pub mod WholeCycles
 pub mod WholeLaw
 pub mod WholeGrowth
 pub mod WholeWalks
+pub mod WholeRanks

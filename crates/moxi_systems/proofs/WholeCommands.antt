@@ -1,5 +1,5 @@
 -- Commands of which no test fails, one behind the other: what they declare is whole over the scope that stands at the end.
-use Rattle.std.proofs.Common.{◌≡◌, ◌⊎◌, ℕ, ◌<◌, Bool, true, false, not, cond, is_none, IfOk, Option, None, Some, List, [], ◌∷◌, ◌++◌, map, take, length, refl, sym, ap, ◌∙◌, subst, append_assoc, append-nil, inl, inr}
+use Rattle.std.proofs.Common.{◌≡◌, ℕ, true, false, IfOk, Option, None, Some, List, [], ◌++◌, map, take, length, refl, sym, ap, ◌∙◌, subst, append_assoc, append-nil, inl, inr}
 use Rattle.std.specs.Prelude.{slice_get}
 use Rattle.std.specs.List.{AllByRecursion}
 use Rattle.std.proofs.lemmas.Option.{none-some, same_Some}
@@ -8,12 +8,11 @@ use Rattle.moxi_sexpr.specs.Lexing.{refusal}
 use Rattle.moxi_sexpr.specs.Tree as form
 use Rattle.moxi_terms.specs.declared.data.Primes.TheVariants.{Refused}
 use Rattle.moxi_terms.specs.declared.data.Sort.{Sort}
-use Rattle.moxi_terms.specs.Answer.{locals_of}
-use Rattle.moxi_terms.specs.Forms.{only_of, place_in}
-use Rattle.moxi_terms.specs.Names.{are_fresh, is_term_name, no_scope, with_enumeration, with_function, with_sort}
+use Rattle.moxi_terms.specs.Forms.{place_in}
+use Rattle.moxi_terms.specs.Names.{are_fresh, is_term_name, no_scope, with_function}
 use Rattle.moxi_terms.specs.Reading.{Context, prime_failures, read, sort_reading}
 use Rattle.moxi_terms.specs.Sorts.{IsSort}
-use Rattle.moxi_terms.specs.Sorted.{IsFunction, IsScope}
+use Rattle.moxi_terms.specs.Sorted.{IsScope}
 use Rattle.moxi_terms.specs.Tree.{PlainFunction, sorts_of}
 use Rattle.moxi_terms.specs.View.{ScopeState}
 use Rattle.moxi_terms.specs.WellSorted.{HaveKnownSorts, IsWellSorted}
@@ -21,21 +20,20 @@ use Rattle.moxi_print.specs.Standing.{Stands}
 use Rattle.moxi_systems.specs.declared.commands.CommandName.{CommandName}
 use Rattle.moxi_systems.specs.declared.commands.CommandName.TheVariants as name
 use Rattle.moxi_systems.specs.declared.entries.Declared.{Declared}
-use Rattle.moxi_systems.specs.Checks.{CheckReading, check_failures, check_of, headed_failures, variables_in}
-use Rattle.moxi_systems.specs.Collecting.{fails_if}
+use Rattle.moxi_systems.specs.Checks.{CheckReading, check_failures, check_of, variables_in}
 use Rattle.moxi_systems.specs.Commands as commands
 use Rattle.moxi_systems.specs.Commands.{Reading, command_failures, command_named, commands_failures, first_check, form_failures, nothing_read, reading_after, with_command, with_form}
-use Rattle.moxi_systems.specs.Declarations.{FunctionForms, body_reading, clash_failures, function_failures, function_forms, function_tests, own_name_failures, parameters_in, part_failures, result_sort, term_name_tests, with_read_enumeration, with_read_function, with_read_sort}
-use Rattle.moxi_systems.specs.Entries.{entries_failures, entries_of, known_sort, locals_among, sort_failures, twice_failures, variables_of}
+use Rattle.moxi_systems.specs.Declarations.{FunctionForms, body_reading, clash_failures, function_failures, function_forms, function_tests, own_name_failures, parameters_in, result_sort, term_name_tests, with_read_enumeration, with_read_function, with_read_sort}
+use Rattle.moxi_systems.specs.Entries.{entries_failures, entries_of, locals_among, sort_failures, twice_failures, variables_of}
 use Rattle.moxi_systems.specs.Shapes.{HeadedForms, headed}
-use Rattle.moxi_systems.specs.Systems.{SystemReading, names_with_system, read_systems, systems_of, variables_of_system}
+use Rattle.moxi_systems.specs.Systems.{SystemReading, read_systems, variables_of_system}
 use Rattle.moxi_systems.specs.Whole.{IsWholeFunction, before}
 use Rattle.moxi_systems.proofs.FunctionLaws.{function_is, none_in, some_fails}
-use Rattle.moxi_systems.proofs.WholeEntries.{AreKnown, entries_known, locals_known, locals_same, variables_whole}
+use Rattle.moxi_systems.proofs.WholeEntries.{entries_known, locals_known, locals_same, variables_whole}
 use Rattle.moxi_systems.proofs.WholeFormulas.{StandOn, TermsStand, no_clash}
 use Rattle.moxi_systems.proofs.WholeNames.{fresh_end}
 use Rattle.moxi_systems.proofs.WholeParts.{all_append, all_parts, map_append, no_failure}
-use Rattle.moxi_systems.proofs.WholeScopes.{GrowsTo, IsNewEnumeration, IsScopeSoFar, append_cases, grows_enumeration, grows_function, grows_on, grows_same, grows_sort, take_whole, with_enumeration_so_far, with_function_so_far, with_sort_so_far}
+use Rattle.moxi_systems.proofs.WholeScopes.{GrowsTo, IsScopeSoFar, append_cases, grows_enumeration, grows_function, grows_on, grows_same, grows_sort, take_whole, with_enumeration_so_far, with_function_so_far, with_sort_so_far}
 use Rattle.moxi_systems.proofs.WholeSteps.{IsNewFunction, enumeration_cases, function_cases, function_of, sort_cases}
 use Rattle.moxi_systems.proofs.WholeSystems.{AreUntaken, IsCheckSoFar, IsSystemSoFar, known_on, next_system, read_check}
 

@@ -8,7 +8,6 @@ use Rattle.digraph.specs.Graph.{NodeLists, is_graph, leads, next_of}
 use Rattle.moxi_terms.specs.Names.{place_of}
 use Rattle.moxi_systems.specs.declared.script.Subsystem.{Subsystem}
 use Rattle.moxi_systems.specs.declared.uses.Use.{Use}
-use Rattle.moxi_systems.specs.Collecting.{fails_if}
 use Rattle.moxi_systems.specs.Cycles.{all_cycles, all_use_rows, count_uses, cycle_failures, ends_at, nodes_from, system_rows, use_cycles, use_graph, use_rows, use_tests}
 use Rattle.moxi_systems.specs.Script.{PlainSystem}
 use Rattle.moxi_systems.specs.Spelling.{subsystem_of, system_of}
@@ -44,7 +43,7 @@ nodes_below start (suc count) r i = by_test (nodes_below (suc start) count r) (e
     by_test rest true t i = let e : r ≡ start = equal r start t in omega arith
     by_test rest false t i = let l = rest i in omega arith
 
-rows_below : (start : ℕ) (xs : List PlainSystem) (k r : ℕ) → In (slice_index_or (containing_rows start xs) k []) r → r < start + count_subsystems xs
+pub rows_below : (start : ℕ) (xs : List PlainSystem) (k r : ℕ) → In (slice_index_or (containing_rows start xs) k []) r → r < start + count_subsystems xs
 rows_below start [] k r i = absurd (cc)
 rows_below start (x ∷ xs) zero r i = let l = nodes_below start (length x.subsystems) r i in omega arith
 rows_below start (x ∷ xs) (suc k) r i = let l = rows_below (start + length x.subsystems) xs k r i in omega arith

@@ -1,28 +1,24 @@
 -- A script that forms spell is whole.
-use Rattle.std.proofs.Common.{◌≡◌, ℕ, ◌<◌, Bool, true, false, Option, None, Some, List, [], ◌∷◌, ◌++◌, map, length, refl, sym, ap, ◌∙◌, subst}
-use Rattle.std.specs.List.{AllByRecursion, list_any}
-use Rattle.std.specs.Str.{bytes_eq}
-use Rattle.std.proofs.lemmas.Slice.Eq.{bytes_eq-Decides}
+use Rattle.std.proofs.Common.{◌≡◌, Some, List, [], ◌∷◌, ◌++◌, length, refl, sym, ap, ◌∙◌, subst}
+use Rattle.std.specs.List.{AllByRecursion}
 use Rattle.text_core.specs.declared.place.Place.{Place}
 use Rattle.moxi_sexpr.specs.Tree.{Trees}
-use Rattle.moxi_terms.specs.Names.{are_fresh, is_term_name, place_of}
+use Rattle.moxi_terms.specs.Names.{are_fresh}
 use Rattle.moxi_terms.specs.View.{ScopeState}
 use Rattle.moxi_systems.specs.declared.uses.Use.{Use}
 use Rattle.moxi_systems.specs.Checks.{CheckReading}
-use Rattle.moxi_systems.specs.Collecting.{fails_if}
 use Rattle.moxi_systems.specs.Commands.{Reading, commands_failures, nothing_read}
 use Rattle.moxi_systems.specs.Cycles.{cycle_failures}
 use Rattle.moxi_systems.specs.Links as links
 use Rattle.moxi_systems.specs.Script.{PlainScript}
-use Rattle.moxi_systems.specs.Spelling.{SpellsScript, reading_of, script_with, system_of}
+use Rattle.moxi_systems.specs.Spelling.{SpellsScript, reading_of, script_with}
 use Rattle.moxi_systems.specs.Systems.{SystemReading}
-use Rattle.moxi_systems.specs.Whole.{AreWholeSystems, IsWhole, IsWholeScope}
+use Rattle.moxi_systems.specs.Whole.{IsWhole}
 use Rattle.moxi_systems.proofs.FunctionLaws.{none_in}
 use Rattle.moxi_systems.proofs.WholeCommands.{IsSoFar, SortsAreKnown, TermsAreSorted, forms_go, forms_whole, nothing_so_far, nothing_whole}
 use Rattle.moxi_systems.proofs.WholeCycles.{AreThere, IsThere, none_contains_itself}
 use Rattle.moxi_systems.proofs.WholeFormulas.{StandOn, TermsStand}
 use Rattle.moxi_systems.proofs.WholeLinks.{check_whole, system_names_same, systems_whole, target_found, untaken}
-use Rattle.moxi_systems.proofs.WholeScopes.{IsScopeSoFar}
 
 -- each subsystem names a system that is there
 all_there : (s : ScopeState) (r : Reading) (i : IsSoFar s r) (xs : List SystemReading) → links.systems_failures r.systems r.system_names xs ≡ [] → AreThere r.system_names (length r.systems) xs

@@ -1,27 +1,23 @@
 -- What is read, once all tests of systems, subsystems and the check hold over the whole script.
-use Rattle.std.proofs.Common.{◌≡◌, ℕ, zero, suc, ◌+◌, ◌<◌, ◌≤◌, eqb, Bool, true, false, not, cond, ◌&&◌, Option, None, Some, List, [], ◌∷◌, ◌++◌, map, length, refl, sym, ap, ◌∙◌, subst, arith, append_assoc}
-use Rattle.std.specs.Prelude.{slice_get, slice_index_or}
+use Rattle.std.proofs.Common.{◌≡◌, ℕ, zero, suc, ◌+◌, ◌<◌, eqb, Bool, true, false, not, cond, ◌&&◌, Option, None, Some, List, [], ◌∷◌, ◌++◌, map, length, refl, sym, ap, ◌∙◌, subst, arith, append_assoc}
+use Rattle.std.specs.Prelude.{slice_get}
 use Rattle.std.specs.List.{AllByRecursion}
 use Rattle.std.proofs.lemmas.Bool.{and_parts}
 use Rattle.std.proofs.lemmas.Bool.Decides.{nat_tests}
 use Rattle.std.proofs.lemmas.List.{length-append, length-map}
 use Rattle.std.proofs.lemmas.Option.{none-some, same_Some}
 use Rattle.text_core.specs.declared.place.Place.{Place}
-use Rattle.text_core.specs.declared.place.Refusal.{Refusal}
 use Rattle.moxi_sexpr.specs.Lexing.{refusal}
 use Rattle.moxi_terms.specs.declared.data.Primes.TheVariants.{Allowed, Refused}
 use Rattle.moxi_terms.specs.declared.data.Sort.{Sort}
 use Rattle.moxi_terms.specs.declared.term.Enumeration.{Enumeration}
 use Rattle.moxi_terms.specs.declared.term.Variable.{Variable}
 use Rattle.moxi_terms.specs.Names.{are_fresh, is_term_name, place_of}
-use Rattle.moxi_terms.specs.Sorts.{IsSort, same_sort}
 use Rattle.moxi_terms.specs.Tree.{sorts_of}
 use Rattle.moxi_terms.specs.View.{ScopeState}
-use Rattle.moxi_systems.specs.declared.checks.ListPlaces.{ListPlaces}
 use Rattle.moxi_systems.specs.declared.entries.Declared.{Declared}
 use Rattle.moxi_systems.specs.declared.lists.DeclaredList.{DeclaredList}
 use Rattle.moxi_systems.specs.declared.lists.Lists.{Lists}
-use Rattle.moxi_systems.specs.declared.script.Query.{Query}
 use Rattle.moxi_systems.specs.declared.script.Subsystem.{Subsystem}
 use Rattle.moxi_systems.specs.declared.uses.Actual.{Actual}
 use Rattle.moxi_systems.specs.declared.uses.Use.{Use}
@@ -32,19 +28,19 @@ use Rattle.moxi_systems.specs.Entries.{variables_of}
 use Rattle.moxi_systems.specs.Links as links
 use Rattle.moxi_systems.specs.Links.{entries_fit, entry_sort, lists_at, same_known, sort_at, taken_failures}
 use Rattle.moxi_systems.specs.Lists.{all_entries}
-use Rattle.moxi_systems.specs.Script.{PlainCheck, PlainFormula, PlainSystem, system_at, variables_in}
+use Rattle.moxi_systems.specs.Script.{PlainFormula, PlainSystem, system_at, variables_in}
 use Rattle.moxi_systems.specs.Spelling.{actual_numbers, check_of, number_or_none, subsystem_of, system_of}
 use Rattle.moxi_systems.specs.Systems.{SystemReading}
-use Rattle.moxi_systems.specs.Whole.{AreVariables, FitsSystem, HasFormulas, HasQueries, IsFormula, IsWholeCheck, IsWholeQuery, IsWholeSubsystem, IsWholeSystem, check_variables, formula_names, subsystem_names}
+use Rattle.moxi_systems.specs.Whole.{AreVariables, FitsSystem, IsFormula, IsWholeCheck, IsWholeQuery, IsWholeSubsystem, IsWholeSystem, check_variables, formula_names}
 use Rattle.moxi_systems.proofs.FunctionLaws.{none_in, one_sort, some_fails}
 use Rattle.moxi_systems.proofs.LinkLaws.{get_right}
-use Rattle.moxi_systems.proofs.WholeEntries.{AreKnown, AreKnownLists, all_known, declared_sorts, sorts_same, variables_all, variables_append}
+use Rattle.moxi_systems.proofs.WholeEntries.{AreKnown, all_known, declared_sorts, sorts_same, variables_all, variables_append}
 use Rattle.moxi_systems.proofs.WholeFormulas.{no_clash}
 use Rattle.moxi_systems.proofs.WholeNames.{or_parts}
-use Rattle.moxi_systems.proofs.WholeParts.{all_append, all_at, all_map, all_of, get_map, get_there, index_get, no_failure, not_false}
+use Rattle.moxi_systems.proofs.WholeParts.{all_append, all_at, get_map, get_there, index_get, no_failure}
 use Rattle.moxi_systems.proofs.WholeQueries.{place_below}
 use Rattle.moxi_systems.proofs.WholeSystems.{AreUntaken, IsCheckSoFar, IsSystemSoFar}
-use Rattle.moxi_systems.proofs.WholeUses.{IsActual, IsUse, use_names}
+use Rattle.moxi_systems.proofs.WholeUses.{IsActual, IsUse}
 
 pub untaken : (s : ScopeState) (names : List (List ℕ)) (ds : List Declared) → taken_failures s names ds ≡ [] → AreUntaken s ds
 untaken s names [] h = tt

@@ -1,10 +1,10 @@
 -- Scopes that grow: what is declared stays as it is, and the names that are added are new.
-use Rattle.std.proofs.Common.{◌≡◌, ◌⊎◌, ℕ, zero, suc, ◌+◌, ◌<◌, ◌≤◌, Bool, true, false, not, cond, ◌&&◌, ◌||◌, is_none, is_some, Option, None, Some, List, [], ◌∷◌, ◌++◌, map, take, length, refl, sym, ap, ◌∙◌, subst, arith, append_assoc, append-nil, inl, inr}
+use Rattle.std.proofs.Common.{◌≡◌, ◌⊎◌, ℕ, zero, suc, ◌<◌, Bool, true, false, not, ◌||◌, is_none, is_some, Option, None, Some, List, [], ◌∷◌, ◌++◌, map, take, length, refl, sym, ap, ◌∙◌, subst, arith, append_assoc, append-nil, inl, inr}
 use Rattle.std.specs.Prelude.{slice_get, codes}
 use Rattle.std.specs.List.{AllByRecursion, list_any}
 use Rattle.std.specs.Str.{bytes_eq}
 use Rattle.std.proofs.lemmas.Bool.{and_parts}
-use Rattle.std.proofs.lemmas.List.{length-append, take-append-le, take_all}
+use Rattle.std.proofs.lemmas.List.{length-append, take-append-le}
 use Rattle.std.proofs.lemmas.Option.{none-some, same_Some}
 use Rattle.moxi_terms.specs.declared.data.Sort.{Sort}
 use Rattle.moxi_terms.specs.declared.data.Sort.TheVariants.{Truth, Bits, Choice}
@@ -20,8 +20,8 @@ use Rattle.moxi_terms.specs.View.{ScopeState}
 use Rattle.moxi_terms.specs.Words.{is_operator}
 use Rattle.moxi_systems.specs.Whole.{AreNames, is_fixed_sort, is_fixed_term}
 use Rattle.moxi_systems.proofs.LinkLaws.{get_left}
-use Rattle.moxi_systems.proofs.WholeNames.{Absent, absent_append, absent_is, absent_parts, absent_swap, fresh_between, fresh_join, fresh_more, fresh_end, not_true, or_both, or_parts, placed}
-use Rattle.moxi_systems.proofs.WholeParts.{all_append, all_map, all_of, all_parts, get_below, map_append}
+use Rattle.moxi_systems.proofs.WholeNames.{Absent, absent_append, absent_is, absent_parts, absent_swap, fresh_between, fresh_more, fresh_end, not_true, or_both, or_parts, placed}
+use Rattle.moxi_systems.proofs.WholeParts.{all_append, all_of, all_parts, get_below, map_append}
 
 -- THE NAMES OF A SCOPE
 

@@ -1,5 +1,5 @@
 -- The cases in which a command changes a scope.
-use Rattle.std.proofs.Common.{◌≡◌, ℕ, ◌<◌, Bool, true, false, not, cond, nat_lt, ◌&&◌, IfOk, Option, None, Some, Result, Ok, Err, List, [], ◌∷◌, ◌++◌, length, refl, sym, ap, ◌∙◌, subst, arith}
+use Rattle.std.proofs.Common.{◌≡◌, ℕ, ◌<◌, Bool, true, false, not, cond, nat_lt, IfOk, Option, None, Some, Result, Ok, Err, List, [], length, refl, arith}
 use Rattle.std.proofs.lemmas.Bool.{and_parts}
 use Rattle.std.proofs.lemmas.Bool.Decides.{nat_tests}
 use Rattle.text_core.specs.declared.place.Place.{Place}
@@ -9,16 +9,14 @@ use Rattle.moxi_terms.specs.declared.data.Sort.{Sort}
 use Rattle.moxi_terms.specs.Names.{is_sort_name, is_term_name, may_be_enumeration, with_enumeration, with_function, with_sort}
 use Rattle.moxi_terms.specs.Reading.{sort_reading}
 use Rattle.moxi_terms.specs.Sorts.{IsSort}
-use Rattle.moxi_terms.specs.Tree.{PlainFunction, Tree as TermTree}
+use Rattle.moxi_terms.specs.Tree.{PlainFunction}
 use Rattle.moxi_terms.specs.View.{ScopeState}
-use Rattle.moxi_systems.specs.declared.entries.Declared.{Declared}
 use Rattle.moxi_systems.specs.Declarations as declare
 use Rattle.moxi_systems.specs.Declarations.{FunctionForms, body_reading, constants_in, function_forms, is_nil, part_failures, result_sort, symbols_in, typed_function, with_read_enumeration, with_read_function, with_read_sort}
 use Rattle.moxi_systems.specs.Entries.{entries_of, known_sort}
 use Rattle.moxi_systems.specs.Shapes.{HeadedForms, NamedForm, headed, named_in}
 use Rattle.moxi_terms.specs.Forms.{pair_of}
 use Rattle.moxi_systems.proofs.FunctionLaws.{nil_is}
-use Rattle.moxi_systems.proofs.WholeNames.{not_true}
 use Rattle.moxi_systems.proofs.WholeScopes.{IsNewEnumeration, new_enumeration}
 
 -- an enumeration: nothing, or one more

@@ -1,9 +1,9 @@
 -- Walks in a graph: where one node leads to another, it does by no more edges than there are nodes.
-use Rattle.std.proofs.Common.{◌≡◌, ℕ, zero, suc, ◌+◌, ◌<◌, ◌≤◌, eqb, nat_lt, Bool, true, false, cond, ◌&&◌, ◌||◌, List, [], ◌∷◌, ◌++◌, length, refl, sym, ap, ◌∙◌, subst, arith}
+use Rattle.std.proofs.Common.{◌≡◌, ℕ, zero, suc, ◌<◌, ◌≤◌, eqb, nat_lt, Bool, true, false, ◌||◌, List, [], ◌∷◌, ◌++◌, length, refl, sym, subst, arith}
 use Rattle.std.specs.Prelude.{slice_index_or}
 use Rattle.std.specs.List.{AllByRecursion, IsDistinct, list_all, list_any}
 use Rattle.std.proofs.lemmas.Bool.{and_parts}
-use Rattle.std.proofs.lemmas.Bool.Decides.{eqb_tells, nat_tests}
+use Rattle.std.proofs.lemmas.Bool.Decides.{nat_tests}
 use Rattle.std.proofs.lemmas.Map.Steps.{length-le_from_distinct_below}
 use Rattle.digraph.specs.Graph.{NodeLists, is_graph, leads, next_of}
 use Rattle.moxi_systems.proofs.WholeNames.{or_parts}
@@ -101,7 +101,7 @@ module _ (g : NodeLists) where
       by_test q false t = record { first = r; rest = q.first ∷ q.rest; walk = (w.0, q.walk); distinct = (none_equal r (q.first ∷ q.rest) t, q.distinct) }
 
   -- each node of a walk is one of the graph
-  all_next : (n : ℕ) (h : NodeLists) (k r : ℕ) → list_all (λ ends. list_all (λ m. nat_lt m n) ends) h ≡ true → In (slice_index_or h k []) r → r < n
+  pub all_next : (n : ℕ) (h : NodeLists) (k r : ℕ) → list_all (λ ends. list_all (λ m. nat_lt m n) ends) h ≡ true → In (slice_index_or h k []) r → r < n
   all_next n [] k r a i = absurd (cc)
   all_next n (x ∷ xs) zero r a i = in_row x (and_parts (list_all (λ m. nat_lt m n) x) (list_all (λ ends. list_all (λ m. nat_lt m n) ends) xs) a).0 i
     where

@@ -1,5 +1,5 @@
 -- When a script is whole: names differ and mean one thing, terms have their sorts and can stand in their places, numbers are in
--- range, and no system contains itself. A script that forms spell is so, and so is one that is printed and read again.
+-- range, and no system contains itself (MoXI, SPIN 2024).
 use Rattle.std.specs.Prelude.{◌≡◌, ℕ, ◌+◌, ◌<◌, Bool, true, false, ◌||◌, Some, List, [], ◌∷◌, ◌++◌, map, take, length, slice_get, codes}
 use Rattle.std.specs.List.{AllByRecursion}
 use Rattle.std.specs.Str.{bytes_eq}
@@ -110,6 +110,11 @@ subsystem_graph ss = all_subsystem_rows (count_subsystems ss) ss ++ containing_r
 -- no system contains itself, directly or through further subsystems
 abbrev pub NoneContainsItself : List PlainSystem → Type 0
 NoneContainsItself ss = NeverReturns (subsystem_graph ss)
+
+-- a rank of each system, above the ranks of those that it contains
+pub record HasRanks (ss : List PlainSystem) : Type 0 where
+  pub rank : ℕ → ℕ
+  pub falls : (i : ℕ) (x : PlainSystem) → slice_get ss i ≡ Some x → AllByRecursion (λ (b : Subsystem). rank b.system < rank i) x.subsystems
 
 abbrev pub system_names : List PlainSystem → List (List ℕ)
 system_names ss = map (λ (x : PlainSystem). x.name) ss

@@ -34,4 +34,4 @@ pub use lists::{DeclaredList, Lists};
 pub use script::{Check, Formula, Query, Subsystem, Subsystems, System};
 pub use systems::ReadSystem;
 pub use uses::{Actual, Use};
-pub use whole_laws::spelled_scripts_are_whole;
+pub use whole_laws::{spelled_scripts_are_whole, whole_systems_have_ranks};

@@ -3,7 +3,7 @@ ghost use Rattle.text_core.specs.declared.place.Place.{Place};
 ghost use Rattle.moxi_sexpr.specs.Tree.{Trees};
 ghost use Rattle.moxi_systems.specs.Script.{PlainScript};
 ghost use Rattle.moxi_systems.specs.Spelling.{SpellsScript};
-ghost use Rattle.moxi_systems.specs.Whole.{IsWhole};
+ghost use Rattle.moxi_systems.specs.Whole.{HasRanks, IsWhole};
 
 use moxi_print::{read_terms_stand, terms_stand_on};
 use moxi_terms::{read_sorts_are_of_the_scope, read_terms_have_sorts};
@@ -18,3 +18,8 @@ pub fn spelled_scripts_are_whole()
     read_terms_stand();
     terms_stand_on();
 }
+
+/// The systems of a whole script have ranks, each above those of the systems that it contains.
+pub fn whole_systems_have_ranks()
+    ensures { (s : PlainScript) → IsWhole s → HasRanks s.systems }
+{}
