@@ -1,12 +1,11 @@
 -- Lists of variables of which no test fails: each variable has a sort of the scope, and their names differ.
-use Rattle.std.proofs.Common.{◌≡◌, ℕ, suc, ◌+◌, ◌<◌, ◌≤◌, Bool, true, false, not, cond, is_none, IfOk, Option, None, Some, Result, Ok, Err, List, [], ◌∷◌, ◌++◌, map, length, refl, sym, ap, ◌∙◌, subst, arith, append_assoc}
+use Rattle.std.proofs.Common.{◌≡◌, ℕ, true, false, cond, is_none, IfOk, Option, None, Some, Result, Ok, Err, List, [], ◌∷◌, ◌++◌, map, refl, sym, ap, ◌∙◌, subst, append_assoc}
 use Rattle.std.specs.List.{AllByRecursion}
 use Rattle.std.proofs.lemmas.Option.{none-some, same_Some}
 use Rattle.text_core.specs.declared.place.Place.{Place}
 use Rattle.text_core.specs.declared.place.Refusal.{Refusal}
 use Rattle.moxi_sexpr.specs.Tree as form
 use Rattle.moxi_terms.specs.declared.data.Sort.{Sort}
-use Rattle.moxi_terms.specs.declared.names.Local.{Local}
 use Rattle.moxi_terms.specs.declared.term.Enumeration.{Enumeration}
 use Rattle.moxi_terms.specs.declared.term.Variable.{Variable}
 use Rattle.moxi_terms.specs.Answer.{locals_of}
@@ -22,17 +21,15 @@ use Rattle.moxi_print.specs.Terms.{variable_names}
 use Rattle.moxi_systems.specs.declared.attributes.Command.{Command}
 use Rattle.moxi_systems.specs.declared.attributes.Key.TheVariants as keys
 use Rattle.moxi_systems.specs.declared.entries.Declared.{Declared}
-use Rattle.moxi_systems.specs.declared.lists.DeclaredList.{DeclaredList}
 use Rattle.moxi_systems.specs.declared.lists.Lists.{Lists}
-use Rattle.moxi_systems.specs.Collecting.{fails_if}
 use Rattle.moxi_systems.specs.Declarations.{is_nil}
 use Rattle.moxi_systems.specs.Entries.{entries_failures, entries_of, entry_failures, entry_in, entry_of, entry_tests, known_sort, locals_among, names_with, sort_failures, twice_failures, twice_tests, variable_of, variables_of}
-use Rattle.moxi_systems.specs.Lists.{all_entries, list_of, listed_entries, listed_failures, lists_failures, lists_in, value_at, entries_tests, entries_among}
+use Rattle.moxi_systems.specs.Lists.{all_entries, listed_entries, listed_failures, lists_failures, lists_in, value_at, entries_tests, entries_among}
 use Rattle.moxi_systems.specs.Shapes.{NamedForm, misshapen, named, parts_of}
-use Rattle.moxi_systems.specs.Whole.{AreNames, AreVariables}
+use Rattle.moxi_systems.specs.Whole.{AreVariables}
 use Rattle.moxi_systems.proofs.FunctionLaws.{none_in, some_fails}
 use Rattle.moxi_systems.proofs.WholeNames.{absent_is, fresh_more}
-use Rattle.moxi_systems.proofs.WholeParts.{all_append, all_map, all_of, no_failure, not_false}
+use Rattle.moxi_systems.proofs.WholeParts.{all_append, all_map, no_failure, not_false}
 
 -- a variable that has a sort of a scope with these enumerations
 abbrev pub IsKnown : List Enumeration → Declared → Type 0

@@ -1,5 +1,5 @@
 -- Formulas of which no test fails: each can stand over its variables, also in a scope that has grown.
-use Rattle.std.proofs.Common.{◌≡◌, ℕ, suc, Bool, true, false, not, cond, ◌||◌, Option, None, Some, List, [], ◌∷◌, ◌++◌, map, refl, sym, ap, ◌∙◌, subst, append_assoc}
+use Rattle.std.proofs.Common.{◌≡◌, ℕ, suc, Bool, true, false, not, cond, ◌||◌, Option, None, Some, List, [], ◌∷◌, refl, sym, ap, ◌∙◌, subst}
 use Rattle.std.specs.Prelude.{codes}
 use Rattle.std.specs.List.{AllByRecursion}
 use Rattle.std.specs.Str.{bytes_eq}
@@ -7,17 +7,15 @@ use Rattle.text_core.specs.declared.place.Place.{Place}
 use Rattle.moxi_sexpr.specs.Tree as form
 use Rattle.moxi_terms.specs.declared.data.Datum.TheVariants as datum
 use Rattle.moxi_terms.specs.declared.data.Primes.{Primes}
-use Rattle.moxi_terms.specs.declared.data.Primes.TheVariants.{Refused}
 use Rattle.moxi_terms.specs.declared.data.Sort.{Sort}
 use Rattle.moxi_terms.specs.declared.data.Sort.TheVariants.{Truth}
-use Rattle.moxi_terms.specs.declared.names.Local.{Local}
 use Rattle.moxi_terms.specs.declared.names.Meaning.{Meaning}
 use Rattle.moxi_terms.specs.declared.names.Meaning.TheVariants as meaning
 use Rattle.moxi_terms.specs.declared.term.Variable.{Variable}
 use Rattle.moxi_terms.specs.Answer.{locals_of}
 use Rattle.moxi_terms.specs.Forms.{place_in}
 use Rattle.moxi_terms.specs.Names.{is_term_name, or_else}
-use Rattle.moxi_terms.specs.Reading.{Context, Found, Reading, first_of, meaning_of, read}
+use Rattle.moxi_terms.specs.Reading.{Context, Found, first_of, read}
 use Rattle.moxi_terms.specs.Sorts.{same_sort}
 use Rattle.moxi_terms.specs.Tree.{Tree, sorts_of}
 use Rattle.moxi_terms.specs.View.{ScopeState}
@@ -25,11 +23,10 @@ use Rattle.moxi_terms.specs.WellSorted.{HaveKnownSorts}
 use Rattle.moxi_print.specs.Standing.{Stands}
 use Rattle.moxi_print.specs.Terms.{variable_names}
 use Rattle.moxi_systems.specs.declared.entries.Declared.{Declared}
-use Rattle.moxi_systems.specs.Collecting.{fails_if}
 use Rattle.moxi_systems.specs.Declarations.{clash_failures}
 use Rattle.moxi_systems.specs.Entries.{locals_among, variables_of}
-use Rattle.moxi_systems.specs.Formulas.{formula_failures, formula_term, reading_of, term_failures, term_of, true_term}
-use Rattle.moxi_systems.specs.Whole.{AreVariables, IsFormula, is_fixed_term, over}
+use Rattle.moxi_systems.specs.Formulas.{formula_failures, formula_term, term_failures, term_of, true_term}
+use Rattle.moxi_systems.specs.Whole.{AreVariables, IsFormula}
 use Rattle.moxi_systems.proofs.FunctionLaws.{none_in, one_sort}
 use Rattle.moxi_systems.proofs.WholeEntries.{AreKnown, locals_known, locals_same}
 use Rattle.moxi_systems.proofs.WholeNames.{or_parts, other_way}
@@ -69,7 +66,7 @@ not_true (v ∷ vs) s a =
 pub true_stands : (s : ScopeState) (vs : List Variable) (primes : Primes) → AreVariables s vs → IsFormula s vs primes true_term
 true_stands s vs primes v = (refl, by_first (first_of 0 (locals_of vs) (codes "true")) (no_first 0 vs (codes "true") (not_true vs s v.names.own)))
   where
-    by_first : (o : Option Found) → o ≡ None → or_else (let x : Option Meaning = None in x) (or_else (elim o [ | None ↦ let x : Option Meaning = None in x | Some f ↦ Some (meaning.Variable f.number f.sort) ]) (Some (meaning.Value (datum.Truth true) Truth)))
+    by_first : (o : Option Found) → o ≡ None → or_else (let x : Option Meaning = None in x) (or_else (elim o [ None ↦ let x : Option Meaning = None in x | Some f ↦ Some (meaning.Variable f.number f.sort) ]) (Some (meaning.Value (datum.Truth true) Truth)))
         ≡ Some (meaning.Value (datum.Truth true) Truth)
     by_first None e = refl
     by_first (Some f) e = absurd (cc)

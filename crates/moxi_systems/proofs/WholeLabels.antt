@@ -1,11 +1,10 @@
 -- The named formulas of a check of which no test fails: their names differ, and each can stand over the check's variables.
-use Rattle.std.proofs.Common.{◌≡◌, ℕ, Bool, true, false, cond, ◌||◌, is_none, Option, None, Some, List, [], ◌∷◌, ◌++◌, map, refl, sym, ap, ◌∙◌, subst, append_assoc}
-use Rattle.std.specs.List.{AllByRecursion}
+use Rattle.std.proofs.Common.{◌≡◌, ℕ, Bool, true, false, cond, ◌||◌, Option, None, Some, List, [], ◌∷◌, ◌++◌, refl, sym, ap, ◌∙◌, subst, append_assoc}
 use Rattle.moxi_sexpr.specs.Tree as form
 use Rattle.moxi_terms.specs.declared.data.Primes.TheVariants.{Refused}
 use Rattle.moxi_terms.specs.declared.term.Variable.{Variable}
 use Rattle.moxi_terms.specs.Forms.{place_in}
-use Rattle.moxi_terms.specs.Names.{are_fresh, is_among}
+use Rattle.moxi_terms.specs.Names.{are_fresh}
 use Rattle.moxi_terms.specs.Reading.{prime_failures}
 use Rattle.moxi_terms.specs.View.{ScopeState}
 use Rattle.moxi_systems.specs.declared.attributes.Command.TheVariants.{Check}
@@ -17,7 +16,7 @@ use Rattle.moxi_systems.specs.declared.entries.Declared.{Declared}
 use Rattle.moxi_systems.specs.Attributes.{turn_after}
 use Rattle.moxi_systems.specs.Collecting.{fails_if}
 use Rattle.moxi_systems.specs.Entries.{locals_among, variables_of}
-use Rattle.moxi_systems.specs.Formulas.{term_failures, term_of}
+use Rattle.moxi_systems.specs.Formulas.{term_of}
 use Rattle.moxi_systems.specs.Labels.{FormulaList, FormulaLists, has_name, is_formula_key, is_label, label_tests, labels_after, labels_failures, labels_with, named_tests, no_labels, with_formula, with_named}
 use Rattle.moxi_systems.specs.Script.{PlainFormula}
 use Rattle.moxi_systems.specs.Shapes.{NamedForm, misshapen, named}

@@ -1,11 +1,9 @@
 -- Queries of which no test fails: their names differ, and each number is that of a formula.
-use Rattle.std.proofs.Common.{◌≡◌, ℕ, zero, suc, ◌+◌, ◌<◌, ◌≤◌, ◌==◌, eqb, Bool, true, false, not, cond, nat_lt, ◌&&◌, ◌||◌, is_none, Option, None, Some, List, [], ◌∷◌, ◌++◌, map, length, refl, sym, ap, ◌∙◌, subst, arith, append_assoc, append-nil}
-use Rattle.std.specs.Prelude.{slice_get, slice_index_or}
-use Rattle.std.specs.List.{AllByRecursion, position, position_or_len}
+use Rattle.std.proofs.Common.{◌≡◌, ℕ, ◌<◌, eqb, Bool, true, false, not, cond, nat_lt, ◌&&◌, is_none, Option, None, Some, List, [], ◌∷◌, ◌++◌, length, refl, sym, ap, ◌∙◌, subst, arith, append_assoc, append-nil}
+use Rattle.std.specs.Prelude.{slice_index_or}
+use Rattle.std.specs.List.{AllByRecursion, position_or_len}
 use Rattle.std.specs.Str.{bytes_eq}
-use Rattle.std.proofs.lemmas.Bool.{and_parts}
 use Rattle.std.proofs.lemmas.Bool.Decides.{nat_tests}
-use Rattle.std.proofs.lemmas.Option.{none-some, same_Some}
 use Rattle.text_core.specs.declared.place.Place.{Place}
 use Rattle.moxi_sexpr.specs.Lexing.{refusal}
 use Rattle.moxi_sexpr.specs.Tree as form
@@ -24,7 +22,7 @@ use Rattle.moxi_systems.specs.QueryReading as queries
 use Rattle.moxi_systems.specs.Shapes.{NamedForm, misshapen, named, parts_of}
 use Rattle.moxi_systems.specs.Whole.{IsWholeQuery, query_names}
 use Rattle.moxi_systems.proofs.FunctionLaws.{none_in, some_fails}
-use Rattle.moxi_systems.proofs.WholeNames.{absent_is, fresh_join, fresh_more, not_true, or_both}
+use Rattle.moxi_systems.proofs.WholeNames.{absent_is, fresh_join, fresh_more, or_both}
 use Rattle.moxi_systems.proofs.WholeParts.{all_append, map_append, no_failure, not_false}
 
 -- a place that was found is one of the list
@@ -165,6 +163,7 @@ module _ (ls : FormulaLists) where
         let then = queries.names_with_queries names (queries.query_forms turn t) in
         let b = all_queries_are then (turn_after Check turn t) ts e.1 in
         let xs = queries.queries_in ls (queries.query_forms turn t) in
-        let ys = queries.queries_after ls (turn_after Check turn t) ts in
-        (all_append IsQuery xs ys a.each b.0,
-        ap (are_fresh names) (map_append (λ (q : Query). q.name) xs ys) ∙ fresh_join names (query_names xs) (query_names ys) a.fresh (subst (λ x. are_fresh x (query_names ys) ≡ true) a.names_then b.1))
+        let ys = queries.queries_after ls (turn_after Check turn t) ts in (
+          all_append IsQuery xs ys a.each b.0,
+          ap (are_fresh names) (map_append (λ (q : Query). q.name) xs ys) ∙ fresh_join names (query_names xs) (query_names ys) a.fresh (subst (λ x. are_fresh x (query_names ys) ≡ true) a.names_then b.1),
+        )

@@ -1,10 +1,10 @@
 -- Scopes that grow: what is declared stays as it is, and the names that are added are new.
-use Rattle.std.proofs.Common.{◌≡◌, ◌⊎◌, ℕ, zero, suc, ◌+◌, ◌<◌, ◌≤◌, Bool, true, false, not, cond, ◌&&◌, ◌||◌, is_none, is_some, Option, None, Some, List, [], ◌∷◌, ◌++◌, map, take, length, refl, sym, ap, ◌∙◌, subst, arith, append_assoc, append-nil, inl, inr}
+use Rattle.std.proofs.Common.{◌≡◌, ◌⊎◌, ℕ, zero, suc, ◌<◌, Bool, true, false, not, ◌||◌, is_none, is_some, Option, None, Some, List, [], ◌∷◌, ◌++◌, map, take, length, refl, sym, ap, ◌∙◌, subst, arith, append_assoc, append-nil, inl, inr}
 use Rattle.std.specs.Prelude.{slice_get, codes}
 use Rattle.std.specs.List.{AllByRecursion, list_any}
 use Rattle.std.specs.Str.{bytes_eq}
 use Rattle.std.proofs.lemmas.Bool.{and_parts}
-use Rattle.std.proofs.lemmas.List.{length-append, take-append-le, take_all}
+use Rattle.std.proofs.lemmas.List.{length-append, take-append-le}
 use Rattle.std.proofs.lemmas.Option.{none-some, same_Some}
 use Rattle.moxi_terms.specs.declared.data.Sort.{Sort}
 use Rattle.moxi_terms.specs.declared.data.Sort.TheVariants.{Truth, Bits, Choice}
@@ -20,8 +20,8 @@ use Rattle.moxi_terms.specs.View.{ScopeState}
 use Rattle.moxi_terms.specs.Words.{is_operator}
 use Rattle.moxi_systems.specs.Whole.{AreNames, is_fixed_sort, is_fixed_term}
 use Rattle.moxi_systems.proofs.LinkLaws.{get_left}
-use Rattle.moxi_systems.proofs.WholeNames.{Absent, absent_append, absent_is, absent_parts, absent_swap, fresh_between, fresh_join, fresh_more, fresh_end, not_true, or_both, or_parts, placed}
-use Rattle.moxi_systems.proofs.WholeParts.{all_append, all_map, all_of, all_parts, get_below, map_append}
+use Rattle.moxi_systems.proofs.WholeNames.{Absent, absent_append, absent_is, absent_parts, absent_swap, fresh_between, fresh_more, fresh_end, not_true, or_both, or_parts, placed}
+use Rattle.moxi_systems.proofs.WholeParts.{all_append, all_of, all_parts, get_below, map_append}
 
 -- THE NAMES OF A SCOPE
 
@@ -36,7 +36,7 @@ some_of_none (Some x) h = absurd (cc)
 pub among_absent : (names : List (List ℕ)) (name : List ℕ) → is_among names name ≡ false → Absent names name
 among_absent names name h = absent_is names name (none_of_some (place_of names name) h)
 
-absent_among : (names : List (List ℕ)) (name : List ℕ) → Absent names name → is_among names name ≡ false
+pub absent_among : (names : List (List ℕ)) (name : List ℕ) → Absent names name → is_among names name ≡ false
 absent_among names name h = some_of_none (place_of names name) (placed names name ∙ ap not h)
 
 pub record IsNewTerm (s : ScopeState) (name : List ℕ) : Type 0 where
@@ -113,7 +113,7 @@ stays_new s t g name h =
       own = n.own;
       constants = (absent_parts (all_constants s.enumerations) (all_constants g.more_enumerations) name (subst (λ cs. Absent cs name) (ap all_constants g.enumerations ∙ constants_append s.enumerations g.more_enumerations) n.constants)).0;
       functions = (absent_parts (function_names s) (map (λ (f : PlainFunction). f.name) g.more_functions) name
-      (subst (λ fs. Absent fs name) (ap (map (λ (f : PlainFunction). f.name)) g.functions ∙ map_append (λ (f : PlainFunction). f.name) s.functions g.more_functions) n.functions)).0;
+          (subst (λ fs. Absent fs name) (ap (map (λ (f : PlainFunction). f.name)) g.functions ∙ map_append (λ (f : PlainFunction). f.name) s.functions g.more_functions) n.functions)).0;
     })
 
 pub grows_same : (s : ScopeState) → GrowsTo s s
@@ -139,11 +139,11 @@ grows_on s t u g h =
       sorts = h.sorts ∙ ap (λ x. x ++ h.more_sorts) g.sorts ∙ append_assoc s.sorts g.more_sorts h.more_sorts;
       functions = h.functions ∙ ap (λ x. x ++ h.more_functions) g.functions ∙ append_assoc s.functions g.more_functions h.more_functions;
       constants_new = subst (AllByRecursion new) (sym (constants_append g.more_enumerations h.more_enumerations))
-      (all_append new (all_constants g.more_enumerations) (all_constants h.more_enumerations) g.constants_new
-      (all_of (λ (name : List ℕ). is_term_name t name ≡ false) new (all_constants h.more_enumerations) (stays_new s t g) h.constants_new));
+          (all_append new (all_constants g.more_enumerations) (all_constants h.more_enumerations) g.constants_new
+          (all_of (λ (name : List ℕ). is_term_name t name ≡ false) new (all_constants h.more_enumerations) (stays_new s t g) h.constants_new));
       functions_new = subst (AllByRecursion new) (sym (map_append (λ (f : PlainFunction). f.name) g.more_functions h.more_functions))
-      (all_append new (map (λ (f : PlainFunction). f.name) g.more_functions) (map (λ (f : PlainFunction). f.name) h.more_functions) g.functions_new
-      (all_of (λ (name : List ℕ). is_term_name t name ≡ false) new (map (λ (f : PlainFunction). f.name) h.more_functions) (stays_new s t g) h.functions_new));
+          (all_append new (map (λ (f : PlainFunction). f.name) g.more_functions) (map (λ (f : PlainFunction). f.name) h.more_functions) g.functions_new
+          (all_of (λ (name : List ℕ). is_term_name t name ≡ false) new (map (λ (f : PlainFunction). f.name) h.more_functions) (stays_new s t g) h.functions_new));
     }
 
 any_none : (p : List ℕ → Bool) (names : List (List ℕ)) → list_any p names ≡ false → AllByRecursion (λ (name : List ℕ). p name ≡ false) names
@@ -289,17 +289,17 @@ with_enumeration_so_far s name cs k n =
       };
       sorts = record {
         differ = ap (λ ns. are_fresh [] (ns ++ sort_names s)) names
-        ∙ fresh_between (enumeration_names s) (name ∷ []) (sort_names s) k.sorts.differ (fresh_more (enumeration_names s) name [] x.enumerations refl) (absent_swap (name ∷ []) (sort_names s) (x.sorts, tt));
+            ∙ fresh_between (enumeration_names s) (name ∷ []) (sort_names s) k.sorts.differ (fresh_more (enumeration_names s) name [] x.enumerations refl) (absent_swap (name ∷ []) (sort_names s) (x.sorts, tt));
         own = subst (λ ns. AllByRecursion fixed_sort (ns ++ sort_names s)) (sym names)
-        (all_append fixed_sort (enumeration_names s ++ name ∷ []) (sort_names s) (all_append fixed_sort (enumeration_names s) (name ∷ []) own_sorts.0 (x.own, tt)) own_sorts.1);
+            (all_append fixed_sort (enumeration_names s ++ name ∷ []) (sort_names s) (all_append fixed_sort (enumeration_names s) (name ∷ []) own_sorts.0 (x.own, tt)) own_sorts.1);
       };
       terms = record {
         differ = ap (λ ns. are_fresh [] (ns ++ function_names s)) (constants_end es name cs)
-        ∙ fresh_between (all_constants es) cs (function_names s) k.terms.differ n.differ
-        (absent_swap cs (function_names s) (all_of new (Absent (function_names s)) cs (λ c h. (new_term s c h).functions) n.constants));
+            ∙ fresh_between (all_constants es) cs (function_names s) k.terms.differ n.differ
+            (absent_swap cs (function_names s) (all_of new (Absent (function_names s)) cs (λ c h. (new_term s c h).functions) n.constants));
         own = subst (λ ns. AllByRecursion fixed_term (ns ++ function_names s)) (sym (constants_end es name cs))
-        (all_append fixed_term (all_constants es ++ cs) (function_names s)
-        (all_append fixed_term (all_constants es) cs own_terms.0 (all_of new fixed_term cs (λ c h. (new_term s c h).own) n.constants)) own_terms.1);
+            (all_append fixed_term (all_constants es ++ cs) (function_names s)
+            (all_append fixed_term (all_constants es) cs own_terms.0 (all_of new fixed_term cs (λ c h. (new_term s c h).own) n.constants)) own_terms.1);
       };
     }
 

@@ -1,12 +1,10 @@
 -- Systems and checks as they are read, where no test fails.
-use Rattle.std.proofs.Common.{◌≡◌, ℕ, Bool, true, false, not, cond, is_none, IfOk, Option, None, Some, List, [], ◌∷◌, ◌++◌, length, refl, sym, ap, ◌∙◌, subst}
+use Rattle.std.proofs.Common.{◌≡◌, ℕ, Bool, true, false, cond, is_none, IfOk, Option, None, Some, List, [], ◌∷◌, ◌++◌, length, refl, sym, subst}
 use Rattle.std.specs.List.{AllByRecursion}
 use Rattle.text_core.specs.declared.place.Place.{Place}
 use Rattle.moxi_sexpr.specs.Lexing.{refusal}
 use Rattle.moxi_sexpr.specs.Tree as form
 use Rattle.moxi_terms.specs.declared.data.Primes.TheVariants.{Allowed, Refused}
-use Rattle.moxi_terms.specs.declared.data.Sort.{Sort}
-use Rattle.moxi_terms.specs.declared.term.Enumeration.{Enumeration}
 use Rattle.moxi_terms.specs.Names.{are_fresh, is_term_name, place_of}
 use Rattle.moxi_terms.specs.Reading.{prime_failures, sort_reading}
 use Rattle.moxi_terms.specs.Sorts.{IsSort}
@@ -20,15 +18,13 @@ use Rattle.moxi_systems.specs.declared.lists.Lists.{Lists}
 use Rattle.moxi_systems.specs.Attributes.{shape_holds, unknown_failures}
 use Rattle.moxi_systems.specs.Checks as checks
 use Rattle.moxi_systems.specs.Checks.{CheckReading, labels_in}
-use Rattle.moxi_systems.specs.Entries.{twice_failures, variables_of}
+use Rattle.moxi_systems.specs.Entries.{variables_of}
 use Rattle.moxi_systems.specs.Formulas.{formula_failures}
 use Rattle.moxi_systems.specs.Labels.{labels_failures, no_labels}
 use Rattle.moxi_systems.specs.Lists.{all_entries, lists_failures, lists_in, value_at}
-use Rattle.moxi_systems.specs.QueryReading.{all_queries_failures}
 use Rattle.moxi_systems.specs.Shapes.{HeadedForms}
 use Rattle.moxi_systems.specs.Systems as systems
 use Rattle.moxi_systems.specs.Systems.{SystemReading, locals_of, variables_failures}
-use Rattle.moxi_systems.specs.Uses.{uses_failures}
 use Rattle.moxi_systems.specs.Whole.{AreVariables, IsFormula, IsWholeQuery, query_names}
 use Rattle.moxi_systems.proofs.FunctionLaws.{none_in, some_fails}
 use Rattle.moxi_systems.proofs.WholeEntries.{AreKnown, AreKnownLists, IsKnown, all_known, lists_known, variables_whole}

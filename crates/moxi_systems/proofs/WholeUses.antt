@@ -1,5 +1,5 @@
 -- Subsystems as they are written, where no test fails: their names differ, and each actual is a variable.
-use Rattle.std.proofs.Common.{◌≡◌, ℕ, zero, suc, ◌+◌, ◌<◌, ◌≤◌, Bool, true, false, not, cond, is_none, Option, None, Some, List, [], ◌∷◌, ◌++◌, map, length, refl, sym, ap, ◌∙◌, subst, arith, append_assoc}
+use Rattle.std.proofs.Common.{◌≡◌, ℕ, suc, ◌+◌, Bool, true, false, not, cond, is_none, Option, None, Some, List, [], ◌∷◌, ◌++◌, map, refl, sym, ap, ◌∙◌, subst, arith}
 use Rattle.std.specs.Prelude.{slice_get}
 use Rattle.std.specs.List.{AllByRecursion}
 use Rattle.std.specs.Str.{bytes_eq}
@@ -7,8 +7,6 @@ use Rattle.std.proofs.lemmas.Option.{none-some, same_Some}
 use Rattle.text_core.specs.declared.place.Place.{Place}
 use Rattle.moxi_sexpr.specs.Lexing.{refusal}
 use Rattle.moxi_sexpr.specs.Tree as form
-use Rattle.moxi_terms.specs.declared.data.Sort.{Sort}
-use Rattle.moxi_terms.specs.declared.names.Local.{Local}
 use Rattle.moxi_terms.specs.Forms.{place_in, symbol_of}
 use Rattle.moxi_terms.specs.Names.{are_fresh, place_of}
 use Rattle.moxi_terms.specs.Reading.{Found, first_of, prime_failures}
@@ -21,12 +19,12 @@ use Rattle.moxi_systems.specs.declared.uses.Use.{Use}
 use Rattle.moxi_systems.specs.Attributes.{is_behind, turn_after}
 use Rattle.moxi_systems.specs.Collecting.{fails_if}
 use Rattle.moxi_systems.specs.Declarations.{are_symbols}
-use Rattle.moxi_systems.specs.Entries.{locals_among, names_with}
+use Rattle.moxi_systems.specs.Entries.{locals_among}
 use Rattle.moxi_systems.specs.Shapes.{HeadedForms, NamedForm, headed, misshapen, named, parts_of}
 use Rattle.moxi_systems.specs.Uses as uses
 use Rattle.moxi_systems.proofs.FunctionLaws.{none_in, some_fails}
 use Rattle.moxi_systems.proofs.WholeEntries.{declared_sorts}
-use Rattle.moxi_systems.proofs.WholeNames.{Absent, absent_is, fresh_join, fresh_more}
+use Rattle.moxi_systems.proofs.WholeNames.{absent_is, fresh_join, fresh_more}
 use Rattle.moxi_systems.proofs.WholeParts.{all_append, map_append, no_failure, not_false}
 
 -- the actual is a variable of its sort
@@ -128,6 +126,7 @@ module _ (ds : List Declared) where
           let n = named_is names t (named t) e.0 in
           let r = rest (uses.names_with_use names t) e.1 in
           let one = uses.use_of (locals_among ds) t in
-          let more = uses.uses_in (locals_among ds) (turn_after System turn t) ts in
-          (all_append (IsUse ds) one more n.each r.0,
-          ap (are_fresh names) (map_append (λ (u : Use). u.name) one more) ∙ fresh_join names (use_names one) (use_names more) n.fresh (subst (λ x. are_fresh x (use_names more) ≡ true) n.names_then r.1))
+          let more = uses.uses_in (locals_among ds) (turn_after System turn t) ts in (
+            all_append (IsUse ds) one more n.each r.0,
+            ap (are_fresh names) (map_append (λ (u : Use). u.name) one more) ∙ fresh_join names (use_names one) (use_names more) n.fresh (subst (λ x. are_fresh x (use_names more) ≡ true) n.names_then r.1),
+          )

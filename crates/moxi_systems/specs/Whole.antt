@@ -1,9 +1,9 @@
 -- When a script is whole: names differ and mean one thing, terms have their sorts and can stand in their places, numbers are in
--- range, and no system contains itself. A script that forms spell is so, and so is one that is printed and read again.
-use Rattle.std.specs.Prelude.{◌≡◌, ℕ, suc, ◌+◌, ◌<◌, Bool, true, false, ◌||◌, Some, List, [], ◌∷◌, ◌++◌, map, take, length, slice_get, codes}
+-- range, and no system contains itself (MoXI, SPIN 2024).
+use Rattle.std.specs.Prelude.{◌≡◌, ℕ, ◌+◌, ◌<◌, Bool, true, false, ◌||◌, Some, List, [], ◌∷◌, ◌++◌, map, take, length, slice_get, codes}
 use Rattle.std.specs.List.{AllByRecursion}
 use Rattle.std.specs.Str.{bytes_eq}
-use Rattle.digraph.specs.Graph.{NodeLists, leads}
+use Rattle.digraph.specs.Graph.{NeverReturns, NodeLists}
 use Rattle.moxi_terms.specs.declared.data.Primes.{Primes}
 use Rattle.moxi_terms.specs.declared.data.Primes.TheVariants.{Allowed, Refused}
 use Rattle.moxi_terms.specs.declared.data.Sort.TheVariants.{Truth}
@@ -107,9 +107,14 @@ containing_rows start (x ∷ xs) = nodes_from start (length x.subsystems) ∷ co
 abbrev pub subsystem_graph : List PlainSystem → NodeLists
 subsystem_graph ss = all_subsystem_rows (count_subsystems ss) ss ++ containing_rows 0 ss
 
--- no subsystem leads to itself
+-- no system contains itself, directly or through further subsystems
 abbrev pub NoneContainsItself : List PlainSystem → Type 0
-NoneContainsItself ss = (k : ℕ) → k < count_subsystems ss → leads (subsystem_graph ss) (suc (length (subsystem_graph ss))) k k ≡ false
+NoneContainsItself ss = NeverReturns (subsystem_graph ss)
+
+-- a rank of each system, above the ranks of those that it contains
+pub record HasRanks (ss : List PlainSystem) : Type 0 where
+  pub rank : ℕ → ℕ
+  pub falls : (i : ℕ) (x : PlainSystem) → slice_get ss i ≡ Some x → AllByRecursion (λ (b : Subsystem). rank b.system < rank i) x.subsystems
 
 abbrev pub system_names : List PlainSystem → List (List ℕ)
 system_names ss = map (λ (x : PlainSystem). x.name) ss

@@ -30,6 +30,7 @@ mod systems;
 #[cfg(test)]
 mod tests;
 mod uses;
+mod whole_laws;
 
 pub use again_laws::printed_scripts_are_spelled;
 pub use attributes::{Command, Key};
@@ -49,3 +50,4 @@ pub use script::{
 };
 pub use systems::ReadSystem;
 pub use uses::{Actual, Use};
+pub use whole_laws::{spelled_scripts_are_whole, whole_systems_have_ranks};
