@@ -5,3 +5,4 @@ pub mod LinkLaws
 pub mod CycleLaws
 pub mod ScriptLaws
 pub mod Building
+pub mod Pieces

@@ -21,3 +21,4 @@ pub mod Spelling
 pub mod Invariant
 pub mod Answer
 pub mod ScriptView
+pub mod Printing

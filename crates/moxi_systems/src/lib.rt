@@ -17,6 +17,10 @@ mod laws;
 mod links;
 mod lists;
 mod outcome;
+mod print;
+mod print_checks;
+mod print_parts;
+mod print_systems;
 mod queries;
 mod read;
 mod script;
@@ -39,6 +43,7 @@ pub use laws::{least_is_least, one_script};
 pub use links::test_links;
 pub use lists::{DeclaredList, Lists};
 pub use outcome::ScriptEnd;
+pub use print::print_script;
 pub use read::read_script;
 pub use script::{
     Check, Formula, Formulas, Queries, Query, Script, Subsystem, Subsystems, System, Systems,
