@@ -1,6 +1,6 @@
 -- Scripts that are built of what is read: each element of a list once.
-use Rattle.std.proofs.Common.{◌≡◌, ℕ, suc, ◌+◌, ◌<◌, List, [], ◌∷◌, ◌++◌, map, reverse, drop, length, refl, sym, ap, ◌∙◌, append-nil}
-use Rattle.std.proofs.lemmas.List.{reverse-append, reverse-reverse}
+use Rattle.std.proofs.Common.{◌≡◌, ℕ, ◌+◌, ◌<◌, List, [], ◌∷◌, ◌++◌, map, reverse, drop, length, sym, ap, ◌∙◌, append-nil}
+use Rattle.std.proofs.lemmas.List.{reverse-append}
 use Rattle.std.specs.Prelude.{slice_index_or}
 use Rattle.moxi_systems.proofs.Collecting.{list_step}
 use Rattle.moxi_systems.proofs.Forms.{items_step, map_end}

@@ -1,13 +1,14 @@
 -- Scripts: where no test fails the check is there, and the first of failing tests.
-use Rattle.std.proofs.Common.{◌≡◌, ℕ, ◌+◌, ◌*◌, ◌<◌, ◌≤◌, ◌⊎◌, inl, inr, Bool, true, false, cond, not, nat_lt, is_some, Option, None, Some, List, [], ◌∷◌, ◌++◌, map, refl, sym, ap, ◌∙◌, subst, arith}
+use Rattle.std.proofs.Common.{◌≡◌, ◌<◌, ◌≤◌, inl, inr, Bool, true, false, cond, not, nat_lt, is_some, Option, None, Some, List, [], ◌∷◌, ◌++◌, map, refl, sym, ap, ◌∙◌, subst, arith}
 use Rattle.std.specs.List.{AllByRecursion}
 use Rattle.std.proofs.lemmas.Bool.{cases_lt}
+use Rattle.std.proofs.lemmas.Bool.Decides.{nat_tests}
 use Rattle.std.proofs.lemmas.Option.{none-some, same_Some}
 use Rattle.text_core.specs.declared.place.Place.{Place}
 use Rattle.text_core.specs.declared.place.Refusal.{Refusal}
 use Rattle.moxi_sexpr.specs.Lexing.{refusal}
 use Rattle.moxi_sexpr.specs.Tree.{Tree, atom, list, Trees, no_trees, tree}
-use Rattle.moxi_terms.specs.Failures.{key, number_of, pick, sooner, least, IsIn}
+use Rattle.moxi_terms.specs.Failures.{key, pick, sooner, least, IsIn}
 use Rattle.moxi_terms.specs.Reading.{prime_failures}
 use Rattle.moxi_terms.specs.View.{ScopeState}
 use Rattle.moxi_systems.specs.declared.attributes.Command.TheVariants.{Check}
@@ -15,7 +16,7 @@ use Rattle.moxi_systems.specs.declared.commands.CommandName.{CommandName}
 use Rattle.moxi_systems.specs.declared.commands.CommandName.TheVariants as name
 use Rattle.moxi_systems.specs.Answer.{HasByte, ComesFirst, IsFirst}
 use Rattle.moxi_systems.specs.Attributes.{shape_holds}
-use Rattle.moxi_systems.specs.Checks.{CheckReading, check_failures, check_in, headed_failures as check_headed_failures}
+use Rattle.moxi_systems.specs.Checks.{CheckReading, check_failures, check_in, content_failures, content_of, headed_failures as check_headed_failures}
 use Rattle.moxi_systems.specs.Collecting.{also, fails_if}
 use Rattle.moxi_systems.specs.Commands.{Reading, command_failures, command_named, commands_failures, first_check, form_failures, headed_failures, known_failures, nothing_read, reading_after, with_command, with_form, with_headed, with_known}
 use Rattle.moxi_systems.specs.Cycles.{cycle_failures}
@@ -23,7 +24,6 @@ use Rattle.moxi_systems.specs.Links.{links_failures}
 use Rattle.moxi_systems.specs.Script.{PlainScript}
 use Rattle.moxi_systems.specs.Shapes.{HeadedForms, headed}
 use Rattle.moxi_systems.specs.Spelling.{SpellsScript, check_of, reading_of, script_failures, script_with, system_of}
-use Rattle.moxi_systems.proofs.Collecting.{pick_first, pick_other}
 use Rattle.moxi_systems.proofs.FunctionLaws.{none_in, own_least, some_fails}
 
 -- a check that is read is there
@@ -32,11 +32,11 @@ IsKept r = r.checked ≡ true → is_some r.check ≡ true
 
 check_there : (s : ScopeState) (p : Place) (o : Option HeadedForms) → check_headed_failures s p o ≡ [] → is_some (check_in s p o) ≡ true
 check_there s p None h = some_fails (refusal 12 p) [] h
-check_there s p (Some x) h = by_shape (shape_holds Check x.rest) h
+check_there s p (Some x) h = by_shape (content_of s p x) (prime_failures x.primed x.place ++ content_failures s x.rest) (shape_holds Check x.rest) h
   where
-    by_shape : {A : Type 0} {x : A} {fs : List Refusal} (b : Bool) → cond b fs (refusal 12 p ∷ []) ≡ [] → is_some (cond b (Some x) None) ≡ true
-    by_shape true e = refl
-    by_shape false e = some_fails (refusal 12 p) [] e
+    by_shape : (c : CheckReading) (fs : List Refusal) (b : Bool) → cond b fs (refusal 12 p ∷ []) ≡ [] → is_some (cond b (Some c) None) ≡ true
+    by_shape c fs true e = refl
+    by_shape c fs false e = some_fails (refusal 12 p) [] e
 
 first_there : (old new : Option CheckReading) (checked : Bool) (p : Place) → is_some new ≡ true → fails_if checked 13 p ≡ [] → is_some (first_check old checked new) ≡ true
 first_there old new true p e h = some_fails (refusal 13 p) [] h
@@ -128,6 +128,12 @@ first_by_key r f h byte = elim (cases_lt r.place.offset f.place.offset) [
   | inl less ↦ inl less
   | inr le ↦ inr (omega arith, omega arith)
 ]
+
+pick_other : (a b : Refusal) → key b < key a → pick a b ≡ b
+pick_other a b h = let e : nat_lt (key b) (key a) ≡ true = grind (arith, nat_tests) in ap (λ t. cond t b a) e
+
+pick_first : (a b : Refusal) → key a ≤ key b → pick a b ≡ a
+pick_first a b h = let e : nat_lt (key b) (key a) ≡ false = grind (arith, nat_tests) in ap (λ t. cond t b a) e
 
 abbrev IsLeastOf : Refusal → List Refusal → Type 0
 IsLeastOf r fs = IsIn r fs × AllByRecursion (λ f. key r ≤ key f) fs

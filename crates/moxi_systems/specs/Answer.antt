@@ -1,5 +1,5 @@
 -- What the reader of scripts answers, and which of failing tests is the first.
-use Rattle.std.specs.Prelude.{◌≡◌, ◌⊎◌, ◌<◌, ◌≤◌, Some, List}
+use Rattle.std.specs.Prelude.{◌≡◌, ◌⊎◌, ◌<◌, ◌≤◌, Some, List, Result, Ok, Err}
 use Rattle.std.specs.List.{AllByRecursion}
 use Rattle.text_core.specs.declared.place.Place.{Place}
 use Rattle.text_core.specs.declared.place.Refusal.{Refusal}
@@ -7,12 +7,27 @@ use Rattle.moxi_sexpr.specs.Tree.{Trees}
 use Rattle.moxi_terms.specs.Failures.{IsIn, least, number_of}
 use Rattle.moxi_systems.specs.declared.outcome.ScriptEnd.{ScriptEnd}
 use Rattle.moxi_systems.specs.declared.outcome.ScriptEnd.TheVariants.{Bad, NoMemory}
+use Rattle.moxi_systems.specs.declared.script.Script.{Script}
+use Rattle.moxi_systems.specs.Script.{PlainScript}
+use Rattle.moxi_systems.specs.ScriptView.{plain_script}
 use Rattle.moxi_systems.specs.Spelling.{script_failures}
 
 -- of the failing tests of these forms the least; want of memory says nothing of them
 abbrev pub IsFirstFailure : Trees → Place → ScriptEnd → Type 0
 IsFirstFailure ts end (Bad r) = least (script_failures ts end) ≡ Some r
 IsFirstFailure ts end NoMemory = Unit {0}
+
+-- the answer is this script, unless memory runs out
+abbrev pub IsScript : PlainScript → Result Script ScriptEnd → Type 0
+IsScript s (Ok x) = plain_script x ≡ s
+IsScript s (Err (Bad r)) = ⊥
+IsScript s (Err NoMemory) = Unit {0}
+
+-- the answer is this refusal, unless memory runs out
+abbrev pub IsRefusal : Refusal → Result Script ScriptEnd → Type 0
+IsRefusal r (Ok x) = ⊥
+IsRefusal r (Err (Bad f)) = f ≡ r
+IsRefusal r (Err NoMemory) = Unit {0}
 
 -- the number of a kind is a byte
 abbrev pub HasByte : Refusal → Type 0

@@ -107,9 +107,11 @@ fn ends(alloc: Global, t: &Term, trace: &[Vec<bool>]) -> Result<bool, Fail> {
 
 // The system's own formulas hold.
 fn formulas_hold(alloc: Global, s: &System, trace: &[Vec<bool>]) -> Result<bool, Fail> {
-    Ok(begins(alloc, &s.init, trace)?
-        && between(alloc, &s.trans, trace)?
-        && always(alloc, &s.inv, trace)?)
+    Ok(
+        begins(alloc, &s.init, trace)?
+            && between(alloc, &s.trans, trace)?
+            && always(alloc, &s.inv, trace)?,
+    )
 }
 
 // The values of a subsystem's variables: those of the actuals, and for its locals so many bits of a number from one on.
@@ -212,9 +214,18 @@ fn formula_at(formulas: &Formulas, i: u64) -> Result<&Term, Fail> {
     Err("a formula")?
 }
 
-fn assumptions_hold(alloc: Global, c: &Check, q: &Query, trace: &[Vec<bool>]) -> Result<bool, Fail> {
+fn assumptions_hold(
+    alloc: Global,
+    c: &Check,
+    q: &Query,
+    trace: &[Vec<bool>],
+) -> Result<bool, Fail> {
     for i in 0..q.assumptions.len() {
-        if !always(alloc, formula_at(&c.assumptions, *q.assumptions.at(i))?, trace)? {
+        if !always(
+            alloc,
+            formula_at(&c.assumptions, *q.assumptions.at(i))?,
+            trace,
+        )? {
             return Ok(false);
         }
     }
@@ -238,10 +249,12 @@ fn checked_behaves(alloc: Global, script: &Script, trace: &[Vec<bool>]) -> Resul
 // Does the trace meet a query at its last step?
 fn meets(alloc: Global, script: &Script, q: &Query, trace: &[Vec<bool>]) -> Result<bool, Fail> {
     let c = &script.check;
-    Ok(checked_behaves(alloc, script, trace)?
-        && assumptions_hold(alloc, c, q, trace)?
-        && currents_hold(alloc, c, q, trace)?
-        && ends(alloc, formula_at(&c.reachables, q.reachable as u64)?, trace)?)
+    Ok(
+        checked_behaves(alloc, script, trace)?
+            && assumptions_hold(alloc, c, q, trace)?
+            && currents_hold(alloc, c, q, trace)?
+            && ends(alloc, formula_at(&c.reachables, q.reachable as u64)?, trace)?,
+    )
 }
 
 /// A script, its query's number, a trace, and whether it behaves and meets the query at its last step.
@@ -261,8 +274,20 @@ const ROWS: [Row; 12] = [
     (LATCH, 0, &[&[true, false]], true, false),
     (LATCH, 0, &[&[true, true]], false, false),
     (LATCH, 0, &[&[false, false], &[false, true]], false, false),
-    (LATCH, 0, &[&[true, false], &[false, true], &[false, true]], true, true),
-    (LATCH, 0, &[&[true, false], &[false, true], &[false, false]], false, false),
+    (
+        LATCH,
+        0,
+        &[&[true, false], &[false, true], &[false, true]],
+        true,
+        true,
+    ),
+    (
+        LATCH,
+        0,
+        &[&[true, false], &[false, true], &[false, false]],
+        false,
+        false,
+    ),
     (TURNS, 0, &[&[false], &[true]], true, true),
     (TURNS, 1, &[&[false], &[true]], true, false),
     (TURNS, 0, &[&[false]], true, false),
@@ -286,7 +311,12 @@ fn traces_behave_and_meet_queries(rt: HostRuntime) -> Result<(), Fail> {
         let trace = trace_of(rt.alloc(), rows)?;
         assert_eq!(rt; checked_behaves(rt.alloc(), &script, &trace)?, *behaving);
         assert!(rt; *number < script.check.queries.len());
-        let met = meets(rt.alloc(), &script, script.check.queries.at(*number), &trace)?;
+        let met = meets(
+            rt.alloc(),
+            &script,
+            script.check.queries.at(*number),
+            &trace,
+        )?;
         assert_eq!(rt; met, *meeting);
     }
     Ok(())

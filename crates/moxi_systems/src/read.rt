@@ -1,15 +1,17 @@
 // Scripts as values.
-ghost use Rattle.std.specs.Prelude.{◌≡◌, IfErr, IfOk, map};
+ghost use Rattle.std.specs.Prelude.{◌≡◌, IfErr, IfOk, Some, map};
+ghost use Rattle.text_core.specs.declared.place.Refusal.{Refusal};
 ghost use Rattle.moxi_sexpr.specs.Printing.{ArePrintable};
 ghost use Rattle.moxi_sexpr.specs.Tree.{plain_forms};
+ghost use Rattle.moxi_terms.specs.Failures.{least};
 ghost use Rattle.moxi_terms.specs.Names.{place_of};
-ghost use Rattle.moxi_systems.specs.Answer.{IsFirstFailure};
+ghost use Rattle.moxi_systems.specs.Answer.{IsFirstFailure, IsRefusal, IsScript};
 ghost use Rattle.moxi_systems.specs.Checks.{plain_check_reading};
 ghost use Rattle.moxi_systems.specs.Commands.{nothing_read, plain_draft};
 ghost use Rattle.moxi_systems.specs.Labels.{plain_list};
-ghost use Rattle.moxi_systems.specs.Script.{plain_check, plain_formula, plain_system};
+ghost use Rattle.moxi_systems.specs.Script.{PlainScript, plain_check, plain_formula, plain_system};
 ghost use Rattle.moxi_systems.specs.ScriptView.{plain_script};
-ghost use Rattle.moxi_systems.specs.Spelling.{SpellsScript, actual_numbers, check_of, number_or_none, subsystem_of, system_of};
+ghost use Rattle.moxi_systems.specs.Spelling.{SpellsScript, actual_numbers, check_of, number_or_none, script_failures, subsystem_of, system_of};
 ghost use Rattle.moxi_systems.specs.Systems.{plain_reading};
 
 use crate::checks::ReadCheck;
@@ -182,8 +184,12 @@ pub fn read_script(alloc: Global, forms: &Forms, end: Place) -> Result<Script, S
     requires { ArePrintable (plain_forms forms.now.items) }
     // What is read is the script that the forms spell: no test fails.
     ensures spelled { IfOk result (λ s. SpellsScript (plain_forms forms.now.items) end (plain_script s)) }
+    // The script that the forms spell is read, unless memory runs out.
+    ensures read { (s : PlainScript) → SpellsScript (plain_forms forms.now.items) end s → IsScript s result }
     // A refusal is the failing test that comes first.
     ensures refused { IfErr result (IsFirstFailure (plain_forms forms.now.items) end) }
+    // The failing test that comes first is answered, unless memory runs out.
+    ensures answered { (r : Refusal) → least (script_failures (plain_forms forms.now.items) end) ≡ Some r → IsRefusal r result }
 {
     let mut draft = nothing_read(alloc);
     script_in(alloc, forms, end, &mut draft)

@@ -83,13 +83,7 @@ fn is_formula(f: &Formula, name: &[u8], number: u32) -> bool {
     f.name.bytes() == name && is_variable(&f.term, number)
 }
 
-fn is_query(
-    q: &Query,
-    name: &[u8],
-    assumptions: &[u64],
-    currents: &[u64],
-    reachable: u32,
-) -> bool {
+fn is_query(q: &Query, name: &[u8], assumptions: &[u64], currents: &[u64], reachable: u32) -> bool {
     q.name.bytes() == name
         && are(&q.assumptions, assumptions)
         && are(&q.currents, currents)
@@ -152,7 +146,9 @@ fn systems_are_used_before_they_are_defined(rt: HostRuntime) -> Result<(), Fail>
         None => false,
     };
     assert!(rt; logic);
-    assert!(rt; script.systems.len() == 2 && is_top(script.systems.at(0)) && is_latch(script.systems.at(1)));
+    assert!(rt;
+        script.systems.len() == 2 && is_top(script.systems.at(0)) && is_latch(script.systems.at(1))
+    );
     assert!(rt; script.check.system == 1);
     Ok(())
 }
@@ -165,9 +161,15 @@ fn a_query_names_formulas_twice(rt: HostRuntime) -> Result<(), Fail> {
     let script = script_of(rt.alloc(), TWICE)?;
     let queries = &script.check.queries;
     assert!(rt; queries.len() == 1 && is_query(queries.at(0), b"q", &[1, 1, 0], &[1, 1], 1));
-    assert!(rt; script.check.assumptions.len() == 2 && is_formula(script.check.assumptions.at(1), b"b", 1));
-    assert!(rt; script.check.currents.len() == 2 && is_formula(script.check.currents.at(1), b"d", 1));
-    assert!(rt; script.check.reachables.len() == 2 && is_formula(script.check.reachables.at(1), b"s", 1));
+    assert!(rt;
+        script.check.assumptions.len() == 2 && is_formula(script.check.assumptions.at(1), b"b", 1)
+    );
+    assert!(rt;
+        script.check.currents.len() == 2 && is_formula(script.check.currents.at(1), b"d", 1)
+    );
+    assert!(rt;
+        script.check.reachables.len() == 2 && is_formula(script.check.reachables.at(1), b"s", 1)
+    );
     Ok(())
 }
 
@@ -181,7 +183,9 @@ fn chain(alloc: Global) -> Result<Text, Fail> {
         text.put_unsigned(i as u128 + 1)?;
         text.put(b" x)))\n")?;
     }
-    text.put(b"(define-system s999 :input ((x Bool)) :inv x)\n(check-system s0 :input ((x Bool)))\n")?;
+    text.put(
+        b"(define-system s999 :input ((x Bool)) :inv x)\n(check-system s0 :input ((x Bool)))\n",
+    )?;
     Ok(text)
 }
 
@@ -189,7 +193,9 @@ fn chain(alloc: Global) -> Result<Text, Fail> {
 fn are_chained(systems: &Systems) -> bool {
     for i in 0..systems.len() {
         let subsystems = &systems.at(i).subsystems;
-        if i + 1 < systems.len() && !(subsystems.len() == 1 && subsystems.at(0).system as usize == i + 1) {
+        if i + 1 < systems.len()
+            && !(subsystems.len() == 1 && subsystems.at(0).system as usize == i + 1)
+        {
             return false;
         }
     }
