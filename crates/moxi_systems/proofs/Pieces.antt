@@ -89,7 +89,7 @@ pub script_end : (old : List ℕ) (a b c d e : Showns) (x : Shown) (n : List ℕ
     → n ++ 10 ∷ [] ≡ old ++ lines_text (joined a (joined b (joined c (joined d (joined e (shown x no_showns))))))
 script_end old a b c d e x n h =
     let f : lines_text (joined a (joined b (joined c (joined d (joined e (shown x no_showns)))))) ≡ lines_text a ++ (lines_text b ++ (lines_text c ++ (lines_text d ++ (lines_text e ++ (text_of x ++ 10 ∷ [])))))
-        = lines_joined a _ ∙ ap (λ z. lines_text a ++ z) (lines_joined b _ ∙ ap (λ z. lines_text b ++ z) (lines_joined c _ ∙ ap (λ z. lines_text c ++ z) (lines_joined d _ ∙ ap (λ z. lines_text d ++ z) (lines_joined e (shown x no_showns))))) in
+    = lines_joined a _ ∙ ap (λ z. lines_text a ++ z) (lines_joined b _ ∙ ap (λ z. lines_text b ++ z) (lines_joined c _ ∙ ap (λ z. lines_text c ++ z) (lines_joined d _ ∙ ap (λ z. lines_text d ++ z) (lines_joined e (shown x no_showns))))) in
     ap (λ z. z ++ 10 ∷ []) h ∙ append_assoc old _ (10 ∷ []) ∙ ap (λ z. old ++ z) (six (lines_text a) (lines_text b) (lines_text c) (lines_text d) (lines_text e) (text_of x)) ∙ ap (λ z. old ++ z) (sym f)
   where
     six : (a b c d e x : List ℕ) → (((((a ++ b) ++ c) ++ d) ++ e) ++ x) ++ 10 ∷ [] ≡ a ++ (b ++ (c ++ (d ++ (e ++ (x ++ 10 ∷ [])))))

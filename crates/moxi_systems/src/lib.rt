@@ -21,6 +21,8 @@ mod print;
 mod print_checks;
 mod print_parts;
 mod print_systems;
+#[cfg(test)]
+mod print_tests;
 mod queries;
 mod read;
 mod script;

@@ -130,7 +130,14 @@ fn put_all_queries(alloc: Global, out: &mut Text, check: &Check) -> Result<(), N
     let assumptions = formula_names(alloc, &check.assumptions)?;
     let currents = formula_names(alloc, &check.currents)?;
     let reachables = formula_names(alloc, &check.reachables)?;
-    put_queries(alloc, out, &assumptions, &currents, &reachables, &check.queries)
+    put_queries(
+        alloc,
+        out,
+        &assumptions,
+        &currents,
+        &reachables,
+        &check.queries,
+    )
 }
 
 #[tactic(auto, using(crate::proofs::Pieces::pieces), unfolding(crate::specs::Printing::shown_conditions))]
@@ -143,9 +150,23 @@ fn put_conditions(
 ) -> Result<(), NoMemory>
     ensures { OnOk result (out.new ≡ out.old ++ parts_text (32 ∷ []) (shown_conditions scope.now (map bytes_behind variables.now) (plain_check check.now))) }
 {
-    put_labels(alloc, out, scope, variables, b"assumption", &check.assumptions)?;
+    put_labels(
+        alloc,
+        out,
+        scope,
+        variables,
+        b"assumption",
+        &check.assumptions,
+    )?;
     put_labels(alloc, out, scope, variables, b"current", &check.currents)?;
-    put_labels(alloc, out, scope, variables, b"reachable", &check.reachables)?;
+    put_labels(
+        alloc,
+        out,
+        scope,
+        variables,
+        b"reachable",
+        &check.reachables,
+    )?;
     put_all_queries(alloc, out, check)
 }
 

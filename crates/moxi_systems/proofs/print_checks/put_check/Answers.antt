@@ -21,5 +21,5 @@ returns c =
     let first = c.in_ok-put_head.ensures ∙ ap (λ n. old ++ 40 ∷ (w ++ 32 ∷ text_of (symbol n))) c.name_in.ensures in
     let second = onto old _ _ _ (parts_text (32 ∷ []) lists) first c.in_ok-put_lists.ensures in
     let third = onto old _ _ _ (parts_text (32 ∷ []) (shown_conditions s vars x)) second
-        (c.in_ok-put_conditions.ensures ∙ ap (λ vs. c.put_lists.new.out ++ parts_text (32 ∷ []) (shown_conditions s vs x)) names) in
+    (c.in_ok-put_conditions.ensures ∙ ap (λ vs. c.put_lists.new.out ++ parts_text (32 ∷ []) (shown_conditions s vs x)) names) in
     ok_same c.put.result _ _ _ (check_end old w (name_at systems x.system) lists (shown_conditions s vars x) c.put_conditions.new.out third) c.put.ensures.ok

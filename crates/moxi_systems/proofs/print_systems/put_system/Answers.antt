@@ -24,7 +24,7 @@ returns c =
     let first = c.in_ok-put_head.ensures ∙ ap (λ n. old ++ 40 ∷ (w ++ 32 ∷ text_of (symbol n))) c.bytes.ensures in
     let second = onto old _ _ _ (parts_text (32 ∷ []) lists) first c.in_ok-put_lists.ensures in
     let third = onto old _ _ _ (parts_text (32 ∷ []) formulas) second
-        (c.in_ok-put_formulas.ensures ∙ ap (λ vs. c.put_lists.new.out ++ parts_text (32 ∷ []) (shown_formulas s vs (plain x.init) (plain x.trans) (plain x.inv))) names) in
+    (c.in_ok-put_formulas.ensures ∙ ap (λ vs. c.put_lists.new.out ++ parts_text (32 ∷ []) (shown_formulas s vs (plain x.init) (plain x.trans) (plain x.inv))) names) in
     let fourth = onto old _ _ _ (parts_text (32 ∷ []) (shown_subsystems systems vars x.subsystems)) third
-        (c.in_ok-put_subsystems.ensures ∙ ap (λ vs. c.put_formulas.new.out ++ parts_text (32 ∷ []) (shown_subsystems systems vs x.subsystems)) names_again) in
+    (c.in_ok-put_subsystems.ensures ∙ ap (λ vs. c.put_formulas.new.out ++ parts_text (32 ∷ []) (shown_subsystems systems vs x.subsystems)) names_again) in
     ok_same c.put.result _ _ _ (system_end old w x.name lists formulas (shown_subsystems systems vars x.subsystems) c.put_subsystems.new.out fourth) c.put.ensures.ok
