@@ -1,7 +1,5 @@
 -- What is shown on lines is read again as forms that show it.
-use Rattle.std.proofs.Common.{◌≡◌, ◌≤◌, ℕ, suc, max, Bool, true, false, not, cond, ◌&&◌, List, [], ◌∷◌, ◌++◌, refl, sym, ap, ◌∙◌, subst, append_assoc, append-nil, arith}
-use Rattle.std.specs.Prelude.{IsTrue}
-use Rattle.text_core.specs.declared.place.Place.{Place}
+use Rattle.std.proofs.Common.{◌≡◌, ◌≤◌, ℕ, suc, max, Bool, true, false, not, cond, ◌&&◌, List, [], ◌∷◌, refl, sym, ap, ◌∙◌, subst, append-nil}
 use Rattle.moxi_sexpr.specs.declared.form.Atom.{Atom}
 use Rattle.moxi_sexpr.specs.declared.form.Atom.TheVariants as kinds
 use Rattle.moxi_sexpr.specs.declared.scan.Spelling.TheVariants as how

@@ -1,5 +1,5 @@
 -- Pieces of texts, one behind the other.
-use Rattle.std.proofs.Common.{◌≡◌, ◌<◌, ℕ, false, Result, Ok, Err, OnOk, List, [], ◌∷◌, ◌++◌, map, length, refl, sym, ap, ◌∙◌, append_assoc, append-nil, arith}
+use Rattle.std.proofs.Common.{◌≡◌, ◌<◌, ℕ, false, Result, Ok, Err, OnOk, List, [], ◌∷◌, ◌++◌, map, length, refl, ap, ◌∙◌, append_assoc, append-nil, arith}
 use Rattle.moxi_sexpr.specs.declared.form.Atom.TheVariants.{Symbol}
 use Rattle.moxi_sexpr.specs.Printing.{printed_atom}
 use Rattle.moxi_terms.specs.declared.term.Term.{Term}

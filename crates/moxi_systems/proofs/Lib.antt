@@ -42,3 +42,4 @@ pub mod WholeLaw
 pub mod WholeGrowth
 pub mod WholeWalks
 pub mod WholeRanks
+pub mod Pieces

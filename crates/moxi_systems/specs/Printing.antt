@@ -49,7 +49,7 @@ names_of names ns = map (name_at names) ns
 abbrev pub shown_subsystem : List (List ℕ) → List (List ℕ) → Subsystem → Shown
 shown_subsystem systems vars u = shown_names u.name (name_at systems u.system ∷ names_of vars u.actuals)
 
-unfoldable pub shown_subsystems : List (List ℕ) → List (List ℕ) → List Subsystem → Showns
+abbrev pub shown_subsystems : List (List ℕ) → List (List ℕ) → List Subsystem → Showns
 shown_subsystems systems vars [] = no_showns
 shown_subsystems systems vars (u ∷ us) = joined (attribute (codes "subsys") (shown_subsystem systems vars u)) (shown_subsystems systems vars us)
 
@@ -73,7 +73,7 @@ abbrev pub shown_label : ScopeState → List (List ℕ) → PlainFormula → Sho
 shown_label s vars f = group (shown (symbol f.name) (shown (shown_term s vars [] f.term) no_showns))
 
 -- each formula of one kind
-unfoldable pub shown_labels : ScopeState → List (List ℕ) → List ℕ → List PlainFormula → Showns
+abbrev pub shown_labels : ScopeState → List (List ℕ) → List ℕ → List PlainFormula → Showns
 shown_labels s vars name [] = no_showns
 shown_labels s vars name (f ∷ fs) = joined (attribute name (shown_label s vars f)) (shown_labels s vars name fs)
 
@@ -84,7 +84,7 @@ formula_names fs = map (λ (f : PlainFormula). f.name) fs
 abbrev pub query_names : List (List ℕ) → List (List ℕ) → List (List ℕ) → Query → List (List ℕ)
 query_names assumptions currents reachables q = names_of assumptions q.assumptions ++ (names_of currents q.currents ++ name_at reachables q.reachable ∷ [])
 
-unfoldable pub shown_queries : List (List ℕ) → List (List ℕ) → List (List ℕ) → List Query → Showns
+abbrev pub shown_queries : List (List ℕ) → List (List ℕ) → List (List ℕ) → List Query → Showns
 shown_queries assumptions currents reachables [] = no_showns
 shown_queries assumptions currents reachables (q ∷ qs) =
     joined (attribute (codes "query") (shown_names q.name (query_names assumptions currents reachables q))) (shown_queries assumptions currents reachables qs)

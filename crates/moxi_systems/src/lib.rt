@@ -19,6 +19,12 @@ mod links;
 mod lists;
 mod name_laws;
 mod outcome;
+mod print;
+mod print_checks;
+mod print_parts;
+mod print_systems;
+#[cfg(test)]
+mod print_tests;
 mod queries;
 mod read;
 mod script;
@@ -44,6 +50,7 @@ pub use links::test_links;
 pub use lists::{DeclaredList, Lists};
 pub use name_laws::{printable_forms_give_spellable_names, whole_scripts_can_be_shown};
 pub use outcome::ScriptEnd;
+pub use print::print_script;
 pub use read::read_script;
 pub use script::{
     Check, Formula, Formulas, Queries, Query, Script, Subsystem, Subsystems, System, Systems,

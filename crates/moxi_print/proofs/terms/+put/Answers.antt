@@ -1,4 +1,4 @@
-use Rattle.std.proofs.Common.{◌≡◌, ◌<◌, ℕ, false, List, [], ◌∷◌, ◌++◌, map, length, ap, sym, ◌∙◌, append_assoc, arith}
+use Rattle.std.proofs.Common.{◌<◌, ℕ, false, List, [], ◌∷◌, ◌++◌, map, length, ap, sym, ◌∙◌, append_assoc, arith}
 use Rattle.moxi_sexpr.specs.declared.form.Atom.TheVariants.{Symbol}
 use Rattle.moxi_sexpr.specs.Printing.{bytes_behind, printed_atom}
 use Rattle.moxi_terms.specs.Tree.{trees_of}
