@@ -5,3 +5,5 @@ pub mod LinkLaws
 pub mod CycleLaws
 pub mod ScriptLaws
 pub mod Building
+pub mod KindLaws
+pub mod ScriptKinds
