@@ -1,5 +1,5 @@
 -- Each test of scripts that fails is of a kind of scripts.
-use Rattle.std.proofs.Common.{◌≡◌, ℕ, suc, ◌+◌, ◌==◌, ◌<◌, nat_le, nat_lt, length, Bool, true, false, cond, not, ◌&&◌, is_none, IfErr, Result, Ok, Err, Option, None, Some, List, [], ◌∷◌, ◌++◌, codes, bytes_eq, refl}
+use Rattle.std.proofs.Common.{◌≡◌, ℕ, ◌+◌, nat_le, nat_lt, length, Bool, true, false, cond, ◌&&◌, IfErr, Result, Ok, Err, Option, None, Some, List, [], ◌∷◌, ◌++◌, codes, bytes_eq, refl}
 use Rattle.std.specs.List.{AllByRecursion}
 use Rattle.std.specs.Prelude.{slice_get}
 use Rattle.text_core.specs.declared.place.Place.{Place}
@@ -8,7 +8,6 @@ use Rattle.word_core.specs.Words.{BitVector}
 use Rattle.word_core.specs.declared.kinds.Binary.{Binary}
 use Rattle.moxi_sexpr.specs.declared.form.Atom.{Atom}
 use Rattle.moxi_sexpr.specs.declared.form.Atom.TheVariants.{Symbol, Keyword, Numeral, Binary as BinaryDigits, Hex, Quote}
-use Rattle.moxi_sexpr.specs.Bytes.{is_digit}
 use Rattle.moxi_sexpr.specs.Lexing.{refusal}
 use Rattle.moxi_sexpr.specs.Tree as form
 use Rattle.moxi_terms.specs.declared.data.Sort.{Sort}
@@ -26,7 +25,7 @@ use Rattle.moxi_terms.specs.Forms.{place_in, symbol_atom, symbol_of, numeral_of,
 use Rattle.moxi_terms.specs.Names.{sort_named}
 use Rattle.moxi_terms.specs.Operators.{is_comparison}
 use Rattle.moxi_terms.specs.Reading.{Arguments, Bindings, Context, Reading, application, application_tests, argument_tests, atom_head, atom_reading, atom_sort, binding_of, bindings_tests, call_sort, extended_head, extracted_head, head_named, head_of, head_primes, head_sort, head_count_fits, index_of, indexed_head, indexed_sort, is_width, known_head, let_reading, listed_head, listed_sort, literal_digits, literal_named, literal_reading, meaning_of, named_reading, only_numeral, paired_head, prime_failures, read, read_all, read_binding, read_bindings, read_let, sort_failures, sort_reading, sorts_tested, symbol_head, symbol_indexed, symbol_primes, symbol_sort, symbol_underscored, underscore_reading, unknown, variable_primes, vector_sort, width_sort, word_reading}
-use Rattle.moxi_terms.specs.Sorts.{calculated, chosen, common, compared, count_fits, fitting, is_arithmetic, is_negation, logical, op_sort, same_sorts, widened}
+use Rattle.moxi_terms.specs.Sorts.{calculated, chosen, common, compared, count_fits, fitting, is_arithmetic, is_negation, logical, same_sorts, widened}
 use Rattle.moxi_terms.specs.Tree.{PlainFunction, sorts_of}
 use Rattle.moxi_terms.specs.View.{ScopeState}
 use Rattle.moxi_terms.specs.Words.{indexed_operators, is_one_of, left_out_operators, left_out_sorts}

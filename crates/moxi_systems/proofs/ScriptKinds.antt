@@ -1,6 +1,5 @@
 -- Each failing test of a script is of a kind of scripts.
-use Rattle.std.proofs.Common.{◌≡◌, ℕ, ◌+◌, ◌==◌, suc, nat_le, length, Bool, true, false, cond, not, ◌&&◌, ◌||◌, is_none, is_some, Result, Ok, Err, Option, None, Some, List, [], ◌∷◌, ◌++◌, refl}
-use Rattle.std.specs.Prelude.{slice_get}
+use Rattle.std.proofs.Common.{ℕ, ◌+◌, ◌==◌, suc, length, Bool, cond, not, ◌&&◌, is_none, Result, Ok, Err, Option, None, Some, List, [], ◌∷◌, ◌++◌, refl}
 use Rattle.text_core.specs.declared.place.Place.{Place}
 use Rattle.text_core.specs.declared.place.Refusal.{Refusal}
 use Rattle.digraph.specs.Graph.{NodeLists, leads}
@@ -41,7 +40,7 @@ use Rattle.moxi_systems.specs.Labels as labels
 use Rattle.moxi_systems.specs.Links as links
 use Rattle.moxi_systems.specs.Lists as lists
 use Rattle.moxi_systems.specs.QueryReading as queries
-use Rattle.moxi_systems.specs.Shapes.{HeadedForms, NamedForm, headed, misshapen, named, named_in, parts_of}
+use Rattle.moxi_systems.specs.Shapes.{HeadedForms, NamedForm, headed, named, named_in, parts_of}
 use Rattle.moxi_systems.specs.Spelling.{reading_of, script_failures}
 use Rattle.moxi_systems.specs.Systems as systems
 use Rattle.moxi_systems.specs.Uses as uses
