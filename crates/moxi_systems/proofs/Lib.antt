@@ -43,3 +43,5 @@ pub mod WholeGrowth
 pub mod WholeWalks
 pub mod WholeRanks
 pub mod Pieces
+pub mod KindLaws
+pub mod ScriptKinds
