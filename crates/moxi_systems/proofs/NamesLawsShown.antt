@@ -153,7 +153,6 @@ module _ (terms : TermsCanBeShown) (sorts : SortsCanBeShown) (stand : SortsStand
 
   labels_shown : (name : List ℕ) (vs : List Variable) (fs : List PlainFormula) → IsTrue (is_simple name) → VariablesAreSpellable vs → AreFormulas s vs fs → AllByRecursion IsSpellableFormula fs
       → AllCanBeShown (shown_labels s (variable_names vs) name fs)
-  unfolding shown_labels
   labels_shown name vs [] k h i n = tt
   labels_shown name vs (f ∷ fs) k h i n =
       joined_shown (attribute name (shown_label s (variable_names vs) f)) (shown_labels s (variable_names vs) name fs)
@@ -163,7 +162,6 @@ module _ (terms : TermsCanBeShown) (sorts : SortsCanBeShown) (stand : SortsStand
 
   subsystems_shown : (systems vars : List (List ℕ)) (bs : List Subsystem) → AreSpellable systems → AreSpellable vars → AllByRecursion (λ (b : Subsystem). IsSpellable b.name) bs
       → AllCanBeShown (shown_subsystems systems vars bs)
-  unfolding shown_subsystems
   subsystems_shown systems vars [] h g n = tt
   subsystems_shown systems vars (b ∷ bs) h g n =
       joined_shown (attribute (codes "subsys") (shown_subsystem systems vars b)) (shown_subsystems systems vars bs)
@@ -194,7 +192,6 @@ module _ (terms : TermsCanBeShown) (sorts : SortsCanBeShown) (stand : SortsStand
       all_map (λ (f : PlainFormula). f.name) IsSpellable fs (all_of IsSpellableFormula (λ (f : PlainFormula). IsSpellable f.name) fs (λ f h. h.name) n)
 
   queries_shown : (xs ys zs : List (List ℕ)) (qs : List Query) → AreSpellable xs → AreSpellable ys → AreSpellable zs → AllByRecursion (λ (q : Query). IsSpellable q.name) qs → AllCanBeShown (shown_queries xs ys zs qs)
-  unfolding shown_queries
   queries_shown xs ys zs [] a c r n = tt
   queries_shown xs ys zs (q ∷ qs) a c r n =
       joined_shown (attribute (codes "query") (shown_names q.name (query_names xs ys zs q))) (shown_queries xs ys zs qs)

@@ -25,3 +25,4 @@ pub mod Printing
 pub mod Whole
 pub mod Again
 pub mod NamesOfScripts
+pub mod ReadBack

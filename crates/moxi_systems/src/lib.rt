@@ -27,6 +27,7 @@ mod print_systems;
 mod print_tests;
 mod queries;
 mod read;
+mod read_back_laws;
 mod script;
 #[cfg(test)]
 mod script_tests;
@@ -52,6 +53,7 @@ pub use name_laws::{printable_forms_give_spellable_names, whole_scripts_can_be_s
 pub use outcome::ScriptEnd;
 pub use print::print_script;
 pub use read::read_script;
+pub use read_back_laws::printed_scripts_are_read_back;
 pub use script::{
     Check, Formula, Formulas, Queries, Query, Script, Subsystem, Subsystems, System, Systems,
 };

@@ -1,14 +1,17 @@
 // Scripts as a text.
-ghost use Rattle.std.specs.Prelude.{◌≡◌, ◌++◌, ◌∷◌, [], map, IfOk, OnOk};
+ghost use Rattle.std.specs.Prelude.{◌≡◌, ◌≤◌, ◌++◌, ◌∷◌, [], map, IfOk, OnOk};
+ghost use Rattle.moxi_sexpr.specs.Lexing.{limit};
 ghost use Rattle.moxi_sexpr.specs.Printing.{bytes_behind};
-ghost use Rattle.moxi_print.specs.Shown.{lines_text};
+ghost use Rattle.moxi_print.specs.Shown.{lines_text, shown_depths};
 ghost use Rattle.moxi_systems.specs.Printing.{shown_enumerations, shown_functions, shown_logic, shown_script, shown_sorts, shown_systems, system_names};
+ghost use Rattle.moxi_systems.specs.ReadBack.{ReadsBackScript};
 ghost use Rattle.moxi_systems.specs.Script.{plain_system};
 ghost use Rattle.moxi_systems.specs.ScriptView.{plain_script};
 
 use crate::print_checks::put_check;
 use crate::print_parts::{push, put_head};
 use crate::print_systems::put_system;
+use crate::read_back_laws::printed_scripts_are_read_back;
 use crate::script::{Script, Systems};
 use moxi_print::{put_enumeration, put_function, put_named_sort};
 use moxi_terms::Scope;
@@ -106,7 +109,10 @@ fn put_script(alloc: Global, out: &mut Text, script: &Script) -> Result<(), NoMe
 /// its assumptions, its current conditions and then its reachable formula.
 pub fn print_script(alloc: Global, script: &Script) -> Result<Text, NoMemory>
     ensures printed { IfOk result (λ text. text ≡ lines_text (shown_script (plain_script script.now))) }
+    // What is printed is read again as the script, where no more brackets stand open than may be read.
+    ensures reads_back { shown_depths (shown_script (plain_script script.now)) ≤ limit → IfOk result (λ text. ∥ ReadsBackScript text (plain_script script.now) ∥₁) }
 {
+    printed_scripts_are_read_back();
     let mut out = Text::new(alloc);
     put_script(alloc, &mut out, script)?;
     Ok(out)
