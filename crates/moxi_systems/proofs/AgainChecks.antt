@@ -1,10 +1,9 @@
 -- The check of a script that is shown and read again.
-use Rattle.std.proofs.Common.{◌≡◌, ℕ, Bool, true, false, cond, Option, None, Some, List, [], ◌∷◌, ◌++◌, map, length, refl, sym, ap, ◌∙◌, subst}
+use Rattle.std.proofs.Common.{◌≡◌, ℕ, true, false, cond, None, Some, List, [], ◌∷◌, ◌++◌, length, refl, sym, ap, ◌∙◌, subst}
 use Rattle.std.specs.Prelude.{codes}
 use Rattle.std.specs.List.{AllByRecursion}
 use Rattle.std.proofs.lemmas.List.{length-map}
 use Rattle.text_core.specs.declared.place.Place.{Place}
-use Rattle.text_core.specs.declared.place.Refusal.{Refusal}
 use Rattle.moxi_sexpr.specs.Lexing.{refusal}
 use Rattle.moxi_sexpr.specs.Tree as form
 use Rattle.moxi_terms.specs.declared.names.Local.{Local}
@@ -20,13 +19,13 @@ use Rattle.moxi_systems.specs.Checks.{CheckReading, labels_in}
 use Rattle.moxi_systems.specs.Collecting.{fails_if}
 use Rattle.moxi_systems.specs.Commands as commands
 use Rattle.moxi_systems.specs.Commands.{Reading, with_form, form_failures}
-use Rattle.moxi_systems.specs.Labels.{FormulaLists, labels_after, labels_failures, no_labels}
+use Rattle.moxi_systems.specs.Labels.{labels_after, labels_failures, no_labels}
 use Rattle.moxi_systems.specs.Lists.{all_entries, lists_in}
-use Rattle.moxi_systems.specs.Printing.{all_queries, shown_check, shown_conditions, shown_labels, shown_lists, shown_queries}
+use Rattle.moxi_systems.specs.Printing.{all_queries, shown_check, shown_conditions, shown_lists}
 use Rattle.moxi_systems.specs.QueryReading as query
 use Rattle.moxi_systems.specs.Script.{PlainCheck, PlainFormula, PlainSystem}
 use Rattle.moxi_systems.specs.Shapes.{HeadedForms}
-use Rattle.moxi_systems.specs.Systems.{locals_of, variables_failures}
+use Rattle.moxi_systems.specs.Systems.{locals_of}
 use Rattle.moxi_systems.specs.Whole.{IsWholeCheck, IsWholeQuery, check_variables, formula_names}
 use Rattle.moxi_systems.proofs.AgainAttributes.{IsTail, check_shape, has_lists, list_forms}
 use Rattle.moxi_systems.proofs.AgainEntries.{SortsMean}
@@ -34,7 +33,6 @@ use Rattle.moxi_systems.proofs.AgainLabels.{all_labels_read, made_labels}
 use Rattle.moxi_systems.proofs.AgainQueries.{are_three, queries_read}
 use Rattle.moxi_systems.proofs.AgainShapes.{is_listed}
 use Rattle.moxi_systems.proofs.AgainSystems.{AgreeLists, both_nil, command_form, is_command, lists_read}
-use Rattle.moxi_systems.proofs.WholeParts.{all_of}
 
 -- what is read of a check, among systems of these names
 pub record AgreeCheck (names : List (List ℕ)) (c : PlainCheck) (r : CheckReading) : Type 0 where

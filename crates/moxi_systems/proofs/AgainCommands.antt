@@ -1,13 +1,10 @@
 -- The commands of a script that are shown and read again, one behind the other.
-use Rattle.std.proofs.Common.{◌≡◌, ℕ, zero, suc, ◌+◌, ◌<◌, Bool, true, false, not, cond, ◌||◌, is_none, is_some, Option, None, Some, List, [], ◌∷◌, ◌++◌, map, take, length, refl, sym, ap, ◌∙◌, subst, append_assoc, append-nil, arith}
+use Rattle.std.proofs.Common.{◌≡◌, ℕ, ◌<◌, true, false, is_none, is_some, Option, None, Some, List, [], ◌∷◌, ◌++◌, map, take, length, refl, sym, ap, ◌∙◌, subst, append_assoc, append-nil, arith}
 use Rattle.std.specs.Prelude.{codes, slice_get}
 use Rattle.std.specs.List.{AllByRecursion}
 use Rattle.std.specs.Str.{bytes_eq}
-use Rattle.text_core.specs.declared.place.Place.{Place}
-use Rattle.text_core.specs.declared.place.Refusal.{Refusal}
 use Rattle.moxi_sexpr.specs.Tree.{Tree, Trees, no_trees, tree}
 use Rattle.moxi_terms.specs.declared.data.Primes.TheVariants.{Refused}
-use Rattle.moxi_terms.specs.declared.data.Sort.{Sort}
 use Rattle.moxi_terms.specs.declared.term.Enumeration.{Enumeration}
 use Rattle.moxi_terms.specs.declared.term.NamedSort.{NamedSort}
 use Rattle.moxi_terms.specs.Names.{all_constants, are_fresh, enumeration_names, function_names, is_among, is_term_name, no_scope, place_of, sort_names}
@@ -15,7 +12,7 @@ use Rattle.moxi_terms.specs.Sorts.{IsSort}
 use Rattle.moxi_terms.specs.Tree.{PlainFunction}
 use Rattle.moxi_terms.specs.View.{ScopeState}
 use Rattle.moxi_print.specs.Declarations.{shown_function, shown_named_sort}
-use Rattle.moxi_print.specs.Shown.{Shown, word, group, Showns, no_showns, shown, joined, Shows, ShowEach}
+use Rattle.moxi_print.specs.Shown.{word, group, Showns, no_showns, shown, joined, Shows, ShowEach}
 use Rattle.moxi_print.specs.Standing.{Stands}
 use Rattle.moxi_print.specs.Terms.{shown_sort, shown_term, shown_variables, symbol, variable_names}
 use Rattle.moxi_print.proofs.StandingShapes as shape
@@ -27,13 +24,13 @@ use Rattle.moxi_systems.specs.Lists.{all_entries, lists_in}
 use Rattle.moxi_systems.specs.Printing.{shown_enumerations, shown_functions, shown_logic, shown_sorts, shown_systems}
 use Rattle.moxi_systems.specs.Script.{PlainSystem, variables_in}
 use Rattle.moxi_systems.specs.Systems.{SystemReading, content_of}
-use Rattle.moxi_systems.specs.Whole.{AreNames, IsWholeFunction, IsWholeScope, IsWholeSystem, before, is_fixed_sort, is_fixed_term, over, system_names}
-use Rattle.moxi_systems.proofs.AgainDeclarations.{AreNew, IsNewEnumeration, IsNewFunction, Reads, enumeration_read, function_read, sort_definition_read, sort_new}
+use Rattle.moxi_systems.specs.Whole.{IsWholeFunction, IsWholeScope, IsWholeSystem, before, is_fixed_sort, is_fixed_term, over, system_names}
+use Rattle.moxi_systems.proofs.AgainDeclarations.{IsNewEnumeration, IsNewFunction, Reads, enumeration_read, function_read, sort_definition_read, sort_new}
 use Rattle.moxi_systems.proofs.AgainEntries.{SortsMean, agree_all}
 use Rattle.moxi_systems.proofs.AgainScopes.{same_sorts_shown, same_variables_shown, term_shown}
 use Rattle.moxi_systems.proofs.AgainSystems.{AgreeSystem, all_agree, command_form, is_command, system_read}
 use Rattle.moxi_systems.proofs.LinkLaws.{get_left, get_right}
-use Rattle.moxi_systems.proofs.WholeNames.{Absent, absent_append, absent_parts, fresh_first, fresh_split, is_absent, or_both, or_parts, other_way}
+use Rattle.moxi_systems.proofs.WholeNames.{Absent, absent_parts, fresh_first, fresh_split, is_absent, or_both, or_parts, other_way}
 use Rattle.moxi_systems.proofs.WholeParts.{all_append, all_of, all_parts, get_below, map_append}
 use Rattle.moxi_systems.proofs.WholeScopes.{constants_append, take_whole, term_new}
 
@@ -123,7 +120,7 @@ follow_new there e es w =
       some = w.some.0;
       sort = sort_new s e.name w.own.0 (fresh_first (enumerated there) e.name (enumerated es) w.names).0 refl;
       constants = all_both own (Absent (all_constants there)) (λ (name : List ℕ). is_term_name s name ≡ false) e.constants
-      (λ name o a. term_new s name (record { own = o; constants = a; functions = refl })) (all_parts own e.constants (all_constants es) w.own_constants).0 (fresh_absent (all_constants there) e.constants c.0);
+          (λ name o a. term_new s name (record { own = o; constants = a; functions = refl })) (all_parts own e.constants (all_constants es) w.own_constants).0 (fresh_absent (all_constants there) e.constants c.0);
       differ = c.0;
       behind = c.0;
     }
@@ -255,7 +252,7 @@ functions_go logic u there (f ∷ fs) ds rest (tree t ts) w mean all d own n h =
       variables = more.variables;
       untaken = more.untaken;
       goes = go_one r next (reading_functions logic u (there ++ f ∷ fs) more.variables) rest t ts (record { is = is; pass = one.reads.pass })
-      (subst (λ gs. Goes next (reading_functions logic u gs more.variables) rest ts) (append_assoc there (f ∷ []) fs) more.goes);
+          (subst (λ gs. Goes next (reading_functions logic u gs more.variables) rest ts) (append_assoc there (f ∷ []) fs) more.goes);
     }
 
 -- SYSTEMS
@@ -312,7 +309,7 @@ systems_go logic u terms names all there (x ∷ xs) ds rs rest (tree t ts) mean 
       systems = more.systems;
       agree = subst (λ xs. AgreeSystems names all xs more.systems) (append_assoc there (x ∷ []) xs) more.agree;
       goes = go_one r next (reading_at logic u terms (system_names (there ++ x ∷ xs)) more.variables more.systems) rest t ts (record { is = is; pass = one.pass })
-      (subst (λ xs. Goes next (reading_at logic u terms (system_names xs) more.variables more.systems) rest ts) (append_assoc there (x ∷ []) xs) more.goes);
+          (subst (λ xs. Goes next (reading_at logic u terms (system_names xs) more.variables more.systems) rest ts) (append_assoc there (x ∷ []) xs) more.goes);
     }
 
 -- ALL OF THEM
@@ -369,7 +366,7 @@ declarations_go logic u rest ts w h =
       variables = d.variables;
       untaken = d.untaken;
       goes = go_on nothing_read r0 r3 enumerations rest ts a (go_on r0 r1 r3 sorts rest a.forms b (go_on r1 r2 r3 functions rest b.forms c
-      (subst (λ ns. Goes (reading_at logic (without_functions u.enumerations u.sorts) ns [] [] []) r3 rest c.forms) names d.goes)));
+          (subst (λ ns. Goes (reading_at logic (without_functions u.enumerations u.sorts) ns [] [] []) r3 rest c.forms) names d.goes)));
     }
 
 pub record AreDeclaredSystems (logic : Option (List ℕ)) (u : ScopeState) (ss : List PlainSystem) (rest : Showns) (ts : Trees) : Type 0 where

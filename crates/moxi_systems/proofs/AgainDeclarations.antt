@@ -1,11 +1,10 @@
 -- Enumerations, sorts and functions that are shown and read again.
-use Rattle.std.proofs.Common.{◌≡◌, ◌==◌, ℕ, ◌+◌, ◌<◌, nat_lt, Bool, true, false, not, cond, ◌&&◌, ◌||◌, is_none, is_some, Option, None, Some, Result, Ok, Err, List, [], ◌∷◌, ◌++◌, map, length, refl, sym, ap, ◌∙◌, subst, append_assoc, append-nil, arith}
+use Rattle.std.proofs.Common.{◌≡◌, ◌==◌, ℕ, ◌<◌, nat_lt, Bool, true, false, not, cond, ◌||◌, is_none, is_some, Option, None, Some, Ok, List, [], ◌∷◌, ◌++◌, length, refl, sym, ap, ◌∙◌, subst, append_assoc, append-nil, arith}
 use Rattle.std.specs.Prelude.{codes}
 use Rattle.std.specs.List.{AllByRecursion, list_any}
 use Rattle.std.specs.Str.{bytes_eq}
 use Rattle.std.proofs.lemmas.Bool.Decides.{nat_tests}
 use Rattle.text_core.specs.declared.place.Place.{Place}
-use Rattle.text_core.specs.declared.place.Refusal.{Refusal}
 use Rattle.moxi_sexpr.specs.declared.form.Atom.TheVariants.{Symbol}
 use Rattle.moxi_sexpr.specs.Tree as form
 use Rattle.moxi_terms.specs.declared.data.Primes.TheVariants.{Refused}
@@ -13,8 +12,8 @@ use Rattle.moxi_terms.specs.declared.data.Sort.{Sort}
 use Rattle.moxi_terms.specs.declared.data.Sort.TheVariants.{Truth, Bits, Choice}
 use Rattle.moxi_terms.specs.declared.term.Enumeration.{Enumeration}
 use Rattle.moxi_terms.specs.declared.term.NamedSort.{NamedSort}
-use Rattle.moxi_terms.specs.Forms.{place_in, symbol_of}
-use Rattle.moxi_terms.specs.Names.{all_constants, are_fresh, enumeration_names, function_names, is_among, is_sort_name, is_term_name, may_be_constants, may_be_enumeration, place_of, sort_names, with_enumeration, with_function, with_sort}
+use Rattle.moxi_terms.specs.Forms.{place_in}
+use Rattle.moxi_terms.specs.Names.{all_constants, are_fresh, enumeration_names, is_among, is_sort_name, is_term_name, may_be_constants, may_be_enumeration, place_of, sort_names, with_enumeration, with_function, with_sort}
 use Rattle.moxi_terms.specs.Reading as reading
 use Rattle.moxi_terms.specs.Reading.{sort_reading}
 use Rattle.moxi_terms.specs.Sorted.{AreSorts}
@@ -34,9 +33,9 @@ use Rattle.moxi_systems.specs.Collecting.{fails_if}
 use Rattle.moxi_systems.specs.Commands.{Reading, form_failures, with_form}
 use Rattle.moxi_systems.specs.Declarations as declarations
 use Rattle.moxi_systems.specs.Declarations.{FunctionForms, are_symbols, constants_failures, is_nil, is_taken, symbols_in, with_constants, with_term_name}
-use Rattle.moxi_systems.specs.Entries.{entries_failures, entries_of, known_sort, locals_among, names_with, sort_failures, twice_failures, variables_of}
-use Rattle.moxi_systems.specs.Shapes.{HeadedForms, NamedForm, parts_of}
-use Rattle.moxi_systems.specs.Whole.{AreVariables, is_fixed_sort, is_fixed_term, over}
+use Rattle.moxi_systems.specs.Entries.{entries_of, known_sort, names_with, sort_failures}
+use Rattle.moxi_systems.specs.Shapes.{HeadedForms}
+use Rattle.moxi_systems.specs.Whole.{is_fixed_sort, over}
 use Rattle.moxi_systems.proofs.AgainEntries.{Agree, SortsMean, agree_differ, agree_locals, agree_variables, entries_read, names_of_locals}
 use Rattle.moxi_systems.proofs.AgainShapes.{is_listed, named_form}
 use Rattle.moxi_systems.proofs.AgainSystems.{both_nil, command_form, is_command}

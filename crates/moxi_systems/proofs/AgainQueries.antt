@@ -1,11 +1,11 @@
 -- Queries that are shown and read again.
-use Rattle.std.proofs.Common.{◌≡◌, ◌==◌, ℕ, zero, suc, ◌+◌, ◌<◌, Bool, true, false, not, cond, ◌&&◌, ◌||◌, is_none, Option, None, Some, List, [], ◌∷◌, ◌++◌, map, length, refl, sym, ap, ◌∙◌, subst, append_assoc, append-nil, arith}
+use Rattle.std.proofs.Common.{◌≡◌, ℕ, ◌<◌, true, false, not, cond, ◌&&◌, is_none, Option, None, Some, List, [], ◌∷◌, ◌++◌, length, refl, sym, ap, ◌∙◌, subst, append_assoc, append-nil}
 use Rattle.std.specs.Prelude.{codes}
 use Rattle.std.specs.List.{AllByRecursion}
 use Rattle.text_core.specs.declared.place.Place.{Place}
 use Rattle.moxi_sexpr.specs.declared.form.Atom.TheVariants.{Symbol}
 use Rattle.moxi_sexpr.specs.Tree as form
-use Rattle.moxi_terms.specs.Forms.{place_in, symbol_of}
+use Rattle.moxi_terms.specs.Forms.{place_in}
 use Rattle.moxi_terms.specs.declared.names.Local.{Local}
 use Rattle.moxi_terms.specs.Names.{are_fresh, place_of}
 use Rattle.moxi_terms.specs.View.{ScopeState}
@@ -33,7 +33,7 @@ use Rattle.moxi_systems.proofs.AgainAttributes.{IsTail, attribute_forms, tail_en
 use Rattle.moxi_systems.proofs.AgainLabels.{made_labels}
 use Rattle.moxi_systems.proofs.AgainShapes.{is_attribute, is_listed, is_named, named_form}
 use Rattle.moxi_systems.proofs.AgainUses.{absent_at}
-use Rattle.moxi_systems.proofs.WholeNames.{Absent, absent_append, absent_parts, fresh_first, fresh_split, fresh_with, is_absent}
+use Rattle.moxi_systems.proofs.WholeNames.{Absent, absent_parts, fresh_first, fresh_split, fresh_with, is_absent}
 
 -- NAMES
 

@@ -1,42 +1,36 @@
 -- Systems that are shown and read again.
-use Rattle.std.proofs.Common.{◌≡◌, ℕ, Bool, true, false, not, cond, is_none, Option, None, Some, List, [], ◌∷◌, ◌++◌, map, refl, sym, ap, ◌∙◌, subst, append_assoc}
+use Rattle.std.proofs.Common.{◌≡◌, ℕ, true, false, cond, is_none, Some, List, [], ◌∷◌, ◌++◌, refl, sym, ap, ◌∙◌, subst, append_assoc}
 use Rattle.std.specs.Prelude.{codes}
-use Rattle.std.specs.List.{AllByRecursion}
 use Rattle.text_core.specs.declared.place.Place.{Place}
 use Rattle.text_core.specs.declared.place.Refusal.{Refusal}
 use Rattle.moxi_sexpr.specs.declared.form.Atom.TheVariants.{Symbol}
 use Rattle.moxi_sexpr.specs.Lexing.{refusal}
 use Rattle.moxi_sexpr.specs.Tree as form
 use Rattle.moxi_terms.specs.declared.data.Primes.TheVariants.{Allowed, Refused}
-use Rattle.moxi_terms.specs.declared.names.Local.{Local}
-use Rattle.moxi_terms.specs.declared.term.Enumeration.{Enumeration}
 use Rattle.moxi_terms.specs.declared.term.Variable.{Variable}
 use Rattle.moxi_terms.specs.Answer as answer
 use Rattle.moxi_terms.specs.Names.{place_of}
 use Rattle.moxi_terms.specs.Sorted.{AreSorts}
 use Rattle.moxi_terms.specs.Sorts.{IsSort}
-use Rattle.moxi_terms.specs.Tree.{Tree, sorts_of}
+use Rattle.moxi_terms.specs.Tree.{sorts_of}
 use Rattle.moxi_terms.specs.View.{ScopeState}
-use Rattle.moxi_print.specs.Shown.{Shown, word, group, Showns, shown, joined, Shows, ShowEach}
+use Rattle.moxi_print.specs.Shown.{word, group, Showns, shown, joined, Shows, ShowEach}
 use Rattle.moxi_print.specs.Terms.{symbol, shown_variables, variable_names}
 use Rattle.moxi_print.proofs.StandingShapes as shape
 use Rattle.moxi_systems.specs.declared.attributes.Command.{Command}
-use Rattle.moxi_systems.specs.declared.attributes.Command.TheVariants.{System, Check}
+use Rattle.moxi_systems.specs.declared.attributes.Command.TheVariants.{System}
 use Rattle.moxi_systems.specs.declared.attributes.Turn.TheVariants.{AtKeyword}
 use Rattle.moxi_systems.specs.declared.lists.Lists.{Lists}
 use Rattle.moxi_systems.specs.Attributes.{shape_holds, unknown_failures}
-use Rattle.moxi_systems.specs.Commands as commands
 use Rattle.moxi_systems.specs.Commands.{Reading, with_form, form_failures}
-use Rattle.moxi_systems.specs.Entries.{locals_among, twice_failures}
-use Rattle.moxi_systems.specs.Formulas.{term_failures}
-use Rattle.moxi_systems.specs.Lists.{all_entries, list_of, listed_failures, lists_in}
+use Rattle.moxi_systems.specs.Lists.{all_entries, list_of, lists_in}
 use Rattle.moxi_systems.specs.Printing.{shown_command, shown_lists, shown_formulas, shown_subsystems, shown_system}
 use Rattle.moxi_systems.specs.Script.{PlainSystem, variables_in}
 use Rattle.moxi_systems.specs.Systems as systems
 use Rattle.moxi_systems.specs.Systems.{SystemReading, locals_of, variables_failures}
 use Rattle.moxi_systems.specs.Uses.{uses_failures, uses_in}
 use Rattle.moxi_systems.specs.Whole.{AreVariables, IsWholeSystem}
-use Rattle.moxi_systems.proofs.AgainAttributes.{IsTail, HasLists, has_formulas, has_lists, list_forms, formula_forms, system_shape}
+use Rattle.moxi_systems.proofs.AgainAttributes.{has_formulas, has_lists, list_forms, formula_forms, system_shape}
 use Rattle.moxi_systems.proofs.AgainEntries.{Agree, SortsMean, agree_append, agree_differ, agree_locals, list_read}
 use Rattle.moxi_systems.proofs.AgainFormulas.{term_again, term_passes}
 use Rattle.moxi_systems.proofs.AgainShapes.{is_listed}
@@ -101,7 +95,7 @@ record IsReadSystem (s : ScopeState) (names : List (List ℕ)) (all : List Plain
 
 content_read : (s : ScopeState) (names : List (List ℕ)) (all : List PlainSystem) (x : PlainSystem) (ts : form.Trees) → SortsMean s → IsWholeSystem s all x
     → ShowEach ts (joined (shown_lists s x.inputs x.outputs x.locals)
-        (joined (shown_formulas s (variable_names (variables_in x)) x.init x.trans x.inv) (shown_subsystems names (variable_names (variables_in x)) x.subsystems)))
+    (joined (shown_formulas s (variable_names (variables_in x)) x.init x.trans x.inv) (shown_subsystems names (variable_names (variables_in x)) x.subsystems)))
     → IsReadSystem s names all x ts
 content_read s names all x ts mean w h =
     let vs = variables_in x in
