@@ -13,7 +13,7 @@ use Rattle.moxi_systems.specs.Systems.{SystemReading}
 use Rattle.moxi_systems.specs.Whole.{NoneContainsItself, all_subsystem_rows, containing_rows, count_subsystems, subsystem_graph, subsystem_rows, system_names}
 use Rattle.moxi_systems.proofs.AgainCommands.{AgreeSystems}
 use Rattle.moxi_systems.proofs.AgainLinks.{system_place}
-use Rattle.moxi_systems.proofs.AgainSystems.{both_nil}
+use Rattle.moxi_systems.proofs.AgainParts.{both_nil}
 use Rattle.moxi_systems.proofs.AgainUses.{AgreeUses}
 
 uses_long : (names : List (List ℕ)) (all : List PlainSystem) (bs : List Subsystem) (us : List Use) → AgreeUses names all bs us → length us ≡ length bs

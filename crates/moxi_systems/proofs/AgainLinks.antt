@@ -31,7 +31,8 @@ use Rattle.moxi_systems.proofs.AgainChecks.{AgreeCheck}
 use Rattle.moxi_systems.proofs.AgainCommands.{AgreeSystems, AreUntaken, term_names}
 use Rattle.moxi_systems.proofs.AgainDeclarations.{same_refl}
 use Rattle.moxi_systems.proofs.AgainEntries.{Agree, agree_append, agree_sorts}
-use Rattle.moxi_systems.proofs.AgainSystems.{AgreeSystem, both_nil}
+use Rattle.moxi_systems.proofs.AgainParts.{both_nil, first_or, rest_of}
+use Rattle.moxi_systems.proofs.AgainSystems.{AgreeSystem}
 use Rattle.moxi_systems.proofs.AgainUses.{AgreeUse, AgreeUses}
 use Rattle.moxi_systems.proofs.LinkLaws.{get_right}
 use Rattle.moxi_systems.proofs.WholeNames.{absent_append, is_absent, or_both}
@@ -53,14 +54,6 @@ taken_passes u (d ∷ ds) a =
 no_clash : (a b : Option Sort) (p : Place) → a ≡ b → clash_failures a b p ≡ []
 no_clash None b p e = refl
 no_clash (Some a) b p e = ap (λ b. clash_failures (Some a) b p) (sym e) ∙ ap (λ t. fails_if (not t) 5 p) (same_refl a)
-
-abbrev first_or : {A : Type 0} → A → List A → A
-first_or d [] = d
-first_or d (x ∷ xs) = x
-
-abbrev rest_of : {A : Type 0} → List A → List A
-rest_of [] = []
-rest_of (x ∷ xs) = xs
 
 abbrev entry_sorts : List Declared → List (Option Sort)
 entry_sorts ds = map (λ (d : Declared). d.sort) ds

@@ -23,11 +23,12 @@ use Rattle.moxi_systems.specs.Spelling.{check_of, number_or_none, script_with, s
 use Rattle.moxi_systems.specs.Systems.{SystemReading}
 use Rattle.moxi_systems.specs.Whole.{IsWhole, check_variables, system_names}
 use Rattle.moxi_systems.proofs.AgainChecks.{AgreeCheck, check_read, reading_checked}
-use Rattle.moxi_systems.proofs.AgainCommands.{AgreeSystems, all_mean, commands_go, reading_at, term_names}
+use Rattle.moxi_systems.proofs.AgainCommands.{AgreeSystems, all_back, commands_go, reading_at, term_names}
 use Rattle.moxi_systems.proofs.AgainCycles.{cycles_pass}
 use Rattle.moxi_systems.proofs.AgainEntries.{agree_all, agree_variables}
 use Rattle.moxi_systems.proofs.AgainLinks.{links_pass, system_place}
-use Rattle.moxi_systems.proofs.AgainSystems.{AgreeSystem, all_agree, both_nil}
+use Rattle.moxi_systems.proofs.AgainParts.{SortsRead, SortsStand, TermsRead, both_nil}
+use Rattle.moxi_systems.proofs.AgainSystems.{AgreeSystem, all_agree}
 use Rattle.moxi_systems.proofs.AgainUses.{AgreeUses}
 use Rattle.moxi_systems.proofs.WholeParts.{all_append}
 
@@ -102,17 +103,17 @@ module _ (ss : List PlainSystem) (fresh : are_fresh [] (system_names ss) ≡ tru
 
 -- ALL OF IT
 
-pub script_read : (s : PlainScript) (ts : Trees) (end : Place) → IsWhole s → ShowEach ts (shown_script s) → ReadsAs ts end s
-script_read s ts end w h =
+pub script_read : TermsRead → SortsRead → SortsStand → (s : PlainScript) (ts : Trees) (end : Place) → IsWhole s → ShowEach ts (shown_script s) → ReadsAs ts end s
+script_read terms_read sorts_read sorts_stand s ts end w h =
     let u = s.scope in
     let ss = s.systems in
     let names = system_names ss in
     let terms = term_names u u.functions in
-    let mean = all_mean u w.scope u refl in
-    let a = commands_go s.logic u ss (shown (shown_check u names s.check) no_showns) ts w.scope w.systems.systems w.systems.names h in
+    let back = all_back terms_read sorts_read sorts_stand u w.scope in
+    let a = commands_go s.logic u ss (shown (shown_check u names s.check) no_showns) ts w.scope back w.systems.systems w.systems.names h in
     let r = reading_at s.logic u terms names a.variables a.systems in
     let one = shape.is_one a.goes.forms (shown_check u names s.check) a.goes.show in
-    let k = check_read names ss s.check r one.0 mean w.check refl one.2 in
+    let k = check_read names ss s.check r one.0 (back u refl) w.check refl one.2 in
     let c = content_of u k.place k.head in
     let last = reading_checked r k.place k.head in
     let l = lists_in u Check k.head.rest in

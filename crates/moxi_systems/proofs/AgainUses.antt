@@ -37,6 +37,7 @@ use Rattle.moxi_systems.specs.Spelling.{actual_numbers}
 use Rattle.moxi_systems.specs.Uses as uses
 use Rattle.moxi_systems.specs.Whole.{IsWholeSubsystem, subsystem_names}
 use Rattle.moxi_systems.proofs.AgainAttributes.{IsTail, attribute_forms, tail_end, tail_more}
+use Rattle.moxi_systems.proofs.AgainParts.{first_or, rest_of}
 use Rattle.moxi_systems.proofs.AgainShapes.{is_attribute, is_listed, is_named, named_form}
 use Rattle.moxi_systems.proofs.WholeNames.{Absent, absent_parts, fresh_first, is_absent, or_parts}
 use Rattle.moxi_systems.proofs.WholeParts.{get_below}
@@ -49,14 +50,6 @@ HaveSorts vs [] [] = Unit {0}
 HaveSorts vs [] (s ∷ ss) = ⊥
 HaveSorts vs (n ∷ ns) [] = ⊥
 HaveSorts vs (n ∷ ns) (s ∷ ss) = (slice_get (sorts_of vs) n ≡ Some s) × HaveSorts vs ns ss
-
-abbrev first_or : {A : Type 0} → A → List A → A
-first_or d [] = d
-first_or d (x ∷ xs) = x
-
-abbrev rest_of : {A : Type 0} → List A → List A
-rest_of [] = []
-rest_of (x ∷ xs) = xs
 
 have_sorts : (vs : List Variable) (ns : List ℕ) (ss : List Sort) → map (slice_get (sorts_of vs)) ns ≡ map Some ss → HaveSorts vs ns ss
 have_sorts vs [] [] h = tt
