@@ -1,24 +1,24 @@
 -- What the attributes of a system or a check give, one behind the other.
-use Rattle.std.proofs.Common.{◌≡◌, ◌==◌, ℕ, ◌+◌, ◌<◌, nat_lt, Bool, true, false, cond, ◌&&◌, ◌||◌, is_none, Option, None, Some, List, [], ◌∷◌, ◌++◌, refl, sym, ap, ◌∙◌, subst, arith}
+use Rattle.std.proofs.Common.{◌≡◌, ◌==◌, ℕ, ◌+◌, nat_lt, Bool, true, false, cond, ◌&&◌, ◌||◌, is_none, Some, List, [], ◌++◌, refl, sym, ap, ◌∙◌, subst, arith}
 use Rattle.std.specs.Prelude.{codes, nat_le}
 use Rattle.std.proofs.lemmas.Bool.Decides.{nat_tests}
 use Rattle.text_core.specs.declared.place.Place.{Place}
 use Rattle.moxi_sexpr.specs.declared.form.Atom.TheVariants.{Keyword}
-use Rattle.moxi_sexpr.specs.Tree.{Tree, atom, list, Trees, no_trees, tree}
+use Rattle.moxi_sexpr.specs.Tree.{Tree, atom, Trees, no_trees, tree}
 use Rattle.moxi_terms.specs.declared.term.Variable.{Variable}
 use Rattle.moxi_terms.specs.Tree as terms
 use Rattle.moxi_terms.specs.View.{ScopeState}
-use Rattle.moxi_print.specs.Shown.{Shown, group, Showns, no_showns, shown, joined, Shows, ShowEach}
+use Rattle.moxi_print.specs.Shown.{group, Showns, joined, Shows, ShowEach}
 use Rattle.moxi_print.specs.Terms.{shown_term, shown_variables}
 use Rattle.moxi_systems.specs.declared.attributes.Command.{Command}
 use Rattle.moxi_systems.specs.declared.attributes.Command.TheVariants.{System, Check}
 use Rattle.moxi_systems.specs.declared.attributes.Key.{Key}
-use Rattle.moxi_systems.specs.declared.attributes.Key.TheVariants.{Input, Output, Local, Init, Trans, Inv, Subsystem, Assumption, Current, Reachable, Query, Queries}
-use Rattle.moxi_systems.specs.declared.attributes.Turn.TheVariants.{AtKeyword, Behind}
-use Rattle.moxi_systems.specs.Attributes.{count_of, is_list_form, key_named, key_number, key_turn, same_key, shape_holds, takes_term, turns_fit, unknown_failures, value_of}
+use Rattle.moxi_systems.specs.declared.attributes.Key.TheVariants.{Input, Output, Local, Init, Trans, Inv}
+use Rattle.moxi_systems.specs.declared.attributes.Turn.TheVariants.{AtKeyword}
+use Rattle.moxi_systems.specs.Attributes.{count_of, is_list_form, key_named, key_number, key_turn, shape_holds, takes_term, turns_fit, unknown_failures}
 use Rattle.moxi_systems.specs.Collecting.{fails_if}
-use Rattle.moxi_systems.specs.Printing.{attribute, formula_attribute, list_attribute, shown_formulas, shown_lists}
-use Rattle.moxi_systems.proofs.AgainShapes.{is_attribute, is_listed, joined_joined}
+use Rattle.moxi_systems.specs.Printing.{formula_attribute, list_attribute, shown_formulas, shown_lists}
+use Rattle.moxi_systems.proofs.AgainShapes.{is_attribute, joined_joined}
 use Rattle.moxi_systems.proofs.WholeNames.{and_both}
 
 abbrev pub attribute_forms : Place → List ℕ → Tree → Trees → Trees

@@ -1,10 +1,9 @@
 -- The check of a script that is shown and read again.
-use Rattle.std.proofs.Common.{◌≡◌, ℕ, Bool, true, false, cond, Option, None, Some, List, [], ◌∷◌, ◌++◌, map, length, refl, sym, ap, ◌∙◌, subst}
+use Rattle.std.proofs.Common.{◌≡◌, ℕ, true, false, cond, None, Some, List, [], ◌∷◌, ◌++◌, length, refl, sym, ap, ◌∙◌, subst}
 use Rattle.std.specs.Prelude.{codes}
 use Rattle.std.specs.List.{AllByRecursion}
 use Rattle.std.proofs.lemmas.List.{length-map}
 use Rattle.text_core.specs.declared.place.Place.{Place}
-use Rattle.text_core.specs.declared.place.Refusal.{Refusal}
 use Rattle.moxi_sexpr.specs.Lexing.{refusal}
 use Rattle.moxi_sexpr.specs.Tree as form
 use Rattle.moxi_terms.specs.declared.names.Local.{Local}
@@ -20,21 +19,20 @@ use Rattle.moxi_systems.specs.Checks.{CheckReading, labels_in}
 use Rattle.moxi_systems.specs.Collecting.{fails_if}
 use Rattle.moxi_systems.specs.Commands as commands
 use Rattle.moxi_systems.specs.Commands.{Reading, with_form, form_failures}
-use Rattle.moxi_systems.specs.Labels.{FormulaLists, labels_after, labels_failures, no_labels}
+use Rattle.moxi_systems.specs.Labels.{labels_after, labels_failures, no_labels}
 use Rattle.moxi_systems.specs.Lists.{all_entries, lists_in}
-use Rattle.moxi_systems.specs.Printing.{all_queries, shown_check, shown_conditions, shown_labels, shown_lists, shown_queries}
+use Rattle.moxi_systems.specs.Printing.{all_queries, shown_check, shown_conditions, shown_lists}
 use Rattle.moxi_systems.specs.QueryReading as query
 use Rattle.moxi_systems.specs.Script.{PlainCheck, PlainFormula, PlainSystem}
 use Rattle.moxi_systems.specs.Shapes.{HeadedForms}
-use Rattle.moxi_systems.specs.Systems.{locals_of, variables_failures}
+use Rattle.moxi_systems.specs.Systems.{locals_of}
 use Rattle.moxi_systems.specs.Whole.{IsWholeCheck, IsWholeQuery, check_variables, formula_names}
 use Rattle.moxi_systems.proofs.AgainAttributes.{IsTail, check_shape, has_lists, list_forms}
-use Rattle.moxi_systems.proofs.AgainEntries.{SortsMean}
 use Rattle.moxi_systems.proofs.AgainLabels.{all_labels_read, made_labels}
+use Rattle.moxi_systems.proofs.AgainParts.{ReadsBack, both_nil}
 use Rattle.moxi_systems.proofs.AgainQueries.{are_three, queries_read}
 use Rattle.moxi_systems.proofs.AgainShapes.{is_listed}
-use Rattle.moxi_systems.proofs.AgainSystems.{AgreeLists, both_nil, command_form, is_command, lists_read}
-use Rattle.moxi_systems.proofs.WholeParts.{all_of}
+use Rattle.moxi_systems.proofs.AgainSystems.{AgreeLists, command_form, is_command, lists_read}
 
 -- what is read of a check, among systems of these names
 pub record AgreeCheck (names : List (List ℕ)) (c : PlainCheck) (r : CheckReading) : Type 0 where
@@ -67,13 +65,13 @@ record AreReadConditions (s : ScopeState) (locals : List Local) (c : PlainCheck)
   pub queries_pass : query.all_queries_failures (made_labels c.assumptions c.currents c.reachables) [] AtKeyword ts ≡ []
   pub tail : IsTail Check ts
 
-conditions_read : (s : ScopeState) (locals : List Local) (ss : List PlainSystem) (c : PlainCheck) (ts : form.Trees) → locals ≡ answer.locals_of (check_variables c) → IsWholeCheck s ss c
+conditions_read : (s : ScopeState) (back : ReadsBack s) (locals : List Local) (ss : List PlainSystem) (c : PlainCheck) (ts : form.Trees) → locals ≡ answer.locals_of (check_variables c) → IsWholeCheck s ss c
     → ShowEach ts (shown_conditions s (variable_names (check_variables c)) c) → AreReadConditions s locals c ts
 unfolding shown_conditions
-conditions_read s locals ss c ts same w h =
+conditions_read s back locals ss c ts same w h =
     let ls = made_labels c.assumptions c.currents c.reachables in
     let f = w.formulas in
-    let l = all_labels_read s (check_variables c) locals c.assumptions c.currents c.reachables ts (all_queries c) same f.assumptions f.currents f.reachables f.names h in
+    let l = all_labels_read s back (check_variables c) locals c.assumptions c.currents c.reachables ts (all_queries c) same f.assumptions f.currents f.reachables f.names h in
     let q = queries_read c.assumptions c.currents c.reachables c.queries [] l.more (are_three (formula_names c.assumptions) (formula_names c.currents) (formula_names c.reachables) f.names)
     (queries_there c w.queries.queries) w.queries.names l.show_more in
     record {
@@ -84,16 +82,16 @@ conditions_read s locals ss c ts same w h =
       tail = l.tail q.tail;
     }
 
-content_read : (s : ScopeState) (names : List (List ℕ)) (ss : List PlainSystem) (c : PlainCheck) (ts : form.Trees) → SortsMean s → IsWholeCheck s ss c
+content_read : (s : ScopeState) (names : List (List ℕ)) (ss : List PlainSystem) (c : PlainCheck) (ts : form.Trees) → ReadsBack s → IsWholeCheck s ss c
     → ShowEach ts (joined (shown_lists s c.inputs c.outputs c.locals) (shown_conditions s (variable_names (check_variables c)) c)) → IsReadCheck s names c ts
-content_read s names ss c ts mean w h =
+content_read s names ss c ts back w h =
     let vs = check_variables c in
     let a = has_lists s c.inputs c.outputs c.locals (shown_conditions s (variable_names vs) c) ts h in
-    let d0 = conditions_read s (answer.locals_of vs) ss c a.more refl w a.show_more in
+    let d0 = conditions_read s back (answer.locals_of vs) ss c a.more refl w a.show_more in
     let forms = list_forms a.input_place a.input a.output_place a.output a.local_place a.local a.more in
-    let l = lists_read s Check c.inputs c.outputs c.locals a.input_place a.output_place a.local_place a.input a.output a.local a.more mean w.variables a.shows_inputs a.shows_outputs a.shows_locals d0.tail.known in
+    let l = lists_read s Check c.inputs c.outputs c.locals a.input_place a.output_place a.local_place a.input a.output a.local a.more back w.variables a.shows_inputs a.shows_outputs a.shows_locals d0.tail.known in
     let locals = locals_of s Check forms in
-    let d = conditions_read s locals ss c a.more l.same w a.show_more in
+    let d = conditions_read s back locals ss c a.more l.same w a.show_more in
     let made : labels_in s forms ≡ made_labels c.assumptions c.currents c.reachables = d.labels in
     subst (IsReadCheck s names c) (sym a.is)
     (record {
@@ -149,12 +147,12 @@ check_passes : (r : Reading) (p q n : Place) (name : List ℕ) (ts : form.Trees)
 check_passes r p q n name ts first shape pass =
     ap (λ b. cond b (checks.content_failures r.scope ts) (refusal 12 p ∷ []) ++ fails_if r.checked 13 p) shape ∙ ap (λ xs. xs ++ fails_if r.checked 13 p) pass ∙ ap (λ b. fails_if b 13 p) first
 
-pub check_read : (names : List (List ℕ)) (ss : List PlainSystem) (c : PlainCheck) (r : Reading) (f : form.Tree) → SortsMean r.scope → IsWholeCheck r.scope ss c → r.checked ≡ false → Shows f (shown_check r.scope names c)
+pub check_read : (names : List (List ℕ)) (ss : List PlainSystem) (c : PlainCheck) (r : Reading) (f : form.Tree) → ReadsBack r.scope → IsWholeCheck r.scope ss c → r.checked ≡ false → Shows f (shown_check r.scope names c)
     → IsNextCheck names c r f
-check_read names ss c r f mean w first h =
+check_read names ss c r f back w first h =
     let name = name_at names c.system in
     let x = is_command f (codes "check-system") name _ h in
-    let d = content_read r.scope names ss c x.forms mean w x.show in
+    let d = content_read r.scope names ss c x.forms back w x.show in
     record {
       place = x.place;
       head = target_forms name x.name_place x.forms;

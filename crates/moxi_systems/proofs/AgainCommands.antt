@@ -1,13 +1,10 @@
 -- The commands of a script that are shown and read again, one behind the other.
-use Rattle.std.proofs.Common.{◌≡◌, ℕ, zero, suc, ◌+◌, ◌<◌, Bool, true, false, not, cond, ◌||◌, is_none, is_some, Option, None, Some, List, [], ◌∷◌, ◌++◌, map, take, length, refl, sym, ap, ◌∙◌, subst, append_assoc, append-nil, arith}
+use Rattle.std.proofs.Common.{◌≡◌, ℕ, ◌<◌, true, false, is_none, is_some, Option, None, Some, List, [], ◌∷◌, ◌++◌, map, take, length, refl, sym, ap, ◌∙◌, subst, append_assoc, append-nil, arith}
 use Rattle.std.specs.Prelude.{codes, slice_get}
 use Rattle.std.specs.List.{AllByRecursion}
 use Rattle.std.specs.Str.{bytes_eq}
-use Rattle.text_core.specs.declared.place.Place.{Place}
-use Rattle.text_core.specs.declared.place.Refusal.{Refusal}
 use Rattle.moxi_sexpr.specs.Tree.{Tree, Trees, no_trees, tree}
 use Rattle.moxi_terms.specs.declared.data.Primes.TheVariants.{Refused}
-use Rattle.moxi_terms.specs.declared.data.Sort.{Sort}
 use Rattle.moxi_terms.specs.declared.term.Enumeration.{Enumeration}
 use Rattle.moxi_terms.specs.declared.term.NamedSort.{NamedSort}
 use Rattle.moxi_terms.specs.Names.{all_constants, are_fresh, enumeration_names, function_names, is_among, is_term_name, no_scope, place_of, sort_names}
@@ -15,11 +12,10 @@ use Rattle.moxi_terms.specs.Sorts.{IsSort}
 use Rattle.moxi_terms.specs.Tree.{PlainFunction}
 use Rattle.moxi_terms.specs.View.{ScopeState}
 use Rattle.moxi_print.specs.Declarations.{shown_function, shown_named_sort}
-use Rattle.moxi_print.specs.Shown.{Shown, word, group, Showns, no_showns, shown, joined, Shows, ShowEach}
+use Rattle.moxi_print.specs.Shown.{word, group, Showns, no_showns, shown, joined, Shows, ShowEach}
 use Rattle.moxi_print.specs.Standing.{Stands}
 use Rattle.moxi_print.specs.Terms.{shown_sort, shown_term, shown_variables, symbol, variable_names}
 use Rattle.moxi_print.proofs.StandingShapes as shape
-use Rattle.moxi_print.proofs.StandingSorts.{sort_stands}
 use Rattle.moxi_systems.specs.declared.attributes.Command.TheVariants.{System}
 use Rattle.moxi_systems.specs.declared.entries.Declared.{Declared}
 use Rattle.moxi_systems.specs.Commands.{Reading, commands_failures, form_failures, nothing_read, reading_after, with_form}
@@ -27,13 +23,14 @@ use Rattle.moxi_systems.specs.Lists.{all_entries, lists_in}
 use Rattle.moxi_systems.specs.Printing.{shown_enumerations, shown_functions, shown_logic, shown_sorts, shown_systems}
 use Rattle.moxi_systems.specs.Script.{PlainSystem, variables_in}
 use Rattle.moxi_systems.specs.Systems.{SystemReading, content_of}
-use Rattle.moxi_systems.specs.Whole.{AreNames, IsWholeFunction, IsWholeScope, IsWholeSystem, before, is_fixed_sort, is_fixed_term, over, system_names}
-use Rattle.moxi_systems.proofs.AgainDeclarations.{AreNew, IsNewEnumeration, IsNewFunction, Reads, enumeration_read, function_read, sort_definition_read, sort_new}
-use Rattle.moxi_systems.proofs.AgainEntries.{SortsMean, agree_all}
+use Rattle.moxi_systems.specs.Whole.{IsWholeFunction, IsWholeScope, IsWholeSystem, before, is_fixed_sort, is_fixed_term, over, system_names}
+use Rattle.moxi_systems.proofs.AgainDeclarations.{IsNewEnumeration, IsNewFunction, Reads, enumeration_read, function_read, sort_definition_read, sort_new}
+use Rattle.moxi_systems.proofs.AgainEntries.{agree_all}
+use Rattle.moxi_systems.proofs.AgainParts.{AllReadBack, ReadsBack, SortsRead, SortsStand, TermsRead, all_both, some_if}
 use Rattle.moxi_systems.proofs.AgainScopes.{same_sorts_shown, same_variables_shown, term_shown}
 use Rattle.moxi_systems.proofs.AgainSystems.{AgreeSystem, all_agree, command_form, is_command, system_read}
 use Rattle.moxi_systems.proofs.LinkLaws.{get_left, get_right}
-use Rattle.moxi_systems.proofs.WholeNames.{Absent, absent_append, absent_parts, fresh_first, fresh_split, is_absent, or_both, or_parts, other_way}
+use Rattle.moxi_systems.proofs.WholeNames.{Absent, absent_parts, fresh_first, fresh_split, is_absent, or_both, or_parts, other_way}
 use Rattle.moxi_systems.proofs.WholeParts.{all_append, all_of, all_parts, get_below, map_append}
 use Rattle.moxi_systems.proofs.WholeScopes.{constants_append, take_whole, term_new}
 
@@ -60,10 +57,6 @@ go_one r next then rest t ts one g = record {
 }
 
 -- LISTS
-
-all_both : {A : Type 0} (P Q R : A → Type 0) (xs : List A) → ((x : A) → P x → Q x → R x) → AllByRecursion P xs → AllByRecursion Q xs → AllByRecursion R xs
-all_both P Q R [] f a b = tt
-all_both P Q R (x ∷ xs) f a b = (f x a.0 b.0, all_both P Q R xs f a.1 b.1)
 
 fresh_absent : (before names : List (List ℕ)) → are_fresh before names ≡ true → AllByRecursion (Absent before) names
 fresh_absent before [] h = tt
@@ -123,7 +116,7 @@ follow_new there e es w =
       some = w.some.0;
       sort = sort_new s e.name w.own.0 (fresh_first (enumerated there) e.name (enumerated es) w.names).0 refl;
       constants = all_both own (Absent (all_constants there)) (λ (name : List ℕ). is_term_name s name ≡ false) e.constants
-      (λ name o a. term_new s name (record { own = o; constants = a; functions = refl })) (all_parts own e.constants (all_constants es) w.own_constants).0 (fresh_absent (all_constants there) e.constants c.0);
+          (λ name o a. term_new s name (record { own = o; constants = a; functions = refl })) (all_parts own e.constants (all_constants es) w.own_constants).0 (fresh_absent (all_constants there) e.constants c.0);
       differ = c.0;
       behind = c.0;
     }
@@ -151,17 +144,13 @@ without_functions es ns = record { enumerations = es; sorts = ns; functions = []
 abbrev reading_sorts : Option (List ℕ) → List Enumeration → List NamedSort → Reading
 reading_sorts logic es ns = reading_at logic (without_functions es ns) (all_constants es) [] [] []
 
--- each sort of a scope with these enumerations is named by its name
-abbrev pub AllMean : List Enumeration → Type 0
-AllMean es = (s : ScopeState) → s.enumerations ≡ es → SortsMean s
-
-sorts_go : (logic : Option (List ℕ)) (u : ScopeState) (there ns : List NamedSort) (rest : Showns) (ts : Trees) → AllMean u.enumerations → AllByRecursion (λ (n : NamedSort). IsSort u.enumerations n.sort) ns
+sorts_go : (logic : Option (List ℕ)) (u : ScopeState) (there ns : List NamedSort) (rest : Showns) (ts : Trees) → AllReadBack u.enumerations → AllByRecursion (λ (n : NamedSort). IsSort u.enumerations n.sort) ns
     → are_fresh (enumeration_names u ++ sorted there) (sorted ns) ≡ true → AllByRecursion (λ (name : List ℕ). is_fixed_sort name ≡ false) (sorted ns) → ShowEach ts (joined (shown_sorts u ns) rest)
     → Goes (reading_sorts logic u.enumerations there) (reading_sorts logic u.enumerations (there ++ ns)) rest ts
-sorts_go logic u there [] rest ts mean i d own h =
+sorts_go logic u there [] rest ts back i d own h =
     subst (λ ns. Goes (reading_sorts logic u.enumerations there) (reading_sorts logic u.enumerations ns) rest ts) (sym (append-nil there)) (go_nowhere (reading_sorts logic u.enumerations there) rest ts h)
-sorts_go logic u there (n ∷ ns) rest no_trees mean i d own h = absurd h
-sorts_go logic u there (n ∷ ns) rest (tree t ts) mean i d own h =
+sorts_go logic u there (n ∷ ns) rest no_trees back i d own h = absurd h
+sorts_go logic u there (n ∷ ns) rest (tree t ts) back i d own h =
     let es = u.enumerations in
     let s = without_functions es there in
     let r = reading_sorts logic es there in
@@ -170,12 +159,12 @@ sorts_go logic u there (n ∷ ns) rest (tree t ts) mean i d own h =
     let a = absent_parts (enumeration_names u) (sorted there) n.name p.0 in
     let show : Shows t (shown_named_sort s n) =
     subst (λ x. Shows t (group (shown (word (codes "define-sort")) (shown (symbol n.name) (shown (group no_showns) (shown x no_showns)))))) (same_sorts_shown u s refl n.sort) h.0 in
-    let one = sort_definition_read r n t (mean s refl) i.0 (sort_new s n.name own.0 a.0 a.1) show in
+    let one = sort_definition_read r n t (back s refl) i.0 (sort_new s n.name own.0 a.0 a.1) show in
     let names : (enumeration_names u ++ sorted there) ++ n.name ∷ [] ≡ enumeration_names u ++ sorted (there ++ n ∷ []) =
     append_assoc (enumeration_names u) (sorted there) (n.name ∷ []) ∙ ap (λ xs. enumeration_names u ++ xs) (sym (map_append (λ (n : NamedSort). n.name) there (n ∷ []))) in
     go_one r next (reading_sorts logic es (there ++ n ∷ ns)) rest t ts one
     (subst (λ ns. Goes next (reading_sorts logic es ns) rest ts) (append_assoc there (n ∷ []) ns)
-    (sorts_go logic u (there ++ n ∷ []) ns rest ts mean i.1 (ap (λ xs. are_fresh xs (sorted ns)) (sym names) ∙ p.1) own.1 h.1))
+    (sorts_go logic u (there ++ n ∷ []) ns rest ts back i.1 (ap (λ xs. are_fresh xs (sorted ns)) (sym names) ∙ p.1) own.1 h.1))
 
 -- FUNCTIONS
 
@@ -228,34 +217,34 @@ function_shown u there f fs all stands =
     ∙ ap (λ x. group (shown (word (codes "define-fun")) (shown (symbol f.name) (shown (group (shown_variables s f.parameters)) (shown (shown_sort s f.result) (shown x no_showns))))))
     (term_shown (over s f.parameters Refused) u refl there_too names [] [] f.body f.result stands)
 
-functions_go : (logic : Option (List ℕ)) (u : ScopeState) (there fs : List PlainFunction) (ds : List Declared) (rest : Showns) (ts : Trees) → IsWholeScope u → AllMean u.enumerations → u.functions ≡ there ++ fs
+functions_go : (logic : Option (List ℕ)) (u : ScopeState) (there fs : List PlainFunction) (ds : List Declared) (rest : Showns) (ts : Trees) → IsWholeScope u → AllReadBack u.enumerations → u.functions ≡ there ++ fs
     → are_fresh (term_names u there) (called fs) ≡ true → AllByRecursion (λ (name : List ℕ). is_fixed_term name ≡ false) (called fs) → AreUntaken u ds → ShowEach ts (joined (shown_functions u fs) rest)
     → GoFunctions logic u there fs ds rest ts
-functions_go logic u there [] ds rest ts w mean all d own n h = record {
+functions_go logic u there [] ds rest ts w back all d own n h = record {
   variables = ds;
   untaken = n;
   goes = subst (λ fs. Goes (reading_functions logic u there ds) (reading_functions logic u fs ds) rest ts) (sym (append-nil there)) (go_nowhere (reading_functions logic u there ds) rest ts h);
 }
-functions_go logic u there (f ∷ fs) ds rest no_trees w mean all d own n h = absurd h
-functions_go logic u there (f ∷ fs) ds rest (tree t ts) w mean all d own n h =
+functions_go logic u there (f ∷ fs) ds rest no_trees w back all d own n h = absurd h
+functions_go logic u there (f ∷ fs) ds rest (tree t ts) w back all d own n h =
     let s = with_functions u there in
     let r = reading_functions logic u there ds in
     let here : slice_get u.functions (length there) ≡ Some f = ap (λ gs. slice_get gs (length there)) all ∙ get_right there (f ∷ fs) (length there) 0 (omega arith) in
     let wf = w.functions (length there) f here in
     let new = function_new u there f fs all wf (w.scope.functions (length there) f here).result d own.0 in
-    let one = function_read r f t (mean s refl) new (subst (Shows t) (function_shown u there f fs all new.body) h.0) in
+    let one = function_read r f t (back s refl) new (subst (Shows t) (function_shown u there f fs all new.body) h.0) in
     let next = reading_functions logic u (there ++ f ∷ []) (ds ++ one.parameters) in
     let names : term_names u (there ++ f ∷ []) ≡ term_names u there ++ f.name ∷ [] =
     ap (λ xs. all_constants u.enumerations ++ xs) (map_append (λ (f : PlainFunction). f.name) there (f ∷ [])) ∙ sym (append_assoc (all_constants u.enumerations) (called there) (f.name ∷ [])) in
     let is : with_form r t ≡ next = one.reads.is ∙ ap (λ ns. reading_at logic (with_functions u (there ++ f ∷ [])) ns [] (ds ++ one.parameters) []) (sym names) in
-    let more = functions_go logic u (there ++ f ∷ []) fs (ds ++ one.parameters) rest ts w mean (all ∙ sym (append_assoc there (f ∷ []) fs))
+    let more = functions_go logic u (there ++ f ∷ []) fs (ds ++ one.parameters) rest ts w back (all ∙ sym (append_assoc there (f ∷ []) fs))
     (ap (λ ns. are_fresh ns (called fs)) names ∙ (fresh_first (term_names u there) f.name (called fs) d).1) own.1
     (all_append (λ (d : Declared). is_term_name u d.name ≡ false) ds one.parameters n (agree_all (λ (name : List ℕ). is_term_name u name ≡ false) f.parameters one.parameters one.agree wf.parameters.names.own)) h.1 in
     record {
       variables = more.variables;
       untaken = more.untaken;
       goes = go_one r next (reading_functions logic u (there ++ f ∷ fs) more.variables) rest t ts (record { is = is; pass = one.reads.pass })
-      (subst (λ gs. Goes next (reading_functions logic u gs more.variables) rest ts) (append_assoc there (f ∷ []) fs) more.goes);
+          (subst (λ gs. Goes next (reading_functions logic u gs more.variables) rest ts) (append_assoc there (f ∷ []) fs) more.goes);
     }
 
 -- SYSTEMS
@@ -279,10 +268,10 @@ record GoSystems (logic : Option (List ℕ)) (u : ScopeState) (terms names : Lis
   pub agree : AgreeSystems names all (there ++ xs) systems
   pub goes : Goes (reading_at logic u terms (system_names there) ds rs) (reading_at logic u terms (system_names (there ++ xs)) variables systems) rest ts
 
-systems_go : (logic : Option (List ℕ)) (u : ScopeState) (terms names : List (List ℕ)) (all there xs : List PlainSystem) (ds : List Declared) (rs : List SystemReading) (rest : Showns) (ts : Trees) → SortsMean u
+systems_go : (logic : Option (List ℕ)) (u : ScopeState) (terms names : List (List ℕ)) (all there xs : List PlainSystem) (ds : List Declared) (rs : List SystemReading) (rest : Showns) (ts : Trees) → ReadsBack u
     → AllByRecursion (IsWholeSystem u all) xs → are_fresh (system_names there) (system_names xs) ≡ true → AreUntaken u ds → AgreeSystems names all there rs → ShowEach ts (joined (shown_systems u names xs) rest)
     → GoSystems logic u terms names all there xs ds rs rest ts
-systems_go logic u terms names all there [] ds rs rest ts mean w d n a h =
+systems_go logic u terms names all there [] ds rs rest ts back w d n a h =
     let r = reading_at logic u terms (system_names there) ds rs in
     record {
       variables = ds;
@@ -291,11 +280,11 @@ systems_go logic u terms names all there [] ds rs rest ts mean w d n a h =
       agree = subst (λ xs. AgreeSystems names all xs rs) (sym (append-nil there)) a;
       goes = subst (λ xs. Goes r (reading_at logic u terms (system_names xs) ds rs) rest ts) (sym (append-nil there)) (go_nowhere r rest ts h);
     }
-systems_go logic u terms names all there (x ∷ xs) ds rs rest no_trees mean w d n a h = absurd h
-systems_go logic u terms names all there (x ∷ xs) ds rs rest (tree t ts) mean w d n a h =
+systems_go logic u terms names all there (x ∷ xs) ds rs rest no_trees back w d n a h = absurd h
+systems_go logic u terms names all there (x ∷ xs) ds rs rest (tree t ts) back w d n a h =
     let r = reading_at logic u terms (system_names there) ds rs in
     let p = fresh_first (system_names there) x.name (system_names xs) d in
-    let one = system_read names all x r t mean w.0 (is_absent (system_names there) x.name p.0) h.0 in
+    let one = system_read names all x r t back w.0 (is_absent (system_names there) x.name p.0) h.0 in
     let l = lists_in u System one.forms in
     let variables = ds ++ all_entries l in
     let systems = rs ++ content_of u x.name one.forms ∷ [] in
@@ -304,7 +293,7 @@ systems_go logic u terms names all there (x ∷ xs) ds rs rest (tree t ts) mean 
     let is : with_form r t ≡ next = one.is ∙ ap (λ ns. reading_at logic u terms ns variables systems) (sym end) in
     let new = all_append (λ (d : Declared). is_term_name u d.name ≡ false) ds (all_entries l) n
     (agree_all (λ (name : List ℕ). is_term_name u name ≡ false) (variables_in x) (all_entries l) (all_agree x.inputs x.outputs x.locals l one.agree.lists) w.0.variables.names.own) in
-    let more = systems_go logic u terms names all (there ++ x ∷ []) xs variables systems rest ts mean w.1 (ap (λ ns. are_fresh ns (system_names xs)) end ∙ p.1) new
+    let more = systems_go logic u terms names all (there ++ x ∷ []) xs variables systems rest ts back w.1 (ap (λ ns. are_fresh ns (system_names xs)) end ∙ p.1) new
     (agree_more names all there (x ∷ []) rs (content_of u x.name one.forms ∷ []) a (one.agree, tt)) h.1 in
     record {
       variables = more.variables;
@@ -312,7 +301,7 @@ systems_go logic u terms names all there (x ∷ xs) ds rs rest (tree t ts) mean 
       systems = more.systems;
       agree = subst (λ xs. AgreeSystems names all xs more.systems) (append_assoc there (x ∷ []) xs) more.agree;
       goes = go_one r next (reading_at logic u terms (system_names (there ++ x ∷ xs)) more.variables more.systems) rest t ts (record { is = is; pass = one.pass })
-      (subst (λ xs. Goes next (reading_at logic u terms (system_names xs) more.variables more.systems) rest ts) (append_assoc there (x ∷ []) xs) more.goes);
+          (subst (λ xs. Goes next (reading_at logic u terms (system_names xs) more.variables more.systems) rest ts) (append_assoc there (x ∷ []) xs) more.goes);
     }
 
 -- ALL OF THEM
@@ -320,23 +309,20 @@ systems_go logic u terms names all there (x ∷ xs) ds rs rest (tree t ts) mean 
 go_on : (r mid then : Reading) (xs rest : Showns) (ts : Trees) (g : Goes r mid xs ts) → Goes mid then rest g.forms → Goes r then rest ts
 go_on r mid then xs rest ts g n = record { forms = n.forms; show = n.show; after = g.after ∙ n.after; pass = g.pass ∙ n.pass }
 
-some_among : (names : List (List ℕ)) (name : List ℕ) → Absent names name → is_among names name ≡ false
-some_among names name h = by_place (place_of names name) (is_absent names name h)
-  where
-    by_place : (o : Option ℕ) → is_none o ≡ true → is_some o ≡ false
-    by_place None h = refl
-    by_place (Some n) h = absurd (cc)
-
 no_bool : (names : List (List ℕ)) → AllByRecursion (λ (name : List ℕ). is_fixed_sort name ≡ false) names → Absent names (codes "Bool")
 no_bool [] a = refl
 no_bool (name ∷ names) a = or_both (bytes_eq (codes "Bool") name) _ (other_way name (codes "Bool") (or_parts (bytes_eq name (codes "Bool")) (bytes_eq name (codes "BitVec")) a.0).0) (no_bool names a.1)
 
-pub all_mean : (u : ScopeState) → IsWholeScope u → AllMean u.enumerations
-all_mean u w s e sort i =
+pub all_back : (terms : TermsRead) (sorts : SortsRead) (stand : SortsStand) (u : ScopeState) → IsWholeScope u → AllReadBack u.enumerations
+all_back terms sorts stand u w s e =
     let f = fresh_split [] (enumeration_names u) (sort_names u) w.sorts.differ in
     let o = all_parts (λ (name : List ℕ). is_fixed_sort name ≡ false) (enumeration_names u) (sort_names u) w.sorts.own in
     let same : enumeration_names u ≡ enumeration_names s = ap enumerated (sym e) in
-    sort_stands s sort (ap (are_fresh []) (sym same) ∙ f.0) (subst (λ ns. is_among ns (codes "Bool") ≡ false) same (some_among (enumeration_names u) (codes "Bool") (no_bool (enumeration_names u) o.0))) i
+    let differ : are_fresh [] (enumeration_names s) ≡ true = ap (are_fresh []) (sym same) ∙ f.0 in
+    let absent = no_bool (enumeration_names u) o.0 in
+    let apart : is_among (enumeration_names s) (codes "Bool") ≡ false =
+    ap (λ ns. is_among ns (codes "Bool")) (sym same) ∙ some_if (place_of (enumeration_names u) (codes "Bool")) (is_absent (enumeration_names u) (codes "Bool") absent) in
+    record { sorts = λ around sort f i h. sorts s around sort f (stand s sort differ apart i) h; terms = terms }
 
 -- all declarations of a scope
 pub record IsDeclared (logic : Option (List ℕ)) (u : ScopeState) (rest : Showns) (ts : Trees) : Type 0 where
@@ -344,10 +330,9 @@ pub record IsDeclared (logic : Option (List ℕ)) (u : ScopeState) (rest : Shown
   pub untaken : AreUntaken u variables
   pub goes : Goes nothing_read (reading_at logic u (term_names u u.functions) [] variables []) rest ts
 
-pub declarations_go : (logic : Option (List ℕ)) (u : ScopeState) (rest : Showns) (ts : Trees) → IsWholeScope u
+pub declarations_go : (logic : Option (List ℕ)) (u : ScopeState) (rest : Showns) (ts : Trees) → IsWholeScope u → AllReadBack u.enumerations
     → ShowEach ts (joined (shown_logic logic) (joined (shown_enumerations u.enumerations) (joined (shown_sorts u u.sorts) (joined (shown_functions u u.functions) rest)))) → IsDeclared logic u rest ts
-declarations_go logic u rest ts w h =
-    let mean = all_mean u w in
+declarations_go logic u rest ts w back h =
     let functions = joined (shown_functions u u.functions) rest in
     let sorts = joined (shown_sorts u u.sorts) functions in
     let enumerations = joined (shown_enumerations u.enumerations) sorts in
@@ -358,9 +343,9 @@ declarations_go logic u rest ts w h =
     let follow : CanFollow [] u.enumerations = record { some = w.scope.enumerations; names = fs.0; own = os.0; constants = ft.0; own_constants = ot.0 } in
     let a = logic_goes logic enumerations ts h in
     let b = enumerations_go logic [] u.enumerations sorts a.forms follow a.show in
-    let c = sorts_go logic u [] u.sorts functions b.forms mean w.scope.sorts (ap (λ ns. are_fresh ns (sort_names u)) (append-nil (enumeration_names u)) ∙ fs.1) os.1 b.show in
+    let c = sorts_go logic u [] u.sorts functions b.forms back w.scope.sorts (ap (λ ns. are_fresh ns (sort_names u)) (append-nil (enumeration_names u)) ∙ fs.1) os.1 b.show in
     let names : term_names u [] ≡ all_constants u.enumerations = append-nil (all_constants u.enumerations) in
-    let d = functions_go logic u [] u.functions [] rest c.forms w mean refl (ap (λ ns. are_fresh ns (function_names u)) names ∙ ft.1) ot.1 tt c.show in
+    let d = functions_go logic u [] u.functions [] rest c.forms w back refl (ap (λ ns. are_fresh ns (function_names u)) names ∙ ft.1) ot.1 tt c.show in
     let r0 = reading_at logic no_scope [] [] [] [] in
     let r1 = reading_enumerations logic u.enumerations in
     let r2 = reading_sorts logic u.enumerations u.sorts in
@@ -369,7 +354,7 @@ declarations_go logic u rest ts w h =
       variables = d.variables;
       untaken = d.untaken;
       goes = go_on nothing_read r0 r3 enumerations rest ts a (go_on r0 r1 r3 sorts rest a.forms b (go_on r1 r2 r3 functions rest b.forms c
-      (subst (λ ns. Goes (reading_at logic (without_functions u.enumerations u.sorts) ns [] [] []) r3 rest c.forms) names d.goes)));
+          (subst (λ ns. Goes (reading_at logic (without_functions u.enumerations u.sorts) ns [] [] []) r3 rest c.forms) names d.goes)));
     }
 
 pub record AreDeclaredSystems (logic : Option (List ℕ)) (u : ScopeState) (ss : List PlainSystem) (rest : Showns) (ts : Trees) : Type 0 where
@@ -379,14 +364,14 @@ pub record AreDeclaredSystems (logic : Option (List ℕ)) (u : ScopeState) (ss :
   pub agree : AgreeSystems (system_names ss) ss ss systems
   pub goes : Goes nothing_read (reading_at logic u (term_names u u.functions) (system_names ss) variables systems) rest ts
 
-pub commands_go : (logic : Option (List ℕ)) (u : ScopeState) (ss : List PlainSystem) (rest : Showns) (ts : Trees) → IsWholeScope u → AllByRecursion (IsWholeSystem u ss) ss → are_fresh [] (system_names ss) ≡ true
+pub commands_go : (logic : Option (List ℕ)) (u : ScopeState) (ss : List PlainSystem) (rest : Showns) (ts : Trees) → IsWholeScope u → AllReadBack u.enumerations → AllByRecursion (IsWholeSystem u ss) ss → are_fresh [] (system_names ss) ≡ true
     → ShowEach ts (joined (shown_logic logic) (joined (shown_enumerations u.enumerations) (joined (shown_sorts u u.sorts) (joined (shown_functions u u.functions) (joined (shown_systems u (system_names ss) ss) rest)))))
     → AreDeclaredSystems logic u ss rest ts
-commands_go logic u ss rest ts w ws d h =
+commands_go logic u ss rest ts w back ws d h =
     let systems = joined (shown_systems u (system_names ss) ss) rest in
     let terms = term_names u u.functions in
-    let a = declarations_go logic u systems ts w h in
-    let b = systems_go logic u terms (system_names ss) ss [] ss a.variables [] rest a.goes.forms (all_mean u w u refl) ws d a.untaken tt a.goes.show in
+    let a = declarations_go logic u systems ts w back h in
+    let b = systems_go logic u terms (system_names ss) ss [] ss a.variables [] rest a.goes.forms (back u refl) ws d a.untaken tt a.goes.show in
     record {
       variables = b.variables;
       untaken = b.untaken;

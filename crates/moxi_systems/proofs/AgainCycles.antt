@@ -1,7 +1,7 @@
 -- No subsystem contains its system in a whole script that is shown and read again.
-use Rattle.std.proofs.Common.{◌≡◌, ℕ, zero, suc, ◌+◌, ◌<◌, ◌≤◌, nat_lt, Bool, true, false, cond, Option, None, Some, List, [], ◌∷◌, ◌++◌, map, length, refl, sym, ap, ◌∙◌, subst, arith}
+use Rattle.std.proofs.Common.{◌≡◌, ℕ, suc, ◌+◌, ◌<◌, ◌≤◌, nat_lt, true, false, cond, List, [], ◌∷◌, ◌++◌, length, refl, ap, ◌∙◌, arith}
 use Rattle.std.proofs.lemmas.Bool.Decides.{nat_tests}
-use Rattle.digraph.specs.Graph.{NodeLists, leads}
+use Rattle.digraph.specs.Graph.{leads}
 use Rattle.moxi_terms.specs.Names.{are_fresh, place_of}
 use Rattle.moxi_systems.specs.declared.script.Subsystem.{Subsystem}
 use Rattle.moxi_systems.specs.declared.uses.Use.{Use}
@@ -13,7 +13,7 @@ use Rattle.moxi_systems.specs.Systems.{SystemReading}
 use Rattle.moxi_systems.specs.Whole.{NoneContainsItself, all_subsystem_rows, containing_rows, count_subsystems, subsystem_graph, subsystem_rows, system_names}
 use Rattle.moxi_systems.proofs.AgainCommands.{AgreeSystems}
 use Rattle.moxi_systems.proofs.AgainLinks.{system_place}
-use Rattle.moxi_systems.proofs.AgainSystems.{both_nil}
+use Rattle.moxi_systems.proofs.AgainParts.{both_nil}
 use Rattle.moxi_systems.proofs.AgainUses.{AgreeUses}
 
 uses_long : (names : List (List ℕ)) (all : List PlainSystem) (bs : List Subsystem) (us : List Use) → AgreeUses names all bs us → length us ≡ length bs

@@ -1,11 +1,10 @@
 -- Enumerations, sorts and functions that are shown and read again.
-use Rattle.std.proofs.Common.{◌≡◌, ◌==◌, ℕ, ◌+◌, ◌<◌, nat_lt, Bool, true, false, not, cond, ◌&&◌, ◌||◌, is_none, is_some, Option, None, Some, Result, Ok, Err, List, [], ◌∷◌, ◌++◌, map, length, refl, sym, ap, ◌∙◌, subst, append_assoc, append-nil, arith}
+use Rattle.std.proofs.Common.{◌≡◌, ◌==◌, ℕ, ◌<◌, nat_lt, Bool, true, false, not, cond, ◌||◌, is_none, is_some, Option, None, Some, Ok, List, [], ◌∷◌, ◌++◌, length, refl, sym, ap, ◌∙◌, subst, append_assoc, append-nil, arith}
 use Rattle.std.specs.Prelude.{codes}
 use Rattle.std.specs.List.{AllByRecursion, list_any}
 use Rattle.std.specs.Str.{bytes_eq}
 use Rattle.std.proofs.lemmas.Bool.Decides.{nat_tests}
 use Rattle.text_core.specs.declared.place.Place.{Place}
-use Rattle.text_core.specs.declared.place.Refusal.{Refusal}
 use Rattle.moxi_sexpr.specs.declared.form.Atom.TheVariants.{Symbol}
 use Rattle.moxi_sexpr.specs.Tree as form
 use Rattle.moxi_terms.specs.declared.data.Primes.TheVariants.{Refused}
@@ -13,8 +12,8 @@ use Rattle.moxi_terms.specs.declared.data.Sort.{Sort}
 use Rattle.moxi_terms.specs.declared.data.Sort.TheVariants.{Truth, Bits, Choice}
 use Rattle.moxi_terms.specs.declared.term.Enumeration.{Enumeration}
 use Rattle.moxi_terms.specs.declared.term.NamedSort.{NamedSort}
-use Rattle.moxi_terms.specs.Forms.{place_in, symbol_of}
-use Rattle.moxi_terms.specs.Names.{all_constants, are_fresh, enumeration_names, function_names, is_among, is_sort_name, is_term_name, may_be_constants, may_be_enumeration, place_of, sort_names, with_enumeration, with_function, with_sort}
+use Rattle.moxi_terms.specs.Forms.{place_in}
+use Rattle.moxi_terms.specs.Names.{all_constants, are_fresh, enumeration_names, is_among, is_sort_name, is_term_name, may_be_constants, may_be_enumeration, place_of, sort_names, with_enumeration, with_function, with_sort}
 use Rattle.moxi_terms.specs.Reading as reading
 use Rattle.moxi_terms.specs.Reading.{sort_reading}
 use Rattle.moxi_terms.specs.Sorted.{AreSorts}
@@ -26,27 +25,22 @@ use Rattle.moxi_print.specs.Shown.{group, no_showns, shown, Shows, ShowEach}
 use Rattle.moxi_print.specs.Standing.{Stands}
 use Rattle.moxi_print.specs.StandingReads as standing
 use Rattle.moxi_print.specs.Terms.{shown_sort, shown_term, shown_variables, variable_names}
-use Rattle.moxi_print.proofs.StandingRead.{term_read}
 use Rattle.moxi_print.proofs.StandingShapes as shape
-use Rattle.moxi_print.proofs.StandingSorts.{sort_read}
 use Rattle.moxi_systems.specs.declared.entries.Declared.{Declared}
 use Rattle.moxi_systems.specs.Collecting.{fails_if}
 use Rattle.moxi_systems.specs.Commands.{Reading, form_failures, with_form}
 use Rattle.moxi_systems.specs.Declarations as declarations
 use Rattle.moxi_systems.specs.Declarations.{FunctionForms, are_symbols, constants_failures, is_nil, is_taken, symbols_in, with_constants, with_term_name}
-use Rattle.moxi_systems.specs.Entries.{entries_failures, entries_of, known_sort, locals_among, names_with, sort_failures, twice_failures, variables_of}
-use Rattle.moxi_systems.specs.Shapes.{HeadedForms, NamedForm, parts_of}
-use Rattle.moxi_systems.specs.Whole.{AreVariables, is_fixed_sort, is_fixed_term, over}
-use Rattle.moxi_systems.proofs.AgainEntries.{Agree, SortsMean, agree_differ, agree_locals, agree_variables, entries_read, names_of_locals}
+use Rattle.moxi_systems.specs.Entries.{entries_of, known_sort, names_with, sort_failures}
+use Rattle.moxi_systems.specs.Shapes.{HeadedForms}
+use Rattle.moxi_systems.specs.Whole.{is_fixed_sort, over}
+use Rattle.moxi_systems.proofs.AgainEntries.{Agree, agree_differ, agree_locals, agree_variables, entries_read, names_of_locals}
+use Rattle.moxi_systems.proofs.AgainParts.{ReadsBack, both_nil, some_if}
 use Rattle.moxi_systems.proofs.AgainShapes.{is_listed, named_form}
-use Rattle.moxi_systems.proofs.AgainSystems.{both_nil, command_form, is_command}
+use Rattle.moxi_systems.proofs.AgainSystems.{command_form, is_command}
 use Rattle.moxi_systems.proofs.WholeNames.{Absent, and_both, fresh_first, is_absent, or_both, or_parts}
 
 -- NAMES
-
-some_if : {A : Type 0} (o : Option A) → is_none o ≡ true → is_some o ≡ false
-some_if None h = refl
-some_if (Some x) h = absurd (cc)
 
 pub sort_new : (s : ScopeState) (name : List ℕ) → is_fixed_sort name ≡ false → Absent (enumeration_names s) name → Absent (sort_names s) name → is_sort_name s name ≡ false
 sort_new s name own es ss =
@@ -153,9 +147,9 @@ enumeration_read r e f w h =
 abbrev pub with_read_sort : Reading → NamedSort → Reading
 with_read_sort r n = record r { scope = with_sort r.scope n.name n.sort }
 
-pub sort_definition_read : (r : Reading) (n : NamedSort) (f : form.Tree) → SortsMean r.scope → IsSort r.scope.enumerations n.sort → is_sort_name r.scope n.name ≡ false → Shows f (shown_named_sort r.scope n)
+pub sort_definition_read : (r : Reading) (n : NamedSort) (f : form.Tree) → ReadsBack r.scope → IsSort r.scope.enumerations n.sort → is_sort_name r.scope n.name ≡ false → Shows f (shown_named_sort r.scope n)
     → Reads r (with_read_sort r n) f
-sort_definition_read r n f mean i new h =
+sort_definition_read r n f back i new h =
     let s = r.scope in
     let c = is_command f (codes "define-sort") n.name (shown (group no_showns) (shown (shown_sort s n.sort) no_showns)) h in
     let o = shape.is_two c.forms (group no_showns) (shown_sort s n.sort) c.show in
@@ -163,7 +157,7 @@ sort_definition_read r n f mean i new h =
     let e : o.0 ≡ form.list g.0 form.no_trees = g.2 ∙ ap (form.list g.0) (shape.is_none g.1 g.3) in
     let is : f ≡ command_form c.place c.word_place (codes "define-sort") c.name_place n.name (form.tree (form.list g.0 form.no_trees) (one_form o.1)) =
     c.is ∙ ap (command_form c.place c.word_place (codes "define-sort") c.name_place n.name) (o.2 ∙ ap (λ t. form.tree t (one_form o.1)) e) in
-    let read : sort_reading s c.place o.1 ≡ Ok n.sort = sort_read s c.place n.sort o.1 (mean n.sort i) o.4 in
+    let read : sort_reading s c.place o.1 ≡ Ok n.sort = back.sorts c.place n.sort o.1 i o.4 in
     record {
       is =
           ap (with_form r) is ∙ ap (λ x. record r { scope = declarations.with_sort_if s n.name (known_sort x) }) read
@@ -205,8 +199,8 @@ pub record IsNextFunction (r : Reading) (f : PlainFunction) (t : form.Tree) : Ty
 abbrev headed_name : List ℕ → Place → form.Trees → HeadedForms
 headed_name name p ts = record { name = name; primed = false; place = p; rest = ts }
 
-pub function_read : (r : Reading) (f : PlainFunction) (t : form.Tree) → SortsMean r.scope → IsNewFunction r.scope r.term_names f → Shows t (shown_function r.scope f) → IsNextFunction r f t
-function_read r f t mean w h =
+pub function_read : (r : Reading) (f : PlainFunction) (t : form.Tree) → ReadsBack r.scope → IsNewFunction r.scope r.term_names f → Shows t (shown_function r.scope f) → IsNextFunction r f t
+function_read r f t back w h =
     let s = r.scope in
     let names = r.term_names in
     let shown_body = shown_term s (variable_names f.parameters) [] f.body in
@@ -214,7 +208,7 @@ function_read r f t mean w h =
     let a = shape.is_more c.forms (group (shown_variables s f.parameters)) (shown (shown_sort s f.result) (shown shown_body no_showns)) c.show in
     let b = shape.is_two a.1 (shown_sort s f.result) shown_body a.4 in
     let l = is_listed a.0 (shown_variables s f.parameters) a.3 in
-    let e = entries_read s mean (place_in a.0) f.parameters l.parts w.parameters l.show in
+    let e = entries_read s back (place_in a.0) f.parameters l.parts w.parameters l.show in
     let ds = entries_of s l.parts in
     let rest = form.tree a.0 (form.tree b.0 (one_form b.1)) in
     let body_form = b.1 in
@@ -222,10 +216,10 @@ function_read r f t mean w h =
     let ff : FunctionForms = record { name = head; place = place_in a.0; parameters = l.parts; result = b.0; body = b.1 } in
     let is : t ≡ command_form c.place c.word_place (codes "define-fun") c.name_place f.name rest =
     c.is ∙ ap (command_form c.place c.word_place (codes "define-fun") c.name_place f.name) (a.2 ∙ ap (form.tree a.0) b.2) in
-    let result : sort_reading s c.place b.0 ≡ Ok f.result = sort_read s c.place f.result b.0 (mean f.result w.result) b.3 in
+    let result : sort_reading s c.place b.0 ≡ Ok f.result = back.sorts c.place f.result b.0 w.result b.3 in
     let body : declarations.body_reading s ff ≡ standing.whole f.body f.result =
     ap (λ ls. reading.read (record { scope = s; variables = ls; primes = Refused }) [] b.1) (agree_locals f.parameters ds e.entries)
-    ∙ term_read (over s f.parameters Refused) [] f.body f.result b.1 w.body (subst (λ ns. Shows b.1 (shown_term s ns [] f.body)) (sym (names_of_locals f.parameters)) b.4) in
+    ∙ back.terms (over s f.parameters Refused) [] f.body f.result b.1 w.body (subst (λ ns. Shows b.1 (shown_term s ns [] f.body)) (sym (names_of_locals f.parameters)) b.4) in
     let parts : declarations.part_failures s c.place ff ≡ [] =
     both_nil _ _ (both_nil _ _ e.pass (ap sort_failures result))
     (ap (λ (x : reading.Reading). x.failures ++ declarations.clash_failures (known_sort (declarations.result_sort s c.place ff)) x.sort (place_in b.1)) body

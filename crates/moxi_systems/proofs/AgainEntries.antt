@@ -1,30 +1,26 @@
 -- Lists of variables that are shown and read again.
-use Rattle.std.proofs.Common.{◌≡◌, ℕ, suc, Bool, true, false, not, cond, is_none, Option, None, Some, Result, Ok, Err, List, [], ◌∷◌, ◌++◌, map, length, refl, sym, ap, ◌∙◌, subst, append_assoc}
+use Rattle.std.proofs.Common.{◌≡◌, ℕ, true, not, cond, is_none, Option, Some, List, [], ◌∷◌, ◌++◌, map, refl, sym, ap, ◌∙◌, subst}
 use Rattle.std.specs.List.{AllByRecursion}
 use Rattle.text_core.specs.declared.place.Place.{Place}
-use Rattle.text_core.specs.declared.place.Refusal.{Refusal}
 use Rattle.moxi_sexpr.specs.Tree as form
 use Rattle.moxi_terms.specs.declared.data.Sort.{Sort}
-use Rattle.moxi_terms.specs.declared.names.Local.{Local}
-use Rattle.moxi_terms.specs.declared.term.Enumeration.{Enumeration}
 use Rattle.moxi_terms.specs.declared.term.Variable.{Variable}
 use Rattle.moxi_terms.specs.Answer.{locals_of}
 use Rattle.moxi_terms.specs.Forms.{place_in}
-use Rattle.moxi_terms.specs.Names.{are_fresh, is_term_name, place_of}
-use Rattle.moxi_terms.specs.Reading.{names_of, prime_failures, sort_reading}
+use Rattle.moxi_terms.specs.Names.{are_fresh, place_of}
+use Rattle.moxi_terms.specs.Reading.{names_of}
 use Rattle.moxi_terms.specs.Sorts.{IsSort}
 use Rattle.moxi_terms.specs.Sorted.{AreSorts}
 use Rattle.moxi_terms.specs.Tree.{sorts_of}
 use Rattle.moxi_terms.specs.View.{ScopeState}
 use Rattle.moxi_print.specs.Shown.{Shows, ShowEach, group}
-use Rattle.moxi_print.specs.StandingReads.{StandsSort}
 use Rattle.moxi_print.specs.Terms.{shown_sort, shown_variable, shown_variables, variable_names}
-use Rattle.moxi_print.proofs.StandingSorts.{sort_read}
 use Rattle.moxi_systems.specs.declared.entries.Declared.{Declared}
 use Rattle.moxi_systems.specs.Collecting.{fails_if}
-use Rattle.moxi_systems.specs.Entries.{entries_failures, entries_of, entry_failures, entry_in, entry_of, entry_tests, known_sort, locals_among, names_with, sort_failures, twice_failures, twice_tests, variable_of, variables_of}
+use Rattle.moxi_systems.specs.Entries.{entries_failures, entries_of, entry_failures, entry_in, entry_of, entry_tests, known_sort, locals_among, names_with, sort_failures, twice_failures, variable_of, variables_of}
 use Rattle.moxi_systems.specs.Lists.{entries_among, entries_tests, listed_entries, listed_failures}
-use Rattle.moxi_systems.proofs.AgainShapes.{is_listed, is_named, named_form}
+use Rattle.moxi_systems.proofs.AgainParts.{ReadsBack}
+use Rattle.moxi_systems.proofs.AgainShapes.{is_listed, is_named}
 use Rattle.moxi_systems.proofs.WholeNames.{fresh_first, is_absent}
 
 -- as many entries as variables, with their names and sorts
@@ -91,10 +87,6 @@ twice_pass names (d ∷ ds) h =
 pub agree_differ : (vs : List Variable) (ds : List Declared) → Agree vs ds → are_fresh [] (variable_names vs) ≡ true → twice_failures [] ds ≡ []
 agree_differ vs ds h f = twice_pass [] ds (ap (are_fresh []) (agree_names vs ds h) ∙ f)
 
--- each sort of the scope is named by its name
-abbrev pub SortsMean : ScopeState → Type 0
-SortsMean s = (sort : Sort) → IsSort s.enumerations sort → StandsSort s sort
-
 -- the entries of a list have these variables' names and sorts, and none of their tests fails
 pub record AreRead (s : ScopeState) (around : Place) (vs : List Variable) (ts : form.Trees) : Type 0 where
   pub entries : Agree vs (entries_of s ts)
@@ -105,17 +97,18 @@ pub record IsReadList (s : ScopeState) (vs : List Variable) (o : Option form.Tre
   pub entries : Agree vs (listed_entries s o)
   pub pass : listed_failures s o ≡ []
 
-module _ (s : ScopeState) (mean : SortsMean s) where
+module _ (s : ScopeState) (back : ReadsBack s) where
   entry_known : (t : form.Tree) (v : Variable) → IsSort s.enumerations v.sort → Shows t (shown_variable s v) → (p : Place) × (entry_of s t ≡ record { name = v.name; place = p; sort = Some v.sort } ∷ [])
   entry_known t v i h =
-      let n = is_named t v.name (shown_sort s v.sort) h in
-      (n.place,
-      ap (entry_in s (place_in t)) n.is ∙ ap (λ r. record { name = v.name; place = n.place; sort = known_sort r } ∷ []) (sort_read s (place_in t) v.sort n.form (mean v.sort i) n.shows))
+      let n = is_named t v.name (shown_sort s v.sort) h in (
+        n.place,
+        ap (entry_in s (place_in t)) n.is ∙ ap (λ r. record { name = v.name; place = n.place; sort = known_sort r } ∷ []) (back.sorts (place_in t) v.sort n.form i n.shows),
+      )
 
   entry_passes : (around : Place) (t : form.Tree) (v : Variable) → IsSort s.enumerations v.sort → Shows t (shown_variable s v) → entry_failures s around t ≡ []
   entry_passes around t v i h =
       let n = is_named t v.name (shown_sort s v.sort) h in
-      ap (entry_tests s around t) n.is ∙ ap sort_failures (sort_read s (place_in t) v.sort n.form (mean v.sort i) n.shows)
+      ap (entry_tests s around t) n.is ∙ ap sort_failures (back.sorts (place_in t) v.sort n.form i n.shows)
 
   pub entries_read : (around : Place) (vs : List Variable) (ts : form.Trees) → AreSorts s.enumerations (sorts_of vs) → ShowEach ts (shown_variables s vs) → AreRead s around vs ts
   entries_read around [] form.no_trees i h = record { entries = tt; pass = refl }

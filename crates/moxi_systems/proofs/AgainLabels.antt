@@ -1,8 +1,6 @@
 -- Formulas of a check that are shown with their names and read again.
-use Rattle.std.proofs.Common.{◌≡◌, ℕ, Bool, true, false, not, cond, ◌||◌, is_none, is_some, Option, None, Some, List, [], ◌∷◌, ◌++◌, map, refl, sym, ap, ◌∙◌, subst, append_assoc, append-nil}
+use Rattle.std.proofs.Common.{◌≡◌, ℕ, true, false, cond, ◌||◌, is_none, is_some, Option, None, Some, List, [], ◌∷◌, ◌++◌, refl, sym, ap, ◌∙◌, subst, append_assoc, append-nil}
 use Rattle.std.specs.Prelude.{codes}
-use Rattle.std.specs.List.{AllByRecursion}
-use Rattle.std.specs.Str.{bytes_eq}
 use Rattle.text_core.specs.declared.place.Place.{Place}
 use Rattle.moxi_sexpr.specs.Tree as form
 use Rattle.moxi_terms.specs.declared.data.Primes.TheVariants.{Refused}
@@ -30,14 +28,11 @@ use Rattle.moxi_systems.specs.Shapes.{named, parts_of}
 use Rattle.moxi_systems.specs.Whole.{AreFormulas, IsFormula, formula_names}
 use Rattle.moxi_systems.proofs.AgainAttributes.{IsTail, attribute_forms, is_once, tail_more}
 use Rattle.moxi_systems.proofs.AgainFormulas.{term_again, term_passes}
+use Rattle.moxi_systems.proofs.AgainParts.{ReadsBack, some_if}
 use Rattle.moxi_systems.proofs.AgainShapes.{is_attribute, is_named, joined_joined}
 use Rattle.moxi_systems.proofs.WholeNames.{Absent, absent_append, absent_parts, fresh_first, fresh_split, is_absent, or_both}
 
 -- NAMES
-
-some_if : (o : Option ℕ) → is_none o ≡ true → is_some o ≡ false
-some_if None h = refl
-some_if (Some n) h = absurd (cc)
 
 abbrev pub label_names : FormulaLists → List (List ℕ)
 label_names ls = ls.assumptions.names ++ (ls.currents.names ++ ls.reachables.names)
@@ -112,19 +107,19 @@ record IsReadLabel (s : ScopeState) (locals : List Local) (k : Key) (f : PlainFo
 abbrev labelled : List ℕ → Tree → PlainFormula
 labelled name t = record { name = name; term = t }
 
-label_read : (s : ScopeState) (vs : List Variable) (locals : List Local) (name : List ℕ) (k : Key) (f : PlainFormula) (ls : FormulaLists) (t : form.Tree) → locals ≡ answer.locals_of vs → IsLabelKey name k
+label_read : (s : ScopeState) (back : ReadsBack s) (vs : List Variable) (locals : List Local) (name : List ℕ) (k : Key) (f : PlainFormula) (ls : FormulaLists) (t : form.Tree) → locals ≡ answer.locals_of vs → IsLabelKey name k
     → IsFormula s vs Refused f.term → Absent (label_names ls) f.name → Shows t (shown_label s (variable_names vs) f) → IsReadLabel s locals k f ls t
-label_read s vs locals name k f ls t same key w new h =
+label_read s back vs locals name k f ls t same key w new h =
     let n = is_named t f.name (shown_term s (variable_names vs) [] f.term) h in
     let u = no_label ls f.name new in
     record {
       after =
           ap (λ b. cond b (with_named s locals k ls (named t)) ls) key.formula ∙ ap (with_named s locals k ls) n.is
           ∙ ap (λ b. cond b ls (with_formula k ls (labelled f.name (term_of s locals Refused n.form)))) u
-          ∙ ap (λ t. with_formula k ls (labelled f.name t)) (term_again s vs locals Refused f.term n.form same w n.shows);
+          ∙ ap (λ t. with_formula k ls (labelled f.name t)) (term_again s back vs locals Refused f.term n.form same w n.shows);
       pass =
           ap (λ b. cond b (named_tests s locals ls t (named t)) []) key.formula ∙ ap (named_tests s locals ls t) n.is
-          ∙ ap (λ b. fails_if b 9 n.place ++ term_failures s locals Refused n.form) u ∙ term_passes s vs locals Refused f.term n.form same w n.shows;
+          ∙ ap (λ b. fails_if b 9 n.place ++ term_failures s locals Refused n.form) u ∙ term_passes s back vs locals Refused f.term n.form same w n.shows;
     }
 
 more_labels : (s : ScopeState) (locals : List Local) (name : List ℕ) (k : Key) (f : PlainFormula) (fs : List PlainFormula) (before : List (List ℕ)) (ls : FormulaLists) (p : Place) (t : form.Tree) (ts : form.Trees) (rest : Showns)
@@ -151,11 +146,11 @@ more_labels s locals name k f fs before ls p t ts rest key one listed r = record
         ap (λ b. cond b (form.tree t form.no_trees) (cond (same_key keys.Queries k) (query.forms_among (parts_of t)) form.no_trees)) key.no_query
         ∙ ap (λ b. cond b (query.forms_among (parts_of t)) form.no_trees) key.no_queries
 
-pub labels_read : (s : ScopeState) (vs : List Variable) (locals : List Local) (name : List ℕ) (k : Key) (fs : List PlainFormula) (before : List (List ℕ)) (ls : FormulaLists) (ts : form.Trees) (rest : Showns)
+pub labels_read : (s : ScopeState) (back : ReadsBack s) (vs : List Variable) (locals : List Local) (name : List ℕ) (k : Key) (fs : List PlainFormula) (before : List (List ℕ)) (ls : FormulaLists) (ts : form.Trees) (rest : Showns)
     → locals ≡ answer.locals_of vs → IsLabelKey name k → AreFormulas s vs fs → are_fresh before (formula_names fs) ≡ true → Cover before ls
     → ShowEach ts (joined (shown_labels s (variable_names vs) name fs) rest) → AreReadLabels s locals k fs before ls ts rest
 unfolding shown_labels
-labels_read s vs locals name k [] before ls ts rest same key w d c h = record {
+labels_read s back vs locals name k [] before ls ts rest same key w d c h = record {
   more = ts;
   show_more = h;
   cover = subst (λ xs. Cover xs ls) (sym (append-nil before)) c;
@@ -165,15 +160,15 @@ labels_read s vs locals name k [] before ls ts rest same key w d c h = record {
   queries_pass = λ l names. refl;
   tail = λ e. e;
 }
-labels_read s vs locals name k (f ∷ fs) before ls ts rest same key w d c h =
+labels_read s back vs locals name k (f ∷ fs) before ls ts rest same key w d c h =
     let others = shown_labels s (variable_names vs) name fs in
     let x = shown_label s (variable_names vs) f in
     let a = is_attribute ts name x (joined others rest) (subst (ShowEach ts) (joined_joined (attribute name x) others rest) h) in
     let p = fresh_first before f.name (formula_names fs) d in
     subst (λ ts. AreReadLabels s locals k (f ∷ fs) before ls ts rest) (sym a.is)
-    (more_labels s locals name k f fs before ls a.place a.value a.more rest key (label_read s vs locals name k f ls a.value same key w.0 (c f.name p.0) a.shows)
+    (more_labels s locals name k f fs before ls a.place a.value a.more rest key (label_read s back vs locals name k f ls a.value same key w.0 (c f.name p.0) a.shows)
     (is_named a.value f.name (shown_term s (variable_names vs) [] f.term) a.shows).listed
-    (labels_read s vs locals name k fs (before ++ f.name ∷ []) (with_formula k ls f) a.more rest same key w.1 p.1 (cover_more k before ls f c) a.show_more))
+    (labels_read s back vs locals name k fs (before ++ f.name ∷ []) (with_formula k ls f) a.more rest same key w.1 p.1 (cover_more k before ls f c) a.show_more))
 
 -- ALL KINDS
 
@@ -223,17 +218,17 @@ pub record AreAllLabels (s : ScopeState) (locals : List Local) (xs ys zs : List 
   pub queries_pass : (l : FormulaLists) (names : List (List ℕ)) → query.all_queries_failures l names AtKeyword ts ≡ query.all_queries_failures l names AtKeyword more
   pub tail : IsTail Check more → IsTail Check ts
 
-pub all_labels_read : (s : ScopeState) (vs : List Variable) (locals : List Local) (xs ys zs : List PlainFormula) (ts : form.Trees) (rest : Showns) → locals ≡ answer.locals_of vs → AreFormulas s vs xs → AreFormulas s vs ys
+pub all_labels_read : (s : ScopeState) (back : ReadsBack s) (vs : List Variable) (locals : List Local) (xs ys zs : List PlainFormula) (ts : form.Trees) (rest : Showns) → locals ≡ answer.locals_of vs → AreFormulas s vs xs → AreFormulas s vs ys
     → AreFormulas s vs zs → are_fresh [] (formula_names xs ++ (formula_names ys ++ formula_names zs)) ≡ true
     → ShowEach ts (joined (shown_labels s (variable_names vs) (codes "assumption") xs) (joined (shown_labels s (variable_names vs) (codes "current") ys) (joined (shown_labels s (variable_names vs) (codes "reachable") zs) rest)))
     → AreAllLabels s locals xs ys zs ts rest
-all_labels_read s vs locals xs ys zs ts rest same wa wc wr d h =
+all_labels_read s back vs locals xs ys zs ts rest same wa wc wr d h =
     let vars = variable_names vs in
     let f = fresh_split [] (formula_names xs) (formula_names ys ++ formula_names zs) d in
     let g = fresh_split (formula_names xs) (formula_names ys) (formula_names zs) f.1 in
-    let a = labels_read s vs locals (codes "assumption") keys.Assumption xs [] no_labels ts (joined (shown_labels s vars (codes "current") ys) (joined (shown_labels s vars (codes "reachable") zs) rest)) same assumption_key wa f.0 (λ name h. refl) h in
-    let c = labels_read s vs locals (codes "current") keys.Current ys (formula_names xs) (with_formulas keys.Assumption no_labels xs) a.more (joined (shown_labels s vars (codes "reachable") zs) rest) same current_key wc g.0 a.cover a.show_more in
-    let r = labels_read s vs locals (codes "reachable") keys.Reachable zs (formula_names xs ++ formula_names ys) (with_formulas keys.Current (with_formulas keys.Assumption no_labels xs) ys) c.more rest same reachable_key wr g.1 c.cover c.show_more in
+    let a = labels_read s back vs locals (codes "assumption") keys.Assumption xs [] no_labels ts (joined (shown_labels s vars (codes "current") ys) (joined (shown_labels s vars (codes "reachable") zs) rest)) same assumption_key wa f.0 (λ name h. refl) h in
+    let c = labels_read s back vs locals (codes "current") keys.Current ys (formula_names xs) (with_formulas keys.Assumption no_labels xs) a.more (joined (shown_labels s vars (codes "reachable") zs) rest) same current_key wc g.0 a.cover a.show_more in
+    let r = labels_read s back vs locals (codes "reachable") keys.Reachable zs (formula_names xs ++ formula_names ys) (with_formulas keys.Current (with_formulas keys.Assumption no_labels xs) ys) c.more rest same reachable_key wr g.1 c.cover c.show_more in
     record {
       more = r.more;
       show_more = r.show_more;

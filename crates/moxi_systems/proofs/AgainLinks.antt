@@ -1,24 +1,19 @@
 -- No test of links fails in a whole script that is shown and read again.
-use Rattle.std.proofs.Common.{◌≡◌, ◌==◌, ℕ, zero, suc, ◌+◌, ◌<◌, Bool, true, false, not, cond, ◌&&◌, ◌||◌, is_none, is_some, Option, None, Some, List, [], ◌∷◌, ◌++◌, map, length, refl, sym, ap, ◌∙◌, subst, append_assoc, arith}
-use Rattle.std.specs.Prelude.{codes, slice_get}
+use Rattle.std.proofs.Common.{◌≡◌, ◌==◌, ℕ, zero, suc, ◌+◌, ◌<◌, Bool, true, false, not, cond, ◌&&◌, is_none, Option, None, Some, List, [], ◌∷◌, ◌++◌, map, length, refl, sym, ap, ◌∙◌, append_assoc, arith}
+use Rattle.std.specs.Prelude.{slice_get}
 use Rattle.std.specs.Option.{option_map}
-use Rattle.std.specs.List.{AllByRecursion}
-use Rattle.std.specs.Str.{bytes_eq}
 use Rattle.std.proofs.lemmas.Bool.Decides.{nat_tests}
 use Rattle.std.proofs.lemmas.List.{length-append, length-map}
 use Rattle.text_core.specs.declared.place.Place.{Place}
 use Rattle.text_core.specs.declared.place.Refusal.{Refusal}
 use Rattle.moxi_sexpr.specs.Lexing.{refusal}
 use Rattle.moxi_terms.specs.declared.data.Sort.{Sort}
-use Rattle.moxi_terms.specs.declared.data.Sort.TheVariants.{Truth, Bits, Choice}
 use Rattle.moxi_terms.specs.declared.term.Variable.{Variable}
 use Rattle.moxi_terms.specs.Names.{all_constants, are_fresh, function_names, is_term_name, place_of}
-use Rattle.moxi_terms.specs.Sorts.{same_sort}
 use Rattle.moxi_terms.specs.Tree.{sorts_of}
 use Rattle.moxi_terms.specs.View.{ScopeState}
 use Rattle.moxi_print.specs.Terms.{name_at}
 use Rattle.moxi_print.proofs.StandingPlaces.{fresh_place}
-use Rattle.moxi_systems.specs.declared.checks.ListPlaces.{ListPlaces}
 use Rattle.moxi_systems.specs.declared.entries.Declared.{Declared}
 use Rattle.moxi_systems.specs.declared.lists.DeclaredList.{DeclaredList}
 use Rattle.moxi_systems.specs.declared.lists.Lists.{Lists}
@@ -36,7 +31,8 @@ use Rattle.moxi_systems.proofs.AgainChecks.{AgreeCheck}
 use Rattle.moxi_systems.proofs.AgainCommands.{AgreeSystems, AreUntaken, term_names}
 use Rattle.moxi_systems.proofs.AgainDeclarations.{same_refl}
 use Rattle.moxi_systems.proofs.AgainEntries.{Agree, agree_append, agree_sorts}
-use Rattle.moxi_systems.proofs.AgainSystems.{AgreeSystem, both_nil}
+use Rattle.moxi_systems.proofs.AgainParts.{both_nil, first_or, rest_of}
+use Rattle.moxi_systems.proofs.AgainSystems.{AgreeSystem}
 use Rattle.moxi_systems.proofs.AgainUses.{AgreeUse, AgreeUses}
 use Rattle.moxi_systems.proofs.LinkLaws.{get_right}
 use Rattle.moxi_systems.proofs.WholeNames.{absent_append, is_absent, or_both}
@@ -58,14 +54,6 @@ taken_passes u (d ∷ ds) a =
 no_clash : (a b : Option Sort) (p : Place) → a ≡ b → clash_failures a b p ≡ []
 no_clash None b p e = refl
 no_clash (Some a) b p e = ap (λ b. clash_failures (Some a) b p) (sym e) ∙ ap (λ t. fails_if (not t) 5 p) (same_refl a)
-
-abbrev first_or : {A : Type 0} → A → List A → A
-first_or d [] = d
-first_or d (x ∷ xs) = x
-
-abbrev rest_of : {A : Type 0} → List A → List A
-rest_of [] = []
-rest_of (x ∷ xs) = xs
 
 abbrev entry_sorts : List Declared → List (Option Sort)
 entry_sorts ds = map (λ (d : Declared). d.sort) ds

@@ -1,11 +1,11 @@
 -- Queries that are shown and read again.
-use Rattle.std.proofs.Common.{◌≡◌, ◌==◌, ℕ, zero, suc, ◌+◌, ◌<◌, Bool, true, false, not, cond, ◌&&◌, ◌||◌, is_none, Option, None, Some, List, [], ◌∷◌, ◌++◌, map, length, refl, sym, ap, ◌∙◌, subst, append_assoc, append-nil, arith}
+use Rattle.std.proofs.Common.{◌≡◌, ℕ, ◌<◌, true, false, not, cond, ◌&&◌, is_none, Option, None, Some, List, [], ◌∷◌, ◌++◌, length, refl, sym, ap, ◌∙◌, subst, append_assoc, append-nil}
 use Rattle.std.specs.Prelude.{codes}
 use Rattle.std.specs.List.{AllByRecursion}
 use Rattle.text_core.specs.declared.place.Place.{Place}
 use Rattle.moxi_sexpr.specs.declared.form.Atom.TheVariants.{Symbol}
 use Rattle.moxi_sexpr.specs.Tree as form
-use Rattle.moxi_terms.specs.Forms.{place_in, symbol_of}
+use Rattle.moxi_terms.specs.Forms.{place_in}
 use Rattle.moxi_terms.specs.declared.names.Local.{Local}
 use Rattle.moxi_terms.specs.Names.{are_fresh, place_of}
 use Rattle.moxi_terms.specs.View.{ScopeState}
@@ -31,15 +31,12 @@ use Rattle.moxi_systems.specs.Whole.{IsWholeQuery, formula_names}
 use Rattle.moxi_systems.specs.Whole as whole
 use Rattle.moxi_systems.proofs.AgainAttributes.{IsTail, attribute_forms, tail_end, tail_more}
 use Rattle.moxi_systems.proofs.AgainLabels.{made_labels}
+use Rattle.moxi_systems.proofs.AgainParts.{none_if}
 use Rattle.moxi_systems.proofs.AgainShapes.{is_attribute, is_listed, is_named, named_form}
 use Rattle.moxi_systems.proofs.AgainUses.{absent_at}
-use Rattle.moxi_systems.proofs.WholeNames.{Absent, absent_append, absent_parts, fresh_first, fresh_split, fresh_with, is_absent}
+use Rattle.moxi_systems.proofs.WholeNames.{Absent, absent_parts, fresh_first, fresh_split, fresh_with, is_absent}
 
 -- NAMES
-
-no_place : (o : Option ℕ) → is_none o ≡ true → o ≡ None
-no_place None h = refl
-no_place (Some n) h = absurd (cc)
 
 no_names : (ys : List (List ℕ)) → AllByRecursion (Absent []) ys
 no_names [] = tt
@@ -58,7 +55,7 @@ pub are_three : (xs ys zs : List (List ℕ)) → are_fresh [] (xs ++ (ys ++ zs))
 are_three xs ys zs h =
     let f = fresh_split [] xs (ys ++ zs) h in
     let g = fresh_split xs ys zs f.1 in
-    let away : (ws : List (List ℕ)) (name : List ℕ) → Absent ws name → place_of ws name ≡ None = λ ws name a. no_place (place_of ws name) (is_absent ws name a) in
+    let away : (ws : List (List ℕ)) (name : List ℕ) → Absent ws name → place_of ws name ≡ None = λ ws name a. none_if (place_of ws name) (is_absent ws name a) in
     record {
       first = λ i l. fresh_place xs i f.0 l;
       second = λ i l. (away xs (name_at ys i) (absent_at xs ys i g.0 l), fresh_place ys i (fresh_alone xs ys g.0) l);

@@ -1,5 +1,5 @@
 -- What is shown of sorts and terms is the same in a scope and in one that has grown from it.
-use Rattle.std.proofs.Common.{◌≡◌, ℕ, Bool, true, false, Option, None, Some, List, [], ◌∷◌, ◌++◌, map, refl, sym, ap, ◌∙◌, subst}
+use Rattle.std.proofs.Common.{◌≡◌, ℕ, Some, List, [], ◌∷◌, ◌++◌, map, refl, sym, ap, ◌∙◌}
 use Rattle.std.specs.Prelude.{slice_get, codes}
 use Rattle.moxi_terms.specs.declared.data.Datum.{Datum}
 use Rattle.moxi_terms.specs.declared.data.Datum.TheVariants as datum
@@ -12,7 +12,7 @@ use Rattle.moxi_terms.specs.Names.{function_names}
 use Rattle.moxi_terms.specs.Reading.{Context}
 use Rattle.moxi_terms.specs.Tree.{Tree, constant, variable, bound, apply, binding, call, Trees, no_trees, tree, PlainFunction, sorts_of}
 use Rattle.moxi_terms.specs.View.{ScopeState}
-use Rattle.moxi_print.specs.Shown.{Shown, word, group, no_showns, shown}
+use Rattle.moxi_print.specs.Shown.{word, group, no_showns, shown}
 use Rattle.moxi_print.specs.Standing.{bound_locals, Stands, StandEach}
 use Rattle.moxi_print.specs.Terms.{constants_or_none, name_at, shown_bindings, shown_call, shown_operator, shown_sort, shown_term, shown_terms, shown_value, shown_variable, shown_variables, symbol}
 use Rattle.moxi_systems.proofs.WholeParts.{get_map, index_get}

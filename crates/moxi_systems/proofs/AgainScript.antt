@@ -1,37 +1,34 @@
 -- A whole script that is shown is spelled by the forms.
-use Rattle.std.proofs.Common.{◌≡◌, ℕ, ◌<◌, Bool, true, false, not, Option, None, Some, List, [], ◌∷◌, ◌++◌, map, length, refl, sym, ap, ◌∙◌, subst}
+use Rattle.std.proofs.Common.{◌≡◌, ℕ, ◌<◌, true, false, List, [], ◌∷◌, ◌++◌, map, length, refl, sym, ap, ◌∙◌}
 use Rattle.text_core.specs.declared.place.Place.{Place}
-use Rattle.moxi_sexpr.specs.Tree.{Trees, no_trees, tree}
-use Rattle.moxi_terms.specs.declared.term.Variable.{Variable}
+use Rattle.moxi_sexpr.specs.Tree.{Trees}
 use Rattle.moxi_terms.specs.Names.{are_fresh, is_term_name, place_of}
-use Rattle.moxi_terms.specs.View.{ScopeState}
 use Rattle.moxi_print.specs.Shown.{no_showns, shown, ShowEach}
-use Rattle.moxi_print.specs.Terms.{name_at}
 use Rattle.moxi_print.proofs.StandingShapes as shape
 use Rattle.moxi_systems.specs.declared.attributes.Command.TheVariants.{Check}
 use Rattle.moxi_systems.specs.declared.entries.Declared.{Declared}
-use Rattle.moxi_systems.specs.declared.lists.Lists.{Lists}
 use Rattle.moxi_systems.specs.declared.script.Subsystem.{Subsystem}
 use Rattle.moxi_systems.specs.declared.uses.Actual.{Actual}
 use Rattle.moxi_systems.specs.declared.uses.Use.{Use}
 use Rattle.moxi_systems.specs.Again.{ReadsAs, with_place}
 use Rattle.moxi_systems.specs.Checks.{CheckReading, content_of}
-use Rattle.moxi_systems.specs.Commands.{Reading, commands_failures, form_failures, nothing_read, reading_after, with_form}
+use Rattle.moxi_systems.specs.Commands.{Reading, commands_failures, nothing_read, reading_after}
 use Rattle.moxi_systems.specs.Cycles.{cycle_failures}
 use Rattle.moxi_systems.specs.Entries.{variables_of}
 use Rattle.moxi_systems.specs.Links.{links_failures}
 use Rattle.moxi_systems.specs.Lists.{all_entries, lists_in}
 use Rattle.moxi_systems.specs.Printing.{shown_check, shown_script}
 use Rattle.moxi_systems.specs.Script.{PlainCheck, PlainScript, PlainSystem}
-use Rattle.moxi_systems.specs.Spelling.{check_of, number_or_none, script_failures, script_with, subsystem_of, system_of}
+use Rattle.moxi_systems.specs.Spelling.{check_of, number_or_none, script_with, subsystem_of, system_of}
 use Rattle.moxi_systems.specs.Systems.{SystemReading}
 use Rattle.moxi_systems.specs.Whole.{IsWhole, check_variables, system_names}
 use Rattle.moxi_systems.proofs.AgainChecks.{AgreeCheck, check_read, reading_checked}
-use Rattle.moxi_systems.proofs.AgainCommands.{AgreeSystems, AreUntaken, all_mean, commands_go, reading_at, term_names}
+use Rattle.moxi_systems.proofs.AgainCommands.{AgreeSystems, all_back, commands_go, reading_at, term_names}
 use Rattle.moxi_systems.proofs.AgainCycles.{cycles_pass}
 use Rattle.moxi_systems.proofs.AgainEntries.{agree_all, agree_variables}
 use Rattle.moxi_systems.proofs.AgainLinks.{links_pass, system_place}
-use Rattle.moxi_systems.proofs.AgainSystems.{AgreeLists, AgreeSystem, all_agree, both_nil}
+use Rattle.moxi_systems.proofs.AgainParts.{SortsRead, SortsStand, TermsRead, both_nil}
+use Rattle.moxi_systems.proofs.AgainSystems.{AgreeSystem, all_agree}
 use Rattle.moxi_systems.proofs.AgainUses.{AgreeUses}
 use Rattle.moxi_systems.proofs.WholeParts.{all_append}
 
@@ -106,17 +103,17 @@ module _ (ss : List PlainSystem) (fresh : are_fresh [] (system_names ss) ≡ tru
 
 -- ALL OF IT
 
-pub script_read : (s : PlainScript) (ts : Trees) (end : Place) → IsWhole s → ShowEach ts (shown_script s) → ReadsAs ts end s
-script_read s ts end w h =
+pub script_read : TermsRead → SortsRead → SortsStand → (s : PlainScript) (ts : Trees) (end : Place) → IsWhole s → ShowEach ts (shown_script s) → ReadsAs ts end s
+script_read terms_read sorts_read sorts_stand s ts end w h =
     let u = s.scope in
     let ss = s.systems in
     let names = system_names ss in
     let terms = term_names u u.functions in
-    let mean = all_mean u w.scope u refl in
-    let a = commands_go s.logic u ss (shown (shown_check u names s.check) no_showns) ts w.scope w.systems.systems w.systems.names h in
+    let back = all_back terms_read sorts_read sorts_stand u w.scope in
+    let a = commands_go s.logic u ss (shown (shown_check u names s.check) no_showns) ts w.scope back w.systems.systems w.systems.names h in
     let r = reading_at s.logic u terms names a.variables a.systems in
     let one = shape.is_one a.goes.forms (shown_check u names s.check) a.goes.show in
-    let k = check_read names ss s.check r one.0 mean w.check refl one.2 in
+    let k = check_read names ss s.check r one.0 (back u refl) w.check refl one.2 in
     let c = content_of u k.place k.head in
     let last = reading_checked r k.place k.head in
     let l = lists_in u Check k.head.rest in
@@ -128,13 +125,14 @@ script_read s ts end w h =
     let cycles : cycle_failures last.systems last.system_names ≡ [] = cycles_pass ss w.systems.names a.systems a.agree w.systems.acyclic in
     let script : script_with last c ≡ with_place s c.place =
     ap (λ xs. record { logic = s.logic; scope = u; systems = xs; check = check_of names c }) (systems_same ss w.systems.names ss a.systems a.agree)
-    ∙ ap (λ k. record s { check = k }) (check_same ss w.systems.names s.check c w.check.there k.agree) in
-    (c.place,
-    record {
-      check = c;
-      there = ap (λ (r : Reading). r.check) after;
-      script = sym script ∙ ap (λ (r : Reading). script_with r c) (sym after);
-      passes =
-          ap (λ xs. (xs ++ links_failures (reading_after nothing_read ts) end) ++ cycle_failures (reading_after nothing_read ts).systems (reading_after nothing_read ts).system_names) commands
-          ∙ ap (λ (r : Reading). links_failures r end ++ cycle_failures r.systems r.system_names) after ∙ both_nil _ _ links cycles;
-    })
+    ∙ ap (λ k. record s { check = k }) (check_same ss w.systems.names s.check c w.check.there k.agree) in (
+      c.place,
+      record {
+        check = c;
+        there = ap (λ (r : Reading). r.check) after;
+        script = sym script ∙ ap (λ (r : Reading). script_with r c) (sym after);
+        passes =
+            ap (λ xs. (xs ++ links_failures (reading_after nothing_read ts) end) ++ cycle_failures (reading_after nothing_read ts).systems (reading_after nothing_read ts).system_names) commands
+            ∙ ap (λ (r : Reading). links_failures r end ++ cycle_failures r.systems r.system_names) after ∙ both_nil _ _ links cycles;
+      },
+    )

@@ -1,15 +1,14 @@
 -- Forms that are shown as lists, as pairs of a name and a form, and as attributes.
-use Rattle.std.proofs.Common.{◌≡◌, ℕ, Bool, true, false, Option, None, Some, List, refl, sym, ap, ◌∙◌, subst}
+use Rattle.std.proofs.Common.{◌≡◌, ℕ, true, false, Some, List, refl, ap, ◌∙◌}
 use Rattle.text_core.specs.declared.place.Place.{Place}
 use Rattle.moxi_sexpr.specs.declared.form.Atom.TheVariants.{Symbol, Keyword}
 use Rattle.moxi_sexpr.specs.Tree.{Tree, atom, list, Trees, no_trees, tree}
-use Rattle.moxi_terms.specs.Forms.{place_in}
-use Rattle.moxi_print.specs.Shown.{Shown, part, group, Showns, no_showns, shown, joined, Shows, ShowEach}
+use Rattle.moxi_print.specs.Shown.{Shown, group, Showns, no_showns, shown, joined, Shows, ShowEach}
 use Rattle.moxi_print.specs.Terms.{symbol}
 use Rattle.moxi_print.proofs.StandingShapes as shape
 use Rattle.moxi_systems.specs.Attributes.{is_list_form}
 use Rattle.moxi_systems.specs.Printing.{attribute}
-use Rattle.moxi_systems.specs.Shapes.{NamedForm, headed, named, parts_of}
+use Rattle.moxi_systems.specs.Shapes.{NamedForm, named, parts_of}
 
 abbrev pub named_form : List ℕ → Place → Tree → NamedForm
 named_form name p t = record { name = name; primed = false; place = p; form = t }

@@ -1,50 +1,42 @@
 -- Systems that are shown and read again.
-use Rattle.std.proofs.Common.{◌≡◌, ℕ, Bool, true, false, not, cond, is_none, Option, None, Some, List, [], ◌∷◌, ◌++◌, map, refl, sym, ap, ◌∙◌, subst, append_assoc}
+use Rattle.std.proofs.Common.{◌≡◌, ℕ, true, false, cond, is_none, Some, List, [], ◌∷◌, ◌++◌, refl, sym, ap, ◌∙◌, subst, append_assoc}
 use Rattle.std.specs.Prelude.{codes}
-use Rattle.std.specs.List.{AllByRecursion}
 use Rattle.text_core.specs.declared.place.Place.{Place}
 use Rattle.text_core.specs.declared.place.Refusal.{Refusal}
 use Rattle.moxi_sexpr.specs.declared.form.Atom.TheVariants.{Symbol}
 use Rattle.moxi_sexpr.specs.Lexing.{refusal}
 use Rattle.moxi_sexpr.specs.Tree as form
 use Rattle.moxi_terms.specs.declared.data.Primes.TheVariants.{Allowed, Refused}
-use Rattle.moxi_terms.specs.declared.names.Local.{Local}
-use Rattle.moxi_terms.specs.declared.term.Enumeration.{Enumeration}
 use Rattle.moxi_terms.specs.declared.term.Variable.{Variable}
 use Rattle.moxi_terms.specs.Answer as answer
 use Rattle.moxi_terms.specs.Names.{place_of}
 use Rattle.moxi_terms.specs.Sorted.{AreSorts}
 use Rattle.moxi_terms.specs.Sorts.{IsSort}
-use Rattle.moxi_terms.specs.Tree.{Tree, sorts_of}
+use Rattle.moxi_terms.specs.Tree.{sorts_of}
 use Rattle.moxi_terms.specs.View.{ScopeState}
-use Rattle.moxi_print.specs.Shown.{Shown, word, group, Showns, shown, joined, Shows, ShowEach}
+use Rattle.moxi_print.specs.Shown.{word, group, Showns, shown, joined, Shows, ShowEach}
 use Rattle.moxi_print.specs.Terms.{symbol, shown_variables, variable_names}
 use Rattle.moxi_print.proofs.StandingShapes as shape
 use Rattle.moxi_systems.specs.declared.attributes.Command.{Command}
-use Rattle.moxi_systems.specs.declared.attributes.Command.TheVariants.{System, Check}
+use Rattle.moxi_systems.specs.declared.attributes.Command.TheVariants.{System}
 use Rattle.moxi_systems.specs.declared.attributes.Turn.TheVariants.{AtKeyword}
 use Rattle.moxi_systems.specs.declared.lists.Lists.{Lists}
 use Rattle.moxi_systems.specs.Attributes.{shape_holds, unknown_failures}
-use Rattle.moxi_systems.specs.Commands as commands
 use Rattle.moxi_systems.specs.Commands.{Reading, with_form, form_failures}
-use Rattle.moxi_systems.specs.Entries.{locals_among, twice_failures}
-use Rattle.moxi_systems.specs.Formulas.{term_failures}
-use Rattle.moxi_systems.specs.Lists.{all_entries, list_of, listed_failures, lists_in}
+use Rattle.moxi_systems.specs.Lists.{all_entries, list_of, lists_in}
 use Rattle.moxi_systems.specs.Printing.{shown_command, shown_lists, shown_formulas, shown_subsystems, shown_system}
 use Rattle.moxi_systems.specs.Script.{PlainSystem, variables_in}
 use Rattle.moxi_systems.specs.Systems as systems
 use Rattle.moxi_systems.specs.Systems.{SystemReading, locals_of, variables_failures}
 use Rattle.moxi_systems.specs.Uses.{uses_failures, uses_in}
 use Rattle.moxi_systems.specs.Whole.{AreVariables, IsWholeSystem}
-use Rattle.moxi_systems.proofs.AgainAttributes.{IsTail, HasLists, has_formulas, has_lists, list_forms, formula_forms, system_shape}
-use Rattle.moxi_systems.proofs.AgainEntries.{Agree, SortsMean, agree_append, agree_differ, agree_locals, list_read}
+use Rattle.moxi_systems.proofs.AgainAttributes.{has_formulas, has_lists, list_forms, formula_forms, system_shape}
+use Rattle.moxi_systems.proofs.AgainEntries.{Agree, agree_append, agree_differ, agree_locals, list_read}
 use Rattle.moxi_systems.proofs.AgainFormulas.{term_again, term_passes}
+use Rattle.moxi_systems.proofs.AgainParts.{ReadsBack, both_nil}
 use Rattle.moxi_systems.proofs.AgainShapes.{is_listed}
 use Rattle.moxi_systems.proofs.AgainUses.{AgreeUses, uses_read}
 use Rattle.moxi_systems.proofs.WholeParts.{all_parts, map_append}
-
-pub both_nil : (xs ys : List Refusal) → xs ≡ [] → ys ≡ [] → xs ++ ys ≡ []
-both_nil xs ys h g = ap (λ xs. xs ++ ys) h ∙ g
 
 -- THE LISTS
 
@@ -64,15 +56,15 @@ pub record HasReadLists (s : ScopeState) (command : Command) (inputs outputs loc
   pub same : locals_of s command ts ≡ answer.locals_of (inputs ++ (outputs ++ locals))
   pub pass : variables_failures s command ts ≡ []
 
-pub lists_read : (s : ScopeState) (command : Command) (inputs outputs locals : List Variable) (p q r : Place) (i o l : form.Tree) (ts : form.Trees) → SortsMean s → AreVariables s (inputs ++ (outputs ++ locals))
+pub lists_read : (s : ScopeState) (command : Command) (inputs outputs locals : List Variable) (p q r : Place) (i o l : form.Tree) (ts : form.Trees) → ReadsBack s → AreVariables s (inputs ++ (outputs ++ locals))
     → Shows i (group (shown_variables s inputs)) → Shows o (group (shown_variables s outputs)) → Shows l (group (shown_variables s locals)) → unknown_failures command AtKeyword ts ≡ []
     → HasReadLists s command inputs outputs locals (list_forms p i q o r l ts)
-lists_read s command inputs outputs locals p q r i o l ts mean w hi ho hl known =
+lists_read s command inputs outputs locals p q r i o l ts back w hi ho hl known =
     let all = all_parts (IsSort s.enumerations) (sorts_of inputs) (sorts_of (outputs ++ locals)) (subst (AreSorts s.enumerations) (map_append (λ (v : Variable). v.sort) inputs (outputs ++ locals)) w.sorts) in
     let rest = all_parts (IsSort s.enumerations) (sorts_of outputs) (sorts_of locals) (subst (AreSorts s.enumerations) (map_append (λ (v : Variable). v.sort) outputs locals) all.1) in
-    let a = list_read s mean inputs i all.0 hi in
-    let b = list_read s mean outputs o rest.0 ho in
-    let c = list_read s mean locals l rest.1 hl in
+    let a = list_read s back inputs i all.0 hi in
+    let b = list_read s back outputs o rest.0 ho in
+    let c = list_read s back locals l rest.1 hl in
     let ls : Lists = record { inputs = list_of s (Some i); outputs = list_of s (Some o); locals = list_of s (Some l) } in
     let agree : AgreeLists inputs outputs locals ls = record { inputs_agree = a.entries; outputs_agree = b.entries; locals_agree = c.entries } in
     let vs = inputs ++ (outputs ++ locals) in
@@ -99,11 +91,11 @@ record IsReadSystem (s : ScopeState) (names : List (List ℕ)) (all : List Plain
   pub shape : shape_holds System ts ≡ true
   pub pass : systems.content_failures s ts ≡ []
 
-content_read : (s : ScopeState) (names : List (List ℕ)) (all : List PlainSystem) (x : PlainSystem) (ts : form.Trees) → SortsMean s → IsWholeSystem s all x
+content_read : (s : ScopeState) (names : List (List ℕ)) (all : List PlainSystem) (x : PlainSystem) (ts : form.Trees) → ReadsBack s → IsWholeSystem s all x
     → ShowEach ts (joined (shown_lists s x.inputs x.outputs x.locals)
-        (joined (shown_formulas s (variable_names (variables_in x)) x.init x.trans x.inv) (shown_subsystems names (variable_names (variables_in x)) x.subsystems)))
+    (joined (shown_formulas s (variable_names (variables_in x)) x.init x.trans x.inv) (shown_subsystems names (variable_names (variables_in x)) x.subsystems)))
     → IsReadSystem s names all x ts
-content_read s names all x ts mean w h =
+content_read s names all x ts back w h =
     let vs = variables_in x in
     let vars = variable_names vs in
     let subsystems = shown_subsystems names vars x.subsystems in
@@ -112,7 +104,7 @@ content_read s names all x ts mean w h =
     let u = uses_read names all vs x.subsystems [] f.more w.variables.names.differ w.subsystems w.names f.show_more in
     let after = formula_forms f.init_place f.init_form f.trans_place f.trans_form f.inv_place f.inv_form f.more in
     let forms = list_forms a.input_place a.input a.output_place a.output a.local_place a.local after in
-    let l = lists_read s System x.inputs x.outputs x.locals a.input_place a.output_place a.local_place a.input a.output a.local after mean w.variables a.shows_inputs a.shows_outputs a.shows_locals u.tail.known in
+    let l = lists_read s System x.inputs x.outputs x.locals a.input_place a.output_place a.local_place a.input a.output a.local after back w.variables a.shows_inputs a.shows_outputs a.shows_locals u.tail.known in
     let locals = locals_of s System forms in
     let same : locals ≡ answer.locals_of vs = l.same in
     let is : ts ≡ forms = a.is ∙ ap (list_forms a.input_place a.input a.output_place a.output a.local_place a.local) f.is in
@@ -121,9 +113,9 @@ content_read s names all x ts mean w h =
       agree = record {
         name = refl;
         lists = l.agree;
-        init = term_again s vs locals Refused x.init f.init_form same w.init f.shows_init;
-        trans = term_again s vs locals Allowed x.trans f.trans_form same w.trans f.shows_trans;
-        inv = term_again s vs locals Refused x.inv f.inv_form same w.inv f.shows_inv;
+        init = term_again s back vs locals Refused x.init f.init_form same w.init f.shows_init;
+        trans = term_again s back vs locals Allowed x.trans f.trans_form same w.trans f.shows_trans;
+        inv = term_again s back vs locals Refused x.inv f.inv_form same w.inv f.shows_inv;
         uses = subst (λ ls. AgreeUses names all x.subsystems (uses_in ls AtKeyword f.more)) (sym same) u.agree;
       };
       shape =
@@ -132,8 +124,8 @@ content_read s names all x ts mean w h =
           (is_listed a.local (shown_variables s x.locals) a.shows_locals).listed u.tail;
       pass =
           both_nil _ _ (both_nil _ _ l.pass (both_nil _ _ (both_nil _ _
-          (term_passes s vs locals Refused x.init f.init_form same w.init f.shows_init) (term_passes s vs locals Allowed x.trans f.trans_form same w.trans f.shows_trans))
-          (term_passes s vs locals Refused x.inv f.inv_form same w.inv f.shows_inv)))
+          (term_passes s back vs locals Refused x.init f.init_form same w.init f.shows_init) (term_passes s back vs locals Allowed x.trans f.trans_form same w.trans f.shows_trans))
+          (term_passes s back vs locals Refused x.inv f.inv_form same w.inv f.shows_inv)))
           (ap (λ ls. uses_failures ls [] AtKeyword f.more) same ∙ u.pass);
     })
 
@@ -202,11 +194,11 @@ system_passes : (r : Reading) (p q n : Place) (name : List ℕ) (ts : form.Trees
 system_passes r p q n name ts new shape pass =
     ap (λ b. cond b (systems.shaped_failures r.scope p ts) (refusal 9 n ∷ [])) new ∙ ap (λ b. cond b (systems.content_failures r.scope ts) (refusal 12 p ∷ [])) shape ∙ pass
 
-pub system_read : (names : List (List ℕ)) (all : List PlainSystem) (x : PlainSystem) (r : Reading) (f : form.Tree) → SortsMean r.scope → IsWholeSystem r.scope all x
+pub system_read : (names : List (List ℕ)) (all : List PlainSystem) (x : PlainSystem) (r : Reading) (f : form.Tree) → ReadsBack r.scope → IsWholeSystem r.scope all x
     → is_none (place_of r.system_names x.name) ≡ true → Shows f (shown_system r.scope names x) → IsNextSystem r.scope names all x r f
-system_read names all x r f mean w new h =
+system_read names all x r f back w new h =
     let c = is_command f (codes "define-system") x.name _ h in
-    let d = content_read r.scope names all x c.forms mean w c.show in
+    let d = content_read r.scope names all x c.forms back w c.show in
     record {
       forms = c.forms;
       is = ap (with_form r) c.is ∙ system_command r c.place c.word_place c.name_place x.name c.forms new d.shape;

@@ -1,5 +1,5 @@
 -- Subsystems that are shown and read again.
-use Rattle.std.proofs.Common.{◌≡◌, ℕ, zero, suc, ◌+◌, ◌<◌, Bool, true, false, not, cond, ◌||◌, is_none, Option, None, Some, List, [], ◌∷◌, ◌++◌, map, length, refl, sym, ap, ◌∙◌, subst, arith, append-nil}
+use Rattle.std.proofs.Common.{◌≡◌, ℕ, zero, suc, ◌+◌, ◌<◌, true, false, not, cond, is_none, Option, None, Some, List, [], ◌∷◌, ◌++◌, map, length, refl, sym, ap, ◌∙◌, subst, arith}
 use Rattle.std.specs.Prelude.{codes, slice_get}
 use Rattle.std.specs.List.{AllByRecursion}
 use Rattle.std.specs.Str.{bytes_eq}
@@ -12,13 +12,12 @@ use Rattle.moxi_terms.specs.declared.data.Sort.{Sort}
 use Rattle.moxi_terms.specs.declared.names.Local.{Local}
 use Rattle.moxi_terms.specs.declared.term.Variable.{Variable}
 use Rattle.moxi_terms.specs.Answer.{locals_of}
-use Rattle.moxi_terms.specs.Forms.{place_in, symbol_of}
+use Rattle.moxi_terms.specs.Forms.{place_in}
 use Rattle.moxi_terms.specs.Names.{are_fresh, place_of}
-use Rattle.moxi_terms.specs.Reading.{Found, first_of, prime_failures}
+use Rattle.moxi_terms.specs.Reading.{Found, first_of}
 use Rattle.moxi_terms.specs.Tree.{sorts_of}
-use Rattle.moxi_terms.specs.View.{ScopeState}
 use Rattle.moxi_print.specs.Declarations.{shown_symbols}
-use Rattle.moxi_print.specs.Shown.{Shown, group, Showns, no_showns, shown, joined, Shows, ShowEach}
+use Rattle.moxi_print.specs.Shown.{group, Shows, ShowEach}
 use Rattle.moxi_print.specs.Terms.{name_at, symbol, variable_names}
 use Rattle.moxi_print.proofs.StandingPlaces.{same_bytes}
 use Rattle.moxi_print.proofs.StandingShapes as shape
@@ -31,14 +30,14 @@ use Rattle.moxi_systems.specs.declared.uses.Use.{Use}
 use Rattle.moxi_systems.specs.Attributes.{is_list_form}
 use Rattle.moxi_systems.specs.Collecting.{fails_if}
 use Rattle.moxi_systems.specs.Declarations.{are_symbols}
-use Rattle.moxi_systems.specs.Entries.{names_with}
-use Rattle.moxi_systems.specs.Printing.{names_of, shown_names, shown_subsystem, shown_subsystems}
+use Rattle.moxi_systems.specs.Printing.{names_of, shown_subsystem, shown_subsystems}
 use Rattle.moxi_systems.specs.Script.{PlainSystem, system_at}
-use Rattle.moxi_systems.specs.Shapes.{HeadedForms, NamedForm, headed, named, parts_of}
+use Rattle.moxi_systems.specs.Shapes.{HeadedForms, headed}
 use Rattle.moxi_systems.specs.Spelling.{actual_numbers}
 use Rattle.moxi_systems.specs.Uses as uses
 use Rattle.moxi_systems.specs.Whole.{IsWholeSubsystem, subsystem_names}
 use Rattle.moxi_systems.proofs.AgainAttributes.{IsTail, attribute_forms, tail_end, tail_more}
+use Rattle.moxi_systems.proofs.AgainParts.{first_or, rest_of}
 use Rattle.moxi_systems.proofs.AgainShapes.{is_attribute, is_listed, is_named, named_form}
 use Rattle.moxi_systems.proofs.WholeNames.{Absent, absent_parts, fresh_first, is_absent, or_parts}
 use Rattle.moxi_systems.proofs.WholeParts.{get_below}
@@ -51,14 +50,6 @@ HaveSorts vs [] [] = Unit {0}
 HaveSorts vs [] (s ∷ ss) = ⊥
 HaveSorts vs (n ∷ ns) [] = ⊥
 HaveSorts vs (n ∷ ns) (s ∷ ss) = (slice_get (sorts_of vs) n ≡ Some s) × HaveSorts vs ns ss
-
-abbrev first_or : {A : Type 0} → A → List A → A
-first_or d [] = d
-first_or d (x ∷ xs) = x
-
-abbrev rest_of : {A : Type 0} → List A → List A
-rest_of [] = []
-rest_of (x ∷ xs) = xs
 
 have_sorts : (vs : List Variable) (ns : List ℕ) (ss : List Sort) → map (slice_get (sorts_of vs)) ns ≡ map Some ss → HaveSorts vs ns ss
 have_sorts vs [] [] h = tt

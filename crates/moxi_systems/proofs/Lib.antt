@@ -14,6 +14,7 @@ pub mod WholeScopes
 pub mod WholeFormulas
 pub mod WholeLabels
 pub mod WholeSystems
+pub mod AgainParts
 pub mod AgainShapes
 pub mod AgainEntries
 pub mod NamesLaws

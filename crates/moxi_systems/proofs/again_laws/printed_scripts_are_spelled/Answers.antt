@@ -2,4 +2,4 @@ use Rattle.moxi_systems.proofs.AgainScript.{script_read}
 use Rattle.moxi_systems.proofs.again_laws.printed_scripts_are_spelled.Goals as goal
 
 pub returns : goal.returns
-returns c = script_read
+returns c = script_read c.shown_terms_are_read.ensures c.shown_sorts_are_read.ensures.read c.shown_sorts_are_read.ensures.stand
