@@ -1,11 +1,9 @@
 -- No subsystem contains its system in a whole script that is shown and read again.
 use Rattle.std.proofs.Common.{◌≡◌, ℕ, suc, ◌+◌, ◌<◌, ◌≤◌, nat_lt, true, false, cond, List, [], ◌∷◌, ◌++◌, length, refl, ap, ◌∙◌, arith}
 use Rattle.std.proofs.lemmas.Bool.Decides.{nat_tests}
-use Rattle.digraph.specs.Graph.{leads}
 use Rattle.moxi_terms.specs.Names.{are_fresh, place_of}
 use Rattle.moxi_systems.specs.declared.script.Subsystem.{Subsystem}
 use Rattle.moxi_systems.specs.declared.uses.Use.{Use}
-use Rattle.moxi_systems.specs.Collecting.{fails_if}
 use Rattle.moxi_systems.specs.Cycles as cycles
 use Rattle.moxi_systems.specs.Cycles.{nodes_from}
 use Rattle.moxi_systems.specs.Script.{PlainSystem}
@@ -13,8 +11,8 @@ use Rattle.moxi_systems.specs.Systems.{SystemReading}
 use Rattle.moxi_systems.specs.Whole.{NoneContainsItself, all_subsystem_rows, containing_rows, count_subsystems, subsystem_graph, subsystem_rows, system_names}
 use Rattle.moxi_systems.proofs.AgainCommands.{AgreeSystems}
 use Rattle.moxi_systems.proofs.AgainLinks.{system_place}
-use Rattle.moxi_systems.proofs.AgainParts.{both_nil}
 use Rattle.moxi_systems.proofs.AgainUses.{AgreeUses}
+use Rattle.moxi_systems.proofs.CycleLaws.{all_never}
 
 uses_long : (names : List (List ℕ)) (all : List PlainSystem) (bs : List Subsystem) (us : List Use) → AgreeUses names all bs us → length us ≡ length bs
 uses_long names all [] [] a = refl
@@ -72,19 +70,4 @@ module _ (ss : List PlainSystem) (fresh : are_fresh [] (system_names ss) ≡ tru
       ∙ ap (λ rows. all_subsystem_rows (count_subsystems ss) ss ++ rows) (containing_same names ss ss rs 0 a)
 
   pub cycles_pass : (rs : List SystemReading) → AgreeSystems (system_names ss) ss ss rs → NoneContainsItself ss → cycles.cycle_failures rs (system_names ss) ≡ []
-  cycles_pass rs a none =
-      let g = subsystem_graph ss in
-      ap (λ g. cycles.all_cycles g 0 rs) (graph_same rs a) ∙ all_pass 0 rs (λ k l h. none k (let e : cycles.count_uses rs ≡ count_subsystems ss = count_same (system_names ss) ss ss rs a in omega arith))
-    where
-      uses_pass : (node : ℕ) (us : List Use) → ((k : ℕ) → node ≤ k → k < node + length us → leads (subsystem_graph ss) (suc (length (subsystem_graph ss))) k k ≡ false) → cycles.use_cycles (subsystem_graph ss) node us ≡ []
-      uses_pass node [] f = refl
-      uses_pass node (u ∷ us) f =
-          both_nil (cycles.use_tests (subsystem_graph ss) node u) (cycles.use_cycles (subsystem_graph ss) (suc node) us) (ap (λ b. fails_if b 11 u.place) (f node (omega arith) (omega arith)))
-          (uses_pass (suc node) us (λ k l h. f k (omega arith) (omega arith)))
-
-      all_pass : (node : ℕ) (rs : List SystemReading) → ((k : ℕ) → node ≤ k → k < node + cycles.count_uses rs → leads (subsystem_graph ss) (suc (length (subsystem_graph ss))) k k ≡ false)
-          → cycles.all_cycles (subsystem_graph ss) node rs ≡ []
-      all_pass node [] f = refl
-      all_pass node (r ∷ rs) f =
-          both_nil (cycles.use_cycles (subsystem_graph ss) node r.uses) (cycles.all_cycles (subsystem_graph ss) (node + length r.uses) rs) (uses_pass node r.uses (λ k l h. f k l (omega arith)))
-          (all_pass (node + length r.uses) rs (λ k l h. f k (omega arith) (omega arith)))
+  cycles_pass rs a none = ap (λ g. cycles.all_cycles g 0 rs) (graph_same rs a) ∙ all_never (subsystem_graph ss) 0 rs none

@@ -149,7 +149,6 @@ more_labels s locals name k f fs before ls p t ts rest key one listed r = record
 pub labels_read : (s : ScopeState) (back : ReadsBack s) (vs : List Variable) (locals : List Local) (name : List ℕ) (k : Key) (fs : List PlainFormula) (before : List (List ℕ)) (ls : FormulaLists) (ts : form.Trees) (rest : Showns)
     → locals ≡ answer.locals_of vs → IsLabelKey name k → AreFormulas s vs fs → are_fresh before (formula_names fs) ≡ true → Cover before ls
     → ShowEach ts (joined (shown_labels s (variable_names vs) name fs) rest) → AreReadLabels s locals k fs before ls ts rest
-unfolding shown_labels
 labels_read s back vs locals name k [] before ls ts rest same key w d c h = record {
   more = ts;
   show_more = h;

@@ -195,7 +195,6 @@ more_queries fs gs hs q qs before p t ts new one r =
 pub queries_read : (fs gs hs : List PlainFormula) (qs : List Query) (before : List (List ℕ)) (ts : form.Trees) → AreThree (formula_names fs) (formula_names gs) (formula_names hs)
     → AllByRecursion (IsWholeQuery (length (formula_names fs)) (length (formula_names gs)) (length (formula_names hs))) qs → are_fresh before (whole.query_names qs) ≡ true
     → ShowEach ts (shown_queries (formula_names fs) (formula_names gs) (formula_names hs) qs) → AreReadQueries fs gs hs qs before ts
-unfolding shown_queries
 queries_read fs gs hs [] before form.no_trees three w d h = record { is = refl; pass = refl; no_labels = λ s locals. (refl, refl); tail = tail_end Check }
 queries_read fs gs hs [] before (form.tree t ts) three w d h = absurd h
 queries_read fs gs hs (q ∷ qs) before ts three w d h =

@@ -185,7 +185,6 @@ more_uses names all locals b bs before p f ts new one r = record {
 
 pub uses_read : (names : List (List ℕ)) (all : List PlainSystem) (vs : List Variable) (bs : List script.Subsystem) (before : List (List ℕ)) (ts : form.Trees) → are_fresh [] (variable_names vs) ≡ true
     → AllByRecursion (IsWholeSubsystem all vs) bs → are_fresh before (subsystem_names bs) ≡ true → ShowEach ts (shown_subsystems names (variable_names vs) bs) → AreReadUses names all (locals_of vs) bs before ts
-unfolding shown_subsystems
 uses_read names all vs [] before form.no_trees fresh w d h = record { agree = tt; pass = refl; tail = tail_end System }
 uses_read names all vs [] before (form.tree t ts) fresh w d h = absurd h
 uses_read names all vs (b ∷ bs) before ts fresh w d h =
