@@ -97,12 +97,12 @@ pub functions_stand : TermsStandOn → (s : ScopeState) → IsWholeScope s → A
 functions_stand on s w =
     all_by_place (StandsInAll s) s.functions
     (λ n f h.
-      let g = w.functions n f h in
-      record {
-        parameters = g.parameters.sorts;
-        result = (w.scope.functions n f h).result;
-        body = on (over (before s n) f.parameters Refused) [] f.body f.result s g.body (before_grows s w n);
-      })
+    let g = w.functions n f h in
+    record {
+      parameters = g.parameters.sorts;
+      result = (w.scope.functions n f h).result;
+      body = on (over (before s n) f.parameters Refused) [] f.body f.result s g.body (before_grows s w n);
+    })
 
 -- NAMES OF SORTS
 

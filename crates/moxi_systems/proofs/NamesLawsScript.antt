@@ -270,6 +270,6 @@ module _ (names : TermNamesAreSpellable) where
           logic = i.logic;
           scope = i.scope;
           systems = all_map (spelling.system_of r.system_names) IsSpellableSystem r.systems
-          (all_of IsSpellableSystemReading (λ (x : SystemReading). IsSpellableSystem (spelling.system_of r.system_names x)) r.systems (λ x f. f r.system_names) i.systems);
+              (all_of IsSpellableSystemReading (λ (x : SystemReading). IsSpellableSystem (spelling.system_of r.system_names x)) r.systems (λ x f. f r.system_names) i.systems);
           check = check r.system_names;
         })

@@ -118,11 +118,10 @@ module _ (terms : TermsCanBeShown) (sorts : SortsCanBeShown) (stand : SortsStand
 
   functions_shown : (fs : List PlainFunction) → AllByRecursion (StandsInAll s) fs → AllByRecursion (λ (f : PlainFunction). IsSpellable f.name) fs → AllByRecursion IsSpellableFunction fs → AllCanBeShown (shown_functions s fs)
   functions_shown [] i n h = tt
-  functions_shown (f ∷ fs) i n h =
-      (
-        (refl, (n.0, (variables_shown f.parameters i.0.parameters h.0.parameters, (sort_shown f.result i.0.result, (term_shown f.parameters Refused f.body f.result h.0.parameters i.0.body h.0.body, tt))))),
-        functions_shown fs i.1 n.1 h.1,
-      )
+  functions_shown (f ∷ fs) i n h = (
+    (refl, (n.0, (variables_shown f.parameters i.0.parameters h.0.parameters, (sort_shown f.result i.0.result, (term_shown f.parameters Refused f.body f.result h.0.parameters i.0.body h.0.body, tt))))),
+    functions_shown fs i.1 n.1 h.1,
+  )
 
   -- LISTS AND FORMULAS
 
