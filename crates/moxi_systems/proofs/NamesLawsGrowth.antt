@@ -19,9 +19,9 @@ use Rattle.moxi_print.specs.Standing.{Stands}
 use Rattle.moxi_print.specs.StandingGrows.{Grows, in_scope}
 use Rattle.moxi_print.specs.StandingReads.{HasSortNames}
 use Rattle.moxi_systems.specs.Whole.{IsWholeScope, before, is_fixed_sort, is_fixed_term, over}
-use Rattle.moxi_systems.proofs.WholeNames.{Absent, absent_append, absent_parts, fresh_first, fresh_split, is_absent, or_both, or_parts, other_way}
+use Rattle.moxi_systems.proofs.WholeNames.{Absent, absent_parts, fresh_first, fresh_split, is_absent, or_both, or_parts, other_way}
 use Rattle.moxi_systems.proofs.WholeParts.{all_of, all_parts, map_append}
-use Rattle.moxi_systems.proofs.WholeScopes.{IsNewTerm, among_absent, new_term, term_new}
+use Rattle.moxi_systems.proofs.WholeScopes.{term_new}
 
 -- a term that can stand in a scope can stand in one that has grown from it
 abbrev pub TermsStandOn : Type 0

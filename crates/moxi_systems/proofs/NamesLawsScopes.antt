@@ -1,6 +1,5 @@
 -- What printable forms declare has names that can be spelled.
-use Rattle.std.proofs.Common.{◌≡◌, ℕ, Bool, true, false, not, cond, Option, None, Some, List, [], ◌∷◌, ◌++◌}
-use Rattle.std.specs.List.{AllByRecursion}
+use Rattle.std.proofs.Common.{ℕ, not, Option, None, Some, List, [], ◌∷◌}
 use Rattle.text_core.specs.declared.place.Place.{Place}
 use Rattle.moxi_sexpr.specs.Printing.{ArePrintable, IsPrintable}
 use Rattle.moxi_sexpr.specs.Tree as form

@@ -1,5 +1,5 @@
 -- A script that printable forms spell has names that can be spelled: its systems, its check and what its commands declare.
-use Rattle.std.proofs.Common.{◌≡◌, ℕ, Bool, true, false, cond, is_none, IfSome, Option, None, Some, List, [], ◌∷◌, ◌++◌, map, sym, subst}
+use Rattle.std.proofs.Common.{ℕ, Bool, true, false, cond, is_none, IfSome, Option, None, Some, List, [], ◌∷◌, sym, subst}
 use Rattle.std.specs.List.{AllByRecursion}
 use Rattle.text_core.specs.declared.place.Place.{Place}
 use Rattle.moxi_sexpr.specs.Printing.{ArePrintable, IsPrintable}
@@ -29,15 +29,14 @@ use Rattle.moxi_systems.specs.Commands as commands
 use Rattle.moxi_systems.specs.Commands.{Reading, command_named, first_check, logic_of, logic_symbol, nothing_read, reading_after, with_command, with_form}
 use Rattle.moxi_systems.specs.Declarations.{are_symbols}
 use Rattle.moxi_systems.specs.Formulas.{formula_term, term_of}
-use Rattle.moxi_systems.specs.Labels as labels
 use Rattle.moxi_systems.specs.Labels.{FormulaLists, is_formula_key, is_label, labels_after, labels_with, no_labels, with_formula, with_named}
 use Rattle.moxi_systems.specs.Lists.{value_at}
 use Rattle.moxi_systems.specs.NamesOfScripts.{DeclaresSpellable, HasSpellableNames, IsSpellableCheck, IsSpellableFormula, IsSpellableSystem}
-use Rattle.moxi_systems.specs.QueryReading.{forms_among, names_after, no_names, queries_after, queries_among, queries_in, queries_named, query_forms, query_of}
+use Rattle.moxi_systems.specs.QueryReading.{forms_among, queries_after, queries_among, queries_in, queries_named, query_forms, query_of}
 use Rattle.moxi_systems.specs.Script.{PlainFormula, PlainScript}
 use Rattle.moxi_systems.specs.Shapes.{HeadedForms, NamedForm, headed, named, parts_of}
 use Rattle.moxi_systems.specs.Spelling as spelling
-use Rattle.moxi_systems.specs.Spelling.{SpellsScript, reading_of, script_with, subsystem_of}
+use Rattle.moxi_systems.specs.Spelling.{SpellsScript, reading_of, subsystem_of}
 use Rattle.moxi_systems.specs.Systems as systems
 use Rattle.moxi_systems.specs.Systems.{SystemReading, bare_system, locals_of, read_systems}
 use Rattle.moxi_systems.specs.Uses.{actuals_in, use_among, use_headed, use_named, use_of, uses_in}

@@ -1,5 +1,5 @@
 -- What is shown of a whole script can be shown, where its names can be spelled.
-use Rattle.std.proofs.Common.{◌≡◌, ℕ, zero, suc, Bool, true, false, IfSome, Option, None, Some, List, [], ◌∷◌, ◌++◌, map, refl, sym, subst}
+use Rattle.std.proofs.Common.{ℕ, zero, suc, IfSome, Option, None, Some, List, [], ◌∷◌, ◌++◌, map, refl, sym, subst}
 use Rattle.std.specs.Prelude.{IsTrue, codes}
 use Rattle.std.specs.List.{AllByRecursion}
 use Rattle.moxi_sexpr.specs.Atoms.{is_simple}
@@ -11,7 +11,6 @@ use Rattle.moxi_terms.specs.declared.names.Local.{Local}
 use Rattle.moxi_terms.specs.declared.term.Enumeration.{Enumeration}
 use Rattle.moxi_terms.specs.declared.term.NamedSort.{NamedSort}
 use Rattle.moxi_terms.specs.declared.term.Variable.{Variable}
-use Rattle.moxi_terms.specs.Answer.{locals_of}
 use Rattle.moxi_terms.specs.Names.{all_constants}
 use Rattle.moxi_terms.specs.Reading as reading
 use Rattle.moxi_terms.specs.Reading.{Context}
@@ -27,7 +26,7 @@ use Rattle.moxi_print.specs.StandingReads.{HasSortNames, StandsSort}
 use Rattle.moxi_print.specs.Terms.{name_at, shown_sort, shown_term, shown_variables, variable_names}
 use Rattle.moxi_systems.specs.declared.script.Query.{Query}
 use Rattle.moxi_systems.specs.declared.script.Subsystem.{Subsystem}
-use Rattle.moxi_systems.specs.NamesOfScripts.{DeclaresSpellable, HasSpellableNames, IsSpellableCheck, IsSpellableFormula, IsSpellableFunction, IsSpellableSystem, VariablesAreSpellable}
+use Rattle.moxi_systems.specs.NamesOfScripts.{HasSpellableNames, IsSpellableCheck, IsSpellableFormula, IsSpellableFunction, IsSpellableSystem, VariablesAreSpellable}
 use Rattle.moxi_systems.specs.Printing as print
 use Rattle.moxi_systems.specs.Printing.{all_queries, attribute, check_variables, formula_attribute, formula_names, list_attribute, names_of, query_names, shown_check, shown_command, shown_conditions, shown_enumerations, shown_formulas, shown_functions, shown_label, shown_labels, shown_lists, shown_logic, shown_names, shown_queries, shown_script, shown_sorts, shown_subsystem, shown_subsystems, shown_system, shown_systems}
 use Rattle.moxi_systems.specs.Script.{PlainCheck, PlainFormula, PlainScript, PlainSystem, variables_in}

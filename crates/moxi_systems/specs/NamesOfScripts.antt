@@ -1,5 +1,5 @@
 -- Scripts of which each name can be spelled (SMT-LIB 2.6, section 3.1).
-use Rattle.std.specs.Prelude.{ℕ, Option, List, IfSome}
+use Rattle.std.specs.Prelude.{List, IfSome}
 use Rattle.std.specs.List.{AllByRecursion}
 use Rattle.moxi_terms.specs.declared.term.NamedSort.{NamedSort}
 use Rattle.moxi_terms.specs.declared.term.Variable.{Variable}
