@@ -5,6 +5,7 @@ mod expressions;
 mod flat;
 mod forms;
 mod formulas;
+mod fronts;
 mod items;
 mod laws;
 mod naming;
@@ -13,6 +14,7 @@ mod nodes;
 mod numbers;
 mod origins;
 mod symbols;
+mod width;
 
 pub use expressions::{
     FlatBranch, FlatBranches, FlatExpr, FlatExprs, FlatLink, FlatLinks, FlatShape,
@@ -25,3 +27,4 @@ pub use naming::Naming;
 pub use numbers::{Bodies, Numbers, numbers_of, paths_of};
 pub use origins::{Content, Origin, Origins, origins_in};
 pub use symbols::{Symbols, symbols_in};
+pub use width::width_of;
