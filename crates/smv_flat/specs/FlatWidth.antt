@@ -17,7 +17,8 @@ use Rattle.smv_flat.specs.FlatForms.{Form, PlainFlat}
 -- the number of binary digits, where at most so many are counted
 abbrev pub digits_within : ℕ → ℕ → ℕ
 digits_within zero n = 0
-digits_within (suc most) n = if n == 0 then 0 else digits_within most (n / 2) + 1
+digits_within (suc most) zero = 0
+digits_within (suc most) (suc n) = suc (digits_within most (suc n / 2))
 
 abbrev pub binary_digits : ℕ → ℕ
 binary_digits n = digits_within n n

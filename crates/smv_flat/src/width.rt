@@ -1,5 +1,5 @@
 // The width of the integers of a flat form.
-ghost use Rattle.std.specs.Prelude.{◌≡◌, ℤ, negsuc, map, max, option_map, Option};
+ghost use Rattle.std.specs.Prelude.{◌≡◌, ◌≤◌, ℤ, negsuc, map, max, option_map, Option};
 ghost use Rattle.smv_types.specs.View.{seen};
 ghost use Rattle.smv_flat.specs.FlatTree.{flat_links_of, flat_branches_of, flat_trees_of};
 ghost use Rattle.smv_flat.specs.FlatForms.{PlainFlat};
@@ -15,8 +15,10 @@ use crate::items::FlatItem;
 use smv_text::{Function, Infix};
 use smv_types::Ty;
 
+#[tactic(auto, using(crate::proofs::WidthLemmas::leading_digits, crate::proofs::WidthLemmas::digits_most))]
 fn digits(n: u64) -> u32
-    ensures { result ≡ binary_digits n }
+    ensures value { result ≡ binary_digits n }
+    ensures bound { result ≤ 64 }
 {
     64 - n.leading_zeros()
 }
@@ -76,7 +78,9 @@ fn expr_width(expr: &FlatExpr) -> u32
         | FlatShape::Symbol(_)
         | FlatShape::Item(_, _) => own,
         FlatShape::Prefix(_, _, operand) => greater(own, expr_width(operand)),
-        FlatShape::Chain(first, links) => greater(own, chain_width(first, links)),
+        FlatShape::Chain(first, links) => {
+            greater(own, greater(expr_width(first), links_width(first.ty, links)))
+        }
         FlatShape::Choice(branches, last) => {
             greater(own, greater(branches_width(branches), expr_width(last)))
         }
@@ -88,30 +92,29 @@ fn expr_width(expr: &FlatExpr) -> u32
     }
 }
 
-// The operands of a chain, and the fronts that end with them.
-#[cycle(width)]
-fn chain_width(first: &FlatExpr, links: &[FlatLink]) -> u32
-    ensures { result ≡ max (tree_width (plain_flat first.now)) (links_width (flat_type (plain_flat first.now)) (flat_links_of (map plain_flat_link links.now))) }
+// What an operand of this width counts behind an operator: the amount of a shift doesn't.
+fn operand_width(op: Infix, width: u32) -> u32
+    ensures { result ≡ operand_width op width }
 {
-    let mut width = expr_width(first);
-    let mut whole = first.ty;
+    match op {
+        Infix::ShiftLeft | Infix::ShiftRight => 0,
+        _ => width,
+    }
+}
+
+// The operands of a chain behind its operators and the fronts that end with them, given the type of what stands before.
+#[cycle(width)]
+fn links_width(first: Option<Ty>, links: &[FlatLink]) -> u32
+    ensures { result ≡ links_width (option_map seen first) (flat_links_of (map plain_flat_link links.now)) }
+{
+    let mut width = 0;
+    let mut whole = first;
     for link in links {
-        let operand = operand_width(link.op, &link.operand);
+        let operand = operand_width(link.op, expr_width(&link.operand));
         whole = front(link.op, whole, link.operand.ty, divisor_of(&link.operand));
         width = greater(width, greater(operand, own_width(whole)));
     }
     width
-}
-
-// The operand behind an operator; a shift's amount doesn't count.
-#[cycle(width)]
-fn operand_width(op: Infix, operand: &FlatExpr) -> u32
-    ensures { result ≡ operand_width op (tree_width (plain_flat operand.now)) }
-{
-    match op {
-        Infix::ShiftLeft | Infix::ShiftRight => 0,
-        _ => expr_width(operand),
-    }
 }
 
 #[cycle(width)]
