@@ -18,3 +18,4 @@ pub mod FlatShapes
 pub mod FormLemmas
 pub mod WidthLemmas
 pub mod FrontLemmas
+pub mod WidthLaw

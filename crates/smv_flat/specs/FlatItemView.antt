@@ -4,4 +4,4 @@ use Rattle.smv_flat.specs.declared.items.FlatItem.{FlatItem}
 use Rattle.smv_flat.specs.FlatItems.{PlainFlatItem}
 
 abbrev pub item_plain : FlatItem → PlainFlatItem
-item_plain x = record { name = x.name; instance = x.instance; kind = x.kind; type = seen x.ty; members = x.members }
+item_plain m = record { name = m.name; instance = m.instance; kind = m.kind; type = seen m.ty; members = m.members }

@@ -44,13 +44,14 @@ own_width (Some t) = integers_width t
 abbrev pub Holds : ℕ → ℤ → Type 0
 Holds w z = (neg_ℤ (pos (2 ^ (w - 1))) ≤ℤ z) × (z <ℤ pos (2 ^ (w - 1)))
 
-pub record IsLeastWidth (z : ℤ) (w : ℕ) : Type 0 where
+-- each integer of the interval has a place in this width, and in no lesser one
+pub record IsLeastWidth (low high : ℤ) (w : ℕ) : Type 0 where
   pub some : 1 ≤ w
-  pub holds : Holds w z
-  pub least : (v : ℕ) → 1 ≤ v → Holds v z → w ≤ v
+  pub holds : (z : ℤ) → low ≤ℤ z → z ≤ℤ high → Holds w z
+  pub least : (v : ℕ) → 1 ≤ v → ((z : ℤ) → low ≤ℤ z → z ≤ℤ high → Holds v z) → w ≤ v
 
 abbrev pub WidthIsLeast : Type 0
-WidthIsLeast = (z : ℤ) → IsLeastWidth z (integer_width z)
+WidthIsLeast = (low high : ℤ) → low ≤ℤ high → IsLeastWidth low high (interval_width low high)
 
 -- ---- the fronts of a chain that is read from the left
 
