@@ -2,7 +2,7 @@
 use Rattle.std.proofs.Common.{◌≡◌, ℕ, ◌+◌, ◌-◌, ◌^◌, ◌<◌, ◌≤◌, max, ℤ, pos, negsuc, neg_ℤ, ◌≤ℤ◌, ◌<ℤ◌, ap, arith}
 use Rattle.std.proofs.Math.Pow.{pow_mono}
 use Rattle.std.proofs.lemmas.Int.{ints}
-use Rattle.smv_flat.specs.FlatWidth.{binary_digits, integer_width, interval_width, Holds, IsLeastWidth, WidthIsLeast}
+use Rattle.smv_flat.specs.FlatWidth.{binary_digits, integer_width, interval_width, Holds, IsLeastWidth, WidthIsLeast, IntervalWidthIsLeast}
 use Rattle.smv_flat.proofs.WidthLemmas.{digits_below, digits_most}
 
 -- ---- one integer
@@ -50,7 +50,14 @@ itself : (z : ℤ) → z ≤ℤ z
 itself z = omega (arith, ints)
 
 pub width_is_least : WidthIsLeast
-width_is_least low high l =
+width_is_least z = record {
+  some = own_some z;
+  holds = λ y p q. between (integer_width z) z z y (holds_own z) (holds_own z) p q;
+  least = λ v s h. own_least z v s (h z (itself z) (itself z));
+}
+
+pub interval_width_is_least : IntervalWidthIsLeast
+interval_width_is_least low high l =
     let w = interval_width low high in
     let left : Holds (interval_width low high) low = wider (integer_width low) (interval_width low high) low (omega arith) (holds_own low) in
     let right : Holds (interval_width low high) high = wider (integer_width high) (interval_width low high) high (omega arith) (holds_own high) in
@@ -58,7 +65,7 @@ width_is_least low high l =
       some = let s : 1 ≤ integer_width low = own_some low in omega (arith, s);
       holds = λ z p q. between (interval_width low high) low high z left right p q;
       least = λ v s h.
-      let p : integer_width low ≤ v = own_least low v s (h low (itself low) l) in
-      let q : integer_width high ≤ v = own_least high v s (h high l (itself high)) in
-      omega (arith, p, q);
+          let p : integer_width low ≤ v = own_least low v s (h low (itself low) l) in
+          let q : integer_width high ≤ v = own_least high v s (h high l (itself high)) in
+          omega (arith, p, q);
     }

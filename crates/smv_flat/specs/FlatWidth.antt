@@ -51,7 +51,10 @@ pub record IsLeastWidth (low high : ℤ) (w : ℕ) : Type 0 where
   pub least : (v : ℕ) → 1 ≤ v → ((z : ℤ) → low ≤ℤ z → z ≤ℤ high → Holds v z) → w ≤ v
 
 abbrev pub WidthIsLeast : Type 0
-WidthIsLeast = (low high : ℤ) → low ≤ℤ high → IsLeastWidth low high (interval_width low high)
+WidthIsLeast = (z : ℤ) → IsLeastWidth z z (integer_width z)
+
+abbrev pub IntervalWidthIsLeast : Type 0
+IntervalWidthIsLeast = (low high : ℤ) → low ≤ℤ high → IsLeastWidth low high (interval_width low high)
 
 -- ---- the fronts of a chain that is read from the left
 

@@ -1,6 +1,6 @@
 // Laws of flat forms; these functions do nothing.
 ghost use Rattle.smv_flat.specs.FlatLaws.{RowIsThere, RowIsOne, SameTruth};
-ghost use Rattle.smv_flat.specs.FlatWidth.{WidthIsLeast};
+ghost use Rattle.smv_flat.specs.FlatWidth.{WidthIsLeast, IntervalWidthIsLeast};
 
 /// Each state and label of a model in which nothing reaches itself has a row that meets the flat form's bodies.
 pub fn row_is_there()
@@ -18,7 +18,12 @@ pub fn same_truth()
     ensures { SameTruth }
 {}
 
-/// The width of an interval is the least in which two's complement has each of its integers.
+/// The width of an integer is the least, of at least 1, in which two's complement has it.
 pub fn width_is_least()
     ensures { WidthIsLeast }
+{}
+
+/// The width of an interval is the least in which two's complement has each of its integers.
+pub fn interval_width_is_least()
+    ensures { IntervalWidthIsLeast }
 {}

@@ -79,7 +79,10 @@ fn expr_width(expr: &FlatExpr) -> u32
         | FlatShape::Item(_, _) => own,
         FlatShape::Prefix(_, _, operand) => greater(own, expr_width(operand)),
         FlatShape::Chain(first, links) => {
-            greater(own, greater(expr_width(first), links_width(first.ty, links)))
+            greater(
+                own,
+                greater(expr_width(first), links_width(first.ty, links)),
+            )
         }
         FlatShape::Choice(branches, last) => {
             greater(own, greater(branches_width(branches), expr_width(last)))
