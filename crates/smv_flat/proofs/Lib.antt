@@ -19,3 +19,4 @@ pub mod FormLemmas
 pub mod WidthLemmas
 pub mod FrontLemmas
 pub mod WidthLaw
+pub mod SourceWidths

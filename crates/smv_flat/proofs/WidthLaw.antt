@@ -30,7 +30,7 @@ own_least (negsuc n) v some h =
     let most : binary_digits n ≤ v - 1 = digits_most (v - 1) n (omega (arith, ints, above)) in
     omega (arith, some, most)
 
-own_some : (z : ℤ) → 1 ≤ integer_width z
+pub own_some : (z : ℤ) → 1 ≤ integer_width z
 own_some (pos n) = omega arith
 own_some (negsuc n) = omega arith
 

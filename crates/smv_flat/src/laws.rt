@@ -1,6 +1,7 @@
 // Laws of flat forms; these functions do nothing.
 ghost use Rattle.smv_flat.specs.FlatLaws.{RowIsThere, RowIsOne, SameTruth};
 ghost use Rattle.smv_flat.specs.FlatWidth.{WidthIsLeast, IntervalWidthIsLeast};
+ghost use Rattle.smv_flat.specs.SourceWidth.{SameWidth};
 
 /// Each state and label of a model in which nothing reaches itself has a row that meets the flat form's bodies.
 pub fn row_is_there()
@@ -26,4 +27,10 @@ pub fn width_is_least()
 /// The width of an interval is the least in which two's complement has each of its integers.
 pub fn interval_width_is_least()
     ensures { IntervalWidthIsLeast }
+{}
+
+/// The flat form of an expression whose checks hold has the width that the types of the expression's subexpressions and of the
+/// fronts of its chains give.
+pub fn same_width()
+    ensures { SameWidth }
 {}
