@@ -8,9 +8,9 @@ use Rattle.smv_text.specs.declared.tree.Prefix.TheVariants as OfPrefix
 use Rattle.smv_text.specs.declared.tree.Infix.{Infix}
 use Rattle.smv_text.specs.declared.tree.Infix.TheVariants.{Implies, Iff, Or, Xor, Xnor, And, Equal, Unequal, Less, Greater, LessEq, GreaterEq, Member, Union, ShiftLeft, ShiftRight, Plus, Minus, Times, Divide, Mod, Concat}
 use Rattle.smv_text.specs.Tree.{Tree, truth, number, literal, name, prefix, chain, choice, cases, select, call, next, set, range, Links, no_links, link, Branches, no_branches, branch, Trees, no_trees, tree}
-use Rattle.smv_meaning.specs.Expressions.{is_implies, are_implies, is_from_right}
-use Rattle.smv_meaning.specs.Types.{ExprType, truth_type, integer_type, symbol_type, word_type, is_integer_type, in_limit, hull, hull_with, hull_of, first_type, over_both_ends, quotient_type, rest_type, infix_type, divisor_of, is_divisor, is_union, are_same, infix_fits, divides, shifts, joins}
-use Rattle.smv_meaning.specs.Checks.{Check, check, on_all, branches_fit, Position, Named, Typing, single, under_next, across, behind, are_unions, front, front_checks, on_types, both_types, all_types, branches_type, node, passes, typing, linked, link_types, link_checks, value_types, condition_types, branch_checks, tree_types, tree_checks}
+use Rattle.smv_meaning.specs.Expressions.{are_implies, is_from_right}
+use Rattle.smv_meaning.specs.Types.{ExprType, truth_type, integer_type, symbol_type, word_type, is_integer_type, in_limit, hull, hull_with, hull_of, over_both_ends, quotient_type, rest_type, infix_type, divisor_of, is_divisor, is_union, are_same, infix_fits, divides, shifts, joins}
+use Rattle.smv_meaning.specs.Checks.{Check, check, on_all, branches_fit, Position, Named, Typing, single, under_next, across, behind, are_unions, front, front_checks, on_types, both_types, all_types, branches_type, node, passes, typing, linked, link_checks, value_types, condition_types, branch_checks, tree_types, tree_checks}
 use Rattle.smv_meaning.proofs.OperatorLaws.{both_true}
 use Rattle.smv_meaning.proofs.TypeLaws.{absurd_bool}
 use Rattle.smv_meaning.proofs.Typable.{split}
