@@ -46,7 +46,7 @@ flat_own (flat_call t f es) = omega arith
 flat_own (flat_set t es) = omega arith
 flat_own (flat_range t low high) = omega arith
 
-source_own : (names : Path → Named) (at : Position) (e : Tree) → own_width (typing names at e).type ≤ expression_width names at e
+pub source_own : (names : Path → Named) (at : Position) (e : Tree) → own_width (typing names at e).type ≤ expression_width names at e
 source_own names at (truth p b) = omega arith
 source_own names at (number p n) = omega arith
 source_own names at (literal p w) = omega arith

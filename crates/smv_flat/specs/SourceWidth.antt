@@ -1,12 +1,20 @@
 -- The width of the integers of an expression by the types of its parts, and that its flat form has the same.
-use Rattle.std.specs.Prelude.{◌≡◌, ℕ, max, Bool, true, false, ◌&&◌, if◌then◌else◌}
+use Rattle.std.specs.Prelude.{◌≡◌, ℕ, ◌++◌, max, Bool, true, false, ◌&&◌, if◌then◌else◌, List, [], ◌∷◌, map, flat_map, IsTrue}
 use Rattle.text_core.specs.declared.place.Place.{Place}
 use Rattle.smv_text.specs.declared.tree.Path.{Path}
-use Rattle.smv_text.specs.Tree.{Tree, truth, number, literal, name, prefix, chain, choice, cases, select, call, next, set, range, Links, no_links, link, Branches, no_branches, branch, Trees, no_trees, tree}
+use Rattle.smv_text.specs.declared.tree.Parameter.{Parameter}
+use Rattle.smv_text.specs.Tree.{Tree, truth, number, literal, name, prefix, chain, choice, cases, select, call, next, set, range, Links, no_links, link, Branches, no_branches, branch, Trees, no_trees, tree, PlainElement, vars, defines, constants, assigns, init, trans, invar, spec}
 use Rattle.smv_meaning.specs.Expressions.{is_from_right}
-use Rattle.smv_meaning.specs.Checks.{Position, Named, Typing, single, under_next, across, behind, front, typing, passes}
+use Rattle.smv_meaning.specs.Instances.{Instance}
+use Rattle.smv_meaning.specs.Names.{parent_of}
+use Rattle.smv_meaning.specs.Checks.{Position, Named, Typing, single, under_next, across, behind, front, typing, passes, variable_type}
+use Rattle.smv_meaning.specs.Naming.{in_body}
+use Rattle.smv_meaning.specs.Phases.{in_state, in_step, in_assignment, over_instances}
+use Rattle.smv_meaning.specs.Checked.{IsChecked, all_trees}
+use Rattle.smv_meaning.specs.Settled.{types_in}
 use Rattle.smv_flat.specs.FlatTree.{Leaf, flat_tree}
-use Rattle.smv_flat.specs.FlatWidth.{own_width, operand_width, arguments_width, tree_width}
+use Rattle.smv_flat.specs.FlatForms.{flat_of}
+use Rattle.smv_flat.specs.FlatWidth.{own_width, operand_width, arguments_width, tree_width, width_of}
 
 -- The greatest width of an integer's interval among its subexpressions, and among the fronts of its chains that are read from the
 -- left; shift amounts and arguments that are numbers don't count.
@@ -88,3 +96,40 @@ abbrev mutual
 abbrev pub SameWidth : Type 0
 SameWidth = (names : Path → Named) (leaf : Path → Leaf) (at : Position) (under : Bool) (e : Tree) → has_operators e ≡ true
     → passes (typing names at e).checks ≡ true → tree_width (flat_tree names leaf at under e) ≡ expression_width names at e
+
+-- ---- a model
+
+abbrev pub greatest : List ℕ → ℕ
+greatest [] = 0
+greatest (n ∷ ns) = max n (greatest ns)
+
+-- given what the names of its instance are: variables count by their types
+abbrev pub element_widths : (Path → Named) → PlainElement → List ℕ
+element_widths names (vars kind items) = map (λ v. own_width (variable_type v.domain)) items
+element_widths names (defines ds) = map (λ d. expression_width names in_body d.body) ds
+element_widths names (constants cs) = []
+element_widths names (assigns xs) = map (λ a. expression_width names (in_assignment a.when) a.body) xs
+element_widths names (init e) = expression_width names in_state e ∷ []
+element_widths names (trans e) = expression_width names in_step e ∷ []
+element_widths names (invar e) = expression_width names in_state e ∷ []
+element_widths names (spec label e) = expression_width names in_state e ∷ []
+
+-- an actual that is a path counts where that leads
+abbrev pub actual_width : (Path → Named) → Tree → List ℕ
+actual_width names (name p x) = []
+actual_width names e = expression_width names in_body e ∷ []
+
+abbrev pub actual_widths : (Path → Named) → List Parameter → Trees → List ℕ
+actual_widths names [] es = []
+actual_widths names (q ∷ qs) no_trees = []
+actual_widths names (q ∷ qs) (tree e es) = actual_width names e ++ actual_widths names qs es
+
+abbrev pub instance_widths : List Instance → ℕ → Instance → List ℕ
+instance_widths t i at = actual_widths (types_in true t (parent_of at)) at.plan.parameters at.actuals ++ flat_map (element_widths (types_in true t i)) at.plan.elements
+
+-- the greatest width of an integer's interval among the types and the expressions of a model
+abbrev pub model_width : List Instance → ℕ
+model_width t = max 1 (greatest (over_instances (instance_widths t) 0 t))
+
+abbrev pub SameModelWidth : Type 0
+SameModelWidth = (t : List Instance) → IsChecked t → IsTrue (all_trees has_operators t) → width_of (flat_of t) ≡ model_width t

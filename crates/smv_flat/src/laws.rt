@@ -1,7 +1,7 @@
 // Laws of flat forms; these functions do nothing.
 ghost use Rattle.smv_flat.specs.FlatLaws.{RowIsThere, RowIsOne, SameTruth};
 ghost use Rattle.smv_flat.specs.FlatWidth.{WidthIsLeast, IntervalWidthIsLeast};
-ghost use Rattle.smv_flat.specs.SourceWidth.{SameWidth};
+ghost use Rattle.smv_flat.specs.SourceWidth.{SameWidth, SameModelWidth};
 
 /// Each state and label of a model in which nothing reaches itself has a row that meets the flat form's bodies.
 pub fn row_is_there()
@@ -33,4 +33,10 @@ pub fn interval_width_is_least()
 /// fronts of its chains give.
 pub fn same_width()
     ensures { SameWidth }
+{}
+
+/// So has that of a model whose checks hold: its width is the greatest among its variables' types and the widths of its
+/// expressions.
+pub fn same_model_width()
+    ensures { SameModelWidth }
 {}
