@@ -1,10 +1,9 @@
 -- The flat form of a model whose checks hold has the width that the types of the model's expressions give.
-use Rattle.std.proofs.Common.{◌≡◌, ℕ, ◌+◌, ◌≤◌, max, Bool, true, false, ◌&&◌, List, [], ◌∷◌, ◌++◌, map, length, Option, Some, None, refl, sym, ap, ◌∙◌, subst, arith}
+use Rattle.std.proofs.Common.{◌≡◌, ℕ, ◌+◌, ◌≤◌, max, true, false, List, [], ◌∷◌, ◌++◌, map, length, Option, Some, None, refl, sym, ap, ◌∙◌, arith}
 use Rattle.std.specs.Prelude.{flat_map}
 use Rattle.std.specs.List.{list_all}
 use Rattle.std.proofs.lemmas.List.{map-append}
 use Rattle.std.proofs.lemmas.List.Folds.{list_all-append}
-use Rattle.smv_text.specs.declared.tree.Path.{Path}
 use Rattle.smv_text.specs.declared.tree.VarKind.{VarKind}
 use Rattle.smv_text.specs.declared.tree.Parameter.{Parameter}
 use Rattle.smv_text.specs.Heights.{list_of, of_definitions, of_assignments}
@@ -12,8 +11,7 @@ use Rattle.smv_text.specs.Tree.{Tree, truth, number, literal, name, prefix, chai
 use Rattle.smv_meaning.specs.Instances.{Instance}
 use Rattle.smv_meaning.specs.Names.{parent_of}
 use Rattle.smv_meaning.specs.Types.{ExprType}
-use Rattle.smv_meaning.specs.Checks.{Check, check, on_type, on_types, Position, Named, passes, typing, variable_type}
-use Rattle.smv_meaning.specs.Types.{is_truth_type, type_same}
+use Rattle.smv_meaning.specs.Checks.{Position, passes, typing, variable_type}
 use Rattle.smv_meaning.specs.Naming.{in_body}
 use Rattle.smv_meaning.specs.Phases.{in_state, in_step, in_assignment, over_instances, actual_typing, actuals_typing, formula_typing, assigned_typing, element_typing, type_checks}
 use Rattle.smv_meaning.specs.Checked.{instance_all}
