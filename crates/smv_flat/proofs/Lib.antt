@@ -21,3 +21,4 @@ pub mod FrontLemmas
 pub mod WidthLaw
 pub mod SourceWidths
 pub mod ModelWidths
+pub mod SpelledWidths

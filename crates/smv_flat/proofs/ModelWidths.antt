@@ -8,7 +8,7 @@ use Rattle.smv_text.specs.declared.tree.VarKind.{VarKind}
 use Rattle.smv_text.specs.declared.tree.Parameter.{Parameter}
 use Rattle.smv_text.specs.Heights.{list_of, of_definitions, of_assignments}
 use Rattle.smv_text.specs.Tree.{Tree, truth, number, literal, name, prefix, chain, choice, cases, select, call, next, set, range, Trees, no_trees, tree, PlainDomain, boolean, members, between, bits, instance, PlainItem, PlainDefinition, PlainAssignment, PlainElement, vars, defines, constants, assigns, init, trans, invar, spec}
-use Rattle.smv_meaning.specs.Instances.{Instance}
+use Rattle.smv_meaning.specs.Instances.{Instance, instances_of}
 use Rattle.smv_meaning.specs.Names.{parent_of}
 use Rattle.smv_meaning.specs.Types.{ExprType}
 use Rattle.smv_meaning.specs.Checks.{Position, passes, typing, variable_type}
@@ -19,11 +19,13 @@ use Rattle.smv_meaning.specs.Parts.{expressions_in}
 use Rattle.smv_meaning.specs.Settled.{types_in}
 use Rattle.smv_meaning.proofs.OperatorLaws.{both_true}
 use Rattle.smv_meaning.proofs.Typable.{split}
+use Rattle.smv_meaning.proofs.SafeExpressions.{accepted_is_checked_law}
 use Rattle.smv_flat.specs.FlatItems.{Content, variable, definition, actual, Origin, with_content, actual_content, actual_items, domain_content, variable_item, definition_item, element_items, items_here, leaf_in, content_type, type_or_truth, PlainFlatItem, flat_item_of}
 use Rattle.smv_flat.specs.FlatForms.{Form, flat_in, content_form, body_forms, assignment_form, element_forms, forms_here, forms_from}
 use Rattle.smv_flat.specs.FlatWidth.{integers_width, own_width, tree_width, items_width, forms_width}
 use Rattle.smv_flat.specs.SourceWidth.{expression_width, has_operators, greatest, element_widths, actual_width, actual_widths, instance_widths, SameModelWidth}
 use Rattle.smv_flat.proofs.SourceWidths.{source_own, same_width}
+use Rattle.smv_flat.proofs.SpelledWidths.{instances_operators}
 
 -- ---- lists
 
@@ -296,4 +298,6 @@ instances_same t k i (at ∷ rest) w h =
     ap (λ n. max 1 (max n (forms_width (forms_here t k i at ++ forms_from t (k + length (items_here i at)) (i + 1) rest)))) m ∙ joined _ _ _ _ _ _ _ a b f ∙ ap (max 1) (sym g)
 
 pub same_model_width : SameModelWidth
-same_model_width t checked w = instances_same t 0 0 t w checked.types
+same_model_width source end xs spelled needed accepted =
+    let checked = accepted_is_checked_law source needed accepted in
+    instances_same (instances_of source) 0 0 (instances_of source) (instances_operators source xs spelled.0) checked.types

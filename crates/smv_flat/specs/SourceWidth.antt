@@ -1,19 +1,20 @@
 -- The width of the integers of an expression by the types of its parts, and that its flat form has the same.
-use Rattle.std.specs.Prelude.{◌≡◌, ℕ, ◌++◌, max, Bool, true, false, ◌&&◌, if◌then◌else◌, List, [], ◌∷◌, map, flat_map, IsTrue}
+use Rattle.std.specs.Prelude.{◌≡◌, ℕ, ◌++◌, max, Bool, true, false, ◌&&◌, if◌then◌else◌, List, [], ◌∷◌, map, flat_map}
 use Rattle.text_core.specs.declared.place.Place.{Place}
+use Rattle.smv_text.specs.declared.token.Token.{Token}
 use Rattle.smv_text.specs.declared.tree.Path.{Path}
 use Rattle.smv_text.specs.declared.tree.Parameter.{Parameter}
-use Rattle.smv_text.specs.Tree.{Tree, truth, number, literal, name, prefix, chain, choice, cases, select, call, next, set, range, Links, no_links, link, Branches, no_branches, branch, Trees, no_trees, tree, PlainElement, vars, defines, constants, assigns, init, trans, invar, spec}
+use Rattle.smv_text.specs.Tree.{Tree, truth, number, literal, name, prefix, chain, choice, cases, select, call, next, set, range, Links, no_links, link, Branches, no_branches, branch, Trees, no_trees, tree, PlainElement, vars, defines, constants, assigns, init, trans, invar, spec, PlainSource}
+use Rattle.smv_text.specs.Sources.{SpellsSource}
 use Rattle.smv_meaning.specs.Expressions.{is_from_right}
-use Rattle.smv_meaning.specs.Instances.{Instance}
+use Rattle.smv_meaning.specs.Instances.{Instance, instances_of}
 use Rattle.smv_meaning.specs.Names.{parent_of}
 use Rattle.smv_meaning.specs.Checks.{Position, Named, Typing, single, under_next, across, behind, front, typing, passes, variable_type}
 use Rattle.smv_meaning.specs.Naming.{in_body}
-use Rattle.smv_meaning.specs.Phases.{in_state, in_step, in_assignment, over_instances}
-use Rattle.smv_meaning.specs.Checked.{IsChecked, all_trees}
+use Rattle.smv_meaning.specs.Phases.{in_state, in_step, in_assignment, over_instances, IsAccepted}
 use Rattle.smv_meaning.specs.Settled.{types_in}
 use Rattle.smv_flat.specs.FlatTree.{Leaf, flat_tree}
-use Rattle.smv_flat.specs.FlatForms.{flat_of}
+use Rattle.smv_flat.specs.FlatForms.{flat_smv}
 use Rattle.smv_flat.specs.FlatWidth.{own_width, operand_width, arguments_width, tree_width, width_of}
 
 -- The greatest width of an integer's interval among its subexpressions, and among the fronts of its chains that are read from the
@@ -132,4 +133,5 @@ abbrev pub model_width : List Instance → ℕ
 model_width t = max 1 (greatest (over_instances (instance_widths t) 0 t))
 
 abbrev pub SameModelWidth : Type 0
-SameModelWidth = (t : List Instance) → IsChecked t → IsTrue (all_trees has_operators t) → width_of (flat_of t) ≡ model_width t
+SameModelWidth = (source : PlainSource) (end : Place) (xs : List Token) → SpellsSource source end xs → (needed : ℕ) → IsAccepted source needed
+    → width_of (flat_smv source) ≡ model_width (instances_of source)

@@ -35,8 +35,8 @@ pub fn same_width()
     ensures { SameWidth }
 {}
 
-/// So has that of a model whose checks hold: its width is the greatest among its variables' types and the widths of its
-/// expressions.
+/// Of a spelled and accepted model the flat form has the width that the model gives: the greatest among the types of its variables
+/// and the widths of its expressions.
 pub fn same_model_width()
     ensures { SameModelWidth }
 {}
