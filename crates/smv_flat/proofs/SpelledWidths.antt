@@ -1,5 +1,5 @@
 -- In a spelled model each chain has an operator, and an expression of an instance is one of the model's.
-use Rattle.std.proofs.Common.{◌≡◌, ℕ, zero, suc, ◌+◌, Bool, true, false, ◌&&◌, if◌then◌else◌, List, [], ◌∷◌, ◌++◌, length, Option, Some, None, bytes_eq, refl, sym, ap, ◌∙◌}
+use Rattle.std.proofs.Common.{◌≡◌, ℕ, zero, suc, Bool, true, false, ◌&&◌, if◌then◌else◌, List, [], ◌∷◌, ◌++◌, length, Option, Some, None, bytes_eq, refl, sym, ap, ◌∙◌}
 use Rattle.std.specs.Prelude.{flat_map}
 use Rattle.std.specs.List.{list_all}
 use Rattle.std.proofs.lemmas.List.Folds.{list_all-append}
@@ -8,15 +8,14 @@ use Rattle.smv_text.specs.declared.token.Sign.{Sign}
 use Rattle.smv_text.specs.declared.tree.VarKind.{VarKind}
 use Rattle.smv_text.specs.declared.level.Joint.{Joint}
 use Rattle.smv_text.specs.declared.level.Level.{Level}
-use Rattle.smv_text.specs.Tree.{Tree, Links, Branches, Trees, no_trees, tree, PlainDomain, boolean, members, between, bits, instance, PlainItem, PlainDefinition, PlainAssignment, PlainElement, vars, defines, constants, assigns, init, trans, invar, spec, PlainModule, PlainSource}
+use Rattle.smv_text.specs.Tree.{Tree, Links, Branches, Trees, PlainDomain, boolean, members, between, bits, instance, PlainItem, PlainDefinition, PlainAssignment, PlainElement, vars, defines, constants, assigns, init, trans, invar, spec, PlainModule, PlainSource}
 use Rattle.smv_text.specs.Grammar.{Spells, pass, chains, chooses, ranges, prefixes, selects, is_true, is_false, numbers, literals, names, brackets, nexts, calls, sets, switches, SpellsLinks, no_more, one_more, SpellsBranches, otherwise, picks, SpellsListed, last_one, one_before, SpellsCases, last_case, case_before}
-use Rattle.smv_text.specs.Heights.{list_of, of_domain, of_items, of_definitions, of_assignments, of_element, of_elements}
+use Rattle.smv_text.specs.Heights.{list_of, of_domain, of_items, of_definitions, of_assignments, of_element}
 use Rattle.smv_text.specs.Sources.{SpellsActuals, no_actuals, empty_actuals, actuals, SpellsDomain, types, instances, SpellsType, booleans, enumerations, intervals, words, SpellsItems, no_items, item_then, SpellsDefinitions, no_definitions, definition_then, SpellsAssignments, no_assignments, assignment_then, SpellsElement, variables, definitions, symbol_names, assignments, inits, transitions, invariants, specifications, SpellsElements, no_elements, element_then, SpellsModules, no_modules, module_then}
 use Rattle.smv_meaning.specs.Instances.{Instance, module_named, placed, child_in, child_of, with_child, grow_items, grow_elements, grow, main_instance, grown_from, main_name, instances_of}
 use Rattle.smv_meaning.specs.Checked.{instance_all, all_trees}
 use Rattle.smv_meaning.specs.Parts.{expressions_in}
 use Rattle.smv_meaning.proofs.OperatorLaws.{both_true, two_true}
-use Rattle.smv_meaning.proofs.TypeLaws.{absurd_bool}
 use Rattle.smv_flat.specs.SourceWidth.{has_operators, link_operators, branch_operators, part_operators}
 
 -- ---- expressions
