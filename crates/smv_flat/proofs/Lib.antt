@@ -16,3 +16,9 @@ pub mod FlatMade
 pub mod FlatViews
 pub mod FlatShapes
 pub mod FormLemmas
+pub mod WidthLemmas
+pub mod FrontLemmas
+pub mod WidthLaw
+pub mod SourceWidths
+pub mod ModelWidths
+pub mod SpelledWidths
