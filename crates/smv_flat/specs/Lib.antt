@@ -6,3 +6,4 @@ pub mod FlatLaws
 pub mod FlatView
 pub mod FlatOrigins
 pub mod FlatFormulas
+pub mod FlatItemView
