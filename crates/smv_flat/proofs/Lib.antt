@@ -16,3 +16,6 @@ pub mod FlatMade
 pub mod FlatViews
 pub mod FlatShapes
 pub mod FormLemmas
+pub mod WidthLemmas
+pub mod FrontLemmas
+pub mod WidthLaw

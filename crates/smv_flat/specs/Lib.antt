@@ -7,3 +7,4 @@ pub mod FlatView
 pub mod FlatOrigins
 pub mod FlatFormulas
 pub mod FlatItemView
+pub mod FlatWidth

@@ -1,5 +1,6 @@
 // Laws of flat forms; these functions do nothing.
 ghost use Rattle.smv_flat.specs.FlatLaws.{RowIsThere, RowIsOne, SameTruth};
+ghost use Rattle.smv_flat.specs.FlatWidth.{WidthIsLeast, IntervalWidthIsLeast};
 
 /// Each state and label of a model in which nothing reaches itself has a row that meets the flat form's bodies.
 pub fn row_is_there()
@@ -15,4 +16,14 @@ pub fn row_is_one()
 /// states: in the first state, always, and between the two; frozen variables stay alike, and the same invariants are false.
 pub fn same_truth()
     ensures { SameTruth }
+{}
+
+/// The width of an integer is the least, of at least 1, in which two's complement has it.
+pub fn width_is_least()
+    ensures { WidthIsLeast }
+{}
+
+/// The width of an interval is the least in which two's complement has each of its integers.
+pub fn interval_width_is_least()
+    ensures { IntervalWidthIsLeast }
 {}
