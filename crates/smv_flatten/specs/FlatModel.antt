@@ -6,11 +6,12 @@ use Rattle.smv_flat.specs.FlatForms.{PlainFlat}
 use Rattle.smv_flat.specs.FlatFormulas.{form_plain}
 use Rattle.smv_flat.specs.FlatItemView.{item_plain}
 
--- the items and formulas of the code; the weight counts the tokens of the modules' bodies over all instances
+-- the items and formulas of the code; integers have as many bits as the width says, and the weight counts the tokens of the modules' bodies over all instances
 pub record FlatModel : Type 0 where
   pub items : List FlatItem
   pub symbols : List (List ℕ)
   pub formulas : List FlatFormula
+  pub width : ℕ
   pub weight : ℕ
   pub invariants : ℕ
 

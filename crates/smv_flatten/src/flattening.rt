@@ -9,6 +9,7 @@ ghost use Rattle.smv_flat.specs.FlatItems.{origins_of, symbols_of, path_of};
 ghost use Rattle.smv_flat.specs.FlatForms.{forms_of, flat_of, flat_smv};
 ghost use Rattle.smv_flat.specs.FlatFormulas.{form_plain};
 ghost use Rattle.smv_flat.specs.FlatOrigins.{origin_plain};
+ghost use Rattle.smv_flat.specs.FlatWidth.{width_of};
 ghost use Rattle.smv_flatten.specs.FlatModel.{flat_plain};
 ghost use Rattle.smv_flatten.specs.Refusing.{Decides};
 
@@ -22,6 +23,7 @@ use crate::sequences::{FlatFormulas, FlatItems};
 use crate::type_names::TypeNames;
 use smv_flat::{
     FlatFormula, Origin, Symbols, formulas_in, numbers_of, origins_in, paths_of, symbols_in,
+    width_of,
 };
 use smv_meaning::Table;
 use smv_model_types::Types;
@@ -54,6 +56,7 @@ fn flat_formulas<'a>(
 fn flattened<'a>(alloc: Global, table: &Table<'a>, types: &Types<'a>) -> Result<Flat, NoMemory>
     requires { AreTypesOf (map instance_plain table.now) types.now }
     ensures form { IfOk result (λ f. flat_plain f ≡ flat_of (map instance_plain table.now)) }
+    ensures width { IfOk result (λ f. f.width ≡ width_of (flat_of (map instance_plain table.now))) }
     ensures weight { IfOk result (λ f. f.weight ≡ sum_by (λ at. at.plan.tokens) (map instance_plain table.now)) }
     ensures invariants { IfOk result (λ f. f.invariants ≡ length (invariants_in (map instance_plain table.now))) }
 {
@@ -62,6 +65,7 @@ fn flattened<'a>(alloc: Global, table: &Table<'a>, types: &Types<'a>) -> Result<
     let symbols = symbols_in(alloc, table)?;
     let items = flat_items(alloc, table, types, &origins, &paths)?;
     let formulas = flat_formulas(alloc, table, types, &origins, &paths, &symbols)?;
+    let width = width_of(&items, &formulas);
     let names = symbols.names(alloc)?;
     let weight = weight_in(table)?;
     let invariants = invariant_count(table)?;
@@ -69,6 +73,7 @@ fn flattened<'a>(alloc: Global, table: &Table<'a>, types: &Types<'a>) -> Result<
         items: FlatItems::of(items),
         symbols: names,
         formulas: FlatFormulas::of(formulas),
+        width,
         weight,
         invariants,
     })
@@ -80,6 +85,7 @@ pub fn flatten(alloc: Global, source: &Source, needed: u32) -> Result<Flat, Flat
     ensures checks { Decides result (checks_of (plain_source source.now) needed) }
     ensures passes { IfOk result (λ f. IsAccepted (plain_source source.now) needed) }
     ensures form { IfOk result (λ f. flat_plain f ≡ flat_smv (plain_source source.now)) }
+    ensures width { IfOk result (λ f. f.width ≡ width_of (flat_smv (plain_source source.now))) }
     ensures weight { IfOk result (λ f. f.weight ≡ weight_of (plain_source source.now)) }
     ensures invariants { IfOk result (λ f. f.invariants ≡ length (invariants_in (instances_of (plain_source source.now)))) }
 {

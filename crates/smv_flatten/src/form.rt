@@ -12,6 +12,7 @@ pub struct Flat {
     pub(crate) items: FlatItems,
     pub(crate) symbols: Names,
     pub(crate) formulas: FlatFormulas,
+    pub(crate) width: u32,
     pub(crate) weight: u32,
     pub(crate) invariants: u32,
 }
@@ -26,7 +27,7 @@ impl Model for Flat {
 
     ghost coded = { Prim.hlevel (codes, expr.the_row.coded, shape.the_row.coded) };
 
-    ghost view = { λ f. record { items = f.items; symbols = f.symbols; formulas = f.formulas; weight = f.weight; invariants = f.invariants } };
+    ghost view = { λ f. record { items = f.items; symbols = f.symbols; formulas = f.formulas; width = f.width; weight = f.weight; invariants = f.invariants } };
 }
 
 impl Flat {
@@ -50,6 +51,13 @@ impl Flat {
         ensures { result.now ≡ self.now.formulas }
     {
         &self.formulas
+    }
+
+    /// The bits of an integer, from 1 to 64: 1 where no integer occurs.
+    pub fn width(&self) -> u32
+        ensures { result ≡ self.now.width }
+    {
+        self.width
     }
 
     /// The tokens of the modules' bodies, summed over the instances.

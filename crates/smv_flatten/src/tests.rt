@@ -65,12 +65,13 @@ fn refused(alloc: Global, text: &[u8], needed: u32) -> Result<u8, NoMemory> {
     }
 }
 
-/// Items, symbols, formulas, weight, invariants.
-fn sizes(flat: &Flat) -> (usize, usize, usize, u32, u32) {
+/// Items, symbols, formulas, width, weight, invariants.
+fn sizes(flat: &Flat) -> (usize, usize, usize, u32, u32, u32) {
     (
         flat.items().len(),
         flat.symbols().len(),
         flat.formulas().len(),
+        flat.width(),
         flat.weight(),
         flat.invariants(),
     )
@@ -143,12 +144,12 @@ fn phases_joined(rt: HostRuntime) -> Result<(), Fail> {
 fn sizes_of_small_models(rt: HostRuntime) -> Result<(), Fail> {
     let alloc = rt.alloc();
     let smallest = flat_form(alloc, b"MODULE main VAR x : boolean; INVARSPEC !x")?;
-    assert_eq!(rt; sizes(&smallest), (1, 0, 1, 8, 1));
+    assert_eq!(rt; sizes(&smallest), (1, 0, 1, 1, 8, 1));
     let counter = flat_form(
         alloc,
         b"MODULE main VAR x : 0..3; ASSIGN init(x) := 0; next(x) := x + 1; INVARSPEC x != 3",
     )?;
-    assert_eq!(rt; sizes(&counter), (1, 0, 3, 28, 1));
+    assert_eq!(rt; sizes(&counter), (1, 0, 3, 4, 28, 1));
     Ok(())
 }
 
@@ -156,11 +157,11 @@ fn sizes_of_small_models(rt: HostRuntime) -> Result<(), Fail> {
 fn chains_of_cells(rt: HostRuntime) -> Result<(), Fail> {
     let alloc = rt.alloc();
     let one = flat_form(alloc, cells(alloc, 1)?.bytes())?;
-    assert_eq!(rt; sizes(&one), (2, 0, 4, 33, 1));
+    assert_eq!(rt; sizes(&one), (2, 0, 4, 1, 33, 1));
     let many = flat_form(alloc, cells(alloc, 200)?.bytes())?;
-    assert_eq!(rt; sizes(&many), (201, 0, 402, 5804, 1));
+    assert_eq!(rt; sizes(&many), (201, 0, 402, 1, 5804, 1));
     let thousand = flat_form(alloc, cells(alloc, 1000)?.bytes())?;
-    assert_eq!(rt; sizes(&thousand), (1001, 0, 2002, 29004, 1));
+    assert_eq!(rt; sizes(&thousand), (1001, 0, 2002, 1, 29004, 1));
     Ok(())
 }
 
@@ -193,6 +194,7 @@ fn two_lights(rt: HostRuntime) -> Result<(), Fail> {
         (b"east.color", ItemKind::State, 2, Ty::Symbol, 3),
         (b"east.go", ItemKind::Define, 2, Ty::Truth, 0),
     ];
+    assert_eq!(rt; (lights.width(), lights.symbols().len()), (4, 3));
     assert!(rt; has_items(&lights, &items));
     let formulas = [
         (0, Role::Assign(When::First, 0)),
