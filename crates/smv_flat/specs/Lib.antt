@@ -8,3 +8,4 @@ pub mod FlatOrigins
 pub mod FlatFormulas
 pub mod FlatItemView
 pub mod FlatWidth
+pub mod FlatBounds

@@ -1,5 +1,6 @@
 // Laws of flat forms; these functions do nothing.
 ghost use Rattle.smv_flat.specs.FlatLaws.{RowIsThere, RowIsOne, SameTruth};
+ghost use Rattle.smv_flat.specs.FlatBounds.{NumbersLie};
 ghost use Rattle.smv_flat.specs.FlatWidth.{WidthIsLeast, IntervalWidthIsLeast};
 
 /// Each state and label of a model in which nothing reaches itself has a row that meets the flat form's bodies.
@@ -26,4 +27,9 @@ pub fn width_is_least()
 /// The width of an interval is the least in which two's complement has each of its integers.
 pub fn interval_width_is_least()
     ensures { IntervalWidthIsLeast }
+{}
+
+/// Each number in the formulas of an accepted model's flat form is that of an item or a symbol that is there.
+pub fn numbers_lie()
+    ensures { NumbersLie }
 {}
