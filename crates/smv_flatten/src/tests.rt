@@ -66,7 +66,9 @@ fn refused(alloc: Global, text: &[u8], needed: u32) -> Result<u8, NoMemory> {
 }
 
 /// Items, symbols, formulas, width, weight, invariants.
-fn sizes(flat: &Flat) -> (usize, usize, usize, u32, u32, u32) {
+type Sizes = (usize, usize, usize, u32, u32, u32);
+
+fn sizes(flat: &Flat) -> Sizes {
     (
         flat.items().len(),
         flat.symbols().len(),
@@ -77,8 +79,20 @@ fn sizes(flat: &Flat) -> (usize, usize, usize, u32, u32, u32) {
     )
 }
 
-/// Name, kind, instance, type and number of members of each item.
-fn has_items(flat: &Flat, wanted: &[(&[u8], ItemKind, u32, Ty, usize)]) -> bool {
+fn sizes_of(alloc: Global, text: &[u8]) -> Result<Sizes, NoMemory> {
+    let flat = flat_form(alloc, text)?;
+    Ok(sizes(&flat))
+}
+
+fn sizes_of_cells(alloc: Global, n: u32) -> Result<Sizes, NoMemory> {
+    let text = cells(alloc, n)?;
+    sizes_of(alloc, text.bytes())
+}
+
+/// Name, kind, instance, type and number of members of an item.
+type Wanted<'a> = (&'a [u8], ItemKind, u32, Ty, usize);
+
+fn has_items(flat: &Flat, wanted: &[Wanted]) -> bool {
     let items = flat.items();
     if items.len() != wanted.len() {
         return false;
@@ -109,6 +123,16 @@ fn has_formulas(flat: &Flat, wanted: &[(u32, Role)]) -> bool {
         }
     }
     true
+}
+
+fn has_form(
+    alloc: Global,
+    text: &[u8],
+    items: &[Wanted],
+    formulas: &[(u32, Role)],
+) -> Result<bool, NoMemory> {
+    let flat = flat_form(alloc, text)?;
+    Ok(has_items(&flat, items) && has_formulas(&flat, formulas))
 }
 
 /// A chain of so many cells, the first with an actual that is no path.
@@ -143,49 +167,40 @@ fn phases_joined(rt: HostRuntime) -> Result<(), Fail> {
 #[test]
 fn sizes_of_small_models(rt: HostRuntime) -> Result<(), Fail> {
     let alloc = rt.alloc();
-    let smallest = flat_form(alloc, b"MODULE main VAR x : boolean; INVARSPEC !x")?;
-    assert_eq!(rt; sizes(&smallest), (1, 0, 1, 1, 8, 1));
-    let counter = flat_form(
-        alloc,
-        b"MODULE main VAR x : 0..3; ASSIGN init(x) := 0; next(x) := x + 1; INVARSPEC x != 3",
-    )?;
-    assert_eq!(rt; sizes(&counter), (1, 0, 3, 4, 28, 1));
+    let smallest: &[u8] = b"MODULE main VAR x : boolean; INVARSPEC !x";
+    assert_eq!(rt; sizes_of(alloc, smallest)?, (1, 0, 1, 1, 8, 1));
+    let counter: &[u8] =
+        b"MODULE main VAR x : 0..3; ASSIGN init(x) := 0; next(x) := x + 1; INVARSPEC x != 3";
+    assert_eq!(rt; sizes_of(alloc, counter)?, (1, 0, 3, 4, 28, 1));
+    assert_eq!(rt; sizes_of(alloc, LIGHTS)?, (7, 3, 11, 4, 213, 1));
     Ok(())
 }
 
 #[test]
 fn chains_of_cells(rt: HostRuntime) -> Result<(), Fail> {
     let alloc = rt.alloc();
-    let one = flat_form(alloc, cells(alloc, 1)?.bytes())?;
-    assert_eq!(rt; sizes(&one), (2, 0, 4, 1, 33, 1));
-    let many = flat_form(alloc, cells(alloc, 200)?.bytes())?;
-    assert_eq!(rt; sizes(&many), (201, 0, 402, 1, 5804, 1));
-    let thousand = flat_form(alloc, cells(alloc, 1000)?.bytes())?;
-    assert_eq!(rt; sizes(&thousand), (1001, 0, 2002, 1, 29004, 1));
+    assert_eq!(rt; sizes_of_cells(alloc, 1)?, (2, 0, 4, 1, 33, 1));
+    assert_eq!(rt; sizes_of_cells(alloc, 200)?, (201, 0, 402, 1, 5804, 1));
+    assert_eq!(rt; sizes_of_cells(alloc, 1000)?, (1001, 0, 2002, 1, 29004, 1));
     Ok(())
 }
 
 #[test]
 fn instances_of_a_module(rt: HostRuntime) -> Result<(), Fail> {
-    let alloc = rt.alloc();
-    let pair = flat_form(alloc, PAIR)?;
-    let items: [(&[u8], ItemKind, u32, Ty, usize); 4] = [
+    let items: [Wanted; 4] = [
         (b"a", ItemKind::State, 0, Ty::Truth, 0),
         (b"b", ItemKind::State, 0, Ty::Truth, 0),
         (b"p.out", ItemKind::Define, 1, Ty::Truth, 0),
         (b"q.out", ItemKind::Define, 2, Ty::Truth, 0),
     ];
-    assert!(rt; has_items(&pair, &items));
     let formulas = [(0, Role::Invariant), (1, Role::Body(2)), (2, Role::Body(3))];
-    assert!(rt; has_formulas(&pair, &formulas));
+    assert!(rt; has_form(rt.alloc(), PAIR, &items, &formulas)?);
     Ok(())
 }
 
 #[test]
 fn two_lights(rt: HostRuntime) -> Result<(), Fail> {
-    let alloc = rt.alloc();
-    let lights = flat_form(alloc, LIGHTS)?;
-    let items: [(&[u8], ItemKind, u32, Ty, usize); 7] = [
+    let items: [Wanted; 7] = [
         (b"timer", ItemKind::State, 0, Ty::Integer(0, 3), 0),
         (b"north.starts", ItemKind::Actual, 1, Ty::Truth, 0),
         (b"north.color", ItemKind::State, 1, Ty::Symbol, 3),
@@ -194,8 +209,6 @@ fn two_lights(rt: HostRuntime) -> Result<(), Fail> {
         (b"east.color", ItemKind::State, 2, Ty::Symbol, 3),
         (b"east.go", ItemKind::Define, 2, Ty::Truth, 0),
     ];
-    assert_eq!(rt; (lights.width(), lights.symbols().len()), (4, 3));
-    assert!(rt; has_items(&lights, &items));
     let formulas = [
         (0, Role::Assign(When::First, 0)),
         (0, Role::Assign(When::Following, 0)),
@@ -209,6 +222,6 @@ fn two_lights(rt: HostRuntime) -> Result<(), Fail> {
         (2, Role::Assign(When::First, 5)),
         (2, Role::Assign(When::Following, 5)),
     ];
-    assert!(rt; has_formulas(&lights, &formulas));
+    assert!(rt; has_form(rt.alloc(), LIGHTS, &items, &formulas)?);
     Ok(())
 }
