@@ -7,6 +7,7 @@ pub mod FlatTruths
 pub mod FlatSections
 pub mod FlatStays
 pub mod FlatLaw
+pub mod FlatWithin
 pub mod FlatSteps
 pub mod Lists
 pub mod OriginLemmas

@@ -9,3 +9,4 @@ pub mod FlatFormulas
 pub mod FlatItemView
 pub mod FlatWidth
 pub mod SourceWidth
+pub mod FlatBounds

@@ -1,5 +1,6 @@
 // Laws of flat forms; these functions do nothing.
 ghost use Rattle.smv_flat.specs.FlatLaws.{RowIsThere, RowIsOne, SameTruth};
+ghost use Rattle.smv_flat.specs.FlatBounds.{NumbersLie};
 ghost use Rattle.smv_flat.specs.FlatWidth.{WidthIsLeast, IntervalWidthIsLeast};
 ghost use Rattle.smv_flat.specs.SourceWidth.{SameWidth, SameModelWidth};
 
@@ -39,4 +40,7 @@ pub fn same_width()
 /// and the widths of its expressions.
 pub fn same_model_width()
     ensures { SameModelWidth }
+/// Each number in the formulas of an accepted model's flat form is that of an item or a symbol that is there.
+pub fn numbers_lie()
+    ensures { NumbersLie }
 {}
