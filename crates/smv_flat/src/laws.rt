@@ -40,6 +40,8 @@ pub fn same_width()
 /// and the widths of its expressions.
 pub fn same_model_width()
     ensures { SameModelWidth }
+{}
+
 /// Each number in the formulas of an accepted model's flat form is that of an item or a symbol that is there.
 pub fn numbers_lie()
     ensures { NumbersLie }
