@@ -1,0 +1,15 @@
+pub mod NumberLaws
+pub mod TextLaws
+pub mod ReadBack
+pub mod StandingNumbers
+pub mod StandingShapes
+pub mod StandingRead
+pub mod StandingStand
+pub mod StandingPlaces
+pub mod StandingSorts
+pub mod StandingGrow
+pub mod StandingScopes
+pub mod StandingSpelled
+pub mod StandingShown
+pub mod StandingAgain
+pub mod StandingAdded

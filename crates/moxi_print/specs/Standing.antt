@@ -1,6 +1,6 @@
 -- Which terms can stand in a place: each has its sort, and the name of each variable, bound value, constant and function means it
 -- there, not something else of the same name.
-use Rattle.std.specs.Prelude.{◌≡◌, ℕ, ◌<◌, Bool, true, false, Option, Some, Ok, List, [], ◌∷◌, ◌++◌, length, slice_get, codes}
+use Rattle.std.specs.Prelude.{◌≡◌, ℕ, ◌<◌, Bool, false, Some, Ok, List, [], ◌∷◌, ◌++◌, length, slice_get, codes}
 use Rattle.std.specs.Str.{bytes_eq}
 use Rattle.word_core.specs.Words.{IsWord}
 use Rattle.moxi_terms.specs.declared.data.Sort.{Sort}

@@ -10,5 +10,5 @@ mod scan;
 mod tests;
 
 pub use form::{Atom, Form, FormShape, Forms};
-pub use print::{print_forms, written_forms_read_back};
+pub use print::{print_forms, put_symbol, written_forms_read_back};
 pub use read::{FormEnd, end_of, read_forms, readings_are_one};

@@ -2,6 +2,7 @@
 
 ghost use Rattle.std.specs.Prelude.{◌≡◌, ◌≤◌, ◌++◌, ℕ, List, [], map, IfOk, OnOk};
 ghost use Rattle.moxi_sexpr.specs.Atoms.{doubled, spelled};
+ghost use Rattle.moxi_sexpr.specs.declared.form.Atom.TheVariants as atoms;
 ghost use Rattle.moxi_sexpr.specs.Tree.{Trees, plain, plain_forms, depths};
 ghost use Rattle.moxi_sexpr.specs.Printing.{is_among, bytes_behind, reserved_words, symbol_spelling, printed_atom, printed, printed_parts, printed_forms, ArePrintable, ReadsBack};
 ghost use Rattle.moxi_sexpr.specs.Lexing.{limit};
@@ -56,8 +57,10 @@ fn put_between(out: &mut Text, opening: &[u8], bytes: &[u8], closing: &[u8]) -> 
     out.put(closing)
 }
 
-fn put_symbol(out: &mut Text, name: &[u8], primed: bool) -> Result<(), NoMemory>
-    ensures { OnOk result (out.new ≡ out.old ++ spelled (symbol_spelling name.now primed) name.now) }
+/// Appends a symbol, in bars unless it is simple and no reserved word, and behind it the prime where it is primed (SMT-LIB
+/// 2.6, section 3.1).
+pub fn put_symbol(out: &mut Text, name: &[u8], primed: bool) -> Result<(), NoMemory>
+    ensures { OnOk result (out.new ≡ out.old ++ printed_atom (atoms.Symbol name.now primed)) }
 {
     let prime: &[u8] = if primed { b"'" } else { b"" };
     if is_simple(name) && !is_reserved(name) {

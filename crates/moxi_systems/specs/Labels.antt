@@ -88,7 +88,7 @@ abbrev pub no_labels : FormulaLists
 no_labels = record { assumptions = no_list; currents = no_list; reachables = no_list; whole = true }
 
 abbrev pub plain_list : code_list.Labelled → FormulaList
-plain_list l = record { names = l.names; formulas = map plain_formula l.formulas.items }
+plain_list l = record { names = l.names; formulas = map plain_formula l.formulas }
 
 abbrev pub plain_labels : code_labels.Labels → FormulaLists
 plain_labels ls = record { assumptions = plain_list ls.assumptions; currents = plain_list ls.currents; reachables = plain_list ls.reachables; whole = ls.whole }

@@ -18,3 +18,11 @@ pub mod Commands
 pub mod Links
 pub mod Cycles
 pub mod Spelling
+pub mod Invariant
+pub mod Answer
+pub mod ScriptView
+pub mod Printing
+pub mod Whole
+pub mod Again
+pub mod NamesOfScripts
+pub mod ReadBack

@@ -78,8 +78,8 @@ plain_check c =
       inputs = c.inputs;
       outputs = c.outputs;
       locals = c.locals;
-      assumptions = map plain_formula c.assumptions.items;
-      currents = map plain_formula c.currents.items;
-      reachables = map plain_formula c.reachables.items;
+      assumptions = map plain_formula c.assumptions;
+      currents = map plain_formula c.currents;
+      reachables = map plain_formula c.reachables;
       queries = c.queries;
     }

@@ -15,13 +15,13 @@ use crate::entries::Entries;
 use crate::labels::{Labels, no_labels, read_labels};
 use crate::lists::Lists;
 use crate::queries::read_queries;
-use crate::script::Query;
+use crate::script::Queries;
 use crate::shapes::{Headed, headed_forms, place_of};
 use crate::systems::read_variables;
 use moxi_sexpr::Form;
 use moxi_terms::Scope;
 use std::alloc::Global;
-use text_core::{Items, Name, NoMemory, Place, Refusal};
+use text_core::{Name, NoMemory, Place, Refusal};
 
 /// Where the lists of a check stand, or the check where one is missing.
 #[derive(Clone, Copy)]
@@ -40,7 +40,7 @@ pub struct ReadCheck {
     pub lists: Lists,
     pub places: ListPlaces,
     pub labels: Labels,
-    pub queries: Items<Query>,
+    pub queries: Queries,
 }
 
 fn place_or(p: Place, value: Option<&Form>) -> Place
@@ -79,7 +79,7 @@ fn read_content(
     let v = read_variables(alloc, scope, Command::Check, h.rest, variables, found)?;
     let mut labels = no_labels(alloc);
     read_labels(alloc, scope, &v.locals, h.rest, &mut labels, found)?;
-    let mut queries = Items::new(alloc);
+    let mut queries = Queries::new(alloc);
     read_queries(alloc, &labels, h.rest, &mut queries, found)?;
     Ok(ReadCheck {
         place: p,

@@ -10,9 +10,8 @@ ghost use Rattle.moxi_systems.specs.Shapes.{named};
 use crate::attributes::{Command, Key, Turn, turn_after};
 use crate::collect::{fail_if, fail_primed, refuse};
 use crate::formulas::read_truth;
-use crate::script::Formula;
+use crate::script::{Formula, Formulas};
 use crate::shapes::{misshapen, named_form, place_of};
-use crate::systems::put;
 use moxi_sexpr::Form;
 use moxi_terms::{Locals, Numbering, Primes, Scope, Term};
 use std::alloc::Global;
@@ -22,7 +21,7 @@ use text_core::{Name, NoMemory, Refusal};
 #[derive(Drop)]
 pub struct Labelled {
     pub names: Numbering,
-    pub formulas: Vec<Formula>,
+    pub formulas: Formulas,
 }
 
 /// The formulas of a check, and whether each has its shape.
@@ -39,7 +38,7 @@ fn no_list(alloc: Global) -> Labelled
 {
     Labelled {
         names: Numbering::new(alloc),
-        formulas: Vec::new(alloc),
+        formulas: Formulas::new(alloc),
     }
 }
 
@@ -79,13 +78,10 @@ fn add_one(alloc: Global, l: &mut Labelled, name: &[u8], term: Term) -> Result<(
     ensures { OnOk result (plain_list l.new ≡ with_one (plain_list l.old) (record { name = name.now; term = plain term })) }
 {
     l.names.declare(alloc, name)?;
-    put(
-        &mut l.formulas,
-        Formula {
-            name: Name::of(alloc, name)?,
-            term,
-        },
-    )?;
+    l.formulas.push(Formula {
+        name: Name::of(alloc, name)?,
+        term,
+    })?;
     Ok(())
 }
 

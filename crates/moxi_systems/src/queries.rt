@@ -13,12 +13,12 @@ use crate::attributes::{Command, Key, Turn, is_behind, turn_after};
 use crate::collect::{fail, fail_if, fail_primed, refuse};
 use crate::constants::both;
 use crate::labels::Labels;
-use crate::script::Query;
+use crate::script::{Queries, Query};
 use crate::shapes::{Named, misshapen, named_form, parts_of, place_of};
 use moxi_sexpr::Form;
 use moxi_terms::{Numbering, symbol_of};
 use std::alloc::Global;
-use text_core::{Items, Name, NoMemory, Numbers, Place, Refusal};
+use text_core::{Name, NoMemory, Numbers, Place, Refusal};
 
 /// What the names of a query stand for, whether each is known, and whether one is primed.
 #[derive(Drop)]
@@ -134,10 +134,16 @@ fn is_bad_query(ls: &Labels, q: &QueryNames) -> bool
     ls.whole && !q.primed && !(q.known && q.reachables.len() == 1)
 }
 
-fn first_of(numbers: &Numbers) -> u64
-    ensures { result ≡ slice_index_or numbers.now 0 0 }
+fn first_of(numbers: &Numbers) -> Result<u32, NoMemory>
+    ensures { IfOk result (λ n. n ≡ slice_index_or numbers.now 0 0) }
 {
-    if 0 < numbers.len() { *numbers.at(0) } else { 0 }
+    if numbers.len() == 0 {
+        return Ok(0);
+    }
+    match u32::try_from(*numbers.at(0)) {
+        Ok(n) => Ok(n),
+        Err(_) => Err(NoMemory),
+    }
 }
 
 // The names of a query in a list at q.
@@ -147,7 +153,7 @@ fn read_query_list(
     ls: &Labels,
     p: Place,
     n: Named,
-    queries: &mut Items<Query>,
+    queries: &mut Queries,
     found: &mut Option<Refusal>,
 ) -> Result<(), NoMemory>
     ensures adds { OnOk result (queries.new ≡ queries.old ++ queries_among (plain_labels ls.now) (named_here n.entry) (parts_of (named_here n.entry).form)) }
@@ -174,11 +180,11 @@ fn add_query(
     alloc: Global,
     name: &[u8],
     q: QueryNames,
-    queries: &mut Items<Query>,
+    queries: &mut Queries,
 ) -> Result<(), NoMemory>
     ensures { OnOk result (queries.new ≡ queries.old ++ query_with name.now q ∷ []) }
 {
-    let reachable = first_of(&q.reachables);
+    let reachable = first_of(&q.reachables)?;
     queries.push(Query {
         name: Name::of(alloc, name)?,
         assumptions: q.assumptions,
@@ -196,7 +202,7 @@ fn read_query(
     names: &mut Numbering,
     around: Place,
     form: &Form,
-    queries: &mut Items<Query>,
+    queries: &mut Queries,
     found: &mut Option<Refusal>,
 ) -> Result<(), NoMemory>
     ensures adds { OnOk result (queries.new ≡ queries.old ++ query_of (plain_labels ls.now) (plain form.now)) }
@@ -225,7 +231,7 @@ fn read_queries_of(
     names: &mut Numbering,
     around: Place,
     forms: &[Form],
-    queries: &mut Items<Query>,
+    queries: &mut Queries,
     found: &mut Option<Refusal>,
 ) -> Result<(), NoMemory>
     ensures adds { OnOk result (queries.new ≡ queries.old ++ queries_in (plain_labels ls.now) (plain_forms forms.now)) }
@@ -246,7 +252,7 @@ fn read_queries_at(
     turn: Turn,
     names: &mut Numbering,
     form: &Form,
-    queries: &mut Items<Query>,
+    queries: &mut Queries,
     found: &mut Option<Refusal>,
 ) -> Result<(), NoMemory>
     ensures adds { OnOk result (queries.new ≡ queries.old ++ queries_in (plain_labels ls.now) (query_forms turn (plain form.now))) }
@@ -270,7 +276,7 @@ fn read_listed(
     ls: &Labels,
     names: &mut Numbering,
     form: &Form,
-    queries: &mut Items<Query>,
+    queries: &mut Queries,
     found: &mut Option<Refusal>,
 ) -> Result<(), NoMemory>
     ensures adds { OnOk result (queries.new ≡ queries.old ++ queries_in (plain_labels ls.now) (forms_among (parts_of (plain form.now)))) }
@@ -291,7 +297,7 @@ pub fn read_queries(
     alloc: Global,
     ls: &Labels,
     forms: &[Form],
-    queries: &mut Items<Query>,
+    queries: &mut Queries,
     found: &mut Option<Refusal>,
 ) -> Result<(), NoMemory>
     ensures adds { OnOk result (queries.new ≡ queries.old ++ queries_after (plain_labels ls.now) turns.AtKeyword (plain_forms forms.now)) }

@@ -221,6 +221,20 @@ impl Scope {
         &self.functions
     }
 
+    /// The enumeration sorts.
+    pub fn enumerations(&self) -> &Items<Enumeration>
+        ensures { result.now ≡ self.now.enumerations }
+    {
+        &self.enumerations
+    }
+
+    /// The defined sorts.
+    pub fn sorts(&self) -> &Items<NamedSort>
+        ensures { result.now ≡ self.now.sorts }
+    {
+        &self.sorts
+    }
+
     /// May so many constants more, and one more of each other kind, be numbered with 32 bits?
     pub fn has_room(&self, constants: usize) -> bool
         ensures { result ≡ has_room self.now constants }

@@ -1,0 +1,101 @@
+// Operators as a text.
+ghost use Rattle.std.specs.Prelude.{◌≡◌, ◌++◌, ◌∷◌, [], OnOk};
+ghost use Rattle.moxi_terms.specs.declared.data.TermOp.TheVariants as operators;
+ghost use Rattle.moxi_print.specs.Shown.{no_showns, shown, text_of};
+ghost use Rattle.moxi_print.specs.Terms.{binary_word, indexed, numeral, operator_word, shown_operator, unary_word};
+
+use moxi_terms::TermOp;
+use text_core::{NoMemory, Text};
+use word_core::{Binary, Unary};
+
+fn unary_word(op: Unary) -> &'static [u8]
+    ensures { result.now ≡ unary_word op }
+{
+    match op {
+        Unary::Not => b"bvnot",
+        Unary::Neg => b"bvneg",
+        _ => b"",
+    }
+}
+
+fn binary_word(op: Binary) -> &'static [u8]
+    ensures { result.now ≡ binary_word op }
+{
+    match op {
+        Binary::And => b"bvand",
+        Binary::Or => b"bvor",
+        Binary::Xor => b"bvxor",
+        Binary::Add => b"bvadd",
+        Binary::Mul => b"bvmul",
+        Binary::Sub => b"bvsub",
+        Binary::Udiv => b"bvudiv",
+        Binary::Urem => b"bvurem",
+        Binary::Sdiv => b"bvsdiv",
+        Binary::Srem => b"bvsrem",
+        Binary::Smod => b"bvsmod",
+        Binary::Sll => b"bvshl",
+        Binary::Srl => b"bvlshr",
+        Binary::Sra => b"bvashr",
+        Binary::Ult => b"bvult",
+        Binary::Ulte => b"bvule",
+        Binary::Ugt => b"bvugt",
+        Binary::Ugte => b"bvuge",
+        Binary::Slt => b"bvslt",
+        Binary::Slte => b"bvsle",
+        Binary::Sgt => b"bvsgt",
+        Binary::Sgte => b"bvsge",
+        _ => b"",
+    }
+}
+
+fn operator_word(op: TermOp) -> &'static [u8]
+    ensures { result.now ≡ operator_word op }
+{
+    match op {
+        TermOp::Not => b"not",
+        TermOp::And => b"and",
+        TermOp::Or => b"or",
+        TermOp::Xor => b"xor",
+        TermOp::Implies => b"=>",
+        TermOp::Equal => b"=",
+        TermOp::Distinct => b"distinct",
+        TermOp::Ite => b"ite",
+        TermOp::Concat => b"concat",
+        TermOp::BvUnary(unary) => unary_word(unary),
+        TermOp::BvBinary(binary) => binary_word(binary),
+        TermOp::Extract(_, _) | TermOp::ZeroExtend(_) | TermOp::SignExtend(_) => b"",
+    }
+}
+
+/// Appends a name with an index, `(_ name n)` (SMT-LIB 2.6, section 3.3).
+pub fn put_indexed(out: &mut Text, name: &[u8], n: u32) -> Result<(), NoMemory>
+    ensures { OnOk result (out.new ≡ out.old ++ text_of (indexed name.now (shown (numeral n) no_showns))) }
+{
+    out.put(b"(_ ")?;
+    out.put(name)?;
+    out.put(b" ")?;
+    out.put_unsigned(n as u128)?;
+    out.put(b")")
+}
+
+fn put_extract(out: &mut Text, high: u32, low: u32) -> Result<(), NoMemory>
+    ensures { OnOk result (out.new ≡ out.old ++ text_of (shown_operator (operators.Extract high low))) }
+{
+    out.put(b"(_ extract ")?;
+    out.put_unsigned(high as u128)?;
+    out.put(b" ")?;
+    out.put_unsigned(low as u128)?;
+    out.put(b")")
+}
+
+/// Appends an operator as it stands at the head of a list (SMT-LIB 2.6, theories Core and FixedSizeBitVectors).
+pub fn put_operator(out: &mut Text, op: TermOp) -> Result<(), NoMemory>
+    ensures { OnOk result (out.new ≡ out.old ++ text_of (shown_operator op)) }
+{
+    match op {
+        TermOp::Extract(high, low) => put_extract(out, high, low),
+        TermOp::ZeroExtend(n) => put_indexed(out, b"zero_extend", n),
+        TermOp::SignExtend(n) => put_indexed(out, b"sign_extend", n),
+        _ => out.put(operator_word(op)),
+    }
+}
