@@ -1,15 +1,13 @@
 -- Lists, names and tests, and what is known of sorts and terms that are shown.
-use Rattle.std.proofs.Common.{◌≡◌, ℕ, suc, ◌++◌, Bool, true, false, is_none, is_some, Option, None, Some, Result, Ok, Err, List, [], ◌∷◌, refl, ap, ◌∙◌}
+use Rattle.std.proofs.Common.{◌≡◌, ◌++◌, true, false, is_none, is_some, Option, None, Some, Ok, List, [], ◌∷◌, refl, ap, ◌∙◌}
 use Rattle.std.specs.Prelude.{codes}
 use Rattle.std.specs.List.{AllByRecursion}
 use Rattle.text_core.specs.declared.place.Place.{Place}
 use Rattle.text_core.specs.declared.place.Refusal.{Refusal}
 use Rattle.moxi_sexpr.specs.Tree as form
-use Rattle.moxi_terms.specs.declared.data.Primes.{Primes}
 use Rattle.moxi_terms.specs.declared.data.Sort.{Sort}
 use Rattle.moxi_terms.specs.declared.names.Local.{Local}
 use Rattle.moxi_terms.specs.declared.term.Enumeration.{Enumeration}
-use Rattle.moxi_terms.specs.declared.term.Variable.{Variable}
 use Rattle.moxi_terms.specs.Names.{are_fresh, enumeration_names, is_among}
 use Rattle.moxi_terms.specs.Reading.{Context, names_of, read, sort_reading}
 use Rattle.moxi_terms.specs.Sorts.{IsSort}

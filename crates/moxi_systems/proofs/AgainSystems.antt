@@ -2,7 +2,6 @@
 use Rattle.std.proofs.Common.{◌≡◌, ℕ, true, false, cond, is_none, Some, List, [], ◌∷◌, ◌++◌, refl, sym, ap, ◌∙◌, subst, append_assoc}
 use Rattle.std.specs.Prelude.{codes}
 use Rattle.text_core.specs.declared.place.Place.{Place}
-use Rattle.text_core.specs.declared.place.Refusal.{Refusal}
 use Rattle.moxi_sexpr.specs.declared.form.Atom.TheVariants.{Symbol}
 use Rattle.moxi_sexpr.specs.Lexing.{refusal}
 use Rattle.moxi_sexpr.specs.Tree as form

@@ -23,7 +23,7 @@ use Rattle.smv_flat.proofs.FlatStays.{stays_same, invariants_match, match_at}
 use Rattle.smv_flat.specs.FlatTruth.{forms_invariants}
 use Rattle.smv_meaning.specs.Phases.{invariants_in}
 
-all_assignable : (seen xs : List Assigned) → passes (assigned_checks seen xs) ≡ true → list_all assignable xs ≡ true
+pub all_assignable : (seen xs : List Assigned) → passes (assigned_checks seen xs) ≡ true → list_all assignable xs ≡ true
 all_assignable seen [] h = refl
 all_assignable seen (a ∷ xs) h =
     let s = both_true (is_assignable a.when a.target) _ h in

@@ -76,7 +76,7 @@ step_value t state label following other now later r i at p q e c =
 
 -- ---- a target
 
-leaf_placed : (t : List Instance) (when : When) (m : Found) → Home t m → is_assignable when m ≡ true → (k : ℕ) × (leaf_found t m ≡ of_item k)
+pub leaf_placed : (t : List Instance) (when : When) (m : Found) → Home t m → is_assignable when m ≡ true → (k : ℕ) × (leaf_found t m ≡ of_item k)
 leaf_placed t when (variable_at y kind d) h a =
     let s = variable_at_item t h.0 h.1 kind d h.3 in
     (s.k, ap (λ z. leaf_found t (variable_at z kind d)) h.2 ∙ ap item_leaf s.placed)

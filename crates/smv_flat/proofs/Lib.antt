@@ -7,6 +7,7 @@ pub mod FlatTruths
 pub mod FlatSections
 pub mod FlatStays
 pub mod FlatLaw
+pub mod FlatWithin
 pub mod FlatSteps
 pub mod Lists
 pub mod OriginLemmas
@@ -16,3 +17,9 @@ pub mod FlatMade
 pub mod FlatViews
 pub mod FlatShapes
 pub mod FormLemmas
+pub mod WidthLemmas
+pub mod FrontLemmas
+pub mod WidthLaw
+pub mod SourceWidths
+pub mod ModelWidths
+pub mod SpelledWidths

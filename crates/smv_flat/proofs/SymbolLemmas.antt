@@ -1,8 +1,9 @@
 -- Lists of symbols.
-use Rattle.std.proofs.Common.{◌≡◌, ℕ, ◌+◌, ◌||◌, suc, Bool, true, false, not, cond, if◌then◌else◌, nat_eq, nat_lt, Some, None, List, [], ◌∷◌, ◌++◌, length, map, Vec, Global, refl, sym, ap, ◌∙◌, arith}
-use Rattle.std.proofs.lemmas.List.{length-map, map-append}
+use Rattle.std.proofs.Common.{◌≡◌, ℕ, ◌+◌, ◌||◌, ◌<◌, ◌≤◌, suc, Bool, true, false, not, cond, if◌then◌else◌, nat_eq, nat_lt, Some, None, List, [], ◌∷◌, ◌++◌, length, map, drop, Vec, Global, refl, sym, ap, ◌∙◌, arith}
+use Rattle.std.proofs.lemmas.List.{length-map, map-append, drop_more, drop_all}
+use Rattle.std.proofs.lemmas.Option.{slice_get_within, get_or_from_slice_get}
 use Rattle.std.proofs.lemmas.Slice.Eq.{bytes_eq-Decides}
-use Rattle.std.specs.List.{position, position_or_len, list_any}
+use Rattle.std.specs.List.{position, position_or_len, list_any, slice_get}
 use Rattle.std.specs.Str.{bytes_eq}
 use Rattle.std.specs.Cmp.Lexicographic.{pointwise}
 use Rattle.smv_meaning.specs.Instances.{is_one_of}
@@ -46,3 +47,12 @@ noted true true new old more e h = cc
 noted true false new old more e h = h
 noted false true new old more e h = h
 noted false false new old more e h = cc
+
+-- the names of the keys from a place on
+pub keys_behind : (keys : List (Vec ℕ Global)) (k : ℕ) (key : Vec ℕ Global) → Some key ≡ slice_get keys k → map (λ name. name.items) (drop k keys) ≡ key.items ∷ map (λ name. name.items) (drop (k + 1) keys)
+keys_behind keys k key is =
+    let low : k < length keys = slice_get_within keys k key (sym is) in
+    ap (map (λ name. name.items)) (drop_more keys k key low ∙ ap (λ name. name ∷ drop (k + 1) keys) (get_or_from_slice_get keys k key key (sym is)))
+
+pub keys_end : (keys : List (Vec ℕ Global)) (k n : ℕ) → n ≡ length keys → n ≤ k → map (λ name. name.items) (drop k keys) ≡ []
+keys_end keys k n e l = ap (map (λ name. name.items)) (drop_all k keys (omega (arith, e, l)))

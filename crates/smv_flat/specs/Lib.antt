@@ -6,3 +6,7 @@ pub mod FlatLaws
 pub mod FlatView
 pub mod FlatOrigins
 pub mod FlatFormulas
+pub mod FlatItemView
+pub mod FlatWidth
+pub mod SourceWidth
+pub mod FlatBounds

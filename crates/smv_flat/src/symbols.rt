@@ -42,6 +42,22 @@ impl Symbols {
         self.names.get_index_of(name)
     }
 
+    /// The symbols as a list of names.
+    #[tactic(auto, using(crate::proofs::SymbolLemmas::keys_behind, crate::proofs::SymbolLemmas::keys_end, crate::proofs::OriginLemmas::joined_on))]
+    pub fn names(&self, alloc: Global) -> Result<Names, NoMemory>
+        ensures { IfOk result (λ names. names ≡ self.now) }
+    {
+        let symbols = &self.names;
+        let mut names = Names::new(alloc);
+        for k in 0..symbols.len() {
+            match symbols.get_index(k) {
+                Some(symbol) => names.push(Name::of(alloc, symbol.as_slice())?)?,
+                None => {}
+            }
+        }
+        Ok(names)
+    }
+
     // Puts a symbol at the end, where it is new, and says whether it is.
     fn declare(&mut self, alloc: Global, name: &[u8]) -> Result<bool, NoMemory>
         ensures fresh { IfOk result (λ fresh. fresh ≡ not (is_one_of self.old name.now)) }

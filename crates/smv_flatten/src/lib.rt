@@ -1,10 +1,25 @@
-//! The checks of an SMV model joined: its phases in their order, and what they found of a model that passes them all.
+//! The flat form of an SMV model that passes all checks, which are made phase by phase in their order.
 #![tactic(auto)]
 
+mod counts;
+mod ends;
+mod flattening;
+mod form;
+mod item_list;
+mod item_types;
 mod joining;
 mod kept;
+mod members;
+mod sequences;
 #[cfg(test)]
 mod tests;
+#[cfg(test)]
+mod truth_tests;
+mod type_names;
 
+pub use ends::FlatEnd;
+pub use flattening::flatten;
+pub use form::Flat;
 pub use joining::accepted;
 pub use kept::Accepted;
+pub use sequences::{FlatFormulas, FlatItems};

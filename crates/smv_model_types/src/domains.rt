@@ -100,8 +100,9 @@ pub(crate) fn domain_checked(place: Place, domain: &Domain) -> Result<(), NamesE
     }
 }
 
+/// The type of a variable with this declared type: none where a check of it fails, and none of an instance.
 #[tactic(auto, using(crate::proofs::DomainLemmas::typed, crate::proofs::DomainLemmas::untyped))]
-fn variable_type(domain: &Domain) -> Option<Ty>
+pub fn variable_type(domain: &Domain) -> Option<Ty>
     ensures { option_map seen result ≡ variable_type (plain_domain domain.now) }
 {
     match declared(domain) {

@@ -13,4 +13,5 @@ mod tests;
 mod types;
 mod variables;
 
+pub use domains::variable_type;
 pub use types::{Types, types_checked};

@@ -1,0 +1,99 @@
+// The flat form of a model that passes its checks.
+ghost use Rattle.std.specs.Prelude.{◌≡◌, map, length, sum_by, IfOk};
+ghost use Rattle.smv_text.specs.View.{plain_source};
+ghost use Rattle.smv_meaning.specs.Instances.{instances_of, weight_of};
+ghost use Rattle.smv_meaning.specs.Phases.{checks_of, invariants_in, IsAccepted};
+ghost use Rattle.smv_meaning.specs.View.{instance_plain};
+ghost use Rattle.smv_model_types.specs.Outcome.{AreTypesOf};
+ghost use Rattle.smv_flat.specs.FlatItems.{origins_of, symbols_of, path_of};
+ghost use Rattle.smv_flat.specs.FlatForms.{forms_of, flat_of, flat_smv};
+ghost use Rattle.smv_flat.specs.FlatFormulas.{form_plain};
+ghost use Rattle.smv_flat.specs.FlatOrigins.{origin_plain};
+ghost use Rattle.smv_flat.specs.FlatWidth.{width_of};
+ghost use Rattle.smv_flatten.specs.FlatModel.{flat_plain};
+ghost use Rattle.smv_flatten.specs.Refusing.{Decides};
+
+use crate::counts::{invariant_count, weight_in};
+use crate::ends::{FlatEnd, flat_end};
+use crate::form::Flat;
+use crate::item_list::flat_items;
+use crate::joining::accepted;
+use crate::kept::Accepted;
+use crate::sequences::{FlatFormulas, FlatItems};
+use crate::type_names::TypeNames;
+use smv_flat::{
+    FlatFormula, Origin, Symbols, formulas_in, numbers_of, origins_in, paths_of, symbols_in,
+    width_of,
+};
+use smv_meaning::Table;
+use smv_model_types::Types;
+use smv_text::Source;
+use std::alloc::Global;
+use text_core::{NoMemory, Text};
+
+// The formulas over the numbers of these items, given the items' dotted paths.
+fn flat_formulas<'a>(
+    alloc: Global,
+    table: &Table<'a>,
+    types: &Types<'a>,
+    origins: &[Origin<'a>],
+    paths: &[Text],
+    symbols: &Symbols,
+) -> Result<Vec<FlatFormula>, NoMemory>
+    requires typed { AreTypesOf (map instance_plain table.now) types.now }
+    requires origins { map origin_plain origins.now ≡ origins_of (map instance_plain table.now) }
+    requires long { length paths.now ≡ length origins.now }
+    requires paths { paths.now ≡ map (path_of (map instance_plain table.now)) (map origin_plain origins.now) }
+    requires symbols { symbols.now ≡ symbols_of (map instance_plain table.now) }
+    ensures { IfOk result (λ fs. map form_plain fs.items ≡ forms_of (map instance_plain table.now)) }
+{
+    let numbers = numbers_of(alloc, origins, paths)?;
+    let names = TypeNames { table, types };
+    formulas_in(alloc, &names, table, &numbers, symbols)
+}
+
+// The flat form of these instances.
+fn flattened<'a>(alloc: Global, table: &Table<'a>, types: &Types<'a>) -> Result<Flat, NoMemory>
+    requires { AreTypesOf (map instance_plain table.now) types.now }
+    ensures form { IfOk result (λ f. flat_plain f ≡ flat_of (map instance_plain table.now)) }
+    ensures width { IfOk result (λ f. f.width ≡ width_of (flat_of (map instance_plain table.now))) }
+    ensures weight { IfOk result (λ f. f.weight ≡ sum_by (λ at. at.plan.tokens) (map instance_plain table.now)) }
+    ensures invariants { IfOk result (λ f. f.invariants ≡ length (invariants_in (map instance_plain table.now))) }
+{
+    let origins = origins_in(alloc, table)?;
+    let paths = paths_of(alloc, table, &origins)?;
+    let symbols = symbols_in(alloc, table)?;
+    let items = flat_items(alloc, table, types, &origins, &paths)?;
+    let formulas = flat_formulas(alloc, table, types, &origins, &paths, &symbols)?;
+    let width = width_of(&items, &formulas);
+    let names = symbols.names(alloc)?;
+    let weight = weight_in(table)?;
+    let invariants = invariant_count(table)?;
+    Ok(Flat {
+        items: FlatItems::of(items),
+        symbols: names,
+        formulas: FlatFormulas::of(formulas),
+        width,
+        weight,
+        invariants,
+    })
+}
+
+/// The flat form of a model of which the invariant with this number is wanted, 0 where any will do; the refusal is that of the
+/// first check that fails.
+pub fn flatten(alloc: Global, source: &Source, needed: u32) -> Result<Flat, FlatEnd>
+    ensures checks { Decides result (checks_of (plain_source source.now) needed) }
+    ensures passes { IfOk result (λ f. IsAccepted (plain_source source.now) needed) }
+    ensures form { IfOk result (λ f. flat_plain f ≡ flat_smv (plain_source source.now)) }
+    ensures width { IfOk result (λ f. f.width ≡ width_of (flat_smv (plain_source source.now))) }
+    ensures weight { IfOk result (λ f. f.weight ≡ weight_of (plain_source source.now)) }
+    ensures invariants { IfOk result (λ f. f.invariants ≡ length (invariants_in (instances_of (plain_source source.now)))) }
+{
+    match accepted(alloc, source, needed) {
+        Ok(kept) => match flattened(alloc, &kept.table, &kept.types) {
+            Ok(flat) => Ok(flat),
+            Err(NoMemory) => Err(FlatEnd::NoMemory),
+        },
+        Err(end) => Err(flat_end(end)),
+    }
+}

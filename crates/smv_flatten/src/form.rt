@@ -1,0 +1,76 @@
+// The flat form of a model.
+ghost use Rattle.std.specs.Prelude.{◌≡◌};
+
+use crate::sequences::{FlatFormulas, FlatItems};
+use std::marker::Model;
+use text_core::Names;
+
+/// The flat form of an accepted model: its variables, definitions and actuals as numbered items, its symbols, and its formulas
+/// over their numbers. Instances stand in preorder.
+#[derive(Drop)]
+pub struct Flat {
+    pub(crate) items: FlatItems,
+    pub(crate) symbols: Names,
+    pub(crate) formulas: FlatFormulas,
+    pub(crate) width: u32,
+    pub(crate) weight: u32,
+    pub(crate) invariants: u32,
+}
+
+impl Model for Flat {
+    ghost use Rattle.std.specs.Coded.{codes};
+    ghost use Rattle.smv_flat.specs.contracts.expressions.FlatExpr as expr;
+    ghost use Rattle.smv_flat.specs.contracts.expressions.FlatShape as shape;
+    ghost use Rattle.smv_flatten.specs.FlatModel.{FlatModel};
+
+    ghost Value = { FlatModel };
+
+    ghost coded = { Prim.hlevel (codes, expr.the_row.coded, shape.the_row.coded) };
+
+    ghost view = { λ f. record { items = f.items; symbols = f.symbols; formulas = f.formulas; width = f.width; weight = f.weight; invariants = f.invariants } };
+}
+
+impl Flat {
+    /// The variables, definitions and actuals: of each instance first the actuals that are no paths, then its own variables and
+    /// definitions in the order of the text.
+    pub fn items(&self) -> &FlatItems
+        ensures { result.now ≡ self.now.items }
+    {
+        &self.items
+    }
+
+    /// The symbols of enumerations and CONSTANTS, each once, in the order in which they are met.
+    pub fn symbols(&self) -> &Names
+        ensures { result.now ≡ self.now.symbols }
+    {
+        &self.symbols
+    }
+
+    /// The formulas: of each instance first the bodies of its items, then its assignments and sections in the order of the text.
+    pub fn formulas(&self) -> &FlatFormulas
+        ensures { result.now ≡ self.now.formulas }
+    {
+        &self.formulas
+    }
+
+    /// The bits of an integer, from 1 to 64: 1 where no integer occurs.
+    pub fn width(&self) -> u32
+        ensures { result ≡ self.now.width }
+    {
+        self.width
+    }
+
+    /// The tokens of the modules' bodies, summed over the instances.
+    pub fn weight(&self) -> u32
+        ensures { result ≡ self.now.weight }
+    {
+        self.weight
+    }
+
+    /// The number of invariants, over all instances.
+    pub fn invariants(&self) -> u32
+        ensures { result ≡ self.now.invariants }
+    {
+        self.invariants
+    }
+}

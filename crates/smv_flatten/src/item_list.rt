@@ -1,0 +1,89 @@
+// The items of a model, each with its type.
+ghost use Rattle.std.specs.Prelude.{◌≡◌, map, length, IfOk};
+ghost use Rattle.smv_meaning.specs.View.{instance_plain};
+ghost use Rattle.smv_model_types.specs.Outcome.{AreTypesOf};
+ghost use Rattle.smv_flat.specs.FlatItems.{kind_of, path_of, flat_item_of};
+ghost use Rattle.smv_flat.specs.FlatItemView.{item_plain};
+ghost use Rattle.smv_flat.specs.FlatOrigins.{content_plain, origin_plain};
+
+use crate::item_types::item_type;
+use crate::members::members_of;
+use smv_flat::{Content, FlatItem, ItemKind, Origin};
+use smv_meaning::Table;
+use smv_model_types::Types;
+use smv_text::VarKind;
+use std::alloc::Global;
+use text_core::{Name, NoMemory, Text};
+
+fn kind_of(content: &Content) -> ItemKind
+    ensures { result ≡ kind_of (content_plain content.now) }
+{
+    match content {
+        Content::Variable(VarKind::State, _) => ItemKind::State,
+        Content::Variable(VarKind::Frozen, _) => ItemKind::Frozen,
+        Content::Variable(VarKind::Input, _) => ItemKind::Input,
+        Content::Definition(_, _) => ItemKind::Define,
+        Content::Actual(_, _) => ItemKind::Actual,
+    }
+}
+
+// No accepted model has more instances than 32 bits can number.
+fn small(n: usize) -> Result<u32, NoMemory>
+    ensures { IfOk result (λ m. m ≡ n) }
+{
+    match u32::try_from(n) {
+        Ok(m) => Ok(m),
+        Err(_) => Err(NoMemory),
+    }
+}
+
+// The item with this dotted path.
+fn flat_item<'a>(
+    alloc: Global,
+    table: &Table<'a>,
+    types: &Types<'a>,
+    origin: &Origin<'a>,
+    path: &[u8],
+) -> Result<FlatItem, NoMemory>
+    requires typed { AreTypesOf (map instance_plain table.now) types.now }
+    requires path { path.now ≡ path_of (map instance_plain table.now) (origin_plain origin.now) }
+    ensures { IfOk result (λ m. item_plain m ≡ flat_item_of (map instance_plain table.now) (origin_plain origin.now)) }
+{
+    let name = Name::of(alloc, path)?;
+    let instance = small(origin.instance)?;
+    let ty = item_type(alloc, table, types, &origin.content)?;
+    let members = members_of(alloc, &origin.content)?;
+    let kind = kind_of(&origin.content);
+    Ok(FlatItem {
+        name,
+        instance,
+        kind,
+        ty,
+        members,
+    })
+}
+
+/// The items of these origins, given their dotted paths.
+#[tactic(auto, using(crate::proofs::Lists::front_is, crate::proofs::Lists::end_is, crate::proofs::Lists::joined_on, crate::proofs::Lists::append_none))]
+pub(crate) fn flat_items<'a>(
+    alloc: Global,
+    table: &Table<'a>,
+    types: &Types<'a>,
+    origins: &[Origin<'a>],
+    paths: &[Text],
+) -> Result<Vec<FlatItem>, NoMemory>
+    requires typed { AreTypesOf (map instance_plain table.now) types.now }
+    requires long { length paths.now ≡ length origins.now }
+    requires paths { paths.now ≡ map (path_of (map instance_plain table.now)) (map origin_plain origins.now) }
+    ensures { IfOk result (λ ms. map item_plain ms.items ≡ map (flat_item_of (map instance_plain table.now)) (map origin_plain origins.now)) }
+{
+    let mut items = Vec::new(alloc);
+    for k in 0..origins.len() {
+        let item = flat_item(alloc, table, types, &origins[k], paths[k].bytes())?;
+        match items.push(item) {
+            Ok(()) => {}
+            Err(_) => return Err(NoMemory),
+        }
+    }
+    Ok(items)
+}

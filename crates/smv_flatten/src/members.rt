@@ -1,0 +1,57 @@
+// The members of an enumeration, copied.
+ghost use Rattle.std.specs.Prelude.{◌≡◌, IfOk};
+ghost use Rattle.smv_text.specs.View.{plain_domain};
+ghost use Rattle.smv_flat.specs.FlatItems.{domain_members, content_members};
+ghost use Rattle.smv_flat.specs.FlatOrigins.{content_plain};
+
+use smv_flat::Content;
+use smv_text::{Domain, Member, Members};
+use std::alloc::Global;
+use text_core::NoMemory;
+
+fn member(alloc: Global, at: &Member) -> Result<Member, NoMemory>
+    ensures { IfOk result (λ m. m ≡ at.now) }
+{
+    match at {
+        Member::Symbol(name) => {
+            let symbol = name.duplicate(alloc)?;
+            Ok(Member::Symbol(symbol))
+        }
+        Member::Integer(z) => Ok(Member::Integer(*z)),
+    }
+}
+
+#[tactic(auto, using(crate::proofs::Lists::front_is, crate::proofs::Lists::end_is, crate::proofs::Lists::joined_on, crate::proofs::Lists::append_none))]
+fn copied(alloc: Global, members: &Members) -> Result<Members, NoMemory>
+    ensures { IfOk result (λ ms. ms ≡ members.now) }
+{
+    let mut copy = Members::new(alloc);
+    for k in 0..members.len() {
+        let m = member(alloc, members.at(k))?;
+        copy.push(m)?;
+    }
+    Ok(copy)
+}
+
+fn domain_members(alloc: Global, domain: &Domain) -> Result<Members, NoMemory>
+    ensures { IfOk result (λ ms. ms ≡ domain_members (plain_domain domain.now)) }
+{
+    match domain {
+        Domain::Members(members) => copied(alloc, members),
+        Domain::Boolean => Ok(Members::new(alloc)),
+        Domain::Between(_, _) => Ok(Members::new(alloc)),
+        Domain::Bits(_) => Ok(Members::new(alloc)),
+        Domain::Instance(_, _) => Ok(Members::new(alloc)),
+    }
+}
+
+/// The members of an enumeration in the order of the text: none of any other variable, and none of a body.
+pub(crate) fn members_of(alloc: Global, content: &Content) -> Result<Members, NoMemory>
+    ensures { IfOk result (λ ms. ms ≡ content_members (content_plain content.now)) }
+{
+    match content {
+        Content::Variable(_, domain) => domain_members(alloc, domain),
+        Content::Definition(_, _) => Ok(Members::new(alloc)),
+        Content::Actual(_, _) => Ok(Members::new(alloc)),
+    }
+}

@@ -1,0 +1,86 @@
+// The items and the formulas of a flat form, as lists that this crate alone makes.
+ghost use Rattle.std.specs.Prelude.{◌≡◌, ◌<◌, length, slice_index_or};
+
+use smv_flat::{FlatFormula, FlatItem};
+use std::marker::Model;
+
+/// The items of a flat form in their order, seen as their list.
+#[derive(Debug, Drop)]
+pub struct FlatItems {
+    items: Vec<FlatItem>,
+}
+
+impl Model for FlatItems {
+    ghost use Rattle.std.specs.Prelude.{List};
+    ghost use Rattle.smv_flat.specs.declared.items.FlatItem.{FlatItem};
+
+    ghost Value = { List FlatItem };
+
+    ghost view = { λ l. l.items.items };
+}
+
+impl FlatItems {
+    pub(crate) fn of(items: Vec<FlatItem>) -> FlatItems
+        ensures { result ≡ items.items }
+    {
+        FlatItems { items }
+    }
+
+    /// How many items there are.
+    pub fn len(&self) -> usize
+        ensures { result ≡ length self.now }
+    {
+        self.items.len()
+    }
+
+    /// The item with this number.
+    pub fn at(&self, k: usize) -> &FlatItem
+        requires { k < length self.now }
+        ensures { result.now ≡ slice_index_or self.now k result.now }
+    {
+        &self.items[k]
+    }
+}
+
+/// The formulas of a flat form in their order, seen as their list.
+#[derive(Drop)]
+pub struct FlatFormulas {
+    formulas: Vec<FlatFormula>,
+}
+
+impl Model for FlatFormulas {
+    ghost use Rattle.std.specs.Prelude.{List};
+    ghost use Rattle.std.specs.Coded.{codes};
+    ghost use Rattle.smv_flat.specs.contracts.expressions.FlatExpr as expr;
+    ghost use Rattle.smv_flat.specs.contracts.expressions.FlatShape as shape;
+    ghost use Rattle.smv_flat.specs.declared.forms.FlatFormula.{FlatFormula};
+
+    ghost Value = { List FlatFormula };
+
+    ghost coded = { Prim.hlevel (codes, expr.the_row.coded, shape.the_row.coded) };
+
+    ghost view = { λ l. l.formulas.items };
+}
+
+impl FlatFormulas {
+    pub(crate) fn of(formulas: Vec<FlatFormula>) -> FlatFormulas
+        ensures { result ≡ formulas.items }
+    {
+        FlatFormulas { formulas }
+    }
+
+    /// How many formulas there are.
+    pub fn len(&self) -> usize
+        ensures { result ≡ length self.now }
+    {
+        self.formulas.len()
+    }
+
+    /// The formula at this place.
+    pub fn at(&self, k: usize) -> &FlatFormula
+        requires { k < length self.now }
+        ensures { result.now ≡ slice_index_or self.now k result.now }
+    {
+        &self.formulas[k]
+    }
+}
