@@ -20,3 +20,6 @@ pub mod FormLemmas
 pub mod WidthLemmas
 pub mod FrontLemmas
 pub mod WidthLaw
+pub mod SourceWidths
+pub mod ModelWidths
+pub mod SpelledWidths

@@ -1,8 +1,8 @@
 -- The width of an interval is the least that holds it.
-use Rattle.std.proofs.Common.{◌≡◌, ℕ, ◌+◌, ◌-◌, ◌^◌, ◌<◌, ◌≤◌, max, ℤ, pos, negsuc, neg_ℤ, ◌≤ℤ◌, ◌<ℤ◌, ap, arith}
+use Rattle.std.proofs.Common.{◌≡◌, ℕ, ◌+◌, ◌-◌, ◌^◌, ◌<◌, ◌≤◌, ℤ, pos, negsuc, ◌≤ℤ◌, ap, arith}
 use Rattle.std.proofs.Math.Pow.{pow_mono}
 use Rattle.std.proofs.lemmas.Int.{ints}
-use Rattle.smv_flat.specs.FlatWidth.{binary_digits, integer_width, interval_width, Holds, IsLeastWidth, WidthIsLeast, IntervalWidthIsLeast}
+use Rattle.smv_flat.specs.FlatWidth.{binary_digits, integer_width, interval_width, Holds, WidthIsLeast, IntervalWidthIsLeast}
 use Rattle.smv_flat.proofs.WidthLemmas.{digits_below, digits_most}
 
 -- ---- one integer
@@ -30,7 +30,7 @@ own_least (negsuc n) v some h =
     let most : binary_digits n ≤ v - 1 = digits_most (v - 1) n (omega (arith, ints, above)) in
     omega (arith, some, most)
 
-own_some : (z : ℤ) → 1 ≤ integer_width z
+pub own_some : (z : ℤ) → 1 ≤ integer_width z
 own_some (pos n) = omega arith
 own_some (negsuc n) = omega arith
 

@@ -1,5 +1,5 @@
 -- The binary digits of a number, and the fronts of a chain.
-use Rattle.std.proofs.Common.{◌≡◌, ℕ, zero, suc, ◌+◌, ◌-◌, ◌*◌, ◌/◌, ◌^◌, ◌<◌, ◌≤◌, max, List, [], ◌∷◌, drop, map, Option, Some, None, option_map, Vec, Box, Global, refl, sym, ap, ◌∙◌, subst, rules, arith}
+use Rattle.std.proofs.Common.{◌≡◌, ℕ, zero, suc, ◌+◌, ◌-◌, ◌*◌, ◌/◌, ◌^◌, ◌<◌, ◌≤◌, max, List, ◌∷◌, drop, map, Option, option_map, Vec, Box, Global, refl, ap, ◌∙◌, rules, arith}
 use Rattle.std.proofs.Math.Pow.{pow_mono}
 use Rattle.std.proofs.Math.Nat.{pow-suc, lt_of_not-le}
 use Rattle.std.specs.Int.Count.{count_leading_zeros, leading_unique}

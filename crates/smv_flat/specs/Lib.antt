@@ -9,3 +9,4 @@ pub mod FlatFormulas
 pub mod FlatItemView
 pub mod FlatWidth
 pub mod FlatBounds
+pub mod SourceWidth

@@ -2,6 +2,7 @@
 ghost use Rattle.smv_flat.specs.FlatLaws.{RowIsThere, RowIsOne, SameTruth};
 ghost use Rattle.smv_flat.specs.FlatBounds.{NumbersLie};
 ghost use Rattle.smv_flat.specs.FlatWidth.{WidthIsLeast, IntervalWidthIsLeast};
+ghost use Rattle.smv_flat.specs.SourceWidth.{SameWidth, SameModelWidth};
 
 /// Each state and label of a model in which nothing reaches itself has a row that meets the flat form's bodies.
 pub fn row_is_there()
@@ -32,4 +33,16 @@ pub fn interval_width_is_least()
 /// Each number in the formulas of an accepted model's flat form is that of an item or a symbol that is there.
 pub fn numbers_lie()
     ensures { NumbersLie }
+{}
+
+/// The flat form of an expression whose checks hold has the width that the types of the expression's subexpressions and of the
+/// fronts of its chains give.
+pub fn same_width()
+    ensures { SameWidth }
+{}
+
+/// Of a spelled and accepted model the flat form has the width that the model gives: the greatest among the types of its variables
+/// and the widths of its expressions.
+pub fn same_model_width()
+    ensures { SameModelWidth }
 {}

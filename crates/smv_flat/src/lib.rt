@@ -25,7 +25,8 @@ pub use forms::{FlatFormula, Role};
 pub use formulas::formulas_in;
 pub use items::{FlatItem, ItemKind};
 pub use laws::{
-    interval_width_is_least, numbers_lie, row_is_one, row_is_there, same_truth, width_is_least,
+    interval_width_is_least, numbers_lie, row_is_one, row_is_there, same_model_width, same_truth,
+    same_width, width_is_least,
 };
 pub use naming::Naming;
 pub use numbers::{Bodies, Numbers, numbers_of, paths_of};
