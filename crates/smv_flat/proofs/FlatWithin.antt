@@ -1,11 +1,10 @@
 -- The numbers in a flat form are those of items and symbols that are there.
-use Rattle.std.proofs.Common.{◌≡◌, ℕ, ◌+◌, ◌<◌, ◌≤◌, Bool, true, false, ◌&&◌, nat_lt, IsTrue, List, [], ◌∷◌, ◌++◌, map, length, position, flat_map, Option, Some, None, refl, sym, ap, ◌∙◌, subst, arith}
+use Rattle.std.proofs.Common.{◌≡◌, ℕ, ◌+◌, ◌≤◌, Bool, true, false, ◌&&◌, nat_lt, IsTrue, List, [], ◌∷◌, ◌++◌, map, length, position, flat_map, Option, Some, None, refl, sym, ◌∙◌, subst, arith}
 use Rattle.std.specs.List.{list_all}
 use Rattle.std.specs.Str.{bytes_eq}
 use Rattle.std.proofs.lemmas.Bool.{lt-ltb}
 use Rattle.std.proofs.lemmas.List.{length-append, length-map}
 use Rattle.std.proofs.lemmas.List.Folds.{list_all-append}
-use Rattle.std.proofs.lemmas.Option.{slice_get_within}
 use Rattle.std.proofs.lemmas.List.Quantifiers.{position-Some}
 use Rattle.smv_text.specs.declared.tree.Path.{Path}
 use Rattle.smv_text.specs.declared.tree.When.{When}
@@ -15,7 +14,7 @@ use Rattle.smv_meaning.specs.Names.{Found, variable_at, body_at, instance_at, sy
 use Rattle.smv_meaning.specs.Types.{ExprType}
 use Rattle.smv_meaning.specs.Checks.{Position, Named, single, under_next, across, behind}
 use Rattle.smv_meaning.specs.Naming.{in_body}
-use Rattle.smv_meaning.specs.Phases.{in_state, in_step, in_assignment, over_instances, Assigned, element_assigns, is_assignable, module_checks, declaration_checks, size_checks, later_checks, assignment_checks}
+use Rattle.smv_meaning.specs.Phases.{in_state, in_step, in_assignment, over_instances, element_assigns, is_assignable, module_checks, declaration_checks, size_checks, later_checks, assignment_checks}
 use Rattle.smv_meaning.specs.Checked.{path_checks_of, type_checks_of}
 use Rattle.smv_meaning.specs.Settled.{types_in, cycle_checks_of}
 use Rattle.smv_meaning.proofs.OperatorLaws.{two_true}

@@ -1,10 +1,10 @@
 -- The numbers in a flat form are those of items and symbols that are there.
-use Rattle.std.specs.Prelude.{ℕ, Bool, true, ◌&&◌, nat_lt, List, length, IsTrue}
+use Rattle.std.specs.Prelude.{ℕ, Bool, true, ◌&&◌, nat_lt, length, IsTrue}
 use Rattle.std.specs.List.{list_all}
 use Rattle.smv_text.specs.Tree.{PlainSource}
 use Rattle.smv_meaning.specs.Phases.{IsAccepted}
 use Rattle.smv_flat.specs.declared.forms.Role.{Role}
-use Rattle.smv_flat.specs.declared.forms.Role.TheVariants.{Body, Assign, Init, Trans, Invar, Invariant}
+use Rattle.smv_flat.specs.declared.forms.Role.TheVariants.{Body, Assign}
 use Rattle.smv_flat.specs.FlatTree.{FlatTree, flat_truth, flat_number, flat_literal, flat_symbol, flat_item, flat_prefix, flat_chain, flat_choice, flat_cases, flat_select, flat_call, flat_set, flat_range, FlatLinks, no_flat_links, flat_link, FlatBranches, no_flat_branches, flat_branch, FlatTrees, no_flat_trees, flat_tree_then}
 use Rattle.smv_flat.specs.FlatForms.{Form, PlainFlat, flat_smv}
 
