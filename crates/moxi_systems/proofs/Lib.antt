@@ -6,3 +6,5 @@ pub mod CycleLaws
 pub mod ScriptLaws
 pub mod Building
 pub mod Pieces
+pub mod KindLaws
+pub mod ScriptKinds

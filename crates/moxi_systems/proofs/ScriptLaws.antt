@@ -4,17 +4,19 @@ use Rattle.std.specs.List.{AllByRecursion}
 use Rattle.std.proofs.lemmas.Bool.{cases_lt}
 use Rattle.std.proofs.lemmas.Bool.Decides.{nat_tests}
 use Rattle.std.proofs.lemmas.Option.{none-some, same_Some}
+use Rattle.text_core.specs.declared.place.Kind.{Kind}
+use Rattle.text_core.specs.declared.place.Kind.TheVariants.{S, M, B, X, Y}
 use Rattle.text_core.specs.declared.place.Place.{Place}
 use Rattle.text_core.specs.declared.place.Refusal.{Refusal}
 use Rattle.moxi_sexpr.specs.Lexing.{refusal}
 use Rattle.moxi_sexpr.specs.Tree.{Tree, atom, list, Trees, no_trees, tree}
-use Rattle.moxi_terms.specs.Failures.{key, pick, sooner, least, IsIn}
+use Rattle.moxi_terms.specs.Failures.{key, pick, sooner, least, IsIn, number_of}
 use Rattle.moxi_terms.specs.Reading.{prime_failures}
 use Rattle.moxi_terms.specs.View.{ScopeState}
 use Rattle.moxi_systems.specs.declared.attributes.Command.TheVariants.{Check}
 use Rattle.moxi_systems.specs.declared.commands.CommandName.{CommandName}
 use Rattle.moxi_systems.specs.declared.commands.CommandName.TheVariants as name
-use Rattle.moxi_systems.specs.Answer.{HasByte, ComesFirst, IsFirst}
+use Rattle.moxi_systems.specs.Answer.{HasByte, HasScriptKind, ComesFirst, IsFirst, is_script_kind}
 use Rattle.moxi_systems.specs.Attributes.{shape_holds}
 use Rattle.moxi_systems.specs.Checks.{CheckReading, check_failures, check_in, content_failures, content_of, headed_failures as check_headed_failures}
 use Rattle.moxi_systems.specs.Collecting.{also, fails_if}
@@ -162,3 +164,22 @@ each_first r (f ∷ fs) a b = (first_by_key r f a.0 b.0, each_first r fs a.1 b.1
 
 pub first_is : (fs : List Refusal) (r : Refusal) → AllByRecursion HasByte fs → least fs ≡ Some r → IsFirst r fs
 first_is fs r b h = let l = least_of fs r h in record { among = l.0; before = each_first r fs l.1 b }
+
+-- what holds of each of these holds of one of them
+pub each_in : (P : Refusal → Type 0) (r : Refusal) (fs : List Refusal) → IsIn r fs → AllByRecursion P fs → P r
+each_in P r [] i a = absurd i
+each_in P r (f ∷ fs) i a = elim i [
+  | inl e ↦ subst P (sym e) a.0
+  | inr j ↦ each_in P r fs j a.1
+]
+
+has_byte : (k : Kind) → is_script_kind k ≡ true → number_of k < 256
+has_byte (S n) h = absurd (cc)
+has_byte (M n) h = grind (arith, nat_tests)
+has_byte (B n) h = absurd (cc)
+has_byte (X n) h = absurd (cc)
+has_byte (Y n) h = absurd (cc)
+
+pub kinds_have_bytes : (fs : List Refusal) → AllByRecursion HasScriptKind fs → AllByRecursion HasByte fs
+kinds_have_bytes [] a = tt
+kinds_have_bytes (f ∷ fs) a = (has_byte f.kind a.0, kinds_have_bytes fs a.1)

@@ -1,6 +1,8 @@
 -- What the reader of scripts answers, and which of failing tests is the first.
-use Rattle.std.specs.Prelude.{◌≡◌, ◌⊎◌, ◌<◌, ◌≤◌, Some, List, Result, Ok, Err}
+use Rattle.std.specs.Prelude.{◌≡◌, ◌⊎◌, ◌<◌, ◌≤◌, nat_le, Bool, true, false, ◌&&◌, Some, List, Result, Ok, Err}
 use Rattle.std.specs.List.{AllByRecursion}
+use Rattle.text_core.specs.declared.place.Kind.{Kind}
+use Rattle.text_core.specs.declared.place.Kind.TheVariants.{S, M, B, X, Y}
 use Rattle.text_core.specs.declared.place.Place.{Place}
 use Rattle.text_core.specs.declared.place.Refusal.{Refusal}
 use Rattle.moxi_sexpr.specs.Tree.{Trees}
@@ -29,6 +31,17 @@ IsRefusal r (Ok x) = ⊥
 IsRefusal r (Err (Bad f)) = f ≡ r
 IsRefusal r (Err NoMemory) = Unit {0}
 
+-- M4 to M14, the kinds of the tests of scripts
+abbrev pub is_script_kind : Kind → Bool
+is_script_kind (S n) = false
+is_script_kind (M n) = nat_le 4 n && nat_le n 14
+is_script_kind (B n) = false
+is_script_kind (X n) = false
+is_script_kind (Y n) = false
+
+abbrev pub HasScriptKind : Refusal → Type 0
+HasScriptKind f = is_script_kind f.kind ≡ true
+
 -- the number of a kind is a byte
 abbrev pub HasByte : Refusal → Type 0
 HasByte f = number_of f.kind < 256
@@ -41,3 +54,8 @@ ComesFirst r f = (r.place.offset < f.place.offset) ⊎ ((r.place.offset ≡ f.pl
 pub record IsFirst (r : Refusal) (fs : List Refusal) : Type 0 where
   pub among : IsIn r fs
   pub before : AllByRecursion (ComesFirst r) fs
+
+-- a refusal is the first of the failing tests of these forms, and of a kind of scripts; want of memory says nothing of them
+abbrev pub IsFirstOf : Trees → Place → ScriptEnd → Type 0
+IsFirstOf ts end (Bad r) = HasScriptKind r × IsFirst r (script_failures ts end)
+IsFirstOf ts end NoMemory = Unit {0}

@@ -257,8 +257,9 @@ fn meets(alloc: Global, script: &Script, q: &Query, trace: &[Vec<bool>]) -> Resu
     )
 }
 
-/// A script, its query's number, a trace, and whether it behaves and meets the query at its last step.
-type Row = (&'static [u8], usize, &'static [&'static [bool]], bool, bool);
+/// A script, its query's number, a trace with a digit for each variable and a blank between two steps, and whether it behaves
+/// and meets the query at its last step.
+type Row = (&'static [u8], usize, &'static [u8], bool, bool);
 
 const LATCH: &[u8] =
     b"(define-system Latch :input ((set Bool)) :output ((out Bool)) :local ((kept Bool)) :init (not kept) :trans (= kept' (or kept set)) :inv (= out kept))\n(define-system Top :input ((go Bool)) :output ((lamp Bool)) :subsys (one (Latch go lamp)))\n(check-system Top :input ((g Bool)) :output ((l Bool)) :reachable (lit l) :query (q (lit)))";
@@ -270,45 +271,41 @@ const BEGINS: &[u8] =
     b"(define-system S :input ((x Bool)))(check-system S :input ((x Bool)) :current (c (not x)) :reachable (r x) :query (q (r c)))";
 
 const ROWS: [Row; 12] = [
-    (LATCH, 0, &[&[true, false], &[false, true]], true, true),
-    (LATCH, 0, &[&[true, false]], true, false),
-    (LATCH, 0, &[&[true, true]], false, false),
-    (LATCH, 0, &[&[false, false], &[false, true]], false, false),
-    (
-        LATCH,
-        0,
-        &[&[true, false], &[false, true], &[false, true]],
-        true,
-        true,
-    ),
-    (
-        LATCH,
-        0,
-        &[&[true, false], &[false, true], &[false, false]],
-        false,
-        false,
-    ),
-    (TURNS, 0, &[&[false], &[true]], true, true),
-    (TURNS, 1, &[&[false], &[true]], true, false),
-    (TURNS, 0, &[&[false]], true, false),
-    (TURNS, 0, &[&[false], &[false]], false, false),
-    (BEGINS, 0, &[&[false], &[true]], true, true),
-    (BEGINS, 0, &[&[true], &[true]], true, false),
+    (LATCH, 0, b"10 01", true, true),
+    (LATCH, 0, b"10", true, false),
+    (LATCH, 0, b"11", false, false),
+    (LATCH, 0, b"00 01", false, false),
+    (LATCH, 0, b"10 01 01", true, true),
+    (LATCH, 0, b"10 01 00", false, false),
+    (TURNS, 0, b"0 1", true, true),
+    (TURNS, 1, b"0 1", true, false),
+    (TURNS, 0, b"0", true, false),
+    (TURNS, 0, b"0 0", false, false),
+    (BEGINS, 0, b"0 1", true, true),
+    (BEGINS, 0, b"1 1", true, false),
 ];
 
-fn trace_of(alloc: Global, rows: &[&[bool]]) -> Result<Vec<Vec<bool>>, Fail> {
+// The trace of a text.
+fn trace_of(alloc: Global, text: &[u8]) -> Result<Vec<Vec<bool>>, Fail> {
     let mut trace = Vec::new(alloc);
-    for row in rows {
-        trace.push(Vec::from_slice(alloc, row)?)?;
+    let mut row = Vec::new(alloc);
+    for b in text {
+        if *b == b' ' {
+            trace.push(row)?;
+            row = Vec::new(alloc);
+        } else {
+            row.push(*b == b'1')?;
+        }
     }
+    trace.push(row)?;
     Ok(trace)
 }
 
 #[test]
 fn traces_behave_and_meet_queries(rt: HostRuntime) -> Result<(), Fail> {
-    for (text, number, rows, behaving, meeting) in &ROWS {
+    for (text, number, steps, behaving, meeting) in &ROWS {
         let script = script_of(rt.alloc(), text)?;
-        let trace = trace_of(rt.alloc(), rows)?;
+        let trace = trace_of(rt.alloc(), steps)?;
         assert_eq!(rt; checked_behaves(rt.alloc(), &script, &trace)?, *behaving);
         assert!(rt; *number < script.check.queries.len());
         let met = meets(

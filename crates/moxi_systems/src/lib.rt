@@ -41,7 +41,7 @@ pub use commands::{Draft, nothing_read, read_commands};
 pub use cycles::{read_whole_script, test_cycles};
 pub use entries::{Declared, Entries};
 pub use labels::{Labelled, Labels};
-pub use laws::{least_is_least, one_script};
+pub use laws::{failures_have_kinds, least_is_least, one_script};
 pub use links::test_links;
 pub use lists::{DeclaredList, Lists};
 pub use outcome::ScriptEnd;

@@ -5,7 +5,7 @@ ghost use Rattle.moxi_sexpr.specs.Printing.{ArePrintable};
 ghost use Rattle.moxi_sexpr.specs.Tree.{plain_forms};
 ghost use Rattle.moxi_terms.specs.Failures.{least};
 ghost use Rattle.moxi_terms.specs.Names.{place_of};
-ghost use Rattle.moxi_systems.specs.Answer.{IsFirstFailure, IsRefusal, IsScript};
+ghost use Rattle.moxi_systems.specs.Answer.{IsFirstFailure, IsFirstOf, IsRefusal, IsScript};
 ghost use Rattle.moxi_systems.specs.Checks.{plain_check_reading};
 ghost use Rattle.moxi_systems.specs.Commands.{nothing_read, plain_draft};
 ghost use Rattle.moxi_systems.specs.Labels.{plain_list};
@@ -186,9 +186,11 @@ pub fn read_script(alloc: Global, forms: &Forms, end: Place) -> Result<Script, S
     ensures spelled { IfOk result (λ s. SpellsScript (plain_forms forms.now.items) end (plain_script s)) }
     // The script that the forms spell is read, unless memory runs out.
     ensures read { (s : PlainScript) → SpellsScript (plain_forms forms.now.items) end s → IsScript s result }
-    // A refusal is the failing test that comes first.
+    // A refusal is the least of the failing tests.
     ensures refused { IfErr result (IsFirstFailure (plain_forms forms.now.items) end) }
-    // The failing test that comes first is answered, unless memory runs out.
+    // It is M4 to M14, at the least place where a test fails, and has the least number there.
+    ensures first { IfErr result (IsFirstOf (plain_forms forms.now.items) end) }
+    // The least of the failing tests is answered, unless memory runs out.
     ensures answered { (r : Refusal) → least (script_failures (plain_forms forms.now.items) end) ≡ Some r → IsRefusal r result }
 {
     let mut draft = nothing_read(alloc);

@@ -2,16 +2,17 @@ use Rattle.std.proofs.Common.{◌≡◌, Result, Ok, Err, IfOk, IfErr, Some, sym
 use Rattle.std.proofs.lemmas.Option.{none-some, same_Some}
 use Rattle.text_core.specs.declared.place.Place.{Place}
 use Rattle.text_core.specs.declared.place.Refusal.{Refusal}
-use Rattle.moxi_sexpr.specs.Tree.{Trees}
+use Rattle.moxi_sexpr.specs.Tree.{Trees, plain_forms}
 use Rattle.moxi_terms.specs.Failures.{least}
 use Rattle.moxi_systems.specs.declared.outcome.ScriptEnd.{ScriptEnd}
 use Rattle.moxi_systems.specs.declared.outcome.ScriptEnd.TheVariants.{Bad, NoMemory}
 use Rattle.moxi_systems.specs.declared.script.Script.{Script}
-use Rattle.moxi_systems.specs.Answer.{IsFirstFailure, IsRefusal, IsScript}
+use Rattle.moxi_systems.specs.Answer.{HasScriptKind, IsFirstFailure, IsFirstOf, IsRefusal, IsScript}
 use Rattle.moxi_systems.specs.Script.{PlainScript}
 use Rattle.moxi_systems.specs.ScriptView.{plain_script}
 use Rattle.moxi_systems.specs.Spelling.{SpellsScript, script_failures}
-use Rattle.moxi_systems.proofs.ScriptLaws.{one_script}
+use Rattle.moxi_systems.proofs.ScriptKinds.{script_kinds}
+use Rattle.moxi_systems.proofs.ScriptLaws.{each_in, first_is, kinds_have_bytes, one_script}
 use Rattle.moxi_systems.proofs.read.read_script.Goals as goal
 
 is_read : (ts : Trees) (end : Place) (x : Result Script ScriptEnd) (s : PlainScript) → IfOk x (λ a. SpellsScript ts end (plain_script a)) → IfErr x (IsFirstFailure ts end) → SpellsScript ts end s → IsScript s x
@@ -23,6 +24,16 @@ is_answered : (ts : Trees) (end : Place) (x : Result Script ScriptEnd) (r : Refu
 is_answered ts end (Ok a) r h g first = none-some r (sym (ap least h.passes) ∙ first)
 is_answered ts end (Err (Bad f)) r h g first = same_Some f r (sym g ∙ first)
 is_answered ts end (Err NoMemory) r h g first = tt
+
+is_first : (ts : Trees) (end : Place) (x : Result Script ScriptEnd) → IfErr x (IsFirstFailure ts end) → IfErr x (IsFirstOf ts end)
+is_first ts end (Ok a) g = tt
+is_first ts end (Err (Bad r)) g =
+    let f = first_is (script_failures ts end) r (kinds_have_bytes (script_failures ts end) (script_kinds ts end)) g in
+    (each_in HasScriptKind r (script_failures ts end) f.among (script_kinds ts end), f)
+is_first ts end (Err NoMemory) g = tt
+
+pub returns-clause-first : goal.returns-clause-first
+returns-clause-first c = is_first (plain_forms c.args.forms.now.items) c.args.end c.script_in.result c.script_in.ensures.refused
 
 pub returns-clause-read : goal.returns-clause-read
 returns-clause-read c s h = is_read _ c.args.end c.script_in.result s c.script_in.ensures.spelled c.script_in.ensures.refused h
