@@ -46,3 +46,6 @@ pub mod WholeRanks
 pub mod Pieces
 pub mod KindLaws
 pub mod ScriptKinds
+pub mod AskingSorts
+pub mod AskingStands
+pub mod AskingLaws

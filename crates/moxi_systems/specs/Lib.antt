@@ -26,3 +26,4 @@ pub mod Whole
 pub mod Again
 pub mod NamesOfScripts
 pub mod ReadBack
+pub mod Asking

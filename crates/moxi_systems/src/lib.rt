@@ -2,6 +2,9 @@
 #![tactic(auto)]
 
 mod again_laws;
+mod asking;
+#[cfg(test)]
+mod asking_tests;
 mod attributes;
 #[cfg(test)]
 mod behaving_tests;
@@ -40,6 +43,9 @@ mod uses;
 mod whole_laws;
 
 pub use again_laws::printed_scripts_are_spelled;
+pub use asking::{
+    queries_can_be_asked, query_failing, steps_are_tested_by_system_and_query,
+};
 pub use attributes::{Command, Key};
 pub use checks::{ListPlaces, ReadCheck};
 pub use commands::{Draft, nothing_read, read_commands};
