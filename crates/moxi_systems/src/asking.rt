@@ -111,13 +111,7 @@ fn is_current(
     ensures { IfOk result (λ holds. holds ≡ (if step == 0 then currents_hold (plain_script script.now) query.now (at now.now) else true)) }
 {
     if step == 0 {
-        all_hold(
-            alloc,
-            script,
-            &script.check.currents,
-            &query.currents,
-            now,
-        )
+        all_hold(alloc, script, &script.check.currents, &query.currents, now)
     } else {
         Ok(true)
     }
