@@ -1,5 +1,5 @@
 // What a query asks of a step.
-ghost use Rattle.std.specs.Prelude.{◌≡◌, ◌<◌, ◌==◌, ◌++◌, [], List, ℕ, length, map, true, if◌then◌else◌, IfOk};
+ghost use Rattle.std.specs.Prelude.{◌≡◌, ◌<◌, ◌==◌, ◌++◌, ℕ, length, map, true, if◌then◌else◌, IfOk};
 ghost use Rattle.std.specs.List.{AllByRecursion, list_all};
 ghost use Rattle.moxi_terms.specs.Names.{or_else};
 ghost use Rattle.moxi_terms.specs.Sorts.{Fit};
