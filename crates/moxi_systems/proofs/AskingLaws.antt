@@ -1,14 +1,12 @@
 -- The queries of a whole script can be asked, and the tests of a step in two parts.
-use Rattle.std.proofs.Common.{◌≡◌, ℕ, zero, suc, ◌+◌, ◌<◌, ◌≤◌, ◌==◌, ◌&&◌, drop, Bool, true, false, cond, Option, None, Some, List, [], ◌∷◌, ◌++◌, length, map, refl, sym, ap, ◌∙◌, subst, arith}
-use Rattle.std.specs.Prelude.{slice_get, slice_index_or}
+use Rattle.std.proofs.Common.{◌≡◌, ℕ, zero, suc, ◌+◌, ◌<◌, ◌≤◌, ◌&&◌, drop, Bool, true, false, cond, Some, List, [], ◌∷◌, ◌++◌, length, map, refl, sym, ap, ◌∙◌, subst, arith}
+use Rattle.std.specs.Prelude.{slice_index_or}
 use Rattle.std.specs.List.{AllByRecursion, list_all}
 use Rattle.std.proofs.Math.Logic.{∥∥₁_map}
 use Rattle.text_core.specs.declared.verdict.Clause.{Clause}
 use Rattle.moxi_terms.specs.declared.data.Primes.TheVariants.{Refused}
 use Rattle.moxi_terms.specs.declared.data.Sort.TheVariants.{Truth}
-use Rattle.moxi_terms.specs.Answer.{locals_of}
 use Rattle.moxi_terms.specs.Names.{or_else}
-use Rattle.moxi_terms.specs.Tree.{Tree}
 use Rattle.moxi_terms.specs.View.{plain}
 use Rattle.moxi_terms.proofs.SortedParts.{known_variables}
 use Rattle.moxi_systems.specs.declared.script.Query.{Query}
@@ -18,7 +16,7 @@ use Rattle.moxi_systems.specs.Meeting.{Hiddens, first_failing, step_tests}
 use Rattle.moxi_systems.specs.declared.script.Formula.{Formula}
 use Rattle.moxi_systems.specs.Script.{PlainFormula, PlainScript, formula_at, plain_formula}
 use Rattle.moxi_systems.specs.Whole.{AreFormulas, IsWhole, IsWholeQuery, check_variables, over}
-use Rattle.moxi_systems.proofs.AskingSorts.{le_held, lt_held, sorted_held}
+use Rattle.moxi_systems.proofs.AskingSorts.{lt_held, sorted_held}
 use Rattle.moxi_systems.proofs.AskingStands.{stands_sorted}
 use Rattle.moxi_systems.proofs.Forms.{items_end, items_step}
 

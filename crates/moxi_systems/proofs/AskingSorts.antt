@@ -1,18 +1,16 @@
 -- The sort of a term is computed from it. So where it is known that a term has a sort, without how, it can be shown.
-use Rattle.std.proofs.Common.{◌≡◌, ℕ, zero, suc, ◌<◌, ◌≤◌, nat_le, nat_lt, Bool, true, false, eqb, Option, None, Some, Result, Ok, Err, List, [], ◌∷◌, ◌++◌, length, refl, sym, ap, ◌∙◌, subst, arith}
+use Rattle.std.proofs.Common.{◌≡◌, ℕ, ◌<◌, ◌≤◌, nat_le, nat_lt, Bool, true, false, eqb, Option, None, Some, Result, Ok, Err, List, [], ◌∷◌, ◌++◌, length, refl, sym, ap, ◌∙◌, subst, arith}
 use Rattle.std.specs.Prelude.{slice_get, slice_index_or, ◌^◌}
 use Rattle.std.proofs.Math.Bool.{Bool-set}
 use Rattle.std.proofs.Math.Logic.{∥∥₁_elim, ∥∥₁_map}
 use Rattle.std.proofs.lemmas.Bool.Decides.{nat_tests}
 use Rattle.std.proofs.lemmas.Option.{none-some, same_Some}
-use Rattle.word_core.specs.Words.{BitVector, IsWord}
 use Rattle.word_core.specs.declared.word.TheConstants.{WIDEST}
 use Rattle.moxi_terms.specs.declared.data.Sort.{Sort}
 use Rattle.moxi_terms.specs.declared.data.Sort.TheVariants.{Truth, Bits, Choice}
 use Rattle.moxi_terms.specs.declared.data.Datum.{Datum}
 use Rattle.moxi_terms.specs.declared.data.Datum.TheVariants as datum
 use Rattle.moxi_terms.specs.declared.term.Enumeration.{Enumeration}
-use Rattle.moxi_terms.specs.Operators.{nothing}
 use Rattle.moxi_terms.specs.Sorted.{HasSort, HaveSorts}
 use Rattle.moxi_terms.specs.Sorts.{IsConstant, IsOf, op_sort, same_sort}
 use Rattle.moxi_terms.specs.Tree.{Tree, constant, variable, bound, apply, binding, call, Trees, no_trees, tree, PlainFunction, sorts_of}
@@ -31,7 +29,7 @@ held_not A f h = let e : false ≡ true = held A false (λ a. absurd (f a)) h in
 nat_held : (a b : ℕ) → ∥ a ≡ b ∥₁ → a ≡ b
 nat_held a b h = let e : eqb a b ≡ true = held (a ≡ b) (eqb a b) (λ e. grind (arith, nat_tests)) h in grind (arith, nat_tests)
 
-pub le_held : (a b : ℕ) → ∥ a ≤ b ∥₁ → a ≤ b
+le_held : (a b : ℕ) → ∥ a ≤ b ∥₁ → a ≤ b
 le_held a b h = let e : nat_le a b ≡ true = held (a ≤ b) (nat_le a b) (λ l. grind (arith, nat_tests)) h in grind (arith, nat_tests)
 
 pub lt_held : (a b : ℕ) → ∥ a < b ∥₁ → a < b

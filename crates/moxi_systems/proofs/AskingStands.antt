@@ -1,28 +1,24 @@
 -- A term that can stand in a place has its sort there.
-use Rattle.std.proofs.Common.{◌≡◌, ℕ, zero, suc, ◌+◌, Bool, true, false, cond, eqb, Option, None, Some, List, [], ◌∷◌, ◌++◌, length, refl, sym, ap, ◌∙◌, subst, arith}
+use Rattle.std.proofs.Common.{◌≡◌, ℕ, ◌+◌, Bool, true, false, cond, eqb, Option, None, Some, List, [], ◌∷◌, ◌++◌, length, refl, sym, ap, ◌∙◌, subst, arith}
 use Rattle.std.specs.Prelude.{slice_get, option_and_then, codes}
 use Rattle.std.specs.Option.{option_map}
 use Rattle.std.specs.Str.{bytes_eq}
-use Rattle.std.proofs.lemmas.Option.{none-some, same_Some}
 use Rattle.moxi_terms.specs.declared.data.Sort.{Sort}
 use Rattle.moxi_terms.specs.declared.data.Sort.TheVariants.{Truth, Bits, Choice}
 use Rattle.moxi_terms.specs.declared.data.Datum.{Datum}
 use Rattle.moxi_terms.specs.declared.data.Datum.TheVariants as datum
-use Rattle.moxi_terms.specs.declared.data.Primes.{Primes}
 use Rattle.moxi_terms.specs.declared.names.Local.{Local}
 use Rattle.moxi_terms.specs.declared.names.Meaning.{Meaning}
 use Rattle.moxi_terms.specs.declared.names.Meaning.TheVariants as meaning
-use Rattle.moxi_terms.specs.declared.term.Enumeration.{Enumeration}
 use Rattle.moxi_terms.specs.declared.term.Variable.{Variable}
-use Rattle.moxi_terms.specs.Answer.{locals_of}
 use Rattle.moxi_terms.specs.Names.{all_constants, constant_named, constant_numbers, function_names, or_else, place_of}
 use Rattle.moxi_terms.specs.Reading as reading
 use Rattle.moxi_terms.specs.Reading.{Context, Found, meaning_of, names_of}
 use Rattle.moxi_terms.specs.Sorted.{HasSort, HaveSorts}
-use Rattle.moxi_terms.specs.Sorts.{IsConstant, IsOf}
+use Rattle.moxi_terms.specs.Sorts.{IsOf}
 use Rattle.moxi_terms.specs.Tree.{Tree, constant, variable, bound, apply, binding, call, Trees, no_trees, tree, PlainFunction, sorts_of}
 use Rattle.moxi_terms.specs.WellSorted.{HaveKnownSorts}
-use Rattle.moxi_terms.proofs.SortedParts.{FoundIn, constant_is, first_found, known_append, known_variables, last_found}
+use Rattle.moxi_terms.proofs.SortedParts.{FoundIn, constant_is, first_found, known_append, last_found}
 use Rattle.moxi_print.specs.Standing.{StandEach, Stands, StandsValue, bound_locals}
 use Rattle.moxi_print.specs.Terms.{constant_name, name_at}
 

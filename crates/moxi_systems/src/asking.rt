@@ -1,5 +1,5 @@
 // What a query asks of a step.
-ghost use Rattle.std.specs.Prelude.{◌≡◌, ◌<◌, ◌==◌, ◌++◌, [], List, ℕ, length, map, true, if◌then◌else◌, IfOk};
+ghost use Rattle.std.specs.Prelude.{◌≡◌, ◌<◌, ◌==◌, ◌++◌, ℕ, length, map, true, if◌then◌else◌, IfOk};
 ghost use Rattle.std.specs.List.{AllByRecursion, list_all};
 ghost use Rattle.moxi_terms.specs.Names.{or_else};
 ghost use Rattle.moxi_terms.specs.Sorts.{Fit};
@@ -111,13 +111,7 @@ fn is_current(
     ensures { IfOk result (λ holds. holds ≡ (if step == 0 then currents_hold (plain_script script.now) query.now (at now.now) else true)) }
 {
     if step == 0 {
-        all_hold(
-            alloc,
-            script,
-            &script.check.currents,
-            &query.currents,
-            now,
-        )
+        all_hold(alloc, script, &script.check.currents, &query.currents, now)
     } else {
         Ok(true)
     }

@@ -1,6 +1,7 @@
 // What queries ask of a step.
-ghost use Rattle.std.specs.Prelude.{◌≡◌, ◌∷◌, [], true};
+ghost use Rattle.std.specs.Prelude.{◌≡◌, ◌∷◌, [], true, IfOk};
 ghost use Rattle.moxi_terms.specs.Tree.{sorts_of};
+ghost use Rattle.moxi_terms.specs.declared.data.Datum.TheVariants as datum;
 ghost use Rattle.moxi_terms.specs.declared.data.Sort.TheVariants as sorts;
 ghost use Rattle.moxi_systems.specs.Script.{plain_check};
 ghost use Rattle.moxi_systems.specs.Whole.{check_variables};
@@ -14,7 +15,9 @@ use std::test::Fail;
 use text_core::{Clause, Items};
 
 // One value, of the one variable.
-fn one(alloc: Global, x: bool) -> Result<Env, Fail> {
+fn one(alloc: Global, x: bool) -> Result<Env, Fail>
+    ensures { IfOk result (λ now. now ≡ datum.Truth x ∷ []) }
+{
     let mut now: Env = Items::new(alloc);
     now.push(Datum::Truth(x)).map_err(|_| "memory")?;
     Ok(now)

@@ -43,9 +43,7 @@ mod uses;
 mod whole_laws;
 
 pub use again_laws::printed_scripts_are_spelled;
-pub use asking::{
-    queries_can_be_asked, query_failing, steps_are_tested_by_system_and_query,
-};
+pub use asking::{queries_can_be_asked, query_failing, steps_are_tested_by_system_and_query};
 pub use attributes::{Command, Key};
 pub use checks::{ListPlaces, ReadCheck};
 pub use commands::{Draft, nothing_read, read_commands};
