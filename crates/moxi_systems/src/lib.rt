@@ -2,8 +2,6 @@
 #![tactic(auto)]
 
 mod attributes;
-#[cfg(test)]
-mod behaving_tests;
 mod checks;
 mod collect;
 mod commands;
