@@ -254,6 +254,7 @@ fn is_dotted(tree: &Tree, depth: u32, i: usize, x: &[u8], whole: &[u8]) -> bool 
     }
 }
 
+// The value that a row gives to a variable of an instance.
 pub(crate) fn in_row(tree: &Tree, i: usize, x: &[u8], row: &[Plain]) -> Plain {
     let items = tree.flat.items();
     for k in 0..items.len() {
