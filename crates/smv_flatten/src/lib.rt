@@ -1,6 +1,8 @@
 //! The flat form of an SMV model that passes all checks, which are made phase by phase in their order.
 #![tactic(auto)]
 
+#[cfg(test)]
+mod agreement_tests;
 mod counts;
 mod ends;
 mod flattening;
@@ -11,6 +13,8 @@ mod joining;
 mod kept;
 mod members;
 mod sequences;
+#[cfg(test)]
+mod source_tests;
 #[cfg(test)]
 mod tests;
 #[cfg(test)]

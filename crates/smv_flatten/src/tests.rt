@@ -18,7 +18,7 @@ const PAIR: &[u8] =
 const LIGHTS: &[u8] =
     b"MODULE main\nVAR\n  north : light(timer, TRUE);\n  east  : light(timer, FALSE);\n  timer : 0..3;\nASSIGN\n  init(timer) := 0;\n  next(timer) := case\n    timer < 3 : timer + 1;\n    TRUE : 0;\n  esac;\nINVARSPEC NAME safe := !(north.go & east.go)\n\nMODULE light(tick, starts)\nVAR color : {red, green, yellow};\nASSIGN\n  init(color) := case starts : green; TRUE : red; esac;\n  next(color) := case\n    tick = 2 & color = red : green;\n    tick = 2 & color = green : yellow;\n    color = yellow : red;\n    TRUE : color;\n  esac;\nDEFINE go := color != red;\n";
 
-fn source_of(alloc: Global, text: &[u8]) -> Result<Source, NoMemory> {
+pub(crate) fn source_of(alloc: Global, text: &[u8]) -> Result<Source, NoMemory> {
     if text.len() > 1_000_000 {
         return Err(NoMemory);
     }
