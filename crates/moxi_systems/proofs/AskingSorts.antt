@@ -20,7 +20,7 @@ use Rattle.moxi_systems.proofs.WholeParts.{index_get}
 -- WHAT IS TRUE WITHOUT ITS CAUSE, AND CAN BE TESTED
 
 -- a test that holds
-pub held : (A : Type 0) (b : Bool) → (A → b ≡ true) → ∥ A ∥₁ → b ≡ true
+held : (A : Type 0) (b : Bool) → (A → b ≡ true) → ∥ A ∥₁ → b ≡ true
 held A b f h = ∥∥₁_elim h (Bool-set b true) f
 
 held_not : (A : Type 0) → (A → ⊥) → ∥ A ∥₁ → ⊥

@@ -1,4 +1,3 @@
-use Rattle.std.proofs.Common.{refl}
 use Rattle.moxi_systems.proofs.AskingLaws.{ends, goes, number_there, stops}
 use Rattle.moxi_systems.proofs.asking.all_hold.Goals as goal
 
