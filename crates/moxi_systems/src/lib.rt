@@ -6,6 +6,8 @@ mod asking;
 #[cfg(test)]
 mod asking_tests;
 mod attributes;
+#[cfg(test)]
+mod behaving_tests;
 mod checks;
 mod collect;
 mod commands;
