@@ -10,7 +10,6 @@ use super::*;
 use crate::script_tests::script_of;
 use moxi_terms::{Datum, Env, Sort};
 use std::alloc::Global;
-use std::process::Abort;
 use std::test::Fail;
 use text_core::{Clause, Items};
 
@@ -49,40 +48,122 @@ fn failing(
     Ok(query_failing(alloc, script, q, step, last, &now).map_err(|_| "memory")?)
 }
 
+/// What a query asks of a step of so many, where the one variable of the check has this value.
+#[derive(Clone, Copy)]
+struct Row {
+    query: u32,
+    step: u32,
+    last: u32,
+    x: bool,
+    failing: Option<Clause>,
+}
+
+fn row_holds(alloc: Global, script: &Script, row: Row) -> Result<bool, Fail> {
+    let found = failing(alloc, script, row.query, row.step, row.last, row.x)?;
+    Ok(found == row.failing)
+}
+
+fn rows_hold(alloc: Global, script: &Script, rows: &[Row]) -> Result<bool, Fail> {
+    for row in rows {
+        if !row_holds(alloc, script, *row)? {
+            return Ok(false);
+        }
+    }
+    Ok(true)
+}
+
+// Are these the clauses that fail in the script of a text?
+fn has_rows(alloc: Global, text: &[u8], rows: &[Row]) -> Result<bool, Fail> {
+    let script = script_of(alloc, text)?;
+    rows_hold(alloc, &script, rows)
+}
+
 // Two queries, of which the second one has an assumption. A state where x is true breaks the assumption.
 const TWO_QUERIES: &[u8] =
     b"(define-system S :output ((x Bool)) :init (not x) :trans (= x' (not x)))(check-system S :output ((x Bool)) :assumption (a (not x)) :reachable (r x) :query (q1 (r)) :query (q2 (a r)))";
 
-#[test]
-fn each_query_has_its_own_assumptions(rt: HostRuntime) -> Result<(), Fail> {
-    let alloc = rt.alloc();
-    let script = script_of(alloc, TWO_QUERIES)?;
-    assert!(rt; script.check.queries.len() == 2);
-    assert!(rt; failing(alloc, &script, 0, 1, 1, true)? == None);
-    assert!(rt; failing(alloc, &script, 1, 1, 1, true)? == Some(Clause::AssumptionFails));
-    Ok(())
-}
-
-#[test]
-fn the_reachable_formula_is_asked_at_the_last_step(rt: HostRuntime) -> Result<(), Fail> {
-    let alloc = rt.alloc();
-    let script = script_of(alloc, TWO_QUERIES)?;
-    assert!(rt; failing(alloc, &script, 0, 0, 1, false)? == None);
-    assert!(rt; failing(alloc, &script, 1, 0, 1, false)? == None);
-    assert!(rt; failing(alloc, &script, 0, 1, 1, false)? == Some(Clause::NotBroken));
-    Ok(())
-}
+const OF_TWO_QUERIES: [Row; 5] = [
+    Row {
+        query: 0,
+        step: 1,
+        last: 1,
+        x: true,
+        failing: None,
+    },
+    Row {
+        query: 1,
+        step: 1,
+        last: 1,
+        x: true,
+        failing: Some(Clause::AssumptionFails),
+    },
+    Row {
+        query: 0,
+        step: 0,
+        last: 1,
+        x: false,
+        failing: None,
+    },
+    Row {
+        query: 1,
+        step: 0,
+        last: 1,
+        x: false,
+        failing: None,
+    },
+    Row {
+        query: 0,
+        step: 1,
+        last: 1,
+        x: false,
+        failing: Some(Clause::NotBroken),
+    },
+];
 
 const CURRENT: &[u8] =
     b"(define-system S :output ((x Bool)))(check-system S :output ((x Bool)) :current (c x) :reachable (r (not x)) :query (q (c r)))";
 
+const OF_CURRENT: [Row; 4] = [
+    Row {
+        query: 0,
+        step: 0,
+        last: 1,
+        x: false,
+        failing: Some(Clause::CurrentFails),
+    },
+    Row {
+        query: 0,
+        step: 1,
+        last: 1,
+        x: false,
+        failing: None,
+    },
+    Row {
+        query: 0,
+        step: 0,
+        last: 1,
+        x: true,
+        failing: None,
+    },
+    Row {
+        query: 0,
+        step: 1,
+        last: 1,
+        x: true,
+        failing: Some(Clause::NotBroken),
+    },
+];
+
+#[test]
+fn each_query_has_its_own_assumptions(rt: HostRuntime) -> Result<(), Fail> {
+    let holds = has_rows(rt.alloc(), TWO_QUERIES, &OF_TWO_QUERIES)?;
+    assert!(rt; holds);
+    Ok(())
+}
+
 #[test]
 fn current_conditions_are_asked_at_the_first_step(rt: HostRuntime) -> Result<(), Fail> {
-    let alloc = rt.alloc();
-    let script = script_of(alloc, CURRENT)?;
-    assert!(rt; failing(alloc, &script, 0, 0, 1, false)? == Some(Clause::CurrentFails));
-    assert!(rt; failing(alloc, &script, 0, 1, 1, false)? == None);
-    assert!(rt; failing(alloc, &script, 0, 0, 1, true)? == None);
-    assert!(rt; failing(alloc, &script, 0, 1, 1, true)? == Some(Clause::NotBroken));
+    let holds = has_rows(rt.alloc(), CURRENT, &OF_CURRENT)?;
+    assert!(rt; holds);
     Ok(())
 }
