@@ -5,8 +5,6 @@ mod fill;
 mod frames;
 mod handed;
 mod tables;
-#[cfg(test)]
-mod tests;
 mod words;
 
 pub use frames::Frames;

@@ -7,8 +7,6 @@ mod builder;
 mod laws;
 mod lines;
 mod nodes;
-#[cfg(test)]
-mod tests;
 
 pub use args::{Arg, Args, one_arg, plain_arg, three_args, two_args};
 pub use builder::Builder;

@@ -4,19 +4,13 @@
 mod bytes;
 mod ends;
 mod judge;
-#[cfg(test)]
-mod judge_tests;
 mod part;
 mod phase;
-#[cfg(test)]
-mod plain_tests;
 mod print;
 mod read;
 mod reader;
 mod room;
 mod shape;
-#[cfg(test)]
-mod tests;
 mod unique;
 mod witness;
 

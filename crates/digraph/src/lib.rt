@@ -5,8 +5,6 @@ mod mark;
 mod order;
 mod returns;
 mod search;
-#[cfg(test)]
-mod tests;
 
 pub use order::{Graph, Order, sort};
 pub use returns::leads_back;

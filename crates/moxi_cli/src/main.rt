@@ -1,31 +1,11 @@
 //! Translates SMV models to BTOR2 texts, and judges witnesses for these.
 #![tactic(auto)]
 
-mod answer;
-#[cfg(test)]
-mod check_tests;
-mod command;
-mod declared;
-mod form;
-mod formula;
-mod judge;
-#[cfg(test)]
-mod judge_tests;
-mod lines;
-mod notes;
-mod status;
-#[cfg(test)]
-mod tests;
-mod translate;
-mod words;
-
-use command::run;
-use notes::note;
-use status::Status;
+use moxi_commands::{Status, run};
 use std::process::ExitCode;
 use std::rt::Env;
 use std::{env, io};
-use text_core::{FileShelf, NoMemory, StreamSink};
+use text_core::{FileShelf, NoMemory, Sink, StreamSink, write_whole};
 
 fn main(rt: HostRuntime) -> ExitCode {
     let mut shelf = FileShelf::new(&rt);
@@ -33,9 +13,17 @@ fn main(rt: HostRuntime) -> ExitCode {
     let mut notes = StreamSink::new(rt.stderr());
     let status = match command_words(&rt) {
         Ok(words) => run(rt.alloc(), &words, &mut shelf, &mut out, &mut notes),
-        Err(NoMemory) => note(&mut notes, &[b"no memory\n"], Status::NoMemory),
+        Err(NoMemory) => no_memory(&mut notes),
     };
     ExitCode::from(status as u8)
+}
+
+// Says that there was no memory for the command words.
+fn no_memory<N: Sink>(notes: &mut N) -> Status {
+    match write_whole(notes, b"no memory\n") {
+        Ok(()) => Status::NoMemory,
+        Err(_) => Status::WriteFault,
+    }
 }
 
 // The command words without the program's name. Where the system doesn't give them as text, there are none.

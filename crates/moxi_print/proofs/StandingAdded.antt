@@ -6,7 +6,7 @@ use Rattle.std.proofs.lemmas.Bool.{and_parts, and_from}
 use Rattle.moxi_terms.specs.Tree.{PlainFunction}
 use Rattle.moxi_terms.specs.View.{ScopeState}
 use Rattle.moxi_terms.specs.Names.{place_of, is_among, are_fresh, enumeration_names, sort_names, function_names, all_constants, is_sort_name, may_be_constants, may_be_enumeration, with_enumeration, with_function}
-use Rattle.moxi_terms.proofs.SortedParts.{all_append}
+use Rattle.moxi_sorts.proofs.AllLaws.{all_append}
 use Rattle.moxi_print.specs.StandingReads.{HasSortNames}
 use Rattle.moxi_print.specs.StandingNames.{IsSpellable, AreSpellable, IsSpellableScope}
 use Rattle.moxi_print.proofs.StandingPlaces.{same_bytes}

@@ -2,10 +2,10 @@
 use Rattle.std.proofs.Common.{◌≡◌, List, [], Some, sym, ap, ◌∙◌}
 use Rattle.moxi_sexpr.specs.Tree as form
 use Rattle.moxi_terms.specs.declared.data.Sort.{Sort}
-use Rattle.moxi_terms.specs.declared.names.Local.{Local}
+use Rattle.moxi_sorts.specs.declared.locals.Local.{Local}
 use Rattle.moxi_terms.specs.View.{ScopeState}
-use Rattle.moxi_terms.specs.Reading.{Context, Reading, read, names_of}
-use Rattle.moxi_terms.specs.WellSorted.{HaveKnownSorts}
+use Rattle.moxi_term_reading.specs.Reading.{Context, Reading, read, names_of}
+use Rattle.moxi_term_reading.specs.WellSorted.{HaveKnownSorts}
 use Rattle.moxi_print.specs.Shown.{Shows}
 use Rattle.moxi_print.specs.Terms.{shown_term}
 use Rattle.moxi_print.specs.StandingGrows.{Grows, in_scope}

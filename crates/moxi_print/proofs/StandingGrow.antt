@@ -15,16 +15,19 @@ use Rattle.moxi_terms.specs.declared.names.Meaning.{Meaning}
 use Rattle.moxi_terms.specs.declared.names.Meaning.TheVariants as meaning
 use Rattle.moxi_terms.specs.declared.names.Head.{Head}
 use Rattle.moxi_terms.specs.declared.names.Head.TheVariants as heads
-use Rattle.moxi_terms.specs.declared.names.Local.{Local}
+use Rattle.moxi_sorts.specs.declared.locals.Local.{Local}
 use Rattle.moxi_terms.specs.declared.term.Enumeration.{Enumeration}
 use Rattle.moxi_terms.specs.Tree.{Tree, constant, variable, bound, apply, binding, call, Trees, no_trees, tree, PlainFunction, sorts_of}
 use Rattle.moxi_terms.specs.View.{ScopeState}
 use Rattle.moxi_terms.specs.Names.{or_else, place_of, is_among, function_names, all_constants, numbered, constant_numbers, constant_named, is_term_name}
 use Rattle.moxi_terms.specs.Words.{is_operator, operator_named}
-use Rattle.moxi_terms.specs.Reading as reading
-use Rattle.moxi_terms.specs.Reading.{Context, Found, meaning_of, head_named, value_named, names_of}
-use Rattle.moxi_terms.proofs.FindingLaws.{place_within, get_front}
-use Rattle.moxi_terms.proofs.SortedParts.{constant_is}
+use Rattle.moxi_terms.specs.Meanings as reading
+use Rattle.moxi_sorts.specs.Finding as finding
+use Rattle.moxi_term_reading.specs.Reading.{Context, meaning_of, names_of}
+use Rattle.moxi_sorts.specs.Finding.{Found}
+use Rattle.moxi_terms.specs.Meanings.{head_named, value_named}
+use Rattle.moxi_terms.proofs.PlaceLaws.{place_within, get_front}
+use Rattle.moxi_term_reading.proofs.SortedParts.{constant_is}
 use Rattle.moxi_print.specs.Terms.{name_at, constants_or_none, constant_name, operator_word, truth_word}
 use Rattle.moxi_print.specs.Standing.{bound_locals, StandsValue, StandsOperator, StandsCall, Stands, StandEach}
 use Rattle.moxi_print.specs.StandingGrows.{Grows, in_scope}
@@ -260,8 +263,8 @@ call_within s (Some n) = by_function (slice_get s.functions n)
 
 meaning_within : (c : Context) (bounds : List Local) (name : List ℕ) → Within c.scope (meaning_of c bounds name)
 meaning_within c bounds name =
-    either_within c.scope _ _ (bound_within c.scope (reading.last_of 0 bounds name))
-    (either_within c.scope _ _ (variable_within c.scope (reading.first_of 0 c.variables name))
+    either_within c.scope _ _ (bound_within c.scope (finding.last_of 0 bounds name))
+    (either_within c.scope _ _ (variable_within c.scope (finding.first_of 0 c.variables name))
     (either_within c.scope _ _ (value_within c.scope name) (call_within c.scope (place_of (function_names c.scope) name))))
 
 -- TERMS
@@ -269,8 +272,8 @@ meaning_within c bounds name =
 module _ (c : Context) (t : ScopeState) (g : Grows c.scope t) where
   meaning_kept : (bounds : List Local) (name : List ℕ) (m : Meaning) → meaning_of c bounds name ≡ Some m → meaning_of (in_scope c t) bounds name ≡ Some m
   meaning_kept bounds name m e =
-      let here = option_map (λ (f : Found). meaning.Bound f.number f.sort) (reading.last_of 0 bounds name) in
-      let declared = option_map (λ (f : Found). meaning.Variable f.number f.sort) (reading.first_of 0 c.variables name) in
+      let here = option_map (λ (f : Found). meaning.Bound f.number f.sort) (finding.last_of 0 bounds name) in
+      let declared = option_map (λ (f : Found). meaning.Variable f.number f.sort) (finding.first_of 0 c.variables name) in
       let before = or_else (value_named c.scope name) (reading.call_of reading.bare_call c.scope.functions (place_of (function_names c.scope) name)) in
       let after = or_else (value_named t name) (reading.call_of reading.bare_call t.functions (place_of (function_names t) name)) in
       or_kept here (or_else declared before) (or_else declared after) m (or_kept declared before after m (λ e. scope_kept c.scope t g name m (value_named c.scope name) refl e)) e

@@ -14,7 +14,7 @@ use Rattle.word_core.specs.Digits.{digit_number, number_after, digits_value, fit
 use Rattle.std.specs.List.{list_all}
 use Rattle.moxi_sexpr.specs.Atoms.{is_run}
 use Rattle.moxi_sexpr.specs.Bytes.{is_digit, is_binary_digit}
-use Rattle.moxi_terms.specs.Reading.{index_of, number_or_most}
+use Rattle.moxi_sorts.specs.SortReading.{index_of, number_or_most}
 
 -- BINARY DIGITS
 

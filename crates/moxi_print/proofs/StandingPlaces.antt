@@ -6,7 +6,7 @@ use Rattle.std.proofs.lemmas.Slice.Eq.{bytes_eq-Decides}
 use Rattle.std.proofs.lemmas.Option.{none-some}
 use Rattle.std.proofs.lemmas.List.{length-append}
 use Rattle.moxi_terms.specs.Names.{place_of, or_else, are_fresh}
-use Rattle.moxi_terms.proofs.FindingLaws.{place_from, place_is}
+use Rattle.moxi_terms.proofs.PlaceLaws.{place_from, place_is}
 use Rattle.moxi_print.specs.Terms.{name_at}
 
 pub same_bytes : (q : List ℕ) → bytes_eq q q ≡ true

@@ -23,17 +23,20 @@ use Rattle.moxi_terms.specs.declared.data.Primes.{Primes}
 use Rattle.moxi_terms.specs.declared.data.Primes.TheVariants.{Allowed, Refused}
 use Rattle.moxi_terms.specs.declared.data.TermOp.{TermOp}
 use Rattle.moxi_terms.specs.declared.data.TermOp.TheVariants as op
-use Rattle.moxi_terms.specs.declared.names.Local.{Local}
+use Rattle.moxi_sorts.specs.declared.locals.Local.{Local}
 use Rattle.moxi_terms.specs.declared.names.Meaning.{Meaning}
 use Rattle.moxi_terms.specs.declared.names.Head.{Head}
 use Rattle.moxi_terms.specs.declared.names.Head.TheVariants as heads
 use Rattle.moxi_terms.specs.Tree.{Tree, constant, variable, bound, apply, binding, call, Trees, no_trees, tree, trees_of, list_of, PlainFunction, sorts_of}
 use Rattle.moxi_terms.specs.View.{ScopeState}
 use Rattle.moxi_terms.specs.Names.{function_names}
-use Rattle.moxi_terms.specs.Forms.{is_word}
+use Rattle.moxi_sorts.specs.Forms.{is_word}
 use Rattle.moxi_terms.specs.Sorts.{same_sort, same_sorts, count_fits, fitting, op_sort}
-use Rattle.moxi_terms.specs.Reading as reading
-use Rattle.moxi_terms.specs.Reading.{Context, Reading, Arguments, Bindings, read, read_all, read_bindings, meaning_of, head_named, names_of}
+use Rattle.moxi_term_reading.specs.Reading as reading
+use Rattle.moxi_sorts.specs.Typing as typing
+use Rattle.moxi_sorts.specs.SortReading as sort_reading
+use Rattle.moxi_term_reading.specs.Reading.{Context, Reading, Arguments, Bindings, read, read_all, read_bindings, meaning_of, names_of}
+use Rattle.moxi_terms.specs.Meanings.{head_named}
 use Rattle.moxi_terms.proofs.SortLaws.{taken}
 use Rattle.moxi_print.specs.Shown.{Shown, word, part, group, Showns, no_showns, shown, Shows, ShowEach}
 use Rattle.moxi_print.specs.Terms.{name_at, constant_name, symbol, numeral, unary_word, binary_word, operator_word, shown_operator, truth_word, shown_value, shown_call, shown_term, shown_terms, shown_bindings}
@@ -128,7 +131,7 @@ extract_head p q high low ts h l g =
     let u = shape.is_part a.0 _ a.3 in
     let v = shape.is_part a.1 _ a.4 in
     ap (reading.symbol_head p q (Some (codes "extract", false))) (a.2 ∙ ap (λ t. form.tree t (form.tree a.1 form.no_trees)) u.1 ∙ ap (λ t. form.tree (form.atom u.0 (atoms.Numeral (decimal high))) (form.tree t form.no_trees)) v.1)
-    ∙ ap (λ n. Ok (heads.Operator (op.Extract n (reading.index_of (decimal low))))) (index_again high h)
+    ∙ ap (λ n. Ok (heads.Operator (op.Extract n (sort_reading.index_of (decimal low))))) (index_again high h)
     ∙ ap (λ n. Ok (heads.Operator (op.Extract high n))) (index_again low l)
 
 zero_head : (p q : Place) (n : ℕ) (ts : form.Trees) → n < 4294967296 → ShowEach ts (shown (numeral n) no_showns)
@@ -170,13 +173,13 @@ each_long c bounds no_trees (s ∷ ss) h = absurd h
 each_long c bounds (tree t us) [] h = absurd h
 each_long c bounds (tree t us) (s ∷ ss) h = ap suc (each_long c bounds us ss h.1)
 
-tests_pass : (fs : List PlainFunction) (p : Place) (h : Head) (n : ℕ) (ss : List Sort) (s : Sort) → reading.head_count_fits fs h n ≡ true → reading.head_sort fs h ss ≡ Ok s
+tests_pass : (fs : List PlainFunction) (p : Place) (h : Head) (n : ℕ) (ss : List Sort) (s : Sort) → typing.head_count_fits fs h n ≡ true → typing.head_sort fs h ss ≡ Ok s
     → reading.argument_tests fs p h n (Some ss) ≡ []
 tests_pass fs p h n ss s a b =
     ap (λ t. cond t (reading.sorts_tested fs p h (Some ss)) (refusal 12 p ∷ [])) a ∙ ap (reading.sort_failures p) b
 
 application_whole : (fs : List PlainFunction) (p : Place) (h : Head) (us : Trees) (ss : List Sort) (s : Sort)
-    → reading.head_count_fits fs h (length (list_of us)) ≡ true → reading.head_sort fs h ss ≡ Ok s → reading.application fs p [] (Ok h) (all_read us ss) ≡ whole (reading.headed h us) s
+    → typing.head_count_fits fs h (length (list_of us)) ≡ true → typing.head_sort fs h ss ≡ Ok s → reading.application fs p [] (Ok h) (all_read us ss) ≡ whole (reading.headed h us) s
 application_whole fs p h us ss s a b =
     let tests = reading.argument_tests fs p h (length (list_of us)) (Some ss) in
     ap (λ u. record { term = reading.headed h u; sort = reading.unless_failed tests (reading.applied_sort fs h (Some ss)); failures = tests }) (trees_back us)
@@ -187,7 +190,7 @@ neither : (a b : Bool) (x y z : Reading) → a ≡ false → b ≡ false → con
 neither a b x y z e f = ap (λ t. cond t x (cond b y z)) e ∙ ap (λ t. cond t y z) f
 
 application_read : (c : Context) (bounds : List Local) (p : Place) (f : form.Tree) (fs : form.Trees) (h : Head) (us : Trees) (ss : List Sort) (s : Sort) → IsHead c p f h
-    → read_all c bounds fs ≡ all_read us ss → reading.head_count_fits c.scope.functions h (length (list_of us)) ≡ true → reading.head_sort c.scope.functions h ss ≡ Ok s
+    → read_all c bounds fs ≡ all_read us ss → typing.head_count_fits c.scope.functions h (length (list_of us)) ≡ true → typing.head_sort c.scope.functions h ss ≡ Ok s
     → read c bounds (form.list p (form.tree f fs)) ≡ whole (reading.headed h us) s
 application_read c bounds p f fs h us ss s i e a b =
     neither (is_word (codes "let") f) (is_word (codes "_") f) _ _ _ i.no_let i.no_literal
@@ -223,11 +226,11 @@ function_name [] n f h = absurd (none-some f h)
 function_name (g ∷ gs) zero f h = ap (λ (f : PlainFunction). f.name) (same_Some g f h)
 function_name (g ∷ gs) (suc n) f h = function_name gs n f h
 
-call_sorted : (o : Option PlainFunction) (f : PlainFunction) → o ≡ Some f → reading.call_sort o (sorts_of f.parameters) ≡ Ok f.result
-call_sorted o f e = ap (λ o. reading.call_sort o (sorts_of f.parameters)) e ∙ ap (λ b. cond b (Ok f.result) (Err 5)) (same_selves (sorts_of f.parameters))
+call_sorted : (o : Option PlainFunction) (f : PlainFunction) → o ≡ Some f → typing.call_sort o (sorts_of f.parameters) ≡ Ok f.result
+call_sorted o f e = ap (λ o. typing.call_sort o (sorts_of f.parameters)) e ∙ ap (λ b. cond b (Ok f.result) (Err 5)) (same_selves (sorts_of f.parameters))
 
-call_counted : (o : Option PlainFunction) (f : PlainFunction) (n : ℕ) → o ≡ Some f → n ≡ length (sorts_of f.parameters) → eqb n (reading.parameter_count o) ≡ true
-call_counted o f n e h = ap (λ o. eqb n (reading.parameter_count o)) e ∙ eq-eqb n (length f.parameters) (h ∙ length-map f.parameters _)
+call_counted : (o : Option PlainFunction) (f : PlainFunction) (n : ℕ) → o ≡ Some f → n ≡ length (sorts_of f.parameters) → eqb n (typing.parameter_count o) ≡ true
+call_counted o f n e h = ap (λ o. eqb n (typing.parameter_count o)) e ∙ eq-eqb n (length f.parameters) (h ∙ length-map f.parameters _)
 
 -- what a call reads, where its arguments are read
 call_read : (c : Context) (bounds : List Local) (n : ℕ) (fn : PlainFunction) (name : List ℕ) (us : Trees) (ss : List Sort) (f : form.Tree)
@@ -246,7 +249,7 @@ call_read c bounds n fn name (tree t us) (s ∷ ss) f there same sorts ih each h
     ap (read c bounds) (a.2 ∙ ap (form.list a.0) b.2)
     ∙ application_read c bounds a.0 b.0 b.1 (heads.Function n) (tree t us) (s ∷ ss) fn.result (subst (λ f. IsHead c a.0 f (heads.Function n)) (sym q.1) head) (ih b.1 b.4)
     (call_counted (slice_get c.scope.functions n) fn _ there (each_long c bounds (tree t us) (s ∷ ss) each ∙ ap length (sym sorts)))
-    (ap (reading.call_sort (slice_get c.scope.functions n)) (sym sorts) ∙ call_sorted (slice_get c.scope.functions n) fn there)
+    (ap (typing.call_sort (slice_get c.scope.functions n)) (sym sorts) ∙ call_sorted (slice_get c.scope.functions n) fn there)
 
 -- BINDINGS
 

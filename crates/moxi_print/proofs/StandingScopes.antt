@@ -16,7 +16,7 @@ use Rattle.moxi_terms.specs.View.{ScopeState}
 use Rattle.moxi_terms.specs.Names.{or_else, place_of, is_among, are_fresh, function_names, enumeration_names, sort_names, all_constants, is_term_name, is_sort_name, may_be_constants, may_be_enumeration, with_enumeration, with_sort, with_function, sort_named, declared_sort}
 use Rattle.moxi_terms.specs.Sorts.{IsSort}
 use Rattle.moxi_terms.specs.Words.{is_operator}
-use Rattle.moxi_terms.proofs.FindingLaws.{place_from, place_is, place_there, get_front, index_read}
+use Rattle.moxi_terms.proofs.PlaceLaws.{place_from, place_is, place_there, get_front, index_read}
 use Rattle.moxi_print.specs.Terms.{name_at}
 use Rattle.moxi_print.specs.StandingReads.{StandsSort}
 use Rattle.moxi_print.specs.StandingGrows.{Grows, sorts_first}

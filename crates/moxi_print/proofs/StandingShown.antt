@@ -16,14 +16,15 @@ use Rattle.moxi_terms.specs.declared.data.Datum.TheVariants as datum
 use Rattle.moxi_terms.specs.declared.data.TermOp.{TermOp}
 use Rattle.moxi_terms.specs.declared.data.TermOp.TheVariants as op
 use Rattle.moxi_terms.specs.declared.names.Head.TheVariants as heads
-use Rattle.moxi_terms.specs.declared.names.Local.{Local}
+use Rattle.moxi_sorts.specs.declared.locals.Local.{Local}
 use Rattle.moxi_terms.specs.declared.term.Enumeration.{Enumeration}
 use Rattle.moxi_terms.specs.Tree.{Tree, constant, variable, bound, apply, binding, call, Trees, no_trees, tree, PlainFunction, sorts_of}
 use Rattle.moxi_terms.specs.View.{ScopeState}
 use Rattle.moxi_terms.specs.Names.{or_else, place_of, function_names, enumeration_names, all_constants}
 use Rattle.moxi_terms.specs.Words.{operators, row_named, operator_named}
-use Rattle.moxi_terms.specs.Reading as reading
-use Rattle.moxi_terms.specs.Reading.{Context, head_named, names_of}
+use Rattle.moxi_terms.specs.Meanings as reading
+use Rattle.moxi_term_reading.specs.Reading.{Context, names_of}
+use Rattle.moxi_terms.specs.Meanings.{head_named}
 use Rattle.moxi_print.specs.Shown.{Showns, no_showns, shown, CanBeShown, AllCanBeShown}
 use Rattle.moxi_print.specs.Terms.{name_at, constants_or_none, operator_word, shown_operator, truth_word, shown_value, shown_sort, shown_call, shown_term, shown_terms, shown_bindings}
 use Rattle.moxi_print.specs.Standing.{bound_locals, StandsValue, StandsOperator, Stands, StandEach}

@@ -14,7 +14,7 @@ use Rattle.moxi_sexpr.specs.Tree as form
 use Rattle.moxi_terms.specs.declared.data.Sort.{Sort}
 use Rattle.moxi_terms.specs.declared.data.Sort.TheVariants.{Truth, Bits, Choice}
 use Rattle.moxi_terms.specs.Names.{place_of, is_among, are_fresh, or_else, enumeration_names, sort_named, declared_sort}
-use Rattle.moxi_terms.specs.Reading.{sort_reading, symbol_sort, width_sort}
+use Rattle.moxi_sorts.specs.SortReading.{sort_reading, symbol_sort, width_sort}
 use Rattle.moxi_terms.specs.Sorts.{IsSort}
 use Rattle.moxi_terms.specs.View.{ScopeState}
 use Rattle.moxi_print.specs.Shown.{Shows}

@@ -15,12 +15,13 @@ use Rattle.moxi_terms.specs.declared.names.Meaning.{Meaning}
 use Rattle.moxi_terms.specs.declared.names.Meaning.TheVariants as meaning
 use Rattle.moxi_terms.specs.declared.names.Head.{Head}
 use Rattle.moxi_terms.specs.declared.names.Head.TheVariants as heads
-use Rattle.moxi_terms.specs.declared.names.Local.{Local}
+use Rattle.moxi_sorts.specs.declared.locals.Local.{Local}
 use Rattle.moxi_terms.specs.declared.data.Primes.{Primes}
 use Rattle.moxi_terms.specs.Tree.{Tree, Trees, trees_of, PlainFunction}
-use Rattle.moxi_terms.specs.Forms.{place_in, symbol_of, is_word, is_primed}
-use Rattle.moxi_terms.specs.Reading as reading
-use Rattle.moxi_terms.specs.Reading.{Context, Reading, Arguments, Bindings, names_of}
+use Rattle.moxi_sorts.specs.Forms.{place_in, symbol_of, is_word, is_primed}
+use Rattle.moxi_term_reading.specs.Reading as reading
+use Rattle.moxi_sorts.specs.SortReading as sort_reading
+use Rattle.moxi_term_reading.specs.Reading.{Context, Reading, Arguments, Bindings, names_of}
 use Rattle.moxi_print.specs.StandingNames.{IsSpellable, AreSpellable, NamesAreSpellable, AllNamesAreSpellable}
 
 -- a prime does not change how a name can be spelled
@@ -52,11 +53,11 @@ atom_spelled c ls p a = tt
 
 width_spelled : (p : Place) (digits : List ℕ) (fs : List Refusal) (o : Option (List ℕ)) → NamesAreSpellable (reading.literal_reading p digits fs o).term
 width_spelled p digits fs None = tt
-width_spelled p digits fs (Some width) = word_spelled p (read_word (reading.index_of width) 10 digits) fs
+width_spelled p digits fs (Some width) = word_spelled p (read_word (sort_reading.index_of width) 10 digits) fs
 
 digits_spelled : (p q : Place) (name : List ℕ) (fs : List Refusal) (o : Option (List ℕ)) (ts : form.Trees) → NamesAreSpellable (reading.literal_named p q name fs o ts).term
 digits_spelled p q name fs None ts = tt
-digits_spelled p q name fs (Some digits) ts = width_spelled p digits fs (reading.only_numeral ts)
+digits_spelled p q name fs (Some digits) ts = width_spelled p digits fs (sort_reading.only_numeral ts)
 
 symbol_spelled : (p q : Place) (first : Bool) (r : Place) (o : Option (List ℕ × Bool)) (ts : form.Trees) → NamesAreSpellable (reading.symbol_underscored p q first r o ts).term
 symbol_spelled p q first r None ts = tt

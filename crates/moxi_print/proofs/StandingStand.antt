@@ -29,19 +29,25 @@ use Rattle.moxi_terms.specs.declared.names.Meaning.{Meaning}
 use Rattle.moxi_terms.specs.declared.names.Meaning.TheVariants as meaning
 use Rattle.moxi_terms.specs.declared.names.Head.{Head}
 use Rattle.moxi_terms.specs.declared.names.Head.TheVariants as heads
-use Rattle.moxi_terms.specs.declared.names.Local.{Local}
+use Rattle.moxi_sorts.specs.declared.locals.Local.{Local}
 use Rattle.moxi_terms.specs.declared.term.Enumeration.{Enumeration}
 use Rattle.moxi_terms.specs.declared.term.Variable.{Variable}
 use Rattle.moxi_terms.specs.Tree.{Tree, constant, variable, bound, call, no_trees, trees_of, PlainFunction, sorts_of}
 use Rattle.moxi_terms.specs.View.{ScopeState}
 use Rattle.moxi_terms.specs.Names.{or_else, place_of, function_names, constant_named, numbered, constant_numbers, all_constants}
 use Rattle.moxi_terms.specs.Words.{operators, indexed_operators, left_out_operators, row_named, operator_named, is_one_of}
-use Rattle.moxi_terms.specs.Forms.{place_in, symbol_of, symbol_atom, numeral_of, pair_of, is_named, is_word, is_primed}
-use Rattle.moxi_terms.specs.Reading as reading
-use Rattle.moxi_terms.specs.Reading.{Context, Reading, Arguments, Bindings, Found, meaning_of, head_named, names_of}
-use Rattle.moxi_terms.specs.WellSorted.{HaveKnownSorts}
-use Rattle.moxi_terms.proofs.FindingLaws.{place_there, index_read}
-use Rattle.moxi_terms.proofs.SortedParts.{some_fails, none_in, stays, FoundIn, first_found, last_found, known_append, names_long, read_is_word, tests_hold, call_fits}
+use Rattle.moxi_sorts.specs.Forms.{place_in, symbol_of, symbol_atom, numeral_of, pair_of, is_named, is_word, is_primed}
+use Rattle.moxi_term_reading.specs.Reading as reading
+use Rattle.moxi_terms.specs.Meanings as meanings
+use Rattle.moxi_sorts.specs.Finding as finding
+use Rattle.moxi_sorts.specs.Typing as typing
+use Rattle.moxi_sorts.specs.SortReading as sort_reading
+use Rattle.moxi_term_reading.specs.Reading.{Context, Reading, Arguments, Bindings, meaning_of, names_of}
+use Rattle.moxi_sorts.specs.Finding.{Found}
+use Rattle.moxi_terms.specs.Meanings.{head_named}
+use Rattle.moxi_term_reading.specs.WellSorted.{HaveKnownSorts}
+use Rattle.moxi_terms.proofs.PlaceLaws.{place_there, index_read}
+use Rattle.moxi_term_reading.proofs.SortedParts.{some_fails, none_in, stays, FoundIn, first_found, last_found, known_append, names_long, read_is_word, tests_hold, call_fits}
 use Rattle.moxi_print.specs.Terms.{name_at, constants_or_none, constant_name, operator_word, truth_word}
 use Rattle.moxi_print.specs.Standing.{bound_locals, StandsPrime, StandsOperator, StandsCall, Stands, StandEach}
 use Rattle.moxi_print.specs.StandingReads.{IsStanding}
@@ -64,17 +70,17 @@ named_either : (n : ℕ) (ls : List Local) (name : List ℕ) (a b : Option Found
 named_either n ls name None b h g = g
 named_either n ls name (Some f) b h g = h
 
-first_named : (n : ℕ) (ls : List Local) (name : List ℕ) → Named n ls name (reading.first_of n ls name)
+first_named : (n : ℕ) (ls : List Local) (name : List ℕ) → Named n ls name (finding.first_of n ls name)
 first_named n [] name = tt
-first_named n (l ∷ ls) name = by_test (bytes_eq name l.name) refl (named_later n l ls name (reading.first_of (suc n) ls name) (first_named (suc n) ls name))
+first_named n (l ∷ ls) name = by_test (bytes_eq name l.name) refl (named_later n l ls name (finding.first_of (suc n) ls name) (first_named (suc n) ls name))
   where
-    by_test : (b : Bool) → bytes_eq name l.name ≡ b → Named n (l ∷ ls) name (reading.first_of (suc n) ls name) → Named n (l ∷ ls) name (cond b (Some (record { number = n; sort = l.sort })) (reading.first_of (suc n) ls name))
+    by_test : (b : Bool) → bytes_eq name l.name ≡ b → Named n (l ∷ ls) name (finding.first_of (suc n) ls name) → Named n (l ∷ ls) name (cond b (Some (record { number = n; sort = l.sort })) (finding.first_of (suc n) ls name))
     by_test true e h = named_here n l ls name e
     by_test false e h = h
 
-last_named : (n : ℕ) (ls : List Local) (name : List ℕ) → Named n ls name (reading.last_of n ls name)
+last_named : (n : ℕ) (ls : List Local) (name : List ℕ) → Named n ls name (finding.last_of n ls name)
 last_named n [] name = tt
-last_named n (l ∷ ls) name = named_either n (l ∷ ls) name (reading.last_of (suc n) ls name) _ (named_later n l ls name _ (last_named (suc n) ls name)) (by_test (bytes_eq name l.name) refl)
+last_named n (l ∷ ls) name = named_either n (l ∷ ls) name (finding.last_of (suc n) ls name) _ (named_later n l ls name _ (last_named (suc n) ls name)) (by_test (bytes_eq name l.name) refl)
   where
     by_test : (b : Bool) → bytes_eq name l.name ≡ b → Named n (l ∷ ls) name (cond b (Some (record { number = n; sort = l.sort })) None)
     by_test true e = named_here n l ls name e
@@ -175,10 +181,10 @@ read_small true (Some n) w h = by_test (nat_lt n 4294967296) refl h
     by_test false e g = absurd (none-some w g)
     by_test true e g = subst (λ m. m < 4294967296) (ap (λ (w : BitVector). w.bits) (same_Some _ w g)) (let l : n < 4294967296 = grind (arith, nat_tests) in l)
 
-index_small : (digits : List ℕ) → reading.index_of digits < 4294967296
+index_small : (digits : List ℕ) → sort_reading.index_of digits < 4294967296
 index_small digits = by_word (read_word 32 10 digits) refl
   where
-    by_word : (o : Option BitVector) → read_word 32 10 digits ≡ o → reading.number_or_most o < 4294967296
+    by_word : (o : Option BitVector) → read_word 32 10 digits ≡ o → sort_reading.number_or_most o < 4294967296
     by_word None e = omega arith
     by_word (Some w) e = read_small (nat_le 1 32 && nat_le 32 WIDEST) (digits_value 10 digits) w e
 
@@ -246,7 +252,7 @@ module _ (c : Context) (vars : List Sort) (of_vars : HaveKnownSorts c.variables 
       by_place None e = tt
       by_place (Some x) e = (refl, constant_has_name c.scope k x name h e)
 
-  value_fits : (ls : List Local) (name : List ℕ) → Fits ls name (reading.value_named c.scope name)
+  value_fits : (ls : List Local) (name : List ℕ) → Fits ls name (meanings.value_named c.scope name)
   value_fits ls name = by_word (bytes_eq name (codes "true")) (bytes_eq name (codes "false")) refl refl
     where
       by_word : (a b : Bool) → bytes_eq name (codes "true") ≡ a → bytes_eq name (codes "false") ≡ b
@@ -265,11 +271,11 @@ module _ (c : Context) (vars : List Sort) (of_vars : HaveKnownSorts c.variables 
   function_at name (x ∷ fs) zero f h g = ap (λ (f : PlainFunction). f.name) (sym (same_Some x f h)) ∙ same_Some x.name name g
   function_at name (x ∷ fs) (suc n) f h g = function_at name fs n f h g
 
-  call_fits_name : (ls : List Local) (name : List ℕ) (o : Option ℕ) → place_of (function_names c.scope) name ≡ o → Fits ls name (reading.call_of reading.bare_call c.scope.functions o)
+  call_fits_name : (ls : List Local) (name : List ℕ) (o : Option ℕ) → place_of (function_names c.scope) name ≡ o → Fits ls name (meanings.call_of meanings.bare_call c.scope.functions o)
   call_fits_name ls name None h = tt
   call_fits_name ls name (Some n) h = by_function (slice_get c.scope.functions n) refl
     where
-      by_function : (o : Option PlainFunction) → slice_get c.scope.functions n ≡ o → Fits ls name (reading.bare_call n o)
+      by_function : (o : Option PlainFunction) → slice_get c.scope.functions n ≡ o → Fits ls name (meanings.bare_call n o)
       by_function None e = tt
       by_function (Some f) e = by_count (eqb (length f.parameters) 0) refl
         where
@@ -279,8 +285,8 @@ module _ (c : Context) (vars : List Sort) (of_vars : HaveKnownSorts c.variables 
 
   name_fits : (ls : List Local) (ss : List Sort) (name : List ℕ) → HaveKnownSorts ls ss → Fits ls name (meaning_of c ls name)
   name_fits ls ss name h =
-      either_fits ls name _ _ (bound_fits ls ss name (reading.last_of 0 ls name) (last_found 0 ls ss name h) (last_named 0 ls name))
-      (either_fits ls name _ _ (variable_fits ls name (reading.first_of 0 c.variables name) (first_found 0 c.variables vars name of_vars) (first_named 0 c.variables name))
+      either_fits ls name _ _ (bound_fits ls ss name (finding.last_of 0 ls name) (last_found 0 ls ss name h) (last_named 0 ls name))
+      (either_fits ls name _ _ (variable_fits ls name (finding.first_of 0 c.variables name) (first_found 0 c.variables vars name of_vars) (first_named 0 c.variables name))
       (either_fits ls name _ _ (value_fits ls name) (call_fits_name ls name (place_of (function_names c.scope) name) refl)))
 
   prime_stands : (primes : Primes) (primed : Bool) (p : Place) → reading.variable_primes primes primed p ≡ [] → StandsPrime primes primed
@@ -331,11 +337,11 @@ module _ (c : Context) (vars : List Sort) (of_vars : HaveKnownSorts c.variables 
     where
       by_width : (digits : List ℕ) (fs : List Refusal) (o : Option (List ℕ)) → (reading.literal_reading p digits fs o).failures ≡ [] → IsStanding c ls (reading.literal_reading p digits fs o)
       by_width digits fs None h = never ls (refusal 12 p) [] _ h
-      by_width digits fs (Some width) h = word_stands ls p (reading.index_of width) 10 digits fs h
+      by_width digits fs (Some width) h = word_stands ls p (sort_reading.index_of width) 10 digits fs h
 
       by_digits : (name : List ℕ) (fs : List Refusal) (o : Option (List ℕ)) → (reading.literal_named p q name fs o ts).failures ≡ [] → IsStanding c ls (reading.literal_named p q name fs o ts)
       by_digits name fs None h = never ls _ [] _ h
-      by_digits name fs (Some digits) h = by_width digits fs (reading.only_numeral ts) h
+      by_digits name fs (Some digits) h = by_width digits fs (sort_reading.only_numeral ts) h
 
       by_symbol : (o : Option (List ℕ × Bool)) → (reading.symbol_underscored p q first (place_in t) o ts).failures ≡ [] → IsStanding c ls (reading.symbol_underscored p q first (place_in t) o ts)
       by_symbol None h = never ls (refusal 4 q) [] _ h
@@ -369,11 +375,11 @@ module _ (c : Context) (vars : List Sort) (of_vars : HaveKnownSorts c.variables 
   head_name_stands name h x y e = by_place (place_of (function_names c.scope) name) refl e
     where
       by_function : (n : ℕ) → place_of (function_names c.scope) name ≡ Some n → (o : Option PlainFunction) → slice_get c.scope.functions n ≡ o
-          → or_else (reading.head_call n o) (option_map heads.Operator (operator_named name)) ≡ Some h → HeadStands h
+          → or_else (meanings.head_call n o) (option_map heads.Operator (operator_named name)) ≡ Some h → HeadStands h
       by_function n place None there g = operator_stands name (operator_named name) h refl e g
       by_function n place (Some f) there g = function_stands name n f h x y place there e (eqb (length f.parameters) 0) refl g
 
-      by_place : (o : Option ℕ) → place_of (function_names c.scope) name ≡ o → or_else (reading.head_function c.scope.functions o) (option_map heads.Operator (operator_named name)) ≡ Some h → HeadStands h
+      by_place : (o : Option ℕ) → place_of (function_names c.scope) name ≡ o → or_else (meanings.head_function c.scope.functions o) (option_map heads.Operator (operator_named name)) ≡ Some h → HeadStands h
       by_place None place g = operator_stands name (operator_named name) h refl e g
       by_place (Some n) place g = by_function n place (slice_get c.scope.functions n) refl g
 
@@ -398,7 +404,7 @@ module _ (c : Context) (vars : List Sort) (of_vars : HaveKnownSorts c.variables 
   extended_stands q name None = tt
   extended_stands q name (Some count) = by_word (bytes_eq name (codes "zero_extend"))
     where
-      by_word : (b : Bool) → IfOk (let r : Result Head Refusal = cond b (Ok (heads.Operator (op.ZeroExtend (reading.index_of count)))) (Ok (heads.Operator (op.SignExtend (reading.index_of count)))) in r) HeadStands
+      by_word : (b : Bool) → IfOk (let r : Result Head Refusal = cond b (Ok (heads.Operator (op.ZeroExtend (sort_reading.index_of count)))) (Ok (heads.Operator (op.SignExtend (sort_reading.index_of count)))) in r) HeadStands
       by_word true = index_small count
       by_word false = index_small count
 
@@ -406,9 +412,9 @@ module _ (c : Context) (vars : List Sort) (of_vars : HaveKnownSorts c.variables 
   indexed_stands p q None ts = tt
   indexed_stands p q (Some x) ts = by_word (is_one_of indexed_operators x.0) (bytes_eq x.0 (codes "extract"))
     where
-      by_word : (a b : Bool) → IfOk (cond a (cond b (reading.paired_head q (pair_of ts)) (reading.extended_head q x.0 (reading.only_numeral ts))) (Err (reading.unknown (is_one_of left_out_operators x.0) p q))) HeadStands
+      by_word : (a b : Bool) → IfOk (cond a (cond b (reading.paired_head q (pair_of ts)) (reading.extended_head q x.0 (sort_reading.only_numeral ts))) (Err (sort_reading.unknown (is_one_of left_out_operators x.0) p q))) HeadStands
       by_word true true = paired_stands q (pair_of ts)
-      by_word true false = extended_stands q x.0 (reading.only_numeral ts)
+      by_word true false = extended_stands q x.0 (sort_reading.only_numeral ts)
       by_word false b = tt
 
   listed_stands : (p q : Place) (ts : form.Trees) → IfOk (reading.listed_head p q ts) HeadStands
@@ -444,7 +450,7 @@ module _ (c : Context) (vars : List Sort) (of_vars : HaveKnownSorts c.variables 
   call_stands ls n f [] e h x y = absurd (cc)
   call_stands ls n f (v ∷ ps) e h x y = (h, x, y)
 
-  headed_stands : (ls : List Local) (h : Head) (x : Arguments) (g : AreStanding ls x) (s : Sort) → HeadStands h → reading.head_sort c.scope.functions h g.sorts ≡ Ok s → Stands c ls (reading.headed h (trees_of x.terms)) s
+  headed_stands : (ls : List Local) (h : Head) (x : Arguments) (g : AreStanding ls x) (s : Sort) → HeadStands h → typing.head_sort c.scope.functions h g.sorts ≡ Ok s → Stands c ls (reading.headed h (trees_of x.terms)) s
   headed_stands ls (heads.Operator o) x g s h e = (g.sorts, g.stand, e, h)
   headed_stands ls (heads.Function n) x g s h e =
       let r = call_fits (slice_get c.scope.functions n) g.sorts s e in

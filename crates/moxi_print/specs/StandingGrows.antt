@@ -3,7 +3,7 @@ use Rattle.std.specs.Prelude.{◌≡◌, ℕ, true, false, List, ◌++◌, map}
 use Rattle.moxi_terms.specs.declared.term.Enumeration.{Enumeration}
 use Rattle.moxi_terms.specs.declared.term.NamedSort.{NamedSort}
 use Rattle.moxi_terms.specs.Names.{all_constants, is_among, is_term_name}
-use Rattle.moxi_terms.specs.Reading.{Context}
+use Rattle.moxi_term_reading.specs.Reading.{Context}
 use Rattle.moxi_terms.specs.Tree.{PlainFunction}
 use Rattle.moxi_terms.specs.View.{ScopeState}
 

@@ -6,8 +6,6 @@ mod form;
 mod print;
 mod read;
 mod scan;
-#[cfg(test)]
-mod tests;
 
 pub use form::{Atom, Form, FormShape, Forms};
 pub use print::{print_forms, put_symbol, written_forms_read_back};

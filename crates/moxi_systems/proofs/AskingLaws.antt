@@ -8,17 +8,17 @@ use Rattle.moxi_terms.specs.declared.data.Primes.TheVariants.{Refused}
 use Rattle.moxi_terms.specs.declared.data.Sort.TheVariants.{Truth}
 use Rattle.moxi_terms.specs.Names.{or_else}
 use Rattle.moxi_terms.specs.View.{plain}
-use Rattle.moxi_terms.proofs.SortedParts.{known_variables}
-use Rattle.moxi_systems.specs.declared.script.Query.{Query}
+use Rattle.moxi_term_reading.proofs.SortedParts.{known_variables}
+use Rattle.moxi_scripts.specs.declared.script.Query.{Query}
 use Rattle.moxi_systems.specs.Asking.{AreTruths, CanAsk, IsTruth, check_sorts, query_tests, system_tests}
 use Rattle.moxi_systems.specs.Behaviour.{Trace}
 use Rattle.moxi_systems.specs.Meeting.{Hiddens, first_failing, step_tests}
-use Rattle.moxi_systems.specs.declared.script.Formula.{Formula}
-use Rattle.moxi_systems.specs.Script.{PlainFormula, PlainScript, formula_at, plain_formula}
+use Rattle.moxi_scripts.specs.declared.script.Formula.{Formula}
+use Rattle.moxi_scripts.specs.Script.{PlainFormula, PlainScript, formula_at, plain_formula}
 use Rattle.moxi_systems.specs.Whole.{AreFormulas, IsWhole, IsWholeQuery, check_variables, over}
 use Rattle.moxi_systems.proofs.AskingSorts.{lt_held, sorted_held}
 use Rattle.moxi_systems.proofs.AskingStands.{stands_sorted}
-use Rattle.moxi_systems.proofs.Forms.{items_end, items_step}
+use Rattle.moxi_scripts.proofs.Forms.{items_end, items_step}
 
 -- TESTS IN TWO PARTS
 

@@ -7,18 +7,20 @@ use Rattle.moxi_terms.specs.declared.data.Sort.{Sort}
 use Rattle.moxi_terms.specs.declared.data.Sort.TheVariants.{Truth, Bits, Choice}
 use Rattle.moxi_terms.specs.declared.data.Datum.{Datum}
 use Rattle.moxi_terms.specs.declared.data.Datum.TheVariants as datum
-use Rattle.moxi_terms.specs.declared.names.Local.{Local}
+use Rattle.moxi_sorts.specs.declared.locals.Local.{Local}
 use Rattle.moxi_terms.specs.declared.names.Meaning.{Meaning}
 use Rattle.moxi_terms.specs.declared.names.Meaning.TheVariants as meaning
 use Rattle.moxi_terms.specs.declared.term.Variable.{Variable}
 use Rattle.moxi_terms.specs.Names.{all_constants, constant_named, constant_numbers, function_names, or_else, place_of}
-use Rattle.moxi_terms.specs.Reading as reading
-use Rattle.moxi_terms.specs.Reading.{Context, Found, meaning_of, names_of}
+use Rattle.moxi_terms.specs.Meanings as reading
+use Rattle.moxi_sorts.specs.Finding as finding
+use Rattle.moxi_term_reading.specs.Reading.{Context, meaning_of, names_of}
+use Rattle.moxi_sorts.specs.Finding.{Found}
 use Rattle.moxi_terms.specs.Sorted.{HasSort, HaveSorts}
 use Rattle.moxi_terms.specs.Sorts.{IsOf}
 use Rattle.moxi_terms.specs.Tree.{Tree, constant, variable, bound, apply, binding, call, Trees, no_trees, tree, PlainFunction, sorts_of}
-use Rattle.moxi_terms.specs.WellSorted.{HaveKnownSorts}
-use Rattle.moxi_terms.proofs.SortedParts.{FoundIn, constant_is, first_found, known_append, last_found}
+use Rattle.moxi_term_reading.specs.WellSorted.{HaveKnownSorts}
+use Rattle.moxi_term_reading.proofs.SortedParts.{FoundIn, constant_is, first_found, known_append, last_found}
 use Rattle.moxi_print.specs.Standing.{StandEach, Stands, StandsValue, bound_locals}
 use Rattle.moxi_print.specs.Terms.{constant_name, name_at}
 
@@ -80,8 +82,8 @@ module _ (c : Context) (vars : List Sort) (of_vars : HaveKnownSorts c.variables 
 
   name_fits : (ls : List Local) (ss : List Sort) (name : List ℕ) → HaveKnownSorts ls ss → Fits ss (meaning_of c ls name)
   name_fits ls ss name h =
-      either_fits ss _ _ (bound_fits ss (reading.last_of 0 ls name) (last_found 0 ls ss name h))
-      (either_fits ss _ _ (variable_fits ss (reading.first_of 0 c.variables name) (first_found 0 c.variables vars name of_vars))
+      either_fits ss _ _ (bound_fits ss (finding.last_of 0 ls name) (last_found 0 ls ss name h))
+      (either_fits ss _ _ (variable_fits ss (finding.first_of 0 c.variables name) (first_found 0 c.variables vars name of_vars))
       (either_fits ss _ _ (value_fits ss name) (call_fits ss (place_of (function_names c.scope) name))))
 
   -- what a name means has its sort

@@ -8,27 +8,28 @@ use Rattle.moxi_sexpr.specs.Lexing.{refusal}
 use Rattle.moxi_sexpr.specs.Tree as form
 use Rattle.moxi_terms.specs.declared.data.Primes.TheVariants.{Refused}
 use Rattle.moxi_terms.specs.declared.data.Sort.{Sort}
-use Rattle.moxi_terms.specs.Forms.{place_in}
+use Rattle.moxi_sorts.specs.Forms.{place_in}
 use Rattle.moxi_terms.specs.Names.{are_fresh, is_term_name, no_scope, with_function}
-use Rattle.moxi_terms.specs.Reading.{Context, prime_failures, read, sort_reading}
+use Rattle.moxi_term_reading.specs.Reading.{Context, prime_failures, read}
+use Rattle.moxi_sorts.specs.SortReading.{sort_reading}
 use Rattle.moxi_terms.specs.Sorts.{IsSort}
 use Rattle.moxi_terms.specs.Sorted.{IsScope}
 use Rattle.moxi_terms.specs.Tree.{PlainFunction, sorts_of}
 use Rattle.moxi_terms.specs.View.{ScopeState}
-use Rattle.moxi_terms.specs.WellSorted.{HaveKnownSorts, IsWellSorted}
+use Rattle.moxi_term_reading.specs.WellSorted.{HaveKnownSorts, IsWellSorted}
 use Rattle.moxi_print.specs.Standing.{Stands}
-use Rattle.moxi_systems.specs.declared.commands.CommandName.{CommandName}
-use Rattle.moxi_systems.specs.declared.commands.CommandName.TheVariants as name
-use Rattle.moxi_systems.specs.declared.entries.Declared.{Declared}
-use Rattle.moxi_systems.specs.Checks.{CheckReading, check_failures, check_of, variables_in}
-use Rattle.moxi_systems.specs.Commands as commands
-use Rattle.moxi_systems.specs.Commands.{Reading, command_failures, command_named, commands_failures, first_check, form_failures, nothing_read, reading_after, with_command, with_form}
-use Rattle.moxi_systems.specs.Declarations.{FunctionForms, body_reading, clash_failures, function_failures, function_forms, function_tests, own_name_failures, parameters_in, result_sort, term_name_tests, with_read_enumeration, with_read_function, with_read_sort}
-use Rattle.moxi_systems.specs.Entries.{entries_failures, entries_of, locals_among, sort_failures, twice_failures, variables_of}
-use Rattle.moxi_systems.specs.Shapes.{HeadedForms, headed}
-use Rattle.moxi_systems.specs.Systems.{SystemReading, read_systems, variables_of_system}
+use Rattle.moxi_scripts.specs.declared.parts.CommandName.{CommandName}
+use Rattle.moxi_scripts.specs.declared.parts.CommandName.TheVariants as name
+use Rattle.moxi_scripts.specs.declared.parts.Declared.{Declared}
+use Rattle.moxi_scripts.specs.Checks.{CheckReading, check_failures, check_of, variables_in}
+use Rattle.moxi_scripts.specs.Commands as commands
+use Rattle.moxi_scripts.specs.Commands.{Reading, command_failures, command_named, commands_failures, first_check, form_failures, nothing_read, reading_after, with_command, with_form}
+use Rattle.moxi_scripts.specs.Declarations.{FunctionForms, body_reading, clash_failures, function_failures, function_forms, function_tests, own_name_failures, parameters_in, result_sort, term_name_tests, with_read_enumeration, with_read_function, with_read_sort}
+use Rattle.moxi_scripts.specs.Entries.{entries_failures, entries_of, locals_among, sort_failures, twice_failures, variables_of}
+use Rattle.moxi_scripts.specs.Shapes.{HeadedForms, headed}
+use Rattle.moxi_scripts.specs.Systems.{SystemReading, read_systems, variables_of_system}
 use Rattle.moxi_systems.specs.Whole.{IsWholeFunction, before}
-use Rattle.moxi_systems.proofs.FunctionLaws.{function_is, none_in, some_fails}
+use Rattle.moxi_scripts.proofs.FunctionLaws.{function_is, none_in, some_fails}
 use Rattle.moxi_systems.proofs.WholeEntries.{entries_known, locals_known, locals_same, variables_whole}
 use Rattle.moxi_systems.proofs.WholeFormulas.{StandOn, TermsStand, no_clash}
 use Rattle.moxi_systems.proofs.WholeNames.{fresh_end}

@@ -8,26 +8,27 @@ use Rattle.moxi_sexpr.specs.Tree as form
 use Rattle.moxi_terms.specs.declared.data.Sort.{Sort}
 use Rattle.moxi_terms.specs.declared.term.Enumeration.{Enumeration}
 use Rattle.moxi_terms.specs.declared.term.Variable.{Variable}
-use Rattle.moxi_terms.specs.Answer.{locals_of}
-use Rattle.moxi_terms.specs.Forms.{place_in}
+use Rattle.moxi_term_reading.specs.Answer.{locals_of}
+use Rattle.moxi_sorts.specs.Forms.{place_in}
 use Rattle.moxi_terms.specs.Names.{are_fresh, is_term_name, place_of}
-use Rattle.moxi_terms.specs.Reading.{prime_failures, sort_reading}
+use Rattle.moxi_term_reading.specs.Reading.{prime_failures}
+use Rattle.moxi_sorts.specs.SortReading.{sort_reading}
 use Rattle.moxi_terms.specs.Sorts.{IsSort}
 use Rattle.moxi_terms.specs.Sorted.{AreSorts}
 use Rattle.moxi_terms.specs.Tree.{sorts_of}
 use Rattle.moxi_terms.specs.View.{ScopeState}
-use Rattle.moxi_terms.specs.WellSorted.{HaveKnownSorts}
+use Rattle.moxi_term_reading.specs.WellSorted.{HaveKnownSorts}
 use Rattle.moxi_print.specs.Terms.{variable_names}
-use Rattle.moxi_systems.specs.declared.attributes.Command.{Command}
-use Rattle.moxi_systems.specs.declared.attributes.Key.TheVariants as keys
-use Rattle.moxi_systems.specs.declared.entries.Declared.{Declared}
-use Rattle.moxi_systems.specs.declared.lists.Lists.{Lists}
-use Rattle.moxi_systems.specs.Declarations.{is_nil}
-use Rattle.moxi_systems.specs.Entries.{entries_failures, entries_of, entry_failures, entry_in, entry_of, entry_tests, known_sort, locals_among, names_with, sort_failures, twice_failures, twice_tests, variable_of, variables_of}
-use Rattle.moxi_systems.specs.Lists.{all_entries, listed_entries, listed_failures, lists_failures, lists_in, value_at, entries_tests, entries_among}
-use Rattle.moxi_systems.specs.Shapes.{NamedForm, misshapen, named, parts_of}
+use Rattle.moxi_scripts.specs.declared.parts.Command.{Command}
+use Rattle.moxi_scripts.specs.declared.parts.Key.TheVariants as keys
+use Rattle.moxi_scripts.specs.declared.parts.Declared.{Declared}
+use Rattle.moxi_scripts.specs.declared.parts.Lists.{Lists}
+use Rattle.moxi_scripts.specs.Declarations.{is_nil}
+use Rattle.moxi_scripts.specs.Entries.{entries_failures, entries_of, entry_failures, entry_in, entry_of, entry_tests, known_sort, locals_among, names_with, sort_failures, twice_failures, twice_tests, variable_of, variables_of}
+use Rattle.moxi_scripts.specs.Lists.{all_entries, listed_entries, listed_failures, lists_failures, lists_in, value_at, entries_tests, entries_among}
+use Rattle.moxi_scripts.specs.Shapes.{NamedForm, misshapen, named, parts_of}
 use Rattle.moxi_systems.specs.Whole.{AreVariables}
-use Rattle.moxi_systems.proofs.FunctionLaws.{none_in, some_fails}
+use Rattle.moxi_scripts.proofs.FunctionLaws.{none_in, some_fails}
 use Rattle.moxi_systems.proofs.WholeNames.{absent_is, fresh_more}
 use Rattle.moxi_systems.proofs.WholeParts.{all_append, all_map, no_failure, not_false}
 

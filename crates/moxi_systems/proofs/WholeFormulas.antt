@@ -12,22 +12,23 @@ use Rattle.moxi_terms.specs.declared.data.Sort.TheVariants.{Truth}
 use Rattle.moxi_terms.specs.declared.names.Meaning.{Meaning}
 use Rattle.moxi_terms.specs.declared.names.Meaning.TheVariants as meaning
 use Rattle.moxi_terms.specs.declared.term.Variable.{Variable}
-use Rattle.moxi_terms.specs.Answer.{locals_of}
-use Rattle.moxi_terms.specs.Forms.{place_in}
+use Rattle.moxi_term_reading.specs.Answer.{locals_of}
+use Rattle.moxi_sorts.specs.Forms.{place_in}
 use Rattle.moxi_terms.specs.Names.{is_term_name, or_else}
-use Rattle.moxi_terms.specs.Reading.{Context, Found, first_of, read}
+use Rattle.moxi_term_reading.specs.Reading.{Context, read}
+use Rattle.moxi_sorts.specs.Finding.{Found, first_of}
 use Rattle.moxi_terms.specs.Sorts.{same_sort}
 use Rattle.moxi_terms.specs.Tree.{Tree, sorts_of}
 use Rattle.moxi_terms.specs.View.{ScopeState}
-use Rattle.moxi_terms.specs.WellSorted.{HaveKnownSorts}
+use Rattle.moxi_term_reading.specs.WellSorted.{HaveKnownSorts}
 use Rattle.moxi_print.specs.Standing.{Stands}
 use Rattle.moxi_print.specs.Terms.{variable_names}
-use Rattle.moxi_systems.specs.declared.entries.Declared.{Declared}
-use Rattle.moxi_systems.specs.Declarations.{clash_failures}
-use Rattle.moxi_systems.specs.Entries.{locals_among, variables_of}
-use Rattle.moxi_systems.specs.Formulas.{formula_failures, formula_term, term_failures, term_of, true_term}
+use Rattle.moxi_scripts.specs.declared.parts.Declared.{Declared}
+use Rattle.moxi_scripts.specs.Declarations.{clash_failures}
+use Rattle.moxi_scripts.specs.Entries.{locals_among, variables_of}
+use Rattle.moxi_scripts.specs.Formulas.{formula_failures, formula_term, term_failures, term_of, true_term}
 use Rattle.moxi_systems.specs.Whole.{AreVariables, IsFormula}
-use Rattle.moxi_systems.proofs.FunctionLaws.{none_in, one_sort}
+use Rattle.moxi_scripts.proofs.FunctionLaws.{none_in, one_sort}
 use Rattle.moxi_systems.proofs.WholeEntries.{AreKnown, locals_known, locals_same}
 use Rattle.moxi_systems.proofs.WholeNames.{or_parts, other_way}
 use Rattle.moxi_systems.proofs.WholeParts.{no_failure}

@@ -3,25 +3,25 @@ use Rattle.std.proofs.Common.{◌≡◌, ℕ, Bool, true, false, cond, ◌||◌,
 use Rattle.moxi_sexpr.specs.Tree as form
 use Rattle.moxi_terms.specs.declared.data.Primes.TheVariants.{Refused}
 use Rattle.moxi_terms.specs.declared.term.Variable.{Variable}
-use Rattle.moxi_terms.specs.Forms.{place_in}
+use Rattle.moxi_sorts.specs.Forms.{place_in}
 use Rattle.moxi_terms.specs.Names.{are_fresh}
-use Rattle.moxi_terms.specs.Reading.{prime_failures}
+use Rattle.moxi_term_reading.specs.Reading.{prime_failures}
 use Rattle.moxi_terms.specs.View.{ScopeState}
-use Rattle.moxi_systems.specs.declared.attributes.Command.TheVariants.{Check}
-use Rattle.moxi_systems.specs.declared.attributes.Key.{Key}
-use Rattle.moxi_systems.specs.declared.attributes.Key.TheVariants.{Input, Output, Local, Init, Trans, Inv, Subsystem, Assumption, Current, Reachable, Query, Queries}
-use Rattle.moxi_systems.specs.declared.attributes.Turn.{Turn}
-use Rattle.moxi_systems.specs.declared.attributes.Turn.TheVariants.{AtKeyword, Behind, Passing}
-use Rattle.moxi_systems.specs.declared.entries.Declared.{Declared}
-use Rattle.moxi_systems.specs.Attributes.{turn_after}
-use Rattle.moxi_systems.specs.Collecting.{fails_if}
-use Rattle.moxi_systems.specs.Entries.{locals_among, variables_of}
-use Rattle.moxi_systems.specs.Formulas.{term_of}
-use Rattle.moxi_systems.specs.Labels.{FormulaList, FormulaLists, has_name, is_formula_key, is_label, label_tests, labels_after, labels_failures, labels_with, named_tests, no_labels, with_formula, with_named}
-use Rattle.moxi_systems.specs.Script.{PlainFormula}
-use Rattle.moxi_systems.specs.Shapes.{NamedForm, misshapen, named}
+use Rattle.moxi_scripts.specs.declared.parts.Command.TheVariants.{Check}
+use Rattle.moxi_scripts.specs.declared.parts.Key.{Key}
+use Rattle.moxi_scripts.specs.declared.parts.Key.TheVariants.{Input, Output, Local, Init, Trans, Inv, Subsystem, Assumption, Current, Reachable, Query, Queries}
+use Rattle.moxi_scripts.specs.declared.parts.Turn.{Turn}
+use Rattle.moxi_scripts.specs.declared.parts.Turn.TheVariants.{AtKeyword, Behind, Passing}
+use Rattle.moxi_scripts.specs.declared.parts.Declared.{Declared}
+use Rattle.moxi_scripts.specs.Attributes.{turn_after}
+use Rattle.moxi_scripts.specs.Collecting.{fails_if}
+use Rattle.moxi_scripts.specs.Entries.{locals_among, variables_of}
+use Rattle.moxi_scripts.specs.Formulas.{term_of}
+use Rattle.moxi_scripts.specs.Labels.{FormulaList, FormulaLists, has_name, is_formula_key, is_label, label_tests, labels_after, labels_failures, labels_with, named_tests, no_labels, with_formula, with_named}
+use Rattle.moxi_scripts.specs.Script.{PlainFormula}
+use Rattle.moxi_scripts.specs.Shapes.{NamedForm, misshapen, named}
 use Rattle.moxi_systems.specs.Whole.{AreFormulas, IsFormula, formula_names}
-use Rattle.moxi_systems.proofs.FunctionLaws.{none_in, some_fails}
+use Rattle.moxi_scripts.proofs.FunctionLaws.{none_in, some_fails}
 use Rattle.moxi_systems.proofs.WholeEntries.{AreKnown}
 use Rattle.moxi_systems.proofs.WholeFormulas.{StandOn, TermsStand, term_stands}
 use Rattle.moxi_systems.proofs.WholeNames.{Absent, absent_append, absent_swap, fresh_between, fresh_end, fresh_more, or_parts}

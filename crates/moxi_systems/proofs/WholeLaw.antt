@@ -5,16 +5,16 @@ use Rattle.text_core.specs.declared.place.Place.{Place}
 use Rattle.moxi_sexpr.specs.Tree.{Trees}
 use Rattle.moxi_terms.specs.Names.{are_fresh}
 use Rattle.moxi_terms.specs.View.{ScopeState}
-use Rattle.moxi_systems.specs.declared.uses.Use.{Use}
-use Rattle.moxi_systems.specs.Checks.{CheckReading}
-use Rattle.moxi_systems.specs.Commands.{Reading, commands_failures, nothing_read}
-use Rattle.moxi_systems.specs.Cycles.{cycle_failures}
-use Rattle.moxi_systems.specs.Links as links
-use Rattle.moxi_systems.specs.Script.{PlainScript}
-use Rattle.moxi_systems.specs.Spelling.{SpellsScript, reading_of, script_with}
-use Rattle.moxi_systems.specs.Systems.{SystemReading}
+use Rattle.moxi_scripts.specs.declared.parts.Use.{Use}
+use Rattle.moxi_scripts.specs.Checks.{CheckReading}
+use Rattle.moxi_scripts.specs.Commands.{Reading, commands_failures, nothing_read}
+use Rattle.moxi_scripts.specs.Cycles.{cycle_failures}
+use Rattle.moxi_scripts.specs.Links as links
+use Rattle.moxi_scripts.specs.Script.{PlainScript}
+use Rattle.moxi_scripts.specs.Spelling.{SpellsScript, reading_of, script_with}
+use Rattle.moxi_scripts.specs.Systems.{SystemReading}
 use Rattle.moxi_systems.specs.Whole.{IsWhole}
-use Rattle.moxi_systems.proofs.FunctionLaws.{none_in}
+use Rattle.moxi_scripts.proofs.FunctionLaws.{none_in}
 use Rattle.moxi_systems.proofs.WholeCommands.{IsSoFar, SortsAreKnown, TermsAreSorted, forms_go, forms_whole, nothing_so_far, nothing_whole}
 use Rattle.moxi_systems.proofs.WholeCycles.{AreThere, IsThere, none_contains_itself}
 use Rattle.moxi_systems.proofs.WholeFormulas.{StandOn, TermsStand}

@@ -15,25 +15,25 @@ use Rattle.moxi_terms.specs.declared.term.Variable.{Variable}
 use Rattle.moxi_terms.specs.Names.{are_fresh, is_term_name, place_of}
 use Rattle.moxi_terms.specs.Tree.{sorts_of}
 use Rattle.moxi_terms.specs.View.{ScopeState}
-use Rattle.moxi_systems.specs.declared.entries.Declared.{Declared}
-use Rattle.moxi_systems.specs.declared.lists.DeclaredList.{DeclaredList}
-use Rattle.moxi_systems.specs.declared.lists.Lists.{Lists}
-use Rattle.moxi_systems.specs.declared.script.Subsystem.{Subsystem}
-use Rattle.moxi_systems.specs.declared.uses.Actual.{Actual}
-use Rattle.moxi_systems.specs.declared.uses.Use.{Use}
-use Rattle.moxi_systems.specs.Checks.{CheckReading}
-use Rattle.moxi_systems.specs.Collecting.{fails_if}
-use Rattle.moxi_systems.specs.Declarations.{clash_failures, is_taken}
-use Rattle.moxi_systems.specs.Entries.{variables_of}
-use Rattle.moxi_systems.specs.Links as links
-use Rattle.moxi_systems.specs.Links.{entries_fit, entry_sort, lists_at, same_known, sort_at, taken_failures}
-use Rattle.moxi_systems.specs.Lists.{all_entries}
-use Rattle.moxi_systems.specs.Script.{PlainFormula, PlainSystem, system_at, variables_in}
-use Rattle.moxi_systems.specs.Spelling.{actual_numbers, check_of, number_or_none, subsystem_of, system_of}
-use Rattle.moxi_systems.specs.Systems.{SystemReading}
+use Rattle.moxi_scripts.specs.declared.parts.Declared.{Declared}
+use Rattle.moxi_scripts.specs.declared.parts.DeclaredList.{DeclaredList}
+use Rattle.moxi_scripts.specs.declared.parts.Lists.{Lists}
+use Rattle.moxi_scripts.specs.declared.script.Subsystem.{Subsystem}
+use Rattle.moxi_scripts.specs.declared.parts.Actual.{Actual}
+use Rattle.moxi_scripts.specs.declared.parts.Use.{Use}
+use Rattle.moxi_scripts.specs.Checks.{CheckReading}
+use Rattle.moxi_scripts.specs.Collecting.{fails_if}
+use Rattle.moxi_scripts.specs.Declarations.{clash_failures, is_taken}
+use Rattle.moxi_scripts.specs.Entries.{variables_of}
+use Rattle.moxi_scripts.specs.Links as links
+use Rattle.moxi_scripts.specs.Links.{entries_fit, entry_sort, lists_at, same_known, sort_at, taken_failures}
+use Rattle.moxi_scripts.specs.Lists.{all_entries}
+use Rattle.moxi_scripts.specs.Script.{PlainFormula, PlainSystem, system_at, variables_in}
+use Rattle.moxi_scripts.specs.Spelling.{actual_numbers, check_of, number_or_none, subsystem_of, system_of}
+use Rattle.moxi_scripts.specs.Systems.{SystemReading}
 use Rattle.moxi_systems.specs.Whole.{AreVariables, FitsSystem, IsFormula, IsWholeCheck, IsWholeQuery, IsWholeSubsystem, IsWholeSystem, check_variables, formula_names}
-use Rattle.moxi_systems.proofs.FunctionLaws.{none_in, one_sort, some_fails}
-use Rattle.moxi_systems.proofs.LinkLaws.{get_right}
+use Rattle.moxi_scripts.proofs.FunctionLaws.{none_in, one_sort, some_fails}
+use Rattle.moxi_scripts.proofs.ListLaws.{get_right}
 use Rattle.moxi_systems.proofs.WholeEntries.{AreKnown, all_known, declared_sorts, sorts_same, variables_all, variables_append}
 use Rattle.moxi_systems.proofs.WholeFormulas.{no_clash}
 use Rattle.moxi_systems.proofs.WholeNames.{or_parts}

@@ -4,8 +4,8 @@ use Rattle.std.specs.Prelude.{slice_get, slice_index_or}
 use Rattle.std.specs.List.{AllByRecursion}
 use Rattle.std.proofs.lemmas.Option.{none-some, same_Some}
 use Rattle.text_core.specs.declared.place.Place.{Place}
-use Rattle.moxi_systems.specs.Collecting.{fails_if}
-use Rattle.moxi_systems.proofs.FunctionLaws.{some_fails}
+use Rattle.moxi_scripts.specs.Collecting.{fails_if}
+use Rattle.moxi_scripts.proofs.FunctionLaws.{some_fails}
 
 pub no_failure : (b : Bool) (n : ℕ) (p : Place) → fails_if b n p ≡ [] → b ≡ false
 no_failure true n p h = some_fails _ [] h

@@ -7,21 +7,21 @@ use Rattle.std.proofs.lemmas.Bool.Decides.{nat_tests}
 use Rattle.text_core.specs.declared.place.Place.{Place}
 use Rattle.moxi_sexpr.specs.Lexing.{refusal}
 use Rattle.moxi_sexpr.specs.Tree as form
-use Rattle.moxi_terms.specs.Forms.{place_in, symbol_of}
+use Rattle.moxi_sorts.specs.Forms.{place_in, symbol_of}
 use Rattle.moxi_terms.specs.Names.{are_fresh, place_of}
-use Rattle.moxi_terms.specs.Reading.{prime_failures}
-use Rattle.moxi_systems.specs.declared.attributes.Command.TheVariants.{Check}
-use Rattle.moxi_systems.specs.declared.attributes.Turn.{Turn}
-use Rattle.moxi_systems.specs.declared.queries.QueryNames.{QueryNames}
-use Rattle.moxi_systems.specs.declared.script.Query.{Query}
-use Rattle.moxi_systems.specs.Attributes.{turn_after}
-use Rattle.moxi_systems.specs.Collecting.{fails_if}
-use Rattle.moxi_systems.specs.Declarations.{are_symbols}
-use Rattle.moxi_systems.specs.Labels.{FormulaLists}
-use Rattle.moxi_systems.specs.QueryReading as queries
-use Rattle.moxi_systems.specs.Shapes.{NamedForm, misshapen, named, parts_of}
+use Rattle.moxi_term_reading.specs.Reading.{prime_failures}
+use Rattle.moxi_scripts.specs.declared.parts.Command.TheVariants.{Check}
+use Rattle.moxi_scripts.specs.declared.parts.Turn.{Turn}
+use Rattle.moxi_scripts.specs.declared.parts.QueryNames.{QueryNames}
+use Rattle.moxi_scripts.specs.declared.script.Query.{Query}
+use Rattle.moxi_scripts.specs.Attributes.{turn_after}
+use Rattle.moxi_scripts.specs.Collecting.{fails_if}
+use Rattle.moxi_scripts.specs.Declarations.{are_symbols}
+use Rattle.moxi_scripts.specs.Labels.{FormulaLists}
+use Rattle.moxi_scripts.specs.QueryReading as queries
+use Rattle.moxi_scripts.specs.Shapes.{NamedForm, misshapen, named, parts_of}
 use Rattle.moxi_systems.specs.Whole.{IsWholeQuery, query_names}
-use Rattle.moxi_systems.proofs.FunctionLaws.{none_in, some_fails}
+use Rattle.moxi_scripts.proofs.FunctionLaws.{none_in, some_fails}
 use Rattle.moxi_systems.proofs.WholeNames.{absent_is, fresh_join, fresh_more, or_both}
 use Rattle.moxi_systems.proofs.WholeParts.{all_append, map_append, no_failure, not_false}
 

@@ -7,9 +7,9 @@ use Rattle.std.proofs.lemmas.List.{length-append}
 use Rattle.std.proofs.lemmas.Option.{none-some, same_Some}
 use Rattle.digraph.specs.Graph.{NeverReturns, NodeLists, is_graph, leads, next_of}
 use Rattle.moxi_terms.specs.View.{ScopeState}
-use Rattle.moxi_systems.specs.declared.script.Subsystem.{Subsystem}
-use Rattle.moxi_systems.specs.Cycles.{nodes_from}
-use Rattle.moxi_systems.specs.Script.{PlainScript, PlainSystem, variables_in}
+use Rattle.moxi_scripts.specs.declared.script.Subsystem.{Subsystem}
+use Rattle.moxi_scripts.specs.Cycles.{nodes_from}
+use Rattle.moxi_scripts.specs.Script.{PlainScript, PlainSystem, variables_in}
 use Rattle.moxi_systems.specs.Whole.{HasRanks, IsWhole, IsWholeSubsystem, IsWholeSystem, all_subsystem_rows, containing_rows, count_subsystems, subsystem_graph, subsystem_rows}
 use Rattle.moxi_systems.proofs.WholeCycles.{all_rows_long, index_right, rows_below}
 use Rattle.moxi_systems.proofs.WholeNames.{and_both}

@@ -7,16 +7,16 @@ use Rattle.text_core.specs.declared.place.Refusal.{Refusal}
 use Rattle.moxi_sexpr.specs.Tree as form
 use Rattle.moxi_terms.specs.declared.data.Sort.{Sort}
 use Rattle.moxi_terms.specs.Names.{is_sort_name, is_term_name, may_be_enumeration, with_enumeration, with_function, with_sort}
-use Rattle.moxi_terms.specs.Reading.{sort_reading}
+use Rattle.moxi_sorts.specs.SortReading.{sort_reading}
 use Rattle.moxi_terms.specs.Sorts.{IsSort}
 use Rattle.moxi_terms.specs.Tree.{PlainFunction}
 use Rattle.moxi_terms.specs.View.{ScopeState}
-use Rattle.moxi_systems.specs.Declarations as declare
-use Rattle.moxi_systems.specs.Declarations.{FunctionForms, body_reading, constants_in, function_forms, is_nil, part_failures, result_sort, symbols_in, typed_function, with_read_enumeration, with_read_function, with_read_sort}
-use Rattle.moxi_systems.specs.Entries.{entries_of, known_sort}
-use Rattle.moxi_systems.specs.Shapes.{HeadedForms, NamedForm, headed, named_in}
-use Rattle.moxi_terms.specs.Forms.{pair_of}
-use Rattle.moxi_systems.proofs.FunctionLaws.{nil_is}
+use Rattle.moxi_scripts.specs.Declarations as declare
+use Rattle.moxi_scripts.specs.Declarations.{FunctionForms, body_reading, constants_in, function_forms, is_nil, part_failures, result_sort, symbols_in, typed_function, with_read_enumeration, with_read_function, with_read_sort}
+use Rattle.moxi_scripts.specs.Entries.{entries_of, known_sort}
+use Rattle.moxi_scripts.specs.Shapes.{HeadedForms, NamedForm, headed, named_in}
+use Rattle.moxi_sorts.specs.Forms.{pair_of}
+use Rattle.moxi_scripts.proofs.FunctionLaws.{nil_is}
 use Rattle.moxi_systems.proofs.WholeScopes.{IsNewEnumeration, new_enumeration}
 
 -- an enumeration: nothing, or one more

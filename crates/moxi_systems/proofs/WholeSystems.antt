@@ -6,27 +6,28 @@ use Rattle.moxi_sexpr.specs.Lexing.{refusal}
 use Rattle.moxi_sexpr.specs.Tree as form
 use Rattle.moxi_terms.specs.declared.data.Primes.TheVariants.{Allowed, Refused}
 use Rattle.moxi_terms.specs.Names.{are_fresh, is_term_name, place_of}
-use Rattle.moxi_terms.specs.Reading.{prime_failures, sort_reading}
+use Rattle.moxi_term_reading.specs.Reading.{prime_failures}
+use Rattle.moxi_sorts.specs.SortReading.{sort_reading}
 use Rattle.moxi_terms.specs.Sorts.{IsSort}
 use Rattle.moxi_terms.specs.View.{ScopeState}
-use Rattle.moxi_systems.specs.declared.attributes.Command.{Command}
-use Rattle.moxi_systems.specs.declared.attributes.Command.TheVariants.{System, Check}
-use Rattle.moxi_systems.specs.declared.attributes.Key.TheVariants.{Init, Trans, Inv}
-use Rattle.moxi_systems.specs.declared.attributes.Turn.TheVariants.{AtKeyword}
-use Rattle.moxi_systems.specs.declared.entries.Declared.{Declared}
-use Rattle.moxi_systems.specs.declared.lists.Lists.{Lists}
-use Rattle.moxi_systems.specs.Attributes.{shape_holds, unknown_failures}
-use Rattle.moxi_systems.specs.Checks as checks
-use Rattle.moxi_systems.specs.Checks.{CheckReading, labels_in}
-use Rattle.moxi_systems.specs.Entries.{variables_of}
-use Rattle.moxi_systems.specs.Formulas.{formula_failures}
-use Rattle.moxi_systems.specs.Labels.{labels_failures, no_labels}
-use Rattle.moxi_systems.specs.Lists.{all_entries, lists_failures, lists_in, value_at}
-use Rattle.moxi_systems.specs.Shapes.{HeadedForms}
-use Rattle.moxi_systems.specs.Systems as systems
-use Rattle.moxi_systems.specs.Systems.{SystemReading, locals_of, variables_failures}
+use Rattle.moxi_scripts.specs.declared.parts.Command.{Command}
+use Rattle.moxi_scripts.specs.declared.parts.Command.TheVariants.{System, Check}
+use Rattle.moxi_scripts.specs.declared.parts.Key.TheVariants.{Init, Trans, Inv}
+use Rattle.moxi_scripts.specs.declared.parts.Turn.TheVariants.{AtKeyword}
+use Rattle.moxi_scripts.specs.declared.parts.Declared.{Declared}
+use Rattle.moxi_scripts.specs.declared.parts.Lists.{Lists}
+use Rattle.moxi_scripts.specs.Attributes.{shape_holds, unknown_failures}
+use Rattle.moxi_scripts.specs.Checks as checks
+use Rattle.moxi_scripts.specs.Checks.{CheckReading, labels_in}
+use Rattle.moxi_scripts.specs.Entries.{variables_of}
+use Rattle.moxi_scripts.specs.Formulas.{formula_failures}
+use Rattle.moxi_scripts.specs.Labels.{labels_failures, no_labels}
+use Rattle.moxi_scripts.specs.Lists.{all_entries, lists_failures, lists_in, value_at}
+use Rattle.moxi_scripts.specs.Shapes.{HeadedForms}
+use Rattle.moxi_scripts.specs.Systems as systems
+use Rattle.moxi_scripts.specs.Systems.{SystemReading, locals_of, variables_failures}
 use Rattle.moxi_systems.specs.Whole.{AreVariables, IsFormula, IsWholeQuery, query_names}
-use Rattle.moxi_systems.proofs.FunctionLaws.{none_in, some_fails}
+use Rattle.moxi_scripts.proofs.FunctionLaws.{none_in, some_fails}
 use Rattle.moxi_systems.proofs.WholeEntries.{AreKnown, AreKnownLists, IsKnown, all_known, lists_known, variables_whole}
 use Rattle.moxi_systems.proofs.WholeFormulas.{StandOn, TermsStand, formula_stands}
 use Rattle.moxi_systems.proofs.WholeLabels.{AreLabels, labels_are, nothing_labelled}

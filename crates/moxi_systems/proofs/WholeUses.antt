@@ -7,22 +7,23 @@ use Rattle.std.proofs.lemmas.Option.{none-some, same_Some}
 use Rattle.text_core.specs.declared.place.Place.{Place}
 use Rattle.moxi_sexpr.specs.Lexing.{refusal}
 use Rattle.moxi_sexpr.specs.Tree as form
-use Rattle.moxi_terms.specs.Forms.{place_in, symbol_of}
+use Rattle.moxi_sorts.specs.Forms.{place_in, symbol_of}
 use Rattle.moxi_terms.specs.Names.{are_fresh, place_of}
-use Rattle.moxi_terms.specs.Reading.{Found, first_of, prime_failures}
-use Rattle.moxi_systems.specs.declared.attributes.Command.TheVariants.{System}
-use Rattle.moxi_systems.specs.declared.attributes.Key.TheVariants.{Subsystem}
-use Rattle.moxi_systems.specs.declared.attributes.Turn.{Turn}
-use Rattle.moxi_systems.specs.declared.entries.Declared.{Declared}
-use Rattle.moxi_systems.specs.declared.uses.Actual.{Actual}
-use Rattle.moxi_systems.specs.declared.uses.Use.{Use}
-use Rattle.moxi_systems.specs.Attributes.{is_behind, turn_after}
-use Rattle.moxi_systems.specs.Collecting.{fails_if}
-use Rattle.moxi_systems.specs.Declarations.{are_symbols}
-use Rattle.moxi_systems.specs.Entries.{locals_among}
-use Rattle.moxi_systems.specs.Shapes.{HeadedForms, NamedForm, headed, misshapen, named, parts_of}
-use Rattle.moxi_systems.specs.Uses as uses
-use Rattle.moxi_systems.proofs.FunctionLaws.{none_in, some_fails}
+use Rattle.moxi_sorts.specs.Finding.{Found, first_of}
+use Rattle.moxi_term_reading.specs.Reading.{prime_failures}
+use Rattle.moxi_scripts.specs.declared.parts.Command.TheVariants.{System}
+use Rattle.moxi_scripts.specs.declared.parts.Key.TheVariants.{Subsystem}
+use Rattle.moxi_scripts.specs.declared.parts.Turn.{Turn}
+use Rattle.moxi_scripts.specs.declared.parts.Declared.{Declared}
+use Rattle.moxi_scripts.specs.declared.parts.Actual.{Actual}
+use Rattle.moxi_scripts.specs.declared.parts.Use.{Use}
+use Rattle.moxi_scripts.specs.Attributes.{is_behind, turn_after}
+use Rattle.moxi_scripts.specs.Collecting.{fails_if}
+use Rattle.moxi_scripts.specs.Declarations.{are_symbols}
+use Rattle.moxi_scripts.specs.Entries.{locals_among}
+use Rattle.moxi_scripts.specs.Shapes.{HeadedForms, NamedForm, headed, misshapen, named, parts_of}
+use Rattle.moxi_scripts.specs.Uses as uses
+use Rattle.moxi_scripts.proofs.FunctionLaws.{none_in, some_fails}
 use Rattle.moxi_systems.proofs.WholeEntries.{declared_sorts}
 use Rattle.moxi_systems.proofs.WholeNames.{absent_is, fresh_join, fresh_more}
 use Rattle.moxi_systems.proofs.WholeParts.{all_append, map_append, no_failure, not_false}

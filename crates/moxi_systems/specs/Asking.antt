@@ -8,10 +8,10 @@ use Rattle.moxi_terms.specs.declared.data.Sort.TheVariants.{Truth}
 use Rattle.moxi_terms.specs.Sorted.{HasSort}
 use Rattle.moxi_terms.specs.Tree.{Tree, sorts_of}
 use Rattle.moxi_terms.specs.Value.{Values}
-use Rattle.moxi_systems.specs.declared.script.Query.{Query}
+use Rattle.moxi_scripts.specs.declared.script.Query.{Query}
 use Rattle.moxi_systems.specs.Behaviour.{Trace}
 use Rattle.moxi_systems.specs.Meeting.{Hiddens, all_hold, assumptions_hold, currents_hold, is_reached}
-use Rattle.moxi_systems.specs.Script.{PlainFormula, PlainScript}
+use Rattle.moxi_scripts.specs.Script.{PlainFormula, PlainScript}
 use Rattle.moxi_systems.specs.Whole.{check_variables}
 
 -- what stands where no query is

@@ -6,8 +6,8 @@ use Rattle.moxi_terms.specs.declared.term.Enumeration.{Enumeration}
 use Rattle.moxi_terms.specs.Sorts.{IsOf}
 use Rattle.moxi_terms.specs.Tree.{Tree, sorts_of}
 use Rattle.moxi_terms.specs.Value.{Calls, Values, term_value}
-use Rattle.moxi_systems.specs.declared.script.Subsystem.{Subsystem}
-use Rattle.moxi_systems.specs.Script.{PlainSystem, system_at, variables_in}
+use Rattle.moxi_scripts.specs.declared.script.Subsystem.{Subsystem}
+use Rattle.moxi_scripts.specs.Script.{PlainSystem, system_at, variables_in}
 
 -- what each variable has at each step
 abbrev pub Trace : Type 0

@@ -8,9 +8,9 @@ use Rattle.text_core.specs.declared.verdict.Verdict.TheVariants.{Yes, No}
 use Rattle.moxi_terms.specs.Operators.{truth_of}
 use Rattle.moxi_terms.specs.Tree.{Tree}
 use Rattle.moxi_terms.specs.Value.{Values, term_value}
-use Rattle.moxi_systems.specs.declared.script.Query.{Query}
-use Rattle.moxi_systems.specs.declared.script.Subsystem.{Subsystem}
-use Rattle.moxi_systems.specs.Script.{PlainScript, PlainSystem, calls_in, formula_at, system_at}
+use Rattle.moxi_scripts.specs.declared.script.Query.{Query}
+use Rattle.moxi_scripts.specs.declared.script.Subsystem.{Subsystem}
+use Rattle.moxi_scripts.specs.Script.{PlainScript, PlainSystem, calls_in, formula_at, system_at}
 use Rattle.moxi_systems.specs.Behaviour.{Behaves, Holds, Trace}
 
 -- A trace of steps 0 to k meets a query: the checked system behaves on it, the query's assumptions hold at every step, its

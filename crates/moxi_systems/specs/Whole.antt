@@ -8,19 +8,19 @@ use Rattle.moxi_terms.specs.declared.data.Primes.{Primes}
 use Rattle.moxi_terms.specs.declared.data.Primes.TheVariants.{Allowed, Refused}
 use Rattle.moxi_terms.specs.declared.data.Sort.TheVariants.{Truth}
 use Rattle.moxi_terms.specs.declared.term.Variable.{Variable}
-use Rattle.moxi_terms.specs.Answer.{locals_of}
+use Rattle.moxi_term_reading.specs.Answer.{locals_of}
 use Rattle.moxi_terms.specs.Names.{all_constants, are_fresh, enumeration_names, function_names, is_term_name, sort_names}
-use Rattle.moxi_terms.specs.Reading.{Context}
+use Rattle.moxi_term_reading.specs.Reading.{Context}
 use Rattle.moxi_terms.specs.Sorted.{AreSorts, IsScope}
 use Rattle.moxi_terms.specs.Tree.{PlainFunction, Tree, sorts_of}
 use Rattle.moxi_terms.specs.View.{ScopeState}
 use Rattle.moxi_terms.specs.Words.{is_operator}
 use Rattle.moxi_print.specs.Standing.{Stands}
 use Rattle.moxi_print.specs.Terms.{variable_names}
-use Rattle.moxi_systems.specs.declared.script.Query.{Query}
-use Rattle.moxi_systems.specs.declared.script.Subsystem.{Subsystem}
-use Rattle.moxi_systems.specs.Cycles.{nodes_from}
-use Rattle.moxi_systems.specs.Script.{PlainCheck, PlainFormula, PlainScript, PlainSystem, system_at, variables_in}
+use Rattle.moxi_scripts.specs.declared.script.Query.{Query}
+use Rattle.moxi_scripts.specs.declared.script.Subsystem.{Subsystem}
+use Rattle.moxi_scripts.specs.Cycles.{nodes_from}
+use Rattle.moxi_scripts.specs.Script.{PlainCheck, PlainFormula, PlainScript, PlainSystem, system_at, variables_in}
 
 -- NAMES
 

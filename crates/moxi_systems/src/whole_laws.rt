@@ -1,12 +1,13 @@
 // Laws of scripts that forms spell; these functions do nothing.
 ghost use Rattle.text_core.specs.declared.place.Place.{Place};
 ghost use Rattle.moxi_sexpr.specs.Tree.{Trees};
-ghost use Rattle.moxi_systems.specs.Script.{PlainScript};
-ghost use Rattle.moxi_systems.specs.Spelling.{SpellsScript};
+ghost use Rattle.moxi_scripts.specs.Script.{PlainScript};
+ghost use Rattle.moxi_scripts.specs.Spelling.{SpellsScript};
 ghost use Rattle.moxi_systems.specs.Whole.{HasRanks, IsWhole};
 
 use moxi_print::{read_terms_stand, terms_stand_on};
-use moxi_terms::{read_sorts_are_of_the_scope, read_terms_have_sorts};
+use moxi_sorts::read_sorts_are_of_the_scope;
+use moxi_term_reading::read_terms_have_sorts;
 
 /// A script that forms spell is whole: names differ and mean one thing, terms have their sorts and can stand in their places,
 /// numbers are in range, and no system contains itself.

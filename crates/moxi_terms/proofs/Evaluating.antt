@@ -6,15 +6,13 @@ use Rattle.moxi_terms.specs.declared.data.TermOp.{TermOp}
 use Rattle.moxi_terms.specs.declared.term.Enumeration.{Enumeration}
 use Rattle.moxi_terms.specs.Applied.{CanApply}
 use Rattle.moxi_terms.specs.Sorts.{Fit}
-use Rattle.moxi_terms.specs.Sorted.{HasSort, HaveSorts}
+use Rattle.moxi_terms.specs.Sorted.{HasSort, HaveSorts, IsScope, IsReady, FitLater}
 use Rattle.moxi_terms.specs.Tree.{Tree, apply, binding, call, Trees, tree, PlainFunction, sorts_of}
-use Rattle.moxi_terms.specs.Value.{at, term_value, term_values, calls_upto}
+use Rattle.moxi_terms.specs.Value.{at, term_value, term_values, calls_upto, later_of}
 use Rattle.std.specs.Borrow.{Bor}
 use Rattle.std.proofs.lemmas.List.{length-map, take_all}
 use Rattle.moxi_terms.specs.declared.term.Function.{Function}
-use Rattle.moxi_terms.specs.Value.{later_of}
 use Rattle.moxi_terms.specs.View.{ScopeState, plain_function}
-use Rattle.moxi_terms.specs.Sorted.{IsScope, IsReady, FitLater}
 use Rattle.moxi_terms.specs.Evaluated.{CanEvaluate, CanEvaluateAll, CanCall}
 use Rattle.moxi_terms.proofs.ValueLaws.{calls_suit, suits, values_sorted, fit_append, taken_at}
 

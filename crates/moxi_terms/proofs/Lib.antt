@@ -1,16 +1,8 @@
 pub mod NameLaws
-pub mod FormLaws
-pub mod FindingLaws
-pub mod StackLaws
-pub mod TypingLaws
-pub mod Least
+pub mod PlaceLaws
 pub mod SortLaws
 pub mod OperatorLaws
 pub mod ValueLaws
 pub mod Plain
 pub mod Evaluating
-pub mod ReadingLaws
 pub mod ScopeLaws
-pub mod SortedParts
-pub mod WellSorted
-pub mod ReadSorts

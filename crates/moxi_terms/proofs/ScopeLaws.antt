@@ -18,7 +18,7 @@ use Rattle.moxi_terms.specs.Names.{enumeration_names, sort_names, function_names
 use Rattle.moxi_terms.specs.Words.{is_operator}
 use Rattle.std.specs.Str.{bytes_eq}
 use Rattle.moxi_terms.specs.Scopes.{IsKept}
-use Rattle.moxi_terms.proofs.FindingLaws.{get_front, get_taken, take_whole, length_taken, place_within}
+use Rattle.moxi_terms.proofs.PlaceLaws.{get_front, get_taken, take_whole, length_taken, place_within}
 
 pub names_front : {X : Type 0} (xs : List X) (i n : ℕ) (x : X) → n ≡ length xs → i < n → x ≡ slice_index_or xs i x → drop i xs ≡ x ∷ drop (i + 1) xs
 names_front xs i n x e l is = drop_more xs i x (omega (arith, e, l)) ∙ ap (λ y. y ∷ drop (i + 1) xs) (sym is)

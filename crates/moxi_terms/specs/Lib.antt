@@ -10,11 +10,6 @@ pub mod Words
 pub mod Rows
 pub mod Names
 pub mod Scopes
+pub mod Meanings
 pub mod Evaluated
 pub mod Cost
-pub mod Finding
-pub mod Failures
-pub mod Forms
-pub mod Reading
-pub mod Answer
-pub mod WellSorted

@@ -9,13 +9,6 @@ use std::alloc::Global;
 use std::marker::Model;
 use text_core::{Name, Names, NoMemory};
 
-/// A name that a variable or a `let` declares, and its sort, which is unknown where what it rests on fails a test.
-#[derive(Debug, Drop)]
-pub struct Local {
-    pub name: Name,
-    pub sort: Option<Sort>,
-}
-
 /// What a bare name stands for: the number of a bound name or of a variable, each with its sort where it is known, a
 /// constant, or the number of a function without parameters.
 #[derive(Clone, Copy, Debug)]

@@ -3,7 +3,7 @@ ghost use Rattle.std.specs.Prelude.{◌≡◌, ◌<◌, ◌≤◌, ◌^◌, ◌-
 ghost use Rattle.std.specs.List.{list_any};
 ghost use Rattle.std.specs.Option.{option_map};
 ghost use Rattle.moxi_terms.specs.Names.{all_constants, constant_named, has_room, is_sort_name, is_term_name, may_be_enumeration, no_scope, numbered, or_else, place_of, function_names, sort_named, with_enumeration, with_function, with_sort};
-ghost use Rattle.moxi_terms.specs.Reading.{bare_call, call_of, head_named, parameter_count, value_named};
+ghost use Rattle.moxi_terms.specs.Meanings.{bare_call, call_of, head_named, value_named};
 ghost use Rattle.moxi_terms.specs.Scopes.{enumeration_now, constants_now, named_sort_now, function_now};
 ghost use Rattle.moxi_terms.specs.Sorted.{IsFunction, IsScope};
 ghost use Rattle.moxi_terms.specs.Sorts.{IsSort};
@@ -304,7 +304,7 @@ impl Scope {
     }
 
     /// The constant, or else the function without parameters, of this name.
-    pub(crate) fn bare(&self, name: &[u8]) -> Option<Meaning>
+    pub fn bare(&self, name: &[u8]) -> Option<Meaning>
         ensures { result ≡ or_else (value_named self.now name.now) (call_of bare_call self.now.functions (place_of (function_names self.now) name.now)) }
     {
         match self.value_named(name) {
@@ -324,7 +324,7 @@ impl Scope {
     }
 
     /// The function with parameters, or else the operator, of this name.
-    pub(crate) fn head(&self, name: &[u8]) -> Option<Head>
+    pub fn head(&self, name: &[u8]) -> Option<Head>
         ensures { result ≡ head_named self.now name.now }
     {
         match self.function_names.place(name) {

@@ -15,13 +15,14 @@ use Rattle.smv_text.specs.Tree.{Tree, chain, choice, call, Links, Branches, Tree
 use Rattle.smv_text.specs.View.{plain, plain_link, plain_branch}
 use Rattle.smv_meaning.specs.Types.{ExprType, numbers_of}
 use Rattle.smv_meaning.specs.Checks.{Position, Named, single, under_next, across, are_unions, all_types, typing, condition_types, value_types, tree_types}
-use Rattle.smv_types.specs.View.{seen}
+use Rattle.smv_intervals.specs.View.{seen}
 use Rattle.smv_types.specs.Steps.{prefix_step, select_step, next_step, branches_step, call_step}
 use Rattle.smv_flat.specs.declared.nodes.Typed.{Typed}
 use Rattle.smv_flat.specs.declared.nodes.Operands.{Operands}
 use Rattle.smv_flat.specs.declared.nodes.Parts.{Parts}
 use Rattle.smv_flat.specs.declared.nodes.Cases.{Cases}
-use Rattle.smv_flat.specs.FlatTree.{Leaf, FlatTree, FlatLinks, FlatBranches, FlatTrees, flat_prefix, flat_chain, flat_choice, flat_select, flat_call, flat_links_of, flat_branches_of, flat_trees_of, flat_tree, flat_links, flat_branches, flat_trees, is_set, has_set, unless_set}
+use Rattle.smv_items.specs.FlatItems.{Leaf}
+use Rattle.smv_flat.specs.FlatTree.{FlatTree, FlatLinks, FlatBranches, FlatTrees, flat_prefix, flat_chain, flat_choice, flat_select, flat_call, flat_links_of, flat_branches_of, flat_trees_of, flat_tree, flat_links, flat_branches, flat_trees, is_set, has_set, unless_set}
 use Rattle.smv_flat.specs.FlatView.{plain_flat, plain_flat_link, plain_flat_branch, IsNode, AreOperands, AreParts, AreCases, chain_type, behind_types}
 use Rattle.smv_flat.proofs.FlatMade.{plain_prefix, plain_chain, plain_choice, plain_select, plain_call, plain_next, finished, link_flat, link_type, links_are, link_types_are, branch_flat, when_type, value_type, value_set, branches_are, conditions_are, values_are, sets_are, part_flat, part_type, parts_are, part_types_are, chain_is, choice_values}
 

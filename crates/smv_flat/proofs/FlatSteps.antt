@@ -9,13 +9,13 @@ use Rattle.smv_text.specs.declared.tree.Link.{Link}
 use Rattle.smv_text.specs.Tree.{Tree, Links, no_links, link, links_of}
 use Rattle.smv_text.specs.View.{plain, plain_link}
 use Rattle.smv_meaning.specs.Checks.{Position}
-use Rattle.smv_types.specs.View.{seen}
+use Rattle.smv_intervals.specs.View.{seen}
 use Rattle.smv_types.specs.Steps.{front_step}
 use Rattle.smv_types.proofs.Stepping.{plain_link_is}
 use Rattle.smv_flat.specs.FlatView.{fronts_type}
 use Rattle.smv_meaning.specs.Types.{ExprType}
 use Rattle.smv_meaning.specs.Checks.{Check, passes, first_failing, node}
-use Rattle.smv_types.specs.declared.types.Ty.{Ty}
+use Rattle.smv_intervals.specs.declared.types.Ty.{Ty}
 use Rattle.smv_types.specs.declared.ends.CheckEnd.{CheckEnd}
 use Rattle.smv_types.specs.declared.ends.CheckEnd.TheVariants.{Bad, NoMemory}
 use Rattle.smv_types.specs.Outcome.{verdict, outcome, Answers, Ends}

@@ -7,7 +7,7 @@ use Rattle.smv_meaning.specs.Checks.{Position, Named}
 use Rattle.smv_meaning.specs.Settled.{types_in}
 use Rattle.smv_flat.specs.declared.forms.Role.{Role}
 use Rattle.smv_flat.specs.FlatTree.{FlatTree, flat_tree}
-use Rattle.smv_flat.specs.FlatItems.{leaf_in}
+use Rattle.smv_items.specs.FlatItems.{leaf_in}
 use Rattle.smv_flat.specs.FlatForms.{Form, flat_in}
 
 pub form_made : (names : ℕ → Path → Named) (t : List Instance) (i n m : ℕ) (r : Role) (s p : Position) (e : Tree) (tree : FlatTree) → names ≡ types_in true t → s ≡ p → n ≡ m

@@ -11,8 +11,8 @@ use Rattle.smv_meaning.specs.Phases.{in_state, in_step, in_assignment, over_inst
 use Rattle.smv_meaning.specs.Settled.{types_in}
 use Rattle.smv_flat.specs.declared.forms.Role.{Role}
 use Rattle.smv_flat.specs.declared.forms.Role.TheVariants.{Body, Assign, Init, Trans, Invar, Invariant}
-use Rattle.smv_flat.specs.FlatTree.{Leaf, of_item, of_symbol, of_nothing, FlatTree, flat_tree}
-use Rattle.smv_flat.specs.FlatItems.{Content, variable, definition, actual, Origin, items_here, origins_of, symbols_of, leaf_in, PlainFlatItem, flat_item_of}
+use Rattle.smv_items.specs.FlatItems.{Leaf, of_item, of_symbol, of_nothing, Content, variable, definition, actual, Origin, items_here, origins_of, symbols_of, leaf_in, PlainFlatItem, flat_item_of}
+use Rattle.smv_flat.specs.FlatTree.{FlatTree, flat_tree}
 
 -- a formula: the instance to which it belongs, what it is, and its flat form
 pub record Form : Type 0 where

@@ -14,6 +14,7 @@ use Rattle.smv_meaning.specs.Operators.{implied, signed, selected, called}
 use Rattle.smv_meaning.specs.Expressions.{Denotation, alone, set_of, joined, is_implies}
 use Rattle.smv_meaning.specs.Types.{ExprType}
 use Rattle.smv_meaning.specs.Checks.{Position, Named, single, under_next, across, behind, are_unions, typing}
+use Rattle.smv_items.specs.FlatItems.{Leaf, of_item, of_symbol, of_nothing}
 
 -- each node begins with its type, which a set has none of
 mutual
@@ -57,12 +58,6 @@ flat_trees_of [] = no_flat_trees
 flat_trees_of (t ∷ ts) = flat_tree_then t (flat_trees_of ts)
 
 -- ---- the flat form of an expression
-
--- what a path becomes
-pub data Leaf : Type 0 where
-  of_item : ℕ → Leaf
-  of_symbol : ℕ → Leaf
-  of_nothing : Leaf  -- no path of an accepted model
 
 abbrev pub leaf_tree : Option ExprType → Bool → Leaf → FlatTree
 leaf_tree t under (of_item k) = flat_item t k under

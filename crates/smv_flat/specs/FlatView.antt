@@ -7,8 +7,8 @@ use Rattle.smv_text.specs.Tree.{Tree, Links, no_links, link, Branches, Trees}
 use Rattle.smv_meaning.specs.Expressions.{is_from_right}
 use Rattle.smv_meaning.specs.Types.{ExprType}
 use Rattle.smv_meaning.specs.Checks.{Position, Named, behind, all_types, typing}
-use Rattle.smv_types.specs.declared.types.Ty.{Ty}
-use Rattle.smv_types.specs.View.{seen}
+use Rattle.smv_intervals.specs.declared.types.Ty.{Ty}
+use Rattle.smv_intervals.specs.View.{seen}
 use Rattle.smv_types.specs.Steps.{front_step, implies_step}
 use Rattle.smv_flat.specs.declared.expressions.FlatExpr.{FlatExpr, FlatExpr-F, fold-FlatExpr}
 use Rattle.smv_flat.specs.declared.expressions.FlatBranch.{FlatBranch, FlatBranch-F, fold-FlatBranch}

@@ -1,12 +1,4 @@
 pub mod FlatTree
-pub mod FlatItems
 pub mod FlatForms
-pub mod FlatTruth
-pub mod FlatLaws
 pub mod FlatView
-pub mod FlatOrigins
 pub mod FlatFormulas
-pub mod FlatItemView
-pub mod FlatWidth
-pub mod SourceWidth
-pub mod FlatBounds

@@ -1,7 +1,7 @@
 // Expressions over the numbers of items and symbols.
 
+use smv_intervals::Ty;
 use smv_text::{Function, Infix, Prefix};
-use smv_types::Ty;
 use word_core::Word;
 
 /// An expression of a model with the number of an item or a symbol in place of each path, and its type: none for a set.

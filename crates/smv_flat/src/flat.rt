@@ -7,9 +7,9 @@ ghost use Rattle.smv_meaning.specs.Checks.{typing, single, condition_types, valu
 ghost use Rattle.smv_types.specs.View.{named_seen, standing_seen};
 ghost use Rattle.smv_types.specs.Steps.{number_step, name_step, next_step, range_step};
 ghost use Rattle.smv_flat.specs.FlatTree.{FlatTree, flat_truth, flat_number, flat_literal, flat_range, leaf_tree, flat_tree, flat_links, flat_branches, flat_trees, is_set, has_set};
-ghost use Rattle.smv_meaning.specs.View.{instance_plain};
-ghost use Rattle.smv_flat.specs.FlatItems.{origins_of, symbols_of, leaf_in};
-ghost use Rattle.smv_flat.specs.FlatOrigins.{leaf_plain, AreNumbers};
+ghost use Rattle.smv_instances.specs.View.{instance_plain};
+ghost use Rattle.smv_items.specs.FlatItems.{origins_of, symbols_of, leaf_in};
+ghost use Rattle.smv_items.specs.FlatOrigins.{leaf_plain, AreNumbers};
 ghost use Rattle.smv_flat.specs.FlatView.{IsNode, AreOperands, AreParts, AreCases, behind_types};
 
 use crate::expressions::{FlatExpr, FlatShape};
@@ -19,13 +19,13 @@ use crate::nodes::{
     Cases, Operands, Parts, Typed, add_branch, add_link, add_part, called, cased, chained, chosen,
     gathered, prefixed, selected,
 };
-use crate::numbers::{Leaf, Numbers, leaf_at};
-use crate::symbols::Symbols;
-use smv_meaning::Table;
+use smv_instances::Table;
+use smv_intervals::Ty;
+use smv_items::{Leaf, Numbers, Symbols, leaf_at};
 use smv_text::{Branch, Expr, Link, Shape};
 use smv_types::chains::{across, behind};
 use smv_types::lists::BranchTypes;
-use smv_types::{Named, Standing, Ty};
+use smv_types::{Named, Standing};
 use std::alloc::Global;
 use text_core::{NoMemory, Place};
 use word_core::Word;

@@ -3,20 +3,18 @@ ghost use Rattle.std.specs.Prelude.{◌≡◌, true, ◌+◌, ◌++◌, ◌∷�
 ghost use Rattle.smv_text.specs.View.{plain, plain_assignment, plain_element};
 ghost use Rattle.smv_meaning.specs.Phases.{in_state, in_step, in_assignment};
 ghost use Rattle.smv_meaning.specs.Settled.{types_in};
-ghost use Rattle.smv_meaning.specs.View.{instance_plain};
+ghost use Rattle.smv_instances.specs.View.{instance_plain};
 ghost use Rattle.smv_types.specs.View.{position_seen};
-ghost use Rattle.smv_flat.specs.FlatItems.{origins_of, symbols_of, leaf_in, items_here};
-ghost use Rattle.smv_flat.specs.FlatOrigins.{origin_plain, content_plain, leaf_plain, AreNumbers};
+ghost use Rattle.smv_items.specs.FlatItems.{origins_of, symbols_of, leaf_in, items_here};
+ghost use Rattle.smv_items.specs.FlatOrigins.{origin_plain, content_plain, leaf_plain, AreNumbers};
 ghost use Rattle.smv_flat.specs.FlatForms.{flat_in, content_form, body_forms, number_or_first, assignment_form, element_forms, forms_here, forms_of};
 ghost use Rattle.smv_flat.specs.FlatFormulas.{form_plain};
 
 use crate::flat::flat;
 use crate::forms::{FlatFormula, Role};
 use crate::naming::Naming;
-use crate::numbers::{Leaf, Numbers, leaf_at};
-use crate::origins::{Content, Origin, origins_at};
-use crate::symbols::Symbols;
-use smv_meaning::{Instance, Table};
+use smv_instances::{Instance, Table};
+use smv_items::{Content, Leaf, Numbers, Origin, Symbols, leaf_at, origins_at};
 use smv_text::{Assignment, Assignments, Element, Elements, Expr, When};
 use smv_types::{Position, Standing};
 use std::alloc::Global;
@@ -150,7 +148,7 @@ fn add_body<'a, 'n, N: Naming>(
 }
 
 // The bodies of an instance's items, of which the first has this number.
-#[tactic(auto, using(crate::proofs::Lists::front_is, crate::proofs::Lists::end_is, crate::proofs::OriginLemmas::joined_on))]
+#[tactic(auto, using(smv_items::proofs::Lists::front_is, smv_items::proofs::Lists::end_is, smv_items::proofs::OriginLemmas::joined_on))]
 fn add_bodies<'a, 'n, N: Naming>(
     alloc: Global,
     names: &N,
@@ -232,7 +230,7 @@ fn add_assignment<'a, 'n, N: Naming>(
     )
 }
 
-#[tactic(auto, using(crate::proofs::Lists::front_is, crate::proofs::Lists::end_is, crate::proofs::OriginLemmas::joined_on))]
+#[tactic(auto, using(smv_items::proofs::Lists::front_is, smv_items::proofs::Lists::end_is, smv_items::proofs::OriginLemmas::joined_on))]
 fn add_assignments<'a, 'n, N: Naming>(
     alloc: Global,
     names: &N,
@@ -352,7 +350,7 @@ fn add_element<'a, 'n, N: Naming>(
     }
 }
 
-#[tactic(auto, using(crate::proofs::Lists::front_is, crate::proofs::Lists::end_is, crate::proofs::OriginLemmas::joined_on))]
+#[tactic(auto, using(smv_items::proofs::Lists::front_is, smv_items::proofs::Lists::end_is, smv_items::proofs::OriginLemmas::joined_on))]
 fn add_elements<'a, 'n, N: Naming>(
     alloc: Global,
     names: &N,
@@ -418,7 +416,7 @@ fn add_instance<'a, 'n, N: Naming>(
 
 /// The formulas of a model: instances in preorder, in each first the bodies of its items, then assignments and sections in the
 /// order of the text.
-#[tactic(auto, using(crate::proofs::Lists::front_is, crate::proofs::Lists::end_is))]
+#[tactic(auto, using(smv_items::proofs::Lists::front_is, smv_items::proofs::Lists::end_is))]
 pub fn formulas_in<'a, 'n, N: Naming>(
     alloc: Global,
     names: &N,

@@ -4,17 +4,19 @@ ghost use Rattle.smv_text.specs.Tree.{links_of, trees_of};
 ghost use Rattle.smv_text.specs.View.{plain, plain_link};
 ghost use Rattle.smv_meaning.specs.Types.{ExprType, numbers_of};
 ghost use Rattle.smv_meaning.specs.Checks.{Check, node, all_types};
-ghost use Rattle.smv_types.specs.View.{seen, standing_seen, named_seen};
+ghost use Rattle.smv_intervals.specs.View.{seen};
+ghost use Rattle.smv_types.specs.View.{standing_seen, named_seen};
 ghost use Rattle.smv_types.specs.Outcome.{Answers, Ends};
 ghost use Rattle.smv_types.specs.Steps.{number_step, name_step, prefix_step, select_step, next_step, range_step, front_step, implies_step, branches_step, call_step, set_step};
 ghost use Rattle.smv_flat.specs.FlatView.{fronts_type};
 
+use smv_intervals::Ty;
 use smv_text::{Expr, Function, Infix, Link, Prefix};
 use smv_types::calls::called;
 use smv_types::chains::front;
 use smv_types::lists::{BranchTypes, branched, gathered, implied};
 use smv_types::nodes::{following, name, number, range, selected, signed};
-use smv_types::{CheckEnd, Named, Standing, Ty};
+use smv_types::{CheckEnd, Named, Standing};
 use std::alloc::Global;
 use text_core::{NoMemory, Place, Refusal};
 
@@ -90,7 +92,7 @@ fn front_type(
 }
 
 // The type of a chain that is read from the left, front by front.
-#[tactic(auto, using(crate::proofs::Lists::front_is, crate::proofs::Lists::end_is))]
+#[tactic(auto, using(smv_items::proofs::Lists::front_is, smv_items::proofs::Lists::end_is))]
 pub(crate) fn fronts_type(
     at: Standing,
     place: Place,

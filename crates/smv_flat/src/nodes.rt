@@ -4,7 +4,8 @@ ghost use Rattle.smv_text.specs.Tree.{links_of, trees_of};
 ghost use Rattle.smv_text.specs.View.{plain, plain_link};
 ghost use Rattle.smv_meaning.specs.Types.{ExprType, numbers_of};
 ghost use Rattle.smv_meaning.specs.Checks.{all_types, are_unions};
-ghost use Rattle.smv_types.specs.View.{seen, standing_seen};
+ghost use Rattle.smv_intervals.specs.View.{seen};
+ghost use Rattle.smv_types.specs.View.{standing_seen};
 ghost use Rattle.smv_types.specs.Steps.{prefix_step, select_step, branches_step, call_step, set_step};
 ghost use Rattle.smv_flat.specs.FlatTree.{FlatTree, FlatLinks as PlainLinks, FlatBranches as PlainBranches, FlatTrees as PlainTrees, flat_prefix, flat_chain, flat_choice, flat_cases, flat_select, flat_call, flat_set, unless_set};
 ghost use Rattle.smv_flat.specs.FlatView.{plain_flat, plain_flat_link, plain_flat_branch, IsNode, AreOperands, AreParts, AreCases, chain_type};
@@ -15,10 +16,11 @@ use crate::expressions::{
 use crate::node_types::{
     branches_type, call_type, fronts_type, implies_type, prefix_type, select_type, set_type,
 };
+use smv_intervals::Ty;
 use smv_text::{Expr, Function, Infix, Link, Prefix};
+use smv_types::Standing;
 use smv_types::chains::{are_unions, is_from_right};
 use smv_types::lists::BranchTypes;
-use smv_types::{Standing, Ty};
 use std::alloc::Global;
 use text_core::{NoMemory, Place};
 

@@ -7,7 +7,8 @@ use Rattle.smv_meaning.specs.Checked.{path_checks_of, type_checks_of}
 use Rattle.smv_meaning.specs.Settled.{cycle_checks_of}
 use Rattle.smv_meaning.specs.Phases.{module_checks, declaration_checks, size_checks}
 use Rattle.smv_meaning.specs.Formulas.{IsFormulaOrder, placed_formulas}
-use Rattle.smv_meaning.specs.View.{instance_plain, formula_plain}
+use Rattle.smv_instances.specs.View.{instance_plain}
+use Rattle.smv_references.specs.View.{formula_plain}
 use Rattle.smv_model_types.specs.Outcome.{AreTypesOf}
 use Rattle.smv_flatten.specs.declared.kept.Accepted.{Accepted}
 use Rattle.smv_flatten.specs.declared.joining.Found.{Found}

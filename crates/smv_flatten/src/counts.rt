@@ -2,9 +2,9 @@
 ghost use Rattle.std.specs.Prelude.{◌≡◌, ◌+◌, ℕ, map, flat_map, length, sum_by, IfOk};
 ghost use Rattle.smv_text.specs.View.{plain_element};
 ghost use Rattle.smv_meaning.specs.Phases.{element_invariants, invariants_in};
-ghost use Rattle.smv_meaning.specs.View.{instance_plain};
+ghost use Rattle.smv_instances.specs.View.{instance_plain};
 
-use smv_meaning::Table;
+use smv_instances::Table;
 use smv_text::{Element, Elements};
 use text_core::NoMemory;
 

@@ -3,13 +3,13 @@ ghost use Rattle.std.specs.Prelude.{◌≡◌, map, length, sum_by, IfOk};
 ghost use Rattle.smv_text.specs.View.{plain_source};
 ghost use Rattle.smv_meaning.specs.Instances.{instances_of, weight_of};
 ghost use Rattle.smv_meaning.specs.Phases.{checks_of, invariants_in, IsAccepted};
-ghost use Rattle.smv_meaning.specs.View.{instance_plain};
+ghost use Rattle.smv_instances.specs.View.{instance_plain};
 ghost use Rattle.smv_model_types.specs.Outcome.{AreTypesOf};
-ghost use Rattle.smv_flat.specs.FlatItems.{origins_of, symbols_of, path_of};
+ghost use Rattle.smv_items.specs.FlatItems.{origins_of, symbols_of, path_of};
 ghost use Rattle.smv_flat.specs.FlatForms.{forms_of, flat_of, flat_smv};
 ghost use Rattle.smv_flat.specs.FlatFormulas.{form_plain};
-ghost use Rattle.smv_flat.specs.FlatOrigins.{origin_plain};
-ghost use Rattle.smv_flat.specs.FlatWidth.{width_of};
+ghost use Rattle.smv_items.specs.FlatOrigins.{origin_plain};
+ghost use Rattle.smv_width.specs.FlatWidth.{width_of};
 ghost use Rattle.smv_flatten.specs.FlatModel.{flat_plain};
 ghost use Rattle.smv_flatten.specs.Refusing.{Decides};
 
@@ -21,13 +21,12 @@ use crate::joining::accepted;
 use crate::kept::Accepted;
 use crate::sequences::{FlatFormulas, FlatItems};
 use crate::type_names::TypeNames;
-use smv_flat::{
-    FlatFormula, Origin, Symbols, formulas_in, numbers_of, origins_in, paths_of, symbols_in,
-    width_of,
-};
-use smv_meaning::Table;
+use smv_flat::{FlatFormula, formulas_in};
+use smv_instances::Table;
+use smv_items::{Origin, Symbols, numbers_of, origins_in, paths_of, symbols_in};
 use smv_model_types::Types;
 use smv_text::Source;
+use smv_width::width_of;
 use std::alloc::Global;
 use text_core::{NoMemory, Text};
 

@@ -1,15 +1,15 @@
 // The items of a model, each with its type.
 ghost use Rattle.std.specs.Prelude.{◌≡◌, map, length, IfOk};
-ghost use Rattle.smv_meaning.specs.View.{instance_plain};
+ghost use Rattle.smv_instances.specs.View.{instance_plain};
 ghost use Rattle.smv_model_types.specs.Outcome.{AreTypesOf};
-ghost use Rattle.smv_flat.specs.FlatItems.{kind_of, path_of, flat_item_of};
-ghost use Rattle.smv_flat.specs.FlatItemView.{item_plain};
-ghost use Rattle.smv_flat.specs.FlatOrigins.{content_plain, origin_plain};
+ghost use Rattle.smv_items.specs.FlatItems.{kind_of, path_of, flat_item_of};
+ghost use Rattle.smv_items.specs.FlatItemView.{item_plain};
+ghost use Rattle.smv_items.specs.FlatOrigins.{content_plain, origin_plain};
 
 use crate::item_types::item_type;
 use crate::members::members_of;
-use smv_flat::{Content, FlatItem, ItemKind, Origin};
-use smv_meaning::Table;
+use smv_instances::Table;
+use smv_items::{Content, FlatItem, ItemKind, Origin};
 use smv_model_types::Types;
 use smv_text::VarKind;
 use std::alloc::Global;

@@ -4,18 +4,20 @@ ghost use Rattle.smv_text.specs.View.{plain};
 ghost use Rattle.smv_meaning.specs.Checks.{typing};
 ghost use Rattle.smv_meaning.specs.Naming.{in_body};
 ghost use Rattle.smv_meaning.specs.Settled.{types_in};
-ghost use Rattle.smv_meaning.specs.View.{instance_plain};
-ghost use Rattle.smv_types.specs.View.{seen};
+ghost use Rattle.smv_instances.specs.View.{instance_plain};
+ghost use Rattle.smv_intervals.specs.View.{seen};
 ghost use Rattle.smv_model_types.specs.Outcome.{AreTypesOf};
-ghost use Rattle.smv_flat.specs.FlatItems.{content_type, type_or_truth};
-ghost use Rattle.smv_flat.specs.FlatOrigins.{content_plain};
+ghost use Rattle.smv_items.specs.FlatItems.{content_type, type_or_truth};
+ghost use Rattle.smv_items.specs.FlatOrigins.{content_plain};
 
-use smv_flat::Content;
-use smv_meaning::{Table, refused_have_no_type};
+use smv_instances::Table;
+use smv_intervals::Ty;
+use smv_items::Content;
+use smv_model_laws::refused_have_no_type;
 use smv_model_types::{Types, variable_type};
 use smv_names::NamesEnd;
 use smv_text::Expr;
-use smv_types::{Position, Ty};
+use smv_types::Position;
 use std::alloc::Global;
 use text_core::NoMemory;
 

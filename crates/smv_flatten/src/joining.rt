@@ -3,17 +3,18 @@ ghost use Rattle.std.specs.Prelude.{◌≡◌, ◌++◌, map, IfOk};
 ghost use Rattle.smv_text.specs.View.{plain_source};
 ghost use Rattle.smv_meaning.specs.Instances.{instances_of};
 ghost use Rattle.smv_meaning.specs.Phases.{checks_of, IsAccepted};
-ghost use Rattle.smv_meaning.specs.View.{instance_plain};
+ghost use Rattle.smv_instances.specs.View.{instance_plain};
 ghost use Rattle.smv_names.specs.Outcome.{Settles};
 ghost use Rattle.smv_flatten.specs.Accepting.{early_checks, typing_checks, IsKept, AreFound};
 
 use crate::kept::Accepted;
-use smv_meaning::{Formula, Table, formulas_in};
+use smv_instances::Table;
 use smv_model_types::{Types, types_checked};
 use smv_names::{
     NamesEnd, assignments_checked, cycles_checked, declarations_checked, invariants_checked,
     modules_checked, paths_checked, sizes_checked,
 };
+use smv_references::{Formula, formulas_in};
 use smv_text::Source;
 use std::alloc::Global;
 use text_core::Items;

@@ -1,6 +1,7 @@
 // What is known of a model that passes its checks.
-use smv_meaning::{Formula, Table};
+use smv_instances::Table;
 use smv_model_types::Types;
+use smv_references::Formula;
 use text_core::Items;
 
 /// What the checks found of a model that passes them all: its instances, its definitions and actuals, an order of these in

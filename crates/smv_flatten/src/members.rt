@@ -1,10 +1,10 @@
 // The members of an enumeration, copied.
 ghost use Rattle.std.specs.Prelude.{◌≡◌, IfOk};
 ghost use Rattle.smv_text.specs.View.{plain_domain};
-ghost use Rattle.smv_flat.specs.FlatItems.{domain_members, content_members};
-ghost use Rattle.smv_flat.specs.FlatOrigins.{content_plain};
+ghost use Rattle.smv_items.specs.FlatItems.{domain_members, content_members};
+ghost use Rattle.smv_items.specs.FlatOrigins.{content_plain};
 
-use smv_flat::Content;
+use smv_items::Content;
 use smv_text::{Domain, Member, Members};
 use std::alloc::Global;
 use text_core::NoMemory;

@@ -1,7 +1,8 @@
 // The items and the formulas of a flat form, as lists that this crate alone makes.
 ghost use Rattle.std.specs.Prelude.{◌≡◌, ◌<◌, length, slice_index_or};
 
-use smv_flat::{FlatFormula, FlatItem};
+use smv_flat::FlatFormula;
+use smv_items::FlatItem;
 use std::marker::Model;
 
 /// The items of a flat form in their order, seen as their list.
@@ -12,7 +13,7 @@ pub struct FlatItems {
 
 impl Model for FlatItems {
     ghost use Rattle.std.specs.Prelude.{List};
-    ghost use Rattle.smv_flat.specs.declared.items.FlatItem.{FlatItem};
+    ghost use Rattle.smv_items.specs.declared.items.FlatItem.{FlatItem};
 
     ghost Value = { List FlatItem };
 

@@ -2,11 +2,11 @@
 ghost use Rattle.std.specs.Prelude.{map};
 ghost use Rattle.std.specs.Coded.{Coded, Coded-set, codes, Π_prop};
 ghost use Rattle.smv_meaning.specs.Checks.{Named as Meaning};
-ghost use Rattle.smv_meaning.specs.View.{instance_plain};
+ghost use Rattle.smv_instances.specs.View.{instance_plain};
 ghost use Rattle.smv_model_types.specs.Outcome.{AreTypesOf};
 
 use smv_flat::Naming;
-use smv_meaning::Table;
+use smv_instances::Table;
 use smv_model_types::Types;
 use smv_text::Path;
 use smv_types::Named;
@@ -22,7 +22,7 @@ pub(crate) struct TypeNames<'s, 'a> {
 impl<'s, 'a> Naming for TypeNames<'s, 'a> {
     ghost use Rattle.std.specs.Prelude.{true, map};
     ghost use Rattle.smv_meaning.specs.Settled.{types_in};
-    ghost use Rattle.smv_meaning.specs.View.{instance_plain};
+    ghost use Rattle.smv_instances.specs.View.{instance_plain};
 
     ghost names = { λ s. types_in true (map instance_plain s.table.now) };
 

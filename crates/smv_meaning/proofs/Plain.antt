@@ -1,11 +1,8 @@
 -- The plain forms of an expression's parts.
 use Rattle.std.proofs.Common.{◌≡◌, map, Vec, Box, Global, rules}
-use Rattle.smv_text.specs.declared.tree.Expr.{Expr}
-use Rattle.smv_text.specs.declared.tree.Link.{Link}
-use Rattle.smv_text.specs.declared.tree.Branch.{Branch}
-use Rattle.smv_text.specs.declared.tree.Branch.{the_lemmas}
-use Rattle.smv_text.specs.declared.tree.Link.{the_lemmas as link_lemmas}
-use Rattle.smv_text.specs.declared.tree.Expr.{the_lemmas as expr_lemmas}
+use Rattle.smv_text.specs.declared.tree.Expr.{Expr, the_lemmas as expr_lemmas}
+use Rattle.smv_text.specs.declared.tree.Link.{Link, the_lemmas as link_lemmas}
+use Rattle.smv_text.specs.declared.tree.Branch.{Branch, the_lemmas}
 use Rattle.smv_text.specs.declared.tree.Shape.{Chain, the_lemmas as shape_lemmas}
 use Rattle.smv_text.specs.Tree.{chain, links_of}
 use Rattle.smv_text.specs.View.{plain, plain_branch, plain_link}

@@ -5,8 +5,6 @@ use Rattle.text_core.specs.declared.place.Refusal.{Refusal}
 use Rattle.digraph.specs.Graph.{NodeLists, IsSorted}
 use Rattle.smv_text.specs.declared.tree.Parameter.{Parameter}
 use Rattle.smv_text.specs.Tree.{Trees, no_trees, tree, PlainDefinition, PlainElement, vars, defines, constants, assigns, init, trans, invar, spec}
-use Rattle.smv_meaning.specs.declared.references.Ordering.{Ordering}
-use Rattle.smv_meaning.specs.declared.references.Ordering.TheVariants.{Ordered, Cycle}
 use Rattle.smv_meaning.specs.Instances.{Instance}
 use Rattle.smv_text.specs.declared.tree.Path.{Path}
 use Rattle.smv_meaning.specs.Names.{Found, instance_at, look, steps_of}
@@ -81,7 +79,3 @@ pub record IsFormulaOrder (t : List Instance) (order : List ℕ) : Type 0 where
 pub record IsFirstCycle (t : List Instance) (k : ℕ) : Type 0 where
   pub there : k < length (formulas_of t)
   pub failing : first_failing (cycle_checks_of t) ≡ refusal_of (slice_get (placed_formulas t) k)
-
-abbrev pub IsOrdering : List Instance → Ordering → Type 0
-IsOrdering t (Ordered order) = IsFormulaOrder t order
-IsOrdering t (Cycle k) = IsFirstCycle t k

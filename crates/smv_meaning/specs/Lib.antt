@@ -11,16 +11,11 @@ pub mod Phases
 pub mod Runs
 pub mod Typed
 pub mod Safety
-pub mod View
 pub mod Owed
 pub mod Settled
-pub mod NameMap
 pub mod Formulas
 pub mod Literals
 pub mod Parts
 pub mod Checked
-pub mod Leads
-pub mod Dotting
-pub mod Rows
+pub mod Reached
 pub mod Orders
-pub mod Conjunctions

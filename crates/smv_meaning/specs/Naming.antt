@@ -2,13 +2,12 @@
 use Rattle.std.specs.Prelude.{ℕ, zero, suc, Bool, true, false, not, ◌&&◌, if◌then◌else◌, [], Option, Some, None}
 use Rattle.smv_text.specs.declared.tree.VarKind.{VarKind}
 use Rattle.smv_text.specs.Tree.{PlainDomain}
-use Rattle.smv_meaning.specs.Types.{ExprType}
+use Rattle.smv_meaning.specs.Types.{ExprType, symbol_type}
 use Rattle.std.specs.List.{list_any}
 use Rattle.smv_text.specs.declared.tree.Path.{Path}
 use Rattle.smv_meaning.specs.Expressions.{paths_of}
 use Rattle.smv_meaning.specs.Names.{Found, variable_at, body_at, instance_at, symbol_of, cyclic, none}
 use Rattle.smv_meaning.specs.Meaning.{is_input}
-use Rattle.smv_meaning.specs.Types.{ExprType, symbol_type}
 use Rattle.smv_meaning.specs.Checks.{Position, Named, typing, variable_type}
 
 -- the position of the body of a definition or an actual

@@ -4,14 +4,14 @@ use Rattle.std.specs.Prelude.{slice_index_or}
 use Rattle.std.specs.List.{list_all}
 use Rattle.std.proofs.lemmas.Bool.{ltb-true}
 use Rattle.std.proofs.lemmas.List.{length-map, get_or-map, map-append, take_more, drop_more, take-append-drop}
-use Rattle.smv_meaning.specs.declared.formulas.Formula.{Formula as Kept}
+use Rattle.smv_references.specs.declared.formulas.Formula.{Formula as Kept}
 use Rattle.smv_meaning.specs.Instances.{Instance}
 use Rattle.smv_meaning.specs.Names.{local}
 use Rattle.smv_meaning.specs.Phases.{refers}
 use Rattle.smv_meaning.specs.Settled.{NamesSettle, TypesSettle}
 use Rattle.smv_meaning.specs.Formulas.{Placed, placed_formulas, formulas_of, references_of, reference_graph, IsFormulaOrder}
 use Rattle.smv_meaning.specs.Orders.{numbered, is_listed, ReferencesStandBefore, TypesHangOnPaths}
-use Rattle.smv_meaning.specs.View.{formula_plain, key_of}
+use Rattle.smv_references.specs.View.{formula_plain, key_of}
 use Rattle.smv_model_types.specs.Row.{Entries, put_for, Becomes}
 use Rattle.smv_model_types.proofs.Filling.{both_true, Holds, one_more}
 

@@ -4,7 +4,7 @@ use Rattle.std.specs.List.{list_all}
 use Rattle.std.specs.Prelude.{slice_index_or}
 use Rattle.std.specs.Borrow.{Bor}
 use Rattle.smv_text.specs.declared.tree.Path.{Path}
-use Rattle.smv_meaning.specs.View.{path_seen}
+use Rattle.smv_references.specs.View.{path_seen}
 use Rattle.smv_model_types.proofs.Lists.{front_is, end_is}
 
 pub seen_front : (ps : List (Bor Path)) (k n : ℕ) (p : Bor Path) → n ≡ length ps → k < n → p ≡ slice_index_or ps k p → map path_seen (drop k ps) ≡ p.now ∷ map path_seen (drop (k + 1) ps)

@@ -6,8 +6,8 @@ use Rattle.smv_text.specs.declared.tree.Path.{Path}
 use Rattle.smv_meaning.specs.Types.{domain_type}
 use Rattle.smv_meaning.specs.Checks.{Check, check, first_failing, Named, Typing, typing, domain_checks}
 use Rattle.smv_meaning.specs.Naming.{in_body}
-use Rattle.smv_types.specs.declared.types.Ty.{Ty}
-use Rattle.smv_types.specs.View.{seen}
+use Rattle.smv_intervals.specs.declared.types.Ty.{Ty}
+use Rattle.smv_intervals.specs.View.{seen}
 use Rattle.smv_names.specs.declared.ends.NamesEnd.{NamesEnd}
 use Rattle.smv_names.specs.Outcome.{IsBad}
 use Rattle.smv_meaning.specs.Instances.{Instance}

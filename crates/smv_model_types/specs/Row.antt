@@ -11,7 +11,7 @@ use Rattle.smv_meaning.specs.Naming.{unnamed, named_found}
 use Rattle.smv_meaning.specs.Phases.{Formula, formula_same}
 use Rattle.smv_meaning.specs.Settled.{is_formula, types_in}
 use Rattle.smv_meaning.specs.Formulas.{instance_within}
-use Rattle.smv_meaning.specs.NameMap.{named_in}
+use Rattle.smv_instances.specs.NameMap.{named_in}
 use Rattle.smv_meaning.specs.Orders.{is_listed}
 use Rattle.smv_types.specs.declared.names.Named.{Named as Kept}
 use Rattle.smv_types.specs.View.{named_seen}

@@ -6,19 +6,24 @@ ghost use Rattle.smv_meaning.specs.Names.{local, body_at};
 ghost use Rattle.smv_meaning.specs.Checks.{typing};
 ghost use Rattle.smv_meaning.specs.Naming.{in_body, named_found};
 ghost use Rattle.smv_meaning.specs.Formulas.{placed_formulas, IsFormulaOrder};
-ghost use Rattle.smv_meaning.specs.View.{instance_plain, formula_plain, path_seen, key_of};
-ghost use Rattle.smv_types.specs.View.{seen, named_seen};
+ghost use Rattle.smv_instances.specs.View.{instance_plain};
+ghost use Rattle.smv_references.specs.View.{formula_plain, path_seen, key_of};
+ghost use Rattle.smv_intervals.specs.View.{seen};
+ghost use Rattle.smv_types.specs.View.{named_seen};
 ghost use Rattle.smv_model_types.specs.Row.{row_seen, row_names, put_for, Becomes, HasEach};
 
 use crate::names::{Reader, path_named};
 use crate::row::{Row, keep};
 use crate::variables::variables_of;
-use smv_meaning::{
-    Formula, Known, Table, names_settle, order_is_whole, paths_in, references_stand_before,
-    refused_have_no_type, types_hang_on_paths, types_settle,
+use smv_instances::{Known, Table};
+use smv_intervals::Ty;
+use smv_model_laws::{
+    names_settle, order_is_whole, references_stand_before, refused_have_no_type,
+    types_hang_on_paths, types_settle,
 };
+use smv_references::{Formula, paths_in};
 use smv_text::{Expr, Path};
-use smv_types::{CheckEnd, Named, Position, Ty, type_of};
+use smv_types::{CheckEnd, Named, Position, type_of};
 use std::alloc::Global;
 use text_core::{Items, NoMemory};
 

@@ -6,17 +6,20 @@ ghost use Rattle.smv_meaning.specs.Checks.{typing, on_type, on_types};
 ghost use Rattle.smv_meaning.specs.Naming.{in_body};
 ghost use Rattle.smv_meaning.specs.Phases.{in_assignment, actual_typing, formula_typing, assigned_typing};
 ghost use Rattle.smv_meaning.specs.Settled.{types_in};
-ghost use Rattle.smv_meaning.specs.View.{instance_plain};
-ghost use Rattle.smv_types.specs.View.{seen, position_seen};
+ghost use Rattle.smv_instances.specs.View.{instance_plain};
+ghost use Rattle.smv_intervals.specs.View.{seen};
+ghost use Rattle.smv_types.specs.View.{position_seen};
 ghost use Rattle.smv_names.specs.Outcome.{Settles};
 ghost use Rattle.smv_model_types.specs.Outcome.{AreTypesOf, is_path};
 
 use crate::ends::{TYPE_CLASH, refusal};
 use crate::types::Types;
-use smv_meaning::{Table, place};
+use smv_instances::Table;
+use smv_intervals::Ty;
 use smv_names::NamesEnd;
+use smv_references::place;
 use smv_text::{Assignment, Expr, Shape, When};
-use smv_types::{Position, Ty};
+use smv_types::Position;
 use std::alloc::Global;
 
 /// The checks of a body of a definition or of an actual.

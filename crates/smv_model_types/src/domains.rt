@@ -6,14 +6,16 @@ ghost use Rattle.smv_meaning.specs.Types.{member_type, are_same, hull_of};
 ghost use Rattle.smv_meaning.specs.Checks.{domain_checks, variable_type};
 ghost use Rattle.smv_meaning.specs.Meaning.{is_input};
 ghost use Rattle.smv_meaning.specs.Naming.{named_found, unnamed};
-ghost use Rattle.smv_types.specs.View.{seen, named_seen};
+ghost use Rattle.smv_intervals.specs.View.{seen};
+ghost use Rattle.smv_types.specs.View.{named_seen};
 ghost use Rattle.smv_names.specs.Outcome.{Settles};
 ghost use Rattle.smv_model_types.specs.Outcome.{IsDeclared};
 
 use crate::ends::{BAD_WIDTH, EMPTY_RANGE, INT_TOO_WIDE, TYPE_CLASH, refusal};
+use smv_intervals::{Ty, hull, kept};
 use smv_names::NamesEnd;
 use smv_text::{Domain, Member, Members, VarKind};
-use smv_types::{Named, Ty, hull, kept};
+use smv_types::Named;
 use text_core::Place;
 use word_core::WIDEST;
 

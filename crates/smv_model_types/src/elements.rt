@@ -4,14 +4,14 @@ ghost use Rattle.smv_text.specs.Tree.{trees_of};
 ghost use Rattle.smv_text.specs.View.{plain, plain_item, plain_definition, plain_assignment, plain_element};
 ghost use Rattle.smv_meaning.specs.Phases.{actuals_typing, assigned_typing, element_typing, type_checks, names_in};
 ghost use Rattle.smv_meaning.specs.Settled.{types_in};
-ghost use Rattle.smv_meaning.specs.View.{instance_plain};
+ghost use Rattle.smv_instances.specs.View.{instance_plain};
 ghost use Rattle.smv_names.specs.Outcome.{Settles};
 ghost use Rattle.smv_model_types.specs.Outcome.{AreTypesOf, item_typing, definition_typing};
 
 use crate::checks::{actual_checked, assignment_checked, body_checked, formula_checked};
 use crate::domains::domain_checked;
 use crate::types::Types;
-use smv_meaning::{Instance, Table};
+use smv_instances::{Instance, Table};
 use smv_names::NamesEnd;
 use smv_text::{Assignments, Definitions, Element, Elements, Expr, Items};
 use smv_types::Position;

@@ -8,8 +8,6 @@ mod elements;
 mod ends;
 mod names;
 mod row;
-#[cfg(test)]
-mod tests;
 mod types;
 mod variables;
 

@@ -4,15 +4,16 @@ ghost use Rattle.smv_meaning.specs.Instances.{Instance};
 ghost use Rattle.smv_meaning.specs.Names.{local, look, steps_of};
 ghost use Rattle.smv_meaning.specs.Naming.{unnamed};
 ghost use Rattle.smv_meaning.specs.Formulas.{instance_within};
-ghost use Rattle.smv_meaning.specs.View.{instance_plain};
+ghost use Rattle.smv_instances.specs.View.{instance_plain};
 ghost use Rattle.smv_types.specs.View.{named_seen};
 ghost use Rattle.smv_model_types.specs.Row.{row_seen, entry_or, named_instance, named_symbol, row_walk, row_names};
 
 use crate::domains::variable_named;
 use crate::row::{Row, kept};
-use smv_meaning::{Known, Table, Target};
+use smv_instances::{Known, Table, Target};
+use smv_intervals::Ty;
 use smv_text::Path;
-use smv_types::{Named, Scope, Ty};
+use smv_types::{Named, Scope};
 use text_core::Names;
 
 fn unnamed() -> Named
@@ -123,7 +124,7 @@ pub(crate) struct Reader<'s, 'a> {
 
 impl<'s, 'a> Scope for Reader<'s, 'a> {
     ghost use Rattle.std.specs.Prelude.{true, map};
-    ghost use Rattle.smv_meaning.specs.View.{instance_plain};
+    ghost use Rattle.smv_instances.specs.View.{instance_plain};
     ghost use Rattle.smv_model_types.specs.Row.{row_seen, row_names};
 
     ghost names = { λ s. row_names (map instance_plain s.table.now) (row_seen s.row.now) s.instance };

@@ -1,6 +1,6 @@
 // What variables, definitions and actuals are to the types, by their instances and names.
 ghost use Rattle.std.specs.Prelude.{◌≡◌, ◌&&◌, ◌==◌, List, ℕ, Some, if◌then◌else◌, bytes_eq, OnOk};
-ghost use Rattle.smv_meaning.specs.NameMap.{named_in};
+ghost use Rattle.smv_instances.specs.NameMap.{named_in};
 
 use smv_types::Named;
 use std::collections::HashMap;

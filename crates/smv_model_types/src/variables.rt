@@ -2,12 +2,13 @@
 ghost use Rattle.std.specs.Prelude.{◌≡◌, map, IfOk, OnOk};
 ghost use Rattle.smv_meaning.specs.Names.{local};
 ghost use Rattle.smv_meaning.specs.Settled.{Acyclic};
-ghost use Rattle.smv_meaning.specs.View.{instance_plain};
+ghost use Rattle.smv_instances.specs.View.{instance_plain};
 ghost use Rattle.smv_model_types.specs.Row.{row_seen, variable_put, Becomes, Right};
 
 use crate::domains::variable_named;
 use crate::row::{Row, keep};
-use smv_meaning::{Known, Table, names_settle};
+use smv_instances::{Known, Table};
+use smv_model_laws::names_settle;
 use smv_text::{Element, Elements, Items};
 use std::alloc::Global;
 use std::collections::HashMap;

@@ -8,7 +8,7 @@ use Rattle.std.specs.Borrow.{Bor}
 use Rattle.std.specs.HashMap.{HashMap}
 use Rattle.smv_text.specs.declared.tree.When.{When}
 use Rattle.smv_text.specs.declared.tree.When.TheVariants.{Always, First, Following}
-use Rattle.smv_meaning.specs.NameMap.{named}
+use Rattle.smv_instances.specs.NameMap.{named}
 use Rattle.smv_meaning.specs.Names.{Found, variable_at, body_at, instance_at, symbol_of, cyclic, none}
 use Rattle.smv_meaning.specs.Phases.{Assigned, when_same, is_assignable, variable_same, clashes, assigned_checks}
 use Rattle.smv_meaning.specs.Checks.{check, first_failing}

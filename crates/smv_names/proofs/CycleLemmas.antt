@@ -2,10 +2,10 @@
 use Rattle.std.proofs.Common.{◌≡◌, ℕ, zero, suc, ◌<◌, false, List, [], ◌∷◌, map, length, Some, refl, sym, ap, ◌∙◌, arith}
 use Rattle.std.specs.Prelude.{slice_index_or, slice_get}
 use Rattle.std.proofs.lemmas.List.{length-map}
-use Rattle.smv_meaning.specs.declared.formulas.Formula.{Formula as KeptFormula}
+use Rattle.smv_references.specs.declared.formulas.Formula.{Formula as KeptFormula}
 use Rattle.smv_meaning.specs.Checks.{check}
 use Rattle.smv_meaning.specs.Formulas.{Placed, refusal_of}
-use Rattle.smv_meaning.specs.View.{formula_plain}
+use Rattle.smv_references.specs.View.{formula_plain}
 
 kept_at : (fs : List KeptFormula) (k : ℕ) (d : KeptFormula) → k < length fs → refusal_of (slice_get (map formula_plain fs) k) ≡ Some (check 15 (slice_index_or fs k d).place false).refusal
 kept_at [] k d l = absurd (omega (arith, l))

@@ -5,13 +5,12 @@ use Rattle.std.specs.Option.{option_map}
 use Rattle.std.proofs.lemmas.List.{length-map}
 use Rattle.std.proofs.lemmas.Option.{slice_get-map, slice_get_read, slice_get_past}
 use Rattle.text_core.specs.declared.place.Refusal.{Refusal}
-use Rattle.smv_meaning.specs.declared.table.Instance.{Instance as PartOf}
+use Rattle.smv_instances.specs.declared.table.Instance.{Instance as PartOf}
 use Rattle.smv_meaning.specs.Checks.{check, first_failing}
-use Rattle.smv_meaning.specs.Phases.{symbol_checks, declared_in}
-use Rattle.smv_meaning.specs.View.{instance_plain}
+use Rattle.smv_meaning.specs.Phases.{symbol_checks, declared_in, Declared}
+use Rattle.smv_instances.specs.View.{instance_plain}
 use Rattle.std.proofs.Common.{not}
 use Rattle.smv_meaning.specs.Names.{has_symbol}
-use Rattle.smv_meaning.specs.Phases.{Declared}
 
 pub main_first : (ts : List PartOf) (n : ℕ) (p : PartOf) (ds : List Declared) (o : Option Refusal) → n ≡ length ts → 0 < n → p ≡ slice_index_or ts 0 p → ds ≡ declared_in (instance_plain p).plan
     → o ≡ first_failing (map (λ d. check 10 d.place (not (has_symbol (map instance_plain ts) d.name))) ds)

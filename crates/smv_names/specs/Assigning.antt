@@ -4,11 +4,11 @@ use Rattle.std.specs.HashMap.{HashMap}
 use Rattle.std.specs.Borrow.{Bor}
 use Rattle.smv_text.specs.declared.tree.When.{When}
 use Rattle.smv_text.specs.declared.tree.When.TheVariants.{Always, First, Following}
-use Rattle.smv_meaning.specs.declared.table.Instance.{Instance as PartOf}
-use Rattle.smv_meaning.specs.NameMap.{named}
+use Rattle.smv_instances.specs.declared.table.Instance.{Instance as PartOf}
+use Rattle.smv_instances.specs.NameMap.{named}
 use Rattle.smv_meaning.specs.Names.{Found, variable_at}
 use Rattle.smv_meaning.specs.Phases.{Assigned}
-use Rattle.smv_meaning.specs.View.{instance_plain, found_plain}
+use Rattle.smv_instances.specs.View.{instance_plain, found_plain}
 use Rattle.smv_names.specs.declared.assignments.Assignment.{Assignment as Kept}
 use Rattle.smv_names.specs.declared.assignments.Kinds.{Kinds}
 

@@ -1,16 +1,16 @@
 // What is assigned: variables alone, and each once.
 ghost use Rattle.std.specs.Prelude.{◌≡◌, ◌++◌, List, map, flat_map, IfOk, OnOk};
-ghost use Rattle.smv_meaning.specs.declared.table.Instance.{Instance as PartOf};
+ghost use Rattle.smv_instances.specs.declared.table.Instance.{Instance as PartOf};
 ghost use Rattle.smv_text.specs.Tree.{assigns};
 ghost use Rattle.smv_text.specs.View.{plain_assignment, plain_element};
 ghost use Rattle.smv_meaning.specs.Names.{found_in};
 ghost use Rattle.smv_meaning.specs.Phases.{element_assigns, assignment_checks, is_assignable, over_instances};
-ghost use Rattle.smv_meaning.specs.View.{instance_plain, found_plain};
+ghost use Rattle.smv_instances.specs.View.{instance_plain, found_plain};
 ghost use Rattle.smv_names.specs.Outcome.{Settles};
 ghost use Rattle.smv_names.specs.Assigning.{assigned_plain, assigned_path, target_path, with_kind, kinds_or_none, kinds_clash};
 
 use crate::ends::{ASSIGNED_TWICE, NOT_ASSIGNABLE, NamesEnd, refusal};
-use smv_meaning::{Table, Target, no_names, path_below, put, value_under};
+use smv_instances::{Table, Target, no_names, path_below, put, value_under};
 use smv_text::{Assignments, Element, Elements, VarKind, When};
 use std::alloc::Global;
 use text_core::{NoMemory, Place, Text};

@@ -2,11 +2,13 @@
 ghost use Rattle.std.specs.Prelude.{◌≡◌, map, IfOk};
 ghost use Rattle.smv_meaning.specs.Formulas.{IsFormulaOrder, placed_formulas};
 ghost use Rattle.smv_meaning.specs.Settled.{cycle_checks_of};
-ghost use Rattle.smv_meaning.specs.View.{instance_plain, formula_plain};
+ghost use Rattle.smv_instances.specs.View.{instance_plain};
+ghost use Rattle.smv_references.specs.View.{formula_plain};
 ghost use Rattle.smv_names.specs.Outcome.{Settles};
 
 use crate::ends::{DEFINE_CYCLE, NamesEnd, refusal};
-use smv_meaning::{Formula, Ordering, Table, formula_order};
+use smv_instances::Table;
+use smv_references::{Formula, Ordering, formula_order};
 use std::alloc::Global;
 use text_core::Items;
 

@@ -13,7 +13,7 @@ use crate::ends::{
     ARG_COUNT, MODULE_CYCLE, NAME_TWICE, NO_SUCH_MODULE, NamesEnd, TOO_LARGE, refusal,
 };
 use crate::visits::visited;
-use smv_meaning::{ModuleTable, no_names, put, value_under};
+use smv_instances::{ModuleTable, no_names, put, value_under};
 use smv_text::{Domain, Item, Source};
 use std::alloc::Global;
 use text_core::Refusal;

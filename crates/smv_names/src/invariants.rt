@@ -3,11 +3,11 @@ ghost use Rattle.std.specs.Prelude.{◌≡◌, ◌-◌, ◌∷◌, [], ℕ, map,
 ghost use Rattle.smv_text.specs.View.{plain_element};
 ghost use Rattle.smv_meaning.specs.Checks.{check};
 ghost use Rattle.smv_meaning.specs.Phases.{element_invariants, invariants_in};
-ghost use Rattle.smv_meaning.specs.View.{instance_plain};
+ghost use Rattle.smv_instances.specs.View.{instance_plain};
 ghost use Rattle.smv_names.specs.Outcome.{Settles};
 
 use crate::ends::{NO_INVARSPEC, NamesEnd, refusal};
-use smv_meaning::Table;
+use smv_instances::Table;
 use smv_text::{Element, Elements};
 use text_core::Place;
 

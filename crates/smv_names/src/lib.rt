@@ -10,8 +10,6 @@ mod invariants;
 mod module_names;
 mod paths;
 mod sizes;
-#[cfg(test)]
-mod tests;
 mod visits;
 
 pub use assignments::assignments_checked;

@@ -7,7 +7,7 @@ ghost use Rattle.smv_meaning.specs.Phases.{name_checks, main_check, module_check
 ghost use Rattle.smv_names.specs.Outcome.{Settles};
 
 use crate::ends::{MODULE_TWICE, NO_MAIN, NamesEnd, refusal};
-use smv_meaning::{ModuleTable, no_names, put, value_under};
+use smv_instances::{ModuleTable, no_names, put, value_under};
 use smv_text::{Modules, Source};
 use std::alloc::Global;
 use text_core::{Place, Refusal};

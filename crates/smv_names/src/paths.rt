@@ -5,12 +5,14 @@ ghost use Rattle.smv_text.specs.View.{plain, plain_definition, plain_assignment,
 ghost use Rattle.smv_meaning.specs.Names.{found_in, Found};
 ghost use Rattle.smv_meaning.specs.Expressions.{paths_of, tree_paths};
 ghost use Rattle.smv_meaning.specs.Phases.{is_something, path_check, path_checks, element_paths, over_instances};
-ghost use Rattle.smv_meaning.specs.View.{instance_plain, found_plain, path_seen};
+ghost use Rattle.smv_instances.specs.View.{instance_plain, found_plain};
+ghost use Rattle.smv_references.specs.View.{path_seen};
 ghost use Rattle.smv_names.specs.Outcome.{Settles};
 ghost use Rattle.smv_names.specs.Paths.{assignment_paths, definition_paths};
 
 use crate::ends::{NamesEnd, UNKNOWN, refusal};
-use smv_meaning::{Instance, Table, Target, put_all_paths, put_paths};
+use smv_instances::{Instance, Table, Target};
+use smv_references::{put_all_paths, put_paths};
 use smv_text::{Assignments, Definitions, Element, Elements, Path};
 use std::alloc::Global;
 use text_core::NoMemory;

@@ -5,13 +5,13 @@ ghost use Rattle.smv_meaning.specs.Instances.{instances_of};
 ghost use Rattle.smv_meaning.specs.Names.{has_symbol};
 ghost use Rattle.smv_meaning.specs.Checks.{check, first_failing};
 ghost use Rattle.smv_meaning.specs.Phases.{most_tokens, symbol_checks, size_checks};
-ghost use Rattle.smv_meaning.specs.View.{instance_plain};
+ghost use Rattle.smv_instances.specs.View.{instance_plain};
 ghost use Rattle.smv_names.specs.Outcome.{Settles};
 ghost use Rattle.smv_names.specs.View.{declared_plain};
 
 use crate::declared::{Declaration, declared_of};
 use crate::ends::{NAME_TWICE, NamesEnd, TOO_LARGE, refusal};
-use smv_meaning::{Instance, Table, instance_list};
+use smv_instances::{Instance, Table, instance_list};
 use smv_text::Source;
 use std::alloc::Global;
 use text_core::{NoMemory, Place, Refusal};

@@ -8,7 +8,7 @@ ghost use Rattle.smv_names.specs.Visits.{item_visits, visits, visit_checks, visi
 use crate::declarations::declared_checked;
 use crate::declared::declared_of;
 use crate::ends::NamesEnd;
-use smv_meaning::{ModuleTable, path_below};
+use smv_instances::{ModuleTable, path_below};
 use smv_text::{Domain, Item, Module};
 use std::alloc::Global;
 use text_core::NoMemory;

@@ -17,14 +17,14 @@ use Rattle.smv_text.specs.declared.tree.When.TheVariants.{Always}
 use Rattle.smv_text.specs.Tree.{PlainDomain, PlainAssignment, PlainElement}
 use Rattle.smv_text.specs.Tree.{Tree}
 use Rattle.smv_parse.specs.Answers.{first_is, is_name, begins_target, begins_section}
-use Rattle.smv_parse.specs.Marks.{is_word}
-use Rattle.smv_parse.specs.Readers.{Reading, found, died, Reader, nothing, fail, both, mapped, Pick, picked, either}
-use Rattle.smv_parse.specs.Reading.{after, after_word}
-use Rattle.smv_parse.specs.Rules.{name, name_of, behind, listed, bracketed, member, symbol_pick, integer, integer_pick, interval, domain, domain_pick, item_pick, definition_pick, body, path, path_pick, target_pick, assigned, assignment_pick, optional, label_pick, label, element_pick}
-use Rattle.smv_parse.proofs.Choices.{Unpicked, either_picks, either_passes, one_reads, one_dies, one_ends}
-use Rattle.smv_parse.proofs.Lawful.{found_same, not_both, died_count, both_reads, both_dies, both_dies_first}
+use Rattle.smv_grammar.specs.Marks.{is_word}
+use Rattle.smv_readers.specs.Readers.{Reading, found, died, Reader, nothing, fail, both, mapped, Pick, picked, either}
+use Rattle.smv_grammar.specs.Reading.{after, after_word}
+use Rattle.smv_readers.specs.Rules.{name, name_of, behind, listed, bracketed, member, symbol_pick, integer, integer_pick, interval, domain, domain_pick, item_pick, definition_pick, body, path, path_pick, target_pick, assigned, assignment_pick, optional, label_pick, label, element_pick}
+use Rattle.smv_readers.proofs.Choices.{Unpicked, either_picks, either_passes, one_reads, one_dies, one_ends}
+use Rattle.smv_readers.proofs.Lawful.{found_same, not_both, died_count, both_reads, both_dies, both_dies_first}
 use Rattle.smv_parse.proofs.Leads.{after_found, word_found, not_first, not_first_word}
-use Rattle.smv_parse.proofs.Mapped.{mapped_reads, mapped_dies}
+use Rattle.smv_readers.proofs.Mapped.{mapped_reads, mapped_dies}
 
 pub no_name : (k : TokenKind) → ((n : List ℕ) → k ≡ kind.Ident n → ⊥) → name_of k ≡ None
 no_name (kind.Ident n) h = absurd (h n refl)

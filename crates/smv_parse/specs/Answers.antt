@@ -5,9 +5,9 @@ use Rattle.smv_text.specs.declared.token.Reserved.TheVariants as words
 use Rattle.smv_text.specs.declared.token.Token.{Token}
 use Rattle.smv_text.specs.declared.token.TokenKind.{TokenKind}
 use Rattle.smv_text.specs.declared.token.TokenKind.TheVariants as kind
-use Rattle.smv_parse.specs.declared.stop.Stop.{Stop}
-use Rattle.smv_parse.specs.declared.stop.Stop.TheVariants.{Dead, NoMemory}
-use Rattle.smv_parse.specs.Readers.{Reading, found, died}
+use Rattle.smv_expressions.specs.declared.stop.Stop.{Stop}
+use Rattle.smv_expressions.specs.declared.stop.Stop.TheVariants.{Dead, NoMemory}
+use Rattle.smv_readers.specs.Readers.{Reading, found, died}
 
 -- the reader dies where the function does
 abbrev pub Loses : {A : Type 0} → Reading A → Stop → Type 0

@@ -1,10 +1,2 @@
-pub mod Marks
-pub mod Kept
-pub mod Ranks
-pub mod Machine
-pub mod Gathered
-pub mod Reading
-pub mod Readers
-pub mod Rules
 pub mod Answers
 pub mod Parsing

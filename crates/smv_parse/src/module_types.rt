@@ -9,14 +9,11 @@ ghost use Rattle.smv_text.specs.Grammar.{start};
 ghost use Rattle.smv_text.specs.Heights.{place_of};
 ghost use Rattle.smv_text.specs.View.{plain, plain_domain};
 ghost use Rattle.smv_parse.specs.Answers.{Gives, first_is, is_name};
-ghost use Rattle.smv_parse.specs.Readers.{expression, high_or, picked, died};
-ghost use Rattle.smv_parse.specs.Rules.{name, parameter, symbol, listed, bracketed, member, width, interval, domain, domain_pick, instance_pick};
+ghost use Rattle.smv_readers.specs.Readers.{expression, high_or, picked, died};
+ghost use Rattle.smv_readers.specs.Rules.{name, parameter, symbol, listed, bracketed, member, width, interval, domain, domain_pick, instance_pick};
 
-use crate::expression::{expression, start};
-use crate::kept::{MOST, leaf};
-use crate::leaves::{expect, integer, name, number};
-use crate::marks::{after, after_word};
-use crate::stop::Stop;
+use smv_expressions::{MOST, Stop, expect, expression, integer, leaf, name, number, start};
+use smv_grammar::{after, after_word};
 use smv_text::{
     Domain, Expr, Exprs, Member, Members, Parameter, Parameters, Reserved, Shape, Sign, Token,
     TokenKind, VarKind,

@@ -10,7 +10,7 @@ ghost use Rattle.smv_text.specs.View.{plain_source};
 ghost use Rattle.smv_parse.specs.Parsing.{refusal, ReadsOrHigh, number_at, dead_refusal, IsRefused};
 
 use crate::module_sections::modules;
-use crate::stop::Stop;
+use smv_expressions::Stop;
 use smv_text::{Source, Token, TokenKind, Tokens};
 use std::alloc::Global;
 use text_core::{Kind, Place, Refusal};
@@ -54,11 +54,6 @@ pub fn parse(alloc: Global, tokens: &Tokens) -> Result<Source, ParseEnd>
         Err(Stop::NoMemory) => Err(ParseEnd::NoMemory),
     }
 }
-
-/// No tokens spell two models.
-pub fn one_source()
-    ensures { (end : Place) (xs : List Token) (s t : PlainSource) → SpellsSource s end xs → SpellsSource t end xs → s ≡ t }
-{}
 
 fn refusal(number: u8, place: Place) -> Refusal
     ensures { result ≡ refusal number place }

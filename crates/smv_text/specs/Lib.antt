@@ -4,16 +4,9 @@ pub mod Keywords
 pub mod Numbers
 pub mod Words
 pub mod Lexing
-pub mod Reading
-pub mod Answer
 pub mod Tree
 pub mod View
 pub mod Levels
 pub mod Grammar
 pub mod Heights
 pub mod Sources
-pub mod Ranks
-pub mod Spelling
-pub mod Printing
-pub mod Printable
-pub mod Unplaced

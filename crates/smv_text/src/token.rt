@@ -193,7 +193,7 @@ impl Model for Tokens {
 
 impl Tokens {
     /// The list of these tokens, with the place of their text's end.
-    pub(crate) fn of(tokens: Vec<Token>, last: Place) -> Tokens
+    pub fn of(tokens: Vec<Token>, last: Place) -> Tokens
         ensures items { result.items ≡ tokens.items }
         ensures end { result.end ≡ last }
     {

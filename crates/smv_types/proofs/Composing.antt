@@ -7,10 +7,10 @@ use Rattle.smv_text.specs.declared.tree.Infix.{Infix}
 use Rattle.smv_text.specs.Tree.{Tree, Links, no_links, link, Branches, no_branches, branch}
 use Rattle.smv_meaning.specs.Types.{ExprType}
 use Rattle.smv_meaning.specs.Checks.{Check, first_failing, Position, Named, Typing, typing, front, linked, behind, value_types}
-use Rattle.smv_types.specs.declared.types.Ty.{Ty}
+use Rattle.smv_intervals.specs.declared.types.Ty.{Ty}
 use Rattle.smv_types.specs.declared.ends.CheckEnd.{CheckEnd}
 use Rattle.smv_types.specs.declared.ends.CheckEnd.TheVariants.{Bad, NoMemory}
-use Rattle.smv_types.specs.View.{seen}
+use Rattle.smv_intervals.specs.View.{seen}
 use Rattle.smv_types.specs.Outcome.{verdict, outcome, IsBad, Answers, Ends}
 use Rattle.smv_types.specs.Steps.{passed, behind_checks, front_step}
 

@@ -10,10 +10,11 @@ use Rattle.smv_text.specs.declared.tree.Function.TheVariants as OfFunction
 use Rattle.smv_text.specs.Tree.{trees_of}
 use Rattle.smv_text.specs.View.{plain}
 use Rattle.smv_meaning.specs.Types.{ExprType, is_word_type, integer_type, over_both_ends, in_limit, function_fits, function_type, arguments_fit, numbers_of}
-use Rattle.smv_types.specs.declared.types.Ty.{Ty}
-use Rattle.smv_types.specs.declared.types.Ty.TheVariants.{Truth}
-use Rattle.smv_types.specs.View.{seen}
-use Rattle.smv_types.specs.Outcome.{outcome, refusal_at, Kept}
+use Rattle.smv_intervals.specs.declared.types.Ty.{Ty}
+use Rattle.smv_intervals.specs.declared.types.Ty.TheVariants.{Truth}
+use Rattle.smv_intervals.specs.View.{seen}
+use Rattle.smv_intervals.specs.Limits.{Kept}
+use Rattle.smv_types.specs.Outcome.{outcome, refusal_at}
 use Rattle.smv_types.specs.Steps.{call_step}
 
 pub clash : (p : Place) (f : Function) (ts : List ExprType) (ns : List (Option ℕ)) → function_fits f ts ≡ false
@@ -79,12 +80,6 @@ uwconst_fits [] h = absurd (omega arith)
 uwconst_fits (t ∷ []) h = absurd (omega arith)
 uwconst_fits (t ∷ u ∷ []) h = refl
 uwconst_fits (t ∷ u ∷ v ∷ ts) h = absurd (omega arith)
-
--- the four results of two intervals' ends
-pub over_kept : (f : ℤ → ℤ → ℤ) (r : Option Ty) (low high less more a b c d : ℤ) → a ≡ f low less → b ≡ f low more → c ≡ f high less → d ≡ f high more
-    → Kept r (integer_type (int_min (int_min a b) (int_min c d)) (int_max (int_max a b) (int_max c d)))
-    → Kept r (over_both_ends f (integer_type low high) (integer_type less more))
-over_kept f r low high less more a b c d p q s t h = rw (← p, ← q, ← s, ← t) h
 
 pub max_clash : (p : Place) (ts : List Ty) → (length ts ≡ 2 → ⊥) → outcome (call_step p OfFunction.Max (Some (map seen ts)) []) ≡ Err (refusal_at 16 p)
 max_clash p ts h = clash p OfFunction.Max (map seen ts) [] (max_of_two ts h)

@@ -12,10 +12,10 @@ use Rattle.smv_text.specs.View.{plain, plain_link, plain_branch}
 use Rattle.smv_meaning.specs.Types.{ExprType}
 use Rattle.smv_meaning.specs.Expressions.{is_from_right}
 use Rattle.smv_meaning.specs.Checks.{first_failing, Position, Named, typing, single, across, linked, link_checks, link_types, branch_checks, condition_types, value_types, all_types}
-use Rattle.smv_types.specs.declared.types.Ty.{Ty}
+use Rattle.smv_intervals.specs.declared.types.Ty.{Ty}
 use Rattle.smv_types.specs.declared.ends.CheckEnd.{CheckEnd}
 use Rattle.smv_types.specs.declared.ends.CheckEnd.TheVariants.{Bad, NoMemory}
-use Rattle.smv_types.specs.View.{seen}
+use Rattle.smv_intervals.specs.View.{seen}
 use Rattle.smv_types.specs.Outcome.{verdict, outcome, IsBad, Ends}
 use Rattle.smv_types.specs.Steps.{passed, behind_checks, implies_step, implications_step, branches_step}
 use Rattle.smv_types.proofs.Composing.{ends, ends_behind, ok_parts, err_part, both_pass, same_ends, same_linked, linked_stops, over, passed_operand, values_then}

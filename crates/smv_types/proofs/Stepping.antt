@@ -12,9 +12,9 @@ use Rattle.smv_meaning.specs.Types.{ExprType}
 use Rattle.text_core.specs.declared.place.Place.{Place}
 use Rattle.text_core.specs.declared.place.Refusal.{Refusal}
 use Rattle.smv_meaning.specs.Checks.{Check, first_failing, Position, Named, Typing, typing, single, linked, behind, tree_checks, tree_types, link_checks, link_types, branch_checks, condition_types, value_types}
-use Rattle.smv_types.specs.declared.types.Ty.{Ty}
+use Rattle.smv_intervals.specs.declared.types.Ty.{Ty}
 use Rattle.smv_types.specs.declared.ends.CheckEnd.{CheckEnd}
-use Rattle.smv_types.specs.View.{seen}
+use Rattle.smv_intervals.specs.View.{seen}
 use Rattle.smv_types.specs.Outcome.{outcome, IsBad, Ends, is_known, trees_known, links_known, branches_known}
 use Rattle.smv_types.specs.Steps.{passed, behind_checks, front_step}
 use Rattle.smv_types.proofs.Composing.{ends, ends_behind, goes, ok_parts, same_end, operand_ends, front_ends, one_link}

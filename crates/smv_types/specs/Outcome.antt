@@ -6,10 +6,10 @@ use Rattle.smv_text.specs.declared.tree.Path.{Path}
 use Rattle.smv_text.specs.Tree.{Tree, truth, number, literal, name, prefix, chain, choice, cases, select, call, next, set, range, Links, no_links, link, Branches, no_branches, branch, Trees, no_trees, tree}
 use Rattle.smv_meaning.specs.Types.{ExprType, in_limit}
 use Rattle.smv_meaning.specs.Checks.{check, first_failing, Typing}
-use Rattle.smv_types.specs.declared.types.Ty.{Ty}
+use Rattle.smv_intervals.specs.declared.types.Ty.{Ty}
 use Rattle.smv_types.specs.declared.ends.CheckEnd.{CheckEnd}
 use Rattle.smv_types.specs.declared.ends.CheckEnd.TheVariants.{Bad, NoMemory}
-use Rattle.smv_types.specs.View.{seen}
+use Rattle.smv_intervals.specs.View.{seen}
 
 abbrev pub verdict : {X : Type 0} → Option Refusal → X → Result X Refusal
 verdict None x = Ok x
@@ -34,11 +34,6 @@ Answers (Err why) t = outcome t ≡ Err why
 abbrev pub Ends : Result (Option Ty) CheckEnd → Typing → Type 0
 Ends (Ok o) t = outcome t ≡ Ok (option_map seen o)
 Ends (Err e) t = IsBad e (first_failing t.checks)
-
--- the type, where it is within the limit of integers
-abbrev pub Kept : Option Ty → ExprType → Type 0
-Kept (Some ty) t = (in_limit t ≡ true) × (seen ty ≡ t)
-Kept None t = in_limit t ≡ false
 
 -- each path of an expression is one of those that are known
 abbrev mutual

@@ -1,22 +1,14 @@
--- What the types, the names and the positions of the code stand for (NuSMV 2.6 User Manual, 2.1 and 2.3).
+-- What the names and the positions of the code stand for (NuSMV 2.6 User Manual, 2.1 and 2.3).
 use Rattle.std.specs.Prelude.{option_map}
 use Rattle.smv_text.specs.declared.tree.When.TheVariants.{Always, First, Following}
-use Rattle.smv_meaning.specs.Types.{ExprType, truth_type, integer_type, symbol_type, word_type}
 use Rattle.smv_meaning.specs.Checks as checks
 use Rattle.smv_meaning.specs.Naming.{in_body}
 use Rattle.smv_meaning.specs.Phases.{in_state, in_step, in_assignment}
-use Rattle.smv_types.specs.declared.types.Ty.{Ty}
-use Rattle.smv_types.specs.declared.types.Ty.TheVariants.{Truth, Integer, Symbol, Bits}
+use Rattle.smv_intervals.specs.View.{seen}
 use Rattle.smv_types.specs.declared.names.Named.{Named}
 use Rattle.smv_types.specs.declared.positions.Position.{Position}
 use Rattle.smv_types.specs.declared.positions.Position.TheVariants.{Now, Step, Define, Actual, AssignNow, AssignFirst, AssignFollowing}
 use Rattle.smv_types.specs.declared.positions.Standing.{Standing}
-
-abbrev pub seen : Ty → ExprType
-seen Truth = truth_type
-seen (Integer low high) = integer_type low high
-seen Symbol = symbol_type
-seen (Bits n) = word_type n
 
 abbrev pub named_seen : Named → checks.Named
 named_seen n = record { type = option_map seen n.ty; is_instance = n.is_instance; reaches_input = n.reaches_input }

@@ -6,15 +6,15 @@ ghost use Rattle.smv_text.specs.declared.tree.Function.TheVariants as OfFunction
 ghost use Rattle.smv_meaning.specs.Types.{integer_type, numbers_of};
 ghost use Rattle.smv_meaning.specs.Checks.{all_types};
 ghost use Rattle.smv_meaning.specs.Operators.{is_width};
-ghost use Rattle.smv_types.specs.View.{seen};
-ghost use Rattle.smv_types.specs.Outcome.{Answers, Ends, Kept, refusal_at};
+ghost use Rattle.smv_intervals.specs.View.{seen};
+ghost use Rattle.smv_intervals.specs.Limits.{Kept};
+ghost use Rattle.smv_types.specs.Outcome.{Answers, Ends, refusal_at};
 ghost use Rattle.smv_types.specs.Steps.{call_step};
 
 use crate::arguments::number_of;
 use crate::ends::{BAD_SELECT, CheckEnd, INT_TOO_WIDE, TYPE_CLASH, answered, check, refusal};
-use crate::intervals::{abs_type, max_type, min_type, within};
 use crate::lists::{all_types, are_truths};
-use crate::types::Ty;
+use smv_intervals::{Ty, abs_type, max_type, min_type, within};
 use smv_text::{Expr, Function};
 use std::alloc::Global;
 use text_core::{Place, Refusal};

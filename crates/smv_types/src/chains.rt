@@ -5,19 +5,20 @@ ghost use Rattle.smv_text.specs.View.{plain, plain_link};
 ghost use Rattle.smv_meaning.specs.Types.{infix_fits, infix_type, is_shift_amount, divides, shifts, joins, is_union, logical_fits, number_fits};
 ghost use Rattle.smv_meaning.specs.Checks.{across, behind, are_unions};
 ghost use Rattle.smv_meaning.specs.Expressions.{is_implies, are_implies, is_from_right};
-ghost use Rattle.smv_types.specs.View.{seen, standing_seen};
-ghost use Rattle.smv_types.specs.Outcome.{Answers, Kept};
+ghost use Rattle.smv_intervals.specs.View.{seen};
+ghost use Rattle.smv_types.specs.View.{standing_seen};
+ghost use Rattle.smv_intervals.specs.Limits.{Kept};
+ghost use Rattle.smv_types.specs.Outcome.{Answers};
 ghost use Rattle.smv_types.specs.Steps.{front_step, is_concat};
 
 use crate::arguments::{divisor_of, is_divisor, number_of};
 use crate::ends::{
     BAD_DIVISOR, BAD_SELECT, BAD_SHIFT, INT_TOO_WIDE, SET_HERE, TYPE_CLASH, check, refusal,
 };
-use crate::intervals::{
-    difference_type, hull, kept, product_type, quotient_type, rest_type, sum_type,
-};
 use crate::positions::Standing;
-use crate::types::Ty;
+use smv_intervals::{
+    Ty, difference_type, hull, kept, product_type, quotient_type, rest_type, sum_type,
+};
 use smv_text::{Expr, Infix, Link};
 use text_core::{Place, Refusal};
 use word_core::WIDEST;

@@ -3,7 +3,7 @@ ghost use Rattle.std.specs.Prelude.{◌≡◌, true, false, MatchResult};
 ghost use Rattle.smv_meaning.specs.Checks.{Typing};
 ghost use Rattle.smv_types.specs.Outcome.{refusal_at, Answers, Ends};
 
-use crate::types::Ty;
+use smv_intervals::Ty;
 use std::alloc::AllocFailed;
 use text_core::{Kind, Place, Refusal};
 

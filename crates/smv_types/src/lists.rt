@@ -3,15 +3,15 @@ ghost use Rattle.std.specs.Prelude.{◌≡◌, map, option_map, MatchResult};
 ghost use Rattle.std.specs.List.{list_all};
 ghost use Rattle.smv_meaning.specs.Types.{is_truth_type, type_same, logical_fits, are_same, hull_with, hull_of, implies_fits};
 ghost use Rattle.smv_meaning.specs.Checks.{all_types};
-ghost use Rattle.smv_types.specs.View.{seen, standing_seen};
+ghost use Rattle.smv_intervals.specs.View.{seen};
+ghost use Rattle.smv_types.specs.View.{standing_seen};
 ghost use Rattle.smv_types.specs.Outcome.{Answers, Ends};
 ghost use Rattle.smv_types.specs.Steps.{implies_step, branches_step, set_step};
 
 use crate::chains::logical_fits;
 use crate::ends::{CheckEnd, SET_HERE, TYPE_CLASH, answered, check, refusal};
-use crate::intervals::hull;
 use crate::positions::Standing;
-use crate::types::Ty;
+use smv_intervals::{Ty, hull};
 use std::alloc::Global;
 use text_core::{Place, Refusal};
 

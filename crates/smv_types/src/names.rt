@@ -4,7 +4,7 @@ ghost use Rattle.smv_text.specs.declared.tree.Path.{Path as PlainPath};
 ghost use Rattle.smv_meaning.specs.Checks.{Named as Meaning};
 ghost use Rattle.smv_types.specs.View.{named_seen};
 
-use crate::types::Ty;
+use smv_intervals::Ty;
 use smv_text::Path;
 
 /// What a name is (NuSMV 2.6 User Manual, 2.3.16).

@@ -1,18 +1,19 @@
 // The checks and the types of single nodes, given the types of their operands.
 ghost use Rattle.std.specs.Prelude.{◌≡◌, MatchResult, Some, option_map, pos};
 ghost use Rattle.smv_meaning.specs.Types.{prefix_fits, prefix_type};
-ghost use Rattle.smv_types.specs.View.{seen, named_seen, standing_seen};
-ghost use Rattle.smv_types.specs.Outcome.{Answers, Kept};
+ghost use Rattle.smv_intervals.specs.View.{seen};
+ghost use Rattle.smv_types.specs.View.{named_seen, standing_seen};
+ghost use Rattle.smv_intervals.specs.Limits.{Kept};
+ghost use Rattle.smv_types.specs.Outcome.{Answers};
 ghost use Rattle.smv_types.specs.Steps.{number_step, name_step, prefix_step, select_step, next_step, range_step};
 
 use crate::ends::{
     BAD_SELECT, EMPTY_RANGE, INPUT_HERE, INT_TOO_WIDE, NEXT_HERE, SET_HERE, TYPE_CLASH, check,
     refusal,
 };
-use crate::intervals::{kept, limited, negation_type, within};
 use crate::names::Named;
 use crate::positions::Standing;
-use crate::types::Ty;
+use smv_intervals::{Ty, kept, limited, negation_type, within};
 use smv_text::Prefix;
 use text_core::{Place, Refusal};
 

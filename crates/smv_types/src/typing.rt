@@ -5,7 +5,8 @@ ghost use Rattle.smv_text.specs.Tree.{prefix, cases, select, call, next, set, li
 ghost use Rattle.smv_text.specs.View.{plain, plain_link, plain_branch};
 ghost use Rattle.smv_meaning.specs.Expressions.{paths_of};
 ghost use Rattle.smv_meaning.specs.Checks.{typing, single, linked, tree_checks, tree_types, link_checks, link_types, branch_checks, condition_types, value_types, first_failing};
-ghost use Rattle.smv_types.specs.View.{seen, standing_seen, position_seen};
+ghost use Rattle.smv_intervals.specs.View.{seen};
+ghost use Rattle.smv_types.specs.View.{standing_seen, position_seen};
 ghost use Rattle.smv_types.specs.Outcome.{Ends, IsBad, is_known, links_known, branches_known, trees_known};
 ghost use Rattle.smv_types.specs.Steps.{passed, implications_step};
 
@@ -16,7 +17,7 @@ use crate::lists::{BranchTypes, branched, gathered, implied};
 use crate::names::Scope;
 use crate::nodes::{following, name, number, range, selected, signed};
 use crate::positions::{Position, Standing};
-use crate::types::Ty;
+use smv_intervals::Ty;
 use smv_text::{Branch, Expr, Function, Link, Prefix, Shape};
 use std::alloc::Global;
 use text_core::Place;

@@ -9,8 +9,6 @@ mod names;
 mod outside;
 mod place;
 mod real;
-#[cfg(test)]
-mod tests;
 mod text;
 mod verdict;
 mod whole;

@@ -5,10 +5,6 @@ mod digits;
 mod kinds;
 mod numbers;
 mod operators;
-#[cfg(test)]
-mod table_tests;
-#[cfg(test)]
-mod tests;
 mod word;
 
 pub use digits::read_digits;

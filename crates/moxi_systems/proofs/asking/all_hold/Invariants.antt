@@ -2,8 +2,8 @@ use Rattle.std.proofs.Common.{◌≡◌, ℕ, Bool, drop, map}
 use Rattle.std.specs.List.{list_all}
 use Rattle.moxi_terms.specs.Value.{at}
 use Rattle.moxi_systems.specs.Meeting.{is_true}
-use Rattle.moxi_systems.specs.Script.{formula_at, plain_formula}
-use Rattle.moxi_systems.specs.ScriptView.{plain_script}
+use Rattle.moxi_scripts.specs.Script.{formula_at, plain_formula}
+use Rattle.moxi_scripts.specs.ScriptView.{plain_script}
 use Rattle.moxi_systems.proofs.asking.all_hold.Given as goal
 
 abbrev pub invariant-loop-i : goal.invariant-loop-i

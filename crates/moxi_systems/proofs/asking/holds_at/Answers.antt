@@ -1,4 +1,4 @@
-use Rattle.moxi_systems.specs.ScriptView.{plain_script}
+use Rattle.moxi_scripts.specs.ScriptView.{plain_script}
 use Rattle.moxi_systems.proofs.AskingLaws.{truth_at}
 use Rattle.moxi_systems.proofs.asking.holds_at.Goals as goal
 

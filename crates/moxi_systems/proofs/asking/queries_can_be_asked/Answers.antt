@@ -1,5 +1,5 @@
 use Rattle.std.proofs.Math.Logic.{∥∥₁_map}
-use Rattle.moxi_systems.specs.Invariant.{IsSpelled}
+use Rattle.moxi_scripts.specs.Invariant.{IsSpelled}
 use Rattle.moxi_systems.proofs.AskingLaws.{queries_asked}
 use Rattle.moxi_systems.proofs.asking.queries_can_be_asked.Goals as goal
 

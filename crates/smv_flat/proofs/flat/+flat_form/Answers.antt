@@ -1,7 +1,7 @@
 use Rattle.std.proofs.Common.{map}
-use Rattle.smv_meaning.specs.View.{instance_plain}
+use Rattle.smv_instances.specs.View.{instance_plain}
 use Rattle.smv_types.specs.View.{standing_seen}
-use Rattle.smv_flat.specs.FlatItems.{leaf_in}
+use Rattle.smv_items.specs.FlatItems.{leaf_in}
 use Rattle.smv_flat.proofs.FlatShapes.{prefix_made, select_made, next_made, chain_made, choice_made, call_made, links_end, parts_end, cases_end}
 use Rattle.smv_flat.proofs.flat.+flat_form.Goals as goal
 

@@ -1,8 +1,9 @@
 use Rattle.std.proofs.Common.{◌≡◌, ◌++◌, ◌||◌, drop, map, option_map}
 use Rattle.std.specs.List.{list_any}
-use Rattle.smv_meaning.specs.View.{instance_plain}
-use Rattle.smv_types.specs.View.{seen, standing_seen}
-use Rattle.smv_flat.specs.FlatItems.{leaf_in}
+use Rattle.smv_instances.specs.View.{instance_plain}
+use Rattle.smv_intervals.specs.View.{seen}
+use Rattle.smv_types.specs.View.{standing_seen}
+use Rattle.smv_items.specs.FlatItems.{leaf_in}
 use Rattle.smv_flat.specs.FlatView.{plain_flat, plain_flat_link, plain_flat_branch}
 use Rattle.smv_flat.proofs.FlatMade.{link_flat, link_type, branch_flat, when_type, value_type, value_set, part_flat, part_type}
 use Rattle.smv_flat.proofs.flat.+flat_form.Given as goal

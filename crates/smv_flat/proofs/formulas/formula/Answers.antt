@@ -1,6 +1,6 @@
 use Rattle.std.proofs.Common.{map}
 use Rattle.smv_text.specs.View.{plain}
-use Rattle.smv_meaning.specs.View.{instance_plain}
+use Rattle.smv_instances.specs.View.{instance_plain}
 use Rattle.smv_types.specs.View.{standing_seen, position_seen}
 use Rattle.smv_flat.specs.FlatView.{plain_flat}
 use Rattle.smv_flat.proofs.FormLemmas.{form_made}

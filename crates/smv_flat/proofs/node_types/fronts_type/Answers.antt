@@ -1,7 +1,8 @@
 use Rattle.std.proofs.Common.{map, drop, option_map}
 use Rattle.smv_text.specs.Tree.{links_of}
 use Rattle.smv_text.specs.View.{plain_link}
-use Rattle.smv_types.specs.View.{seen, standing_seen}
+use Rattle.smv_intervals.specs.View.{seen}
+use Rattle.smv_types.specs.View.{standing_seen}
 use Rattle.smv_flat.specs.FlatView.{fronts_type}
 use Rattle.smv_flat.proofs.FlatSteps.{fronts_stop, fronts_on, drop_get, drop_item}
 use Rattle.smv_flat.proofs.node_types.fronts_type.Goals as goal

@@ -1,5 +1,5 @@
 use Rattle.std.proofs.Common.{◌≡◌, ◌++◌, ◌∷◌, map, drop, option_map}
-use Rattle.smv_types.specs.View.{seen}
+use Rattle.smv_intervals.specs.View.{seen}
 use Rattle.smv_flat.proofs.node_types.implies_type.Given as goal
 
 abbrev pub invariant-loop-t : goal.invariant-loop-t

@@ -1,10 +1,10 @@
 use Rattle.std.proofs.Common.{map, sym, ap, ◌∙◌}
-use Rattle.smv_meaning.specs.View.{instance_plain}
-use Rattle.smv_flat.specs.FlatItems.{flat_item_of}
-use Rattle.smv_flat.specs.FlatItemView.{item_plain}
+use Rattle.smv_instances.specs.View.{instance_plain}
+use Rattle.smv_items.specs.FlatItems.{flat_item_of}
+use Rattle.smv_items.specs.FlatItemView.{item_plain}
 use Rattle.smv_flat.specs.FlatForms.{flat_of}
 use Rattle.smv_flat.specs.FlatFormulas.{form_plain}
-use Rattle.smv_flat.specs.FlatOrigins.{origin_plain}
+use Rattle.smv_items.specs.FlatOrigins.{origin_plain}
 use Rattle.smv_flatten.proofs.flattening.flattened.Goals as goal
 
 pub returns-clause-width : goal.returns-clause-width

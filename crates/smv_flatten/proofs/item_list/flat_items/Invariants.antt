@@ -1,8 +1,8 @@
 use Rattle.std.proofs.Common.{◌≡◌, ◌++◌, drop, map}
-use Rattle.smv_meaning.specs.View.{instance_plain}
-use Rattle.smv_flat.specs.FlatItems.{path_of, flat_item_of}
-use Rattle.smv_flat.specs.FlatItemView.{item_plain}
-use Rattle.smv_flat.specs.FlatOrigins.{origin_plain}
+use Rattle.smv_instances.specs.View.{instance_plain}
+use Rattle.smv_items.specs.FlatItems.{path_of, flat_item_of}
+use Rattle.smv_items.specs.FlatItemView.{item_plain}
+use Rattle.smv_items.specs.FlatOrigins.{origin_plain}
 use Rattle.smv_flatten.proofs.item_list.flat_items.Given as goal
 
 abbrev pub invariant-loop-k : goal.invariant-loop-k

@@ -1,7 +1,7 @@
 use Rattle.std.proofs.Common.{map}
 use Rattle.smv_text.specs.View.{plain}
 use Rattle.smv_meaning.specs.Naming.{in_body}
-use Rattle.smv_meaning.specs.View.{instance_plain}
+use Rattle.smv_instances.specs.View.{instance_plain}
 use Rattle.smv_model_types.specs.Row.{row_seen, row_names}
 use Rattle.smv_model_types.proofs.BodyLemmas.{bad_has_none}
 use Rattle.smv_model_types.proofs.bodies.body_type.Goals as goal

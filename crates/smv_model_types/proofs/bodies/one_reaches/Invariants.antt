@@ -1,6 +1,7 @@
 use Rattle.std.proofs.Common.{◌≡◌, drop, map}
 use Rattle.std.specs.List.{list_any}
-use Rattle.smv_meaning.specs.View.{instance_plain, path_seen}
+use Rattle.smv_instances.specs.View.{instance_plain}
+use Rattle.smv_references.specs.View.{path_seen}
 use Rattle.smv_model_types.specs.Row.{row_seen, row_names}
 use Rattle.smv_model_types.proofs.bodies.one_reaches.Given as goal
 

@@ -1,7 +1,7 @@
 use Rattle.std.proofs.Common.{◌≡◌, ◌<◌, map, length, take, subst, arith}
 use Rattle.std.proofs.lemmas.List.{take_all}
 use Rattle.smv_meaning.specs.Orders.{numbered}
-use Rattle.smv_meaning.specs.View.{instance_plain}
+use Rattle.smv_instances.specs.View.{instance_plain}
 use Rattle.smv_model_types.specs.Row.{row_seen}
 use Rattle.smv_model_types.proofs.Filling.{Holds, none_held, all_held}
 use Rattle.smv_model_types.proofs.InOrder.{number_low, next_put}

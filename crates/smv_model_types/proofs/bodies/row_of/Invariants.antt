@@ -1,6 +1,6 @@
 use Rattle.std.proofs.Common.{map, take}
 use Rattle.smv_meaning.specs.Orders.{numbered}
-use Rattle.smv_meaning.specs.View.{instance_plain}
+use Rattle.smv_instances.specs.View.{instance_plain}
 use Rattle.smv_model_types.specs.Row.{row_seen}
 use Rattle.smv_model_types.proofs.Filling.{Holds}
 use Rattle.smv_model_types.proofs.bodies.row_of.Given as goal

@@ -4,8 +4,8 @@ use Rattle.smv_meaning.specs.Types.{type_same}
 use Rattle.smv_meaning.specs.Checks.{check, typing, on_types, Named, Position}
 use Rattle.smv_meaning.specs.Phases.{place_of, in_assignment}
 use Rattle.smv_meaning.specs.Settled.{types_in}
-use Rattle.smv_meaning.specs.View.{instance_plain}
-use Rattle.smv_types.specs.View.{seen}
+use Rattle.smv_instances.specs.View.{instance_plain}
+use Rattle.smv_intervals.specs.View.{seen}
 use Rattle.smv_model_types.specs.Outcome.{Finds}
 use Rattle.smv_model_types.proofs.Composing.{misfit}
 use Rattle.smv_model_types.proofs.checks.assignment_checked.Goals as goal

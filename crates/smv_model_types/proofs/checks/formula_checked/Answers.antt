@@ -4,7 +4,7 @@ use Rattle.smv_meaning.specs.Types.{is_truth_type}
 use Rattle.smv_meaning.specs.Checks.{check, typing, on_type}
 use Rattle.smv_meaning.specs.Phases.{place_of}
 use Rattle.smv_meaning.specs.Settled.{types_in}
-use Rattle.smv_meaning.specs.View.{instance_plain}
+use Rattle.smv_instances.specs.View.{instance_plain}
 use Rattle.smv_types.specs.View.{position_seen}
 use Rattle.std.proofs.Common.{false}
 use Rattle.smv_model_types.proofs.Composing.{misfit}

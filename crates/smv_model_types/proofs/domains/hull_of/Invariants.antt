@@ -1,6 +1,6 @@
 use Rattle.std.proofs.Common.{◌≡◌, drop, map}
 use Rattle.smv_meaning.specs.Types.{member_type, hull_with, hull_of}
-use Rattle.smv_types.specs.View.{seen}
+use Rattle.smv_intervals.specs.View.{seen}
 use Rattle.smv_model_types.proofs.domains.hull_of.Given as goal
 
 abbrev pub invariant-loop-k : goal.invariant-loop-k

@@ -4,7 +4,7 @@ use Rattle.smv_text.specs.View.{plain}
 use Rattle.smv_meaning.specs.Checks.{first_failing}
 use Rattle.smv_meaning.specs.Phases.{actuals_typing}
 use Rattle.smv_meaning.specs.Settled.{types_in}
-use Rattle.smv_meaning.specs.View.{instance_plain}
+use Rattle.smv_instances.specs.View.{instance_plain}
 use Rattle.smv_model_types.proofs.elements.actuals_checked.Given as goal
 
 abbrev pub invariant-loop-k : goal.invariant-loop-k

@@ -2,7 +2,7 @@ use Rattle.std.proofs.Common.{true, map}
 use Rattle.smv_text.specs.View.{plain_assignment}
 use Rattle.smv_meaning.specs.Phases.{assigned_typing}
 use Rattle.smv_meaning.specs.Settled.{types_in}
-use Rattle.smv_meaning.specs.View.{instance_plain}
+use Rattle.smv_instances.specs.View.{instance_plain}
 use Rattle.smv_model_types.proofs.Composing.{rest_goes, rest_ends}
 use Rattle.smv_model_types.proofs.elements.assignments_checked.Goals as goal
 

@@ -5,7 +5,7 @@ use Rattle.smv_meaning.specs.Checks.{first_failing}
 use Rattle.std.specs.Prelude.{true}
 use Rattle.smv_meaning.specs.Phases.{assigned_typing}
 use Rattle.smv_meaning.specs.Settled.{types_in}
-use Rattle.smv_meaning.specs.View.{instance_plain}
+use Rattle.smv_instances.specs.View.{instance_plain}
 use Rattle.smv_model_types.proofs.elements.assignments_checked.Given as goal
 
 abbrev pub invariant-loop-k : goal.invariant-loop-k

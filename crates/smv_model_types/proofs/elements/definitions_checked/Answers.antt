@@ -1,7 +1,7 @@
 use Rattle.std.proofs.Common.{true, map}
 use Rattle.smv_text.specs.View.{plain_definition}
 use Rattle.smv_meaning.specs.Settled.{types_in}
-use Rattle.smv_meaning.specs.View.{instance_plain}
+use Rattle.smv_instances.specs.View.{instance_plain}
 use Rattle.smv_model_types.specs.Outcome.{definition_typing}
 use Rattle.smv_model_types.proofs.Composing.{rest_ends}
 use Rattle.smv_model_types.proofs.elements.definitions_checked.Goals as goal

@@ -4,7 +4,7 @@ use Rattle.smv_text.specs.View.{plain_definition}
 use Rattle.smv_meaning.specs.Checks.{first_failing}
 use Rattle.std.specs.Prelude.{true}
 use Rattle.smv_meaning.specs.Settled.{types_in}
-use Rattle.smv_meaning.specs.View.{instance_plain}
+use Rattle.smv_instances.specs.View.{instance_plain}
 use Rattle.smv_model_types.specs.Outcome.{definition_typing}
 use Rattle.smv_model_types.proofs.elements.definitions_checked.Given as goal
 

@@ -3,7 +3,7 @@ use Rattle.smv_text.specs.View.{plain_element}
 use Rattle.smv_text.specs.declared.tree.Element.{Element}
 use Rattle.smv_meaning.specs.Phases.{element_typing}
 use Rattle.smv_meaning.specs.Settled.{types_in}
-use Rattle.smv_meaning.specs.View.{instance_plain}
+use Rattle.smv_instances.specs.View.{instance_plain}
 use Rattle.smv_names.specs.Outcome.{Settles}
 use Rattle.smv_model_types.proofs.elements.element_checked.Goals as goal
 

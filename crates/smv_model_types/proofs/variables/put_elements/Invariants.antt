@@ -1,5 +1,5 @@
 use Rattle.std.proofs.Common.{map}
-use Rattle.smv_meaning.specs.View.{instance_plain}
+use Rattle.smv_instances.specs.View.{instance_plain}
 use Rattle.smv_model_types.specs.Row.{row_seen, Right}
 use Rattle.smv_model_types.proofs.variables.put_elements.Given as goal
 

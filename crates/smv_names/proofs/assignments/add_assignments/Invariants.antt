@@ -3,7 +3,7 @@ use Rattle.smv_text.specs.Tree.{assigns}
 use Rattle.smv_text.specs.View.{plain_assignment}
 use Rattle.smv_meaning.specs.Names.{found_in}
 use Rattle.smv_meaning.specs.Phases.{element_assigns}
-use Rattle.smv_meaning.specs.View.{instance_plain}
+use Rattle.smv_instances.specs.View.{instance_plain}
 use Rattle.smv_names.specs.Assigning.{assigned_plain}
 use Rattle.smv_names.proofs.assignments.add_assignments.Given as goal
 

@@ -2,7 +2,7 @@ use Rattle.std.proofs.Common.{◌≡◌, ◌++◌, drop, map}
 use Rattle.std.specs.Prelude.{flat_map}
 use Rattle.smv_meaning.specs.Names.{found_in}
 use Rattle.smv_meaning.specs.Phases.{element_assigns, over_instances}
-use Rattle.smv_meaning.specs.View.{instance_plain}
+use Rattle.smv_instances.specs.View.{instance_plain}
 use Rattle.smv_names.specs.Assigning.{assigned_plain}
 use Rattle.smv_names.proofs.assignments.assignments_in.Given as goal
 

@@ -1,7 +1,8 @@
 use Rattle.std.proofs.Common.{map, subst, sym, ap, ◌∙◌, Some}
-use Rattle.smv_meaning.specs.declared.references.Ordering.{Ordering}
-use Rattle.smv_meaning.specs.Formulas.{IsOrdering, placed_formulas}
-use Rattle.smv_meaning.specs.View.{instance_plain}
+use Rattle.smv_references.specs.declared.references.Ordering.{Ordering}
+use Rattle.smv_references.specs.FormulaOrders.{IsOrdering}
+use Rattle.smv_meaning.specs.Formulas.{placed_formulas}
+use Rattle.smv_instances.specs.View.{instance_plain}
 use Rattle.smv_names.proofs.CycleLemmas.{refusal_read}
 use Rattle.smv_names.proofs.cycles.cycles_checked.Goals as goal
 

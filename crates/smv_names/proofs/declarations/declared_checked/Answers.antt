@@ -1,7 +1,7 @@
 use Rattle.std.proofs.Common.{◌≡◌, false, ◌+◌, ◌∷◌, map, drop, length, refl, sym, ap, ◌∙◌, arith}
 use Rattle.smv_text.specs.View.{plain_module}
 use Rattle.smv_meaning.specs.Instances.{is_one_of}
-use Rattle.smv_meaning.specs.NameMap.{named}
+use Rattle.smv_instances.specs.NameMap.{named}
 use Rattle.smv_meaning.specs.Checks.{first_failing}
 use Rattle.smv_meaning.specs.Phases.{counted, declared_checks, counted_all}
 use Rattle.smv_names.specs.View.{declared_plain, names_above}

@@ -2,7 +2,7 @@ use Rattle.std.proofs.Common.{ℕ, ◌+◌, drop, map, length, ap, arith, length
 use Rattle.std.specs.Prelude.{flat_map}
 use Rattle.smv_meaning.specs.Phases.{element_invariants, over_instances}
 use Rattle.smv_meaning.specs.Instances.{Instance}
-use Rattle.smv_meaning.specs.View.{instance_plain}
+use Rattle.smv_instances.specs.View.{instance_plain}
 use Rattle.smv_names.proofs.Lists.{front_is}
 use Rattle.smv_names.proofs.invariants.invariants_checked.Goals as goal
 

@@ -1,7 +1,7 @@
 use Rattle.std.proofs.Common.{◌≡◌, ◌+◌, ◌-◌, drop, map, length}
 use Rattle.std.specs.Prelude.{flat_map}
 use Rattle.smv_meaning.specs.Phases.{element_invariants, invariants_in, over_instances}
-use Rattle.smv_meaning.specs.View.{instance_plain}
+use Rattle.smv_instances.specs.View.{instance_plain}
 use Rattle.smv_names.proofs.invariants.invariants_checked.Given as goal
 
 abbrev pub invariant-loop-i : goal.invariant-loop-i

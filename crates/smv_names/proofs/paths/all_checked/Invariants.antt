@@ -2,7 +2,8 @@ use Rattle.std.proofs.Common.{◌≡◌, drop, map}
 use Rattle.smv_meaning.specs.Names.{found_in}
 use Rattle.smv_meaning.specs.Checks.{first_failing}
 use Rattle.smv_meaning.specs.Phases.{path_check}
-use Rattle.smv_meaning.specs.View.{instance_plain, path_seen}
+use Rattle.smv_instances.specs.View.{instance_plain}
+use Rattle.smv_references.specs.View.{path_seen}
 use Rattle.smv_names.proofs.paths.all_checked.Given as goal
 
 abbrev pub invariant-loop-k : goal.invariant-loop-k

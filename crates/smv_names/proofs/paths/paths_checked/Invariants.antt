@@ -2,7 +2,7 @@ use Rattle.std.proofs.Common.{◌≡◌, drop, map}
 use Rattle.smv_meaning.specs.Names.{found_in}
 use Rattle.smv_meaning.specs.Checks.{first_failing}
 use Rattle.smv_meaning.specs.Phases.{path_checks, over_instances}
-use Rattle.smv_meaning.specs.View.{instance_plain}
+use Rattle.smv_instances.specs.View.{instance_plain}
 use Rattle.smv_names.proofs.paths.paths_checked.Given as goal
 
 abbrev pub invariant-loop-i : goal.invariant-loop-i

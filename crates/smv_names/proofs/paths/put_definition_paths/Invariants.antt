@@ -1,7 +1,7 @@
 use Rattle.std.proofs.Common.{◌≡◌, ◌++◌, drop, map}
 use Rattle.std.specs.Prelude.{flat_map}
 use Rattle.smv_text.specs.View.{plain_definition}
-use Rattle.smv_meaning.specs.View.{path_seen}
+use Rattle.smv_references.specs.View.{path_seen}
 use Rattle.smv_names.specs.Paths.{definition_paths}
 use Rattle.smv_names.proofs.paths.put_definition_paths.Given as goal
 

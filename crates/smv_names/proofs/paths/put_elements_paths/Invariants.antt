@@ -2,7 +2,7 @@ use Rattle.std.proofs.Common.{◌≡◌, ◌++◌, drop, map}
 use Rattle.std.specs.Prelude.{flat_map}
 use Rattle.smv_text.specs.View.{plain_element}
 use Rattle.smv_meaning.specs.Phases.{element_paths}
-use Rattle.smv_meaning.specs.View.{path_seen}
+use Rattle.smv_references.specs.View.{path_seen}
 use Rattle.smv_names.proofs.paths.put_elements_paths.Given as goal
 
 abbrev pub invariant-loop-k : goal.invariant-loop-k

@@ -1,7 +1,7 @@
 use Rattle.std.proofs.Common.{◌≡◌, drop, map, not}
 use Rattle.smv_meaning.specs.Names.{has_symbol}
 use Rattle.smv_meaning.specs.Checks.{check, first_failing}
-use Rattle.smv_meaning.specs.View.{instance_plain}
+use Rattle.smv_instances.specs.View.{instance_plain}
 use Rattle.smv_names.specs.View.{declared_plain}
 use Rattle.smv_names.proofs.sizes.symbol_failing.Given as goal
 

@@ -1,7 +1,7 @@
 use Rattle.std.proofs.Common.{◌≡◌, map, drop}
 use Rattle.std.specs.List.{list_all}
 use Rattle.smv_meaning.specs.Types.{logical_fits}
-use Rattle.smv_types.specs.View.{seen}
+use Rattle.smv_intervals.specs.View.{seen}
 use Rattle.smv_types.proofs.lists.all_fit.Given as goal
 
 abbrev pub invariant-loop-u : goal.invariant-loop-u

@@ -1,6 +1,6 @@
 use Rattle.std.proofs.Common.{◌≡◌, ◌++◌, map, drop, option_map}
 use Rattle.smv_meaning.specs.Checks.{all_types}
-use Rattle.smv_types.specs.View.{seen}
+use Rattle.smv_intervals.specs.View.{seen}
 use Rattle.smv_types.proofs.lists.all_types.Given as goal
 
 abbrev pub invariant-loop-t : goal.invariant-loop-t

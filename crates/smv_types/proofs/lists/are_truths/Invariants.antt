@@ -1,7 +1,7 @@
 use Rattle.std.proofs.Common.{◌≡◌, map, drop}
 use Rattle.std.specs.List.{list_all}
 use Rattle.smv_meaning.specs.Types.{is_truth_type}
-use Rattle.smv_types.specs.View.{seen}
+use Rattle.smv_intervals.specs.View.{seen}
 use Rattle.smv_types.proofs.lists.are_truths.Given as goal
 
 abbrev pub invariant-loop-t : goal.invariant-loop-t

@@ -1,6 +1,6 @@
 use Rattle.std.proofs.Common.{◌≡◌, map, drop}
 use Rattle.smv_meaning.specs.Types.{hull_with}
-use Rattle.smv_types.specs.View.{seen}
+use Rattle.smv_intervals.specs.View.{seen}
 use Rattle.smv_types.proofs.lists.hull_with.Given as goal
 
 abbrev pub invariant-loop-u : goal.invariant-loop-u

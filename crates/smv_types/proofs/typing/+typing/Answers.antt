@@ -3,7 +3,8 @@ use Rattle.smv_text.specs.Tree.{links_of, branches_of, trees_of}
 use Rattle.smv_text.specs.View.{plain, plain_link, plain_branch}
 use Rattle.smv_meaning.specs.Types.{numbers_of}
 use Rattle.smv_meaning.specs.Checks.{typing, single, linked, tree_checks, tree_types, link_checks, link_types, branch_checks, condition_types, value_types, all_types, under_next, first_failing}
-use Rattle.smv_types.specs.View.{seen, standing_seen}
+use Rattle.smv_intervals.specs.View.{seen}
+use Rattle.smv_types.specs.View.{standing_seen}
 use Rattle.smv_types.specs.Outcome.{outcome, Ends}
 use Rattle.smv_types.specs.Steps.{passed, prefix_step, select_step, next_step, call_step, set_step, implies_step, branches_step, front_step}
 use Rattle.smv_types.proofs.Composing.{over, passed_operand}

@@ -2,7 +2,8 @@ use Rattle.std.proofs.Common.{◌≡◌, ◌++◌, ◌∷◌, [], IsTrue, map, d
 use Rattle.smv_text.specs.Tree.{links_of, branches_of, trees_of}
 use Rattle.smv_text.specs.View.{plain, plain_link, plain_branch}
 use Rattle.smv_meaning.specs.Checks.{single, linked, tree_checks, tree_types, link_checks, link_types, branch_checks, condition_types, value_types, first_failing}
-use Rattle.smv_types.specs.View.{seen, standing_seen}
+use Rattle.smv_intervals.specs.View.{seen}
+use Rattle.smv_types.specs.View.{standing_seen}
 use Rattle.smv_types.specs.Outcome.{outcome, links_known, branches_known, trees_known}
 use Rattle.smv_types.specs.Steps.{passed}
 use Rattle.smv_types.proofs.typing.+typing.Given as goal

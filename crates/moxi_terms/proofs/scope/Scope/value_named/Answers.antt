@@ -8,8 +8,8 @@ use Rattle.moxi_terms.specs.declared.data.Sort.TheVariants.{Truth, Choice}
 use Rattle.moxi_terms.specs.declared.names.Meaning.TheVariants as meaning
 use Rattle.moxi_terms.specs.View.{ScopeState, plain_function}
 use Rattle.moxi_terms.specs.Names.{constant_named}
-use Rattle.moxi_terms.specs.Reading.{value_named}
-use Rattle.moxi_terms.proofs.FindingLaws.{index_read}
+use Rattle.moxi_terms.specs.Meanings.{value_named}
+use Rattle.moxi_terms.proofs.PlaceLaws.{index_read}
 use Rattle.moxi_terms.proofs.ScopeLaws.{constant_read}
 use Rattle.moxi_terms.proofs.scope.Scope.value_named.Goals as goal
 

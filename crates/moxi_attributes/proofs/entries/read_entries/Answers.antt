@@ -1,0 +1,21 @@
+use Rattle.std.proofs.Common.{ap}
+use Rattle.moxi_scripts.specs.Entries.{entries_failures, entries_of}
+use Rattle.moxi_attributes.proofs.Collecting.{also_end, also_step, list_step}
+use Rattle.moxi_scripts.proofs.Forms.{forms_end, forms_step}
+use Rattle.moxi_attributes.proofs.entries.read_entries.Goals as goal
+
+pub loop-form-preserved : goal.loop-form-preserved
+loop-form-preserved c =
+    let l = c.loop-form in
+    let a = c.args in
+    let e = forms_step a.forms.now l.form-index c.form-item.result c.loop-form-test.true c.form-item.is in
+    record {
+      adds = list_step _ _ _ _ _ _ c.in_ok-read_entry.ensures.adds (ap (entries_of a.scope.now) e) l.invariant.adds;
+      finds = also_step _ _ _ _ _ _ c.in_ok-read_entry.ensures.finds (ap (entries_failures a.scope.now a.around) e) l.invariant.finds;
+    }
+
+pub returns-clause-finds : goal.returns-clause-finds
+returns-clause-finds c =
+    let l = c.loop-form in
+    let a = c.args in
+    also_end _ _ _ (ap (entries_failures a.scope.now a.around) (forms_end a.forms.now l.form-index c.loop-form-test.false)) l.invariant.finds

@@ -1,0 +1,196 @@
+// Lists of variables.
+ghost use Rattle.std.specs.Prelude.{◌≡◌, ◌++◌, ◌∷◌, [], OnOk, IfOk};
+ghost use Rattle.moxi_sexpr.specs.Tree.{plain, plain_forms};
+ghost use Rattle.moxi_scripts.specs.Collecting.{also};
+ghost use Rattle.moxi_scripts.specs.Declarations.{clash_failures};
+ghost use Rattle.moxi_scripts.specs.Entries.{entries_failures, entries_of, entry_failures, entry_of, known_sort, locals_among, names_after, names_with, sort_failures, twice_failures, twice_tests, variable_of, variables_of};
+
+use crate::collect::{fail, fail_if, fail_primed, note, refuse};
+use crate::shapes::{misshapen, named_form, place_of};
+use moxi_scripts::{Declared, Entries};
+use moxi_sexpr::Form;
+use moxi_sorts::{Locals, sort_of};
+use moxi_terms::{Numbering, Scope, Sort, Variable, Variables};
+use std::alloc::Global;
+use text_core::{Items, Name, NoMemory, Place, Refusal};
+
+/// The test of a sort.
+#[tactic(auto, using(crate::proofs::Collecting::also_none))]
+pub fn note_sort(found: &mut Option<Refusal>, sort: Result<Sort, Refusal>)
+    ensures { found.new ≡ also found.old (sort_failures sort) }
+{
+    match sort {
+        Ok(_) => {}
+        Err(f) => refuse(found, f),
+    }
+}
+
+/// The sort, where it is known.
+pub fn known_sort(sort: Result<Sort, Refusal>) -> Option<Sort>
+    ensures { result ≡ known_sort sort }
+{
+    match sort {
+        Ok(s) => Some(s),
+        Err(_) => None,
+    }
+}
+
+// An entry of a list at `around`.
+#[tactic(auto, using(crate::proofs::Collecting::also_append))]
+fn read_entry(
+    alloc: Global,
+    scope: &Scope,
+    around: Place,
+    form: &Form,
+    all: &mut Entries,
+    found: &mut Option<Refusal>,
+) -> Result<(), NoMemory>
+    ensures adds { OnOk result (all.new ≡ all.old ++ entry_of scope.now (plain form.now)) }
+    ensures finds { OnOk result (found.new ≡ also found.old (entry_failures scope.now around (plain form.now))) }
+{
+    match named_form(form) {
+        None => {
+            refuse(found, misshapen(around, form));
+            Ok(())
+        }
+        Some(n) => {
+            let sort = sort_of(scope, place_of(form), n.form);
+            fail_primed(found, n.primed, n.place);
+            note_sort(found, sort);
+            all.push(Declared {
+                name: Name::of(alloc, n.name)?,
+                place: n.place,
+                sort: known_sort(sort),
+            })?;
+            Ok(())
+        }
+    }
+}
+
+/// The variables of a list at `around`.
+#[tactic(auto, using(crate::proofs::Collecting::also_append, moxi_scripts::proofs::Forms::forms_step, moxi_scripts::proofs::Forms::forms_end))]
+pub fn read_entries(
+    alloc: Global,
+    scope: &Scope,
+    around: Place,
+    forms: &[Form],
+    all: &mut Entries,
+    found: &mut Option<Refusal>,
+) -> Result<(), NoMemory>
+    ensures adds { OnOk result (all.new ≡ all.old ++ entries_of scope.now (plain_forms forms.now)) }
+    ensures finds { OnOk result (found.new ≡ also found.old (entries_failures scope.now around (plain_forms forms.now))) }
+{
+    for form in forms {
+        read_entry(alloc, scope, around, form, all, found)?;
+    }
+    Ok(())
+}
+
+// One more name of its list; a name that stands among those before fails.
+#[tactic(auto, using(crate::proofs::Collecting::also_none))]
+fn test_twice_one(
+    alloc: Global,
+    names: &mut Numbering,
+    entry: &Declared,
+    found: &mut Option<Refusal>,
+) -> Result<(), NoMemory>
+    ensures names { OnOk result (names.new ≡ names_with names.old entry.now.name) }
+    ensures finds { OnOk result (found.new ≡ also found.old (twice_tests names.old entry.now)) }
+{
+    if !names.declare(alloc, entry.name.bytes())? {
+        fail(found, 9, entry.place);
+    }
+    Ok(())
+}
+
+/// The tests of names that are declared twice: among these names, or in the list itself.
+pub fn test_twice(
+    alloc: Global,
+    names: &mut Numbering,
+    entries: &Entries,
+    found: &mut Option<Refusal>,
+) -> Result<(), NoMemory>
+    ensures names { OnOk result (names.new ≡ names_after names.old entries.now) }
+    ensures finds { OnOk result (found.new ≡ also found.old (twice_failures names.old entries.now)) }
+{
+    for i in 0..entries.len() {
+        test_twice_one(alloc, names, entries.at(i), found)?;
+    }
+    Ok(())
+}
+
+/// The variables, found by their names.
+pub fn locals_among(alloc: Global, entries: &Entries) -> Result<Locals, NoMemory>
+    ensures { IfOk result (λ l. l ≡ locals_among entries.now) }
+{
+    let mut locals = Locals::new(alloc);
+    if entries.len() > u32::MAX as usize {
+        return Err(NoMemory);
+    }
+    for i in 0..entries.len() {
+        let entry = entries.at(i);
+        locals.add(Name::of(alloc, entry.name.bytes())?, entry.sort)?;
+    }
+    Ok(locals)
+}
+
+/// The variables that have a sort.
+pub fn variables_of(alloc: Global, entries: &Entries) -> Result<Variables, NoMemory>
+    ensures { IfOk result (λ vs. vs ≡ variables_of entries.now) }
+{
+    let mut variables = Variables::new(alloc);
+    for i in 0..entries.len() {
+        let entry = entries.at(i);
+        add_variable(alloc, entry.name.bytes(), entry.sort, &mut variables)?;
+    }
+    Ok(variables)
+}
+
+fn add_variable(
+    alloc: Global,
+    name: &[u8],
+    sort: Option<Sort>,
+    variables: &mut Variables,
+) -> Result<(), NoMemory>
+    ensures { OnOk result (variables.new ≡ variables.old ++ variable_of name.now sort) }
+{
+    match sort {
+        None => Ok(()),
+        Some(sort) => {
+            variables.push(Variable {
+                name: Name::of(alloc, name)?,
+                sort,
+            })?;
+            Ok(())
+        }
+    }
+}
+
+/// Adds entries at the end.
+pub fn append(alloc: Global, all: &mut Entries, more: &Entries) -> Result<(), NoMemory>
+    ensures { OnOk result (all.new ≡ all.old ++ more.now) }
+{
+    for i in 0..more.len() {
+        let entry = more.at(i);
+        all.push(Declared {
+            name: Name::of(alloc, entry.name.bytes())?,
+            place: entry.place,
+            sort: entry.sort,
+        })?;
+    }
+    Ok(())
+}
+
+/// The test of two sorts at p, where both are known.
+#[tactic(auto, using(crate::proofs::Collecting::also_none))]
+pub fn test_clash(found: &mut Option<Refusal>, a: Option<Sort>, b: Option<Sort>, p: Place)
+    ensures { found.new ≡ also found.old (clash_failures a b p) }
+{
+    match a {
+        None => {}
+        Some(s) => match b {
+            None => {}
+            Some(t) => fail_if(found, s != t, 5, p),
+        },
+    }
+}

@@ -1,0 +1,108 @@
+// The three lists of variables of a system or a check.
+ghost use Rattle.std.specs.Prelude.{◌≡◌, ◌++◌, IfOk, OnOk};
+ghost use Rattle.moxi_sexpr.specs.Tree.{plain_forms};
+ghost use Rattle.moxi_attributes.specs.Views.{value_now};
+ghost use Rattle.moxi_scripts.specs.Attributes.{value_of};
+ghost use Rattle.moxi_scripts.specs.declared.parts.Key.TheVariants as keys;
+ghost use Rattle.moxi_scripts.specs.declared.parts.Turn.TheVariants as turns;
+ghost use Rattle.moxi_scripts.specs.Collecting.{also};
+ghost use Rattle.moxi_scripts.specs.Declarations.{is_nil};
+ghost use Rattle.moxi_scripts.specs.Lists.{all_entries, list_of, listed_entries, listed_failures, lists_failures};
+
+use crate::attributes::value_of;
+use crate::collect::{is_nothing, note};
+use crate::entries::{append, read_entries, test_twice};
+use crate::shapes::{parts_of, place_of};
+use moxi_scripts::{Command, DeclaredList, Entries, Key, Lists};
+use moxi_sexpr::Form;
+use moxi_terms::{Numbering, Scope};
+use std::alloc::Global;
+use text_core::{NoMemory, Refusal};
+
+// The entries of a list, where it is there.
+#[tactic(auto, using(crate::proofs::Collecting::also_none, crate::proofs::Collecting::nothing_more))]
+fn read_entries_of(
+    alloc: Global,
+    scope: &Scope,
+    value: Option<&Form>,
+    entries: &mut Entries,
+    found: &mut Option<Refusal>,
+) -> Result<(), NoMemory>
+    ensures adds { OnOk result (entries.new ≡ entries.old ++ listed_entries scope.now (value_now value.entry)) }
+    ensures finds { OnOk result (found.new ≡ also found.old (listed_failures scope.now (value_now value.entry))) }
+{
+    match value {
+        None => Ok(()),
+        Some(form) => match parts_of(form) {
+            None => Ok(()),
+            Some(parts) => {
+                read_entries(alloc, scope, place_of(form), parts, entries, found)?;
+                Ok(())
+            }
+        },
+    }
+}
+
+// The list that is the value of a key.
+fn read_list(
+    alloc: Global,
+    scope: &Scope,
+    command: Command,
+    k: Key,
+    forms: &[Form],
+    found: &mut Option<Refusal>,
+) -> Result<DeclaredList, NoMemory>
+    ensures list { IfOk result (λ l. l ≡ list_of scope.now (value_of command k turns.AtKeyword (plain_forms forms.now))) }
+    ensures finds { OnOk result (found.new ≡ also found.old (listed_failures scope.now (value_of command k turns.AtKeyword (plain_forms forms.now)))) }
+{
+    let mut entries = Entries::new(alloc);
+    let mut own = None;
+    read_entries_of(
+        alloc,
+        scope,
+        value_of(command, k, forms),
+        &mut entries,
+        &mut own,
+    )?;
+    note(found, own);
+    Ok(DeclaredList {
+        entries,
+        whole: is_nothing(own),
+    })
+}
+
+/// The variables of all lists: inputs, outputs, locals.
+#[tactic(auto, using(crate::proofs::Collecting::joined))]
+pub fn all_entries(alloc: Global, lists: &Lists) -> Result<Entries, NoMemory>
+    ensures { IfOk result (λ all. all ≡ all_entries lists.now) }
+{
+    let mut all = Entries::new(alloc);
+    append(alloc, &mut all, &lists.inputs.entries)?;
+    append(alloc, &mut all, &lists.outputs.entries)?;
+    append(alloc, &mut all, &lists.locals.entries)?;
+    Ok(all)
+}
+
+/// The lists of a system or a check; of two variables with one name the second fails.
+#[tactic(auto, using(crate::proofs::Collecting::also_append))]
+pub fn read_lists(
+    alloc: Global,
+    scope: &Scope,
+    command: Command,
+    forms: &[Form],
+    found: &mut Option<Refusal>,
+) -> Result<Lists, NoMemory>
+    ensures inputs { IfOk result (λ l. l.inputs ≡ list_of scope.now (value_of command keys.Input turns.AtKeyword (plain_forms forms.now))) }
+    ensures outputs { IfOk result (λ l. l.outputs ≡ list_of scope.now (value_of command keys.Output turns.AtKeyword (plain_forms forms.now))) }
+    ensures locals { IfOk result (λ l. l.locals ≡ list_of scope.now (value_of command keys.Local turns.AtKeyword (plain_forms forms.now))) }
+    ensures finds { OnOk result (found.new ≡ also found.old (lists_failures scope.now command (plain_forms forms.now))) }
+{
+    let inputs = read_list(alloc, scope, command, Key::Input, forms, found)?;
+    let outputs = read_list(alloc, scope, command, Key::Output, forms, found)?;
+    let locals = read_list(alloc, scope, command, Key::Local, forms, found)?;
+    Ok(Lists {
+        inputs,
+        outputs,
+        locals,
+    })
+}

@@ -1,0 +1,15 @@
+pub mod Words
+pub mod Formulas
+pub mod Form
+pub mod Trees
+pub mod Forming
+pub mod Truths
+pub mod Lines
+pub mod Stands
+pub mod Headline
+pub mod Matching
+pub mod Translation
+pub mod Outcome
+pub mod Stop
+pub mod Sinks
+pub mod Notes

@@ -1,0 +1,86 @@
+// The top call: reads the words, does what they say, and writes.
+ghost use Rattle.std.specs.Prelude.{◌≡◌, ◌≢◌, ◌⊎◌, ◌<◌, ◌≤◌, map, string_bytes, None, Some, IfSome, List, ℕ};
+ghost use Rattle.text_core.specs.Outside.{file_at, grown, Rose};
+ghost use Rattle.smv_text.specs.Tree.{PlainSource};
+ghost use Rattle.moxi_commands.specs.declared.words.Command.{Command};
+ghost use Rattle.moxi_commands.specs.Translation.{Accepts, TranslatesTo};
+ghost use Rattle.moxi_commands.specs.Words.{command_of};
+ghost use Rattle.moxi_commands.specs.declared.answer.Answer.{Answer};
+ghost use Rattle.text_core.specs.declared.place.Refusal.{Refusal};
+ghost use Rattle.text_core.specs.declared.verdict.Clause.{Clause};
+ghost use Rattle.moxi_commands.specs.Outcome.{IsOutcome, IsAbsent, Serves, status_of, text_of};
+ghost use Rattle.moxi_commands.specs.Sinks.{IsPart};
+
+use crate::answer::answer_words;
+use crate::notes::{deliver, note};
+use crate::status::Status;
+use std::alloc::Global;
+use text_core::{NoMemory, Shelf, Sink};
+
+/// Does what the words say. `words` are the command words without the program's name.
+pub fn run<F: Shelf, K: Sink, N: Sink>(
+    alloc: Global,
+    words: &Vec<String>,
+    shelf: &mut F,
+    out: &mut K,
+    notes: &mut N,
+) -> Status
+    // For every accepted model that the file spells, where nothing fails: the text that was written spells one list of
+    // lines, and for each invariant j and each number k the model has a run of k transitions whose last state breaks the
+    // invariant exactly where the lines have frames 0 to k with every constraint true and bad line j true in frame k. Runs
+    // and what they break are those of the whole language.
+    ensures translates { IfSome (F.files shelf.old) (λ files. (model bytes : List ℕ) (source : PlainSource)
+        → command_of (map string_bytes words.now.items) ≡ Some (Command.SmvToBtor model) → file_at files model ≡ Some bytes → Accepts bytes source
+        → ¬ Rose (F.faults shelf.old) (F.faults shelf.new) → ¬ Rose (K.faults out.old) (K.faults out.new) → ¬ Rose (N.faults notes.old) (N.faults notes.new)
+        → result ≢ Status.NoMemory
+        → (result ≡ Status.Done) × ((text : List ℕ) × (K.taken out.new ≡ grown (K.taken out.old) text) × TranslatesTo source text)) }
+
+    // The same of every text that was written whole.
+    ensures served { result ≡ Status.Done → IfSome (F.files shelf.old) (λ files.
+        Serves (command_of (map string_bytes words.now.items)) files (K.taken out.old) (K.taken out.new)) }
+
+    // The whole defined text was taken.
+    ensures done { result ≡ Status.Done → IfSome (F.files shelf.old) (λ files. (answer : Answer)
+        × IsOutcome (map string_bytes words.now.items) files answer × (status_of answer ≡ Status.Done) × (K.taken out.new ≡ grown (K.taken out.old) (text_of answer))) }
+
+    // The judge denies the stated run as it is defined.
+    ensures no { result ≡ Status.No → IfSome (F.files shelf.old) (λ files. (step : ℕ) × (clause : Clause)
+        × IsOutcome (map string_bytes words.now.items) files (Answer.Denies step clause)) }
+
+    // The model is refused as it is defined.
+    ensures refused { result ≡ Status.Refused → IfSome (F.files shelf.old) (λ files. (refusal : Refusal)
+        × IsOutcome (map string_bytes words.now.items) files (Answer.Refuses refusal)) }
+    ensures second_refused { result ≡ Status.SecondRefused → IfSome (F.files shelf.old) (λ files. (refusal : Refusal)
+        × IsOutcome (map string_bytes words.now.items) files (Answer.SecondRefuses refusal)) }
+    ensures usage { result ≡ Status.Usage → command_of (map string_bytes words.now.items) ≡ None }
+
+    // Each fault has its cause.
+    ensures read_fault { result ≡ Status.ReadFault
+        → Rose (F.faults shelf.old) (F.faults shelf.new) ⊎ IsAbsent (F.files shelf.old) (command_of (map string_bytes words.now.items)) }
+    ensures write_fault { result ≡ Status.WriteFault
+        → Rose (K.faults out.old) (K.faults out.new) ⊎ Rose (N.faults notes.old) (N.faults notes.new) }
+
+    // `out` took nothing, or a front of the defined text.
+    ensures untouched { result ≢ Status.Done → result ≢ Status.WriteFault → K.taken out.new ≡ K.taken out.old }
+    ensures prefix { result ≡ Status.WriteFault → IfSome (F.files shelf.old) (λ files. (answer : Answer)
+        → IsOutcome (map string_bytes words.now.items) files answer → IsPart (K.taken out.old) (K.taken out.new) (text_of answer)) }
+
+    // No fault is passed over.
+    ensures shelf_rose { F.faults shelf.old < F.faults shelf.new
+        → (result ≡ Status.ReadFault) ⊎ (result ≡ Status.WriteFault) ⊎ (result ≡ Status.NoMemory) }
+    ensures absent { IsAbsent (F.files shelf.old) (command_of (map string_bytes words.now.items))
+        → (result ≡ Status.ReadFault) ⊎ (result ≡ Status.WriteFault) ⊎ (result ≡ Status.NoMemory) }
+    ensures out_rose { K.faults out.old < K.faults out.new → result ≡ Status.WriteFault }
+    ensures notes_rose { N.faults notes.old < N.faults notes.new → result ≡ Status.WriteFault }
+
+    // Where no count rose, the status is that of the defined answer, but for want of memory.
+    ensures complete { IfSome (F.files shelf.old) (λ files.
+        ¬ Rose (F.faults shelf.old) (F.faults shelf.new) → ¬ Rose (K.faults out.old) (K.faults out.new) → ¬ Rose (N.faults notes.old) (N.faults notes.new)
+        → (answer : Answer) → IsOutcome (map string_bytes words.now.items) files answer
+        → (result ≡ status_of answer) ⊎ (result ≡ Status.NoMemory)) }
+{
+    match answer_words(alloc, words, shelf) {
+        Ok(answer) => deliver(&answer, out, notes),
+        Err(NoMemory) => note(notes, &[b"no memory\n"], Status::NoMemory),
+    }
+}

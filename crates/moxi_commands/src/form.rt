@@ -1,0 +1,220 @@
+// The models that are translated today, from their trees.
+ghost use Rattle.std.specs.Prelude.{◌≡◌, ◌<◌, ◌≤◌, ◌^◌, ◌-◌, [], length, map, option_map, IfOk, IfSome};
+ghost use Rattle.smv_text.specs.View.{plain as plain_tree, plain_link, plain_item, plain_element, plain_module, plain_source, plain_domain};
+ghost use Rattle.smv_text.specs.Tree.{links_of};
+ghost use Rattle.moxi_commands.specs.Trees.{plain, source_of, formulas_of as formulas_from};
+ghost use Rattle.moxi_commands.specs.Forming.{Is};
+ghost use Rattle.moxi_commands.specs.Form.{form_of, formula_of, formulas_of, variable_of, names_of, is_boolean, is_declared_after, items_of, invariant_of, parts_of, elements_of, operand_of, few_items};
+
+use crate::declared::Declared;
+use crate::formula::{Formula, Source};
+use smv_text::{
+    Domain, Element, Expr, Infix, Item, Items, Link, Module, Modules, Path, Prefix, Shape, VarKind,
+};
+use std::alloc::{AllocError, AllocFailed, Global};
+use text_core::{Name, Names, NoMemory};
+
+const MOST_BYTES: usize = 1000;
+
+/// Why there is no formula.
+#[derive(Debug, Drop)]
+enum Stop {
+    /// The expression has another form.
+    Other,
+    NoMemory,
+}
+
+impl From<AllocError> for Stop {
+    ghost use Rattle.std.specs.Prelude.{◌≡◌};
+    ghost use Rattle.moxi_commands.specs.declared.form.Stop.TheVariants.{NoMemory};
+
+    ghost from_gives = { λ _ e. e ≡ NoMemory };
+
+    fn from(_: AllocError) -> Stop {
+        Stop::NoMemory
+    }
+}
+
+impl<T: Drop> From<AllocFailed<T>> for Stop {
+    ghost use Rattle.std.specs.Prelude.{◌≡◌};
+    ghost use Rattle.moxi_commands.specs.declared.form.Stop.TheVariants.{NoMemory};
+
+    ghost from_gives = { λ _ e. e ≡ NoMemory };
+
+    fn from(_: AllocFailed<T>) -> Stop {
+        Stop::NoMemory
+    }
+}
+
+/// The model of the first grammar that a tree is, if it is one.
+pub fn form_of(alloc: Global, source: &smv_text::Source) -> Result<Option<Source>, NoMemory>
+    requires few { few_items (plain_source source.now) }
+    ensures { IfOk result (λ o. option_map source_of o ≡ form_of (plain_source source.now)) }
+{
+    let Some(elements) = elements_of(&source.modules) else {
+        return Ok(None);
+    };
+    let Some((items, invariant)) = parts_of(elements) else {
+        return Ok(None);
+    };
+    let Some((names, declared)) = names_of(alloc, items)? else {
+        return Ok(None);
+    };
+    if names.len() == 0 {
+        return Ok(None);
+    }
+    match formula_of(alloc, &declared, invariant) {
+        Ok(invariant) => Ok(Some(Source { names, invariant })),
+        Err(Stop::Other) => Ok(None),
+        Err(Stop::NoMemory) => Err(NoMemory),
+    }
+}
+
+// The sections of the one module.
+fn elements_of(modules: &Modules) -> Option<&smv_text::Elements>
+    ensures { option_map (λ es. map plain_element es.now) result ≡ elements_of (map plain_module modules.now) }
+{
+    if modules.len() != 1 {
+        return None;
+    }
+    let module = modules.at(0);
+    if module.name.bytes() == b"main".as_slice() && module.parameters.len() == 0 {
+        Some(&module.elements)
+    } else {
+        None
+    }
+}
+
+// The variables and the invariant of two sections.
+fn parts_of(elements: &smv_text::Elements) -> Option<(&Items, &Expr)>
+    ensures { option_map (λ p. (map plain_item p.0.now, plain_tree p.1.now)) result ≡ parts_of (map plain_element elements.now) }
+{
+    if elements.len() != 2 {
+        return None;
+    }
+    let items = items_of(elements.at(0))?;
+    let invariant = invariant_of(elements.at(1))?;
+    Some((items, invariant))
+}
+
+fn items_of(element: &Element) -> Option<&Items>
+    ensures { option_map (λ is. map plain_item is.now) result ≡ items_of (plain_element element.now) }
+{
+    match element {
+        Element::Vars(kind, items) => match kind {
+            VarKind::State => Some(items),
+            VarKind::Input => None,
+            VarKind::Frozen => None,
+        },
+        _ => None,
+    }
+}
+
+fn invariant_of(element: &Element) -> Option<&Expr>
+    ensures { option_map (λ e. plain_tree e.now) result ≡ invariant_of (plain_element element.now) }
+{
+    match element {
+        Element::Spec(name, body) => match name {
+            None => Some(body),
+            Some(_) => None,
+        },
+        _ => None,
+    }
+}
+
+fn is_boolean(domain: &Domain) -> bool
+    ensures { result ≡ is_boolean (plain_domain domain.now) }
+{
+    match domain {
+        Domain::Boolean => true,
+        _ => false,
+    }
+}
+
+// The names of these variables, as a list and by their bytes.
+fn names_of(alloc: Global, items: &Items) -> Result<Option<(Names, Declared)>, NoMemory>
+    requires few { length items.now < 2 ^ 32 - 1 }
+    ensures names { IfOk result (λ o. option_map (λ x. x.0) o ≡ names_of [] (map plain_item items.now)) }
+    ensures same { IfOk result (λ o. IfSome o (λ x. x.1 ≡ x.0)) }
+{
+    let mut names = Names::new(alloc);
+    let mut declared = Declared::new(alloc);
+    for i in 0..items.len() {
+        let item = items.at(i);
+        let name = item.name.bytes();
+        if !is_boolean(&item.domain) || name.len() > MOST_BYTES {
+            return Ok(None);
+        }
+        if !declared.declare(alloc, name)? {
+            return Ok(None);
+        }
+        names.push(Name::of(alloc, name)?)?;
+    }
+    Ok(Some((names, declared)))
+}
+
+// The variable that a path names.
+fn variable_of(declared: &Declared, path: &Path) -> Result<Formula, Stop>
+    ensures { Is plain result (variable_of declared.now path.now) }
+{
+    if path.from_self || path.names.len() != 1 {
+        return Err(Stop::Other);
+    }
+    match declared.number_of(path.names.at(0).bytes()) {
+        Some(number) => Ok(Formula::Variable(number)),
+        None => Err(Stop::Other),
+    }
+}
+
+// The formula that an expression is.
+#[cycle(formula)]
+fn formula_of(alloc: Global, declared: &Declared, expr: &Expr) -> Result<Formula, Stop>
+    ensures { Is plain result (formula_of declared.now (plain_tree expr.now)) }
+{
+    match &expr.shape {
+        Shape::Name(path) => variable_of(declared, path),
+        Shape::Prefix(prefix, count, inner) => match prefix {
+            Prefix::Minus => Err(Stop::Other),
+            Prefix::Not => {
+                let operand = formula_of(alloc, declared, inner)?;
+                Ok(Formula::Not(*count, Box::new(alloc, operand)?))
+            }
+        },
+        Shape::Chain(first, links) => {
+            let first = formula_of(alloc, declared, first)?;
+            let others = formulas_of(alloc, declared, links)?;
+            Ok(Formula::And(Box::new(alloc, first)?, others))
+        }
+        _ => Err(Stop::Other),
+    }
+}
+
+// The operand of one link, where its operator is `&`.
+#[cycle(formula)]
+fn operand_of(alloc: Global, declared: &Declared, link: &Link) -> Result<Formula, Stop>
+    ensures { Is plain result (operand_of (plain_link link.now).0 (formula_of declared.now (plain_link link.now).1)) }
+{
+    match link.op {
+        Infix::And => formula_of(alloc, declared, &link.operand),
+        _ => Err(Stop::Other),
+    }
+}
+
+// The further operands of a chain.
+#[cycle(formula)]
+fn formulas_of(alloc: Global, declared: &Declared, links: &[Link]) -> Result<Vec<Formula>, Stop>
+    ensures { Is (λ fs. formulas_from (map plain fs.items)) result (formulas_of declared.now (links_of (map plain_link links.now))) }
+{
+    let mut others = Vec::new(alloc);
+    let mut rest = links;
+    'links: loop {
+        let Some((link, more)) = rest.split_first() else {
+            return Ok(others);
+        };
+        match operand_of(alloc, declared, link) {
+            Ok(operand) => others.push(operand)?,
+            Err(stop) => return Err(stop),
+        }
+        rest = more;
+    }
+}

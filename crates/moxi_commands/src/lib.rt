@@ -1,0 +1,19 @@
+//! What the program does: translates SMV models to BTOR2 texts, and judges witnesses for these.
+#![tactic(auto)]
+
+mod answer;
+mod command;
+mod declared;
+mod form;
+mod formula;
+mod judge;
+mod lines;
+mod notes;
+mod status;
+mod translate;
+mod words;
+
+pub use answer::Answer;
+pub use command::run;
+pub use status::Status;
+pub use words::Command;

@@ -1,0 +1,194 @@
+// From the bytes of a model to its BTOR2 text.
+ghost use Rattle.std.specs.Prelude.{◌≡◌, ◌≤◌, List, ℕ, length, IfOk, IfErr, OnOk};
+ghost use Rattle.moxi_commands.specs.Formulas.{Source as Form, Below};
+ghost use Rattle.smv_text.specs.Tree.{PlainSource};
+ghost use Rattle.btor_tree.specs.declared.lines.TheConstants.{GREATEST_ID};
+ghost use Rattle.moxi_commands.specs.Trees.{plain, source_of};
+ghost use Rattle.moxi_commands.specs.Lines.{line_count};
+ghost use Rattle.smv_text.specs.Bytes.{start, after};
+ghost use Rattle.smv_text.specs.Lexing.{LexesTo};
+ghost use Rattle.smv_text.specs.View.{plain_source};
+ghost use Rattle.smv_meaning.specs.Phases.{IsAccepted};
+ghost use Rattle.moxi_commands.specs.Translation.{Accepts, HasForm, IsCheckEnd, IsFormed, IsModelEnd, IsReadModel, TranslatesTo, btor_text, has_no_brackets, is_section};
+
+use crate::answer::refusal;
+use crate::form::form_of;
+use crate::formula::Source;
+use crate::lines::lines_of;
+use btor_print::print_btor;
+use smv_flatten::accepted;
+use smv_lex::{LexEnd, lex};
+use smv_names::NamesEnd;
+use smv_parse::{ParseEnd, parse};
+use smv_text::{Reserved, Source as Model, Token, TokenKind, Tokens};
+use std::alloc::Global;
+use text_core::{Kind, NoMemory, Refusal, Text};
+
+/// The most bytes that an SMV model may have.
+pub const SMV_LIMIT: usize = 1_048_576;
+
+// The most tokens that a model of the first grammar may have.
+const MOST_TOKENS: usize = 4096;
+
+/// Why a model has no text.
+#[derive(Debug, Drop)]
+pub enum ModelEnd {
+    /// The model is refused.
+    Refused(Refusal),
+    /// Memory ran out.
+    NoMemory,
+}
+
+impl From<NoMemory> for ModelEnd {
+    ghost use Rattle.std.specs.Prelude.{◌≡◌};
+    ghost use Rattle.moxi_commands.specs.declared.translate.ModelEnd.TheVariants as end;
+
+    ghost from_gives = { λ _ e. e ≡ end.NoMemory };
+
+    fn from(_: NoMemory) -> ModelEnd {
+        ModelEnd::NoMemory
+    }
+}
+
+/// The BTOR2 text of the source that the bytes spell, or their refusal.
+pub fn translate(alloc: Global, bytes: &[u8]) -> Result<Text, ModelEnd>
+    requires { length bytes.now ≤ SMV_LIMIT }
+    ensures text { IfOk result (λ text. (form : Form) × HasForm bytes.now form × (text ≡ btor_text form)) }
+    ensures refused { IfErr result (IsModelEnd bytes.now) }
+{
+    let source = read_source(alloc, bytes)?;
+    match text_of(alloc, &source) {
+        Ok(text) => Ok(text),
+        Err(NoMemory) => Err(ModelEnd::NoMemory),
+    }
+}
+
+// The source that the bytes spell. Its tokens are gone when it is there.
+fn read_source(alloc: Global, bytes: &[u8]) -> Result<Source, ModelEnd>
+    requires { length bytes.now ≤ SMV_LIMIT }
+    ensures accepted { IfOk result (λ source. HasForm bytes.now (source_of source)) }
+    ensures refused { IfErr result (IsModelEnd bytes.now) }
+{
+    match lex(alloc, bytes) {
+        Ok(tokens) => source_of_tokens(alloc, bytes, &tokens),
+        Err(LexEnd::Bad(refusal)) => Err(ModelEnd::Refused(refusal)),
+        Err(LexEnd::NoMemory) => Err(ModelEnd::NoMemory),
+    }
+}
+
+// The source that the tokens of the bytes spell.
+fn source_of_tokens(alloc: Global, bytes: &[u8], tokens: &Tokens) -> Result<Source, ModelEnd>
+    requires within { length bytes.now ≤ SMV_LIMIT }
+    requires lexed { LexesTo bytes.now tokens.now.items }
+    requires end { tokens.now.end ≡ after start bytes.now }
+    requires few { length tokens.now.items ≤ length bytes.now }
+    ensures accepted { IfOk result (λ source. HasForm bytes.now (source_of source)) }
+    ensures refused { IfErr result (IsModelEnd bytes.now) }
+{
+    match parse(alloc, tokens) {
+        Ok(model) => source_of_model(alloc, bytes, tokens, &model),
+        Err(ParseEnd::Bad(refusal)) => Err(ModelEnd::Refused(refusal)),
+        Err(ParseEnd::NoMemory) => Err(ModelEnd::NoMemory),
+    }
+}
+
+// The source that the model is, if it is accepted and one of those that are translated today.
+fn source_of_model(
+    alloc: Global,
+    bytes: &[u8],
+    tokens: &Tokens,
+    model: &Model,
+) -> Result<Source, ModelEnd>
+    requires model { IsReadModel bytes.now tokens.now.items (plain_source model.now) }
+    ensures accepted { IfOk result (λ source. HasForm bytes.now (source_of source)) }
+    ensures refused { IfErr result (IsModelEnd bytes.now) }
+{
+    match checked(alloc, model) {
+        Ok(()) => form_of_model(alloc, bytes, tokens, model),
+        Err(end) => Err(end),
+    }
+}
+
+// Does every check of the model hold?
+fn checked(alloc: Global, model: &Model) -> Result<(), ModelEnd>
+    ensures accepted { OnOk result (IsAccepted (plain_source model.now) 0) }
+    ensures refused { IfErr result (IsCheckEnd (plain_source model.now)) }
+{
+    match accepted(alloc, model, 0) {
+        Ok(_) => Ok(()),
+        Err(NamesEnd::Bad(refusal)) => Err(ModelEnd::Refused(refusal)),
+        Err(NamesEnd::NoMemory) => Err(ModelEnd::NoMemory),
+    }
+}
+
+// The source that an accepted model is, if it is one of those that are translated today.
+fn form_of_model(
+    alloc: Global,
+    bytes: &[u8],
+    tokens: &Tokens,
+    model: &Model,
+) -> Result<Source, ModelEnd>
+    requires model { IsReadModel bytes.now tokens.now.items (plain_source model.now) }
+    requires passes { IsAccepted (plain_source model.now) 0 }
+    ensures accepted { IfOk result (λ source. HasForm bytes.now (source_of source)) }
+    ensures refused { IfErr result (IsModelEnd bytes.now) }
+{
+    if tokens.len() > MOST_TOKENS {
+        return Err(ModelEnd::Refused(refusal(Kind::S(29))));
+    }
+    if !has_no_brackets(tokens.as_slice()) {
+        return Err(ModelEnd::Refused(refusal(Kind::S(29))));
+    }
+    match form_of(alloc, model)? {
+        Some(source) => Ok(source),
+        None => Err(ModelEnd::Refused(refusal(Kind::S(29)))),
+    }
+}
+
+// Is the third token the word that begins a section of variables?
+fn has_no_brackets(tokens: &[Token]) -> bool
+    ensures { result ≡ has_no_brackets tokens.now }
+{
+    match tokens {
+        [_, _, third, ..] => is_section(&third.kind),
+        _ => false,
+    }
+}
+
+fn is_section(kind: &TokenKind) -> bool
+    ensures { result ≡ is_section kind.now }
+{
+    match kind {
+        TokenKind::Reserved(word) => match word {
+            Reserved::Var => true,
+            _ => false,
+        },
+        _ => false,
+    }
+}
+
+// The text of a source.
+#[tactic(auto, unfolding(crate::specs::Translation::btor_text))]
+fn text_of(alloc: Global, source: &Source) -> Result<Text, NoMemory>
+    requires below { Below (length source.now.names) (plain source.now.invariant) }
+    requires room { line_count (source_of source.now) ≤ GREATEST_ID }
+    ensures { IfOk result (λ text. text ≡ btor_text (source_of source.now)) }
+{
+    let nodes = lines_of(alloc, source)?;
+    print_btor(alloc, &nodes)
+}
+
+/// No bytes spell two models.
+pub fn one_source()
+    ensures { (bytes : List ℕ) (source other : PlainSource) → Accepts bytes source → Accepts bytes other → source ≡ other }
+{}
+
+/// Every check of a model that is translated today holds.
+pub fn formed_is_accepted()
+    ensures { (bytes : List ℕ) (source : PlainSource) → Accepts bytes source → IsAccepted source 0 }
+{}
+
+/// What is written for an accepted model stands for it, by the meaning of the whole language.
+pub fn text_stands()
+    ensures { (bytes : List ℕ) (source : PlainSource) (form : Form) → IsFormed bytes source form → TranslatesTo source (btor_text form) }
+{}

@@ -1,0 +1,2 @@
+pub mod FunctionView
+pub mod Views

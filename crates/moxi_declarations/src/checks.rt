@@ -1,0 +1,133 @@
+// The check of a script as it is read.
+ghost use Rattle.std.specs.Prelude.{◌≡◌, ◌++◌, [], Some, IfOk, OnOk};
+ghost use Rattle.std.specs.Option.{option_map};
+ghost use Rattle.moxi_sexpr.specs.Tree.{plain, plain_forms};
+ghost use Rattle.moxi_scripts.specs.declared.parts.Command.TheVariants as commands;
+ghost use Rattle.moxi_attributes.specs.Views.{value_now, headed_here};
+ghost use Rattle.moxi_scripts.specs.Checks.{check_failures, check_in, check_of, content_failures, content_of, headed_failures, place_or, places_in, variables_in};
+ghost use Rattle.moxi_declarations.specs.Views.{plain_check_reading};
+ghost use Rattle.moxi_scripts.specs.Collecting.{also};
+ghost use Rattle.moxi_scripts.specs.Lists.{all_entries, lists_in};
+ghost use Rattle.moxi_scripts.specs.Shapes.{headed};
+
+use crate::queries::read_queries;
+use crate::systems::read_variables;
+use moxi_attributes::{
+    Headed, Labels, fail, fail_primed, headed_forms, no_labels, place_of, read_labels, shape_holds,
+    value_of,
+};
+use moxi_scripts::{Command, Entries, Key, ListPlaces, Lists, Queries};
+use moxi_sexpr::Form;
+use moxi_terms::Scope;
+use std::alloc::Global;
+use text_core::{Name, NoMemory, Place, Refusal};
+
+/// A check whose system isn't yet found.
+#[derive(Drop)]
+pub struct ReadCheck {
+    pub place: Place,
+    pub target: Name,
+    pub target_place: Place,
+    pub lists: Lists,
+    pub places: ListPlaces,
+    pub labels: Labels,
+    pub queries: Queries,
+}
+
+fn place_or(p: Place, value: Option<&Form>) -> Place
+    ensures { result ≡ place_or p (value_now value.entry) }
+{
+    match value {
+        None => p,
+        Some(form) => place_of(form),
+    }
+}
+
+fn places_in(p: Place, forms: &[Form]) -> ListPlaces
+    ensures { result ≡ places_in p (plain_forms forms.now) }
+{
+    ListPlaces {
+        inputs: place_or(p, value_of(Command::Check, Key::Input, forms)),
+        outputs: place_or(p, value_of(Command::Check, Key::Output, forms)),
+        locals: place_or(p, value_of(Command::Check, Key::Local, forms)),
+    }
+}
+
+// A check of which the attributes have their shape.
+#[tactic(auto, using(moxi_attributes::proofs::Collecting::also_append))]
+fn read_content(
+    alloc: Global,
+    scope: &Scope,
+    p: Place,
+    h: Headed,
+    variables: &mut Entries,
+    found: &mut Option<Refusal>,
+) -> Result<ReadCheck, NoMemory>
+    ensures check { IfOk result (λ r. plain_check_reading r ≡ content_of scope.now p (headed_here h.entry)) }
+    ensures adds { OnOk result (variables.new ≡ variables.old ++ all_entries (lists_in scope.now commands.Check (headed_here h.entry).rest)) }
+    ensures finds { OnOk result (found.new ≡ also found.old (content_failures scope.now (headed_here h.entry).rest)) }
+{
+    let v = read_variables(alloc, scope, Command::Check, h.rest, variables, found)?;
+    let mut labels = no_labels(alloc);
+    read_labels(alloc, scope, &v.locals, h.rest, &mut labels, found)?;
+    let mut queries = Queries::new(alloc);
+    read_queries(alloc, &labels, h.rest, &mut queries, found)?;
+    Ok(ReadCheck {
+        place: p,
+        target: Name::of(alloc, h.name)?,
+        target_place: h.place,
+        lists: v.lists,
+        places: places_in(p, h.rest),
+        labels,
+        queries,
+    })
+}
+
+// A check whose shape is tested.
+#[tactic(auto, using(moxi_attributes::proofs::Collecting::also_append, moxi_attributes::proofs::Collecting::nothing_more))]
+fn read_shaped(
+    alloc: Global,
+    scope: &Scope,
+    p: Place,
+    h: Headed,
+    variables: &mut Entries,
+    found: &mut Option<Refusal>,
+) -> Result<Option<ReadCheck>, NoMemory>
+    ensures check { IfOk result (λ o. option_map plain_check_reading o ≡ check_in scope.now p (Some (headed_here h.entry))) }
+    ensures adds { OnOk result (variables.new ≡ variables.old ++ variables_in scope.now (Some (headed_here h.entry))) }
+    ensures finds { OnOk result (found.new ≡ also found.old (headed_failures scope.now p (Some (headed_here h.entry)))) }
+{
+    if shape_holds(Command::Check, h.rest) {
+        fail_primed(found, h.primed, h.place);
+        let r = read_content(alloc, scope, p, h, variables, found)?;
+        return Ok(Some(r));
+    }
+    fail(found, 12, p);
+    Ok(None)
+}
+
+/// `(check-system S ..)` at p, of which these are the forms behind its head.
+#[tactic(auto, using(moxi_attributes::proofs::Collecting::nothing_more))]
+pub fn read_check(
+    alloc: Global,
+    scope: &Scope,
+    p: Place,
+    forms: &[Form],
+    variables: &mut Entries,
+    found: &mut Option<Refusal>,
+) -> Result<Option<ReadCheck>, NoMemory>
+    ensures check { IfOk result (λ o. option_map plain_check_reading o ≡ check_of scope.now p (plain_forms forms.now)) }
+    ensures adds { OnOk result (variables.new ≡ variables.old ++ variables_in scope.now (headed (plain_forms forms.now))) }
+    ensures finds { OnOk result (found.new ≡ also found.old (check_failures scope.now p (plain_forms forms.now))) }
+{
+    match headed_forms(forms) {
+        None => {
+            fail(found, 12, p);
+            Ok(None)
+        }
+        Some(h) => {
+            let r = read_shaped(alloc, scope, p, h, variables, found)?;
+            Ok(r)
+        }
+    }
+}

@@ -1,0 +1,313 @@
+// The commands of a script.
+ghost use Rattle.std.specs.Str.{bytes_eq};
+ghost use Rattle.std.specs.Prelude.{codes, ◌≡◌, ◌++◌, [], Some, IfOk, OnOk};
+ghost use Rattle.moxi_sexpr.specs.Tree.{plain, plain_forms};
+ghost use Rattle.moxi_sorts.specs.Forms.{only_of, symbol_now};
+ghost use Rattle.moxi_scripts.specs.declared.parts.CommandName.TheVariants as name;
+ghost use Rattle.moxi_scripts.specs.Collecting.{also};
+ghost use Rattle.moxi_scripts.specs.Commands.{command_failures, command_named, commands_failures, declaring_name, form_failures, headed_failures, known_failures, logic_failures, logic_of, logic_symbol, logic_symbol_failures, nothing_read, other_name, reading_after, system_name, with_command, with_form, with_headed, with_known};
+ghost use Rattle.moxi_declarations.specs.Views.{plain_draft};
+ghost use Rattle.moxi_attributes.specs.Views.{headed_here};
+
+use crate::checks::{ReadCheck, read_check};
+use crate::functions::read_function;
+use crate::sorts::{read_enumeration, read_sort};
+use crate::systems::{ReadSystem, read_system};
+use moxi_attributes::{Headed, fail, fail_if, fail_primed, headed_forms, place_of};
+use moxi_scripts::{CommandName, Entries};
+use moxi_sexpr::{Form, FormShape};
+use moxi_sorts::{only, symbol_of};
+use moxi_terms::{Numbering, Scope, is_same};
+use std::alloc::Global;
+use text_core::{Name, NoMemory, Place, Refusal};
+
+/// What the commands so far declare.
+#[derive(Drop)]
+pub struct Draft {
+    pub logic: Option<Name>,
+    pub scope: Scope,
+    pub term_names: Numbering,
+    pub system_names: Numbering,
+    pub variables: Entries,
+    pub systems: Vec<ReadSystem>,
+    pub checked: bool,
+    pub check: Option<ReadCheck>,
+}
+
+/// Nothing is declared.
+pub fn nothing_read(alloc: Global) -> Draft
+    ensures { plain_draft result ≡ nothing_read }
+{
+    Draft {
+        logic: None,
+        scope: Scope::new(alloc),
+        term_names: Numbering::new(alloc),
+        system_names: Numbering::new(alloc),
+        variables: Entries::new(alloc),
+        systems: Vec::new(alloc),
+        checked: false,
+        check: None,
+    }
+}
+
+fn is_enumeration(n: &[u8]) -> bool
+    ensures { result ≡ bytes_eq n.now (codes "declare-enum-sort") }
+{
+    is_same(n, b"declare-enum-sort")
+}
+
+fn declaring_name(n: &[u8]) -> Option<CommandName>
+    ensures { result ≡ declaring_name n.now }
+{
+    if is_enumeration(n) {
+        Some(CommandName::Enumeration)
+    } else if is_same(n, b"define-sort") {
+        Some(CommandName::Sort)
+    } else if is_same(n, b"define-fun") {
+        Some(CommandName::Function)
+    } else {
+        None
+    }
+}
+
+fn other_name(n: &[u8]) -> Option<CommandName>
+    ensures { result ≡ other_name n.now }
+{
+    if is_same(n, b"set-logic") {
+        Some(CommandName::Logic)
+    } else if is_same(n, b"set-info") {
+        Some(CommandName::PassedOver)
+    } else if is_same(n, b"set-option") {
+        Some(CommandName::PassedOver)
+    } else {
+        None
+    }
+}
+
+fn system_name(n: &[u8]) -> Option<CommandName>
+    ensures { result ≡ system_name n.now }
+{
+    if is_same(n, b"define-system") {
+        Some(CommandName::System)
+    } else if is_same(n, b"check-system") {
+        Some(CommandName::Check)
+    } else {
+        None
+    }
+}
+
+/// The command of this name.
+fn command_named(n: &[u8]) -> Option<CommandName>
+    ensures { result ≡ command_named n.now }
+{
+    match declaring_name(n) {
+        Some(c) => Some(c),
+        None => match other_name(n) {
+            Some(c) => Some(c),
+            None => system_name(n),
+        },
+    }
+}
+
+// `(set-logic L)` at p.
+#[tactic(auto, using(moxi_attributes::proofs::Collecting::also_none))]
+fn read_logic(
+    alloc: Global,
+    logic: &mut Option<Name>,
+    p: Place,
+    forms: &[Form],
+    found: &mut Option<Refusal>,
+) -> Result<(), NoMemory>
+    ensures logic { OnOk result (logic.new ≡ logic_of logic.old (only_of (plain_forms forms.now))) }
+    ensures finds { OnOk result (found.new ≡ also found.old (logic_failures p (only_of (plain_forms forms.now)))) }
+{
+    match only(forms) {
+        None => {
+            fail(found, 12, p);
+            Ok(())
+        }
+        Some(form) => read_logic_name(alloc, logic, p, place_of(form), symbol_of(form), found),
+    }
+}
+
+// The symbol at q of a `set-logic` at p.
+fn read_logic_name(
+    alloc: Global,
+    logic: &mut Option<Name>,
+    p: Place,
+    q: Place,
+    symbol: Option<(&[u8], bool)>,
+    found: &mut Option<Refusal>,
+) -> Result<(), NoMemory>
+    ensures logic { OnOk result (logic.new ≡ logic_symbol logic.old (symbol_now symbol.entry)) }
+    ensures finds { OnOk result (found.new ≡ also found.old (logic_symbol_failures p q (symbol_now symbol.entry))) }
+{
+    match symbol {
+        None => {
+            fail(found, 12, p);
+            Ok(())
+        }
+        Some((name, primed)) => {
+            fail_primed(found, primed, q);
+            *logic = Some(Name::of(alloc, name)?);
+            Ok(())
+        }
+    }
+}
+
+// A check; a second one fails.
+#[tactic(auto, using(moxi_attributes::proofs::Collecting::also_append))]
+fn add_check(
+    alloc: Global,
+    draft: &mut Draft,
+    p: Place,
+    forms: &[Form],
+    found: &mut Option<Refusal>,
+) -> Result<(), NoMemory>
+    ensures draft { OnOk result (plain_draft draft.new ≡ with_command name.Check (plain_draft draft.old) p (plain_forms forms.now)) }
+    ensures finds { OnOk result (found.new ≡ also found.old (command_failures name.Check (plain_draft draft.old) p (plain_forms forms.now))) }
+{
+    let check = read_check(alloc, &draft.scope, p, forms, &mut draft.variables, found)?;
+    fail_if(found, draft.checked, 13, p);
+    if draft.checked {
+        return Ok(());
+    }
+    draft.checked = true;
+    draft.check = check;
+    Ok(())
+}
+
+// A command at p, with the forms behind its head.
+#[tactic(auto, using(moxi_attributes::proofs::Collecting::also_none, moxi_attributes::proofs::Collecting::nothing_more))]
+fn read_command(
+    alloc: Global,
+    c: CommandName,
+    draft: &mut Draft,
+    p: Place,
+    forms: &[Form],
+    found: &mut Option<Refusal>,
+) -> Result<(), NoMemory>
+    ensures draft { OnOk result (plain_draft draft.new ≡ with_command c (plain_draft draft.old) p (plain_forms forms.now)) }
+    ensures finds { OnOk result (found.new ≡ also found.old (command_failures c (plain_draft draft.old) p (plain_forms forms.now))) }
+{
+    match c {
+        CommandName::Logic => {
+            read_logic(alloc, &mut draft.logic, p, forms, found)?;
+            Ok(())
+        }
+        CommandName::PassedOver => Ok(()),
+        CommandName::Enumeration => {
+            read_enumeration(
+                alloc,
+                &mut draft.scope,
+                &mut draft.term_names,
+                p,
+                forms,
+                found,
+            )?;
+            Ok(())
+        }
+        CommandName::Sort => {
+            read_sort(alloc, &mut draft.scope, p, forms, found)?;
+            Ok(())
+        }
+        CommandName::Function => {
+            read_function(
+                alloc,
+                &mut draft.scope,
+                &mut draft.term_names,
+                &mut draft.variables,
+                p,
+                forms,
+                found,
+            )?;
+            Ok(())
+        }
+        CommandName::System => {
+            read_system(
+                alloc,
+                &draft.scope,
+                &mut draft.system_names,
+                &mut draft.variables,
+                &mut draft.systems,
+                p,
+                forms,
+                found,
+            )?;
+            Ok(())
+        }
+        CommandName::Check => {
+            add_check(alloc, draft, p, forms, found)?;
+            Ok(())
+        }
+    }
+}
+
+// A list at p that begins with a symbol.
+#[tactic(auto, using(moxi_attributes::proofs::Collecting::also_append))]
+fn read_headed(
+    alloc: Global,
+    draft: &mut Draft,
+    p: Place,
+    h: Headed,
+    found: &mut Option<Refusal>,
+) -> Result<(), NoMemory>
+    ensures draft { OnOk result (plain_draft draft.new ≡ with_headed (plain_draft draft.old) p (Some (headed_here h.entry))) }
+    ensures finds { OnOk result (found.new ≡ also found.old (headed_failures (plain_draft draft.old) p (Some (headed_here h.entry)))) }
+{
+    fail_primed(found, h.primed, h.place);
+    match command_named(h.name) {
+        None => {
+            fail(found, 6, p);
+            Ok(())
+        }
+        Some(c) => {
+            read_command(alloc, c, draft, p, h.rest, found)?;
+            Ok(())
+        }
+    }
+}
+
+// A form of a script.
+fn read_form(
+    alloc: Global,
+    draft: &mut Draft,
+    form: &Form,
+    found: &mut Option<Refusal>,
+) -> Result<(), NoMemory>
+    ensures draft { OnOk result (plain_draft draft.new ≡ with_form (plain_draft draft.old) (plain form.now)) }
+    ensures finds { OnOk result (found.new ≡ also found.old (form_failures (plain_draft draft.old) (plain form.now))) }
+{
+    match &form.shape {
+        FormShape::Atom(_) => {
+            fail(found, 12, form.place);
+            Ok(())
+        }
+        FormShape::List(parts) => match headed_forms(parts) {
+            None => {
+                fail(found, 12, form.place);
+                Ok(())
+            }
+            Some(h) => {
+                read_headed(alloc, draft, form.place, h, found)?;
+                Ok(())
+            }
+        },
+    }
+}
+
+/// The commands of a script, and of their tests that fail the one with the least place and number.
+pub fn read_commands(
+    alloc: Global,
+    forms: &[Form],
+    draft: &mut Draft,
+    found: &mut Option<Refusal>,
+) -> Result<(), NoMemory>
+    ensures draft { OnOk result (plain_draft draft.new ≡ reading_after (plain_draft draft.old) (plain_forms forms.now)) }
+    ensures finds { OnOk result (found.new ≡ also found.old (commands_failures (plain_draft draft.old) (plain_forms forms.now))) }
+{
+    for form in forms {
+        read_form(alloc, draft, form, found)?;
+    }
+    Ok(())
+}

@@ -1,0 +1,13 @@
+//! The commands of MoXI, read one after another: sorts, functions, systems and checks.
+#![tactic(auto)]
+
+mod checks;
+mod commands;
+mod functions;
+mod queries;
+mod sorts;
+mod systems;
+
+pub use checks::ReadCheck;
+pub use commands::{Draft, nothing_read, read_commands};
+pub use systems::ReadSystem;

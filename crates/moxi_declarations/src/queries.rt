@@ -1,0 +1,303 @@
+// The queries of a check.
+ghost use Rattle.std.specs.Prelude.{◌≡◌, ◌++◌, ◌∷◌, [], IfOk, OnOk, is_some, slice_index_or};
+ghost use Rattle.moxi_sexpr.specs.Tree.{no_trees, plain, plain_forms, tree};
+ghost use Rattle.moxi_sorts.specs.Forms.{place_in, symbol_of};
+ghost use Rattle.moxi_scripts.specs.declared.parts.Turn.TheVariants as turns;
+ghost use Rattle.moxi_scripts.specs.Collecting.{also};
+ghost use Rattle.moxi_scripts.specs.Declarations.{are_symbols};
+ghost use Rattle.moxi_attributes.specs.Views.{plain_labels, named_here};
+ghost use Rattle.moxi_scripts.specs.QueryReading.{all_queries_failures, is_bad_query, list_failures, forms_among, names_after, names_with_queries, names_with_query, no_names, queries_after, queries_among, queries_failures, queries_in, query_failures, query_forms, query_of, query_with, symbol_tests, symbols_failures, with_number, with_prime, with_symbol};
+ghost use Rattle.moxi_scripts.specs.Shapes.{parts_of};
+
+use moxi_attributes::{
+    Labels, Named, both, fail, fail_if, fail_primed, is_behind, misshapen, named_form, parts_of,
+    place_of, refuse, turn_after,
+};
+use moxi_scripts::{Command, Key, Queries, Query, QueryNames, Turn};
+use moxi_sexpr::Form;
+use moxi_sorts::symbol_of;
+use moxi_terms::Numbering;
+use std::alloc::Global;
+use text_core::{Name, NoMemory, Numbers, Place, Refusal};
+
+fn no_names(alloc: Global) -> QueryNames
+    ensures { result ≡ no_names }
+{
+    QueryNames {
+        assumptions: Numbers::new(alloc),
+        currents: Numbers::new(alloc),
+        reachables: Numbers::new(alloc),
+        known: true,
+        primed: false,
+    }
+}
+
+// A name that has these numbers.
+fn add_number(
+    q: &mut QueryNames,
+    assumption: Option<usize>,
+    current: Option<usize>,
+    reachable: Option<usize>,
+) -> Result<(), NoMemory>
+    ensures { OnOk result (q.new ≡ with_number q.old assumption current reachable) }
+{
+    match assumption {
+        Some(i) => {
+            q.assumptions.push(i as u64)?;
+            Ok(())
+        }
+        None => match current {
+            Some(i) => {
+                q.currents.push(i as u64)?;
+                Ok(())
+            }
+            None => match reachable {
+                Some(i) => {
+                    q.reachables.push(i as u64)?;
+                    Ok(())
+                }
+                None => {
+                    q.known = false;
+                    Ok(())
+                }
+            },
+        },
+    }
+}
+
+fn add_prime(q: &mut QueryNames, primed: bool)
+    ensures { q.new ≡ with_prime q.old primed }
+{
+    q.primed = q.primed || primed;
+}
+
+// A name of a query.
+#[tactic(auto, using(moxi_attributes::proofs::Collecting::also_none))]
+fn read_name(
+    ls: &Labels,
+    form: &Form,
+    q: &mut QueryNames,
+    found: &mut Option<Refusal>,
+) -> Result<bool, NoMemory>
+    ensures symbol { IfOk result (λ b. b ≡ is_some (symbol_of (plain form.now))) }
+    ensures names { OnOk result (q.new ≡ with_symbol (plain_labels ls.now) q.old (symbol_of (plain form.now))) }
+    ensures finds { OnOk result (found.new ≡ also found.old (symbol_tests (place_in (plain form.now)) (symbol_of (plain form.now)))) }
+{
+    match symbol_of(form) {
+        None => Ok(false),
+        Some((name, primed)) => {
+            fail_primed(found, primed, place_of(form));
+            add_prime(q, primed);
+            add_number(
+                q,
+                ls.assumptions.names.place(name),
+                ls.currents.names.place(name),
+                ls.reachables.names.place(name),
+            )?;
+            Ok(true)
+        }
+    }
+}
+
+// The names of a query, and whether each form is one.
+fn read_names(
+    ls: &Labels,
+    forms: &[Form],
+    q: &mut QueryNames,
+    found: &mut Option<Refusal>,
+) -> Result<bool, NoMemory>
+    ensures symbols { IfOk result (λ b. b ≡ are_symbols (plain_forms forms.now)) }
+    ensures names { OnOk result (q.new ≡ names_after (plain_labels ls.now) q.old (plain_forms forms.now)) }
+    ensures finds { OnOk result (found.new ≡ also found.old (symbols_failures (plain_forms forms.now))) }
+{
+    let mut symbols = true;
+    for form in forms {
+        let symbol = read_name(ls, form, q, found)?;
+        symbols = both(symbols, symbol);
+    }
+    Ok(symbols)
+}
+
+fn is_bad_query(ls: &Labels, q: &QueryNames) -> bool
+    ensures { result ≡ is_bad_query (plain_labels ls.now) q.now }
+{
+    ls.whole && !q.primed && !(q.known && q.reachables.len() == 1)
+}
+
+fn first_of(numbers: &Numbers) -> Result<u32, NoMemory>
+    ensures { IfOk result (λ n. n ≡ slice_index_or numbers.now 0 0) }
+{
+    if numbers.len() == 0 {
+        return Ok(0);
+    }
+    match u32::try_from(*numbers.at(0)) {
+        Ok(n) => Ok(n),
+        Err(_) => Err(NoMemory),
+    }
+}
+
+// The names of a query in a list at q.
+#[tactic(auto, using(moxi_attributes::proofs::Collecting::also_append))]
+fn read_query_list(
+    alloc: Global,
+    ls: &Labels,
+    p: Place,
+    n: Named,
+    queries: &mut Queries,
+    found: &mut Option<Refusal>,
+) -> Result<(), NoMemory>
+    ensures adds { OnOk result (queries.new ≡ queries.old ++ queries_among (plain_labels ls.now) (named_here n.entry) (parts_of (named_here n.entry).form)) }
+    ensures finds { OnOk result (found.new ≡ also found.old (list_failures (plain_labels ls.now) p (named_here n.entry) (parts_of (named_here n.entry).form))) }
+{
+    match parts_of(n.form) {
+        None => {
+            fail(found, 12, p);
+            Ok(())
+        }
+        Some(parts) => {
+            let mut q = no_names(alloc);
+            let symbols = read_names(ls, parts, &mut q, found)?;
+            fail_if(found, !symbols, 12, place_of(n.form));
+            let bad = is_bad_query(ls, &q);
+            fail_if(found, both(symbols, bad), 14, p);
+            add_query(alloc, n.name, q, queries)?;
+            Ok(())
+        }
+    }
+}
+
+fn add_query(
+    alloc: Global,
+    name: &[u8],
+    q: QueryNames,
+    queries: &mut Queries,
+) -> Result<(), NoMemory>
+    ensures { OnOk result (queries.new ≡ queries.old ++ query_with name.now q ∷ []) }
+{
+    let reachable = first_of(&q.reachables)?;
+    queries.push(Query {
+        name: Name::of(alloc, name)?,
+        assumptions: q.assumptions,
+        currents: q.currents,
+        reachable,
+    })?;
+    Ok(())
+}
+
+// A query in a list at `around`.
+#[tactic(auto, using(moxi_attributes::proofs::Collecting::also_append, moxi_attributes::proofs::Collecting::nothing_more))]
+fn read_query(
+    alloc: Global,
+    ls: &Labels,
+    names: &mut Numbering,
+    around: Place,
+    form: &Form,
+    queries: &mut Queries,
+    found: &mut Option<Refusal>,
+) -> Result<(), NoMemory>
+    ensures adds { OnOk result (queries.new ≡ queries.old ++ query_of (plain_labels ls.now) (plain form.now)) }
+    ensures names { OnOk result (names.new ≡ names_with_query names.old (plain form.now)) }
+    ensures finds { OnOk result (found.new ≡ also found.old (query_failures (plain_labels ls.now) names.old around (plain form.now))) }
+{
+    match named_form(form) {
+        None => {
+            refuse(found, misshapen(around, form));
+            Ok(())
+        }
+        Some(n) => {
+            fail_primed(found, n.primed, n.place);
+            let fresh = names.declare(alloc, n.name)?;
+            fail_if(found, !fresh, 9, n.place);
+            read_query_list(alloc, ls, place_of(form), n, queries, found)?;
+            Ok(())
+        }
+    }
+}
+
+// Queries of a list at `around`.
+fn read_queries_of(
+    alloc: Global,
+    ls: &Labels,
+    names: &mut Numbering,
+    around: Place,
+    forms: &[Form],
+    queries: &mut Queries,
+    found: &mut Option<Refusal>,
+) -> Result<(), NoMemory>
+    ensures adds { OnOk result (queries.new ≡ queries.old ++ queries_in (plain_labels ls.now) (plain_forms forms.now)) }
+    ensures names { OnOk result (names.new ≡ names_with_queries names.old (plain_forms forms.now)) }
+    ensures finds { OnOk result (found.new ≡ also found.old (queries_failures (plain_labels ls.now) names.old around (plain_forms forms.now))) }
+{
+    for form in forms {
+        read_query(alloc, ls, names, around, form, queries, found)?;
+    }
+    Ok(())
+}
+
+// A form among attributes.
+#[tactic(auto, using(moxi_attributes::proofs::Collecting::also_none, moxi_attributes::proofs::Collecting::nothing_more))]
+fn read_queries_at(
+    alloc: Global,
+    ls: &Labels,
+    turn: Turn,
+    names: &mut Numbering,
+    form: &Form,
+    queries: &mut Queries,
+    found: &mut Option<Refusal>,
+) -> Result<(), NoMemory>
+    ensures adds { OnOk result (queries.new ≡ queries.old ++ queries_in (plain_labels ls.now) (query_forms turn (plain form.now))) }
+    ensures names { OnOk result (names.new ≡ names_with_queries names.old (query_forms turn (plain form.now))) }
+    ensures finds { OnOk result (found.new ≡ also found.old (queries_failures (plain_labels ls.now) names.old (place_in (plain form.now)) (query_forms turn (plain form.now)))) }
+{
+    if is_behind(Key::Query, turn) {
+        read_query(alloc, ls, names, place_of(form), form, queries, found)?;
+        return Ok(());
+    }
+    if is_behind(Key::Queries, turn) {
+        return read_listed(alloc, ls, names, form, queries, found);
+    }
+    Ok(())
+}
+
+// The queries of a list.
+#[tactic(auto, using(moxi_attributes::proofs::Collecting::also_none, moxi_attributes::proofs::Collecting::nothing_more))]
+fn read_listed(
+    alloc: Global,
+    ls: &Labels,
+    names: &mut Numbering,
+    form: &Form,
+    queries: &mut Queries,
+    found: &mut Option<Refusal>,
+) -> Result<(), NoMemory>
+    ensures adds { OnOk result (queries.new ≡ queries.old ++ queries_in (plain_labels ls.now) (forms_among (parts_of (plain form.now)))) }
+    ensures names { OnOk result (names.new ≡ names_with_queries names.old (forms_among (parts_of (plain form.now)))) }
+    ensures finds { OnOk result (found.new ≡ also found.old (queries_failures (plain_labels ls.now) names.old (place_in (plain form.now)) (forms_among (parts_of (plain form.now))))) }
+{
+    match parts_of(form) {
+        None => Ok(()),
+        Some(parts) => {
+            read_queries_of(alloc, ls, names, place_of(form), parts, queries, found)?;
+            Ok(())
+        }
+    }
+}
+
+/// The queries among the attributes of a check.
+pub fn read_queries(
+    alloc: Global,
+    ls: &Labels,
+    forms: &[Form],
+    queries: &mut Queries,
+    found: &mut Option<Refusal>,
+) -> Result<(), NoMemory>
+    ensures adds { OnOk result (queries.new ≡ queries.old ++ queries_after (plain_labels ls.now) turns.AtKeyword (plain_forms forms.now)) }
+    ensures finds { OnOk result (found.new ≡ also found.old (all_queries_failures (plain_labels ls.now) [] turns.AtKeyword (plain_forms forms.now))) }
+{
+    let mut names = Numbering::new(alloc);
+    let mut turn = Turn::AtKeyword;
+    for form in forms {
+        read_queries_at(alloc, ls, turn, &mut names, form, queries, found)?;
+        turn = turn_after(Command::Check, turn, form);
+    }
+    Ok(())
+}

@@ -1,0 +1,207 @@
+// Enumerations and defined sorts.
+ghost use Rattle.std.specs.Prelude.{◌≡◌, ◌<◌, OnOk, IfSome, Some, if◌then◌else◌, not, ◌++◌, length};
+ghost use Rattle.moxi_sexpr.specs.Tree.{plain, plain_forms};
+ghost use Rattle.moxi_terms.specs.Names.{is_sort_name};
+ghost use Rattle.moxi_term_reading.specs.Reading.{prime_failures};
+ghost use Rattle.moxi_terms.specs.Sorts.{IsSort};
+ghost use Rattle.moxi_scripts.specs.Collecting.{also, fails_if};
+ghost use Rattle.moxi_scripts.specs.Declarations.{constants_in, defined_sort_tests, enumeration_failures, listed_failures, parameters_failures, sort_definition_failures, with_defined_sort, with_enumeration_names, with_listed, with_listed_names, with_read_enumeration, with_constants, with_new_enumeration, with_read_sort, with_sort_if, constants_failures, may_be_constants, symbols_in};
+ghost use Rattle.moxi_scripts.specs.Shapes.{headed, named_in};
+ghost use Rattle.moxi_attributes.specs.Views.{headed_here, named_here};
+
+use moxi_attributes::{
+    Headed, Named, fail, fail_if, fail_primed, headed_forms, is_empty_list, known_sort,
+    misshapen_place, named_in, note_sort, parts_of, place_of, read_constants,
+};
+use moxi_sexpr::Form;
+use moxi_sorts::{pair, read_sorts_are_of_the_scope, sort_of};
+use moxi_terms::{Numbering, Scope, Sort};
+use std::alloc::Global;
+use text_core::{Name, Names, NoMemory, Place, Refusal};
+
+// The tests of a sort's own name.
+#[tactic(auto, using(moxi_attributes::proofs::Collecting::also_append))]
+fn test_sort_name(
+    scope: &Scope,
+    name: &[u8],
+    primed: bool,
+    place: Place,
+    found: &mut Option<Refusal>,
+)
+    ensures { found.new ≡ also found.old (prime_failures primed place ++ fails_if (is_sort_name scope.now name.now) 9 place) }
+{
+    fail_primed(found, primed, place);
+    fail_if(found, scope.is_sort_name(name), 9, place);
+}
+
+/// `(declare-enum-sort N (c ..))` at p, of which these are the forms behind its head.
+pub fn read_enumeration(
+    alloc: Global,
+    scope: &mut Scope,
+    names: &mut Numbering,
+    p: Place,
+    forms: &[Form],
+    found: &mut Option<Refusal>,
+) -> Result<(), NoMemory>
+    ensures scope { OnOk result (scope.new ≡ with_read_enumeration scope.old (plain_forms forms.now)) }
+    ensures names { OnOk result (names.new ≡ with_enumeration_names scope.old names.old (named_in (headed (plain_forms forms.now)))) }
+    ensures finds { OnOk result (found.new ≡ also found.old (enumeration_failures scope.old names.old p (plain_forms forms.now))) }
+{
+    match named_in(forms) {
+        None => {
+            fail(found, 12, p);
+            Ok(())
+        }
+        Some(n) => read_listed(alloc, scope, names, p, n, found),
+    }
+}
+
+// The enumeration of a name.
+#[tactic(auto, using(moxi_attributes::proofs::Collecting::also_append))]
+fn read_listed(
+    alloc: Global,
+    scope: &mut Scope,
+    names: &mut Numbering,
+    p: Place,
+    n: Named,
+    found: &mut Option<Refusal>,
+) -> Result<(), NoMemory>
+    ensures scope { OnOk result (scope.new ≡ with_listed scope.old (named_here n.entry) (constants_in (named_here n.entry))) }
+    ensures names { OnOk result (names.new ≡ with_listed_names scope.old names.old (constants_in (named_here n.entry))) }
+    ensures finds { OnOk result (found.new ≡ also found.old (listed_failures scope.old names.old p (named_here n.entry) (constants_in (named_here n.entry)))) }
+{
+    match parts_of(n.form) {
+        None => {
+            fail(found, 12, p);
+            Ok(())
+        }
+        Some(parts) => {
+            test_sort_name(scope, n.name, n.primed, n.place, found);
+            add_constants(alloc, scope, names, n.name, place_of(n.form), parts, found)?;
+            Ok(())
+        }
+    }
+}
+
+// The enumeration of a name that stands before the list of its constants at q.
+#[tactic(auto, using(moxi_attributes::proofs::Collecting::also_append))]
+fn add_constants(
+    alloc: Global,
+    scope: &mut Scope,
+    names: &mut Numbering,
+    name: &[u8],
+    q: Place,
+    forms: &[Form],
+    found: &mut Option<Refusal>,
+) -> Result<(), NoMemory>
+    ensures scope { OnOk result (scope.new ≡ (if may_be_constants (plain_forms forms.now) then with_new_enumeration scope.old name.now (symbols_in (plain_forms forms.now)) else scope.old)) }
+    ensures names { OnOk result (names.new ≡ with_constants scope.old names.old (plain_forms forms.now)) }
+    ensures finds { OnOk result (found.new ≡ also found.old (constants_failures scope.old names.old (plain_forms forms.now) ++ fails_if (not (may_be_constants (plain_forms forms.now))) 12 q)) }
+{
+    let mut constants = Names::new(alloc);
+    let symbols = read_constants(alloc, scope, names, forms, &mut constants, found)?;
+    let whole = symbols && 0 < constants.len();
+    fail_if(found, !whole, 12, q);
+    if whole {
+        add_enumeration(alloc, scope, name, constants)?;
+        return Ok(());
+    }
+    Ok(())
+}
+
+// An enumeration, where its names aren't taken.
+fn add_enumeration(
+    alloc: Global,
+    scope: &mut Scope,
+    name: &[u8],
+    constants: Names,
+) -> Result<(), NoMemory>
+    requires { 0 < length constants }
+    ensures { OnOk result (scope.new ≡ with_new_enumeration scope.old name.now constants) }
+{
+    if !scope.has_room(constants.len()) {
+        return Err(NoMemory);
+    }
+    scope.add_enumeration(Name::of(alloc, name)?, constants)?;
+    Ok(())
+}
+
+/// `(define-sort N () S)` at p, of which these are the forms behind its head.
+pub fn read_sort(
+    alloc: Global,
+    scope: &mut Scope,
+    p: Place,
+    forms: &[Form],
+    found: &mut Option<Refusal>,
+) -> Result<(), NoMemory>
+    ensures scope { OnOk result (scope.new ≡ with_read_sort scope.old p (plain_forms forms.now)) }
+    ensures finds { OnOk result (found.new ≡ also found.old (sort_definition_failures scope.old p (plain_forms forms.now))) }
+{
+    match headed_forms(forms) {
+        None => {
+            fail(found, 12, p);
+            Ok(())
+        }
+        Some(h) => match pair(h.rest) {
+            None => {
+                fail(found, 12, p);
+                Ok(())
+            }
+            Some((parameters, form)) => {
+                define_sort(alloc, scope, p, h, parameters, form, found)?;
+                Ok(())
+            }
+        },
+    }
+}
+
+// A name for the sort that a form spells.
+#[tactic(auto, using(moxi_attributes::proofs::Collecting::also_append))]
+fn define_sort(
+    alloc: Global,
+    scope: &mut Scope,
+    p: Place,
+    h: Headed,
+    parameters: &Form,
+    form: &Form,
+    found: &mut Option<Refusal>,
+) -> Result<(), NoMemory>
+    ensures scope { OnOk result (scope.new ≡ with_defined_sort scope.old p (headed_here h.entry) (Some (plain parameters.now, plain form.now))) }
+    ensures finds { OnOk result (found.new ≡ also found.old (defined_sort_tests scope.old p (headed_here h.entry) (Some (plain parameters.now, plain form.now)))) }
+{
+    let sort = sort_of(scope, p, form);
+    test_sort_name(scope, h.name, h.primed, h.place, found);
+    fail_if(
+        found,
+        !is_empty_list(parameters),
+        12,
+        misshapen_place(p, parameters),
+    );
+    note_sort(found, sort);
+    let _functions = scope.functions();
+    read_sorts_are_of_the_scope();
+    add_sort(alloc, scope, h.name, known_sort(sort))?;
+    Ok(())
+}
+
+// A defined sort, where there is one and its name isn't taken.
+fn add_sort(
+    alloc: Global,
+    scope: &mut Scope,
+    name: &[u8],
+    sort: Option<Sort>,
+) -> Result<(), NoMemory>
+    requires { IfSome sort (IsSort scope.old.enumerations) }
+    ensures { OnOk result (scope.new ≡ with_sort_if scope.old name.now sort) }
+{
+    match sort {
+        None => Ok(()),
+        Some(sort) => {
+            if !scope.has_room(0) {
+                return Err(NoMemory);
+            }
+            scope.add_sort(Name::of(alloc, name)?, sort)?;
+            Ok(())
+        }
+    }
+}

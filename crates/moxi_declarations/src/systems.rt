@@ -1,0 +1,278 @@
+// Systems as they are read.
+ghost use Rattle.std.specs.Prelude.{◌≡◌, ◌++◌, ◌∷◌, [], false, IfOk, OnOk, map};
+ghost use Rattle.moxi_sexpr.specs.Tree.{plain_forms};
+ghost use Rattle.moxi_terms.specs.View.{plain};
+ghost use Rattle.moxi_terms.specs.declared.data.Primes.TheVariants as may;
+ghost use Rattle.moxi_scripts.specs.declared.parts.Key.TheVariants as keys;
+ghost use Rattle.moxi_scripts.specs.declared.parts.Turn.TheVariants as turns;
+ghost use Rattle.moxi_scripts.specs.declared.parts.Command.TheVariants as commands;
+ghost use Rattle.moxi_scripts.specs.Collecting.{also};
+ghost use Rattle.moxi_scripts.specs.Entries.{names_with, twice_failures};
+ghost use Rattle.moxi_scripts.specs.Formulas.{formula_term};
+ghost use Rattle.moxi_scripts.specs.Lists.{all_entries, lists_in, value_at};
+ghost use Rattle.moxi_scripts.specs.Shapes.{headed};
+ghost use Rattle.moxi_attributes.specs.Views.{headed_here};
+ghost use Rattle.moxi_scripts.specs.Systems.{bare_system, content_failures, content_of, formulas_failures, locals_of, names_with_system, read_systems, shaped_failures, shaped_system, shaped_variables, system_failures, system_of, system_tests, system_variables, variables_failures, variables_of_system};
+ghost use Rattle.moxi_declarations.specs.Views.{plain_reading};
+ghost use Rattle.moxi_scripts.specs.Uses.{uses_in};
+
+use moxi_attributes::{
+    Headed, all_entries, append, fail, fail_primed, headed_forms, locals_among, read_formula,
+    read_lists, read_uses, shape_holds, test_keywords, test_twice, true_term, value_of,
+};
+use moxi_scripts::{Command, DeclaredList, Entries, Key, Lists, Use};
+use moxi_sexpr::Form;
+use moxi_sorts::Locals;
+use moxi_terms::{Numbering, Primes, Scope, Term};
+use std::alloc::Global;
+use text_core::{Items, Name, NoMemory, Place, Refusal};
+
+/// A system whose subsystems aren't yet found.
+#[derive(Drop)]
+pub struct ReadSystem {
+    pub name: Name,
+    pub lists: Lists,
+    pub init: Term,
+    pub trans: Term,
+    pub inv: Term,
+    pub uses: Items<Use>,
+}
+
+/// The variables of a system or a check.
+#[derive(Drop)]
+pub struct ReadVariables {
+    pub lists: Lists,
+    pub locals: Locals,
+}
+
+/// The formulas of a system.
+#[derive(Drop)]
+pub struct SystemFormulas {
+    pub init: Term,
+    pub trans: Term,
+    pub inv: Term,
+}
+
+// The test of names in the list itself.
+fn test_own_twice(
+    alloc: Global,
+    entries: &Entries,
+    found: &mut Option<Refusal>,
+) -> Result<(), NoMemory>
+    ensures { OnOk result (found.new ≡ also found.old (twice_failures [] entries.now)) }
+{
+    let mut names = Numbering::new(alloc);
+    test_twice(alloc, &mut names, entries, found)?;
+    Ok(())
+}
+
+/// The variables of a system or a check, and the tests of its keywords.
+#[tactic(auto, using(moxi_attributes::proofs::Collecting::also_append))]
+pub fn read_variables(
+    alloc: Global,
+    scope: &Scope,
+    command: Command,
+    forms: &[Form],
+    variables: &mut Entries,
+    found: &mut Option<Refusal>,
+) -> Result<ReadVariables, NoMemory>
+    ensures lists { IfOk result (λ r. r.lists ≡ lists_in scope.now command (plain_forms forms.now)) }
+    ensures locals { IfOk result (λ r. r.locals ≡ locals_of scope.now command (plain_forms forms.now)) }
+    ensures adds { OnOk result (variables.new ≡ variables.old ++ all_entries (lists_in scope.now command (plain_forms forms.now))) }
+    ensures finds { OnOk result (found.new ≡ also found.old (variables_failures scope.now command (plain_forms forms.now))) }
+{
+    test_keywords(command, forms, found);
+    let lists = read_lists(alloc, scope, command, forms, found)?;
+    let all = all_entries(alloc, &lists)?;
+    test_own_twice(alloc, &all, found)?;
+    append(alloc, variables, &all)?;
+    let locals = locals_among(alloc, &all)?;
+    Ok(ReadVariables { lists, locals })
+}
+
+// The formulas of a system.
+#[tactic(auto, using(moxi_attributes::proofs::Collecting::also_append))]
+fn read_formulas(
+    alloc: Global,
+    scope: &Scope,
+    locals: &Locals,
+    forms: &[Form],
+    found: &mut Option<Refusal>,
+) -> Result<SystemFormulas, NoMemory>
+    ensures init { IfOk result (λ r. plain r.init ≡ formula_term scope.now locals.now may.Refused (value_at commands.System keys.Init (plain_forms forms.now))) }
+    ensures trans { IfOk result (λ r. plain r.trans ≡ formula_term scope.now locals.now may.Allowed (value_at commands.System keys.Trans (plain_forms forms.now))) }
+    ensures inv { IfOk result (λ r. plain r.inv ≡ formula_term scope.now locals.now may.Refused (value_at commands.System keys.Inv (plain_forms forms.now))) }
+    ensures finds { OnOk result (found.new ≡ also found.old (formulas_failures scope.now locals.now (plain_forms forms.now))) }
+{
+    let init = read_formula(
+        alloc,
+        scope,
+        locals,
+        Primes::Refused,
+        value_of(Command::System, Key::Init, forms),
+        found,
+    )?;
+    let trans = read_formula(
+        alloc,
+        scope,
+        locals,
+        Primes::Allowed,
+        value_of(Command::System, Key::Trans, forms),
+        found,
+    )?;
+    let inv = read_formula(
+        alloc,
+        scope,
+        locals,
+        Primes::Refused,
+        value_of(Command::System, Key::Inv, forms),
+        found,
+    )?;
+    Ok(SystemFormulas { init, trans, inv })
+}
+
+// A system of which the attributes have their shape.
+#[tactic(auto, using(moxi_attributes::proofs::Collecting::also_append))]
+fn read_content(
+    alloc: Global,
+    scope: &Scope,
+    name: &[u8],
+    forms: &[Form],
+    variables: &mut Entries,
+    found: &mut Option<Refusal>,
+) -> Result<ReadSystem, NoMemory>
+    ensures system { IfOk result (λ r. plain_reading r ≡ content_of scope.now name.now (plain_forms forms.now)) }
+    ensures adds { OnOk result (variables.new ≡ variables.old ++ all_entries (lists_in scope.now commands.System (plain_forms forms.now))) }
+    ensures finds { OnOk result (found.new ≡ also found.old (content_failures scope.now (plain_forms forms.now))) }
+{
+    let v = read_variables(alloc, scope, Command::System, forms, variables, found)?;
+    let formulas = read_formulas(alloc, scope, &v.locals, forms, found)?;
+    let mut uses = Items::new(alloc);
+    read_uses(alloc, &v.locals, forms, &mut uses, found)?;
+    Ok(ReadSystem {
+        name: Name::of(alloc, name)?,
+        lists: v.lists,
+        init: formulas.init,
+        trans: formulas.trans,
+        inv: formulas.inv,
+        uses,
+    })
+}
+
+fn no_list(alloc: Global) -> DeclaredList
+    ensures entries { result.entries ≡ [] }
+    ensures whole { result.whole ≡ false }
+{
+    DeclaredList {
+        entries: Entries::new(alloc),
+        whole: false,
+    }
+}
+
+// A system with a name but without its shape.
+fn bare_system(alloc: Global, name: &[u8]) -> Result<ReadSystem, NoMemory>
+    ensures { IfOk result (λ r. plain_reading r ≡ bare_system name.now) }
+{
+    Ok(ReadSystem {
+        name: Name::of(alloc, name)?,
+        lists: Lists {
+            inputs: no_list(alloc),
+            outputs: no_list(alloc),
+            locals: no_list(alloc),
+        },
+        init: true_term(),
+        trans: true_term(),
+        inv: true_term(),
+        uses: Items::new(alloc),
+    })
+}
+
+// A system at p of this name.
+#[tactic(auto, using(moxi_attributes::proofs::Collecting::nothing_more))]
+fn read_shaped(
+    alloc: Global,
+    scope: &Scope,
+    p: Place,
+    h: Headed,
+    variables: &mut Entries,
+    found: &mut Option<Refusal>,
+) -> Result<ReadSystem, NoMemory>
+    ensures system { IfOk result (λ r. plain_reading r ≡ shaped_system scope.now (headed_here h.entry).name (headed_here h.entry).rest) }
+    ensures adds { OnOk result (variables.new ≡ variables.old ++ shaped_variables scope.now (headed_here h.entry).rest) }
+    ensures finds { OnOk result (found.new ≡ also found.old (shaped_failures scope.now p (headed_here h.entry).rest)) }
+{
+    if shape_holds(Command::System, h.rest) {
+        let r = read_content(alloc, scope, h.name, h.rest, variables, found)?;
+        return Ok(r);
+    }
+    fail(found, 12, p);
+    let r = bare_system(alloc, h.name)?;
+    Ok(r)
+}
+
+/// Adds an element at the end.
+pub fn put<T>(all: &mut Vec<T>, x: T) -> Result<(), NoMemory>
+where
+    T: Drop,
+    ensures { OnOk result (all.new.items ≡ all.old.items ++ x ∷ []) }
+{
+    match all.push(x) {
+        Ok(()) => Ok(()),
+        Err(_) => Err(NoMemory),
+    }
+}
+
+// A system at p, whose name is tested.
+#[tactic(auto, using(moxi_attributes::proofs::Collecting::also_append, moxi_attributes::proofs::Collecting::nothing_more, moxi_scripts::proofs::Forms::map_end))]
+fn define_system(
+    alloc: Global,
+    scope: &Scope,
+    names: &mut Numbering,
+    variables: &mut Entries,
+    systems: &mut Vec<ReadSystem>,
+    p: Place,
+    h: Headed,
+    found: &mut Option<Refusal>,
+) -> Result<(), NoMemory>
+    ensures adds { OnOk result (map plain_reading systems.new.items ≡ map plain_reading systems.old.items ++ system_of scope.now names.old (headed_here h.entry)) }
+    ensures names { OnOk result (names.new ≡ names_with names.old (headed_here h.entry).name) }
+    ensures variables { OnOk result (variables.new ≡ variables.old ++ system_variables scope.now names.old (headed_here h.entry)) }
+    ensures finds { OnOk result (found.new ≡ also found.old (system_tests scope.now names.old p (headed_here h.entry))) }
+{
+    fail_primed(found, h.primed, h.place);
+    if !names.declare(alloc, h.name)? {
+        fail(found, 9, h.place);
+        return Ok(());
+    }
+    let r = read_shaped(alloc, scope, p, h, variables, found)?;
+    put(systems, r)?;
+    Ok(())
+}
+
+/// `(define-system S ..)` at p, of which these are the forms behind its head.
+pub fn read_system(
+    alloc: Global,
+    scope: &Scope,
+    names: &mut Numbering,
+    variables: &mut Entries,
+    systems: &mut Vec<ReadSystem>,
+    p: Place,
+    forms: &[Form],
+    found: &mut Option<Refusal>,
+) -> Result<(), NoMemory>
+    ensures adds { OnOk result (map plain_reading systems.new.items ≡ map plain_reading systems.old.items ++ read_systems scope.now names.old (plain_forms forms.now)) }
+    ensures names { OnOk result (names.new ≡ names_with_system names.old (headed (plain_forms forms.now))) }
+    ensures variables { OnOk result (variables.new ≡ variables.old ++ variables_of_system scope.now names.old (headed (plain_forms forms.now))) }
+    ensures finds { OnOk result (found.new ≡ also found.old (system_failures scope.now names.old p (plain_forms forms.now))) }
+{
+    match headed_forms(forms) {
+        None => {
+            fail(found, 12, p);
+            Ok(())
+        }
+        Some(h) => {
+            define_system(alloc, scope, names, variables, systems, p, h, found)?;
+            Ok(())
+        }
+    }
+}

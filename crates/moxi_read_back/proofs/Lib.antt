@@ -1,0 +1,16 @@
+pub mod AgainParts
+pub mod AgainShapes
+pub mod AgainEntries
+pub mod AgainAttributes
+pub mod AgainFormulas
+pub mod AgainUses
+pub mod AgainSystems
+pub mod AgainLabels
+pub mod AgainQueries
+pub mod AgainChecks
+pub mod AgainScopes
+pub mod AgainDeclarations
+pub mod AgainCommands
+pub mod AgainLinks
+pub mod AgainCycles
+pub mod AgainScript

@@ -1,0 +1,29 @@
+use Rattle.std.proofs.Common.{◌≡◌, map, ap, ◌∙◌}
+use Rattle.moxi_sexpr.specs.Tree.{plain_forms}
+use Rattle.moxi_scripts.specs.Collecting.{also}
+use Rattle.moxi_scripts.specs.Commands.{commands_failures, nothing_read, reading_after}
+use Rattle.moxi_declarations.specs.Views.{plain_draft, plain_reading}
+use Rattle.moxi_scripts.specs.Cycles.{cycle_failures}
+use Rattle.moxi_scripts.specs.Links.{links_failures}
+use Rattle.moxi_scripts.specs.Spelling.{reading_of}
+use Rattle.moxi_attributes.proofs.Collecting.{also_two}
+use Rattle.moxi_reading.proofs.cycles.read_whole_script.Goals as goal
+
+pub returns-clause-draft : goal.returns-clause-draft
+returns-clause-draft c =
+    let ts = plain_forms c.args.forms.now in
+    c.in_ok-read_commands.ensures.draft ∙ ap (λ r. reading_after r ts) c.requires
+
+pub returns-clause-finds : goal.returns-clause-finds
+returns-clause-finds c =
+    let ts = plain_forms c.args.forms.now in
+    let got = c.in_ok-read_commands.ensures in
+    let d = c.read_commands.new.draft in
+    let old = c.args.found.now in
+    let r : plain_draft d ≡ reading_of ts = got.draft ∙ ap (λ r. reading_after r ts) c.requires in
+    let one : c.read_commands.new.found ≡ also old (commands_failures nothing_read ts) = got.finds ∙ ap (λ r. also old (commands_failures r ts)) c.requires in
+    let two : c.test_links.new.found ≡ also c.read_commands.new.found (links_failures (reading_of ts) c.args.end) = c.test_links.ensures ∙ ap (λ r. also c.read_commands.new.found (links_failures r c.args.end)) r in
+    let three : c.test_cycles.new.found ≡ also c.test_links.new.found (cycle_failures (reading_of ts).systems (reading_of ts).system_names) =
+    c.in_ok-test_cycles.ensures ∙ ap (λ xs. also c.test_links.new.found (cycle_failures (map plain_reading xs) d.system_names)) c.deref.ensures.value
+    ∙ ap (λ r. also c.test_links.new.found (cycle_failures r.systems r.system_names)) r in
+    also_two _ _ _ _ _ (also_two _ _ _ _ _ one two) three

@@ -1,0 +1,39 @@
+use Rattle.std.proofs.Common.{length, map, arith, ap, sym, subst, ◌∙◌}
+use Rattle.std.proofs.lemmas.List.{length-map}
+use Rattle.digraph.specs.Graph.{NeverReturns, is_graph}
+use Rattle.digraph.specs.Ordering.{IsOrder}
+use Rattle.moxi_scripts.specs.Collecting.{also}
+use Rattle.moxi_scripts.specs.Cycles.{all_cycles, use_graph}
+use Rattle.moxi_declarations.specs.Views.{plain_reading}
+use Rattle.moxi_attributes.proofs.Collecting.{also_none}
+use Rattle.moxi_scripts.proofs.CycleLaws.{all_never, graph_is, graph_long}
+use Rattle.moxi_reading.proofs.cycles.test_cycles.Goals as goal
+
+pub sort-requires : goal.sort-requires
+sort-requires c = ap is_graph c.in_ok-graph.ensures.graph ∙ graph_is (map plain_reading c.args.systems.now) c.args.names.now
+
+pub returns-in-Sorted : goal.returns-in-Sorted
+returns-in-Sorted c =
+    let a = c.args in
+    let rs = map plain_reading a.systems.now in
+    let is = subst (IsOrder c.in_ok-graph.graph) c.in-Sorted.is c.in_ok-order.ensures in
+    let never : NeverReturns (use_graph rs a.names.now) = subst NeverReturns c.in_ok-graph.ensures.graph is.1 in
+    sym (also_none a.found.now) ∙ ap (also a.found.now) (sym (all_never (use_graph rs a.names.now) 0 rs never))
+
+pub test_all_uses-requires-clause-graph : goal.test_all_uses-requires-clause-graph
+test_all_uses-requires-clause-graph c = ap is_graph c.in_ok-graph.ensures.graph ∙ graph_is (map plain_reading c.args.systems.now) c.args.names.now
+
+pub test_all_uses-requires-clause-few : goal.test_all_uses-requires-clause-few
+test_all_uses-requires-clause-few c =
+    let rs = map plain_reading c.args.systems.now in
+    omega (arith, ap length c.in_ok-graph.ensures.graph, graph_long rs c.args.names.now, length-map c.args.systems.now plain_reading, c.in_ok-graph.ensures.few)
+
+pub test_all_uses-requires-clause-there : goal.test_all_uses-requires-clause-there
+test_all_uses-requires-clause-there c =
+    let rs = map plain_reading c.args.systems.now in
+    omega (arith, ap length c.in_ok-graph.ensures.graph, graph_long rs c.args.names.now)
+
+pub returns : goal.returns
+returns c =
+    let rs = map plain_reading c.args.systems.now in
+    c.in_ok-test_all_uses-in-Returns.ensures ∙ ap (λ g. also c.args.found.now (all_cycles g 0 rs)) c.in_ok-graph.ensures.graph

@@ -1,0 +1,231 @@
+// Subsystems that contain the system in which they stand.
+ghost use Rattle.std.specs.Prelude.{◌≡◌, ◌+◌, ◌<◌, ◌≤◌, ◌^◌, ◌++◌, IfOk, OnOk, length, map, true};
+ghost use Rattle.digraph.specs.Graph.{is_graph};
+ghost use Rattle.moxi_sexpr.specs.Tree.{plain_forms};
+ghost use Rattle.moxi_scripts.specs.Collecting.{also};
+ghost use Rattle.moxi_scripts.specs.Commands.{nothing_read};
+ghost use Rattle.moxi_declarations.specs.Views.{plain_draft, plain_reading};
+ghost use Rattle.moxi_scripts.specs.Cycles.{all_cycles, all_use_rows, count_uses, cycle_failures, ends_at, nodes_from, system_rows, use_cycles, use_graph, use_rows, use_tests};
+ghost use Rattle.moxi_scripts.specs.Spelling.{reading_of, script_failures};
+
+use crate::links::test_links;
+use digraph::{Graph, Order, leads_back, sort};
+use moxi_attributes::fail_if;
+use moxi_declarations::{Draft, ReadSystem, read_commands};
+use moxi_scripts::Use;
+use moxi_sexpr::Form;
+use moxi_terms::Numbering;
+use std::alloc::Global;
+use text_core::{Items, NoMemory, Place, Refusal};
+
+// How many subsystems there are.
+fn count_uses(systems: &[ReadSystem]) -> Result<usize, NoMemory>
+    ensures { IfOk result (λ n. n ≡ count_uses (map plain_reading systems.now)) }
+{
+    let mut count = 0usize;
+    for r in systems {
+        match count.checked_add(r.uses.len()) {
+            Some(n) => count = n,
+            None => return Err(NoMemory),
+        }
+    }
+    Ok(count)
+}
+
+// The node of a system, where it is there.
+fn ends_at(
+    alloc: Global,
+    uses: usize,
+    systems: usize,
+    place: Option<usize>,
+) -> Result<Items<usize>, NoMemory>
+    requires { uses + systems < 2 ^ 64 }
+    ensures { IfOk result (λ ends. ends ≡ ends_at uses systems place) }
+{
+    let mut ends = Items::new(alloc);
+    match place {
+        None => Ok(ends),
+        Some(j) => {
+            if j < systems {
+                ends.push(uses + j)?;
+                return Ok(ends);
+            }
+            Ok(ends)
+        }
+    }
+}
+
+// To which nodes the subsystems of a system lead.
+fn add_use_rows(
+    alloc: Global,
+    names: &Numbering,
+    total: usize,
+    count: usize,
+    uses: &Items<Use>,
+    graph: &mut Graph,
+) -> Result<(), NoMemory>
+    requires { total + count < 2 ^ 64 }
+    ensures { OnOk result (graph.new ≡ graph.old ++ use_rows total count names.now uses.now) }
+{
+    for i in 0..uses.len() {
+        let u = uses.at(i);
+        let ends = ends_at(alloc, total, count, names.place(u.target.bytes()))?;
+        graph.push(ends)?;
+    }
+    Ok(())
+}
+
+fn add_all_use_rows(
+    alloc: Global,
+    names: &Numbering,
+    total: usize,
+    systems: &[ReadSystem],
+    graph: &mut Graph,
+) -> Result<(), NoMemory>
+    requires { total + length systems.now < 2 ^ 64 }
+    ensures { OnOk result (graph.new ≡ graph.old ++ all_use_rows total (length systems.now) names.now (map plain_reading systems.now)) }
+{
+    for r in systems {
+        add_use_rows(alloc, names, total, systems.len(), &r.uses, graph)?;
+    }
+    Ok(())
+}
+
+// So many nodes from this one on.
+#[tactic(auto, using(moxi_scripts::proofs::CycleLaws::nodes_step, moxi_scripts::proofs::CycleLaws::nodes_end))]
+fn nodes_from(alloc: Global, start: usize, count: usize) -> Result<Items<usize>, NoMemory>
+    requires { start + count < 2 ^ 64 }
+    ensures { IfOk result (λ nodes. nodes ≡ nodes_from start count) }
+{
+    let mut nodes = Items::new(alloc);
+    for i in 0..count {
+        nodes.push(start + i)?;
+    }
+    Ok(nodes)
+}
+
+// To which nodes the systems lead.
+fn add_system_rows(alloc: Global, systems: &[ReadSystem], graph: &mut Graph) -> Result<(), NoMemory>
+    requires { count_uses (map plain_reading systems.now) < 2 ^ 64 }
+    ensures { OnOk result (graph.new ≡ graph.old ++ system_rows 0 (map plain_reading systems.now)) }
+{
+    let mut start = 0usize;
+    for r in systems {
+        let count = r.uses.len();
+        let nodes = nodes_from(alloc, start, count)?;
+        graph.push(nodes)?;
+        start += count;
+    }
+    Ok(())
+}
+
+// Subsystems and systems as a graph.
+fn use_graph(alloc: Global, names: &Numbering, systems: &[ReadSystem]) -> Result<Graph, NoMemory>
+    ensures graph { IfOk result (λ g. g ≡ use_graph (map plain_reading systems.now) names.now) }
+    ensures few { OnOk result (count_uses (map plain_reading systems.now) + length systems.now < 2 ^ 64) }
+{
+    let total = count_uses(systems)?;
+    let mut graph = Graph::new(alloc);
+    match total.checked_add(systems.len()) {
+        None => return Err(NoMemory),
+        Some(_) => {}
+    }
+    add_all_use_rows(alloc, names, total, systems, &mut graph)?;
+    add_system_rows(alloc, systems, &mut graph)?;
+    Ok(graph)
+}
+
+// The test of a subsystem, which is this node.
+fn test_use(
+    alloc: Global,
+    graph: &Graph,
+    node: usize,
+    u: &Use,
+    found: &mut Option<Refusal>,
+) -> Result<(), NoMemory>
+    requires graph { is_graph graph.now ≡ true }
+    requires there { node < length graph.now }
+    ensures { OnOk result (found.new ≡ also found.old (use_tests graph.now node u.now)) }
+{
+    let leads = leads_back(alloc, graph, node)?;
+    fail_if(found, leads, 11, u.place);
+    Ok(())
+}
+
+// The tests of the subsystems of a system, which are nodes from this one on.
+fn test_uses(
+    alloc: Global,
+    graph: &Graph,
+    node: usize,
+    uses: &Items<Use>,
+    found: &mut Option<Refusal>,
+) -> Result<(), NoMemory>
+    requires graph { is_graph graph.now ≡ true }
+    requires few { length graph.now < 2 ^ 64 }
+    requires there { node + length uses.now ≤ length graph.now }
+    ensures { OnOk result (found.new ≡ also found.old (use_cycles graph.now node uses.now)) }
+{
+    for i in 0..uses.len() {
+        test_use(alloc, graph, node + i, uses.at(i), found)?;
+    }
+    Ok(())
+}
+
+// The tests of all subsystems.
+fn test_all_uses(
+    alloc: Global,
+    graph: &Graph,
+    systems: &[ReadSystem],
+    found: &mut Option<Refusal>,
+) -> Result<(), NoMemory>
+    requires graph { is_graph graph.now ≡ true }
+    requires few { length graph.now < 2 ^ 64 }
+    requires there { count_uses (map plain_reading systems.now) ≤ length graph.now }
+    ensures { OnOk result (found.new ≡ also found.old (all_cycles graph.now 0 (map plain_reading systems.now))) }
+{
+    let mut node = 0usize;
+    for r in systems {
+        test_uses(alloc, graph, node, &r.uses, found)?;
+        node += r.uses.len();
+    }
+    Ok(())
+}
+
+/// The tests of subsystems that contain the system in which they stand.
+pub fn test_cycles(
+    alloc: Global,
+    names: &Numbering,
+    systems: &[ReadSystem],
+    found: &mut Option<Refusal>,
+) -> Result<(), NoMemory>
+    ensures { OnOk result (found.new ≡ also found.old (cycle_failures (map plain_reading systems.now) names.now)) }
+{
+    let graph = use_graph(alloc, names, systems)?;
+    let order = sort(alloc, &graph)?;
+    match order {
+        Order::Sorted(_) => Ok(()),
+        Order::Returns(_) => {
+            test_all_uses(alloc, &graph, systems, found)?;
+            Ok(())
+        }
+    }
+}
+
+/// Reads the commands of a script whose text ends at `end`, and makes all of its tests: of those that fail, the one with the
+/// least place is found, and at one place the one with the least number.
+pub fn read_whole_script(
+    alloc: Global,
+    forms: &[Form],
+    end: Place,
+    draft: &mut Draft,
+    found: &mut Option<Refusal>,
+) -> Result<(), NoMemory>
+    requires { plain_draft draft.old ≡ nothing_read }
+    ensures draft { OnOk result (plain_draft draft.new ≡ reading_of (plain_forms forms.now)) }
+    ensures finds { OnOk result (found.new ≡ also found.old (script_failures (plain_forms forms.now) end)) }
+{
+    read_commands(alloc, forms, draft, found)?;
+    test_links(draft, end, found);
+    test_cycles(alloc, &draft.system_names, &draft.systems, found)?;
+    Ok(())
+}

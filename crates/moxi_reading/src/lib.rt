@@ -1,0 +1,12 @@
+//! The script that forms of MoXI spell, or its first failing test.
+#![tactic(auto)]
+
+mod cycles;
+mod links;
+mod outcome;
+mod read;
+
+pub use cycles::{read_whole_script, test_cycles};
+pub use links::test_links;
+pub use outcome::ScriptEnd;
+pub use read::read_script;

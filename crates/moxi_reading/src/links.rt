@@ -1,0 +1,215 @@
+// The tests that rest on the whole script.
+ghost use Rattle.std.specs.Prelude.{◌≡◌, ◌==◌, ◌+◌, Some, length, map};
+ghost use Rattle.std.specs.Option.{option_map};
+ghost use Rattle.moxi_declarations.specs.Views.{plain_check_reading, plain_draft, plain_reading};
+ghost use Rattle.moxi_scripts.specs.Collecting.{also};
+ghost use Rattle.moxi_scripts.specs.Declarations.{is_taken};
+ghost use Rattle.moxi_scripts.specs.Links.{actuals_clash, actuals_failures, check_failures, checked_failures, entries_fit, entry_sort, fit_failures, links_failures, list_failures, lists_at, lists_failures, same_known, sort_at, systems_failures, taken_failures, target_failures, use_failures, uses_failures};
+ghost use Rattle.moxi_reading.specs.Views.{lists_now};
+
+use moxi_attributes::{fail, fail_if, test_clash};
+use moxi_declarations::{Draft, ReadCheck, ReadSystem};
+use moxi_scripts::{Actual, DeclaredList, Entries, ListPlaces, Lists, Use};
+use moxi_terms::{Numbering, Scope, Sort};
+use text_core::{Items, Place, Refusal};
+
+fn is_taken(scope: &Scope, names: &Numbering, name: &[u8]) -> bool
+    ensures { result ≡ is_taken scope.now names.now name.now }
+{
+    scope.is_term_name(name) || names.place(name).is_some()
+}
+
+// The tests of variables that have the name of a constant or a function.
+fn test_taken(scope: &Scope, names: &Numbering, variables: &Entries, found: &mut Option<Refusal>)
+    ensures { found.new ≡ also found.old (taken_failures scope.now names.now variables.now) }
+{
+    for i in 0..variables.len() {
+        let d = variables.at(i);
+        fail_if(found, is_taken(scope, names, d.name.bytes()), 9, d.place);
+    }
+}
+
+// The lists of the system of this number.
+#[tactic(auto, using(crate::proofs::LinkLaws::lists_there, crate::proofs::LinkLaws::lists_missing))]
+fn lists_at<'a>(systems: &'a [ReadSystem], j: usize) -> Option<&'a Lists>
+    ensures { lists_now result ≡ lists_at (map plain_reading systems.now) j }
+{
+    if j < systems.len() {
+        Some(&systems[j].lists)
+    } else {
+        None
+    }
+}
+
+// The sort of an input or an output.
+#[tactic(auto, using(moxi_scripts::proofs::ListLaws::get_left, moxi_scripts::proofs::ListLaws::get_right, moxi_scripts::proofs::ListLaws::get_at))]
+fn sort_at(l: &Lists, i: usize) -> Option<Sort>
+    ensures { result ≡ sort_at l.now i }
+{
+    let inputs = l.inputs.entries.len();
+    if i < inputs {
+        return l.inputs.entries.at(i).sort;
+    }
+    if i - inputs < l.outputs.entries.len() {
+        return l.outputs.entries.at(i - inputs).sort;
+    }
+    None
+}
+
+// The tests of the sorts of actuals.
+fn test_actuals(lists: &Lists, actuals: &Items<Actual>, found: &mut Option<Refusal>)
+    ensures { found.new ≡ also found.old (actuals_clash lists.now 0 actuals.now) }
+{
+    for i in 0..actuals.len() {
+        let a = actuals.at(i);
+        test_clash(found, a.sort, sort_at(lists, i), a.place);
+    }
+}
+
+fn count_fits(l: &Lists, count: usize) -> bool
+    ensures { result ≡ (count == length l.now.inputs.entries + length l.now.outputs.entries) }
+{
+    let inputs = l.inputs.entries.len();
+    inputs <= count && count - inputs == l.outputs.entries.len()
+}
+
+// The tests of what is handed to a subsystem.
+#[tactic(auto, using(moxi_attributes::proofs::Collecting::also_none))]
+fn test_fit(u: &Use, lists: Option<&Lists>, found: &mut Option<Refusal>)
+    ensures { found.new ≡ also found.old (actuals_failures u.now (lists_now lists.entry)) }
+{
+    match lists {
+        None => {}
+        Some(l) => {
+            if l.inputs.whole && l.outputs.whole {
+                if count_fits(l, u.actuals.len()) {
+                    test_actuals(l, &u.actuals, found);
+                    return;
+                }
+                fail(found, 12, u.list);
+                return;
+            }
+        }
+    }
+}
+
+// The tests of a subsystem.
+fn test_use(systems: &[ReadSystem], names: &Numbering, u: &Use, found: &mut Option<Refusal>)
+    ensures { found.new ≡ also found.old (use_failures (map plain_reading systems.now) names.now u.now) }
+{
+    match names.place(u.target.bytes()) {
+        None => fail(found, 10, u.place),
+        Some(j) => test_fit(u, lists_at(systems, j), found),
+    }
+}
+
+// The tests of the subsystems of a system.
+fn test_uses(
+    systems: &[ReadSystem],
+    names: &Numbering,
+    uses: &Items<Use>,
+    found: &mut Option<Refusal>,
+)
+    ensures { found.new ≡ also found.old (uses_failures (map plain_reading systems.now) names.now uses.now) }
+{
+    for i in 0..uses.len() {
+        test_use(systems, names, uses.at(i), found);
+    }
+}
+
+// The tests of the subsystems of all systems.
+fn test_systems(systems: &[ReadSystem], names: &Numbering, found: &mut Option<Refusal>)
+    ensures { found.new ≡ also found.old (systems_failures (map plain_reading systems.now) names.now (map plain_reading systems.now)) }
+{
+    for r in systems {
+        test_uses(systems, names, &r.uses, found);
+    }
+}
+
+fn same_known(a: Option<Sort>, b: Option<Sort>) -> bool
+    ensures { result ≡ same_known a b }
+{
+    match a {
+        None => false,
+        Some(s) => match b {
+            None => false,
+            Some(t) => s == t,
+        },
+    }
+}
+
+// As many entries, each of the same sort?
+#[tactic(auto, using(crate::proofs::LinkLaws::fit_lengths, crate::proofs::LinkLaws::fit_end, crate::proofs::LinkLaws::fit_step))]
+fn entries_fit(a: &Entries, b: &Entries) -> bool
+    ensures { result ≡ entries_fit a.now b.now }
+{
+    if a.len() != b.len() {
+        return false;
+    }
+    for i in 0..a.len() {
+        if !same_known(a.at(i).sort, b.at(i).sort) {
+            return false;
+        }
+    }
+    true
+}
+
+// The test of a list of a check.
+fn test_list(a: &DeclaredList, b: &DeclaredList, p: Place, found: &mut Option<Refusal>)
+    ensures { found.new ≡ also found.old (list_failures a.now b.now p) }
+{
+    let clash = a.whole && b.whole && !entries_fit(&a.entries, &b.entries);
+    fail_if(found, clash, 13, p);
+}
+
+// The tests of the lists of a check.
+#[tactic(auto, using(moxi_attributes::proofs::Collecting::also_append, moxi_attributes::proofs::Collecting::also_none))]
+fn test_lists(lists: Option<&Lists>, c: &Lists, p: ListPlaces, found: &mut Option<Refusal>)
+    ensures { found.new ≡ also found.old (lists_failures (lists_now lists.entry) c.now p) }
+{
+    match lists {
+        None => {}
+        Some(l) => {
+            test_list(&l.inputs, &c.inputs, p.inputs, found);
+            test_list(&l.outputs, &c.outputs, p.outputs, found);
+            test_list(&l.locals, &c.locals, p.locals, found);
+        }
+    }
+}
+
+// The tests of a check.
+fn test_check(systems: &[ReadSystem], names: &Numbering, c: &ReadCheck, found: &mut Option<Refusal>)
+    ensures { found.new ≡ also found.old (check_failures (map plain_reading systems.now) names.now (Some (plain_check_reading c.now))) }
+{
+    match names.place(c.target.bytes()) {
+        None => fail(found, 10, c.target_place),
+        Some(j) => test_lists(lists_at(systems, j), &c.lists, c.places, found),
+    }
+}
+
+#[tactic(auto, using(moxi_attributes::proofs::Collecting::also_none))]
+fn test_check_of(
+    systems: &[ReadSystem],
+    names: &Numbering,
+    check: &Option<ReadCheck>,
+    found: &mut Option<Refusal>,
+)
+    ensures { found.new ≡ also found.old (check_failures (map plain_reading systems.now) names.now (option_map plain_check_reading check.now)) }
+{
+    match check {
+        None => {}
+        Some(c) => test_check(systems, names, c, found),
+    }
+}
+
+/// The tests of what is read that rest on the whole script, whose text ends at `end`: all but those of subsystems that stand
+/// on a cycle.
+#[tactic(auto, using(moxi_attributes::proofs::Collecting::also_append))]
+pub fn test_links(draft: &Draft, end: Place, found: &mut Option<Refusal>)
+    ensures { found.new ≡ also found.old (links_failures (plain_draft draft.now) end) }
+{
+    test_taken(&draft.scope, &draft.term_names, &draft.variables, found);
+    test_systems(&draft.systems, &draft.system_names, found);
+    test_check_of(&draft.systems, &draft.system_names, &draft.check, found);
+    fail_if(found, !draft.checked, 13, end);
+}

@@ -1,0 +1,80 @@
+// Scripts: systems, and what is checked of one.
+ghost use Rattle.moxi_scripts.specs.Invariant.{IsSpelled, script_of};
+
+use moxi_terms::{Scope, Term, Variables};
+use text_core::{Items, Name, Numbers, Place};
+
+/// A subsystem: its name, the number of its system, and for the inputs and then the outputs of that system the numbers of
+/// variables of the system in which it stands.
+#[derive(Drop)]
+pub struct Subsystem {
+    pub name: Name,
+    pub system: u32,
+    pub actuals: Numbers,
+}
+
+/// Subsystems, in the order in which they stand.
+pub type Subsystems = Items<Subsystem>;
+
+/// A system. Its variables are numbered from 0: inputs, outputs, locals.
+#[derive(Drop)]
+pub struct System {
+    pub name: Name,
+    pub inputs: Variables,
+    pub outputs: Variables,
+    pub locals: Variables,
+    pub init: Term,
+    pub trans: Term,
+    pub inv: Term,
+    pub subsystems: Subsystems,
+}
+
+/// Systems, in the order in which they are defined.
+pub type Systems = Items<System>;
+
+/// An assumption, a current condition or a reachable formula.
+#[derive(Drop)]
+pub struct Formula {
+    pub name: Name,
+    pub term: Term,
+}
+
+/// Formulas of one kind, in the order in which they stand.
+pub type Formulas = Items<Formula>;
+
+/// A query: the numbers of its assumptions and of its current conditions, and that of its one reachable formula.
+#[derive(Drop)]
+pub struct Query {
+    pub name: Name,
+    pub assumptions: Numbers,
+    pub currents: Numbers,
+    pub reachable: u32,
+}
+
+/// Queries, in the order in which they stand.
+pub type Queries = Items<Query>;
+
+/// What is checked of a system, with names of its own for the system's variables.
+#[derive(Drop)]
+pub struct Check {
+    pub place: Place,
+    pub system: u32,
+    pub inputs: Variables,
+    pub outputs: Variables,
+    pub locals: Variables,
+    pub assumptions: Formulas,
+    pub currents: Formulas,
+    pub reachables: Formulas,
+    pub queries: Queries,
+}
+
+/// A script (MoXI, SPIN 2024): the last logic that is set, what is declared, the systems, and the one check. Some forms that
+/// can be printed spell it.
+#[derive(Drop)]
+pub struct Script {
+    pub logic: Option<Name>,
+    pub scope: Scope,
+    pub systems: Systems,
+    pub check: Check,
+    pub ghost spelled: { ∥ IsSpelled (script_of logic scope systems check) ∥₁ },
+}

@@ -1,0 +1,6 @@
+pub mod VariableNames
+pub mod NamesLaws
+pub mod NamesLawsScopes
+pub mod NamesLawsScript
+pub mod NamesLawsGrowth
+pub mod NamesLawsShown

@@ -1,0 +1,7 @@
+pub mod FormLaws
+pub mod FindingLaws
+pub mod StackLaws
+pub mod TypingLaws
+pub mod Least
+pub mod AllLaws
+pub mod ReadSorts

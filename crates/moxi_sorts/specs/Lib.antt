@@ -1,0 +1,5 @@
+pub mod Failures
+pub mod Forms
+pub mod Finding
+pub mod SortReading
+pub mod Typing

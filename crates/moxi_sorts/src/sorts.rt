@@ -1,0 +1,166 @@
+// The sort that a form spells.
+ghost use Rattle.std.specs.Prelude.{◌≡◌, Some, None, IfOk};
+ghost use Rattle.text_core.specs.declared.place.Place.{Place};
+ghost use Rattle.moxi_sexpr.specs.Tree.{Tree, plain, plain_forms};
+ghost use Rattle.moxi_terms.specs.Sorted.{IsScope};
+ghost use Rattle.moxi_terms.specs.Sorts.{IsSort};
+ghost use Rattle.moxi_terms.specs.View.{ScopeState};
+ghost use Rattle.moxi_sorts.specs.Forms.{digits_now, symbol_now};
+ghost use Rattle.moxi_sorts.specs.SortReading.{atom_sort, index_of, indexed_sort, is_width, listed_sort, sort_reading, symbol_sort, unknown, vector_sort, width_sort};
+ghost use Rattle.moxi_terms.specs.Words.{is_one_of, left_out_sorts};
+ghost use Rattle.moxi_sexpr.specs.Lexing.{refusal};
+
+use crate::forms::{only_numeral, symbol_atom, symbol_of};
+use moxi_sexpr::{Form, FormShape};
+use moxi_terms::{Scope, Sort, is_left_out_sort, is_same};
+use text_core::{Kind, Place, Refusal};
+use word_core::{WIDEST, read_digits};
+
+/// A refusal of this number.
+pub fn refusal(number: u8, place: Place) -> Refusal
+    ensures { result ≡ refusal number place }
+{
+    Refusal {
+        kind: Kind::M(number),
+        place,
+    }
+}
+
+/// The number that a numeral spells, or the greatest of 32 bits where it is greater.
+pub fn index_of(digits: &[u8]) -> u32
+    ensures { result ≡ index_of digits.now }
+{
+    match read_digits(32, 10, digits) {
+        Some(w) => w.bits() as u32,
+        None => u32::MAX,
+    }
+}
+
+/// What a form at p is refused with, that has a name at q which stands for nothing.
+pub fn unknown(left_out: bool, p: Place, q: Place) -> Refusal
+    ensures { result ≡ unknown left_out p q }
+{
+    if left_out {
+        refusal(6, p)
+    } else {
+        refusal(4, q)
+    }
+}
+
+fn symbol_sort(sort: Option<Sort>, name: &[u8], primed: bool, p: Place) -> Result<Sort, Refusal>
+    ensures { result ≡ symbol_sort sort name.now primed p }
+{
+    match sort {
+        Some(s) => if primed { Err(refusal(7, p)) } else { Ok(s) },
+        None => Err(unknown(is_left_out_sort(name), p, p)),
+    }
+}
+
+fn width_sort(
+    width: u32,
+    p: Place,
+    q: Place,
+    first: bool,
+    r: Place,
+    second: bool,
+) -> Result<Sort, Refusal>
+    ensures { result ≡ width_sort width p q first r second }
+{
+    if width < 1 || width > WIDEST {
+        Err(refusal(8, p))
+    } else if first {
+        Err(refusal(7, q))
+    } else if second {
+        Err(refusal(7, r))
+    } else {
+        Ok(Sort::Bits(width))
+    }
+}
+
+// What stands behind `BitVec`: the numeral of the width.
+fn vector_sort(
+    p: Place,
+    q: Place,
+    first: bool,
+    r: Place,
+    second: bool,
+    width: Option<&[u8]>,
+) -> Result<Sort, Refusal>
+    ensures { result ≡ vector_sort p q first r second (digits_now width.entry) }
+{
+    match width {
+        Some(digits) => width_sort(index_of(digits), p, q, first, r, second),
+        None => Err(refusal(12, p)),
+    }
+}
+
+// What stands behind the `_` at q of a sort at p.
+fn indexed_sort(p: Place, q: Place, first: bool, rest: &[Form]) -> Result<Sort, Refusal>
+    ensures { result ≡ indexed_sort p q first (plain_forms rest.now) }
+{
+    match rest.split_first() {
+        Some((form, more)) => match symbol_of(form) {
+            Some((name, second)) => if is_same(name, b"BitVec") {
+                vector_sort(p, q, first, form.place, second, only_numeral(more))
+            } else {
+                Err(unknown(is_left_out_sort(name), p, q))
+            },
+            None => Err(refusal(12, p)),
+        },
+        None => Err(refusal(12, p)),
+    }
+}
+
+// A list at p, that has this symbol at its head at q.
+fn listed_sort(
+    scope: &Scope,
+    p: Place,
+    q: Place,
+    symbol: Option<(&[u8], bool)>,
+    rest: &[Form],
+) -> Result<Sort, Refusal>
+    ensures { result ≡ listed_sort scope.now p q (symbol_now symbol.entry) (plain_forms rest.now) }
+{
+    match symbol {
+        None => Err(refusal(12, p)),
+        Some((name, primed)) => if is_same(name, b"_") {
+            indexed_sort(p, q, primed, rest)
+        } else if is_same(name, b"BitVec") || scope.sort_named(name).is_some() {
+            Err(refusal(12, p))
+        } else {
+            Err(unknown(is_left_out_sort(name), p, q))
+        },
+    }
+}
+
+fn atom_sort(
+    scope: &Scope,
+    around: Place,
+    p: Place,
+    symbol: Option<(&[u8], bool)>,
+) -> Result<Sort, Refusal>
+    ensures { result ≡ atom_sort scope.now around p (symbol_now symbol.entry) }
+{
+    match symbol {
+        Some((name, primed)) => symbol_sort(scope.sort_named(name), name, primed, p),
+        None => Err(refusal(12, around)),
+    }
+}
+
+/// The sort that a form in a list at `around` spells, or the failing test with the least place (M4, M6, M7, M8, M12).
+pub fn sort_of(scope: &Scope, around: Place, form: &Form) -> Result<Sort, Refusal>
+    ensures { result ≡ sort_reading scope.now around (plain form.now) }
+{
+    match &form.shape {
+        FormShape::Atom(a) => atom_sort(scope, around, form.place, symbol_atom(a)),
+        FormShape::List(parts) => match parts.split_first() {
+            Some((head, rest)) => listed_sort(scope, form.place, head.place, symbol_of(head), rest),
+            None => Err(refusal(12, form.place)),
+        },
+    }
+}
+
+/// A sort that a form spells is one of the scope.
+pub fn read_sorts_are_of_the_scope()
+    ensures { (s : ScopeState) (around : Place) (t : Tree) → IsScope s → IfOk (sort_reading s around t) (IsSort s.enumerations) }
+{}

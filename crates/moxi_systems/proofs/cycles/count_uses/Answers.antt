@@ -1,9 +1,0 @@
-use Rattle.std.proofs.Common.{arith, ap}
-use Rattle.moxi_systems.specs.Cycles.{count_uses}
-use Rattle.moxi_systems.proofs.LinkLaws.{systems_end}
-use Rattle.moxi_systems.proofs.cycles.count_uses.Goals as goal
-
-pub returns : goal.returns
-returns c =
-    let l = c.loop-r in
-    omega (arith, ap count_uses (systems_end c.args.systems.now l.r-index c.loop-r-test.false), l.invariant)

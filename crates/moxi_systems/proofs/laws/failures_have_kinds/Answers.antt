@@ -1,5 +1,0 @@
-use Rattle.moxi_systems.proofs.ScriptKinds.{script_kinds}
-use Rattle.moxi_systems.proofs.laws.failures_have_kinds.Goals as goal
-
-pub returns : goal.returns
-returns c = script_kinds

@@ -1,5 +1,0 @@
-use Rattle.moxi_systems.proofs.ScriptLaws.{one_script}
-use Rattle.moxi_systems.proofs.laws.one_script.Goals as goal
-
-pub returns : goal.returns
-returns c = one_script

@@ -1,8 +1,0 @@
-use Rattle.std.proofs.Common.{◌≡◌, drop, map}
-use Rattle.moxi_systems.specs.Collecting.{also}
-use Rattle.moxi_systems.specs.Links.{systems_failures}
-use Rattle.moxi_systems.specs.Systems.{plain_reading}
-use Rattle.moxi_systems.proofs.links.test_systems.Given as goal
-
-abbrev pub invariant-loop-r : goal.invariant-loop-r
-invariant-loop-r l = also l.found (systems_failures (map plain_reading l.systems) l.names (map plain_reading (drop l.r-index l.systems))) ≡ also l.fn.found (systems_failures (map plain_reading l.systems) l.names (map plain_reading l.systems))

@@ -1,8 +1,0 @@
-use Rattle.std.proofs.Common.{◌≡◌, drop, map}
-use Rattle.moxi_systems.specs.Collecting.{also}
-use Rattle.moxi_systems.specs.Links.{uses_failures}
-use Rattle.moxi_systems.specs.Systems.{plain_reading}
-use Rattle.moxi_systems.proofs.links.test_uses.Given as goal
-
-abbrev pub invariant-loop-i : goal.invariant-loop-i
-invariant-loop-i l = also l.found (uses_failures (map plain_reading l.systems) l.names (drop l.i l.uses)) ≡ also l.fn.found (uses_failures (map plain_reading l.systems) l.names l.uses)

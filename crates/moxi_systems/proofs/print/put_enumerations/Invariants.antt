@@ -1,8 +1,0 @@
-use Rattle.std.proofs.Common.{◌≡◌, ◌++◌, ◌∷◌, [], drop, take, map}
-use Rattle.moxi_sexpr.specs.Printing.{bytes_behind}
-use Rattle.moxi_print.specs.Shown.{parts_text, lines_text}
-use Rattle.moxi_systems.specs.Printing.{shown_enumerations}
-use Rattle.moxi_systems.proofs.print.put_enumerations.Given as goal
-
-abbrev pub invariant-loop-i : goal.invariant-loop-i
-invariant-loop-i l = l.out ++ lines_text (shown_enumerations (drop l.i l.enumerations)) ≡ l.fn.out ++ lines_text (shown_enumerations l.enumerations)

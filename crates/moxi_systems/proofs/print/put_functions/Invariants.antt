@@ -1,9 +1,0 @@
-use Rattle.std.proofs.Common.{◌≡◌, ◌++◌, ◌∷◌, [], drop, take, map}
-use Rattle.moxi_sexpr.specs.Printing.{bytes_behind}
-use Rattle.moxi_print.specs.Shown.{parts_text, lines_text}
-use Rattle.moxi_terms.specs.View.{plain_function}
-use Rattle.moxi_systems.specs.Printing.{shown_functions}
-use Rattle.moxi_systems.proofs.print.put_functions.Given as goal
-
-abbrev pub invariant-loop-i : goal.invariant-loop-i
-invariant-loop-i l = l.out ++ lines_text (shown_functions l.scope (map plain_function (drop l.i l.functions))) ≡ l.fn.out ++ lines_text (shown_functions l.scope (map plain_function l.functions))

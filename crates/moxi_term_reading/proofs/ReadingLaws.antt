@@ -1,0 +1,132 @@
+-- What is read by parts.
+use Rattle.std.proofs.Common.{◌≡◌, ℕ, suc, ◌+◌, ◌<◌, ◌≤◌, List, [], ◌∷◌, ◌++◌, map, length, take, drop, zero, Option, None, Some, Result, Ok, Err, IfOk, OnOk, Vec, Global, refl, sym, ap, ◌∙◌, arith, rules, append_assoc, append-nil, drop-cons, add-one}
+use Rattle.std.specs.Prelude.{slice_index_or}
+use Rattle.text_core.specs.declared.place.Place.{Place}
+use Rattle.text_core.specs.declared.place.Refusal.{Refusal}
+use Rattle.moxi_sexpr.specs.declared.form.Atom.{Atom}
+use Rattle.moxi_sexpr.specs.declared.form.Form.{Form, out-Form}
+use Rattle.moxi_sexpr.specs.declared.form.FormShape.{List as Listed, Atom as Single, the_lemmas}
+use Rattle.moxi_sexpr.specs.Lexing.{refusal}
+use Rattle.moxi_sexpr.specs.Tree as form
+use Rattle.moxi_terms.specs.declared.data.Sort.{Sort}
+use Rattle.moxi_sorts.specs.declared.locals.Local.{Local}
+use Rattle.moxi_terms.specs.declared.term.Term.{Term}
+use Rattle.moxi_terms.specs.View.{plain}
+use Rattle.moxi_sorts.specs.Failures.{sooner, least}
+use Rattle.moxi_term_reading.specs.Reading.{Arguments, Bindings, joined, no_arguments, both_arguments, no_bindings, both_bindings, names_of, unless_failed, bindings_tests}
+use Rattle.std.proofs.lemmas.Option.{same_Some, none-some}
+use Rattle.moxi_sorts.specs.Forms.{pair_of}
+use Rattle.moxi_terms.specs.declared.term.Variable.{Variable}
+use Rattle.moxi_term_reading.specs.Answer.{unless_some, locals_of}
+use Rattle.moxi_sorts.proofs.Least.{least_append}
+
+-- tests one after another
+pub tests_both : (f g : Option Refusal) (xs ys : List Refusal) → f ≡ least xs → g ≡ least ys → sooner f g ≡ least (xs ++ ys)
+tests_both f g xs ys e h = ap (λ f. sooner f g) e ∙ ap (sooner (least xs)) h ∙ sym (least_append xs ys)
+
+pub unless_least : (fs : List Refusal) (s : Option Sort) (f : Option Refusal) → f ≡ least fs → unless_some f s ≡ unless_failed fs s
+unless_least fs s f e = ap (λ f. unless_some f s) e ∙ go fs
+  where
+    some_least : (x : Refusal) (o : Option Refusal) → unless_some (sooner (Some x) o) s ≡ None
+    some_least x None = refl
+    some_least x (Some y) = refl
+
+    go : (fs : List Refusal) → unless_some (least fs) s ≡ unless_failed fs s
+    go [] = refl
+    go (x ∷ xs) = some_least x (least xs)
+
+-- ARGUMENTS
+
+joined_assoc : (a b c : Option (List Sort)) → joined (joined a b) c ≡ joined a (joined b c)
+joined_assoc None b c = refl
+joined_assoc (Some x) None c = refl
+joined_assoc (Some x) (Some y) None = refl
+joined_assoc (Some x) (Some y) (Some z) = ap Some (append_assoc x y z)
+
+joined_end : (a : Option (List Sort)) → joined a (Some []) ≡ a
+joined_end None = refl
+joined_end (Some x) = ap Some (append-nil x)
+
+joined_front : (a : Option (List Sort)) → joined (Some []) a ≡ a
+joined_front None = refl
+joined_front (Some x) = refl
+
+pub arguments_assoc : (x y z : Arguments) → both_arguments (both_arguments x y) z ≡ both_arguments x (both_arguments y z)
+arguments_assoc x y z =
+    ap (λ ts. record { terms = ts; sorts = joined (joined x.sorts y.sorts) z.sorts; failures = (x.failures ++ y.failures) ++ z.failures }) (append_assoc x.terms y.terms z.terms)
+    ∙ ap (λ ss. record { terms = x.terms ++ (y.terms ++ z.terms); sorts = ss; failures = (x.failures ++ y.failures) ++ z.failures }) (joined_assoc x.sorts y.sorts z.sorts)
+    ∙ ap (λ fs. record { terms = x.terms ++ (y.terms ++ z.terms); sorts = joined x.sorts (joined y.sorts z.sorts); failures = fs }) (append_assoc x.failures y.failures z.failures)
+
+pub arguments_end : (x : Arguments) → both_arguments x no_arguments ≡ x
+arguments_end x =
+    ap (λ ts. record { terms = ts; sorts = joined x.sorts (Some []); failures = x.failures ++ [] }) (append-nil x.terms)
+    ∙ ap (λ ss. record { terms = x.terms; sorts = ss; failures = x.failures ++ [] }) (joined_end x.sorts)
+    ∙ ap (λ fs. record { terms = x.terms; sorts = x.sorts; failures = fs }) (append-nil x.failures)
+
+pub arguments_front : (x : Arguments) → both_arguments no_arguments x ≡ x
+arguments_front x = ap (λ ss. record { terms = x.terms; sorts = ss; failures = x.failures }) (joined_front x.sorts)
+
+pub bindings_assoc : (x y z : Bindings) → both_bindings (both_bindings x y) z ≡ both_bindings x (both_bindings y z)
+bindings_assoc x y z =
+    ap (λ ls. record { locals = ls; terms = (x.terms ++ y.terms) ++ z.terms; shape = (x.shape ++ y.shape) ++ z.shape; failures = (x.failures ++ y.failures) ++ z.failures }) (append_assoc x.locals y.locals z.locals)
+    ∙ ap (λ ts. record { locals = x.locals ++ (y.locals ++ z.locals); terms = ts; shape = (x.shape ++ y.shape) ++ z.shape; failures = (x.failures ++ y.failures) ++ z.failures }) (append_assoc x.terms y.terms z.terms)
+    ∙ ap (λ fs. record { locals = x.locals ++ (y.locals ++ z.locals); terms = x.terms ++ (y.terms ++ z.terms); shape = fs; failures = (x.failures ++ y.failures) ++ z.failures }) (append_assoc x.shape y.shape z.shape)
+    ∙ ap (λ fs. record { locals = x.locals ++ (y.locals ++ z.locals); terms = x.terms ++ (y.terms ++ z.terms); shape = x.shape ++ (y.shape ++ z.shape); failures = fs }) (append_assoc x.failures y.failures z.failures)
+
+pub bindings_end : (x : Bindings) → both_bindings x no_bindings ≡ x
+bindings_end x =
+    ap (λ ls. record { locals = ls; terms = x.terms ++ []; shape = x.shape ++ []; failures = x.failures ++ [] }) (append-nil x.locals)
+    ∙ ap (λ ts. record { locals = x.locals; terms = ts; shape = x.shape ++ []; failures = x.failures ++ [] }) (append-nil x.terms)
+    ∙ ap (λ fs. record { locals = x.locals; terms = x.terms; shape = fs; failures = x.failures ++ [] }) (append-nil x.shape)
+    ∙ ap (λ fs. record { locals = x.locals; terms = x.terms; shape = x.shape; failures = fs }) (append-nil x.failures)
+
+names_append : (xs ys : List Local) → names_of (xs ++ ys) ≡ names_of xs ++ names_of ys
+names_append [] ys = refl
+names_append (x ∷ xs) ys = ap (λ ns. x.name ∷ ns) (names_append xs ys)
+
+pub names_more : (ls xs : List Local) (names all : List (List ℕ)) (name : List ℕ) (s : Option Sort) → names ≡ names_of ls → all ≡ names ++ name ∷ [] → all ≡ names_of (ls ++ record { name = name; sort = s } ∷ [])
+names_more ls xs names all name s e f = f ∙ ap (λ ns. ns ++ name ∷ []) e ∙ sym (names_append ls (record { name = name; sort = s } ∷ []))
+
+pub forms_step : (fs : List Form) (i : ℕ) (x : Form) → i < length fs → x ≡ slice_index_or fs i x → form.plain_forms (drop i fs) ≡ form.tree (form.plain x) (form.plain_forms (drop (i + 1) fs))
+forms_step fs i x h e = ap form.plain_forms (drop-cons fs i x h ∙ ap (λ y. y ∷ drop (suc i) fs) (sym e)) ∙ ap (λ k. form.tree (form.plain x) (form.plain_forms (drop k fs))) (sym (add-one i))
+
+pub empty_bindings : (q : Place) (fs : List Form) → length fs ≡ 0 → least (bindings_tests q (form.plain_forms fs)) ≡ Some (refusal 12 q)
+empty_bindings q [] h = refl
+empty_bindings q (f ∷ fs) h = absurd (omega arith)
+
+pub plain_end : (ts : List Term) (t : Term) → map plain (ts ++ t ∷ []) ≡ map plain ts ++ plain t ∷ []
+plain_end [] t = refl
+plain_end (u ∷ us) t = ap (λ xs. plain u ∷ xs) (plain_end us t)
+
+pub if_ok_map : {A E : Type 0} (P Q : A → Type 0) (r : Result A E) → ((x : A) → P x → Q x) → IfOk r P → IfOk r Q
+if_ok_map P Q (Ok x) f h = f x h
+if_ok_map P Q (Err e) f h = tt
+
+pub plain_list : (f : Form) (fs : Vec Form Global) → (out-Form f).shape ≡ Listed fs → form.plain f ≡ form.list (out-Form f).place (form.plain_forms fs.items)
+plain_list f fs e = search (rules, the_lemmas)
+
+pub plain_atom : (f : Form) (a : Atom) → (out-Form f).shape ≡ Single a → form.plain f ≡ form.atom (out-Form f).place a
+plain_atom f a e = search (rules, the_lemmas)
+
+pub pair_is : (ts : form.Trees) (a b : form.Tree) → Some (a, b) ≡ pair_of ts → ts ≡ form.tree a (form.tree b form.no_trees)
+pair_is form.no_trees a b h = absurd (none-some (a, b) (sym h))
+pair_is (form.tree t form.no_trees) a b h = absurd (none-some (a, b) (sym h))
+pair_is (form.tree t (form.tree u form.no_trees)) a b h =
+    let e = same_Some (a, b) (t, u) h in
+    ap (λ t. form.tree t (form.tree u form.no_trees)) (sym (ap (λ (p : form.Tree × form.Tree). p.0) e)) ∙ ap (λ u. form.tree a (form.tree u form.no_trees)) (sym (ap (λ (p : form.Tree × form.Tree). p.1) e))
+pair_is (form.tree t (form.tree u (form.tree v vs))) a b h = absurd (none-some (a, b) (sym h))
+
+pub on_ok_map : {A E : Type 0} (P Q : Type 0) (r : Result A E) → (P → Q) → OnOk r P → OnOk r Q
+on_ok_map P Q (Ok x) f h = f h
+on_ok_map P Q (Err e) f h = tt
+
+pub locals_taken : (vs : List Variable) (i : ℕ) → i ≤ length vs → length (locals_of (take i vs)) ≡ i
+locals_taken vs zero h = refl
+locals_taken [] (suc i) h = absurd (omega arith)
+locals_taken (v ∷ vs) (suc i) h = ap suc (locals_taken vs i (omega arith))
+
+pub locals_more : (vs : List Variable) (i : ℕ) (v : Variable) → i < length vs → v ≡ slice_index_or vs i v → locals_of (take (i + 1) vs) ≡ locals_of (take i vs) ++ record { name = v.name; sort = Some v.sort } ∷ []
+locals_more [] i v h e = absurd (omega arith)
+locals_more (x ∷ xs) zero v h e = ap (λ k. locals_of (take k (x ∷ xs))) (let z : 0 + 1 ≡ 1 = omega arith in z) ∙ ap (λ (w : Variable). record { name = w.name; sort = Some w.sort } ∷ []) (sym e)
+locals_more (x ∷ xs) (suc i) v h e =
+    ap (λ k. locals_of (take k (x ∷ xs))) (let z : suc i + 1 ≡ suc (i + 1) = omega arith in z) ∙ ap (λ ls. record { name = x.name; sort = Some x.sort } ∷ ls) (locals_more xs i v (omega arith) e)

@@ -1,0 +1,7 @@
+use Rattle.std.proofs.Common.{◌≡◌, drop}
+use Rattle.std.specs.List.{list_all}
+use Rattle.moxi_sexpr.specs.Bytes.{is_digit}
+use Rattle.moxi_term_reading.proofs.heads.are_digits.Given as goal
+
+abbrev pub invariant-loop-b : goal.invariant-loop-b
+invariant-loop-b l = list_all is_digit (drop l.b-index l.bytes) ≡ list_all is_digit l.bytes

@@ -1,0 +1,139 @@
+use Rattle.std.proofs.Common.{◌≡◌, ◌++◌, ◌+◌, true, false, cond, Some, map, drop, refl, sym, ap, ◌∙◌, subst, arith}
+use Rattle.std.specs.Prelude.{codes}
+use Rattle.moxi_sexpr.specs.declared.form.Form.{out-Form}
+use Rattle.moxi_sexpr.specs.Tree as form
+use Rattle.moxi_terms.specs.View.{plain}
+use Rattle.moxi_sorts.specs.Failures.{least}
+use Rattle.moxi_sorts.specs.Forms.{sizes, is_word, pair_now, symbol_of, symbol_now, place_in, is_primed}
+use Rattle.moxi_term_reading.specs.Reading.{no_arguments, argument, both_arguments, no_bindings, both_bindings, bound_to, binding_of, bindings_tests, prime_failures, let_reading, application, underscore_reading, head_primes, head_of, read, read_all, read_let, read_binding, read_bindings}
+use Rattle.moxi_term_reading.specs.Answer.{IsRead, AreBound, context_of}
+use Rattle.moxi_term_reading.proofs.ReadingLaws.{tests_both, arguments_assoc, arguments_front, forms_step, plain_list, pair_is, if_ok_map, on_ok_map}
+use Rattle.moxi_term_reading.proofs.read.+read.Goals as goal
+
+pub read_all-loop-form-init : goal.read_all-loop-form-init
+read_all-loop-form-init t c = record {
+  read = (no_arguments, record { terms = ap (map plain) c.new.ensures.items; sorts = ap Some c.new-2.ensures.items; failure = refl }, arguments_front (read_all (context_of c.args.setting) c.args.bounds.now (form.plain_forms c.args.forms.now)));
+  kept = refl;
+  left = omega arith;
+}
+
+pub read_all-loop-form-preserved : goal.read_all-loop-form-preserved
+read_all-loop-form-preserved t c =
+    let l = c.loop-form in
+    let fs = c.args.forms.now in
+    let ctx = context_of c.args.setting in
+    let b = c.args.bounds.now in
+    let f = c.form-item.result in
+    let e = forms_step fs l.form-index f c.loop-form-test.true c.form-item.is in
+    let rest = form.plain_forms (drop (l.form-index + 1) fs) in
+    let x = l.invariant.read in
+    let y = read ctx b (form.plain f) in
+    let got : IsRead y c.in_ok-r.r = subst (λ b. IsRead (read ctx b (form.plain f)) c.in_ok-r.r) l.invariant.kept c.in_ok-r.ensures.read in
+    let kept : c.read_form.new.bounds ≡ l.bounds = c.in_ok-r.ensures.kept in
+    record {
+      read = (both_arguments x.0 (argument y), c.in_ok-add_argument.ensures x.0 y x.1 got, arguments_assoc x.0 (argument y) (read_all ctx b rest) ∙ ap (λ ts. both_arguments x.0 (read_all ctx b ts)) (sym e) ∙ x.2);
+      kept = kept ∙ l.invariant.kept;
+      left = omega (arith, ap sizes e, l.invariant.left);
+    }
+
+pub read_bindings-loop-form-init : goal.read_bindings-loop-form-init
+read_bindings-loop-form-init t c = record {
+  read = (no_bindings, record { names = c.new.ensures; locals = c.new-2.ensures; terms = ap (map plain) c.new-3.ensures.items; shape = refl; failure = refl }, refl);
+  kept = refl;
+  left = omega arith;
+}
+
+pub read_binding-returns-in_ok-r-in-Some-symbol_of-clause-read : goal.read_binding-returns-in_ok-r-in-Some-symbol_of-clause-read
+read_binding-returns-in_ok-r-in-Some-symbol_of-clause-read t c =
+    let ctx = context_of c.args.setting in
+    let b = c.args.bounds.now in
+    let f = c.args.form.now in
+    let p = (out-Form f).place in
+    let s = c.in-Some.symbol.now in
+    let v = c.in-Some.value.now in
+    let x = c.in-Some-symbol_of in
+    let y = read ctx b (form.plain v) in
+    let fs = prime_failures x.primed (place_in (form.plain s)) in
+    let parts : form.plain_forms c.deref.result.now ≡ form.tree (form.plain s) (form.tree (form.plain v) form.no_trees) =
+    pair_is (form.plain_forms c.deref.result.now) (form.plain s) (form.plain v) (ap pair_now (sym c.in-Some.is) ∙ c.pair.ensures) in
+    let e : form.plain f ≡ form.list p (form.tree (form.plain s) (form.tree (form.plain v) form.no_trees)) =
+    plain_list f c.in-List.parts c.in-List.is ∙ ap (λ ts. form.list p (form.plain_forms ts)) (sym c.deref.ensures.value) ∙ ap (form.list p) parts in
+    let symbol : Some (x.name.now, x.primed) ≡ symbol_of (form.plain s) = ap symbol_now (sym x.is) ∙ c.symbol_of.ensures in
+    let is : read_binding ctx b c.args.q (form.plain f) ≡ bound_to x.name.now fs y =
+    ap (read_binding ctx b c.args.q) e ∙ ap (λ o. binding_of p (form.plain s) o y) (sym symbol) in
+    let primes : c.prime.result ≡ least fs = c.prime.ensures ∙ ap (λ p. least (prime_failures x.primed p)) c.place_in.ensures in
+    let got : IsRead y c.in_ok-r-in-Some-symbol_of.r = c.in_ok-r-in-Some-symbol_of.ensures.read in
+    on_ok_map _ _ c.bind_to.result
+    (λ h z a. subst (λ w. AreBound (both_bindings z w) c.bind_to.new.all) (sym is) (h z y fs primes a got))
+    c.bind_to.ensures
+
+pub read_body-returns-clause-read : goal.read_body-returns-clause-read
+read_body-returns-clause-read t c =
+    let ctx = context_of c.args.setting in
+    let b = c.args.bounds.now in
+    let body = form.plain c.args.body.now in
+    let bound : c.bind_all.new.self ≡ b ++ c.args.bindings.locals = c.in_ok-bind_all.ensures in
+    if_ok_map _ _ c.let_term.result
+    (λ r h fs x e a.
+    let here : c.bind_all.new.self ≡ b ++ x.locals = bound ∙ ap (λ ls. b ++ ls) a.locals in
+    h x (read ctx (b ++ x.locals) body) fs e a (subst (λ b. IsRead (read ctx b body) c.in_ok-r.r) here c.in_ok-r.ensures.read))
+    c.let_term.ensures
+
+pub read_form-returns-then-is_word-clause-read : goal.read_form-returns-then-is_word-clause-read
+read_form-returns-then-is_word-clause-read t c =
+    let ctx = context_of c.args.setting in
+    let b = c.args.bounds.now in
+    let f = c.args.form.now in
+    let p = (out-Form f).place in
+    let h = form.plain c.in-Some.head.now in
+    let ts = form.plain_forms c.in-Some.rest.now in
+    let e : form.plain f ≡ form.list p (form.tree h ts) = plain_list f c.in-List.parts c.in-List.is ∙ ap (λ fs. form.list p (form.plain_forms fs)) (sym c.deref.ensures.value ∙ c.in-Some.ensures.cases.0) in
+    let other = cond (is_word (codes "_") h) (underscore_reading p (place_in h) (is_primed h) ts) (application ctx.scope.functions p (head_primes h) (head_of ctx.scope p h) (read_all ctx b ts)) in
+    let word : is_word (codes "let") h ≡ true = sym c.is_word.ensures ∙ c.if-is_word.true in
+    let is : read ctx b (form.plain f) ≡ read_let ctx b p (head_primes h) ts = ap (read ctx b) e ∙ ap (λ w. cond w (read_let ctx b p (head_primes h) ts) other) word in
+    if_ok_map _ _ c.read_let.result
+    (λ r g. subst (λ x. IsRead x r) (sym is) (g (head_primes h) c.head_prime.ensures))
+    c.read_let.ensures.read
+
+pub read_form-returns-in_ok-args-in-Some-clause-read : goal.read_form-returns-in_ok-args-in-Some-clause-read
+read_form-returns-in_ok-args-in-Some-clause-read t c =
+    let ctx = context_of c.args.setting in
+    let b = c.args.bounds.now in
+    let f = c.args.form.now in
+    let p = (out-Form f).place in
+    let h = form.plain c.in-Some.head.now in
+    let ts = form.plain_forms c.in-Some.rest.now in
+    let e : form.plain f ≡ form.list p (form.tree h ts) = plain_list f c.in-List.parts c.in-List.is ∙ ap (λ fs. form.list p (form.plain_forms fs)) (sym c.deref.ensures.value ∙ c.in-Some.ensures.cases.0) in
+    let last = application ctx.scope.functions p (head_primes h) (head_of ctx.scope p h) (read_all ctx b ts) in
+    let one : is_word (codes "let") h ≡ false = sym c.is_word.ensures ∙ c.if-is_word.false in
+    let two : is_word (codes "_") h ≡ false = sym c.is_word-else-is_word.ensures ∙ c.if-is_word-2.false in
+    let is : read ctx b (form.plain f) ≡ last =
+    ap (read ctx b) e ∙ ap (λ w. cond w (read_let ctx b p (head_primes h) ts) (cond (is_word (codes "_") h) (underscore_reading p (place_in h) (is_primed h) ts) last)) one
+    ∙ ap (λ w. cond w (underscore_reading p (place_in h) (is_primed h) ts) last) two in
+    let got = c.application.ensures (read_all ctx b ts) (head_primes h) c.in_ok-args-in-Some.ensures.read c.head_prime-else-is_word-2.ensures in
+    subst (λ x. IsRead x c.application.result) (sym is)
+    (subst (λ o. IsRead (application ctx.scope.functions p (head_primes h) o (read_all ctx b ts)) c.application.result) c.head_of.ensures got)
+
+pub read_let-returns-in_ok-bindings-in-List-clause-read : goal.read_let-returns-in_ok-bindings-in-List-clause-read
+read_let-returns-in_ok-bindings-in-List-clause-read t c =
+    let ctx = context_of c.args.setting in
+    let b = c.args.bounds.now in
+    let p = c.args.p in
+    let f = c.in-Some.list.now in
+    let q = (out-Form f).place in
+    let body = form.plain c.in-Some.body.now in
+    let bs = form.plain_forms c.in-List.parts.items in
+    let rest : form.plain_forms c.args.rest.now ≡ form.tree (form.list q bs) (form.tree body form.no_trees) =
+    pair_is (form.plain_forms c.args.rest.now) (form.plain f) body (ap pair_now (sym c.in-Some.is) ∙ c.pair.ensures)
+    ∙ ap (λ x. form.tree x (form.tree body form.no_trees)) (plain_list f c.in-List.parts c.in-List.is) in
+    let x = read_bindings ctx b q bs in
+    let bound : AreBound x c.in_ok-bindings-in-List.bindings =
+    subst (λ fs. AreBound (read_bindings ctx b q (form.plain_forms fs)) c.in_ok-bindings-in-List.bindings) c.deref.ensures.value c.in_ok-bindings-in-List.ensures.read in
+    let some : c.some_binding.result ≡ least (bindings_tests q bs) = c.some_binding.ensures ∙ ap (λ fs. least (bindings_tests q (form.plain_forms fs))) c.deref-in-List.ensures.value in
+    let kept : c.read_bindings.new.bounds ≡ b = c.in_ok-bindings-in-List.ensures.kept in
+    if_ok_map _ _ c.read_body.result
+    (λ r g fs e.
+    let own = c.sooner-own.ensures ∙ tests_both c.args.primes c.some_binding.result fs (bindings_tests q bs) e some in
+    subst (λ ts. IsRead (read_let ctx b p fs ts) r) (sym rest)
+    (subst (λ d. IsRead (let_reading (fs ++ bindings_tests q bs) x (read ctx (d ++ x.locals) body)) r) kept (g (fs ++ bindings_tests q bs) x own bound)))
+    c.read_body.ensures.read

@@ -1,0 +1,59 @@
+-- What the calls answer.
+use Rattle.std.specs.Prelude.{◌≡◌, Some, None, Option, Bool, true, false, Result, Ok, Err, List, [], ◌∷◌, map}
+use Rattle.text_core.specs.declared.place.Refusal.{Refusal}
+use Rattle.moxi_terms.specs.declared.data.Sort.{Sort}
+use Rattle.moxi_terms.specs.declared.term.Term.{Term}
+use Rattle.moxi_terms.specs.declared.term.Variable.{Variable}
+use Rattle.moxi_sorts.specs.declared.locals.Local.{Local}
+use Rattle.moxi_term_reading.specs.declared.read.TermEnd.{TermEnd}
+use Rattle.moxi_term_reading.specs.declared.read.TermEnd.TheVariants.{Bad, NoMemory}
+use Rattle.moxi_term_reading.specs.declared.outcome.ReadTerm.{ReadTerm}
+use Rattle.moxi_term_reading.specs.declared.outcome.Setting.{Setting}
+use Rattle.moxi_term_reading.specs.declared.applications.ReadArguments.{ReadArguments}
+use Rattle.moxi_term_reading.specs.declared.lets.ReadBindings.{ReadBindings}
+use Rattle.moxi_terms.specs.View.{plain}
+use Rattle.moxi_sorts.specs.Failures.{least, IsLeast}
+use Rattle.moxi_term_reading.specs.Reading.{Reading, Arguments, Bindings, Context, names_of}
+
+-- the term, its sort, and of the failing tests the least one
+pub record IsRead (x : Reading) (r : ReadTerm) : Type 0 where
+  pub term : plain r.term ≡ x.term
+  pub sort : r.sort ≡ x.sort
+  pub failure : r.failure ≡ least x.failures
+
+-- a sort that rests on tests of which the least failing one is this
+abbrev pub unless_some : {A : Type 0} → Option Refusal → Option A → Option A
+unless_some None s = s
+unless_some (Some f) s = None
+
+-- the sorts so far, where each had one
+abbrev pub kept : Bool → List Sort → Option (List Sort)
+kept true ss = Some ss
+kept false ss = None
+
+pub record AreRead (x : Arguments) (r : ReadArguments) : Type 0 where
+  pub terms : map plain r.terms.items ≡ x.terms
+  pub sorts : kept r.whole r.sorts.items ≡ x.sorts
+  pub failure : r.failure ≡ least x.failures
+
+pub record AreBound (x : Bindings) (r : ReadBindings) : Type 0 where
+  pub names : r.names ≡ names_of x.locals
+  pub locals : r.locals ≡ x.locals
+  pub terms : map plain r.terms.items ≡ x.terms
+  pub shape : r.shape ≡ least x.shape
+  pub failure : r.failure ≡ least x.failures
+
+-- where a term stands
+abbrev pub context_of : Setting → Context
+context_of s = record { scope = s.scope.now; variables = s.locals.now; primes = s.primes }
+
+-- the variables, each with its sort
+abbrev pub locals_of : List Variable → List Local
+locals_of [] = []
+locals_of (v ∷ vs) = record { name = v.name; sort = Some v.sort } ∷ locals_of vs
+
+-- the term and the sort that the form spells, where no test fails; else the failing test with the least place
+abbrev pub Answers : Reading → Result (Term × Sort) TermEnd → Type 0
+Answers x (Ok r) = (x.failures ≡ []) × (plain r.0 ≡ x.term) × (x.sort ≡ Some r.1)
+Answers x (Err (Bad f)) = IsLeast f x.failures
+Answers x (Err NoMemory) = Unit {0}

@@ -1,0 +1,165 @@
+// Atoms, and literals with an `_`.
+ghost use Rattle.std.specs.Prelude.{◌≡◌, ◌*◌, List, length};
+ghost use Rattle.text_core.specs.declared.place.Refusal.{Refusal};
+ghost use Rattle.word_core.specs.Digits.{read_word};
+ghost use Rattle.moxi_sexpr.specs.Tree.{plain_forms};
+ghost use Rattle.moxi_term_reading.specs.Answer.{IsRead, context_of};
+ghost use Rattle.moxi_sorts.specs.Failures.{least};
+ghost use Rattle.moxi_sorts.specs.Forms.{digits_now};
+ghost use Rattle.moxi_term_reading.specs.Reading.{atom_reading, literal_digits, literal_named, literal_reading, meaning_of, named_reading, underscore_reading, variable_primes, word_reading};
+
+use crate::heads::{literal_digits, prime};
+use crate::outcome::{ReadTerm, Setting, failed, own_tests};
+use moxi_sexpr::{Atom, Form};
+use moxi_sorts::{Bounds, index_of, only_numeral, place_in, refusal, sooner, symbol_of, unknown};
+use moxi_terms::{Datum, Meaning, Primes, Sort, Term, is_left_out};
+use std::alloc::Global;
+use text_core::{Place, Refusal};
+use word_core::{Word, read_digits};
+
+// The failing test of the prime of a variable.
+fn variable_prime(primes: Primes, primed: bool, p: Place) -> Option<Refusal>
+    ensures { result ≡ least (variable_primes primes primed p) }
+{
+    match primes {
+        Primes::Allowed => None,
+        Primes::Refused => prime(primed, p),
+    }
+}
+
+// What a bare name stands for.
+fn meaning_of(setting: Setting, bounds: &Bounds, name: &[u8]) -> Option<Meaning>
+    ensures { result ≡ meaning_of (context_of setting.entry) bounds.now name.now }
+{
+    match bounds.find(name) {
+        Some((i, sort)) => Some(Meaning::Bound(i, sort)),
+        None => match setting.locals.find(name) {
+            Some((v, sort)) => Some(Meaning::Variable(v, sort)),
+            None => setting.scope.bare(name),
+        },
+    }
+}
+
+fn named(
+    alloc: Global,
+    primes: Primes,
+    p: Place,
+    primed: bool,
+    meaning: Option<Meaning>,
+) -> ReadTerm
+    ensures { IsRead (named_reading primes p primed meaning) result }
+{
+    match meaning {
+        None => failed(refusal(4, p)),
+        Some(Meaning::Bound(i, sort)) => own_tests(Term::Bound(i), sort, prime(primed, p)),
+        Some(Meaning::Variable(v, sort)) => own_tests(
+            Term::Variable(v, primed),
+            sort,
+            variable_prime(primes, primed, p),
+        ),
+        Some(Meaning::Value(d, sort)) => own_tests(Term::Constant(d), Some(sort), prime(primed, p)),
+        Some(Meaning::Call(n, sort)) => own_tests(
+            Term::Call(n, Vec::new(alloc)),
+            Some(sort),
+            prime(primed, p),
+        ),
+    }
+}
+
+// A literal of a word, with the failing tests of its primes.
+fn word(p: Place, w: Option<Word>, failure: Option<Refusal>) -> ReadTerm
+    ensures { (fs : List Refusal) → failure ≡ least fs → IsRead (word_reading p w fs) result }
+{
+    match w {
+        None => failed(refusal(8, p)),
+        Some(w) => own_tests(
+            Term::Constant(Datum::Bits(w)),
+            Some(Sort::Bits(w.width())),
+            failure,
+        ),
+    }
+}
+
+// The word of binary digits.
+fn binary_word(digits: &[u8]) -> Option<Word>
+    ensures { result ≡ read_word (length digits.now) 2 digits.now }
+{
+    if digits.len() > 64 {
+        None
+    } else {
+        read_digits(digits.len() as u32, 2, digits)
+    }
+}
+
+// The word of hexadecimal digits.
+fn hex_word(digits: &[u8]) -> Option<Word>
+    ensures { result ≡ read_word (4 * length digits.now) 16 digits.now }
+{
+    if digits.len() > 16 {
+        None
+    } else {
+        read_digits(4 * digits.len() as u32, 16, digits)
+    }
+}
+
+/// The term that an atom at p spells.
+pub fn read_atom(alloc: Global, setting: Setting, bounds: &Bounds, p: Place, a: &Atom) -> ReadTerm
+    ensures { IsRead (atom_reading (context_of setting.entry) bounds.now p a.now) result }
+{
+    match a {
+        Atom::Symbol(name, primed) => named(
+            alloc,
+            setting.primes,
+            p,
+            *primed,
+            meaning_of(setting, bounds, name.bytes()),
+        ),
+        Atom::Binary(digits) => word(p, binary_word(digits.bytes()), None),
+        Atom::Hex(digits) => word(p, hex_word(digits.bytes()), None),
+        Atom::Keyword(_) => failed(refusal(12, p)),
+        Atom::Numeral(_) => failed(refusal(12, p)),
+        Atom::Quote(_) => failed(refusal(12, p)),
+    }
+}
+
+// What stands behind `bvN`, whose digits are these: the numeral of the width.
+fn literal(p: Place, digits: &[u8], failure: Option<Refusal>, width: Option<&[u8]>) -> ReadTerm
+    ensures { (fs : List Refusal) → failure ≡ least fs → IsRead (literal_reading p digits.now fs (digits_now width.entry)) result }
+{
+    match width {
+        Some(n) => word(p, read_digits(index_of(n), 10, digits), failure),
+        None => failed(refusal(12, p)),
+    }
+}
+
+// The literal of this name, of which the tests of the primes fail so.
+fn named_literal(
+    p: Place,
+    q: Place,
+    primes: Option<Refusal>,
+    name: &[u8],
+    rest: &[Form],
+) -> ReadTerm
+    ensures { (fs : List Refusal) → primes ≡ least fs → IsRead (literal_named p q name.now fs (literal_digits name.now) (plain_forms rest.now)) result }
+{
+    match literal_digits(name) {
+        Some(digits) => literal(p, digits, primes, only_numeral(rest)),
+        None => failed(unknown(is_left_out(name), p, q)),
+    }
+}
+
+/// The term at p behind whose `_` at q these forms stand.
+pub fn underscored(p: Place, q: Place, first: bool, rest: &[Form]) -> ReadTerm
+    ensures { IsRead (underscore_reading p q first (plain_forms rest.now)) result }
+{
+    match rest.split_first() {
+        Some((form, more)) => match symbol_of(form) {
+            Some((name, second)) => {
+                let primes = sooner(prime(first, q), prime(second, place_in(form)));
+                named_literal(p, q, primes, name, more)
+            }
+            None => failed(refusal(4, q)),
+        },
+        None => failed(refusal(4, q)),
+    }
+}

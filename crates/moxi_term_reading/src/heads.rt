@@ -1,0 +1,175 @@
+// Heads of applications, and the names of literals with an `_`.
+ghost use Rattle.std.specs.Prelude.{◌≡◌, Some, None};
+ghost use Rattle.std.specs.List.{list_all};
+ghost use Rattle.moxi_sexpr.specs.Bytes.{is_digit};
+ghost use Rattle.moxi_sexpr.specs.Tree.{plain, plain_forms};
+ghost use Rattle.moxi_sorts.specs.Failures.{least};
+ghost use Rattle.moxi_sorts.specs.Forms.{digits_now, pair_now, symbol_now};
+ghost use Rattle.moxi_term_reading.specs.Reading.{atom_head, decimal_digits, extended_head, extracted_head, head_of, head_primes, indexed_head, listed_head, literal_digits, paired_head, prime_failures, symbol_primes};
+
+use moxi_sexpr::{Form, FormShape};
+use moxi_sorts::{
+    index_of, is_primed, is_word, numeral_of, only_numeral, pair, refusal, sooner, symbol_atom,
+    symbol_of, unknown,
+};
+use moxi_terms::{Head, Scope, TermOp, is_indexed, is_left_out, is_same};
+use text_core::{Place, Refusal};
+
+/// The failing test of a prime.
+pub fn prime(primed: bool, p: Place) -> Option<Refusal>
+    ensures { result ≡ least (prime_failures primed p) }
+{
+    if primed { Some(refusal(7, p)) } else { None }
+}
+
+/// The digits of `bvN`.
+pub fn literal_digits<'a>(name: &'a [u8]) -> Option<&'a [u8]>
+    ensures { digits_now result ≡ literal_digits name.now }
+{
+    match name {
+        [b, c, digits @ ..] => if *b == b'b' && *c == b'v' {
+            decimal_digits(digits)
+        } else {
+            None
+        },
+        _ => None,
+    }
+}
+
+// The bytes, where they are one or more digits.
+fn decimal_digits<'a>(bytes: &'a [u8]) -> Option<&'a [u8]>
+    ensures { digits_now result ≡ decimal_digits bytes.now }
+{
+    if bytes.is_empty() {
+        None
+    } else if are_digits(bytes) {
+        Some(bytes)
+    } else {
+        None
+    }
+}
+
+fn are_digits(bytes: &[u8]) -> bool
+    ensures { result ≡ list_all is_digit bytes.now }
+{
+    for b in bytes {
+        if *b < 48 || *b > 57 {
+            return false;
+        }
+    }
+    true
+}
+
+fn extracted_head(q: Place, high: Option<&[u8]>, low: Option<&[u8]>) -> Result<Head, Refusal>
+    ensures { result ≡ extracted_head q (digits_now high.entry) (digits_now low.entry) }
+{
+    match high {
+        Some(h) => match low {
+            Some(l) => Ok(Head::Operator(TermOp::Extract(index_of(h), index_of(l)))),
+            None => Err(refusal(12, q)),
+        },
+        None => Err(refusal(12, q)),
+    }
+}
+
+fn extended_head(q: Place, name: &[u8], count: Option<&[u8]>) -> Result<Head, Refusal>
+    ensures { result ≡ extended_head q name.now (digits_now count.entry) }
+{
+    match count {
+        Some(n) => if is_same(name, b"zero_extend") {
+            Ok(Head::Operator(TermOp::ZeroExtend(index_of(n))))
+        } else {
+            Ok(Head::Operator(TermOp::SignExtend(index_of(n))))
+        },
+        None => Err(refusal(12, q)),
+    }
+}
+
+// The operator with indices at the head at q.
+fn indexed_head(q: Place, name: &[u8], indices: &[Form]) -> Result<Head, Refusal>
+    ensures { result ≡ indexed_head q name.now (plain_forms indices.now) }
+{
+    if is_same(name, b"extract") {
+        match pair(indices) {
+            Some((high, low)) => extracted_head(q, numeral_of(high), numeral_of(low)),
+            None => Err(refusal(12, q)),
+        }
+    } else {
+        extended_head(q, name, only_numeral(indices))
+    }
+}
+
+// What stands behind the `_` of a head at q, in a term at p.
+fn listed_head(p: Place, q: Place, rest: &[Form]) -> Result<Head, Refusal>
+    ensures { result ≡ listed_head p q (plain_forms rest.now) }
+{
+    match rest.split_first() {
+        Some((form, indices)) => match symbol_of(form) {
+            Some((name, _)) => if is_indexed(name) {
+                indexed_head(q, name, indices)
+            } else {
+                Err(unknown(is_left_out(name), p, q))
+            },
+            None => Err(refusal(4, q)),
+        },
+        None => Err(refusal(4, q)),
+    }
+}
+
+fn atom_head(
+    scope: &Scope,
+    p: Place,
+    q: Place,
+    symbol: Option<(&[u8], bool)>,
+) -> Result<Head, Refusal>
+    ensures { result ≡ atom_head scope.now p q (symbol_now symbol.entry) }
+{
+    match symbol {
+        Some((name, _)) => match scope.head(name) {
+            Some(h) => Ok(h),
+            None => Err(unknown(is_left_out(name), p, q)),
+        },
+        None => Err(refusal(4, q)),
+    }
+}
+
+/// What the head of a term at p stands for, or its failing test.
+pub fn head_of(scope: &Scope, p: Place, head: &Form) -> Result<Head, Refusal>
+    ensures { result ≡ head_of scope.now p (plain head.now) }
+{
+    let q = head.place;
+    match &head.shape {
+        FormShape::Atom(a) => atom_head(scope, p, q, symbol_atom(a)),
+        FormShape::List(parts) => match parts.split_first() {
+            Some((first, rest)) => if is_word(b"_", first) {
+                listed_head(p, q, rest)
+            } else {
+                Err(refusal(4, q))
+            },
+            None => Err(refusal(4, q)),
+        },
+    }
+}
+
+// The failing test of the prime of a symbol.
+fn symbol_prime(form: &Form) -> Option<Refusal>
+    ensures { result ≡ least (symbol_primes (plain form.now)) }
+{
+    prime(is_primed(form), form.place)
+}
+
+/// The failing test of the primes of a head.
+pub fn head_prime(head: &Form) -> Option<Refusal>
+    ensures { result ≡ least (head_primes (plain head.now)) }
+{
+    match &head.shape {
+        FormShape::Atom(_) => symbol_prime(head),
+        FormShape::List(parts) => match parts.split_first() {
+            None => None,
+            Some((first, rest)) => match rest.split_first() {
+                None => symbol_prime(first),
+                Some((second, _)) => sooner(symbol_prime(first), symbol_prime(second)),
+            },
+        },
+    }
+}

@@ -1,0 +1,85 @@
+// What a `let` binds.
+ghost use Rattle.std.specs.Prelude.{◌≡◌, List, Some, OnOk, IfOk};
+ghost use Rattle.text_core.specs.declared.place.Refusal.{Refusal};
+ghost use Rattle.moxi_sexpr.specs.Tree.{plain_forms};
+ghost use Rattle.moxi_term_reading.specs.Answer.{AreBound, IsRead};
+ghost use Rattle.moxi_sorts.specs.Failures.{least};
+ghost use Rattle.moxi_term_reading.specs.Reading.{Bindings, Reading, bindings_tests, both_bindings, bound_to, let_reading, misshapen};
+
+use crate::applications::put;
+use crate::outcome::{ReadTerm, unless_failed};
+use moxi_sexpr::Form;
+use moxi_sorts::{Local, refusal, sooner};
+use moxi_terms::{Sort, Term, Terms};
+use std::alloc::Global;
+use text_core::{Items, Name, Names, NoMemory, Place, Refusal};
+
+/// What a `let` binds, with the failing tests of its form and of its terms.
+#[derive(Drop)]
+pub struct ReadBindings {
+    pub names: Names,
+    pub locals: Items<Local>,
+    pub terms: Terms,
+    pub shape: Option<Refusal>,
+    pub failure: Option<Refusal>,
+}
+
+/// One or more bindings stand in the list at q.
+#[tactic(auto, using(crate::proofs::ReadingLaws::empty_bindings))]
+pub fn some_binding(q: Place, bindings: &[Form]) -> Option<Refusal>
+    ensures { result ≡ least (bindings_tests q (plain_forms bindings.now)) }
+{
+    match bindings.split_first() {
+        None => Some(refusal(12, q)),
+        Some(_) => None,
+    }
+}
+
+/// A `let` whose own tests fail so, of these bindings and this body.
+pub fn let_term(
+    alloc: Global,
+    own: Option<Refusal>,
+    bindings: ReadBindings,
+    r: ReadTerm,
+) -> Result<ReadTerm, NoMemory>
+    ensures { IfOk result (λ t. (x : Bindings) (y : Reading) (fs : List Refusal) → own ≡ least fs → AreBound x bindings → IsRead y r → IsRead (let_reading fs x y) t) }
+{
+    let shape = sooner(own, bindings.shape);
+    let held = match Box::new(alloc, r.term) {
+        Ok(held) => held,
+        Err(_) => return Err(NoMemory),
+    };
+    Ok(ReadTerm {
+        term: Term::Let(bindings.names, bindings.terms, held),
+        sort: unless_failed(shape, r.sort),
+        failure: sooner(shape, sooner(bindings.failure, r.failure)),
+    })
+}
+
+/// One more binding that hasn't its shape: it binds nothing.
+pub fn misshapen(p: Place, all: &mut ReadBindings)
+    ensures { (x : Bindings) → AreBound x all.old → AreBound (both_bindings x (misshapen p)) all.new }
+{
+    all.shape = sooner(all.shape, Some(refusal(12, p)));
+}
+
+/// One more binding, of a name whose prime fails so.
+pub fn bind_to(
+    alloc: Global,
+    name: &[u8],
+    primes: Option<Refusal>,
+    r: ReadTerm,
+    all: &mut ReadBindings,
+) -> Result<(), NoMemory>
+    ensures { OnOk result ((x : Bindings) (y : Reading) (fs : List Refusal) → primes ≡ least fs → AreBound x all.old → IsRead y r → AreBound (both_bindings x (bound_to name.now fs y)) all.new) }
+{
+    all.names.push(Name::of(alloc, name)?)?;
+    all.locals.push(Local {
+        name: Name::of(alloc, name)?,
+        sort: r.sort,
+    })?;
+    put(&mut all.terms, r.term)?;
+    all.shape = sooner(all.shape, primes);
+    all.failure = sooner(all.failure, r.failure);
+    Ok(())
+}

@@ -1,0 +1,273 @@
+// The term that a form spells.
+ghost use Rattle.std.specs.Prelude.{◌≡◌, ◌<◌, ◌^◌, ◌++◌, [], List, None, length, IfOk, OnOk};
+ghost use Rattle.moxi_term_reading.specs.declared.outcome.ReadTerm.{ReadTerm};
+ghost use Rattle.moxi_terms.specs.Tree.{sorts_of};
+ghost use Rattle.moxi_terms.specs.View.{plain};
+ghost use Rattle.text_core.specs.declared.place.Refusal.{Refusal};
+ghost use Rattle.moxi_sexpr.specs.Tree.{Tree, plain as plain_form, plain_forms};
+ghost use Rattle.moxi_term_reading.specs.Answer.{Answers, AreBound, AreRead, IsRead, context_of, locals_of};
+ghost use Rattle.moxi_sorts.specs.Failures.{least};
+ghost use Rattle.moxi_terms.specs.declared.data.Sort.{Sort};
+ghost use Rattle.moxi_term_reading.specs.WellSorted.{HaveKnownSorts, IsSortedTerm, IsTerm, IsWellSorted};
+ghost use Rattle.moxi_term_reading.specs.Reading.{Bindings, Context, both_bindings, let_reading, read, read_all, read_binding, read_bindings, read_let};
+
+use crate::applications::{ReadArguments, add_argument, application};
+use crate::atoms::{read_atom, underscored};
+use crate::heads::{head_of, head_prime, prime};
+use crate::lets::{ReadBindings, bind_to, let_term, misshapen, some_binding};
+use crate::outcome::{ReadTerm, Setting, failed};
+use moxi_sexpr::{Form, FormShape};
+use moxi_sorts::{Bounds, Locals, is_primed, is_word, pair, place_in, refusal, sooner, symbol_of};
+use moxi_terms::{Primes, Scope, Sort, Term, Variables};
+use std::alloc::Global;
+use text_core::{Items, Name, Names, NoMemory, Place, Refusal};
+
+/// Why a form spells no term.
+#[derive(Debug, Drop)]
+pub enum TermEnd {
+    Bad(Refusal),
+    NoMemory,
+}
+
+impl From<NoMemory> for TermEnd {
+    ghost use Rattle.std.specs.Prelude.{◌≡◌};
+    ghost use Rattle.moxi_term_reading.specs.declared.read.TermEnd.TheVariants as ends;
+
+    ghost from_gives = { λ _ e. e ≡ ends.NoMemory };
+
+    fn from(_: NoMemory) -> TermEnd {
+        TermEnd::NoMemory
+    }
+}
+
+#[cycle(read)]
+#[inline(never)]
+fn read_form(
+    alloc: Global,
+    setting: Setting,
+    bounds: &mut Bounds,
+    form: &Form,
+) -> Result<ReadTerm, NoMemory>
+    ensures read { IfOk result (IsRead (read (context_of setting.entry) bounds.old (plain_form form.now))) }
+    ensures kept { OnOk result (bounds.new ≡ bounds.old) }
+{
+    match &form.shape {
+        FormShape::Atom(a) => Ok(read_atom(alloc, setting, bounds, form.place, a)),
+        FormShape::List(parts) => match parts.split_first() {
+            None => Ok(failed(refusal(12, form.place))),
+            Some((head, rest)) => if is_word(b"let", head) {
+                read_let(alloc, setting, bounds, form.place, head_prime(head), rest)
+            } else if is_word(b"_", head) {
+                Ok(underscored(form.place, place_in(head), is_primed(head), rest))
+            } else {
+                let args = read_all(alloc, setting, bounds, rest)?;
+                Ok(application(
+                    setting.scope,
+                    form.place,
+                    head_prime(head),
+                    head_of(setting.scope, form.place, head),
+                    args,
+                ))
+            },
+        },
+    }
+}
+
+#[cycle(read)]
+#[inline(never)]
+fn read_all(
+    alloc: Global,
+    setting: Setting,
+    bounds: &mut Bounds,
+    forms: &[Form],
+) -> Result<ReadArguments, NoMemory>
+    ensures read { IfOk result (AreRead (read_all (context_of setting.entry) bounds.old (plain_forms forms.now))) }
+    ensures kept { OnOk result (bounds.new ≡ bounds.old) }
+{
+    let mut args = ReadArguments {
+        terms: Vec::new(alloc),
+        sorts: Vec::new(alloc),
+        whole: true,
+        failure: None,
+    };
+    for form in forms {
+        let r = read_form(alloc, setting, bounds, form)?;
+        add_argument(r, &mut args)?;
+    }
+    Ok(args)
+}
+
+// The forms behind the `let` of a term at p.
+#[cycle(read)]
+#[inline(never)]
+fn read_let(
+    alloc: Global,
+    setting: Setting,
+    bounds: &mut Bounds,
+    p: Place,
+    primes: Option<Refusal>,
+    rest: &[Form],
+) -> Result<ReadTerm, NoMemory>
+    ensures read { IfOk result (λ r. (fs : List Refusal) → primes ≡ least fs → IsRead (read_let (context_of setting.entry) bounds.old p fs (plain_forms rest.now)) r) }
+    ensures kept { OnOk result (bounds.new ≡ bounds.old) }
+{
+    match pair(rest) {
+        Some((list, body)) => match &list.shape {
+            FormShape::List(parts) => {
+                let bindings = read_bindings(alloc, setting, bounds, list.place, parts)?;
+                let own = sooner(primes, some_binding(list.place, parts));
+                read_body(alloc, setting, bounds, own, bindings, body)
+            }
+            FormShape::Atom(_) => Ok(failed(refusal(12, p))),
+        },
+        None => Ok(failed(refusal(12, p))),
+    }
+}
+
+// The body of a `let` whose own tests fail so, under its bindings.
+#[cycle(read)]
+#[inline(never)]
+fn read_body(
+    alloc: Global,
+    setting: Setting,
+    bounds: &mut Bounds,
+    own: Option<Refusal>,
+    bindings: ReadBindings,
+    body: &Form,
+) -> Result<ReadTerm, NoMemory>
+    ensures read { IfOk result (λ r. (fs : List Refusal) (x : Bindings) → own ≡ least fs → AreBound x bindings → IsRead (let_reading fs x (read (context_of setting.entry) (bounds.old ++ x.locals) (plain_form body.now))) r) }
+    ensures kept { OnOk result (bounds.new ≡ bounds.old) }
+{
+    let before = bounds.len();
+    bounds.bind_all(&bindings.locals)?;
+    let r = read_form(alloc, setting, bounds, body)?;
+    bounds.keep(before);
+    let_term(alloc, own, bindings, r)
+}
+
+// The bindings of a list at q; the values are read outside the `let`.
+#[cycle(read)]
+#[inline(never)]
+fn read_bindings(
+    alloc: Global,
+    setting: Setting,
+    bounds: &mut Bounds,
+    q: Place,
+    forms: &[Form],
+) -> Result<ReadBindings, NoMemory>
+    ensures read { IfOk result (AreBound (read_bindings (context_of setting.entry) bounds.old q (plain_forms forms.now))) }
+    ensures kept { OnOk result (bounds.new ≡ bounds.old) }
+{
+    let mut all = ReadBindings {
+        names: Names::new(alloc),
+        locals: Items::new(alloc),
+        terms: Vec::new(alloc),
+        shape: None,
+        failure: None,
+    };
+    for form in forms {
+        read_binding(alloc, setting, bounds, q, form, &mut all)?;
+    }
+    Ok(all)
+}
+
+// One binding of a list at q.
+#[cycle(read)]
+#[inline(never)]
+fn read_binding(
+    alloc: Global,
+    setting: Setting,
+    bounds: &mut Bounds,
+    q: Place,
+    form: &Form,
+    all: &mut ReadBindings,
+) -> Result<(), NoMemory>
+    ensures read { OnOk result ((x : Bindings) → AreBound x all.old → AreBound (both_bindings x (read_binding (context_of setting.entry) bounds.old q (plain_form form.now))) all.new) }
+    ensures kept { OnOk result (bounds.new ≡ bounds.old) }
+{
+    match &form.shape {
+        FormShape::Atom(_) => {
+            misshapen(q, all);
+            Ok(())
+        }
+        FormShape::List(parts) => match pair(parts) {
+            Some((symbol, value)) => match symbol_of(symbol) {
+                Some((name, primed)) => {
+                    let r = read_form(alloc, setting, bounds, value)?;
+                    bind_to(alloc, name, prime(primed, place_in(symbol)), r, all)
+                }
+                None => {
+                    misshapen(form.place, all);
+                    Ok(())
+                }
+            },
+            None => {
+                misshapen(form.place, all);
+                Ok(())
+            }
+        },
+    }
+}
+
+/// The term that a form spells over these variables, its sort, and the failing test with the least place of M4 to M8 and M12.
+/// A variable without a sort is one whose own declaration fails a test.
+pub fn read_term(
+    alloc: Global,
+    scope: &Scope,
+    locals: &Locals,
+    form: &Form,
+    primes: Primes,
+) -> Result<ReadTerm, NoMemory>
+    ensures { IfOk result (IsRead (read (record { scope = scope.now; variables = locals.now; primes = primes }) [] (plain_form form.now))) }
+{
+    let mut bounds = Bounds::new(alloc);
+    let setting = Setting {
+        scope,
+        locals,
+        primes,
+    };
+    read_form(alloc, setting, &mut bounds, form)
+}
+
+// The variables, found by their names.
+fn by_name(alloc: Global, variables: &Variables) -> Result<Locals, NoMemory>
+    requires { length variables.now < 2 ^ 32 }
+    ensures { IfOk result (λ l. l ≡ locals_of variables.now) }
+{
+    let mut locals = Locals::new(alloc);
+    for i in 0..variables.len() {
+        let variable = variables.at(i);
+        locals.add(Name::of(alloc, variable.name.bytes())?, Some(variable.sort))?;
+    }
+    Ok(locals)
+}
+
+/// The term and the sort that a form spells over these variables, or the failing test of M4 to M8 and M12 with the least
+/// place, and at one place with the least number. The term is well sorted: it may be evaluated, and it may be the body of a
+/// function.
+pub fn term_of(
+    alloc: Global,
+    scope: &Scope,
+    variables: &Variables,
+    form: &Form,
+    primes: Primes,
+) -> Result<(Term, Sort), TermEnd>
+    requires { length variables.now < 2 ^ 32 }
+    ensures answers { Answers (read (record { scope = scope.now; variables = locals_of variables.now; primes = primes }) [] (plain_form form.now)) result }
+    ensures sorted { IfOk result (λ r. IsTerm scope.now primes (sorts_of variables.now) [] (plain r.0) r.1) }
+{
+    let locals = by_name(alloc, variables)?;
+    let r = read_term(alloc, scope, &locals, form, primes)?;
+    match (r.failure, r.sort) {
+        (Some(f), _) => Err(TermEnd::Bad(f)),
+        (None, Some(sort)) => Ok((r.term, sort)),
+        (None, None) => unreachable!(),
+    }
+}
+
+/// A form of which no test fails, over variables that have sorts, spells a term that has the sort that is read for it; where
+/// primes are refused, no variable in it is primed.
+pub fn read_terms_have_sorts()
+    ensures forms { (c : Context) (vars : List Sort) (t : Tree) → HaveKnownSorts c.variables vars → (read c [] t).failures ≡ [] → IsWellSorted c vars [] (read c [] t) }
+    ensures terms { (c : Context) (vars : List Sort) (t : Tree) (r : ReadTerm) → HaveKnownSorts c.variables vars → IsRead (read c [] t) r → r.failure ≡ None → IsSortedTerm c vars r }
+{}

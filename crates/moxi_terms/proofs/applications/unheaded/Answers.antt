@@ -1,6 +1,0 @@
-use Rattle.std.proofs.Common.{◌∷◌, [], Some, refl, ◌∙◌}
-use Rattle.moxi_terms.proofs.ReadingLaws.{tests_both}
-use Rattle.moxi_terms.proofs.applications.unheaded.Goals as goal
-
-pub returns : goal.returns
-returns c fs e = record { term = c.no_term.ensures; sort = refl; failure = c.sooner.ensures ∙ tests_both c.args.failure (Some c.args.f) fs (c.args.f ∷ []) e refl }

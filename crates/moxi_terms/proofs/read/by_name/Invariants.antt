@@ -1,6 +1,0 @@
-use Rattle.std.proofs.Common.{◌≡◌, take}
-use Rattle.moxi_terms.specs.Answer.{locals_of}
-use Rattle.moxi_terms.proofs.read.by_name.Given as goal
-
-abbrev pub invariant-loop-i : goal.invariant-loop-i
-invariant-loop-i l = l.locals ≡ locals_of (take l.i l.variables)

@@ -1,0 +1,89 @@
+use Rattle.std.proofs.Common.{length, ◌+◌, ◌*◌, ◌≡◌, ◌≤◌, max, map, ◌+ℤ◌, pos}
+use Rattle.smv_text.specs.Tree.{links_of, branches_of, trees_of}
+use Rattle.smv_text.specs.View.{plain, plain_branch, plain_link}
+use Rattle.smv_meaning.specs.Expressions.{denote, chosen, values_of, one_permits}
+use Rattle.smv_meaning.specs.Operators.{trues}
+use Rattle.smv_meaning.specs.Safety.{depth, right_depth, link_depth, branch_depth, tree_depth, fronts_value, fronts_permit, SafeLinks, SafeBranches, SafeTrees}
+use Rattle.smv_evaluation.specs.Rows.{row_reads, IsKept}
+use Rattle.smv_operators.specs.View.{seen_value, plain_or}
+use Rattle.smv_evaluation.proofs.evaluate.+evaluate.Given as goal
+
+abbrev pub decreases-evaluate : goal.decreases-evaluate
+decreases-evaluate l = 8 * depth (plain l.e.now) + 1
+
+abbrev pub decreases-permits : goal.decreases-permits
+decreases-permits l = 8 * depth (plain l.e.now) + 2
+
+abbrev pub decreases-next_front : goal.decreases-next_front
+decreases-next_front l = 8 * depth (plain l.operand.now) + 3
+
+abbrev pub decreases-rest_implied : goal.decreases-rest_implied
+decreases-rest_implied l = 8 * right_depth (links_of (map plain_link l.links.now)) + 4
+
+abbrev pub decreases-last_front : goal.decreases-last_front
+decreases-last_front l = 8 * link_depth (links_of (map plain_link l.links.now)) + 4
+
+abbrev pub decreases-last_has : goal.decreases-last_has
+decreases-last_has l = 8 * link_depth (links_of (map plain_link l.links.now)) + 4
+
+abbrev pub decreases-chosen_branch : goal.decreases-chosen_branch
+decreases-chosen_branch l = 8 * max (branch_depth (branches_of (map plain_branch l.branches.now))) (depth (plain l.last.now)) + 3
+
+abbrev pub decreases-taken_branch : goal.decreases-taken_branch
+decreases-taken_branch l = 8 * branch_depth (branches_of (map plain_branch l.branches.now)) + 4
+
+abbrev pub decreases-call_value : goal.decreases-call_value
+decreases-call_value l = 8 * tree_depth (trees_of (map plain l.arguments.now)) + 3
+
+abbrev pub decreases-one_has : goal.decreases-one_has
+decreases-one_has l = 8 * tree_depth (trees_of (map plain l.elements.now)) + 3
+
+abbrev pub invariant-last_front-loop-link : goal.invariant-last_front-loop-link
+invariant-last_front-loop-link l = record {
+  low : link_depth (links_of (map plain_link l.rest)) ≤ link_depth (links_of (map plain_link l.fn.links));
+  safe : SafeLinks (IsKept l.table l.i l.now l.label) (IsKept l.table l.i l.later l.label) (row_reads l.table l.i l.now l.label) (row_reads l.table l.i l.later l.label) (plain_or l.front (seen_value l.first)) (links_of (map plain_link l.rest));
+  same : fronts_value (row_reads l.table l.i l.now l.label) (row_reads l.table l.i l.later l.label) (plain_or l.front (seen_value l.first)) (links_of (map plain_link l.rest)) ≡ fronts_value (row_reads l.table l.i l.now l.label) (row_reads l.table l.i l.later l.label) (seen_value l.first) (links_of (map plain_link l.fn.links));
+}
+
+abbrev pub decreases-last_front-loop-link : goal.decreases-last_front-loop-link
+decreases-last_front-loop-link l = length l.rest
+
+abbrev pub invariant-last_has-loop-link : goal.invariant-last_has-loop-link
+invariant-last_has-loop-link l = record {
+  low : link_depth (links_of (map plain_link l.rest)) ≤ link_depth (links_of (map plain_link l.fn.links));
+  safe : SafeLinks (IsKept l.table l.i l.now l.label) (IsKept l.table l.i l.later l.label) (row_reads l.table l.i l.now l.label) (row_reads l.table l.i l.later l.label) (plain_or l.front (seen_value l.first)) (links_of (map plain_link l.rest));
+  same : fronts_permit (row_reads l.table l.i l.now l.label) (row_reads l.table l.i l.later l.label) (seen_value l.value) (plain_or l.front (seen_value l.first)) l.has (links_of (map plain_link l.rest)) ≡ fronts_permit (row_reads l.table l.i l.now l.label) (row_reads l.table l.i l.later l.label) (seen_value l.value) (seen_value l.first) l.fn.first_has (links_of (map plain_link l.fn.links));
+}
+
+abbrev pub decreases-last_has-loop-link : goal.decreases-last_has-loop-link
+decreases-last_has-loop-link l = length l.rest
+
+abbrev pub invariant-chosen_branch-loop-branch : goal.invariant-chosen_branch-loop-branch
+invariant-chosen_branch-loop-branch l = record {
+  low : branch_depth (branches_of (map plain_branch l.rest)) ≤ branch_depth (branches_of (map plain_branch l.fn.branches));
+  safe : SafeBranches (IsKept l.table l.i l.now l.label) (IsKept l.table l.i l.later l.label) (row_reads l.table l.i l.now l.label) (row_reads l.table l.i l.later l.label) (branches_of (map plain_branch l.rest));
+  same : chosen (row_reads l.table l.i l.now l.label) (row_reads l.table l.i l.later l.label) (branches_of (map plain_branch l.rest)) (denote (row_reads l.table l.i l.now l.label) (row_reads l.table l.i l.later l.label) (plain l.last)) ≡ chosen (row_reads l.table l.i l.now l.label) (row_reads l.table l.i l.later l.label) (branches_of (map plain_branch l.fn.branches)) (denote (row_reads l.table l.i l.now l.label) (row_reads l.table l.i l.later l.label) (plain l.last));
+}
+
+abbrev pub decreases-chosen_branch-loop-branch : goal.decreases-chosen_branch-loop-branch
+decreases-chosen_branch-loop-branch l = length l.rest
+
+abbrev pub invariant-call_value-loop-first : goal.invariant-call_value-loop-first
+invariant-call_value-loop-first l = record {
+  low : tree_depth (trees_of (map plain l.rest)) ≤ tree_depth (trees_of (map plain l.arguments));
+  safe : SafeTrees (IsKept l.table l.i l.now l.label) (IsKept l.table l.i l.later l.label) (row_reads l.table l.i l.now l.label) (row_reads l.table l.i l.later l.label) (trees_of (map plain l.rest));
+  same : l.count +ℤ pos (trues (values_of (row_reads l.table l.i l.now l.label) (row_reads l.table l.i l.later l.label) (trees_of (map plain l.rest)))) ≡ pos (trues (values_of (row_reads l.table l.i l.now l.label) (row_reads l.table l.i l.later l.label) (trees_of (map plain l.arguments))));
+}
+
+abbrev pub decreases-call_value-loop-first : goal.decreases-call_value-loop-first
+decreases-call_value-loop-first l = length l.rest
+
+abbrev pub invariant-one_has-loop-first : goal.invariant-one_has-loop-first
+invariant-one_has-loop-first l = record {
+  low : tree_depth (trees_of (map plain l.rest)) ≤ tree_depth (trees_of (map plain l.fn.elements));
+  safe : SafeTrees (IsKept l.table l.i l.now l.label) (IsKept l.table l.i l.later l.label) (row_reads l.table l.i l.now l.label) (row_reads l.table l.i l.later l.label) (trees_of (map plain l.rest));
+  same : one_permits (row_reads l.table l.i l.now l.label) (row_reads l.table l.i l.later l.label) (trees_of (map plain l.rest)) (seen_value l.value) ≡ one_permits (row_reads l.table l.i l.now l.label) (row_reads l.table l.i l.later l.label) (trees_of (map plain l.fn.elements)) (seen_value l.value);
+}
+
+abbrev pub decreases-one_has-loop-first : goal.decreases-one_has-loop-first
+decreases-one_has-loop-first l = length l.rest

@@ -1,0 +1,119 @@
+-- What is kept while an expression is evaluated: the values of variables, and of the definitions and actuals that it reaches.
+use Rattle.std.specs.Prelude.{◌≡◌, ℕ, ◌==◌, ◌&&◌, Bool, true, false, List, [], map, Option, Some, None, is_some, bytes_eq}
+use Rattle.std.specs.List.{list_any}
+use Rattle.std.specs.Borrow.{Bor}
+use Rattle.std.specs.HashMap.{HashMap, get_by}
+use Rattle.smv_text.specs.declared.tree.Path.{Path}
+use Rattle.smv_text.specs.Tree.{Tree}
+use Rattle.smv_meaning.specs.declared.value.Value.{Value}
+use Rattle.smv_operators.specs.declared.seen.Seen.{Seen}
+use Rattle.smv_evaluation.specs.declared.dotted.Dotted.{Dotted}
+use Rattle.smv_evaluation.specs.declared.rows.Values.{Values}
+use Rattle.smv_evaluation.specs.declared.rows.Row.{Row}
+use Rattle.smv_evaluation.specs.declared.reached.Reach.{Reach}
+use Rattle.smv_meaning.specs.Formulas.{placed_formulas, IsFormulaOrder}
+use Rattle.smv_instances.specs.declared.table.Instance.{Instance as PartOf}
+use Rattle.smv_meaning.specs.Values.{Valuation, no_value}
+use Rattle.smv_meaning.specs.Expressions.{denote}
+use Rattle.smv_meaning.specs.Instances.{Instance, dotted}
+use Rattle.smv_evaluation.specs.Dotting.{dotted_name}
+use Rattle.smv_meaning.specs.Names.{Local, formula, local, Found, body_at}
+use Rattle.smv_meaning.specs.Meaning.{value_found}
+use Rattle.smv_instances.specs.NameMap.{named_in}
+use Rattle.smv_meaning.specs.Reached.{leads_to, local_leads_to}
+use Rattle.smv_meaning.specs.Safety.{Safe}
+use Rattle.smv_meaning.specs.Settled.{values_in}
+use Rattle.smv_operators.specs.View.{seen_value}
+use Rattle.smv_evaluation.specs.View.{stated}
+use Rattle.smv_instances.specs.View.{instance_plain, found_here}
+use Rattle.smv_references.specs.View.{formula_plain}
+
+-- ---- values of variables
+
+-- a value by its name, or what stands for it where there is none
+abbrev pub found_value : Option (Bor Value) → Value
+found_value None = no_value
+found_value (Some v) = v.now
+
+-- the value of a dotted name
+abbrev pub at_dotted : {X S : Type 0} → HashMap Dotted X S → List ℕ → List ℕ → Option X
+at_dotted m p x = get_by (λ k. bytes_eq (dotted p x) (dotted_name k)) m
+
+-- each name has the value that the state gives it
+abbrev pub AreGiven : Values → Type 0
+AreGiven values = (p : List ℕ) (x : List ℕ) → found_value (at_dotted values.named p x) ≡ stated values.given (dotted p x)
+
+-- ---- values of names
+
+-- what is kept, or what stands for a value where there is none
+abbrev pub kept_value : Option Seen → Value
+kept_value None = no_value
+kept_value (Some s) = seen_value s
+
+-- the values of all names in the state under the label
+abbrev pub row_values : List PartOf → Row → Values → ℕ → Path → Value
+row_values ts row label = values_in (map instance_plain ts) (stated row.state.given) (stated label.given)
+
+-- the values of the names of an instance: those of what they lead to
+unfoldable pub row_reads : List PartOf → ℕ → Row → Values → Path → Value
+row_reads ts i row label path = value_found (row_values ts row label) (stated row.state.given) (stated label.given) (found_here ts i path)
+
+-- the value of a definition or an actual is kept
+abbrev pub FoundKept : List PartOf → Row → Values → Found → Type 0
+FoundKept ts row label (body_at k x j e) = kept_value (named_in row.formulas k x) ≡ (denote (row_values ts row label j) (row_values ts row label j) e).value
+FoundKept ts row label m = Unit {0}
+
+-- what is owed of a name, so that its value is read in the row
+unfoldable pub IsKept : List PartOf → ℕ → Row → Values → Path → Type 0
+IsKept ts i row label path = AreGiven row.state × AreGiven label × FoundKept ts row label (found_here ts i path)
+
+-- ---- what an expression reaches
+
+abbrev pub is_marked : {S : Type 0} → HashMap (ℕ × Bor (List ℕ)) Bool S → ℕ → List ℕ → Bool
+is_marked marks k x = is_some (named_in marks k x)
+
+-- what the expression leads to is marked
+abbrev pub MarksStart : {S : Type 0} → List Instance → ℕ → Tree → HashMap (ℕ × Bor (List ℕ)) Bool S → Type 0
+MarksStart t i e marks = (k : ℕ) (x : List ℕ) → leads_to t i e k x ≡ true → is_marked marks k x ≡ true
+
+-- what the bodies of marked ones lead to is marked
+abbrev pub MarksClosed : {S : Type 0} → List Instance → HashMap (ℕ × Bor (List ℕ)) Bool S → Type 0
+MarksClosed t marks = (k : ℕ) (x : List ℕ) (l : ℕ) (y : List ℕ) → is_marked marks k x ≡ true → local_leads_to t (local t k x) l y ≡ true → is_marked marks l y ≡ true
+
+-- all that is marked passes each test that holds of what the expression leads to, and goes over to what bodies lead to
+abbrev pub MarksLeast : {S : Type 0} → List Instance → ℕ → Tree → HashMap (ℕ × Bor (List ℕ)) Bool S → Type 0
+MarksLeast t i e marks = (test : ℕ → List ℕ → Bool) → ((k : ℕ) (x : List ℕ) → leads_to t i e k x ≡ true → test k x ≡ true)
+    → ((k : ℕ) (x : List ℕ) (l : ℕ) (y : List ℕ) → test k x ≡ true → local_leads_to t (local t k x) l y ≡ true → test l y ≡ true)
+    → (k : ℕ) (x : List ℕ) → is_marked marks k x ≡ true → test k x ≡ true
+
+-- all definitions and actuals, and an order in which each stands after those to which it refers
+pub record IsOrdered (t : List Instance) (reach : Reach) : Type 0 where
+  pub formulas : map formula_plain reach.formulas.items ≡ placed_formulas t
+  pub order : IsFormulaOrder t reach.order
+
+-- ---- rows
+
+abbrev pub is_written : Local → Bool
+is_written (formula j e) = true
+is_written l = false
+
+-- its body is safely evaluated by what is kept
+abbrev pub LocalReady : List PartOf → Row → Values → Local → Type 0
+LocalReady ts row label (formula j e) = Safe (IsKept ts j row label) (IsKept ts j row label) (row_reads ts j row label) (row_reads ts j row label) e
+LocalReady ts row label l = Unit {0}
+
+abbrev pub local_value : List PartOf → Row → Values → Local → Value
+local_value ts row label (formula j e) = (denote (row_reads ts j row label) (row_reads ts j row label) e).value
+local_value ts row label l = no_value
+
+-- its evaluation under the values of all names is safe
+abbrev pub LocalSafe : (ℕ → Path → Value) → Local → Type 0
+LocalSafe values (formula j e) = Safe (λ q. Unit {0}) (λ q. Unit {0}) (values j) (values j) e
+LocalSafe values l = Unit {0}
+
+abbrev pub MarkedSafe : {S : Type 0} → List Instance → HashMap (ℕ × Bor (List ℕ)) Bool S → Valuation → Valuation → Type 0
+MarkedSafe t marks state label = (k : ℕ) (x : List ℕ) → is_marked marks k x ≡ true → LocalSafe (values_in t state label) (local t k x)
+
+-- the values of all that is marked are kept
+abbrev pub MarkedKept : {S : Type 0} → List PartOf → HashMap (ℕ × Bor (List ℕ)) Bool S → Row → Values → Type 0
+MarkedKept ts marks row label = (k : ℕ) (x : List ℕ) (j : ℕ) (e : Tree) → is_marked marks k x ≡ true → local (map instance_plain ts) k x ≡ formula j e → FoundKept ts row label (body_at k x j e)

@@ -1,0 +1,453 @@
+// The value of an expression in an instance, given what is kept of its names.
+ghost use Rattle.std.specs.Prelude.{◌≡◌, ◌≤◌, ◌<◌, ◌+◌, ◌^◌, map, max, ℕ, if◌then◌else◌, IfSome};
+ghost use Rattle.smv_text.specs.Tree.{links_of, branches_of, trees_of};
+ghost use Rattle.smv_text.specs.View.{plain, plain_branch, plain_link};
+ghost use Rattle.smv_meaning.specs.Values.{is_true, value_same};
+ghost use Rattle.smv_meaning.specs.Operators.{called};
+ghost use Rattle.smv_meaning.specs.Expressions.{is_from_right as right_first, are_implies, is_implies, denote, implications, chosen, taken, values_of, one_permits};
+ghost use Rattle.smv_meaning.specs.Safety.{depth, right_depth, link_depth, branch_depth, tree_depth, Fits, front_value, fronts_value, front_permits, fronts_permit, Safe, SafeLinks, SafeBranches, SafeTrees, SafeOperands};
+ghost use Rattle.smv_evaluation.specs.Rows.{row_reads, IsKept};
+ghost use Rattle.smv_operators.specs.View.{seen_value, plain_value, plain_or};
+ghost use Rattle.smv_evaluation.specs.View.{denoted_or_none};
+
+use crate::rows::{Row, Values, value_of_path};
+use smv_instances::Table;
+use smv_operators::{
+    Plain, Seen, apply, call_one, call_two, implication, no_plain, no_seen, opposite, plain_same,
+    same, seen_of, selection, truth_of,
+};
+use smv_text::{Branch, Expr, Function, Infix, Link, Shape};
+
+/// The value of an expression, its names read in the numbered instance.
+#[cycle(evaluate)]
+#[tactic(auto, using(crate::proofs::Evaluating::right_low))]
+pub fn evaluate<'a>(
+    table: &Table<'a>,
+    i: usize,
+    e: &'a Expr,
+    now: &Row<'a>,
+    label: &Values<'a>,
+    later: &Row<'a>,
+) -> Seen<'a>
+    requires safe { Safe (IsKept table.now i now.now label.now) (IsKept table.now i later.now label.now) (row_reads table.now i now.now label.now) (row_reads table.now i later.now label.now) (plain e.now) }
+    ensures { seen_value result ≡ (denote (row_reads table.now i now.now label.now) (row_reads table.now i later.now label.now) (plain e.now)).value }
+{
+    match &e.shape {
+        Shape::True => Seen::Truth(true),
+        Shape::False => Seen::Truth(false),
+        Shape::Number(n) => Seen::Integer(*n as i64),
+        Shape::Literal(w) => Seen::Bits(*w),
+        Shape::Name(path) => value_of_path(table, i, path, now, label),
+        Shape::Prefix(sign, count, a) => {
+            let value = evaluate(table, i, a, now, label, later);
+            if *count % 2 == 0 {
+                value
+            } else {
+                seen_of(opposite(*sign, *count, &value))
+            }
+        }
+        Shape::Chain(a, links) => {
+            let first = evaluate(table, i, a, now, label, later);
+            if is_from_right(links.as_slice()) {
+                match rest_implied(table, i, &first, links.as_slice(), now, label, later) {
+                    None => first,
+                    Some(value) => seen_of(value),
+                }
+            } else {
+                match last_front(table, i, &first, links.as_slice(), now, label, later) {
+                    None => first,
+                    Some(value) => seen_of(value),
+                }
+            }
+        }
+        Shape::Choice(branches, last) => {
+            let branch = chosen_branch(table, i, branches.as_slice(), last, now, label, later);
+            evaluate(table, i, branch, now, label, later)
+        }
+        Shape::Case(branches) => match taken_branch(
+            table,
+            i,
+            branches.as_slice(),
+            now,
+            label,
+            later,
+        ) {
+            None => no_seen(),
+            Some(branch) => evaluate(table, i, branch, now, label, later),
+        },
+        Shape::Select(a, high, low) => {
+            let value = evaluate(table, i, a, now, label, later);
+            seen_of(selection(*high, *low, &value))
+        }
+        Shape::Call(f, arguments) => seen_of(call_value(
+            table,
+            i,
+            *f,
+            arguments.as_slice(),
+            now,
+            label,
+            later,
+        )),
+        Shape::Next(a) => evaluate(table, i, a, later, label, later),
+        Shape::Set(_) => no_seen(),
+        Shape::Range(_, _) => no_seen(),
+    }
+}
+
+// A chain of `->` is read from the right.
+#[tactic(auto, using(crate::proofs::Evaluating::right_front))]
+fn is_from_right(links: &[Link]) -> bool
+    ensures { result ≡ right_first (links_of (map plain_link links.now)) }
+{
+    match links.split_first() {
+        None => false,
+        Some(_) => all_imply(links),
+    }
+}
+
+#[tactic(auto, using(crate::proofs::Evaluating::implies_front))]
+fn all_imply(links: &[Link]) -> bool
+    ensures { result ≡ are_implies (links_of (map plain_link links.now)) }
+{
+    let mut rest = links;
+    while let Some((first, more)) = rest.split_first() {
+        if !is_implication(first.op) {
+            return false;
+        }
+        rest = more;
+    }
+    true
+}
+
+fn is_implication(op: Infix) -> bool
+    ensures { result ≡ is_implies op }
+{
+    match op {
+        Infix::Implies => true,
+        _ => false,
+    }
+}
+
+// The value with the implications that follow it.
+#[cycle(evaluate)]
+fn rest_implied<'a>(
+    table: &Table<'a>,
+    i: usize,
+    first: &Seen<'a>,
+    links: &'a [Link],
+    now: &Row<'a>,
+    label: &Values<'a>,
+    later: &Row<'a>,
+) -> Option<Plain>
+    requires safe { SafeOperands (IsKept table.now i now.now label.now) (IsKept table.now i later.now label.now) (row_reads table.now i now.now label.now) (row_reads table.now i later.now label.now) (links_of (map plain_link links.now)) }
+    ensures { plain_or result (seen_value first.now) ≡ implications (row_reads table.now i now.now label.now) (row_reads table.now i later.now label.now) (seen_value first.now) (links_of (map plain_link links.now)) }
+{
+    match links.split_first() {
+        None => None,
+        Some((link, more)) => {
+            let operand = evaluate(table, i, &link.operand, now, label, later);
+            match rest_implied(table, i, &operand, more, now, label, later) {
+                None => Some(implication(first, &operand)),
+                Some(rest) => Some(implication(first, &seen_of(rest))),
+            }
+        }
+    }
+}
+
+// The front of a chain with the links that follow it, from the left.
+#[cycle(evaluate)]
+fn last_front<'a>(
+    table: &Table<'a>,
+    i: usize,
+    first: &Seen<'a>,
+    links: &'a [Link],
+    now: &Row<'a>,
+    label: &Values<'a>,
+    later: &Row<'a>,
+) -> Option<Plain>
+    requires safe { SafeLinks (IsKept table.now i now.now label.now) (IsKept table.now i later.now label.now) (row_reads table.now i now.now label.now) (row_reads table.now i later.now label.now) (seen_value first.now) (links_of (map plain_link links.now)) }
+    ensures { plain_or result (seen_value first.now) ≡ fronts_value (row_reads table.now i now.now label.now) (row_reads table.now i later.now label.now) (seen_value first.now) (links_of (map plain_link links.now)) }
+{
+    let mut front = None;
+    let mut rest = links;
+    while let Some((link, more)) = rest.split_first() {
+        let next = match front {
+            None => next_front(table, i, link.op, first, &link.operand, now, label, later),
+            Some(value) => next_front(
+                table,
+                i,
+                link.op,
+                &seen_of(value),
+                &link.operand,
+                now,
+                label,
+                later,
+            ),
+        };
+        front = Some(next);
+        rest = more;
+    }
+    front
+}
+
+// A front with the operand behind its last operator.
+#[cycle(evaluate)]
+fn next_front<'a>(
+    table: &Table<'a>,
+    i: usize,
+    op: Infix,
+    front: &Seen<'a>,
+    operand: &'a Expr,
+    now: &Row<'a>,
+    label: &Values<'a>,
+    later: &Row<'a>,
+) -> Plain
+    requires safe { Safe (IsKept table.now i now.now label.now) (IsKept table.now i later.now label.now) (row_reads table.now i now.now label.now) (row_reads table.now i later.now label.now) (plain operand.now) }
+    requires fits { Fits (front_value op (seen_value front.now) (denote (row_reads table.now i now.now label.now) (row_reads table.now i later.now label.now) (plain operand.now))) }
+    ensures { plain_value result ≡ front_value op (seen_value front.now) (denote (row_reads table.now i now.now label.now) (row_reads table.now i later.now label.now) (plain operand.now)) }
+{
+    match op {
+        Infix::Member => Plain::Truth(permits(table, i, operand, front, now, label, later)),
+        Infix::Union => no_plain(),
+        _ => {
+            let value = evaluate(table, i, operand, now, label, later);
+            apply(op, front, &value)
+        }
+    }
+}
+
+// The value of the first branch whose condition is true, else what stands behind the last colon.
+#[cycle(evaluate)]
+fn chosen_branch<'a>(
+    table: &Table<'a>,
+    i: usize,
+    branches: &'a [Branch],
+    last: &'a Expr,
+    now: &Row<'a>,
+    label: &Values<'a>,
+    later: &Row<'a>,
+) -> &'a Expr
+    requires safe { SafeBranches (IsKept table.now i now.now label.now) (IsKept table.now i later.now label.now) (row_reads table.now i now.now label.now) (row_reads table.now i later.now label.now) (branches_of (map plain_branch branches.now)) }
+    requires safe_last { Safe (IsKept table.now i now.now label.now) (IsKept table.now i later.now label.now) (row_reads table.now i now.now label.now) (row_reads table.now i later.now label.now) (plain last.now) }
+    ensures value { denote (row_reads table.now i now.now label.now) (row_reads table.now i later.now label.now) (plain result.now) ≡ chosen (row_reads table.now i now.now label.now) (row_reads table.now i later.now label.now) (branches_of (map plain_branch branches.now)) (denote (row_reads table.now i now.now label.now) (row_reads table.now i later.now label.now) (plain last.now)) }
+    ensures low { depth (plain result.now) ≤ max (branch_depth (branches_of (map plain_branch branches.now))) (depth (plain last.now)) }
+    ensures safe { Safe (IsKept table.now i now.now label.now) (IsKept table.now i later.now label.now) (row_reads table.now i now.now label.now) (row_reads table.now i later.now label.now) (plain result.now) }
+{
+    let mut rest = branches;
+    while let Some((branch, more)) = rest.split_first() {
+        let condition = evaluate(table, i, &branch.when, now, label, later);
+        if truth_of(&condition) {
+            return &branch.value;
+        }
+        rest = more;
+    }
+    last
+}
+
+// The value of the first branch whose condition is true, and that of the last branch if none is.
+#[cycle(evaluate)]
+fn taken_branch<'a>(
+    table: &Table<'a>,
+    i: usize,
+    branches: &'a [Branch],
+    now: &Row<'a>,
+    label: &Values<'a>,
+    later: &Row<'a>,
+) -> Option<&'a Expr>
+    requires safe { SafeBranches (IsKept table.now i now.now label.now) (IsKept table.now i later.now label.now) (row_reads table.now i now.now label.now) (row_reads table.now i later.now label.now) (branches_of (map plain_branch branches.now)) }
+    ensures value { denoted_or_none (row_reads table.now i now.now label.now) (row_reads table.now i later.now label.now) result ≡ taken (row_reads table.now i now.now label.now) (row_reads table.now i later.now label.now) (branches_of (map plain_branch branches.now)) }
+    ensures low { IfSome result (λ x. depth (plain x.now) ≤ branch_depth (branches_of (map plain_branch branches.now))) }
+    ensures safe { IfSome result (λ x. Safe (IsKept table.now i now.now label.now) (IsKept table.now i later.now label.now) (row_reads table.now i now.now label.now) (row_reads table.now i later.now label.now) (plain x.now)) }
+{
+    match branches.split_last() {
+        None => None,
+        Some((last, firsts)) => Some(chosen_branch(
+            table,
+            i,
+            firsts,
+            &last.value,
+            now,
+            label,
+            later,
+        )),
+    }
+}
+
+// A function of its arguments.
+#[cycle(evaluate)]
+fn call_value<'a>(
+    table: &Table<'a>,
+    i: usize,
+    f: Function,
+    arguments: &'a [Expr],
+    now: &Row<'a>,
+    label: &Values<'a>,
+    later: &Row<'a>,
+) -> Plain
+    requires safe { SafeTrees (IsKept table.now i now.now label.now) (IsKept table.now i later.now label.now) (row_reads table.now i now.now label.now) (row_reads table.now i later.now label.now) (trees_of (map plain arguments.now)) }
+    requires fits { Fits (called f (values_of (row_reads table.now i now.now label.now) (row_reads table.now i later.now label.now) (trees_of (map plain arguments.now)))) }
+    ensures { plain_value result ≡ called f (values_of (row_reads table.now i now.now label.now) (row_reads table.now i later.now label.now) (trees_of (map plain arguments.now))) }
+{
+    if let Function::Count = f {
+        let mut count = 0i64;
+        let mut rest = arguments;
+        while let Some((first, more)) = rest.split_first() {
+            let value = evaluate(table, i, first, now, label, later);
+            if truth_of(&value) {
+                count += 1;
+            }
+            rest = more;
+        }
+        return Plain::Integer(count);
+    }
+    match arguments.split_first() {
+        None => no_plain(),
+        Some((first, more)) => {
+            let a = evaluate(table, i, first, now, label, later);
+            match more.split_first() {
+                None => call_one(f, &a),
+                Some((second, others)) => {
+                    let b = evaluate(table, i, second, now, label, later);
+                    match others.split_first() {
+                        None => call_two(f, &a, &b),
+                        Some(_) => no_plain(),
+                    }
+                }
+            }
+        }
+    }
+}
+
+/// Does the expression permit the value?
+#[cycle(evaluate)]
+pub fn permits<'a>(
+    table: &Table<'a>,
+    i: usize,
+    e: &'a Expr,
+    value: &Seen<'a>,
+    now: &Row<'a>,
+    label: &Values<'a>,
+    later: &Row<'a>,
+) -> bool
+    requires safe { Safe (IsKept table.now i now.now label.now) (IsKept table.now i later.now label.now) (row_reads table.now i now.now label.now) (row_reads table.now i later.now label.now) (plain e.now) }
+    ensures { result ≡ (denote (row_reads table.now i now.now label.now) (row_reads table.now i later.now label.now) (plain e.now)).permits (seen_value value.now) }
+{
+    match &e.shape {
+        Shape::Set(elements) => one_has(table, i, elements.as_slice(), value, now, label, later),
+        Shape::Range(low, high) => match value {
+            Seen::Truth(_) => false,
+            Seen::Integer(z) => *low <= *z && *z <= *high,
+            Seen::Symbol(_) => false,
+            Seen::Bits(_) => false,
+        },
+        Shape::Choice(branches, last) => {
+            let branch = chosen_branch(table, i, branches.as_slice(), last, now, label, later);
+            permits(table, i, branch, value, now, label, later)
+        }
+        Shape::Case(branches) => match taken_branch(
+            table,
+            i,
+            branches.as_slice(),
+            now,
+            label,
+            later,
+        ) {
+            None => same(&no_seen(), value),
+            Some(branch) => permits(table, i, branch, value, now, label, later),
+        },
+        Shape::Next(a) => permits(table, i, a, value, later, label, later),
+        Shape::Chain(a, links) => {
+            if is_from_right(links.as_slice()) {
+                let own = evaluate(table, i, e, now, label, later);
+                same(&own, value)
+            } else {
+                let first = evaluate(table, i, a, now, label, later);
+                let has = permits(table, i, a, value, now, label, later);
+                last_has(
+                    table,
+                    i,
+                    &first,
+                    has,
+                    links.as_slice(),
+                    value,
+                    now,
+                    label,
+                    later,
+                )
+            }
+        }
+        _ => {
+            let own = evaluate(table, i, e, now, label, later);
+            same(&own, value)
+        }
+    }
+}
+
+// Does one of the expressions permit the value?
+#[cycle(evaluate)]
+fn one_has<'a>(
+    table: &Table<'a>,
+    i: usize,
+    elements: &'a [Expr],
+    value: &Seen<'a>,
+    now: &Row<'a>,
+    label: &Values<'a>,
+    later: &Row<'a>,
+) -> bool
+    requires safe { SafeTrees (IsKept table.now i now.now label.now) (IsKept table.now i later.now label.now) (row_reads table.now i now.now label.now) (row_reads table.now i later.now label.now) (trees_of (map plain elements.now)) }
+    ensures { result ≡ one_permits (row_reads table.now i now.now label.now) (row_reads table.now i later.now label.now) (trees_of (map plain elements.now)) (seen_value value.now) }
+{
+    let mut rest = elements;
+    while let Some((first, more)) = rest.split_first() {
+        if permits(table, i, first, value, now, label, later) {
+            return true;
+        }
+        rest = more;
+    }
+    false
+}
+
+// Does a chain permit the value, given the value of its first operand and whether that permits it?
+#[cycle(evaluate)]
+fn last_has<'a>(
+    table: &Table<'a>,
+    i: usize,
+    first: &Seen<'a>,
+    first_has: bool,
+    links: &'a [Link],
+    value: &Seen<'a>,
+    now: &Row<'a>,
+    label: &Values<'a>,
+    later: &Row<'a>,
+) -> bool
+    requires safe { SafeLinks (IsKept table.now i now.now label.now) (IsKept table.now i later.now label.now) (row_reads table.now i now.now label.now) (row_reads table.now i later.now label.now) (seen_value first.now) (links_of (map plain_link links.now)) }
+    ensures { result ≡ fronts_permit (row_reads table.now i now.now label.now) (row_reads table.now i later.now label.now) (seen_value value.now) (seen_value first.now) first_has (links_of (map plain_link links.now)) }
+{
+    let mut front = None;
+    let mut has = first_has;
+    let mut rest = links;
+    while let Some((link, more)) = rest.split_first() {
+        let next = match front {
+            None => next_front(table, i, link.op, first, &link.operand, now, label, later),
+            Some(before) => next_front(
+                table,
+                i,
+                link.op,
+                &seen_of(before),
+                &link.operand,
+                now,
+                label,
+                later,
+            ),
+        };
+        if let Infix::Union = link.op {
+            let operand_has = permits(table, i, &link.operand, value, now, label, later);
+            has = has || operand_has;
+        } else {
+            has = plain_same(&next, value);
+        }
+        front = Some(next);
+        rest = more;
+    }
+    has
+}

@@ -1,0 +1,107 @@
+// The values of the definitions and actuals that an expression reaches, each evaluated once.
+ghost use Rattle.std.specs.Prelude.{◌≡◌, ◌&&◌, ◌==◌, List, ℕ, Some, true, map, bytes_eq, if◌then◌else◌, IfOk, OnOk};
+ghost use Rattle.smv_meaning.specs.Names.{local};
+ghost use Rattle.smv_instances.specs.NameMap.{named_in};
+ghost use Rattle.smv_meaning.specs.Values.{given};
+ghost use Rattle.smv_evaluation.specs.Rows.{AreGiven, kept_value, is_marked, IsOrdered, MarksClosed, MarkedSafe, LocalReady, local_value, is_written, MarkedKept};
+ghost use Rattle.smv_instances.specs.View.{instance_plain};
+ghost use Rattle.smv_evaluation.specs.View.{stated};
+
+use crate::evaluate::evaluate;
+use crate::reached::{Marks, Reach, has_mark};
+use crate::rows::{Row, Values, keep_under, nothing_kept, values_of};
+use smv_instances::{Known, Table};
+use smv_meaning::State;
+use smv_references::Formula;
+use std::alloc::Global;
+use text_core::NoMemory;
+
+// Keeps the value of a name that is a definition or an actual with a body.
+fn keep_local<'a>(
+    table: &Table<'a>,
+    i: usize,
+    x: &'a [u8],
+    label: &Values<'a>,
+    row: &mut Row<'a>,
+) -> Result<(), NoMemory>
+    requires { LocalReady table.now row.old label.now (local (map instance_plain table.now) i x.now) }
+    ensures state { OnOk result (row.new.state ≡ row.old.state) }
+    ensures kept { OnOk result ((k : ℕ) (y : List ℕ) → kept_value (named_in row.new.formulas k y) ≡ (if is_written (local (map instance_plain table.now) i x.now) && (i == k && bytes_eq x.now y) then local_value table.now row.old label.now (local (map instance_plain table.now) i x.now) else kept_value (named_in row.old.formulas k y))) }
+{
+    match table.local(i, x) {
+        Known::Formula(j, e) => {
+            let value = evaluate(table, j, e, row, label, row);
+            keep_under(&mut row.formulas, i, x, value)
+        }
+        Known::Alias(_, _) => Ok(()),
+        Known::Variable(_, _) => Ok(()),
+        Known::Inner => Ok(()),
+        Known::Nothing => Ok(()),
+    }
+}
+
+// The body is evaluated by what is kept, which holds all to which it leads.
+fn keep_marked<'a>(
+    table: &Table<'a>,
+    formula: &Formula<'a>,
+    marks: &Marks<'a>,
+    label: &Values<'a>,
+    row: &mut Row<'a>,
+) -> Result<(), NoMemory>
+    requires { is_marked marks.now formula.now.instance formula.now.name.now ≡ true → LocalReady table.now row.old label.now (local (map instance_plain table.now) formula.now.instance formula.now.name.now) }
+    ensures state { OnOk result (row.new.state ≡ row.old.state) }
+    ensures kept { OnOk result ((k : ℕ) (y : List ℕ) → kept_value (named_in row.new.formulas k y) ≡ (if is_marked marks.now formula.now.instance formula.now.name.now && (is_written (local (map instance_plain table.now) formula.now.instance formula.now.name.now) && (formula.now.instance == k && bytes_eq formula.now.name.now y)) then local_value table.now row.old label.now (local (map instance_plain table.now) formula.now.instance formula.now.name.now) else kept_value (named_in row.old.formulas k y))) }
+{
+    if has_mark(marks, formula.instance, formula.name) {
+        keep_local(table, formula.instance, formula.name, label, row)
+    } else {
+        Ok(())
+    }
+}
+
+// Evaluates what is marked, in an order in which each stands after those to which it refers.
+fn keep_all<'a>(
+    table: &Table<'a>,
+    reach: &Reach<'a>,
+    label: &Values<'a>,
+    row: &mut Row<'a>,
+) -> Result<(), NoMemory>
+    requires ordered { IsOrdered (map instance_plain table.now) reach.now }
+    requires closed { MarksClosed (map instance_plain table.now) reach.now.marks }
+    requires safe { MarkedSafe (map instance_plain table.now) reach.now.marks (stated row.old.state.given) (stated label.now.given) }
+    requires state { AreGiven row.old.state }
+    requires label { AreGiven label.now }
+    ensures state { OnOk result (row.new.state ≡ row.old.state) }
+    ensures kept { OnOk result (MarkedKept table.now reach.now.marks row.new label.now) }
+{
+    let formulas = reach.formulas.as_slice();
+    for n in 0..reach.order.len() {
+        let k = *reach.order.at(n);
+        keep_marked(table, &formulas[k], &reach.marks, label, row)?;
+    }
+    Ok(())
+}
+
+/// The values of names in a state: what the state gives, and what the expression reaches, each evaluated once.
+pub fn row_of<'a>(
+    alloc: Global,
+    table: &Table<'a>,
+    reach: &Reach<'a>,
+    state: &'a State,
+    label: &Values<'a>,
+) -> Result<Row<'a>, NoMemory>
+    requires ordered { IsOrdered (map instance_plain table.now) reach.now }
+    requires closed { MarksClosed (map instance_plain table.now) reach.now.marks }
+    requires safe { MarkedSafe (map instance_plain table.now) reach.now.marks (given state.now) (stated label.now.given) }
+    requires label { AreGiven label.now }
+    ensures given { IfOk result (λ r. r.state.given ≡ Some state.entry) }
+    ensures state { IfOk result (λ r. AreGiven r.state) }
+    ensures kept { IfOk result (λ r. MarkedKept table.now reach.now.marks r label.now) }
+{
+    let mut row = Row {
+        state: values_of(alloc, Some(state))?,
+        formulas: nothing_kept(alloc),
+    };
+    keep_all(table, reach, label, &mut row)?;
+    Ok(row)
+}

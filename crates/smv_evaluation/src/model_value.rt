@@ -1,0 +1,81 @@
+// The value of an expression of a model.
+ghost use Rattle.std.specs.Prelude.{◌≡◌, ◌||◌, not, map, position, is_some, IsTrue, bytes_eq, IfOk};
+ghost use Rattle.smv_text.specs.View.{plain, plain_source};
+ghost use Rattle.smv_meaning.specs.Values.{given};
+ghost use Rattle.smv_meaning.specs.Instances.{instances_of};
+ghost use Rattle.smv_meaning.specs.Meaning.{value_of};
+ghost use Rattle.smv_meaning.specs.Runs.{state_fits};
+ghost use Rattle.smv_meaning.specs.Owed.{instance_number, following_or, label_given, following_given};
+ghost use Rattle.smv_meaning.specs.Parts.{StandsIn};
+ghost use Rattle.smv_meaning.specs.Checked.{IsChecked, reaches_an_input};
+ghost use Rattle.smv_instances.specs.View.{instance_plain};
+ghost use Rattle.smv_evaluation.specs.View.{stated};
+
+use crate::evaluate::evaluate;
+use crate::fill::row_of;
+use crate::literals::literals_are_words;
+use crate::reached::reach_of;
+use crate::rows::values_of;
+use smv_instances::{Instance, Table, instance_list as instances};
+use smv_meaning::{State, Value};
+use smv_operators::owned;
+use smv_text::{Expr, Source};
+use std::alloc::Global;
+use text_core::{Name, NoMemory};
+
+// The number of the instance with this path.
+fn number_of<'a>(table: &[Instance<'a>], path: &[u8]) -> usize
+    ensures { result ≡ instance_number (map instance_plain table.now) path.now }
+{
+    match place_of(table, path) {
+        None => table.len(),
+        Some(i) => i,
+    }
+}
+
+fn place_of<'a>(table: &[Instance<'a>], path: &[u8]) -> Option<usize>
+    ensures { result ≡ position (λ at. bytes_eq (instance_plain at).path path.now) table.now }
+{
+    table.iter().position(|at| at.path.bytes() == path)
+}
+
+/// The value of an expression in the instance with this dotted path (empty for main): names of state and frozen variables
+/// are read in the state `now`, those of inputs in the label, and under `next` in the following state (NuSMV 2.6 User
+/// Manual, 2.2.3). The model's paths, cycles and types are checked. The expression is one of the instance's module, or part of
+/// one; a set has no value, and neither has the name of an instance. The states give each variable a value of its type, and a
+/// label is there where the expression reaches an input. Where no following state is given, `next` reads the state itself. Each
+/// definition and actual that the expression reaches is evaluated once for the state and once for the following state, each
+/// after those to which it refers, so that none is evaluated within another: it takes as much of the stack as one expression
+/// nests.
+pub fn value_at<'a>(
+    alloc: Global,
+    source: &'a Source,
+    instance: &Name,
+    expr: &'a Expr,
+    now: &'a State,
+    label: Option<&'a State>,
+    following: Option<&'a State>,
+) -> Result<Value, NoMemory>
+    requires checked { IsChecked (instances_of (plain_source source.now)) }
+    requires stands { StandsIn (instances_of (plain_source source.now)) (instance_number (instances_of (plain_source source.now)) instance.now) (plain expr.now) }
+    requires labelled { IsTrue (is_some label || not (reaches_an_input (instances_of (plain_source source.now)) (instance_number (instances_of (plain_source source.now)) instance.now) (plain expr.now))) }
+    requires now_given { IsTrue (state_fits (instances_of (plain_source source.now)) (given now.now)) }
+    requires label_given { IsTrue (label_given (instances_of (plain_source source.now)) label) }
+    requires following_given { IsTrue (following_given (instances_of (plain_source source.now)) following) }
+    ensures { IfOk result (λ v. v ≡ value_of (plain_source source.now) (instance_number (instances_of (plain_source source.now)) instance.now) (plain expr.now) (given now.now) (stated label.entry) (following_or (given now.now) following.entry)) }
+{
+    let parts = instances(alloc, source)?;
+    literals_are_words(parts.as_slice());
+    let i = number_of(parts.as_slice(), instance.bytes());
+    let table = Table::over(alloc, parts)?;
+    let reach = reach_of(alloc, &table, i, expr)?;
+    let label = values_of(alloc, label)?;
+    let here = row_of(alloc, &table, &reach, now, &label)?;
+    match following {
+        None => owned(alloc, evaluate(&table, i, expr, &here, &label, &here)),
+        Some(later) => {
+            let there = row_of(alloc, &table, &reach, later, &label)?;
+            owned(alloc, evaluate(&table, i, expr, &here, &label, &there))
+        }
+    }
+}

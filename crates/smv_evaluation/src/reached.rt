@@ -1,0 +1,185 @@
+// Which definitions and actuals an expression reaches.
+ghost use Rattle.std.specs.Prelude.{◌≡◌, ◌&&◌, ◌||◌, List, ℕ, None, map, IfOk, OnOk};
+ghost use Rattle.std.specs.List.{list_any};
+ghost use Rattle.smv_text.specs.View.{plain};
+ghost use Rattle.smv_meaning.specs.Names.{local, found_in};
+ghost use Rattle.smv_instances.specs.NameMap.{named_in};
+ghost use Rattle.smv_meaning.specs.Checks.{first_failing};
+ghost use Rattle.smv_meaning.specs.Settled.{cycle_checks_of};
+ghost use Rattle.smv_meaning.specs.Formulas.{placed_formulas, IsFormulaOrder};
+ghost use Rattle.smv_evaluation.specs.Rows.{is_marked, MarksStart, MarksClosed, MarksLeast, IsOrdered};
+ghost use Rattle.smv_meaning.specs.Reached.{is_body_of, leads_to, local_leads_to};
+ghost use Rattle.smv_instances.specs.View.{instance_plain};
+ghost use Rattle.smv_references.specs.View.{formula_plain, path_seen};
+
+use crate::rows::{keep_under, nothing_kept};
+use smv_instances::{Known, Table, Target};
+use smv_references::{Formula, Ordering, formula_order, formulas_in, paths_in};
+use smv_text::{Expr, Path};
+use std::alloc::Global;
+use std::collections::HashMap;
+use text_core::{Items, NoMemory};
+
+/// Definitions and actuals by their instance and name.
+pub type Marks<'a> = HashMap<(usize, &'a [u8]), bool>;
+
+/// Is the definition or actual marked?
+pub fn has_mark<'a>(marks: &Marks<'a>, i: usize, x: &[u8]) -> bool
+    ensures { result ≡ is_marked marks.now i x.now }
+{
+    marks.get(&(i, x)).is_some()
+}
+
+fn mark<'a>(
+    table: &Table<'a>,
+    i: usize,
+    path: &'a Path,
+    marks: &mut Marks<'a>,
+) -> Result<(), NoMemory>
+    ensures { OnOk result ((k : ℕ) (x : List ℕ) → is_marked marks.new k x ≡ (is_marked marks.old k x || is_body_of k x (found_in (map instance_plain table.now) i path.now))) }
+{
+    match table.found(i, path) {
+        Target::Body(k, x, _, _) => keep_under(marks, k, x, true),
+        Target::Variable(_, _, _, _) => Ok(()),
+        Target::Within(_) => Ok(()),
+        Target::Symbol(_) => Ok(()),
+        Target::Cyclic => Ok(()),
+        Target::Missing => Ok(()),
+    }
+}
+
+fn mark_all<'a>(
+    table: &Table<'a>,
+    i: usize,
+    paths: &[&'a Path],
+    marks: &mut Marks<'a>,
+) -> Result<(), NoMemory>
+    ensures { OnOk result ((k : ℕ) (x : List ℕ) → is_marked marks.new k x ≡ (is_marked marks.old k x || list_any (λ q. is_body_of k x (found_in (map instance_plain table.now) i q)) (map path_seen paths.now))) }
+{
+    for k in 0..paths.len() {
+        mark(table, i, paths[k], marks)?;
+    }
+    Ok(())
+}
+
+// Marks what the paths of an expression lead to.
+fn mark_body<'a>(
+    alloc: Global,
+    table: &Table<'a>,
+    i: usize,
+    e: &'a Expr,
+    marks: &mut Marks<'a>,
+) -> Result<(), NoMemory>
+    ensures { OnOk result ((k : ℕ) (x : List ℕ) → is_marked marks.new k x ≡ (is_marked marks.old k x || leads_to (map instance_plain table.now) i (plain e.now) k x)) }
+{
+    let paths = paths_in(alloc, e)?;
+    mark_all(table, i, paths.as_slice(), marks)
+}
+
+fn mark_local<'a>(
+    alloc: Global,
+    table: &Table<'a>,
+    i: usize,
+    x: &[u8],
+    marks: &mut Marks<'a>,
+) -> Result<(), NoMemory>
+    ensures { OnOk result ((l : ℕ) (y : List ℕ) → is_marked marks.new l y ≡ (is_marked marks.old l y || local_leads_to (map instance_plain table.now) (local (map instance_plain table.now) i x.now) l y)) }
+{
+    match table.local(i, x) {
+        Known::Formula(j, e) => mark_body(alloc, table, j, e, marks),
+        Known::Alias(_, _) => Ok(()),
+        Known::Variable(_, _) => Ok(()),
+        Known::Inner => Ok(()),
+        Known::Nothing => Ok(()),
+    }
+}
+
+// Marks what the body of a marked definition or actual leads to.
+fn mark_on<'a>(
+    alloc: Global,
+    table: &Table<'a>,
+    formula: &Formula<'a>,
+    marks: &mut Marks<'a>,
+) -> Result<(), NoMemory>
+    ensures { OnOk result ((l : ℕ) (y : List ℕ) → is_marked marks.new l y ≡ (is_marked marks.old l y || (is_marked marks.old formula.now.instance formula.now.name.now && local_leads_to (map instance_plain table.now) (local (map instance_plain table.now) formula.now.instance formula.now.name.now) l y))) }
+{
+    if has_mark(marks, formula.instance, formula.name) {
+        mark_local(alloc, table, formula.instance, formula.name, marks)
+    } else {
+        Ok(())
+    }
+}
+
+// Against an order in which each stands after those to which it refers, so that each body is gone over once.
+fn marks_of<'a>(
+    alloc: Global,
+    table: &Table<'a>,
+    formulas: &[Formula<'a>],
+    order: &Items<usize>,
+    i: usize,
+    e: &'a Expr,
+) -> Result<Marks<'a>, NoMemory>
+    requires formulas { map formula_plain formulas.now ≡ placed_formulas (map instance_plain table.now) }
+    requires order { IsFormulaOrder (map instance_plain table.now) order.now }
+    ensures starts { IfOk result (MarksStart (map instance_plain table.now) i (plain e.now)) }
+    ensures closed { IfOk result (MarksClosed (map instance_plain table.now)) }
+    ensures least { IfOk result (MarksLeast (map instance_plain table.now) i (plain e.now)) }
+{
+    let mut marks = nothing_kept(alloc);
+    mark_body(alloc, table, i, e, &mut marks)?;
+    let mut n = order.len();
+    while n > 0 {
+        n -= 1;
+        let k = *order.at(n);
+        mark_on(alloc, table, &formulas[k], &mut marks)?;
+    }
+    Ok(marks)
+}
+
+// The order, which is there where no check of a cycle fails.
+fn order_of<'a>(
+    alloc: Global,
+    table: &Table<'a>,
+    formulas: &[Formula<'a>],
+) -> Result<Items<usize>, NoMemory>
+    requires formulas { map formula_plain formulas.now ≡ placed_formulas (map instance_plain table.now) }
+    requires passing { first_failing (cycle_checks_of (map instance_plain table.now)) ≡ None }
+    ensures { IfOk result (IsFormulaOrder (map instance_plain table.now)) }
+{
+    match formula_order(alloc, table, formulas)? {
+        Ordering::Ordered(order) => Ok(order),
+        Ordering::Cycle(_) => Ok(Items::new(alloc)),
+    }
+}
+
+/// The definitions and actuals of a model, an order in which each stands after those to which it refers, and which of them an
+/// expression reaches.
+#[derive(Drop)]
+pub struct Reach<'a> {
+    pub formulas: Vec<Formula<'a>>,
+    pub order: Items<usize>,
+    pub marks: Marks<'a>,
+}
+
+/// What an expression of the numbered instance reaches, in a model in which nothing reaches itself.
+pub fn reach_of<'a>(
+    alloc: Global,
+    table: &Table<'a>,
+    i: usize,
+    e: &'a Expr,
+) -> Result<Reach<'a>, NoMemory>
+    requires { first_failing (cycle_checks_of (map instance_plain table.now)) ≡ None }
+    ensures ordered { IfOk result (IsOrdered (map instance_plain table.now)) }
+    ensures starts { IfOk result (λ r. MarksStart (map instance_plain table.now) i (plain e.now) r.marks) }
+    ensures closed { IfOk result (λ r. MarksClosed (map instance_plain table.now) r.marks) }
+    ensures least { IfOk result (λ r. MarksLeast (map instance_plain table.now) i (plain e.now) r.marks) }
+{
+    let formulas = formulas_in(alloc, table)?;
+    let order = order_of(alloc, table, formulas.as_slice())?;
+    let marks = marks_of(alloc, table, formulas.as_slice(), &order, i, e)?;
+    Ok(Reach {
+        formulas,
+        order,
+        marks,
+    })
+}

@@ -1,0 +1,4 @@
+pub mod Capping
+pub mod Keeping
+pub mod Descending
+pub mod Following

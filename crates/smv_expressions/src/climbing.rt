@@ -1,0 +1,519 @@
+// The parser of expressions: an operand, and then level by level what goes on with it.
+//
+// Its functions are kept apart, so that each has a small frame: a hundred brackets with all levels in each fit a usual stack.
+
+ghost use Rattle.std.specs.Prelude.{◌≡◌, ◌<◌, ◌≤◌, ◌-◌, ◌^◌, ◌&&◌, nat_le, List, ◌∷◌, [], true, length, IfOk};
+ghost use Rattle.smv_text.specs.Levels.{all_levels};
+ghost use Rattle.smv_text.specs.Grammar.{start, Spells};
+ghost use Rattle.smv_text.specs.Tree.{Tree};
+ghost use Rattle.smv_grammar.specs.Kept.{cap};
+ghost use Rattle.smv_grammar.specs.Ranks.{level_at, tightest};
+ghost use Rattle.smv_expressions.specs.Gathered.{read_of};
+ghost use Rattle.smv_grammar.specs.Machine.{bare, operand, when, selected, condition, listing, ask, have, signed, open_next, opened, is_prefix, prefix_sign, closing_of};
+ghost use Rattle.std.specs.Bool.{OnTrue};
+ghost use Rattle.smv_grammar.specs.Reading.{starts_range, waiting};
+ghost use Rattle.smv_expressions.specs.Following.{IsOperand, Leads, Follows, Selects, Takes};
+
+use crate::kept::{
+    Cases, Kept, Members, Operands, leaf, name_leaf, next_value, prefixed as with_prefix, put_leaf,
+    selected, taken,
+};
+use crate::leaves::{expect, integer, number, path, starts_range};
+use crate::stop::Stop;
+use smv_grammar::{
+    Leader, Listing, after, after_word, first_rank, is_first, is_sign, joint_after, leader_of,
+    level_at,
+};
+use smv_text::{Joint, Level, Prefix, Reserved, Shape, Sign, Token, TokenKind};
+use std::alloc::Global;
+use text_core::Place;
+
+/// The expression that comes first, and the tokens behind it. It goes on as long as it can.
+pub fn expression<'a>(
+    alloc: Global,
+    tokens: &'a [Token],
+    kept: &mut Kept,
+) -> Result<&'a [Token], Stop>
+    requires { length tokens.now < 2 ^ 32 }
+    // It is what the machine comes to, with the tokens behind it.
+    ensures takes { Takes (λ r. (read_of kept.new, r.now)) tokens.now result }
+    ensures shorter { IfOk result (λ r. length r.now < length tokens.now) }
+{
+    read(alloc, 16, tokens, kept)
+}
+
+/// The place of the first token; a text's first byte where there is none.
+pub fn start(tokens: &[Token]) -> Place
+    ensures { result ≡ start tokens.now }
+{
+    match tokens.first() {
+        Some(token) => token.place,
+        None => Place {
+            line: 1,
+            column: 1,
+            offset: 0,
+        },
+    }
+}
+
+// An expression of so many levels.
+#[cycle(read)]
+fn read<'a>(
+    alloc: Global,
+    levels: usize,
+    tokens: &'a [Token],
+    kept: &mut Kept,
+) -> Result<&'a [Token], Stop>
+    requires few { levels ≤ 16 }
+    requires short { length tokens.now < 2 ^ 32 }
+    ensures reads { Follows (λ r. (read_of kept.new, r.now)) (ask (tightest levels)) tokens.now result }
+    ensures shorter { IfOk result (λ r. length r.now < length tokens.now) }
+{
+    // Most operands are a single token.
+    if let Some((token, rest)) = tokens.split_first() {
+        if let TokenKind::Ident(name) = &token.kind {
+            if !is_first(rest, Sign::Dot) {
+                name_leaf(alloc, token.place, name, kept)?;
+                return climb(alloc, levels, token.place, 0, rest, kept);
+            }
+        }
+        if put_constant(token, rest, kept) {
+            return climb(alloc, levels, token.place, 0, rest, kept);
+        }
+    }
+    let (level, rest) = begin(alloc, levels, tokens, kept)?;
+    climb(alloc, levels, start(tokens), level, rest, kept)
+}
+
+// Keeps the operand that the token is by itself, where it is a number or a truth value: is it one?
+#[inline(never)]
+fn put_constant(token: &Token, rest: &[Token], kept: &mut Kept) -> bool
+    ensures { OnTrue result (IsOperand token.now rest.now (read_of kept.new)) }
+{
+    match &token.kind {
+        TokenKind::Number(n) => {
+            if is_first(rest, Sign::Range) {
+                false
+            } else {
+                put_leaf(kept, token.place, Shape::Number(*n));
+                true
+            }
+        }
+        TokenKind::Reserved(word) => match word {
+            Reserved::True => {
+                put_leaf(kept, token.place, Shape::True);
+                true
+            }
+            Reserved::False => {
+                put_leaf(kept, token.place, Shape::False);
+                true
+            }
+            _ => false,
+        },
+        _ => false,
+    }
+}
+
+// The first operand of an expression of so many levels: how many levels it was read at, and the tokens behind it.
+#[cycle(read)]
+#[inline(never)]
+fn begin<'a>(
+    alloc: Global,
+    levels: usize,
+    tokens: &'a [Token],
+    kept: &mut Kept,
+) -> Result<(usize, &'a [Token]), Stop>
+    requires few { levels ≤ 16 }
+    requires short { length tokens.now < 2 ^ 32 }
+    ensures reads { Leads (λ x. (read_of kept.new, x.1.now)) (λ x. waiting x.0 levels (start tokens.now)) (ask (tightest levels)) tokens.now result }
+    ensures shorter { IfOk result (λ x. length x.1.now < length tokens.now) }
+{
+    match tokens.split_first() {
+        None => Err(Stop::Dead(0)),
+        Some((token, rest)) => {
+            if begins_range(levels, tokens) {
+                let last = range(token.place, tokens, kept)?;
+                Ok((8, last))
+            } else if begins_prefix(levels, 4, Prefix::Minus, &token.kind) {
+                let last = prefixed(alloc, Prefix::Minus, 3, token.place, rest, kept)?;
+                Ok((4, last))
+            } else if begins_prefix(levels, 2, Prefix::Not, &token.kind) {
+                let last = prefixed(alloc, Prefix::Not, 1, token.place, rest, kept)?;
+                Ok((2, last))
+            } else {
+                let last = primary(alloc, tokens, kept)?;
+                Ok((0, last))
+            }
+        }
+    }
+}
+
+fn begins_range(levels: usize, tokens: &[Token]) -> bool
+    ensures { result ≡ (nat_le 8 levels && starts_range tokens.now) }
+{
+    8 <= levels && starts_range(tokens)
+}
+
+fn begins_prefix(levels: usize, least: usize, prefix: Prefix, kind: &TokenKind) -> bool
+    ensures { result ≡ (nat_le least levels && is_prefix prefix kind.now) }
+{
+    least <= levels && is_sign(kind, sign_of(prefix))
+}
+
+#[inline(never)]
+fn range<'a>(place: Place, tokens: &'a [Token], kept: &mut Kept) -> Result<&'a [Token], Stop>
+    requires starts { starts_range tokens.now ≡ true }
+    requires first { place ≡ start tokens.now }
+    ensures reads { Follows (λ r. (read_of kept.new, r.now)) (ask (tightest 8)) tokens.now result }
+    ensures shorter { IfOk result (λ r. length r.now < length tokens.now) }
+{
+    let (low, dots) = integer(tokens)?;
+    let behind = expect(dots, Sign::Range)?;
+    let (high, rest) = integer(behind)?;
+    put_leaf(kept, place, Shape::Range(low, high));
+    Ok(rest)
+}
+
+// What goes on with an operand that was read at so many of the levels: each time the level that the next token goes on with, as
+// long as it is one of those between.
+#[cycle(read)]
+#[inline(always)]
+fn climb<'a>(
+    alloc: Global,
+    levels: usize,
+    place: Place,
+    level: usize,
+    tokens: &'a [Token],
+    kept: &mut Kept,
+) -> Result<&'a [Token], Stop>
+    requires few { levels ≤ 16 }
+    requires short { length tokens.now < 2 ^ 32 }
+    ensures reads { (t : Tree) → read_of kept.old ≡ cap t → Follows (λ r. (read_of kept.new, r.now)) (λ k. have t (waiting level levels place k)) tokens.now result }
+    ensures shorter { IfOk result (λ r. length r.now ≤ length tokens.now) }
+{
+    let rank = first_rank(tokens);
+    if rank <= level || levels < rank {
+        return Ok(tokens);
+    }
+    ascend(alloc, levels, place, level, tokens, kept)
+}
+
+// The same, where the next token may go on with one of the levels.
+#[cycle(read)]
+#[inline(never)]
+fn ascend<'a>(
+    alloc: Global,
+    levels: usize,
+    place: Place,
+    level: usize,
+    tokens: &'a [Token],
+    kept: &mut Kept,
+) -> Result<&'a [Token], Stop>
+    requires few { levels ≤ 16 }
+    requires short { length tokens.now < 2 ^ 32 }
+    ensures reads { (t : Tree) → read_of kept.old ≡ cap t → Follows (λ r. (read_of kept.new, r.now)) (λ k. have t (waiting level levels place k)) tokens.now result }
+    ensures shorter { IfOk result (λ r. length r.now ≤ length tokens.now) }
+{
+    let mut below = level;
+    let mut rest = tokens;
+    loop {
+        let rank = first_rank(rest);
+        if rank <= below || levels < rank {
+            return Ok(rest);
+        }
+        let last = grown(alloc, rank - 1, place, rest, kept)?;
+        below = rank;
+        rest = last;
+    }
+}
+
+// What the level over so many others makes of its first operand.
+#[cycle(read)]
+#[inline(always)]
+fn grown<'a>(
+    alloc: Global,
+    below: usize,
+    place: Place,
+    tokens: &'a [Token],
+    kept: &mut Kept,
+) -> Result<&'a [Token], Stop>
+    requires few { below < 16 }
+    requires short { length tokens.now < 2 ^ 32 }
+    ensures reads { (t : Tree) → read_of kept.old ≡ cap t → Follows (λ r. (read_of kept.new, r.now)) (λ k. have t (opened (level_at below) (tightest below) place k)) tokens.now result }
+    ensures shorter { IfOk result (λ r. length r.now ≤ length tokens.now) }
+{
+    match level_at(below) {
+        Level::Chain(joint) => chain(alloc, joint, below, place, tokens, kept),
+        Level::Choice => choice(alloc, below, place, tokens, kept),
+        Level::Range => Ok(tokens),
+        Level::Before(_) => Ok(tokens),
+        Level::Selection => selections(alloc, place, tokens, kept),
+    }
+}
+
+#[cycle(read)]
+#[inline(always)]
+fn chain<'a>(
+    alloc: Global,
+    joint: Joint,
+    below: usize,
+    place: Place,
+    tokens: &'a [Token],
+    kept: &mut Kept,
+) -> Result<&'a [Token], Stop>
+    requires few { below < 16 }
+    requires short { length tokens.now < 2 ^ 32 }
+    ensures reads { (t : Tree) → read_of kept.old ≡ cap t → Follows (λ r. (read_of kept.new, r.now)) (λ k. have t (operand joint (tightest below) place bare ∷ k)) tokens.now result }
+    ensures shorter { IfOk result (λ r. length r.now ≤ length tokens.now) }
+{
+    let mut operands = Operands::new(alloc, kept.height);
+    let mut rest = tokens;
+    while let Some((op, more)) = joint_after(rest, joint) {
+        let mut operand = leaf(place, Shape::True);
+        let last = read(alloc, below, more, &mut operand)?;
+        operands.push(op, operand)?;
+        rest = last;
+    }
+    operands.chain(alloc, place, kept)?;
+    Ok(rest)
+}
+
+#[cycle(read)]
+#[inline(never)]
+fn choice<'a>(
+    alloc: Global,
+    below: usize,
+    place: Place,
+    tokens: &'a [Token],
+    kept: &mut Kept,
+) -> Result<&'a [Token], Stop>
+    requires few { below < 16 }
+    requires short { length tokens.now < 2 ^ 32 }
+    ensures reads { (t : Tree) → read_of kept.old ≡ cap t → Follows (λ r. (read_of kept.new, r.now)) (λ k. have t (when (tightest below) place [] ∷ k)) tokens.now result }
+    ensures shorter { IfOk result (λ r. length r.now ≤ length tokens.now) }
+{
+    let mut branches = Cases::new(alloc);
+    let mut rest = tokens;
+    while let Some(more) = after(rest, Sign::Question) {
+        let mut value = leaf(place, Shape::True);
+        let next = read(alloc, below, more, &mut value)?;
+        let behind = expect(next, Sign::Colon)?;
+        branches.push(taken(kept), value)?;
+        let end = read(alloc, below, behind, kept)?;
+        rest = end;
+    }
+    branches.choice(alloc, place, kept)?;
+    Ok(rest)
+}
+
+#[inline(never)]
+fn selections<'a>(
+    alloc: Global,
+    place: Place,
+    tokens: &'a [Token],
+    kept: &mut Kept,
+) -> Result<&'a [Token], Stop>
+    ensures reads { (t : Tree) → read_of kept.old ≡ cap t → Follows (λ r. (read_of kept.new, r.now)) (λ k. have t (selected place ∷ k)) tokens.now result }
+    ensures shorter { IfOk result (λ r. length r.now ≤ length tokens.now) }
+{
+    let mut rest = tokens;
+    while let Some(more) = after(rest, Sign::OpenBracket) {
+        let (high, low, last) = ends(more)?;
+        selected(alloc, place, kept, high, low)?;
+        rest = last;
+    }
+    Ok(rest)
+}
+
+// The ends of a selection, behind its opening bracket.
+fn ends(tokens: &[Token]) -> Result<(u64, u64, &[Token]), Stop>
+    ensures reads { Selects (λ x. (x.0, x.1, x.2.now)) tokens.now result }
+    ensures shorter { IfOk result (λ x. length x.2.now < length tokens.now) }
+{
+    let (high, colon) = number(tokens)?;
+    let behind = expect(colon, Sign::Colon)?;
+    let (low, closing) = number(behind)?;
+    let rest = expect(closing, Sign::CloseBracket)?;
+    Ok((high, low, rest))
+}
+
+// An operand behind one sign of a prefix, and more of these signs.
+#[cycle(read)]
+#[inline(never)]
+fn prefixed<'a>(
+    alloc: Global,
+    prefix: Prefix,
+    below: usize,
+    place: Place,
+    tokens: &'a [Token],
+    kept: &mut Kept,
+) -> Result<&'a [Token], Stop>
+    requires few { below < 16 }
+    requires short { length tokens.now < 2 ^ 32 - 1 }
+    ensures reads { Follows (λ r. (read_of kept.new, r.now)) (signed prefix (tightest below) place 1) tokens.now result }
+    ensures shorter { IfOk result (λ r. length r.now < length tokens.now) }
+{
+    let mut count: u32 = 1;
+    let mut rest = tokens;
+    while let Some(more) = after(rest, sign_of(prefix)) {
+        count += 1;
+        rest = more;
+    }
+    let last = read(alloc, below, rest, kept)?;
+    with_prefix(alloc, place, prefix, count, kept)?;
+    Ok(last)
+}
+
+fn sign_of(prefix: Prefix) -> Sign
+    ensures { result ≡ prefix_sign prefix }
+{
+    match prefix {
+        Prefix::Not => Sign::Not,
+        Prefix::Minus => Sign::Minus,
+    }
+}
+
+// An expression below all levels.
+#[cycle(read)]
+#[inline(never)]
+fn primary<'a>(alloc: Global, tokens: &'a [Token], kept: &mut Kept) -> Result<&'a [Token], Stop>
+    requires short { length tokens.now < 2 ^ 32 }
+    ensures reads { Follows (λ r. (read_of kept.new, r.now)) (ask []) tokens.now result }
+    ensures shorter { IfOk result (λ r. length r.now < length tokens.now) }
+{
+    match tokens.split_first() {
+        None => Err(Stop::Dead(0)),
+        Some((token, rest)) => {
+            let place = token.place;
+            match leader_of(&token.kind) {
+                Leader::Number(n) => {
+                    put_leaf(kept, place, Shape::Number(n));
+                    Ok(rest)
+                }
+                Leader::Literal(word) => {
+                    put_leaf(kept, place, Shape::Literal(word));
+                    Ok(rest)
+                }
+                Leader::Truth(true) => {
+                    put_leaf(kept, place, Shape::True);
+                    Ok(rest)
+                }
+                Leader::Truth(false) => {
+                    put_leaf(kept, place, Shape::False);
+                    Ok(rest)
+                }
+                Leader::Path => {
+                    let (path, last) = path(alloc, tokens)?;
+                    put_leaf(kept, place, Shape::Name(path));
+                    Ok(last)
+                }
+                Leader::Bracket => {
+                    let closing = read(alloc, 16, rest, kept)?;
+                    let last = expect(closing, Sign::Close)?;
+                    Ok(last)
+                }
+                Leader::Set => listed(alloc, place, Listing::Elements, rest, kept),
+                Leader::Next => following(alloc, place, rest, kept),
+                Leader::Case => cases(alloc, place, rest, kept),
+                Leader::Call(function) => {
+                    let more = expect(rest, Sign::Open)?;
+                    listed(alloc, place, Listing::Arguments(function), more, kept)
+                }
+                Leader::Nothing => Err(Stop::Dead(tokens.len())),
+            }
+        }
+    }
+}
+
+// The argument of `next`, from its bracket on.
+#[cycle(read)]
+#[inline(never)]
+fn following<'a>(
+    alloc: Global,
+    place: Place,
+    tokens: &'a [Token],
+    kept: &mut Kept,
+) -> Result<&'a [Token], Stop>
+    requires short { length tokens.now < 2 ^ 32 }
+    ensures reads { Follows (λ r. (read_of kept.new, r.now)) (open_next place) tokens.now result }
+    ensures shorter { IfOk result (λ r. length r.now < length tokens.now) }
+{
+    let rest = expect(tokens, Sign::Open)?;
+    let closing = read(alloc, 16, rest, kept)?;
+    let last = expect(closing, Sign::Close)?;
+    next_value(alloc, place, kept)?;
+    Ok(last)
+}
+
+// A list, behind its opening bracket.
+#[cycle(read)]
+#[inline(never)]
+fn listed<'a>(
+    alloc: Global,
+    place: Place,
+    what: Listing,
+    tokens: &'a [Token],
+    kept: &mut Kept,
+) -> Result<&'a [Token], Stop>
+    requires short { length tokens.now < 2 ^ 32 }
+    ensures reads { Follows (λ r. (read_of kept.new, r.now)) (λ k. ask all_levels (listing place what [] ∷ k)) tokens.now result }
+    ensures shorter { IfOk result (λ r. length r.now < length tokens.now) }
+{
+    let mut members = Members::new(alloc);
+    let mut rest = tokens;
+    loop {
+        let mut member = leaf(place, Shape::True);
+        let more = read(alloc, 16, rest, &mut member)?;
+        members.push(member)?;
+        match after(more, Sign::Comma) {
+            Some(next) => rest = next,
+            None => {
+                let last = expect(more, closing_of(what))?;
+                members.put(place, what, kept);
+                return Ok(last);
+            }
+        }
+    }
+}
+
+fn closing_of(what: Listing) -> Sign
+    ensures { result ≡ closing_of what }
+{
+    match what {
+        Listing::Arguments(_) => Sign::Close,
+        Listing::Elements => Sign::CloseBrace,
+    }
+}
+
+// The conditions of a case with their values, behind the word `case`.
+#[cycle(read)]
+#[inline(never)]
+fn cases<'a>(
+    alloc: Global,
+    place: Place,
+    tokens: &'a [Token],
+    kept: &mut Kept,
+) -> Result<&'a [Token], Stop>
+    requires short { length tokens.now < 2 ^ 32 }
+    ensures reads { Follows (λ r. (read_of kept.new, r.now)) (λ k. ask all_levels (condition place [] ∷ k)) tokens.now result }
+    ensures shorter { IfOk result (λ r. length r.now < length tokens.now) }
+{
+    let mut branches = Cases::new(alloc);
+    let mut rest = tokens;
+    loop {
+        let mut when = leaf(place, Shape::True);
+        let more = read(alloc, 16, rest, &mut when)?;
+        let behind = expect(more, Sign::Colon)?;
+        let mut value = leaf(place, Shape::True);
+        let end = read(alloc, 16, behind, &mut value)?;
+        let last = expect(end, Sign::Semicolon)?;
+        branches.push(when, value)?;
+        match after_word(last, Reserved::Esac) {
+            Some(done) => {
+                branches.case(place, kept);
+                return Ok(done);
+            }
+            None => rest = last,
+        }
+    }
+}

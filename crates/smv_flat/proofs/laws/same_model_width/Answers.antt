@@ -1,5 +1,0 @@
-use Rattle.smv_flat.proofs.ModelWidths.{same_model_width}
-use Rattle.smv_flat.proofs.laws.same_model_width.Goals as goal
-
-pub returns : goal.returns
-returns c = same_model_width

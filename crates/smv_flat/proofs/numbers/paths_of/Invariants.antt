@@ -1,9 +1,0 @@
-use Rattle.std.proofs.Common.{◌≡◌, ◌++◌, drop, map}
-use Rattle.smv_meaning.specs.View.{instance_plain}
-use Rattle.smv_flat.specs.FlatItems.{path_of}
-use Rattle.smv_flat.specs.FlatOrigins.{origin_plain}
-use Rattle.smv_flat.proofs.numbers.paths_of.Given as goal
-
-abbrev pub invariant-loop-k : goal.invariant-loop-k
-invariant-loop-k l =
-    l.paths.items ++ map (path_of (map instance_plain l.table)) (map origin_plain (drop l.k l.origins)) ≡ map (path_of (map instance_plain l.table)) (map origin_plain l.origins)

@@ -1,9 +1,0 @@
-use Rattle.std.proofs.Common.{◌≡◌, drop, map}
-use Rattle.std.specs.Prelude.{flat_map}
-use Rattle.smv_meaning.specs.View.{instance_plain}
-use Rattle.smv_flat.specs.FlatItems.{gathered, element_symbols, symbols_of}
-use Rattle.smv_flat.proofs.symbols.symbols_in.Given as goal
-
-abbrev pub invariant-loop-i : goal.invariant-loop-i
-invariant-loop-i l =
-    gathered l.symbols (flat_map (λ at. flat_map element_symbols at.plan.elements) (map instance_plain (drop l.i l.table))) ≡ symbols_of (map instance_plain l.table)

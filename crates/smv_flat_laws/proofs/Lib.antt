@@ -1,0 +1,10 @@
+pub mod FlatSame
+pub mod FlatPlaces
+pub mod FlatFound
+pub mod FlatRows
+pub mod FlatApart
+pub mod FlatTruths
+pub mod FlatSections
+pub mod FlatStays
+pub mod FlatLaw
+pub mod FlatWithin

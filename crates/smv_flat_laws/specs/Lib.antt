@@ -1,0 +1,3 @@
+pub mod FlatTruth
+pub mod FlatLaws
+pub mod FlatBounds

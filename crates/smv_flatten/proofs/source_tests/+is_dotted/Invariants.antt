@@ -1,4 +1,0 @@
-use Rattle.smv_flatten.proofs.source_tests.+is_dotted.Given as goal
-
-abbrev pub decreases-is_dotted : goal.decreases-is_dotted
-decreases-is_dotted l = l.depth

@@ -1,0 +1,10 @@
+pub mod Signs
+pub mod Ranked
+pub mod First
+pub mod Steps
+pub mod Climbing
+pub mod Running
+pub mod Complete
+pub mod Sound
+pub mod Closes
+pub mod Expressions

@@ -1,0 +1,69 @@
+-- What it says that a token is a sign, a reserved word or an operator.
+use Rattle.std.proofs.Common.{◌≡◌, suc, Bool, true, false, cond, get_or, Some, None, List, [], ◌∷◌, length, refl, sym, ap, ◌∙◌}
+use Rattle.std.proofs.lemmas.Bool.{eqb-true}
+use Rattle.smv_text.specs.declared.token.Reserved.{Reserved}
+use Rattle.smv_text.specs.declared.token.Reserved.TheVariants as word
+use Rattle.smv_text.specs.declared.token.Sign.{Sign}
+use Rattle.smv_text.specs.declared.token.Sign.TheVariants as sign
+use Rattle.smv_text.specs.declared.token.Token.{Token}
+use Rattle.smv_text.specs.declared.token.TokenKind.{TokenKind}
+use Rattle.smv_text.specs.declared.token.TokenKind.TheVariants as kind
+use Rattle.smv_grammar.specs.Marks.{is_sign, is_word, sign_number, word_number}
+use Rattle.smv_grammar.specs.Reading.{after, after_word}
+
+all_signs : List Sign
+all_signs =
+    sign.Open ∷ sign.Close ∷ sign.OpenBrace ∷ sign.CloseBrace ∷ sign.OpenBracket ∷ sign.CloseBracket ∷ sign.Comma ∷ sign.Semicolon ∷ sign.Colon ∷ sign.Dot
+    ∷ sign.Range ∷ sign.Assign ∷ sign.Equal ∷ sign.Unequal ∷ sign.Less ∷ sign.Greater ∷ sign.LessEqual ∷ sign.GreaterEqual ∷ sign.Not ∷ sign.And ∷ sign.Or
+    ∷ sign.Plus ∷ sign.Minus ∷ sign.Times ∷ sign.Divide ∷ sign.ShiftLeft ∷ sign.ShiftRight ∷ sign.Concat ∷ sign.Question ∷ sign.Implies ∷ sign.Iff ∷ []
+
+numbered : (s : Sign) → get_or all_signs (sign_number s) sign.Not ≡ s
+unfolding all_signs
+numbered sign.Open = refl
+numbered _ = refl
+
+pub sign_is : (x : TokenKind) (s : Sign) → is_sign s x ≡ true → x ≡ kind.Sign s
+sign_is (kind.Sign z) s e = ap kind.Sign (sym (numbered z) ∙ ap (λ n. get_or all_signs n sign.Not) (eqb-true (sign_number z) (sign_number s) e) ∙ numbered s)
+sign_is (kind.Number n) s e = cc
+sign_is _ s e = cc
+
+all_words : List Reserved
+all_words =
+    word.Module ∷ word.Var ∷ word.Ivar ∷ word.Frozenvar ∷ word.Define ∷ word.Constants ∷ word.Assign ∷ word.Init ∷ word.Trans ∷ word.Invar ∷ word.Invarspec
+    ∷ word.Name ∷ word.True ∷ word.False ∷ word.Boolean ∷ word.Word ∷ word.Unsigned ∷ word.Case ∷ word.Esac ∷ word.Next ∷ word.Initial ∷ word.Itself ∷ word.Mod
+    ∷ word.Union ∷ word.In ∷ word.Xor ∷ word.Xnor ∷ word.Bool ∷ word.Word1 ∷ word.Toint ∷ word.Uwconst ∷ word.Extend ∷ word.Resize ∷ word.Count ∷ word.Max
+    ∷ word.Min ∷ word.Abs ∷ []
+
+word_numbered : (w : Reserved) → get_or all_words (word_number w) word.Name ≡ w
+unfolding all_words
+word_numbered word.Module = refl
+word_numbered _ = refl
+
+pub word_is : (x : TokenKind) (w : Reserved) → is_word w x ≡ true → x ≡ kind.Reserved w
+word_is (kind.Reserved z) w e = ap kind.Reserved (sym (word_numbered z) ∙ ap (λ n. get_or all_words n word.Name) (eqb-true (word_number z) (word_number w) e) ∙ word_numbered w)
+word_is (kind.Number n) w e = cc
+word_is _ w e = cc
+
+pub not_minus : {A : Type 0} (b : Bool) (xs : A) → cond b (Some xs) None ≡ None → b ≡ false
+not_minus true xs e = cc
+not_minus false xs e = refl
+
+-- what comes first
+pub after_found : (s : Sign) (xs rest : List Token) → after s xs ≡ Some rest → (x : Token) × (xs ≡ x ∷ rest) × (is_sign s x.kind ≡ true)
+after_found s [] rest e = cc
+after_found s (x ∷ xs) rest e = go (is_sign s x.kind) refl e
+  where
+    go : (b : Bool) → is_sign s x.kind ≡ b → cond b (Some xs) None ≡ Some rest → (y : Token) × (x ∷ xs ≡ y ∷ rest) × (is_sign s y.kind ≡ true)
+    go true t e = (x, let same : xs ≡ rest = cc in ap (λ r. x ∷ r) same, t)
+    go false t e = cc
+
+pub word_found : (w : Reserved) (xs rest : List Token) → after_word w xs ≡ Some rest → (x : Token) × (xs ≡ x ∷ rest) × (is_word w x.kind ≡ true)
+word_found w [] rest e = cc
+word_found w (x ∷ xs) rest e = go (is_word w x.kind) refl e
+  where
+    go : (b : Bool) → is_word w x.kind ≡ b → cond b (Some xs) None ≡ Some rest → (y : Token) × (x ∷ xs ≡ y ∷ rest) × (is_word w y.kind ≡ true)
+    go true t e = (x, let same : xs ≡ rest = cc in ap (λ r. x ∷ r) same, t)
+    go false t e = cc
+
+pub shorter_after : (s : Sign) (xs rest : List Token) → after s xs ≡ Some rest → length xs ≡ suc (length rest)
+shorter_after s xs rest e = let f = after_found s xs rest e in ap length f.1

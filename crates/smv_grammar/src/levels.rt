@@ -1,0 +1,253 @@
+// The levels of the grammar, and the tokens that go on with an expression or begin one.
+
+ghost use Rattle.std.specs.Prelude.{◌≡◌, ◌<◌, option_map, IfSome, suc, length};
+ghost use Rattle.smv_text.specs.Levels.{infix_at, infix_of, joint_of, joint_number, function_at};
+ghost use Rattle.smv_grammar.specs.Machine.{calling, leader_of};
+ghost use Rattle.smv_grammar.specs.Ranks.{joint_rank, rank_of, first_rank, level_at};
+ghost use Rattle.smv_grammar.specs.Reading.{joint_after};
+
+use smv_text::{Function, Infix, Joint, LEVELS, Level, Reserved, Sign, Token, TokenKind};
+use word_core::Word;
+
+/// What a token begins, below all levels.
+pub enum Leader {
+    /// A number.
+    Number(u64),
+    /// A word literal.
+    Literal(Word),
+    /// `TRUE` or `FALSE`.
+    Truth(bool),
+    /// A name.
+    Path,
+    /// An expression in round brackets.
+    Bracket,
+    /// A set in braces.
+    Set,
+    /// `next`
+    Next,
+    /// `case`
+    Case,
+    /// A function.
+    Call(Function),
+    /// It begins no expression.
+    Nothing,
+}
+
+/// What a token begins.
+pub fn leader_of(kind: &TokenKind) -> Leader
+    ensures { result ≡ leader_of kind.now }
+{
+    match kind {
+        TokenKind::Number(n) => Leader::Number(*n),
+        TokenKind::Literal(w) => Leader::Literal(*w),
+        TokenKind::Ident(_) => Leader::Path,
+        TokenKind::Sign(sign) => match sign {
+            Sign::Open => Leader::Bracket,
+            Sign::OpenBrace => Leader::Set,
+            _ => Leader::Nothing,
+        },
+        TokenKind::Reserved(word) => match word {
+            Reserved::True => Leader::Truth(true),
+            Reserved::False => Leader::Truth(false),
+            Reserved::Itself => Leader::Path,
+            Reserved::Next => Leader::Next,
+            Reserved::Case => Leader::Case,
+            _ => called(kind),
+        },
+        TokenKind::Refused => Leader::Nothing,
+    }
+}
+
+fn called(kind: &TokenKind) -> Leader
+    ensures { result ≡ calling (function_at kind.now) }
+{
+    match function_at(kind) {
+        Some(function) => Leader::Call(function),
+        None => Leader::Nothing,
+    }
+}
+
+fn function_at(kind: &TokenKind) -> Option<Function>
+    ensures { result ≡ function_at kind.now }
+{
+    match kind {
+        TokenKind::Reserved(word) => match word {
+            Reserved::Bool => Some(Function::Bool),
+            Reserved::Word1 => Some(Function::Word1),
+            Reserved::Toint => Some(Function::Toint),
+            Reserved::Uwconst => Some(Function::Uwconst),
+            Reserved::Extend => Some(Function::Extend),
+            Reserved::Resize => Some(Function::Resize),
+            Reserved::Count => Some(Function::Count),
+            Reserved::Max => Some(Function::Max),
+            Reserved::Min => Some(Function::Min),
+            Reserved::Abs => Some(Function::Abs),
+            _ => None,
+        },
+        _ => None,
+    }
+}
+
+#[inline(always)]
+fn infix_at(kind: &TokenKind) -> Option<Infix>
+    ensures { result ≡ infix_at kind.now }
+{
+    match kind {
+        TokenKind::Sign(sign) => match sign {
+            Sign::Implies => Some(Infix::Implies),
+            Sign::Iff => Some(Infix::Iff),
+            Sign::Or => Some(Infix::Or),
+            Sign::And => Some(Infix::And),
+            Sign::Equal => Some(Infix::Equal),
+            Sign::Unequal => Some(Infix::Unequal),
+            Sign::Less => Some(Infix::Less),
+            Sign::Greater => Some(Infix::Greater),
+            Sign::LessEqual => Some(Infix::LessEq),
+            Sign::GreaterEqual => Some(Infix::GreaterEq),
+            Sign::ShiftLeft => Some(Infix::ShiftLeft),
+            Sign::ShiftRight => Some(Infix::ShiftRight),
+            Sign::Plus => Some(Infix::Plus),
+            Sign::Minus => Some(Infix::Minus),
+            Sign::Times => Some(Infix::Times),
+            Sign::Divide => Some(Infix::Divide),
+            Sign::Concat => Some(Infix::Concat),
+            _ => None,
+        },
+        TokenKind::Reserved(word) => match word {
+            Reserved::Xor => Some(Infix::Xor),
+            Reserved::Xnor => Some(Infix::Xnor),
+            Reserved::In => Some(Infix::Member),
+            Reserved::Union => Some(Infix::Union),
+            Reserved::Mod => Some(Infix::Mod),
+            _ => None,
+        },
+        _ => None,
+    }
+}
+
+#[inline(always)]
+fn joint_of(op: Infix) -> Joint
+    ensures { result ≡ joint_of op }
+{
+    match op {
+        Infix::Implies => Joint::Implications,
+        Infix::Iff => Joint::Equivalences,
+        Infix::Or => Joint::Disjunctions,
+        Infix::Xor => Joint::Disjunctions,
+        Infix::Xnor => Joint::Disjunctions,
+        Infix::And => Joint::Conjunctions,
+        Infix::Equal => Joint::Comparisons,
+        Infix::Unequal => Joint::Comparisons,
+        Infix::Less => Joint::Comparisons,
+        Infix::Greater => Joint::Comparisons,
+        Infix::LessEq => Joint::Comparisons,
+        Infix::GreaterEq => Joint::Comparisons,
+        Infix::Member => Joint::Memberships,
+        Infix::Union => Joint::Unions,
+        Infix::ShiftLeft => Joint::Shifts,
+        Infix::ShiftRight => Joint::Shifts,
+        Infix::Plus => Joint::Sums,
+        Infix::Minus => Joint::Sums,
+        Infix::Times => Joint::Products,
+        Infix::Divide => Joint::Products,
+        Infix::Mod => Joint::Products,
+        Infix::Concat => Joint::Concatenations,
+    }
+}
+
+#[inline(always)]
+fn joint_number(joint: Joint) -> u8
+    ensures { result ≡ joint_number joint }
+{
+    joint as u8
+}
+
+#[inline(always)]
+fn joint_rank(joint: Joint) -> usize
+    ensures { result ≡ joint_rank joint }
+{
+    match joint {
+        Joint::Concatenations => 3,
+        Joint::Products => 5,
+        Joint::Sums => 6,
+        Joint::Shifts => 7,
+        Joint::Unions => 9,
+        Joint::Memberships => 10,
+        Joint::Comparisons => 11,
+        Joint::Conjunctions => 12,
+        Joint::Disjunctions => 13,
+        Joint::Equivalences => 15,
+        Joint::Implications => 16,
+    }
+}
+
+/// The operator of this level that a token is.
+#[inline(always)]
+fn infix_of(joint: Joint, kind: &TokenKind) -> Option<Infix>
+    ensures { result ≡ infix_of joint kind.now }
+{
+    match infix_at(kind) {
+        None => None,
+        Some(op) => {
+            if joint_number(joint_of(op)) == joint_number(joint) {
+                Some(op)
+            } else {
+                None
+            }
+        }
+    }
+}
+
+/// The operator of this level that comes first, and the tokens after it.
+#[inline(always)]
+pub fn joint_after(tokens: &[Token], joint: Joint) -> Option<(Infix, &[Token])>
+    ensures found { option_map (λ r. (r.0, r.1.now)) result ≡ joint_after joint tokens.now }
+    ensures shorter { IfSome result (λ r. length tokens.now ≡ suc (length r.1.now)) }
+{
+    match tokens.split_first() {
+        Some((token, rest)) => match infix_of(joint, &token.kind) {
+            Some(op) => Some((op, rest)),
+            None => None,
+        },
+        None => None,
+    }
+}
+
+// The rank of the level that a token goes on with: 17 where it goes on with none, 0 where with a name or an integer.
+#[inline(always)]
+fn rank_of(kind: &TokenKind) -> usize
+    ensures { result ≡ rank_of kind.now }
+{
+    match infix_at(kind) {
+        Some(op) => joint_rank(joint_of(op)),
+        None => match kind {
+            TokenKind::Sign(sign) => match sign {
+                Sign::Question => 14,
+                Sign::OpenBracket => 1,
+                Sign::Dot => 0,
+                Sign::Range => 0,
+                _ => 17,
+            },
+            _ => 17,
+        },
+    }
+}
+
+/// The rank of the first token, 17 where there is none.
+#[inline(always)]
+pub fn first_rank(tokens: &[Token]) -> usize
+    ensures { result ≡ first_rank tokens.now }
+{
+    match tokens.first() {
+        Some(token) => rank_of(&token.kind),
+        None => 17,
+    }
+}
+
+/// The level over n others.
+pub fn level_at(n: usize) -> Level
+    requires { n < 16 }
+    ensures { result ≡ level_at n }
+{
+    LEVELS[15 - n]
+}

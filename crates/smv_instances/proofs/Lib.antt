@@ -1,0 +1,7 @@
+pub mod NameLemmas
+pub mod ChildLemmas
+pub mod Grow
+pub mod KeyLemmas
+pub mod LeadLemmas
+pub mod ScopeLemmas
+pub mod TableLemmas

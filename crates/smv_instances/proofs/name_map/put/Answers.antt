@@ -1,0 +1,5 @@
+use Rattle.std.proofs.lemmas.Map.Text.{hash_map_updates_str}
+use Rattle.smv_instances.proofs.name_map.put.Goals as goal
+
+pub returns-in-Ok : goal.returns-in-Ok
+returns-in-Ok g c = hash_map_updates_str c.args.name.now c.args.map.now c.insert.new.self _ c.in-Ok.ensures.updates

@@ -1,0 +1,165 @@
+// The leads of all aliases.
+ghost use Rattle.std.specs.Prelude.{◌≡◌, ◌<◌, ◌+◌, List, ℕ, None, Some, false, length, map, slice_index_or, IfOk, OnOk};
+ghost use Rattle.smv_instances.specs.NameMap.{named_in};
+ghost use Rattle.smv_instances.specs.Leads.{Right, IsOpen, KeyWalk, IsWaiting, AllWait, IsClosed};
+ghost use Rattle.smv_instances.specs.View.{instance_plain};
+
+use crate::children::{Children, child_in, put};
+use crate::keys::keys_of;
+use crate::leads::{Key, Lead, Leads, Walk, keep, kept, path_walk};
+use crate::names::Known;
+use crate::parts::Parts;
+use std::alloc::Global;
+use std::collections::HashMap;
+use text_core::NoMemory;
+
+fn no_leads<'a>(alloc: Global) -> Leads<'a>
+    ensures { (i : ℕ) (x : List ℕ) → named_in result i x ≡ None }
+{
+    HashMap::new(alloc)
+}
+
+fn deeper<'a>(lead: Lead<'a>) -> Result<Lead<'a>, NoMemory>
+    ensures depth { IfOk result (λ d. d.depth ≡ lead.entry.depth + 1) }
+    ensures target { IfOk result (λ d. d.target ≡ lead.entry.target) }
+{
+    match lead.depth.checked_add(1) {
+        None => Err(NoMemory),
+        Some(depth) => Ok(Lead {
+            depth,
+            target: lead.target,
+        }),
+    }
+}
+
+fn key_walk<'a>(parts: &Parts<'a>, leads: &Leads<'a>, key: Key<'a>) -> Option<Walk<'a>>
+    requires right { Right (map instance_plain parts.now) leads.now }
+    ensures { KeyWalk (map instance_plain parts.now) leads.now key.entry.instance key.entry.name.now result }
+{
+    if let Some(_) = kept(leads, key.instance, key.name) {
+        return None;
+    }
+    match parts.local(key.instance, key.name) {
+        Known::Alias(j, path) => Some(path_walk(parts, leads, j, path)),
+        Known::Formula(_, _) => None,
+        Known::Variable(_, _) => None,
+        Known::Inner => None,
+        Known::Nothing => None,
+    }
+}
+
+fn keep_deeper<'a>(
+    parts: &Parts<'a>,
+    leads: &mut Leads<'a>,
+    key: Key<'a>,
+    lead: Lead<'a>,
+) -> Result<(), NoMemory>
+    requires right { Right (map instance_plain parts.now) leads.old }
+    requires leads { KeyWalk (map instance_plain parts.now) leads.old key.instance key.name.now (Some (Walk.Ends lead)) }
+    ensures { OnOk result (Right (map instance_plain parts.now) leads.new) }
+{
+    let deep = deeper(lead)?;
+    match keep(leads, key, deep) {
+        Ok(()) => Ok(()),
+        Err(end) => Err(end),
+    }
+}
+
+// Keeps the lead of a parameter that is an open alias, where its walk ends, and says whether it does.
+fn retried<'a>(parts: &Parts<'a>, leads: &mut Leads<'a>, key: &Key<'a>) -> Result<bool, NoMemory>
+    requires right { Right (map instance_plain parts.now) leads.old }
+    ensures right { OnOk result (Right (map instance_plain parts.now) leads.new) }
+    ensures waits { IfOk result (λ b. b ≡ false → (leads.new ≡ leads.old) × (IsOpen (map instance_plain parts.now) leads.old key.now.instance key.now.name.now → IsWaiting (map instance_plain parts.now) leads.old key.now.instance key.now.name.now)) }
+{
+    match key_walk(parts, leads, *key) {
+        None => Ok(false),
+        Some(Walk::Ends(lead)) => match keep_deeper(parts, leads, *key, lead) {
+            Ok(()) => Ok(true),
+            Err(end) => Err(end),
+        },
+        Some(Walk::Waits(_)) => Ok(false),
+    }
+}
+
+fn key_at<'a>(keys: &[Key<'a>], k: usize) -> Key<'a>
+    requires { k < length keys.now }
+    ensures { result ≡ slice_index_or keys.now k result }
+{
+    keys[k]
+}
+
+// Says whether the lead of one of the parameters was kept.
+fn all_retried<'a>(
+    parts: &Parts<'a>,
+    leads: &mut Leads<'a>,
+    keys: &[Key<'a>],
+) -> Result<bool, NoMemory>
+    requires right { Right (map instance_plain parts.now) leads.old }
+    ensures right { OnOk result (Right (map instance_plain parts.now) leads.new) }
+    ensures waits { IfOk result (λ b. b ≡ false → AllWait (map instance_plain parts.now) leads.new keys.now) }
+{
+    let mut changed = false;
+    for k in 0..keys.len() {
+        let key = key_at(keys, k);
+        let kept = retried(parts, leads, &key)?;
+        changed = kept || changed;
+    }
+    Ok(changed)
+}
+
+fn push<'a>(stack: &mut Vec<Key<'a>>, key: Key<'a>) -> Result<(), NoMemory> {
+    match stack.push(key) {
+        Ok(()) => Ok(()),
+        Err(_) => Err(NoMemory),
+    }
+}
+
+// Follows the alias, and before it each open alias that it comes to and that was not yet followed.
+fn searched<'a>(
+    alloc: Global,
+    parts: &Parts<'a>,
+    leads: &mut Leads<'a>,
+    opened: &mut Children<'a>,
+    first: Key<'a>,
+) -> Result<(), NoMemory>
+    requires right { Right (map instance_plain parts.now) leads.old }
+    ensures { OnOk result (Right (map instance_plain parts.now) leads.new) }
+{
+    let mut stack = Vec::new(alloc);
+    push(&mut stack, first)?;
+    for _ in 0..usize::MAX {
+        let Some(key) = stack.pop() else {
+            return Ok(());
+        };
+        match key_walk(parts, leads, key) {
+            None => {}
+            Some(Walk::Ends(lead)) => keep_deeper(parts, leads, key, lead)?,
+            Some(Walk::Waits(next)) => if child_in(opened, next.instance, next.name).is_none() {
+                put(opened, next.instance, next.name, 0)?;
+                push(&mut stack, key)?;
+                push(&mut stack, next)?;
+            },
+        }
+    }
+    Ok(())
+}
+
+/// The leads of all aliases but of those that lead into cycles. The search keeps them all; what is open then is tried until
+/// nothing more is kept, so that each open alias comes to an open one.
+pub fn leads_of<'a>(alloc: Global, parts: &Parts<'a>) -> Result<Leads<'a>, NoMemory>
+    ensures right { IfOk result (Right (map instance_plain parts.now)) }
+    ensures closed { IfOk result (IsClosed (map instance_plain parts.now)) }
+{
+    let keys = keys_of(alloc, parts)?;
+    let mut leads = no_leads(alloc);
+    let mut opened = HashMap::new(alloc);
+    for k in 0..keys.len() {
+        searched(alloc, parts, &mut leads, &mut opened, keys[k])?;
+    }
+    for _ in 0..usize::MAX {
+        if !all_retried(parts, &mut leads, keys.as_slice())? {
+            return Ok(leads);
+        }
+    }
+    Err(NoMemory)
+}

@@ -1,0 +1,137 @@
+// The instances of a model in a table, with what their names mean.
+ghost use Rattle.std.specs.Prelude.{◌≡◌, ◌<◌, List, length, map, position, slice_index_or, IfOk};
+ghost use Rattle.smv_text.specs.View.{plain_source};
+ghost use Rattle.smv_meaning.specs.Instances.{Instance as Specified, instances_of};
+ghost use Rattle.smv_meaning.specs.Names.{steps_of, local, is_child, has_symbol, found_in, look};
+ghost use Rattle.smv_instances.specs.Leads.{until};
+ghost use Rattle.smv_instances.specs.View.{instance_plain, local_plain, found_plain};
+
+use crate::aliases::leads_of;
+use crate::leads::{Lead, Leads, Walk, lead_at, path_walk};
+use crate::names::{Known, Target};
+use crate::parts::Parts;
+use crate::table::{Instance, instances};
+use smv_text::{Path, Source};
+use std::alloc::Global;
+use std::marker::Model;
+use text_core::NoMemory;
+
+/// The instances of a model, numbered in preorder, with what their names mean (NuSMV 2.6 User Manual, 2.3.12 and 2.3.16).
+#[derive(Drop)]
+pub struct Table<'a> {
+    parts: Parts<'a>,
+    leads: Leads<'a>,
+}
+
+impl<'a> Model for Table<'a> {
+    ghost use Rattle.std.specs.Prelude.{List};
+    ghost use Rattle.smv_instances.specs.declared.table.Instance.{Instance as PartOf};
+    ghost use Rattle.std.specs.Coded.{codes};
+    ghost use Rattle.smv_text.specs.contracts.tree.Expr as expr;
+    ghost use Rattle.smv_text.specs.contracts.tree.Shape as shape;
+
+    ghost Value = { List PartOf };
+
+    ghost coded = { Prim.hlevel (codes, expr.the_row.coded, shape.the_row.coded) };
+
+    ghost use Rattle.std.specs.Prelude.{map};
+    ghost use Rattle.smv_instances.specs.Leads.{Right, IsClosed};
+    ghost use Rattle.smv_instances.specs.View.{instance_plain};
+
+    ghost view = { λ t. t.parts };
+
+    ghost invariant = { λ t. Right (map instance_plain t.parts) t.leads × IsClosed (map instance_plain t.parts) t.leads };
+}
+
+// What is reached in so many steps.
+fn reached<'a>(steps: usize, lead: Lead<'a>) -> Target<'a>
+    ensures { (t : List Specified) → found_plain t result ≡ until lead.entry.depth steps (found_plain t lead.entry.target) }
+{
+    if steps < lead.depth {
+        Target::Cyclic
+    } else {
+        lead.target
+    }
+}
+
+impl<'a> Table<'a> {
+    /// The instances of a model. They are as many as the modules that instances name, one within another, so that a model of
+    /// which no more is known may have too many to be kept.
+    pub fn of(alloc: Global, source: &'a Source) -> Result<Table<'a>, NoMemory>
+        ensures { IfOk result (λ t. map instance_plain t ≡ instances_of (plain_source source.now)) }
+    {
+        Table::over(alloc, instances(alloc, source)?)
+    }
+
+    /// A table of instances, which stand in preorder.
+    pub fn over(alloc: Global, list: Vec<Instance<'a>>) -> Result<Table<'a>, NoMemory>
+        ensures { IfOk result (λ t. t ≡ list.entry.items) }
+    {
+        let parts = Parts::over(alloc, list)?;
+        let leads = leads_of(alloc, &parts)?;
+        Ok(Table { parts, leads })
+    }
+
+    /// The number of instances.
+    pub fn len(&self) -> usize
+        ensures { result ≡ length self.now }
+    {
+        self.parts.len()
+    }
+
+    /// The instance with this number.
+    pub fn at(&self, i: usize) -> &Instance<'a>
+        requires { i < length self.now }
+        ensures { result.now ≡ slice_index_or self.now i result.now }
+    {
+        self.parts.at(i)
+    }
+
+    /// What one name is in its own instance: a parameter, a variable, an instance, a definition, or nothing.
+    pub fn local(&self, i: usize, x: &[u8]) -> Known<'a>
+        ensures { local_plain result ≡ local (map instance_plain self.now) i x.now }
+    {
+        self.parts.local(i, x)
+    }
+
+    /// The first instance with this name in the numbered one.
+    pub fn child(&self, i: usize, x: &[u8]) -> Option<usize>
+        ensures { result ≡ position (is_child i x.now) (map instance_plain self.now) }
+    {
+        self.parts.child(i, x)
+    }
+
+    /// Is the name in an enumeration or CONSTANTS of an instantiated module?
+    pub fn has_symbol(&self, x: &[u8]) -> bool
+        ensures { result ≡ has_symbol (map instance_plain self.now) x.now }
+    {
+        self.parts.has_symbol(x)
+    }
+
+    /// What a path leads to in the numbered instance.
+    pub fn found(&self, i: usize, path: &'a Path) -> Target<'a>
+        ensures { found_plain (map instance_plain self.now) result ≡ found_in (map instance_plain self.now) i path.now }
+    {
+        match path_walk(&self.parts, &self.leads, i, path) {
+            Walk::Ends(lead) => reached(self.parts.steps(), lead),
+            Walk::Waits(_) => Target::Cyclic,
+        }
+    }
+
+    /// What a name, and no symbol, leads to in the numbered instance.
+    pub fn found_name(&self, i: usize, x: &'a [u8]) -> Target<'a>
+        ensures { found_plain (map instance_plain self.now) result ≡ look (map instance_plain self.now) (steps_of (map instance_plain self.now)) i x.now }
+    {
+        match lead_at(&self.parts, &self.leads, i, x) {
+            Some(lead) => reached(self.parts.steps(), lead),
+            None => Target::Cyclic,
+        }
+    }
+
+    /// How many definitions and actuals there are, and one more: no more of them lead into one another without a cycle.
+    pub fn steps(&self) -> usize
+        ensures { result ≡ steps_of (map instance_plain self.now) }
+    {
+        self.parts.steps()
+    }
+}

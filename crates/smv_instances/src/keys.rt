@@ -1,0 +1,48 @@
+// The parameters of all instances.
+ghost use Rattle.std.specs.Prelude.{◌≡◌, ◌&&◌, ◌||◌, ◌==◌, List, ℕ, map, bytes_eq, IfOk, OnOk};
+ghost use Rattle.std.specs.List.{list_any};
+ghost use Rattle.smv_instances.specs.Leads.{is_key, AreAll};
+ghost use Rattle.smv_instances.specs.View.{instance_plain};
+
+use crate::leads::Key;
+use crate::parts::Parts;
+use smv_text::Parameters;
+use std::alloc::Global;
+use text_core::NoMemory;
+
+fn add_key<'a>(keys: &mut Vec<Key<'a>>, key: Key<'a>) -> Result<(), NoMemory>
+    ensures { OnOk result ((j : ℕ) (x : List ℕ) → list_any (is_key j x) keys.new.items ≡ (list_any (is_key j x) keys.old.items || is_key j x key.entry)) }
+{
+    match keys.push(key) {
+        Ok(()) => Ok(()),
+        Err(_) => Err(NoMemory),
+    }
+}
+
+#[tactic(auto, using(smv_meaning::proofs::Lists::front_is, smv_meaning::proofs::Lists::end_is))]
+fn add_keys<'a>(
+    keys: &mut Vec<Key<'a>>,
+    i: usize,
+    parameters: &'a Parameters,
+) -> Result<(), NoMemory>
+    ensures { OnOk result ((j : ℕ) (x : List ℕ) → list_any (is_key j x) keys.new.items ≡ (list_any (is_key j x) keys.old.items || (i == j && list_any (λ q. bytes_eq q.name x) parameters.now))) }
+{
+    for k in 0..parameters.len() {
+        let name = parameters.at(k).name.bytes();
+        add_key(keys, Key { instance: i, name })?;
+    }
+    Ok(())
+}
+
+/// The parameters of all instances, all aliases among them.
+#[tactic(auto, using(crate::proofs::KeyLemmas::more_keys, crate::proofs::KeyLemmas::all_keys))]
+pub fn keys_of<'a>(alloc: Global, parts: &Parts<'a>) -> Result<Vec<Key<'a>>, NoMemory>
+    ensures { IfOk result (λ ks. AreAll (map instance_plain parts.now) ks.items) }
+{
+    let mut keys = Vec::new(alloc);
+    for i in 0..parts.len() {
+        let plan = parts.at(i).plan;
+        add_keys(&mut keys, i, &plan.parameters)?;
+    }
+    Ok(keys)
+}

@@ -1,0 +1,127 @@
+// Where aliases lead, each found once.
+ghost use Rattle.std.specs.Prelude.{◌≡◌, ◌&&◌, ◌==◌, List, ℕ, Some, false, map, if◌then◌else◌, bytes_eq, IfOk, OnOk};
+ghost use Rattle.std.specs.List.{list_any};
+ghost use Rattle.smv_meaning.specs.Names.{look, walk, resolved, local};
+ghost use Rattle.smv_instances.specs.NameMap.{named_in};
+ghost use Rattle.smv_instances.specs.Leads.{Right, IsOpen, LeadAt, WalkOf, IsWaiting, IsClosed, is_key, AreAll};
+ghost use Rattle.smv_instances.specs.View.{instance_plain};
+
+use crate::children::{Children, child_in, put as put_number};
+use crate::names::{Known, Target, last};
+use crate::parts::Parts;
+use smv_text::Path;
+use std::alloc::Global;
+use std::collections::HashMap;
+use text_core::{Names, NoMemory};
+
+/// What an alias leads to, and how deep the aliases on its way lead into one another, itself among them.
+#[derive(Clone, Copy)]
+pub struct Lead<'a> {
+    pub depth: usize,
+    pub target: Target<'a>,
+}
+
+/// A parameter: its instance and its name there.
+#[derive(Clone, Copy)]
+pub struct Key<'a> {
+    pub instance: usize,
+    pub name: &'a [u8],
+}
+
+/// How a walk along a path ends: at what the path leads to, or before an alias of which no lead is kept.
+#[derive(Clone, Copy)]
+pub enum Walk<'a> {
+    Ends(Lead<'a>),
+    Waits(Key<'a>),
+}
+
+/// Leads of aliases by their instance and name.
+pub type Leads<'a> = HashMap<(usize, &'a [u8]), Lead<'a>>;
+
+/// The lead that is kept of an alias.
+pub fn kept<'a>(leads: &Leads<'a>, i: usize, x: &[u8]) -> Option<Lead<'a>>
+    ensures { result ≡ named_in leads.now i x.now }
+{
+    leads.get(&(i, x)).copied()
+}
+
+/// Keeps the lead of an alias.
+pub fn keep<'a>(leads: &mut Leads<'a>, key: Key<'a>, lead: Lead<'a>) -> Result<(), NoMemory>
+    ensures { OnOk result ((j : ℕ) (y : List ℕ) → named_in leads.new j y ≡ (if key.entry.instance == j && bytes_eq key.entry.name.now y then Some lead.entry else named_in leads.old j y)) }
+{
+    match leads.insert((key.instance, key.name), lead) {
+        Ok(_) => Ok(()),
+        Err(_) => Err(NoMemory),
+    }
+}
+
+fn one_deep<'a>(target: Target<'a>) -> Lead<'a>
+    ensures depth { result.depth ≡ 1 }
+    ensures target { result.target ≡ target.entry }
+{
+    Lead { depth: 1, target }
+}
+
+/// Where a name leads, but for an open alias.
+pub fn lead_at<'a>(parts: &Parts<'a>, leads: &Leads<'a>, i: usize, x: &'a [u8]) -> Option<Lead<'a>>
+    requires right { Right (map instance_plain parts.now) leads.now }
+    ensures { LeadAt (map instance_plain parts.now) leads.now i x.now result }
+{
+    match parts.local(i, x) {
+        Known::Alias(_, _) => kept(leads, i, x),
+        Known::Formula(j, e) => Some(one_deep(Target::Body(i, x, j, e))),
+        Known::Variable(kind, d) => Some(one_deep(Target::Variable(i, x, kind, d))),
+        Known::Inner => match parts.child(i, x) {
+            None => Some(one_deep(Target::Missing)),
+            Some(c) => Some(one_deep(Target::Within(c))),
+        },
+        Known::Nothing => Some(one_deep(Target::Missing)),
+    }
+}
+
+fn names_walk<'a>(parts: &Parts<'a>, leads: &Leads<'a>, i: usize, names: &'a Names) -> Walk<'a>
+    requires right { Right (map instance_plain parts.now) leads.now }
+    ensures { WalkOf (map instance_plain parts.now) leads.now (λ n. walk (look (map instance_plain parts.now) n) i names.now) result }
+{
+    let mut at = i;
+    let mut depth = 0;
+    for k in 0..names.len() {
+        let name = names.at(k).bytes();
+        let Some(lead) = lead_at(parts, leads, at, name) else {
+            return Walk::Waits(Key { instance: at, name });
+        };
+        if lead.depth > depth {
+            depth = lead.depth;
+        }
+        match lead.target {
+            Target::Within(c) => at = c,
+            found => {
+                let target = last(found, k + 1 == names.len());
+                return Walk::Ends(Lead { depth, target });
+            }
+        }
+    }
+    Walk::Ends(Lead {
+        depth,
+        target: Target::Within(at),
+    })
+}
+
+/// The walk along a path in the numbered instance.
+pub fn path_walk<'a>(parts: &Parts<'a>, leads: &Leads<'a>, i: usize, path: &'a Path) -> Walk<'a>
+    requires right { Right (map instance_plain parts.now) leads.now }
+    ensures { WalkOf (map instance_plain parts.now) leads.now (λ n. resolved (map instance_plain parts.now) (look (map instance_plain parts.now) n) i path.now) result }
+{
+    if !path.from_self && path.names.len() == 1 {
+        let x = path.names.at(0).bytes();
+        if let Known::Nothing = parts.local(i, x) {
+            let target = if parts.has_symbol(x) {
+                Target::Symbol(x)
+            } else {
+                Target::Missing
+            };
+            return Walk::Ends(Lead { depth: 0, target });
+        }
+    }
+    names_walk(parts, leads, i, &path.names)
+}

@@ -1,0 +1,22 @@
+//! The table of a model's instances, where names and paths are looked up.
+#![tactic(auto)]
+
+mod aliases;
+mod children;
+mod instances;
+mod keys;
+mod leads;
+mod modules;
+mod name_map;
+mod names;
+mod parts;
+mod scopes;
+mod symbols;
+mod table;
+
+pub use children::{Children, child_in, put_first};
+pub use instances::Table;
+pub use modules::ModuleTable;
+pub use name_map::{NameMap, no_names, put, value_under};
+pub use names::{Known, Target};
+pub use table::{Instance, instances as instance_list, path_below};

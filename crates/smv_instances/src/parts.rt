@@ -1,0 +1,142 @@
+// The instances of a model, with what single names are in them.
+ghost use Rattle.std.specs.Prelude.{◌≡◌, ◌<◌, length, map, position, slice_index_or, sum_by, IfOk, IfSome};
+ghost use Rattle.smv_text.specs.View.{plain_element};
+ghost use Rattle.smv_meaning.specs.Names.{definitions_in, formulas_in, steps_of, local, is_child, has_symbol};
+ghost use Rattle.smv_instances.specs.View.{instance_plain, local_plain};
+
+use crate::children::{Children, child_in, children_of};
+use crate::name_map::value_under;
+use crate::names::Known;
+use crate::scopes::{Scope, scopes_of};
+use crate::symbols::{Symbols, symbols_of};
+use crate::table::Instance;
+use smv_text::{Element, Elements};
+use std::alloc::Global;
+use std::marker::Model;
+use text_core::NoMemory;
+
+/// The instances of a model, numbered in preorder, with what single names are in them.
+#[derive(Drop)]
+pub struct Parts<'a> {
+    parts: Vec<Instance<'a>>,
+    scopes: Vec<Scope<'a>>,
+    children: Children<'a>,
+    symbols: Symbols<'a>,
+    steps: usize,
+}
+
+impl<'a> Model for Parts<'a> {
+    ghost use Rattle.std.specs.Prelude.{List};
+    ghost use Rattle.smv_instances.specs.declared.table.Instance.{Instance as PartOf};
+    ghost use Rattle.std.specs.Coded.{codes};
+    ghost use Rattle.smv_text.specs.contracts.tree.Expr as expr;
+    ghost use Rattle.smv_text.specs.contracts.tree.Shape as shape;
+
+    ghost Value = { List PartOf };
+
+    ghost coded = { Prim.hlevel (codes, expr.the_row.coded, shape.the_row.coded) };
+
+    ghost use Rattle.std.specs.Prelude.{◌≡◌, map};
+    ghost use Rattle.smv_meaning.specs.Names.{steps_of};
+    ghost use Rattle.smv_instances.specs.View.{instance_plain};
+
+    ghost view = { λ t. t.parts.items };
+
+    ghost use Rattle.smv_instances.specs.NameMap.{Knows, Bears, Holds};
+
+    ghost invariant = { λ t. (t.steps ≡ steps_of (map instance_plain t.parts.items)) × Knows t.parts.items t.scopes.items × Bears t.parts.items t.children × Holds t.parts.items t.symbols };
+}
+
+impl<'a> Parts<'a> {
+    /// The instances, which stand in preorder.
+    pub fn over(alloc: Global, parts: Vec<Instance<'a>>) -> Result<Parts<'a>, NoMemory>
+        ensures { IfOk result (λ t. t ≡ parts.entry.items) }
+    {
+        let Some(steps) = counted(parts.as_slice()) else {
+            return Err(NoMemory);
+        };
+        let scopes = scopes_of(alloc, parts.as_slice())?;
+        let children = children_of(alloc, parts.as_slice())?;
+        let symbols = symbols_of(alloc, parts.as_slice())?;
+        Ok(Parts {
+            parts,
+            scopes,
+            children,
+            symbols,
+            steps,
+        })
+    }
+
+    /// The number of instances.
+    pub fn len(&self) -> usize
+        ensures { result ≡ length self.now }
+    {
+        self.parts.len()
+    }
+
+    /// The instance with this number.
+    pub fn at(&self, i: usize) -> &Instance<'a>
+        requires { i < length self.now }
+        ensures { result.now ≡ slice_index_or self.now i result.now }
+    {
+        &self.parts[i]
+    }
+
+    /// What one name is in its own instance: a parameter, a variable, an instance, a definition, or nothing.
+    pub fn local(&self, i: usize, x: &[u8]) -> Known<'a>
+        ensures { local_plain result ≡ local (map instance_plain self.now) i x.now }
+    {
+        match self.scopes.get(i) {
+            None => Known::Nothing,
+            Some(scope) => value_under(scope, x).unwrap_or(Known::Nothing),
+        }
+    }
+
+    /// The first instance with this name in the numbered one.
+    pub fn child(&self, i: usize, x: &[u8]) -> Option<usize>
+        ensures { result ≡ position (is_child i x.now) (map instance_plain self.now) }
+    {
+        child_in(&self.children, i, x)
+    }
+
+    /// Is the name in an enumeration or CONSTANTS of an instantiated module?
+    pub fn has_symbol(&self, x: &[u8]) -> bool
+        ensures { result ≡ has_symbol (map instance_plain self.now) x.now }
+    {
+        value_under(&self.symbols, x).is_some()
+    }
+
+    /// How many definitions and actuals there are, and one more: no more of them lead into one another without a cycle.
+    pub fn steps(&self) -> usize
+        ensures { result ≡ steps_of (map instance_plain self.now) }
+    {
+        self.steps
+    }
+}
+
+// How many definitions and actuals there are, and one more, where a number can tell it.
+#[tactic(auto, using(smv_meaning::proofs::Lists::end_is, crate::proofs::TableLemmas::steps_on))]
+fn counted<'a>(table: &[Instance<'a>]) -> Option<usize>
+    ensures { IfSome result (λ n. n ≡ steps_of (map instance_plain table.now)) }
+{
+    let mut count: usize = 1;
+    for i in 0..table.len() {
+        let part = &table[i];
+        count = count.checked_add(definitions(&part.plan.elements)?)?;
+        count = count.checked_add(part.actuals.len())?;
+    }
+    Some(count)
+}
+
+#[tactic(auto, using(smv_meaning::proofs::Lists::front_is, smv_meaning::proofs::Lists::end_is))]
+fn definitions(elements: &Elements) -> Option<usize>
+    ensures { IfSome result (λ n. n ≡ sum_by definitions_in (map plain_element elements.now)) }
+{
+    let mut count: usize = 0;
+    for k in 0..elements.len() {
+        if let Element::Defines(list) = elements.at(k) {
+            count = count.checked_add(list.len())?;
+        }
+    }
+    Some(count)
+}

@@ -1,0 +1,83 @@
+// The symbols of a model, found with no scan.
+ghost use Rattle.std.specs.Prelude.{◌≡◌, ◌||◌, List, ℕ, is_some, map, IfOk, OnOk};
+ghost use Rattle.std.specs.List.{list_any};
+ghost use Rattle.smv_text.specs.View.{plain_item, plain_element};
+ghost use Rattle.smv_meaning.specs.Instances.{is_one_of};
+ghost use Rattle.smv_meaning.specs.Names.{is_symbol, domain_has, item_has, element_has, has_symbol};
+ghost use Rattle.smv_instances.specs.NameMap.{named};
+ghost use Rattle.smv_instances.specs.View.{instance_plain};
+
+use crate::name_map::{NameMap, no_names, put};
+use crate::table::Instance;
+use smv_text::{Domain, Element, Elements, Items, Member, Members};
+use std::alloc::Global;
+use text_core::{Names, NoMemory};
+
+/// The names that are symbols.
+pub type Symbols<'a> = NameMap<'a, ()>;
+
+#[tactic(auto, using(smv_meaning::proofs::Lists::front_is, smv_meaning::proofs::Lists::end_is))]
+fn put_members<'a>(symbols: &mut Symbols<'a>, members: &'a Members) -> Result<(), NoMemory>
+    ensures { OnOk result ((x : List ℕ) → is_some (named symbols.new x) ≡ (is_some (named symbols.old x) || list_any (is_symbol x) members.now)) }
+{
+    for k in 0..members.len() {
+        match members.at(k) {
+            Member::Symbol(name) => put(symbols, name.bytes(), ())?,
+            Member::Integer(_) => {}
+        }
+    }
+    Ok(())
+}
+
+#[tactic(auto, using(smv_meaning::proofs::Lists::front_is, smv_meaning::proofs::Lists::end_is))]
+fn put_domains<'a>(symbols: &mut Symbols<'a>, items: &'a Items) -> Result<(), NoMemory>
+    ensures { OnOk result ((x : List ℕ) → is_some (named symbols.new x) ≡ (is_some (named symbols.old x) || list_any (item_has x) (map plain_item items.now))) }
+{
+    for k in 0..items.len() {
+        match &items.at(k).domain {
+            Domain::Boolean => {}
+            Domain::Members(members) => put_members(symbols, members)?,
+            Domain::Between(_, _) => {}
+            Domain::Bits(_) => {}
+            Domain::Instance(_, _) => {}
+        }
+    }
+    Ok(())
+}
+
+#[tactic(auto, using(smv_meaning::proofs::Lists::front_is, smv_meaning::proofs::Lists::end_is))]
+fn put_constants<'a>(symbols: &mut Symbols<'a>, names: &'a Names) -> Result<(), NoMemory>
+    ensures { OnOk result ((x : List ℕ) → is_some (named symbols.new x) ≡ (is_some (named symbols.old x) || is_one_of names.now x)) }
+{
+    for k in 0..names.len() {
+        put(symbols, names.at(k).bytes(), ())?;
+    }
+    Ok(())
+}
+
+#[tactic(auto, using(smv_meaning::proofs::Lists::front_is, smv_meaning::proofs::Lists::end_is))]
+fn put_elements<'a>(symbols: &mut Symbols<'a>, elements: &'a Elements) -> Result<(), NoMemory>
+    ensures { OnOk result ((x : List ℕ) → is_some (named symbols.new x) ≡ (is_some (named symbols.old x) || list_any (element_has x) (map plain_element elements.now))) }
+{
+    for k in 0..elements.len() {
+        match elements.at(k) {
+            Element::Vars(_, items) => put_domains(symbols, items)?,
+            Element::Constants(names) => put_constants(symbols, names)?,
+            _ => {}
+        }
+    }
+    Ok(())
+}
+
+/// The symbols of the instantiated modules.
+#[tactic(auto, using(smv_meaning::proofs::Lists::front_is, smv_meaning::proofs::Lists::end_is))]
+pub fn symbols_of<'a>(alloc: Global, table: &[Instance<'a>]) -> Result<Symbols<'a>, NoMemory>
+    ensures { IfOk result (λ m. (x : List ℕ) → is_some (named m x) ≡ has_symbol (map instance_plain table.now) x) }
+{
+    let mut symbols = no_names(alloc);
+    for i in 0..table.len() {
+        let plan = table[i].plan;
+        put_elements(&mut symbols, &plan.elements)?;
+    }
+    Ok(symbols)
+}

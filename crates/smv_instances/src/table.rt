@@ -1,0 +1,151 @@
+// The instances of a model, numbered in preorder.
+ghost use Rattle.std.specs.Prelude.{◌≡◌, ◌++◌, ◌∷◌, [], map, List, IfOk, length};
+ghost use Rattle.smv_text.specs.View.{plain_module, plain_element, plain_item, plain_source};
+ghost use Rattle.smv_meaning.specs.Instances.{dotted, child_of, grow, grow_items, instances_of};
+ghost use Rattle.smv_instances.specs.View.{instance_plain, instance_or_none};
+
+use crate::modules::ModuleTable;
+use smv_text::{Domain, Element, Expr, Item, Items, Module, Source};
+use std::alloc::Global;
+use text_core::{NoMemory, Text};
+
+/// An instance: the number of the instance in which it is declared and in whose scope its actuals are read, its name
+/// there, its dotted path, its module and its actuals.
+#[derive(Drop)]
+pub struct Instance<'a> {
+    pub parent: Option<usize>,
+    pub own: &'a [u8],
+    pub path: Text,
+    pub plan: &'a Module,
+    pub actuals: &'a [Expr],
+}
+
+/// The dotted path of a name in the instance with this path.
+pub fn path_below(alloc: Global, path: &[u8], name: &[u8]) -> Result<Text, NoMemory>
+    ensures { IfOk result (λ p. p ≡ dotted path.now name.now) }
+{
+    let mut below = Text::new(alloc);
+    if !path.is_empty() {
+        below.put(path)?;
+        below.put(b".")?;
+    }
+    below.put(name)?;
+    Ok(below)
+}
+
+// The instance that a declaration in the instance i, which has this path, makes.
+fn child<'a>(
+    alloc: Global,
+    modules: &ModuleTable<'a>,
+    i: usize,
+    path: &[u8],
+    item: &'a Item,
+) -> Result<Option<Instance<'a>>, NoMemory>
+    ensures { IfOk result (λ o. instance_or_none o ≡ child_of (map plain_module modules.now) i path.now (plain_item item.now)) }
+{
+    match &item.domain {
+        Domain::Boolean => Ok(None),
+        Domain::Members(_) => Ok(None),
+        Domain::Between(_, _) => Ok(None),
+        Domain::Bits(_) => Ok(None),
+        Domain::Instance(name, actuals) => match modules.named(name.bytes()) {
+            None => Ok(None),
+            Some(plan) => {
+                let below = path_below(alloc, path, item.name.bytes())?;
+                Ok(Some(Instance {
+                    parent: Some(i),
+                    own: item.name.bytes(),
+                    path: below,
+                    plan,
+                    actuals: actuals.as_slice(),
+                }))
+            }
+        },
+    }
+}
+
+// Adds the instance and then all below it; modules nest at most as deep as the number tells.
+#[cycle(grow)]
+#[tactic(auto, using(smv_meaning::proofs::Lists::front_is, smv_meaning::proofs::Lists::end_is, crate::proofs::Grow::grow_none, crate::proofs::Grow::grow_begins))]
+fn extend<'a>(
+    alloc: Global,
+    modules: &ModuleTable<'a>,
+    deep: usize,
+    new: Instance<'a>,
+    table: &mut Vec<Instance<'a>>,
+) -> Result<(), NoMemory>
+    ensures { IfOk result (λ u. map instance_plain table.new.items ≡ grow deep (map plain_module modules.now) (instance_plain new.entry) (map instance_plain table.old.items)) }
+{
+    if deep == 0 {
+        return Ok(());
+    }
+    let i = table.len();
+    let elements = &new.plan.elements;
+    let mut copy = Text::new(alloc);
+    copy.put(new.path.bytes())?;
+    let path = copy.bytes();
+    match table.push(new) {
+        Ok(()) => {}
+        Err(_) => return Err(NoMemory),
+    }
+    for k in 0..elements.len() {
+        match elements.at(k) {
+            Element::Vars(_, items) => extend_items(
+                alloc,
+                modules,
+                deep - 1,
+                i,
+                path,
+                items,
+                table,
+            )?,
+            _ => {}
+        }
+    }
+    Ok(())
+}
+
+// Adds the instances that declarations in the instance i make, each with all below it.
+#[cycle(grow)]
+#[tactic(auto, using(smv_meaning::proofs::Lists::front_is, smv_meaning::proofs::Lists::end_is, crate::proofs::Grow::grow_none, crate::proofs::Grow::grow_begins))]
+fn extend_items<'a>(
+    alloc: Global,
+    modules: &ModuleTable<'a>,
+    deep: usize,
+    i: usize,
+    path: &[u8],
+    items: &'a Items,
+    table: &mut Vec<Instance<'a>>,
+) -> Result<(), NoMemory>
+    ensures { IfOk result (λ u. map instance_plain table.new.items ≡ grow_items (grow deep (map plain_module modules.now)) (map plain_module modules.now) i path.now (map plain_item items.now) (map instance_plain table.old.items)) }
+{
+    for k in 0..items.len() {
+        match child(alloc, modules, i, path, items.at(k))? {
+            None => {}
+            Some(below) => extend(alloc, modules, deep, below, table)?,
+        }
+    }
+    Ok(())
+}
+
+/// The instances of a model: main and all below it, in preorder.
+pub fn instances<'a>(alloc: Global, source: &'a Source) -> Result<Vec<Instance<'a>>, NoMemory>
+    ensures { IfOk result (λ t. map instance_plain t.items ≡ instances_of (plain_source source.now)) }
+{
+    let modules = ModuleTable::of(alloc, &source.modules)?;
+    let mut table = Vec::new(alloc);
+    match modules.named(b"main") {
+        None => Ok(table),
+        Some(plan) => {
+            let main = Instance {
+                parent: None,
+                own: &[],
+                path: Text::new(alloc),
+                plan,
+                actuals: &[],
+            };
+            extend(alloc, &modules, modules.len(), main, &mut table)?;
+            Ok(table)
+        }
+    }
+}

@@ -1,0 +1,311 @@
+// Intervals of integers: each end is computed in 128 bits and tested against the limit before it is kept in 64.
+ghost use Rattle.std.specs.Prelude.{◌≡◌, ◌≤◌, ◌<◌, ◌≤ℤ◌, ◌^◌, ◌-◌, ◌+ℤ◌, ◌-ℤ◌, ◌*ℤ◌, neg_ℤ, int_div, nat_abs, unsigned_abs, pos, Option, None, Some, option_map};
+ghost use Rattle.std.specs.Int.{int_min, int_max};
+ghost use Rattle.smv_meaning.specs.Operators.{int_abs};
+ghost use Rattle.smv_meaning.specs.Types.{integer_type, hull, over_ends, over_both_ends, abs_type, quotient_type, rest_type, rest_low, rest_high};
+ghost use Rattle.smv_intervals.specs.View.{seen};
+ghost use Rattle.smv_intervals.specs.Limits.{Kept};
+
+use crate::types::Ty;
+
+/// The least integer that an interval may reach.
+const LEAST: i64 = -4_611_686_018_427_387_904;
+
+/// The greatest integer that an interval may reach.
+const GREATEST: i64 = 4_611_686_018_427_387_903;
+
+/// The interval of these ends, where it is within the limit.
+pub fn limited(low: i64, high: i64) -> Option<Ty>
+    ensures { Kept result (integer_type low high) }
+{
+    if LEAST <= low && high <= GREATEST {
+        Some(Ty::Integer(low, high))
+    } else {
+        None
+    }
+}
+
+/// The interval of these ends, which are in order, where it is within the limit.
+pub fn within(low: i128, high: i128) -> Option<Ty>
+    requires { low ≤ℤ high }
+    ensures { Kept result (integer_type low high) }
+{
+    if LEAST as i128 <= low && high <= GREATEST as i128 {
+        Some(Ty::Integer(low as i64, high as i64))
+    } else {
+        None
+    }
+}
+
+// The interval from the least to the greatest of two results.
+fn over_two(a: i128, b: i128) -> Option<Ty>
+    ensures { Kept result (integer_type (int_min a b) (int_max a b)) }
+{
+    within(a.min(b), a.max(b))
+}
+
+fn least(a: i128, b: i128, c: i128, d: i128) -> i128
+    ensures value { result ≡ int_min (int_min a b) (int_min c d) }
+    ensures bound { result ≤ℤ a }
+{
+    let first = a.min(b);
+    first.min(c.min(d))
+}
+
+fn greatest(a: i128, b: i128, c: i128, d: i128) -> i128
+    ensures value { result ≡ int_max (int_max a b) (int_max c d) }
+    ensures bound { a ≤ℤ result }
+{
+    let first = a.max(b);
+    first.max(c.max(d))
+}
+
+// The interval from the least to the greatest of four results.
+fn over_four(a: i128, b: i128, c: i128, d: i128) -> Option<Ty>
+    ensures { Kept result (integer_type (int_min (int_min a b) (int_min c d)) (int_max (int_max a b) (int_max c d))) }
+{
+    within(least(a, b, c, d), greatest(a, b, c, d))
+}
+
+/// The type, where its interval is within the limit.
+pub fn kept(t: Ty) -> Option<Ty>
+    ensures { Kept result (seen t) }
+{
+    match t {
+        Ty::Integer(low, high) => limited(low, high),
+        Ty::Truth | Ty::Symbol | Ty::Bits(_) => Some(t),
+    }
+}
+
+/// The type that holds both.
+pub fn hull(t: Ty, u: Ty) -> Ty
+    ensures { seen result ≡ hull (seen t) (seen u) }
+{
+    match t {
+        Ty::Integer(low, high) => match u {
+            Ty::Integer(less, more) => Ty::Integer(low.min(less), high.max(more)),
+            Ty::Truth | Ty::Symbol | Ty::Bits(_) => t,
+        },
+        Ty::Truth | Ty::Symbol | Ty::Bits(_) => t,
+    }
+}
+
+fn sum(a: i64, b: i64) -> i128
+    ensures { result ≡ a +ℤ b }
+{
+    a as i128 + b as i128
+}
+
+fn difference(a: i64, b: i64) -> i128
+    ensures { result ≡ a -ℤ b }
+{
+    a as i128 - b as i128
+}
+
+fn product(a: i64, b: i64) -> i128
+    ensures { result ≡ a *ℤ b }
+{
+    a as i128 * b as i128
+}
+
+fn negated(a: i64) -> i128
+    ensures { result ≡ neg_ℤ a }
+{
+    -(a as i128)
+}
+
+fn magnitude(a: i64) -> i128
+    ensures { result ≡ int_abs a }
+{
+    if a < 0 { negated(a) } else { a as i128 }
+}
+
+fn larger(a: i64, b: i64) -> i128
+    ensures { result ≡ int_max a b }
+{
+    a.max(b) as i128
+}
+
+fn smaller(a: i64, b: i64) -> i128
+    ensures { result ≡ int_min a b }
+{
+    a.min(b) as i128
+}
+
+/// Of `+`.
+pub fn sum_type(t: Ty, u: Ty) -> Option<Ty>
+    ensures { Kept result (over_both_ends (λ a b. a +ℤ b) (seen t) (seen u)) }
+{
+    match t {
+        Ty::Integer(low, high) => match u {
+            Ty::Integer(less, more) => over_four(
+                sum(low, less),
+                sum(low, more),
+                sum(high, less),
+                sum(high, more),
+            ),
+            Ty::Truth | Ty::Symbol | Ty::Bits(_) => limited(low, high),
+        },
+        Ty::Truth | Ty::Symbol | Ty::Bits(_) => Some(t),
+    }
+}
+
+/// Of `-` between two operands.
+pub fn difference_type(t: Ty, u: Ty) -> Option<Ty>
+    ensures { Kept result (over_both_ends (λ a b. a -ℤ b) (seen t) (seen u)) }
+{
+    match t {
+        Ty::Integer(low, high) => match u {
+            Ty::Integer(less, more) => over_four(
+                difference(low, less),
+                difference(low, more),
+                difference(high, less),
+                difference(high, more),
+            ),
+            Ty::Truth | Ty::Symbol | Ty::Bits(_) => limited(low, high),
+        },
+        Ty::Truth | Ty::Symbol | Ty::Bits(_) => Some(t),
+    }
+}
+
+/// Of `*`.
+pub fn product_type(t: Ty, u: Ty) -> Option<Ty>
+    ensures { Kept result (over_both_ends (λ a b. a *ℤ b) (seen t) (seen u)) }
+{
+    match t {
+        Ty::Integer(low, high) => match u {
+            Ty::Integer(less, more) => over_four(
+                product(low, less),
+                product(low, more),
+                product(high, less),
+                product(high, more),
+            ),
+            Ty::Truth | Ty::Symbol | Ty::Bits(_) => limited(low, high),
+        },
+        Ty::Truth | Ty::Symbol | Ty::Bits(_) => Some(t),
+    }
+}
+
+/// Of `max`.
+pub fn max_type(t: Ty, u: Ty) -> Option<Ty>
+    ensures { Kept result (over_both_ends int_max (seen t) (seen u)) }
+{
+    match t {
+        Ty::Integer(low, high) => match u {
+            Ty::Integer(less, more) => over_four(
+                larger(low, less),
+                larger(low, more),
+                larger(high, less),
+                larger(high, more),
+            ),
+            Ty::Truth | Ty::Symbol | Ty::Bits(_) => limited(low, high),
+        },
+        Ty::Truth | Ty::Symbol | Ty::Bits(_) => Some(t),
+    }
+}
+
+/// Of `min`.
+pub fn min_type(t: Ty, u: Ty) -> Option<Ty>
+    ensures { Kept result (over_both_ends int_min (seen t) (seen u)) }
+{
+    match t {
+        Ty::Integer(low, high) => match u {
+            Ty::Integer(less, more) => over_four(
+                smaller(low, less),
+                smaller(low, more),
+                smaller(high, less),
+                smaller(high, more),
+            ),
+            Ty::Truth | Ty::Symbol | Ty::Bits(_) => limited(low, high),
+        },
+        Ty::Truth | Ty::Symbol | Ty::Bits(_) => Some(t),
+    }
+}
+
+/// Of `-` before an operand.
+pub fn negation_type(t: Ty) -> Option<Ty>
+    ensures { Kept result (over_ends neg_ℤ (seen t)) }
+{
+    match t {
+        Ty::Integer(low, high) => over_two(negated(low), negated(high)),
+        Ty::Truth | Ty::Symbol | Ty::Bits(_) => Some(t),
+    }
+}
+
+/// Of `abs`: of an interval with 0 inside, the least absolute value is 0.
+pub fn abs_type(t: Ty) -> Option<Ty>
+    ensures { Kept result (abs_type (seen t)) }
+{
+    match t {
+        Ty::Integer(low, high) => {
+            if low < 0 && 0 < high {
+                within(0, magnitude(low).max(magnitude(high)))
+            } else {
+                over_two(magnitude(low), magnitude(high))
+            }
+        }
+        Ty::Truth | Ty::Symbol | Ty::Bits(_) => Some(t),
+    }
+}
+
+// A quotient is cut toward zero; that by 0, which no check lets through, counts as 0.
+fn quotient(a: i64, b: i128) -> i128
+    ensures { result ≡ int_div a b }
+{
+    if b == 0 { 0 } else { a as i128 / b }
+}
+
+/// Of `/`, given the integer that the divisor stands for.
+pub fn quotient_type(t: Ty, divisor: Option<i128>) -> Option<Ty>
+    ensures { Kept result (quotient_type (seen t) divisor) }
+{
+    match divisor {
+        None => kept(t),
+        Some(b) => match t {
+            Ty::Integer(low, high) => over_two(quotient(low, b), quotient(high, b)),
+            Ty::Truth | Ty::Symbol | Ty::Bits(_) => Some(t),
+        },
+    }
+}
+
+// The low end of a rest's interval: its sign is the dividend's, its size below the divisor's and at most the dividend's.
+fn lowest_rest(low: i64, size: u128) -> i64
+    ensures { result ≡ rest_low low size }
+{
+    if 0 <= low {
+        0
+    } else if size <= low.unsigned_abs() as u128 {
+        (1 - size as i128) as i64
+    } else {
+        low
+    }
+}
+
+// The high end of a rest's interval.
+fn highest_rest(high: i64, size: u128) -> i64
+    ensures { result ≡ rest_high high size }
+{
+    if high <= 0 {
+        0
+    } else if size <= high as u128 {
+        (size as i128 - 1) as i64
+    } else {
+        high
+    }
+}
+
+/// Of `mod`, given the integer that the divisor stands for.
+pub fn rest_type(t: Ty, divisor: Option<i128>) -> Option<Ty>
+    ensures { Kept result (rest_type (seen t) divisor) }
+{
+    match divisor {
+        None => kept(t),
+        Some(b) => match t {
+            Ty::Integer(low, high) => {
+                let size = b.unsigned_abs();
+                limited(lowest_rest(low, size), highest_rest(high, size))
+            }
+            Ty::Truth | Ty::Symbol | Ty::Bits(_) => Some(t),
+        },
+    }
+}

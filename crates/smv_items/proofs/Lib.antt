@@ -1,0 +1,4 @@
+pub mod Lists
+pub mod OriginLemmas
+pub mod SymbolLemmas
+pub mod NumberLemmas

@@ -1,0 +1,9 @@
+use Rattle.std.proofs.Common.{◌≡◌, drop, map}
+use Rattle.std.specs.Prelude.{flat_map}
+use Rattle.smv_instances.specs.View.{instance_plain}
+use Rattle.smv_items.specs.FlatItems.{gathered, element_symbols, symbols_of}
+use Rattle.smv_items.proofs.symbols.symbols_in.Given as goal
+
+abbrev pub invariant-loop-i : goal.invariant-loop-i
+invariant-loop-i l =
+    gathered l.symbols (flat_map (λ at. flat_map element_symbols at.plan.elements) (map instance_plain (drop l.i l.table))) ≡ symbols_of (map instance_plain l.table)

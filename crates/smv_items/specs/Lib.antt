@@ -1,0 +1,3 @@
+pub mod FlatItems
+pub mod FlatOrigins
+pub mod FlatItemView

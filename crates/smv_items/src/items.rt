@@ -1,0 +1,31 @@
+// The items of a model.
+
+use smv_intervals::Ty;
+use smv_text::Members;
+use text_core::Name;
+
+/// What an item is.
+#[derive(Clone, Copy, Debug, PartialEq, Eq)]
+pub enum ItemKind {
+    /// A variable of `VAR`.
+    State,
+    /// A variable of `FROZENVAR`.
+    Frozen,
+    /// A variable of `IVAR`.
+    Input,
+    /// A definition.
+    Define,
+    /// An actual parameter that is no path.
+    Actual,
+}
+
+/// A variable, a definition or an actual: its dotted path, the number of its instance in preorder, its kind, its type, and
+/// the members of an enumeration in the order of the text, none for any other type.
+#[derive(Debug, Drop)]
+pub struct FlatItem {
+    pub name: Name,
+    pub instance: u32,
+    pub kind: ItemKind,
+    pub ty: Ty,
+    pub members: Members,
+}

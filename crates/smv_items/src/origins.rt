@@ -1,0 +1,220 @@
+// Where the items of a model come from, in their order.
+ghost use Rattle.std.specs.Prelude.{◌≡◌, ◌++◌, ◌∷◌, [], map, flat_map, OnOk, IfOk};
+ghost use Rattle.smv_text.specs.Tree.{trees_of};
+ghost use Rattle.smv_text.specs.View.{plain, plain_item, plain_definition, plain_element, plain_domain};
+ghost use Rattle.smv_meaning.specs.Names.{dotted_at};
+ghost use Rattle.smv_instances.specs.View.{instance_plain};
+ghost use Rattle.smv_items.specs.FlatItems.{with_content, actual_content, actual_items, domain_content, variable_item, definition_item, element_items, items_here, origins_of, path_of};
+ghost use Rattle.smv_items.specs.FlatOrigins.{origin_plain, content_or_none};
+
+use smv_instances::{Instance, Table, path_below};
+use smv_text::{Definitions, Domain, Element, Elements, Expr, Items, Parameters, Shape, VarKind};
+use std::alloc::Global;
+use text_core::{NoMemory, Text};
+
+/// A variable, or a body with the number of the instance in which it is read.
+#[derive(Clone, Copy)]
+pub enum Content<'a> {
+    Variable(VarKind, &'a Domain),
+    Definition(usize, &'a Expr),
+    Actual(usize, &'a Expr),
+}
+
+/// An item by its instance and its name there.
+#[derive(Clone, Copy)]
+pub struct Origin<'a> {
+    pub instance: usize,
+    pub name: &'a [u8],
+    pub content: Content<'a>,
+}
+
+/// The origins of a model's items.
+pub type Origins<'a> = Vec<Origin<'a>>;
+
+// Adds an item, where there is one.
+fn add<'a>(
+    origins: &mut Origins<'a>,
+    instance: usize,
+    name: &'a [u8],
+    content: Option<Content<'a>>,
+) -> Result<(), NoMemory>
+    ensures { OnOk result (map origin_plain origins.new.items ≡ map origin_plain origins.old.items ++ with_content instance name.now (content_or_none content.entry)) }
+{
+    match content {
+        None => Ok(()),
+        Some(content) => match origins.push(Origin {
+            instance,
+            name,
+            content,
+        }) {
+            Ok(()) => Ok(()),
+            Err(_) => Err(NoMemory),
+        },
+    }
+}
+
+// An actual that is a path is no item.
+fn actual<'a>(parent: usize, e: &'a Expr) -> Option<Content<'a>>
+    ensures { content_or_none result ≡ actual_content parent (plain e.now) }
+{
+    match &e.shape {
+        Shape::Name(_) => None,
+        _ => Some(Content::Actual(parent, e)),
+    }
+}
+
+fn variable<'a>(kind: VarKind, d: &'a Domain) -> Option<Content<'a>>
+    ensures { content_or_none result ≡ domain_content kind (plain_domain d.now) }
+{
+    match d {
+        Domain::Boolean => Some(Content::Variable(kind, d)),
+        Domain::Members(_) => Some(Content::Variable(kind, d)),
+        Domain::Between(_, _) => Some(Content::Variable(kind, d)),
+        Domain::Bits(_) => Some(Content::Variable(kind, d)),
+        Domain::Instance(_, _) => None,
+    }
+}
+
+#[tactic(auto, using(crate::proofs::Lists::front_is, crate::proofs::Lists::end_is, crate::proofs::Lists::trees_front, crate::proofs::Lists::trees_end, crate::proofs::OriginLemmas::append_none, crate::proofs::OriginLemmas::none_actual))]
+fn add_actuals<'a>(
+    origins: &mut Origins<'a>,
+    i: usize,
+    parent: usize,
+    parameters: &'a Parameters,
+    actuals: &'a [Expr],
+) -> Result<(), NoMemory>
+    ensures { OnOk result (map origin_plain origins.new.items ≡ map origin_plain origins.old.items ++ actual_items i parent parameters.now (trees_of (map plain actuals.now))) }
+{
+    for k in 0..parameters.len() {
+        if k >= actuals.len() {
+            return Ok(());
+        }
+        add(
+            origins,
+            i,
+            parameters.at(k).name.bytes(),
+            actual(parent, &actuals[k]),
+        )?;
+    }
+    Ok(())
+}
+
+#[tactic(auto, using(crate::proofs::Lists::front_is, crate::proofs::Lists::end_is, crate::proofs::OriginLemmas::joined_on))]
+fn add_variables<'a>(
+    origins: &mut Origins<'a>,
+    i: usize,
+    kind: VarKind,
+    items: &'a Items,
+) -> Result<(), NoMemory>
+    ensures { OnOk result (map origin_plain origins.new.items ≡ map origin_plain origins.old.items ++ flat_map (variable_item i kind) (map plain_item items.now)) }
+{
+    for k in 0..items.len() {
+        let item = items.at(k);
+        add(origins, i, item.name.bytes(), variable(kind, &item.domain))?;
+    }
+    Ok(())
+}
+
+#[tactic(auto, using(crate::proofs::Lists::front_is, crate::proofs::Lists::end_is, crate::proofs::OriginLemmas::joined_on))]
+fn add_definitions<'a>(
+    origins: &mut Origins<'a>,
+    i: usize,
+    definitions: &'a Definitions,
+) -> Result<(), NoMemory>
+    ensures { OnOk result (map origin_plain origins.new.items ≡ map origin_plain origins.old.items ++ map (definition_item i) (map plain_definition definitions.now)) }
+{
+    for k in 0..definitions.len() {
+        let definition = definitions.at(k);
+        add(
+            origins,
+            i,
+            definition.name.bytes(),
+            Some(Content::Definition(i, &definition.body)),
+        )?;
+    }
+    Ok(())
+}
+
+fn add_element<'a>(
+    origins: &mut Origins<'a>,
+    i: usize,
+    element: &'a Element,
+) -> Result<(), NoMemory>
+    ensures { OnOk result (map origin_plain origins.new.items ≡ map origin_plain origins.old.items ++ element_items i (plain_element element.now)) }
+{
+    match element {
+        Element::Vars(kind, items) => add_variables(origins, i, *kind, items),
+        Element::Defines(definitions) => add_definitions(origins, i, definitions),
+        Element::Constants(_) => Ok(()),
+        Element::Assigns(_) => Ok(()),
+        Element::Init(_) => Ok(()),
+        Element::Trans(_) => Ok(()),
+        Element::Invar(_) => Ok(()),
+        Element::Spec(_, _) => Ok(()),
+    }
+}
+
+#[tactic(auto, using(crate::proofs::Lists::front_is, crate::proofs::Lists::end_is, crate::proofs::OriginLemmas::joined_on))]
+fn add_elements<'a>(
+    origins: &mut Origins<'a>,
+    i: usize,
+    elements: &'a Elements,
+) -> Result<(), NoMemory>
+    ensures { OnOk result (map origin_plain origins.new.items ≡ map origin_plain origins.old.items ++ flat_map (element_items i) (map plain_element elements.now)) }
+{
+    for k in 0..elements.len() {
+        add_element(origins, i, elements.at(k))?;
+    }
+    Ok(())
+}
+
+fn add_instance<'a>(origins: &mut Origins<'a>, i: usize, at: &Instance<'a>) -> Result<(), NoMemory>
+    ensures { OnOk result (map origin_plain origins.new.items ≡ map origin_plain origins.old.items ++ items_here i (instance_plain at.now)) }
+{
+    let plan = at.plan;
+    add_actuals(
+        origins,
+        i,
+        at.parent.unwrap_or(0),
+        &plan.parameters,
+        at.actuals,
+    )?;
+    add_elements(origins, i, &plan.elements)
+}
+
+/// The items of the instance with this number.
+pub fn origins_at<'a>(alloc: Global, i: usize, at: &Instance<'a>) -> Result<Origins<'a>, NoMemory>
+    ensures { IfOk result (λ os. map origin_plain os.items ≡ items_here i (instance_plain at.now)) }
+{
+    let mut origins = Vec::new(alloc);
+    add_instance(&mut origins, i, at)?;
+    Ok(origins)
+}
+
+/// The items of a model in their order.
+#[tactic(auto, using(crate::proofs::Lists::front_is, crate::proofs::Lists::end_is, crate::proofs::OriginLemmas::joined_on))]
+pub fn origins_in<'a>(alloc: Global, table: &Table<'a>) -> Result<Origins<'a>, NoMemory>
+    ensures { IfOk result (λ os. map origin_plain os.items ≡ origins_of (map instance_plain table.now)) }
+{
+    let mut origins = Vec::new(alloc);
+    for i in 0..table.len() {
+        add_instance(&mut origins, i, table.at(i))?;
+    }
+    Ok(origins)
+}
+
+/// The dotted path of a name in the numbered instance.
+pub fn dotted_path<'a>(
+    alloc: Global,
+    table: &Table<'a>,
+    i: usize,
+    name: &[u8],
+) -> Result<Text, NoMemory>
+    ensures { IfOk result (λ p. p ≡ dotted_at (map instance_plain table.now) i name.now) }
+{
+    if i < table.len() {
+        path_below(alloc, table.at(i).path.bytes(), name)
+    } else {
+        path_below(alloc, &[], name)
+    }
+}

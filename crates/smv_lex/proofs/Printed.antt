@@ -1,0 +1,475 @@
+-- A printed token is read again, whatever stands behind the blank that follows it.
+use Rattle.std.proofs.Common.{◌≡◌, ◌<◌, ◌≤◌, ◌^◌, ◌+◌, ◌*◌, ◌-◌, ℕ, suc, Bool, true, false, cond, ◌&&◌, eqb, Option, Some, None, option_map, List, [], ◌∷◌, ◌++◌, length, take, drop, refl, sym, ap, ◌∙◌, arith, rules}
+use Rattle.std.proofs.lemmas.List.{take_at, drop_at}
+use Rattle.std.proofs.lemmas.Str.Parse.{IsNumeralModel, numerals_by_fold}
+use Rattle.std.proofs.lemmas.Fmt.{digits_decimal, digits_value-decimal, decimal_nonempty}
+use Rattle.std.proofs.lemmas.Bool.{and_parts}
+use Rattle.std.proofs.lemmas.Bool.Decides.{nat_tests}
+use Rattle.std.proofs.Math.Nat.{pow-le-pow_right}
+use Rattle.std.specs.Fmt.{decimal}
+use Rattle.std.specs.Prelude.{nat_lt, nat_le, option_and_then}
+use Rattle.word_core.specs.Words.{BitVector, IsWord}
+use Rattle.word_core.specs.Digits.{digit_number, number_after, digits_value, read_word}
+use Rattle.smv_text.specs.declared.token.Reserved.{Reserved}
+use Rattle.smv_text.specs.declared.token.Reserved.TheVariants as word
+use Rattle.smv_text.specs.declared.token.Sign.{Sign}
+use Rattle.smv_text.specs.declared.token.Sign.TheVariants as sign
+use Rattle.smv_text.specs.declared.token.TokenKind.{TokenKind}
+use Rattle.smv_text.specs.declared.token.TokenKind.TheVariants as kind
+use Rattle.smv_text.specs.Bytes.{is_digit, is_letter, is_blank, front_length}
+use Rattle.smv_text.specs.Signs.{sign_bytes, sign_at}
+use Rattle.smv_text.specs.Keywords.{word_bytes}
+use Rattle.smv_text.specs.Numbers.{number_of, literal_of, is_unmarked, bare, marked_word, parted_word}
+use Rattle.smv_text.specs.Words.{in_word, in_run, is_run_byte, kind_of, word_kind, or_literal}
+use Rattle.smv_lex.specs.Reading.{gap_length, lexeme_length}
+use Rattle.smv_lex.specs.Spelling.{spelled, literal_bytes}
+use Rattle.smv_lex.specs.Printable.{IsIdentifier, IsPrintable}
+use Rattle.smv_lex.proofs.Spellings.{sign_read, word_read}
+
+-- the end, or a blank
+pub data Apart : List ℕ → Type 0 where
+  at_end : Apart []
+  blank_first : (r : List ℕ) → Apart (32 ∷ r)
+
+-- the bytes are read as a token of this kind, whatever stands apart behind them
+pub record IsReadAs (k : TokenKind) (f : List ℕ) : Type 0 where
+  pub some : 0 < length f
+  pub gapless : (r : List ℕ) → Apart r → gap_length false (f ++ r) ≡ 0
+  pub whole : (r : List ℕ) → Apart r → lexeme_length (f ++ r) ≡ length f
+  pub kind_is : kind_of f ≡ Some k
+
+-- signs
+sign_some : (s : Sign) → 0 < length (sign_bytes s)
+sign_some sign.Open = omega arith
+sign_some sign.Close = omega arith
+sign_some sign.OpenBrace = omega arith
+sign_some sign.CloseBrace = omega arith
+sign_some sign.OpenBracket = omega arith
+sign_some sign.CloseBracket = omega arith
+sign_some sign.Comma = omega arith
+sign_some sign.Semicolon = omega arith
+sign_some sign.Colon = omega arith
+sign_some sign.Dot = omega arith
+sign_some sign.Range = omega arith
+sign_some sign.Assign = omega arith
+sign_some sign.Equal = omega arith
+sign_some sign.Unequal = omega arith
+sign_some sign.Less = omega arith
+sign_some sign.Greater = omega arith
+sign_some sign.LessEqual = omega arith
+sign_some sign.GreaterEqual = omega arith
+sign_some sign.Not = omega arith
+sign_some sign.And = omega arith
+sign_some sign.Or = omega arith
+sign_some sign.Plus = omega arith
+sign_some sign.Minus = omega arith
+sign_some sign.Times = omega arith
+sign_some sign.Divide = omega arith
+sign_some sign.ShiftLeft = omega arith
+sign_some sign.ShiftRight = omega arith
+sign_some sign.Concat = omega arith
+sign_some sign.Question = omega arith
+sign_some sign.Implies = omega arith
+sign_some sign.Iff = omega arith
+
+sign_gapless : (s : Sign) (r : List ℕ) → gap_length false (sign_bytes s ++ 32 ∷ r) ≡ 0
+sign_gapless sign.Open r = refl
+sign_gapless sign.Close r = refl
+sign_gapless sign.OpenBrace r = refl
+sign_gapless sign.CloseBrace r = refl
+sign_gapless sign.OpenBracket r = refl
+sign_gapless sign.CloseBracket r = refl
+sign_gapless sign.Comma r = refl
+sign_gapless sign.Semicolon r = refl
+sign_gapless sign.Colon r = refl
+sign_gapless sign.Dot r = refl
+sign_gapless sign.Range r = refl
+sign_gapless sign.Assign r = refl
+sign_gapless sign.Equal r = refl
+sign_gapless sign.Unequal r = refl
+sign_gapless sign.Less r = refl
+sign_gapless sign.Greater r = refl
+sign_gapless sign.LessEqual r = refl
+sign_gapless sign.GreaterEqual r = refl
+sign_gapless sign.Not r = refl
+sign_gapless sign.And r = refl
+sign_gapless sign.Or r = refl
+sign_gapless sign.Plus r = refl
+sign_gapless sign.Minus r = refl
+sign_gapless sign.Times r = refl
+sign_gapless sign.Divide r = refl
+sign_gapless sign.ShiftLeft r = refl
+sign_gapless sign.ShiftRight r = refl
+sign_gapless sign.Concat r = refl
+sign_gapless sign.Question r = refl
+sign_gapless sign.Implies r = refl
+sign_gapless sign.Iff r = refl
+
+sign_gapless_last : (s : Sign) → gap_length false (sign_bytes s ++ []) ≡ 0
+sign_gapless_last sign.Open = refl
+sign_gapless_last sign.Close = refl
+sign_gapless_last sign.OpenBrace = refl
+sign_gapless_last sign.CloseBrace = refl
+sign_gapless_last sign.OpenBracket = refl
+sign_gapless_last sign.CloseBracket = refl
+sign_gapless_last sign.Comma = refl
+sign_gapless_last sign.Semicolon = refl
+sign_gapless_last sign.Colon = refl
+sign_gapless_last sign.Dot = refl
+sign_gapless_last sign.Range = refl
+sign_gapless_last sign.Assign = refl
+sign_gapless_last sign.Equal = refl
+sign_gapless_last sign.Unequal = refl
+sign_gapless_last sign.Less = refl
+sign_gapless_last sign.Greater = refl
+sign_gapless_last sign.LessEqual = refl
+sign_gapless_last sign.GreaterEqual = refl
+sign_gapless_last sign.Not = refl
+sign_gapless_last sign.And = refl
+sign_gapless_last sign.Or = refl
+sign_gapless_last sign.Plus = refl
+sign_gapless_last sign.Minus = refl
+sign_gapless_last sign.Times = refl
+sign_gapless_last sign.Divide = refl
+sign_gapless_last sign.ShiftLeft = refl
+sign_gapless_last sign.ShiftRight = refl
+sign_gapless_last sign.Concat = refl
+sign_gapless_last sign.Question = refl
+sign_gapless_last sign.Implies = refl
+sign_gapless_last sign.Iff = refl
+
+sign_whole : (s : Sign) (r : List ℕ) → lexeme_length (sign_bytes s ++ 32 ∷ r) ≡ length (sign_bytes s)
+sign_whole sign.Open r = refl
+sign_whole sign.Close r = refl
+sign_whole sign.OpenBrace r = refl
+sign_whole sign.CloseBrace r = refl
+sign_whole sign.OpenBracket r = refl
+sign_whole sign.CloseBracket r = refl
+sign_whole sign.Comma r = refl
+sign_whole sign.Semicolon r = refl
+sign_whole sign.Colon r = refl
+sign_whole sign.Dot r = refl
+sign_whole sign.Range r = refl
+sign_whole sign.Assign r = refl
+sign_whole sign.Equal r = refl
+sign_whole sign.Unequal r = refl
+sign_whole sign.Less r = refl
+sign_whole sign.Greater r = refl
+sign_whole sign.LessEqual r = refl
+sign_whole sign.GreaterEqual r = refl
+sign_whole sign.Not r = refl
+sign_whole sign.And r = refl
+sign_whole sign.Or r = refl
+sign_whole sign.Plus r = refl
+sign_whole sign.Minus r = refl
+sign_whole sign.Times r = refl
+sign_whole sign.Divide r = refl
+sign_whole sign.ShiftLeft r = refl
+sign_whole sign.ShiftRight r = refl
+sign_whole sign.Concat r = refl
+sign_whole sign.Question r = refl
+sign_whole sign.Implies r = refl
+sign_whole sign.Iff r = refl
+
+sign_whole_last : (s : Sign) → lexeme_length (sign_bytes s ++ []) ≡ length (sign_bytes s)
+sign_whole_last sign.Open = refl
+sign_whole_last sign.Close = refl
+sign_whole_last sign.OpenBrace = refl
+sign_whole_last sign.CloseBrace = refl
+sign_whole_last sign.OpenBracket = refl
+sign_whole_last sign.CloseBracket = refl
+sign_whole_last sign.Comma = refl
+sign_whole_last sign.Semicolon = refl
+sign_whole_last sign.Colon = refl
+sign_whole_last sign.Dot = refl
+sign_whole_last sign.Range = refl
+sign_whole_last sign.Assign = refl
+sign_whole_last sign.Equal = refl
+sign_whole_last sign.Unequal = refl
+sign_whole_last sign.Less = refl
+sign_whole_last sign.Greater = refl
+sign_whole_last sign.LessEqual = refl
+sign_whole_last sign.GreaterEqual = refl
+sign_whole_last sign.Not = refl
+sign_whole_last sign.And = refl
+sign_whole_last sign.Or = refl
+sign_whole_last sign.Plus = refl
+sign_whole_last sign.Minus = refl
+sign_whole_last sign.Times = refl
+sign_whole_last sign.Divide = refl
+sign_whole_last sign.ShiftLeft = refl
+sign_whole_last sign.ShiftRight = refl
+sign_whole_last sign.Concat = refl
+sign_whole_last sign.Question = refl
+sign_whole_last sign.Implies = refl
+sign_whole_last sign.Iff = refl
+
+sign_apart : (s : Sign) (r : List ℕ) → Apart r → gap_length false (sign_bytes s ++ r) ≡ 0
+sign_apart s r at_end = sign_gapless_last s
+sign_apart s r (blank_first rest) = sign_gapless s rest
+
+sign_ends : (s : Sign) (r : List ℕ) → Apart r → lexeme_length (sign_bytes s ++ r) ≡ length (sign_bytes s)
+sign_ends s r at_end = sign_whole_last s
+sign_ends s r (blank_first rest) = sign_whole s rest
+
+sign_as : (s : Sign) → IsReadAs (kind.Sign s) (sign_bytes s)
+sign_as s = record { some = sign_some s; gapless = sign_apart s; whole = sign_ends s; kind_is = sign_read s }
+
+-- words and runs: what stands apart doesn't belong to them
+front_true : (b : Bool) (n m : ℕ) → cond b (suc n) 0 ≡ suc m → (b ≡ true) × (n ≡ m)
+front_true true n m e = (refl, omega (arith, e))
+front_true false n m e = absurd (omega (arith, e))
+
+front_apart : (p : ℕ → List ℕ → Bool) → ((b : ℕ) (bs r : List ℕ) → Apart r → p b (bs ++ r) ≡ p b bs) → ((r : List ℕ) → Apart r → front_length p r ≡ 0)
+    → (bs r : List ℕ) → Apart r → front_length p bs ≡ length bs → front_length p (bs ++ r) ≡ length bs
+front_apart p same ends [] r a e = ends r a
+front_apart p same ends (b ∷ bs) r a e =
+    let h = front_true (p b bs) (front_length p bs) (length bs) e in
+    ap (λ c. cond c (suc (front_length p (bs ++ r))) 0) (same b bs r a ∙ h.0) ∙ ap suc (front_apart p same ends bs r a h.1)
+
+word_same : (b : ℕ) (bs r : List ℕ) → Apart r → in_word b (bs ++ r) ≡ in_word b bs
+word_same b [] r at_end = refl
+word_same b [] r (blank_first rest) = refl
+word_same b (c ∷ cs) r a = refl
+
+word_ends : (r : List ℕ) → Apart r → front_length in_word r ≡ 0
+word_ends r at_end = refl
+word_ends r (blank_first rest) = refl
+
+run_same : (b : ℕ) (bs r : List ℕ) → Apart r → in_run b (bs ++ r) ≡ in_run b bs
+run_same b bs r a = refl
+
+run_ends : (r : List ℕ) → Apart r → front_length in_run r ≡ 0
+run_ends r at_end = refl
+run_ends r (blank_first rest) = refl
+
+letter_gapless : (b : ℕ) (rest : List ℕ) → is_letter b ≡ true → gap_length false (b ∷ rest) ≡ 0
+letter_gapless b rest e =
+    let no_blank : is_blank b ≡ false = grind (arith, nat_tests) in
+    let no_dash : eqb b 45 ≡ false = grind (arith, nat_tests) in
+    rw (no_blank, no_dash) refl
+
+digit_gapless : (b : ℕ) (rest : List ℕ) → is_digit b ≡ true → gap_length false (b ∷ rest) ≡ 0
+digit_gapless b rest e =
+    let no_blank : is_blank b ≡ false = grind (arith, nat_tests) in
+    let no_dash : eqb b 45 ≡ false = grind (arith, nat_tests) in
+    rw (no_blank, no_dash) refl
+
+-- a word: a letter, and bytes that go on with it
+pub word_as : (k : TokenKind) (b : ℕ) (bs : List ℕ) → is_letter b ≡ true → front_length in_word bs ≡ length bs → kind_of (b ∷ bs) ≡ Some k → IsReadAs k (b ∷ bs)
+word_as k b bs letter e is = record {
+  some = omega arith;
+  gapless = λ r a. letter_gapless b (bs ++ r) letter;
+  whole = λ r a. rw letter (ap suc (front_apart in_word word_same word_ends bs r a e));
+  kind_is = is;
+}
+
+-- a run: a digit, and bytes that go on with it
+pub run_as : (k : TokenKind) (b : ℕ) (bs : List ℕ) → is_digit b ≡ true → front_length in_run bs ≡ length bs → kind_of (b ∷ bs) ≡ Some k → IsReadAs k (b ∷ bs)
+run_as k b bs digit e is =
+    let no_letter : is_letter b ≡ false = grind (arith, nat_tests) in
+    record {
+      some = omega arith;
+      gapless = λ r a. digit_gapless b (bs ++ r) digit;
+      whole = λ r a. rw (no_letter, digit) (ap suc (front_apart in_run run_same run_ends bs r a e));
+      kind_is = is;
+    }
+
+reserved_as : (w : Reserved) → IsReadAs (kind.Reserved w) (word_bytes w)
+reserved_as word.Module = word_as (kind.Reserved word.Module) _ _ refl refl (word_read word.Module)
+reserved_as word.Var = word_as (kind.Reserved word.Var) _ _ refl refl (word_read word.Var)
+reserved_as word.Ivar = word_as (kind.Reserved word.Ivar) _ _ refl refl (word_read word.Ivar)
+reserved_as word.Frozenvar = word_as (kind.Reserved word.Frozenvar) _ _ refl refl (word_read word.Frozenvar)
+reserved_as word.Define = word_as (kind.Reserved word.Define) _ _ refl refl (word_read word.Define)
+reserved_as word.Constants = word_as (kind.Reserved word.Constants) _ _ refl refl (word_read word.Constants)
+reserved_as word.Assign = word_as (kind.Reserved word.Assign) _ _ refl refl (word_read word.Assign)
+reserved_as word.Init = word_as (kind.Reserved word.Init) _ _ refl refl (word_read word.Init)
+reserved_as word.Trans = word_as (kind.Reserved word.Trans) _ _ refl refl (word_read word.Trans)
+reserved_as word.Invar = word_as (kind.Reserved word.Invar) _ _ refl refl (word_read word.Invar)
+reserved_as word.Invarspec = word_as (kind.Reserved word.Invarspec) _ _ refl refl (word_read word.Invarspec)
+reserved_as word.Name = word_as (kind.Reserved word.Name) _ _ refl refl (word_read word.Name)
+reserved_as word.True = word_as (kind.Reserved word.True) _ _ refl refl (word_read word.True)
+reserved_as word.False = word_as (kind.Reserved word.False) _ _ refl refl (word_read word.False)
+reserved_as word.Boolean = word_as (kind.Reserved word.Boolean) _ _ refl refl (word_read word.Boolean)
+reserved_as word.Word = word_as (kind.Reserved word.Word) _ _ refl refl (word_read word.Word)
+reserved_as word.Unsigned = word_as (kind.Reserved word.Unsigned) _ _ refl refl (word_read word.Unsigned)
+reserved_as word.Case = word_as (kind.Reserved word.Case) _ _ refl refl (word_read word.Case)
+reserved_as word.Esac = word_as (kind.Reserved word.Esac) _ _ refl refl (word_read word.Esac)
+reserved_as word.Next = word_as (kind.Reserved word.Next) _ _ refl refl (word_read word.Next)
+reserved_as word.Initial = word_as (kind.Reserved word.Initial) _ _ refl refl (word_read word.Initial)
+reserved_as word.Itself = word_as (kind.Reserved word.Itself) _ _ refl refl (word_read word.Itself)
+reserved_as word.Mod = word_as (kind.Reserved word.Mod) _ _ refl refl (word_read word.Mod)
+reserved_as word.Union = word_as (kind.Reserved word.Union) _ _ refl refl (word_read word.Union)
+reserved_as word.In = word_as (kind.Reserved word.In) _ _ refl refl (word_read word.In)
+reserved_as word.Xor = word_as (kind.Reserved word.Xor) _ _ refl refl (word_read word.Xor)
+reserved_as word.Xnor = word_as (kind.Reserved word.Xnor) _ _ refl refl (word_read word.Xnor)
+reserved_as word.Bool = word_as (kind.Reserved word.Bool) _ _ refl refl (word_read word.Bool)
+reserved_as word.Word1 = word_as (kind.Reserved word.Word1) _ _ refl refl (word_read word.Word1)
+reserved_as word.Toint = word_as (kind.Reserved word.Toint) _ _ refl refl (word_read word.Toint)
+reserved_as word.Uwconst = word_as (kind.Reserved word.Uwconst) _ _ refl refl (word_read word.Uwconst)
+reserved_as word.Extend = word_as (kind.Reserved word.Extend) _ _ refl refl (word_read word.Extend)
+reserved_as word.Resize = word_as (kind.Reserved word.Resize) _ _ refl refl (word_read word.Resize)
+reserved_as word.Count = word_as (kind.Reserved word.Count) _ _ refl refl (word_read word.Count)
+reserved_as word.Max = word_as (kind.Reserved word.Max) _ _ refl refl (word_read word.Max)
+reserved_as word.Min = word_as (kind.Reserved word.Min) _ _ refl refl (word_read word.Min)
+reserved_as word.Abs = word_as (kind.Reserved word.Abs) _ _ refl refl (word_read word.Abs)
+
+-- numbers
+abbrev pub digits_all : List ℕ → Bool
+digits_all [] = true
+digits_all (b ∷ bs) = is_digit b && digits_all bs
+
+abbrev pub value_from : ℕ → List ℕ → ℕ
+value_from n [] = n
+value_from n (b ∷ bs) = value_from (n * 10 + (b - 48)) bs
+
+own : IsNumeralModel (λ ds. digits_all ds ≡ true) (value_from 0)
+own = numerals_by_fold _ (search rules) value_from (search rules)
+
+digit_value : (b : ℕ) → is_digit b ≡ true → (digit_number b ≡ b - 48) × (nat_lt (digit_number b) 10 ≡ true)
+digit_value b e = let same : digit_number b ≡ b - 48 = rw e refl in (same, grind (arith, nat_tests, same))
+
+number_is : (bs : List ℕ) (n : ℕ) → digits_all bs ≡ true → number_after 10 n bs ≡ Some (value_from n bs)
+number_is [] n e = refl
+number_is (b ∷ bs) n e =
+    let h = and_parts (is_digit b) (digits_all bs) e in
+    let d = digit_value b h.0 in
+    rw (d.1, d.0) (number_is bs (n * 10 + (b - 48)) h.1)
+
+run_long : (bs : List ℕ) → digits_all bs ≡ true → front_length in_run bs ≡ length bs
+run_long [] e = refl
+run_long (b ∷ bs) e =
+    let h = and_parts (is_digit b) (digits_all bs) e in
+    let goes : is_run_byte b ≡ true = grind (arith, nat_tests, h.0) in
+    rw goes (ap suc (run_long bs h.1))
+
+small : (n : ℕ) → n < 2 ^ 62 → n < 2 ^ 64
+small n lt = omega (arith, lt)
+
+value_again : (n : ℕ) → n < 2 ^ 64 → digits_value 10 (decimal n) ≡ Some n
+value_again n lt = go (decimal n) (decimal_nonempty n lt) (number_is (decimal n) 0 (digits_decimal own n lt) ∙ ap Some (digits_value-decimal own n lt))
+  where
+    go : (ds : List ℕ) → 0 < length ds → number_after 10 0 ds ≡ Some n → digits_value 10 ds ≡ Some n
+    go [] some e = absurd (omega (arith, some))
+    go (d ∷ ds) some e = e
+
+number_again : (n : ℕ) → n < 2 ^ 62 → number_of (decimal n) ≡ Some n
+number_again n lt =
+    let below : nat_lt n (2 ^ 62) ≡ true = grind (arith, lt) in
+    rw (value_again n (small n lt), below) refl
+
+pub digit_kind : {A : Type 0} (l d : Bool) (x y z : A) → l ≡ false → d ≡ true → cond l x (cond d y z) ≡ y
+digit_kind l d x y z e f = rw (e, f) refl
+
+number_as : (n : ℕ) → n < 2 ^ 62 → IsReadAs (kind.Number n) (decimal n)
+number_as n lt = go (decimal n) (decimal_nonempty n (small n lt)) (digits_decimal own n (small n lt)) (number_again n lt)
+  where
+    go : (ds : List ℕ) → 0 < length ds → digits_all ds ≡ true → number_of ds ≡ Some n → IsReadAs (kind.Number n) ds
+    go [] some all is = absurd (omega (arith, some))
+    go (b ∷ bs) some all is =
+        let h = and_parts (is_digit b) (digits_all bs) all in
+        let no_letter : is_letter b ≡ false = grind (arith, nat_tests, h.0) in
+        run_as (kind.Number n) b bs h.0 (run_long bs h.1) (digit_kind (is_letter b) (is_digit b) (Some (word_kind (b ∷ bs))) (or_literal (number_of (b ∷ bs)) (b ∷ bs)) (option_map kind.Sign (sign_at b bs)) no_letter h.0 ∙ ap (λ o. or_literal o (b ∷ bs)) is)
+
+-- word literals
+unmarked : (bs rest : List ℕ) → digits_all bs ≡ true → front_length is_unmarked (bs ++ 95 ∷ rest) ≡ length bs
+unmarked [] rest e = refl
+unmarked (b ∷ bs) rest e =
+    let h = and_parts (is_digit b) (digits_all bs) e in
+    let free : eqb b 95 ≡ false = grind (arith, nat_tests, h.0) in
+    rw free (ap suc (unmarked bs rest h.1))
+
+bare_digits : (bs : List ℕ) → digits_all bs ≡ true → bare bs ≡ bs
+bare_digits [] e = refl
+bare_digits (b ∷ bs) e =
+    let h = and_parts (is_digit b) (digits_all bs) e in
+    let free : eqb b 95 ≡ false = grind (arith, nat_tests, h.0) in
+    rw free (ap (λ x. b ∷ x) (bare_digits bs h.1))
+
+run_marked : (bs rest : List ℕ) → digits_all bs ≡ true → digits_all rest ≡ true → front_length in_run (bs ++ 95 ∷ rest) ≡ length (bs ++ 95 ∷ rest)
+run_marked [] rest e f = ap suc (run_long rest f)
+run_marked (b ∷ bs) rest e f =
+    let h = and_parts (is_digit b) (digits_all bs) e in
+    let goes : is_run_byte b ≡ true = grind (arith, nat_tests, h.0) in
+    rw goes (ap suc (run_marked bs rest h.1 f))
+
+small_bits : (w : BitVector) → IsWord w → w.bits < 2 ^ 64
+small_bits w is = let up : 2 ^ w.width ≤ 2 ^ 64 = pow-le-pow_right {n = 2} (omega arith) is.1 in omega (arith, up, is.2)
+
+literal_again : (w : BitVector) → IsWord w → parted_word (decimal w.width ++ 95 ∷ decimal w.bits) 10 ≡ Some w
+literal_again w is =
+    let narrow : w.width < 2 ^ 64 = omega (arith, is.1) in
+    let bits = small_bits w is in
+    let ds = decimal w.width in
+    let es = decimal w.bits in
+    let at : front_length is_unmarked (ds ++ 95 ∷ es) ≡ length ds = unmarked ds es (digits_decimal own w.width narrow) in
+    ap (λ n. marked_word 10 (take n (ds ++ 95 ∷ es)) (drop n (ds ++ 95 ∷ es))) at
+    ∙ ap (λ x. marked_word 10 x (drop (length ds) (ds ++ 95 ∷ es))) (take_at ds (95 ∷ es) (length ds) refl)
+    ∙ ap (marked_word 10 ds) (drop_at ds (95 ∷ es) (length ds) refl)
+    ∙ ap (option_and_then (λ n. read_word n 10 (bare es))) (value_again w.width narrow)
+    ∙ ap (read_word w.width 10) (bare_digits es (digits_decimal own w.bits bits))
+    ∙ fits (value_again w.bits bits)
+  where
+    fits : digits_value 10 (decimal w.bits) ≡ Some w.bits → read_word w.width 10 (decimal w.bits) ≡ Some w
+    fits e =
+        let wide : (nat_le 1 w.width && nat_le w.width 64) ≡ true = grind (arith, nat_tests, is) in
+        let inside : nat_lt w.bits (2 ^ w.width) ≡ true = grind (arith, nat_tests, is) in
+        rw (wide, e, inside) refl
+
+literal_as : (w : BitVector) → IsWord w → IsReadAs (kind.Literal w) (literal_bytes w)
+literal_as w is =
+    let narrow : w.width < 2 ^ 64 = omega (arith, is.1) in
+    run_as (kind.Literal w) 48 (117 ∷ 100 ∷ (decimal w.width ++ 95 ∷ decimal w.bits)) refl
+    (ap (λ n. suc (suc n)) (run_marked (decimal w.width) (decimal w.bits) (digits_decimal own w.width narrow) (digits_decimal own w.bits (small_bits w is))))
+    (ap (λ o. option_map_literal o) (literal_again w is))
+  where
+    option_map_literal : Option BitVector → Option TokenKind
+    option_map_literal None = None
+    option_map_literal (Some v) = Some (kind.Literal v)
+
+word_length_is : {A : Type 0} (l : Bool) (x y : A) → l ≡ true → cond l x y ≡ x
+word_length_is l x y e = rw e refl
+
+-- what doesn't begin with a letter is no identifier
+no_name : (b : ℕ) (bs : List ℕ) → is_letter b ≡ false → kind_of (b ∷ bs) ≡ Some (kind.Ident (b ∷ bs)) → ⊥
+no_name b bs l e = go (is_letter b) (is_digit b) l e
+  where
+    by_sign : (o : Option Sign) → option_map kind.Sign o ≡ Some (kind.Ident (b ∷ bs)) → ⊥
+    by_sign None e = cc
+    by_sign (Some s) e = cc
+
+    by_literal : (o : Option BitVector) → option_map kind.Literal o ≡ Some (kind.Ident (b ∷ bs)) → ⊥
+    by_literal None e = cc
+    by_literal (Some w) e = cc
+
+    by_number : (o : Option ℕ) → or_literal o (b ∷ bs) ≡ Some (kind.Ident (b ∷ bs)) → ⊥
+    by_number None e = by_literal (literal_of (b ∷ bs)) e
+    by_number (Some n) e = cc
+
+    go : (l d : Bool) → l ≡ false → cond l (Some (word_kind (b ∷ bs))) (cond d (or_literal (number_of (b ∷ bs)) (b ∷ bs)) (option_map kind.Sign (sign_at b bs))) ≡ Some (kind.Ident (b ∷ bs)) → ⊥
+    go true d l e = cc
+    go false true l e = by_number (number_of (b ∷ bs)) e
+    go false false l e = by_sign (sign_at b bs) e
+
+none_some : (k : TokenKind) (o : Option TokenKind) → o ≡ None → o ≡ Some k → ⊥
+none_some k o e f = cc
+
+-- each token that can be printed is read as itself
+identifier_as : (n : List ℕ) → IsIdentifier n → IsReadAs (kind.Ident n) n
+identifier_as [] i = absurd (none_some (kind.Ident []) (kind_of []) refl i.read)
+identifier_as (b ∷ bs) i = by_letter (is_letter b) refl
+  where
+    by_letter : (l : Bool) → is_letter b ≡ l → IsReadAs (kind.Ident (b ∷ bs)) (b ∷ bs)
+    by_letter true e =
+        let whole : suc (front_length in_word bs) ≡ suc (length bs) = sym (word_length_is (is_letter b) (suc (front_length in_word bs)) _ e) ∙ i.whole in
+        word_as (kind.Ident (b ∷ bs)) b bs e (omega (arith, whole)) i.read
+    by_letter false e = absurd (no_name b bs e i.read)
+
+pub printed_as : (k : TokenKind) → IsPrintable k → IsReadAs k (spelled k)
+unfolding spelled
+printed_as (kind.Reserved w) p = reserved_as w
+printed_as kind.Refused p = absurd p
+printed_as (kind.Ident n) p = identifier_as n p
+printed_as (kind.Number n) p = number_as n p
+printed_as (kind.Literal w) p = literal_as w p
+printed_as (kind.Sign s) p = sign_as s

@@ -1,0 +1,178 @@
+// The lexer.
+ghost use Rattle.std.specs.Prelude.{◌≡◌, ℕ, ◌<◌, ◌≤◌, ◌≢◌, ◌^◌, [], List, Some, length, take, drop, false, IfOk, IfErr};
+ghost use Rattle.text_core.specs.declared.place.Refusal.{Refusal};
+ghost use Rattle.smv_text.specs.declared.token.Token.{Token};
+ghost use Rattle.smv_text.specs.declared.token.TokenKind.{TokenKind};
+ghost use Rattle.smv_text.specs.declared.token.Sign.{Sign};
+ghost use Rattle.smv_text.specs.declared.token.Reserved.{Reserved};
+ghost use Rattle.smv_text.specs.Bytes.{after, start, Reaches};
+ghost use Rattle.smv_text.specs.Signs.{sign_bytes};
+ghost use Rattle.smv_text.specs.Keywords.{word_bytes};
+ghost use Rattle.smv_text.specs.Words.{kind_of};
+ghost use Rattle.smv_lex.specs.Reading.{gap_length, Gives};
+ghost use Rattle.smv_lex.specs.Answer.{Reads, Stops, IsRefused, IsAnswered};
+ghost use Rattle.smv_lex.specs.Spelling.{joined};
+ghost use Rattle.smv_lex.specs.Printable.{ArePrintable, CanAllBePrinted};
+ghost use Rattle.smv_text.specs.Lexing.{kinds, LexesTo, IsLexRefusal, refusal_at, opened_by, most_brackets};
+
+use crate::brackets::{MOST_BRACKETS, opened_by};
+use crate::scan::{after, gap_length, kind_of, lexeme_length};
+use smv_text::{Token, Tokens};
+use std::alloc::{AllocFailed, Global};
+use text_core::{Kind, Place, Refusal};
+
+/// Why there are no tokens.
+#[derive(Debug, Drop)]
+pub enum LexEnd {
+    /// The text is refused.
+    Bad(Refusal),
+    /// Memory ran out.
+    NoMemory,
+}
+
+impl From<text_core::NoMemory> for LexEnd {
+    ghost use Rattle.std.specs.Prelude.{◌≡◌};
+    ghost use Rattle.smv_lex.specs.declared.lexing.LexEnd.TheVariants.{NoMemory};
+
+    ghost from_gives = { λ _ e. e ≡ NoMemory };
+
+    fn from(_: text_core::NoMemory) -> LexEnd {
+        LexEnd::NoMemory
+    }
+}
+
+impl<T: Drop> From<AllocFailed<T>> for LexEnd {
+    ghost use Rattle.std.specs.Prelude.{◌≡◌};
+    ghost use Rattle.smv_lex.specs.declared.lexing.LexEnd.TheVariants.{NoMemory};
+
+    ghost from_gives = { λ _ e. e ≡ NoMemory };
+
+    fn from(_: AllocFailed<T>) -> LexEnd {
+        LexEnd::NoMemory
+    }
+}
+
+/// The place of a text's first byte.
+const START: Place = Place {
+    line: 1,
+    column: 1,
+    offset: 0,
+};
+
+/// The refusal of this number at a place.
+fn refusal_at(number: u8, place: Place) -> Refusal
+    ensures { result ≡ refusal_at number place }
+{
+    Refusal {
+        kind: Kind::S(number),
+        place,
+    }
+}
+
+/// The place and the text behind the gap that a text begins with.
+fn skip_gap(place: Place, text: &[u8]) -> (Place, &[u8])
+    requires { Reaches place (length text.now) }
+    ensures place { result.0 ≡ after place (take (gap_length false text.now) text.now) }
+    ensures rest { result.1.now ≡ drop (gap_length false text.now) text.now }
+    ensures reaches { Reaches result.0 (length result.1.now) }
+{
+    let (gap, rest) = text.split_at(gap_length(text));
+    (after(place, gap), rest)
+}
+
+/// The token at the front of a text that isn't empty, where so many brackets stand open.
+fn read_token(alloc: Global, place: Place, opened: u32, text: &[u8]) -> Result<Token, LexEnd>
+    requires reaches { Reaches place (length text.now) }
+    requires opened { opened ≤ most_brackets }
+    requires more { text.now ≢ [] }
+    ensures next { Gives opened place text.now result }
+    ensures some { IfOk result (λ token. 0 < token.length) }
+    ensures within { IfOk result (λ token. token.length ≤ length text.now) }
+    ensures nested { IfOk result (λ token. opened_by opened token.kind ≤ most_brackets) }
+{
+    let size = lexeme_length(text);
+    if size == 0 {
+        return Err(LexEnd::Bad(refusal_at(2, place)));
+    }
+    let Some(kind) = kind_of(alloc, &text[..size])? else {
+        return Err(LexEnd::Bad(refusal_at(3, place)));
+    };
+    if opened_by(opened, &kind) > MOST_BRACKETS {
+        return Err(LexEnd::Bad(refusal_at(4, place)));
+    }
+    Ok(Token {
+        kind,
+        place,
+        length: size as u32,
+    })
+}
+
+/// The tokens of a text, or its refusal.
+fn tokens_of(alloc: Global, text: &[u8]) -> Result<Tokens, LexEnd>
+    requires { length text.now ≤ 2 ^ 31 }
+    ensures lexed { IfOk result (λ tokens. LexesTo text.now tokens.items) }
+    ensures end { IfOk result (λ tokens. tokens.end ≡ after start text.now) }
+    ensures refused { IfErr result (IsRefused text.now) }
+{
+    let mut tokens = Vec::new(alloc);
+    let mut rest = text;
+    let mut place = START;
+    let mut opened = 0;
+    'tokens: loop {
+        let (at, more) = skip_gap(place, rest);
+        if more.is_empty() {
+            return Ok(Tokens::of(tokens, at));
+        }
+        let token = read_token(alloc, at, opened, more)?;
+        let (lexeme, last) = more.split_at(token.length as usize);
+        opened = opened_by(opened, &token.kind);
+        tokens.push(token)?;
+        place = after(at, lexeme);
+        rest = last;
+    }
+}
+
+/// The tokens of a text of at most 2^31 bytes, each with its kind, place and length (NuSMV 2.6 User Manual, chapter 2). Else its
+/// first refusal: `S2` at a byte at which no token starts, `S3` at the first byte of a run that begins with a digit and spells
+/// neither a number nor a word literal, or `S4` at a bracket too many.
+pub fn lex(alloc: Global, text: &[u8]) -> Result<Tokens, LexEnd>
+    requires { length text.now ≤ 2 ^ 31 }
+    // The text lexes to the tokens.
+    ensures lexed { IfOk result (λ tokens. LexesTo text.now tokens.items) }
+    // Their list has the place of the text's end.
+    ensures end { IfOk result (λ tokens. tokens.end ≡ after start text.now) }
+    // There are no more tokens than bytes.
+    ensures few { IfOk result (λ tokens. length tokens.items ≤ length text.now) }
+    // What it lexes to is read, unless memory runs out.
+    ensures exact { (ts : List Token) → LexesTo text.now ts → Reads ts result }
+    // The refusal is that of the text.
+    ensures refused { IfErr result (IsRefused text.now) }
+    // What it is refused with is answered, unless memory runs out.
+    ensures stops { (why : Refusal) → IsLexRefusal text.now why → Stops why result }
+{
+    tokens_of(alloc, text)
+}
+
+/// Each text lexes to one list of tokens, or has one refusal.
+pub fn one_lexing()
+    // No text lexes to two lists of tokens.
+    ensures tokens { (text : List ℕ) (ts us : List Token) → LexesTo text ts → LexesTo text us → ts ≡ us }
+    // No text has two refusals.
+    ensures refusal { (text : List ℕ) (why other : Refusal) → IsLexRefusal text why → IsLexRefusal text other → why ≡ other }
+    // None has both tokens and a refusal.
+    ensures apart { (text : List ℕ) (ts : List Token) (why : Refusal) → LexesTo text ts → IsLexRefusal text why → ⊥ }
+    // Each has one or the other.
+    ensures total { (text : List ℕ) → IsAnswered text }
+{}
+
+/// The spellings of words and signs are read as what they spell.
+pub fn spellings_are_read()
+    ensures signs { (s : Sign) → kind_of (sign_bytes s) ≡ Some (TokenKind.Sign s) }
+    ensures words { (r : Reserved) → kind_of (word_bytes r) ≡ Some (TokenKind.Reserved r) }
+{}
+
+/// Tokens that are printed with single blanks between them are lexed again, and the tokens of a text can be printed.
+pub fn printed_is_lexed()
+    ensures again { (ks : List TokenKind) → ArePrintable 0 ks → (ts : List Token) × LexesTo (joined ks) ts × (kinds ts ≡ ks) }
+    ensures printable { (text : List ℕ) (ts : List Token) → LexesTo text ts → CanAllBePrinted 0 (kinds ts) }
+{}

@@ -1,0 +1,12 @@
+//! The lexer of SMV models: the tokens of a text, or its first refusal.
+#![tactic(auto)]
+
+mod brackets;
+mod lexing;
+mod numbers;
+mod scan;
+mod signs;
+mod words;
+
+pub use brackets::{MOST_BRACKETS, opened_by};
+pub use lexing::{LexEnd, lex, one_lexing, printed_is_lexed, spellings_are_read};

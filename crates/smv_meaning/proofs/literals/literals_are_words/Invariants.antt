@@ -1,8 +1,0 @@
-use Rattle.std.proofs.Common.{◌≡◌, drop, map}
-use Rattle.smv_meaning.specs.Literals.{words_fit}
-use Rattle.smv_meaning.specs.Checked.{all_trees}
-use Rattle.smv_meaning.specs.View.{instance_plain}
-use Rattle.smv_meaning.proofs.literals.literals_are_words.Given as goal
-
-abbrev pub invariant-loop-k : goal.invariant-loop-k
-invariant-loop-k l = all_trees words_fit (map instance_plain (drop l.k l.table)) ≡ all_trees words_fit (map instance_plain l.table)

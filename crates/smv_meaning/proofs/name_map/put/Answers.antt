@@ -1,5 +1,0 @@
-use Rattle.std.proofs.lemmas.Map.Text.{hash_map_updates_str}
-use Rattle.smv_meaning.proofs.name_map.put.Goals as goal
-
-pub returns-in-Ok : goal.returns-in-Ok
-returns-in-Ok g c = hash_map_updates_str c.args.name.now c.args.map.now c.insert.new.self _ c.in-Ok.ensures.updates

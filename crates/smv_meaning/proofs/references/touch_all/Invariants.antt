@@ -1,8 +1,0 @@
-use Rattle.std.proofs.Common.{◌≡◌, ◌++◌, drop, map}
-use Rattle.smv_meaning.specs.Formulas.{all_touched}
-use Rattle.smv_meaning.specs.View.{instance_plain, path_seen}
-use Rattle.smv_meaning.proofs.references.touch_all.Given as goal
-
-abbrev pub invariant-loop-k : goal.invariant-loop-k
-invariant-loop-k l =
-    l.row ++ all_touched (map instance_plain l.table) l.i (map path_seen (drop l.k l.paths)) ≡ l.fn.row ++ all_touched (map instance_plain l.table) l.i (map path_seen l.paths)

@@ -1,5 +1,0 @@
-use Rattle.std.proofs.Common.{length}
-use Rattle.smv_meaning.proofs.seen.+follows.Given as goal
-
-abbrev pub decreases-follows : goal.decreases-follows
-decreases-follows l = length l.text.now

@@ -1,5 +1,0 @@
-use Rattle.smv_meaning.proofs.Settling.{types_settle_law}
-use Rattle.smv_meaning.proofs.settled.types_settle.Goals as goal
-
-pub returns : goal.returns
-returns c = types_settle_law

@@ -1,0 +1,14 @@
+pub mod Cycles
+pub mod Agreeing
+pub mod Ranked
+pub mod Ordered
+pub mod Settling
+pub mod OrderLaws
+pub mod FirstCycle
+pub mod StandingBefore
+pub mod Typable
+pub mod Passing
+pub mod PartLaws
+pub mod FoundLaws
+pub mod CheckedLaws
+pub mod SafeExpressions

@@ -1,5 +1,0 @@
-use Rattle.smv_parse.proofs.Running.{takes_so}
-use Rattle.smv_parse.proofs.expression.expression.Goals as goal
-
-pub returns-clause-takes : goal.returns-clause-takes
-returns-clause-takes c = takes_so _ c.args.tokens.now c.read.result c.read.ensures.reads

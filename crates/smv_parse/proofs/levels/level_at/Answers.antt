@@ -1,5 +1,0 @@
-use Rattle.smv_parse.proofs.Ranked.{level_of_code}
-use Rattle.smv_parse.proofs.levels.level_at.Goals as goal
-
-pub returns : goal.returns
-returns c = level_of_code c.args.n c.requires _

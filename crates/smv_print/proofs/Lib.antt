@@ -1,0 +1,9 @@
+pub mod Spaces
+pub mod Parting
+pub mod Raised
+pub mod Again
+pub mod SourceAgain
+pub mod OneText
+pub mod Nesting
+pub mod NestingSources
+pub mod PrintedAgain

@@ -1,0 +1,7 @@
+//! The printed form of a model's tree.
+#![tactic(auto)]
+
+mod printing;
+mod spelling;
+
+pub use printing::{print, printed_is_read, printed_spells};

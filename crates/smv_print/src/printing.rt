@@ -1,0 +1,580 @@
+// The printed form of a model.
+ghost use Rattle.std.specs.Prelude.{◌≡◌, ◌++◌, ℕ, List, [], ◌∷◌, true, false, map, IfOk, OnOk, suc};
+ghost use Rattle.std.specs.List.{flat_map};
+ghost use Rattle.smv_text.specs.Tree.{Tree, PlainSource, trees_of, links_of, branches_of};
+ghost use Rattle.smv_text.specs.View.{plain, plain_link, plain_branch, plain_domain, plain_item, plain_definition, plain_assignment, plain_element, plain_module, plain_source};
+ghost use Rattle.smv_text.specs.Levels.{all_levels, joint_of, prefix_kind};
+ghost use Rattle.smv_print.specs.Ranks.{rank, chain_joint, tree_rank};
+ghost use Rattle.smv_text.specs.Sources.{section_word, SpellsSource};
+ghost use Rattle.smv_text.specs.Lexing.{kinds, LexesTo};
+ghost use Rattle.smv_text.specs.Grammar.{Spells};
+ghost use Rattle.smv_print.specs.Unplaced.{unplaced_source, SpellsSame, SpellsSameSource, IsReadAgain};
+ghost use Rattle.smv_text.specs.declared.token.Token.{Token};
+ghost use Rattle.text_core.specs.declared.place.Place.{Place};
+ghost use Rattle.smv_lex.specs.Spelling.{spaced, written};
+ghost use Rattle.smv_print.specs.Printing.{repeated, parted, ident, path_kinds, standing, tree_kinds, link_kinds, choice_kinds, case_kinds, argument_kinds, in_brackets, member_kinds, actual_kinds, domain_kinds, item_kinds, body_kinds, definition_kinds, target_kinds, assignment_kinds, spec_name_kinds, formula_kinds, element_kinds, parameter_name, parameter_kinds, rest_kinds, module_kinds, source_kinds, printed};
+
+use crate::spelling::{
+    put_first, put_function, put_ident, put_infix, put_int, put_literal, put_number, put_prefixes,
+    put_range, put_sign, put_wanted, put_word,
+};
+use smv_lex::printed_is_lexed;
+use smv_text::{
+    Assignment, Assignments, Branch, Definition, Definitions, Domain, Element, Elements, Expr,
+    Infix, Item, Items, Joint, Level, Link, Member, Members, Module, Parameters, Path, Prefix,
+    Reserved, Shape, Sign, Source, TokenKind, VarKind, When,
+};
+use std::alloc::Global;
+use text_core::{Name, Names, NoMemory, Text};
+
+// The place behind all levels.
+const TIGHTEST: u8 = 16;
+
+// Names with the sign between two, and also before the first where it is wanted there.
+fn put_names(out: &mut Text, sign: Sign, first: bool, names: &Names) -> Result<(), NoMemory>
+    ensures { OnOk result (out.new ≡ out.old ++ spaced (parted sign first (map ident names.now))) }
+{
+    let mut behind = first;
+    for i in 0..names.len() {
+        put_wanted(out, behind, sign)?;
+        put_ident(out, names.at(i))?;
+        behind = true;
+    }
+    Ok(())
+}
+
+fn put_path(out: &mut Text, path: &Path) -> Result<(), NoMemory>
+    ensures { OnOk result (out.new ≡ out.old ++ spaced (path_kinds path.now)) }
+{
+    if path.from_self {
+        put_word(out, Reserved::Itself)?;
+        put_names(out, Sign::Dot, true, &path.names)
+    } else {
+        put_names(out, Sign::Dot, false, &path.names)
+    }
+}
+
+// The place among all levels, from the loosest at 0.
+fn rank(level: Level) -> u8
+    ensures { result ≡ rank level }
+{
+    match level {
+        Level::Chain(joint) => joint_rank(joint),
+        Level::Choice => 2,
+        Level::Range => 8,
+        Level::Before(Prefix::Minus) => 12,
+        Level::Before(Prefix::Not) => 14,
+        Level::Selection => 15,
+    }
+}
+
+fn joint_rank(joint: Joint) -> u8
+    ensures { result ≡ rank (Level.Chain joint) }
+{
+    match joint {
+        Joint::Implications => 0,
+        Joint::Equivalences => 1,
+        Joint::Disjunctions => 3,
+        Joint::Conjunctions => 4,
+        Joint::Comparisons => 5,
+        Joint::Memberships => 6,
+        Joint::Unions => 7,
+        Joint::Shifts => 9,
+        Joint::Sums => 10,
+        Joint::Products => 11,
+        Joint::Concatenations => 13,
+    }
+}
+
+fn joint_of(op: Infix) -> Joint
+    ensures { result ≡ joint_of op }
+{
+    match op {
+        Infix::Implies => Joint::Implications,
+        Infix::Iff => Joint::Equivalences,
+        Infix::Or | Infix::Xor | Infix::Xnor => Joint::Disjunctions,
+        Infix::And => Joint::Conjunctions,
+        Infix::Equal
+        | Infix::Unequal
+        | Infix::Less
+        | Infix::Greater
+        | Infix::LessEq
+        | Infix::GreaterEq => Joint::Comparisons,
+        Infix::Member => Joint::Memberships,
+        Infix::Union => Joint::Unions,
+        Infix::ShiftLeft | Infix::ShiftRight => Joint::Shifts,
+        Infix::Plus | Infix::Minus => Joint::Sums,
+        Infix::Times | Infix::Divide | Infix::Mod => Joint::Products,
+        Infix::Concat => Joint::Concatenations,
+    }
+}
+
+fn chain_joint(links: &[Link]) -> Joint
+    ensures { result ≡ chain_joint (links_of (map plain_link links.now)) }
+{
+    match links {
+        [] => Joint::Implications,
+        [link, ..] => joint_of(link.op),
+    }
+}
+
+// The place of an expression's level among all levels.
+fn rank_of(expr: &Expr) -> u8
+    ensures { result ≡ tree_rank (plain expr.now) }
+{
+    match &expr.shape {
+        Shape::Prefix(prefix, _, _) => rank(Level::Before(*prefix)),
+        Shape::Chain(_, links) => rank(Level::Chain(chain_joint(links))),
+        Shape::Choice(_, _) => rank(Level::Choice),
+        Shape::Select(_, _, _) => rank(Level::Selection),
+        Shape::Range(_, _) => rank(Level::Range),
+        _ => TIGHTEST,
+    }
+}
+
+// An expression where a level of this place is wanted: bare if its own level is that one or a tighter one, else in brackets.
+#[cycle(put)]
+fn put_standing(out: &mut Text, floor: u8, expr: &Expr) -> Result<(), NoMemory>
+    ensures { OnOk result (out.new ≡ out.old ++ spaced (standing floor (plain expr.now) (tree_kinds (plain expr.now)))) }
+{
+    if floor <= rank_of(expr) {
+        put_expr(out, expr)
+    } else {
+        put_sign(out, Sign::Open)?;
+        put_expr(out, expr)?;
+        put_sign(out, Sign::Close)
+    }
+}
+
+// An expression without brackets around it.
+#[cycle(put)]
+fn put_expr(out: &mut Text, expr: &Expr) -> Result<(), NoMemory>
+    ensures { OnOk result (out.new ≡ out.old ++ spaced (tree_kinds (plain expr.now))) }
+{
+    match &expr.shape {
+        Shape::True => put_word(out, Reserved::True),
+        Shape::False => put_word(out, Reserved::False),
+        Shape::Number(n) => put_number(out, *n),
+        Shape::Literal(word) => put_literal(out, word),
+        Shape::Name(path) => put_path(out, path),
+        Shape::Prefix(prefix, count, operand) => put_prefixed(out, *prefix, *count, operand),
+        Shape::Chain(first, links) => {
+            let floor = rank(Level::Chain(chain_joint(links))) + 1;
+            put_standing(out, floor, first)?;
+            put_links(out, floor, links)
+        }
+        Shape::Choice(branches, last) => {
+            put_choices(out, branches)?;
+            put_standing(out, rank(Level::Choice) + 1, last)
+        }
+        Shape::Case(branches) => put_case(out, branches),
+        Shape::Select(operand, high, low) => {
+            put_standing(out, rank(Level::Selection), operand)?;
+            put_ends(out, *high, *low)
+        }
+        Shape::Call(function, arguments) => {
+            put_function(out, *function)?;
+            put_enclosed(out, Sign::Open, arguments, Sign::Close)
+        }
+        Shape::Next(operand) => put_next(out, operand),
+        Shape::Set(elements) => put_enclosed(out, Sign::OpenBrace, elements, Sign::CloseBrace),
+        Shape::Range(low, high) => put_range(out, *low, *high),
+    }
+}
+
+#[cycle(put)]
+fn put_prefixed(out: &mut Text, prefix: Prefix, count: u32, operand: &Expr) -> Result<(), NoMemory>
+    ensures { OnOk result (out.new ≡ out.old ++ spaced (repeated count (prefix_kind prefix) ++ standing (suc (rank (Level.Before prefix))) (plain operand.now) (tree_kinds (plain operand.now)))) }
+{
+    put_prefixes(out, prefix, count)?;
+    put_standing(out, rank(Level::Before(prefix)) + 1, operand)
+}
+
+// The ends of a bit selection, in their brackets.
+fn put_ends(out: &mut Text, high: u64, low: u64) -> Result<(), NoMemory>
+    ensures { OnOk result (out.new ≡ out.old ++ spaced (TokenKind.Sign Sign.OpenBracket ∷ TokenKind.Number high ∷ TokenKind.Sign Sign.Colon ∷ TokenKind.Number low ∷ TokenKind.Sign Sign.CloseBracket ∷ [])) }
+{
+    put_sign(out, Sign::OpenBracket)?;
+    put_number(out, high)?;
+    put_sign(out, Sign::Colon)?;
+    put_number(out, low)?;
+    put_sign(out, Sign::CloseBracket)
+}
+
+#[cycle(put)]
+fn put_next(out: &mut Text, operand: &Expr) -> Result<(), NoMemory>
+    ensures { OnOk result (out.new ≡ out.old ++ spaced (TokenKind.Reserved Reserved.Next ∷ in_brackets (tree_kinds (plain operand.now)))) }
+{
+    put_word(out, Reserved::Next)?;
+    put_sign(out, Sign::Open)?;
+    put_expr(out, operand)?;
+    put_sign(out, Sign::Close)
+}
+
+#[cycle(put)]
+fn put_links(out: &mut Text, floor: u8, links: &[Link]) -> Result<(), NoMemory>
+    ensures { OnOk result (out.new ≡ out.old ++ spaced (link_kinds floor (links_of (map plain_link links.now)))) }
+{
+    for link in links {
+        put_infix(out, link.op)?;
+        put_standing(out, floor, &link.operand)?;
+    }
+    Ok(())
+}
+
+// Conditions with their values, each behind its sign.
+#[cycle(put)]
+fn put_choices(out: &mut Text, branches: &[Branch]) -> Result<(), NoMemory>
+    ensures { OnOk result (out.new ≡ out.old ++ spaced (choice_kinds (branches_of (map plain_branch branches.now)))) }
+{
+    let floor = rank(Level::Choice) + 1;
+    for branch in branches {
+        put_standing(out, floor, &branch.when)?;
+        put_sign(out, Sign::Question)?;
+        put_standing(out, floor, &branch.value)?;
+        put_sign(out, Sign::Colon)?;
+    }
+    Ok(())
+}
+
+#[cycle(put)]
+fn put_case(out: &mut Text, branches: &[Branch]) -> Result<(), NoMemory>
+    ensures { OnOk result (out.new ≡ out.old ++ spaced (TokenKind.Reserved Reserved.Case ∷ (case_kinds (branches_of (map plain_branch branches.now)) ++ TokenKind.Reserved Reserved.Esac ∷ []))) }
+{
+    put_word(out, Reserved::Case)?;
+    put_branches(out, branches)?;
+    put_word(out, Reserved::Esac)
+}
+
+#[cycle(put)]
+fn put_branches(out: &mut Text, branches: &[Branch]) -> Result<(), NoMemory>
+    ensures { OnOk result (out.new ≡ out.old ++ spaced (case_kinds (branches_of (map plain_branch branches.now)))) }
+{
+    for branch in branches {
+        put_expr(out, &branch.when)?;
+        put_sign(out, Sign::Colon)?;
+        put_expr(out, &branch.value)?;
+        put_sign(out, Sign::Semicolon)?;
+    }
+    Ok(())
+}
+
+// Expressions between two signs.
+#[cycle(put)]
+fn put_enclosed(
+    out: &mut Text,
+    opening: Sign,
+    exprs: &[Expr],
+    closing: Sign,
+) -> Result<(), NoMemory>
+    ensures { OnOk result (out.new ≡ out.old ++ spaced (TokenKind.Sign opening ∷ (argument_kinds false (trees_of (map plain exprs.now)) ++ TokenKind.Sign closing ∷ []))) }
+{
+    put_sign(out, opening)?;
+    put_arguments(out, exprs)?;
+    put_sign(out, closing)
+}
+
+#[cycle(put)]
+fn put_arguments(out: &mut Text, exprs: &[Expr]) -> Result<(), NoMemory>
+    ensures { OnOk result (out.new ≡ out.old ++ spaced (argument_kinds false (trees_of (map plain exprs.now)))) }
+{
+    let mut behind = false;
+    for expr in exprs {
+        put_wanted(out, behind, Sign::Comma)?;
+        put_expr(out, expr)?;
+        behind = true;
+    }
+    Ok(())
+}
+
+fn put_member(out: &mut Text, member: &Member) -> Result<(), NoMemory>
+    ensures { OnOk result (out.new ≡ out.old ++ spaced (member_kinds member.now)) }
+{
+    match member {
+        Member::Symbol(name) => put_ident(out, name),
+        Member::Integer(n) => put_int(out, *n),
+    }
+}
+
+fn put_members(out: &mut Text, members: &Members) -> Result<(), NoMemory>
+    ensures { OnOk result (out.new ≡ out.old ++ spaced (parted Sign.Comma false (map member_kinds members.now))) }
+{
+    let mut behind = false;
+    for i in 0..members.len() {
+        put_wanted(out, behind, Sign::Comma)?;
+        put_member(out, members.at(i))?;
+        behind = true;
+    }
+    Ok(())
+}
+
+fn put_actuals(out: &mut Text, actuals: &[Expr]) -> Result<(), NoMemory>
+    ensures { OnOk result (out.new ≡ out.old ++ spaced (actual_kinds (trees_of (map plain actuals.now)))) }
+{
+    if actuals.is_empty() {
+        return Ok(());
+    }
+    put_enclosed(out, Sign::Open, actuals, Sign::Close)
+}
+
+fn put_width(out: &mut Text, width: u64) -> Result<(), NoMemory>
+    ensures { OnOk result (out.new ≡ out.old ++ spaced (TokenKind.Reserved Reserved.Word ∷ TokenKind.Sign Sign.OpenBracket ∷ TokenKind.Number width ∷ TokenKind.Sign Sign.CloseBracket ∷ [])) }
+{
+    put_word(out, Reserved::Word)?;
+    put_sign(out, Sign::OpenBracket)?;
+    put_number(out, width)?;
+    put_sign(out, Sign::CloseBracket)
+}
+
+fn put_domain(out: &mut Text, domain: &Domain) -> Result<(), NoMemory>
+    ensures { OnOk result (out.new ≡ out.old ++ spaced (domain_kinds (plain_domain domain.now))) }
+{
+    match domain {
+        Domain::Boolean => put_word(out, Reserved::Boolean),
+        Domain::Members(members) => {
+            put_sign(out, Sign::OpenBrace)?;
+            put_members(out, members)?;
+            put_sign(out, Sign::CloseBrace)
+        }
+        Domain::Between(low, high) => put_range(out, *low, *high),
+        Domain::Bits(width) => put_width(out, *width),
+        Domain::Instance(module, actuals) => {
+            put_ident(out, module)?;
+            put_actuals(out, actuals)
+        }
+    }
+}
+
+fn put_item(out: &mut Text, item: &Item) -> Result<(), NoMemory>
+    ensures { OnOk result (out.new ≡ out.old ++ spaced (item_kinds (plain_item item.now))) }
+{
+    put_ident(out, &item.name)?;
+    put_sign(out, Sign::Colon)?;
+    put_domain(out, &item.domain)?;
+    put_sign(out, Sign::Semicolon)
+}
+
+fn put_items(out: &mut Text, items: &Items) -> Result<(), NoMemory>
+    ensures { OnOk result (out.new ≡ out.old ++ spaced (flat_map item_kinds (map plain_item items.now))) }
+{
+    for i in 0..items.len() {
+        put_item(out, items.at(i))?;
+    }
+    Ok(())
+}
+
+// What is assigned, behind its sign.
+fn put_body(out: &mut Text, body: &Expr) -> Result<(), NoMemory>
+    ensures { OnOk result (out.new ≡ out.old ++ spaced (body_kinds (plain body.now))) }
+{
+    put_sign(out, Sign::Assign)?;
+    put_formula(out, body)
+}
+
+// An expression, and the sign that ends it.
+fn put_formula(out: &mut Text, expr: &Expr) -> Result<(), NoMemory>
+    ensures { OnOk result (out.new ≡ out.old ++ spaced (formula_kinds (plain expr.now))) }
+{
+    put_expr(out, expr)?;
+    put_sign(out, Sign::Semicolon)
+}
+
+fn put_definition(out: &mut Text, definition: &Definition) -> Result<(), NoMemory>
+    ensures { OnOk result (out.new ≡ out.old ++ spaced (definition_kinds (plain_definition definition.now))) }
+{
+    put_ident(out, &definition.name)?;
+    put_body(out, &definition.body)
+}
+
+fn put_definitions(out: &mut Text, definitions: &Definitions) -> Result<(), NoMemory>
+    ensures { OnOk result (out.new ≡ out.old ++ spaced (flat_map definition_kinds (map plain_definition definitions.now))) }
+{
+    for i in 0..definitions.len() {
+        put_definition(out, definitions.at(i))?;
+    }
+    Ok(())
+}
+
+// A path in brackets behind a word.
+fn put_moment(out: &mut Text, word: Reserved, path: &Path) -> Result<(), NoMemory>
+    ensures { OnOk result (out.new ≡ out.old ++ spaced (TokenKind.Reserved word ∷ in_brackets (path_kinds path.now))) }
+{
+    put_word(out, word)?;
+    put_sign(out, Sign::Open)?;
+    put_path(out, path)?;
+    put_sign(out, Sign::Close)
+}
+
+fn put_target(out: &mut Text, when: When, target: &Path) -> Result<(), NoMemory>
+    ensures { OnOk result (out.new ≡ out.old ++ spaced (target_kinds when target.now)) }
+{
+    match when {
+        When::Always => put_path(out, target),
+        When::First => put_moment(out, Reserved::Initial, target),
+        When::Following => put_moment(out, Reserved::Next, target),
+    }
+}
+
+fn put_assignment(out: &mut Text, assignment: &Assignment) -> Result<(), NoMemory>
+    ensures { OnOk result (out.new ≡ out.old ++ spaced (assignment_kinds (plain_assignment assignment.now))) }
+{
+    put_target(out, assignment.when, &assignment.target)?;
+    put_body(out, &assignment.body)
+}
+
+fn put_assignments(out: &mut Text, assignments: &Assignments) -> Result<(), NoMemory>
+    ensures { OnOk result (out.new ≡ out.old ++ spaced (flat_map assignment_kinds (map plain_assignment assignments.now))) }
+{
+    for i in 0..assignments.len() {
+        put_assignment(out, assignments.at(i))?;
+    }
+    Ok(())
+}
+
+fn section_word(kind: VarKind) -> Reserved
+    ensures { result ≡ section_word kind }
+{
+    match kind {
+        VarKind::State => Reserved::Var,
+        VarKind::Input => Reserved::Ivar,
+        VarKind::Frozen => Reserved::Frozenvar,
+    }
+}
+
+fn put_constants(out: &mut Text, names: &Names) -> Result<(), NoMemory>
+    ensures { OnOk result (out.new ≡ out.old ++ spaced (TokenKind.Reserved Reserved.Constants ∷ (parted Sign.Comma false (map ident names.now) ++ TokenKind.Sign Sign.Semicolon ∷ []))) }
+{
+    put_word(out, Reserved::Constants)?;
+    put_names(out, Sign::Comma, false, names)?;
+    put_sign(out, Sign::Semicolon)
+}
+
+// The name of an invariant, where it has one.
+fn put_spec_name(out: &mut Text, name: &Option<Name>) -> Result<(), NoMemory>
+    ensures { OnOk result (out.new ≡ out.old ++ spaced (spec_name_kinds name.now)) }
+{
+    match name {
+        None => Ok(()),
+        Some(name) => {
+            put_word(out, Reserved::Name)?;
+            put_ident(out, name)?;
+            put_sign(out, Sign::Assign)
+        }
+    }
+}
+
+fn put_section(out: &mut Text, word: Reserved, formula: &Expr) -> Result<(), NoMemory>
+    ensures { OnOk result (out.new ≡ out.old ++ spaced (TokenKind.Reserved word ∷ formula_kinds (plain formula.now))) }
+{
+    put_word(out, word)?;
+    put_formula(out, formula)
+}
+
+fn put_element(out: &mut Text, element: &Element) -> Result<(), NoMemory>
+    ensures { OnOk result (out.new ≡ out.old ++ spaced (element_kinds (plain_element element.now))) }
+{
+    match element {
+        Element::Vars(kind, items) => {
+            put_word(out, section_word(*kind))?;
+            put_items(out, items)
+        }
+        Element::Defines(definitions) => {
+            put_word(out, Reserved::Define)?;
+            put_definitions(out, definitions)
+        }
+        Element::Constants(names) => put_constants(out, names),
+        Element::Assigns(assignments) => {
+            put_word(out, Reserved::Assign)?;
+            put_assignments(out, assignments)
+        }
+        Element::Init(formula) => put_section(out, Reserved::Init, formula),
+        Element::Trans(formula) => put_section(out, Reserved::Trans, formula),
+        Element::Invar(formula) => put_section(out, Reserved::Invar, formula),
+        Element::Spec(name, formula) => {
+            put_word(out, Reserved::Invarspec)?;
+            put_spec_name(out, name)?;
+            put_formula(out, formula)
+        }
+    }
+}
+
+fn put_elements(out: &mut Text, elements: &Elements) -> Result<(), NoMemory>
+    ensures { OnOk result (out.new ≡ out.old ++ spaced (flat_map element_kinds (map plain_element elements.now))) }
+{
+    for i in 0..elements.len() {
+        put_element(out, elements.at(i))?;
+    }
+    Ok(())
+}
+
+fn put_parameter_names(out: &mut Text, parameters: &Parameters) -> Result<(), NoMemory>
+    ensures { OnOk result (out.new ≡ out.old ++ spaced (parted Sign.Comma false (map ident (map parameter_name parameters.now)))) }
+{
+    let mut behind = false;
+    for i in 0..parameters.len() {
+        put_wanted(out, behind, Sign::Comma)?;
+        put_ident(out, &parameters.at(i).name)?;
+        behind = true;
+    }
+    Ok(())
+}
+
+fn put_parameters(out: &mut Text, parameters: &Parameters) -> Result<(), NoMemory>
+    ensures { OnOk result (out.new ≡ out.old ++ spaced (parameter_kinds parameters.now)) }
+{
+    if parameters.len() == 0 {
+        return Ok(());
+    }
+    put_sign(out, Sign::Open)?;
+    put_parameter_names(out, parameters)?;
+    put_sign(out, Sign::Close)
+}
+
+// A module behind its first word.
+fn put_rest(out: &mut Text, declared: &Module) -> Result<(), NoMemory>
+    ensures { OnOk result (out.new ≡ out.old ++ spaced (rest_kinds (plain_module declared.now))) }
+{
+    put_ident(out, &declared.name)?;
+    put_parameters(out, &declared.parameters)?;
+    put_elements(out, &declared.elements)
+}
+
+// A module, with a blank before it where it stands behind another.
+fn put_module(out: &mut Text, behind: bool, declared: &Module) -> Result<(), NoMemory>
+    ensures { OnOk result (out.new ≡ out.old ++ written behind (module_kinds (plain_module declared.now))) }
+{
+    put_first(out, behind, Reserved::Module)?;
+    put_rest(out, declared)
+}
+
+/// Writes a model in one spelling: single blanks between the tokens and no line end, brackets only where the grammar needs
+/// them, every `;` that may stand, no brackets for an empty list of parameters, `word` without `unsigned`, and a word
+/// literal as `0ud`, its width, `_` and its decimal digits (NuSMV 2.6 User Manual, 2.2.3 and 2.3). The layout is our own.
+pub fn print(alloc: Global, source: &Source) -> Result<Text, NoMemory>
+    ensures { IfOk result (λ text. text ≡ printed (plain_source source.now)) }
+{
+    let mut out = Text::new(alloc);
+    let mut behind = false;
+    for i in 0..source.modules.len() {
+        put_module(&mut out, behind, source.modules.at(i))?;
+        behind = true;
+    }
+    Ok(out)
+}
+
+/// Tokens of the kinds that are printed spell the same again. Where some tokens spell an expression, all tokens of the
+/// kinds that are printed for it spell one that differs from it in places alone; so do those of a model, which may also
+/// differ in its counts of tokens. Models that differ in nothing else have one printed form.
+pub fn printed_spells()
+    ensures expressions { (levels : List Level) (t : Tree) (xs ys : List Token) → Spells levels t xs → kinds ys ≡ tree_kinds t → SpellsSame all_levels t ys }
+    ensures sources { (source : PlainSource) (end place : Place) (xs ys : List Token) → SpellsSource source end xs → kinds ys ≡ source_kinds source → SpellsSameSource source place ys }
+    ensures one_text { (source model : PlainSource) → unplaced_source source ≡ unplaced_source model → printed source ≡ printed model }
+{}
+
+/// What is printed for a model that a text spells is lexed and spelled again, as the same model but for its places and its
+/// counts of tokens.
+pub fn printed_is_read()
+    ensures { (source : PlainSource) (end : Place) (text : List ℕ) (xs : List Token) → LexesTo text xs → SpellsSource source end xs → IsReadAgain source (printed source) }
+{
+    printed_is_lexed();
+}

@@ -1,0 +1,3 @@
+pub mod FormulaLemmas
+pub mod ReferenceLemmas
+pub mod NumberLemmas

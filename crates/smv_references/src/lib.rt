@@ -1,0 +1,11 @@
+//! The definitions and actuals of a model, the paths of their bodies, and an order in which each stands after those to which it
+//! refers.
+#![tactic(auto)]
+
+mod formulas;
+mod paths;
+mod references;
+
+pub use formulas::{Formula, formulas_in, place};
+pub use paths::{paths_in, put_all_paths, put_paths};
+pub use references::{Ordering, formula_order};

@@ -1,0 +1,218 @@
+// To which definitions and actuals each refers, and an order in which each stands after these.
+ghost use Rattle.std.specs.Prelude.{◌≡◌, ◌<◌, ◌++◌, ◌∷◌, [], List, ℕ, map, length, IfOk, OnOk, position, slice_index_or, unwrap_or, flat_map};
+ghost use Rattle.digraph.specs.Ordering.{IsOrder};
+ghost use Rattle.smv_meaning.specs.Instances.{Instance as Specified};
+ghost use Rattle.smv_meaning.specs.Names.{look, local, steps_of};
+ghost use Rattle.smv_meaning.specs.Phases.{formula_here};
+ghost use Rattle.smv_meaning.specs.Formulas.{placed_formulas, formulas_of, number_in, number_or, references_of, reference_graph, touched_numbers, all_touched, instance_within};
+ghost use Rattle.smv_references.specs.FormulaOrders.{IsOrdering};
+ghost use Rattle.smv_text.specs.View.{plain};
+ghost use Rattle.smv_meaning.specs.Expressions.{paths_of};
+ghost use Rattle.smv_instances.specs.NameMap.{named_in};
+ghost use Rattle.smv_instances.specs.View.{instance_plain, local_plain};
+ghost use Rattle.smv_references.specs.View.{formula_plain, path_seen, key_of};
+
+use crate::formulas::Formula;
+use crate::paths::paths_in;
+use digraph::{Graph, Order, sort};
+use smv_instances::{Children, Known, Table, Target, child_in, put_first};
+use smv_text::{Expr, Path};
+use std::alloc::Global;
+use std::collections::HashMap;
+use text_core::{Items, Names, NoMemory};
+
+/// How the definitions and actuals of a model refer to one another.
+#[derive(Debug, Drop)]
+pub enum Ordering {
+    /// None reaches itself; in this order of their numbers each stands after those to which it refers.
+    Ordered(Items<usize>),
+    /// The number of the first one that reaches itself.
+    Cycle(usize),
+}
+
+/// The numbers of definitions and actuals by their instances and names.
+pub fn numbers_of<'a>(alloc: Global, formulas: &[Formula<'a>]) -> Result<Children<'a>, NoMemory>
+    ensures { IfOk result (λ m. (i : ℕ) (x : List ℕ) → named_in m i x ≡ number_in (map key_of formulas.now) (i, x)) }
+{
+    let mut numbers = HashMap::new(alloc);
+    for k in 0..formulas.len() {
+        let formula = &formulas[k];
+        put_first(&mut numbers, formula.instance, formula.name, k)?;
+    }
+    Ok(numbers)
+}
+
+fn number<'a>(numbers: &Children<'a>, i: usize, x: &[u8]) -> usize
+    ensures { result ≡ unwrap_or (named_in numbers.now i x.now) 0 }
+{
+    match child_in(numbers, i, x) {
+        None => 0,
+        Some(k) => k,
+    }
+}
+
+// Adds the number of a name that is a definition or an actual.
+fn note<'a>(
+    table: &Table<'a>,
+    numbers: &Children<'a>,
+    i: usize,
+    x: &[u8],
+    row: &mut Items<usize>,
+) -> Result<(), NoMemory>
+    requires { (i : ℕ) (x : List ℕ) → named_in numbers.now i x ≡ number_in (formulas_of (map instance_plain table.now)) (i, x) }
+    ensures { OnOk result (row.new ≡ row.old ++ map (number_or (formulas_of (map instance_plain table.now))) (formula_here i x.now (local (map instance_plain table.now) i x.now))) }
+{
+    match table.local(i, x) {
+        Known::Alias(_, _) => row.push(number(numbers, i, x))?,
+        Known::Formula(_, _) => row.push(number(numbers, i, x))?,
+        Known::Variable(_, _) => {}
+        Known::Inner => {}
+        Known::Nothing => {}
+    }
+    Ok(())
+}
+
+// The instance that a name leads to, where it leads to one.
+fn inner<'a>(table: &Table<'a>, i: usize, x: &'a [u8]) -> Option<usize>
+    ensures { result ≡ instance_within (look (map instance_plain table.now) (steps_of (map instance_plain table.now)) i x.now) }
+{
+    match table.found_name(i, x) {
+        Target::Within(c) => Some(c),
+        Target::Variable(_, _, _, _) => None,
+        Target::Body(_, _, _, _) => None,
+        Target::Symbol(_) => None,
+        Target::Cyclic => None,
+        Target::Missing => None,
+    }
+}
+
+// Adds the numbers of the definitions and actuals that a path goes through.
+#[tactic(auto, using(smv_meaning::proofs::Lists::front_is, smv_meaning::proofs::Lists::end_is, crate::proofs::ReferenceLemmas::touched_none, crate::proofs::ReferenceLemmas::touched_last, crate::proofs::ReferenceLemmas::touched_more))]
+fn touch<'a>(
+    table: &Table<'a>,
+    numbers: &Children<'a>,
+    i: usize,
+    names: &'a Names,
+    row: &mut Items<usize>,
+) -> Result<(), NoMemory>
+    requires { (i : ℕ) (x : List ℕ) → named_in numbers.now i x ≡ number_in (formulas_of (map instance_plain table.now)) (i, x) }
+    ensures { OnOk result (row.new ≡ row.old ++ touched_numbers (map instance_plain table.now) i names.now) }
+{
+    let mut at = i;
+    for k in 0..names.len() {
+        let x = names.at(k).bytes();
+        note(table, numbers, at, x, row)?;
+        match inner(table, at, x) {
+            None => return Ok(()),
+            Some(c) => at = c,
+        }
+    }
+    Ok(())
+}
+
+#[tactic(auto, using(crate::proofs::ReferenceLemmas::seen_front, crate::proofs::ReferenceLemmas::seen_end))]
+fn touch_all<'a>(
+    table: &Table<'a>,
+    numbers: &Children<'a>,
+    i: usize,
+    paths: &[&'a Path],
+    row: &mut Items<usize>,
+) -> Result<(), NoMemory>
+    requires { (i : ℕ) (x : List ℕ) → named_in numbers.now i x ≡ number_in (formulas_of (map instance_plain table.now)) (i, x) }
+    ensures { OnOk result (row.new ≡ row.old ++ all_touched (map instance_plain table.now) i (map path_seen paths.now)) }
+{
+    for k in 0..paths.len() {
+        touch(table, numbers, i, &paths[k].names, row)?;
+    }
+    Ok(())
+}
+
+fn alias_row<'a>(
+    alloc: Global,
+    table: &Table<'a>,
+    numbers: &Children<'a>,
+    j: usize,
+    path: &'a Path,
+) -> Result<Items<usize>, NoMemory>
+    requires { (i : ℕ) (x : List ℕ) → named_in numbers.now i x ≡ number_in (formulas_of (map instance_plain table.now)) (i, x) }
+    ensures { IfOk result (λ row. row ≡ touched_numbers (map instance_plain table.now) j path.now.names) }
+{
+    let mut row = Items::new(alloc);
+    touch(table, numbers, j, &path.names, &mut row)?;
+    Ok(row)
+}
+
+fn body_row<'a>(
+    alloc: Global,
+    table: &Table<'a>,
+    numbers: &Children<'a>,
+    j: usize,
+    e: &'a Expr,
+) -> Result<Items<usize>, NoMemory>
+    requires { (i : ℕ) (x : List ℕ) → named_in numbers.now i x ≡ number_in (formulas_of (map instance_plain table.now)) (i, x) }
+    ensures { IfOk result (λ row. row ≡ all_touched (map instance_plain table.now) j (paths_of (plain e.now) [])) }
+{
+    let paths = paths_in(alloc, e)?;
+    let mut row = Items::new(alloc);
+    touch_all(table, numbers, j, paths.as_slice(), &mut row)?;
+    Ok(row)
+}
+
+// The numbers of the definitions and actuals to which one refers.
+#[tactic(auto, using(crate::proofs::ReferenceLemmas::alias_row, crate::proofs::ReferenceLemmas::formula_row, crate::proofs::ReferenceLemmas::no_row))]
+fn row_of<'a>(
+    alloc: Global,
+    table: &Table<'a>,
+    numbers: &Children<'a>,
+    formula: &Formula<'a>,
+) -> Result<Items<usize>, NoMemory>
+    requires { (i : ℕ) (x : List ℕ) → named_in numbers.now i x ≡ number_in (formulas_of (map instance_plain table.now)) (i, x) }
+    ensures { IfOk result (λ row. row ≡ references_of (map instance_plain table.now) (key_of formula.now)) }
+{
+    match table.local(formula.instance, formula.name) {
+        Known::Alias(j, path) => Ok(alias_row(alloc, table, numbers, j, path)?),
+        Known::Formula(j, e) => Ok(body_row(alloc, table, numbers, j, e)?),
+        Known::Variable(_, _) => Ok(Items::new(alloc)),
+        Known::Inner => Ok(Items::new(alloc)),
+        Known::Nothing => Ok(Items::new(alloc)),
+    }
+}
+
+fn graph_of<'a>(
+    alloc: Global,
+    table: &Table<'a>,
+    formulas: &[Formula<'a>],
+) -> Result<Graph, NoMemory>
+    requires { map formula_plain formulas.now ≡ placed_formulas (map instance_plain table.now) }
+    ensures { IfOk result (λ g. g ≡ reference_graph (map instance_plain table.now)) }
+{
+    let numbers = numbers_of(alloc, formulas)?;
+    let mut graph = Items::new(alloc);
+    for k in 0..formulas.len() {
+        graph.push(row_of(alloc, table, &numbers, &formulas[k])?)?;
+    }
+    Ok(graph)
+}
+
+fn ordering_of(order: Order) -> Ordering
+    ensures { (t : List Specified) → IsOrder (reference_graph t) order → IsOrdering t result }
+{
+    match order {
+        Order::Sorted(order) => Ordering::Ordered(order),
+        Order::Returns(k) => Ordering::Cycle(k),
+    }
+}
+
+/// An order in which each definition and actual stands after those to which it refers, where none reaches itself, else the first
+/// one that does, in the order of their numbers.
+pub fn formula_order<'a>(
+    alloc: Global,
+    table: &Table<'a>,
+    formulas: &[Formula<'a>],
+) -> Result<Ordering, NoMemory>
+    requires { map formula_plain formulas.now ≡ placed_formulas (map instance_plain table.now) }
+    ensures { IfOk result (IsOrdering (map instance_plain table.now)) }
+{
+    let graph = graph_of(alloc, table, formulas)?;
+    Ok(ordering_of(sort(alloc, &graph)?))
+}

@@ -1,7 +1,0 @@
-use Rattle.std.proofs.Common.{sym, ap, ◌∙◌}
-use Rattle.smv_text.specs.Keywords.{keywords, look_up}
-use Rattle.smv_text.proofs.Keywords.{found_same_length}
-use Rattle.smv_text.proofs.words.keyword_of.Goals as goal
-
-pub returns : goal.returns
-returns c = c.look_up.ensures ∙ ap (look_up c.args.word.now) c.keywords_of.ensures ∙ sym (found_same_length c.args.word.now keywords)

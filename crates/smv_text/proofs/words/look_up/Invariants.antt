@@ -1,6 +1,0 @@
-use Rattle.std.proofs.Common.{◌≡◌, drop, map}
-use Rattle.smv_text.specs.Keywords.{look_up, row}
-use Rattle.smv_text.proofs.words.look_up.Given as goal
-
-abbrev pub invariant-loop-bytes : goal.invariant-loop-bytes
-invariant-loop-bytes l = look_up l.word (map row (drop l.bytes-index l.keywords)) ≡ look_up l.word (map row l.keywords)

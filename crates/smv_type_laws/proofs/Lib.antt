@@ -1,0 +1,4 @@
+pub mod Intervals
+pub mod OperatorLaws
+pub mod TypeLaws
+pub mod SafeLaws

@@ -1,0 +1,6 @@
+pub mod WidthLemmas
+pub mod FrontLemmas
+pub mod WidthLaw
+pub mod SourceWidths
+pub mod ModelWidths
+pub mod SpelledWidths

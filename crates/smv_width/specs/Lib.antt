@@ -1,0 +1,2 @@
+pub mod FlatWidth
+pub mod SourceWidth
