@@ -1,0 +1,158 @@
+// Lines made one by one.
+ghost use Rattle.std.specs.Prelude.{◌≡◌, IfOk};
+ghost use Rattle.btor_tree.specs.Fits.{sort_at, width_at};
+
+use crate::lines::has_word;
+use btor_print::print_btor;
+use btor_tree::{Args, Builder, GREATEST_ID, LineOp, Nodes};
+use case_text::{Fault, words};
+use std::alloc::Global;
+use text_core::{Name, NoMemory, Text};
+use word_core::WIDEST;
+
+fn copied_op(op: &LineOp) -> LineOp
+    ensures { result ≡ op.now }
+{
+    match op {
+        LineOp::Sort(width) => LineOp::Sort(*width),
+        LineOp::Input => LineOp::Input,
+        LineOp::State => LineOp::State,
+        LineOp::Constant(word) => LineOp::Constant(*word),
+        LineOp::One => LineOp::One,
+        LineOp::Zero => LineOp::Zero,
+        LineOp::Ones => LineOp::Ones,
+        LineOp::Init => LineOp::Init,
+        LineOp::Next => LineOp::Next,
+        LineOp::Bad => LineOp::Bad,
+        LineOp::Constraint => LineOp::Constraint,
+        LineOp::Output => LineOp::Output,
+        LineOp::Unary(op) => LineOp::Unary(*op),
+        LineOp::Binary(op) => LineOp::Binary(*op),
+        LineOp::Ite => LineOp::Ite,
+        LineOp::Slice(high, low) => LineOp::Slice(*high, *low),
+        LineOp::Uext(count) => LineOp::Uext(*count),
+        LineOp::Sext(count) => LineOp::Sext(*count),
+    }
+}
+
+fn copied_args(alloc: Global, args: &Args) -> Result<Args, NoMemory>
+    ensures { IfOk result (λ copy. copy ≡ args.now) }
+{
+    let mut copy = Args::new(alloc);
+    for i in 0..args.len() {
+        copy.push(*args.at(i))?;
+    }
+    Ok(copy)
+}
+
+fn copied_symbol(alloc: Global, symbol: &Option<Name>) -> Result<Option<Name>, NoMemory>
+    ensures { IfOk result (λ copy. copy ≡ symbol.now) }
+{
+    match symbol {
+        None => Ok(None),
+        Some(name) => Ok(Some(name.duplicate(alloc)?)),
+    }
+}
+
+/// The same lines, made one by one; their ids have to be 1, 2, 3 and so on.
+pub fn rebuilt(alloc: Global, nodes: &Nodes) -> Result<Builder, Fault>
+    ensures { IfOk result (λ builder. builder ≡ nodes.now) }
+{
+    let mut builder = Builder::new(alloc);
+    for i in 0..nodes.len() {
+        let line = nodes.at(i);
+        if line.id as usize != i + 1 {
+            return Err(Fault::Misread("ids that are not 1, 2, 3 and so on"));
+        }
+        let args = copied_args(alloc, &line.args)?;
+        let symbol = copied_symbol(alloc, &line.symbol)?;
+        builder.push(copied_op(&line.op), line.sort, args, symbol)?;
+    }
+    Ok(builder)
+}
+
+/// The lines made one by one, printed.
+pub fn printed_build(alloc: Global, nodes: &Nodes) -> Result<Text, Fault> {
+    let builder = rebuilt(alloc, nodes)?;
+    Ok(print_btor(alloc, &builder.done())?)
+}
+
+/// Where the sort line of a width is, counted from 0, and of how many lines, after it was asked for behind the lines.
+pub fn shown_sort(alloc: Global, nodes: &Nodes, row: &[u8]) -> Result<Text, Fault> {
+    let mut builder = rebuilt(alloc, nodes)?;
+    let row = words(alloc, row)?;
+    let [width] = row.as_slice() else {
+        return Err(Fault::Misread("a row of another length"))
+    };
+    let Ok(width) = width.parse::<u32>() else {
+        return Err(Fault::Misread("a width"))
+    };
+    if width < 1 || width > WIDEST || builder.len() >= GREATEST_ID as usize {
+        return Err(Fault::Misread("a width or a list that is too large"));
+    }
+    let place = builder.sort(width)?;
+    let mut out = Text::new(alloc);
+    out.put(b"place ")?;
+    out.put_unsigned(u128::from(place))?;
+    out.put(b" of ")?;
+    out.put_unsigned(builder.len() as u128)?;
+    Ok(out)
+}
+
+// The width of the word of the line at a place, or 0.
+fn width_at(nodes: &Nodes, i: usize) -> u32
+    ensures { result ≡ width_at nodes.now i }
+{
+    if i >= nodes.len() {
+        return 0;
+    }
+    let line = nodes.at(i);
+    if has_word(&line.op) {
+        sort_at(nodes, line.sort as usize)
+    } else {
+        0
+    }
+}
+
+// The width of the sort line at a place, or 0.
+fn sort_at(nodes: &Nodes, i: usize) -> u32
+    ensures { result ≡ sort_at nodes.now i }
+{
+    if i >= nodes.len() {
+        return 0;
+    }
+    match nodes.at(i).op {
+        LineOp::Sort(width) => width,
+        _ => 0,
+    }
+}
+
+/// The width and the sort line of each line that has a word.
+pub fn shown_widths(alloc: Global, nodes: &Nodes) -> Result<Text, Fault> {
+    let builder = rebuilt(alloc, nodes)?;
+    let mut out = Text::new(alloc);
+    for i in 0..nodes.len() {
+        if width_at(nodes, i) > 0 {
+            let Ok(place) = u32::try_from(i) else {
+                return Err(Fault::Misread("too many lines"))
+            };
+            put_width(
+                &mut out,
+                nodes.at(i).id,
+                builder.width_of(place),
+                builder.sort_of(place),
+            )?;
+        }
+    }
+    Ok(out)
+}
+
+// The width of a line's word, and the place of its sort line.
+fn put_width(out: &mut Text, id: u32, width: u32, sort: u32) -> Result<(), NoMemory> {
+    out.put_unsigned(u128::from(id))?;
+    out.put(b": width ")?;
+    out.put_unsigned(u128::from(width))?;
+    out.put(b", sort at ")?;
+    out.put_unsigned(u128::from(sort))?;
+    out.put(b"\n")
+}

@@ -1,0 +1,43 @@
+// Why a case has no answer.
+use std::alloc::{AllocError, AllocFailed};
+use text_core::NoMemory;
+
+/// Why a case has no answer.
+#[derive(Clone, Copy, Debug, PartialEq, Eq)]
+pub enum Fault {
+    /// Want of memory.
+    NoMemory,
+    /// What the case states can't be used, and why.
+    Misread(&'static str),
+}
+
+impl From<NoMemory> for Fault {
+    fn from(_end: NoMemory) -> Fault {
+        Fault::NoMemory
+    }
+}
+
+impl From<AllocError> for Fault {
+    fn from(_end: AllocError) -> Fault {
+        Fault::NoMemory
+    }
+}
+
+impl<T: Drop> From<AllocFailed<T>> for Fault {
+    fn from(_end: AllocFailed<T>) -> Fault {
+        Fault::NoMemory
+    }
+}
+
+impl From<&'static str> for Fault {
+    fn from(why: &'static str) -> Fault {
+        Fault::Misread(why)
+    }
+}
+
+/// A line of cases that can't be read, numbered from 1, and why.
+#[derive(Clone, Copy, Debug, PartialEq, Eq)]
+pub struct Unread {
+    pub line: usize,
+    pub fault: Fault,
+}

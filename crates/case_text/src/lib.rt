@@ -1,0 +1,12 @@
+//! Cases written as text: what a call is given and what it must answer. One case is a line `case TITLE` with lines of a key
+//! and what it says below; lines that begin with a mark are the bytes of the line above them.
+#![tactic(auto)]
+
+mod bytes;
+mod fault;
+mod piece;
+mod reading;
+
+pub use fault::{Fault, Unread};
+pub use piece::{Piece, given, has, number, words};
+pub use reading::{Case, Entry, read_cases};

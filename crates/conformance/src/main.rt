@@ -1,0 +1,39 @@
+//! Runs the cases of the files that its arguments name: each call of the program and of the libraries is made as the case
+//! states, and what comes is compared with what the case wants. It prints a line for each file, and for each case that differs
+//! what was wanted and what came.
+#![tactic(auto)]
+
+mod calling;
+mod compared;
+mod files;
+mod report;
+mod running;
+mod setting;
+mod tally;
+
+use case_text::Fault;
+use files::Files;
+use report::file_report;
+use std::env;
+use std::process::ExitCode;
+use text_core::{FileShelf, StreamSink, write_whole};
+
+fn main(rt: HostRuntime) -> ExitCode {
+    let mut files = Files::new(FileShelf::new(&rt));
+    let mut out = StreamSink::new(rt.stdout());
+    let Ok(args) = env::args(&rt) else {
+        return ExitCode::from(2);
+    };
+    let mut passed = true;
+    for name in args.skip(1) {
+        let (text, all) = match file_report(rt.alloc(), &mut files, name.as_str()) {
+            Ok(report) => report,
+            Err(_) => return ExitCode::from(2),
+        };
+        passed = passed && all;
+        if write_whole(&mut out, text.bytes()).is_err() {
+            return ExitCode::from(2);
+        }
+    }
+    ExitCode::from(if passed { 0 } else { 1 })
+}

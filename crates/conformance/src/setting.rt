@@ -1,0 +1,119 @@
+// What a run is given.
+use crate::files::Files;
+use case_text::{Case, Entry, Fault, number, words};
+use std::alloc::Global;
+use text_core::{FilePairs, MemorySink, Numbers, Shelf};
+
+// The room of a sink where the case states none.
+const ROOM: u64 = 1_048_576;
+
+/// What a run is given: its words, its files, and what fails.
+#[derive(Drop)]
+pub struct Setting {
+    pub words: Vec<String>,
+    pub files: FilePairs,
+    pub shelf_fails: Numbers,
+    pub out: Limits,
+    pub notes: Limits,
+}
+
+/// What a sink takes: its room, the most of a call, and the numbers of the calls that fail.
+#[derive(Drop)]
+pub struct Limits {
+    room: u64,
+    most: u64,
+    fails: Numbers,
+}
+
+impl Limits {
+    fn new(alloc: Global) -> Limits {
+        Limits {
+            room: ROOM,
+            most: ROOM,
+            fails: Numbers::new(alloc),
+        }
+    }
+
+    // Takes a line that states a limit, or answers that it states none.
+    fn take(&mut self, alloc: Global, says: &str) -> Result<bool, Fault> {
+        match says.split_once(' ') {
+            Some(("fails", rest)) => self.fails = numbers(alloc, rest)?,
+            Some(("most", rest)) => self.most = number(rest)?,
+            Some(("room", rest)) => self.room = number(rest)?,
+            _ => return Ok(false),
+        }
+        Ok(true)
+    }
+
+    /// The sink with these limits.
+    pub fn sink(self, alloc: Global) -> Result<MemorySink, Fault> {
+        let most = usize::try_from(self.most).unwrap_or(usize::MAX);
+        let room = usize::try_from(self.room).unwrap_or(usize::MAX);
+        if most == 0 {
+            return Err(Fault::Misread("a sink takes at least one byte in a call"));
+        }
+        Ok(MemorySink::new(alloc, room, most, self.fails)?)
+    }
+}
+
+impl Setting {
+    /// The setting that a case states.
+    pub fn of<F: Shelf + Drop>(
+        alloc: Global,
+        files: &mut Files<F>,
+        case: &Case,
+    ) -> Result<Setting, Fault> {
+        let mut setting = Setting {
+            words: Vec::new(alloc),
+            files: FilePairs::new(alloc),
+            shelf_fails: Numbers::new(alloc),
+            out: Limits::new(alloc),
+            notes: Limits::new(alloc),
+        };
+        for entry in &case.entries {
+            setting.take(alloc, files, entry)?;
+        }
+        Ok(setting)
+    }
+
+    // Takes a line, if it states something of the setting.
+    fn take<F: Shelf + Drop>(
+        &mut self,
+        alloc: Global,
+        files: &mut Files<F>,
+        entry: &Entry,
+    ) -> Result<(), Fault> {
+        match entry.key {
+            "run" | "sure" => self.words = strings(alloc, entry.says)?,
+            "file" => self.files.push(files.pair(alloc, entry)?)?,
+            "shelf" => {
+                let (_, rest) = entry.says.split_once("fails ").ok_or("calls that fail")?;
+                self.shelf_fails = numbers(alloc, rest)?;
+            }
+            "out" => {
+                self.out.take(alloc, entry.says)?;
+            }
+            "notes" => {
+                self.notes.take(alloc, entry.says)?;
+            }
+            _ => {}
+        }
+        Ok(())
+    }
+}
+
+fn strings(alloc: Global, says: &str) -> Result<Vec<String>, Fault> {
+    let mut strings = Vec::new(alloc);
+    for word in words(alloc, says.as_bytes())? {
+        strings.push(String::from_str(alloc, word)?)?;
+    }
+    Ok(strings)
+}
+
+fn numbers(alloc: Global, says: &str) -> Result<Numbers, Fault> {
+    let mut numbers = Numbers::new(alloc);
+    for word in words(alloc, says.as_bytes())? {
+        numbers.push(number(word)?)?;
+    }
+    Ok(numbers)
+}

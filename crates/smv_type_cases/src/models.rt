@@ -1,0 +1,48 @@
+// Models whose checks up to the types hold.
+ghost use Rattle.std.specs.Prelude.{IfOk};
+ghost use Rattle.smv_text.specs.View.{plain_source};
+ghost use Rattle.smv_meaning.specs.Instances.{instances_of};
+ghost use Rattle.smv_type_cases.specs.Asking.{IsTyped};
+
+use crate::shown::names_stop;
+use smv_instances::Table;
+use smv_model_types::{Types, types_checked};
+use smv_names::{
+    NamesEnd, cycles_checked, declarations_checked, modules_checked, paths_checked, sizes_checked,
+};
+use smv_references::formulas_in;
+use smv_text::Source;
+use smv_text_cases::Stop;
+use std::alloc::Global;
+
+/// The instances of a model and the types of its names.
+#[derive(Drop)]
+pub struct Typed<'a> {
+    pub table: Table<'a>,
+    pub types: Types<'a>,
+}
+
+/// Makes the checks of a model up to those of types.
+#[tactic(auto, using(crate::proofs::Passing::all_hold))]
+pub fn typed_model<'a>(alloc: Global, source: &'a Source) -> Result<Typed<'a>, NamesEnd>
+    ensures { IfOk result (IsTyped (instances_of (plain_source source.now))) }
+{
+    modules_checked(alloc, source)?;
+    declarations_checked(alloc, source)?;
+    let table = sizes_checked(alloc, source)?;
+    paths_checked(alloc, &table)?;
+    let formulas = formulas_in(alloc, &table)?;
+    let order = cycles_checked(alloc, &table, formulas.as_slice())?;
+    let types = types_checked(alloc, &table, formulas.as_slice(), &order)?;
+    Ok(Typed { table, types })
+}
+
+/// The same, where a failing check ends a call.
+pub fn model_of<'a>(alloc: Global, source: &'a Source) -> Result<Typed<'a>, Stop>
+    ensures { IfOk result (IsTyped (instances_of (plain_source source.now))) }
+{
+    match typed_model(alloc, source) {
+        Ok(model) => Ok(model),
+        Err(end) => Err(names_stop(end)),
+    }
+}
