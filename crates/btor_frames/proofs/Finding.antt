@@ -1,30 +1,17 @@
 -- What is found in the lines.
-use Rattle.std.proofs.Common.{◌≡◌, ℕ, zero, suc, ◌+◌, ◌<◌, ◌≤◌, Bool, true, false, cond, eqb, List, [], ◌∷◌, ◌++◌, length, take, get_or, set, Option, Some, None, refl, sym, ap, ◌∙◌, subst, arith, inl, inr}
+use Rattle.std.proofs.Common.{◌≡◌, ℕ, suc, ◌+◌, ◌<◌, ◌≤◌, Bool, true, false, cond, eqb, List, [], ◌∷◌, ◌++◌, length, take, get_or, set, Option, Some, None, refl, sym, ap, ◌∙◌, subst, arith, inl, inr}
 use Rattle.std.specs.Prelude.{slice_get}
 use Rattle.std.specs.Option.{option_or}
 use Rattle.std.proofs.lemmas.Bool.{eq-eqb, ne_eqb, cases_eq}
-use Rattle.std.proofs.lemmas.List.{append-nil, append_assoc, get_or-set_same, get_or-set_other, length-set, length-take-le, take_more, take_all}
+use Rattle.std.proofs.lemmas.List.{append-nil, get_or-set_same, get_or-set_other, length-set, length-take-le}
 use Rattle.btor_tree.specs.declared.args.Arg.{Arg}
 use Rattle.btor_tree.specs.declared.lines.Line.{Line}
 use Rattle.btor_tree.specs.declared.lines.LineOp.{LineOp}
 use Rattle.btor_tree.specs.Fits.{AreEarlier, IsWellFormed, operands, state_value, value_for, value_in}
 use Rattle.btor_tree.proofs.Grows.{slice_get_inside, take_push}
 use Rattle.btor_tree.proofs.Paths.{operands_append, state_value_append}
-use Rattle.btor_frames.specs.Tables.{Found, HoldsNone, HoldsValues, IsFoundIn, values_of, own_operands, noted}
+use Rattle.btor_frames.specs.Tables.{Found, IsFoundIn, values_of, own_operands, noted}
 use Rattle.btor_frames.specs.Steps.{value_kind}
-
-none_after : (values : List (Option Arg)) → ((s : ℕ) → get_or values s None ≡ None) → (s : ℕ) → get_or (values ++ None ∷ []) s None ≡ None
-none_after [] h zero = refl
-none_after [] h (suc s) = refl
-none_after (x ∷ xs) h zero = h 0
-none_after (x ∷ xs) h (suc s) = none_after xs (λ k. h (suc k)) s
-
-length_one_more : {X : Type 0} (xs : List X) (x : X) → length (xs ++ x ∷ []) ≡ length xs + 1
-length_one_more [] x = omega arith
-length_one_more (y ∷ xs) x = omega (arith, length_one_more xs x)
-
-pub none_push : (n : ℕ) (values : List (Option Arg)) → HoldsNone n values → HoldsNone (n + 1) (values ++ None ∷ [])
-none_push n values h = (omega (arith, h.0, length_one_more values None), none_after values h.1)
 
 pub earlier_more : (n m : ℕ) (args : List Arg) → n ≤ m → AreEarlier n args → AreEarlier m args
 earlier_more n m [] h e = tt
@@ -82,9 +69,6 @@ pub record HoldsSoFar (kind : LineOp → Bool) (lines : List Line) (i : ℕ) (va
   pub sized : length values ≡ length lines
   pub at : (s : ℕ) → get_or values s None ≡ state_value kind (take i lines) s
 
-pub values_begin : (kind : LineOp → Bool) (lines : List Line) (values : List (Option Arg)) (n : ℕ) → n ≡ length lines → HoldsNone n values → HoldsSoFar kind lines 0 values
-values_begin kind lines values n e h = record { sized = h.0 ∙ e; at = h.1 }
-
 pub values_step : (kind : LineOp → Bool) (lines : List Line) (i : ℕ) (l : Line) (values new : List (Option Arg)) → IsWellFormed lines → slice_get lines i ≡ Some l → HoldsSoFar kind lines i values → new ≡ after_line (kind l.op) values l.args → HoldsSoFar kind lines (i + 1) new
 values_step kind lines i l values new w g h e =
     record {
@@ -98,24 +82,9 @@ values_step kind lines i l values new w g h e =
           ∙ sym (ap (λ ls. state_value kind ls s) (take_next lines i l g));
     }
 
-pub values_done : (kind : LineOp → Bool) (lines : List Line) (i : ℕ) (values : List (Option Arg)) → length lines ≤ i → HoldsSoFar kind lines i values → HoldsValues kind lines values
-values_done kind lines i values h so =
-    record { sized = so.sized; at = λ s q. so.at s ∙ ap (λ ls. state_value kind ls s) (take_all i lines h) }
-
-pub found_long : (begun : Bool) (lines : List Line) (found : Found) → IsFoundIn lines found → length (values_of begun found) ≡ length lines
-found_long true lines found h = h.nexts.sized
-found_long false lines found h = h.inits.sized
-
 pub found_value : (begun : Bool) (lines : List Line) (found : Found) (i : ℕ) → IsFoundIn lines found → i < length lines → get_or (values_of begun found) i None ≡ state_value (value_kind begun) lines i
 found_value true lines found i h q = h.nexts.at i q
 found_value false lines found i h q = h.inits.at i q
-
--- one more argument of a list
-pub one_more_argument : (front more : List Arg) (i : ℕ) (x : Arg) → i < length more → x ≡ get_or more i x → (front ++ take i more) ++ x ∷ [] ≡ front ++ take (i + 1) more
-one_more_argument front more i x h e =
-    append_assoc front (take i more) (x ∷ [])
-    ∙ ap (λ y. front ++ (take i more ++ y ∷ [])) e
-    ∙ ap (λ ys. front ++ ys) (sym (take_more more i x h))
 
 -- the operands with those of one more line
 pub operands_step : (kind : LineOp → Bool) (lines : List Line) (i : ℕ) (l : Line) → slice_get lines i ≡ Some l → operands kind (take i lines) ++ own_operands kind l ≡ operands kind (take (i + 1) lines)

@@ -70,11 +70,6 @@ fits_more lines inputs free i x e here before k l h g =
           (subst (GivenFits (take i lines) l.sort l.op) (e ∙ handed_is lines inputs free i l at) fit)
     ]
 
--- a word that doesn't fit
-pub fits_here : (lines : List Line) (inputs free : List BitVector) (i : ℕ) (l : Line) (x : BitVector) → slice_get lines i ≡ Some l → x ≡ handed_at lines inputs free i → HandedFit lines inputs free → IfSome (slice_get lines i) (λ k. GivenFits (take i lines) k.sort k.op x)
-fits_here lines inputs free i l x g e h =
-    if_some (slice_get lines i) (λ k. GivenFits (take i lines) k.sort k.op x) l g (subst (GivenFits (take i lines) l.sort l.op) (sym (e ∙ handed_is lines inputs free i l g)) (h.fits i l g))
-
 -- all words fit, and there are as many as lines
 pub fits_whole : (lines : List Line) (inputs free : List BitVector) (i input state : ℕ) → length lines ≤ i → FitSoFar lines inputs free i input state → length inputs ≡ input → length free ≡ state → HandedFit lines inputs free
 fits_whole lines inputs free i input state h so a b =

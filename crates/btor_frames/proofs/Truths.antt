@@ -95,10 +95,3 @@ pub constraints_all : (lines : List Line) (found : List Arg) (i : ℕ) (inside r
 constraints_all lines found i inside row f h r a =
     subst (λ k. AllByRecursion (λ x. operand k x ≡ true_word) (operands is_constraint lines)) r
     (subst (AllByRecursion (λ x. operand inside x ≡ true_word)) (take_all i found h ∙ f) a)
-
--- a constraint that is false is one of all
-pub constraint_one : (lines : List Line) (found : List Arg) (i : ℕ) (a : Arg) (inside row : List BitVector) → found ≡ operands is_constraint lines → i < length found → a ≡ get_or found i a → inside ≡ row → ConstraintsHold lines row → operand inside a ≡ true_word
-constraint_one lines found i a inside row f h e r all =
-    all_at (λ x. operand inside x ≡ true_word) found i a h e
-    (subst (AllByRecursion (λ x. operand inside x ≡ true_word)) (sym f)
-    (subst (λ k. AllByRecursion (λ x. operand k x ≡ true_word) (operands is_constraint lines)) (sym r) all))

@@ -26,9 +26,6 @@ front_here (b ∷ bs) some s = parts_front b bs s
 pub first_is : (text rest front back : List ℕ) (n : ℕ) → parts rest ≡ parts text → ((rest ≡ []) → ⊥) → StartsPart rest → n ≡ part_length rest → front ≡ take n rest → back ≡ drop n rest → parts text ≡ front ∷ parts back
 first_is text rest front back n same some s e f g = let h = front_here rest some s in cc
 
-pub none_is : (text rest : List ℕ) → parts rest ≡ parts text → rest ≡ [] → parts text ≡ []
-none_is text rest same e = sym same ∙ ap parts e
-
 onto_split : (b : ℕ) (l rest : List ℕ) → onto_line b (split_line l rest) ≡ split_line (b ∷ l) rest
 onto_split b l [] = refl
 onto_split b l (c ∷ rest) = refl

@@ -34,10 +34,6 @@ at_none before ps e = ap (next_of before) e
 pub found_fits : (before : List Line) (sh : Shape) (ps : Parts) (l : Line) → shape_of ps ≡ Some sh → resolve before sh ≡ Ok l → Fits before l
 found_fits before sh ps l e f = subst (λ (r : Result Line Fault). IfOk r (λ k. Fits before k)) f (resolve_fits before sh ps (shape_from sh ps e))
 
--- what one line of the text does to the lines so far
-pub takes_along : (before after : List Line) (x y : Next) → x ≡ y → Takes x before after → Takes y before after
-takes_along before after x y e h = subst (λ z. Takes z before after) e h
-
 goes_on : (n : ℕ) (before after : List Line) (raw : List ℕ) (raws : Parts) (x : Next) → IsNext before (line_parts raw) x → Takes x before after
     → ((all : List Line) → Reads after raws all → Reads before (raw ∷ raws) all) × ((k : Fault) (at : ℕ) → Refuses (n + 1) after raws k at → Refuses n before (raw ∷ raws) k at)
 goes_on n before after raw raws nothing a e =

@@ -51,10 +51,6 @@ nowhere lines id low high b past =
       | inr more ↦ absurd (omega (arith, b.above k (omega arith) inside, same))
     ])
 
-pub all_between : (lines : List Line) (id high : ℕ) → length lines ≤ high → Between lines id 0 high
-all_between lines id high le =
-    record { below = λ k lt. absurd (omega (arith, lt)); above = λ k past inside. absurd (omega (arith, le, past, inside)) }
-
 pub go_up : (lines : List Line) (id low high middle : ℕ) (l : Line) → IsWellFormed lines → Between lines id low high → slice_get lines middle ≡ Some l → middle < length lines → l.id < id → Between lines id (middle + 1) high
 go_up lines id low high middle l w b e inside less =
     record {

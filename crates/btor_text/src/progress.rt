@@ -9,7 +9,7 @@ use std::marker::Model;
 use text_core::NoMemory;
 
 /// Whether a line is a state that has an init, and one that has a next.
-#[derive(Clone, Copy, PartialEq, Eq, Debug)]
+#[derive(Clone, Copy, PartialEq, Eq)]
 pub struct Mark {
     pub init: bool,
     pub next: bool,

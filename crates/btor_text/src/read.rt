@@ -26,7 +26,7 @@ pub enum BtorEnd {
 }
 
 /// Why a line isn't taken.
-#[derive(Debug, Drop)]
+#[derive(Drop)]
 pub enum LineEnd {
     Bad(Fault),
     NoMemory,

@@ -13,7 +13,7 @@ use btor_tree::{Arg, LineOp, Nodes, plain_arg};
 use word_core::{Binary, Unary, WIDEST};
 
 /// Why a line can't follow the lines before it.
-#[derive(Clone, Copy, PartialEq, Eq, Debug)]
+#[derive(Clone, Copy, PartialEq, Eq)]
 pub enum Fault {
     NoShape,
     NotSupported,
@@ -26,7 +26,7 @@ pub enum Fault {
 }
 
 /// The arguments of a line.
-#[derive(Clone, Copy, PartialEq, Eq, Debug)]
+#[derive(Clone, Copy, PartialEq, Eq)]
 pub enum Arguments {
     None,
     One(Arg),

@@ -13,7 +13,7 @@ use btor_tree::GREATEST_ID;
 use word_core::{Binary, Unary};
 
 /// A line by its id, or the bitwise not of its word.
-#[derive(Clone, Copy, PartialEq, Eq, Debug)]
+#[derive(Clone, Copy, PartialEq, Eq)]
 pub struct Operand {
     pub id: u32,
     pub negated: bool,

@@ -9,7 +9,7 @@ ghost use Rattle.btor_text.specs.Seen.{entry, look_up, seen_base, seen_word, tex
 use word_core::{Binary, Unary, Word, read_digits, unary};
 
 /// A line that has a sort and no arguments.
-#[derive(Clone, Copy, PartialEq, Eq, Debug)]
+#[derive(Clone, Copy, PartialEq, Eq)]
 pub enum Source {
     Input,
     State,
@@ -19,7 +19,7 @@ pub enum Source {
 }
 
 /// A constant by the base of its digits.
-#[derive(Clone, Copy, PartialEq, Eq, Debug)]
+#[derive(Clone, Copy, PartialEq, Eq)]
 pub enum Base {
     Binary,
     Decimal,
@@ -27,14 +27,14 @@ pub enum Base {
 }
 
 /// A line that gives a state its value.
-#[derive(Clone, Copy, PartialEq, Eq, Debug)]
+#[derive(Clone, Copy, PartialEq, Eq)]
 pub enum Binding {
     Init,
     Next,
 }
 
 /// A line that has one operand and no sort.
-#[derive(Clone, Copy, PartialEq, Eq, Debug)]
+#[derive(Clone, Copy, PartialEq, Eq)]
 pub enum Property {
     Bad,
     Constraint,
@@ -42,14 +42,14 @@ pub enum Property {
 }
 
 /// A line that has one operand and a number of new bits.
-#[derive(Clone, Copy, PartialEq, Eq, Debug)]
+#[derive(Clone, Copy, PartialEq, Eq)]
 pub enum Extension {
     Uext,
     Sext,
 }
 
 /// The word of a line, its second part.
-#[derive(Clone, Copy, PartialEq, Eq, Debug)]
+#[derive(Clone, Copy, PartialEq, Eq)]
 pub enum LineWord {
     Sort,
     Source(Source),

@@ -257,9 +257,6 @@ abbrev pub Reads : List Line → List BitVector → (ℕ → BitVector) → Type
 Reads lines row free = (i : ℕ) (l : Line) → slice_get lines i ≡ Some l → l.op ≡ Input → word_at row i ≡ free i
 
 module _ (lines : List Line) (w : IsWellFormed lines) where
-  whole_row : Given → List BitVector
-  whole_row given = row_upto lines given (length lines)
-
   pub whole_frame : (given : Given) → GivesWords lines given → IsFrame lines (row_upto lines given (length lines))
   whole_frame given g =
       subst (λ ls. IsFrame ls (row_upto lines given (length lines))) (take_all (length lines) lines (omega arith)) (frame_upto lines given w g (length lines) (omega arith))

@@ -89,6 +89,3 @@ pub next_there : (before : List Line) (ps : Parts) → IsNext before ps (next_of
 unfolding next_of
 next_there before [] = blank
 next_there before (p ∷ ps) = shaped_there before (p ∷ ps) (shape_of (p ∷ ps)) (λ e. cc) refl
-
-pub next_is : (before : List Line) (ps : Parts) (x : Next) → IsNext before ps x → next_of before ps ≡ x
-next_is before ps x h = one_next (next_there before ps) h refl

@@ -5,7 +5,7 @@ use std::alloc::Global;
 use text_core::{Items, NoMemory};
 
 /// An earlier line by its place, counted from 0, or the bitwise not of its word.
-#[derive(Clone, Copy, PartialEq, Eq, Debug)]
+#[derive(Clone, Copy, PartialEq, Eq)]
 pub struct Arg {
     pub line: u32,
     pub negated: bool,

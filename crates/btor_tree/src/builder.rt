@@ -15,7 +15,7 @@ use word_core::WIDEST;
 const WIDTHS: usize = WIDEST as usize;
 
 /// Lines with the ids 1, 2, 3 and so on, seen as the list of those made so far.
-#[derive(Debug, Drop)]
+#[derive(Drop)]
 pub struct Builder {
     nodes: Nodes,
     alloc: Global,

@@ -11,7 +11,7 @@ pub const GREATEST_ID: u32 = 2147483647;
 
 /// What a line does. `Sort` has the width of a bit vector, `Slice` the highest and the lowest bit that it keeps, `Uext` and
 /// `Sext` the number of new bits.
-#[derive(Debug, Drop)]
+#[derive(Drop)]
 pub enum LineOp {
     Sort(u32),
     Input,
@@ -35,7 +35,7 @@ pub enum LineOp {
 
 /// A line: its id, what it does, the place of its sort line (0 where its kind has no sort), its arguments, and its
 /// symbol where it ends in one.
-#[derive(Debug, Drop)]
+#[derive(Drop)]
 pub struct Line {
     pub id: u32,
     pub op: LineOp,

@@ -8,7 +8,7 @@ use std::marker::Model;
 use text_core::NoMemory;
 
 /// The lines in order of their ids.
-#[derive(Debug, Drop)]
+#[derive(Drop)]
 pub struct Nodes {
     items: Vec<Line>,
     inputs: u32,

@@ -1,7 +1,7 @@
 -- Lines and parts, front by front.
 use Rattle.std.proofs.Common.{◌≡◌, ◌+◌, ℕ, suc, Bool, true, false, eqb, List, [], ◌∷◌, ◌++◌, take, drop, refl, sym, ap, ◌∙◌, subst, add-one, inl, inr}
 use Rattle.std.proofs.lemmas.Bool.{cond-true, cond-false, cases_Bool}
-use Rattle.btor_witness.specs.Bytes.{is_blank, parts, ends_part, onto_part, part_length, line_length, onto_line, raw_lines, split_line, front_line, without_return}
+use Rattle.btor_witness.specs.Bytes.{is_blank, parts, onto_part, part_length, line_length, onto_line, raw_lines, split_line, front_line, without_return}
 
 front_step : (t : Bool) (b c : ℕ) (bs : List ℕ) (n : ℕ) → (t ≡ true → n ≡ 0) → (t ≡ false → parts (c ∷ bs) ≡ take n (c ∷ bs) ∷ parts (drop n (c ∷ bs)))
     → onto_part b t (parts (c ∷ bs)) ≡ take (suc n) (b ∷ (c ∷ bs)) ∷ parts (drop (suc n) (b ∷ (c ∷ bs)))
@@ -23,9 +23,6 @@ part_cut rest part last b more n e blank size p l =
     let front : parts rest ≡ take (part_length rest) rest ∷ parts (drop (part_length rest) rest) =
     subst (λ (x : List ℕ). parts x ≡ take (part_length x) x ∷ parts (drop (part_length x) x)) (sym e) (parts_front b more blank) in
     cc
-
-pub blank_cut : (rest : List ℕ) (b : ℕ) (more : List ℕ) → rest ≡ b ∷ more → is_blank b ≡ true → parts rest ≡ parts more
-blank_cut rest b more e blank = ap parts e ∙ cond-true (is_blank b) (parts more) (onto_part b (ends_part more) (parts more)) blank
 
 -- the first line of a text
 onto_split : (b : ℕ) (l rest : List ℕ) → onto_line b (split_line l rest) ≡ split_line (b ∷ l) rest

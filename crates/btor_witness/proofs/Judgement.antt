@@ -1,5 +1,5 @@
 -- The frames of a witness, judged one after the other.
-use Rattle.std.proofs.Common.{◌≡◌, ℕ, zero, suc, ◌+◌, ◌<◌, ◌≤◌, Bool, true, false, eqb, List, [], ◌∷◌, length, take, drop, map, get_or, Some, Result, Ok, Err, refl, sym, ap, ◌∙◌, subst, arith, inl, inr, add-one}
+use Rattle.std.proofs.Common.{◌≡◌, ℕ, zero, suc, ◌+◌, ◌<◌, Bool, true, false, eqb, List, [], ◌∷◌, length, take, drop, map, get_or, Some, Result, Ok, Err, refl, sym, ap, ◌∙◌, subst, arith, inl, inr, add-one}
 use Rattle.std.specs.Prelude.{IfOk}
 use Rattle.std.specs.List.{AllByRecursion}
 use Rattle.std.proofs.Math.Seq.{drop-cons}
@@ -8,7 +8,7 @@ use Rattle.std.proofs.lemmas.Option.{same_Some}
 use Rattle.text_core.specs.declared.errors.NoMemory.{NoMemory}
 use Rattle.text_core.specs.declared.verdict.Clause.{Clause}
 use Rattle.text_core.specs.declared.verdict.Verdict.{Verdict}
-use Rattle.text_core.specs.declared.verdict.Verdict.TheVariants.{Yes, No}
+use Rattle.text_core.specs.declared.verdict.Verdict.TheVariants.{No}
 use Rattle.word_core.specs.Words.{BitVector}
 use Rattle.btor_tree.specs.declared.lines.Line.{Line}
 use Rattle.btor_tree.specs.Fits.{IsWellFormed, count_of, is_input, is_state, state_value, width_at}
@@ -118,17 +118,6 @@ fails_here lines w i f room row last clause h e is so p fails =
     let more = map statement_of (drop (suc i) w.frames) in
     let fail : FailsFirst lines w.bad room.frames.begun (is_last more) (statement_of f) row clause = subst (λ b. FailsFirst lines w.bad room.frames.begun b (statement_of f) row clause) (is ∙ sym (last_is w.frames i h)) fails in
     so.goes (No i clause) (subst (λ ss. IsJudgedAfter lines w.bad i room.frames.begun room.frames.row ss (No i clause)) (sym (cut w.frames i f h e)) (row, p, inl (clause, fail, refl)))
-
-drop_none : (fs : List Frame) (i : ℕ) → length fs ≤ i → map statement_of (drop i fs) ≡ []
-drop_none [] zero h = refl
-drop_none [] (suc i) h = refl
-drop_none (f ∷ fs) zero h = absurd (omega (arith, h))
-drop_none (f ∷ fs) (suc i) h = drop_none fs i (omega (arith, h))
-
--- no frame is left
-pub passes_all : (lines : List Line) (w : Witness) (i : ℕ) (room : Room) → length w.frames ≤ i → SoFar lines w i room → IsJudged lines w Yes
-passes_all lines w i room h so =
-    so.goes Yes (subst (λ ss. IsJudgedAfter lines w.bad i room.frames.begun room.frames.row ss Yes) (sym (drop_none w.frames i h)) refl)
 
 pub not_both : (b : Bool) → b ≡ true → b ≡ false → ⊥
 not_both b t f = let e : true ≡ false = sym t ∙ f in absurd (cc)

@@ -1,5 +1,5 @@
 -- Where the lines of a kind stand, and their widths.
-use Rattle.std.proofs.Common.{◌≡◌, ℕ, zero, suc, ◌+◌, ◌<◌, ◌≤◌, Bool, true, false, cond, List, [], ◌∷◌, ◌++◌, length, take, map, get_or, Option, Some, refl, sym, ap, ◌∙◌, subst, arith, inl, inr}
+use Rattle.std.proofs.Common.{◌≡◌, ℕ, zero, suc, ◌+◌, ◌<◌, ◌≤◌, Bool, true, false, cond, List, [], ◌∷◌, ◌++◌, length, take, get_or, Option, Some, refl, sym, ap, ◌∙◌, subst, arith, inl, inr}
 use Rattle.std.specs.Prelude.{slice_get}
 use Rattle.std.specs.List.{AllByRecursion}
 use Rattle.std.proofs.lemmas.Bool.{cases_Bool, cond-true, cond-false}
@@ -16,7 +16,7 @@ use Rattle.btor_tree.proofs.Widths.{width_small}
 use Rattle.btor_witness.specs.declared.witness.Stated.{Stated}
 use Rattle.btor_witness.specs.Sizes.{widths_in, widths_of}
 use Rattle.btor_witness.specs.Printing.{IsBelow}
-use Rattle.btor_witness.specs.Room.{AreWidths, HoldsStated, IsWordThere, places_in, places_of, zero_of}
+use Rattle.btor_witness.specs.Room.{AreWidths, IsWordThere, places_in, places_of}
 use Rattle.btor_witness.proofs.Tables.{length_widths, all_at}
 
 abbrev one_where : Bool → ℕ
@@ -144,19 +144,6 @@ place_inside lines places k place e h at =
     let g : slice_get (places_of is_state lines) k ≡ Some place = ap (λ xs. slice_get xs k) (sym e) ∙ slice_get_read places (length places) k place refl h at in
     let q = state_place lines k place g in
     (g, slice_get_inside lines place q.0 q.1)
-
-zero_there : (widths : List ℕ) (k w : ℕ) → slice_get widths k ≡ Some w → word_at (map zero_of widths) k ≡ zero_of w
-zero_there [] k w g = absurd (omega (arith, slice_get_inside [] k w g))
-zero_there (v ∷ widths) zero w g = ap zero_of (same_Some v w g)
-zero_there (v ∷ widths) (suc k) w g = zero_there widths k w g
-
-length_zeros : (widths : List ℕ) → length (map zero_of widths) ≡ length widths
-length_zeros [] = refl
-length_zeros (w ∷ widths) = ap suc (length_zeros widths)
-
-pub zeros_hold : (widths : List ℕ) (words : List BitVector) → words ≡ map zero_of widths → HoldsStated widths [] words
-zeros_hold widths words e =
-    record { sized = ap length e ∙ length_zeros widths; by_index = λ k w g. ap (λ ws. word_at ws k) e ∙ zero_there widths k w g }
 
 pub word_there : (places : List ℕ) (row : List BitVector) (s : Stated) (place : ℕ) → slice_get places s.index ≡ Some place → word_at row place ≡ s.value → IsWordThere places row s
 word_there places row s place g e i h = ap (word_at row) (same_Some i place (sym h ∙ g)) ∙ e

@@ -20,7 +20,7 @@ pub const JUSTICE: Kind = Kind::X(7);
 pub const TOO_LONG: Kind = Kind::X(8);
 
 /// Why a line is not taken.
-#[derive(Debug, Drop)]
+#[derive(Drop)]
 pub enum LineEnd {
     Bad(Kind),
     NoMemory,

@@ -1,7 +1,7 @@
 // Where the reading of a witness stands.
 
 /// What comes next: the line `sat`, the property, the first heading, or what may follow a heading `#i` or `@i`.
-#[derive(Clone, Copy, Debug, PartialEq, Eq)]
+#[derive(Clone, Copy, PartialEq, Eq)]
 pub enum Phase {
     Start,
     Property,

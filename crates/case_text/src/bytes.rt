@@ -2,6 +2,7 @@
 use crate::fault::Fault;
 use crate::piece::{number, words};
 use std::alloc::Global;
+use text_core::Text;
 
 /// Adds what a marked line states: after `|` the text and a line end, after `~` the text, after `*` a count and a text that is
 /// repeated, after `%` two numbers and a text for each number between them, after `@` the same with a line end behind each, after
@@ -28,8 +29,16 @@ fn put_line(bytes: &mut Vec<u8>, text: &str) -> Result<(), Fault> {
     Ok(())
 }
 
+// The parts before and behind the first blank.
+fn parts<'a>(text: &'a str, wanted: &'static str) -> Result<(&'a str, &'a str), Fault> {
+    match text.split_once(' ') {
+        Some(parts) => Ok(parts),
+        None => Err(Fault::Misread(wanted)),
+    }
+}
+
 fn put_repeated(bytes: &mut Vec<u8>, text: &str) -> Result<(), Fault> {
-    let (count, piece) = text.split_once(' ').ok_or("a count and a text")?;
+    let (count, piece) = parts(text, "a count and a text")?;
     for _ in 0..number(count)? {
         bytes.extend_from_slice(piece.as_bytes())?;
     }
@@ -37,10 +46,22 @@ fn put_repeated(bytes: &mut Vec<u8>, text: &str) -> Result<(), Fault> {
 }
 
 fn put_numbered(alloc: Global, bytes: &mut Vec<u8>, text: &str, end: &[u8]) -> Result<(), Fault> {
-    let (first, rest) = text.split_once(' ').ok_or("two numbers and a text")?;
-    let (last, piece) = rest.split_once(' ').ok_or("two numbers and a text")?;
-    for i in number(first)?..=number(last)? {
-        put_with(alloc, bytes, piece, i)?;
+    let (first, rest) = parts(text, "two numbers and a text")?;
+    let (last, piece) = parts(rest, "two numbers and a text")?;
+    put_each(alloc, bytes, number(first)?, number(last)?, piece, end)
+}
+
+// The text and the end for each number from the first to the last.
+fn put_each(
+    alloc: Global,
+    bytes: &mut Vec<u8>,
+    first: u64,
+    last: u64,
+    text: &str,
+    end: &[u8],
+) -> Result<(), Fault> {
+    for i in first..=last {
+        put_with(alloc, bytes, text, i)?;
         bytes.extend_from_slice(end)?;
     }
     Ok(())
@@ -48,35 +69,55 @@ fn put_numbered(alloc: Global, bytes: &mut Vec<u8>, text: &str, end: &[u8]) -> R
 
 // The text with the number in place of `{i}`, and its neighbours in place of `{i-1}` and `{i+1}`.
 fn put_with(alloc: Global, bytes: &mut Vec<u8>, text: &str, i: u64) -> Result<(), Fault> {
-    for (k, part) in text.split("{i").enumerate() {
-        if k == 0 {
-            bytes.extend_from_slice(part.as_bytes())?;
-            continue;
-        }
-        let (shift, rest) = part.split_once('}').ok_or("an end of {i}")?;
-        let shown = shifted(shift, i)?;
-        let digits = format!(in alloc; "{shown}")?;
-        bytes.extend_from_slice(digits.as_bytes())?;
-        bytes.extend_from_slice(rest.as_bytes())?;
+    let mut parts = text.split("{i");
+    if let Some(front) = parts.next() {
+        bytes.extend_from_slice(front.as_bytes())?;
+    }
+    for part in parts {
+        put_shifted(alloc, bytes, part, i)?;
     }
     Ok(())
 }
 
+// What stands behind `{i`: the end of the number's mark, and the text after it.
+fn put_shifted(alloc: Global, bytes: &mut Vec<u8>, part: &str, i: u64) -> Result<(), Fault> {
+    let (shift, rest) = part.split_once('}').ok_or("an end of {i}")?;
+    put_digits(alloc, bytes, shifted(shift, i)?)?;
+    bytes.extend_from_slice(rest.as_bytes())?;
+    Ok(())
+}
+
+fn put_digits(alloc: Global, bytes: &mut Vec<u8>, n: u64) -> Result<(), Fault> {
+    let mut digits = Text::new(alloc);
+    digits.put_unsigned(u128::from(n))?;
+    bytes.extend_from_slice(digits.bytes())?;
+    Ok(())
+}
+
 fn shifted(shift: &str, i: u64) -> Result<u64, Fault> {
-    match shift {
-        "" => Ok(i),
-        "-1" => Ok(i.saturating_sub(1)),
-        "+1" => Ok(i.saturating_add(1)),
+    match shift.as_bytes() {
+        [] => Ok(i),
+        [b'-', b'1'] => Ok(i.saturating_sub(1)),
+        [b'+', b'1'] => Ok(i.saturating_add(1)),
         _ => Err(Fault::Misread("a number other than {i}, {i-1}, {i+1}")),
     }
 }
 
 fn put_hexadecimal(alloc: Global, bytes: &mut Vec<u8>, text: &str) -> Result<(), Fault> {
-    for word in words(alloc, text.as_bytes())? {
-        match u8::from_str_radix(word, 16) {
-            Ok(byte) => bytes.push(byte)?,
-            Err(_) => return Err(Fault::Misread("a byte in hexadecimal")),
-        }
+    let words = words(alloc, text.as_bytes())?;
+    put_bytes(bytes, words.as_slice())
+}
+
+fn put_bytes(bytes: &mut Vec<u8>, words: &[&str]) -> Result<(), Fault> {
+    for word in words {
+        bytes.push(byte_of(*word)?)?;
     }
     Ok(())
+}
+
+fn byte_of(word: &str) -> Result<u8, Fault> {
+    match u8::from_str_radix(word, 16) {
+        Ok(byte) => Ok(byte),
+        Err(_) => Err(Fault::Misread("a byte in hexadecimal")),
+    }
 }

@@ -3,7 +3,7 @@ use std::alloc::{AllocError, AllocFailed};
 use text_core::NoMemory;
 
 /// Why a case has no answer.
-#[derive(Clone, Copy, Debug, PartialEq, Eq)]
+#[derive(Clone, Copy)]
 pub enum Fault {
     /// Want of memory.
     NoMemory,
@@ -36,7 +36,7 @@ impl From<&'static str> for Fault {
 }
 
 /// A line of cases that can't be read, numbered from 1, and why.
-#[derive(Clone, Copy, Debug, PartialEq, Eq)]
+#[derive(Clone, Copy)]
 pub struct Unread {
     pub line: usize,
     pub fault: Fault,

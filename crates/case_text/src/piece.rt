@@ -3,7 +3,7 @@ use crate::fault::Fault;
 use std::alloc::Global;
 
 /// A named piece of what a case states, such as a model, a state or a row of a table.
-#[derive(Debug, Drop)]
+#[derive(Drop)]
 pub struct Piece {
     pub name: String,
     pub bytes: Vec<u8>,

@@ -4,7 +4,7 @@ use crate::fault::{Fault, Unread};
 use std::alloc::Global;
 
 /// A line of a case: its key, what it says, and the bytes that stand below it.
-#[derive(Debug, Drop)]
+#[derive(Drop)]
 pub struct Entry<'a> {
     pub key: &'a str,
     pub says: &'a str,
@@ -12,7 +12,7 @@ pub struct Entry<'a> {
 }
 
 /// A case: what it shows, and its lines.
-#[derive(Debug, Drop)]
+#[derive(Drop)]
 pub struct Case<'a> {
     pub title: &'a str,
     pub entries: Vec<Entry<'a>>,
@@ -57,26 +57,38 @@ fn take_marked<'a>(
     mark: u8,
     text: &str,
 ) -> Result<(), Fault> {
-    let case = cases.last_mut().ok_or("bytes before a case")?;
-    let entry = case
-        .entries
-        .last_mut()
-        .ok_or("bytes before a line that takes them")?;
-    put_marked(alloc, &mut entry.bytes, mark, text)
+    match cases.last_mut() {
+        Some(case) => match case.entries.last_mut() {
+            Some(entry) => put_marked(alloc, &mut entry.bytes, mark, text),
+            None => Err(Fault::Misread("bytes before a line that takes them")),
+        },
+        None => Err(Fault::Misread("bytes before a case")),
+    }
 }
 
 fn take_entry<'a>(alloc: Global, cases: &mut Vec<Case<'a>>, line: &'a str) -> Result<(), Fault> {
     let (key, says) = line.split_once(' ').unwrap_or((line, ""));
     if key == "case" {
-        let entries = Vec::new(alloc);
-        cases.push(Case {
-            title: says,
-            entries,
-        })?;
-        return Ok(());
+        begin_case(alloc, cases, says)
+    } else {
+        match cases.last_mut() {
+            Some(case) => add_entry(alloc, &mut case.entries, key, says),
+            None => Err(Fault::Misread("a line before a case")),
+        }
     }
-    let case = cases.last_mut().ok_or("a line before a case")?;
+}
+
+fn begin_case<'a>(alloc: Global, cases: &mut Vec<Case<'a>>, title: &'a str) -> Result<(), Fault> {
+    let entries = Vec::new(alloc);
+    Ok(cases.push(Case { title, entries })?)
+}
+
+fn add_entry<'a>(
+    alloc: Global,
+    entries: &mut Vec<Entry<'a>>,
+    key: &'a str,
+    says: &'a str,
+) -> Result<(), Fault> {
     let bytes = Vec::new(alloc);
-    case.entries.push(Entry { key, says, bytes })?;
-    Ok(())
+    Ok(entries.push(Entry { key, says, bytes })?)
 }

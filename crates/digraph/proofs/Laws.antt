@@ -1,6 +1,6 @@
 -- Steps of a search keep what is known of it.
 use Rattle.std.proofs.Common.{◌≡◌, ◌≢◌, ℕ, suc, ◌+◌, ◌-◌, ◌<◌, ◌≤◌, ◌⊎◌, Bool, true, false, ◌&&◌, ◌||◌, ◌==◌, nat_lt, List, [], ◌∷◌, ◌++◌, length, length-append, append_assoc, take, refl, sym, ap, subst, ◌∙◌, inl, inr, arith, rules}
-use Rattle.std.specs.Prelude.{slice_index_or, slice_set as set, sum_by}
+use Rattle.std.specs.Prelude.{slice_index_or, slice_set as set}
 use Rattle.std.specs.List.{list_all, list_any}
 use Rattle.std.proofs.lemmas.Bool.{or_cases}
 use Rattle.std.proofs.lemmas.Bool.Decides.{eqb_tells}
@@ -9,7 +9,7 @@ use Rattle.std.proofs.lemmas.List.Sums.{sum_by-set}
 use Rattle.digraph.specs.declared.mark.Mark.{Mark}
 use Rattle.digraph.specs.declared.mark.Mark.TheVariants.{New, Open, Done}
 use Rattle.digraph.specs.Graph.{NodeLists, next_of, is_graph, is_in, leads, falls_from}
-use Rattle.digraph.specs.Searching.{State, IsSearch, is_done, is_open, is_new, is_done_mark, is_open_mark, is_new_mark, is_path, fronts_done, opened, closed, turned, taken, mark_weight, weight, Keeps, SomeReturns, IsEnd, IsStep}
+use Rattle.digraph.specs.Searching.{State, IsSearch, is_done, is_open, is_new, is_done_mark, is_open_mark, is_new_mark, is_path, fronts_done, closed, turned, taken, mark_weight, weight, SomeReturns, IsEnd, IsStep}
 use Rattle.digraph.specs.declared.search.End.{End}
 use Rattle.digraph.specs.declared.search.Step.TheVariants.{Went}
 use Rattle.digraph.proofs.Lists.{and_left, and_right, and_both, or_left, or_right, same, same_back, all_more, all_end, all_front, all_last, all_at, in_end, in_front, in_cases, at_in, all_get}
@@ -232,14 +232,6 @@ turns g s ks k n next h e low d i l fresh =
     (λ j m. subst (λ (p : List ℕ). is_in p j ≡ true) e m)
     (set s.gone k n) (length-set s.gone k n ∙ h.counted) (low_kept g s k n h lk low) (fronts_kept g s s.marks k n h lk (λ j m. m) d)
 
--- a new root
-pub starts : (g : NodeLists) (s : State) (k : ℕ) → IsSearch g s → s.path ≡ [] → k < length g → is_new s.marks k ≡ true → IsSearch g (opened s k)
-starts g s k h e l fresh =
-    let there : IsSearch g (record s { marks = set s.marks k Open; path = [] ++ k ∷ []; gone = s.gone }) =
-    opens_node g s [] s.marks k h l fresh refl refl (λ j m. subst (λ (p : List ℕ). is_in p j ≡ true) e m) s.gone h.counted h.low h.fronts in
-    let P : List ℕ → Type 0 = λ p. IsSearch g (record s { marks = set s.marks k Open; path = p ++ k ∷ [] }) in
-    subst P (sym e) there
-
 -- an edge back to the path
 pub returns_back : (g : NodeLists) (s : State) (ks : List ℕ) (k next : ℕ) → IsSearch g s → s.path ≡ ks ++ k ∷ [] → is_in (next_of g k) next ≡ true → next < length g → is_open s.marks next ≡ true → SomeReturns g
 returns_back g s ks k next h e i l o =
@@ -309,11 +301,6 @@ next_within g k i x row h l r low e =
 
 next_in : (g : NodeLists) (k i x : ℕ) (row : List ℕ) → next_of g k ≡ row → i < length row → x ≡ slice_index_or row i x → is_in (next_of g k) x ≡ true
 next_in g k i x row r low e = subst (λ (xs : List ℕ). is_in xs x ≡ true) (sym r) (target_in row i x low e)
-
-pub next_there : (g : NodeLists) (s t : State) (end : End) (x : ℕ) (row : List ℕ) → is_graph g ≡ true → IsEnd g s t end → row ≡ slice_index_or g end.node row → end.edge ≢ length row → x ≡ slice_index_or row end.edge x → x < length g
-next_there g s t end x row h e r off is =
-    let same = row_is g end.node row e.there r in
-    next_within g end.node end.edge x row h e.there same (omega (arith, e.low, ap length same, off)) is
 
 pub returned_step : (g : NodeLists) (s t : State) (end : End) (x : ℕ) (row : List ℕ) → is_graph g ≡ true → IsSearch g s → IsEnd g s t end → row ≡ slice_index_or g end.node row → end.edge ≢ length row
     → x ≡ slice_index_or row end.edge x → is_open t.marks x ≡ true → SomeReturns g

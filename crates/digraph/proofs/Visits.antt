@@ -1,15 +1,15 @@
 -- What is known of a visit lasts, and what it comes to.
-use Rattle.std.proofs.Common.{◌≡◌, ◌≢◌, ℕ, zero, suc, ◌+◌, ◌-◌, ◌<◌, ◌≤◌, ◌⊎◌, Bool, true, false, not, ◌&&◌, ◌||◌, ◌==◌, nat_lt, List, [], ◌∷◌, ◌++◌, length, length-append, take, refl, sym, ap, subst, ◌∙◌, inl, inr, arith, zero-add, if◌then◌else◌}
+use Rattle.std.proofs.Common.{◌≡◌, ◌≢◌, ℕ, zero, suc, ◌+◌, ◌-◌, ◌<◌, ◌≤◌, Bool, true, false, not, ◌||◌, ◌==◌, nat_lt, List, [], ◌∷◌, ◌++◌, length, length-append, take, refl, sym, ap, subst, ◌∙◌, inl, inr, arith, zero-add, if◌then◌else◌}
 use Rattle.std.specs.Prelude.{slice_index_or, slice_set as set, sum_by}
 use Rattle.std.specs.List.{list_all, list_any}
 use Rattle.std.proofs.lemmas.Bool.{or_cases}
 use Rattle.std.proofs.lemmas.Bool.Decides.{eqb_tells}
-use Rattle.std.proofs.lemmas.List.{get_or-set_same, get_or-set_other, length-set, get_or_append_left}
+use Rattle.std.proofs.lemmas.List.{get_or-set_other, length-set, get_or_append_left}
 use Rattle.std.proofs.lemmas.List.Sums.{sum_by-set, sum_by-cons}
 use Rattle.std.proofs.lemmas.List.Folds.{list_all_more}
-use Rattle.digraph.specs.Graph.{NodeLists, next_of, is_graph, is_in, leads, IsFirstReturn}
-use Rattle.digraph.specs.Visiting.{Visited, one, IsVisit, Extends, IsSpread, Returning, added}
-use Rattle.digraph.proofs.Lists.{and_left, and_right, and_both, or_left, or_right, same, same_back, all_more, all_end, all_at, in_end, in_front, at_in, all_get, not_both, bool_cases, last_at}
+use Rattle.digraph.specs.Graph.{NodeLists, next_of, is_graph, is_in, leads}
+use Rattle.digraph.specs.Visiting.{Visited, one, IsVisit, Extends, IsSpread, added}
+use Rattle.digraph.proofs.Lists.{and_left, and_right, and_both, or_left, or_right, same, same_back, all_more, all_end, all_at, in_end, in_front, at_in, not_both, bool_cases, last_at}
 use Rattle.digraph.proofs.Laws.{any_in, one_edge, edge_more, ltb_lt, lt_ltb, row_is, read_is, target_in, target_within}
 
 -- ---- leading
@@ -194,10 +194,6 @@ pub returns_met : (g : NodeLists) (start p u n : ℕ) (v : Visited) → IsVisit 
 returns_met g start p u n v h l e i s =
     let there : leads g (p + 1) start u ≡ true = subst (λ (j : ℕ). leads g (p + 1) start j ≡ true) (sym e) (h.near p l) in
     as_long g (suc (p + 1)) n start start (omega (arith, l, s, queue_short g start v h)) (onward g (p + 1) start u start there i)
-
-pub met_within : (g : NodeLists) (start p u : ℕ) (v : Visited) → IsVisit g start v → p < length v.queue → u ≡ slice_index_or v.queue p 0 → u < length g
-met_within g start p u v h l e =
-    ltb_lt u (length g) (subst (λ (j : ℕ). nat_lt j (length g) ≡ true) (sym e) (all_get (λ k. nat_lt k (length g)) v.queue p 0 l h.within))
 
 -- what was done stays so as more is met
 pub first_stays : (g : NodeLists) (k : ℕ) (v w : Visited) → Extends v w → list_all (is_in v.queue) (next_of g k) ≡ true → list_all (is_in w.queue) (next_of g k) ≡ true

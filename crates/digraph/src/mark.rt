@@ -3,7 +3,7 @@ ghost use Rattle.std.specs.Prelude.{◌≡◌};
 ghost use Rattle.digraph.specs.Searching.{is_done_mark, is_new_mark, is_open_mark};
 
 /// What a search knows of a node.
-#[derive(Clone, Copy, Debug)]
+#[derive(Clone, Copy)]
 pub enum Mark {
     /// Not met yet.
     New,

@@ -12,7 +12,7 @@ use text_core::{Items, NoMemory};
 pub type Graph = Items<Items<usize>>;
 
 /// How the nodes of a graph stand to one another.
-#[derive(Debug, Drop)]
+#[derive(Drop)]
 pub enum Order {
     /// No node leads to itself, and in this order each stands after those to which it leads.
     Sorted(Items<usize>),

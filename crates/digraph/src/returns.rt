@@ -29,12 +29,8 @@ impl Visit {
         ensures visit { (g : NodeLists) (start : ℕ) → length g ≡ nodes → IfOk result (λ v. IsVisit g start v) }
         ensures empty { IfOk result (λ v. v.queue ≡ []) }
     {
-        let met = match vec![in alloc; false; nodes] {
-            Ok(met) => met,
-            Err(_) => return Err(NoMemory),
-        };
         Ok(Visit {
-            met,
+            met: vec![in alloc; false; nodes]?,
             queue: Vec::new(alloc),
         })
     }
@@ -60,10 +56,7 @@ impl Visit {
         if self.met[node] {
             return Ok(());
         }
-        match self.queue.push(node) {
-            Ok(()) => {}
-            Err(_) => return Err(NoMemory),
-        }
+        self.queue.push(node)?;
         self.met[node] = true;
         Ok(())
     }

@@ -68,17 +68,9 @@ impl Search {
     pub fn of(alloc: Global, nodes: usize) -> Result<Search, NoMemory>
         ensures { (g : NodeLists) → length g ≡ nodes → IfOk result (λ s. IsSearch g s × (s.path ≡ [])) }
     {
-        let marks = match vec![in alloc; Mark::New; nodes] {
-            Ok(marks) => marks,
-            Err(_) => return Err(NoMemory),
-        };
-        let gone = match vec![in alloc; 0; nodes] {
-            Ok(gone) => gone,
-            Err(_) => return Err(NoMemory),
-        };
         Ok(Search {
-            marks,
-            gone,
+            marks: vec![in alloc; Mark::New; nodes]?,
+            gone: vec![in alloc; 0; nodes]?,
             path: Vec::new(alloc),
             order: Items::new(alloc),
         })
@@ -103,10 +95,7 @@ impl Search {
         requires { node < length self.old.marks }
         ensures { OnOk result (self.new ≡ opened self.old node) }
     {
-        match self.path.push(node) {
-            Ok(()) => {}
-            Err(_) => return Err(NoMemory),
-        }
+        self.path.push(node)?;
         self.marks[node] = Mark::Open;
         Ok(())
     }
@@ -126,10 +115,7 @@ impl Search {
         requires { next < length self.old.marks }
         ensures { OnOk result (self.new ≡ turned self.old node next) }
     {
-        match self.path.push(node) {
-            Ok(()) => {}
-            Err(_) => return Err(NoMemory),
-        }
+        self.path.push(node)?;
         self.open(next)
     }
 

@@ -5,6 +5,7 @@ use crate::sizes::{checked_text, sizes_text};
 use crate::widths::{formula_text, interval_text, width_text};
 use case_text::{Fault, Piece, given, has, number};
 use flat_agreement::{agreement_text, truths_text};
+use smv_text::Source;
 use std::alloc::Global;
 use text_core::Text;
 
@@ -63,15 +64,19 @@ fn of_row(alloc: Global, name: &str, pieces: &[Piece]) -> Result<Text, End> {
 
 fn of_model(alloc: Global, name: &str, model: &[u8], wanted: u32) -> Result<Text, End> {
     let source = source_of(alloc, model)?;
-    if name == "checked" {
-        return checked_text(alloc, &source, wanted);
+    match name {
+        "checked" => checked_text(alloc, &source, wanted),
+        _ => of_flat(alloc, name, &source, wanted),
     }
-    let flat = flat_of(alloc, &source, wanted)?;
+}
+
+fn of_flat(alloc: Global, name: &str, source: &Source, wanted: u32) -> Result<Text, End> {
+    let flat = flat_of(alloc, source, wanted)?;
     match name {
         "form" => Ok(form_text(alloc, &flat)?),
         "sizes" => Ok(sizes_text(alloc, &flat)?),
         "truths" => Ok(truths_text(alloc, &flat)?),
-        "agreement" => Ok(agreement_text(alloc, &source, &flat)?),
+        "agreement" => Ok(agreement_text(alloc, source, &flat)?),
         _ => Err(End::Fault(Fault::Misread("no call of `flat`"))),
     }
 }

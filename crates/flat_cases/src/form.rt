@@ -12,18 +12,22 @@ use text_core::{Names, NoMemory, Text};
 /// The items with their numbers, paths and types, the symbols, the formulas over the items' numbers, and the sizes.
 pub(crate) fn form_text(alloc: Global, flat: &Flat) -> Result<Text, NoMemory> {
     let mut out = Text::new(alloc);
-    for k in 0..flat.items().len() {
-        put_item(&mut out, k, flat.items().at(k))?;
-    }
-    put_symbols(&mut out, flat.symbols())?;
-    for n in 0..flat.formulas().len() {
-        put_formula(&mut out, flat.symbols(), flat.formulas().at(n))?;
-    }
-    put_size(&mut out, b"width ", u64::from(flat.width()))?;
-    put_size(&mut out, b", weight ", u64::from(flat.weight()))?;
-    put_size(&mut out, b", invariants ", u64::from(flat.invariants()))?;
-    out.put(b"\n")?;
+    put_form(&mut out, flat)?;
     Ok(out)
+}
+
+fn put_form(out: &mut Text, flat: &Flat) -> Result<(), NoMemory> {
+    for k in 0..flat.items().len() {
+        put_item(out, k, flat.items().at(k))?;
+    }
+    put_symbols(out, flat.symbols())?;
+    for n in 0..flat.formulas().len() {
+        put_formula(out, flat.symbols(), flat.formulas().at(n))?;
+    }
+    put_size(out, b"width ", u64::from(flat.width()))?;
+    put_size(out, b", weight ", u64::from(flat.weight()))?;
+    put_size(out, b", invariants ", u64::from(flat.invariants()))?;
+    out.put(b"\n")
 }
 
 // `1: #2 VAR north.color : symbol {red, green, yellow}`

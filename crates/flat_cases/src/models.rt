@@ -6,13 +6,13 @@ use smv_names::NamesEnd;
 use smv_parse::{ParseEnd, parse};
 use smv_text::Source;
 use std::alloc::Global;
-use text_core::{Kind, NoMemory, Refusal, Text};
+use text_core::{Kind, NoMemory, Place, Refusal, Text};
 
 // The length of the longest text that can be lexed.
 const LONGEST: usize = 1 << 31;
 
 /// Why there is no flat form.
-#[derive(Clone, Copy, Debug)]
+#[derive(Clone, Copy)]
 pub(crate) enum End {
     /// The model is refused.
     Refused(Refusal),
@@ -87,11 +87,15 @@ pub(crate) fn refusal_text(alloc: Global, why: Refusal) -> Result<Text, Fault> {
         return Err(Fault::Misread("a refusal of what is no model"));
     };
     let mut out = Text::new(alloc);
+    put_refusal(&mut out, kind, why.place)?;
+    Ok(out)
+}
+
+fn put_refusal(out: &mut Text, kind: u8, place: Place) -> Result<(), NoMemory> {
     out.put(b"S")?;
     out.put_unsigned(u128::from(kind))?;
     out.put(b" at ")?;
-    out.put_unsigned(u128::from(why.place.line))?;
+    out.put_unsigned(u128::from(place.line))?;
     out.put(b":")?;
-    out.put_unsigned(u128::from(why.place.column))?;
-    Ok(out)
+    out.put_unsigned(u128::from(place.column))
 }

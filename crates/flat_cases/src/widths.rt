@@ -10,7 +10,7 @@ use smv_items::{FlatItem, ItemKind};
 use smv_text::Members;
 use smv_width::width_of;
 use std::alloc::Global;
-use text_core::{Name, Text};
+use text_core::{Name, NoMemory, Text};
 
 /// The flat form of an expression that stands behind these declarations.
 pub(crate) fn formula_text(
@@ -19,7 +19,11 @@ pub(crate) fn formula_text(
     expression: &[u8],
 ) -> Result<Text, End> {
     let flat = defining(alloc, declarations, expression)?;
-    let formula = last_body(&flat).ok_or(Fault::Misread("no definition"))?;
+    Ok(body_text(alloc, &flat)?)
+}
+
+fn body_text(alloc: Global, flat: &Flat) -> Result<Text, Fault> {
+    let formula = last_body(flat).ok_or(Fault::Misread("no definition"))?;
     let mut out = Text::new(alloc);
     put_expression(&mut out, flat.symbols(), &formula.body)?;
     Ok(out)
@@ -31,21 +35,33 @@ pub(crate) fn width_text(
     declarations: &[u8],
     expression: &[u8],
 ) -> Result<Text, End> {
-    let flat = defining(alloc, declarations, expression)?;
+    let width = defining(alloc, declarations, expression)?.width();
+    Ok(number_text(alloc, width)?)
+}
+
+fn number_text(alloc: Global, number: u32) -> Result<Text, NoMemory> {
     let mut out = Text::new(alloc);
-    put_size(&mut out, b"", u64::from(flat.width()))?;
+    put_size(&mut out, b"", u64::from(number))?;
     Ok(out)
 }
 
 // The flat form of a model of one module that defines the expression behind its declarations.
 fn defining(alloc: Global, declarations: &[u8], expression: &[u8]) -> Result<Flat, End> {
     let mut text = Text::new(alloc);
+    put_model(&mut text, declarations, expression)?;
+    flat_of_text(alloc, text.bytes())
+}
+
+fn put_model(text: &mut Text, declarations: &[u8], expression: &[u8]) -> Result<(), NoMemory> {
     text.put(b"MODULE main ")?;
     text.put(declarations)?;
     text.put(b" DEFINE expression := ")?;
     text.put(expression)?;
-    text.put(b"; INVARSPEC TRUE")?;
-    let source = source_of(alloc, text.bytes())?;
+    text.put(b"; INVARSPEC TRUE")
+}
+
+fn flat_of_text(alloc: Global, text: &[u8]) -> Result<Flat, End> {
+    let source = source_of(alloc, text)?;
     flat_of(alloc, &source, 0)
 }
 
@@ -67,17 +83,24 @@ pub(crate) fn interval_text(alloc: Global, line: &[u8]) -> Result<Text, Fault> {
     let [low, high] = ends.as_slice() else {
         return Err(Fault::Misread("not two integers"));
     };
+    let width = interval_width(alloc, integer(low)?, integer(high)?)?;
+    Ok(number_text(alloc, width)?)
+}
+
+fn interval_width(alloc: Global, low: i64, high: i64) -> Result<u32, Fault> {
     let mut items = Vec::new(alloc);
-    items.push(FlatItem {
+    items.push(variable(alloc, Ty::Integer(low, high))?)?;
+    Ok(width_of(&items, &[]))
+}
+
+fn variable(alloc: Global, ty: Ty) -> Result<FlatItem, NoMemory> {
+    Ok(FlatItem {
         name: Name::of(alloc, b"x")?,
         instance: 0,
         kind: ItemKind::State,
-        ty: Ty::Integer(integer(low)?, integer(high)?),
+        ty,
         members: Members::new(alloc),
-    })?;
-    let mut out = Text::new(alloc);
-    put_size(&mut out, b"", u64::from(width_of(&items, &[])))?;
-    Ok(out)
+    })
 }
 
 fn integer(digits: &str) -> Result<i64, Fault> {

@@ -41,12 +41,6 @@ turned x y = same (bytes_eq x y) (bytes_eq y x) (λ h. (bytes_eq-Decides y x).1 
     same false true g h = h refl
     same false false g h = refl
 
-or_last : (a b : Bool) → (a || (b || false)) ≡ (b || a)
-or_last true true = refl
-or_last true false = refl
-or_last false true = refl
-or_last false false = refl
-
 any_last : (y : List ℕ) (names : List (List ℕ)) (x : List ℕ) → list_any (bytes_eq y) (names ++ x ∷ []) ≡ (bytes_eq x y || list_any (bytes_eq y) names)
 any_last y [] x = ap (λ b. b || false) (turned y x)
 any_last y (n ∷ names) x = ap (λ b. bytes_eq y n || b) (any_last y names x) ∙ swapped (bytes_eq y n) (bytes_eq x y) (list_any (bytes_eq y) names)

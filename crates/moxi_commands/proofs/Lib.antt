@@ -15,7 +15,6 @@ pub mod Heads
 pub mod Truth
 pub mod Both
 pub mod Judgements
-pub mod JudgeLemmas
 pub mod SinkLemmas
 pub mod FormShape
 pub mod FormValues

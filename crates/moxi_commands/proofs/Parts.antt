@@ -1,5 +1,5 @@
 -- What the lines of a formula's parts give.
-use Rattle.std.proofs.Common.{◌≡◌, ℕ, zero, suc, ◌+◌, ◌<◌, ◌≤◌, List, [], ◌∷◌, ◌++◌, length, refl, sym, ap, ◌∙◌, subst, arith, append_assoc}
+use Rattle.std.proofs.Common.{◌≡◌, ℕ, zero, suc, ◌+◌, ◌≤◌, List, [], ◌∷◌, ◌++◌, length, refl, sym, ap, ◌∙◌, subst, arith, append_assoc}
 use Rattle.moxi_commands.specs.Formulas.{Formula, variable, negation, conjunction, Formulas, no_formulas, formula}
 use Rattle.btor_tree.specs.declared.lines.TheConstants.{GREATEST_ID}
 use Rattle.btor_tree.specs.declared.lines.Line.{Line}
@@ -19,9 +19,6 @@ mutual
   pub each_variable_of : {P Q : ℕ → Type 0} → ((v : ℕ) → P v → Q v) → (fs : Formulas) → EachVariableOf P fs → EachVariableOf Q fs
   each_variable_of h no_formulas p = tt
   each_variable_of h (formula f fs) p = (each_variable h f p.0, each_variable_of h fs p.1)
-
-pub inputs_grew : (a b : List Line) (f : Formula) → Grew a b → HasInputs a f → HasInputs b f
-inputs_grew a b f g h = each_variable (λ v e. grew_width a b (input_place v) 1 (omega arith) g e) f h
 
 pub all_inputs_grew : (a b : List Line) (fs : Formulas) → Grew a b → HaveInputs a fs → HaveInputs b fs
 all_inputs_grew a b fs g h = each_variable_of (λ v e. grew_width a b (input_place v) 1 (omega arith) g e) fs h
@@ -180,12 +177,6 @@ formulas_step whole most lines places fs rest f new place e n l =
       small = omega (arith, k.small);
     } in
     subst (λ x. FormulasLeft whole most x.lines (places ++ x.place ∷ []) rest) (sym n) step
-
--- the next formula of a list may be made
-pub formula_owed : (whole : AllMade) (most : ℕ) (lines : List Line) (places : List ℕ) (fs rest : Formulas) (f : Formula) → fs ≡ formula f rest → FormulasLeft whole most lines places fs → (nodes f < most) × (length lines + size f ≤ GREATEST_ID) × Ready lines × HasInputs lines f
-formula_owed whole most lines places fs rest f e l =
-    let k = subst (FormulasLeft whole most lines places) e l in
-    (omega (arith, k.small), omega (arith, k.room), k.ready, k.inputs.0)
 
 -- after the operand of signs, they may be made
 pub signs_owed : (lines new : List Line) (g f : Formula) (n place : ℕ) → Ready lines → HasInputs lines g → length lines + size g ≤ GREATEST_ID → g ≡ negation n f → made new place ≡ with_formula lines f → (length new + n ≤ GREATEST_ID) × Stands (made new place)

@@ -13,7 +13,7 @@ use std::alloc::Global;
 use text_core::{Clause, Kind, Name, NoMemory, Place, ReadEnd, Refusal, Shelf, Text, read_whole};
 
 /// What a run is to answer.
-#[derive(Debug, Drop)]
+#[derive(Drop)]
 pub enum Answer {
     /// The words are no command.
     Misread,
@@ -32,7 +32,7 @@ pub enum Answer {
 }
 
 /// Why a step does not go on: an answer that stands, or want of memory.
-#[derive(Debug, Drop)]
+#[derive(Drop)]
 pub enum Stop {
     Gives(Answer),
     NoMemory,

@@ -17,7 +17,7 @@ use text_core::{Name, Names, NoMemory};
 const MOST_BYTES: usize = 1000;
 
 /// Why there is no formula.
-#[derive(Debug, Drop)]
+#[derive(Drop)]
 enum Stop {
     /// The expression has another form.
     Other,

@@ -31,7 +31,7 @@ pub const SMV_LIMIT: usize = 1_048_576;
 const MOST_TOKENS: usize = 4096;
 
 /// Why a model has no text.
-#[derive(Debug, Drop)]
+#[derive(Drop)]
 pub enum ModelEnd {
     /// The model is refused.
     Refused(Refusal),

@@ -6,7 +6,7 @@ use std::alloc::Global;
 use text_core::{Name, NoMemory};
 
 /// What the command words ask for.
-#[derive(Debug, Drop)]
+#[derive(Drop)]
 pub enum Command {
     /// The BTOR2 text of an SMV model.
     SmvToBtor(Name),

@@ -3,23 +3,28 @@ ghost use Rattle.std.specs.Prelude.{◌≡◌, ◌++◌, [], Some, IfOk, OnOk};
 ghost use Rattle.std.specs.Option.{option_map};
 ghost use Rattle.moxi_sexpr.specs.Tree.{plain, plain_forms};
 ghost use Rattle.moxi_scripts.specs.declared.parts.Command.TheVariants as commands;
-ghost use Rattle.moxi_attributes.specs.Views.{value_now, headed_here};
-ghost use Rattle.moxi_scripts.specs.Checks.{check_failures, check_in, check_of, content_failures, content_of, headed_failures, place_or, places_in, variables_in};
+ghost use Rattle.moxi_scripts.specs.declared.parts.Turn.TheVariants as turns;
+ghost use Rattle.moxi_attributes.specs.Views.{value_now, headed_here, plain_labels};
+ghost use Rattle.moxi_scripts.specs.Checks.{check_failures, check_in, check_of, content_failures, content_of, headed_failures, labels_in, place_or, places_in, variables_in};
+ghost use Rattle.moxi_scripts.specs.Labels.{labels_after, labels_failures, no_labels};
+ghost use Rattle.moxi_scripts.specs.QueryReading.{all_queries_failures, queries_after};
 ghost use Rattle.moxi_declarations.specs.Views.{plain_check_reading};
 ghost use Rattle.moxi_scripts.specs.Collecting.{also};
 ghost use Rattle.moxi_scripts.specs.Lists.{all_entries, lists_in};
 ghost use Rattle.moxi_scripts.specs.Shapes.{headed};
 
 use crate::queries::read_queries;
-use crate::systems::read_variables;
+use crate::systems::{ReadVariables, read_variables};
 use moxi_attributes::{
     Headed, Labels, fail, fail_primed, headed_forms, no_labels, place_of, read_labels, shape_holds,
     value_of,
 };
 use moxi_scripts::{Command, Entries, Key, ListPlaces, Lists, Queries};
 use moxi_sexpr::Form;
+use moxi_sorts::Locals;
 use moxi_terms::Scope;
 use std::alloc::Global;
+use std::mem::drop;
 use text_core::{Name, NoMemory, Place, Refusal};
 
 /// A check whose system isn't yet found.
@@ -53,8 +58,59 @@ fn places_in(p: Place, forms: &[Form]) -> ListPlaces
     }
 }
 
+// The formulas and the queries of a check whose variables are read.
+fn read_named(
+    alloc: Global,
+    scope: &Scope,
+    locals: &Locals,
+    forms: &[Form],
+    labels: &mut Labels,
+    queries: &mut Queries,
+    found: &mut Option<Refusal>,
+) -> Result<(), NoMemory>
+    requires labels { plain_labels labels.old ≡ no_labels }
+    requires queries { queries.old ≡ [] }
+    ensures labels { OnOk result (plain_labels labels.new ≡ labels_after scope.now locals.now no_labels turns.AtKeyword (plain_forms forms.now)) }
+    ensures queries { OnOk result (queries.new ≡ queries_after (labels_after scope.now locals.now no_labels turns.AtKeyword (plain_forms forms.now)) turns.AtKeyword (plain_forms forms.now)) }
+    ensures finds { OnOk result (found.new ≡ also (also found.old (labels_failures scope.now locals.now no_labels turns.AtKeyword (plain_forms forms.now))) (all_queries_failures (labels_after scope.now locals.now no_labels turns.AtKeyword (plain_forms forms.now)) [] turns.AtKeyword (plain_forms forms.now))) }
+{
+    read_labels(alloc, scope, locals, forms, labels, found)?;
+    read_queries(alloc, labels, forms, queries, found)?;
+    Ok(())
+}
+
+// The lists, the formulas and the queries of a check of which the attributes have their shape.
+fn read_parts(
+    alloc: Global,
+    scope: &Scope,
+    forms: &[Form],
+    labels: &mut Labels,
+    queries: &mut Queries,
+    variables: &mut Entries,
+    found: &mut Option<Refusal>,
+) -> Result<Lists, NoMemory>
+    requires labels { plain_labels labels.old ≡ no_labels }
+    requires queries { queries.old ≡ [] }
+    ensures lists { IfOk result (λ l. l ≡ lists_in scope.now commands.Check (plain_forms forms.now)) }
+    ensures labels { OnOk result (plain_labels labels.new ≡ labels_in scope.now (plain_forms forms.now)) }
+    ensures queries { OnOk result (queries.new ≡ queries_after (labels_in scope.now (plain_forms forms.now)) turns.AtKeyword (plain_forms forms.now)) }
+    ensures adds { OnOk result (variables.new ≡ variables.old ++ all_entries (lists_in scope.now commands.Check (plain_forms forms.now))) }
+    ensures finds { OnOk result (found.new ≡ also found.old (content_failures scope.now (plain_forms forms.now))) }
+{
+    let v = read_variables(alloc, scope, Command::Check, forms, variables, found)?;
+    let ReadVariables { lists, locals } = v;
+    let named = read_named(alloc, scope, &locals, forms, labels, queries, found);
+    drop(locals);
+    match named {
+        Ok(()) => Ok(lists),
+        Err(e) => {
+            drop(lists);
+            Err(e)
+        }
+    }
+}
+
 // A check of which the attributes have their shape.
-#[tactic(auto, using(moxi_attributes::proofs::Collecting::also_append))]
 fn read_content(
     alloc: Global,
     scope: &Scope,
@@ -67,20 +123,34 @@ fn read_content(
     ensures adds { OnOk result (variables.new ≡ variables.old ++ all_entries (lists_in scope.now commands.Check (headed_here h.entry).rest)) }
     ensures finds { OnOk result (found.new ≡ also found.old (content_failures scope.now (headed_here h.entry).rest)) }
 {
-    let v = read_variables(alloc, scope, Command::Check, h.rest, variables, found)?;
+    let target = Name::of(alloc, h.name)?;
     let mut labels = no_labels(alloc);
-    read_labels(alloc, scope, &v.locals, h.rest, &mut labels, found)?;
     let mut queries = Queries::new(alloc);
-    read_queries(alloc, &labels, h.rest, &mut queries, found)?;
-    Ok(ReadCheck {
-        place: p,
-        target: Name::of(alloc, h.name)?,
-        target_place: h.place,
-        lists: v.lists,
-        places: places_in(p, h.rest),
-        labels,
-        queries,
-    })
+    match read_parts(
+        alloc,
+        scope,
+        h.rest,
+        &mut labels,
+        &mut queries,
+        variables,
+        found,
+    ) {
+        Ok(lists) => Ok(ReadCheck {
+            place: p,
+            target,
+            target_place: h.place,
+            lists,
+            places: places_in(p, h.rest),
+            labels,
+            queries,
+        }),
+        Err(e) => {
+            drop(target);
+            drop(labels);
+            drop(queries);
+            Err(e)
+        }
+    }
 }
 
 // A check whose shape is tested.

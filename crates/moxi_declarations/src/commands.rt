@@ -19,6 +19,7 @@ use moxi_sexpr::{Form, FormShape};
 use moxi_sorts::{only, symbol_of};
 use moxi_terms::{Numbering, Scope, is_same};
 use std::alloc::Global;
+use std::mem::{self, drop};
 use text_core::{Name, NoMemory, Place, Refusal};
 
 /// What the commands so far declare.
@@ -170,10 +171,11 @@ fn add_check(
     let check = read_check(alloc, &draft.scope, p, forms, &mut draft.variables, found)?;
     fail_if(found, draft.checked, 13, p);
     if draft.checked {
+        drop(check);
         return Ok(());
     }
     draft.checked = true;
-    draft.check = check;
+    drop(mem::replace(&mut draft.check, check));
     Ok(())
 }
 

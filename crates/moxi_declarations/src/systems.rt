@@ -14,7 +14,7 @@ ghost use Rattle.moxi_scripts.specs.Shapes.{headed};
 ghost use Rattle.moxi_attributes.specs.Views.{headed_here};
 ghost use Rattle.moxi_scripts.specs.Systems.{bare_system, content_failures, content_of, formulas_failures, locals_of, names_with_system, read_systems, shaped_failures, shaped_system, shaped_variables, system_failures, system_of, system_tests, system_variables, variables_failures, variables_of_system};
 ghost use Rattle.moxi_declarations.specs.Views.{plain_reading};
-ghost use Rattle.moxi_scripts.specs.Uses.{uses_in};
+ghost use Rattle.moxi_scripts.specs.Uses.{uses_failures, uses_in};
 
 use moxi_attributes::{
     Headed, all_entries, append, fail, fail_primed, headed_forms, locals_among, read_formula,
@@ -25,6 +25,7 @@ use moxi_sexpr::Form;
 use moxi_sorts::Locals;
 use moxi_terms::{Numbering, Primes, Scope, Term};
 use std::alloc::Global;
+use std::mem::drop;
 use text_core::{Items, Name, NoMemory, Place, Refusal};
 
 /// A system whose subsystems aren't yet found.
@@ -131,8 +132,67 @@ fn read_formulas(
     Ok(SystemFormulas { init, trans, inv })
 }
 
+// The formulas and the subsystems of a system whose variables are read.
+fn read_parts(
+    alloc: Global,
+    scope: &Scope,
+    locals: &Locals,
+    forms: &[Form],
+    uses: &mut Items<Use>,
+    found: &mut Option<Refusal>,
+) -> Result<SystemFormulas, NoMemory>
+    requires { uses.old ≡ [] }
+    ensures init { IfOk result (λ r. plain r.init ≡ formula_term scope.now locals.now may.Refused (value_at commands.System keys.Init (plain_forms forms.now))) }
+    ensures trans { IfOk result (λ r. plain r.trans ≡ formula_term scope.now locals.now may.Allowed (value_at commands.System keys.Trans (plain_forms forms.now))) }
+    ensures inv { IfOk result (λ r. plain r.inv ≡ formula_term scope.now locals.now may.Refused (value_at commands.System keys.Inv (plain_forms forms.now))) }
+    ensures uses { OnOk result (uses.new ≡ uses_in locals.now turns.AtKeyword (plain_forms forms.now)) }
+    ensures finds { OnOk result (found.new ≡ also (also found.old (formulas_failures scope.now locals.now (plain_forms forms.now))) (uses_failures locals.now [] turns.AtKeyword (plain_forms forms.now))) }
+{
+    let formulas = read_formulas(alloc, scope, locals, forms, found)?;
+    match read_uses(alloc, locals, forms, uses, found) {
+        Ok(()) => Ok(formulas),
+        Err(e) => {
+            drop(formulas);
+            Err(e)
+        }
+    }
+}
+
+// A system with this name and these lists, whose variables they declare.
+fn read_over(
+    alloc: Global,
+    scope: &Scope,
+    name: Name,
+    lists: Lists,
+    locals: &Locals,
+    forms: &[Form],
+    found: &mut Option<Refusal>,
+) -> Result<ReadSystem, NoMemory>
+    requires lists { lists ≡ lists_in scope.now commands.System (plain_forms forms.now) }
+    requires locals { locals.now ≡ locals_of scope.now commands.System (plain_forms forms.now) }
+    ensures system { IfOk result (λ r. plain_reading r ≡ content_of scope.now name (plain_forms forms.now)) }
+    ensures finds { OnOk result (found.new ≡ also (also found.old (formulas_failures scope.now (locals_of scope.now commands.System (plain_forms forms.now)) (plain_forms forms.now))) (uses_failures (locals_of scope.now commands.System (plain_forms forms.now)) [] turns.AtKeyword (plain_forms forms.now))) }
+{
+    let mut uses = Items::new(alloc);
+    match read_parts(alloc, scope, locals, forms, &mut uses, found) {
+        Ok(formulas) => Ok(ReadSystem {
+            name,
+            lists,
+            init: formulas.init,
+            trans: formulas.trans,
+            inv: formulas.inv,
+            uses,
+        }),
+        Err(e) => {
+            drop(name);
+            drop(lists);
+            drop(uses);
+            Err(e)
+        }
+    }
+}
+
 // A system of which the attributes have their shape.
-#[tactic(auto, using(moxi_attributes::proofs::Collecting::also_append))]
 fn read_content(
     alloc: Global,
     scope: &Scope,
@@ -145,18 +205,19 @@ fn read_content(
     ensures adds { OnOk result (variables.new ≡ variables.old ++ all_entries (lists_in scope.now commands.System (plain_forms forms.now))) }
     ensures finds { OnOk result (found.new ≡ also found.old (content_failures scope.now (plain_forms forms.now))) }
 {
-    let v = read_variables(alloc, scope, Command::System, forms, variables, found)?;
-    let formulas = read_formulas(alloc, scope, &v.locals, forms, found)?;
-    let mut uses = Items::new(alloc);
-    read_uses(alloc, &v.locals, forms, &mut uses, found)?;
-    Ok(ReadSystem {
-        name: Name::of(alloc, name)?,
-        lists: v.lists,
-        init: formulas.init,
-        trans: formulas.trans,
-        inv: formulas.inv,
-        uses,
-    })
+    let name = Name::of(alloc, name)?;
+    match read_variables(alloc, scope, Command::System, forms, variables, found) {
+        Ok(v) => {
+            let ReadVariables { lists, locals } = v;
+            let system = read_over(alloc, scope, name, lists, &locals, forms, found);
+            drop(locals);
+            Ok(system?)
+        }
+        Err(e) => {
+            drop(name);
+            Err(e)
+        }
+    }
 }
 
 fn no_list(alloc: Global) -> DeclaredList

@@ -18,10 +18,6 @@ mutual
     no_showns : Showns
     shown : Shown → Showns → Showns
 
-abbrev pub showns_of : List Shown → Showns
-showns_of [] = no_showns
-showns_of (x ∷ xs) = shown x (showns_of xs)
-
 abbrev pub joined : Showns → Showns → Showns
 joined no_showns ys = ys
 joined (shown x xs) ys = shown x (joined xs ys)

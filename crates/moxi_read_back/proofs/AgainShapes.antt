@@ -66,7 +66,3 @@ is_attribute (tree t (tree u us)) name x rest h =
 pub joined_joined : (xs ys zs : Showns) → joined (joined xs ys) zs ≡ joined xs (joined ys zs)
 joined_joined no_showns ys zs = refl
 joined_joined (shown x xs) ys zs = ap (shown x) (joined_joined xs ys zs)
-
-pub joined_nothing : (xs : Showns) → joined xs no_showns ≡ xs
-joined_nothing no_showns = refl
-joined_nothing (shown x xs) = ap (shown x) (joined_nothing xs)

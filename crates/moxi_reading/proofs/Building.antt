@@ -1,5 +1,5 @@
 -- Scripts that are built of what is read: each element of a list once.
-use Rattle.std.proofs.Common.{◌≡◌, ℕ, ◌+◌, ◌<◌, List, [], ◌∷◌, ◌++◌, map, reverse, drop, length, sym, ap, ◌∙◌, append-nil}
+use Rattle.std.proofs.Common.{◌≡◌, ℕ, ◌+◌, ◌<◌, List, [], ◌∷◌, ◌++◌, map, reverse, drop, length, sym, ap, ◌∙◌}
 use Rattle.std.proofs.lemmas.List.{reverse-append}
 use Rattle.std.specs.Prelude.{slice_index_or}
 use Rattle.moxi_attributes.proofs.Collecting.{list_step}
@@ -13,10 +13,6 @@ taken_step f g h all more xs rest y x total made same taken before =
     (ap (map f) made ∙ map_end f all y)
     (ap (λ zs. map g (map h (reverse zs))) taken ∙ ap (λ zs. map g (map h zs)) (reverse-append rest (x ∷ [])) ∙ ap (λ z. z ∷ map g (map h (reverse rest))) (sym same))
     before
-
--- none is left
-pub taken_end : {A B C D : Type 0} (f : A → D) (g : C → D) (h : B → C) (all : List A) (xs : List B) (total : List D) → xs ≡ [] → map f all ++ map g (map h (reverse xs)) ≡ total → map f all ≡ total
-taken_end f g h all xs total e before = sym (append-nil (map f all)) ∙ ap (λ zs. map f all ++ map g (map h (reverse zs))) (sym e) ∙ before
 
 -- one round of a loop over a list
 pub mapped_step : {A B : Type 0} (g : B → A) (all more : List A) (xs : List B) (i n : ℕ) (y : A) (x : B) (total : List A)

@@ -5,11 +5,12 @@ ghost use Rattle.moxi_sexpr.specs.Printing.{ArePrintable};
 ghost use Rattle.moxi_sexpr.specs.Tree.{plain_forms};
 ghost use Rattle.moxi_sorts.specs.Failures.{least};
 ghost use Rattle.moxi_terms.specs.Names.{place_of};
+ghost use Rattle.moxi_terms.specs.View.{plain};
+ghost use Rattle.moxi_scripts.specs.Entries.{variables_of};
 ghost use Rattle.moxi_reading.specs.Answer.{IsFirstFailure, IsFirstOf, IsRefusal, IsScript};
 ghost use Rattle.moxi_declarations.specs.Views.{plain_check_reading, plain_draft, plain_reading};
 ghost use Rattle.moxi_scripts.specs.Commands.{nothing_read};
-ghost use Rattle.moxi_attributes.specs.Views.{plain_list};
-ghost use Rattle.moxi_scripts.specs.Script.{PlainScript, plain_check, plain_formula, plain_system};
+ghost use Rattle.moxi_scripts.specs.Script.{PlainScript, plain_check, plain_system};
 ghost use Rattle.moxi_scripts.specs.ScriptView.{plain_script};
 ghost use Rattle.moxi_scripts.specs.Spelling.{SpellsScript, actual_numbers, check_of, number_or_none, script_failures, subsystem_of, system_of};
 
@@ -17,11 +18,13 @@ use crate::cycles::read_whole_script;
 use crate::outcome::ScriptEnd;
 use moxi_attributes::{Labelled, variables_of};
 use moxi_declarations::{Draft, ReadCheck, ReadSystem, nothing_read};
-use moxi_scripts::{Actual, Check, Formulas, Script, Subsystem, Subsystems, System, Systems, Use};
+use moxi_scripts::{
+    Actual, Check, Formulas, Lists, Script, Subsystem, Subsystems, System, Systems, Use,
+};
 use moxi_sexpr::Forms;
-use moxi_terms::{Numbering, Scope};
+use moxi_terms::{Numbering, Scope, Variables};
 use std::alloc::Global;
-use std::mem;
+use std::mem::{self, drop};
 use text_core::{Items, Name, NoMemory, Numbers, Place};
 
 // The number of the system of this name.
@@ -76,24 +79,77 @@ fn subsystems_of(
     Ok(subsystems)
 }
 
-// A system, whose subsystems' systems have these names.
-fn system_of(alloc: Global, names: &Numbering, r: ReadSystem) -> Result<System, NoMemory>
-    ensures { IfOk result (λ s. plain_system s ≡ system_of names.now (plain_reading r)) }
+// The variables of the three lists of a system or a check.
+#[derive(Drop)]
+struct ListVariables {
+    inputs: Variables,
+    outputs: Variables,
+    locals: Variables,
+}
+
+fn list_variables(alloc: Global, lists: &Lists) -> Result<ListVariables, NoMemory>
+    ensures inputs { IfOk result (λ v. v.inputs ≡ variables_of lists.now.inputs.entries) }
+    ensures outputs { IfOk result (λ v. v.outputs ≡ variables_of lists.now.outputs.entries) }
+    ensures locals { IfOk result (λ v. v.locals ≡ variables_of lists.now.locals.entries) }
 {
-    let inputs = variables_of(alloc, &r.lists.inputs.entries)?;
-    let outputs = variables_of(alloc, &r.lists.outputs.entries)?;
-    let locals = variables_of(alloc, &r.lists.locals.entries)?;
-    let subsystems = subsystems_of(alloc, names, &r.uses)?;
-    Ok(System {
-        name: r.name,
+    let inputs = variables_of(alloc, &lists.inputs.entries)?;
+    let outputs = variables_of(alloc, &lists.outputs.entries)?;
+    let locals = variables_of(alloc, &lists.locals.entries)?;
+    Ok(ListVariables {
         inputs,
         outputs,
         locals,
+    })
+}
+
+// A system with these variables and subsystems. Its terms are moved out.
+fn system_with(r: ReadSystem, v: ListVariables, subsystems: Subsystems) -> System
+    ensures { plain_system result ≡ record { name = r.name; inputs = v.inputs; outputs = v.outputs; locals = v.locals; init = plain r.init; trans = plain r.trans; inv = plain r.inv; subsystems = subsystems } }
+{
+    System {
+        name: r.name,
+        inputs: v.inputs,
+        outputs: v.outputs,
+        locals: v.locals,
         init: r.init,
         trans: r.trans,
         inv: r.inv,
         subsystems,
-    })
+    }
+}
+
+// A system, whose subsystems' systems have these names.
+fn system_of(alloc: Global, names: &Numbering, r: ReadSystem) -> Result<System, NoMemory>
+    ensures { IfOk result (λ s. plain_system s ≡ system_of names.now (plain_reading r)) }
+{
+    match system_parts(alloc, names, &r) {
+        Ok((v, subsystems)) => Ok(system_with(r, v, subsystems)),
+        Err(e) => {
+            drop(r);
+            Err(e)
+        }
+    }
+}
+
+// The variables and the subsystems of a system, where these have systems of these names.
+fn system_parts(
+    alloc: Global,
+    names: &Numbering,
+    r: &ReadSystem,
+) -> Result<(ListVariables, Subsystems), NoMemory>
+    ensures inputs { IfOk result (λ x. x.0.inputs ≡ variables_of r.now.lists.inputs.entries) }
+    ensures outputs { IfOk result (λ x. x.0.outputs ≡ variables_of r.now.lists.outputs.entries) }
+    ensures locals { IfOk result (λ x. x.0.locals ≡ variables_of r.now.lists.locals.entries) }
+    ensures subsystems { IfOk result (λ x. x.1 ≡ map (subsystem_of names.now) r.now.uses) }
+{
+    let subsystems = subsystems_of(alloc, names, &r.uses)?;
+    match list_variables(alloc, &r.lists) {
+        Ok(v) => Ok((v, subsystems)),
+        Err(e) => {
+            drop(subsystems);
+            Err(e)
+        }
+    }
 }
 
 // All systems. Their terms are moved out.
@@ -114,31 +170,68 @@ fn systems_of(
 }
 
 fn formulas_of(l: Labelled) -> Formulas
-    ensures { map plain_formula result ≡ (plain_list l).formulas }
+    ensures { result ≡ l.formulas }
 {
-    l.formulas
+    let Labelled { names, formulas } = l;
+    drop(names);
+    formulas
+}
+
+// The number of the system of a check, which has one of these names, and its variables.
+fn check_parts(
+    alloc: Global,
+    names: &Numbering,
+    c: &ReadCheck,
+) -> Result<(u32, ListVariables), NoMemory>
+    ensures system { IfOk result (λ x. x.0 ≡ number_or_none (place_of names.now c.now.target)) }
+    ensures inputs { IfOk result (λ x. x.1.inputs ≡ variables_of c.now.lists.inputs.entries) }
+    ensures outputs { IfOk result (λ x. x.1.outputs ≡ variables_of c.now.lists.outputs.entries) }
+    ensures locals { IfOk result (λ x. x.1.locals ≡ variables_of c.now.lists.locals.entries) }
+{
+    let system = number_of(names, c.target.bytes())?;
+    let v = list_variables(alloc, &c.lists)?;
+    Ok((system, v))
+}
+
+// A check of this system with these variables. Its formulas are moved out.
+fn check_with(c: ReadCheck, system: u32, v: ListVariables) -> Check
+    ensures place { result.place ≡ c.place }
+    ensures system { result.system ≡ system }
+    ensures inputs { result.inputs ≡ v.inputs }
+    ensures outputs { result.outputs ≡ v.outputs }
+    ensures locals { result.locals ≡ v.locals }
+    ensures assumptions { result.assumptions ≡ c.labels.assumptions.formulas }
+    ensures currents { result.currents ≡ c.labels.currents.formulas }
+    ensures reachables { result.reachables ≡ c.labels.reachables.formulas }
+    ensures queries { result.queries ≡ c.queries }
+{
+    let labels = c.labels;
+    drop(c.target);
+    drop(c.lists);
+    Check {
+        place: c.place,
+        system,
+        inputs: v.inputs,
+        outputs: v.outputs,
+        locals: v.locals,
+        assumptions: formulas_of(labels.assumptions),
+        currents: formulas_of(labels.currents),
+        reachables: formulas_of(labels.reachables),
+        queries: c.queries,
+    }
 }
 
 // A check, whose system has one of these names.
 fn check_of(alloc: Global, names: &Numbering, c: ReadCheck) -> Result<Check, NoMemory>
     ensures { IfOk result (λ x. plain_check x ≡ check_of names.now (plain_check_reading c)) }
 {
-    let system = number_of(names, c.target.bytes())?;
-    let inputs = variables_of(alloc, &c.lists.inputs.entries)?;
-    let outputs = variables_of(alloc, &c.lists.outputs.entries)?;
-    let locals = variables_of(alloc, &c.lists.locals.entries)?;
-    let labels = c.labels;
-    Ok(Check {
-        place: c.place,
-        system,
-        inputs,
-        outputs,
-        locals,
-        assumptions: formulas_of(labels.assumptions),
-        currents: formulas_of(labels.currents),
-        reachables: formulas_of(labels.reachables),
-        queries: c.queries,
-    })
+    match check_parts(alloc, names, &c) {
+        Ok((system, v)) => Ok(check_with(c, system, v)),
+        Err(e) => {
+            drop(c);
+            Err(e)
+        }
+    }
 }
 
 // Reads into a draft of nothing, and takes the script out of it.
@@ -162,14 +255,21 @@ fn script_in(
         unreachable!()
     };
     let check = check_of(alloc, &draft.system_names, read)?;
-    let systems = systems_of(alloc, &draft.system_names, &mut draft.systems)?;
-    let scope = mem::replace(&mut draft.scope, Scope::new(alloc));
-    Ok(Script {
-        logic: draft.logic.take(),
-        scope,
-        systems,
-        check,
-    })
+    match systems_of(alloc, &draft.system_names, &mut draft.systems) {
+        Ok(systems) => {
+            let scope = mem::replace(&mut draft.scope, Scope::new(alloc));
+            Ok(Script {
+                logic: draft.logic.take(),
+                scope,
+                systems,
+                check,
+            })
+        }
+        Err(e) => {
+            drop(check);
+            Err(ScriptEnd::from(e))
+        }
+    }
 }
 
 /// Reads the script that forms spell, whose text ends at `end`. Where tests fail, of which M4 to M14 are the kinds, it is
@@ -189,5 +289,7 @@ pub fn read_script(alloc: Global, forms: &Forms, end: Place) -> Result<Script, S
     ensures answered { (r : Refusal) → least (script_failures (plain_forms forms.now.items) end) ≡ Some r → IsRefusal r result }
 {
     let mut draft = nothing_read(alloc);
-    script_in(alloc, forms, end, &mut draft)
+    let script = script_in(alloc, forms, end, &mut draft);
+    drop(draft);
+    script
 }

@@ -30,10 +30,6 @@ taken_failures s names (d ∷ ds) = fails_if (is_taken s names d.name) 9 d.place
 abbrev pub lists_at : List SystemReading → ℕ → Option Lists
 lists_at systems j = option_map (λ (r : SystemReading). r.lists) (slice_get systems j)
 
-abbrev pub lists_named : List SystemReading → Option ℕ → Option Lists
-lists_named systems None = None
-lists_named systems (Some j) = lists_at systems j
-
 abbrev pub entry_sort : Option Declared → Option Sort
 entry_sort None = None
 entry_sort (Some d) = d.sort

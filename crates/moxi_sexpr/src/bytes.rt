@@ -9,7 +9,7 @@ ghost use Rattle.moxi_sexpr.specs.Reading.{run_length};
 use text_core::Place;
 
 /// The bytes that one part of the lexical form allows.
-#[derive(Clone, Copy, Debug, PartialEq, Eq)]
+#[derive(Clone, Copy)]
 pub enum ByteSet {
     /// Bytes of a simple symbol.
     Symbol,

@@ -5,7 +5,7 @@ use text_core::{Name, Place};
 /// An atom. Its name holds no sign that the spelling adds: a symbol stands without bars and without its prime, a
 /// keyword without its colon, a binary and a hexadecimal literal without `#b` and `#x`, and a string without its quotes,
 /// with each doubled quote as one. The truth value of a symbol tells whether it is primed.
-#[derive(Debug, Drop)]
+#[derive(Drop)]
 pub enum Atom {
     Symbol(Name, bool),
     Keyword(Name),

@@ -14,7 +14,7 @@ use std::alloc::Global;
 use text_core::{Name, NoMemory, Place};
 
 /// How an atom is spelled.
-#[derive(Clone, Copy, Debug, PartialEq, Eq)]
+#[derive(Clone, Copy)]
 pub enum Spelling {
     /// A simple symbol, primed or not.
     Bare(bool),

@@ -1,5 +1,5 @@
 -- The first and the last of a name.
-use Rattle.std.proofs.Common.{◌≡◌, ℕ, zero, suc, ◌+◌, ◌-◌, ◌<◌, ◌≤◌, ◌^◌, Bool, true, false, cond, List, [], ◌∷◌, ◌++◌, length, take, Option, None, Some, is_none, refl, sym, ap, ◌∙◌, subst, arith, append-nil}
+use Rattle.std.proofs.Common.{◌≡◌, ℕ, zero, suc, ◌+◌, ◌-◌, ◌<◌, ◌≤◌, ◌^◌, Bool, true, false, cond, List, [], ◌∷◌, ◌++◌, length, take, Option, None, Some, is_none, refl, sym, ap, ◌∙◌, subst, arith}
 use Rattle.std.specs.Prelude.{slice_get, slice_index_or}
 use Rattle.std.specs.Str.{bytes_eq}
 use Rattle.std.proofs.lemmas.Slice.Eq.{bytes_eq-Decides}
@@ -55,9 +55,6 @@ indexed_front locals names firsts ys i =
       long = omega (arith, length-append (take (length names) firsts) ys, length_taken (length names) firsts l);
       few = i.few;
     }
-
-pub indexed_taken : (locals : List Local) (names : List (List ℕ)) (firsts : List ℕ) → IsIndexed locals names firsts → IsIndexed locals names (take (length names) firsts)
-indexed_taken locals names firsts i = subst (IsIndexed locals names) (append-nil (take (length names) firsts)) (indexed_front locals names firsts [] i)
 
 none_within : {A : Type 0} (xs : List A) (k : ℕ) → k < length xs → slice_get xs k ≡ None → ⊥
 none_within [] k h e = absurd (omega arith)
@@ -157,12 +154,6 @@ first_index locals names firsts q k i e =
       subst (λ n. n < length locals) same (slice_get_within locals r.0 r.1 r.3),
       (λ d g. ap (λ (x : Local). x.sort) (g ∙ ap (λ n. slice_index_or locals n d) (sym same) ∙ index_read locals r.0 r.1 d r.3) ∙ sym r.4),
     )
-
-pub first_lacks : (locals : List Local) (names : List (List ℕ)) (firsts : List ℕ) (q : List ℕ) → IsIndexed locals names firsts → place_of names q ≡ None → first_of 0 locals q ≡ None
-first_lacks = first_none
-
-pub first_in : (locals : List Local) (names : List (List ℕ)) (firsts : List ℕ) (q : List ℕ) (k : ℕ) → IsIndexed locals names firsts → place_of names q ≡ Some k → k < length firsts
-first_in locals names firsts q k i e = let h : k < length names = place_within names q k e in let l : length names < suc (length firsts) = i.long in omega arith
 
 -- the names from before, where one more was declared or none
 pub kept_names : (names more : List (List ℕ)) (name : List ℕ) (fresh : Bool) (n : ℕ) → more ≡ cond fresh (names ++ name ∷ []) names → n ≡ length names → take n more ≡ names

@@ -29,10 +29,6 @@ pick_assoc a b c =
       ]
     ]
 
-pub sooner_none : (a : Option Refusal) → sooner a None ≡ a
-sooner_none None = refl
-sooner_none (Some a) = refl
-
 pub sooner_assoc : (a b c : Option Refusal) → sooner a (sooner b c) ≡ sooner (sooner a b) c
 sooner_assoc None b c = refl
 sooner_assoc (Some a) None c = refl

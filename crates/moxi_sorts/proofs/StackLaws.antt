@@ -1,5 +1,5 @@
 -- The names that `let`s bind, as a stack.
-use Rattle.std.proofs.Common.{◌≡◌, ◌≢◌, ◌⊎◌, ℕ, zero, suc, ◌+◌, ◌-◌, ◌<◌, ◌≤◌, Bool, true, false, cond, List, [], ◌∷◌, ◌++◌, length, take, Option, None, Some, set, refl, sym, ap, ◌∙◌, subst, arith, inl, inr, append-nil}
+use Rattle.std.proofs.Common.{◌≡◌, ◌≢◌, ◌⊎◌, ℕ, zero, suc, ◌+◌, ◌-◌, ◌<◌, ◌≤◌, Bool, true, false, cond, List, [], ◌∷◌, ◌++◌, length, take, Option, None, Some, set, refl, sym, ap, ◌∙◌, subst, arith, inl, inr}
 use Rattle.std.specs.Prelude.{slice_get, slice_index_or}
 use Rattle.std.specs.List.{AllByRecursion}
 use Rattle.std.specs.Str.{bytes_eq}
@@ -110,20 +110,6 @@ pub unbound : (n : ℕ) (names : List (List ℕ)) (bs : List Binding) (q : List 
 unbound n names [] q p h = refl
 unbound n names (b ∷ bs) q p h =
     none_more n b.sort (last_of (suc n) (locals_in names bs) q) (bytes_eq q (name_at names b.key)) (unbound (suc n) names bs q p.1 h) (differs names q (name_at names b.key) b.key _ p.0 h refl)
-
--- junk behind the numbers of the names changes nothing
-pub stacked_front : (names : List (List ℕ)) (bs : List Binding) (lasts ys : List (Option ℕ)) → IsStacked names bs lasts → IsStacked names bs (take (length names) lasts ++ ys)
-stacked_front names bs lasts ys i =
-    let l : length names ≤ length lasts = omega (arith, i.long) in
-    record {
-      last = λ q k h. get_kept (length names) lasts ys k l (place_within names q k h) ∙ i.last q k h;
-      placed = i.placed;
-      before = i.before;
-      long = omega (arith, length-append (take (length names) lasts) ys, length_taken (length names) lasts l);
-    }
-
-pub stacked_taken : (names : List (List ℕ)) (bs : List Binding) (lasts : List (Option ℕ)) → IsStacked names bs lasts → IsStacked names bs (take (length names) lasts)
-stacked_taken names bs lasts i = subst (IsStacked names bs) (append-nil (take (length names) lasts)) (stacked_front names bs lasts [] i)
 
 -- the bindings are before all names that were declared later
 key_in : (names : List (List ℕ)) (bs : List Binding) (j : ℕ) (b : Binding) → ArePlaced names bs → slice_get bs j ≡ Some b → place_of names (name_at names b.key) ≡ Some b.key
@@ -279,13 +265,6 @@ module _ (names : List (List ℕ)) (bs : List Binding) (b : Binding) (lasts : Li
     where
       decide : (k j : ℕ) → (k ≡ j) ⊎ (k ≢ j)
       decide k j = elim (eqb_tells k j) [ inl e ↦ inl e.1 | inr e ↦ inr e.1 ]
-
-pub unbound_locals : (names : List (List ℕ)) (bs all : List Binding) (b : Binding) → all ≡ bs ++ b ∷ [] → locals_in names bs ≡ take (length (locals_in names all) - 1) (locals_in names all)
-unbound_locals names bs all b e =
-    sym (ap (λ xs. take (length (locals_in names xs) - 1) (locals_in names xs)) e
-    ∙ ap (λ ls. take (length ls - 1) ls) (locals_append names bs b)
-    ∙ ap (λ k. take k (locals_in names bs ++ record { name = name_at names b.key; sort = b.sort } ∷ [])) (let l : length (locals_in names bs ++ record { name = name_at names b.key; sort = b.sort } ∷ []) - 1 ≡ length (locals_in names bs) = omega (arith, length-append (locals_in names bs) (record { name = name_at names b.key; sort = b.sort } ∷ [])) in l)
-    ∙ front_of (locals_in names bs) _)
 
 none_last : (o : Option Found) → None ≡ found_number o → o ≡ None
 none_last None h = refl

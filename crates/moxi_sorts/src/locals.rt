@@ -10,7 +10,7 @@ use std::marker::Model;
 use text_core::{Items, Name, NoMemory};
 
 /// A name that a variable or a `let` declares, and its sort, which is unknown where what it rests on fails a test.
-#[derive(Debug, Drop)]
+#[derive(Drop)]
 pub struct Local {
     pub name: Name,
     pub sort: Option<Sort>,

@@ -14,7 +14,7 @@ use Rattle.moxi_systems.specs.Asking.{AreTruths, CanAsk, IsTruth, check_sorts, q
 use Rattle.moxi_systems.specs.Behaviour.{Trace}
 use Rattle.moxi_systems.specs.Meeting.{Hiddens, first_failing, step_tests}
 use Rattle.moxi_scripts.specs.declared.script.Formula.{Formula}
-use Rattle.moxi_scripts.specs.Script.{PlainFormula, PlainScript, formula_at, plain_formula}
+use Rattle.moxi_scripts.specs.Script.{PlainFormula, PlainScript, plain_formula}
 use Rattle.moxi_systems.specs.Whole.{AreFormulas, IsWhole, IsWholeQuery, check_variables, over}
 use Rattle.moxi_systems.proofs.AskingSorts.{lt_held, sorted_held}
 use Rattle.moxi_systems.proofs.AskingStands.{stands_sorted}
@@ -83,16 +83,6 @@ pub truth_at : (s : PlainScript) (fs : List Formula) (i : ℕ) (f : Formula) →
 truth_at s [] i f h l e = absurd (omega arith)
 truth_at s (g ∷ fs) zero f h l e = subst (λ (x : Formula). IsTruth s (plain x.term)) (sym e) h.0
 truth_at s (g ∷ fs) (suc i) f h l e = truth_at s fs i f h.1 (omega arith) e
-
-pub formula_there : (fs : List Formula) (i : ℕ) (f : Formula) → i < length fs → f ≡ slice_index_or fs i f → plain f.term ≡ formula_at (map plain_formula fs) i
-formula_there [] i f l e = absurd (omega arith)
-formula_there (g ∷ fs) zero f l e = ap (λ (x : Formula). plain x.term) e
-formula_there (g ∷ fs) (suc i) f l e = formula_there fs i f (omega arith) e
-
-pub number_there : (P : ℕ → Type 0) (is : List ℕ) (i x : ℕ) → AllByRecursion P is → i < length is → x ≡ slice_index_or is i x → P x
-number_there P [] i x h l e = absurd (omega arith)
-number_there P (y ∷ is) zero x h l e = subst P (sym e) h.0
-number_there P (y ∷ is) (suc i) x h l e = number_there P is i x h.1 (omega arith) e
 
 -- a test of each number, one after another: what is left says the same as all, until one fails
 pub stops : (P : ℕ → Bool) (is : List ℕ) (i n x : ℕ) (b : Bool) → n ≡ length is → i < n → x ≡ slice_index_or is i x → list_all P (drop i is) ≡ list_all P is → b ≡ P x → b ≡ false → false ≡ list_all P is

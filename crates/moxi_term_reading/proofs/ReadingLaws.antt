@@ -1,11 +1,10 @@
 -- What is read by parts.
-use Rattle.std.proofs.Common.{◌≡◌, ℕ, suc, ◌+◌, ◌<◌, ◌≤◌, List, [], ◌∷◌, ◌++◌, map, length, take, drop, zero, Option, None, Some, Result, Ok, Err, IfOk, OnOk, Vec, Global, refl, sym, ap, ◌∙◌, arith, rules, append_assoc, append-nil, drop-cons, add-one}
+use Rattle.std.proofs.Common.{◌≡◌, ℕ, suc, ◌+◌, ◌<◌, ◌≤◌, List, [], ◌∷◌, ◌++◌, map, length, take, drop, zero, Option, None, Some, Result, Ok, Err, IfOk, OnOk, Vec, Global, refl, sym, ap, ◌∙◌, arith, rules, append_assoc, drop-cons, add-one}
 use Rattle.std.specs.Prelude.{slice_index_or}
 use Rattle.text_core.specs.declared.place.Place.{Place}
 use Rattle.text_core.specs.declared.place.Refusal.{Refusal}
-use Rattle.moxi_sexpr.specs.declared.form.Atom.{Atom}
 use Rattle.moxi_sexpr.specs.declared.form.Form.{Form, out-Form}
-use Rattle.moxi_sexpr.specs.declared.form.FormShape.{List as Listed, Atom as Single, the_lemmas}
+use Rattle.moxi_sexpr.specs.declared.form.FormShape.{List as Listed, the_lemmas}
 use Rattle.moxi_sexpr.specs.Lexing.{refusal}
 use Rattle.moxi_sexpr.specs.Tree as form
 use Rattle.moxi_terms.specs.declared.data.Sort.{Sort}
@@ -13,7 +12,7 @@ use Rattle.moxi_sorts.specs.declared.locals.Local.{Local}
 use Rattle.moxi_terms.specs.declared.term.Term.{Term}
 use Rattle.moxi_terms.specs.View.{plain}
 use Rattle.moxi_sorts.specs.Failures.{sooner, least}
-use Rattle.moxi_term_reading.specs.Reading.{Arguments, Bindings, joined, no_arguments, both_arguments, no_bindings, both_bindings, names_of, unless_failed, bindings_tests}
+use Rattle.moxi_term_reading.specs.Reading.{Arguments, joined, no_arguments, both_arguments, names_of, unless_failed, bindings_tests}
 use Rattle.std.proofs.lemmas.Option.{same_Some, none-some}
 use Rattle.moxi_sorts.specs.Forms.{pair_of}
 use Rattle.moxi_terms.specs.declared.term.Variable.{Variable}
@@ -43,10 +42,6 @@ joined_assoc (Some x) None c = refl
 joined_assoc (Some x) (Some y) None = refl
 joined_assoc (Some x) (Some y) (Some z) = ap Some (append_assoc x y z)
 
-joined_end : (a : Option (List Sort)) → joined a (Some []) ≡ a
-joined_end None = refl
-joined_end (Some x) = ap Some (append-nil x)
-
 joined_front : (a : Option (List Sort)) → joined (Some []) a ≡ a
 joined_front None = refl
 joined_front (Some x) = refl
@@ -57,28 +52,8 @@ arguments_assoc x y z =
     ∙ ap (λ ss. record { terms = x.terms ++ (y.terms ++ z.terms); sorts = ss; failures = (x.failures ++ y.failures) ++ z.failures }) (joined_assoc x.sorts y.sorts z.sorts)
     ∙ ap (λ fs. record { terms = x.terms ++ (y.terms ++ z.terms); sorts = joined x.sorts (joined y.sorts z.sorts); failures = fs }) (append_assoc x.failures y.failures z.failures)
 
-pub arguments_end : (x : Arguments) → both_arguments x no_arguments ≡ x
-arguments_end x =
-    ap (λ ts. record { terms = ts; sorts = joined x.sorts (Some []); failures = x.failures ++ [] }) (append-nil x.terms)
-    ∙ ap (λ ss. record { terms = x.terms; sorts = ss; failures = x.failures ++ [] }) (joined_end x.sorts)
-    ∙ ap (λ fs. record { terms = x.terms; sorts = x.sorts; failures = fs }) (append-nil x.failures)
-
 pub arguments_front : (x : Arguments) → both_arguments no_arguments x ≡ x
 arguments_front x = ap (λ ss. record { terms = x.terms; sorts = ss; failures = x.failures }) (joined_front x.sorts)
-
-pub bindings_assoc : (x y z : Bindings) → both_bindings (both_bindings x y) z ≡ both_bindings x (both_bindings y z)
-bindings_assoc x y z =
-    ap (λ ls. record { locals = ls; terms = (x.terms ++ y.terms) ++ z.terms; shape = (x.shape ++ y.shape) ++ z.shape; failures = (x.failures ++ y.failures) ++ z.failures }) (append_assoc x.locals y.locals z.locals)
-    ∙ ap (λ ts. record { locals = x.locals ++ (y.locals ++ z.locals); terms = ts; shape = (x.shape ++ y.shape) ++ z.shape; failures = (x.failures ++ y.failures) ++ z.failures }) (append_assoc x.terms y.terms z.terms)
-    ∙ ap (λ fs. record { locals = x.locals ++ (y.locals ++ z.locals); terms = x.terms ++ (y.terms ++ z.terms); shape = fs; failures = (x.failures ++ y.failures) ++ z.failures }) (append_assoc x.shape y.shape z.shape)
-    ∙ ap (λ fs. record { locals = x.locals ++ (y.locals ++ z.locals); terms = x.terms ++ (y.terms ++ z.terms); shape = x.shape ++ (y.shape ++ z.shape); failures = fs }) (append_assoc x.failures y.failures z.failures)
-
-pub bindings_end : (x : Bindings) → both_bindings x no_bindings ≡ x
-bindings_end x =
-    ap (λ ls. record { locals = ls; terms = x.terms ++ []; shape = x.shape ++ []; failures = x.failures ++ [] }) (append-nil x.locals)
-    ∙ ap (λ ts. record { locals = x.locals; terms = ts; shape = x.shape ++ []; failures = x.failures ++ [] }) (append-nil x.terms)
-    ∙ ap (λ fs. record { locals = x.locals; terms = x.terms; shape = fs; failures = x.failures ++ [] }) (append-nil x.shape)
-    ∙ ap (λ fs. record { locals = x.locals; terms = x.terms; shape = x.shape; failures = fs }) (append-nil x.failures)
 
 names_append : (xs ys : List Local) → names_of (xs ++ ys) ≡ names_of xs ++ names_of ys
 names_append [] ys = refl
@@ -104,9 +79,6 @@ if_ok_map P Q (Err e) f h = tt
 
 pub plain_list : (f : Form) (fs : Vec Form Global) → (out-Form f).shape ≡ Listed fs → form.plain f ≡ form.list (out-Form f).place (form.plain_forms fs.items)
 plain_list f fs e = search (rules, the_lemmas)
-
-pub plain_atom : (f : Form) (a : Atom) → (out-Form f).shape ≡ Single a → form.plain f ≡ form.atom (out-Form f).place a
-plain_atom f a e = search (rules, the_lemmas)
 
 pub pair_is : (ts : form.Trees) (a b : form.Tree) → Some (a, b) ≡ pair_of ts → ts ≡ form.tree a (form.tree b form.no_trees)
 pair_is form.no_trees a b h = absurd (none-some (a, b) (sym h))

@@ -41,9 +41,6 @@ module _ (fs : List PlainFunction) (k : ℕ) (now later bound_now : List Datum) 
   sorted_at : (t u : Tree) (c : CanEvaluate fs k now later bound_now t) → t ≡ u → HasSort c.enumerations (take k fs) c.vars c.bounds u c.sort
   sorted_at t u c e = subst (λ t. HasSort c.enumerations (take k fs) c.vars c.bounds t c.sort) e c.sorted
 
-  pub apply_parts : (t : Tree) (o : TermOp) (ts : Trees) → CanEvaluate fs k now later bound_now t → t ≡ apply o ts → CanEvaluateAll fs k now later bound_now ts
-  apply_parts t o ts c e = let h = sorted_at t (apply o ts) c e in all_of ts h.0 t c h.1
-
   pub apply_can : (t : Tree) (o : TermOp) (ts : Trees) (vs : List Datum) → CanEvaluate fs k now later bound_now t → t ≡ apply o ts → vs ≡ term_values (calls_upto fs k) (at now) (at later) bound_now ts → CanApply o vs
   apply_can t o ts vs c e f =
       let h = sorted_at t (apply o ts) c e in
@@ -54,9 +51,6 @@ module _ (fs : List PlainFunction) (k : ℕ) (now later bound_now : List Datum) 
         fit = subst (Fit c.enumerations h.0) (sym f) (all_fit fs k now later bound_now ts (all_of ts h.0 t c h.1));
         sorted = h.2;
       }
-
-  pub let_parts : (t : Tree) (names : List (List ℕ)) (ts : Trees) (u : Tree) → CanEvaluate fs k now later bound_now t → t ≡ binding names ts u → CanEvaluateAll fs k now later bound_now ts
-  let_parts t names ts u c e = let h = sorted_at t (binding names ts u) c e in all_of ts h.0 t c h.2
 
   pub let_body : (t : Tree) (names : List (List ℕ)) (ts : Trees) (u : Tree) (vs : List Datum) → CanEvaluate fs k now later bound_now t → t ≡ binding names ts u
       → vs ≡ term_values (calls_upto fs k) (at now) (at later) bound_now ts → CanEvaluate fs k now later (bound_now ++ vs) u
@@ -74,9 +68,6 @@ module _ (fs : List PlainFunction) (k : ℕ) (now later bound_now : List Datum) 
         fit_bound = fit_append c.enumerations c.bounds h.0 bound_now vs c.fit_bound (subst (Fit c.enumerations h.0) (sym f) (all_fit fs k now later bound_now ts (all_of ts h.0 t c h.2)));
         sorted = h.3;
       }
-
-  pub call_parts : (t : Tree) (n : ℕ) (ts : Trees) → CanEvaluate fs k now later bound_now t → t ≡ call n ts → CanEvaluateAll fs k now later bound_now ts
-  call_parts t n ts c e = let h = sorted_at t (call n ts) c e in all_of ts (sorts_of h.0.parameters) t c h.2
 
   pub call_can : (t : Tree) (n : ℕ) (ts : Trees) (vs : List Datum) → CanEvaluate fs k now later bound_now t → t ≡ call n ts → vs ≡ term_values (calls_upto fs k) (at now) (at later) bound_now ts → CanCall fs k n vs
   call_can t n ts vs c e f =

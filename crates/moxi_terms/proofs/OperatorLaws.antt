@@ -27,9 +27,6 @@ chosen_of : (es : List Enumeration) (s : Sort) (c : Bool) (a b : Datum) → IsOf
 chosen_of es s true a b x y = x
 chosen_of es s false a b x y = y
 
-no_length : (n : ℕ) → eqb (suc (suc (suc n))) 1 ≡ true → ⊥
-no_length n h = grind (arith, nat_tests)
-
 pub slice_is_word : (a : BitVector) (high low : ℕ) → IsWord a → low ≤ high → high < a.width → IsWord (slice_of a high low)
 slice_is_word a high low w le lt =
     let wide : a.width ≤ 64 = w.1 in

@@ -1,26 +1,17 @@
 -- The plain form of each kind of term, and the bodies of functions.
-use Rattle.std.proofs.Common.{◌≡◌, ℕ, zero, suc, ◌<◌, ◌+◌, Bool, cond, List, [], ◌∷◌, map, drop, length, Some, Vec, Box, Global, IfOk, Result, Ok, Err, refl, sym, ap, ◌∙◌, arith, rules, inl, inr, drop-cons, add-one}
+use Rattle.std.proofs.Common.{◌≡◌, ℕ, zero, suc, ◌<◌, ◌+◌, cond, List, [], ◌∷◌, map, drop, length, Some, Vec, Box, Global, IfOk, Result, Ok, Err, refl, sym, ap, ◌∙◌, arith, rules, inl, inr, drop-cons, add-one}
 use Rattle.std.specs.Prelude.{slice_get, slice_index_or}
 use Rattle.std.proofs.lemmas.Bool.Decides.{eqb_tells}
 use Rattle.std.proofs.lemmas.Option.{none-some}
 use Rattle.moxi_terms.specs.declared.data.Datum.{Datum}
 use Rattle.moxi_terms.specs.declared.data.TermOp.{TermOp}
 use Rattle.moxi_terms.specs.declared.term.Function.{Function}
-use Rattle.moxi_terms.specs.declared.term.Term.{Term, Constant, Variable, Bound, Apply, Let, Call, the_lemmas}
-use Rattle.moxi_terms.specs.Tree.{constant, variable, bound, apply, binding, call, trees_of, tree, PlainFunction}
+use Rattle.moxi_terms.specs.declared.term.Term.{Term, Apply, Let, Call, the_lemmas}
+use Rattle.moxi_terms.specs.Tree.{apply, binding, call, trees_of, tree, PlainFunction}
 use Rattle.moxi_terms.specs.Value.{at, term_value, calls_upto, body_at}
 use Rattle.moxi_terms.specs.Cost.{cost, cost_upto}
 use Rattle.moxi_terms.specs.View.{plain, plain_function}
 use Rattle.moxi_terms.proofs.ValueLaws.{calls_at}
-
-pub plain-Constant : (d : Datum) → plain (Constant d) ≡ constant d
-plain-Constant d = search (rules, the_lemmas)
-
-pub plain-Variable : (v : ℕ) (p : Bool) → plain (Variable v p) ≡ variable v p
-plain-Variable v p = search (rules, the_lemmas)
-
-pub plain-Bound : (i : ℕ) → plain (Bound i) ≡ bound i
-plain-Bound i = search (rules, the_lemmas)
 
 pub plain-Apply : (op : TermOp) (ts : Vec Term Global) → plain (Apply op ts) ≡ apply op (trees_of (map plain ts.items))
 plain-Apply op ts = search (rules, the_lemmas)

@@ -14,7 +14,7 @@ use Rattle.moxi_terms.specs.Tree.{Tree, constant, variable, bound, apply, bindin
 use Rattle.moxi_terms.specs.View.{ScopeState}
 use Rattle.moxi_terms.specs.Sorts.{IsSort, IsConstant, IsOf}
 use Rattle.moxi_terms.specs.Sorted.{HasSort, HaveSorts, IsFunction, AreFunctions}
-use Rattle.moxi_terms.specs.Names.{enumeration_names, sort_names, function_names, all_constants, numbered, constant_numbers, with_enumeration, with_sort, with_function, place_of, is_among, is_term_name, is_sort_name, constant_named}
+use Rattle.moxi_terms.specs.Names.{enumeration_names, sort_names, function_names, all_constants, numbered, constant_numbers, with_enumeration, with_function, place_of, is_among, is_term_name, is_sort_name, constant_named}
 use Rattle.moxi_terms.specs.Words.{is_operator}
 use Rattle.std.specs.Str.{bytes_eq}
 use Rattle.moxi_terms.specs.Scopes.{IsKept}
@@ -49,24 +49,6 @@ append_cases (z ∷ zs) x y (suc j) h = elim (append_cases zs x y j h) [
 
 take_front : {A : Type 0} (xs : List A) (x : A) (j : ℕ) → j ≤ length xs → take j (xs ++ x ∷ []) ≡ take j xs
 take_front xs x j h = take-append-le j xs (x ∷ []) h
-
--- one more sort
-pub kept_sort : (s : ScopeState) (e so f c : List (List ℕ)) (n : List (ℕ × ℕ)) (name : List ℕ) (sort : Sort) → IsKept s e so f c n → IsSort s.enumerations sort → length s.sorts < 2 ^ 32 - 1
-    → IsKept (with_sort s name sort) e (so ++ name ∷ []) f c n
-kept_sort s e so f c n name sort k is few =
-    let x : NamedSort = record { name = name; sort = sort } in
-    record {
-      scope = record { enumerations = k.scope.enumerations; sorts = all_end (λ (n : NamedSort). IsSort s.enumerations n.sort) s.sorts x k.scope.sorts is; functions = k.scope.functions };
-      enumeration_names = k.enumeration_names;
-      sort_names = ap (λ ns. ns ++ name ∷ []) k.sort_names ∙ sym (map_end (λ (n : NamedSort). n.name) s.sorts x);
-      function_names = k.function_names;
-      constant_names = k.constant_names;
-      constant_numbers = k.constant_numbers;
-      few_enumerations = k.few_enumerations;
-      few_sorts = omega (arith, length-append s.sorts (x ∷ []), few);
-      few_functions = k.few_functions;
-      few_constants = k.few_constants;
-    }
 
 functions_end : (es : List Enumeration) (fs : List PlainFunction) (f : PlainFunction) → AreFunctions es fs → IsFunction es fs f → AreFunctions es (fs ++ f ∷ [])
 functions_end es fs f a is n g h = elim (append_cases fs f g n h) [
@@ -162,21 +144,6 @@ numbers_long n [] = refl
 numbers_long n (x ∷ xs) =
     length-append (numbered n 0 x.constants) (constant_numbers (suc n) xs) ∙ ap (λ k. k + length (constant_numbers (suc n) xs)) (numbered_long n 0 x.constants)
     ∙ ap (λ k. length x.constants + k) (numbers_long (suc n) xs) ∙ sym (length-append x.constants (all_constants xs))
-
--- other numbers behind those of the constants
-pub kept_numbers : (s : ScopeState) (e so f c : List (List ℕ)) (n m : List (ℕ × ℕ)) → IsKept s e so f c n → take (length c) m ≡ take (length c) n → IsKept s e so f c m
-kept_numbers s e so f c n m k h = record {
-  scope = k.scope;
-  enumeration_names = k.enumeration_names;
-  sort_names = k.sort_names;
-  function_names = k.function_names;
-  constant_names = k.constant_names;
-  constant_numbers = ap (λ c. take (length c) m) (sym k.constant_names) ∙ h ∙ ap (λ c. take (length c) n) k.constant_names ∙ k.constant_numbers;
-  few_enumerations = k.few_enumerations;
-  few_sorts = k.few_sorts;
-  few_functions = k.few_functions;
-  few_constants = k.few_constants;
-}
 
 -- one more enumeration
 pub kept_enumeration : (s : ScopeState) (e so f c : List (List ℕ)) (n m : List (ℕ × ℕ)) (x : Enumeration) → IsKept s e so f c n → 0 < length x.constants → length s.enumerations < 2 ^ 32 - 1

@@ -11,7 +11,7 @@ use text_core::{Name, Names, NoMemory};
 
 /// What a bare name stands for: the number of a bound name or of a variable, each with its sort where it is known, a
 /// constant, or the number of a function without parameters.
-#[derive(Clone, Copy, Debug)]
+#[derive(Clone, Copy)]
 pub enum Meaning {
     Bound(u32, Option<Sort>),
     Variable(u32, Option<Sort>),
@@ -20,7 +20,7 @@ pub enum Meaning {
 }
 
 /// What the head of an application stands for: an operator, or the number of a function with parameters.
-#[derive(Clone, Copy, Debug)]
+#[derive(Clone, Copy)]
 pub enum Head {
     Operator(TermOp),
     Function(u32),

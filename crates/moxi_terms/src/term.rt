@@ -19,7 +19,7 @@ pub enum Term {
 pub type Terms = Vec<Term>;
 
 /// A variable or a parameter.
-#[derive(Debug, Drop)]
+#[derive(Drop)]
 pub struct Variable {
     pub name: Name,
     pub sort: Sort,
@@ -29,14 +29,14 @@ pub struct Variable {
 pub type Variables = Items<Variable>;
 
 /// An enumeration sort and its constants.
-#[derive(Debug, Drop)]
+#[derive(Drop)]
 pub struct Enumeration {
     pub name: Name,
     pub constants: Names,
 }
 
 /// A defined sort.
-#[derive(Debug, Drop)]
+#[derive(Drop)]
 pub struct NamedSort {
     pub name: Name,
     pub sort: Sort,

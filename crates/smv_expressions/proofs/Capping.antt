@@ -1,5 +1,5 @@
 -- What is kept of an expression, and the heights of chains and branches that grow.
-use Rattle.std.proofs.Common.{◌≡◌, ℕ, suc, ◌+◌, ◌≤◌, ◌<◌, max, Bool, true, false, ◌&&◌, if◌then◌else◌, leb, Option, Some, None, is_some, List, [], ◌∷◌, ◌++◌, map, length, refl, ap, ◌∙◌, arith}
+use Rattle.std.proofs.Common.{◌≡◌, ℕ, suc, ◌+◌, ◌≤◌, ◌<◌, max, Bool, true, false, ◌&&◌, if◌then◌else◌, leb, Option, Some, None, List, [], ◌∷◌, ◌++◌, map, length, refl, ap, ◌∙◌, arith}
 use Rattle.std.proofs.lemmas.Bool.{leb-true, leb-false}
 use Rattle.text_core.specs.declared.place.Place.{Place}
 use Rattle.smv_text.specs.declared.tree.Infix.{Infix}
@@ -65,14 +65,6 @@ pub length-push : {A : Type 0} (ls : List A) (l : A) → length (ls ++ l ∷ [])
 length-push [] l = refl
 length-push (x ∷ ls) l = ap suc (length-push ls l)
 
-pub first_number-push : (ls : List (Infix × ℕ)) (l : Infix × ℕ) → 0 < length ls → first_number (ls ++ l ∷ []) ≡ first_number ls
-first_number-push [] l h = absurd (omega arith)
-first_number-push (x ∷ ls) l h = refl
-
-pub is_implied-push : (ls : List (Infix × ℕ)) (l : Infix × ℕ) → 0 < length ls → is_implied (ls ++ l ∷ []) ≡ is_implied ls
-is_implied-push [] l h = absurd (omega arith)
-is_implied-push (x ∷ ls) l h = refl
-
 same_has : (o : Option ℕ) (n : ℕ) → has_number o n ≡ same_number o (Some n)
 same_has None n = refl
 same_has (Some m) n = refl
@@ -97,13 +89,6 @@ is_joined-push (x ∷ ls) l h = go (joined_number x.0)
     go : (o : Option ℕ) → joined_as o (ls ++ l ∷ []) ≡ (joined_as o ls && same_number (joined_number l.0) o)
     go None = refl
     go (Some n) = all_joined-push n ls l
-
-pub is_joined-one : (op : Infix) (m : ℕ) → is_joined ((op, m) ∷ []) ≡ is_some (joined_number op)
-is_joined-one op m = go (joined_number op)
-  where
-    go : (o : Option ℕ) → joined_as o [] ≡ is_some o
-    go None = refl
-    go (Some n) = refl
 
 pub none_so_far : {A : Type 0} (ls : List A) → length ls ≡ 0 → ls ≡ []
 none_so_far [] e = refl
@@ -155,10 +140,6 @@ pub link_heights-push : (ls : List (Infix × Tree)) (op : Infix) (t : Tree)
     → link_heights (links_of (ls ++ (op, t) ∷ [])) ≡ link_heights (links_of ls) ++ (op, height t) ∷ []
 link_heights-push [] op t = refl
 link_heights-push (l ∷ ls) op t = ap (λ rest. (l.0, height l.1) ∷ rest) (link_heights-push ls op t)
-
-pub link_heights-length : (ls : List (Infix × Tree)) → length (link_heights (links_of ls)) ≡ length ls
-link_heights-length [] = refl
-link_heights-length (l ∷ ls) = ap suc (link_heights-length ls)
 
 -- branches that grow
 pub highest_branch-push : (d : ℕ) (bs : List (Tree × Tree)) (b : Tree × Tree)

@@ -1,5 +1,5 @@
 -- How the machine goes through the levels: down to the first operand, and up to the level that a token goes on with.
-use Rattle.std.proofs.Common.{◌≡◌, ℕ, zero, suc, ◌<◌, ◌≤◌, Bool, true, false, ◌&&◌, cond, if◌then◌else◌, nat_lt, nat_le, nat_eq, Option, Some, None, is_some, ◌⊎◌, inl, inr, List, [], ◌∷◌, length, refl, sym, ap, ◌∙◌, arith}
+use Rattle.std.proofs.Common.{◌≡◌, ℕ, zero, suc, ◌<◌, ◌≤◌, Bool, true, false, ◌&&◌, cond, if◌then◌else◌, nat_lt, nat_le, nat_eq, Option, Some, None, is_some, ◌⊎◌, inl, inr, List, [], ◌∷◌, length, refl, sym, ap, ◌∙◌, subst, arith}
 use Rattle.std.proofs.lemmas.Bool.{ltb-true, ltb-false, lt-ltb, le-ltb, eqb-true, eqb-false, leb-true, le-leb, and_parts}
 use Rattle.text_core.specs.declared.place.Place.{Place}
 use Rattle.smv_text.specs.declared.token.Sign.{Sign}
@@ -9,17 +9,19 @@ use Rattle.smv_text.specs.declared.token.TokenKind.{TokenKind}
 use Rattle.smv_text.specs.declared.token.TokenKind.TheVariants as kind
 use Rattle.smv_text.specs.declared.token.Reserved.TheVariants as word
 use Rattle.smv_text.specs.declared.tree.Path.{Path}
+use Rattle.smv_text.specs.declared.tree.Prefix.{Prefix}
 use Rattle.smv_text.specs.declared.tree.Prefix.TheVariants as prefixes
 use Rattle.smv_text.specs.declared.level.Level.{Level}
-use Rattle.smv_text.specs.declared.level.Level.TheVariants.{Range}
+use Rattle.smv_text.specs.declared.level.Level.TheVariants.{Before}
 use Rattle.smv_text.specs.Tree.{Tree, number, truth}
 use Rattle.smv_text.specs.Grammar.{start}
 use Rattle.smv_grammar.specs.declared.levels.Leader.{Leader}
 use Rattle.smv_grammar.specs.declared.levels.Leader.TheVariants as leader
 use Rattle.smv_grammar.specs.Marks.{is_sign}
 use Rattle.smv_expressions.specs.Gathered.{single}
+use Rattle.smv_expressions.specs.Following.{Begins, first_level}
 use Rattle.smv_grammar.specs.Ranks.{level_at, tightest, first_rank}
-use Rattle.smv_grammar.specs.Machine.{is_prefix, Frame, ask, have, signed, opened, primary, leader_of, path_head, longer, failed, along, walk}
+use Rattle.smv_grammar.specs.Machine.{prefix_sign, is_prefix, Frame, ask, have, signed, opened, primary, leader_of, path_head, longer, failed, along, walk}
 use Rattle.smv_grammar.specs.Reading.{after, found, integer_at, starts_with_dots, dots_behind, starts_range, with_name, path_on, path_step, path_at, first_path, waiting}
 use Rattle.smv_grammar.proofs.First.{path_on-ends}
 use Rattle.smv_grammar.proofs.Ranked.{rank_at}
@@ -113,56 +115,95 @@ and_false : (a b : Bool) → a ≡ true → (a && b) ≡ false → b ≡ false
 and_false true b e f = f
 and_false false b e f = cc
 
-no_sign_first : (s : Sign) (x : Token) (xs : List Token) → is_sign s x.kind ≡ false → after s (x ∷ xs) ≡ None
-no_sign_first s x xs e = ap (λ b. cond b (Some xs) None) e
-
-module _ (n : ℕ) (few : n ≤ 16) (x : Token) (xs : List Token) (k : List Frame) where
-  pub range_descends : (nat_le 8 n && starts_range (x ∷ xs)) ≡ true → walk (x ∷ xs) (ask (tightest n) k) ≡ walk (x ∷ xs) (ask (tightest 8) (waiting 8 n x.place k))
-  range_descends e =
-      descends 8 n (x ∷ xs) k (leb-true 8 n (and_parts (nat_le 8 n) _ e).0) few (record { no_not = λ a b. absurd (omega arith); no_minus = λ a b. absurd (omega arith); no_range = λ a b. absurd (omega arith) })
-
-  no_range_from : (nat_le 8 n && starts_range (x ∷ xs)) ≡ false → 7 < n → starts_range (x ∷ xs) ≡ false
-  no_range_from r h = and_false (nat_le 8 n) _ (le-leb 8 n (omega arith)) r
-
-  pub minus_descends : (nat_le 8 n && starts_range (x ∷ xs)) ≡ false → (nat_le 4 n && is_prefix prefixes.Minus x.kind) ≡ true
-      → walk (x ∷ xs) (ask (tightest n) k) ≡ walk xs (signed prefixes.Minus (tightest 3) x.place 1 (waiting 4 n x.place k))
-  minus_descends r e =
-      let p = and_parts (nat_le 4 n) _ e in
-      descends 4 n (x ∷ xs) k (leb-true 4 n p.0) few (record { no_not = λ a b. absurd (omega arith); no_minus = λ a b. absurd (omega arith); no_range = λ a b. no_range_from r b })
-      ∙ prefix_begins prefixes.Minus (tightest 3) (waiting 4 n x.place k) x xs p.1
-
-  pub not_descends : (nat_le 8 n && starts_range (x ∷ xs)) ≡ false → (nat_le 4 n && is_prefix prefixes.Minus x.kind) ≡ false → (nat_le 2 n && is_prefix prefixes.Not x.kind) ≡ true
-      → walk (x ∷ xs) (ask (tightest n) k) ≡ walk xs (signed prefixes.Not (tightest 1) x.place 1 (waiting 2 n x.place k))
-  not_descends r m e =
-      let p = and_parts (nat_le 2 n) _ e in
-      descends 2 n (x ∷ xs) k (leb-true 2 n p.0) few
-      (record { no_not = λ a b. absurd (omega arith); no_minus = λ a b. no_sign_first sign.Minus x xs (and_false (nat_le 4 n) _ (le-leb 4 n (omega arith)) m); no_range = λ a b. no_range_from r b })
-      ∙ prefix_begins prefixes.Not (tightest 1) (waiting 2 n x.place k) x xs p.1
-
-  pub plain_descends : (nat_le 8 n && starts_range (x ∷ xs)) ≡ false → (nat_le 4 n && is_prefix prefixes.Minus x.kind) ≡ false → (nat_le 2 n && is_prefix prefixes.Not x.kind) ≡ false
-      → walk (x ∷ xs) (ask (tightest n) k) ≡ walk (x ∷ xs) (ask [] (waiting 0 n x.place k))
-  plain_descends r m e =
-      descends 0 n (x ∷ xs) k (omega arith) few
-      (record {
-        no_not = λ a b. no_sign_first sign.Not x xs (and_false (nat_le 2 n) _ (le-leb 2 n (omega arith)) e);
-        no_minus = λ a b. no_sign_first sign.Minus x xs (and_false (nat_le 4 n) _ (le-leb 4 n (omega arith)) m);
-        no_range = λ a b. no_range_from r b;
-      })
-
 pub none_left : {A : Type 0} (o : Option A) → is_some o ≡ false → o ≡ None
 none_left None e = refl
 none_left (Some x) e = cc
 
+-- The first operand of n levels is read at m.
+pub record IsFirstAt (n m : ℕ) (xs : List Token) : Type 0 where
+  pub begins : Begins m xs
+  pub leads : (p : Place) → p ≡ start xs → (k : List Frame) → walk xs (ask (tightest n) k) ≡ walk xs (ask (tightest m) (waiting m n p k))
+
+at_start : (n m : ℕ) (xs : List Token) → ((k : List Frame) → walk xs (ask (tightest n) k) ≡ walk xs (ask (tightest m) (waiting m n (start xs) k)))
+    → (p : Place) → p ≡ start xs → (k : List Frame) → walk xs (ask (tightest n) k) ≡ walk xs (ask (tightest m) (waiting m n p k))
+at_start n m xs h p e k = h k ∙ ap (λ q. walk xs (ask (tightest m) (waiting m n q k))) (sym e)
+
+module _ (n : ℕ) (few : n ≤ 16) (xs : List Token) where
+  no_range_from : (nat_le 8 n && starts_range xs) ≡ false → 7 < n → starts_range xs ≡ false
+  no_range_from r h = and_false (nat_le 8 n) _ (le-leb 8 n (omega arith)) r
+
+  no_sign_from : (m : ℕ) (s : Sign) → (nat_le m n && is_some (after s xs)) ≡ false → m ≤ n → after s xs ≡ None
+  no_sign_from m s e h = none_left (after s xs) (and_false (nat_le m n) _ (le-leb m n h) e)
+
+  range_first : (nat_le 8 n && starts_range xs) ≡ true → IsFirstAt n 8 xs
+  range_first e =
+      let h = and_parts (nat_le 8 n) _ e in
+      record {
+        begins = record { range = λ _. h.1; minus = λ same. absurd (omega arith); negation = λ same. absurd (omega arith); below = λ other _ _. absurd (other refl) };
+        leads = at_start n 8 xs (λ k. descends 8 n xs k (leb-true 8 n h.0) few (record { no_not = λ a b. absurd (omega arith); no_minus = λ a b. absurd (omega arith); no_range = λ a b. absurd (omega arith) }));
+      }
+
+  minus_first : (nat_le 8 n && starts_range xs) ≡ false → (nat_le 4 n && is_some (after sign.Minus xs)) ≡ true → IsFirstAt n 4 xs
+  minus_first r e =
+      let h = and_parts (nat_le 4 n) _ e in
+      record {
+        begins = record { range = λ same. absurd (omega arith); minus = λ _. h.1; negation = λ same. absurd (omega arith); below = λ _ other _. absurd (other refl) };
+        leads = at_start n 4 xs (λ k. descends 4 n xs k (leb-true 4 n h.0) few (record { no_not = λ a b. absurd (omega arith); no_minus = λ a b. absurd (omega arith); no_range = λ a b. no_range_from r b }));
+      }
+
+  not_first : (nat_le 8 n && starts_range xs) ≡ false → (nat_le 4 n && is_some (after sign.Minus xs)) ≡ false → (nat_le 2 n && is_some (after sign.Not xs)) ≡ true → IsFirstAt n 2 xs
+  not_first r m e =
+      let h = and_parts (nat_le 2 n) _ e in
+      record {
+        begins = record { range = λ same. absurd (omega arith); minus = λ same. absurd (omega arith); negation = λ _. h.1; below = λ _ _ other. absurd (other refl) };
+        leads = at_start n 2 xs (λ k. descends 2 n xs k (leb-true 2 n h.0) few (record { no_not = λ a b. absurd (omega arith); no_minus = λ a b. no_sign_from 4 sign.Minus m (omega arith); no_range = λ a b. no_range_from r b }));
+      }
+
+  pub plain_descends : (k : List Frame) → (nat_le 8 n && starts_range xs) ≡ false → (nat_le 4 n && is_some (after sign.Minus xs)) ≡ false → (nat_le 2 n && is_some (after sign.Not xs)) ≡ false
+      → walk xs (ask (tightest n) k) ≡ walk xs (ask [] (waiting 0 n (start xs) k))
+  plain_descends k r m e =
+      descends 0 n xs k (omega arith) few
+      (record { no_not = λ a b. no_sign_from 2 sign.Not e (omega arith); no_minus = λ a b. no_sign_from 4 sign.Minus m (omega arith); no_range = λ a b. no_range_from r b })
+
+  plain_first : (nat_le 8 n && starts_range xs) ≡ false → (nat_le 4 n && is_some (after sign.Minus xs)) ≡ false → (nat_le 2 n && is_some (after sign.Not xs)) ≡ false → IsFirstAt n 0 xs
+  plain_first r m e = record {
+    begins = record { range = λ same. absurd (omega arith); minus = λ same. absurd (omega arith); negation = λ same. absurd (omega arith); below = λ _ _ _. refl };
+    leads = at_start n 0 xs (λ k. plain_descends k r m e);
+  }
+
+  first_by : (r m e : Bool) → (nat_le 8 n && starts_range xs) ≡ r → (nat_le 4 n && is_some (after sign.Minus xs)) ≡ m → (nat_le 2 n && is_some (after sign.Not xs)) ≡ e
+      → IsFirstAt n (if r then 8 else if m then 4 else if e then 2 else 0) xs
+  first_by true m e a b c = range_first a
+  first_by false true e a b c = minus_first a b
+  first_by false false true a b c = not_first a b c
+  first_by false false false a b c = plain_first a b c
+
+  pub first_at : (m : ℕ) → m ≡ first_level n xs → IsFirstAt n m xs
+  first_at m is = subst (λ l. IsFirstAt n l xs) (sym is) (first_by _ _ _ refl refl refl)
+
+-- a prefix begins with its sign
+first_true : (b : Bool) (xs : List Token) → is_some (cond b (Some xs) None) ≡ true → b ≡ true
+first_true true xs e = refl
+first_true false xs e = cc
+
+pub prefix_first : (pre : Prefix) (below : List Level) (ys : List Token) (x : Token) (xs : List Token) → ys ≡ x ∷ xs → is_some (after (prefix_sign pre) ys) ≡ true
+    → (k : List Frame) → walk ys (ask (Before pre ∷ below) k) ≡ walk xs (signed pre below x.place 1 k)
+prefix_first pre below ys x xs is e k =
+    ap (λ zs. walk zs (ask (Before pre ∷ below) k)) is ∙ prefix_begins pre below k x xs (first_true _ xs (ap (λ zs. is_some (after (prefix_sign pre) zs)) (sym is) ∙ e))
+
 neither : (b : Bool) (z : Bool) → z ≡ false → (b && z) ≡ false
 neither true z e = e
 neither false z e = refl
+
+not_some : {b : Bool} (xs : List Token) → b ≡ false → is_some (cond b (Some xs) None) ≡ false
+not_some xs e = ap (λ b. is_some (cond b (Some xs) None)) e
 
 -- a token that begins neither a range nor signs is read below all levels
 pub alone_leads : (n : ℕ) → n ≤ 16 → (x : Token) (xs : List Token) (k : List Frame) (l : Leader) → l ≡ leader_of x.kind
     → starts_range (x ∷ xs) ≡ false → is_prefix prefixes.Minus x.kind ≡ false → is_prefix prefixes.Not x.kind ≡ false
     → walk (x ∷ xs) (ask (tightest n) k) ≡ along (primary l (waiting 0 n x.place k) x.place x.kind) x xs (λ s. walk xs s)
 alone_leads n few x xs k l e no_range no_minus no_negation =
-    plain_descends n few x xs k (neither (nat_le 8 n) _ no_range) (neither (nat_le 4 n) _ no_minus) (neither (nat_le 2 n) _ no_negation) ∙ leads_by (waiting 0 n x.place k) x xs l e
+    plain_descends n few (x ∷ xs) k (neither (nat_le 8 n) _ no_range) (neither (nat_le 4 n) _ (not_some xs no_minus)) (neither (nat_le 2 n) _ (not_some xs no_negation)) ∙ leads_by (waiting 0 n x.place k) x xs l e
 
 -- a number begins a range where `..` is behind it
 no_dots : (xs : List Token) → is_some (after sign.Range xs) ≡ false → starts_with_dots xs ≡ false
@@ -190,7 +231,7 @@ pub name_leads : (n : ℕ) → n ≤ 16 → (x : Token) (xs : List Token) (k : L
     → walk (x ∷ xs) (ask (tightest n) k) ≡ walk xs (have (single x.place m) (waiting 0 n x.place k))
 name_leads n few x xs k m e alone =
     let w = waiting 0 n x.place k in
-    plain_descends n few x xs k (neither (nat_le 8 n) _ (ap (λ z. dots_behind (integer_at z xs)) e)) (neither (nat_le 4 n) _ (ap (is_prefix prefixes.Minus) e)) (neither (nat_le 2 n) _ (ap (is_prefix prefixes.Not) e))
+    plain_descends n few (x ∷ xs) k (neither (nat_le 8 n) _ (ap (λ z. dots_behind (integer_at z xs)) e)) (neither (nat_le 4 n) _ (not_some xs (ap (is_prefix prefixes.Minus) e))) (neither (nat_le 2 n) _ (not_some xs (ap (is_prefix prefixes.Not) e)))
     ∙ path_begins w x xs (sym (ap leader_of e)) ∙ ap (λ z. named_on (path_at z x.place xs) w) e ∙ ap (λ f. named_on f w) (path_on-ends (path_head (kind.Ident m) x.place) xs alone)
 
 pub beside : (m n r : ℕ) → (r ≤ m) ⊎ ((m < r) × (n < r)) → (i : ℕ) → m ≤ i → i < n → r ≡ suc i → ⊥

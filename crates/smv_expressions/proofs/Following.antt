@@ -1,5 +1,5 @@
 -- What the answer of a part says of the answer of the whole.
-use Rattle.std.proofs.Common.{◌≡◌, ℕ, ℤ, None, Result, Ok, Err, List, [], ◌∷◌, length, refl, sym, ap, ◌∙◌, subst}
+use Rattle.std.proofs.Common.{◌≡◌, ℕ, ℤ, Some, None, Result, Ok, Err, List, [], ◌∷◌, length, refl, sym, ap, ◌∙◌, subst}
 use Rattle.text_core.specs.declared.place.Place.{Place}
 use Rattle.smv_text.specs.declared.token.Sign.{Sign}
 use Rattle.smv_text.specs.declared.token.Token.{Token}
@@ -9,10 +9,10 @@ use Rattle.smv_text.specs.Tree.{Tree}
 use Rattle.smv_grammar.specs.declared.levels.Leader.TheVariants as leader
 use Rattle.smv_expressions.specs.declared.stop.Stop.{Stop}
 use Rattle.smv_expressions.specs.declared.stop.Stop.TheVariants.{Dead, NoMemory}
-use Rattle.smv_grammar.specs.Kept.{Read}
-use Rattle.smv_grammar.specs.Machine.{Frame, State, ask, upto, high_end, leader_of, failed, walk, took}
+use Rattle.smv_grammar.specs.Kept.{Read, cap}
+use Rattle.smv_grammar.specs.Machine.{Frame, State, ask, have, upto, high_end, leader_of, failed, walk, took}
 use Rattle.smv_grammar.specs.Reading.{after, first_integer, first_path, Found}
-use Rattle.smv_expressions.specs.Following.{IsLost, Finds, Dies, Leads, Follows, Misses, Takes, Selects, SelectsNone}
+use Rattle.smv_expressions.specs.Following.{IsLost, Finds, Dies, Leads, Follows, Misses, Passes, Gathers, Collects, Takes, Selects, SelectsNone}
 use Rattle.smv_grammar.proofs.Steps.{named_on, upto_dies}
 use Rattle.smv_grammar.proofs.Climbing.{path_begins}
 use Rattle.smv_grammar.proofs.Running.{had, outcome, runs}
@@ -42,6 +42,39 @@ missed from xs ys s h NoMemory m = tt
 pub follows_missed : {Y : Type 0} (view : Y → Read × List Token) (adding : Y → List Frame → List Frame) (from : List Frame → State) (xs ys : List Token) (s : Sign) (r : Result Y Stop) (d e : Stop) → r ≡ Err d → d ≡ e
     → ((k : List Frame) → after s ys ≡ None → walk xs (from k) ≡ failed (length ys)) → Misses s ys e → Leads view adding from xs r
 follows_missed view adding from xs ys s r d e is same h m = subst (Leads view adding from xs) (sym (is ∙ ap Err same)) (missed from xs ys s h e m)
+
+-- a sign that ends the whole is taken or missing
+pub follows_passed : {Y : Type 0} (view : Y → Read × List Token) (from : List Frame → State) (xs ys : List Token) (s : Sign) (r : Result Y Stop) (t : Tree) (at : (y : Y) → (view y).0 ≡ cap t)
+    → ((k : List Frame) (rest : List Token) → after s ys ≡ Some rest → walk xs (from k) ≡ walk rest (have t k)) → ((k : List Frame) → after s ys ≡ None → walk xs (from k) ≡ failed (length ys))
+    → Passes (λ y. (view y).1) r s ys → Follows view from xs r
+follows_passed view from xs ys s (Ok y) t at goes dies h = record { tree = t; kept = at y; leads = λ k. goes k (view y).1 h }
+follows_passed view from xs ys s (Err e) t at goes dies h = missed from xs ys s dies e h
+
+-- what is said of parts that were gathered
+pub collects_ok : {P Y : Type 0} (are : P → Type 0) (whole : P → Tree) (view : Y → List Token) (from : List Frame → State) (xs : List Token) (r : Result Y Stop) (y : Y) → r ≡ Ok y
+    → Collects are whole view from xs r → Gathers are whole from xs (view y)
+collects_ok are whole view from xs r y is h = subst (Collects are whole view from xs) is h
+
+pub collects_err : {P Y : Type 0} (are : P → Type 0) (whole : P → Tree) (view : Y → List Token) (from : List Frame → State) (xs : List Token) (r : Result Y Stop) (e : Stop) → r ≡ Err e
+    → Collects are whole view from xs r → Dies from xs e
+collects_err are whole view from xs r e is h = subst (Collects are whole view from xs) is h
+
+pub collects_dead : {P Y : Type 0} (are : P → Type 0) (whole : P → Tree) (view : Y → List Token) (from from' : List Frame → State) (xs xs' : List Token) (r : Result Y Stop) (d e : Stop) → r ≡ Err d → d ≡ e
+    → ((k : List Frame) → (k' : List Frame) × (walk xs (from k) ≡ walk xs' (from' k'))) → Dies from' xs' e → Collects are whole view from xs r
+collects_dead are whole view from from' xs xs' r d e is same h dies = subst (Collects are whole view from xs) (sym (is ∙ ap Err same)) (dies_along from from' xs xs' h e dies)
+
+pub collects_missed : {P Y : Type 0} (are : P → Type 0) (whole : P → Tree) (view : Y → List Token) (from : List Frame → State) (xs ys : List Token) (s : Sign) (r : Result Y Stop) (d e : Stop) → r ≡ Err d → d ≡ e
+    → ((k : List Frame) → after s ys ≡ None → walk xs (from k) ≡ failed (length ys)) → Misses s ys e → Collects are whole view from xs r
+collects_missed are whole view from xs ys s r d e is same h m = subst (Collects are whole view from xs) (sym (is ∙ ap Err same)) (missed from xs ys s h e m)
+
+pub collects_passed : {P Y : Type 0} (are : P → Type 0) (whole : P → Tree) (view : Y → List Token) (from : List Frame → State) (xs ys : List Token) (s : Sign) (r : Result Y Stop) (parts : P) → are parts
+    → ((k : List Frame) (rest : List Token) → after s ys ≡ Some rest → walk xs (from k) ≡ walk rest (have (whole parts) k)) → ((k : List Frame) → after s ys ≡ None → walk xs (from k) ≡ failed (length ys))
+    → Passes view r s ys → Collects are whole view from xs r
+collects_passed are whole view from xs ys s (Ok y) parts so goes dies h = record { parts = parts; gathered = so; leads = λ k. goes k (view y) h }
+collects_passed are whole view from xs ys s (Err e) parts so goes dies h = missed from xs ys s dies e h
+
+pub collects_free : {P Y : Type 0} (are : P → Type 0) (whole : P → Tree) (view : Y → List Token) (from : List Frame → State) (xs : List Token) (r : Result Y Stop) (d e : Stop) → r ≡ Err d → d ≡ e → e ≡ NoMemory → Collects are whole view from xs r
+collects_free are whole view from xs r d e is same free = subst (Collects are whole view from xs) (sym (is ∙ ap Err (same ∙ free))) tt
 
 -- memory ran out
 pub follows_free : {Y : Type 0} (view : Y → Read × List Token) (adding : Y → List Frame → List Frame) (from : List Frame → State) (xs : List Token) (r : Result Y Stop) (d e : Stop) → r ≡ Err d → d ≡ e → e ≡ NoMemory → Leads view adding from xs r

@@ -1,17 +1,19 @@
 -- What the parser's functions answer, told by the machine.
-use Rattle.std.specs.Prelude.{◌≡◌, ◌≤◌, ℕ, Some, None, Result, Ok, Err, List, [], ◌∷◌, length}
+use Rattle.std.specs.Prelude.{◌≡◌, ◌≤◌, ◌&&◌, ℕ, nat_le, Bool, true, false, if◌then◌else◌, is_some, Some, None, Result, Ok, Err, List, [], ◌∷◌, length}
 use Rattle.text_core.specs.declared.place.Place.{Place}
 use Rattle.smv_text.specs.declared.token.Sign.{Sign}
-use Rattle.smv_text.specs.declared.token.Sign.TheVariants as sign
 use Rattle.smv_text.specs.declared.token.Token.{Token}
 use Rattle.smv_text.specs.Levels.{all_levels}
 use Rattle.smv_text.specs.Tree.{Tree, select}
+use Rattle.smv_text.specs.declared.token.Sign.TheVariants as sign
+use Rattle.smv_grammar.specs.declared.levels.Leader.{Leader}
+use Rattle.smv_grammar.specs.declared.levels.Leader.TheVariants as leader
 use Rattle.smv_expressions.specs.declared.stop.Stop.{Stop}
 use Rattle.smv_expressions.specs.declared.stop.Stop.TheVariants.{Dead, NoMemory}
 use Rattle.smv_grammar.specs.Kept.{Read, cap}
 use Rattle.smv_grammar.specs.Ranks.{tightest}
 use Rattle.smv_grammar.specs.Machine.{Frame, State, ask, have, high_end, selected, failed, walk, took, dead, run}
-use Rattle.smv_grammar.specs.Reading.{Found, after, found, lost, waiting}
+use Rattle.smv_grammar.specs.Reading.{Found, after, found, lost, starts_range, waiting}
 
 abbrev pub IsLost : {A : Type 0} → Found A → Stop → Type 0
 IsLost f (Dead n) = f ≡ lost n
@@ -34,6 +36,27 @@ pub record IsOperand (x : Token) (xs : List Token) (r : Read) : Type 0 where
   pub kept : r ≡ cap tree
   pub leads : (n : ℕ) → n ≤ 16 → (k : List Frame) → walk (x ∷ xs) (ask (tightest n) k) ≡ walk xs (have tree (waiting 0 n x.place k))
 
+-- the expression that such a token begins holds no other
+abbrev pub is_alone : Leader → Bool
+is_alone leader.Bracket = false
+is_alone leader.Set = false
+is_alone leader.Next = false
+is_alone leader.Case = false
+is_alone (leader.Call f) = false
+is_alone l = true
+
+-- at how many of the levels the first operand is read
+abbrev pub first_level : ℕ → List Token → ℕ
+first_level n xs =
+    if nat_le 8 n && starts_range xs then 8 else if nat_le 4 n && is_some (after sign.Minus xs) then 4 else if nat_le 2 n && is_some (after sign.Not xs) then 2 else 0
+
+-- the tokens begin as what is read at so many levels
+pub record Begins (m : ℕ) (xs : List Token) : Type 0 where
+  pub range : m ≡ 8 → starts_range xs ≡ true
+  pub minus : m ≡ 4 → is_some (after sign.Minus xs) ≡ true
+  pub negation : m ≡ 2 → is_some (after sign.Not xs) ≡ true
+  pub below : ¬ (m ≡ 8) → ¬ (m ≡ 4) → ¬ (m ≡ 2) → m ≡ 0
+
 -- The machine dies where the function does.
 abbrev pub Dies : (List Frame → State) → List Token → Stop → Type 0
 Dies from xs (Dead n) = (k : List Frame) → walk xs (from k) ≡ failed n
@@ -46,6 +69,16 @@ Leads view onto from xs (Err e) = Dies from xs e
 
 abbrev pub Follows : {Y : Type 0} → (Y → Read × List Token) → (List Frame → State) → List Token → Result Y Stop → Type 0
 Follows view from xs r = Leads view (λ y k. k) from xs r
+
+-- Whatever waits for it, the machine comes to have the whole of parts that were gathered, and these are the tokens behind it.
+pub record Gathers {P : Type 0} (are : P → Type 0) (whole : P → Tree) (from : List Frame → State) (xs rest : List Token) : Type 0 where
+  pub parts : P
+  pub gathered : are parts
+  pub leads : (k : List Frame) → walk xs (from k) ≡ walk rest (have (whole parts) k)
+
+abbrev pub Collects : {P Y : Type 0} → (P → Type 0) → (P → Tree) → (Y → List Token) → (List Frame → State) → List Token → Result Y Stop → Type 0
+Collects are whole view from xs (Ok y) = Gathers are whole from xs (view y)
+Collects are whole view from xs (Err e) = Dies from xs e
 
 -- a function that wants a sign
 abbrev pub Misses : Sign → List Token → Stop → Type 0

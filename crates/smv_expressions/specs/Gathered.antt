@@ -51,6 +51,10 @@ pub record AreCases (bs : List (Tree × Tree)) (c : Cases) : Type 0 where
   pub depth : c.depth ≡ capped (length bs)
   pub highest : c.highest ≡ capped (highest_branch 0 bs)
 
+-- the branches of a choice, and what is kept of what stands behind the last colon
+abbrev pub IsChoice : Cases → Read → List (Tree × Tree) × Tree → Type 0
+IsChoice c r x = AreCases x.0 c × (r ≡ cap x.1)
+
 -- the number of a chain's first operator
 abbrev pub first_number : List (Infix × ℕ) → Option ℕ
 first_number [] = None

@@ -2,27 +2,26 @@
 //
 // Its functions are kept apart, so that each has a small frame: a hundred brackets with all levels in each fit a usual stack.
 
-ghost use Rattle.std.specs.Prelude.{◌≡◌, ◌<◌, ◌≤◌, ◌-◌, ◌^◌, ◌&&◌, nat_le, List, ◌∷◌, [], true, length, IfOk};
+ghost use Rattle.std.specs.Prelude.{◌≡◌, ◌<◌, ◌≤◌, ◌-◌, ◌^◌, List, ◌∷◌, [], true, length, IfOk};
 ghost use Rattle.smv_text.specs.Levels.{all_levels};
 ghost use Rattle.smv_text.specs.Grammar.{start, Spells};
-ghost use Rattle.smv_text.specs.Tree.{Tree};
+ghost use Rattle.smv_text.specs.Tree.{Tree, cases, branches_of};
 ghost use Rattle.smv_grammar.specs.Kept.{cap};
 ghost use Rattle.smv_grammar.specs.Ranks.{level_at, tightest};
-ghost use Rattle.smv_expressions.specs.Gathered.{read_of};
-ghost use Rattle.smv_grammar.specs.Machine.{bare, operand, when, selected, condition, listing, ask, have, signed, open_next, opened, is_prefix, prefix_sign, closing_of};
+ghost use Rattle.smv_expressions.specs.Gathered.{read_of, AreMembers, AreCases, AreOperands, IsChoice};
+ghost use Rattle.smv_grammar.specs.Machine.{bare, operand, when, selected, condition, listing, ask, have, signed, open_next, opened, prefix_sign, closing_of, leader_of, whole, choice_at, listed};
 ghost use Rattle.std.specs.Bool.{OnTrue};
 ghost use Rattle.smv_grammar.specs.Reading.{starts_range, waiting};
-ghost use Rattle.smv_expressions.specs.Following.{IsOperand, Leads, Follows, Selects, Takes};
+ghost use Rattle.smv_expressions.specs.Following.{IsOperand, Begins, first_level, is_alone, Collects, Follows, Selects, Takes};
 
 use crate::kept::{
-    Cases, Kept, Members, Operands, leaf, name_leaf, next_value, prefixed as with_prefix, put_leaf,
-    selected, taken,
+    Cases, Kept, Members, Operands, discard, leaf, name_leaf, next_value, prefixed as with_prefix,
+    put_leaf, selected, taken,
 };
 use crate::leaves::{expect, integer, number, path, starts_range};
 use crate::stop::Stop;
 use smv_grammar::{
-    Leader, Listing, after, after_word, first_rank, is_first, is_sign, joint_after, leader_of,
-    level_at,
+    Leader, Listing, after, after_word, first_rank, is_first, joint_after, leader_of, level_at,
 };
 use smv_text::{Joint, Level, Prefix, Reserved, Shape, Sign, Token, TokenKind};
 use std::alloc::Global;
@@ -81,7 +80,8 @@ fn read<'a>(
             return climb(alloc, levels, token.place, 0, rest, kept);
         }
     }
-    let (level, rest) = begin(alloc, levels, tokens, kept)?;
+    let level = first_level(levels, tokens);
+    let rest = begin(alloc, level, tokens, kept)?;
     climb(alloc, levels, start(tokens), level, rest, kept)
 }
 
@@ -114,50 +114,50 @@ fn put_constant(token: &Token, rest: &[Token], kept: &mut Kept) -> bool
     }
 }
 
-// The first operand of an expression of so many levels: how many levels it was read at, and the tokens behind it.
+// At how many levels the first operand of an expression of so many is read: a range at 8, signs at 4 or 2, all else below all
+// levels.
+fn first_level(levels: usize, tokens: &[Token]) -> usize
+    ensures { result ≡ first_level levels tokens.now }
+{
+    if 8 <= levels && starts_range(tokens) {
+        8
+    } else if 4 <= levels && is_first(tokens, Sign::Minus) {
+        4
+    } else if 2 <= levels && is_first(tokens, Sign::Not) {
+        2
+    } else {
+        0
+    }
+}
+
+// The first operand, which is read at so many levels.
 #[cycle(read)]
 #[inline(never)]
 fn begin<'a>(
     alloc: Global,
-    levels: usize,
+    level: usize,
     tokens: &'a [Token],
     kept: &mut Kept,
-) -> Result<(usize, &'a [Token]), Stop>
-    requires few { levels ≤ 16 }
+) -> Result<&'a [Token], Stop>
+    requires begins { Begins level tokens.now }
     requires short { length tokens.now < 2 ^ 32 }
-    ensures reads { Leads (λ x. (read_of kept.new, x.1.now)) (λ x. waiting x.0 levels (start tokens.now)) (ask (tightest levels)) tokens.now result }
-    ensures shorter { IfOk result (λ x. length x.1.now < length tokens.now) }
+    ensures reads { Follows (λ r. (read_of kept.new, r.now)) (ask (tightest level)) tokens.now result }
+    ensures shorter { IfOk result (λ r. length r.now < length tokens.now) }
 {
     match tokens.split_first() {
         None => Err(Stop::Dead(0)),
         Some((token, rest)) => {
-            if begins_range(levels, tokens) {
-                let last = range(token.place, tokens, kept)?;
-                Ok((8, last))
-            } else if begins_prefix(levels, 4, Prefix::Minus, &token.kind) {
-                let last = prefixed(alloc, Prefix::Minus, 3, token.place, rest, kept)?;
-                Ok((4, last))
-            } else if begins_prefix(levels, 2, Prefix::Not, &token.kind) {
-                let last = prefixed(alloc, Prefix::Not, 1, token.place, rest, kept)?;
-                Ok((2, last))
+            if level == 8 {
+                range(token.place, tokens, kept)
+            } else if level == 4 {
+                prefixed(alloc, Prefix::Minus, 3, token.place, rest, kept)
+            } else if level == 2 {
+                prefixed(alloc, Prefix::Not, 1, token.place, rest, kept)
             } else {
-                let last = primary(alloc, tokens, kept)?;
-                Ok((0, last))
+                primary(alloc, tokens, kept)
             }
         }
     }
-}
-
-fn begins_range(levels: usize, tokens: &[Token]) -> bool
-    ensures { result ≡ (nat_le 8 levels && starts_range tokens.now) }
-{
-    8 <= levels && starts_range(tokens)
-}
-
-fn begins_prefix(levels: usize, least: usize, prefix: Prefix, kind: &TokenKind) -> bool
-    ensures { result ≡ (nat_le least levels && is_prefix prefix kind.now) }
-{
-    least <= levels && is_sign(kind, sign_of(prefix))
 }
 
 #[inline(never)]
@@ -267,14 +267,36 @@ fn chain<'a>(
     ensures shorter { IfOk result (λ r. length r.now ≤ length tokens.now) }
 {
     let mut operands = Operands::new(alloc, kept.height);
+    let mut operand = leaf(place, Shape::True);
+    let answer = gather_operands(alloc, joint, below, tokens, &mut operand, &mut operands);
+    discard(operand);
+    let rest = answer?;
+    operands.chain(alloc, place, kept)?;
+    Ok(rest)
+}
+
+// Gathers the operands of a chain behind the first, each read into the same place.
+#[cycle(read)]
+#[inline(always)]
+fn gather_operands<'a>(
+    alloc: Global,
+    joint: Joint,
+    below: usize,
+    tokens: &'a [Token],
+    part: &mut Kept,
+    operands: &mut Operands,
+) -> Result<&'a [Token], Stop>
+    requires few { below < 16 }
+    requires short { length tokens.now < 2 ^ 32 }
+    ensures reads { (p : Place) (t : Tree) → AreOperands t [] operands.old → Collects (λ ls. AreOperands t ls operands.new) (λ ls. whole p (record { first = t; links = ls })) (λ r. r.now) (λ k. have t (operand joint (tightest below) p bare ∷ k)) tokens.now result }
+    ensures shorter { IfOk result (λ r. length r.now ≤ length tokens.now) }
+{
     let mut rest = tokens;
     while let Some((op, more)) = joint_after(rest, joint) {
-        let mut operand = leaf(place, Shape::True);
-        let last = read(alloc, below, more, &mut operand)?;
-        operands.push(op, operand)?;
+        let last = read(alloc, below, more, part)?;
+        operands.push(op, taken(part))?;
         rest = last;
     }
-    operands.chain(alloc, place, kept)?;
     Ok(rest)
 }
 
@@ -293,16 +315,39 @@ fn choice<'a>(
     ensures shorter { IfOk result (λ r. length r.now ≤ length tokens.now) }
 {
     let mut branches = Cases::new(alloc);
+    let mut value = leaf(place, Shape::True);
+    let answer = gather_choices(alloc, below, tokens, &mut value, kept, &mut branches);
+    discard(value);
+    let rest = answer?;
+    branches.choice(alloc, place, kept)?;
+    Ok(rest)
+}
+
+// Gathers the branches of a choice. The condition that was read before comes first, and what is kept at the end stands behind the
+// last colon.
+#[cycle(read)]
+#[inline(always)]
+fn gather_choices<'a>(
+    alloc: Global,
+    below: usize,
+    tokens: &'a [Token],
+    value: &mut Kept,
+    kept: &mut Kept,
+    branches: &mut Cases,
+) -> Result<&'a [Token], Stop>
+    requires few { below < 16 }
+    requires short { length tokens.now < 2 ^ 32 }
+    ensures reads { (p : Place) (t : Tree) → AreCases [] branches.old → read_of kept.old ≡ cap t → Collects (IsChoice branches.new (read_of kept.new)) (λ c. choice_at p (branches_of c.0) c.1) (λ r. r.now) (λ k. have t (when (tightest below) p [] ∷ k)) tokens.now result }
+    ensures shorter { IfOk result (λ r. length r.now ≤ length tokens.now) }
+{
     let mut rest = tokens;
     while let Some(more) = after(rest, Sign::Question) {
-        let mut value = leaf(place, Shape::True);
-        let next = read(alloc, below, more, &mut value)?;
+        let next = read(alloc, below, more, value)?;
         let behind = expect(next, Sign::Colon)?;
-        branches.push(taken(kept), value)?;
+        branches.push(taken(kept), taken(value))?;
         let end = read(alloc, below, behind, kept)?;
         rest = end;
     }
-    branches.choice(alloc, place, kept)?;
     Ok(rest)
 }
 
@@ -386,31 +431,9 @@ fn primary<'a>(alloc: Global, tokens: &'a [Token], kept: &mut Kept) -> Result<&'
         Some((token, rest)) => {
             let place = token.place;
             match leader_of(&token.kind) {
-                Leader::Number(n) => {
-                    put_leaf(kept, place, Shape::Number(n));
-                    Ok(rest)
-                }
-                Leader::Literal(word) => {
-                    put_leaf(kept, place, Shape::Literal(word));
-                    Ok(rest)
-                }
-                Leader::Truth(true) => {
-                    put_leaf(kept, place, Shape::True);
-                    Ok(rest)
-                }
-                Leader::Truth(false) => {
-                    put_leaf(kept, place, Shape::False);
-                    Ok(rest)
-                }
-                Leader::Path => {
-                    let (path, last) = path(alloc, tokens)?;
-                    put_leaf(kept, place, Shape::Name(path));
-                    Ok(last)
-                }
                 Leader::Bracket => {
                     let closing = read(alloc, 16, rest, kept)?;
-                    let last = expect(closing, Sign::Close)?;
-                    Ok(last)
+                    expect(closing, Sign::Close)
                 }
                 Leader::Set => listed(alloc, place, Listing::Elements, rest, kept),
                 Leader::Next => following(alloc, place, rest, kept),
@@ -419,9 +442,56 @@ fn primary<'a>(alloc: Global, tokens: &'a [Token], kept: &mut Kept) -> Result<&'
                     let more = expect(rest, Sign::Open)?;
                     listed(alloc, place, Listing::Arguments(function), more, kept)
                 }
-                Leader::Nothing => Err(Stop::Dead(tokens.len())),
+                leader => alone(alloc, leader, token, tokens, rest, kept),
             }
         }
+    }
+}
+
+// An expression that holds no other: a number, a word literal, a truth value or a name.
+#[inline(never)]
+fn alone<'a>(
+    alloc: Global,
+    leader: Leader,
+    token: &Token,
+    tokens: &'a [Token],
+    rest: &'a [Token],
+    kept: &mut Kept,
+) -> Result<&'a [Token], Stop>
+    requires first { tokens.now ≡ token.now ∷ rest.now }
+    requires leads { leader ≡ leader_of token.now.kind }
+    ensures reads { is_alone leader ≡ true → Follows (λ r. (read_of kept.new, r.now)) (ask []) tokens.now result }
+    ensures shorter { IfOk result (λ r. length r.now < length tokens.now) }
+{
+    let place = token.place;
+    match leader {
+        Leader::Number(n) => {
+            put_leaf(kept, place, Shape::Number(n));
+            Ok(rest)
+        }
+        Leader::Literal(word) => {
+            put_leaf(kept, place, Shape::Literal(word));
+            Ok(rest)
+        }
+        Leader::Truth(true) => {
+            put_leaf(kept, place, Shape::True);
+            Ok(rest)
+        }
+        Leader::Truth(false) => {
+            put_leaf(kept, place, Shape::False);
+            Ok(rest)
+        }
+        Leader::Path => {
+            let (path, last) = path(alloc, tokens)?;
+            put_leaf(kept, place, Shape::Name(path));
+            Ok(last)
+        }
+        Leader::Nothing => Err(Stop::Dead(tokens.len())),
+        Leader::Bracket => Err(Stop::Dead(tokens.len())),
+        Leader::Set => Err(Stop::Dead(tokens.len())),
+        Leader::Next => Err(Stop::Dead(tokens.len())),
+        Leader::Case => Err(Stop::Dead(tokens.len())),
+        Leader::Call(_) => Err(Stop::Dead(tokens.len())),
     }
 }
 
@@ -460,18 +530,32 @@ fn listed<'a>(
     ensures shorter { IfOk result (λ r. length r.now < length tokens.now) }
 {
     let mut members = Members::new(alloc);
+    let rest = gather_members(alloc, what, tokens, kept, &mut members)?;
+    members.put(place, what, kept);
+    Ok(rest)
+}
+
+// Gathers the members of a list and takes its closing bracket.
+#[cycle(read)]
+#[inline(always)]
+fn gather_members<'a>(
+    alloc: Global,
+    what: Listing,
+    tokens: &'a [Token],
+    kept: &mut Kept,
+    members: &mut Members,
+) -> Result<&'a [Token], Stop>
+    requires short { length tokens.now < 2 ^ 32 }
+    ensures reads { (p : Place) → AreMembers [] members.old → Collects (λ ts. AreMembers ts members.new) (listed p what) (λ r. r.now) (λ k. ask all_levels (listing p what [] ∷ k)) tokens.now result }
+    ensures shorter { IfOk result (λ r. length r.now < length tokens.now) }
+{
     let mut rest = tokens;
     loop {
-        let mut member = leaf(place, Shape::True);
-        let more = read(alloc, 16, rest, &mut member)?;
-        members.push(member)?;
+        let more = read(alloc, 16, rest, kept)?;
+        members.push(taken(kept))?;
         match after(more, Sign::Comma) {
             Some(next) => rest = next,
-            None => {
-                let last = expect(more, closing_of(what))?;
-                members.put(place, what, kept);
-                return Ok(last);
-            }
+            None => return expect(more, closing_of(what)),
         }
     }
 }
@@ -499,20 +583,37 @@ fn cases<'a>(
     ensures shorter { IfOk result (λ r. length r.now < length tokens.now) }
 {
     let mut branches = Cases::new(alloc);
+    let mut when = leaf(place, Shape::True);
+    let answer = gather_cases(alloc, tokens, &mut when, kept, &mut branches);
+    discard(when);
+    let rest = answer?;
+    branches.case(place, kept);
+    Ok(rest)
+}
+
+// Gathers the conditions of a case with their values and takes the word `esac`.
+#[cycle(read)]
+#[inline(always)]
+fn gather_cases<'a>(
+    alloc: Global,
+    tokens: &'a [Token],
+    when: &mut Kept,
+    value: &mut Kept,
+    branches: &mut Cases,
+) -> Result<&'a [Token], Stop>
+    requires short { length tokens.now < 2 ^ 32 }
+    ensures reads { (p : Place) → AreCases [] branches.old → Collects (λ bs. AreCases bs branches.new) (λ bs. cases p (branches_of bs)) (λ r. r.now) (λ k. ask all_levels (condition p [] ∷ k)) tokens.now result }
+    ensures shorter { IfOk result (λ r. length r.now < length tokens.now) }
+{
     let mut rest = tokens;
     loop {
-        let mut when = leaf(place, Shape::True);
-        let more = read(alloc, 16, rest, &mut when)?;
+        let more = read(alloc, 16, rest, when)?;
         let behind = expect(more, Sign::Colon)?;
-        let mut value = leaf(place, Shape::True);
-        let end = read(alloc, 16, behind, &mut value)?;
+        let end = read(alloc, 16, behind, value)?;
         let last = expect(end, Sign::Semicolon)?;
-        branches.push(when, value)?;
+        branches.push(taken(when), taken(value))?;
         match after_word(last, Reserved::Esac) {
-            Some(done) => {
-                branches.case(place, kept);
-                return Ok(done);
-            }
+            Some(done) => return Ok(done),
             None => rest = last,
         }
     }

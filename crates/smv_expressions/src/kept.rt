@@ -143,6 +143,10 @@ pub(crate) fn taken(kept: &mut Kept) -> Kept
     mem::replace(kept, leaf(place, Shape::True))
 }
 
+/// Drops what was kept. The drop of a whole expression stands here alone, so that what reads one is small.
+#[inline(never)]
+pub(crate) fn discard(_kept: Kept) {}
+
 /// Keeps a sign of a prefix, repeated so many times, before what is kept.
 pub(crate) fn prefixed(
     alloc: Global,

@@ -3,7 +3,7 @@
 use std::alloc::{AllocError, AllocFailed};
 
 /// Why no expression was read.
-#[derive(Debug, Drop)]
+#[derive(Drop)]
 pub enum Stop {
     /// No spelling goes on so: how many tokens are left, the first that doesn't fit among them.
     Dead(usize),

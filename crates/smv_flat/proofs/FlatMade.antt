@@ -1,5 +1,5 @@
 -- Flat expressions by the shapes of those from which they are made.
-use Rattle.std.proofs.Common.{◌≡◌, ℕ, ◌+◌, ◌<◌, ◌≤◌, ◌||◌, Bool, true, false, if◌then◌else◌, List, [], ◌∷◌, ◌++◌, drop, length, map, Option, Some, None, option_map, Vec, Box, Global, append_assoc, refl, sym, ap, ◌∙◌, subst, rules}
+use Rattle.std.proofs.Common.{◌≡◌, ℕ, ◌+◌, ◌≤◌, ◌||◌, Bool, true, false, if◌then◌else◌, List, [], ◌∷◌, ◌++◌, drop, length, map, Option, Some, None, Vec, Box, Global, refl, sym, ap, ◌∙◌, rules}
 use Rattle.std.specs.List.{list_any}
 use Rattle.std.proofs.lemmas.List.{drop_all}
 use Rattle.word_core.specs.Words.{BitVector, IsWord}
@@ -13,35 +13,26 @@ use Rattle.smv_text.specs.declared.tree.Expr.{Expr, the_lemmas as expr_lemmas}
 use Rattle.smv_text.specs.declared.tree.Link.{Link}
 use Rattle.smv_text.specs.declared.tree.Branch.{Branch}
 use Rattle.smv_text.specs.declared.tree.Shape.TheVariants as OfShape
-use Rattle.smv_text.specs.Tree.{Tree, truth, number, literal, name, prefix, chain, choice, cases, select, call, next, set, range, Links, no_links, link, Branches, links_of, branches_of, trees_of}
+use Rattle.smv_text.specs.Tree.{Tree, prefix, chain, choice, select, call, next, Links, no_links, link, Branches, links_of, branches_of, trees_of}
 use Rattle.smv_text.specs.View.{plain, plain_link, plain_branch}
 use Rattle.smv_meaning.specs.Expressions.{is_implies, are_implies, is_from_right}
 use Rattle.smv_meaning.specs.Types.{ExprType, word_type}
-use Rattle.smv_meaning.specs.Checks.{Position, Named, Typing, single, across, behind, are_unions, all_types, typing, linked, link_types, condition_types, value_types, tree_types, literal_type, is_literal, front}
+use Rattle.smv_meaning.specs.Checks.{Position, Named, Typing, single, across, behind, all_types, typing, linked, link_types, condition_types, value_types, tree_types, literal_type, front}
 use Rattle.smv_meaning.proofs.WordLemmas.{literal_is as is_word}
 use Rattle.smv_meaning.proofs.Plain.{plain_branch-at, plain_link-at}
 use Rattle.smv_meaning.proofs.Booleans.{both_true}
 use Rattle.smv_meaning.proofs.Booleans.{absurd_bool}
-use Rattle.smv_types.specs.Steps.{front_step, implies_step}
+use Rattle.smv_types.specs.Steps.{implies_step}
 use Rattle.smv_types.proofs.Composing.{values_then}
 use Rattle.smv_items.proofs.OriginLemmas.{append_none}
 use Rattle.smv_items.specs.FlatItems.{Leaf}
-use Rattle.smv_flat.specs.FlatTree.{FlatTree, FlatLinks, flat_link, flat_links_of, flat_branches_of, flat_trees_of, flat_branch, flat_tree_then, flat_tree, flat_links, flat_branches, flat_trees, is_set, has_set}
+use Rattle.smv_flat.specs.FlatTree.{FlatTree, flat_link, flat_links_of, flat_branches_of, flat_trees_of, flat_branch, flat_tree_then, flat_tree, flat_links, flat_branches, flat_trees, is_set, has_set}
 use Rattle.smv_flat.specs.FlatView.{fronts_type, chain_type, behind_types}
 
 pub literal_is : (w : BitVector) → IsWord w → literal_type w ≡ Some (word_type w.width)
 literal_is w h = ap (λ b. if b then Some (word_type w.width) else None) (is_word w h)
 
 -- ---- the plain form by the shape
-
-pub plain_true : (e : Expr) → e.shape ≡ OfShape.True → plain e ≡ truth e.place true
-plain_true e h = search (rules, expr_lemmas)
-
-pub plain_false : (e : Expr) → e.shape ≡ OfShape.False → plain e ≡ truth e.place false
-plain_false e h = search (rules, expr_lemmas)
-
-pub plain_number : (e : Expr) (n : ℕ) → e.shape ≡ OfShape.Number n → plain e ≡ number e.place n
-plain_number e n h = search (rules, expr_lemmas)
 
 pub plain_prefix : (e : Expr) (sign : Prefix) (n : ℕ) (a : Box Expr Global) → e.shape ≡ OfShape.Prefix sign n a → plain e ≡ prefix e.place sign n (plain a.value)
 plain_prefix e sign n a h = search (rules, expr_lemmas)
@@ -52,9 +43,6 @@ plain_chain e a ls h = search (rules, expr_lemmas)
 pub plain_choice : (e : Expr) (bs : Vec Branch Global) (a : Box Expr Global) → e.shape ≡ OfShape.Choice bs a → plain e ≡ choice e.place (branches_of (map plain_branch bs.items)) (plain a.value)
 plain_choice e bs a h = search (rules, expr_lemmas)
 
-pub plain_case : (e : Expr) (bs : Vec Branch Global) → e.shape ≡ OfShape.Case bs → plain e ≡ cases e.place (branches_of (map plain_branch bs.items))
-plain_case e bs h = search (rules, expr_lemmas)
-
 pub plain_select : (e : Expr) (a : Box Expr Global) (high low : ℕ) → e.shape ≡ OfShape.Select a high low → plain e ≡ select e.place (plain a.value) high low
 plain_select e a high low h = search (rules, expr_lemmas)
 
@@ -64,19 +52,10 @@ plain_call e f es h = search (rules, expr_lemmas)
 pub plain_next : (e : Expr) (a : Box Expr Global) → e.shape ≡ OfShape.Next a → plain e ≡ next e.place (plain a.value)
 plain_next e a h = search (rules, expr_lemmas)
 
-pub plain_set : (e : Expr) (es : Vec Expr Global) → e.shape ≡ OfShape.Set es → plain e ≡ set e.place (trees_of (map plain es.items))
-plain_set e es h = search (rules, expr_lemmas)
-
 -- ---- lists
 
 pub finished : {X Y : Type 0} (done all : List Y) (g : X → Y) (xs : List X) (k : ℕ) → length xs ≤ k → done ++ map g (drop k xs) ≡ all → done ≡ all
 finished done all g xs k l h = sym (append_none done) ∙ ap (λ zs. done ++ map g zs) (sym (drop_all k xs l)) ∙ h
-
-pub one_on : {X Y : Type 0} (done more all : List Y) (g : X → Y) (xs : List X) (k : ℕ) (x : X) (y : Y) → drop k xs ≡ x ∷ drop (k + 1) xs → more ≡ done ++ y ∷ [] → y ≡ g x → done ++ map g (drop k xs) ≡ all
-    → more ++ map g (drop (k + 1) xs) ≡ all
-one_on done more all g xs k x y d m e h =
-    ap (λ zs. zs ++ map g (drop (k + 1) xs)) m ∙ append_assoc done (y ∷ []) (map g (drop (k + 1) xs)) ∙ ap (λ z. done ++ z ∷ map g (drop (k + 1) xs)) e
-    ∙ sym (ap (λ zs. done ++ map g zs) d) ∙ h
 
 -- operands behind operators
 abbrev pub link_flat : (Path → Named) → (Path → Leaf) → Position → Bool → Link → Infix × FlatTree

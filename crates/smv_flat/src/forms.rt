@@ -4,7 +4,7 @@ use crate::expressions::FlatExpr;
 use smv_text::When;
 
 /// What a formula is: the body of an item, an assignment to one, or the kind of its section.
-#[derive(Clone, Copy, Debug, PartialEq, Eq)]
+#[derive(Clone, Copy, PartialEq, Eq)]
 pub enum Role {
     Body(u32),
     Assign(When, u32),

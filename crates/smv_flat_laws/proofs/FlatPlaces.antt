@@ -1,6 +1,5 @@
 -- The first place in a list at which a test holds.
-use Rattle.std.proofs.Common.{◌≡◌, ℕ, zero, suc, ◌+◌, ◌<◌, Bool, true, false, not, ◌||◌, ◌==◌, nat_lt, cond, if◌then◌else◌, List, [], ◌∷◌, ◌++◌, length, position, Option, Some, None, option_map, refl, sym, ap, ◌∙◌, arith}
-use mathlib.Core.Logic.{◌⊎◌, inl, inr}
+use Rattle.std.proofs.Common.{◌≡◌, ℕ, suc, ◌+◌, Bool, true, false, not, ◌||◌, nat_lt, cond, if◌then◌else◌, List, [], ◌∷◌, ◌++◌, length, position, Option, Some, None, option_map, refl, ap, ◌∙◌, arith}
 use Rattle.std.specs.List.{slice_get, position_or_len, list_any}
 use Rattle.std.proofs.lemmas.Bool.Decides.{nat_tests}
 
@@ -73,10 +72,6 @@ first_left p g (x ∷ xs) ys b h = by (λ s. first_left p g xs ys b s) (p x) h
     by : (first p g xs ≡ Some b → first p g (xs ++ ys) ≡ Some b) → (t : Bool) → (if t then g x else first p g xs) ≡ Some b → (if t then g x else first p g (xs ++ ys)) ≡ Some b
     by ih true s = s
     by ih false s = ih s
-
--- none passes the test
-abbrev pub none_holds : {X : Type 0} → (X → Bool) → List X → Bool
-none_holds p xs = not (list_any p xs)
 
 pub first_right : {X B : Type 0} (p : X → Bool) (g : X → Option B) (xs ys : List X) (b : B) → list_any p xs ≡ false → first p g ys ≡ Some b → first p g (xs ++ ys) ≡ Some b
 first_right p g [] ys b n h = h

@@ -1,8 +1,9 @@
 // The phases of checks, one after another.
-ghost use Rattle.std.specs.Prelude.{◌≡◌, ◌++◌, map, IfOk};
+ghost use Rattle.std.specs.Prelude.{◌≡◌, ◌++◌, ◌∷◌, [], List, length, map, nat_lt, IfOk};
 ghost use Rattle.smv_text.specs.View.{plain_source};
-ghost use Rattle.smv_meaning.specs.Instances.{instances_of};
-ghost use Rattle.smv_meaning.specs.Phases.{checks_of, IsAccepted};
+ghost use Rattle.smv_meaning.specs.Instances.{Instance, instances_of};
+ghost use Rattle.smv_meaning.specs.Checks.{check};
+ghost use Rattle.smv_meaning.specs.Phases.{checks_of, invariants_in, later_checks, IsAccepted};
 ghost use Rattle.smv_instances.specs.View.{instance_plain};
 ghost use Rattle.smv_names.specs.Outcome.{Settles};
 ghost use Rattle.smv_flatten.specs.Accepting.{early_checks, typing_checks, IsKept, AreFound};
@@ -17,7 +18,7 @@ use smv_names::{
 use smv_references::{Formula, formulas_in};
 use smv_text::Source;
 use std::alloc::Global;
-use text_core::Items;
+use text_core::{Items, Place};
 
 // What is found of the definitions and actuals.
 #[derive(Drop)]
@@ -55,6 +56,44 @@ fn typed<'a>(alloc: Global, table: &Table<'a>) -> Result<Found<'a>, NamesEnd>
     })
 }
 
+// The phases from the paths to the assignments.
+#[tactic(auto, using(crate::proofs::Composing::ends, crate::proofs::Composing::ends_behind, crate::proofs::Composing::both_pass))]
+fn found_in<'a>(alloc: Global, table: &Table<'a>) -> Result<Found<'a>, NamesEnd>
+    ensures checks { Settles result (later_checks (map instance_plain table.now)) }
+    ensures found { IfOk result (AreFound (map instance_plain table.now)) }
+{
+    let found = typed(alloc, table)?;
+    assignments_checked(alloc, table)?;
+    Ok(found)
+}
+
+fn kept<'a>(table: Table<'a>, found: Found<'a>) -> Accepted<'a>
+    ensures { (t : List Instance) → map instance_plain table.entry ≡ t → AreFound t found.entry → IsKept t result }
+{
+    Accepted {
+        table,
+        formulas: found.formulas,
+        order: found.order,
+        types: found.types,
+    }
+}
+
+// The last phase, behind which all is kept.
+fn counted<'a>(
+    table: Table<'a>,
+    found: Found<'a>,
+    end: Place,
+    needed: u32,
+) -> Result<Accepted<'a>, NamesEnd>
+    ensures checks { Settles result (check 27 end (nat_lt needed (length (invariants_in (map instance_plain table.entry)))) ∷ []) }
+    ensures kept { (t : List Instance) → map instance_plain table.entry ≡ t → AreFound t found.entry → IfOk result (IsKept t) }
+{
+    match invariants_checked(&table, end, needed) {
+        Ok(()) => Ok(kept(table, found)),
+        Err(end) => Err(end),
+    }
+}
+
 // All phases.
 #[tactic(auto, using(crate::proofs::Composing::ends, crate::proofs::Composing::ends_behind, crate::proofs::Composing::both_pass))]
 fn joined<'a>(alloc: Global, source: &'a Source, needed: u32) -> Result<Accepted<'a>, NamesEnd>
@@ -62,15 +101,10 @@ fn joined<'a>(alloc: Global, source: &'a Source, needed: u32) -> Result<Accepted
     ensures kept { IfOk result (IsKept (instances_of (plain_source source.now))) }
 {
     let table = sized(alloc, source)?;
-    let found = typed(alloc, &table)?;
-    assignments_checked(alloc, &table)?;
-    invariants_checked(&table, source.end, needed)?;
-    Ok(Accepted {
-        table,
-        formulas: found.formulas,
-        order: found.order,
-        types: found.types,
-    })
+    match found_in(alloc, &table) {
+        Ok(found) => counted(table, found, source.end, needed),
+        Err(end) => Err(end),
+    }
 }
 
 /// Checks a model of which the invariant with this number is wanted: the refusal is that of the first check that fails, in

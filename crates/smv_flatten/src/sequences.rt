@@ -6,7 +6,7 @@ use smv_items::FlatItem;
 use std::marker::Model;
 
 /// The items of a flat form in their order, seen as their list.
-#[derive(Debug, Drop)]
+#[derive(Drop)]
 pub struct FlatItems {
     items: Vec<FlatItem>,
 }

@@ -65,23 +65,6 @@ path_on-step path (x ∷ xs) more rest n e f = go (is_sign sign.Dot x.kind) e
     go true e = ap (path_step path) (let same : xs ≡ more = cc in same) ∙ named more f
     go false e = cc
 
-pub path_on-lost : (path : Path) (xs more : List Token) (n : ℕ) → after sign.Dot xs ≡ Some more → first_name more ≡ lost n → path_on path xs ≡ lost n
-path_on-lost path [] more n e f = cc
-path_on-lost path (x ∷ xs) more n e f = go (is_sign sign.Dot x.kind) e
-  where
-    named : (ys : List Token) → first_name ys ≡ lost n → path_step path ys ≡ lost n
-    named [] f = let same : 0 ≡ n = cc in ap lost same
-    named (y ∷ ys) f = by y.kind f
-      where
-        by : (z : TokenKind) → name_at z ys ≡ lost n → with_name z (λ m. path_on (longer path m) ys) (suc (length ys)) ≡ lost n
-        by (kind.Ident m) f = cc
-        by (kind.Number m) f = let same : suc (length ys) ≡ n = cc in ap lost same
-        by _ f = let same : suc (length ys) ≡ n = cc in ap lost same
-
-    go : (b : Bool) → cond b (Some xs) None ≡ Some more → cond b (path_step path xs) (found path (x ∷ xs)) ≡ lost n
-    go true e = ap (path_step path) (let same : xs ≡ more = cc in same) ∙ named more f
-    go false e = cc
-
 pub path_on-ends : (path : Path) (xs : List Token) → after sign.Dot xs ≡ None → path_on path xs ≡ found path xs
 path_on-ends path [] e = refl
 path_on-ends path (x ∷ xs) e = ap (λ b. cond b (path_step path xs) (found path (x ∷ xs))) (not_minus (is_sign sign.Dot x.kind) xs e)

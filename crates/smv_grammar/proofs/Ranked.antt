@@ -75,12 +75,6 @@ no_joint j x other = go (infix_of j x) refl
 sign_rank : (s : Sign) (x : TokenKind) → is_sign s x ≡ true → rank_of x ≡ rank_of (kind.Sign s)
 sign_rank s x e = ap rank_of (sign_is x s e)
 
-pub question_ranks : (x : TokenKind) → is_sign sign.Question x ≡ true → rank_of x ≡ 14
-question_ranks x e = sign_rank sign.Question x e
-
-pub selection_ranks : (x : TokenKind) → is_sign sign.OpenBracket x ≡ true → rank_of x ≡ 1
-selection_ranks x e = sign_rank sign.OpenBracket x e
-
 -- a sign that does not have the rank of a token is not that token
 pub not_sign : (s : Sign) (x : TokenKind) → (rank_of x ≡ rank_of (kind.Sign s) → ⊥) → is_sign s x ≡ false
 not_sign s x other = go (is_sign s x) refl

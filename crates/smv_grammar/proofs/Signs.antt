@@ -1,5 +1,5 @@
 -- What it says that a token is a sign, a reserved word or an operator.
-use Rattle.std.proofs.Common.{◌≡◌, suc, Bool, true, false, cond, get_or, Some, None, List, [], ◌∷◌, length, refl, sym, ap, ◌∙◌}
+use Rattle.std.proofs.Common.{◌≡◌, Bool, true, false, cond, get_or, Some, None, List, [], ◌∷◌, refl, sym, ap, ◌∙◌}
 use Rattle.std.proofs.lemmas.Bool.{eqb-true}
 use Rattle.smv_text.specs.declared.token.Reserved.{Reserved}
 use Rattle.smv_text.specs.declared.token.Reserved.TheVariants as word
@@ -9,7 +9,7 @@ use Rattle.smv_text.specs.declared.token.Token.{Token}
 use Rattle.smv_text.specs.declared.token.TokenKind.{TokenKind}
 use Rattle.smv_text.specs.declared.token.TokenKind.TheVariants as kind
 use Rattle.smv_grammar.specs.Marks.{is_sign, is_word, sign_number, word_number}
-use Rattle.smv_grammar.specs.Reading.{after, after_word}
+use Rattle.smv_grammar.specs.Reading.{after}
 
 all_signs : List Sign
 all_signs =
@@ -56,14 +56,3 @@ after_found s (x ∷ xs) rest e = go (is_sign s x.kind) refl e
     go : (b : Bool) → is_sign s x.kind ≡ b → cond b (Some xs) None ≡ Some rest → (y : Token) × (x ∷ xs ≡ y ∷ rest) × (is_sign s y.kind ≡ true)
     go true t e = (x, let same : xs ≡ rest = cc in ap (λ r. x ∷ r) same, t)
     go false t e = cc
-
-pub word_found : (w : Reserved) (xs rest : List Token) → after_word w xs ≡ Some rest → (x : Token) × (xs ≡ x ∷ rest) × (is_word w x.kind ≡ true)
-word_found w [] rest e = cc
-word_found w (x ∷ xs) rest e = go (is_word w x.kind) refl e
-  where
-    go : (b : Bool) → is_word w x.kind ≡ b → cond b (Some xs) None ≡ Some rest → (y : Token) × (x ∷ xs ≡ y ∷ rest) × (is_word w y.kind ≡ true)
-    go true t e = (x, let same : xs ≡ rest = cc in ap (λ r. x ∷ r) same, t)
-    go false t e = cc
-
-pub shorter_after : (s : Sign) (xs rest : List Token) → after s xs ≡ Some rest → length xs ≡ suc (length rest)
-shorter_after s xs rest e = let f = after_found s xs rest e in ap length f.1

@@ -1,9 +1,8 @@
 -- Steps of a walk over leads.
-use Rattle.std.proofs.Common.{◌≡◌, ℕ, zero, suc, ◌+◌, ◌<◌, ◌≤◌, max, nat_lt, Bool, true, false, ◌&&◌, ◌||◌, ◌==◌, if◌then◌else◌, List, [], ◌∷◌, ◌++◌, take, length, Some, None, bytes_eq, refl, sym, ap, ◌∙◌, subst, arith}
+use Rattle.std.proofs.Common.{◌≡◌, ℕ, zero, suc, ◌+◌, ◌<◌, ◌≤◌, nat_lt, Bool, true, false, ◌&&◌, ◌||◌, ◌==◌, if◌then◌else◌, List, [], ◌∷◌, ◌++◌, take, length, Some, bytes_eq, refl, sym, ap, ◌∙◌, subst, arith}
 use mathlib.Core.Logic.{⊎_elim}
 use Rattle.std.specs.Prelude.{slice_index_or}
 use Rattle.std.specs.List.{list_any}
-use Rattle.std.proofs.lemmas.List.{take_all}
 use Rattle.std.proofs.Math.Numerals.{add-one}
 use Rattle.std.proofs.Math.Seq.{take-suc}
 use Rattle.std.specs.Borrow.{Bor}
@@ -14,9 +13,9 @@ use Rattle.smv_text.specs.declared.tree.Path.{Path}
 use Rattle.smv_instances.specs.declared.leads.Lead.{Lead}
 use Rattle.smv_instances.specs.declared.leads.Key.{Key}
 use Rattle.smv_meaning.specs.Instances.{Instance}
-use Rattle.smv_meaning.specs.Names.{Local, alias, local, Found, cyclic, instance_at, onward, ended, landed, look, resolved}
+use Rattle.smv_meaning.specs.Names.{Local, alias, local, Found, cyclic, landed, look, resolved}
 use Rattle.smv_instances.specs.NameMap.{named_in}
-use Rattle.smv_instances.specs.Leads.{until, LeadsTo, NameLeads, Right, IsOpen, IsWaiting, AllWait, AreAll, IsClosed, is_key, WalkOf, KeyWalk}
+use Rattle.smv_instances.specs.Leads.{until, LeadsTo, NameLeads, Right, IsOpen, IsWaiting, AllWait, IsClosed, is_key, WalkOf, KeyWalk}
 use Rattle.smv_instances.specs.declared.leads.Walk.{Walk}
 use Rattle.smv_instances.specs.declared.leads.Walk.TheVariants.{Ends, Waits}
 use Rattle.smv_instances.specs.View.{found_plain}
@@ -52,34 +51,6 @@ pub alias_waits : (t : List Instance) (i : ℕ) (x : List ℕ) (j : ℕ) (p : Pa
 unfolding look
 alias_waits t i x j p n e h = ap (landed t (look t n) i x) (sym e) ∙ h
 
--- a step of a walk
-pub inside : (d r n c : ℕ) (e : Bool) (go : ℕ → Found) (m : Found) → m ≡ until r n (instance_at c) → until d n (onward m e go) ≡ until (max d r) n (go c)
-inside d r n c e go m h = ⊎_elim early (λ l. ⊎_elim (late l) (λ k. both l k) (cases_lt n r)) (cases_lt n d)
-  where
-    early : n < d → until d n (onward m e go) ≡ until (max d r) n (go c)
-    early l = before d n (onward m e go) l ∙ sym (before (max d r) n (go c) (omega (arith, l)))
-
-    late : d ≤ n → n < r → until d n (onward m e go) ≡ until (max d r) n (go c)
-    late l k = past d n (onward m e go) l ∙ ap (λ f. onward f e go) (h ∙ before r n (instance_at c) k) ∙ sym (before (max d r) n (go c) (omega (arith, k)))
-
-    both : d ≤ n → r ≤ n → until d n (onward m e go) ≡ until (max d r) n (go c)
-    both l k = past d n (onward m e go) l ∙ ap (λ f. onward f e go) (h ∙ past r n (instance_at c) k) ∙ sym (past (max d r) n (go c) (omega (arith, l, k)))
-
-pub at_end : (d r n : ℕ) (e : Bool) (go : ℕ → Found) (m f : Found) → m ≡ until r n f → onward f e go ≡ ended f e → until d n (onward m e go) ≡ until (max d r) n (ended f e)
-at_end d r n e go m f h s = ⊎_elim early (λ l. ⊎_elim (late l) (λ k. both l k) (cases_lt n r)) (cases_lt n d)
-  where
-    early : n < d → until d n (onward m e go) ≡ until (max d r) n (ended f e)
-    early l = before d n (onward m e go) l ∙ sym (before (max d r) n (ended f e) (omega (arith, l)))
-
-    late : d ≤ n → n < r → until d n (onward m e go) ≡ until (max d r) n (ended f e)
-    late l k = past d n (onward m e go) l ∙ ap (λ q. onward q e go) (h ∙ before r n f k) ∙ sym (before (max d r) n (ended f e) (omega (arith, k)))
-
-    both : d ≤ n → r ≤ n → until d n (onward m e go) ≡ until (max d r) n (ended f e)
-    both l k = past d n (onward m e go) l ∙ ap (λ q. onward q e go) (h ∙ past r n f k) ∙ s ∙ sym (past (max d r) n (ended f e) (omega (arith, l, k)))
-
-pub stuck : (d n : ℕ) (e : Bool) (go : ℕ → Found) (m : Found) → m ≡ cyclic → until d n (onward m e go) ≡ cyclic
-stuck d n e go m h = ⊎_elim (λ l. before d n (onward m e go) l) (λ l. past d n (onward m e go) l ∙ ap (λ f. onward f e go) h) (cases_lt n d)
-
 -- the leads stay right where one more is kept
 pub right_more : {S : Type 0} (t : List Instance) (was now : HashMap (ℕ × Bor (List ℕ)) Lead S) (i : ℕ) (x : List ℕ) (lead : Lead) → Right t was → LeadsTo t (λ n. look t n i x) lead
     → ((j : ℕ) (y : List ℕ) → named_in now j y ≡ (if i == j && bytes_eq x y then Some lead else named_in was j y)) → Right t now
@@ -100,9 +71,6 @@ open_is_cyclic t m h (suc n) i x o = let w = h i x o in w.3 n (open_is_cyclic t 
 pub lead_one : (t : List Instance) (i : ℕ) (x : List ℕ) (l : Local) (lead : Lead) → l ≡ local t i x → lead.depth ≡ 1 → ((f : ℕ → List ℕ → Found) → landed t f i x l ≡ found_plain t lead.target)
     → LeadsTo t (λ n. look t n i x) lead
 lead_one t i x l lead e d h n = look_one t i x l (found_plain t lead.target) e h n ∙ ap (λ r. until r n (found_plain t lead.target)) (sym d)
-
-pub right_none : {S : Type 0} (t : List Instance) (m : HashMap (ℕ × Bor (List ℕ)) Lead S) → ((i : ℕ) (x : List ℕ) → named_in m i x ≡ None) → Right t m
-right_none t m h i x = subst (NameLeads t i x) (sym (h i x)) tt
 
 pub deeper_leads : (t : List Instance) (i : ℕ) (x : List ℕ) (lead new : Lead) → new.depth ≡ lead.depth + 1 → new.target ≡ lead.target → ((n : ℕ) → look t n i x ≡ until (lead.depth + 1) n (found_plain t lead.target))
     → LeadsTo t (λ n. look t n i x) new
@@ -136,12 +104,6 @@ wait_more {S} t was now ks k n key e h is same own before = subst (λ m. AllWait
         (λ c. let d = key_same i x key c in
         subst (λ y. IsWaiting t was i y) d.1 (subst (λ j. IsWaiting t was j key.name.now) d.0 (own (subst (λ y. IsOpen t was key.instance y) (sym d.1) (subst (λ j. IsOpen t was j x) (sym d.0) o)))))
         (or_true (list_any (is_key i x) (take k ks)) (is_key i x key) b)
-
-pub wait_all : {S : Type 0} (t : List Instance) (m : HashMap (ℕ × Bor (List ℕ)) Lead S) (ks : List Key) (k n : ℕ) → n ≡ length ks → n ≤ k → AllWait t m (take k ks) → AllWait t m ks
-wait_all t m ks k n e h a = subst (AllWait t m) (take_all k ks (omega (arith, e, h))) a
-
-pub closes : {S : Type 0} (t : List Instance) (m : HashMap (ℕ × Bor (List ℕ)) Lead S) (ks : List Key) → AreAll t ks → AllWait t m ks → IsClosed t m
-closes t m ks a w i x o = w i x (a i x o.0) o
 
 pub walk_key : {S : Type 0} (t : List Instance) (m : HashMap (ℕ × Bor (List ℕ)) Lead S) (i : ℕ) (x : List ℕ) (j : ℕ) (p : Path) (w : Walk) → alias j p ≡ local t i x → WalkOf t m (λ n. resolved t (look t n) j p) w → KeyWalk t m i x (Some w)
 walk_key t m i x j p (Ends lead) e h = alias_leads t i x j p lead.depth (found_plain t lead.target) e h

@@ -4,7 +4,7 @@ ghost use Rattle.smv_meaning.specs.Types.{is_truth_type, is_integer_type, is_wor
 ghost use Rattle.smv_intervals.specs.View.{seen};
 
 /// The type of an expression (NuSMV 2.6 User Manual, 2.1); all symbols have one type.
-#[derive(Clone, Copy, Debug, PartialEq, Eq)]
+#[derive(Clone, Copy, PartialEq, Eq)]
 pub enum Ty {
     /// `boolean`
     Truth,

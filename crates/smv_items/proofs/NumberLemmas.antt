@@ -1,5 +1,5 @@
 -- The first place of an item in a list that grows.
-use Rattle.std.proofs.Common.{◌≡◌, ℕ, zero, suc, get_or, ◌+◌, ◌<◌, ◌≤◌, Bool, true, false, ◌&&◌, if◌then◌else◌, List, [], ◌∷◌, ◌++◌, map, take, length, position, Option, Some, None, is_none, bytes_eq, refl, sym, ap, ◌∙◌, arith}
+use Rattle.std.proofs.Common.{◌≡◌, ℕ, zero, suc, get_or, ◌+◌, ◌<◌, ◌≤◌, Bool, ◌&&◌, if◌then◌else◌, List, [], ◌∷◌, ◌++◌, map, take, length, position, Option, Some, is_none, bytes_eq, refl, sym, ap, ◌∙◌, arith}
 use Rattle.std.specs.Prelude.{slice_index_or}
 use Rattle.std.proofs.lemmas.List.{length-map, map-append, length-take-le, take_all}
 use Rattle.std.proofs.Math.Numerals.{add-one}
@@ -30,16 +30,6 @@ with_item f p xs k n x o new e h is s g =
 
 pub whole : {X Y : Type 0} (f : X → Y) (p : Y → Bool) (xs : List X) (k n : ℕ) (o : Option ℕ) → n ≡ length xs → n ≤ k → o ≡ position p (map f (take k xs)) → o ≡ position p (map f xs)
 whole f p xs k n o e h s = s ∙ ap (λ l. position p (map f l)) (take_all k xs (omega (arith, e, h)))
-
-pub unchanged : (o : Option ℕ) (k : ℕ) (b : Bool) → b ≡ false → o ≡ (if is_none o && b then Some k else o)
-unchanged o k b h = over o ∙ ap (λ c. if is_none o && c then Some k else o) (sym h)
-  where
-    over : (q : Option ℕ) → q ≡ (if is_none q && false then Some k else q)
-    over None = refl
-    over (Some n) = refl
-
-pub noted : (o new : Option ℕ) (k : ℕ) (a b : Bool) → a ≡ true → new ≡ (if is_none o && b then Some k else o) → new ≡ (if is_none o && (a && b) then Some k else o)
-noted o new k a b h e = e ∙ ap (λ c. if is_none o && (c && b) then Some k else o) (sym h)
 
 item_there : {X Y : Type 0} (f : X → Y) (xs : List X) (k : ℕ) (x : X) (y : Y) → k < length xs → x ≡ get_or xs k x → y ≡ get_or (map f xs) k y → y ≡ f x
 item_there f [] k x y h a b = absurd (omega arith)

@@ -5,7 +5,7 @@ use smv_text::Members;
 use text_core::Name;
 
 /// What an item is.
-#[derive(Clone, Copy, Debug, PartialEq, Eq)]
+#[derive(Clone, Copy, PartialEq, Eq)]
 pub enum ItemKind {
     /// A variable of `VAR`.
     State,
@@ -21,7 +21,7 @@ pub enum ItemKind {
 
 /// A variable, a definition or an actual: its dotted path, the number of its instance in preorder, its kind, its type, and
 /// the members of an enumeration in the order of the text, none for any other type.
-#[derive(Debug, Drop)]
+#[derive(Drop)]
 pub struct FlatItem {
     pub name: Name,
     pub instance: u32,

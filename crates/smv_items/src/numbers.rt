@@ -218,7 +218,7 @@ pub fn numbers_of<'a, 'n>(
 }
 
 /// What a path becomes: the number of an item or of a symbol.
-#[derive(Clone, Copy, Debug, PartialEq, Eq)]
+#[derive(Clone, Copy, PartialEq, Eq)]
 pub enum Leaf {
     Item(u32),
     Symbol(u32),

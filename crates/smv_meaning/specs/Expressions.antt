@@ -91,35 +91,6 @@ abbrev mutual
   one_permits now later no_trees v = false
   one_permits now later (tree e es) v = (denote now later e).permits v || one_permits now later es v
 
--- each path of an expression passes the test for its place: outside `next`, and under it
-abbrev mutual
-  pub all_paths : (Path → Bool) → (Path → Bool) → Tree → Bool
-  all_paths here under (truth p b) = true
-  all_paths here under (number p n) = true
-  all_paths here under (literal p w) = true
-  all_paths here under (name p x) = here x
-  all_paths here under (prefix p sign n e) = all_paths here under e
-  all_paths here under (chain p e ls) = all_paths here under e && link_all_paths here under ls
-  all_paths here under (choice p bs e) = branch_all_paths here under bs && all_paths here under e
-  all_paths here under (cases p bs) = branch_all_paths here under bs
-  all_paths here under (select p e high low) = all_paths here under e
-  all_paths here under (call p f es) = tree_all_paths here under es
-  all_paths here under (next p e) = all_paths under under e
-  all_paths here under (set p es) = tree_all_paths here under es
-  all_paths here under (range p low high) = true
-
-  pub link_all_paths : (Path → Bool) → (Path → Bool) → Links → Bool
-  link_all_paths here under no_links = true
-  link_all_paths here under (link op e ls) = all_paths here under e && link_all_paths here under ls
-
-  pub branch_all_paths : (Path → Bool) → (Path → Bool) → Branches → Bool
-  branch_all_paths here under no_branches = true
-  branch_all_paths here under (branch c e rest) = all_paths here under c && (all_paths here under e && branch_all_paths here under rest)
-
-  pub tree_all_paths : (Path → Bool) → (Path → Bool) → Trees → Bool
-  tree_all_paths here under no_trees = true
-  tree_all_paths here under (tree e es) = all_paths here under e && tree_all_paths here under es
-
 -- the paths of an expression, in the order of the text
 abbrev mutual
   pub paths_of : Tree → List Path → List Path

@@ -1,5 +1,5 @@
 -- Values, the types of variables with their values, and states (NuSMV 2.6 User Manual, 2.1 and 2.3.1).
-use Rattle.std.specs.Prelude.{ℕ, ◌^◌, Bool, true, false, not, ◌&&◌, ◌||◌, ◌==◌, nat_lt, nat_le, if◌then◌else◌, ℤ, int_le, List, [], ◌∷◌, IsTrue, bytes_eq}
+use Rattle.std.specs.Prelude.{ℕ, ◌^◌, Bool, true, false, not, ◌&&◌, ◌||◌, ◌==◌, nat_lt, nat_le, if◌then◌else◌, ℤ, int_le, List, [], ◌∷◌, bytes_eq}
 use Rattle.word_core.specs.Words.{BitVector}
 use Rattle.smv_text.specs.declared.tree.Member.{Member}
 use Rattle.smv_text.specs.declared.tree.Member.TheVariants as OfMember
@@ -63,9 +63,6 @@ is_of_type (members ms) v = is_among ms v
 is_of_type (between low high) v = is_between low high v
 is_of_type (bits n) v = nat_le 1 n && is_word_of n v
 is_of_type (instance m actuals) v = false
-
-abbrev pub IsOfType : PlainDomain → Value → Type 0
-IsOfType d v = IsTrue (is_of_type d v)
 
 -- a state gives each state and frozen variable, named by its dotted path, a value; a label gives each input one
 abbrev pub Valuation : Type 0

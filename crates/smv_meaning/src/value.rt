@@ -4,7 +4,7 @@ use text_core::{Items as List, Name};
 use word_core::Word;
 
 /// A value of an expression (NuSMV 2.6 User Manual, 2.1): a truth value, an integer, a symbol or a word.
-#[derive(Debug, Drop)]
+#[derive(Drop)]
 pub enum Value {
     Truth(bool),
     Integer(i64),
@@ -13,7 +13,7 @@ pub enum Value {
 }
 
 /// A variable's value: the variable is named by its dotted path.
-#[derive(Debug, Drop)]
+#[derive(Drop)]
 pub struct Given {
     pub name: Name,
     pub value: Value,

@@ -274,8 +274,3 @@ touched_listed t ks whole (x ∷ rest) i =
 pub all_held : (t : List Instance) (row : Entries) (order : List ℕ) → IsFormulaOrder t order → NamesSettle → TypesSettle → OrderIsWhole → Holds t row (map (numbered t) order) → HasEach t row
 all_held t row order o n y whole r i path =
     names_right t row (map (numbered t) order) (n t o.acyclic).1 r i path (touched_listed t (map (numbered t) order) (whole t order o) path.names i) ∙ sym (y t o.acyclic true i path)
-
--- a whole row has the paths of each expression
-pub all_same : (t : List Instance) (row : Entries) (i : ℕ) → HasEach t row → (qs : List Path) → SameOn (row_names t row i) (types_in true t i) qs
-all_same t row i a [] = tt
-all_same t row i a (q ∷ qs) = (a i q, all_same t row i a qs)

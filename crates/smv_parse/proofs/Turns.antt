@@ -26,10 +26,6 @@ use Rattle.smv_readers.proofs.Lawful.{found_same, not_both, died_count, both_rea
 use Rattle.smv_parse.proofs.Leads.{after_found, word_found, not_first, not_first_word}
 use Rattle.smv_readers.proofs.Mapped.{mapped_reads, mapped_dies}
 
-pub no_name : (k : TokenKind) → ((n : List ℕ) → k ≡ kind.Ident n → ⊥) → name_of k ≡ None
-no_name (kind.Ident n) h = absurd (h n refl)
-no_name _ h = refl
-
 -- by a name
 pub name_ends : (h : Option Place) → name h [] ≡ died 0
 name_ends h = one_ends name_of h
@@ -263,12 +259,6 @@ no_section words.Trans p a b c d e f g h i j = absurd (h refl)
 no_section words.Invar p a b c d e f g h i j = absurd (i refl)
 no_section words.Invarspec p a b c d e f g h i j = absurd (j refl)
 no_section _ p a b c d e f g h i j = refl
-
-pub no_type : (k : VarKind) (w : Reserved) (p : Place) → (w ≡ words.Boolean → ⊥) → (w ≡ words.Unsigned → ⊥) → (w ≡ words.Word → ⊥) → domain_pick k (kind.Reserved w) p ≡ None
-no_type k words.Boolean p a b c = absurd (a refl)
-no_type k words.Unsigned p a b c = absurd (b refl)
-no_type k words.Word p a b c = absurd (c refl)
-no_type k _ p a b c = refl
 
 pub no_brace : (k : VarKind) (s : Sign) (p : Place) → (s ≡ signs.OpenBrace → ⊥) → domain_pick k (kind.Sign s) p ≡ None
 no_brace k signs.OpenBrace p a = absurd (a refl)

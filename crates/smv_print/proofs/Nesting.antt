@@ -321,14 +321,6 @@ pub no_tokens : OpensNone []
 unfolding OpensNone
 no_tokens m = refl
 
-plain_sign : (s : Sign) → ((m : ℕ) → opened_by m (kind.Sign s) ≡ m) → IsPlain (kind.Sign s)
-unfolding IsPlain
-plain_sign s e = e
-
-plain_word : (w : Reserved) → ((m : ℕ) → opened_by m (kind.Reserved w) ≡ m) → IsPlain (kind.Reserved w)
-unfolding IsPlain
-plain_word w e = e
-
 opens_sign : (s : Sign) → ((m : ℕ) → opened_by m (kind.Sign s) ≡ suc m) → Opens (kind.Sign s)
 unfolding Opens
 opens_sign s e = e

@@ -5,3 +5,4 @@ mod printing;
 mod spelling;
 
 pub use printing::{print, printed_is_read, printed_spells};
+pub use spelling::{sign_bytes, word_bytes};

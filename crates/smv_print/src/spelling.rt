@@ -12,7 +12,8 @@ use smv_text::{Function, Infix, Prefix, Reserved, Sign, TokenKind};
 use text_core::{Name, NoMemory, Text};
 use word_core::Word;
 
-fn word_bytes(word: Reserved) -> &'static [u8]
+/// The spelling of a reserved word.
+pub fn word_bytes(word: Reserved) -> &'static [u8]
     ensures { result.now ≡ word_bytes word }
 {
     match word {
@@ -56,7 +57,8 @@ fn word_bytes(word: Reserved) -> &'static [u8]
     }
 }
 
-fn sign_bytes(sign: Sign) -> &'static [u8]
+/// The spelling of a sign.
+pub fn sign_bytes(sign: Sign) -> &'static [u8]
     ensures { result.now ≡ sign_bytes sign }
 {
     match sign {

@@ -12,7 +12,7 @@ use Rattle.smv_text.specs.Grammar.{IsSign}
 use Rattle.smv_grammar.specs.Marks.{is_sign}
 use Rattle.smv_readers.specs.Readers.{Reader, both, many, either, nothing}
 use Rattle.smv_readers.specs.Rules.{sign, behind, listed, bracketed}
-use Rattle.smv_readers.proofs.Lawful.{Lawful, Inhabited, Both, of_both, lawful_both}
+use Rattle.smv_readers.proofs.Lawful.{Lawful, Both, of_both, lawful_both}
 use Rattle.smv_readers.proofs.Choices.{Free, of_none, PickLaw, Either, Unpicked, Nothing, lawful_nothing, lawful_either}
 use Rattle.smv_readers.proofs.Mapped.{lawful_mapped}
 use Rattle.smv_readers.proofs.Loops.{Many, none, more, of_all, lawful_many}
@@ -103,24 +103,6 @@ module _ {A : Type 0} (r : Reader A) (R : A → List Token → Type 0) (of : A �
         (d.tokens, d.further ++ d.closing ∷ [], d.split, d.spells, (d.further, d.closing ∷ [], refl, d.more, (d.closing, refl, d.closes, refl))),
       ))
       (λ q. ap (λ z. of q.0 ++ z) (sym (append-nil (of_all of q.1.0))))
-
-  pub some_listed : Inhabited R → Inhabited (Listed R s)
-  some_listed i = (
-    i.0 ∷ [],
-    i.1 ++ ((some_sign s).1),
-    record {
-      first = i.0;
-      others = [];
-      tokens = i.1;
-      further = [];
-      closing = (some_sign s).2.0;
-      values = refl;
-      split = ap (λ z. i.1 ++ z) (some_sign s).2.1;
-      spells = i.2;
-      more = none;
-      closes = (some_sign s).2.2;
-    },
-  )
 
 -- none, or those in brackets
 pub data Bracketed {A : Type 0} (R : A → List Token → Type 0) : List A → List Token → Type 0 where

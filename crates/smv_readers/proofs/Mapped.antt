@@ -5,13 +5,10 @@ use Rattle.text_core.specs.declared.place.Place.{Place}
 use Rattle.smv_text.specs.declared.token.Token.{Token}
 use Rattle.smv_text.specs.Grammar.{start}
 use Rattle.smv_text.specs.Tree.{Tree}
-use Rattle.smv_readers.specs.Readers.{Reading, found, died, Reader, and_then, mapped, placed, counted, highs}
+use Rattle.smv_readers.specs.Readers.{found, died, Reader, and_then, mapped, placed, counted, highs}
 use Rattle.smv_readers.proofs.Lawful.{Sound, Complete, Lawful, found_same, not_both, then_found, then_died, then_reads, then_dies}
 
 module _ {A B : Type 0} (f : A → B) (r : Reader A) where
-  ends : A → Option Place → List Token → Reading B
-  ends a g ys = found (f a) g ys
-
   pub mapped_found : (h : Option Place) (xs : List Token) (b : B) (g : Option Place) (rest : List Token) → mapped f r h xs ≡ found b g rest → (a : A) × (r h xs ≡ found a g rest) × (f a ≡ b)
   unfolding mapped
   mapped_found h xs b g rest e =

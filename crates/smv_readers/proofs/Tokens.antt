@@ -154,11 +154,5 @@ lawful_made f r R of of' stops l ofs = lawful_mapped f r R of stops l (Made f R)
 pub some_sign : (s : Sign) → (v : Unit {0} × Place) × (ys : List Token) × SignAt s v ys
 some_sign s = ((tt, (token (kind.Sign s)).place), token (kind.Sign s) ∷ [], (token (kind.Sign s), refl, refl, refl))
 
-pub some_word : (w : Reserved) → (v : Unit {0} × Place) × (ys : List Token) × WordAt w v ys
-some_word w = ((tt, (token (kind.Reserved w)).place), token (kind.Reserved w) ∷ [], (token (kind.Reserved w), refl, refl, refl))
-
-pub some_name : (v : List ℕ × Place) × (ys : List Token) × NameAt v ys
-some_name = (([], (token (kind.Ident [])).place), token (kind.Ident []) ∷ [], (token (kind.Ident []), refl, refl, refl))
-
 pub some_number : (v : ℕ × Place) × (ys : List Token) × NumberAt v ys
 some_number = ((0, (token (kind.Number 0)).place), token (kind.Number 0) ∷ [], (token (kind.Number 0), refl, refl, refl))

@@ -1,7 +1,7 @@
 -- Numbers of definitions and actuals, found one after another.
-use Rattle.std.proofs.Common.{◌≡◌, ℕ, ◌+◌, ◌<◌, ◌≤◌, ◌&&◌, ◌==◌, if◌then◌else◌, List, [], ◌∷◌, ◌++◌, map, take, length, Option, Some, None, is_none, bytes_eq, refl, sym, ap, ◌∙◌, arith}
+use Rattle.std.proofs.Common.{◌≡◌, ℕ, ◌+◌, ◌<◌, ◌&&◌, ◌==◌, if◌then◌else◌, List, [], ◌∷◌, ◌++◌, map, take, length, Option, Some, is_none, bytes_eq, refl, sym, ap, ◌∙◌, arith}
 use Rattle.std.specs.Prelude.{slice_index_or}
-use Rattle.std.proofs.lemmas.List.{length-map, map-append, length-take-le, take_all}
+use Rattle.std.proofs.lemmas.List.{length-map, map-append, length-take-le}
 use Rattle.std.proofs.Math.Numerals.{add-one}
 use Rattle.std.proofs.Math.Seq.{take-suc}
 use Rattle.smv_references.specs.declared.formulas.Formula.{Formula as KeptFormula}
@@ -20,9 +20,6 @@ with_formula fs k n f i x o new e h is s put =
     put ∙ ap (λ q. if is_none q && formula_same (key_of f) (i, x) then Some k else q) s
     ∙ ap (λ m. if is_none (number_in (map key_of (take k fs)) (i, x)) && formula_same (key_of f) (i, x) then Some m else number_in (map key_of (take k fs)) (i, x)) (sym l)
     ∙ sym (position_push (λ m. formula_same m (i, x)) (map key_of (take k fs)) (key_of f)) ∙ ap (λ ks. number_in ks (i, x)) (sym b)
-
-pub all_formulas : (fs : List KeptFormula) (k n i : ℕ) (x : List ℕ) (o : Option ℕ) → n ≡ length fs → n ≤ k → o ≡ number_in (map key_of (take k fs)) (i, x) → o ≡ number_in (map key_of fs) (i, x)
-all_formulas fs k n i x o e h s = s ∙ ap (λ l. number_in (map key_of l) (i, x)) (take_all k fs (omega (arith, e, h)))
 
 pub keys_are : (fs : List KeptFormula) (t : List Instance) → map formula_plain fs ≡ placed_formulas t → map key_of fs ≡ formulas_of t
 keys_are fs t h = sym (twice fs) ∙ ap (map (λ f. f.formula)) h

@@ -13,7 +13,7 @@ use std::alloc::Global;
 use text_core::{NoMemory, Place};
 
 /// A definition, or an actual by the name of its parameter: its instance, its name there and where it stands.
-#[derive(Debug, Drop)]
+#[derive(Drop)]
 pub struct Formula<'a> {
     pub instance: usize,
     pub name: &'a [u8],

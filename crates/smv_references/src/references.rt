@@ -22,7 +22,7 @@ use std::collections::HashMap;
 use text_core::{Items, Names, NoMemory};
 
 /// How the definitions and actuals of a model refer to one another.
-#[derive(Debug, Drop)]
+#[derive(Drop)]
 pub enum Ordering {
     /// None reaches itself; in this order of their numbers each stands after those to which it refers.
     Ordered(Items<usize>),

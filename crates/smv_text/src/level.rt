@@ -3,7 +3,7 @@
 use crate::tree::Prefix;
 
 /// Which operators join the operands of a chain.
-#[derive(Clone, Copy, Debug, PartialEq, Eq)]
+#[derive(Clone, Copy, PartialEq, Eq)]
 pub enum Joint {
     /// `->`
     Implications,
@@ -31,7 +31,7 @@ pub enum Joint {
 
 /// A level of the grammar, over the levels below it. How tightly each binds is our own (an expression with brackets around
 /// each operation depends on none of them).
-#[derive(Clone, Copy, Debug, PartialEq, Eq)]
+#[derive(Clone, Copy, PartialEq, Eq)]
 pub enum Level {
     /// A chain of operators.
     Chain(Joint),

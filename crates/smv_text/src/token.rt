@@ -6,7 +6,7 @@ use text_core::{Name, Place};
 use word_core::Word;
 
 /// A reserved word (NuSMV 2.6 User Manual, chapter 2, before section 2.1, reserved keywords).
-#[derive(Clone, Copy, Debug, PartialEq, Eq)]
+#[derive(Clone, Copy, PartialEq, Eq)]
 pub enum Reserved {
     /// `MODULE`
     Module,
@@ -85,7 +85,7 @@ pub enum Reserved {
 }
 
 /// A sign: a bracket, a separator or an operator (NuSMV 2.6 User Manual, sections 2.2.3 and 2.3).
-#[derive(Clone, Copy, Debug, PartialEq, Eq)]
+#[derive(Clone, Copy, PartialEq, Eq)]
 pub enum Sign {
     /// `(`
     Open,
@@ -152,7 +152,7 @@ pub enum Sign {
 }
 
 /// What a token is.
-#[derive(Debug, Drop)]
+#[derive(Drop)]
 pub enum TokenKind {
     /// A reserved word.
     Reserved(Reserved),
@@ -169,7 +169,7 @@ pub enum TokenKind {
 }
 
 /// A token: what it is, the place of its first byte, and how many bytes long it is.
-#[derive(Debug, Drop)]
+#[derive(Drop)]
 pub struct Token {
     pub kind: TokenKind,
     pub place: Place,
@@ -177,7 +177,7 @@ pub struct Token {
 }
 
 /// The tokens of a text in order, and the place of the text's end.
-#[derive(Debug, Drop)]
+#[derive(Drop)]
 pub struct Tokens {
     tokens: Vec<Token>,
     last: Place,

@@ -4,7 +4,7 @@ use text_core::{Items as List, Name, Names, Place};
 use word_core::Word;
 
 /// A name: `self` or an identifier, and the names that it steps into (manual, 2.3.16). Its place is that of its first token.
-#[derive(Debug, Drop)]
+#[derive(Drop)]
 pub struct Path {
     /// Does it begin with `self`?
     pub from_self: bool,
@@ -14,7 +14,7 @@ pub struct Path {
 }
 
 /// A sign before an operand.
-#[derive(Clone, Copy, Debug, PartialEq, Eq)]
+#[derive(Clone, Copy, PartialEq, Eq)]
 pub enum Prefix {
     /// `!`
     Not,
@@ -23,7 +23,7 @@ pub enum Prefix {
 }
 
 /// An operator between two operands (manual, 2.2.3).
-#[derive(Clone, Copy, Debug, PartialEq, Eq)]
+#[derive(Clone, Copy, PartialEq, Eq)]
 pub enum Infix {
     /// `->`
     Implies,
@@ -72,7 +72,7 @@ pub enum Infix {
 }
 
 /// A named function (manual, 2.2.3).
-#[derive(Clone, Copy, Debug, PartialEq, Eq)]
+#[derive(Clone, Copy, PartialEq, Eq)]
 pub enum Function {
     /// `bool`
     Bool,
@@ -164,7 +164,7 @@ pub type Links = Vec<Link>;
 pub type Branches = Vec<Branch>;
 
 /// A member of an enumeration.
-#[derive(Debug, Drop)]
+#[derive(Drop)]
 pub enum Member {
     /// A symbol.
     Symbol(Name),
@@ -197,7 +197,7 @@ pub struct Item {
 }
 
 /// The kind of a variable (manual, 2.3.1 to 2.3.3).
-#[derive(Clone, Copy, Debug, PartialEq, Eq)]
+#[derive(Clone, Copy, PartialEq, Eq)]
 pub enum VarKind {
     /// `VAR`
     State,
@@ -216,7 +216,7 @@ pub struct Definition {
 }
 
 /// When an assignment holds (manual, 2.3.8).
-#[derive(Clone, Copy, Debug, PartialEq, Eq)]
+#[derive(Clone, Copy, PartialEq, Eq)]
 pub enum When {
     /// In each state: `x := e`.
     Always,
@@ -256,7 +256,7 @@ pub enum Element {
 }
 
 /// A formal parameter.
-#[derive(Debug, Drop)]
+#[derive(Drop)]
 pub struct Parameter {
     pub name: Name,
     pub place: Place,

@@ -7,7 +7,7 @@ use std::alloc::{AllocError, AllocFailed, Global};
 use text_core::{Kind, NoMemory, Place, Refusal, Text};
 
 /// Why a call has no other answer.
-#[derive(Clone, Copy, Debug, PartialEq, Eq)]
+#[derive(Clone, Copy)]
 pub enum Stop {
     /// The text is refused, which is the answer.
     Refused(Refusal),

@@ -2,6 +2,7 @@
 use crate::reading::{MOST_BYTES, Stop};
 use case_text::Fault;
 use smv_lex::lex;
+use smv_print::{sign_bytes, word_bytes};
 use smv_text::{Token, TokenKind};
 use std::alloc::Global;
 use text_core::{Place, Text};
@@ -9,7 +10,10 @@ use text_core::{Place, Text};
 // What a token is.
 fn put_kind(alloc: Global, out: &mut Text, kind: &TokenKind) -> Result<(), Fault> {
     match kind {
-        TokenKind::Reserved(word) => out.put(format!(in alloc; "keyword {word:?}")?.as_bytes())?,
+        TokenKind::Reserved(word) => {
+            out.put(b"keyword ")?;
+            out.put(word_bytes(*word))?;
+        }
         TokenKind::Refused => out.put(b"unsupported")?,
         TokenKind::Ident(name) => {
             out.put(b"identifier ")?;
@@ -21,7 +25,10 @@ fn put_kind(alloc: Global, out: &mut Text, kind: &TokenKind) -> Result<(), Fault
             let bits = word.bits();
             out.put(format!(in alloc; "literal 0ud{width}_{bits}")?.as_bytes())?;
         }
-        TokenKind::Sign(sign) => out.put(format!(in alloc; "sign {sign:?}")?.as_bytes())?,
+        TokenKind::Sign(sign) => {
+            out.put(b"sign ")?;
+            out.put(sign_bytes(*sign))?;
+        }
     }
     Ok(())
 }

@@ -7,11 +7,12 @@ use crate::shown::{check_stop, named_text, names_stop, type_text};
 use crate::values::value_of;
 use crate::wanted::wanted;
 use case_text::{Fault, Piece, given, has};
-use smv_text::{Expr, Shape};
+use smv_intervals::Ty;
+use smv_text::{Expr, Path, Shape};
 use smv_text_cases::{Stop, counted, expression_of, expression_source, source_of, stated, told};
-use smv_types::{Position, type_of};
+use smv_types::{Named, Position, type_of};
 use std::alloc::Global;
-use text_core::Text;
+use text_core::{NoMemory, Text};
 
 /// What a call answers, those of `smv_text_cases` among them; a refused expression is answered as `S16 at 1:7`.
 /// - `type POSITION`: the type of the expression in `row`, where it stands in INIT, TRANS or DEFINE, as an `actual`, or behind
@@ -53,27 +54,51 @@ fn position(place: &str) -> Result<Position, Fault> {
 }
 
 fn typed(alloc: Global, place: &str, pieces: &[Piece]) -> Result<Text, Stop> {
-    let source = expression_source(alloc, stated(pieces)?)?;
-    let e = expression_of(&source)?;
     let position = position(place)?;
+    let source = expression_source(alloc, stated(pieces)?)?;
+    let t = type_at(alloc, pieces, expression_of(&source)?, position)?;
+    Ok(type_text(alloc, t)?)
+}
+
+fn type_at(
+    alloc: Global,
+    pieces: &[Piece],
+    e: &Expr,
+    position: Position,
+) -> Result<Option<Ty>, Stop> {
     if has(pieces, "model") {
-        return typed_in_model(alloc, given(pieces, "model")?, e, position);
+        type_in_model(alloc, given(pieces, "model")?, e, position)
+    } else {
+        type_among(alloc, given(pieces, "names")?, e, position)
     }
-    let names = Environment::declared(alloc, given(pieces, "names")?)?;
+}
+
+fn type_among(
+    alloc: Global,
+    names: &[u8],
+    e: &Expr,
+    position: Position,
+) -> Result<Option<Ty>, Stop> {
+    let names = Environment::declared(alloc, names)?;
     match type_of(alloc, &names, e, position) {
-        Ok(t) => Ok(type_text(alloc, t)?),
+        Ok(t) => Ok(t),
         Err(end) => Err(counted(check_stop(end))),
     }
 }
 
-fn typed_in_model(alloc: Global, text: &[u8], e: &Expr, position: Position) -> Result<Text, Stop> {
+fn type_in_model(
+    alloc: Global,
+    text: &[u8],
+    e: &Expr,
+    position: Position,
+) -> Result<Option<Ty>, Stop> {
     let source = source_of(alloc, text)?;
     let model = model_of(alloc, &source)?;
     match model
         .types
         .expression_checked(alloc, &model.table, 0, e, position)
     {
-        Ok(t) => Ok(type_text(alloc, t)?),
+        Ok(t) => Ok(t),
         Err(end) => Err(counted(names_stop(end))),
     }
 }
@@ -83,19 +108,32 @@ fn named(alloc: Global, pieces: &[Piece]) -> Result<Text, Stop> {
     let Shape::Name(path) = &expression_of(&row)?.shape else {
         return Err(Stop::from("a path"));
     };
-    let source = source_of(alloc, given(pieces, "model")?)?;
-    let model = model_of(alloc, &source)?;
-    let named = model.types.named(&model.table, 0, path);
+    let named = named_in(alloc, given(pieces, "model")?, path)?;
     Ok(named_text(alloc, named)?)
+}
+
+fn named_in(alloc: Global, text: &[u8], path: &Path) -> Result<Named, Stop> {
+    let source = source_of(alloc, text)?;
+    let model = model_of(alloc, &source)?;
+    Ok(model.types.named(&model.table, 0, path))
 }
 
 fn bounds(alloc: Global, pieces: &[Piece]) -> Result<Text, Stop> {
     let source = expression_source(alloc, stated(pieces)?)?;
+    let bounds = bounds_of(alloc, expression_of(&source)?)?;
+    Ok(bounds_text(alloc, bounds)?)
+}
+
+fn bounds_text(alloc: Global, bounds: Bounds) -> Result<Text, NoMemory> {
     let mut out = Text::new(alloc);
-    match bounds_of(alloc, expression_of(&source)?)? {
-        Bounds::Exact => out.put(b"exact")?,
-        Bounds::Within => out.put(b"within")?,
-        Bounds::Wrong => out.put(b"wrong")?,
-    }
+    out.put(bounds_word(bounds))?;
     Ok(out)
+}
+
+fn bounds_word(bounds: Bounds) -> &'static [u8] {
+    match bounds {
+        Bounds::Exact => b"exact",
+        Bounds::Within => b"within",
+        Bounds::Wrong => b"wrong",
+    }
 }

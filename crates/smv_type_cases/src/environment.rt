@@ -5,7 +5,7 @@ ghost use Rattle.smv_type_cases.specs.Environments.{is_name, is_single, named_in
 
 use smv_intervals::Ty;
 use smv_model_types::variable_type;
-use smv_text::{Domain, Element, Elements, Item, Path, VarKind};
+use smv_text::{Domain, Element, Elements, Item, Path, Source, VarKind};
 use smv_text_cases::{Stop, source_of};
 use smv_types::{Named, Scope};
 use std::alloc::Global;
@@ -76,10 +76,11 @@ impl Environment {
     /// The names that these sections declare, such as `VAR x : 0..3; IVAR i : boolean;`. A variable whose declared type fails a
     /// check has no type, and an instance needs no module.
     pub fn declared(alloc: Global, sections: &[u8]) -> Result<Environment, Stop> {
-        let mut text = Text::new(alloc);
-        text.put(b"MODULE main\n")?;
-        text.put(sections)?;
-        let source = source_of(alloc, text.bytes())?;
+        let source = declaring(alloc, sections)?;
+        Ok(Environment::of(alloc, &source)?)
+    }
+
+    fn of(alloc: Global, source: &Source) -> Result<Environment, NoMemory> {
         let mut names = Environment {
             entries: Vec::new(alloc),
         };
@@ -117,6 +118,14 @@ impl Environment {
             Err(_) => Err(NoMemory),
         }
     }
+}
+
+// The model of one module with these sections.
+fn declaring(alloc: Global, sections: &[u8]) -> Result<Source, Stop> {
+    let mut text = Text::new(alloc);
+    text.put(b"MODULE main\n")?;
+    text.put(sections)?;
+    source_of(alloc, text.bytes())
 }
 
 fn item_named(kind: VarKind, item: &Item) -> Named {

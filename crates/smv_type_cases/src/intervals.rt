@@ -8,7 +8,7 @@ use std::alloc::Global;
 use text_core::NoMemory;
 
 /// How an expression's interval stands to its results.
-#[derive(Clone, Copy, Debug, PartialEq, Eq)]
+#[derive(Clone, Copy, PartialEq, Eq)]
 pub enum Bounds {
     /// Its ends are the least and the greatest result.
     Exact,

@@ -33,15 +33,27 @@ struct Stated {
 }
 
 // The model with the expression at its end, where any type fits: on both sides of an equation in a TRANS.
-fn asking(alloc: Global, model: &[u8], expression: &[u8]) -> Result<Text, NoMemory> {
-    let mut text = Text::new(alloc);
+fn put_asking(text: &mut Text, model: &[u8], expression: &[u8]) -> Result<(), NoMemory> {
     text.put(model)?;
     text.put(b"\nTRANS (")?;
     text.put(expression)?;
     text.put(b"\n) = (")?;
     text.put(expression)?;
-    text.put(b"\n)")?;
+    text.put(b"\n)")
+}
+
+fn asking(alloc: Global, pieces: &[Piece]) -> Result<Text, Fault> {
+    let model = given(pieces, "model")?;
+    let expression = given(pieces, "row")?;
+    let mut text = Text::new(alloc);
+    put_asking(&mut text, model, expression)?;
     Ok(text)
+}
+
+// The model with the expression that the row asks for.
+fn asked(alloc: Global, pieces: &[Piece]) -> Result<Source, Stop> {
+    let text = asking(alloc, pieces)?;
+    source_of(alloc, text.bytes())
 }
 
 fn stated_in(alloc: Global, pieces: &[Piece], name: &str) -> Result<Option<State>, Stop> {
@@ -52,19 +64,34 @@ fn stated_in(alloc: Global, pieces: &[Piece], name: &str) -> Result<Option<State
     }
 }
 
+fn stated_of(alloc: Global, pieces: &[Piece]) -> Result<Stated, Stop> {
+    let now = state_of(alloc, given(pieces, "state")?)?;
+    let label = stated_in(alloc, pieces, "inputs")?;
+    let following = stated_in(alloc, pieces, "following")?;
+    Ok(Stated {
+        now,
+        label,
+        following,
+    })
+}
+
 /// The value of the expression in `row`, read at the end of the model's last module, in the instance with this dotted path:
 /// in the state `state`, with the inputs `inputs` and the following state `following` where these are there.
 pub fn value_of(alloc: Global, path: &str, pieces: &[Piece]) -> Result<Text, Stop> {
-    let text = asking(alloc, given(pieces, "model")?, given(pieces, "row")?)?;
-    let source = source_of(alloc, text.bytes())?;
-    let stated = Stated {
-        now: state_of(alloc, given(pieces, "state")?)?,
-        label: stated_in(alloc, pieces, "inputs")?,
-        following: stated_in(alloc, pieces, "following")?,
-    };
-    let name = Name::of(alloc, path.as_bytes())?;
-    let value = value_in(alloc, &source, &name, &stated)?;
+    let source = asked(alloc, pieces)?;
+    let value = value_in_source(alloc, &source, path, pieces)?;
     Ok(value_text(alloc, &value)?)
+}
+
+fn value_in_source(
+    alloc: Global,
+    source: &Source,
+    path: &str,
+    pieces: &[Piece],
+) -> Result<Value, Stop> {
+    let name = Name::of(alloc, path.as_bytes())?;
+    let stated = stated_of(alloc, pieces)?;
+    value_in(alloc, source, &name, &stated)
 }
 
 // Does the expression reach an input from the numbered instance?
@@ -156,9 +183,24 @@ fn value_in<'a>(
 ) -> Result<Value, Stop> {
     let model = model_of(alloc, source)?;
     let parts = instance_list(alloc, source)?;
-    let i = number_of(parts.as_slice(), name.bytes());
-    match asked_in(parts.as_slice(), i) {
-        Some(e) => value_there(alloc, source, &model, parts.as_slice(), name, i, e, stated),
+    value_among(alloc, source, &model, parts.as_slice(), name, stated)
+}
+
+// The same over these instances.
+fn value_among<'a>(
+    alloc: Global,
+    source: &'a Source,
+    model: &Typed<'a>,
+    parts: &[Instance<'a>],
+    name: &Name,
+    stated: &'a Stated,
+) -> Result<Value, Stop>
+    requires typed { IsTyped (instances_of (plain_source source.now)) model.now }
+    requires parts { map instance_plain parts.now ≡ instances_of (plain_source source.now) }
+{
+    let i = number_of(parts, name.bytes());
+    match asked_in(parts, i) {
+        Some(e) => value_there(alloc, source, model, parts, name, i, e, stated),
         None => Err(Stop::from("no expression at the end of the instance's module")),
     }
 }

@@ -1,10 +1,10 @@
 -- What an operator gives lies in its type, where the operands lie in theirs and fit.
-use Rattle.std.proofs.Common.{◌≡◌, ℕ, zero, suc, ◌+◌, ◌-◌, ◌/◌, ◌%◌, ◌^◌, ◌<◌, ◌≤◌, Bool, true, false, not, ◌&&◌, ◌||◌, ◌==◌, nat_lt, nat_le, if◌then◌else◌, ℤ, pos, neg_ℤ, nat_abs, ◌+ℤ◌, ◌-ℤ◌, ◌*ℤ◌, ◌≤ℤ◌, int_lt, int_le, int_div, List, [], ◌∷◌, length, Option, Some, None, refl, sym, ap, ◌∙◌, subst, arith}
+use Rattle.std.proofs.Common.{◌≡◌, ℕ, ◌+◌, ◌-◌, ◌/◌, ◌%◌, ◌^◌, ◌<◌, ◌≤◌, Bool, true, false, not, ◌&&◌, ◌||◌, ◌==◌, nat_lt, nat_le, if◌then◌else◌, ℤ, pos, neg_ℤ, nat_abs, ◌+ℤ◌, ◌-ℤ◌, ◌*ℤ◌, ◌≤ℤ◌, int_lt, int_le, int_div, List, [], ◌∷◌, length, Option, Some, None, refl, sym, ap, ◌∙◌, subst, arith}
 use Rattle.std.proofs.lemmas.Int.{ints, clamps}
 use Rattle.std.proofs.lemmas.Bool.{eqb-true, eq-eqb, leb-true, le-leb, ltb-true, lt-ltb, ltb-false}
 use mathlib.Core.Logic.{◌⊎◌, ⊎_elim}
 use Rattle.std.proofs.Common.{lit≤, lit<}
-use Rattle.std.proofs.Math.Nat.{two-pow-succ, mod-lt}
+use Rattle.std.proofs.Math.Nat.{mod-lt}
 use Rattle.std.proofs.Math.Pow.{pow_pos}
 use Rattle.std.specs.Int.{int_min, int_max}
 use Rattle.std.specs.List.{list_all}
@@ -394,9 +394,6 @@ toint_lies (word_type m ∷ []) ns (v ∷ []) fits h = absurd h.0
 toint_lies [] ns vs fits h = cc
 toint_lies (t ∷ u ∷ ts) ns vs fits h = cc
 toint_lies (t ∷ []) ns vs fits h = cc
-
-two_integers : (t u : ExprType) → (is_integer_type t && is_integer_type u) ≡ true → (is_integer_type t ≡ true) × (is_integer_type u ≡ true)
-two_integers t u h = both_true (is_integer_type t) (is_integer_type u) h
 
 max_lies : (ts : List ExprType) (ns : List (Option ℕ)) (vs : List Value) → function_fits OfFunction.Max ts ≡ true → AllLie ts vs
     → LiesIn (function_type OfFunction.Max ts ns) (called OfFunction.Max vs)

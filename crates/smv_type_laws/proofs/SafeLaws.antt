@@ -134,13 +134,6 @@ linked_has names at p a (link op e ls) h =
     left_has (λ t u. infix_type op t u e) a.type (typing names (behind op at) e).type
     (if_has (passes (front_checks op at p a.type (typing names (behind op at) e).type e)) (both_types (λ t u. infix_type op t u e) a.type (typing names (behind op at) e).type) f).1
 
-union_or : (op : Infix) → (is_union op ≡ true) ⊎ (is_union op ≡ false)
-union_or op = by (is_union op) refl
-  where
-    by : (b : Bool) → is_union op ≡ b → (is_union op ≡ true) ⊎ (is_union op ≡ false)
-    by true e = inl e
-    by false e = inr e
-
 typing_has : (b : Bool) (x y : Typing) → HasType (if b then x else y).type → ((b ≡ true) × HasType x.type) ⊎ ((b ≡ false) × HasType y.type)
 typing_has true x y h = inl (refl, h)
 typing_has false x y h = inr (refl, h)
@@ -183,10 +176,6 @@ all_imply (link op x ls) e = e
 operands_safe : (P Q : Path → Type 0) (f g : Path → Value) (v : Value) (ls : Links) → SafeLinks P Q f g v ls → SafeOperands P Q f g ls
 operands_safe P Q f g v no_links h = tt
 operands_safe P Q f g v (link op x ls) h = (h.0, operands_safe P Q f g (front_value op v (denote f g x)) ls h.2)
-
-sets_false : (at : Position) (b : Bool) → b ≡ false → (if b then at else single at).sets ≡ false
-sets_false at true e = cc
-sets_false at false e = refl
 
 mutual
   pub safe : (names : Path → Named) (f g : Path → Value) (P Q : Path → Type 0) → NamesLie names f → NamesLie names g → Owed names P → Owed names Q → (at : Position) (e : Tree)

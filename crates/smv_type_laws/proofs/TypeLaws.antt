@@ -71,10 +71,6 @@ node_fine own t d sets h = by (passes own) refl
 any_sets : (t : Option ExprType) (d : Denotation) (sets : Bool) → Fine t d false → Fine t d sets
 any_sets t d sets f = record { permitted = f.permitted; own = λ e. f.own refl }
 
--- a set where none may stand
-misplaced : (op : Bool) (sets : Bool) → op ≡ true → sets ≡ false → (not op || sets) ≡ true → ⊥
-misplaced op sets p q h = cc
-
 pub false_true : {X : Type 0} (b : Bool) → b ≡ false → b ≡ true → X
 false_true b h k = cc
 

@@ -1,5 +1,5 @@
 -- Checks one after another: the first that fails refuses.
-use Rattle.std.proofs.Common.{◌≡◌, true, false, List, [], ◌∷◌, ◌++◌, Option, Some, None, option_map, if◌then◌else◌, Result, Ok, Err, append_assoc, refl, sym, ◌∙◌, ap, subst}
+use Rattle.std.proofs.Common.{◌≡◌, true, false, List, [], ◌∷◌, ◌++◌, Option, Some, None, if◌then◌else◌, Result, Ok, Err, append_assoc, refl, sym, ◌∙◌, ap, subst}
 use Rattle.text_core.specs.declared.place.Place.{Place}
 use Rattle.text_core.specs.declared.place.Refusal.{Refusal}
 use Rattle.smv_text.specs.declared.tree.Path.{Path}
@@ -10,7 +10,6 @@ use Rattle.smv_meaning.specs.Checks.{Check, first_failing, Position, Named, Typi
 use Rattle.smv_intervals.specs.declared.types.Ty.{Ty}
 use Rattle.smv_types.specs.declared.ends.CheckEnd.{CheckEnd}
 use Rattle.smv_types.specs.declared.ends.CheckEnd.TheVariants.{Bad, NoMemory}
-use Rattle.smv_intervals.specs.View.{seen}
 use Rattle.smv_types.specs.Outcome.{verdict, outcome, IsBad, Answers, Ends}
 use Rattle.smv_types.specs.Steps.{passed, behind_checks, front_step}
 
@@ -48,11 +47,6 @@ pub goes_on : (a : Typing) (x : Option ExprType) (step : Option ExprType → Typ
 goes_on a x step r h k =
     let p = ok_parts (first_failing a.checks) a.type x h in
     ap (λ o. verdict o (step a.type).type) (goes a.checks (step a.type).checks p.0) ∙ ap (λ t. outcome (step t)) p.1 ∙ k
-
-pub passes_on : (r : Result (Option Ty) Refusal) (a : Typing) (x : Option ExprType) (step : Option ExprType → Typing)
-    → outcome a ≡ Ok x → Answers r (step x) → Answers r (behind_checks a.checks (step a.type))
-passes_on (Ok o) a x step h k = goes_on a x step (Ok (option_map seen o)) h k
-passes_on (Err why) a x step h k = goes_on a x step (Err why) h k
 
 -- checks that pass, and then a node
 pub passes_over : (r : Result (Option Ty) Refusal) (cs : List Check) (s t : Typing) → first_failing cs ≡ None → s ≡ t → Answers r s → Answers r (behind_checks cs t)

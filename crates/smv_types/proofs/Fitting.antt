@@ -1,19 +1,17 @@
 -- Calls whose arguments are too few or too many, and words that are numbers.
-use Rattle.std.proofs.Common.{◌≡◌, ℕ, ℤ, suc, get_or, Err, ◌-◌, ◌^◌, ◌≤◌, ◌<◌, true, false, List, [], ◌∷◌, ◌++◌, length, map, Option, Some, None, option_map, pos, append_assoc, refl, sym, ◌∙◌, ap, arith}
+use Rattle.std.proofs.Common.{◌≡◌, ℕ, suc, get_or, Err, ◌-◌, ◌^◌, ◌≤◌, ◌<◌, true, false, List, [], ◌∷◌, length, map, Option, Some, None, pos, refl, sym, ◌∙◌, ap, arith}
 use Rattle.std.proofs.Math.Pow.{pow_mono}
 use Rattle.std.proofs.lemmas.Bool.Decides.{nat_tests}
-use Rattle.std.specs.Int.{int_min, int_max}
 use Rattle.text_core.specs.declared.place.Place.{Place}
 use Rattle.smv_text.specs.declared.tree.Expr.{Expr}
 use Rattle.smv_text.specs.declared.tree.Function.{Function}
 use Rattle.smv_text.specs.declared.tree.Function.TheVariants as OfFunction
 use Rattle.smv_text.specs.Tree.{trees_of}
 use Rattle.smv_text.specs.View.{plain}
-use Rattle.smv_meaning.specs.Types.{ExprType, is_word_type, integer_type, over_both_ends, in_limit, function_fits, function_type, arguments_fit, numbers_of}
+use Rattle.smv_meaning.specs.Types.{ExprType, is_word_type, integer_type, in_limit, function_fits, function_type, arguments_fit, numbers_of}
 use Rattle.smv_intervals.specs.declared.types.Ty.{Ty}
 use Rattle.smv_intervals.specs.declared.types.Ty.TheVariants.{Truth}
 use Rattle.smv_intervals.specs.View.{seen}
-use Rattle.smv_intervals.specs.Limits.{Kept}
 use Rattle.smv_types.specs.Outcome.{outcome, refusal_at}
 use Rattle.smv_types.specs.Steps.{call_step}
 
@@ -69,11 +67,6 @@ word_in_limit w h = let g : 2 ^ w ≤ 2 ^ 62 = pow_mono h in let k : 2 ^ w - 1 �
 
 pub word_over_limit : (w : ℕ) → 62 < w → in_limit (integer_type (pos 0) (pos (2 ^ w - 1))) ≡ false
 word_over_limit w h = let g : 2 ^ 63 ≤ 2 ^ w = pow_mono h in let k : 2 ^ 62 - 1 < 2 ^ w - 1 = omega arith in grind (arith, nat_tests)
-
-pub one_more_type : (xs : List ExprType) (t : ExprType) (o : Option (List ExprType))
-    → option_map (λ us. xs ++ us) (option_map (λ us. t ∷ us) o) ≡ option_map (λ us. (xs ++ t ∷ []) ++ us) o
-one_more_type xs t None = refl
-one_more_type xs t (Some us) = simp append_assoc
 
 pub uwconst_fits : (ts : List Ty) → length ts ≡ 2 → function_fits OfFunction.Uwconst (map seen ts) ≡ true
 uwconst_fits [] h = absurd (omega arith)

@@ -1,7 +1,6 @@
 -- The paths of an expression are known where the expression's are.
 use Rattle.std.proofs.Common.{◌≡◌, true, false, Bool, ◌&&◌, IsTrue, List, [], ◌∷◌, refl, sym, ◌∙◌, ap}
 use Rattle.std.specs.List.{list_all}
-use Rattle.text_core.specs.declared.place.Place.{Place}
 use Rattle.smv_text.specs.declared.tree.Path.{Path}
 use Rattle.smv_text.specs.Tree.{Tree, truth, number, literal, name, prefix, chain, choice, cases, select, call, next, set, range, Links, no_links, link, Branches, no_branches, branch, Trees, no_trees, tree}
 use Rattle.smv_meaning.specs.Expressions.{paths_of, link_paths, branch_paths, tree_paths}
@@ -54,13 +53,6 @@ mutual
 
 pub all_known : (k : Path → Bool) (e : Tree) → IsTrue (list_all k (paths_of e [])) → IsTrue (is_known k e)
 all_known k e h = and_left (is_known k e) true (sym (known_paths k e []) ∙ h)
-
-and_right : (a b : Bool) → a && b ≡ true → b ≡ true
-and_right true b h = h
-and_right false b h = cc
-
-pub chain_known : (k : Path → Bool) (p : Place) (e : Tree) (ls : Links) → IsTrue (is_known k (chain p e ls)) → IsTrue (links_known k ls)
-chain_known k p e ls h = and_right (is_known k e) (links_known k ls) h
 
 pub always_known : (xs : List Path) → IsTrue (list_all (λ x. true) xs)
 always_known [] = refl

@@ -8,7 +8,7 @@ use smv_intervals::Ty;
 use smv_text::Path;
 
 /// What a name is (NuSMV 2.6 User Manual, 2.3.16).
-#[derive(Clone, Copy, Debug, PartialEq, Eq)]
+#[derive(Clone, Copy, PartialEq, Eq)]
 pub struct Named {
     /// Its type. None for an instance, for a variable whose declared type fails a check, and for a definition or an actual
     /// parameter whose own check fails or that has no type.

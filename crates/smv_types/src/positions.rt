@@ -4,7 +4,7 @@ ghost use Rattle.smv_meaning.specs.Checks.{single, with_sets, under_next};
 ghost use Rattle.smv_types.specs.View.{position_seen, standing_seen};
 
 /// Where a whole expression stands (NuSMV 2.6 User Manual, 2.3): inputs, `next` and sets may stand in some places alone.
-#[derive(Clone, Copy, Debug, PartialEq, Eq)]
+#[derive(Clone, Copy, PartialEq, Eq)]
 pub enum Position {
     /// In INIT, INVAR or INVARSPEC: no input, no `next`, no set.
     Now,
@@ -23,7 +23,7 @@ pub enum Position {
 }
 
 /// What may stand at a place within an expression.
-#[derive(Clone, Copy, Debug, PartialEq, Eq)]
+#[derive(Clone, Copy, PartialEq, Eq)]
 pub struct Standing {
     /// May inputs be reached?
     pub inputs: bool,

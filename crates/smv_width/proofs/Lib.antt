@@ -1,5 +1,4 @@
 pub mod WidthLemmas
-pub mod FrontLemmas
 pub mod WidthLaw
 pub mod SourceWidths
 pub mod ModelWidths

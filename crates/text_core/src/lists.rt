@@ -10,7 +10,7 @@ use std::alloc::Global;
 use std::marker::Model;
 
 /// A list, seen as the list of its elements.
-#[derive(Debug, Drop)]
+#[derive(Drop)]
 pub struct Items<T> {
     items: Vec<T>,
 }
@@ -71,7 +71,7 @@ impl Items<u64> {
 }
 
 /// A file's name and its bytes, seen as that pair.
-#[derive(Debug, Drop)]
+#[derive(Drop)]
 pub struct FilePair {
     pub name: Name,
     pub bytes: Vec<u8>,

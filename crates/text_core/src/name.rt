@@ -9,13 +9,13 @@ use std::marker::Model;
 const SHORT: usize = 22;
 
 /// A name, seen as its bytes. A short one lies in place, since most names are short and there are many of them.
-#[derive(Debug, Drop)]
+#[derive(Drop)]
 pub struct Name {
     content: Content,
 }
 
 // The bytes of a name. A long one has a box, so that it is no larger than a short one.
-#[derive(Debug, Drop)]
+#[derive(Drop)]
 enum Content {
     // How many bytes there are, and room with them at its front.
     Short(u8, [u8; SHORT]),

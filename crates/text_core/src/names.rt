@@ -1,5 +1,5 @@
 // A list of names: a single one lies in place, since most paths are a single name.
-ghost use Rattle.std.specs.Prelude.{◌≡◌, ◌<◌, ◌++◌, [], ◌∷◌, length, OnOk, OnErr, slice_index_or};
+ghost use Rattle.std.specs.Prelude.{◌≡◌, ◌<◌, ◌++◌, [], ◌∷◌, length, IfOk, OnOk, OnErr, slice_index_or};
 
 use crate::errors::NoMemory;
 use crate::name::Name;
@@ -8,13 +8,13 @@ use std::marker::Model;
 use std::mem;
 
 /// A list of names, seen as a list of their bytes.
-#[derive(Debug, Drop)]
+#[derive(Drop)]
 pub struct Names {
     held: Held,
     alloc: Global,
 }
 
-#[derive(Debug, Drop)]
+#[derive(Drop)]
 enum Held {
     One(Name),
     Many(Vec<Name>),
@@ -57,26 +57,21 @@ impl Names {
     {
         match &mut self.held {
             Held::Many(names) => {
-                if !names.is_empty() {
-                    return match names.push(x) {
-                        Ok(()) => Ok(()),
-                        Err(_) => Err(NoMemory),
-                    };
+                if names.is_empty() {
+                    self.held = Held::One(x);
+                    Ok(())
+                } else {
+                    add(names, x)
                 }
             }
-            Held::One(first) => match Vec::with_capacity(self.alloc, 4) {
+            Held::One(first) => match two(self.alloc, first, x) {
                 Ok(names) => {
-                    let mut names = names;
-                    names.push_reserved(mem::replace(first, Name::empty()));
-                    names.push_reserved(x);
                     self.held = Held::Many(names);
-                    return Ok(());
+                    Ok(())
                 }
-                Err(_) => return Err(NoMemory),
+                Err(end) => Err(end),
             },
         }
-        self.held = Held::One(x);
-        Ok(())
     }
 
     pub fn len(&self) -> usize
@@ -96,5 +91,32 @@ impl Names {
             Held::One(name) => name,
             Held::Many(names) => &names[i],
         }
+    }
+}
+
+// Adds x at the end, and leaves the names unchanged where it is refused.
+fn add(names: &mut Vec<Name>, x: Name) -> Result<(), NoMemory>
+    ensures ok { OnOk result (names.new.items ≡ names.old.items ++ x ∷ []) }
+    ensures err { OnErr result (names.new.items ≡ names.old.items) }
+{
+    match names.push(x) {
+        Ok(()) => Ok(()),
+        Err(_) => Err(NoMemory),
+    }
+}
+
+// Takes the first name into a list with x behind it, and leaves it where it is refused.
+fn two(alloc: Global, first: &mut Name, x: Name) -> Result<Vec<Name>, NoMemory>
+    ensures ok { IfOk result (λ names. names.items ≡ first.old ∷ x ∷ []) }
+    ensures err { OnErr result (first.new ≡ first.old) }
+{
+    match Vec::with_capacity(alloc, 4) {
+        Ok(names) => {
+            let mut names = names;
+            names.push_reserved(mem::replace(first, Name::empty()));
+            names.push_reserved(x);
+            Ok(names)
+        }
+        Err(_) => Err(NoMemory),
     }
 }

@@ -34,22 +34,22 @@ is_first ts end (Err (Bad r)) g =
 is_first ts end (Err NoMemory) g = tt
 
 pub returns-clause-first : goal.returns-clause-first
-returns-clause-first c = is_first (plain_forms c.args.forms.now.items) c.args.end c.script_in.result c.script_in.ensures.refused
+returns-clause-first c = is_first (plain_forms c.args.forms.now.items) c.args.end c.script_in-script.result c.script_in-script.ensures.refused
 
 pub returns-clause-read : goal.returns-clause-read
-returns-clause-read c s h = is_read _ c.args.end c.script_in.result s c.script_in.ensures.spelled c.script_in.ensures.refused h
+returns-clause-read c s h = is_read _ c.args.end c.script_in-script.result s c.script_in-script.ensures.spelled c.script_in-script.ensures.refused h
 
 pub returns-clause-answered : goal.returns-clause-answered
-returns-clause-answered c r h = is_answered _ c.args.end c.script_in.result r c.script_in.ensures.spelled c.script_in.ensures.refused h
+returns-clause-answered c r h = is_answered _ c.args.end c.script_in-script.result r c.script_in-script.ensures.spelled c.script_in-script.ensures.refused h
 
 pub returns-clause-spelled : goal.returns-clause-spelled
-returns-clause-spelled c = c.script_in.ensures.spelled
+returns-clause-spelled c = c.script_in-script.ensures.spelled
 
 pub returns-clause-refused : goal.returns-clause-refused
-returns-clause-refused c = c.script_in.ensures.refused
+returns-clause-refused c = c.script_in-script.ensures.refused
 
-pub script_in-requires-clause-printable : goal.script_in-requires-clause-printable
-script_in-requires-clause-printable c = c.requires
+pub script_in-script-requires-clause-printable : goal.script_in-script-requires-clause-printable
+script_in-script-requires-clause-printable c = c.requires
 
-pub script_in-requires-clause-nothing : goal.script_in-requires-clause-nothing
-script_in-requires-clause-nothing c = c.nothing_read-draft.ensures
+pub script_in-script-requires-clause-nothing : goal.script_in-script-requires-clause-nothing
+script_in-script-requires-clause-nothing c = c.nothing_read-draft.ensures

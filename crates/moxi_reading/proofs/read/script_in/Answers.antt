@@ -49,12 +49,12 @@ invariant_of-result c =
             end = c.args.end;
             printable = c.requires.printable;
             spelled = taken _ _ c.args.end c.read_whole_script.new.draft _ c.in-Some-take.read _ c.deref.ensures.value got.draft got.finds c.in_default.is (sym c.take.ensures.value ∙ c.in-Some-take.is)
-                c.take-2.ensures.value c.replace-scope.ensures.value c.in_ok-systems.ensures c.in_ok-check.ensures;
+                c.take-in-Ok.ensures.value c.replace-scope.ensures.value c.in-Ok.ensures c.in_ok-check.ensures;
           } ∣₁;
     }
 
-pub returns-clause-spelled : goal.returns-clause-spelled
-returns-clause-spelled c =
+pub returns-in-Ok-clause-spelled : goal.returns-in-Ok-clause-spelled
+returns-in-Ok-clause-spelled c =
     let got = c.in_ok-read_whole_script.ensures in
     taken _ _ c.args.end c.read_whole_script.new.draft _ c.in-Some-take.read _ c.deref.ensures.value got.draft got.finds c.in_default.is (sym c.take.ensures.value ∙ c.in-Some-take.is)
-    c.take-2.ensures.value c.replace-scope.ensures.value c.in_ok-systems.ensures c.in_ok-check.ensures
+    c.take-in-Ok.ensures.value c.replace-scope.ensures.value c.in-Ok.ensures c.in_ok-check.ensures

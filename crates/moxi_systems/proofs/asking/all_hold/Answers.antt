@@ -1,4 +1,4 @@
-use Rattle.moxi_systems.proofs.AskingLaws.{ends, goes, number_there, stops}
+use Rattle.moxi_systems.proofs.AskingLaws.{ends, goes, stops}
 use Rattle.moxi_systems.proofs.asking.all_hold.Goals as goal
 
 pub returns-then-not-branch : goal.returns-then-not-branch

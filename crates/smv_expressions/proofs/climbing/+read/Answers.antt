@@ -1,4 +1,4 @@
-use Rattle.std.proofs.Common.{◌≡◌, true, false, ◌&&◌, nat_le, is_some, suc, ◌-◌, Some, None, [], ◌∷◌, ◌++◌, length, sym, ap, ◌∙◌, subst, arith, add-one}
+use Rattle.std.proofs.Common.{◌≡◌, true, false, ◌&&◌, nat_le, is_some, suc, ◌-◌, Some, None, List, [], ◌∷◌, ◌++◌, length, refl, sym, ap, ◌∙◌, subst, arith, add-one}
 use Rattle.std.proofs.lemmas.Result.{err_from_is_err_and}
 use Rattle.smv_text.specs.declared.token.Sign.TheVariants as sign
 use Rattle.smv_text.specs.declared.tree.Prefix.TheVariants as prefixes
@@ -9,16 +9,16 @@ use Rattle.smv_grammar.specs.declared.listing.Listing.TheVariants.{Arguments, El
 use Rattle.smv_grammar.specs.declared.levels.Leader.TheVariants as leader
 use Rattle.smv_expressions.specs.Gathered.{read_of, single}
 use Rattle.smv_grammar.specs.Ranks.{level_at, tightest}
-use Rattle.smv_grammar.specs.Machine.{bare, joined, operand, when, value, signs, bracket, following, listing, condition, result, closing_of, listed, choice_at, prefix_sign, leader_of, opened, ask, have, signed, open_next, failed, walk}
+use Rattle.smv_grammar.specs.Machine.{bare, joined, whole, operand, when, value, signs, bracket, following, listing, condition, result, closing_of, Frame, listed, choice_at, prefix_sign, leader_of, opened, ask, have, signed, open_next, failed, walk}
 use Rattle.std.specs.Bool.{OnTrue}
 use Rattle.smv_grammar.specs.Reading.{after, found, first_path, starts_range, waiting}
-use Rattle.smv_expressions.specs.Following.{IsLost, IsOperand, Misses}
+use Rattle.smv_expressions.specs.Following.{IsOperand, Passes, Follows}
 use Rattle.smv_expressions.proofs.Capping.{none_so_far}
-use Rattle.smv_expressions.proofs.Keeping.{read_height, leaf_number, leaf_literal, leaf_true, leaf_false, leaf_name}
+use Rattle.smv_expressions.proofs.Keeping.{read_height}
 use Rattle.smv_grammar.proofs.Steps.{when_goes, value_goes, bracket_goes, following_goes, condition_goes, result_goes, listing_goes, listing_ends, when_leaves, value_dies, signs_fold, bracket_dies, following_dies, condition_dies, result_dies, listing_dies, chain_goes, operand_goes, signed_goes, open_next_goes, open_call_goes, signed_ends, open_next_dies, open_call_dies, case_more, case_ends, named_on}
 use Rattle.smv_grammar.proofs.Climbing.{leads_by, path_begins}
-use Rattle.smv_expressions.proofs.Descending.{settles, climbs, beside, range_descends, minus_descends, not_descends, plain_descends, name_leads, none_left, nothing_comes, path_place}
-use Rattle.smv_expressions.proofs.Following.{path_dies, follows_err, follows_along, follows_missed, follows_free}
+use Rattle.smv_expressions.proofs.Descending.{settles, climbs, beside, first_at, prefix_first, name_leads, none_left, nothing_comes, path_place}
+use Rattle.smv_expressions.proofs.Following.{path_dies, follows_err, follows_along, follows_missed, follows_passed, follows_free, collects_ok, collects_err, collects_dead, collects_missed, collects_passed, collects_free}
 use Rattle.smv_expressions.proofs.climbing.+read.Goals as goal
 
 pub read-returns-in_err-name_leaf-clause-reads : goal.read-returns-in_err-name_leaf-clause-reads
@@ -51,129 +51,6 @@ read-returns-then-put_constant-clause-reads m c =
     let f : IsOperand x xs (read_of c.put_constant.new.kept) = subst (λ b. OnTrue b (IsOperand x xs (read_of c.put_constant.new.kept))) c.if-put_constant.true c.put_constant.ensures in
     follows_along _ _ (ask (tightest n)) (λ k. have f.tree (waiting 0 n x.place k)) ys xs c.climb-then-put_constant.result
     (λ k. ap (λ zs. walk zs (ask (tightest n) k)) is ∙ f.leads n c.requires.few k) (c.climb-then-put_constant.ensures.reads f.tree f.kept)
-
-pub begin-returns-in_err-last-in-Some-clause-reads : goal.begin-returns-in_err-last-in-Some-clause-reads
-begin-returns-in_err-last-in-Some-clause-reads t c =
-    let q = c.from_residual in
-    let p = err_from_is_err_and q.result q.ensures.1 in
-    let n = c.args.levels in
-    let x = c.in-Some.token.now in
-    let xs = c.in-Some.rest.now in
-    let ys = c.args.tokens.now in
-    let is : ys ≡ x ∷ xs = c.in-Some.ensures.cases.0 in
-    let r = subst (λ zs. (nat_le 8 n && starts_range zs) ≡ true) is (sym c.begins_range.ensures ∙ c.if-begins_range.true) in
-    follows_err _ _ (ask (tightest n)) (ask (tightest 8)) ys ys _ p.0 _ p.1 p.2 (λ k. (waiting 8 n x.place k, ap (λ zs. walk zs (ask (tightest n) k)) is ∙ range_descends n c.requires.few x xs k r ∙ ap (λ zs. walk zs (ask (tightest 8) (waiting 8 n x.place k))) (sym is))) c.in_err-last-in-Some.ensures.reads
-
-pub begin-returns-in_ok-last-in-Some-clause-reads : goal.begin-returns-in_ok-last-in-Some-clause-reads
-begin-returns-in_ok-last-in-Some-clause-reads t c =
-    let n = c.args.levels in
-    let x = c.in-Some.token.now in
-    let xs = c.in-Some.rest.now in
-    let ys = c.args.tokens.now in
-    let is : ys ≡ x ∷ xs = c.in-Some.ensures.cases.0 in
-    let r = subst (λ zs. (nat_le 8 n && starts_range zs) ≡ true) is (sym c.begins_range.ensures ∙ c.if-begins_range.true) in
-    let f = c.in_ok-last-in-Some.ensures.reads in
-    record {
-      tree = f.tree;
-      kept = f.kept;
-      leads = λ k. ap (λ zs. walk zs (ask (tightest n) k)) is ∙ range_descends n c.requires.few x xs k r ∙ ap (λ zs. walk zs (ask (tightest 8) (waiting 8 n x.place k))) (sym is) ∙ f.leads (waiting 8 n x.place k) ∙ ap (λ q. walk c.in_ok-last-in-Some.last.now (have f.tree (waiting 8 n q k))) (sym (ap start is));
-    }
-
-pub begin-returns-in_err-last-in-Some-2-clause-reads : goal.begin-returns-in_err-last-in-Some-2-clause-reads
-begin-returns-in_err-last-in-Some-2-clause-reads t c =
-    let q = c.from_residual-in_err-last-in-Some-2 in
-    let p = err_from_is_err_and q.result q.ensures.1 in
-    let n = c.args.levels in
-    let x = c.in-Some.token.now in
-    let xs = c.in-Some.rest.now in
-    let ys = c.args.tokens.now in
-    let is : ys ≡ x ∷ xs = c.in-Some.ensures.cases.0 in
-    let r = subst (λ zs. (nat_le 8 n && starts_range zs) ≡ false) is (sym c.begins_range.ensures ∙ c.if-begins_range.false) in
-    let m = sym c.begins_prefix.ensures ∙ c.if-begins_prefix.true in
-    follows_err _ _ (ask (tightest n)) (signed prefixes.Minus (tightest 3) x.place 1) ys xs _ p.0 _ p.1 p.2 (λ k. (waiting 4 n x.place k, ap (λ zs. walk zs (ask (tightest n) k)) is ∙ minus_descends n c.requires.few x xs k r m)) c.in_err-last-in-Some-2.ensures.reads
-
-pub begin-returns-in_ok-last-in-Some-2-clause-reads : goal.begin-returns-in_ok-last-in-Some-2-clause-reads
-begin-returns-in_ok-last-in-Some-2-clause-reads t c =
-    let n = c.args.levels in
-    let x = c.in-Some.token.now in
-    let xs = c.in-Some.rest.now in
-    let ys = c.args.tokens.now in
-    let is : ys ≡ x ∷ xs = c.in-Some.ensures.cases.0 in
-    let r = subst (λ zs. (nat_le 8 n && starts_range zs) ≡ false) is (sym c.begins_range.ensures ∙ c.if-begins_range.false) in
-    let m = sym c.begins_prefix.ensures ∙ c.if-begins_prefix.true in
-    let f = c.in_ok-last-in-Some-2.ensures.reads in
-    record {
-      tree = f.tree;
-      kept = f.kept;
-      leads = λ k. ap (λ zs. walk zs (ask (tightest n) k)) is ∙ minus_descends n c.requires.few x xs k r m ∙ f.leads (waiting 4 n x.place k) ∙ ap (λ q. walk c.in_ok-last-in-Some-2.last.now (have f.tree (waiting 4 n q k))) (sym (ap start is));
-    }
-
-pub begin-returns-in_err-last-in-Some-3-clause-reads : goal.begin-returns-in_err-last-in-Some-3-clause-reads
-begin-returns-in_err-last-in-Some-3-clause-reads t c =
-    let q = c.from_residual-in_err-last-in-Some-3 in
-    let p = err_from_is_err_and q.result q.ensures.1 in
-    let n = c.args.levels in
-    let x = c.in-Some.token.now in
-    let xs = c.in-Some.rest.now in
-    let ys = c.args.tokens.now in
-    let is : ys ≡ x ∷ xs = c.in-Some.ensures.cases.0 in
-    let r = subst (λ zs. (nat_le 8 n && starts_range zs) ≡ false) is (sym c.begins_range.ensures ∙ c.if-begins_range.false) in
-    let m = sym c.begins_prefix.ensures ∙ c.if-begins_prefix.false in
-    let o = sym c.begins_prefix-else-begins_prefix.ensures ∙ c.if-begins_prefix-2.true in
-    follows_err _ _ (ask (tightest n)) (signed prefixes.Not (tightest 1) x.place 1) ys xs _ p.0 _ p.1 p.2 (λ k. (waiting 2 n x.place k, ap (λ zs. walk zs (ask (tightest n) k)) is ∙ not_descends n c.requires.few x xs k r m o)) c.in_err-last-in-Some-3.ensures.reads
-
-pub begin-returns-in_ok-last-in-Some-3-clause-reads : goal.begin-returns-in_ok-last-in-Some-3-clause-reads
-begin-returns-in_ok-last-in-Some-3-clause-reads t c =
-    let n = c.args.levels in
-    let x = c.in-Some.token.now in
-    let xs = c.in-Some.rest.now in
-    let ys = c.args.tokens.now in
-    let is : ys ≡ x ∷ xs = c.in-Some.ensures.cases.0 in
-    let r = subst (λ zs. (nat_le 8 n && starts_range zs) ≡ false) is (sym c.begins_range.ensures ∙ c.if-begins_range.false) in
-    let m = sym c.begins_prefix.ensures ∙ c.if-begins_prefix.false in
-    let o = sym c.begins_prefix-else-begins_prefix.ensures ∙ c.if-begins_prefix-2.true in
-    let f = c.in_ok-last-in-Some-3.ensures.reads in
-    record {
-      tree = f.tree;
-      kept = f.kept;
-      leads = λ k. ap (λ zs. walk zs (ask (tightest n) k)) is ∙ not_descends n c.requires.few x xs k r m o ∙ f.leads (waiting 2 n x.place k) ∙ ap (λ q. walk c.in_ok-last-in-Some-3.last.now (have f.tree (waiting 2 n q k))) (sym (ap start is));
-    }
-
-pub begin-returns-in_err-last-in-Some-4-clause-reads : goal.begin-returns-in_err-last-in-Some-4-clause-reads
-begin-returns-in_err-last-in-Some-4-clause-reads t c =
-    let q = c.from_residual-in_err-last-in-Some-4 in
-    let p = err_from_is_err_and q.result q.ensures.1 in
-    let n = c.args.levels in
-    let x = c.in-Some.token.now in
-    let xs = c.in-Some.rest.now in
-    let ys = c.args.tokens.now in
-    let is : ys ≡ x ∷ xs = c.in-Some.ensures.cases.0 in
-    let r = subst (λ zs. (nat_le 8 n && starts_range zs) ≡ false) is (sym c.begins_range.ensures ∙ c.if-begins_range.false) in
-    let m = sym c.begins_prefix.ensures ∙ c.if-begins_prefix.false in
-    let o = sym c.begins_prefix-else-begins_prefix.ensures ∙ c.if-begins_prefix-2.false in
-    follows_err _ _ (ask (tightest n)) (ask []) ys ys _ p.0 _ p.1 p.2 (λ k. (waiting 0 n x.place k, ap (λ zs. walk zs (ask (tightest n) k)) is ∙ plain_descends n c.requires.few x xs k r m o ∙ ap (λ zs. walk zs (ask [] (waiting 0 n x.place k))) (sym is))) c.in_err-last-in-Some-4.ensures.reads
-
-pub begin-returns-in_ok-last-in-Some-4-clause-reads : goal.begin-returns-in_ok-last-in-Some-4-clause-reads
-begin-returns-in_ok-last-in-Some-4-clause-reads t c =
-    let n = c.args.levels in
-    let x = c.in-Some.token.now in
-    let xs = c.in-Some.rest.now in
-    let ys = c.args.tokens.now in
-    let is : ys ≡ x ∷ xs = c.in-Some.ensures.cases.0 in
-    let r = subst (λ zs. (nat_le 8 n && starts_range zs) ≡ false) is (sym c.begins_range.ensures ∙ c.if-begins_range.false) in
-    let m = sym c.begins_prefix.ensures ∙ c.if-begins_prefix.false in
-    let o = sym c.begins_prefix-else-begins_prefix.ensures ∙ c.if-begins_prefix-2.false in
-    let f = c.in_ok-last-in-Some-4.ensures.reads in
-    record {
-      tree = f.tree;
-      kept = f.kept;
-      leads = λ k. ap (λ zs. walk zs (ask (tightest n) k)) is ∙ plain_descends n c.requires.few x xs k r m o ∙ ap (λ zs. walk zs (ask [] (waiting 0 n x.place k))) (sym is) ∙ f.leads (waiting 0 n x.place k) ∙ ap (λ q. walk c.in_ok-last-in-Some-4.last.now (have f.tree (waiting 0 n q k))) (sym (ap start is));
-    }
-
-pub begin-returns-in-None-clause-reads : goal.begin-returns-in-None-clause-reads
-begin-returns-in-None-clause-reads t c k =
-    let none : c.args.tokens.now ≡ [] = none_so_far _ c.in-None.ensures.cases in
-    ap (λ zs. walk zs (ask (tightest c.args.levels) k)) none ∙ nothing_comes (tightest c.args.levels) k
 
 pub climb-returns-then-rank-level-clause-reads : goal.climb-returns-then-rank-level-clause-reads
 climb-returns-then-rank-level-clause-reads m c t h =
@@ -225,146 +102,6 @@ ascend-loop-below-preserved m c =
             leads = λ k. f.leads k ∙ climbs l.below n (rank - 1) c.args.place k f.tree l.rest.now c.requires.few (omega arith) (omega arith) (sym c.first_rank-rank.ensures ∙ over) ∙ g.leads (waiting (suc (rank - 1)) n c.args.place k) ∙ ap (λ i. walk c.in_ok-last.last.now (have g.tree (waiting i n c.args.place k))) (sym over);
           };
       shorter = omega (arith, l.invariant.shorter, c.in_ok-last.ensures.shorter);
-    }
-
-pub chain-loop-op-init : goal.chain-loop-op-init
-chain-loop-op-init m c =
-    let j = c.args.joint in
-    let below = tightest c.args.below in
-    let place = c.args.place in
-    record {
-      reads = λ t h. ([], c.new-operands.ensures t (read_height c.args.kept.now t h), λ k. operand_goes k below j place bare t c.args.tokens.now);
-      shorter = omega arith;
-    }
-
-pub chain-returns-in_err-push-clause-reads : goal.chain-returns-in_err-push-clause-reads
-chain-returns-in_err-push-clause-reads m c t h =
-    let q = c.from_residual-in_err-push in
-    let p = err_from_is_err_and q.result q.ensures.1 in
-    follows_free _ _ (λ k. have t (operand c.args.joint (tightest c.args.below) c.args.place bare ∷ k)) c.args.tokens.now _ p.0 _ p.1 p.2 c.in_err-push.ensures.free
-
-pub chain-returns-in_err-chain-clause-reads : goal.chain-returns-in_err-chain-clause-reads
-chain-returns-in_err-chain-clause-reads m c t h =
-    let q = c.from_residual-in_err-chain in
-    let p = err_from_is_err_and q.result q.ensures.1 in
-    follows_free _ _ (λ k. have t (operand c.args.joint (tightest c.args.below) c.args.place bare ∷ k)) c.args.tokens.now _ p.0 _ p.1 p.2 c.in_err-chain.ensures.free
-
-pub chain-loop-op-preserved : goal.chain-loop-op-preserved
-chain-loop-op-preserved m c =
-    let j = c.args.joint in
-    let below = tightest c.args.below in
-    let place = c.args.place in
-    let l = c.loop-op in
-    let op = c.in-Some.op in
-    let o = c.in_ok-last.ensures.reads in
-    record {
-      reads = λ t h.
-          let i = l.invariant.reads t h in (
-            i.0 ++ (op, o.tree) ∷ [],
-            c.in_ok-push.ensures.made t i.0 o.tree i.1 o.kept,
-            λ k. i.2 k ∙ ap (chain_goes j below place (record { first = t; links = i.0 }) k l.rest.now) (sym c.in-Some.ensures.found) ∙ o.leads _
-                ∙ operand_goes k below j place (joined (record { first = t; links = i.0 }) op) o.tree c.in_ok-last.last.now,
-          );
-      shorter = omega (arith, l.invariant.shorter, c.in-Some.ensures.shorter, c.in_ok-last.ensures.shorter);
-    }
-
-pub choice-returns-in_err-next-clause-reads : goal.choice-returns-in_err-next-clause-reads
-choice-returns-in_err-next-clause-reads m c t h =
-    let q = c.from_residual in
-    let p = err_from_is_err_and q.result q.ensures.1 in
-    let l = c.loop-more in
-    let b = tightest c.args.below in
-    let place = c.args.place in
-    let i = l.invariant.reads t h in
-    let bs = i.0 in
-    let f = i.2 in
-    let rest = l.rest.now in
-    follows_err _ _ (λ k. have t (when b place [] ∷ k)) (ask b) c.args.tokens.now c.in-Some.more.now _ p.0 _ p.1 p.2 (λ k. (value b place bs f.tree ∷ k, f.leads k ∙ when_goes k f.tree rest c.in-Some.more.now b place bs (sym c.in-Some.ensures.found))) c.in_err-next.ensures.reads
-
-pub choice-returns-in_err-behind-clause-reads : goal.choice-returns-in_err-behind-clause-reads
-choice-returns-in_err-behind-clause-reads m c t h =
-    let q = c.from_residual-in_err-behind in
-    let p = err_from_is_err_and q.result q.ensures.1 in
-    let l = c.loop-more in
-    let b = tightest c.args.below in
-    let place = c.args.place in
-    let i = l.invariant.reads t h in
-    let bs = i.0 in
-    let f = i.2 in
-    let rest = l.rest.now in
-    let v = c.in_ok-next.ensures.reads in
-    let next = c.in_ok-next.next.now in
-    follows_missed _ _ (λ k. have t (when b place [] ∷ k)) c.args.tokens.now next sign.Colon _ p.0 _ p.1 p.2 (λ k none. f.leads k ∙ when_goes k f.tree rest c.in-Some.more.now b place bs (sym c.in-Some.ensures.found) ∙ v.leads _ ∙ value_dies k v.tree next b place bs f.tree none) c.in_err-behind.ensures.passes
-
-pub choice-returns-in_err-end-clause-reads : goal.choice-returns-in_err-end-clause-reads
-choice-returns-in_err-end-clause-reads m c t h =
-    let q = c.from_residual-in_err-end in
-    let p = err_from_is_err_and q.result q.ensures.1 in
-    let l = c.loop-more in
-    let b = tightest c.args.below in
-    let place = c.args.place in
-    let i = l.invariant.reads t h in
-    let bs = i.0 in
-    let f = i.2 in
-    let rest = l.rest.now in
-    let v = c.in_ok-next.ensures.reads in
-    let next = c.in_ok-next.next.now in
-    follows_err _ _ (λ k. have t (when b place [] ∷ k)) (ask b) c.args.tokens.now c.in_ok-behind.behind.now _ p.0 _ p.1 p.2 (λ k. (when b place (bs ++ (f.tree, v.tree) ∷ []) ∷ k, f.leads k ∙ when_goes k f.tree rest c.in-Some.more.now b place bs (sym c.in-Some.ensures.found) ∙ v.leads _ ∙ value_goes k v.tree next c.in_ok-behind.behind.now b place bs f.tree c.in_ok-behind.ensures.passes)) c.in_err-end.ensures.reads
-
-pub choice-returns-in_err-push-clause-reads : goal.choice-returns-in_err-push-clause-reads
-choice-returns-in_err-push-clause-reads m c t h =
-    let q = c.from_residual-in_err-push in
-    let p = err_from_is_err_and q.result q.ensures.1 in
-    follows_free _ _ (λ k. have t (when (tightest c.args.below) c.args.place [] ∷ k)) c.args.tokens.now _ p.0 _ p.1 p.2 c.in_err-push.ensures.free
-
-pub choice-returns-in_err-choice-clause-reads : goal.choice-returns-in_err-choice-clause-reads
-choice-returns-in_err-choice-clause-reads m c t h =
-    let q = c.from_residual-in_err-choice in
-    let p = err_from_is_err_and q.result q.ensures.1 in
-    follows_free _ _ (λ k. have t (when (tightest c.args.below) c.args.place [] ∷ k)) c.args.tokens.now _ p.0 _ p.1 p.2 c.in_err-choice.ensures.free
-
-pub choice-loop-more-preserved : goal.choice-loop-more-preserved
-choice-loop-more-preserved m c =
-    let l = c.loop-more in
-    let b = tightest c.args.below in
-    let place = c.args.place in
-    let rest = l.rest.now in
-    let v = c.in_ok-next.ensures.reads in
-    let next = c.in_ok-next.next.now in
-    let o = c.in_ok-end.ensures.reads in
-    record {
-      reads = λ t h.
-          let i = l.invariant.reads t h in
-          let bs = i.0 in
-          let f = i.2 in (
-            bs ++ (f.tree, v.tree) ∷ [],
-            c.in_ok-push.ensures.made bs f.tree v.tree i.1 (ap read_of c.taken.ensures ∙ f.kept) v.kept,
-            record {
-              tree = o.tree;
-              kept = o.kept;
-              leads = λ k. f.leads k ∙ when_goes k f.tree rest c.in-Some.more.now b place bs (sym c.in-Some.ensures.found) ∙ v.leads _ ∙ value_goes k v.tree next c.in_ok-behind.behind.now b place bs f.tree c.in_ok-behind.ensures.passes ∙ o.leads _;
-            },
-          );
-      shorter = omega (arith, l.invariant.shorter, c.in-Some.ensures.shorter, c.in_ok-next.ensures.shorter, c.in_ok-behind.ensures.shorter, c.in_ok-end.ensures.shorter);
-    }
-
-pub choice-loop-more-smaller : goal.choice-loop-more-smaller
-choice-loop-more-smaller m c =
-    omega (arith, c.in-Some.ensures.shorter, c.in_ok-next.ensures.shorter, c.in_ok-behind.ensures.shorter, c.in_ok-end.ensures.shorter)
-
-pub choice-returns-clause-reads : goal.choice-returns-clause-reads
-choice-returns-clause-reads m c t h =
-    let l = c.loop-more in
-    let b = tightest c.args.below in
-    let place = c.args.place in
-    let i = l.invariant.reads t h in
-    let bs = i.0 in
-    let f = i.2 in
-    let rest = l.rest.now in
-    record {
-      tree = choice_at place (branches_of bs) f.tree;
-      kept = c.in_ok-choice.ensures.made bs f.tree i.1 f.kept;
-      leads = λ k. f.leads k ∙ when_leaves k f.tree rest b place bs (sym c.in_default.ensures.found);
     }
 
 pub prefixed-loop-more-preserved : goal.prefixed-loop-more-preserved
@@ -463,259 +200,271 @@ following-returns-clause-reads m c =
       leads = λ k. open_next_goes k xs c.in_ok-rest.rest.now place c.in_ok-rest.ensures.passes ∙ a.leads _ ∙ following_goes k a.tree closing c.in_ok-last.last.now place c.in_ok-last.ensures.passes;
     }
 
-pub listed-returns-in_err-more-clause-reads : goal.listed-returns-in_err-more-clause-reads
-listed-returns-in_err-more-clause-reads m c =
+pub read-returns-in_err-rest-clause-reads : goal.read-returns-in_err-rest-clause-reads
+read-returns-in_err-rest-clause-reads m c =
+    let q = c.from_residual-in_err-rest in
+    let p = err_from_is_err_and q.result q.ensures.1 in
+    let n = c.args.levels in
+    let l = c.first_level-level.result in
+    let xs = c.args.tokens.now in
+    let f = first_at n c.requires.few xs l c.first_level-level.ensures in
+    follows_err _ _ (ask (tightest n)) (ask (tightest l)) xs xs _ p.0 _ p.1 p.2 (λ k. (waiting l n (start xs) k, f.leads (start xs) refl k)) c.in_err-rest.ensures.reads
+
+pub read-begin-requires : goal.read-begin-requires
+read-begin-requires m c =
+    (omega (arith, c.decreases), ((first_at c.args.levels c.requires.few c.args.tokens.now c.first_level-level.result c.first_level-level.ensures).begins, omega arith))
+
+pub read-returns-clause-reads : goal.read-returns-clause-reads
+read-returns-clause-reads m c =
+    let n = c.args.levels in
+    let l = c.first_level-level.result in
+    let xs = c.args.tokens.now in
+    let f = first_at n c.requires.few xs l c.first_level-level.ensures in
+    let o = c.in_ok-rest.ensures.reads in
+    follows_along _ _ (ask (tightest n)) (λ k. have o.tree (waiting l n c.start.result k)) xs c.in_ok-rest.rest.now c.climb-2.result
+    (λ k. f.leads c.start.result c.start.ensures k ∙ o.leads _) (c.climb-2.ensures.reads o.tree o.kept)
+
+pub begin-returns-in-None-clause-reads : goal.begin-returns-in-None-clause-reads
+begin-returns-in-None-clause-reads t c k =
+    let none : c.args.tokens.now ≡ [] = none_so_far _ c.in-None.ensures.cases in
+    ap (λ zs. walk zs (ask (tightest c.args.level) k)) none ∙ nothing_comes (tightest c.args.level) k
+
+pub chain-returns-in_err-rest-clause-reads : goal.chain-returns-in_err-rest-clause-reads
+chain-returns-in_err-rest-clause-reads m c t h =
     let q = c.from_residual in
     let p = err_from_is_err_and q.result q.ensures.1 in
-    let l = c.loop-member in
-    let place = c.args.place in
-    let what = c.args.what in
-    let i = l.invariant.reads in
-    let ts = i.0 in
-    follows_err _ _ (λ k. ask all_levels (listing place what [] ∷ k)) (ask all_levels) c.args.tokens.now l.rest.now _ p.0 _ p.1 p.2 (λ k. (listing place what ts ∷ k, i.2 k)) c.in_err-more.ensures.reads
+    let from = λ (k : List Frame). have t (operand c.args.joint (tightest c.args.below) c.args.place bare ∷ k) in
+    let none = c.new-operands.ensures t (read_height c.args.kept.now t h) in
+    follows_err _ _ from from c.args.tokens.now c.args.tokens.now _ p.0 _ p.1 p.2 (λ k. (k, refl)) (collects_err _ _ _ _ _ _ _ c.in_err-rest.was (c.gather_operands-answer.ensures.reads c.args.place t none))
 
-pub listed-returns-in_err-push-clause-reads : goal.listed-returns-in_err-push-clause-reads
-listed-returns-in_err-push-clause-reads m c =
+pub chain-returns-clause-reads : goal.chain-returns-clause-reads
+chain-returns-clause-reads m c t h =
+    let none = c.new-operands.ensures t (read_height c.args.kept.now t h) in
+    let g = collects_ok _ _ _ _ _ _ _ c.in_ok-rest.was (c.gather_operands-answer.ensures.reads c.args.place t none) in
+    record {
+      tree = whole c.args.place (record { first = t; links = g.parts });
+      kept = c.in_ok-chain.ensures.made t g.parts g.gathered h;
+      leads = g.leads;
+    }
+
+pub chain-returns-in_err-chain-clause-reads : goal.chain-returns-in_err-chain-clause-reads
+chain-returns-in_err-chain-clause-reads m c t h =
+    let q = c.from_residual-in_err-chain in
+    let p = err_from_is_err_and q.result q.ensures.1 in
+    follows_free _ _ (λ k. have t (operand c.args.joint (tightest c.args.below) c.args.place bare ∷ k)) c.args.tokens.now _ p.0 _ p.1 p.2 c.in_err-chain.ensures.free
+
+pub gather_operands-loop-op-init : goal.gather_operands-loop-op-init
+gather_operands-loop-op-init m c =
+    let j = c.args.joint in
+    let below = tightest c.args.below in
+    record {
+      reads = λ p t o. ([], o, λ k. operand_goes k below j p bare t c.args.tokens.now);
+      shorter = omega arith;
+    }
+
+pub gather_operands-loop-op-preserved : goal.gather_operands-loop-op-preserved
+gather_operands-loop-op-preserved m c =
+    let j = c.args.joint in
+    let below = tightest c.args.below in
+    let l = c.loop-op in
+    let op = c.in-Some.op in
+    let o = c.in_ok-last.ensures.reads in
+    record {
+      reads = λ p t none.
+          let i = l.invariant.reads p t none in (
+            i.0 ++ (op, o.tree) ∷ [],
+            c.in_ok-push.ensures.made t i.0 o.tree i.1 (ap read_of c.taken.ensures ∙ o.kept),
+            λ k. i.2 k ∙ ap (chain_goes j below p (record { first = t; links = i.0 }) k l.rest.now) (sym c.in-Some.ensures.found) ∙ o.leads _
+                ∙ operand_goes k below j p (joined (record { first = t; links = i.0 }) op) o.tree c.in_ok-last.last.now,
+          );
+      shorter = omega (arith, l.invariant.shorter, c.in-Some.ensures.shorter, c.in_ok-last.ensures.shorter);
+    }
+
+pub gather_operands-returns-in_err-push-clause-reads : goal.gather_operands-returns-in_err-push-clause-reads
+gather_operands-returns-in_err-push-clause-reads m c p t none =
     let q = c.from_residual-in_err-push in
-    let p = err_from_is_err_and q.result q.ensures.1 in
-    follows_free _ _ (λ k. ask all_levels (listing c.args.place c.args.what [] ∷ k)) c.args.tokens.now _ p.0 _ p.1 p.2 c.in_err-push.ensures.free
+    let e = err_from_is_err_and q.result q.ensures.1 in
+    collects_free _ _ _ _ _ _ e.0 _ e.1 e.2 c.in_err-push.ensures.free
 
-pub listed-loop-member-preserved : goal.listed-loop-member-preserved
-listed-loop-member-preserved m c =
-    let l = c.loop-member in
-    let place = c.args.place in
-    let what = c.args.what in
-    let i = l.invariant.reads in
-    let ts = i.0 in
-    let f = c.in_ok-more.ensures.reads in
-    let more = c.in_ok-more.more.now in
+pub gather_operands-returns-in_err-last-clause-reads : goal.gather_operands-returns-in_err-last-clause-reads
+gather_operands-returns-in_err-last-clause-reads m c p t none =
+    let q = c.from_residual in
+    let e = err_from_is_err_and q.result q.ensures.1 in
+    let j = c.args.joint in
+    let below = tightest c.args.below in
+    let l = c.loop-op in
+    let i = l.invariant.reads p t none in
+    collects_dead _ _ _ (λ k. have t (operand j below p bare ∷ k)) (ask below) c.args.tokens.now c.in-Some.more.now _ e.0 _ e.1 e.2
+    (λ k. (operand j below p (joined (record { first = t; links = i.0 }) c.in-Some.op) ∷ k, i.2 k ∙ ap (chain_goes j below p (record { first = t; links = i.0 }) k l.rest.now) (sym c.in-Some.ensures.found)))
+    c.in_err-last.ensures.reads
+
+pub gather_operands-returns-clause-reads : goal.gather_operands-returns-clause-reads
+gather_operands-returns-clause-reads m c p t none =
+    let j = c.args.joint in
+    let below = tightest c.args.below in
+    let l = c.loop-op in
+    let i = l.invariant.reads p t none in
     record {
-      reads = (
-        ts ++ f.tree ∷ [],
-        c.in_ok-push.ensures.made ts f.tree i.1 f.kept,
-        λ k. i.2 k ∙ f.leads _ ∙ listing_goes k f.tree more c.in-Some.next.now place what ts (sym c.in-Some.ensures.found),
-      );
-      shorter = omega (arith, l.invariant.shorter, c.in_ok-more.ensures.shorter, c.in-Some.ensures.shorter);
+      parts = i.0;
+      gathered = i.1;
+      leads = λ k. i.2 k ∙ ap (chain_goes j below p (record { first = t; links = i.0 }) k l.rest.now) (sym c.in_default.ensures.found);
     }
 
-pub listed-returns-in_err-last-in-None-clause-reads : goal.listed-returns-in_err-last-in-None-clause-reads
-listed-returns-in_err-last-in-None-clause-reads m c =
-    let q = c.from_residual-in_err-last-in-None in
-    let p = err_from_is_err_and q.result q.ensures.1 in
-    let l = c.loop-member in
-    let place = c.args.place in
-    let what = c.args.what in
-    let i = l.invariant.reads in
-    let ts = i.0 in
-    let f = c.in_ok-more.ensures.reads in
-    let more = c.in_ok-more.more.now in
-    follows_missed _ _ (λ k. ask all_levels (listing place what [] ∷ k)) c.args.tokens.now more (closing_of what) _ p.0 _ p.1 p.2
-    (λ k none. i.2 k ∙ f.leads _ ∙ listing_dies k f.tree more place what ts (sym c.in-None.ensures.found) none) (subst (λ s. Misses s more c.in_err-last-in-None.field-0.0) c.closing_of.ensures c.in_err-last-in-None.ensures.passes)
-
-pub listed-returns-in-None-clause-reads : goal.listed-returns-in-None-clause-reads
-listed-returns-in-None-clause-reads m c =
-    let l = c.loop-member in
-    let place = c.args.place in
-    let what = c.args.what in
-    let i = l.invariant.reads in
-    let ts = i.0 in
-    let f = c.in_ok-more.ensures.reads in
-    let more = c.in_ok-more.more.now in
-    let last = c.in_ok-last-in-None.last.now in
-    record {
-      tree = listed place what (ts ++ f.tree ∷ []);
-      kept = c.put.ensures (ts ++ f.tree ∷ []) (c.in_ok-push.ensures.made ts f.tree i.1 f.kept);
-      leads = λ k. i.2 k ∙ f.leads _ ∙ listing_ends k f.tree more last place what ts (sym c.in-None.ensures.found) (ap (λ s. after s more) (sym c.closing_of.ensures) ∙ c.in_ok-last-in-None.ensures.passes);
-    }
-
-pub cases-returns-in_err-more-clause-reads : goal.cases-returns-in_err-more-clause-reads
-cases-returns-in_err-more-clause-reads m c =
+pub choice-returns-in_err-rest-clause-reads : goal.choice-returns-in_err-rest-clause-reads
+choice-returns-in_err-rest-clause-reads m c t h =
     let q = c.from_residual in
     let p = err_from_is_err_and q.result q.ensures.1 in
-    let l = c.loop-when in
-    let place = c.args.place in
-    let i = l.invariant.reads in
-    let bs = i.0 in
-    follows_err _ _ (λ k. ask all_levels (condition place [] ∷ k)) (ask all_levels) c.args.tokens.now l.rest.now _ p.0 _ p.1 p.2 (λ k. (condition place bs ∷ k, i.2 k)) c.in_err-more.ensures.reads
+    let from = λ (k : List Frame). have t (when (tightest c.args.below) c.args.place [] ∷ k) in
+    follows_err _ _ from from c.args.tokens.now c.args.tokens.now _ p.0 _ p.1 p.2 (λ k. (k, refl)) (collects_err _ _ _ _ _ _ _ c.in_err-rest.was (c.gather_choices-answer.ensures.reads c.args.place t c.new-branches.ensures h))
 
-pub cases-returns-in_err-behind-clause-reads : goal.cases-returns-in_err-behind-clause-reads
-cases-returns-in_err-behind-clause-reads m c =
+pub choice-returns-in_err-choice-clause-reads : goal.choice-returns-in_err-choice-clause-reads
+choice-returns-in_err-choice-clause-reads m c t h =
+    let q = c.from_residual-in_err-choice in
+    let p = err_from_is_err_and q.result q.ensures.1 in
+    follows_free _ _ (λ k. have t (when (tightest c.args.below) c.args.place [] ∷ k)) c.args.tokens.now _ p.0 _ p.1 p.2 c.in_err-choice.ensures.free
+
+pub choice-returns-clause-reads : goal.choice-returns-clause-reads
+choice-returns-clause-reads m c t h =
+    let g = collects_ok _ _ _ _ _ _ _ c.in_ok-rest.was (c.gather_choices-answer.ensures.reads c.args.place t c.new-branches.ensures h) in
+    record {
+      tree = choice_at c.args.place (branches_of g.parts.0) g.parts.1;
+      kept = c.in_ok-choice.ensures.made g.parts.0 g.parts.1 g.gathered.0 g.gathered.1;
+      leads = g.leads;
+    }
+
+pub gather_choices-loop-more-init : goal.gather_choices-loop-more-init
+gather_choices-loop-more-init m c = record {
+  reads = λ p t none h. ([], none, record { tree = t; kept = h; leads = λ k. refl });
+  shorter = omega arith;
+}
+
+pub gather_choices-returns-in_err-next-clause-reads : goal.gather_choices-returns-in_err-next-clause-reads
+gather_choices-returns-in_err-next-clause-reads m c place t none h =
+    let q = c.from_residual in
+    let p = err_from_is_err_and q.result q.ensures.1 in
+    let l = c.loop-more in
+    let b = tightest c.args.below in
+    let i = l.invariant.reads place t none h in
+    let bs = i.0 in
+    let f = i.2 in
+    collects_dead _ _ _ (λ k. have t (when b place [] ∷ k)) (ask b) c.args.tokens.now c.in-Some.more.now _ p.0 _ p.1 p.2
+    (λ k. (value b place bs f.tree ∷ k, f.leads k ∙ when_goes k f.tree l.rest.now c.in-Some.more.now b place bs (sym c.in-Some.ensures.found))) c.in_err-next.ensures.reads
+
+pub gather_choices-returns-in_err-behind-clause-reads : goal.gather_choices-returns-in_err-behind-clause-reads
+gather_choices-returns-in_err-behind-clause-reads m c place t none h =
     let q = c.from_residual-in_err-behind in
     let p = err_from_is_err_and q.result q.ensures.1 in
-    let l = c.loop-when in
-    let place = c.args.place in
-    let i = l.invariant.reads in
+    let l = c.loop-more in
+    let b = tightest c.args.below in
+    let i = l.invariant.reads place t none h in
     let bs = i.0 in
-    let w = c.in_ok-more.ensures.reads in
-    let more = c.in_ok-more.more.now in
-    follows_missed _ _ (λ k. ask all_levels (condition place [] ∷ k)) c.args.tokens.now more sign.Colon _ p.0 _ p.1 p.2 (λ k none. i.2 k ∙ w.leads _ ∙ condition_dies k w.tree more place bs none) c.in_err-behind.ensures.passes
+    let f = i.2 in
+    let v = c.in_ok-next.ensures.reads in
+    let next = c.in_ok-next.next.now in
+    collects_missed _ _ _ (λ k. have t (when b place [] ∷ k)) c.args.tokens.now next sign.Colon _ p.0 _ p.1 p.2
+    (λ k none. f.leads k ∙ when_goes k f.tree l.rest.now c.in-Some.more.now b place bs (sym c.in-Some.ensures.found) ∙ v.leads _ ∙ value_dies k v.tree next b place bs f.tree none) c.in_err-behind.ensures.passes
 
-pub cases-returns-in_err-end-clause-reads : goal.cases-returns-in_err-end-clause-reads
-cases-returns-in_err-end-clause-reads m c =
-    let q = c.from_residual-in_err-end in
-    let p = err_from_is_err_and q.result q.ensures.1 in
-    let l = c.loop-when in
-    let place = c.args.place in
-    let i = l.invariant.reads in
-    let bs = i.0 in
-    let w = c.in_ok-more.ensures.reads in
-    let more = c.in_ok-more.more.now in
-    follows_err _ _ (λ k. ask all_levels (condition place [] ∷ k)) (ask all_levels) c.args.tokens.now c.in_ok-behind.behind.now _ p.0 _ p.1 p.2 (λ k. (result place bs w.tree ∷ k, i.2 k ∙ w.leads _ ∙ condition_goes k w.tree more c.in_ok-behind.behind.now place bs c.in_ok-behind.ensures.passes)) c.in_err-end.ensures.reads
-
-pub cases-returns-in_err-last-clause-reads : goal.cases-returns-in_err-last-clause-reads
-cases-returns-in_err-last-clause-reads m c =
-    let q = c.from_residual-in_err-last in
-    let p = err_from_is_err_and q.result q.ensures.1 in
-    let l = c.loop-when in
-    let place = c.args.place in
-    let i = l.invariant.reads in
-    let bs = i.0 in
-    let w = c.in_ok-more.ensures.reads in
-    let more = c.in_ok-more.more.now in
-    let v = c.in_ok-end.ensures.reads in
-    let end = c.in_ok-end.end.now in
-    follows_missed _ _ (λ k. ask all_levels (condition place [] ∷ k)) c.args.tokens.now end sign.Semicolon _ p.0 _ p.1 p.2 (λ k none. i.2 k ∙ w.leads _ ∙ condition_goes k w.tree more c.in_ok-behind.behind.now place bs c.in_ok-behind.ensures.passes ∙ v.leads _ ∙ result_dies k v.tree end place bs w.tree none) c.in_err-last.ensures.passes
-
-pub cases-returns-in_err-push-clause-reads : goal.cases-returns-in_err-push-clause-reads
-cases-returns-in_err-push-clause-reads m c =
+pub gather_choices-returns-in_err-push-clause-reads : goal.gather_choices-returns-in_err-push-clause-reads
+gather_choices-returns-in_err-push-clause-reads m c place t none h =
     let q = c.from_residual-in_err-push in
     let p = err_from_is_err_and q.result q.ensures.1 in
-    follows_free _ _ (λ k. ask all_levels (condition c.args.place [] ∷ k)) c.args.tokens.now _ p.0 _ p.1 p.2 c.in_err-push.ensures.free
+    collects_free _ _ _ _ _ _ p.0 _ p.1 p.2 c.in_err-push.ensures.free
 
-pub cases-returns-in-Some-clause-reads : goal.cases-returns-in-Some-clause-reads
-cases-returns-in-Some-clause-reads m c =
-    let l = c.loop-when in
-    let place = c.args.place in
-    let i = l.invariant.reads in
+pub gather_choices-returns-in_err-end-clause-reads : goal.gather_choices-returns-in_err-end-clause-reads
+gather_choices-returns-in_err-end-clause-reads m c place t none h =
+    let q = c.from_residual-in_err-end in
+    let p = err_from_is_err_and q.result q.ensures.1 in
+    let l = c.loop-more in
+    let b = tightest c.args.below in
+    let i = l.invariant.reads place t none h in
     let bs = i.0 in
-    let w = c.in_ok-more.ensures.reads in
-    let more = c.in_ok-more.more.now in
-    let v = c.in_ok-end.ensures.reads in
-    let end = c.in_ok-end.end.now in
-    let last = c.in_ok-last.last.now in
-    let bs' = bs ++ (w.tree, v.tree) ∷ [] in
+    let f = i.2 in
+    let v = c.in_ok-next.ensures.reads in
+    let next = c.in_ok-next.next.now in
+    let behind = c.in_ok-behind.behind.now in
+    collects_dead _ _ _ (λ k. have t (when b place [] ∷ k)) (ask b) c.args.tokens.now behind _ p.0 _ p.1 p.2
+    (λ k. (when b place (bs ++ (f.tree, v.tree) ∷ []) ∷ k, f.leads k ∙ when_goes k f.tree l.rest.now c.in-Some.more.now b place bs (sym c.in-Some.ensures.found) ∙ v.leads _ ∙ value_goes k v.tree next behind b place bs f.tree c.in_ok-behind.ensures.passes)) c.in_err-end.ensures.reads
+
+pub gather_choices-loop-more-preserved : goal.gather_choices-loop-more-preserved
+gather_choices-loop-more-preserved m c =
+    let l = c.loop-more in
+    let b = tightest c.args.below in
+    let v = c.in_ok-next.ensures.reads in
+    let next = c.in_ok-next.next.now in
+    let o = c.in_ok-end.ensures.reads in
     record {
-      tree = cases place (branches_of bs');
-      kept = c.case.ensures bs' (c.in_ok-push.ensures.made bs w.tree v.tree i.1 w.kept v.kept);
-      leads = λ k. i.2 k ∙ w.leads _ ∙ condition_goes k w.tree more c.in_ok-behind.behind.now place bs c.in_ok-behind.ensures.passes ∙ v.leads _ ∙ result_goes k v.tree end last place bs w.tree c.in_ok-last.ensures.passes ∙ case_ends k last c.in-Some.done.now place bs' (sym c.in-Some.ensures.found);
+      reads = λ place t none h.
+          let i = l.invariant.reads place t none h in
+          let bs = i.0 in
+          let f = i.2 in (
+            bs ++ (f.tree, v.tree) ∷ [],
+            c.in_ok-push.ensures.made bs f.tree v.tree i.1 (ap read_of c.taken.ensures ∙ f.kept) (ap read_of c.taken-in-Some.ensures ∙ v.kept),
+            record {
+              tree = o.tree;
+              kept = o.kept;
+              leads = λ k. f.leads k ∙ when_goes k f.tree l.rest.now c.in-Some.more.now b place bs (sym c.in-Some.ensures.found) ∙ v.leads _ ∙ value_goes k v.tree next c.in_ok-behind.behind.now b place bs f.tree c.in_ok-behind.ensures.passes ∙ o.leads _;
+            },
+          );
+      shorter = omega (arith, l.invariant.shorter, c.in-Some.ensures.shorter, c.in_ok-next.ensures.shorter, c.in_ok-behind.ensures.shorter, c.in_ok-end.ensures.shorter);
     }
 
-pub cases-returns-in-Some-clause-shorter : goal.cases-returns-in-Some-clause-shorter
-cases-returns-in-Some-clause-shorter m c =
-    omega (arith, c.loop-when.invariant.shorter, c.in_ok-more.ensures.shorter, c.in_ok-behind.ensures.shorter, c.in_ok-end.ensures.shorter, c.in_ok-last.ensures.shorter, c.in-Some.ensures.shorter)
+pub gather_choices-loop-more-smaller : goal.gather_choices-loop-more-smaller
+gather_choices-loop-more-smaller m c =
+    omega (arith, c.in-Some.ensures.shorter, c.in_ok-next.ensures.shorter, c.in_ok-behind.ensures.shorter, c.in_ok-end.ensures.shorter)
 
-pub cases-loop-when-smaller : goal.cases-loop-when-smaller
-cases-loop-when-smaller m c =
-    omega (arith, c.in_ok-more.ensures.shorter, c.in_ok-behind.ensures.shorter, c.in_ok-end.ensures.shorter, c.in_ok-last.ensures.shorter)
-
-pub cases-loop-when-preserved : goal.cases-loop-when-preserved
-cases-loop-when-preserved m c =
-    let l = c.loop-when in
-    let place = c.args.place in
-    let i = l.invariant.reads in
+pub gather_choices-returns-clause-reads : goal.gather_choices-returns-clause-reads
+gather_choices-returns-clause-reads m c place t none h =
+    let l = c.loop-more in
+    let b = tightest c.args.below in
+    let i = l.invariant.reads place t none h in
     let bs = i.0 in
-    let w = c.in_ok-more.ensures.reads in
-    let more = c.in_ok-more.more.now in
-    let v = c.in_ok-end.ensures.reads in
-    let end = c.in_ok-end.end.now in
-    let last = c.in_ok-last.last.now in
-    let bs' = bs ++ (w.tree, v.tree) ∷ [] in
+    let f = i.2 in
     record {
-      reads = (
-        bs',
-        c.in_ok-push.ensures.made bs w.tree v.tree i.1 w.kept v.kept,
-        λ k. i.2 k ∙ w.leads _ ∙ condition_goes k w.tree more c.in_ok-behind.behind.now place bs c.in_ok-behind.ensures.passes ∙ v.leads _ ∙ result_goes k v.tree end last place bs w.tree c.in_ok-last.ensures.passes ∙ case_more k last place bs' (sym c.in-None.ensures.found),
-      );
-      shorter = omega (arith, l.invariant.shorter, c.in_ok-more.ensures.shorter, c.in_ok-behind.ensures.shorter, c.in_ok-end.ensures.shorter, c.in_ok-last.ensures.shorter);
+      parts = (bs, f.tree);
+      gathered = (i.1, f.kept);
+      leads = λ k. f.leads k ∙ when_leaves k f.tree l.rest.now b place bs (sym c.in_default.ensures.found);
     }
+
+pub begin-range-requires-clause-starts : goal.begin-range-requires-clause-starts
+begin-range-requires-clause-starts m c = c.requires.begins.range c.if-level-eq8.true
+
+pub begin-returns-then-level-eq8-clause-reads : goal.begin-returns-then-level-eq8-clause-reads
+begin-returns-then-level-eq8-clause-reads m c =
+    subst (λ l. Follows (λ r. (read_of c.range.new.kept, r.now)) (ask (tightest l)) c.args.tokens.now c.range.result) (sym c.if-level-eq8.true) c.range.ensures.reads
+
+pub begin-returns-then-level-eq4-clause-reads : goal.begin-returns-then-level-eq4-clause-reads
+begin-returns-then-level-eq4-clause-reads m c =
+    let x = c.in-Some.token.now in
+    let xs = c.in-Some.rest.now in
+    let ys = c.args.tokens.now in
+    let is : ys ≡ x ∷ xs = c.in-Some.ensures.cases.0 in
+    let e = c.if-level-eq4.true in
+    follows_along _ _ (ask (tightest c.args.level)) (signed prefixes.Minus (tightest 3) x.place 1) ys xs c.prefixed.result
+    (λ k. ap (λ l. walk ys (ask (tightest l) k)) e ∙ prefix_first prefixes.Minus (tightest 3) ys x xs is (c.requires.begins.minus e) k) c.prefixed.ensures.reads
+
+pub begin-returns-then-level-eq2-clause-reads : goal.begin-returns-then-level-eq2-clause-reads
+begin-returns-then-level-eq2-clause-reads m c =
+    let x = c.in-Some.token.now in
+    let xs = c.in-Some.rest.now in
+    let ys = c.args.tokens.now in
+    let is : ys ≡ x ∷ xs = c.in-Some.ensures.cases.0 in
+    let e = c.if-level-eq2.true in
+    follows_along _ _ (ask (tightest c.args.level)) (signed prefixes.Not (tightest 1) x.place 1) ys xs c.prefixed-then-level-eq2.result
+    (λ k. ap (λ l. walk ys (ask (tightest l) k)) e ∙ prefix_first prefixes.Not (tightest 1) ys x xs is (c.requires.begins.negation e) k) c.prefixed-then-level-eq2.ensures.reads
+
+pub begin-returns-else-level-eq2-clause-reads : goal.begin-returns-else-level-eq2-clause-reads
+begin-returns-else-level-eq2-clause-reads m c =
+    let none = c.requires.begins.below c.if-level-eq8.false c.if-level-eq4.false c.if-level-eq2.false in
+    subst (λ l. Follows (λ r. (read_of c.primary.new.kept, r.now)) (ask (tightest l)) c.args.tokens.now c.primary.result) (sym none) c.primary.ensures.reads
 
 pub primary-returns-in-None-clause-reads : goal.primary-returns-in-None-clause-reads
 primary-returns-in-None-clause-reads m c k =
     let none : c.args.tokens.now ≡ [] = none_so_far _ c.in-None.ensures.cases in
     ap (λ zs. walk zs (ask [] k)) none ∙ nothing_comes [] k
 
-pub primary-returns-in-Number-clause-reads : goal.primary-returns-in-Number-clause-reads
-primary-returns-in-Number-clause-reads m c =
-    let x = c.in-Some.token.now in
-    let xs = c.in-Some.rest.now in
-    let ys = c.args.tokens.now in
-    let is : ys ≡ x ∷ xs = c.in-Some.ensures.cases.0 in
-    let by : leader.Number c.in-Number.n ≡ leader_of x.kind = sym c.in-Number.is ∙ c.leader_of.ensures in
-    record {
-      tree = number x.place c.in-Number.n;
-      kept = leaf_number _ x.place c.in-Number.n c.put_leaf.ensures;
-      leads = λ k. ap (λ zs. walk zs (ask [] k)) is ∙ leads_by k x xs (leader.Number c.in-Number.n) by;
-    }
-
-pub primary-returns-in-Literal-clause-reads : goal.primary-returns-in-Literal-clause-reads
-primary-returns-in-Literal-clause-reads m c =
-    let x = c.in-Some.token.now in
-    let xs = c.in-Some.rest.now in
-    let ys = c.args.tokens.now in
-    let is : ys ≡ x ∷ xs = c.in-Some.ensures.cases.0 in
-    let by : leader.Literal c.in-Literal.word ≡ leader_of x.kind = sym c.in-Literal.is ∙ c.leader_of.ensures in
-    record {
-      tree = literal x.place c.in-Literal.word;
-      kept = leaf_literal _ x.place c.in-Literal.word c.put_leaf-in-Literal.ensures;
-      leads = λ k. ap (λ zs. walk zs (ask [] k)) is ∙ leads_by k x xs (leader.Literal c.in-Literal.word) by;
-    }
-
-pub primary-returns-in-Truth-true-clause-reads : goal.primary-returns-in-Truth-true-clause-reads
-primary-returns-in-Truth-true-clause-reads m c =
-    let x = c.in-Some.token.now in
-    let xs = c.in-Some.rest.now in
-    let ys = c.args.tokens.now in
-    let is : ys ≡ x ∷ xs = c.in-Some.ensures.cases.0 in
-    let by : leader.Truth true ≡ leader_of x.kind = ap leader.Truth (sym c.in-Truth-true.field-0-test) ∙ sym c.in-Truth-true.is ∙ c.leader_of.ensures in
-    record {
-      tree = truth x.place true;
-      kept = leaf_true _ x.place c.put_leaf-in-Truth-true.ensures;
-      leads = λ k. ap (λ zs. walk zs (ask [] k)) is ∙ leads_by k x xs (leader.Truth true) by;
-    }
-
-pub primary-returns-in-Truth-false-clause-reads : goal.primary-returns-in-Truth-false-clause-reads
-primary-returns-in-Truth-false-clause-reads m c =
-    let x = c.in-Some.token.now in
-    let xs = c.in-Some.rest.now in
-    let ys = c.args.tokens.now in
-    let is : ys ≡ x ∷ xs = c.in-Some.ensures.cases.0 in
-    let by : leader.Truth false ≡ leader_of x.kind = ap leader.Truth (sym c.in-Truth-false.field-0-test) ∙ sym c.in-Truth-false.is ∙ c.leader_of.ensures in
-    record {
-      tree = truth x.place false;
-      kept = leaf_false _ x.place c.put_leaf-in-Truth-false.ensures;
-      leads = λ k. ap (λ zs. walk zs (ask [] k)) is ∙ leads_by k x xs (leader.Truth false) by;
-    }
-
-pub primary-returns-in_err-path-in-Path-clause-reads : goal.primary-returns-in_err-path-in-Path-clause-reads
-primary-returns-in_err-path-in-Path-clause-reads m c =
-    let q = c.from_residual in
-    let p = err_from_is_err_and q.result q.ensures.1 in
-    let x = c.in-Some.token.now in
-    let xs = c.in-Some.rest.now in
-    let ys = c.args.tokens.now in
-    let is : ys ≡ x ∷ xs = c.in-Some.ensures.cases.0 in
-    let by : leader.Path ≡ leader_of x.kind = sym c.in-Path.is ∙ c.leader_of.ensures in
-    follows_err _ _ (ask []) (ask []) ys (x ∷ xs) _ p.0 _ p.1 p.2 (λ k. (k, ap (λ zs. walk zs (ask [] k)) is)) (path_dies x xs by _ (subst (λ zs. IsLost (first_path zs) c.in_err-path-in-Path.field-0.0) is c.in_err-path-in-Path.ensures.found))
-
-pub primary-returns-in_ok-path-in-Path-clause-reads : goal.primary-returns-in_ok-path-in-Path-clause-reads
-primary-returns-in_ok-path-in-Path-clause-reads m c =
-    let x = c.in-Some.token.now in
-    let xs = c.in-Some.rest.now in
-    let ys = c.args.tokens.now in
-    let is : ys ≡ x ∷ xs = c.in-Some.ensures.cases.0 in
-    let by : leader.Path ≡ leader_of x.kind = sym c.in-Path.is ∙ c.leader_of.ensures in
-    let q = c.in_ok-path-in-Path.path in
-    let last = c.in_ok-path-in-Path.last.now in
-    let f : first_path (x ∷ xs) ≡ found q last = subst (λ zs. first_path zs ≡ found q last) is c.in_ok-path-in-Path.ensures.found in
-    record {
-      tree = name x.place q;
-      kept = leaf_name _ x.place q c.put_leaf-in-Path.ensures;
-      leads = λ k. ap (λ zs. walk zs (ask [] k)) is ∙ path_begins k x xs by ∙ ap (λ g. named_on g k) f ∙ ap (λ p. walk last (have (name p q) k)) (path_place x xs last q f);
-    }
-
 pub primary-returns-in_err-closing-in-Bracket-clause-reads : goal.primary-returns-in_err-closing-in-Bracket-clause-reads
 primary-returns-in_err-closing-in-Bracket-clause-reads m c =
-    let q = c.from_residual-in_err-closing-in-Bracket in
+    let q = c.from_residual in
     let p = err_from_is_err_and q.result q.ensures.1 in
     let x = c.in-Some.token.now in
     let xs = c.in-Some.rest.now in
@@ -723,34 +472,6 @@ primary-returns-in_err-closing-in-Bracket-clause-reads m c =
     let is : ys ≡ x ∷ xs = c.in-Some.ensures.cases.0 in
     let by : leader.Bracket ≡ leader_of x.kind = sym c.in-Bracket.is ∙ c.leader_of.ensures in
     follows_err _ _ (ask []) (ask all_levels) ys xs _ p.0 _ p.1 p.2 (λ k. (bracket ∷ k, ap (λ zs. walk zs (ask [] k)) is ∙ leads_by k x xs (leader.Bracket) by)) c.in_err-closing-in-Bracket.ensures.reads
-
-pub primary-returns-in_err-last-in-Bracket-clause-reads : goal.primary-returns-in_err-last-in-Bracket-clause-reads
-primary-returns-in_err-last-in-Bracket-clause-reads m c =
-    let q = c.from_residual-in_err-last-in-Bracket in
-    let p = err_from_is_err_and q.result q.ensures.1 in
-    let x = c.in-Some.token.now in
-    let xs = c.in-Some.rest.now in
-    let ys = c.args.tokens.now in
-    let is : ys ≡ x ∷ xs = c.in-Some.ensures.cases.0 in
-    let by : leader.Bracket ≡ leader_of x.kind = sym c.in-Bracket.is ∙ c.leader_of.ensures in
-    let f = c.in_ok-closing-in-Bracket.ensures.reads in
-    let closing = c.in_ok-closing-in-Bracket.closing.now in
-    follows_missed _ _ (ask []) ys closing sign.Close _ p.0 _ p.1 p.2 (λ k none. ap (λ zs. walk zs (ask [] k)) is ∙ leads_by k x xs (leader.Bracket) by ∙ f.leads _ ∙ bracket_dies k f.tree closing none) c.in_err-last-in-Bracket.ensures.passes
-
-pub primary-returns-in_ok-last-in-Bracket-clause-reads : goal.primary-returns-in_ok-last-in-Bracket-clause-reads
-primary-returns-in_ok-last-in-Bracket-clause-reads m c =
-    let x = c.in-Some.token.now in
-    let xs = c.in-Some.rest.now in
-    let ys = c.args.tokens.now in
-    let is : ys ≡ x ∷ xs = c.in-Some.ensures.cases.0 in
-    let by : leader.Bracket ≡ leader_of x.kind = sym c.in-Bracket.is ∙ c.leader_of.ensures in
-    let f = c.in_ok-closing-in-Bracket.ensures.reads in
-    let closing = c.in_ok-closing-in-Bracket.closing.now in
-    record {
-      tree = f.tree;
-      kept = f.kept;
-      leads = λ k. ap (λ zs. walk zs (ask [] k)) is ∙ leads_by k x xs (leader.Bracket) by ∙ f.leads _ ∙ bracket_goes k f.tree closing c.in_ok-last-in-Bracket.last.now c.in_ok-last-in-Bracket.ensures.passes;
-    }
 
 pub primary-returns-in-Set-clause-reads : goal.primary-returns-in-Set-clause-reads
 primary-returns-in-Set-clause-reads m c =
@@ -802,11 +523,193 @@ primary-returns-in_ok-more-in-Call-clause-reads m c =
     let more = c.in_ok-more-in-Call.more.now in
     follows_along _ _ (ask []) (λ k. ask all_levels (listing x.place (Arguments g) [] ∷ k)) ys more c.listed-in-Call.result (λ k. ap (λ zs. walk zs (ask [] k)) is ∙ leads_by k x xs (leader.Call g) by ∙ open_call_goes k xs more x.place g c.in_ok-more-in-Call.ensures.passes) c.listed-in-Call.ensures.reads
 
-pub primary-returns-in-Nothing-clause-reads : goal.primary-returns-in-Nothing-clause-reads
-primary-returns-in-Nothing-clause-reads m c k =
+pub primary-returns-in_ok-closing-in-Bracket-clause-reads : goal.primary-returns-in_ok-closing-in-Bracket-clause-reads
+primary-returns-in_ok-closing-in-Bracket-clause-reads m c =
     let x = c.in-Some.token.now in
     let xs = c.in-Some.rest.now in
     let ys = c.args.tokens.now in
     let is : ys ≡ x ∷ xs = c.in-Some.ensures.cases.0 in
-    let by : leader.Nothing ≡ leader_of x.kind = sym c.in-Nothing.is ∙ c.leader_of.ensures in
-    ap (λ zs. walk zs (ask [] k)) is ∙ leads_by k x xs (leader.Nothing) by ∙ ap (λ zs. failed (length zs)) (sym is)
+    let by : leader.Bracket ≡ leader_of x.kind = sym c.in-Bracket.is ∙ c.leader_of.ensures in
+    let f = c.in_ok-closing-in-Bracket.ensures.reads in
+    let closing = c.in_ok-closing-in-Bracket.closing.now in
+    follows_passed _ (ask []) ys closing sign.Close _ f.tree (λ _. f.kept)
+    (λ k rest is_close. ap (λ zs. walk zs (ask [] k)) is ∙ leads_by k x xs (leader.Bracket) by ∙ f.leads _ ∙ bracket_goes k f.tree closing rest is_close)
+    (λ k none. ap (λ zs. walk zs (ask [] k)) is ∙ leads_by k x xs (leader.Bracket) by ∙ f.leads _ ∙ bracket_dies k f.tree closing none) c.expect.ensures.passes
+
+pub listed-returns-in_err-rest-clause-reads : goal.listed-returns-in_err-rest-clause-reads
+listed-returns-in_err-rest-clause-reads m c =
+    let q = c.from_residual in
+    let p = err_from_is_err_and q.result q.ensures.1 in
+    let from = λ (k : List Frame). ask all_levels (listing c.args.place c.args.what [] ∷ k) in
+    follows_err _ _ from from c.args.tokens.now c.args.tokens.now _ p.0 _ p.1 p.2 (λ k. (k, refl)) (c.in_err-rest.ensures.reads c.args.place c.new-members.ensures)
+
+pub listed-returns-clause-reads : goal.listed-returns-clause-reads
+listed-returns-clause-reads m c =
+    let g = c.in_ok-rest.ensures.reads c.args.place c.new-members.ensures in
+    record {
+      tree = listed c.args.place c.args.what g.parts;
+      kept = c.put.ensures g.parts g.gathered;
+      leads = g.leads;
+    }
+
+pub gather_members-loop-more-init : goal.gather_members-loop-more-init
+gather_members-loop-more-init m c = record {
+  reads = λ p none. ([], none, λ k. refl);
+  shorter = omega arith;
+}
+
+pub gather_members-returns-in_err-more-clause-reads : goal.gather_members-returns-in_err-more-clause-reads
+gather_members-returns-in_err-more-clause-reads m c place none =
+    let q = c.from_residual in
+    let p = err_from_is_err_and q.result q.ensures.1 in
+    let what = c.args.what in
+    let i = c.loop-more.invariant.reads place none in
+    collects_dead _ _ _ (λ k. ask all_levels (listing place what [] ∷ k)) (ask all_levels) c.args.tokens.now c.loop-more.rest.now _ p.0 _ p.1 p.2 (λ k. (listing place what i.0 ∷ k, i.2 k)) c.in_err-more.ensures.reads
+
+pub gather_members-returns-in_err-push-clause-reads : goal.gather_members-returns-in_err-push-clause-reads
+gather_members-returns-in_err-push-clause-reads m c place none =
+    let q = c.from_residual-in_err-push in
+    let p = err_from_is_err_and q.result q.ensures.1 in
+    collects_free _ _ _ _ _ _ p.0 _ p.1 p.2 c.in_err-push.ensures.free
+
+pub gather_members-loop-more-preserved : goal.gather_members-loop-more-preserved
+gather_members-loop-more-preserved m c =
+    let l = c.loop-more in
+    let what = c.args.what in
+    let f = c.in_ok-more.ensures.reads in
+    let more = c.in_ok-more.more.now in
+    record {
+      reads = λ place none.
+          let i = l.invariant.reads place none in
+          let ts = i.0 in (
+            ts ++ f.tree ∷ [],
+            c.in_ok-push.ensures.made ts f.tree i.1 (ap read_of c.taken.ensures ∙ f.kept),
+            λ k. i.2 k ∙ f.leads _ ∙ listing_goes k f.tree more c.in-Some.next.now place what ts (sym c.in-Some.ensures.found),
+          );
+      shorter = omega (arith, l.invariant.shorter, c.in_ok-more.ensures.shorter, c.in-Some.ensures.shorter);
+    }
+
+pub gather_members-returns-in-None-clause-reads : goal.gather_members-returns-in-None-clause-reads
+gather_members-returns-in-None-clause-reads m c place none =
+    let what = c.args.what in
+    let i = c.loop-more.invariant.reads place none in
+    let ts = i.0 in
+    let f = c.in_ok-more.ensures.reads in
+    let more = c.in_ok-more.more.now in
+    let passes = subst (λ s. Passes (λ r. r.now) c.expect.result s more) c.closing_of.ensures c.expect.ensures.passes in
+    collects_passed _ (listed place what) _ (λ k. ask all_levels (listing place what [] ∷ k)) c.args.tokens.now more (closing_of what) c.expect.result (ts ++ f.tree ∷ [])
+    (c.in_ok-push.ensures.made ts f.tree i.1 (ap read_of c.taken.ensures ∙ f.kept))
+    (λ k rest is. i.2 k ∙ f.leads _ ∙ listing_ends k f.tree more rest place what ts (sym c.in-None.ensures.found) is)
+    (λ k no. i.2 k ∙ f.leads _ ∙ listing_dies k f.tree more place what ts (sym c.in-None.ensures.found) no) passes
+
+pub cases-returns-in_err-rest-clause-reads : goal.cases-returns-in_err-rest-clause-reads
+cases-returns-in_err-rest-clause-reads m c =
+    let q = c.from_residual in
+    let p = err_from_is_err_and q.result q.ensures.1 in
+    let from = λ (k : List Frame). ask all_levels (condition c.args.place [] ∷ k) in
+    follows_err _ _ from from c.args.tokens.now c.args.tokens.now _ p.0 _ p.1 p.2 (λ k. (k, refl)) (collects_err _ _ _ _ _ _ _ c.in_err-rest.was (c.gather_cases-answer.ensures.reads c.args.place c.new-branches.ensures))
+
+pub cases-returns-clause-reads : goal.cases-returns-clause-reads
+cases-returns-clause-reads m c =
+    let g = collects_ok _ _ _ _ _ _ _ c.in_ok-rest.was (c.gather_cases-answer.ensures.reads c.args.place c.new-branches.ensures) in
+    record {
+      tree = cases c.args.place (branches_of g.parts);
+      kept = c.case.ensures g.parts g.gathered;
+      leads = g.leads;
+    }
+
+pub gather_cases-loop-more-init : goal.gather_cases-loop-more-init
+gather_cases-loop-more-init m c = record {
+  reads = λ p none. ([], none, λ k. refl);
+  shorter = omega arith;
+}
+
+pub gather_cases-returns-in_err-more-clause-reads : goal.gather_cases-returns-in_err-more-clause-reads
+gather_cases-returns-in_err-more-clause-reads m c place none =
+    let q = c.from_residual in
+    let p = err_from_is_err_and q.result q.ensures.1 in
+    let i = c.loop-more.invariant.reads place none in
+    collects_dead _ _ _ (λ k. ask all_levels (condition place [] ∷ k)) (ask all_levels) c.args.tokens.now c.loop-more.rest.now _ p.0 _ p.1 p.2 (λ k. (condition place i.0 ∷ k, i.2 k)) c.in_err-more.ensures.reads
+
+pub gather_cases-returns-in_err-behind-clause-reads : goal.gather_cases-returns-in_err-behind-clause-reads
+gather_cases-returns-in_err-behind-clause-reads m c place none =
+    let q = c.from_residual-in_err-behind in
+    let p = err_from_is_err_and q.result q.ensures.1 in
+    let i = c.loop-more.invariant.reads place none in
+    let w = c.in_ok-more.ensures.reads in
+    let more = c.in_ok-more.more.now in
+    collects_missed _ _ _ (λ k. ask all_levels (condition place [] ∷ k)) c.args.tokens.now more sign.Colon _ p.0 _ p.1 p.2 (λ k no. i.2 k ∙ w.leads _ ∙ condition_dies k w.tree more place i.0 no) c.in_err-behind.ensures.passes
+
+pub gather_cases-returns-in_err-end-clause-reads : goal.gather_cases-returns-in_err-end-clause-reads
+gather_cases-returns-in_err-end-clause-reads m c place none =
+    let q = c.from_residual-in_err-end in
+    let p = err_from_is_err_and q.result q.ensures.1 in
+    let i = c.loop-more.invariant.reads place none in
+    let w = c.in_ok-more.ensures.reads in
+    let more = c.in_ok-more.more.now in
+    let behind = c.in_ok-behind.behind.now in
+    collects_dead _ _ _ (λ k. ask all_levels (condition place [] ∷ k)) (ask all_levels) c.args.tokens.now behind _ p.0 _ p.1 p.2
+    (λ k. (result place i.0 w.tree ∷ k, i.2 k ∙ w.leads _ ∙ condition_goes k w.tree more behind place i.0 c.in_ok-behind.ensures.passes)) c.in_err-end.ensures.reads
+
+pub gather_cases-returns-in_err-last-clause-reads : goal.gather_cases-returns-in_err-last-clause-reads
+gather_cases-returns-in_err-last-clause-reads m c place none =
+    let q = c.from_residual-in_err-last in
+    let p = err_from_is_err_and q.result q.ensures.1 in
+    let i = c.loop-more.invariant.reads place none in
+    let w = c.in_ok-more.ensures.reads in
+    let more = c.in_ok-more.more.now in
+    let behind = c.in_ok-behind.behind.now in
+    let v = c.in_ok-end.ensures.reads in
+    let end = c.in_ok-end.end.now in
+    collects_missed _ _ _ (λ k. ask all_levels (condition place [] ∷ k)) c.args.tokens.now end sign.Semicolon _ p.0 _ p.1 p.2
+    (λ k no. i.2 k ∙ w.leads _ ∙ condition_goes k w.tree more behind place i.0 c.in_ok-behind.ensures.passes ∙ v.leads _ ∙ result_dies k v.tree end place i.0 w.tree no) c.in_err-last.ensures.passes
+
+pub gather_cases-returns-in_err-push-clause-reads : goal.gather_cases-returns-in_err-push-clause-reads
+gather_cases-returns-in_err-push-clause-reads m c place none =
+    let q = c.from_residual-in_err-push in
+    let p = err_from_is_err_and q.result q.ensures.1 in
+    collects_free _ _ _ _ _ _ p.0 _ p.1 p.2 c.in_err-push.ensures.free
+
+pub gather_cases-returns-in-Some-clause-reads : goal.gather_cases-returns-in-Some-clause-reads
+gather_cases-returns-in-Some-clause-reads m c place none =
+    let i = c.loop-more.invariant.reads place none in
+    let bs = i.0 in
+    let w = c.in_ok-more.ensures.reads in
+    let more = c.in_ok-more.more.now in
+    let v = c.in_ok-end.ensures.reads in
+    let end = c.in_ok-end.end.now in
+    let last = c.in_ok-last.last.now in
+    let bs' = bs ++ (w.tree, v.tree) ∷ [] in
+    record {
+      parts = bs';
+      gathered = c.in_ok-push.ensures.made bs w.tree v.tree i.1 (ap read_of c.taken.ensures ∙ w.kept) (ap read_of c.taken-in-loop-more.ensures ∙ v.kept);
+      leads = λ k. i.2 k ∙ w.leads _ ∙ condition_goes k w.tree more c.in_ok-behind.behind.now place bs c.in_ok-behind.ensures.passes ∙ v.leads _ ∙ result_goes k v.tree end last place bs w.tree c.in_ok-last.ensures.passes ∙ case_ends k last c.in-Some.done.now place bs' (sym c.in-Some.ensures.found);
+    }
+
+pub gather_cases-returns-in-Some-clause-shorter : goal.gather_cases-returns-in-Some-clause-shorter
+gather_cases-returns-in-Some-clause-shorter m c =
+    omega (arith, c.loop-more.invariant.shorter, c.in_ok-more.ensures.shorter, c.in_ok-behind.ensures.shorter, c.in_ok-end.ensures.shorter, c.in_ok-last.ensures.shorter, c.in-Some.ensures.shorter)
+
+pub gather_cases-loop-more-smaller : goal.gather_cases-loop-more-smaller
+gather_cases-loop-more-smaller m c =
+    omega (arith, c.in_ok-more.ensures.shorter, c.in_ok-behind.ensures.shorter, c.in_ok-end.ensures.shorter, c.in_ok-last.ensures.shorter)
+
+pub gather_cases-loop-more-preserved : goal.gather_cases-loop-more-preserved
+gather_cases-loop-more-preserved m c =
+    let l = c.loop-more in
+    let w = c.in_ok-more.ensures.reads in
+    let more = c.in_ok-more.more.now in
+    let v = c.in_ok-end.ensures.reads in
+    let end = c.in_ok-end.end.now in
+    let last = c.in_ok-last.last.now in
+    record {
+      reads = λ place none.
+          let i = l.invariant.reads place none in
+          let bs = i.0 in
+          let bs' = bs ++ (w.tree, v.tree) ∷ [] in (
+            bs',
+            c.in_ok-push.ensures.made bs w.tree v.tree i.1 (ap read_of c.taken.ensures ∙ w.kept) (ap read_of c.taken-in-loop-more.ensures ∙ v.kept),
+            λ k. i.2 k ∙ w.leads _ ∙ condition_goes k w.tree more c.in_ok-behind.behind.now place bs c.in_ok-behind.ensures.passes ∙ v.leads _ ∙ result_goes k v.tree end last place bs w.tree c.in_ok-last.ensures.passes ∙ case_more k last place bs' (sym c.in-None.ensures.found),
+          );
+      shorter = omega (arith, l.invariant.shorter, c.in_ok-more.ensures.shorter, c.in_ok-behind.ensures.shorter, c.in_ok-end.ensures.shorter, c.in_ok-last.ensures.shorter);
+    }

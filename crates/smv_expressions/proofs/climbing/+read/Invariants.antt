@@ -1,4 +1,5 @@
 use Rattle.std.proofs.Common.{◌≡◌, ◌+◌, ◌*◌, ◌-◌, ◌≤◌, ◌∷◌, [], List, length}
+use Rattle.text_core.specs.declared.place.Place.{Place}
 use Rattle.smv_text.specs.declared.tree.Infix.{Infix}
 use Rattle.smv_text.specs.Levels.{all_levels}
 use Rattle.smv_text.specs.Tree.{Tree}
@@ -36,6 +37,12 @@ decreases-chain l = 50 * length l.tokens.now + 10
 abbrev pub decreases-choice : goal.decreases-choice
 decreases-choice l = 50 * length l.tokens.now + 10
 
+abbrev pub decreases-gather_operands : goal.decreases-gather_operands
+decreases-gather_operands l = 50 * length l.tokens.now + 9
+
+abbrev pub decreases-gather_choices : goal.decreases-gather_choices
+decreases-gather_choices l = 50 * length l.tokens.now + 9
+
 abbrev pub decreases-prefixed : goal.decreases-prefixed
 decreases-prefixed l = 50 * length l.tokens.now + 40
 
@@ -48,6 +55,12 @@ decreases-listed l = 50 * length l.tokens.now + 40
 abbrev pub decreases-cases : goal.decreases-cases
 decreases-cases l = 50 * length l.tokens.now + 40
 
+abbrev pub decreases-gather_members : goal.decreases-gather_members
+decreases-gather_members l = 50 * length l.tokens.now + 39
+
+abbrev pub decreases-gather_cases : goal.decreases-gather_cases
+decreases-gather_cases l = 50 * length l.tokens.now + 39
+
 abbrev pub invariant-ascend-loop-below : goal.invariant-ascend-loop-below
 invariant-ascend-loop-below l = record {
   reads : (t : Tree) → read_of l.fn.kept ≡ cap t
@@ -58,27 +71,27 @@ invariant-ascend-loop-below l = record {
 abbrev pub decreases-ascend-loop-below : goal.decreases-ascend-loop-below
 decreases-ascend-loop-below l = l.levels - l.below
 
-abbrev pub invariant-chain-loop-op : goal.invariant-chain-loop-op
-invariant-chain-loop-op l = record {
-  reads : (t : Tree) → read_of l.kept ≡ cap t
+abbrev pub invariant-gather_operands-loop-op : goal.invariant-gather_operands-loop-op
+invariant-gather_operands-loop-op l = record {
+  reads : (p : Place) (t : Tree) → AreOperands t [] l.fn.operands
       → (ls : List (Infix × Tree)) × AreOperands t ls l.operands
-      × ((k : List Frame) → walk l.tokens (have t (operand l.joint (tightest l.below) l.place bare ∷ k)) ≡ chained l.joint (tightest l.below) l.place (record { first = t; links = ls }) k l.rest);
+      × ((k : List Frame) → walk l.tokens (have t (operand l.joint (tightest l.below) p bare ∷ k)) ≡ chained l.joint (tightest l.below) p (record { first = t; links = ls }) k l.rest);
   shorter : length l.rest ≤ length l.tokens;
 }
 
-abbrev pub decreases-chain-loop-op : goal.decreases-chain-loop-op
-decreases-chain-loop-op l = length l.rest
+abbrev pub decreases-gather_operands-loop-op : goal.decreases-gather_operands-loop-op
+decreases-gather_operands-loop-op l = length l.rest
 
-abbrev pub invariant-choice-loop-more : goal.invariant-choice-loop-more
-invariant-choice-loop-more l = record {
-  reads : (t : Tree) → read_of l.fn.kept ≡ cap t
+abbrev pub invariant-gather_choices-loop-more : goal.invariant-gather_choices-loop-more
+invariant-gather_choices-loop-more l = record {
+  reads : (p : Place) (t : Tree) → AreCases [] l.fn.branches → read_of l.fn.kept ≡ cap t
       → (bs : List (Tree × Tree)) × AreCases bs l.branches
-      × Reads (λ k. have t (when (tightest l.below) l.place [] ∷ k)) (λ k. when (tightest l.below) l.place bs ∷ k) l.tokens (read_of l.kept) l.rest;
+      × Reads (λ k. have t (when (tightest l.below) p [] ∷ k)) (λ k. when (tightest l.below) p bs ∷ k) l.tokens (read_of l.kept) l.rest;
   shorter : length l.rest ≤ length l.tokens;
 }
 
-abbrev pub decreases-choice-loop-more : goal.decreases-choice-loop-more
-decreases-choice-loop-more l = length l.rest
+abbrev pub decreases-gather_choices-loop-more : goal.decreases-gather_choices-loop-more
+decreases-gather_choices-loop-more l = length l.rest
 
 abbrev pub invariant-prefixed-loop-more : goal.invariant-prefixed-loop-more
 invariant-prefixed-loop-more l = record {
@@ -90,22 +103,24 @@ invariant-prefixed-loop-more l = record {
 abbrev pub decreases-prefixed-loop-more : goal.decreases-prefixed-loop-more
 decreases-prefixed-loop-more l = length l.rest
 
-abbrev pub invariant-listed-loop-member : goal.invariant-listed-loop-member
-invariant-listed-loop-member l = record {
-  reads : (ts : List Tree) × AreMembers ts l.members
-      × ((k : List Frame) → walk l.tokens (ask all_levels (listing l.place l.what [] ∷ k)) ≡ walk l.rest (ask all_levels (listing l.place l.what ts ∷ k)));
+abbrev pub invariant-gather_members-loop-more : goal.invariant-gather_members-loop-more
+invariant-gather_members-loop-more l = record {
+  reads : (p : Place) → AreMembers [] l.fn.members
+      → (ts : List Tree) × AreMembers ts l.members
+      × ((k : List Frame) → walk l.tokens (ask all_levels (listing p l.what [] ∷ k)) ≡ walk l.rest (ask all_levels (listing p l.what ts ∷ k)));
   shorter : length l.rest ≤ length l.tokens;
 }
 
-abbrev pub decreases-listed-loop-member : goal.decreases-listed-loop-member
-decreases-listed-loop-member l = length l.rest
+abbrev pub decreases-gather_members-loop-more : goal.decreases-gather_members-loop-more
+decreases-gather_members-loop-more l = length l.rest
 
-abbrev pub invariant-cases-loop-when : goal.invariant-cases-loop-when
-invariant-cases-loop-when l = record {
-  reads : (bs : List (Tree × Tree)) × AreCases bs l.branches
-      × ((k : List Frame) → walk l.tokens (ask all_levels (condition l.place [] ∷ k)) ≡ walk l.rest (ask all_levels (condition l.place bs ∷ k)));
+abbrev pub invariant-gather_cases-loop-more : goal.invariant-gather_cases-loop-more
+invariant-gather_cases-loop-more l = record {
+  reads : (p : Place) → AreCases [] l.fn.branches
+      → (bs : List (Tree × Tree)) × AreCases bs l.branches
+      × ((k : List Frame) → walk l.tokens (ask all_levels (condition p [] ∷ k)) ≡ walk l.rest (ask all_levels (condition p bs ∷ k)));
   shorter : length l.rest ≤ length l.tokens;
 }
 
-abbrev pub decreases-cases-loop-when : goal.decreases-cases-loop-when
-decreases-cases-loop-when l = length l.rest
+abbrev pub decreases-gather_cases-loop-more : goal.decreases-gather_cases-loop-more
+decreases-gather_cases-loop-more l = length l.rest

@@ -1,9 +1,8 @@
-use Rattle.std.proofs.Common.{◌≡◌, ◌≢◌, ◌<◌, ◌≤◌, length, true, false, ℕ, List, sym, subst, ap, ◌∙◌, arith}
-use Rattle.std.specs.Prelude.{slice_index_or}
+use Rattle.std.proofs.Common.{◌≡◌, length, true, false, sym, subst, ap, ◌∙◌}
 use Rattle.digraph.specs.Graph.{next_of}
 use Rattle.digraph.specs.Searching.{State, IsStep}
 use Rattle.digraph.specs.declared.search.Step.TheVariants.{Went}
-use Rattle.digraph.proofs.Laws.{closed_step, turned_step, returned_step, next_there, row_is}
+use Rattle.digraph.proofs.Laws.{closed_step, turned_step, returned_step, row_is}
 use Rattle.digraph.proofs.search.Search.step.Goals as goal
 
 pub returns-then-end-len : goal.returns-then-end-len
