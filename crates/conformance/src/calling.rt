@@ -76,6 +76,7 @@ fn answer(alloc: Global, call: &str, pieces: &[Piece]) -> Result<Text, Fault> {
         ["word" | "btor", rest @ ..] => btor_cases::answer(alloc, rest, pieces),
         ["smv" | "graph", rest @ ..] => smv_type_cases::answer(alloc, rest, pieces),
         ["flat", rest @ ..] => flat_cases::answer(alloc, rest, pieces),
+        ["moxi", rest @ ..] => moxi_cases::answer(alloc, rest, pieces),
         _ => Err(Fault::Misread("no such call")),
     }
 }

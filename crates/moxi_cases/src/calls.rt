@@ -1,0 +1,105 @@
+// What the calls of MoXI answer.
+use crate::asking::put_failing;
+use crate::forms::put_forms;
+use crate::places::put_refusal;
+use crate::scripts::{put_given_check, put_given_systems, put_printed_script, put_script};
+use crate::stop::Stop;
+use crate::terms::{put_entry_sort, put_term_sort};
+use crate::traces::put_trace;
+use crate::values::put_term_value;
+use case_text::{Fault, Piece};
+use moxi_terms::Primes;
+use std::alloc::Global;
+use text_core::{Refusal, Text};
+
+#[derive(Clone, Copy)]
+enum Call {
+    Forms,
+    Sort,
+    Term,
+    Value,
+    Script,
+    Printed,
+    Systems,
+    Check,
+    Trace,
+    Failing,
+}
+
+const CALLS: [(&str, Call); 10] = [
+    ("forms", Call::Forms),
+    ("sort", Call::Sort),
+    ("term", Call::Term),
+    ("value", Call::Value),
+    ("script", Call::Script),
+    ("printed", Call::Printed),
+    ("systems", Call::Systems),
+    ("check", Call::Check),
+    ("trace", Call::Trace),
+    ("failing", Call::Failing),
+];
+
+fn call_of(name: &str) -> Option<Call> {
+    for (text, call) in &CALLS {
+        if *text == name {
+            return Some(*call);
+        }
+    }
+    None
+}
+
+/// The answer of a call, named by its words, to the pieces of a case; a refusal is answered as such.
+pub fn answer(alloc: Global, call: &[&str], pieces: &[Piece]) -> Result<Text, Fault> {
+    let mut out = Text::new(alloc);
+    match put_answer(alloc, &mut out, call, pieces) {
+        Ok(()) => Ok(out),
+        Err(Stop::Fault(end)) => Err(end),
+        Err(Stop::Refused(refusal)) => refused(alloc, refusal),
+    }
+}
+
+fn refused(alloc: Global, refusal: Refusal) -> Result<Text, Fault> {
+    let mut out = Text::new(alloc);
+    put_refusal(&mut out, refusal)?;
+    Ok(out)
+}
+
+fn put_answer(alloc: Global, out: &mut Text, call: &[&str], pieces: &[Piece]) -> Result<(), Stop> {
+    let Some((name, words)) = call.split_first() else {
+        return Err(Stop::from("a call without a name"))
+    };
+    let Some(call) = call_of(name) else {
+        return Err(Stop::from("no such call of MoXI"))
+    };
+    put_call(alloc, out, call, words, pieces)
+}
+
+fn put_call(
+    alloc: Global,
+    out: &mut Text,
+    call: Call,
+    words: &[&str],
+    pieces: &[Piece],
+) -> Result<(), Stop> {
+    match call {
+        Call::Forms => put_forms(alloc, out, pieces),
+        Call::Sort => put_entry_sort(alloc, out, pieces),
+        Call::Term => put_term_sort(alloc, out, primes_of(words)?, pieces),
+        Call::Value => put_term_value(alloc, out, pieces),
+        Call::Script => put_script(alloc, out, pieces),
+        Call::Printed => put_printed_script(alloc, out, pieces),
+        Call::Systems => put_given_systems(alloc, out, pieces),
+        Call::Check => put_given_check(alloc, out, pieces),
+        Call::Trace => put_trace(alloc, out, pieces),
+        Call::Failing => put_failing(alloc, out, pieces),
+    }
+}
+
+// Behind `with primes` variables may be primed.
+fn primes_of(words: &[&str]) -> Result<Primes, Stop> {
+    match words {
+        [] => Ok(Primes::Refused),
+        ["with", "primes"] => Ok(Primes::Allowed),
+        _ => Err(Stop::from("no such call of a term")),
+    }
+}
