@@ -5,9 +5,9 @@ ghost use Rattle.btor_tree.specs.Fits.{sort_at, width_at};
 use crate::lines::has_word;
 use btor_print::print_btor;
 use btor_tree::{Args, Builder, GREATEST_ID, LineOp, Nodes};
-use case_text::{Fault, words};
+use case_text::{Answer, Fault, Stop, small_number};
 use std::alloc::Global;
-use text_core::{Name, NoMemory, Text};
+use text_core::{Name, NoMemory};
 use word_core::WIDEST;
 
 fn copied_op(op: &LineOp) -> LineOp
@@ -71,32 +71,30 @@ pub fn rebuilt(alloc: Global, nodes: &Nodes) -> Result<Builder, Fault>
     Ok(builder)
 }
 
-/// The lines made one by one, printed.
-pub fn printed_build(alloc: Global, nodes: &Nodes) -> Result<Text, Fault> {
+/// Appends the lines made one by one, printed.
+pub fn put_build(alloc: Global, out: &mut Answer, nodes: &Nodes) -> Result<(), Stop> {
     let builder = rebuilt(alloc, nodes)?;
-    Ok(print_btor(alloc, &builder.done())?)
+    out.put_text(print_btor(alloc, &builder.done()));
+    Ok(())
 }
 
-/// Where the sort line of a width is, counted from 0, and of how many lines, after it was asked for behind the lines.
-pub fn shown_sort(alloc: Global, nodes: &Nodes, row: &[u8]) -> Result<Text, Fault> {
+/// Appends where the sort line of a width is, counted from 0, and of how many lines, after it was asked for behind the lines.
+pub fn put_sort(alloc: Global, out: &mut Answer, nodes: &Nodes, row: &[u8]) -> Result<(), Stop> {
     let mut builder = rebuilt(alloc, nodes)?;
-    let row = words(alloc, row)?;
-    let [width] = row.as_slice() else {
-        return Err(Fault::Misread("a row of another length"))
-    };
-    let Ok(width) = width.parse::<u32>() else {
-        return Err(Fault::Misread("a width"))
-    };
+    put_sort_asked(out, &mut builder, row)
+}
+
+fn put_sort_asked(out: &mut Answer, builder: &mut Builder, row: &[u8]) -> Result<(), Stop> {
+    let width = small_number(row)?;
     if width < 1 || width > WIDEST || builder.len() >= GREATEST_ID as usize {
-        return Err(Fault::Misread("a width or a list that is too large"));
+        return Err(Stop::from("a width or a list that is too large"));
     }
     let place = builder.sort(width)?;
-    let mut out = Text::new(alloc);
-    out.put(b"place ")?;
-    out.put_unsigned(u128::from(place))?;
-    out.put(b" of ")?;
-    out.put_unsigned(builder.len() as u128)?;
-    Ok(out)
+    out.put(b"place ");
+    out.put_unsigned(u128::from(place));
+    out.put(b" of ");
+    out.put_unsigned(builder.len() as u128);
+    Ok(())
 }
 
 // The width of the word of the line at a place, or 0.
@@ -127,32 +125,37 @@ fn sort_at(nodes: &Nodes, i: usize) -> u32
     }
 }
 
-/// The width and the sort line of each line that has a word.
-pub fn shown_widths(alloc: Global, nodes: &Nodes) -> Result<Text, Fault> {
+/// Appends the width and the sort line of each line that has a word.
+pub fn put_widths(alloc: Global, out: &mut Answer, nodes: &Nodes) -> Result<(), Stop> {
     let builder = rebuilt(alloc, nodes)?;
-    let mut out = Text::new(alloc);
+    put_all_widths(out, nodes, &builder)
+}
+
+fn put_all_widths(out: &mut Answer, nodes: &Nodes, builder: &Builder) -> Result<(), Stop>
+    requires { builder.now ≡ nodes.now }
+{
     for i in 0..nodes.len() {
         if width_at(nodes, i) > 0 {
             let Ok(place) = u32::try_from(i) else {
-                return Err(Fault::Misread("too many lines"))
+                return Err(Stop::from("too many lines"))
             };
             put_width(
-                &mut out,
+                out,
                 nodes.at(i).id,
                 builder.width_of(place),
                 builder.sort_of(place),
-            )?;
+            );
         }
     }
-    Ok(out)
+    Ok(())
 }
 
 // The width of a line's word, and the place of its sort line.
-fn put_width(out: &mut Text, id: u32, width: u32, sort: u32) -> Result<(), NoMemory> {
-    out.put_unsigned(u128::from(id))?;
-    out.put(b": width ")?;
-    out.put_unsigned(u128::from(width))?;
-    out.put(b", sort at ")?;
-    out.put_unsigned(u128::from(sort))?;
-    out.put(b"\n")
+fn put_width(out: &mut Answer, id: u32, width: u32, sort: u32) {
+    out.put_unsigned(u128::from(id));
+    out.put(b": width ");
+    out.put_unsigned(u128::from(width));
+    out.put(b", sort at ");
+    out.put_unsigned(u128::from(sort));
+    out.put(b"\n");
 }

@@ -1,13 +1,13 @@
 // Which call answers a case.
-use crate::agreement::agreement;
-use crate::build::{printed_build, shown_sort, shown_widths};
-use crate::frames::shown_frames;
-use crate::lines::{nodes_of, printed_lines, shown_counts};
-use crate::operators::word_answer;
-use crate::rows::{row_of, text_of};
-use crate::witnesses::{judged_witness, printed_witness};
+use crate::agreement::put_agreement;
+use crate::build::{put_build, put_sort, put_widths};
+use crate::frames::put_frames;
+use crate::lines::{nodes_of, put_counts, put_lines};
+use crate::operators::put_word_answer;
+use crate::rows::{lines_of, put_on_one_line, text_of};
+use crate::witnesses::{put_verdict, put_witness};
 use btor_tree::Nodes;
-use case_text::{Fault, Piece, given, has};
+use case_text::{Answer, Piece, Stop, beside, given, has};
 use std::alloc::Global;
 use text_core::Text;
 
@@ -35,66 +35,93 @@ const CALLS: [(&str, Call); 8] = [
     ("plain-verdict", Call::PlainVerdict),
 ];
 
-fn call_of(name: &str) -> Option<Call> {
-    for (text, call) in &CALLS {
-        if *text == name {
-            return Some(*call);
-        }
-    }
-    None
-}
-
-/// What a call answers to the pieces. The calls `of`, `bits` and `digits` and those by the name of an operator of words take a
-/// row. All others take the piece `lines`, a text of BTOR2 lines: `lines` prints them again, `build` prints them made one by
-/// one, `counts` and `widths` say how many and how wide they are, `sort` takes a width as its row, `frames` the piece `words`,
-/// `witness` and `verdict` the piece `witness`, and `plain-verdict` a number of frames as its row. A row can stand for a piece
-/// that isn't given. Where there is a row, the answer is on one line.
-pub fn answer(alloc: Global, call: &[&str], pieces: &[Piece]) -> Result<Text, Fault> {
+/// Appends what a call answers to the pieces. The calls `of`, `bits` and `digits` and those by the name of an operator of
+/// words take a row. All others take the piece `lines`, a text of BTOR2 lines: `lines` prints them again, `build` prints them
+/// made one by one, `counts` and `widths` say how many and how wide they are, `sort` takes a width as its row, `frames` the
+/// piece `words`, `witness` and `verdict` the piece `witness`, and `plain-verdict` a number of frames as its row. A row can
+/// stand for a piece that isn't given. Where there is a row, the answer is on one line.
+pub fn put_answer(
+    alloc: Global,
+    out: &mut Answer,
+    call: &[&str],
+    pieces: &[Piece],
+) -> Result<(), Stop> {
     let [name] = call else {
-        return Err(Fault::Misread("a call of another length"))
+        return Err(Stop::from("a call of another length"))
     };
-    let text = named_answer(alloc, *name, pieces)?;
     if has(pieces, "row") {
-        row_of(alloc, &text)
+        put_row_answer(alloc, out, *name, pieces)
     } else {
-        Ok(text)
+        put_named(alloc, out, *name, pieces, None)
     }
 }
 
-fn named_answer(alloc: Global, name: &str, pieces: &[Piece]) -> Result<Text, Fault> {
+fn put_row_answer(
+    alloc: Global,
+    out: &mut Answer,
+    name: &str,
+    pieces: &[Piece],
+) -> Result<(), Stop> {
+    let lines = lines_of(alloc, given(pieces, "row")?)?;
+    let text = answered(alloc, name, pieces, lines.bytes())?;
+    put_on_one_line(out, text.bytes());
+    Ok(())
+}
+
+fn answered(alloc: Global, name: &str, pieces: &[Piece], lines: &[u8]) -> Result<Text, Stop> {
+    let mut out = Answer::new(alloc);
+    put_named(alloc, &mut out, name, pieces, Some(lines))?;
+    Ok(out.done()?)
+}
+
+// Where there is a row, its lines stand for a piece that isn't given.
+fn put_named(
+    alloc: Global,
+    out: &mut Answer,
+    name: &str,
+    pieces: &[Piece],
+    lines: Option<&[u8]>,
+) -> Result<(), Stop> {
     if name == "lines" {
-        let lines = text_of(alloc, pieces, "lines")?;
-        return printed_lines(alloc, lines.bytes());
+        return put_lines(alloc, out, text_of(pieces, lines, "lines")?);
     }
-    match call_of(name) {
-        Some(call) => {
-            let lines = text_of(alloc, pieces, "lines")?;
-            let nodes = nodes_of(alloc, lines.bytes())?;
-            node_answer(alloc, call, &nodes, pieces)
-        }
-        None => word_answer(alloc, name, given(pieces, "row")?),
+    match beside(CALLS.as_slice(), name) {
+        Some(call) => put_call(alloc, out, call, pieces, lines),
+        None => put_word_answer(alloc, out, name, given(pieces, "row")?),
     }
 }
 
-// What a call answers to the lines and the other pieces.
-fn node_answer(alloc: Global, call: Call, nodes: &Nodes, pieces: &[Piece]) -> Result<Text, Fault> {
+fn put_call(
+    alloc: Global,
+    out: &mut Answer,
+    call: Call,
+    pieces: &[Piece],
+    lines: Option<&[u8]>,
+) -> Result<(), Stop> {
+    let nodes = nodes_of(alloc, text_of(pieces, lines, "lines")?).map_err(Stop::as_fault)?;
+    put_node_answer(alloc, out, call, &nodes, pieces, lines)
+}
+
+// Appends what a call answers to the lines and the other pieces.
+fn put_node_answer(
+    alloc: Global,
+    out: &mut Answer,
+    call: Call,
+    nodes: &Nodes,
+    pieces: &[Piece],
+    lines: Option<&[u8]>,
+) -> Result<(), Stop> {
     match call {
-        Call::Counts => shown_counts(alloc, nodes),
-        Call::Build => printed_build(alloc, nodes),
-        Call::Sort => shown_sort(alloc, nodes, given(pieces, "row")?),
-        Call::Widths => shown_widths(alloc, nodes),
-        Call::Frames => {
-            let handed = text_of(alloc, pieces, "words")?;
-            shown_frames(alloc, nodes, handed.bytes())
+        Call::Counts => {
+            put_counts(out, nodes);
+            Ok(())
         }
-        Call::Witness => {
-            let witness = text_of(alloc, pieces, "witness")?;
-            printed_witness(alloc, nodes, witness.bytes())
-        }
-        Call::Verdict => {
-            let witness = text_of(alloc, pieces, "witness")?;
-            judged_witness(alloc, nodes, witness.bytes())
-        }
-        Call::PlainVerdict => agreement(alloc, nodes, given(pieces, "row")?),
+        Call::Build => put_build(alloc, out, nodes),
+        Call::Sort => put_sort(alloc, out, nodes, given(pieces, "row")?),
+        Call::Widths => put_widths(alloc, out, nodes),
+        Call::Frames => put_frames(alloc, out, nodes, text_of(pieces, lines, "words")?),
+        Call::Witness => put_witness(alloc, out, nodes, text_of(pieces, lines, "witness")?),
+        Call::Verdict => put_verdict(alloc, out, nodes, text_of(pieces, lines, "witness")?),
+        Call::PlainVerdict => put_agreement(alloc, out, nodes, given(pieces, "row")?),
     }
 }

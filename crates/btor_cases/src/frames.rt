@@ -5,9 +5,9 @@ ghost use Rattle.btor_frames.specs.Held.{FramesFit};
 use crate::lines::has_word;
 use btor_frames::{Frames, Words, words_fit};
 use btor_tree::Nodes;
-use case_text::Fault;
+use case_text::{Answer, Stop, utf8};
 use std::alloc::Global;
-use text_core::Text;
+use text_core::NoMemory;
 use word_core::{Word, read_digits};
 
 // The words of a frame, of the inputs and of the states.
@@ -17,51 +17,77 @@ struct Handed {
     states: Words,
 }
 
-/// What is in each frame: the words of lines, whether the constraints hold, and which bad lines are true. The words that
-/// are handed in for a frame stand on one line, as `inputs WORDS states WORDS`, in binary digits.
-pub fn shown_frames(alloc: Global, nodes: &Nodes, handed: &[u8]) -> Result<Text, Fault> {
-    let Ok(handed) = std::str::from_utf8(handed) else {
-        return Err(Fault::Misread("words that are no text"))
-    };
+impl Handed {
+    fn add(&mut self, word: Word, of_states: bool) -> Result<(), NoMemory> {
+        if of_states {
+            self.states.push(word)
+        } else {
+            self.inputs.push(word)
+        }
+    }
+
+    // Adds the words of a line.
+    fn take(&mut self, line: &str) -> Result<(), Stop> {
+        let mut of_states = false;
+        for part in line.split_whitespace() {
+            if part == "inputs" {
+                of_states = false;
+            } else if part == "states" {
+                of_states = true;
+            } else {
+                let word = word_of(part).ok_or("a word that is not in binary digits")?;
+                self.add(word, of_states)?;
+            }
+        }
+        Ok(())
+    }
+}
+
+/// Appends what is in each frame: the words of lines, whether the constraints hold, and which bad lines are true. The words
+/// that are handed in for a frame stand on one line, as `inputs WORDS states WORDS`, in binary digits.
+pub fn put_frames(
+    alloc: Global,
+    out: &mut Answer,
+    nodes: &Nodes,
+    handed: &[u8],
+) -> Result<(), Stop> {
+    let handed = utf8(handed)?;
     let mut frames = Frames::new(alloc, nodes)?;
-    let mut out = Text::new(alloc);
+    put_each_frame(alloc, out, nodes, &mut frames, handed)
+}
+
+fn put_each_frame(
+    alloc: Global,
+    out: &mut Answer,
+    nodes: &Nodes,
+    frames: &mut Frames,
+    handed: &str,
+) -> Result<(), Stop>
+    requires { FramesFit nodes.now frames.old }
+{
     let mut number = 0u64;
     for line in handed.lines() {
-        let handed = handed_in(alloc, line)?;
-        out.put_unsigned(u128::from(number))?;
-        if !words_fit(nodes, &handed.inputs, &handed.states) {
-            out.put(b": the words do not fit\n")?;
-            return Ok(out);
+        let words = handed_in(alloc, line)?;
+        out.put_unsigned(u128::from(number));
+        if !words_fit(nodes, &words.inputs, &words.states) {
+            out.put(b": the words do not fit\n");
+            return Ok(());
         }
-        frames.step(nodes, &handed.inputs, &handed.states);
-        put_frame(&mut out, nodes, &frames)?;
+        frames.step(nodes, &words.inputs, &words.states);
+        put_frame(out, nodes, frames)?;
         number = number.saturating_add(1);
     }
-    Ok(out)
+    Ok(())
 }
 
 // The words of a line.
-fn handed_in(alloc: Global, line: &str) -> Result<Handed, Fault> {
-    let mut inputs = Words::new(alloc);
-    let mut states = Words::new(alloc);
-    let mut of_states = false;
-    for part in line.split_whitespace() {
-        if part == "inputs" {
-            of_states = false;
-        } else if part == "states" {
-            of_states = true;
-        } else {
-            let Some(word) = word_of(part) else {
-                return Err(Fault::Misread("a word that is not in binary digits"))
-            };
-            if of_states {
-                states.push(word)?;
-            } else {
-                inputs.push(word)?;
-            }
-        }
-    }
-    Ok(Handed { inputs, states })
+fn handed_in(alloc: Global, line: &str) -> Result<Handed, Stop> {
+    let mut handed = Handed {
+        inputs: Words::new(alloc),
+        states: Words::new(alloc),
+    };
+    handed.take(line)?;
+    Ok(handed)
 }
 
 // The word of these binary digits.
@@ -72,44 +98,44 @@ fn word_of(digits: &str) -> Option<Word> {
     }
 }
 
-fn put_frame(out: &mut Text, nodes: &Nodes, frames: &Frames) -> Result<(), Fault>
+fn put_frame(out: &mut Answer, nodes: &Nodes, frames: &Frames) -> Result<(), Stop>
     requires fits { FramesFit nodes.now frames.now }
     requires begun { frames.now.begun ≡ true }
 {
-    out.put(b":")?;
+    out.put(b":");
     put_values(out, nodes, frames)?;
     if frames.constraints_hold(nodes) {
-        out.put(b", constraints hold")?;
+        out.put(b", constraints hold");
     } else {
-        out.put(b", a constraint fails")?;
+        out.put(b", a constraint fails");
     }
-    put_bads(out, nodes, frames)?;
-    out.put(b"\n")?;
+    put_bads(out, nodes, frames);
+    out.put(b"\n");
     Ok(())
 }
 
 // The word of each line that has one, behind its id.
-fn put_values(out: &mut Text, nodes: &Nodes, frames: &Frames) -> Result<(), Fault>
+fn put_values(out: &mut Answer, nodes: &Nodes, frames: &Frames) -> Result<(), Stop>
     requires { FramesFit nodes.now frames.now }
 {
     for i in 0..nodes.len() {
         let line = nodes.at(i);
         if has_word(&line.op) {
             let Ok(place) = u32::try_from(i) else {
-                return Err(Fault::Misread("too many lines"))
+                return Err(Stop::from("too many lines"))
             };
             let word = frames.value(place);
-            out.put(b" ")?;
-            out.put_unsigned(u128::from(line.id))?;
-            out.put(b"=")?;
-            out.put_binary(word.width(), word.bits())?;
+            out.put(b" ");
+            out.put_unsigned(u128::from(line.id));
+            out.put(b"=");
+            out.put_binary(word.width(), word.bits());
         }
     }
     Ok(())
 }
 
 // The numbers of the bad lines that are true.
-fn put_bads(out: &mut Text, nodes: &Nodes, frames: &Frames) -> Result<(), Fault>
+fn put_bads(out: &mut Answer, nodes: &Nodes, frames: &Frames)
     requires fits { FramesFit nodes.now frames.now }
     requires begun { frames.now.begun ≡ true }
 {
@@ -117,15 +143,14 @@ fn put_bads(out: &mut Text, nodes: &Nodes, frames: &Frames) -> Result<(), Fault>
     for j in 0..nodes.bads() {
         if frames.bad(nodes, j) {
             if none {
-                out.put(b", bad")?;
+                out.put(b", bad");
             }
             none = false;
-            out.put(b" ")?;
-            out.put_unsigned(u128::from(j))?;
+            out.put(b" ");
+            out.put_unsigned(u128::from(j));
         }
     }
     if none {
-        out.put(b", no bad line")?;
+        out.put(b", no bad line");
     }
-    Ok(())
 }

@@ -11,4 +11,4 @@ mod plain;
 mod rows;
 mod witnesses;
 
-pub use calls::answer;
+pub use calls::put_answer;

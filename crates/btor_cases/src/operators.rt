@@ -3,9 +3,8 @@
 ghost use Rattle.std.specs.Prelude.{IsTrue};
 ghost use Rattle.word_core.specs.Table.{BinaryFits};
 
-use case_text::{Fault, words};
+use case_text::{Answer, Stop, beside, words};
 use std::alloc::Global;
-use text_core::Text;
 use word_core::{Binary, Unary, WIDEST, Word, binary, ite, read_digits, sext, slice, uext, unary};
 
 // An operator, or another call.
@@ -79,36 +78,33 @@ const CALLS: [(&str, Call); 44] = [
     ("sext", Call::Sext),
 ];
 
-fn call_of(name: &str) -> Option<Call> {
-    for (text, call) in &CALLS {
-        if *text == name {
-            return Some(*call);
-        }
-    }
-    None
+/// Appends what a call of words answers to a row.
+pub fn put_word_answer(
+    alloc: Global,
+    out: &mut Answer,
+    name: &str,
+    row: &[u8],
+) -> Result<(), Stop> {
+    let call = beside(CALLS.as_slice(), name).ok_or("no such call")?;
+    let row = words(alloc, row)?;
+    put_called(out, call, row.as_slice())
 }
 
-/// What a call of words answers to a row.
-pub fn word_answer(alloc: Global, name: &str, row: &[u8]) -> Result<Text, Fault> {
-    let call = call_of(name).ok_or("no such call")?;
-    let row = words(alloc, row)?;
-    let row = row.as_slice();
+fn put_called(out: &mut Answer, call: Call, row: &[&str]) -> Result<(), Stop> {
     if !has_length(call, row.len()) {
-        return Err(Fault::Misread("a row of another length"));
+        return Err(Stop::from("a row of another length"));
     }
-    let Some(width) = count_at(row, 0) else {
-        return Err(Fault::Misread("a row without a width"))
-    };
+    let width = count_at(row, 0).ok_or("a row without a width")?;
     match call {
-        Call::Of => of(alloc, width, row),
-        Call::Bits => bits(alloc, row),
-        Call::Digits => digits(alloc, width, row),
-        Call::Unary(op) => result_of(alloc, width, unary_of(op, row)),
-        Call::Binary(op) => result_of(alloc, width, binary_of(op, row)),
-        Call::Ite => result_of(alloc, width, ite_of(row)),
-        Call::Slice => result_of(alloc, width, slice_of(row)),
-        Call::Uext => result_of(alloc, width, uext_of(row)),
-        Call::Sext => result_of(alloc, width, sext_of(row)),
+        Call::Of => put_of(out, width, row),
+        Call::Bits => put_bits(out, row),
+        Call::Digits => put_digits(out, width, row),
+        Call::Unary(op) => put_result(out, width, unary_of(op, row)),
+        Call::Binary(op) => put_result(out, width, binary_of(op, row)),
+        Call::Ite => put_result(out, width, ite_of(row)),
+        Call::Slice => put_result(out, width, slice_of(row)),
+        Call::Uext => put_result(out, width, uext_of(row)),
+        Call::Sext => put_result(out, width, sext_of(row)),
     }
 }
 
@@ -198,63 +194,61 @@ fn sext_of(row: &[&str]) -> Option<Word> {
 }
 
 // The result of an operator, where there are operands for it.
-fn result_of(alloc: Global, width: u32, word: Option<Word>) -> Result<Text, Fault> {
-    if word.is_none() {
-        return Err(Fault::Misread("operands that do not fit"));
-    }
-    shown(alloc, width, word)
+fn put_result(out: &mut Answer, width: u32, word: Option<Word>) -> Result<(), Stop> {
+    let word = word.ok_or("operands that do not fit")?;
+    put_word(out, width, word);
+    Ok(())
 }
 
 // The word of the row's width and number.
-fn of(alloc: Global, width: u32, row: &[&str]) -> Result<Text, Fault> {
-    match number_at(row, 1) {
-        Some(number) => shown(alloc, width, Word::of(width, number)),
-        None => Err(Fault::Misread("a row without a number")),
-    }
+fn put_of(out: &mut Answer, width: u32, row: &[&str]) -> Result<(), Stop> {
+    let number = number_at(row, 1).ok_or("a row without a number")?;
+    put_word_or_none(out, width, Word::of(width, number));
+    Ok(())
 }
 
 // The word of a base and digits, of which there may be none.
-fn digits(alloc: Global, width: u32, row: &[&str]) -> Result<Text, Fault> {
+fn put_digits(out: &mut Answer, width: u32, row: &[&str]) -> Result<(), Stop> {
     let digits: &[u8] = match row.get(2) {
         Some(digits) => digits.as_bytes(),
         None => b"",
     };
-    match count_at(row, 1) {
-        Some(2) => shown(alloc, width, read_digits(width, 2, digits)),
-        Some(8) => shown(alloc, width, read_digits(width, 8, digits)),
-        Some(10) => shown(alloc, width, read_digits(width, 10, digits)),
-        Some(16) => shown(alloc, width, read_digits(width, 16, digits)),
-        _ => Err(Fault::Misread("another base")),
+    let word = match count_at(row, 1) {
+        Some(2) => read_digits(width, 2, digits),
+        Some(8) => read_digits(width, 8, digits),
+        Some(10) => read_digits(width, 10, digits),
+        Some(16) => read_digits(width, 16, digits),
+        _ => return Err(Stop::from("another base")),
+    };
+    put_word_or_none(out, width, word);
+    Ok(())
+}
+
+fn put_word_or_none(out: &mut Answer, width: u32, word: Option<Word>) {
+    match word {
+        Some(word) => put_word(out, width, word),
+        None => out.put(b"none"),
     }
 }
 
 // The number of a word, behind its width where that is not the row's.
-fn shown(alloc: Global, width: u32, word: Option<Word>) -> Result<Text, Fault> {
-    let mut out = Text::new(alloc);
-    let Some(word) = word else {
-        out.put(b"none")?;
-        return Ok(out);
-    };
+fn put_word(out: &mut Answer, width: u32, word: Word) {
     if word.width() != width {
-        out.put_unsigned(u128::from(word.width()))?;
-        out.put(b":")?;
+        out.put_unsigned(u128::from(word.width()));
+        out.put(b":");
     }
-    out.put_unsigned(word.bits())?;
-    Ok(out)
+    out.put_unsigned(word.bits());
 }
 
 // The bits of a word, from the highest on.
-fn bits(alloc: Global, row: &[&str]) -> Result<Text, Fault> {
-    let Some(word) = operand(row, 1) else {
-        return Err(Fault::Misread("an operand that is no word"))
-    };
-    let mut out = Text::new(alloc);
+fn put_bits(out: &mut Answer, row: &[&str]) -> Result<(), Stop> {
+    let word = operand(row, 1).ok_or("an operand that is no word")?;
     for i in 0..word.width() {
         if word.bit(word.width() - 1 - i) {
-            out.put(b"1")?;
+            out.put(b"1");
         } else {
-            out.put(b"0")?;
+            out.put(b"0");
         }
     }
-    Ok(out)
+    Ok(())
 }

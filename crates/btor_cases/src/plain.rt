@@ -50,20 +50,41 @@ fn source(nodes: &Nodes, state: usize, later: bool) -> Result<Option<Arg>, Fault
 // The bits of the lines in a frame, given those of the frame before where there is one.
 fn row_of(alloc: Global, nodes: &Nodes, before: Option<&Row>, frame: &Frame) -> Result<Row, Fault> {
     let mut row = Vec::new(alloc);
+    fill_row(nodes, before, frame, &mut row)?;
+    Ok(row)
+}
+
+fn fill_row(
+    nodes: &Nodes,
+    before: Option<&Row>,
+    frame: &Frame,
+    row: &mut Row,
+) -> Result<(), Fault> {
     for i in 0..nodes.len() {
         let value = match &nodes.at(i).op {
             LineOp::One => true,
             LineOp::Input => stated(&frame.inputs).unwrap_or(false),
-            LineOp::State => match (source(nodes, i, before.is_some())?, before) {
-                (Some(arg), Some(last)) => bit(last, arg)?,
-                (Some(arg), None) => bit(&row, arg)?,
-                (None, _) => stated(&frame.states).unwrap_or(false),
-            },
+            LineOp::State => state_bit(nodes, i, before, frame, row)?,
             _ => false,
         };
         row.push(value)?;
     }
-    Ok(row)
+    Ok(())
+}
+
+// The bit of the state at a place, given those of the frame before and of the earlier lines.
+fn state_bit(
+    nodes: &Nodes,
+    state: usize,
+    before: Option<&Row>,
+    frame: &Frame,
+    row: &Row,
+) -> Result<bool, Fault> {
+    match (source(nodes, state, before.is_some())?, before) {
+        (Some(arg), Some(last)) => bit(last, arg),
+        (Some(arg), None) => bit(row, arg),
+        (None, _) => Ok(stated(&frame.states).unwrap_or(false)),
+    }
 }
 
 // Does the frame state another bit of a state than the one that the lines give it?
@@ -148,19 +169,37 @@ pub fn is_plain(nodes: &Nodes) -> bool {
 
 /// The verdict on a witness for such a list.
 pub fn plain_verdict(alloc: Global, nodes: &Nodes, witness: &Witness) -> Result<Verdict, Fault> {
-    let mut rows: Vec<Row> = Vec::new(alloc);
+    let mut rows = Vec::new(alloc);
+    verdict_over(alloc, nodes, witness, &mut rows)
+}
+
+fn verdict_over(
+    alloc: Global,
+    nodes: &Nodes,
+    witness: &Witness,
+    rows: &mut Vec<Row>,
+) -> Result<Verdict, Fault> {
     let count = witness.frames.len();
     for t in 0..count {
-        let frame = witness.frames.at(t);
-        let row = row_of(alloc, nodes, rows.last(), frame)?;
-        let last = t == count - 1;
-        if let Some(clause) = failure(nodes, frame, &row, t > 0, last)? {
-            let Ok(step) = u32::try_from(t) else {
-                return Err(Fault::Misread("too many frames"))
-            };
+        let failing = next_failure(alloc, nodes, witness.frames.at(t), t == count - 1, rows)?;
+        if let Some(clause) = failing {
+            let step = u32::try_from(t).ok().ok_or("too many frames")?;
             return Ok(Verdict::No(step, clause));
         }
-        rows.push(row)?;
     }
     Ok(Verdict::Yes)
+}
+
+// The first clause that the next frame fails, whose row is added behind those of the frames before.
+fn next_failure(
+    alloc: Global,
+    nodes: &Nodes,
+    frame: &Frame,
+    last: bool,
+    rows: &mut Vec<Row>,
+) -> Result<Option<Clause>, Fault> {
+    let row = row_of(alloc, nodes, rows.last(), frame)?;
+    let clause = failure(nodes, frame, &row, !rows.is_empty(), last)?;
+    rows.push(row)?;
+    Ok(clause)
 }

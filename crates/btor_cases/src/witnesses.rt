@@ -1,69 +1,63 @@
 // Witnesses, printed and judged.
-use crate::lines::{LONGEST, shown_refusal};
+ghost use Rattle.std.specs.Prelude.{IfOk};
+ghost use Rattle.btor_witness.specs.Sizes.{sizes_of};
+ghost use Rattle.btor_witness.specs.Printing.{IsWitness};
+
+use crate::lines::LONGEST;
 use btor_tree::Nodes;
-use btor_witness::{WitnessEnd, judge_btor, print_witness, read_witness};
-use case_text::Fault;
+use btor_witness::{Witness, judge_btor, print_witness, read_witness};
+use case_text::{Answer, Stop};
 use std::alloc::Global;
-use text_core::{Clause, Text, Verdict};
+use text_core::Verdict;
 
-/// The witness that a text spells, printed, or the text's refusal.
-pub fn printed_witness(alloc: Global, nodes: &Nodes, text: &[u8]) -> Result<Text, Fault> {
+/// The witness that a text spells.
+pub fn witness_of(alloc: Global, nodes: &Nodes, text: &[u8]) -> Result<Witness, Stop>
+    ensures { IfOk result (IsWitness (sizes_of nodes.now)) }
+{
     if text.len() > LONGEST {
-        return Err(Fault::Misread("a text that is too long"));
+        return Err(Stop::from("a text that is too long"));
     }
-    match read_witness(alloc, nodes, text) {
-        Ok(witness) => Ok(print_witness(alloc, nodes, &witness)?),
-        Err(WitnessEnd::Bad(refusal)) => shown_refusal(alloc, refusal),
-        Err(WitnessEnd::NoMemory) => Err(Fault::NoMemory),
-    }
+    Ok(read_witness(alloc, nodes, text)?)
 }
 
-/// The verdict on the witness that a text spells, or the text's refusal.
-pub fn judged_witness(alloc: Global, nodes: &Nodes, text: &[u8]) -> Result<Text, Fault> {
-    if text.len() > LONGEST {
-        return Err(Fault::Misread("a text that is too long"));
-    }
-    match read_witness(alloc, nodes, text) {
-        Ok(witness) => {
-            let frames = witness.frames.len();
-            let verdict = judge_btor(alloc, nodes, &witness)?;
-            shown_verdict(alloc, verdict, witness.bad, frames)
-        }
-        Err(WitnessEnd::Bad(refusal)) => shown_refusal(alloc, refusal),
-        Err(WitnessEnd::NoMemory) => Err(Fault::NoMemory),
-    }
+/// Appends the witness that a text spells, printed.
+pub fn put_witness(
+    alloc: Global,
+    out: &mut Answer,
+    nodes: &Nodes,
+    text: &[u8],
+) -> Result<(), Stop> {
+    let witness = witness_of(alloc, nodes, text)?;
+    out.put_text(print_witness(alloc, nodes, &witness));
+    Ok(())
 }
 
-// The verdict on a witness of so many frames for a bad line.
-fn shown_verdict(alloc: Global, verdict: Verdict, bad: u32, frames: usize) -> Result<Text, Fault> {
-    let mut out = Text::new(alloc);
+/// Appends the verdict on the witness that a text spells.
+pub fn put_verdict(
+    alloc: Global,
+    out: &mut Answer,
+    nodes: &Nodes,
+    text: &[u8],
+) -> Result<(), Stop> {
+    let witness = witness_of(alloc, nodes, text)?;
+    let verdict = judge_btor(alloc, nodes, &witness)?;
+    put_judged(out, &witness, verdict);
+    Ok(())
+}
+
+fn put_judged(out: &mut Answer, witness: &Witness, verdict: Verdict) {
     match verdict {
         Verdict::Yes => {
-            out.put(b"yes: bad ")?;
-            out.put_unsigned(u128::from(bad))?;
-            out.put(b" at step ")?;
-            out.put_unsigned(frames.saturating_sub(1) as u128)?;
+            out.put(b"yes: bad ");
+            out.put_unsigned(u128::from(witness.bad));
+            out.put(b" at step ");
+            out.put_unsigned(witness.frames.len().saturating_sub(1) as u128);
         }
         Verdict::No(step, clause) => {
-            out.put(b"no: step ")?;
-            out.put_unsigned(u128::from(step))?;
-            out.put(b": ")?;
-            out.put(clause_name(clause))?;
+            out.put(b"no: step ");
+            out.put_unsigned(u128::from(step));
+            out.put(b": ");
+            out.put_clause(clause);
         }
-    }
-    Ok(out)
-}
-
-fn clause_name(clause: Clause) -> &'static [u8] {
-    match clause {
-        Clause::ValueOutside => b"ValueOutside",
-        Clause::InitFails => b"InitFails",
-        Clause::TransFails => b"TransFails",
-        Clause::InvarFails => b"InvarFails",
-        Clause::AssumptionFails => b"AssumptionFails",
-        Clause::CurrentFails => b"CurrentFails",
-        Clause::StateDiffers => b"StateDiffers",
-        Clause::ConstraintFails => b"ConstraintFails",
-        Clause::NotBroken => b"NotBroken",
     }
 }

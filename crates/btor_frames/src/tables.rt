@@ -100,9 +100,7 @@ fn no_values(alloc: Global, n: usize) -> Result<Vec<Option<Arg>>, NoMemory>
 {
     let mut values = Vec::new(alloc);
     for _i in 0..n {
-        if values.push(None).is_err() {
-            return Err(NoMemory);
-        }
+        values.push(None)?;
     }
     Ok(values)
 }

@@ -8,13 +8,13 @@ use Rattle.btor_tree.specs.Shapes.{Shape}
 use Rattle.btor_tree.specs.Reading.{shape_of, shaped_next, resolved, next_of}
 use Rattle.btor_tree.specs.Resolving.{Fault, resolve}
 use Rattle.btor_tree.specs.Texts.{Next, nothing, good, faulty, IsNext, Reads, passed, line, Refuses, here, past_blank, past_line, SpellsLines, RefusesText}
+use Rattle.btor_tree.proofs.Fronts.{split_line}
 use Rattle.btor_tree.proofs.Readings.{next_there, one_list, no_list, one_fault}
 use Rattle.btor_tree.proofs.ShapeLaws.{shape_from}
 use Rattle.btor_tree.proofs.Resolved.{resolve_fits}
-use Rattle.btor_text.specs.Bytes.{split_line}
 use Rattle.btor_text.specs.Seen.{seen_fault}
-use Rattle.btor_text.specs.declared.read.BtorEnd.{BtorEnd}
-use Rattle.btor_text.specs.declared.read.BtorEnd.TheVariants.{Bad, NoMemory}
+use Rattle.text_core.specs.declared.end.End.{End}
+use Rattle.text_core.specs.declared.end.End.TheVariants.{Bad, NoMemory}
 use Rattle.btor_text.specs.declared.resolve.Fault as broken
 use Rattle.btor_text.specs.declared.read.LineEnd.{LineEnd}
 use Rattle.btor_text.specs.declared.read.LineEnd.TheVariants as end
@@ -53,12 +53,12 @@ pub refused_here : (n : ℕ) (before : List Line) (raw back : List ℕ) (k : Fau
 refused_here n before raw [] k e = here (next_from before (line_parts raw) (faulty k) e)
 refused_here n before raw (b ∷ last) k e = here (next_from before (line_parts raw) (faulty k) e)
 
-pub exact_from : (text : List ℕ) (r : Result (List Line) BtorEnd) → IfOk r (SpellsLines text) → IfErr r (IsRefused text) → (lines : List Line) → SpellsLines text lines → Gives lines r
+pub exact_from : (text : List ℕ) (r : Result (List Line) End) → IfOk r (SpellsLines text) → IfErr r (IsRefused text) → (lines : List Line) → SpellsLines text lines → Gives lines r
 exact_from text (Ok nodes) a b lines h = one_list a h refl
 exact_from text (Err (Bad why)) a b lines h = no_list h b.1 refl
 exact_from text (Err NoMemory) a b lines h = tt
 
-pub stops_from : (text : List ℕ) (r : Result (List Line) BtorEnd) → IfOk r (SpellsLines text) → IfErr r (IsRefused text) → (fault : Fault) (at : ℕ) → RefusesText text fault at → Stops fault at r
+pub stops_from : (text : List ℕ) (r : Result (List Line) End) → IfOk r (SpellsLines text) → IfErr r (IsRefused text) → (fault : Fault) (at : ℕ) → RefusesText text fault at → Stops fault at r
 stops_from text (Ok nodes) a b fault at h = no_list a h refl
 stops_from text (Err (Bad why)) a b fault at h =
     let one = one_fault b.1 h refl refl in

@@ -1,5 +1,3 @@
-mod Numbers
-mod Fronts
 mod Search
 mod MarkLaws
 mod Laws

@@ -6,8 +6,8 @@ use Rattle.btor_tree.specs.declared.lines.Line.{Line}
 use Rattle.btor_tree.specs.Resolving.{Fault, no_shape, not_supported, id_order, wide_sort, no_such_node, sort_clash, twice, init_late}
 use Rattle.btor_tree.specs.Texts.{Next, nothing, good, faulty, RefusesText}
 use Rattle.btor_text.specs.Seen.{seen_fault}
-use Rattle.btor_text.specs.declared.read.BtorEnd.{BtorEnd}
-use Rattle.btor_text.specs.declared.read.BtorEnd.TheVariants.{Bad, NoMemory}
+use Rattle.text_core.specs.declared.end.End.{End}
+use Rattle.text_core.specs.declared.end.End.TheVariants.{Bad, NoMemory}
 use Rattle.btor_text.specs.declared.read.LineEnd.{LineEnd}
 use Rattle.btor_text.specs.declared.read.LineEnd.TheVariants as end
 
@@ -23,19 +23,19 @@ kind_of twice = B 7
 kind_of init_late = B 8
 
 -- these lines, or want of memory
-abbrev pub Gives : List Line → Result (List Line) BtorEnd → Type 0
+abbrev pub Gives : List Line → Result (List Line) End → Type 0
 Gives lines (Ok nodes) = nodes ≡ lines
 Gives lines (Err (Bad r)) = ⊥
 Gives lines (Err NoMemory) = Unit {0}
 
 -- this fault at this line, or want of memory
-abbrev pub Stops : Fault → ℕ → Result (List Line) BtorEnd → Type 0
+abbrev pub Stops : Fault → ℕ → Result (List Line) End → Type 0
 Stops fault at (Ok nodes) = ⊥
 Stops fault at (Err (Bad r)) = (r.kind ≡ kind_of fault) × (r.place.line ≡ at) × (r.place.column ≡ 1)
 Stops fault at (Err NoMemory) = Unit {0}
 
 -- the text has this fault first, at this line; or memory ran out
-abbrev pub IsRefused : List ℕ → BtorEnd → Type 0
+abbrev pub IsRefused : List ℕ → End → Type 0
 IsRefused text (Bad r) = (fault : Fault) × RefusesText text fault r.place.line × (r.kind ≡ kind_of fault) × (r.place.column ≡ 1)
 IsRefused text NoMemory = Unit {0}
 

@@ -1,4 +1,3 @@
-pub mod Bytes
 pub mod Seen
 pub mod Marks
 pub mod Answer

@@ -62,9 +62,7 @@ impl Progress {
             init: false,
             next: false,
         };
-        if marks.push(mark).is_err() {
-            return Err(NoMemory);
-        }
+        marks.push(mark)?;
         note(&mut marks, &line.op, &line.args);
         let last = line.id;
         nodes.add(line)?;

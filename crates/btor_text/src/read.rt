@@ -9,21 +9,18 @@ ghost use Rattle.btor_tree.specs.Texts.{SpellsLines, RefusesText};
 ghost use Rattle.btor_text.specs.Seen.{seen_arguments, seen_fault, seen_shape, seen_symbol};
 ghost use Rattle.btor_text.specs.Answer.{Answers, Fails, Gives, IsRefused, IsResolved, Stops, Takes, kind_of};
 
-use crate::bytes::{clean, first_part, line_length};
+use crate::bytes::clean;
 use crate::progress::Progress;
 use crate::resolve::{Arguments, Body, Fault, resolve};
 use crate::shape::{Shape, shape_of};
-use btor_tree::{Args, Line, Nodes, one_arg, three_args, two_args};
+use btor_tree::{Args, Line, Nodes, first_part, line_length, one_arg, three_args, two_args};
 use std::alloc::Global;
-use text_core::{Kind, Name, NoMemory, Place, Refusal};
+use text_core::kinds::btor;
+use text_core::{End, Kind, Name, NoMemory, Place, Refusal};
 
 /// Why a text has no lines: the first line that can't follow the lines before it, or want of memory. The place of a
 /// refusal is the beginning of that line.
-#[derive(Debug, Drop)]
-pub enum BtorEnd {
-    Bad(Refusal),
-    NoMemory,
-}
+pub type BtorEnd = End;
 
 /// Why a line isn't taken.
 #[derive(Drop)]
@@ -136,14 +133,14 @@ fn kind_of(fault: Fault) -> Kind
     ensures { result ≡ kind_of (seen_fault fault) }
 {
     match fault {
-        Fault::NoShape => Kind::B(1),
-        Fault::IdOrder => Kind::B(2),
-        Fault::NoSuchNode => Kind::B(3),
-        Fault::SortClash => Kind::B(4),
-        Fault::NotSupported => Kind::B(5),
-        Fault::WideSort => Kind::B(6),
-        Fault::Twice => Kind::B(7),
-        Fault::InitLate => Kind::B(8),
+        Fault::NoShape => btor::LINE,
+        Fault::IdOrder => btor::ID_ORDER,
+        Fault::NoSuchNode => btor::NO_SUCH_NODE,
+        Fault::SortClash => btor::SORT_CLASH,
+        Fault::NotSupported => btor::NOT_SUPPORTED,
+        Fault::WideSort => btor::WIDTH,
+        Fault::Twice => btor::TWICE,
+        Fault::InitLate => btor::INIT_LATE,
     }
 }
 
@@ -181,9 +178,9 @@ fn nodes_of(alloc: Global, text: &[u8]) -> Result<Nodes, BtorEnd>
             Err(end) => match end {
                 LineEnd::Bad(fault) => {
                     let offset = (text.len() - rest.len()) as u32;
-                    return Err(BtorEnd::Bad(refusal(fault, number, offset)));
+                    return Err(End::Bad(refusal(fault, number, offset)));
                 }
-                LineEnd::NoMemory => return Err(BtorEnd::NoMemory),
+                LineEnd::NoMemory => return Err(End::NoMemory),
             },
         }
         let Some((_, last)) = more.split_first() else {

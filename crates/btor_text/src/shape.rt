@@ -5,11 +5,11 @@ ghost use Rattle.btor_tree.specs.Shapes.{operand_of};
 ghost use Rattle.btor_tree.specs.Reading.{sort_args, source_args, constant_args, binding_args, property_args, unary_args, binary_args, ite_args, slice_args, extension_args, content_at, content_of, shaped, shape_of};
 ghost use Rattle.btor_text.specs.Seen.{seen_base, seen_binding, seen_content, seen_extension, seen_operand, seen_property, seen_read, seen_shape, seen_source, seen_word};
 
-use crate::bytes::{first_part, is_symbol, numeral};
+use crate::bytes::is_symbol;
 use crate::word::{
     Base, Binding, Extension, LineWord, Property, Source, is_literal, is_unsupported, word_of,
 };
-use btor_tree::GREATEST_ID;
+use btor_tree::{GREATEST_ID, first_part, numeral};
 use word_core::{Binary, Unary};
 
 /// A line by its id, or the bitwise not of its word.

@@ -5,6 +5,7 @@ pub mod Widths
 pub mod Rows
 pub mod Paths
 pub mod Numerals
+pub mod Fronts
 pub mod Literals
 pub mod PartLaws
 pub mod ShapeLaws

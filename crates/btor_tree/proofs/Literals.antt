@@ -10,7 +10,7 @@ use Rattle.word_core.specs.declared.word.TheConstants.{WIDEST}
 use Rattle.word_core.specs.declared.kinds.Unary.TheVariants.{Neg}
 use Rattle.word_core.specs.Table.{unary_of}
 use Rattle.word_core.specs.Digits.{digit_number, number_after, digits_value, fitted, read_word}
-use Rattle.word_core.proofs.Rows.{unary_is_word}
+use Rattle.word_core.specs.laws.Rows.{unary_is_word}
 use Rattle.btor_tree.specs.Parts.{is_symbol_byte, all_symbol, is_symbol}
 use Rattle.btor_tree.specs.Shapes.{Base, in_binary, in_decimal, in_hex, all_of_base, are_digits, is_negative, magnitude_of}
 use Rattle.btor_tree.specs.Resolving.{minus_word, literal_word}

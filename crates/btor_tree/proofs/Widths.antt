@@ -6,7 +6,7 @@ use Rattle.std.proofs.Math.Nat.{one-le-pow, pow-le-pow_right, mod-lt}
 use Rattle.word_core.specs.Words.{BitVector, IsWord}
 use Rattle.word_core.specs.declared.word.TheConstants.{WIDEST}
 use Rattle.word_core.specs.Table.{BinaryFits, unary_width, binary_width, is_minus, slice_of, uext_of, sext_of}
-use Rattle.word_core.proofs.Rows.{unary_is_word, binary_is_word, uext_is_word, sext_is_word}
+use Rattle.word_core.specs.laws.Rows.{unary_is_word, binary_is_word, uext_is_word, sext_is_word}
 use Rattle.btor_tree.specs.declared.args.Arg.{Arg}
 use Rattle.btor_tree.specs.declared.lines.Line.{Line}
 use Rattle.btor_tree.specs.declared.lines.LineOp.{LineOp}

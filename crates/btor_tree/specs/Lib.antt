@@ -2,6 +2,7 @@ pub mod Fits
 pub mod Frame
 pub mod Held
 pub mod Parts
+pub mod Bytes
 pub mod Shapes
 pub mod Resolving
 pub mod Texts

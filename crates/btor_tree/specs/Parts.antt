@@ -1,4 +1,4 @@
--- Lines, parts and numerals of a BTOR2 text (BTOR2, CAV 2018, section 2 and figure 1).
+-- Lines, parts and numerals of a BTOR2 text, of lines or of a witness (BTOR2, CAV 2018, section 2 and figure 1).
 use Rattle.std.specs.Prelude.{◌==◌, ◌+◌, ◌-◌, ◌*◌, ◌^◌, ℕ, min, Bool, true, false, not, ◌&&◌, ◌||◌, nat_le, if◌then◌else◌, Option, Some, None, List, [], ◌∷◌}
 
 -- a list of byte lists
@@ -70,7 +70,8 @@ abbrev pub value_after : ℕ → List ℕ → ℕ
 value_after n [] = n
 value_after n (b ∷ bs) = value_after (10 * n + (b - 48)) bs
 
--- no id and no width is as large, so that all numbers from here on are as good as one
+-- no id and no width is as large, no list has so many lines of a kind and no witness so many frames, so that all numbers
+-- from here on are as good as one
 abbrev pub cap : ℕ
 cap = 2 ^ 31
 

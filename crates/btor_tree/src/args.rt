@@ -2,7 +2,7 @@
 ghost use Rattle.std.specs.Prelude.{◌≡◌, [], ◌∷◌, false, IfOk};
 
 use std::alloc::Global;
-use text_core::{Items, NoMemory};
+use text_core::{List, NoMemory};
 
 /// An earlier line by its place, counted from 0, or the bitwise not of its word.
 #[derive(Clone, Copy, PartialEq, Eq)]
@@ -12,7 +12,7 @@ pub struct Arg {
 }
 
 /// A list of arguments.
-pub type Args = Items<Arg>;
+pub type Args = List<Arg>;
 
 /// The word of the line at a place, as it is.
 pub fn plain_arg(line: u32) -> Arg

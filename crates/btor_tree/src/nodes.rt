@@ -53,9 +53,7 @@ impl Nodes {
         let inputs = self.inputs + one_where(matches!(line.op, LineOp::Input));
         let states = self.states + one_where(matches!(line.op, LineOp::State));
         let bads = self.bads + one_where(matches!(line.op, LineOp::Bad));
-        if self.items.push(line).is_err() {
-            return Err(NoMemory);
-        }
+        self.items.push(line)?;
         self.inputs = inputs;
         self.states = states;
         self.bads = bads;

@@ -18,7 +18,7 @@ use Rattle.btor_witness.specs.declared.reader.TheConstants.{MOST_FRAMES, MOST_WO
 use Rattle.btor_witness.specs.declared.witness.Stated.{Stated}
 use Rattle.btor_witness.specs.declared.witness.Frame.{Frame}
 use Rattle.btor_witness.specs.declared.witness.Witness.{Witness}
-use Rattle.btor_witness.specs.Bytes.{Parts, all_digits, numeral, cap, all_binary, word_of, line_parts, raw_lines}
+use Rattle.btor_witness.specs.Bytes.{all_binary, word_of, line_parts}
 use Rattle.btor_witness.specs.declared.read.TheConstants.{MOST_BYTES}
 use Rattle.btor_witness.specs.Sizes.{Sizes, is_within, sizes_of, widths_of}
 use Rattle.btor_witness.specs.Shapes.{Spells}
@@ -29,9 +29,10 @@ use Rattle.btor_witness.specs.Printing.{IsOf, IsPart, IsWitness, value_of, one_s
 use Rattle.btor_tree.specs.declared.lines.Line.{Line}
 use Rattle.btor_tree.specs.declared.lines.LineOp.{LineOp}
 use Rattle.btor_tree.specs.Fits.{IsWellFormed, is_bad, is_state, is_input}
+use Rattle.btor_tree.specs.Parts.{Parts, all_digits, numeral, cap, raw_lines}
 use Rattle.btor_tree.proofs.Grows.{slice_get_inside, counts_small}
+use Rattle.btor_tree.proofs.Numerals.{numeral_again, decimal_digits}
 use Rattle.btor_witness.proofs.Tables.{length_widths}
-use Rattle.btor_witness.proofs.Numerals.{numeral_again, decimal_digits}
 use Rattle.btor_witness.proofs.Plain.{all_solid, all_free, free_from, free_append, line_at, one_part, two_parts, binary_solid, digits_binary, digits_long, word_again, decimal_solid, digits_read}
 
 -- a line of the text that does this

@@ -1,47 +1,8 @@
--- Lines and parts, front by front.
-use Rattle.std.proofs.Common.{◌≡◌, ◌+◌, ℕ, suc, Bool, true, false, eqb, List, [], ◌∷◌, ◌++◌, take, drop, refl, sym, ap, ◌∙◌, subst, add-one, inl, inr}
-use Rattle.std.proofs.lemmas.Bool.{cond-true, cond-false, cases_Bool}
-use Rattle.btor_witness.specs.Bytes.{is_blank, parts, onto_part, part_length, line_length, onto_line, raw_lines, split_line, front_line, without_return}
+-- The CR at the end of a line.
+use Rattle.std.proofs.Common.{◌≡◌, ℕ, true, false, eqb, List, [], ◌∷◌, ◌++◌, ap}
+use Rattle.std.proofs.lemmas.Bool.{cond-true, cond-false}
+use Rattle.btor_witness.specs.Bytes.{without_return}
 
-front_step : (t : Bool) (b c : ℕ) (bs : List ℕ) (n : ℕ) → (t ≡ true → n ≡ 0) → (t ≡ false → parts (c ∷ bs) ≡ take n (c ∷ bs) ∷ parts (drop n (c ∷ bs)))
-    → onto_part b t (parts (c ∷ bs)) ≡ take (suc n) (b ∷ (c ∷ bs)) ∷ parts (drop (suc n) (b ∷ (c ∷ bs)))
-front_step true b c bs n e ih = ap (λ k. take (suc k) (b ∷ (c ∷ bs)) ∷ parts (drop (suc k) (b ∷ (c ∷ bs)))) (sym (e refl))
-front_step false b c bs n e ih = ap (onto_part b false) (ih refl)
-
--- the first part of a line that doesn't begin with a blank
-pub parts_front : (b : ℕ) (bs : List ℕ) → is_blank b ≡ false → parts (b ∷ bs) ≡ take (part_length (b ∷ bs)) (b ∷ bs) ∷ parts (drop (part_length (b ∷ bs)) (b ∷ bs))
-parts_front b [] e = rw e refl
-parts_front b (c ∷ bs) e =
-    let n = part_length (c ∷ bs) in
-    let size : part_length (b ∷ (c ∷ bs)) ≡ suc n = cond-false (is_blank b) 0 (n + 1) e ∙ add-one n in
-    cond-false (is_blank b) (parts (c ∷ bs)) (onto_part b (is_blank c) (parts (c ∷ bs))) e
-    ∙ front_step (is_blank c) b c bs n (cond-true (is_blank c) 0 (part_length bs + 1)) (λ f. parts_front c bs f)
-    ∙ ap (λ k. take k (b ∷ (c ∷ bs)) ∷ parts (drop k (b ∷ (c ∷ bs)))) (sym size)
-
-pub part_cut : (rest part last : List ℕ) (b : ℕ) (more : List ℕ) (n : ℕ) → rest ≡ b ∷ more → is_blank b ≡ false → n ≡ part_length rest → part ≡ take n rest → last ≡ drop n rest → parts rest ≡ part ∷ parts last
-part_cut rest part last b more n e blank size p l =
-    let front : parts rest ≡ take (part_length rest) rest ∷ parts (drop (part_length rest) rest) =
-    subst (λ (x : List ℕ). parts x ≡ take (part_length x) x ∷ parts (drop (part_length x) x)) (sym e) (parts_front b more blank) in
-    cc
-
--- the first line of a text
-onto_split : (b : ℕ) (l rest : List ℕ) → onto_line b (split_line l rest) ≡ split_line (b ∷ l) rest
-onto_split b l [] = refl
-onto_split b l (c ∷ rest) = refl
-
-pub lines_front : (text : List ℕ) → raw_lines text ≡ front_line text (line_length text)
-lines_front [] = refl
-lines_front (b ∷ bs) =
-    elim (cases_Bool (eqb b 10)) [
-      | inl t ↦ cond-true (eqb b 10) _ _ t ∙ sym (ap (front_line (b ∷ bs)) (cond-true (eqb b 10) 0 (line_length bs + 1) t))
-      | inr f ↦ cond-false (eqb b 10) ([] ∷ raw_lines bs) (onto_line b (raw_lines bs)) f ∙ ap (onto_line b) (lines_front bs) ∙ onto_split b (take (line_length bs) bs) (drop (line_length bs) bs)
-          ∙ ap (front_line (b ∷ bs)) (sym (cond-false (eqb b 10) 0 (line_length bs + 1) f ∙ add-one (line_length bs)))
-    ]
-
-pub rest_lines : (rest raw back : List ℕ) (n : ℕ) → n ≡ line_length rest → raw ≡ take n rest → back ≡ drop n rest → raw_lines rest ≡ split_line raw back
-rest_lines rest raw back n e f g = let h = lines_front rest in cc
-
--- the end of a line
 pub return_off : (front : List ℕ) (b : ℕ) → eqb b 13 ≡ true → without_return (front ++ b ∷ []) ≡ front
 return_off [] b e = cond-true (eqb b 13) [] (b ∷ []) e
 return_off (c ∷ []) b e = ap (λ x. c ∷ x) (return_off [] b e)

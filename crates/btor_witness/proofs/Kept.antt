@@ -7,6 +7,7 @@ use Rattle.std.proofs.lemmas.Bool.{and_from, le-leb, leb-true, ltb-true, eqb-tru
 use Rattle.text_core.specs.declared.place.Kind.{Kind}
 use Rattle.word_core.specs.Words.{BitVector, IsWord}
 use Rattle.word_core.specs.declared.word.TheConstants.{WIDEST}
+use Rattle.btor_tree.specs.Parts.{Parts}
 use Rattle.btor_witness.specs.declared.phase.Phase.{Phase}
 use Rattle.btor_witness.specs.declared.phase.Phase.TheVariants as phase
 use Rattle.btor_witness.specs.declared.shape.Shape.{Shape}
@@ -15,8 +16,8 @@ use Rattle.btor_witness.specs.declared.reader.TheConstants.{MOST_FRAMES, MOST_WO
 use Rattle.btor_witness.specs.declared.witness.Stated.{Stated}
 use Rattle.btor_witness.specs.declared.witness.Frame.{Frame}
 use Rattle.btor_witness.specs.declared.witness.Witness.{Witness}
-use Rattle.btor_witness.specs.declared.witness.WitnessEnd.{WitnessEnd}
-use Rattle.btor_witness.specs.Bytes.{Parts, all_binary, bits_after, word_of}
+use Rattle.text_core.specs.declared.end.End.{End as WitnessEnd}
+use Rattle.btor_witness.specs.Bytes.{all_binary, bits_after, word_of}
 use Rattle.btor_witness.specs.Sizes.{Sizes, is_within}
 use Rattle.btor_witness.specs.Shapes.{Spells}
 use Rattle.btor_witness.specs.Parts.{is_stated, with_word, with_width, stating}

@@ -1,15 +1,11 @@
-pub mod Numerals
 pub mod Binary
 pub mod Cuts
 pub mod Marks
 pub mod Widths
-pub mod Shapes
-pub mod Laws
 pub mod Tables
 pub mod Statements
 pub mod Places
 pub mod Judgement
-pub mod Verdicts
 pub mod Plain
 pub mod Again
 pub mod Kept

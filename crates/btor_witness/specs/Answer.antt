@@ -7,8 +7,8 @@ use Rattle.btor_witness.specs.declared.ends.LineEnd.{LineEnd}
 use Rattle.btor_witness.specs.declared.ends.LineEnd.TheVariants as end
 use Rattle.btor_witness.specs.declared.witness.Stated.{Stated}
 use Rattle.btor_witness.specs.declared.witness.Witness.{Witness}
-use Rattle.btor_witness.specs.declared.witness.WitnessEnd.{WitnessEnd}
-use Rattle.btor_witness.specs.declared.witness.WitnessEnd.TheVariants.{Bad, NoMemory}
+use Rattle.text_core.specs.declared.end.End.{End}
+use Rattle.text_core.specs.declared.end.End.TheVariants.{Bad, NoMemory}
 use Rattle.btor_witness.specs.Sizes.{Sizes}
 use Rattle.btor_witness.specs.Reading.{Reading, Next, nothing, moves, done, bad}
 use Rattle.btor_witness.specs.Texts.{RefusesText, RefusesWitness, line_start}
@@ -18,19 +18,19 @@ abbrev pub IsAt : List ℕ → Refusal → Kind → ℕ → Type 0
 IsAt text refusal kind at = (refusal.kind ≡ kind) × (refusal.place ≡ line_start text at)
 
 -- this witness, or want of memory
-abbrev pub Gives : Witness → Result Witness WitnessEnd → Type 0
+abbrev pub Gives : Witness → Result Witness End → Type 0
 Gives w (Ok witness) = witness ≡ w
 Gives w (Err (Bad refusal)) = ⊥
 Gives w (Err NoMemory) = Unit {0}
 
 -- this refusal, or want of memory
-abbrev pub Stops : List ℕ → Kind → ℕ → Result Witness WitnessEnd → Type 0
+abbrev pub Stops : List ℕ → Kind → ℕ → Result Witness End → Type 0
 Stops text kind at (Ok witness) = ⊥
 Stops text kind at (Err (Bad refusal)) = IsAt text refusal kind at
 Stops text kind at (Err NoMemory) = Unit {0}
 
 -- the refusal is the text's
-abbrev pub IsRefused : List Line → List ℕ → WitnessEnd → Type 0
+abbrev pub IsRefused : List Line → List ℕ → End → Type 0
 IsRefused lines text (Bad refusal) = RefusesWitness lines text refusal.kind refusal.place.line × (refusal.place ≡ line_start text refusal.place.line)
 IsRefused lines text NoMemory = Unit {0}
 
@@ -60,6 +60,6 @@ Added stating new (Err (end.Bad kind)) = stating ≡ Err kind
 Added stating new (Err end.NoMemory) = Unit {0}
 
 -- the refusal is that of a line of the text
-abbrev pub IsRefusedLine : Sizes → List ℕ → WitnessEnd → Type 0
+abbrev pub IsRefusedLine : Sizes → List ℕ → End → Type 0
 IsRefusedLine sizes text (Bad refusal) = RefusesText sizes text refusal.kind refusal.place.line × (refusal.place ≡ line_start text refusal.place.line)
 IsRefusedLine sizes text NoMemory = Unit {0}

@@ -9,3 +9,4 @@ pub mod Answer
 pub mod Printing
 pub mod Judging
 pub mod Room
+pub mod laws

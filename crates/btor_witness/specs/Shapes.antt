@@ -1,18 +1,15 @@
 -- What one line of a witness says by itself (BTOR2, CAV 2018, witness format).
 use Rattle.std.specs.Prelude.{◌≡◌, ◌==◌, ℕ, Bool, true, false, List, [], ◌∷◌, Option, Some, None, if◌then◌else◌, codes}
 use Rattle.std.specs.Str.{bytes_eq}
+use Rattle.btor_tree.specs.Parts.{Parts, numeral}
+use Rattle.btor_tree.specs.Shapes.{symbol_parts}
 use Rattle.btor_witness.specs.declared.shape.Shape.{Shape}
 use Rattle.btor_witness.specs.declared.shape.Shape.TheVariants.{Sat, Property, Justice, States, Inputs, End, Assignment}
-use Rattle.btor_witness.specs.Bytes.{Parts, numeral, all_binary, word_of}
+use Rattle.btor_witness.specs.Bytes.{all_binary, word_of}
 
 -- a part that is a byte and then a number
 abbrev pub IsMarked : ℕ → ℕ → Parts → Type 0
 IsMarked mark n ps = (digits : List ℕ) × (ps ≡ (mark ∷ digits) ∷ []) × (numeral digits ≡ Some n)
-
--- a symbol, where there is one
-abbrev pub symbol_parts : Option (List ℕ) → Parts
-symbol_parts None = []
-symbol_parts (Some s) = s ∷ []
 
 -- The parts of a line spell a shape.
 abbrev pub Spells : Shape → Parts → Type 0

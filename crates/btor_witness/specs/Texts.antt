@@ -3,11 +3,12 @@ use Rattle.std.specs.Prelude.{◌≡◌, ◌⊎◌, ℕ, zero, suc, ◌+◌, ◌
 use Rattle.text_core.specs.declared.place.Kind.{Kind}
 use Rattle.text_core.specs.declared.place.Place.{Place}
 use Rattle.btor_tree.specs.declared.lines.Line.{Line}
+use Rattle.btor_tree.specs.Parts.{Parts, raw_lines}
 use Rattle.btor_witness.specs.declared.shape.Shape.{Shape}
 use Rattle.btor_witness.specs.declared.witness.Witness.{Witness}
-use Rattle.btor_witness.specs.declared.ends.TheConstants.{NO_SHAPE, UNENDED, TOO_LONG}
+use Rattle.text_core.specs.declared.kinds.witness.TheConstants.{LINE, UNENDED, TOO_LONG}
 use Rattle.btor_witness.specs.declared.read.TheConstants.{MOST_BYTES}
-use Rattle.btor_witness.specs.Bytes.{Parts, line_parts, raw_lines}
+use Rattle.btor_witness.specs.Bytes.{line_parts}
 use Rattle.btor_witness.specs.Sizes.{Sizes, sizes_of}
 use Rattle.btor_witness.specs.Shapes.{Spells, shape_of, is_passed}
 use Rattle.btor_witness.specs.Reading.{Reading, begin, Next, nothing, moves, done, bad, step}
@@ -16,7 +17,7 @@ use Rattle.btor_witness.specs.Reading.{Reading, begin, Next, nothing, moves, don
 pub data IsNext : Sizes → Reading → Parts → Next → Type 0 where
   passed : {sizes : Sizes} {r : Reading} {ps : Parts} → is_passed ps ≡ true → IsNext sizes r ps nothing
   spelled : {sizes : Sizes} {r : Reading} {ps : Parts} (shape : Shape) → is_passed ps ≡ false → Spells shape ps → IsNext sizes r ps (step sizes r shape)
-  shapeless : {sizes : Sizes} {r : Reading} {ps : Parts} → is_passed ps ≡ false → ((shape : Shape) → Spells shape ps → ⊥) → IsNext sizes r ps (bad NO_SHAPE)
+  shapeless : {sizes : Sizes} {r : Reading} {ps : Parts} → is_passed ps ≡ false → ((shape : Shape) → Spells shape ps → ⊥) → IsNext sizes r ps (bad LINE)
 
 -- From here on the lines spell the witness. What stands behind its end is left unread.
 pub data Reads : Sizes → Reading → List (List ℕ) → Witness → Type 0 where
@@ -64,7 +65,7 @@ RefusesWitness lines text kind at =
 
 -- the same of one line by reading
 abbrev pub shaped_next : Sizes → Reading → Option Shape → Next
-shaped_next sizes r None = bad NO_SHAPE
+shaped_next sizes r None = bad LINE
 shaped_next sizes r (Some shape) = step sizes r shape
 
 unfoldable pub next_of : Sizes → Reading → Parts → Next

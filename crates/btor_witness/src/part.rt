@@ -4,18 +4,19 @@ ghost use Rattle.btor_witness.specs.Parts.{PartState, stating, is_stated};
 ghost use Rattle.btor_witness.specs.Held.{IsCleared, AreStatedAt, AreMarked};
 ghost use Rattle.btor_witness.specs.Answer.{Added};
 
-use crate::ends::{LineEnd, NO_INDEX, WRONG_WIDTH};
+use crate::ends::LineEnd;
 use crate::witness::{Stated, Stateds};
 use std::alloc::Global;
 use std::marker::Model;
 use std::mem;
-use text_core::{Items, NoMemory};
+use text_core::kinds::witness;
+use text_core::{List, NoMemory};
 use word_core::Word;
 
 /// The widths that a part is stated over, which of them are stated, and what is stated so far.
 #[derive(Drop)]
 pub struct Part {
-    widths: Items<u32>,
+    widths: List<u32>,
     marks: Vec<bool>,
     stated: Stateds,
 }
@@ -33,12 +34,10 @@ impl Model for Part {
 
 impl Part {
     /// Nothing is stated yet.
-    pub fn new(alloc: Global, widths: Items<u32>) -> Result<Part, NoMemory>
+    pub fn new(alloc: Global, widths: List<u32>) -> Result<Part, NoMemory>
         ensures { IfOk result (λ p. p ≡ record { widths = widths; stated = [] }) }
     {
-        let Ok(marks) = vec![in alloc; false; widths.len()] else {
-            return Err(NoMemory);
-        };
+        let marks = vec![in alloc; false; widths.len()]?;
         Ok(Part {
             widths,
             marks,
@@ -60,13 +59,13 @@ impl Part {
     {
         let place = index as usize;
         if place >= self.widths.len() || self.marks[place] {
-            return Err(LineEnd::Bad(NO_INDEX));
+            return Err(LineEnd::Bad(witness::INDEX));
         }
         let Some(value) = word else {
-            return Err(LineEnd::Bad(WRONG_WIDTH));
+            return Err(LineEnd::Bad(witness::WIDTH));
         };
         if value.width() != *self.widths.at(place) {
-            return Err(LineEnd::Bad(WRONG_WIDTH));
+            return Err(LineEnd::Bad(witness::WIDTH));
         }
         self.stated.push(Stated { index, value })?;
         self.marks[place] = true;

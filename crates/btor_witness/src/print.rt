@@ -16,9 +16,7 @@ fn table_of(alloc: Global, stated: &Stateds, count: u32) -> Result<Vec<Option<Wo
     requires { AllByRecursion (IsBelow count) stated.now }
     ensures { IfOk result (λ table. TableOf stated.now count table.items) }
 {
-    let Ok(mut table) = vec![in alloc; None; count as usize] else {
-        return Err(NoMemory);
-    };
+    let mut table = vec![in alloc; None; count as usize]?;
     for i in 0..stated.len() {
         let stated = stated.at(i);
         table[stated.index as usize] = Some(stated.value);

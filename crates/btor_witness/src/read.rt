@@ -8,33 +8,22 @@ ghost use Rattle.btor_witness.specs.Printing.{IsWitness};
 ghost use Rattle.btor_witness.specs.Texts.{ReadsText, RefusesText, SpellsWitness, RefusesWitness};
 ghost use Rattle.btor_witness.specs.Answer.{Gives, Stops, IsRefused, IsRefusedLine};
 
-use crate::bytes::line_length;
-use crate::ends::{LineEnd, TOO_LONG, UNENDED};
+use crate::ends::LineEnd;
 use crate::reader::Reader;
 use crate::witness::{Witness, WitnessEnd};
-use btor_tree::Nodes;
+use btor_tree::{Nodes, line_length};
 use std::alloc::Global;
-use text_core::{Kind, NoMemory, Place, Refusal};
+use text_core::kinds::witness;
+use text_core::{End, Kind, Place, Refusal};
 
 /// The most bytes of a witness's text.
 pub const MOST_BYTES: usize = 67108864;
 
-impl From<NoMemory> for WitnessEnd {
-    ghost use Rattle.std.specs.Prelude.{◌≡◌};
-    ghost use Rattle.btor_witness.specs.declared.witness.WitnessEnd.TheVariants.{NoMemory};
-
-    ghost from_gives = { λ _ e. e ≡ NoMemory };
-
-    fn from(_: NoMemory) -> WitnessEnd {
-        WitnessEnd::NoMemory
-    }
-}
-
 // The refusal at the start of a line.
 fn refused(kind: Kind, line: u32, offset: u32) -> WitnessEnd
-    ensures { result ≡ WitnessEnd.Bad (record { kind = kind; place = record { line = line; column = 1; offset = offset } }) }
+    ensures { result ≡ End.Bad (record { kind = kind; place = record { line = line; column = 1; offset = offset } }) }
 {
-    WitnessEnd::Bad(Refusal {
+    End::Bad(Refusal {
         kind,
         place: Place {
             line,
@@ -65,11 +54,11 @@ fn read_lines(alloc: Global, nodes: &Nodes, text: &[u8]) -> Result<Witness, Witn
             }
             Err(end) => match end {
                 LineEnd::Bad(kind) => return Err(refused(kind, number, offset)),
-                LineEnd::NoMemory => return Err(WitnessEnd::NoMemory),
+                LineEnd::NoMemory => return Err(End::NoMemory),
             },
         }
         let Some((_, last)) = more.split_first() else {
-            return Err(refused(UNENDED, number, offset))
+            return Err(refused(witness::UNENDED, number, offset))
         };
         rest = last;
     }
@@ -94,7 +83,7 @@ pub fn read_witness(alloc: Global, nodes: &Nodes, text: &[u8]) -> Result<Witness
     ensures stops { (kind : Kind) (at : ℕ) → RefusesWitness nodes.now text.now kind at → Stops text.now kind at result }
 {
     if text.len() > MOST_BYTES {
-        return Err(refused(TOO_LONG, 1, 0));
+        return Err(refused(witness::TOO_LONG, 1, 0));
     }
     read_lines(alloc, nodes, text)
 }

@@ -1,14 +1,14 @@
 // The reader of a witness, line by line.
 ghost use Rattle.std.specs.Prelude.{◌≡◌, ◌<◌, ◌≤◌, ◌++◌, ◌∷◌, [], length, map, IfOk, OnOk, OnErr};
 ghost use Rattle.btor_tree.specs.Fits as fits;
-ghost use Rattle.btor_witness.specs.Bytes.{line_parts, parts};
+ghost use Rattle.btor_witness.specs.Bytes.{line_parts};
 ghost use Rattle.btor_witness.specs.Sizes.{sizes_of, widths_of, is_within};
 ghost use Rattle.btor_witness.specs.Reading.{Reading, begin, frames_of, sat_line, property_line, justice_line, new_frame, states_line, inputs_line, assignment_line, end_line, step};
 ghost use Rattle.btor_witness.specs.Texts.{next_of};
 ghost use Rattle.btor_witness.specs.Answer.{ReaderState, Steps, Takes};
 
 use crate::bytes::without_return;
-use crate::ends::{FRAME_ORDER, JUSTICE, LineEnd, NO_BAD, NO_SHAPE, TOO_LONG};
+use crate::ends::LineEnd;
 use crate::part::Part;
 use crate::phase::Phase;
 use crate::shape::{Shape, is_passed, shape_of};
@@ -16,7 +16,8 @@ use crate::witness::{Frame, FrameList, Witness};
 use btor_tree::{LineOp, Nodes};
 use std::alloc::Global;
 use std::marker::Model;
-use text_core::{Items, NoMemory};
+use text_core::kinds::witness;
+use text_core::{List, NoMemory};
 use word_core::Word;
 
 /// The most frames of a witness.
@@ -71,7 +72,7 @@ impl Reader {
         }
         match shape_of(line) {
             Some(shape) => self.step(alloc, shape),
-            None => Err(LineEnd::Bad(NO_SHAPE)),
+            None => Err(LineEnd::Bad(witness::LINE)),
         }
     }
 
@@ -109,7 +110,7 @@ impl Reader {
                 self.phase = Phase::Property;
                 Ok(false)
             }
-            _ => Err(LineEnd::Bad(NO_SHAPE)),
+            _ => Err(LineEnd::Bad(witness::LINE)),
         }
     }
 
@@ -120,13 +121,13 @@ impl Reader {
         match self.phase {
             Phase::Property => {
                 if number >= self.bads {
-                    return Err(LineEnd::Bad(NO_BAD));
+                    return Err(LineEnd::Bad(witness::NO_BAD));
                 }
                 self.bad = number;
                 self.phase = Phase::Heading;
                 Ok(false)
             }
-            _ => Err(LineEnd::Bad(NO_SHAPE)),
+            _ => Err(LineEnd::Bad(witness::LINE)),
         }
     }
 
@@ -134,8 +135,8 @@ impl Reader {
         ensures { Steps (justice_line self.now.reading.phase) self.now.reading result }
     {
         match self.phase {
-            Phase::Property => Err(LineEnd::Bad(JUSTICE)),
-            _ => Err(LineEnd::Bad(NO_SHAPE)),
+            Phase::Property => Err(LineEnd::Bad(witness::JUSTICE)),
+            _ => Err(LineEnd::Bad(witness::LINE)),
         }
     }
 
@@ -144,8 +145,8 @@ impl Reader {
         ensures next { Steps (states_line self.old.sizes number self.old.reading.phase self.old.reading) self.new.reading result }
     {
         match self.phase {
-            Phase::Start => Err(LineEnd::Bad(NO_SHAPE)),
-            Phase::Property => Err(LineEnd::Bad(NO_SHAPE)),
+            Phase::Start => Err(LineEnd::Bad(witness::LINE)),
+            Phase::Property => Err(LineEnd::Bad(witness::LINE)),
             _ => self.new_frame(alloc, Phase::States, number),
         }
     }
@@ -155,8 +156,8 @@ impl Reader {
         ensures next { Steps (inputs_line self.old.sizes number self.old.reading.phase self.old.reading) self.new.reading result }
     {
         match self.phase {
-            Phase::Start => Err(LineEnd::Bad(NO_SHAPE)),
-            Phase::Property => Err(LineEnd::Bad(NO_SHAPE)),
+            Phase::Start => Err(LineEnd::Bad(witness::LINE)),
+            Phase::Property => Err(LineEnd::Bad(witness::LINE)),
             Phase::States => {
                 if number as usize == self.frames.len() {
                     self.phase = Phase::Inputs;
@@ -175,10 +176,10 @@ impl Reader {
     {
         self.close(alloc)?;
         if number as usize != self.frames.len() {
-            return Err(LineEnd::Bad(FRAME_ORDER));
+            return Err(LineEnd::Bad(witness::FRAME_ORDER));
         }
         if !self.is_within(u64::from(number) + 1) {
-            return Err(LineEnd::Bad(TOO_LONG));
+            return Err(LineEnd::Bad(witness::TOO_LONG));
         }
         self.phase = part;
         Ok(false)
@@ -211,7 +212,7 @@ impl Reader {
                 self.inputs.state(index, word)?;
                 Ok(false)
             }
-            _ => Err(LineEnd::Bad(NO_SHAPE)),
+            _ => Err(LineEnd::Bad(witness::LINE)),
         }
     }
 
@@ -228,7 +229,7 @@ impl Reader {
                 self.close(alloc)?;
                 Ok(true)
             }
-            _ => Err(LineEnd::Bad(NO_SHAPE)),
+            _ => Err(LineEnd::Bad(witness::LINE)),
         }
     }
 
@@ -254,10 +255,10 @@ fn is_input(op: &LineOp) -> bool
 
 // The widths of the states, in order.
 #[tactic(auto, using(btor_tree::proofs::Grows::lines_short))]
-pub fn state_widths(alloc: Global, nodes: &Nodes) -> Result<Items<u32>, NoMemory>
+pub fn state_widths(alloc: Global, nodes: &Nodes) -> Result<List<u32>, NoMemory>
     ensures { IfOk result (λ widths. widths ≡ widths_of fits.is_state nodes.now) }
 {
-    let mut widths = Items::new(alloc);
+    let mut widths = List::new(alloc);
     for i in 0..nodes.len() {
         if is_state(&nodes.at(i).op) {
             widths.push(nodes.width_of(i as u32))?;
@@ -268,10 +269,10 @@ pub fn state_widths(alloc: Global, nodes: &Nodes) -> Result<Items<u32>, NoMemory
 
 // The widths of the inputs, in order.
 #[tactic(auto, using(btor_tree::proofs::Grows::lines_short))]
-pub fn input_widths(alloc: Global, nodes: &Nodes) -> Result<Items<u32>, NoMemory>
+pub fn input_widths(alloc: Global, nodes: &Nodes) -> Result<List<u32>, NoMemory>
     ensures { IfOk result (λ widths. widths ≡ widths_of fits.is_input nodes.now) }
 {
-    let mut widths = Items::new(alloc);
+    let mut widths = List::new(alloc);
     for i in 0..nodes.len() {
         if is_input(&nodes.at(i).op) {
             widths.push(nodes.width_of(i as u32))?;

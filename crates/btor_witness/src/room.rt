@@ -17,7 +17,7 @@ use crate::witness::{Frame, Stateds};
 use btor_frames::{Frames, Words};
 use btor_tree::Nodes;
 use std::alloc::Global;
-use text_core::{Clause, Items, NoMemory};
+use text_core::{Clause, List, NoMemory};
 use word_core::Word;
 
 /// The current frame, a word for each input and each state that is zero between two steps, and the places of the state
@@ -27,7 +27,7 @@ pub struct Room {
     frames: Frames,
     inputs: Words,
     free: Words,
-    places: Items<u32>,
+    places: List<u32>,
 }
 
 impl Room {
@@ -117,7 +117,7 @@ fn zero_of(width: u32) -> Word
 }
 
 // The word 0 for each width.
-fn zeros(alloc: Global, widths: &Items<u32>) -> Result<Words, NoMemory>
+fn zeros(alloc: Global, widths: &List<u32>) -> Result<Words, NoMemory>
     requires { AreWidths widths.now }
     ensures { IfOk result (λ words. HoldsStated widths.now [] words) }
 {
@@ -130,10 +130,10 @@ fn zeros(alloc: Global, widths: &Items<u32>) -> Result<Words, NoMemory>
 
 // The places of the states, in order.
 #[tactic(auto, using(btor_tree::proofs::Grows::lines_short))]
-fn state_places(alloc: Global, nodes: &Nodes) -> Result<Items<u32>, NoMemory>
+fn state_places(alloc: Global, nodes: &Nodes) -> Result<List<u32>, NoMemory>
     ensures { IfOk result (λ places. places ≡ places_of fits.is_state nodes.now) }
 {
-    let mut places = Items::new(alloc);
+    let mut places = List::new(alloc);
     for i in 0..nodes.len() {
         if is_state(&nodes.at(i).op) {
             places.push(i as u32)?;

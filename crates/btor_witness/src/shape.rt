@@ -1,10 +1,11 @@
 // What one line of a witness says by itself.
 ghost use Rattle.std.specs.Prelude.{◌≡◌};
-ghost use Rattle.btor_witness.specs.Bytes.{parts};
+ghost use Rattle.btor_tree.specs.Parts.{parts};
+ghost use Rattle.btor_tree.specs.Parts as spec;
 ghost use Rattle.btor_witness.specs.Shapes.{number_shape, single_shape, assignment_shape, shape_of, is_passed, marked};
-ghost use Rattle.btor_witness.specs.Bytes as bytes;
 
-use crate::bytes::{all_binary, next_part, numeral, word_of};
+use crate::bytes::{all_binary, word_of};
+use btor_tree::{first_part, numeral};
 use word_core::Word;
 
 /// A line by its shape: `sat`, `b` and a number, `j` and a number, `#` and a number, `@` and a number, `.`, or a number
@@ -53,7 +54,7 @@ fn single_shape(part: &[u8]) -> Option<Shape>
 }
 
 fn assignment_shape(index: &[u8], digits: &[u8]) -> Option<Shape>
-    ensures { result ≡ assignment_shape (bytes.numeral index.now) digits.now }
+    ensures { result ≡ assignment_shape (spec.numeral index.now) digits.now }
 {
     let index = numeral(index)?;
     if digits.is_empty() || !all_binary(digits) {
@@ -66,14 +67,14 @@ fn assignment_shape(index: &[u8], digits: &[u8]) -> Option<Shape>
 pub fn shape_of(line: &[u8]) -> Option<Shape>
     ensures { result ≡ shape_of (parts line.now) }
 {
-    let (first, rest) = next_part(line)?;
-    let Some((second, rest)) = next_part(rest) else {
+    let (first, rest) = first_part(line)?;
+    let Some((second, rest)) = first_part(rest) else {
         return single_shape(first)
     };
-    let Some((_, rest)) = next_part(rest) else {
+    let Some((_, rest)) = first_part(rest) else {
         return assignment_shape(first, second)
     };
-    if next_part(rest).is_some() {
+    if first_part(rest).is_some() {
         return None;
     }
     assignment_shape(first, second)
@@ -83,7 +84,7 @@ pub fn shape_of(line: &[u8]) -> Option<Shape>
 pub fn is_passed(line: &[u8]) -> bool
     ensures { result ≡ is_passed (parts line.now) }
 {
-    match next_part(line) {
+    match first_part(line) {
         Some((part, _)) => part.first() == Some(&b';'),
         None => true,
     }

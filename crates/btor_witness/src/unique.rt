@@ -39,13 +39,13 @@ pub fn printed_is_read()
 {}
 
 /// A witness has one verdict at most.
-#[tactic(auto, using(crate::proofs::Verdicts::one_verdict))]
+#[tactic(auto, using(crate::specs::laws::Verdicts::one_verdict))]
 pub fn one_verdict()
     ensures { (lines : List Line) (w : Witness) (v u : Verdict) → IsWellFormed lines → IsJudged lines w v → IsJudged lines w u → v ≡ u }
 {}
 
 /// The verdict is `Yes` exactly where the frames that the witness states pass.
-#[tactic(auto, using(crate::proofs::Verdicts::yes_where_accepted))]
+#[tactic(auto, using(crate::specs::laws::Verdicts::yes_where_accepted))]
 pub fn yes_where_accepted()
     ensures { (lines : List Line) (w : Witness) → w.frames ≢ [] → IsJudged lines w Yes ↔ IsAccepted lines w.bad (statements_of w) }
 {}

@@ -1,6 +1,6 @@
 // What a witness says.
 
-use text_core::{Items, Refusal};
+use text_core::{End, List};
 use word_core::Word;
 
 /// A word that a frame states: of the state line or input line of this number, counted from 0 among the lines of its
@@ -12,7 +12,7 @@ pub struct Stated {
 }
 
 /// A list of stated words.
-pub type Stateds = Items<Stated>;
+pub type Stateds = List<Stated>;
 
 /// What one frame states of its states and of its inputs.
 #[derive(Drop)]
@@ -22,7 +22,7 @@ pub struct Frame {
 }
 
 /// A list of frames, of which the first is frame 0.
-pub type FrameList = Items<Frame>;
+pub type FrameList = List<Frame>;
 
 /// A path to a bad line: the number of the bad line, counted from 0 among the bad lines, and the frames.
 #[derive(Drop)]
@@ -32,8 +32,4 @@ pub struct Witness {
 }
 
 /// Why a text is not read as a witness.
-#[derive(Debug, Drop)]
-pub enum WitnessEnd {
-    Bad(Refusal),
-    NoMemory,
-}
+pub type WitnessEnd = End;

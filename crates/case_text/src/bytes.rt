@@ -1,32 +1,25 @@
 // The bytes that marked lines state.
 use crate::fault::Fault;
-use crate::piece::{number, words};
-use std::alloc::Global;
-use text_core::Text;
+use crate::piece::number;
+use itoa::Buffer;
 
 /// Adds what a marked line states: after `|` the text and a line end, after `~` the text, after `*` a count and a text that is
 /// repeated, after `%` two numbers and a text for each number between them, after `@` the same with a line end behind each, after
 /// `$` bytes in hexadecimal.
-pub(crate) fn put_marked(
-    alloc: Global,
-    bytes: &mut Vec<u8>,
-    mark: u8,
-    text: &str,
-) -> Result<(), Fault> {
+pub(crate) fn put_marked(bytes: &mut Vec<u8>, mark: u8, text: &str) -> Result<(), Fault> {
     match mark {
         b'|' => put_line(bytes, text),
         b'~' => Ok(bytes.extend_from_slice(text.as_bytes())?),
         b'*' => put_repeated(bytes, text),
-        b'%' => put_numbered(alloc, bytes, text, b""),
-        b'@' => put_numbered(alloc, bytes, text, b"\n"),
-        _ => put_hexadecimal(alloc, bytes, text),
+        b'%' => put_numbered(bytes, text, b""),
+        b'@' => put_numbered(bytes, text, b"\n"),
+        _ => put_hexadecimal(bytes, text),
     }
 }
 
 fn put_line(bytes: &mut Vec<u8>, text: &str) -> Result<(), Fault> {
     bytes.extend_from_slice(text.as_bytes())?;
-    bytes.push(b'\n')?;
-    Ok(())
+    Ok(bytes.push(b'\n')?)
 }
 
 // The parts before and behind the first blank.
@@ -45,15 +38,14 @@ fn put_repeated(bytes: &mut Vec<u8>, text: &str) -> Result<(), Fault> {
     Ok(())
 }
 
-fn put_numbered(alloc: Global, bytes: &mut Vec<u8>, text: &str, end: &[u8]) -> Result<(), Fault> {
+fn put_numbered(bytes: &mut Vec<u8>, text: &str, end: &[u8]) -> Result<(), Fault> {
     let (first, rest) = parts(text, "two numbers and a text")?;
     let (last, piece) = parts(rest, "two numbers and a text")?;
-    put_each(alloc, bytes, number(first)?, number(last)?, piece, end)
+    put_each(bytes, number(first)?, number(last)?, piece, end)
 }
 
 // The text and the end for each number from the first to the last.
 fn put_each(
-    alloc: Global,
     bytes: &mut Vec<u8>,
     first: u64,
     last: u64,
@@ -61,37 +53,35 @@ fn put_each(
     end: &[u8],
 ) -> Result<(), Fault> {
     for i in first..=last {
-        put_with(alloc, bytes, text, i)?;
+        put_with(bytes, text, i)?;
         bytes.extend_from_slice(end)?;
     }
     Ok(())
 }
 
 // The text with the number in place of `{i}`, and its neighbours in place of `{i-1}` and `{i+1}`.
-fn put_with(alloc: Global, bytes: &mut Vec<u8>, text: &str, i: u64) -> Result<(), Fault> {
+fn put_with(bytes: &mut Vec<u8>, text: &str, i: u64) -> Result<(), Fault> {
     let mut parts = text.split("{i");
     if let Some(front) = parts.next() {
         bytes.extend_from_slice(front.as_bytes())?;
     }
     for part in parts {
-        put_shifted(alloc, bytes, part, i)?;
+        put_shifted(bytes, part, i)?;
     }
     Ok(())
 }
 
 // What stands behind `{i`: the end of the number's mark, and the text after it.
-fn put_shifted(alloc: Global, bytes: &mut Vec<u8>, part: &str, i: u64) -> Result<(), Fault> {
+fn put_shifted(bytes: &mut Vec<u8>, part: &str, i: u64) -> Result<(), Fault> {
     let (shift, rest) = part.split_once('}').ok_or("an end of {i}")?;
-    put_digits(alloc, bytes, shifted(shift, i)?)?;
-    bytes.extend_from_slice(rest.as_bytes())?;
-    Ok(())
+    put_digits(bytes, shifted(shift, i)?)?;
+    Ok(bytes.extend_from_slice(rest.as_bytes())?)
 }
 
-fn put_digits(alloc: Global, bytes: &mut Vec<u8>, n: u64) -> Result<(), Fault> {
-    let mut digits = Text::new(alloc);
-    digits.put_unsigned(u128::from(n))?;
-    bytes.extend_from_slice(digits.bytes())?;
-    Ok(())
+fn put_digits(bytes: &mut Vec<u8>, n: u64) -> Result<(), Fault> {
+    let mut buffer = Buffer::new();
+    let digits = buffer.format(n);
+    Ok(bytes.extend_from_slice(digits.as_bytes())?)
 }
 
 fn shifted(shift: &str, i: u64) -> Result<u64, Fault> {
@@ -103,14 +93,9 @@ fn shifted(shift: &str, i: u64) -> Result<u64, Fault> {
     }
 }
 
-fn put_hexadecimal(alloc: Global, bytes: &mut Vec<u8>, text: &str) -> Result<(), Fault> {
-    let words = words(alloc, text.as_bytes())?;
-    put_bytes(bytes, words.as_slice())
-}
-
-fn put_bytes(bytes: &mut Vec<u8>, words: &[&str]) -> Result<(), Fault> {
-    for word in words {
-        bytes.push(byte_of(*word)?)?;
+fn put_hexadecimal(bytes: &mut Vec<u8>, text: &str) -> Result<(), Fault> {
+    for word in text.split_whitespace() {
+        bytes.push(byte_of(word)?)?;
     }
     Ok(())
 }

@@ -2,11 +2,15 @@
 //! and what it says below; lines that begin with a mark are the bytes of the line above them.
 #![tactic(auto)]
 
+mod answer;
 mod bytes;
 mod fault;
 mod piece;
 mod reading;
+mod stop;
 
+pub use answer::Answer;
 pub use fault::{Fault, Unread};
-pub use piece::{Piece, given, has, number, words};
+pub use piece::{Piece, beside, given, has, number, small_number, subject, utf8, words};
 pub use reading::{Case, Entry, read_cases};
+pub use stop::{Stop, told};

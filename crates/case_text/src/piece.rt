@@ -24,13 +24,23 @@ pub fn given<'a>(pieces: &'a [Piece], name: &str) -> Result<&'a [u8], Fault> {
     Err(Fault::Misread("a piece is missing"))
 }
 
+/// What a case is about: its row, or else the piece of this name.
+pub fn subject<'a>(pieces: &'a [Piece], name: &str) -> Result<&'a [u8], Fault> {
+    let name = if has(pieces, "row") { "row" } else { name };
+    given(pieces, name)
+}
+
+/// The text that the bytes are.
+pub fn utf8<'a>(bytes: &'a [u8]) -> Result<&'a str, Fault> {
+    match std::str::from_utf8(bytes) {
+        Ok(text) => Ok(text),
+        Err(_) => Err(Fault::Misread("bytes that are no text")),
+    }
+}
+
 /// The words of a line, without the blanks between them.
 pub fn words<'a>(alloc: Global, line: &'a [u8]) -> Result<Vec<&'a str>, Fault> {
-    let text = match std::str::from_utf8(line) {
-        Ok(text) => text,
-        Err(_) => return Err(Fault::Misread("words that are no text")),
-    };
-    Ok(text.split_whitespace().collect(alloc)?)
+    Ok(utf8(line)?.split_whitespace().collect(alloc)?)
 }
 
 /// The number of these decimal digits.
@@ -39,4 +49,22 @@ pub fn number(word: &str) -> Result<u64, Fault> {
         Ok(n) => Ok(n),
         Err(_) => Err(Fault::Misread("a number")),
     }
+}
+
+/// The number of these decimal digits, of at most 32 bits.
+pub fn small_number(digits: &[u8]) -> Result<u32, Fault> {
+    match utf8(digits)?.parse::<u32>() {
+        Ok(n) => Ok(n),
+        Err(_) => Err(Fault::Misread("a number of at most 32 bits")),
+    }
+}
+
+/// What stands beside a name in a table.
+pub fn beside<T: Copy>(table: &[(&'static str, T)], name: &str) -> Option<T> {
+    for (own, value) in table {
+        if *own == name {
+            return Some(*value);
+        }
+    }
+    None
 }

@@ -21,15 +21,20 @@ pub struct Case<'a> {
 /// Reads the cases of a text. Empty lines and lines that begin with `#` say nothing.
 pub fn read_cases<'a>(alloc: Global, text: &'a str) -> Result<Vec<Case<'a>>, Unread> {
     let mut cases = Vec::new(alloc);
+    take_lines(alloc, &mut cases, text)?;
+    Ok(cases)
+}
+
+fn take_lines<'a>(alloc: Global, cases: &mut Vec<Case<'a>>, text: &'a str) -> Result<(), Unread> {
     for (k, line) in text.lines().enumerate() {
-        if let Err(fault) = take_line(alloc, &mut cases, line) {
+        if let Err(fault) = take_line(alloc, cases, line) {
             return Err(Unread {
                 line: k.saturating_add(1),
                 fault,
             });
         }
     }
-    Ok(cases)
+    Ok(())
 }
 
 fn take_line<'a>(alloc: Global, cases: &mut Vec<Case<'a>>, line: &'a str) -> Result<(), Fault> {
@@ -37,7 +42,7 @@ fn take_line<'a>(alloc: Global, cases: &mut Vec<Case<'a>>, line: &'a str) -> Res
         [] | [b'#', ..] => Ok(()),
         [mark @ (b'|' | b'~' | b'*' | b'%' | b'@' | b'$'), ..] => {
             let mark = *mark;
-            take_marked(alloc, cases, mark, marked_text(line))
+            take_marked(cases, mark, marked_text(line))
         }
         _ => take_entry(alloc, cases, line),
     }
@@ -51,15 +56,10 @@ fn marked_text(line: &str) -> &str {
     }
 }
 
-fn take_marked<'a>(
-    alloc: Global,
-    cases: &mut Vec<Case<'a>>,
-    mark: u8,
-    text: &str,
-) -> Result<(), Fault> {
+fn take_marked<'a>(cases: &mut Vec<Case<'a>>, mark: u8, text: &str) -> Result<(), Fault> {
     match cases.last_mut() {
         Some(case) => match case.entries.last_mut() {
-            Some(entry) => put_marked(alloc, &mut entry.bytes, mark, text),
+            Some(entry) => put_marked(&mut entry.bytes, mark, text),
             None => Err(Fault::Misread("bytes before a line that takes them")),
         },
         None => Err(Fault::Misread("bytes before a case")),

@@ -1,8 +1,8 @@
 // Calls of the libraries.
-use crate::compared::put_difference;
+use crate::compared::{put_difference, put_misread};
 use crate::files::Files;
 use crate::tally::Tally;
-use case_text::{Case, Entry, Fault, Piece, words};
+use case_text::{Answer, Case, Entry, Fault, Piece, Stop, told, words};
 use std::alloc::Global;
 use text_core::{Shelf, Text};
 
@@ -14,13 +14,23 @@ pub fn put_calls<F: Shelf + Drop>(
     tally: &mut Tally,
 ) -> Result<(), Fault> {
     let mut pieces = Vec::new(alloc);
+    put_entries(alloc, files, case, &mut pieces, tally)
+}
+
+fn put_entries<F: Shelf + Drop>(
+    alloc: Global,
+    files: &mut Files<F>,
+    case: &Case,
+    pieces: &mut Vec<Piece>,
+    tally: &mut Tally,
+) -> Result<(), Fault> {
     let mut call = "";
     for entry in &case.entries {
         match entry.key {
             "call" => call = entry.says,
             "given" => pieces.push(files.piece(alloc, entry)?)?,
-            "answer" => put_call(alloc, case, call, &pieces, &entry.bytes, tally)?,
-            "row" => put_row(alloc, case, call, &mut pieces, entry, tally)?,
+            "answer" => put_call(alloc, case, call, pieces, &entry.bytes, tally),
+            "row" => put_row(alloc, case, call, pieces, entry, tally)?,
             _ => return Err(Fault::Misread("a line that says nothing of a call")),
         }
     }
@@ -40,13 +50,16 @@ fn put_row(
         .says
         .rsplit_once(" => ")
         .ok_or("a row and its answer")?;
-    pieces.push(Piece {
-        name: String::from_str(alloc, "row")?,
-        bytes: row.as_bytes().to_vec(alloc)?,
-    })?;
-    let done = put_call(alloc, case, call, pieces, wanted.as_bytes(), tally);
+    pieces.push(row_piece(alloc, row)?)?;
+    put_call(alloc, case, call, pieces, wanted.as_bytes(), tally);
     let _row = pieces.pop();
-    done
+    Ok(())
+}
+
+fn row_piece(alloc: Global, row: &str) -> Result<Piece, Fault> {
+    let name = String::from_str(alloc, "row")?;
+    let bytes = row.as_bytes().to_vec(alloc)?;
+    Ok(Piece { name, bytes })
 }
 
 fn put_call(
@@ -56,27 +69,39 @@ fn put_call(
     pieces: &[Piece],
     wanted: &[u8],
     tally: &mut Tally,
-) -> Result<(), Fault> {
-    let mut differences = Text::new(alloc);
-    match answer(alloc, call, pieces) {
-        Ok(came) => put_difference(&mut differences, "answer", wanted, came.bytes())?,
-        Err(Fault::NoMemory) => return Err(Fault::NoMemory),
-        Err(Fault::Misread(why)) => {
-            differences.put(b"    not understood: ")?;
-            differences.put(why.as_bytes())?;
-            differences.put(b"\n")?;
-        }
+) {
+    let answered = told(alloc, answer(alloc, call, pieces));
+    let mut differences = Answer::new(alloc);
+    match answered {
+        Ok(came) => put_difference(&mut differences, "answer", wanted, came.bytes()),
+        Err(fault) => put_misread(&mut differences, fault),
     }
-    tally.count(case.title, differences.bytes())
+    tally.count(case.title, differences);
 }
 
-fn answer(alloc: Global, call: &str, pieces: &[Piece]) -> Result<Text, Fault> {
+fn answer(alloc: Global, call: &str, pieces: &[Piece]) -> Result<Text, Stop> {
     let words = words(alloc, call.as_bytes())?;
-    match words.as_slice() {
-        ["word" | "btor", rest @ ..] => btor_cases::answer(alloc, rest, pieces),
-        ["smv" | "graph", rest @ ..] => smv_type_cases::answer(alloc, rest, pieces),
-        ["flat", rest @ ..] => flat_cases::answer(alloc, rest, pieces),
-        ["moxi", rest @ ..] => moxi_cases::answer(alloc, rest, pieces),
-        _ => Err(Fault::Misread("no such call")),
+    answer_by(alloc, words.as_slice(), pieces)
+}
+
+fn answer_by(alloc: Global, call: &[&str], pieces: &[Piece]) -> Result<Text, Stop> {
+    let mut out = Answer::new(alloc);
+    put_answer(alloc, &mut out, call, pieces)?;
+    Ok(out.done()?)
+}
+
+fn put_answer(
+    alloc: Global,
+    out: &mut Answer,
+    call: &[&str],
+    pieces: &[Piece],
+) -> Result<(), Stop> {
+    let (language, call) = call.split_first().ok_or("no call")?;
+    match *language {
+        "word" | "btor" => btor_cases::put_answer(alloc, out, call, pieces),
+        "smv" | "graph" => smv_type_cases::put_answer(alloc, out, call, pieces),
+        "flat" => flat_cases::put_answer(alloc, out, call, pieces),
+        "moxi" => moxi_cases::put_answer(alloc, out, call, pieces),
+        _ => Err(Stop::from("no such call")),
     }
 }

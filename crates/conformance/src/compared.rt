@@ -1,7 +1,6 @@
 // What a case wants of a run, and how what came is compared with it.
-use case_text::{Case, Entry, Fault, number};
+use case_text::{Answer, Case, Entry, Fault, number};
 use std::alloc::Global;
-use text_core::Text;
 
 const USAGE: &[u8] = b"usage: moxi_cli COMMAND MODEL [SECOND] [--property J]\n";
 
@@ -21,14 +20,20 @@ impl Wanted {
             out: Vec::new(alloc),
             notes: Vec::new(alloc),
         };
+        wanted.take_all(alloc, case)?;
+        Ok(wanted)
+    }
+
+    // Takes the lines of a case, one of which has to state a status.
+    fn take_all(&mut self, alloc: Global, case: &Case) -> Result<(), Fault> {
         let mut stated = false;
         for entry in &case.entries {
-            if wanted.take(alloc, entry)? {
+            if self.take(alloc, entry)? {
                 stated = true;
             }
         }
         if stated {
-            Ok(wanted)
+            Ok(())
         } else {
             Err(Fault::Misread("a run with no wanted status"))
         }
@@ -95,53 +100,47 @@ fn note_of(alloc: Global, entry: &Entry) -> Result<Vec<u8>, Fault> {
 }
 
 /// Puts both numbers where they differ.
-pub fn put_number_difference(
-    text: &mut Text,
-    what: &str,
-    wanted: u64,
-    came: u64,
-) -> Result<(), Fault> {
+pub fn put_number_difference(out: &mut Answer, what: &str, wanted: u64, came: u64) {
     if wanted != came {
-        text.put(b"    ")?;
-        text.put(what.as_bytes())?;
-        text.put(b" wanted ")?;
-        text.put_unsigned(u128::from(wanted))?;
-        text.put(b", came ")?;
-        text.put_unsigned(u128::from(came))?;
-        text.put(b"\n")?;
+        out.put(b"    ");
+        out.put(what.as_bytes());
+        out.put(b" wanted ");
+        out.put_unsigned(u128::from(wanted));
+        out.put(b", came ");
+        out.put_unsigned(u128::from(came));
+        out.put(b"\n");
     }
-    Ok(())
 }
 
 /// Puts both texts where they differ.
-pub fn put_difference(
-    text: &mut Text,
-    what: &str,
-    wanted: &[u8],
-    came: &[u8],
-) -> Result<(), Fault> {
+pub fn put_difference(out: &mut Answer, what: &str, wanted: &[u8], came: &[u8]) {
     if wanted != came {
-        put_titled(text, what, b" wanted", wanted)?;
-        put_titled(text, what, b" came", came)?;
+        put_titled(out, what, b" wanted", wanted);
+        put_titled(out, what, b" came", came);
     }
-    Ok(())
 }
 
-fn put_titled(text: &mut Text, what: &str, which: &[u8], bytes: &[u8]) -> Result<(), Fault> {
-    text.put(b"    ")?;
-    text.put(what.as_bytes())?;
-    text.put(which)?;
-    text.put(b":")?;
+fn put_titled(out: &mut Answer, what: &str, which: &[u8], bytes: &[u8]) {
+    out.put(b"    ");
+    out.put(what.as_bytes());
+    out.put(which);
+    out.put(b":");
     let mut starts = true;
     for byte in bytes {
         if starts {
-            text.put(b"\n    | ")?;
+            out.put(b"\n    | ");
         }
         starts = *byte == b'\n';
         if !starts {
-            text.put(&[*byte])?;
+            out.put(&[*byte]);
         }
     }
-    text.put(if starts { b"\n" } else { b"~\n" })?;
-    Ok(())
+    out.put(if starts { b"\n" } else { b"~\n" });
+}
+
+/// Puts why a case is not understood.
+pub fn put_misread(out: &mut Answer, fault: Fault) {
+    out.put(b"    not understood: ");
+    out.put_fault(fault);
+    out.put(b"\n");
 }

@@ -11,12 +11,11 @@ mod running;
 mod setting;
 mod tally;
 
-use case_text::Fault;
 use files::Files;
-use report::file_report;
+use report::write_report;
 use std::env;
 use std::process::ExitCode;
-use text_core::{FileShelf, StreamSink, write_whole};
+use text_core::{FileShelf, StreamSink};
 
 fn main(rt: HostRuntime) -> ExitCode {
     let mut files = Files::new(FileShelf::new(&rt));
@@ -26,13 +25,9 @@ fn main(rt: HostRuntime) -> ExitCode {
     };
     let mut passed = true;
     for name in args.skip(1) {
-        let (text, all) = match file_report(rt.alloc(), &mut files, name.as_str()) {
-            Ok(report) => report,
-            Err(_) => return ExitCode::from(2),
-        };
-        passed = passed && all;
-        if write_whole(&mut out, text.bytes()).is_err() {
-            return ExitCode::from(2);
+        match write_report(rt.alloc(), &mut files, &mut out, name.as_str()) {
+            Some(all) => passed = passed && all,
+            None => return ExitCode::from(2),
         }
     }
     ExitCode::from(if passed { 0 } else { 1 })

@@ -1,60 +1,101 @@
 // The report of one file of cases.
 use crate::calling::put_calls;
+use crate::compared::put_misread;
 use crate::files::Files;
 use crate::running::{put_run, put_sure_run};
 use crate::tally::Tally;
-use case_text::{Case, Fault, Unread, read_cases};
+use case_text::{Answer, Case, Fault, Unread, read_cases, utf8};
 use std::alloc::Global;
-use text_core::{Shelf, Text};
+use text_core::{NoMemory, Shelf, Sink, Text, write_whole};
 
-/// The report of a file of cases, and whether all of them passed.
-pub fn file_report<F: Shelf + Drop>(
+/// Writes the report of a file of cases, and answers whether all of them passed; `None` where it can't be made or written.
+pub fn write_report<F: Shelf + Drop, K: Sink>(
+    alloc: Global,
+    files: &mut Files<F>,
+    sink: &mut K,
+    name: &str,
+) -> Option<bool> {
+    let (text, passed) = file_report(alloc, files, name).ok()?;
+    write_whole(sink, text.bytes()).ok()?;
+    Some(passed)
+}
+
+// The report of a file of cases, and whether all of them passed.
+fn file_report<F: Shelf + Drop>(
     alloc: Global,
     files: &mut Files<F>,
     name: &str,
-) -> Result<(Text, bool), Fault> {
-    let mut text = Text::new(alloc);
-    let bytes = match files.read(alloc, name) {
-        Ok(bytes) => bytes,
-        Err(fault) => {
-            put_unread(&mut text, name, 0, fault)?;
-            return Ok((text, false));
-        }
-    };
-    let Ok(cases) = std::str::from_utf8(bytes.as_slice()) else {
-        put_unread(&mut text, name, 0, Fault::Misread("bytes that are no text"))?;
-        return Ok((text, false));
-    };
-    match read_cases(alloc, cases) {
-        Ok(cases) => {
-            let tally = tally_of(alloc, files, &cases)?;
-            tally.put_into(&mut text, name)?;
-            Ok((text, tally.all_passed()))
-        }
-        Err(Unread { line, fault }) => {
-            put_unread(&mut text, name, line, fault)?;
-            Ok((text, false))
-        }
+) -> Result<(Text, bool), NoMemory> {
+    let mut out = Answer::new(alloc);
+    let passed = put_report(alloc, &mut out, files, name);
+    Ok((out.done()?, passed))
+}
+
+fn put_report<F: Shelf + Drop>(
+    alloc: Global,
+    out: &mut Answer,
+    files: &mut Files<F>,
+    name: &str,
+) -> bool {
+    match files.read(alloc, name) {
+        Ok(bytes) => put_bytes_report(alloc, out, files, name, bytes.as_slice()),
+        Err(fault) => put_unread(out, name, 0, fault),
     }
 }
 
-fn tally_of<F: Shelf + Drop>(
+fn put_bytes_report<F: Shelf + Drop>(
     alloc: Global,
+    out: &mut Answer,
     files: &mut Files<F>,
+    name: &str,
+    bytes: &[u8],
+) -> bool {
+    match utf8(bytes) {
+        Ok(text) => put_text_report(alloc, out, files, name, text),
+        Err(fault) => put_unread(out, name, 0, fault),
+    }
+}
+
+fn put_text_report<F: Shelf + Drop>(
+    alloc: Global,
+    out: &mut Answer,
+    files: &mut Files<F>,
+    name: &str,
+    text: &str,
+) -> bool {
+    match read_cases(alloc, text) {
+        Ok(cases) => put_cases_report(alloc, out, files, name, &cases),
+        Err(Unread { line, fault }) => put_unread(out, name, line, fault),
+    }
+}
+
+fn put_cases_report<F: Shelf + Drop>(
+    alloc: Global,
+    out: &mut Answer,
+    files: &mut Files<F>,
+    name: &str,
     cases: &[Case],
-) -> Result<Tally, Fault> {
+) -> bool {
     let mut tally = Tally::new(alloc);
     for case in cases {
-        match put_case(alloc, files, case, &mut tally) {
-            Ok(()) => {}
-            Err(Fault::NoMemory) => return Err(Fault::NoMemory),
-            Err(Fault::Misread(why)) => {
-                let line = format!(in alloc; "    not understood: {why}\n")?;
-                tally.count(case.title, line.as_bytes())?;
-            }
-        }
+        count_case(alloc, files, case, &mut tally);
     }
-    Ok(tally)
+    let passed = tally.all_passed();
+    tally.put_into(out, name);
+    passed
+}
+
+fn count_case<F: Shelf + Drop>(
+    alloc: Global,
+    files: &mut Files<F>,
+    case: &Case,
+    tally: &mut Tally,
+) {
+    if let Err(fault) = put_case(alloc, files, case, tally) {
+        let mut differences = Answer::new(alloc);
+        put_misread(&mut differences, fault);
+        tally.count(case.title, differences);
+    }
 }
 
 fn put_case<F: Shelf + Drop>(
@@ -63,13 +104,14 @@ fn put_case<F: Shelf + Drop>(
     case: &Case,
     tally: &mut Tally,
 ) -> Result<(), Fault> {
-    let mut differences = Text::new(alloc);
+    let mut differences = Answer::new(alloc);
     match kind_of(case) {
         "run" => put_run(alloc, files, case, &mut differences)?,
         "sure" => put_sure_run(alloc, files, case, &mut differences)?,
         _ => return put_calls(alloc, files, case, tally),
     }
-    tally.count(case.title, differences.bytes())
+    tally.count(case.title, differences);
+    Ok(())
 }
 
 // The key of a case's first line.
@@ -80,18 +122,15 @@ fn kind_of<'a>(case: &Case<'a>) -> &'a str {
     }
 }
 
-// Says that a file of cases can't be read, and from which line on, where one is known.
-fn put_unread(text: &mut Text, name: &str, line: usize, fault: Fault) -> Result<(), Fault> {
-    text.put(name.as_bytes())?;
+// Says that a file of cases can't be read, and from which line on, where one is known. So not all of its cases passed.
+fn put_unread(out: &mut Answer, name: &str, line: usize, fault: Fault) -> bool {
+    out.put(name.as_bytes());
     if line > 0 {
-        text.put(b" at line ")?;
-        text.put_unsigned(line as u128)?;
+        out.put(b" at line ");
+        out.put_unsigned(line as u128);
     }
-    text.put(b": can't be read: ")?;
-    match fault {
-        Fault::NoMemory => return Err(Fault::NoMemory),
-        Fault::Misread(why) => text.put(why.as_bytes())?,
-    }
-    text.put(b"\n")?;
-    Ok(())
+    out.put(b": can't be read: ");
+    out.put_fault(fault);
+    out.put(b"\n");
+    false
 }

@@ -6,27 +6,37 @@ ghost use Rattle.moxi_commands.specs.Outcome.{IsAbsent};
 use crate::compared::{Wanted, put_difference, put_number_difference};
 use crate::files::Files;
 use crate::setting::Setting;
-use case_text::{Case, Fault};
+use case_text::{Answer, Case, Fault};
 use moxi_commands::{Status, run};
 use std::alloc::Global;
-use text_core::{DropSink, MemoryShelf, Shelf, SureShelf, Text};
+use text_core::{DropSink, MemoryShelf, Shelf, SureShelf};
 
 /// Runs the program as the case states, and puts what differs from what it wants.
 pub fn put_run<F: Shelf + Drop>(
     alloc: Global,
     files: &mut Files<F>,
     case: &Case,
-    differences: &mut Text,
+    differences: &mut Answer,
 ) -> Result<(), Fault> {
     let wanted = Wanted::of(alloc, case)?;
     let setting = Setting::of(alloc, files, case)?;
+    put_set_run(alloc, setting, &wanted, differences)
+}
+
+fn put_set_run(
+    alloc: Global,
+    setting: Setting,
+    wanted: &Wanted,
+    differences: &mut Answer,
+) -> Result<(), Fault> {
     let mut shelf = MemoryShelf::new(setting.files, setting.shelf_fails);
     let mut out = setting.out.sink(alloc)?;
     let mut notes = setting.notes.sink(alloc)?;
     let status = run(alloc, &setting.words, &mut shelf, &mut out, &mut notes);
-    put_number_difference(differences, "status", wanted.status, status as u64)?;
-    put_difference(differences, "out", &wanted.out, out.bytes())?;
-    put_difference(differences, "notes", &wanted.notes, notes.bytes())
+    put_number_difference(differences, "status", wanted.status, status as u64);
+    put_difference(differences, "out", &wanted.out, out.bytes());
+    put_difference(differences, "notes", &wanted.notes, notes.bytes());
+    Ok(())
 }
 
 /// Runs the program over files that are always read and streams that take all, and compares its status.
@@ -34,13 +44,14 @@ pub fn put_sure_run<F: Shelf + Drop>(
     alloc: Global,
     files: &mut Files<F>,
     case: &Case,
-    differences: &mut Text,
+    differences: &mut Answer,
 ) -> Result<(), Fault> {
     let wanted = Wanted::of(alloc, case)?;
     let setting = Setting::of(alloc, files, case)?;
     let mut shelf = SureShelf::new(setting.files);
     let status = sure_run(alloc, &setting.words, &mut shelf);
-    put_number_difference(differences, "status", wanted.status, status as u64)
+    put_number_difference(differences, "status", wanted.status, status as u64);
+    Ok(())
 }
 
 // Over these only a missing file is a fault.

@@ -1,6 +1,6 @@
 // What a run is given.
 use crate::files::Files;
-use case_text::{Case, Entry, Fault, number, words};
+use case_text::{Case, Entry, Fault, number};
 use std::alloc::Global;
 use text_core::{FilePairs, MemorySink, Numbers, Shelf};
 
@@ -70,10 +70,20 @@ impl Setting {
             out: Limits::new(alloc),
             notes: Limits::new(alloc),
         };
-        for entry in &case.entries {
-            setting.take(alloc, files, entry)?;
-        }
+        setting.take_all(alloc, files, case)?;
         Ok(setting)
+    }
+
+    fn take_all<F: Shelf + Drop>(
+        &mut self,
+        alloc: Global,
+        files: &mut Files<F>,
+        case: &Case,
+    ) -> Result<(), Fault> {
+        for entry in &case.entries {
+            self.take(alloc, files, entry)?;
+        }
+        Ok(())
     }
 
     // Takes a line, if it states something of the setting.
@@ -104,16 +114,26 @@ impl Setting {
 
 fn strings(alloc: Global, says: &str) -> Result<Vec<String>, Fault> {
     let mut strings = Vec::new(alloc);
-    for word in words(alloc, says.as_bytes())? {
+    push_strings(alloc, says, &mut strings)?;
+    Ok(strings)
+}
+
+fn push_strings(alloc: Global, says: &str, strings: &mut Vec<String>) -> Result<(), Fault> {
+    for word in says.split_whitespace() {
         strings.push(String::from_str(alloc, word)?)?;
     }
-    Ok(strings)
+    Ok(())
 }
 
 fn numbers(alloc: Global, says: &str) -> Result<Numbers, Fault> {
     let mut numbers = Numbers::new(alloc);
-    for word in words(alloc, says.as_bytes())? {
+    push_numbers(says, &mut numbers)?;
+    Ok(numbers)
+}
+
+fn push_numbers(says: &str, numbers: &mut Numbers) -> Result<(), Fault> {
+    for word in says.split_whitespace() {
         numbers.push(number(word)?)?;
     }
-    Ok(numbers)
+    Ok(())
 }

@@ -1,15 +1,14 @@
 -- What a search that has met each node comes to.
-use Rattle.std.proofs.Common.{◌≡◌, ℕ, zero, suc, ◌+◌, ◌<◌, ◌≤◌, ◌⊎◌, Bool, true, false, ◌&&◌, ◌||◌, ◌==◌, nat_lt, List, [], ◌∷◌, ◌++◌, length, refl, sym, ap, subst, ◌∙◌, inl, inr, arith, rules, append_assoc}
+use Rattle.std.proofs.Common.{◌≡◌, ℕ, zero, suc, ◌+◌, ◌<◌, ◌≤◌, true, false, nat_lt, List, [], ◌∷◌, ◌++◌, length, refl, sym, ap, subst, inl, inr, rules, append_assoc}
 use Rattle.std.specs.Prelude.{slice_index_or}
 use Rattle.std.specs.List.{list_all}
-use Rattle.std.proofs.lemmas.Bool.{or_cases}
 use Rattle.digraph.specs.declared.mark.Mark.{Mark}
 use Rattle.digraph.specs.declared.mark.Mark.TheVariants.{New, Open, Done}
 use Rattle.digraph.specs.Graph.{NodeLists, next_of, is_in, leads, falls_from, IsSorted, NeverReturns}
-use Rattle.digraph.specs.Searching.{State, IsSearch, is_done, is_open, is_new, is_done_mark, is_open_mark, is_new_mark}
+use Rattle.digraph.specs.Searching.{State, IsSearch, is_open, is_new, is_done_mark, is_open_mark, is_new_mark}
 use Rattle.std.proofs.Math.ListN.{get_or-eq_default}
 use Rattle.digraph.proofs.Laws.{ltb_lt}
-use Rattle.digraph.proofs.Lists.{and_left, and_right, all_more, all_at, in_front, in_cases, in_end, bool_cases, not_both, same}
+use Rattle.digraph.proofs.Lists.{and_left, and_right, all_more, in_front, in_cases, bool_cases, not_both}
 use Rattle.digraph.proofs.Visits.{closed_never, first_edge, no_edges}
 
 -- neither new nor on the path

@@ -6,16 +6,16 @@ ghost use Rattle.digraph.specs.Ordering.{IsOrder};
 use crate::returns::first_return;
 use crate::search::Search;
 use std::alloc::Global;
-use text_core::{Items, NoMemory};
+use text_core::{List, NoMemory};
 
 /// A directed graph, seen as the list of its nodes' lists: the nodes to which each node has an edge. Nodes are numbered from 0.
-pub type Graph = Items<Items<usize>>;
+pub type Graph = List<List<usize>>;
 
 /// How the nodes of a graph stand to one another.
 #[derive(Drop)]
 pub enum Order {
     /// No node leads to itself, and in this order each stands after those to which it leads.
-    Sorted(Items<usize>),
+    Sorted(List<usize>),
     /// The first node that leads to itself, by one or more edges.
     Returns(usize),
 }

@@ -8,7 +8,7 @@ use crate::mark::Mark;
 use crate::order::Graph;
 use std::alloc::Global;
 use std::marker::Model;
-use text_core::{Items, NoMemory};
+use text_core::{List, NoMemory};
 
 /// The marks, how many edges of each node were gone, the path from the root on, and the nodes that are done, in order.
 #[derive(Drop)]
@@ -16,7 +16,7 @@ pub struct Search {
     marks: Vec<Mark>,
     gone: Vec<usize>,
     path: Vec<usize>,
-    order: Items<usize>,
+    order: List<usize>,
 }
 
 impl Model for Search {
@@ -28,7 +28,7 @@ impl Model for Search {
 }
 
 // The number of the first edge from this one on that leads to a node that isn't done, else that of edges.
-fn front(row: &Items<usize>, from: usize, marks: &[Mark]) -> usize
+fn front(row: &List<usize>, from: usize, marks: &[Mark]) -> usize
     requires within { list_all (λ k. nat_lt k (length marks.now)) row.now ≡ true }
     requires low { from ≤ length row.now }
     requires done { list_all (is_done marks.now) (take from row.now) ≡ true }
@@ -72,7 +72,7 @@ impl Search {
             marks: vec![in alloc; Mark::New; nodes]?,
             gone: vec![in alloc; 0; nodes]?,
             path: Vec::new(alloc),
-            order: Items::new(alloc),
+            order: List::new(alloc),
         })
     }
 
@@ -179,7 +179,7 @@ impl Search {
     }
 
     /// The nodes that are done, in order.
-    pub fn sorted(self) -> Items<usize>
+    pub fn sorted(self) -> List<usize>
         ensures { result ≡ self.order }
     {
         self.order

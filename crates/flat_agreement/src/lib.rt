@@ -13,5 +13,5 @@ mod source_truth;
 mod source_values;
 mod truths;
 
-pub use agreement::agreement_text;
-pub use truths::truths_text;
+pub use agreement::put_agreement;
+pub use truths::put_truths;

@@ -62,8 +62,8 @@ fn actual<'a>(at: Instance<'a>, x: &[u8]) -> Option<&'a Expr> {
 }
 
 fn declared<'a>(tree: &Tree<'a>, i: usize, at: Instance<'a>, x: &[u8]) -> Thing<'a> {
-    for k in 0..at.plan.elements.len() {
-        let thing = match at.plan.elements.at(k) {
+    for element in &at.plan.elements {
+        let thing = match element {
             Element::Vars(kind, items) => among_items(tree, i, *kind, items, x),
             Element::Defines(definitions) => among_definitions(i, definitions, x),
             _ => Thing::Unknown,
@@ -82,8 +82,7 @@ fn among_items<'a>(
     items: &'a Items,
     x: &[u8],
 ) -> Thing<'a> {
-    for k in 0..items.len() {
-        let item = items.at(k);
+    for item in items {
         if item.name.bytes() == x {
             return match item.domain {
                 Domain::Instance(_, _) => instance_called(tree, i, x),
@@ -105,8 +104,7 @@ fn instance_called<'a>(tree: &Tree<'a>, parent: usize, x: &[u8]) -> Thing<'a> {
 }
 
 fn among_definitions<'a>(i: usize, definitions: &'a Definitions, x: &[u8]) -> Thing<'a> {
-    for k in 0..definitions.len() {
-        let definition = definitions.at(k);
+    for definition in definitions {
         if definition.name.bytes() == x {
             return Thing::Body(i, &definition.body);
         }

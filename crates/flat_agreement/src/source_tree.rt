@@ -36,6 +36,16 @@ pub(crate) fn tree_of<'a>(
     source: &'a Source,
     flat: &'a Flat,
 ) -> Result<Tree<'a>, Fault> {
+    let instances = instances_of(alloc, source)?;
+    let invariants = invariants_of(alloc, instances.as_slice())?;
+    Ok(Tree {
+        instances,
+        invariants,
+        flat,
+    })
+}
+
+fn instances_of<'a>(alloc: Global, source: &'a Source) -> Result<Vec<Instance<'a>>, Fault> {
     let main = Instance {
         parent: 0,
         name: b"",
@@ -44,20 +54,22 @@ pub(crate) fn tree_of<'a>(
     };
     let mut instances = Vec::new(alloc);
     grow(DEEPEST, source, main, &mut instances)?;
+    Ok(instances)
+}
+
+fn invariants_of<'a>(
+    alloc: Global,
+    instances: &[Instance<'a>],
+) -> Result<Vec<Invariant<'a>>, Fault> {
     let mut invariants = Vec::new(alloc);
-    for i in 0..instances.len() {
-        add_invariants(i, instances[i].plan, &mut invariants)?;
+    for (i, at) in instances.iter().enumerate() {
+        add_invariants(i, at.plan, &mut invariants)?;
     }
-    Ok(Tree {
-        instances,
-        invariants,
-        flat,
-    })
+    Ok(invariants)
 }
 
 fn module_called<'a>(source: &'a Source, name: &[u8]) -> Result<&'a Module, Fault> {
-    for k in 0..source.modules.len() {
-        let plan = source.modules.at(k);
+    for plan in &source.modules {
         if plan.name.bytes() == name {
             return Ok(plan);
         }
@@ -79,8 +91,8 @@ fn grow<'a>(
     let number = all.len();
     let elements = &at.plan.elements;
     all.push(at)?;
-    for k in 0..elements.len() {
-        if let Element::Vars(_, items) = elements.at(k) {
+    for element in elements {
+        if let Element::Vars(_, items) = element {
             grow_items(depth - 1, source, number, items, all)?;
         }
     }
@@ -98,8 +110,7 @@ fn grow_items<'a>(
     if depth == 0 {
         return Err(Fault::Misread("instances that stand too deep"));
     }
-    for k in 0..items.len() {
-        let item = items.at(k);
+    for item in items {
         if let Domain::Instance(name, actuals) = &item.domain {
             let at = Instance {
                 parent,
@@ -118,8 +129,8 @@ fn add_invariants<'a>(
     plan: &'a Module,
     all: &mut Vec<Invariant<'a>>,
 ) -> Result<(), Fault> {
-    for k in 0..plan.elements.len() {
-        if let Element::Spec(_, body) = plan.elements.at(k) {
+    for element in &plan.elements {
+        if let Element::Spec(_, body) = element {
             all.push(Invariant { instance: i, body })?;
         }
     }

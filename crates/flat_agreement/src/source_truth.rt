@@ -16,8 +16,8 @@ pub(crate) fn model_holds(m: Moment, when: When) -> Result<bool, Fault> {
 }
 
 fn instance_holds(m: Moment, i: usize, when: When, plan: &Module) -> Result<bool, Fault> {
-    for k in 0..plan.elements.len() {
-        if !section_holds(m, i, when, plan.elements.at(k))? {
+    for section in &plan.elements {
+        if !section_holds(m, i, when, section)? {
             return Ok(false);
         }
     }
@@ -36,8 +36,8 @@ fn section_holds(m: Moment, i: usize, when: When, section: &Element) -> Result<b
 }
 
 fn all_stay(m: Moment, i: usize, items: &Items) -> bool {
-    for k in 0..items.len() {
-        let x = items.at(k).name.bytes();
+    for item in items {
+        let x = item.name.bytes();
         if in_row(m.tree, DEPTH, i, x, m.now) != in_row(m.tree, DEPTH, i, x, m.later) {
             return false;
         }
@@ -46,8 +46,8 @@ fn all_stay(m: Moment, i: usize, items: &Items) -> bool {
 }
 
 fn assignments_hold(m: Moment, i: usize, when: When, all: &Assignments) -> Result<bool, Fault> {
-    for k in 0..all.len() {
-        if all.at(k).when == when && !assignment_holds(m, i, all.at(k))? {
+    for assignment in all {
+        if assignment.when == when && !assignment_holds(m, i, assignment)? {
             return Ok(false);
         }
     }

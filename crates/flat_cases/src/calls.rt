@@ -1,15 +1,15 @@
 // The calls by their words.
-use crate::form::form_text;
-use crate::models::{End, flat_of, refusal_text, source_of};
-use crate::sizes::{checked_text, sizes_text};
-use crate::widths::{formula_text, interval_text, width_text};
-use case_text::{Fault, Piece, given, has, number};
-use flat_agreement::{agreement_text, truths_text};
+use crate::form::put_form;
+use crate::sizes::{put_checked, put_sizes};
+use crate::widths::{put_formula_of, put_interval, put_width};
+use case_text::{Answer, Fault, Piece, Stop, given, has, small_number};
+use flat_agreement::{put_agreement, put_truths};
+use smv_flatten::{Flat, flatten};
 use smv_text::Source;
+use smv_text_cases::source_of;
 use std::alloc::Global;
-use text_core::Text;
 
-/// What a call answers of the pieces of a case:
+/// Appends what a call answers of the pieces of a case:
 /// - `form`, of the piece `model`: its flat form, line by line;
 /// - `sizes`, of `model`: how many items, symbols and formulas there are, the width, the weight, the number of invariants;
 /// - `checked`, of `model`: how many instances, and how many definitions and actuals the checks found;
@@ -21,62 +21,79 @@ use text_core::Text;
 ///
 /// `sizes` and `checked` take the number of the wanted invariant from `row`, 0 or no row where any will do. A model that is refused is
 /// answered by the kind and the place of its refusal.
-pub fn answer(alloc: Global, call: &[&str], pieces: &[Piece]) -> Result<Text, Fault> {
+pub fn put_answer(
+    alloc: Global,
+    out: &mut Answer,
+    call: &[&str],
+    pieces: &[Piece],
+) -> Result<(), Stop> {
     let [name] = call else {
-        return Err(Fault::Misread("not one word behind `flat`"));
+        return Err(Stop::from("not one word behind `flat`"));
     };
-    match answered(alloc, name, pieces) {
-        Ok(text) => Ok(text),
-        Err(End::Refused(why)) => refusal_text(alloc, why),
-        Err(End::Fault(fault)) => Err(fault),
+    match *name {
+        "formula" | "width" | "interval" => put_of_row(alloc, out, *name, pieces),
+        _ => put_of_model(alloc, out, *name, pieces),
     }
 }
 
-fn answered(alloc: Global, name: &str, pieces: &[Piece]) -> Result<Text, End> {
+fn put_of_row(alloc: Global, out: &mut Answer, name: &str, pieces: &[Piece]) -> Result<(), Stop> {
+    let row = given(pieces, "row")?;
     match name {
-        "formula" | "width" | "interval" => of_row(alloc, name, pieces),
-        _ => of_model(alloc, name, given(pieces, "model")?, wanted(pieces)?),
+        "formula" => put_formula_of(alloc, out, given(pieces, "declarations")?, row),
+        "width" => put_width(alloc, out, given(pieces, "declarations")?, row),
+        _ => put_interval(alloc, out, row),
+    }
+}
+
+fn put_of_model(alloc: Global, out: &mut Answer, name: &str, pieces: &[Piece]) -> Result<(), Stop> {
+    let wanted = wanted(pieces)?;
+    let source = source_of(alloc, given(pieces, "model")?)?;
+    match name {
+        "checked" => put_checked(alloc, out, &source, wanted),
+        _ => put_of_flat(alloc, out, name, &source, wanted),
     }
 }
 
 // The number of the wanted invariant, 0 where any will do.
 fn wanted(pieces: &[Piece]) -> Result<u32, Fault> {
-    if !has(pieces, "row") {
-        return Ok(0);
-    }
-    let Ok(digits) = std::str::from_utf8(given(pieces, "row")?) else {
-        return Err(Fault::Misread("a number that is no text"));
-    };
-    match u32::try_from(number(digits)?) {
-        Ok(wanted) => Ok(wanted),
-        Err(_) => Err(Fault::Misread("the number of an invariant")),
+    if has(pieces, "row") {
+        small_number(given(pieces, "row")?)
+    } else {
+        Ok(0)
     }
 }
 
-fn of_row(alloc: Global, name: &str, pieces: &[Piece]) -> Result<Text, End> {
-    let row = given(pieces, "row")?;
-    match name {
-        "formula" => formula_text(alloc, given(pieces, "declarations")?, row),
-        "width" => width_text(alloc, given(pieces, "declarations")?, row),
-        _ => Ok(interval_text(alloc, row)?),
-    }
+fn put_of_flat(
+    alloc: Global,
+    out: &mut Answer,
+    name: &str,
+    source: &Source,
+    wanted: u32,
+) -> Result<(), Stop> {
+    let flat = flatten(alloc, source, wanted)?;
+    let done = put_flat(alloc, out, name, source, &flat);
+    drop(flat);
+    Ok(done?)
 }
 
-fn of_model(alloc: Global, name: &str, model: &[u8], wanted: u32) -> Result<Text, End> {
-    let source = source_of(alloc, model)?;
+fn put_flat(
+    alloc: Global,
+    out: &mut Answer,
+    name: &str,
+    source: &Source,
+    flat: &Flat,
+) -> Result<(), Fault> {
     match name {
-        "checked" => checked_text(alloc, &source, wanted),
-        _ => of_flat(alloc, name, &source, wanted),
-    }
-}
-
-fn of_flat(alloc: Global, name: &str, source: &Source, wanted: u32) -> Result<Text, End> {
-    let flat = flat_of(alloc, source, wanted)?;
-    match name {
-        "form" => Ok(form_text(alloc, &flat)?),
-        "sizes" => Ok(sizes_text(alloc, &flat)?),
-        "truths" => Ok(truths_text(alloc, &flat)?),
-        "agreement" => Ok(agreement_text(alloc, source, &flat)?),
-        _ => Err(End::Fault(Fault::Misread("no call of `flat`"))),
+        "form" => {
+            put_form(out, flat);
+            Ok(())
+        }
+        "sizes" => {
+            put_sizes(out, flat);
+            Ok(())
+        }
+        "truths" => put_truths(alloc, out, flat),
+        "agreement" => put_agreement(alloc, out, source, flat),
+        _ => Err(Fault::Misread("no call of `flat`")),
     }
 }

@@ -5,9 +5,7 @@
 mod calls;
 mod expressions;
 mod form;
-mod models;
-mod operators;
 mod sizes;
 mod widths;
 
-pub use calls::answer;
+pub use calls::put_answer;

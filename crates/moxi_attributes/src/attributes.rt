@@ -11,6 +11,7 @@ use crate::shapes::place_of;
 use moxi_scripts::{Command, Key, Turn};
 use moxi_sexpr::{Atom, Form, FormShape};
 use moxi_terms::is_same;
+use text_core::kinds::moxi;
 use text_core::{Place, Refusal};
 
 fn key_number(k: Key) -> u8
@@ -196,20 +197,20 @@ pub fn is_behind(k: Key, turn: Turn) -> bool
 }
 
 // Where a key's value may stand next, its name is known.
-#[tactic(auto, using(crate::proofs::Collecting::also_none))]
+#[tactic(auto, using(crate::specs::laws::Collecting::also_none))]
 fn test_keyword(command: Command, keyword: Option<&[u8]>, p: Place, found: &mut Option<Refusal>)
     ensures { found.new ≡ also found.old (unknown_keyword command (keyword_now keyword.entry) p) }
 {
     match keyword {
         None => {}
         Some(name) => match key_named(command, name) {
-            None => fail(found, 6, p),
+            None => fail(found, moxi::NOT_SUPPORTED, p),
             Some(_) => {}
         },
     }
 }
 
-#[tactic(auto, using(crate::proofs::Collecting::also_none))]
+#[tactic(auto, using(crate::specs::laws::Collecting::also_none))]
 fn test_unknown(command: Command, turn: Turn, form: &Form, found: &mut Option<Refusal>)
     ensures { found.new ≡ also found.old (unknown_tests command turn (plain form.now)) }
 {

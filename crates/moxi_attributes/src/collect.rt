@@ -1,17 +1,16 @@
 // The least of the tests that fail.
 ghost use Rattle.std.specs.Prelude.{◌≡◌, ◌∷◌, [], List, is_none};
 ghost use Rattle.text_core.specs.declared.place.Refusal.{Refusal};
-ghost use Rattle.moxi_sexpr.specs.Lexing.{refusal};
 ghost use Rattle.moxi_sorts.specs.Failures.{least};
 ghost use Rattle.moxi_term_reading.specs.Reading.{prime_failures};
-ghost use Rattle.moxi_scripts.specs.Collecting.{also, fails_if};
+ghost use Rattle.moxi_scripts.specs.Collecting.{also, fails_with};
 
-use moxi_sorts::{refusal, sooner};
+use moxi_sorts::sooner;
 use moxi_term_reading::prime;
-use text_core::{Place, Refusal};
+use text_core::{Kind, Place, Refusal};
 
 /// Tests of which the least failing one is this.
-#[tactic(auto, using(crate::proofs::Collecting::also_least), unfolding(moxi_scripts::specs::Collecting::also))]
+#[tactic(auto, using(crate::specs::laws::Collecting::also_least), unfolding(moxi_scripts::specs::Collecting::also))]
 pub fn note(found: &mut Option<Refusal>, failure: Option<Refusal>)
     ensures { (fs : List Refusal) → failure ≡ least fs → found.new ≡ also found.old fs }
 {
@@ -32,20 +31,20 @@ pub fn refuse(found: &mut Option<Refusal>, failure: Refusal)
     note(found, Some(failure));
 }
 
-/// A test that fails.
-pub fn fail(found: &mut Option<Refusal>, number: u8, place: Place)
-    ensures { found.new ≡ also found.old (refusal number place ∷ []) }
+/// A test that fails with this kind.
+pub fn fail(found: &mut Option<Refusal>, kind: Kind, place: Place)
+    ensures { found.new ≡ also found.old (record { kind = kind; place = place } ∷ []) }
 {
-    refuse(found, refusal(number, place));
+    refuse(found, Refusal { kind, place });
 }
 
-/// A test.
-#[tactic(auto, using(crate::proofs::Collecting::also_none))]
-pub fn fail_if(found: &mut Option<Refusal>, fails: bool, number: u8, place: Place)
-    ensures { found.new ≡ also found.old (fails_if fails number place) }
+/// A test, which fails with this kind where `fails` holds.
+#[tactic(auto, using(crate::specs::laws::Collecting::also_none))]
+pub fn fail_if(found: &mut Option<Refusal>, fails: bool, kind: Kind, place: Place)
+    ensures { found.new ≡ also found.old (fails_with fails kind place) }
 {
     if fails {
-        fail(found, number, place);
+        fail(found, kind, place);
     }
 }
 

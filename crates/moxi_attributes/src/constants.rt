@@ -9,16 +9,18 @@ use crate::collect::{fail, fail_primed};
 use crate::shapes::place_of;
 use moxi_sexpr::Form;
 use moxi_sorts::symbol_of;
-use moxi_terms::{Numbering, Scope};
+use moxi_terms::Scope;
+use name_set::NameSet;
 use std::alloc::Global;
+use text_core::kinds::moxi;
 use text_core::{Name, Names, NoMemory, Place, Refusal};
 
 /// A name of a constant or a function, which fails where it is taken.
-#[tactic(auto, using(crate::proofs::Collecting::also_none))]
+#[tactic(auto, using(crate::specs::laws::Collecting::also_none))]
 pub fn declare_term_name(
     alloc: Global,
     scope: &Scope,
-    names: &mut Numbering,
+    names: &mut NameSet,
     name: &[u8],
     place: Place,
     found: &mut Option<Refusal>,
@@ -27,21 +29,21 @@ pub fn declare_term_name(
     ensures finds { OnOk result (found.new ≡ also found.old (term_name_tests scope.now names.old name.now place)) }
 {
     if scope.is_term_name(name) {
-        fail(found, 9, place);
+        fail(found, moxi::NAME_TWICE, place);
         return Ok(());
     }
     if !names.declare(alloc, name)? {
-        fail(found, 9, place);
+        fail(found, moxi::NAME_TWICE, place);
     }
     Ok(())
 }
 
 // A constant.
-#[tactic(auto, using(crate::proofs::Collecting::also_none, crate::proofs::Collecting::also_append))]
+#[tactic(auto, using(crate::specs::laws::Collecting::also_none, crate::specs::laws::Collecting::also_append))]
 fn read_constant(
     alloc: Global,
     scope: &Scope,
-    names: &mut Numbering,
+    names: &mut NameSet,
     form: &Form,
     constants: &mut Names,
     found: &mut Option<Refusal>,
@@ -67,7 +69,7 @@ fn read_constant(
 pub fn read_constants(
     alloc: Global,
     scope: &Scope,
-    names: &mut Numbering,
+    names: &mut NameSet,
     forms: &[Form],
     constants: &mut Names,
     found: &mut Option<Refusal>,

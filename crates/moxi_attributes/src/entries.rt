@@ -10,12 +10,14 @@ use crate::shapes::{misshapen, named_form, place_of};
 use moxi_scripts::{Declared, Entries};
 use moxi_sexpr::Form;
 use moxi_sorts::{Locals, sort_of};
-use moxi_terms::{Numbering, Scope, Sort, Variable, Variables};
+use moxi_terms::{Scope, Sort, Variable, Variables};
+use name_set::NameSet;
 use std::alloc::Global;
-use text_core::{Items, Name, NoMemory, Place, Refusal};
+use text_core::kinds::moxi;
+use text_core::{List, Name, NoMemory, Place, Refusal};
 
 /// The test of a sort.
-#[tactic(auto, using(crate::proofs::Collecting::also_none))]
+#[tactic(auto, using(crate::specs::laws::Collecting::also_none))]
 pub fn note_sort(found: &mut Option<Refusal>, sort: Result<Sort, Refusal>)
     ensures { found.new ≡ also found.old (sort_failures sort) }
 {
@@ -36,7 +38,7 @@ pub fn known_sort(sort: Result<Sort, Refusal>) -> Option<Sort>
 }
 
 // An entry of a list at `around`.
-#[tactic(auto, using(crate::proofs::Collecting::also_append))]
+#[tactic(auto, using(crate::specs::laws::Collecting::also_append))]
 fn read_entry(
     alloc: Global,
     scope: &Scope,
@@ -68,7 +70,7 @@ fn read_entry(
 }
 
 /// The variables of a list at `around`.
-#[tactic(auto, using(crate::proofs::Collecting::also_append, moxi_scripts::proofs::Forms::forms_step, moxi_scripts::proofs::Forms::forms_end))]
+#[tactic(auto, using(crate::specs::laws::Collecting::also_append, moxi_scripts::proofs::Forms::forms_step, moxi_scripts::proofs::Forms::forms_end))]
 pub fn read_entries(
     alloc: Global,
     scope: &Scope,
@@ -87,10 +89,10 @@ pub fn read_entries(
 }
 
 // One more name of its list; a name that stands among those before fails.
-#[tactic(auto, using(crate::proofs::Collecting::also_none))]
+#[tactic(auto, using(crate::specs::laws::Collecting::also_none))]
 fn test_twice_one(
     alloc: Global,
-    names: &mut Numbering,
+    names: &mut NameSet,
     entry: &Declared,
     found: &mut Option<Refusal>,
 ) -> Result<(), NoMemory>
@@ -98,7 +100,7 @@ fn test_twice_one(
     ensures finds { OnOk result (found.new ≡ also found.old (twice_tests names.old entry.now)) }
 {
     if !names.declare(alloc, entry.name.bytes())? {
-        fail(found, 9, entry.place);
+        fail(found, moxi::NAME_TWICE, entry.place);
     }
     Ok(())
 }
@@ -106,7 +108,7 @@ fn test_twice_one(
 /// The tests of names that are declared twice: among these names, or in the list itself.
 pub fn test_twice(
     alloc: Global,
-    names: &mut Numbering,
+    names: &mut NameSet,
     entries: &Entries,
     found: &mut Option<Refusal>,
 ) -> Result<(), NoMemory>
@@ -182,7 +184,7 @@ pub fn append(alloc: Global, all: &mut Entries, more: &Entries) -> Result<(), No
 }
 
 /// The test of two sorts at p, where both are known.
-#[tactic(auto, using(crate::proofs::Collecting::also_none))]
+#[tactic(auto, using(crate::specs::laws::Collecting::also_none))]
 pub fn test_clash(found: &mut Option<Refusal>, a: Option<Sort>, b: Option<Sort>, p: Place)
     ensures { found.new ≡ also found.old (clash_failures a b p) }
 {
@@ -190,7 +192,7 @@ pub fn test_clash(found: &mut Option<Refusal>, a: Option<Sort>, b: Option<Sort>,
         None => {}
         Some(s) => match b {
             None => {}
-            Some(t) => fail_if(found, s != t, 5, p),
+            Some(t) => fail_if(found, s != t, moxi::SORT_CLASH, p),
         },
     }
 }

@@ -42,7 +42,7 @@ pub fn read_truth(
 }
 
 /// A formula that may be missing.
-#[tactic(auto, using(crate::proofs::Collecting::also_none))]
+#[tactic(auto, using(crate::specs::laws::Collecting::also_none))]
 pub fn read_formula(
     alloc: Global,
     scope: &Scope,

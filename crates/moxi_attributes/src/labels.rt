@@ -15,14 +15,16 @@ use crate::shapes::{misshapen, named_form, place_of};
 use moxi_scripts::{Command, Formula, Formulas, Key, Turn};
 use moxi_sexpr::Form;
 use moxi_sorts::Locals;
-use moxi_terms::{Numbering, Primes, Scope, Term};
+use moxi_terms::{Primes, Scope, Term};
+use name_set::NameSet;
 use std::alloc::Global;
+use text_core::kinds::moxi;
 use text_core::{Name, NoMemory, Refusal};
 
 /// Formulas of one kind, and their names.
 #[derive(Drop)]
 pub struct Labelled {
-    pub names: Numbering,
+    pub names: NameSet,
     pub formulas: Formulas,
 }
 
@@ -39,7 +41,7 @@ fn no_list(alloc: Global) -> Labelled
     ensures { plain_list result ≡ no_list }
 {
     Labelled {
-        names: Numbering::new(alloc),
+        names: NameSet::new(alloc),
         formulas: Formulas::new(alloc),
     }
 }
@@ -143,7 +145,7 @@ fn add_formula(
 }
 
 // `(a t)`, a formula of this kind.
-#[tactic(auto, using(crate::proofs::Collecting::also_append))]
+#[tactic(auto, using(crate::specs::laws::Collecting::also_append))]
 fn read_label(
     alloc: Global,
     scope: &Scope,
@@ -165,7 +167,7 @@ fn read_label(
         Some(n) => {
             fail_primed(found, n.primed, n.place);
             let taken = is_label(ls, n.name);
-            fail_if(found, taken, 9, n.place);
+            fail_if(found, taken, moxi::NAME_TWICE, n.place);
             let term = read_truth(alloc, scope, locals, Primes::Refused, n.form, found)?;
             if taken {
                 return Ok(());
@@ -177,7 +179,7 @@ fn read_label(
 }
 
 // A form among attributes.
-#[tactic(auto, using(crate::proofs::Collecting::also_none))]
+#[tactic(auto, using(crate::specs::laws::Collecting::also_none))]
 fn read_label_at(
     alloc: Global,
     scope: &Scope,

@@ -15,12 +15,13 @@ use crate::entries::{append, read_entries, test_twice};
 use crate::shapes::{parts_of, place_of};
 use moxi_scripts::{Command, DeclaredList, Entries, Key, Lists};
 use moxi_sexpr::Form;
-use moxi_terms::{Numbering, Scope};
+use moxi_terms::Scope;
+use name_set::NameSet;
 use std::alloc::Global;
 use text_core::{NoMemory, Refusal};
 
 // The entries of a list, where it is there.
-#[tactic(auto, using(crate::proofs::Collecting::also_none, crate::proofs::Collecting::nothing_more))]
+#[tactic(auto, using(crate::specs::laws::Collecting::also_none, crate::specs::laws::Collecting::nothing_more))]
 fn read_entries_of(
     alloc: Global,
     scope: &Scope,
@@ -72,7 +73,7 @@ fn read_list(
 }
 
 /// The variables of all lists: inputs, outputs, locals.
-#[tactic(auto, using(crate::proofs::Collecting::joined))]
+#[tactic(auto, using(crate::specs::laws::Collecting::joined))]
 pub fn all_entries(alloc: Global, lists: &Lists) -> Result<Entries, NoMemory>
     ensures { IfOk result (λ all. all ≡ all_entries lists.now) }
 {
@@ -84,7 +85,7 @@ pub fn all_entries(alloc: Global, lists: &Lists) -> Result<Entries, NoMemory>
 }
 
 /// The lists of a system or a check; of two variables with one name the second fails.
-#[tactic(auto, using(crate::proofs::Collecting::also_append))]
+#[tactic(auto, using(crate::specs::laws::Collecting::also_append))]
 pub fn read_lists(
     alloc: Global,
     scope: &Scope,

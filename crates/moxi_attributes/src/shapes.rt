@@ -8,6 +8,7 @@ ghost use Rattle.moxi_attributes.specs.Views.{headed_now, named_now, parts_now, 
 
 use moxi_sexpr::{Form, FormShape};
 use moxi_sorts::{only, pair, refusal, symbol_of};
+use text_core::kinds::moxi;
 use text_core::{Place, Refusal};
 
 /// A symbol, and the forms behind it.
@@ -100,7 +101,7 @@ pub fn misshapen_place(around: Place, form: &Form) -> Place
 pub fn misshapen(around: Place, form: &Form) -> Refusal
     ensures { result ≡ misshapen around (plain form.now) }
 {
-    refusal(12, misshapen_place(around, form))
+    refusal(moxi::ARITY, misshapen_place(around, form))
 }
 
 /// The symbol, and the one form behind it, where forms are these.

@@ -19,9 +19,11 @@ use crate::shapes::{Headed, Named, headed_forms, misshapen, named_form, parts_of
 use moxi_scripts::{Actual, Command, Key, Turn, Use};
 use moxi_sexpr::Form;
 use moxi_sorts::{Locals, symbol_of};
-use moxi_terms::{Numbering, Sort};
+use moxi_terms::Sort;
+use name_set::NameSet;
 use std::alloc::Global;
-use text_core::{Items, Name, NoMemory, Place, Refusal};
+use text_core::kinds::moxi;
+use text_core::{List, Name, NoMemory, Place, Refusal};
 
 fn actual_at(found: Option<(u32, Option<Sort>)>, place: Place) -> Actual
     ensures { result ≡ actual_at (found_now found) place }
@@ -41,11 +43,11 @@ fn actual_at(found: Option<(u32, Option<Sort>)>, place: Place) -> Actual
 }
 
 // One actual, a variable.
-#[tactic(auto, using(crate::proofs::Collecting::also_append, crate::proofs::Collecting::also_none, crate::proofs::Collecting::nothing_more))]
+#[tactic(auto, using(crate::specs::laws::Collecting::also_append, crate::specs::laws::Collecting::also_none, crate::specs::laws::Collecting::nothing_more))]
 fn read_actual(
     locals: &Locals,
     form: &Form,
-    actuals: &mut Items<Actual>,
+    actuals: &mut List<Actual>,
     found: &mut Option<Refusal>,
 ) -> Result<bool, NoMemory>
     ensures symbol { IfOk result (λ b. b ≡ is_some (symbol_of (plain form.now))) }
@@ -58,7 +60,7 @@ fn read_actual(
             let place = place_of(form);
             let variable = locals.find(name);
             fail_primed(found, primed, place);
-            fail_if(found, is_missing(variable), 4, place);
+            fail_if(found, is_missing(variable), moxi::UNKNOWN, place);
             actuals.push(actual_at(variable, place))?;
             Ok(true)
         }
@@ -78,7 +80,7 @@ fn is_missing(variable: Option<(u32, Option<Sort>)>) -> bool
 fn read_actuals(
     locals: &Locals,
     forms: &[Form],
-    actuals: &mut Items<Actual>,
+    actuals: &mut List<Actual>,
     found: &mut Option<Refusal>,
 ) -> Result<bool, NoMemory>
     ensures symbols { IfOk result (λ b. b ≡ are_symbols (plain_forms forms.now)) }
@@ -94,23 +96,23 @@ fn read_actuals(
 }
 
 // A subsystem of a name, with `(S x ..)` at q.
-#[tactic(auto, using(crate::proofs::Collecting::also_append, crate::proofs::Collecting::nothing_more))]
+#[tactic(auto, using(crate::specs::laws::Collecting::also_append, crate::specs::laws::Collecting::nothing_more))]
 fn read_target(
     alloc: Global,
     locals: &Locals,
     name: &[u8],
     q: Place,
     h: Headed,
-    uses: &mut Items<Use>,
+    uses: &mut List<Use>,
     found: &mut Option<Refusal>,
 ) -> Result<(), NoMemory>
     ensures adds { OnOk result (uses.new ≡ uses.old ++ use_at locals.now name.now q (headed_here h.entry)) }
     ensures finds { OnOk result (found.new ≡ also found.old (target_failures locals.now q (headed_here h.entry))) }
 {
-    let mut actuals = Items::new(alloc);
+    let mut actuals = List::new(alloc);
     fail_primed(found, h.primed, h.place);
     let symbols = read_actuals(locals, h.rest, &mut actuals, found)?;
-    fail_if(found, !symbols, 12, q);
+    fail_if(found, !symbols, moxi::ARITY, q);
     if symbols {
         uses.push(Use {
             name: Name::of(alloc, name)?,
@@ -130,7 +132,7 @@ fn read_target_list(
     locals: &Locals,
     p: Place,
     n: Named,
-    uses: &mut Items<Use>,
+    uses: &mut List<Use>,
     found: &mut Option<Refusal>,
 ) -> Result<(), NoMemory>
     ensures adds { OnOk result (uses.new ≡ uses.old ++ use_in locals.now (named_here n.entry)) }
@@ -138,12 +140,12 @@ fn read_target_list(
 {
     match parts_of(n.form) {
         None => {
-            fail(found, 12, p);
+            fail(found, moxi::ARITY, p);
             Ok(())
         }
         Some(parts) => match headed_forms(parts) {
             None => {
-                fail(found, 12, place_of(n.form));
+                fail(found, moxi::ARITY, place_of(n.form));
                 Ok(())
             }
             Some(h) => {
@@ -155,13 +157,13 @@ fn read_target_list(
 }
 
 // `(n (S x ..))`.
-#[tactic(auto, using(crate::proofs::Collecting::also_append, crate::proofs::Collecting::nothing_more))]
+#[tactic(auto, using(crate::specs::laws::Collecting::also_append, crate::specs::laws::Collecting::nothing_more))]
 fn read_use(
     alloc: Global,
     locals: &Locals,
-    names: &mut Numbering,
+    names: &mut NameSet,
     form: &Form,
-    uses: &mut Items<Use>,
+    uses: &mut List<Use>,
     found: &mut Option<Refusal>,
 ) -> Result<(), NoMemory>
     ensures adds { OnOk result (uses.new ≡ uses.old ++ use_of locals.now (plain form.now)) }
@@ -177,7 +179,7 @@ fn read_use(
         Some(n) => {
             fail_primed(found, n.primed, n.place);
             let fresh = names.declare(alloc, n.name)?;
-            fail_if(found, !fresh, 9, n.place);
+            fail_if(found, !fresh, moxi::NAME_TWICE, n.place);
             read_target_list(alloc, locals, p, n, uses, found)?;
             Ok(())
         }
@@ -185,14 +187,14 @@ fn read_use(
 }
 
 // A value among attributes.
-#[tactic(auto, using(crate::proofs::Collecting::also_none, crate::proofs::Collecting::nothing_more))]
+#[tactic(auto, using(crate::specs::laws::Collecting::also_none, crate::specs::laws::Collecting::nothing_more))]
 fn read_use_at(
     alloc: Global,
     locals: &Locals,
     turn: Turn,
-    names: &mut Numbering,
+    names: &mut NameSet,
     form: &Form,
-    uses: &mut Items<Use>,
+    uses: &mut List<Use>,
     found: &mut Option<Refusal>,
 ) -> Result<(), NoMemory>
     ensures adds { OnOk result (uses.new ≡ uses.old ++ (if is_behind keys.Subsystem turn then use_of locals.now (plain form.now) else [])) }
@@ -211,13 +213,13 @@ pub fn read_uses(
     alloc: Global,
     locals: &Locals,
     forms: &[Form],
-    uses: &mut Items<Use>,
+    uses: &mut List<Use>,
     found: &mut Option<Refusal>,
 ) -> Result<(), NoMemory>
     ensures adds { OnOk result (uses.new ≡ uses.old ++ uses_in locals.now turns.AtKeyword (plain_forms forms.now)) }
     ensures finds { OnOk result (found.new ≡ also found.old (uses_failures locals.now [] turns.AtKeyword (plain_forms forms.now))) }
 {
-    let mut names = Numbering::new(alloc);
+    let mut names = NameSet::new(alloc);
     let mut turn = Turn::AtKeyword;
     for form in forms {
         read_use_at(alloc, locals, turn, &mut names, form, uses, found)?;

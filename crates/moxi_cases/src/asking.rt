@@ -7,25 +7,28 @@ ghost use Rattle.moxi_cases.specs.Added.{Adds};
 
 use crate::forms::forms_of;
 use crate::scripts::{given_script, query_named};
-use crate::stop::Stop;
 use crate::values::push_values;
-use case_text::{Piece, given};
+use case_text::{Answer, Piece, Stop, given};
 use moxi_scripts::{Queries, Script};
 use moxi_sexpr::{Atom, Form, FormShape};
 use moxi_sorts::symbol_of;
 use moxi_systems::query_failing;
 use moxi_terms::Env;
 use std::alloc::Global;
-use text_core::{Clause, Text};
+use text_core::Clause;
 use word_core::read_digits;
 
 /// Appends the first clause that fails of what a query asks of a step, in a row such as `q at 0 of 1 (x true)`: the query, the
 /// step, the last step, and the values of the check's variables.
-pub fn put_failing(alloc: Global, out: &mut Text, pieces: &[Piece]) -> Result<(), Stop> {
+pub fn put_failing(alloc: Global, out: &mut Answer, pieces: &[Piece]) -> Result<(), Stop> {
     let script = given_script(alloc, pieces)?;
     let clause = failing_in_row(alloc, &script, pieces);
     drop(script);
-    Ok(out.put(word_of(clause?))?)
+    match clause? {
+        Some(clause) => out.put_clause(clause),
+        None => out.put(b"nothing fails"),
+    }
+    Ok(())
 }
 
 fn failing_in_row(
@@ -104,14 +107,4 @@ fn step_of(form: &Form) -> Result<u32, Stop> {
     };
     let step = read_digits(32, 10, digits.bytes()).ok_or("a step of more than 32 bits")?;
     Ok(step.bits() as u32)
-}
-
-fn word_of(clause: Option<Clause>) -> &'static [u8] {
-    match clause {
-        None => b"nothing fails",
-        Some(Clause::AssumptionFails) => b"AssumptionFails",
-        Some(Clause::CurrentFails) => b"CurrentFails",
-        Some(Clause::NotBroken) => b"NotBroken",
-        Some(_) => b"another clause",
-    }
 }

@@ -1,6 +1,6 @@
 // Do small systems behave on a trace? A plain slow program: each subsystem tries all values of its locals at all steps.
-use crate::stop::Stop;
 use crate::truths::{Steps, always, at, begins, between};
+use case_text::Stop;
 use moxi_scripts::{Subsystem, System, Systems};
 use std::alloc::Global;
 use text_core::Numbers;
@@ -24,8 +24,8 @@ pub fn behaves(
     if !formulas_hold(alloc, system, steps)? {
         return Ok(false);
     }
-    for i in 0..system.subsystems.len() {
-        if !some_behaves(alloc, systems, depth - 1, system.subsystems.at(i), steps)? {
+    for subsystem in &system.subsystems {
+        if !some_behaves(alloc, systems, depth - 1, subsystem, steps)? {
             return Ok(false);
         }
     }
@@ -78,20 +78,37 @@ fn inner_steps(
     let mut inner = Vec::new(alloc);
     let mut bits = hidden;
     for outer in steps {
-        let mut step = values_at(alloc, actuals, outer)?;
-        for _ in 0..locals {
-            step.push(bits % 2 == 1)?;
-            bits /= 2;
-        }
+        let step = inner_step(alloc, actuals, outer, locals, &mut bits)?;
         inner.push(step)?;
     }
     Ok(inner)
 }
 
-fn values_at(alloc: Global, numbers: &Numbers, values: &[bool]) -> Result<Vec<bool>, Stop> {
-    let mut all = Vec::new(alloc);
-    for i in 0..numbers.len() {
-        all.push(at(values, *numbers.at(i) as usize))?;
+// One step of it, which takes its bits off the number.
+fn inner_step(
+    alloc: Global,
+    actuals: &Numbers,
+    outer: &[bool],
+    locals: u32,
+    bits: &mut u32,
+) -> Result<Vec<bool>, Stop> {
+    let mut step = Vec::new(alloc);
+    push_actuals(actuals, outer, &mut step)?;
+    push_bits(locals, bits, &mut step)?;
+    Ok(step)
+}
+
+fn push_actuals(actuals: &Numbers, outer: &[bool], step: &mut Vec<bool>) -> Result<(), Stop> {
+    for number in actuals {
+        step.push(at(outer, *number as usize))?;
     }
-    Ok(all)
+    Ok(())
+}
+
+fn push_bits(count: u32, bits: &mut u32, step: &mut Vec<bool>) -> Result<(), Stop> {
+    for _ in 0..count {
+        step.push(*bits % 2 == 1)?;
+        *bits /= 2;
+    }
+    Ok(())
 }

@@ -1,16 +1,13 @@
 // What the calls of MoXI answer.
 use crate::asking::put_failing;
 use crate::forms::put_forms;
-use crate::places::put_refusal;
 use crate::scripts::{put_given_check, put_given_systems, put_printed_script, put_script};
-use crate::stop::Stop;
 use crate::terms::{put_entry_sort, put_term_sort};
 use crate::traces::put_trace;
 use crate::values::put_term_value;
-use case_text::{Fault, Piece};
+use case_text::{Answer, Piece, Stop, beside};
 use moxi_terms::Primes;
 use std::alloc::Global;
-use text_core::{Refusal, Text};
 
 #[derive(Clone, Copy)]
 enum Call {
@@ -39,44 +36,23 @@ const CALLS: [(&str, Call); 10] = [
     ("failing", Call::Failing),
 ];
 
-fn call_of(name: &str) -> Option<Call> {
-    for (text, call) in &CALLS {
-        if *text == name {
-            return Some(*call);
-        }
-    }
-    None
-}
-
-/// The answer of a call, named by its words, to the pieces of a case; a refusal is answered as such.
-pub fn answer(alloc: Global, call: &[&str], pieces: &[Piece]) -> Result<Text, Fault> {
-    let mut out = Text::new(alloc);
-    match put_answer(alloc, &mut out, call, pieces) {
-        Ok(()) => Ok(out),
-        Err(Stop::Fault(end)) => Err(end),
-        Err(Stop::Refused(refusal)) => refused(alloc, refusal),
-    }
-}
-
-fn refused(alloc: Global, refusal: Refusal) -> Result<Text, Fault> {
-    let mut out = Text::new(alloc);
-    put_refusal(&mut out, refusal)?;
-    Ok(out)
-}
-
-fn put_answer(alloc: Global, out: &mut Text, call: &[&str], pieces: &[Piece]) -> Result<(), Stop> {
+/// Appends what a call, named by its words, answers to the pieces of a case.
+pub fn put_answer(
+    alloc: Global,
+    out: &mut Answer,
+    call: &[&str],
+    pieces: &[Piece],
+) -> Result<(), Stop> {
     let Some((name, words)) = call.split_first() else {
         return Err(Stop::from("a call without a name"))
     };
-    let Some(call) = call_of(name) else {
-        return Err(Stop::from("no such call of MoXI"))
-    };
+    let call = beside(CALLS.as_slice(), *name).ok_or("no such call of MoXI")?;
     put_call(alloc, out, call, words, pieces)
 }
 
 fn put_call(
     alloc: Global,
-    out: &mut Text,
+    out: &mut Answer,
     call: Call,
     words: &[&str],
     pieces: &[Piece],

@@ -4,24 +4,17 @@ ghost use Rattle.moxi_sexpr.specs.Printing.{ArePrintable};
 ghost use Rattle.moxi_sexpr.specs.Tree.{plain_forms};
 
 use crate::places::put_places;
-use crate::stop::Stop;
-use case_text::{Piece, given, has};
+use case_text::{Answer, Fault, Piece, Stop, given, has, subject};
 use moxi_sexpr::{Forms, print_forms, read_forms, readings_are_one};
 use std::alloc::Global;
-use text_core::{NoMemory, Text};
-
-/// What a case is about: its row, or else the piece of this name.
-pub fn subject<'a>(pieces: &'a [Piece], name: &str) -> Result<&'a [u8], Stop> {
-    let name = if has(pieces, "row") { "row" } else { name };
-    Ok(given(pieces, name)?)
-}
 
 /// The bytes of a piece, none where there is no such piece.
-pub fn optional<'a>(pieces: &'a [Piece], name: &str) -> Result<&'a [u8], Stop> {
+pub fn optional<'a>(pieces: &'a [Piece], name: &str) -> Result<&'a [u8], Fault> {
     if has(pieces, name) {
-        return Ok(given(pieces, name)?);
+        given(pieces, name)
+    } else {
+        Ok(b"")
     }
-    Ok(b"")
 }
 
 /// The forms of a text.
@@ -37,47 +30,40 @@ pub fn forms_of(alloc: Global, text: &[u8]) -> Result<Forms, Stop>
 }
 
 /// Appends the forms as they are printed, each on a line, or those of a row on one, and behind them the places of all forms.
-pub fn put_forms(alloc: Global, out: &mut Text, pieces: &[Piece]) -> Result<(), Stop> {
+pub fn put_forms(alloc: Global, out: &mut Answer, pieces: &[Piece]) -> Result<(), Stop> {
     let forms = forms_of(alloc, subject(pieces, "text")?)?;
-    Ok(put_with_places(alloc, out, &forms, has(pieces, "row"))?)
+    put_with_places(alloc, out, &forms, has(pieces, "row"))
 }
 
 fn put_with_places(
     alloc: Global,
-    out: &mut Text,
+    out: &mut Answer,
     forms: &Forms,
     on_one_line: bool,
-) -> Result<(), NoMemory> {
+) -> Result<(), Stop> {
     if forms.is_empty() {
-        return out.put(b"no forms");
+        out.put(b"no forms");
+        return Ok(());
     }
-    put_printed(alloc, out, forms, on_one_line)?;
-    out.put(b"at")?;
-    put_places(out, forms)
-}
-
-fn put_printed(
-    alloc: Global,
-    out: &mut Text,
-    forms: &Forms,
-    on_one_line: bool,
-) -> Result<(), NoMemory> {
     let printed = print_forms(alloc, forms)?;
     if on_one_line {
-        put_on_one_line(out, printed.bytes())
+        put_on_one_line(out, printed.bytes());
     } else {
-        out.put(printed.bytes())
+        out.put(printed.bytes());
     }
+    out.put(b"at");
+    put_places(out, forms);
+    Ok(())
 }
 
 // Lines, with a comma between two and a blank behind the last.
-fn put_on_one_line(out: &mut Text, lines: &[u8]) -> Result<(), NoMemory> {
+fn put_on_one_line(out: &mut Answer, lines: &[u8]) {
     for (i, b) in lines.iter().enumerate() {
         if *b != b'\n' {
-            out.put(&[*b])?;
+            out.put(&[*b]);
         } else if i + 1 < lines.len() {
-            out.put(b", ")?;
+            out.put(b", ");
         }
     }
-    out.put(b" ")
+    out.put(b" ");
 }

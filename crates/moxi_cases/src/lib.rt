@@ -7,10 +7,10 @@ mod calls;
 mod forms;
 mod places;
 mod scripts;
-mod stop;
+mod shown;
 mod terms;
 mod traces;
 mod truths;
 mod values;
 
-pub use calls::answer;
+pub use calls::put_answer;

@@ -1,24 +1,20 @@
 // Scripts, and how they are printed.
 ghost use Rattle.std.specs.Prelude.{◌<◌, length, IfOk};
 
-use crate::forms::{forms_of, subject};
-use crate::places::put_place;
-use crate::stop::Stop;
-use case_text::{Piece, given};
+use crate::forms::forms_of;
+use crate::shown::put_name;
+use case_text::{Answer, Piece, Stop, given, subject};
 use moxi_printing::print_script;
 use moxi_reading::read_script;
 use moxi_scripts::{Check, Queries, Query, Script, Subsystem, System, Systems};
-use moxi_sexpr::{end_of, put_symbol};
+use moxi_sexpr::end_of;
 use std::alloc::Global;
-use text_core::{NoMemory, Numbers, Text};
+use text_core::{Numbers, Text};
 
 // The script of a text.
 fn script_of(alloc: Global, text: &[u8]) -> Result<Script, Stop> {
     let forms = forms_of(alloc, text)?;
-    match read_script(alloc, &forms, end_of(text)) {
-        Ok(script) => Ok(script),
-        Err(end) => Err(Stop::from(end)),
-    }
+    Ok(read_script(alloc, &forms, end_of(text))?)
 }
 
 /// The script that a case gives.
@@ -53,98 +49,100 @@ fn printed(alloc: Global, text: &[u8]) -> Result<Text, Stop> {
 }
 
 /// Appends the script as it is printed.
-pub fn put_script(alloc: Global, out: &mut Text, pieces: &[Piece]) -> Result<(), Stop> {
+pub fn put_script(alloc: Global, out: &mut Answer, pieces: &[Piece]) -> Result<(), Stop> {
     let text = printed(alloc, subject(pieces, "script")?)?;
-    Ok(out.put(text.bytes())?)
+    out.put(text.bytes());
+    Ok(())
 }
 
 /// Appends the script as it is printed, which has to be printed so once more where it is read again.
-pub fn put_printed_script(alloc: Global, out: &mut Text, pieces: &[Piece]) -> Result<(), Stop> {
+pub fn put_printed_script(alloc: Global, out: &mut Answer, pieces: &[Piece]) -> Result<(), Stop> {
     let once = printed(alloc, subject(pieces, "script")?)?;
-    let again = printed(alloc, once.bytes()).map_err(Stop::as_fault)?;
-    if again.bytes() != once.bytes() {
+    put_checked(alloc, out, once.bytes())
+}
+
+fn put_checked(alloc: Global, out: &mut Answer, text: &[u8]) -> Result<(), Stop> {
+    let again = printed(alloc, text).map_err(Stop::as_fault)?;
+    if again.bytes() != text {
         return Err(Stop::from("what is printed is another script"));
     }
-    Ok(out.put(once.bytes())?)
+    out.put(text);
+    Ok(())
 }
 
 /// Appends the systems, each with its subsystems: the name, the number of the system, and those of the actuals.
-pub fn put_given_systems(alloc: Global, out: &mut Text, pieces: &[Piece]) -> Result<(), Stop> {
+pub fn put_given_systems(alloc: Global, out: &mut Answer, pieces: &[Piece]) -> Result<(), Stop> {
     let script = given_script(alloc, pieces)?;
-    let done = put_systems(out, &script.systems);
+    put_systems(out, &script.systems);
     drop(script);
-    Ok(done?)
-}
-
-fn put_systems(out: &mut Text, systems: &Systems) -> Result<(), NoMemory> {
-    for i in 0..systems.len() {
-        if i > 0 {
-            out.put(b" ")?;
-        }
-        put_system(out, systems.at(i))?;
-    }
     Ok(())
 }
 
-fn put_system(out: &mut Text, system: &System) -> Result<(), NoMemory> {
-    put_symbol(out, system.name.bytes(), false)?;
-    for i in 0..system.subsystems.len() {
-        out.put(b" ")?;
-        put_subsystem(out, system.subsystems.at(i))?;
+fn put_systems(out: &mut Answer, systems: &Systems) {
+    let mut before: &[u8] = b"";
+    for system in systems {
+        out.put(before);
+        put_system(out, system);
+        before = b" ";
     }
-    Ok(())
 }
 
-fn put_subsystem(out: &mut Text, subsystem: &Subsystem) -> Result<(), NoMemory> {
-    out.put(b"(")?;
-    put_symbol(out, subsystem.name.bytes(), false)?;
-    out.put(b" ")?;
-    out.put_unsigned(u128::from(subsystem.system))?;
-    put_numbers(out, &subsystem.actuals)?;
-    out.put(b")")
+fn put_system(out: &mut Answer, system: &System) {
+    put_name(out, system.name.bytes());
+    for subsystem in &system.subsystems {
+        out.put(b" ");
+        put_subsystem(out, subsystem);
+    }
+}
+
+fn put_subsystem(out: &mut Answer, subsystem: &Subsystem) {
+    out.put(b"(");
+    put_name(out, subsystem.name.bytes());
+    out.put(b" ");
+    out.put_unsigned(u128::from(subsystem.system));
+    put_numbers(out, &subsystem.actuals);
+    out.put(b")");
 }
 
 // Numbers, each behind a blank.
-fn put_numbers(out: &mut Text, numbers: &Numbers) -> Result<(), NoMemory> {
-    for i in 0..numbers.len() {
-        out.put(b" ")?;
-        out.put_unsigned(u128::from(*numbers.at(i)))?;
+fn put_numbers(out: &mut Answer, numbers: &Numbers) {
+    for number in numbers {
+        out.put(b" ");
+        out.put_unsigned(u128::from(*number));
     }
-    Ok(())
 }
 
 /// Appends the check's place, the number of its system, and its queries, with the numbers of the formulas that each names.
-pub fn put_given_check(alloc: Global, out: &mut Text, pieces: &[Piece]) -> Result<(), Stop> {
+pub fn put_given_check(alloc: Global, out: &mut Answer, pieces: &[Piece]) -> Result<(), Stop> {
     let script = given_script(alloc, pieces)?;
-    let done = put_check(out, &script.check);
+    put_check(out, &script.check);
     drop(script);
-    Ok(done?)
-}
-
-fn put_check(out: &mut Text, check: &Check) -> Result<(), NoMemory> {
-    out.put(b"system ")?;
-    out.put_unsigned(u128::from(check.system))?;
-    out.put(b" at ")?;
-    put_place(out, check.place)?;
-    for i in 0..check.queries.len() {
-        out.put(b"\n")?;
-        put_query(out, check.queries.at(i))?;
-    }
     Ok(())
 }
 
-fn put_query(out: &mut Text, query: &Query) -> Result<(), NoMemory> {
-    put_symbol(out, query.name.bytes(), false)?;
-    put_list(out, b": assumptions", &query.assumptions)?;
-    put_list(out, b", current", &query.currents)?;
-    out.put(b", reachable ")?;
-    out.put_unsigned(u128::from(query.reachable))
+fn put_check(out: &mut Answer, check: &Check) {
+    out.put(b"system ");
+    out.put_unsigned(u128::from(check.system));
+    out.put(b" at ");
+    out.put_place(check.place);
+    for query in &check.queries {
+        out.put(b"\n");
+        put_query(out, query);
+    }
 }
 
-fn put_list(out: &mut Text, name: &[u8], numbers: &Numbers) -> Result<(), NoMemory> {
-    out.put(name)?;
+fn put_query(out: &mut Answer, query: &Query) {
+    put_name(out, query.name.bytes());
+    put_list(out, b": assumptions", &query.assumptions);
+    put_list(out, b", current", &query.currents);
+    out.put(b", reachable ");
+    out.put_unsigned(u128::from(query.reachable));
+}
+
+fn put_list(out: &mut Answer, name: &[u8], numbers: &Numbers) {
+    out.put(name);
     if numbers.len() == 0 {
-        return out.put(b" none");
+        out.put(b" none");
     }
-    put_numbers(out, numbers)
+    put_numbers(out, numbers);
 }

@@ -1,17 +1,16 @@
 // Terms over declared names, and their sorts.
 ghost use Rattle.std.specs.Prelude.{◌≤◌, length, IfOk};
 
-use crate::forms::{forms_of, optional, subject};
-use crate::stop::Stop;
-use case_text::Piece;
+use crate::forms::{forms_of, optional};
+use crate::shown::put_sort;
+use case_text::{Answer, Piece, Stop, subject};
 use moxi_declarations::{Draft, nothing_read, read_commands};
-use moxi_print::put_sort;
 use moxi_sexpr::{Form, FormShape};
 use moxi_sorts::{pair, sort_of, symbol_of};
 use moxi_term_reading::term_of;
 use moxi_terms::{Primes, Scope, Sort, Variable, Variables};
 use std::alloc::Global;
-use text_core::{Name, Text};
+use text_core::Name;
 
 // How many variables a case declares at most.
 const MOST_VARIABLES: usize = 1000;
@@ -87,7 +86,7 @@ pub fn entry_of<'a>(form: &'a Form) -> Result<(&'a [u8], &'a Form), Stop> {
 }
 
 /// Appends the sort of the entry's variable.
-pub fn put_entry_sort(alloc: Global, out: &mut Text, pieces: &[Piece]) -> Result<(), Stop> {
+pub fn put_entry_sort(alloc: Global, out: &mut Answer, pieces: &[Piece]) -> Result<(), Stop> {
     let mut draft = nothing_read(alloc);
     let done = put_entry_sort_in(alloc, out, pieces, &mut draft);
     drop(draft);
@@ -96,13 +95,14 @@ pub fn put_entry_sort(alloc: Global, out: &mut Text, pieces: &[Piece]) -> Result
 
 fn put_entry_sort_in(
     alloc: Global,
-    out: &mut Text,
+    out: &mut Answer,
     pieces: &[Piece],
     draft: &mut Draft,
 ) -> Result<(), Stop> {
     declare_given(alloc, pieces, draft)?;
     let sort = entry_sort(alloc, &draft.scope, subject(pieces, "entry")?)?;
-    Ok(put_sort(out, &draft.scope, sort)?)
+    put_sort(out, &draft.scope, sort);
+    Ok(())
 }
 
 // The sort of the first entry of a text.
@@ -120,7 +120,7 @@ fn first_entry_sort(scope: &Scope, entries: &[Form]) -> Result<Sort, Stop> {
 /// Appends the sort of the term.
 pub fn put_term_sort(
     alloc: Global,
-    out: &mut Text,
+    out: &mut Answer,
     primes: Primes,
     pieces: &[Piece],
 ) -> Result<(), Stop> {
@@ -132,14 +132,15 @@ pub fn put_term_sort(
 
 fn put_term_sort_in(
     alloc: Global,
-    out: &mut Text,
+    out: &mut Answer,
     primes: Primes,
     pieces: &[Piece],
     draft: &mut Draft,
 ) -> Result<(), Stop> {
     declare_given(alloc, pieces, draft)?;
     let sort = given_term_sort(alloc, &draft.scope, primes, pieces)?;
-    Ok(put_sort(out, &draft.scope, sort)?)
+    put_sort(out, &draft.scope, sort);
+    Ok(())
 }
 
 fn given_term_sort(

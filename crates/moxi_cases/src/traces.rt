@@ -1,19 +1,18 @@
 // Traces of scripts over truth values: do they behave, and do they meet a query at their last step?
 use crate::behaving::behaves;
 use crate::scripts::{given_script, query_named};
-use crate::stop::Stop;
 use crate::truths::{Steps, always, begins, ends};
-use case_text::{Piece, given, words};
+use case_text::{Answer, Piece, Stop, given, words};
 use moxi_scripts::{Check, Formulas, Query, Script};
 use moxi_terms::Term;
 use std::alloc::Global;
-use text_core::{Numbers, Text};
+use text_core::Numbers;
 
 // How many systems stand within one another at most.
 const MOST_DEEP: u32 = 100;
 
 /// Appends what the trace of a row is: the row names a query, and gives for each step a digit for each variable of the check.
-pub fn put_trace(alloc: Global, out: &mut Text, pieces: &[Piece]) -> Result<(), Stop> {
+pub fn put_trace(alloc: Global, out: &mut Answer, pieces: &[Piece]) -> Result<(), Stop> {
     let script = given_script(alloc, pieces)?;
     let done = put_given_row(alloc, out, &script, pieces);
     drop(script);
@@ -22,7 +21,7 @@ pub fn put_trace(alloc: Global, out: &mut Text, pieces: &[Piece]) -> Result<(), 
 
 fn put_given_row(
     alloc: Global,
-    out: &mut Text,
+    out: &mut Answer,
     script: &Script,
     pieces: &[Piece],
 ) -> Result<(), Stop> {
@@ -30,7 +29,7 @@ fn put_given_row(
     put_row(alloc, out, script, &row)
 }
 
-fn put_row(alloc: Global, out: &mut Text, script: &Script, row: &[&str]) -> Result<(), Stop> {
+fn put_row(alloc: Global, out: &mut Answer, script: &Script, row: &[&str]) -> Result<(), Stop> {
     let (name, rest) = row.split_first().ok_or("no query")?;
     let number = query_named(&script.check.queries, name.as_bytes())?;
     let steps = steps_of(alloc, rest)?;
@@ -45,7 +44,7 @@ fn put_row(alloc: Global, out: &mut Text, script: &Script, row: &[&str]) -> Resu
 
 fn put_judged(
     alloc: Global,
-    out: &mut Text,
+    out: &mut Answer,
     script: &Script,
     query: &Query,
     steps: &Steps,
@@ -57,12 +56,13 @@ fn put_judged(
         script.check.system,
         steps,
     )? {
-        return Ok(out.put(b"does not behave")?);
+        out.put(b"does not behave");
+    } else if !meets(alloc, &script.check, query, steps)? {
+        out.put(b"behaves, but misses the query");
+    } else {
+        out.put(b"meets the query");
     }
-    if !meets(alloc, &script.check, query, steps)? {
-        return Ok(out.put(b"behaves, but misses the query")?);
-    }
-    Ok(out.put(b"meets the query")?)
+    Ok(())
 }
 
 fn steps_of(alloc: Global, words: &[&str]) -> Result<Steps, Stop> {
@@ -105,8 +105,8 @@ fn are_assumed(
     numbers: &Numbers,
     steps: &Steps,
 ) -> Result<bool, Stop> {
-    for i in 0..numbers.len() {
-        if !always(alloc, formula_at(formulas, *numbers.at(i))?, steps)? {
+    for number in numbers {
+        if !always(alloc, formula_at(formulas, *number)?, steps)? {
             return Ok(false);
         }
     }
@@ -120,8 +120,8 @@ fn are_current(
     numbers: &Numbers,
     steps: &Steps,
 ) -> Result<bool, Stop> {
-    for i in 0..numbers.len() {
-        if !begins(alloc, formula_at(formulas, *numbers.at(i))?, steps)? {
+    for number in numbers {
+        if !begins(alloc, formula_at(formulas, *number)?, steps)? {
             return Ok(false);
         }
     }

@@ -1,5 +1,5 @@
 // Formulas over truth values alone, evaluated at the steps of a trace: a plain program.
-use crate::stop::Stop;
+use case_text::Stop;
 use moxi_terms::{Datum, Term, TermOp};
 use std::alloc::Global;
 

@@ -7,18 +7,18 @@ ghost use Rattle.moxi_terms.specs.declared.data.Primes.TheVariants.{Refused};
 ghost use Rattle.moxi_term_reading.specs.WellSorted.{IsTerm};
 ghost use Rattle.moxi_cases.specs.Added.{Adds};
 
-use crate::forms::{forms_of, optional, subject};
-use crate::stop::Stop;
+use crate::forms::{forms_of, optional};
+use crate::shown::put_name;
 use crate::terms::{declare_given, entry_of, given_variables};
-use case_text::{Piece, has};
+use case_text::{Answer, Piece, Stop, has, subject};
 use moxi_declarations::{Draft, nothing_read};
-use moxi_sexpr::{Form, put_symbol};
+use moxi_sexpr::Form;
 use moxi_term_reading::term_of;
 use moxi_terms::{
     Datum, Env, Primes, Scope, Sort, Term, Variable, Variables, eval, values_have_sorts,
 };
 use std::alloc::Global;
-use text_core::{NoMemory, Text};
+use text_core::NoMemory;
 use word_core::Word;
 
 // The value of a term of this sort without variables.
@@ -203,7 +203,7 @@ fn value_in(alloc: Global, scope: &Scope, pieces: &[Piece]) -> Result<Datum, Sto
 
 /// Appends the value of the term, where the case gives the variables values now and later; without the later ones no variable
 /// may be primed.
-pub fn put_term_value(alloc: Global, out: &mut Text, pieces: &[Piece]) -> Result<(), Stop> {
+pub fn put_term_value(alloc: Global, out: &mut Answer, pieces: &[Piece]) -> Result<(), Stop> {
     let mut draft = nothing_read(alloc);
     let done = put_term_value_in(alloc, out, pieces, &mut draft);
     drop(draft);
@@ -212,7 +212,7 @@ pub fn put_term_value(alloc: Global, out: &mut Text, pieces: &[Piece]) -> Result
 
 fn put_term_value_in(
     alloc: Global,
-    out: &mut Text,
+    out: &mut Answer,
     pieces: &[Piece],
     draft: &mut Draft,
 ) -> Result<(), Stop> {
@@ -223,31 +223,34 @@ fn put_term_value_in(
     }
 }
 
-fn put_value(out: &mut Text, scope: &Scope, value: Datum) -> Result<(), Stop> {
+fn put_value(out: &mut Answer, scope: &Scope, value: Datum) -> Result<(), Stop> {
     match value {
-        Datum::Truth(b) => Ok(put_truth(out, b)?),
-        Datum::Bits(word) => Ok(put_word(out, word)?),
+        Datum::Truth(b) => {
+            out.put(if b { b"true" } else { b"false" });
+            Ok(())
+        }
+        Datum::Bits(word) => {
+            put_word(out, word);
+            Ok(())
+        }
         Datum::Constant(n, i) => put_constant(out, scope, n, i as usize),
     }
 }
 
-fn put_truth(out: &mut Text, b: bool) -> Result<(), NoMemory> {
-    out.put(if b { b"true" } else { b"false" })
-}
-
 // A word as `(_ bvN W)`.
-fn put_word(out: &mut Text, word: Word) -> Result<(), NoMemory> {
-    out.put(b"(_ bv")?;
-    out.put_unsigned(word.bits())?;
-    out.put(b" ")?;
-    out.put_unsigned(u128::from(word.width()))?;
-    out.put(b")")
+fn put_word(out: &mut Answer, word: Word) {
+    out.put(b"(_ bv");
+    out.put_unsigned(word.bits());
+    out.put(b" ");
+    out.put_unsigned(u128::from(word.width()));
+    out.put(b")");
 }
 
-fn put_constant(out: &mut Text, scope: &Scope, n: u32, i: usize) -> Result<(), Stop> {
+fn put_constant(out: &mut Answer, scope: &Scope, n: u32, i: usize) -> Result<(), Stop> {
     let constants = scope.constants(n).ok_or("a value of no enumeration")?;
     if i >= constants.len() {
         return Err(Stop::from("a value that is no constant"));
     }
-    Ok(put_symbol(out, constants.at(i).bytes(), false)?)
+    put_name(out, constants.at(i).bytes());
+    Ok(())
 }

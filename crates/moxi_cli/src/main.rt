@@ -29,10 +29,7 @@ fn no_memory<N: Sink>(notes: &mut N) -> Status {
 // The command words without the program's name. Where the system doesn't give them as text, there are none.
 fn command_words<R: Env + AllocGlobal>(rt: &R) -> Result<Vec<String>, NoMemory> {
     match env::args(rt) {
-        Ok(args) => match args.skip(1).collect(rt.alloc()) {
-            Ok(words) => Ok(words),
-            Err(_) => Err(NoMemory),
-        },
+        Ok(args) => Ok(args.skip(1).collect(rt.alloc())?),
         Err(error) => {
             if error.kind() == io::ErrorKind::OutOfMemory {
                 Err(NoMemory)

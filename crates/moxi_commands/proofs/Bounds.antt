@@ -14,7 +14,8 @@ use Rattle.smv_text.specs.Tree.{Tree, Links, link, PlainItem}
 use Rattle.smv_text.specs.Grammar.{Signs, no_signs, sign_then, Spells, pass, chains, chooses, ranges, prefixes, selects, is_true, is_false, numbers, literals, names, brackets, nexts, calls, sets, switches, SpellsLinks, no_more, one_more}
 use Rattle.smv_text.specs.Sources.{SpellsItems, no_items, item_then}
 use Rattle.moxi_commands.specs.Lines.{size, sizes}
-use Rattle.moxi_commands.specs.Formulas.{Formula, variable, Formulas, place_of}
+use Rattle.moxi_commands.specs.Formulas.{Formula, variable, Formulas}
+use Rattle.name_set.specs.Names.{place_of}
 use Rattle.moxi_commands.specs.Form.{formula_of, formulas_of, negation_of, conjunction_of, operand_of, more_of, variable_named}
 
 abbrev pub size_in : Option Formula → ℕ

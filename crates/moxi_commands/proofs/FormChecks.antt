@@ -17,11 +17,12 @@ use Rattle.smv_meaning.specs.Naming.{named_found, naming}
 use Rattle.smv_meaning.specs.Checks.{Check, check, first_failing, on_type, domain_checks, typing}
 use Rattle.smv_meaning.specs.Types.{is_truth_type}
 use Rattle.smv_meaning.specs.Phases.{Declared, declared_in, name_checks, main_check, module_checks, declared_checks, declaration_checks, start_place, most_tokens, symbol_checks, is_something, path_check, path_checks, cycle_checks, over_instances, in_state, place_of, formula_typing, type_checks, names_in, assignment_checks, later_checks, invariants_in, checks_of, IsAccepted}
-use Rattle.smv_names.proofs.Composing.{both_pass}
-use Rattle.smv_flatten.proofs.Composing.{all_hold}
-use Rattle.moxi_commands.specs.Formulas.{Source, place_of as place_in}
+use Rattle.smv_names.specs.laws.Composing.{both_pass}
+use Rattle.smv_flatten.specs.laws.Composing.{all_hold}
+use Rattle.moxi_commands.specs.Formulas.{Source}
+use Rattle.name_set.specs.Names.{place_of as place_in}
 use Rattle.moxi_commands.specs.Form.{form_of, formula_of, is_boolean, is_declared_after, names_of, most_bytes}
-use Rattle.moxi_commands.proofs.Names.{placed}
+use Rattle.name_set.specs.laws.Places.{placed}
 use Rattle.moxi_commands.proofs.FormShape.{has_truths, both, names_are, IsBody, shaped}
 use Rattle.moxi_commands.proofs.FormItems.{boolean_domain}
 use Rattle.moxi_commands.proofs.FormRuns.{module_of, table_of, one_instance, found}

@@ -11,10 +11,10 @@ use Rattle.smv_meaning.specs.Values.{Valuation, is_truth, is_true}
 use Rattle.smv_meaning.specs.Instances.{Instance, child_in, with_child, grow_items}
 use Rattle.smv_meaning.specs.Names.{Local, variable_of, of_domain, among_items}
 use Rattle.smv_meaning.specs.Runs.{domain_fits, is_fit}
-use Rattle.moxi_commands.specs.Formulas.{place_of}
+use Rattle.name_set.specs.Names.{place_of}
 use Rattle.moxi_commands.specs.Form.{is_boolean}
 use Rattle.moxi_commands.specs.Truths.{Truths}
-use Rattle.moxi_commands.proofs.Names.{placed}
+use Rattle.name_set.specs.laws.Places.{placed}
 use Rattle.moxi_commands.proofs.FormShape.{name_of, has_truths, both}
 
 -- ---- boolean items

@@ -16,7 +16,8 @@ use Rattle.smv_meaning.specs.Meaning.{value_found, reading}
 use Rattle.smv_meaning.specs.Phases.{invariants_in}
 use Rattle.smv_meaning.specs.Runs.{is_fit, state_fits, label_fits, no_values, invar_holds, StepsHold, Starts, IsRunOf, is_broken}
 use Rattle.btor_tree.specs.declared.lines.Line.{Line}
-use Rattle.moxi_commands.specs.Formulas.{Source, place_of}
+use Rattle.moxi_commands.specs.Formulas.{Source}
+use Rattle.name_set.specs.Names.{place_of}
 use Rattle.moxi_commands.specs.Form.{form_of, formula_of, names_of}
 use Rattle.moxi_commands.specs.Truths.{Truths, truth_of}
 use Rattle.moxi_commands.specs.Headline.{AtLast, HasRun, HasFrames, invariant_count, Translates}

@@ -11,8 +11,9 @@ use Rattle.smv_text.specs.Tree.{Tree, truth, number, literal, name, prefix, chai
 use Rattle.smv_meaning.specs.Expressions.{is_implies, are_implies, is_from_right, paths_of, link_paths}
 use Rattle.smv_meaning.specs.Types.{ExprType, truth_type, in_limit, prefix_fits, prefix_type, infix_type}
 use Rattle.smv_meaning.specs.Checks.{Check, check, first_failing, Position, Named, Typing, node, on_type, both_types, single, across, behind, front, front_checks, typing, linked}
-use Rattle.smv_names.proofs.Composing.{both_pass}
-use Rattle.moxi_commands.specs.Formulas.{Formula, variable, Formulas, place_of}
+use Rattle.smv_names.specs.laws.Composing.{both_pass}
+use Rattle.moxi_commands.specs.Formulas.{Formula, variable, Formulas}
+use Rattle.name_set.specs.Names.{place_of}
 use Rattle.moxi_commands.specs.Form.{variable_named, negation_of, conjunction_of, operand_of, more_of, formula_of, formulas_of}
 
 -- ---- types

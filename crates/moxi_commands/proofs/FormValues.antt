@@ -10,7 +10,8 @@ use Rattle.smv_meaning.specs.declared.value.Value.{Value}
 use Rattle.smv_meaning.specs.declared.value.Value.TheVariants.{Truth}
 use Rattle.smv_meaning.specs.Operators.{applied, signed}
 use Rattle.smv_meaning.specs.Expressions.{Denotation, alone, joined, is_implies, are_implies, is_from_right, denote, implications, linked}
-use Rattle.moxi_commands.specs.Formulas.{Formula, variable, Formulas, place_of}
+use Rattle.moxi_commands.specs.Formulas.{Formula, variable, Formulas}
+use Rattle.name_set.specs.Names.{place_of}
 use Rattle.moxi_commands.specs.Form.{variable_named, negation_of, conjunction_of, operand_of, more_of, formula_of, formulas_of}
 use Rattle.moxi_commands.specs.Truths.{Truths, negated, truth_of, all_true}
 

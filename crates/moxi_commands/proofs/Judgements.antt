@@ -7,8 +7,8 @@ use Rattle.btor_tree.proofs.Readings.{one_list, no_list}
 use Rattle.btor_tree.proofs.Resolved.{reads_well_formed}
 use Rattle.btor_tree.proofs.Grows.{empty_well_formed}
 use Rattle.btor_witness.specs.declared.witness.Witness.{Witness}
-use Rattle.btor_witness.proofs.Verdicts.{one_verdict}
-use Rattle.btor_witness.proofs.Laws.{one_witness, not_both}
+use Rattle.btor_witness.specs.laws.Verdicts.{one_verdict}
+use Rattle.btor_witness.specs.laws.Laws.{one_witness, not_both}
 use Rattle.moxi_commands.specs.declared.answer.Answer.{Answer}
 use Rattle.moxi_commands.specs.declared.answer.Answer.TheVariants.{Unread, Refuses, SecondRefuses}
 use Rattle.moxi_commands.specs.Outcome.{IsJudgement, IsVerdict, OnSecond, OnWitness, status_of, text_of, verdict_answer}

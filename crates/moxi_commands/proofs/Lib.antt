@@ -1,5 +1,4 @@
 pub mod AnswerLemmas
-pub mod Names
 pub mod PlainTrees
 pub mod Formed
 pub mod Bounds

@@ -2,20 +2,20 @@
 use Rattle.std.proofs.Common.{◌≡◌, ◌&&◌, IsTrue, if◌then◌else◌, [], ◌∷◌, ℕ, Bool, ◌<◌, ◌≤◌, ◌⊎◌, true, false, List, length, refl, sym, ap, ◌∙◌, subst, arith, inl, inr, Option, Some, None}
 use Rattle.text_core.specs.declared.place.Refusal.{Refusal}
 use Rattle.smv_text.specs.declared.token.Token.{Token}
-use Rattle.smv_text.specs.Bytes.{start, after}
-use Rattle.smv_text.specs.Lexing.{LexesTo}
+use Rattle.text_core.specs.Places.{start, after}
+use Rattle.smv_text.specs.Lexing.{TokenList, LexesTo}
 use Rattle.smv_text.specs.Tree.{PlainModule, PlainSource}
 use Rattle.smv_text.specs.Sources.{SpellsSource}
 use Rattle.smv_lex.proofs.Laws.{one_lexing, one_lex_refusal}
 use Rattle.smv_lex.proofs.Laws as laws
 use Rattle.smv_meaning.specs.Checks.{Check, passes, first_failing}
 use Rattle.smv_meaning.specs.Phases.{checks_of, IsAccepted, first_refusal}
-use Rattle.moxi_commands.specs.declared.translate.ModelEnd.{ModelEnd}
-use Rattle.moxi_commands.specs.declared.translate.ModelEnd.TheVariants as model_end
-use Rattle.smv_parse.specs.declared.source.ParseEnd.TheVariants.{Bad}
+use Rattle.text_core.specs.declared.end.End.{End}
+use Rattle.text_core.specs.declared.end.End.TheVariants.{Bad, NoMemory}
+use Rattle.smv_lex.specs.Answer.{IsRefused as IsLexEnd}
 use Rattle.smv_parse.specs.Parsing.{IsRefused}
 use Rattle.smv_readers.proofs.Models.{one_list as one_model}
-use Rattle.smv_parse.proofs.Refusals.{one_refusal, refused_not_low}
+use Rattle.smv_parse.specs.laws.Refusals.{one_refusal, refused_not_low}
 use Rattle.btor_tree.specs.declared.lines.TheConstants.{GREATEST_ID}
 use Rattle.btor_tree.specs.Fits.{IsWellFormed}
 use Rattle.btor_tree.specs.Printing.{printed}
@@ -171,10 +171,19 @@ read_again bytes tokens m s r a = (
   ap form_of (same_model bytes m a.0 r.is_model a.1.is_model) ∙ a.1.formed,
 )
 
+-- what has no tokens, and what the grammar refuses
+pub lexed_read : (bytes : List ℕ) (end : End) → IsLexEnd bytes end → IsModelEnd bytes end
+lexed_read bytes (Bad why) h = inl h
+lexed_read bytes NoMemory h = tt
+
+pub parsed_read : (bytes : List ℕ) (tokens : TokenList) (end : End) → LexesTo bytes tokens.items → tokens.end ≡ after start bytes → IsRefused tokens end → IsModelEnd bytes end
+parsed_read bytes tokens (Bad why) lexed e h = inr (inl (tokens.items, lexed, subst (λ p. IsRefused (record { items = tokens.items; end = p }) (Bad why)) e h))
+parsed_read bytes tokens NoMemory lexed e h = tt
+
 -- a model that isn't accepted
-pub checked_read : (bytes : List ℕ) (tokens : List Token) (m : PlainSource) (end : ModelEnd) → IsReadModel bytes tokens m → IsCheckEnd m end → IsModelEnd bytes end
-checked_read bytes tokens m (model_end.Refused why) r h = inr (inr (inl (m, r.is_model, h)))
-checked_read bytes tokens m model_end.NoMemory r h = tt
+pub checked_read : (bytes : List ℕ) (tokens : List Token) (m : PlainSource) (end : End) → IsReadModel bytes tokens m → IsCheckEnd m end → IsModelEnd bytes end
+checked_read bytes tokens m (Bad why) r h = inr (inr (inl (m, r.is_model, h)))
+checked_read bytes tokens m NoMemory r h = tt
 
 -- a model that isn't translated today
 pub refused_read : (bytes : List ℕ) (tokens : List Token) (m : PlainSource) (why : Refusal) → IsReadModel bytes tokens m → IsAccepted m 0 → why ≡ not_built

@@ -11,9 +11,10 @@ use Rattle.smv_text.specs.declared.tree.Infix.TheVariants as infixes
 use Rattle.smv_text.specs.declared.tree.VarKind.TheVariants as var_kind
 use Rattle.smv_text.specs.Tree.{Tree, truth, number, literal, name, prefix, chain, choice, cases, select, call, next, set, range, Links, no_links, link, PlainItem, PlainElement, PlainModule}
 use Rattle.smv_text.specs.Sources.{SpellsElement, variables, definitions, symbol_names, assignments, inits, transitions, invariants, specifications, SpellsElements, no_elements, element_then, SpellsModules, no_modules, module_then}
-use Rattle.moxi_commands.specs.Formulas.{Formula, variable, Formulas, Source, place_of, Below, EachVariableOf}
+use Rattle.moxi_commands.specs.Formulas.{Formula, variable, Formulas, Source, Below, EachVariableOf}
+use Rattle.name_set.specs.Names.{place_of}
 use Rattle.moxi_commands.specs.Form.{formula_of, formulas_of, negation_of, conjunction_of, operand_of, more_of, variable_named, names_of, is_declared_after, items_of, invariant_of, pair_of, parts_of, is_none_of, elements_of, source_over, source_of_parts, source_of_elements, HasFew, few_of_elements}
-use Rattle.moxi_commands.proofs.Names.{place_below}
+use Rattle.name_set.specs.laws.Places.{place_below}
 use Rattle.moxi_commands.specs.Lines.{size}
 use Rattle.moxi_commands.proofs.Bounds.{size_in, size_within, items_within}
 

@@ -8,7 +8,8 @@ use Rattle.smv_text.specs.declared.tree.Infix.{Infix}
 use Rattle.smv_text.specs.declared.tree.Infix.TheVariants as infixes
 use Rattle.smv_text.specs.declared.tree.VarKind.TheVariants as var_kind
 use Rattle.smv_text.specs.Tree.{Tree, name, prefix, chain, Links, no_links, link, PlainDomain, boolean, PlainItem, PlainElement, vars, spec, PlainModule, PlainSource}
-use Rattle.moxi_commands.specs.Formulas.{Formula, variable, negation, conjunction, Formulas, no_formulas, formula, Source, place_of}
+use Rattle.moxi_commands.specs.Formulas.{Formula, variable, negation, conjunction, Formulas, no_formulas, formula, Source}
+use Rattle.name_set.specs.Names.{place_of}
 
 -- a name has at most so many bytes
 abbrev pub most_bytes : ℕ

@@ -1,6 +1,5 @@
 -- The models that are translated today: boolean variables and one invariant.
-use Rattle.std.specs.Prelude.{ℕ, ◌<◌, List, Option, position}
-use Rattle.std.specs.Str.{bytes_eq}
+use Rattle.std.specs.Prelude.{ℕ, ◌<◌, List}
 
 -- formulas; a variable is named by its place among the declared names
 mutual
@@ -17,10 +16,6 @@ mutual
 pub record Source : Type 0 where
   pub names : List (List ℕ)
   pub invariant : Formula
-
--- the place of the first name equal to these bytes
-abbrev pub place_of : List (List ℕ) → List ℕ → Option ℕ
-place_of names name = position (bytes_eq name) names
 
 -- a fact of each variable of a formula, and of each of a list's
 abbrev mutual

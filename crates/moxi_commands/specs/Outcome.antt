@@ -16,7 +16,7 @@ use Rattle.text_core.specs.declared.verdict.Verdict.TheVariants as verdict
 use Rattle.moxi_commands.specs.Formulas.{Source}
 use Rattle.btor_tree.specs.declared.lines.Line.{Line}
 use Rattle.btor_tree.specs.Texts.{SpellsLines}
-use Rattle.btor_text.specs.declared.read.BtorEnd.TheVariants.{Bad}
+use Rattle.text_core.specs.declared.end.End.TheVariants.{Bad}
 use Rattle.btor_text.specs.Answer as btor
 use Rattle.btor_witness.specs.declared.witness.Witness.{Witness}
 use Rattle.btor_witness.specs.Texts.{SpellsWitness, RefusesWitness}

@@ -8,7 +8,7 @@ use Rattle.text_core.specs.Outside.{IsMissing, IsLonger}
 use Rattle.text_core.specs.declared.place.Refusal.{Refusal}
 use Rattle.text_core.specs.declared.place.Kind.TheVariants.{X}
 use Rattle.btor_tree.specs.declared.lines.Line.{Line}
-use Rattle.btor_text.specs.declared.read.BtorEnd.TheVariants.{Bad}
+use Rattle.text_core.specs.declared.end.End.TheVariants.{Bad}
 use Rattle.btor_text.specs.Answer as btor
 use Rattle.btor_witness.specs.Texts.{RefusesWitness}
 use Rattle.moxi_commands.specs.declared.answer.Answer.TheVariants.{Unread, Refuses, SecondRefuses}

@@ -7,12 +7,13 @@ use Rattle.smv_text.specs.declared.token.Token.{Token}
 use Rattle.smv_text.specs.declared.token.TokenKind.{TokenKind}
 use Rattle.smv_text.specs.declared.token.TokenKind.TheVariants as kind
 use Rattle.smv_text.specs.declared.token.Reserved.TheVariants as word
-use Rattle.smv_text.specs.Bytes.{start, after}
+use Rattle.text_core.specs.Places.{start, after}
 use Rattle.smv_text.specs.Tree.{PlainSource}
 use Rattle.smv_text.specs.Heights.{first_high, of_modules}
 use Rattle.smv_text.specs.Sources.{SpellsSource}
 use Rattle.smv_meaning.specs.Phases.{IsAccepted, first_refusal}
-use Rattle.smv_parse.specs.declared.source.ParseEnd.TheVariants.{Bad}
+use Rattle.text_core.specs.declared.end.End.{End}
+use Rattle.text_core.specs.declared.end.End.TheVariants.{Bad, NoMemory}
 use Rattle.smv_parse.specs.Parsing.{IsRefused}
 use Rattle.smv_text.specs.Lexing.{LexesTo, IsLexRefusal}
 use Rattle.moxi_commands.specs.Formulas.{Source}
@@ -21,8 +22,6 @@ use Rattle.btor_tree.specs.declared.lines.Line.{Line}
 use Rattle.btor_tree.specs.Texts.{SpellsLines}
 use Rattle.btor_tree.specs.Printing.{printed}
 use Rattle.moxi_commands.specs.declared.translate.TheConstants.{SMV_LIMIT}
-use Rattle.moxi_commands.specs.declared.translate.ModelEnd.{ModelEnd}
-use Rattle.moxi_commands.specs.declared.translate.ModelEnd.TheVariants as model
 use Rattle.moxi_commands.specs.Lines.{lines_of}
 use Rattle.moxi_commands.specs.Headline.{Translates}
 
@@ -85,14 +84,14 @@ IsSmvRefusal bytes refusal =
     ⊎ IsModelRefusal bytes refusal
 
 -- why a model has no text: its refusal, or want of memory
-abbrev pub IsModelEnd : List ℕ → ModelEnd → Type 0
-IsModelEnd bytes (model.Refused refusal) = IsSmvRefusal bytes refusal
-IsModelEnd bytes model.NoMemory = Unit {0}
+abbrev pub IsModelEnd : List ℕ → End → Type 0
+IsModelEnd bytes (Bad refusal) = IsSmvRefusal bytes refusal
+IsModelEnd bytes NoMemory = Unit {0}
 
 -- why a model isn't accepted: the first check that fails, or want of memory
-abbrev pub IsCheckEnd : PlainSource → ModelEnd → Type 0
-IsCheckEnd source (model.Refused refusal) = first_refusal source 0 ≡ Some refusal
-IsCheckEnd source model.NoMemory = Unit {0}
+abbrev pub IsCheckEnd : PlainSource → End → Type 0
+IsCheckEnd source (Bad refusal) = first_refusal source 0 ≡ Some refusal
+IsCheckEnd source NoMemory = Unit {0}
 
 -- the text that is written for a model of this form
 unfoldable pub btor_text : Source → List ℕ

@@ -7,10 +7,13 @@ ghost use Rattle.moxi_commands.specs.Stop.{MayStop, StopsUnread};
 
 use crate::judge::judge_files;
 use crate::status::Status;
-use crate::translate::{ModelEnd, SMV_LIMIT, translate};
+use crate::translate::{SMV_LIMIT, translate};
 use crate::words::{Command, read_command};
 use std::alloc::Global;
-use text_core::{Clause, Kind, Name, NoMemory, Place, ReadEnd, Refusal, Shelf, Text, read_whole};
+use text_core::kinds::smv;
+use text_core::{
+    Clause, End, FIRST_PLACE, Kind, Name, NoMemory, ReadEnd, Refusal, Shelf, Text, read_whole,
+};
 
 /// What a run is to answer.
 #[derive(Drop)]
@@ -94,7 +97,7 @@ fn read_smv<F: Shelf>(alloc: Global, name: &Name, shelf: &mut F) -> Result<Vec<u
     match read_whole(alloc, shelf, name, SMV_LIMIT) {
         Ok(bytes) => Ok(bytes),
         Err(ReadEnd::Fault) => Err(unread(alloc, name)),
-        Err(ReadEnd::TooLong) => Err(Stop::Gives(Answer::Refuses(refusal(Kind::S(1))))),
+        Err(ReadEnd::TooLong) => Err(Stop::Gives(Answer::Refuses(refusal(smv::TOO_LONG)))),
         Err(ReadEnd::NoMemory) => Err(Stop::NoMemory),
     }
 }
@@ -105,11 +108,7 @@ pub fn refusal(kind: Kind) -> Refusal
 {
     Refusal {
         kind,
-        place: Place {
-            line: 1,
-            column: 1,
-            offset: 0,
-        },
+        place: FIRST_PLACE,
     }
 }
 
@@ -130,7 +129,7 @@ fn translation(alloc: Global, bytes: &[u8]) -> Result<Answer, NoMemory>
 {
     match translate(alloc, bytes) {
         Ok(text) => Ok(Answer::Writes(text)),
-        Err(ModelEnd::Refused(refusal)) => Ok(Answer::Refuses(refusal)),
-        Err(ModelEnd::NoMemory) => Err(NoMemory),
+        Err(End::Bad(refusal)) => Ok(Answer::Refuses(refusal)),
+        Err(End::NoMemory) => Err(NoMemory),
     }
 }

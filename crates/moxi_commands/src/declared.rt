@@ -1,26 +1,26 @@
 // The names that are declared.
 ghost use Rattle.std.specs.Prelude.{◌≡◌, ◌++◌, ◌∷◌, ◌<◌, ◌-◌, ◌^◌, [], is_none, length, IfOk, if◌then◌else◌};
-ghost use Rattle.moxi_commands.specs.Formulas.{place_of};
+ghost use Rattle.name_set.specs.Names.{place_of};
 
-use indexmap::IndexSet;
+use name_set::NameSet;
 use std::alloc::Global;
 use std::marker::Model;
 use text_core::NoMemory;
 
-/// The declared names, seen as their list, and found by their bytes with no scan.
+/// The declared names, so few that 32 bits number them.
 #[derive(Drop)]
 pub struct Declared {
-    numbers: IndexSet<Vec<u8>>,
+    names: NameSet,
 }
 
 impl Model for Declared {
-    ghost use Rattle.std.specs.Prelude.{List, ℕ, ◌<◌, ◌^◌, map, length};
+    ghost use Rattle.std.specs.Prelude.{List, ℕ, ◌<◌, ◌^◌, length};
 
     ghost Value = { List (List ℕ) };
 
-    ghost view = { λ d. map (λ name. name.items) d.numbers.keys };
+    ghost view = { λ d. d.names };
 
-    ghost invariant = { λ d. length d.numbers.keys < 2 ^ 32 };
+    ghost invariant = { λ d. length d.names < 2 ^ 32 };
 }
 
 impl Declared {
@@ -29,7 +29,7 @@ impl Declared {
         ensures { result ≡ [] }
     {
         Declared {
-            numbers: IndexSet::new(alloc),
+            names: NameSet::new(alloc),
         }
     }
 
@@ -39,20 +39,14 @@ impl Declared {
         ensures fresh { IfOk result (λ fresh. fresh ≡ is_none (place_of self.old name.now)) }
         ensures names { IfOk result (λ fresh. self.new ≡ (if fresh then self.old ++ name.now ∷ [] else self.old)) }
     {
-        let Ok(key) = Vec::from_slice(alloc, name) else {
-            return Err(NoMemory);
-        };
-        match self.numbers.insert_full(key) {
-            Ok((_, fresh)) => Ok(fresh),
-            Err(_) => Err(NoMemory),
-        }
+        self.names.declare(alloc, name)
     }
 
     /// The place of this name among the declared ones.
     pub fn number_of(&self, name: &[u8]) -> Option<u32>
         ensures { result ≡ place_of self.now name.now }
     {
-        match self.numbers.get_index_of(name) {
+        match self.names.place(name) {
             Some(place) => Some(place as u32),
             None => None,
         }

@@ -1,10 +1,10 @@
 // The models that are translated today, from their trees.
-ghost use Rattle.std.specs.Prelude.{◌≡◌, ◌<◌, ◌≤◌, ◌^◌, ◌-◌, [], length, map, option_map, IfOk, IfSome};
+ghost use Rattle.std.specs.Prelude.{◌≡◌, ◌<◌, ◌≤◌, ◌^◌, ◌-◌, [], length, map, option_map, IfOk, IfSome, Some, None, if◌then◌else◌};
 ghost use Rattle.smv_text.specs.View.{plain as plain_tree, plain_link, plain_item, plain_element, plain_module, plain_source, plain_domain};
 ghost use Rattle.smv_text.specs.Tree.{links_of};
 ghost use Rattle.moxi_commands.specs.Trees.{plain, source_of, formulas_of as formulas_from};
 ghost use Rattle.moxi_commands.specs.Forming.{Is};
-ghost use Rattle.moxi_commands.specs.Form.{form_of, formula_of, formulas_of, variable_of, names_of, is_boolean, is_declared_after, items_of, invariant_of, parts_of, elements_of, operand_of, few_items};
+ghost use Rattle.moxi_commands.specs.Form.{form_of, formula_of, formulas_of, variable_of, names_of, is_boolean, is_declared_after, items_of, invariant_of, parts_of, elements_of, operand_of, few_items, source_of_parts, source_over};
 
 use crate::declared::Declared;
 use crate::formula::{Formula, Source};
@@ -57,13 +57,38 @@ pub fn form_of(alloc: Global, source: &smv_text::Source) -> Result<Option<Source
     let Some((items, invariant)) = parts_of(elements) else {
         return Ok(None);
     };
+    Ok(source_of_parts(alloc, items, invariant)?)
+}
+
+// The model of these variables and this invariant, if it is one.
+fn source_of_parts(
+    alloc: Global,
+    items: &Items,
+    invariant: &Expr,
+) -> Result<Option<Source>, NoMemory>
+    requires few { length items.now < 2 ^ 32 - 1 }
+    ensures { IfOk result (λ o. option_map source_of o ≡ source_of_parts (Some (map plain_item items.now, plain_tree invariant.now))) }
+{
     let Some((names, declared)) = names_of(alloc, items)? else {
         return Ok(None);
     };
+    Ok(source_over(alloc, names, &declared, invariant)?)
+}
+
+// The model over these names, if there are any and the invariant is a formula over them.
+fn source_over(
+    alloc: Global,
+    names: Names,
+    declared: &Declared,
+    invariant: &Expr,
+) -> Result<Option<Source>, NoMemory>
+    requires same { declared.now ≡ names }
+    ensures { IfOk result (λ o. option_map source_of o ≡ source_over (plain_tree invariant.now) (Some names)) }
+{
     if names.len() == 0 {
         return Ok(None);
     }
-    match formula_of(alloc, &declared, invariant) {
+    match formula_of(alloc, declared, invariant) {
         Ok(invariant) => Ok(Some(Source { names, invariant })),
         Err(Stop::Other) => Ok(None),
         Err(Stop::NoMemory) => Err(NoMemory),
@@ -139,18 +164,39 @@ fn names_of(alloc: Global, items: &Items) -> Result<Option<(Names, Declared)>, N
 {
     let mut names = Names::new(alloc);
     let mut declared = Declared::new(alloc);
+    if put_names(alloc, items, &mut names, &mut declared)? {
+        Ok(Some((names, declared)))
+    } else {
+        Ok(None)
+    }
+}
+
+// Puts the names of these variables into both, if each is boolean and has a new name that is not too long. It owns neither, so
+// an early return has nothing to drop.
+fn put_names(
+    alloc: Global,
+    items: &Items,
+    names: &mut Names,
+    declared: &mut Declared,
+) -> Result<bool, NoMemory>
+    requires few { length items.now < 2 ^ 32 - 1 }
+    requires none { names.old ≡ [] }
+    requires none_declared { declared.old ≡ [] }
+    ensures names { IfOk result (λ all. (if all then Some names.new else None) ≡ names_of [] (map plain_item items.now)) }
+    ensures same { IfOk result (λ all. declared.new ≡ names.new) }
+{
     for i in 0..items.len() {
         let item = items.at(i);
         let name = item.name.bytes();
         if !is_boolean(&item.domain) || name.len() > MOST_BYTES {
-            return Ok(None);
+            return Ok(false);
         }
         if !declared.declare(alloc, name)? {
-            return Ok(None);
+            return Ok(false);
         }
         names.push(Name::of(alloc, name)?)?;
     }
-    Ok(Some((names, declared)))
+    Ok(true)
 }
 
 // The variable that a path names.

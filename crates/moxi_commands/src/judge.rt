@@ -9,11 +9,11 @@ ghost use Rattle.moxi_commands.specs.Outcome.{GoesOn, IsJudgement, IsVerdict, Ma
 ghost use Rattle.moxi_commands.specs.Stop.{IsLineRefused, IsWitnessRefused, MaySecondStop, MayStop, StopsUnread, StopsWith};
 
 use crate::answer::{Answer, Stop, refusal, unread};
-use btor_text::{BtorEnd, read_btor};
+use btor_text::read_btor;
 use btor_tree::Nodes;
-use btor_witness::{MOST_BYTES, Witness, WitnessEnd, judge_btor, read_witness};
+use btor_witness::{MOST_BYTES, Witness, judge_btor, read_witness};
 use std::alloc::Global;
-use text_core::{Kind, Name, NoMemory, ReadEnd, Shelf, Verdict, read_whole};
+use text_core::{End, Name, NoMemory, ReadEnd, Shelf, Verdict, kinds, read_whole};
 
 /// The most bytes that a BTOR2 text may have.
 pub const BTOR_LIMIT: usize = 134_217_728;
@@ -47,7 +47,7 @@ fn read_model<F: Shelf>(alloc: Global, name: &Name, shelf: &mut F) -> Result<Vec
     match read_whole(alloc, shelf, name, BTOR_LIMIT) {
         Ok(bytes) => Ok(bytes),
         Err(ReadEnd::Fault) => Err(unread(alloc, name)),
-        Err(ReadEnd::TooLong) => Err(Stop::Gives(Answer::Refuses(refusal(Kind::B(9))))),
+        Err(ReadEnd::TooLong) => Err(Stop::Gives(Answer::Refuses(refusal(kinds::btor::TOO_LONG)))),
         Err(ReadEnd::NoMemory) => Err(Stop::NoMemory),
     }
 }
@@ -60,8 +60,8 @@ fn lines_of(alloc: Global, bytes: &[u8]) -> Result<Nodes, Stop>
 {
     match read_btor(alloc, bytes) {
         Ok(nodes) => Ok(nodes),
-        Err(BtorEnd::Bad(refusal)) => Err(Stop::Gives(Answer::Refuses(refusal))),
-        Err(BtorEnd::NoMemory) => Err(Stop::NoMemory),
+        Err(End::Bad(refusal)) => Err(Stop::Gives(Answer::Refuses(refusal))),
+        Err(End::NoMemory) => Err(Stop::NoMemory),
     }
 }
 
@@ -77,7 +77,9 @@ fn read_second<F: Shelf>(alloc: Global, name: &Name, shelf: &mut F) -> Result<Ve
     match read_whole(alloc, shelf, name, MOST_BYTES) {
         Ok(bytes) => Ok(bytes),
         Err(ReadEnd::Fault) => Err(unread(alloc, name)),
-        Err(ReadEnd::TooLong) => Err(Stop::Gives(Answer::SecondRefuses(refusal(Kind::X(8))))),
+        Err(ReadEnd::TooLong) => Err(Stop::Gives(Answer::SecondRefuses(refusal(
+            kinds::witness::TOO_LONG,
+        )))),
         Err(ReadEnd::NoMemory) => Err(Stop::NoMemory),
     }
 }
@@ -91,8 +93,8 @@ fn witness_of(alloc: Global, nodes: &Nodes, text: &[u8]) -> Result<Witness, Stop
 {
     match read_witness(alloc, nodes, text) {
         Ok(witness) => Ok(witness),
-        Err(WitnessEnd::Bad(refusal)) => Err(Stop::Gives(Answer::SecondRefuses(refusal))),
-        Err(WitnessEnd::NoMemory) => Err(Stop::NoMemory),
+        Err(End::Bad(refusal)) => Err(Stop::Gives(Answer::SecondRefuses(refusal))),
+        Err(End::NoMemory) => Err(Stop::NoMemory),
     }
 }
 

@@ -12,7 +12,7 @@ ghost use Rattle.moxi_commands.specs.Stands.{Ready, Stands, AllStand, HasInputs,
 use crate::formula::{Formula, Source};
 use btor_tree::{Builder, LineOp, Nodes, one_arg, plain_arg, two_args};
 use std::alloc::Global;
-use text_core::{Items, Name, Names, NoMemory};
+use text_core::{List, Name, Names, NoMemory};
 use word_core::{Binary, Unary};
 
 // The place of the sort line of truth values.
@@ -34,9 +34,7 @@ fn put_piece(bytes: &mut Vec<u8>, piece: &[u8]) -> Result<(), NoMemory>
     ensures { OnOk result (bytes.new.items ≡ bytes.old.items ++ spec.symbol_of piece.now) }
 {
     for byte in piece {
-        if bytes.push(symbol_byte(*byte)).is_err() {
-            return Err(NoMemory);
-        }
+        bytes.push(symbol_byte(*byte))?;
     }
     Ok(())
 }
@@ -58,10 +56,10 @@ fn put_first(alloc: Global, builder: &mut Builder) -> Result<(), NoMemory>
     ensures { OnOk result (builder.new ≡ spec.first_lines) }
 {
     builder.sort(1)?;
-    builder.push(LineOp::One, TRUTH_SORT, Items::new(alloc), None)?;
-    builder.push(LineOp::Zero, TRUTH_SORT, Items::new(alloc), None)?;
+    builder.push(LineOp::One, TRUTH_SORT, List::new(alloc), None)?;
+    builder.push(LineOp::Zero, TRUTH_SORT, List::new(alloc), None)?;
     let symbol = Name::of(alloc, b"first")?;
-    builder.push(LineOp::State, TRUTH_SORT, Items::new(alloc), Some(symbol))?;
+    builder.push(LineOp::State, TRUTH_SORT, List::new(alloc), Some(symbol))?;
     let init = two_args(alloc, plain_arg(3), plain_arg(1))?;
     builder.push(LineOp::Init, TRUTH_SORT, init, None)?;
     let next = two_args(alloc, plain_arg(3), plain_arg(2))?;
@@ -76,9 +74,9 @@ fn put_variable(alloc: Global, builder: &mut Builder, name: &Name) -> Result<(),
     ensures { OnOk result (builder.new ≡ spec.with_variable builder.old name.now) }
 {
     let symbol = variable_symbol(alloc, name, b"")?;
-    let input = builder.push(LineOp::Input, TRUTH_SORT, Items::new(alloc), Some(symbol))?;
+    let input = builder.push(LineOp::Input, TRUTH_SORT, List::new(alloc), Some(symbol))?;
     let symbol = variable_symbol(alloc, name, b".prev")?;
-    let state = builder.push(LineOp::State, TRUTH_SORT, Items::new(alloc), Some(symbol))?;
+    let state = builder.push(LineOp::State, TRUTH_SORT, List::new(alloc), Some(symbol))?;
     let next = two_args(alloc, plain_arg(state), plain_arg(input))?;
     builder.push(LineOp::Next, TRUTH_SORT, next, None)?;
     Ok(())

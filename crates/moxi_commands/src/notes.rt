@@ -3,7 +3,7 @@ ghost use Rattle.std.specs.Prelude.{◌≡◌, ◌≢◌, ◌⊎◌, ◌<◌, �
 ghost use Rattle.text_core.specs.Outside.{grown, Rose, Counts};
 ghost use Rattle.moxi_commands.specs.Outcome.{status_of, text_of};
 ghost use Rattle.moxi_commands.specs.Sinks.{IsPart};
-ghost use Rattle.moxi_commands.specs.Notes.{btor_name, clause_name, colon_text, column_text, denied_line, joined, judged_line, kind_letter, kind_name, kind_number, line_of, naming_name, other_name, refused_line, refused_words, smv_name, text_name, typing_name, unread_line, witness_name};
+ghost use Rattle.moxi_commands.specs.Notes.{clause_name, colon_text, column_text, denied_line, joined, judged_line, kind_letter, kind_number, line_of, refused_line, refused_words, unread_line};
 
 use crate::answer::Answer;
 use crate::status::Status;
@@ -123,7 +123,7 @@ fn note_refusal<N: Sink>(second: bool, refusal: Refusal, status: Status, notes: 
         letter_of(refusal.kind),
         number.format(number_of(refusal.kind)).as_bytes(),
         b" ",
-        name_of(refusal.kind),
+        refusal.kind.name(),
         b" at ",
         line.format(refusal.place.line).as_bytes(),
         colon_of(refusal.kind),
@@ -204,129 +204,6 @@ fn number_of(kind: Kind) -> u8
 {
     match kind {
         Kind::S(n) | Kind::M(n) | Kind::B(n) | Kind::X(n) | Kind::Y(n) => n,
-    }
-}
-
-fn name_of(kind: Kind) -> &'static [u8]
-    ensures { result.now ≡ kind_name kind }
-{
-    match kind {
-        Kind::S(n) => smv_name(n),
-        Kind::B(n) => btor_name(n),
-        Kind::X(n) => witness_name(n),
-        _ => b"",
-    }
-}
-
-fn smv_name(n: u8) -> &'static [u8]
-    ensures { result.now ≡ smv_name n }
-{
-    if n < 8 {
-        text_name(n)
-    } else if n < 16 {
-        naming_name(n)
-    } else if n < 24 {
-        typing_name(n)
-    } else {
-        other_name(n)
-    }
-}
-
-// Kinds of refusal of a model's text.
-fn text_name(n: u8) -> &'static [u8]
-    ensures { result.now ≡ text_name n }
-{
-    match n {
-        1 => b"TooLong",
-        2 => b"BadByte",
-        3 => b"BadNumber",
-        4 => b"TooNested",
-        5 => b"Dead",
-        6 => b"NotSupported",
-        7 => b"TooTall",
-        _ => b"",
-    }
-}
-
-// Of its modules and names.
-fn naming_name(n: u8) -> &'static [u8]
-    ensures { result.now ≡ naming_name n }
-{
-    match n {
-        8 => b"NoMain",
-        9 => b"ModuleTwice",
-        10 => b"NameTwice",
-        11 => b"NoSuchModule",
-        12 => b"ModuleCycle",
-        13 => b"ArgCount",
-        14 => b"Unknown",
-        15 => b"DefineCycle",
-        _ => b"",
-    }
-}
-
-// Of its expressions and assignments.
-fn typing_name(n: u8) -> &'static [u8]
-    ensures { result.now ≡ typing_name n }
-{
-    match n {
-        16 => b"TypeClash",
-        17 => b"IntTooWide",
-        18 => b"InputHere",
-        19 => b"NextHere",
-        20 => b"SetHere",
-        21 => b"AssignedTwice",
-        22 => b"NotAssignable",
-        23 => b"BadDivisor",
-        _ => b"",
-    }
-}
-
-// And the rest.
-fn other_name(n: u8) -> &'static [u8]
-    ensures { result.now ≡ other_name n }
-{
-    match n {
-        24 => b"BadShift",
-        25 => b"BadSelect",
-        26 => b"EmptyRange",
-        27 => b"NoInvarspec",
-        28 => b"TooLarge",
-        29 => b"NotBuilt",
-        _ => b"",
-    }
-}
-
-fn btor_name(n: u8) -> &'static [u8]
-    ensures { result.now ≡ btor_name n }
-{
-    match n {
-        1 => b"Line",
-        2 => b"IdOrder",
-        3 => b"NoSuchNode",
-        4 => b"SortClash",
-        5 => b"NotSupported",
-        6 => b"Width",
-        7 => b"Twice",
-        8 => b"InitLate",
-        9 => b"TooLong",
-        _ => b"",
-    }
-}
-
-fn witness_name(n: u8) -> &'static [u8]
-    ensures { result.now ≡ witness_name n }
-{
-    match n {
-        1 => b"Line",
-        2 => b"NoBad",
-        3 => b"FrameOrder",
-        4 => b"Index",
-        5 => b"Width",
-        6 => b"Unended",
-        7 => b"Justice",
-        8 => b"TooLong",
-        _ => b"",
     }
 }
 

@@ -5,7 +5,7 @@ ghost use Rattle.smv_text.specs.Tree.{PlainSource};
 ghost use Rattle.btor_tree.specs.declared.lines.TheConstants.{GREATEST_ID};
 ghost use Rattle.moxi_commands.specs.Trees.{plain, source_of};
 ghost use Rattle.moxi_commands.specs.Lines.{line_count};
-ghost use Rattle.smv_text.specs.Bytes.{start, after};
+ghost use Rattle.text_core.specs.Places.{start, after};
 ghost use Rattle.smv_text.specs.Lexing.{LexesTo};
 ghost use Rattle.smv_text.specs.View.{plain_source};
 ghost use Rattle.smv_meaning.specs.Phases.{IsAccepted};
@@ -17,12 +17,12 @@ use crate::formula::Source;
 use crate::lines::lines_of;
 use btor_print::print_btor;
 use smv_flatten::accepted;
-use smv_lex::{LexEnd, lex};
-use smv_names::NamesEnd;
-use smv_parse::{ParseEnd, parse};
+use smv_lex::lex;
+use smv_parse::parse;
 use smv_text::{Reserved, Source as Model, Token, TokenKind, Tokens};
 use std::alloc::Global;
-use text_core::{Kind, NoMemory, Refusal, Text};
+use text_core::kinds::smv;
+use text_core::{End, NoMemory, Text};
 
 /// The most bytes that an SMV model may have.
 pub const SMV_LIMIT: usize = 1_048_576;
@@ -30,54 +30,30 @@ pub const SMV_LIMIT: usize = 1_048_576;
 // The most tokens that a model of the first grammar may have.
 const MOST_TOKENS: usize = 4096;
 
-/// Why a model has no text.
-#[derive(Drop)]
-pub enum ModelEnd {
-    /// The model is refused.
-    Refused(Refusal),
-    /// Memory ran out.
-    NoMemory,
-}
-
-impl From<NoMemory> for ModelEnd {
-    ghost use Rattle.std.specs.Prelude.{◌≡◌};
-    ghost use Rattle.moxi_commands.specs.declared.translate.ModelEnd.TheVariants as end;
-
-    ghost from_gives = { λ _ e. e ≡ end.NoMemory };
-
-    fn from(_: NoMemory) -> ModelEnd {
-        ModelEnd::NoMemory
-    }
-}
-
 /// The BTOR2 text of the source that the bytes spell, or their refusal.
-pub fn translate(alloc: Global, bytes: &[u8]) -> Result<Text, ModelEnd>
+pub fn translate(alloc: Global, bytes: &[u8]) -> Result<Text, End>
     requires { length bytes.now ≤ SMV_LIMIT }
     ensures text { IfOk result (λ text. (form : Form) × HasForm bytes.now form × (text ≡ btor_text form)) }
     ensures refused { IfErr result (IsModelEnd bytes.now) }
 {
     let source = read_source(alloc, bytes)?;
-    match text_of(alloc, &source) {
-        Ok(text) => Ok(text),
-        Err(NoMemory) => Err(ModelEnd::NoMemory),
-    }
+    Ok(text_of(alloc, &source)?)
 }
 
 // The source that the bytes spell. Its tokens are gone when it is there.
-fn read_source(alloc: Global, bytes: &[u8]) -> Result<Source, ModelEnd>
+fn read_source(alloc: Global, bytes: &[u8]) -> Result<Source, End>
     requires { length bytes.now ≤ SMV_LIMIT }
     ensures accepted { IfOk result (λ source. HasForm bytes.now (source_of source)) }
     ensures refused { IfErr result (IsModelEnd bytes.now) }
 {
     match lex(alloc, bytes) {
         Ok(tokens) => source_of_tokens(alloc, bytes, &tokens),
-        Err(LexEnd::Bad(refusal)) => Err(ModelEnd::Refused(refusal)),
-        Err(LexEnd::NoMemory) => Err(ModelEnd::NoMemory),
+        Err(end) => Err(end),
     }
 }
 
 // The source that the tokens of the bytes spell.
-fn source_of_tokens(alloc: Global, bytes: &[u8], tokens: &Tokens) -> Result<Source, ModelEnd>
+fn source_of_tokens(alloc: Global, bytes: &[u8], tokens: &Tokens) -> Result<Source, End>
     requires within { length bytes.now ≤ SMV_LIMIT }
     requires lexed { LexesTo bytes.now tokens.now.items }
     requires end { tokens.now.end ≡ after start bytes.now }
@@ -87,8 +63,7 @@ fn source_of_tokens(alloc: Global, bytes: &[u8], tokens: &Tokens) -> Result<Sour
 {
     match parse(alloc, tokens) {
         Ok(model) => source_of_model(alloc, bytes, tokens, &model),
-        Err(ParseEnd::Bad(refusal)) => Err(ModelEnd::Refused(refusal)),
-        Err(ParseEnd::NoMemory) => Err(ModelEnd::NoMemory),
+        Err(end) => Err(end),
     }
 }
 
@@ -98,7 +73,7 @@ fn source_of_model(
     bytes: &[u8],
     tokens: &Tokens,
     model: &Model,
-) -> Result<Source, ModelEnd>
+) -> Result<Source, End>
     requires model { IsReadModel bytes.now tokens.now.items (plain_source model.now) }
     ensures accepted { IfOk result (λ source. HasForm bytes.now (source_of source)) }
     ensures refused { IfErr result (IsModelEnd bytes.now) }
@@ -110,38 +85,31 @@ fn source_of_model(
 }
 
 // Does every check of the model hold?
-fn checked(alloc: Global, model: &Model) -> Result<(), ModelEnd>
+fn checked(alloc: Global, model: &Model) -> Result<(), End>
     ensures accepted { OnOk result (IsAccepted (plain_source model.now) 0) }
     ensures refused { IfErr result (IsCheckEnd (plain_source model.now)) }
 {
-    match accepted(alloc, model, 0) {
-        Ok(_) => Ok(()),
-        Err(NamesEnd::Bad(refusal)) => Err(ModelEnd::Refused(refusal)),
-        Err(NamesEnd::NoMemory) => Err(ModelEnd::NoMemory),
-    }
+    let kept = accepted(alloc, model, 0)?;
+    drop(kept);
+    Ok(())
 }
 
 // The source that an accepted model is, if it is one of those that are translated today.
-fn form_of_model(
-    alloc: Global,
-    bytes: &[u8],
-    tokens: &Tokens,
-    model: &Model,
-) -> Result<Source, ModelEnd>
+fn form_of_model(alloc: Global, bytes: &[u8], tokens: &Tokens, model: &Model) -> Result<Source, End>
     requires model { IsReadModel bytes.now tokens.now.items (plain_source model.now) }
     requires passes { IsAccepted (plain_source model.now) 0 }
     ensures accepted { IfOk result (λ source. HasForm bytes.now (source_of source)) }
     ensures refused { IfErr result (IsModelEnd bytes.now) }
 {
     if tokens.len() > MOST_TOKENS {
-        return Err(ModelEnd::Refused(refusal(Kind::S(29))));
+        return Err(End::Bad(refusal(smv::NOT_BUILT)));
     }
     if !has_no_brackets(tokens.as_slice()) {
-        return Err(ModelEnd::Refused(refusal(Kind::S(29))));
+        return Err(End::Bad(refusal(smv::NOT_BUILT)));
     }
     match form_of(alloc, model)? {
         Some(source) => Ok(source),
-        None => Err(ModelEnd::Refused(refusal(Kind::S(29)))),
+        None => Err(End::Bad(refusal(smv::NOT_BUILT))),
     }
 }
 

@@ -25,6 +25,7 @@ use moxi_sorts::Locals;
 use moxi_terms::Scope;
 use std::alloc::Global;
 use std::mem::drop;
+use text_core::kinds::moxi;
 use text_core::{Name, NoMemory, Place, Refusal};
 
 /// A check whose system isn't yet found.
@@ -154,7 +155,7 @@ fn read_content(
 }
 
 // A check whose shape is tested.
-#[tactic(auto, using(moxi_attributes::proofs::Collecting::also_append, moxi_attributes::proofs::Collecting::nothing_more))]
+#[tactic(auto, using(moxi_attributes::specs::laws::Collecting::also_append, moxi_attributes::specs::laws::Collecting::nothing_more))]
 fn read_shaped(
     alloc: Global,
     scope: &Scope,
@@ -172,12 +173,12 @@ fn read_shaped(
         let r = read_content(alloc, scope, p, h, variables, found)?;
         return Ok(Some(r));
     }
-    fail(found, 12, p);
+    fail(found, moxi::ARITY, p);
     Ok(None)
 }
 
 /// `(check-system S ..)` at p, of which these are the forms behind its head.
-#[tactic(auto, using(moxi_attributes::proofs::Collecting::nothing_more))]
+#[tactic(auto, using(moxi_attributes::specs::laws::Collecting::nothing_more))]
 pub fn read_check(
     alloc: Global,
     scope: &Scope,
@@ -192,7 +193,7 @@ pub fn read_check(
 {
     match headed_forms(forms) {
         None => {
-            fail(found, 12, p);
+            fail(found, moxi::ARITY, p);
             Ok(None)
         }
         Some(h) => {

@@ -17,9 +17,11 @@ use moxi_attributes::{Headed, fail, fail_if, fail_primed, headed_forms, place_of
 use moxi_scripts::{CommandName, Entries};
 use moxi_sexpr::{Form, FormShape};
 use moxi_sorts::{only, symbol_of};
-use moxi_terms::{Numbering, Scope, is_same};
+use moxi_terms::{Scope, is_same};
+use name_set::NameSet;
 use std::alloc::Global;
 use std::mem::{self, drop};
+use text_core::kinds::moxi;
 use text_core::{Name, NoMemory, Place, Refusal};
 
 /// What the commands so far declare.
@@ -27,8 +29,8 @@ use text_core::{Name, NoMemory, Place, Refusal};
 pub struct Draft {
     pub logic: Option<Name>,
     pub scope: Scope,
-    pub term_names: Numbering,
-    pub system_names: Numbering,
+    pub term_names: NameSet,
+    pub system_names: NameSet,
     pub variables: Entries,
     pub systems: Vec<ReadSystem>,
     pub checked: bool,
@@ -42,8 +44,8 @@ pub fn nothing_read(alloc: Global) -> Draft
     Draft {
         logic: None,
         scope: Scope::new(alloc),
-        term_names: Numbering::new(alloc),
-        system_names: Numbering::new(alloc),
+        term_names: NameSet::new(alloc),
+        system_names: NameSet::new(alloc),
         variables: Entries::new(alloc),
         systems: Vec::new(alloc),
         checked: false,
@@ -111,7 +113,7 @@ fn command_named(n: &[u8]) -> Option<CommandName>
 }
 
 // `(set-logic L)` at p.
-#[tactic(auto, using(moxi_attributes::proofs::Collecting::also_none))]
+#[tactic(auto, using(moxi_attributes::specs::laws::Collecting::also_none))]
 fn read_logic(
     alloc: Global,
     logic: &mut Option<Name>,
@@ -124,7 +126,7 @@ fn read_logic(
 {
     match only(forms) {
         None => {
-            fail(found, 12, p);
+            fail(found, moxi::ARITY, p);
             Ok(())
         }
         Some(form) => read_logic_name(alloc, logic, p, place_of(form), symbol_of(form), found),
@@ -145,7 +147,7 @@ fn read_logic_name(
 {
     match symbol {
         None => {
-            fail(found, 12, p);
+            fail(found, moxi::ARITY, p);
             Ok(())
         }
         Some((name, primed)) => {
@@ -157,7 +159,7 @@ fn read_logic_name(
 }
 
 // A check; a second one fails.
-#[tactic(auto, using(moxi_attributes::proofs::Collecting::also_append))]
+#[tactic(auto, using(moxi_attributes::specs::laws::Collecting::also_append))]
 fn add_check(
     alloc: Global,
     draft: &mut Draft,
@@ -169,7 +171,7 @@ fn add_check(
     ensures finds { OnOk result (found.new ≡ also found.old (command_failures name.Check (plain_draft draft.old) p (plain_forms forms.now))) }
 {
     let check = read_check(alloc, &draft.scope, p, forms, &mut draft.variables, found)?;
-    fail_if(found, draft.checked, 13, p);
+    fail_if(found, draft.checked, moxi::CHECK_COUNT, p);
     if draft.checked {
         drop(check);
         return Ok(());
@@ -180,7 +182,7 @@ fn add_check(
 }
 
 // A command at p, with the forms behind its head.
-#[tactic(auto, using(moxi_attributes::proofs::Collecting::also_none, moxi_attributes::proofs::Collecting::nothing_more))]
+#[tactic(auto, using(moxi_attributes::specs::laws::Collecting::also_none, moxi_attributes::specs::laws::Collecting::nothing_more))]
 fn read_command(
     alloc: Global,
     c: CommandName,
@@ -246,7 +248,7 @@ fn read_command(
 }
 
 // A list at p that begins with a symbol.
-#[tactic(auto, using(moxi_attributes::proofs::Collecting::also_append))]
+#[tactic(auto, using(moxi_attributes::specs::laws::Collecting::also_append))]
 fn read_headed(
     alloc: Global,
     draft: &mut Draft,
@@ -260,7 +262,7 @@ fn read_headed(
     fail_primed(found, h.primed, h.place);
     match command_named(h.name) {
         None => {
-            fail(found, 6, p);
+            fail(found, moxi::NOT_SUPPORTED, p);
             Ok(())
         }
         Some(c) => {
@@ -282,12 +284,12 @@ fn read_form(
 {
     match &form.shape {
         FormShape::Atom(_) => {
-            fail(found, 12, form.place);
+            fail(found, moxi::ARITY, form.place);
             Ok(())
         }
         FormShape::List(parts) => match headed_forms(parts) {
             None => {
-                fail(found, 12, form.place);
+                fail(found, moxi::ARITY, form.place);
                 Ok(())
             }
             Some(h) => {

@@ -19,8 +19,10 @@ use moxi_scripts::Entries;
 use moxi_sexpr::Form;
 use moxi_sorts::{read_sorts_are_of_the_scope, sort_of};
 use moxi_term_reading::{ReadTerm, read_term, read_terms_have_sorts};
-use moxi_terms::{Function, Numbering, Primes, Scope, Sort, Term};
+use moxi_terms::{Function, Primes, Scope, Sort, Term};
+use name_set::NameSet;
 use std::alloc::Global;
+use text_core::kinds::moxi;
 use text_core::{Name, NoMemory, Place, Refusal};
 
 /// The parts of `f ((x S) ..) S t`, with the place of its list of parameters.
@@ -56,11 +58,11 @@ pub fn function_parts<'a>(forms: &'a [Form]) -> Option<FunctionParts<'a>>
 }
 
 // The tests of the names of a function and of its parameters.
-#[tactic(auto, using(moxi_attributes::proofs::Collecting::also_append))]
+#[tactic(auto, using(moxi_attributes::specs::laws::Collecting::also_append))]
 fn test_names(
     alloc: Global,
     scope: &Scope,
-    names: &mut Numbering,
+    names: &mut NameSet,
     name: Headed,
     parameters: &Entries,
     found: &mut Option<Refusal>,
@@ -70,7 +72,7 @@ fn test_names(
 {
     fail_primed(found, name.primed, name.place);
     declare_term_name(alloc, scope, names, name.name, name.place, found)?;
-    let mut own = Numbering::new(alloc);
+    let mut own = NameSet::new(alloc);
     test_twice(alloc, &mut own, parameters, found)?;
     Ok(())
 }
@@ -146,7 +148,7 @@ fn add_function(
 pub fn read_function(
     alloc: Global,
     scope: &mut Scope,
-    names: &mut Numbering,
+    names: &mut NameSet,
     variables: &mut Entries,
     p: Place,
     forms: &[Form],
@@ -159,7 +161,7 @@ pub fn read_function(
 {
     match function_parts(forms) {
         None => {
-            fail(found, 12, p);
+            fail(found, moxi::ARITY, p);
             Ok(())
         }
         Some(f) => {
@@ -173,7 +175,7 @@ pub fn read_function(
 fn define_function(
     alloc: Global,
     scope: &mut Scope,
-    names: &mut Numbering,
+    names: &mut NameSet,
     variables: &mut Entries,
     p: Place,
     f: FunctionParts,

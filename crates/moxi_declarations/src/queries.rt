@@ -16,8 +16,9 @@ use moxi_attributes::{
 use moxi_scripts::{Command, Key, Queries, Query, QueryNames, Turn};
 use moxi_sexpr::Form;
 use moxi_sorts::symbol_of;
-use moxi_terms::Numbering;
+use name_set::NameSet;
 use std::alloc::Global;
+use text_core::kinds::moxi;
 use text_core::{Name, NoMemory, Numbers, Place, Refusal};
 
 fn no_names(alloc: Global) -> QueryNames
@@ -72,7 +73,7 @@ fn add_prime(q: &mut QueryNames, primed: bool)
 }
 
 // A name of a query.
-#[tactic(auto, using(moxi_attributes::proofs::Collecting::also_none))]
+#[tactic(auto, using(moxi_attributes::specs::laws::Collecting::also_none))]
 fn read_name(
     ls: &Labels,
     form: &Form,
@@ -137,7 +138,7 @@ fn first_of(numbers: &Numbers) -> Result<u32, NoMemory>
 }
 
 // The names of a query in a list at q.
-#[tactic(auto, using(moxi_attributes::proofs::Collecting::also_append))]
+#[tactic(auto, using(moxi_attributes::specs::laws::Collecting::also_append))]
 fn read_query_list(
     alloc: Global,
     ls: &Labels,
@@ -151,15 +152,15 @@ fn read_query_list(
 {
     match parts_of(n.form) {
         None => {
-            fail(found, 12, p);
+            fail(found, moxi::ARITY, p);
             Ok(())
         }
         Some(parts) => {
             let mut q = no_names(alloc);
             let symbols = read_names(ls, parts, &mut q, found)?;
-            fail_if(found, !symbols, 12, place_of(n.form));
+            fail_if(found, !symbols, moxi::ARITY, place_of(n.form));
             let bad = is_bad_query(ls, &q);
-            fail_if(found, both(symbols, bad), 14, p);
+            fail_if(found, both(symbols, bad), moxi::QUERY_FORM, p);
             add_query(alloc, n.name, q, queries)?;
             Ok(())
         }
@@ -185,11 +186,11 @@ fn add_query(
 }
 
 // A query in a list at `around`.
-#[tactic(auto, using(moxi_attributes::proofs::Collecting::also_append, moxi_attributes::proofs::Collecting::nothing_more))]
+#[tactic(auto, using(moxi_attributes::specs::laws::Collecting::also_append, moxi_attributes::specs::laws::Collecting::nothing_more))]
 fn read_query(
     alloc: Global,
     ls: &Labels,
-    names: &mut Numbering,
+    names: &mut NameSet,
     around: Place,
     form: &Form,
     queries: &mut Queries,
@@ -207,7 +208,7 @@ fn read_query(
         Some(n) => {
             fail_primed(found, n.primed, n.place);
             let fresh = names.declare(alloc, n.name)?;
-            fail_if(found, !fresh, 9, n.place);
+            fail_if(found, !fresh, moxi::NAME_TWICE, n.place);
             read_query_list(alloc, ls, place_of(form), n, queries, found)?;
             Ok(())
         }
@@ -218,7 +219,7 @@ fn read_query(
 fn read_queries_of(
     alloc: Global,
     ls: &Labels,
-    names: &mut Numbering,
+    names: &mut NameSet,
     around: Place,
     forms: &[Form],
     queries: &mut Queries,
@@ -235,12 +236,12 @@ fn read_queries_of(
 }
 
 // A form among attributes.
-#[tactic(auto, using(moxi_attributes::proofs::Collecting::also_none, moxi_attributes::proofs::Collecting::nothing_more))]
+#[tactic(auto, using(moxi_attributes::specs::laws::Collecting::also_none, moxi_attributes::specs::laws::Collecting::nothing_more))]
 fn read_queries_at(
     alloc: Global,
     ls: &Labels,
     turn: Turn,
-    names: &mut Numbering,
+    names: &mut NameSet,
     form: &Form,
     queries: &mut Queries,
     found: &mut Option<Refusal>,
@@ -260,11 +261,11 @@ fn read_queries_at(
 }
 
 // The queries of a list.
-#[tactic(auto, using(moxi_attributes::proofs::Collecting::also_none, moxi_attributes::proofs::Collecting::nothing_more))]
+#[tactic(auto, using(moxi_attributes::specs::laws::Collecting::also_none, moxi_attributes::specs::laws::Collecting::nothing_more))]
 fn read_listed(
     alloc: Global,
     ls: &Labels,
-    names: &mut Numbering,
+    names: &mut NameSet,
     form: &Form,
     queries: &mut Queries,
     found: &mut Option<Refusal>,
@@ -293,7 +294,7 @@ pub fn read_queries(
     ensures adds { OnOk result (queries.new ≡ queries.old ++ queries_after (plain_labels ls.now) turns.AtKeyword (plain_forms forms.now)) }
     ensures finds { OnOk result (found.new ≡ also found.old (all_queries_failures (plain_labels ls.now) [] turns.AtKeyword (plain_forms forms.now))) }
 {
-    let mut names = Numbering::new(alloc);
+    let mut names = NameSet::new(alloc);
     let mut turn = Turn::AtKeyword;
     for form in forms {
         read_queries_at(alloc, ls, turn, &mut names, form, queries, found)?;

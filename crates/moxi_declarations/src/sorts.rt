@@ -15,12 +15,14 @@ use moxi_attributes::{
 };
 use moxi_sexpr::Form;
 use moxi_sorts::{pair, read_sorts_are_of_the_scope, sort_of};
-use moxi_terms::{Numbering, Scope, Sort};
+use moxi_terms::{Scope, Sort};
+use name_set::NameSet;
 use std::alloc::Global;
+use text_core::kinds::moxi;
 use text_core::{Name, Names, NoMemory, Place, Refusal};
 
 // The tests of a sort's own name.
-#[tactic(auto, using(moxi_attributes::proofs::Collecting::also_append))]
+#[tactic(auto, using(moxi_attributes::specs::laws::Collecting::also_append))]
 fn test_sort_name(
     scope: &Scope,
     name: &[u8],
@@ -31,14 +33,14 @@ fn test_sort_name(
     ensures { found.new ≡ also found.old (prime_failures primed place ++ fails_if (is_sort_name scope.now name.now) 9 place) }
 {
     fail_primed(found, primed, place);
-    fail_if(found, scope.is_sort_name(name), 9, place);
+    fail_if(found, scope.is_sort_name(name), moxi::NAME_TWICE, place);
 }
 
 /// `(declare-enum-sort N (c ..))` at p, of which these are the forms behind its head.
 pub fn read_enumeration(
     alloc: Global,
     scope: &mut Scope,
-    names: &mut Numbering,
+    names: &mut NameSet,
     p: Place,
     forms: &[Form],
     found: &mut Option<Refusal>,
@@ -49,7 +51,7 @@ pub fn read_enumeration(
 {
     match named_in(forms) {
         None => {
-            fail(found, 12, p);
+            fail(found, moxi::ARITY, p);
             Ok(())
         }
         Some(n) => read_listed(alloc, scope, names, p, n, found),
@@ -57,11 +59,11 @@ pub fn read_enumeration(
 }
 
 // The enumeration of a name.
-#[tactic(auto, using(moxi_attributes::proofs::Collecting::also_append))]
+#[tactic(auto, using(moxi_attributes::specs::laws::Collecting::also_append))]
 fn read_listed(
     alloc: Global,
     scope: &mut Scope,
-    names: &mut Numbering,
+    names: &mut NameSet,
     p: Place,
     n: Named,
     found: &mut Option<Refusal>,
@@ -72,7 +74,7 @@ fn read_listed(
 {
     match parts_of(n.form) {
         None => {
-            fail(found, 12, p);
+            fail(found, moxi::ARITY, p);
             Ok(())
         }
         Some(parts) => {
@@ -84,11 +86,11 @@ fn read_listed(
 }
 
 // The enumeration of a name that stands before the list of its constants at q.
-#[tactic(auto, using(moxi_attributes::proofs::Collecting::also_append))]
+#[tactic(auto, using(moxi_attributes::specs::laws::Collecting::also_append))]
 fn add_constants(
     alloc: Global,
     scope: &mut Scope,
-    names: &mut Numbering,
+    names: &mut NameSet,
     name: &[u8],
     q: Place,
     forms: &[Form],
@@ -101,7 +103,7 @@ fn add_constants(
     let mut constants = Names::new(alloc);
     let symbols = read_constants(alloc, scope, names, forms, &mut constants, found)?;
     let whole = symbols && 0 < constants.len();
-    fail_if(found, !whole, 12, q);
+    fail_if(found, !whole, moxi::ARITY, q);
     if whole {
         add_enumeration(alloc, scope, name, constants)?;
         return Ok(());
@@ -139,12 +141,12 @@ pub fn read_sort(
 {
     match headed_forms(forms) {
         None => {
-            fail(found, 12, p);
+            fail(found, moxi::ARITY, p);
             Ok(())
         }
         Some(h) => match pair(h.rest) {
             None => {
-                fail(found, 12, p);
+                fail(found, moxi::ARITY, p);
                 Ok(())
             }
             Some((parameters, form)) => {
@@ -156,7 +158,7 @@ pub fn read_sort(
 }
 
 // A name for the sort that a form spells.
-#[tactic(auto, using(moxi_attributes::proofs::Collecting::also_append))]
+#[tactic(auto, using(moxi_attributes::specs::laws::Collecting::also_append))]
 fn define_sort(
     alloc: Global,
     scope: &mut Scope,
@@ -174,7 +176,7 @@ fn define_sort(
     fail_if(
         found,
         !is_empty_list(parameters),
-        12,
+        moxi::ARITY,
         misshapen_place(p, parameters),
     );
     note_sort(found, sort);

@@ -23,10 +23,12 @@ use moxi_attributes::{
 use moxi_scripts::{Command, DeclaredList, Entries, Key, Lists, Use};
 use moxi_sexpr::Form;
 use moxi_sorts::Locals;
-use moxi_terms::{Numbering, Primes, Scope, Term};
+use moxi_terms::{Primes, Scope, Term};
+use name_set::NameSet;
 use std::alloc::Global;
 use std::mem::drop;
-use text_core::{Items, Name, NoMemory, Place, Refusal};
+use text_core::kinds::moxi;
+use text_core::{List, Name, NoMemory, Place, Refusal};
 
 /// A system whose subsystems aren't yet found.
 #[derive(Drop)]
@@ -36,7 +38,7 @@ pub struct ReadSystem {
     pub init: Term,
     pub trans: Term,
     pub inv: Term,
-    pub uses: Items<Use>,
+    pub uses: List<Use>,
 }
 
 /// The variables of a system or a check.
@@ -62,13 +64,13 @@ fn test_own_twice(
 ) -> Result<(), NoMemory>
     ensures { OnOk result (found.new ≡ also found.old (twice_failures [] entries.now)) }
 {
-    let mut names = Numbering::new(alloc);
+    let mut names = NameSet::new(alloc);
     test_twice(alloc, &mut names, entries, found)?;
     Ok(())
 }
 
 /// The variables of a system or a check, and the tests of its keywords.
-#[tactic(auto, using(moxi_attributes::proofs::Collecting::also_append))]
+#[tactic(auto, using(moxi_attributes::specs::laws::Collecting::also_append))]
 pub fn read_variables(
     alloc: Global,
     scope: &Scope,
@@ -92,7 +94,7 @@ pub fn read_variables(
 }
 
 // The formulas of a system.
-#[tactic(auto, using(moxi_attributes::proofs::Collecting::also_append))]
+#[tactic(auto, using(moxi_attributes::specs::laws::Collecting::also_append))]
 fn read_formulas(
     alloc: Global,
     scope: &Scope,
@@ -138,7 +140,7 @@ fn read_parts(
     scope: &Scope,
     locals: &Locals,
     forms: &[Form],
-    uses: &mut Items<Use>,
+    uses: &mut List<Use>,
     found: &mut Option<Refusal>,
 ) -> Result<SystemFormulas, NoMemory>
     requires { uses.old ≡ [] }
@@ -173,7 +175,7 @@ fn read_over(
     ensures system { IfOk result (λ r. plain_reading r ≡ content_of scope.now name (plain_forms forms.now)) }
     ensures finds { OnOk result (found.new ≡ also (also found.old (formulas_failures scope.now (locals_of scope.now commands.System (plain_forms forms.now)) (plain_forms forms.now))) (uses_failures (locals_of scope.now commands.System (plain_forms forms.now)) [] turns.AtKeyword (plain_forms forms.now))) }
 {
-    let mut uses = Items::new(alloc);
+    let mut uses = List::new(alloc);
     match read_parts(alloc, scope, locals, forms, &mut uses, found) {
         Ok(formulas) => Ok(ReadSystem {
             name,
@@ -244,12 +246,12 @@ fn bare_system(alloc: Global, name: &[u8]) -> Result<ReadSystem, NoMemory>
         init: true_term(),
         trans: true_term(),
         inv: true_term(),
-        uses: Items::new(alloc),
+        uses: List::new(alloc),
     })
 }
 
 // A system at p of this name.
-#[tactic(auto, using(moxi_attributes::proofs::Collecting::nothing_more))]
+#[tactic(auto, using(moxi_attributes::specs::laws::Collecting::nothing_more))]
 fn read_shaped(
     alloc: Global,
     scope: &Scope,
@@ -266,7 +268,7 @@ fn read_shaped(
         let r = read_content(alloc, scope, h.name, h.rest, variables, found)?;
         return Ok(r);
     }
-    fail(found, 12, p);
+    fail(found, moxi::ARITY, p);
     let r = bare_system(alloc, h.name)?;
     Ok(r)
 }
@@ -277,18 +279,15 @@ where
     T: Drop,
     ensures { OnOk result (all.new.items ≡ all.old.items ++ x ∷ []) }
 {
-    match all.push(x) {
-        Ok(()) => Ok(()),
-        Err(_) => Err(NoMemory),
-    }
+    Ok(all.push(x)?)
 }
 
 // A system at p, whose name is tested.
-#[tactic(auto, using(moxi_attributes::proofs::Collecting::also_append, moxi_attributes::proofs::Collecting::nothing_more, moxi_scripts::proofs::Forms::map_end))]
+#[tactic(auto, using(moxi_attributes::specs::laws::Collecting::also_append, moxi_attributes::specs::laws::Collecting::nothing_more, moxi_scripts::proofs::Forms::map_end))]
 fn define_system(
     alloc: Global,
     scope: &Scope,
-    names: &mut Numbering,
+    names: &mut NameSet,
     variables: &mut Entries,
     systems: &mut Vec<ReadSystem>,
     p: Place,
@@ -302,7 +301,7 @@ fn define_system(
 {
     fail_primed(found, h.primed, h.place);
     if !names.declare(alloc, h.name)? {
-        fail(found, 9, h.place);
+        fail(found, moxi::NAME_TWICE, h.place);
         return Ok(());
     }
     let r = read_shaped(alloc, scope, p, h, variables, found)?;
@@ -314,7 +313,7 @@ fn define_system(
 pub fn read_system(
     alloc: Global,
     scope: &Scope,
-    names: &mut Numbering,
+    names: &mut NameSet,
     variables: &mut Entries,
     systems: &mut Vec<ReadSystem>,
     p: Place,
@@ -328,7 +327,7 @@ pub fn read_system(
 {
     match headed_forms(forms) {
         None => {
-            fail(found, 12, p);
+            fail(found, moxi::ARITY, p);
             Ok(())
         }
         Some(h) => {

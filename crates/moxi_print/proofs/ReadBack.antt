@@ -3,7 +3,7 @@ use Rattle.std.proofs.Common.{◌≡◌, ◌≤◌, ℕ, suc, max, Bool, true, f
 use Rattle.moxi_sexpr.specs.declared.form.Atom.{Atom}
 use Rattle.moxi_sexpr.specs.declared.form.Atom.TheVariants as kinds
 use Rattle.moxi_sexpr.specs.declared.scan.Spelling.TheVariants as how
-use Rattle.moxi_sexpr.specs.Bytes.{first}
+use Rattle.text_core.specs.Places.{start}
 use Rattle.moxi_sexpr.specs.Atoms.{is_simple, atom_of}
 use Rattle.moxi_sexpr.specs.Tree.{Tree, atom, list, Trees, no_trees, tree, depth, depths, unplaced, all_unplaced}
 use Rattle.moxi_sexpr.specs.Lexing.{limit}
@@ -14,9 +14,9 @@ use Rattle.moxi_print.specs.Shown.{Shown, word, part, group, Showns, no_showns, 
 -- forms that are shown so
 abbrev mutual
   form_of : Shown → Tree
-  form_of (word w) = atom first (kinds.Symbol w false)
-  form_of (part a) = atom first a
-  form_of (group xs) = list first (forms_of xs)
+  form_of (word w) = atom start (kinds.Symbol w false)
+  form_of (part a) = atom start a
+  form_of (group xs) = list start (forms_of xs)
 
   forms_of : Showns → Trees
   forms_of no_showns = no_trees
@@ -46,9 +46,9 @@ atom_again (kinds.Quote name) = refl
 
 mutual
   shown_writes : (x : Shown) → CanBeShown x → Writes (form_of x) (text_of x)
-  shown_writes (word w) h = subst (Writes (atom first (kinds.Symbol w false))) (append-nil w) (written first (how.Bare false) w h)
-  shown_writes (part a) h = let P : Atom → Type 0 = λ x. Writes (atom first x) (printed_atom a) in subst P (atom_again a) (written first (spelling_of a) (name_of a) h)
-  shown_writes (group xs) h = brackets first (parts_write xs h)
+  shown_writes (word w) h = subst (Writes (atom start (kinds.Symbol w false))) (append-nil w) (written start (how.Bare false) w h)
+  shown_writes (part a) h = let P : Atom → Type 0 = λ x. Writes (atom start x) (printed_atom a) in subst P (atom_again a) (written start (spelling_of a) (name_of a) h)
+  shown_writes (group xs) h = brackets start (parts_write xs h)
 
   parts_write : (xs : Showns) → AllCanBeShown xs → WritesParts (forms_of xs) (parts_text [] xs)
   parts_write no_showns h = no_parts
@@ -67,10 +67,10 @@ mutual
   same_shown : (t : Tree) (x : Shown) → unplaced t ≡ unplaced (form_of x) → Shows t x
   same_shown (atom p a) (word w) e = cc
   same_shown (atom p a) (part b) e = cc
-  same_shown (atom p a) (group xs) e = absurd (let f : atom first a ≡ list first (all_unplaced (forms_of xs)) = e in cc)
-  same_shown (list p ts) (word w) e = absurd (let f : list first (all_unplaced ts) ≡ atom first (kinds.Symbol w false) = e in cc)
-  same_shown (list p ts) (part b) e = absurd (let f : list first (all_unplaced ts) ≡ atom first b = e in cc)
-  same_shown (list p ts) (group xs) e = same_shown_each ts xs (let f : list first (all_unplaced ts) ≡ list first (all_unplaced (forms_of xs)) = e in cc)
+  same_shown (atom p a) (group xs) e = absurd (let f : atom start a ≡ list start (all_unplaced (forms_of xs)) = e in cc)
+  same_shown (list p ts) (word w) e = absurd (let f : list start (all_unplaced ts) ≡ atom start (kinds.Symbol w false) = e in cc)
+  same_shown (list p ts) (part b) e = absurd (let f : list start (all_unplaced ts) ≡ atom start b = e in cc)
+  same_shown (list p ts) (group xs) e = same_shown_each ts xs (let f : list start (all_unplaced ts) ≡ list start (all_unplaced (forms_of xs)) = e in cc)
 
   same_shown_each : (ts : Trees) (xs : Showns) → all_unplaced ts ≡ all_unplaced (forms_of xs) → ShowEach ts xs
   same_shown_each no_trees no_showns e = tt

@@ -5,11 +5,12 @@ use Rattle.std.specs.Str.{bytes_eq}
 use Rattle.std.proofs.lemmas.Bool.{and_parts, and_from}
 use Rattle.moxi_terms.specs.Tree.{PlainFunction}
 use Rattle.moxi_terms.specs.View.{ScopeState}
-use Rattle.moxi_terms.specs.Names.{place_of, is_among, are_fresh, enumeration_names, sort_names, function_names, all_constants, is_sort_name, may_be_constants, may_be_enumeration, with_enumeration, with_function}
-use Rattle.moxi_sorts.proofs.AllLaws.{all_append}
+use Rattle.moxi_terms.specs.Names.{is_among, enumeration_names, sort_names, function_names, all_constants, is_sort_name, may_be_constants, may_be_enumeration, with_enumeration, with_function}
+use Rattle.name_set.specs.Names.{place_of, are_fresh}
+use Rattle.moxi_sorts.specs.laws.AllLaws.{all_append}
 use Rattle.moxi_print.specs.StandingReads.{HasSortNames}
 use Rattle.moxi_print.specs.StandingNames.{IsSpellable, AreSpellable, IsSpellableScope}
-use Rattle.moxi_print.proofs.StandingPlaces.{same_bytes}
+use Rattle.moxi_print.specs.laws.StandingPlaces.{same_bytes}
 use Rattle.moxi_print.proofs.StandingGrow.{constants_append, names_append, not_among}
 use Rattle.moxi_print.proofs.StandingScopes.{opposite, or_neither, neither_or, none_among, among_neither, enumerations_append}
 

@@ -19,19 +19,20 @@ use Rattle.moxi_sorts.specs.declared.locals.Local.{Local}
 use Rattle.moxi_terms.specs.declared.term.Enumeration.{Enumeration}
 use Rattle.moxi_terms.specs.Tree.{Tree, constant, variable, bound, apply, binding, call, Trees, no_trees, tree, PlainFunction, sorts_of}
 use Rattle.moxi_terms.specs.View.{ScopeState}
-use Rattle.moxi_terms.specs.Names.{or_else, place_of, is_among, function_names, all_constants, numbered, constant_numbers, constant_named, is_term_name}
+use Rattle.moxi_terms.specs.Names.{or_else, is_among, function_names, all_constants, numbered, constant_numbers, constant_named, is_term_name}
+use Rattle.name_set.specs.Names.{place_of}
 use Rattle.moxi_terms.specs.Words.{is_operator, operator_named}
 use Rattle.moxi_terms.specs.Meanings as reading
 use Rattle.moxi_sorts.specs.Finding as finding
-use Rattle.moxi_term_reading.specs.Reading.{Context, meaning_of, names_of}
+use Rattle.moxi_term_reading.specs.Reading.{Context, meaning_of}
 use Rattle.moxi_sorts.specs.Finding.{Found}
 use Rattle.moxi_terms.specs.Meanings.{head_named, value_named}
 use Rattle.moxi_terms.proofs.PlaceLaws.{place_within, get_front}
-use Rattle.moxi_term_reading.proofs.SortedParts.{constant_is}
+use Rattle.moxi_term_reading.specs.laws.SortedParts.{constant_is}
 use Rattle.moxi_print.specs.Terms.{name_at, constants_or_none, constant_name, operator_word, truth_word}
 use Rattle.moxi_print.specs.Standing.{bound_locals, StandsValue, StandsOperator, StandsCall, Stands, StandEach}
 use Rattle.moxi_print.specs.StandingGrows.{Grows, in_scope}
-use Rattle.moxi_print.proofs.StandingPlaces.{place_front, place_neither}
+use Rattle.moxi_print.specs.laws.StandingPlaces.{place_front, place_neither}
 
 -- LISTS
 

@@ -43,7 +43,7 @@ use Rattle.moxi_print.specs.Terms.{name_at, constant_name, symbol, numeral, unar
 use Rattle.moxi_print.specs.Standing.{bound_locals, StandsValue, StandsPrime, StandsOperator, StandsCall, Stands, StandEach}
 use Rattle.moxi_print.specs.StandingReads.{whole}
 use Rattle.moxi_print.proofs.StandingNumbers.{word_again, index_again}
-use Rattle.moxi_print.proofs.StandingShapes as shape
+use Rattle.moxi_print.specs.laws.StandingShapes as shape
 
 -- ATOMS
 

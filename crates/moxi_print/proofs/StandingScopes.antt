@@ -13,14 +13,15 @@ use Rattle.moxi_terms.specs.declared.term.Enumeration.{Enumeration}
 use Rattle.moxi_terms.specs.declared.term.NamedSort.{NamedSort}
 use Rattle.moxi_terms.specs.Tree.{PlainFunction}
 use Rattle.moxi_terms.specs.View.{ScopeState}
-use Rattle.moxi_terms.specs.Names.{or_else, place_of, is_among, are_fresh, function_names, enumeration_names, sort_names, all_constants, is_term_name, is_sort_name, may_be_constants, may_be_enumeration, with_enumeration, with_sort, with_function, sort_named, declared_sort}
+use Rattle.moxi_terms.specs.Names.{or_else, is_among, function_names, enumeration_names, sort_names, all_constants, is_term_name, is_sort_name, may_be_constants, may_be_enumeration, with_enumeration, with_sort, with_function, sort_named, declared_sort}
+use Rattle.name_set.specs.Names.{place_of, are_fresh}
 use Rattle.moxi_terms.specs.Sorts.{IsSort}
 use Rattle.moxi_terms.specs.Words.{is_operator}
 use Rattle.moxi_terms.proofs.PlaceLaws.{place_from, place_is, place_there, get_front, index_read}
 use Rattle.moxi_print.specs.Terms.{name_at}
 use Rattle.moxi_print.specs.StandingReads.{StandsSort}
 use Rattle.moxi_print.specs.StandingGrows.{Grows, sorts_first}
-use Rattle.moxi_print.proofs.StandingPlaces.{same_bytes, place_front, place_neither}
+use Rattle.moxi_print.specs.laws.StandingPlaces.{same_bytes, place_front, place_neither}
 use Rattle.moxi_print.proofs.StandingGrow.{constants_append, names_append, not_among, or_later, function_taken}
 
 true_false : {A : Type 0} (b : Bool) → b ≡ true → b ≡ false → A

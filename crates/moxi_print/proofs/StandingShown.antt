@@ -20,7 +20,8 @@ use Rattle.moxi_sorts.specs.declared.locals.Local.{Local}
 use Rattle.moxi_terms.specs.declared.term.Enumeration.{Enumeration}
 use Rattle.moxi_terms.specs.Tree.{Tree, constant, variable, bound, apply, binding, call, Trees, no_trees, tree, PlainFunction, sorts_of}
 use Rattle.moxi_terms.specs.View.{ScopeState}
-use Rattle.moxi_terms.specs.Names.{or_else, place_of, function_names, enumeration_names, all_constants}
+use Rattle.moxi_terms.specs.Names.{or_else, function_names, enumeration_names, all_constants}
+use Rattle.name_set.specs.Names.{place_of}
 use Rattle.moxi_terms.specs.Words.{operators, row_named, operator_named}
 use Rattle.moxi_terms.specs.Meanings as reading
 use Rattle.moxi_term_reading.specs.Reading.{Context, names_of}

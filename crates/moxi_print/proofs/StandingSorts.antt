@@ -13,7 +13,8 @@ use Rattle.moxi_sexpr.specs.Lexing.{refusal}
 use Rattle.moxi_sexpr.specs.Tree as form
 use Rattle.moxi_terms.specs.declared.data.Sort.{Sort}
 use Rattle.moxi_terms.specs.declared.data.Sort.TheVariants.{Truth, Bits, Choice}
-use Rattle.moxi_terms.specs.Names.{place_of, is_among, are_fresh, or_else, enumeration_names, sort_named, declared_sort}
+use Rattle.moxi_terms.specs.Names.{is_among, or_else, enumeration_names, sort_named, declared_sort}
+use Rattle.name_set.specs.Names.{place_of, are_fresh}
 use Rattle.moxi_sorts.specs.SortReading.{sort_reading, symbol_sort, width_sort}
 use Rattle.moxi_terms.specs.Sorts.{IsSort}
 use Rattle.moxi_terms.specs.View.{ScopeState}
@@ -21,8 +22,8 @@ use Rattle.moxi_print.specs.Shown.{Shows}
 use Rattle.moxi_print.specs.Terms.{name_at, numeral, shown_sort}
 use Rattle.moxi_print.specs.StandingReads.{StandsSort, HasSortNames}
 use Rattle.moxi_print.proofs.StandingNumbers.{index_again}
-use Rattle.moxi_print.proofs.StandingPlaces.{fresh_place}
-use Rattle.moxi_print.proofs.StandingShapes as shape
+use Rattle.moxi_print.specs.laws.StandingPlaces.{fresh_place}
+use Rattle.moxi_print.specs.laws.StandingShapes as shape
 
 width_read : (w : ℕ) (p q r : Place) → 1 ≤ w → w ≤ WIDEST → width_sort w p q false r false ≡ Ok (Bits w)
 width_read w p q r low high =

@@ -34,7 +34,8 @@ use Rattle.moxi_terms.specs.declared.term.Enumeration.{Enumeration}
 use Rattle.moxi_terms.specs.declared.term.Variable.{Variable}
 use Rattle.moxi_terms.specs.Tree.{Tree, constant, variable, bound, call, no_trees, trees_of, PlainFunction, sorts_of}
 use Rattle.moxi_terms.specs.View.{ScopeState}
-use Rattle.moxi_terms.specs.Names.{or_else, place_of, function_names, constant_named, numbered, constant_numbers, all_constants}
+use Rattle.moxi_terms.specs.Names.{or_else, function_names, constant_named, numbered, constant_numbers, all_constants}
+use Rattle.name_set.specs.Names.{place_of}
 use Rattle.moxi_terms.specs.Words.{operators, indexed_operators, left_out_operators, row_named, operator_named, is_one_of}
 use Rattle.moxi_sorts.specs.Forms.{place_in, symbol_of, symbol_atom, numeral_of, pair_of, is_named, is_word, is_primed}
 use Rattle.moxi_term_reading.specs.Reading as reading
@@ -47,7 +48,7 @@ use Rattle.moxi_sorts.specs.Finding.{Found}
 use Rattle.moxi_terms.specs.Meanings.{head_named}
 use Rattle.moxi_term_reading.specs.WellSorted.{HaveKnownSorts}
 use Rattle.moxi_terms.proofs.PlaceLaws.{place_there, index_read}
-use Rattle.moxi_term_reading.proofs.SortedParts.{some_fails, none_in, stays, FoundIn, first_found, last_found, known_append, names_long, read_is_word, tests_hold, call_fits}
+use Rattle.moxi_term_reading.specs.laws.SortedParts.{some_fails, none_in, stays, FoundIn, first_found, last_found, known_append, names_long, read_is_word, tests_hold, call_fits}
 use Rattle.moxi_print.specs.Terms.{name_at, constants_or_none, constant_name, operator_word, truth_word}
 use Rattle.moxi_print.specs.Standing.{bound_locals, StandsPrime, StandsOperator, StandsCall, Stands, StandEach}
 use Rattle.moxi_print.specs.StandingReads.{IsStanding}

@@ -6,3 +6,4 @@ pub mod Bindings
 pub mod StandingReads
 pub mod StandingGrows
 pub mod StandingNames
+pub mod laws

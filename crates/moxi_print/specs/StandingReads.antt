@@ -4,7 +4,8 @@ use Rattle.word_core.specs.declared.word.TheConstants.{WIDEST}
 use Rattle.moxi_terms.specs.declared.data.Sort.{Sort}
 use Rattle.moxi_terms.specs.declared.data.Sort.TheVariants.{Truth, Bits, Choice}
 use Rattle.moxi_sorts.specs.declared.locals.Local.{Local}
-use Rattle.moxi_terms.specs.Names.{are_fresh, enumeration_names, is_among, sort_named}
+use Rattle.moxi_terms.specs.Names.{enumeration_names, is_among, sort_named}
+use Rattle.name_set.specs.Names.{are_fresh}
 use Rattle.moxi_term_reading.specs.Reading.{Context, Reading}
 use Rattle.moxi_terms.specs.Tree.{Tree}
 use Rattle.moxi_terms.specs.View.{ScopeState}

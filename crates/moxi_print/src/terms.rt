@@ -79,10 +79,7 @@ fn name_in<'a>(names: &[&'a [u8]], i: u32) -> &'a [u8]
 fn push<'a>(bound: &mut Vec<&'a [u8]>, name: &'a [u8]) -> Result<(), NoMemory>
     ensures { OnOk result (bound.new.items ≡ bound.old.items ++ name.entry ∷ []) }
 {
-    match bound.push(name) {
-        Ok(()) => Ok(()),
-        Err(_) => Err(NoMemory),
-    }
+    Ok(bound.push(name)?)
 }
 
 fn push_names<'a>(bound: &mut Vec<&'a [u8]>, names: &'a Names) -> Result<(), NoMemory>

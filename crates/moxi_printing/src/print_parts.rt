@@ -106,10 +106,7 @@ pub fn name_in<'a>(names: &[&'a [u8]], i: u64) -> &'a [u8]
 pub fn push<'a>(names: &mut Vec<&'a [u8]>, name: &'a [u8]) -> Result<(), NoMemory>
     ensures { OnOk result (names.new.items ≡ names.old.items ++ name.entry ∷ []) }
 {
-    match names.push(name) {
-        Ok(()) => Ok(()),
-        Err(_) => Err(NoMemory),
-    }
+    Ok(names.push(name)?)
 }
 
 /// Adds the names of these numbers.

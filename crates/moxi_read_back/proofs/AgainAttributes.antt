@@ -19,7 +19,7 @@ use Rattle.moxi_scripts.specs.Attributes.{count_of, is_list_form, key_named, key
 use Rattle.moxi_scripts.specs.Collecting.{fails_if}
 use Rattle.moxi_shown_scripts.specs.Printing.{formula_attribute, list_attribute, shown_formulas, shown_lists}
 use Rattle.moxi_read_back.proofs.AgainShapes.{is_attribute, joined_joined}
-use Rattle.moxi_systems.proofs.WholeNames.{and_both}
+use Rattle.moxi_systems.specs.laws.WholeNames.{and_both}
 
 abbrev pub attribute_forms : Place → List ℕ → Tree → Trees → Trees
 attribute_forms p name t ts = tree (atom p (Keyword name)) (tree t ts)

@@ -7,7 +7,8 @@ use Rattle.moxi_sexpr.specs.Tree.{Tree, Trees, no_trees, tree}
 use Rattle.moxi_terms.specs.declared.data.Primes.TheVariants.{Refused}
 use Rattle.moxi_terms.specs.declared.term.Enumeration.{Enumeration}
 use Rattle.moxi_terms.specs.declared.term.NamedSort.{NamedSort}
-use Rattle.moxi_terms.specs.Names.{all_constants, are_fresh, enumeration_names, function_names, is_among, is_term_name, no_scope, place_of, sort_names}
+use Rattle.moxi_terms.specs.Names.{all_constants, enumeration_names, function_names, is_among, is_term_name, no_scope, sort_names}
+use Rattle.name_set.specs.Names.{are_fresh, place_of}
 use Rattle.moxi_terms.specs.Sorts.{IsSort}
 use Rattle.moxi_terms.specs.Tree.{PlainFunction}
 use Rattle.moxi_terms.specs.View.{ScopeState}
@@ -15,7 +16,7 @@ use Rattle.moxi_print.specs.Declarations.{shown_function, shown_named_sort}
 use Rattle.moxi_print.specs.Shown.{word, group, Showns, no_showns, shown, joined, Shows, ShowEach}
 use Rattle.moxi_print.specs.Standing.{Stands}
 use Rattle.moxi_print.specs.Terms.{shown_sort, shown_term, shown_variables, symbol, variable_names}
-use Rattle.moxi_print.proofs.StandingShapes as shape
+use Rattle.moxi_print.specs.laws.StandingShapes as shape
 use Rattle.moxi_scripts.specs.declared.parts.Command.TheVariants.{System}
 use Rattle.moxi_scripts.specs.declared.parts.Declared.{Declared}
 use Rattle.moxi_scripts.specs.Commands.{Reading, commands_failures, form_failures, nothing_read, reading_after, with_form}
@@ -30,9 +31,9 @@ use Rattle.moxi_read_back.proofs.AgainParts.{AllReadBack, ReadsBack, SortsRead, 
 use Rattle.moxi_read_back.proofs.AgainScopes.{same_sorts_shown, same_variables_shown, term_shown}
 use Rattle.moxi_read_back.proofs.AgainSystems.{AgreeSystem, all_agree, command_form, is_command, system_read}
 use Rattle.moxi_scripts.proofs.ListLaws.{get_left, get_right}
-use Rattle.moxi_systems.proofs.WholeNames.{Absent, absent_parts, fresh_first, fresh_split, is_absent, or_both, or_parts, other_way}
-use Rattle.moxi_systems.proofs.WholeParts.{all_append, all_of, all_parts, get_below, map_append}
-use Rattle.moxi_systems.proofs.WholeScopes.{constants_append, take_whole, term_new}
+use Rattle.moxi_systems.specs.laws.WholeNames.{Absent, absent_parts, fresh_first, fresh_split, is_absent, or_both, or_parts, other_way}
+use Rattle.moxi_systems.specs.laws.WholeParts.{all_append, all_of, all_parts, get_below, map_append}
+use Rattle.moxi_systems.specs.laws.WholeScopes.{constants_append, take_whole, term_new}
 
 -- what is read so far; no check is read
 abbrev pub reading_at : Option (List ℕ) → ScopeState → List (List ℕ) → List (List ℕ) → List Declared → List SystemReading → Reading

@@ -1,7 +1,7 @@
 -- No subsystem contains its system in a whole script that is shown and read again.
 use Rattle.std.proofs.Common.{◌≡◌, ℕ, suc, ◌+◌, ◌<◌, nat_lt, true, cond, List, [], ◌∷◌, ◌++◌, length, refl, ap, ◌∙◌, arith}
 use Rattle.std.proofs.lemmas.Bool.Decides.{nat_tests}
-use Rattle.moxi_terms.specs.Names.{are_fresh, place_of}
+use Rattle.name_set.specs.Names.{are_fresh, place_of}
 use Rattle.moxi_scripts.specs.declared.script.Subsystem.{Subsystem}
 use Rattle.moxi_scripts.specs.declared.parts.Use.{Use}
 use Rattle.moxi_scripts.specs.Cycles as cycles

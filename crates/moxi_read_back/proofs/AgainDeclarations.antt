@@ -13,7 +13,8 @@ use Rattle.moxi_terms.specs.declared.data.Sort.TheVariants.{Truth, Bits, Choice}
 use Rattle.moxi_terms.specs.declared.term.Enumeration.{Enumeration}
 use Rattle.moxi_terms.specs.declared.term.NamedSort.{NamedSort}
 use Rattle.moxi_sorts.specs.Forms.{place_in}
-use Rattle.moxi_terms.specs.Names.{all_constants, are_fresh, enumeration_names, is_among, is_sort_name, is_term_name, may_be_constants, may_be_enumeration, place_of, sort_names, with_enumeration, with_function, with_sort}
+use Rattle.moxi_terms.specs.Names.{all_constants, enumeration_names, is_among, is_sort_name, is_term_name, may_be_constants, may_be_enumeration, sort_names, with_enumeration, with_function, with_sort}
+use Rattle.name_set.specs.Names.{are_fresh, place_of}
 use Rattle.moxi_term_reading.specs.Reading as reading
 use Rattle.moxi_sorts.specs.SortReading.{sort_reading}
 use Rattle.moxi_terms.specs.Sorted.{AreSorts}
@@ -25,7 +26,7 @@ use Rattle.moxi_print.specs.Shown.{group, no_showns, shown, Shows, ShowEach}
 use Rattle.moxi_print.specs.Standing.{Stands}
 use Rattle.moxi_print.specs.StandingReads as standing
 use Rattle.moxi_print.specs.Terms.{shown_sort, shown_term, shown_variables, variable_names}
-use Rattle.moxi_print.proofs.StandingShapes as shape
+use Rattle.moxi_print.specs.laws.StandingShapes as shape
 use Rattle.moxi_scripts.specs.declared.parts.Declared.{Declared}
 use Rattle.moxi_scripts.specs.Collecting.{fails_if}
 use Rattle.moxi_scripts.specs.Commands.{Reading, form_failures, with_form}
@@ -35,11 +36,11 @@ use Rattle.moxi_scripts.specs.Entries.{entries_of, known_sort, names_with, sort_
 use Rattle.moxi_scripts.specs.Shapes.{HeadedForms}
 use Rattle.moxi_systems.specs.Whole.{is_fixed_sort, over}
 use Rattle.moxi_read_back.proofs.AgainEntries.{Agree, agree_differ, agree_locals, agree_variables, entries_read}
-use Rattle.moxi_shown_scripts.proofs.VariableNames.{names_of_locals}
+use Rattle.moxi_shown_scripts.specs.laws.VariableNames.{names_of_locals}
 use Rattle.moxi_read_back.proofs.AgainParts.{ReadsBack, both_nil, some_if}
 use Rattle.moxi_read_back.proofs.AgainShapes.{is_listed, named_form}
 use Rattle.moxi_read_back.proofs.AgainSystems.{command_form, is_command}
-use Rattle.moxi_systems.proofs.WholeNames.{Absent, and_both, fresh_first, is_absent, or_both, or_parts}
+use Rattle.moxi_systems.specs.laws.WholeNames.{Absent, and_both, fresh_first, is_absent, or_both, or_parts}
 
 -- NAMES
 

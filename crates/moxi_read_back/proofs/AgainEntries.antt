@@ -6,7 +6,7 @@ use Rattle.moxi_sexpr.specs.Tree as form
 use Rattle.moxi_terms.specs.declared.term.Variable.{Variable}
 use Rattle.moxi_term_reading.specs.Answer.{locals_of}
 use Rattle.moxi_sorts.specs.Forms.{place_in}
-use Rattle.moxi_terms.specs.Names.{are_fresh, place_of}
+use Rattle.name_set.specs.Names.{are_fresh, place_of}
 use Rattle.moxi_terms.specs.Sorts.{IsSort}
 use Rattle.moxi_terms.specs.Sorted.{AreSorts}
 use Rattle.moxi_terms.specs.Tree.{sorts_of}
@@ -19,7 +19,7 @@ use Rattle.moxi_scripts.specs.Entries.{entries_failures, entries_of, entry_failu
 use Rattle.moxi_scripts.specs.Lists.{entries_among, entries_tests, listed_entries, listed_failures}
 use Rattle.moxi_read_back.proofs.AgainParts.{ReadsBack}
 use Rattle.moxi_read_back.proofs.AgainShapes.{is_listed, is_named}
-use Rattle.moxi_systems.proofs.WholeNames.{fresh_first, is_absent}
+use Rattle.moxi_systems.specs.laws.WholeNames.{fresh_first, is_absent}
 
 -- as many entries as variables, with their names and sorts
 abbrev pub Agree : List Variable → List Declared → Type 0

@@ -16,7 +16,7 @@ use Rattle.moxi_print.specs.Terms.{shown_term, variable_names}
 use Rattle.moxi_scripts.specs.Declarations.{clash_failures}
 use Rattle.moxi_scripts.specs.Formulas.{reading_of, term_failures, term_of}
 use Rattle.moxi_systems.specs.Whole.{IsFormula, over}
-use Rattle.moxi_shown_scripts.proofs.VariableNames.{names_of_locals}
+use Rattle.moxi_shown_scripts.specs.laws.VariableNames.{names_of_locals}
 use Rattle.moxi_read_back.proofs.AgainParts.{ReadsBack}
 
 pub formula_read : (s : ScopeState) (back : ReadsBack s) (vs : List Variable) (locals : List Local) (primes : Primes) (t : Tree) (f : form.Tree) → locals ≡ locals_of vs → IsFormula s vs primes t → Shows f (shown_term s (variable_names vs) [] t)

@@ -8,7 +8,7 @@ use Rattle.moxi_sorts.specs.declared.locals.Local.{Local}
 use Rattle.moxi_terms.specs.declared.term.Variable.{Variable}
 use Rattle.moxi_term_reading.specs.Answer as answer
 use Rattle.moxi_sorts.specs.Forms.{place_in}
-use Rattle.moxi_terms.specs.Names.{are_fresh, place_of}
+use Rattle.name_set.specs.Names.{are_fresh, place_of}
 use Rattle.moxi_terms.specs.Tree.{Tree}
 use Rattle.moxi_terms.specs.View.{ScopeState}
 use Rattle.moxi_print.specs.Shown.{Showns, joined, Shows, ShowEach}
@@ -30,7 +30,7 @@ use Rattle.moxi_read_back.proofs.AgainAttributes.{IsTail, attribute_forms, is_on
 use Rattle.moxi_read_back.proofs.AgainFormulas.{term_again, term_passes}
 use Rattle.moxi_read_back.proofs.AgainParts.{ReadsBack, some_if}
 use Rattle.moxi_read_back.proofs.AgainShapes.{is_attribute, is_named, joined_joined}
-use Rattle.moxi_systems.proofs.WholeNames.{Absent, absent_append, absent_parts, fresh_first, fresh_split, is_absent, or_both}
+use Rattle.moxi_systems.specs.laws.WholeNames.{Absent, absent_append, absent_parts, fresh_first, fresh_split, is_absent, or_both}
 
 -- NAMES
 

@@ -9,11 +9,12 @@ use Rattle.text_core.specs.declared.place.Refusal.{Refusal}
 use Rattle.moxi_sexpr.specs.Lexing.{refusal}
 use Rattle.moxi_terms.specs.declared.data.Sort.{Sort}
 use Rattle.moxi_terms.specs.declared.term.Variable.{Variable}
-use Rattle.moxi_terms.specs.Names.{all_constants, are_fresh, function_names, is_term_name, place_of}
+use Rattle.moxi_terms.specs.Names.{all_constants, function_names, is_term_name}
+use Rattle.name_set.specs.Names.{are_fresh, place_of}
 use Rattle.moxi_terms.specs.Tree.{sorts_of}
 use Rattle.moxi_terms.specs.View.{ScopeState}
 use Rattle.moxi_print.specs.Terms.{name_at}
-use Rattle.moxi_print.proofs.StandingPlaces.{fresh_place}
+use Rattle.moxi_print.specs.laws.StandingPlaces.{fresh_place}
 use Rattle.moxi_scripts.specs.declared.parts.Declared.{Declared}
 use Rattle.moxi_scripts.specs.declared.parts.DeclaredList.{DeclaredList}
 use Rattle.moxi_scripts.specs.declared.parts.Lists.{Lists}
@@ -35,8 +36,8 @@ use Rattle.moxi_read_back.proofs.AgainParts.{both_nil, first_or, rest_of}
 use Rattle.moxi_read_back.proofs.AgainSystems.{AgreeSystem}
 use Rattle.moxi_read_back.proofs.AgainUses.{AgreeUse, AgreeUses}
 use Rattle.moxi_scripts.proofs.ListLaws.{get_right}
-use Rattle.moxi_systems.proofs.WholeNames.{absent_append, is_absent, or_both}
-use Rattle.moxi_systems.proofs.WholeScopes.{new_term}
+use Rattle.moxi_systems.specs.laws.WholeNames.{absent_append, is_absent, or_both}
+use Rattle.moxi_systems.specs.laws.WholeScopes.{new_term}
 
 -- NAMES OF VARIABLES
 

@@ -8,7 +8,8 @@ use Rattle.moxi_sexpr.specs.Tree as form
 use Rattle.moxi_terms.specs.declared.data.Sort.{Sort}
 use Rattle.moxi_sorts.specs.declared.locals.Local.{Local}
 use Rattle.moxi_terms.specs.declared.term.Enumeration.{Enumeration}
-use Rattle.moxi_terms.specs.Names.{are_fresh, enumeration_names, is_among}
+use Rattle.moxi_terms.specs.Names.{enumeration_names, is_among}
+use Rattle.name_set.specs.Names.{are_fresh}
 use Rattle.moxi_term_reading.specs.Reading.{Context, names_of, read}
 use Rattle.moxi_sorts.specs.SortReading.{sort_reading}
 use Rattle.moxi_terms.specs.Sorts.{IsSort}

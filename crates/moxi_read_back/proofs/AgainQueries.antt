@@ -7,13 +7,13 @@ use Rattle.moxi_sexpr.specs.declared.form.Atom.TheVariants.{Symbol}
 use Rattle.moxi_sexpr.specs.Tree as form
 use Rattle.moxi_sorts.specs.Forms.{place_in}
 use Rattle.moxi_sorts.specs.declared.locals.Local.{Local}
-use Rattle.moxi_terms.specs.Names.{are_fresh, place_of}
+use Rattle.name_set.specs.Names.{are_fresh, place_of}
 use Rattle.moxi_terms.specs.View.{ScopeState}
 use Rattle.moxi_print.specs.Declarations.{shown_symbols}
 use Rattle.moxi_print.specs.Shown.{group, Shows, ShowEach}
 use Rattle.moxi_print.specs.Terms.{name_at, symbol}
-use Rattle.moxi_print.proofs.StandingPlaces.{fresh_place}
-use Rattle.moxi_print.proofs.StandingShapes as shape
+use Rattle.moxi_print.specs.laws.StandingPlaces.{fresh_place}
+use Rattle.moxi_print.specs.laws.StandingShapes as shape
 use Rattle.moxi_scripts.specs.declared.parts.Command.TheVariants.{Check}
 use Rattle.moxi_scripts.specs.declared.parts.Key.TheVariants as keys
 use Rattle.moxi_scripts.specs.declared.parts.Turn.TheVariants.{AtKeyword}
@@ -34,7 +34,7 @@ use Rattle.moxi_read_back.proofs.AgainLabels.{made_labels}
 use Rattle.moxi_read_back.proofs.AgainParts.{none_if}
 use Rattle.moxi_read_back.proofs.AgainShapes.{is_attribute, is_listed, is_named, named_form}
 use Rattle.moxi_read_back.proofs.AgainUses.{absent_at}
-use Rattle.moxi_systems.proofs.WholeNames.{Absent, absent_parts, fresh_first, fresh_split, fresh_with, is_absent}
+use Rattle.moxi_systems.specs.laws.WholeNames.{Absent, absent_parts, fresh_first, fresh_split, fresh_with, is_absent}
 
 -- NAMES
 

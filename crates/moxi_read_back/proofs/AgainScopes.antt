@@ -15,7 +15,7 @@ use Rattle.moxi_terms.specs.View.{ScopeState}
 use Rattle.moxi_print.specs.Shown.{word, group, no_showns, shown}
 use Rattle.moxi_print.specs.Standing.{bound_locals, Stands, StandEach}
 use Rattle.moxi_print.specs.Terms.{constants_or_none, name_at, shown_bindings, shown_call, shown_operator, shown_sort, shown_term, shown_terms, shown_value, shown_variable, shown_variables, symbol}
-use Rattle.moxi_systems.proofs.WholeParts.{get_map, index_get}
+use Rattle.moxi_systems.specs.laws.WholeParts.{get_map, index_get}
 
 pub same_sorts_shown : (s u : ScopeState) → s.enumerations ≡ u.enumerations → (sort : Sort) → shown_sort s sort ≡ shown_sort u sort
 same_sorts_shown s u e Truth = refl

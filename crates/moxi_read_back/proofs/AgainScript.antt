@@ -2,9 +2,10 @@
 use Rattle.std.proofs.Common.{◌≡◌, ℕ, ◌<◌, true, false, List, [], ◌∷◌, ◌++◌, map, length, refl, sym, ap, ◌∙◌}
 use Rattle.text_core.specs.declared.place.Place.{Place}
 use Rattle.moxi_sexpr.specs.Tree.{Trees}
-use Rattle.moxi_terms.specs.Names.{are_fresh, is_term_name, place_of}
+use Rattle.moxi_terms.specs.Names.{is_term_name}
+use Rattle.name_set.specs.Names.{are_fresh, place_of}
 use Rattle.moxi_print.specs.Shown.{no_showns, shown, ShowEach}
-use Rattle.moxi_print.proofs.StandingShapes as shape
+use Rattle.moxi_print.specs.laws.StandingShapes as shape
 use Rattle.moxi_scripts.specs.declared.parts.Command.TheVariants.{Check}
 use Rattle.moxi_scripts.specs.declared.parts.Declared.{Declared}
 use Rattle.moxi_scripts.specs.declared.script.Subsystem.{Subsystem}
@@ -30,7 +31,7 @@ use Rattle.moxi_read_back.proofs.AgainLinks.{links_pass, system_place}
 use Rattle.moxi_read_back.proofs.AgainParts.{SortsRead, SortsStand, TermsRead, both_nil}
 use Rattle.moxi_read_back.proofs.AgainSystems.{AgreeSystem, all_agree}
 use Rattle.moxi_read_back.proofs.AgainUses.{AgreeUses}
-use Rattle.moxi_systems.proofs.WholeParts.{all_append}
+use Rattle.moxi_systems.specs.laws.WholeParts.{all_append}
 
 -- THE SAME SCRIPT
 

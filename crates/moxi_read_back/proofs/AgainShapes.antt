@@ -5,7 +5,7 @@ use Rattle.moxi_sexpr.specs.declared.form.Atom.TheVariants.{Symbol, Keyword}
 use Rattle.moxi_sexpr.specs.Tree.{Tree, atom, list, Trees, no_trees, tree}
 use Rattle.moxi_print.specs.Shown.{Shown, group, Showns, no_showns, shown, joined, Shows, ShowEach}
 use Rattle.moxi_print.specs.Terms.{symbol}
-use Rattle.moxi_print.proofs.StandingShapes as shape
+use Rattle.moxi_print.specs.laws.StandingShapes as shape
 use Rattle.moxi_scripts.specs.Attributes.{is_list_form}
 use Rattle.moxi_shown_scripts.specs.Printing.{attribute}
 use Rattle.moxi_scripts.specs.Shapes.{NamedForm, named, parts_of}

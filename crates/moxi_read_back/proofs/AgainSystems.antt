@@ -8,14 +8,14 @@ use Rattle.moxi_sexpr.specs.Tree as form
 use Rattle.moxi_terms.specs.declared.data.Primes.TheVariants.{Allowed, Refused}
 use Rattle.moxi_terms.specs.declared.term.Variable.{Variable}
 use Rattle.moxi_term_reading.specs.Answer as answer
-use Rattle.moxi_terms.specs.Names.{place_of}
+use Rattle.name_set.specs.Names.{place_of}
 use Rattle.moxi_terms.specs.Sorted.{AreSorts}
 use Rattle.moxi_terms.specs.Sorts.{IsSort}
 use Rattle.moxi_terms.specs.Tree.{sorts_of}
 use Rattle.moxi_terms.specs.View.{ScopeState}
 use Rattle.moxi_print.specs.Shown.{word, group, Showns, shown, joined, Shows, ShowEach}
 use Rattle.moxi_print.specs.Terms.{symbol, shown_variables, variable_names}
-use Rattle.moxi_print.proofs.StandingShapes as shape
+use Rattle.moxi_print.specs.laws.StandingShapes as shape
 use Rattle.moxi_scripts.specs.declared.parts.Command.{Command}
 use Rattle.moxi_scripts.specs.declared.parts.Command.TheVariants.{System}
 use Rattle.moxi_scripts.specs.declared.parts.Turn.TheVariants.{AtKeyword}
@@ -35,7 +35,7 @@ use Rattle.moxi_read_back.proofs.AgainFormulas.{term_again, term_passes}
 use Rattle.moxi_read_back.proofs.AgainParts.{ReadsBack, both_nil}
 use Rattle.moxi_read_back.proofs.AgainShapes.{is_listed}
 use Rattle.moxi_read_back.proofs.AgainUses.{AgreeUses, uses_read}
-use Rattle.moxi_systems.proofs.WholeParts.{all_parts, map_append}
+use Rattle.moxi_systems.specs.laws.WholeParts.{all_parts, map_append}
 
 -- THE LISTS
 

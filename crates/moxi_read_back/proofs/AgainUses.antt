@@ -13,14 +13,14 @@ use Rattle.moxi_sorts.specs.declared.locals.Local.{Local}
 use Rattle.moxi_terms.specs.declared.term.Variable.{Variable}
 use Rattle.moxi_term_reading.specs.Answer.{locals_of}
 use Rattle.moxi_sorts.specs.Forms.{place_in}
-use Rattle.moxi_terms.specs.Names.{are_fresh, place_of}
+use Rattle.name_set.specs.Names.{are_fresh, place_of}
 use Rattle.moxi_sorts.specs.Finding.{Found, first_of}
 use Rattle.moxi_terms.specs.Tree.{sorts_of}
 use Rattle.moxi_print.specs.Declarations.{shown_symbols}
 use Rattle.moxi_print.specs.Shown.{group, Shows, ShowEach}
 use Rattle.moxi_print.specs.Terms.{name_at, symbol, variable_names}
-use Rattle.moxi_print.proofs.StandingPlaces.{same_bytes}
-use Rattle.moxi_print.proofs.StandingShapes as shape
+use Rattle.moxi_print.specs.laws.StandingPlaces.{same_bytes}
+use Rattle.moxi_print.specs.laws.StandingShapes as shape
 use Rattle.moxi_scripts.specs.declared.parts.Command.TheVariants.{System}
 use Rattle.moxi_scripts.specs.declared.parts.Key.TheVariants.{Subsystem}
 use Rattle.moxi_scripts.specs.declared.parts.Turn.TheVariants.{AtKeyword}
@@ -39,8 +39,8 @@ use Rattle.moxi_systems.specs.Whole.{IsWholeSubsystem, subsystem_names}
 use Rattle.moxi_read_back.proofs.AgainAttributes.{IsTail, attribute_forms, tail_end, tail_more}
 use Rattle.moxi_read_back.proofs.AgainParts.{first_or, rest_of}
 use Rattle.moxi_read_back.proofs.AgainShapes.{is_attribute, is_listed, is_named, named_form}
-use Rattle.moxi_systems.proofs.WholeNames.{Absent, absent_parts, fresh_first, is_absent, or_parts}
-use Rattle.moxi_systems.proofs.WholeParts.{get_below}
+use Rattle.moxi_systems.specs.laws.WholeNames.{Absent, absent_parts, fresh_first, is_absent, or_parts}
+use Rattle.moxi_systems.specs.laws.WholeParts.{get_below}
 
 -- VARIABLES BY THEIR NUMBERS
 

@@ -14,9 +14,10 @@ use moxi_attributes::fail_if;
 use moxi_declarations::{Draft, ReadSystem, read_commands};
 use moxi_scripts::Use;
 use moxi_sexpr::Form;
-use moxi_terms::Numbering;
+use name_set::NameSet;
 use std::alloc::Global;
-use text_core::{Items, NoMemory, Place, Refusal};
+use text_core::kinds::moxi;
+use text_core::{List, NoMemory, Place, Refusal};
 
 // How many subsystems there are.
 fn count_uses(systems: &[ReadSystem]) -> Result<usize, NoMemory>
@@ -38,11 +39,11 @@ fn ends_at(
     uses: usize,
     systems: usize,
     place: Option<usize>,
-) -> Result<Items<usize>, NoMemory>
+) -> Result<List<usize>, NoMemory>
     requires { uses + systems < 2 ^ 64 }
     ensures { IfOk result (λ ends. ends ≡ ends_at uses systems place) }
 {
-    let mut ends = Items::new(alloc);
+    let mut ends = List::new(alloc);
     match place {
         None => Ok(ends),
         Some(j) => {
@@ -58,10 +59,10 @@ fn ends_at(
 // To which nodes the subsystems of a system lead.
 fn add_use_rows(
     alloc: Global,
-    names: &Numbering,
+    names: &NameSet,
     total: usize,
     count: usize,
-    uses: &Items<Use>,
+    uses: &List<Use>,
     graph: &mut Graph,
 ) -> Result<(), NoMemory>
     requires { total + count < 2 ^ 64 }
@@ -77,7 +78,7 @@ fn add_use_rows(
 
 fn add_all_use_rows(
     alloc: Global,
-    names: &Numbering,
+    names: &NameSet,
     total: usize,
     systems: &[ReadSystem],
     graph: &mut Graph,
@@ -93,11 +94,11 @@ fn add_all_use_rows(
 
 // So many nodes from this one on.
 #[tactic(auto, using(moxi_scripts::proofs::CycleLaws::nodes_step, moxi_scripts::proofs::CycleLaws::nodes_end))]
-fn nodes_from(alloc: Global, start: usize, count: usize) -> Result<Items<usize>, NoMemory>
+fn nodes_from(alloc: Global, start: usize, count: usize) -> Result<List<usize>, NoMemory>
     requires { start + count < 2 ^ 64 }
     ensures { IfOk result (λ nodes. nodes ≡ nodes_from start count) }
 {
-    let mut nodes = Items::new(alloc);
+    let mut nodes = List::new(alloc);
     for i in 0..count {
         nodes.push(start + i)?;
     }
@@ -120,7 +121,7 @@ fn add_system_rows(alloc: Global, systems: &[ReadSystem], graph: &mut Graph) -> 
 }
 
 // Subsystems and systems as a graph.
-fn use_graph(alloc: Global, names: &Numbering, systems: &[ReadSystem]) -> Result<Graph, NoMemory>
+fn use_graph(alloc: Global, names: &NameSet, systems: &[ReadSystem]) -> Result<Graph, NoMemory>
     ensures graph { IfOk result (λ g. g ≡ use_graph (map plain_reading systems.now) names.now) }
     ensures few { OnOk result (count_uses (map plain_reading systems.now) + length systems.now < 2 ^ 64) }
 {
@@ -148,7 +149,7 @@ fn test_use(
     ensures { OnOk result (found.new ≡ also found.old (use_tests graph.now node u.now)) }
 {
     let leads = leads_back(alloc, graph, node)?;
-    fail_if(found, leads, 11, u.place);
+    fail_if(found, leads, moxi::SYSTEM_CYCLE, u.place);
     Ok(())
 }
 
@@ -157,7 +158,7 @@ fn test_uses(
     alloc: Global,
     graph: &Graph,
     node: usize,
-    uses: &Items<Use>,
+    uses: &List<Use>,
     found: &mut Option<Refusal>,
 ) -> Result<(), NoMemory>
     requires graph { is_graph graph.now ≡ true }
@@ -194,7 +195,7 @@ fn test_all_uses(
 /// The tests of subsystems that contain the system in which they stand.
 pub fn test_cycles(
     alloc: Global,
-    names: &Numbering,
+    names: &NameSet,
     systems: &[ReadSystem],
     found: &mut Option<Refusal>,
 ) -> Result<(), NoMemory>

@@ -10,22 +10,29 @@ ghost use Rattle.moxi_reading.specs.Views.{lists_now};
 use moxi_attributes::{fail, fail_if, test_clash};
 use moxi_declarations::{Draft, ReadCheck, ReadSystem};
 use moxi_scripts::{Actual, DeclaredList, Entries, ListPlaces, Lists, Use};
-use moxi_terms::{Numbering, Scope, Sort};
-use text_core::{Items, Place, Refusal};
+use moxi_terms::{Scope, Sort};
+use name_set::NameSet;
+use text_core::kinds::moxi;
+use text_core::{List, Place, Refusal};
 
-fn is_taken(scope: &Scope, names: &Numbering, name: &[u8]) -> bool
+fn is_taken(scope: &Scope, names: &NameSet, name: &[u8]) -> bool
     ensures { result ≡ is_taken scope.now names.now name.now }
 {
     scope.is_term_name(name) || names.place(name).is_some()
 }
 
 // The tests of variables that have the name of a constant or a function.
-fn test_taken(scope: &Scope, names: &Numbering, variables: &Entries, found: &mut Option<Refusal>)
+fn test_taken(scope: &Scope, names: &NameSet, variables: &Entries, found: &mut Option<Refusal>)
     ensures { found.new ≡ also found.old (taken_failures scope.now names.now variables.now) }
 {
     for i in 0..variables.len() {
         let d = variables.at(i);
-        fail_if(found, is_taken(scope, names, d.name.bytes()), 9, d.place);
+        fail_if(
+            found,
+            is_taken(scope, names, d.name.bytes()),
+            moxi::NAME_TWICE,
+            d.place,
+        );
     }
 }
 
@@ -57,7 +64,7 @@ fn sort_at(l: &Lists, i: usize) -> Option<Sort>
 }
 
 // The tests of the sorts of actuals.
-fn test_actuals(lists: &Lists, actuals: &Items<Actual>, found: &mut Option<Refusal>)
+fn test_actuals(lists: &Lists, actuals: &List<Actual>, found: &mut Option<Refusal>)
     ensures { found.new ≡ also found.old (actuals_clash lists.now 0 actuals.now) }
 {
     for i in 0..actuals.len() {
@@ -74,7 +81,7 @@ fn count_fits(l: &Lists, count: usize) -> bool
 }
 
 // The tests of what is handed to a subsystem.
-#[tactic(auto, using(moxi_attributes::proofs::Collecting::also_none))]
+#[tactic(auto, using(moxi_attributes::specs::laws::Collecting::also_none))]
 fn test_fit(u: &Use, lists: Option<&Lists>, found: &mut Option<Refusal>)
     ensures { found.new ≡ also found.old (actuals_failures u.now (lists_now lists.entry)) }
 {
@@ -86,7 +93,7 @@ fn test_fit(u: &Use, lists: Option<&Lists>, found: &mut Option<Refusal>)
                     test_actuals(l, &u.actuals, found);
                     return;
                 }
-                fail(found, 12, u.list);
+                fail(found, moxi::ARITY, u.list);
                 return;
             }
         }
@@ -94,22 +101,17 @@ fn test_fit(u: &Use, lists: Option<&Lists>, found: &mut Option<Refusal>)
 }
 
 // The tests of a subsystem.
-fn test_use(systems: &[ReadSystem], names: &Numbering, u: &Use, found: &mut Option<Refusal>)
+fn test_use(systems: &[ReadSystem], names: &NameSet, u: &Use, found: &mut Option<Refusal>)
     ensures { found.new ≡ also found.old (use_failures (map plain_reading systems.now) names.now u.now) }
 {
     match names.place(u.target.bytes()) {
-        None => fail(found, 10, u.place),
+        None => fail(found, moxi::NO_SUCH_SYSTEM, u.place),
         Some(j) => test_fit(u, lists_at(systems, j), found),
     }
 }
 
 // The tests of the subsystems of a system.
-fn test_uses(
-    systems: &[ReadSystem],
-    names: &Numbering,
-    uses: &Items<Use>,
-    found: &mut Option<Refusal>,
-)
+fn test_uses(systems: &[ReadSystem], names: &NameSet, uses: &List<Use>, found: &mut Option<Refusal>)
     ensures { found.new ≡ also found.old (uses_failures (map plain_reading systems.now) names.now uses.now) }
 {
     for i in 0..uses.len() {
@@ -118,7 +120,7 @@ fn test_uses(
 }
 
 // The tests of the subsystems of all systems.
-fn test_systems(systems: &[ReadSystem], names: &Numbering, found: &mut Option<Refusal>)
+fn test_systems(systems: &[ReadSystem], names: &NameSet, found: &mut Option<Refusal>)
     ensures { found.new ≡ also found.old (systems_failures (map plain_reading systems.now) names.now (map plain_reading systems.now)) }
 {
     for r in systems {
@@ -159,11 +161,11 @@ fn test_list(a: &DeclaredList, b: &DeclaredList, p: Place, found: &mut Option<Re
     ensures { found.new ≡ also found.old (list_failures a.now b.now p) }
 {
     let clash = a.whole && b.whole && !entries_fit(&a.entries, &b.entries);
-    fail_if(found, clash, 13, p);
+    fail_if(found, clash, moxi::CHECK_COUNT, p);
 }
 
 // The tests of the lists of a check.
-#[tactic(auto, using(moxi_attributes::proofs::Collecting::also_append, moxi_attributes::proofs::Collecting::also_none))]
+#[tactic(auto, using(moxi_attributes::specs::laws::Collecting::also_append, moxi_attributes::specs::laws::Collecting::also_none))]
 fn test_lists(lists: Option<&Lists>, c: &Lists, p: ListPlaces, found: &mut Option<Refusal>)
     ensures { found.new ≡ also found.old (lists_failures (lists_now lists.entry) c.now p) }
 {
@@ -178,19 +180,19 @@ fn test_lists(lists: Option<&Lists>, c: &Lists, p: ListPlaces, found: &mut Optio
 }
 
 // The tests of a check.
-fn test_check(systems: &[ReadSystem], names: &Numbering, c: &ReadCheck, found: &mut Option<Refusal>)
+fn test_check(systems: &[ReadSystem], names: &NameSet, c: &ReadCheck, found: &mut Option<Refusal>)
     ensures { found.new ≡ also found.old (check_failures (map plain_reading systems.now) names.now (Some (plain_check_reading c.now))) }
 {
     match names.place(c.target.bytes()) {
-        None => fail(found, 10, c.target_place),
+        None => fail(found, moxi::NO_SUCH_SYSTEM, c.target_place),
         Some(j) => test_lists(lists_at(systems, j), &c.lists, c.places, found),
     }
 }
 
-#[tactic(auto, using(moxi_attributes::proofs::Collecting::also_none))]
+#[tactic(auto, using(moxi_attributes::specs::laws::Collecting::also_none))]
 fn test_check_of(
     systems: &[ReadSystem],
-    names: &Numbering,
+    names: &NameSet,
     check: &Option<ReadCheck>,
     found: &mut Option<Refusal>,
 )
@@ -204,12 +206,12 @@ fn test_check_of(
 
 /// The tests of what is read that rest on the whole script, whose text ends at `end`: all but those of subsystems that stand
 /// on a cycle.
-#[tactic(auto, using(moxi_attributes::proofs::Collecting::also_append))]
+#[tactic(auto, using(moxi_attributes::specs::laws::Collecting::also_append))]
 pub fn test_links(draft: &Draft, end: Place, found: &mut Option<Refusal>)
     ensures { found.new ≡ also found.old (links_failures (plain_draft draft.now) end) }
 {
     test_taken(&draft.scope, &draft.term_names, &draft.variables, found);
     test_systems(&draft.systems, &draft.system_names, found);
     test_check_of(&draft.systems, &draft.system_names, &draft.check, found);
-    fail_if(found, !draft.checked, 13, end);
+    fail_if(found, !draft.checked, moxi::CHECK_COUNT, end);
 }

@@ -1,21 +1,6 @@
 // Why forms spell no script.
 
-use text_core::{NoMemory, Refusal};
+use text_core::End;
 
 /// Why forms spell no script: a test fails, or memory runs out.
-#[derive(Debug, Drop)]
-pub enum ScriptEnd {
-    Bad(Refusal),
-    NoMemory,
-}
-
-impl From<NoMemory> for ScriptEnd {
-    ghost use Rattle.std.specs.Prelude.{◌≡◌};
-    ghost use Rattle.moxi_reading.specs.declared.outcome.ScriptEnd.TheVariants as ends;
-
-    ghost from_gives = { λ _ e. e ≡ ends.NoMemory };
-
-    fn from(_: NoMemory) -> ScriptEnd {
-        ScriptEnd::NoMemory
-    }
-}
+pub type ScriptEnd = End;

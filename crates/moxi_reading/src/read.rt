@@ -4,7 +4,7 @@ ghost use Rattle.text_core.specs.declared.place.Refusal.{Refusal};
 ghost use Rattle.moxi_sexpr.specs.Printing.{ArePrintable};
 ghost use Rattle.moxi_sexpr.specs.Tree.{plain_forms};
 ghost use Rattle.moxi_sorts.specs.Failures.{least};
-ghost use Rattle.moxi_terms.specs.Names.{place_of};
+ghost use Rattle.name_set.specs.Names.{place_of};
 ghost use Rattle.moxi_terms.specs.View.{plain};
 ghost use Rattle.moxi_scripts.specs.Entries.{variables_of};
 ghost use Rattle.moxi_reading.specs.Answer.{IsFirstFailure, IsFirstOf, IsRefusal, IsScript};
@@ -22,13 +22,14 @@ use moxi_scripts::{
     Actual, Check, Formulas, Lists, Script, Subsystem, Subsystems, System, Systems, Use,
 };
 use moxi_sexpr::Forms;
-use moxi_terms::{Numbering, Scope, Variables};
+use moxi_terms::{Scope, Variables};
+use name_set::NameSet;
 use std::alloc::Global;
 use std::mem::{self, drop};
-use text_core::{Items, Name, NoMemory, Numbers, Place};
+use text_core::{List, Name, NoMemory, Numbers, Place};
 
 // The number of the system of this name.
-fn number_of(names: &Numbering, name: &[u8]) -> Result<u32, NoMemory>
+fn number_of(names: &NameSet, name: &[u8]) -> Result<u32, NoMemory>
     ensures { IfOk result (λ n. n ≡ number_or_none (place_of names.now name.now)) }
 {
     match names.place(name) {
@@ -41,7 +42,7 @@ fn number_of(names: &Numbering, name: &[u8]) -> Result<u32, NoMemory>
 }
 
 // The numbers of actuals.
-fn actual_numbers(alloc: Global, actuals: &Items<Actual>) -> Result<Numbers, NoMemory>
+fn actual_numbers(alloc: Global, actuals: &List<Actual>) -> Result<Numbers, NoMemory>
     ensures { IfOk result (λ ns. ns ≡ actual_numbers actuals.now) }
 {
     let mut numbers = Numbers::new(alloc);
@@ -53,7 +54,7 @@ fn actual_numbers(alloc: Global, actuals: &Items<Actual>) -> Result<Numbers, NoM
 }
 
 // A subsystem, whose system has one of these names.
-fn subsystem_of(alloc: Global, names: &Numbering, u: &Use) -> Result<Subsystem, NoMemory>
+fn subsystem_of(alloc: Global, names: &NameSet, u: &Use) -> Result<Subsystem, NoMemory>
     ensures { IfOk result (λ s. s ≡ subsystem_of names.now u.now) }
 {
     Ok(Subsystem {
@@ -63,11 +64,7 @@ fn subsystem_of(alloc: Global, names: &Numbering, u: &Use) -> Result<Subsystem, 
     })
 }
 
-fn subsystems_of(
-    alloc: Global,
-    names: &Numbering,
-    uses: &Items<Use>,
-) -> Result<Subsystems, NoMemory>
+fn subsystems_of(alloc: Global, names: &NameSet, uses: &List<Use>) -> Result<Subsystems, NoMemory>
     ensures { IfOk result (λ ss. ss ≡ map (subsystem_of names.now) uses.now) }
 {
     let mut subsystems = Subsystems::new(alloc);
@@ -119,7 +116,7 @@ fn system_with(r: ReadSystem, v: ListVariables, subsystems: Subsystems) -> Syste
 }
 
 // A system, whose subsystems' systems have these names.
-fn system_of(alloc: Global, names: &Numbering, r: ReadSystem) -> Result<System, NoMemory>
+fn system_of(alloc: Global, names: &NameSet, r: ReadSystem) -> Result<System, NoMemory>
     ensures { IfOk result (λ s. plain_system s ≡ system_of names.now (plain_reading r)) }
 {
     match system_parts(alloc, names, &r) {
@@ -134,7 +131,7 @@ fn system_of(alloc: Global, names: &Numbering, r: ReadSystem) -> Result<System, 
 // The variables and the subsystems of a system, where these have systems of these names.
 fn system_parts(
     alloc: Global,
-    names: &Numbering,
+    names: &NameSet,
     r: &ReadSystem,
 ) -> Result<(ListVariables, Subsystems), NoMemory>
     ensures inputs { IfOk result (λ x. x.0.inputs ≡ variables_of r.now.lists.inputs.entries) }
@@ -155,7 +152,7 @@ fn system_parts(
 // All systems. Their terms are moved out.
 fn systems_of(
     alloc: Global,
-    names: &Numbering,
+    names: &NameSet,
     systems: &mut Vec<ReadSystem>,
 ) -> Result<Systems, NoMemory>
     ensures { IfOk result (λ ss. map plain_system ss ≡ map (system_of names.now) (map plain_reading systems.old.items)) }
@@ -180,7 +177,7 @@ fn formulas_of(l: Labelled) -> Formulas
 // The number of the system of a check, which has one of these names, and its variables.
 fn check_parts(
     alloc: Global,
-    names: &Numbering,
+    names: &NameSet,
     c: &ReadCheck,
 ) -> Result<(u32, ListVariables), NoMemory>
     ensures system { IfOk result (λ x. x.0 ≡ number_or_none (place_of names.now c.now.target)) }
@@ -222,7 +219,7 @@ fn check_with(c: ReadCheck, system: u32, v: ListVariables) -> Check
 }
 
 // A check, whose system has one of these names.
-fn check_of(alloc: Global, names: &Numbering, c: ReadCheck) -> Result<Check, NoMemory>
+fn check_of(alloc: Global, names: &NameSet, c: ReadCheck) -> Result<Check, NoMemory>
     ensures { IfOk result (λ x. plain_check x ≡ check_of names.now (plain_check_reading c)) }
 {
     match check_parts(alloc, names, &c) {

@@ -7,7 +7,8 @@ use Rattle.moxi_sexpr.specs.Tree.{Tree, atom, list, Trees, no_trees, tree}
 use Rattle.moxi_terms.specs.declared.data.Sort.{Sort}
 use Rattle.moxi_terms.specs.declared.data.Primes.TheVariants.{Refused}
 use Rattle.moxi_sorts.specs.Forms.{place_in, symbol_of, pair_of}
-use Rattle.moxi_terms.specs.Names.{is_sort_name, is_term_name, may_be_enumeration, with_enumeration, with_function, with_sort, place_of}
+use Rattle.moxi_terms.specs.Names.{is_sort_name, is_term_name, may_be_enumeration, with_enumeration, with_function, with_sort}
+use Rattle.name_set.specs.Names.{place_of}
 use Rattle.moxi_term_reading.specs.Reading.{Reading, prime_failures, read}
 use Rattle.moxi_sorts.specs.SortReading.{sort_reading}
 use Rattle.moxi_terms.specs.Sorts.{same_sort}

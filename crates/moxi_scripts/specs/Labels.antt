@@ -5,7 +5,7 @@ use Rattle.moxi_sexpr.specs.Tree as form
 use Rattle.moxi_terms.specs.declared.data.Primes.TheVariants.{Refused}
 use Rattle.moxi_sorts.specs.declared.locals.Local.{Local}
 use Rattle.moxi_sorts.specs.Forms.{place_in}
-use Rattle.moxi_terms.specs.Names.{place_of}
+use Rattle.name_set.specs.Names.{place_of}
 use Rattle.moxi_term_reading.specs.Reading.{prime_failures}
 use Rattle.moxi_terms.specs.View.{ScopeState}
 use Rattle.moxi_scripts.specs.declared.parts.Command.TheVariants.{Check}

@@ -1,7 +1,7 @@
 // What is read of commands: attributes, lists of variables, uses of systems, queries.
 
 use moxi_terms::Sort;
-use text_core::{Items, Name, Numbers, Place};
+use text_core::{List, Name, Numbers, Place};
 
 /// What an attribute is for.
 #[derive(Clone, Copy)]
@@ -56,7 +56,7 @@ pub struct Declared {
 }
 
 /// Variables that lists declare.
-pub type Entries = Items<Declared>;
+pub type Entries = List<Declared>;
 
 /// What a list declares, and whether each of its entries holds.
 #[derive(Drop)]
@@ -96,7 +96,7 @@ pub struct Use {
     pub target: Name,
     pub place: Place,
     pub list: Place,
-    pub actuals: Items<Actual>,
+    pub actuals: List<Actual>,
 }
 
 /// What the names of a query stand for, whether each is known, and whether one is primed.

@@ -2,7 +2,7 @@
 ghost use Rattle.moxi_scripts.specs.Invariant.{IsSpelled, script_of};
 
 use moxi_terms::{Scope, Term, Variables};
-use text_core::{Items, Name, Numbers, Place};
+use text_core::{List, Name, Numbers, Place};
 
 /// A subsystem: its name, the number of its system, and for the inputs and then the outputs of that system the numbers of
 /// variables of the system in which it stands.
@@ -14,7 +14,7 @@ pub struct Subsystem {
 }
 
 /// Subsystems, in the order in which they stand.
-pub type Subsystems = Items<Subsystem>;
+pub type Subsystems = List<Subsystem>;
 
 /// A system. Its variables are numbered from 0: inputs, outputs, locals.
 #[derive(Drop)]
@@ -30,7 +30,7 @@ pub struct System {
 }
 
 /// Systems, in the order in which they are defined.
-pub type Systems = Items<System>;
+pub type Systems = List<System>;
 
 /// An assumption, a current condition or a reachable formula.
 #[derive(Drop)]
@@ -40,7 +40,7 @@ pub struct Formula {
 }
 
 /// Formulas of one kind, in the order in which they stand.
-pub type Formulas = Items<Formula>;
+pub type Formulas = List<Formula>;
 
 /// A query: the numbers of its assumptions and of its current conditions, and that of its one reachable formula.
 #[derive(Drop)]
@@ -52,7 +52,7 @@ pub struct Query {
 }
 
 /// Queries, in the order in which they stand.
-pub type Queries = Items<Query>;
+pub type Queries = List<Query>;
 
 /// What is checked of a system, with names of its own for the system's variables.
 #[derive(Drop)]

@@ -8,7 +8,8 @@ use Rattle.moxi_sexpr.specs.declared.form.Atom.TheVariants as kinds
 use Rattle.moxi_sexpr.specs.declared.scan.Spelling.{Spelling}
 use Rattle.moxi_sexpr.specs.declared.scan.Spelling.TheVariants as how
 use Rattle.moxi_sexpr.specs.declared.read.TokenKind.TheVariants.{Open, Close, Atom}
-use Rattle.moxi_sexpr.specs.Bytes.{Stops, is_blank, first}
+use Rattle.moxi_sexpr.specs.Bytes.{Stops, is_blank}
+use Rattle.text_core.specs.Places.{start}
 use Rattle.moxi_sexpr.specs.Atoms.{is_simple, may_stand, spelled, goes_on, atom_of}
 use Rattle.moxi_sexpr.specs.Tree.{Tree, atom, list, Trees, no_trees, tree, depth, depths, unplaced, all_unplaced}
 use Rattle.moxi_sexpr.specs.Lexing.{Token, token, Mark, go, limit, past, Steps, blank, ends, opening, closing, atoms, Lexes, last, more, begin}
@@ -105,7 +106,7 @@ bracket_again p ts body m rest h a =
     let inner : Mark = past m (40 ∷ []) (suc m.depth) in
     record {
       form = list m.place a.trees;
-      same = ap (list first) a.same;
+      same = ap (list start) a.same;
       tokens = token m.place Open ∷ (a.tokens ++ close ∷ []);
       spells = bracketed m.place a.next.place a.spells;
       next = past a.next (41 ∷ []) m.depth;

@@ -4,7 +4,7 @@ use Rattle.text_core.specs.declared.place.Place.{Place}
 use Rattle.text_core.specs.declared.place.Kind.{Kind}
 use Rattle.text_core.specs.declared.place.Kind.TheVariants.{S, M, B, X, Y}
 use Rattle.text_core.specs.declared.place.Refusal.{Refusal}
-use Rattle.moxi_sexpr.specs.Bytes.{after, next_place, first}
+use Rattle.text_core.specs.Places.{after, next_place, start}
 use Rattle.moxi_sexpr.specs.Atoms.{spelled}
 use Rattle.moxi_sexpr.specs.Lexing.{Token, Mark, Next, finished, go, bad, refusal, past, Steps, blank, comment, ends, unclosed, opening, too_deep, closing, unopened, atoms, stray, Refuses, here, later}
 use Rattle.moxi_sexpr.specs.Grammar.{RefusesWith}
@@ -77,5 +77,5 @@ refused_at : {m : Mark} {text : List ℕ} {why : Refusal} → Refuses m text why
 refused_at (here why s) p e = unclosed_at s p (ap bad e)
 refused_at (later t next rest s h) p e = refused_at h p e ∙ step_place s t next rest refl
 
-pub unclosed_place : (text : List ℕ) (place : Place) → RefusesWith text (refusal 2 place) → place ≡ after first text
+pub unclosed_place : (text : List ℕ) (place : Place) → RefusesWith text (refusal 2 place) → place ≡ after start text
 unclosed_place text place h = refused_at h place refl

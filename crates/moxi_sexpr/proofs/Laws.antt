@@ -7,7 +7,8 @@ use Rattle.text_core.specs.declared.place.Refusal.{Refusal}
 use Rattle.moxi_sexpr.specs.declared.scan.Spelling.{Spelling}
 use Rattle.moxi_sexpr.specs.declared.read.TokenKind.{TokenKind}
 use Rattle.moxi_sexpr.specs.declared.read.TokenKind.TheVariants.{Open, Close, Atom}
-use Rattle.moxi_sexpr.specs.Bytes.{is_blank, ends_line, Stops, after, next_place, Reaches}
+use Rattle.moxi_sexpr.specs.Bytes.{is_blank, ends_line, Stops}
+use Rattle.text_core.specs.Places.{after, next_place, Reaches}
 use Rattle.moxi_sexpr.specs.Atoms.{spelled, atom_of}
 use Rattle.moxi_sexpr.specs.Lexing.{Token, token, Mark, Next, go, limit, past, IsSpelled, Steps, blank, comment, ends, unclosed, opening, too_deep, closing, unopened, atoms, stray, Lexes, last, more, Refuses, here, later}
 use Rattle.moxi_sexpr.specs.Reading.{on_some, gap_length, Scan, scan_of, value_of, token_from, token_of, nested, front, turned, behind, stands, next_of}

@@ -3,6 +3,8 @@ use Rattle.std.proofs.Common.{◌≡◌, ◌<◌, ◌≤◌, ℕ, true, false, e
 use Rattle.std.specs.Prelude.{IfOk, IfErr, IsTrue}
 use Rattle.std.proofs.lemmas.List.{length-reverse, length-map, length-append, length-drop}
 use Rattle.std.proofs.lemmas.Bool.{cond_both, cond-true, cond-false, ne_eqb}
+use Rattle.text_core.specs.declared.end.End.{End}
+use Rattle.text_core.specs.declared.end.End.TheVariants.{Bad, NoMemory}
 use Rattle.text_core.specs.declared.place.Place.{Place}
 use Rattle.text_core.specs.declared.place.Refusal.{Refusal}
 use Rattle.moxi_sexpr.specs.declared.form.Form.{Form}
@@ -10,8 +12,6 @@ use Rattle.moxi_sexpr.specs.declared.scan.Spelling.{Spelling}
 use Rattle.moxi_sexpr.specs.declared.scan.Spelling.TheVariants as how
 use Rattle.moxi_sexpr.specs.declared.read.TokenKind.{TokenKind}
 use Rattle.moxi_sexpr.specs.declared.read.Opened.{Opened}
-use Rattle.moxi_sexpr.specs.declared.read.FormEnd.{FormEnd}
-use Rattle.moxi_sexpr.specs.declared.read.FormEnd.TheVariants.{Bad, NoMemory}
 use Rattle.moxi_sexpr.specs.Atoms.{may_stand, spelled}
 use Rattle.moxi_sexpr.specs.Tree.{Tree, Trees, trees_of, plain}
 use Rattle.moxi_sexpr.specs.Lexing.{Token, token, Mark, finished, go, bad, refusal, past, Steps, Lexes, last, more, Refuses, here, later, begin}
@@ -19,7 +19,7 @@ use Rattle.moxi_sexpr.specs.Grammar.{SpellsAll, SpellsForms, RefusesWith}
 use Rattle.moxi_sexpr.specs.Reading.{gap_length, Scan, scan_of, value_of, token_from, token_of, nested, front, turned, behind, stands}
 use Rattle.moxi_sexpr.specs.Machine.{Frame, stop, onward, shift, step, run, plain_open, open_lists}
 use Rattle.moxi_sexpr.specs.Answer.{IsBehind, Gives, Moves, Reads, IsAnswered, IsRefused}
-use Rattle.moxi_sexpr.specs.Bytes.{first, after}
+use Rattle.text_core.specs.Places.{start, after}
 use Rattle.moxi_sexpr.proofs.Runs.{front_is}
 use Rattle.moxi_sexpr.proofs.Scanning.{Found, scan_found}
 use Rattle.moxi_sexpr.proofs.Laws.{stands_token, next_from, one_list, no_list, one_refusal}
@@ -110,7 +110,7 @@ token_shorter text rest i e = let b = token_behind text (i, rest) e in let some 
 pub gap_shorter : (text rest : List ℕ) → rest ≡ drop (gap_length false text) text → length rest ≤ length text
 gap_shorter text rest e = let n : length rest ≡ length (drop (gap_length false text) text) = ap length e in omega (arith, n, length-drop (gap_length false text) text)
 
-pub leads_new : (text : List ℕ) (os : List Opened) (fs : List Form) → os ≡ [] → fs ≡ [] → Leads text (record { place = first; depth = length (open_lists os) }) text (open_lists os) (map plain fs)
+pub leads_new : (text : List ℕ) (os : List Opened) (fs : List Form) → os ≡ [] → fs ≡ [] → Leads text (record { place = start; depth = length (open_lists os) }) text (open_lists os) (map plain fs)
 leads_new text [] [] e f = leads_start text
 leads_new text [] (x ∷ fs) e f = absurd (cc)
 leads_new text (o ∷ os) fs e f = absurd (cc)
@@ -136,12 +136,12 @@ module _ (text : List ℕ) (m : Mark) (rest : List ℕ) (k : List Frame) (done :
   end_open none some why is =
       leads_bad text m rest k done why l (next_from m rest at ahead (bad why) e f (stands_unclosed there ahead none (let h = d in omega arith) ∙ ap bad (sym is)))
 
-  pub token_refused : (x : FormEnd) → 0 < length ahead → Gives at (Err x) (token_of ahead) → IsRefused text x
+  pub token_refused : (x : End) → 0 < length ahead → Gives at (Err x) (token_of ahead) → IsRefused text x
   token_refused (Bad why) some g =
       leads_bad text m rest k done why l (next_from m rest at ahead (bad why) e f (stands_none there ahead some g.0 ∙ ap bad (sym g.1)))
   token_refused NoMemory some g = tt
 
-  pub take_refused : (i : TokenKind) (behind : List ℕ) (x : FormEnd) (j : List Frame) (more_done : List Tree) → token_of ahead ≡ Some (i, behind) → Moves (step i at k done) (Err x) j more_done → IsRefused text x
+  pub take_refused : (i : TokenKind) (behind : List ℕ) (x : End) (j : List Frame) (more_done : List Tree) → token_of ahead ≡ Some (i, behind) → Moves (step i at k done) (Err x) j more_done → IsRefused text x
   take_refused i behind (Bad why) j more_done t g =
       leads_bad text m rest k done why l (next_from m rest at ahead (bad why) e f (stands_stop there ahead i behind k done why t d g))
   take_refused i behind NoMemory j more_done t g = tt
@@ -154,7 +154,7 @@ module _ (text : List ℕ) (m : Mark) (rest : List ℕ) (k : List Frame) (done :
       leads_on text m (record { place = q; depth = length j }) rest behind k j done more_done (token at i) l (subst (λ (y : Mark). Steps m rest (go (token at i) y behind)) next s)
       (step_goes i at k j done more_done g).0
 
-pub refused_err : {Y : Type 0} (text : List ℕ) (r : Result Y FormEnd) (x y : FormEnd) → r ≡ Err x → x ≡ y → IsRefused text y → IfErr r (IsRefused text)
+pub refused_err : {Y : Type 0} (text : List ℕ) (r : Result Y End) (x y : End) → r ≡ Err x → x ≡ y → IsRefused text y → IfErr r (IsRefused text)
 refused_err text r x y is same h = subst (λ r. IfErr r (IsRefused text)) (sym (is ∙ ap Err same)) h
 
 -- the laws
@@ -170,15 +170,15 @@ pub one_end : (text : List ℕ) (why why' : Refusal) → RefusesWith text why �
 one_end text why why' a b = one_refusal a b refl refl
 
 -- the answers, from the two that the loop gives
-abbrev Spelled : List ℕ → Result (Vec Form Global) FormEnd → Type 0
+abbrev Spelled : List ℕ → Result (Vec Form Global) End → Type 0
 Spelled text r = IfOk r (λ v. SpellsForms text (trees_of (map plain v.items)))
 
-pub read_from : (text : List ℕ) (r : Result (Vec Form Global) FormEnd) → Spelled text r → IfErr r (IsRefused text) → (ts : Trees) → SpellsForms text ts → Reads ts r
+pub read_from : (text : List ℕ) (r : Result (Vec Form Global) End) → Spelled text r → IfErr r (IsRefused text) → (ts : Trees) → SpellsForms text ts → Reads ts r
 read_from text (Ok v) a b ts h = one_reading text _ ts a h
 read_from text (Err (Bad why)) a b ts h = no_reading text ts why h b
 read_from text (Err NoMemory) a b ts h = tt
 
-pub answered_from : (text : List ℕ) (r : Result (Vec Form Global) FormEnd) → Spelled text r → IfErr r (IsRefused text) → (why : Refusal) → RefusesWith text why → IsAnswered why r
+pub answered_from : (text : List ℕ) (r : Result (Vec Form Global) End) → Spelled text r → IfErr r (IsRefused text) → (why : Refusal) → RefusesWith text why → IsAnswered why r
 answered_from text (Ok v) a b why h = no_reading text _ why a h
 answered_from text (Err (Bad x)) a b why h = one_end text x why b h
 answered_from text (Err NoMemory) a b why h = tt

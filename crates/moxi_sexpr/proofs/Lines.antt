@@ -9,7 +9,8 @@ use Rattle.text_core.specs.declared.place.Place.{Place}
 use Rattle.moxi_sexpr.specs.declared.scan.Spelling.{Spelling}
 use Rattle.moxi_sexpr.specs.declared.scan.Spelling.TheVariants as how
 use Rattle.moxi_sexpr.specs.declared.read.TokenKind.{TokenKind}
-use Rattle.moxi_sexpr.specs.Bytes.{is_digit, is_symbol_byte, is_binary_digit, is_hex_digit, heads, next_place, after}
+use Rattle.moxi_sexpr.specs.Bytes.{is_digit, is_symbol_byte, is_binary_digit, is_hex_digit, heads}
+use Rattle.text_core.specs.Places.{next_place, after}
 use Rattle.moxi_sexpr.specs.Atoms.{prime, may_stand, spelled}
 use Rattle.moxi_sexpr.specs.Reading.{Scan, scan_of, value_of, token_from, token_of, front}
 use Rattle.moxi_sexpr.proofs.Runs.{other_byte, run_all, simple_all, front_is}

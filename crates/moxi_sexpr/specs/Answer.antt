@@ -2,13 +2,13 @@
 use Rattle.std.specs.Prelude.{◌≡◌, ◌<◌, ◌++◌, ℕ, List, map, length, Option, Some, None, Result, Ok, Err}
 use Rattle.std.specs.Borrow.{Bor}
 use Rattle.std.specs.Global.{Vec}
+use Rattle.text_core.specs.declared.end.End.{End}
+use Rattle.text_core.specs.declared.end.End.TheVariants.{Bad, NoMemory}
 use Rattle.text_core.specs.declared.place.Place.{Place}
 use Rattle.text_core.specs.declared.place.Refusal.{Refusal}
 use Rattle.moxi_sexpr.specs.declared.scan.Spelling.{Spelling}
 use Rattle.moxi_sexpr.specs.declared.form.Form.{Form}
 use Rattle.moxi_sexpr.specs.declared.read.TokenKind.{TokenKind}
-use Rattle.moxi_sexpr.specs.declared.read.FormEnd.{FormEnd}
-use Rattle.moxi_sexpr.specs.declared.read.FormEnd.TheVariants.{Bad, NoMemory}
 use Rattle.moxi_sexpr.specs.Tree.{Tree, Trees, trees_of, plain}
 use Rattle.moxi_sexpr.specs.Lexing.{refusal}
 use Rattle.moxi_sexpr.specs.Grammar.{RefusesWith}
@@ -16,19 +16,19 @@ use Rattle.moxi_sexpr.specs.Reading.{Scan}
 use Rattle.moxi_sexpr.specs.Machine.{Frame, Move, stop, onward}
 
 -- these forms, or want of memory
-abbrev pub Reads : Trees → Result (Vec Form) FormEnd → Type 0
+abbrev pub Reads : Trees → Result (Vec Form) End → Type 0
 Reads ts (Ok v) = trees_of (map plain v.items) ≡ ts
 Reads ts (Err (Bad why)) = ⊥
 Reads ts (Err NoMemory) = Unit {0}
 
 -- this refusal, or want of memory
-abbrev pub IsAnswered : Refusal → Result (Vec Form) FormEnd → Type 0
+abbrev pub IsAnswered : Refusal → Result (Vec Form) End → Type 0
 IsAnswered why (Ok v) = ⊥
 IsAnswered why (Err (Bad x)) = x ≡ why
 IsAnswered why (Err NoMemory) = Unit {0}
 
 -- the text is refused so, or memory ran out
-abbrev pub IsRefused : List ℕ → FormEnd → Type 0
+abbrev pub IsRefused : List ℕ → End → Type 0
 IsRefused text (Bad why) = RefusesWith text why
 IsRefused text NoMemory = Unit {0}
 
@@ -44,13 +44,13 @@ pub record IsBehind (text rest : List ℕ) : Type 0 where
   pub some : 0 < length bytes
 
 -- the token and the rest, or that none stands there
-abbrev pub Gives : Place → Result (TokenKind × Bor (List ℕ)) FormEnd → Option (TokenKind × List ℕ) → Type 0
+abbrev pub Gives : Place → Result (TokenKind × Bor (List ℕ)) End → Option (TokenKind × List ℕ) → Type 0
 Gives place (Ok x) o = o ≡ Some (x.0, x.1.now)
 Gives place (Err (Bad why)) o = (o ≡ None) × (why ≡ refusal 1 place)
 Gives place (Err NoMemory) o = Unit {0}
 
 -- a move goes on to these open lists and forms
-abbrev pub Moves : Move → Result (Unit {0}) FormEnd → List Frame → List Tree → Type 0
+abbrev pub Moves : Move → Result (Unit {0}) End → List Frame → List Tree → Type 0
 Moves m (Ok u) k done = m ≡ onward k done
 Moves m (Err (Bad why)) k done = m ≡ stop why
 Moves m (Err NoMemory) k done = Unit {0}

@@ -1,7 +1,6 @@
--- Bytes by what they may stand in (SMT-LIB 2.6, section 3.1), and places.
-use Rattle.std.specs.Prelude.{◌≡◌, ◌==◌, ◌+◌, ◌^◌, ◌≤◌, ℕ, Bool, false, not, ◌&&◌, ◌||◌, nat_le, if◌then◌else◌, List, [], ◌∷◌, codes}
+-- Bytes by what they may stand in (SMT-LIB 2.6, section 3.1).
+use Rattle.std.specs.Prelude.{◌≡◌, ◌==◌, ◌+◌, ◌^◌, ℕ, Bool, false, not, ◌&&◌, ◌||◌, nat_le, List, [], ◌∷◌, codes}
 use Rattle.std.specs.List.{list_any}
-use Rattle.text_core.specs.declared.place.Place.{Place}
 use Rattle.moxi_sexpr.specs.declared.bytes.ByteSet.{ByteSet}
 use Rattle.moxi_sexpr.specs.declared.bytes.ByteSet.TheVariants as set
 
@@ -52,23 +51,3 @@ heads c (b ∷ bs) = b == c
 abbrev pub Stops : (ℕ → Bool) → List ℕ → Type 0
 Stops p [] = Unit {0}
 Stops p (b ∷ bs) = p b ≡ false
-
--- the place behind one byte: a line ends after byte 10
-abbrev pub next_place : Place → ℕ → Place
-next_place p b =
-    if b == 10 then record { line = p.line + 1; column = 1; offset = p.offset + 1 } else record { line = p.line; column = p.column + 1; offset = p.offset + 1 }
-
--- the place behind these bytes
-abbrev pub after : Place → List ℕ → Place
-after p [] = p
-after p (b ∷ bs) = after (next_place p b) bs
-
--- the place of a text's first byte
-abbrev pub first : Place
-first = record { line = 1; column = 1; offset = 0 }
-
--- so many more bytes leave the place within its numbers
-pub record Reaches (p : Place) (more : ℕ) : Type 0 where
-  pub line : p.line + more ≤ 2 ^ 31 + 1
-  pub column : p.column + more ≤ 2 ^ 31 + 1
-  pub offset : p.offset + more ≤ 2 ^ 31

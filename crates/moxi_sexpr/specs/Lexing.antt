@@ -7,7 +7,8 @@ use Rattle.text_core.specs.declared.place.Refusal.{Refusal}
 use Rattle.moxi_sexpr.specs.declared.scan.Spelling.{Spelling}
 use Rattle.moxi_sexpr.specs.declared.read.TokenKind.{TokenKind}
 use Rattle.moxi_sexpr.specs.declared.read.TokenKind.TheVariants.{Open, Close, Atom}
-use Rattle.moxi_sexpr.specs.Bytes.{is_blank, ends_line, Stops, after, first}
+use Rattle.moxi_sexpr.specs.Bytes.{is_blank, ends_line, Stops}
+use Rattle.text_core.specs.Places.{after, start}
 use Rattle.moxi_sexpr.specs.Atoms.{may_stand, spelled, goes_on, atom_of}
 
 -- a bracket or an atom, and its place
@@ -75,4 +76,4 @@ pub data Refuses : Mark → List ℕ → Refusal → Type 0 where
       → Steps m text (go t next rest) → Refuses next rest why → Refuses m text why
 
 abbrev pub begin : Mark
-begin = record { place = first; depth = 0 }
+begin = record { place = start; depth = 0 }

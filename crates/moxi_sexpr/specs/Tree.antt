@@ -4,7 +4,7 @@ use Rattle.text_core.specs.declared.place.Place.{Place}
 use Rattle.moxi_sexpr.specs.declared.form.Atom.{Atom}
 use Rattle.moxi_sexpr.specs.declared.form.Form.{Form, Form-F, fold-Form}
 use Rattle.moxi_sexpr.specs.declared.form.FormShape.{FormShape-F}
-use Rattle.moxi_sexpr.specs.Bytes.{first}
+use Rattle.text_core.specs.Places.{start}
 
 mutual
   pub data Tree : Type 0 where
@@ -51,8 +51,8 @@ abbrev mutual
 -- the same form but for its places
 abbrev mutual
   pub unplaced : Tree → Tree
-  unplaced (atom p a) = atom first a
-  unplaced (list p ts) = list first (all_unplaced ts)
+  unplaced (atom p a) = atom start a
+  unplaced (list p ts) = list start (all_unplaced ts)
 
   pub all_unplaced : Trees → Trees
   all_unplaced no_trees = no_trees

@@ -1,8 +1,9 @@
-// Bytes by what they may stand in, and the places behind them.
+// Bytes by what they may stand in.
 
-ghost use Rattle.std.specs.Prelude.{◌≡◌, ◌+◌, ◌<◌, ◌≤◌, ◌^◌, length};
+ghost use Rattle.std.specs.Prelude.{◌≡◌, ◌+◌, ◌≤◌, length};
 ghost use Rattle.std.specs.List.{list_all};
-ghost use Rattle.moxi_sexpr.specs.Bytes.{is_digit, is_symbol_byte, is_blank, ends_line, is_hex_digit, belongs, next_place, after, Reaches};
+ghost use Rattle.moxi_sexpr.specs.Bytes.{is_digit, is_symbol_byte, is_blank, ends_line, is_hex_digit, belongs};
+ghost use Rattle.text_core.specs.Places.{Reaches};
 ghost use Rattle.moxi_sexpr.specs.Atoms.{starts_simple, is_simple};
 ghost use Rattle.moxi_sexpr.specs.Reading.{run_length};
 
@@ -33,13 +34,6 @@ const SYMBOL_BYTES: [u8; 256] = *b"\
     ################################\
     ################################\
     ################################";
-
-/// The place of a text's first byte.
-pub const FIRST: Place = Place {
-    line: 1,
-    column: 1,
-    offset: 0,
-};
 
 pub fn is_digit(b: u8) -> bool
     ensures { result ≡ is_digit b }
@@ -130,26 +124,6 @@ pub fn is_simple(name: &[u8]) -> bool
     starts_simple(name) && all_belong(ByteSet::Symbol, name)
 }
 
-/// The place behind one byte.
-pub fn next_place(place: Place, b: u8) -> Place
-    requires { Reaches place 1 }
-    ensures { result ≡ next_place place b }
-{
-    if b == b'\n' {
-        Place {
-            line: place.line + 1,
-            column: 1,
-            offset: place.offset + 1,
-        }
-    } else {
-        Place {
-            line: place.line,
-            column: place.column + 1,
-            offset: place.offset + 1,
-        }
-    }
-}
-
 /// The place so many bytes further in the same line.
 pub fn further(place: Place, count: usize) -> Place
     requires { Reaches place count }
@@ -161,24 +135,4 @@ pub fn further(place: Place, count: usize) -> Place
         column: place.column + count,
         offset: place.offset + count,
     }
-}
-
-/// The place behind these bytes.
-pub fn after(place: Place, bytes: &[u8]) -> Place
-    requires line { place.line + length bytes.now < 2 ^ 32 }
-    requires column { place.column + length bytes.now + 1 < 2 ^ 32 }
-    requires offset { place.offset + length bytes.now < 2 ^ 32 }
-    ensures { result ≡ after place bytes.now }
-{
-    let mut place = place;
-    for b in bytes {
-        if *b == b'\n' {
-            place.line += 1;
-            place.column = 1;
-        } else {
-            place.column += 1;
-        }
-        place.offset += 1;
-    }
-    place
 }

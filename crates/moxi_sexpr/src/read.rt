@@ -4,7 +4,7 @@ ghost use Rattle.std.specs.Prelude.{◌≡◌, ◌≤◌, ◌^◌, ◌⊎◌, �
 ghost use Rattle.text_core.specs.declared.place.Place.{Place};
 ghost use Rattle.text_core.specs.declared.place.Refusal.{Refusal};
 ghost use Rattle.moxi_sexpr.specs.declared.read.TokenKind.{TokenKind};
-ghost use Rattle.moxi_sexpr.specs.Bytes.{first, after, Reaches};
+ghost use Rattle.text_core.specs.Places.{start, after, Reaches};
 ghost use Rattle.moxi_sexpr.specs.Tree.{Trees, plain, plain_forms, depths};
 ghost use Rattle.moxi_sexpr.specs.Lexing.{refusal, limit};
 ghost use Rattle.moxi_sexpr.specs.Grammar.{SpellsForms, RefusesWith};
@@ -13,43 +13,18 @@ ghost use Rattle.moxi_sexpr.specs.Machine.{step, open_lists};
 ghost use Rattle.moxi_sexpr.specs.Printing.{ArePrintable};
 ghost use Rattle.moxi_sexpr.specs.Answer.{Gives, Moves, IsRefused, Reads, IsAnswered};
 
-use crate::bytes::{FIRST, after, further};
+use crate::bytes::further;
 use crate::form::{Atom, Form, FormShape, Forms};
 use crate::scan::{make_atom, pass_gap, scan, starts_quoted};
-use std::alloc::{AllocFailed, Global};
+use std::alloc::Global;
 use std::mem;
-use text_core::{Kind, NoMemory, Place, Refusal};
+use text_core::kinds::moxi;
+use text_core::{End, FIRST_PLACE, Kind, Place, Refusal};
 
-/// Why a text gives no forms.
-#[derive(Clone, Copy, Debug, PartialEq, Eq)]
-pub enum FormEnd {
-    /// The text is refused: M1 a byte that starts nothing, a `)` that closes nothing, or a bar or quote that isn't
-    /// closed; M2 a bracket that stands open at the end of the text, at that end; M3 the 1,201st open bracket.
-    Bad(Refusal),
-    NoMemory,
-}
-
-impl From<NoMemory> for FormEnd {
-    ghost use Rattle.std.specs.Prelude.{◌≡◌};
-    ghost use Rattle.moxi_sexpr.specs.declared.read.FormEnd.TheVariants.{NoMemory};
-
-    ghost from_gives = { λ _ e. e ≡ NoMemory };
-
-    fn from(_: NoMemory) -> FormEnd {
-        FormEnd::NoMemory
-    }
-}
-
-impl<T: Drop> From<AllocFailed<T>> for FormEnd {
-    ghost use Rattle.std.specs.Prelude.{◌≡◌};
-    ghost use Rattle.moxi_sexpr.specs.declared.read.FormEnd.TheVariants.{NoMemory};
-
-    ghost from_gives = { λ _ e. e ≡ NoMemory };
-
-    fn from(_: AllocFailed<T>) -> FormEnd {
-        FormEnd::NoMemory
-    }
-}
+/// Why a text gives no forms: it is refused, or memory runs out. M1 stands at a byte that starts nothing, a `)` that closes
+/// nothing, or a bar or quote that isn't closed; M2 at the end of the text, where a bracket stands open there; M3 at the
+/// 1,201st open bracket.
+pub type FormEnd = End;
 
 /// How many brackets may stand open.
 const MOST_OPEN: usize = 1200;
@@ -69,13 +44,10 @@ struct Opened {
     before: Forms,
 }
 
-fn refusal(number: u8, place: Place) -> Refusal
-    ensures { result ≡ refusal number place }
+fn refusal(kind: Kind, place: Place) -> Refusal
+    ensures { result ≡ record { kind = kind; place = place } }
 {
-    Refusal {
-        kind: Kind::M(number),
-        place,
-    }
+    Refusal { kind, place }
 }
 
 /// The place and the text behind the blanks and comments that a text begins with.
@@ -99,7 +71,7 @@ fn place_of_rest(place: Place, text: &[u8], rest: &[u8]) -> Place
 {
     let count = text.len() - rest.len();
     if starts_quoted(text) {
-        after(place, &text[..count])
+        place.after(&text[..count])
     } else {
         further(place, count)
     }
@@ -110,14 +82,14 @@ fn read_token(alloc: Global, place: Place, text: &[u8]) -> Result<(TokenKind, &[
     ensures { Gives place result (token_of text.now) }
 {
     let Some((b, rest)) = text.split_first() else {
-        return Err(FormEnd::Bad(refusal(1, place)))
+        return Err(FormEnd::Bad(refusal(moxi::BAD_BYTE, place)))
     };
     match *b {
         b'(' => Ok((TokenKind::Open, rest)),
         b')' => Ok((TokenKind::Close, rest)),
         _ => {
             let Some((how, raw, last)) = scan(text) else {
-                return Err(FormEnd::Bad(refusal(1, place)))
+                return Err(FormEnd::Bad(refusal(moxi::BAD_BYTE, place)))
             };
             let atom = make_atom(alloc, how, raw)?;
             Ok((TokenKind::Atom(atom), last))
@@ -138,14 +110,14 @@ fn take(
     match token {
         TokenKind::Open => {
             if stack.len() >= MOST_OPEN {
-                return Err(FormEnd::Bad(refusal(3, place)));
+                return Err(FormEnd::Bad(refusal(moxi::TOO_NESTED, place)));
             }
             let before = mem::replace(done, Vec::new(alloc));
             stack.push(Opened { place, before })?;
             Ok(())
         }
         TokenKind::Close => match stack.pop() {
-            None => Err(FormEnd::Bad(refusal(1, place))),
+            None => Err(FormEnd::Bad(refusal(moxi::BAD_BYTE, place))),
             Some(opened) => {
                 let inner = mem::replace(done, opened.before);
                 done.push(Form {
@@ -173,7 +145,7 @@ fn forms_of(alloc: Global, text: &[u8]) -> Result<Forms, FormEnd>
 {
     let mut stack = Vec::new(alloc);
     let mut done = Vec::new(alloc);
-    let mut place = FIRST;
+    let mut place = FIRST_PLACE;
     let mut rest = text;
     'tokens: loop {
         let (at, more) = skip_gap(place, rest);
@@ -181,7 +153,7 @@ fn forms_of(alloc: Global, text: &[u8]) -> Result<Forms, FormEnd>
             if stack.is_empty() {
                 return Ok(done);
             }
-            return Err(FormEnd::Bad(refusal(2, at)));
+            return Err(FormEnd::Bad(refusal(moxi::UNCLOSED, at)));
         }
         let (token, last) = read_token(alloc, at, more)?;
         take(alloc, &mut stack, &mut done, at, token)?;
@@ -209,9 +181,9 @@ pub fn read_forms(alloc: Global, text: &[u8]) -> Result<Forms, FormEnd>
 /// The place of the end of a text, just past its last byte.
 pub fn end_of(text: &[u8]) -> Place
     requires { length text.now ≤ 2 ^ 31 }
-    ensures { result ≡ after first text.now }
+    ensures { result ≡ after start text.now }
 {
-    after(FIRST, text)
+    FIRST_PLACE.after(text)
 }
 
 /// Each text spells one list of forms or is refused in one way, and not both. A bracket that stands open is refused at
@@ -221,7 +193,7 @@ pub fn readings_are_one()
     ensures refusals { (text : List ℕ) (why other : Refusal) → RefusesWith text why → RefusesWith text other → why ≡ other }
     ensures never_both { (text : List ℕ) (ts : Trees) (why : Refusal) → SpellsForms text ts → ¬ RefusesWith text why }
     ensures always_one { (text : List ℕ) → ((ts : Trees) × SpellsForms text ts) ⊎ ((why : Refusal) × RefusesWith text why) }
-    ensures unclosed { (text : List ℕ) (place : Place) → RefusesWith text (refusal 2 place) → place ≡ after first text }
+    ensures unclosed { (text : List ℕ) (place : Place) → RefusesWith text (refusal 2 place) → place ≡ after start text }
     ensures printable { (text : List ℕ) (ts : Trees) → SpellsForms text ts → ArePrintable ts }
     ensures depth { (text : List ℕ) (ts : Trees) → SpellsForms text ts → depths ts ≤ limit }
 {}

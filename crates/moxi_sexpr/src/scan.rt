@@ -1,14 +1,13 @@
 // What stands at the front of a text: blanks and comments, or the bytes of an atom.
 
 ghost use Rattle.std.specs.Prelude.{◌≡◌, ◌<◌, ◌≤◌, ◌∷◌, ◌++◌, ◌||◌, ℕ, List, false, length, take, IfOk, IfSome};
-ghost use Rattle.moxi_sexpr.specs.Bytes.{belongs, heads, after, Reaches};
+ghost use Rattle.moxi_sexpr.specs.Bytes.{belongs, heads};
+ghost use Rattle.text_core.specs.Places.{after, Reaches};
 ghost use Rattle.moxi_sexpr.specs.Atoms.{atom_of};
 ghost use Rattle.moxi_sexpr.specs.Reading.{gap_step, gap_length, run_of, simple_of, has_prime, past_prime, bare_of, barred_of, quote_length, quote_of, digits_of, scan_of, undoubled, value_of};
 ghost use Rattle.moxi_sexpr.specs.Answer.{Scans};
 
-use crate::bytes::{
-    ByteSet, belongs, ends_line, is_blank, is_digit, next_place, run_length, starts_simple,
-};
+use crate::bytes::{ByteSet, belongs, ends_line, is_blank, is_digit, run_length, starts_simple};
 use crate::form::Atom;
 use std::alloc::Global;
 use text_core::{Name, NoMemory, Place};
@@ -62,7 +61,7 @@ pub fn pass_gap(place: Place, text: &[u8]) -> (Place, usize)
             return (place, count)
         };
         inside = next;
-        place = next_place(place, *b);
+        place = place.next(*b);
         count += 1;
     }
     (place, count)
@@ -209,19 +208,15 @@ fn put_unless(bytes: &mut Vec<u8>, skip: bool, b: u8) -> Result<bool, NoMemory>
     if skip {
         return Ok(false);
     }
-    match bytes.push(b) {
-        Ok(()) => Ok(b == b'"'),
-        Err(_) => Err(NoMemory),
-    }
+    bytes.push(b)?;
+    Ok(b == b'"')
 }
 
 /// The bytes of a string of which these stand between its quotes, with quotes among them.
 fn undoubled(alloc: Global, raw: &[u8]) -> Result<Name, NoMemory>
     ensures { IfOk result (λ name. name ≡ undoubled false raw.now) }
 {
-    let Ok(mut bytes) = Vec::with_capacity(alloc, raw.len()) else {
-        return Err(NoMemory);
-    };
+    let mut bytes = Vec::with_capacity(alloc, raw.len())?;
     let mut skip = false;
     for b in raw {
         skip = put_unless(&mut bytes, skip, *b)?;

@@ -1,4 +1,3 @@
-pub mod VariableNames
 pub mod NamesLaws
 pub mod NamesLawsScopes
 pub mod NamesLawsScript

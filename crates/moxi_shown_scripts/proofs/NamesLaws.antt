@@ -21,7 +21,7 @@ use Rattle.moxi_scripts.specs.Entries.{entries_of, entry_in, entry_of, variable_
 use Rattle.moxi_scripts.specs.Lists.{entries_among, listed_entries}
 use Rattle.moxi_shown_scripts.specs.NamesOfScripts.{VariablesAreSpellable}
 use Rattle.moxi_scripts.specs.Shapes.{HeadedForms, NamedForm, before_pair, headed, headed_by, named, named_by, named_in, parts_of, triple_of}
-use Rattle.moxi_systems.proofs.WholeParts.{all_append}
+use Rattle.moxi_systems.specs.laws.WholeParts.{all_append}
 
 pub chosen : {A : Type 0} (P : A → Type 0) (b : Bool) (x y : A) → P x → P y → P (cond b x y)
 chosen P true x y h g = h

@@ -9,7 +9,8 @@ use Rattle.std.proofs.lemmas.Slice.Eq.{bytes_eq-Decides}
 use Rattle.moxi_terms.specs.declared.data.Primes.TheVariants.{Refused}
 use Rattle.moxi_terms.specs.declared.data.Sort.{Sort}
 use Rattle.moxi_sorts.specs.declared.locals.Local.{Local}
-use Rattle.moxi_terms.specs.Names.{all_constants, are_fresh, enumeration_names, function_names, is_among, is_term_name, place_of, sort_names}
+use Rattle.moxi_terms.specs.Names.{all_constants, enumeration_names, function_names, is_among, is_term_name, sort_names}
+use Rattle.name_set.specs.Names.{are_fresh, place_of}
 use Rattle.moxi_term_reading.specs.Reading.{Context}
 use Rattle.moxi_terms.specs.Sorted.{AreSorts}
 use Rattle.moxi_terms.specs.Sorts.{IsSort}
@@ -19,9 +20,9 @@ use Rattle.moxi_print.specs.Standing.{Stands}
 use Rattle.moxi_print.specs.StandingGrows.{Grows, in_scope}
 use Rattle.moxi_print.specs.StandingReads.{HasSortNames}
 use Rattle.moxi_systems.specs.Whole.{IsWholeScope, before, is_fixed_sort, is_fixed_term, over}
-use Rattle.moxi_systems.proofs.WholeNames.{Absent, absent_parts, fresh_first, fresh_split, is_absent, or_both, or_parts, other_way}
-use Rattle.moxi_systems.proofs.WholeParts.{all_of, all_parts, map_append}
-use Rattle.moxi_systems.proofs.WholeScopes.{term_new}
+use Rattle.moxi_systems.specs.laws.WholeNames.{Absent, absent_parts, fresh_first, fresh_split, is_absent, or_both, or_parts, other_way}
+use Rattle.moxi_systems.specs.laws.WholeParts.{all_of, all_parts, map_append}
+use Rattle.moxi_systems.specs.laws.WholeScopes.{term_new}
 
 -- a term that can stand in a scope can stand in one that has grown from it
 abbrev pub TermsStandOn : Type 0

@@ -20,7 +20,7 @@ use Rattle.moxi_scripts.specs.Entries.{entries_of, known_sort, locals_among}
 use Rattle.moxi_shown_scripts.specs.NamesOfScripts.{DeclaresSpellable, IsSpellableFunction}
 use Rattle.moxi_scripts.specs.Shapes.{HeadedForms, NamedForm, headed, named_in, parts_of, triple_of}
 use Rattle.moxi_shown_scripts.proofs.NamesLaws.{ArePrintableIf, IsPrintableHeaded, IsPrintableNamed, IsPrintableTriple, chosen, headed_printable, named_in_printable, parameters_spellable, parts_printable, symbols_spellable, triple_printable}
-use Rattle.moxi_systems.proofs.WholeParts.{all_append}
+use Rattle.moxi_systems.specs.laws.WholeParts.{all_append}
 
 -- terms of forms that can be printed bind names that can be spelled
 abbrev pub TermNamesAreSpellable : Type 0

@@ -8,7 +8,7 @@ use Rattle.moxi_terms.specs.declared.data.Primes.{Primes}
 use Rattle.moxi_terms.specs.declared.data.Primes.TheVariants.{Allowed, Refused}
 use Rattle.moxi_sorts.specs.declared.locals.Local.{Local}
 use Rattle.moxi_sorts.specs.Forms.{only_of, place_in, symbol_of}
-use Rattle.moxi_terms.specs.Names.{place_of}
+use Rattle.name_set.specs.Names.{place_of}
 use Rattle.moxi_term_reading.specs.Reading.{Context}
 use Rattle.moxi_terms.specs.View.{ScopeState}
 use Rattle.moxi_print.specs.StandingNames.{IsSpellable, NamesAreSpellable}
@@ -42,7 +42,7 @@ use Rattle.moxi_scripts.specs.Systems.{SystemReading, bare_system, locals_of, re
 use Rattle.moxi_scripts.specs.Uses.{actuals_in, use_among, use_headed, use_named, use_of, uses_in}
 use Rattle.moxi_shown_scripts.proofs.NamesLaws.{ArePrintableIf, IsPrintableHeaded, IsPrintableIf, IsPrintableNamed, IsSpellableSymbol, chosen, headed_printable, list_spellable, named_printable, only_printable, parts_printable, symbol_spellable, value_printable}
 use Rattle.moxi_shown_scripts.proofs.NamesLawsScopes.{EnumerationStays, FunctionStays, SortStays, TermNamesAreSpellable, enumeration_declares, function_declares, sort_declares}
-use Rattle.moxi_systems.proofs.WholeParts.{all_append, all_map, all_of}
+use Rattle.moxi_systems.specs.laws.WholeParts.{all_append, all_map, all_of}
 
 -- SUBSYSTEMS
 

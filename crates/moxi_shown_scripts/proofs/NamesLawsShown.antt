@@ -31,9 +31,9 @@ use Rattle.moxi_shown_scripts.specs.Printing as print
 use Rattle.moxi_shown_scripts.specs.Printing.{all_queries, attribute, check_variables, formula_attribute, formula_names, list_attribute, names_of, query_names, shown_check, shown_command, shown_conditions, shown_enumerations, shown_formulas, shown_functions, shown_label, shown_labels, shown_lists, shown_logic, shown_names, shown_queries, shown_script, shown_sorts, shown_subsystem, shown_subsystems, shown_system, shown_systems}
 use Rattle.moxi_scripts.specs.Script.{PlainCheck, PlainFormula, PlainScript, PlainSystem, variables_in}
 use Rattle.moxi_systems.specs.Whole.{AreFormulas, IsFormula, IsWhole, IsWholeCheck, IsWholeSystem, over}
-use Rattle.moxi_shown_scripts.proofs.VariableNames.{names_of_locals}
+use Rattle.moxi_shown_scripts.specs.laws.VariableNames.{names_of_locals}
 use Rattle.moxi_shown_scripts.proofs.NamesLawsGrowth.{StandsInAll, TermsStandOn, functions_stand, has_sort_names}
-use Rattle.moxi_systems.proofs.WholeParts.{all_append, all_map, all_of, all_parts}
+use Rattle.moxi_systems.specs.laws.WholeParts.{all_append, all_map, all_of, all_parts}
 
 abbrev pub TermsCanBeShown : Type 0
 TermsCanBeShown = (c : Context) (bounds : List Local) (t : Tree) (s : Sort) → IsSpellableScope c.scope → AreSpellable (reading.names_of c.variables) → AreSpellable (reading.names_of bounds) → Stands c bounds t s → NamesAreSpellable t

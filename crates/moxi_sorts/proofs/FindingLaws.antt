@@ -7,7 +7,8 @@ use Rattle.std.proofs.lemmas.Option.{same_Some, none-some, slice_get_within}
 use Rattle.std.proofs.lemmas.List.{take-append-le, length-append}
 use Rattle.moxi_terms.specs.declared.data.Sort.{Sort}
 use Rattle.moxi_sorts.specs.declared.locals.Local.{Local}
-use Rattle.moxi_terms.specs.Names.{place_of, or_else}
+use Rattle.moxi_terms.specs.Names.{or_else}
+use Rattle.name_set.specs.Names.{place_of}
 use Rattle.moxi_sorts.specs.Finding.{Found, first_of, IsIndexed, found_number, number_at, name_at}
 use Rattle.moxi_terms.proofs.PlaceLaws.{place_append, place_there, place_within, index_read, get_end, take_whole, length_taken, get_kept}
 

@@ -2,6 +2,4 @@ pub mod FormLaws
 pub mod FindingLaws
 pub mod StackLaws
 pub mod TypingLaws
-pub mod Least
-pub mod AllLaws
 pub mod ReadSorts

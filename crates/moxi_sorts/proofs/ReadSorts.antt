@@ -16,14 +16,15 @@ use Rattle.moxi_terms.specs.declared.data.Sort.TheVariants.{Truth, Bits, Choice}
 use Rattle.moxi_terms.specs.declared.term.Enumeration.{Enumeration}
 use Rattle.moxi_terms.specs.declared.term.NamedSort.{NamedSort}
 use Rattle.moxi_terms.specs.View.{ScopeState}
-use Rattle.moxi_terms.specs.Names.{or_else, place_of, enumeration_names, sort_names, sort_named, declared_sort}
+use Rattle.moxi_terms.specs.Names.{or_else, enumeration_names, sort_names, sort_named, declared_sort}
+use Rattle.name_set.specs.Names.{place_of}
 use Rattle.moxi_terms.specs.Words.{is_one_of, left_out_sorts}
 use Rattle.moxi_sorts.specs.Forms.{place_in, symbol_of, symbol_atom}
 use Rattle.moxi_terms.specs.Sorts.{IsSort}
 use Rattle.moxi_terms.specs.Sorted.{IsScope}
 use Rattle.moxi_sorts.specs.SortReading.{sort_reading, symbol_sort, width_sort, vector_sort, only_numeral, symbol_indexed, indexed_sort, listed_sort, atom_sort, index_of, is_width, unknown}
-use Rattle.moxi_terms.proofs.NameLaws.{place_below}
-use Rattle.moxi_sorts.proofs.AllLaws.{all_at}
+use Rattle.name_set.specs.laws.Places.{place_below}
+use Rattle.moxi_sorts.specs.laws.AllLaws.{all_at}
 
 width_is : (es : List Enumeration) (w : ℕ) (p q : Place) (first : Bool) (r : Place) (second : Bool) → IfOk (width_sort w p q first r second) (IsSort es)
 width_is es w p q first r second = by_width (is_width w) refl first second

@@ -10,7 +10,8 @@ use Rattle.std.proofs.lemmas.List.{take-append-le, length-append}
 use Rattle.moxi_terms.specs.declared.data.Sort.{Sort}
 use Rattle.moxi_sorts.specs.declared.locals.Local.{Local}
 use Rattle.moxi_sorts.specs.declared.locals.Binding.{Binding}
-use Rattle.moxi_terms.specs.Names.{place_of, or_else}
+use Rattle.moxi_terms.specs.Names.{or_else}
+use Rattle.name_set.specs.Names.{place_of}
 use Rattle.moxi_sorts.specs.Finding.{Found, last_of, IsStacked, found_number, name_at, locals_in}
 use Rattle.moxi_terms.proofs.PlaceLaws.{place_append, place_within, get_kept, get_front, get_end, length_taken, take_whole, index_read}
 use Rattle.moxi_sorts.proofs.FindingLaws.{name_there, found_at}

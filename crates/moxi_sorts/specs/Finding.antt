@@ -4,7 +4,8 @@ use Rattle.std.specs.List.{AllByRecursion}
 use Rattle.moxi_terms.specs.declared.data.Sort.{Sort}
 use Rattle.moxi_sorts.specs.declared.locals.Local.{Local}
 use Rattle.moxi_sorts.specs.declared.locals.Binding.{Binding}
-use Rattle.moxi_terms.specs.Names.{place_of, or_else}
+use Rattle.moxi_terms.specs.Names.{or_else}
+use Rattle.name_set.specs.Names.{place_of}
 use Rattle.std.specs.Str.{bytes_eq}
 
 -- a name that is found: its number, and its sort where it has one

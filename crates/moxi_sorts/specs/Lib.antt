@@ -3,3 +3,4 @@ pub mod Forms
 pub mod Finding
 pub mod SortReading
 pub mod Typing
+pub mod laws

@@ -14,7 +14,6 @@ use Rattle.moxi_terms.specs.Tree.{Tree, Trees, no_trees}
 use Rattle.moxi_terms.specs.View.{ScopeState}
 use Rattle.moxi_terms.specs.Words.{is_one_of, left_out_sorts}
 use Rattle.moxi_terms.specs.Names.{sort_named}
-use Rattle.moxi_terms.specs.Operators.{nothing}
 use Rattle.moxi_sorts.specs.Forms.{place_in, symbol_atom, symbol_of, numeral_of, only_of}
 
 -- the number that a numeral spells, or the greatest of 32 bits where it is greater: no width and no index is as great

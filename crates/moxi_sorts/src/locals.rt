@@ -1,13 +1,14 @@
 // The variables of a term, and the names that the `let`s around it bind, found with no scan.
 ghost use Rattle.std.specs.Prelude.{◌≡◌, ◌<◌, ◌^◌, ◌-◌, ◌≤◌, ◌+◌, ◌++◌, ◌∷◌, [], List, length, take, Some, None, IfOk, OnOk, OnErr};
 ghost use Rattle.moxi_sorts.specs.Finding.{first_of, last_of, IsStacked, found, locals_in};
-ghost use Rattle.moxi_terms.specs.Names.{place_of};
+ghost use Rattle.name_set.specs.Names.{place_of};
 ghost use Rattle.moxi_sorts.specs.declared.locals.Binding.{Binding};
 
-use moxi_terms::{Numbering, Sort};
+use moxi_terms::Sort;
+use name_set::NameSet;
 use std::alloc::Global;
 use std::marker::Model;
-use text_core::{Items, Name, NoMemory};
+use text_core::{List, Name, NoMemory};
 
 /// A name that a variable or a `let` declares, and its sort, which is unknown where what it rests on fails a test.
 #[derive(Drop)]
@@ -20,8 +21,8 @@ pub struct Local {
 #[derive(Drop)]
 pub struct Locals {
     alloc: Global,
-    locals: Items<Local>,
-    names: Numbering,
+    locals: List<Local>,
+    names: NameSet,
     firsts: Vec<u32>,
 }
 
@@ -44,8 +45,8 @@ impl Locals {
     {
         Locals {
             alloc,
-            locals: Items::new(alloc),
-            names: Numbering::new(alloc),
+            locals: List::new(alloc),
+            names: NameSet::new(alloc),
             firsts: Vec::new(alloc),
         }
     }
@@ -101,7 +102,7 @@ pub struct Binding {
 pub struct Bounds {
     alloc: Global,
     bindings: Vec<Binding>,
-    names: Numbering,
+    names: NameSet,
     lasts: Vec<Option<u32>>,
 }
 
@@ -126,13 +127,13 @@ impl Bounds {
         Bounds {
             alloc,
             bindings: Vec::new(alloc),
-            names: Numbering::new(alloc),
+            names: NameSet::new(alloc),
             lasts: Vec::new(alloc),
         }
     }
 
     /// Binds these names.
-    pub fn bind_all(&mut self, names: &Items<Local>) -> Result<(), NoMemory>
+    pub fn bind_all(&mut self, names: &List<Local>) -> Result<(), NoMemory>
         ensures { OnOk result (self.new ≡ self.old ++ names.now) }
     {
         for i in 0..names.len() {
@@ -215,7 +216,7 @@ impl Bounds {
 // The place of this name, which is declared where it isn't yet.
 fn key_of(
     alloc: Global,
-    names: &mut Numbering,
+    names: &mut NameSet,
     lasts: &mut Vec<Option<u32>>,
     name: &[u8],
 ) -> Result<usize, NoMemory>

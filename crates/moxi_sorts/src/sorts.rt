@@ -8,22 +8,19 @@ ghost use Rattle.moxi_terms.specs.View.{ScopeState};
 ghost use Rattle.moxi_sorts.specs.Forms.{digits_now, symbol_now};
 ghost use Rattle.moxi_sorts.specs.SortReading.{atom_sort, index_of, indexed_sort, is_width, listed_sort, sort_reading, symbol_sort, unknown, vector_sort, width_sort};
 ghost use Rattle.moxi_terms.specs.Words.{is_one_of, left_out_sorts};
-ghost use Rattle.moxi_sexpr.specs.Lexing.{refusal};
 
 use crate::forms::{only_numeral, symbol_atom, symbol_of};
 use moxi_sexpr::{Form, FormShape};
 use moxi_terms::{Scope, Sort, is_left_out_sort, is_same};
+use text_core::kinds::moxi;
 use text_core::{Kind, Place, Refusal};
 use word_core::{WIDEST, read_digits};
 
-/// A refusal of this number.
-pub fn refusal(number: u8, place: Place) -> Refusal
-    ensures { result ≡ refusal number place }
+/// A refusal of this kind at this place.
+pub fn refusal(kind: Kind, place: Place) -> Refusal
+    ensures { result ≡ record { kind = kind; place = place } }
 {
-    Refusal {
-        kind: Kind::M(number),
-        place,
-    }
+    Refusal { kind, place }
 }
 
 /// The number that a numeral spells, or the greatest of 32 bits where it is greater.
@@ -41,9 +38,9 @@ pub fn unknown(left_out: bool, p: Place, q: Place) -> Refusal
     ensures { result ≡ unknown left_out p q }
 {
     if left_out {
-        refusal(6, p)
+        refusal(moxi::NOT_SUPPORTED, p)
     } else {
-        refusal(4, q)
+        refusal(moxi::UNKNOWN, q)
     }
 }
 
@@ -51,7 +48,11 @@ fn symbol_sort(sort: Option<Sort>, name: &[u8], primed: bool, p: Place) -> Resul
     ensures { result ≡ symbol_sort sort name.now primed p }
 {
     match sort {
-        Some(s) => if primed { Err(refusal(7, p)) } else { Ok(s) },
+        Some(s) => if primed {
+            Err(refusal(moxi::PRIME_HERE, p))
+        } else {
+            Ok(s)
+        },
         None => Err(unknown(is_left_out_sort(name), p, p)),
     }
 }
@@ -67,11 +68,11 @@ fn width_sort(
     ensures { result ≡ width_sort width p q first r second }
 {
     if width < 1 || width > WIDEST {
-        Err(refusal(8, p))
+        Err(refusal(moxi::WIDTH, p))
     } else if first {
-        Err(refusal(7, q))
+        Err(refusal(moxi::PRIME_HERE, q))
     } else if second {
-        Err(refusal(7, r))
+        Err(refusal(moxi::PRIME_HERE, r))
     } else {
         Ok(Sort::Bits(width))
     }
@@ -90,7 +91,7 @@ fn vector_sort(
 {
     match width {
         Some(digits) => width_sort(index_of(digits), p, q, first, r, second),
-        None => Err(refusal(12, p)),
+        None => Err(refusal(moxi::ARITY, p)),
     }
 }
 
@@ -105,9 +106,9 @@ fn indexed_sort(p: Place, q: Place, first: bool, rest: &[Form]) -> Result<Sort, 
             } else {
                 Err(unknown(is_left_out_sort(name), p, q))
             },
-            None => Err(refusal(12, p)),
+            None => Err(refusal(moxi::ARITY, p)),
         },
-        None => Err(refusal(12, p)),
+        None => Err(refusal(moxi::ARITY, p)),
     }
 }
 
@@ -122,11 +123,11 @@ fn listed_sort(
     ensures { result ≡ listed_sort scope.now p q (symbol_now symbol.entry) (plain_forms rest.now) }
 {
     match symbol {
-        None => Err(refusal(12, p)),
+        None => Err(refusal(moxi::ARITY, p)),
         Some((name, primed)) => if is_same(name, b"_") {
             indexed_sort(p, q, primed, rest)
         } else if is_same(name, b"BitVec") || scope.sort_named(name).is_some() {
-            Err(refusal(12, p))
+            Err(refusal(moxi::ARITY, p))
         } else {
             Err(unknown(is_left_out_sort(name), p, q))
         },
@@ -143,7 +144,7 @@ fn atom_sort(
 {
     match symbol {
         Some((name, primed)) => symbol_sort(scope.sort_named(name), name, primed, p),
-        None => Err(refusal(12, around)),
+        None => Err(refusal(moxi::ARITY, around)),
     }
 }
 
@@ -155,7 +156,7 @@ pub fn sort_of(scope: &Scope, around: Place, form: &Form) -> Result<Sort, Refusa
         FormShape::Atom(a) => atom_sort(scope, around, form.place, symbol_atom(a)),
         FormShape::List(parts) => match parts.split_first() {
             Some((head, rest)) => listed_sort(scope, form.place, head.place, symbol_of(head), rest),
-            None => Err(refusal(12, form.place)),
+            None => Err(refusal(moxi::ARITY, form.place)),
         },
     }
 }

@@ -8,7 +8,7 @@ use Rattle.moxi_terms.specs.declared.data.Primes.TheVariants.{Refused}
 use Rattle.moxi_terms.specs.declared.data.Sort.TheVariants.{Truth}
 use Rattle.moxi_terms.specs.Names.{or_else}
 use Rattle.moxi_terms.specs.View.{plain}
-use Rattle.moxi_term_reading.proofs.SortedParts.{known_variables}
+use Rattle.moxi_term_reading.specs.laws.SortedParts.{known_variables}
 use Rattle.moxi_scripts.specs.declared.script.Query.{Query}
 use Rattle.moxi_systems.specs.Asking.{AreTruths, CanAsk, IsTruth, check_sorts, query_tests, system_tests}
 use Rattle.moxi_systems.specs.Behaviour.{Trace}

@@ -15,7 +15,7 @@ use Rattle.moxi_terms.specs.Sorted.{HasSort, HaveSorts}
 use Rattle.moxi_terms.specs.Sorts.{IsConstant, IsOf, op_sort, same_sort}
 use Rattle.moxi_terms.specs.Tree.{Tree, constant, variable, bound, apply, binding, call, Trees, no_trees, tree, PlainFunction, sorts_of}
 use Rattle.moxi_scripts.proofs.FunctionLaws.{one_sort}
-use Rattle.moxi_systems.proofs.WholeParts.{index_get}
+use Rattle.moxi_systems.specs.laws.WholeParts.{index_get}
 
 -- WHAT IS TRUE WITHOUT ITS CAUSE, AND CAN BE TESTED
 

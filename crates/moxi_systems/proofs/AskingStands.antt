@@ -11,7 +11,8 @@ use Rattle.moxi_sorts.specs.declared.locals.Local.{Local}
 use Rattle.moxi_terms.specs.declared.names.Meaning.{Meaning}
 use Rattle.moxi_terms.specs.declared.names.Meaning.TheVariants as meaning
 use Rattle.moxi_terms.specs.declared.term.Variable.{Variable}
-use Rattle.moxi_terms.specs.Names.{all_constants, constant_named, constant_numbers, function_names, or_else, place_of}
+use Rattle.moxi_terms.specs.Names.{all_constants, constant_named, constant_numbers, function_names, or_else}
+use Rattle.name_set.specs.Names.{place_of}
 use Rattle.moxi_terms.specs.Meanings as reading
 use Rattle.moxi_sorts.specs.Finding as finding
 use Rattle.moxi_term_reading.specs.Reading.{Context, meaning_of, names_of}
@@ -20,7 +21,7 @@ use Rattle.moxi_terms.specs.Sorted.{HasSort, HaveSorts}
 use Rattle.moxi_terms.specs.Sorts.{IsOf}
 use Rattle.moxi_terms.specs.Tree.{Tree, constant, variable, bound, apply, binding, call, Trees, no_trees, tree, PlainFunction, sorts_of}
 use Rattle.moxi_term_reading.specs.WellSorted.{HaveKnownSorts}
-use Rattle.moxi_term_reading.proofs.SortedParts.{FoundIn, constant_is, first_found, known_append, last_found}
+use Rattle.moxi_term_reading.specs.laws.SortedParts.{FoundIn, constant_is, first_found, known_append, last_found}
 use Rattle.moxi_print.specs.Standing.{StandEach, Stands, StandsValue, bound_locals}
 use Rattle.moxi_print.specs.Terms.{constant_name, name_at}
 

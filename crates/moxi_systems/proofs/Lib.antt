@@ -1,9 +1,6 @@
-pub mod WholeNames
-pub mod WholeParts
 pub mod WholeEntries
 pub mod WholeUses
 pub mod WholeQueries
-pub mod WholeScopes
 pub mod WholeFormulas
 pub mod WholeLabels
 pub mod WholeSystems

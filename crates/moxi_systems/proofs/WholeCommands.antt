@@ -9,7 +9,8 @@ use Rattle.moxi_sexpr.specs.Tree as form
 use Rattle.moxi_terms.specs.declared.data.Primes.TheVariants.{Refused}
 use Rattle.moxi_terms.specs.declared.data.Sort.{Sort}
 use Rattle.moxi_sorts.specs.Forms.{place_in}
-use Rattle.moxi_terms.specs.Names.{are_fresh, is_term_name, no_scope, with_function}
+use Rattle.moxi_terms.specs.Names.{is_term_name, no_scope, with_function}
+use Rattle.name_set.specs.Names.{are_fresh}
 use Rattle.moxi_term_reading.specs.Reading.{Context, prime_failures, read}
 use Rattle.moxi_sorts.specs.SortReading.{sort_reading}
 use Rattle.moxi_terms.specs.Sorts.{IsSort}
@@ -32,9 +33,9 @@ use Rattle.moxi_systems.specs.Whole.{IsWholeFunction, before}
 use Rattle.moxi_scripts.proofs.FunctionLaws.{function_is, none_in, some_fails}
 use Rattle.moxi_systems.proofs.WholeEntries.{entries_known, locals_known, locals_same, variables_whole}
 use Rattle.moxi_systems.proofs.WholeFormulas.{StandOn, TermsStand, no_clash}
-use Rattle.moxi_systems.proofs.WholeNames.{fresh_end}
-use Rattle.moxi_systems.proofs.WholeParts.{all_append, all_parts, map_append, no_failure}
-use Rattle.moxi_systems.proofs.WholeScopes.{GrowsTo, IsScopeSoFar, append_cases, grows_enumeration, grows_function, grows_on, grows_same, grows_sort, take_whole, with_enumeration_so_far, with_function_so_far, with_sort_so_far}
+use Rattle.moxi_systems.specs.laws.WholeNames.{fresh_end}
+use Rattle.moxi_systems.specs.laws.WholeParts.{all_append, all_parts, map_append, no_failure}
+use Rattle.moxi_systems.specs.laws.WholeScopes.{GrowsTo, IsScopeSoFar, append_cases, grows_enumeration, grows_function, grows_on, grows_same, grows_sort, take_whole, with_enumeration_so_far, with_function_so_far, with_sort_so_far}
 use Rattle.moxi_systems.proofs.WholeSteps.{IsNewFunction, enumeration_cases, function_cases, function_of, sort_cases}
 use Rattle.moxi_systems.proofs.WholeSystems.{AreUntaken, IsCheckSoFar, IsSystemSoFar, known_on, next_system, read_check}
 

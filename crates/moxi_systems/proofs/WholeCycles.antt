@@ -5,7 +5,7 @@ use Rattle.std.specs.List.{AllByRecursion, list_any}
 use Rattle.std.proofs.lemmas.Bool.Decides.{nat_tests}
 use Rattle.std.proofs.lemmas.List.{length-append, length-map}
 use Rattle.digraph.specs.Graph.{NodeLists, is_graph, leads, next_of}
-use Rattle.moxi_terms.specs.Names.{place_of}
+use Rattle.name_set.specs.Names.{place_of}
 use Rattle.moxi_scripts.specs.declared.script.Subsystem.{Subsystem}
 use Rattle.moxi_scripts.specs.declared.parts.Use.{Use}
 use Rattle.moxi_scripts.specs.Cycles.{all_cycles, all_use_rows, count_uses, cycle_failures, ends_at, nodes_from, system_rows, use_cycles, use_graph, use_rows, use_tests}
@@ -15,7 +15,7 @@ use Rattle.moxi_scripts.specs.Systems.{SystemReading}
 use Rattle.moxi_systems.specs.Whole.{NoneContainsItself, all_subsystem_rows, containing_rows, count_subsystems, subsystem_graph, subsystem_rows}
 use Rattle.moxi_scripts.proofs.CycleLaws.{graph_is}
 use Rattle.moxi_scripts.proofs.FunctionLaws.{none_in}
-use Rattle.moxi_systems.proofs.WholeParts.{no_failure}
+use Rattle.moxi_systems.specs.laws.WholeParts.{no_failure}
 use Rattle.moxi_systems.proofs.WholeWalks.{In, equal, leads_short, next_returns}
 
 -- WHERE SYSTEMS LEAD TO

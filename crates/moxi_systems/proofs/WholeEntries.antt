@@ -10,7 +10,8 @@ use Rattle.moxi_terms.specs.declared.term.Enumeration.{Enumeration}
 use Rattle.moxi_terms.specs.declared.term.Variable.{Variable}
 use Rattle.moxi_term_reading.specs.Answer.{locals_of}
 use Rattle.moxi_sorts.specs.Forms.{place_in}
-use Rattle.moxi_terms.specs.Names.{are_fresh, is_term_name, place_of}
+use Rattle.moxi_terms.specs.Names.{is_term_name}
+use Rattle.name_set.specs.Names.{are_fresh, place_of}
 use Rattle.moxi_term_reading.specs.Reading.{prime_failures}
 use Rattle.moxi_sorts.specs.SortReading.{sort_reading}
 use Rattle.moxi_terms.specs.Sorts.{IsSort}
@@ -29,8 +30,8 @@ use Rattle.moxi_scripts.specs.Lists.{all_entries, listed_entries, listed_failure
 use Rattle.moxi_scripts.specs.Shapes.{NamedForm, misshapen, named, parts_of}
 use Rattle.moxi_systems.specs.Whole.{AreVariables}
 use Rattle.moxi_scripts.proofs.FunctionLaws.{none_in, some_fails}
-use Rattle.moxi_systems.proofs.WholeNames.{absent_is, fresh_more}
-use Rattle.moxi_systems.proofs.WholeParts.{all_append, all_map, no_failure, not_false}
+use Rattle.moxi_systems.specs.laws.WholeNames.{absent_is, fresh_more}
+use Rattle.moxi_systems.specs.laws.WholeParts.{all_append, all_map, no_failure, not_false}
 
 -- a variable that has a sort of a scope with these enumerations
 abbrev pub IsKnown : List Enumeration → Declared → Type 0

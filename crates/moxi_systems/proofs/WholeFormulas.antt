@@ -30,9 +30,9 @@ use Rattle.moxi_scripts.specs.Formulas.{formula_failures, formula_term, term_fai
 use Rattle.moxi_systems.specs.Whole.{AreVariables, IsFormula}
 use Rattle.moxi_scripts.proofs.FunctionLaws.{none_in, one_sort}
 use Rattle.moxi_systems.proofs.WholeEntries.{AreKnown, locals_known, locals_same}
-use Rattle.moxi_systems.proofs.WholeNames.{or_parts, other_way}
-use Rattle.moxi_systems.proofs.WholeParts.{no_failure}
-use Rattle.moxi_systems.proofs.WholeScopes.{GrowsTo, new_term}
+use Rattle.moxi_systems.specs.laws.WholeNames.{or_parts, other_way}
+use Rattle.moxi_systems.specs.laws.WholeParts.{no_failure}
+use Rattle.moxi_systems.specs.laws.WholeScopes.{GrowsTo, new_term}
 
 -- a form of which no test fails spells a term that can stand where it stands
 abbrev pub TermsStand : Type 0

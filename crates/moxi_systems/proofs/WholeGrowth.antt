@@ -7,8 +7,8 @@ use Rattle.moxi_terms.specs.Names.{all_constants, is_term_name}
 use Rattle.moxi_terms.specs.Tree.{PlainFunction}
 use Rattle.moxi_terms.specs.View.{ScopeState}
 use Rattle.moxi_print.specs.StandingGrows.{Grows}
-use Rattle.moxi_systems.proofs.WholeNames.{Absent, or_both}
-use Rattle.moxi_systems.proofs.WholeScopes.{GrowsTo, absent_among}
+use Rattle.moxi_systems.specs.laws.WholeNames.{Absent, or_both}
+use Rattle.moxi_systems.specs.laws.WholeScopes.{GrowsTo, absent_among}
 
 none_equal : (s : ScopeState) (name : List ℕ) (names : List (List ℕ)) → is_term_name s name ≡ true → AllByRecursion (λ (other : List ℕ). is_term_name s other ≡ false) names → Absent names name
 none_equal s name [] h a = refl

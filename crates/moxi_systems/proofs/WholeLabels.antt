@@ -4,7 +4,7 @@ use Rattle.moxi_sexpr.specs.Tree as form
 use Rattle.moxi_terms.specs.declared.data.Primes.TheVariants.{Refused}
 use Rattle.moxi_terms.specs.declared.term.Variable.{Variable}
 use Rattle.moxi_sorts.specs.Forms.{place_in}
-use Rattle.moxi_terms.specs.Names.{are_fresh}
+use Rattle.name_set.specs.Names.{are_fresh}
 use Rattle.moxi_term_reading.specs.Reading.{prime_failures}
 use Rattle.moxi_terms.specs.View.{ScopeState}
 use Rattle.moxi_scripts.specs.declared.parts.Command.TheVariants.{Check}
@@ -24,9 +24,9 @@ use Rattle.moxi_systems.specs.Whole.{AreFormulas, IsFormula, formula_names}
 use Rattle.moxi_scripts.proofs.FunctionLaws.{none_in, some_fails}
 use Rattle.moxi_systems.proofs.WholeEntries.{AreKnown}
 use Rattle.moxi_systems.proofs.WholeFormulas.{StandOn, TermsStand, term_stands}
-use Rattle.moxi_systems.proofs.WholeNames.{Absent, absent_append, absent_swap, fresh_between, fresh_end, fresh_more, or_parts}
-use Rattle.moxi_systems.proofs.WholeParts.{all_append, map_append, no_failure}
-use Rattle.moxi_systems.proofs.WholeScopes.{GrowsTo, among_absent}
+use Rattle.moxi_systems.specs.laws.WholeNames.{Absent, absent_append, absent_swap, fresh_between, fresh_end, fresh_more, or_parts}
+use Rattle.moxi_systems.specs.laws.WholeParts.{all_append, map_append, no_failure}
+use Rattle.moxi_systems.specs.laws.WholeScopes.{GrowsTo, among_absent}
 
 -- formulas of one kind, with their names
 pub record IsList (s : ScopeState) (vs : List Variable) (l : FormulaList) : Type 0 where

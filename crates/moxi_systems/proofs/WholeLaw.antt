@@ -3,7 +3,7 @@ use Rattle.std.proofs.Common.{◌≡◌, Some, List, [], ◌∷◌, ◌++◌, le
 use Rattle.std.specs.List.{AllByRecursion}
 use Rattle.text_core.specs.declared.place.Place.{Place}
 use Rattle.moxi_sexpr.specs.Tree.{Trees}
-use Rattle.moxi_terms.specs.Names.{are_fresh}
+use Rattle.name_set.specs.Names.{are_fresh}
 use Rattle.moxi_terms.specs.View.{ScopeState}
 use Rattle.moxi_scripts.specs.declared.parts.Use.{Use}
 use Rattle.moxi_scripts.specs.Checks.{CheckReading}

@@ -12,7 +12,8 @@ use Rattle.moxi_terms.specs.declared.data.Primes.TheVariants.{Allowed, Refused}
 use Rattle.moxi_terms.specs.declared.data.Sort.{Sort}
 use Rattle.moxi_terms.specs.declared.term.Enumeration.{Enumeration}
 use Rattle.moxi_terms.specs.declared.term.Variable.{Variable}
-use Rattle.moxi_terms.specs.Names.{are_fresh, is_term_name, place_of}
+use Rattle.moxi_terms.specs.Names.{is_term_name}
+use Rattle.name_set.specs.Names.{are_fresh, place_of}
 use Rattle.moxi_terms.specs.Tree.{sorts_of}
 use Rattle.moxi_terms.specs.View.{ScopeState}
 use Rattle.moxi_scripts.specs.declared.parts.Declared.{Declared}
@@ -36,8 +37,8 @@ use Rattle.moxi_scripts.proofs.FunctionLaws.{none_in, one_sort, some_fails}
 use Rattle.moxi_scripts.proofs.ListLaws.{get_right}
 use Rattle.moxi_systems.proofs.WholeEntries.{AreKnown, all_known, declared_sorts, sorts_same, variables_all, variables_append}
 use Rattle.moxi_systems.proofs.WholeFormulas.{no_clash}
-use Rattle.moxi_systems.proofs.WholeNames.{or_parts}
-use Rattle.moxi_systems.proofs.WholeParts.{all_append, all_at, get_map, get_there, index_get, no_failure}
+use Rattle.moxi_systems.specs.laws.WholeNames.{or_parts}
+use Rattle.moxi_systems.specs.laws.WholeParts.{all_append, all_at, get_map, get_there, index_get, no_failure}
 use Rattle.moxi_systems.proofs.WholeQueries.{place_below}
 use Rattle.moxi_systems.proofs.WholeSystems.{AreUntaken, IsCheckSoFar, IsSystemSoFar}
 use Rattle.moxi_systems.proofs.WholeUses.{IsActual, IsUse}

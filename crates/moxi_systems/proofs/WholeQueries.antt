@@ -8,7 +8,7 @@ use Rattle.text_core.specs.declared.place.Place.{Place}
 use Rattle.moxi_sexpr.specs.Lexing.{refusal}
 use Rattle.moxi_sexpr.specs.Tree as form
 use Rattle.moxi_sorts.specs.Forms.{place_in, symbol_of}
-use Rattle.moxi_terms.specs.Names.{are_fresh, place_of}
+use Rattle.name_set.specs.Names.{are_fresh, place_of}
 use Rattle.moxi_term_reading.specs.Reading.{prime_failures}
 use Rattle.moxi_scripts.specs.declared.parts.Command.TheVariants.{Check}
 use Rattle.moxi_scripts.specs.declared.parts.Turn.{Turn}
@@ -22,8 +22,8 @@ use Rattle.moxi_scripts.specs.QueryReading as queries
 use Rattle.moxi_scripts.specs.Shapes.{NamedForm, misshapen, named, parts_of}
 use Rattle.moxi_systems.specs.Whole.{IsWholeQuery, query_names}
 use Rattle.moxi_scripts.proofs.FunctionLaws.{none_in, some_fails}
-use Rattle.moxi_systems.proofs.WholeNames.{absent_is, fresh_join, fresh_more, or_both}
-use Rattle.moxi_systems.proofs.WholeParts.{all_append, map_append, no_failure, not_false}
+use Rattle.moxi_systems.specs.laws.WholeNames.{absent_is, fresh_join, fresh_more, or_both}
+use Rattle.moxi_systems.specs.laws.WholeParts.{all_append, map_append, no_failure, not_false}
 
 -- a place that was found is one of the list
 found_below : (b : Bool) (n m i : ℕ) → nat_lt n m ≡ b → cond b (Some n) None ≡ Some i → i < m

@@ -12,8 +12,8 @@ use Rattle.moxi_scripts.specs.Cycles.{nodes_from}
 use Rattle.moxi_scripts.specs.Script.{PlainScript, PlainSystem, variables_in}
 use Rattle.moxi_systems.specs.Whole.{HasRanks, IsWhole, IsWholeSubsystem, IsWholeSystem, all_subsystem_rows, containing_rows, count_subsystems, subsystem_graph, subsystem_rows}
 use Rattle.moxi_systems.proofs.WholeCycles.{all_rows_long, index_right, rows_below}
-use Rattle.moxi_systems.proofs.WholeNames.{and_both}
-use Rattle.moxi_systems.proofs.WholeParts.{get_below}
+use Rattle.moxi_systems.specs.laws.WholeNames.{and_both}
+use Rattle.moxi_systems.specs.laws.WholeParts.{get_below}
 use Rattle.moxi_systems.proofs.WholeWalks.{In, all_next, equal, leads_along, leads_short, or_first, or_second, walk_of}
 
 -- COUNTS

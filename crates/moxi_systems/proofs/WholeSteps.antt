@@ -12,12 +12,12 @@ use Rattle.moxi_terms.specs.Sorts.{IsSort}
 use Rattle.moxi_terms.specs.Tree.{PlainFunction}
 use Rattle.moxi_terms.specs.View.{ScopeState}
 use Rattle.moxi_scripts.specs.Declarations as declare
-use Rattle.moxi_scripts.specs.Declarations.{FunctionForms, body_reading, constants_in, function_forms, is_nil, part_failures, result_sort, symbols_in, typed_function, with_read_enumeration, with_read_function, with_read_sort}
+use Rattle.moxi_scripts.specs.Declarations.{FunctionForms, body_reading, constants_in, is_nil, part_failures, result_sort, symbols_in, typed_function, with_read_enumeration, with_read_sort}
 use Rattle.moxi_scripts.specs.Entries.{entries_of, known_sort}
 use Rattle.moxi_scripts.specs.Shapes.{HeadedForms, NamedForm, headed, named_in}
 use Rattle.moxi_sorts.specs.Forms.{pair_of}
 use Rattle.moxi_scripts.proofs.FunctionLaws.{nil_is}
-use Rattle.moxi_systems.proofs.WholeScopes.{IsNewEnumeration, new_enumeration}
+use Rattle.moxi_systems.specs.laws.WholeScopes.{IsNewEnumeration, new_enumeration}
 
 -- an enumeration: nothing, or one more
 module _ (P : ScopeState → Type 0) (s : ScopeState) (same : P s) (more : (name : List ℕ) (cs : List (List ℕ)) → IsNewEnumeration s name cs → P (with_enumeration s name cs)) where

@@ -5,7 +5,8 @@ use Rattle.text_core.specs.declared.place.Place.{Place}
 use Rattle.moxi_sexpr.specs.Lexing.{refusal}
 use Rattle.moxi_sexpr.specs.Tree as form
 use Rattle.moxi_terms.specs.declared.data.Primes.TheVariants.{Allowed, Refused}
-use Rattle.moxi_terms.specs.Names.{are_fresh, is_term_name, place_of}
+use Rattle.moxi_terms.specs.Names.{is_term_name}
+use Rattle.name_set.specs.Names.{are_fresh, place_of}
 use Rattle.moxi_term_reading.specs.Reading.{prime_failures}
 use Rattle.moxi_sorts.specs.SortReading.{sort_reading}
 use Rattle.moxi_terms.specs.Sorts.{IsSort}
@@ -31,10 +32,10 @@ use Rattle.moxi_scripts.proofs.FunctionLaws.{none_in, some_fails}
 use Rattle.moxi_systems.proofs.WholeEntries.{AreKnown, AreKnownLists, IsKnown, all_known, lists_known, variables_whole}
 use Rattle.moxi_systems.proofs.WholeFormulas.{StandOn, TermsStand, formula_stands}
 use Rattle.moxi_systems.proofs.WholeLabels.{AreLabels, labels_are, nothing_labelled}
-use Rattle.moxi_systems.proofs.WholeNames.{Absent, absent_is}
-use Rattle.moxi_systems.proofs.WholeParts.{all_of}
+use Rattle.moxi_systems.specs.laws.WholeNames.{Absent, absent_is}
+use Rattle.moxi_systems.specs.laws.WholeParts.{all_of}
 use Rattle.moxi_systems.proofs.WholeQueries.{all_queries_are}
-use Rattle.moxi_systems.proofs.WholeScopes.{GrowsTo, sort_stays}
+use Rattle.moxi_systems.specs.laws.WholeScopes.{GrowsTo, sort_stays}
 use Rattle.moxi_systems.proofs.WholeUses.{IsUse, use_names, uses_are}
 
 -- no variable has the name of a constant or a function

@@ -8,7 +8,7 @@ use Rattle.text_core.specs.declared.place.Place.{Place}
 use Rattle.moxi_sexpr.specs.Lexing.{refusal}
 use Rattle.moxi_sexpr.specs.Tree as form
 use Rattle.moxi_sorts.specs.Forms.{place_in, symbol_of}
-use Rattle.moxi_terms.specs.Names.{are_fresh, place_of}
+use Rattle.name_set.specs.Names.{are_fresh, place_of}
 use Rattle.moxi_sorts.specs.Finding.{Found, first_of}
 use Rattle.moxi_term_reading.specs.Reading.{prime_failures}
 use Rattle.moxi_scripts.specs.declared.parts.Command.TheVariants.{System}
@@ -25,8 +25,8 @@ use Rattle.moxi_scripts.specs.Shapes.{HeadedForms, NamedForm, headed, misshapen,
 use Rattle.moxi_scripts.specs.Uses as uses
 use Rattle.moxi_scripts.proofs.FunctionLaws.{none_in, some_fails}
 use Rattle.moxi_systems.proofs.WholeEntries.{declared_sorts}
-use Rattle.moxi_systems.proofs.WholeNames.{absent_is, fresh_join, fresh_more}
-use Rattle.moxi_systems.proofs.WholeParts.{all_append, map_append, no_failure, not_false}
+use Rattle.moxi_systems.specs.laws.WholeNames.{absent_is, fresh_join, fresh_more}
+use Rattle.moxi_systems.specs.laws.WholeParts.{all_append, map_append, no_failure, not_false}
 
 -- the actual is a variable of its sort
 abbrev pub IsActual : List Declared → Actual → Type 0

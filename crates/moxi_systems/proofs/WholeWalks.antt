@@ -6,7 +6,7 @@ use Rattle.std.proofs.lemmas.Bool.{and_parts}
 use Rattle.std.proofs.lemmas.Bool.Decides.{nat_tests}
 use Rattle.std.proofs.lemmas.Map.Steps.{length-le_from_distinct_below}
 use Rattle.digraph.specs.Graph.{NodeLists, is_graph, leads, next_of}
-use Rattle.moxi_systems.proofs.WholeNames.{or_parts}
+use Rattle.moxi_systems.specs.laws.WholeNames.{or_parts}
 
 abbrev pub In : List ℕ → ℕ → Type 0
 In xs x = list_any (eqb x) xs ≡ true

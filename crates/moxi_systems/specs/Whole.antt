@@ -9,7 +9,8 @@ use Rattle.moxi_terms.specs.declared.data.Primes.TheVariants.{Allowed, Refused}
 use Rattle.moxi_terms.specs.declared.data.Sort.TheVariants.{Truth}
 use Rattle.moxi_terms.specs.declared.term.Variable.{Variable}
 use Rattle.moxi_term_reading.specs.Answer.{locals_of}
-use Rattle.moxi_terms.specs.Names.{all_constants, are_fresh, enumeration_names, function_names, is_term_name, sort_names}
+use Rattle.moxi_terms.specs.Names.{all_constants, enumeration_names, function_names, is_term_name, sort_names}
+use Rattle.name_set.specs.Names.{are_fresh}
 use Rattle.moxi_term_reading.specs.Reading.{Context}
 use Rattle.moxi_terms.specs.Sorted.{AreSorts, IsScope}
 use Rattle.moxi_terms.specs.Tree.{PlainFunction, Tree, sorts_of}

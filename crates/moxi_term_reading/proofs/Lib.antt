@@ -1,3 +1,2 @@
 pub mod ReadingLaws
-pub mod SortedParts
 pub mod WellSorted

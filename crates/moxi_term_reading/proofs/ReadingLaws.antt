@@ -17,7 +17,7 @@ use Rattle.std.proofs.lemmas.Option.{same_Some, none-some}
 use Rattle.moxi_sorts.specs.Forms.{pair_of}
 use Rattle.moxi_terms.specs.declared.term.Variable.{Variable}
 use Rattle.moxi_term_reading.specs.Answer.{unless_some, locals_of}
-use Rattle.moxi_sorts.proofs.Least.{least_append}
+use Rattle.moxi_sorts.specs.laws.Least.{least_append}
 
 -- tests one after another
 pub tests_both : (f g : Option Refusal) (xs ys : List Refusal) → f ≡ least xs → g ≡ least ys → sooner f g ≡ least (xs ++ ys)

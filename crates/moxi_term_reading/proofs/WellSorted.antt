@@ -23,7 +23,8 @@ use Rattle.moxi_terms.specs.declared.names.Head.{Head}
 use Rattle.moxi_terms.specs.declared.names.Head.TheVariants as heads
 use Rattle.moxi_sorts.specs.declared.locals.Local.{Local}
 use Rattle.moxi_terms.specs.Tree.{Tree, constant, variable, bound, call, no_trees, trees_of, PlainFunction, sorts_of}
-use Rattle.moxi_terms.specs.Names.{or_else, place_of, function_names, constant_named, constant_numbers, all_constants}
+use Rattle.moxi_terms.specs.Names.{or_else, function_names, constant_named, constant_numbers, all_constants}
+use Rattle.name_set.specs.Names.{place_of}
 use Rattle.moxi_sorts.specs.Forms.{place_in, symbol_of, is_word, is_primed}
 use Rattle.moxi_terms.specs.Sorts.{IsOf}
 use Rattle.moxi_terms.specs.Sorted.{HasSort, HaveSorts, IsUnprimed, AreUnprimed}
@@ -37,8 +38,8 @@ use Rattle.moxi_sorts.specs.Finding.{Found}
 use Rattle.moxi_term_reading.specs.declared.outcome.ReadTerm.{ReadTerm}
 use Rattle.moxi_term_reading.specs.Answer.{IsRead}
 use Rattle.moxi_term_reading.specs.WellSorted.{HaveKnownSorts, IsTerm, IsWellSorted, IsSortedTerm}
-use Rattle.moxi_sorts.proofs.Least.{least_none}
-use Rattle.moxi_term_reading.proofs.SortedParts.{some_fails, none_in, stays, FoundIn, first_found, last_found, known_append, names_long, constant_is, read_is_word, tests_hold, call_fits}
+use Rattle.moxi_sorts.specs.laws.Least.{least_none}
+use Rattle.moxi_term_reading.specs.laws.SortedParts.{some_fails, none_in, stays, FoundIn, first_found, last_found, known_append, names_long, constant_is, read_is_word, tests_hold, call_fits}
 
 module _ (c : Context) (vars : List Sort) (of_vars : HaveKnownSorts c.variables vars) where
   own_sorted : (ss : List Sort) (t : Tree) (s : Option Sort) (fs : List Refusal) (sort : Sort) → fs ≡ [] → s ≡ Some sort

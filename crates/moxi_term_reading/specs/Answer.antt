@@ -1,12 +1,12 @@
 -- What the calls answer.
 use Rattle.std.specs.Prelude.{◌≡◌, Some, None, Option, Bool, true, false, Result, Ok, Err, List, [], ◌∷◌, map}
+use Rattle.text_core.specs.declared.end.End.{End}
+use Rattle.text_core.specs.declared.end.End.TheVariants.{Bad, NoMemory}
 use Rattle.text_core.specs.declared.place.Refusal.{Refusal}
 use Rattle.moxi_terms.specs.declared.data.Sort.{Sort}
 use Rattle.moxi_terms.specs.declared.term.Term.{Term}
 use Rattle.moxi_terms.specs.declared.term.Variable.{Variable}
 use Rattle.moxi_sorts.specs.declared.locals.Local.{Local}
-use Rattle.moxi_term_reading.specs.declared.read.TermEnd.{TermEnd}
-use Rattle.moxi_term_reading.specs.declared.read.TermEnd.TheVariants.{Bad, NoMemory}
 use Rattle.moxi_term_reading.specs.declared.outcome.ReadTerm.{ReadTerm}
 use Rattle.moxi_term_reading.specs.declared.outcome.Setting.{Setting}
 use Rattle.moxi_term_reading.specs.declared.applications.ReadArguments.{ReadArguments}
@@ -53,7 +53,7 @@ locals_of [] = []
 locals_of (v ∷ vs) = record { name = v.name; sort = Some v.sort } ∷ locals_of vs
 
 -- the term and the sort that the form spells, where no test fails; else the failing test with the least place
-abbrev pub Answers : Reading → Result (Term × Sort) TermEnd → Type 0
+abbrev pub Answers : Reading → Result (Term × Sort) End → Type 0
 Answers x (Ok r) = (x.failures ≡ []) × (plain r.0 ≡ x.term) × (x.sort ≡ Some r.1)
 Answers x (Err (Bad f)) = IsLeast f x.failures
 Answers x (Err NoMemory) = Unit {0}

@@ -1,3 +1,4 @@
 pub mod Reading
 pub mod Answer
 pub mod WellSorted
+pub mod laws

@@ -27,7 +27,8 @@ use Rattle.moxi_sorts.specs.declared.locals.Local.{Local}
 use Rattle.moxi_terms.specs.Tree.{Tree, constant, variable, bound, apply, binding, call, Trees, no_trees, trees_of, PlainFunction}
 use Rattle.moxi_terms.specs.View.{ScopeState}
 use Rattle.moxi_terms.specs.Words.{is_one_of, left_out_operators, indexed_operators}
-use Rattle.moxi_terms.specs.Names.{place_of, or_else, function_names}
+use Rattle.moxi_terms.specs.Names.{or_else, function_names}
+use Rattle.name_set.specs.Names.{place_of}
 use Rattle.moxi_terms.specs.Operators.{nothing}
 use Rattle.moxi_sorts.specs.Forms.{place_in, symbol_atom, symbol_of, numeral_of, pair_of, is_word, is_primed}
 use Rattle.moxi_sorts.specs.SortReading.{index_of, unknown, only_numeral}

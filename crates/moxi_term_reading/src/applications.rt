@@ -11,7 +11,8 @@ ghost use Rattle.moxi_terms.specs.View.{plain};
 use crate::outcome::{ReadTerm, no_term, unless_failed};
 use moxi_sorts::{head_count_fits, head_sort, refusal, sooner};
 use moxi_terms::{Head, Scope, Sort, Term, Terms};
-use text_core::{NoMemory, Place, Refusal};
+use text_core::kinds::moxi;
+use text_core::{Kind, NoMemory, Place, Refusal};
 
 /// Terms one behind the other. `whole` tells whether each of them has a sort.
 #[derive(Drop)]
@@ -58,10 +59,7 @@ where
     T: Drop,
     ensures { OnOk result (all.new.items ≡ all.old.items ++ x ∷ []) }
 {
-    match all.push(x) {
-        Ok(()) => Ok(()),
-        Err(_) => Err(NoMemory),
-    }
+    Ok(all.push(x)?)
 }
 
 /// An application at p of a head whose primes fail so.
@@ -145,11 +143,11 @@ fn application_test(
     ensures { result ≡ least (argument_tests scope.now.functions p head count (kept whole sorts.now)) }
 {
     if !head_count_fits(scope, head, count) {
-        Some(refusal(12, p))
+        Some(refusal(moxi::ARITY, p))
     } else if whole {
         match head_sort(scope, head, sorts) {
             Ok(_) => None,
-            Err(number) => Some(refusal(number, p)),
+            Err(number) => Some(refusal(Kind::M(number), p)),
         }
     } else {
         None

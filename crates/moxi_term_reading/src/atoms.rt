@@ -14,6 +14,7 @@ use moxi_sexpr::{Atom, Form};
 use moxi_sorts::{Bounds, index_of, only_numeral, place_in, refusal, sooner, symbol_of, unknown};
 use moxi_terms::{Datum, Meaning, Primes, Sort, Term, is_left_out};
 use std::alloc::Global;
+use text_core::kinds::moxi;
 use text_core::{Place, Refusal};
 use word_core::{Word, read_digits};
 
@@ -50,7 +51,7 @@ fn named(
     ensures { IsRead (named_reading primes p primed meaning) result }
 {
     match meaning {
-        None => failed(refusal(4, p)),
+        None => failed(refusal(moxi::UNKNOWN, p)),
         Some(Meaning::Bound(i, sort)) => own_tests(Term::Bound(i), sort, prime(primed, p)),
         Some(Meaning::Variable(v, sort)) => own_tests(
             Term::Variable(v, primed),
@@ -71,7 +72,7 @@ fn word(p: Place, w: Option<Word>, failure: Option<Refusal>) -> ReadTerm
     ensures { (fs : List Refusal) → failure ≡ least fs → IsRead (word_reading p w fs) result }
 {
     match w {
-        None => failed(refusal(8, p)),
+        None => failed(refusal(moxi::WIDTH, p)),
         Some(w) => own_tests(
             Term::Constant(Datum::Bits(w)),
             Some(Sort::Bits(w.width())),
@@ -116,9 +117,9 @@ pub fn read_atom(alloc: Global, setting: Setting, bounds: &Bounds, p: Place, a: 
         ),
         Atom::Binary(digits) => word(p, binary_word(digits.bytes()), None),
         Atom::Hex(digits) => word(p, hex_word(digits.bytes()), None),
-        Atom::Keyword(_) => failed(refusal(12, p)),
-        Atom::Numeral(_) => failed(refusal(12, p)),
-        Atom::Quote(_) => failed(refusal(12, p)),
+        Atom::Keyword(_) => failed(refusal(moxi::ARITY, p)),
+        Atom::Numeral(_) => failed(refusal(moxi::ARITY, p)),
+        Atom::Quote(_) => failed(refusal(moxi::ARITY, p)),
     }
 }
 
@@ -128,7 +129,7 @@ fn literal(p: Place, digits: &[u8], failure: Option<Refusal>, width: Option<&[u8
 {
     match width {
         Some(n) => word(p, read_digits(index_of(n), 10, digits), failure),
-        None => failed(refusal(12, p)),
+        None => failed(refusal(moxi::ARITY, p)),
     }
 }
 
@@ -158,8 +159,8 @@ pub fn underscored(p: Place, q: Place, first: bool, rest: &[Form]) -> ReadTerm
                 let primes = sooner(prime(first, q), prime(second, place_in(form)));
                 named_literal(p, q, primes, name, more)
             }
-            None => failed(refusal(4, q)),
+            None => failed(refusal(moxi::UNKNOWN, q)),
         },
-        None => failed(refusal(4, q)),
+        None => failed(refusal(moxi::UNKNOWN, q)),
     }
 }

@@ -13,13 +13,18 @@ use moxi_sorts::{
     symbol_of, unknown,
 };
 use moxi_terms::{Head, Scope, TermOp, is_indexed, is_left_out, is_same};
+use text_core::kinds::moxi;
 use text_core::{Place, Refusal};
 
 /// The failing test of a prime.
 pub fn prime(primed: bool, p: Place) -> Option<Refusal>
     ensures { result ≡ least (prime_failures primed p) }
 {
-    if primed { Some(refusal(7, p)) } else { None }
+    if primed {
+        Some(refusal(moxi::PRIME_HERE, p))
+    } else {
+        None
+    }
 }
 
 /// The digits of `bvN`.
@@ -66,9 +71,9 @@ fn extracted_head(q: Place, high: Option<&[u8]>, low: Option<&[u8]>) -> Result<H
     match high {
         Some(h) => match low {
             Some(l) => Ok(Head::Operator(TermOp::Extract(index_of(h), index_of(l)))),
-            None => Err(refusal(12, q)),
+            None => Err(refusal(moxi::ARITY, q)),
         },
-        None => Err(refusal(12, q)),
+        None => Err(refusal(moxi::ARITY, q)),
     }
 }
 
@@ -81,7 +86,7 @@ fn extended_head(q: Place, name: &[u8], count: Option<&[u8]>) -> Result<Head, Re
         } else {
             Ok(Head::Operator(TermOp::SignExtend(index_of(n))))
         },
-        None => Err(refusal(12, q)),
+        None => Err(refusal(moxi::ARITY, q)),
     }
 }
 
@@ -92,7 +97,7 @@ fn indexed_head(q: Place, name: &[u8], indices: &[Form]) -> Result<Head, Refusal
     if is_same(name, b"extract") {
         match pair(indices) {
             Some((high, low)) => extracted_head(q, numeral_of(high), numeral_of(low)),
-            None => Err(refusal(12, q)),
+            None => Err(refusal(moxi::ARITY, q)),
         }
     } else {
         extended_head(q, name, only_numeral(indices))
@@ -110,9 +115,9 @@ fn listed_head(p: Place, q: Place, rest: &[Form]) -> Result<Head, Refusal>
             } else {
                 Err(unknown(is_left_out(name), p, q))
             },
-            None => Err(refusal(4, q)),
+            None => Err(refusal(moxi::UNKNOWN, q)),
         },
-        None => Err(refusal(4, q)),
+        None => Err(refusal(moxi::UNKNOWN, q)),
     }
 }
 
@@ -129,7 +134,7 @@ fn atom_head(
             Some(h) => Ok(h),
             None => Err(unknown(is_left_out(name), p, q)),
         },
-        None => Err(refusal(4, q)),
+        None => Err(refusal(moxi::UNKNOWN, q)),
     }
 }
 
@@ -144,9 +149,9 @@ pub fn head_of(scope: &Scope, p: Place, head: &Form) -> Result<Head, Refusal>
             Some((first, rest)) => if is_word(b"_", first) {
                 listed_head(p, q, rest)
             } else {
-                Err(refusal(4, q))
+                Err(refusal(moxi::UNKNOWN, q))
             },
-            None => Err(refusal(4, q)),
+            None => Err(refusal(moxi::UNKNOWN, q)),
         },
     }
 }

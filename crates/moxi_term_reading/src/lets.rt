@@ -12,13 +12,14 @@ use moxi_sexpr::Form;
 use moxi_sorts::{Local, refusal, sooner};
 use moxi_terms::{Sort, Term, Terms};
 use std::alloc::Global;
-use text_core::{Items, Name, Names, NoMemory, Place, Refusal};
+use text_core::kinds::moxi;
+use text_core::{List, Name, Names, NoMemory, Place, Refusal};
 
 /// What a `let` binds, with the failing tests of its form and of its terms.
 #[derive(Drop)]
 pub struct ReadBindings {
     pub names: Names,
-    pub locals: Items<Local>,
+    pub locals: List<Local>,
     pub terms: Terms,
     pub shape: Option<Refusal>,
     pub failure: Option<Refusal>,
@@ -30,7 +31,7 @@ pub fn some_binding(q: Place, bindings: &[Form]) -> Option<Refusal>
     ensures { result ≡ least (bindings_tests q (plain_forms bindings.now)) }
 {
     match bindings.split_first() {
-        None => Some(refusal(12, q)),
+        None => Some(refusal(moxi::ARITY, q)),
         Some(_) => None,
     }
 }
@@ -45,10 +46,7 @@ pub fn let_term(
     ensures { IfOk result (λ t. (x : Bindings) (y : Reading) (fs : List Refusal) → own ≡ least fs → AreBound x bindings → IsRead y r → IsRead (let_reading fs x y) t) }
 {
     let shape = sooner(own, bindings.shape);
-    let held = match Box::new(alloc, r.term) {
-        Ok(held) => held,
-        Err(_) => return Err(NoMemory),
-    };
+    let held = Box::new(alloc, r.term)?;
     Ok(ReadTerm {
         term: Term::Let(bindings.names, bindings.terms, held),
         sort: unless_failed(shape, r.sort),
@@ -60,7 +58,7 @@ pub fn let_term(
 pub fn misshapen(p: Place, all: &mut ReadBindings)
     ensures { (x : Bindings) → AreBound x all.old → AreBound (both_bindings x (misshapen p)) all.new }
 {
-    all.shape = sooner(all.shape, Some(refusal(12, p)));
+    all.shape = sooner(all.shape, Some(refusal(moxi::ARITY, p)));
 }
 
 /// One more binding, of a name whose prime fails so.

@@ -20,25 +20,11 @@ use moxi_sexpr::{Form, FormShape};
 use moxi_sorts::{Bounds, Locals, is_primed, is_word, pair, place_in, refusal, sooner, symbol_of};
 use moxi_terms::{Primes, Scope, Sort, Term, Variables};
 use std::alloc::Global;
-use text_core::{Items, Name, Names, NoMemory, Place, Refusal};
+use text_core::kinds::moxi;
+use text_core::{End, List, Name, Names, NoMemory, Place, Refusal};
 
-/// Why a form spells no term.
-#[derive(Debug, Drop)]
-pub enum TermEnd {
-    Bad(Refusal),
-    NoMemory,
-}
-
-impl From<NoMemory> for TermEnd {
-    ghost use Rattle.std.specs.Prelude.{◌≡◌};
-    ghost use Rattle.moxi_term_reading.specs.declared.read.TermEnd.TheVariants as ends;
-
-    ghost from_gives = { λ _ e. e ≡ ends.NoMemory };
-
-    fn from(_: NoMemory) -> TermEnd {
-        TermEnd::NoMemory
-    }
-}
+/// Why a form spells no term: a test fails, or memory runs out.
+pub type TermEnd = End;
 
 #[cycle(read)]
 #[inline(never)]
@@ -54,7 +40,7 @@ fn read_form(
     match &form.shape {
         FormShape::Atom(a) => Ok(read_atom(alloc, setting, bounds, form.place, a)),
         FormShape::List(parts) => match parts.split_first() {
-            None => Ok(failed(refusal(12, form.place))),
+            None => Ok(failed(refusal(moxi::ARITY, form.place))),
             Some((head, rest)) => if is_word(b"let", head) {
                 read_let(alloc, setting, bounds, form.place, head_prime(head), rest)
             } else if is_word(b"_", head) {
@@ -118,9 +104,9 @@ fn read_let(
                 let own = sooner(primes, some_binding(list.place, parts));
                 read_body(alloc, setting, bounds, own, bindings, body)
             }
-            FormShape::Atom(_) => Ok(failed(refusal(12, p))),
+            FormShape::Atom(_) => Ok(failed(refusal(moxi::ARITY, p))),
         },
-        None => Ok(failed(refusal(12, p))),
+        None => Ok(failed(refusal(moxi::ARITY, p))),
     }
 }
 
@@ -160,7 +146,7 @@ fn read_bindings(
 {
     let mut all = ReadBindings {
         names: Names::new(alloc),
-        locals: Items::new(alloc),
+        locals: List::new(alloc),
         terms: Vec::new(alloc),
         shape: None,
         failure: None,

@@ -1,4 +1,3 @@
-pub mod NameLaws
 pub mod PlaceLaws
 pub mod SortLaws
 pub mod OperatorLaws

@@ -10,7 +10,7 @@ use Rattle.word_core.specs.declared.kinds.Unary.{Unary}
 use Rattle.word_core.specs.declared.kinds.Unary.TheVariants as one
 use Rattle.word_core.specs.declared.kinds.Binary.{Binary}
 use Rattle.word_core.specs.declared.kinds.Binary.TheVariants as two
-use Rattle.word_core.proofs.Rows.{unary_is_word, binary_is_word, uext_is_word, sext_is_word}
+use Rattle.word_core.specs.laws.Rows.{unary_is_word, binary_is_word, uext_is_word, sext_is_word}
 use Rattle.moxi_terms.specs.declared.data.Sort.{Sort}
 use Rattle.moxi_terms.specs.declared.data.Sort.TheVariants.{Truth, Bits}
 use Rattle.moxi_terms.specs.declared.data.Datum.{Datum}

@@ -9,7 +9,7 @@ use Rattle.word_core.specs.Table.{BinaryFits, binary_of, binary_width}
 use Rattle.word_core.specs.declared.word.TheConstants.{WIDEST}
 use Rattle.word_core.specs.declared.kinds.Binary.{Binary}
 use Rattle.word_core.specs.declared.kinds.Binary.TheVariants as two
-use Rattle.word_core.proofs.Rows.{binary_is_word}
+use Rattle.word_core.specs.laws.Rows.{binary_is_word}
 use Rattle.moxi_terms.specs.declared.data.Sort.{Sort}
 use Rattle.moxi_terms.specs.declared.data.Sort.TheVariants.{Truth, Bits, Choice}
 use Rattle.moxi_terms.specs.declared.data.Datum.{Datum}

@@ -1,7 +1,7 @@
 -- Names: their places in lists, and what a scope declares by them.
-use Rattle.std.specs.Prelude.{ℕ, ◌+◌, ◌-◌, ◌^◌, nat_lt, suc, Bool, true, not, ◌&&◌, ◌||◌, if◌then◌else◌, Option, None, Some, is_some, is_none, option_and_then, List, [], ◌∷◌, ◌++◌, map, length, slice_get, codes}
+use Rattle.std.specs.Prelude.{ℕ, ◌+◌, ◌-◌, ◌^◌, nat_lt, suc, Bool, true, not, ◌&&◌, ◌||◌, if◌then◌else◌, Option, None, Some, is_some, option_and_then, List, [], ◌∷◌, ◌++◌, map, length, slice_get, codes}
 use Rattle.std.specs.Option.{option_map}
-use Rattle.std.specs.List.{position, list_any}
+use Rattle.std.specs.List.{list_any}
 use Rattle.std.specs.Str.{bytes_eq}
 use Rattle.moxi_terms.specs.declared.data.Sort.{Sort}
 use Rattle.moxi_terms.specs.declared.data.Sort.TheVariants.{Truth, Choice}
@@ -10,18 +10,10 @@ use Rattle.moxi_terms.specs.declared.term.NamedSort.{NamedSort}
 use Rattle.moxi_terms.specs.Tree.{PlainFunction}
 use Rattle.moxi_terms.specs.View.{ScopeState}
 use Rattle.moxi_terms.specs.Words.{is_operator}
-
--- the place of the first name equal to these bytes
-abbrev pub place_of : List (List ℕ) → List ℕ → Option ℕ
-place_of names name = position (bytes_eq name) names
+use Rattle.name_set.specs.Names.{place_of, are_fresh}
 
 abbrev pub is_among : List (List ℕ) → List ℕ → Bool
 is_among names name = is_some (place_of names name)
-
--- each name stands neither among those before nor earlier in its own list
-abbrev pub are_fresh : List (List ℕ) → List (List ℕ) → Bool
-are_fresh before [] = true
-are_fresh before (name ∷ names) = is_none (place_of before name) && are_fresh (before ++ name ∷ []) names
 
 abbrev pub enumeration_names : ScopeState → List (List ℕ)
 enumeration_names s = map (λ (e : Enumeration). e.name) s.enumerations

@@ -13,7 +13,7 @@ use crate::operate::operate;
 use crate::scope::Scope;
 use crate::term::{Env, Function, Term};
 use std::alloc::Global;
-use text_core::{Items, NoMemory};
+use text_core::{List, NoMemory};
 
 /// Values of variables: those that the caller hands in, or the arguments of a call.
 #[derive(Clone, Copy)]
@@ -48,7 +48,7 @@ fn bound_at(bound: &[Datum], i: u32) -> Datum
 // Where a term is evaluated: the first functions may be called.
 #[derive(Clone, Copy)]
 struct Scene<'a> {
-    functions: &'a Items<Function>,
+    functions: &'a List<Function>,
     upto: usize,
     now: Valuation<'a>,
     later: Valuation<'a>,
@@ -140,10 +140,7 @@ fn inner_value(
 fn append(all: &mut Vec<Datum>, more: &[Datum]) -> Result<(), NoMemory>
     ensures { OnOk result (all.new.items ≡ all.old.items ++ more.now) }
 {
-    match all.extend_from_slice(more) {
-        Ok(()) => Ok(()),
-        Err(_) => Err(NoMemory),
-    }
+    Ok(all.extend_from_slice(more)?)
 }
 
 // What a function gives for these arguments, which are the values of its variables.
@@ -151,7 +148,7 @@ fn append(all: &mut Vec<Datum>, more: &[Datum]) -> Result<(), NoMemory>
 #[inline(never)]
 fn call(
     alloc: Global,
-    functions: &Items<Function>,
+    functions: &List<Function>,
     upto: usize,
     n: u32,
     args: &[Datum],
@@ -194,10 +191,7 @@ fn values(
 fn put(all: &mut Vec<Datum>, d: Datum) -> Result<(), NoMemory>
     ensures { OnOk result (all.new.items ≡ all.old.items ++ d ∷ []) }
 {
-    match all.push(d) {
-        Ok(()) => Ok(()),
-        Err(_) => Err(NoMemory),
-    }
+    Ok(all.push(d)?)
 }
 
 /// A term that has a sort has a value of that sort.

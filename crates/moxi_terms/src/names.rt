@@ -1,13 +1,8 @@
-// Names in the order in which they were declared, found with no scan, and what names stand for.
-ghost use Rattle.std.specs.Prelude.{◌≡◌, true, is_none, ◌++◌, ◌∷◌, ◌≤◌, [], length, take, IfOk, OnErr, if◌then◌else◌};
-ghost use Rattle.moxi_terms.specs.Names.{are_fresh, place_of};
+// What names stand for.
+ghost use Rattle.std.specs.Prelude.{◌≡◌};
 ghost use Rattle.std.specs.Str.{bytes_eq};
 
 use crate::data::{Datum, Sort, TermOp};
-use indexmap::IndexSet;
-use std::alloc::Global;
-use std::marker::Model;
-use text_core::{Name, Names, NoMemory};
 
 /// What a bare name stands for: the number of a bound name or of a variable, each with its sort where it is known, a
 /// constant, or the number of a function without parameters.
@@ -31,93 +26,4 @@ pub fn is_same(name: &[u8], other: &[u8]) -> bool
     ensures { result ≡ bytes_eq name.now other.now }
 {
     name == other
-}
-
-/// Names, each once, seen as their list.
-#[derive(Drop)]
-pub struct Numbering {
-    names: IndexSet<Vec<u8>>,
-}
-
-impl Model for Numbering {
-    ghost use Rattle.std.specs.Prelude.{List, ℕ, map};
-
-    ghost Value = { List (List ℕ) };
-
-    ghost view = { λ d. map (λ name. name.items) d.names.keys };
-}
-
-impl Numbering {
-    /// No names.
-    pub fn new(alloc: Global) -> Numbering
-        ensures { result ≡ [] }
-    {
-        Numbering {
-            names: IndexSet::new(alloc),
-        }
-    }
-
-    pub fn len(&self) -> usize
-        ensures { result ≡ length self.now }
-    {
-        self.names.len()
-    }
-
-    /// The place of this name.
-    pub fn place(&self, name: &[u8]) -> Option<usize>
-        ensures { result ≡ place_of self.now name.now }
-    {
-        self.names.get_index_of(name)
-    }
-
-    /// Declares a name, and says whether it is new. Nothing changes where it isn't, nor where memory is refused.
-    pub fn declare(&mut self, alloc: Global, name: &[u8]) -> Result<bool, NoMemory>
-        ensures fresh { IfOk result (λ fresh. fresh ≡ is_none (place_of self.old name.now)) }
-        ensures names { IfOk result (λ fresh. self.new ≡ (if fresh then self.old ++ name.now ∷ [] else self.old)) }
-        ensures err { OnErr result (self.new ≡ self.old) }
-    {
-        let Ok(key) = Vec::from_slice(alloc, name) else {
-            return Err(NoMemory);
-        };
-        match self.names.insert_full(key) {
-            Ok((_, fresh)) => Ok(fresh),
-            Err(_) => Err(NoMemory),
-        }
-    }
-
-    /// Keeps the first names.
-    pub fn keep(&mut self, count: usize)
-        ensures { self.new ≡ take count self.old }
-    {
-        self.names.truncate(count);
-    }
-
-    /// Declares all of these names, where each is new; else nothing changes, nor where memory is refused.
-    pub fn declare_all(&mut self, alloc: Global, names: &Names) -> Result<bool, NoMemory>
-        ensures fresh { IfOk result (λ fresh. fresh ≡ are_fresh self.old names.now) }
-        ensures names { IfOk result (λ fresh. self.new ≡ (if fresh then self.old ++ names.now else self.old)) }
-        ensures err { OnErr result (self.new ≡ self.old) }
-    {
-        let before = self.len();
-        let result = self.declare_each(alloc, names);
-        match result {
-            Ok(true) => {}
-            Ok(false) | Err(_) => self.keep(before),
-        }
-        result
-    }
-
-    // Declares these names up to the first that isn't new.
-    fn declare_each(&mut self, alloc: Global, names: &Names) -> Result<bool, NoMemory>
-        ensures fresh { IfOk result (λ fresh. fresh ≡ are_fresh self.old names.now) }
-        ensures all { IfOk result (λ fresh. fresh ≡ true → self.new ≡ self.old ++ names.now) }
-        ensures begun { take (length self.old) self.new ≡ self.old }
-    {
-        for i in 0..names.len() {
-            if !self.declare(alloc, names.at(i).bytes())? {
-                return Ok(false);
-            }
-        }
-        Ok(true)
-    }
 }

@@ -2,7 +2,8 @@
 ghost use Rattle.std.specs.Prelude.{◌≡◌, ◌<◌, ◌≤◌, ◌^◌, ◌-◌, ◌+◌, ◌++◌, take, not, length, map, IfOk, OnOk, OnErr, Some, None, if◌then◌else◌, option_and_then, slice_get, IsTrue};
 ghost use Rattle.std.specs.List.{list_any};
 ghost use Rattle.std.specs.Option.{option_map};
-ghost use Rattle.moxi_terms.specs.Names.{all_constants, constant_named, has_room, is_sort_name, is_term_name, may_be_enumeration, no_scope, numbered, or_else, place_of, function_names, sort_named, with_enumeration, with_function, with_sort};
+ghost use Rattle.moxi_terms.specs.Names.{all_constants, constant_named, has_room, is_sort_name, is_term_name, may_be_enumeration, no_scope, numbered, or_else, function_names, sort_named, with_enumeration, with_function, with_sort};
+ghost use Rattle.name_set.specs.Names.{place_of};
 ghost use Rattle.moxi_terms.specs.Meanings.{bare_call, call_of, head_named, value_named};
 ghost use Rattle.moxi_terms.specs.Scopes.{enumeration_now, constants_now, named_sort_now, function_now};
 ghost use Rattle.moxi_terms.specs.Sorted.{IsFunction, IsScope};
@@ -10,25 +11,26 @@ ghost use Rattle.moxi_terms.specs.Sorts.{IsSort};
 ghost use Rattle.moxi_terms.specs.View.{plain_function};
 
 use crate::data::{Datum, Sort};
-use crate::names::{Head, Meaning, Numbering, is_same};
+use crate::names::{Head, Meaning, is_same};
 use crate::term::{Enumeration, Function, NamedSort};
 use crate::words::{is_operator, operator_named};
+use name_set::NameSet;
 use std::alloc::Global;
 use std::marker::Model;
-use text_core::{Items, Name, Names, NoMemory};
+use text_core::{List, Name, Names, NoMemory};
 
 /// The enumerations, sorts and functions of a script, each kind numbered from 0 in the order of adding. It is seen as the
 /// lists of what was added; names are found with no scan.
 #[derive(Drop)]
 pub struct Scope {
     alloc: Global,
-    enumerations: Items<Enumeration>,
-    enumeration_names: Numbering,
-    sorts: Items<NamedSort>,
-    sort_names: Numbering,
-    functions: Items<Function>,
-    function_names: Numbering,
-    constant_names: Numbering,
+    enumerations: List<Enumeration>,
+    enumeration_names: NameSet,
+    sorts: List<NamedSort>,
+    sort_names: NameSet,
+    functions: List<Function>,
+    function_names: NameSet,
+    constant_names: NameSet,
     constant_numbers: Vec<(u32, u32)>,
 }
 
@@ -55,13 +57,13 @@ impl Scope {
     {
         Scope {
             alloc,
-            enumerations: Items::new(alloc),
-            enumeration_names: Numbering::new(alloc),
-            sorts: Items::new(alloc),
-            sort_names: Numbering::new(alloc),
-            functions: Items::new(alloc),
-            function_names: Numbering::new(alloc),
-            constant_names: Numbering::new(alloc),
+            enumerations: List::new(alloc),
+            enumeration_names: NameSet::new(alloc),
+            sorts: List::new(alloc),
+            sort_names: NameSet::new(alloc),
+            functions: List::new(alloc),
+            function_names: NameSet::new(alloc),
+            constant_names: NameSet::new(alloc),
             constant_numbers: Vec::new(alloc),
         }
     }
@@ -214,7 +216,7 @@ impl Scope {
     }
 
     /// The functions. What is declared fits together.
-    pub fn functions(&self) -> &Items<Function>
+    pub fn functions(&self) -> &List<Function>
         ensures functions { map plain_function result.now ≡ self.now.functions }
         ensures scope { IsScope self.now }
     {
@@ -222,14 +224,14 @@ impl Scope {
     }
 
     /// The enumeration sorts.
-    pub fn enumerations(&self) -> &Items<Enumeration>
+    pub fn enumerations(&self) -> &List<Enumeration>
         ensures { result.now ≡ self.now.enumerations }
     {
         &self.enumerations
     }
 
     /// The defined sorts.
-    pub fn sorts(&self) -> &Items<NamedSort>
+    pub fn sorts(&self) -> &List<NamedSort>
         ensures { result.now ≡ self.now.sorts }
     {
         &self.sorts
@@ -351,10 +353,7 @@ fn number_constants(
 {
     numbers.truncate(before);
     for i in 0..constants.len() {
-        match numbers.push((n, i as u32)) {
-            Ok(()) => {}
-            Err(_) => return Err(NoMemory),
-        }
+        numbers.push((n, i as u32))?;
     }
     Ok(())
 }

@@ -1,7 +1,7 @@
 // Terms, and what is declared by name.
 
 use crate::data::{Datum, Sort, TermOp};
-use text_core::{Items, Name, Names};
+use text_core::{List, Name, Names};
 
 /// A term. `Variable(v, primed)` is the variable number v, and `Bound(i)` the i-th name, from 0, that the `let`s around it
 /// bind, the outermost `let` first. A `Let` has as many names as values. `Call(n, ..)` calls the function number n.
@@ -26,7 +26,7 @@ pub struct Variable {
 }
 
 /// A list of variables.
-pub type Variables = Items<Variable>;
+pub type Variables = List<Variable>;
 
 /// An enumeration sort and its constants.
 #[derive(Drop)]
@@ -52,4 +52,4 @@ pub struct Function {
 }
 
 /// A value of each variable.
-pub type Env = Items<Datum>;
+pub type Env = List<Datum>;

@@ -8,7 +8,7 @@ use Rattle.smv_text.specs.declared.tree.Path.{Path}
 use Rattle.smv_text.specs.Tree.{Tree}
 use Rattle.smv_evaluation.specs.declared.rows.Values.{Values}
 use Rattle.smv_evaluation.specs.declared.rows.Row.{Row}
-use Rattle.smv_instances.specs.declared.table.Instance.{Instance as PartOf}
+use Rattle.smv_instances.specs.declared.instances.Instance.{Instance as PartOf}
 use Rattle.smv_meaning.specs.Expressions.{denote, paths_of}
 use Rattle.smv_meaning.specs.Names.{Local, alias, formula, variable_of, inner, nothing, local, Found, variable_at, body_at, instance_at, symbol_of, cyclic, none, found_in}
 use Rattle.smv_meaning.specs.Phases.{Formula}
@@ -19,7 +19,7 @@ use Rattle.smv_evaluation.specs.Rows.{AreGiven, kept_value, row_values, FoundKep
 use Rattle.smv_meaning.specs.Reached.{is_body_of, local_leads_to}
 use Rattle.smv_instances.specs.View.{instance_plain}
 use Rattle.smv_evaluation.specs.View.{stated}
-use Rattle.smv_meaning.proofs.Booleans.{both_true, absurd_bool}
+use Rattle.smv_meaning.specs.laws.Booleans.{both_true, absurd_bool}
 use Rattle.smv_model_laws.proofs.Cycles.{In, in_any, same_is, same_self}
 use Rattle.smv_model_laws.proofs.Ranked.{key, in_keys}
 use Rattle.smv_model_laws.proofs.OrderLaws.{number, bool_cases}

@@ -11,7 +11,7 @@ use Rattle.smv_text.specs.Heights.{list_of}
 use Rattle.smv_text.specs.View.{plain, plain_link, plain_branch}
 use Rattle.smv_meaning.specs.Literals.{words_fit, link_words, branch_words, tree_words}
 use Rattle.smv_meaning.specs.Parts.{expressions_in}
-use Rattle.smv_meaning.proofs.Plain.{plain_branch-at, plain_link-at}
+use Rattle.smv_meaning.specs.laws.Plain.{plain_branch-at, plain_link-at}
 
 true_and : (a b : Bool) → a ≡ true → (a && b) ≡ b
 true_and true b h = refl

@@ -16,11 +16,11 @@ use Rattle.smv_meaning.specs.Phases.{Formula, refers}
 use Rattle.smv_meaning.specs.Settled.{rank_of}
 use Rattle.smv_meaning.specs.Formulas.{formulas_of, number_or, reference_graph, placed_formulas, IsFormulaOrder}
 use Rattle.smv_references.specs.View.{key_of, formula_plain}
-use Rattle.smv_meaning.proofs.Booleans.{both_true, or_true, absurd_bool}
+use Rattle.smv_meaning.specs.laws.Booleans.{both_true, or_true, absurd_bool}
 use Rattle.smv_model_laws.proofs.Cycles.{In, in_all}
 use Rattle.smv_model_laws.proofs.Ranked.{key, keys_of, within_keys}
 use Rattle.smv_model_laws.proofs.OrderLaws.{number, nobody, bool_cases, place_within, place_is, number_to, graph_length, row_at, formulas_are}
-use Rattle.smv_references.proofs.NumberLemmas.{keys_are}
+use Rattle.smv_references.specs.laws.NumberLemmas.{keys_are}
 use Rattle.smv_model_laws.proofs.Settling.{Under, Falls, Descent, found_under, path_refers, ranking, look_settles}
 
 -- ---- places in a list

@@ -14,7 +14,7 @@ use Rattle.smv_meaning.specs.Settled.{is_formula}
 use Rattle.smv_meaning.specs.Formulas.{IsFormulaOrder}
 use Rattle.smv_evaluation.specs.Rows.{is_marked, MarksStart, MarksLeast}
 use Rattle.smv_meaning.specs.Reached.{is_body_of, leads_to, local_leads_to}
-use Rattle.smv_meaning.proofs.Booleans.{both_true, or_true, absurd_bool}
+use Rattle.smv_meaning.specs.laws.Booleans.{both_true, or_true, absurd_bool}
 use Rattle.smv_model_laws.proofs.Cycles.{In, any_in, same_is}
 use Rattle.smv_model_laws.proofs.Ranked.{key, keys_of, in_keys}
 use Rattle.smv_model_laws.proofs.Settling.{Under}

@@ -7,7 +7,7 @@ use Rattle.smv_text.specs.Tree.{Tree, truth, number, literal, name, prefix, chai
 use Rattle.smv_meaning.specs.declared.value.Value.{Value}
 use Rattle.smv_evaluation.specs.declared.rows.Values.{Values}
 use Rattle.smv_evaluation.specs.declared.rows.Row.{Row}
-use Rattle.smv_instances.specs.declared.table.Instance.{Instance as PartOf}
+use Rattle.smv_instances.specs.declared.instances.Instance.{Instance as PartOf}
 use Rattle.smv_meaning.specs.Names.{Found}
 use Rattle.smv_meaning.specs.Meaning.{value_found}
 use Rattle.smv_meaning.specs.Expressions.{denote, paths_of, link_paths, branch_paths, tree_paths}

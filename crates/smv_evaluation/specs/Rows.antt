@@ -1,6 +1,5 @@
 -- What is kept while an expression is evaluated: the values of variables, and of the definitions and actuals that it reaches.
-use Rattle.std.specs.Prelude.{◌≡◌, ℕ, ◌==◌, ◌&&◌, Bool, true, false, List, [], map, Option, Some, None, is_some, bytes_eq}
-use Rattle.std.specs.List.{list_any}
+use Rattle.std.specs.Prelude.{◌≡◌, ℕ, Bool, true, false, List, map, Option, Some, None, is_some, bytes_eq}
 use Rattle.std.specs.Borrow.{Bor}
 use Rattle.std.specs.HashMap.{HashMap, get_by}
 use Rattle.smv_text.specs.declared.tree.Path.{Path}
@@ -12,7 +11,7 @@ use Rattle.smv_evaluation.specs.declared.rows.Values.{Values}
 use Rattle.smv_evaluation.specs.declared.rows.Row.{Row}
 use Rattle.smv_evaluation.specs.declared.reached.Reach.{Reach}
 use Rattle.smv_meaning.specs.Formulas.{placed_formulas, IsFormulaOrder}
-use Rattle.smv_instances.specs.declared.table.Instance.{Instance as PartOf}
+use Rattle.smv_instances.specs.declared.instances.Instance.{Instance as PartOf}
 use Rattle.smv_meaning.specs.Values.{Valuation, no_value}
 use Rattle.smv_meaning.specs.Expressions.{denote}
 use Rattle.smv_meaning.specs.Instances.{Instance, dotted}

@@ -15,7 +15,7 @@ use smv_instances::Instance;
 use smv_text::{Assignments, Branch, Definitions, Element, Elements, Expr, Link, Shape};
 use word_core::Word;
 
-#[tactic(auto, using(smv_meaning::proofs::WordLemmas::literal_is))]
+#[tactic(auto, using(smv_meaning::specs::laws::WordLemmas::literal_is))]
 fn in_literal(word: &Word)
     ensures { IsTrue (is_literal word.now) }
 {
@@ -87,21 +87,19 @@ fn in_expressions(expressions: &[Expr])
     }
 }
 
-#[tactic(auto, using(smv_meaning::proofs::Lists::front_is, smv_meaning::proofs::Lists::end_is))]
 fn in_definitions(definitions: &Definitions)
     ensures { IsTrue (list_all words_fit (of_definitions (map plain_definition definitions.now))) }
 {
-    for k in 0..definitions.len() {
-        in_expression(&definitions.at(k).body);
+    for definition in definitions {
+        in_expression(&definition.body);
     }
 }
 
-#[tactic(auto, using(smv_meaning::proofs::Lists::front_is, smv_meaning::proofs::Lists::end_is))]
 fn in_assignments(assignments: &Assignments)
     ensures { IsTrue (list_all words_fit (of_assignments (map plain_assignment assignments.now))) }
 {
-    for k in 0..assignments.len() {
-        in_expression(&assignments.at(k).body);
+    for assignment in assignments {
+        in_expression(&assignment.body);
     }
 }
 
@@ -120,12 +118,12 @@ fn in_element(element: &Element)
     }
 }
 
-#[tactic(auto, using(smv_meaning::proofs::Lists::front_is, smv_meaning::proofs::Lists::end_is, crate::proofs::LiteralLemmas::elements_front))]
+#[tactic(auto, using(crate::proofs::LiteralLemmas::elements_front))]
 fn in_elements(elements: &Elements)
     ensures { IsTrue (list_all words_fit (flat_map expressions_in (map plain_element elements.now))) }
 {
-    for k in 0..elements.len() {
-        in_element(elements.at(k));
+    for element in elements {
+        in_element(element);
     }
 }
 
@@ -138,11 +136,10 @@ fn in_instance(instance: &Instance)
 }
 
 /// Each word literal of these instances is a word.
-#[tactic(auto, using(smv_meaning::proofs::Lists::front_is, smv_meaning::proofs::Lists::end_is))]
 pub fn literals_are_words(table: &[Instance])
     ensures { IsTrue (all_trees words_fit (map instance_plain table.now)) }
 {
-    for k in 0..table.len() {
-        in_instance(&table[k]);
+    for instance in table {
+        in_instance(instance);
     }
 }

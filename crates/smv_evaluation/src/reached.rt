@@ -18,7 +18,7 @@ use smv_references::{Formula, Ordering, formula_order, formulas_in, paths_in};
 use smv_text::{Expr, Path};
 use std::alloc::Global;
 use std::collections::HashMap;
-use text_core::{Items, NoMemory};
+use text_core::{List, NoMemory};
 
 /// Definitions and actuals by their instance and name.
 pub type Marks<'a> = HashMap<(usize, &'a [u8]), bool>;
@@ -56,8 +56,8 @@ fn mark_all<'a>(
 ) -> Result<(), NoMemory>
     ensures { OnOk result ((k : ℕ) (x : List ℕ) → is_marked marks.new k x ≡ (is_marked marks.old k x || list_any (λ q. is_body_of k x (found_in (map instance_plain table.now) i q)) (map path_seen paths.now))) }
 {
-    for k in 0..paths.len() {
-        mark(table, i, paths[k], marks)?;
+    for path in paths {
+        mark(table, i, *path, marks)?;
     }
     Ok(())
 }
@@ -115,7 +115,7 @@ fn marks_of<'a>(
     alloc: Global,
     table: &Table<'a>,
     formulas: &[Formula<'a>],
-    order: &Items<usize>,
+    order: &List<usize>,
     i: usize,
     e: &'a Expr,
 ) -> Result<Marks<'a>, NoMemory>
@@ -141,14 +141,14 @@ fn order_of<'a>(
     alloc: Global,
     table: &Table<'a>,
     formulas: &[Formula<'a>],
-) -> Result<Items<usize>, NoMemory>
+) -> Result<List<usize>, NoMemory>
     requires formulas { map formula_plain formulas.now ≡ placed_formulas (map instance_plain table.now) }
     requires passing { first_failing (cycle_checks_of (map instance_plain table.now)) ≡ None }
     ensures { IfOk result (IsFormulaOrder (map instance_plain table.now)) }
 {
     match formula_order(alloc, table, formulas)? {
         Ordering::Ordered(order) => Ok(order),
-        Ordering::Cycle(_) => Ok(Items::new(alloc)),
+        Ordering::Cycle(_) => Ok(List::new(alloc)),
     }
 }
 
@@ -157,7 +157,7 @@ fn order_of<'a>(
 #[derive(Drop)]
 pub struct Reach<'a> {
     pub formulas: Vec<Formula<'a>>,
-    pub order: Items<usize>,
+    pub order: List<usize>,
     pub marks: Marks<'a>,
 }
 

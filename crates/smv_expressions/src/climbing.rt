@@ -25,7 +25,7 @@ use smv_grammar::{
 };
 use smv_text::{Joint, Level, Prefix, Reserved, Shape, Sign, Token, TokenKind};
 use std::alloc::Global;
-use text_core::Place;
+use text_core::{FIRST_PLACE, Place};
 
 /// The expression that comes first, and the tokens behind it. It goes on as long as it can.
 pub fn expression<'a>(
@@ -47,11 +47,7 @@ pub fn start(tokens: &[Token]) -> Place
 {
     match tokens.first() {
         Some(token) => token.place,
-        None => Place {
-            line: 1,
-            column: 1,
-            offset: 0,
-        },
+        None => FIRST_PLACE,
     }
 }
 

@@ -18,13 +18,13 @@ use Rattle.smv_text.specs.View.{plain, plain_link, plain_branch}
 use Rattle.smv_meaning.specs.Expressions.{is_implies, are_implies, is_from_right}
 use Rattle.smv_meaning.specs.Types.{ExprType, word_type}
 use Rattle.smv_meaning.specs.Checks.{Position, Named, Typing, single, across, behind, all_types, typing, linked, link_types, condition_types, value_types, tree_types, literal_type, front}
-use Rattle.smv_meaning.proofs.WordLemmas.{literal_is as is_word}
-use Rattle.smv_meaning.proofs.Plain.{plain_branch-at, plain_link-at}
-use Rattle.smv_meaning.proofs.Booleans.{both_true}
-use Rattle.smv_meaning.proofs.Booleans.{absurd_bool}
+use Rattle.smv_meaning.specs.laws.WordLemmas.{literal_is as is_word}
+use Rattle.smv_meaning.specs.laws.Plain.{plain_branch-at, plain_link-at}
+use Rattle.smv_meaning.specs.laws.Booleans.{both_true}
+use Rattle.smv_meaning.specs.laws.Booleans.{absurd_bool}
 use Rattle.smv_types.specs.Steps.{implies_step}
-use Rattle.smv_types.proofs.Composing.{values_then}
-use Rattle.smv_items.proofs.OriginLemmas.{append_none}
+use Rattle.smv_types.specs.laws.Composing.{values_then}
+use Rattle.smv_items.specs.laws.OriginLemmas.{append_none}
 use Rattle.smv_items.specs.FlatItems.{Leaf}
 use Rattle.smv_flat.specs.FlatTree.{FlatTree, flat_link, flat_links_of, flat_branches_of, flat_trees_of, flat_branch, flat_tree_then, flat_tree, flat_links, flat_branches, flat_trees, is_set, has_set}
 use Rattle.smv_flat.specs.FlatView.{fronts_type, chain_type, behind_types}

@@ -1,17 +1,16 @@
 -- A flat expression by the shape of the one from which it is made.
-use Rattle.std.proofs.Common.{◌≡◌, ℕ, ◌≤◌, ◌++◌, ◌∷◌, ◌||◌, [], Bool, true, false, List, drop, length, map, Option, None, option_map, Result, IfOk, Vec, Box, Global, refl, sym, ap, ◌∙◌, subst}
+use Rattle.std.proofs.Common.{◌≡◌, ℕ, ◌≤◌, ◌++◌, ◌∷◌, ◌||◌, [], Bool, true, false, List, drop, length, map, Option, option_map, Result, IfOk, Vec, Box, Global, refl, sym, ap, ◌∙◌, subst}
 use Rattle.std.specs.List.{list_any}
 use Rattle.std.proofs.lemmas.List.{drop_all}
 use Rattle.text_core.specs.declared.errors.NoMemory.{NoMemory}
 use Rattle.smv_text.specs.declared.tree.Path.{Path}
 use Rattle.smv_text.specs.declared.tree.Prefix.{Prefix}
-use Rattle.smv_text.specs.declared.tree.Infix.{Infix}
 use Rattle.smv_text.specs.declared.tree.Function.{Function}
 use Rattle.smv_text.specs.declared.tree.Expr.{Expr}
 use Rattle.smv_text.specs.declared.tree.Link.{Link}
 use Rattle.smv_text.specs.declared.tree.Branch.{Branch}
 use Rattle.smv_text.specs.declared.tree.Shape.TheVariants as OfShape
-use Rattle.smv_text.specs.Tree.{Tree, chain, choice, call, Links, Branches, Trees, links_of, branches_of, trees_of}
+use Rattle.smv_text.specs.Tree.{Tree, chain, choice, call, links_of, branches_of, trees_of}
 use Rattle.smv_text.specs.View.{plain, plain_link, plain_branch}
 use Rattle.smv_meaning.specs.Types.{ExprType, numbers_of}
 use Rattle.smv_meaning.specs.Checks.{Position, Named, single, under_next, across, are_unions, all_types, typing, condition_types, value_types, tree_types}

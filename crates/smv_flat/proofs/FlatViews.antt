@@ -1,5 +1,5 @@
 -- The plain forms of flat parts.
-use Rattle.std.proofs.Common.{◌≡◌, List, [], ◌∷◌, ◌++◌, map, refl, ap, ◌∙◌, rules}
+use Rattle.std.proofs.Common.{◌≡◌, List, [], ◌∷◌, ◌++◌, map, ap, rules}
 use Rattle.smv_flat.specs.declared.expressions.FlatBranch.{FlatBranch, the_lemmas}
 use Rattle.smv_flat.specs.FlatView.{plain_flat, plain_flat_branch}
 

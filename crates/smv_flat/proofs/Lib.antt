@@ -1,4 +1,3 @@
-pub mod FlatSteps
 pub mod FlatMade
 pub mod FlatViews
 pub mod FlatShapes

@@ -1,13 +1,11 @@
 -- The formulas of a model over the numbers of its items: instances in preorder, in each first the bodies in the order of the items,
 -- then assignments and sections in the order of the text.
-use Rattle.std.specs.Prelude.{ℕ, ◌+◌, Bool, true, false, List, [], ◌∷◌, ◌++◌, map, length, flat_map, sum_by}
-use Rattle.smv_text.specs.declared.tree.When.{When}
+use Rattle.std.specs.Prelude.{ℕ, ◌+◌, true, false, List, [], ◌∷◌, ◌++◌, map, length, flat_map}
 use Rattle.smv_text.specs.Tree.{Tree, PlainAssignment, PlainElement, assigns, init, trans, invar, spec, PlainSource}
 use Rattle.smv_meaning.specs.Instances.{Instance, instances_of}
-use Rattle.smv_meaning.specs.Names.{found_in}
 use Rattle.smv_meaning.specs.Checks.{Position}
 use Rattle.smv_meaning.specs.Naming.{in_body}
-use Rattle.smv_meaning.specs.Phases.{in_state, in_step, in_assignment, over_instances, invariants_in}
+use Rattle.smv_meaning.specs.Phases.{in_state, in_step, in_assignment}
 use Rattle.smv_meaning.specs.Settled.{types_in}
 use Rattle.smv_flat.specs.declared.forms.Role.{Role}
 use Rattle.smv_flat.specs.declared.forms.Role.TheVariants.{Body, Assign, Init, Trans, Invar, Invariant}

@@ -1,5 +1,4 @@
 -- What the code's formulas stand for.
-use Rattle.std.specs.Prelude.{ℕ, ◌++◌, List, Option}
 use Rattle.smv_flat.specs.declared.forms.FlatFormula.{FlatFormula}
 use Rattle.smv_flat.specs.FlatForms.{Form}
 use Rattle.smv_flat.specs.FlatView.{plain_flat}

@@ -1,13 +1,12 @@
 -- What flat expressions of the code stand for, and what its nodes are.
-use Rattle.std.specs.Prelude.{◌≡◌, ℕ, Bool, true, false, ◌||◌, if◌then◌else◌, List, [], ◌∷◌, map, Option, None, option_map}
+use Rattle.std.specs.Prelude.{◌≡◌, Bool, true, false, if◌then◌else◌, List, [], ◌∷◌, map, Option, option_map}
 use Rattle.text_core.specs.declared.place.Place.{Place}
 use Rattle.smv_text.specs.declared.tree.Infix.{Infix}
 use Rattle.smv_text.specs.declared.tree.Path.{Path}
-use Rattle.smv_text.specs.Tree.{Tree, Links, no_links, link, Branches, Trees}
+use Rattle.smv_text.specs.Tree.{Links, no_links, link}
 use Rattle.smv_meaning.specs.Expressions.{is_from_right}
 use Rattle.smv_meaning.specs.Types.{ExprType}
 use Rattle.smv_meaning.specs.Checks.{Position, Named, behind, all_types, typing}
-use Rattle.smv_intervals.specs.declared.types.Ty.{Ty}
 use Rattle.smv_intervals.specs.View.{seen}
 use Rattle.smv_types.specs.Steps.{front_step, implies_step}
 use Rattle.smv_flat.specs.declared.expressions.FlatExpr.{FlatExpr, FlatExpr-F, fold-FlatExpr}

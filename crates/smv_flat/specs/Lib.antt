@@ -2,3 +2,4 @@ pub mod FlatTree
 pub mod FlatForms
 pub mod FlatView
 pub mod FlatFormulas
+pub mod laws

@@ -8,10 +8,11 @@ ghost use Rattle.smv_types.specs.View.{named_seen, standing_seen};
 ghost use Rattle.smv_types.specs.Steps.{number_step, name_step, next_step, range_step};
 ghost use Rattle.smv_flat.specs.FlatTree.{FlatTree, flat_truth, flat_number, flat_literal, flat_range, leaf_tree, flat_tree, flat_links, flat_branches, flat_trees, is_set, has_set};
 ghost use Rattle.smv_instances.specs.View.{instance_plain};
-ghost use Rattle.smv_items.specs.FlatItems.{origins_of, symbols_of, leaf_in};
-ghost use Rattle.smv_items.specs.FlatOrigins.{leaf_plain, AreNumbers};
+ghost use Rattle.smv_items.specs.FlatItems.{leaf_in};
+ghost use Rattle.smv_items.specs.FlatOrigins.{leaf_plain};
 ghost use Rattle.smv_flat.specs.FlatView.{IsNode, AreOperands, AreParts, AreCases, behind_types};
 
+use crate::context::Context;
 use crate::expressions::{FlatExpr, FlatShape};
 use crate::naming::Naming;
 use crate::node_types::{name_type, next_type, number_type, range_type};
@@ -19,9 +20,8 @@ use crate::nodes::{
     Cases, Operands, Parts, Typed, add_branch, add_link, add_part, called, cased, chained, chosen,
     gathered, prefixed, selected,
 };
-use smv_instances::Table;
 use smv_intervals::Ty;
-use smv_items::{Leaf, Numbers, Symbols, leaf_at};
+use smv_items::Leaf;
 use smv_text::{Branch, Expr, Link, Shape};
 use smv_types::chains::{across, behind};
 use smv_types::lists::BranchTypes;
@@ -109,20 +109,15 @@ fn next_node(place: Place, at: Standing, operand: Typed) -> Typed
 
 /// The flat form of an expression that stands at such a place in the numbered instance.
 #[cycle(flat_form)]
-pub fn flat<'a, 'n, N: Naming>(
+pub(crate) fn flat<'s, 'a, 'n, N: Naming>(
     alloc: Global,
-    names: &N,
-    table: &Table<'a>,
-    numbers: &Numbers<'a, 'n>,
-    symbols: &Symbols,
+    context: &Context<'s, 'a, 'n, N>,
     i: usize,
     e: &'a Expr,
     at: Standing,
     under: bool,
 ) -> Result<Typed, NoMemory>
-    requires numbers { AreNumbers (map instance_plain table.now) (origins_of (map instance_plain table.now)) numbers.now }
-    requires symbols { symbols.now ≡ symbols_of (map instance_plain table.now) }
-    ensures { IfOk result (λ x. IsNode x (flat_tree (N.names names.now i) (leaf_in (map instance_plain table.now) i) (standing_seen at) under (plain e.now)) (typing (N.names names.now i) (standing_seen at) (plain e.now)).type (is_set (plain e.now))) }
+    ensures { IfOk result (λ x. IsNode x (flat_tree (N.names context.now.naming.now i) (leaf_in (map instance_plain context.now.table.now) i) (standing_seen at) under (plain e.now)) (typing (N.names context.now.naming.now i) (standing_seen at) (plain e.now)).type (is_set (plain e.now))) }
 {
     let place = e.place;
     match &e.shape {
@@ -131,114 +126,44 @@ pub fn flat<'a, 'n, N: Naming>(
         Shape::Number(n) => Ok(number_node(place, *n)),
         Shape::Literal(word) => Ok(literal_node(word)),
         Shape::Name(path) => {
-            let leaf = leaf_at(alloc, table, numbers, symbols, i, path)?;
-            Ok(name_node(place, at, names.named(i, path), leaf, under))
+            let leaf = context.leaf(alloc, i, path)?;
+            Ok(name_node(place, at, context.naming.named(i, path), leaf, under))
         }
         Shape::Prefix(sign, count, operand) => {
-            let x = flat(
-                alloc,
-                names,
-                table,
-                numbers,
-                symbols,
-                i,
-                operand,
-                at.single(),
-                under,
-            )?;
+            let x = flat(alloc, context, i, operand, at.single(), under)?;
             prefixed(alloc, place, *sign, *count, x)
         }
         Shape::Chain(first, links) => {
             let links = links.as_slice();
             let at = across(links, at);
-            let x = flat(alloc, names, table, numbers, symbols, i, first, at, under)?;
-            let operands = flat_links(alloc, names, table, numbers, symbols, i, links, at, under)?;
+            let x = flat(alloc, context, i, first, at, under)?;
+            let operands = flat_links(alloc, context, i, links, at, under)?;
             chained(alloc, place, at, x, links, operands)
         }
         Shape::Choice(branches, last) => {
-            let cases = flat_branches(
-                alloc,
-                names,
-                table,
-                numbers,
-                symbols,
-                i,
-                branches.as_slice(),
-                at,
-                under,
-            )?;
-            let x = flat(alloc, names, table, numbers, symbols, i, last, at, under)?;
+            let cases = flat_branches(alloc, context, i, branches.as_slice(), at, under)?;
+            let x = flat(alloc, context, i, last, at, under)?;
             chosen(alloc, place, cases, x)
         }
         Shape::Case(branches) => {
-            let cases = flat_branches(
-                alloc,
-                names,
-                table,
-                numbers,
-                symbols,
-                i,
-                branches.as_slice(),
-                at,
-                under,
-            )?;
+            let cases = flat_branches(alloc, context, i, branches.as_slice(), at, under)?;
             cased(alloc, place, cases)
         }
         Shape::Select(operand, high, low) => {
-            let x = flat(
-                alloc,
-                names,
-                table,
-                numbers,
-                symbols,
-                i,
-                operand,
-                at.single(),
-                under,
-            )?;
+            let x = flat(alloc, context, i, operand, at.single(), under)?;
             selected(alloc, place, x, *high, *low)
         }
         Shape::Call(function, arguments) => {
             let arguments = arguments.as_slice();
-            let parts = flat_parts(
-                alloc,
-                names,
-                table,
-                numbers,
-                symbols,
-                i,
-                arguments,
-                at.single(),
-                under,
-            )?;
+            let parts = flat_parts(alloc, context, i, arguments, at.single(), under)?;
             called(alloc, place, *function, arguments, parts)
         }
         Shape::Next(operand) => {
-            let x = flat(
-                alloc,
-                names,
-                table,
-                numbers,
-                symbols,
-                i,
-                operand,
-                Standing::under_next(),
-                true,
-            )?;
+            let x = flat(alloc, context, i, operand, Standing::under_next(), true)?;
             Ok(next_node(place, at, x))
         }
         Shape::Set(elements) => {
-            let parts = flat_parts(
-                alloc,
-                names,
-                table,
-                numbers,
-                symbols,
-                i,
-                elements.as_slice(),
-                at,
-                under,
-            )?;
+            let parts = flat_parts(alloc, context, i, elements.as_slice(), at, under)?;
             gathered(alloc, place, at, parts)
         }
         Shape::Range(low, high) => Ok(range_node(place, at, *low, *high)),
@@ -246,57 +171,37 @@ pub fn flat<'a, 'n, N: Naming>(
 }
 
 #[cycle(flat_form)]
-fn flat_links<'a, 'n, N: Naming>(
+fn flat_links<'s, 'a, 'n, N: Naming>(
     alloc: Global,
-    names: &N,
-    table: &Table<'a>,
-    numbers: &Numbers<'a, 'n>,
-    symbols: &Symbols,
+    context: &Context<'s, 'a, 'n, N>,
     i: usize,
     links: &'a [Link],
     at: Standing,
     under: bool,
 ) -> Result<Operands, NoMemory>
-    requires numbers { AreNumbers (map instance_plain table.now) (origins_of (map instance_plain table.now)) numbers.now }
-    requires symbols { symbols.now ≡ symbols_of (map instance_plain table.now) }
-    ensures { IfOk result (λ x. AreOperands x (flat_links (N.names names.now i) (leaf_in (map instance_plain table.now) i) (standing_seen at) under (links_of (map plain_link links.now))) (behind_types (N.names names.now i) (standing_seen at) (links_of (map plain_link links.now)))) }
+    ensures { IfOk result (λ x. AreOperands x (flat_links (N.names context.now.naming.now i) (leaf_in (map instance_plain context.now.table.now) i) (standing_seen at) under (links_of (map plain_link links.now))) (behind_types (N.names context.now.naming.now i) (standing_seen at) (links_of (map plain_link links.now)))) }
 {
     let mut operands = Operands {
         links: Vec::new(alloc),
         types: Vec::new(alloc),
     };
     for link in links {
-        let x = flat(
-            alloc,
-            names,
-            table,
-            numbers,
-            symbols,
-            i,
-            &link.operand,
-            behind(link.op, at),
-            under,
-        )?;
+        let x = flat(alloc, context, i, &link.operand, behind(link.op, at), under)?;
         add_link(&mut operands, link.op, x)?;
     }
     Ok(operands)
 }
 
 #[cycle(flat_form)]
-fn flat_branches<'a, 'n, N: Naming>(
+fn flat_branches<'s, 'a, 'n, N: Naming>(
     alloc: Global,
-    names: &N,
-    table: &Table<'a>,
-    numbers: &Numbers<'a, 'n>,
-    symbols: &Symbols,
+    context: &Context<'s, 'a, 'n, N>,
     i: usize,
     branches: &'a [Branch],
     at: Standing,
     under: bool,
 ) -> Result<Cases, NoMemory>
-    requires numbers { AreNumbers (map instance_plain table.now) (origins_of (map instance_plain table.now)) numbers.now }
-    requires symbols { symbols.now ≡ symbols_of (map instance_plain table.now) }
-    ensures { IfOk result (λ x. AreCases x (flat_branches (N.names names.now i) (leaf_in (map instance_plain table.now) i) (standing_seen at) under (branches_of (map plain_branch branches.now))) (condition_types (N.names names.now i) (single (standing_seen at)) (branches_of (map plain_branch branches.now))) (value_types (N.names names.now i) (standing_seen at) (branches_of (map plain_branch branches.now)) []) (has_set (branches_of (map plain_branch branches.now)))) }
+    ensures { IfOk result (λ x. AreCases x (flat_branches (N.names context.now.naming.now i) (leaf_in (map instance_plain context.now.table.now) i) (standing_seen at) under (branches_of (map plain_branch branches.now))) (condition_types (N.names context.now.naming.now i) (single (standing_seen at)) (branches_of (map plain_branch branches.now))) (value_types (N.names context.now.naming.now i) (standing_seen at) (branches_of (map plain_branch branches.now)) []) (has_set (branches_of (map plain_branch branches.now)))) }
 {
     let mut cases = Cases {
         branches: Vec::new(alloc),
@@ -307,55 +212,30 @@ fn flat_branches<'a, 'n, N: Naming>(
         has_set: false,
     };
     for branch in branches {
-        let when = flat(
-            alloc,
-            names,
-            table,
-            numbers,
-            symbols,
-            i,
-            &branch.when,
-            at.single(),
-            under,
-        )?;
-        let value = flat(
-            alloc,
-            names,
-            table,
-            numbers,
-            symbols,
-            i,
-            &branch.value,
-            at,
-            under,
-        )?;
+        let when = flat(alloc, context, i, &branch.when, at.single(), under)?;
+        let value = flat(alloc, context, i, &branch.value, at, under)?;
         add_branch(&mut cases, when, value)?;
     }
     Ok(cases)
 }
 
 #[cycle(flat_form)]
-fn flat_parts<'a, 'n, N: Naming>(
+fn flat_parts<'s, 'a, 'n, N: Naming>(
     alloc: Global,
-    names: &N,
-    table: &Table<'a>,
-    numbers: &Numbers<'a, 'n>,
-    symbols: &Symbols,
+    context: &Context<'s, 'a, 'n, N>,
     i: usize,
     parts: &'a [Expr],
     at: Standing,
     under: bool,
 ) -> Result<Parts, NoMemory>
-    requires numbers { AreNumbers (map instance_plain table.now) (origins_of (map instance_plain table.now)) numbers.now }
-    requires symbols { symbols.now ≡ symbols_of (map instance_plain table.now) }
-    ensures { IfOk result (λ x. AreParts x (flat_trees (N.names names.now i) (leaf_in (map instance_plain table.now) i) (standing_seen at) under (trees_of (map plain parts.now))) (tree_types (N.names names.now i) (standing_seen at) (trees_of (map plain parts.now)))) }
+    ensures { IfOk result (λ x. AreParts x (flat_trees (N.names context.now.naming.now i) (leaf_in (map instance_plain context.now.table.now) i) (standing_seen at) under (trees_of (map plain parts.now))) (tree_types (N.names context.now.naming.now i) (standing_seen at) (trees_of (map plain parts.now)))) }
 {
     let mut all = Parts {
         exprs: Vec::new(alloc),
         types: Vec::new(alloc),
     };
     for part in parts {
-        let x = flat(alloc, names, table, numbers, symbols, i, part, at, under)?;
+        let x = flat(alloc, context, i, part, at, under)?;
         add_part(&mut all, x)?;
     }
     Ok(all)

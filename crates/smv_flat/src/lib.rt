@@ -1,6 +1,7 @@
 //! The flat form of SMV models: formulas over the numbers of items and symbols, each node with its type.
 #![tactic(auto)]
 
+mod context;
 mod expressions;
 mod flat;
 mod forms;

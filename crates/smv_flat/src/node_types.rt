@@ -92,7 +92,7 @@ fn front_type(
 }
 
 // The type of a chain that is read from the left, front by front.
-#[tactic(auto, using(smv_items::proofs::Lists::front_is, smv_items::proofs::Lists::end_is))]
+#[tactic(auto, using(smv_items::specs::laws::Lists::front_is, smv_items::specs::laws::Lists::end_is))]
 pub(crate) fn fronts_type(
     at: Standing,
     place: Place,
@@ -132,10 +132,7 @@ pub(crate) fn implies_type(
 fn put(types: &mut Vec<Option<Ty>>, ty: Option<Ty>) -> Result<(), NoMemory>
     ensures { IfOk result (λ u. types.new.items ≡ types.old.items ++ ty ∷ []) }
 {
-    match types.push(ty) {
-        Ok(()) => Ok(()),
-        Err(_) => Err(NoMemory),
-    }
+    Ok(types.push(ty)?)
 }
 
 pub(crate) fn branches_type(

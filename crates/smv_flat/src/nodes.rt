@@ -57,10 +57,7 @@ pub struct Cases {
 fn boxed(alloc: Global, expr: FlatExpr) -> Result<Box<FlatExpr>, NoMemory>
     ensures { IfOk result (λ b. b.value ≡ expr) }
 {
-    match Box::new(alloc, expr) {
-        Ok(own) => Ok(own),
-        Err(_) => Err(NoMemory),
-    }
+    Ok(Box::new(alloc, expr)?)
 }
 
 // What doesn't fit 32 bits stands in no accepted model.
@@ -163,20 +160,29 @@ pub fn chained(
     })
 }
 
+// The type of a choice, given those of its branches and of what stands behind its last colon.
+fn choice_type(
+    alloc: Global,
+    place: Place,
+    mut types: BranchTypes,
+    last: Option<Ty>,
+) -> Result<Option<Ty>, NoMemory>
+    ensures { IfOk result (λ o. option_map seen o ≡ (branches_step place (all_types (map (option_map seen) types.conditions.items)) (all_types (map (option_map seen) types.values.items ++ option_map seen last ∷ []))).type) }
+{
+    types.values.push(last)?;
+    branches_type(alloc, place, &types)
+}
+
 /// A choice, with what stands behind its last colon.
 pub fn chosen(alloc: Global, place: Place, cases: Cases, last: Typed) -> Result<Typed, NoMemory>
     ensures { (bs : PlainBranches) (cs vs : List (Option ExprType)) (some : Bool) (tree : FlatTree) (type : Option ExprType) (set : Bool) → AreCases cases bs cs vs some → IsNode last tree type set → IfOk result (λ x. IsNode x (flat_choice (unless_set (some || set) (branches_step place (all_types cs) (all_types (vs ++ type ∷ []))).type) bs tree) (branches_step place (all_types cs) (all_types (vs ++ type ∷ []))).type (some || set)) }
 {
     let Cases {
         branches,
-        mut types,
+        types,
         has_set,
     } = cases;
-    match types.values.push(last.ty) {
-        Ok(()) => {}
-        Err(_) => return Err(NoMemory),
-    }
-    let ty = branches_type(alloc, place, &types)?;
+    let ty = choice_type(alloc, place, types, last.ty)?;
     let is_set = has_set || last.is_set;
     let inner = boxed(alloc, last.expr)?;
     let shape = FlatShape::Choice(branches, inner);
@@ -244,17 +250,12 @@ pub fn add_link(operands: &mut Operands, op: Infix, operand: Typed) -> Result<()
     ensures links { OnOk result (map plain_flat_link operands.new.links.items ≡ map plain_flat_link operands.old.links.items ++ (op, plain_flat operand.expr) ∷ []) }
     ensures types { OnOk result (map (option_map seen) operands.new.types.items ≡ map (option_map seen) operands.old.types.items ++ option_map seen operand.ty ∷ []) }
 {
-    match operands.types.push(operand.ty) {
-        Ok(()) => {}
-        Err(_) => return Err(NoMemory),
-    }
-    match operands.links.push(FlatLink {
+    operands.types.push(operand.ty)?;
+    let link = FlatLink {
         op,
         operand: operand.expr,
-    }) {
-        Ok(()) => Ok(()),
-        Err(_) => Err(NoMemory),
-    }
+    };
+    Ok(operands.links.push(link)?)
 }
 
 /// Puts an argument or an element at the end.
@@ -262,14 +263,8 @@ pub fn add_part(parts: &mut Parts, part: Typed) -> Result<(), NoMemory>
     ensures exprs { OnOk result (map plain_flat parts.new.exprs.items ≡ map plain_flat parts.old.exprs.items ++ plain_flat part.expr ∷ []) }
     ensures types { OnOk result (map (option_map seen) parts.new.types.items ≡ map (option_map seen) parts.old.types.items ++ option_map seen part.ty ∷ []) }
 {
-    match parts.types.push(part.ty) {
-        Ok(()) => {}
-        Err(_) => return Err(NoMemory),
-    }
-    match parts.exprs.push(part.expr) {
-        Ok(()) => Ok(()),
-        Err(_) => Err(NoMemory),
-    }
+    parts.types.push(part.ty)?;
+    Ok(parts.exprs.push(part.expr)?)
 }
 
 fn either(a: bool, b: bool) -> bool
@@ -286,14 +281,8 @@ pub fn add_branch(cases: &mut Cases, when: Typed, value: Typed) -> Result<(), No
     ensures set { OnOk result (cases.new.has_set ≡ (cases.old.has_set || value.is_set)) }
 {
     cases.has_set = either(cases.has_set, value.is_set);
-    match cases.types.conditions.push(when.ty) {
-        Ok(()) => {}
-        Err(_) => return Err(NoMemory),
-    }
-    match cases.types.values.push(value.ty) {
-        Ok(()) => {}
-        Err(_) => return Err(NoMemory),
-    }
+    cases.types.conditions.push(when.ty)?;
+    cases.types.values.push(value.ty)?;
     push_branch(&mut cases.branches, when.expr, value.expr)
 }
 
@@ -301,8 +290,5 @@ pub fn add_branch(cases: &mut Cases, when: Typed, value: Typed) -> Result<(), No
 fn push_branch(branches: &mut FlatBranches, when: FlatExpr, value: FlatExpr) -> Result<(), NoMemory>
     ensures { OnOk result (map plain_flat_branch branches.new.items ≡ map plain_flat_branch branches.old.items ++ (plain_flat when, plain_flat value) ∷ []) }
 {
-    match branches.push(FlatBranch { when, value }) {
-        Ok(()) => Ok(()),
-        Err(_) => Err(NoMemory),
-    }
+    Ok(branches.push(FlatBranch { when, value })?)
 }

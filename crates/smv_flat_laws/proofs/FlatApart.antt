@@ -1,5 +1,5 @@
 -- What an expression whose checks hold denotes hangs on inputs and on the following state only where its position allows them.
-use Rattle.std.proofs.Common.{◌≡◌, ℕ, zero, suc, Bool, true, false, not, ◌&&◌, ◌||◌, if◌then◌else◌, List, [], ◌∷◌, ◌++◌, Option, refl, sym, ap, ◌∙◌}
+use Rattle.std.proofs.Common.{◌≡◌, ℕ, zero, suc, Bool, true, false, not, ◌&&◌, ◌||◌, if◌then◌else◌, List, [], ◌∷◌, ◌++◌, refl, sym, ap, ◌∙◌}
 use mathlib.Core.Logic.{inl, inr}
 use Rattle.std.specs.List.{list_any}
 use Rattle.text_core.specs.declared.place.Place.{Place}
@@ -15,11 +15,10 @@ use Rattle.smv_meaning.specs.Operators.{implied, signed, selected, called}
 use Rattle.smv_meaning.specs.Expressions.{Denotation, alone, set_of, joined, is_from_right, is_last, denote, implications, linked as linked_values, chosen, taken, values_of, one_permits, paths_of}
 use Rattle.smv_meaning.specs.Names.{Found, variable_at, body_at, instance_at, symbol_of, cyclic, none}
 use Rattle.smv_meaning.specs.Meaning.{is_input, value_found, reading}
-use Rattle.smv_meaning.specs.Types.{ExprType}
-use Rattle.smv_meaning.specs.Checks.{Check, passes, Position, single, with_sets, under_next, Named, Typing, front, across, behind, are_unions, typing, link_checks, linked, branch_checks, tree_checks}
+use Rattle.smv_meaning.specs.Checks.{Position, single, under_next, Named, Typing, front, across, behind, are_unions, typing, link_checks, linked, branch_checks, tree_checks}
 use Rattle.smv_meaning.specs.Naming.{named_found, naming}
-use Rattle.smv_meaning.proofs.Booleans.{both_true}
-use Rattle.smv_meaning.proofs.Booleans.{absurd_bool}
+use Rattle.smv_meaning.specs.laws.Booleans.{both_true}
+use Rattle.smv_meaning.specs.laws.Booleans.{absurd_bool}
 use Rattle.smv_model_laws.proofs.Cycles.{In}
 use Rattle.smv_model_laws.proofs.Agreeing.{denote_same}
 use Rattle.smv_model_laws.proofs.Typable.{split, Holds, linked_front, front_parts}

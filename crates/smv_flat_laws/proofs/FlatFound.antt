@@ -1,5 +1,5 @@
 -- What a path leads to has an item, or is a symbol.
-use Rattle.std.proofs.Common.{◌≡◌, ℕ, zero, suc, ◌+◌, ◌<◌, Bool, true, false, not, ◌&&◌, ◌||◌, ◌==◌, nat_lt, cond, if◌then◌else◌, List, [], ◌∷◌, ◌++◌, map, length, position, flat_map, Option, Some, None, bytes_eq, refl, sym, ap, ◌∙◌, subst, arith}
+use Rattle.std.proofs.Common.{◌≡◌, ℕ, zero, suc, ◌+◌, ◌<◌, Bool, true, false, ◌&&◌, ◌||◌, ◌==◌, if◌then◌else◌, List, [], ◌∷◌, ◌++◌, map, position, flat_map, Option, Some, None, bytes_eq, refl, sym, ap, ◌∙◌, subst, arith}
 use mathlib.Core.Logic.{◌⊎◌, inl, inr, ⊎_elim}
 use Rattle.std.specs.List.{slice_get, list_any}
 use Rattle.std.proofs.lemmas.Bool.{eqb-true, eq-eqb}
@@ -11,11 +11,10 @@ use Rattle.smv_text.specs.declared.tree.VarKind.TheVariants as OfVarKind
 use Rattle.smv_text.specs.declared.tree.Member.{Member}
 use Rattle.smv_text.specs.declared.tree.Member.TheVariants as OfMember
 use Rattle.smv_text.specs.Tree.{Tree, truth, number, literal, name, prefix, chain, choice, cases, select, call, next, set, range, Trees, no_trees, tree, PlainDomain, boolean, members, between, bits, instance, PlainItem, PlainDefinition, PlainElement, vars, defines, constants, assigns, init, trans, invar, spec}
-use Rattle.smv_meaning.specs.Instances.{Instance, dotted, is_one_of}
+use Rattle.smv_meaning.specs.Instances.{Instance, is_one_of}
 use Rattle.smv_meaning.specs.Names.{Local, alias, formula, variable_of, inner, nothing, of_actual, of_domain, among_items, among_definitions, among_elements, among_parameters, parent_of, local_in, local, Found, variable_at, body_at, instance_at, symbol_of, cyclic, none, at_child, is_child, onward, is_end, walk, is_symbol, domain_has, item_has, element_has, instance_has, has_symbol, symbol_or_none, single, through, resolved, landed, look, steps_of, found_in, dotted_at}
-use Rattle.smv_meaning.specs.Meaning.{is_input}
 use Rattle.smv_meaning.specs.Phases.{over_instances}
-use Rattle.smv_items.specs.FlatItems.{Content, variable, definition, actual, Origin, with_content, actual_content, actual_items, domain_content, variable_item, definition_item, element_items, items_here, origins_of, member_symbols, domain_symbols, element_symbols, gathered, symbols_of, is_variable_as, is_body, path_of, is_item}
+use Rattle.smv_items.specs.FlatItems.{Content, variable, definition, actual, Origin, with_content, actual_content, actual_items, domain_content, variable_item, definition_item, element_items, items_here, origins_of, member_symbols, domain_symbols, element_symbols, gathered, symbols_of, is_variable_as, is_body, path_of}
 use Rattle.smv_flat_laws.proofs.FlatPlaces.{first, At, first_at, first_left, first_right, any_left, any_right, none_joined, any_first}
 
 -- ---- bodies

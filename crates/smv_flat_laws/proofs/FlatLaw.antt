@@ -1,5 +1,5 @@
 -- The flat form of an accepted model has the truth of the model.
-use Rattle.std.proofs.Common.{◌≡◌, Bool, true, ◌&&◌, List, [], ◌∷◌, ◌++◌, refl}
+use Rattle.std.proofs.Common.{◌≡◌, true, List, [], ◌∷◌, ◌++◌, refl}
 use Rattle.std.specs.List.{list_all}
 use Rattle.smv_meaning.specs.Instances.{instances_of}
 use Rattle.smv_meaning.specs.Names.{found_in}
@@ -7,7 +7,7 @@ use Rattle.smv_meaning.specs.Checks.{passes}
 use Rattle.smv_meaning.specs.Phases.{module_checks, declaration_checks, size_checks, later_checks, Assigned, is_assignable, assigned_checks, over_instances, assignment_checks}
 use Rattle.smv_meaning.specs.Settled.{cycle_checks_of}
 use Rattle.smv_meaning.specs.Checked.{path_checks_of, type_checks_of}
-use Rattle.smv_meaning.proofs.Booleans.{both_true, two_true}
+use Rattle.smv_meaning.specs.laws.Booleans.{both_true, two_true}
 use Rattle.smv_model_laws.proofs.Ranked.{cycles_are_checked_law}
 use Rattle.smv_model_laws.proofs.Typable.{split}
 use Rattle.smv_model_laws.proofs.SafeExpressions.{accepted_is_checked_law}

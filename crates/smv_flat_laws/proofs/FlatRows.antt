@@ -1,6 +1,6 @@
 -- Each state and label has one row.
-use Rattle.std.proofs.Common.{◌≡◌, ℕ, zero, suc, ◌+◌, ◌<◌, Bool, true, false, not, ◌&&◌, ◌||◌, if◌then◌else◌, List, [], ◌∷◌, ◌++◌, map, length, position, flat_map, Option, Some, None, option_map, bytes_eq, refl, sym, ap, ◌∙◌, subst, arith}
-use Rattle.std.specs.List.{slice_get, list_any}
+use Rattle.std.proofs.Common.{◌≡◌, ℕ, zero, suc, ◌+◌, ◌<◌, true, false, if◌then◌else◌, List, [], ◌∷◌, ◌++◌, map, length, flat_map, Option, Some, None, option_map, bytes_eq, refl, sym, ap, ◌∙◌, subst, arith}
+use Rattle.std.specs.List.{slice_get}
 use Rattle.std.proofs.lemmas.List.{length-map}
 use Rattle.std.proofs.lemmas.Option.{slice_get-map}
 use Rattle.std.proofs.lemmas.Slice.Eq.{bytes_eq-Decides}
@@ -10,25 +10,22 @@ use Rattle.smv_text.specs.declared.tree.VarKind.TheVariants as OfVarKind
 use Rattle.smv_text.specs.Tree.{Tree, PlainDomain, PlainAssignment, PlainElement, vars, defines, constants, assigns, init, trans, invar, spec}
 use Rattle.smv_meaning.specs.declared.value.Value.{Value}
 use Rattle.smv_meaning.specs.declared.value.Value.TheVariants.{Symbol}
-use Rattle.smv_meaning.specs.Values.{Valuation, no_value}
-use Rattle.smv_meaning.specs.Expressions.{Denotation, denote, paths_of}
+use Rattle.smv_meaning.specs.Values.{Valuation}
+use Rattle.smv_meaning.specs.Expressions.{Denotation, denote}
 use Rattle.smv_meaning.specs.Instances.{Instance}
-use Rattle.smv_meaning.specs.Names.{Found, variable_at, body_at, instance_at, symbol_of, cyclic, none, local, formula, has_symbol, found_in, dotted_at}
+use Rattle.smv_meaning.specs.Names.{Found, variable_at, body_at, instance_at, symbol_of, cyclic, none, found_in, dotted_at}
 use Rattle.smv_meaning.specs.Meaning.{is_input, value_found}
 use Rattle.smv_meaning.specs.Naming.{in_body}
 use Rattle.smv_meaning.specs.Phases.{over_instances}
 use Rattle.smv_meaning.specs.Settled.{Acyclic, values_in, types_in}
 use Rattle.smv_model_laws.proofs.Agreeing.{denote_same}
 use Rattle.smv_model_laws.proofs.Settling.{values_settle_law, values_are_one_law}
-use Rattle.smv_items.specs.declared.items.ItemKind.{ItemKind}
-use Rattle.smv_items.specs.FlatItems.{Leaf, of_item, of_symbol, of_nothing, Content, variable, definition, actual, Origin, items_here, origins_of, symbols_of, is_variable_as, is_body, path_of, is_item, item_leaf, symbol_leaf, leaf_found, leaf_in, kind_of, PlainFlatItem, flat_item_of}
-use Rattle.smv_flat.specs.FlatTree.{FlatTree, flat_tree}
-use Rattle.smv_flat.specs.FlatForms.{Form, flat_in, content_form, body_forms, assignment_form, element_forms, forms_here, forms_from, forms_of, PlainFlat, flat_of}
-use Rattle.smv_flat_laws.specs.FlatTruth.{Row, symbol_or_none, symbol_value, form_denotes, GivesKind, GivesItem, MeetsRole, MeetsForms, IsRow}
+use Rattle.smv_items.specs.FlatItems.{Leaf, Content, variable, definition, actual, Origin, items_here, origins_of, symbols_of, is_variable_as, path_of, item_leaf, symbol_leaf, leaf_found, leaf_in, kind_of, flat_item_of}
+use Rattle.smv_flat.specs.FlatForms.{Form, flat_in, content_form, body_forms, assignment_form, element_forms, forms_here, forms_from, PlainFlat, flat_of}
+use Rattle.smv_flat_laws.specs.FlatTruth.{Row, symbol_or_none, symbol_value, form_denotes, GivesKind, GivesItem, MeetsForms, IsRow}
 use Rattle.smv_flat_laws.specs.FlatLaws.{content_value, origin_value, row_of, RowIsThere, RowIsOne}
-use Rattle.smv_flat_laws.proofs.FlatSame.{leaf_value, reads, flat_same}
-use Rattle.smv_flat_laws.proofs.FlatPlaces.{At}
-use Rattle.smv_flat_laws.proofs.FlatFound.{body_in, body_of, pair, is_body_of, body_at_item, is_variable_of, variable_at_item, Home, home_found, symbol_at, both}
+use Rattle.smv_flat_laws.proofs.FlatSame.{leaf_value, flat_same}
+use Rattle.smv_flat_laws.proofs.FlatFound.{body_in, pair, body_at_item, variable_at_item, Home, home_found, symbol_at, both}
 
 -- ---- what holds of each item, from a number on
 

@@ -1,7 +1,6 @@
 -- A flat expression denotes what the one does from which it was made.
-use Rattle.std.proofs.Common.{◌≡◌, ℕ, Bool, true, false, ◌&&◌, ◌||◌, if◌then◌else◌, List, [], ◌∷◌, Option, refl, ap, ◌∙◌}
+use Rattle.std.proofs.Common.{◌≡◌, ℕ, Bool, true, false, ◌&&◌, ◌||◌, if◌then◌else◌, List, ◌∷◌, Option, refl, ap, ◌∙◌}
 use Rattle.smv_text.specs.declared.tree.Path.{Path}
-use Rattle.smv_text.specs.declared.tree.Infix.{Infix}
 use Rattle.smv_text.specs.Tree.{Tree, truth, number, literal, name, prefix, chain, choice, cases, select, call, next, set, range, Links, no_links, link, Branches, no_branches, branch, Trees, no_trees, tree}
 use Rattle.smv_meaning.specs.declared.value.Value.{Value}
 use Rattle.smv_meaning.specs.Values.{no_value, is_true}
@@ -10,7 +9,7 @@ use Rattle.smv_meaning.specs.Expressions.{Denotation, alone, set_of, joined, is_
 use Rattle.smv_meaning.specs.Types.{ExprType}
 use Rattle.smv_meaning.specs.Checks.{Position, Named, single, under_next, across, behind}
 use Rattle.smv_items.specs.FlatItems.{Leaf, of_item, of_symbol, of_nothing}
-use Rattle.smv_flat.specs.FlatTree.{leaf_tree, FlatTree, FlatLinks, flat_tree, flat_links, flat_branches, flat_trees, flat_are_implies, flat_from_right, flat_is_last, flat_denote, flat_implications, flat_linked, flat_chosen, flat_taken, flat_values, flat_permits}
+use Rattle.smv_flat.specs.FlatTree.{leaf_tree, flat_tree, flat_links, flat_branches, flat_trees, flat_are_implies, flat_from_right, flat_is_last, flat_denote, flat_implications, flat_linked, flat_chosen, flat_taken, flat_values, flat_permits}
 
 -- the value of what a path becomes
 abbrev pub leaf_value : (ℕ → Value) → (ℕ → Value) → Leaf → Value

@@ -1,5 +1,5 @@
 -- In a spelled model FROZENVAR declares no instances, and each instance is one of a module of the model.
-use Rattle.std.proofs.Common.{◌≡◌, ℕ, zero, suc, ◌+◌, Bool, true, false, not, ◌&&◌, if◌then◌else◌, List, [], ◌∷◌, ◌++◌, length, Option, Some, None, bytes_eq, refl, sym, ap, ◌∙◌}
+use Rattle.std.proofs.Common.{◌≡◌, ℕ, zero, suc, ◌+◌, Bool, true, false, not, if◌then◌else◌, List, [], ◌∷◌, ◌++◌, length, Option, Some, None, bytes_eq, refl, sym, ap, ◌∙◌}
 use Rattle.std.specs.List.{list_all}
 use Rattle.std.proofs.lemmas.List.Folds.{list_all-append}
 use Rattle.smv_text.specs.declared.token.Token.{Token}
@@ -10,8 +10,8 @@ use Rattle.smv_text.specs.Sources.{SpellsType, booleans, enumerations, intervals
 use Rattle.smv_meaning.specs.Instances.{Instance, module_named, placed, child_in, child_of, with_child, grow_items, grow_elements, grow, main_instance, grown_from, main_name, instances_of}
 use Rattle.smv_meaning.specs.Phases.{domain_declares_instance}
 use Rattle.smv_meaning.specs.Runs.{is_frozen}
-use Rattle.smv_meaning.proofs.Booleans.{both_true, two_true}
-use Rattle.smv_meaning.proofs.Booleans.{absurd_bool}
+use Rattle.smv_meaning.specs.laws.Booleans.{both_true, two_true}
+use Rattle.smv_meaning.specs.laws.Booleans.{absurd_bool}
 
 abbrev pub no_instance : PlainItem → Bool
 no_instance v = not (domain_declares_instance v.domain)

@@ -1,6 +1,6 @@
 -- Frozen variables keep their values in rows exactly where they do in the states, and an invariant is false in a row exactly where
 -- it is in the state.
-use Rattle.std.proofs.Common.{◌≡◌, ℕ, zero, suc, ◌+◌, Bool, true, false, not, ◌&&◌, ◌||◌, if◌then◌else◌, List, [], ◌∷◌, ◌++◌, map, flat_map, Option, Some, None, refl, sym, ap, ◌∙◌, subst, arith}
+use Rattle.std.proofs.Common.{◌≡◌, ℕ, zero, suc, ◌+◌, Bool, true, false, not, ◌&&◌, List, [], ◌∷◌, ◌++◌, map, flat_map, Option, refl, sym, ap, ◌∙◌, subst, arith}
 use Rattle.std.specs.List.{slice_get, list_all}
 use Rattle.std.proofs.lemmas.List.Folds.{list_all-append}
 use Rattle.smv_text.specs.declared.tree.Path.{Path}
@@ -13,17 +13,17 @@ use Rattle.smv_meaning.specs.Values.{Valuation, is_true, value_same}
 use Rattle.smv_meaning.specs.Expressions.{Denotation}
 use Rattle.smv_meaning.specs.Instances.{Instance, dotted}
 use Rattle.smv_meaning.specs.Names.{parent_of, path_in, found_in, steps_of, dotted_at}
-use Rattle.smv_meaning.specs.Meaning.{is_input, denoted}
-use Rattle.smv_meaning.specs.Checks.{Check, typing}
-use Rattle.smv_meaning.specs.Phases.{in_state, element_typing, actuals_typing, type_checks, over_instances, element_invariants, invariants_in, domain_declares_instance}
+use Rattle.smv_meaning.specs.Meaning.{denoted}
+use Rattle.smv_meaning.specs.Checks.{typing}
+use Rattle.smv_meaning.specs.Phases.{in_state, element_typing, actuals_typing, type_checks, over_instances, element_invariants, domain_declares_instance}
 use Rattle.smv_meaning.specs.Runs.{no_values, is_frozen, element_stays, frozen_stay, is_false_at}
-use Rattle.smv_meaning.specs.Settled.{Acyclic, types_in}
-use Rattle.smv_meaning.proofs.Booleans.{both_true}
-use Rattle.smv_meaning.proofs.Booleans.{absurd_bool}
+use Rattle.smv_meaning.specs.Settled.{types_in}
+use Rattle.smv_meaning.specs.laws.Booleans.{both_true}
+use Rattle.smv_meaning.specs.laws.Booleans.{absurd_bool}
 use Rattle.smv_model_laws.proofs.Typable.{split, Holds}
 use Rattle.smv_flat.specs.FlatTree.{FlatTree}
 use Rattle.smv_items.specs.FlatItems.{Content, variable, definition, actual, Origin, with_content, actual_content, actual_items, domain_content, variable_item, definition_item, element_items, items_here, origins_of, path_of, kind_of, flat_item_of}
-use Rattle.smv_flat.specs.FlatForms.{Form, flat_in, content_form, body_forms, assignment_form, element_forms, forms_here, forms_from, flat_of}
+use Rattle.smv_flat.specs.FlatForms.{Form, content_form, body_forms, assignment_form, element_forms, forms_here, forms_from, flat_of}
 use Rattle.smv_flat_laws.specs.FlatTruth.{Row, form_denotes, kind_stays, items_stay, role_invariant, forms_invariants, is_false_in}
 use Rattle.smv_flat_laws.proofs.FlatRows.{AllFrom, all_of, HasContent, HasItems}
 use Rattle.smv_flat_laws.proofs.FlatTruths.{Agrees}

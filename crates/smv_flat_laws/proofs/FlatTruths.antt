@@ -1,34 +1,32 @@
 -- The formulas of the flat form hold in rows exactly where those of the model do in the states.
-use Rattle.std.proofs.Common.{◌≡◌, ℕ, zero, suc, ◌+◌, Bool, true, false, not, ◌&&◌, ◌||◌, if◌then◌else◌, List, [], ◌∷◌, ◌++◌, map, length, position, flat_map, Option, Some, None, refl, sym, ap, ◌∙◌, subst}
+use Rattle.std.proofs.Common.{◌≡◌, ℕ, ◌+◌, Bool, true, false, not, ◌&&◌, ◌||◌, List, [], ◌∷◌, ◌++◌, map, length, flat_map, refl, sym, ap, ◌∙◌}
 use Rattle.std.specs.List.{list_all}
 use Rattle.std.proofs.lemmas.List.Folds.{list_all-append}
 use Rattle.smv_text.specs.declared.tree.Path.{Path}
-use Rattle.smv_text.specs.declared.tree.VarKind.{VarKind}
 use Rattle.smv_text.specs.declared.tree.VarKind.TheVariants as OfVarKind
 use Rattle.smv_text.specs.declared.tree.When.{When}
 use Rattle.smv_text.specs.declared.tree.When.TheVariants.{Always, First, Following}
-use Rattle.smv_text.specs.Tree.{Tree, PlainDomain, PlainAssignment, PlainElement, vars, defines, constants, assigns, init, trans, invar, spec}
+use Rattle.smv_text.specs.Tree.{Tree, PlainAssignment, PlainElement, vars, defines, constants, assigns, init, trans, invar, spec}
 use Rattle.smv_meaning.specs.declared.value.Value.{Value}
 use Rattle.smv_meaning.specs.Values.{Valuation, is_true}
 use Rattle.smv_meaning.specs.Expressions.{Denotation, denote}
 use Rattle.smv_meaning.specs.Instances.{Instance}
 use Rattle.smv_meaning.specs.Names.{Found, variable_at, body_at, instance_at, symbol_of, cyclic, none, parent_of, found_in, steps_of}
-use Rattle.smv_meaning.specs.Meaning.{is_input, reading, denoted}
-use Rattle.smv_meaning.specs.Checks.{Check, Position, Named, typing}
+use Rattle.smv_meaning.specs.Meaning.{reading, denoted}
+use Rattle.smv_meaning.specs.Checks.{Position, Named, typing}
 use Rattle.smv_meaning.specs.Naming.{named_found}
 use Rattle.smv_meaning.specs.Phases.{in_state, in_step, in_assignment, formula_typing, assigned_typing, element_typing, actuals_typing, type_checks, over_instances, Assigned, element_assigns, when_same, is_assignable}
 use Rattle.smv_meaning.specs.Runs.{no_values, assignment_holds, element_holds, over_all}
 use Rattle.smv_meaning.specs.Settled.{Acyclic, values_in, types_in}
-use Rattle.smv_meaning.proofs.Booleans.{both_true}
-use Rattle.smv_meaning.proofs.Booleans.{absurd_bool}
+use Rattle.smv_meaning.specs.laws.Booleans.{both_true}
+use Rattle.smv_meaning.specs.laws.Booleans.{absurd_bool}
 use Rattle.smv_model_laws.proofs.Agreeing.{denote_same}
 use Rattle.smv_model_laws.proofs.Settling.{types_settle_law}
 use Rattle.smv_model_laws.proofs.Typable.{split, Holds}
-use Rattle.smv_items.specs.FlatItems.{Leaf, of_item, of_symbol, of_nothing, Content, variable, definition, actual, Origin, items_here, symbols_of, item_leaf, leaf_found, leaf_in}
+use Rattle.smv_items.specs.FlatItems.{Leaf, of_item, Content, variable, definition, actual, Origin, items_here, symbols_of, item_leaf, leaf_found, leaf_in}
 use Rattle.smv_flat.specs.FlatForms.{Form, flat_in, content_form, body_forms, number_or_first, assignment_form, element_forms, forms_here, forms_from, flat_of}
-use Rattle.smv_flat_laws.specs.FlatTruth.{Row, symbol_value, form_denotes, IsRow, role_holds, forms_hold}
-use Rattle.smv_flat_laws.proofs.FlatSame.{leaf_value, flat_same}
-use Rattle.smv_flat_laws.proofs.FlatPlaces.{At}
+use Rattle.smv_flat_laws.specs.FlatTruth.{Row, symbol_value, form_denotes, IsRow, role_holds}
+use Rattle.smv_flat_laws.proofs.FlatSame.{flat_same}
 use Rattle.smv_flat_laws.proofs.FlatFound.{variable_at_item, Home, home_found}
 use Rattle.smv_flat_laws.proofs.FlatRows.{row_leaf, row_reads, row_values}
 use Rattle.smv_flat_laws.proofs.FlatApart.{SameWhere, apart, label_free}

@@ -17,7 +17,7 @@ use Rattle.smv_meaning.specs.Naming.{in_body}
 use Rattle.smv_meaning.specs.Phases.{in_state, in_step, in_assignment, over_instances, element_assigns, is_assignable, module_checks, declaration_checks, size_checks, later_checks, assignment_checks}
 use Rattle.smv_meaning.specs.Checked.{path_checks_of, type_checks_of}
 use Rattle.smv_meaning.specs.Settled.{types_in, cycle_checks_of}
-use Rattle.smv_meaning.proofs.Booleans.{two_true}
+use Rattle.smv_meaning.specs.laws.Booleans.{two_true}
 use Rattle.smv_model_laws.proofs.Typable.{split}
 use Rattle.smv_items.specs.FlatItems.{Leaf, of_item, of_symbol, of_nothing, Content, variable, definition, actual, Origin, is_item, item_leaf, symbol_leaf, items_here, origins_of, symbols_of, leaf_found, leaf_in, flat_item_of}
 use Rattle.smv_flat.specs.FlatTree.{leaf_tree, flat_tree, flat_links, flat_branches, flat_trees}

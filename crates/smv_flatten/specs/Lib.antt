@@ -1,3 +1,4 @@
 pub mod Accepting
 pub mod FlatModel
 pub mod Refusing
+pub mod laws

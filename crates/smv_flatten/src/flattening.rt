@@ -5,7 +5,8 @@ ghost use Rattle.smv_meaning.specs.Instances.{instances_of, weight_of};
 ghost use Rattle.smv_meaning.specs.Phases.{checks_of, invariants_in, IsAccepted};
 ghost use Rattle.smv_instances.specs.View.{instance_plain};
 ghost use Rattle.smv_model_types.specs.Outcome.{AreTypesOf};
-ghost use Rattle.smv_items.specs.FlatItems.{origins_of, symbols_of, path_of};
+ghost use Rattle.smv_items.specs.FlatItems.{origins_of, symbols_of, path_of, flat_item_of};
+ghost use Rattle.smv_items.specs.FlatItemView.{item_plain};
 ghost use Rattle.smv_flat.specs.FlatForms.{forms_of, flat_of, flat_smv};
 ghost use Rattle.smv_flat.specs.FlatFormulas.{form_plain};
 ghost use Rattle.smv_items.specs.FlatOrigins.{origin_plain};
@@ -14,21 +15,43 @@ ghost use Rattle.smv_flatten.specs.FlatModel.{flat_plain};
 ghost use Rattle.smv_flatten.specs.Refusing.{Decides};
 
 use crate::counts::{invariant_count, weight_in};
-use crate::ends::{FlatEnd, flat_end};
+use crate::ends::FlatEnd;
 use crate::form::Flat;
 use crate::item_list::flat_items;
 use crate::joining::accepted;
-use crate::kept::Accepted;
 use crate::sequences::{FlatFormulas, FlatItems};
 use crate::type_names::TypeNames;
 use smv_flat::{FlatFormula, formulas_in};
 use smv_instances::Table;
-use smv_items::{Origin, Symbols, numbers_of, origins_in, paths_of, symbols_in};
+use smv_items::{FlatItem, Origin, Origins, Symbols, numbers_of, origins_in, paths_of, symbols_in};
 use smv_model_types::Types;
 use smv_text::Source;
 use smv_width::width_of;
 use std::alloc::Global;
 use text_core::{NoMemory, Text};
+
+// Where the items of a model come from, their dotted paths, and the symbols.
+#[derive(Drop)]
+struct Sources<'a> {
+    origins: Origins<'a>,
+    paths: Vec<Text>,
+    symbols: Symbols,
+}
+
+fn sources_in<'a>(alloc: Global, table: &Table<'a>) -> Result<Sources<'a>, NoMemory>
+    ensures origins { IfOk result (λ s. map origin_plain s.origins.items ≡ origins_of (map instance_plain table.now)) }
+    ensures paths { IfOk result (λ s. s.paths.items ≡ map (path_of (map instance_plain table.now)) (map origin_plain s.origins.items)) }
+    ensures symbols { IfOk result (λ s. s.symbols ≡ symbols_of (map instance_plain table.now)) }
+{
+    let symbols = symbols_in(alloc, table)?;
+    let origins = origins_in(alloc, table)?;
+    let paths = paths_of(alloc, table, &origins)?;
+    Ok(Sources {
+        origins,
+        paths,
+        symbols,
+    })
+}
 
 // The formulas over the numbers of these items, given the items' dotted paths.
 fn flat_formulas<'a>(
@@ -51,6 +74,40 @@ fn flat_formulas<'a>(
     formulas_in(alloc, &names, table, &numbers, symbols)
 }
 
+// The items and the formulas of a model, and the width of their integers.
+#[derive(Drop)]
+struct Contents {
+    items: Vec<FlatItem>,
+    formulas: Vec<FlatFormula>,
+    width: u32,
+}
+
+fn contents_of<'a>(
+    alloc: Global,
+    table: &Table<'a>,
+    types: &Types<'a>,
+    sources: &Sources<'a>,
+) -> Result<Contents, NoMemory>
+    requires typed { AreTypesOf (map instance_plain table.now) types.now }
+    requires origins { map origin_plain sources.now.origins.items ≡ origins_of (map instance_plain table.now) }
+    requires paths { sources.now.paths.items ≡ map (path_of (map instance_plain table.now)) (map origin_plain sources.now.origins.items) }
+    requires symbols { sources.now.symbols ≡ symbols_of (map instance_plain table.now) }
+    ensures items { IfOk result (λ x. map item_plain x.items.items ≡ map (flat_item_of (map instance_plain table.now)) (origins_of (map instance_plain table.now))) }
+    ensures formulas { IfOk result (λ x. map form_plain x.formulas.items ≡ forms_of (map instance_plain table.now)) }
+    ensures width { IfOk result (λ x. x.width ≡ width_of (flat_of (map instance_plain table.now))) }
+{
+    let origins = sources.origins.as_slice();
+    let paths = sources.paths.as_slice();
+    let items = flat_items(alloc, table, types, origins, paths)?;
+    let formulas = flat_formulas(alloc, table, types, origins, paths, &sources.symbols)?;
+    let width = width_of(&items, &formulas);
+    Ok(Contents {
+        items,
+        formulas,
+        width,
+    })
+}
+
 // The flat form of these instances.
 fn flattened<'a>(alloc: Global, table: &Table<'a>, types: &Types<'a>) -> Result<Flat, NoMemory>
     requires { AreTypesOf (map instance_plain table.now) types.now }
@@ -59,20 +116,16 @@ fn flattened<'a>(alloc: Global, table: &Table<'a>, types: &Types<'a>) -> Result<
     ensures weight { IfOk result (λ f. f.weight ≡ sum_by (λ at. at.plan.tokens) (map instance_plain table.now)) }
     ensures invariants { IfOk result (λ f. f.invariants ≡ length (invariants_in (map instance_plain table.now))) }
 {
-    let origins = origins_in(alloc, table)?;
-    let paths = paths_of(alloc, table, &origins)?;
-    let symbols = symbols_in(alloc, table)?;
-    let items = flat_items(alloc, table, types, &origins, &paths)?;
-    let formulas = flat_formulas(alloc, table, types, &origins, &paths, &symbols)?;
-    let width = width_of(&items, &formulas);
-    let names = symbols.names(alloc)?;
     let weight = weight_in(table)?;
     let invariants = invariant_count(table)?;
+    let sources = sources_in(alloc, table)?;
+    let symbols = sources.symbols.names(alloc)?;
+    let contents = contents_of(alloc, table, types, &sources)?;
     Ok(Flat {
-        items: FlatItems::of(items),
-        symbols: names,
-        formulas: FlatFormulas::of(formulas),
-        width,
+        items: FlatItems::of(contents.items),
+        symbols,
+        formulas: FlatFormulas::of(contents.formulas),
+        width: contents.width,
         weight,
         invariants,
     })
@@ -88,11 +141,6 @@ pub fn flatten(alloc: Global, source: &Source, needed: u32) -> Result<Flat, Flat
     ensures weight { IfOk result (λ f. f.weight ≡ weight_of (plain_source source.now)) }
     ensures invariants { IfOk result (λ f. f.invariants ≡ length (invariants_in (instances_of (plain_source source.now)))) }
 {
-    match accepted(alloc, source, needed) {
-        Ok(kept) => match flattened(alloc, &kept.table, &kept.types) {
-            Ok(flat) => Ok(flat),
-            Err(NoMemory) => Err(FlatEnd::NoMemory),
-        },
-        Err(end) => Err(flat_end(end)),
-    }
+    let kept = accepted(alloc, source, needed)?;
+    Ok(flattened(alloc, &kept.table, &kept.types)?)
 }

@@ -49,10 +49,10 @@ fn flat_item<'a>(
     requires path { path.now ≡ path_of (map instance_plain table.now) (origin_plain origin.now) }
     ensures { IfOk result (λ m. item_plain m ≡ flat_item_of (map instance_plain table.now) (origin_plain origin.now)) }
 {
-    let name = Name::of(alloc, path)?;
     let instance = small(origin.instance)?;
     let ty = item_type(alloc, table, types, &origin.content)?;
     let members = members_of(alloc, &origin.content)?;
+    let name = Name::of(alloc, path)?;
     let kind = kind_of(&origin.content);
     Ok(FlatItem {
         name,
@@ -80,10 +80,7 @@ pub(crate) fn flat_items<'a>(
     let mut items = Vec::new(alloc);
     for k in 0..origins.len() {
         let item = flat_item(alloc, table, types, &origins[k], paths[k].bytes())?;
-        match items.push(item) {
-            Ok(()) => {}
-            Err(_) => return Err(NoMemory),
-        }
+        items.push(item)?;
     }
     Ok(items)
 }

@@ -15,11 +15,10 @@ use smv_intervals::Ty;
 use smv_items::Content;
 use smv_model_laws::refused_have_no_type;
 use smv_model_types::{Types, variable_type};
-use smv_names::NamesEnd;
 use smv_text::Expr;
 use smv_types::Position;
 use std::alloc::Global;
-use text_core::NoMemory;
+use text_core::{End, NoMemory};
 
 // The type of a body that is read in the numbered instance: none where one of its checks fails.
 fn body_type<'a>(
@@ -35,8 +34,8 @@ fn body_type<'a>(
     refused_have_no_type();
     match types.expression_checked(alloc, table, i, e, Position::Define) {
         Ok(t) => Ok(t),
-        Err(NamesEnd::Bad(_)) => Ok(None),
-        Err(NamesEnd::NoMemory) => Err(NoMemory),
+        Err(End::Bad(_)) => Ok(None),
+        Err(End::NoMemory) => Err(NoMemory),
     }
 }
 

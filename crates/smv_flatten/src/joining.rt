@@ -18,18 +18,18 @@ use smv_names::{
 use smv_references::{Formula, formulas_in};
 use smv_text::Source;
 use std::alloc::Global;
-use text_core::{Items, Place};
+use text_core::{List, Place};
 
 // What is found of the definitions and actuals.
 #[derive(Drop)]
 struct Found<'a> {
     formulas: Vec<Formula<'a>>,
-    order: Items<usize>,
+    order: List<usize>,
     types: Types<'a>,
 }
 
 // The first three phases, which answer the table of the instances.
-#[tactic(auto, using(crate::proofs::Composing::ends, crate::proofs::Composing::ends_behind, crate::proofs::Composing::both_pass))]
+#[tactic(auto, using(crate::specs::laws::Composing::ends, crate::specs::laws::Composing::ends_behind, crate::specs::laws::Composing::both_pass))]
 fn sized<'a>(alloc: Global, source: &'a Source) -> Result<Table<'a>, NamesEnd>
     ensures checks { Settles result (early_checks (plain_source source.now)) }
     ensures table { IfOk result (λ t. map instance_plain t ≡ instances_of (plain_source source.now)) }
@@ -40,7 +40,7 @@ fn sized<'a>(alloc: Global, source: &'a Source) -> Result<Table<'a>, NamesEnd>
 }
 
 // The phases from the paths to the types.
-#[tactic(auto, using(crate::proofs::Composing::ends, crate::proofs::Composing::ends_behind, crate::proofs::Composing::both_pass))]
+#[tactic(auto, using(crate::specs::laws::Composing::ends, crate::specs::laws::Composing::ends_behind, crate::specs::laws::Composing::both_pass))]
 fn typed<'a>(alloc: Global, table: &Table<'a>) -> Result<Found<'a>, NamesEnd>
     ensures checks { Settles result (typing_checks (map instance_plain table.now)) }
     ensures found { IfOk result (AreFound (map instance_plain table.now)) }
@@ -57,7 +57,7 @@ fn typed<'a>(alloc: Global, table: &Table<'a>) -> Result<Found<'a>, NamesEnd>
 }
 
 // The phases from the paths to the assignments.
-#[tactic(auto, using(crate::proofs::Composing::ends, crate::proofs::Composing::ends_behind, crate::proofs::Composing::both_pass))]
+#[tactic(auto, using(crate::specs::laws::Composing::ends, crate::specs::laws::Composing::ends_behind, crate::specs::laws::Composing::both_pass))]
 fn found_in<'a>(alloc: Global, table: &Table<'a>) -> Result<Found<'a>, NamesEnd>
     ensures checks { Settles result (later_checks (map instance_plain table.now)) }
     ensures found { IfOk result (AreFound (map instance_plain table.now)) }
@@ -95,7 +95,7 @@ fn counted<'a>(
 }
 
 // All phases.
-#[tactic(auto, using(crate::proofs::Composing::ends, crate::proofs::Composing::ends_behind, crate::proofs::Composing::both_pass))]
+#[tactic(auto, using(crate::specs::laws::Composing::ends, crate::specs::laws::Composing::ends_behind, crate::specs::laws::Composing::both_pass))]
 fn joined<'a>(alloc: Global, source: &'a Source, needed: u32) -> Result<Accepted<'a>, NamesEnd>
     ensures checks { Settles result (checks_of (plain_source source.now) needed) }
     ensures kept { IfOk result (IsKept (instances_of (plain_source source.now))) }

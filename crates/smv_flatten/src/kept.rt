@@ -2,7 +2,7 @@
 use smv_instances::Table;
 use smv_model_types::Types;
 use smv_references::Formula;
-use text_core::Items;
+use text_core::List;
 
 /// What the checks found of a model that passes them all: its instances, its definitions and actuals, an order of these in
 /// which each stands after those to which it refers, and their types.
@@ -10,6 +10,6 @@ use text_core::Items;
 pub struct Accepted<'a> {
     pub table: Table<'a>,
     pub formulas: Vec<Formula<'a>>,
-    pub order: Items<usize>,
+    pub order: List<usize>,
     pub types: Types<'a>,
 }

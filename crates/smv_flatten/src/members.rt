@@ -21,13 +21,12 @@ fn member(alloc: Global, at: &Member) -> Result<Member, NoMemory>
     }
 }
 
-#[tactic(auto, using(crate::proofs::Lists::front_is, crate::proofs::Lists::end_is, crate::proofs::Lists::joined_on, crate::proofs::Lists::append_none))]
 fn copied(alloc: Global, members: &Members) -> Result<Members, NoMemory>
     ensures { IfOk result (λ ms. ms ≡ members.now) }
 {
     let mut copy = Members::new(alloc);
-    for k in 0..members.len() {
-        let m = member(alloc, members.at(k))?;
+    for original in members {
+        let m = member(alloc, original)?;
         copy.push(m)?;
     }
     Ok(copy)

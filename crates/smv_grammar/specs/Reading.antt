@@ -14,7 +14,7 @@ use Rattle.smv_text.specs.declared.level.Joint.{Joint}
 use Rattle.smv_text.specs.Levels.{infix_of}
 use Rattle.smv_grammar.specs.Marks.{is_sign, is_word}
 use Rattle.smv_grammar.specs.Ranks.{level_at, tightest}
-use Rattle.smv_grammar.specs.Machine.{Frame, opened, longer, path_head, dead}
+use Rattle.smv_grammar.specs.Machine.{Frame, opened, longer, path_head}
 
 -- the tokens after a sign, a reserved word or an operator that comes first
 abbrev pub after : Sign → List Token → Option (List Token)

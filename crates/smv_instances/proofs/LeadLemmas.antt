@@ -19,7 +19,7 @@ use Rattle.smv_instances.specs.Leads.{until, LeadsTo, NameLeads, Right, IsOpen, 
 use Rattle.smv_instances.specs.declared.leads.Walk.{Walk}
 use Rattle.smv_instances.specs.declared.leads.Walk.TheVariants.{Ends, Waits}
 use Rattle.smv_instances.specs.View.{found_plain}
-use Rattle.smv_meaning.proofs.Booleans.{both_true, or_true}
+use Rattle.smv_meaning.specs.laws.Booleans.{both_true, or_true}
 
 pub past : (r n : ℕ) (m : Found) → r ≤ n → until r n m ≡ m
 past r n m l = by (nat_lt n r) refl

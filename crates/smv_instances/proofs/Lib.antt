@@ -1,5 +1,3 @@
-pub mod NameLemmas
-pub mod ChildLemmas
 pub mod Grow
 pub mod KeyLemmas
 pub mod LeadLemmas

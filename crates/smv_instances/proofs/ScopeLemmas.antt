@@ -13,8 +13,8 @@ use Rattle.smv_text.specs.declared.tree.Parameter.{Parameter}
 use Rattle.smv_text.specs.declared.tree.Expr.{Expr}
 use Rattle.smv_text.specs.Tree.{trees_of}
 use Rattle.smv_text.specs.View.{plain}
-use Rattle.smv_instances.proofs.NameLemmas.{parameters_end}
-use Rattle.smv_instances.specs.declared.table.Instance.{Instance as PartOf}
+use Rattle.smv_instances.specs.laws.NameLemmas.{parameters_end}
+use Rattle.smv_instances.specs.declared.instances.Instance.{Instance as PartOf}
 use Rattle.smv_instances.specs.declared.names.Known.{Known}
 use Rattle.smv_meaning.specs.Names.{Local, nothing, among_parameters, local_in, local}
 use Rattle.smv_instances.specs.NameMap.{named, known_under}

@@ -1,3 +1,4 @@
 pub mod View
 pub mod NameMap
 pub mod Leads
+pub mod laws

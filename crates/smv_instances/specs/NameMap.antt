@@ -5,7 +5,7 @@ use Rattle.std.specs.HashMap.{HashMap, get_by}
 use Rattle.smv_text.specs.declared.tree.Module.{Module}
 use Rattle.smv_text.specs.View.{plain_module}
 use Rattle.smv_meaning.specs.Instances.{module_named}
-use Rattle.smv_instances.specs.declared.table.Instance.{Instance as PartOf}
+use Rattle.smv_instances.specs.declared.instances.Instance.{Instance as PartOf}
 use Rattle.smv_instances.specs.declared.names.Known.{Known}
 use Rattle.smv_meaning.specs.Names.{Local, nothing, local, is_child, has_symbol}
 use Rattle.smv_instances.specs.View.{instance_plain, or_local, module_or_none}

@@ -10,7 +10,7 @@ use Rattle.smv_instances.specs.declared.names.Target.{Target}
 use Rattle.smv_instances.specs.declared.names.Target.TheVariants as OfTarget
 use Rattle.smv_text.specs.declared.tree.Path.{Path}
 use Rattle.smv_meaning.specs.Names.{found_in, Local, alias, formula, variable_of, inner, nothing, Found, variable_at, body_at, instance_at, symbol_of, cyclic, none, dotted_at}
-use Rattle.smv_instances.specs.declared.table.Instance.{Instance as PartOf}
+use Rattle.smv_instances.specs.declared.instances.Instance.{Instance as PartOf}
 use Rattle.smv_meaning.specs.Instances.{Instance}
 
 abbrev pub instance_plain : PartOf → Instance

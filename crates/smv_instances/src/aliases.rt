@@ -73,10 +73,10 @@ fn retried<'a>(parts: &Parts<'a>, leads: &mut Leads<'a>, key: &Key<'a>) -> Resul
 {
     match key_walk(parts, leads, *key) {
         None => Ok(false),
-        Some(Walk::Ends(lead)) => match keep_deeper(parts, leads, *key, lead) {
-            Ok(()) => Ok(true),
-            Err(end) => Err(end),
-        },
+        Some(Walk::Ends(lead)) => {
+            keep_deeper(parts, leads, *key, lead)?;
+            Ok(true)
+        }
         Some(Walk::Waits(_)) => Ok(false),
     }
 }
@@ -107,13 +107,6 @@ fn all_retried<'a>(
     Ok(changed)
 }
 
-fn push<'a>(stack: &mut Vec<Key<'a>>, key: Key<'a>) -> Result<(), NoMemory> {
-    match stack.push(key) {
-        Ok(()) => Ok(()),
-        Err(_) => Err(NoMemory),
-    }
-}
-
 // Follows the alias, and before it each open alias that it comes to and that was not yet followed.
 fn searched<'a>(
     alloc: Global,
@@ -126,7 +119,7 @@ fn searched<'a>(
     ensures { OnOk result (Right (map instance_plain parts.now) leads.new) }
 {
     let mut stack = Vec::new(alloc);
-    push(&mut stack, first)?;
+    stack.push(first)?;
     for _ in 0..usize::MAX {
         let Some(key) = stack.pop() else {
             return Ok(());
@@ -136,8 +129,8 @@ fn searched<'a>(
             Some(Walk::Ends(lead)) => keep_deeper(parts, leads, key, lead)?,
             Some(Walk::Waits(next)) => if child_in(opened, next.instance, next.name).is_none() {
                 put(opened, next.instance, next.name, 0)?;
-                push(&mut stack, key)?;
-                push(&mut stack, next)?;
+                stack.push(key)?;
+                stack.push(next)?;
             },
         }
     }
@@ -153,8 +146,8 @@ pub fn leads_of<'a>(alloc: Global, parts: &Parts<'a>) -> Result<Leads<'a>, NoMem
     let keys = keys_of(alloc, parts)?;
     let mut leads = no_leads(alloc);
     let mut opened = HashMap::new(alloc);
-    for k in 0..keys.len() {
-        searched(alloc, parts, &mut leads, &mut opened, keys[k])?;
+    for key in &keys {
+        searched(alloc, parts, &mut leads, &mut opened, *key)?;
     }
     for _ in 0..usize::MAX {
         if !all_retried(parts, &mut leads, keys.as_slice())? {

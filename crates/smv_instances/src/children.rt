@@ -4,7 +4,7 @@ ghost use Rattle.smv_meaning.specs.Names.{is_child};
 ghost use Rattle.smv_instances.specs.NameMap.{named_in};
 ghost use Rattle.smv_instances.specs.View.{instance_plain};
 
-use crate::table::Instance;
+use crate::instances::Instance;
 use std::alloc::Global;
 use std::collections::HashMap;
 use text_core::NoMemory;
@@ -44,7 +44,7 @@ pub fn put_first<'a>(
     }
 }
 
-#[tactic(auto, using(crate::proofs::ChildLemmas::unchanged))]
+#[tactic(auto, using(crate::specs::laws::ChildLemmas::unchanged))]
 fn put_part<'a>(children: &mut Children<'a>, c: usize, part: &Instance<'a>) -> Result<(), NoMemory>
     ensures { OnOk result ((i : ℕ) (x : List ℕ) → named_in children.new i x ≡ (if is_none (named_in children.old i x) && is_child i x (instance_plain part.now) then Some c else named_in children.old i x)) }
 {
@@ -55,7 +55,7 @@ fn put_part<'a>(children: &mut Children<'a>, c: usize, part: &Instance<'a>) -> R
 }
 
 /// The first instance of each name in each instance.
-#[tactic(auto, using(crate::proofs::ChildLemmas::with_part, crate::proofs::ChildLemmas::whole))]
+#[tactic(auto, using(crate::specs::laws::ChildLemmas::with_part, crate::specs::laws::ChildLemmas::whole))]
 pub fn children_of<'a>(alloc: Global, table: &[Instance<'a>]) -> Result<Children<'a>, NoMemory>
     ensures { IfOk result (λ m. (i : ℕ) (x : List ℕ) → named_in m i x ≡ position (is_child i x) (map instance_plain table.now)) }
 {

@@ -1,137 +1,148 @@
-// The instances of a model in a table, with what their names mean.
-ghost use Rattle.std.specs.Prelude.{◌≡◌, ◌<◌, List, length, map, position, slice_index_or, IfOk};
-ghost use Rattle.smv_text.specs.View.{plain_source};
-ghost use Rattle.smv_meaning.specs.Instances.{Instance as Specified, instances_of};
-ghost use Rattle.smv_meaning.specs.Names.{steps_of, local, is_child, has_symbol, found_in, look};
-ghost use Rattle.smv_instances.specs.Leads.{until};
-ghost use Rattle.smv_instances.specs.View.{instance_plain, local_plain, found_plain};
+// The instances of a model, numbered in preorder.
+ghost use Rattle.std.specs.Prelude.{◌≡◌, ◌++◌, ◌∷◌, [], map, List, IfOk, length};
+ghost use Rattle.smv_text.specs.View.{plain_module, plain_element, plain_item, plain_source};
+ghost use Rattle.smv_meaning.specs.Instances.{dotted, child_of, grow, grow_items, instances_of};
+ghost use Rattle.smv_instances.specs.View.{instance_plain, instance_or_none};
 
-use crate::aliases::leads_of;
-use crate::leads::{Lead, Leads, Walk, lead_at, path_walk};
-use crate::names::{Known, Target};
-use crate::parts::Parts;
-use crate::table::{Instance, instances};
-use smv_text::{Path, Source};
+use crate::modules::ModuleTable;
+use smv_text::{Domain, Element, Expr, Item, Items, Module, Source};
 use std::alloc::Global;
-use std::marker::Model;
-use text_core::NoMemory;
+use text_core::{NoMemory, Text};
 
-/// The instances of a model, numbered in preorder, with what their names mean (NuSMV 2.6 User Manual, 2.3.12 and 2.3.16).
+/// An instance: the number of the instance in which it is declared and in whose scope its actuals are read, its name
+/// there, its dotted path, its module and its actuals.
 #[derive(Drop)]
-pub struct Table<'a> {
-    parts: Parts<'a>,
-    leads: Leads<'a>,
+pub struct Instance<'a> {
+    pub parent: Option<usize>,
+    pub own: &'a [u8],
+    pub path: Text,
+    pub plan: &'a Module,
+    pub actuals: &'a [Expr],
 }
 
-impl<'a> Model for Table<'a> {
-    ghost use Rattle.std.specs.Prelude.{List};
-    ghost use Rattle.smv_instances.specs.declared.table.Instance.{Instance as PartOf};
-    ghost use Rattle.std.specs.Coded.{codes};
-    ghost use Rattle.smv_text.specs.contracts.tree.Expr as expr;
-    ghost use Rattle.smv_text.specs.contracts.tree.Shape as shape;
-
-    ghost Value = { List PartOf };
-
-    ghost coded = { Prim.hlevel (codes, expr.the_row.coded, shape.the_row.coded) };
-
-    ghost use Rattle.std.specs.Prelude.{map};
-    ghost use Rattle.smv_instances.specs.Leads.{Right, IsClosed};
-    ghost use Rattle.smv_instances.specs.View.{instance_plain};
-
-    ghost view = { λ t. t.parts };
-
-    ghost invariant = { λ t. Right (map instance_plain t.parts) t.leads × IsClosed (map instance_plain t.parts) t.leads };
-}
-
-// What is reached in so many steps.
-fn reached<'a>(steps: usize, lead: Lead<'a>) -> Target<'a>
-    ensures { (t : List Specified) → found_plain t result ≡ until lead.entry.depth steps (found_plain t lead.entry.target) }
+/// The dotted path of a name in the instance with this path.
+pub fn path_below(alloc: Global, path: &[u8], name: &[u8]) -> Result<Text, NoMemory>
+    ensures { IfOk result (λ p. p ≡ dotted path.now name.now) }
 {
-    if steps < lead.depth {
-        Target::Cyclic
-    } else {
-        lead.target
+    let mut below = Text::new(alloc);
+    if !path.is_empty() {
+        below.put(path)?;
+        below.put(b".")?;
+    }
+    below.put(name)?;
+    Ok(below)
+}
+
+// The instance that a declaration in the instance i, which has this path, makes.
+fn child<'a>(
+    alloc: Global,
+    modules: &ModuleTable<'a>,
+    i: usize,
+    path: &[u8],
+    item: &'a Item,
+) -> Result<Option<Instance<'a>>, NoMemory>
+    ensures { IfOk result (λ o. instance_or_none o ≡ child_of (map plain_module modules.now) i path.now (plain_item item.now)) }
+{
+    match &item.domain {
+        Domain::Boolean => Ok(None),
+        Domain::Members(_) => Ok(None),
+        Domain::Between(_, _) => Ok(None),
+        Domain::Bits(_) => Ok(None),
+        Domain::Instance(name, actuals) => match modules.named(name.bytes()) {
+            None => Ok(None),
+            Some(plan) => {
+                let below = path_below(alloc, path, item.name.bytes())?;
+                Ok(Some(Instance {
+                    parent: Some(i),
+                    own: item.name.bytes(),
+                    path: below,
+                    plan,
+                    actuals: actuals.as_slice(),
+                }))
+            }
+        },
     }
 }
 
-impl<'a> Table<'a> {
-    /// The instances of a model. They are as many as the modules that instances name, one within another, so that a model of
-    /// which no more is known may have too many to be kept.
-    pub fn of(alloc: Global, source: &'a Source) -> Result<Table<'a>, NoMemory>
-        ensures { IfOk result (λ t. map instance_plain t ≡ instances_of (plain_source source.now)) }
-    {
-        Table::over(alloc, instances(alloc, source)?)
+// Adds the instance and then all below it; modules nest at most as deep as the number tells.
+#[cycle(grow)]
+#[tactic(auto, using(crate::proofs::Grow::grow_none, crate::proofs::Grow::grow_begins))]
+fn extend<'a>(
+    alloc: Global,
+    modules: &ModuleTable<'a>,
+    deep: usize,
+    new: Instance<'a>,
+    table: &mut Vec<Instance<'a>>,
+) -> Result<(), NoMemory>
+    ensures { IfOk result (λ u. map instance_plain table.new.items ≡ grow deep (map plain_module modules.now) (instance_plain new.entry) (map instance_plain table.old.items)) }
+{
+    if deep == 0 {
+        return Ok(());
     }
-
-    /// A table of instances, which stand in preorder.
-    pub fn over(alloc: Global, list: Vec<Instance<'a>>) -> Result<Table<'a>, NoMemory>
-        ensures { IfOk result (λ t. t ≡ list.entry.items) }
-    {
-        let parts = Parts::over(alloc, list)?;
-        let leads = leads_of(alloc, &parts)?;
-        Ok(Table { parts, leads })
-    }
-
-    /// The number of instances.
-    pub fn len(&self) -> usize
-        ensures { result ≡ length self.now }
-    {
-        self.parts.len()
-    }
-
-    /// The instance with this number.
-    pub fn at(&self, i: usize) -> &Instance<'a>
-        requires { i < length self.now }
-        ensures { result.now ≡ slice_index_or self.now i result.now }
-    {
-        self.parts.at(i)
-    }
-
-    /// What one name is in its own instance: a parameter, a variable, an instance, a definition, or nothing.
-    pub fn local(&self, i: usize, x: &[u8]) -> Known<'a>
-        ensures { local_plain result ≡ local (map instance_plain self.now) i x.now }
-    {
-        self.parts.local(i, x)
-    }
-
-    /// The first instance with this name in the numbered one.
-    pub fn child(&self, i: usize, x: &[u8]) -> Option<usize>
-        ensures { result ≡ position (is_child i x.now) (map instance_plain self.now) }
-    {
-        self.parts.child(i, x)
-    }
-
-    /// Is the name in an enumeration or CONSTANTS of an instantiated module?
-    pub fn has_symbol(&self, x: &[u8]) -> bool
-        ensures { result ≡ has_symbol (map instance_plain self.now) x.now }
-    {
-        self.parts.has_symbol(x)
-    }
-
-    /// What a path leads to in the numbered instance.
-    pub fn found(&self, i: usize, path: &'a Path) -> Target<'a>
-        ensures { found_plain (map instance_plain self.now) result ≡ found_in (map instance_plain self.now) i path.now }
-    {
-        match path_walk(&self.parts, &self.leads, i, path) {
-            Walk::Ends(lead) => reached(self.parts.steps(), lead),
-            Walk::Waits(_) => Target::Cyclic,
+    let i = table.len();
+    let elements = &new.plan.elements;
+    let mut copy = Text::new(alloc);
+    copy.put(new.path.bytes())?;
+    let path = copy.bytes();
+    table.push(new)?;
+    for element in elements {
+        match element {
+            Element::Vars(_, items) => extend_items(
+                alloc,
+                modules,
+                deep - 1,
+                i,
+                path,
+                items,
+                table,
+            )?,
+            _ => {}
         }
     }
+    Ok(())
+}
 
-    /// What a name, and no symbol, leads to in the numbered instance.
-    pub fn found_name(&self, i: usize, x: &'a [u8]) -> Target<'a>
-        ensures { found_plain (map instance_plain self.now) result ≡ look (map instance_plain self.now) (steps_of (map instance_plain self.now)) i x.now }
-    {
-        match lead_at(&self.parts, &self.leads, i, x) {
-            Some(lead) => reached(self.parts.steps(), lead),
-            None => Target::Cyclic,
+// Adds the instances that declarations in the instance i make, each with all below it.
+#[cycle(grow)]
+#[tactic(auto, using(crate::proofs::Grow::grow_none, crate::proofs::Grow::grow_begins))]
+fn extend_items<'a>(
+    alloc: Global,
+    modules: &ModuleTable<'a>,
+    deep: usize,
+    i: usize,
+    path: &[u8],
+    items: &'a Items,
+    table: &mut Vec<Instance<'a>>,
+) -> Result<(), NoMemory>
+    ensures { IfOk result (λ u. map instance_plain table.new.items ≡ grow_items (grow deep (map plain_module modules.now)) (map plain_module modules.now) i path.now (map plain_item items.now) (map instance_plain table.old.items)) }
+{
+    for item in items {
+        match child(alloc, modules, i, path, item)? {
+            None => {}
+            Some(below) => extend(alloc, modules, deep, below, table)?,
         }
     }
+    Ok(())
+}
 
-    /// How many definitions and actuals there are, and one more: no more of them lead into one another without a cycle.
-    pub fn steps(&self) -> usize
-        ensures { result ≡ steps_of (map instance_plain self.now) }
-    {
-        self.parts.steps()
+/// The instances of a model: main and all below it, in preorder.
+pub fn instances<'a>(alloc: Global, source: &'a Source) -> Result<Vec<Instance<'a>>, NoMemory>
+    ensures { IfOk result (λ t. map instance_plain t.items ≡ instances_of (plain_source source.now)) }
+{
+    let modules = ModuleTable::of(alloc, &source.modules)?;
+    let mut table = Vec::new(alloc);
+    match modules.named(b"main") {
+        None => Ok(table),
+        Some(plan) => {
+            let main = Instance {
+                parent: None,
+                own: &[],
+                path: Text::new(alloc),
+                plan,
+                actuals: &[],
+            };
+            extend(alloc, &modules, modules.len(), main, &mut table)?;
+            Ok(table)
+        }
     }
 }

@@ -13,13 +13,9 @@ use text_core::NoMemory;
 fn add_key<'a>(keys: &mut Vec<Key<'a>>, key: Key<'a>) -> Result<(), NoMemory>
     ensures { OnOk result ((j : ℕ) (x : List ℕ) → list_any (is_key j x) keys.new.items ≡ (list_any (is_key j x) keys.old.items || is_key j x key.entry)) }
 {
-    match keys.push(key) {
-        Ok(()) => Ok(()),
-        Err(_) => Err(NoMemory),
-    }
+    Ok(keys.push(key)?)
 }
 
-#[tactic(auto, using(smv_meaning::proofs::Lists::front_is, smv_meaning::proofs::Lists::end_is))]
 fn add_keys<'a>(
     keys: &mut Vec<Key<'a>>,
     i: usize,
@@ -27,8 +23,8 @@ fn add_keys<'a>(
 ) -> Result<(), NoMemory>
     ensures { OnOk result ((j : ℕ) (x : List ℕ) → list_any (is_key j x) keys.new.items ≡ (list_any (is_key j x) keys.old.items || (i == j && list_any (λ q. bytes_eq q.name x) parameters.now))) }
 {
-    for k in 0..parameters.len() {
-        let name = parameters.at(k).name.bytes();
+    for parameter in parameters {
+        let name = parameter.name.bytes();
         add_key(keys, Key { instance: i, name })?;
     }
     Ok(())

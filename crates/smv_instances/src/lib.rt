@@ -15,8 +15,8 @@ mod symbols;
 mod table;
 
 pub use children::{Children, child_in, put_first};
-pub use instances::Table;
+pub use instances::{Instance, instances as instance_list, path_below};
 pub use modules::ModuleTable;
 pub use name_map::{NameMap, no_names, put, value_under};
 pub use names::{Known, Target};
-pub use table::{Instance, instances as instance_list, path_below};
+pub use table::Table;

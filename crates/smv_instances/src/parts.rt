@@ -5,11 +5,11 @@ ghost use Rattle.smv_meaning.specs.Names.{definitions_in, formulas_in, steps_of,
 ghost use Rattle.smv_instances.specs.View.{instance_plain, local_plain};
 
 use crate::children::{Children, child_in, children_of};
+use crate::instances::Instance;
 use crate::name_map::value_under;
 use crate::names::Known;
 use crate::scopes::{Scope, scopes_of};
 use crate::symbols::{Symbols, symbols_of};
-use crate::table::Instance;
 use smv_text::{Element, Elements};
 use std::alloc::Global;
 use std::marker::Model;
@@ -27,7 +27,7 @@ pub struct Parts<'a> {
 
 impl<'a> Model for Parts<'a> {
     ghost use Rattle.std.specs.Prelude.{List};
-    ghost use Rattle.smv_instances.specs.declared.table.Instance.{Instance as PartOf};
+    ghost use Rattle.smv_instances.specs.declared.instances.Instance.{Instance as PartOf};
     ghost use Rattle.std.specs.Coded.{codes};
     ghost use Rattle.smv_text.specs.contracts.tree.Expr as expr;
     ghost use Rattle.smv_text.specs.contracts.tree.Shape as shape;
@@ -115,26 +115,24 @@ impl<'a> Parts<'a> {
 }
 
 // How many definitions and actuals there are, and one more, where a number can tell it.
-#[tactic(auto, using(smv_meaning::proofs::Lists::end_is, crate::proofs::TableLemmas::steps_on))]
+#[tactic(auto, using(crate::proofs::TableLemmas::steps_on))]
 fn counted<'a>(table: &[Instance<'a>]) -> Option<usize>
     ensures { IfSome result (λ n. n ≡ steps_of (map instance_plain table.now)) }
 {
     let mut count: usize = 1;
-    for i in 0..table.len() {
-        let part = &table[i];
+    for part in table {
         count = count.checked_add(definitions(&part.plan.elements)?)?;
         count = count.checked_add(part.actuals.len())?;
     }
     Some(count)
 }
 
-#[tactic(auto, using(smv_meaning::proofs::Lists::front_is, smv_meaning::proofs::Lists::end_is))]
 fn definitions(elements: &Elements) -> Option<usize>
     ensures { IfSome result (λ n. n ≡ sum_by definitions_in (map plain_element elements.now)) }
 {
     let mut count: usize = 0;
-    for k in 0..elements.len() {
-        if let Element::Defines(list) = elements.at(k) {
+    for element in elements {
+        if let Element::Defines(list) = element {
             count = count.checked_add(list.len())?;
         }
     }

@@ -6,9 +6,9 @@ ghost use Rattle.smv_meaning.specs.Names.{nothing, among_items, among_definition
 ghost use Rattle.smv_instances.specs.NameMap.{named, Knows};
 ghost use Rattle.smv_instances.specs.View.{instance_plain, or_local};
 
+use crate::instances::Instance;
 use crate::name_map::{NameMap, no_names, put};
 use crate::names::{Known, actual, domain};
-use crate::table::Instance;
 use smv_text::{Definitions, Element, Elements, Expr, Items, Parameters, VarKind};
 use std::alloc::Global;
 use text_core::NoMemory;
@@ -111,10 +111,7 @@ pub fn scopes_of<'a>(alloc: Global, table: &[Instance<'a>]) -> Result<Vec<Scope<
 {
     let mut scopes = Vec::new(alloc);
     for i in 0..table.len() {
-        match scopes.push(scope_of(alloc, i, &table[i])?) {
-            Ok(()) => {}
-            Err(_) => return Err(NoMemory),
-        }
+        scopes.push(scope_of(alloc, i, &table[i])?)?;
     }
     Ok(scopes)
 }

@@ -7,8 +7,8 @@ ghost use Rattle.smv_meaning.specs.Names.{is_symbol, domain_has, item_has, eleme
 ghost use Rattle.smv_instances.specs.NameMap.{named};
 ghost use Rattle.smv_instances.specs.View.{instance_plain};
 
+use crate::instances::Instance;
 use crate::name_map::{NameMap, no_names, put};
-use crate::table::Instance;
 use smv_text::{Domain, Element, Elements, Items, Member, Members};
 use std::alloc::Global;
 use text_core::{Names, NoMemory};
@@ -16,12 +16,11 @@ use text_core::{Names, NoMemory};
 /// The names that are symbols.
 pub type Symbols<'a> = NameMap<'a, ()>;
 
-#[tactic(auto, using(smv_meaning::proofs::Lists::front_is, smv_meaning::proofs::Lists::end_is))]
 fn put_members<'a>(symbols: &mut Symbols<'a>, members: &'a Members) -> Result<(), NoMemory>
     ensures { OnOk result ((x : List ℕ) → is_some (named symbols.new x) ≡ (is_some (named symbols.old x) || list_any (is_symbol x) members.now)) }
 {
-    for k in 0..members.len() {
-        match members.at(k) {
+    for member in members {
+        match member {
             Member::Symbol(name) => put(symbols, name.bytes(), ())?,
             Member::Integer(_) => {}
         }
@@ -29,12 +28,11 @@ fn put_members<'a>(symbols: &mut Symbols<'a>, members: &'a Members) -> Result<()
     Ok(())
 }
 
-#[tactic(auto, using(smv_meaning::proofs::Lists::front_is, smv_meaning::proofs::Lists::end_is))]
 fn put_domains<'a>(symbols: &mut Symbols<'a>, items: &'a Items) -> Result<(), NoMemory>
     ensures { OnOk result ((x : List ℕ) → is_some (named symbols.new x) ≡ (is_some (named symbols.old x) || list_any (item_has x) (map plain_item items.now))) }
 {
-    for k in 0..items.len() {
-        match &items.at(k).domain {
+    for item in items {
+        match &item.domain {
             Domain::Boolean => {}
             Domain::Members(members) => put_members(symbols, members)?,
             Domain::Between(_, _) => {}
@@ -45,7 +43,7 @@ fn put_domains<'a>(symbols: &mut Symbols<'a>, items: &'a Items) -> Result<(), No
     Ok(())
 }
 
-#[tactic(auto, using(smv_meaning::proofs::Lists::front_is, smv_meaning::proofs::Lists::end_is))]
+#[tactic(auto, using(smv_meaning::specs::laws::Lists::front_is, smv_meaning::specs::laws::Lists::end_is))]
 fn put_constants<'a>(symbols: &mut Symbols<'a>, names: &'a Names) -> Result<(), NoMemory>
     ensures { OnOk result ((x : List ℕ) → is_some (named symbols.new x) ≡ (is_some (named symbols.old x) || is_one_of names.now x)) }
 {
@@ -55,12 +53,11 @@ fn put_constants<'a>(symbols: &mut Symbols<'a>, names: &'a Names) -> Result<(), 
     Ok(())
 }
 
-#[tactic(auto, using(smv_meaning::proofs::Lists::front_is, smv_meaning::proofs::Lists::end_is))]
 fn put_elements<'a>(symbols: &mut Symbols<'a>, elements: &'a Elements) -> Result<(), NoMemory>
     ensures { OnOk result ((x : List ℕ) → is_some (named symbols.new x) ≡ (is_some (named symbols.old x) || list_any (element_has x) (map plain_element elements.now))) }
 {
-    for k in 0..elements.len() {
-        match elements.at(k) {
+    for element in elements {
+        match element {
             Element::Vars(_, items) => put_domains(symbols, items)?,
             Element::Constants(names) => put_constants(symbols, names)?,
             _ => {}
@@ -70,14 +67,12 @@ fn put_elements<'a>(symbols: &mut Symbols<'a>, elements: &'a Elements) -> Result
 }
 
 /// The symbols of the instantiated modules.
-#[tactic(auto, using(smv_meaning::proofs::Lists::front_is, smv_meaning::proofs::Lists::end_is))]
 pub fn symbols_of<'a>(alloc: Global, table: &[Instance<'a>]) -> Result<Symbols<'a>, NoMemory>
     ensures { IfOk result (λ m. (x : List ℕ) → is_some (named m x) ≡ has_symbol (map instance_plain table.now) x) }
 {
     let mut symbols = no_names(alloc);
-    for i in 0..table.len() {
-        let plan = table[i].plan;
-        put_elements(&mut symbols, &plan.elements)?;
+    for part in table {
+        put_elements(&mut symbols, &part.plan.elements)?;
     }
     Ok(symbols)
 }

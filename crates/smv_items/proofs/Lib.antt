@@ -1,4 +1,2 @@
-pub mod Lists
-pub mod OriginLemmas
 pub mod SymbolLemmas
 pub mod NumberLemmas

@@ -11,7 +11,7 @@ use Rattle.smv_meaning.specs.Instances.{Instance}
 use Rattle.smv_meaning.specs.Names.{Found, variable_at}
 use Rattle.smv_meaning.specs.Meaning.{is_input}
 use Rattle.smv_instances.specs.NameMap.{named}
-use Rattle.smv_instances.proofs.ChildLemmas.{position_push}
+use Rattle.smv_instances.specs.laws.ChildLemmas.{position_push}
 use Rattle.smv_items.specs.declared.origins.Origin.{Origin as KeptOrigin}
 use Rattle.smv_items.specs.declared.numbers.Numbers.{Numbers}
 use Rattle.smv_items.specs.FlatItems.{is_variable_as, path_of, origins_of, is_item, item_leaf, leaf_found}

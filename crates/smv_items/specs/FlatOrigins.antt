@@ -1,5 +1,5 @@
 -- What the code keeps of items while it numbers them.
-use Rattle.std.specs.Prelude.{◌≡◌, ℕ, List, map, position, Option, Some, None, ◌&&◌, ◌==◌, bytes_eq}
+use Rattle.std.specs.Prelude.{◌≡◌, ℕ, List, position, Option, Some, None, ◌&&◌, ◌==◌, bytes_eq}
 use Rattle.std.specs.Borrow.{Bor}
 use Rattle.std.specs.HashMap.{HashMap}
 use Rattle.smv_text.specs.View.{plain, plain_domain}

@@ -1,3 +1,4 @@
 pub mod FlatItems
 pub mod FlatOrigins
 pub mod FlatItemView
+pub mod laws

@@ -178,7 +178,6 @@ fn inputs_of<'n, 'a>(
 }
 
 /// The dotted paths of the items.
-#[tactic(auto, using(crate::proofs::Lists::front_is, crate::proofs::Lists::end_is, crate::proofs::OriginLemmas::joined_on))]
 pub fn paths_of<'a>(
     alloc: Global,
     table: &Table<'a>,
@@ -187,13 +186,9 @@ pub fn paths_of<'a>(
     ensures { IfOk result (λ ps. ps.items ≡ map (path_of (map instance_plain table.now)) (map origin_plain origins.now)) }
 {
     let mut paths = Vec::new(alloc);
-    for k in 0..origins.len() {
-        let origin = &origins[k];
+    for origin in origins {
         let path = dotted_path(alloc, table, origin.instance, origin.name)?;
-        match paths.push(path) {
-            Ok(()) => {}
-            Err(_) => return Err(NoMemory),
-        }
+        paths.push(path)?;
     }
     Ok(paths)
 }

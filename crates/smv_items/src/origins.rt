@@ -42,14 +42,11 @@ fn add<'a>(
 {
     match content {
         None => Ok(()),
-        Some(content) => match origins.push(Origin {
+        Some(content) => Ok(origins.push(Origin {
             instance,
             name,
             content,
-        }) {
-            Ok(()) => Ok(()),
-            Err(_) => Err(NoMemory),
-        },
+        })?),
     }
 }
 
@@ -75,7 +72,7 @@ fn variable<'a>(kind: VarKind, d: &'a Domain) -> Option<Content<'a>>
     }
 }
 
-#[tactic(auto, using(crate::proofs::Lists::front_is, crate::proofs::Lists::end_is, crate::proofs::Lists::trees_front, crate::proofs::Lists::trees_end, crate::proofs::OriginLemmas::append_none, crate::proofs::OriginLemmas::none_actual))]
+#[tactic(auto, using(crate::specs::laws::Lists::front_is, crate::specs::laws::Lists::end_is, crate::specs::laws::Lists::trees_front, crate::specs::laws::Lists::trees_end, crate::specs::laws::OriginLemmas::append_none, crate::specs::laws::OriginLemmas::none_actual))]
 fn add_actuals<'a>(
     origins: &mut Origins<'a>,
     i: usize,
@@ -99,7 +96,6 @@ fn add_actuals<'a>(
     Ok(())
 }
 
-#[tactic(auto, using(crate::proofs::Lists::front_is, crate::proofs::Lists::end_is, crate::proofs::OriginLemmas::joined_on))]
 fn add_variables<'a>(
     origins: &mut Origins<'a>,
     i: usize,
@@ -108,14 +104,12 @@ fn add_variables<'a>(
 ) -> Result<(), NoMemory>
     ensures { OnOk result (map origin_plain origins.new.items ≡ map origin_plain origins.old.items ++ flat_map (variable_item i kind) (map plain_item items.now)) }
 {
-    for k in 0..items.len() {
-        let item = items.at(k);
+    for item in items {
         add(origins, i, item.name.bytes(), variable(kind, &item.domain))?;
     }
     Ok(())
 }
 
-#[tactic(auto, using(crate::proofs::Lists::front_is, crate::proofs::Lists::end_is, crate::proofs::OriginLemmas::joined_on))]
 fn add_definitions<'a>(
     origins: &mut Origins<'a>,
     i: usize,
@@ -123,8 +117,7 @@ fn add_definitions<'a>(
 ) -> Result<(), NoMemory>
     ensures { OnOk result (map origin_plain origins.new.items ≡ map origin_plain origins.old.items ++ map (definition_item i) (map plain_definition definitions.now)) }
 {
-    for k in 0..definitions.len() {
-        let definition = definitions.at(k);
+    for definition in definitions {
         add(
             origins,
             i,
@@ -154,7 +147,6 @@ fn add_element<'a>(
     }
 }
 
-#[tactic(auto, using(crate::proofs::Lists::front_is, crate::proofs::Lists::end_is, crate::proofs::OriginLemmas::joined_on))]
 fn add_elements<'a>(
     origins: &mut Origins<'a>,
     i: usize,
@@ -162,8 +154,8 @@ fn add_elements<'a>(
 ) -> Result<(), NoMemory>
     ensures { OnOk result (map origin_plain origins.new.items ≡ map origin_plain origins.old.items ++ flat_map (element_items i) (map plain_element elements.now)) }
 {
-    for k in 0..elements.len() {
-        add_element(origins, i, elements.at(k))?;
+    for element in elements {
+        add_element(origins, i, element)?;
     }
     Ok(())
 }
@@ -192,7 +184,7 @@ pub fn origins_at<'a>(alloc: Global, i: usize, at: &Instance<'a>) -> Result<Orig
 }
 
 /// The items of a model in their order.
-#[tactic(auto, using(crate::proofs::Lists::front_is, crate::proofs::Lists::end_is, crate::proofs::OriginLemmas::joined_on))]
+#[tactic(auto, using(crate::specs::laws::Lists::front_is, crate::specs::laws::Lists::end_is, crate::specs::laws::OriginLemmas::joined_on))]
 pub fn origins_in<'a>(alloc: Global, table: &Table<'a>) -> Result<Origins<'a>, NoMemory>
     ensures { IfOk result (λ os. map origin_plain os.items ≡ origins_of (map instance_plain table.now)) }
 {

@@ -1,29 +1,29 @@
 // The symbols of a model, each at its first place.
-ghost use Rattle.std.specs.Prelude.{◌≡◌, ◌++◌, ◌∷◌, [], not, if◌then◌else◌, map, flat_map, position, bytes_eq, length, slice_get, Option, OnOk, IfOk};
+ghost use Rattle.std.specs.Prelude.{◌≡◌, ◌++◌, ◌∷◌, [], is_none, if◌then◌else◌, map, flat_map, position, bytes_eq, OnOk, IfOk};
 ghost use Rattle.smv_text.specs.View.{plain_item, plain_element, plain_domain};
-ghost use Rattle.smv_meaning.specs.Instances.{is_one_of};
+ghost use Rattle.name_set.specs.Names.{place_of};
 ghost use Rattle.smv_instances.specs.View.{instance_plain};
 ghost use Rattle.smv_items.specs.FlatItems.{gathered, member_symbols, domain_symbols, element_symbols, symbols_of};
 
-use indexmap::IndexSet;
+use name_set::NameSet;
 use smv_instances::Table;
 use smv_text::{Domain, Element, Elements, Items, Member, Members};
 use std::alloc::Global;
 use std::marker::Model;
-use text_core::{Name, Names, NoMemory};
+use text_core::{Names, NoMemory};
 
-/// Symbols, each once, seen as their list, and found by their bytes with no scan.
+/// Symbols, each once, seen as their list.
 #[derive(Drop)]
 pub struct Symbols {
-    names: IndexSet<Vec<u8>>,
+    names: NameSet,
 }
 
 impl Model for Symbols {
-    ghost use Rattle.std.specs.Prelude.{List, ℕ, map};
+    ghost use Rattle.std.specs.Prelude.{List, ℕ};
 
     ghost Value = { List (List ℕ) };
 
-    ghost view = { λ d. map (λ name. name.items) d.names.keys };
+    ghost view = { λ d. d.names };
 }
 
 impl Symbols {
@@ -31,7 +31,7 @@ impl Symbols {
         ensures { result ≡ [] }
     {
         Symbols {
-            names: IndexSet::new(alloc),
+            names: NameSet::new(alloc),
         }
     }
 
@@ -39,37 +39,22 @@ impl Symbols {
     pub fn place(&self, name: &[u8]) -> Option<usize>
         ensures { result ≡ position (bytes_eq name.now) self.now }
     {
-        self.names.get_index_of(name)
+        self.names.place(name)
     }
 
     /// The symbols as a list of names.
-    #[tactic(auto, using(crate::proofs::SymbolLemmas::keys_behind, crate::proofs::SymbolLemmas::keys_end, crate::proofs::OriginLemmas::joined_on))]
     pub fn names(&self, alloc: Global) -> Result<Names, NoMemory>
         ensures { IfOk result (λ names. names ≡ self.now) }
     {
-        let symbols = &self.names;
-        let mut names = Names::new(alloc);
-        for k in 0..symbols.len() {
-            match symbols.get_index(k) {
-                Some(symbol) => names.push(Name::of(alloc, symbol.as_slice())?)?,
-                None => {}
-            }
-        }
-        Ok(names)
+        self.names.names(alloc)
     }
 
     // Puts a symbol at the end, where it is new, and says whether it is.
     fn declare(&mut self, alloc: Global, name: &[u8]) -> Result<bool, NoMemory>
-        ensures fresh { IfOk result (λ fresh. fresh ≡ not (is_one_of self.old name.now)) }
+        ensures fresh { IfOk result (λ fresh. fresh ≡ is_none (place_of self.old name.now)) }
         ensures names { IfOk result (λ fresh. self.new ≡ (if fresh then self.old ++ name.now ∷ [] else self.old)) }
     {
-        let Ok(key) = Vec::from_slice(alloc, name) else {
-            return Err(NoMemory);
-        };
-        match self.names.insert_full(key) {
-            Ok((_, fresh)) => Ok(fresh),
-            Err(_) => Err(NoMemory),
-        }
+        self.names.declare(alloc, name)
     }
 }
 
@@ -82,12 +67,12 @@ fn note(alloc: Global, symbols: &mut Symbols, name: &[u8]) -> Result<(), NoMemor
     Ok(())
 }
 
-#[tactic(auto, using(crate::proofs::Lists::front_is, crate::proofs::Lists::end_is, crate::proofs::SymbolLemmas::gathered_joined))]
+#[tactic(auto, using(crate::proofs::SymbolLemmas::gathered_joined))]
 fn note_members(alloc: Global, symbols: &mut Symbols, members: &Members) -> Result<(), NoMemory>
     ensures { OnOk result (symbols.new ≡ gathered symbols.old (flat_map member_symbols members.now)) }
 {
-    for k in 0..members.len() {
-        match members.at(k) {
+    for member in members {
+        match member {
             Member::Symbol(name) => note(alloc, symbols, name.bytes())?,
             Member::Integer(_) => {}
         }
@@ -107,22 +92,21 @@ fn note_domain(alloc: Global, symbols: &mut Symbols, domain: &Domain) -> Result<
     }
 }
 
-#[tactic(auto, using(crate::proofs::Lists::front_is, crate::proofs::Lists::end_is, crate::proofs::SymbolLemmas::gathered_joined))]
+#[tactic(auto, using(crate::proofs::SymbolLemmas::gathered_joined))]
 fn note_items(alloc: Global, symbols: &mut Symbols, items: &Items) -> Result<(), NoMemory>
     ensures { OnOk result (symbols.new ≡ gathered symbols.old (flat_map (λ v. domain_symbols v.domain) (map plain_item items.now))) }
 {
-    for k in 0..items.len() {
-        note_domain(alloc, symbols, &items.at(k).domain)?;
+    for item in items {
+        note_domain(alloc, symbols, &item.domain)?;
     }
     Ok(())
 }
 
-#[tactic(auto, using(crate::proofs::Lists::front_is, crate::proofs::Lists::end_is))]
 fn note_names(alloc: Global, symbols: &mut Symbols, names: &Names) -> Result<(), NoMemory>
     ensures { OnOk result (symbols.new ≡ gathered symbols.old names.now) }
 {
-    for k in 0..names.len() {
-        note(alloc, symbols, names.at(k).bytes())?;
+    for name in names {
+        note(alloc, symbols, name.bytes())?;
     }
     Ok(())
 }
@@ -142,18 +126,18 @@ fn note_element(alloc: Global, symbols: &mut Symbols, element: &Element) -> Resu
     }
 }
 
-#[tactic(auto, using(crate::proofs::Lists::front_is, crate::proofs::Lists::end_is, crate::proofs::SymbolLemmas::gathered_joined))]
+#[tactic(auto, using(crate::proofs::SymbolLemmas::gathered_joined))]
 fn note_elements(alloc: Global, symbols: &mut Symbols, elements: &Elements) -> Result<(), NoMemory>
     ensures { OnOk result (symbols.new ≡ gathered symbols.old (flat_map element_symbols (map plain_element elements.now))) }
 {
-    for k in 0..elements.len() {
-        note_element(alloc, symbols, elements.at(k))?;
+    for element in elements {
+        note_element(alloc, symbols, element)?;
     }
     Ok(())
 }
 
 /// The symbols of a model: those of enumerations and CONSTANTS.
-#[tactic(auto, using(crate::proofs::Lists::front_is, crate::proofs::Lists::end_is, crate::proofs::SymbolLemmas::gathered_joined))]
+#[tactic(auto, using(crate::specs::laws::Lists::front_is, crate::specs::laws::Lists::end_is, crate::proofs::SymbolLemmas::gathered_joined))]
 pub fn symbols_in<'a>(alloc: Global, table: &Table<'a>) -> Result<Symbols, NoMemory>
     ensures { IfOk result (λ s. s ≡ symbols_of (map instance_plain table.now)) }
 {

@@ -4,7 +4,7 @@ use Rattle.std.proofs.lemmas.List.{length-append}
 use Rattle.text_core.specs.declared.place.Place.{Place}
 use Rattle.text_core.specs.declared.place.Refusal.{Refusal}
 use Rattle.smv_text.specs.declared.token.Token.{Token}
-use Rattle.smv_text.specs.Bytes.{start}
+use Rattle.text_core.specs.Places.{start}
 use Rattle.smv_lex.specs.Answer.{IsAnswered}
 use Rattle.smv_text.specs.Lexing.{Next, finished, go, bad, Steps, ends, token, stray, misspelled, too_nested, Lexes, last, more, Refuses, here, later, opened}
 use Rattle.smv_lex.proofs.Laws.{lexeme_there, next_steps}

@@ -1,10 +1,10 @@
 -- A text has no more tokens than bytes.
-use Rattle.std.proofs.Common.{◌≡◌, ℕ, suc, ◌+◌, ◌≤◌, ◌<◌, Result, Ok, Err, List, [], ◌∷◌, ◌++◌, length, arith}
+use Rattle.std.proofs.Common.{ℕ, ◌+◌, ◌≤◌, ◌<◌, Result, Ok, Err, List, [], ◌∷◌, ◌++◌, length, arith}
 use Rattle.std.proofs.lemmas.List.{length-append}
 use Rattle.std.specs.Prelude.{IfOk}
+use Rattle.text_core.specs.declared.end.End.{End}
 use Rattle.text_core.specs.declared.place.Place.{Place}
 use Rattle.smv_text.specs.declared.token.Token.{Token}
-use Rattle.smv_lex.specs.declared.lexing.LexEnd.{LexEnd}
 use Rattle.smv_text.specs.Lexing.{TokenList, Steps, ends, token, stray, misspelled, too_nested, Next, finished, go, bad, Lexes, last, more, LexesTo}
 use Rattle.smv_lex.proofs.Laws.{lexeme_there}
 
@@ -26,6 +26,6 @@ unfolding Shorter
 lexed_few (last s) = omega arith
 lexed_few {before = before} (more t next rest s l) = omega (arith, lexed_few l, length-append before (t ∷ []), step_shorter s)
 
-pub few_from : (text : List ℕ) (r : Result TokenList LexEnd) → IfOk r (λ tokens. LexesTo text tokens.items) → IfOk r (λ tokens. length tokens.items ≤ length text)
+pub few_from : (text : List ℕ) (r : Result TokenList End) → IfOk r (λ tokens. LexesTo text tokens.items) → IfOk r (λ tokens. length tokens.items ≤ length text)
 few_from text (Ok tokens) l = omega (arith, lexed_few l)
 few_from text (Err e) l = tt

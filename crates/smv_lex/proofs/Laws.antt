@@ -3,15 +3,16 @@ use Rattle.std.proofs.Common.{◌≡◌, ◌≢◌, ◌<◌, ℕ, suc, true, fal
 use Rattle.std.specs.Prelude.{IfOk, IfErr}
 use Rattle.std.proofs.lemmas.List.{append-nil, length-append, take-append-drop}
 use Rattle.std.proofs.lemmas.Bool.{ne_eqb, le-leb, lt-leb, leb-true, leb-false, cond_both, eqb-true, eqb-false, cases_lt, cond-true, cond-false}
+use Rattle.text_core.specs.declared.end.End.{End}
+use Rattle.text_core.specs.declared.end.End.TheVariants.{Bad, NoMemory}
 use Rattle.text_core.specs.declared.place.Place.{Place}
 use Rattle.text_core.specs.declared.place.Refusal.{Refusal}
 use Rattle.smv_text.specs.declared.token.TokenKind.{TokenKind}
 use Rattle.smv_text.specs.declared.token.TokenKind.TheVariants as kind
 use Rattle.smv_text.specs.declared.token.Token.{Token}
-use Rattle.smv_lex.specs.declared.lexing.LexEnd.{LexEnd}
-use Rattle.smv_lex.specs.declared.lexing.LexEnd.TheVariants.{Bad, NoMemory}
 use Rattle.smv_lex.specs.Answer.{Reads, Stops, IsRefused}
-use Rattle.smv_text.specs.Bytes.{IsLongest, after, next_place, Reaches}
+use Rattle.smv_text.specs.Bytes.{IsLongest}
+use Rattle.text_core.specs.Places.{after, next_place, Reaches}
 use Rattle.smv_text.specs.Words.{IsGap, IsLexeme, is_run, kind_of}
 use Rattle.smv_text.specs.Lexing.{TokenList, Next, finished, bad, Steps, ends, token, stray, misspelled, too_nested, Lexes, last, more, Refuses, here, later, LexesTo, IsLexRefusal, opened_by, opened_after, opened, most_brackets}
 use Rattle.smv_lex.specs.Reading.{gap_length, lexeme_length, kinded, sized, behind, next_of, Gives}
@@ -154,12 +155,12 @@ pub not_both : (text : List ℕ) (ts : List Token) (why : Refusal) → LexesTo t
 not_both text ts why a b = no_list a b refl refl refl
 
 -- the answers, from the two that the loop gives
-pub exact_from : (text : List ℕ) (r : Result TokenList LexEnd) → IfOk r (λ tokens. LexesTo text tokens.items) → IfErr r (IsRefused text) → (ts : List Token) → LexesTo text ts → Reads ts r
+pub exact_from : (text : List ℕ) (r : Result TokenList End) → IfOk r (λ tokens. LexesTo text tokens.items) → IfErr r (IsRefused text) → (ts : List Token) → LexesTo text ts → Reads ts r
 exact_from text (Ok v) a b ts h = one_lexing text v.items ts a h
 exact_from text (Err (Bad why)) a b ts h = not_both text ts why h b
 exact_from text (Err NoMemory) a b ts h = tt
 
-pub stops_from : (text : List ℕ) (r : Result TokenList LexEnd) → IfOk r (λ tokens. LexesTo text tokens.items) → IfErr r (IsRefused text) → (why : Refusal) → IsLexRefusal text why → Stops why r
+pub stops_from : (text : List ℕ) (r : Result TokenList End) → IfOk r (λ tokens. LexesTo text tokens.items) → IfErr r (IsRefused text) → (why : Refusal) → IsLexRefusal text why → Stops why r
 stops_from text (Ok v) a b why h = not_both text v.items why a h
 stops_from text (Err (Bad other)) a b why h = one_lex_refusal text other why b h
 stops_from text (Err NoMemory) a b why h = tt
@@ -196,7 +197,7 @@ next_from n m p text at rest x c e f h =
     subst (λ (k : ℕ). Steps k p text x) c (subst (Steps n p text) is (next_steps n p text))
 
 -- what the loop answers where reading a token fails
-pub refused_from : (whole : List ℕ) (before : List Token) (n : ℕ) (p : Place) (text : List ℕ) (at : Place) (rest : List ℕ) (why : LexEnd)
+pub refused_from : (whole : List ℕ) (before : List Token) (n : ℕ) (p : Place) (text : List ℕ) (at : Place) (rest : List ℕ) (why : End)
     → n ≡ opened before → at ≡ after p (take (gap_length false text) text) → rest ≡ drop (gap_length false text) text → Gives n at rest (Err why)
     → ((w : Refusal) → Refuses before p text w → IsLexRefusal whole w) → IsRefused whole why
 refused_from whole before n p text at rest (Bad why) c e f g all = all why (here why (next_from n (opened before) p text at rest (bad why) c e f g))

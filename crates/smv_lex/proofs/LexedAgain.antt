@@ -11,7 +11,8 @@ use Rattle.smv_text.specs.declared.token.Reserved.{Reserved}
 use Rattle.smv_text.specs.declared.token.Token.{Token}
 use Rattle.smv_text.specs.declared.token.TokenKind.{TokenKind}
 use Rattle.smv_text.specs.declared.token.TokenKind.TheVariants as kind
-use Rattle.smv_text.specs.Bytes.{AllPass, after, start, front_length, is_letter, is_digit, heads}
+use Rattle.smv_text.specs.Bytes.{AllPass, front_length, is_letter, is_digit, heads}
+use Rattle.text_core.specs.Places.{after, start}
 use Rattle.smv_text.specs.Signs.{sign_at}
 use Rattle.smv_text.specs.Numbers.{number_of, literal_of, based_word, past_sign, parted_word, marked_word, bare, base_of, is_unmarked}
 use Rattle.smv_text.specs.Keywords.{look_up, keywords}

@@ -1,25 +1,25 @@
 -- What lexing answers.
 use Rattle.std.specs.Prelude.{◌≡◌, ◌⊎◌, ℕ, List, Result, Ok, Err}
+use Rattle.text_core.specs.declared.end.End.{End}
+use Rattle.text_core.specs.declared.end.End.TheVariants.{Bad, NoMemory}
 use Rattle.text_core.specs.declared.place.Refusal.{Refusal}
 use Rattle.smv_text.specs.declared.token.Token.{Token}
-use Rattle.smv_lex.specs.declared.lexing.LexEnd.{LexEnd}
-use Rattle.smv_lex.specs.declared.lexing.LexEnd.TheVariants.{Bad, NoMemory}
 use Rattle.smv_text.specs.Lexing.{TokenList, LexesTo, IsLexRefusal}
 
 -- these tokens, or want of memory
-abbrev pub Reads : List Token → Result TokenList LexEnd → Type 0
+abbrev pub Reads : List Token → Result TokenList End → Type 0
 Reads ts (Ok tokens) = tokens.items ≡ ts
 Reads ts (Err (Bad why)) = ⊥
 Reads ts (Err NoMemory) = Unit {0}
 
 -- this refusal, or want of memory
-abbrev pub Stops : Refusal → Result TokenList LexEnd → Type 0
+abbrev pub Stops : Refusal → Result TokenList End → Type 0
 Stops why (Ok tokens) = ⊥
 Stops why (Err (Bad other)) = other ≡ why
 Stops why (Err NoMemory) = Unit {0}
 
 -- the refusal of the text, or want of memory
-abbrev pub IsRefused : List ℕ → LexEnd → Type 0
+abbrev pub IsRefused : List ℕ → End → Type 0
 IsRefused text (Bad why) = IsLexRefusal text why
 IsRefused text NoMemory = Unit {0}
 

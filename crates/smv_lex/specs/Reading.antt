@@ -1,12 +1,13 @@
 -- What the scanning functions compute.
 use Rattle.std.specs.Prelude.{◌≡◌, ◌==◌, ℕ, suc, Bool, true, false, not, ◌&&◌, if◌then◌else◌, nat_le, Option, Some, None, Result, Ok, Err, List, [], ◌∷◌, length, take, drop}
+use Rattle.text_core.specs.declared.end.End.{End}
+use Rattle.text_core.specs.declared.end.End.TheVariants.{Bad, NoMemory}
 use Rattle.text_core.specs.declared.place.Place.{Place}
 use Rattle.smv_text.specs.declared.token.Token.{Token}
 use Rattle.smv_text.specs.declared.token.TokenKind.{TokenKind}
 use Rattle.smv_text.specs.declared.token.Sign.{Sign}
-use Rattle.smv_lex.specs.declared.lexing.LexEnd.{LexEnd}
-use Rattle.smv_lex.specs.declared.lexing.LexEnd.TheVariants.{Bad, NoMemory}
-use Rattle.smv_text.specs.Bytes.{is_digit, is_letter, is_blank, heads, front_length, after}
+use Rattle.smv_text.specs.Bytes.{is_digit, is_letter, is_blank, heads, front_length}
+use Rattle.text_core.specs.Places.{after}
 use Rattle.smv_text.specs.Signs.{sign_at, sign_bytes}
 use Rattle.smv_text.specs.Words.{in_word, in_run, kind_of}
 use Rattle.smv_text.specs.Lexing.{Next, finished, go, bad, token_at, refusal_at, opened_by, most_brackets}
@@ -55,7 +56,7 @@ unfoldable pub next_of : ℕ → Place → List ℕ → Next
 next_of n at text = behind n (after at (take (gap_length false text) text)) (drop (gap_length false text) text)
 
 -- what reading a token answers
-abbrev pub Gives : ℕ → Place → List ℕ → Result Token LexEnd → Type 0
+abbrev pub Gives : ℕ → Place → List ℕ → Result Token End → Type 0
 Gives n at text (Ok t) = behind n at text ≡ go t (after at (take t.length text)) (drop t.length text)
 Gives n at text (Err (Bad why)) = behind n at text ≡ bad why
 Gives n at text (Err NoMemory) = Unit {0}

@@ -5,7 +5,7 @@ ghost use Rattle.smv_text.specs.declared.token.Token.{Token};
 ghost use Rattle.smv_text.specs.declared.token.TokenKind.{TokenKind};
 ghost use Rattle.smv_text.specs.declared.token.Sign.{Sign};
 ghost use Rattle.smv_text.specs.declared.token.Reserved.{Reserved};
-ghost use Rattle.smv_text.specs.Bytes.{after, start, Reaches};
+ghost use Rattle.text_core.specs.Places.{after, start, Reaches};
 ghost use Rattle.smv_text.specs.Signs.{sign_bytes};
 ghost use Rattle.smv_text.specs.Keywords.{word_bytes};
 ghost use Rattle.smv_text.specs.Words.{kind_of};
@@ -13,61 +13,17 @@ ghost use Rattle.smv_lex.specs.Reading.{gap_length, Gives};
 ghost use Rattle.smv_lex.specs.Answer.{Reads, Stops, IsRefused, IsAnswered};
 ghost use Rattle.smv_lex.specs.Spelling.{joined};
 ghost use Rattle.smv_lex.specs.Printable.{ArePrintable, CanAllBePrinted};
-ghost use Rattle.smv_text.specs.Lexing.{kinds, LexesTo, IsLexRefusal, refusal_at, opened_by, most_brackets};
+ghost use Rattle.smv_text.specs.Lexing.{kinds, LexesTo, IsLexRefusal, opened_by, most_brackets};
 
 use crate::brackets::{MOST_BRACKETS, opened_by};
-use crate::scan::{after, gap_length, kind_of, lexeme_length};
+use crate::scan::{gap_length, kind_of, lexeme_length};
 use smv_text::{Token, Tokens};
-use std::alloc::{AllocFailed, Global};
-use text_core::{Kind, Place, Refusal};
+use std::alloc::Global;
+use text_core::kinds::smv;
+use text_core::{End, FIRST_PLACE, Place, Refusal};
 
 /// Why there are no tokens.
-#[derive(Debug, Drop)]
-pub enum LexEnd {
-    /// The text is refused.
-    Bad(Refusal),
-    /// Memory ran out.
-    NoMemory,
-}
-
-impl From<text_core::NoMemory> for LexEnd {
-    ghost use Rattle.std.specs.Prelude.{◌≡◌};
-    ghost use Rattle.smv_lex.specs.declared.lexing.LexEnd.TheVariants.{NoMemory};
-
-    ghost from_gives = { λ _ e. e ≡ NoMemory };
-
-    fn from(_: text_core::NoMemory) -> LexEnd {
-        LexEnd::NoMemory
-    }
-}
-
-impl<T: Drop> From<AllocFailed<T>> for LexEnd {
-    ghost use Rattle.std.specs.Prelude.{◌≡◌};
-    ghost use Rattle.smv_lex.specs.declared.lexing.LexEnd.TheVariants.{NoMemory};
-
-    ghost from_gives = { λ _ e. e ≡ NoMemory };
-
-    fn from(_: AllocFailed<T>) -> LexEnd {
-        LexEnd::NoMemory
-    }
-}
-
-/// The place of a text's first byte.
-const START: Place = Place {
-    line: 1,
-    column: 1,
-    offset: 0,
-};
-
-/// The refusal of this number at a place.
-fn refusal_at(number: u8, place: Place) -> Refusal
-    ensures { result ≡ refusal_at number place }
-{
-    Refusal {
-        kind: Kind::S(number),
-        place,
-    }
-}
+pub type LexEnd = End;
 
 /// The place and the text behind the gap that a text begins with.
 fn skip_gap(place: Place, text: &[u8]) -> (Place, &[u8])
@@ -77,7 +33,7 @@ fn skip_gap(place: Place, text: &[u8]) -> (Place, &[u8])
     ensures reaches { Reaches result.0 (length result.1.now) }
 {
     let (gap, rest) = text.split_at(gap_length(text));
-    (after(place, gap), rest)
+    (place.after(gap), rest)
 }
 
 /// The token at the front of a text that isn't empty, where so many brackets stand open.
@@ -92,13 +48,22 @@ fn read_token(alloc: Global, place: Place, opened: u32, text: &[u8]) -> Result<T
 {
     let size = lexeme_length(text);
     if size == 0 {
-        return Err(LexEnd::Bad(refusal_at(2, place)));
+        return Err(LexEnd::Bad(Refusal {
+            kind: smv::BAD_BYTE,
+            place,
+        }));
     }
     let Some(kind) = kind_of(alloc, &text[..size])? else {
-        return Err(LexEnd::Bad(refusal_at(3, place)));
+        return Err(LexEnd::Bad(Refusal {
+            kind: smv::BAD_NUMBER,
+            place,
+        }));
     };
     if opened_by(opened, &kind) > MOST_BRACKETS {
-        return Err(LexEnd::Bad(refusal_at(4, place)));
+        return Err(LexEnd::Bad(Refusal {
+            kind: smv::TOO_NESTED,
+            place,
+        }));
     }
     Ok(Token {
         kind,
@@ -116,7 +81,7 @@ fn tokens_of(alloc: Global, text: &[u8]) -> Result<Tokens, LexEnd>
 {
     let mut tokens = Vec::new(alloc);
     let mut rest = text;
-    let mut place = START;
+    let mut place = FIRST_PLACE;
     let mut opened = 0;
     'tokens: loop {
         let (at, more) = skip_gap(place, rest);
@@ -127,7 +92,7 @@ fn tokens_of(alloc: Global, text: &[u8]) -> Result<Tokens, LexEnd>
         let (lexeme, last) = more.split_at(token.length as usize);
         opened = opened_by(opened, &token.kind);
         tokens.push(token)?;
-        place = after(at, lexeme);
+        place = at.after(lexeme);
         rest = last;
     }
 }

@@ -64,8 +64,8 @@ fn bare(alloc: Global, digits: &[u8]) -> Result<Vec<u8>, NoMemory>
 {
     let mut kept = Vec::new(alloc);
     for b in digits {
-        if *b != b'_' && kept.push(*b).is_err() {
-            return Err(NoMemory);
+        if *b != b'_' {
+            kept.push(*b)?;
         }
     }
     Ok(kept)

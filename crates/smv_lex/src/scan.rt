@@ -1,6 +1,6 @@
 // Parts of a text: gaps, lexemes, kinds and places.
 ghost use Rattle.std.specs.Prelude.{◌≡◌, ◌+◌, ◌<◌, ◌≤◌, ◌^◌, length, false, option_map, IfOk};
-ghost use Rattle.smv_text.specs.Bytes.{is_digit, is_letter, is_blank, front_length, after};
+ghost use Rattle.smv_text.specs.Bytes.{is_digit, is_letter, is_blank, front_length};
 ghost use Rattle.smv_text.specs.Words.{is_word_byte, in_word, is_run_byte, in_run, kind_of};
 ghost use Rattle.smv_lex.specs.Reading.{gap_step, gap_length, lexeme_length};
 
@@ -9,7 +9,7 @@ use crate::signs::{heads, sign_at, sign_length};
 use crate::words::word_kind;
 use smv_text::{Sign, TokenKind};
 use std::alloc::Global;
-use text_core::{NoMemory, Place};
+use text_core::NoMemory;
 
 fn is_digit(b: u8) -> bool
     ensures { result ≡ is_digit b }
@@ -161,24 +161,4 @@ fn sign_kind(sign: Option<Sign>) -> Option<TokenKind>
         Some(sign) => Some(TokenKind::Sign(sign)),
         None => None,
     }
-}
-
-/// The place behind these bytes.
-pub fn after(place: Place, bytes: &[u8]) -> Place
-    requires line { place.line + length bytes.now < 2 ^ 32 }
-    requires column { place.column + length bytes.now + 1 < 2 ^ 32 }
-    requires offset { place.offset + length bytes.now < 2 ^ 32 }
-    ensures { result ≡ after place bytes.now }
-{
-    let mut place = place;
-    for b in bytes {
-        if *b == b'\n' {
-            place.line += 1;
-            place.column = 1;
-        } else {
-            place.column += 1;
-        }
-        place.offset += 1;
-    }
-    place
 }

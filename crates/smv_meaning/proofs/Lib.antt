@@ -1,5 +1,1 @@
 mod Examples
-pub mod Booleans
-pub mod WordLemmas
-pub mod Lists
-pub mod Plain

@@ -4,7 +4,7 @@ use Rattle.text_core.specs.declared.place.Place.{Place}
 use Rattle.text_core.specs.declared.place.Refusal.{Refusal}
 use Rattle.digraph.specs.Graph.{NodeLists, IsSorted}
 use Rattle.smv_text.specs.declared.tree.Parameter.{Parameter}
-use Rattle.smv_text.specs.Tree.{Trees, no_trees, tree, PlainDefinition, PlainElement, vars, defines, constants, assigns, init, trans, invar, spec}
+use Rattle.smv_text.specs.Tree.{Trees, no_trees, tree, PlainDefinition, PlainElement, defines}
 use Rattle.smv_meaning.specs.Instances.{Instance}
 use Rattle.smv_text.specs.declared.tree.Path.{Path}
 use Rattle.smv_meaning.specs.Names.{Found, instance_at, look, steps_of}

@@ -19,3 +19,4 @@ pub mod Parts
 pub mod Checked
 pub mod Reached
 pub mod Orders
+pub mod laws

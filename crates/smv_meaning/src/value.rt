@@ -1,6 +1,6 @@
 // Values, states and runs.
 
-use text_core::{Items as List, Name};
+use text_core::{List, Name};
 use word_core::Word;
 
 /// A value of an expression (NuSMV 2.6 User Manual, 2.1): a truth value, an integer, a symbol or a word.

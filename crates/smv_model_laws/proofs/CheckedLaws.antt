@@ -22,7 +22,7 @@ use Rattle.smv_meaning.specs.Literals.{words_fit}
 use Rattle.smv_meaning.specs.Parts.{IsPart, InTrees, InOne, expressions_in, InElements, InActuals, StandsIn}
 use Rattle.smv_meaning.specs.Settled.{is_formula, Acyclic, types_in, rank_of}
 use Rattle.smv_meaning.specs.Checked.{IsChecked, instance_all, all_trees, names_instance}
-use Rattle.smv_meaning.proofs.Booleans.{both_true, absurd_bool}
+use Rattle.smv_meaning.specs.laws.Booleans.{both_true, absurd_bool}
 use Rattle.smv_model_laws.proofs.FoundLaws.{Closed, LocalGood, by_name, in_place, there, found_good}
 use Rattle.smv_model_laws.proofs.Cycles.{In, in_all, in_left, in_right}
 use Rattle.smv_model_laws.proofs.Agreeing.{more_paths, own_paths}

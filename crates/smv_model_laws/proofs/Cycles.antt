@@ -7,7 +7,7 @@ use mathlib.Core.Logic.{◌⊎◌, inl, inr, ⊎_elim}
 use Rattle.std.specs.List.{list_all, list_any}
 use Rattle.smv_meaning.specs.Phases.{Formula, formula_same, reaches}
 use Rattle.smv_meaning.specs.Settled.{greatest, chain_length}
-use Rattle.smv_meaning.proofs.Booleans.{both_true, two_true, or_true, absurd_bool}
+use Rattle.smv_meaning.specs.laws.Booleans.{both_true, two_true, or_true, absurd_bool}
 
 -- ---- membership
 

@@ -1,22 +1,20 @@
 -- The first definition or actual that reaches itself is the first whose check fails.
-use Rattle.std.proofs.Common.{◌≡◌, ◌≢◌, ℕ, zero, suc, ◌+◌, ◌<◌, ◌≤◌, Bool, true, false, not, ◌||◌, ◌==◌, if◌then◌else◌, List, [], ◌∷◌, map, length, Option, Some, None, refl, sym, ap, ◌∙◌, subst, arith}
+use Rattle.std.proofs.Common.{◌≡◌, ℕ, zero, suc, ◌<◌, Bool, true, false, not, ◌||◌, ◌==◌, if◌then◌else◌, List, [], ◌∷◌, map, length, Some, refl, sym, ap, ◌∙◌, subst, arith}
 use Rattle.std.specs.Prelude.{slice_index_or, slice_get}
 use Rattle.std.specs.List.{list_any}
-use mathlib.Core.Logic.{◌⊎◌, inl, inr}
+use mathlib.Core.Logic.{inl, inr}
 use Rattle.std.proofs.lemmas.Bool.Decides.{eqb_tells}
 use Rattle.std.proofs.lemmas.List.{length-map, get_or-map}
-use Rattle.text_core.specs.declared.place.Refusal.{Refusal}
-use Rattle.digraph.specs.Graph.{NodeLists, next_of, leads, IsFirstReturn}
+use Rattle.digraph.specs.Graph.{leads, IsFirstReturn}
 use Rattle.smv_meaning.specs.Instances.{Instance}
-use Rattle.smv_meaning.specs.Names.{steps_of, formulas_in}
-use Rattle.smv_meaning.specs.Checks.{Check, check, first_failing}
+use Rattle.smv_meaning.specs.Names.{steps_of}
+use Rattle.smv_meaning.specs.Checks.{Check, first_failing}
 use Rattle.smv_meaning.specs.Phases.{Formula, refers, reaches}
-use Rattle.smv_meaning.specs.Settled.{cycle_checks_of}
 use Rattle.smv_meaning.specs.Formulas.{Placed, placed_formulas, formulas_of, number_or, references_of, reference_graph, refusal_of, IsFirstCycle}
 use Rattle.smv_model_laws.proofs.Cycles.{In, any_in}
-use Rattle.smv_meaning.proofs.Booleans.{or_true, absurd_bool}
+use Rattle.smv_meaning.specs.laws.Booleans.{or_true, absurd_bool}
 use Rattle.smv_model_laws.proofs.Ranked.{keys_of, keys_counted, within_keys}
-use Rattle.smv_model_laws.proofs.OrderLaws.{nobody, place_within, place_is, place_first, at_in, number, number_to, leads_is, leads_step, leads_zero, row_at, graph_length, formulas_are, checks_are, check_of, formula_in, bool_cases}
+use Rattle.smv_model_laws.proofs.OrderLaws.{nobody, place_within, place_is, place_first, at_in, number, number_to, leads_is, leads_step, leads_zero, row_at, graph_length, formulas_are, checks_are, check_of, formula_in}
 
 -- what is led to is the number of something
 hit : (t : List Instance) (n a b : ℕ) → a < length (keys_of t) → leads (reference_graph t) n a b ≡ true → (r : Formula) × In r (keys_of t) × (number t r ≡ b)

@@ -25,7 +25,7 @@ use Rattle.smv_meaning.specs.Types.{ExprType, integer_type, word_type, in_limit,
 use Rattle.smv_meaning.specs.Checks.{variable_type}
 use Rattle.smv_meaning.specs.Naming.{typed_variable}
 use Rattle.smv_type_laws.proofs.TypeLaws.{same_lies, between_lies}
-use Rattle.smv_meaning.proofs.Booleans.{or_true, absurd_bool, both_true}
+use Rattle.smv_meaning.specs.laws.Booleans.{or_true, absurd_bool, both_true}
 use Rattle.smv_type_laws.proofs.OperatorLaws.{width_of, LiesInOne, hull_of_holds}
 
 -- ---- for any fact of what is found

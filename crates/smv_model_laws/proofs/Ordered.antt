@@ -6,7 +6,7 @@ use Rattle.std.specs.List.{list_all, list_any}
 use Rattle.smv_meaning.specs.Names.{local, look, steps_of}
 use Rattle.smv_meaning.specs.Phases.{Formula, formula_same, refers}
 use Rattle.smv_meaning.specs.Settled.{is_ordered, OrderedIsAcyclic}
-use Rattle.smv_meaning.proofs.Booleans.{both_true, or_true, absurd_bool}
+use Rattle.smv_meaning.specs.laws.Booleans.{both_true, or_true, absurd_bool}
 use Rattle.smv_model_laws.proofs.Cycles.{In, in_all, all_in, same_is}
 use Rattle.smv_model_laws.proofs.Ranked.{referred_is, ranked_is_acyclic_law}
 

@@ -9,7 +9,7 @@ use Rattle.smv_meaning.specs.Checks.{passes, Position, single, under_next, Named
 use Rattle.smv_meaning.specs.Owed.{HasType}
 use Rattle.smv_meaning.specs.Literals.{words_fit, link_words, branch_words, tree_words}
 use Rattle.smv_meaning.specs.Parts.{IsPart, InLinks, InBranches, InTrees}
-use Rattle.smv_meaning.proofs.Booleans.{both_true}
+use Rattle.smv_meaning.specs.laws.Booleans.{both_true}
 use Rattle.smv_model_laws.proofs.Agreeing.{more_paths, more_branches}
 use Rattle.smv_model_laws.proofs.Typable.{TypedPaths, split, linked_front, front_parts, has_type}
 

@@ -9,7 +9,7 @@ use Rattle.smv_meaning.specs.Types.{ExprType}
 use Rattle.smv_meaning.specs.Checks.{Check, passes, first_failing, Position, single, under_next, Named, Typing, node, all_types, both_types, front, across, behind, branches_type, typing, link_types, link_checks, linked, condition_types, value_types, branch_checks, tree_types, tree_checks}
 use Rattle.smv_meaning.specs.Owed.{HasType}
 use Rattle.smv_meaning.specs.Orders.{RefusedHaveNoType}
-use Rattle.smv_meaning.proofs.Booleans.{two_true, absurd_bool}
+use Rattle.smv_meaning.specs.laws.Booleans.{two_true, absurd_bool}
 use Rattle.smv_model_laws.proofs.Typable.{Holds}
 use Rattle.smv_model_laws.proofs.OrderLaws.{none_fails}
 

@@ -17,7 +17,7 @@ use Rattle.smv_meaning.specs.Expressions.{paths_of}
 use Rattle.smv_meaning.specs.Checks.{Check, passes}
 use Rattle.smv_meaning.specs.Phases.{Formula, formula_same, formula_here, from_instance, touched, referred, refers, reaches, actual_cycles, element_cycles, cycle_checks, over_instances}
 use Rattle.smv_meaning.specs.Settled.{Acyclic, is_formula, cycle_checks_of, IsRank, RankedIsAcyclic, CyclesAreChecked, AcyclicIsRanked, rank_of}
-use Rattle.smv_meaning.proofs.Booleans.{or_true, absurd_bool}
+use Rattle.smv_meaning.specs.laws.Booleans.{or_true, absurd_bool}
 use Rattle.smv_model_laws.proofs.Cycles.{In, any_in, in_all, all_in, in_left, in_right, in_either, in_flat, same_is, Within, chain_falls, chain_most}
 
 -- ---- the definitions and actuals of a model

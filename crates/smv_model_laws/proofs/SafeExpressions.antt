@@ -23,7 +23,7 @@ use Rattle.smv_meaning.specs.Literals.{words_fit}
 use Rattle.smv_meaning.specs.Settled.{is_formula, Acyclic, cycle_checks_of, types_in, values_in, rank_of}
 use Rattle.smv_meaning.specs.Reached.{is_body_of, leads_to, local_leads_to}
 use Rattle.smv_meaning.specs.Checked.{path_checks_of, type_checks_of, IsChecked, AcceptedIsChecked, all_trees, names_instance, NamesHaveTypes, ExpressionsHaveTypes, reaches_an_input, ExpressionsAreSafe}
-use Rattle.smv_meaning.proofs.Booleans.{absurd_bool}
+use Rattle.smv_meaning.specs.laws.Booleans.{absurd_bool}
 use Rattle.smv_type_laws.proofs.SafeLaws.{safe_path, typed_is_safe_law}
 use Rattle.smv_model_laws.proofs.Cycles.{In, any_in, same_is}
 use Rattle.smv_model_laws.proofs.FoundLaws.{LocalGood}

@@ -15,7 +15,7 @@ use Rattle.smv_meaning.specs.Checks.{Named, Typing}
 use Rattle.smv_meaning.specs.Naming.{in_body, named_found, naming}
 use Rattle.smv_meaning.specs.Phases.{Formula, formula_here, from_instance, touched, referred, refers}
 use Rattle.smv_meaning.specs.Settled.{is_formula, Acyclic, chain_length, rank_of, is_cyclic, NamesSettle, ValuesSettle, ValuesAreOne, TypesSettle}
-use Rattle.smv_meaning.proofs.Booleans.{absurd_bool}
+use Rattle.smv_meaning.specs.laws.Booleans.{absurd_bool}
 use Rattle.smv_model_laws.proofs.Cycles.{In, in_left, in_right, flat_in, chain_most}
 use Rattle.smv_model_laws.proofs.Ranked.{key, in_keys, keys_of, keys_counted, acyclic_falls}
 use Rattle.smv_model_laws.proofs.Agreeing.{denote_same, typing_same}

@@ -11,7 +11,7 @@ use Rattle.smv_meaning.specs.Checks.{Named}
 use Rattle.smv_meaning.specs.Phases.{Formula, formula_same, refers}
 use Rattle.smv_meaning.specs.Formulas.{formulas_of, number_or, reference_graph}
 use Rattle.smv_meaning.specs.Orders.{numbered, is_listed, OrderIsWhole, ReferencesStandBefore, SameOn, TypesHangOnPaths}
-use Rattle.smv_meaning.proofs.Booleans.{both_true}
+use Rattle.smv_meaning.specs.laws.Booleans.{both_true}
 use Rattle.smv_model_laws.proofs.Cycles.{In, same_self, in_any, any_in}
 use Rattle.smv_model_laws.proofs.Ranked.{keys_of, in_keys, within_keys}
 use Rattle.smv_model_laws.proofs.OrderLaws.{nobody, place_within, place_is, formulas_are, number, number_to, graph_length, row_at}

@@ -12,7 +12,7 @@ use Rattle.smv_meaning.specs.Types.{ExprType, word_type, hull_of, first_type, pr
 use Rattle.smv_meaning.specs.Checks.{Check, passes, Position, single, under_next, Named, Typing, all_types, both_types, front_checks, front, across, behind, branches_type, is_literal, literal_type, typing, link_types, link_checks, linked, condition_types, value_types, branch_checks, tree_types, tree_checks}
 use Rattle.smv_meaning.specs.Owed.{HasType}
 use Rattle.smv_meaning.specs.Literals.{words_fit, link_words, branch_words, tree_words}
-use Rattle.smv_meaning.proofs.Booleans.{both_true, absurd_bool}
+use Rattle.smv_meaning.specs.laws.Booleans.{both_true, absurd_bool}
 use Rattle.smv_model_laws.proofs.Cycles.{In}
 use Rattle.smv_model_laws.proofs.Agreeing.{more_paths, more_branches}
 

@@ -1,11 +1,11 @@
 -- Checks one after another: the first that fails refuses.
 use Rattle.std.proofs.Common.{◌≡◌, ℕ, ◌+◌, ◌<◌, Bool, true, false, List, [], ◌∷◌, ◌++◌, map, length, drop, flat_map, Option, Some, None, if◌then◌else◌, refl, sym, ap, ◌∙◌, subst}
 use Rattle.std.specs.Prelude.{slice_index_or}
+use Rattle.text_core.specs.declared.end.End.{End}
+use Rattle.text_core.specs.declared.end.End.TheVariants.{Bad, NoMemory}
 use Rattle.text_core.specs.declared.place.Place.{Place}
 use Rattle.text_core.specs.declared.place.Refusal.{Refusal}
 use Rattle.smv_meaning.specs.Checks.{Check, check, first_failing}
-use Rattle.smv_names.specs.declared.ends.NamesEnd.{NamesEnd}
-use Rattle.smv_names.specs.declared.ends.NamesEnd.TheVariants.{Bad, NoMemory}
 use Rattle.smv_names.specs.Outcome.{IsBad}
 use Rattle.smv_model_types.proofs.Lists.{front_is}
 
@@ -21,11 +21,11 @@ goes (c ∷ cs) ys h =
     (elim c.holds as (λ b. (if b then first_failing cs else Some c.refusal) ≡ None → (if b then first_failing (cs ++ ys) else Some c.refusal) ≡ first_failing ys)
     [ true ↦ λ k. goes cs ys k | false ↦ λ k. cc ]) h
 
-pub ends : (e : NamesEnd) (xs ys : List Check) → IsBad e (first_failing xs) → IsBad e (first_failing (xs ++ ys))
+pub ends : (e : End) (xs ys : List Check) → IsBad e (first_failing xs) → IsBad e (first_failing (xs ++ ys))
 ends (Bad why) xs ys h = stops xs ys why h
 ends NoMemory xs ys h = tt
 
-pub ends_behind : (e : NamesEnd) (xs ys : List Check) → first_failing xs ≡ None → IsBad e (first_failing ys) → IsBad e (first_failing (xs ++ ys))
+pub ends_behind : (e : End) (xs ys : List Check) → first_failing xs ≡ None → IsBad e (first_failing ys) → IsBad e (first_failing (xs ++ ys))
 ends_behind (Bad why) xs ys g h = goes xs ys g ∙ h
 ends_behind NoMemory xs ys g h = tt
 
@@ -42,7 +42,7 @@ rest_goes f g xs k n x whole e l is h w =
     let rest = flat_map f (map g (drop (k + 1) xs)) in
     sym (goes (f (g x)) rest h) ∙ sym (ap (λ ys. first_failing (flat_map f (map g ys))) (front_is xs k n x e l is)) ∙ w
 
-pub rest_ends : {X Y : Type 0} (f : Y → List Check) (g : X → Y) (xs : List X) (k n : ℕ) (x : X) (end : NamesEnd) (whole : Option Refusal) → n ≡ length xs → k < n → x ≡ slice_index_or xs k x → IsBad end (first_failing (f (g x)))
+pub rest_ends : {X Y : Type 0} (f : Y → List Check) (g : X → Y) (xs : List X) (k n : ℕ) (x : X) (end : End) (whole : Option Refusal) → n ≡ length xs → k < n → x ≡ slice_index_or xs k x → IsBad end (first_failing (f (g x)))
     → first_failing (flat_map f (map g (drop k xs))) ≡ whole → IsBad end whole
 rest_ends f g xs k n x end whole e l is h w =
     let rest = flat_map f (map g (drop (k + 1) xs)) in

@@ -1,5 +1,6 @@
 -- The types of variables.
-use Rattle.std.proofs.Common.{◌≡◌, ℕ, Bool, true, false, not, ◌&&◌, if◌then◌else◌, [], ◌∷◌, Option, Some, None, refl, sym, ◌∙◌}
+use Rattle.std.proofs.Common.{◌≡◌, Bool, true, false, not, ◌&&◌, if◌then◌else◌, [], ◌∷◌, Option, Some, None, refl, sym, ◌∙◌}
+use Rattle.text_core.specs.declared.place.Kind.{Kind}
 use Rattle.text_core.specs.declared.place.Place.{Place}
 use Rattle.text_core.specs.declared.place.Refusal.{Refusal}
 use Rattle.smv_text.specs.declared.tree.VarKind.{VarKind}
@@ -27,8 +28,8 @@ one_fails p false b c d t why h = refl
 pub typed : (d : PlainDomain) (t : Option ExprType) → ((p : Place) → first_failing (domain_checks p d) ≡ None) → t ≡ domain_type d → t ≡ variable_type d
 typed d t h e = e ∙ sym (four_pass start_place (is_unmixed d) (on_type (domain_type d) in_limit) (has_width d) (has_order d) (domain_type d) (h start_place))
 
-pub untyped : (d : PlainDomain) (kind : ℕ) → ((p : Place) → first_failing (domain_checks p d) ≡ Some (check kind p false).refusal) → None ≡ variable_type d
-untyped d kind h = sym (one_fails start_place (is_unmixed d) (on_type (domain_type d) in_limit) (has_width d) (has_order d) (domain_type d) (check kind start_place false).refusal (h start_place))
+pub untyped : (d : PlainDomain) (kind : Kind) → ((p : Place) → first_failing (domain_checks p d) ≡ Some (record { kind = kind; place = p })) → None ≡ variable_type d
+untyped d kind h = sym (one_fails start_place (is_unmixed d) (on_type (domain_type d) in_limit) (has_width d) (has_order d) (domain_type d) (record { kind = kind; place = start_place }) (h start_place))
 
 -- a label is given
 pub with_label : (kind : VarKind) (d : PlainDomain) (t : Option ExprType) → t ≡ variable_type d → t ≡ typed_variable true kind d

@@ -1,9 +1,9 @@
 -- A list from a place on.
-use Rattle.std.proofs.Common.{◌≡◌, ℕ, ◌+◌, ◌<◌, ◌≤◌, List, [], ◌∷◌, drop, length, map, sym, ap, ◌∙◌, arith}
+use Rattle.std.proofs.Common.{◌≡◌, ℕ, ◌+◌, ◌<◌, ◌≤◌, List, [], ◌∷◌, drop, length, map, refl, sym, ap, ◌∙◌, arith}
 use Rattle.std.specs.Prelude.{slice_index_or}
 use Rattle.std.proofs.lemmas.List.{drop_more, drop_all}
 use Rattle.smv_text.specs.declared.tree.Expr.{Expr}
-use Rattle.smv_text.specs.Tree.{no_trees, tree, trees_of}
+use Rattle.smv_text.specs.Tree.{tree, trees_of}
 use Rattle.smv_text.specs.View.{plain}
 
 pub front_is : {X : Type 0} (xs : List X) (i n : ℕ) (x : X) → n ≡ length xs → i < n → x ≡ slice_index_or xs i x → drop i xs ≡ x ∷ drop (i + 1) xs
@@ -12,8 +12,5 @@ front_is xs i n x e l is = drop_more xs i x (omega (arith, e, l)) ∙ ap (λ y. 
 pub end_is : {X : Type 0} (xs : List X) (i n : ℕ) → n ≡ length xs → n ≤ i → drop i xs ≡ []
 end_is xs i n e l = drop_all i xs (omega (arith, e, l))
 
-pub trees_front : (es : List Expr) (i n : ℕ) (e : Expr) → n ≡ length es → i < n → e ≡ slice_index_or es i e → trees_of (map plain (drop i es)) ≡ tree (plain e) (trees_of (map plain (drop (i + 1) es)))
-trees_front es i n e l h is = ap (λ xs. trees_of (map plain xs)) (front_is es i n e l h is)
-
-pub trees_end : (es : List Expr) (i n : ℕ) → n ≡ length es → n ≤ i → trees_of (map plain (drop i es)) ≡ no_trees
-trees_end es i n l h = ap (λ xs. trees_of (map plain xs)) (end_is es i n l h)
+pub trees_on : (es : List Expr) (i : ℕ) (e : Expr) → i < length es → e ≡ slice_index_or es i e → trees_of (map plain (drop i es)) ≡ tree (plain e) (trees_of (map plain (drop (i + 1) es)))
+trees_on es i e h is = ap (λ xs. trees_of (map plain xs)) (front_is es i (length es) e refl h is)

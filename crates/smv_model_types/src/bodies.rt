@@ -25,15 +25,14 @@ use smv_references::{Formula, paths_in};
 use smv_text::{Expr, Path};
 use smv_types::{CheckEnd, Named, Position, type_of};
 use std::alloc::Global;
-use text_core::{Items, NoMemory};
+use text_core::{List, NoMemory};
 
 // Does one of the paths reach an input?
-#[tactic(auto, using(crate::proofs::Paths::seen_front, crate::proofs::Paths::seen_end))]
 fn one_reaches<'a>(table: &Table<'a>, row: &Row<'a>, j: usize, paths: &[&Path]) -> bool
     ensures { result ≡ list_any (λ q. (row_names (map instance_plain table.now) (row_seen row.now) j q).reaches_input) (map path_seen paths.now) }
 {
-    for k in 0..paths.len() {
-        if path_named(table, row, j, paths[k]).reaches_input {
+    for path in paths {
+        if path_named(table, row, j, path).reaches_input {
             return true;
         }
     }
@@ -119,7 +118,7 @@ pub(crate) fn row_of<'a>(
     alloc: Global,
     table: &Table<'a>,
     formulas: &[Formula<'a>],
-    order: &Items<usize>,
+    order: &List<usize>,
 ) -> Result<Row<'a>, NoMemory>
     requires formulas { map formula_plain formulas.now ≡ placed_formulas (map instance_plain table.now) }
     requires order { IsFormulaOrder (map instance_plain table.now) order.now }

@@ -12,7 +12,6 @@ ghost use Rattle.smv_types.specs.View.{position_seen};
 ghost use Rattle.smv_names.specs.Outcome.{Settles};
 ghost use Rattle.smv_model_types.specs.Outcome.{AreTypesOf, is_path};
 
-use crate::ends::{TYPE_CLASH, refusal};
 use crate::types::Types;
 use smv_instances::Table;
 use smv_intervals::Ty;
@@ -21,6 +20,8 @@ use smv_references::place;
 use smv_text::{Assignment, Expr, Shape, When};
 use smv_types::Position;
 use std::alloc::Global;
+use text_core::Refusal;
+use text_core::kinds::smv;
 
 /// The checks of a body of a definition or of an actual.
 pub(crate) fn body_checked<'a>(
@@ -106,7 +107,10 @@ pub(crate) fn formula_checked<'a>(
     if is_truth(t) {
         Ok(())
     } else {
-        Err(NamesEnd::Bad(refusal(TYPE_CLASH, place(e))))
+        Err(NamesEnd::Bad(Refusal {
+            kind: smv::TYPE_CLASH,
+            place: place(e),
+        }))
     }
 }
 
@@ -137,6 +141,9 @@ pub(crate) fn assignment_checked<'a>(
     if are_same(target, value) {
         Ok(())
     } else {
-        Err(NamesEnd::Bad(refusal(TYPE_CLASH, place(&assignment.body))))
+        Err(NamesEnd::Bad(Refusal {
+            kind: smv::TYPE_CLASH,
+            place: place(&assignment.body),
+        }))
     }
 }

@@ -11,12 +11,12 @@ ghost use Rattle.smv_types.specs.View.{named_seen};
 ghost use Rattle.smv_names.specs.Outcome.{Settles};
 ghost use Rattle.smv_model_types.specs.Outcome.{IsDeclared};
 
-use crate::ends::{BAD_WIDTH, EMPTY_RANGE, INT_TOO_WIDE, TYPE_CLASH, refusal};
 use smv_intervals::{Ty, hull, kept};
 use smv_names::NamesEnd;
 use smv_text::{Domain, Member, Members, VarKind};
 use smv_types::Named;
-use text_core::Place;
+use text_core::kinds::smv;
+use text_core::{Kind, Place, Refusal};
 use word_core::WIDEST;
 
 fn member_type(member: &Member) -> Ty
@@ -61,32 +61,32 @@ fn hull_of(members: &Members) -> Ty
 }
 
 // The type, or the kind of the first check that fails.
-fn declared(domain: &Domain) -> Result<Option<Ty>, u8>
+fn declared(domain: &Domain) -> Result<Option<Ty>, Kind>
     ensures { IsDeclared result (plain_domain domain.now) }
 {
     match domain {
         Domain::Boolean => Ok(Some(Ty::Truth)),
         Domain::Members(members) => {
             if !are_same(members) {
-                return Err(TYPE_CLASH);
+                return Err(smv::TYPE_CLASH);
             }
             match kept(hull_of(members)) {
                 Some(t) => Ok(Some(t)),
-                None => Err(INT_TOO_WIDE),
+                None => Err(smv::INT_TOO_WIDE),
             }
         }
         Domain::Between(low, high) => match kept(Ty::Integer(*low, *high)) {
             Some(t) => if *low <= *high {
                 Ok(Some(t))
             } else {
-                Err(EMPTY_RANGE)
+                Err(smv::EMPTY_RANGE)
             },
-            None => Err(INT_TOO_WIDE),
+            None => Err(smv::INT_TOO_WIDE),
         },
         Domain::Bits(n) => if 1 <= *n && *n <= WIDEST as u64 {
             Ok(Some(Ty::Bits(*n as u32)))
         } else {
-            Err(BAD_WIDTH)
+            Err(smv::BAD_SELECT)
         },
         Domain::Instance(_, _) => Ok(None),
     }
@@ -98,7 +98,7 @@ pub(crate) fn domain_checked(place: Place, domain: &Domain) -> Result<(), NamesE
 {
     match declared(domain) {
         Ok(_) => Ok(()),
-        Err(kind) => Err(NamesEnd::Bad(refusal(kind, place))),
+        Err(kind) => Err(NamesEnd::Bad(Refusal { kind, place })),
     }
 }
 

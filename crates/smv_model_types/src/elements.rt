@@ -17,7 +17,7 @@ use smv_text::{Assignments, Definitions, Element, Elements, Expr, Items};
 use smv_types::Position;
 use std::alloc::Global;
 
-#[tactic(auto, using(crate::proofs::Lists::front_is, crate::proofs::Lists::end_is, crate::proofs::Lists::trees_front, crate::proofs::Lists::trees_end, crate::proofs::Composing::goes, crate::proofs::Composing::ends))]
+#[tactic(auto, using(crate::proofs::Lists::trees_on, crate::proofs::Composing::goes, crate::proofs::Composing::ends))]
 fn actuals_checked<'a>(
     alloc: Global,
     table: &Table<'a>,
@@ -28,18 +28,17 @@ fn actuals_checked<'a>(
     requires { AreTypesOf (map instance_plain table.now) types.now }
     ensures { Settles result (actuals_typing (types_in true (map instance_plain table.now) i) (trees_of (map plain actuals.now))) }
 {
-    for k in 0..actuals.len() {
-        actual_checked(alloc, table, types, i, &actuals[k])?;
+    for actual in actuals {
+        actual_checked(alloc, table, types, i, actual)?;
     }
     Ok(())
 }
 
-#[tactic(auto, using(crate::proofs::Lists::front_is, crate::proofs::Lists::end_is, crate::proofs::Composing::goes, crate::proofs::Composing::ends))]
+#[tactic(auto, using(crate::proofs::Composing::goes, crate::proofs::Composing::ends))]
 fn items_checked(items: &Items) -> Result<(), NamesEnd>
     ensures { Settles result (flat_map item_typing (map plain_item items.now)) }
 {
-    for k in 0..items.len() {
-        let item = items.at(k);
+    for item in items {
         domain_checked(item.domain_place, &item.domain)?;
     }
     Ok(())
@@ -111,7 +110,7 @@ fn element_checked<'a>(
     }
 }
 
-#[tactic(auto, using(crate::proofs::Lists::front_is, crate::proofs::Lists::end_is, crate::proofs::Composing::goes, crate::proofs::Composing::ends))]
+#[tactic(auto, using(crate::proofs::Composing::goes, crate::proofs::Composing::ends))]
 fn elements_checked<'a>(
     alloc: Global,
     table: &Table<'a>,
@@ -122,8 +121,8 @@ fn elements_checked<'a>(
     requires { AreTypesOf (map instance_plain table.now) types.now }
     ensures { Settles result (flat_map (element_typing (types_in true (map instance_plain table.now) i)) (map plain_element elements.now)) }
 {
-    for k in 0..elements.len() {
-        element_checked(alloc, table, types, i, elements.at(k))?;
+    for element in elements {
+        element_checked(alloc, table, types, i, element)?;
     }
     Ok(())
 }

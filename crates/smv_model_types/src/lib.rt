@@ -5,7 +5,6 @@ mod bodies;
 mod checks;
 mod domains;
 mod elements;
-mod ends;
 mod names;
 mod row;
 mod types;

@@ -21,9 +21,9 @@ use smv_model_laws::types_hang_on_paths;
 use smv_names::NamesEnd;
 use smv_references::Formula;
 use smv_text::{Expr, Path};
-use smv_types::{CheckEnd, Named, Position, type_of};
+use smv_types::{Named, Position, type_of};
 use std::alloc::Global;
-use text_core::{Items, NoMemory};
+use text_core::{List, NoMemory};
 
 /// The types of a model's variables, definitions and actuals.
 #[derive(Drop)]
@@ -36,7 +36,7 @@ impl<'a> Types<'a> {
         alloc: Global,
         table: &Table<'a>,
         formulas: &[Formula<'a>],
-        order: &Items<usize>,
+        order: &List<usize>,
     ) -> Result<Types<'a>, NoMemory>
         requires formulas { map formula_plain formulas.now ≡ placed_formulas (map instance_plain table.now) }
         requires order { IsFormulaOrder (map instance_plain table.now) order.now }
@@ -74,11 +74,7 @@ impl<'a> Types<'a> {
             row: &self.row,
             instance: i,
         };
-        match type_of(alloc, &names, e, position) {
-            Ok(t) => Ok(t),
-            Err(CheckEnd::Bad(why)) => Err(NamesEnd::Bad(why)),
-            Err(CheckEnd::NoMemory) => Err(NamesEnd::NoMemory),
-        }
+        type_of(alloc, &names, e, position)
     }
 }
 
@@ -89,7 +85,7 @@ pub fn types_checked<'a>(
     alloc: Global,
     table: &Table<'a>,
     formulas: &[Formula<'a>],
-    order: &Items<usize>,
+    order: &List<usize>,
 ) -> Result<Types<'a>, NamesEnd>
     requires formulas { map formula_plain formulas.now ≡ placed_formulas (map instance_plain table.now) }
     requires order { IsFormulaOrder (map instance_plain table.now) order.now }

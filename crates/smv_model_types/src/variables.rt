@@ -42,8 +42,8 @@ fn put_items<'a>(
     ensures { OnOk result (Right (map instance_plain table.now) (row_seen row.new)) }
 {
     names_settle();
-    for k in 0..items.len() {
-        put_variable(table, row, i, items.at(k).name.bytes())?;
+    for item in items {
+        put_variable(table, row, i, item.name.bytes())?;
     }
     Ok(())
 }
@@ -80,8 +80,8 @@ fn put_elements<'a>(
     requires right { Right (map instance_plain table.now) (row_seen row.old) }
     ensures { OnOk result (Right (map instance_plain table.now) (row_seen row.new)) }
 {
-    for k in 0..elements.len() {
-        put_element(table, row, i, elements.at(k))?;
+    for element in elements {
+        put_element(table, row, i, element)?;
     }
     Ok(())
 }

@@ -5,7 +5,7 @@ use Rattle.std.specs.Option.{option_map}
 use Rattle.std.proofs.lemmas.List.{length-map}
 use Rattle.std.proofs.lemmas.Option.{slice_get-map, slice_get_read, slice_get_past}
 use Rattle.text_core.specs.declared.place.Refusal.{Refusal}
-use Rattle.smv_instances.specs.declared.table.Instance.{Instance as PartOf}
+use Rattle.smv_instances.specs.declared.instances.Instance.{Instance as PartOf}
 use Rattle.smv_meaning.specs.Checks.{check, first_failing}
 use Rattle.smv_meaning.specs.Phases.{symbol_checks, declared_in, Declared}
 use Rattle.smv_instances.specs.View.{instance_plain}

@@ -1,5 +1,4 @@
 pub mod Lists
-pub mod Composing
 pub mod Above
 pub mod Walks
 pub mod FirstPart

@@ -1,12 +1,12 @@
 -- Steps of the walk over the modules.
 use Rattle.std.proofs.Common.{◌≡◌, ℕ, suc, ◌-◌, ◌<◌, List, [], ◌∷◌, ◌++◌, None, append_assoc, refl, sym, ap, ◌∙◌, subst, arith}
+use Rattle.text_core.specs.declared.end.End.{End}
 use Rattle.smv_text.specs.Tree.{PlainModule}
 use Rattle.smv_meaning.specs.Checks.{first_failing}
 use Rattle.smv_meaning.specs.Phases.{Declared, declared_in, declared_checks, counted_all}
-use Rattle.smv_names.specs.declared.ends.NamesEnd.{NamesEnd}
 use Rattle.smv_names.specs.Outcome.{IsBad}
 use Rattle.smv_names.specs.Visits.{Visit, declared_visits, visits, visit_checks, visit_count}
-use Rattle.smv_names.proofs.Composing.{goes, ends}
+use Rattle.smv_names.specs.laws.Composing.{goes, ends}
 
 pub checks_append : (ms : List PlainModule) (met : ℕ) (vs ws : List Visit) → visit_checks ms met (vs ++ ws) ≡ visit_checks ms met vs ++ visit_checks ms (visit_count met vs) ws
 checks_append ms met [] ws = refl
@@ -36,7 +36,7 @@ begins n ms above own path met plan ds h o e =
     ∙ ap (λ a. declared_checks ms a path [] met (declared_in plan) ++ visit_checks ms (counted_all met (declared_in plan)) (declared_visits (visits (n - 1) ms (plan.name ∷ above)) ms path (declared_in plan))) (sym o)
     ∙ ap (λ l. declared_checks ms own path [] met l ++ visit_checks ms (counted_all met l) (declared_visits (visits (n - 1) ms (plan.name ∷ above)) ms path l)) (sym e)
 
-pub begins_bad : (n : ℕ) (ms : List PlainModule) (above own : List (List ℕ)) (path : List ℕ) (met : ℕ) (plan : PlainModule) (ds : List Declared) (e : NamesEnd) → 0 < n → own ≡ plan.name ∷ above → ds ≡ declared_in plan
+pub begins_bad : (n : ℕ) (ms : List PlainModule) (above own : List (List ℕ)) (path : List ℕ) (met : ℕ) (plan : PlainModule) (ds : List Declared) (e : End) → 0 < n → own ≡ plan.name ∷ above → ds ≡ declared_in plan
     → IsBad e (first_failing (declared_checks ms own path [] met ds)) → IsBad e (first_failing (visit_checks ms met (visits n ms above path plan)))
 begins_bad n ms above own path met plan ds e h o d b =
     subst (λ cs. IsBad e (first_failing cs)) (sym (begins n ms above own path met plan ds h o d))
@@ -61,6 +61,6 @@ goes_on ms count more vs ws h e =
     ap (λ m. first_failing (visit_checks ms m ws)) e
     ∙ sym (ap first_failing (checks_append ms count vs ws) ∙ goes (visit_checks ms count vs) (visit_checks ms (visit_count count vs) ws) h)
 
-pub ends_in : (ms : List PlainModule) (count : ℕ) (vs ws : List Visit) (e : NamesEnd) → IsBad e (first_failing (visit_checks ms count vs)) → IsBad e (first_failing (visit_checks ms count (vs ++ ws)))
+pub ends_in : (ms : List PlainModule) (count : ℕ) (vs ws : List Visit) (e : End) → IsBad e (first_failing (visit_checks ms count vs)) → IsBad e (first_failing (visit_checks ms count (vs ++ ws)))
 ends_in ms count vs ws e h =
     subst (λ cs. IsBad e (first_failing cs)) (sym (checks_append ms count vs ws)) (ends e (visit_checks ms count vs) (visit_checks ms (visit_count count vs) ws) h)

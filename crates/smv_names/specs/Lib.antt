@@ -3,3 +3,4 @@ pub mod Visits
 pub mod View
 pub mod Paths
 pub mod Assigning
+pub mod laws

@@ -1,6 +1,6 @@
 // What is assigned: variables alone, and each once.
 ghost use Rattle.std.specs.Prelude.{◌≡◌, ◌++◌, List, map, flat_map, IfOk, OnOk};
-ghost use Rattle.smv_instances.specs.declared.table.Instance.{Instance as PartOf};
+ghost use Rattle.smv_instances.specs.declared.instances.Instance.{Instance as PartOf};
 ghost use Rattle.smv_text.specs.Tree.{assigns};
 ghost use Rattle.smv_text.specs.View.{plain_assignment, plain_element};
 ghost use Rattle.smv_meaning.specs.Names.{found_in};
@@ -9,11 +9,12 @@ ghost use Rattle.smv_instances.specs.View.{instance_plain, found_plain};
 ghost use Rattle.smv_names.specs.Outcome.{Settles};
 ghost use Rattle.smv_names.specs.Assigning.{assigned_plain, assigned_path, target_path, with_kind, kinds_or_none, kinds_clash};
 
-use crate::ends::{ASSIGNED_TWICE, NOT_ASSIGNABLE, NamesEnd, refusal};
+use crate::ends::NamesEnd;
 use smv_instances::{Table, Target, no_names, path_below, put, value_under};
 use smv_text::{Assignments, Element, Elements, VarKind, When};
 use std::alloc::Global;
-use text_core::{NoMemory, Place, Text};
+use text_core::kinds::smv;
+use text_core::{NoMemory, Place, Refusal, Text};
 
 /// An assignment: when it holds, what its target leads to, and where the target stands.
 #[derive(Clone, Copy)]
@@ -95,7 +96,6 @@ fn clashes(kinds: Option<Kinds>, when: When) -> bool
     }
 }
 
-#[tactic(auto, using(crate::proofs::Lists::front_is, crate::proofs::Lists::end_is))]
 fn add_assignments<'a>(
     list: &mut Vec<Assignment<'a>>,
     table: &Table<'a>,
@@ -104,22 +104,18 @@ fn add_assignments<'a>(
 ) -> Result<(), NoMemory>
     ensures { OnOk result (map (assigned_plain table.now) list.new.items ≡ map (assigned_plain table.now) list.old.items ++ element_assigns (found_in (map instance_plain table.now)) i (assigns (map plain_assignment assignments.now))) }
 {
-    for k in 0..assignments.len() {
-        let assignment = assignments.at(k);
+    for assignment in assignments {
         let target = &assignment.target;
-        match list.push(Assignment {
+        list.push(Assignment {
             when: assignment.when,
             target: table.found(i, target),
             place: target.place,
-        }) {
-            Ok(()) => {}
-            Err(_) => return Err(NoMemory),
-        }
+        })?;
     }
     Ok(())
 }
 
-#[tactic(auto, using(crate::proofs::Lists::front_is, crate::proofs::Lists::end_is, crate::proofs::PathLemmas::joined))]
+#[tactic(auto, using(crate::proofs::PathLemmas::joined))]
 fn add_elements<'a>(
     list: &mut Vec<Assignment<'a>>,
     table: &Table<'a>,
@@ -128,8 +124,8 @@ fn add_elements<'a>(
 ) -> Result<(), NoMemory>
     ensures { OnOk result (map (assigned_plain table.now) list.new.items ≡ map (assigned_plain table.now) list.old.items ++ flat_map (element_assigns (found_in (map instance_plain table.now)) i) (map plain_element elements.now)) }
 {
-    for k in 0..elements.len() {
-        if let Element::Assigns(assignments) = elements.at(k) {
+    for element in elements {
+        if let Element::Assigns(assignments) = element {
             add_assignments(list, table, i, assignments)?;
         }
     }
@@ -166,16 +162,12 @@ fn path_of(alloc: Global, table: &Table, target: &Target) -> Result<Text, NoMemo
     }
 }
 
-#[tactic(auto, using(crate::proofs::Lists::front_is, crate::proofs::Lists::end_is))]
 fn paths_of(alloc: Global, table: &Table, list: &[Assignment]) -> Result<Vec<Text>, NoMemory>
     ensures { IfOk result (λ ps. ps.items ≡ map assigned_path (map (assigned_plain table.now) list.now)) }
 {
     let mut paths = Vec::new(alloc);
-    for k in 0..list.len() {
-        match paths.push(path_of(alloc, table, &list[k].target)?) {
-            Ok(()) => {}
-            Err(_) => return Err(NoMemory),
-        }
+    for assignment in list {
+        paths.push(path_of(alloc, table, &assignment.target)?)?;
     }
     Ok(paths)
 }
@@ -191,12 +183,18 @@ pub fn assignments_checked(alloc: Global, table: &Table) -> Result<(), NamesEnd>
     for k in 0..list.len() {
         let assignment = &list[k];
         if !is_assignable(assignment.when, &assignment.target) {
-            return Err(NamesEnd::Bad(refusal(NOT_ASSIGNABLE, assignment.place)));
+            return Err(NamesEnd::Bad(Refusal {
+                kind: smv::NOT_ASSIGNABLE,
+                place: assignment.place,
+            }));
         }
         let path = paths[k].bytes();
         let before = value_under(&seen, path);
         if clashes(before, assignment.when) {
-            return Err(NamesEnd::Bad(refusal(ASSIGNED_TWICE, assignment.place)));
+            return Err(NamesEnd::Bad(Refusal {
+                kind: smv::ASSIGNED_TWICE,
+                place: assignment.place,
+            }));
         }
         put(&mut seen, path, with_kind(before, assignment.when))?;
     }

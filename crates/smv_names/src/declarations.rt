@@ -9,26 +9,24 @@ ghost use Rattle.smv_names.specs.View.{declared_plain, names_above};
 ghost use Rattle.smv_names.specs.Visits.{own_checks};
 
 use crate::declared::Declaration;
-use crate::ends::{
-    ARG_COUNT, MODULE_CYCLE, NAME_TWICE, NO_SUCH_MODULE, NamesEnd, TOO_LARGE, refusal,
-};
+use crate::ends::NamesEnd;
 use crate::visits::visited;
 use smv_instances::{ModuleTable, no_names, put, value_under};
 use smv_text::{Domain, Item, Source};
 use std::alloc::Global;
 use text_core::Refusal;
+use text_core::kinds::smv;
 
 /// The most bytes of a dotted path.
 const LONGEST_PATH: usize = 1000;
 /// The most instances, main among them.
 const MOST_INSTANCES: usize = 4096;
 
-#[tactic(auto, using(crate::proofs::Lists::front_is, crate::proofs::Lists::end_is))]
 fn is_among(names: &[&[u8]], name: &[u8]) -> bool
     ensures { result ≡ is_one_of (map (λ m. m.now) names.now) name.now }
 {
-    for k in 0..names.len() {
-        if names[k] == name {
+    for other in names {
+        if *other == name {
             return true;
         }
     }
@@ -43,7 +41,7 @@ fn is_above(above: &[&[u8]], name: &[u8]) -> bool
 }
 
 // An instance is one of a module that is there, isn't inside itself, and takes that many actuals.
-#[tactic(auto, using(crate::proofs::Composing::trees_length))]
+#[tactic(auto, using(crate::specs::laws::Composing::trees_length))]
 fn item_failing(modules: &ModuleTable, above: &[&[u8]], item: &Item) -> Option<Refusal>
     ensures { result ≡ first_failing (item_checks (map plain_module modules.now) (names_above above.now) (Some (plain_item item.now))) }
 {
@@ -53,11 +51,20 @@ fn item_failing(modules: &ModuleTable, above: &[&[u8]], item: &Item) -> Option<R
         Domain::Between(_, _) => None,
         Domain::Bits(_) => None,
         Domain::Instance(name, actuals) => match modules.named(name.bytes()) {
-            None => Some(refusal(NO_SUCH_MODULE, item.domain_place)),
+            None => Some(Refusal {
+                kind: smv::NO_SUCH_MODULE,
+                place: item.domain_place,
+            }),
             Some(plan) => if is_above(above, name.bytes()) {
-                Some(refusal(MODULE_CYCLE, item.domain_place))
+                Some(Refusal {
+                    kind: smv::MODULE_CYCLE,
+                    place: item.domain_place,
+                })
             } else if plan.parameters.len() != actuals.len() {
-                Some(refusal(ARG_COUNT, item.domain_place))
+                Some(Refusal {
+                    kind: smv::ARG_COUNT,
+                    place: item.domain_place,
+                })
             } else {
                 None
             },
@@ -110,7 +117,10 @@ fn declaration_failing(
     if is_short(path, declaration.name) && fits {
         None
     } else {
-        Some(refusal(TOO_LARGE, declaration.place))
+        Some(Refusal {
+            kind: smv::TOO_LARGE,
+            place: declaration.place,
+        })
     }
 }
 
@@ -132,7 +142,10 @@ pub(crate) fn declared_checked<'a>(
     for k in 0..list.len() {
         let declaration = &list[k];
         if value_under(&seen, declaration.name).is_some() {
-            return Err(NamesEnd::Bad(refusal(NAME_TWICE, declaration.place)));
+            return Err(NamesEnd::Bad(Refusal {
+                kind: smv::NAME_TWICE,
+                place: declaration.place,
+            }));
         }
         if let Some(why) = declaration_failing(modules, above, path, count, declaration) {
             return Err(NamesEnd::Bad(why));

@@ -22,21 +22,16 @@ pub type Declarations<'a> = Vec<Declaration<'a>>;
 fn add<'a>(list: &mut Declarations<'a>, declaration: Declaration<'a>) -> Result<(), NoMemory>
     ensures { OnOk result (map declared_plain list.new.items ≡ map declared_plain list.old.items ++ declared_plain declaration.entry ∷ []) }
 {
-    match list.push(declaration) {
-        Ok(()) => Ok(()),
-        Err(_) => Err(NoMemory),
-    }
+    Ok(list.push(declaration)?)
 }
 
-#[tactic(auto, using(crate::proofs::Lists::front_is, crate::proofs::Lists::end_is))]
 fn add_parameters<'a>(
     list: &mut Declarations<'a>,
     parameters: &'a Parameters,
 ) -> Result<(), NoMemory>
     ensures { OnOk result (map declared_plain list.new.items ≡ map declared_plain list.old.items ++ map parameter_declared parameters.now) }
 {
-    for k in 0..parameters.len() {
-        let parameter = parameters.at(k);
+    for parameter in parameters {
         add(
             list,
             Declaration {
@@ -49,12 +44,10 @@ fn add_parameters<'a>(
     Ok(())
 }
 
-#[tactic(auto, using(crate::proofs::Lists::front_is, crate::proofs::Lists::end_is))]
 fn add_items<'a>(list: &mut Declarations<'a>, items: &'a Items) -> Result<(), NoMemory>
     ensures { OnOk result (map declared_plain list.new.items ≡ map declared_plain list.old.items ++ map item_declared (map plain_item items.now)) }
 {
-    for k in 0..items.len() {
-        let item = items.at(k);
+    for item in items {
         add(
             list,
             Declaration {
@@ -67,15 +60,13 @@ fn add_items<'a>(list: &mut Declarations<'a>, items: &'a Items) -> Result<(), No
     Ok(())
 }
 
-#[tactic(auto, using(crate::proofs::Lists::front_is, crate::proofs::Lists::end_is))]
 fn add_definitions<'a>(
     list: &mut Declarations<'a>,
     definitions: &'a Definitions,
 ) -> Result<(), NoMemory>
     ensures { OnOk result (map declared_plain list.new.items ≡ map declared_plain list.old.items ++ map definition_declared (map plain_definition definitions.now)) }
 {
-    for k in 0..definitions.len() {
-        let definition = definitions.at(k);
+    for definition in definitions {
         add(
             list,
             Declaration {
@@ -88,12 +79,11 @@ fn add_definitions<'a>(
     Ok(())
 }
 
-#[tactic(auto, using(crate::proofs::Lists::front_is, crate::proofs::Lists::end_is))]
 fn add_elements<'a>(list: &mut Declarations<'a>, elements: &'a Elements) -> Result<(), NoMemory>
     ensures { OnOk result (map declared_plain list.new.items ≡ map declared_plain list.old.items ++ flat_map element_declares (map plain_element elements.now)) }
 {
-    for k in 0..elements.len() {
-        match elements.at(k) {
+    for element in elements {
+        match element {
             Element::Vars(_, items) => add_items(list, items)?,
             Element::Defines(definitions) => add_definitions(list, definitions)?,
             _ => {}

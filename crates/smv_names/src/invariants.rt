@@ -6,10 +6,11 @@ ghost use Rattle.smv_meaning.specs.Phases.{element_invariants, invariants_in};
 ghost use Rattle.smv_instances.specs.View.{instance_plain};
 ghost use Rattle.smv_names.specs.Outcome.{Settles};
 
-use crate::ends::{NO_INVARSPEC, NamesEnd, refusal};
+use crate::ends::NamesEnd;
 use smv_instances::Table;
 use smv_text::{Element, Elements};
-use text_core::Place;
+use text_core::kinds::smv;
+use text_core::{Place, Refusal};
 
 // How many invariants are still missing behind an element.
 fn missing_after(missing: u64, element: &Element) -> u64
@@ -49,6 +50,9 @@ pub fn invariants_checked(table: &Table, end: Place, needed: u32) -> Result<(), 
     if missing == 0 {
         Ok(())
     } else {
-        Err(NamesEnd::Bad(refusal(NO_INVARSPEC, end)))
+        Err(NamesEnd::Bad(Refusal {
+            kind: smv::NO_INVARSPEC,
+            place: end,
+        }))
     }
 }

@@ -6,10 +6,11 @@ ghost use Rattle.smv_meaning.specs.Checks.{first_failing};
 ghost use Rattle.smv_meaning.specs.Phases.{name_checks, main_check, module_checks};
 ghost use Rattle.smv_names.specs.Outcome.{Settles};
 
-use crate::ends::{MODULE_TWICE, NO_MAIN, NamesEnd, refusal};
+use crate::ends::NamesEnd;
 use smv_instances::{ModuleTable, no_names, put, value_under};
 use smv_text::{Modules, Source};
 use std::alloc::Global;
+use text_core::kinds::smv;
 use text_core::{Place, Refusal};
 
 // Each module has a name of its own.
@@ -22,7 +23,10 @@ fn names_checked(alloc: Global, modules: &Modules) -> Result<(), NamesEnd>
         let module = modules.at(k);
         let name = module.name.bytes();
         if value_under(&seen, name).is_some() {
-            return Err(NamesEnd::Bad(refusal(MODULE_TWICE, module.place)));
+            return Err(NamesEnd::Bad(Refusal {
+                kind: smv::MODULE_TWICE,
+                place: module.place,
+            }));
         }
         put(&mut seen, name, ())?;
     }
@@ -33,18 +37,24 @@ fn main_failing(table: &ModuleTable, end: Place) -> Option<Refusal>
     ensures { result ≡ first_failing (main_check end (module_named (map plain_module table.now) main_name) ∷ []) }
 {
     match table.named(b"main") {
-        None => Some(refusal(NO_MAIN, end)),
+        None => Some(Refusal {
+            kind: smv::NO_MAIN,
+            place: end,
+        }),
         Some(module) => if module.parameters.len() == 0 {
             None
         } else {
-            Some(refusal(NO_MAIN, module.place))
+            Some(Refusal {
+                kind: smv::NO_MAIN,
+                place: module.place,
+            })
         },
     }
 }
 
 /// The checks of the first phase: each module has a name of its own (S9), and there is a `main`, which has no parameters
 /// (S8).
-#[tactic(auto, using(crate::proofs::Composing::ends, crate::proofs::Composing::both_pass, crate::proofs::Composing::fails_behind))]
+#[tactic(auto, using(crate::specs::laws::Composing::ends, crate::specs::laws::Composing::both_pass, crate::specs::laws::Composing::fails_behind))]
 pub fn modules_checked(alloc: Global, source: &Source) -> Result<(), NamesEnd>
     ensures { Settles result (module_checks (plain_source source.now)) }
 {

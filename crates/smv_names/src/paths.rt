@@ -10,12 +10,13 @@ ghost use Rattle.smv_references.specs.View.{path_seen};
 ghost use Rattle.smv_names.specs.Outcome.{Settles};
 ghost use Rattle.smv_names.specs.Paths.{assignment_paths, definition_paths};
 
-use crate::ends::{NamesEnd, UNKNOWN, refusal};
+use crate::ends::NamesEnd;
 use smv_instances::{Instance, Table, Target};
 use smv_references::{put_all_paths, put_paths};
 use smv_text::{Assignments, Definitions, Element, Elements, Path};
 use std::alloc::Global;
-use text_core::NoMemory;
+use text_core::kinds::smv;
+use text_core::{NoMemory, Refusal};
 
 fn leads_somewhere<'a>(table: &Table<'a>, i: usize, path: &'a Path) -> bool
     ensures { result ≡ is_something (found_in (map instance_plain table.now) i path.now) }
@@ -31,46 +32,43 @@ fn leads_somewhere<'a>(table: &Table<'a>, i: usize, path: &'a Path) -> bool
 }
 
 // The paths, read in the numbered instance.
-#[tactic(auto, using(crate::proofs::PathLemmas::seen_front, crate::proofs::PathLemmas::seen_end))]
 fn all_checked<'a>(table: &Table<'a>, i: usize, paths: &[&'a Path]) -> Result<(), NamesEnd>
     ensures { Settles result (map (path_check (found_in (map instance_plain table.now)) i) (map path_seen paths.now)) }
 {
-    for k in 0..paths.len() {
-        let path = paths[k];
+    for path in paths {
         if !leads_somewhere(table, i, path) {
-            return Err(NamesEnd::Bad(refusal(UNKNOWN, path.place)));
+            return Err(NamesEnd::Bad(Refusal {
+                kind: smv::UNKNOWN,
+                place: path.place,
+            }));
         }
     }
     Ok(())
 }
 
-#[tactic(auto, using(crate::proofs::Lists::front_is, crate::proofs::Lists::end_is, crate::proofs::PathLemmas::joined))]
+#[tactic(auto, using(crate::proofs::PathLemmas::joined))]
 fn put_assignment_paths<'a>(
     paths: &mut Vec<&'a Path>,
     assignments: &'a Assignments,
 ) -> Result<(), NoMemory>
     ensures { OnOk result (map path_seen paths.new.items ≡ map path_seen paths.old.items ++ flat_map assignment_paths (map plain_assignment assignments.now)) }
 {
-    for k in 0..assignments.len() {
-        let assignment = assignments.at(k);
-        match paths.push(&assignment.target) {
-            Ok(()) => {}
-            Err(_) => return Err(NoMemory),
-        }
+    for assignment in assignments {
+        paths.push(&assignment.target)?;
         put_paths(paths, &assignment.body)?;
     }
     Ok(())
 }
 
-#[tactic(auto, using(crate::proofs::Lists::front_is, crate::proofs::Lists::end_is, crate::proofs::PathLemmas::joined))]
+#[tactic(auto, using(crate::proofs::PathLemmas::joined))]
 fn put_definition_paths<'a>(
     paths: &mut Vec<&'a Path>,
     definitions: &'a Definitions,
 ) -> Result<(), NoMemory>
     ensures { OnOk result (map path_seen paths.new.items ≡ map path_seen paths.old.items ++ flat_map definition_paths (map plain_definition definitions.now)) }
 {
-    for k in 0..definitions.len() {
-        put_paths(paths, &definitions.at(k).body)?;
+    for definition in definitions {
+        put_paths(paths, &definition.body)?;
     }
     Ok(())
 }
@@ -91,18 +89,18 @@ fn put_element_paths<'a>(paths: &mut Vec<&'a Path>, element: &'a Element) -> Res
     Ok(())
 }
 
-#[tactic(auto, using(crate::proofs::Lists::front_is, crate::proofs::Lists::end_is, crate::proofs::PathLemmas::joined))]
+#[tactic(auto, using(crate::proofs::PathLemmas::joined))]
 fn put_elements_paths<'a>(paths: &mut Vec<&'a Path>, elements: &'a Elements) -> Result<(), NoMemory>
     ensures { OnOk result (map path_seen paths.new.items ≡ map path_seen paths.old.items ++ flat_map element_paths (map plain_element elements.now)) }
 {
-    for k in 0..elements.len() {
-        put_element_paths(paths, elements.at(k))?;
+    for element in elements {
+        put_element_paths(paths, element)?;
     }
     Ok(())
 }
 
 // The paths of the actuals, read in the instance that it stands in, and then those of its own elements.
-#[tactic(auto, using(crate::proofs::Composing::both_pass, crate::proofs::Composing::ends, crate::proofs::Composing::ends_behind))]
+#[tactic(auto, using(crate::specs::laws::Composing::both_pass, crate::specs::laws::Composing::ends, crate::specs::laws::Composing::ends_behind))]
 fn instance_checked<'a>(
     alloc: Global,
     table: &Table<'a>,
@@ -121,7 +119,7 @@ fn instance_checked<'a>(
 }
 
 /// The checks that each path of an instantiated module leads to something: S14, at the first that doesn't.
-#[tactic(auto, using(crate::proofs::Lists::front_is, crate::proofs::Lists::end_is, crate::proofs::Composing::goes, crate::proofs::Composing::ends))]
+#[tactic(auto, using(crate::proofs::Lists::front_is, crate::proofs::Lists::end_is, crate::specs::laws::Composing::goes, crate::specs::laws::Composing::ends))]
 pub fn paths_checked<'a>(alloc: Global, table: &Table<'a>) -> Result<(), NamesEnd>
     ensures { Settles result (over_instances (path_checks (found_in (map instance_plain table.now))) 0 (map instance_plain table.now)) }
 {

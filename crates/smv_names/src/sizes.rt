@@ -10,23 +10,23 @@ ghost use Rattle.smv_names.specs.Outcome.{Settles};
 ghost use Rattle.smv_names.specs.View.{declared_plain};
 
 use crate::declared::{Declaration, declared_of};
-use crate::ends::{NAME_TWICE, NamesEnd, TOO_LARGE, refusal};
+use crate::ends::NamesEnd;
 use smv_instances::{Instance, Table, instance_list};
 use smv_text::Source;
 use std::alloc::Global;
-use text_core::{NoMemory, Place, Refusal};
+use text_core::kinds::smv;
+use text_core::{FIRST_PLACE, NoMemory, Refusal};
 
 /// The most tokens of the modules' bodies, summed over the instances.
 const MOST_TOKENS: u64 = 200_000;
 
 // Is the weight no greater than it may be?
-#[tactic(auto, using(crate::proofs::Lists::front_is, crate::proofs::Lists::end_is))]
 fn is_light(parts: &[Instance]) -> bool
     ensures { result ≡ nat_le (sum_by (λ at. at.plan.tokens) (map instance_plain parts.now)) most_tokens }
 {
     let mut weight: u64 = 0;
-    for i in 0..parts.len() {
-        weight += parts[i].plan.tokens as u64;
+    for part in parts {
+        weight += part.plan.tokens as u64;
         if weight > MOST_TOKENS {
             return false;
         }
@@ -35,14 +35,15 @@ fn is_light(parts: &[Instance]) -> bool
 }
 
 // No declared name is a symbol.
-#[tactic(auto, using(crate::proofs::Lists::front_is, crate::proofs::Lists::end_is))]
 fn symbol_failing(table: &Table, list: &[Declaration]) -> Option<Refusal>
     ensures { result ≡ first_failing (map (λ d. check 10 d.place (not (has_symbol (map instance_plain table.now) d.name))) (map declared_plain list.now)) }
 {
-    for k in 0..list.len() {
-        let declaration = &list[k];
+    for declaration in list {
         if table.has_symbol(declaration.name) {
-            return Some(refusal(NAME_TWICE, declaration.place));
+            return Some(Refusal {
+                kind: smv::NAME_TWICE,
+                place: declaration.place,
+            });
         }
     }
     None
@@ -68,12 +69,10 @@ pub fn sizes_checked<'a>(alloc: Global, source: &'a Source) -> Result<Table<'a>,
 {
     let parts = instance_list(alloc, source)?;
     if !is_light(parts.as_slice()) {
-        let start = Place {
-            line: 1,
-            column: 1,
-            offset: 0,
-        };
-        return Err(NamesEnd::Bad(refusal(TOO_LARGE, start)));
+        return Err(NamesEnd::Bad(Refusal {
+            kind: smv::TOO_LARGE,
+            place: FIRST_PLACE,
+        }));
     }
     let table = Table::over(alloc, parts)?;
     match main_failing(alloc, &table)? {

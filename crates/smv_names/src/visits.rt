@@ -16,10 +16,7 @@ use text_core::NoMemory;
 fn push<'a>(above: &mut Vec<&'a [u8]>, name: &'a [u8]) -> Result<(), NoMemory>
     ensures { OnOk result (above.new.items ≡ above.old.items ++ name.entry ∷ []) }
 {
-    match above.push(name) {
-        Ok(()) => Ok(()),
-        Err(_) => Err(NoMemory),
-    }
+    Ok(above.push(name)?)
 }
 
 // The instance that an item makes, with all below it.

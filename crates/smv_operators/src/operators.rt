@@ -340,7 +340,7 @@ fn shift_by(op: Binary, v: Word, n: i64) -> Plain
 }
 
 // The number as a word of the same width.
-#[tactic(auto, using(smv_meaning::proofs::WordLemmas::amount_is_word))]
+#[tactic(auto, using(smv_meaning::specs::laws::WordLemmas::amount_is_word))]
 fn amount(v: Word, n: u64) -> Word
     requires { n ≤ v.width }
     ensures { result ≡ word v.width n }

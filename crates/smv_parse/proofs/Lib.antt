@@ -3,4 +3,3 @@ pub mod Leads
 pub mod Numerals
 pub mod Turns
 pub mod Shrinking
-pub mod Refusals

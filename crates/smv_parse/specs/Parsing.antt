@@ -1,5 +1,7 @@
 -- What the parser of models answers.
 use Rattle.std.specs.Prelude.{◌≡◌, ℕ, Some, None, Result, Ok, Err, List, [], ◌∷◌, drop}
+use Rattle.text_core.specs.declared.end.End.{End}
+use Rattle.text_core.specs.declared.end.End.TheVariants.{Bad, NoMemory}
 use Rattle.text_core.specs.declared.place.Place.{Place}
 use Rattle.text_core.specs.declared.place.Kind.TheVariants.{S}
 use Rattle.text_core.specs.declared.place.Refusal.{Refusal}
@@ -12,14 +14,12 @@ use Rattle.smv_text.specs.Tree.{PlainSource}
 use Rattle.smv_text.specs.View.{plain_source}
 use Rattle.smv_text.specs.Heights.{first_high, of_modules}
 use Rattle.smv_text.specs.Sources.{SpellsSource, IsDeadAt}
-use Rattle.smv_parse.specs.declared.source.ParseEnd.{ParseEnd}
-use Rattle.smv_parse.specs.declared.source.ParseEnd.TheVariants.{Bad, NoMemory}
 
 abbrev pub refusal : ℕ → Place → Refusal
 refusal n p = record { kind = S n; place = p }
 
 -- The model that the tokens spell, and nothing in it is too high; or that it has such an expression, and where the first stands.
-abbrev pub ReadsOrHigh : PlainSource → Result Source ParseEnd → Type 0
+abbrev pub ReadsOrHigh : PlainSource → Result Source End → Type 0
 ReadsOrHigh s (Ok e) = (plain_source e ≡ s) × (first_high (of_modules s.modules) ≡ None)
 ReadsOrHigh s (Err (Bad why)) = (p : Place) × (first_high (of_modules s.modules) ≡ Some p) × (why ≡ refusal 7 p)
 ReadsOrHigh s (Err NoMemory) = Unit {0}
@@ -48,7 +48,7 @@ pub record HasDead (tokens : TokenList) (why : Refusal) : Type 0 where
   pub dead : IsDeadAt tokens.items index
   pub is : why ≡ dead_refusal tokens.end (drop index tokens.items)
 
-pub data IsRefused (tokens : TokenList) : ParseEnd → Type 0 where
+pub data IsRefused (tokens : TokenList) : End → Type 0 where
   too_high : {why : Refusal} → IsTooHigh tokens why → IsRefused tokens (Bad why)
   dead : {why : Refusal} → HasDead tokens why → IsRefused tokens (Bad why)
   no_memory : IsRefused tokens NoMemory

@@ -7,23 +7,19 @@ ghost use Rattle.smv_text.specs.Heights.{first_high, of_modules};
 ghost use Rattle.smv_text.specs.Sources.{SpellsSource};
 ghost use Rattle.smv_text.specs.Tree.{PlainSource};
 ghost use Rattle.smv_text.specs.View.{plain_source};
-ghost use Rattle.smv_parse.specs.Parsing.{refusal, ReadsOrHigh, number_at, dead_refusal, IsRefused};
+ghost use Rattle.smv_parse.specs.Parsing.{ReadsOrHigh, number_at, dead_refusal, IsRefused};
 
 use crate::module_sections::modules;
 use smv_expressions::Stop;
 use smv_text::{Source, Token, TokenKind, Tokens};
 use std::alloc::Global;
-use text_core::{Kind, Place, Refusal};
+use text_core::kinds::smv;
+use text_core::{End, Kind, Place, Refusal};
 
-/// Why tokens give no model.
-#[derive(Clone, Copy, Debug, PartialEq, Eq)]
-pub enum ParseEnd {
-    /// The tokens are refused: S5 at the first token that no model's text goes on with, or at the end of the text where it
-    /// only ends too early; S6 there, where that token is a word of NuSMV that is not supported; S7 at the first token of
-    /// the first expression that is more than 380 levels high, where the tokens are a model's.
-    Bad(Refusal),
-    NoMemory,
-}
+/// Why tokens give no model. They are refused with S5 at the first token that no model's text goes on with, or at the end of
+/// the text where it only ends too early; with S6 there, where that token is a word of NuSMV that is not supported; with S7 at
+/// the first token of the first expression that is more than 380 levels high, where the tokens are a model's.
+pub type ParseEnd = End;
 
 /// The model that the tokens spell (NuSMV 2.6 User Manual, 2.3). Each module counts the tokens of its body.
 pub fn parse(alloc: Global, tokens: &Tokens) -> Result<Source, ParseEnd>
@@ -44,7 +40,10 @@ pub fn parse(alloc: Global, tokens: &Tokens) -> Result<Source, ParseEnd>
             }
             match high {
                 None => Ok(Source { modules, end }),
-                Some(place) => Err(ParseEnd::Bad(refusal(7, place))),
+                Some(place) => Err(ParseEnd::Bad(Refusal {
+                    kind: smv::TOO_TALL,
+                    place,
+                })),
             }
         }
         Err(Stop::Dead(left)) => {
@@ -55,31 +54,28 @@ pub fn parse(alloc: Global, tokens: &Tokens) -> Result<Source, ParseEnd>
     }
 }
 
-fn refusal(number: u8, place: Place) -> Refusal
-    ensures { result ≡ refusal number place }
-{
-    Refusal {
-        kind: Kind::S(number),
-        place,
-    }
-}
-
 // The refusal of the first token, which is dead, or of the end.
 fn dead_refusal(end: Place, tokens: &[Token]) -> Refusal
     ensures { result ≡ dead_refusal end tokens.now }
 {
     match tokens.first() {
-        None => refusal(5, end),
-        Some(token) => refusal(number_at(&token.kind), token.place),
+        None => Refusal {
+            kind: smv::DEAD,
+            place: end,
+        },
+        Some(token) => Refusal {
+            kind: dead_kind(&token.kind),
+            place: token.place,
+        },
     }
 }
 
-// The number of the refusal of a dead token.
-fn number_at(kind: &TokenKind) -> u8
-    ensures { result ≡ number_at kind.now }
+// The kind of the refusal of a dead token.
+fn dead_kind(kind: &TokenKind) -> Kind
+    ensures { result ≡ Kind.S (number_at kind.now) }
 {
     match kind {
-        TokenKind::Refused => 6,
-        _ => 5,
+        TokenKind::Refused => smv::NOT_SUPPORTED,
+        _ => smv::DEAD,
     }
 }

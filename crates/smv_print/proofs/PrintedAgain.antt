@@ -4,7 +4,7 @@ use Rattle.std.proofs.lemmas.List.{map-append}
 use Rattle.text_core.specs.declared.place.Place.{Place}
 use Rattle.smv_text.specs.declared.token.Token.{Token}
 use Rattle.smv_text.specs.declared.token.TokenKind.{TokenKind}
-use Rattle.smv_text.specs.Bytes.{start, after}
+use Rattle.text_core.specs.Places.{start, after}
 use Rattle.smv_text.specs.Lexing.{kinds, LexesTo}
 use Rattle.smv_text.specs.Tree.{Tree, truth, number, literal, name, prefix, chain, choice, cases, select, call, next, set, range, Links, no_links, link, Branches, no_branches, branch, Trees, no_trees, tree, PlainDomain, boolean, members, between, bits, instance, PlainItem, PlainDefinition, PlainAssignment, PlainElement, vars, defines, constants, assigns, init, trans, invar, spec, PlainModule, PlainSource}
 use Rattle.smv_text.specs.Heights.{height, link_heights, branch_heights, heights, chain_height, branches_height, highest, most_height, place_of, first_high, list_of, of_domain, of_items, of_definitions, of_assignments, of_element, of_elements, of_modules}

@@ -7,7 +7,7 @@ use Rattle.smv_text.specs.declared.token.Token.{Token}
 use Rattle.smv_text.specs.declared.level.Level.{Level}
 use Rattle.smv_text.specs.Tree.{Tree, truth, number, literal, name, prefix, chain, choice, cases, select, call, next, set, range, Links, no_links, link, Branches, no_branches, branch, Trees, no_trees, tree, PlainDomain, boolean, members, between, bits, instance, PlainItem, PlainDefinition, PlainAssignment, PlainElement, vars, defines, constants, assigns, init, trans, invar, spec, PlainModule, PlainSource}
 use Rattle.smv_text.specs.Grammar.{Spells}
-use Rattle.smv_text.specs.Bytes.{start, after}
+use Rattle.text_core.specs.Places.{start, after}
 use Rattle.smv_text.specs.Lexing.{LexesTo}
 use Rattle.smv_text.specs.Heights.{first_high, of_modules}
 use Rattle.smv_text.specs.Sources.{SpellsSource}

@@ -1,14 +1,8 @@
 -- Lists of definitions and actuals, grown from the left.
-use Rattle.std.proofs.Common.{◌≡◌, ℕ, ◌+◌, ◌<◌, ◌≤◌, List, [], ◌∷◌, ◌++◌, length, drop, map, refl, sym, ap, ◌∙◌, append_assoc}
-use Rattle.std.specs.Prelude.{slice_index_or}
-use Rattle.text_core.specs.declared.place.Place.{Place}
+use Rattle.std.proofs.Common.{◌≡◌, ℕ, ◌+◌, List, [], ◌∷◌, ◌++◌, refl, ap, append_assoc}
 use Rattle.smv_text.specs.declared.tree.Parameter.{Parameter}
-use Rattle.smv_text.specs.declared.tree.Expr.{Expr}
-use Rattle.smv_text.specs.Tree.{Trees, no_trees, tree, trees_of}
-use Rattle.smv_text.specs.View.{plain}
-use Rattle.smv_meaning.specs.Phases.{place_of}
-use Rattle.smv_meaning.specs.Formulas.{Placed, actual_formulas}
-use Rattle.smv_meaning.proofs.Lists.{front_is, end_is, trees_front, trees_end}
+use Rattle.smv_text.specs.Tree.{no_trees}
+use Rattle.smv_meaning.specs.Formulas.{actual_formulas}
 
 pub append_none : {X : Type 0} (xs : List X) → xs ++ [] ≡ xs
 append_none [] = refl

@@ -1,3 +1,2 @@
 pub mod FormulaLemmas
 pub mod ReferenceLemmas
-pub mod NumberLemmas

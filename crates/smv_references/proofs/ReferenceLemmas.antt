@@ -1,19 +1,16 @@
 -- What a path goes through, name by name.
-use Rattle.std.proofs.Common.{◌≡◌, ℕ, ◌+◌, ◌<◌, ◌≤◌, false, List, [], ◌∷◌, ◌++◌, length, drop, map, Option, Some, None, refl, sym, ap, ◌∙◌, append_assoc}
-use Rattle.std.specs.Prelude.{slice_index_or, flat_map}
-use Rattle.std.specs.Borrow.{Bor}
+use Rattle.std.proofs.Common.{◌≡◌, ℕ, false, List, [], ◌∷◌, ◌++◌, map, Some, None, refl, sym, ap, ◌∙◌}
+use Rattle.std.specs.Prelude.{flat_map}
 use Rattle.std.proofs.lemmas.List.{map-append}
 use Rattle.smv_text.specs.declared.tree.Path.{Path}
 use Rattle.smv_text.specs.Tree.{Tree}
 use Rattle.smv_meaning.specs.Expressions.{paths_of}
 use Rattle.smv_meaning.specs.Instances.{Instance}
 use Rattle.smv_meaning.specs.Names.{Found, variable_at, body_at, instance_at, symbol_of, cyclic, none, Local, alias, formula, local, look, steps_of}
-use Rattle.smv_meaning.specs.Phases.{Formula, formula_here, from_instance, touched, referred, refers}
+use Rattle.smv_meaning.specs.Phases.{Formula, formula_here, from_instance, touched, referred}
 use Rattle.smv_meaning.specs.Formulas.{formulas_of, number_or, touched_numbers, all_touched, instance_within, references_of}
 use Rattle.smv_meaning.specs.Settled.{is_formula}
 use Rattle.smv_model_laws.proofs.Ranked.{no_reference}
-use Rattle.smv_references.specs.View.{path_seen}
-use Rattle.smv_meaning.proofs.Lists.{front_is, end_is}
 use Rattle.smv_references.proofs.FormulaLemmas.{append_none}
 
 abbrev pub here_numbers : List Instance → ℕ → List ℕ → List ℕ
@@ -50,12 +47,6 @@ touched_more t i c x names rest h e =
     ap (touched_numbers t i) e
     ∙ ap (λ fs. map (number_or (formulas_of t)) (formula_here i x (local t i x) ++ fs)) (from_some (look t (steps_of t) i x) (λ c. touched t (look t (steps_of t)) c rest) c (sym h))
     ∙ map-append (number_or (formulas_of t)) (formula_here i x (local t i x)) (touched t (look t (steps_of t)) c rest)
-
-pub seen_front : (ps : List (Bor Path)) (k n : ℕ) (p : Bor Path) → n ≡ length ps → k < n → p ≡ slice_index_or ps k p → map path_seen (drop k ps) ≡ p.now ∷ map path_seen (drop (k + 1) ps)
-seen_front ps k n p l h is = ap (map path_seen) (front_is ps k n p l h is)
-
-pub seen_end : (ps : List (Bor Path)) (k n : ℕ) → n ≡ length ps → n ≤ k → map path_seen (drop k ps) ≡ []
-seen_end ps k n l h = ap (map path_seen) (end_is ps k n l h)
 
 -- what all paths of an expression go through
 pub all_touched_is : (t : List Instance) (j : ℕ) (qs : List Path) → all_touched t j qs ≡ map (number_or (formulas_of t)) (flat_map (λ q. touched t (look t (steps_of t)) j q.names) qs)

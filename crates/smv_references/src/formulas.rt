@@ -28,14 +28,11 @@ fn add<'a>(
 ) -> Result<(), NoMemory>
     ensures { OnOk result (map formula_plain formulas.new.items ≡ map formula_plain formulas.old.items ++ record { formula = (instance, name.now); place = place } ∷ []) }
 {
-    match formulas.push(Formula {
+    Ok(formulas.push(Formula {
         instance,
         name,
         place,
-    }) {
-        Ok(()) => Ok(()),
-        Err(_) => Err(NoMemory),
-    }
+    })?)
 }
 
 /// Where an expression stands.
@@ -60,7 +57,7 @@ pub fn place(e: &Expr) -> Place
     }
 }
 
-#[tactic(auto, using(smv_meaning::proofs::Lists::front_is, smv_meaning::proofs::Lists::trees_front, smv_meaning::proofs::Lists::end_is, smv_meaning::proofs::Lists::trees_end, crate::proofs::FormulaLemmas::append_none, crate::proofs::FormulaLemmas::none_placed))]
+#[tactic(auto, using(smv_meaning::specs::laws::Lists::front_is, smv_meaning::specs::laws::Lists::trees_front, smv_meaning::specs::laws::Lists::end_is, smv_meaning::specs::laws::Lists::trees_end, crate::proofs::FormulaLemmas::append_none, crate::proofs::FormulaLemmas::none_placed))]
 fn add_actuals<'a>(
     formulas: &mut Vec<Formula<'a>>,
     i: usize,
@@ -83,7 +80,7 @@ fn add_actuals<'a>(
     Ok(())
 }
 
-#[tactic(auto, using(smv_meaning::proofs::Lists::front_is, smv_meaning::proofs::Lists::end_is, crate::proofs::FormulaLemmas::joined_on))]
+#[tactic(auto, using(crate::proofs::FormulaLemmas::joined_on))]
 fn add_definitions<'a>(
     formulas: &mut Vec<Formula<'a>>,
     i: usize,
@@ -91,14 +88,13 @@ fn add_definitions<'a>(
 ) -> Result<(), NoMemory>
     ensures { OnOk result (map formula_plain formulas.new.items ≡ map formula_plain formulas.old.items ++ map (placed_definition i) (map plain_definition definitions.now)) }
 {
-    for k in 0..definitions.len() {
-        let definition = definitions.at(k);
+    for definition in definitions {
         add(formulas, i, definition.name.bytes(), definition.place)?;
     }
     Ok(())
 }
 
-#[tactic(auto, using(smv_meaning::proofs::Lists::front_is, smv_meaning::proofs::Lists::end_is, crate::proofs::FormulaLemmas::joined_on))]
+#[tactic(auto, using(crate::proofs::FormulaLemmas::joined_on))]
 fn add_elements<'a>(
     formulas: &mut Vec<Formula<'a>>,
     i: usize,
@@ -106,8 +102,8 @@ fn add_elements<'a>(
 ) -> Result<(), NoMemory>
     ensures { OnOk result (map formula_plain formulas.new.items ≡ map formula_plain formulas.old.items ++ flat_map (element_formulas i) (map plain_element elements.now)) }
 {
-    for k in 0..elements.len() {
-        if let Element::Defines(definitions) = elements.at(k) {
+    for element in elements {
+        if let Element::Defines(definitions) = element {
             add_definitions(formulas, i, definitions)?;
         }
     }

@@ -48,10 +48,7 @@ fn add_paths<'a>(paths: &mut Vec<&'a Path>, e: &'a Expr) -> Result<(), NoMemory>
         Shape::False => Ok(()),
         Shape::Number(_) => Ok(()),
         Shape::Literal(_) => Ok(()),
-        Shape::Name(path) => match paths.push(path) {
-            Ok(()) => Ok(()),
-            Err(_) => Err(NoMemory),
-        },
+        Shape::Name(path) => Ok(paths.push(path)?),
         Shape::Prefix(_, _, a) => add_paths(paths, a),
         Shape::Chain(a, links) => {
             add_paths(paths, a)?;

@@ -19,13 +19,13 @@ use smv_instances::{Children, Known, Table, Target, child_in, put_first};
 use smv_text::{Expr, Path};
 use std::alloc::Global;
 use std::collections::HashMap;
-use text_core::{Items, Names, NoMemory};
+use text_core::{List, Names, NoMemory};
 
 /// How the definitions and actuals of a model refer to one another.
 #[derive(Drop)]
 pub enum Ordering {
     /// None reaches itself; in this order of their numbers each stands after those to which it refers.
-    Ordered(Items<usize>),
+    Ordered(List<usize>),
     /// The number of the first one that reaches itself.
     Cycle(usize),
 }
@@ -57,7 +57,7 @@ fn note<'a>(
     numbers: &Children<'a>,
     i: usize,
     x: &[u8],
-    row: &mut Items<usize>,
+    row: &mut List<usize>,
 ) -> Result<(), NoMemory>
     requires { (i : ℕ) (x : List ℕ) → named_in numbers.now i x ≡ number_in (formulas_of (map instance_plain table.now)) (i, x) }
     ensures { OnOk result (row.new ≡ row.old ++ map (number_or (formulas_of (map instance_plain table.now))) (formula_here i x.now (local (map instance_plain table.now) i x.now))) }
@@ -87,13 +87,13 @@ fn inner<'a>(table: &Table<'a>, i: usize, x: &'a [u8]) -> Option<usize>
 }
 
 // Adds the numbers of the definitions and actuals that a path goes through.
-#[tactic(auto, using(smv_meaning::proofs::Lists::front_is, smv_meaning::proofs::Lists::end_is, crate::proofs::ReferenceLemmas::touched_none, crate::proofs::ReferenceLemmas::touched_last, crate::proofs::ReferenceLemmas::touched_more))]
+#[tactic(auto, using(smv_meaning::specs::laws::Lists::front_is, smv_meaning::specs::laws::Lists::end_is, crate::proofs::ReferenceLemmas::touched_none, crate::proofs::ReferenceLemmas::touched_last, crate::proofs::ReferenceLemmas::touched_more))]
 fn touch<'a>(
     table: &Table<'a>,
     numbers: &Children<'a>,
     i: usize,
     names: &'a Names,
-    row: &mut Items<usize>,
+    row: &mut List<usize>,
 ) -> Result<(), NoMemory>
     requires { (i : ℕ) (x : List ℕ) → named_in numbers.now i x ≡ number_in (formulas_of (map instance_plain table.now)) (i, x) }
     ensures { OnOk result (row.new ≡ row.old ++ touched_numbers (map instance_plain table.now) i names.now) }
@@ -110,19 +110,18 @@ fn touch<'a>(
     Ok(())
 }
 
-#[tactic(auto, using(crate::proofs::ReferenceLemmas::seen_front, crate::proofs::ReferenceLemmas::seen_end))]
 fn touch_all<'a>(
     table: &Table<'a>,
     numbers: &Children<'a>,
     i: usize,
     paths: &[&'a Path],
-    row: &mut Items<usize>,
+    row: &mut List<usize>,
 ) -> Result<(), NoMemory>
     requires { (i : ℕ) (x : List ℕ) → named_in numbers.now i x ≡ number_in (formulas_of (map instance_plain table.now)) (i, x) }
     ensures { OnOk result (row.new ≡ row.old ++ all_touched (map instance_plain table.now) i (map path_seen paths.now)) }
 {
-    for k in 0..paths.len() {
-        touch(table, numbers, i, &paths[k].names, row)?;
+    for path in paths {
+        touch(table, numbers, i, &path.names, row)?;
     }
     Ok(())
 }
@@ -133,11 +132,11 @@ fn alias_row<'a>(
     numbers: &Children<'a>,
     j: usize,
     path: &'a Path,
-) -> Result<Items<usize>, NoMemory>
+) -> Result<List<usize>, NoMemory>
     requires { (i : ℕ) (x : List ℕ) → named_in numbers.now i x ≡ number_in (formulas_of (map instance_plain table.now)) (i, x) }
     ensures { IfOk result (λ row. row ≡ touched_numbers (map instance_plain table.now) j path.now.names) }
 {
-    let mut row = Items::new(alloc);
+    let mut row = List::new(alloc);
     touch(table, numbers, j, &path.names, &mut row)?;
     Ok(row)
 }
@@ -148,12 +147,12 @@ fn body_row<'a>(
     numbers: &Children<'a>,
     j: usize,
     e: &'a Expr,
-) -> Result<Items<usize>, NoMemory>
+) -> Result<List<usize>, NoMemory>
     requires { (i : ℕ) (x : List ℕ) → named_in numbers.now i x ≡ number_in (formulas_of (map instance_plain table.now)) (i, x) }
     ensures { IfOk result (λ row. row ≡ all_touched (map instance_plain table.now) j (paths_of (plain e.now) [])) }
 {
     let paths = paths_in(alloc, e)?;
-    let mut row = Items::new(alloc);
+    let mut row = List::new(alloc);
     touch_all(table, numbers, j, paths.as_slice(), &mut row)?;
     Ok(row)
 }
@@ -165,16 +164,16 @@ fn row_of<'a>(
     table: &Table<'a>,
     numbers: &Children<'a>,
     formula: &Formula<'a>,
-) -> Result<Items<usize>, NoMemory>
+) -> Result<List<usize>, NoMemory>
     requires { (i : ℕ) (x : List ℕ) → named_in numbers.now i x ≡ number_in (formulas_of (map instance_plain table.now)) (i, x) }
     ensures { IfOk result (λ row. row ≡ references_of (map instance_plain table.now) (key_of formula.now)) }
 {
     match table.local(formula.instance, formula.name) {
         Known::Alias(j, path) => Ok(alias_row(alloc, table, numbers, j, path)?),
         Known::Formula(j, e) => Ok(body_row(alloc, table, numbers, j, e)?),
-        Known::Variable(_, _) => Ok(Items::new(alloc)),
-        Known::Inner => Ok(Items::new(alloc)),
-        Known::Nothing => Ok(Items::new(alloc)),
+        Known::Variable(_, _) => Ok(List::new(alloc)),
+        Known::Inner => Ok(List::new(alloc)),
+        Known::Nothing => Ok(List::new(alloc)),
     }
 }
 
@@ -187,7 +186,7 @@ fn graph_of<'a>(
     ensures { IfOk result (λ g. g ≡ reference_graph (map instance_plain table.now)) }
 {
     let numbers = numbers_of(alloc, formulas)?;
-    let mut graph = Items::new(alloc);
+    let mut graph = List::new(alloc);
     for k in 0..formulas.len() {
         graph.push(row_of(alloc, table, &numbers, &formulas[k])?)?;
     }

@@ -1,6 +1,5 @@
--- Bytes, fronts of lists of bytes, and places.
-use Rattle.std.specs.Prelude.{◌≡◌, ◌==◌, ◌+◌, ◌^◌, ◌≤◌, ℕ, suc, Bool, false, ◌&&◌, ◌||◌, IsTrue, nat_le, if◌then◌else◌, List, [], ◌∷◌, ◌++◌, length}
-use Rattle.text_core.specs.declared.place.Place.{Place}
+-- Bytes, and fronts of lists of bytes.
+use Rattle.std.specs.Prelude.{◌≡◌, ◌==◌, ◌+◌, ◌≤◌, ℕ, suc, Bool, false, ◌&&◌, ◌||◌, IsTrue, nat_le, if◌then◌else◌, List, [], ◌∷◌, ◌++◌, length}
 
 -- 0 to 9
 abbrev pub is_digit : ℕ → Bool
@@ -33,23 +32,3 @@ AllPass p (b ∷ bs) rest = IsTrue (p b (bs ++ rest)) × AllPass p bs rest
 pub record IsLongest (P : List ℕ → List ℕ → Type 0) (front rest : List ℕ) : Type 0 where
   pub fits : P front rest
   pub longest : (f r : List ℕ) → f ++ r ≡ front ++ rest → P f r → length f ≤ length front
-
--- the place behind a byte; a line ends after byte 10
-abbrev pub next_place : Place → ℕ → Place
-next_place p b =
-    if b == 10 then record { line = p.line + 1; column = 1; offset = p.offset + 1 } else record { line = p.line; column = p.column + 1; offset = p.offset + 1 }
-
--- the place behind these bytes
-abbrev pub after : Place → List ℕ → Place
-after p [] = p
-after p (b ∷ bs) = after (next_place p b) bs
-
--- the place of a text's first byte
-abbrev pub start : Place
-start = record { line = 1; column = 1; offset = 0 }
-
--- So many more bytes leave the place within its numbers.
-pub record Reaches (p : Place) (more : ℕ) : Type 0 where
-  pub line : p.line + more ≤ 2 ^ 31 + 1
-  pub column : p.column + more ≤ 2 ^ 31 + 1
-  pub offset : p.offset + more ≤ 2 ^ 31

@@ -8,7 +8,8 @@ use Rattle.smv_text.specs.declared.token.TokenKind.{TokenKind}
 use Rattle.smv_text.specs.declared.token.TokenKind.TheVariants as kind
 use Rattle.smv_text.specs.declared.token.Reserved.TheVariants as word
 use Rattle.smv_text.specs.declared.token.Sign.TheVariants as sign
-use Rattle.smv_text.specs.Bytes.{IsLongest, after, start}
+use Rattle.smv_text.specs.Bytes.{IsLongest}
+use Rattle.text_core.specs.Places.{after, start}
 use Rattle.smv_text.specs.Words.{IsGap, IsLexeme, is_run, kind_of}
 
 -- a text's tokens, and the place of its end

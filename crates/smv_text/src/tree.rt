@@ -1,6 +1,6 @@
 // Trees of a model: expressions, types, declarations, elements, modules (NuSMV 2.6 User Manual, chapter 2).
 
-use text_core::{Items as List, Name, Names, Place};
+use text_core::{List, Name, Names, Place};
 use word_core::Word;
 
 /// A name: `self` or an identifier, and the names that it steps into (manual, 2.3.16). Its place is that of its first token.

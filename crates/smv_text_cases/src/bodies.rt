@@ -1,18 +1,16 @@
 // The tokens of modules' bodies.
-use crate::reading::{Stop, source_of};
+use crate::reading::source_of;
+use case_text::{Answer, Stop};
 use std::alloc::Global;
-use text_core::Text;
 
-/// Each module of a text with the number of its body's tokens, on a line.
-pub fn bodies(alloc: Global, text: &[u8]) -> Result<Text, Stop> {
+/// Appends each module of a text with the number of its body's tokens, on a line.
+pub fn put_bodies(alloc: Global, out: &mut Answer, text: &[u8]) -> Result<(), Stop> {
     let source = source_of(alloc, text)?;
-    let mut out = Text::new(alloc);
-    for i in 0..source.modules.len() {
-        let module = source.modules.at(i);
-        out.put(module.name.bytes())?;
-        out.put(b" ")?;
-        out.put_unsigned(u128::from(module.tokens))?;
-        out.put(b"\n")?;
+    for module in &source.modules {
+        out.put(module.name.bytes());
+        out.put(b" ");
+        out.put_unsigned(u128::from(module.tokens));
+        out.put(b"\n");
     }
-    Ok(out)
+    Ok(())
 }

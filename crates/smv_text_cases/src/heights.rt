@@ -1,37 +1,52 @@
 // The heights of expressions.
-use crate::reading::{Stop, expression_source};
-use case_text::Fault;
+use crate::reading::expression_source;
+use case_text::{Answer, Stop};
 use std::alloc::Global;
-use text_core::{Kind, Refusal, Text};
+use text_core::kinds::smv;
+use text_core::{NoMemory, Text};
 
 /// The greatest height of an expression.
 const GREATEST: u32 = 380;
 
-// Is the expression read behind so many signs, of which each adds one to its height?
-fn stands_under(alloc: Global, signs: u32, text: &[u8]) -> Result<bool, Stop> {
-    let mut whole = Text::new(alloc);
+// The expression behind so many signs, of which each adds one to its height.
+fn under_signs(alloc: Global, signs: u32, text: &[u8]) -> Result<Text, NoMemory> {
+    let mut out = Answer::new(alloc);
     for _ in 0..signs {
-        whole.put(b"!")?;
+        out.put(b"!");
     }
-    whole.put(b"(")?;
-    whole.put(text)?;
-    whole.put(b"\n)")?;
-    match expression_source(alloc, whole.bytes()) {
-        Ok(_) => Ok(true),
-        Err(
-            Stop::Refused(
-                Refusal {
-                    kind: Kind::S(7),
-                    ..
-                },
-            ),
-        ) => Ok(false),
-        Err(stop) => Err(stop),
+    out.put(b"(");
+    out.put(text);
+    out.put(b"\n)");
+    out.done()
+}
+
+fn is_too_tall(stop: Stop) -> bool {
+    match stop {
+        Stop::Refused(why) => why.kind == smv::TOO_TALL,
+        Stop::Fault(_) => false,
     }
 }
 
-/// The height of an expression: what the most signs before which it is still read leave of the greatest height.
-pub fn height(alloc: Global, text: &[u8]) -> Result<Text, Stop> {
+// Is the expression read, or is it too tall?
+fn is_read(alloc: Global, text: &[u8]) -> Result<bool, Stop> {
+    match expression_source(alloc, text) {
+        Ok(_) => Ok(true),
+        Err(stop) => if is_too_tall(stop) {
+            Ok(false)
+        } else {
+            Err(stop)
+        },
+    }
+}
+
+// Is the expression read behind so many signs?
+fn stands_under(alloc: Global, signs: u32, text: &[u8]) -> Result<bool, Stop> {
+    let whole = under_signs(alloc, signs, text)?;
+    is_read(alloc, whole.bytes())
+}
+
+/// Appends the height of an expression: what the most signs before which it is still read leave of the greatest height.
+pub fn put_height(alloc: Global, out: &mut Answer, text: &[u8]) -> Result<(), Stop> {
     expression_source(alloc, text)?;
     let mut most = 0u32;
     let mut too_many: u32 = GREATEST;
@@ -44,9 +59,8 @@ pub fn height(alloc: Global, text: &[u8]) -> Result<Text, Stop> {
         }
     }
     if too_many.saturating_sub(most) != 1 {
-        return Err(Stop::Fault(Fault::Misread("no height")));
+        return Err(Stop::from("no height"));
     }
-    let mut out = Text::new(alloc);
-    out.put_unsigned(u128::from(GREATEST.saturating_sub(most)))?;
-    Ok(out)
+    out.put_unsigned(u128::from(GREATEST.saturating_sub(most)));
+    Ok(())
 }

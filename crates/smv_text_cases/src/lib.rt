@@ -10,5 +10,6 @@ mod spellings;
 mod tokens;
 mod trees;
 
-pub use calls::answer;
-pub use reading::{Stop, counted, expression_of, expression_source, source_of, stated, told};
+pub use calls::put_answer;
+pub use reading::{counted, expression_of, expression_source, source_of};
+pub use spellings::{function_word, infix_sign, prefix_sign, put_dotted, put_literal, put_type};

@@ -1,5 +1,6 @@
 // The printed form of models and expressions.
-use crate::reading::{Stop, expression_source, source_of};
+use crate::reading::{expression_source, source_of};
+use case_text::{Answer, Stop};
 use smv_print::print;
 use smv_text::Source;
 use std::alloc::Global;
@@ -10,36 +11,48 @@ const BEFORE: &[u8] = b"MODULE main INVARSPEC ";
 
 const BEHIND: &[u8] = b" ;";
 
+fn printed(alloc: Global, text: &[u8]) -> Result<Text, Stop> {
+    let source = source_of(alloc, text)?;
+    Ok(print(alloc, &source)?)
+}
+
+// What is printed is read again as what is printed alike.
+fn is_printed_alike(alloc: Global, text: &[u8]) -> Result<bool, Stop> {
+    let again = printed(alloc, text).map_err(Stop::as_fault)?;
+    Ok(again.bytes() == text)
+}
+
 // The printed form, which is read again as one that is printed alike.
 fn printed_twice(alloc: Global, source: &Source) -> Result<Text, Stop> {
     let text = print(alloc, source)?;
-    let again = match source_of(alloc, text.bytes()) {
-        Err(Stop::Refused(_)) => return Err(Stop::from("what is printed is refused")),
-        read => print(alloc, &read?)?,
-    };
-    if again.bytes() == text.bytes() {
+    if is_printed_alike(alloc, text.bytes())? {
         Ok(text)
     } else {
         Err(Stop::from("what is printed is read as another model"))
     }
 }
 
-/// The printed form of the model that a text spells.
-pub fn printed_model(alloc: Global, text: &[u8]) -> Result<Text, Stop> {
+/// Appends the printed form of the model that a text spells.
+pub fn put_printed_model(alloc: Global, out: &mut Answer, text: &[u8]) -> Result<(), Stop> {
     let source = source_of(alloc, text)?;
-    printed_twice(alloc, &source)
+    let printed = printed_twice(alloc, &source)?;
+    out.put(printed.bytes());
+    Ok(())
 }
 
-/// The printed form of the expression that a text spells.
-pub fn printed_expression(alloc: Global, text: &[u8]) -> Result<Text, Stop> {
+/// Appends the printed form of the expression that a text spells.
+pub fn put_printed_expression(alloc: Global, out: &mut Answer, text: &[u8]) -> Result<(), Stop> {
     let source = expression_source(alloc, text)?;
     let whole = printed_twice(alloc, &source)?;
+    put_formula(out, whole.bytes())
+}
+
+// The formula of a printed model.
+fn put_formula(out: &mut Answer, whole: &[u8]) -> Result<(), Stop> {
     let formula = whole
-        .bytes()
         .strip_prefix(BEFORE)
         .and_then(|rest| rest.strip_suffix(BEHIND))
         .ok_or("no expression is printed")?;
-    let mut out = Text::new(alloc);
-    out.put(formula)?;
-    Ok(out)
+    out.put(formula);
+    Ok(())
 }

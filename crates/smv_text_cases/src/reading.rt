@@ -1,121 +1,49 @@
-// Texts read as models and as expressions, or their refusals.
-use case_text::{Fault, Piece, given, has};
-use smv_lex::{LexEnd, lex};
-use smv_parse::{ParseEnd, parse};
-use smv_text::{Element, Expr, Source};
-use std::alloc::{AllocError, AllocFailed, Global};
-use text_core::{Kind, NoMemory, Place, Refusal, Text};
+// Texts read as tokens, as models and as expressions, or their refusals.
+ghost use Rattle.std.specs.Prelude.{◌<◌, ◌^◌, length, IfOk};
 
-/// Why a call has no other answer.
-#[derive(Clone, Copy)]
-pub enum Stop {
-    /// The text is refused, which is the answer.
-    Refused(Refusal),
-    /// There is none.
-    Fault(Fault),
-}
-
-impl From<Fault> for Stop {
-    fn from(fault: Fault) -> Stop {
-        Stop::Fault(fault)
-    }
-}
-
-impl From<NoMemory> for Stop {
-    fn from(_end: NoMemory) -> Stop {
-        Stop::Fault(Fault::NoMemory)
-    }
-}
-
-impl From<AllocError> for Stop {
-    fn from(_end: AllocError) -> Stop {
-        Stop::Fault(Fault::NoMemory)
-    }
-}
-
-impl<T: Drop> From<AllocFailed<T>> for Stop {
-    fn from(_end: AllocFailed<T>) -> Stop {
-        Stop::Fault(Fault::NoMemory)
-    }
-}
-
-impl From<&'static str> for Stop {
-    fn from(why: &'static str) -> Stop {
-        Stop::Fault(Fault::Misread(why))
-    }
-}
-
-impl From<LexEnd> for Stop {
-    fn from(end: LexEnd) -> Stop {
-        match end {
-            LexEnd::Bad(why) => Stop::Refused(why),
-            LexEnd::NoMemory => Stop::Fault(Fault::NoMemory),
-        }
-    }
-}
-
-impl From<ParseEnd> for Stop {
-    fn from(end: ParseEnd) -> Stop {
-        match end {
-            ParseEnd::Bad(why) => Stop::Refused(why),
-            ParseEnd::NoMemory => Stop::Fault(Fault::NoMemory),
-        }
-    }
-}
+use case_text::{Answer, Fault, Stop};
+use smv_lex::lex;
+use smv_parse::parse;
+use smv_text::{Element, Expr, Source, Tokens};
+use std::alloc::Global;
+use text_core::{NoMemory, Place, Refusal, Text};
 
 /// The most bytes of a text that is lexed.
-pub(crate) const MOST_BYTES: usize = 1 << 31;
+const MOST_BYTES: usize = 1 << 31;
 
 /// What an expression is read behind: it begins on a line of its own.
 const FRONT: &[u8] = b"MODULE main INVARSPEC\n";
 
-/// The text of a case: its row, or the piece with the name `text`.
-pub fn stated<'a>(pieces: &'a [Piece]) -> Result<&'a [u8], Fault> {
-    if has(pieces, "row") {
-        given(pieces, "row")
-    } else {
-        given(pieces, "text")
+/// The tokens of a text.
+pub(crate) fn tokens_of(alloc: Global, text: &[u8]) -> Result<Tokens, Stop>
+    ensures { IfOk result (λ tokens. length tokens.items < 2 ^ 32) }
+{
+    if text.len() > MOST_BYTES {
+        return Err(Stop::from("too long a text"));
     }
-}
-
-/// The answer, or the refusal as `S5 at 1:7`.
-pub fn told(alloc: Global, answer: Result<Text, Stop>) -> Result<Text, Fault> {
-    match answer {
-        Ok(text) => Ok(text),
-        Err(Stop::Refused(why)) => refused(alloc, why),
-        Err(Stop::Fault(fault)) => Err(fault),
-    }
-}
-
-fn refused(alloc: Global, why: Refusal) -> Result<Text, Fault> {
-    let Kind::S(number) = why.kind else {
-        return Err(Fault::Misread("a refusal of another language"));
-    };
-    let line = why.place.line;
-    let column = why.place.column;
-    let mut text = Text::new(alloc);
-    text.put(format!(in alloc; "S{number} at {line}:{column}")?.as_bytes())?;
-    Ok(text)
+    Ok(lex(alloc, text)?)
 }
 
 /// The model that a text spells.
 pub fn source_of(alloc: Global, text: &[u8]) -> Result<Source, Stop> {
-    if text.len() > MOST_BYTES {
-        return Err(Stop::Fault(Fault::Misread("too long a text")));
-    }
-    let tokens = lex(alloc, text)?;
+    let tokens = tokens_of(alloc, text)?;
     Ok(parse(alloc, &tokens)?)
 }
 
 /// The model whose one invariant is this expression. Places of refusals count from the expression's first byte.
 pub fn expression_source(alloc: Global, text: &[u8]) -> Result<Source, Stop> {
-    let mut whole = Text::new(alloc);
-    whole.put(FRONT)?;
-    whole.put(text)?;
+    let whole = model_around(alloc, text)?;
     match source_of(alloc, whole.bytes()) {
         Ok(source) => Ok(source),
         Err(stop) => Err(counted(stop)),
     }
+}
+
+fn model_around(alloc: Global, expression: &[u8]) -> Result<Text, NoMemory> {
+    let mut out = Answer::new(alloc);
+    out.put(FRONT);
+    out.put(expression);
+    out.done()
 }
 
 /// What was found in the model around an expression: its place counts from the expression's first byte.

@@ -1,5 +1,5 @@
 -- What is tested before an expression is evaluated is what its evaluation asks for.
-use Rattle.std.proofs.Common.{◌≡◌, ℕ, Bool, true, false, List, map, Option, IsTrue, sym, ap, ◌∙◌, subst}
+use Rattle.std.proofs.Common.{◌≡◌, ℕ, Bool, true, false, List, Option, IsTrue, sym, ap, ◌∙◌, subst}
 use Rattle.std.specs.Borrow.{Bor}
 use Rattle.smv_text.specs.Tree.{Tree}
 use Rattle.smv_meaning.specs.declared.value.Given.{Given}

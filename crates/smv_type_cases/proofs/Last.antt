@@ -1,8 +1,8 @@
 -- An operand of the chain in a TRANS is a part of an expression of its module.
-use Rattle.std.proofs.Common.{◌≡◌, ◌⊎◌, inl, inr, ℕ, zero, suc, ◌<◌, List, [], ◌∷◌, ◌++◌, map, length, refl, sym, subst, arith}
+use Rattle.std.proofs.Common.{◌≡◌, inl, inr, ℕ, zero, suc, ◌<◌, List, [], ◌∷◌, ◌++◌, map, length, refl, sym, subst, arith}
 use Rattle.std.specs.Prelude.{flat_map, slice_index_or}
 use Rattle.smv_text.specs.Tree.{Tree, truth, number, literal, name, prefix, chain, choice, cases, select, call, next, set, range, Links, PlainElement, trans}
-use Rattle.smv_text.specs.View.{plain, plain_element}
+use Rattle.smv_text.specs.View.{plain_element}
 use Rattle.smv_text.specs.declared.tree.Element.{Element}
 use Rattle.smv_meaning.specs.Parts.{IsPart, InOne, expressions_in}
 use Rattle.text_core.specs.declared.place.Place.{Place}

@@ -1,20 +1,19 @@
 // The calls that cases name.
 use crate::environment::Environment;
-use crate::graphs::order_of;
+use crate::graphs::put_order_of;
 use crate::intervals::{Bounds, bounds_of};
-use crate::models::model_of;
-use crate::shown::{check_stop, named_text, names_stop, type_text};
-use crate::values::value_of;
-use crate::wanted::wanted;
-use case_text::{Fault, Piece, given, has};
+use crate::models::typed_model;
+use crate::shown::{put_named, put_type_or_none};
+use crate::values::put_value_of;
+use crate::wanted::put_wanted;
+use case_text::{Answer, Fault, Piece, Stop, given, has, subject};
 use smv_intervals::Ty;
 use smv_text::{Expr, Path, Shape};
-use smv_text_cases::{Stop, counted, expression_of, expression_source, source_of, stated, told};
+use smv_text_cases::{counted, expression_of, expression_source, source_of};
 use smv_types::{Named, Position, type_of};
 use std::alloc::Global;
-use text_core::{NoMemory, Text};
 
-/// What a call answers, those of `smv_text_cases` among them; a refused expression is answered as `S16 at 1:7`.
+/// Appends what a call answers, those of `smv_text_cases` among them; a refused expression is answered as `S16 at 1:7`.
 /// - `type POSITION`: the type of the expression in `row`, where it stands in INIT, TRANS or DEFINE, as an `actual`, or behind
 ///   `x:=`, `init(x):=` or `next(x):=`. Names are those of the piece `names`, a text of declarations, or those of main in
 ///   the piece `model`.
@@ -26,18 +25,22 @@ use text_core::{NoMemory, Text};
 ///   path, whose module stands last in the piece `model`, in the state `state`, with the inputs `inputs` and the following
 ///   state `following` where these are there.
 /// - `order`: an order of the graph in `row`, as `1 2; 2;` for the edges of nodes 0, 1 and 2.
-pub fn answer(alloc: Global, call: &[&str], pieces: &[Piece]) -> Result<Text, Fault> {
-    let answered = match call {
-        ["type", place] => typed(alloc, place, pieces),
-        ["intervals"] => bounds(alloc, pieces),
-        ["named"] => named(alloc, pieces),
-        ["wanted"] => wanted(alloc, given(pieces, "model")?, stated(pieces)?),
-        ["value"] => value_of(alloc, "", pieces),
-        ["value", path] => value_of(alloc, path, pieces),
-        ["order"] => return order_of(alloc, stated(pieces)?),
-        _ => return smv_text_cases::answer(alloc, call, pieces),
-    };
-    told(alloc, answered)
+pub fn put_answer(
+    alloc: Global,
+    out: &mut Answer,
+    call: &[&str],
+    pieces: &[Piece],
+) -> Result<(), Stop> {
+    match call {
+        ["type", place] => put_type_at(alloc, out, position(place)?, pieces),
+        ["intervals"] => put_bounds(alloc, out, pieces),
+        ["named"] => put_given_named(alloc, out, pieces),
+        ["wanted"] => put_wanted(alloc, out, given(pieces, "model")?, given(pieces, "row")?),
+        ["value"] => put_value_of(alloc, out, "", pieces),
+        ["value", path] => put_value_of(alloc, out, path, pieces),
+        ["order"] => put_order_of(alloc, out, subject(pieces, "text")?),
+        _ => smv_text_cases::put_answer(alloc, out, call, pieces),
+    }
 }
 
 fn position(place: &str) -> Result<Position, Fault> {
@@ -53,11 +56,16 @@ fn position(place: &str) -> Result<Position, Fault> {
     }
 }
 
-fn typed(alloc: Global, place: &str, pieces: &[Piece]) -> Result<Text, Stop> {
-    let position = position(place)?;
-    let source = expression_source(alloc, stated(pieces)?)?;
+fn put_type_at(
+    alloc: Global,
+    out: &mut Answer,
+    position: Position,
+    pieces: &[Piece],
+) -> Result<(), Stop> {
+    let source = expression_source(alloc, subject(pieces, "text")?)?;
     let t = type_at(alloc, pieces, expression_of(&source)?, position)?;
-    Ok(type_text(alloc, t)?)
+    put_type_or_none(out, t);
+    Ok(())
 }
 
 fn type_at(
@@ -82,7 +90,7 @@ fn type_among(
     let names = Environment::declared(alloc, names)?;
     match type_of(alloc, &names, e, position) {
         Ok(t) => Ok(t),
-        Err(end) => Err(counted(check_stop(end))),
+        Err(end) => Err(counted(Stop::from(end))),
     }
 }
 
@@ -93,41 +101,37 @@ fn type_in_model(
     position: Position,
 ) -> Result<Option<Ty>, Stop> {
     let source = source_of(alloc, text)?;
-    let model = model_of(alloc, &source)?;
+    let model = typed_model(alloc, &source)?;
     match model
         .types
         .expression_checked(alloc, &model.table, 0, e, position)
     {
         Ok(t) => Ok(t),
-        Err(end) => Err(counted(names_stop(end))),
+        Err(end) => Err(counted(Stop::from(end))),
     }
 }
 
-fn named(alloc: Global, pieces: &[Piece]) -> Result<Text, Stop> {
-    let row = expression_source(alloc, stated(pieces)?)?;
+fn put_given_named(alloc: Global, out: &mut Answer, pieces: &[Piece]) -> Result<(), Stop> {
+    let row = expression_source(alloc, subject(pieces, "text")?)?;
     let Shape::Name(path) = &expression_of(&row)?.shape else {
         return Err(Stop::from("a path"));
     };
     let named = named_in(alloc, given(pieces, "model")?, path)?;
-    Ok(named_text(alloc, named)?)
+    put_named(out, named);
+    Ok(())
 }
 
 fn named_in(alloc: Global, text: &[u8], path: &Path) -> Result<Named, Stop> {
     let source = source_of(alloc, text)?;
-    let model = model_of(alloc, &source)?;
+    let model = typed_model(alloc, &source)?;
     Ok(model.types.named(&model.table, 0, path))
 }
 
-fn bounds(alloc: Global, pieces: &[Piece]) -> Result<Text, Stop> {
-    let source = expression_source(alloc, stated(pieces)?)?;
+fn put_bounds(alloc: Global, out: &mut Answer, pieces: &[Piece]) -> Result<(), Stop> {
+    let source = expression_source(alloc, subject(pieces, "text")?)?;
     let bounds = bounds_of(alloc, expression_of(&source)?)?;
-    Ok(bounds_text(alloc, bounds)?)
-}
-
-fn bounds_text(alloc: Global, bounds: Bounds) -> Result<Text, NoMemory> {
-    let mut out = Text::new(alloc);
-    out.put(bounds_word(bounds))?;
-    Ok(out)
+    out.put(bounds_word(bounds));
+    Ok(())
 }
 
 fn bounds_word(bounds: Bounds) -> &'static [u8] {

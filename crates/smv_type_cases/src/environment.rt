@@ -3,10 +3,11 @@ ghost use Rattle.std.specs.Prelude.{◌≡◌};
 ghost use Rattle.smv_types.specs.View.{named_seen};
 ghost use Rattle.smv_type_cases.specs.Environments.{is_name, is_single, named_in};
 
+use case_text::{Answer, Stop};
 use smv_intervals::Ty;
 use smv_model_types::variable_type;
-use smv_text::{Domain, Element, Elements, Item, Path, Source, VarKind};
-use smv_text_cases::{Stop, source_of};
+use smv_text::{Domain, Element, Elements, Item, Items, Path, Source, VarKind};
+use smv_text_cases::source_of;
 use smv_types::{Named, Scope};
 use std::alloc::Global;
 use text_core::{Name, Names, NoMemory, Text};
@@ -73,6 +74,12 @@ fn named_in(entries: &[Entry], path: &Path) -> Named
 }
 
 impl Environment {
+    fn new(alloc: Global) -> Environment {
+        Environment {
+            entries: Vec::new(alloc),
+        }
+    }
+
     /// The names that these sections declare, such as `VAR x : 0..3; IVAR i : boolean;`. A variable whose declared type fails a
     /// check has no type, and an instance needs no module.
     pub fn declared(alloc: Global, sections: &[u8]) -> Result<Environment, Stop> {
@@ -81,51 +88,72 @@ impl Environment {
     }
 
     fn of(alloc: Global, source: &Source) -> Result<Environment, NoMemory> {
-        let mut names = Environment {
-            entries: Vec::new(alloc),
-        };
-        for i in 0..source.modules.len() {
-            names.declare(alloc, &source.modules.at(i).elements)?;
-        }
+        let mut names = Environment::new(alloc);
+        names.declare_all(alloc, source)?;
         Ok(names)
     }
 
+    fn declare_all(&mut self, alloc: Global, source: &Source) -> Result<(), NoMemory> {
+        for module in &source.modules {
+            self.declare(alloc, &module.elements)?;
+        }
+        Ok(())
+    }
+
     fn declare(&mut self, alloc: Global, elements: &Elements) -> Result<(), NoMemory> {
-        for i in 0..elements.len() {
-            if let Element::Vars(kind, items) = elements.at(i) {
-                for k in 0..items.len() {
-                    let item = items.at(k);
-                    self.put(item.name.duplicate(alloc)?, item_named(*kind, item))?;
-                }
+        for element in elements {
+            if let Element::Vars(kind, items) = element {
+                self.declare_items(alloc, *kind, items)?;
             }
+        }
+        Ok(())
+    }
+
+    fn declare_items(
+        &mut self,
+        alloc: Global,
+        kind: VarKind,
+        items: &Items,
+    ) -> Result<(), NoMemory> {
+        for item in items {
+            self.put(item.name.duplicate(alloc)?, item_named(kind, item))?;
         }
         Ok(())
     }
 
     /// The names `a` and `b` as integers in these intervals.
     pub fn integers(alloc: Global, a: (i64, i64), b: (i64, i64)) -> Result<Environment, NoMemory> {
-        let mut names = Environment {
-            entries: Vec::new(alloc),
-        };
-        names.put(Name::of(alloc, b"a")?, integer(a))?;
-        names.put(Name::of(alloc, b"b")?, integer(b))?;
+        let mut names = Environment::new(alloc);
+        names.put_integer(alloc, b"a", a)?;
+        names.put_integer(alloc, b"b", b)?;
         Ok(names)
     }
 
+    fn put_integer(
+        &mut self,
+        alloc: Global,
+        name: &[u8],
+        interval: (i64, i64),
+    ) -> Result<(), NoMemory> {
+        self.put(Name::of(alloc, name)?, integer(interval))
+    }
+
     fn put(&mut self, name: Name, named: Named) -> Result<(), NoMemory> {
-        match self.entries.push(Entry { name, named }) {
-            Ok(()) => Ok(()),
-            Err(_) => Err(NoMemory),
-        }
+        Ok(self.entries.push(Entry { name, named })?)
     }
 }
 
 // The model of one module with these sections.
 fn declaring(alloc: Global, sections: &[u8]) -> Result<Source, Stop> {
-    let mut text = Text::new(alloc);
-    text.put(b"MODULE main\n")?;
-    text.put(sections)?;
+    let text = module_text(alloc, sections)?;
     source_of(alloc, text.bytes())
+}
+
+fn module_text(alloc: Global, sections: &[u8]) -> Result<Text, NoMemory> {
+    let mut out = Answer::new(alloc);
+    out.put(b"MODULE main\n");
+    out.put(sections);
+    out.done()
 }
 
 fn item_named(kind: VarKind, item: &Item) -> Named {

@@ -14,4 +14,4 @@ mod states;
 mod values;
 mod wanted;
 
-pub use calls::answer;
+pub use calls::put_answer;

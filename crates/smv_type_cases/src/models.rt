@@ -7,7 +7,6 @@ ghost use Rattle.smv_instances.specs.View.{instance_plain};
 ghost use Rattle.smv_model_types.specs.Outcome.{AreTypesOf};
 ghost use Rattle.smv_type_cases.specs.Asking.{IsTyped};
 
-use crate::shown::names_stop;
 use smv_instances::Table;
 use smv_model_types::{Types, types_checked};
 use smv_names::{
@@ -15,7 +14,6 @@ use smv_names::{
 };
 use smv_references::formulas_in;
 use smv_text::Source;
-use smv_text_cases::Stop;
 use std::alloc::Global;
 
 /// The instances of a model and the types of its names.
@@ -54,14 +52,4 @@ fn types_of<'a>(alloc: Global, table: &Table<'a>) -> Result<Types<'a>, NamesEnd>
     let formulas = formulas_in(alloc, table)?;
     let order = cycles_checked(alloc, table, formulas.as_slice())?;
     types_checked(alloc, table, formulas.as_slice(), &order)
-}
-
-/// The same, where a failing check ends a call.
-pub fn model_of<'a>(alloc: Global, source: &'a Source) -> Result<Typed<'a>, Stop>
-    ensures { IfOk result (IsTyped (instances_of (plain_source source.now))) }
-{
-    match typed_model(alloc, source) {
-        Ok(model) => Ok(model),
-        Err(end) => Err(names_stop(end)),
-    }
 }

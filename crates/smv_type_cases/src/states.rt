@@ -1,20 +1,25 @@
 // States as text: `x = 3; p.y = TRUE`, one value a line or behind a `;`.
-use case_text::Fault;
+use case_text::{Answer, Fault, Stop};
 use smv_meaning::{Given, State, Value};
 use smv_text::{Expr, Infix, Path, Prefix, Shape};
-use smv_text_cases::{Stop, expression_of, expression_source};
+use smv_text_cases::{expression_of, expression_source, put_dotted};
 use std::alloc::Global;
-use text_core::{Name, NoMemory, Text};
+use text_core::{Name, Names, NoMemory, Text};
 
 /// The state that a text gives.
 pub fn state_of(alloc: Global, text: &[u8]) -> Result<State, Stop> {
     let mut state = State::new(alloc);
+    push_values(alloc, text, &mut state)?;
+    Ok(state)
+}
+
+fn push_values(alloc: Global, text: &[u8], state: &mut State) -> Result<(), Stop> {
     for line in text.split(|b| *b == b'\n' || *b == b';') {
         if !line.trim_ascii().is_empty() {
             state.push(given(alloc, line)?)?;
         }
     }
-    Ok(state)
+    Ok(())
 }
 
 // A name and its value.
@@ -33,14 +38,14 @@ fn given(alloc: Global, line: &[u8]) -> Result<Given, Stop> {
 }
 
 fn dotted(alloc: Global, path: &Path) -> Result<Name, NoMemory> {
-    let mut text = Text::new(alloc);
-    for i in 0..path.names.len() {
-        if i > 0 {
-            text.put(b".")?;
-        }
-        text.put(path.names.at(i).bytes())?;
-    }
+    let text = dotted_text(alloc, &path.names)?;
     Name::of(alloc, text.bytes())
+}
+
+fn dotted_text(alloc: Global, names: &Names) -> Result<Text, NoMemory> {
+    let mut out = Answer::new(alloc);
+    put_dotted(&mut out, names);
+    out.done()
 }
 
 fn value_of(alloc: Global, e: &Expr) -> Result<Value, Fault> {

@@ -11,16 +11,16 @@ ghost use Rattle.smv_type_cases.specs.Asking.{IsTyped, is_labelled};
 
 use crate::fitting::{following_fits, label_fits, values_fit};
 use crate::instances::{asked_in, number_of};
-use crate::models::{Typed, model_of};
-use crate::shown::value_text;
+use crate::models::{Typed, typed_model};
+use crate::shown::put_value;
 use crate::states::state_of;
-use case_text::{Fault, Piece, given, has};
+use case_text::{Answer, Piece, Stop, given, has};
 use smv_evaluation::value_at;
 use smv_instances::{Instance, instance_list};
 use smv_meaning::{State, Value};
 use smv_references::paths_in;
 use smv_text::{Expr, Source};
-use smv_text_cases::{Stop, source_of};
+use smv_text_cases::source_of;
 use std::alloc::Global;
 use text_core::{Name, NoMemory, Text};
 
@@ -33,26 +33,20 @@ struct Stated {
 }
 
 // The model with the expression at its end, where any type fits: on both sides of an equation in a TRANS.
-fn put_asking(text: &mut Text, model: &[u8], expression: &[u8]) -> Result<(), NoMemory> {
-    text.put(model)?;
-    text.put(b"\nTRANS (")?;
-    text.put(expression)?;
-    text.put(b"\n) = (")?;
-    text.put(expression)?;
-    text.put(b"\n)")
-}
-
-fn asking(alloc: Global, pieces: &[Piece]) -> Result<Text, Fault> {
-    let model = given(pieces, "model")?;
-    let expression = given(pieces, "row")?;
-    let mut text = Text::new(alloc);
-    put_asking(&mut text, model, expression)?;
-    Ok(text)
+fn asking(alloc: Global, model: &[u8], expression: &[u8]) -> Result<Text, NoMemory> {
+    let mut out = Answer::new(alloc);
+    out.put(model);
+    out.put(b"\nTRANS (");
+    out.put(expression);
+    out.put(b"\n) = (");
+    out.put(expression);
+    out.put(b"\n)");
+    out.done()
 }
 
 // The model with the expression that the row asks for.
 fn asked(alloc: Global, pieces: &[Piece]) -> Result<Source, Stop> {
-    let text = asking(alloc, pieces)?;
+    let text = asking(alloc, given(pieces, "model")?, given(pieces, "row")?)?;
     source_of(alloc, text.bytes())
 }
 
@@ -75,12 +69,18 @@ fn stated_of(alloc: Global, pieces: &[Piece]) -> Result<Stated, Stop> {
     })
 }
 
-/// The value of the expression in `row`, read at the end of the model's last module, in the instance with this dotted path:
-/// in the state `state`, with the inputs `inputs` and the following state `following` where these are there.
-pub fn value_of(alloc: Global, path: &str, pieces: &[Piece]) -> Result<Text, Stop> {
+/// Appends the value of the expression in `row`, read at the end of the model's last module, in the instance with this dotted
+/// path: in the state `state`, with the inputs `inputs` and the following state `following` where these are there.
+pub fn put_value_of(
+    alloc: Global,
+    out: &mut Answer,
+    path: &str,
+    pieces: &[Piece],
+) -> Result<(), Stop> {
     let source = asked(alloc, pieces)?;
     let value = value_in_source(alloc, &source, path, pieces)?;
-    Ok(value_text(alloc, &value)?)
+    put_value(out, &value);
+    Ok(())
 }
 
 fn value_in_source(
@@ -181,7 +181,7 @@ fn value_in<'a>(
     name: &Name,
     stated: &'a Stated,
 ) -> Result<Value, Stop> {
-    let model = model_of(alloc, source)?;
+    let model = typed_model(alloc, source)?;
     let parts = instance_list(alloc, source)?;
     value_among(alloc, source, &model, parts.as_slice(), name, stated)
 }

@@ -14,7 +14,7 @@ use Rattle.word_core.specs.declared.word.TheConstants.{WIDEST}
 use Rattle.word_core.specs.declared.kinds.Unary.TheVariants as OnWord
 use Rattle.word_core.specs.declared.kinds.Binary.{Binary}
 use Rattle.word_core.specs.declared.kinds.Binary.TheVariants as OnWords
-use Rattle.word_core.proofs.Rows.{unary_is_word, binary_is_word, uext_is_word}
+use Rattle.word_core.specs.laws.Rows.{unary_is_word, binary_is_word, uext_is_word}
 use Rattle.smv_text.specs.declared.tree.Prefix.{Prefix}
 use Rattle.smv_text.specs.declared.tree.Prefix.TheVariants as OfPrefix
 use Rattle.smv_text.specs.declared.tree.Infix.{Infix}
@@ -28,8 +28,8 @@ use Rattle.smv_meaning.specs.Values.{no_value, bool_eq, is_true}
 use Rattle.smv_meaning.specs.Operators.{Operands, truths, integers, words, mixed, operands_of, compared_of, word, words_by, words_compared, logical, compared, calculated, shifted, concatenated, negation, minus, implied, int_mod, applied, signed, selected, resized, int_abs, is_width, called, trues}
 use Rattle.smv_meaning.specs.Types.{ExprType, truth_type, integer_type, symbol_type, word_type, is_integer_type, is_word_type, type_width, type_same, hull, over_ends, over_both_ends, abs_type, quotient_type, rest_type, divisor_of, number_of, logical_fits, number_fits, infix_fits, infix_type, divides, shifts, joins, prefix_fits, prefix_type, is_select, is_divisor, is_shift_amount, is_union, function_fits, arguments_fit, function_type, second_number, first_type, are_same, hull_with, hull_of}
 use Rattle.smv_meaning.specs.Typed.{LiesIn}
-use Rattle.smv_meaning.proofs.Booleans.{both_true, two_true}
-use Rattle.smv_meaning.proofs.WordLemmas.{below_power}
+use Rattle.smv_meaning.specs.laws.Booleans.{both_true, two_true}
+use Rattle.smv_meaning.specs.laws.WordLemmas.{below_power}
 use Rattle.smv_type_laws.proofs.Intervals.{Steady, sum_left, sum_right, difference_left, difference_right, product_left, product_right, minus_steady, quotient_steady, rest_low_holds, rest_high_holds, one_part, abs_parts, max_left, max_right, min_left, min_right}
 
 -- ---- words

@@ -24,7 +24,7 @@ use Rattle.smv_meaning.specs.Naming.{in_body, named_found, naming}
 use Rattle.smv_meaning.specs.Safety.{Fits, front_value, Safe, SafeLinks, SafeOperands, SafeBranches, SafeTrees, SafeFound, SafePath}
 use Rattle.smv_meaning.specs.Typed.{LiesIn, Lies, Gives}
 use Rattle.smv_meaning.specs.Owed.{HasType, TypedIsSafe}
-use Rattle.smv_meaning.proofs.Booleans.{both_true, absurd_bool}
+use Rattle.smv_meaning.specs.laws.Booleans.{both_true, absurd_bool}
 use Rattle.smv_type_laws.proofs.OperatorLaws.{AllLie, NumbersAre, infix_lies, prefix_lies, called_lies}
 use Rattle.smv_type_laws.proofs.TypeLaws.{Fine, NamesLie, alone_fine, front_fine, fine, trees_lie, names_lie, six_true, two_tests, three_tests, number_is, divisor_is, numbers_are, all_cons, may_join, first_joins}
 

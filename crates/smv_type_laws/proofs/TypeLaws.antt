@@ -24,7 +24,7 @@ use Rattle.smv_meaning.specs.Types.{ExprType, truth_type, integer_type, symbol_t
 use Rattle.smv_meaning.specs.Checks.{Check, check, passes, Position, single, under_next, Named, Typing, on_type, all_types, on_all, both_types, front_checks, front, are_unions, across, behind, branches_fit, branches_type, is_literal, literal_type, typing, link_types, linked, condition_types, value_types, tree_types}
 use Rattle.smv_meaning.specs.Naming.{in_body, named_found, naming}
 use Rattle.smv_meaning.specs.Typed.{LiesIn, Lies, GivesFound, Gives, ValuesLie}
-use Rattle.smv_meaning.proofs.Booleans.{both_true, two_true, or_true, absurd_bool}
+use Rattle.smv_meaning.specs.laws.Booleans.{both_true, two_true, or_true, absurd_bool}
 use Rattle.smv_type_laws.proofs.OperatorLaws.{width_of, DivisorIs, NumberIs, NumbersAre, AllLie, infix_lies, implied_lies, prefix_lies, select_lies, called_lies, hull_left, hull_right, LiesInOne, hull_of_holds}
 
 -- what the denotation permits lies in the type, and so does its value where it may not be a set

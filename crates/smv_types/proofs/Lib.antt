@@ -1,5 +1,1 @@
 pub mod Fitting
-pub mod Composing
-pub mod Stepping
-pub mod Known
-pub mod Shapes

@@ -1,3 +1,4 @@
 pub mod View
 pub mod Outcome
 pub mod Steps
+pub mod laws

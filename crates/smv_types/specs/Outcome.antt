@@ -1,14 +1,14 @@
 -- The outcome of an expression's checks: its type, or the first refusal (kinds and order are this translator's own).
 use Rattle.std.specs.Prelude.{◌≡◌, ℕ, true, false, Bool, ◌&&◌, Option, Some, None, option_map, Result, Ok, Err}
+use Rattle.text_core.specs.declared.end.End.{End}
+use Rattle.text_core.specs.declared.end.End.TheVariants.{Bad, NoMemory}
 use Rattle.text_core.specs.declared.place.Place.{Place}
 use Rattle.text_core.specs.declared.place.Refusal.{Refusal}
 use Rattle.smv_text.specs.declared.tree.Path.{Path}
 use Rattle.smv_text.specs.Tree.{Tree, truth, number, literal, name, prefix, chain, choice, cases, select, call, next, set, range, Links, no_links, link, Branches, no_branches, branch, Trees, no_trees, tree}
-use Rattle.smv_meaning.specs.Types.{ExprType, in_limit}
+use Rattle.smv_meaning.specs.Types.{ExprType}
 use Rattle.smv_meaning.specs.Checks.{check, first_failing, Typing}
 use Rattle.smv_intervals.specs.declared.types.Ty.{Ty}
-use Rattle.smv_types.specs.declared.ends.CheckEnd.{CheckEnd}
-use Rattle.smv_types.specs.declared.ends.CheckEnd.TheVariants.{Bad, NoMemory}
 use Rattle.smv_intervals.specs.View.{seen}
 
 abbrev pub verdict : {X : Type 0} → Option Refusal → X → Result X Refusal
@@ -23,7 +23,7 @@ abbrev pub refusal_at : ℕ → Place → Refusal
 refusal_at n p = (check n p false).refusal
 
 -- the refusal is the one found; of want of memory nothing is said
-abbrev pub IsBad : CheckEnd → Option Refusal → Type 0
+abbrev pub IsBad : End → Option Refusal → Type 0
 IsBad (Bad why) found = found ≡ Some why
 IsBad NoMemory found = Unit {0}
 
@@ -31,7 +31,7 @@ abbrev pub Answers : Result (Option Ty) Refusal → Typing → Type 0
 Answers (Ok o) t = outcome t ≡ Ok (option_map seen o)
 Answers (Err why) t = outcome t ≡ Err why
 
-abbrev pub Ends : Result (Option Ty) CheckEnd → Typing → Type 0
+abbrev pub Ends : Result (Option Ty) End → Typing → Type 0
 Ends (Ok o) t = outcome t ≡ Ok (option_map seen o)
 Ends (Err e) t = IsBad e (first_failing t.checks)
 

@@ -12,11 +12,12 @@ ghost use Rattle.smv_types.specs.Outcome.{Answers, Ends, refusal_at};
 ghost use Rattle.smv_types.specs.Steps.{call_step};
 
 use crate::arguments::number_of;
-use crate::ends::{BAD_SELECT, CheckEnd, INT_TOO_WIDE, TYPE_CLASH, answered, check, refusal};
+use crate::ends::{CheckEnd, answered, check, refusal};
 use crate::lists::{all_types, are_truths};
 use smv_intervals::{Ty, abs_type, max_type, min_type, within};
 use smv_text::{Expr, Function};
 use std::alloc::Global;
+use text_core::kinds::smv;
 use text_core::{Place, Refusal};
 use word_core::WIDEST;
 
@@ -29,7 +30,7 @@ fn bounded(place: Place, t: Option<Ty>) -> Result<Option<Ty>, Refusal>
 {
     match t {
         Some(_) => Ok(t),
-        None => Err(refusal(INT_TOO_WIDE, place)),
+        None => Err(refusal(smv::INT_TOO_WIDE, place)),
     }
 }
 
@@ -39,10 +40,10 @@ fn truth_of_bit(place: Place, types: &[Ty]) -> Result<Option<Ty>, Refusal>
 {
     match types {
         [t] => {
-            check(TYPE_CLASH, place, t.is_word() && t.width() == 1)?;
+            check(smv::TYPE_CLASH, place, t.is_word() && t.width() == 1)?;
             Ok(Some(Ty::Truth))
         }
-        _ => Err(refusal(TYPE_CLASH, place)),
+        _ => Err(refusal(smv::TYPE_CLASH, place)),
     }
 }
 
@@ -52,10 +53,10 @@ fn bit_of_truth(place: Place, types: &[Ty]) -> Result<Option<Ty>, Refusal>
 {
     match types {
         [t] => {
-            check(TYPE_CLASH, place, t.is_truth())?;
+            check(smv::TYPE_CLASH, place, t.is_truth())?;
             Ok(Some(Ty::Bits(1)))
         }
-        _ => Err(refusal(TYPE_CLASH, place)),
+        _ => Err(refusal(smv::TYPE_CLASH, place)),
     }
 }
 
@@ -76,10 +77,10 @@ fn number_of_word(place: Place, types: &[Ty]) -> Result<Option<Ty>, Refusal>
 {
     match types {
         [t] => {
-            check(TYPE_CLASH, place, t.is_word())?;
+            check(smv::TYPE_CLASH, place, t.is_word())?;
             bounded(place, word_numbers(t.width()))
         }
-        _ => Err(refusal(TYPE_CLASH, place)),
+        _ => Err(refusal(smv::TYPE_CLASH, place)),
     }
 }
 
@@ -94,21 +95,25 @@ fn is_width(n: u128) -> bool
 fn word_of_numbers(place: Place, types: &[Ty], arguments: &[Expr]) -> Result<Option<Ty>, Refusal>
     ensures { Answers result (call_step place OfFunction.Uwconst (Some (map seen types.now)) (numbers_of (trees_of (map plain arguments.now)))) }
 {
-    check(TYPE_CLASH, place, types.len() == 2)?;
+    check(smv::TYPE_CLASH, place, types.len() == 2)?;
     match arguments {
         [value, width] => match number_of(value) {
             Some(v) => match number_of(width) {
                 Some(n) => {
-                    check(BAD_SELECT, place, is_width(n as u128) && is_below(v, n))?;
+                    check(
+                        smv::BAD_SELECT,
+                        place,
+                        is_width(n as u128) && is_below(v, n),
+                    )?;
                     Ok(Some(Ty::Bits(n as u32)))
                 }
-                None => Err(refusal(BAD_SELECT, place)),
+                None => Err(refusal(smv::BAD_SELECT, place)),
             },
-            None => Err(refusal(BAD_SELECT, place)),
+            None => Err(refusal(smv::BAD_SELECT, place)),
         },
-        [] => Err(refusal(BAD_SELECT, place)),
-        [_] => Err(refusal(BAD_SELECT, place)),
-        [_, _, _, ..] => Err(refusal(BAD_SELECT, place)),
+        [] => Err(refusal(smv::BAD_SELECT, place)),
+        [_] => Err(refusal(smv::BAD_SELECT, place)),
+        [_, _, _, ..] => Err(refusal(smv::BAD_SELECT, place)),
     }
 }
 
@@ -125,22 +130,22 @@ fn extended(place: Place, types: &[Ty], arguments: &[Expr]) -> Result<Option<Ty>
 {
     match types {
         [t, _] => {
-            check(TYPE_CLASH, place, t.is_word())?;
+            check(smv::TYPE_CLASH, place, t.is_word())?;
             match arguments {
                 [_, count] => match number_of(count) {
                     Some(n) => {
                         let width = t.width() as u128 + n as u128;
-                        check(BAD_SELECT, place, is_width(width))?;
+                        check(smv::BAD_SELECT, place, is_width(width))?;
                         Ok(Some(Ty::Bits(width as u32)))
                     }
-                    None => Err(refusal(BAD_SELECT, place)),
+                    None => Err(refusal(smv::BAD_SELECT, place)),
                 },
-                [] => Err(refusal(BAD_SELECT, place)),
-                [_] => Err(refusal(BAD_SELECT, place)),
-                [_, _, _, ..] => Err(refusal(BAD_SELECT, place)),
+                [] => Err(refusal(smv::BAD_SELECT, place)),
+                [_] => Err(refusal(smv::BAD_SELECT, place)),
+                [_, _, _, ..] => Err(refusal(smv::BAD_SELECT, place)),
             }
         }
-        _ => Err(refusal(TYPE_CLASH, place)),
+        _ => Err(refusal(smv::TYPE_CLASH, place)),
     }
 }
 
@@ -150,21 +155,21 @@ fn resized(place: Place, types: &[Ty], arguments: &[Expr]) -> Result<Option<Ty>,
 {
     match types {
         [t, _] => {
-            check(TYPE_CLASH, place, t.is_word())?;
+            check(smv::TYPE_CLASH, place, t.is_word())?;
             match arguments {
                 [_, width] => match number_of(width) {
                     Some(n) => {
-                        check(BAD_SELECT, place, is_width(n as u128))?;
+                        check(smv::BAD_SELECT, place, is_width(n as u128))?;
                         Ok(Some(Ty::Bits(n as u32)))
                     }
-                    None => Err(refusal(BAD_SELECT, place)),
+                    None => Err(refusal(smv::BAD_SELECT, place)),
                 },
-                [] => Err(refusal(BAD_SELECT, place)),
-                [_] => Err(refusal(BAD_SELECT, place)),
-                [_, _, _, ..] => Err(refusal(BAD_SELECT, place)),
+                [] => Err(refusal(smv::BAD_SELECT, place)),
+                [_] => Err(refusal(smv::BAD_SELECT, place)),
+                [_, _, _, ..] => Err(refusal(smv::BAD_SELECT, place)),
             }
         }
-        _ => Err(refusal(TYPE_CLASH, place)),
+        _ => Err(refusal(smv::TYPE_CLASH, place)),
     }
 }
 
@@ -172,7 +177,11 @@ fn resized(place: Place, types: &[Ty], arguments: &[Expr]) -> Result<Option<Ty>,
 fn counted(place: Place, types: &[Ty]) -> Result<Option<Ty>, Refusal>
     ensures { Answers result (call_step place OfFunction.Count (Some (map seen types.now)) []) }
 {
-    check(TYPE_CLASH, place, !types.is_empty() && are_truths(types))?;
+    check(
+        smv::TYPE_CLASH,
+        place,
+        !types.is_empty() && are_truths(types),
+    )?;
     bounded(place, within(0, types.len() as i128))
 }
 
@@ -182,12 +191,12 @@ fn greater(place: Place, types: &[Ty]) -> Result<Option<Ty>, Refusal>
 {
     match types {
         [t, u] => {
-            check(TYPE_CLASH, place, t.is_integer() && u.is_integer())?;
+            check(smv::TYPE_CLASH, place, t.is_integer() && u.is_integer())?;
             bounded(place, max_type(*t, *u))
         }
-        [] => Err(refusal(TYPE_CLASH, place)),
-        [_] => Err(refusal(TYPE_CLASH, place)),
-        [_, _, _, ..] => Err(refusal(TYPE_CLASH, place)),
+        [] => Err(refusal(smv::TYPE_CLASH, place)),
+        [_] => Err(refusal(smv::TYPE_CLASH, place)),
+        [_, _, _, ..] => Err(refusal(smv::TYPE_CLASH, place)),
     }
 }
 
@@ -197,12 +206,12 @@ fn lesser(place: Place, types: &[Ty]) -> Result<Option<Ty>, Refusal>
 {
     match types {
         [t, u] => {
-            check(TYPE_CLASH, place, t.is_integer() && u.is_integer())?;
+            check(smv::TYPE_CLASH, place, t.is_integer() && u.is_integer())?;
             bounded(place, min_type(*t, *u))
         }
-        [] => Err(refusal(TYPE_CLASH, place)),
-        [_] => Err(refusal(TYPE_CLASH, place)),
-        [_, _, _, ..] => Err(refusal(TYPE_CLASH, place)),
+        [] => Err(refusal(smv::TYPE_CLASH, place)),
+        [_] => Err(refusal(smv::TYPE_CLASH, place)),
+        [_, _, _, ..] => Err(refusal(smv::TYPE_CLASH, place)),
     }
 }
 
@@ -212,10 +221,10 @@ fn absolute(place: Place, types: &[Ty]) -> Result<Option<Ty>, Refusal>
 {
     match types {
         [t] => {
-            check(TYPE_CLASH, place, t.is_integer())?;
+            check(smv::TYPE_CLASH, place, t.is_integer())?;
             bounded(place, abs_type(*t))
         }
-        _ => Err(refusal(TYPE_CLASH, place)),
+        _ => Err(refusal(smv::TYPE_CLASH, place)),
     }
 }
 

@@ -12,14 +12,13 @@ ghost use Rattle.smv_types.specs.Outcome.{Answers};
 ghost use Rattle.smv_types.specs.Steps.{front_step, is_concat};
 
 use crate::arguments::{divisor_of, is_divisor, number_of};
-use crate::ends::{
-    BAD_DIVISOR, BAD_SELECT, BAD_SHIFT, INT_TOO_WIDE, SET_HERE, TYPE_CLASH, check, refusal,
-};
+use crate::ends::{check, refusal};
 use crate::positions::Standing;
 use smv_intervals::{
     Ty, difference_type, hull, kept, product_type, quotient_type, rest_type, sum_type,
 };
 use smv_text::{Expr, Infix, Link};
+use text_core::kinds::smv;
 use text_core::{Place, Refusal};
 use word_core::WIDEST;
 
@@ -134,9 +133,9 @@ fn is_concat(op: Infix) -> bool
 fn joined(at: Standing, place: Place, t: Ty, u: Ty, operand: &Expr) -> Result<Option<Ty>, Refusal>
     ensures { Answers result (front_step Infix.Concat (standing_seen at) place (Some (seen t)) (Some (seen u)) (plain operand.now)) }
 {
-    check(TYPE_CLASH, place, t.is_word() && u.is_word())?;
+    check(smv::TYPE_CLASH, place, t.is_word() && u.is_word())?;
     let width = t.width() as u64 + u.width() as u64;
-    check(BAD_SELECT, place, 1 <= width && width <= WIDEST as u64)?;
+    check(smv::BAD_SELECT, place, 1 <= width && width <= WIDEST as u64)?;
     Ok(Some(Ty::Bits(width as u32)))
 }
 
@@ -151,13 +150,13 @@ fn combined(
     requires { is_concat op ≡ false }
     ensures { Answers result (front_step op (standing_seen at) place (Some (seen t)) (Some (seen u)) (plain operand.now)) }
 {
-    check(TYPE_CLASH, place, infix_fits(op, t, u))?;
+    check(smv::TYPE_CLASH, place, infix_fits(op, t, u))?;
     match infix_type(op, t, u, operand) {
-        None => Err(refusal(INT_TOO_WIDE, place)),
+        None => Err(refusal(smv::INT_TOO_WIDE, place)),
         Some(whole) => {
-            check(SET_HERE, place, !is_union(op) || at.sets)?;
-            check(BAD_DIVISOR, place, divides(op, operand))?;
-            check(BAD_SHIFT, place, shifts(op, t, operand))?;
+            check(smv::SET_HERE, place, !is_union(op) || at.sets)?;
+            check(smv::BAD_DIVISOR, place, divides(op, operand))?;
+            check(smv::BAD_SHIFT, place, shifts(op, t, operand))?;
             Ok(Some(whole))
         }
     }
@@ -167,8 +166,8 @@ fn combined(
 fn untyped(op: Infix, at: Standing, place: Place, operand: &Expr) -> Result<Option<Ty>, Refusal>
     ensures { Answers result (front_step op (standing_seen at) place None None (plain operand.now)) }
 {
-    check(SET_HERE, place, !is_union(op) || at.sets)?;
-    check(BAD_DIVISOR, place, divides(op, operand))?;
+    check(smv::SET_HERE, place, !is_union(op) || at.sets)?;
+    check(smv::BAD_DIVISOR, place, divides(op, operand))?;
     Ok(None)
 }
 

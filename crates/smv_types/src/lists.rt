@@ -1,6 +1,7 @@
 // The types of several operands.
 ghost use Rattle.std.specs.Prelude.{◌≡◌, map, option_map, MatchResult};
 ghost use Rattle.std.specs.List.{list_all};
+ghost use Rattle.text_core.specs.declared.end.End.TheVariants as OfEnd;
 ghost use Rattle.smv_meaning.specs.Types.{is_truth_type, type_same, logical_fits, are_same, hull_with, hull_of, implies_fits};
 ghost use Rattle.smv_meaning.specs.Checks.{all_types};
 ghost use Rattle.smv_intervals.specs.View.{seen};
@@ -9,15 +10,16 @@ ghost use Rattle.smv_types.specs.Outcome.{Answers, Ends};
 ghost use Rattle.smv_types.specs.Steps.{implies_step, branches_step, set_step};
 
 use crate::chains::logical_fits;
-use crate::ends::{CheckEnd, SET_HERE, TYPE_CLASH, answered, check, refusal};
+use crate::ends::{CheckEnd, answered, check, refusal};
 use crate::positions::Standing;
 use smv_intervals::{Ty, hull};
 use std::alloc::Global;
+use text_core::kinds::smv;
 use text_core::{Place, Refusal};
 
 // The types of operands that all have one.
 pub(crate) fn all_types(alloc: Global, types: &[Option<Ty>]) -> Result<Option<Vec<Ty>>, CheckEnd>
-    ensures { MatchResult result (λ o. option_map (λ v. map seen v.items) o ≡ all_types (map (option_map seen) types.now)) (λ e. e ≡ CheckEnd.NoMemory) }
+    ensures { MatchResult result (λ o. option_map (λ v. map seen v.items) o ≡ all_types (map (option_map seen) types.now)) (λ e. e ≡ OfEnd.NoMemory) }
 {
     let mut all = Vec::new(alloc);
     for t in types {
@@ -100,9 +102,9 @@ fn implication(place: Place, types: &Option<Vec<Ty>>) -> Result<Option<Ty>, Refu
     match types {
         None => Ok(None),
         Some(types) => match types.as_slice() {
-            [] => Err(refusal(TYPE_CLASH, place)),
+            [] => Err(refusal(smv::TYPE_CLASH, place)),
             [t, rest @ ..] => {
-                check(TYPE_CLASH, place, all_fit(*t, rest))?;
+                check(smv::TYPE_CLASH, place, all_fit(*t, rest))?;
                 Ok(Some(*t))
             }
         },
@@ -122,7 +124,7 @@ fn branching(
             None => Ok(None),
             Some(values) => {
                 check(
-                    TYPE_CLASH,
+                    smv::TYPE_CLASH,
                     place,
                     are_truths(conditions) && are_same(values),
                 )?;
@@ -137,12 +139,12 @@ fn gathering(place: Place, at: Standing, types: &Option<Vec<Ty>>) -> Result<Opti
 {
     match types {
         None => {
-            check(SET_HERE, place, at.sets)?;
+            check(smv::SET_HERE, place, at.sets)?;
             Ok(None)
         }
         Some(types) => {
-            check(TYPE_CLASH, place, are_same(types))?;
-            check(SET_HERE, place, at.sets)?;
+            check(smv::TYPE_CLASH, place, are_same(types))?;
+            check(smv::SET_HERE, place, at.sets)?;
             Ok(Some(hull_of(types)))
         }
     }

@@ -7,14 +7,12 @@ ghost use Rattle.smv_intervals.specs.Limits.{Kept};
 ghost use Rattle.smv_types.specs.Outcome.{Answers};
 ghost use Rattle.smv_types.specs.Steps.{number_step, name_step, prefix_step, select_step, next_step, range_step};
 
-use crate::ends::{
-    BAD_SELECT, EMPTY_RANGE, INPUT_HERE, INT_TOO_WIDE, NEXT_HERE, SET_HERE, TYPE_CLASH, check,
-    refusal,
-};
+use crate::ends::{check, refusal};
 use crate::names::Named;
 use crate::positions::Standing;
 use smv_intervals::{Ty, kept, limited, negation_type, within};
 use smv_text::Prefix;
+use text_core::kinds::smv;
 use text_core::{Place, Refusal};
 
 /// The checks and the type of a number.
@@ -23,7 +21,7 @@ pub fn number(place: Place, n: u64) -> Result<Option<Ty>, Refusal>
 {
     match within(n as i128, n as i128) {
         Some(t) => Ok(Some(t)),
-        None => Err(refusal(INT_TOO_WIDE, place)),
+        None => Err(refusal(smv::INT_TOO_WIDE, place)),
     }
 }
 
@@ -31,8 +29,8 @@ pub fn number(place: Place, n: u64) -> Result<Option<Ty>, Refusal>
 pub fn name(place: Place, at: Standing, named: Named) -> Result<Option<Ty>, Refusal>
     ensures { Answers result (name_step place (standing_seen at) (named_seen named)) }
 {
-    check(TYPE_CLASH, place, !named.is_instance)?;
-    check(INPUT_HERE, place, at.inputs || !named.reaches_input)?;
+    check(smv::TYPE_CLASH, place, !named.is_instance)?;
+    check(smv::INPUT_HERE, place, at.inputs || !named.reaches_input)?;
     Ok(named.ty)
 }
 
@@ -73,10 +71,10 @@ pub fn signed(
     match operand {
         None => Ok(None),
         Some(t) => {
-            check(TYPE_CLASH, place, sign_fits(sign, t))?;
+            check(smv::TYPE_CLASH, place, sign_fits(sign, t))?;
             match signed_type(sign, count, t) {
                 Some(whole) => Ok(Some(whole)),
-                None => Err(refusal(INT_TOO_WIDE, place)),
+                None => Err(refusal(smv::INT_TOO_WIDE, place)),
             }
         }
     }
@@ -94,8 +92,12 @@ pub fn selected(
     match operand {
         None => Ok(None),
         Some(t) => {
-            check(TYPE_CLASH, place, t.is_word())?;
-            check(BAD_SELECT, place, high < t.width() as u64 && low <= high)?;
+            check(smv::TYPE_CLASH, place, t.is_word())?;
+            check(
+                smv::BAD_SELECT,
+                place,
+                high < t.width() as u64 && low <= high,
+            )?;
             Ok(Some(Ty::Bits((high - low + 1) as u32)))
         }
     }
@@ -105,7 +107,7 @@ pub fn selected(
 pub fn following(place: Place, at: Standing, operand: Option<Ty>) -> Result<Option<Ty>, Refusal>
     ensures { Answers result (next_step place (standing_seen at) (option_map seen operand)) }
 {
-    check(NEXT_HERE, place, at.nexts)?;
+    check(smv::NEXT_HERE, place, at.nexts)?;
     Ok(operand)
 }
 
@@ -114,10 +116,10 @@ pub fn range(place: Place, at: Standing, low: i64, high: i64) -> Result<Option<T
     ensures { Answers result (range_step place (standing_seen at) low high) }
 {
     match limited(low, high) {
-        None => Err(refusal(INT_TOO_WIDE, place)),
+        None => Err(refusal(smv::INT_TOO_WIDE, place)),
         Some(t) => {
-            check(SET_HERE, place, at.sets)?;
-            check(EMPTY_RANGE, place, low <= high)?;
+            check(smv::SET_HERE, place, at.sets)?;
+            check(smv::EMPTY_RANGE, place, low <= high)?;
             Ok(Some(t))
         }
     }

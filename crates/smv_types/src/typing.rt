@@ -1,13 +1,13 @@
 // The checks of an expression and its type, in one pass.
-ghost use Rattle.std.specs.Prelude.{◌≡◌, [], ◌∷◌, IsTrue, IfOk, IfErr, None, map, option_map};
+ghost use Rattle.std.specs.Prelude.{◌≡◌, [], ◌∷◌, IsTrue, IfOk, IfErr, None, Ok, map, option_map};
 ghost use Rattle.std.specs.List.{list_all};
-ghost use Rattle.smv_text.specs.Tree.{prefix, cases, select, call, next, set, links_of, branches_of, trees_of};
+ghost use Rattle.smv_text.specs.Tree.{Tree, prefix, chain, choice, cases, select, call, next, set, Branches as PlainBranches, links_of, branches_of, trees_of};
 ghost use Rattle.smv_text.specs.View.{plain, plain_link, plain_branch};
 ghost use Rattle.smv_meaning.specs.Expressions.{paths_of};
-ghost use Rattle.smv_meaning.specs.Checks.{typing, single, linked, tree_checks, tree_types, link_checks, link_types, branch_checks, condition_types, value_types, first_failing};
+ghost use Rattle.smv_meaning.specs.Checks.{typing, single, across, linked, tree_checks, tree_types, link_checks, link_types, branch_checks, condition_types, value_types, first_failing};
 ghost use Rattle.smv_intervals.specs.View.{seen};
 ghost use Rattle.smv_types.specs.View.{standing_seen, position_seen};
-ghost use Rattle.smv_types.specs.Outcome.{Ends, IsBad, is_known, links_known, branches_known, trees_known};
+ghost use Rattle.smv_types.specs.Outcome.{outcome, Ends, IsBad, is_known, links_known, branches_known, trees_known};
 ghost use Rattle.smv_types.specs.Steps.{passed, implications_step};
 
 use crate::calls::called;
@@ -60,20 +60,12 @@ fn typed<C: Scope>(
         }
         Shape::Chain(first, links) => {
             let links = links.as_slice();
-            if is_from_right(links) {
-                let t = typed(alloc, scope, first, at.single())?;
-                implications_typed(alloc, scope, place, t, links, at.single())
-            } else {
-                let at = across(links, at);
-                let t = typed(alloc, scope, first, at)?;
-                fronts_typed(alloc, scope, place, t, links, at)
-            }
+            let t = typed(alloc, scope, first, across(links, at))?;
+            chain_typed(alloc, scope, place, t, links, at)
         }
         Shape::Choice(branches, last) => {
-            let mut types = branch_types(alloc, scope, branches, at)?;
-            let t = typed(alloc, scope, last, at)?;
-            types.values.push(t)?;
-            branched(alloc, place, &types)
+            let types = branch_types(alloc, scope, branches, at)?;
+            choice_typed(alloc, scope, place, types, last, at)
         }
         Shape::Case(branches) => case_typed(alloc, scope, place, branches, at),
         Shape::Select(operand, high, low) => {
@@ -135,6 +127,26 @@ fn next_typed<C: Scope>(
 {
     let t = typed(alloc, scope, operand, Standing::under_next())?;
     answered(following(place, at, t))
+}
+
+// A chain, given the type of its first operand.
+#[cycle(typing)]
+fn chain_typed<C: Scope>(
+    alloc: Global,
+    scope: &C,
+    place: Place,
+    first: Option<Ty>,
+    links: &[Link],
+    at: Standing,
+) -> Result<Option<Ty>, CheckEnd>
+    requires { IsTrue (links_known (C.knows scope.now) (links_of (map plain_link links.now))) }
+    ensures { (f : Tree) → outcome (typing (C.names scope.now) (across (links_of (map plain_link links.now)) (standing_seen at)) f) ≡ Ok (option_map seen first) → Ends result (typing (C.names scope.now) (standing_seen at) (chain place f (links_of (map plain_link links.now)))) }
+{
+    if is_from_right(links) {
+        implications_typed(alloc, scope, place, first, links, at.single())
+    } else {
+        fronts_typed(alloc, scope, place, first, links, across(links, at))
+    }
 }
 
 // A chain of `->`, given the type of its first operand.
@@ -248,6 +260,24 @@ fn part_types<C: Scope>(
         types.push(t)?;
     }
     Ok(types)
+}
+
+// A choice, given the types of its branches.
+#[cycle(typing)]
+fn choice_typed<C: Scope>(
+    alloc: Global,
+    scope: &C,
+    place: Place,
+    mut types: BranchTypes,
+    last: &Expr,
+    at: Standing,
+) -> Result<Option<Ty>, CheckEnd>
+    requires { IsTrue (is_known (C.knows scope.now) (plain last.now)) }
+    ensures { (bs : PlainBranches) → first_failing (branch_checks (C.names scope.now) (standing_seen at) bs) ≡ None → map (option_map seen) types.conditions.items ≡ condition_types (C.names scope.now) (single (standing_seen at)) bs → map (option_map seen) types.values.items ≡ value_types (C.names scope.now) (standing_seen at) bs [] → Ends result (typing (C.names scope.now) (standing_seen at) (choice place bs (plain last.now))) }
+{
+    let t = typed(alloc, scope, last, at)?;
+    types.values.push(t)?;
+    branched(alloc, place, &types)
 }
 
 #[cycle(typing)]

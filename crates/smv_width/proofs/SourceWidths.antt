@@ -11,8 +11,8 @@ use Rattle.smv_text.specs.Tree.{Tree, truth, number, literal, name, prefix, chai
 use Rattle.smv_meaning.specs.Expressions.{are_implies, is_from_right}
 use Rattle.smv_meaning.specs.Types.{ExprType, truth_type, integer_type, symbol_type, word_type, is_integer_type, in_limit, hull, hull_with, hull_of, over_both_ends, quotient_type, rest_type, infix_type, divisor_of, is_divisor, is_union, are_same, infix_fits, divides, shifts, joins}
 use Rattle.smv_meaning.specs.Checks.{Check, check, on_all, branches_fit, Position, Named, Typing, single, under_next, across, behind, are_unions, front, front_checks, on_types, both_types, all_types, branches_type, node, passes, typing, linked, link_checks, value_types, condition_types, branch_checks, tree_types, tree_checks}
-use Rattle.smv_meaning.proofs.Booleans.{both_true}
-use Rattle.smv_meaning.proofs.Booleans.{absurd_bool}
+use Rattle.smv_meaning.specs.laws.Booleans.{both_true}
+use Rattle.smv_meaning.specs.laws.Booleans.{absurd_bool}
 use Rattle.smv_model_laws.proofs.Typable.{split}
 use Rattle.smv_items.specs.FlatItems.{Leaf, of_item, of_symbol, of_nothing}
 use Rattle.smv_flat.specs.FlatTree.{leaf_tree, FlatTree, flat_truth, flat_number, flat_literal, flat_symbol, flat_item, flat_prefix, flat_chain, flat_choice, flat_cases, flat_select, flat_call, flat_set, flat_range, flat_tree, flat_links, flat_branches, flat_trees, is_set, has_set, unless_set}

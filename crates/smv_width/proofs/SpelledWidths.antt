@@ -15,7 +15,7 @@ use Rattle.smv_text.specs.Sources.{SpellsActuals, no_actuals, empty_actuals, act
 use Rattle.smv_meaning.specs.Instances.{Instance, module_named, placed, child_in, child_of, with_child, grow_items, grow_elements, grow, main_instance, grown_from, main_name, instances_of}
 use Rattle.smv_meaning.specs.Checked.{instance_all, all_trees}
 use Rattle.smv_meaning.specs.Parts.{expressions_in}
-use Rattle.smv_meaning.proofs.Booleans.{both_true, two_true}
+use Rattle.smv_meaning.specs.laws.Booleans.{both_true, two_true}
 use Rattle.smv_width.specs.SourceWidth.{has_operators, link_operators, branch_operators, part_operators}
 
 -- ---- expressions

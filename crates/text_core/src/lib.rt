@@ -1,7 +1,9 @@
 //! Names, texts and lists, and what the outside is: files that are read and streams that are written.
 #![tactic(auto)]
 
+mod end;
 mod errors;
+pub mod kinds;
 mod lists;
 mod memory;
 mod name;
@@ -13,13 +15,14 @@ mod text;
 mod verdict;
 mod whole;
 
+pub use end::End;
 pub use errors::{NoMemory, ReadEnd, ShelfFault, SinkFault};
-pub use lists::{FilePair, FilePairs, Items, Numbers};
+pub use lists::{FilePair, FilePairs, List, Numbers};
 pub use memory::{DropSink, MemoryShelf, MemorySink, SureShelf};
 pub use name::Name;
 pub use names::Names;
 pub use outside::{Shelf, Sink};
-pub use place::{Kind, Place, Refusal};
+pub use place::{FIRST_PLACE, Kind, Place, Refusal};
 pub use real::{FileShelf, StreamSink};
 pub use text::Text;
 pub use verdict::{Clause, Verdict};

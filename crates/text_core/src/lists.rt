@@ -1,6 +1,9 @@
 // One list type for all elements: it is seen as the list of its elements.
-ghost use Rattle.std.specs.Prelude.{◌≡◌, ◌==◌, ◌<◌, ◌++◌, [], ◌∷◌, length, None, IfSome, IfNone, OnOk, OnErr, slice_index_or};
+ghost use Rattle.std.specs.Prelude.{◌≡◌, ◌==◌, ◌<◌, ◌^◌, ◌++◌, [], ◌∷◌, length, None, IfSome, IfNone, OnOk, OnErr, slice_index_or};
 ghost use Rattle.std.specs.List.{list_any};
+ghost use Rattle.std.specs.Iterator.Adapters.{IterYieldsInOrder, IterYieldsInReverse};
+ghost use Rattle.std.specs.Iterator.Runs.{EveryRun, ItemsMapTo};
+ghost use Rattle.std.specs.Slice.Iter.{iter_rest, iter_steps};
 ghost use Rattle.text_core.specs.Outside.{file_at};
 ghost use Rattle.text_core.specs.Memory.{IsPlaceOf};
 
@@ -8,14 +11,15 @@ use crate::errors::NoMemory;
 use crate::name::Name;
 use std::alloc::Global;
 use std::marker::Model;
+use std::slice::Iter;
 
 /// A list, seen as the list of its elements.
 #[derive(Drop)]
-pub struct Items<T> {
+pub struct List<T> {
     items: Vec<T>,
 }
 
-impl<T> Model for Items<T> {
+impl<T> Model for List<T> {
     ghost use Rattle.std.specs.Prelude.{List};
 
     ghost Value = { List T };
@@ -23,12 +27,12 @@ impl<T> Model for Items<T> {
     ghost view = { λ l. l.items.items };
 }
 
-impl<T: Drop> Items<T> {
+impl<T: Drop> List<T> {
     /// The empty list. It takes no memory.
-    pub fn new(alloc: Global) -> Items<T>
+    pub fn new(alloc: Global) -> List<T>
         ensures { result ≡ [] }
     {
-        Items {
+        List {
             items: Vec::new(alloc),
         }
     }
@@ -56,12 +60,42 @@ impl<T: Drop> Items<T> {
     {
         &self.items[i]
     }
+
+    /// The elements in order.
+    pub fn as_slice(&self) -> &[T]
+        ensures { result.now ≡ self.now }
+    {
+        self.items.as_slice()
+    }
+
+    /// The elements in order, or from the back.
+    pub fn iter(&self) -> Iter<'_, T>
+        ensures rest { iter_rest result ≡ self.now }
+        ensures len { length (iter_rest result) ≡ length self.now }
+        ensures bound { length (iter_rest result) < 2 ^ 64 }
+        ensures runs { IterYieldsInOrder T }
+        ensures runs_back { IterYieldsInReverse T }
+    {
+        self.items.as_slice().iter()
+    }
+}
+
+impl<'a, T: Drop> IntoIterator for &'a List<T> {
+    type Item = &'a T;
+
+    type IntoIter = Iter<'a, T>;
+
+    ghost into_iter_gives = { λ l it. (iter_rest it ≡ l.now) × (length (iter_rest it) < 2 ^ 64) × EveryRun (iter_steps {A = T}) (λ p. ItemsMapTo p (λ x. x.now) (iter_rest p.from)) };
+
+    fn into_iter(self) -> Iter<'a, T> {
+        self.items.as_slice().iter()
+    }
 }
 
 /// A list of numbers.
-pub type Numbers = Items<u64>;
+pub type Numbers = List<u64>;
 
-impl Items<u64> {
+impl List<u64> {
     /// Is x in the list?
     pub fn contains(&self, x: u64) -> bool
         ensures { result ≡ list_any (λ y. y == x) self.now }
@@ -100,9 +134,9 @@ impl FilePair {
 }
 
 /// A list of files, seen as pairs of a name and its bytes.
-pub type FilePairs = Items<FilePair>;
+pub type FilePairs = List<FilePair>;
 
-impl Items<FilePair> {
+impl List<FilePair> {
     /// The place of the first file with this name.
     pub fn place_of(&self, name: &Name) -> Option<usize>
         ensures found { IfSome result (IsPlaceOf self.now name.now) }

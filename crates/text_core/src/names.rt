@@ -1,11 +1,14 @@
 // A list of names: a single one lies in place, since most paths are a single name.
-ghost use Rattle.std.specs.Prelude.{◌≡◌, ◌<◌, ◌++◌, [], ◌∷◌, length, IfOk, OnOk, OnErr, slice_index_or};
+ghost use Rattle.std.specs.Prelude.{◌≡◌, ◌<◌, ◌^◌, ◌++◌, [], ◌∷◌, length, IfOk, OnOk, OnErr, slice_index_or};
+ghost use Rattle.std.specs.Iterator.Runs.{EveryRun, ItemsMapTo};
+ghost use Rattle.std.specs.Slice.Iter.{iter_rest, iter_steps};
 
 use crate::errors::NoMemory;
 use crate::name::Name;
 use std::alloc::Global;
 use std::marker::Model;
 use std::mem;
+use std::slice::{self, Iter};
 
 /// A list of names, seen as a list of their bytes.
 #[derive(Drop)]
@@ -91,6 +94,30 @@ impl Names {
             Held::One(name) => name,
             Held::Many(names) => &names[i],
         }
+    }
+
+    /// The names in order.
+    pub fn as_slice(&self) -> &[Name]
+        ensures { result.now ≡ self.now }
+    {
+        match &self.held {
+            Held::One(name) => slice::from_ref(name),
+            Held::Many(names) => names.as_slice(),
+        }
+    }
+}
+
+impl<'a> IntoIterator for &'a Names {
+    type Item = &'a Name;
+
+    type IntoIter = Iter<'a, Name>;
+
+    ghost use Rattle.text_core.specs.declared.name.Name.{Name};
+
+    ghost into_iter_gives = { λ l it. (iter_rest it ≡ l.now) × (length (iter_rest it) < 2 ^ 64) × EveryRun (iter_steps {A = Name}) (λ p. ItemsMapTo p (λ x. x.now) (iter_rest p.from)) };
+
+    fn into_iter(self) -> Iter<'a, Name> {
+        self.as_slice().iter()
     }
 }
 

@@ -1,4 +1,6 @@
 // Places in a text, kinds of refusal, and refusals.
+ghost use Rattle.std.specs.Prelude.{◌≡◌, ◌+◌, ◌<◌, ◌^◌, length};
+ghost use Rattle.text_core.specs.Places.{next_place, after, Reaches};
 
 /// A place in a text, in bytes: line and column count from 1, the offset from 0. A line ends after byte 10.
 #[derive(Clone, Copy, Debug, PartialEq, Eq)]
@@ -6,6 +8,55 @@ pub struct Place {
     pub line: u32,
     pub column: u32,
     pub offset: u32,
+}
+
+/// The place of a text's first byte.
+pub const FIRST_PLACE: Place = Place {
+    line: 1,
+    column: 1,
+    offset: 0,
+};
+
+impl Place {
+    /// The place behind one byte.
+    pub fn next(self, b: u8) -> Place
+        requires { Reaches self 1 }
+        ensures { result ≡ next_place self b }
+    {
+        if b == b'\n' {
+            Place {
+                line: self.line + 1,
+                column: 1,
+                offset: self.offset + 1,
+            }
+        } else {
+            Place {
+                line: self.line,
+                column: self.column + 1,
+                offset: self.offset + 1,
+            }
+        }
+    }
+
+    /// The place behind these bytes.
+    pub fn after(self, bytes: &[u8]) -> Place
+        requires line { self.line + length bytes.now < 2 ^ 32 }
+        requires column { self.column + length bytes.now + 1 < 2 ^ 32 }
+        requires offset { self.offset + length bytes.now < 2 ^ 32 }
+        ensures { result ≡ after self bytes.now }
+    {
+        let mut place = self;
+        for b in bytes {
+            if *b == b'\n' {
+                place.line += 1;
+                place.column = 1;
+            } else {
+                place.column += 1;
+            }
+            place.offset += 1;
+        }
+        place
+    }
 }
 
 /// The kind of a refusal: the letter of what was read (S an SMV model, M a MoXI script, B a BTOR2 text, X a witness, Y a

@@ -1,7 +1,7 @@
 -- More digits make no number less.
 use Rattle.std.proofs.lemmas.List.{drop_more}
-use Rattle.std.proofs.Common.{length, drop, get_or, subst, ◌≡◌, ℕ, ◌+◌, ◌*◌, ◌<◌, ◌≤◌, Bool, true, false, cond, List, [], ◌∷◌, Option, Some, None, refl, arith, ap, ◌∙◌}
-use Rattle.std.specs.Prelude.{nat_lt, option_and_then, if◌then◌else◌}
+use Rattle.std.proofs.Common.{length, drop, get_or, subst, ◌≡◌, ℕ, ◌+◌, ◌*◌, ◌<◌, ◌≤◌, Bool, true, false, cond, List, [], ◌∷◌, Some, None, refl, arith, ap, ◌∙◌}
+use Rattle.std.specs.Prelude.{nat_lt, option_and_then}
 use Rattle.word_core.specs.Digits.{below, digit_number, number_after}
 
 not_below : (limit n : ℕ) → limit ≤ n → below limit n ≡ None

@@ -1,5 +1,5 @@
 -- Laws of the operators that their users need.
-use Rattle.std.proofs.Common.{◌≡◌, ℕ, ◌+◌, ◌-◌, ◌*◌, ◌/◌, ◌%◌, ◌^◌, ◌<◌, ◌≤◌, refl, sym, ap, ◌∙◌, arith}
+use Rattle.std.proofs.Common.{◌≡◌, ℕ, ◌+◌, ◌-◌, ◌*◌, ◌/◌, ◌%◌, ◌^◌, refl, sym, ap, ◌∙◌, arith}
 use Rattle.std.proofs.Math.Nat.{add_comm, mul_comm, add-mod-mod, mul-add-mod_self_right, mod-eq_of_lt, div-one}
 use Rattle.std.proofs.lemmas.Nat.{and_comm, or_comm, div-mul-add}
 use Rattle.word_core.specs.Words.{BitVector, IsWord}

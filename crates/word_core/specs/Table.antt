@@ -1,6 +1,6 @@
 -- The operator table of BTOR2 (CAV 2018, table 1), by whole numbers and their signed values: of each operator the widths
 -- that it asks for, and the width and the number of its result.
-use Rattle.std.specs.Prelude.{◌≡◌, ℕ, ◌+◌, ◌-◌, ◌*◌, ◌/◌, ◌%◌, ◌^◌, ◌<◌, ◌≤◌, min, Bool, not, bit_and, bit_or, bit_xor, count_ones, if◌then◌else◌, ◌==◌, nat_lt, nat_le, ℤ, pos, ◌-ℤ◌, int_lt, int_le}
+use Rattle.std.specs.Prelude.{◌≡◌, ℕ, ◌+◌, ◌-◌, ◌*◌, ◌/◌, ◌%◌, ◌^◌, ◌≤◌, min, Bool, not, bit_and, bit_or, bit_xor, count_ones, if◌then◌else◌, ◌==◌, nat_lt, nat_le, ℤ, pos, ◌-ℤ◌, int_lt, int_le}
 use Rattle.word_core.specs.Words.{BitVector}
 use Rattle.word_core.specs.declared.word.TheConstants.{WIDEST}
 use Rattle.word_core.specs.declared.kinds.Unary.{Unary}

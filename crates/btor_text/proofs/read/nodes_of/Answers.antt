@@ -2,9 +2,8 @@ use Rattle.std.proofs.Common.{◌≡◌, ℕ, [], ◌∷◌, length, sym, ap, �
 use Rattle.std.proofs.lemmas.List.{nil_from_length}
 use Rattle.btor_tree.specs.Parts.{Parts, raw_lines}
 use Rattle.btor_tree.specs.Texts.{Reads, ends, Refuses, RefusesText, SpellsLines}
-use Rattle.btor_text.specs.Bytes.{split_line}
+use Rattle.btor_tree.proofs.Fronts.{split_line, rest_lines}
 use Rattle.btor_text.specs.Seen.{seen_fault}
-use Rattle.btor_text.proofs.Fronts.{rest_lines}
 use Rattle.btor_text.proofs.Laws.{refused_here, reads_on, faulty_end}
 use Rattle.btor_text.proofs.read.nodes_of.Goals as goal
 

@@ -1,14 +1,15 @@
 use Rattle.std.proofs.Common.{◌≡◌, ◌+◌, ℕ, true, false, List, [], ◌∷◌, length, refl, sym, ap, ◌∙◌, subst, arith}
 use Rattle.std.proofs.lemmas.List.{nil_from_length}
-use Rattle.btor_witness.specs.declared.ends.TheConstants.{UNENDED}
-use Rattle.btor_witness.specs.declared.witness.WitnessEnd.{WitnessEnd}
-use Rattle.btor_witness.specs.Bytes.{raw_lines, split_line, line_parts}
+use Rattle.text_core.specs.declared.kinds.witness.TheConstants.{UNENDED}
+use Rattle.text_core.specs.declared.end.End.{End}
+use Rattle.btor_tree.specs.Parts.{raw_lines}
+use Rattle.btor_tree.proofs.Fronts.{split_line, rest_lines}
+use Rattle.btor_witness.specs.Bytes.{line_parts}
 use Rattle.btor_witness.specs.Sizes.{sizes_of}
 use Rattle.btor_witness.specs.Reading.{done}
 use Rattle.btor_witness.specs.Texts.{Reads, Refuses, unended}
 use Rattle.btor_witness.specs.Answer.{IsRefusedLine}
-use Rattle.btor_witness.proofs.Cuts.{rest_lines}
-use Rattle.btor_witness.proofs.Laws.{takes_at, failed_at, reads_on, ends_here, refused_here, starts_more, start_here}
+use Rattle.btor_witness.specs.laws.Laws.{takes_at, failed_at, reads_on, ends_here, refused_here, starts_more, start_here}
 use Rattle.btor_witness.proofs.read.read_lines.Goals as goal
 
 pub returns-then-ended-clause-spelled : goal.returns-then-ended-clause-spelled
@@ -34,7 +35,7 @@ returns-in-Bad-clause-refused c =
     let next = failed_at c.lines.reader.sizes sizes reading c.take_line.new.self.reading (line_parts raw) c.in-Err.end k c.lines.invariant.sizes c.in-Bad.is c.in-Err.ensures.next in
     let stops = refused_here c.lines.number sizes reading raw back k next in
     let refuses = c.lines.invariant.refuses k (c.lines.number + 1) (subst (λ (x : List (List ℕ)). Refuses c.lines.number sizes reading x k (c.lines.number + 1)) (sym lines) stops) in
-    subst (λ (x : WitnessEnd). IsRefusedLine sizes c.args.text.now x) (sym c.refused.ensures)
+    subst (λ (x : End). IsRefusedLine sizes c.args.text.now x) (sym c.refused.ensures)
     (refuses, start_here c.args.text.now c.lines.rest.now c.lines.number c.lines.invariant.starts k _ _ refl refl)
 
 pub returns-in_default-clause-refused : goal.returns-in_default-clause-refused
@@ -49,7 +50,7 @@ returns-in_default-clause-refused c =
     let takes = takes_at c.lines.reader.sizes sizes reading new (line_parts raw) c.in-Ok.ended false c.lines.invariant.sizes c.if-ended.false c.in-Ok.ensures.next in
     let stops = (reads_on c.lines.number sizes reading new raw [] takes).1 UNENDED (c.lines.number + 1) unended in
     let refuses = c.lines.invariant.refuses UNENDED (c.lines.number + 1) (subst (λ (x : List (List ℕ)). Refuses c.lines.number sizes reading x UNENDED (c.lines.number + 1)) (sym lines) stops) in
-    subst (λ (x : WitnessEnd). IsRefusedLine sizes c.args.text.now x) (sym c.refused-in_default.ensures)
+    subst (λ (x : End). IsRefusedLine sizes c.args.text.now x) (sym c.refused-in_default.ensures)
     (refuses, start_here c.args.text.now c.lines.rest.now c.lines.number c.lines.invariant.starts UNENDED _ _ refl refl)
 
 pub lines-preserved : goal.lines-preserved

@@ -1,7 +1,7 @@
 use Rattle.std.proofs.Common.{◌≡◌, ℕ, ◌≤◌, ◌+◌, ◌-◌, length}
 use Rattle.text_core.specs.declared.place.Kind.{Kind}
+use Rattle.btor_tree.specs.Parts.{raw_lines}
 use Rattle.btor_witness.specs.declared.witness.Witness.{Witness}
-use Rattle.btor_witness.specs.Bytes.{raw_lines}
 use Rattle.btor_witness.specs.Sizes.{sizes_of}
 use Rattle.btor_witness.specs.Texts.{Reads, Refuses, bytes_before, ReadsText, RefusesText}
 use Rattle.btor_witness.proofs.read.read_lines.Given as goal

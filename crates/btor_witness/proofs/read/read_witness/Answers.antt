@@ -1,4 +1,4 @@
-use Rattle.btor_witness.proofs.Laws.{exact_from, stops_from, ok_within, err_within}
+use Rattle.btor_witness.specs.laws.Laws.{exact_from, stops_from, ok_within, err_within}
 use Rattle.btor_witness.specs.Sizes.{sizes_of}
 use Rattle.btor_witness.proofs.Kept.{fits_ok, within_ok}
 use Rattle.btor_witness.proofs.read.read_witness.Goals as goal

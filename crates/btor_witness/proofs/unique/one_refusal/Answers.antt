@@ -1,4 +1,4 @@
-use Rattle.btor_witness.proofs.Laws as laws
+use Rattle.btor_witness.specs.laws.Laws as laws
 use Rattle.btor_witness.proofs.unique.one_refusal.Goals as goal
 
 pub returns : goal.returns

@@ -1,4 +1,4 @@
-use Rattle.std.proofs.Common.{◌≡◌, ℕ, ◌<◌, List, sym, subst, ap, arith}
+use Rattle.std.proofs.Common.{ℕ, List, sym, subst, arith}
 use Rattle.digraph.specs.Graph.{IsSorted, NeverReturns}
 use Rattle.digraph.proofs.Sorting.{sorts, never_returns}
 use Rattle.digraph.proofs.order.sort.Goals as goal

@@ -2,7 +2,7 @@ use Rattle.std.proofs.Common.{◌≡◌, ℕ, ◌-◌, ◌<◌, ◌≤◌, lengt
 use Rattle.std.specs.Prelude.{slice_index_or}
 use Rattle.std.specs.List.{list_all}
 use Rattle.digraph.specs.Graph.{is_in, next_of}
-use Rattle.digraph.specs.Visiting.{IsVisit, Extends}
+use Rattle.digraph.specs.Visiting.{IsVisit}
 use Rattle.digraph.proofs.returns.leads_back.Given as goal
 
 abbrev pub invariant-loop-p : goal.invariant-loop-p

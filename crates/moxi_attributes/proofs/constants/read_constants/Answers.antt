@@ -2,7 +2,7 @@ use Rattle.std.proofs.Common.{◌&&◌, ◌+◌, drop, ap, sym, ◌∙◌}
 use Rattle.moxi_sexpr.specs.Tree.{plain_forms}
 use Rattle.moxi_scripts.specs.Collecting.{also}
 use Rattle.moxi_scripts.specs.Declarations.{are_symbols, constants_failures, symbols_in, with_constants}
-use Rattle.moxi_attributes.proofs.Collecting.{also_end, also_step, and_step, list_step}
+use Rattle.moxi_attributes.specs.laws.Collecting.{also_end, also_step, and_step, list_step}
 use Rattle.moxi_scripts.proofs.Forms.{forms_end, forms_step}
 use Rattle.moxi_attributes.proofs.constants.read_constants.Goals as goal
 

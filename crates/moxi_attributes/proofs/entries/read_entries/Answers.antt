@@ -1,6 +1,6 @@
 use Rattle.std.proofs.Common.{ap}
 use Rattle.moxi_scripts.specs.Entries.{entries_failures, entries_of}
-use Rattle.moxi_attributes.proofs.Collecting.{also_end, also_step, list_step}
+use Rattle.moxi_attributes.specs.laws.Collecting.{also_end, also_step, list_step}
 use Rattle.moxi_scripts.proofs.Forms.{forms_end, forms_step}
 use Rattle.moxi_attributes.proofs.entries.read_entries.Goals as goal
 

@@ -5,7 +5,7 @@ use Rattle.moxi_sorts.specs.SortReading.{sort_reading}
 use Rattle.moxi_scripts.specs.Collecting.{also}
 use Rattle.moxi_scripts.specs.Entries.{entry_tests, sort_failures}
 use Rattle.moxi_attributes.specs.Views.{named_now}
-use Rattle.moxi_attributes.proofs.Collecting.{also_two}
+use Rattle.moxi_attributes.specs.laws.Collecting.{also_two}
 use Rattle.moxi_attributes.proofs.entries.read_entry.Goals as goal
 
 pub returns-in_ok-push-in-Some-clause-finds : goal.returns-in_ok-push-in-Some-clause-finds

@@ -1,7 +1,7 @@
 use Rattle.std.proofs.Common.{◌+◌, drop, ap, sym, ◌∙◌}
 use Rattle.moxi_scripts.specs.Collecting.{also}
 use Rattle.moxi_scripts.specs.Entries.{names_after, twice_failures}
-use Rattle.moxi_attributes.proofs.Collecting.{also_end, also_step}
+use Rattle.moxi_attributes.specs.laws.Collecting.{also_end, also_step}
 use Rattle.moxi_scripts.proofs.Forms.{items_end, items_step}
 use Rattle.moxi_attributes.proofs.entries.test_twice.Goals as goal
 

@@ -1,6 +1,6 @@
 use Rattle.std.proofs.Common.{◌++◌, ◌∙◌, ap}
 use Rattle.moxi_scripts.specs.Entries.{variable_of, variables_of}
-use Rattle.moxi_attributes.proofs.Collecting.{list_step}
+use Rattle.moxi_attributes.specs.laws.Collecting.{list_step}
 use Rattle.moxi_scripts.proofs.Forms.{items_step}
 use Rattle.moxi_attributes.proofs.entries.variables_of.Goals as goal
 

@@ -4,7 +4,7 @@ use Rattle.moxi_terms.specs.declared.data.Sort.TheVariants.{Truth}
 use Rattle.moxi_scripts.specs.Collecting.{also}
 use Rattle.moxi_scripts.specs.Declarations.{clash_failures}
 use Rattle.moxi_scripts.specs.Formulas.{reading_of}
-use Rattle.moxi_attributes.proofs.Collecting.{also_two}
+use Rattle.moxi_attributes.specs.laws.Collecting.{also_two}
 use Rattle.moxi_attributes.proofs.formulas.read_truth.Goals as goal
 
 pub returns-clause-finds : goal.returns-clause-finds

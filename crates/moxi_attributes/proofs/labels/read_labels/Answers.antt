@@ -5,7 +5,7 @@ use Rattle.moxi_scripts.specs.Attributes.{turn_after}
 use Rattle.moxi_scripts.specs.Collecting.{also}
 use Rattle.moxi_scripts.specs.Labels.{labels_after, labels_failures}
 use Rattle.moxi_attributes.specs.Views.{plain_labels}
-use Rattle.moxi_attributes.proofs.Collecting.{also_end, also_step}
+use Rattle.moxi_attributes.specs.laws.Collecting.{also_end, also_step}
 use Rattle.moxi_scripts.proofs.Forms.{forms_end, forms_step}
 use Rattle.moxi_attributes.proofs.labels.read_labels.Goals as goal
 

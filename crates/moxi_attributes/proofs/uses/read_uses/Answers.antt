@@ -5,7 +5,7 @@ use Rattle.moxi_scripts.specs.declared.parts.Command.TheVariants.{System}
 use Rattle.moxi_scripts.specs.Attributes.{turn_after}
 use Rattle.moxi_scripts.specs.Collecting.{also}
 use Rattle.moxi_scripts.specs.Uses.{uses_failures, uses_in}
-use Rattle.moxi_attributes.proofs.Collecting.{also_end, also_step, list_step}
+use Rattle.moxi_attributes.specs.laws.Collecting.{also_end, also_step, list_step}
 use Rattle.moxi_scripts.proofs.Forms.{forms_end, forms_step}
 use Rattle.moxi_attributes.proofs.uses.read_uses.Goals as goal
 

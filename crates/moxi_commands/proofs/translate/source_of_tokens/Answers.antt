@@ -1,6 +1,7 @@
 use Rattle.std.proofs.Common.{refl, subst}
 use Rattle.smv_text.specs.Sources.{SpellsSource}
 use Rattle.smv_text.specs.View.{plain_source}
+use Rattle.moxi_commands.proofs.Sources.{parsed_read}
 use Rattle.moxi_commands.proofs.translate.source_of_tokens.Goals as goal
 
 pub source_of_model-requires : goal.source_of_model-requires
@@ -16,3 +17,6 @@ source_of_model-requires c = record {
     tokens_are = refl;
   };
 }
+
+pub returns-in-Err-clause-refused : goal.returns-in-Err-clause-refused
+returns-in-Err-clause-refused c = parsed_read c.args.bytes.now c.args.tokens.now c.in-Err.end c.requires.lexed c.requires.end c.in-Err.ensures.refused

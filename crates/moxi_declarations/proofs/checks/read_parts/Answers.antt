@@ -4,7 +4,7 @@ use Rattle.moxi_scripts.specs.declared.parts.Turn.TheVariants.{AtKeyword}
 use Rattle.moxi_scripts.specs.Collecting.{also}
 use Rattle.moxi_scripts.specs.Labels.{labels_after, labels_failures, no_labels}
 use Rattle.moxi_scripts.specs.QueryReading.{all_queries_failures, queries_after}
-use Rattle.moxi_attributes.proofs.Collecting.{also_two}
+use Rattle.moxi_attributes.specs.laws.Collecting.{also_two}
 use Rattle.moxi_declarations.proofs.checks.read_parts.Goals as goal
 
 pub returns-in-Ok-clause-lists : goal.returns-in-Ok-clause-lists

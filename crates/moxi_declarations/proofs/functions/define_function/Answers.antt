@@ -9,7 +9,7 @@ use Rattle.moxi_scripts.specs.Collecting.{also}
 use Rattle.moxi_scripts.specs.Declarations.{body_reading, is_nil, part_failures, result_sort, term_name_tests, typed_function, with_typed}
 use Rattle.moxi_scripts.specs.Entries.{entries_of, known_sort, twice_failures}
 use Rattle.moxi_declarations.specs.FunctionView.{function_here}
-use Rattle.moxi_attributes.proofs.Collecting.{also_two}
+use Rattle.moxi_attributes.specs.laws.Collecting.{also_two}
 use Rattle.moxi_scripts.proofs.FunctionLaws.{function_is, nil_is, none_is_nil, own_least, some_each}
 use Rattle.moxi_declarations.proofs.functions.define_function.Goals as goal
 

@@ -5,7 +5,7 @@ use Rattle.moxi_scripts.specs.Collecting.{also}
 use Rattle.moxi_scripts.specs.Declarations.{body_reading, clash_failures, read_over, result_sort}
 use Rattle.moxi_scripts.specs.Entries.{entries_failures, entries_of, known_sort, sort_failures}
 use Rattle.moxi_declarations.specs.FunctionView.{function_here}
-use Rattle.moxi_attributes.proofs.Collecting.{also_two}
+use Rattle.moxi_attributes.specs.laws.Collecting.{also_two}
 use Rattle.moxi_declarations.proofs.functions.read_parts.Goals as goal
 
 pub returns-clause-finds : goal.returns-clause-finds

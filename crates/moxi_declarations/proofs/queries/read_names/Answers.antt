@@ -3,7 +3,7 @@ use Rattle.moxi_sexpr.specs.Tree.{plain_forms}
 use Rattle.moxi_scripts.specs.Declarations.{are_symbols}
 use Rattle.moxi_attributes.specs.Views.{plain_labels}
 use Rattle.moxi_scripts.specs.QueryReading.{names_after, symbols_failures}
-use Rattle.moxi_attributes.proofs.Collecting.{also_end, also_step, and_step}
+use Rattle.moxi_attributes.specs.laws.Collecting.{also_end, also_step, and_step}
 use Rattle.moxi_scripts.proofs.Forms.{forms_end, forms_step}
 use Rattle.moxi_declarations.proofs.queries.read_names.Goals as goal
 

@@ -3,7 +3,7 @@ use Rattle.moxi_sexpr.specs.Tree.{plain_forms}
 use Rattle.moxi_scripts.specs.Collecting.{also}
 use Rattle.moxi_attributes.specs.Views.{plain_labels}
 use Rattle.moxi_scripts.specs.QueryReading.{names_with_queries, queries_failures, queries_in}
-use Rattle.moxi_attributes.proofs.Collecting.{also_end, also_step, list_step}
+use Rattle.moxi_attributes.specs.laws.Collecting.{also_end, also_step, list_step}
 use Rattle.moxi_scripts.proofs.Forms.{forms_end, forms_step}
 use Rattle.moxi_declarations.proofs.queries.read_queries_of.Goals as goal
 

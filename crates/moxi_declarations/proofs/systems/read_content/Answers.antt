@@ -1,4 +1,4 @@
-use Rattle.moxi_attributes.proofs.Collecting.{also_two}
+use Rattle.moxi_attributes.specs.laws.Collecting.{also_two}
 use Rattle.std.proofs.Common.{refl, ap, ◌∙◌}
 use Rattle.moxi_sexpr.specs.Tree.{plain_forms}
 use Rattle.moxi_scripts.specs.Systems.{content_of}

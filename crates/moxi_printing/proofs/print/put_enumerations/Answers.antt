@@ -1,4 +1,4 @@
-use Rattle.std.proofs.Common.{◌<◌, ap, map, length, arith}
+use Rattle.std.proofs.Common.{◌<◌, ap, length, arith}
 use Rattle.moxi_print.specs.Shown.{lines_text}
 use Rattle.moxi_shown_scripts.specs.Printing.{shown_enumerations}
 use Rattle.moxi_printing.proofs.Pieces.{front, line_step}

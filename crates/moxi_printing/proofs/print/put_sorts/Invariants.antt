@@ -1,6 +1,5 @@
-use Rattle.std.proofs.Common.{◌≡◌, ◌++◌, ◌∷◌, [], drop, take, map}
-use Rattle.moxi_sexpr.specs.Printing.{bytes_behind}
-use Rattle.moxi_print.specs.Shown.{parts_text, lines_text}
+use Rattle.std.proofs.Common.{◌≡◌, ◌++◌, drop}
+use Rattle.moxi_print.specs.Shown.{lines_text}
 use Rattle.moxi_shown_scripts.specs.Printing.{shown_sorts}
 use Rattle.moxi_printing.proofs.print.put_sorts.Given as goal
 

@@ -1,6 +1,6 @@
-use Rattle.std.proofs.Common.{◌≡◌, ◌++◌, ◌∷◌, [], drop, take, map}
+use Rattle.std.proofs.Common.{◌≡◌, ◌++◌, drop, map}
 use Rattle.moxi_sexpr.specs.Printing.{bytes_behind}
-use Rattle.moxi_print.specs.Shown.{parts_text, lines_text}
+use Rattle.moxi_print.specs.Shown.{lines_text}
 use Rattle.moxi_scripts.specs.Script.{plain_system}
 use Rattle.moxi_shown_scripts.specs.Printing.{shown_systems}
 use Rattle.moxi_printing.proofs.print.put_systems.Given as goal

@@ -1,4 +1,4 @@
-use Rattle.std.proofs.Common.{◌≡◌, ◌++◌, ◌∷◌, [], drop, take, map}
+use Rattle.std.proofs.Common.{◌≡◌, take, map}
 use Rattle.moxi_sexpr.specs.Printing.{bytes_behind}
 use Rattle.moxi_scripts.specs.Script.{plain_formula}
 use Rattle.moxi_shown_scripts.specs.Printing.{formula_names}

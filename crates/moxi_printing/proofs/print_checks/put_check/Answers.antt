@@ -1,4 +1,4 @@
-use Rattle.std.proofs.Common.{◌≡◌, ℕ, List, [], ◌∷◌, ◌++◌, ap, sym, ◌∙◌, map}
+use Rattle.std.proofs.Common.{ℕ, List, [], ◌∷◌, ◌++◌, ap, ◌∙◌, map}
 use Rattle.std.specs.Prelude.{codes}
 use Rattle.moxi_sexpr.specs.Printing.{bytes_behind}
 use Rattle.moxi_print.specs.Shown.{parts_text, text_of}

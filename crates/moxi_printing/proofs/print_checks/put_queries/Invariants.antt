@@ -1,6 +1,6 @@
-use Rattle.std.proofs.Common.{◌≡◌, ◌++◌, ◌∷◌, [], drop, take, map}
+use Rattle.std.proofs.Common.{◌≡◌, ◌++◌, ◌∷◌, [], drop, map}
 use Rattle.moxi_sexpr.specs.Printing.{bytes_behind}
-use Rattle.moxi_print.specs.Shown.{parts_text, lines_text}
+use Rattle.moxi_print.specs.Shown.{parts_text}
 use Rattle.moxi_shown_scripts.specs.Printing.{shown_queries}
 use Rattle.moxi_printing.proofs.print_checks.put_queries.Given as goal
 

@@ -1,4 +1,4 @@
-use Rattle.std.proofs.Common.{◌≡◌, ◌++◌, ◌∷◌, [], drop, take, map}
+use Rattle.std.proofs.Common.{◌≡◌, ◌++◌, take, map}
 use Rattle.moxi_sexpr.specs.Printing.{bytes_behind}
 use Rattle.moxi_shown_scripts.specs.Printing.{names_of}
 use Rattle.moxi_printing.proofs.print_parts.push_names_of.Given as goal

@@ -1,6 +1,6 @@
 use Rattle.std.proofs.Common.{◌++◌, length, append-nil, ap, sym, ◌∙◌}
 use Rattle.moxi_scripts.specs.Cycles.{all_use_rows}
-use Rattle.moxi_attributes.proofs.Collecting.{list_step}
+use Rattle.moxi_attributes.specs.laws.Collecting.{list_step}
 use Rattle.moxi_reading.proofs.LinkLaws.{systems_end, systems_step}
 use Rattle.moxi_reading.proofs.cycles.add_all_use_rows.Goals as goal
 

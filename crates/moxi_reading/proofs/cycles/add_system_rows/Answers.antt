@@ -1,7 +1,7 @@
 use Rattle.std.proofs.Common.{◌++◌, ◌∷◌, [], ◌+◌, append-nil, arith, map, drop, ap, sym, ◌∙◌}
 use Rattle.moxi_scripts.specs.Cycles.{count_uses, nodes_from, system_rows}
 use Rattle.moxi_declarations.specs.Views.{plain_reading}
-use Rattle.moxi_attributes.proofs.Collecting.{list_step}
+use Rattle.moxi_attributes.specs.laws.Collecting.{list_step}
 use Rattle.moxi_reading.proofs.LinkLaws.{systems_end, systems_step}
 use Rattle.moxi_reading.proofs.cycles.add_system_rows.Goals as goal
 

@@ -1,7 +1,7 @@
 use Rattle.std.proofs.Common.{◌++◌, ◌∷◌, [], ap, ◌∙◌}
-use Rattle.moxi_terms.specs.Names.{place_of}
+use Rattle.name_set.specs.Names.{place_of}
 use Rattle.moxi_scripts.specs.Cycles.{ends_at, use_rows}
-use Rattle.moxi_attributes.proofs.Collecting.{list_step}
+use Rattle.moxi_attributes.specs.laws.Collecting.{list_step}
 use Rattle.moxi_scripts.proofs.Forms.{items_step}
 use Rattle.moxi_reading.proofs.cycles.add_use_rows.Goals as goal
 

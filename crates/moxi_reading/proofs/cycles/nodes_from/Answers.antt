@@ -1,6 +1,6 @@
 use Rattle.std.proofs.Common.{◌≡◌, ◌++◌, ◌+◌, ◌-◌, append-nil, arith, ap, sym, ◌∙◌}
 use Rattle.moxi_scripts.specs.Cycles.{nodes_from}
-use Rattle.moxi_attributes.proofs.Collecting.{list_step}
+use Rattle.moxi_attributes.specs.laws.Collecting.{list_step}
 use Rattle.moxi_scripts.proofs.CycleLaws.{nodes_end, nodes_step}
 use Rattle.moxi_reading.proofs.cycles.nodes_from.Goals as goal
 

@@ -6,7 +6,7 @@ use Rattle.moxi_declarations.specs.Views.{plain_draft, plain_reading}
 use Rattle.moxi_scripts.specs.Cycles.{cycle_failures}
 use Rattle.moxi_scripts.specs.Links.{links_failures}
 use Rattle.moxi_scripts.specs.Spelling.{reading_of}
-use Rattle.moxi_attributes.proofs.Collecting.{also_two}
+use Rattle.moxi_attributes.specs.laws.Collecting.{also_two}
 use Rattle.moxi_reading.proofs.cycles.read_whole_script.Goals as goal
 
 pub returns-clause-draft : goal.returns-clause-draft

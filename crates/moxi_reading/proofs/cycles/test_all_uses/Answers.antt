@@ -2,7 +2,7 @@ use Rattle.std.proofs.Common.{◌+◌, map, drop, arith, ap, ◌∙◌}
 use Rattle.moxi_scripts.specs.Collecting.{also}
 use Rattle.moxi_scripts.specs.Cycles.{all_cycles, count_uses}
 use Rattle.moxi_declarations.specs.Views.{plain_reading}
-use Rattle.moxi_attributes.proofs.Collecting.{also_end, also_step}
+use Rattle.moxi_attributes.specs.laws.Collecting.{also_end, also_step}
 use Rattle.moxi_reading.proofs.LinkLaws.{systems_end, systems_step}
 use Rattle.moxi_reading.proofs.cycles.test_all_uses.Goals as goal
 

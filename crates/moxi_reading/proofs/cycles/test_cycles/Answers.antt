@@ -5,7 +5,7 @@ use Rattle.digraph.specs.Ordering.{IsOrder}
 use Rattle.moxi_scripts.specs.Collecting.{also}
 use Rattle.moxi_scripts.specs.Cycles.{all_cycles, use_graph}
 use Rattle.moxi_declarations.specs.Views.{plain_reading}
-use Rattle.moxi_attributes.proofs.Collecting.{also_none}
+use Rattle.moxi_attributes.specs.laws.Collecting.{also_none}
 use Rattle.moxi_scripts.proofs.CycleLaws.{all_never, graph_is, graph_long}
 use Rattle.moxi_reading.proofs.cycles.test_cycles.Goals as goal
 

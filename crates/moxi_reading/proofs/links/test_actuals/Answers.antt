@@ -2,7 +2,7 @@ use Rattle.std.proofs.Common.{◌+◌, drop, ap, add-one, ◌∙◌}
 use Rattle.moxi_scripts.specs.Collecting.{also}
 use Rattle.moxi_scripts.specs.Declarations.{clash_failures}
 use Rattle.moxi_scripts.specs.Links.{actuals_clash}
-use Rattle.moxi_attributes.proofs.Collecting.{also_end, also_step}
+use Rattle.moxi_attributes.specs.laws.Collecting.{also_end, also_step}
 use Rattle.moxi_scripts.proofs.Forms.{items_end, items_step}
 use Rattle.moxi_reading.proofs.links.test_actuals.Goals as goal
 

@@ -3,7 +3,7 @@ use Rattle.std.specs.Option.{option_map}
 use Rattle.moxi_declarations.specs.Views.{plain_check_reading, plain_reading}
 use Rattle.moxi_scripts.specs.Collecting.{also}
 use Rattle.moxi_scripts.specs.Links.{check_failures, systems_failures}
-use Rattle.moxi_attributes.proofs.Collecting.{also_two}
+use Rattle.moxi_attributes.specs.laws.Collecting.{also_two}
 use Rattle.moxi_reading.proofs.links.test_links.Goals as goal
 
 pub returns : goal.returns

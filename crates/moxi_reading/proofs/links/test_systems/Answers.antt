@@ -1,7 +1,7 @@
 use Rattle.std.proofs.Common.{map, ap}
 use Rattle.moxi_scripts.specs.Links.{systems_failures}
 use Rattle.moxi_declarations.specs.Views.{plain_reading}
-use Rattle.moxi_attributes.proofs.Collecting.{also_end, also_step}
+use Rattle.moxi_attributes.specs.laws.Collecting.{also_end, also_step}
 use Rattle.moxi_reading.proofs.LinkLaws.{systems_end, systems_step}
 use Rattle.moxi_reading.proofs.links.test_systems.Goals as goal
 

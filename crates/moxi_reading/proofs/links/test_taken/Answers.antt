@@ -2,7 +2,7 @@ use Rattle.std.proofs.Common.{ap, ◌∙◌}
 use Rattle.moxi_scripts.specs.Collecting.{also, fails_if}
 use Rattle.moxi_scripts.specs.Declarations.{is_taken}
 use Rattle.moxi_scripts.specs.Links.{taken_failures}
-use Rattle.moxi_attributes.proofs.Collecting.{also_end, also_step}
+use Rattle.moxi_attributes.specs.laws.Collecting.{also_end, also_step}
 use Rattle.moxi_scripts.proofs.Forms.{items_end, items_step}
 use Rattle.moxi_reading.proofs.links.test_taken.Goals as goal
 

@@ -1,7 +1,7 @@
 use Rattle.std.proofs.Common.{map, ap}
 use Rattle.moxi_scripts.specs.Links.{uses_failures}
 use Rattle.moxi_declarations.specs.Views.{plain_reading}
-use Rattle.moxi_attributes.proofs.Collecting.{also_end, also_step}
+use Rattle.moxi_attributes.specs.laws.Collecting.{also_end, also_step}
 use Rattle.moxi_scripts.proofs.Forms.{items_end, items_step}
 use Rattle.moxi_reading.proofs.links.test_uses.Goals as goal
 

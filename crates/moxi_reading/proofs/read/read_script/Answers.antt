@@ -1,11 +1,11 @@
 use Rattle.std.proofs.Common.{◌≡◌, Result, Ok, Err, IfOk, IfErr, Some, sym, ap, ◌∙◌}
 use Rattle.std.proofs.lemmas.Option.{none-some, same_Some}
+use Rattle.text_core.specs.declared.end.End.{End}
+use Rattle.text_core.specs.declared.end.End.TheVariants.{Bad, NoMemory}
 use Rattle.text_core.specs.declared.place.Place.{Place}
 use Rattle.text_core.specs.declared.place.Refusal.{Refusal}
 use Rattle.moxi_sexpr.specs.Tree.{Trees, plain_forms}
 use Rattle.moxi_sorts.specs.Failures.{least}
-use Rattle.moxi_reading.specs.declared.outcome.ScriptEnd.{ScriptEnd}
-use Rattle.moxi_reading.specs.declared.outcome.ScriptEnd.TheVariants.{Bad, NoMemory}
 use Rattle.moxi_scripts.specs.declared.script.Script.{Script}
 use Rattle.moxi_scripts.specs.Kinds.{HasScriptKind}
 use Rattle.moxi_reading.specs.Answer.{IsFirstFailure, IsFirstOf, IsRefusal, IsScript}
@@ -16,17 +16,17 @@ use Rattle.moxi_scripts.proofs.ScriptKinds.{script_kinds}
 use Rattle.moxi_scripts.proofs.ScriptLaws.{each_in, first_is, kinds_have_bytes, one_script}
 use Rattle.moxi_reading.proofs.read.read_script.Goals as goal
 
-is_read : (ts : Trees) (end : Place) (x : Result Script ScriptEnd) (s : PlainScript) → IfOk x (λ a. SpellsScript ts end (plain_script a)) → IfErr x (IsFirstFailure ts end) → SpellsScript ts end s → IsScript s x
+is_read : (ts : Trees) (end : Place) (x : Result Script End) (s : PlainScript) → IfOk x (λ a. SpellsScript ts end (plain_script a)) → IfErr x (IsFirstFailure ts end) → SpellsScript ts end s → IsScript s x
 is_read ts end (Ok a) s h g spelled = one_script ts end (plain_script a) s h spelled
 is_read ts end (Err (Bad r)) s h g spelled = none-some r (sym (ap least spelled.passes) ∙ g)
 is_read ts end (Err NoMemory) s h g spelled = tt
 
-is_answered : (ts : Trees) (end : Place) (x : Result Script ScriptEnd) (r : Refusal) → IfOk x (λ a. SpellsScript ts end (plain_script a)) → IfErr x (IsFirstFailure ts end) → least (script_failures ts end) ≡ Some r → IsRefusal r x
+is_answered : (ts : Trees) (end : Place) (x : Result Script End) (r : Refusal) → IfOk x (λ a. SpellsScript ts end (plain_script a)) → IfErr x (IsFirstFailure ts end) → least (script_failures ts end) ≡ Some r → IsRefusal r x
 is_answered ts end (Ok a) r h g first = none-some r (sym (ap least h.passes) ∙ first)
 is_answered ts end (Err (Bad f)) r h g first = same_Some f r (sym g ∙ first)
 is_answered ts end (Err NoMemory) r h g first = tt
 
-is_first : (ts : Trees) (end : Place) (x : Result Script ScriptEnd) → IfErr x (IsFirstFailure ts end) → IfErr x (IsFirstOf ts end)
+is_first : (ts : Trees) (end : Place) (x : Result Script End) → IfErr x (IsFirstFailure ts end) → IfErr x (IsFirstOf ts end)
 is_first ts end (Ok a) g = tt
 is_first ts end (Err (Bad r)) g =
     let f = first_is (script_failures ts end) r (kinds_have_bytes (script_failures ts end) (script_kinds ts end)) g in

@@ -1,5 +1,5 @@
 use Rattle.std.proofs.Common.{length, map}
-use Rattle.moxi_sexpr.specs.Bytes.{Reaches}
+use Rattle.text_core.specs.Places.{Reaches}
 use Rattle.moxi_sexpr.specs.Tree.{plain}
 use Rattle.moxi_sexpr.specs.Machine.{open_lists}
 use Rattle.moxi_sexpr.proofs.Leading.{Leads}

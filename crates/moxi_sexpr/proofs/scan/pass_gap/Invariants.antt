@@ -1,5 +1,5 @@
 use Rattle.std.proofs.Common.{◌≡◌, ◌+◌, length, take, drop, false}
-use Rattle.moxi_sexpr.specs.Bytes.{after, Reaches}
+use Rattle.text_core.specs.Places.{after, Reaches}
 use Rattle.moxi_sexpr.specs.Reading.{gap_length}
 use Rattle.moxi_sexpr.proofs.scan.pass_gap.Given as goal
 

@@ -1,5 +1,5 @@
 use Rattle.std.proofs.Common.{◌≡◌, ◌++◌, ◌∷◌, [], true, None, Some, is_none, cond, length, take, sym, ap, ◌∙◌, subst}
-use Rattle.moxi_terms.specs.Names.{place_of}
+use Rattle.name_set.specs.Names.{place_of}
 use Rattle.moxi_sorts.specs.Finding.{IsStacked, locals_in}
 use Rattle.moxi_sorts.proofs.StackLaws.{stacked_new, same_locals, new_key}
 use Rattle.moxi_sorts.proofs.locals.key_of.Goals as goal

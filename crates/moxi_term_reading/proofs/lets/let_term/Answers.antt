@@ -13,9 +13,9 @@ returns c x y fs e b r =
     let shape = c.sooner-shape.ensures ∙ tests_both c.args.own bs.shape fs x.shape e b.shape in
     let parts = c.sooner.ensures ∙ tests_both bs.failure c.args.r.failure x.failures y.failures b.failure r.failure in
     record {
-      term = plain-Let bs.names bs.terms c.in-Ok.held ∙ ap (λ n. binding n (trees_of (map plain bs.terms.items)) (plain c.in-Ok.held.value)) (b.names)
-          ∙ ap (λ ts. binding (names_of x.locals) (trees_of ts) (plain c.in-Ok.held.value)) b.terms
-          ∙ ap (binding (names_of x.locals) (trees_of x.terms)) (ap plain c.in-Ok.ensures.ok ∙ r.term);
+      term = plain-Let bs.names bs.terms c.in_ok-held.held ∙ ap (λ n. binding n (trees_of (map plain bs.terms.items)) (plain c.in_ok-held.held.value)) (b.names)
+          ∙ ap (λ ts. binding (names_of x.locals) (trees_of ts) (plain c.in_ok-held.held.value)) b.terms
+          ∙ ap (binding (names_of x.locals) (trees_of x.terms)) (ap plain c.in_ok-held.ensures.ok ∙ r.term);
       sort = c.unless_failed.ensures ∙ unless_least (fs ++ x.shape) c.args.r.sort c.sooner-shape.result shape ∙ ap (unless_failed (fs ++ x.shape)) r.sort;
       failure = c.sooner-2.ensures ∙ tests_both c.sooner-shape.result c.sooner.result (fs ++ x.shape) (x.failures ++ y.failures) shape parts ∙ ap least (append_assoc fs x.shape (x.failures ++ y.failures));
     }

@@ -7,7 +7,7 @@ use Rattle.smv_instances.specs.View.{instance_plain}
 use Rattle.smv_references.specs.View.{formula_plain}
 use Rattle.smv_evaluation.specs.View.{stated}
 use Rattle.smv_model_laws.proofs.Ranked.{key}
-use Rattle.smv_references.proofs.NumberLemmas.{read}
+use Rattle.smv_references.specs.laws.NumberLemmas.{read}
 use Rattle.smv_evaluation.proofs.Positions.{at_place, kept_low, kept_at}
 use Rattle.smv_evaluation.proofs.Filling.{ready, kept_on, kept_end, kept_none}
 use Rattle.smv_evaluation.proofs.fill.keep_all.Goals as goal

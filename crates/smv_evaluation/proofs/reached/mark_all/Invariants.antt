@@ -7,7 +7,7 @@ use Rattle.smv_instances.specs.View.{instance_plain}
 use Rattle.smv_references.specs.View.{path_seen}
 use Rattle.smv_evaluation.proofs.reached.mark_all.Given as goal
 
-abbrev pub invariant-loop-k : goal.invariant-loop-k
-invariant-loop-k l =
-    (k : ℕ) (x : List ℕ) → (is_marked l.marks k x || list_any (λ q. is_body_of k x (found_in (map instance_plain l.table) l.i q)) (map path_seen (drop l.k l.paths)))
+abbrev pub invariant-loop-path : goal.invariant-loop-path
+invariant-loop-path l =
+    (k : ℕ) (x : List ℕ) → (is_marked l.marks k x || list_any (λ q. is_body_of k x (found_in (map instance_plain l.table) l.i q)) (map path_seen (drop l.path-index l.paths)))
     ≡ (is_marked l.fn.marks k x || list_any (λ q. is_body_of k x (found_in (map instance_plain l.table) l.i q)) (map path_seen l.paths))

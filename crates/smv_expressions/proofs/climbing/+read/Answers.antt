@@ -1,24 +1,24 @@
-use Rattle.std.proofs.Common.{◌≡◌, true, false, ◌&&◌, nat_le, is_some, suc, ◌-◌, Some, None, List, [], ◌∷◌, ◌++◌, length, refl, sym, ap, ◌∙◌, subst, arith, add-one}
+use Rattle.std.proofs.Common.{◌≡◌, true, false, is_some, suc, ◌-◌, Some, None, List, [], ◌∷◌, ◌++◌, refl, sym, ap, ◌∙◌, subst, arith, add-one}
 use Rattle.std.proofs.lemmas.Result.{err_from_is_err_and}
 use Rattle.smv_text.specs.declared.token.Sign.TheVariants as sign
 use Rattle.smv_text.specs.declared.tree.Prefix.TheVariants as prefixes
 use Rattle.smv_text.specs.Levels.{all_levels}
-use Rattle.smv_text.specs.Tree.{truth, number, literal, name, prefix, cases, next, branches_of}
+use Rattle.smv_text.specs.Tree.{name, prefix, cases, next, branches_of}
 use Rattle.smv_text.specs.Grammar.{start}
 use Rattle.smv_grammar.specs.declared.listing.Listing.TheVariants.{Arguments, Elements}
 use Rattle.smv_grammar.specs.declared.levels.Leader.TheVariants as leader
 use Rattle.smv_expressions.specs.Gathered.{read_of, single}
 use Rattle.smv_grammar.specs.Ranks.{level_at, tightest}
-use Rattle.smv_grammar.specs.Machine.{bare, joined, whole, operand, when, value, signs, bracket, following, listing, condition, result, closing_of, Frame, listed, choice_at, prefix_sign, leader_of, opened, ask, have, signed, open_next, failed, walk}
+use Rattle.smv_grammar.specs.Machine.{bare, joined, whole, operand, when, value, signs, bracket, following, listing, condition, result, closing_of, Frame, listed, choice_at, prefix_sign, leader_of, opened, ask, have, signed, open_next, walk}
 use Rattle.std.specs.Bool.{OnTrue}
-use Rattle.smv_grammar.specs.Reading.{after, found, first_path, starts_range, waiting}
+use Rattle.smv_grammar.specs.Reading.{after, found, waiting}
 use Rattle.smv_expressions.specs.Following.{IsOperand, Passes, Follows}
 use Rattle.smv_expressions.proofs.Capping.{none_so_far}
 use Rattle.smv_expressions.proofs.Keeping.{read_height}
-use Rattle.smv_grammar.proofs.Steps.{when_goes, value_goes, bracket_goes, following_goes, condition_goes, result_goes, listing_goes, listing_ends, when_leaves, value_dies, signs_fold, bracket_dies, following_dies, condition_dies, result_dies, listing_dies, chain_goes, operand_goes, signed_goes, open_next_goes, open_call_goes, signed_ends, open_next_dies, open_call_dies, case_more, case_ends, named_on}
-use Rattle.smv_grammar.proofs.Climbing.{leads_by, path_begins}
-use Rattle.smv_expressions.proofs.Descending.{settles, climbs, beside, first_at, prefix_first, name_leads, none_left, nothing_comes, path_place}
-use Rattle.smv_expressions.proofs.Following.{path_dies, follows_err, follows_along, follows_missed, follows_passed, follows_free, collects_ok, collects_err, collects_dead, collects_missed, collects_passed, collects_free}
+use Rattle.smv_grammar.proofs.Steps.{when_goes, value_goes, bracket_goes, following_goes, condition_goes, result_goes, listing_goes, listing_ends, when_leaves, value_dies, signs_fold, bracket_dies, following_dies, condition_dies, result_dies, listing_dies, chain_goes, operand_goes, signed_goes, open_next_goes, open_call_goes, signed_ends, open_next_dies, open_call_dies, case_more, case_ends}
+use Rattle.smv_grammar.proofs.Climbing.{leads_by}
+use Rattle.smv_expressions.proofs.Descending.{settles, climbs, beside, first_at, prefix_first, name_leads, none_left, nothing_comes}
+use Rattle.smv_expressions.proofs.Following.{follows_err, follows_along, follows_missed, follows_passed, follows_free, collects_ok, collects_err, collects_dead, collects_missed, collects_passed, collects_free}
 use Rattle.smv_expressions.proofs.climbing.+read.Goals as goal
 
 pub read-returns-in_err-name_leaf-clause-reads : goal.read-returns-in_err-name_leaf-clause-reads

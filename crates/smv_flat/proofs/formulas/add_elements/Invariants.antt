@@ -1,13 +1,13 @@
-use Rattle.std.proofs.Common.{◌≡◌, ◌++◌, drop, map}
+use Rattle.std.proofs.Common.{◌≡◌, ◌++◌, map}
 use Rattle.std.specs.Prelude.{flat_map}
-use Rattle.smv_text.specs.View.{plain_assignment, plain_element}
+use Rattle.std.specs.Slice.Iter.{iter_rest}
+use Rattle.smv_text.specs.View.{plain_element}
 use Rattle.smv_instances.specs.View.{instance_plain}
-use Rattle.smv_flat.specs.FlatForms.{body_forms, assignment_form, element_forms, forms_from, forms_of}
-use Rattle.smv_items.specs.FlatOrigins.{origin_plain}
+use Rattle.smv_flat.specs.FlatForms.{element_forms}
 use Rattle.smv_flat.specs.FlatFormulas.{form_plain}
 use Rattle.smv_flat.proofs.formulas.add_elements.Given as goal
 
-abbrev pub invariant-loop-k : goal.invariant-loop-k
-invariant-loop-k g l =
-    map form_plain l.forms.items ++ flat_map (element_forms (map instance_plain l.table) l.i) (map plain_element (drop l.k l.elements))
-    ≡ map form_plain l.fn.forms.items ++ flat_map (element_forms (map instance_plain l.table) l.i) (map plain_element l.elements)
+abbrev pub invariant-loop-element : goal.invariant-loop-element
+invariant-loop-element g l =
+    map form_plain l.forms.items ++ flat_map (element_forms (map instance_plain l.context.table.now) l.i) (map plain_element (iter_rest l.element-iterator))
+    ≡ map form_plain l.fn.forms.items ++ flat_map (element_forms (map instance_plain l.context.table.now) l.i) (map plain_element l.fn.elements)

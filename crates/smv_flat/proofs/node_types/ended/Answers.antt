@@ -1,4 +1,4 @@
-use Rattle.smv_flat.proofs.FlatSteps.{ended_none}
+use Rattle.smv_flat.specs.laws.FlatSteps.{ended_none}
 use Rattle.smv_flat.proofs.node_types.ended.Goals as goal
 
 pub returns-in-Bad : goal.returns-in-Bad

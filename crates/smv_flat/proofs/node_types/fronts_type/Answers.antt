@@ -4,7 +4,7 @@ use Rattle.smv_text.specs.View.{plain_link}
 use Rattle.smv_intervals.specs.View.{seen}
 use Rattle.smv_types.specs.View.{standing_seen}
 use Rattle.smv_flat.specs.FlatView.{fronts_type}
-use Rattle.smv_flat.proofs.FlatSteps.{fronts_stop, fronts_on, drop_get, drop_item}
+use Rattle.smv_flat.specs.laws.FlatSteps.{fronts_stop, fronts_on, drop_get, drop_item}
 use Rattle.smv_flat.proofs.node_types.fronts_type.Goals as goal
 
 pub returns-then-k-types : goal.returns-then-k-types

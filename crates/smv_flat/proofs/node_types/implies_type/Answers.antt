@@ -2,7 +2,7 @@ use Rattle.std.proofs.Common.{◌∷◌, map, option_map, IfOk, ◌≡◌, subst
 use Rattle.smv_meaning.specs.Checks.{all_types}
 use Rattle.smv_intervals.specs.View.{seen}
 use Rattle.smv_types.specs.Steps.{implies_step}
-use Rattle.smv_flat.proofs.FlatSteps.{all_put}
+use Rattle.smv_flat.specs.laws.FlatSteps.{all_put}
 use Rattle.smv_flat.proofs.node_types.implies_type.Goals as goal
 
 pub returns : goal.returns

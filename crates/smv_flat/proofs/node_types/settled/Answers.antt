@@ -1,4 +1,4 @@
-use Rattle.smv_flat.proofs.FlatSteps.{settled_none}
+use Rattle.smv_flat.specs.laws.FlatSteps.{settled_none}
 use Rattle.smv_flat.proofs.node_types.settled.Goals as goal
 
 pub returns-in-Err : goal.returns-in-Err

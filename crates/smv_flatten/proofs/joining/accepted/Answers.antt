@@ -1,6 +1,6 @@
 use Rattle.smv_text.specs.View.{plain_source}
 use Rattle.smv_meaning.specs.Phases.{checks_of}
-use Rattle.smv_flatten.proofs.Composing.{all_hold}
+use Rattle.smv_flatten.specs.laws.Composing.{all_hold}
 use Rattle.smv_flatten.proofs.joining.accepted.Goals as goal
 
 pub returns-in-Ok-clause-passes : goal.returns-in-Ok-clause-passes

@@ -1,5 +1,6 @@
-use Rattle.std.proofs.Common.{◌≡◌, ◌++◌, drop}
+use Rattle.std.proofs.Common.{◌≡◌, ◌++◌}
+use Rattle.std.specs.Slice.Iter.{iter_rest}
 use Rattle.smv_flatten.proofs.members.copied.Given as goal
 
-abbrev pub invariant-loop-k : goal.invariant-loop-k
-invariant-loop-k l = l.copy ++ drop l.k l.members ≡ l.members
+abbrev pub invariant-loop-original : goal.invariant-loop-original
+invariant-loop-original l = l.copy ++ iter_rest l.original-iterator ≡ l.fn.members

@@ -1,6 +1,6 @@
 use Rattle.std.proofs.Common.{length, refl, arith}
 use Rattle.smv_instances.specs.NameMap.{named_in}
-use Rattle.smv_instances.proofs.ChildLemmas.{with_part}
+use Rattle.smv_instances.specs.laws.ChildLemmas.{with_part}
 use Rattle.smv_instances.proofs.children.children_of.Goals as goal
 
 pub loop-c-preserved : goal.loop-c-preserved

@@ -1,6 +1,6 @@
 use Rattle.std.proofs.Common.{sym}
 use Rattle.smv_instances.specs.NameMap.{named_in}
-use Rattle.smv_instances.proofs.ChildLemmas.{stays, on_put}
+use Rattle.smv_instances.specs.laws.ChildLemmas.{stays, on_put}
 use Rattle.smv_instances.proofs.children.put_first.Goals as goal
 
 pub returns-in-Some : goal.returns-in-Some

@@ -5,7 +5,7 @@ use Rattle.smv_instances.proofs.scopes.scopes_of.Goals as goal
 
 pub loop-i-preserved : goal.loop-i-preserved
 loop-i-preserved c = record {
-  many = ap length c.in-Ok.ensures.items ∙ length_push c.loop-i.scopes.items c.in_ok-scope_of.field-0 ∙ ap (λ n. n + 1) c.loop-i.invariant.many;
+  many = ap length c.in_ok-push.ensures.items ∙ length_push c.loop-i.scopes.items c.in_ok-scope_of.field-0 ∙ ap (λ n. n + 1) c.loop-i.invariant.many;
   knows = knows_more c.args.table.now c.loop-i.scopes.items c.push.new.self.items c.in_ok-scope_of.field-0 c.loop-i.i (length c.args.table.now) c.index-table-i.result
-      c.in-Ok.ensures.items c.loop-i.invariant.many refl (omega arith) c.index-table-i.is c.loop-i.invariant.knows c.in_ok-scope_of.ensures;
+      c.in_ok-push.ensures.items c.loop-i.invariant.many refl (omega arith) c.index-table-i.is c.loop-i.invariant.knows c.in_ok-scope_of.ensures;
 }

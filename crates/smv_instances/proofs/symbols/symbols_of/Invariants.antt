@@ -4,5 +4,5 @@ use Rattle.smv_instances.specs.View.{instance_plain}
 use Rattle.smv_instances.specs.NameMap.{named}
 use Rattle.smv_instances.proofs.symbols.symbols_of.Given as goal
 
-abbrev pub invariant-loop-i : goal.invariant-loop-i
-invariant-loop-i l = (x : List ℕ) → (is_some (named l.symbols x) || has_symbol (map instance_plain (drop l.i l.table)) x) ≡ has_symbol (map instance_plain l.table) x
+abbrev pub invariant-loop-part : goal.invariant-loop-part
+invariant-loop-part l = (x : List ℕ) → (is_some (named l.symbols x) || has_symbol (map instance_plain (drop l.part-index l.table)) x) ≡ has_symbol (map instance_plain l.table) x

@@ -1,6 +1,4 @@
-use Rattle.std.proofs.Common.{◌≡◌, ℕ, List, ◌&&◌, ◌==◌, take, map, position, bytes_eq}
-use Rattle.smv_instances.specs.NameMap.{named_in}
-use Rattle.smv_items.specs.FlatItems.{is_body}
+use Rattle.std.proofs.Common.{take, map}
 use Rattle.smv_items.specs.FlatOrigins.{origin_plain, AreBodies}
 use Rattle.smv_items.proofs.numbers.bodies_of.Given as goal
 

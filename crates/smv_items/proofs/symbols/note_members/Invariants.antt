@@ -1,7 +1,8 @@
-use Rattle.std.proofs.Common.{◌≡◌, drop}
+use Rattle.std.proofs.Common.{◌≡◌}
 use Rattle.std.specs.Prelude.{flat_map}
+use Rattle.std.specs.Slice.Iter.{iter_rest}
 use Rattle.smv_items.specs.FlatItems.{gathered, member_symbols}
 use Rattle.smv_items.proofs.symbols.note_members.Given as goal
 
-abbrev pub invariant-loop-k : goal.invariant-loop-k
-invariant-loop-k l = gathered l.symbols (flat_map member_symbols (drop l.k l.members)) ≡ gathered l.fn.symbols (flat_map member_symbols l.members)
+abbrev pub invariant-loop-member : goal.invariant-loop-member
+invariant-loop-member l = gathered l.symbols (flat_map member_symbols (iter_rest l.member-iterator)) ≡ gathered l.fn.symbols (flat_map member_symbols l.fn.members)

@@ -1,6 +1,7 @@
-use Rattle.std.proofs.Common.{◌≡◌, drop}
+use Rattle.std.proofs.Common.{◌≡◌}
+use Rattle.std.specs.Slice.Iter.{iter_rest}
 use Rattle.smv_items.specs.FlatItems.{gathered}
 use Rattle.smv_items.proofs.symbols.note_names.Given as goal
 
-abbrev pub invariant-loop-k : goal.invariant-loop-k
-invariant-loop-k l = gathered l.symbols (drop l.k l.names) ≡ gathered l.fn.symbols l.names
+abbrev pub invariant-loop-name : goal.invariant-loop-name
+invariant-loop-name l = gathered l.symbols (iter_rest l.name-iterator) ≡ gathered l.fn.symbols l.fn.names

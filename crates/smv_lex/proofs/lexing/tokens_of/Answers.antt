@@ -2,7 +2,7 @@ use Rattle.std.proofs.Common.{◌≡◌, ◌++◌, [], length, take, drop, sym, 
 use Rattle.std.proofs.lemmas.List.{nil_from_length, take-append-drop}
 use Rattle.std.proofs.lemmas.Bool.{eqb-true}
 use Rattle.std.proofs.lemmas.Result.{err_from_is_err_and}
-use Rattle.smv_text.specs.Bytes.{after}
+use Rattle.text_core.specs.Places.{after}
 use Rattle.smv_text.specs.Lexing.{Lexes, LexesTo, Refuses, last, more, later, finished, go, opened}
 use Rattle.smv_lex.specs.Reading.{behind}
 use Rattle.smv_lex.proofs.Laws.{gap_end, after-append, next_from, refused_from, opened_more, reaches_along}

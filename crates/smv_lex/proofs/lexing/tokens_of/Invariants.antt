@@ -1,7 +1,7 @@
 use Rattle.std.proofs.Common.{◌≡◌, ◌≤◌, List, length}
 use Rattle.text_core.specs.declared.place.Refusal.{Refusal}
 use Rattle.smv_text.specs.declared.token.Token.{Token}
-use Rattle.smv_text.specs.Bytes.{Reaches, after, start}
+use Rattle.text_core.specs.Places.{Reaches, after, start}
 use Rattle.smv_text.specs.Lexing.{Lexes, LexesTo, Refuses, IsLexRefusal, opened, most_brackets}
 use Rattle.smv_lex.proofs.lexing.tokens_of.Given as goal
 

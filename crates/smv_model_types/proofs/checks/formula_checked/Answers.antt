@@ -13,5 +13,5 @@ use Rattle.smv_model_types.proofs.checks.formula_checked.Goals as goal
 pub returns-else-is_truth : goal.returns-else-is_truth
 returns-else-is_truth c =
     let a = typing (types_in true (map instance_plain c.args.table.now) c.args.i) (position_seen c.args.position) (plain c.args.e.now) in
-    misfit a.checks (place_of (plain c.args.e.now)) (on_type a.type is_truth_type) c.refusal.result c.in_ok-t.ensures.0
-    (ap (λ t. on_type t is_truth_type) (sym c.in_ok-t.ensures.1) ∙ sym c.is_truth.ensures ∙ c.if-is_truth.false) (c.refusal.ensures ∙ ap (λ p. (check 16 p false).refusal) c.place.ensures)
+    misfit a.checks (place_of (plain c.args.e.now)) (on_type a.type is_truth_type) (check 16 c.place.result false).refusal c.in_ok-t.ensures.0
+    (ap (λ t. on_type t is_truth_type) (sym c.in_ok-t.ensures.1) ∙ sym c.is_truth.ensures ∙ c.if-is_truth.false) (ap (λ p. (check 16 p false).refusal) c.place.ensures)

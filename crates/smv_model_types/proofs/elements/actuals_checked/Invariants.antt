@@ -7,7 +7,7 @@ use Rattle.smv_meaning.specs.Settled.{types_in}
 use Rattle.smv_instances.specs.View.{instance_plain}
 use Rattle.smv_model_types.proofs.elements.actuals_checked.Given as goal
 
-abbrev pub invariant-loop-k : goal.invariant-loop-k
-invariant-loop-k l =
-    first_failing (actuals_typing (types_in true (map instance_plain l.table) l.i) (trees_of (map plain (drop l.k l.actuals))))
+abbrev pub invariant-loop-actual : goal.invariant-loop-actual
+invariant-loop-actual l =
+    first_failing (actuals_typing (types_in true (map instance_plain l.table) l.i) (trees_of (map plain (drop l.actual-index l.actuals))))
     ≡ first_failing (actuals_typing (types_in true (map instance_plain l.table) l.i) (trees_of (map plain l.actuals)))

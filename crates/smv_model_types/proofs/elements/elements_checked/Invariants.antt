@@ -1,5 +1,6 @@
-use Rattle.std.proofs.Common.{◌≡◌, drop, map}
+use Rattle.std.proofs.Common.{◌≡◌, map}
 use Rattle.std.specs.Prelude.{flat_map}
+use Rattle.std.specs.Slice.Iter.{iter_rest}
 use Rattle.smv_text.specs.View.{plain_element}
 use Rattle.smv_meaning.specs.Checks.{first_failing}
 use Rattle.std.specs.Prelude.{true}
@@ -8,5 +9,5 @@ use Rattle.smv_meaning.specs.Settled.{types_in}
 use Rattle.smv_instances.specs.View.{instance_plain}
 use Rattle.smv_model_types.proofs.elements.elements_checked.Given as goal
 
-abbrev pub invariant-loop-k : goal.invariant-loop-k
-invariant-loop-k l = first_failing (flat_map (element_typing (types_in true (map instance_plain l.table) l.i)) (map plain_element (drop l.k l.elements))) ≡ first_failing (flat_map (element_typing (types_in true (map instance_plain l.table) l.i)) (map plain_element l.elements))
+abbrev pub invariant-loop-element : goal.invariant-loop-element
+invariant-loop-element l = first_failing (flat_map (element_typing (types_in true (map instance_plain l.table) l.i)) (map plain_element (iter_rest l.element-iterator))) ≡ first_failing (flat_map (element_typing (types_in true (map instance_plain l.table) l.i)) (map plain_element l.elements))

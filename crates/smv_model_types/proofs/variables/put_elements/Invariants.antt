@@ -3,5 +3,5 @@ use Rattle.smv_instances.specs.View.{instance_plain}
 use Rattle.smv_model_types.specs.Row.{row_seen, Right}
 use Rattle.smv_model_types.proofs.variables.put_elements.Given as goal
 
-abbrev pub invariant-loop-k : goal.invariant-loop-k
-invariant-loop-k l = Right (map instance_plain l.table) (row_seen l.row)
+abbrev pub invariant-loop-element : goal.invariant-loop-element
+invariant-loop-element l = Right (map instance_plain l.table) (row_seen l.row)

@@ -4,7 +4,7 @@ use Rattle.smv_model_types.specs.Row.{row_seen}
 use Rattle.smv_model_types.proofs.Filling.{variable_more}
 use Rattle.smv_model_types.proofs.variables.put_items.Goals as goal
 
-pub loop-k-preserved : goal.loop-k-preserved
-loop-k-preserved c =
-    variable_more (map instance_plain c.args.table.now) (row_seen c.loop-k.row) (row_seen c.put_variable.new.row) c.args.i c.bytes.result.now c.requires.acyclic c.names_settle.ensures c.in_ok-put_variable.ensures
-    c.loop-k.invariant
+pub loop-item-preserved : goal.loop-item-preserved
+loop-item-preserved c =
+    variable_more (map instance_plain c.args.table.now) (row_seen c.loop-item.row) (row_seen c.put_variable.new.row) c.args.i c.bytes.result.now c.requires.acyclic c.names_settle.ensures c.in_ok-put_variable.ensures
+    c.loop-item.invariant

@@ -3,5 +3,5 @@ use Rattle.smv_instances.specs.View.{instance_plain}
 use Rattle.smv_model_types.specs.Row.{row_seen, Right}
 use Rattle.smv_model_types.proofs.variables.put_items.Given as goal
 
-abbrev pub invariant-loop-k : goal.invariant-loop-k
-invariant-loop-k l = Right (map instance_plain l.table) (row_seen l.row)
+abbrev pub invariant-loop-item : goal.invariant-loop-item
+invariant-loop-item l = Right (map instance_plain l.table) (row_seen l.row)

@@ -28,7 +28,7 @@ returns-then-clashes c =
     c.loop-k.invariant.1 a ∙ target_is m a.target a.when can ∙ ap (λ p. kinds_clash (kinds_or_none (named m p)) a.when) (sym path)
     ∙ ap (λ o. kinds_clash (kinds_or_none o) a.when) (sym c.value_under-before.ensures) ∙ sym c.clashes.ensures ∙ c.if-clashes.true in
     ap (λ l. first_failing (assigned_checks [] l)) (sym c.in_ok-list.ensures) ∙ sym c.loop-k.invariant.2
-    ∙ ap (λ l. first_failing (assigned_checks seen (map g l))) front ∙ twice seen a (map g (drop (k + 1) list)) can clash ∙ ap Some (sym c.refusal-then-clashes.ensures)
+    ∙ ap (λ l. first_failing (assigned_checks seen (map g l))) front ∙ twice seen a (map g (drop (k + 1) list)) can clash
 
 pub loop-k-preserved : goal.loop-k-preserved
 loop-k-preserved c =

@@ -1,4 +1,4 @@
-use Rattle.std.proofs.Common.{map, subst, sym, ap, ◌∙◌, Some}
+use Rattle.std.proofs.Common.{map, subst, ◌∙◌}
 use Rattle.smv_references.specs.declared.references.Ordering.{Ordering}
 use Rattle.smv_references.specs.FormulaOrders.{IsOrdering}
 use Rattle.smv_meaning.specs.Formulas.{placed_formulas}
@@ -14,4 +14,4 @@ returns-in-Ordered-clause-checks c =
 pub returns-in-Cycle-clause-checks : goal.returns-in-Cycle-clause-checks
 returns-in-Cycle-clause-checks c =
     let h = subst (λ (o : Ordering). IsOrdering (map instance_plain c.args.table.now) o) c.in-Cycle.is c.in_ok-order.ensures in
-    h.failing ∙ refusal_read c.args.formulas.now (placed_formulas (map instance_plain c.args.table.now)) c.in-Cycle.k _ c.requires h.there ∙ ap Some (sym c.refusal.ensures)
+    h.failing ∙ refusal_read c.args.formulas.now (placed_formulas (map instance_plain c.args.table.now)) c.in-Cycle.k _ c.requires h.there

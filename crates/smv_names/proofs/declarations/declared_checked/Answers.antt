@@ -6,7 +6,7 @@ use Rattle.smv_meaning.specs.Checks.{first_failing}
 use Rattle.smv_meaning.specs.Phases.{counted, declared_checks, counted_all}
 use Rattle.smv_names.specs.View.{declared_plain, names_above}
 use Rattle.smv_names.proofs.Lists.{front_is}
-use Rattle.smv_names.proofs.Composing.{declared_next, seen_more, counted_is}
+use Rattle.smv_names.specs.laws.Composing.{declared_next, seen_more, counted_is}
 use Rattle.smv_names.proofs.declarations.declared_checked.Goals as goal
 use Rattle.smv_names.proofs.declarations.declared_checked.Goals.{then-is_instance, else-is_instance}
 

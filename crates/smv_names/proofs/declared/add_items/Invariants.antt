@@ -1,7 +1,8 @@
-use Rattle.std.proofs.Common.{◌≡◌, ◌++◌, drop, map}
+use Rattle.std.proofs.Common.{◌≡◌, ◌++◌, map}
+use Rattle.std.specs.Slice.Iter.{iter_rest}
 use Rattle.smv_text.specs.View.{plain_item}
 use Rattle.smv_names.specs.View.{declared_plain, item_declared}
 use Rattle.smv_names.proofs.declared.add_items.Given as goal
 
-abbrev pub invariant-loop-k : goal.invariant-loop-k
-invariant-loop-k l = map declared_plain l.list.items ++ map item_declared (map plain_item (drop l.k l.items)) ≡ map declared_plain l.fn.list.items ++ map item_declared (map plain_item l.items)
+abbrev pub invariant-loop-item : goal.invariant-loop-item
+invariant-loop-item l = map declared_plain l.list.items ++ map item_declared (map plain_item (iter_rest l.item-iterator)) ≡ map declared_plain l.fn.list.items ++ map item_declared (map plain_item l.items)

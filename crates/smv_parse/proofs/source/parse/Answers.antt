@@ -1,7 +1,7 @@
-use Rattle.std.proofs.Common.{◌≡◌, ◌<◌, Some, None, map, length, sym, ap, ◌∙◌, arith}
+use Rattle.std.proofs.Common.{◌≡◌, ◌<◌, Some, None, map, length, refl, sym, ap, ◌∙◌, arith}
 use Rattle.smv_text.specs.View.{plain_module}
 use Rattle.std.proofs.Common.{◌-◌, drop}
-use Rattle.smv_parse.specs.Parsing.{dead_refusal, too_high, dead, no_memory}
+use Rattle.smv_parse.specs.Parsing.{refusal, dead_refusal, too_high, dead, no_memory}
 use Rattle.smv_readers.proofs.Models.{reading, found_spelled, model_spelled, model_within, rest_dies, left_dies, rest_is, all_read, exact_none, exact_high}
 use Rattle.smv_parse.proofs.Ending.{is_too_high, has_dead, lost}
 use Rattle.smv_parse.proofs.source.parse.Goals as goal
@@ -29,11 +29,11 @@ returns-in-None-clause-exact c s d =
 
 pub returns-in-Some-clause-exact : goal.returns-in-Some-clause-exact
 returns-in-Some-clause-exact c s d =
-    (c.in-Some.place, exact_high c.args.tokens.now.items (map plain_module c.in-Ok.modules) c.in-Some.place s (all_read c.args.tokens.now.items (map plain_module c.in-Ok.modules) c.in-Ok.high c.in-Ok.rest.now (ap reading (sym c.as_slice-all.ensures) ∙ c.in-Ok.ensures.reads) (let n : length c.in-Ok.rest.now ≡ 0 = grind (arith, c.is_empty.ensures) in n) (Some c.in-Some.place) c.in-Some.is) d.0, c.refusal.ensures)
+    (c.in-Some.place, exact_high c.args.tokens.now.items (map plain_module c.in-Ok.modules) c.in-Some.place s (all_read c.args.tokens.now.items (map plain_module c.in-Ok.modules) c.in-Ok.high c.in-Ok.rest.now (ap reading (sym c.as_slice-all.ensures) ∙ c.in-Ok.ensures.reads) (let n : length c.in-Ok.rest.now ≡ 0 = grind (arith, c.is_empty.ensures) in n) (Some c.in-Some.place) c.in-Some.is) d.0, refl)
 
 pub returns-in-Some-clause-refused : goal.returns-in-Some-clause-refused
 returns-in-Some-clause-refused c =
-    too_high (is_too_high c.args.tokens.now (map plain_module c.in-Ok.modules) c.in-Some.place c.refusal.result (all_read c.args.tokens.now.items (map plain_module c.in-Ok.modules) c.in-Ok.high c.in-Ok.rest.now (ap reading (sym c.as_slice-all.ensures) ∙ c.in-Ok.ensures.reads) (let n : length c.in-Ok.rest.now ≡ 0 = grind (arith, c.is_empty.ensures) in n) (Some c.in-Some.place) c.in-Some.is) c.refusal.ensures)
+    too_high (is_too_high c.args.tokens.now (map plain_module c.in-Ok.modules) c.in-Some.place (refusal 7 c.in-Some.place) (all_read c.args.tokens.now.items (map plain_module c.in-Ok.modules) c.in-Ok.high c.in-Ok.rest.now (ap reading (sym c.as_slice-all.ensures) ∙ c.in-Ok.ensures.reads) (let n : length c.in-Ok.rest.now ≡ 0 = grind (arith, c.is_empty.ensures) in n) (Some c.in-Some.place) c.in-Some.is) refl)
 
 pub returns-in-Err-Dead-clause-exact : goal.returns-in-Err-Dead-clause-exact
 returns-in-Err-Dead-clause-exact c s d =

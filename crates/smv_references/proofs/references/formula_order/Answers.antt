@@ -1,6 +1,5 @@
-use Rattle.std.proofs.Common.{◌≡◌, true, map, sym, subst, ap, ◌∙◌}
+use Rattle.std.proofs.Common.{map, subst, ap, ◌∙◌}
 use Rattle.digraph.specs.Graph.{NodeLists, is_graph}
-use Rattle.digraph.specs.declared.order.Order.{Order}
 use Rattle.digraph.specs.Ordering.{IsOrder}
 use Rattle.smv_instances.specs.View.{instance_plain}
 use Rattle.smv_model_laws.proofs.OrderLaws.{graph_within}

@@ -1,9 +1,9 @@
-use Rattle.std.proofs.Common.{◌≡◌, ℕ, List, map, take, length, sym, ap, ◌∙◌, arith}
+use Rattle.std.proofs.Common.{map, ap, ◌∙◌}
 use Rattle.std.proofs.lemmas.List.{take_all}
 use Rattle.smv_meaning.specs.Formulas.{number_in, references_of}
 use Rattle.smv_instances.specs.View.{instance_plain}
 use Rattle.smv_references.specs.View.{key_of}
-use Rattle.smv_references.proofs.NumberLemmas.{keys_are}
+use Rattle.smv_references.specs.laws.NumberLemmas.{keys_are}
 use Rattle.smv_references.proofs.references.graph_of.Goals as goal
 
 pub row_of-requires : goal.row_of-requires

@@ -1,4 +1,4 @@
-use Rattle.std.proofs.Common.{◌≡◌, ◌++◌, take, map}
+use Rattle.std.proofs.Common.{◌≡◌, take, map}
 use Rattle.smv_meaning.specs.Formulas.{references_of}
 use Rattle.smv_instances.specs.View.{instance_plain}
 use Rattle.smv_references.specs.View.{key_of}

@@ -1,8 +1,7 @@
-use Rattle.std.proofs.Common.{length, refl, arith, []}
+use Rattle.std.proofs.Common.{length, refl}
 use Rattle.std.proofs.lemmas.List.{get_or_default}
-use Rattle.smv_references.specs.declared.formulas.Formula.{Formula}
 use Rattle.smv_instances.specs.NameMap.{named_in}
-use Rattle.smv_references.proofs.NumberLemmas.{with_formula, read}
+use Rattle.smv_references.specs.laws.NumberLemmas.{with_formula, read}
 use Rattle.smv_references.proofs.references.numbers_of.Goals as goal
 
 pub loop-k-preserved : goal.loop-k-preserved

@@ -1,4 +1,4 @@
-use Rattle.std.proofs.Common.{◌≡◌, [], map, sym, ap, ◌∙◌}
+use Rattle.std.proofs.Common.{map, sym, ap, ◌∙◌}
 use Rattle.smv_instances.specs.View.{instance_plain, local_plain}
 use Rattle.smv_references.specs.View.{key_of}
 use Rattle.smv_text.specs.View.{plain}

@@ -1,7 +1,7 @@
 use Rattle.std.proofs.Common.{[]}
 use Rattle.smv_text.specs.View.{plain}
 use Rattle.smv_meaning.specs.Expressions.{paths_of}
-use Rattle.smv_types.proofs.Known.{always_known}
+use Rattle.smv_types.specs.laws.Known.{always_known}
 use Rattle.smv_type_cases.proofs.calls.type_among.Goals as goal
 
 pub type_of-requires : goal.type_of-requires

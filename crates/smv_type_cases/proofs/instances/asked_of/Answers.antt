@@ -1,9 +1,9 @@
-use Rattle.std.proofs.Common.{◌≡◌, ◌-◌, map, sym, ap, subst, arith}
+use Rattle.std.proofs.Common.{◌-◌, map, sym, ap, subst, arith}
 use Rattle.std.specs.Prelude.{flat_map}
-use Rattle.smv_text.specs.Tree.{Tree, links_of}
+use Rattle.smv_text.specs.Tree.{links_of}
 use Rattle.smv_text.specs.View.{plain, plain_link, plain_element}
 use Rattle.smv_meaning.specs.Parts.{InOne, expressions_in}
-use Rattle.smv_types.proofs.Shapes.{plain_chain}
+use Rattle.smv_types.specs.laws.Shapes.{plain_chain}
 use Rattle.smv_type_cases.proofs.Last.{operand_stands}
 use Rattle.smv_type_cases.proofs.instances.asked_of.Goals as goal
 

@@ -1,5 +1,5 @@
 use Rattle.std.proofs.Common.{Some, None}
-use Rattle.smv_instances.proofs.NameLemmas.{number_found}
+use Rattle.smv_instances.specs.laws.NameLemmas.{number_found}
 use Rattle.smv_type_cases.proofs.instances.number_of.Goals as goal
 
 pub returns-in-None : goal.returns-in-None

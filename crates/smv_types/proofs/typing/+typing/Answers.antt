@@ -1,5 +1,7 @@
-use Rattle.std.proofs.Common.{◌≡◌, ◌+◌, true, false, [], ◌∷◌, map, drop, option_map, sym, ◌∙◌, ap, subst}
-use Rattle.smv_text.specs.Tree.{links_of, branches_of, trees_of}
+use Rattle.std.proofs.Common.{◌+◌, List, [], ◌∷◌, map, drop, option_map, sym, ◌∙◌, ap, subst}
+use Rattle.smv_text.specs.declared.tree.Expr.{Expr}
+use Rattle.smv_text.specs.declared.tree.Link.{Link}
+use Rattle.smv_text.specs.Tree.{chain, choice, links_of, branches_of, trees_of}
 use Rattle.smv_text.specs.View.{plain, plain_link, plain_branch}
 use Rattle.smv_meaning.specs.Types.{numbers_of}
 use Rattle.smv_meaning.specs.Checks.{typing, single, linked, tree_checks, tree_types, link_checks, link_types, branch_checks, condition_types, value_types, all_types, under_next, first_failing}
@@ -7,10 +9,9 @@ use Rattle.smv_intervals.specs.View.{seen}
 use Rattle.smv_types.specs.View.{standing_seen}
 use Rattle.smv_types.specs.Outcome.{outcome, Ends}
 use Rattle.smv_types.specs.Steps.{passed, prefix_step, select_step, next_step, call_step, set_step, implies_step, branches_step, front_step}
-use Rattle.smv_types.proofs.Composing.{over, passed_operand}
-use Rattle.smv_types.proofs.Stepping.{taken, rest_refuses, rest_stops, trees_end, trees_go, trees_more, trees_still, links_end, links_go, links_more, links_still, conditions_end, values_end, branches_go, conditions_more, values_more, branches_still, fronts_end, fronts_stop, fronts_go}
-use Rattle.smv_types.proofs.Shapes.{plain_chain, plain_choice, right_stops, right_goes, left_stops, left_goes, choice_stops, last_stops, choice_goes}
-use Rattle.smv_meaning.specs.Expressions.{is_from_right}
+use Rattle.smv_types.specs.laws.Composing.{over, passed_operand}
+use Rattle.smv_types.specs.laws.Stepping.{taken, rest_refuses, rest_stops, trees_end, trees_go, trees_more, trees_still, links_end, links_go, links_more, links_still, conditions_end, values_end, branches_go, conditions_more, values_more, branches_still, fronts_end, fronts_stop, fronts_go}
+use Rattle.smv_types.specs.laws.Shapes.{plain_chain, plain_choice, right_goes, left_goes, chain_stops, choice_stops, last_stops, choice_goes}
 use Rattle.smv_types.proofs.typing.+typing.Goals as goal
 
 -- ---- one operand
@@ -277,55 +278,50 @@ branch_types-loop-branch-preserved g t c =
 
 -- ---- shapes of an expression
 
+pub chain_typed-returns-then-is_from_right : goal.chain_typed-returns-then-is_from_right
+chain_typed-returns-then-is_from_right g t c f h =
+    right_goes (g.C.Scope.names c.args.scope.now) (standing_seen c.args.at) c.args.place f (links_of (map plain_link c.args.links.now)) c.implications_typed.result
+    (option_map seen c.args.first) (sym c.is_from_right.ensures ∙ c.if-is_from_right.true) h (rw c.single.ensures at c.implications_typed.ensures)
+
+pub chain_typed-returns-else-is_from_right : goal.chain_typed-returns-else-is_from_right
+chain_typed-returns-else-is_from_right g t c f h =
+    left_goes (g.C.Scope.names c.args.scope.now) (standing_seen c.args.at) c.args.place f (links_of (map plain_link c.args.links.now)) c.fronts_typed.result
+    (option_map seen c.args.first) (sym c.is_from_right.ensures ∙ c.if-is_from_right.false) h (rw c.across.ensures at c.fronts_typed.ensures)
+
+pub choice_typed-returns-in_err-t : goal.choice_typed-returns-in_err-t
+choice_typed-returns-in_err-t g t c bs h j k =
+    last_stops (g.C.Scope.names c.args.scope.now) (standing_seen c.args.at) c.args.place bs (plain c.args.last.now) c.from_residual.result c.in_err-t.field-0.0
+    c.from_residual.ensures.1 h c.in_err-t.ensures
+
+pub choice_typed-returns : goal.choice_typed-returns
+choice_typed-returns g t c bs h j k =
+    let conditions = c.args.types.conditions.items in
+    let whole : Ends c.branched.result (branches_step c.args.place (all_types (map (option_map seen) conditions)) (all_types (map (option_map seen) c.push.new.self.items)))
+    = c.branched.ensures in
+    choice_goes (g.C.Scope.names c.args.scope.now) (standing_seen c.args.at) c.args.place bs (plain c.args.last.now) c.branched.result
+    conditions c.args.types.values.items c.in_ok-t.t h j k c.in_ok-t.ensures (rw c.in_ok-push.ensures.items at whole)
+
 pub typed-returns-in_err-t-in-Chain : goal.typed-returns-in_err-t-in-Chain
 typed-returns-in_err-t-in-Chain g t c =
     let names = g.C.Scope.names c.args.scope.now in
     let at = standing_seen c.args.at in
     let e = plain_chain c.args.expr.now c.in-Chain.first c.in-Chain.links c.in-Chain.is in
     let ls = links_of (map plain_link c.in-Chain.links.items) in
-    let right : is_from_right ls ≡ true = rw c.as_slice-links.ensures.value at (sym c.is_from_right.ensures ∙ c.if-is_from_right.true) in
     subst (λ tr. Ends c.from_residual.result (typing names at tr)) (sym e) (
-    right_stops names at c.args.expr.now.place (plain c.in-Chain.first.value) ls c.from_residual.result c.in_err-t-in-Chain.field-0.0 right
-    c.from_residual.ensures.1 (rw (c.single.ensures, c.deref-then-is_from_right.ensures) at c.in_err-t-in-Chain.ensures)
-    )
-
-pub typed-returns-in_err-t-in-Chain-2 : goal.typed-returns-in_err-t-in-Chain-2
-typed-returns-in_err-t-in-Chain-2 g t c =
-    let names = g.C.Scope.names c.args.scope.now in
-    let at = standing_seen c.args.at in
-    let e = plain_chain c.args.expr.now c.in-Chain.first c.in-Chain.links c.in-Chain.is in
-    let ls = links_of (map plain_link c.in-Chain.links.items) in
-    let left : is_from_right ls ≡ false = rw c.as_slice-links.ensures.value at (sym c.is_from_right.ensures ∙ c.if-is_from_right.false) in
-    subst (λ tr. Ends c.from_residual-in_err-t-in-Chain-2.result (typing names at tr)) (sym e) (
-    left_stops names at c.args.expr.now.place (plain c.in-Chain.first.value) ls c.from_residual-in_err-t-in-Chain-2.result
-    c.in_err-t-in-Chain-2.field-0.0 left c.from_residual-in_err-t-in-Chain-2.ensures.1
-    (rw (c.across-at.ensures, c.deref-else-is_from_right.ensures, c.as_slice-links.ensures.value) at c.in_err-t-in-Chain-2.ensures)
+    chain_stops names at c.args.expr.now.place (plain c.in-Chain.first.value) ls c.from_residual.result c.in_err-t-in-Chain.field-0.0
+    c.from_residual.ensures.1 (rw (c.across.ensures, c.deref-in-Chain.ensures, c.as_slice-links.ensures.value) at c.in_err-t-in-Chain.ensures)
     )
 
 pub typed-returns-in_ok-t-in-Chain : goal.typed-returns-in_ok-t-in-Chain
 typed-returns-in_ok-t-in-Chain g t c =
     let names = g.C.Scope.names c.args.scope.now in
     let at = standing_seen c.args.at in
+    let first = plain c.in-Chain.first.value in
     let e = plain_chain c.args.expr.now c.in-Chain.first c.in-Chain.links c.in-Chain.is in
-    let ls = links_of (map plain_link c.in-Chain.links.items) in
-    let right : is_from_right ls ≡ true = rw c.as_slice-links.ensures.value at (sym c.is_from_right.ensures ∙ c.if-is_from_right.true) in
-    subst (λ tr. Ends c.implications_typed.result (typing names at tr)) (sym e) (
-    right_goes names at c.args.expr.now.place (plain c.in-Chain.first.value) ls c.implications_typed.result
-    (option_map seen c.in_ok-t-in-Chain.t) right (rw (c.single.ensures, c.deref-then-is_from_right.ensures) at c.in_ok-t-in-Chain.ensures)
-    (rw (c.single-then-is_from_right.ensures, c.as_slice-links.ensures.value) at c.implications_typed.ensures)
-    )
-
-pub typed-returns-in_ok-t-in-Chain-2 : goal.typed-returns-in_ok-t-in-Chain-2
-typed-returns-in_ok-t-in-Chain-2 g t c =
-    let names = g.C.Scope.names c.args.scope.now in
-    let at = standing_seen c.args.at in
-    let e = plain_chain c.args.expr.now c.in-Chain.first c.in-Chain.links c.in-Chain.is in
-    let ls = links_of (map plain_link c.in-Chain.links.items) in
-    let left : is_from_right ls ≡ false = rw c.as_slice-links.ensures.value at (sym c.is_from_right.ensures ∙ c.if-is_from_right.false) in
-    subst (λ tr. Ends c.fronts_typed.result (typing names at tr)) (sym e) (
-    left_goes names at c.args.expr.now.place (plain c.in-Chain.first.value) ls c.fronts_typed.result (option_map seen c.in_ok-t-in-Chain-2.t) left
-    (rw (c.across-at.ensures, c.deref-else-is_from_right.ensures, c.as_slice-links.ensures.value) at c.in_ok-t-in-Chain-2.ensures)
-    (rw (c.across-at.ensures, c.as_slice-links.ensures.value) at c.fronts_typed.ensures)
+    let told = rw (c.across.ensures, c.deref-in-Chain.ensures) at c.in_ok-t-in-Chain.ensures in
+    subst (λ tr. Ends c.chain_typed.result (typing names at tr)) (sym e) (
+    subst (λ (xs : List Link). Ends c.chain_typed.result (typing names at (chain c.args.expr.now.place first (links_of (map plain_link xs))))) c.as_slice-links.ensures.value
+    (c.chain_typed.ensures first told)
     )
 
 pub typed-returns-in_err-types-in-Choice : goal.typed-returns-in_err-types-in-Choice
@@ -338,31 +334,17 @@ typed-returns-in_err-types-in-Choice g t c =
     c.in_err-types-in-Choice.field-0.0 c.from_residual-in_err-types-in-Choice.ensures.1 (rw c.deref-in-Choice.ensures.value at c.in_err-types-in-Choice.ensures.refused)
     )
 
-pub typed-returns-in_err-t-in-Choice : goal.typed-returns-in_err-t-in-Choice
-typed-returns-in_err-t-in-Choice g t c =
+pub typed-returns-in_ok-types-in-Choice : goal.typed-returns-in_ok-types-in-Choice
+typed-returns-in_ok-types-in-Choice g t c =
     let names = g.C.Scope.names c.args.scope.now in
     let at = standing_seen c.args.at in
+    let bs = branches_of (map plain_branch c.in-Choice.branches.items) in
     let e = plain_choice c.args.expr.now c.in-Choice.branches c.in-Choice.last c.in-Choice.is in
-    subst (λ tr. Ends c.from_residual-in_err-t-in-Choice.result (typing names at tr)) (sym e) (
-    last_stops names at c.args.expr.now.place (branches_of (map plain_branch c.in-Choice.branches.items)) (plain c.in-Choice.last.value) c.from_residual-in_err-t-in-Choice.result
-    c.in_err-t-in-Choice.field-0.0 c.from_residual-in_err-t-in-Choice.ensures.1 (rw c.deref-in-Choice.ensures.value at c.in_ok-types-in-Choice.ensures.passes)
-    (rw c.deref-in-Choice-2.ensures at c.in_err-t-in-Choice.ensures)
-    )
-
-pub typed-returns-in_ok-push-in-Choice : goal.typed-returns-in_ok-push-in-Choice
-typed-returns-in_ok-push-in-Choice g t c =
-    let names = g.C.Scope.names c.args.scope.now in
-    let at = standing_seen c.args.at in
-    let e = plain_choice c.args.expr.now c.in-Choice.branches c.in-Choice.last c.in-Choice.is in
-    let conditions = c.in_ok-types-in-Choice.types.conditions.items in
-    let whole : Ends c.branched.result (branches_step c.args.expr.now.place (all_types (map (option_map seen) conditions)) (all_types (map (option_map seen) c.push.new.self.items)))
-    = c.branched.ensures in
-    subst (λ tr. Ends c.branched.result (typing names at tr)) (sym e) (
-    choice_goes names at c.args.expr.now.place (branches_of (map plain_branch c.in-Choice.branches.items)) (plain c.in-Choice.last.value) c.branched.result
-    conditions c.in_ok-types-in-Choice.types.values.items c.in_ok-t-in-Choice.t
+    subst (λ tr. Ends c.choice_typed.result (typing names at tr)) (sym e) (
+    subst (λ (x : Expr). Ends c.choice_typed.result (typing names at (choice c.args.expr.now.place bs (plain x)))) c.deref-in-Choice-2.ensures (
+    c.choice_typed.ensures bs
     (rw c.deref-in-Choice.ensures.value at c.in_ok-types-in-Choice.ensures.passes)
     (rw c.deref-in-Choice.ensures.value at c.in_ok-types-in-Choice.ensures.conditions)
     (rw c.deref-in-Choice.ensures.value at c.in_ok-types-in-Choice.ensures.values)
-    (rw c.deref-in-Choice-2.ensures at c.in_ok-t-in-Choice.ensures)
-    (rw c.in_ok-push-in-Choice.ensures.items at whole)
+    )
     )

@@ -1,5 +1,5 @@
 use Rattle.smv_text.specs.View.{plain}
-use Rattle.smv_types.proofs.Known.{all_known}
+use Rattle.smv_types.specs.laws.Known.{all_known}
 use Rattle.smv_types.proofs.typing.type_of.Goals as goal
 
 pub typed-requires : goal.typed-requires

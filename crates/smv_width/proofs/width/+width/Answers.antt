@@ -3,7 +3,7 @@ use Rattle.smv_intervals.specs.View.{seen}
 use Rattle.smv_flat.specs.FlatTree.{flat_links_of}
 use Rattle.smv_flat.specs.FlatView.{plain_flat_link}
 use Rattle.smv_width.specs.FlatWidth.{links_width}
-use Rattle.smv_flat.proofs.FlatSteps.{drop_item}
+use Rattle.smv_flat.specs.laws.FlatSteps.{drop_item}
 use Rattle.smv_width.proofs.WidthLemmas.{links_on, chain_at}
 use Rattle.smv_width.proofs.width.+width.Goals as goal
 

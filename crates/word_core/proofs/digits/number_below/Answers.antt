@@ -1,4 +1,4 @@
-use Rattle.std.proofs.Common.{◌≡◌, ◌∙◌, sym, ap, arith}
+use Rattle.std.proofs.Common.{◌∙◌, sym, ap, arith}
 use Rattle.std.specs.Prelude.{option_and_then}
 use Rattle.word_core.specs.Digits.{below}
 use Rattle.word_core.proofs.DigitLaws.{passes_at}

@@ -1,7 +1,7 @@
 use Rattle.std.proofs.Common.{◌≡◌, ◌+◌, ◌-◌, ◌^◌, sym, subst, arith, ap, ◌∙◌}
 use Rattle.word_core.specs.Words.{BitVector, IsWord}
 use Rattle.word_core.specs.Table.{uext_of}
-use Rattle.word_core.proofs.Rows.{uext_is_word, sext_is_word, power_grows}
+use Rattle.word_core.specs.laws.Rows.{uext_is_word, sext_is_word, power_grows}
 use Rattle.word_core.proofs.operators.sext.Goals as goal
 
 pub overflow_sub-power : goal.overflow_sub-power

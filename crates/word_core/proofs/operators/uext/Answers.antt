@@ -1,7 +1,7 @@
 use Rattle.std.proofs.Common.{◌≡◌, ◌+◌, sym, subst}
 use Rattle.word_core.specs.Words.{BitVector, IsWord}
 use Rattle.word_core.specs.Table.{uext_of}
-use Rattle.word_core.proofs.Rows.{uext_is_word}
+use Rattle.word_core.specs.laws.Rows.{uext_is_word}
 use Rattle.word_core.proofs.operators.uext.Goals as goal
 
 pub made_word-requires : goal.made_word-requires

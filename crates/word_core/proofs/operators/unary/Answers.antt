@@ -1,7 +1,7 @@
 use Rattle.std.proofs.Common.{◌≡◌, sym, subst}
 use Rattle.word_core.specs.Words.{BitVector, IsWord}
 use Rattle.word_core.specs.Table.{unary_of}
-use Rattle.word_core.proofs.Rows.{unary_is_word}
+use Rattle.word_core.specs.laws.Rows.{unary_is_word}
 use Rattle.word_core.proofs.operators.unary.Goals as goal
 
 pub made_word-requires : goal.made_word-requires

@@ -1,9 +1,10 @@
 use Rattle.std.proofs.Common.{◌≡◌, true, false, Some, None, sym, ap, ◌∙◌, subst, refl, inr}
-use Rattle.btor_witness.specs.Bytes.{parts, line_parts}
+use Rattle.btor_tree.specs.Parts.{parts}
+use Rattle.btor_witness.specs.Bytes.{line_parts}
 use Rattle.btor_witness.specs.Shapes.{is_passed, shape_of}
 use Rattle.btor_witness.specs.Reading.{Next}
 use Rattle.btor_witness.specs.Answer.{Steps}
-use Rattle.btor_witness.proofs.Laws.{at_passed, at_shape, taken}
+use Rattle.btor_witness.specs.laws.Laws.{at_passed, at_shape, taken}
 use Rattle.btor_witness.proofs.reader.Reader.take_line.Goals as goal
 
 pub returns-then-is_passed-clause-next : goal.returns-then-is_passed-clause-next

@@ -1,7 +1,7 @@
-use Rattle.std.proofs.Common.{◌≡◌, ◌<◌, ◌≤◌, ◌∷◌, length, true, take, ℕ, List, sym, subst, ap, ◌∙◌, arith}
+use Rattle.std.proofs.Common.{◌≡◌, ◌<◌, length, true, take, ℕ, List, sym, subst, ap, arith}
 use Rattle.std.specs.List.{list_all}
 use Rattle.digraph.specs.Graph.{next_of}
-use Rattle.digraph.specs.Searching.{State, IsSearch, is_done, fronts_done}
+use Rattle.digraph.specs.Searching.{State, IsSearch, is_done}
 use Rattle.digraph.specs.declared.mark.Mark.{Mark}
 use Rattle.digraph.proofs.Laws.{read_is, row_is, end_within}
 use Rattle.digraph.proofs.search.Search.take_end.Goals as goal

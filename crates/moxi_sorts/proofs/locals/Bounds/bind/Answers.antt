@@ -1,6 +1,6 @@
 use Rattle.std.proofs.Common.{◌≡◌, ◌++◌, ◌∷◌, [], Some, length, sym, ap, ◌∙◌, subst}
 use Rattle.std.specs.Prelude.{slice_set}
-use Rattle.moxi_terms.specs.Names.{place_of}
+use Rattle.name_set.specs.Names.{place_of}
 use Rattle.moxi_sorts.specs.Finding.{IsStacked, locals_in}
 use Rattle.moxi_sorts.specs.declared.locals.Binding.{Binding}
 use Rattle.moxi_sorts.proofs.StackLaws.{stacked_bind, bound_locals, before_read, locals_long}

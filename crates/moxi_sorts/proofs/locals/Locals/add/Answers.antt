@@ -1,5 +1,5 @@
 use Rattle.std.proofs.Common.{◌≡◌, ◌++◌, ◌∷◌, ◌<◌, ◌-◌, ◌^◌, [], cond, length, take, is_none, sym, ap, ◌∙◌, subst}
-use Rattle.moxi_terms.specs.Names.{place_of}
+use Rattle.name_set.specs.Names.{place_of}
 use Rattle.moxi_sorts.specs.Finding.{IsIndexed}
 use Rattle.moxi_sorts.specs.declared.locals.Local.{Local}
 use Rattle.moxi_sorts.proofs.FindingLaws.{indexed_front, indexed_more, kept_names}

@@ -1,0 +1,4 @@
+-- Laws that crates above cite.
+pub mod Shapes
+pub mod Laws
+pub mod Verdicts

@@ -1,0 +1,4 @@
+-- Laws that crates above cite.
+pub mod WholeNames
+pub mod WholeParts
+pub mod WholeScopes

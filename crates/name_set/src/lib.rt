@@ -1,0 +1,6 @@
+//! Names in the order in which they are declared, each once.
+#![tactic(auto)]
+
+mod set;
+
+pub use set::NameSet;

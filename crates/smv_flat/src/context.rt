@@ -1,0 +1,35 @@
+// What the expressions of a model are read in.
+ghost use Rattle.std.specs.Prelude.{◌≡◌, ℕ, List, Option, map, IfOk};
+ghost use Rattle.std.specs.Coded.{Coded, Coded-set, codes, Π_prop};
+ghost use Rattle.smv_text.specs.declared.tree.VarKind.TheVariants as OfVarKind;
+ghost use Rattle.smv_instances.specs.View.{instance_plain};
+ghost use Rattle.smv_items.specs.FlatItems.{origins_of, symbols_of, leaf_in};
+ghost use Rattle.smv_items.specs.FlatOrigins.{leaf_plain, AreBodies, AreVariables};
+
+use smv_instances::Table;
+use smv_items::{Leaf, Numbers, Symbols, leaf_at};
+use smv_text::Path;
+use std::alloc::Global;
+use text_core::NoMemory;
+
+/// A model's instances, the numbers of its items, its symbols, and what its names are to the types.
+#[derive(Drop)]
+pub(crate) struct Context<'s, 'a, 'n, N> {
+    pub(crate) naming: &'s N,
+    pub(crate) table: &'s Table<'a>,
+    pub(crate) numbers: &'s Numbers<'a, 'n>,
+    pub(crate) symbols: &'s Symbols,
+    ghost bodies: { AreBodies (origins_of (map instance_plain table.now)) numbers.now.bodies } by { let number : Coded (Option ℕ) = Prim.hlevel codes in Π_prop (λ i. Π_prop (λ x. Coded-set number _ _)) },
+    ghost states: { AreVariables (map instance_plain table.now) OfVarKind.State (origins_of (map instance_plain table.now)) numbers.now.states } by { let number : Coded (Option ℕ) = Prim.hlevel codes in Π_prop (λ x. Coded-set number _ _) },
+    ghost inputs: { AreVariables (map instance_plain table.now) OfVarKind.Input (origins_of (map instance_plain table.now)) numbers.now.inputs } by { let number : Coded (Option ℕ) = Prim.hlevel codes in Π_prop (λ x. Coded-set number _ _) },
+    ghost all_symbols: { symbols.now ≡ symbols_of (map instance_plain table.now) } by { let texts : Coded (List (List ℕ)) = Prim.hlevel codes in Coded-set texts _ _ },
+}
+
+impl<'s, 'a, 'n, N> Context<'s, 'a, 'n, N> {
+    /// What a path in the numbered instance becomes.
+    pub(crate) fn leaf(&self, alloc: Global, i: usize, path: &'a Path) -> Result<Leaf, NoMemory>
+        ensures { IfOk result (λ l. leaf_plain l ≡ leaf_in (map instance_plain self.now.table.now) i path.now) }
+    {
+        leaf_at(alloc, self.table, self.numbers, self.symbols, i, path)
+    }
+}

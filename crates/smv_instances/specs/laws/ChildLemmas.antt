@@ -1,0 +1,83 @@
+-- The first instance of a name in an instance.
+use Rattle.std.proofs.Common.{◌≡◌, ℕ, ◌+◌, ◌<◌, ◌≤◌, Bool, true, false, ◌&&◌, ◌==◌, nat_lt, not, cond, if◌then◌else◌, List, [], ◌∷◌, ◌++◌, map, take, length, position, Option, Some, None, is_none, bytes_eq, Result, Ok, Err, OnOk, refl, sym, ap, ◌∙◌, arith}
+use Rattle.std.specs.Prelude.{slice_index_or}
+use Rattle.std.specs.List.{position_or_len}
+use Rattle.std.proofs.lemmas.Bool.{eqb-true}
+use Rattle.std.proofs.lemmas.Slice.Eq.{bytes_eq-Decides}
+use Rattle.std.proofs.lemmas.Bool.Decides.{nat_tests}
+use Rattle.std.proofs.lemmas.List.{length-map, map-append, length_push, length-take-le, take_all}
+use Rattle.std.proofs.lemmas.List.Sums.{prefix_len-le-length}
+use Rattle.std.proofs.Math.Numerals.{add-one}
+use Rattle.std.proofs.lemmas.List.Folds.{position_or_len_push}
+use Rattle.std.proofs.Math.Seq.{take-suc}
+use Rattle.smv_instances.specs.declared.instances.Instance.{Instance as PartOf}
+use Rattle.smv_meaning.specs.Names.{is_parent, is_child}
+use Rattle.smv_instances.specs.View.{instance_plain}
+use Rattle.smv_meaning.specs.laws.Booleans.{both_true}
+
+-- what an equal key has
+same_key : (f : ℕ → List ℕ → Option ℕ) (i j : ℕ) (x y : List ℕ) → (i == j && bytes_eq x y) ≡ true → f j y ≡ f i x
+same_key f i j x y h =
+    let b = both_true (i == j) (bytes_eq x y) h in
+    let e : i ≡ j = eqb-true i j b.0 in
+    let d : x ≡ y = (bytes_eq-Decides x y).0 b.1 in
+    cc
+
+pub stays : (f : ℕ → List ℕ → Option ℕ) (i : ℕ) (x : List ℕ) (c j : ℕ) (y : List ℕ) (n : ℕ) → f i x ≡ Some n → f j y ≡ (if is_none (f j y) && (i == j && bytes_eq x y) then Some c else f j y)
+stays f i x c j y n e = by (i == j && bytes_eq x y) refl
+  where
+    by : (b : Bool) → (i == j && bytes_eq x y) ≡ b → f j y ≡ (if is_none (f j y) && b then Some c else f j y)
+    by true h = let s : f j y ≡ Some n = same_key f i j x y h ∙ e in ap (λ o. if is_none o && true then Some c else f j y) (sym s)
+    by false h = over (f j y)
+      where
+        over : (o : Option ℕ) → o ≡ (if is_none o && false then Some c else o)
+        over None = refl
+        over (Some m) = refl
+
+pub is_put : (f : ℕ → List ℕ → Option ℕ) (i : ℕ) (x : List ℕ) (c j : ℕ) (y : List ℕ) (o : Option ℕ) → f i x ≡ None → o ≡ (if i == j && bytes_eq x y then Some c else f j y)
+    → o ≡ (if is_none (f j y) && (i == j && bytes_eq x y) then Some c else f j y)
+is_put f i x c j y o e k = k ∙ by (i == j && bytes_eq x y) refl
+  where
+    by : (b : Bool) → (i == j && bytes_eq x y) ≡ b → (if b then Some c else f j y) ≡ (if is_none (f j y) && b then Some c else f j y)
+    by true h = let s : f j y ≡ None = same_key f i j x y h ∙ e in ap (λ p. if is_none p && true then Some c else f j y) (sym s)
+    by false h = over (f j y)
+      where
+        over : (p : Option ℕ) → p ≡ (if is_none p && false then Some c else p)
+        over None = refl
+        over (Some m) = refl
+
+pub on_put : {X E : Type 0} (r : Result X E) (f g : ℕ → List ℕ → Option ℕ) (i : ℕ) (x : List ℕ) (c : ℕ) → f i x ≡ None
+    → OnOk r ((j : ℕ) (y : List ℕ) → g j y ≡ (if i == j && bytes_eq x y then Some c else f j y))
+    → OnOk r ((j : ℕ) (y : List ℕ) → g j y ≡ (if is_none (f j y) && (i == j && bytes_eq x y) then Some c else f j y))
+on_put (Ok u) f g i x c e h = λ j y. is_put f i x c j y (g j y) e (h j y)
+on_put (Err u) f g i x c e h = tt
+
+place_pushed : (q n o m : ℕ) (b : Bool) → q ≤ n → o ≡ cond (q == n) (n + cond b 0 1) q → m ≡ n + 1
+    → cond (nat_lt o m) (Some o) None ≡ (if is_none (cond (nat_lt q n) (Some q) None) && b then Some n else cond (nat_lt q n) (Some q) None)
+place_pushed q n o m b h e l = grind (arith, nat_tests)
+
+-- the first place in a list with one element more
+pub position_push : {X : Type 0} (p : X → Bool) (xs : List X) (y : X) → position p (xs ++ y ∷ []) ≡ (if is_none (position p xs) && p y then Some (length xs) else position p xs)
+position_push p xs y =
+    place_pushed (position_or_len p xs) (length xs) (position_or_len p (xs ++ y ∷ [])) (length (xs ++ y ∷ [])) (p y) (prefix_len-le-length (λ x. not (p x)) xs) (position_or_len_push p xs y) (length_push xs y)
+
+-- the children once one instance more is there
+pub with_part : (ts : List PartOf) (c n : ℕ) (p : PartOf) (i : ℕ) (x : List ℕ) (o new : Option ℕ) → n ≡ length ts → c < n → p ≡ slice_index_or ts c p
+    → o ≡ position (is_child i x) (map instance_plain (take c ts)) → new ≡ (if is_none o && is_child i x (instance_plain p) then Some c else o) → new ≡ position (is_child i x) (map instance_plain (take (c + 1) ts))
+with_part ts c n p i x o new e h is s k =
+    let a : take (c + 1) ts ≡ take c ts ++ p ∷ [] = rw add-one (take-suc ts c p (omega (arith, e, h)) ∙ ap (λ y. take c ts ++ y ∷ []) (sym is)) in
+    let b : map instance_plain (take (c + 1) ts) ≡ map instance_plain (take c ts) ++ instance_plain p ∷ [] = ap (map instance_plain) a ∙ map-append instance_plain (take c ts) (p ∷ []) in
+    let l : length (map instance_plain (take c ts)) ≡ c = length-map (take c ts) instance_plain ∙ length-take-le c ts (omega (arith, e, h)) in
+    k ∙ ap (λ q. if is_none q && is_child i x (instance_plain p) then Some c else q) s
+    ∙ ap (λ m. if is_none (position (is_child i x) (map instance_plain (take c ts))) && is_child i x (instance_plain p) then Some m else position (is_child i x) (map instance_plain (take c ts))) (sym l)
+    ∙ sym (position_push (is_child i x) (map instance_plain (take c ts)) (instance_plain p)) ∙ ap (position (is_child i x)) (sym b)
+
+pub unchanged : (p : PartOf) (o : Option ℕ) (c i : ℕ) (x : List ℕ) → p.parent ≡ None → o ≡ (if is_none o && is_child i x (instance_plain p) then Some c else o)
+unchanged p o c i x e = over o ∙ ap (λ q. if is_none o && (is_parent i q && bytes_eq p.own.now x) then Some c else o) (sym e)
+  where
+    over : (o : Option ℕ) → o ≡ (if is_none o && false then Some c else o)
+    over None = refl
+    over (Some n) = refl
+
+pub whole : (ts : List PartOf) (c n i : ℕ) (x : List ℕ) (o : Option ℕ) → n ≡ length ts → n ≤ c → o ≡ position (is_child i x) (map instance_plain (take c ts)) → o ≡ position (is_child i x) (map instance_plain ts)
+whole ts c n i x o e h s = s ∙ ap (λ l. position (is_child i x) (map instance_plain l)) (take_all c ts (omega (arith, e, h)))

@@ -1,0 +1,5 @@
+-- Laws that crates above cite.
+pub mod Composing
+pub mod Stepping
+pub mod Known
+pub mod Shapes
