@@ -6,8 +6,7 @@ use Rattle.std.proofs.lemmas.Option.{get_or_from_slice_get, slice_get_within}
 use Rattle.btor_tree.specs.declared.args.Arg.{Arg}
 use Rattle.btor_tree.specs.declared.lines.Line.{Line}
 use Rattle.btor_tree.specs.declared.lines.LineOp.{LineOp}
-use Rattle.btor_tree.specs.declared.lines.TheConstants.{GREATEST_ID}
-use Rattle.btor_tree.specs.Fits.{IsWellFormed, Suits}
+use Rattle.btor_tree.specs.Fits.{IsWellFormed, Suits, greatest_id}
 
 pub copied_length : (lines copies : List Line) (i : ℕ) (l : Line) → copies ≡ take i lines → slice_get lines i ≡ Some l → length copies ≡ i
 copied_length lines copies i l so_far there =
@@ -15,7 +14,7 @@ copied_length lines copies i l so_far there =
     ap length so_far ∙ length-take-le i lines (omega (arith, within))
 
 -- there is room for a copy of a line whose id is one more than its place
-pub copy_room : (lines copies : List Line) (i : ℕ) (l : Line) → IsWellFormed lines → copies ≡ take i lines → slice_get lines i ≡ Some l → l.id ≡ i + 1 → length copies < GREATEST_ID
+pub copy_room : (lines copies : List Line) (i : ℕ) (l : Line) → IsWellFormed lines → copies ≡ take i lines → slice_get lines i ≡ Some l → l.id ≡ i + 1 → length copies < greatest_id
 copy_room lines copies i l formed so_far there id =
     omega (arith, id, copied_length lines copies i l so_far there, (formed.by_line i l there).small)
 

@@ -2,9 +2,8 @@
 ghost use Rattle.std.specs.Prelude.{◌≡◌, IfOk};
 ghost use Rattle.btor_tree.specs.Fits.{sort_at, width_at};
 
-use crate::lines::has_word;
 use btor_print::print_btor;
-use btor_tree::{Args, Builder, GREATEST_ID, LineOp, Nodes};
+use btor_tree::{Args, Builder, GREATEST_ID, LineOp, Nodes, has_word};
 use case_text::{Answer, Fault, Stop, small_number};
 use std::alloc::Global;
 use text_core::{Name, NoMemory};
@@ -39,8 +38,8 @@ fn copied_args(alloc: Global, args: &Args) -> Result<Args, NoMemory>
     ensures { IfOk result (λ copy. copy ≡ args.now) }
 {
     let mut copy = Args::new(alloc);
-    for i in 0..args.len() {
-        copy.push(*args.at(i))?;
+    for arg in args {
+        copy.push(*arg)?;
     }
     Ok(copy)
 }

@@ -2,9 +2,8 @@
 ghost use Rattle.std.specs.Prelude.{◌≡◌, true};
 ghost use Rattle.btor_frames.specs.Held.{FramesFit};
 
-use crate::lines::has_word;
 use btor_frames::{Frames, Words, words_fit};
-use btor_tree::Nodes;
+use btor_tree::{Nodes, has_word};
 use case_text::{Answer, Stop, utf8};
 use std::alloc::Global;
 use text_core::NoMemory;
@@ -92,10 +91,8 @@ fn handed_in(alloc: Global, line: &str) -> Result<Handed, Stop> {
 
 // The word of these binary digits.
 fn word_of(digits: &str) -> Option<Word> {
-    match u32::try_from(digits.len()) {
-        Ok(width) => read_digits(width, 2, digits.as_bytes()),
-        Err(_) => None,
-    }
+    let width = u32::try_from(digits.len()).ok()?;
+    read_digits(width, 2, digits.as_bytes())
 }
 
 fn put_frame(out: &mut Answer, nodes: &Nodes, frames: &Frames) -> Result<(), Stop>

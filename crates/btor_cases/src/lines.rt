@@ -1,10 +1,7 @@
 // Texts of BTOR2 lines, read and printed.
-ghost use Rattle.std.specs.Prelude.{◌≡◌};
-ghost use Rattle.btor_tree.specs.Fits as fits;
-
 use btor_print::print_btor;
 use btor_text::read_btor;
-use btor_tree::{LineOp, Nodes};
+use btor_tree::Nodes;
 use case_text::{Answer, Stop};
 use std::alloc::Global;
 
@@ -36,19 +33,4 @@ pub fn put_counts(out: &mut Answer, nodes: &Nodes) {
     out.put_unsigned(u128::from(nodes.states()));
     out.put(b", bad lines ");
     out.put_unsigned(u128::from(nodes.bads()));
-}
-
-/// Does a line of this kind have a word?
-pub fn has_word(op: &LineOp) -> bool
-    ensures { result ≡ fits.has_word op.now }
-{
-    match op {
-        LineOp::Sort(_)
-        | LineOp::Init
-        | LineOp::Next
-        | LineOp::Bad
-        | LineOp::Constraint
-        | LineOp::Output => false,
-        _ => true,
-    }
 }

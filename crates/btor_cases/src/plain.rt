@@ -32,7 +32,7 @@ fn bit(row: &Row, arg: Arg) -> Result<bool, Fault> {
 }
 
 // What gives the state at a place its word: its init in frame 0, its next in a later frame.
-fn source(nodes: &Nodes, state: usize, later: bool) -> Result<Option<Arg>, Fault> {
+fn value_of_state(nodes: &Nodes, state: usize, later: bool) -> Result<Option<Arg>, Fault> {
     for i in 0..nodes.len() {
         let line = nodes.at(i);
         let binds = match &line.op {
@@ -80,7 +80,7 @@ fn state_bit(
     frame: &Frame,
     row: &Row,
 ) -> Result<bool, Fault> {
-    match (source(nodes, state, before.is_some())?, before) {
+    match (value_of_state(nodes, state, before.is_some())?, before) {
         (Some(arg), Some(last)) => bit(last, arg),
         (Some(arg), None) => bit(row, arg),
         (None, _) => Ok(stated(&frame.states).unwrap_or(false)),
@@ -94,7 +94,7 @@ fn state_differs(nodes: &Nodes, frame: &Frame, row: &Row, later: bool) -> Result
     };
     for i in 0..nodes.len() {
         if let LineOp::State = &nodes.at(i).op {
-            let determined = source(nodes, i, later)?.is_some();
+            let determined = value_of_state(nodes, i, later)?.is_some();
             if determined && row.get(i) != Some(&word) {
                 return Ok(true);
             }

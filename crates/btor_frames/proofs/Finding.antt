@@ -10,7 +10,7 @@ use Rattle.btor_tree.specs.declared.lines.LineOp.{LineOp}
 use Rattle.btor_tree.specs.Fits.{AreEarlier, IsWellFormed, operands, state_value, value_for, value_in}
 use Rattle.btor_tree.proofs.Grows.{slice_get_inside, take_push}
 use Rattle.btor_tree.proofs.Paths.{operands_append, state_value_append}
-use Rattle.btor_frames.specs.Tables.{Found, IsFoundIn, values_of, own_operands, noted}
+use Rattle.btor_frames.specs.Tables.{Found, IsFoundIn, values_of, line_operands, noted}
 use Rattle.btor_frames.specs.Steps.{value_kind}
 
 pub earlier_more : (n m : ℕ) (args : List Arg) → n ≤ m → AreEarlier n args → AreEarlier m args
@@ -87,6 +87,6 @@ found_value true lines found i h q = h.nexts.at i q
 found_value false lines found i h q = h.inits.at i q
 
 -- the operands with those of one more line
-pub operands_step : (kind : LineOp → Bool) (lines : List Line) (i : ℕ) (l : Line) → slice_get lines i ≡ Some l → operands kind (take i lines) ++ own_operands kind l ≡ operands kind (take (i + 1) lines)
+pub operands_step : (kind : LineOp → Bool) (lines : List Line) (i : ℕ) (l : Line) → slice_get lines i ≡ Some l → operands kind (take i lines) ++ line_operands kind l ≡ operands kind (take (i + 1) lines)
 operands_step kind lines i l g =
-    sym (ap (operands kind) (take_next lines i l g) ∙ operands_append kind (take i lines) (l ∷ []) ∙ ap (λ o. operands kind (take i lines) ++ o) (append-nil (own_operands kind l)))
+    sym (ap (operands kind) (take_next lines i l g) ∙ operands_append kind (take i lines) (l ∷ []) ∙ ap (λ o. operands kind (take i lines) ++ o) (append-nil (line_operands kind l)))

@@ -7,8 +7,7 @@ use Rattle.word_core.specs.Words.{BitVector, IsWord}
 use Rattle.btor_tree.specs.declared.lines.Line.{Line}
 use Rattle.btor_tree.specs.declared.lines.LineOp.{LineOp}
 use Rattle.btor_tree.specs.declared.lines.LineOp.TheVariants.{Input, State}
-use Rattle.btor_tree.specs.declared.lines.TheConstants.{GREATEST_ID}
-use Rattle.btor_tree.specs.Fits.{IsWellFormed, count_of, has_word, is_input, is_state, sort_at, width_at}
+use Rattle.btor_tree.specs.Fits.{IsWellFormed, count_of, has_word, is_input, is_state, sort_at, width_at, greatest_id}
 use Rattle.btor_tree.specs.Frame.{GivenFits}
 use Rattle.btor_tree.proofs.Grows.{slice_get_inside, lines_short}
 use Rattle.btor_tree.proofs.Paths.{width_is}
@@ -17,7 +16,7 @@ use Rattle.btor_frames.proofs.Lines.{if_some}
 
 -- an input or a state has a width, which its word has to have
 pub record ReadFacts (lines : List Line) (i : ℕ) (l : Line) : Type 0 where
-  pub small : length lines ≤ GREATEST_ID
+  pub small : length lines ≤ greatest_id
   pub some : 1 ≤ width_at lines i
   pub same : width_at lines i ≡ sort_at (take i lines) l.sort
 

@@ -7,11 +7,10 @@ use Rattle.word_core.specs.Words.{BitVector, IsWord}
 use Rattle.word_core.specs.Table.{unary_of, binary_of, ite_of, slice_of, uext_of, sext_of, BinaryFits}
 use Rattle.word_core.specs.declared.word.TheConstants.{WIDEST}
 use Rattle.btor_tree.specs.declared.args.Arg.{Arg}
-use Rattle.btor_tree.specs.declared.lines.TheConstants.{GREATEST_ID}
 use Rattle.btor_tree.specs.declared.lines.Line.{Line}
 use Rattle.btor_tree.specs.declared.lines.LineOp.{LineOp}
 use Rattle.btor_tree.specs.declared.lines.LineOp.TheVariants.{Constant, One, Zero, Ones, Unary, Binary, Ite, Slice, Uext, Sext}
-use Rattle.btor_tree.specs.Fits.{OnOne, OnTwo, OnThree, has_word, AreEarlier, OpFits, IsWellFormed, sort_at, width_at, kind_at, is_constant, state_value}
+use Rattle.btor_tree.specs.Fits.{OnOne, OnTwo, OnThree, has_word, AreEarlier, OpFits, IsWellFormed, sort_at, width_at, kind_at, is_constant, state_value, greatest_id}
 use Rattle.btor_tree.specs.Frame.{nothing, word_at, signed_word, operand, constant_word, constant_of, IsFrame, read_or}
 use Rattle.btor_tree.proofs.Words.{computed}
 use Rattle.btor_tree.proofs.Widths.{sort_small, sort_there, sort_front, one_lt, Wide, wide, operand_is, line_at}
@@ -22,7 +21,7 @@ use Rattle.btor_frames.specs.Steps.{value_kind, value_word}
 -- a constant line is there, and its width is that of a word
 pub record ConstantFacts (lines : List Line) (i : ℕ) : Type 0 where
   pub inside : i < length lines
-  pub small : length lines ≤ GREATEST_ID
+  pub small : length lines ≤ greatest_id
   pub some : 1 ≤ width_at lines i
   pub narrow : width_at lines i ≤ WIDEST
   pub one_fits : 1 < 2 ^ width_at lines i

@@ -44,8 +44,8 @@ values_of true found = found.nexts
 values_of false found = found.inits
 
 -- the line's arguments, where it is of the kind
-abbrev pub own_operands : (LineOp → Bool) → Line → List Arg
-own_operands kind l = if kind l.op then l.args else []
+abbrev pub line_operands : (LineOp → Bool) → Line → List Arg
+line_operands kind l = if kind l.op then l.args else []
 
 -- the values with that of a line of arguments `state value`, where its state has none yet
 abbrev pub noted : List (Option Arg) → List Arg → List (Option Arg)

@@ -1,7 +1,7 @@
 // What lines give to states, and the arguments of bad and constraint lines, found once for all frames.
 ghost use Rattle.std.specs.Prelude.{◌≡◌, ◌<◌, ◌++◌, Bool, true, false, List, length, get_or, None, IfOk, OnOk, if◌then◌else◌};
 ghost use Rattle.btor_tree.specs.Fits.{AreEarlier, IsWellFormed, operands};
-ghost use Rattle.btor_frames.specs.Tables.{has_role, HoldsNone, HoldsValues, IsFoundIn, values_of, own_operands, noted};
+ghost use Rattle.btor_frames.specs.Tables.{has_role, HoldsNone, HoldsValues, IsFoundIn, values_of, line_operands, noted};
 
 use btor_tree::{Arg, Args, Line, LineOp, Nodes};
 use std::alloc::Global;
@@ -130,7 +130,7 @@ fn role_operands(alloc: Global, nodes: &Nodes, role: Role) -> Result<Args, NoMem
 
 // Adds the arguments of a line, where it is of the role.
 fn add_operands(args: &mut Args, role: Role, line: &Line) -> Result<(), NoMemory>
-    ensures { OnOk result (args.new ≡ args.old ++ own_operands (has_role role) line.now) }
+    ensures { OnOk result (args.new ≡ args.old ++ line_operands (has_role role) line.now) }
 {
     if has_role(role, &line.op) {
         add_all(args, &line.args)?;
@@ -142,8 +142,8 @@ fn add_operands(args: &mut Args, role: Role, line: &Line) -> Result<(), NoMemory
 fn add_all(args: &mut Args, more: &Args) -> Result<(), NoMemory>
     ensures { OnOk result (args.new ≡ args.old ++ more.now) }
 {
-    for i in 0..more.len() {
-        args.push(*more.at(i))?;
+    for arg in more {
+        args.push(*arg)?;
     }
     Ok(())
 }

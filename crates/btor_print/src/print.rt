@@ -149,8 +149,8 @@ fn put_arg(out: &mut Text, nodes: &Nodes, arg: Arg) -> Result<(), NoMemory>
 fn put_args(out: &mut Text, nodes: &Nodes, args: &Args) -> Result<(), NoMemory>
     ensures { OnOk result (out.new ≡ out.old ++ spaced (map (operand_text nodes.now) args.now)) }
 {
-    for i in 0..args.len() {
-        put_arg(out, nodes, *args.at(i))?;
+    for arg in args {
+        put_arg(out, nodes, *arg)?;
     }
     Ok(())
 }

@@ -1,9 +1,10 @@
 -- What the reader answers is what the text spells, or its first fault.
-use Rattle.std.proofs.Common.{◌≡◌, ◌≢◌, ℕ, ◌+◌, List, [], ◌∷◌, Option, Some, Result, Ok, Err, refl, ap, ◌∙◌, subst}
+use Rattle.std.proofs.Common.{◌≡◌, ◌≢◌, ℕ, ◌+◌, List, [], ◌∷◌, Option, Some, Result, Ok, Err, refl, sym, ap, ◌∙◌, subst}
 use Rattle.std.specs.Prelude.{IfOk, IfErr}
+use Rattle.std.specs.Result.{IsErrAnd}
 use Rattle.btor_tree.specs.declared.lines.Line.{Line}
 use Rattle.btor_tree.specs.Fits.{Fits}
-use Rattle.btor_tree.specs.Parts.{Parts, line_parts}
+use Rattle.btor_tree.specs.Parts.{Parts, line_parts, line_place}
 use Rattle.btor_tree.specs.Shapes.{Shape}
 use Rattle.btor_tree.specs.Reading.{shape_of, shaped_next, resolved, next_of}
 use Rattle.btor_tree.specs.Resolving.{Fault, resolve}
@@ -18,7 +19,7 @@ use Rattle.text_core.specs.declared.end.End.TheVariants.{Bad, NoMemory}
 use Rattle.btor_text.specs.declared.resolve.Fault as broken
 use Rattle.btor_text.specs.declared.read.LineEnd.{LineEnd}
 use Rattle.btor_text.specs.declared.read.LineEnd.TheVariants as end
-use Rattle.btor_text.specs.Answer.{Gives, Stops, IsRefused, Takes, Fails, IsResolved, kind_of}
+use Rattle.btor_text.specs.Answer.{Answers, Gives, Stops, IsRefused, Takes, Fails, IsResolved, kind_of}
 
 -- what the shape of a line says
 pub at_shape : (before : List Line) (ps : Parts) (o : Option Shape) → ps ≢ [] → shape_of ps ≡ o → next_of before ps ≡ shaped_next before o
@@ -58,17 +59,21 @@ exact_from text (Ok nodes) a b lines h = one_list a h refl
 exact_from text (Err (Bad why)) a b lines h = no_list h b.1 refl
 exact_from text (Err NoMemory) a b lines h = tt
 
-pub stops_from : (text : List ℕ) (r : Result (List Line) End) → IfOk r (SpellsLines text) → IfErr r (IsRefused text) → (fault : Fault) (at : ℕ) → RefusesText text fault at → Stops fault at r
+pub stops_from : (text : List ℕ) (r : Result (List Line) End) → IfOk r (SpellsLines text) → IfErr r (IsRefused text) → (fault : Fault) (at : ℕ) → RefusesText text fault at → Stops text fault at r
 stops_from text (Ok nodes) a b fault at h = no_list a h refl
 stops_from text (Err (Bad why)) a b fault at h =
     let one = one_fault b.1 h refl refl in
-    (b.2 ∙ ap kind_of one.0, one.1, b.3)
+    (b.2 ∙ ap kind_of one.0, b.3 ∙ ap (line_place text) one.1)
 stops_from text (Err NoMemory) a b fault at h = tt
 
 -- what is said of a line whose shape breaks a rule
 pub fails_so : (next : Next) (why : LineEnd) (r : Result Line Fault) → IsResolved (Err why) r → next ≡ resolved r → Fails next why
 fails_so next (end.Bad k) r h e = e ∙ ap resolved h
 fails_so next end.NoMemory r h e = tt
+
+pub answers_error : (r : Result (Option Line) LineEnd) (why : LineEnd) (next : Next) → IsErrAnd r (λ e. e ≡ why) → Fails next why → Answers r next
+answers_error (Ok x) why next h f = absurd h
+answers_error (Err e) why next h f = subst (λ y. Fails next y) (sym h) f
 
 pub faulty_end : (next : Next) (why : LineEnd) (k : broken.Fault) → Fails next why → why ≡ end.Bad k → next ≡ faulty (seen_fault k)
 faulty_end next why k h e = subst (λ (y : LineEnd). Fails next y) e h

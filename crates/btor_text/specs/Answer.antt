@@ -3,6 +3,7 @@ use Rattle.std.specs.Prelude.{◌≡◌, ℕ, List, ◌∷◌, [], ◌++◌, Res
 use Rattle.text_core.specs.declared.place.Kind.{Kind}
 use Rattle.text_core.specs.declared.place.Kind.TheVariants.{B}
 use Rattle.btor_tree.specs.declared.lines.Line.{Line}
+use Rattle.btor_tree.specs.Parts.{line_place}
 use Rattle.btor_tree.specs.Resolving.{Fault, no_shape, not_supported, id_order, wide_sort, no_such_node, sort_clash, twice, init_late}
 use Rattle.btor_tree.specs.Texts.{Next, nothing, good, faulty, RefusesText}
 use Rattle.btor_text.specs.Seen.{seen_fault}
@@ -28,15 +29,16 @@ Gives lines (Ok nodes) = nodes ≡ lines
 Gives lines (Err (Bad r)) = ⊥
 Gives lines (Err NoMemory) = Unit {0}
 
--- this fault at this line, or want of memory
-abbrev pub Stops : Fault → ℕ → Result (List Line) End → Type 0
-Stops fault at (Ok nodes) = ⊥
-Stops fault at (Err (Bad r)) = (r.kind ≡ kind_of fault) × (r.place.line ≡ at) × (r.place.column ≡ 1)
-Stops fault at (Err NoMemory) = Unit {0}
+-- this fault at the place of this line, or want of memory
+abbrev pub Stops : List ℕ → Fault → ℕ → Result (List Line) End → Type 0
+Stops text fault at (Ok nodes) = ⊥
+Stops text fault at (Err (Bad r)) = (r.kind ≡ kind_of fault) × (r.place ≡ line_place text at)
+Stops text fault at (Err NoMemory) = Unit {0}
 
--- the text has this fault first, at this line; or memory ran out
+-- the text has this fault first, at the place of this line; or memory ran out
 abbrev pub IsRefused : List ℕ → End → Type 0
-IsRefused text (Bad r) = (fault : Fault) × RefusesText text fault r.place.line × (r.kind ≡ kind_of fault) × (r.place.column ≡ 1)
+IsRefused text (Bad r) =
+    (fault : Fault) × RefusesText text fault r.place.line × (r.kind ≡ kind_of fault) × (r.place ≡ line_place text r.place.line)
 IsRefused text NoMemory = Unit {0}
 
 -- the lines behind one more line of the text

@@ -1,3 +1,4 @@
 pub mod Seen
 pub mod Marks
 pub mod Answer
+pub mod laws

@@ -7,8 +7,8 @@ use Rattle.btor_tree.specs.declared.lines.Line.{Line}
 use Rattle.btor_tree.specs.Parts.{Parts, parts}
 use Rattle.btor_tree.specs.Shapes as shapes
 use Rattle.btor_tree.specs.Resolving as faults
-use Rattle.btor_text.specs.declared.word.Source.{Source}
-use Rattle.btor_text.specs.declared.word.Source.TheVariants as source
+use Rattle.btor_text.specs.declared.word.Nullary.{Nullary}
+use Rattle.btor_text.specs.declared.word.Nullary.TheVariants as nullary
 use Rattle.btor_text.specs.declared.word.Base.{Base}
 use Rattle.btor_text.specs.declared.word.Base.TheVariants as base
 use Rattle.btor_text.specs.declared.word.Binding.{Binding}
@@ -29,12 +29,12 @@ use Rattle.btor_text.specs.declared.resolve.Body.{Body}
 use Rattle.btor_text.specs.declared.resolve.Fault.{Fault}
 use Rattle.btor_text.specs.declared.resolve.Fault.TheVariants as fault
 
-abbrev pub seen_source : Source → shapes.Source
-seen_source source.Input = shapes.input
-seen_source source.State = shapes.state
-seen_source source.One = shapes.one
-seen_source source.Zero = shapes.zero
-seen_source source.Ones = shapes.ones
+abbrev pub seen_nullary : Nullary → shapes.Nullary
+seen_nullary nullary.Input = shapes.input
+seen_nullary nullary.State = shapes.state
+seen_nullary nullary.One = shapes.one
+seen_nullary nullary.Zero = shapes.zero
+seen_nullary nullary.Ones = shapes.ones
 
 abbrev pub seen_base : Base → shapes.Base
 seen_base base.Binary = shapes.in_binary
@@ -56,7 +56,7 @@ seen_extension extension.Sext = shapes.sext
 
 abbrev pub seen_word : LineWord → shapes.Word
 seen_word word.Sort = shapes.sort_word
-seen_word (word.Source k) = shapes.source_word (seen_source k)
+seen_word (word.Nullary k) = shapes.nullary_word (seen_nullary k)
 seen_word (word.Base k) = shapes.base_word (seen_base k)
 seen_word (word.Binding k) = shapes.binding_word (seen_binding k)
 seen_word (word.Property k) = shapes.property_word (seen_property k)
@@ -83,7 +83,7 @@ seen_operand a = record { id = a.id; negated = a.negated }
 
 abbrev pub seen_content : Content → shapes.Content
 seen_content (content.Sort w) = shapes.sort_content w
-seen_content (content.Source k s) = shapes.source_content (seen_source k) s
+seen_content (content.Nullary k s) = shapes.nullary_content (seen_nullary k) s
 seen_content (content.Constant k s digits) = shapes.constant_content (seen_base k) s digits.now
 seen_content (content.Binding k s x v) = shapes.binding_content (seen_binding k) s x (seen_operand v)
 seen_content (content.Property k a) = shapes.property_content (seen_property k) (seen_operand a)

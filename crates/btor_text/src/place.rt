@@ -1,9 +1,9 @@
 // Earlier lines by their ids.
 ghost use Rattle.std.specs.Prelude.{◌≡◌};
-ghost use Rattle.btor_tree.specs.Fits.{is_constant, is_state, has_word, kind_at, sort_at, sort_width, width_at};
+ghost use Rattle.btor_tree.specs.Fits.{is_constant, is_state, kind_at, sort_at, width_at};
 ghost use Rattle.btor_tree.specs.Resolving.{line_ids, place_in, sort_of_id, state_of_id, word_of_id};
 
-use btor_tree::{LineOp, Nodes};
+use btor_tree::{LineOp, Nodes, has_word, sort_width};
 
 // The place of the line of an id.
 fn place_of(nodes: &Nodes, id: u32) -> Option<u32>
@@ -24,29 +24,6 @@ fn place_of(nodes: &Nodes, id: u32) -> Option<u32>
         }
     }
     None
-}
-
-fn sort_width(op: &LineOp) -> u32
-    ensures { result ≡ sort_width op.now }
-{
-    match op {
-        LineOp::Sort(width) => *width,
-        _ => 0,
-    }
-}
-
-fn has_word(op: &LineOp) -> bool
-    ensures { result ≡ has_word op.now }
-{
-    match op {
-        LineOp::Sort(_)
-        | LineOp::Init
-        | LineOp::Next
-        | LineOp::Bad
-        | LineOp::Constraint
-        | LineOp::Output => false,
-        _ => true,
-    }
 }
 
 /// The width of the sort line at a place, or 0.

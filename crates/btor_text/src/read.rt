@@ -103,10 +103,8 @@ fn next_line(alloc: Global, progress: &Progress, line: &[u8]) -> Result<Option<L
     let Some(shape) = shape_of(line) else {
         return Err(LineEnd::Bad(Fault::NoShape))
     };
-    match shaped_line(alloc, progress, &shape) {
-        Ok(line) => Ok(Some(line)),
-        Err(end) => Err(end),
-    }
+    let line = shaped_line(alloc, progress, &shape)?;
+    Ok(Some(line))
 }
 
 // Takes one line of a text, with a buffer that is free for it.
@@ -146,18 +144,15 @@ fn kind_of(fault: Fault) -> Kind
 
 // The refusal of the line with this number that begins at the offset.
 fn refusal(fault: Fault, line: u32, offset: u32) -> Refusal
-    ensures kind { result.kind ≡ kind_of (seen_fault fault) }
-    ensures line { result.place.line ≡ line }
-    ensures column { result.place.column ≡ 1 }
+    ensures { result ≡ record { kind = kind_of (seen_fault fault); place = record { line = line; column = 1; offset = offset } } }
 {
-    let place = Place {
-        line,
-        column: 1,
-        offset,
-    };
     Refusal {
         kind: kind_of(fault),
-        place,
+        place: Place {
+            line,
+            column: 1,
+            offset,
+        },
     }
 }
 
@@ -175,13 +170,11 @@ fn nodes_of(alloc: Global, text: &[u8]) -> Result<Nodes, BtorEnd>
         let (raw, more) = rest.split_at(line_length(rest));
         match take_line(alloc, progress, &mut buffer, raw) {
             Ok(taken) => progress = taken,
-            Err(end) => match end {
-                LineEnd::Bad(fault) => {
-                    let offset = (text.len() - rest.len()) as u32;
-                    return Err(End::Bad(refusal(fault, number, offset)));
-                }
-                LineEnd::NoMemory => return Err(End::NoMemory),
-            },
+            Err(LineEnd::Bad(fault)) => {
+                let offset = (text.len() - rest.len()) as u32;
+                return Err(End::Bad(refusal(fault, number, offset)));
+            }
+            Err(LineEnd::NoMemory) => return Err(End::NoMemory),
         }
         let Some((_, last)) = more.split_first() else {
             return Ok(progress.done())
@@ -191,17 +184,17 @@ fn nodes_of(alloc: Global, text: &[u8]) -> Result<Nodes, BtorEnd>
     }
 }
 
-/// The lines that a BTOR2 text spells, or the kind and the line of its first refusal.
+/// The lines that a BTOR2 text spells, or its first refusal, at the place of the line that can't follow the lines before it.
 pub fn read_btor(alloc: Global, text: &[u8]) -> Result<Nodes, BtorEnd>
     requires { length text.now ≤ 2 ^ 31 }
     // The text spells the lines.
     ensures spelled { IfOk result (λ nodes. SpellsLines text.now nodes) }
     // What it spells is read, unless memory runs out.
     ensures exact { (lines : List node.Line) → SpellsLines text.now lines → Gives lines result }
-    // The text is refused at this line.
+    // The text is refused at the place of this line.
     ensures refused { IfErr result (IsRefused text.now) }
     // As it is refused, so it is answered, unless memory runs out.
-    ensures stops { (fault : rules.Fault) (at : ℕ) → RefusesText text.now fault at → Stops fault at result }
+    ensures stops { (fault : rules.Fault) (at : ℕ) → RefusesText text.now fault at → Stops text.now fault at result }
 {
     nodes_of(alloc, text)
 }

@@ -3,12 +3,12 @@ ghost use Rattle.std.specs.Prelude.{◌≡◌};
 ghost use Rattle.word_core.specs.Table as table;
 ghost use Rattle.btor_tree.specs.Shapes as shapes;
 ghost use Rattle.btor_tree.specs.Resolving as rules;
-ghost use Rattle.btor_text.specs.Seen.{line_of, seen_base, seen_binding, seen_content, seen_extension, seen_operand, seen_property, seen_shape, seen_source};
+ghost use Rattle.btor_text.specs.Seen.{line_of, seen_base, seen_binding, seen_content, seen_extension, seen_operand, seen_property, seen_shape, seen_nullary};
 
 use crate::place::{is_constant_at, sort_at, sort_of_id, state_of_id, width_at, word_of_id};
 use crate::progress::Progress;
 use crate::shape::{Content, Operand, Shape};
-use crate::word::{Base, Binding, Extension, Property, Source, literal_word};
+use crate::word::{Base, Binding, Extension, Nullary, Property, literal_word};
 use btor_tree::{Arg, LineOp, Nodes, plain_arg};
 use word_core::{Binary, Unary, WIDEST};
 
@@ -42,15 +42,15 @@ pub struct Body {
     pub args: Arguments,
 }
 
-fn source_op(kind: Source) -> LineOp
-    ensures { result ≡ rules.source_op (seen_source kind) }
+fn nullary_op(kind: Nullary) -> LineOp
+    ensures { result ≡ rules.nullary_op (seen_nullary kind) }
 {
     match kind {
-        Source::Input => LineOp::Input,
-        Source::State => LineOp::State,
-        Source::One => LineOp::One,
-        Source::Zero => LineOp::Zero,
-        Source::Ones => LineOp::Ones,
+        Nullary::Input => LineOp::Input,
+        Nullary::State => LineOp::State,
+        Nullary::One => LineOp::One,
+        Nullary::Zero => LineOp::Zero,
+        Nullary::Ones => LineOp::Ones,
     }
 }
 
@@ -104,14 +104,14 @@ fn resolve_sort(nodes: &Nodes, width: u32) -> Result<Body, Fault>
     })
 }
 
-fn resolve_source(nodes: &Nodes, kind: Source, sort: u32) -> Result<Body, Fault>
-    ensures { (sh : shapes.Shape) → line_of sh result ≡ rules.resolve_content nodes.now sh (shapes.source_content (seen_source kind) sort) }
+fn resolve_nullary(nodes: &Nodes, kind: Nullary, sort: u32) -> Result<Body, Fault>
+    ensures { (sh : shapes.Shape) → line_of sh result ≡ rules.resolve_content nodes.now sh (shapes.nullary_content (seen_nullary kind) sort) }
 {
     let Some(sort) = sort_of_id(nodes, sort) else {
         return Err(Fault::NoSuchNode)
     };
     Ok(Body {
-        op: source_op(kind),
+        op: nullary_op(kind),
         sort,
         args: Arguments::None,
     })
@@ -407,7 +407,7 @@ fn resolve_content(progress: &Progress, content: &Content<'_>) -> Result<Body, F
     let nodes = progress.nodes();
     match *content {
         Content::Sort(width) => resolve_sort(nodes, width),
-        Content::Source(kind, sort) => resolve_source(nodes, kind, sort),
+        Content::Nullary(kind, sort) => resolve_nullary(nodes, kind, sort),
         Content::Constant(kind, sort, digits) => resolve_constant(nodes, kind, sort, digits),
         Content::Binding(kind, sort, state, value) => {
             resolve_binding(progress, kind, sort, state, value)

@@ -2,12 +2,12 @@
 ghost use Rattle.std.specs.Prelude.{◌≡◌, option_map};
 ghost use Rattle.btor_tree.specs.Parts.{parts};
 ghost use Rattle.btor_tree.specs.Shapes.{operand_of};
-ghost use Rattle.btor_tree.specs.Reading.{sort_args, source_args, constant_args, binding_args, property_args, unary_args, binary_args, ite_args, slice_args, extension_args, content_at, content_of, shaped, shape_of};
-ghost use Rattle.btor_text.specs.Seen.{seen_base, seen_binding, seen_content, seen_extension, seen_operand, seen_property, seen_read, seen_shape, seen_source, seen_word};
+ghost use Rattle.btor_tree.specs.Reading.{sort_args, nullary_args, constant_args, binding_args, property_args, unary_args, binary_args, ite_args, slice_args, extension_args, content_at, content_of, shaped, shape_of};
+ghost use Rattle.btor_text.specs.Seen.{seen_base, seen_binding, seen_content, seen_extension, seen_operand, seen_property, seen_read, seen_shape, seen_nullary, seen_word};
 
 use crate::bytes::is_symbol;
 use crate::word::{
-    Base, Binding, Extension, LineWord, Property, Source, is_literal, is_unsupported, word_of,
+    Base, Binding, Extension, LineWord, Nullary, Property, is_literal, is_unsupported, word_of,
 };
 use btor_tree::{GREATEST_ID, first_part, numeral};
 use word_core::{Binary, Unary};
@@ -23,7 +23,7 @@ pub struct Operand {
 #[derive(Clone, Copy)]
 pub enum Content<'a> {
     Sort(u32),
-    Source(Source, u32),
+    Nullary(Nullary, u32),
     Constant(Base, u32, &'a [u8]),
     Binding(Binding, u32, u32, Operand),
     Property(Property, Operand),
@@ -72,12 +72,12 @@ fn sort_args<'a>(rest: &'a [u8]) -> Option<(Content<'a>, &'a [u8])>
     Some((Content::Sort(width), rest))
 }
 
-fn source_args<'a>(kind: Source, rest: &'a [u8]) -> Option<(Content<'a>, &'a [u8])>
-    ensures { option_map seen_read result ≡ source_args (seen_source kind) (parts rest.now) }
+fn nullary_args<'a>(kind: Nullary, rest: &'a [u8]) -> Option<(Content<'a>, &'a [u8])>
+    ensures { option_map seen_read result ≡ nullary_args (seen_nullary kind) (parts rest.now) }
 {
     let (sort, rest) = first_part(rest)?;
     let sort = numeral(sort)?;
-    Some((Content::Source(kind, sort), rest))
+    Some((Content::Nullary(kind, sort), rest))
 }
 
 fn constant_args<'a>(kind: Base, rest: &'a [u8]) -> Option<(Content<'a>, &'a [u8])>
@@ -179,7 +179,7 @@ fn content_at<'a>(word: LineWord, rest: &'a [u8]) -> Option<(Content<'a>, &'a [u
 {
     match word {
         LineWord::Sort => sort_args(rest),
-        LineWord::Source(kind) => source_args(kind, rest),
+        LineWord::Nullary(kind) => nullary_args(kind, rest),
         LineWord::Base(kind) => constant_args(kind, rest),
         LineWord::Binding(kind) => binding_args(kind, rest),
         LineWord::Property(kind) => property_args(kind, rest),

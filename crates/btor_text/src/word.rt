@@ -10,7 +10,7 @@ use word_core::{Binary, Unary, Word, read_digits, unary};
 
 /// A line that has a sort and no arguments.
 #[derive(Clone, Copy, PartialEq, Eq)]
-pub enum Source {
+pub enum Nullary {
     Input,
     State,
     One,
@@ -52,7 +52,7 @@ pub enum Extension {
 #[derive(Clone, Copy, PartialEq, Eq)]
 pub enum LineWord {
     Sort,
-    Source(Source),
+    Nullary(Nullary),
     Base(Base),
     Binding(Binding),
     Property(Property),
@@ -66,11 +66,11 @@ pub enum LineWord {
 // The words and how they are written.
 const WORDS: [(&[u8], LineWord); 55] = [
     (b"sort", LineWord::Sort),
-    (b"input", LineWord::Source(Source::Input)),
-    (b"state", LineWord::Source(Source::State)),
-    (b"one", LineWord::Source(Source::One)),
-    (b"zero", LineWord::Source(Source::Zero)),
-    (b"ones", LineWord::Source(Source::Ones)),
+    (b"input", LineWord::Nullary(Nullary::Input)),
+    (b"state", LineWord::Nullary(Nullary::State)),
+    (b"one", LineWord::Nullary(Nullary::One)),
+    (b"zero", LineWord::Nullary(Nullary::Zero)),
+    (b"ones", LineWord::Nullary(Nullary::Ones)),
     (b"const", LineWord::Base(Base::Binary)),
     (b"constd", LineWord::Base(Base::Decimal)),
     (b"consth", LineWord::Base(Base::Hex)),

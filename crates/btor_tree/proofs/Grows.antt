@@ -6,9 +6,8 @@ use Rattle.std.proofs.lemmas.Option.{same_Some, none-some}
 use Rattle.std.proofs.lemmas.List.{take-append-le, take_all}
 use Rattle.btor_tree.specs.declared.lines.Line.{Line}
 use Rattle.btor_tree.specs.declared.lines.LineOp.{LineOp}
-use Rattle.btor_tree.specs.declared.lines.TheConstants.{GREATEST_ID}
 use Rattle.word_core.specs.Words.{BitVector}
-use Rattle.btor_tree.specs.Fits.{Fits, IsWellFormed, last_id, count_of}
+use Rattle.btor_tree.specs.Fits.{Fits, IsWellFormed, last_id, count_of, greatest_id}
 use Rattle.btor_tree.specs.Frame.{Meets, Equation, word_at}
 
 -- an element of a list with one more at its end
@@ -76,7 +75,7 @@ well_formed_front lines more w =
     }
 
 -- ids rise from 1, so that there are no more lines than the last id says
-ids_upto : (lines : List Line) (n : ℕ) → IsWellFormed lines → n ≤ length lines → (n ≤ last_id (take n lines)) × (last_id (take n lines) ≤ GREATEST_ID)
+ids_upto : (lines : List Line) (n : ℕ) → IsWellFormed lines → n ≤ length lines → (n ≤ last_id (take n lines)) × (last_id (take n lines) ≤ greatest_id)
 ids_upto lines zero w h = (omega arith, omega arith)
 ids_upto lines (suc n) w h =
     let here = inside_get lines n (omega arith) in
@@ -86,7 +85,7 @@ ids_upto lines (suc n) w h =
     let e : last_id (take (suc n) lines) ≡ l.id = ap last_id (take_push lines n l here.1) ∙ last_push (take n lines) l in
     (omega (arith, before.0, fits.rises, e), omega (arith, fits.small, e))
 
-pub lines_short : (lines : List Line) → IsWellFormed lines → length lines ≤ GREATEST_ID
+pub lines_short : (lines : List Line) → IsWellFormed lines → length lines ≤ greatest_id
 lines_short lines w =
     let u = ids_upto lines (length lines) w (omega arith) in
     omega (arith, u.0, u.1)
@@ -122,7 +121,7 @@ pub count_short : (kind : LineOp → Bool) (lines : List Line) → count_of kind
 count_short kind [] = omega arith
 count_short kind (l ∷ ls) = omega (arith, count_short kind ls, one_at_most (kind l.op))
 
-pub counts_small : (kind : LineOp → Bool) (lines : List Line) → IsWellFormed lines → count_of kind lines ≤ GREATEST_ID
+pub counts_small : (kind : LineOp → Bool) (lines : List Line) → IsWellFormed lines → count_of kind lines ≤ greatest_id
 counts_small kind lines w = omega (arith, count_short kind lines, lines_short lines w)
 
 pub empty_well_formed : IsWellFormed []

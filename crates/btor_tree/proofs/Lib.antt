@@ -6,6 +6,7 @@ pub mod Rows
 pub mod Paths
 pub mod Numerals
 pub mod Fronts
+pub mod Places
 pub mod Literals
 pub mod PartLaws
 pub mod ShapeLaws

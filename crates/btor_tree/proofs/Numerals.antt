@@ -3,7 +3,8 @@ use Rattle.std.proofs.Common.{◌≡◌, ◌≤◌, ◌<◌, ◌^◌, ◌*◌, �
 use Rattle.std.proofs.lemmas.Str.Parse.{IsNumeralModel, numerals_by_fold}
 use Rattle.std.proofs.lemmas.Fmt.{digits_decimal, digits_value-decimal, decimal_nonempty}
 use Rattle.std.specs.Fmt.{decimal}
-use Rattle.btor_tree.specs.Parts.{is_digit, all_digits, value_after, cap, numeral}
+use Rattle.text_core.specs.Bytes.{is_digit}
+use Rattle.btor_tree.specs.Parts.{all_digits, value_after, cap, numeral}
 use Rattle.btor_tree.specs.Bytes.{number_after}
 
 value_min : (bs : List ℕ) (m n : ℕ) → min m cap ≡ min n cap → min (value_after m bs) cap ≡ min (value_after n bs) cap
@@ -24,13 +25,13 @@ pub numeral_from : (bs : List ℕ) → 0 < length bs → number_after 0 bs ≡ n
 numeral_from [] lt = absurd (omega arith)
 numeral_from (b ∷ bs) lt = number_is (b ∷ bs) 0 (omega arith)
 
-own : IsNumeralModel (λ ds. all_digits ds ≡ true) (value_after 0)
-own = numerals_by_fold _ (search rules) value_after (search rules)
+decimal_model : IsNumeralModel (λ ds. all_digits ds ≡ true) (value_after 0)
+decimal_model = numerals_by_fold _ (search rules) value_after (search rules)
 
 pub decimal_digits : (n : ℕ) → n < 2 ^ 64 → all_digits (decimal n) ≡ true
-decimal_digits n lt = digits_decimal own n lt
+decimal_digits n lt = digits_decimal decimal_model n lt
 
 pub numeral_again : (n : ℕ) → n < cap → numeral (decimal n) ≡ Some n
 numeral_again n lt =
     let small : n < 2 ^ 64 = omega arith in
-    sym (numeral_from (decimal n) (decimal_nonempty n small)) ∙ number_is (decimal n) 0 (omega arith) ∙ rw (digits_decimal own n small, digits_value-decimal own n small) (ap Some (omega arith))
+    sym (numeral_from (decimal n) (decimal_nonempty n small)) ∙ number_is (decimal n) 0 (omega arith) ∙ rw (digits_decimal decimal_model n small, digits_value-decimal decimal_model n small) (ap Some (omega arith))

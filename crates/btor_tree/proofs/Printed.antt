@@ -21,9 +21,10 @@ use Rattle.btor_tree.specs.declared.lines.Line.{Line}
 use Rattle.btor_tree.specs.declared.lines.LineOp.{LineOp}
 use Rattle.btor_tree.specs.declared.lines.LineOp.TheVariants as op
 use Rattle.btor_tree.specs.Fits.{Fits, OpFits, IsWellFormed, last_id, sort_at, width_at, width_of_sort, width_of_line, kind_at, is_state, is_init, is_next, is_constant, InitRule, GivesValue, IsSymbol}
-use Rattle.btor_tree.specs.Parts.{Parts, is_symbol, cap, is_digit, all_digits, numeral, raw_lines, line_parts}
-use Rattle.btor_tree.specs.Shapes.{Operand, Source, input, state, one, zero, ones, in_binary, Extension, uext, sext, Binding, init, next, Property, bad, constraint, output, Content, sort_content, source_content, constant_content, binding_content, property_content, unary_content, binary_content, ite_content, slice_content, extension_content, Shape, source_text, binding_text, property_text, extension_text, unary_text, binary_text, minus, plus, operand_of, symbol_parts, SpellsContent}
-use Rattle.btor_tree.specs.Resolving.{place_of_id, sort_of_id, state_of_id, word_of_id, source_op, property_op, extension_op, property_takes, is_supported, binary_fits, is_in_time, filled, resolve_content}
+use Rattle.text_core.specs.Bytes.{is_digit}
+use Rattle.btor_tree.specs.Parts.{Parts, is_symbol, cap, all_digits, numeral, raw_lines, line_parts}
+use Rattle.btor_tree.specs.Shapes.{Operand, Nullary, input, state, one, zero, ones, in_binary, Extension, uext, sext, Binding, init, next, Property, bad, constraint, output, Content, sort_content, nullary_content, constant_content, binding_content, property_content, unary_content, binary_content, ite_content, slice_content, extension_content, Shape, nullary_text, binding_text, property_text, extension_text, unary_text, binary_text, minus, plus, operand_of, symbol_parts, SpellsContent}
+use Rattle.btor_tree.specs.Resolving.{place_of_id, sort_of_id, state_of_id, word_of_id, nullary_op, property_op, extension_op, property_takes, is_supported, binary_fits, is_in_time, filled, resolve_content}
 use Rattle.btor_tree.specs.Texts.{IsNext, blank, spelled, good, Reads, ends, passed, line, SpellsLines}
 use Rattle.btor_tree.specs.Printing.{id_at, operand_text, op_text, sort_parts, number_parts, printed_rest, spaced, line_text, printed}
 use Rattle.btor_tree.proofs.Numerals.{numeral_again, decimal_digits}
@@ -90,9 +91,9 @@ number before lines p k = numeral_again (id_at lines k) (p.small k)
 operand_back : (before lines : List Line) → Printing before lines → (a : Arg) → operand_of (operand_text lines a) ≡ Some (back lines a)
 operand_back before lines p a = operand_again (id_at lines a.line) a.negated (p.small a.line)
 
-source_resolves : (before lines : List Line) → Printing before lines → (k : Source) (s : ℕ) (sh : Shape) → 1 ≤ sort_at before s
-    → resolve_content before sh (source_content k (id_at lines s)) ≡ Ok (filled sh (source_op k) s [])
-source_resolves before lines p k s sh le = rw (sort_back before lines p.knows s le) refl
+nullary_resolves : (before lines : List Line) → Printing before lines → (k : Nullary) (s : ℕ) (sh : Shape) → 1 ≤ sort_at before s
+    → resolve_content before sh (nullary_content k (id_at lines s)) ≡ Ok (filled sh (nullary_op k) s [])
+nullary_resolves before lines p k s sh le = rw (sort_back before lines p.knows s le) refl
 
 property_resolves : (before lines : List Line) → Printing before lines → (k : Property) (a : Arg) (sh : Shape) → 1 ≤ width_at before a.line → property_takes k (width_at before a.line) ≡ true
     → resolve_content before sh (property_content k (back lines a)) ≡ Ok (filled sh (property_op k) 0 (a ∷ []))
@@ -152,8 +153,8 @@ next_resolves before lines p s x v sh h =
     let value : width_at before v.line ≡ width_at before x.line = omega (arith, h.3, h.4) in
     rw (sort_back before lines p.knows s h.2, state_back before lines p.knows x.line (omega (arith, h.2, h.3)) h.0, word_back before lines p.knows v.line (omega (arith, h.2, h.4)), eq-eqb (width_at before x.line) (sort_at before s) h.3, eq-eqb (width_at before v.line) (width_at before x.line) value, h.5, h.1) refl
 
-source_spells : (before lines : List Line) → Printing before lines → (k : Source) (s : ℕ) (tail : Parts) → SpellsContent (source_content k (id_at lines s)) tail (source_text k ∷ decimal (id_at lines s) ∷ tail)
-source_spells before lines p k s tail = (decimal (id_at lines s), refl, number before lines p s)
+nullary_spells : (before lines : List Line) → Printing before lines → (k : Nullary) (s : ℕ) (tail : Parts) → SpellsContent (nullary_content k (id_at lines s)) tail (nullary_text k ∷ decimal (id_at lines s) ∷ tail)
+nullary_spells before lines p k s tail = (decimal (id_at lines s), refl, number before lines p s)
 
 property_spells : (before lines : List Line) → Printing before lines → (k : Property) (a : Arg) (tail : Parts) → SpellsContent (property_content k (back lines a)) tail (property_text k ∷ operand_text lines a ∷ tail)
 property_spells before lines p k a tail = (operand_text lines a, refl, operand_back before lines p a)
@@ -194,22 +195,22 @@ abbrev shape : ℕ → Option (List ℕ) → Content → Shape
 shape id symbol content = record { id = id; content = content; symbol = symbol }
 
 -- a line of a sort alone
-again_source : (before lines : List Line) → Printing before lines → (id s : ℕ) (symbol : Option (List ℕ)) (k : Source) → 1 ≤ sort_at before s → Again before lines (record { id = id; op = source_op k; sort = s; args = []; symbol = symbol })
-again_source before lines p id s symbol input le =
-    let content = source_content input (id_at lines s) in
-    record { content = content; supported = refl; spells = source_spells before lines p input s (symbol_parts symbol); resolves = source_resolves before lines p input s (shape id symbol content) le }
-again_source before lines p id s symbol state le =
-    let content = source_content state (id_at lines s) in
-    record { content = content; supported = refl; spells = source_spells before lines p state s (symbol_parts symbol); resolves = source_resolves before lines p state s (shape id symbol content) le }
-again_source before lines p id s symbol one le =
-    let content = source_content one (id_at lines s) in
-    record { content = content; supported = refl; spells = source_spells before lines p one s (symbol_parts symbol); resolves = source_resolves before lines p one s (shape id symbol content) le }
-again_source before lines p id s symbol zero le =
-    let content = source_content zero (id_at lines s) in
-    record { content = content; supported = refl; spells = source_spells before lines p zero s (symbol_parts symbol); resolves = source_resolves before lines p zero s (shape id symbol content) le }
-again_source before lines p id s symbol ones le =
-    let content = source_content ones (id_at lines s) in
-    record { content = content; supported = refl; spells = source_spells before lines p ones s (symbol_parts symbol); resolves = source_resolves before lines p ones s (shape id symbol content) le }
+again_nullary : (before lines : List Line) → Printing before lines → (id s : ℕ) (symbol : Option (List ℕ)) (k : Nullary) → 1 ≤ sort_at before s → Again before lines (record { id = id; op = nullary_op k; sort = s; args = []; symbol = symbol })
+again_nullary before lines p id s symbol input le =
+    let content = nullary_content input (id_at lines s) in
+    record { content = content; supported = refl; spells = nullary_spells before lines p input s (symbol_parts symbol); resolves = nullary_resolves before lines p input s (shape id symbol content) le }
+again_nullary before lines p id s symbol state le =
+    let content = nullary_content state (id_at lines s) in
+    record { content = content; supported = refl; spells = nullary_spells before lines p state s (symbol_parts symbol); resolves = nullary_resolves before lines p state s (shape id symbol content) le }
+again_nullary before lines p id s symbol one le =
+    let content = nullary_content one (id_at lines s) in
+    record { content = content; supported = refl; spells = nullary_spells before lines p one s (symbol_parts symbol); resolves = nullary_resolves before lines p one s (shape id symbol content) le }
+again_nullary before lines p id s symbol zero le =
+    let content = nullary_content zero (id_at lines s) in
+    record { content = content; supported = refl; spells = nullary_spells before lines p zero s (symbol_parts symbol); resolves = nullary_resolves before lines p zero s (shape id symbol content) le }
+again_nullary before lines p id s symbol ones le =
+    let content = nullary_content ones (id_at lines s) in
+    record { content = content; supported = refl; spells = nullary_spells before lines p ones s (symbol_parts symbol); resolves = nullary_resolves before lines p ones s (shape id symbol content) le }
 
 -- a constant
 again_constant : (before lines : List Line) → Printing before lines → (id s : ℕ) (symbol : Option (List ℕ)) (c : BitVector) → IsWord c → c.width ≡ sort_at before s → Again before lines (record { id = id; op = op.Constant c; sort = s; args = []; symbol = symbol })
@@ -305,12 +306,12 @@ no_sort before lines id o s args symbol e a = subst (λ (n : ℕ). Again before 
 again : (before lines : List Line) → Printing before lines → (id s : ℕ) (o : LineOp) (args : List Arg) (symbol : Option (List ℕ)) → OpFits before s o args
     → Again before lines (record { id = id; op = o; sort = s; args = args; symbol = symbol })
 again before lines p id s (op.Sort w) args symbol h = no_args before lines id (op.Sort w) s args symbol h.3 (no_sort before lines id (op.Sort w) s [] symbol h.2 (again_sort before lines id w symbol h.0 h.1))
-again before lines p id s op.Input args symbol h = no_args before lines id op.Input s args symbol h.1 (again_source before lines p id s symbol input h.0)
-again before lines p id s op.State args symbol h = no_args before lines id op.State s args symbol h.1 (again_source before lines p id s symbol state h.0)
+again before lines p id s op.Input args symbol h = no_args before lines id op.Input s args symbol h.1 (again_nullary before lines p id s symbol input h.0)
+again before lines p id s op.State args symbol h = no_args before lines id op.State s args symbol h.1 (again_nullary before lines p id s symbol state h.0)
 again before lines p id s (op.Constant c) args symbol h = no_args before lines id (op.Constant c) s args symbol h.2 (again_constant before lines p id s symbol c h.0 h.1)
-again before lines p id s op.One args symbol h = no_args before lines id op.One s args symbol h.1 (again_source before lines p id s symbol one h.0)
-again before lines p id s op.Zero args symbol h = no_args before lines id op.Zero s args symbol h.1 (again_source before lines p id s symbol zero h.0)
-again before lines p id s op.Ones args symbol h = no_args before lines id op.Ones s args symbol h.1 (again_source before lines p id s symbol ones h.0)
+again before lines p id s op.One args symbol h = no_args before lines id op.One s args symbol h.1 (again_nullary before lines p id s symbol one h.0)
+again before lines p id s op.Zero args symbol h = no_args before lines id op.Zero s args symbol h.1 (again_nullary before lines p id s symbol zero h.0)
+again before lines p id s op.Ones args symbol h = no_args before lines id op.Ones s args symbol h.1 (again_nullary before lines p id s symbol ones h.0)
 again before lines p id s op.Init [] symbol h = absurd h
 again before lines p id s op.Init (x ∷ []) symbol h = absurd h
 again before lines p id s op.Init (x ∷ v ∷ []) symbol h = again_init before lines p id s x v symbol h.0 h.1

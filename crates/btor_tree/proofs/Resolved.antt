@@ -15,8 +15,8 @@ use Rattle.btor_tree.specs.declared.lines.LineOp.{LineOp}
 use Rattle.btor_tree.specs.declared.lines.LineOp.TheVariants as op
 use Rattle.btor_tree.specs.Fits.{Fits, OpFits, InitRule, AreEarlier, IsWellFormed, plain_arg, is_constant, last_id, sort_at, width_at, kind_at, is_state, state_value, is_init, is_next}
 use Rattle.btor_tree.specs.Parts.{Parts, line_parts}
-use Rattle.btor_tree.specs.Shapes.{Operand, Source, input, state, one, zero, ones, Extension, uext, sext, Binding, init, next, Property, bad, constraint, output, Content, sort_content, source_content, constant_content, binding_content, property_content, unary_content, binary_content, ite_content, slice_content, extension_content, unsupported_content, Shape, Spells}
-use Rattle.btor_tree.specs.Resolving.{Fault, not_supported, wide_sort, sort_clash, twice, init_late, id_order, line_ids, place_in, place_of_id, sort_of_id, state_of_id, word_of_id, at_place, owed, source_op, binding_op, property_op, extension_op, property_takes, literal_word, at_word, is_supported, binary_fits, is_first, is_in_time, filled, argument, resolve_content, resolve}
+use Rattle.btor_tree.specs.Shapes.{Operand, Nullary, input, state, one, zero, ones, Extension, uext, sext, Binding, init, next, Property, bad, constraint, output, Content, sort_content, nullary_content, constant_content, binding_content, property_content, unary_content, binary_content, ite_content, slice_content, extension_content, unsupported_content, Shape, Spells}
+use Rattle.btor_tree.specs.Resolving.{Fault, not_supported, wide_sort, sort_clash, twice, init_late, id_order, line_ids, place_in, place_of_id, sort_of_id, state_of_id, word_of_id, at_place, owed, nullary_op, binding_op, property_op, extension_op, property_takes, literal_word, at_word, is_supported, binary_fits, is_first, is_in_time, filled, argument, resolve_content, resolve}
 use Rattle.btor_tree.specs.Texts.{IsNext, blank, spelled, shapeless, broken, good, Next, Reads, ends, passed, line}
 use Rattle.btor_tree.proofs.Grows.{well_formed_push}
 use Rattle.btor_tree.proofs.Literals.{literal_is}
@@ -71,12 +71,12 @@ on_word : (before : List Line) (o : Option BitVector) (f : BitVector → Result 
 on_word before None f h = tt
 on_word before (Some c) f h = h c refl
 
-source_fits : (before : List Line) (k : Source) (i : ℕ) → 1 ≤ sort_at before i → OpFits before i (source_op k) []
-source_fits before input i le = (le, refl)
-source_fits before state i le = (le, refl)
-source_fits before one i le = (le, refl)
-source_fits before zero i le = (le, refl)
-source_fits before ones i le = (le, refl)
+nullary_fits : (before : List Line) (k : Nullary) (i : ℕ) → 1 ≤ sort_at before i → OpFits before i (nullary_op k) []
+nullary_fits before input i le = (le, refl)
+nullary_fits before state i le = (le, refl)
+nullary_fits before one i le = (le, refl)
+nullary_fits before zero i le = (le, refl)
+nullary_fits before ones i le = (le, refl)
 
 property_fits : (before : List Line) (k : Property) (a : Arg) → 1 ≤ width_at before a.line → property_takes k (width_at before a.line) ≡ true → OpFits before 0 (property_op k) (a ∷ [])
 property_fits before bad a le e = (refl, eqb-true (width_at before a.line) 1 e)
@@ -112,8 +112,8 @@ Makes before sh = (o : LineOp) (s : ℕ) (args : List Arg) → AreEarlier (lengt
 content_fits : (before : List Line) (sh : Shape) (content : Content) → Makes before sh → Good before (resolve_content before sh content)
 content_fits before sh (sort_content w) make =
     on_owed before (leb 1 w && leb w WIDEST) wide_sort (Ok (filled sh (op.Sort w) 0 [])) (λ t. let p = and_parts (leb 1 w) (leb w WIDEST) t in make (op.Sort w) 0 [] tt (leb-true 1 w p.0, leb-true w WIDEST p.1, refl, refl))
-content_fits before sh (source_content k s) make =
-    on_place before (sort_of_id before s) _ (λ i e. make (source_op k) i [] tt (source_fits before k i (sort_found before s i e)))
+content_fits before sh (nullary_content k s) make =
+    on_place before (sort_of_id before s) _ (λ i e. make (nullary_op k) i [] tt (nullary_fits before k i (sort_found before s i e)))
 content_fits before sh (constant_content k s digits) make =
     on_place before (sort_of_id before s) _ (λ i e. on_word before (literal_word k (sort_at before i) digits) _ (λ c f.
     let word = literal_is k (sort_at before i) digits c f in

@@ -9,20 +9,19 @@ use Rattle.word_core.specs.declared.kinds.Unary.{Unary}
 use Rattle.word_core.specs.declared.kinds.Binary.{Binary}
 use Rattle.word_core.specs.declared.kinds.Unary.TheVariants.{Not, Inc, Dec, Neg, RedAnd, RedOr, RedXor}
 use Rattle.word_core.specs.declared.kinds.Binary.TheVariants.{Iff, Implies, Eq, Neq, Sgt, Sgte, Slt, Slte, Ugt, Ugte, Ult, Ulte, And, Nand, Nor, Or, Xnor, Xor, Sll, Srl, Sra, Add, Sub, Mul, Udiv, Sdiv, Urem, Srem, Smod, Concat}
-use Rattle.btor_tree.specs.declared.lines.TheConstants.{GREATEST_ID}
-use Rattle.btor_tree.specs.Fits.{IsSymbol}
+use Rattle.btor_tree.specs.Fits.{IsSymbol, greatest_id}
 use Rattle.btor_tree.specs.Parts.{Parts, numeral, is_symbol}
 use Rattle.btor_tree.proofs.PartLaws.{symbol_test, symbol_tested}
-use Rattle.btor_tree.specs.Shapes.{Operand, Source, input, state, one, zero, ones, Base, in_binary, in_decimal, in_hex, Extension, uext, sext, Binding, init, next, Property, bad, constraint, output, Word, sort_word, source_word, base_word, binding_word, property_word, unary_word, binary_word, ite_word, slice_word, extension_word, word_text, is_unsupported, StartsUnsupported, is_literal, base_text, extension_text, Content, sort_content, source_content, constant_content, binding_content, property_content, unary_content, binary_content, ite_content, slice_content, extension_content, unsupported_content, Shape, source_text, binding_text, property_text, unary_text, binary_text, operand_of, symbol_parts, SpellsContent, Spells}
-use Rattle.btor_tree.specs.Reading.{words, word_among, word_of, Read, bitvec_args, sort_args, source_args, constant_args, binding_args, property_args, unary_args, binary_args, ite_args, slice_args, extension_args, content_at, content_of, shaped, numbered, shape_of}
+use Rattle.btor_tree.specs.Shapes.{Operand, Nullary, input, state, one, zero, ones, Base, in_binary, in_decimal, in_hex, Extension, uext, sext, Binding, init, next, Property, bad, constraint, output, Word, sort_word, nullary_word, base_word, binding_word, property_word, unary_word, binary_word, ite_word, slice_word, extension_word, word_text, is_unsupported, StartsUnsupported, is_literal, base_text, extension_text, Content, sort_content, nullary_content, constant_content, binding_content, property_content, unary_content, binary_content, ite_content, slice_content, extension_content, unsupported_content, Shape, nullary_text, binding_text, property_text, unary_text, binary_text, operand_of, symbol_parts, SpellsContent, Spells}
+use Rattle.btor_tree.specs.Reading.{words, word_among, word_of, Read, bitvec_args, sort_args, nullary_args, constant_args, binding_args, property_args, unary_args, binary_args, ite_args, slice_args, extension_args, content_at, content_of, shaped, numbered, shape_of}
 
 word_reads : (w : Word) → word_of (word_text w) ≡ Some w
 word_reads sort_word = refl
-word_reads (source_word input) = refl
-word_reads (source_word state) = refl
-word_reads (source_word one) = refl
-word_reads (source_word zero) = refl
-word_reads (source_word ones) = refl
+word_reads (nullary_word input) = refl
+word_reads (nullary_word state) = refl
+word_reads (nullary_word one) = refl
+word_reads (nullary_word zero) = refl
+word_reads (nullary_word ones) = refl
 word_reads (base_word in_binary) = refl
 word_reads (base_word in_decimal) = refl
 word_reads (base_word in_hex) = refl
@@ -76,11 +75,11 @@ word_reads (extension_word sext) = refl
 -- no word of a line is left out
 word_supported : (w : Word) → is_unsupported (word_text w) ≡ false
 word_supported sort_word = refl
-word_supported (source_word input) = refl
-word_supported (source_word state) = refl
-word_supported (source_word one) = refl
-word_supported (source_word zero) = refl
-word_supported (source_word ones) = refl
+word_supported (nullary_word input) = refl
+word_supported (nullary_word state) = refl
+word_supported (nullary_word one) = refl
+word_supported (nullary_word zero) = refl
+word_supported (nullary_word ones) = refl
 word_supported (base_word in_binary) = refl
 word_supported (base_word in_decimal) = refl
 word_supported (base_word in_hex) = refl
@@ -144,7 +143,7 @@ unsupported_reads (w ∷ (k ∷ more)) tail e (inr h) =
 
 content_reads : (content : Content) (tail ps : Parts) → SpellsContent content tail ps → content_of ps ≡ Some (content, tail)
 content_reads (sort_content w) tail ps h = behind sort_word _ ps h.1 ∙ ap (option_map (λ n. (sort_content n, tail))) h.2
-content_reads (source_content k s) tail ps h = behind (source_word k) _ ps h.1 ∙ ap (option_map (λ n. (source_content k n, tail))) h.2
+content_reads (nullary_content k s) tail ps h = behind (nullary_word k) _ ps h.1 ∙ ap (option_map (λ n. (nullary_content k n, tail))) h.2
 content_reads (constant_content k s digits) tail ps h =
     behind (base_word k) _ ps h.1 ∙ cond-true (is_literal k digits) _ _ h.3 ∙ ap (option_map (λ s. (constant_content k s digits, tail))) h.2
 content_reads (binding_content k s x v) tail ps h =
@@ -186,7 +185,7 @@ symbol_reads n content (Some s) h = cond-true (is_symbol s) _ _ (symbol_test s h
 
 pub shape_reads : (sh : Shape) (ps : Parts) → Spells sh ps → shape_of ps ≡ Some sh
 shape_reads sh ps h =
-    ap shape_of h.splits ∙ ap (option_and_then (numbered (content_of h.rest))) h.id_is ∙ cond-true (ltb 0 sh.id && leb sh.id GREATEST_ID) _ _ (and_from (ltb 0 sh.id) (leb sh.id GREATEST_ID) (lt-ltb 0 sh.id h.first) (le-leb sh.id GREATEST_ID h.small))
+    ap shape_of h.splits ∙ ap (option_and_then (numbered (content_of h.rest))) h.id_is ∙ cond-true (ltb 0 sh.id && leb sh.id greatest_id) _ _ (and_from (ltb 0 sh.id) (leb sh.id greatest_id) (lt-ltb 0 sh.id h.first) (le-leb sh.id greatest_id h.small))
     ∙ ap (option_and_then (shaped sh.id)) (content_reads sh.content (symbol_parts sh.symbol) h.rest h.content) ∙ symbol_reads sh.id sh.content sh.symbol h.symbol
 
 -- and the other way round
@@ -219,13 +218,13 @@ sort_from text (k ∷ more) e =
     cond_both (bytes_eq k (codes "array")) (Some (unsupported_content, [])) (bitvec_args k more) (OnRead (text ∷ (k ∷ more)))
     (λ t. (refl, inr (e, (bytes_eq-Decides k (codes "array")).0 t))) (λ _. bitvec_from text k more e)
 
-source_at : (k : Source) (text x : List ℕ) (tail : Parts) (o : Option ℕ) → numeral x ≡ o → text ≡ source_text k → OnRead (text ∷ (x ∷ tail)) (option_map (λ s. (source_content k s, tail)) o)
-source_at k text x tail None e f = tt
-source_at k text x tail (Some s) e f = (x, ap (λ w. w ∷ (x ∷ tail)) f, e)
+nullary_at : (k : Nullary) (text x : List ℕ) (tail : Parts) (o : Option ℕ) → numeral x ≡ o → text ≡ nullary_text k → OnRead (text ∷ (x ∷ tail)) (option_map (λ s. (nullary_content k s, tail)) o)
+nullary_at k text x tail None e f = tt
+nullary_at k text x tail (Some s) e f = (x, ap (λ w. w ∷ (x ∷ tail)) f, e)
 
-source_from : (k : Source) (text : List ℕ) (args : Parts) → text ≡ source_text k → OnRead (text ∷ args) (source_args k args)
-source_from k text [] e = tt
-source_from k text (x ∷ tail) e = source_at k text x tail (numeral x) refl e
+nullary_from : (k : Nullary) (text : List ℕ) (args : Parts) → text ≡ nullary_text k → OnRead (text ∷ args) (nullary_args k args)
+nullary_from k text [] e = tt
+nullary_from k text (x ∷ tail) e = nullary_at k text x tail (numeral x) refl e
 
 constant_at : (k : Base) (text a digits : List ℕ) (tail : Parts) (o : Option ℕ) → numeral a ≡ o → text ≡ base_text k → is_literal k digits ≡ true
     → OnRead (text ∷ (a ∷ (digits ∷ tail))) (option_map (λ s. (constant_content k s digits, tail)) o)
@@ -329,7 +328,7 @@ extension_from k text (a ∷ (b ∷ (c ∷ tail))) e = extension_at k text a b c
 
 args_from : (w : Word) (text : List ℕ) (args : Parts) → text ≡ word_text w → OnRead (text ∷ args) (content_at args w)
 args_from sort_word text args e = sort_from text args e
-args_from (source_word k) text args e = source_from k text args e
+args_from (nullary_word k) text args e = nullary_from k text args e
 args_from (base_word k) text args e = constant_from k text args e
 args_from (binding_word k) text args e = binding_from k text args e
 args_from (property_word k) text args e = property_from k text args e
@@ -353,22 +352,22 @@ abbrev OnShape : Parts → Option Shape → Type 0
 OnShape ps None = Unit {0}
 OnShape ps (Some sh) = Spells sh ps
 
-shaped_from : (i : List ℕ) (rest : Parts) (n : ℕ) (content : Content) (tail : Parts) → numeral i ≡ Some n → 0 < n → n ≤ GREATEST_ID → SpellsContent content tail rest → OnShape (i ∷ rest) (shaped n (content, tail))
+shaped_from : (i : List ℕ) (rest : Parts) (n : ℕ) (content : Content) (tail : Parts) → numeral i ≡ Some n → 0 < n → n ≤ greatest_id → SpellsContent content tail rest → OnShape (i ∷ rest) (shaped n (content, tail))
 shaped_from i rest n content [] e a b h = record { id_part = i; rest = rest; splits = refl; id_is = e; first = a; small = b; content = h; symbol = tt }
 shaped_from i rest n content (s ∷ []) e a b h =
     cond_both (is_symbol s) (Some (record { id = n; content = content; symbol = Some s })) None (OnShape (i ∷ rest))
     (λ t. record { id_part = i; rest = rest; splits = refl; id_is = e; first = a; small = b; content = h; symbol = symbol_tested s t }) (λ _. tt)
 shaped_from i rest n content (s ∷ (t ∷ more)) e a b h = tt
 
-read_from : (i : List ℕ) (rest : Parts) (n : ℕ) (r : Read) → numeral i ≡ Some n → 0 < n → n ≤ GREATEST_ID → OnRead rest r → OnShape (i ∷ rest) (option_and_then (shaped n) r)
+read_from : (i : List ℕ) (rest : Parts) (n : ℕ) (r : Read) → numeral i ≡ Some n → 0 < n → n ≤ greatest_id → OnRead rest r → OnShape (i ∷ rest) (option_and_then (shaped n) r)
 read_from i rest n None e a b h = tt
 read_from i rest n (Some (content, tail)) e a b h = shaped_from i rest n content tail e a b h
 
 number_from : (i : List ℕ) (rest : Parts) (o : Option ℕ) → numeral i ≡ o → OnShape (i ∷ rest) (option_and_then (numbered (content_of rest)) o)
 number_from i rest None e = tt
 number_from i rest (Some n) e =
-    cond_both (ltb 0 n && leb n GREATEST_ID) (option_and_then (shaped n) (content_of rest)) None (OnShape (i ∷ rest))
-    (λ t. let p = and_parts (ltb 0 n) (leb n GREATEST_ID) t in read_from i rest n (content_of rest) e (ltb-true 0 n p.0) (leb-true n GREATEST_ID p.1) (content_from rest)) (λ _. tt)
+    cond_both (ltb 0 n && leb n greatest_id) (option_and_then (shaped n) (content_of rest)) None (OnShape (i ∷ rest))
+    (λ t. let p = and_parts (ltb 0 n) (leb n greatest_id) t in read_from i rest n (content_of rest) e (ltb-true 0 n p.0) (leb-true n greatest_id p.1) (content_from rest)) (λ _. tt)
 
 shape_there : (ps : Parts) → OnShape ps (shape_of ps)
 shape_there [] = tt

@@ -1,7 +1,8 @@
 -- Lines, parts and numbers of a text, byte by byte.
 use Rattle.std.specs.Prelude.{◌≡◌, ◌==◌, ◌+◌, ◌-◌, ◌*◌, ℕ, min, if◌then◌else◌, Option, Some, None, List, [], ◌∷◌}
 use Rattle.std.specs.Borrow.{Bor}
-use Rattle.btor_tree.specs.Parts.{Parts, cap, is_blank, is_digit, parts}
+use Rattle.text_core.specs.Bytes.{is_digit}
+use Rattle.btor_tree.specs.Parts.{Parts, cap, is_blank, parts}
 
 -- the length of the part that begins here
 abbrev pub part_length : List ℕ → ℕ

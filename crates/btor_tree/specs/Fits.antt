@@ -6,7 +6,6 @@ use Rattle.word_core.specs.declared.word.TheConstants.{WIDEST}
 use Rattle.word_core.specs.Words.{IsWord}
 use Rattle.word_core.specs.Table.{unary_width, BinaryFits, binary_width}
 use Rattle.btor_tree.specs.declared.args.Arg.{Arg}
-use Rattle.btor_tree.specs.declared.lines.TheConstants.{GREATEST_ID}
 use Rattle.btor_tree.specs.declared.lines.Line.{Line}
 use Rattle.btor_tree.specs.declared.lines.LineOp.{LineOp}
 use Rattle.btor_tree.specs.declared.lines.LineOp.TheVariants.{Sort, Input, State, Constant, One, Zero, Ones, Init, Next, Bad, Constraint, Output, Unary, Binary, Ite, Slice, Uext, Sext}
@@ -17,24 +16,18 @@ plain_arg i = record { line = i; negated = false }
 
 -- a fact of the only argument
 abbrev pub OnOne : List Arg → (Arg → Type 0) → Type 0
-OnOne [] P = ⊥
 OnOne (a ∷ []) P = P a
-OnOne (a ∷ b ∷ more) P = ⊥
+OnOne args P = ⊥
 
 -- a fact of the only two arguments
 abbrev pub OnTwo : List Arg → (Arg → Arg → Type 0) → Type 0
-OnTwo [] P = ⊥
-OnTwo (a ∷ []) P = ⊥
 OnTwo (a ∷ b ∷ []) P = P a b
-OnTwo (a ∷ b ∷ c ∷ more) P = ⊥
+OnTwo args P = ⊥
 
 -- a fact of the only three arguments
 abbrev pub OnThree : List Arg → (Arg → Arg → Arg → Type 0) → Type 0
-OnThree [] P = ⊥
-OnThree (a ∷ []) P = ⊥
-OnThree (a ∷ b ∷ []) P = ⊥
 OnThree (a ∷ b ∷ c ∷ []) P = P a b c
-OnThree (a ∷ b ∷ c ∷ d ∷ more) P = ⊥
+OnThree args P = ⊥
 
 -- the width that a sort line gives, or 0 at other lines
 abbrev pub sort_width : LineOp → ℕ
@@ -44,23 +37,12 @@ sort_width op = 0
 -- does a line of this kind have a word?
 abbrev pub has_word : LineOp → Bool
 has_word (Sort w) = false
-has_word Input = true
-has_word State = true
-has_word (Constant c) = true
-has_word One = true
-has_word Zero = true
-has_word Ones = true
 has_word Init = false
 has_word Next = false
 has_word Bad = false
 has_word Constraint = false
 has_word Output = false
-has_word (Unary op) = true
-has_word (Binary op) = true
-has_word Ite = true
-has_word (Slice high low) = true
-has_word (Uext n) = true
-has_word (Sext n) = true
+has_word op = true
 
 abbrev pub is_input : LineOp → Bool
 is_input Input = true
@@ -125,10 +107,8 @@ width_at lines i = width_of_line lines (slice_get lines i)
 
 -- the value that a line of arguments `state value` gives to a state
 abbrev pub value_for : List Arg → ℕ → Option Arg
-value_for [] s = None
-value_for (x ∷ []) s = None
 value_for (x ∷ v ∷ []) s = if x.line == s then Some v else None
-value_for (x ∷ v ∷ y ∷ more) s = None
+value_for args s = None
 
 abbrev pub value_in : (LineOp → Bool) → Line → ℕ → Option Arg
 value_in kind l s = if kind l.op then value_for l.args s else None
@@ -157,15 +137,11 @@ GivesValue kind before s x v =
 abbrev pub InitRule : List Line → Arg → Arg → Type 0
 InitRule before x v = (v.line < x.line) ⊎ (kind_at is_constant before v.line ≡ true)
 
--- the number of arguments, and the sorts, fit the line's row (BTOR2, table 1)
+-- the number of arguments, and the sorts, fit the line's row (BTOR2, table 1); inputs, states and the constants one, zero and
+-- ones have a sort alone
 abbrev pub OpFits : List Line → ℕ → LineOp → List Arg → Type 0
 OpFits before s (Sort w) args = (1 ≤ w) × (w ≤ WIDEST) × (s ≡ 0) × (args ≡ [])
-OpFits before s Input args = (1 ≤ sort_at before s) × (args ≡ [])
-OpFits before s State args = (1 ≤ sort_at before s) × (args ≡ [])
 OpFits before s (Constant c) args = IsWord c × (c.width ≡ sort_at before s) × (args ≡ [])
-OpFits before s One args = (1 ≤ sort_at before s) × (args ≡ [])
-OpFits before s Zero args = (1 ≤ sort_at before s) × (args ≡ [])
-OpFits before s Ones args = (1 ≤ sort_at before s) × (args ≡ [])
 OpFits before s Init args = OnTwo args (λ x v. GivesValue is_init before s x v × InitRule before x v)
 OpFits before s Next args = OnTwo args (λ x v. GivesValue is_next before s x v)
 OpFits before s Bad args = (s ≡ 0) × OnOne args (λ a. width_at before a.line ≡ 1)
@@ -181,6 +157,7 @@ OpFits before s (Slice high low) args =
     (1 ≤ sort_at before s) × OnOne args (λ a. (low ≤ high) × (high < width_at before a.line) × (high - low + 1 ≡ sort_at before s))
 OpFits before s (Uext n) args = (1 ≤ sort_at before s) × OnOne args (λ a. (1 ≤ width_at before a.line) × (width_at before a.line + n ≡ sort_at before s))
 OpFits before s (Sext n) args = (1 ≤ sort_at before s) × OnOne args (λ a. (1 ≤ width_at before a.line) × (width_at before a.line + n ≡ sort_at before s))
+OpFits before s op args = (1 ≤ sort_at before s) × (args ≡ [])
 
 -- a byte of a symbol: no tab, line end, CR, blank or `;`
 abbrev pub IsSymbolByte : ℕ → Type 0
@@ -196,6 +173,10 @@ pub record Suits (before : List Line) (op : LineOp) (sort : ℕ) (args : List Ar
   pub sorts : OpFits before sort op args
   pub symbol : IfSome name IsSymbol
 
+-- the greatest id of a line, 2^31 - 1
+abbrev pub greatest_id : ℕ
+greatest_id = 2147483647
+
 -- the id of the last line, or 0
 abbrev pub last_id : List Line → ℕ
 last_id [] = 0
@@ -205,7 +186,7 @@ last_id (l ∷ m ∷ ls) = last_id (m ∷ ls)
 -- a line that may follow these
 pub record Fits (before : List Line) (l : Line) : Type 0 where
   pub rises : last_id before < l.id
-  pub small : l.id ≤ GREATEST_ID
+  pub small : l.id ≤ greatest_id
   pub body : Suits before l.op l.sort l.args l.symbol
 
 -- each line may follow the ones before it

@@ -7,7 +7,7 @@ use Rattle.word_core.specs.declared.kinds.Unary.TheVariants.{Not}
 use Rattle.btor_tree.specs.declared.args.Arg.{Arg}
 use Rattle.btor_tree.specs.declared.lines.Line.{Line}
 use Rattle.btor_tree.specs.declared.lines.LineOp.{LineOp}
-use Rattle.btor_tree.specs.declared.lines.LineOp.TheVariants.{Sort, Input, State, Constant, One, Zero, Ones, Init, Next, Bad, Constraint, Output, Unary, Binary, Ite, Slice, Uext, Sext}
+use Rattle.btor_tree.specs.declared.lines.LineOp.TheVariants.{Input, State, Constant, One, Zero, Ones, Unary, Binary, Ite, Slice, Uext, Sext}
 use Rattle.btor_tree.specs.Fits.{OnOne, OnTwo, OnThree, sort_at, state_value, operands, is_init, is_next, is_bad, is_constraint, is_constant, kind_at}
 
 -- what stands at the place of a line that has no word
@@ -30,26 +30,25 @@ signed_word negated x = if negated then unary_of Not x else x
 abbrev pub operand : List BitVector → Arg → BitVector
 operand row a = signed_word a.negated (word_at row a.line)
 
+-- the word of a constant line of width w, and nothing at lines that have no word
+abbrev pub constant_word : ℕ → LineOp → BitVector
+constant_word w (Constant c) = c
+constant_word w One = record { width = w; bits = 1 }
+constant_word w Zero = record { width = w; bits = 0 }
+constant_word w Ones = record { width = w; bits = 2 ^ w - 1 }
+constant_word w op = nothing
+
 -- the equation of a line whose word is x
 abbrev pub Equation : List Line → List BitVector → ℕ → LineOp → List Arg → BitVector → Type 0
-Equation before row s (Sort w) args x = x ≡ nothing
 Equation before row s Input args x = IsWord x × (x.width ≡ sort_at before s)
 Equation before row s State args x = IsWord x × (x.width ≡ sort_at before s)
-Equation before row s (Constant c) args x = x ≡ c
-Equation before row s One args x = x ≡ record { width = sort_at before s; bits = 1 }
-Equation before row s Zero args x = x ≡ record { width = sort_at before s; bits = 0 }
-Equation before row s Ones args x = x ≡ record { width = sort_at before s; bits = 2 ^ sort_at before s - 1 }
-Equation before row s Init args x = x ≡ nothing
-Equation before row s Next args x = x ≡ nothing
-Equation before row s Bad args x = x ≡ nothing
-Equation before row s Constraint args x = x ≡ nothing
-Equation before row s Output args x = x ≡ nothing
 Equation before row s (Unary op) args x = OnOne args (λ a. x ≡ unary_of op (operand row a))
 Equation before row s (Binary op) args x = OnTwo args (λ a b. x ≡ binary_of op (operand row a) (operand row b))
 Equation before row s Ite args x = OnThree args (λ c a b. x ≡ ite_of (operand row c) (operand row a) (operand row b))
 Equation before row s (Slice high low) args x = OnOne args (λ a. x ≡ slice_of (operand row a) high low)
 Equation before row s (Uext n) args x = OnOne args (λ a. x ≡ uext_of (operand row a) n)
 Equation before row s (Sext n) args x = OnOne args (λ a. x ≡ sext_of (operand row a) n)
+Equation before row s op args x = x ≡ constant_word (sort_at before s) op
 
 -- what is given fits, where it is read
 abbrev pub GivenFits : List Line → ℕ → LineOp → BitVector → Type 0
@@ -65,14 +64,6 @@ pub record FreeFits (lines : List Line) (free : ℕ → BitVector) : Type 0 wher
 abbrev pub read_or : Option Arg → (Arg → BitVector) → BitVector → BitVector
 read_or None read x = x
 read_or (Some a) read x = read a
-
--- the word of a constant line of width w
-abbrev pub constant_word : ℕ → LineOp → BitVector
-constant_word w One = record { width = w; bits = 1 }
-constant_word w Zero = record { width = w; bits = 0 }
-constant_word w Ones = record { width = w; bits = 2 ^ w - 1 }
-constant_word w (Constant c) = c
-constant_word w op = nothing
 
 abbrev pub constant_of : List Line → Option Line → BitVector
 constant_of lines None = nothing

@@ -1,5 +1,7 @@
 -- Lines, parts and numerals of a BTOR2 text, of lines or of a witness (BTOR2, CAV 2018, section 2 and figure 1).
-use Rattle.std.specs.Prelude.{◌==◌, ◌+◌, ◌-◌, ◌*◌, ◌^◌, ℕ, min, Bool, true, false, not, ◌&&◌, ◌||◌, nat_le, if◌then◌else◌, Option, Some, None, List, [], ◌∷◌}
+use Rattle.std.specs.Prelude.{◌==◌, ◌+◌, ◌-◌, ◌*◌, ◌^◌, ℕ, zero, suc, min, Bool, true, false, not, ◌&&◌, ◌||◌, if◌then◌else◌, Option, Some, None, List, [], ◌∷◌, length}
+use Rattle.text_core.specs.Bytes.{is_digit}
+use Rattle.text_core.specs.declared.place.Place.{Place}
 
 -- a list of byte lists
 abbrev pub Parts : Type 0
@@ -14,6 +16,16 @@ onto_line b (l ∷ ls) = (b ∷ l) ∷ ls
 abbrev pub raw_lines : List ℕ → Parts
 raw_lines [] = [] ∷ []
 raw_lines (b ∷ bs) = if b == 10 then ([] ∷ raw_lines bs) else onto_line b (raw_lines bs)
+
+-- how many bytes stand before the line behind n lines, each with its byte 10
+abbrev pub bytes_before : ℕ → Parts → ℕ
+bytes_before zero lines = 0
+bytes_before (suc n) [] = 0
+bytes_before (suc n) (line ∷ lines) = length line + 1 + bytes_before n lines
+
+-- the place of a line of a text, by its number from 1 on: its first byte, or where that would stand in an empty line
+abbrev pub line_place : List ℕ → ℕ → Place
+line_place text n = record { line = n; column = 1; offset = bytes_before (n - 1) (raw_lines text) }
 
 -- a line without its comment, which `;` begins, and without byte 13
 abbrev pub clean : List ℕ → List ℕ
@@ -57,10 +69,7 @@ parts (b ∷ bs) = if is_blank b then parts bs else onto_part b (ends_part bs) (
 abbrev pub line_parts : List ℕ → Parts
 line_parts raw = parts (clean raw)
 
--- a decimal digit
-abbrev pub is_digit : ℕ → Bool
-is_digit b = nat_le 48 b && nat_le b 57
-
+-- decimal digits alone
 abbrev pub all_digits : List ℕ → Bool
 all_digits [] = true
 all_digits (b ∷ bs) = is_digit b && all_digits bs

@@ -46,23 +46,11 @@ op_text (Sext n) = codes "sext"
 -- what stands between the word of a line and its arguments: the id of its sort, in most lines, and the digits of a constant
 abbrev pub sort_parts : List Line → LineOp → ℕ → Parts
 sort_parts lines (Sort w) s = codes "bitvec" ∷ decimal w ∷ []
-sort_parts lines Input s = decimal (id_at lines s) ∷ []
-sort_parts lines State s = decimal (id_at lines s) ∷ []
 sort_parts lines (Constant c) s = decimal (id_at lines s) ∷ binary_digits c.width c.bits ∷ []
-sort_parts lines One s = decimal (id_at lines s) ∷ []
-sort_parts lines Zero s = decimal (id_at lines s) ∷ []
-sort_parts lines Ones s = decimal (id_at lines s) ∷ []
-sort_parts lines Init s = decimal (id_at lines s) ∷ []
-sort_parts lines Next s = decimal (id_at lines s) ∷ []
 sort_parts lines Bad s = []
 sort_parts lines Constraint s = []
 sort_parts lines Output s = []
-sort_parts lines (Unary op) s = decimal (id_at lines s) ∷ []
-sort_parts lines (Binary op) s = decimal (id_at lines s) ∷ []
-sort_parts lines Ite s = decimal (id_at lines s) ∷ []
-sort_parts lines (Slice high low) s = decimal (id_at lines s) ∷ []
-sort_parts lines (Uext n) s = decimal (id_at lines s) ∷ []
-sort_parts lines (Sext n) s = decimal (id_at lines s) ∷ []
+sort_parts lines op s = decimal (id_at lines s) ∷ []
 
 -- the numbers behind the operand of a line
 abbrev pub number_parts : LineOp → Parts

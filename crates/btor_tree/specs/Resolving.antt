@@ -12,7 +12,7 @@ use Rattle.btor_tree.specs.declared.lines.Line.{Line}
 use Rattle.btor_tree.specs.declared.lines.LineOp.{LineOp}
 use Rattle.btor_tree.specs.declared.lines.LineOp.TheVariants as op
 use Rattle.btor_tree.specs.Fits.{plain_arg, is_constant, last_id, sort_at, width_at, kind_at, is_state, state_value, is_init, is_next}
-use Rattle.btor_tree.specs.Shapes.{Operand, Source, input, state, one, zero, ones, Base, in_binary, in_decimal, in_hex, Extension, uext, sext, Binding, init, next, Property, bad, constraint, output, is_negative, magnitude_of, Content, sort_content, source_content, constant_content, binding_content, property_content, unary_content, binary_content, ite_content, slice_content, extension_content, unsupported_content, Shape}
+use Rattle.btor_tree.specs.Shapes.{Operand, Nullary, input, state, one, zero, ones, Base, in_binary, in_decimal, in_hex, Extension, uext, sext, Binding, init, next, Property, bad, constraint, output, is_negative, magnitude_of, Content, sort_content, nullary_content, constant_content, binding_content, property_content, unary_content, binary_content, ite_content, slice_content, extension_content, unsupported_content, Shape}
 
 -- The rule that a line breaks, in the order in which the rules of one line are tested: no shape fits (B1), the
 -- word is left out (B5), the id doesn't rise (B2), a width isn't 1 to `WIDEST` (B6), a line isn't there (B3), widths don't fit (B4), a state has a second init
@@ -63,12 +63,12 @@ owed true fault r = r
 owed false fault r = Err fault
 
 -- what the lines of each class do
-abbrev pub source_op : Source → LineOp
-source_op input = op.Input
-source_op state = op.State
-source_op one = op.One
-source_op zero = op.Zero
-source_op ones = op.Ones
+abbrev pub nullary_op : Nullary → LineOp
+nullary_op input = op.Input
+nullary_op state = op.State
+nullary_op one = op.One
+nullary_op zero = op.Zero
+nullary_op ones = op.Ones
 
 abbrev pub binding_op : Binding → LineOp
 binding_op init = op.Init
@@ -133,7 +133,7 @@ argument a i = record { line = i; negated = a.negated }
 -- the line of a content, or the first rule that it breaks: earlier lines are there, widths fit, and the rules of states
 abbrev pub resolve_content : List Line → Shape → Content → Result Line Fault
 resolve_content before sh (sort_content w) = owed (nat_le 1 w && nat_le w WIDEST) wide_sort (Ok (filled sh (op.Sort w) 0 []))
-resolve_content before sh (source_content k s) = at_place (sort_of_id before s) (λ i. Ok (filled sh (source_op k) i []))
+resolve_content before sh (nullary_content k s) = at_place (sort_of_id before s) (λ i. Ok (filled sh (nullary_op k) i []))
 resolve_content before sh (constant_content k s digits) =
     at_place (sort_of_id before s) (λ i. at_word (literal_word k (sort_at before i) digits) (λ c. Ok (filled sh (op.Constant c) i [])))
 resolve_content before sh (binding_content k s x v) =

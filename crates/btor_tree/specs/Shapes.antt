@@ -6,8 +6,7 @@ use Rattle.word_core.specs.declared.kinds.Binary.{Binary}
 use Rattle.word_core.specs.declared.kinds.Binary.TheVariants.{Iff, Implies, Eq, Neq, Sgt, Sgte, Slt, Slte, Ugt, Ugte, Ult, Ulte, And, Nand, Nor, Or, Xnor, Xor, Sll, Srl, Sra, Add, Sub, Mul, Udiv, Sdiv, Urem, Srem, Smod, Concat}
 use Rattle.std.specs.Str.{bytes_eq}
 use Rattle.word_core.specs.Digits.{digit_number}
-use Rattle.btor_tree.specs.declared.lines.TheConstants.{GREATEST_ID}
-use Rattle.btor_tree.specs.Fits.{IsSymbol}
+use Rattle.btor_tree.specs.Fits.{IsSymbol, greatest_id}
 use Rattle.btor_tree.specs.Parts.{Parts, numeral}
 
 -- an operand: a line by its id, or the bitwise not of its word
@@ -16,12 +15,12 @@ pub record Operand : Type 0 where
   pub negated : Bool
 
 -- the lines of a sort alone
-pub data Source : Type 0 where
-  input : Source
-  state : Source
-  one : Source
-  zero : Source
-  ones : Source
+pub data Nullary : Type 0 where
+  input : Nullary
+  state : Nullary
+  one : Nullary
+  zero : Nullary
+  ones : Nullary
 
 -- the lines of a sort and digits
 pub data Base : Type 0 where
@@ -48,7 +47,7 @@ pub data Property : Type 0 where
 -- the word of a line, its second part
 pub data Word : Type 0 where
   sort_word : Word
-  source_word : Source → Word
+  nullary_word : Nullary → Word
   base_word : Base → Word
   binding_word : Binding → Word
   property_word : Property → Word
@@ -59,12 +58,12 @@ pub data Word : Type 0 where
   extension_word : Extension → Word
 
 -- the words as they are written
-abbrev pub source_text : Source → List ℕ
-source_text input = codes "input"
-source_text state = codes "state"
-source_text one = codes "one"
-source_text zero = codes "zero"
-source_text ones = codes "ones"
+abbrev pub nullary_text : Nullary → List ℕ
+nullary_text input = codes "input"
+nullary_text state = codes "state"
+nullary_text one = codes "one"
+nullary_text zero = codes "zero"
+nullary_text ones = codes "ones"
 
 abbrev pub base_text : Base → List ℕ
 base_text in_binary = codes "const"
@@ -128,7 +127,7 @@ binary_text Concat = codes "concat"
 -- the word as it is written
 abbrev pub word_text : Word → List ℕ
 word_text sort_word = codes "sort"
-word_text (source_word k) = source_text k
+word_text (nullary_word k) = nullary_text k
 word_text (base_word k) = base_text k
 word_text (binding_word k) = binding_text k
 word_text (property_word k) = property_text k
@@ -190,7 +189,7 @@ is_literal in_hex text = are_digits 16 text
 -- left out
 pub data Content : Type 0 where
   sort_content : ℕ → Content
-  source_content : Source → ℕ → Content
+  nullary_content : Nullary → ℕ → Content
   constant_content : Base → ℕ → List ℕ → Content
   binding_content : Binding → ℕ → ℕ → Operand → Content
   property_content : Property → Operand → Content
@@ -228,7 +227,7 @@ symbol_parts (Some s) = s ∷ []
 -- Parts say this content, with the tail behind it. A sort, and the state of init and next, stand without `-`.
 abbrev pub SpellsContent : Content → Parts → Parts → Type 0
 SpellsContent (sort_content w) tail ps = (x : List ℕ) × (ps ≡ codes "sort" ∷ (codes "bitvec" ∷ (x ∷ tail))) × (numeral x ≡ Some w)
-SpellsContent (source_content k s) tail ps = (x : List ℕ) × (ps ≡ source_text k ∷ (x ∷ tail)) × (numeral x ≡ Some s)
+SpellsContent (nullary_content k s) tail ps = (x : List ℕ) × (ps ≡ nullary_text k ∷ (x ∷ tail)) × (numeral x ≡ Some s)
 SpellsContent (constant_content k s digits) tail ps =
     (x : List ℕ) × (ps ≡ base_text k ∷ (x ∷ (digits ∷ tail))) × (numeral x ≡ Some s) × (is_literal k digits ≡ true)
 SpellsContent (binding_content k s x v) tail ps =
@@ -253,6 +252,6 @@ pub record Spells (sh : Shape) (ps : Parts) : Type 0 where
   pub splits : ps ≡ id_part ∷ rest
   pub id_is : numeral id_part ≡ Some sh.id
   pub first : 0 < sh.id
-  pub small : sh.id ≤ GREATEST_ID
+  pub small : sh.id ≤ greatest_id
   pub content : SpellsContent sh.content (symbol_parts sh.symbol) rest
   pub symbol : IfSome sh.symbol IsSymbol

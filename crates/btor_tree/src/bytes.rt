@@ -1,13 +1,9 @@
 // Lines, parts and numbers, which the texts of lines and of witnesses share.
 ghost use Rattle.std.specs.Prelude.{◌≡◌, ◌≤◌, length};
-ghost use Rattle.btor_tree.specs.Parts.{is_digit, is_blank, numeral, parts};
+ghost use Rattle.btor_tree.specs.Parts.{is_blank, numeral, parts};
 ghost use Rattle.btor_tree.specs.Bytes.{number_after, part_length, line_length, IsFirstPart};
 
-fn is_digit(b: u8) -> bool
-    ensures { result ≡ is_digit b }
-{
-    b >= b'0' && b <= b'9'
-}
+use text_core::is_digit;
 
 fn is_blank(b: u8) -> bool
     ensures { result ≡ is_blank b }

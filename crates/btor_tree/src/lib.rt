@@ -13,5 +13,5 @@ pub use args::{Arg, Args, one_arg, plain_arg, three_args, two_args};
 pub use builder::Builder;
 pub use bytes::{first_part, line_length, numeral};
 pub use laws::{no_reading, one_fault, one_reading, printed_spells, spelled_fits};
-pub use lines::{GREATEST_ID, Line, LineOp};
+pub use lines::{GREATEST_ID, Line, LineOp, has_word, sort_width};
 pub use nodes::Nodes;

@@ -44,6 +44,21 @@ pub struct Line {
     pub symbol: Option<Name>,
 }
 
+/// Does a line of this kind have a word?
+pub fn has_word(op: &LineOp) -> bool
+    ensures { result ≡ fits.has_word op.now }
+{
+    match op {
+        LineOp::Sort(_)
+        | LineOp::Init
+        | LineOp::Next
+        | LineOp::Bad
+        | LineOp::Constraint
+        | LineOp::Output => false,
+        _ => true,
+    }
+}
+
 /// The width that a sort line gives, or 0 at other lines.
 pub fn sort_width(op: &LineOp) -> u32
     ensures { result ≡ fits.sort_width op.now }

@@ -14,13 +14,11 @@ use Rattle.btor_witness.specs.declared.phase.Phase.{Phase}
 use Rattle.btor_witness.specs.declared.phase.Phase.TheVariants as phase
 use Rattle.btor_witness.specs.declared.shape.Shape.{Shape}
 use Rattle.btor_witness.specs.declared.shape.Shape.TheVariants as shape
-use Rattle.btor_witness.specs.declared.reader.TheConstants.{MOST_FRAMES, MOST_WORDS}
 use Rattle.btor_witness.specs.declared.witness.Stated.{Stated}
 use Rattle.btor_witness.specs.declared.witness.Frame.{Frame}
 use Rattle.btor_witness.specs.declared.witness.Witness.{Witness}
 use Rattle.btor_witness.specs.Bytes.{all_binary, word_of, line_parts}
-use Rattle.btor_witness.specs.declared.read.TheConstants.{MOST_BYTES}
-use Rattle.btor_witness.specs.Sizes.{Sizes, is_within, sizes_of, widths_of}
+use Rattle.btor_witness.specs.Sizes.{Sizes, is_within, sizes_of, widths_of, most_frames, most_words, most_bytes}
 use Rattle.btor_witness.specs.Shapes.{Spells}
 use Rattle.btor_witness.specs.Parts.{is_stated, with_width, stating}
 use Rattle.btor_witness.specs.Reading.{Reading, begin, moves, frames_of, with_states, with_inputs, step, new_frame}
@@ -274,15 +272,15 @@ frames_rise sizes (f ∷ fs) g h =
 within_less : (sizes : Sizes) (k n : ℕ) → k ≤ n → is_within sizes n ≡ true → is_within sizes k ≡ true
 within_less sizes k n le h =
     let lines = length sizes.states + length sizes.inputs in
-    let p = and_parts (leb n MOST_FRAMES) (leb (n * lines) MOST_WORDS) h in
+    let p = and_parts (leb n most_frames) (leb (n * lines) most_words) h in
     let words : k * lines ≤ n * lines = mul-le-mul_right lines le in
-    and_from (leb k MOST_FRAMES) (leb (k * lines) MOST_WORDS) (le-leb k MOST_FRAMES (omega (arith, le, leb-true n MOST_FRAMES p.0)))
-    (le-leb (k * lines) MOST_WORDS (omega (arith, words, leb-true (n * lines) MOST_WORDS p.1)))
+    and_from (leb k most_frames) (leb (k * lines) most_words) (le-leb k most_frames (omega (arith, le, leb-true n most_frames p.0)))
+    (le-leb (k * lines) most_words (omega (arith, words, leb-true (n * lines) most_words p.1)))
 
 frames_few : (sizes : Sizes) (n : ℕ) → is_within sizes n ≡ true → n < cap
 frames_few sizes n h =
-    let p = and_parts (leb n MOST_FRAMES) (leb (n * (length sizes.states + length sizes.inputs)) MOST_WORDS) h in
-    omega (arith, leb-true n MOST_FRAMES p.0)
+    let p = and_parts (leb n most_frames) (leb (n * (length sizes.states + length sizes.inputs)) most_words) h in
+    omega (arith, leb-true n most_frames p.0)
 
 some_frames : (f : Frame → Frame) (fs : List Frame) → fs ≢ [] → map f fs ≢ []
 some_frames f [] some e = some refl
@@ -292,7 +290,7 @@ few_lines : (lines : List Line) (kind : LineOp → Bool) → IsWellFormed lines 
 few_lines lines kind well = omega (arith, length_widths lines kind lines, counts_small kind lines well)
 
 -- A printed witness that keeps the limits is read, with the same statements in rising order.
-pub printed_spells : (lines : List Line) (w : Witness) → IsWellFormed lines → IsWitness (sizes_of lines) w → is_within (sizes_of lines) (length w.frames) ≡ true → length (printed lines w) ≤ MOST_BYTES
+pub printed_spells : (lines : List Line) (w : Witness) → IsWellFormed lines → IsWitness (sizes_of lines) w → is_within (sizes_of lines) (length w.frames) ≡ true → length (printed lines w) ≤ most_bytes
     → SpellsWitness lines (printed lines w) (rising_witness (sizes_of lines) w)
 printed_spells lines w well is within short =
     let sizes = sizes_of lines in

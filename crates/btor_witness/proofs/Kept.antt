@@ -12,13 +12,12 @@ use Rattle.btor_witness.specs.declared.phase.Phase.{Phase}
 use Rattle.btor_witness.specs.declared.phase.Phase.TheVariants as phase
 use Rattle.btor_witness.specs.declared.shape.Shape.{Shape}
 use Rattle.btor_witness.specs.declared.shape.Shape.TheVariants.{Sat, Property, Justice, States, Inputs, End, Assignment}
-use Rattle.btor_witness.specs.declared.reader.TheConstants.{MOST_FRAMES, MOST_WORDS}
 use Rattle.btor_witness.specs.declared.witness.Stated.{Stated}
 use Rattle.btor_witness.specs.declared.witness.Frame.{Frame}
 use Rattle.btor_witness.specs.declared.witness.Witness.{Witness}
 use Rattle.text_core.specs.declared.end.End.{End as WitnessEnd}
 use Rattle.btor_witness.specs.Bytes.{all_binary, bits_after, word_of}
-use Rattle.btor_witness.specs.Sizes.{Sizes, is_within}
+use Rattle.btor_witness.specs.Sizes.{Sizes, is_within, most_frames, most_words}
 use Rattle.btor_witness.specs.Shapes.{Spells}
 use Rattle.btor_witness.specs.Parts.{is_stated, with_word, with_width, stating}
 use Rattle.btor_witness.specs.Reading.{Reading, begin, Next, nothing, moves, done, bad, last_frame, frames_at, frames_of, sat_line, property_line, justice_line, new_frame, states_line, inputs_line, with_states, with_inputs, assignment_line, end_line, step}
@@ -267,7 +266,7 @@ begin_fits sizes = record {
   frames = tt;
   states = (tt, tt);
   inputs = (tt, tt);
-  within = and_from (leb 0 MOST_FRAMES) (leb (0 * (length sizes.states + length sizes.inputs)) MOST_WORDS) (le-leb 0 MOST_FRAMES (omega arith)) (le-leb (0 * (length sizes.states + length sizes.inputs)) MOST_WORDS (omega arith));
+  within = and_from (leb 0 most_frames) (leb (0 * (length sizes.states + length sizes.inputs)) most_words) (le-leb 0 most_frames (omega arith)) (le-leb (0 * (length sizes.states + length sizes.inputs)) most_words (omega arith));
 }
 
 pub text_fits : (sizes : Sizes) (text : List ℕ) (w : Witness) → ReadsText sizes text w → IsShort sizes w

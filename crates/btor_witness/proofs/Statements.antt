@@ -22,10 +22,10 @@ use Rattle.btor_witness.proofs.Tables.{value_more}
 pub value_all : (P : Stated → Type 0) (stated : List Stated) (k : ℕ) (x : BitVector) → AllByRecursion P stated → value_of stated k ≡ Some x → P (record { index = k; value = x })
 value_all P [] k x h e = absurd (none-some x e)
 value_all P (s ∷ ss) k x h e =
-    let own : Option BitVector = cond (eqb s.index k) (Some s.value) None in
+    let first : Option BitVector = cond (eqb s.index k) (Some s.value) None in
     elim (option_cases (value_of ss k)) [
       | inl n ↦
-          let here : own ≡ Some x = sym (ap (λ o. option_or o own) n) ∙ e in
+          let here : first ≡ Some x = sym (ap (λ o. option_or o first) n) ∙ e in
           elim (cases_Bool (eqb s.index k)) [
             | inl t ↦
                 let i : s.index ≡ k = eqb-true s.index k t in
@@ -33,7 +33,7 @@ value_all P (s ∷ ss) k x h e =
                 subst (λ y. P (record { index = k; value = y })) v (subst (λ n. P (record { index = n; value = s.value })) i h.0)
             | inr f ↦ absurd (none-some x (sym (cond-false (eqb s.index k) (Some s.value) None f) ∙ here))
           ]
-      | inr f ↦ value_all P ss k x h.1 (f.1 ∙ (sym (ap (λ o. option_or o own) f.1) ∙ e))
+      | inr f ↦ value_all P ss k x h.1 (f.1 ∙ (sym (ap (λ o. option_or o first) f.1) ∙ e))
     ]
 
 unstated : (stated : List Stated) (k : ℕ) → is_stated stated k ≡ false → value_of stated k ≡ None

@@ -3,6 +3,7 @@ use Rattle.std.specs.Prelude.{◌≡◌, ◌⊎◌, ℕ, Bool, true, false, List
 use Rattle.text_core.specs.declared.place.Kind.{Kind}
 use Rattle.text_core.specs.declared.place.Refusal.{Refusal}
 use Rattle.btor_tree.specs.declared.lines.Line.{Line}
+use Rattle.btor_tree.specs.Parts.{line_place}
 use Rattle.btor_witness.specs.declared.ends.LineEnd.{LineEnd}
 use Rattle.btor_witness.specs.declared.ends.LineEnd.TheVariants as end
 use Rattle.btor_witness.specs.declared.witness.Stated.{Stated}
@@ -11,11 +12,11 @@ use Rattle.text_core.specs.declared.end.End.{End}
 use Rattle.text_core.specs.declared.end.End.TheVariants.{Bad, NoMemory}
 use Rattle.btor_witness.specs.Sizes.{Sizes}
 use Rattle.btor_witness.specs.Reading.{Reading, Next, nothing, moves, done, bad}
-use Rattle.btor_witness.specs.Texts.{RefusesText, RefusesWitness, line_start}
+use Rattle.btor_witness.specs.Texts.{RefusesText, RefusesWitness}
 
--- the refusal is of this kind, at the start of this line of the text
+-- the refusal is of this kind, at the place of this line of the text
 abbrev pub IsAt : List ℕ → Refusal → Kind → ℕ → Type 0
-IsAt text refusal kind at = (refusal.kind ≡ kind) × (refusal.place ≡ line_start text at)
+IsAt text refusal kind at = (refusal.kind ≡ kind) × (refusal.place ≡ line_place text at)
 
 -- this witness, or want of memory
 abbrev pub Gives : Witness → Result Witness End → Type 0
@@ -31,7 +32,7 @@ Stops text kind at (Err NoMemory) = Unit {0}
 
 -- the refusal is the text's
 abbrev pub IsRefused : List Line → List ℕ → End → Type 0
-IsRefused lines text (Bad refusal) = RefusesWitness lines text refusal.kind refusal.place.line × (refusal.place ≡ line_start text refusal.place.line)
+IsRefused lines text (Bad refusal) = RefusesWitness lines text refusal.kind refusal.place.line × (refusal.place ≡ line_place text refusal.place.line)
 IsRefused lines text NoMemory = Unit {0}
 
 -- what a reader is seen as: what it reads against, and where it stands
@@ -61,5 +62,5 @@ Added stating new (Err end.NoMemory) = Unit {0}
 
 -- the refusal is that of a line of the text
 abbrev pub IsRefusedLine : Sizes → List ℕ → End → Type 0
-IsRefusedLine sizes text (Bad refusal) = RefusesText sizes text refusal.kind refusal.place.line × (refusal.place ≡ line_start text refusal.place.line)
+IsRefusedLine sizes text (Bad refusal) = RefusesText sizes text refusal.kind refusal.place.line × (refusal.place ≡ line_place text refusal.place.line)
 IsRefusedLine sizes text NoMemory = Unit {0}

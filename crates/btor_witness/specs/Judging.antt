@@ -40,6 +40,10 @@ FailsFirst lines j begun last stated row NotBroken =
     StatesAgree lines begun stated row × ConstraintsHold lines row × (last ≡ true) × (IsBad lines row j → ⊥)
 FailsFirst lines j begun last stated row clause = ⊥
 
+-- whatever frame a row comes after, where it is the one that the statement means
+abbrev pub OnStated : List Line → Statement → List BitVector → (Bool → Type 0) → Type 0
+OnStated lines stated row P = (begun : Bool) (before : List BitVector) → IsStatedFrame lines begun before stated row → P begun
+
 -- what is judged of statements from a step on, after a frame or from frame 0 where none has begun: the frame that the
 -- first of them means fails, or it passes and the rest is judged; where no frame is left, none has failed
 abbrev pub IsJudgedAfter : List Line → ℕ → ℕ → Bool → List BitVector → List Statement → Verdict → Type 0

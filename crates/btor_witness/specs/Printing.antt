@@ -1,5 +1,5 @@
 -- The one printed form of a witness.
-use Rattle.std.specs.Prelude.{◌≡◌, ◌≢◌, ◌==◌, ℕ, zero, suc, ◌<◌, List, [], ◌∷◌, ◌++◌, length, map, get_or, Option, Some, None, slice_get, if◌then◌else◌, codes, decimal}
+use Rattle.std.specs.Prelude.{◌≡◌, ◌≢◌, ◌==◌, ℕ, zero, suc, ◌<◌, ◌≤◌, true, false, List, [], ◌∷◌, ◌++◌, length, map, get_or, Option, Some, None, slice_get, if◌then◌else◌, codes, decimal}
 use Rattle.std.specs.Option.{option_or}
 use Rattle.std.specs.List.{flat_map, AllByRecursion}
 use Rattle.word_core.specs.Words.{BitVector, IsWord}
@@ -8,9 +8,8 @@ use Rattle.btor_tree.specs.declared.lines.Line.{Line}
 use Rattle.btor_witness.specs.declared.witness.Stated.{Stated}
 use Rattle.btor_witness.specs.declared.witness.Frame.{Frame}
 use Rattle.btor_witness.specs.declared.witness.Witness.{Witness}
-use Rattle.btor_witness.specs.Sizes.{Sizes, sizes_of}
+use Rattle.btor_witness.specs.Sizes.{Sizes, sizes_of, is_within, most_bytes}
 use Rattle.btor_witness.specs.Parts.{is_stated}
-use Rattle.std.specs.Prelude.{false}
 
 -- a word of the width that is stated for this number
 abbrev pub IsOf : List ℕ → Stated → Type 0
@@ -83,6 +82,10 @@ witness_text w = codes "sat" ++ 10 ∷ (number_line 98 w.bad ++ (frames_text 0 w
 -- the printed form for these lines
 abbrev pub printed : List Line → Witness → List ℕ
 printed lines w = witness_text (rising_witness (sizes_of lines) w)
+
+-- the witness and its printed form are within what is read
+abbrev pub IsWithinLimits : List Line → Witness → Type 0
+IsWithinLimits lines w = (is_within (sizes_of lines) (length w.frames) ≡ true) × (length (printed lines w) ≤ most_bytes)
 
 -- a statement of a number below the count
 abbrev pub IsBelow : ℕ → Stated → Type 0

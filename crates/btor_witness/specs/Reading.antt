@@ -9,7 +9,7 @@ use Rattle.btor_witness.specs.declared.shape.Shape.TheVariants.{Sat, Property, J
 use Rattle.btor_witness.specs.declared.witness.Stated.{Stated}
 use Rattle.btor_witness.specs.declared.witness.Frame.{Frame}
 use Rattle.btor_witness.specs.declared.witness.Witness.{Witness}
-use Rattle.text_core.specs.declared.kinds.witness.TheConstants.{LINE, NO_BAD, FRAME_ORDER, JUSTICE, TOO_LONG}
+use Rattle.text_core.specs.declared.place.Kind.TheVariants.{X}
 use Rattle.btor_witness.specs.Sizes.{Sizes, is_within}
 use Rattle.btor_witness.specs.Parts.{stating}
 
@@ -52,33 +52,33 @@ frames_of r = frames_at r.phase r
 -- the first line
 abbrev pub sat_line : Phase → Reading → Next
 sat_line phase.Start r = moves (record r { phase = phase.Property })
-sat_line p r = bad LINE
+sat_line p r = bad (X 1)
 
 -- the number of the bad line
 abbrev pub property_line : Sizes → ℕ → Phase → Reading → Next
-property_line sizes n phase.Property r = if nat_lt n sizes.bads then moves (record r { phase = phase.Heading; bad = n }) else bad NO_BAD
-property_line sizes n p r = bad LINE
+property_line sizes n phase.Property r = if nat_lt n sizes.bads then moves (record r { phase = phase.Heading; bad = n }) else bad (X 2)
+property_line sizes n p r = bad (X 1)
 
 -- a justice property in place of a bad line
 abbrev pub justice_line : Phase → Next
-justice_line phase.Property = bad JUSTICE
-justice_line p = bad LINE
+justice_line phase.Property = bad (X 7)
+justice_line p = bad (X 1)
 
 -- a new frame begins with this part, and frames are numbered from 0
 abbrev pub new_frame : Sizes → Phase → ℕ → Reading → Next
 new_frame sizes part n r =
-    if n == length (frames_of r) then (if is_within sizes (n + 1) then moves (record { phase = part; bad = r.bad; frames = frames_of r; states = []; inputs = [] }) else bad TOO_LONG) else bad FRAME_ORDER
+    if n == length (frames_of r) then (if is_within sizes (n + 1) then moves (record { phase = part; bad = r.bad; frames = frames_of r; states = []; inputs = [] }) else bad (X 8)) else bad (X 3)
 
 -- the states of a frame stand first
 abbrev pub states_line : Sizes → ℕ → Phase → Reading → Next
-states_line sizes n phase.Start r = bad LINE
-states_line sizes n phase.Property r = bad LINE
+states_line sizes n phase.Start r = bad (X 1)
+states_line sizes n phase.Property r = bad (X 1)
 states_line sizes n p r = new_frame sizes phase.States n r
 
 -- inputs may follow the states of the same frame
 abbrev pub inputs_line : Sizes → ℕ → Phase → Reading → Next
-inputs_line sizes n phase.Start r = bad LINE
-inputs_line sizes n phase.Property r = bad LINE
+inputs_line sizes n phase.Start r = bad (X 1)
+inputs_line sizes n phase.Property r = bad (X 1)
 inputs_line sizes n phase.States r = if n == length r.frames then moves (record r { phase = phase.Inputs }) else new_frame sizes phase.Inputs n r
 inputs_line sizes n p r = new_frame sizes phase.Inputs n r
 
@@ -96,13 +96,13 @@ with_inputs r (Err kind) = bad kind
 abbrev pub assignment_line : Sizes → ℕ → Option BitVector → Phase → Reading → Next
 assignment_line sizes i word phase.States r = with_states r (stating sizes.states r.states i word)
 assignment_line sizes i word phase.Inputs r = with_inputs r (stating sizes.inputs r.inputs i word)
-assignment_line sizes i word p r = bad LINE
+assignment_line sizes i word p r = bad (X 1)
 
 -- the end stands behind at least one frame
 abbrev pub end_line : Phase → Reading → Next
 end_line phase.States r = done (record { bad = r.bad; frames = frames_of r })
 end_line phase.Inputs r = done (record { bad = r.bad; frames = frames_of r })
-end_line p r = bad LINE
+end_line p r = bad (X 1)
 
 -- what a line of this shape does
 abbrev pub step : Sizes → Reading → Shape → Next

@@ -3,7 +3,6 @@ use Rattle.std.specs.Prelude.{ℕ, ◌+◌, ◌*◌, Bool, ◌&&◌, nat_le, Lis
 use Rattle.btor_tree.specs.declared.lines.Line.{Line}
 use Rattle.btor_tree.specs.declared.lines.LineOp.{LineOp}
 use Rattle.btor_tree.specs.Fits.{count_of, is_bad, is_state, is_input, width_of_line}
-use Rattle.btor_witness.specs.declared.reader.TheConstants.{MOST_FRAMES, MOST_WORDS}
 
 pub record Sizes : Type 0 where
   pub bads : ℕ
@@ -22,6 +21,18 @@ widths_of kind lines = widths_in lines kind lines
 abbrev pub sizes_of : List Line → Sizes
 sizes_of lines = record { bads = count_of is_bad lines; states = widths_of is_state lines; inputs = widths_of is_input lines }
 
+-- the most frames of a witness
+abbrev pub most_frames : ℕ
+most_frames = 100000
+
+-- the most that the frames of a witness times the states and inputs may be
+abbrev pub most_words : ℕ
+most_words = 4000000
+
+-- the most bytes of a witness's text
+abbrev pub most_bytes : ℕ
+most_bytes = 67108864
+
 -- may a witness have n frames? There are limits of the frames, and of the frames times the states and inputs.
 abbrev pub is_within : Sizes → ℕ → Bool
-is_within sizes n = nat_le n MOST_FRAMES && nat_le (n * (length sizes.states + length sizes.inputs)) MOST_WORDS
+is_within sizes n = nat_le n most_frames && nat_le (n * (length sizes.states + length sizes.inputs)) most_words

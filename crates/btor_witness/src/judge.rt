@@ -1,12 +1,10 @@
 // The judge.
-ghost use Rattle.std.specs.Prelude.{◌≡◌, ◌<◌, Bool, List, true, IfOk, IfSome, IfNone};
+ghost use Rattle.std.specs.Prelude.{◌≡◌, ◌<◌, true, IfOk, IfSome, IfNone};
 ghost use Rattle.text_core.specs.declared.verdict.Verdict.TheVariants.{No};
-ghost use Rattle.word_core.specs.Words.{BitVector};
 ghost use Rattle.btor_tree.specs.Fits as fits;
-ghost use Rattle.btor_frames.specs.Judged.{IsStatedFrame};
 ghost use Rattle.btor_witness.specs.Sizes.{sizes_of, widths_of};
 ghost use Rattle.btor_witness.specs.Printing.{IsPart, IsWitness};
-ghost use Rattle.btor_witness.specs.Judging.{statement_of, Passes, FailsFirst, IsJudged};
+ghost use Rattle.btor_witness.specs.Judging.{statement_of, OnStated, Passes, FailsFirst, IsJudged};
 ghost use Rattle.btor_witness.specs.Room.{RoomFits};
 
 use crate::room::Room;
@@ -43,8 +41,8 @@ fn failure(room: &Room, nodes: &Nodes, frame: &Frame, last: bool, j: u32) -> Opt
     requires begun { room.now.frames.begun ≡ true }
     requires states { IsPart (widths_of fits.is_state nodes.now) frame.now.states }
     requires there { j < fits.count_of fits.is_bad nodes.now }
-    ensures some { IfSome result (λ clause. (begun : Bool) (before : List BitVector) → IsStatedFrame nodes.now begun before (statement_of frame.now) room.now.frames.row → FailsFirst nodes.now j begun last (statement_of frame.now) room.now.frames.row clause) }
-    ensures none { IfNone result ((begun : Bool) (before : List BitVector) → IsStatedFrame nodes.now begun before (statement_of frame.now) room.now.frames.row → Passes nodes.now j begun last (statement_of frame.now) room.now.frames.row) }
+    ensures some { IfSome result (λ clause. OnStated nodes.now (statement_of frame.now) room.now.frames.row (λ begun. FailsFirst nodes.now j begun last (statement_of frame.now) room.now.frames.row clause)) }
+    ensures none { IfNone result (OnStated nodes.now (statement_of frame.now) room.now.frames.row (λ begun. Passes nodes.now j begun last (statement_of frame.now) room.now.frames.row)) }
 {
     if !room.agrees(nodes, &frame.states) {
         return Some(Clause::StateDiffers);

@@ -19,7 +19,7 @@ pub use print::print_witness;
 pub use read::{MOST_BYTES, read_witness};
 pub use reader::{MOST_FRAMES, MOST_WORDS};
 pub use unique::{
-    not_both, one_of_both, one_refusal, one_verdict, one_witness, printed_is_read,
+    not_both, one_of_both, one_refusal, one_verdict, one_witness, printed_is_read, same_refusal,
     yes_where_accepted,
 };
 pub use witness::{Frame, FrameList, Stated, Stateds, Witness, WitnessEnd};

@@ -61,8 +61,8 @@ fn put_statement(out: &mut Text, stated: &Stated) -> Result<(), NoMemory>
 fn put_statements(out: &mut Text, stated: &Stateds) -> Result<(), NoMemory>
     ensures { OnOk result (out.new ≡ out.old ++ flat_map statement_line stated.now) }
 {
-    for i in 0..stated.len() {
-        put_statement(out, stated.at(i))?;
+    for statement in stated {
+        put_statement(out, statement)?;
     }
     Ok(())
 }

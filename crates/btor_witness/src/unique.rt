@@ -1,26 +1,33 @@
 // Laws of what a text spells and of its refusal.
-ghost use Rattle.std.specs.Prelude.{◌≡◌, ◌≢◌, ◌⊎◌, ◌↔◌, ◌≤◌, ℕ, List, [], length, true};
+ghost use Rattle.std.specs.Prelude.{◌≡◌, ◌≢◌, ◌⊎◌, ◌↔◌, ℕ, List, []};
 ghost use Rattle.text_core.specs.declared.place.Kind.{Kind};
+ghost use Rattle.text_core.specs.declared.place.Refusal.{Refusal};
+ghost use Rattle.text_core.specs.declared.end.End.TheVariants.{Bad};
 ghost use Rattle.text_core.specs.declared.verdict.Verdict.{Verdict};
 ghost use Rattle.text_core.specs.declared.verdict.Verdict.TheVariants.{Yes};
 ghost use Rattle.btor_tree.specs.declared.lines.Line.{Line};
 ghost use Rattle.btor_tree.specs.Fits.{IsWellFormed};
 ghost use Rattle.btor_frames.specs.Judged.{IsAccepted};
 ghost use Rattle.btor_witness.specs.declared.witness.Witness.{Witness};
-ghost use Rattle.btor_witness.specs.declared.read.TheConstants.{MOST_BYTES};
-ghost use Rattle.btor_witness.specs.Sizes.{sizes_of, is_within};
-ghost use Rattle.btor_witness.specs.Printing.{IsWitness, printed, rising_witness};
+ghost use Rattle.btor_witness.specs.Sizes.{sizes_of};
+ghost use Rattle.btor_witness.specs.Printing.{IsWitness, IsWithinLimits, printed, rising_witness};
 ghost use Rattle.btor_witness.specs.Judging.{statements_of, IsJudged};
 ghost use Rattle.btor_witness.specs.Texts.{SpellsWitness, RefusesWitness};
+ghost use Rattle.btor_witness.specs.Answer.{IsRefused};
 
 /// A text spells one witness at most.
 pub fn one_witness()
     ensures { (lines : List Line) (text : List ℕ) (w v : Witness) → SpellsWitness lines text w → SpellsWitness lines text v → w ≡ v }
 {}
 
-/// A text has one refusal at most.
+/// A text has one kind of refusal at most, at one line.
 pub fn one_refusal()
     ensures { (lines : List Line) (text : List ℕ) (j k : Kind) (at to : ℕ) → RefusesWitness lines text j at → RefusesWitness lines text k to → (j ≡ k) × (at ≡ to) }
+{}
+
+/// A text has one refusal at most, of one kind at one place.
+pub fn same_refusal()
+    ensures { (lines : List Line) (text : List ℕ) (r s : Refusal) → IsRefused lines text (Bad r) → IsRefused lines text (Bad s) → r ≡ s }
 {}
 
 /// No text that spells a witness is refused.
@@ -35,7 +42,7 @@ pub fn one_of_both()
 
 /// A printed witness that keeps the limits is read, with the same statements in rising order.
 pub fn printed_is_read()
-    ensures { (lines : List Line) (w : Witness) → IsWellFormed lines → IsWitness (sizes_of lines) w → is_within (sizes_of lines) (length w.frames) ≡ true → length (printed lines w) ≤ MOST_BYTES → SpellsWitness lines (printed lines w) (rising_witness (sizes_of lines) w) }
+    ensures { (lines : List Line) (w : Witness) → IsWellFormed lines → IsWitness (sizes_of lines) w → IsWithinLimits lines w → SpellsWitness lines (printed lines w) (rising_witness (sizes_of lines) w) }
 {}
 
 /// A witness has one verdict at most.

@@ -33,7 +33,12 @@ fn put_set_run(
     let mut out = setting.out.sink(alloc)?;
     let mut notes = setting.notes.sink(alloc)?;
     let status = run(alloc, &setting.words, &mut shelf, &mut out, &mut notes);
-    put_number_difference(differences, "status", wanted.status, status as u64);
+    put_number_difference(
+        differences,
+        "status",
+        wanted.status,
+        u64::from(status.number()),
+    );
     put_difference(differences, "out", &wanted.out, out.bytes());
     put_difference(differences, "notes", &wanted.notes, notes.bytes());
     Ok(())
@@ -50,7 +55,12 @@ pub fn put_sure_run<F: Shelf + Drop>(
     let setting = Setting::of(alloc, files, case)?;
     let mut shelf = SureShelf::new(setting.files);
     let status = sure_run(alloc, &setting.words, &mut shelf);
-    put_number_difference(differences, "status", wanted.status, status as u64);
+    put_number_difference(
+        differences,
+        "status",
+        wanted.status,
+        u64::from(status.number()),
+    );
     Ok(())
 }
 

@@ -8,11 +8,11 @@ use Rattle.std.proofs.lemmas.List.{get_or-set_same, get_or-set_other, take_all, 
 use Rattle.std.proofs.lemmas.List.Sums.{sum_by-set}
 use Rattle.digraph.specs.declared.mark.Mark.{Mark}
 use Rattle.digraph.specs.declared.mark.Mark.TheVariants.{New, Open, Done}
-use Rattle.digraph.specs.Graph.{NodeLists, next_of, is_graph, is_in, leads, falls_from}
+use Rattle.digraph.specs.Graph.{NodeLists, next_of, is_graph, is_in, are_distinct, leads, falls_from}
 use Rattle.digraph.specs.Searching.{State, IsSearch, is_done, is_open, is_new, is_done_mark, is_open_mark, is_new_mark, is_path, fronts_done, closed, turned, taken, mark_weight, weight, SomeReturns, IsEnd, IsStep}
 use Rattle.digraph.specs.declared.search.End.{End}
 use Rattle.digraph.specs.declared.search.Step.TheVariants.{Went}
-use Rattle.digraph.proofs.Lists.{and_left, and_right, and_both, or_left, or_right, same, same_back, all_more, all_end, all_front, all_last, all_at, in_end, in_front, in_cases, at_in, all_get}
+use Rattle.digraph.proofs.Lists.{and_left, and_right, and_both, or_left, or_right, same, same_back, all_more, all_end, all_front, all_last, all_at, in_end, in_front, in_cases, at_in, all_get, bool_cases, distinct_end, distinct_front, distinct_last}
 
 -- ---- one mark more
 
@@ -37,6 +37,20 @@ not_done : (m : Mark) → is_new_mark m ≡ true → is_done_mark m ≡ true →
 not_done New h d = cc
 not_done Open h d = d
 not_done Done h d = cc
+
+not_open : (m : Mark) → is_new_mark m ≡ true → is_open_mark m ≡ true → ⊥
+not_open New h o = cc
+not_open Open h o = cc
+not_open Done h o = cc
+
+done_open : (m : Mark) → is_done_mark m ≡ true → is_open_mark m ≡ true → ⊥
+done_open New h o = cc
+done_open Open h o = cc
+done_open Done h o = cc
+
+-- what doesn't stand in a list since it can't
+off_list : (xs : List ℕ) (x : ℕ) → (is_in xs x ≡ true → ⊥) → is_in xs x ≡ false
+off_list xs x f = elim (bool_cases (is_in xs x)) [ inl t ↦ absurd (f t) | inr n ↦ n ]
 
 new_weight : (m : Mark) → is_new_mark m ≡ true → mark_weight m ≡ 2
 new_weight New h = refl
@@ -170,6 +184,7 @@ closes g s ks k n h e len d =
     let more : (j : ℕ) → is_done s.marks j ≡ true → is_done (set s.marks k Done) j ≡ true = λ j i. done_kept s.marks k j Done lm (λ x. refl) i in
     let all_done : list_all (is_done s.marks) (next_of g k) ≡ true =
     subst (λ (xs : List ℕ). list_all (is_done s.marks) xs ≡ true) (take_all n (next_of g k) (omega (arith, len))) d in
+    let once : are_distinct (ks ++ k ∷ []) ≡ true = subst (λ (p : List ℕ). are_distinct p ≡ true) e h.path_once in
     record {
       marked = length-set s.marks k Done ∙ h.marked;
       counted = length-set s.gone k n ∙ h.counted;
@@ -188,23 +203,33 @@ closes g s ks k n h e len d =
           | inr m ↦ absurd (c.0 (sym m))
         ]
       ];
+      order_done = λ j i. elim (in_cases s.order k j i) [
+        | inl m ↦ more j (h.order_done j m)
+        | inr m ↦ subst (λ (x : ℕ). is_done (set s.marks k Done) x ≡ true) m (ap is_done_mark (get_or-set_same s.marks k Done New lm))
+      ];
+      path_open = λ j i. elim (mark_cases s.marks k j Done lm) [
+        | inl c ↦ absurd (distinct_last ks k once (subst (λ (x : ℕ). is_in ks x ≡ true) c.0 i))
+        | inr c ↦ ap is_open_mark c.1 ∙ h.path_open j (subst (λ (p : List ℕ). is_in p j ≡ true) (sym e) (in_front ks k j i))
+      ];
+      order_once = distinct_end s.order k h.order_once (off_list s.order k (λ m. done_open (slice_index_or s.marks k New) (h.order_done k m) (h.path_open k (subst (λ (p : List ℕ). is_in p k ≡ true) (sym e) (in_end ks k)))));
+      path_once = distinct_front ks k once;
       falls = falls_end g [] s.order k h.falls (all_more (is_done s.marks) (is_in s.order) h.done (next_of g k) all_done);
       path = path_front g ks k (subst (λ (p : List ℕ). is_path g p ≡ true) e h.path);
     }
 
 -- a new node is added to a path that leads to it
 pub opens_node : (g : NodeLists) (s : State) (ks : List ℕ) (marks : List Mark) (k : ℕ) → IsSearch g s → k < length g → is_new s.marks k ≡ true
-    → list_all (λ i. nat_lt i (length g)) ks ≡ true → is_path g (ks ++ k ∷ []) ≡ true → ((j : ℕ) → is_in s.path j ≡ true → is_in ks j ≡ true)
+    → s.path ≡ ks → is_path g (ks ++ k ∷ []) ≡ true
     → (gone : List ℕ) → length gone ≡ length g → ((j : ℕ) → slice_index_or gone j 0 ≤ length (next_of g j))
     → ((j : ℕ) → fronts_done g s.marks j (slice_index_or gone j 0) ≡ true)
     → IsSearch g (record s { marks = set s.marks k Open; path = ks ++ k ∷ []; gone = gone })
-opens_node g s ks marks k h l fresh within way keep gone counted low fronts =
+opens_node g s ks marks k h l fresh e way gone counted low fronts =
     let lm : k < length s.marks = omega (arith, h.marked, l) in
     let more : (j : ℕ) → is_done s.marks j ≡ true → is_done (set s.marks k Open) j ≡ true = λ j i. done_kept s.marks k j Open lm (not_done (slice_index_or s.marks k New) fresh) i in
     record {
       marked = length-set s.marks k Open ∙ h.marked;
       counted = counted;
-      path_within = all_end (λ i. nat_lt i (length g)) ks k within (lt_ltb k (length g) l);
+      path_within = all_end (λ i. nat_lt i (length g)) ks k (subst (λ (p : List ℕ). list_all (λ i. nat_lt i (length g)) p ≡ true) e h.path_within) (lt_ltb k (length g) l);
       order_within = h.order_within;
       low = low;
       fronts = λ j. all_more (is_done s.marks) (is_done (set s.marks k Open)) more (take (slice_index_or gone j 0) (next_of g j)) (fronts j);
@@ -214,8 +239,19 @@ opens_node g s ks marks k h l fresh within way keep gone counted low fronts =
       ];
       opens = λ j i. elim (mark_cases s.marks k j Open lm) [
         | inl c ↦ subst (λ (x : ℕ). is_in (ks ++ k ∷ []) x ≡ true) (sym c.0) (in_end ks k)
-        | inr c ↦ in_front ks k j (keep j (h.opens j (sym (ap is_open_mark c.1) ∙ i)))
+        | inr c ↦ in_front ks k j (subst (λ (p : List ℕ). is_in p j ≡ true) e (h.opens j (sym (ap is_open_mark c.1) ∙ i)))
       ];
+      order_done = λ j i. more j (h.order_done j i);
+      path_open = λ j i. elim (mark_cases s.marks k j Open lm) [
+        | inl c ↦ ap is_open_mark c.1
+        | inr c ↦ elim (in_cases ks k j i) [
+          | inl m ↦ ap is_open_mark c.1 ∙ h.path_open j (subst (λ (p : List ℕ). is_in p j ≡ true) (sym e) m)
+          | inr m ↦ absurd (c.0 (sym m))
+        ]
+      ];
+      order_once = h.order_once;
+      path_once = distinct_end ks k (subst (λ (p : List ℕ). are_distinct p ≡ true) e h.path_once)
+          (off_list ks k (λ m. not_open (slice_index_or s.marks k New) fresh (h.path_open k (subst (λ (p : List ℕ). is_in p k ≡ true) (sym e) m))));
       falls = h.falls;
       path = way;
     }
@@ -226,10 +262,8 @@ pub turns : (g : NodeLists) (s : State) (ks : List ℕ) (k n next : ℕ) → IsS
     → IsSearch g (turned (taken s ks k n) k next)
 turns g s ks k n next h e low d i l fresh =
     let lk : k < length g = end_within g s ks k h e in
-    opens_node g s (ks ++ k ∷ []) s.marks next h l fresh
-    (subst (λ (p : List ℕ). list_all (λ i. nat_lt i (length g)) p ≡ true) e h.path_within)
+    opens_node g s (ks ++ k ∷ []) s.marks next h l fresh e
     (path_end g ks k next (subst (λ (p : List ℕ). is_path g p ≡ true) e h.path) i)
-    (λ j m. subst (λ (p : List ℕ). is_in p j ≡ true) e m)
     (set s.gone k n) (length-set s.gone k n ∙ h.counted) (low_kept g s k n h lk low) (fronts_kept g s s.marks k n h lk (λ j m. m) d)
 
 -- an edge back to the path

@@ -1,9 +1,9 @@
 -- Tests of lists.
-use Rattle.std.proofs.Common.{◌≡◌, ℕ, zero, suc, ◌+◌, ◌<◌, ◌⊎◌, Bool, true, false, ◌&&◌, ◌||◌, ◌==◌, List, [], ◌∷◌, ◌++◌, length, refl, inl, inr, arith, rules}
+use Rattle.std.proofs.Common.{◌≡◌, ℕ, zero, suc, ◌+◌, ◌<◌, ◌⊎◌, Bool, true, false, not, ◌&&◌, ◌||◌, ◌==◌, List, [], ◌∷◌, ◌++◌, length, refl, sym, ap, subst, inl, inr, arith, rules}
 use Rattle.std.specs.Prelude.{slice_index_or}
 use Rattle.std.specs.List.{list_all}
 use Rattle.std.proofs.lemmas.Bool.{or_cases}
-use Rattle.digraph.specs.Graph.{is_in}
+use Rattle.digraph.specs.Graph.{is_in, are_distinct}
 
 pub and_left : (a b : Bool) → (a && b) ≡ true → a ≡ true
 and_left true b h = refl
@@ -98,3 +98,45 @@ bool_cases false = inr refl
 pub last_at : (xs : List ℕ) (x : ℕ) → slice_index_or (xs ++ x ∷ []) (length xs) 0 ≡ x
 last_at [] x = refl
 last_at (y ∷ ys) x = last_at ys x
+
+not_true : (b : Bool) → not b ≡ true → b ≡ false
+not_true true h = cc
+not_true false h = refl
+
+or_rest : (a b : Bool) → (a || b) ≡ false → b ≡ false
+or_rest true b h = cc
+or_rest false b h = h
+
+-- what is not in a list, nor at its end
+not_in : (xs : List ℕ) (y x : ℕ) → is_in xs x ≡ false → (y ≡ x → ⊥) → is_in (xs ++ y ∷ []) x ≡ false
+not_in xs y x h d =
+    elim (bool_cases (is_in (xs ++ y ∷ []) x)) [
+      | inl t ↦ elim (in_cases xs y x t) [ inl m ↦ absurd (not_both (is_in xs x) m h) | inr e ↦ absurd (d e) ]
+      | inr f ↦ f
+    ]
+
+pub distinct_end : (xs : List ℕ) (y : ℕ) → are_distinct xs ≡ true → is_in xs y ≡ false → are_distinct (xs ++ y ∷ []) ≡ true
+distinct_end [] y h n = refl
+distinct_end (x ∷ xs) y h n =
+    let off : is_in (xs ++ y ∷ []) x ≡ false = not_in xs y x (not_true (is_in xs x) (and_left (not (is_in xs x)) (are_distinct xs) h))
+    (λ e. not_both (is_in (x ∷ xs) y) (or_left (x == y) (is_in xs y) (same_back x y (sym e))) n) in
+    and_both (not (is_in (xs ++ y ∷ []) x)) (are_distinct (xs ++ y ∷ [])) (ap not off)
+    (distinct_end xs y (and_right (not (is_in xs x)) (are_distinct xs) h) (or_rest (x == y) (is_in xs y) n))
+
+pub distinct_front : (xs : List ℕ) (y : ℕ) → are_distinct (xs ++ y ∷ []) ≡ true → are_distinct xs ≡ true
+distinct_front [] y h = refl
+distinct_front (x ∷ xs) y h =
+    and_both (not (is_in xs x)) (are_distinct xs)
+    (elim (bool_cases (is_in xs x)) [
+      | inl t ↦ absurd (not_both (is_in (xs ++ y ∷ []) x) (in_front xs y x t) (not_true _ (and_left (not (is_in (xs ++ y ∷ []) x)) (are_distinct (xs ++ y ∷ [])) h)))
+      | inr f ↦ ap not f
+    ])
+    (distinct_front xs y (and_right (not (is_in (xs ++ y ∷ []) x)) (are_distinct (xs ++ y ∷ [])) h))
+
+pub distinct_last : (xs : List ℕ) (y : ℕ) → are_distinct (xs ++ y ∷ []) ≡ true → is_in xs y ≡ true → ⊥
+distinct_last [] y h i = cc
+distinct_last (x ∷ xs) y h i =
+    elim (or_cases (x == y) (is_in xs y) i) [
+      | inl e ↦ not_both (is_in (xs ++ y ∷ []) x) (subst (λ (z : ℕ). is_in (xs ++ y ∷ []) z ≡ true) (sym (same x y e)) (in_end xs y)) (not_true _ (and_left (not (is_in (xs ++ y ∷ []) x)) (are_distinct (xs ++ y ∷ [])) h))
+      | inr m ↦ distinct_last xs y (and_right (not (is_in (xs ++ y ∷ []) x)) (are_distinct (xs ++ y ∷ [])) h) m
+    ]

@@ -24,6 +24,7 @@ sorts g s h e met = record {
     | inl o ↦ let i : is_in [] k ≡ true = subst (λ (p : List ℕ). is_in p k ≡ true) e (h.opens k o) in cc
     | inr o ↦ h.done k (known_done (slice_index_or s.marks k New) (met k l) o)
   ];
+  once = h.order_once;
   falls = h.falls;
 }
 

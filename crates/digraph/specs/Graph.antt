@@ -1,5 +1,5 @@
 -- Directed graphs: node k leads to the nodes of the k-th list.
-use Rattle.std.specs.Prelude.{◌≡◌, ℕ, zero, suc, ◌<◌, Bool, true, false, ◌||◌, ◌&&◌, ◌==◌, nat_lt, List, [], ◌∷◌, ◌++◌, length, slice_index_or}
+use Rattle.std.specs.Prelude.{◌≡◌, ℕ, zero, suc, ◌<◌, Bool, true, false, not, ◌||◌, ◌&&◌, ◌==◌, nat_lt, List, [], ◌∷◌, ◌++◌, length, slice_index_or}
 use Rattle.std.specs.List.{list_any, list_all}
 
 abbrev pub NodeLists : Type 0
@@ -21,15 +21,21 @@ leads g (suc n) k m = list_any (λ r. r == m || leads g n r m) (next_of g k)
 abbrev pub is_in : List ℕ → ℕ → Bool
 is_in xs x = list_any (λ y. y == x) xs
 
+-- no node stands twice
+abbrev pub are_distinct : List ℕ → Bool
+are_distinct [] = true
+are_distinct (k ∷ ks) = not (is_in ks k) && are_distinct ks
+
 -- behind those that stand before, each node stands after the nodes to which it leads
 abbrev pub falls_from : NodeLists → List ℕ → List ℕ → Bool
 falls_from g before [] = true
 falls_from g before (k ∷ ks) = list_all (is_in before) (next_of g k) && falls_from g (before ++ k ∷ []) ks
 
--- an order of the nodes in which each stands after those to which it leads
+-- an order of the nodes that has each once, and in which each stands after those to which it leads
 pub record IsSorted (g : NodeLists) (order : List ℕ) : Type 0 where
   pub within : list_all (λ k. nat_lt k (length g)) order ≡ true
   pub whole : (k : ℕ) → k < length g → is_in order k ≡ true
+  pub once : are_distinct order ≡ true
   pub falls : falls_from g [] order ≡ true
 
 -- no node leads to itself

@@ -6,7 +6,7 @@ use Rattle.digraph.specs.declared.mark.Mark.TheVariants.{New, Open, Done}
 use Rattle.digraph.specs.declared.search.End.{End}
 use Rattle.digraph.specs.declared.search.Step.{Step}
 use Rattle.digraph.specs.declared.search.Step.TheVariants.{Ended, Went, Returned}
-use Rattle.digraph.specs.Graph.{NodeLists, next_of, is_in, falls_from, leads}
+use Rattle.digraph.specs.Graph.{NodeLists, next_of, is_in, are_distinct, falls_from, leads}
 
 abbrev pub is_done_mark : Mark → Bool
 is_done_mark Done = true
@@ -39,6 +39,7 @@ pub record State : Type 0 where
   pub path : List ℕ
   pub order : List ℕ
 
+-- the order has the nodes that are done, and the path those that are open, each once
 pub record IsSearch (g : NodeLists) (s : State) : Type 0 where
   pub marked : length s.marks ≡ length g
   pub counted : length s.gone ≡ length g
@@ -48,6 +49,10 @@ pub record IsSearch (g : NodeLists) (s : State) : Type 0 where
   pub fronts : (k : ℕ) → fronts_done g s.marks k (slice_index_or s.gone k 0) ≡ true
   pub done : (k : ℕ) → is_done s.marks k ≡ true → is_in s.order k ≡ true
   pub opens : (k : ℕ) → is_open s.marks k ≡ true → is_in s.path k ≡ true
+  pub order_done : (k : ℕ) → is_in s.order k ≡ true → is_done s.marks k ≡ true
+  pub path_open : (k : ℕ) → is_in s.path k ≡ true → is_open s.marks k ≡ true
+  pub order_once : are_distinct s.order ≡ true
+  pub path_once : are_distinct s.path ≡ true
   pub falls : falls_from g [] s.order ≡ true
   pub path : is_path g s.path ≡ true
 

@@ -20,8 +20,8 @@ pub enum Order {
     Returns(usize),
 }
 
-/// An order of the nodes in which each stands after those to which it leads, where there is one, else the first node that leads
-/// to itself. Each edge ends at a node.
+/// An order of the nodes in which each stands once, after those to which it leads, where there is one, else the first node that
+/// leads to itself. Each edge ends at a node.
 pub fn sort(alloc: Global, graph: &Graph) -> Result<Order, NoMemory>
     requires { is_graph graph.now ≡ true }
     ensures { IfOk result (IsOrder graph.now) }

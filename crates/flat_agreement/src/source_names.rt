@@ -53,8 +53,8 @@ fn one_name<'a>(tree: &Tree<'a>, depth: u32, i: usize, x: &[u8]) -> Thing<'a> {
 }
 
 fn actual<'a>(at: Instance<'a>, x: &[u8]) -> Option<&'a Expr> {
-    for k in 0..at.plan.parameters.len() {
-        if at.plan.parameters.at(k).name.bytes() == x {
+    for k in 0..at.module.parameters.len() {
+        if at.module.parameters.at(k).name.bytes() == x {
             return at.actuals.get(k);
         }
     }
@@ -62,7 +62,7 @@ fn actual<'a>(at: Instance<'a>, x: &[u8]) -> Option<&'a Expr> {
 }
 
 fn declared<'a>(tree: &Tree<'a>, i: usize, at: Instance<'a>, x: &[u8]) -> Thing<'a> {
-    for element in &at.plan.elements {
+    for element in &at.module.elements {
         let thing = match element {
             Element::Vars(kind, items) => among_items(tree, i, *kind, items, x),
             Element::Defines(definitions) => among_definitions(i, definitions, x),

@@ -12,7 +12,7 @@ const DEEPEST: u32 = 60;
 pub(crate) struct Instance<'a> {
     pub(crate) parent: usize,
     pub(crate) name: &'a [u8],
-    pub(crate) plan: &'a Module,
+    pub(crate) module: &'a Module,
     pub(crate) actuals: &'a [Expr],
 }
 
@@ -49,7 +49,7 @@ fn instances_of<'a>(alloc: Global, source: &'a Source) -> Result<Vec<Instance<'a
     let main = Instance {
         parent: 0,
         name: b"",
-        plan: module_called(source, b"main")?,
+        module: module_called(source, b"main")?,
         actuals: &[],
     };
     let mut instances = Vec::new(alloc);
@@ -63,15 +63,15 @@ fn invariants_of<'a>(
 ) -> Result<Vec<Invariant<'a>>, Fault> {
     let mut invariants = Vec::new(alloc);
     for (i, at) in instances.iter().enumerate() {
-        add_invariants(i, at.plan, &mut invariants)?;
+        add_invariants(i, at.module, &mut invariants)?;
     }
     Ok(invariants)
 }
 
 fn module_called<'a>(source: &'a Source, name: &[u8]) -> Result<&'a Module, Fault> {
-    for plan in &source.modules {
-        if plan.name.bytes() == name {
-            return Ok(plan);
+    for module in &source.modules {
+        if module.name.bytes() == name {
+            return Ok(module);
         }
     }
     Err(Fault::Misread("a module that is missing"))
@@ -89,7 +89,7 @@ fn grow<'a>(
         return Err(Fault::Misread("instances that stand too deep"));
     }
     let number = all.len();
-    let elements = &at.plan.elements;
+    let elements = &at.module.elements;
     all.push(at)?;
     for element in elements {
         if let Element::Vars(_, items) = element {
@@ -115,7 +115,7 @@ fn grow_items<'a>(
             let at = Instance {
                 parent,
                 name: item.name.bytes(),
-                plan: module_called(source, name.bytes())?,
+                module: module_called(source, name.bytes())?,
                 actuals: actuals.as_slice(),
             };
             grow(depth - 1, source, at, all)?;
@@ -126,10 +126,10 @@ fn grow_items<'a>(
 
 fn add_invariants<'a>(
     i: usize,
-    plan: &'a Module,
+    module: &'a Module,
     all: &mut Vec<Invariant<'a>>,
 ) -> Result<(), Fault> {
-    for element in &plan.elements {
+    for element in &module.elements {
         if let Element::Spec(_, body) = element {
             all.push(Invariant { instance: i, body })?;
         }

@@ -8,15 +8,15 @@ use smv_text::{Assignment, Assignments, Element, Items, Module, VarKind, When};
 /// Does each section hold that speaks of this time?
 pub(crate) fn model_holds(m: Moment, when: When) -> Result<bool, Fault> {
     for i in 0..m.tree.instances.len() {
-        if !instance_holds(m, i, when, m.tree.instances[i].plan)? {
+        if !instance_holds(m, i, when, m.tree.instances[i].module)? {
             return Ok(false);
         }
     }
     Ok(true)
 }
 
-fn instance_holds(m: Moment, i: usize, when: When, plan: &Module) -> Result<bool, Fault> {
-    for section in &plan.elements {
+fn instance_holds(m: Moment, i: usize, when: When, module: &Module) -> Result<bool, Fault> {
+    for section in &module.elements {
         if !section_holds(m, i, when, section)? {
             return Ok(false);
         }

@@ -1,7 +1,10 @@
 // Attributes of define-system and check-system.
 ghost use Rattle.std.specs.Prelude.{◌≡◌, ◌+◌, ◌^◌, ◌-◌, ◌<◌, None, Some, if◌then◌else◌};
 ghost use Rattle.moxi_sexpr.specs.Tree.{plain, plain_forms};
-ghost use Rattle.moxi_scripts.specs.Attributes.{check_key, count_of, is_list_form, key_named, key_number, keyword_atom, keyword_of, keyword_turn, list_key, same_key, shape_holds, system_key, takes_term, turn_after, turns_end, turns_fit, turns_start, unknown_failures, unknown_keyword, unknown_tests, value_of, is_behind};
+ghost use Rattle.moxi_scripts.specs.Attributes.{check_key, count_of, is_list_form, key_named, key_number, keyword_atom};
+ghost use Rattle.moxi_scripts.specs.Attributes.{keyword_of, keyword_turn, list_key, same_key, shape_holds, system_key};
+ghost use Rattle.moxi_scripts.specs.Attributes.{takes_term, turn_after, turns_end, turns_fit, turns_start, unknown_failures};
+ghost use Rattle.moxi_scripts.specs.Attributes.{unknown_keyword, unknown_tests, value_of, is_behind};
 ghost use Rattle.moxi_attributes.specs.Views.{keyword_now, value_now};
 ghost use Rattle.moxi_scripts.specs.declared.parts.Turn.TheVariants as turns;
 ghost use Rattle.moxi_scripts.specs.Collecting.{also};

@@ -5,7 +5,7 @@ ghost use Rattle.moxi_sorts.specs.Failures.{least};
 ghost use Rattle.moxi_term_reading.specs.Reading.{prime_failures};
 ghost use Rattle.moxi_scripts.specs.Collecting.{also, fails_with};
 
-use moxi_sorts::sooner;
+use moxi_sorts::minimum;
 use moxi_term_reading::prime;
 use text_core::{Kind, Place, Refusal};
 
@@ -14,7 +14,7 @@ use text_core::{Kind, Place, Refusal};
 pub fn note(found: &mut Option<Refusal>, failure: Option<Refusal>)
     ensures { (fs : List Refusal) → failure ≡ least fs → found.new ≡ also found.old fs }
 {
-    *found = sooner(*found, failure);
+    *found = minimum(*found, failure);
 }
 
 /// The test of a prime where none may stand.

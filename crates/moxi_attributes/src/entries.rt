@@ -1,11 +1,15 @@
 // Lists of variables.
-ghost use Rattle.std.specs.Prelude.{◌≡◌, ◌++◌, ◌∷◌, [], OnOk, IfOk};
+ghost use Rattle.std.specs.Prelude.{◌≡◌, ◌++◌, ◌∷◌, [], OnOk, IfOk, is_some};
 ghost use Rattle.moxi_sexpr.specs.Tree.{plain, plain_forms};
 ghost use Rattle.moxi_scripts.specs.Collecting.{also};
 ghost use Rattle.moxi_scripts.specs.Declarations.{clash_failures};
-ghost use Rattle.moxi_scripts.specs.Entries.{entries_failures, entries_of, entry_failures, entry_of, known_sort, locals_among, names_after, names_with, sort_failures, twice_failures, twice_tests, variable_of, variables_of};
+ghost use Rattle.moxi_scripts.specs.Entries.{are_entries, entries_failures, entries_of, entry_failures, entry_of, known_sort};
+ghost use Rattle.moxi_scripts.specs.Entries.{locals_among, locals_found, names_after, names_with, sort_among, sort_failures};
+ghost use Rattle.moxi_scripts.specs.Entries.{twice_failures, twice_tests, variable_of, variables_of};
+ghost use Rattle.moxi_scripts.specs.Shapes.{named};
 
 use crate::collect::{fail, fail_if, fail_primed, note, refuse};
+use crate::constants::both;
 use crate::shapes::{misshapen, named_form, place_of};
 use moxi_scripts::{Declared, Entries};
 use moxi_sexpr::Form;
@@ -37,7 +41,7 @@ pub fn known_sort(sort: Result<Sort, Refusal>) -> Option<Sort>
     }
 }
 
-// An entry of a list at `around`.
+// An entry of a list at `around`, and whether it has its shape.
 #[tactic(auto, using(crate::specs::laws::Collecting::also_append))]
 fn read_entry(
     alloc: Global,
@@ -46,14 +50,15 @@ fn read_entry(
     form: &Form,
     all: &mut Entries,
     found: &mut Option<Refusal>,
-) -> Result<(), NoMemory>
+) -> Result<bool, NoMemory>
+    ensures shaped { IfOk result (λ b. b ≡ is_some (named (plain form.now))) }
     ensures adds { OnOk result (all.new ≡ all.old ++ entry_of scope.now (plain form.now)) }
     ensures finds { OnOk result (found.new ≡ also found.old (entry_failures scope.now around (plain form.now))) }
 {
     match named_form(form) {
         None => {
             refuse(found, misshapen(around, form));
-            Ok(())
+            Ok(false)
         }
         Some(n) => {
             let sort = sort_of(scope, place_of(form), n.form);
@@ -64,13 +69,12 @@ fn read_entry(
                 place: n.place,
                 sort: known_sort(sort),
             })?;
-            Ok(())
+            Ok(true)
         }
     }
 }
 
-/// The variables of a list at `around`.
-#[tactic(auto, using(crate::specs::laws::Collecting::also_append, moxi_scripts::proofs::Forms::forms_step, moxi_scripts::proofs::Forms::forms_end))]
+/// The variables of a list at `around`, and whether each of its forms is `(x S)`.
 pub fn read_entries(
     alloc: Global,
     scope: &Scope,
@@ -78,14 +82,17 @@ pub fn read_entries(
     forms: &[Form],
     all: &mut Entries,
     found: &mut Option<Refusal>,
-) -> Result<(), NoMemory>
+) -> Result<bool, NoMemory>
+    ensures shaped { IfOk result (λ b. b ≡ are_entries (plain_forms forms.now)) }
     ensures adds { OnOk result (all.new ≡ all.old ++ entries_of scope.now (plain_forms forms.now)) }
     ensures finds { OnOk result (found.new ≡ also found.old (entries_failures scope.now around (plain_forms forms.now))) }
 {
+    let mut shaped = true;
     for form in forms {
-        read_entry(alloc, scope, around, form, all, found)?;
+        let entry = read_entry(alloc, scope, around, form, all, found)?;
+        shaped = both(shaped, entry);
     }
-    Ok(())
+    Ok(shaped)
 }
 
 // One more name of its list; a name that stands among those before fails.
@@ -132,6 +139,32 @@ pub fn locals_among(alloc: Global, entries: &Entries) -> Result<Locals, NoMemory
     for i in 0..entries.len() {
         let entry = entries.at(i);
         locals.add(Name::of(alloc, entry.name.bytes())?, entry.sort)?;
+    }
+    Ok(locals)
+}
+
+// The sort that a name has among variables.
+fn sort_among(locals: &Locals, name: &[u8]) -> Option<Sort>
+    ensures { result ≡ sort_among locals.now name.now }
+{
+    match locals.find(name) {
+        None => None,
+        Some((_, sort)) => sort,
+    }
+}
+
+/// The variables, found by their names, each with the sort that its name has among those in the order of the text.
+pub fn locals_found(alloc: Global, text: &Locals, entries: &Entries) -> Result<Locals, NoMemory>
+    ensures { IfOk result (λ l. l ≡ locals_found text.now entries.now) }
+{
+    let mut locals = Locals::new(alloc);
+    if entries.len() > u32::MAX as usize {
+        return Err(NoMemory);
+    }
+    for i in 0..entries.len() {
+        let entry = entries.at(i);
+        let sort = sort_among(text, entry.name.bytes());
+        locals.add(Name::of(alloc, entry.name.bytes())?, sort)?;
     }
     Ok(locals)
 }

@@ -8,6 +8,7 @@ mod entries;
 mod formulas;
 mod labels;
 mod lists;
+mod possible;
 mod shapes;
 mod uses;
 
@@ -19,7 +20,8 @@ pub use entries::{
 };
 pub use formulas::{read_formula, true_term};
 pub use labels::{Labelled, Labels, no_labels, read_labels};
-pub use lists::{all_entries, read_lists};
+pub use lists::{all_entries, are_shaped, read_lists, text_entries};
+pub use possible::possible_locals;
 pub use shapes::{
     Headed, Named, headed_forms, is_empty_list, misshapen, misshapen_place, named_form, named_in,
     parts_of, place_of, triple_of,

@@ -1,5 +1,5 @@
 // The three lists of variables of a system or a check.
-ghost use Rattle.std.specs.Prelude.{◌≡◌, ◌++◌, IfOk, OnOk};
+ghost use Rattle.std.specs.Prelude.{◌≡◌, ◌++◌, [], IfOk, OnOk};
 ghost use Rattle.moxi_sexpr.specs.Tree.{plain_forms};
 ghost use Rattle.moxi_attributes.specs.Views.{value_now};
 ghost use Rattle.moxi_scripts.specs.Attributes.{value_of};
@@ -7,20 +7,21 @@ ghost use Rattle.moxi_scripts.specs.declared.parts.Key.TheVariants as keys;
 ghost use Rattle.moxi_scripts.specs.declared.parts.Turn.TheVariants as turns;
 ghost use Rattle.moxi_scripts.specs.Collecting.{also};
 ghost use Rattle.moxi_scripts.specs.Declarations.{is_nil};
-ghost use Rattle.moxi_scripts.specs.Lists.{all_entries, list_of, listed_entries, listed_failures, lists_failures};
+ghost use Rattle.moxi_scripts.specs.Lists.{all_entries, are_shaped, entries_at, entries_behind, list_of, list_shape};
+ghost use Rattle.moxi_scripts.specs.Lists.{listed_entries, listed_failures, lists_failures, text_entries};
 
-use crate::attributes::value_of;
+use crate::attributes::{turn_after, value_of};
 use crate::collect::{is_nothing, note};
 use crate::entries::{append, read_entries, test_twice};
 use crate::shapes::{parts_of, place_of};
-use moxi_scripts::{Command, DeclaredList, Entries, Key, Lists};
+use moxi_scripts::{Command, DeclaredList, Entries, Key, Lists, Turn};
 use moxi_sexpr::Form;
 use moxi_terms::Scope;
 use name_set::NameSet;
 use std::alloc::Global;
 use text_core::{NoMemory, Refusal};
 
-// The entries of a list, where it is there.
+// The entries of a list, where it is there, and whether it has its shape.
 #[tactic(auto, using(crate::specs::laws::Collecting::also_none, crate::specs::laws::Collecting::nothing_more))]
 fn read_entries_of(
     alloc: Global,
@@ -28,17 +29,18 @@ fn read_entries_of(
     value: Option<&Form>,
     entries: &mut Entries,
     found: &mut Option<Refusal>,
-) -> Result<(), NoMemory>
+) -> Result<bool, NoMemory>
+    ensures shaped { IfOk result (λ b. b ≡ list_shape (value_now value.entry)) }
     ensures adds { OnOk result (entries.new ≡ entries.old ++ listed_entries scope.now (value_now value.entry)) }
     ensures finds { OnOk result (found.new ≡ also found.old (listed_failures scope.now (value_now value.entry))) }
 {
     match value {
-        None => Ok(()),
+        None => Ok(true),
         Some(form) => match parts_of(form) {
-            None => Ok(()),
+            None => Ok(true),
             Some(parts) => {
-                read_entries(alloc, scope, place_of(form), parts, entries, found)?;
-                Ok(())
+                let shaped = read_entries(alloc, scope, place_of(form), parts, entries, found)?;
+                Ok(shaped)
             }
         },
     }
@@ -57,18 +59,19 @@ fn read_list(
     ensures finds { OnOk result (found.new ≡ also found.old (listed_failures scope.now (value_of command k turns.AtKeyword (plain_forms forms.now)))) }
 {
     let mut entries = Entries::new(alloc);
-    let mut own = None;
-    read_entries_of(
+    let mut failure = None;
+    let shaped = read_entries_of(
         alloc,
         scope,
         value_of(command, k, forms),
         &mut entries,
-        &mut own,
+        &mut failure,
     )?;
-    note(found, own);
+    note(found, failure);
     Ok(DeclaredList {
         entries,
-        whole: is_nothing(own),
+        shaped,
+        whole: is_nothing(failure),
     })
 }
 
@@ -82,6 +85,68 @@ pub fn all_entries(alloc: Global, lists: &Lists) -> Result<Entries, NoMemory>
     append(alloc, &mut all, &lists.outputs.entries)?;
     append(alloc, &mut all, &lists.locals.entries)?;
     Ok(all)
+}
+
+/// Has each list its shape?
+pub fn are_shaped(lists: &Lists) -> bool
+    ensures { result ≡ are_shaped lists.now }
+{
+    lists.inputs.shaped && lists.outputs.shaped && lists.locals.shaped
+}
+
+// The variables of the list of a key.
+#[tactic(auto, using(crate::specs::laws::Collecting::nothing_more))]
+fn append_list(alloc: Global, lists: &Lists, k: Key, text: &mut Entries) -> Result<(), NoMemory>
+    ensures { OnOk result (text.new ≡ text.old ++ entries_at lists.now k) }
+{
+    match k {
+        Key::Input => append(alloc, text, &lists.inputs.entries),
+        Key::Output => append(alloc, text, &lists.outputs.entries),
+        Key::Local => append(alloc, text, &lists.locals.entries),
+        Key::Init => Ok(()),
+        Key::Trans => Ok(()),
+        Key::Inv => Ok(()),
+        Key::Subsystem => Ok(()),
+        Key::Assumption => Ok(()),
+        Key::Current => Ok(()),
+        Key::Reachable => Ok(()),
+        Key::Query => Ok(()),
+        Key::Queries => Ok(()),
+    }
+}
+
+#[tactic(auto, using(crate::specs::laws::Collecting::nothing_more))]
+fn append_behind(
+    alloc: Global,
+    lists: &Lists,
+    turn: Turn,
+    text: &mut Entries,
+) -> Result<(), NoMemory>
+    ensures { OnOk result (text.new ≡ text.old ++ entries_behind lists.now turn) }
+{
+    match turn {
+        Turn::AtKeyword => Ok(()),
+        Turn::Behind(k) => append_list(alloc, lists, k, text),
+        Turn::Passing => Ok(()),
+    }
+}
+
+/// The variables of all lists in the order of the text.
+pub fn text_entries(
+    alloc: Global,
+    lists: &Lists,
+    command: Command,
+    forms: &[Form],
+) -> Result<Entries, NoMemory>
+    ensures { IfOk result (λ text. text ≡ text_entries lists.now command turns.AtKeyword (plain_forms forms.now)) }
+{
+    let mut text = Entries::new(alloc);
+    let mut turn = Turn::AtKeyword;
+    for form in forms {
+        append_behind(alloc, lists, turn, &mut text)?;
+        turn = turn_after(command, turn, form);
+    }
+    Ok(text)
 }
 
 /// The lists of a system or a check; of two variables with one name the second fails.

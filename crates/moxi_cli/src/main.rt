@@ -15,7 +15,7 @@ fn main(rt: HostRuntime) -> ExitCode {
         Ok(words) => run(rt.alloc(), &words, &mut shelf, &mut out, &mut notes),
         Err(NoMemory) => no_memory(&mut notes),
     };
-    ExitCode::from(status as u8)
+    ExitCode::from(status.number())
 }
 
 // Says that there was no memory for the command words.

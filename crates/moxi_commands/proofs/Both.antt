@@ -3,16 +3,16 @@ use Rattle.std.proofs.Common.{◌≡◌, ℕ, suc, ◌+◌, ◌-◌, ◌/◌, �
 use Rattle.std.specs.Prelude.{slice_get, IsSomeAnd, codes}
 use Rattle.std.specs.List.{AllByRecursion, AllZip}
 use Rattle.std.proofs.lemmas.List.{length-map}
-use Rattle.moxi_commands.specs.Formulas.{Formula, variable, negation, conjunction, Formulas, no_formulas, formula, Source}
+use Rattle.moxi_commands.specs.BooleanModels.{BooleanFormula, variable, negation, conjunction, BooleanFormulas, no_formulas, formula, BooleanModel}
 use Rattle.word_core.specs.Words.{BitVector}
-use Rattle.btor_tree.specs.declared.lines.TheConstants.{GREATEST_ID}
+use Rattle.btor_tree.specs.Fits.{greatest_id}
 use Rattle.btor_tree.specs.declared.lines.Line.{Line}
 use Rattle.btor_tree.specs.declared.lines.LineOp.TheVariants.{Bad}
 use Rattle.btor_tree.specs.Fits.{plain_arg, IsWellFormed, operands, is_constraint, is_bad}
 use Rattle.btor_tree.specs.Frame.{FreeFits, true_word, word_at, operand, Meets, IsFrame, IsBad, ConstraintsHold, Follow, IsPath, AreFrames}
 use Rattle.btor_tree.proofs.Grows.{meets_front}
 use Rattle.btor_tree.proofs.Paths.{operands_append, Reads, path}
-use Rattle.moxi_commands.specs.Formulas.{Below, EachVariableOf}
+use Rattle.moxi_commands.specs.BooleanModels.{Below, EachVariableOf}
 use Rattle.moxi_commands.specs.Truths.{Truths, negated, truth_of, all_true}
 use Rattle.moxi_commands.specs.Lines.{Made, first_lines, with_variables, with_not, with_formula, line_count, size, lines_of, input_place}
 use Rattle.moxi_commands.specs.Stands.{Stands, HasInputs}
@@ -63,13 +63,13 @@ all_rows P h (x ∷ xs) = (h x, all_rows P h xs)
 
 -- the value reads the formula's variables alone
 mutual
-  same_value : (n : ℕ) (a b : Truths) (f : Formula) → Below n f → ((v : ℕ) → v < n → a v ≡ b v) → truth_of a f ≡ truth_of b f
+  same_value : (n : ℕ) (a b : Truths) (f : BooleanFormula) → Below n f → ((v : ℕ) → v < n → a v ≡ b v) → truth_of a f ≡ truth_of b f
   same_value n a b (variable v) h s = s v h
   same_value n a b (negation k f) h s = ap (negated k) (same_value n a b f h s)
   same_value n a b (conjunction f fs) h s =
       ap (λ u. u && all_true a fs) (same_value n a b f h.0 s) ∙ ap (λ w. truth_of b f && w) (same_values n a b fs h.1 s)
 
-  same_values : (n : ℕ) (a b : Truths) (fs : Formulas) → EachVariableOf (λ v. v < n) fs → ((v : ℕ) → v < n → a v ≡ b v) → all_true a fs ≡ all_true b fs
+  same_values : (n : ℕ) (a b : Truths) (fs : BooleanFormulas) → EachVariableOf (λ v. v < n) fs → ((v : ℕ) → v < n → a v ≡ b v) → all_true a fs ≡ all_true b fs
   same_values n a b no_formulas h s = refl
   same_values n a b (formula f fs) h s =
       ap (λ u. u && all_true a fs) (same_value n a b f h.0 s) ∙ ap (λ w. truth_of b f && w) (same_values n a b fs h.1 s)
@@ -82,11 +82,11 @@ true_not : (b : Bool) → b ≡ false → bit (not b) ≡ true_word
 true_not true h = absurd (cc)
 true_not false h = refl
 
-module _ (source : Source) (below : Below (length source.names) source.invariant) (room : line_count source ≤ GREATEST_ID) where
+module _ (source : BooleanModel) (below : Below (length source.names) source.invariant) (room : line_count source ≤ greatest_id) where
   abbrev n : ℕ
   n = length source.names
 
-  abbrev f : Formula
+  abbrev f : BooleanFormula
   f = source.invariant
 
   abbrev before : List Line
@@ -110,7 +110,7 @@ module _ (source : Source) (below : Below (length source.names) source.invariant
   inputs_are : HasInputs before f
   inputs_are = has_inputs n before f heads_are below
 
-  fits : length before + size f + 2 ≤ GREATEST_ID
+  fits : length before + size f + 2 ≤ greatest_id
   fits = omega (arith, heads_are.sized)
 
   given : Gives before f m
@@ -202,5 +202,5 @@ module _ (source : Source) (below : Below (length source.names) source.invariant
   matches : Matches source lines
   matches = record { bads = ap length bads_are; sound = sound; complete = complete }
 
-pub stands_for : (source : Source) → StandsFor source
+pub stands_for : (source : BooleanModel) → StandsFor source
 stands_for source below room = (well_formed source below room, matches source below room)

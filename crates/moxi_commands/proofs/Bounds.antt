@@ -3,7 +3,7 @@ use Rattle.std.proofs.Common.{◌≡◌, ℕ, suc, ◌+◌, ◌≤◌, Bool, tru
 use Rattle.std.proofs.lemmas.List.{length-append}
 use Rattle.std.specs.Prelude.{if◌then◌else◌}
 use Rattle.smv_text.specs.declared.level.Level.{Level}
-use Rattle.smv_text.specs.declared.level.Joint.{Joint}
+use Rattle.smv_text.specs.declared.level.OperatorClass.{OperatorClass}
 use Rattle.smv_text.specs.declared.token.Token.{Token}
 use Rattle.smv_text.specs.declared.tree.Prefix.{Prefix}
 use Rattle.smv_text.specs.declared.tree.Prefix.TheVariants as prefixes
@@ -14,15 +14,15 @@ use Rattle.smv_text.specs.Tree.{Tree, Links, link, PlainItem}
 use Rattle.smv_text.specs.Grammar.{Signs, no_signs, sign_then, Spells, pass, chains, chooses, ranges, prefixes, selects, is_true, is_false, numbers, literals, names, brackets, nexts, calls, sets, switches, SpellsLinks, no_more, one_more}
 use Rattle.smv_text.specs.Sources.{SpellsItems, no_items, item_then}
 use Rattle.moxi_commands.specs.Lines.{size, sizes}
-use Rattle.moxi_commands.specs.Formulas.{Formula, variable, Formulas}
+use Rattle.moxi_commands.specs.BooleanModels.{BooleanFormula, variable, BooleanFormulas}
 use Rattle.name_set.specs.Names.{place_of}
 use Rattle.moxi_commands.specs.Form.{formula_of, formulas_of, negation_of, conjunction_of, operand_of, more_of, variable_named}
 
-abbrev pub size_in : Option Formula → ℕ
+abbrev pub size_in : Option BooleanFormula → ℕ
 size_in None = 0
 size_in (Some f) = size f
 
-abbrev pub sizes_in : Option Formulas → ℕ
+abbrev pub sizes_in : Option BooleanFormulas → ℕ
 sizes_in None = 0
 sizes_in (Some fs) = sizes fs
 
@@ -43,21 +43,21 @@ of_path : (declared : List (List ℕ)) (b : Bool) (ns : List (List ℕ)) → siz
 of_path declared true ns = refl
 of_path declared false ns = of_variable declared ns
 
-of_negation : (pre : Prefix) (n : ℕ) (o : Option Formula) → size_in (negation_of pre n o) ≤ size_in o + n
+of_negation : (pre : Prefix) (n : ℕ) (o : Option BooleanFormula) → size_in (negation_of pre n o) ≤ size_in o + n
 of_negation prefixes.Not n None = omega arith
 of_negation prefixes.Not n (Some f) = omega arith
 of_negation prefixes.Minus n o = omega arith
 
-of_conjunction : (o : Option Formula) (fs : Option Formulas) → size_in (conjunction_of o fs) ≤ size_in o + sizes_in fs
+of_conjunction : (o : Option BooleanFormula) (fs : Option BooleanFormulas) → size_in (conjunction_of o fs) ≤ size_in o + sizes_in fs
 of_conjunction None fs = omega arith
 of_conjunction (Some f) None = omega arith
 of_conjunction (Some f) (Some fs) = omega arith
 
-of_operand : (op : Infix) (o : Option Formula) → size_in (operand_of op o) ≤ size_in o
+of_operand : (op : Infix) (o : Option BooleanFormula) → size_in (operand_of op o) ≤ size_in o
 of_operand infixes.And o = omega arith
 of_operand _ o = omega arith
 
-of_more : (o : Option Formula) (fs : Option Formulas) → sizes_in (more_of o fs) ≤ size_in o + sizes_in fs + 1
+of_more : (o : Option BooleanFormula) (fs : Option BooleanFormulas) → sizes_in (more_of o fs) ≤ size_in o + sizes_in fs + 1
 of_more None fs = omega arith
 of_more (Some f) None = omega arith
 of_more (Some f) (Some fs) = omega arith
@@ -84,7 +84,7 @@ mutual
   size_within declared (sets opening a s) = omega arith
   size_within declared (switches x a s) = omega arith
 
-  pub sizes_within : (declared : List (List ℕ)) {j : Joint} {below : List Level} {ls : Links} {xs : List Token} → SpellsLinks j below ls xs → sizes_in (formulas_of declared ls) ≤ length xs
+  pub sizes_within : (declared : List (List ℕ)) {c : OperatorClass} {below : List Level} {ls : Links} {xs : List Token} → SpellsLinks c below ls xs → sizes_in (formulas_of declared ls) ≤ length xs
   sizes_within declared no_more = omega arith
   sizes_within declared (one_more {op = op} {t = t} {links = links} {xs = xs} {ys = ys} x is s ts) =
       omega (arith, of_more (operand_of op (formula_of declared t)) (formulas_of declared links), of_operand op (formula_of declared t), size_within declared s, sizes_within declared ts, length-append xs ys)

@@ -19,7 +19,7 @@ use Rattle.smv_meaning.specs.Types.{is_truth_type}
 use Rattle.smv_meaning.specs.Phases.{Declared, declared_in, name_checks, main_check, module_checks, declared_checks, declaration_checks, start_place, most_tokens, symbol_checks, is_something, path_check, path_checks, cycle_checks, over_instances, in_state, place_of, formula_typing, type_checks, names_in, assignment_checks, later_checks, invariants_in, checks_of, IsAccepted}
 use Rattle.smv_names.specs.laws.Composing.{both_pass}
 use Rattle.smv_flatten.specs.laws.Composing.{all_hold}
-use Rattle.moxi_commands.specs.Formulas.{Source}
+use Rattle.moxi_commands.specs.BooleanModels.{BooleanModel}
 use Rattle.name_set.specs.Names.{place_of as place_in}
 use Rattle.moxi_commands.specs.Form.{form_of, formula_of, is_boolean, is_declared_after, names_of, most_bytes}
 use Rattle.name_set.specs.laws.Places.{placed}
@@ -117,11 +117,11 @@ domains_hold (i ∷ is) h =
 abbrev checks_with : PlainSource → List Instance → List Check
 checks_with source t =
     module_checks source ++ declaration_checks source.modules t 0 1 t
-    ++ check 28 start_place (nat_le (sum_by (λ at. at.plan.tokens) t) most_tokens) ∷ symbol_checks t (slice_get t 0)
+    ++ check 28 start_place (nat_le (sum_by (λ at. at.module.tokens) t) most_tokens) ∷ symbol_checks t (slice_get t 0)
     ++ later_checks t
     ++ check 27 source.end (nat_lt 0 (length (invariants_in t))) ∷ []
 
-module _ (form : Source) (x : List ℕ) (place : Place) (is : List PlainItem) (e : Tree) (tokens : ℕ) (names : names_of [] is ≡ Some form.names) (formula : formula_of form.names e ≡ Some form.invariant) (main : bytes_eq x main_name ≡ true) where
+module _ (form : BooleanModel) (x : List ℕ) (place : Place) (is : List PlainItem) (e : Tree) (tokens : ℕ) (names : names_of [] is ≡ Some form.names) (formula : formula_of form.names e ≡ Some form.invariant) (main : bytes_eq x main_name ≡ true) where
   abbrev m : PlainModule
   m = module_of x place is e tokens
 
@@ -147,9 +147,9 @@ module _ (form : Source) (x : List ℕ) (place : Place) (is : List PlainItem) (e
   without : (y : List ℕ) → has_symbol t y ≡ false
   without y = ap (λ b. (b || (false || false)) || false) (no_symbol is y truths)
 
-  sizes_hold : tokens ≤ most_tokens → first_failing (check 28 start_place (nat_le (sum_by (λ at. at.plan.tokens) t) most_tokens) ∷ symbol_checks t (slice_get t 0)) ≡ None
+  sizes_hold : tokens ≤ most_tokens → first_failing (check 28 start_place (nat_le (sum_by (λ at. at.module.tokens) t) most_tokens) ∷ symbol_checks t (slice_get t 0)) ≡ None
   sizes_hold light =
-      let w : nat_le (sum_by (λ at. at.plan.tokens) t) most_tokens ≡ true = grind (arith, light) in
+      let w : nat_le (sum_by (λ at. at.module.tokens) t) most_tokens ≡ true = grind (arith, light) in
       ap (λ b. first_failing (check 28 start_place b ∷ symbol_checks t (slice_get t 0))) w
       ∙ all_new (λ d. d.place) (λ d. not (has_symbol t d.name)) (declared_in m) (λ d. ap not (without d.name))
 
@@ -189,7 +189,7 @@ module _ (form : Source) (x : List ℕ) (place : Place) (is : List PlainItem) (e
       let source : PlainSource = record { modules = m ∷ []; end = end } in
       let modules = module_checks source in
       let declarations = declaration_checks (m ∷ []) t 0 1 t in
-      let sizes = check 28 start_place (nat_le (sum_by (λ at. at.plan.tokens) t) most_tokens) ∷ symbol_checks t (slice_get t 0) in
+      let sizes = check 28 start_place (nat_le (sum_by (λ at. at.module.tokens) t) most_tokens) ∷ symbol_checks t (slice_get t 0) in
       both_pass (modules ++ declarations ++ sizes ++ later_checks t) (check 27 end (nat_lt 0 (length (invariants_in t))) ∷ [])
       (both_pass (modules ++ declarations ++ sizes) (later_checks t) (both_pass (modules ++ declarations) sizes (both_pass modules declarations (modules_hold end) declarations_hold) (sizes_hold light)) later_hold)
       refl
@@ -206,7 +206,7 @@ light no_modules m e = cc
 light (module_then {xs = xs} {ys = ys} {zs = zs} x identifier a b f s more) m e =
     let h : length ys ≡ m.tokens = ap first_tokens e in omega (arith, h, length-append xs (ys ++ zs), length-append ys zs)
 
-of_body : (source : PlainSource) (form : Source) (x : List ℕ) (place : Place) (es : List PlainElement) (tokens : ℕ)
+of_body : (source : PlainSource) (form : BooleanModel) (x : List ℕ) (place : Place) (es : List PlainElement) (tokens : ℕ)
     → source.modules ≡ record { name = x; place = place; parameters = []; elements = es; tokens = tokens } ∷ [] → bytes_eq x (codes "main") ≡ true → IsBody es form
     → tokens ≤ most_tokens → first_failing (checks_of source 0) ≡ None
 of_body source form x place es tokens is main b small =
@@ -218,7 +218,7 @@ of_body source form x place es tokens is main b small =
     ∙ all_hold_of form x place b.items b.invariant tokens b.names b.formula main source.end small
 
 -- a model that has a form, over few tokens, is accepted
-pub form_accepted : (source : PlainSource) (form : Source) (xs : List Token) → SpellsModules source.modules xs → length xs ≤ 4096 → form_of source ≡ Some form → IsAccepted source 0
+pub form_accepted : (source : PlainSource) (form : BooleanModel) (xs : List Token) → SpellsModules source.modules xs → length xs ≤ 4096 → form_of source ≡ Some form → IsAccepted source 0
 form_accepted source form xs spelled few e =
     let s = shaped source.modules form e in
     let small : s.tokens ≤ most_tokens = omega (arith, light spelled _ s.modules, few) in

@@ -16,7 +16,7 @@ use Rattle.smv_meaning.specs.Meaning.{value_found, reading}
 use Rattle.smv_meaning.specs.Phases.{invariants_in}
 use Rattle.smv_meaning.specs.Runs.{is_fit, state_fits, label_fits, no_values, invar_holds, StepsHold, Starts, IsRunOf, is_broken}
 use Rattle.btor_tree.specs.declared.lines.Line.{Line}
-use Rattle.moxi_commands.specs.Formulas.{Source}
+use Rattle.moxi_commands.specs.BooleanModels.{BooleanModel}
 use Rattle.name_set.specs.Names.{place_of}
 use Rattle.moxi_commands.specs.Form.{form_of, formula_of, names_of}
 use Rattle.moxi_commands.specs.Truths.{Truths, truth_of}
@@ -68,7 +68,7 @@ false_of : (b : Bool) → not b ≡ true → b ≡ false
 false_of true e = cc
 false_of false e = refl
 
-module _ (form : Source) (x : List ℕ) (place : Place) (is : List PlainItem) (e : Tree) (tokens : ℕ) (names : names_of [] is ≡ Some form.names) (formula : formula_of form.names e ≡ Some form.invariant) where
+module _ (form : BooleanModel) (x : List ℕ) (place : Place) (is : List PlainItem) (e : Tree) (tokens : ℕ) (names : names_of [] is ≡ Some form.names) (formula : formula_of form.names e ≡ Some form.invariant) where
   abbrev m : PlainModule
   m = module_of x place is e tokens
 
@@ -216,7 +216,7 @@ of_instances source t j k e r = record {
 }
 
 -- lines that match a form stand for each model over these instances
-of_table : (source : PlainSource) (form : Source) (lines : List Line) (t : List Instance) → instances_of source ≡ t → length (invariants_in t) ≡ 1
+of_table : (source : PlainSource) (form : BooleanModel) (lines : List Line) (t : List Instance) → instances_of source ≡ t → length (invariants_in t) ≡ 1
     → ((k : ℕ) → HasTruths form k → RunOver t 0 k) → ((k : ℕ) → RunOver t 0 k → HasTruths form k) → Matches form lines → Translates source lines
 of_table source form lines t e one sound complete matches =
     let count : invariant_count source ≡ 1 = ap (λ u. length (invariants_in u)) e ∙ one in
@@ -230,7 +230,7 @@ of_table source form lines t e one sound complete matches =
           subst (λ i. HasFrames lines i k) (sym first) (matches.complete k (complete k (subst (λ i. RunOver t i k) first (of_instances source t j k e has))));
     }
 
-of_body : (source : PlainSource) (form : Source) (lines : List Line) (x : List ℕ) (place : Place) (es : List PlainElement) (tokens : ℕ)
+of_body : (source : PlainSource) (form : BooleanModel) (lines : List Line) (x : List ℕ) (place : Place) (es : List PlainElement) (tokens : ℕ)
     → source.modules ≡ record { name = x; place = place; parameters = []; elements = es; tokens = tokens } ∷ [] → bytes_eq x (codes "main") ≡ true → IsBody es form
     → Matches form lines → Translates source lines
 of_body source form lines x place es tokens is main b matches =
@@ -243,7 +243,7 @@ of_body source form lines x place es tokens is main b matches =
     (sound form x place b.items b.invariant tokens b.names b.formula) (complete form x place b.items b.invariant tokens b.names b.formula) matches
 
 -- what is written for a form stands for each model that has it
-pub translated : (source : PlainSource) (form : Source) (lines : List Line) → form_of source ≡ Some form → Matches form lines → Translates source lines
+pub translated : (source : PlainSource) (form : BooleanModel) (lines : List Line) → form_of source ≡ Some form → Matches form lines → Translates source lines
 translated source form lines e matches =
     let s = shaped source.modules form e in
     of_body source form lines s.name s.place s.elements s.tokens s.modules s.main s.body matches

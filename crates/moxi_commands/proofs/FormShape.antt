@@ -8,11 +8,11 @@ use Rattle.text_core.specs.declared.place.Place.{Place}
 use Rattle.smv_text.specs.declared.tree.Parameter.{Parameter}
 use Rattle.smv_text.specs.declared.tree.VarKind.TheVariants as var_kind
 use Rattle.smv_text.specs.Tree.{Tree, PlainItem, PlainElement, vars, defines, constants, assigns, init, trans, invar, spec, PlainModule}
-use Rattle.moxi_commands.specs.Formulas.{Formula, Source}
+use Rattle.moxi_commands.specs.BooleanModels.{BooleanFormula, BooleanModel}
 use Rattle.moxi_commands.specs.Form.{formula_of, is_boolean, is_declared_after, names_of, parts_of, elements_of, source_over, source_of_parts, source_of_elements}
 
 -- the two sections of a form
-pub record IsBody (es : List PlainElement) (form : Source) : Type 0 where
+pub record IsBody (es : List PlainElement) (form : BooleanModel) : Type 0 where
   pub items : List PlainItem
   pub invariant : Tree
   pub elements : es ≡ vars var_kind.State items ∷ spec None invariant ∷ []
@@ -20,7 +20,7 @@ pub record IsBody (es : List PlainElement) (form : Source) : Type 0 where
   pub formula : formula_of form.names invariant ≡ Some form.invariant
 
 -- the one module of a form
-pub record IsShaped (ms : List PlainModule) (form : Source) : Type 0 where
+pub record IsShaped (ms : List PlainModule) (form : BooleanModel) : Type 0 where
   pub name : List ℕ
   pub place : Place
   pub elements : List PlainElement
@@ -29,22 +29,22 @@ pub record IsShaped (ms : List PlainModule) (form : Source) : Type 0 where
   pub main : bytes_eq name (codes "main") ≡ true
   pub body : IsBody elements form
 
-abbrev Over : List PlainItem → Tree → Source → Type 0
+abbrev Over : List PlainItem → Tree → BooleanModel → Type 0
 Over is t form = (names_of [] is ≡ Some form.names) × (formula_of form.names t ≡ Some form.invariant)
 
-over_formula : (is : List PlainItem) (t : Tree) (names : List (List ℕ)) (form : Source) (o : Option Formula) → names_of [] is ≡ Some names → formula_of names t ≡ o
+over_formula : (is : List PlainItem) (t : Tree) (names : List (List ℕ)) (form : BooleanModel) (o : Option BooleanFormula) → names_of [] is ≡ Some names → formula_of names t ≡ o
     → option_map (λ f. record { names = names; invariant = f }) o ≡ Some form → Over is t form
 over_formula is t names form None n f e = cc
 over_formula is t names form (Some g) n f e =
     let same : record { names = names; invariant = g } ≡ form = cc in
     subst (Over is t) same (n, f)
 
-over : (is : List PlainItem) (t : Tree) (form : Source) (o : Option (List (List ℕ))) → names_of [] is ≡ o → source_over t o ≡ Some form → Over is t form
+over : (is : List PlainItem) (t : Tree) (form : BooleanModel) (o : Option (List (List ℕ))) → names_of [] is ≡ o → source_over t o ≡ Some form → Over is t form
 over is t form None n e = cc
 over is t form (Some []) n e = cc
 over is t form (Some (x ∷ xs)) n e = over_formula is t (x ∷ xs) form (formula_of (x ∷ xs) t) n refl e
 
-body : (es : List PlainElement) (form : Source) → source_of_parts (parts_of es) ≡ Some form → IsBody es form
+body : (es : List PlainElement) (form : BooleanModel) → source_of_parts (parts_of es) ≡ Some form → IsBody es form
 body [] form e = cc
 body (x ∷ []) form e = cc
 body (x ∷ y ∷ z ∷ zs) form e = cc
@@ -70,7 +70,7 @@ body (vars var_kind.State is ∷ spec None t ∷ []) form e =
     record { items = is; invariant = t; elements = refl; names = found.0; formula = found.1 }
 
 -- one module, by its parts
-of_module : (name : List ℕ) (place : Place) (ps : List Parameter) (es : List PlainElement) (tokens : ℕ) (form : Source)
+of_module : (name : List ℕ) (place : Place) (ps : List Parameter) (es : List PlainElement) (tokens : ℕ) (form : BooleanModel)
     → source_of_elements (elements_of (record { name = name; place = place; parameters = ps; elements = es; tokens = tokens } ∷ [])) ≡ Some form
     → IsShaped (record { name = name; place = place; parameters = ps; elements = es; tokens = tokens } ∷ []) form
 of_module name place [] es tokens form e = by (bytes_eq name (codes "main")) refl e
@@ -85,7 +85,7 @@ of_module name place (q ∷ qs) es tokens form e = absurd (by (bytes_eq name (co
     by true h = cc
     by false h = cc
 
-pub shaped : (ms : List PlainModule) (form : Source) → source_of_elements (elements_of ms) ≡ Some form → IsShaped ms form
+pub shaped : (ms : List PlainModule) (form : BooleanModel) → source_of_elements (elements_of ms) ≡ Some form → IsShaped ms form
 shaped [] form e = cc
 shaped (m ∷ []) form e = of_module m.name m.place m.parameters m.elements m.tokens form e
 shaped (m ∷ n ∷ ms) form e = cc

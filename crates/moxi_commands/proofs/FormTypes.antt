@@ -12,7 +12,7 @@ use Rattle.smv_meaning.specs.Expressions.{is_implies, are_implies, is_from_right
 use Rattle.smv_meaning.specs.Types.{ExprType, truth_type, in_limit, prefix_fits, prefix_type, infix_type}
 use Rattle.smv_meaning.specs.Checks.{Check, check, first_failing, Position, Named, Typing, node, on_type, both_types, single, across, behind, front, front_checks, typing, linked}
 use Rattle.smv_names.specs.laws.Composing.{both_pass}
-use Rattle.moxi_commands.specs.Formulas.{Formula, variable, Formulas}
+use Rattle.moxi_commands.specs.BooleanModels.{BooleanFormula, variable, BooleanFormulas}
 use Rattle.name_set.specs.Names.{place_of}
 use Rattle.moxi_commands.specs.Form.{variable_named, negation_of, conjunction_of, operand_of, more_of, formula_of, formulas_of}
 
@@ -30,12 +30,12 @@ pub record IsTruth (a : Typing) : Type 0 where
   pub passing : first_failing a.checks ≡ None
   pub type : a.type ≡ Some truth_type
 
-Typed : Typing → Option Formula → Type 0
+Typed : Typing → Option BooleanFormula → Type 0
 Typed a None = Unit {0}
 Typed a (Some f) = IsTruth a
 
 -- the links are no implications, and what they make of a truth value
-AllTyped : Bool → (Typing → Typing) → Option Formulas → Type 0
+AllTyped : Bool → (Typing → Typing) → Option BooleanFormulas → Type 0
 AllTyped right go None = Unit {0}
 AllTyped right go (Some fs) = (right ≡ false) × ((a : Typing) → IsTruth a → IsTruth (go a))
 
@@ -69,7 +69,7 @@ signed_truth n p a g = record {
   type = ap (λ t. (node a.checks (sign_checks prefixes.Not n p t) (option_map (prefix_type prefixes.Not n) t)).type) g.type;
 }
 
-sign_typed : (sign : Prefix) (n : ℕ) (p : Place) (a : Typing) (o : Option Formula) → Typed a o
+sign_typed : (sign : Prefix) (n : ℕ) (p : Place) (a : Typing) (o : Option BooleanFormula) → Typed a o
     → Typed (node a.checks (sign_checks sign n p a.type) (option_map (prefix_type sign n) a.type)) (negation_of sign n o)
 unfolding Typed
 sign_typed prefixes.Not n p a None t = tt
@@ -84,7 +84,7 @@ front_truth at p a b e g h = record {
       ∙ ap (λ t. (node [] (front_checks infixes.And at p (Some truth_type) t e) (both_types (λ t u. infix_type infixes.And t u e) (Some truth_type) t)).type) h.type;
 }
 
-link_typed : (op : Infix) (right rest : Bool) (at : Position) (p : Place) (go : Typing → Typing) (b : Position → Typing) (e : Tree) (o : Option Formula) (fs : Option Formulas) → ((at : Position) → Typed (b at) o) → AllTyped right go fs
+link_typed : (op : Infix) (right rest : Bool) (at : Position) (p : Place) (go : Typing → Typing) (b : Position → Typing) (e : Tree) (o : Option BooleanFormula) (fs : Option BooleanFormulas) → ((at : Position) → Typed (b at) o) → AllTyped right go fs
     → AllTyped (is_implies op && rest) (λ a. go (front op at p a (b (behind op at)) e)) (more_of (operand_of op o) fs)
 unfolding Typed AllTyped
 link_typed infixes.And right rest at p go b e None fs t more = tt
@@ -93,7 +93,7 @@ link_typed infixes.And right rest at p go b e (Some f) (Some fs) t more =
     (refl, λ a g. more.1 (front infixes.And at p a (b (behind infixes.And at)) e) (front_truth at p a (b (behind infixes.And at)) e g (t (behind infixes.And at))))
 link_typed _ right rest at p go b e o fs t more = tt
 
-chain_typed : (right : Bool) (go : Typing → Typing) (other a : Typing) (o : Option Formula) (fs : Option Formulas) → Typed a o → AllTyped right go fs
+chain_typed : (right : Bool) (go : Typing → Typing) (other a : Typing) (o : Option BooleanFormula) (fs : Option BooleanFormulas) → Typed a o → AllTyped right go fs
     → Typed (if right then other else go a) (conjunction_of o fs)
 unfolding Typed AllTyped
 chain_typed right go other a None fs t more = tt
@@ -127,13 +127,13 @@ module _ (names : List (List ℕ)) (known : Path → Named) (truths : AreTruths 
     all_typed (link op e ls) at p =
         link_typed op (is_from_right ls) (are_implies ls) at p (λ a. linked known at p a ls) (λ b. typing known b e) e (formula_of names e) (formulas_of names ls) (typed e) (all_typed ls at p)
 
-some_typed : (a : Typing) (o : Option Formula) (f : Formula) → o ≡ Some f → Typed a o → IsTruth a
+some_typed : (a : Typing) (o : Option BooleanFormula) (f : BooleanFormula) → o ≡ Some f → Typed a o → IsTruth a
 unfolding Typed
 some_typed a None f e t = cc
 some_typed a (Some g) f e t = t
 
 -- an expression that is a formula passes its checks, wherever it stands
-pub is_truth : (names : List (List ℕ)) (known : Path → Named) (e : Tree) (f : Formula) (at : Position) → AreTruths names known → formula_of names e ≡ Some f → IsTruth (typing known at e)
+pub is_truth : (names : List (List ℕ)) (known : Path → Named) (e : Tree) (f : BooleanFormula) (at : Position) → AreTruths names known → formula_of names e ≡ Some f → IsTruth (typing known at e)
 is_truth names known e f at truths h = some_typed (typing known at e) (formula_of names e) f h (typed names known truths e at)
 
 -- ---- paths
@@ -142,11 +142,11 @@ is_truth names known e f at truths h = some_typed (typing known at e) (formula_o
 abbrev pub AllPass : List (List ℕ) → (Path → Bool) → Type 0
 AllPass names test = (path : Path) (y : List ℕ) (v : ℕ) → path.from_self ≡ false → path.names ≡ y ∷ [] → place_of names y ≡ Some v → test path ≡ true
 
-Reach : (Path → Bool) → (List Path → List Path) → Option Formula → Type 0
+Reach : (Path → Bool) → (List Path → List Path) → Option BooleanFormula → Type 0
 Reach test paths None = Unit {0}
 Reach test paths (Some f) = (more : List Path) → list_all test more ≡ true → list_all test (paths more) ≡ true
 
-AllReach : (Path → Bool) → (List Path → List Path) → Option Formulas → Type 0
+AllReach : (Path → Bool) → (List Path → List Path) → Option BooleanFormulas → Type 0
 AllReach test paths None = Unit {0}
 AllReach test paths (Some fs) = (more : List Path) → list_all test more ≡ true → list_all test (paths more) ≡ true
 
@@ -163,13 +163,13 @@ path_reached names test path false (y ∷ []) h = by (place_of names y) refl
     by (Some v) e = λ more m. ap (λ b. b && list_all test more) (h y v refl refl e) ∙ m
 path_reached names test path false (y ∷ z ∷ ns) h = tt
 
-sign_reached : (test : Path → Bool) (sign : Prefix) (n : ℕ) (paths : List Path → List Path) (o : Option Formula) → Reach test paths o → Reach test paths (negation_of sign n o)
+sign_reached : (test : Path → Bool) (sign : Prefix) (n : ℕ) (paths : List Path → List Path) (o : Option BooleanFormula) → Reach test paths o → Reach test paths (negation_of sign n o)
 unfolding Reach
 sign_reached test prefixes.Not n paths None r = tt
 sign_reached test prefixes.Not n paths (Some f) r = r
 sign_reached test prefixes.Minus n paths o r = tt
 
-link_reached : (test : Path → Bool) (op : Infix) (paths rest : List Path → List Path) (o : Option Formula) (fs : Option Formulas) → Reach test paths o → AllReach test rest fs
+link_reached : (test : Path → Bool) (op : Infix) (paths rest : List Path → List Path) (o : Option BooleanFormula) (fs : Option BooleanFormulas) → Reach test paths o → AllReach test rest fs
     → AllReach test (λ more. paths (rest more)) (more_of (operand_of op o) fs)
 unfolding Reach AllReach
 link_reached test infixes.And paths rest None fs r all = tt
@@ -177,7 +177,7 @@ link_reached test infixes.And paths rest (Some f) None r all = tt
 link_reached test infixes.And paths rest (Some f) (Some fs) r all = λ more m. r (rest more) (all more m)
 link_reached test _ paths rest o fs r all = tt
 
-chain_reached : (test : Path → Bool) (paths rest : List Path → List Path) (o : Option Formula) (fs : Option Formulas) → Reach test paths o → AllReach test rest fs
+chain_reached : (test : Path → Bool) (paths rest : List Path → List Path) (o : Option BooleanFormula) (fs : Option BooleanFormulas) → Reach test paths o → AllReach test rest fs
     → Reach test (λ more. paths (rest more)) (conjunction_of o fs)
 unfolding Reach AllReach
 chain_reached test paths rest None fs r all = tt
@@ -207,11 +207,11 @@ module _ (names : List (List ℕ)) (test : Path → Bool) (pass : AllPass names 
     all_reached no_links = λ more m. m
     all_reached (link op e ls) = link_reached test op (paths_of e) (link_paths ls) (formula_of names e) (formulas_of names ls) (reached e) (all_reached ls)
 
-some_reached : (test : Path → Bool) (paths : List Path → List Path) (o : Option Formula) (f : Formula) → o ≡ Some f → Reach test paths o → list_all test (paths []) ≡ true
+some_reached : (test : Path → Bool) (paths : List Path → List Path) (o : Option BooleanFormula) (f : BooleanFormula) → o ≡ Some f → Reach test paths o → list_all test (paths []) ≡ true
 unfolding Reach
 some_reached test paths None f e r = cc
 some_reached test paths (Some g) f e r = r [] refl
 
 -- the paths of an expression that is a formula pass a test that each declared name passes
-pub all_pass : (names : List (List ℕ)) (test : Path → Bool) (e : Tree) (f : Formula) → AllPass names test → formula_of names e ≡ Some f → list_all test (paths_of e []) ≡ true
+pub all_pass : (names : List (List ℕ)) (test : Path → Bool) (e : Tree) (f : BooleanFormula) → AllPass names test → formula_of names e ≡ Some f → list_all test (paths_of e []) ≡ true
 all_pass names test e f pass h = some_reached test (paths_of e) (formula_of names e) f h (reached names test pass e)

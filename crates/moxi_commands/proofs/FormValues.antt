@@ -10,7 +10,7 @@ use Rattle.smv_meaning.specs.declared.value.Value.{Value}
 use Rattle.smv_meaning.specs.declared.value.Value.TheVariants.{Truth}
 use Rattle.smv_meaning.specs.Operators.{applied, signed}
 use Rattle.smv_meaning.specs.Expressions.{Denotation, alone, joined, is_implies, are_implies, is_from_right, denote, implications, linked}
-use Rattle.moxi_commands.specs.Formulas.{Formula, variable, Formulas}
+use Rattle.moxi_commands.specs.BooleanModels.{BooleanFormula, variable, BooleanFormulas}
 use Rattle.name_set.specs.Names.{place_of}
 use Rattle.moxi_commands.specs.Form.{variable_named, negation_of, conjunction_of, operand_of, more_of, formula_of, formulas_of}
 use Rattle.moxi_commands.specs.Truths.{Truths, negated, truth_of, all_true}
@@ -19,12 +19,12 @@ use Rattle.moxi_commands.specs.Truths.{Truths, negated, truth_of, all_true}
 pub record Reads (names : List (List ℕ)) (truths : Truths) (now : Path → Value) : Type 0 where
   pub reads : (path : Path) (x : List ℕ) (v : ℕ) → path.from_self ≡ false → path.names ≡ x ∷ [] → place_of names x ≡ Some v → now path ≡ Truth (truths v)
 
-Means : Truths → Denotation → Option Formula → Type 0
+Means : Truths → Denotation → Option BooleanFormula → Type 0
 Means s d None = Unit {0}
 Means s d (Some f) = d.value ≡ Truth (truth_of s f)
 
 -- the links are no implications, and what they make of a truth value
-AllMean : Truths → Bool → (Denotation → Denotation) → Option Formulas → Type 0
+AllMean : Truths → Bool → (Denotation → Denotation) → Option BooleanFormulas → Type 0
 AllMean s right go None = Unit {0}
 AllMean s right go (Some fs) = (right ≡ false) × ((d : Denotation) (b : Bool) → d.value ≡ Truth b → (go d).value ≡ Truth (b && all_true s fs))
 
@@ -55,7 +55,7 @@ signs : (n : ℕ) (b : Bool) → signed prefixes.Not n (Truth b) ≡ Truth (nega
 signs n b =
     ap (λ c. if c then Truth (not b) else Truth b) (odd n) ∙ truth_if (negated n false) b ∙ ap Truth (sym (negated_by n b))
 
-sign_means : (s : Truths) (sign : Prefix) (n : ℕ) (d : Denotation) (o : Option Formula) → Means s d o → Means s (alone (signed sign n d.value)) (negation_of sign n o)
+sign_means : (s : Truths) (sign : Prefix) (n : ℕ) (d : Denotation) (o : Option BooleanFormula) → Means s d o → Means s (alone (signed sign n d.value)) (negation_of sign n o)
 unfolding Means
 sign_means s prefixes.Not n d None m = tt
 sign_means s prefixes.Not n d (Some f) m = ap (signed prefixes.Not n) m ∙ signs n (truth_of s f)
@@ -89,7 +89,7 @@ and_true false = refl
 joined_and : (c d : Denotation) (p q : Bool) → c.value ≡ Truth p → d.value ≡ Truth q → (joined infixes.And c d).value ≡ Truth (p && q)
 joined_and c d p q e f = ap (λ v. applied infixes.And v d.value) e ∙ ap (applied infixes.And (Truth p)) f
 
-link_means : (s : Truths) (op : Infix) (right rest : Bool) (go : Denotation → Denotation) (d : Denotation) (o : Option Formula) (fs : Option Formulas) → Means s d o → AllMean s right go fs
+link_means : (s : Truths) (op : Infix) (right rest : Bool) (go : Denotation → Denotation) (d : Denotation) (o : Option BooleanFormula) (fs : Option BooleanFormulas) → Means s d o → AllMean s right go fs
     → AllMean s (is_implies op && rest) (λ c. go (joined op c d)) (more_of (operand_of op o) fs)
 unfolding Means AllMean
 link_means s infixes.And right rest go d None fs m a = tt
@@ -98,7 +98,7 @@ link_means s infixes.And right rest go d (Some f) (Some fs) m a =
     (refl, λ c b e. a.1 (joined infixes.And c d) (b && truth_of s f) (joined_and c d b (truth_of s f) e m) ∙ ap Truth (and_and b (truth_of s f) (all_true s fs)))
 link_means s _ right rest go d o fs m a = tt
 
-chain_means : (s : Truths) (right : Bool) (go : Denotation → Denotation) (other d : Denotation) (o : Option Formula) (fs : Option Formulas) → Means s d o → AllMean s right go fs
+chain_means : (s : Truths) (right : Bool) (go : Denotation → Denotation) (other d : Denotation) (o : Option BooleanFormula) (fs : Option BooleanFormulas) → Means s d o → AllMean s right go fs
     → Means s (if right then other else go d) (conjunction_of o fs)
 unfolding Means AllMean
 chain_means s right go other d None fs m a = tt
@@ -131,11 +131,11 @@ module _ (names : List (List ℕ)) (s : Truths) (now later : Path → Value) (re
     all_mean (link op t ls) =
         link_means s op (is_from_right ls) (are_implies ls) (λ d. linked now later d ls) (denote now later t) (formula_of names t) (formulas_of names ls) (means t) (all_mean ls)
 
-some_means : (s : Truths) (d : Denotation) (o : Option Formula) (f : Formula) → o ≡ Some f → Means s d o → d.value ≡ Truth (truth_of s f)
+some_means : (s : Truths) (d : Denotation) (o : Option BooleanFormula) (f : BooleanFormula) → o ≡ Some f → Means s d o → d.value ≡ Truth (truth_of s f)
 unfolding Means
 some_means s d None f e m = cc
 some_means s d (Some g) f e m = let same : g ≡ f = cc in m ∙ ap (λ h. Truth (truth_of s h)) same
 
 -- the value of an expression that is a formula
-pub value_is_truth : (names : List (List ℕ)) (s : Truths) (now later : Path → Value) (t : Tree) (f : Formula) → Reads names s now → formula_of names t ≡ Some f → (denote now later t).value ≡ Truth (truth_of s f)
+pub value_is_truth : (names : List (List ℕ)) (s : Truths) (now later : Path → Value) (t : Tree) (f : BooleanFormula) → Reads names s now → formula_of names t ≡ Some f → (denote now later t).value ≡ Truth (truth_of s f)
 value_is_truth names s now later t f reads e = some_means s (denote now later t) (formula_of names t) f e (means names s now later reads t)

@@ -6,7 +6,7 @@ use Rattle.std.proofs.lemmas.List.{length_push}
 use Rattle.std.proofs.lemmas.Bool.{cases_lt}
 use Rattle.word_core.specs.Words.{BitVector, IsWord}
 use Rattle.btor_tree.specs.declared.args.Arg.{Arg}
-use Rattle.btor_tree.specs.declared.lines.TheConstants.{GREATEST_ID}
+use Rattle.btor_tree.specs.Fits.{greatest_id}
 use Rattle.btor_tree.specs.declared.lines.Line.{Line}
 use Rattle.btor_tree.specs.declared.lines.LineOp.{LineOp}
 use Rattle.btor_tree.specs.declared.lines.LineOp.TheVariants.{Sort, Input, State, One, Zero, Init, Next}
@@ -15,8 +15,8 @@ use Rattle.btor_tree.specs.Frame.{GivenFits, FreeFits}
 use Rattle.btor_tree.proofs.Grows.{slice_get_front, slice_get_end, well_formed_push, empty_well_formed}
 use Rattle.btor_tree.proofs.Widths.{width_front}
 use Rattle.btor_tree.proofs.Paths.{operands_append}
-use Rattle.moxi_commands.specs.Formulas.{Formula}
-use Rattle.moxi_commands.specs.Formulas.{Below}
+use Rattle.moxi_commands.specs.BooleanModels.{BooleanFormula}
+use Rattle.moxi_commands.specs.BooleanModels.{Below}
 use Rattle.moxi_commands.specs.Lines.{symbol_of, with_line, first_lines, input_symbol, state_symbol, with_variable, with_variables, input_place, made, with_formula, size}
 use Rattle.moxi_commands.specs.Stands.{Ready, Stands, HasInputs}
 use Rattle.moxi_commands.proofs.Grown.{free_push, append_nil}
@@ -149,7 +149,7 @@ head_first =
       bads = refl;
     }
 
-pub head_step : (n : ℕ) (lines : List Line) (name : List ℕ) → length lines + 3 ≤ GREATEST_ID → Head n lines → Head (suc n) (with_variable lines name)
+pub head_step : (n : ℕ) (lines : List Line) (name : List ℕ) → length lines + 3 ≤ greatest_id → Head n lines → Head (suc n) (with_variable lines name)
 head_step n l0 name room h =
     let y1 : List ℕ = input_symbol name in
     let y2 : List ℕ = state_symbol name in
@@ -183,7 +183,7 @@ head_step n l0 name room h =
       bads = operands_line is_bad l2 Next args None refl ∙ operands_line is_bad l1 State [] (Some y2) refl ∙ operands_line is_bad l0 Input [] (Some y1) refl ∙ h.bads;
     }
 
-pub heads : (n : ℕ) (lines : List Line) (names : List (List ℕ)) → length lines + 3 * length names ≤ GREATEST_ID → Head n lines → Head (n + length names) (with_variables lines names)
+pub heads : (n : ℕ) (lines : List Line) (names : List (List ℕ)) → length lines + 3 * length names ≤ greatest_id → Head n lines → Head (n + length names) (with_variables lines names)
 heads n lines [] room h = let e : n ≡ n + 0 = omega arith in subst (λ k. Head k lines) e h
 heads n lines (name ∷ names) room h =
     let step = head_step n lines name (omega arith) h in
@@ -192,19 +192,19 @@ heads n lines (name ∷ names) room h =
     (heads (suc n) (with_variable lines name) names (omega (arith, h.sized, step.sized)) step)
 
 -- all lines before those of the invariant
-pub head : (names : List (List ℕ)) → 6 + 3 * length names ≤ GREATEST_ID → Head (length names) (with_variables first_lines names)
+pub head : (names : List (List ℕ)) → 6 + 3 * length names ≤ greatest_id → Head (length names) (with_variables first_lines names)
 head names room =
     let e : 0 + length names ≡ length names = omega arith in
     subst (λ k. Head k (with_variables first_lines names)) e (heads 0 first_lines names room head_first)
 
-pub has_inputs : (n : ℕ) (lines : List Line) (f : Formula) → Head n lines → Below n f → HasInputs lines f
+pub has_inputs : (n : ℕ) (lines : List Line) (f : BooleanFormula) → Head n lines → Below n f → HasInputs lines f
 has_inputs n lines f h b = each_variable (λ v p. (h.inputs v p).wide) f b
 
 -- what the loop over the names keeps: with the names that are left it makes what it is to make
 pub record VariablesLeft (whole : List Line) (n : ℕ) (lines : List Line) (names : List (List ℕ)) : Type 0 where
   pub same : with_variables lines names ≡ whole
   pub head : Head n lines
-  pub room : length lines + 3 * length names ≤ GREATEST_ID
+  pub room : length lines + 3 * length names ≤ greatest_id
 
 pub variables_step : (whole : List Line) (n : ℕ) (lines new : List Line) (names : List (List ℕ)) (name : List ℕ) (rest : List (List ℕ)) → names ≡ name ∷ rest → new ≡ with_variable lines name → VariablesLeft whole n lines names → VariablesLeft whole (n + 1) new rest
 variables_step whole n lines new names name rest e is l =
@@ -219,7 +219,7 @@ pub fits_input : (lines : List Line) (args : List Arg) (symbol rest : List ℕ) 
 fits_input lines args symbol rest r a s =
     subst (λ x. Suits lines Input 0 x (Some symbol)) (sym a) (suits_input lines symbol r (subst IsSymbol (sym s) (symbol_fits 118 rest)))
 
-pub ready_input : (lines new : List Line) (args : List Arg) (symbol rest : List ℕ) → Ready lines → length lines < GREATEST_ID → args ≡ [] → symbol ≡ symbol_of (118 ∷ rest) → new ≡ with_line lines Input args (Some symbol) → Ready new
+pub ready_input : (lines new : List Line) (args : List Arg) (symbol rest : List ℕ) → Ready lines → length lines < greatest_id → args ≡ [] → symbol ≡ symbol_of (118 ∷ rest) → new ≡ with_line lines Input args (Some symbol) → Ready new
 ready_input lines new args symbol rest r h a s e =
     subst Ready (sym e) (ready_push lines Input args (Some symbol) r h (fits_input lines args symbol rest r a s))
 
@@ -227,7 +227,7 @@ pub fits_state : (lines : List Line) (args : List Arg) (symbol rest : List ℕ) 
 fits_state lines args symbol rest r a s =
     subst (λ x. Suits lines State 0 x (Some symbol)) (sym a) (suits_state lines symbol r (subst IsSymbol (sym s) (symbol_fits 118 rest)))
 
-pub fits_next : (lines one two : List Line) (a1 a2 args : List Arg) (y1 y2 rest1 rest2 : List ℕ) (input state : ℕ) → Ready lines → length lines + 3 ≤ GREATEST_ID → a1 ≡ [] → y1 ≡ symbol_of (118 ∷ rest1) → one ≡ with_line lines Input a1 (Some y1) → input ≡ length lines → a2 ≡ [] → y2 ≡ symbol_of (118 ∷ rest2) → two ≡ with_line one State a2 (Some y2) → state ≡ length one → args ≡ plain_arg state ∷ plain_arg input ∷ [] → Suits two Next 0 args None
+pub fits_next : (lines one two : List Line) (a1 a2 args : List Arg) (y1 y2 rest1 rest2 : List ℕ) (input state : ℕ) → Ready lines → length lines + 3 ≤ greatest_id → a1 ≡ [] → y1 ≡ symbol_of (118 ∷ rest1) → one ≡ with_line lines Input a1 (Some y1) → input ≡ length lines → a2 ≡ [] → y2 ≡ symbol_of (118 ∷ rest2) → two ≡ with_line one State a2 (Some y2) → state ≡ length one → args ≡ plain_arg state ∷ plain_arg input ∷ [] → Suits two Next 0 args None
 fits_next lines one two a1 a2 args y1 y2 rest1 rest2 input state r room ea1 ey1 e1 ei ea2 ey2 e2 es ea =
     let n1 : length one ≡ length lines + 1 = ap length e1 ∙ length_push lines (line_here lines Input a1 (Some y1)) in
     let r1 : Ready one = ready_input lines one a1 y1 rest1 r (omega arith) ea1 ey1 e1 in
@@ -240,13 +240,13 @@ fits_next lines one two a1 a2 args y1 y2 rest1 rest2 input state r room ea1 ey1 
     subst (λ ls. Suits ls Next 0 args None) (sym same) (subst (λ a. Suits (with_line one State [] (Some y2)) Next 0 a None) places there)
 
 -- the lines of the variables, and what they owe those of the invariant
-pub invariant_owed : (lines : List Line) (names : List (List ℕ)) (f : Formula) → lines ≡ with_variables first_lines names → 8 + 3 * length names + size f ≤ GREATEST_ID → Below (length names) f → (length lines + size f + 2 ≤ GREATEST_ID) × Ready lines × HasInputs lines f
+pub invariant_owed : (lines : List Line) (names : List (List ℕ)) (f : BooleanFormula) → lines ≡ with_variables first_lines names → 8 + 3 * length names + size f ≤ greatest_id → Below (length names) f → (length lines + size f + 2 ≤ greatest_id) × Ready lines × HasInputs lines f
 invariant_owed lines names f e room b =
     let h = subst (Head (length names)) (sym e) (head names (omega arith)) in
     (omega (arith, h.sized), h.ready, has_inputs (length names) lines f h b)
 
 -- and what those owe the bad line
-pub bad_owed : (lines new : List Line) (f : Formula) (place : ℕ) → length lines + size f + 2 ≤ GREATEST_ID → Ready lines → HasInputs lines f → made new place ≡ with_formula lines f → (length new + 2 ≤ GREATEST_ID) × Stands (made new place)
+pub bad_owed : (lines new : List Line) (f : BooleanFormula) (place : ℕ) → length lines + size f + 2 ≤ greatest_id → Ready lines → HasInputs lines f → made new place ≡ with_formula lines f → (length new + 2 ≤ greatest_id) × Stands (made new place)
 bad_owed lines new f place room r i is =
     let g = gives lines f r i (omega arith) in
     (omega (arith, g.sized, ap (λ m. length m.lines) is), subst Stands (sym is) g.stands)

@@ -1,59 +1,47 @@
 -- Files define one judgement.
-use Rattle.std.proofs.Common.{◌≡◌, inl, inr, ℕ, List, Option, Some, None, refl, sym, ap, ◌∙◌, subst}
-use Rattle.text_core.specs.Outside.{Files, file_at}
+use Rattle.std.proofs.Common.{◌≡◌, inl, inr, ℕ, List, Result, Ok, Err, refl, sym, ap, ◌∙◌, subst}
+use Rattle.text_core.specs.Outside.{Files}
 use Rattle.btor_tree.specs.declared.lines.Line.{Line}
 use Rattle.btor_tree.specs.Fits.{IsWellFormed}
-use Rattle.btor_tree.proofs.Readings.{one_list, no_list}
+use Rattle.btor_tree.proofs.Readings.{one_list}
 use Rattle.btor_tree.proofs.Resolved.{reads_well_formed}
 use Rattle.btor_tree.proofs.Grows.{empty_well_formed}
+use Rattle.btor_text.specs.laws.Refusals as refusals
 use Rattle.btor_witness.specs.declared.witness.Witness.{Witness}
 use Rattle.btor_witness.specs.laws.Verdicts.{one_verdict}
-use Rattle.btor_witness.specs.laws.Laws.{one_witness, not_both}
+use Rattle.btor_witness.specs.laws.Laws.{same_refusal, one_witness, not_both}
 use Rattle.moxi_commands.specs.declared.answer.Answer.{Answer}
-use Rattle.moxi_commands.specs.declared.answer.Answer.TheVariants.{Unread, Refuses, SecondRefuses}
-use Rattle.moxi_commands.specs.Outcome.{IsJudgement, IsVerdict, OnSecond, OnWitness, status_of, text_of, verdict_answer}
+use Rattle.moxi_commands.specs.declared.answer.Answer.TheVariants.{Refused, SecondRefused}
+use Rattle.moxi_commands.specs.Judgement.{IsJudgement, IsVerdict, OfBytes, OfLines, OfText, btor_too_long, verdict_answer, witness_too_long}
+use Rattle.moxi_commands.specs.Limits.{most_btor_bytes, most_witness_bytes}
+use Rattle.moxi_commands.specs.Reading.{GoesOn, file_within}
 
--- two answers have one status and one text
-abbrev pub Same : Answer → Answer → Type 0
-Same a b = (status_of a ≡ status_of b) × (text_of a ≡ text_of b)
+pub goes_once : (step : Result (List ℕ) Answer) (next : List ℕ → Answer → Type 0) → ((bytes : List ℕ) (a b : Answer) → next bytes a → next bytes b → a ≡ b) → (a b : Answer) → GoesOn step next a → GoesOn step next b → a ≡ b
+goes_once (Ok bytes) next once a b h k = once bytes a b h k
+goes_once (Err instead) next once a b h k = h ∙ sym k
 
-by_equals : (a b x y : Answer) → a ≡ x → b ≡ y → Same x y → Same a b
-by_equals a b x y e f s =
-    (ap status_of e ∙ s.0 ∙ sym (ap status_of f), ap text_of e ∙ s.1 ∙ sym (ap text_of f))
+one_verdict_answer : (lines : List Line) → IsWellFormed lines → (w : Witness) (a b : Answer) → IsVerdict lines w a → IsVerdict lines w b → a ≡ b
+one_verdict_answer lines well w a b h k =
+    h.2 ∙ ap (verdict_answer w) (one_verdict lines w h.0 k.0 well h.1 k.1) ∙ sym k.2
 
-same_verdict : (lines : List Line) → IsWellFormed lines → (w : Witness) (a b : Answer) → IsVerdict lines w a → IsVerdict lines w b → Same a b
-same_verdict lines well w a b h k =
-    let v = one_verdict lines w h.0 k.0 well h.1 k.1 in
-    by_equals a b (verdict_answer w h.0) (verdict_answer w k.0) h.2 k.2 (ap (λ x. status_of (verdict_answer w x)) v, ap (λ x. text_of (verdict_answer w x)) v)
+one_text : (lines : List Line) → IsWellFormed lines → (text : List ℕ) (a b : Answer) → OfText lines text a → OfText lines text b → a ≡ b
+one_text lines well text a b (inl x) (inl y) = one_verdict_answer lines well y.0 a b (subst (λ w. IsVerdict lines w a) (one_witness lines text x.0 y.0 x.1 y.1) x.2) y.2
+one_text lines well text a b (inl x) (inr r) = absurd (not_both lines text x.0 r.0.kind r.0.place.line x.1 r.1.0)
+one_text lines well text a b (inr r) (inl y) = absurd (not_both lines text y.0 r.0.kind r.0.place.line y.1 r.1.0)
+one_text lines well text a b (inr r) (inr q) = r.2 ∙ ap SecondRefused (same_refusal lines text r.0 q.0 r.1 q.1) ∙ sym q.2
 
-same_witness : (lines : List Line) → IsWellFormed lines → (text : List ℕ) (a b : Answer) → OnWitness lines text (IsVerdict lines) a → OnWitness lines text (IsVerdict lines) b → Same a b
-same_witness lines well text a b h k =
-    elim h [
-      | inl x ↦ elim k [
-        | inl y ↦ same_verdict lines well y.0 a b (subst (λ w. IsVerdict lines w a) (one_witness lines text x.0 y.0 x.1 y.1) x.2) y.2
-        | inr r ↦ absurd (not_both lines text x.0 r.0.kind r.0.place.line x.1 r.1)
-      ]
-      | inr r ↦ elim k [
-        | inl y ↦ absurd (not_both lines text y.0 r.0.kind r.0.place.line y.1 r.1)
-        | inr q ↦ by_equals a b (SecondRefuses r.0) (SecondRefuses q.0) r.3 q.3 (refl, refl)
-      ]
-    ]
+one_of_lines : (files : Files) (second : List ℕ) (lines : List Line) → IsWellFormed lines → (a b : Answer) → OfLines files second lines a → OfLines files second lines b → a ≡ b
+one_of_lines files second lines well a b h k =
+    goes_once (file_within files second most_witness_bytes witness_too_long) (OfText lines) (λ text a b h k. one_text lines well text a b h k) a b h k
 
-same_second : (lines : List Line) → IsWellFormed lines → (content : Option (List ℕ)) (name : List ℕ) (a b : Answer) → OnSecond content name (λ text. OnWitness lines text (IsVerdict lines)) a → OnSecond content name (λ text. OnWitness lines text (IsVerdict lines)) b → Same a b
-same_second lines well None name a b h k = by_equals a b (Unread name) (Unread name) h k (refl, refl)
-same_second lines well (Some text) name a b h k = same_witness lines well text a b h k
+one_of_bytes : (files : Files) (second bytes : List ℕ) (a b : Answer) → OfBytes files second bytes a → OfBytes files second bytes b → a ≡ b
+one_of_bytes files second bytes a b (inl x) (inl y) =
+    let e : x.0 ≡ y.0 = one_list x.1 y.1 refl in
+    one_of_lines files second y.0 (reads_well_formed y.1 empty_well_formed) a b (subst (λ ls. OfLines files second ls a) e x.2) y.2
+one_of_bytes files second bytes a b (inl x) (inr r) = absurd (refusals.not_both bytes x.0 r.0 x.1 r.1)
+one_of_bytes files second bytes a b (inr r) (inl y) = absurd (refusals.not_both bytes y.0 r.0 y.1 r.1)
+one_of_bytes files second bytes a b (inr r) (inr q) = r.2 ∙ ap Refused (refusals.one_refusal bytes r.0 q.0 r.1 q.1) ∙ sym q.2
 
-pub same_judgement : (files : Files) (second bytes : List ℕ) (a b : Answer) → IsJudgement files second bytes a → IsJudgement files second bytes b → Same a b
-same_judgement files second bytes a b h k =
-    elim h [
-      | inl x ↦ elim k [
-        | inl y ↦
-            let same : x.0 ≡ y.0 = one_list x.1 y.1 refl in
-            same_second y.0 (reads_well_formed y.1 empty_well_formed) (file_at files second) second a b (subst (λ ls. OnSecond (file_at files second) second (λ text. OnWitness ls text (IsVerdict ls)) a) same x.2) y.2
-        | inr r ↦ absurd (no_list x.1 r.1.1 refl)
-      ]
-      | inr r ↦ elim k [
-        | inl y ↦ absurd (no_list y.1 r.1.1 refl)
-        | inr q ↦ by_equals a b (Refuses r.0) (Refuses q.0) r.2 q.2 (refl, refl)
-      ]
-    ]
+pub one_judgement : (files : Files) (model second : List ℕ) (a b : Answer) → IsJudgement files model second a → IsJudgement files model second b → a ≡ b
+one_judgement files model second a b h k =
+    goes_once (file_within files model most_btor_bytes btor_too_long) (OfBytes files second) (λ bytes a b h k. one_of_bytes files second bytes a b h k) a b h k

@@ -1,10 +1,10 @@
-pub mod AnswerLemmas
 pub mod PlainTrees
 pub mod Formed
 pub mod Bounds
 pub mod Within
 pub mod Sources
 pub mod OutcomeLemmas
+pub mod AnswerLemmas
 pub mod Grown
 pub mod Bytes
 pub mod TreeForms

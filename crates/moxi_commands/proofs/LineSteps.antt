@@ -5,7 +5,7 @@ use Rattle.std.proofs.lemmas.List.{length_push}
 use Rattle.word_core.specs.declared.kinds.Unary.TheVariants.{Not}
 use Rattle.word_core.specs.declared.kinds.Binary.TheVariants.{And}
 use Rattle.btor_tree.specs.declared.args.Arg.{Arg}
-use Rattle.btor_tree.specs.declared.lines.TheConstants.{GREATEST_ID}
+use Rattle.btor_tree.specs.Fits.{greatest_id}
 use Rattle.btor_tree.specs.declared.lines.Line.{Line}
 use Rattle.btor_tree.specs.declared.lines.LineOp.{LineOp}
 use Rattle.btor_tree.specs.declared.lines.LineOp.TheVariants.{Input, State, Next, Bad, Unary, Binary}
@@ -20,7 +20,7 @@ use Rattle.moxi_commands.specs.Stands.{Ready, Stands}
 abbrev pub line_here : List Line → LineOp → List Arg → Option (List ℕ) → Line
 line_here lines op args symbol = record { id = length lines + 1; op = op; sort = 0; args = args; symbol = symbol }
 
-pub ready_push : (lines : List Line) (op : LineOp) (args : List Arg) (symbol : Option (List ℕ)) → Ready lines → length lines < GREATEST_ID → Suits lines op 0 args symbol → Ready (with_line lines op args symbol)
+pub ready_push : (lines : List Line) (op : LineOp) (args : List Arg) (symbol : Option (List ℕ)) → Ready lines → length lines < greatest_id → Suits lines op 0 args symbol → Ready (with_line lines op args symbol)
 ready_push lines op args symbol r h s =
     let l = line_here lines op args symbol in
     record {
@@ -85,14 +85,14 @@ suits_next one symbol input r ro wi =
       symbol = tt;
     }
 
-pub stands_not : (m : Made) → Stands m → length m.lines < GREATEST_ID → Stands (with_not m)
+pub stands_not : (m : Made) → Stands m → length m.lines < greatest_id → Stands (with_not m)
 stands_not m s h =
     record {
       ready = ready_push m.lines (Unary Not) (plain_arg m.place ∷ []) None s.ready h (suits_not m s);
       wide = line_width m.lines (Unary Not) (plain_arg m.place ∷ []) None s.ready.sort refl;
     }
 
-pub stands_and : (m : Made) (place : ℕ) → Stands m → width_at m.lines place ≡ 1 → length m.lines < GREATEST_ID → Stands (with_and m place)
+pub stands_and : (m : Made) (place : ℕ) → Stands m → width_at m.lines place ≡ 1 → length m.lines < greatest_id → Stands (with_and m place)
 stands_and m place s w h =
     record {
       ready = ready_push m.lines (Binary And) (plain_arg m.place ∷ plain_arg place ∷ []) None s.ready h (suits_and m place s w);

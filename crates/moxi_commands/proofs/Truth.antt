@@ -1,12 +1,12 @@
 -- The lines of a formula have its value.
 use Rattle.std.proofs.Common.{◌≡◌, ℕ, zero, suc, ◌+◌, ◌<◌, ◌≤◌, ◌^◌, Bool, true, false, cond, not, ◌&&◌, ◌==◌, eqb, List, [], ◌∷◌, length, take, Option, refl, ap, ◌∙◌, subst, arith}
-use Rattle.moxi_commands.specs.Formulas.{Formula, variable, negation, conjunction, Formulas, no_formulas, formula}
+use Rattle.moxi_commands.specs.BooleanModels.{BooleanFormula, variable, negation, conjunction, BooleanFormulas, no_formulas, formula}
 use Rattle.word_core.specs.Words.{BitVector, IsWord}
 use Rattle.word_core.specs.Table.{unary_of, binary_of}
 use Rattle.word_core.specs.declared.kinds.Unary.TheVariants.{Not}
 use Rattle.word_core.specs.declared.kinds.Binary.TheVariants.{And}
 use Rattle.btor_tree.specs.declared.args.Arg.{Arg}
-use Rattle.btor_tree.specs.declared.lines.TheConstants.{GREATEST_ID}
+use Rattle.btor_tree.specs.Fits.{greatest_id}
 use Rattle.btor_tree.specs.declared.lines.Line.{Line}
 use Rattle.btor_tree.specs.declared.lines.LineOp.{LineOp}
 use Rattle.btor_tree.specs.declared.lines.LineOp.TheVariants.{Unary, Binary}
@@ -95,14 +95,14 @@ truth_and m place row s w met =
     ∙ and_bit (truth_at row m.place) (truth_at row place))
     ∙ bit_back (truth_at row m.place && truth_at row place)
 
-truth_signs : (n : ℕ) (m : Made) (row : List BitVector) → Stands m → length m.lines + n ≤ GREATEST_ID → Meets (with_signs n m).lines row → truth_at row (with_signs n m).place ≡ negated n (truth_at row m.place)
+truth_signs : (n : ℕ) (m : Made) (row : List BitVector) → Stands m → length m.lines + n ≤ greatest_id → Meets (with_signs n m).lines row → truth_at row (with_signs n m).place ≡ negated n (truth_at row m.place)
 truth_signs zero m row s h met = refl
 truth_signs (suc n) m row s h met =
     let k = with_signs n m in
     truth_not k row (stands_signs n m s (omega arith)) met
     ∙ ap not (truth_signs n m row s (omega arith) (grew_meets k.lines (with_not k).lines row (grew_not k) met))
 
-truth_ands : (m : Made) (places : List ℕ) (row : List BitVector) → Stands m → AllStand m.lines places → length m.lines + length places ≤ GREATEST_ID → Meets (with_ands m places).lines row → truth_at row (with_ands m places).place ≡ (truth_at row m.place && all_at row places)
+truth_ands : (m : Made) (places : List ℕ) (row : List BitVector) → Stands m → AllStand m.lines places → length m.lines + length places ≤ greatest_id → Meets (with_ands m places).lines row → truth_at row (with_ands m places).place ≡ (truth_at row m.place && all_at row places)
 truth_ands m [] row s a h met = and_true (truth_at row m.place)
 truth_ands m (p ∷ places) row s a h met =
     let k = with_and m p in
@@ -111,7 +111,7 @@ truth_ands m (p ∷ places) row s a h met =
     ∙ and_and (truth_at row m.place) (truth_at row p) (all_at row places)
 
 mutual
-  pub truth : (lines : List Line) (f : Formula) (row : List BitVector) → Ready lines → HasInputs lines f → length lines + size f ≤ GREATEST_ID → Meets (with_formula lines f).lines row → truth_at row (with_formula lines f).place ≡ truth_of (state_of row) f
+  pub truth : (lines : List Line) (f : BooleanFormula) (row : List BitVector) → Ready lines → HasInputs lines f → length lines + size f ≤ greatest_id → Meets (with_formula lines f).lines row → truth_at row (with_formula lines f).place ≡ truth_of (state_of row) f
   truth lines (variable v) row r i h met = refl
   truth lines (negation n f) row r i h met =
       let m = with_formula lines f in
@@ -131,7 +131,7 @@ mutual
       ∙ ap (λ b. b && all_at row a.places) (truth lines f row r i.0 (omega arith) (grew_meets m.lines a.lines row k.grew there))
       ∙ ap (λ b. truth_of (state_of row) f && b) (truth_all m.lines fs row g.stands.ready inputs (omega (arith, g.sized)) there)
 
-  pub truth_all : (lines : List Line) (fs : Formulas) (row : List BitVector) → Ready lines → HaveInputs lines fs → length lines + sizes fs ≤ GREATEST_ID → Meets (with_formulas lines fs).lines row → all_at row (with_formulas lines fs).places ≡ all_true (state_of row) fs
+  pub truth_all : (lines : List Line) (fs : BooleanFormulas) (row : List BitVector) → Ready lines → HaveInputs lines fs → length lines + sizes fs ≤ greatest_id → Meets (with_formulas lines fs).lines row → all_at row (with_formulas lines fs).places ≡ all_true (state_of row) fs
   truth_all lines no_formulas row r i h met = refl
   truth_all lines (formula f fs) row r i h met =
       let m = with_formula lines f in

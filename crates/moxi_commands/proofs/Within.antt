@@ -11,7 +11,7 @@ use Rattle.smv_text.specs.declared.tree.Infix.TheVariants as infixes
 use Rattle.smv_text.specs.declared.tree.VarKind.TheVariants as var_kind
 use Rattle.smv_text.specs.Tree.{Tree, truth, number, literal, name, prefix, chain, choice, cases, select, call, next, set, range, Links, no_links, link, PlainItem, PlainElement, PlainModule}
 use Rattle.smv_text.specs.Sources.{SpellsElement, variables, definitions, symbol_names, assignments, inits, transitions, invariants, specifications, SpellsElements, no_elements, element_then, SpellsModules, no_modules, module_then}
-use Rattle.moxi_commands.specs.Formulas.{Formula, variable, Formulas, Source, Below, EachVariableOf}
+use Rattle.moxi_commands.specs.BooleanModels.{BooleanFormula, variable, BooleanFormulas, BooleanModel, Below, EachVariableOf}
 use Rattle.name_set.specs.Names.{place_of}
 use Rattle.moxi_commands.specs.Form.{formula_of, formulas_of, negation_of, conjunction_of, operand_of, more_of, variable_named, names_of, is_declared_after, items_of, invariant_of, pair_of, parts_of, is_none_of, elements_of, source_over, source_of_parts, source_of_elements, HasFew, few_of_elements}
 use Rattle.name_set.specs.laws.Places.{place_below}
@@ -19,11 +19,11 @@ use Rattle.moxi_commands.specs.Lines.{size}
 use Rattle.moxi_commands.proofs.Bounds.{size_in, size_within, items_within}
 
 -- each variable of a formula is declared
-BelowIn : ℕ → Option Formula → Type 0
+BelowIn : ℕ → Option BooleanFormula → Type 0
 BelowIn n None = Unit {0}
 BelowIn n (Some f) = Below n f
 
-AllBelowIn : ℕ → Option Formulas → Type 0
+AllBelowIn : ℕ → Option BooleanFormulas → Type 0
 AllBelowIn n None = Unit {0}
 AllBelowIn n (Some fs) = EachVariableOf (λ i. i < n) fs
 
@@ -43,24 +43,24 @@ unfolding BelowIn
 below_path names true ns = tt
 below_path names false ns = below_named names ns
 
-below_negation : (n : ℕ) (pre : Prefix) (m : ℕ) (o : Option Formula) → BelowIn n o → BelowIn n (negation_of pre m o)
+below_negation : (n : ℕ) (pre : Prefix) (m : ℕ) (o : Option BooleanFormula) → BelowIn n o → BelowIn n (negation_of pre m o)
 unfolding BelowIn
 below_negation n prefixes.Not m None b = tt
 below_negation n prefixes.Not m (Some f) b = b
 below_negation n prefixes.Minus m o b = tt
 
-below_conjunction : (n : ℕ) (o : Option Formula) (fs : Option Formulas) → BelowIn n o → AllBelowIn n fs → BelowIn n (conjunction_of o fs)
+below_conjunction : (n : ℕ) (o : Option BooleanFormula) (fs : Option BooleanFormulas) → BelowIn n o → AllBelowIn n fs → BelowIn n (conjunction_of o fs)
 unfolding BelowIn AllBelowIn
 below_conjunction n None fs b bs = tt
 below_conjunction n (Some f) None b bs = tt
 below_conjunction n (Some f) (Some fs) b bs = (b, bs)
 
-below_operand : (n : ℕ) (op : Infix) (o : Option Formula) → BelowIn n o → BelowIn n (operand_of op o)
+below_operand : (n : ℕ) (op : Infix) (o : Option BooleanFormula) → BelowIn n o → BelowIn n (operand_of op o)
 unfolding BelowIn
 below_operand n infixes.And o b = b
 below_operand n _ o b = tt
 
-below_more : (n : ℕ) (o : Option Formula) (fs : Option Formulas) → BelowIn n o → AllBelowIn n fs → AllBelowIn n (more_of o fs)
+below_more : (n : ℕ) (o : Option BooleanFormula) (fs : Option BooleanFormulas) → BelowIn n o → AllBelowIn n fs → AllBelowIn n (more_of o fs)
 unfolding BelowIn AllBelowIn
 below_more n None fs b bs = tt
 below_more n (Some f) None b bs = tt
@@ -171,35 +171,35 @@ names_count names (i ∷ is) all e = go (is_declared_after names i) e (λ f. nam
     go false e ih = cc
 
 -- what holds of a model over so many tokens
-pub record Fits (n : ℕ) (s : Source) : Type 0 where
+pub record Fits (n : ℕ) (s : BooleanModel) : Type 0 where
   pub below : Below (length s.names) s.invariant
   pub names : length s.names ≤ n
   pub size : size s.invariant ≤ n
 
-fits_formula : (n : ℕ) (names : List (List ℕ)) (o : Option Formula) (s : Source) → length names ≤ n → size_in o ≤ n → BelowIn (length names) o → option_map (λ f. record { names = names; invariant = f }) o ≡ Some s → Fits n s
+fits_formula : (n : ℕ) (names : List (List ℕ)) (o : Option BooleanFormula) (s : BooleanModel) → length names ≤ n → size_in o ≤ n → BelowIn (length names) o → option_map (λ f. record { names = names; invariant = f }) o ≡ Some s → Fits n s
 unfolding BelowIn
 fits_formula n names None s a b c e = cc
 fits_formula n names (Some f) s a b c e =
     let same : record { names = names; invariant = f } ≡ s = cc in
     subst (Fits n) same (record { below = c; names = a; size = b })
 
-fits_over : (n : ℕ) (t : Tree) (o : Option (List (List ℕ))) (s : Source) → ((all : List (List ℕ)) → o ≡ Some all → length all ≤ n) → ((names : List (List ℕ)) → size_in (formula_of names t) ≤ n) → source_over t o ≡ Some s → Fits n s
+fits_over : (n : ℕ) (t : Tree) (o : Option (List (List ℕ))) (s : BooleanModel) → ((all : List (List ℕ)) → o ≡ Some all → length all ≤ n) → ((names : List (List ℕ)) → size_in (formula_of names t) ≤ n) → source_over t o ≡ Some s → Fits n s
 fits_over n t None s a b e = cc
 fits_over n t (Some []) s a b e = cc
 fits_over n t (Some (x ∷ xs)) s a b e = fits_formula n (x ∷ xs) (formula_of (x ∷ xs) t) s (a (x ∷ xs) refl) (b (x ∷ xs)) (below (x ∷ xs) t) e
 
-fits_parts : (n : ℕ) (o : Option (List PlainItem × Tree)) (s : Source) → Within n o → source_of_parts o ≡ Some s → Fits n s
+fits_parts : (n : ℕ) (o : Option (List PlainItem × Tree)) (s : BooleanModel) → Within n o → source_of_parts o ≡ Some s → Fits n s
 unfolding Within
 fits_parts n None s w e = cc
 fits_parts n (Some p) s w e = fits_over n p.1 (names_of [] p.0) s (λ all h. omega (arith, names_count [] p.0 all h, w.0)) w.1 e
 
-fits_elements : (n : ℕ) (o : Option (List PlainElement)) (s : Source) → ElementsWithin n o → source_of_elements o ≡ Some s → Fits n s
+fits_elements : (n : ℕ) (o : Option (List PlainElement)) (s : BooleanModel) → ElementsWithin n o → source_of_elements o ≡ Some s → Fits n s
 unfolding ElementsWithin
 fits_elements n None s w e = cc
 fits_elements n (Some es) s w e = fits_parts n (parts_of es) s w e
 
 -- a spelled model of the first grammar
-pub form_fits : (ms : List PlainModule) (xs : List Token) (s : Source) → SpellsModules ms xs → source_of_elements (elements_of ms) ≡ Some s → Fits (length xs) s
+pub form_fits : (ms : List PlainModule) (xs : List Token) (s : BooleanModel) → SpellsModules ms xs → source_of_elements (elements_of ms) ≡ Some s → Fits (length xs) s
 form_fits ms xs s d e = fits_elements (length xs) (elements_of ms) s (elements_within d) e
 
 few_parts : (n : ℕ) (o : Option (List PlainItem × Tree)) → n < 2 ^ 32 - 1 → Within n o → HasFew o

@@ -8,7 +8,7 @@ use Rattle.smv_text.specs.declared.tree.Infix.{Infix}
 use Rattle.smv_text.specs.declared.tree.Infix.TheVariants as infixes
 use Rattle.smv_text.specs.declared.tree.VarKind.TheVariants as var_kind
 use Rattle.smv_text.specs.Tree.{Tree, name, prefix, chain, Links, no_links, link, PlainDomain, boolean, PlainItem, PlainElement, vars, spec, PlainModule, PlainSource}
-use Rattle.moxi_commands.specs.Formulas.{Formula, variable, negation, conjunction, Formulas, no_formulas, formula, Source}
+use Rattle.moxi_commands.specs.BooleanModels.{BooleanFormula, variable, negation, conjunction, BooleanFormulas, no_formulas, formula, BooleanModel}
 use Rattle.name_set.specs.Names.{place_of}
 
 -- a name has at most so many bytes
@@ -16,38 +16,38 @@ abbrev pub most_bytes : ℕ
 most_bytes = 1000
 
 -- the variable that a single name stands for
-abbrev pub variable_named : List (List ℕ) → List (List ℕ) → Option Formula
+abbrev pub variable_named : List (List ℕ) → List (List ℕ) → Option BooleanFormula
 variable_named names (n ∷ []) = option_map variable (place_of names n)
 variable_named names _ = None
 
-abbrev pub variable_of : List (List ℕ) → Path → Option Formula
+abbrev pub variable_of : List (List ℕ) → Path → Option BooleanFormula
 variable_of names path = if path.from_self then None else variable_named names path.names
 
-abbrev pub negation_of : Prefix → ℕ → Option Formula → Option Formula
+abbrev pub negation_of : Prefix → ℕ → Option BooleanFormula → Option BooleanFormula
 negation_of prefixes.Not n o = option_map (negation n) o
 negation_of prefixes.Minus n o = None
 
-abbrev pub conjunction_of : Option Formula → Option Formulas → Option Formula
+abbrev pub conjunction_of : Option BooleanFormula → Option BooleanFormulas → Option BooleanFormula
 conjunction_of None fs = None
 conjunction_of (Some f) fs = option_map (conjunction f) fs
 
-abbrev pub operand_of : Infix → Option Formula → Option Formula
+abbrev pub operand_of : Infix → Option BooleanFormula → Option BooleanFormula
 operand_of infixes.And o = o
 operand_of _ o = None
 
-abbrev pub more_of : Option Formula → Option Formulas → Option Formulas
+abbrev pub more_of : Option BooleanFormula → Option BooleanFormulas → Option BooleanFormulas
 more_of None fs = None
 more_of (Some f) fs = option_map (formula f) fs
 
 -- the formula over these names that an expression is
 abbrev mutual
-  pub formula_of : List (List ℕ) → Tree → Option Formula
+  pub formula_of : List (List ℕ) → Tree → Option BooleanFormula
   formula_of names (name p path) = variable_of names path
   formula_of names (prefix p pre n t) = negation_of pre n (formula_of names t)
   formula_of names (chain p t ls) = conjunction_of (formula_of names t) (formulas_of names ls)
   formula_of names _ = None
 
-  pub formulas_of : List (List ℕ) → Links → Option Formulas
+  pub formulas_of : List (List ℕ) → Links → Option BooleanFormulas
   formulas_of names no_links = Some no_formulas
   formulas_of names (link op t ls) = more_of (operand_of op (formula_of names t)) (formulas_of names ls)
 
@@ -94,16 +94,16 @@ elements_of (m ∷ []) = if bytes_eq m.name (codes "main") && is_none_of m.param
 elements_of _ = None
 
 -- the model over these names
-abbrev pub source_over : Tree → Option (List (List ℕ)) → Option Source
+abbrev pub source_over : Tree → Option (List (List ℕ)) → Option BooleanModel
 source_over t None = None
 source_over t (Some []) = None
 source_over t (Some (n ∷ ns)) = option_map (λ f. record { names = n ∷ ns; invariant = f }) (formula_of (n ∷ ns) t)
 
-abbrev pub source_of_parts : Option (List PlainItem × Tree) → Option Source
+abbrev pub source_of_parts : Option (List PlainItem × Tree) → Option BooleanModel
 source_of_parts None = None
 source_of_parts (Some p) = source_over p.1 (names_of [] p.0)
 
-abbrev pub source_of_elements : Option (List PlainElement) → Option Source
+abbrev pub source_of_elements : Option (List PlainElement) → Option BooleanModel
 source_of_elements None = None
 source_of_elements (Some es) = source_of_parts (parts_of es)
 
@@ -120,5 +120,5 @@ abbrev pub few_items : PlainSource → Type 0
 few_items source = few_of_elements (elements_of source.modules)
 
 -- the model that a tree is, if it is one of these
-abbrev pub form_of : PlainSource → Option Source
+abbrev pub form_of : PlainSource → Option BooleanModel
 form_of source = source_of_elements (elements_of source.modules)

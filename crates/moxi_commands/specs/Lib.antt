@@ -1,5 +1,5 @@
 pub mod Words
-pub mod Formulas
+pub mod BooleanModels
 pub mod Form
 pub mod Trees
 pub mod Forming
@@ -8,8 +8,12 @@ pub mod Lines
 pub mod Stands
 pub mod Headline
 pub mod Matching
-pub mod Translation
-pub mod Outcome
-pub mod Stop
-pub mod Sinks
+pub mod Statuses
+pub mod Limits
 pub mod Notes
+pub mod Answers
+pub mod Reading
+pub mod Sinks
+pub mod Translation
+pub mod Judgement
+pub mod Outcome

@@ -1,6 +1,6 @@
 -- The BTOR2 lines of a source.
 use Rattle.std.specs.Prelude.{ℕ, zero, suc, ◌+◌, ◌*◌, not, ◌&&◌, List, [], ◌∷◌, ◌++◌, length, map, Option, Some, None, if◌then◌else◌, nat_le, nat_eq, codes}
-use Rattle.moxi_commands.specs.Formulas.{Formula, variable, negation, conjunction, Formulas, no_formulas, formula, Source}
+use Rattle.moxi_commands.specs.BooleanModels.{BooleanFormula, variable, negation, conjunction, BooleanFormulas, no_formulas, formula, BooleanModel}
 use Rattle.word_core.specs.declared.kinds.Unary.TheVariants.{Not}
 use Rattle.word_core.specs.declared.kinds.Binary.TheVariants.{And}
 use Rattle.btor_tree.specs.declared.args.Arg.{Arg}
@@ -93,13 +93,13 @@ followed_by place rest = all_made rest.lines (place ∷ rest.places)
 
 -- the lines of a formula come after those of its parts, from the left
 abbrev mutual
-  pub with_formula : List Line → Formula → Made
+  pub with_formula : List Line → BooleanFormula → Made
   with_formula lines (variable v) = made lines (input_place v)
   with_formula lines (negation n f) = with_signs n (with_formula lines f)
   with_formula lines (conjunction f fs) =
       with_chain (with_formula lines f).place (with_formulas (with_formula lines f).lines fs)
 
-  pub with_formulas : List Line → Formulas → AllMade
+  pub with_formulas : List Line → BooleanFormulas → AllMade
   with_formulas lines no_formulas = all_made lines []
   with_formulas lines (formula f fs) =
       followed_by (with_formula lines f).place (with_formulas (with_formula lines f).lines fs)
@@ -110,18 +110,18 @@ with_bad m = with_line (with_not m).lines Bad (plain_arg (with_not m).place ∷ 
 
 -- how many lines a formula has, and a list's formulas with the `and` of each
 abbrev mutual
-  pub size : Formula → ℕ
+  pub size : BooleanFormula → ℕ
   size (variable v) = 0
   size (negation n f) = size f + n
   size (conjunction f fs) = size f + sizes fs
 
-  pub sizes : Formulas → ℕ
+  pub sizes : BooleanFormulas → ℕ
   sizes no_formulas = 0
   sizes (formula f fs) = size f + sizes fs + 1
 
 -- how many lines a source has
-abbrev pub line_count : Source → ℕ
+abbrev pub line_count : BooleanModel → ℕ
 line_count source = 8 + 3 * length source.names + size source.invariant
 
-abbrev pub lines_of : Source → List Line
+abbrev pub lines_of : BooleanModel → List Line
 lines_of source = with_bad (with_formula (with_variables first_lines source.names) source.invariant)

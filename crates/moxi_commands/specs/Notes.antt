@@ -1,4 +1,4 @@
--- The line that is noted for an answer.
+-- The lines that are noted and written.
 use Rattle.std.specs.Prelude.{ℕ, Bool, true, false, List, [], ◌++◌, codes, decimal}
 use Rattle.std.specs.Borrow.{Bor}
 use Rattle.std.specs.List.{flat_map}
@@ -8,8 +8,6 @@ use Rattle.text_core.specs.declared.place.Refusal.{Refusal}
 use Rattle.text_core.specs.Kinds.{kind_name}
 use Rattle.text_core.specs.declared.verdict.Clause.{Clause}
 use Rattle.text_core.specs.declared.verdict.Clause.TheVariants.{ValueOutside, InitFails, TransFails, InvarFails, AssumptionFails, CurrentFails, StateDiffers, ConstraintFails, NotBroken}
-use Rattle.moxi_commands.specs.declared.answer.Answer.{Answer}
-use Rattle.moxi_commands.specs.declared.answer.Answer.TheVariants.{Misread, Unread, Refuses, SecondRefuses, Denies, Judges, Writes}
 
 -- the letter of a kind
 abbrev pub kind_letter : Kind → List ℕ
@@ -57,6 +55,15 @@ clause_name NotBroken = codes "NotBroken"
 abbrev pub joined : List (Bor (List ℕ)) → List ℕ
 joined = flat_map (λ piece. piece.now)
 
+abbrev pub usage_line : List ℕ
+usage_line = codes "usage: moxi_cli COMMAND MODEL [SECOND] [--property J]\n"
+
+abbrev pub write_fault_line : List ℕ
+write_fault_line = codes "write fault\n"
+
+abbrev pub no_memory_line : List ℕ
+no_memory_line = codes "no memory\n"
+
 abbrev pub unread_line : List ℕ → List ℕ
 unread_line name = codes "read fault: " ++ (name ++ codes "\n")
 
@@ -65,24 +72,18 @@ abbrev pub refused_words : Bool → List ℕ
 refused_words false = codes "refused: "
 refused_words true = codes "second refused: "
 
+-- where a refusal stands: its line, and its column where places are within a line
+abbrev pub place_text : Refusal → List ℕ
+place_text refusal = decimal refusal.place.line ++ (colon_text refusal.kind ++ (column_text refusal.kind (decimal refusal.place.column) ++ codes "\n"))
+
 -- a refusal behind these words
 abbrev pub refused_line : List ℕ → Refusal → List ℕ
 refused_line words refusal =
-    words ++ (kind_letter refusal.kind ++ (decimal (kind_number refusal.kind) ++ (codes " " ++ (kind_name refusal.kind ++ (codes " at " ++ (decimal refusal.place.line ++ (colon_text refusal.kind ++ (column_text refusal.kind (decimal refusal.place.column) ++ codes "\n"))))))))
+    words ++ (kind_letter refusal.kind ++ (decimal (kind_number refusal.kind) ++ (codes " " ++ (kind_name refusal.kind ++ (codes " at " ++ place_text refusal)))))
 
 abbrev pub denied_line : ℕ → Clause → List ℕ
 denied_line step clause = codes "no: step " ++ (decimal step ++ (codes ": " ++ (clause_name clause ++ codes "\n")))
 
 -- what is written for an accepted witness
-abbrev pub judged_line : ℕ → ℕ → List ℕ
-judged_line bad step = codes "yes: bad " ++ (decimal bad ++ (codes " at step " ++ (decimal step ++ codes "\n")))
-
--- the line that is noted for an answer
-abbrev pub line_of : Answer → List ℕ
-line_of Misread = codes "usage: moxi_cli COMMAND MODEL [SECOND] [--property J]\n"
-line_of (Unread name) = unread_line name
-line_of (Refuses refusal) = refused_line (refused_words false) refusal
-line_of (SecondRefuses refusal) = refused_line (refused_words true) refusal
-line_of (Denies step clause) = denied_line step clause
-line_of (Judges bad step) = []
-line_of (Writes text) = []
+abbrev pub accepted_line : ℕ → ℕ → List ℕ
+accepted_line bad step = codes "yes: bad " ++ (decimal bad ++ (codes " at step " ++ (decimal step ++ codes "\n")))

@@ -1,7 +1,7 @@
 -- What holds of the lines of a source while they are made.
 use Rattle.std.specs.Prelude.{◌≡◌, ℕ, List, length}
 use Rattle.std.specs.List.{AllByRecursion}
-use Rattle.moxi_commands.specs.Formulas.{Formula, Formulas, EachVariable, EachVariableOf}
+use Rattle.moxi_commands.specs.BooleanModels.{BooleanFormula, BooleanFormulas, EachVariable, EachVariableOf}
 use Rattle.btor_tree.specs.declared.lines.Line.{Line}
 use Rattle.btor_tree.specs.Fits.{IsWellFormed, last_id, sort_at, width_at}
 use Rattle.moxi_commands.specs.Lines.{Made, input_place}
@@ -22,8 +22,8 @@ abbrev pub AllStand : List Line → List ℕ → Type 0
 AllStand lines places = AllByRecursion (λ place. width_at lines place ≡ 1) places
 
 -- each variable of a formula has its input
-abbrev pub HasInputs : List Line → Formula → Type 0
+abbrev pub HasInputs : List Line → BooleanFormula → Type 0
 HasInputs lines f = EachVariable (λ v. width_at lines (input_place v) ≡ 1) f
 
-abbrev pub HaveInputs : List Line → Formulas → Type 0
+abbrev pub HaveInputs : List Line → BooleanFormulas → Type 0
 HaveInputs lines fs = EachVariableOf (λ v. width_at lines (input_place v) ≡ 1) fs

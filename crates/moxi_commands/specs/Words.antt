@@ -1,6 +1,10 @@
 -- What the command words ask for.
-use Rattle.std.specs.Prelude.{◌≡◌, ◌⊎◌, ◌==◌, ◌&&◌, not, ℕ, Bool, false, List, [], ◌∷◌, Option, Some, None, if◌then◌else◌, codes}
+use Rattle.std.specs.Prelude.{◌≡◌, ◌⊎◌, ◌==◌, ℕ, Bool, false, List, [], ◌∷◌, Option, Some, None, if◌then◌else◌, codes}
 use Rattle.std.specs.Str.{bytes_eq}
+use Rattle.std.specs.List.{list_any}
+use Rattle.std.specs.Borrow.{Bor}
+use Rattle.moxi_commands.specs.declared.words.Task.{Task}
+use Rattle.moxi_commands.specs.declared.words.Task.TheVariants as task
 use Rattle.moxi_commands.specs.declared.words.Command.{Command}
 use Rattle.moxi_commands.specs.declared.words.Command.TheVariants.{SmvToBtor, JudgeBtor}
 
@@ -9,17 +13,42 @@ abbrev pub begins_with_dash : List ℕ → Bool
 begins_with_dash [] = false
 begins_with_dash (b ∷ bs) = b == 45
 
+-- the first words of the commands
+abbrev pub commands : List (List ℕ × Task)
+commands = (codes "smv2btor", task.SmvToBtor) ∷ (codes "judge-btor", task.JudgeBtor) ∷ []
+
+-- the task of the first row with this word
+abbrev pub task_in : List (List ℕ × Task) → List ℕ → Option Task
+task_in [] word = None
+task_in (row ∷ rows) word = if bytes_eq word row.0 then Some row.1 else task_in rows word
+
+-- a row of the code's table
+abbrev pub row : Bor (List ℕ) × Task → List ℕ × Task
+row r = (r.0.now, r.1)
+
+-- the task with its files, where they are as many as it takes
+abbrev pub command_with : Option Task → List (List ℕ) → Option Command
+command_with (Some task.SmvToBtor) (model ∷ []) = Some (SmvToBtor model)
+command_with (Some task.JudgeBtor) (model ∷ second ∷ []) = Some (JudgeBtor model second)
+command_with task files = None
+
 -- the command that the words are, if they are one
 abbrev pub command_of : List (List ℕ) → Option Command
 command_of [] = None
-command_of (word ∷ []) = None
-command_of (word ∷ model ∷ []) = if bytes_eq word (codes "smv2btor") && not (begins_with_dash model) then Some (SmvToBtor model) else None
-command_of (word ∷ model ∷ second ∷ []) =
-    if bytes_eq word (codes "judge-btor") && (not (begins_with_dash model) && not (begins_with_dash second)) then Some (JudgeBtor model second) else None
-command_of (word ∷ model ∷ second ∷ more ∷ words) = None
+command_of (word ∷ files) = if list_any begins_with_dash files then None else command_with (task_in commands word) files
+
+-- the files that a command names
+abbrev pub files_of : Command → List (List ℕ)
+files_of (SmvToBtor model) = model ∷ []
+files_of (JudgeBtor model second) = model ∷ second ∷ []
+
+-- the name is one of these
+abbrev pub IsAmong : List (List ℕ) → List ℕ → Type 0
+IsAmong [] name = ⊥
+IsAmong (x ∷ []) name = name ≡ x
+IsAmong (x ∷ y ∷ xs) name = (name ≡ x) ⊎ IsAmong (y ∷ xs) name
 
 -- the command reads a file of this name
 abbrev pub Names : Option Command → List ℕ → Type 0
 Names None name = ⊥
-Names (Some (SmvToBtor model)) name = name ≡ model
-Names (Some (JudgeBtor model second)) name = (name ≡ model) ⊎ (name ≡ second)
+Names (Some command) name = IsAmong (files_of command) name

@@ -1,19 +1,25 @@
 // The top call: reads the words, does what they say, and writes.
-ghost use Rattle.std.specs.Prelude.{◌≡◌, ◌≢◌, ◌⊎◌, ◌<◌, ◌≤◌, map, string_bytes, None, Some, IfSome, List, ℕ};
+ghost use Rattle.std.specs.Prelude.{◌≡◌, ◌≢◌, ◌⊎◌, ◌<◌, map, string_bytes, None, Some, IfOk, IfErr, IfSome, IsErrAnd, List, ℕ};
 ghost use Rattle.text_core.specs.Outside.{file_at, grown, Rose};
-ghost use Rattle.smv_text.specs.Tree.{PlainSource};
-ghost use Rattle.moxi_commands.specs.declared.words.Command.{Command};
-ghost use Rattle.moxi_commands.specs.Translation.{Accepts, TranslatesTo};
-ghost use Rattle.moxi_commands.specs.Words.{command_of};
-ghost use Rattle.moxi_commands.specs.declared.answer.Answer.{Answer};
 ghost use Rattle.text_core.specs.declared.place.Refusal.{Refusal};
 ghost use Rattle.text_core.specs.declared.verdict.Clause.{Clause};
-ghost use Rattle.moxi_commands.specs.Outcome.{IsOutcome, IsAbsent, Serves, status_of, text_of};
-ghost use Rattle.moxi_commands.specs.Sinks.{IsPart};
+ghost use Rattle.smv_text.specs.Tree.{PlainSource};
+ghost use Rattle.moxi_commands.specs.declared.answer.Answer.{Answer};
+ghost use Rattle.moxi_commands.specs.declared.words.Command.{Command};
+ghost use Rattle.moxi_commands.specs.Answers.{line_of, status_of, text_of};
+ghost use Rattle.moxi_commands.specs.Notes.{write_fault_line};
+ghost use Rattle.moxi_commands.specs.Outcome.{BeginsFor, IsAbsent, IsCutLine, IsLineOf, IsOutcome, MayAnswer, Serves};
+ghost use Rattle.moxi_commands.specs.Reading.{SaysUnread, StopsUnread, StopsWith};
+ghost use Rattle.moxi_commands.specs.Sinks.{IsPart, Took};
+ghost use Rattle.moxi_commands.specs.Translation.{Accepts, TranslatesTo};
+ghost use Rattle.moxi_commands.specs.Words.{command_of};
 
-use crate::answer::answer_words;
+use crate::answer::{Answer, Stop};
+use crate::judge::judge_files;
 use crate::notes::{deliver, note};
 use crate::status::Status;
+use crate::translate::smv_to_btor;
+use crate::words::{Command, read_command};
 use std::alloc::Global;
 use text_core::{NoMemory, Shelf, Sink};
 
@@ -36,8 +42,7 @@ pub fn run<F: Shelf, K: Sink, N: Sink>(
         → (result ≡ Status.Done) × ((text : List ℕ) × (K.taken out.new ≡ grown (K.taken out.old) text) × TranslatesTo source text)) }
 
     // The same of every text that was written whole.
-    ensures served { result ≡ Status.Done → IfSome (F.files shelf.old) (λ files.
-        Serves (command_of (map string_bytes words.now.items)) files (K.taken out.old) (K.taken out.new)) }
+    ensures served { result ≡ Status.Done → IfSome (F.files shelf.old) (λ files. Serves (command_of (map string_bytes words.now.items)) files (K.taken out.old) (K.taken out.new)) }
 
     // The whole defined text was taken.
     ensures done { result ≡ Status.Done → IfSome (F.files shelf.old) (λ files. (answer : Answer)
@@ -45,20 +50,34 @@ pub fn run<F: Shelf, K: Sink, N: Sink>(
 
     // The judge denies the stated run as it is defined.
     ensures no { result ≡ Status.No → IfSome (F.files shelf.old) (λ files. (step : ℕ) × (clause : Clause)
-        × IsOutcome (map string_bytes words.now.items) files (Answer.Denies step clause)) }
+        × IsOutcome (map string_bytes words.now.items) files (Answer.No step clause)) }
 
     // The model is refused as it is defined.
     ensures refused { result ≡ Status.Refused → IfSome (F.files shelf.old) (λ files. (refusal : Refusal)
-        × IsOutcome (map string_bytes words.now.items) files (Answer.Refuses refusal)) }
+        × IsOutcome (map string_bytes words.now.items) files (Answer.Refused refusal)) }
     ensures second_refused { result ≡ Status.SecondRefused → IfSome (F.files shelf.old) (λ files. (refusal : Refusal)
-        × IsOutcome (map string_bytes words.now.items) files (Answer.SecondRefuses refusal)) }
+        × IsOutcome (map string_bytes words.now.items) files (Answer.SecondRefused refusal)) }
+
+    // The words are no command, whatever the shelf tells.
     ensures usage { result ≡ Status.Usage → command_of (map string_bytes words.now.items) ≡ None }
+    ensures no_command { command_of (map string_bytes words.now.items) ≡ None → (result ≡ Status.Usage) ⊎ (result ≡ Status.WriteFault) ⊎ (result ≡ Status.NoMemory) }
 
     // Each fault has its cause.
-    ensures read_fault { result ≡ Status.ReadFault
-        → Rose (F.faults shelf.old) (F.faults shelf.new) ⊎ IsAbsent (F.files shelf.old) (command_of (map string_bytes words.now.items)) }
-    ensures write_fault { result ≡ Status.WriteFault
-        → Rose (K.faults out.old) (K.faults out.new) ⊎ Rose (N.faults notes.old) (N.faults notes.new) }
+    ensures read_fault { result ≡ Status.ReadFault → Rose (F.faults shelf.old) (F.faults shelf.new) ⊎ IsAbsent (F.files shelf.old) (command_of (map string_bytes words.now.items)) }
+    ensures write_fault { result ≡ Status.WriteFault → Rose (K.faults out.old) (K.faults out.new) ⊎ Rose (N.faults notes.old) (N.faults notes.new) }
+
+    // `notes` took the line of the status, and nothing where all is done.
+    ensures noted { result ≢ Status.WriteFault → (line : List ℕ)
+        × IsLineOf (F.files shelf.old) (command_of (map string_bytes words.now.items)) (Rose (F.faults shelf.old) (F.faults shelf.new)) result line
+        × (N.taken notes.new ≡ grown (N.taken notes.old) line) }
+    ensures silent { result ≡ Status.Done → N.taken notes.new ≡ N.taken notes.old }
+
+    // Either `out` failed, and `notes` took the line that says so, or failed too and took a front of it. Or `notes` failed, and
+    // took a front of the line of another status; then `out` is as it was.
+    ensures fault_noted { result ≡ Status.WriteFault
+        → (Rose (K.faults out.old) (K.faults out.new) × Took (N.taken notes.old) (N.taken notes.new) (N.faults notes.old) (N.faults notes.new) write_fault_line)
+        ⊎ (Rose (N.faults notes.old) (N.faults notes.new) × (K.taken out.new ≡ K.taken out.old)
+        × IsCutLine (F.files shelf.old) (command_of (map string_bytes words.now.items)) (Rose (F.faults shelf.old) (F.faults shelf.new)) (N.taken notes.old) (N.taken notes.new)) }
 
     // `out` took nothing, or a front of the defined text.
     ensures untouched { result ≢ Status.Done → result ≢ Status.WriteFault → K.taken out.new ≡ K.taken out.old }
@@ -66,21 +85,58 @@ pub fn run<F: Shelf, K: Sink, N: Sink>(
         → IsOutcome (map string_bytes words.now.items) files answer → IsPart (K.taken out.old) (K.taken out.new) (text_of answer)) }
 
     // No fault is passed over.
-    ensures shelf_rose { F.faults shelf.old < F.faults shelf.new
-        → (result ≡ Status.ReadFault) ⊎ (result ≡ Status.WriteFault) ⊎ (result ≡ Status.NoMemory) }
-    ensures absent { IsAbsent (F.files shelf.old) (command_of (map string_bytes words.now.items))
-        → (result ≡ Status.ReadFault) ⊎ (result ≡ Status.WriteFault) ⊎ (result ≡ Status.NoMemory) }
+    ensures shelf_rose { F.faults shelf.old < F.faults shelf.new → (result ≡ Status.ReadFault) ⊎ (result ≡ Status.WriteFault) ⊎ (result ≡ Status.NoMemory) }
+    ensures absent { IsAbsent (F.files shelf.old) (command_of (map string_bytes words.now.items)) → (result ≡ Status.ReadFault) ⊎ (result ≡ Status.WriteFault) ⊎ (result ≡ Status.NoMemory) }
     ensures out_rose { K.faults out.old < K.faults out.new → result ≡ Status.WriteFault }
     ensures notes_rose { N.faults notes.old < N.faults notes.new → result ≡ Status.WriteFault }
 
-    // Where no count rose, the status is that of the defined answer, but for want of memory.
+    // Where no count rose, the status, the text and the line are those of the defined answer, but for want of memory.
     ensures complete { IfSome (F.files shelf.old) (λ files.
         ¬ Rose (F.faults shelf.old) (F.faults shelf.new) → ¬ Rose (K.faults out.old) (K.faults out.new) → ¬ Rose (N.faults notes.old) (N.faults notes.new)
         → (answer : Answer) → IsOutcome (map string_bytes words.now.items) files answer
-        → (result ≡ status_of answer) ⊎ (result ≡ Status.NoMemory)) }
+        → ((result ≡ status_of answer) × (K.taken out.new ≡ grown (K.taken out.old) (text_of answer)) × (N.taken notes.new ≡ grown (N.taken notes.old) (line_of answer)))
+        ⊎ (result ≡ Status.NoMemory)) }
+
+    // Only files that the words name are begun, and the shelf's files stay.
+    ensures begun { BeginsFor (F.files shelf.old) (F.begun shelf.old) (F.begun shelf.new) (command_of (map string_bytes words.now.items)) }
+    ensures files { F.files shelf.new ≡ F.files shelf.old }
 {
     match answer_words(alloc, words, shelf) {
         Ok(answer) => deliver(&answer, out, notes),
         Err(NoMemory) => note(notes, &[b"no memory\n"], Status::NoMemory),
+    }
+}
+
+// Reads the words and the files that they name.
+fn answer_words<F: Shelf>(
+    alloc: Global,
+    words: &Vec<String>,
+    shelf: &mut F,
+) -> Result<Answer, NoMemory>
+    ensures answer { IfOk result (MayAnswer (F.files shelf.old) (command_of (map string_bytes words.now.items)) (Rose (F.faults shelf.old) (F.faults shelf.new))) }
+    ensures fault { F.faults shelf.old < F.faults shelf.new → IfOk result SaysUnread }
+    ensures begun { BeginsFor (F.files shelf.old) (F.begun shelf.old) (F.begun shelf.new) (command_of (map string_bytes words.now.items)) }
+    ensures files { F.files shelf.new ≡ F.files shelf.old }
+{
+    let Some(command) = read_command(alloc, words)? else {
+        return Ok(Answer::Usage);
+    };
+    match answer_command(alloc, &command, shelf) {
+        Ok(answer) | Err(Stop::Answered(answer)) => Ok(answer),
+        Err(Stop::NoMemory) => Err(NoMemory),
+    }
+}
+
+// Does what the command says.
+fn answer_command<F: Shelf>(alloc: Global, command: &Command, shelf: &mut F) -> Result<Answer, Stop>
+    ensures answer { IfOk result (MayAnswer (F.files shelf.old) (Some command.now) (Rose (F.faults shelf.old) (F.faults shelf.new))) }
+    ensures stop { IfErr result (StopsWith (MayAnswer (F.files shelf.old) (Some command.now) (Rose (F.faults shelf.old) (F.faults shelf.new)))) }
+    ensures fault { F.faults shelf.old < F.faults shelf.new → IsErrAnd result (λ stop. StopsUnread stop) }
+    ensures begun { BeginsFor (F.files shelf.old) (F.begun shelf.old) (F.begun shelf.new) (Some command.now) }
+    ensures files { F.files shelf.new ≡ F.files shelf.old }
+{
+    match command {
+        Command::SmvToBtor(model) => smv_to_btor(alloc, model, shelf),
+        Command::JudgeBtor(model, second) => judge_files(alloc, model, second, shelf),
     }
 }

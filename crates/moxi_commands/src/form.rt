@@ -7,7 +7,7 @@ ghost use Rattle.moxi_commands.specs.Forming.{Is};
 ghost use Rattle.moxi_commands.specs.Form.{form_of, formula_of, formulas_of, variable_of, names_of, is_boolean, is_declared_after, items_of, invariant_of, parts_of, elements_of, operand_of, few_items, source_of_parts, source_over};
 
 use crate::declared::Declared;
-use crate::formula::{Formula, Source};
+use crate::formula::{BooleanFormula, BooleanModel};
 use smv_text::{
     Domain, Element, Expr, Infix, Item, Items, Link, Module, Modules, Path, Prefix, Shape, VarKind,
 };
@@ -18,36 +18,36 @@ const MOST_BYTES: usize = 1000;
 
 /// Why there is no formula.
 #[derive(Drop)]
-enum Stop {
+enum NoFormula {
     /// The expression has another form.
     Other,
     NoMemory,
 }
 
-impl From<AllocError> for Stop {
+impl From<AllocError> for NoFormula {
     ghost use Rattle.std.specs.Prelude.{◌≡◌};
-    ghost use Rattle.moxi_commands.specs.declared.form.Stop.TheVariants.{NoMemory};
+    ghost use Rattle.moxi_commands.specs.declared.form.NoFormula.TheVariants.{NoMemory};
 
     ghost from_gives = { λ _ e. e ≡ NoMemory };
 
-    fn from(_: AllocError) -> Stop {
-        Stop::NoMemory
+    fn from(_: AllocError) -> NoFormula {
+        NoFormula::NoMemory
     }
 }
 
-impl<T: Drop> From<AllocFailed<T>> for Stop {
+impl<T: Drop> From<AllocFailed<T>> for NoFormula {
     ghost use Rattle.std.specs.Prelude.{◌≡◌};
-    ghost use Rattle.moxi_commands.specs.declared.form.Stop.TheVariants.{NoMemory};
+    ghost use Rattle.moxi_commands.specs.declared.form.NoFormula.TheVariants.{NoMemory};
 
     ghost from_gives = { λ _ e. e ≡ NoMemory };
 
-    fn from(_: AllocFailed<T>) -> Stop {
-        Stop::NoMemory
+    fn from(_: AllocFailed<T>) -> NoFormula {
+        NoFormula::NoMemory
     }
 }
 
 /// The model of the first grammar that a tree is, if it is one.
-pub fn form_of(alloc: Global, source: &smv_text::Source) -> Result<Option<Source>, NoMemory>
+pub fn form_of(alloc: Global, source: &smv_text::Source) -> Result<Option<BooleanModel>, NoMemory>
     requires few { few_items (plain_source source.now) }
     ensures { IfOk result (λ o. option_map source_of o ≡ form_of (plain_source source.now)) }
 {
@@ -65,7 +65,7 @@ fn source_of_parts(
     alloc: Global,
     items: &Items,
     invariant: &Expr,
-) -> Result<Option<Source>, NoMemory>
+) -> Result<Option<BooleanModel>, NoMemory>
     requires few { length items.now < 2 ^ 32 - 1 }
     ensures { IfOk result (λ o. option_map source_of o ≡ source_of_parts (Some (map plain_item items.now, plain_tree invariant.now))) }
 {
@@ -81,7 +81,7 @@ fn source_over(
     names: Names,
     declared: &Declared,
     invariant: &Expr,
-) -> Result<Option<Source>, NoMemory>
+) -> Result<Option<BooleanModel>, NoMemory>
     requires same { declared.now ≡ names }
     ensures { IfOk result (λ o. option_map source_of o ≡ source_over (plain_tree invariant.now) (Some names)) }
 {
@@ -89,9 +89,9 @@ fn source_over(
         return Ok(None);
     }
     match formula_of(alloc, declared, invariant) {
-        Ok(invariant) => Ok(Some(Source { names, invariant })),
-        Err(Stop::Other) => Ok(None),
-        Err(Stop::NoMemory) => Err(NoMemory),
+        Ok(invariant) => Ok(Some(BooleanModel { names, invariant })),
+        Err(NoFormula::Other) => Ok(None),
+        Err(NoFormula::NoMemory) => Err(NoMemory),
     }
 }
 
@@ -200,55 +200,59 @@ fn put_names(
 }
 
 // The variable that a path names.
-fn variable_of(declared: &Declared, path: &Path) -> Result<Formula, Stop>
+fn variable_of(declared: &Declared, path: &Path) -> Result<BooleanFormula, NoFormula>
     ensures { Is plain result (variable_of declared.now path.now) }
 {
     if path.from_self || path.names.len() != 1 {
-        return Err(Stop::Other);
+        return Err(NoFormula::Other);
     }
     match declared.number_of(path.names.at(0).bytes()) {
-        Some(number) => Ok(Formula::Variable(number)),
-        None => Err(Stop::Other),
+        Some(number) => Ok(BooleanFormula::Variable(number)),
+        None => Err(NoFormula::Other),
     }
 }
 
 // The formula that an expression is.
 #[cycle(formula)]
-fn formula_of(alloc: Global, declared: &Declared, expr: &Expr) -> Result<Formula, Stop>
+fn formula_of(alloc: Global, declared: &Declared, expr: &Expr) -> Result<BooleanFormula, NoFormula>
     ensures { Is plain result (formula_of declared.now (plain_tree expr.now)) }
 {
     match &expr.shape {
         Shape::Name(path) => variable_of(declared, path),
         Shape::Prefix(prefix, count, inner) => match prefix {
-            Prefix::Minus => Err(Stop::Other),
+            Prefix::Minus => Err(NoFormula::Other),
             Prefix::Not => {
                 let operand = formula_of(alloc, declared, inner)?;
-                Ok(Formula::Not(*count, Box::new(alloc, operand)?))
+                Ok(BooleanFormula::Not(*count, Box::new(alloc, operand)?))
             }
         },
         Shape::Chain(first, links) => {
             let first = formula_of(alloc, declared, first)?;
             let others = formulas_of(alloc, declared, links)?;
-            Ok(Formula::And(Box::new(alloc, first)?, others))
+            Ok(BooleanFormula::And(Box::new(alloc, first)?, others))
         }
-        _ => Err(Stop::Other),
+        _ => Err(NoFormula::Other),
     }
 }
 
 // The operand of one link, where its operator is `&`.
 #[cycle(formula)]
-fn operand_of(alloc: Global, declared: &Declared, link: &Link) -> Result<Formula, Stop>
+fn operand_of(alloc: Global, declared: &Declared, link: &Link) -> Result<BooleanFormula, NoFormula>
     ensures { Is plain result (operand_of (plain_link link.now).0 (formula_of declared.now (plain_link link.now).1)) }
 {
     match link.op {
         Infix::And => formula_of(alloc, declared, &link.operand),
-        _ => Err(Stop::Other),
+        _ => Err(NoFormula::Other),
     }
 }
 
 // The further operands of a chain.
 #[cycle(formula)]
-fn formulas_of(alloc: Global, declared: &Declared, links: &[Link]) -> Result<Vec<Formula>, Stop>
+fn formulas_of(
+    alloc: Global,
+    declared: &Declared,
+    links: &[Link],
+) -> Result<Vec<BooleanFormula>, NoFormula>
     ensures { Is (λ fs. formulas_from (map plain fs.items)) result (formulas_of declared.now (links_of (map plain_link links.now))) }
 {
     let mut others = Vec::new(alloc);

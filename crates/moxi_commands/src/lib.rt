@@ -4,6 +4,7 @@
 mod answer;
 mod command;
 mod declared;
+mod files;
 mod form;
 mod formula;
 mod judge;
@@ -13,7 +14,7 @@ mod status;
 mod translate;
 mod words;
 
-pub use answer::Answer;
+pub use answer::{Answer, Output};
 pub use command::run;
 pub use status::Status;
 pub use words::Command;

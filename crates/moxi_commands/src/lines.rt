@@ -1,15 +1,15 @@
 // From a source to its BTOR2 lines.
 ghost use Rattle.std.specs.Prelude.{◌≡◌, ℕ, ◌+◌, ◌*◌, ◌<◌, ◌≤◌, [], ◌∷◌, ◌++◌, length, map, IfOk, OnOk, codes};
-ghost use Rattle.moxi_commands.specs.Formulas as grammar;
-ghost use Rattle.btor_tree.specs.declared.lines.TheConstants.{GREATEST_ID};
+ghost use Rattle.moxi_commands.specs.BooleanModels as grammar;
+ghost use Rattle.btor_tree.specs.Fits.{greatest_id};
 ghost use Rattle.btor_tree.specs.Fits.{IsWellFormed};
 ghost use Rattle.moxi_commands.specs.Trees.{plain, formulas_of, source_of};
-ghost use Rattle.moxi_commands.specs.Formulas.{Below};
+ghost use Rattle.moxi_commands.specs.BooleanModels.{Below};
 ghost use Rattle.moxi_commands.specs.Lines as spec;
 ghost use Rattle.moxi_commands.specs.Matching.{StandsFor};
 ghost use Rattle.moxi_commands.specs.Stands.{Ready, Stands, AllStand, HasInputs, HaveInputs};
 
-use crate::formula::{Formula, Source};
+use crate::formula::{BooleanFormula, BooleanModel};
 use btor_tree::{Builder, LineOp, Nodes, one_arg, plain_arg, two_args};
 use std::alloc::Global;
 use text_core::{List, Name, Names, NoMemory};
@@ -69,7 +69,7 @@ fn put_first(alloc: Global, builder: &mut Builder) -> Result<(), NoMemory>
 
 // The three lines of a variable.
 fn put_variable(alloc: Global, builder: &mut Builder, name: &Name) -> Result<(), NoMemory>
-    requires room { length builder.old + 3 ≤ GREATEST_ID }
+    requires room { length builder.old + 3 ≤ greatest_id }
     requires ready { Ready builder.old }
     ensures { OnOk result (builder.new ≡ spec.with_variable builder.old name.now) }
 {
@@ -84,7 +84,7 @@ fn put_variable(alloc: Global, builder: &mut Builder, name: &Name) -> Result<(),
 
 // The lines of the variables.
 fn put_variables(alloc: Global, builder: &mut Builder, names: &Names) -> Result<(), NoMemory>
-    requires room { length builder.old + 3 * length names.now ≤ GREATEST_ID }
+    requires room { length builder.old + 3 * length names.now ≤ greatest_id }
     requires first { builder.old ≡ spec.first_lines }
     ensures { OnOk result (builder.new ≡ spec.with_variables builder.old names.now) }
 {
@@ -96,7 +96,7 @@ fn put_variables(alloc: Global, builder: &mut Builder, names: &Names) -> Result<
 
 // The `not` of the line at a place.
 fn put_not(alloc: Global, builder: &mut Builder, place: u32) -> Result<u32, NoMemory>
-    requires room { length builder.old < GREATEST_ID }
+    requires room { length builder.old < greatest_id }
     requires stands { Stands (spec.made builder.old place) }
     ensures { IfOk result (λ p. spec.made builder.new p ≡ spec.with_not (spec.made builder.old place)) }
 {
@@ -111,7 +111,7 @@ fn put_signs(
     count: u32,
     operand: u32,
 ) -> Result<u32, NoMemory>
-    requires room { length builder.old + count ≤ GREATEST_ID }
+    requires room { length builder.old + count ≤ greatest_id }
     requires stands { Stands (spec.made builder.old operand) }
     ensures { IfOk result (λ p. spec.made builder.new p ≡ spec.with_signs count (spec.made builder.old operand)) }
 {
@@ -124,7 +124,7 @@ fn put_signs(
 
 // The `and` of the lines at two places.
 fn put_and(alloc: Global, builder: &mut Builder, left: u32, right: u32) -> Result<u32, NoMemory>
-    requires room { length builder.old < GREATEST_ID }
+    requires room { length builder.old < greatest_id }
     requires left { Stands (spec.made builder.old left) }
     requires right { Stands (spec.made builder.old right) }
     ensures { IfOk result (λ p. spec.made builder.new p ≡ spec.with_and (spec.made builder.old left) right) }
@@ -140,7 +140,7 @@ fn put_ands(
     first: u32,
     places: &[u32],
 ) -> Result<u32, NoMemory>
-    requires room { length builder.old + length places.now ≤ GREATEST_ID }
+    requires room { length builder.old + length places.now ≤ greatest_id }
     requires stands { Stands (spec.made builder.old first) }
     requires all { AllStand builder.old places.now }
     ensures { IfOk result (λ p. spec.made builder.new p ≡ spec.with_ands (spec.made builder.old first) places.now) }
@@ -157,9 +157,9 @@ fn put_ands(
 fn put_formulas(
     alloc: Global,
     builder: &mut Builder,
-    formulas: &[Formula],
+    formulas: &[BooleanFormula],
 ) -> Result<Vec<u32>, NoMemory>
-    requires room { length builder.old + spec.sizes (formulas_of (map plain formulas.now)) ≤ GREATEST_ID }
+    requires room { length builder.old + spec.sizes (formulas_of (map plain formulas.now)) ≤ greatest_id }
     requires ready { Ready builder.old }
     requires inputs { HaveInputs builder.old (formulas_of (map plain formulas.now)) }
     ensures { IfOk result (λ places. spec.all_made builder.new places.items ≡ spec.with_formulas builder.old (formulas_of (map plain formulas.now))) }
@@ -176,19 +176,23 @@ fn put_formulas(
 
 // The lines of a formula, and the place of the one that has its value.
 #[cycle(formulas)]
-fn put_formula(alloc: Global, builder: &mut Builder, formula: &Formula) -> Result<u32, NoMemory>
-    requires room { length builder.old + spec.size (plain formula.now) ≤ GREATEST_ID }
+fn put_formula(
+    alloc: Global,
+    builder: &mut Builder,
+    formula: &BooleanFormula,
+) -> Result<u32, NoMemory>
+    requires room { length builder.old + spec.size (plain formula.now) ≤ greatest_id }
     requires ready { Ready builder.old }
     requires inputs { HasInputs builder.old (plain formula.now) }
     ensures { IfOk result (λ p. spec.made builder.new p ≡ spec.with_formula builder.old (plain formula.now)) }
 {
     match formula {
-        Formula::Variable(v) => Ok(6 + 3 * *v),
-        Formula::Not(count, operand) => {
+        BooleanFormula::Variable(v) => Ok(6 + 3 * *v),
+        BooleanFormula::Not(count, operand) => {
             let place = put_formula(alloc, builder, operand)?;
             put_signs(alloc, builder, *count, place)
         }
-        Formula::And(first, rest) => {
+        BooleanFormula::And(first, rest) => {
             let place = put_formula(alloc, builder, first)?;
             let places = put_formulas(alloc, builder, rest)?;
             put_ands(alloc, builder, place, &places)
@@ -198,7 +202,7 @@ fn put_formula(alloc: Global, builder: &mut Builder, formula: &Formula) -> Resul
 
 // The negation of the line at a place, and the bad line of that.
 fn put_bad(alloc: Global, builder: &mut Builder, place: u32) -> Result<(), NoMemory>
-    requires room { length builder.old + 2 ≤ GREATEST_ID }
+    requires room { length builder.old + 2 ≤ greatest_id }
     requires stands { Stands (spec.made builder.old place) }
     ensures { OnOk result (builder.new ≡ spec.with_bad (spec.made builder.old place)) }
 {
@@ -211,9 +215,9 @@ fn put_bad(alloc: Global, builder: &mut Builder, place: u32) -> Result<(), NoMem
 
 /// The lines of a source, whose frames stand for its runs. Each variable of the invariant has to be declared, and the
 /// lines few enough for their ids.
-pub fn lines_of(alloc: Global, source: &Source) -> Result<Nodes, NoMemory>
+pub fn lines_of(alloc: Global, source: &BooleanModel) -> Result<Nodes, NoMemory>
     requires below { Below (length source.now.names) (plain source.now.invariant) }
-    requires room { spec.line_count (source_of source.now) ≤ GREATEST_ID }
+    requires room { spec.line_count (source_of source.now) ≤ greatest_id }
     ensures lines { IfOk result (λ nodes. nodes ≡ spec.lines_of (source_of source.now)) }
     ensures well_formed { IfOk result (λ nodes. IsWellFormed nodes) }
 {
@@ -228,5 +232,5 @@ pub fn lines_of(alloc: Global, source: &Source) -> Result<Nodes, NoMemory>
 /// The lines of a source are well formed and match it: frames 0 to k with the bad line true in frame k are there exactly
 /// where k + 1 times truth values are, the last of which make the invariant false.
 pub fn stands_for()
-    ensures { (source : grammar.Source) → StandsFor source }
+    ensures { (source : grammar.BooleanModel) → StandsFor source }
 {}

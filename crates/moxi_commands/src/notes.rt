@@ -1,11 +1,11 @@
 // Writing the output, and the line that says how a run ended. None of it takes memory.
-ghost use Rattle.std.specs.Prelude.{◌≡◌, ◌≢◌, ◌⊎◌, ◌<◌, ◌≤◌, OnOk, OnErr};
-ghost use Rattle.text_core.specs.Outside.{grown, Rose, Counts};
-ghost use Rattle.moxi_commands.specs.Outcome.{status_of, text_of};
-ghost use Rattle.moxi_commands.specs.Sinks.{IsPart};
-ghost use Rattle.moxi_commands.specs.Notes.{clause_name, colon_text, column_text, denied_line, joined, judged_line, kind_letter, kind_number, line_of, refused_line, refused_words, unread_line};
+ghost use Rattle.std.specs.Prelude.{◌≡◌, ◌≢◌, ◌⊎◌, ◌<◌, OnErr};
+ghost use Rattle.text_core.specs.Outside.{grown, Rose};
+ghost use Rattle.moxi_commands.specs.Answers.{line_of, output_text, status_of, text_of};
+ghost use Rattle.moxi_commands.specs.Sinks.{IsPart, Noted, Puts, Took, ended};
+ghost use Rattle.moxi_commands.specs.Notes.{accepted_line, clause_name, colon_text, column_text, denied_line, joined, kind_letter, kind_number, refused_line, refused_words, unread_line, write_fault_line};
 
-use crate::answer::Answer;
+use crate::answer::{Answer, Output};
 use crate::status::Status;
 use itoa::Buffer;
 use text_core::{Clause, Kind, Name, Refusal, Sink, SinkFault, write_whole};
@@ -16,40 +16,56 @@ pub fn deliver<K: Sink, N: Sink>(answer: &Answer, out: &mut K, notes: &mut N) ->
     ensures text { result ≢ Status.WriteFault → K.taken out.new ≡ grown (K.taken out.old) (text_of answer.now) }
     ensures part { IsPart (K.taken out.old) (K.taken out.new) (text_of answer.now) }
     ensures line { result ≢ Status.WriteFault → N.taken notes.new ≡ grown (N.taken notes.old) (line_of answer.now) }
-    ensures write_fault { result ≡ Status.WriteFault → Rose (K.faults out.old) (K.faults out.new) ⊎ Rose (N.faults notes.old) (N.faults notes.new) }
+    // Either `out` failed, and `notes` took the line that says so, or a front of it where it failed too; or `notes` failed,
+    // and `out` is as it was.
+    ensures write_fault { result ≡ Status.WriteFault
+        → (Rose (K.faults out.old) (K.faults out.new) × Took (N.taken notes.old) (N.taken notes.new) (N.faults notes.old) (N.faults notes.new) write_fault_line)
+        ⊎ ((K.taken out.new ≡ K.taken out.old) × (status_of answer.now ≢ Status.Done) × IsPart (N.taken notes.old) (N.taken notes.new) (line_of answer.now) × Rose (N.faults notes.old) (N.faults notes.new)) }
     ensures out_rose { K.faults out.old < K.faults out.new → result ≡ Status.WriteFault }
     ensures notes_rose { N.faults notes.old < N.faults notes.new → result ≡ Status.WriteFault }
 {
-    match put_answer(answer, out) {
-        Ok(()) => note_answer(answer, notes),
-        Err(_) => note(notes, &[b"write fault\n"], Status::WriteFault),
+    match put_text(answer, out) {
+        Ok(()) => ended(put_line(answer, notes), answer.status()),
+        Err(SinkFault) => note(notes, &[b"write fault\n"], Status::WriteFault),
+    }
+}
+
+// The status, where the line was put.
+fn ended(put: Result<(), SinkFault>, status: Status) -> Status
+    ensures { result ≡ ended put status }
+{
+    match put {
+        Ok(()) => status,
+        Err(SinkFault) => Status::WriteFault,
     }
 }
 
 // Puts the answer's text.
-fn put_answer<K: Sink>(answer: &Answer, out: &mut K) -> Result<(), SinkFault>
-    ensures whole { OnOk result (K.taken out.new ≡ grown (K.taken out.old) (text_of answer.now)) }
-    ensures part { IsPart (K.taken out.old) (K.taken out.new) (text_of answer.now) }
-    ensures counts { Counts (K.faults out.old) (K.faults out.new) result }
-    ensures cause { OnErr result (Rose (K.faults out.old) (K.faults out.new)) }
+fn put_text<K: Sink>(answer: &Answer, out: &mut K) -> Result<(), SinkFault>
+    ensures { Puts (K.taken out.old) (K.taken out.new) (K.faults out.old) (K.faults out.new) (text_of answer.now) result }
 {
     match answer {
-        Answer::Writes(text) => put_pieces(out, &[text.bytes()]),
-        Answer::Judges(bad, step) => put_judged(*bad, *step, out),
-        Answer::Misread
+        Answer::Done(output) => put_output(output, out),
+        Answer::Usage
         | Answer::Unread(_)
-        | Answer::Refuses(_)
-        | Answer::SecondRefuses(_)
-        | Answer::Denies(_, _) => Ok(()),
+        | Answer::Refused(_)
+        | Answer::SecondRefused(_)
+        | Answer::No(_, _) => Ok(()),
+    }
+}
+
+fn put_output<K: Sink>(output: &Output, out: &mut K) -> Result<(), SinkFault>
+    ensures { Puts (K.taken out.old) (K.taken out.new) (K.faults out.old) (K.faults out.new) (output_text output.now) result }
+{
+    match output {
+        Output::Text(text) => put_pieces(out, &[text.bytes()]),
+        Output::Yes(bad, step) => put_accepted(*bad, *step, out),
     }
 }
 
 // Puts the line of an accepted witness.
-fn put_judged<K: Sink>(bad: u32, step: u32, out: &mut K) -> Result<(), SinkFault>
-    ensures whole { OnOk result (K.taken out.new ≡ grown (K.taken out.old) (judged_line bad step)) }
-    ensures part { IsPart (K.taken out.old) (K.taken out.new) (judged_line bad step) }
-    ensures counts { Counts (K.faults out.old) (K.faults out.new) result }
-    ensures cause { OnErr result (Rose (K.faults out.old) (K.faults out.new)) }
+fn put_accepted<K: Sink>(bad: u32, step: u32, out: &mut K) -> Result<(), SinkFault>
+    ensures { Puts (K.taken out.old) (K.taken out.new) (K.faults out.old) (K.faults out.new) (accepted_line bad step) result }
 {
     let mut number = Buffer::new();
     let mut at = Buffer::new();
@@ -63,38 +79,30 @@ fn put_judged<K: Sink>(bad: u32, step: u32, out: &mut K) -> Result<(), SinkFault
     put_pieces(out, &pieces)
 }
 
-// Notes the answer's line.
-fn note_answer<N: Sink>(answer: &Answer, notes: &mut N) -> Status
-    ensures status { (result ≡ status_of answer.now) ⊎ (result ≡ Status.WriteFault) }
-    ensures line { result ≢ Status.WriteFault → N.taken notes.new ≡ grown (N.taken notes.old) (line_of answer.now) }
-    ensures write_fault { result ≡ Status.WriteFault → Rose (N.faults notes.old) (N.faults notes.new) }
-    ensures notes_rose { N.faults notes.old < N.faults notes.new → result ≡ Status.WriteFault }
+// Puts the answer's line.
+fn put_line<N: Sink>(answer: &Answer, notes: &mut N) -> Result<(), SinkFault>
+    ensures put { Puts (N.taken notes.old) (N.taken notes.new) (N.faults notes.old) (N.faults notes.new) (line_of answer.now) result }
+    ensures none { OnErr result (status_of answer.now ≢ Status.Done) }
 {
     match answer {
-        Answer::Misread => note(
+        Answer::Usage => put_pieces(
             notes,
             &[b"usage: moxi_cli COMMAND MODEL [SECOND] [--property J]\n"],
-            Status::Usage,
         ),
-        Answer::Unread(name) => note_unread(name, notes),
-        Answer::Refuses(refusal) => note_refusal(false, *refusal, Status::Refused, notes),
-        Answer::SecondRefuses(refusal) => {
-            note_refusal(true, *refusal, Status::SecondRefused, notes)
-        }
-        Answer::Denies(step, clause) => note_clause(*step, *clause, notes),
-        Answer::Judges(_, _) | Answer::Writes(_) => Status::Done,
+        Answer::Unread(name) => put_unread(name, notes),
+        Answer::Refused(refusal) => put_refusal(false, *refusal, notes),
+        Answer::SecondRefused(refusal) => put_refusal(true, *refusal, notes),
+        Answer::No(step, clause) => put_clause(*step, *clause, notes),
+        Answer::Done(_) => Ok(()),
     }
 }
 
-// Notes the name of a file that was not read.
-fn note_unread<N: Sink>(name: &Name, notes: &mut N) -> Status
-    ensures status { (result ≡ Status.ReadFault) ⊎ (result ≡ Status.WriteFault) }
-    ensures line { result ≢ Status.WriteFault → N.taken notes.new ≡ grown (N.taken notes.old) (unread_line name.now) }
-    ensures write_fault { result ≡ Status.WriteFault → Rose (N.faults notes.old) (N.faults notes.new) }
-    ensures notes_rose { N.faults notes.old < N.faults notes.new → result ≡ Status.WriteFault }
+// Puts the name of a file that was not read.
+fn put_unread<N: Sink>(name: &Name, notes: &mut N) -> Result<(), SinkFault>
+    ensures { Puts (N.taken notes.old) (N.taken notes.new) (N.faults notes.old) (N.faults notes.new) (unread_line name.now) result }
 {
     let pieces = [b"read fault: ".as_slice(), name.bytes(), b"\n"];
-    note(notes, &pieces, Status::ReadFault)
+    put_pieces(notes, &pieces)
 }
 
 // What stands before a refusal of the model, or of the second file.
@@ -108,12 +116,9 @@ fn refused_words(second: bool) -> &'static [u8]
     }
 }
 
-// Notes the kind and the place of a refusal.
-fn note_refusal<N: Sink>(second: bool, refusal: Refusal, status: Status, notes: &mut N) -> Status
-    ensures status { (result ≡ status) ⊎ (result ≡ Status.WriteFault) }
-    ensures line { result ≢ Status.WriteFault → N.taken notes.new ≡ grown (N.taken notes.old) (refused_line (refused_words second) refusal) }
-    ensures write_fault { result ≡ Status.WriteFault → status ≢ Status.WriteFault → Rose (N.faults notes.old) (N.faults notes.new) }
-    ensures notes_rose { N.faults notes.old < N.faults notes.new → result ≡ Status.WriteFault }
+// Puts the kind and the place of a refusal.
+fn put_refusal<N: Sink>(second: bool, refusal: Refusal, notes: &mut N) -> Result<(), SinkFault>
+    ensures { Puts (N.taken notes.old) (N.taken notes.new) (N.faults notes.old) (N.faults notes.new) (refused_line (refused_words second) refusal) result }
 {
     let mut number = Buffer::new();
     let mut line = Buffer::new();
@@ -130,7 +135,7 @@ fn note_refusal<N: Sink>(second: bool, refusal: Refusal, status: Status, notes: 
         column_of(refusal.kind, column.format(refusal.place.column).as_bytes()),
         b"\n",
     ];
-    note(notes, &pieces, status)
+    put_pieces(notes, &pieces)
 }
 
 // What stands between a line and a column, where the kind's texts have places within a line.
@@ -153,12 +158,9 @@ fn column_of(kind: Kind, digits: &[u8]) -> &[u8]
     }
 }
 
-// Notes the step and the clause that fails.
-fn note_clause<N: Sink>(step: u32, clause: Clause, notes: &mut N) -> Status
-    ensures status { (result ≡ Status.No) ⊎ (result ≡ Status.WriteFault) }
-    ensures line { result ≢ Status.WriteFault → N.taken notes.new ≡ grown (N.taken notes.old) (denied_line step clause) }
-    ensures write_fault { result ≡ Status.WriteFault → Rose (N.faults notes.old) (N.faults notes.new) }
-    ensures notes_rose { N.faults notes.old < N.faults notes.new → result ≡ Status.WriteFault }
+// Puts the step and the clause that fails.
+fn put_clause<N: Sink>(step: u32, clause: Clause, notes: &mut N) -> Result<(), SinkFault>
+    ensures { Puts (N.taken notes.old) (N.taken notes.new) (N.faults notes.old) (N.faults notes.new) (denied_line step clause) result }
 {
     let mut digits = Buffer::new();
     let pieces = [
@@ -168,7 +170,7 @@ fn note_clause<N: Sink>(step: u32, clause: Clause, notes: &mut N) -> Status
         clause_name(clause),
         b"\n",
     ];
-    note(notes, &pieces, Status::No)
+    put_pieces(notes, &pieces)
 }
 
 fn clause_name(clause: Clause) -> &'static [u8]
@@ -207,25 +209,16 @@ fn number_of(kind: Kind) -> u8
     }
 }
 
-/// Writes the pieces to `notes`, and passes the status on.
+/// Writes the pieces of a line to `notes`, and passes the status on.
 pub fn note<N: Sink>(notes: &mut N, pieces: &[&[u8]], status: Status) -> Status
-    ensures status { (result ≡ status) ⊎ (result ≡ Status.WriteFault) }
-    ensures line { result ≢ Status.WriteFault → N.taken notes.new ≡ grown (N.taken notes.old) (joined pieces.now) }
-    ensures write_fault { result ≡ Status.WriteFault → status ≢ Status.WriteFault → Rose (N.faults notes.old) (N.faults notes.new) }
-    ensures notes_rose { N.faults notes.old < N.faults notes.new → result ≡ Status.WriteFault }
+    ensures { Noted (N.taken notes.old) (N.taken notes.new) (N.faults notes.old) (N.faults notes.new) (joined pieces.now) status result }
 {
-    match put_pieces(notes, pieces) {
-        Ok(()) => status,
-        Err(SinkFault) => Status::WriteFault,
-    }
+    ended(put_pieces(notes, pieces), status)
 }
 
 // Puts the pieces in order.
 fn put_pieces<N: Sink>(notes: &mut N, pieces: &[&[u8]]) -> Result<(), SinkFault>
-    ensures whole { OnOk result (N.taken notes.new ≡ grown (N.taken notes.old) (joined pieces.now)) }
-    ensures part { IsPart (N.taken notes.old) (N.taken notes.new) (joined pieces.now) }
-    ensures counts { Counts (N.faults notes.old) (N.faults notes.new) result }
-    ensures cause { OnErr result (Rose (N.faults notes.old) (N.faults notes.new)) }
+    ensures { Puts (N.taken notes.old) (N.taken notes.new) (N.faults notes.old) (N.faults notes.new) (joined pieces.now) result }
 {
     for piece in pieces {
         if write_whole(notes, piece).is_err() {

@@ -1,6 +1,8 @@
 // How a run ends.
+ghost use Rattle.std.specs.Prelude.{◌≡◌};
+ghost use Rattle.moxi_commands.specs.Statuses.{number_of};
 
-/// How a run ends. Its number, in this order from 0, is the process's exit status.
+/// How a run ends.
 #[derive(Clone, Copy, Debug, PartialEq, Eq)]
 pub enum Status {
     /// The whole output was written.
@@ -19,4 +21,22 @@ pub enum Status {
     NoMemory,
     /// The second file is not spelled, or passes a limit.
     SecondRefused,
+}
+
+impl Status {
+    /// The number with which the program ends, from 0 to 7.
+    pub fn number(self) -> u8
+        ensures { result ≡ number_of self }
+    {
+        match self {
+            Status::Done => 0,
+            Status::No => 1,
+            Status::Refused => 2,
+            Status::Usage => 3,
+            Status::ReadFault => 4,
+            Status::WriteFault => 5,
+            Status::NoMemory => 6,
+            Status::SecondRefused => 7,
+        }
+    }
 }

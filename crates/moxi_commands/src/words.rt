@@ -1,6 +1,7 @@
 // Reading of the command words.
-ghost use Rattle.std.specs.Prelude.{◌≡◌, [], ◌∷◌, map, string_bytes, IfOk};
-ghost use Rattle.moxi_commands.specs.Words.{command_of, begins_with_dash};
+ghost use Rattle.std.specs.Prelude.{◌≡◌, map, string_bytes, IfOk, Some};
+ghost use Rattle.std.specs.List.{list_any};
+ghost use Rattle.moxi_commands.specs.Words.{begins_with_dash, command_of, command_with, row, task_in};
 
 use std::alloc::Global;
 use text_core::{Name, NoMemory};
@@ -14,48 +15,78 @@ pub enum Command {
     JudgeBtor(Name, Name),
 }
 
+/// What a command does with the files that it names.
+#[derive(Clone, Copy)]
+pub enum Task {
+    SmvToBtor,
+    JudgeBtor,
+}
+
+// The first words of the commands.
+const COMMANDS: [(&[u8], Task); 2] = [
+    (b"smv2btor", Task::SmvToBtor),
+    (b"judge-btor", Task::JudgeBtor),
+];
+
 /// Reads the command words, without the program's name.
 pub fn read_command(alloc: Global, words: &Vec<String>) -> Result<Option<Command>, NoMemory>
     ensures { IfOk result (λ command. command ≡ command_of (map string_bytes words.now.items)) }
 {
-    match words.len() {
-        2 => simple_command(alloc, words[0].as_bytes(), words[1].as_bytes()),
-        3 => double_command(
-            alloc,
-            words[0].as_bytes(),
-            words[1].as_bytes(),
-            words[2].as_bytes(),
-        ),
+    let Some((word, files)) = words.split_first() else {
+        return Ok(None);
+    };
+    if has_option(files) {
+        return Ok(None);
+    }
+    match task_in(&COMMANDS, word.as_bytes()) {
+        Some(task) => command_with(alloc, task, files),
+        None => Ok(None),
+    }
+}
+
+// The task of the first row with this word.
+fn task_in(table: &[(&[u8], Task)], word: &[u8]) -> Option<Task>
+    ensures { result ≡ task_in (map row table.now) word.now }
+{
+    for (written, task) in table {
+        if word == *written {
+            return Some(*task);
+        }
+    }
+    None
+}
+
+// The task with its files, where they are as many as it takes.
+fn command_with(alloc: Global, task: Task, files: &[String]) -> Result<Option<Command>, NoMemory>
+    ensures { IfOk result (λ command. command ≡ command_with (Some task) (map string_bytes files.now)) }
+{
+    match (task, files) {
+        (Task::SmvToBtor, [model]) => Ok(Some(Command::SmvToBtor(name_of(alloc, model)?))),
+        (Task::JudgeBtor, [model, second]) => {
+            let model = name_of(alloc, model)?;
+            let second = name_of(alloc, second)?;
+            Ok(Some(Command::JudgeBtor(model, second)))
+        }
         _ => Ok(None),
     }
 }
 
-// A command with one file.
-fn simple_command(alloc: Global, word: &[u8], model: &[u8]) -> Result<Option<Command>, NoMemory>
-    ensures { IfOk result (λ command. command ≡ command_of (word.now ∷ model.now ∷ [])) }
+fn name_of(alloc: Global, word: &String) -> Result<Name, NoMemory>
+    ensures { IfOk result (λ name. name ≡ string_bytes word.now) }
 {
-    if word != b"smv2btor".as_slice() || is_option(model) {
-        return Ok(None);
-    }
-    let model = Name::of(alloc, model)?;
-    Ok(Some(Command::SmvToBtor(model)))
+    Name::of(alloc, word.as_bytes())
 }
 
-// A command with two files.
-fn double_command(
-    alloc: Global,
-    word: &[u8],
-    model: &[u8],
-    second: &[u8],
-) -> Result<Option<Command>, NoMemory>
-    ensures { IfOk result (λ command. command ≡ command_of (word.now ∷ model.now ∷ second.now ∷ [])) }
+// Does one of the words begin with `-`?
+fn has_option(words: &[String]) -> bool
+    ensures { result ≡ list_any begins_with_dash (map string_bytes words.now) }
 {
-    if word != b"judge-btor".as_slice() || is_option(model) || is_option(second) {
-        return Ok(None);
+    for word in words {
+        if is_option(word.as_bytes()) {
+            return true;
+        }
     }
-    let model = Name::of(alloc, model)?;
-    let second = Name::of(alloc, second)?;
-    Ok(Some(Command::JudgeBtor(model, second)))
+    false
 }
 
 // A word that begins with `-`.

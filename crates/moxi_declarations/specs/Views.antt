@@ -25,6 +25,7 @@ plain_draft d =
       system_names = d.system_names;
       variables = d.variables;
       systems = map plain_reading d.systems.items;
+      repeated = map plain_reading d.repeated.items;
       checked = d.checked;
       check = option_map plain_check_reading d.check;
     }

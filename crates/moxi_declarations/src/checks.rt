@@ -5,9 +5,11 @@ ghost use Rattle.moxi_sexpr.specs.Tree.{plain, plain_forms};
 ghost use Rattle.moxi_scripts.specs.declared.parts.Command.TheVariants as commands;
 ghost use Rattle.moxi_scripts.specs.declared.parts.Turn.TheVariants as turns;
 ghost use Rattle.moxi_attributes.specs.Views.{value_now, headed_here, plain_labels};
-ghost use Rattle.moxi_scripts.specs.Checks.{check_failures, check_in, check_of, content_failures, content_of, headed_failures, labels_in, place_or, places_in, variables_in};
-ghost use Rattle.moxi_scripts.specs.Labels.{labels_after, labels_failures, no_labels};
-ghost use Rattle.moxi_scripts.specs.QueryReading.{all_queries_failures, queries_after};
+ghost use Rattle.moxi_scripts.specs.Checks.{check_failures, check_in, check_of, content_failures, content_of, headed_failures};
+ghost use Rattle.moxi_scripts.specs.Checks.{label_failures_over, labels_in, labels_over, place_or, places_in, query_failures_over};
+ghost use Rattle.moxi_scripts.specs.Checks.{variables_in};
+ghost use Rattle.moxi_scripts.specs.Labels.{no_labels};
+ghost use Rattle.moxi_scripts.specs.QueryReading.{queries_after};
 ghost use Rattle.moxi_declarations.specs.Views.{plain_check_reading};
 ghost use Rattle.moxi_scripts.specs.Collecting.{also};
 ghost use Rattle.moxi_scripts.specs.Lists.{all_entries, lists_in};
@@ -71,9 +73,9 @@ fn read_named(
 ) -> Result<(), NoMemory>
     requires labels { plain_labels labels.old ≡ no_labels }
     requires queries { queries.old ≡ [] }
-    ensures labels { OnOk result (plain_labels labels.new ≡ labels_after scope.now locals.now no_labels turns.AtKeyword (plain_forms forms.now)) }
-    ensures queries { OnOk result (queries.new ≡ queries_after (labels_after scope.now locals.now no_labels turns.AtKeyword (plain_forms forms.now)) turns.AtKeyword (plain_forms forms.now)) }
-    ensures finds { OnOk result (found.new ≡ also (also found.old (labels_failures scope.now locals.now no_labels turns.AtKeyword (plain_forms forms.now))) (all_queries_failures (labels_after scope.now locals.now no_labels turns.AtKeyword (plain_forms forms.now)) [] turns.AtKeyword (plain_forms forms.now))) }
+    ensures labels { OnOk result (plain_labels labels.new ≡ labels_over scope.now locals.now (plain_forms forms.now)) }
+    ensures queries { OnOk result (queries.new ≡ queries_after (labels_over scope.now locals.now (plain_forms forms.now)) turns.AtKeyword (plain_forms forms.now)) }
+    ensures finds { OnOk result (found.new ≡ also (also found.old (label_failures_over scope.now locals.now (plain_forms forms.now))) (query_failures_over (labels_over scope.now locals.now (plain_forms forms.now)) (plain_forms forms.now))) }
 {
     read_labels(alloc, scope, locals, forms, labels, found)?;
     read_queries(alloc, labels, forms, queries, found)?;

@@ -5,7 +5,10 @@ ghost use Rattle.moxi_sexpr.specs.Tree.{plain, plain_forms};
 ghost use Rattle.moxi_sorts.specs.Forms.{only_of, symbol_now};
 ghost use Rattle.moxi_scripts.specs.declared.parts.CommandName.TheVariants as name;
 ghost use Rattle.moxi_scripts.specs.Collecting.{also};
-ghost use Rattle.moxi_scripts.specs.Commands.{command_failures, command_named, commands_failures, declaring_name, form_failures, headed_failures, known_failures, logic_failures, logic_of, logic_symbol, logic_symbol_failures, nothing_read, other_name, reading_after, system_name, with_command, with_form, with_headed, with_known};
+ghost use Rattle.moxi_scripts.specs.Commands.{command_failures, command_named, commands_failures, declaring_name, form_failures};
+ghost use Rattle.moxi_scripts.specs.Commands.{headed_failures, known_failures, logic_failures, logic_of, logic_symbol};
+ghost use Rattle.moxi_scripts.specs.Commands.{logic_symbol_failures, nothing_read, other_name, reading_after, system_name};
+ghost use Rattle.moxi_scripts.specs.Commands.{with_command, with_form, with_headed, with_known};
 ghost use Rattle.moxi_declarations.specs.Views.{plain_draft};
 ghost use Rattle.moxi_attributes.specs.Views.{headed_here};
 
@@ -24,7 +27,7 @@ use std::mem::{self, drop};
 use text_core::kinds::moxi;
 use text_core::{Name, NoMemory, Place, Refusal};
 
-/// What the commands so far declare.
+/// What the commands so far declare. A system whose name is taken is one of `repeated`.
 #[derive(Drop)]
 pub struct Draft {
     pub logic: Option<Name>,
@@ -33,6 +36,7 @@ pub struct Draft {
     pub system_names: NameSet,
     pub variables: Entries,
     pub systems: Vec<ReadSystem>,
+    pub repeated: Vec<ReadSystem>,
     pub checked: bool,
     pub check: Option<ReadCheck>,
 }
@@ -48,6 +52,7 @@ pub fn nothing_read(alloc: Global) -> Draft
         system_names: NameSet::new(alloc),
         variables: Entries::new(alloc),
         systems: Vec::new(alloc),
+        repeated: Vec::new(alloc),
         checked: false,
         check: None,
     }
@@ -234,6 +239,7 @@ fn read_command(
                 &mut draft.system_names,
                 &mut draft.variables,
                 &mut draft.systems,
+                &mut draft.repeated,
                 p,
                 forms,
                 found,

@@ -6,7 +6,10 @@ ghost use Rattle.moxi_terms.specs.Sorted.{IsFunction};
 ghost use Rattle.moxi_terms.specs.View.{plain};
 ghost use Rattle.moxi_term_reading.specs.Reading.{prime_failures};
 ghost use Rattle.moxi_scripts.specs.Collecting.{also};
-ghost use Rattle.moxi_scripts.specs.Declarations.{body_reading, clash_failures, function_failures, function_forms, function_tests, is_nil, own_name_failures, parameters_in, part_failures, read_over, result_sort, term_name_tests, with_function_name, with_function_of, with_new_function, with_read_function, with_term_name, with_typed, typed_function};
+ghost use Rattle.moxi_scripts.specs.Declarations.{body_reading, clash_failures, function_failures, function_forms, function_tests};
+ghost use Rattle.moxi_scripts.specs.Declarations.{is_nil, name_failures, parameters_in, part_failures, read_over, result_sort};
+ghost use Rattle.moxi_scripts.specs.Declarations.{term_name_tests, typed_function, with_function_name, with_function_of};
+ghost use Rattle.moxi_scripts.specs.Declarations.{with_new_function, with_read_function, with_term_name, with_typed};
 ghost use Rattle.moxi_scripts.specs.Entries.{entries_of, known_sort, twice_failures, variables_of};
 ghost use Rattle.moxi_declarations.specs.FunctionView.{function_here, function_now};
 
@@ -72,8 +75,8 @@ fn test_names(
 {
     fail_primed(found, name.primed, name.place);
     declare_term_name(alloc, scope, names, name.name, name.place, found)?;
-    let mut own = NameSet::new(alloc);
-    test_twice(alloc, &mut own, parameters, found)?;
+    let mut parameter_names = NameSet::new(alloc);
+    test_twice(alloc, &mut parameter_names, parameters, found)?;
     Ok(())
 }
 
@@ -187,15 +190,15 @@ fn define_function(
     ensures finds { OnOk result (found.new ≡ also found.old (function_tests scope.old names.old p (Some (function_here f.entry)))) }
 {
     let mut parameters = Entries::new(alloc);
-    let mut own = None;
-    let (sort, body) = read_parts(alloc, scope, p, f, &mut parameters, &mut own)?;
+    let mut failure = None;
+    let (sort, body) = read_parts(alloc, scope, p, f, &mut parameters, &mut failure)?;
     test_names(alloc, scope, names, f.name, &parameters, found)?;
-    note(found, own);
+    note(found, failure);
     append(alloc, variables, &parameters)?;
     let _functions = scope.functions();
     read_sorts_are_of_the_scope();
     read_terms_have_sorts();
-    let whole = is_nothing(own);
+    let whole = is_nothing(failure);
     add_whole(alloc, scope, whole, f.name.name, &parameters, sort, body)?;
     Ok(())
 }

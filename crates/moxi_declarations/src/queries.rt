@@ -6,7 +6,11 @@ ghost use Rattle.moxi_scripts.specs.declared.parts.Turn.TheVariants as turns;
 ghost use Rattle.moxi_scripts.specs.Collecting.{also};
 ghost use Rattle.moxi_scripts.specs.Declarations.{are_symbols};
 ghost use Rattle.moxi_attributes.specs.Views.{plain_labels, named_here};
-ghost use Rattle.moxi_scripts.specs.QueryReading.{all_queries_failures, is_bad_query, list_failures, forms_among, names_after, names_with_queries, names_with_query, no_names, queries_after, queries_among, queries_failures, queries_in, query_failures, query_forms, query_of, query_with, symbol_tests, symbols_failures, with_number, with_prime, with_symbol};
+ghost use Rattle.moxi_scripts.specs.QueryReading.{all_queries_failures, is_bad_query, list_failures, forms_among, names_after};
+ghost use Rattle.moxi_scripts.specs.QueryReading.{names_with_queries, names_with_query, no_names, queries_after, queries_among};
+ghost use Rattle.moxi_scripts.specs.QueryReading.{queries_failures, queries_in, query_failures, query_forms, query_of};
+ghost use Rattle.moxi_scripts.specs.QueryReading.{query_with, symbol_tests, symbols_failures, with_number, with_prime};
+ghost use Rattle.moxi_scripts.specs.QueryReading.{with_symbol};
 ghost use Rattle.moxi_scripts.specs.Shapes.{parts_of};
 
 use moxi_attributes::{

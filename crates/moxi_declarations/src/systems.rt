@@ -1,5 +1,5 @@
 // Systems as they are read.
-ghost use Rattle.std.specs.Prelude.{◌≡◌, ◌++◌, ◌∷◌, [], false, IfOk, OnOk, map};
+ghost use Rattle.std.specs.Prelude.{◌≡◌, ◌++◌, ◌∷◌, [], Some, IfOk, OnOk, map};
 ghost use Rattle.moxi_sexpr.specs.Tree.{plain_forms};
 ghost use Rattle.moxi_terms.specs.View.{plain};
 ghost use Rattle.moxi_terms.specs.declared.data.Primes.TheVariants as may;
@@ -12,13 +12,17 @@ ghost use Rattle.moxi_scripts.specs.Formulas.{formula_term};
 ghost use Rattle.moxi_scripts.specs.Lists.{all_entries, lists_in, value_at};
 ghost use Rattle.moxi_scripts.specs.Shapes.{headed};
 ghost use Rattle.moxi_attributes.specs.Views.{headed_here};
-ghost use Rattle.moxi_scripts.specs.Systems.{bare_system, content_failures, content_of, formulas_failures, locals_of, names_with_system, read_systems, shaped_failures, shaped_system, shaped_variables, system_failures, system_of, system_tests, system_variables, variables_failures, variables_of_system};
+ghost use Rattle.moxi_scripts.specs.Systems.{bare_system, content_failures, content_of, formula_failures_in, formulas_failures, locals_of};
+ghost use Rattle.moxi_scripts.specs.Systems.{names_with_system, no_list, shaped_failures, shaped_system, shaped_variables};
+ghost use Rattle.moxi_scripts.specs.Systems.{system_failures, system_tests, use_failures_in, variables_failures, variables_of_system};
+ghost use Rattle.moxi_scripts.specs.Systems.{with_new_system, with_repeated, with_repeated_system, with_system};
 ghost use Rattle.moxi_declarations.specs.Views.{plain_reading};
 ghost use Rattle.moxi_scripts.specs.Uses.{uses_failures, uses_in};
 
 use moxi_attributes::{
-    Headed, all_entries, append, fail, fail_primed, headed_forms, locals_among, read_formula,
-    read_lists, read_uses, shape_holds, test_keywords, test_twice, true_term, value_of,
+    Headed, all_entries, append, are_shaped, fail, fail_if, fail_primed, headed_forms,
+    possible_locals, read_formula, read_lists, read_uses, shape_holds, test_keywords, test_twice,
+    text_entries, true_term, value_of,
 };
 use moxi_scripts::{Command, DeclaredList, Entries, Key, Lists, Use};
 use moxi_sexpr::Form;
@@ -57,7 +61,7 @@ pub struct SystemFormulas {
 }
 
 // The test of names in the list itself.
-fn test_own_twice(
+fn test_twice_alone(
     alloc: Global,
     entries: &Entries,
     found: &mut Option<Refusal>,
@@ -86,10 +90,12 @@ pub fn read_variables(
 {
     test_keywords(command, forms, found);
     let lists = read_lists(alloc, scope, command, forms, found)?;
-    let all = all_entries(alloc, &lists)?;
-    test_own_twice(alloc, &all, found)?;
+    let mut text = text_entries(alloc, &lists, command, forms)?;
+    test_twice_alone(alloc, &text, found)?;
+    let mut all = all_entries(alloc, &lists)?;
     append(alloc, variables, &all)?;
-    let locals = locals_among(alloc, &all)?;
+    let shaped = are_shaped(&lists);
+    let locals = possible_locals(alloc, scope, shaped, forms, &mut text, &mut all)?;
     Ok(ReadVariables { lists, locals })
 }
 
@@ -173,7 +179,7 @@ fn read_over(
     requires lists { lists ≡ lists_in scope.now commands.System (plain_forms forms.now) }
     requires locals { locals.now ≡ locals_of scope.now commands.System (plain_forms forms.now) }
     ensures system { IfOk result (λ r. plain_reading r ≡ content_of scope.now name (plain_forms forms.now)) }
-    ensures finds { OnOk result (found.new ≡ also (also found.old (formulas_failures scope.now (locals_of scope.now commands.System (plain_forms forms.now)) (plain_forms forms.now))) (uses_failures (locals_of scope.now commands.System (plain_forms forms.now)) [] turns.AtKeyword (plain_forms forms.now))) }
+    ensures finds { OnOk result (found.new ≡ also (also found.old (formula_failures_in scope.now (plain_forms forms.now))) (use_failures_in scope.now (plain_forms forms.now))) }
 {
     let mut uses = List::new(alloc);
     match read_parts(alloc, scope, locals, forms, &mut uses, found) {
@@ -223,11 +229,11 @@ fn read_content(
 }
 
 fn no_list(alloc: Global) -> DeclaredList
-    ensures entries { result.entries ≡ [] }
-    ensures whole { result.whole ≡ false }
+    ensures { result ≡ no_list }
 {
     DeclaredList {
         entries: Entries::new(alloc),
+        shaped: false,
         whole: false,
     }
 }
@@ -282,47 +288,68 @@ where
     Ok(all.push(x)?)
 }
 
+// Adds a system to those with new names or to those whose names are taken.
+#[tactic(auto, using(moxi_scripts::proofs::Forms::map_end))]
+fn add_system(
+    new: bool,
+    systems: &mut Vec<ReadSystem>,
+    repeated: &mut Vec<ReadSystem>,
+    r: ReadSystem,
+) -> Result<(), NoMemory>
+    ensures adds { OnOk result (map plain_reading systems.new.items ≡ with_new_system new (map plain_reading systems.old.items) (plain_reading r)) }
+    ensures repeats { OnOk result (map plain_reading repeated.new.items ≡ with_repeated_system new (map plain_reading repeated.old.items) (plain_reading r)) }
+{
+    if new {
+        return put(systems, r);
+    }
+    put(repeated, r)
+}
+
 // A system at p, whose name is tested.
-#[tactic(auto, using(moxi_attributes::specs::laws::Collecting::also_append, moxi_attributes::specs::laws::Collecting::nothing_more, moxi_scripts::proofs::Forms::map_end))]
+#[tactic(auto, using(moxi_attributes::specs::laws::Collecting::also_append))]
 fn define_system(
     alloc: Global,
     scope: &Scope,
     names: &mut NameSet,
     variables: &mut Entries,
     systems: &mut Vec<ReadSystem>,
+    repeated: &mut Vec<ReadSystem>,
     p: Place,
     h: Headed,
     found: &mut Option<Refusal>,
 ) -> Result<(), NoMemory>
-    ensures adds { OnOk result (map plain_reading systems.new.items ≡ map plain_reading systems.old.items ++ system_of scope.now names.old (headed_here h.entry)) }
+    ensures adds { OnOk result (map plain_reading systems.new.items ≡ with_system scope.now names.old (map plain_reading systems.old.items) (Some (headed_here h.entry))) }
+    ensures repeats { OnOk result (map plain_reading repeated.new.items ≡ with_repeated scope.now names.old (map plain_reading repeated.old.items) (Some (headed_here h.entry))) }
     ensures names { OnOk result (names.new ≡ names_with names.old (headed_here h.entry).name) }
-    ensures variables { OnOk result (variables.new ≡ variables.old ++ system_variables scope.now names.old (headed_here h.entry)) }
+    ensures variables { OnOk result (variables.new ≡ variables.old ++ shaped_variables scope.now (headed_here h.entry).rest) }
     ensures finds { OnOk result (found.new ≡ also found.old (system_tests scope.now names.old p (headed_here h.entry))) }
 {
     fail_primed(found, h.primed, h.place);
-    if !names.declare(alloc, h.name)? {
-        fail(found, moxi::NAME_TWICE, h.place);
-        return Ok(());
-    }
+    let new = names.declare(alloc, h.name)?;
+    fail_if(found, !new, moxi::NAME_TWICE, h.place);
     let r = read_shaped(alloc, scope, p, h, variables, found)?;
-    put(systems, r)?;
+    add_system(new, systems, repeated, r)?;
     Ok(())
 }
 
-/// `(define-system S ..)` at p, of which these are the forms behind its head.
+/// `(define-system S ..)` at p, of which these are the forms behind its head. A system whose name is taken is read like any other,
+/// and is put to `repeated`.
+#[tactic(auto, using(moxi_attributes::specs::laws::Collecting::nothing_more))]
 pub fn read_system(
     alloc: Global,
     scope: &Scope,
     names: &mut NameSet,
     variables: &mut Entries,
     systems: &mut Vec<ReadSystem>,
+    repeated: &mut Vec<ReadSystem>,
     p: Place,
     forms: &[Form],
     found: &mut Option<Refusal>,
 ) -> Result<(), NoMemory>
-    ensures adds { OnOk result (map plain_reading systems.new.items ≡ map plain_reading systems.old.items ++ read_systems scope.now names.old (plain_forms forms.now)) }
+    ensures adds { OnOk result (map plain_reading systems.new.items ≡ with_system scope.now names.old (map plain_reading systems.old.items) (headed (plain_forms forms.now))) }
+    ensures repeats { OnOk result (map plain_reading repeated.new.items ≡ with_repeated scope.now names.old (map plain_reading repeated.old.items) (headed (plain_forms forms.now))) }
     ensures names { OnOk result (names.new ≡ names_with_system names.old (headed (plain_forms forms.now))) }
-    ensures variables { OnOk result (variables.new ≡ variables.old ++ variables_of_system scope.now names.old (headed (plain_forms forms.now))) }
+    ensures variables { OnOk result (variables.new ≡ variables.old ++ variables_of_system scope.now (headed (plain_forms forms.now))) }
     ensures finds { OnOk result (found.new ≡ also found.old (system_failures scope.now names.old p (plain_forms forms.now))) }
 {
     match headed_forms(forms) {
@@ -331,7 +358,9 @@ pub fn read_system(
             Ok(())
         }
         Some(h) => {
-            define_system(alloc, scope, names, variables, systems, p, h, found)?;
+            define_system(
+                alloc, scope, names, variables, systems, repeated, p, h, found,
+            )?;
             Ok(())
         }
     }

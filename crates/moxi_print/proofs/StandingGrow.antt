@@ -78,8 +78,8 @@ pub or_later : (a b : Bool) → b ≡ true → (a || b) ≡ true
 or_later true b h = refl
 or_later false b h = h
 
-or_sooner : (a b : Bool) → a ≡ true → (a || b) ≡ true
-or_sooner a b h = ap (λ a. a || b) h
+or_first : (a b : Bool) → a ≡ true → (a || b) ≡ true
+or_first a b h = ap (λ a. a || b) h
 
 or_kept : {A : Type 0} (o x y : Option A) (m : A) → (x ≡ Some m → y ≡ Some m) → or_else o x ≡ Some m → or_else o y ≡ Some m
 or_kept None x y m f e = f e
@@ -90,7 +90,7 @@ pub function_taken : (s : ScopeState) (name : List ℕ) → is_among (function_n
 function_taken s name h = or_later (is_operator name) _ (or_later (bytes_eq name (codes "true")) _ (or_later (bytes_eq name (codes "false")) _ (or_later (is_among (all_constants s.enumerations) name) _ h)))
 
 operator_taken : (s : ScopeState) (name : List ℕ) (o : TermOp) → operator_named name ≡ Some o → is_term_name s name ≡ true
-operator_taken s name o h = or_sooner (is_operator name) _ (or_sooner (is_some (operator_named name)) _ (ap is_some h))
+operator_taken s name o h = or_first (is_operator name) _ (or_first (is_some (operator_named name)) _ (ap is_some h))
 
 module _ (s t : ScopeState) (g : Grows s t) where
   -- CONSTANTS

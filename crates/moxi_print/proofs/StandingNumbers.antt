@@ -13,7 +13,8 @@ use Rattle.word_core.specs.declared.word.TheConstants.{WIDEST}
 use Rattle.word_core.specs.Digits.{digit_number, number_after, digits_value, fitted, read_word}
 use Rattle.std.specs.List.{list_all}
 use Rattle.moxi_sexpr.specs.Atoms.{is_run}
-use Rattle.moxi_sexpr.specs.Bytes.{is_digit, is_binary_digit}
+use Rattle.text_core.specs.Bytes.{is_digit}
+use Rattle.moxi_sexpr.specs.Bytes.{is_binary_digit}
 use Rattle.moxi_sorts.specs.SortReading.{index_of, number_or_most}
 
 -- BINARY DIGITS
@@ -101,8 +102,8 @@ abbrev value_after : ℕ → List ℕ → ℕ
 value_after n [] = n
 value_after n (b ∷ bs) = value_after (10 * n + (b - 48)) bs
 
-own : IsNumeralModel (λ ds. all_digits ds ≡ true) (value_after 0)
-own = numerals_by_fold _ (search rules) value_after (search rules)
+numeral_model : IsNumeralModel (λ ds. all_digits ds ≡ true) (value_after 0)
+numeral_model = numerals_by_fold _ (search rules) value_after (search rules)
 
 digit_below : (b : ℕ) → is_digit b ≡ true → (digit_number b ≡ b - 48) × (nat_lt (digit_number b) 10 ≡ true)
 digit_below b h =
@@ -125,7 +126,7 @@ pub index_again : (n : ℕ) → n < 4294967296 → index_of (decimal n) ≡ n
 index_again n h =
     let small : n < 2 ^ 64 = omega (arith, h) in
     let value : digits_value 10 (decimal n) ≡ Some n =
-    value_of_some 10 (decimal n) (decimal_nonempty n small) ∙ number_of (decimal n) 0 0 refl (digits_decimal own n small) ∙ ap Some (digits_value-decimal own n small) in
+    value_of_some 10 (decimal n) (decimal_nonempty n small) ∙ number_of (decimal n) 0 0 refl (digits_decimal numeral_model n small) ∙ ap Some (digits_value-decimal numeral_model n small) in
     ap number_or_most (read_back 10 32 n (decimal n) (omega arith) (omega arith) (omega (arith, h)) value)
 
 -- SPELLING
@@ -155,4 +156,4 @@ all_decimal (b ∷ bs) h = let q = and_parts (is_digit b) (all_digits bs) h in a
 pub decimal_run : (n : ℕ) → n < 4294967296 → is_run is_digit (decimal n) ≡ true
 decimal_run n h =
     let small : n < 2 ^ 64 = omega (arith, h) in
-    run_of is_digit (decimal n) (decimal_nonempty n small) (all_decimal (decimal n) (digits_decimal own n small))
+    run_of is_digit (decimal n) (decimal_nonempty n small) (all_decimal (decimal n) (digits_decimal numeral_model n small))

@@ -1,5 +1,6 @@
 -- What is printed of a term that can stand in its place is read as this term, by induction over the term.
-use Rattle.std.proofs.Common.{◌≡◌, ℕ, zero, suc, ◌<◌, Bool, true, false, cond, eqb, List, [], ◌∷◌, ◌++◌, map, length, Option, Some, Ok, Err, refl, sym, ap, ◌∙◌, subst, arith}
+use Rattle.std.proofs.Common.{◌≡◌, ℕ, zero, suc, ◌<◌, Bool, true, false, cond, eqb, List, [], ◌∷◌, ◌++◌, map, length, Option, None, Some, Ok, Err, refl, sym, ap, ◌∙◌, subst, arith}
+use Rattle.std.specs.List.{list_all}
 use Rattle.std.specs.Prelude.{slice_get, codes, decimal}
 use Rattle.std.specs.Str.{bytes_eq}
 use Rattle.std.proofs.lemmas.Bool.{and_from, eq-eqb}
@@ -12,6 +13,7 @@ use Rattle.word_core.specs.declared.kinds.Unary.{Unary}
 use Rattle.word_core.specs.declared.kinds.Unary.TheVariants as one
 use Rattle.word_core.specs.declared.kinds.Binary.{Binary}
 use Rattle.word_core.specs.declared.kinds.Binary.TheVariants as two
+use Rattle.text_core.specs.declared.place.Kind.TheVariants.{M}
 use Rattle.moxi_sexpr.specs.declared.form.Atom.TheVariants as atoms
 use Rattle.moxi_sexpr.specs.Lexing.{refusal}
 use Rattle.moxi_sexpr.specs.Tree as form
@@ -75,7 +77,7 @@ no_primes Refused primed p h = ap (λ b. reading.prime_failures b p) h
 variable_read : (c : Context) (bounds : List Local) (v : ℕ) (primed : Bool) (s : Sort) (f : form.Tree) → Stands c bounds (variable v primed) s
     → Shows f (part (atoms.Symbol (name_at (names_of c.variables) v) primed)) → read c bounds f ≡ whole (variable v primed) s
 variable_read c bounds v primed s f h g =
-    named_read c bounds f (name_at (names_of c.variables) v) primed _ (variable v primed) s h.0 (λ p. ap (reading.own_tests (variable v primed) (Some s)) (no_primes c.primes primed p h.1)) g
+    named_read c bounds f (name_at (names_of c.variables) v) primed _ (variable v primed) s h.0 (λ p. ap (reading.checked_term (variable v primed) (Some s)) (no_primes c.primes primed p h.1)) g
 
 -- HEADS
 
@@ -206,7 +208,7 @@ operator_read : (c : Context) (bounds : List Local) (o : TermOp) (us : Trees) (x
 operator_read c bounds o us xs ss s f ih each sorted stands g =
     let a = shape.is_group f _ g in
     let b = shape.is_more a.1 _ _ a.3 in
-    let count = (taken (count_fits o (length ss)) (fitting o ss) 12 s sorted).0 in
+    let count = (taken (count_fits o (length ss)) (fitting o ss) (M 12) s sorted).0 in
     ap (read c bounds) (a.2 ∙ ap (form.list a.0) b.2)
     ∙ application_read c bounds a.0 b.0 b.1 (heads.Operator o) us ss s (operator_head c a.0 o b.0 stands b.3) (ih b.1 b.4) (ap (count_fits o) (each_long c bounds us ss each) ∙ count) sorted
 
@@ -227,7 +229,7 @@ function_name (g ∷ gs) zero f h = ap (λ (f : PlainFunction). f.name) (same_So
 function_name (g ∷ gs) (suc n) f h = function_name gs n f h
 
 call_sorted : (o : Option PlainFunction) (f : PlainFunction) → o ≡ Some f → typing.call_sort o (sorts_of f.parameters) ≡ Ok f.result
-call_sorted o f e = ap (λ o. typing.call_sort o (sorts_of f.parameters)) e ∙ ap (λ b. cond b (Ok f.result) (Err 5)) (same_selves (sorts_of f.parameters))
+call_sorted o f e = ap (λ o. typing.call_sort o (sorts_of f.parameters)) e ∙ ap (λ b. cond b (Ok f.result) (Err (M 5))) (same_selves (sorts_of f.parameters))
 
 call_counted : (o : Option PlainFunction) (f : PlainFunction) (n : ℕ) → o ≡ Some f → n ≡ length (sorts_of f.parameters) → eqb n (typing.parameter_count o) ≡ true
 call_counted o f n e h = ap (λ o. eqb n (typing.parameter_count o)) e ∙ eq-eqb n (length f.parameters) (h ∙ length-map f.parameters _)
@@ -261,6 +263,11 @@ bound_names [] ss h = refl
 bound_names (name ∷ names) [] h = absurd (omega (arith, h))
 bound_names (name ∷ names) (s ∷ ss) h = ap (λ ns. name ∷ ns) (bound_names names ss (omega (arith, h)))
 
+bound_have_sorts : (names : List (List ℕ)) (ss : List Sort) → list_all reading.has_sort (bound_locals names ss) ≡ true
+bound_have_sorts [] ss = refl
+bound_have_sorts (name ∷ names) [] = refl
+bound_have_sorts (name ∷ names) (s ∷ ss) = bound_have_sorts names ss
+
 pub names_append : (xs ys : List Local) → names_of (xs ++ ys) ≡ names_of xs ++ names_of ys
 names_append [] ys = refl
 names_append (x ∷ xs) ys = ap (λ ns. x.name ∷ ns) (names_append xs ys)
@@ -289,9 +296,10 @@ let_read c bounds names us t ss s xs x f some long ih body g =
     let e = shape.is_group d.0 xs d.3 in
     let bs = ih e.0 e.1 e.3 in
     ap (read c bounds) (a.2 ∙ ap (form.list a.0) (b.2 ∙ ap (λ h. form.tree h b.1) w.1 ∙ ap (form.tree (form.atom w.0 (atoms.Symbol (codes "let") false))) (d.2 ∙ ap (λ l. form.tree l (form.tree d.1 form.no_trees)) e.2)))
-    ∙ ap (λ own. reading.let_reading own (read_bindings c bounds e.0 e.1) (read c (bounds ++ (read_bindings c bounds e.0 e.1).locals) d.1)) bs.0
+    ∙ ap (λ tests. reading.let_reading tests (read_bindings c bounds e.0 e.1) (read c (bounds ++ (read_bindings c bounds e.0 e.1).locals) d.1)) bs.0
     ∙ ap (λ (x : Bindings). reading.let_reading [] x (read c (bounds ++ x.locals) d.1)) bs.1
     ∙ ap (reading.let_reading [] (all_bound names us ss)) (body d.1 d.4)
+    ∙ ap (λ b. record { term = binding (names_of (bound_locals names ss)) (trees_of (list_of us)) t; sort = cond b (Some s) None; failures = [] }) (bound_have_sorts names ss)
     ∙ ap (λ ns. whole (binding ns (trees_of (list_of us)) t) s) (bound_names names ss long)
     ∙ ap (λ us. whole (binding names us t) s) (trees_back us)
 

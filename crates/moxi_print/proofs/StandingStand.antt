@@ -48,7 +48,7 @@ use Rattle.moxi_sorts.specs.Finding.{Found}
 use Rattle.moxi_terms.specs.Meanings.{head_named}
 use Rattle.moxi_term_reading.specs.WellSorted.{HaveKnownSorts}
 use Rattle.moxi_terms.proofs.PlaceLaws.{place_there, index_read}
-use Rattle.moxi_term_reading.specs.laws.SortedParts.{some_fails, none_in, stays, FoundIn, first_found, last_found, known_append, names_long, read_is_word, tests_hold, call_fits}
+use Rattle.moxi_term_reading.specs.laws.SortedParts.{some_fails, none_in, stays, FoundIn, first_found, last_found, known_append, all_have_sorts, names_long, read_is_word, tests_hold, call_fits}
 use Rattle.moxi_print.specs.Terms.{name_at, constants_or_none, constant_name, operator_word, truth_word}
 use Rattle.moxi_print.specs.Standing.{bound_locals, StandsPrime, StandsOperator, StandsCall, Stands, StandEach}
 use Rattle.moxi_print.specs.StandingReads.{IsStanding}
@@ -206,8 +206,8 @@ form_count form.no_trees = 0
 form_count (form.tree t ts) = suc (form_count ts)
 
 module _ (c : Context) (vars : List Sort) (of_vars : HaveKnownSorts c.variables vars) where
-  own_stands : (ls : List Local) (t : Tree) (s : Option Sort) (fs : List Refusal) (sort : Sort) → fs ≡ [] → s ≡ Some sort → Stands c ls t sort → IsStanding c ls (reading.own_tests t s fs)
-  own_stands ls t s fs sort h e g = record { sort = sort; known = stays fs s h ∙ e; stands = g }
+  checked_stands : (ls : List Local) (t : Tree) (s : Option Sort) (fs : List Refusal) (sort : Sort) → fs ≡ [] → s ≡ Some sort → Stands c ls t sort → IsStanding c ls (reading.checked_term t s fs)
+  checked_stands ls t s fs sort h e g = record { sort = sort; known = stays fs s h ∙ e; stands = g }
 
   never : (ls : List Local) (f : Refusal) (fs : List Refusal) (r : Reading) → f ∷ fs ≡ [] → IsStanding c ls r
   never ls f fs r h = absurd (some_fails f fs h)
@@ -299,16 +299,16 @@ module _ (c : Context) (vars : List Sort) (of_vars : HaveKnownSorts c.variables 
       → IsStanding c ls (reading.named_reading c.primes p primed m)
   named_stands ls p name primed None e f h = never ls (refusal 4 p) [] _ h
   named_stands ls p name primed (Some (meaning.Bound i s)) e f h =
-      own_stands ls (bound i) s _ f.0 h f.1 (ap (meaning_of c ls) f.2 ∙ e ∙ ap (λ s. Some (meaning.Bound i s)) f.1)
+      checked_stands ls (bound i) s _ f.0 h f.1 (ap (meaning_of c ls) f.2 ∙ e ∙ ap (λ s. Some (meaning.Bound i s)) f.1)
   named_stands ls p name primed (Some (meaning.Variable v s)) e f h =
-      own_stands ls (variable v primed) s _ f.0 h f.1 (ap (meaning_of c ls) f.2 ∙ e ∙ ap (λ s. Some (meaning.Variable v s)) f.1, prime_stands c.primes primed p h)
+      checked_stands ls (variable v primed) s _ f.0 h f.1 (ap (meaning_of c ls) f.2 ∙ e ∙ ap (λ s. Some (meaning.Variable v s)) f.1, prime_stands c.primes primed p h)
   named_stands ls p name primed (Some (meaning.Value (datum.Truth b) s)) e f h =
-      own_stands ls (constant (datum.Truth b)) (Some s) _ s h refl (f.0, ap (meaning_of c ls) f.1 ∙ e ∙ ap (λ s. Some (meaning.Value (datum.Truth b) s)) f.0)
+      checked_stands ls (constant (datum.Truth b)) (Some s) _ s h refl (f.0, ap (meaning_of c ls) f.1 ∙ e ∙ ap (λ s. Some (meaning.Value (datum.Truth b) s)) f.0)
   named_stands ls p name primed (Some (meaning.Value (datum.Bits w) s)) e f h = absurd f
   named_stands ls p name primed (Some (meaning.Value (datum.Constant n i) s)) e f h =
-      own_stands ls (constant (datum.Constant n i)) (Some s) _ s h refl (f.0, ap (meaning_of c ls) f.1 ∙ e ∙ ap (λ s. Some (meaning.Value (datum.Constant n i) s)) f.0)
+      checked_stands ls (constant (datum.Constant n i)) (Some s) _ s h refl (f.0, ap (meaning_of c ls) f.1 ∙ e ∙ ap (λ s. Some (meaning.Value (datum.Constant n i) s)) f.0)
   named_stands ls p name primed (Some (meaning.Call n s)) e f h =
-      own_stands ls (call n no_trees) (Some s) _ s h refl (
+      checked_stands ls (call n no_trees) (Some s) _ s h refl (
         f.0,
         f.1,
         sym f.3,
@@ -322,7 +322,7 @@ module _ (c : Context) (vars : List Sort) (of_vars : HaveKnownSorts c.variables 
     where
       by_word : (o : Option BitVector) → read_word w base digits ≡ o → (reading.word_reading p o fs).failures ≡ [] → IsStanding c ls (reading.word_reading p o fs)
       by_word None e h = never ls (refusal 8 p) [] _ h
-      by_word (Some v) e h = own_stands ls (constant (datum.Bits v)) (Some (Bits v.width)) fs (Bits v.width) h refl (refl, read_is_word w base digits v e)
+      by_word (Some v) e h = checked_stands ls (constant (datum.Bits v)) (Some (Bits v.width)) fs (Bits v.width) h refl (refl, read_is_word w base digits v e)
 
   atom_stands : (ls : List Local) (ss : List Sort) (p : Place) (a : Atom) → HaveKnownSorts ls ss → (reading.atom_reading c ls p a).failures ≡ [] → IsStanding c ls (reading.atom_reading c ls p a)
   atom_stands ls ss p (Symbol name primed) k h = named_stands ls p name primed (meaning_of c ls name) refl (name_fits ls ss name k) h
@@ -505,18 +505,18 @@ module _ (c : Context) (vars : List Sort) (of_vars : HaveKnownSorts c.variables 
   binding_stands ls p t None r g h f = absurd (some_fails (refusal 12 p) [] h)
   binding_stands ls p t (Some x) r g h f = let w = g f in record { sorts = w.sort ∷ []; known = (w.known, tt); stand = (w.stands, tt); count = refl }
 
-  let_stands : (ls : List Local) (ss : List Sort) (own : List Refusal) (n : ℕ) (x : Bindings) (r : Reading) → HaveKnownSorts ls ss → (own ≡ [] → 0 < n)
+  let_stands : (ls : List Local) (ss : List Sort) (tests : List Refusal) (n : ℕ) (x : Bindings) (r : Reading) → HaveKnownSorts ls ss → (tests ≡ [] → 0 < n)
       → (x.shape ≡ [] → x.failures ≡ [] → AreBoundTo ls n x) → ((ts : List Sort) → HaveKnownSorts (ls ++ x.locals) ts → r.failures ≡ [] → IsStanding c (ls ++ x.locals) r)
-      → (reading.let_reading own x r).failures ≡ [] → IsStanding c ls (reading.let_reading own x r)
-  let_stands ls ss own n x r k some g b e =
-      let e1 = none_in own _ e in
+      → (reading.let_reading tests x r).failures ≡ [] → IsStanding c ls (reading.let_reading tests x r)
+  let_stands ls ss tests n x r k some g b e =
+      let e1 = none_in tests _ e in
       let e2 = none_in x.shape _ e1.1 in
       let e3 = none_in x.failures r.failures e2.1 in
       let a = g e2.0 e3.0 in
       let w = b (ss ++ a.sorts) (known_append ls x.locals ss a.sorts k a.known) e3.1 in
       record {
         sort = w.sort;
-        known = stays _ r.sort (ap (λ fs. fs ++ x.shape) e1.0 ∙ e2.0) ∙ w.known;
+        known = stays _ _ (ap (λ fs. fs ++ x.shape) e1.0 ∙ e2.0) ∙ ap (λ b. cond b r.sort None) (all_have_sorts x.locals a.sorts a.known) ∙ w.known;
         stands = (
           a.sorts,
           (let q : 0 < n = some e1.0 in omega (arith, q, names_count x.locals, a.count)),

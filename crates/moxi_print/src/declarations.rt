@@ -29,9 +29,9 @@ fn put_constants(out: &mut Text, names: &Names) -> Result<(), NoMemory>
     ensures { OnOk result (out.new ≡ out.old ++ parts_text [] (shown_symbols names.now)) }
 {
     let mut separator: &[u8] = b"";
-    for i in 0..names.len() {
+    for name in names {
         out.put(separator)?;
-        put_symbol(out, names.at(i).bytes(), false)?;
+        put_symbol(out, name.bytes(), false)?;
         separator = b" ";
     }
     Ok(())

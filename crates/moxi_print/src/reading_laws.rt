@@ -15,8 +15,8 @@ ghost use Rattle.moxi_term_reading.specs.WellSorted.{HaveKnownSorts};
 ghost use Rattle.moxi_print.specs.Shown.{CanBeShown, Shows};
 ghost use Rattle.moxi_print.specs.Terms.{shown_sort, shown_term};
 ghost use Rattle.moxi_print.specs.Standing.{Stands};
-ghost use Rattle.moxi_print.specs.StandingGrows.{Grows, in_scope, sorts_first};
-ghost use Rattle.moxi_print.specs.StandingNames.{AreSpellable, IsSpellable, IsSpellableScope, NamesAreSpellable};
+ghost use Rattle.moxi_print.specs.StandingGrows.{Grows, IsReadAgain, in_scope, sorts_first};
+ghost use Rattle.moxi_print.specs.StandingNames.{AreSpellable, IsSpellable, IsSpellableScope, NamesAreSpellable, TermCanBeShown};
 ghost use Rattle.moxi_print.specs.StandingReads.{HasSortNames, IsStanding, StandsSort, whole};
 
 /// A form that is shown as a term that can stand in its place spells this term, with its sort, and no test of it fails
@@ -40,7 +40,7 @@ pub fn shown_sorts_are_read()
 
 /// What is printed of a term that was read spells this term again, with its sort, also where more has been declared.
 pub fn read_terms_are_read_again()
-    ensures { (c : Context) (bounds : List Local) (vars ss : List Sort) (f : Form) (u : ScopeState) (g : Form) → HaveKnownSorts c.variables vars → HaveKnownSorts bounds ss → (read c bounds f).failures ≡ [] → Grows c.scope u → Shows g (shown_term u (names_of c.variables) (names_of bounds) (read c bounds f).term) → read (in_scope c u) bounds g ≡ read c bounds f }
+    ensures { (c : Context) (bounds : List Local) (vars ss : List Sort) (f : Form) (u : ScopeState) (g : Form) → HaveKnownSorts c.variables vars → HaveKnownSorts bounds ss → (read c bounds f).failures ≡ [] → IsReadAgain c bounds f u g }
 {}
 
 /// In a scope that has grown, a term can stand where it could before, and a sort's name means it as before.
@@ -69,7 +69,8 @@ pub fn read_names_are_spellable()
 /// What is shown of a term that can stand in its place, or of a sort whose name means it, can be shown, where the names that
 /// it is made of can be spelled.
 pub fn standing_terms_can_be_shown()
-    ensures terms { (c : Context) (bounds : List Local) (t : Tree) (s : Sort) → IsSpellableScope c.scope → AreSpellable (names_of c.variables) → AreSpellable (names_of bounds) → Stands c bounds t s → NamesAreSpellable t → CanBeShown (shown_term c.scope (names_of c.variables) (names_of bounds) t) }
+    ensures terms { (c : Context) (bounds : List Local) (t : Tree) (s : Sort) → IsSpellableScope c.scope → AreSpellable (names_of c.variables) → AreSpellable (names_of bounds) → Stands c bounds t s
+        → NamesAreSpellable t → TermCanBeShown c bounds t }
     ensures sorts { (s : ScopeState) (sort : Sort) → IsSpellableScope s → StandsSort s sort → CanBeShown (shown_sort s sort) }
 {}
 

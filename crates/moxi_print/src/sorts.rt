@@ -34,9 +34,9 @@ fn put_each_variable(out: &mut Text, scope: &Scope, variables: &Variables) -> Re
     ensures { OnOk result (out.new ≡ out.old ++ parts_text [] (shown_variables scope.now variables.now)) }
 {
     let mut separator: &[u8] = b"";
-    for i in 0..variables.len() {
+    for variable in variables {
         out.put(separator)?;
-        put_variable(out, scope, variables.at(i))?;
+        put_variable(out, scope, variable)?;
         separator = b" ";
     }
     Ok(())

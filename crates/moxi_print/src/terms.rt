@@ -61,8 +61,8 @@ pub fn push_variable_names<'a>(
 ) -> Result<(), NoMemory>
     ensures { OnOk result (map bytes_behind names.new.items ≡ map bytes_behind names.old.items ++ variable_names variables.now) }
 {
-    for i in 0..variables.len() {
-        push(names, variables.at(i).name.bytes())?;
+    for variable in variables {
+        push(names, variable.name.bytes())?;
     }
     Ok(())
 }
@@ -86,8 +86,8 @@ fn push_names<'a>(bound: &mut Vec<&'a [u8]>, names: &'a Names) -> Result<(), NoM
     ensures names { OnOk result (map bytes_behind bound.new.items ≡ map bytes_behind bound.old.items ++ names.now) }
     ensures front { OnOk result (take (length bound.old.items) bound.new.items ≡ bound.old.items) }
 {
-    for i in 0..names.len() {
-        push(bound, names.at(i).bytes())?;
+    for name in names {
+        push(bound, name.bytes())?;
     }
     Ok(())
 }

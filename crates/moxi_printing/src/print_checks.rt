@@ -2,7 +2,7 @@
 ghost use Rattle.std.specs.Prelude.{◌≡◌, ◌++◌, ◌∷◌, [], map, codes, OnOk, IfOk};
 ghost use Rattle.moxi_sexpr.specs.Printing.{bytes_behind};
 ghost use Rattle.moxi_print.specs.Shown.{parts_text, text_of};
-ghost use Rattle.moxi_shown_scripts.specs.Printing.{all_queries, attribute, formula_names, query_names, shown_check, shown_conditions, shown_label, shown_labels, shown_names, shown_queries};
+ghost use Rattle.moxi_shown_scripts.specs.Printing.{all_queries, attribute, formula_names, query_names, shown_query, shown_check, shown_conditions, shown_label, shown_labels, shown_names, shown_queries};
 ghost use Rattle.moxi_scripts.specs.Script.{plain_check, plain_formula};
 
 use crate::print_parts::{
@@ -101,7 +101,7 @@ fn put_query(
     reachables: &[&[u8]],
     query: &Query,
 ) -> Result<(), NoMemory>
-    ensures { OnOk result (out.new ≡ out.old ++ parts_text (32 ∷ []) (attribute (codes "query") (shown_names query.now.name (query_names (map bytes_behind assumptions.now) (map bytes_behind currents.now) (map bytes_behind reachables.now) query.now)))) }
+    ensures { OnOk result (out.new ≡ out.old ++ parts_text (32 ∷ []) (shown_query (map bytes_behind assumptions.now) (map bytes_behind currents.now) (map bytes_behind reachables.now) query.now)) }
 {
     let names = query_names(alloc, assumptions, currents, reachables, query)?;
     put_names(out, b"query", query.name.bytes(), &names)

@@ -13,10 +13,12 @@ use Rattle.moxi_print.specs.Terms.{shown_term, shown_variables}
 use Rattle.moxi_scripts.specs.declared.parts.Command.{Command}
 use Rattle.moxi_scripts.specs.declared.parts.Command.TheVariants.{System, Check}
 use Rattle.moxi_scripts.specs.declared.parts.Key.{Key}
-use Rattle.moxi_scripts.specs.declared.parts.Key.TheVariants.{Input, Output, Local, Init, Trans, Inv}
+use Rattle.moxi_scripts.specs.declared.parts.Key.TheVariants.{Input, Output, Local, Init, Trans, Inv, Subsystem, Assumption, Current, Reachable, Query, Queries}
+use Rattle.moxi_scripts.specs.declared.parts.Lists.{Lists}
 use Rattle.moxi_scripts.specs.declared.parts.Turn.TheVariants.{AtKeyword}
 use Rattle.moxi_scripts.specs.Attributes.{count_of, is_list_form, key_named, key_number, key_turn, shape_holds, takes_term, turns_fit, unknown_failures}
 use Rattle.moxi_scripts.specs.Collecting.{fails_if}
+use Rattle.moxi_scripts.specs.Lists.{entries_at, text_entries}
 use Rattle.moxi_shown_scripts.specs.Printing.{formula_attribute, list_attribute, shown_formulas, shown_lists}
 use Rattle.moxi_read_back.proofs.AgainShapes.{is_attribute, joined_joined}
 use Rattle.moxi_systems.specs.laws.WholeNames.{and_both}
@@ -33,6 +35,7 @@ pub record IsTail (command : Command) (ts : Trees) : Type 0 where
   pub fits : turns_fit command AtKeyword ts ≡ true
   pub known : unknown_failures command AtKeyword ts ≡ []
   pub counts : (k : Key) → is_once k ≡ true → count_of command k AtKeyword ts ≡ 0
+  pub lists : (l : Lists) → text_entries l command AtKeyword ts ≡ []
 
 or_second : (a b : Bool) → b ≡ true → (a || b) ≡ true
 or_second true b h = refl
@@ -45,8 +48,23 @@ apart m n h g = by_test (m == n) refl
     by_test true e = absurd (let k : m ≡ n = grind (arith, nat_tests) in let l : nat_lt n 6 ≡ true = ap (λ x. nat_lt x 6) (sym k) ∙ h in cc)
     by_test false e = refl
 
+-- a key of which there may be more values is none of a list
+no_list : (l : Lists) (k : Key) → is_once k ≡ false → entries_at l k ≡ []
+no_list l Input h = absurd (cc)
+no_list l Output h = absurd (cc)
+no_list l Local h = absurd (cc)
+no_list l Init h = refl
+no_list l Trans h = refl
+no_list l Inv h = refl
+no_list l Subsystem h = refl
+no_list l Assumption h = refl
+no_list l Current h = refl
+no_list l Reachable h = refl
+no_list l Query h = refl
+no_list l Queries h = refl
+
 pub tail_end : (command : Command) → IsTail command no_trees
-tail_end command = record { fits = refl; known = refl; counts = λ k h. refl }
+tail_end command = record { fits = refl; known = refl; counts = λ k h. refl; lists = λ l. refl }
 
 pub tail_more : (command : Command) (name : List ℕ) (k : Key) (p : Place) (t : Tree) (ts : Trees) → key_named command name ≡ Some k → is_once k ≡ false → is_list_form t ≡ true → IsTail command ts
     → IsTail command (attribute_forms p name t ts)
@@ -57,6 +75,8 @@ tail_more command name k p t ts e once l r = record {
   counts = λ j h.
       ap (λ o. 0 + count_of command j (key_turn o) (tree t ts)) e ∙ ap (λ b. 0 + ((cond b 1 0) + count_of command j AtKeyword ts)) (apart (key_number j) (key_number k) h once)
       ∙ ap (λ n. 0 + (0 + n)) (r.counts j h);
+  lists = λ l.
+      ap (λ o. text_entries l command (key_turn o) (tree t ts)) e ∙ ap (λ xs. xs ++ text_entries l command AtKeyword ts) (no_list l k once) ∙ r.lists l;
 }
 
 -- the three lists, and what stands behind them

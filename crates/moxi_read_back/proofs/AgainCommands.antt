@@ -37,7 +37,7 @@ use Rattle.moxi_systems.specs.laws.WholeScopes.{constants_append, take_whole, te
 
 -- what is read so far; no check is read
 abbrev pub reading_at : Option (List ℕ) → ScopeState → List (List ℕ) → List (List ℕ) → List Declared → List SystemReading → Reading
-reading_at logic s names systems ds rs = record { logic = logic; scope = s; term_names = names; system_names = systems; variables = ds; systems = rs; checked = false; check = None }
+reading_at logic s names systems ds rs = record { logic = logic; scope = s; term_names = names; system_names = systems; variables = ds; systems = rs; repeated = []; checked = false; check = None }
 
 -- behind some of the forms this is read, no test of them fails, and the others are shown so
 pub record Goes (r then : Reading) (rest : Showns) (ts : Trees) : Type 0 where
@@ -95,29 +95,29 @@ one_more es e = constants_append es (e ∷ []) ∙ ap (λ cs. all_constants es +
 record CanFollow (there es : List Enumeration) : Type 0 where
   pub some : AllByRecursion (λ (e : Enumeration). 0 < length e.constants) es
   pub names : are_fresh (enumerated there) (enumerated es) ≡ true
-  pub own : AllByRecursion (λ (name : List ℕ). is_fixed_sort name ≡ false) (enumerated es)
+  pub free : AllByRecursion (λ (name : List ℕ). is_fixed_sort name ≡ false) (enumerated es)
   pub constants : are_fresh (all_constants there) (all_constants es) ≡ true
-  pub own_constants : AllByRecursion (λ (name : List ℕ). is_fixed_term name ≡ false) (all_constants es)
+  pub constants_free : AllByRecursion (λ (name : List ℕ). is_fixed_term name ≡ false) (all_constants es)
 
 follow_rest : (there : List Enumeration) (e : Enumeration) (es : List Enumeration) → CanFollow there (e ∷ es) → CanFollow (there ++ e ∷ []) es
 follow_rest there e es w = record {
   some = w.some.1;
   names = ap (λ ns. are_fresh ns (enumerated es)) (map_append (λ (e : Enumeration). e.name) there (e ∷ [])) ∙ (fresh_first (enumerated there) e.name (enumerated es) w.names).1;
-  own = w.own.1;
+  free = w.free.1;
   constants = ap (λ ns. are_fresh ns (all_constants es)) (one_more there e) ∙ (fresh_split (all_constants there) e.constants (all_constants es) w.constants).1;
-  own_constants = (all_parts (λ (name : List ℕ). is_fixed_term name ≡ false) e.constants (all_constants es) w.own_constants).1;
+  constants_free = (all_parts (λ (name : List ℕ). is_fixed_term name ≡ false) e.constants (all_constants es) w.constants_free).1;
 }
 
 follow_new : (there : List Enumeration) (e : Enumeration) (es : List Enumeration) → CanFollow there (e ∷ es) → IsNewEnumeration (only_enumerations there) (all_constants there) e
 follow_new there e es w =
     let c = fresh_split (all_constants there) e.constants (all_constants es) w.constants in
-    let own = λ (name : List ℕ). is_fixed_term name ≡ false in
+    let free = λ (name : List ℕ). is_fixed_term name ≡ false in
     let s = only_enumerations there in
     record {
       some = w.some.0;
-      sort = sort_new s e.name w.own.0 (fresh_first (enumerated there) e.name (enumerated es) w.names).0 refl;
-      constants = all_both own (Absent (all_constants there)) (λ (name : List ℕ). is_term_name s name ≡ false) e.constants
-          (λ name o a. term_new s name (record { own = o; constants = a; functions = refl })) (all_parts own e.constants (all_constants es) w.own_constants).0 (fresh_absent (all_constants there) e.constants c.0);
+      sort = sort_new s e.name w.free.0 (fresh_first (enumerated there) e.name (enumerated es) w.names).0 refl;
+      constants = all_both free (Absent (all_constants there)) (λ (name : List ℕ). is_term_name s name ≡ false) e.constants
+          (λ name o a. term_new s name (record { free = o; constants = a; functions = refl })) (all_parts free e.constants (all_constants es) w.constants_free).0 (fresh_absent (all_constants there) e.constants c.0);
       differ = c.0;
       behind = c.0;
     }
@@ -148,10 +148,10 @@ reading_sorts logic es ns = reading_at logic (without_functions es ns) (all_cons
 sorts_go : (logic : Option (List ℕ)) (u : ScopeState) (there ns : List NamedSort) (rest : Showns) (ts : Trees) → AllReadBack u.enumerations → AllByRecursion (λ (n : NamedSort). IsSort u.enumerations n.sort) ns
     → are_fresh (enumeration_names u ++ sorted there) (sorted ns) ≡ true → AllByRecursion (λ (name : List ℕ). is_fixed_sort name ≡ false) (sorted ns) → ShowEach ts (joined (shown_sorts u ns) rest)
     → Goes (reading_sorts logic u.enumerations there) (reading_sorts logic u.enumerations (there ++ ns)) rest ts
-sorts_go logic u there [] rest ts back i d own h =
+sorts_go logic u there [] rest ts back i d free h =
     subst (λ ns. Goes (reading_sorts logic u.enumerations there) (reading_sorts logic u.enumerations ns) rest ts) (sym (append-nil there)) (go_nowhere (reading_sorts logic u.enumerations there) rest ts h)
-sorts_go logic u there (n ∷ ns) rest no_trees back i d own h = absurd h
-sorts_go logic u there (n ∷ ns) rest (tree t ts) back i d own h =
+sorts_go logic u there (n ∷ ns) rest no_trees back i d free h = absurd h
+sorts_go logic u there (n ∷ ns) rest (tree t ts) back i d free h =
     let es = u.enumerations in
     let s = without_functions es there in
     let r = reading_sorts logic es there in
@@ -160,12 +160,12 @@ sorts_go logic u there (n ∷ ns) rest (tree t ts) back i d own h =
     let a = absent_parts (enumeration_names u) (sorted there) n.name p.0 in
     let show : Shows t (shown_named_sort s n) =
     subst (λ x. Shows t (group (shown (word (codes "define-sort")) (shown (symbol n.name) (shown (group no_showns) (shown x no_showns)))))) (same_sorts_shown u s refl n.sort) h.0 in
-    let one = sort_definition_read r n t (back s refl) i.0 (sort_new s n.name own.0 a.0 a.1) show in
+    let one = sort_definition_read r n t (back s refl) i.0 (sort_new s n.name free.0 a.0 a.1) show in
     let names : (enumeration_names u ++ sorted there) ++ n.name ∷ [] ≡ enumeration_names u ++ sorted (there ++ n ∷ []) =
     append_assoc (enumeration_names u) (sorted there) (n.name ∷ []) ∙ ap (λ xs. enumeration_names u ++ xs) (sym (map_append (λ (n : NamedSort). n.name) there (n ∷ []))) in
     go_one r next (reading_sorts logic es (there ++ n ∷ ns)) rest t ts one
     (subst (λ ns. Goes next (reading_sorts logic es ns) rest ts) (append_assoc there (n ∷ []) ns)
-    (sorts_go logic u (there ++ n ∷ []) ns rest ts back i.1 (ap (λ xs. are_fresh xs (sorted ns)) (sym names) ∙ p.1) own.1 h.1))
+    (sorts_go logic u (there ++ n ∷ []) ns rest ts back i.1 (ap (λ xs. are_fresh xs (sorted ns)) (sym names) ∙ p.1) free.1 h.1))
 
 -- FUNCTIONS
 
@@ -193,11 +193,11 @@ record GoFunctions (logic : Option (List ℕ)) (u : ScopeState) (there fs : List
 -- a function that is declared behind those that are there
 function_new : (u : ScopeState) (there : List PlainFunction) (f : PlainFunction) (fs : List PlainFunction) → u.functions ≡ there ++ f ∷ fs → IsWholeFunction u (length there) f → IsSort u.enumerations f.result
     → are_fresh (term_names u there) (called (f ∷ fs)) ≡ true → is_fixed_term f.name ≡ false → IsNewFunction (with_functions u there) (term_names u there) f
-function_new u there f fs all w i d own =
+function_new u there f fs all w i d free =
     let p = fresh_first (term_names u there) f.name (called fs) d in
     let a = absent_parts (all_constants u.enumerations) (called there) f.name p.0 in
     record {
-      name = term_new (with_functions u there) f.name (record { own = own; constants = a.0; functions = a.1 });
+      name = term_new (with_functions u there) f.name (record { free = free; constants = a.0; functions = a.1 });
       behind = is_absent (term_names u there) f.name p.0;
       parameters = w.parameters.sorts;
       differ = w.parameters.names.differ;
@@ -221,26 +221,26 @@ function_shown u there f fs all stands =
 functions_go : (logic : Option (List ℕ)) (u : ScopeState) (there fs : List PlainFunction) (ds : List Declared) (rest : Showns) (ts : Trees) → IsWholeScope u → AllReadBack u.enumerations → u.functions ≡ there ++ fs
     → are_fresh (term_names u there) (called fs) ≡ true → AllByRecursion (λ (name : List ℕ). is_fixed_term name ≡ false) (called fs) → AreUntaken u ds → ShowEach ts (joined (shown_functions u fs) rest)
     → GoFunctions logic u there fs ds rest ts
-functions_go logic u there [] ds rest ts w back all d own n h = record {
+functions_go logic u there [] ds rest ts w back all d free n h = record {
   variables = ds;
   untaken = n;
   goes = subst (λ fs. Goes (reading_functions logic u there ds) (reading_functions logic u fs ds) rest ts) (sym (append-nil there)) (go_nowhere (reading_functions logic u there ds) rest ts h);
 }
-functions_go logic u there (f ∷ fs) ds rest no_trees w back all d own n h = absurd h
-functions_go logic u there (f ∷ fs) ds rest (tree t ts) w back all d own n h =
+functions_go logic u there (f ∷ fs) ds rest no_trees w back all d free n h = absurd h
+functions_go logic u there (f ∷ fs) ds rest (tree t ts) w back all d free n h =
     let s = with_functions u there in
     let r = reading_functions logic u there ds in
     let here : slice_get u.functions (length there) ≡ Some f = ap (λ gs. slice_get gs (length there)) all ∙ get_right there (f ∷ fs) (length there) 0 (omega arith) in
     let wf = w.functions (length there) f here in
-    let new = function_new u there f fs all wf (w.scope.functions (length there) f here).result d own.0 in
+    let new = function_new u there f fs all wf (w.scope.functions (length there) f here).result d free.0 in
     let one = function_read r f t (back s refl) new (subst (Shows t) (function_shown u there f fs all new.body) h.0) in
     let next = reading_functions logic u (there ++ f ∷ []) (ds ++ one.parameters) in
     let names : term_names u (there ++ f ∷ []) ≡ term_names u there ++ f.name ∷ [] =
     ap (λ xs. all_constants u.enumerations ++ xs) (map_append (λ (f : PlainFunction). f.name) there (f ∷ [])) ∙ sym (append_assoc (all_constants u.enumerations) (called there) (f.name ∷ [])) in
     let is : with_form r t ≡ next = one.reads.is ∙ ap (λ ns. reading_at logic (with_functions u (there ++ f ∷ [])) ns [] (ds ++ one.parameters) []) (sym names) in
     let more = functions_go logic u (there ++ f ∷ []) fs (ds ++ one.parameters) rest ts w back (all ∙ sym (append_assoc there (f ∷ []) fs))
-    (ap (λ ns. are_fresh ns (called fs)) names ∙ (fresh_first (term_names u there) f.name (called fs) d).1) own.1
-    (all_append (λ (d : Declared). is_term_name u d.name ≡ false) ds one.parameters n (agree_all (λ (name : List ℕ). is_term_name u name ≡ false) f.parameters one.parameters one.agree wf.parameters.names.own)) h.1 in
+    (ap (λ ns. are_fresh ns (called fs)) names ∙ (fresh_first (term_names u there) f.name (called fs) d).1) free.1
+    (all_append (λ (d : Declared). is_term_name u d.name ≡ false) ds one.parameters n (agree_all (λ (name : List ℕ). is_term_name u name ≡ false) f.parameters one.parameters one.agree wf.parameters.names.free)) h.1 in
     record {
       variables = more.variables;
       untaken = more.untaken;
@@ -293,7 +293,7 @@ systems_go logic u terms names all there (x ∷ xs) ds rs rest (tree t ts) back 
     let end : system_names (there ++ x ∷ []) ≡ system_names there ++ x.name ∷ [] = map_append (λ (x : PlainSystem). x.name) there (x ∷ []) in
     let is : with_form r t ≡ next = one.is ∙ ap (λ ns. reading_at logic u terms ns variables systems) (sym end) in
     let new = all_append (λ (d : Declared). is_term_name u d.name ≡ false) ds (all_entries l) n
-    (agree_all (λ (name : List ℕ). is_term_name u name ≡ false) (variables_in x) (all_entries l) (all_agree x.inputs x.outputs x.locals l one.agree.lists) w.0.variables.names.own) in
+    (agree_all (λ (name : List ℕ). is_term_name u name ≡ false) (variables_in x) (all_entries l) (all_agree x.inputs x.outputs x.locals l one.agree.lists) w.0.variables.names.free) in
     let more = systems_go logic u terms names all (there ++ x ∷ []) xs variables systems rest ts back w.1 (ap (λ ns. are_fresh ns (system_names xs)) end ∙ p.1) new
     (agree_more names all there (x ∷ []) rs (content_of u x.name one.forms ∷ []) a (one.agree, tt)) h.1 in
     record {
@@ -317,7 +317,7 @@ no_bool (name ∷ names) a = or_both (bytes_eq (codes "Bool") name) _ (other_way
 pub all_back : (terms : TermsRead) (sorts : SortsRead) (stand : SortsStand) (u : ScopeState) → IsWholeScope u → AllReadBack u.enumerations
 all_back terms sorts stand u w s e =
     let f = fresh_split [] (enumeration_names u) (sort_names u) w.sorts.differ in
-    let o = all_parts (λ (name : List ℕ). is_fixed_sort name ≡ false) (enumeration_names u) (sort_names u) w.sorts.own in
+    let o = all_parts (λ (name : List ℕ). is_fixed_sort name ≡ false) (enumeration_names u) (sort_names u) w.sorts.free in
     let same : enumeration_names u ≡ enumeration_names s = ap enumerated (sym e) in
     let differ : are_fresh [] (enumeration_names s) ≡ true = ap (are_fresh []) (sym same) ∙ f.0 in
     let absent = no_bool (enumeration_names u) o.0 in
@@ -338,10 +338,10 @@ declarations_go logic u rest ts w back h =
     let sorts = joined (shown_sorts u u.sorts) functions in
     let enumerations = joined (shown_enumerations u.enumerations) sorts in
     let fs = fresh_split [] (enumeration_names u) (sort_names u) w.sorts.differ in
-    let os = all_parts (λ (name : List ℕ). is_fixed_sort name ≡ false) (enumeration_names u) (sort_names u) w.sorts.own in
+    let os = all_parts (λ (name : List ℕ). is_fixed_sort name ≡ false) (enumeration_names u) (sort_names u) w.sorts.free in
     let ft = fresh_split [] (all_constants u.enumerations) (function_names u) w.terms.differ in
-    let ot = all_parts (λ (name : List ℕ). is_fixed_term name ≡ false) (all_constants u.enumerations) (function_names u) w.terms.own in
-    let follow : CanFollow [] u.enumerations = record { some = w.scope.enumerations; names = fs.0; own = os.0; constants = ft.0; own_constants = ot.0 } in
+    let ot = all_parts (λ (name : List ℕ). is_fixed_term name ≡ false) (all_constants u.enumerations) (function_names u) w.terms.free in
+    let follow : CanFollow [] u.enumerations = record { some = w.scope.enumerations; names = fs.0; free = os.0; constants = ft.0; constants_free = ot.0 } in
     let a = logic_goes logic enumerations ts h in
     let b = enumerations_go logic [] u.enumerations sorts a.forms follow a.show in
     let c = sorts_go logic u [] u.sorts functions b.forms back w.scope.sorts (ap (λ ns. are_fresh ns (sort_names u)) (append-nil (enumeration_names u)) ∙ fs.1) os.1 b.show in

@@ -45,8 +45,8 @@ use Rattle.moxi_systems.specs.laws.WholeNames.{Absent, and_both, fresh_first, is
 -- NAMES
 
 pub sort_new : (s : ScopeState) (name : List ℕ) → is_fixed_sort name ≡ false → Absent (enumeration_names s) name → Absent (sort_names s) name → is_sort_name s name ≡ false
-sort_new s name own es ss =
-    let p = or_parts (bytes_eq name (codes "Bool")) (bytes_eq name (codes "BitVec")) own in
+sort_new s name free es ss =
+    let p = or_parts (bytes_eq name (codes "Bool")) (bytes_eq name (codes "BitVec")) free in
     let e = is_among (enumeration_names s) name in
     let n = is_among (sort_names s) name in
     or_both (bytes_eq name (codes "Bool")) (bytes_eq name (codes "BitVec") || (e || n)) p.0

@@ -1,5 +1,5 @@
 -- Lists of variables that are shown and read again.
-use Rattle.std.proofs.Common.{◌≡◌, ℕ, true, not, cond, is_none, Option, Some, List, [], ◌∷◌, ◌++◌, map, refl, sym, ap, ◌∙◌, subst}
+use Rattle.std.proofs.Common.{◌≡◌, ℕ, true, not, cond, is_none, is_some, Option, Some, List, [], ◌∷◌, ◌++◌, map, refl, sym, ap, ◌∙◌, subst}
 use Rattle.std.specs.List.{AllByRecursion}
 use Rattle.text_core.specs.declared.place.Place.{Place}
 use Rattle.moxi_sexpr.specs.Tree as form
@@ -15,11 +15,12 @@ use Rattle.moxi_print.specs.Shown.{Shows, ShowEach, group}
 use Rattle.moxi_print.specs.Terms.{shown_sort, shown_variable, shown_variables, variable_names}
 use Rattle.moxi_scripts.specs.declared.parts.Declared.{Declared}
 use Rattle.moxi_scripts.specs.Collecting.{fails_if}
-use Rattle.moxi_scripts.specs.Entries.{entries_failures, entries_of, entry_failures, entry_in, entry_of, entry_tests, known_sort, locals_among, names_with, sort_failures, twice_failures, variable_of, variables_of}
-use Rattle.moxi_scripts.specs.Lists.{entries_among, entries_tests, listed_entries, listed_failures}
+use Rattle.moxi_scripts.specs.Entries.{are_entries, entries_failures, entries_of, entry_failures, entry_in, entry_of, entry_tests, known_sort, locals_among, names_with, sort_failures, twice_failures, variable_of, variables_of}
+use Rattle.moxi_scripts.specs.Lists.{entries_among, entries_tests, has_entries, list_shape, listed_entries, listed_failures}
+use Rattle.moxi_scripts.specs.Shapes.{named}
 use Rattle.moxi_read_back.proofs.AgainParts.{ReadsBack}
 use Rattle.moxi_read_back.proofs.AgainShapes.{is_listed, is_named}
-use Rattle.moxi_systems.specs.laws.WholeNames.{fresh_first, is_absent}
+use Rattle.moxi_systems.specs.laws.WholeNames.{and_both, fresh_first, is_absent}
 
 -- as many entries as variables, with their names and sorts
 abbrev pub Agree : List Variable → List Declared → Type 0
@@ -84,11 +85,13 @@ agree_differ vs ds h f = twice_pass [] ds (ap (are_fresh []) (agree_names vs ds 
 -- the entries of a list have these variables' names and sorts, and none of their tests fails
 pub record AreRead (s : ScopeState) (around : Place) (vs : List Variable) (ts : form.Trees) : Type 0 where
   pub entries : Agree vs (entries_of s ts)
+  pub shaped : are_entries ts ≡ true
   pub pass : entries_failures s around ts ≡ []
 
 -- the same of the list itself
 pub record IsReadList (s : ScopeState) (vs : List Variable) (o : Option form.Tree) : Type 0 where
   pub entries : Agree vs (listed_entries s o)
+  pub shaped : list_shape o ≡ true
   pub pass : listed_failures s o ≡ []
 
 module _ (s : ScopeState) (back : ReadsBack s) where
@@ -105,7 +108,7 @@ module _ (s : ScopeState) (back : ReadsBack s) where
       ap (entry_tests s around t) n.is ∙ ap sort_failures (back.sorts (place_in t) v.sort n.form i n.shows)
 
   pub entries_read : (around : Place) (vs : List Variable) (ts : form.Trees) → AreSorts s.enumerations (sorts_of vs) → ShowEach ts (shown_variables s vs) → AreRead s around vs ts
-  entries_read around [] form.no_trees i h = record { entries = tt; pass = refl }
+  entries_read around [] form.no_trees i h = record { entries = tt; shaped = refl; pass = refl }
   entries_read around [] (form.tree t ts) i h = absurd h
   entries_read around (v ∷ vs) form.no_trees i h = absurd h
   entries_read around (v ∷ vs) (form.tree t ts) i h =
@@ -113,6 +116,7 @@ module _ (s : ScopeState) (back : ReadsBack s) where
       let r = entries_read around vs ts i.1 h.1 in
       record {
         entries = subst (λ xs. Agree (v ∷ vs) (xs ++ entries_of s ts)) (sym e.1) (refl, refl, r.entries);
+        shaped = and_both (is_some (named t)) (are_entries ts) (ap is_some (is_named t v.name (shown_sort s v.sort) h.0).is) r.shaped;
         pass = ap (λ xs. xs ++ entries_failures s around ts) (entry_passes around t v i.0 h.0) ∙ r.pass;
       }
 
@@ -120,4 +124,4 @@ module _ (s : ScopeState) (back : ReadsBack s) where
   list_read vs t i h =
       let l = is_listed t (shown_variables s vs) h in
       let r = entries_read (place_in t) vs l.parts i l.show in
-      record { entries = subst (λ o. Agree vs (entries_among s o)) (sym l.is) r.entries; pass = ap (entries_tests s t) l.is ∙ r.pass }
+      record { entries = subst (λ o. Agree vs (entries_among s o)) (sym l.is) r.entries; shaped = ap has_entries l.is ∙ r.shaped; pass = ap (entries_tests s t) l.is ∙ r.pass }

@@ -113,11 +113,11 @@ module _ (ss : List PlainSystem) (fresh : are_fresh [] (system_names ss) ≡ tru
       let l = at.reading.lists in
       let x = system_at ss b.system in
       ap (links.target_failures rs u) (ap (place_of (system_names ss)) a.target ∙ system_place ss b.system fresh a.there) ∙ ap (links.actuals_failures u) (lists_there b.system a.there)
-      ∙ by_whole (l.inputs.whole && l.outputs.whole) (links.fit_failures u l) (fits u l x.inputs x.outputs at.agree.lists.inputs_agree at.agree.lists.outputs_agree a.sorts)
+      ∙ by_shape (l.inputs.shaped && l.outputs.shaped) (links.fit_failures u l) (fits u l x.inputs x.outputs at.agree.lists.inputs_agree at.agree.lists.outputs_agree a.sorts)
     where
-      by_whole : (b : Bool) (xs : List Refusal) → xs ≡ [] → cond b xs [] ≡ []
-      by_whole true xs e = e
-      by_whole false xs e = refl
+      by_shape : (b : Bool) (xs : List Refusal) → xs ≡ [] → cond b xs [] ≡ []
+      by_shape true xs e = e
+      by_shape false xs e = refl
 
   uses_pass : (bs : List Subsystem) (us : List Use) → AgreeUses (system_names ss) ss bs us → links.uses_failures rs (system_names ss) us ≡ []
   uses_pass [] [] a = refl
@@ -164,7 +164,8 @@ module _ (ss : List PlainSystem) (fresh : are_fresh [] (system_names ss) ≡ tru
       (list_passes x.locals c.locals ls.locals r.lists.locals r.places.locals at.agree.lists.locals_agree a.lists.locals_agree f.locals)
 
   pub links_pass : (u : ScopeState) (ds : List Declared) (c : PlainCheck) (r : CheckReading) → AreUntaken u ds → c.system < length ss → FitsSystem (system_at ss c.system) c → AgreeCheck (system_names ss) c r
-      → (links.taken_failures u (term_names u u.functions) ds ++ links.systems_failures rs (system_names ss) rs) ++ links.check_failures rs (system_names ss) (Some r) ≡ []
+      → (links.taken_failures u (term_names u u.functions) ds ++ (links.systems_failures rs (system_names ss) rs ++ [])) ++ links.check_failures rs (system_names ss) (Some r) ≡ []
   links_pass u ds c r n l f a =
-      both_nil (links.taken_failures u (term_names u u.functions) ds ++ links.systems_failures rs (system_names ss) rs) (links.check_failures rs (system_names ss) (Some r))
-      (both_nil (links.taken_failures u (term_names u u.functions) ds) (links.systems_failures rs (system_names ss) rs) (taken_passes u ds n) (systems_pass ss rs agree)) (check_passes c r l f a)
+      let all = links.systems_failures rs (system_names ss) rs in
+      both_nil (links.taken_failures u (term_names u u.functions) ds ++ (all ++ [])) (links.check_failures rs (system_names ss) (Some r))
+      (both_nil (links.taken_failures u (term_names u u.functions) ds) (all ++ []) (taken_passes u ds n) (both_nil all [] (systems_pass ss rs agree) refl)) (check_passes c r l f a)

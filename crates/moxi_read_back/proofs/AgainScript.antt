@@ -121,7 +121,7 @@ script_read terms_read sorts_read sorts_stand s ts end w h =
     let after : reading_after nothing_read ts ≡ last = a.goes.after ∙ ap (reading_after r) one.1 ∙ k.is in
     let commands : commands_failures nothing_read ts ≡ [] = a.goes.pass ∙ ap (commands_failures r) one.1 ∙ ap (λ xs. xs ++ []) k.pass in
     let untaken = all_append (λ (d : Declared). is_term_name u d.name ≡ false) a.variables (all_entries l) a.untaken
-    (agree_all (λ (name : List ℕ). is_term_name u name ≡ false) (check_variables s.check) (all_entries l) (all_agree s.check.inputs s.check.outputs s.check.locals l k.agree.lists) w.check.variables.names.own) in
+    (agree_all (λ (name : List ℕ). is_term_name u name ≡ false) (check_variables s.check) (all_entries l) (all_agree s.check.inputs s.check.outputs s.check.locals l k.agree.lists) w.check.variables.names.free) in
     let links : links_failures last end ≡ [] = both_nil _ [] (links_pass ss w.systems.names a.systems a.agree u (a.variables ++ all_entries l) s.check c untaken w.check.there w.check.fits k.agree) refl in
     let cycles : cycle_failures last.systems last.system_names ≡ [] = cycles_pass ss w.systems.names a.systems a.agree w.systems.acyclic in
     let script : script_with last c ≡ with_place s c.place =

@@ -1,14 +1,16 @@
 -- Systems that are shown and read again.
-use Rattle.std.proofs.Common.{◌≡◌, ℕ, true, false, cond, is_none, Some, List, [], ◌∷◌, ◌++◌, refl, sym, ap, ◌∙◌, subst, append_assoc}
+use Rattle.std.proofs.Common.{◌≡◌, ℕ, true, false, cond, is_none, not, Some, List, [], ◌∷◌, ◌++◌, refl, sym, ap, ◌∙◌, subst, append_assoc, append-nil}
 use Rattle.std.specs.Prelude.{codes}
 use Rattle.text_core.specs.declared.place.Place.{Place}
 use Rattle.moxi_sexpr.specs.declared.form.Atom.TheVariants.{Symbol}
 use Rattle.moxi_sexpr.specs.Lexing.{refusal}
 use Rattle.moxi_sexpr.specs.Tree as form
+use Rattle.moxi_scripts.specs.Collecting.{fails_if}
+use Rattle.moxi_scripts.specs.Entries.{twice_failures}
 use Rattle.moxi_terms.specs.declared.data.Primes.TheVariants.{Allowed, Refused}
 use Rattle.moxi_terms.specs.declared.term.Variable.{Variable}
 use Rattle.moxi_term_reading.specs.Answer as answer
-use Rattle.name_set.specs.Names.{place_of}
+use Rattle.name_set.specs.Names.{are_fresh, place_of}
 use Rattle.moxi_terms.specs.Sorted.{AreSorts}
 use Rattle.moxi_terms.specs.Sorts.{IsSort}
 use Rattle.moxi_terms.specs.Tree.{sorts_of}
@@ -22,20 +24,22 @@ use Rattle.moxi_scripts.specs.declared.parts.Turn.TheVariants.{AtKeyword}
 use Rattle.moxi_scripts.specs.declared.parts.Lists.{Lists}
 use Rattle.moxi_scripts.specs.Attributes.{shape_holds, unknown_failures}
 use Rattle.moxi_scripts.specs.Commands.{Reading, with_form, form_failures}
-use Rattle.moxi_scripts.specs.Lists.{all_entries, list_of, lists_in}
+use Rattle.moxi_scripts.specs.Lists.{all_entries, are_shaped, list_of, lists_in, text_entries}
 use Rattle.moxi_shown_scripts.specs.Printing.{shown_command, shown_lists, shown_formulas, shown_subsystems, shown_system}
 use Rattle.moxi_scripts.specs.Script.{PlainSystem, variables_in}
 use Rattle.moxi_scripts.specs.Systems as systems
-use Rattle.moxi_scripts.specs.Systems.{SystemReading, locals_of, variables_failures}
+use Rattle.moxi_scripts.specs.Systems.{SystemReading, locals_of, text_entries_in, variables_failures}
 use Rattle.moxi_scripts.specs.Uses.{uses_failures, uses_in}
 use Rattle.moxi_systems.specs.Whole.{AreVariables, IsWholeSystem}
 use Rattle.moxi_read_back.proofs.AgainAttributes.{has_formulas, has_lists, list_forms, formula_forms, system_shape}
-use Rattle.moxi_read_back.proofs.AgainEntries.{Agree, agree_append, agree_differ, agree_locals, list_read}
+use Rattle.moxi_read_back.proofs.AgainEntries.{Agree, agree_append, agree_differ, agree_locals, agree_names, list_read}
 use Rattle.moxi_read_back.proofs.AgainFormulas.{term_again, term_passes}
 use Rattle.moxi_read_back.proofs.AgainParts.{ReadsBack, both_nil}
 use Rattle.moxi_read_back.proofs.AgainShapes.{is_listed}
 use Rattle.moxi_read_back.proofs.AgainUses.{AgreeUses, uses_read}
+use Rattle.moxi_systems.specs.laws.WholeNames.{and_both}
 use Rattle.moxi_systems.specs.laws.WholeParts.{all_parts, map_append}
+use Rattle.moxi_systems.specs.laws.WholeText.{locals_are, names_declared}
 
 -- THE LISTS
 
@@ -56,9 +60,9 @@ pub record HasReadLists (s : ScopeState) (command : Command) (inputs outputs loc
   pub pass : variables_failures s command ts ≡ []
 
 pub lists_read : (s : ScopeState) (command : Command) (inputs outputs locals : List Variable) (p q r : Place) (i o l : form.Tree) (ts : form.Trees) → ReadsBack s → AreVariables s (inputs ++ (outputs ++ locals))
-    → Shows i (group (shown_variables s inputs)) → Shows o (group (shown_variables s outputs)) → Shows l (group (shown_variables s locals)) → unknown_failures command AtKeyword ts ≡ []
+    → Shows i (group (shown_variables s inputs)) → Shows o (group (shown_variables s outputs)) → Shows l (group (shown_variables s locals)) → unknown_failures command AtKeyword ts ≡ [] → ((l : Lists) → text_entries l command AtKeyword ts ≡ [])
     → HasReadLists s command inputs outputs locals (list_forms p i q o r l ts)
-lists_read s command inputs outputs locals p q r i o l ts back w hi ho hl known =
+lists_read s command inputs outputs locals p q r i o l ts back w hi ho hl known tail =
     let all = all_parts (IsSort s.enumerations) (sorts_of inputs) (sorts_of (outputs ++ locals)) (subst (AreSorts s.enumerations) (map_append (λ (v : Variable). v.sort) inputs (outputs ++ locals)) w.sorts) in
     let rest = all_parts (IsSort s.enumerations) (sorts_of outputs) (sorts_of locals) (subst (AreSorts s.enumerations) (map_append (λ (v : Variable). v.sort) outputs locals) all.1) in
     let a = list_read s back inputs i all.0 hi in
@@ -67,11 +71,18 @@ lists_read s command inputs outputs locals p q r i o l ts back w hi ho hl known 
     let ls : Lists = record { inputs = list_of s (Some i); outputs = list_of s (Some o); locals = list_of s (Some l) } in
     let agree : AgreeLists inputs outputs locals ls = record { inputs_agree = a.entries; outputs_agree = b.entries; locals_agree = c.entries } in
     let vs = inputs ++ (outputs ++ locals) in
+    let forms = list_forms p i q o r l ts in
+    let x = ls.inputs.entries in
+    let y = ls.outputs.entries in
+    let z = ls.locals.entries in
+    let flat : text_entries_in s command forms ≡ all_entries ls = ap (λ xs. x ++ (y ++ (z ++ xs))) (tail ls) ∙ ap (λ xs. x ++ (y ++ xs)) (append-nil z) ∙ sym (append_assoc x y z) in
+    let shaped : are_shaped ls ≡ true = and_both ls.inputs.shaped _ a.shaped (and_both ls.outputs.shaped ls.locals.shaped b.shaped c.shaped) in
+    let fresh = ap (λ ds. are_fresh [] (names_declared ds)) flat ∙ ap (are_fresh []) (agree_names vs (all_entries ls) (all_agree inputs outputs locals ls agree)) ∙ w.names.differ in
     record {
       agree = agree;
-      same = agree_locals vs (all_entries ls) (all_agree inputs outputs locals ls agree);
+      same = locals_are s command forms shaped fresh ∙ agree_locals vs (all_entries ls) (all_agree inputs outputs locals ls agree);
       pass =
-          both_nil _ _ (both_nil _ _ known (both_nil _ _ (both_nil _ _ a.pass b.pass) c.pass)) (agree_differ vs (all_entries ls) (all_agree inputs outputs locals ls agree) w.names.differ);
+          both_nil _ _ (both_nil _ _ known (both_nil _ _ (both_nil _ _ a.pass b.pass) c.pass)) (ap (twice_failures []) flat ∙ agree_differ vs (all_entries ls) (all_agree inputs outputs locals ls agree) w.names.differ);
     }
 
 -- SYSTEMS
@@ -103,7 +114,7 @@ content_read s names all x ts back w h =
     let u = uses_read names all vs x.subsystems [] f.more w.variables.names.differ w.subsystems w.names f.show_more in
     let after = formula_forms f.init_place f.init_form f.trans_place f.trans_form f.inv_place f.inv_form f.more in
     let forms = list_forms a.input_place a.input a.output_place a.output a.local_place a.local after in
-    let l = lists_read s System x.inputs x.outputs x.locals a.input_place a.output_place a.local_place a.input a.output a.local after back w.variables a.shows_inputs a.shows_outputs a.shows_locals u.tail.known in
+    let l = lists_read s System x.inputs x.outputs x.locals a.input_place a.output_place a.local_place a.input a.output a.local after back w.variables a.shows_inputs a.shows_outputs a.shows_locals u.tail.known u.tail.lists in
     let locals = locals_of s System forms in
     let same : locals ≡ answer.locals_of vs = l.same in
     let is : ts ≡ forms = a.is ∙ ap (list_forms a.input_place a.input a.output_place a.output a.local_place a.local) f.is in
@@ -178,8 +189,9 @@ system_command r p q n name ts new shape =
     ap (λ b.
     record r {
       system_names = cond b (r.system_names ++ name ∷ []) r.system_names;
-      variables = r.variables ++ cond b (systems.shaped_variables r.scope ts) [];
-      systems = r.systems ++ cond b (systems.shaped_system r.scope name ts ∷ []) [];
+      variables = r.variables ++ systems.shaped_variables r.scope ts;
+      systems = cond b (r.systems ++ systems.shaped_system r.scope name ts ∷ []) r.systems;
+      repeated = cond b r.repeated (r.repeated ++ systems.shaped_system r.scope name ts ∷ []);
     }) new
     ∙ ap (λ b.
     record r {
@@ -191,7 +203,7 @@ system_command r p q n name ts new shape =
 system_passes : (r : Reading) (p q n : Place) (name : List ℕ) (ts : form.Trees) → is_none (place_of r.system_names name) ≡ true → shape_holds System ts ≡ true → systems.content_failures r.scope ts ≡ []
     → form_failures r (command_form p q (codes "define-system") n name ts) ≡ []
 system_passes r p q n name ts new shape pass =
-    ap (λ b. cond b (systems.shaped_failures r.scope p ts) (refusal 9 n ∷ [])) new ∙ ap (λ b. cond b (systems.content_failures r.scope ts) (refusal 12 p ∷ [])) shape ∙ pass
+    ap (λ b. fails_if (not b) 9 n ++ systems.shaped_failures r.scope p ts) new ∙ ap (λ b. cond b (systems.content_failures r.scope ts) (refusal 12 p ∷ [])) shape ∙ pass
 
 pub system_read : (names : List (List ℕ)) (all : List PlainSystem) (x : PlainSystem) (r : Reading) (f : form.Tree) → ReadsBack r.scope → IsWholeSystem r.scope all x
     → is_none (place_of r.system_names x.name) ≡ true → Shows f (shown_system r.scope names x) → IsNextSystem r.scope names all x r f

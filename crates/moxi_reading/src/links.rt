@@ -4,7 +4,10 @@ ghost use Rattle.std.specs.Option.{option_map};
 ghost use Rattle.moxi_declarations.specs.Views.{plain_check_reading, plain_draft, plain_reading};
 ghost use Rattle.moxi_scripts.specs.Collecting.{also};
 ghost use Rattle.moxi_scripts.specs.Declarations.{is_taken};
-ghost use Rattle.moxi_scripts.specs.Links.{actuals_clash, actuals_failures, check_failures, checked_failures, entries_fit, entry_sort, fit_failures, links_failures, list_failures, lists_at, lists_failures, same_known, sort_at, systems_failures, taken_failures, target_failures, use_failures, uses_failures};
+ghost use Rattle.moxi_scripts.specs.Links.{actuals_clash, all_systems_failures, actuals_failures, check_failures, checked_failures, entries_fit};
+ghost use Rattle.moxi_scripts.specs.Links.{entry_sort, fit_failures, links_failures, list_failures, lists_at, lists_failures};
+ghost use Rattle.moxi_scripts.specs.Links.{same_known, sort_at, systems_failures, taken_failures, target_failures, use_failures};
+ghost use Rattle.moxi_scripts.specs.Links.{uses_failures};
 ghost use Rattle.moxi_reading.specs.Views.{lists_now};
 
 use moxi_attributes::{fail, fail_if, test_clash};
@@ -88,7 +91,7 @@ fn test_fit(u: &Use, lists: Option<&Lists>, found: &mut Option<Refusal>)
     match lists {
         None => {}
         Some(l) => {
-            if l.inputs.whole && l.outputs.whole {
+            if l.inputs.shaped && l.outputs.shaped {
                 if count_fits(l, u.actuals.len()) {
                     test_actuals(l, &u.actuals, found);
                     return;
@@ -119,13 +122,27 @@ fn test_uses(systems: &[ReadSystem], names: &NameSet, uses: &List<Use>, found: &
     }
 }
 
-// The tests of the subsystems of all systems.
-fn test_systems(systems: &[ReadSystem], names: &NameSet, found: &mut Option<Refusal>)
-    ensures { found.new ≡ also found.old (systems_failures (map plain_reading systems.now) names.now (map plain_reading systems.now)) }
+// The tests of the subsystems of these among all systems.
+fn test_systems(
+    systems: &[ReadSystem],
+    names: &NameSet,
+    tested: &[ReadSystem],
+    found: &mut Option<Refusal>,
+)
+    ensures { found.new ≡ also found.old (systems_failures (map plain_reading systems.now) names.now (map plain_reading tested.now)) }
 {
-    for r in systems {
+    for r in tested {
         test_uses(systems, names, &r.uses, found);
     }
+}
+
+// The tests of the subsystems of all systems, also of those whose names are taken.
+#[tactic(auto, using(moxi_attributes::specs::laws::Collecting::also_append))]
+fn test_all_systems(draft: &Draft, found: &mut Option<Refusal>)
+    ensures { found.new ≡ also found.old (all_systems_failures (plain_draft draft.now)) }
+{
+    test_systems(&draft.systems, &draft.system_names, &draft.systems, found);
+    test_systems(&draft.systems, &draft.system_names, &draft.repeated, found);
 }
 
 fn same_known(a: Option<Sort>, b: Option<Sort>) -> bool
@@ -211,7 +228,7 @@ pub fn test_links(draft: &Draft, end: Place, found: &mut Option<Refusal>)
     ensures { found.new ≡ also found.old (links_failures (plain_draft draft.now) end) }
 {
     test_taken(&draft.scope, &draft.term_names, &draft.variables, found);
-    test_systems(&draft.systems, &draft.system_names, found);
+    test_all_systems(draft, found);
     test_check_of(&draft.systems, &draft.system_names, &draft.check, found);
     fail_if(found, !draft.checked, moxi::CHECK_COUNT, end);
 }

@@ -8,7 +8,7 @@ use Rattle.moxi_sexpr.specs.Tree as form
 use Rattle.moxi_terms.specs.declared.data.Sort.{Sort}
 use Rattle.moxi_terms.specs.declared.data.Sort.TheVariants.{Truth, Bits, Choice}
 use Rattle.moxi_terms.specs.declared.data.Primes.TheVariants.{Refused}
-use Rattle.moxi_sorts.specs.Failures.{least, sooner}
+use Rattle.moxi_sorts.specs.Failures.{least, minimum}
 use Rattle.moxi_sorts.specs.Forms.{place_in}
 use Rattle.moxi_term_reading.specs.Reading.{Context, read, prime_failures}
 use Rattle.moxi_sorts.specs.SortReading.{sort_reading}
@@ -31,7 +31,7 @@ unfolding also
 none_is_nil [] = refl
 none_is_nil (f ∷ fs) = by_rest (least fs)
   where
-    by_rest : (o : Option Refusal) → is_none (sooner (Some f) o) ≡ false
+    by_rest : (o : Option Refusal) → is_none (minimum (Some f) o) ≡ false
     by_rest None = refl
     by_rest (Some g) = refl
 
@@ -112,9 +112,9 @@ module _ (s : ScopeState) (sorts : (around : Place) (t : form.Tree) → IfOk (so
       no_clash true n q h = refl
       no_clash false n q h = some_fails _ [] h
 
-pub own_least : (own : Option Refusal) (fs : List Refusal) → own ≡ also None fs → own ≡ least fs
+pub least_found : (own : Option Refusal) (fs : List Refusal) → own ≡ also None fs → own ≡ least fs
 unfolding also
-own_least own fs e = e
+least_found own fs e = e
 
 pub some_each : {A : Type 0} (P : A → Type 0) (o : Option A) → ((x : A) → o ≡ Some x → P x) → IfSome o P
 some_each P None f = tt

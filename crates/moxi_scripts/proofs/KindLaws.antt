@@ -1,7 +1,9 @@
 -- Each test of scripts that fails is of a kind of scripts.
-use Rattle.std.proofs.Common.{◌≡◌, ℕ, ◌+◌, nat_le, nat_lt, length, Bool, true, false, cond, ◌&&◌, IfErr, Result, Ok, Err, Option, None, Some, List, [], ◌∷◌, ◌++◌, codes, bytes_eq, refl}
+use Rattle.std.proofs.Common.{◌≡◌, ℕ, ◌+◌, nat_le, nat_lt, length, is_some, Bool, true, false, cond, ◌&&◌, IfErr, Result, Ok, Err, Option, None, Some, List, [], ◌∷◌, ◌++◌, codes, bytes_eq, refl}
 use Rattle.std.specs.List.{AllByRecursion}
 use Rattle.std.specs.Prelude.{slice_get}
+use Rattle.text_core.specs.declared.place.Kind.{Kind}
+use Rattle.text_core.specs.declared.place.Kind.TheVariants.{M}
 use Rattle.text_core.specs.declared.place.Place.{Place}
 use Rattle.text_core.specs.declared.place.Refusal.{Refusal}
 use Rattle.word_core.specs.Words.{BitVector}
@@ -25,14 +27,14 @@ use Rattle.moxi_sorts.specs.Forms.{place_in, symbol_atom, symbol_of, numeral_of,
 use Rattle.moxi_terms.specs.Names.{sort_named}
 use Rattle.moxi_terms.specs.Operators.{is_comparison}
 use Rattle.moxi_term_reading.specs.Reading.{Arguments, Bindings, Context, Reading, application, application_tests, argument_tests, atom_head, atom_reading, binding_of, bindings_tests, extended_head, extracted_head, head_of, head_primes, indexed_head, known_head, let_reading, listed_head, literal_digits, literal_named, literal_reading, meaning_of, named_reading, paired_head, prime_failures, read, read_all, read_binding, read_bindings, read_let, sort_failures, sorts_tested, symbol_head, symbol_primes, symbol_underscored, underscore_reading, variable_primes, word_reading}
-use Rattle.moxi_sorts.specs.SortReading.{atom_sort, index_of, indexed_sort, is_width, listed_sort, only_numeral, sort_reading, symbol_indexed, symbol_sort, unknown, vector_sort, width_sort}
+use Rattle.moxi_sorts.specs.SortReading.{atom_sort, index_of, indexed_sort, is_width, listed_sort, only_numeral, sort_reading, symbol_indexed, symbol_sort, unknown, unknown_indexed, vector_sort, width_sort}
 use Rattle.moxi_sorts.specs.Typing.{call_sort, head_sort, head_count_fits}
 use Rattle.moxi_terms.specs.Meanings.{head_named}
 use Rattle.moxi_terms.specs.Sorts.{calculated, chosen, common, compared, count_fits, fitting, is_arithmetic, is_negation, logical, same_sorts, widened}
 use Rattle.moxi_terms.specs.Tree.{PlainFunction, sorts_of}
 use Rattle.moxi_terms.specs.View.{ScopeState}
 use Rattle.moxi_terms.specs.Words.{indexed_operators, is_one_of, left_out_operators, left_out_sorts}
-use Rattle.moxi_scripts.specs.Kinds.{HasScriptKind}
+use Rattle.moxi_scripts.specs.Kinds.{HasScriptKind, is_script_kind}
 use Rattle.moxi_scripts.specs.Collecting.{fails_if}
 
 abbrev pub Fine : List Refusal → Type 0
@@ -67,6 +69,11 @@ is_unknown : (b : Bool) (p q : Place) → HasScriptKind (unknown b p q)
 is_unknown true p q = refl
 is_unknown false p q = refl
 
+is_unknown_indexed : (b : Bool) (p q : Place) (first : Bool) (r : Place) → HasScriptKind (unknown_indexed b p q first r)
+is_unknown_indexed true p q first r = refl
+is_unknown_indexed false p q true r = refl
+is_unknown_indexed false p q false r = refl
+
 symbol_sorts : (o : Option Sort) (name : List ℕ) (primed : Bool) (p : Place) → FineEnd (symbol_sort o name primed p)
 symbol_sorts (Some s) name true p = refl
 symbol_sorts (Some s) name false p = tt
@@ -85,22 +92,23 @@ vector_sorts : (p q : Place) (first : Bool) (r : Place) (second : Bool) (o : Opt
 vector_sorts p q first r second None = refl
 vector_sorts p q first r second (Some digits) = width_sorts (index_of digits) p q first r second
 
-symbols_indexed : (p q : Place) (first : Bool) (r : Place) (o : Option (List ℕ × Bool)) (ts : form.Trees) → FineEnd (symbol_indexed p q first r o ts)
-symbols_indexed p q first r None ts = refl
-symbols_indexed p q first r (Some x) ts =
-    either_end (bytes_eq x.0 (codes "BitVec")) (vector_sort p q first r x.1 (only_numeral ts)) (Err (unknown (is_one_of left_out_sorts x.0) p q))
-    (vector_sorts p q first r x.1 (only_numeral ts)) (is_unknown (is_one_of left_out_sorts x.0) p q)
+symbols_indexed : (s : ScopeState) (p q : Place) (first : Bool) (r : Place) (o : Option (List ℕ × Bool)) (ts : form.Trees) → FineEnd (symbol_indexed s p q first r o ts)
+symbols_indexed s p q first r None ts = refl
+symbols_indexed s p q first r (Some x) ts =
+    let other = Err (unknown_indexed (is_one_of left_out_sorts x.0) p q first r) in
+    either_end (bytes_eq x.0 (codes "BitVec")) (vector_sort p q first r x.1 (only_numeral ts)) (cond (is_some (sort_named s x.0)) (Err (refusal 12 p)) other)
+    (vector_sorts p q first r x.1 (only_numeral ts)) (either_end (is_some (sort_named s x.0)) (Err (refusal 12 p)) other refl (is_unknown_indexed (is_one_of left_out_sorts x.0) p q first r))
 
-indexed_sorts : (p q : Place) (first : Bool) (ts : form.Trees) → FineEnd (indexed_sort p q first ts)
-indexed_sorts p q first form.no_trees = refl
-indexed_sorts p q first (form.tree t ts) = symbols_indexed p q first (place_in t) (symbol_of t) ts
+indexed_sorts : (s : ScopeState) (p q : Place) (first : Bool) (ts : form.Trees) → FineEnd (indexed_sort s p q first ts)
+indexed_sorts s p q first form.no_trees = refl
+indexed_sorts s p q first (form.tree t ts) = symbols_indexed s p q first (place_in t) (symbol_of t) ts
 
 listed_sorts : (s : ScopeState) (p q : Place) (o : Option (List ℕ × Bool)) (ts : form.Trees) → FineEnd (listed_sort s p q o ts)
 listed_sorts s p q None ts = refl
 listed_sorts s p q (Some x) ts = by_tests (bytes_eq x.0 (codes "_")) _
   where
-    by_tests : (a b : Bool) → FineEnd (cond a (indexed_sort p q x.1 ts) (cond b (Err (refusal 12 p)) (Err (unknown (is_one_of left_out_sorts x.0) p q))))
-    by_tests true b = indexed_sorts p q x.1 ts
+    by_tests : (a b : Bool) → FineEnd (cond a (indexed_sort s p q x.1 ts) (cond b (Err (refusal 12 p)) (Err (unknown (is_one_of left_out_sorts x.0) p q))))
+    by_tests true b = indexed_sorts s p q x.1 ts
     by_tests false true = refl
     by_tests false false = is_unknown (is_one_of left_out_sorts x.0) p q
 
@@ -205,48 +213,48 @@ heads_primed (form.list q (form.tree t (form.tree u ts))) = join (symbol_primes 
 
 -- APPLICATIONS
 
-abbrev FineNumber : Result Sort ℕ → Type 0
-FineNumber r = IfErr r (λ n. (nat_le 4 n && nat_le n 14) ≡ true)
+abbrev FineKind : Result Sort Kind → Type 0
+FineKind r = IfErr r (λ k. is_script_kind k ≡ true)
 
-either_number : (b : Bool) (x y : Result Sort ℕ) → FineNumber x → FineNumber y → FineNumber (cond b x y)
-either_number true x y f g = f
-either_number false x y f g = g
+either_kind : (b : Bool) (x y : Result Sort Kind) → FineKind x → FineKind y → FineKind (cond b x y)
+either_kind true x y f g = f
+either_kind false x y f g = g
 
-are_logical : (o : Option Sort) → FineNumber (logical o)
+are_logical : (o : Option Sort) → FineKind (logical o)
 are_logical None = refl
 are_logical (Some Truth) = tt
 are_logical (Some (Bits w)) = refl
 are_logical (Some (Choice n)) = refl
 
-are_compared : (o : Option Sort) → FineNumber (compared o)
+are_compared : (o : Option Sort) → FineKind (compared o)
 are_compared None = refl
 are_compared (Some s) = tt
 
-are_chosen : (o : Option Sort) → FineNumber (chosen o)
+are_chosen : (o : Option Sort) → FineKind (chosen o)
 are_chosen None = refl
 are_chosen (Some s) = tt
 
-are_calculated : (b : Binary) (o : Option Sort) → FineNumber (calculated b o)
+are_calculated : (b : Binary) (o : Option Sort) → FineKind (calculated b o)
 are_calculated b None = refl
 are_calculated b (Some Truth) = refl
 are_calculated b (Some (Choice n)) = refl
 are_calculated b (Some (Bits w)) = by_tests (is_comparison b) (is_arithmetic b)
   where
-    by_tests : (c d : Bool) → FineNumber (cond c (Ok Truth) (cond d (Ok (Bits w)) (Err 5)))
+    by_tests : (c d : Bool) → FineKind (cond c (Ok Truth) (cond d (Ok (Bits w)) (Err (M 5))))
     by_tests true d = tt
     by_tests false true = tt
     by_tests false false = refl
 
-is_widened : (w : ℕ) → FineNumber (widened w)
-is_widened w = either_number _ (Ok (Bits w)) (Err 8) tt refl
+is_widened : (w : ℕ) → FineKind (widened w)
+is_widened w = either_kind _ (Ok (Bits w)) (Err (M 8)) tt refl
 
-ites : (ss : List Sort) → FineNumber (fitting op.Ite ss)
+ites : (ss : List Sort) → FineKind (fitting op.Ite ss)
 ites [] = refl
 ites (Truth ∷ ss) = are_chosen (common ss)
 ites (Bits w ∷ ss) = refl
 ites (Choice n ∷ ss) = refl
 
-concats : (ss : List Sort) → FineNumber (fitting op.Concat ss)
+concats : (ss : List Sort) → FineKind (fitting op.Concat ss)
 concats [] = refl
 concats (Truth ∷ ss) = refl
 concats (Choice n ∷ ss) = refl
@@ -256,28 +264,28 @@ concats (Bits v ∷ Choice n ∷ ss) = refl
 concats (Bits v ∷ Bits w ∷ []) = is_widened (v + w)
 concats (Bits v ∷ Bits w ∷ s ∷ ss) = refl
 
-extracts : (high low : ℕ) (ss : List Sort) → FineNumber (fitting (op.Extract high low) ss)
+extracts : (high low : ℕ) (ss : List Sort) → FineKind (fitting (op.Extract high low) ss)
 extracts high low [] = refl
 extracts high low (Truth ∷ ss) = refl
 extracts high low (Choice n ∷ ss) = refl
-extracts high low (Bits w ∷ []) = either_number (nat_le low high && nat_lt high w) (Ok _) (Err 8) tt refl
+extracts high low (Bits w ∷ []) = either_kind (nat_le low high && nat_lt high w) (Ok _) (Err (M 8)) tt refl
 extracts high low (Bits w ∷ s ∷ ss) = refl
 
-zeros : (n : ℕ) (ss : List Sort) → FineNumber (fitting (op.ZeroExtend n) ss)
+zeros : (n : ℕ) (ss : List Sort) → FineKind (fitting (op.ZeroExtend n) ss)
 zeros n [] = refl
 zeros n (Truth ∷ ss) = refl
 zeros n (Choice k ∷ ss) = refl
 zeros n (Bits w ∷ []) = is_widened (w + n)
 zeros n (Bits w ∷ s ∷ ss) = refl
 
-signs : (n : ℕ) (ss : List Sort) → FineNumber (fitting (op.SignExtend n) ss)
+signs : (n : ℕ) (ss : List Sort) → FineKind (fitting (op.SignExtend n) ss)
 signs n [] = refl
 signs n (Truth ∷ ss) = refl
 signs n (Choice k ∷ ss) = refl
 signs n (Bits w ∷ []) = is_widened (w + n)
 signs n (Bits w ∷ s ∷ ss) = refl
 
-fits : (o : TermOp) (ss : List Sort) → FineNumber (fitting o ss)
+fits : (o : TermOp) (ss : List Sort) → FineKind (fitting o ss)
 fits op.Not ss = are_logical (common ss)
 fits op.And ss = are_logical (common ss)
 fits op.Or ss = are_logical (common ss)
@@ -293,33 +301,33 @@ fits (op.SignExtend n) ss = signs n ss
 fits (op.BvUnary u) [] = refl
 fits (op.BvUnary u) (Truth ∷ ss) = refl
 fits (op.BvUnary u) (Choice n ∷ ss) = refl
-fits (op.BvUnary u) (Bits w ∷ []) = either_number (is_negation u) (Ok (Bits w)) (Err 5) tt refl
+fits (op.BvUnary u) (Bits w ∷ []) = either_kind (is_negation u) (Ok (Bits w)) (Err (M 5)) tt refl
 fits (op.BvUnary u) (Bits w ∷ s ∷ ss) = refl
 fits (op.BvBinary b) ss = are_calculated b (common ss)
 
-calls : (o : Option PlainFunction) (ss : List Sort) → FineNumber (call_sort o ss)
+calls : (o : Option PlainFunction) (ss : List Sort) → FineKind (call_sort o ss)
 calls None ss = refl
-calls (Some f) ss = either_number (same_sorts (sorts_of f.parameters) ss) (Ok f.result) (Err 5) tt refl
+calls (Some f) ss = either_kind (same_sorts (sorts_of f.parameters) ss) (Ok f.result) (Err (M 5)) tt refl
 
-head_sorts : (fs : List PlainFunction) (h : Head) (ss : List Sort) → FineNumber (head_sort fs h ss)
-head_sorts fs (heads.Operator o) ss = either_number (count_fits o (length ss)) (fitting o ss) (Err 12) (fits o ss) refl
+head_sorts : (fs : List PlainFunction) (h : Head) (ss : List Sort) → FineKind (head_sort fs h ss)
+head_sorts fs (heads.Operator o) ss = either_kind (count_fits o (length ss)) (fitting o ss) (Err (M 12)) (fits o ss) refl
 head_sorts fs (heads.Function n) ss = calls (slice_get fs n) ss
 
-numbered : (p : Place) (r : Result Sort ℕ) → FineNumber r → Fine (sort_failures p r)
-numbered p (Ok s) h = tt
-numbered p (Err n) h = (h, tt)
+kinds_tested : (p : Place) (r : Result Sort Kind) → FineKind r → Fine (sort_failures p r)
+kinds_tested p (Ok s) h = tt
+kinds_tested p (Err k) h = (h, tt)
 
 are_tested : (fs : List PlainFunction) (p : Place) (h : Head) (o : Option (List Sort)) → Fine (sorts_tested fs p h o)
 are_tested fs p h None = tt
-are_tested fs p h (Some ss) = numbered p (head_sort fs h ss) (head_sorts fs h ss)
+are_tested fs p h (Some ss) = kinds_tested p (head_sort fs h ss) (head_sorts fs h ss)
 
 arguments : (fs : List PlainFunction) (p : Place) (h : Head) (n : ℕ) (o : Option (List Sort)) → Fine (argument_tests fs p h n o)
 arguments fs p h n o = either (head_count_fits fs h n) (sorts_tested fs p h o) (refusal 12 p ∷ []) (are_tested fs p h o) (refl, tt)
 
-applications : (fs : List PlainFunction) (p : Place) (own : List Refusal) (r : Result Head Refusal) (rs : Arguments) → Fine own → FineEnd r → Fine rs.failures → Fine (application fs p own r rs).failures
-applications fs p own (Err f) rs a b c = join rs.failures (f ∷ []) c (b, tt)
-applications fs p own (Ok h) rs a b c =
-    join rs.failures (own ++ application_tests fs p h rs) c (join own (application_tests fs p h rs) a (arguments fs p h (length rs.terms) rs.sorts))
+applications : (fs : List PlainFunction) (p : Place) (tests : List Refusal) (r : Result Head Refusal) (rs : Arguments) → Fine tests → FineEnd r → Fine rs.failures → Fine (application fs p tests r rs).failures
+applications fs p tests (Err f) rs a b c = join rs.failures (f ∷ []) c (b, tt)
+applications fs p tests (Ok h) rs a b c =
+    join rs.failures (tests ++ application_tests fs p h rs) c (join tests (application_tests fs p h rs) a (arguments fs p h (length rs.terms) rs.sorts))
 
 -- BINDINGS AND WHOLE TERMS
 
@@ -334,9 +342,9 @@ some_bindings : (q : Place) (ts : form.Trees) → Fine (bindings_tests q ts)
 some_bindings q form.no_trees = (refl, tt)
 some_bindings q (form.tree b bs) = tt
 
-let_readings : (own : List Refusal) (bs : Bindings) (body : Reading) → Fine own → FineBindings bs → Fine body.failures → Fine (let_reading own bs body).failures
-let_readings own bs body a b c =
-    join own (bs.shape ++ (bs.failures ++ body.failures)) a (join bs.shape (bs.failures ++ body.failures) b.0 (join bs.failures body.failures b.1 c))
+let_readings : (tests : List Refusal) (bs : Bindings) (body : Reading) → Fine tests → FineBindings bs → Fine body.failures → Fine (let_reading tests bs body).failures
+let_readings tests bs body a b c =
+    join tests (bs.shape ++ (bs.failures ++ body.failures)) a (join bs.shape (bs.failures ++ body.failures) b.0 (join bs.failures body.failures b.1 c))
 
 by_head : (a b : Bool) (x y z : Reading) → Fine x.failures → Fine y.failures → Fine z.failures → Fine (cond a x (cond b y z)).failures
 by_head true b x y z f g h = f
@@ -357,14 +365,14 @@ mutual
   all_read c bounds form.no_trees = tt
   all_read c bounds (form.tree t ts) = join (read c bounds t).failures (read_all c bounds ts).failures (reads c bounds t) (all_read c bounds ts)
 
-  lets : (c : Context) (bounds : List Local) (p : Place) (own : List Refusal) (ts : form.Trees) → Fine own → Fine (read_let c bounds p own ts).failures
-  lets c bounds p own form.no_trees h = (refl, tt)
-  lets c bounds p own (form.tree (form.atom q a) ts) h = (refl, tt)
-  lets c bounds p own (form.tree (form.list q bs) form.no_trees) h = (refl, tt)
-  lets c bounds p own (form.tree (form.list q bs) (form.tree body (form.tree t ts))) h = (refl, tt)
-  lets c bounds p own (form.tree (form.list q bs) (form.tree body form.no_trees)) h =
-      let_readings (own ++ bindings_tests q bs) (read_bindings c bounds q bs) (read c (bounds ++ (read_bindings c bounds q bs).locals) body)
-      (join own (bindings_tests q bs) h (some_bindings q bs)) (bindings c bounds q bs) (reads c (bounds ++ (read_bindings c bounds q bs).locals) body)
+  lets : (c : Context) (bounds : List Local) (p : Place) (tests : List Refusal) (ts : form.Trees) → Fine tests → Fine (read_let c bounds p tests ts).failures
+  lets c bounds p tests form.no_trees h = (refl, tt)
+  lets c bounds p tests (form.tree (form.atom q a) ts) h = (refl, tt)
+  lets c bounds p tests (form.tree (form.list q bs) form.no_trees) h = (refl, tt)
+  lets c bounds p tests (form.tree (form.list q bs) (form.tree body (form.tree t ts))) h = (refl, tt)
+  lets c bounds p tests (form.tree (form.list q bs) (form.tree body form.no_trees)) h =
+      let_readings (tests ++ bindings_tests q bs) (read_bindings c bounds q bs) (read c (bounds ++ (read_bindings c bounds q bs).locals) body)
+      (join tests (bindings_tests q bs) h (some_bindings q bs)) (bindings c bounds q bs) (reads c (bounds ++ (read_bindings c bounds q bs).locals) body)
 
   bindings : (c : Context) (bounds : List Local) (q : Place) (ts : form.Trees) → FineBindings (read_bindings c bounds q ts)
   bindings c bounds q form.no_trees = (tt, tt)

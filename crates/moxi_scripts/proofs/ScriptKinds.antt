@@ -129,7 +129,7 @@ function_parts s p f =
     (join (entries.entries_failures s f.place f.parameters) (entries.sort_failures r) (entries_fine s f.place f.parameters) (sort_ends r (sorts s p f.result)))
     (join body.failures (declarations.clash_failures (entries.known_sort r) body.sort (place_in f.body)) (reads _ [] f.body) (clashes (entries.known_sort r) body.sort (place_in f.body)))
 
-function_names : (s : ScopeState) (ns : List (List ℕ)) (f : declarations.FunctionForms) → Fine (declarations.own_name_failures s ns f)
+function_names : (s : ScopeState) (ns : List (List ℕ)) (f : declarations.FunctionForms) → Fine (declarations.name_failures s ns f)
 function_names s ns f =
     join (prime_failures f.name.primed f.name.place ++ declarations.term_name_tests s ns f.name.name f.name.place) (entries.twice_failures [] (entries.entries_of s f.parameters))
     (join (prime_failures f.name.primed f.name.place) (declarations.term_name_tests s ns f.name.name f.name.place) (primes f.name.primed f.name.place) (tested (declarations.is_taken s ns f.name.name) 9 f.name.place refl))
@@ -137,7 +137,7 @@ function_names s ns f =
 
 function_tests : (s : ScopeState) (ns : List (List ℕ)) (p : Place) (o : Option declarations.FunctionForms) → Fine (declarations.function_tests s ns p o)
 function_tests s ns p None = (refl, tt)
-function_tests s ns p (Some f) = join (declarations.own_name_failures s ns f) (declarations.part_failures s p f) (function_names s ns f) (function_parts s p f)
+function_tests s ns p (Some f) = join (declarations.name_failures s ns f) (declarations.part_failures s p f) (function_names s ns f) (function_parts s p f)
 
 -- ATTRIBUTES, FORMULAS AND SUBSYSTEMS
 
@@ -201,8 +201,9 @@ uses_fine vs ns turn (tree t ts) =
 
 variables : (s : ScopeState) (command : Command) (ts : Trees) → Fine (systems.variables_failures s command ts)
 variables s command ts =
-    join (attributes.unknown_failures command AtKeyword ts ++ lists.lists_failures s command ts) (entries.twice_failures [] (lists.all_entries (lists.lists_in s command ts)))
-    (join (attributes.unknown_failures command AtKeyword ts) (lists.lists_failures s command ts) (unknowns command AtKeyword ts) (lists_fine s command ts)) (twice [] (lists.all_entries (lists.lists_in s command ts)))
+    let ds = systems.text_entries_in s command ts in
+    join (attributes.unknown_failures command AtKeyword ts ++ lists.lists_failures s command ts) (entries.twice_failures [] ds)
+    (join (attributes.unknown_failures command AtKeyword ts) (lists.lists_failures s command ts) (unknowns command AtKeyword ts) (lists_fine s command ts)) (twice [] ds)
 
 -- SYSTEMS
 
@@ -226,8 +227,9 @@ system_shape s p ts = either (attributes.shape_holds System ts) (systems.content
 system_tests : (s : ScopeState) (ns : List (List ℕ)) (p : Place) (o : Option HeadedForms) → Fine (systems.headed_system_failures s ns p o)
 system_tests s ns p None = (refl, tt)
 system_tests s ns p (Some h) =
-    join (prime_failures h.primed h.place) (cond (is_none (place_of ns h.name)) (systems.shaped_failures s p h.rest) (refusal 9 h.place ∷ [])) (primes h.primed h.place)
-    (either (is_none (place_of ns h.name)) (systems.shaped_failures s p h.rest) (refusal 9 h.place ∷ []) (system_shape s p h.rest) (refl, tt))
+    let taken = not (is_none (place_of ns h.name)) in
+    join (prime_failures h.primed h.place ++ fails_if taken 9 h.place) (systems.shaped_failures s p h.rest)
+    (join (prime_failures h.primed h.place) (fails_if taken 9 h.place) (primes h.primed h.place) (tested taken 9 h.place refl)) (system_shape s p h.rest)
 
 -- CHECKS
 
@@ -343,7 +345,7 @@ actuals_clash l i (a ∷ xs) = join (declarations.clash_failures a.sort (links.s
 actuals_fit : (u : Use) (o : Option Lists) → Fine (links.actuals_failures u o)
 actuals_fit u None = tt
 actuals_fit u (Some l) =
-    either (l.inputs.whole && l.outputs.whole) (links.fit_failures u l) []
+    either (l.inputs.shaped && l.outputs.shaped) (links.fit_failures u l) []
     (either (length u.actuals == length l.inputs.entries + length l.outputs.entries) (links.actuals_clash l 0 u.actuals) (refusal 12 u.list ∷ []) (actuals_clash l 0 u.actuals) (refl, tt)) tt
 
 use_targets : (rs : List systems.SystemReading) (u : Use) (o : Option ℕ) → Fine (links.target_failures rs u o)
@@ -378,9 +380,11 @@ check_linked rs ns (Some c) = checked rs c (place_of ns c.target)
 
 linked : (r : commands.Reading) (end : Place) → Fine (links.links_failures r end)
 linked r end =
-    join ((links.taken_failures r.scope r.term_names r.variables ++ links.systems_failures r.systems r.system_names r.systems) ++ links.check_failures r.systems r.system_names r.check) (fails_if (not r.checked) 13 end)
-    (join (links.taken_failures r.scope r.term_names r.variables ++ links.systems_failures r.systems r.system_names r.systems) (links.check_failures r.systems r.system_names r.check)
-    (join (links.taken_failures r.scope r.term_names r.variables) (links.systems_failures r.systems r.system_names r.systems) (taken r.scope r.term_names r.variables) (systems_linked r.systems r.system_names r.systems))
+    join ((links.taken_failures r.scope r.term_names r.variables ++ links.all_systems_failures r) ++ links.check_failures r.systems r.system_names r.check) (fails_if (not r.checked) 13 end)
+    (join (links.taken_failures r.scope r.term_names r.variables ++ links.all_systems_failures r) (links.check_failures r.systems r.system_names r.check)
+    (join (links.taken_failures r.scope r.term_names r.variables) (links.all_systems_failures r) (taken r.scope r.term_names r.variables)
+    (join (links.systems_failures r.systems r.system_names r.systems) (links.systems_failures r.systems r.system_names r.repeated)
+    (systems_linked r.systems r.system_names r.systems) (systems_linked r.systems r.system_names r.repeated)))
     (check_linked r.systems r.system_names r.check)) (tested (not r.checked) 13 end refl)
 
 use_cycles : (g : NodeLists) (node : ℕ) (us : List Use) → Fine (cycles.use_cycles g node us)

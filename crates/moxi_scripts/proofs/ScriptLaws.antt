@@ -10,7 +10,7 @@ use Rattle.text_core.specs.declared.place.Place.{Place}
 use Rattle.text_core.specs.declared.place.Refusal.{Refusal}
 use Rattle.moxi_sexpr.specs.Lexing.{refusal}
 use Rattle.moxi_sexpr.specs.Tree.{Tree, atom, list, Trees, no_trees, tree}
-use Rattle.moxi_sorts.specs.Failures.{key, pick, sooner, least, IsIn, number_of}
+use Rattle.moxi_sorts.specs.Failures.{key, pick, minimum, least, IsIn, number_of}
 use Rattle.moxi_term_reading.specs.Reading.{prime_failures}
 use Rattle.moxi_terms.specs.View.{ScopeState}
 use Rattle.moxi_scripts.specs.declared.parts.Command.TheVariants.{Check}
@@ -26,7 +26,7 @@ use Rattle.moxi_scripts.specs.Links.{links_failures}
 use Rattle.moxi_scripts.specs.Script.{PlainScript}
 use Rattle.moxi_scripts.specs.Shapes.{HeadedForms, headed}
 use Rattle.moxi_scripts.specs.Spelling.{SpellsScript, check_of, reading_of, script_failures, script_with, system_of}
-use Rattle.moxi_scripts.proofs.FunctionLaws.{none_in, own_least, some_fails}
+use Rattle.moxi_scripts.proofs.FunctionLaws.{none_in, least_found, some_fails}
 
 -- a check that is read is there
 abbrev IsKept : Reading → Type 0
@@ -95,11 +95,11 @@ one_script ts end a b s t = s.script ∙ ap (script_with (reading_of ts)) (same_
 
 pub none_fails : (fs : List Refusal) → least fs ≡ None → fs ≡ []
 none_fails [] h = refl
-none_fails (f ∷ fs) h = absurd (some_sooner f (least fs) h)
+none_fails (f ∷ fs) h = absurd (some_minimum f (least fs) h)
   where
-    some_sooner : (x : Refusal) (o : Option Refusal) → sooner (Some x) o ≡ None → ⊥
-    some_sooner x None h = none-some x (sym h)
-    some_sooner x (Some y) h = none-some (pick x y) (sym h)
+    some_minimum : (x : Refusal) (o : Option Refusal) → minimum (Some x) o ≡ None → ⊥
+    some_minimum x None h = none-some x (sym h)
+    some_minimum x (Some y) h = none-some (pick x y) (sym h)
 
 built : (r : Reading) (c : CheckReading) (s : PlainScript) → s.logic ≡ r.logic → s.scope ≡ r.scope → s.systems ≡ map (system_of r.system_names) r.systems → s.check ≡ check_of r.system_names c → s ≡ script_with r c
 built r c s e f g h =
@@ -110,7 +110,7 @@ built r c s e f g h =
 
 -- nothing was found where no test fails
 passed : (ts : Trees) (end : Place) (found : Option Refusal) → found ≡ also None (script_failures ts end) → found ≡ None → script_failures ts end ≡ []
-passed ts end found finds none = none_fails (script_failures ts end) (sym (own_least found (script_failures ts end) finds) ∙ none)
+passed ts end found finds none = none_fails (script_failures ts end) (sym (least_found found (script_failures ts end) finds) ∙ none)
 
 -- what is built of what is read is the script, where nothing was found
 pub spells : (ts : Trees) (end : Place) (r : Reading) (c : CheckReading) (found : Option Refusal) (s : PlainScript) → r ≡ reading_of ts → found ≡ also None (script_failures ts end) → found ≡ None → r.check ≡ Some c
@@ -154,7 +154,7 @@ least_of : (xs : List Refusal) (f : Refusal) → least xs ≡ Some f → IsLeast
 least_of [] f h = absurd (none-some f h)
 least_of (x ∷ xs) f h = by_rest (least xs) (λ y e. least_of xs y e) refl h
   where
-    by_rest : (o : Option Refusal) → ((y : Refusal) → least xs ≡ Some y → IsLeastOf y xs) → least xs ≡ o → sooner (Some x) o ≡ Some f → IsLeastOf f (x ∷ xs)
+    by_rest : (o : Option Refusal) → ((y : Refusal) → least xs ≡ Some y → IsLeastOf y xs) → least xs ≡ o → minimum (Some x) o ≡ Some f → IsLeastOf f (x ∷ xs)
     by_rest None ih e h = subst (λ f. IsLeastOf f (x ∷ xs)) (same_Some x f h) (inl refl, (omega arith, subst (AllByRecursion (λ g. key x ≤ key g)) (sym (none_fails xs e)) tt))
     by_rest (Some y) ih e h = least_more x y f xs (ih y e) (same_Some (pick x y) f h)
 

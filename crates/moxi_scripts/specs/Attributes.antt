@@ -47,13 +47,13 @@ check_key name =
     else (if bytes_eq name (codes "reachable") then Some Reachable else (if bytes_eq name (codes "query") then Some Query
     else (if bytes_eq name (codes "queries") then Some Queries else None))))
 
-abbrev pub own_key : Command → List ℕ → Option Key
-own_key System name = system_key name
-own_key Check name = check_key name
+abbrev pub command_key : Command → List ℕ → Option Key
+command_key System name = system_key name
+command_key Check name = check_key name
 
 -- the key that a keyword has in such a command
 abbrev pub key_named : Command → List ℕ → Option Key
-key_named command name = or_else (list_key name) (own_key command name)
+key_named command name = or_else (list_key name) (command_key command name)
 
 abbrev pub keyword_atom : Atom → Option (List ℕ)
 keyword_atom (Symbol name primed) = None

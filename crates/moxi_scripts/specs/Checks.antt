@@ -5,6 +5,7 @@ use Rattle.text_core.specs.declared.place.Refusal.{Refusal}
 use Rattle.moxi_sexpr.specs.Lexing.{refusal}
 use Rattle.moxi_sexpr.specs.Tree.{Tree, Trees}
 use Rattle.moxi_sorts.specs.Forms.{place_in}
+use Rattle.moxi_sorts.specs.declared.locals.Local.{Local}
 use Rattle.moxi_term_reading.specs.Reading.{prime_failures}
 use Rattle.moxi_terms.specs.View.{ScopeState}
 use Rattle.moxi_scripts.specs.declared.parts.Command.TheVariants.{Check}
@@ -39,8 +40,19 @@ place_or p (Some t) = place_in t
 abbrev pub places_in : Place → Trees → ListPlaces
 places_in p ts = record { inputs = place_or p (value_at Check keys.Input ts); outputs = place_or p (value_at Check keys.Output ts); locals = place_or p (value_at Check keys.Local ts) }
 
+-- the formulas of a check over these variables, and their tests
+abbrev pub labels_over : ScopeState → List Local → Trees → FormulaLists
+labels_over s locals ts = labels_after s locals no_labels AtKeyword ts
+
+abbrev pub label_failures_over : ScopeState → List Local → Trees → List Refusal
+label_failures_over s locals ts = labels_failures s locals no_labels AtKeyword ts
+
+-- the tests of the queries of a check with these formulas
+abbrev pub query_failures_over : FormulaLists → Trees → List Refusal
+query_failures_over ls ts = all_queries_failures ls [] AtKeyword ts
+
 abbrev pub labels_in : ScopeState → Trees → FormulaLists
-labels_in s ts = labels_after s (locals_of s Check ts) no_labels AtKeyword ts
+labels_in s ts = labels_over s (locals_of s Check ts) ts
 
 abbrev pub content_of : ScopeState → Place → HeadedForms → CheckReading
 content_of s p h =
@@ -55,7 +67,7 @@ content_of s p h =
     }
 
 abbrev pub content_failures : ScopeState → Trees → List Refusal
-content_failures s ts = (variables_failures s Check ts ++ labels_failures s (locals_of s Check ts) no_labels AtKeyword ts) ++ all_queries_failures (labels_in s ts) [] AtKeyword ts
+content_failures s ts = (variables_failures s Check ts ++ label_failures_over s (locals_of s Check ts) ts) ++ query_failures_over (labels_in s ts) ts
 
 abbrev pub check_in : ScopeState → Place → Option HeadedForms → Option CheckReading
 check_in s p None = None

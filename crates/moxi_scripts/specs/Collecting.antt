@@ -4,11 +4,11 @@ use Rattle.text_core.specs.declared.place.Place.{Place}
 use Rattle.text_core.specs.declared.place.Kind.{Kind}
 use Rattle.text_core.specs.declared.place.Kind.TheVariants.{M}
 use Rattle.text_core.specs.declared.place.Refusal.{Refusal}
-use Rattle.moxi_sorts.specs.Failures.{least, sooner}
+use Rattle.moxi_sorts.specs.Failures.{least, minimum}
 
 -- what was found, and what these tests find
 unfoldable pub also : Option Refusal → List Refusal → Option Refusal
-also found fs = sooner found (least fs)
+also found fs = minimum found (least fs)
 
 -- a test that fails with this kind at this place
 abbrev pub fails_with : Bool → Kind → Place → List Refusal

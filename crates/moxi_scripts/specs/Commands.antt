@@ -17,9 +17,9 @@ use Rattle.moxi_scripts.specs.Checks.{CheckReading, check_failures, check_of, va
 use Rattle.moxi_scripts.specs.Collecting.{fails_if}
 use Rattle.moxi_scripts.specs.Declarations.{enumeration_failures, function_failures, function_forms, parameters_in, sort_definition_failures, with_enumeration_names, with_function_name, with_read_enumeration, with_read_function, with_read_sort}
 use Rattle.moxi_scripts.specs.Shapes.{HeadedForms, headed, named_in}
-use Rattle.moxi_scripts.specs.Systems.{SystemReading, names_with_system, read_systems, system_failures, variables_of_system}
+use Rattle.moxi_scripts.specs.Systems.{SystemReading, names_with_system, system_failures, variables_of_system, with_repeated, with_system}
 
--- what the commands so far declare
+-- What the commands so far declare. A system whose name is taken is one of `repeated`: no use finds it.
 pub record Reading : Type 0 where
   pub logic : Option (List ℕ)
   pub scope : ScopeState
@@ -27,11 +27,12 @@ pub record Reading : Type 0 where
   pub system_names : List (List ℕ)
   pub variables : List Declared
   pub systems : List SystemReading
+  pub repeated : List SystemReading
   pub checked : Bool
   pub check : Option CheckReading
 
 abbrev pub nothing_read : Reading
-nothing_read = record { logic = None; scope = no_scope; term_names = []; system_names = []; variables = []; systems = []; checked = false; check = None }
+nothing_read = record { logic = None; scope = no_scope; term_names = []; system_names = []; variables = []; systems = []; repeated = []; checked = false; check = None }
 
 abbrev pub declaring_name : List ℕ → Option CommandName
 declaring_name n =
@@ -88,8 +89,9 @@ with_command name.Function r p ts =
 with_command name.System r p ts =
     record r {
       system_names = names_with_system r.system_names (headed ts);
-      variables = r.variables ++ variables_of_system r.scope r.system_names (headed ts);
-      systems = r.systems ++ read_systems r.scope r.system_names ts;
+      variables = r.variables ++ variables_of_system r.scope (headed ts);
+      systems = with_system r.scope r.system_names r.systems (headed ts);
+      repeated = with_repeated r.scope r.system_names r.repeated (headed ts);
     }
 with_command name.Check r p ts =
     record r { variables = r.variables ++ variables_in r.scope (headed ts); checked = true; check = first_check r.check r.checked (check_of r.scope p ts) }

@@ -180,8 +180,8 @@ part_failures s p f =
     ++ ((body_reading s f).failures ++ clash_failures (known_sort (result_sort s p f)) (body_reading s f).sort (place_in f.body))
 
 -- those of its names
-abbrev pub own_name_failures : ScopeState → List (List ℕ) → FunctionForms → List Refusal
-own_name_failures s names f =
+abbrev pub name_failures : ScopeState → List (List ℕ) → FunctionForms → List Refusal
+name_failures s names f =
     (prime_failures f.name.primed f.name.place ++ term_name_tests s names f.name.name f.name.place) ++ twice_failures [] (entries_of s f.parameters)
 
 abbrev pub with_list : Place → HeadedForms → Tree → Tree → Tree → Option Trees → Option FunctionForms
@@ -202,7 +202,7 @@ function_forms ts = function_in (headed ts)
 
 abbrev pub function_tests : ScopeState → List (List ℕ) → Place → Option FunctionForms → List Refusal
 function_tests s names p None = refusal 12 p ∷ []
-function_tests s names p (Some f) = own_name_failures s names f ++ part_failures s p f
+function_tests s names p (Some f) = name_failures s names f ++ part_failures s p f
 
 -- the tests of `(define-fun f ((x S) ..) S t)` at p
 abbrev pub function_failures : ScopeState → List (List ℕ) → Place → Trees → List Refusal

@@ -1,5 +1,5 @@
 -- Lists of variables, `((x S) ..)`: what they declare, and the tests that fail.
-use Rattle.std.specs.Prelude.{ℕ, not, is_none, Option, None, Some, Result, Ok, Err, List, [], ◌∷◌, ◌++◌, if◌then◌else◌, map}
+use Rattle.std.specs.Prelude.{ℕ, Bool, true, ◌&&◌, not, is_none, is_some, Option, None, Some, Result, Ok, Err, List, [], ◌∷◌, ◌++◌, if◌then◌else◌, map}
 use Rattle.text_core.specs.declared.place.Place.{Place}
 use Rattle.text_core.specs.declared.place.Refusal.{Refusal}
 use Rattle.moxi_sexpr.specs.Tree.{Tree, Trees, no_trees, tree}
@@ -7,6 +7,7 @@ use Rattle.moxi_terms.specs.declared.data.Sort.{Sort}
 use Rattle.moxi_sorts.specs.declared.locals.Local.{Local}
 use Rattle.moxi_terms.specs.declared.term.Variable.{Variable}
 use Rattle.moxi_sorts.specs.Forms.{place_in}
+use Rattle.moxi_sorts.specs.Finding.{Found, first_of}
 use Rattle.name_set.specs.Names.{place_of}
 use Rattle.moxi_term_reading.specs.Reading.{prime_failures}
 use Rattle.moxi_sorts.specs.SortReading.{sort_reading}
@@ -47,6 +48,11 @@ abbrev pub entries_failures : ScopeState → Place → Trees → List Refusal
 entries_failures s around no_trees = []
 entries_failures s around (tree t ts) = entry_failures s around t ++ entries_failures s around ts
 
+-- each form is `(x S)`
+abbrev pub are_entries : Trees → Bool
+are_entries no_trees = true
+are_entries (tree t ts) = is_some (named t) && are_entries ts
+
 -- the names, and this one, each once
 abbrev pub names_with : List (List ℕ) → List ℕ → List (List ℕ)
 names_with names name = if is_none (place_of names name) then names ++ name ∷ [] else names
@@ -63,9 +69,21 @@ abbrev pub names_after : List (List ℕ) → List Declared → List (List ℕ)
 names_after names [] = names
 names_after names (d ∷ ds) = names_after (names_with names d.name) ds
 
--- the variables among which names are found
+-- variables among which names are found
 abbrev pub locals_among : List Declared → List Local
 locals_among ds = map (λ (d : Declared). record { name = d.name; sort = d.sort }) ds
+
+abbrev pub found_sort : Option Found → Option Sort
+found_sort None = None
+found_sort (Some f) = f.sort
+
+-- the sort that a name has among variables
+abbrev pub sort_among : List Local → List ℕ → Option Sort
+sort_among locals name = found_sort (first_of 0 locals name)
+
+-- variables in the order of their numbers, each with the sort of the first of its name in the order of the text
+abbrev pub locals_found : List Local → List Declared → List Local
+locals_found text ds = map (λ (d : Declared). record { name = d.name; sort = sort_among text d.name }) ds
 
 abbrev pub variable_of : List ℕ → Option Sort → List Variable
 variable_of name None = []

@@ -1,5 +1,6 @@
 -- The tests that rest on the whole script: names of variables, the systems that subsystems and the check name, and what is
--- handed to them. A test of sorts or numbers holds where an entry of a list that it rests on fails.
+-- handed to them. The number of actuals is tested where the lists have their shape, and the sorts of two variables where both are
+-- known; the lists of a check are tested where none of their own tests fails.
 use Rattle.std.specs.Prelude.{◌==◌, ℕ, suc, Bool, true, false, not, ◌&&◌, ◌+◌, if◌then◌else◌, Option, None, Some, List, [], ◌∷◌, ◌++◌, length, slice_get}
 use Rattle.std.specs.Option.{option_map}
 use Rattle.text_core.specs.declared.place.Place.{Place}
@@ -48,7 +49,7 @@ fit_failures u l = if length u.actuals == length l.inputs.entries + length l.out
 
 abbrev pub actuals_failures : Use → Option Lists → List Refusal
 actuals_failures u None = []
-actuals_failures u (Some l) = if l.inputs.whole && l.outputs.whole then fit_failures u l else []
+actuals_failures u (Some l) = if l.inputs.shaped && l.outputs.shaped then fit_failures u l else []
 
 abbrev pub target_failures : List SystemReading → Use → Option ℕ → List Refusal
 target_failures systems u None = refusal 10 u.place ∷ []
@@ -94,8 +95,11 @@ abbrev pub check_failures : List SystemReading → List (List ℕ) → Option Ch
 check_failures systems names None = []
 check_failures systems names (Some c) = checked_failures systems c (place_of names c.target)
 
+abbrev pub all_systems_failures : Reading → List Refusal
+all_systems_failures r = systems_failures r.systems r.system_names r.systems ++ systems_failures r.systems r.system_names r.repeated
+
 -- the tests of what is read; a script without a check fails at its end
 abbrev pub links_failures : Reading → Place → List Refusal
 links_failures r end =
-    ((taken_failures r.scope r.term_names r.variables ++ systems_failures r.systems r.system_names r.systems) ++ check_failures r.systems r.system_names r.check)
+    ((taken_failures r.scope r.term_names r.variables ++ all_systems_failures r) ++ check_failures r.systems r.system_names r.check)
     ++ fails_if (not r.checked) 13 end

@@ -1,5 +1,5 @@
 -- Systems as they are read: `S :input .. :output .. :local .. :init .. :trans .. :inv .. :subsys ..`.
-use Rattle.std.specs.Prelude.{ℕ, false, is_none, if◌then◌else◌, Option, None, Some, List, [], ◌∷◌, ◌++◌}
+use Rattle.std.specs.Prelude.{ℕ, Bool, false, not, is_none, if◌then◌else◌, Option, None, Some, List, [], ◌∷◌, ◌++◌}
 use Rattle.text_core.specs.declared.place.Place.{Place}
 use Rattle.text_core.specs.declared.place.Refusal.{Refusal}
 use Rattle.moxi_sexpr.specs.Lexing.{refusal}
@@ -15,12 +15,14 @@ use Rattle.moxi_scripts.specs.declared.parts.Command.TheVariants.{System}
 use Rattle.moxi_scripts.specs.declared.parts.Key.TheVariants.{Init, Trans, Inv}
 use Rattle.moxi_scripts.specs.declared.parts.Turn.TheVariants.{AtKeyword}
 use Rattle.moxi_scripts.specs.declared.parts.Declared.{Declared}
+use Rattle.moxi_scripts.specs.declared.parts.DeclaredList.{DeclaredList}
 use Rattle.moxi_scripts.specs.declared.parts.Lists.{Lists}
 use Rattle.moxi_scripts.specs.declared.parts.Use.{Use}
 use Rattle.moxi_scripts.specs.Attributes.{shape_holds, unknown_failures}
-use Rattle.moxi_scripts.specs.Entries.{locals_among, names_with, twice_failures}
+use Rattle.moxi_scripts.specs.Collecting.{fails_if}
+use Rattle.moxi_scripts.specs.Entries.{locals_among, locals_found, names_with, twice_failures}
 use Rattle.moxi_scripts.specs.Formulas.{formula_failures, formula_term, true_term}
-use Rattle.moxi_scripts.specs.Lists.{all_entries, lists_failures, lists_in, value_at}
+use Rattle.moxi_scripts.specs.Lists.{all_entries, are_shaped, lists_failures, lists_in, possible_entries, text_entries, value_at}
 use Rattle.moxi_scripts.specs.Shapes.{HeadedForms, headed}
 use Rattle.moxi_scripts.specs.Uses.{uses_failures, uses_in}
 
@@ -33,12 +35,20 @@ pub record SystemReading : Type 0 where
   pub inv : Tree
   pub uses : List Use
 
-abbrev pub locals_of : ScopeState → Command → Trees → List Local
-locals_of s command ts = locals_among (all_entries (lists_in s command ts))
+abbrev pub text_entries_in : ScopeState → Command → Trees → List Declared
+text_entries_in s command ts = text_entries (lists_in s command ts) command AtKeyword ts
 
--- the tests of keywords and of the lists
+abbrev pub possible_in : ScopeState → Command → Trees → List Declared
+possible_in s command ts = possible_entries s (are_shaped (lists_in s command ts)) ts
+
+-- the variables among which names are found
+abbrev pub locals_of : ScopeState → Command → Trees → List Local
+locals_of s command ts =
+    locals_found (locals_among (text_entries_in s command ts ++ possible_in s command ts)) (all_entries (lists_in s command ts) ++ possible_in s command ts)
+
+-- the tests of keywords and of the lists; names are compared in the order of the text
 abbrev pub variables_failures : ScopeState → Command → Trees → List Refusal
-variables_failures s command ts = (unknown_failures command AtKeyword ts ++ lists_failures s command ts) ++ twice_failures [] (all_entries (lists_in s command ts))
+variables_failures s command ts = (unknown_failures command AtKeyword ts ++ lists_failures s command ts) ++ twice_failures [] (text_entries_in s command ts)
 
 abbrev pub formulas_failures : ScopeState → List Local → Trees → List Refusal
 formulas_failures s locals ts =
@@ -56,11 +66,20 @@ content_of s name ts =
       uses = uses_in (locals_of s System ts) AtKeyword ts;
     }
 
+abbrev pub formula_failures_in : ScopeState → Trees → List Refusal
+formula_failures_in s ts = formulas_failures s (locals_of s System ts) ts
+
+abbrev pub use_failures_in : ScopeState → Trees → List Refusal
+use_failures_in s ts = uses_failures (locals_of s System ts) [] AtKeyword ts
+
 abbrev pub content_failures : ScopeState → Trees → List Refusal
-content_failures s ts = (variables_failures s System ts ++ formulas_failures s (locals_of s System ts) ts) ++ uses_failures (locals_of s System ts) [] AtKeyword ts
+content_failures s ts = (variables_failures s System ts ++ formula_failures_in s ts) ++ use_failures_in s ts
+
+abbrev pub no_list : DeclaredList
+no_list = record { entries = []; shaped = false; whole = false }
 
 abbrev pub no_lists : Lists
-no_lists = record { inputs = record { entries = []; whole = false }; outputs = record { entries = []; whole = false }; locals = record { entries = []; whole = false } }
+no_lists = record { inputs = no_list; outputs = no_list; locals = no_list }
 
 -- a system with a name but without its shape
 abbrev pub bare_system : List ℕ → SystemReading
@@ -72,25 +91,30 @@ shaped_system s name ts = if shape_holds System ts then content_of s name ts els
 abbrev pub shaped_failures : ScopeState → Place → Trees → List Refusal
 shaped_failures s p ts = if shape_holds System ts then content_failures s ts else refusal 12 p ∷ []
 
-abbrev pub system_of : ScopeState → List (List ℕ) → HeadedForms → List SystemReading
-system_of s names h = if is_none (place_of names h.name) then shaped_system s h.name h.rest ∷ [] else []
+-- a system that is added to these, unless its name is taken
+abbrev pub with_new_system : Bool → List SystemReading → SystemReading → List SystemReading
+with_new_system new rs r = if new then rs ++ r ∷ [] else rs
 
+-- a system whose name is taken, behind these
+abbrev pub with_repeated_system : Bool → List SystemReading → SystemReading → List SystemReading
+with_repeated_system new rs r = if new then rs else rs ++ r ∷ []
+
+-- of two with one name the second fails; it is read like any other
 abbrev pub system_tests : ScopeState → List (List ℕ) → Place → HeadedForms → List Refusal
-system_tests s names p h = prime_failures h.primed h.place ++ (if is_none (place_of names h.name) then shaped_failures s p h.rest else refusal 9 h.place ∷ [])
+system_tests s names p h = (prime_failures h.primed h.place ++ fails_if (not (is_none (place_of names h.name))) 9 h.place) ++ shaped_failures s p h.rest
 
 abbrev pub shaped_variables : ScopeState → Trees → List Declared
 shaped_variables s ts = if shape_holds System ts then all_entries (lists_in s System ts) else []
 
-abbrev pub system_variables : ScopeState → List (List ℕ) → HeadedForms → List Declared
-system_variables s names h = if is_none (place_of names h.name) then shaped_variables s h.rest else []
+-- the systems, and the one that `(define-system S ..)` declares behind those of these names
+abbrev pub with_system : ScopeState → List (List ℕ) → List SystemReading → Option HeadedForms → List SystemReading
+with_system s names rs None = rs
+with_system s names rs (Some h) = with_new_system (is_none (place_of names h.name)) rs (shaped_system s h.name h.rest)
 
-abbrev pub systems_of : ScopeState → List (List ℕ) → Option HeadedForms → List SystemReading
-systems_of s names None = []
-systems_of s names (Some h) = system_of s names h
-
--- the system that `(define-system S ..)` declares behind those of these names; of two with one name the second fails
-abbrev pub read_systems : ScopeState → List (List ℕ) → Trees → List SystemReading
-read_systems s names ts = systems_of s names (headed ts)
+-- the systems whose names are taken, and this one, where its name is
+abbrev pub with_repeated : ScopeState → List (List ℕ) → List SystemReading → Option HeadedForms → List SystemReading
+with_repeated s names rs None = rs
+with_repeated s names rs (Some h) = with_repeated_system (is_none (place_of names h.name)) rs (shaped_system s h.name h.rest)
 
 abbrev pub headed_system_failures : ScopeState → List (List ℕ) → Place → Option HeadedForms → List Refusal
 headed_system_failures s names p None = refusal 12 p ∷ []
@@ -103,6 +127,6 @@ abbrev pub names_with_system : List (List ℕ) → Option HeadedForms → List (
 names_with_system names None = names
 names_with_system names (Some h) = names_with names h.name
 
-abbrev pub variables_of_system : ScopeState → List (List ℕ) → Option HeadedForms → List Declared
-variables_of_system s names None = []
-variables_of_system s names (Some h) = system_variables s names h
+abbrev pub variables_of_system : ScopeState → Option HeadedForms → List Declared
+variables_of_system s None = []
+variables_of_system s (Some h) = shaped_variables s h.rest

@@ -58,10 +58,11 @@ pub struct Declared {
 /// Variables that lists declare.
 pub type Entries = List<Declared>;
 
-/// What a list declares, and whether each of its entries holds.
+/// What a list declares; whether each of its forms is `(x S)`, and whether none of its tests fails.
 #[derive(Drop)]
 pub struct DeclaredList {
     pub entries: Entries,
+    pub shaped: bool,
     pub whole: bool,
 }
 

@@ -9,7 +9,8 @@ use Rattle.text_core.specs.declared.place.Place.{Place}
 use Rattle.moxi_sexpr.specs.declared.scan.Spelling.{Spelling}
 use Rattle.moxi_sexpr.specs.declared.scan.Spelling.TheVariants as how
 use Rattle.moxi_sexpr.specs.declared.read.TokenKind.{TokenKind}
-use Rattle.moxi_sexpr.specs.Bytes.{is_digit, is_symbol_byte, is_binary_digit, is_hex_digit, heads}
+use Rattle.text_core.specs.Bytes.{is_digit}
+use Rattle.moxi_sexpr.specs.Bytes.{is_symbol_byte, is_binary_digit, is_hex_digit, heads}
 use Rattle.text_core.specs.Places.{next_place, after}
 use Rattle.moxi_sexpr.specs.Atoms.{prime, may_stand, spelled}
 use Rattle.moxi_sexpr.specs.Reading.{Scan, scan_of, value_of, token_from, token_of, front}
@@ -26,7 +27,7 @@ IsInLine bs = list_all is_inner bs ≡ true
 abbrev placed : ℕ → ℕ → ℕ → Place
 placed line column offset = record { line = line; column = column; offset = offset }
 
--- the place so many bytes further in the line
+-- the place so many bytes along the line
 abbrev pub along : Place → ℕ → Place
 along p n = record { line = p.line; column = p.column + n; offset = p.offset + n }
 

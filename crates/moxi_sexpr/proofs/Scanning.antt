@@ -7,7 +7,8 @@ use Rattle.std.proofs.lemmas.Bool.{eqb-true, cond_both, and_parts, or_parts, con
 use Rattle.moxi_sexpr.specs.declared.scan.Spelling.{Spelling}
 use Rattle.moxi_sexpr.specs.declared.scan.Spelling.TheVariants as how
 use Rattle.moxi_sexpr.specs.declared.read.TokenKind.TheVariants.{Atom}
-use Rattle.moxi_sexpr.specs.Bytes.{Stops, is_symbol_byte, is_digit, is_binary_digit, is_hex_digit, is_barred_byte}
+use Rattle.text_core.specs.Bytes.{is_digit}
+use Rattle.moxi_sexpr.specs.Bytes.{Stops, is_symbol_byte, is_binary_digit, is_hex_digit, is_barred_byte}
 use Rattle.moxi_sexpr.specs.Atoms.{is_run, is_simple, starts_simple, doubled, prime, may_stand, spelled, goes_on, atom_of}
 use Rattle.moxi_sexpr.specs.Lexing.{IsSpelled}
 use Rattle.moxi_sexpr.specs.Reading.{gap_length, run_length, Scan, run_of, simple_of, with_prime, bare_of, closed_by_bar, barred_of, quote_length, quoted, quote_of, digits_of, scan_of, undoubled, value_of, token_from, token_of}

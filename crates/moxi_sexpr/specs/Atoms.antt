@@ -5,7 +5,8 @@ use Rattle.moxi_sexpr.specs.declared.form.Atom.{Atom}
 use Rattle.moxi_sexpr.specs.declared.form.Atom.TheVariants as atom
 use Rattle.moxi_sexpr.specs.declared.scan.Spelling.{Spelling}
 use Rattle.moxi_sexpr.specs.declared.scan.Spelling.TheVariants as how
-use Rattle.moxi_sexpr.specs.Bytes.{is_digit, is_symbol_byte, is_binary_digit, is_hex_digit, is_barred_byte}
+use Rattle.text_core.specs.Bytes.{is_digit}
+use Rattle.moxi_sexpr.specs.Bytes.{is_symbol_byte, is_binary_digit, is_hex_digit, is_barred_byte}
 
 -- a byte of a simple symbol stands first, and no digit
 abbrev pub starts_simple : List ℕ → Bool

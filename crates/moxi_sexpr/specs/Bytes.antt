@@ -1,11 +1,9 @@
 -- Bytes by what they may stand in (SMT-LIB 2.6, section 3.1).
 use Rattle.std.specs.Prelude.{◌≡◌, ◌==◌, ◌+◌, ◌^◌, ℕ, Bool, false, not, ◌&&◌, ◌||◌, nat_le, List, [], ◌∷◌, codes}
 use Rattle.std.specs.List.{list_any}
+use Rattle.text_core.specs.Bytes.{is_digit}
 use Rattle.moxi_sexpr.specs.declared.bytes.ByteSet.{ByteSet}
 use Rattle.moxi_sexpr.specs.declared.bytes.ByteSet.TheVariants as set
-
-abbrev pub is_digit : ℕ → Bool
-is_digit b = nat_le 48 b && nat_le b 57
 
 abbrev pub is_letter : ℕ → Bool
 is_letter b = (nat_le 65 b && nat_le b 90) || (nat_le 97 b && nat_le b 122)

@@ -4,7 +4,8 @@ use Rattle.moxi_sexpr.specs.declared.scan.Spelling.{Spelling}
 use Rattle.moxi_sexpr.specs.declared.scan.Spelling.TheVariants as how
 use Rattle.moxi_sexpr.specs.declared.read.TokenKind.{TokenKind}
 use Rattle.moxi_sexpr.specs.declared.read.TokenKind.TheVariants.{Open, Close, Atom}
-use Rattle.moxi_sexpr.specs.Bytes.{is_digit, is_symbol_byte, is_binary_digit, is_hex_digit, is_barred_byte, is_blank, ends_line, heads}
+use Rattle.text_core.specs.Bytes.{is_digit}
+use Rattle.moxi_sexpr.specs.Bytes.{is_symbol_byte, is_binary_digit, is_hex_digit, is_barred_byte, is_blank, ends_line, heads}
 use Rattle.moxi_sexpr.specs.Atoms.{starts_simple, atom_of}
 use Rattle.moxi_sexpr.specs.Lexing.{Mark, Next, finished, go, bad, limit, refusal, past, token}
 

@@ -2,12 +2,12 @@
 
 ghost use Rattle.std.specs.Prelude.{◌≡◌, ◌+◌, ◌≤◌, length};
 ghost use Rattle.std.specs.List.{list_all};
-ghost use Rattle.moxi_sexpr.specs.Bytes.{is_digit, is_symbol_byte, is_blank, ends_line, is_hex_digit, belongs};
+ghost use Rattle.moxi_sexpr.specs.Bytes.{is_symbol_byte, is_blank, ends_line, is_hex_digit, belongs};
 ghost use Rattle.text_core.specs.Places.{Reaches};
 ghost use Rattle.moxi_sexpr.specs.Atoms.{starts_simple, is_simple};
 ghost use Rattle.moxi_sexpr.specs.Reading.{run_length};
 
-use text_core::Place;
+use text_core::{Place, is_digit};
 
 /// The bytes that one part of the lexical form allows.
 #[derive(Clone, Copy)]
@@ -34,12 +34,6 @@ const SYMBOL_BYTES: [u8; 256] = *b"\
     ################################\
     ################################\
     ################################";
-
-pub fn is_digit(b: u8) -> bool
-    ensures { result ≡ is_digit b }
-{
-    b >= b'0' && b <= b'9'
-}
 
 fn is_symbol_byte(b: u8) -> bool
     ensures { result ≡ is_symbol_byte b }
@@ -124,8 +118,8 @@ pub fn is_simple(name: &[u8]) -> bool
     starts_simple(name) && all_belong(ByteSet::Symbol, name)
 }
 
-/// The place so many bytes further in the same line.
-pub fn further(place: Place, count: usize) -> Place
+/// The place so many bytes along the same line.
+pub fn along(place: Place, count: usize) -> Place
     requires { Reaches place count }
     ensures { result ≡ record { line = place.line; column = place.column + count; offset = place.offset + count } }
 {

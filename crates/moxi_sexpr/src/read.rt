@@ -13,7 +13,7 @@ ghost use Rattle.moxi_sexpr.specs.Machine.{step, open_lists};
 ghost use Rattle.moxi_sexpr.specs.Printing.{ArePrintable};
 ghost use Rattle.moxi_sexpr.specs.Answer.{Gives, Moves, IsRefused, Reads, IsAnswered};
 
-use crate::bytes::further;
+use crate::bytes::along;
 use crate::form::{Atom, Form, FormShape, Forms};
 use crate::scan::{make_atom, pass_gap, scan, starts_quoted};
 use std::alloc::Global;
@@ -73,7 +73,7 @@ fn place_of_rest(place: Place, text: &[u8], rest: &[u8]) -> Place
     if starts_quoted(text) {
         place.after(&text[..count])
     } else {
-        further(place, count)
+        along(place, count)
     }
 }
 

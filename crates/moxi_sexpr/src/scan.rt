@@ -7,10 +7,10 @@ ghost use Rattle.moxi_sexpr.specs.Atoms.{atom_of};
 ghost use Rattle.moxi_sexpr.specs.Reading.{gap_step, gap_length, run_of, simple_of, has_prime, past_prime, bare_of, barred_of, quote_length, quote_of, digits_of, scan_of, undoubled, value_of};
 ghost use Rattle.moxi_sexpr.specs.Answer.{Scans};
 
-use crate::bytes::{ByteSet, belongs, ends_line, is_blank, is_digit, run_length, starts_simple};
+use crate::bytes::{ByteSet, belongs, ends_line, is_blank, run_length, starts_simple};
 use crate::form::Atom;
 use std::alloc::Global;
-use text_core::{Name, NoMemory, Place};
+use text_core::{Name, NoMemory, Place, is_digit};
 
 /// How an atom is spelled.
 #[derive(Clone, Copy)]

@@ -68,10 +68,10 @@ module _ (s : ScopeState) (w : IsWholeScope s) (n : ℕ) where
       let fixed = λ (name : List ℕ). is_fixed_term name ≡ false in
       let split : function_names s ≡ front ++ back = ap names_in (sym (take-append-drop n s.functions)) ∙ map_append (λ (f : PlainFunction). f.name) (take n s.functions) (drop n s.functions) in
       let differ = (fresh_split [] cs (front ++ back) (subst (λ ns. are_fresh [] (cs ++ ns) ≡ true) split w.terms.differ)).1 in
-      let own = (all_parts fixed cs (front ++ back) (subst (λ ns. AllByRecursion fixed (cs ++ ns)) split w.terms.own)).1 in
+      let free = (all_parts fixed cs (front ++ back) (subst (λ ns. AllByRecursion fixed (cs ++ ns)) split w.terms.free)).1 in
       all_two (Absent (cs ++ front)) fixed (λ (name : List ℕ). is_term_name (before s n) name ≡ false) back
-      (λ name a o. let p = absent_parts cs front name a in term_new (before s n) name (record { own = o; constants = p.0; functions = p.1 }))
-      (fresh_absent (cs ++ front) back (fresh_split cs front back differ).1) (all_parts fixed front back own).1
+      (λ name a o. let p = absent_parts cs front name a in term_new (before s n) name (record { free = o; constants = p.0; functions = p.1 }))
+      (fresh_absent (cs ++ front) back (fresh_split cs front back differ).1) (all_parts fixed front back free).1
 
   before_grows : Grows (before s n) s
   before_grows = record {
@@ -116,5 +116,5 @@ bool_absent (name ∷ names) a =
 pub has_sort_names : (s : ScopeState) → IsWholeScope s → HasSortNames s
 has_sort_names s w = record {
   fresh = (fresh_split [] (enumeration_names s) (sort_names s) w.sorts.differ).0;
-  apart = not_among (enumeration_names s) (codes "Bool") (bool_absent (enumeration_names s) (all_parts (λ (name : List ℕ). is_fixed_sort name ≡ false) (enumeration_names s) (sort_names s) w.sorts.own).0);
+  apart = not_among (enumeration_names s) (codes "Bool") (bool_absent (enumeration_names s) (all_parts (λ (name : List ℕ). is_fixed_sort name ≡ false) (enumeration_names s) (sort_names s) w.sorts.free).0);
 }

@@ -1,5 +1,5 @@
 -- A script that printable forms spell has names that can be spelled: its systems, its check and what its commands declare.
-use Rattle.std.proofs.Common.{ℕ, Bool, true, false, cond, is_none, IfSome, Option, None, Some, List, [], ◌∷◌, sym, subst}
+use Rattle.std.proofs.Common.{ℕ, Bool, true, false, cond, is_none, IfSome, Option, None, Some, List, [], ◌∷◌, ◌++◌, sym, subst}
 use Rattle.std.specs.List.{AllByRecursion}
 use Rattle.text_core.specs.declared.place.Place.{Place}
 use Rattle.moxi_sexpr.specs.Printing.{ArePrintable, IsPrintable}
@@ -38,7 +38,7 @@ use Rattle.moxi_scripts.specs.Shapes.{HeadedForms, NamedForm, headed, named, par
 use Rattle.moxi_scripts.specs.Spelling as spelling
 use Rattle.moxi_scripts.specs.Spelling.{SpellsScript, reading_of, subsystem_of}
 use Rattle.moxi_scripts.specs.Systems as systems
-use Rattle.moxi_scripts.specs.Systems.{SystemReading, bare_system, locals_of, read_systems}
+use Rattle.moxi_scripts.specs.Systems.{SystemReading, bare_system, locals_of}
 use Rattle.moxi_scripts.specs.Uses.{actuals_in, use_among, use_headed, use_named, use_of, uses_in}
 use Rattle.moxi_shown_scripts.proofs.NamesLaws.{ArePrintableIf, IsPrintableHeaded, IsPrintableIf, IsPrintableNamed, IsSpellableSymbol, chosen, headed_printable, list_spellable, named_printable, only_printable, parts_printable, symbol_spellable, value_printable}
 use Rattle.moxi_shown_scripts.proofs.NamesLawsScopes.{EnumerationStays, FunctionStays, SortStays, TermNamesAreSpellable, enumeration_declares, function_declares, sort_declares}
@@ -166,11 +166,13 @@ module _ (names : TermNamesAreSpellable) where
   bare_spellable : (n : List ℕ) → IsSpellable n → IsSpellableSystemReading (bare_system n)
   bare_spellable n g ss = record { name = g; inputs = tt; outputs = tt; locals = tt; init = tt; trans = tt; inv = tt; subsystems = tt }
 
-  systems_spellable : (s : ScopeState) (ns : List (List ℕ)) (o : Option HeadedForms) → IsPrintableHeaded o → AllByRecursion IsSpellableSystemReading (systems.systems_of s ns o)
-  systems_spellable s ns None g = tt
-  systems_spellable s ns (Some h) g =
-      chosen (AllByRecursion IsSpellableSystemReading) (is_none (place_of ns h.name)) (systems.shaped_system s h.name h.rest ∷ []) []
-      (chosen IsSpellableSystemReading (shape_holds System h.rest) (systems.content_of s h.name h.rest) (bare_system h.name) (content_spellable s h.name h.rest g.0 g.1) (bare_spellable h.name g.0), tt) tt
+  systems_spellable : (s : ScopeState) (ns : List (List ℕ)) (rs : List SystemReading) (o : Option HeadedForms) → AllByRecursion IsSpellableSystemReading rs → IsPrintableHeaded o
+      → AllByRecursion IsSpellableSystemReading (systems.with_system s ns rs o)
+  systems_spellable s ns rs None i g = i
+  systems_spellable s ns rs (Some h) i g =
+      let r = systems.shaped_system s h.name h.rest in
+      let one = chosen IsSpellableSystemReading (shape_holds System h.rest) (systems.content_of s h.name h.rest) (bare_system h.name) (content_spellable s h.name h.rest g.0 g.1) (bare_spellable h.name g.0) in
+      chosen (AllByRecursion IsSpellableSystemReading) (is_none (place_of ns h.name)) (rs ++ r ∷ []) rs (all_append IsSpellableSystemReading rs (r ∷ []) i (one, tt)) i
 
   -- CHECKS
 
@@ -229,7 +231,7 @@ module _ (names : TermNamesAreSpellable) where
     command_spellable name.System r p ts i h = record {
       logic = i.logic;
       scope = i.scope;
-      systems = all_append IsSpellableSystemReading r.systems (read_systems r.scope r.system_names ts) i.systems (systems_spellable r.scope r.system_names (headed ts) (headed_printable ts h));
+      systems = systems_spellable r.scope r.system_names r.systems (headed ts) i.systems (headed_printable ts h);
       check = i.check;
     }
     command_spellable name.Check r p ts i h = record {

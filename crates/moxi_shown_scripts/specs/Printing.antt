@@ -84,10 +84,13 @@ formula_names fs = map (λ (f : PlainFormula). f.name) fs
 abbrev pub query_names : List (List ℕ) → List (List ℕ) → List (List ℕ) → Query → List (List ℕ)
 query_names assumptions currents reachables q = names_of assumptions q.assumptions ++ (names_of currents q.currents ++ name_at reachables q.reachable ∷ [])
 
+abbrev pub shown_query : List (List ℕ) → List (List ℕ) → List (List ℕ) → Query → Showns
+shown_query assumptions currents reachables q = attribute (codes "query") (shown_names q.name (query_names assumptions currents reachables q))
+
 abbrev pub shown_queries : List (List ℕ) → List (List ℕ) → List (List ℕ) → List Query → Showns
 shown_queries assumptions currents reachables [] = no_showns
 shown_queries assumptions currents reachables (q ∷ qs) =
-    joined (attribute (codes "query") (shown_names q.name (query_names assumptions currents reachables q))) (shown_queries assumptions currents reachables qs)
+    joined (shown_query assumptions currents reachables q) (shown_queries assumptions currents reachables qs)
 
 abbrev pub all_queries : PlainCheck → Showns
 all_queries c = shown_queries (formula_names c.assumptions) (formula_names c.currents) (formula_names c.reachables) c.queries

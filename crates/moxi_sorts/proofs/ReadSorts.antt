@@ -22,7 +22,7 @@ use Rattle.moxi_terms.specs.Words.{is_one_of, left_out_sorts}
 use Rattle.moxi_sorts.specs.Forms.{place_in, symbol_of, symbol_atom}
 use Rattle.moxi_terms.specs.Sorts.{IsSort}
 use Rattle.moxi_terms.specs.Sorted.{IsScope}
-use Rattle.moxi_sorts.specs.SortReading.{sort_reading, symbol_sort, width_sort, vector_sort, only_numeral, symbol_indexed, indexed_sort, listed_sort, atom_sort, index_of, is_width, unknown}
+use Rattle.moxi_sorts.specs.SortReading.{sort_reading, symbol_sort, width_sort, vector_sort, only_numeral, symbol_indexed, indexed_sort, listed_sort, atom_sort, index_of, is_width, unknown, unknown_indexed}
 use Rattle.name_set.specs.laws.Places.{place_below}
 use Rattle.moxi_sorts.specs.laws.AllLaws.{all_at}
 
@@ -40,24 +40,26 @@ vector_is : (es : List Enumeration) (p q : Place) (first : Bool) (r : Place) (se
 vector_is es p q first r second None = tt
 vector_is es p q first r second (Some digits) = width_is es (index_of digits) p q first r second
 
-symbol_is : (es : List Enumeration) (p q : Place) (first : Bool) (r : Place) (o : Option (List ℕ × Bool)) (ts : form.Trees) → IfOk (symbol_indexed p q first r o ts) (IsSort es)
-symbol_is es p q first r None ts = tt
-symbol_is es p q first r (Some x) ts = by_word (bytes_eq x.0 (codes "BitVec"))
+symbol_is : (s : ScopeState) (p q : Place) (first : Bool) (r : Place) (o : Option (List ℕ × Bool)) (ts : form.Trees) → IfOk (symbol_indexed s p q first r o ts) (IsSort s.enumerations)
+symbol_is s p q first r None ts = tt
+symbol_is s p q first r (Some x) ts = by_word (bytes_eq x.0 (codes "BitVec")) (is_some (sort_named s x.0))
   where
-    by_word : (b : Bool) → IfOk (cond b (vector_sort p q first r x.1 (only_numeral ts)) (Err (unknown (is_one_of left_out_sorts x.0) p q))) (IsSort es)
-    by_word true = vector_is es p q first r x.1 (only_numeral ts)
-    by_word false = tt
+    by_word : (a b : Bool)
+        → IfOk (cond a (vector_sort p q first r x.1 (only_numeral ts)) (cond b (Err (refusal 12 p)) (Err (unknown_indexed (is_one_of left_out_sorts x.0) p q first r)))) (IsSort s.enumerations)
+    by_word true b = vector_is s.enumerations p q first r x.1 (only_numeral ts)
+    by_word false true = tt
+    by_word false false = tt
 
-indexed_is : (es : List Enumeration) (p q : Place) (first : Bool) (ts : form.Trees) → IfOk (indexed_sort p q first ts) (IsSort es)
-indexed_is es p q first form.no_trees = tt
-indexed_is es p q first (form.tree t ts) = symbol_is es p q first (place_in t) (symbol_of t) ts
+indexed_is : (s : ScopeState) (p q : Place) (first : Bool) (ts : form.Trees) → IfOk (indexed_sort s p q first ts) (IsSort s.enumerations)
+indexed_is s p q first form.no_trees = tt
+indexed_is s p q first (form.tree t ts) = symbol_is s p q first (place_in t) (symbol_of t) ts
 
 listed_is : (s : ScopeState) (p q : Place) (o : Option (List ℕ × Bool)) (ts : form.Trees) → IfOk (listed_sort s p q o ts) (IsSort s.enumerations)
 listed_is s p q None ts = tt
 listed_is s p q (Some x) ts = by_word (bytes_eq x.0 (codes "_")) (bytes_eq x.0 (codes "BitVec") || is_some (sort_named s x.0))
   where
-    by_word : (a b : Bool) → IfOk (cond a (indexed_sort p q x.1 ts) (cond b (Err (refusal 12 p)) (Err (unknown (is_one_of left_out_sorts x.0) p q)))) (IsSort s.enumerations)
-    by_word true b = indexed_is s.enumerations p q x.1 ts
+    by_word : (a b : Bool) → IfOk (cond a (indexed_sort s p q x.1 ts) (cond b (Err (refusal 12 p)) (Err (unknown (is_one_of left_out_sorts x.0) p q)))) (IsSort s.enumerations)
+    by_word true b = indexed_is s p q x.1 ts
     by_word false true = tt
     by_word false false = tt
 

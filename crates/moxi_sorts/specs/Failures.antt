@@ -19,14 +19,14 @@ key r = r.place.offset * 256 + number_of r.kind
 abbrev pub pick : Refusal → Refusal → Refusal
 pick a b = if nat_lt (key b) (key a) then b else a
 
-abbrev pub sooner : Option Refusal → Option Refusal → Option Refusal
-sooner None b = b
-sooner (Some a) None = Some a
-sooner (Some a) (Some b) = Some (pick a b)
+abbrev pub minimum : Option Refusal → Option Refusal → Option Refusal
+minimum None b = b
+minimum (Some a) None = Some a
+minimum (Some a) (Some b) = Some (pick a b)
 
 abbrev pub least : List Refusal → Option Refusal
 least [] = None
-least (f ∷ fs) = sooner (Some f) (least fs)
+least (f ∷ fs) = minimum (Some f) (least fs)
 
 abbrev pub IsIn : Refusal → List Refusal → Type 0
 IsIn f [] = ⊥

@@ -51,22 +51,28 @@ vector_sort p q first r second (Some digits) = width_sort (index_of digits) p q 
 abbrev pub only_numeral : form.Trees → Option (List ℕ)
 only_numeral ts = option_and_then numeral_of (only_of ts)
 
--- behind the `_` at q of a sort at p, the symbol at r, and what stands behind it
-abbrev pub symbol_indexed : Place → Place → Bool → Place → Option (List ℕ × Bool) → form.Trees → Result Sort Refusal
-symbol_indexed p q first r None ts = Err (refusal 12 p)
-symbol_indexed p q first r (Some x) ts =
-    if bytes_eq x.0 (codes "BitVec") then vector_sort p q first r x.1 (only_numeral ts) else Err (unknown (is_one_of left_out_sorts x.0) p q)
+-- a name at r that stands for nothing, behind the `_` at q of a sort at p, which may be primed
+abbrev pub unknown_indexed : Bool → Place → Place → Bool → Place → Refusal
+unknown_indexed true p q first r = refusal 6 p
+unknown_indexed false p q first r = if first then refusal 7 q else refusal 4 r
+
+-- behind the `_` at q of a sort at p, the symbol at r, and what stands behind it; a sort without indices takes none
+abbrev pub symbol_indexed : ScopeState → Place → Place → Bool → Place → Option (List ℕ × Bool) → form.Trees → Result Sort Refusal
+symbol_indexed s p q first r None ts = Err (refusal 12 p)
+symbol_indexed s p q first r (Some x) ts =
+    if bytes_eq x.0 (codes "BitVec") then vector_sort p q first r x.1 (only_numeral ts)
+    else (if is_some (sort_named s x.0) then Err (refusal 12 p) else Err (unknown_indexed (is_one_of left_out_sorts x.0) p q first r))
 
 -- what stands behind the `_` at q of a sort at p
-abbrev pub indexed_sort : Place → Place → Bool → form.Trees → Result Sort Refusal
-indexed_sort p q first form.no_trees = Err (refusal 12 p)
-indexed_sort p q first (form.tree t ts) = symbol_indexed p q first (place_in t) (symbol_of t) ts
+abbrev pub indexed_sort : ScopeState → Place → Place → Bool → form.Trees → Result Sort Refusal
+indexed_sort s p q first form.no_trees = Err (refusal 12 p)
+indexed_sort s p q first (form.tree t ts) = symbol_indexed s p q first (place_in t) (symbol_of t) ts
 
 -- a list at p in a sort's place, that has this symbol at its head at q; a sort without indices stands in no list
 abbrev pub listed_sort : ScopeState → Place → Place → Option (List ℕ × Bool) → form.Trees → Result Sort Refusal
 listed_sort s p q None ts = Err (refusal 12 p)
 listed_sort s p q (Some x) ts =
-    if bytes_eq x.0 (codes "_") then indexed_sort p q x.1 ts
+    if bytes_eq x.0 (codes "_") then indexed_sort s p q x.1 ts
     else (if bytes_eq x.0 (codes "BitVec") || is_some (sort_named s x.0) then Err (refusal 12 p) else Err (unknown (is_one_of left_out_sorts x.0) p q))
 
 -- an atom in a sort's place

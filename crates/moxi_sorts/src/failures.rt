@@ -1,6 +1,6 @@
 // The failing test with the least place, and at one place with the least number.
 ghost use Rattle.std.specs.Prelude.{◌≡◌};
-ghost use Rattle.moxi_sorts.specs.Failures.{key, number_of, pick, sooner};
+ghost use Rattle.moxi_sorts.specs.Failures.{key, number_of, pick, minimum};
 
 use text_core::{Kind, Refusal};
 
@@ -23,8 +23,8 @@ fn key(r: Refusal) -> u64
 }
 
 /// The one that comes first: the one with the lesser place, and at one place the one with the lesser number.
-pub fn sooner(a: Option<Refusal>, b: Option<Refusal>) -> Option<Refusal>
-    ensures { result ≡ sooner a b }
+pub fn minimum(a: Option<Refusal>, b: Option<Refusal>) -> Option<Refusal>
+    ensures { result ≡ minimum a b }
 {
     match (a, b) {
         (None, other) => other,

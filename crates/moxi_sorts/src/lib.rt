@@ -8,7 +8,7 @@ mod locals;
 mod sorts;
 mod typing;
 
-pub use failures::sooner;
+pub use failures::minimum;
 pub use forms::{
     is_primed, is_word, numeral_of, only, only_numeral, pair, place_in, symbol_atom, symbol_of,
 };

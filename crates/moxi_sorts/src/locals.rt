@@ -60,10 +60,7 @@ impl Locals {
         let before = self.names.len();
         let number = self.locals.len() as u32;
         self.firsts.truncate(before);
-        match self.firsts.push(number) {
-            Ok(()) => {}
-            Err(_) => return Err(NoMemory),
-        }
+        self.firsts.push(number)?;
         self.names.declare(self.alloc, name.bytes())?;
         match self.locals.push(Local { name, sort }) {
             Ok(()) => Ok(()),
@@ -136,8 +133,8 @@ impl Bounds {
     pub fn bind_all(&mut self, names: &List<Local>) -> Result<(), NoMemory>
         ensures { OnOk result (self.new ≡ self.old ++ names.now) }
     {
-        for i in 0..names.len() {
-            self.bind(names.at(i))?;
+        for local in names {
+            self.bind(local)?;
         }
         Ok(())
     }
@@ -158,14 +155,11 @@ impl Bounds {
             local.name.bytes(),
         )?;
         let before = self.lasts[key];
-        match self.bindings.push(Binding {
+        self.bindings.push(Binding {
             key,
             before,
             sort: local.sort,
-        }) {
-            Ok(()) => {}
-            Err(_) => return Err(NoMemory),
-        }
+        })?;
         self.lasts[key] = Some(number);
         Ok(())
     }
@@ -229,10 +223,7 @@ fn key_of(
         None => {
             let key = names.len();
             lasts.truncate(key);
-            match lasts.push(None) {
-                Ok(()) => {}
-                Err(_) => return Err(NoMemory),
-            }
+            lasts.push(None)?;
             names.declare(alloc, name)?;
             Ok(key)
         }

@@ -6,7 +6,7 @@ ghost use Rattle.moxi_terms.specs.Sorted.{IsScope};
 ghost use Rattle.moxi_terms.specs.Sorts.{IsSort};
 ghost use Rattle.moxi_terms.specs.View.{ScopeState};
 ghost use Rattle.moxi_sorts.specs.Forms.{digits_now, symbol_now};
-ghost use Rattle.moxi_sorts.specs.SortReading.{atom_sort, index_of, indexed_sort, is_width, listed_sort, sort_reading, symbol_sort, unknown, vector_sort, width_sort};
+ghost use Rattle.moxi_sorts.specs.SortReading.{atom_sort, index_of, indexed_sort, is_width, listed_sort, sort_reading, symbol_sort, unknown, unknown_indexed, vector_sort, width_sort};
 ghost use Rattle.moxi_terms.specs.Words.{is_one_of, left_out_sorts};
 
 use crate::forms::{only_numeral, symbol_atom, symbol_of};
@@ -95,16 +95,37 @@ fn vector_sort(
     }
 }
 
+// A name at r that stands for nothing, behind the `_` at q of a sort at p, which may be primed.
+fn unknown_indexed(left_out: bool, p: Place, q: Place, first: bool, r: Place) -> Refusal
+    ensures { result ≡ unknown_indexed left_out p q first r }
+{
+    if left_out {
+        refusal(moxi::NOT_SUPPORTED, p)
+    } else if first {
+        refusal(moxi::PRIME_HERE, q)
+    } else {
+        refusal(moxi::UNKNOWN, r)
+    }
+}
+
 // What stands behind the `_` at q of a sort at p.
-fn indexed_sort(p: Place, q: Place, first: bool, rest: &[Form]) -> Result<Sort, Refusal>
-    ensures { result ≡ indexed_sort p q first (plain_forms rest.now) }
+fn indexed_sort(
+    scope: &Scope,
+    p: Place,
+    q: Place,
+    first: bool,
+    rest: &[Form],
+) -> Result<Sort, Refusal>
+    ensures { result ≡ indexed_sort scope.now p q first (plain_forms rest.now) }
 {
     match rest.split_first() {
         Some((form, more)) => match symbol_of(form) {
             Some((name, second)) => if is_same(name, b"BitVec") {
                 vector_sort(p, q, first, form.place, second, only_numeral(more))
+            } else if scope.sort_named(name).is_some() {
+                Err(refusal(moxi::ARITY, p))
             } else {
-                Err(unknown(is_left_out_sort(name), p, q))
+                Err(unknown_indexed(is_left_out_sort(name), p, q, first, form.place))
             },
             None => Err(refusal(moxi::ARITY, p)),
         },
@@ -125,7 +146,7 @@ fn listed_sort(
     match symbol {
         None => Err(refusal(moxi::ARITY, p)),
         Some((name, primed)) => if is_same(name, b"_") {
-            indexed_sort(p, q, primed, rest)
+            indexed_sort(scope, p, q, primed, rest)
         } else if is_same(name, b"BitVec") || scope.sort_named(name).is_some() {
             Err(refusal(moxi::ARITY, p))
         } else {

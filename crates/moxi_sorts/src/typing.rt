@@ -10,6 +10,8 @@ ghost use Rattle.moxi_terms.specs.declared.data.TermOp.TheVariants as op;
 ghost use Rattle.moxi_terms.specs.Operators.{is_comparison};
 
 use moxi_terms::{Function, Head, Scope, Sort, TermOp, Variables, is_comparison};
+use text_core::Kind;
+use text_core::kinds::moxi;
 use word_core::{Binary, Unary, WIDEST};
 
 fn same_sort(s: Sort, t: Sort) -> bool
@@ -126,34 +128,34 @@ fn count_fits(op: TermOp, n: usize) -> bool
     }
 }
 
-fn logical(sort: Option<Sort>) -> Result<Sort, u8>
+fn logical(sort: Option<Sort>) -> Result<Sort, Kind>
     ensures { result ≡ logical sort }
 {
     match sort {
         Some(Sort::Truth) => Ok(Sort::Truth),
-        _ => Err(5),
+        _ => Err(moxi::SORT_CLASH),
     }
 }
 
-fn compared(sort: Option<Sort>) -> Result<Sort, u8>
+fn compared(sort: Option<Sort>) -> Result<Sort, Kind>
     ensures { result ≡ compared sort }
 {
     match sort {
         Some(_) => Ok(Sort::Truth),
-        None => Err(5),
+        None => Err(moxi::SORT_CLASH),
     }
 }
 
-fn chosen(sort: Option<Sort>) -> Result<Sort, u8>
+fn chosen(sort: Option<Sort>) -> Result<Sort, Kind>
     ensures { result ≡ chosen sort }
 {
     match sort {
         Some(s) => Ok(s),
-        None => Err(5),
+        None => Err(moxi::SORT_CLASH),
     }
 }
 
-fn calculated(op: Binary, sort: Option<Sort>) -> Result<Sort, u8>
+fn calculated(op: Binary, sort: Option<Sort>) -> Result<Sort, Kind>
     ensures { result ≡ calculated op sort }
 {
     match sort {
@@ -162,25 +164,25 @@ fn calculated(op: Binary, sort: Option<Sort>) -> Result<Sort, u8>
         } else if is_arithmetic(op) {
             Ok(Sort::Bits(w))
         } else {
-            Err(5)
+            Err(moxi::SORT_CLASH)
         },
-        _ => Err(5),
+        _ => Err(moxi::SORT_CLASH),
     }
 }
 
 // Words of the sum of these widths.
-fn widened(v: u32, w: u32) -> Result<Sort, u8>
+fn widened(v: u32, w: u32) -> Result<Sort, Kind>
     ensures { result ≡ widened (v + w) }
 {
     let width = u64::from(v) + u64::from(w);
     if width <= u64::from(WIDEST) {
         Ok(Sort::Bits(width as u32))
     } else {
-        Err(8)
+        Err(moxi::WIDTH)
     }
 }
 
-fn fitting(op: TermOp, sorts: &[Sort]) -> Result<Sort, u8>
+fn fitting(op: TermOp, sorts: &[Sort]) -> Result<Sort, Kind>
     ensures { result ≡ fitting op sorts.now }
 {
     match op {
@@ -190,64 +192,64 @@ fn fitting(op: TermOp, sorts: &[Sort]) -> Result<Sort, u8>
         TermOp::Equal | TermOp::Distinct => compared(common(sorts)),
         TermOp::Ite => match sorts.split_first() {
             Some((Sort::Truth, rest)) => chosen(common(rest)),
-            _ => Err(5),
+            _ => Err(moxi::SORT_CLASH),
         },
         TermOp::Concat => match sorts {
             [Sort::Bits(v), Sort::Bits(w)] => widened(*v, *w),
-            _ => Err(5),
+            _ => Err(moxi::SORT_CLASH),
         },
         TermOp::BvBinary(b) => calculated(b, common(sorts)),
         TermOp::Extract(high, low) => match sorts {
             [Sort::Bits(w)] => extracted(high, low, *w),
-            _ => Err(5),
+            _ => Err(moxi::SORT_CLASH),
         },
         TermOp::ZeroExtend(n) | TermOp::SignExtend(n) => match sorts {
             [Sort::Bits(w)] => widened(*w, n),
-            _ => Err(5),
+            _ => Err(moxi::SORT_CLASH),
         },
         TermOp::BvUnary(u) => match sorts {
             [Sort::Bits(w)] if is_negation(u) => Ok(Sort::Bits(*w)),
-            _ => Err(5),
+            _ => Err(moxi::SORT_CLASH),
         },
     }
 }
 
 // The bits from high down to low of words of this width.
-fn extracted(high: u32, low: u32, w: u32) -> Result<Sort, u8>
+fn extracted(high: u32, low: u32, w: u32) -> Result<Sort, Kind>
     ensures { result ≡ fitting (op.Extract high low) (sort.Bits w ∷ []) }
 {
     if low <= high && high < w {
         Ok(Sort::Bits(high - low + 1))
     } else {
-        Err(8)
+        Err(moxi::WIDTH)
     }
 }
 
-fn op_sort(op: TermOp, sorts: &[Sort]) -> Result<Sort, u8>
+fn op_sort(op: TermOp, sorts: &[Sort]) -> Result<Sort, Kind>
     ensures { result ≡ op_sort op sorts.now }
 {
     if count_fits(op, sorts.len()) {
         fitting(op, sorts)
     } else {
-        Err(12)
+        Err(moxi::ARITY)
     }
 }
 
-fn call_sort(function: Option<&Function>, sorts: &[Sort]) -> Result<Sort, u8>
+fn call_sort(function: Option<&Function>, sorts: &[Sort]) -> Result<Sort, Kind>
     ensures { result ≡ call_sort (function_now function.entry) sorts.now }
 {
     match function {
         Some(f) => if same_sorts(&f.parameters, sorts) {
             Ok(f.result)
         } else {
-            Err(5)
+            Err(moxi::SORT_CLASH)
         },
-        None => Err(5),
+        None => Err(moxi::SORT_CLASH),
     }
 }
 
-/// The sort of an application to arguments of these sorts, or the number of the failing test.
-pub fn head_sort(scope: &Scope, head: Head, sorts: &[Sort]) -> Result<Sort, u8>
+/// The sort of an application to arguments of these sorts, or the kind of the failing test.
+pub fn head_sort(scope: &Scope, head: Head, sorts: &[Sort]) -> Result<Sort, Kind>
     ensures { result ≡ head_sort scope.now.functions head sorts.now }
 {
     match head {

@@ -86,12 +86,12 @@ truth_at s (g ∷ fs) (suc i) f h l e = truth_at s fs i f h.1 (omega arith) e
 
 -- a test of each number, one after another: what is left says the same as all, until one fails
 pub stops : (P : ℕ → Bool) (is : List ℕ) (i n x : ℕ) (b : Bool) → n ≡ length is → i < n → x ≡ slice_index_or is i x → list_all P (drop i is) ≡ list_all P is → b ≡ P x → b ≡ false → false ≡ list_all P is
-stops P is i n x b e l t kept own fails =
-    sym (ap (λ a. a && list_all P (drop (i + 1) is)) (sym own ∙ fails)) ∙ sym (ap (list_all P) (items_step is i n x e l t)) ∙ kept
+stops P is i n x b e l t kept free fails =
+    sym (ap (λ a. a && list_all P (drop (i + 1) is)) (sym free ∙ fails)) ∙ sym (ap (list_all P) (items_step is i n x e l t)) ∙ kept
 
 pub goes : (P : ℕ → Bool) (is : List ℕ) (i n x : ℕ) (b : Bool) → n ≡ length is → i < n → x ≡ slice_index_or is i x → list_all P (drop i is) ≡ list_all P is → b ≡ P x → b ≡ true → list_all P (drop (i + 1) is) ≡ list_all P is
-goes P is i n x b e l t kept own passes =
-    sym (ap (λ a. a && list_all P (drop (i + 1) is)) (sym own ∙ passes)) ∙ sym (ap (list_all P) (items_step is i n x e l t)) ∙ kept
+goes P is i n x b e l t kept free passes =
+    sym (ap (λ a. a && list_all P (drop (i + 1) is)) (sym free ∙ passes)) ∙ sym (ap (list_all P) (items_step is i n x e l t)) ∙ kept
 
 pub ends : (P : ℕ → Bool) (is : List ℕ) (i n : ℕ) → n ≡ length is → n ≤ i → list_all P (drop i is) ≡ list_all P is → true ≡ list_all P is
 ends P is i n e l kept = sym (ap (list_all P) (items_end is i n e l)) ∙ kept

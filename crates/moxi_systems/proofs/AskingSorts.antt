@@ -6,6 +6,7 @@ use Rattle.std.proofs.Math.Logic.{∥∥₁_elim, ∥∥₁_map}
 use Rattle.std.proofs.lemmas.Bool.Decides.{nat_tests}
 use Rattle.std.proofs.lemmas.Option.{none-some, same_Some}
 use Rattle.word_core.specs.declared.word.TheConstants.{WIDEST}
+use Rattle.text_core.specs.declared.place.Kind.{Kind}
 use Rattle.moxi_terms.specs.declared.data.Sort.{Sort}
 use Rattle.moxi_terms.specs.declared.data.Sort.TheVariants.{Truth, Bits, Choice}
 use Rattle.moxi_terms.specs.declared.data.Datum.{Datum}
@@ -35,24 +36,24 @@ le_held a b h = let e : nat_le a b ≡ true = held (a ≤ b) (nat_le a b) (λ l.
 pub lt_held : (a b : ℕ) → ∥ a < b ∥₁ → a < b
 lt_held a b h = let e : nat_lt a b ≡ true = held (a < b) (nat_lt a b) (λ l. grind (arith, nat_tests)) h in grind (arith, nat_tests)
 
-own_sort : (s : Sort) → same_sort s s ≡ true
-own_sort Truth = refl
-own_sort (Bits w) = grind (arith, nat_tests)
-own_sort (Choice n) = grind (arith, nat_tests)
+same_as_itself : (s : Sort) → same_sort s s ≡ true
+same_as_itself Truth = refl
+same_as_itself (Bits w) = grind (arith, nat_tests)
+same_as_itself (Choice n) = grind (arith, nat_tests)
 
 sort_held : (s t : Sort) → ∥ s ≡ t ∥₁ → s ≡ t
-sort_held s t h = one_sort s t (held (s ≡ t) (same_sort s t) (λ e. subst (λ u. same_sort s u ≡ true) e (own_sort s)) h)
+sort_held s t h = one_sort s t (held (s ≡ t) (same_sort s t) (λ e. subst (λ u. same_sort s u ≡ true) e (same_as_itself s)) h)
 
 get_held : (o : Option Sort) (s : Sort) → ∥ o ≡ Some s ∥₁ → o ≡ Some s
 get_held None s h = absurd (held_not (None ≡ Some s) (none-some s) h)
 get_held (Some t) s h = ap Some (sort_held t s (∥∥₁_map h (same_Some t s)))
 
-same_ok : (s t : Sort) → (let r : Result Sort ℕ = Ok s in r) ≡ Ok t → s ≡ t
+same_ok : (s t : Sort) → (let r : Result Sort Kind = Ok s in r) ≡ Ok t → s ≡ t
 same_ok s t h = cc
 
-ok_held : (r : Result Sort ℕ) (s : Sort) → ∥ r ≡ Ok s ∥₁ → r ≡ Ok s
+ok_held : (r : Result Sort Kind) (s : Sort) → ∥ r ≡ Ok s ∥₁ → r ≡ Ok s
 ok_held (Ok t) s h = ap Ok (sort_held t s (∥∥₁_map h (same_ok t s)))
-ok_held (Err n) s h = absurd (held_not ((let r : Result Sort ℕ = Err n in r) ≡ Ok s) (λ e. cc) h)
+ok_held (Err n) s h = absurd (held_not ((let r : Result Sort Kind = Err n in r) ≡ Ok s) (λ e. cc) h)
 
 -- VALUES
 
@@ -86,7 +87,7 @@ value_sort (datum.Truth b) = Truth
 value_sort (datum.Bits v) = Bits v.width
 value_sort (datum.Constant n i) = Choice n
 
-abbrev ok_sort : Result Sort ℕ → Sort
+abbrev ok_sort : Result Sort Kind → Sort
 ok_sort (Ok s) = s
 ok_sort (Err n) = Truth
 

@@ -1,5 +1,5 @@
 -- Commands of which no test fails, one behind the other: what they declare is whole over the scope that stands at the end.
-use Rattle.std.proofs.Common.{◌≡◌, ℕ, true, false, IfOk, Option, None, Some, List, [], ◌++◌, map, take, length, refl, sym, ap, ◌∙◌, subst, append_assoc, append-nil, inl, inr}
+use Rattle.std.proofs.Common.{◌≡◌, ℕ, true, false, IfOk, Option, None, Some, List, [], ◌∷◌, ◌++◌, map, take, length, refl, sym, ap, ◌∙◌, subst, append_assoc, append-nil, inl, inr}
 use Rattle.std.specs.Prelude.{slice_get}
 use Rattle.std.specs.List.{AllByRecursion}
 use Rattle.std.proofs.lemmas.Option.{none-some, same_Some}
@@ -25,13 +25,13 @@ use Rattle.moxi_scripts.specs.declared.parts.Declared.{Declared}
 use Rattle.moxi_scripts.specs.Checks.{CheckReading, check_failures, check_of, variables_in}
 use Rattle.moxi_scripts.specs.Commands as commands
 use Rattle.moxi_scripts.specs.Commands.{Reading, command_failures, command_named, commands_failures, first_check, form_failures, nothing_read, reading_after, with_command, with_form}
-use Rattle.moxi_scripts.specs.Declarations.{FunctionForms, body_reading, clash_failures, function_failures, function_forms, function_tests, own_name_failures, parameters_in, result_sort, term_name_tests, with_read_enumeration, with_read_function, with_read_sort}
+use Rattle.moxi_scripts.specs.Declarations.{FunctionForms, body_reading, clash_failures, function_failures, function_forms, function_tests, name_failures, parameters_in, result_sort, term_name_tests, with_read_enumeration, with_read_function, with_read_sort}
 use Rattle.moxi_scripts.specs.Entries.{entries_failures, entries_of, locals_among, sort_failures, twice_failures, variables_of}
 use Rattle.moxi_scripts.specs.Shapes.{HeadedForms, headed}
-use Rattle.moxi_scripts.specs.Systems.{SystemReading, read_systems, variables_of_system}
+use Rattle.moxi_scripts.specs.Systems.{SystemReading, variables_of_system}
 use Rattle.moxi_systems.specs.Whole.{IsWholeFunction, before}
 use Rattle.moxi_scripts.proofs.FunctionLaws.{function_is, none_in, some_fails}
-use Rattle.moxi_systems.proofs.WholeEntries.{entries_known, locals_known, locals_same, variables_whole}
+use Rattle.moxi_systems.proofs.WholeEntries.{entries_known, locals_known, locals_same, twice_fresh, variables_whole}
 use Rattle.moxi_systems.proofs.WholeFormulas.{StandOn, TermsStand, no_clash}
 use Rattle.moxi_systems.specs.laws.WholeNames.{fresh_end}
 use Rattle.moxi_systems.specs.laws.WholeParts.{all_append, all_parts, map_append, no_failure}
@@ -113,7 +113,7 @@ module _ (sorts : SortsAreKnown) (terms : TermsAreSorted) where
   command_goes name.Function r p ts k =
       let g = function_goes r.scope p ts k in
       record { so_far = g.so_far; follows = record { grows = g.grows; more = parameters_in r.scope (function_forms ts); variables = refl } }
-  command_goes name.System r p ts k = record { so_far = k; follows = record { grows = grows_same r.scope; more = variables_of_system r.scope r.system_names (headed ts); variables = refl } }
+  command_goes name.System r p ts k = record { so_far = k; follows = record { grows = grows_same r.scope; more = variables_of_system r.scope (headed ts); variables = refl } }
   command_goes name.Check r p ts k = record { so_far = k; follows = record { grows = grows_same r.scope; more = variables_in r.scope (headed ts); variables = refl } }
 
   form_goes : (r : Reading) (t : form.Tree) → IsScopeSoFar r.scope → form_failures r t ≡ [] → GoesOn r (with_form r t)
@@ -150,10 +150,10 @@ grows_before s t g = record {
 }
 
 module _ (sorts : SortsAreKnown) (terms : TermsAreSorted) (stand : TermsStand) (on : StandOn) (end : Reading) (untaken : AreUntaken end.scope end.variables) where
-  own_untaken : (front own : List Declared) (t : Reading) → t.variables ≡ front ++ own → Follows t end → AreUntaken end.scope own
-  own_untaken front own t e f =
+  command_untaken : (front free : List Declared) (t : Reading) → t.variables ≡ front ++ free → Follows t end → AreUntaken end.scope free
+  command_untaken front free t e f =
       let New = λ (d : Declared). is_term_name end.scope d.name ≡ false in
-      (all_parts New front own (all_parts New (front ++ own) f.more (subst (AllByRecursion New) (f.variables ∙ ap (λ x. x ++ f.more) e) untaken)).0).1
+      (all_parts New front free (all_parts New (front ++ free) f.more (subst (AllByRecursion New) (f.variables ∙ ap (λ x. x ++ f.more) e) untaken)).0).1
 
   function_whole : (s : ScopeState) (p : Place) (f : FunctionForms) (r : Sort) → IsScopeSoFar s → GrowsTo s end.scope → IsNewFunction s p f r → twice_failures [] (entries_of s f.parameters) ≡ []
       → AreUntaken end.scope (entries_of s f.parameters) → IsWholeFunction end.scope (length s.functions) (function_of s f r)
@@ -171,7 +171,7 @@ module _ (sorts : SortsAreKnown) (terms : TermsAreSorted) (stand : TermsStand) (
       let one : r ≡ w.0 = no_clash r w.0 (place_in f.body) clash in
       let t = (body_reading s f).term in
       record {
-        parameters = variables_whole end.scope ds (known_on s end.scope g ds known) twice u;
+        parameters = variables_whole end.scope ds (known_on s end.scope g ds known) (twice_fresh [] ds twice) u;
         body = subst (λ ls. Stands (let x : Context = record { scope = before end.scope (length s.functions); variables = ls; primes = Refused } in x) [] t r) same
             (on c (before end.scope (length s.functions)) (grows_before s end.scope g) t r (subst (Stands c [] t) (sym one) w.2));
       }
@@ -191,11 +191,11 @@ module _ (sorts : SortsAreKnown) (terms : TermsAreSorted) (stand : TermsStand) (
       added : (f : FunctionForms) (x : Sort) → function_forms ts ≡ Some f → IsNewFunction r.scope p f x → GrowsTo (with_function r.scope (function_of r.scope f x)) end.scope
           → IsWholeFunction end.scope (length r.scope.functions) (function_of r.scope f x)
       added f x e n g =
-          let own = none_in (own_name_failures r.scope r.term_names f) _ (subst (λ o. function_tests r.scope r.term_names p o ≡ []) e h) in
-          let twice = none_in (prime_failures f.name.primed f.name.place ++ term_name_tests r.scope r.term_names f.name.name f.name.place) _ own.0 in
+          let free = none_in (name_failures r.scope r.term_names f) _ (subst (λ o. function_tests r.scope r.term_names p o ≡ []) e h) in
+          let twice = none_in (prime_failures f.name.primed f.name.place ++ term_name_tests r.scope r.term_names f.name.name f.name.place) _ free.0 in
           let parameters : parameters_in r.scope (function_forms ts) ≡ entries_of r.scope f.parameters = ap (parameters_in r.scope) e in
           function_whole r.scope p f x k (grows_on r.scope (with_function r.scope (function_of r.scope f x)) end.scope (grows_function r.scope (function_of r.scope f x) n.name) g) n twice.1
-          (own_untaken r.variables (entries_of r.scope f.parameters) (with_command name.Function r p ts) (ap (λ x. r.variables ++ x) parameters) follows)
+          (command_untaken r.variables (entries_of r.scope f.parameters) (with_command name.Function r p ts) (ap (λ x. r.variables ++ x) parameters) follows)
 
   command_whole : (c : CommandName) (r : Reading) (p : Place) (ts : form.Trees) → IsScopeSoFar r.scope → command_failures c r p ts ≡ [] → IsSoFar end.scope r → Follows (with_command c r p ts) end
       → IsSoFar end.scope (with_command c r p ts)
@@ -213,14 +213,13 @@ module _ (sorts : SortsAreKnown) (terms : TermsAreSorted) (stand : TermsStand) (
       }
   command_whole name.Function r p ts k h i f = record { functions = functions_step r p ts k f h i.functions; systems = i.systems; names = i.names; differ = i.differ; check = i.check }
   command_whole name.System r p ts k h i f =
-      let n = next_system stand on r.scope end.scope f.grows (λ q t. sorts r.scope q t k.scope) r.system_names p (headed ts) h
-      (own_untaken r.variables (variables_of_system r.scope r.system_names (headed ts)) (with_command name.System r p ts) refl f) in
+      let n = next_system stand on r.scope end.scope f.grows (λ q t. sorts r.scope q t k.scope) r.system_names r.systems p (headed ts) h
+      (command_untaken r.variables (variables_of_system r.scope (headed ts)) (with_command name.System r p ts) refl f) in
       record {
         functions = i.functions;
-        systems = all_append (IsSystemSoFar end.scope) r.systems (read_systems r.scope r.system_names ts) i.systems (subst (AllByRecursion (IsSystemSoFar end.scope)) (sym n.only) (n.is, tt));
-        names = map_append (λ (x : SystemReading). x.name) r.systems (read_systems r.scope r.system_names ts)
-            ∙ ap (λ ns. ns ++ map (λ (x : SystemReading). x.name) (read_systems r.scope r.system_names ts)) i.names
-            ∙ ap (λ xs. r.system_names ++ map (λ (x : SystemReading). x.name) xs) n.only ∙ sym n.names_then;
+        systems = subst (AllByRecursion (IsSystemSoFar end.scope)) (sym n.added) (all_append (IsSystemSoFar end.scope) r.systems (n.system ∷ []) i.systems (n.is, tt));
+        names = ap (map (λ (x : SystemReading). x.name)) n.added ∙ map_append (λ (x : SystemReading). x.name) r.systems (n.system ∷ [])
+            ∙ ap (λ ns. ns ++ n.system.name ∷ []) i.names ∙ sym n.names_then;
         differ = ap (are_fresh []) n.names_then ∙ fresh_end r.system_names n.system.name i.differ n.fresh;
         check = i.check;
       }
@@ -228,7 +227,7 @@ module _ (sorts : SortsAreKnown) (terms : TermsAreSorted) (stand : TermsStand) (
       let e = none_in (check_failures r.scope p ts) _ h in
       let new : r.checked ≡ false = no_failure r.checked 13 p e.1 in
       let n = read_check stand on r.scope end.scope f.grows (λ q t. sorts r.scope q t k.scope) p (headed ts) e.0
-      (own_untaken r.variables (variables_in r.scope (headed ts)) (with_command name.Check r p ts) refl f) in
+      (command_untaken r.variables (variables_in r.scope (headed ts)) (with_command name.Check r p ts) refl f) in
       let only : first_check r.check r.checked (check_of r.scope p ts) ≡ Some n.check = ap (λ b. first_check r.check b (check_of r.scope p ts)) new ∙ n.read in
       record {
         functions = i.functions;
@@ -252,8 +251,8 @@ module _ (sorts : SortsAreKnown) (terms : TermsAreSorted) (stand : TermsStand) (
 pub nothing_so_far : IsScopeSoFar no_scope
 nothing_so_far = record {
   scope = record { enumerations = tt; sorts = tt; functions = λ n f h. absurd (none-some f h) };
-  sorts = record { differ = refl; own = tt };
-  terms = record { differ = refl; own = tt };
+  sorts = record { differ = refl; free = tt };
+  terms = record { differ = refl; free = tt };
 }
 
 pub nothing_whole : (s : ScopeState) → IsSoFar s nothing_read

@@ -1,5 +1,5 @@
 -- Lists of variables of which no test fails: each variable has a sort of the scope, and their names differ.
-use Rattle.std.proofs.Common.{◌≡◌, ℕ, true, false, cond, is_none, IfOk, Option, None, Some, Result, Ok, Err, List, [], ◌∷◌, ◌++◌, map, refl, sym, ap, ◌∙◌, subst, append_assoc}
+use Rattle.std.proofs.Common.{◌≡◌, ℕ, true, false, cond, is_none, is_some, IfOk, Option, None, Some, Result, Ok, Err, List, [], ◌∷◌, ◌++◌, map, refl, sym, ap, ◌∙◌, subst, append_assoc}
 use Rattle.std.specs.List.{AllByRecursion}
 use Rattle.std.proofs.lemmas.Option.{none-some, same_Some}
 use Rattle.text_core.specs.declared.place.Place.{Place}
@@ -25,12 +25,12 @@ use Rattle.moxi_scripts.specs.declared.parts.Key.TheVariants as keys
 use Rattle.moxi_scripts.specs.declared.parts.Declared.{Declared}
 use Rattle.moxi_scripts.specs.declared.parts.Lists.{Lists}
 use Rattle.moxi_scripts.specs.Declarations.{is_nil}
-use Rattle.moxi_scripts.specs.Entries.{entries_failures, entries_of, entry_failures, entry_in, entry_of, entry_tests, known_sort, locals_among, names_with, sort_failures, twice_failures, twice_tests, variable_of, variables_of}
-use Rattle.moxi_scripts.specs.Lists.{all_entries, listed_entries, listed_failures, lists_failures, lists_in, value_at, entries_tests, entries_among}
+use Rattle.moxi_scripts.specs.Entries.{are_entries, entries_failures, entries_of, entry_failures, entry_in, entry_of, entry_tests, known_sort, locals_among, names_with, sort_failures, twice_failures, twice_tests, variable_of, variables_of}
+use Rattle.moxi_scripts.specs.Lists.{all_entries, are_shaped, has_entries, list_shape, listed_entries, listed_failures, lists_failures, lists_in, value_at, entries_tests, entries_among}
 use Rattle.moxi_scripts.specs.Shapes.{NamedForm, misshapen, named, parts_of}
 use Rattle.moxi_systems.specs.Whole.{AreVariables}
 use Rattle.moxi_scripts.proofs.FunctionLaws.{none_in, some_fails}
-use Rattle.moxi_systems.specs.laws.WholeNames.{absent_is, fresh_more}
+use Rattle.moxi_systems.specs.laws.WholeNames.{absent_is, and_both, fresh_more}
 use Rattle.moxi_systems.specs.laws.WholeParts.{all_append, all_map, no_failure, not_false}
 
 -- a variable that has a sort of a scope with these enumerations
@@ -94,12 +94,12 @@ twice_fresh names (d ∷ ds) h =
     fresh_more names d.name (declared_names ds) (absent_is names d.name new)
     (subst (λ b. are_fresh (cond b (names ++ d.name ∷ []) names) (declared_names ds) ≡ true) new (twice_fresh (names_with names d.name) ds e.1))
 
-pub variables_whole : (s : ScopeState) (ds : List Declared) → AreKnown s.enumerations ds → twice_failures [] ds ≡ [] → AllByRecursion (λ (d : Declared). is_term_name s d.name ≡ false) ds
+pub variables_whole : (s : ScopeState) (ds : List Declared) → AreKnown s.enumerations ds → are_fresh [] (declared_names ds) ≡ true → AllByRecursion (λ (d : Declared). is_term_name s d.name ≡ false) ds
     → AreVariables s (variables_of ds)
-variables_whole s ds k h own = record {
+variables_whole s ds k h free = record {
   names = record {
-    differ = ap (are_fresh []) (names_same s.enumerations ds k) ∙ twice_fresh [] ds h;
-    own = subst (AllByRecursion (λ (name : List ℕ). is_term_name s name ≡ false)) (sym (names_same s.enumerations ds k)) (all_map (λ (d : Declared). d.name) (λ (name : List ℕ). is_term_name s name ≡ false) ds own);
+    differ = ap (are_fresh []) (names_same s.enumerations ds k) ∙ h;
+    free = subst (AllByRecursion (λ (name : List ℕ). is_term_name s name ≡ false)) (sym (names_same s.enumerations ds k)) (all_map (λ (d : Declared). d.name) (λ (name : List ℕ). is_term_name s name ≡ false) ds free);
   };
   sorts = sorts_known s.enumerations ds k;
 }
@@ -112,6 +112,12 @@ pub record AreKnownLists (es : List Enumeration) (l : Lists) : Type 0 where
   pub inputs_whole : l.inputs.whole ≡ true
   pub outputs_whole : l.outputs.whole ≡ true
   pub locals_whole : l.locals.whole ≡ true
+  pub inputs_shaped : l.inputs.shaped ≡ true
+  pub outputs_shaped : l.outputs.shaped ≡ true
+  pub locals_shaped : l.locals.shaped ≡ true
+
+pub all_shaped : (es : List Enumeration) (l : Lists) → AreKnownLists es l → are_shaped l ≡ true
+all_shaped es l k = and_both l.inputs.shaped _ k.inputs_shaped (and_both l.outputs.shaped l.locals.shaped k.outputs_shaped k.locals_shaped)
 
 pub all_known : (es : List Enumeration) (l : Lists) → AreKnownLists es l → AreKnown es (all_entries l)
 all_known es l k = all_append (IsKnown es) (l.inputs.entries ++ l.outputs.entries) l.locals.entries (all_append (IsKnown es) l.inputs.entries l.outputs.entries k.inputs k.outputs) k.locals
@@ -144,6 +150,24 @@ module _ (s : ScopeState) (sorts : (around : Place) (t : form.Tree) → IfOk (so
       by_parts None h = tt
       by_parts (Some ts) h = entries_known (place_in t) ts h
 
+  entries_shaped : (q : Place) (ts : form.Trees) → entries_failures s q ts ≡ [] → are_entries ts ≡ true
+  entries_shaped q form.no_trees h = refl
+  entries_shaped q (form.tree t ts) h =
+      let e = none_in (entry_failures s q t) (entries_failures s q ts) h in
+      and_both (is_some (named t)) (are_entries ts) (by_named (named t) e.0) (entries_shaped q ts e.1)
+    where
+      by_named : (o : Option NamedForm) → entry_tests s q t o ≡ [] → is_some o ≡ true
+      by_named None h = some_fails (misshapen q t) [] h
+      by_named (Some n) h = refl
+
+  list_shaped : (o : Option form.Tree) → listed_failures s o ≡ [] → list_shape o ≡ true
+  list_shaped None h = refl
+  list_shaped (Some t) h = by_parts (parts_of t) h
+    where
+      by_parts : (o : Option form.Trees) → entries_tests s t o ≡ [] → has_entries o ≡ true
+      by_parts None h = refl
+      by_parts (Some ts) h = entries_shaped (place_in t) ts h
+
   pub lists_known : (command : Command) (ts : form.Trees) → lists_failures s command ts ≡ [] → AreKnownLists s.enumerations (lists_in s command ts)
   lists_known command ts h =
       let i = listed_failures s (value_at command keys.Input ts) in
@@ -158,4 +182,7 @@ module _ (s : ScopeState) (sorts : (around : Place) (t : form.Tree) → IfOk (so
         inputs_whole = ap is_nil f.0;
         outputs_whole = ap is_nil f.1;
         locals_whole = ap is_nil e.1;
+        inputs_shaped = list_shaped (value_at command keys.Input ts) f.0;
+        outputs_shaped = list_shaped (value_at command keys.Output ts) f.1;
+        locals_shaped = list_shaped (value_at command keys.Local ts) e.1;
       }

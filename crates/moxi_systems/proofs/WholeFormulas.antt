@@ -60,12 +60,12 @@ not_true : (vs : List Variable) (s : ScopeState) → AllByRecursion (λ (name : 
 not_true [] s a = tt
 not_true (v ∷ vs) s a =
     let n = new_term s v.name a.0 in
-    let p = or_parts _ (bytes_eq v.name (codes "true") || bytes_eq v.name (codes "false")) n.own in
+    let p = or_parts _ (bytes_eq v.name (codes "true") || bytes_eq v.name (codes "false")) n.free in
     let q = or_parts (bytes_eq v.name (codes "true")) (bytes_eq v.name (codes "false")) p.1 in
     (other_way v.name (codes "true") q.0, not_true vs s a.1)
 
 pub true_stands : (s : ScopeState) (vs : List Variable) (primes : Primes) → AreVariables s vs → IsFormula s vs primes true_term
-true_stands s vs primes v = (refl, by_first (first_of 0 (locals_of vs) (codes "true")) (no_first 0 vs (codes "true") (not_true vs s v.names.own)))
+true_stands s vs primes v = (refl, by_first (first_of 0 (locals_of vs) (codes "true")) (no_first 0 vs (codes "true") (not_true vs s v.names.free)))
   where
     by_first : (o : Option Found) → o ≡ None → or_else (let x : Option Meaning = None in x) (or_else (elim o [ None ↦ let x : Option Meaning = None in x | Some f ↦ Some (meaning.Variable f.number f.sort) ]) (Some (meaning.Value (datum.Truth true) Truth)))
         ≡ Some (meaning.Value (datum.Truth true) Truth)

@@ -38,17 +38,18 @@ module _ (sorts : SortsAreKnown) (terms : TermsAreSorted) (stand : TermsStand) (
   script_whole ts end c there h l y =
       let r = reading_of ts in
       let names = r.system_names in
-      let p = none_in ((links.taken_failures r.scope r.term_names r.variables ++ links.systems_failures r.systems names r.systems) ++ links.check_failures r.systems names r.check) _ l in
-      let q = none_in (links.taken_failures r.scope r.term_names r.variables ++ links.systems_failures r.systems names r.systems) _ p.0 in
+      let p = none_in ((links.taken_failures r.scope r.term_names r.variables ++ links.all_systems_failures r) ++ links.check_failures r.systems names r.check) _ l in
+      let q = none_in (links.taken_failures r.scope r.term_names r.variables ++ links.all_systems_failures r) _ p.0 in
       let t = none_in (links.taken_failures r.scope r.term_names r.variables) _ q.0 in
+      let v = none_in (links.systems_failures r.systems names r.systems) (links.systems_failures r.systems names r.repeated) t.1 in
       let scope = forms_go sorts terms nothing_read ts nothing_so_far h in
       let i = forms_whole sorts terms stand on r (untaken r.scope r.term_names r.variables t.0) nothing_read ts nothing_so_far h refl (nothing_whole r.scope) in
       record {
         scope = record { scope = scope.so_far.scope; sorts = scope.so_far.sorts; terms = scope.so_far.terms; functions = i.functions };
         systems = record {
           names = ap (are_fresh []) (system_names_same r.scope r.systems names i.names i.systems r.systems ∙ i.names) ∙ i.differ;
-          systems = systems_whole r.scope r.systems names i.names i.systems r.systems i.systems t.1;
-          acyclic = none_contains_itself names r.systems (all_there r.scope r i r.systems t.1) y;
+          systems = systems_whole r.scope r.systems names i.names i.systems r.systems i.systems v.0;
+          acyclic = none_contains_itself names r.systems (all_there r.scope r i r.systems v.0) y;
         };
         check = check_whole r.scope r.systems names i.names i.systems c (i.check c there) (subst (λ o. links.check_failures r.systems names o ≡ []) there q.1);
       }

@@ -175,16 +175,16 @@ module _ (s : ScopeState) (rs : List SystemReading) (names : List (List ℕ)) (s
       let es = s.enumerations in
       let io = l.inputs.entries ++ l.outputs.entries in
       let known = all_append _ l.inputs.entries l.outputs.entries i.known.inputs i.known.outputs in
-      let fits = by_whole (l.inputs.whole) (l.outputs.whole) i.known.inputs_whole i.known.outputs_whole h in
+      let fits = by_shape (l.inputs.shaped) (l.outputs.shaped) i.known.inputs_shaped i.known.outputs_shaped h in
       let p = by_count (eqb (length u.actuals) (length l.inputs.entries + length l.outputs.entries)) refl fits in
       numbers_sorts es ds u.actuals k a
       ∙ actuals_sorts es ds l [] io 0 u.actuals k known a refl refl ((let m : length u.actuals ≡ length l.inputs.entries + length l.outputs.entries = grind (arith, nat_tests, p.0) in m) ∙ sym (length-append l.inputs.entries l.outputs.entries)) p.1
       ∙ sym (sorts_same es io known) ∙ ap (λ vs. map Some (sorts_of vs)) (variables_append l.inputs.entries l.outputs.entries)
     where
-      by_whole : (v w : Bool) → v ≡ true → w ≡ true → cond (v && w) (links.fit_failures u x.lists) [] ≡ [] → links.fit_failures u x.lists ≡ []
-      by_whole true true a b h = h
-      by_whole true false a b h = absurd (cc)
-      by_whole false w a b h = absurd (cc)
+      by_shape : (v w : Bool) → v ≡ true → w ≡ true → cond (v && w) (links.fit_failures u x.lists) [] ≡ [] → links.fit_failures u x.lists ≡ []
+      by_shape true true a b h = h
+      by_shape true false a b h = absurd (cc)
+      by_shape false w a b h = absurd (cc)
 
       by_count : (b : Bool) → eqb (length u.actuals) (length x.lists.inputs.entries + length x.lists.outputs.entries) ≡ b → cond b (links.actuals_clash x.lists 0 u.actuals) (refusal 12 u.list ∷ []) ≡ []
           → (eqb (length u.actuals) (length x.lists.inputs.entries + length x.lists.outputs.entries) ≡ true) × (links.actuals_clash x.lists 0 u.actuals ≡ [])

@@ -56,11 +56,11 @@ rank g k = count (λ m. leads g (suc (length g)) k m) (length g)
 rank_falls : (g : NodeLists) → is_graph g ≡ true → NeverReturns g → (k r : ℕ) → In (next_of g k) r → rank g r < rank g k
 unfolding rank
 rank_falls g a never k r i =
-    count_less (λ m. leads g (suc (length g)) k m) (λ m. leads g (suc (length g)) r m) (length g) r further (all_next g (length g) g k r a i)
+    count_less (λ m. leads g (suc (length g)) k m) (λ m. leads g (suc (length g)) r m) (length g) r leads_more (all_next g (length g) g k r a i)
     (leads_along g (suc (length g)) k r r [] (i, refl) (omega arith)) (never (suc (length g)) r)
   where
-    further : (m : ℕ) → leads g (suc (length g)) r m ≡ true → leads g (suc (length g)) k m ≡ true
-    further m h =
+    leads_more : (m : ℕ) → leads g (suc (length g)) r m ≡ true → leads g (suc (length g)) k m ≡ true
+    leads_more m h =
         let w = walk_of g (suc (length g)) r m h in
         leads_short g a (suc (length (w.0 ∷ w.1))) k m (leads_along g (suc (length (w.0 ∷ w.1))) k m r (w.0 ∷ w.1) (i, w.2) (omega arith))
 

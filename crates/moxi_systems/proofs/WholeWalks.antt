@@ -64,9 +64,9 @@ module _ (g : NodeLists) where
   leads_along (suc n) k m r [] w h = some_any (λ x. eqb x m || leads g n x m) (next_of g k) r w.0 (or_first (eqb r m) (leads g n r m) (equal_back r m w.1))
   leads_along (suc n) k m r (s ∷ ss) w h = some_any (λ x. eqb x m || leads g n x m) (next_of g k) r w.0 (or_second (eqb r m) (leads g n r m) (leads_along n r m s ss w.1 (omega arith)))
 
-  pub one_further : (k m r : ℕ) (rs : List ℕ) → Walk g k rs m → In (next_of g m) r → Walk g k (rs ++ r ∷ []) r
-  one_further k m r [] w i = (subst (λ n. In (next_of g n) r) (sym w) i, refl)
-  one_further k m r (s ∷ ss) w i = (w.0, one_further s m r ss w.1 i)
+  pub one_more_step : (k m r : ℕ) (rs : List ℕ) → Walk g k rs m → In (next_of g m) r → Walk g k (rs ++ r ∷ []) r
+  one_more_step k m r [] w i = (subst (λ n. In (next_of g n) r) (sym w) i, refl)
+  one_more_step k m r (s ∷ ss) w i = (w.0, one_more_step s m r ss w.1 i)
 
   -- a walk on which no node stands twice
   record IsShort (k m : ℕ) : Type 0 where
@@ -141,4 +141,4 @@ module _ (g : NodeLists) where
     where
       around : (r : ℕ) (rs : List ℕ) → Walk g k (r ∷ rs) k → leads g (suc (suc (length rs))) r r ≡ true
       around r [] w = leads_along 2 r r r [] (subst (λ n. In (next_of g n) r) (sym w.1) w.0, refl) (omega arith)
-      around r (s ∷ ss) w = leads_along (suc (suc (length (s ∷ ss)))) r r s (ss ++ r ∷ []) (one_further r k r (s ∷ ss) w.1 w.0) (longer ss r)
+      around r (s ∷ ss) w = leads_along (suc (suc (length (s ∷ ss)))) r r s (ss ++ r ∷ []) (one_more_step r k r (s ∷ ss) w.1 w.0) (longer ss r)

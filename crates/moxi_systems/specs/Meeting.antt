@@ -32,7 +32,7 @@ mutual
 
 -- what a subsystem's variables have: its inputs and outputs what the actuals have, its locals their own values
 abbrev pub within : List ℕ → Values → Values → Values
-within actuals outer own v = if nat_lt v (length actuals) then outer (slice_index_or actuals v 0) else own (v - length actuals)
+within actuals outer free v = if nat_lt v (length actuals) then outer (slice_index_or actuals v 0) else free (v - length actuals)
 
 abbrev pub is_true : PlainScript → Values → Values → Tree → Bool
 is_true s now later t = truth_of (term_value (calls_in s.scope) now later [] t)
@@ -40,9 +40,9 @@ is_true s now later t = truth_of (term_value (calls_in s.scope) now later [] t)
 -- a formula of each system, here and in all subsystems, between the steps j and k
 abbrev mutual
   pub one_holds : PlainScript → (PlainSystem → Tree) → ℕ → ℕ → Subsystem → Values → Values → Hidden → Bool
-  one_holds s part j k b now later (hidden own inner) =
-      is_true s (within b.actuals now (own j)) (within b.actuals later (own k)) (part (system_at s.systems b.system))
-      && each_holds s part j k (system_at s.systems b.system).subsystems (within b.actuals now (own j)) (within b.actuals later (own k)) inner
+  one_holds s part j k b now later (hidden free inner) =
+      is_true s (within b.actuals now (free j)) (within b.actuals later (free k)) (part (system_at s.systems b.system))
+      && each_holds s part j k (system_at s.systems b.system).subsystems (within b.actuals now (free j)) (within b.actuals later (free k)) inner
 
   pub each_holds : PlainScript → (PlainSystem → Tree) → ℕ → ℕ → List Subsystem → Values → Values → Hiddens → Bool
   each_holds s part j k [] now later hs = true

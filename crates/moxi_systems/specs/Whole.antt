@@ -36,7 +36,7 @@ is_fixed_term name = is_operator name || (bytes_eq name (codes "true") || bytes_
 -- names that differ, none of which is fixed
 pub record AreNames (is_fixed : List ℕ → Bool) (names : List (List ℕ)) : Type 0 where
   pub differ : are_fresh [] names ≡ true
-  pub own : AllByRecursion (λ (name : List ℕ). is_fixed name ≡ false) names
+  pub free : AllByRecursion (λ (name : List ℕ). is_fixed name ≡ false) names
 
 -- VARIABLES AND TERMS
 

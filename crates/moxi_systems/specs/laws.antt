@@ -2,3 +2,4 @@
 pub mod WholeNames
 pub mod WholeParts
 pub mod WholeScopes
+pub mod WholeText

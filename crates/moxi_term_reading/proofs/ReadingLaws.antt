@@ -1,5 +1,6 @@
 -- What is read by parts.
-use Rattle.std.proofs.Common.{◌≡◌, ℕ, suc, ◌+◌, ◌<◌, ◌≤◌, List, [], ◌∷◌, ◌++◌, map, length, take, drop, zero, Option, None, Some, Result, Ok, Err, IfOk, OnOk, Vec, Global, refl, sym, ap, ◌∙◌, arith, rules, append_assoc, drop-cons, add-one}
+use Rattle.std.proofs.Common.{◌≡◌, ℕ, suc, ◌+◌, ◌<◌, List, [], ◌∷◌, ◌++◌, map, length, drop, Option, None, Some, Result, Ok, Err, IfOk, OnOk, Vec, Global, refl, sym, ap, ◌∙◌, arith, rules, append_assoc, drop-cons, add-one}
+use Rattle.std.proofs.lemmas.List.{length-append}
 use Rattle.std.specs.Prelude.{slice_index_or}
 use Rattle.text_core.specs.declared.place.Place.{Place}
 use Rattle.text_core.specs.declared.place.Refusal.{Refusal}
@@ -11,7 +12,7 @@ use Rattle.moxi_terms.specs.declared.data.Sort.{Sort}
 use Rattle.moxi_sorts.specs.declared.locals.Local.{Local}
 use Rattle.moxi_terms.specs.declared.term.Term.{Term}
 use Rattle.moxi_terms.specs.View.{plain}
-use Rattle.moxi_sorts.specs.Failures.{sooner, least}
+use Rattle.moxi_sorts.specs.Failures.{minimum, least}
 use Rattle.moxi_term_reading.specs.Reading.{Arguments, joined, no_arguments, both_arguments, names_of, unless_failed, bindings_tests}
 use Rattle.std.proofs.lemmas.Option.{same_Some, none-some}
 use Rattle.moxi_sorts.specs.Forms.{pair_of}
@@ -20,13 +21,13 @@ use Rattle.moxi_term_reading.specs.Answer.{unless_some, locals_of}
 use Rattle.moxi_sorts.specs.laws.Least.{least_append}
 
 -- tests one after another
-pub tests_both : (f g : Option Refusal) (xs ys : List Refusal) → f ≡ least xs → g ≡ least ys → sooner f g ≡ least (xs ++ ys)
-tests_both f g xs ys e h = ap (λ f. sooner f g) e ∙ ap (sooner (least xs)) h ∙ sym (least_append xs ys)
+pub tests_both : (f g : Option Refusal) (xs ys : List Refusal) → f ≡ least xs → g ≡ least ys → minimum f g ≡ least (xs ++ ys)
+tests_both f g xs ys e h = ap (λ f. minimum f g) e ∙ ap (minimum (least xs)) h ∙ sym (least_append xs ys)
 
 pub unless_least : (fs : List Refusal) (s : Option Sort) (f : Option Refusal) → f ≡ least fs → unless_some f s ≡ unless_failed fs s
 unless_least fs s f e = ap (λ f. unless_some f s) e ∙ go fs
   where
-    some_least : (x : Refusal) (o : Option Refusal) → unless_some (sooner (Some x) o) s ≡ None
+    some_least : (x : Refusal) (o : Option Refusal) → unless_some (minimum (Some x) o) s ≡ None
     some_least x None = refl
     some_least x (Some y) = refl
 
@@ -92,13 +93,10 @@ pub on_ok_map : {A E : Type 0} (P Q : Type 0) (r : Result A E) → (P → Q) →
 on_ok_map P Q (Ok x) f h = f h
 on_ok_map P Q (Err e) f h = tt
 
-pub locals_taken : (vs : List Variable) (i : ℕ) → i ≤ length vs → length (locals_of (take i vs)) ≡ i
-locals_taken vs zero h = refl
-locals_taken [] (suc i) h = absurd (omega arith)
-locals_taken (v ∷ vs) (suc i) h = ap suc (locals_taken vs i (omega arith))
+locals_long : (vs : List Variable) → length (locals_of vs) ≡ length vs
+locals_long [] = refl
+locals_long (v ∷ vs) = ap suc (locals_long vs)
 
-pub locals_more : (vs : List Variable) (i : ℕ) (v : Variable) → i < length vs → v ≡ slice_index_or vs i v → locals_of (take (i + 1) vs) ≡ locals_of (take i vs) ++ record { name = v.name; sort = Some v.sort } ∷ []
-locals_more [] i v h e = absurd (omega arith)
-locals_more (x ∷ xs) zero v h e = ap (λ k. locals_of (take k (x ∷ xs))) (let z : 0 + 1 ≡ 1 = omega arith in z) ∙ ap (λ (w : Variable). record { name = w.name; sort = Some w.sort } ∷ []) (sym e)
-locals_more (x ∷ xs) (suc i) v h e =
-    ap (λ k. locals_of (take k (x ∷ xs))) (let z : suc i + 1 ≡ suc (i + 1) = omega arith in z) ∙ ap (λ ls. record { name = x.name; sort = Some x.sort } ∷ ls) (locals_more xs i v (omega arith) e)
+-- there is room for one of the variables that are left
+pub room_left : (ls : List Local) (xs vs : List Variable) (v : Variable) (rest : List Variable) → ls ++ locals_of xs ≡ locals_of vs → xs ≡ v ∷ rest → length vs < 4294967296 → length ls < 4294967295
+room_left ls xs vs v rest e f h = omega (arith, ap length e, length-append ls (locals_of xs), locals_long xs, locals_long vs, ap length f, h)

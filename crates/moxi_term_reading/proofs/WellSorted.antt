@@ -39,12 +39,12 @@ use Rattle.moxi_term_reading.specs.declared.outcome.ReadTerm.{ReadTerm}
 use Rattle.moxi_term_reading.specs.Answer.{IsRead}
 use Rattle.moxi_term_reading.specs.WellSorted.{HaveKnownSorts, IsTerm, IsWellSorted, IsSortedTerm}
 use Rattle.moxi_sorts.specs.laws.Least.{least_none}
-use Rattle.moxi_term_reading.specs.laws.SortedParts.{some_fails, none_in, stays, FoundIn, first_found, last_found, known_append, names_long, constant_is, read_is_word, tests_hold, call_fits}
+use Rattle.moxi_term_reading.specs.laws.SortedParts.{some_fails, none_in, stays, FoundIn, first_found, last_found, known_append, all_have_sorts, names_long, constant_is, read_is_word, tests_hold, call_fits}
 
 module _ (c : Context) (vars : List Sort) (of_vars : HaveKnownSorts c.variables vars) where
-  own_sorted : (ss : List Sort) (t : Tree) (s : Option Sort) (fs : List Refusal) (sort : Sort) → fs ≡ [] → s ≡ Some sort
-      → HasSort c.scope.enumerations c.scope.functions vars ss t sort → (c.primes ≡ Refused → IsUnprimed t) → IsWellSorted c vars ss (reading.own_tests t s fs)
-  own_sorted ss t s fs sort h e g u = record { sort = sort; known = stays fs s h ∙ e; term = record { sorted = g; unprimed = u } }
+  checked_sorted : (ss : List Sort) (t : Tree) (s : Option Sort) (fs : List Refusal) (sort : Sort) → fs ≡ [] → s ≡ Some sort
+      → HasSort c.scope.enumerations c.scope.functions vars ss t sort → (c.primes ≡ Refused → IsUnprimed t) → IsWellSorted c vars ss (reading.checked_term t s fs)
+  checked_sorted ss t s fs sort h e g u = record { sort = sort; known = stays fs s h ∙ e; term = record { sorted = g; unprimed = u } }
 
   never : (ss : List Sort) (f : Refusal) (fs : List Refusal) (r : Reading) → f ∷ fs ≡ [] → IsWellSorted c vars ss r
   never ss f fs r h = absurd (some_fails f fs h)
@@ -116,11 +116,11 @@ module _ (c : Context) (vars : List Sort) (of_vars : HaveKnownSorts c.variables 
   named_sorted : (ss : List Sort) (p : Place) (primed : Bool) (m : Option Meaning) → Fits ss m → (reading.named_reading c.primes p primed m).failures ≡ []
       → IsWellSorted c vars ss (reading.named_reading c.primes p primed m)
   named_sorted ss p primed None f h = never ss (refusal 4 p) [] _ h
-  named_sorted ss p primed (Some (meaning.Bound i s)) f h = own_sorted ss (bound i) s _ f.0 h f.1 f.2 (λ e. tt)
-  named_sorted ss p primed (Some (meaning.Variable v s)) f h = own_sorted ss (variable v primed) s _ f.0 h f.1 f.2 (no_prime c.primes primed p h)
-  named_sorted ss p primed (Some (meaning.Value d s)) f h = own_sorted ss (constant d) (Some s) _ s h refl f (λ e. tt)
+  named_sorted ss p primed (Some (meaning.Bound i s)) f h = checked_sorted ss (bound i) s _ f.0 h f.1 f.2 (λ e. tt)
+  named_sorted ss p primed (Some (meaning.Variable v s)) f h = checked_sorted ss (variable v primed) s _ f.0 h f.1 f.2 (no_prime c.primes primed p h)
+  named_sorted ss p primed (Some (meaning.Value d s)) f h = checked_sorted ss (constant d) (Some s) _ s h refl f (λ e. tt)
   named_sorted ss p primed (Some (meaning.Call n s)) f h =
-      own_sorted ss (call n no_trees) (Some s) _ s h refl (f.0, f.1, subst (HaveSorts c.scope.enumerations c.scope.functions vars ss no_trees) (sym f.2) tt, f.3) (λ e. tt)
+      checked_sorted ss (call n no_trees) (Some s) _ s h refl (f.0, f.1, subst (HaveSorts c.scope.enumerations c.scope.functions vars ss no_trees) (sym f.2) tt, f.3) (λ e. tt)
 
   word_sorted : (ss : List Sort) (p : Place) (w base : ℕ) (digits : List ℕ) (fs : List Refusal) → (reading.word_reading p (read_word w base digits) fs).failures ≡ []
       → IsWellSorted c vars ss (reading.word_reading p (read_word w base digits) fs)
@@ -128,7 +128,7 @@ module _ (c : Context) (vars : List Sort) (of_vars : HaveKnownSorts c.variables 
     where
       by_word : (o : Option BitVector) → read_word w base digits ≡ o → (reading.word_reading p o fs).failures ≡ [] → IsWellSorted c vars ss (reading.word_reading p o fs)
       by_word None e h = never ss (refusal 8 p) [] _ h
-      by_word (Some v) e h = own_sorted ss (constant (datum.Bits v)) (Some (Bits v.width)) fs (Bits v.width) h refl (refl, read_is_word w base digits v e) (λ e. tt)
+      by_word (Some v) e h = checked_sorted ss (constant (datum.Bits v)) (Some (Bits v.width)) fs (Bits v.width) h refl (refl, read_is_word w base digits v e) (λ e. tt)
 
   atom_sorted : (ls : List Local) (ss : List Sort) (p : Place) (a : Atom) → HaveKnownSorts ls ss → (reading.atom_reading c ls p a).failures ≡ []
       → IsWellSorted c vars ss (reading.atom_reading c ls p a)
@@ -237,18 +237,18 @@ module _ (c : Context) (vars : List Sort) (of_vars : HaveKnownSorts c.variables 
       let w = g f in
       record { sorts = w.sort ∷ []; known = (w.known, tt); sorted = (w.term.sorted, tt); unprimed = λ e. (w.term.unprimed e, tt) }
 
-  let_sorted : (ls : List Local) (ss : List Sort) (own : List Refusal) (x : Bindings) (r : Reading) → HaveKnownSorts ls ss → (x.shape ≡ [] → x.failures ≡ [] → AreBoundTo ss x)
-      → ((ts : List Sort) → HaveKnownSorts (ls ++ x.locals) ts → r.failures ≡ [] → IsWellSorted c vars ts r) → (reading.let_reading own x r).failures ≡ []
-      → IsWellSorted c vars ss (reading.let_reading own x r)
-  let_sorted ls ss own x r k g b e =
-      let e1 = none_in own _ e in
+  let_sorted : (ls : List Local) (ss : List Sort) (tests : List Refusal) (x : Bindings) (r : Reading) → HaveKnownSorts ls ss → (x.shape ≡ [] → x.failures ≡ [] → AreBoundTo ss x)
+      → ((ts : List Sort) → HaveKnownSorts (ls ++ x.locals) ts → r.failures ≡ [] → IsWellSorted c vars ts r) → (reading.let_reading tests x r).failures ≡ []
+      → IsWellSorted c vars ss (reading.let_reading tests x r)
+  let_sorted ls ss tests x r k g b e =
+      let e1 = none_in tests _ e in
       let e2 = none_in x.shape _ e1.1 in
       let e3 = none_in x.failures r.failures e2.1 in
       let a = g e2.0 e3.0 in
       let w = b (ss ++ a.sorts) (known_append ls x.locals ss a.sorts k a.known) e3.1 in
       record {
         sort = w.sort;
-        known = stays _ r.sort (ap (λ fs. fs ++ x.shape) e1.0 ∙ e2.0) ∙ w.known;
+        known = stays _ _ (ap (λ fs. fs ++ x.shape) e1.0 ∙ e2.0) ∙ ap (λ b. cond b r.sort None) (all_have_sorts x.locals a.sorts a.known) ∙ w.known;
         term = record { sorted = (a.sorts, names_long x.locals a.sorts a.known, a.sorted, w.term.sorted); unprimed = λ e. (a.unprimed e, w.term.unprimed e) };
       }
 

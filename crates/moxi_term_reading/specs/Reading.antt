@@ -1,16 +1,17 @@
 -- What a form spells as a term (SMT-LIB 2.6, section 3.6; primes as in MoXI, SPIN 2024): the term, its sort, and the tests that
 -- fail. A test that rests on a part without a sort holds.
-use Rattle.std.specs.Prelude.{◌==◌, ◌*◌, ℕ, Bool, true, false, ◌&&◌, if◌then◌else◌, Option, None, Some, Result, Ok, Err, List, [], ◌∷◌, ◌++◌, length, codes}
+use Rattle.std.specs.Prelude.{◌==◌, ◌*◌, ℕ, Bool, true, false, ◌&&◌, if◌then◌else◌, Option, None, Some, is_some, Result, Ok, Err, List, [], ◌∷◌, ◌++◌, length, codes}
 use Rattle.std.specs.Option.{option_map}
 use Rattle.std.specs.List.{list_all}
 use Rattle.std.specs.Str.{bytes_eq}
+use Rattle.text_core.specs.declared.place.Kind.{Kind}
 use Rattle.text_core.specs.declared.place.Place.{Place}
 use Rattle.text_core.specs.declared.place.Refusal.{Refusal}
 use Rattle.word_core.specs.Words.{BitVector}
 use Rattle.word_core.specs.Digits.{read_word}
 use Rattle.moxi_sexpr.specs.declared.form.Atom.{Atom}
 use Rattle.moxi_sexpr.specs.declared.form.Atom.TheVariants.{Symbol, Binary, Hex}
-use Rattle.moxi_sexpr.specs.Bytes.{is_digit}
+use Rattle.text_core.specs.Bytes.{is_digit}
 use Rattle.moxi_sexpr.specs.Lexing.{refusal}
 use Rattle.moxi_sexpr.specs.Tree as form
 use Rattle.moxi_terms.specs.declared.data.Sort.{Sort}
@@ -73,9 +74,9 @@ abbrev pub unless_failed : {A : Type 0} → List Refusal → Option A → Option
 unless_failed [] s = s
 unless_failed (f ∷ fs) s = None
 
--- a term whose own tests fail like this
-abbrev pub own_tests : Tree → Option Sort → List Refusal → Reading
-own_tests t s fs = record { term = t; sort = unless_failed fs s; failures = fs }
+-- a term of which these tests fail
+abbrev pub checked_term : Tree → Option Sort → List Refusal → Reading
+checked_term t s fs = record { term = t; sort = unless_failed fs s; failures = fs }
 
 -- a variable may be primed, where primes are allowed
 abbrev pub variable_primes : Primes → Bool → Place → List Refusal
@@ -84,15 +85,15 @@ variable_primes Refused primed p = prime_failures primed p
 
 abbrev pub named_reading : Primes → Place → Bool → Option Meaning → Reading
 named_reading primes p primed None = failed (refusal 4 p)
-named_reading primes p primed (Some (meaning.Bound i s)) = own_tests (bound i) s (prime_failures primed p)
-named_reading primes p primed (Some (meaning.Variable v s)) = own_tests (variable v primed) s (variable_primes primes primed p)
-named_reading primes p primed (Some (meaning.Value d s)) = own_tests (constant d) (Some s) (prime_failures primed p)
-named_reading primes p primed (Some (meaning.Call n s)) = own_tests (call n no_trees) (Some s) (prime_failures primed p)
+named_reading primes p primed (Some (meaning.Bound i s)) = checked_term (bound i) s (prime_failures primed p)
+named_reading primes p primed (Some (meaning.Variable v s)) = checked_term (variable v primed) s (variable_primes primes primed p)
+named_reading primes p primed (Some (meaning.Value d s)) = checked_term (constant d) (Some s) (prime_failures primed p)
+named_reading primes p primed (Some (meaning.Call n s)) = checked_term (call n no_trees) (Some s) (prime_failures primed p)
 
 -- a literal of a word, with the tests of its primes
 abbrev pub word_reading : Place → Option BitVector → List Refusal → Reading
 word_reading p None fs = failed (refusal 8 p)
-word_reading p (Some w) fs = own_tests (constant (datum.Bits w)) (Some (Bits w.width)) fs
+word_reading p (Some w) fs = checked_term (constant (datum.Bits w)) (Some (Bits w.width)) fs
 
 abbrev pub atom_reading : Context → List Local → Place → Atom → Reading
 atom_reading c bounds p (Symbol name primed) = named_reading c.primes p primed (meaning_of c bounds name)
@@ -207,13 +208,13 @@ argument r = record { terms = r.term ∷ []; sorts = option_map (λ s. s ∷ [])
 abbrev pub both_arguments : Arguments → Arguments → Arguments
 both_arguments x y = record { terms = x.terms ++ y.terms; sorts = joined x.sorts y.sorts; failures = x.failures ++ y.failures }
 
-abbrev pub sort_failures : Place → Result Sort ℕ → List Refusal
+abbrev pub sort_failures : Place → Result Sort Kind → List Refusal
 sort_failures p (Ok s) = []
-sort_failures p (Err n) = refusal n p ∷ []
+sort_failures p (Err k) = record { kind = k; place = p } ∷ []
 
-abbrev pub sort_result : Result Sort ℕ → Option Sort
+abbrev pub sort_result : Result Sort Kind → Option Sort
 sort_result (Ok s) = Some s
-sort_result (Err n) = None
+sort_result (Err k) = None
 
 -- the test of the sorts of an application at p, which rests on all arguments
 abbrev pub sorts_tested : List PlainFunction → Place → Head → Option (List Sort) → List Refusal
@@ -274,11 +275,19 @@ abbrev pub names_of : List Local → List (List ℕ)
 names_of [] = []
 names_of (x ∷ xs) = x.name ∷ names_of xs
 
+abbrev pub has_sort : Local → Bool
+has_sort x = is_some x.sort
+
+-- the sort of a `let`, which rests on each of its bound values as that of an application rests on each argument
+abbrev pub let_sort : List Local → Option Sort → Option Sort
+let_sort xs s = if list_all has_sort xs then s else None
+
+-- a `let` whose form fails these tests
 abbrev pub let_reading : List Refusal → Bindings → Reading → Reading
-let_reading own bs body = record {
+let_reading tests bs body = record {
   term = binding (names_of bs.locals) (trees_of bs.terms) body.term;
-  sort = unless_failed (own ++ bs.shape) body.sort;
-  failures = own ++ (bs.shape ++ (bs.failures ++ body.failures));
+  sort = unless_failed (tests ++ bs.shape) (let_sort bs.locals body.sort);
+  failures = tests ++ (bs.shape ++ (bs.failures ++ body.failures));
 }
 
 -- the place of a form counts with its failing tests

@@ -9,10 +9,10 @@ ghost use Rattle.moxi_terms.specs.Tree.{trees_of};
 ghost use Rattle.moxi_terms.specs.View.{plain};
 
 use crate::outcome::{ReadTerm, no_term, unless_failed};
-use moxi_sorts::{head_count_fits, head_sort, refusal, sooner};
+use moxi_sorts::{head_count_fits, head_sort, minimum, refusal};
 use moxi_terms::{Head, Scope, Sort, Term, Terms};
 use text_core::kinds::moxi;
-use text_core::{Kind, NoMemory, Place, Refusal};
+use text_core::{NoMemory, Place, Refusal};
 
 /// Terms one behind the other. `whole` tells whether each of them has a sort.
 #[derive(Drop)]
@@ -29,7 +29,7 @@ pub fn add_argument(r: ReadTerm, args: &mut ReadArguments) -> Result<(), NoMemor
 {
     put(&mut args.terms, r.term)?;
     args.whole = add_sort(&mut args.sorts, args.whole, r.sort)?;
-    args.failure = sooner(args.failure, r.failure);
+    args.failure = minimum(args.failure, r.failure);
     Ok(())
 }
 
@@ -85,7 +85,7 @@ fn unheaded(f: Refusal, failure: Option<Refusal>) -> ReadTerm
     ReadTerm {
         term: no_term(),
         sort: None,
-        failure: sooner(failure, Some(f)),
+        failure: minimum(failure, Some(f)),
     }
 }
 
@@ -100,11 +100,11 @@ fn headed(
 {
     let sort = applied_sort(scope, head, &args.sorts, args.whole);
     let test = application_test(scope, p, head, &args.sorts, args.whole, count(&args.terms));
-    let own = sooner(primes, test);
+    let tests = minimum(primes, test);
     ReadTerm {
         term: head_term(head, args.terms),
-        sort: unless_failed(own, sort),
-        failure: sooner(args.failure, own),
+        sort: unless_failed(tests, sort),
+        failure: minimum(args.failure, tests),
     }
 }
 
@@ -122,10 +122,7 @@ fn applied_sort(scope: &Scope, head: Head, sorts: &[Sort], whole: bool) -> Optio
     ensures { result ≡ applied_sort scope.now.functions head (kept whole sorts.now) }
 {
     if whole {
-        match head_sort(scope, head, sorts) {
-            Ok(sort) => Some(sort),
-            Err(_) => None,
-        }
+        head_sort(scope, head, sorts).ok()
     } else {
         None
     }
@@ -147,7 +144,7 @@ fn application_test(
     } else if whole {
         match head_sort(scope, head, sorts) {
             Ok(_) => None,
-            Err(number) => Some(refusal(Kind::M(number), p)),
+            Err(kind) => Some(refusal(kind, p)),
         }
     } else {
         None

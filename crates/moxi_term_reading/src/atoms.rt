@@ -9,14 +9,14 @@ ghost use Rattle.moxi_sorts.specs.Forms.{digits_now};
 ghost use Rattle.moxi_term_reading.specs.Reading.{atom_reading, literal_digits, literal_named, literal_reading, meaning_of, named_reading, underscore_reading, variable_primes, word_reading};
 
 use crate::heads::{literal_digits, prime};
-use crate::outcome::{ReadTerm, Setting, failed, own_tests};
+use crate::outcome::{ReadTerm, Setting, checked_term, failed};
 use moxi_sexpr::{Atom, Form};
-use moxi_sorts::{Bounds, index_of, only_numeral, place_in, refusal, sooner, symbol_of, unknown};
+use moxi_sorts::{Bounds, index_of, minimum, only_numeral, place_in, refusal, symbol_of, unknown};
 use moxi_terms::{Datum, Meaning, Primes, Sort, Term, is_left_out};
 use std::alloc::Global;
 use text_core::kinds::moxi;
 use text_core::{Place, Refusal};
-use word_core::{Word, read_digits};
+use word_core::{WIDEST, Word, read_digits};
 
 // The failing test of the prime of a variable.
 fn variable_prime(primes: Primes, primed: bool, p: Place) -> Option<Refusal>
@@ -52,14 +52,18 @@ fn named(
 {
     match meaning {
         None => failed(refusal(moxi::UNKNOWN, p)),
-        Some(Meaning::Bound(i, sort)) => own_tests(Term::Bound(i), sort, prime(primed, p)),
-        Some(Meaning::Variable(v, sort)) => own_tests(
+        Some(Meaning::Bound(i, sort)) => checked_term(Term::Bound(i), sort, prime(primed, p)),
+        Some(Meaning::Variable(v, sort)) => checked_term(
             Term::Variable(v, primed),
             sort,
             variable_prime(primes, primed, p),
         ),
-        Some(Meaning::Value(d, sort)) => own_tests(Term::Constant(d), Some(sort), prime(primed, p)),
-        Some(Meaning::Call(n, sort)) => own_tests(
+        Some(Meaning::Value(d, sort)) => checked_term(
+            Term::Constant(d),
+            Some(sort),
+            prime(primed, p),
+        ),
+        Some(Meaning::Call(n, sort)) => checked_term(
             Term::Call(n, Vec::new(alloc)),
             Some(sort),
             prime(primed, p),
@@ -73,7 +77,7 @@ fn word(p: Place, w: Option<Word>, failure: Option<Refusal>) -> ReadTerm
 {
     match w {
         None => failed(refusal(moxi::WIDTH, p)),
-        Some(w) => own_tests(
+        Some(w) => checked_term(
             Term::Constant(Datum::Bits(w)),
             Some(Sort::Bits(w.width())),
             failure,
@@ -85,7 +89,7 @@ fn word(p: Place, w: Option<Word>, failure: Option<Refusal>) -> ReadTerm
 fn binary_word(digits: &[u8]) -> Option<Word>
     ensures { result ≡ read_word (length digits.now) 2 digits.now }
 {
-    if digits.len() > 64 {
+    if digits.len() > WIDEST as usize {
         None
     } else {
         read_digits(digits.len() as u32, 2, digits)
@@ -96,7 +100,7 @@ fn binary_word(digits: &[u8]) -> Option<Word>
 fn hex_word(digits: &[u8]) -> Option<Word>
     ensures { result ≡ read_word (4 * length digits.now) 16 digits.now }
 {
-    if digits.len() > 16 {
+    if digits.len() > WIDEST as usize / 4 {
         None
     } else {
         read_digits(4 * digits.len() as u32, 16, digits)
@@ -156,7 +160,7 @@ pub fn underscored(p: Place, q: Place, first: bool, rest: &[Form]) -> ReadTerm
     match rest.split_first() {
         Some((form, more)) => match symbol_of(form) {
             Some((name, second)) => {
-                let primes = sooner(prime(first, q), prime(second, place_in(form)));
+                let primes = minimum(prime(first, q), prime(second, place_in(form)));
                 named_literal(p, q, primes, name, more)
             }
             None => failed(refusal(moxi::UNKNOWN, q)),

@@ -1,7 +1,7 @@
 // Heads of applications, and the names of literals with an `_`.
 ghost use Rattle.std.specs.Prelude.{◌≡◌, Some, None};
 ghost use Rattle.std.specs.List.{list_all};
-ghost use Rattle.moxi_sexpr.specs.Bytes.{is_digit};
+ghost use Rattle.text_core.specs.Bytes.{is_digit};
 ghost use Rattle.moxi_sexpr.specs.Tree.{plain, plain_forms};
 ghost use Rattle.moxi_sorts.specs.Failures.{least};
 ghost use Rattle.moxi_sorts.specs.Forms.{digits_now, pair_now, symbol_now};
@@ -9,12 +9,12 @@ ghost use Rattle.moxi_term_reading.specs.Reading.{atom_head, decimal_digits, ext
 
 use moxi_sexpr::{Form, FormShape};
 use moxi_sorts::{
-    index_of, is_primed, is_word, numeral_of, only_numeral, pair, refusal, sooner, symbol_atom,
+    index_of, is_primed, is_word, minimum, numeral_of, only_numeral, pair, refusal, symbol_atom,
     symbol_of, unknown,
 };
 use moxi_terms::{Head, Scope, TermOp, is_indexed, is_left_out, is_same};
 use text_core::kinds::moxi;
-use text_core::{Place, Refusal};
+use text_core::{Place, Refusal, is_digit};
 
 /// The failing test of a prime.
 pub fn prime(primed: bool, p: Place) -> Option<Refusal>
@@ -58,7 +58,7 @@ fn are_digits(bytes: &[u8]) -> bool
     ensures { result ≡ list_all is_digit bytes.now }
 {
     for b in bytes {
-        if *b < 48 || *b > 57 {
+        if !is_digit(*b) {
             return false;
         }
     }
@@ -173,7 +173,7 @@ pub fn head_prime(head: &Form) -> Option<Refusal>
             None => None,
             Some((first, rest)) => match rest.split_first() {
                 None => symbol_prime(first),
-                Some((second, _)) => sooner(symbol_prime(first), symbol_prime(second)),
+                Some((second, _)) => minimum(symbol_prime(first), symbol_prime(second)),
             },
         },
     }

@@ -1,15 +1,16 @@
 // What a `let` binds.
 ghost use Rattle.std.specs.Prelude.{◌≡◌, List, Some, OnOk, IfOk};
+ghost use Rattle.std.specs.List.{list_all};
 ghost use Rattle.text_core.specs.declared.place.Refusal.{Refusal};
 ghost use Rattle.moxi_sexpr.specs.Tree.{plain_forms};
 ghost use Rattle.moxi_term_reading.specs.Answer.{AreBound, IsRead};
 ghost use Rattle.moxi_sorts.specs.Failures.{least};
-ghost use Rattle.moxi_term_reading.specs.Reading.{Bindings, Reading, bindings_tests, both_bindings, bound_to, let_reading, misshapen};
+ghost use Rattle.moxi_term_reading.specs.Reading.{Bindings, Reading, bindings_tests, both_bindings, bound_to, has_sort, let_reading, let_sort, misshapen};
 
 use crate::applications::put;
 use crate::outcome::{ReadTerm, unless_failed};
 use moxi_sexpr::Form;
-use moxi_sorts::{Local, refusal, sooner};
+use moxi_sorts::{Local, minimum, refusal};
 use moxi_terms::{Sort, Term, Terms};
 use std::alloc::Global;
 use text_core::kinds::moxi;
@@ -36,21 +37,42 @@ pub fn some_binding(q: Place, bindings: &[Form]) -> Option<Refusal>
     }
 }
 
-/// A `let` whose own tests fail so, of these bindings and this body.
+// Has each of the bound values a sort?
+fn have_sorts(locals: &List<Local>) -> bool
+    ensures { result ≡ list_all has_sort locals.now }
+{
+    for local in locals {
+        if local.sort.is_none() {
+            return false;
+        }
+    }
+    true
+}
+
+// The sort of a `let`, whose body has this one.
+fn let_sort(locals: &List<Local>, sort: Option<Sort>) -> Option<Sort>
+    ensures { result ≡ let_sort locals.now sort }
+{
+    if have_sorts(locals) { sort } else { None }
+}
+
+/// A `let` whose form fails this test, of these bindings and this body. It has a sort where its form passes, and each bound
+/// value and the body have one.
 pub fn let_term(
     alloc: Global,
-    own: Option<Refusal>,
+    failure: Option<Refusal>,
     bindings: ReadBindings,
     r: ReadTerm,
 ) -> Result<ReadTerm, NoMemory>
-    ensures { IfOk result (λ t. (x : Bindings) (y : Reading) (fs : List Refusal) → own ≡ least fs → AreBound x bindings → IsRead y r → IsRead (let_reading fs x y) t) }
+    ensures { IfOk result (λ t. (x : Bindings) (y : Reading) (fs : List Refusal) → failure ≡ least fs → AreBound x bindings → IsRead y r → IsRead (let_reading fs x y) t) }
 {
-    let shape = sooner(own, bindings.shape);
+    let shape = minimum(failure, bindings.shape);
+    let sort = let_sort(&bindings.locals, r.sort);
     let held = Box::new(alloc, r.term)?;
     Ok(ReadTerm {
         term: Term::Let(bindings.names, bindings.terms, held),
-        sort: unless_failed(shape, r.sort),
-        failure: sooner(shape, sooner(bindings.failure, r.failure)),
+        sort: unless_failed(shape, sort),
+        failure: minimum(shape, minimum(bindings.failure, r.failure)),
     })
 }
 
@@ -58,7 +80,7 @@ pub fn let_term(
 pub fn misshapen(p: Place, all: &mut ReadBindings)
     ensures { (x : Bindings) → AreBound x all.old → AreBound (both_bindings x (misshapen p)) all.new }
 {
-    all.shape = sooner(all.shape, Some(refusal(moxi::ARITY, p)));
+    all.shape = minimum(all.shape, Some(refusal(moxi::ARITY, p)));
 }
 
 /// One more binding, of a name whose prime fails so.
@@ -77,7 +99,7 @@ pub fn bind_to(
         sort: r.sort,
     })?;
     put(&mut all.terms, r.term)?;
-    all.shape = sooner(all.shape, primes);
-    all.failure = sooner(all.failure, r.failure);
+    all.shape = minimum(all.shape, primes);
+    all.failure = minimum(all.failure, r.failure);
     Ok(())
 }

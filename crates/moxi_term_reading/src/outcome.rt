@@ -3,7 +3,7 @@ ghost use Rattle.std.specs.Prelude.{◌≡◌, List};
 ghost use Rattle.text_core.specs.declared.place.Refusal.{Refusal};
 ghost use Rattle.moxi_term_reading.specs.Answer.{IsRead, unless_some};
 ghost use Rattle.moxi_sorts.specs.Failures.{least};
-ghost use Rattle.moxi_term_reading.specs.Reading.{failed, no_term, own_tests};
+ghost use Rattle.moxi_term_reading.specs.Reading.{failed, no_term, checked_term};
 ghost use Rattle.moxi_terms.specs.View.{plain};
 
 use moxi_sorts::Locals;
@@ -55,9 +55,9 @@ pub fn unless_failed(failure: Option<Refusal>, sort: Option<Sort>) -> Option<Sor
     }
 }
 
-/// A term whose own tests fail so.
-pub fn own_tests(term: Term, sort: Option<Sort>, failure: Option<Refusal>) -> ReadTerm
-    ensures { (fs : List Refusal) → failure ≡ least fs → IsRead (own_tests (plain term) sort fs) result }
+/// A term, and the test of it that fails.
+pub fn checked_term(term: Term, sort: Option<Sort>, failure: Option<Refusal>) -> ReadTerm
+    ensures { (fs : List Refusal) → failure ≡ least fs → IsRead (checked_term (plain term) sort fs) result }
 {
     ReadTerm {
         term,

@@ -1,5 +1,6 @@
 // The term that a form spells.
-ghost use Rattle.std.specs.Prelude.{◌≡◌, ◌<◌, ◌^◌, ◌++◌, [], List, None, length, IfOk, OnOk};
+ghost use Rattle.std.specs.Prelude.{◌≡◌, ◌<◌, ◌^◌, ◌++◌, [], List, None, Some, length, IfOk, OnOk};
+ghost use Rattle.moxi_sorts.specs.declared.locals.Local.{Local};
 ghost use Rattle.moxi_term_reading.specs.declared.outcome.ReadTerm.{ReadTerm};
 ghost use Rattle.moxi_terms.specs.Tree.{sorts_of};
 ghost use Rattle.moxi_terms.specs.View.{plain};
@@ -17,7 +18,7 @@ use crate::heads::{head_of, head_prime, prime};
 use crate::lets::{ReadBindings, bind_to, let_term, misshapen, some_binding};
 use crate::outcome::{ReadTerm, Setting, failed};
 use moxi_sexpr::{Form, FormShape};
-use moxi_sorts::{Bounds, Locals, is_primed, is_word, pair, place_in, refusal, sooner, symbol_of};
+use moxi_sorts::{Bounds, Locals, is_primed, is_word, minimum, pair, place_in, refusal, symbol_of};
 use moxi_terms::{Primes, Scope, Sort, Term, Variables};
 use std::alloc::Global;
 use text_core::kinds::moxi;
@@ -101,8 +102,8 @@ fn read_let(
         Some((list, body)) => match &list.shape {
             FormShape::List(parts) => {
                 let bindings = read_bindings(alloc, setting, bounds, list.place, parts)?;
-                let own = sooner(primes, some_binding(list.place, parts));
-                read_body(alloc, setting, bounds, own, bindings, body)
+                let failure = minimum(primes, some_binding(list.place, parts));
+                read_body(alloc, setting, bounds, failure, bindings, body)
             }
             FormShape::Atom(_) => Ok(failed(refusal(moxi::ARITY, p))),
         },
@@ -110,25 +111,25 @@ fn read_let(
     }
 }
 
-// The body of a `let` whose own tests fail so, under its bindings.
+// The body of a `let` whose form fails this test, under its bindings.
 #[cycle(read)]
 #[inline(never)]
 fn read_body(
     alloc: Global,
     setting: Setting,
     bounds: &mut Bounds,
-    own: Option<Refusal>,
+    failure: Option<Refusal>,
     bindings: ReadBindings,
     body: &Form,
 ) -> Result<ReadTerm, NoMemory>
-    ensures read { IfOk result (λ r. (fs : List Refusal) (x : Bindings) → own ≡ least fs → AreBound x bindings → IsRead (let_reading fs x (read (context_of setting.entry) (bounds.old ++ x.locals) (plain_form body.now))) r) }
+    ensures read { IfOk result (λ r. (fs : List Refusal) (x : Bindings) → failure ≡ least fs → AreBound x bindings → IsRead (let_reading fs x (read (context_of setting.entry) (bounds.old ++ x.locals) (plain_form body.now))) r) }
     ensures kept { OnOk result (bounds.new ≡ bounds.old) }
 {
     let before = bounds.len();
     bounds.bind_all(&bindings.locals)?;
     let r = read_form(alloc, setting, bounds, body)?;
     bounds.keep(before);
-    let_term(alloc, own, bindings, r)
+    let_term(alloc, failure, bindings, r)
 }
 
 // The bindings of a list at q; the values are read outside the `let`.
@@ -221,8 +222,7 @@ fn by_name(alloc: Global, variables: &Variables) -> Result<Locals, NoMemory>
     ensures { IfOk result (λ l. l ≡ locals_of variables.now) }
 {
     let mut locals = Locals::new(alloc);
-    for i in 0..variables.len() {
-        let variable = variables.at(i);
+    for variable in variables {
         locals.add(Name::of(alloc, variable.name.bytes())?, Some(variable.sort))?;
     }
     Ok(locals)
@@ -252,8 +252,10 @@ pub fn term_of(
 }
 
 /// A form of which no test fails, over variables that have sorts, spells a term that has the sort that is read for it; where
-/// primes are refused, no variable in it is primed.
+/// primes are refused, no variable in it is primed. A form that has a sort fails no test, so a `let` whose bound value or body
+/// fails one has none.
 pub fn read_terms_have_sorts()
     ensures forms { (c : Context) (vars : List Sort) (t : Tree) → HaveKnownSorts c.variables vars → (read c [] t).failures ≡ [] → IsWellSorted c vars [] (read c [] t) }
     ensures terms { (c : Context) (vars : List Sort) (t : Tree) (r : ReadTerm) → HaveKnownSorts c.variables vars → IsRead (read c [] t) r → r.failure ≡ None → IsSortedTerm c vars r }
+    ensures failing { (c : Context) (bounds : List Local) (t : Tree) (s : Sort) → (read c bounds t).sort ≡ Some s → (read c bounds t).failures ≡ [] }
 {}

@@ -3,6 +3,8 @@ use Rattle.std.proofs.Common.{◌≡◌, ℕ, suc, ◌+◌, ◌-◌, ◌^◌, �
 use Rattle.std.proofs.lemmas.Bool.{and_parts}
 use Rattle.std.proofs.lemmas.Bool.Decides.{nat_tests}
 use Rattle.std.proofs.Math.Nat.{one-le-pow, mod-lt}
+use Rattle.text_core.specs.declared.place.Kind.{Kind}
+use Rattle.text_core.specs.declared.place.Kind.TheVariants.{M}
 use Rattle.word_core.specs.Words.{BitVector, IsWord}
 use Rattle.word_core.specs.Table.{unary_of, binary_of, slice_of, uext_of, sext_of, is_minus}
 use Rattle.word_core.specs.declared.word.TheConstants.{WIDEST}
@@ -29,7 +31,7 @@ chosen_of es s false a b x y = y
 
 pub slice_is_word : (a : BitVector) (high low : ℕ) → IsWord a → low ≤ high → high < a.width → IsWord (slice_of a high low)
 slice_is_word a high low w le lt =
-    let wide : a.width ≤ 64 = w.1 in
+    let wide : a.width ≤ WIDEST = w.1 in
     (omega arith, omega (arith, wide), mod-lt (a.bits / 2 ^ low) (one-le-pow (high - low + 1) 2 (omega arith)))
 
 pub sext_of_is_word : (a : BitVector) (n : ℕ) → IsWord a → a.width + n ≤ WIDEST → IsWord (sext_of a n)
@@ -40,17 +42,17 @@ sext_of_is_word a n w le = go (is_minus a.width a.bits)
     go false = uext_is_word a n w le
 
 -- an index and a width that fit
-pub extracted : (high low w : ℕ) (s : Sort) → cond {A = Result Sort ℕ} (nat_le low high && nat_lt high w) (Ok (Bits (high - low + 1))) (Err 8) ≡ Ok s → (low ≤ high) × (high < w) × (s ≡ Bits (high - low + 1))
+pub extracted : (high low w : ℕ) (s : Sort) → cond {A = Result Sort Kind} (nat_le low high && nat_lt high w) (Ok (Bits (high - low + 1))) (Err (M 8)) ≡ Ok s → (low ≤ high) × (high < w) × (s ≡ Bits (high - low + 1))
 extracted high low w s h =
-    let p = taken (nat_le low high && nat_lt high w) (Ok (Bits (high - low + 1))) 8 s h in
+    let p = taken (nat_le low high && nat_lt high w) (Ok (Bits (high - low + 1))) (M 8) s h in
     let q = and_parts (nat_le low high) (nat_lt high w) p.0 in
     (grind (arith, nat_tests, q.0), grind (arith, nat_tests, q.1), sym (same_ok (Bits (high - low + 1)) s p.1))
 
 bits_of : (es : List Enumeration) (s : Sort) (w : ℕ) (x : BitVector) → s ≡ Bits w → x.width ≡ w → IsWord x → IsOf es s (datum.Bits x)
 bits_of es s w x e f i = subst (λ s. IsOf es s (datum.Bits x)) (sym e) (f, i)
 
-negation_width : (u : Unary) (w : ℕ) (s : Sort) → cond {A = Result Sort ℕ} (is_negation u) (Ok (Bits w)) (Err 5) ≡ Ok s → (s ≡ Bits w) × (is_negation u ≡ true)
-negation_width u w s h = let p = taken (is_negation u) (Ok (Bits w)) 5 s h in (sym (same_ok (Bits w) s p.1), p.0)
+negation_width : (u : Unary) (w : ℕ) (s : Sort) → cond {A = Result Sort Kind} (is_negation u) (Ok (Bits w)) (Err (M 5)) ≡ Ok s → (s ≡ Bits w) × (is_negation u ≡ true)
+negation_width u w s h = let p = taken (is_negation u) (Ok (Bits w)) (M 5) s h in (sym (same_ok (Bits w) s p.1), p.0)
 
 negated_width : (u : Unary) (a : BitVector) → is_negation u ≡ true → (unary_of u a).width ≡ a.width
 negated_width one.Not a h = refl
@@ -154,13 +156,13 @@ fitting_sorted es o ss vs s c h f = absurd (cc)
 
 pub op_sorted : (es : List Enumeration) (o : TermOp) (ss : List Sort) (vs : List Datum) (s : Sort) → op_sort o ss ≡ Ok s → Fit es ss vs → IsOf es s (op_value o vs)
 op_sorted es o ss vs s h f =
-    let p = taken (count_fits o (length ss)) (fitting o ss) 12 s h in
+    let p = taken (count_fits o (length ss)) (fitting o ss) (M 12) s h in
     fitting_sorted es o ss vs s p.0 p.1 f
 
 -- what stands first, and the widths of the rest
 pub words_wide : (es : List Enumeration) (b : Binary) (ss : List Sort) (v : Datum) (vs : List Datum) (s : Sort) → op_sort (op.BvBinary b) ss ≡ Ok s → Fit es ss (v ∷ vs) → IsBits v × AreWide b (word_of v) vs
 words_wide es b ss v vs s h f =
-    let p = taken (count_fits (op.BvBinary b) (length ss)) (fitting (op.BvBinary b) ss) 12 s h in
+    let p = taken (count_fits (op.BvBinary b) (length ss)) (fitting (op.BvBinary b) ss) (M 12) s h in
     let k = calculated_is b (common ss) s p.1 in
     let a = fit_all es (Bits k.0) ss (v ∷ vs) (common_one ss (Bits k.0) k.1) f in
     let d = bits_are es k.0 v a.0 in

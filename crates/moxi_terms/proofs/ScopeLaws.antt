@@ -1,9 +1,9 @@
 -- What a scope keeps, where something is added.
-use Rattle.std.proofs.Common.{◌≡◌, ◌⊎◌, ℕ, zero, suc, ◌+◌, ◌-◌, ◌<◌, ◌≤◌, ◌^◌, Bool, true, false, cond, ◌||◌, is_some, is_none, List, [], ◌∷◌, ◌++◌, map, length, take, drop, min, get_or, Option, None, Some, refl, sym, ap, ◌∙◌, subst, arith, inl, inr, append_assoc, append-nil}
-use Rattle.std.specs.Prelude.{slice_get, slice_index_or, option_and_then, codes}
+use Rattle.std.proofs.Common.{◌≡◌, ◌⊎◌, ℕ, zero, suc, ◌+◌, ◌-◌, ◌<◌, ◌≤◌, ◌^◌, Bool, true, false, cond, ◌||◌, is_some, is_none, List, [], ◌∷◌, ◌++◌, map, length, take, min, get_or, Option, None, Some, refl, sym, ap, ◌∙◌, subst, arith, inl, inr, append_assoc, append-nil}
+use Rattle.std.specs.Prelude.{slice_get, option_and_then, codes}
 use Rattle.std.specs.List.{AllByRecursion}
 use Rattle.std.proofs.lemmas.Option.{same_Some, none-some, slice_get_within, slice_get-get_or}
-use Rattle.std.proofs.lemmas.List.{take-append-le, length-append, length-take, drop_more, drop_all}
+use Rattle.std.proofs.lemmas.List.{take-append-le, length-append, length-take}
 use Rattle.moxi_terms.specs.declared.data.Sort.{Sort}
 use Rattle.moxi_terms.specs.declared.data.Sort.TheVariants.{Truth, Bits, Choice}
 use Rattle.moxi_terms.specs.declared.data.Datum.{Datum}
@@ -20,12 +20,6 @@ use Rattle.moxi_terms.specs.Words.{is_operator}
 use Rattle.std.specs.Str.{bytes_eq}
 use Rattle.moxi_terms.specs.Scopes.{IsKept}
 use Rattle.moxi_terms.proofs.PlaceLaws.{get_front, get_taken, take_whole, length_taken, place_within}
-
-pub names_front : {X : Type 0} (xs : List X) (i n : ℕ) (x : X) → n ≡ length xs → i < n → x ≡ slice_index_or xs i x → drop i xs ≡ x ∷ drop (i + 1) xs
-names_front xs i n x e l is = drop_more xs i x (omega (arith, e, l)) ∙ ap (λ y. y ∷ drop (i + 1) xs) (sym is)
-
-pub names_end : {X : Type 0} (xs : List X) (i n : ℕ) → n ≡ length xs → n ≤ i → drop i xs ≡ []
-names_end xs i n e l = drop_all i xs (omega (arith, e, l))
 
 pub map_end : {A B : Type 0} (f : A → B) (xs : List A) (x : A) → map f (xs ++ x ∷ []) ≡ map f xs ++ f x ∷ []
 map_end f [] x = refl

@@ -4,6 +4,8 @@ use Rattle.std.specs.List.{AllByRecursion, list_all}
 use Rattle.std.proofs.lemmas.Bool.{and_parts}
 use Rattle.std.proofs.lemmas.Bool.Decides.{nat_tests}
 use Rattle.std.proofs.lemmas.Option.{same_Some, none-some}
+use Rattle.text_core.specs.declared.place.Kind.{Kind}
+use Rattle.text_core.specs.declared.place.Kind.TheVariants.{M}
 use Rattle.word_core.specs.Words.{BitVector, IsWord}
 use Rattle.word_core.specs.Table.{BinaryFits, binary_of, binary_width}
 use Rattle.word_core.specs.declared.word.TheConstants.{WIDEST}
@@ -20,11 +22,11 @@ use Rattle.moxi_terms.specs.Sorts.{IsOf, Fit, same_sort, common, is_chain, is_ar
 use Rattle.moxi_terms.specs.Applied.{AreWide, IsBits}
 
 -- a choice that came out well
-pub taken : {A : Type 0} (b : Bool) (x : Result A ℕ) (n : ℕ) (y : A) → cond b x (Err n) ≡ Ok y → (b ≡ true) × (x ≡ Ok y)
-taken true x n y h = (refl, h)
-taken false x n y h = absurd (cc)
+pub taken : {A E : Type 0} (b : Bool) (x : Result A E) (e : E) (y : A) → cond b x (Err e) ≡ Ok y → (b ≡ true) × (x ≡ Ok y)
+taken true x e y h = (refl, h)
+taken false x e y h = absurd (cc)
 
-pub same_ok : {A : Type 0} (x y : A) → (let r : Result A ℕ = Ok x in r) ≡ Ok y → x ≡ y
+pub same_ok : {A E : Type 0} (x y : A) → (let r : Result A E = Ok x in r) ≡ Ok y → x ≡ y
 same_ok x y h = cc
 
 guarded : {A : Type 0} (b : Bool) (x y : A) → cond b (Some x) None ≡ Some y → (b ≡ true) × (x ≡ y)
@@ -247,7 +249,7 @@ pub data Calculated (b : Binary) (w : ℕ) (s : Sort) : Type 0 where
   comparison : is_comparison b ≡ true → s ≡ Truth → Calculated b w s
   arithmetic : is_comparison b ≡ false → is_arithmetic b ≡ true → s ≡ Bits w → Calculated b w s
 
-apart : (b : Binary) (w : ℕ) (s : Sort) (p q : Bool) → is_comparison b ≡ p → is_arithmetic b ≡ q → cond {A = Result Sort ℕ} p (Ok Truth) (cond q (Ok (Bits w)) (Err 5)) ≡ Ok s → Calculated b w s
+apart : (b : Binary) (w : ℕ) (s : Sort) (p q : Bool) → is_comparison b ≡ p → is_arithmetic b ≡ q → cond {A = Result Sort Kind} p (Ok Truth) (cond q (Ok (Bits w)) (Err (M 5))) ≡ Ok s → Calculated b w s
 apart b w s true q e f h = comparison e (sym (same_ok Truth s h))
 apart b w s false true e f h = arithmetic e f (sym (same_ok (Bits w) s h))
 apart b w s false false e f h = absurd (cc)
@@ -259,4 +261,4 @@ calculated_is b (Some (Bits w)) s h = (w, refl, apart b w s (is_comparison b) (i
 calculated_is b (Some (Choice n)) s h = absurd (cc)
 
 pub widened_is : (w : ℕ) (s : Sort) → widened w ≡ Ok s → (w ≤ WIDEST) × (s ≡ Bits w)
-widened_is w s h = let p = taken (nat_le w WIDEST) (Ok (Bits w)) 8 s h in (grind (arith, nat_tests, p.0), sym (same_ok (Bits w) s p.1))
+widened_is w s h = let p = taken (nat_le w WIDEST) (Ok (Bits w)) (M 8) s h in (grind (arith, nat_tests, p.0), sym (same_ok (Bits w) s p.1))

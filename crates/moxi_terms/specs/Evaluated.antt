@@ -8,11 +8,19 @@ use Rattle.moxi_terms.specs.declared.term.Enumeration.{Enumeration}
 use Rattle.moxi_terms.specs.Sorts.{Fit}
 use Rattle.moxi_terms.specs.Sorted.{HasSort, HaveSorts, AreFunctions}
 use Rattle.moxi_terms.specs.Tree.{Tree, Trees, PlainFunction, sorts_of}
+use Rattle.moxi_terms.specs.Value.{at, calls_upto, term_value, term_values}
 
 -- the values of the variables
 abbrev pub values_in : Valuation → List Datum
 values_in (Given env) = env.now
 values_in (Arguments args) = args.now
+
+-- the value of a term, and those of terms, where the first functions may be called
+abbrev pub value_upto : List PlainFunction → ℕ → Valuation → Valuation → List Datum → Tree → Datum
+value_upto fs upto now later bound t = term_value (calls_upto fs upto) (at (values_in now)) (at (values_in later)) bound t
+
+abbrev pub values_upto : List PlainFunction → ℕ → Valuation → Valuation → List Datum → Trees → List Datum
+values_upto fs upto now later bound ts = term_values (calls_upto fs upto) (at (values_in now)) (at (values_in later)) bound ts
 
 -- the first functions may be called
 pub record CanEvaluate (fs : List PlainFunction) (upto : ℕ) (now later bound : List Datum) (t : Tree) : Type 0 where

@@ -1,6 +1,8 @@
 -- Sorts, the values that they have, and the sort of an application (SMT-LIB 2.6, section 3.5 and the two theories).
 use Rattle.std.specs.Prelude.{◌≡◌, ◌==◌, ℕ, ◌+◌, ◌-◌, ◌<◌, ◌≤◌, nat_le, nat_lt, Bool, true, false, ◌&&◌, if◌then◌else◌, Option, None, Some, Result, Ok, Err, List, [], ◌∷◌, length, slice_get}
 use Rattle.std.specs.List.{list_all}
+use Rattle.text_core.specs.declared.place.Kind.{Kind}
+use Rattle.text_core.specs.declared.place.Kind.TheVariants.{M}
 use Rattle.word_core.specs.Words.{IsWord}
 use Rattle.word_core.specs.declared.word.TheConstants.{WIDEST}
 use Rattle.word_core.specs.declared.kinds.Unary.{Unary}
@@ -99,29 +101,29 @@ count_fits (op.BvBinary b) n = if is_chain b then nat_le 2 n else (n == 2)
 count_fits o n = n == 1
 
 -- a truth value, of truth values
-abbrev pub logical : Option Sort → Result Sort ℕ
+abbrev pub logical : Option Sort → Result Sort Kind
 logical (Some Truth) = Ok Truth
-logical s = Err 5
+logical s = Err (M 5)
 
 -- a truth value, of values of one sort
-abbrev pub compared : Option Sort → Result Sort ℕ
+abbrev pub compared : Option Sort → Result Sort Kind
 compared (Some s) = Ok Truth
-compared None = Err 5
+compared None = Err (M 5)
 
 -- one of the values of one sort
-abbrev pub chosen : Option Sort → Result Sort ℕ
+abbrev pub chosen : Option Sort → Result Sort Kind
 chosen (Some s) = Ok s
-chosen None = Err 5
+chosen None = Err (M 5)
 
-abbrev pub calculated : Binary → Option Sort → Result Sort ℕ
-calculated b (Some (Bits w)) = if is_comparison b then Ok Truth else (if is_arithmetic b then Ok (Bits w) else Err 5)
-calculated b s = Err 5
+abbrev pub calculated : Binary → Option Sort → Result Sort Kind
+calculated b (Some (Bits w)) = if is_comparison b then Ok Truth else (if is_arithmetic b then Ok (Bits w) else Err (M 5))
+calculated b s = Err (M 5)
 
 -- words of a width that is not too great
-abbrev pub widened : ℕ → Result Sort ℕ
-widened w = if nat_le w WIDEST then Ok (Bits w) else Err 8
+abbrev pub widened : ℕ → Result Sort Kind
+widened w = if nat_le w WIDEST then Ok (Bits w) else Err (M 8)
 
-abbrev pub fitting : TermOp → List Sort → Result Sort ℕ
+abbrev pub fitting : TermOp → List Sort → Result Sort Kind
 fitting op.Not ss = logical (common ss)
 fitting op.And ss = logical (common ss)
 fitting op.Or ss = logical (common ss)
@@ -131,14 +133,14 @@ fitting op.Equal ss = compared (common ss)
 fitting op.Distinct ss = compared (common ss)
 fitting op.Ite (Truth ∷ ss) = chosen (common ss)
 fitting op.Concat (Bits v ∷ Bits w ∷ []) = widened (v + w)
-fitting (op.Extract high low) (Bits w ∷ []) = if nat_le low high && nat_lt high w then Ok (Bits (high - low + 1)) else Err 8
+fitting (op.Extract high low) (Bits w ∷ []) = if nat_le low high && nat_lt high w then Ok (Bits (high - low + 1)) else Err (M 8)
 fitting (op.ZeroExtend n) (Bits w ∷ []) = widened (w + n)
 fitting (op.SignExtend n) (Bits w ∷ []) = widened (w + n)
-fitting (op.BvUnary u) (Bits w ∷ []) = if is_negation u then Ok (Bits w) else Err 5
+fitting (op.BvUnary u) (Bits w ∷ []) = if is_negation u then Ok (Bits w) else Err (M 5)
 fitting (op.BvBinary b) ss = calculated b (common ss)
-fitting o ss = Err 5
+fitting o ss = Err (M 5)
 
--- The sort of an application to arguments of these sorts, or the number of the refusal: 12 for a wrong number of
--- arguments, 5 where the sorts don't fit, 8 where a width or an index doesn't.
-abbrev pub op_sort : TermOp → List Sort → Result Sort ℕ
-op_sort o ss = if count_fits o (length ss) then fitting o ss else Err 12
+-- The sort of an application to arguments of these sorts, or the kind of the refusal: M12 for a wrong number of
+-- arguments, M5 where the sorts don't fit, M8 where a width or an index doesn't.
+abbrev pub op_sort : TermOp → List Sort → Result Sort Kind
+op_sort o ss = if count_fits o (length ss) then fitting o ss else Err (M 12)

@@ -4,8 +4,8 @@ ghost use Rattle.moxi_terms.specs.declared.data.Sort.{Sort};
 ghost use Rattle.moxi_terms.specs.Sorted.{HasSort, IsReady, IsScope};
 ghost use Rattle.moxi_terms.specs.Sorts.{Fit, IsOf};
 ghost use Rattle.moxi_terms.specs.Tree.{Tree, trees_of};
-ghost use Rattle.moxi_terms.specs.Value.{at, calls_upto, later_of, term_value, term_values};
-ghost use Rattle.moxi_terms.specs.Evaluated.{CanCall, CanEvaluate, CanEvaluateAll, values_in};
+ghost use Rattle.moxi_terms.specs.Value.{at, calls_upto, later_of, term_value};
+ghost use Rattle.moxi_terms.specs.Evaluated.{CanCall, CanEvaluate, CanEvaluateAll, value_upto, values_in, values_upto};
 ghost use Rattle.moxi_terms.specs.View.{ScopeState, plain, plain_function};
 
 use crate::data::Datum;
@@ -90,7 +90,7 @@ fn later_valuation<'a>(now: &'a Env, later: Option<&'a Env>) -> Valuation<'a>
 #[inline(never)]
 fn value(alloc: Global, scene: Scene, bound: &mut Vec<Datum>, t: &Term) -> Result<Datum, NoMemory>
     requires { CanEvaluate (map plain_function scene.functions.now) scene.upto (values_in scene.now) (values_in scene.later) bound.old.items (plain t.now) }
-    ensures value { IfOk result (λ d. d ≡ term_value (calls_upto (map plain_function scene.entry.functions.now) scene.entry.upto) (at (values_in scene.entry.now)) (at (values_in scene.entry.later)) bound.old.items (plain t.now)) }
+    ensures value { IfOk result (λ d. d ≡ value_upto (map plain_function scene.entry.functions.now) scene.entry.upto scene.entry.now scene.entry.later bound.old.items (plain t.now)) }
     ensures kept { OnOk result (bound.new.items ≡ bound.old.items) }
 {
     match t {
@@ -127,7 +127,7 @@ fn inner_value(
     t: &Term,
 ) -> Result<Datum, NoMemory>
     requires { CanEvaluate (map plain_function scene.functions.now) scene.upto (values_in scene.now) (values_in scene.later) (bound.old.items ++ more.now) (plain t.now) }
-    ensures value { IfOk result (λ d. d ≡ term_value (calls_upto (map plain_function scene.entry.functions.now) scene.entry.upto) (at (values_in scene.entry.now)) (at (values_in scene.entry.later)) (bound.old.items ++ more.now) (plain t.now)) }
+    ensures value { IfOk result (λ d. d ≡ value_upto (map plain_function scene.entry.functions.now) scene.entry.upto scene.entry.now scene.entry.later (bound.old.items ++ more.now) (plain t.now)) }
     ensures kept { OnOk result (bound.new.items ≡ bound.old.items) }
 {
     let before = bound.len();
@@ -177,7 +177,7 @@ fn values(
     terms: &[Term],
 ) -> Result<Vec<Datum>, NoMemory>
     requires { CanEvaluateAll (map plain_function scene.functions.now) scene.upto (values_in scene.now) (values_in scene.later) bound.old.items (trees_of (map plain terms.now)) }
-    ensures values { IfOk result (λ all. all.items ≡ term_values (calls_upto (map plain_function scene.entry.functions.now) scene.entry.upto) (at (values_in scene.entry.now)) (at (values_in scene.entry.later)) bound.old.items (trees_of (map plain terms.now))) }
+    ensures values { IfOk result (λ all. all.items ≡ values_upto (map plain_function scene.entry.functions.now) scene.entry.upto scene.entry.now scene.entry.later bound.old.items (trees_of (map plain terms.now))) }
     ensures kept { OnOk result (bound.new.items ≡ bound.old.items) }
 {
     let mut all = Vec::new(alloc);

@@ -113,12 +113,11 @@ impl Scope {
     }
 
     // Does a constant or a function have the name of one of these?
-    #[tactic(auto, using(crate::proofs::ScopeLaws::names_front, crate::proofs::ScopeLaws::names_end))]
     fn has_term_name(&self, names: &Names) -> bool
         ensures { result ≡ list_any (is_term_name self.now) names.now }
     {
-        for i in 0..names.len() {
-            if self.is_term_name(names.at(i).bytes()) {
+        for name in names {
+            if self.is_term_name(name.bytes()) {
                 return true;
             }
         }

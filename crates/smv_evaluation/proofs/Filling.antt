@@ -15,7 +15,7 @@ use Rattle.smv_meaning.specs.Phases.{Formula}
 use Rattle.smv_instances.specs.NameMap.{named_in}
 use Rattle.smv_meaning.specs.Settled.{is_formula, values_in}
 use Rattle.smv_meaning.specs.Formulas.{IsFormulaOrder}
-use Rattle.smv_evaluation.specs.Rows.{AreGiven, kept_value, row_values, FoundKept, IsKept, is_marked, MarksClosed, is_written, LocalReady, local_value, LocalSafe, MarkedSafe, MarkedKept}
+use Rattle.smv_evaluation.specs.Rows.{AreGiven, kept_value, row_values, FoundKept, IsKept, is_marked, MarksClosed, is_written, LocalReady, local_value, LocalSafe, MarkedSafe, MarkedKept, KeepsMarked}
 use Rattle.smv_meaning.specs.Reached.{is_body_of, local_leads_to}
 use Rattle.smv_instances.specs.View.{instance_plain}
 use Rattle.smv_evaluation.specs.View.{stated}
@@ -62,13 +62,8 @@ ready ts order o marks closed row label right labelled safe n l h i x at marked 
     by inner is s = tt
     by nothing is s = tt
 
--- the value of what stands at a place is kept, where it is marked
-abbrev pub KeptOn : {S : Type 0} → List PartOf → HashMap (ℕ × Bor (List ℕ)) Bool S → (was now : Row) → Values → ℕ → List ℕ → Type 0
-KeptOn ts marks was now label i x = (k : ℕ) (y : List ℕ) → kept_value (named_in now.formulas k y)
-    ≡ (if is_marked marks i x && (is_written (local (map instance_plain ts) i x) && (i == k && bytes_eq x y)) then local_value ts was label (local (map instance_plain ts) i x) else kept_value (named_in was.formulas k y))
-
 pub kept_on : {S : Type 0} (ts : List PartOf) (order : List ℕ) → IsFormulaOrder (map instance_plain ts) order → (marks : HashMap (ℕ × Bor (List ℕ)) Bool S) (was now : Row) (label : Values) (n : ℕ) → n < length order
-    → (i : ℕ) (x : List ℕ) → at_place (map instance_plain ts) order n ≡ key i x → now.state ≡ was.state → KeptOn ts marks was now label i x
+    → (i : ℕ) (x : List ℕ) → at_place (map instance_plain ts) order n ≡ key i x → now.state ≡ was.state → KeepsMarked ts marks was now label i x
     → KeptUpto ts order marks was label n → KeptUpto ts order marks now label (n + 1)
 kept_on ts order o marks was now label n l i x at same put h k y j e low marked is = put k y ∙ by (bool_cases picked) ∙ still
   where

@@ -12,7 +12,7 @@ use Rattle.smv_meaning.specs.Phases.{Formula}
 use Rattle.smv_instances.specs.NameMap.{named_in}
 use Rattle.smv_meaning.specs.Settled.{is_formula}
 use Rattle.smv_meaning.specs.Formulas.{IsFormulaOrder}
-use Rattle.smv_evaluation.specs.Rows.{is_marked, MarksStart, MarksLeast}
+use Rattle.smv_evaluation.specs.Rows.{is_marked, MarkedOn, MarksStart, MarksLeast}
 use Rattle.smv_meaning.specs.Reached.{is_body_of, leads_to, local_leads_to}
 use Rattle.smv_meaning.specs.laws.Booleans.{both_true, or_true, absurd_bool}
 use Rattle.smv_model_laws.proofs.Cycles.{In, any_in, same_is}
@@ -56,10 +56,6 @@ leads_before t order o n l i x at k z h = by (local t i x) refl h
     by nothing is s = absurd_bool s
 
 -- ---- marks
-
--- what the body leads to is marked too, where it is marked itself
-abbrev pub MarkedOn : {S : Type 0} → List Instance → (was now : Marks S) → ℕ → List ℕ → Type 0
-MarkedOn t was now i x = (l : ℕ) (y : List ℕ) → is_marked now l y ≡ (is_marked was l y || (is_marked was i x && local_leads_to t (local t i x) l y))
 
 or_left : (a b : Bool) → a ≡ true → (a || b) ≡ true
 or_left a b e = ap (λ c. c || b) e

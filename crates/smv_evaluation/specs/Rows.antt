@@ -1,9 +1,9 @@
 -- What is kept while an expression is evaluated: the values of variables, and of the definitions and actuals that it reaches.
-use Rattle.std.specs.Prelude.{◌≡◌, ℕ, Bool, true, false, List, map, Option, Some, None, is_some, bytes_eq}
+use Rattle.std.specs.Prelude.{◌≡◌, ℕ, Bool, true, false, ◌&&◌, ◌||◌, ◌==◌, if◌then◌else◌, List, map, Option, Some, None, is_some, bytes_eq}
 use Rattle.std.specs.Borrow.{Bor}
 use Rattle.std.specs.HashMap.{HashMap, get_by}
 use Rattle.smv_text.specs.declared.tree.Path.{Path}
-use Rattle.smv_text.specs.Tree.{Tree}
+use Rattle.smv_text.specs.Tree.{Tree, Links, Branches}
 use Rattle.smv_meaning.specs.declared.value.Value.{Value}
 use Rattle.smv_operators.specs.declared.seen.Seen.{Seen}
 use Rattle.smv_evaluation.specs.declared.dotted.Dotted.{Dotted}
@@ -13,14 +13,14 @@ use Rattle.smv_evaluation.specs.declared.reached.Reach.{Reach}
 use Rattle.smv_meaning.specs.Formulas.{placed_formulas, IsFormulaOrder}
 use Rattle.smv_instances.specs.declared.instances.Instance.{Instance as PartOf}
 use Rattle.smv_meaning.specs.Values.{Valuation, no_value}
-use Rattle.smv_meaning.specs.Expressions.{denote}
+use Rattle.smv_meaning.specs.Expressions.{Denotation, denote, chosen, taken}
 use Rattle.smv_meaning.specs.Instances.{Instance, dotted}
 use Rattle.smv_evaluation.specs.Dotting.{dotted_name}
 use Rattle.smv_meaning.specs.Names.{Local, formula, local, Found, body_at}
 use Rattle.smv_meaning.specs.Meaning.{value_found}
 use Rattle.smv_instances.specs.NameMap.{named_in}
 use Rattle.smv_meaning.specs.Reached.{leads_to, local_leads_to}
-use Rattle.smv_meaning.specs.Safety.{Safe}
+use Rattle.smv_meaning.specs.Safety.{Safe, SafeLinks, SafeBranches}
 use Rattle.smv_meaning.specs.Settled.{values_in}
 use Rattle.smv_operators.specs.View.{seen_value}
 use Rattle.smv_evaluation.specs.View.{stated}
@@ -116,3 +116,39 @@ MarkedSafe t marks state label = (k : ℕ) (x : List ℕ) → is_marked marks k 
 -- the values of all that is marked are kept
 abbrev pub MarkedKept : {S : Type 0} → List PartOf → HashMap (ℕ × Bor (List ℕ)) Bool S → Row → Values → Type 0
 MarkedKept ts marks row label = (k : ℕ) (x : List ℕ) (j : ℕ) (e : Tree) → is_marked marks k x ≡ true → local (map instance_plain ts) k x ≡ formula j e → FoundKept ts row label (body_at k x j e)
+
+-- ---- an expression of an instance, by what is kept for this state and for the following one
+
+abbrev pub KeptSafe : List PartOf → ℕ → (now later : Row) → Values → Tree → Type 0
+KeptSafe ts i now later label e = Safe (IsKept ts i now label) (IsKept ts i later label) (row_reads ts i now label) (row_reads ts i later label) e
+
+abbrev pub KeptSafeLinks : List PartOf → ℕ → (now later : Row) → Values → Value → Links → Type 0
+KeptSafeLinks ts i now later label v ls = SafeLinks (IsKept ts i now label) (IsKept ts i later label) (row_reads ts i now label) (row_reads ts i later label) v ls
+
+abbrev pub KeptSafeBranches : List PartOf → ℕ → (now later : Row) → Values → Branches → Type 0
+KeptSafeBranches ts i now later label bs = SafeBranches (IsKept ts i now label) (IsKept ts i later label) (row_reads ts i now label) (row_reads ts i later label) bs
+
+abbrev pub kept_denote : List PartOf → ℕ → (now later : Row) → Values → Tree → Denotation
+kept_denote ts i now later label e = denote (row_reads ts i now label) (row_reads ts i later label) e
+
+abbrev pub kept_chosen : List PartOf → ℕ → (now later : Row) → Values → Branches → Denotation → Denotation
+kept_chosen ts i now later label bs d = chosen (row_reads ts i now label) (row_reads ts i later label) bs d
+
+abbrev pub kept_taken : List PartOf → ℕ → (now later : Row) → Values → Branches → Denotation
+kept_taken ts i now later label bs = taken (row_reads ts i now label) (row_reads ts i later label) bs
+
+-- ---- what an evaluation changes
+
+-- the value of one of the names that are definitions or actuals with a body is kept, and those of all others stay
+abbrev pub KeepsLocal : List PartOf → (old new : Row) → Values → ℕ → List ℕ → Type 0
+KeepsLocal ts old new label i x = (k : ℕ) (y : List ℕ) → kept_value (named_in new.formulas k y)
+    ≡ (if is_written (local (map instance_plain ts) i x) && (i == k && bytes_eq x y) then local_value ts old label (local (map instance_plain ts) i x) else kept_value (named_in old.formulas k y))
+
+-- the same, where the name is marked
+abbrev pub KeepsMarked : {S : Type 0} → List PartOf → HashMap (ℕ × Bor (List ℕ)) Bool S → (old new : Row) → Values → ℕ → List ℕ → Type 0
+KeepsMarked ts marks old new label i x = (k : ℕ) (y : List ℕ) → kept_value (named_in new.formulas k y)
+    ≡ (if is_marked marks i x && (is_written (local (map instance_plain ts) i x) && (i == k && bytes_eq x y)) then local_value ts old label (local (map instance_plain ts) i x) else kept_value (named_in old.formulas k y))
+
+-- what the body of the name leads to is marked too, where the name is marked itself
+abbrev pub MarkedOn : {S : Type 0} → List Instance → (old new : HashMap (ℕ × Bor (List ℕ)) Bool S) → ℕ → List ℕ → Type 0
+MarkedOn t old new i x = (l : ℕ) (y : List ℕ) → is_marked new l y ≡ (is_marked old l y || (is_marked old i x && local_leads_to t (local t i x) l y))

@@ -1,12 +1,11 @@
 // The value of an expression in an instance, given what is kept of its names.
-ghost use Rattle.std.specs.Prelude.{◌≡◌, ◌≤◌, ◌<◌, ◌+◌, ◌^◌, map, max, ℕ, if◌then◌else◌, IfSome};
+ghost use Rattle.std.specs.Prelude.{◌≡◌, ◌≤◌, ◌<◌, ◌+◌, map, max, if◌then◌else◌, IfSome};
 ghost use Rattle.smv_text.specs.Tree.{links_of, branches_of, trees_of};
 ghost use Rattle.smv_text.specs.View.{plain, plain_branch, plain_link};
-ghost use Rattle.smv_meaning.specs.Values.{is_true, value_same};
 ghost use Rattle.smv_meaning.specs.Operators.{called};
-ghost use Rattle.smv_meaning.specs.Expressions.{is_from_right as right_first, are_implies, is_implies, denote, implications, chosen, taken, values_of, one_permits};
-ghost use Rattle.smv_meaning.specs.Safety.{depth, right_depth, link_depth, branch_depth, tree_depth, Fits, front_value, fronts_value, front_permits, fronts_permit, Safe, SafeLinks, SafeBranches, SafeTrees, SafeOperands};
-ghost use Rattle.smv_evaluation.specs.Rows.{row_reads, IsKept};
+ghost use Rattle.smv_meaning.specs.Expressions.{is_from_right as right_first, are_implies, is_implies, implications, values_of, one_permits};
+ghost use Rattle.smv_meaning.specs.Safety.{depth, branch_depth, Fits, front_value, fronts_value, fronts_permit, SafeTrees, SafeOperands};
+ghost use Rattle.smv_evaluation.specs.Rows.{row_reads, IsKept, KeptSafe, KeptSafeLinks, KeptSafeBranches, kept_denote, kept_chosen, kept_taken};
 ghost use Rattle.smv_operators.specs.View.{seen_value, plain_value, plain_or};
 ghost use Rattle.smv_evaluation.specs.View.{denoted_or_none};
 
@@ -29,8 +28,8 @@ pub fn evaluate<'a>(
     label: &Values<'a>,
     later: &Row<'a>,
 ) -> Seen<'a>
-    requires safe { Safe (IsKept table.now i now.now label.now) (IsKept table.now i later.now label.now) (row_reads table.now i now.now label.now) (row_reads table.now i later.now label.now) (plain e.now) }
-    ensures { seen_value result ≡ (denote (row_reads table.now i now.now label.now) (row_reads table.now i later.now label.now) (plain e.now)).value }
+    requires safe { KeptSafe table.now i now.now later.now label.now (plain e.now) }
+    ensures { seen_value result ≡ (kept_denote table.now i now.now later.now label.now (plain e.now)).value }
 {
     match &e.shape {
         Shape::True => Seen::Truth(true),
@@ -165,7 +164,7 @@ fn last_front<'a>(
     label: &Values<'a>,
     later: &Row<'a>,
 ) -> Option<Plain>
-    requires safe { SafeLinks (IsKept table.now i now.now label.now) (IsKept table.now i later.now label.now) (row_reads table.now i now.now label.now) (row_reads table.now i later.now label.now) (seen_value first.now) (links_of (map plain_link links.now)) }
+    requires safe { KeptSafeLinks table.now i now.now later.now label.now (seen_value first.now) (links_of (map plain_link links.now)) }
     ensures { plain_or result (seen_value first.now) ≡ fronts_value (row_reads table.now i now.now label.now) (row_reads table.now i later.now label.now) (seen_value first.now) (links_of (map plain_link links.now)) }
 {
     let mut front = None;
@@ -202,9 +201,9 @@ fn next_front<'a>(
     label: &Values<'a>,
     later: &Row<'a>,
 ) -> Plain
-    requires safe { Safe (IsKept table.now i now.now label.now) (IsKept table.now i later.now label.now) (row_reads table.now i now.now label.now) (row_reads table.now i later.now label.now) (plain operand.now) }
-    requires fits { Fits (front_value op (seen_value front.now) (denote (row_reads table.now i now.now label.now) (row_reads table.now i later.now label.now) (plain operand.now))) }
-    ensures { plain_value result ≡ front_value op (seen_value front.now) (denote (row_reads table.now i now.now label.now) (row_reads table.now i later.now label.now) (plain operand.now)) }
+    requires safe { KeptSafe table.now i now.now later.now label.now (plain operand.now) }
+    requires fits { Fits (front_value op (seen_value front.now) (kept_denote table.now i now.now later.now label.now (plain operand.now))) }
+    ensures { plain_value result ≡ front_value op (seen_value front.now) (kept_denote table.now i now.now later.now label.now (plain operand.now)) }
 {
     match op {
         Infix::Member => Plain::Truth(permits(table, i, operand, front, now, label, later)),
@@ -227,11 +226,11 @@ fn chosen_branch<'a>(
     label: &Values<'a>,
     later: &Row<'a>,
 ) -> &'a Expr
-    requires safe { SafeBranches (IsKept table.now i now.now label.now) (IsKept table.now i later.now label.now) (row_reads table.now i now.now label.now) (row_reads table.now i later.now label.now) (branches_of (map plain_branch branches.now)) }
-    requires safe_last { Safe (IsKept table.now i now.now label.now) (IsKept table.now i later.now label.now) (row_reads table.now i now.now label.now) (row_reads table.now i later.now label.now) (plain last.now) }
-    ensures value { denote (row_reads table.now i now.now label.now) (row_reads table.now i later.now label.now) (plain result.now) ≡ chosen (row_reads table.now i now.now label.now) (row_reads table.now i later.now label.now) (branches_of (map plain_branch branches.now)) (denote (row_reads table.now i now.now label.now) (row_reads table.now i later.now label.now) (plain last.now)) }
+    requires safe { KeptSafeBranches table.now i now.now later.now label.now (branches_of (map plain_branch branches.now)) }
+    requires safe_last { KeptSafe table.now i now.now later.now label.now (plain last.now) }
+    ensures value { kept_denote table.now i now.now later.now label.now (plain result.now) ≡ kept_chosen table.now i now.now later.now label.now (branches_of (map plain_branch branches.now)) (kept_denote table.now i now.now later.now label.now (plain last.now)) }
     ensures low { depth (plain result.now) ≤ max (branch_depth (branches_of (map plain_branch branches.now))) (depth (plain last.now)) }
-    ensures safe { Safe (IsKept table.now i now.now label.now) (IsKept table.now i later.now label.now) (row_reads table.now i now.now label.now) (row_reads table.now i later.now label.now) (plain result.now) }
+    ensures safe { KeptSafe table.now i now.now later.now label.now (plain result.now) }
 {
     let mut rest = branches;
     while let Some((branch, more)) = rest.split_first() {
@@ -254,10 +253,10 @@ fn taken_branch<'a>(
     label: &Values<'a>,
     later: &Row<'a>,
 ) -> Option<&'a Expr>
-    requires safe { SafeBranches (IsKept table.now i now.now label.now) (IsKept table.now i later.now label.now) (row_reads table.now i now.now label.now) (row_reads table.now i later.now label.now) (branches_of (map plain_branch branches.now)) }
-    ensures value { denoted_or_none (row_reads table.now i now.now label.now) (row_reads table.now i later.now label.now) result ≡ taken (row_reads table.now i now.now label.now) (row_reads table.now i later.now label.now) (branches_of (map plain_branch branches.now)) }
+    requires safe { KeptSafeBranches table.now i now.now later.now label.now (branches_of (map plain_branch branches.now)) }
+    ensures value { denoted_or_none (row_reads table.now i now.now label.now) (row_reads table.now i later.now label.now) result ≡ kept_taken table.now i now.now later.now label.now (branches_of (map plain_branch branches.now)) }
     ensures low { IfSome result (λ x. depth (plain x.now) ≤ branch_depth (branches_of (map plain_branch branches.now))) }
-    ensures safe { IfSome result (λ x. Safe (IsKept table.now i now.now label.now) (IsKept table.now i later.now label.now) (row_reads table.now i now.now label.now) (row_reads table.now i later.now label.now) (plain x.now)) }
+    ensures safe { IfSome result (λ x. KeptSafe table.now i now.now later.now label.now (plain x.now)) }
 {
     match branches.split_last() {
         None => None,
@@ -329,8 +328,8 @@ pub fn permits<'a>(
     label: &Values<'a>,
     later: &Row<'a>,
 ) -> bool
-    requires safe { Safe (IsKept table.now i now.now label.now) (IsKept table.now i later.now label.now) (row_reads table.now i now.now label.now) (row_reads table.now i later.now label.now) (plain e.now) }
-    ensures { result ≡ (denote (row_reads table.now i now.now label.now) (row_reads table.now i later.now label.now) (plain e.now)).permits (seen_value value.now) }
+    requires safe { KeptSafe table.now i now.now later.now label.now (plain e.now) }
+    ensures { result ≡ (kept_denote table.now i now.now later.now label.now (plain e.now)).permits (seen_value value.now) }
 {
     match &e.shape {
         Shape::Set(elements) => one_has(table, i, elements.as_slice(), value, now, label, later),
@@ -420,7 +419,7 @@ fn last_has<'a>(
     label: &Values<'a>,
     later: &Row<'a>,
 ) -> bool
-    requires safe { SafeLinks (IsKept table.now i now.now label.now) (IsKept table.now i later.now label.now) (row_reads table.now i now.now label.now) (row_reads table.now i later.now label.now) (seen_value first.now) (links_of (map plain_link links.now)) }
+    requires safe { KeptSafeLinks table.now i now.now later.now label.now (seen_value first.now) (links_of (map plain_link links.now)) }
     ensures { result ≡ fronts_permit (row_reads table.now i now.now label.now) (row_reads table.now i later.now label.now) (seen_value value.now) (seen_value first.now) first_has (links_of (map plain_link links.now)) }
 {
     let mut front = None;

@@ -1,16 +1,15 @@
 // The values of the definitions and actuals that an expression reaches, each evaluated once.
-ghost use Rattle.std.specs.Prelude.{◌≡◌, ◌&&◌, ◌==◌, List, ℕ, Some, true, map, bytes_eq, if◌then◌else◌, IfOk, OnOk};
+ghost use Rattle.std.specs.Prelude.{◌≡◌, Some, true, map, IfOk, OnOk};
 ghost use Rattle.smv_meaning.specs.Names.{local};
-ghost use Rattle.smv_instances.specs.NameMap.{named_in};
 ghost use Rattle.smv_meaning.specs.Values.{given};
-ghost use Rattle.smv_evaluation.specs.Rows.{AreGiven, kept_value, is_marked, IsOrdered, MarksClosed, MarkedSafe, LocalReady, local_value, is_written, MarkedKept};
+ghost use Rattle.smv_evaluation.specs.Rows.{AreGiven, is_marked, IsOrdered, MarksClosed, MarkedSafe, LocalReady, KeepsLocal, KeepsMarked, MarkedKept};
 ghost use Rattle.smv_instances.specs.View.{instance_plain};
 ghost use Rattle.smv_evaluation.specs.View.{stated};
 
 use crate::evaluate::evaluate;
 use crate::reached::{Marks, Reach, has_mark};
-use crate::rows::{Row, Values, keep_under, nothing_kept, values_of};
-use smv_instances::{Known, Table};
+use crate::rows::{Row, Values, values_of};
+use smv_instances::{Known, Table, nothing_in, put_in};
 use smv_meaning::State;
 use smv_references::Formula;
 use std::alloc::Global;
@@ -26,12 +25,12 @@ fn keep_local<'a>(
 ) -> Result<(), NoMemory>
     requires { LocalReady table.now row.old label.now (local (map instance_plain table.now) i x.now) }
     ensures state { OnOk result (row.new.state ≡ row.old.state) }
-    ensures kept { OnOk result ((k : ℕ) (y : List ℕ) → kept_value (named_in row.new.formulas k y) ≡ (if is_written (local (map instance_plain table.now) i x.now) && (i == k && bytes_eq x.now y) then local_value table.now row.old label.now (local (map instance_plain table.now) i x.now) else kept_value (named_in row.old.formulas k y))) }
+    ensures kept { OnOk result (KeepsLocal table.now row.old row.new label.now i x.now) }
 {
     match table.local(i, x) {
         Known::Formula(j, e) => {
             let value = evaluate(table, j, e, row, label, row);
-            keep_under(&mut row.formulas, i, x, value)
+            put_in(&mut row.formulas, i, x, value)
         }
         Known::Alias(_, _) => Ok(()),
         Known::Variable(_, _) => Ok(()),
@@ -50,7 +49,7 @@ fn keep_marked<'a>(
 ) -> Result<(), NoMemory>
     requires { is_marked marks.now formula.now.instance formula.now.name.now ≡ true → LocalReady table.now row.old label.now (local (map instance_plain table.now) formula.now.instance formula.now.name.now) }
     ensures state { OnOk result (row.new.state ≡ row.old.state) }
-    ensures kept { OnOk result ((k : ℕ) (y : List ℕ) → kept_value (named_in row.new.formulas k y) ≡ (if is_marked marks.now formula.now.instance formula.now.name.now && (is_written (local (map instance_plain table.now) formula.now.instance formula.now.name.now) && (formula.now.instance == k && bytes_eq formula.now.name.now y)) then local_value table.now row.old label.now (local (map instance_plain table.now) formula.now.instance formula.now.name.now) else kept_value (named_in row.old.formulas k y))) }
+    ensures kept { OnOk result (KeepsMarked table.now marks.now row.old row.new label.now formula.now.instance formula.now.name.now) }
 {
     if has_mark(marks, formula.instance, formula.name) {
         keep_local(table, formula.instance, formula.name, label, row)
@@ -100,7 +99,7 @@ pub fn row_of<'a>(
 {
     let mut row = Row {
         state: values_of(alloc, Some(state))?,
-        formulas: nothing_kept(alloc),
+        formulas: nothing_in(alloc),
     };
     keep_all(table, reach, label, &mut row)?;
     Ok(row)

@@ -132,7 +132,7 @@ fn in_instance(instance: &Instance)
     ensures { IsTrue (instance_all words_fit (instance_plain instance.now)) }
 {
     in_expressions(instance.actuals);
-    in_elements(&instance.plan.elements);
+    in_elements(&instance.module.elements);
 }
 
 /// Each word literal of these instances is a word.

@@ -41,7 +41,7 @@ fn place_of<'a>(table: &[Instance<'a>], path: &[u8]) -> Option<usize>
 
 /// The value of an expression in the instance with this dotted path (empty for main): names of state and frozen variables
 /// are read in the state `now`, those of inputs in the label, and under `next` in the following state (NuSMV 2.6 User
-/// Manual, 2.2.3). The model's paths, cycles and types are checked. The expression is one of the instance's module, or part of
+/// Manual, 2.2). The model's paths, cycles and types are checked. The expression is one of the instance's module, or part of
 /// one; a set has no value, and neither has the name of an instance. The states give each variable a value of its type, and a
 /// label is there where the expression reaches an input. Where no following state is given, `next` reads the state itself. Each
 /// definition and actual that the expression reaches is evaluated once for the state and once for the following state, each

@@ -1,33 +1,30 @@
 // Which definitions and actuals an expression reaches.
-ghost use Rattle.std.specs.Prelude.{◌≡◌, ◌&&◌, ◌||◌, List, ℕ, None, map, IfOk, OnOk};
+ghost use Rattle.std.specs.Prelude.{◌≡◌, ◌||◌, List, ℕ, None, map, IfOk, OnOk};
 ghost use Rattle.std.specs.List.{list_any};
 ghost use Rattle.smv_text.specs.View.{plain};
 ghost use Rattle.smv_meaning.specs.Names.{local, found_in};
-ghost use Rattle.smv_instances.specs.NameMap.{named_in};
 ghost use Rattle.smv_meaning.specs.Checks.{first_failing};
 ghost use Rattle.smv_meaning.specs.Settled.{cycle_checks_of};
 ghost use Rattle.smv_meaning.specs.Formulas.{placed_formulas, IsFormulaOrder};
-ghost use Rattle.smv_evaluation.specs.Rows.{is_marked, MarksStart, MarksClosed, MarksLeast, IsOrdered};
+ghost use Rattle.smv_evaluation.specs.Rows.{is_marked, MarkedOn, MarksStart, MarksClosed, MarksLeast, IsOrdered};
 ghost use Rattle.smv_meaning.specs.Reached.{is_body_of, leads_to, local_leads_to};
 ghost use Rattle.smv_instances.specs.View.{instance_plain};
 ghost use Rattle.smv_references.specs.View.{formula_plain, path_seen};
 
-use crate::rows::{keep_under, nothing_kept};
-use smv_instances::{Known, Table, Target};
+use smv_instances::{InstanceMap, Known, Table, Target, nothing_in, put_in, value_in};
 use smv_references::{Formula, Ordering, formula_order, formulas_in, paths_in};
 use smv_text::{Expr, Path};
 use std::alloc::Global;
-use std::collections::HashMap;
 use text_core::{List, NoMemory};
 
 /// Definitions and actuals by their instance and name.
-pub type Marks<'a> = HashMap<(usize, &'a [u8]), bool>;
+pub type Marks<'a> = InstanceMap<'a, bool>;
 
 /// Is the definition or actual marked?
 pub fn has_mark<'a>(marks: &Marks<'a>, i: usize, x: &[u8]) -> bool
     ensures { result ≡ is_marked marks.now i x.now }
 {
-    marks.get(&(i, x)).is_some()
+    value_in(marks, i, x).is_some()
 }
 
 fn mark<'a>(
@@ -39,7 +36,7 @@ fn mark<'a>(
     ensures { OnOk result ((k : ℕ) (x : List ℕ) → is_marked marks.new k x ≡ (is_marked marks.old k x || is_body_of k x (found_in (map instance_plain table.now) i path.now))) }
 {
     match table.found(i, path) {
-        Target::Body(k, x, _, _) => keep_under(marks, k, x, true),
+        Target::Body(k, x, _, _) => put_in(marks, k, x, true),
         Target::Variable(_, _, _, _) => Ok(()),
         Target::Within(_) => Ok(()),
         Target::Symbol(_) => Ok(()),
@@ -101,7 +98,7 @@ fn mark_on<'a>(
     formula: &Formula<'a>,
     marks: &mut Marks<'a>,
 ) -> Result<(), NoMemory>
-    ensures { OnOk result ((l : ℕ) (y : List ℕ) → is_marked marks.new l y ≡ (is_marked marks.old l y || (is_marked marks.old formula.now.instance formula.now.name.now && local_leads_to (map instance_plain table.now) (local (map instance_plain table.now) formula.now.instance formula.now.name.now) l y))) }
+    ensures { OnOk result (MarkedOn (map instance_plain table.now) marks.old marks.new formula.now.instance formula.now.name.now) }
 {
     if has_mark(marks, formula.instance, formula.name) {
         mark_local(alloc, table, formula.instance, formula.name, marks)
@@ -125,7 +122,7 @@ fn marks_of<'a>(
     ensures closed { IfOk result (MarksClosed (map instance_plain table.now)) }
     ensures least { IfOk result (MarksLeast (map instance_plain table.now) i (plain e.now)) }
 {
-    let mut marks = nothing_kept(alloc);
+    let mut marks = nothing_in(alloc);
     mark_body(alloc, table, i, e, &mut marks)?;
     let mut n = order.len();
     while n > 0 {

@@ -1,5 +1,5 @@
 // What is kept while an expression is evaluated, each value found by its instance and its name there with no scan.
-ghost use Rattle.std.specs.Prelude.{◌≡◌, ◌<◌, ◌&&◌, ◌==◌, List, ℕ, Some, None, length, map, bytes_eq, if◌then◌else◌, IfOk, OnOk};
+ghost use Rattle.std.specs.Prelude.{◌≡◌, ◌<◌, List, ℕ, Some, None, map, bytes_eq, if◌then◌else◌, IfOk, OnOk};
 ghost use Rattle.smv_meaning.specs.Values.{given};
 ghost use Rattle.smv_meaning.specs.Names.{dotted_at};
 ghost use Rattle.smv_meaning.specs.Meaning.{is_input};
@@ -11,7 +11,7 @@ ghost use Rattle.smv_operators.specs.View.{seen_value};
 ghost use Rattle.smv_evaluation.specs.View.{stated};
 
 use crate::dotted::Dotted;
-use smv_instances::{Table, Target};
+use smv_instances::{InstanceMap, Table, Target};
 use smv_meaning::{State, Value};
 use smv_operators::{Seen, borrowed, copied, no_seen};
 use smv_text::{Path, VarKind};
@@ -20,7 +20,7 @@ use std::collections::HashMap;
 use text_core::NoMemory;
 
 /// Values by the number of an instance and a name there.
-pub type Kept<'a> = HashMap<(usize, &'a [u8]), Seen<'a>>;
+pub type Kept<'a> = InstanceMap<'a, Seen<'a>>;
 
 /// Values by the dotted names of variables.
 pub type Named<'a> = HashMap<Dotted<'a>, &'a Value>;
@@ -37,28 +37,6 @@ pub struct Values<'a> {
 pub struct Row<'a> {
     pub state: Values<'a>,
     pub formulas: Kept<'a>,
-}
-
-/// Gives the name in the numbered instance this value.
-pub fn keep_under<'a, V: Drop>(
-    map: &mut HashMap<(usize, &'a [u8]), V>,
-    i: usize,
-    x: &'a [u8],
-    value: V,
-) -> Result<(), NoMemory>
-    ensures { OnOk result ((j : ℕ) (y : List ℕ) → named_in map.new j y ≡ (if i == j && bytes_eq x.now y then Some value else named_in map.old j y)) }
-{
-    match map.insert((i, x), value) {
-        Ok(_) => Ok(()),
-        Err(_) => Err(NoMemory),
-    }
-}
-
-/// Nothing is kept.
-pub fn nothing_kept<'a, V>(alloc: Global) -> HashMap<(usize, &'a [u8]), V>
-    ensures { (i : ℕ) (x : List ℕ) → named_in result i x ≡ None }
-{
-    HashMap::new(alloc)
 }
 
 fn seen_under<'a>(kept: &Kept<'a>, i: usize, x: &[u8]) -> Option<Seen<'a>>

@@ -1,12 +1,12 @@
 -- What is kept of an expression, and the heights of chains and branches that grow.
-use Rattle.std.proofs.Common.{◌≡◌, ℕ, suc, ◌+◌, ◌≤◌, ◌<◌, max, Bool, true, false, ◌&&◌, if◌then◌else◌, leb, Option, Some, None, List, [], ◌∷◌, ◌++◌, map, length, refl, ap, ◌∙◌, arith}
+use Rattle.std.proofs.Common.{◌≡◌, ℕ, suc, ◌+◌, ◌≤◌, max, Bool, true, false, if◌then◌else◌, leb, List, [], ◌∷◌, ◌++◌, map, length, refl, ap, ◌∙◌, arith}
 use Rattle.std.proofs.lemmas.Bool.{leb-true, leb-false}
 use Rattle.text_core.specs.declared.place.Place.{Place}
 use Rattle.smv_text.specs.declared.tree.Infix.{Infix}
 use Rattle.smv_text.specs.Tree.{Tree, truth, links_of, branches_of, trees_of}
-use Rattle.smv_text.specs.Heights.{height, highest, highest_link, folded, folded_right, chain_height, branches_height, is_joined, joined_as, all_joined, has_number, is_implied, joined_number, link_heights, branch_heights, heights, place_of}
+use Rattle.smv_text.specs.Heights.{height, highest, folded, folded_right, chain_height, branches_height, is_joined, is_implied, link_heights, branch_heights, heights, place_of}
 use Rattle.smv_grammar.specs.Kept.{Read, cap, capped, keep_at}
-use Rattle.smv_expressions.specs.Gathered.{low, low_link, low_branch, highest_branch, first_number, highest_before, last_height, same_number}
+use Rattle.smv_expressions.specs.Gathered.{low, low_link, low_branch, highest_branch, highest_link, highest_before, last_height}
 
 -- what is kept of a tree
 kept_height : (b : Bool) (t u : Tree) (n : ℕ) → leb n 380 ≡ b → (let r : Read = if b then record { tree = t; height = n } else record { tree = u; height = 381 } in r.height) ≡ capped n
@@ -38,8 +38,8 @@ keeps t u p n at is same = go (leb (height t) 380) refl (leb n 380) refl
 
 -- a chain that grows
 pub highest_link-push : (n : ℕ) (ls : List (Infix × ℕ)) (l : Infix × ℕ) → highest_link n (ls ++ l ∷ []) ≡ max (highest_link n ls) l.1
-highest_link-push n [] l = refl
-highest_link-push n (x ∷ ls) l = highest_link-push (max n x.1) ls l
+highest_link-push n [] l = omega arith
+highest_link-push n (x ∷ ls) l = let ih = highest_link-push x.1 ls l in omega arith
 
 pub folded-push : (n : ℕ) (ls : List (Infix × ℕ)) (l : Infix × ℕ) → folded n (ls ++ l ∷ []) ≡ suc (max (folded n ls) l.1)
 folded-push n [] l = refl
@@ -65,40 +65,11 @@ pub length-push : {A : Type 0} (ls : List A) (l : A) → length (ls ++ l ∷ [])
 length-push [] l = refl
 length-push (x ∷ ls) l = ap suc (length-push ls l)
 
-same_has : (o : Option ℕ) (n : ℕ) → has_number o n ≡ same_number o (Some n)
-same_has None n = refl
-same_has (Some m) n = refl
-
-and_assoc : (a b c : Bool) → (a && (b && c)) ≡ ((a && b) && c)
-and_assoc true b c = refl
-and_assoc false b c = refl
-
-all_joined-push : (n : ℕ) (ls : List (Infix × ℕ)) (l : Infix × ℕ) → all_joined n (ls ++ l ∷ []) ≡ (all_joined n ls && same_number (joined_number l.0) (Some n))
-all_joined-push n [] l = ap (λ b. b && true) (same_has (joined_number l.0) n) ∙ and_true _
-  where
-    and_true : (b : Bool) → (b && true) ≡ b
-    and_true true = refl
-    and_true false = refl
-all_joined-push n (x ∷ ls) l =
-    ap (λ b. has_number (joined_number x.0) n && b) (all_joined-push n ls l) ∙ and_assoc (has_number (joined_number x.0) n) (all_joined n ls) (same_number (joined_number l.0) (Some n))
-
-pub is_joined-push : (ls : List (Infix × ℕ)) (l : Infix × ℕ) → 0 < length ls → is_joined (ls ++ l ∷ []) ≡ (is_joined ls && same_number (joined_number l.0) (first_number ls))
-is_joined-push [] l h = absurd (omega arith)
-is_joined-push (x ∷ ls) l h = go (joined_number x.0)
-  where
-    go : (o : Option ℕ) → joined_as o (ls ++ l ∷ []) ≡ (joined_as o ls && same_number (joined_number l.0) o)
-    go None = refl
-    go (Some n) = all_joined-push n ls l
-
 pub none_so_far : {A : Type 0} (ls : List A) → length ls ≡ 0 → ls ≡ []
 none_so_far [] e = refl
 none_so_far (x ∷ ls) e = absurd (omega arith)
 
 -- a chain is at least as high as its parts
-highest_link-least : (n : ℕ) (ls : List (Infix × ℕ)) → n ≤ highest_link n ls
-highest_link-least n [] = omega arith
-highest_link-least n (x ∷ ls) = let ih = highest_link-least (max n x.1) ls in omega arith
-
 folded-least : (n : ℕ) (ls : List (Infix × ℕ)) → n ≤ folded n ls
 folded-least n [] = omega arith
 folded-least n (x ∷ ls) = let ih = folded-least (suc (max n x.1)) ls in omega arith
@@ -114,7 +85,7 @@ Within m (l ∷ ls) = (l.1 ≤ m) × Within m ls
 
 highest_link-within : (m n : ℕ) (ls : List (Infix × ℕ)) → highest_link n ls ≤ m → Within m ls
 highest_link-within m n [] h = tt
-highest_link-within m n (x ∷ ls) h = (let g = highest_link-least (max n x.1) ls in omega arith, highest_link-within m (max n x.1) ls h)
+highest_link-within m n (x ∷ ls) h = (omega arith, highest_link-within m x.1 ls (omega arith))
 
 folded-within : (m n : ℕ) (ls : List (Infix × ℕ)) → folded n ls ≤ m → Within m ls
 folded-within m n [] h = tt
@@ -128,7 +99,7 @@ pub chain-within : (m n : ℕ) (ls : List (Infix × ℕ)) → chain_height n ls 
 chain-within m n ls h = go (is_joined ls) (is_implied ls) h
   where
     go : (a b : Bool) → (if a then suc (highest_link n ls) else (if b then folded_right n ls else folded n ls)) ≤ m → (n ≤ m) × Within m ls
-    go true b h = (let g = highest_link-least n ls in omega arith, highest_link-within m n ls (omega arith))
+    go true b h = (omega arith, highest_link-within m n ls (omega arith))
     go false true h = (let g = folded_right-least n ls in omega arith, folded_right-within m n ls h)
     go false false h = (let g = folded-least n ls in omega arith, folded-within m n ls h)
 

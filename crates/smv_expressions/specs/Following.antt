@@ -4,7 +4,9 @@ use Rattle.text_core.specs.declared.place.Place.{Place}
 use Rattle.smv_text.specs.declared.token.Sign.{Sign}
 use Rattle.smv_text.specs.declared.token.Token.{Token}
 use Rattle.smv_text.specs.Levels.{all_levels}
-use Rattle.smv_text.specs.Tree.{Tree, select}
+use Rattle.smv_text.specs.declared.level.OperatorClass.{OperatorClass}
+use Rattle.smv_text.specs.declared.tree.Infix.{Infix}
+use Rattle.smv_text.specs.Tree.{Tree, select, branches_of}
 use Rattle.smv_text.specs.declared.token.Sign.TheVariants as sign
 use Rattle.smv_grammar.specs.declared.levels.Leader.{Leader}
 use Rattle.smv_grammar.specs.declared.levels.Leader.TheVariants as leader
@@ -12,7 +14,7 @@ use Rattle.smv_expressions.specs.declared.stop.Stop.{Stop}
 use Rattle.smv_expressions.specs.declared.stop.Stop.TheVariants.{Dead, NoMemory}
 use Rattle.smv_grammar.specs.Kept.{Read, cap}
 use Rattle.smv_grammar.specs.Ranks.{tightest}
-use Rattle.smv_grammar.specs.Machine.{Frame, State, ask, have, high_end, selected, failed, walk, took, dead, run}
+use Rattle.smv_grammar.specs.Machine.{Frame, State, bare, operand, when, whole, choice_at, ask, have, high_end, selected, failed, walk, took, dead, run}
 use Rattle.smv_grammar.specs.Reading.{Found, after, found, lost, starts_range, waiting}
 
 abbrev pub IsLost : {A : Type 0} → Found A → Stop → Type 0
@@ -79,6 +81,20 @@ pub record Gathers {P : Type 0} (are : P → Type 0) (whole : P → Tree) (from 
 abbrev pub Collects : {P Y : Type 0} → (P → Type 0) → (P → Tree) → (Y → List Token) → (List Frame → State) → List Token → Result Y Stop → Type 0
 Collects are whole view from xs (Ok y) = Gathers are whole from xs (view y)
 Collects are whole view from xs (Err e) = Dies from xs e
+
+-- The machine has the first operand of a chain, and the chain of that operand and links.
+abbrev pub chain_from : OperatorClass → ℕ → Place → Tree → List Frame → State
+chain_from class below p t k = have t (operand class (tightest below) p bare ∷ k)
+
+abbrev pub chain_of : Place → Tree → List (Infix × Tree) → Tree
+chain_of p t ls = whole p (record { first = t; links = ls })
+
+-- The machine has the first condition of a choice, and the choice of branches and what stands behind the last colon.
+abbrev pub choice_from : ℕ → Place → Tree → List Frame → State
+choice_from below p t k = have t (when (tightest below) p [] ∷ k)
+
+abbrev pub choice_of : Place → List (Tree × Tree) × Tree → Tree
+choice_of p c = choice_at p (branches_of c.0) c.1
 
 -- a function that wants a sign
 abbrev pub Misses : Sign → List Token → Stop → Type 0

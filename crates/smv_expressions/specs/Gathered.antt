@@ -1,11 +1,11 @@
 -- What the parts that were read so far are kept as, and what is kept of a chain's and of branches' heights.
-use Rattle.std.specs.Prelude.{◌≡◌, ℕ, suc, ◌+◌, max, Bool, false, nat_eq, Option, Some, None, List, [], ◌∷◌, map, length}
+use Rattle.std.specs.Prelude.{◌≡◌, ℕ, suc, ◌+◌, max, false, List, [], ◌∷◌, map, length}
 use Rattle.text_core.specs.declared.place.Place.{Place}
 use Rattle.smv_text.specs.declared.tree.Infix.{Infix}
 use Rattle.smv_text.specs.declared.tree.Expr.{roll-Expr}
 use Rattle.smv_text.specs.declared.tree.Shape.{Shape}
 use Rattle.smv_text.specs.Tree.{Tree, name, links_of}
-use Rattle.smv_text.specs.Heights.{height, highest, highest_link, folded, is_joined, is_implied, joined_number, link_heights}
+use Rattle.smv_text.specs.Heights.{height, highest, folded, is_joined, is_implied, joined_number, link_heights}
 use Rattle.smv_text.specs.View.{plain, plain_link, plain_branch}
 use Rattle.smv_expressions.specs.declared.kept.Kept.{Kept}
 use Rattle.smv_expressions.specs.declared.kept.Members.{Members}
@@ -55,9 +55,13 @@ pub record AreCases (bs : List (Tree × Tree)) (c : Cases) : Type 0 where
 abbrev pub IsChoice : Cases → Read → List (Tree × Tree) × Tree → Type 0
 IsChoice c r x = AreCases x.0 c × (r ≡ cap x.1)
 
--- the number of a chain's first operator
-abbrev pub first_number : List (Infix × ℕ) → Option ℕ
-first_number [] = None
+-- the highest operand of a chain
+abbrev pub highest_link : ℕ → List (Infix × ℕ) → ℕ
+highest_link n ls = max n (highest (map (λ l. l.1) ls))
+
+-- a chain's first operator by its number
+abbrev pub first_number : List (Infix × ℕ) → ℕ
+first_number [] = 0
 first_number (l ∷ ls) = joined_number l.0
 
 -- the highest of the operands before the last, each under the operators up to the one behind it, over so many others
@@ -84,8 +88,3 @@ pub record AreHeights (n : ℕ) (ls : List (Infix × ℕ)) (h : Heights) : Type 
 pub record AreOperands (t : Tree) (ls : List (Infix × Tree)) (o : Operands) : Type 0 where
   pub trees : map plain_link o.links.items ≡ map low_link ls
   pub heights : AreHeights (height t) (link_heights (links_of ls)) o.heights
-
-abbrev pub same_number : Option ℕ → Option ℕ → Bool
-same_number None b = false
-same_number (Some m) None = false
-same_number (Some m) (Some n) = nat_eq m n

@@ -12,7 +12,7 @@ ghost use Rattle.smv_expressions.specs.Gathered.{read_of, AreMembers, AreCases, 
 ghost use Rattle.smv_grammar.specs.Machine.{bare, operand, when, selected, condition, listing, ask, have, signed, open_next, opened, prefix_sign, closing_of, leader_of, whole, choice_at, listed};
 ghost use Rattle.std.specs.Bool.{OnTrue};
 ghost use Rattle.smv_grammar.specs.Reading.{starts_range, waiting};
-ghost use Rattle.smv_expressions.specs.Following.{IsOperand, Begins, first_level, is_alone, Collects, Follows, Selects, Takes};
+ghost use Rattle.smv_expressions.specs.Following.{chain_from, chain_of, choice_from, choice_of, IsOperand, Begins, first_level, is_alone, Collects, Follows, Selects, Takes};
 
 use crate::kept::{
     Cases, Kept, Members, Operands, discard, leaf, name_leaf, next_value, prefixed as with_prefix,
@@ -21,9 +21,9 @@ use crate::kept::{
 use crate::leaves::{expect, integer, number, path, starts_range};
 use crate::stop::Stop;
 use smv_grammar::{
-    Leader, Listing, after, after_word, first_rank, is_first, joint_after, leader_of, level_at,
+    Leader, Listing, after, after_word, first_rank, is_first, leader_of, level_at, operator_after,
 };
-use smv_text::{Joint, Level, Prefix, Reserved, Shape, Sign, Token, TokenKind};
+use smv_text::{Level, OperatorClass, Prefix, Reserved, Shape, Sign, Token, TokenKind};
 use std::alloc::Global;
 use text_core::{FIRST_PLACE, Place};
 
@@ -239,7 +239,7 @@ fn grown<'a>(
     ensures shorter { IfOk result (λ r. length r.now ≤ length tokens.now) }
 {
     match level_at(below) {
-        Level::Chain(joint) => chain(alloc, joint, below, place, tokens, kept),
+        Level::Chain(class) => chain(alloc, class, below, place, tokens, kept),
         Level::Choice => choice(alloc, below, place, tokens, kept),
         Level::Range => Ok(tokens),
         Level::Before(_) => Ok(tokens),
@@ -251,7 +251,7 @@ fn grown<'a>(
 #[inline(always)]
 fn chain<'a>(
     alloc: Global,
-    joint: Joint,
+    class: OperatorClass,
     below: usize,
     place: Place,
     tokens: &'a [Token],
@@ -259,12 +259,12 @@ fn chain<'a>(
 ) -> Result<&'a [Token], Stop>
     requires few { below < 16 }
     requires short { length tokens.now < 2 ^ 32 }
-    ensures reads { (t : Tree) → read_of kept.old ≡ cap t → Follows (λ r. (read_of kept.new, r.now)) (λ k. have t (operand joint (tightest below) place bare ∷ k)) tokens.now result }
+    ensures reads { (t : Tree) → read_of kept.old ≡ cap t → Follows (λ r. (read_of kept.new, r.now)) (λ k. have t (operand class (tightest below) place bare ∷ k)) tokens.now result }
     ensures shorter { IfOk result (λ r. length r.now ≤ length tokens.now) }
 {
     let mut operands = Operands::new(alloc, kept.height);
     let mut operand = leaf(place, Shape::True);
-    let answer = gather_operands(alloc, joint, below, tokens, &mut operand, &mut operands);
+    let answer = gather_operands(alloc, class, below, tokens, &mut operand, &mut operands);
     discard(operand);
     let rest = answer?;
     operands.chain(alloc, place, kept)?;
@@ -276,7 +276,7 @@ fn chain<'a>(
 #[inline(always)]
 fn gather_operands<'a>(
     alloc: Global,
-    joint: Joint,
+    class: OperatorClass,
     below: usize,
     tokens: &'a [Token],
     part: &mut Kept,
@@ -284,11 +284,11 @@ fn gather_operands<'a>(
 ) -> Result<&'a [Token], Stop>
     requires few { below < 16 }
     requires short { length tokens.now < 2 ^ 32 }
-    ensures reads { (p : Place) (t : Tree) → AreOperands t [] operands.old → Collects (λ ls. AreOperands t ls operands.new) (λ ls. whole p (record { first = t; links = ls })) (λ r. r.now) (λ k. have t (operand joint (tightest below) p bare ∷ k)) tokens.now result }
+    ensures reads { (p : Place) (t : Tree) → AreOperands t [] operands.old → Collects (λ ls. AreOperands t ls operands.new) (chain_of p t) (λ r. r.now) (chain_from class below p t) tokens.now result }
     ensures shorter { IfOk result (λ r. length r.now ≤ length tokens.now) }
 {
     let mut rest = tokens;
-    while let Some((op, more)) = joint_after(rest, joint) {
+    while let Some((op, more)) = operator_after(rest, class) {
         let last = read(alloc, below, more, part)?;
         operands.push(op, taken(part))?;
         rest = last;
@@ -333,7 +333,7 @@ fn gather_choices<'a>(
 ) -> Result<&'a [Token], Stop>
     requires few { below < 16 }
     requires short { length tokens.now < 2 ^ 32 }
-    ensures reads { (p : Place) (t : Tree) → AreCases [] branches.old → read_of kept.old ≡ cap t → Collects (IsChoice branches.new (read_of kept.new)) (λ c. choice_at p (branches_of c.0) c.1) (λ r. r.now) (λ k. have t (when (tightest below) p [] ∷ k)) tokens.now result }
+    ensures reads { (p : Place) (t : Tree) → AreCases [] branches.old → read_of kept.old ≡ cap t → Collects (IsChoice branches.new (read_of kept.new)) (choice_of p) (λ r. r.now) (choice_from below p t) tokens.now result }
     ensures shorter { IfOk result (λ r. length r.now ≤ length tokens.now) }
 {
     let mut rest = tokens;

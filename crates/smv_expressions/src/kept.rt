@@ -1,13 +1,13 @@
 // What is kept of the expressions that were read, and their heights.
 
 ghost use Rattle.std.specs.Prelude.{◌≡◌, ◌<◌, ◌+◌, ◌∷◌, ◌++◌, [], max, ℕ, List, IfOk, IfErr, OnOk};
-ghost use Rattle.smv_text.specs.Heights.{height, chain_height, is_implied, is_implies, is_joined, joined_number};
+ghost use Rattle.smv_text.specs.Heights.{height, chain_height, is_implied, is_joined, joined_number};
 ghost use Rattle.smv_text.specs.Tree.{Tree, prefix, select, next, cases, branches_of};
 ghost use Rattle.smv_text.specs.View.{plain};
 ghost use Rattle.smv_expressions.specs.declared.stop.Stop.TheVariants.{NoMemory};
 ghost use Rattle.smv_grammar.specs.Kept.{cap, capped, keep_at};
 ghost use Rattle.smv_grammar.specs.Machine.{listed, choice_at, whole};
-ghost use Rattle.smv_expressions.specs.Gathered.{read_of, shaped, single, AreMembers, AreCases, AreHeights, AreOperands, first_number, same_number};
+ghost use Rattle.smv_expressions.specs.Gathered.{read_of, shaped, single, AreMembers, AreCases, AreHeights, AreOperands, first_number};
 
 use crate::stop::Stop;
 use smv_grammar::Listing;
@@ -299,8 +299,8 @@ pub(crate) struct Operands {
 // The heights that a chain has so far, by each way to fold it.
 #[derive(Clone, Copy)]
 struct Heights {
-    // The number of the first operator of which a chain is one node.
-    number: Option<u8>,
+    // The first operator by its number among those of which a chain is one node, 0 for any other.
+    number: u8,
     // All operators are that one.
     joined: bool,
     // The operators are implications.
@@ -322,7 +322,7 @@ impl Heights {
         ensures { (n : ℕ) → first ≡ capped n → AreHeights n [] result }
     {
         Heights {
-            number: None,
+            number: 0,
             joined: true,
             implied: false,
             depth: 0,
@@ -350,7 +350,7 @@ impl Heights {
         }
     }
 
-    fn number_with(self, op: Infix) -> Option<u8>
+    fn number_with(self, op: Infix) -> u8
         ensures { (n m : ℕ) (ls : List (Infix × ℕ)) → AreHeights n ls self → result ≡ first_number (ls ++ (op, m) ∷ []) }
     {
         if self.depth == 0 {
@@ -364,9 +364,9 @@ impl Heights {
         ensures { (n m : ℕ) (ls : List (Infix × ℕ)) → AreHeights n ls self → result ≡ is_joined (ls ++ (op, m) ∷ []) }
     {
         if self.depth == 0 {
-            joined_number(op).is_some()
+            joined_number(op) > 0
         } else {
-            self.joined && is_same(joined_number(op), self.number)
+            self.joined && joined_number(op) == self.number
         }
     }
 
@@ -393,38 +393,26 @@ impl Heights {
     }
 }
 
-fn joined_number(op: Infix) -> Option<u8>
+fn joined_number(op: Infix) -> u8
     ensures { result ≡ joined_number op }
 {
     match op {
-        Infix::And => Some(1),
-        Infix::Or => Some(2),
-        Infix::Xor => Some(3),
-        Infix::Plus => Some(4),
-        Infix::Times => Some(5),
-        Infix::Union => Some(6),
-        _ => None,
+        Infix::And => 1,
+        Infix::Or => 2,
+        Infix::Xor => 3,
+        Infix::Plus => 4,
+        Infix::Times => 5,
+        Infix::Union => 6,
+        _ => 0,
     }
 }
 
 fn is_implies(op: Infix) -> bool
-    ensures { result ≡ is_implies op }
+    ensures { (n : ℕ) (ls : List (Infix × ℕ)) → result ≡ is_implied ((op, n) ∷ ls) }
 {
     match op {
         Infix::Implies => true,
         _ => false,
-    }
-}
-
-fn is_same(a: Option<u8>, b: Option<u8>) -> bool
-    ensures { result ≡ same_number a b }
-{
-    match a {
-        None => false,
-        Some(x) => match b {
-            None => false,
-            Some(y) => x == y,
-        },
     }
 }
 

@@ -58,7 +58,7 @@ element_forms t i e = []
 -- ---- all of them; k is the number of the first item of the instance of number i
 
 abbrev pub forms_here : List Instance → ℕ → ℕ → Instance → List Form
-forms_here t k i at = body_forms t k (items_here i at) ++ flat_map (element_forms t i) at.plan.elements
+forms_here t k i at = body_forms t k (items_here i at) ++ flat_map (element_forms t i) at.module.elements
 
 abbrev pub forms_from : List Instance → ℕ → ℕ → List Instance → List Form
 forms_from t k i [] = []

@@ -1,5 +1,5 @@
 -- The flat form of an expression: numbers of items and of symbols in place of paths, and the type of each node. What it denotes
--- hangs on the values of items alone (NuSMV 2.6 User Manual, 2.2.3).
+-- hangs on the values of items alone (NuSMV 2.6 User Manual, 2.2).
 use Rattle.std.specs.Prelude.{ℕ, ℤ, pos, Bool, true, false, ◌&&◌, ◌||◌, if◌then◌else◌, List, [], ◌∷◌, Option, None}
 use Rattle.word_core.specs.Words.{BitVector}
 use Rattle.smv_text.specs.declared.tree.Path.{Path}

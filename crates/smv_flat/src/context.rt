@@ -7,7 +7,7 @@ ghost use Rattle.smv_items.specs.FlatItems.{origins_of, symbols_of, leaf_in};
 ghost use Rattle.smv_items.specs.FlatOrigins.{leaf_plain, AreBodies, AreVariables};
 
 use smv_instances::Table;
-use smv_items::{Leaf, Numbers, Symbols, leaf_at};
+use smv_items::{ItemNumbers, Leaf, Symbols, leaf_at};
 use smv_text::Path;
 use std::alloc::Global;
 use text_core::NoMemory;
@@ -17,7 +17,7 @@ use text_core::NoMemory;
 pub(crate) struct Context<'s, 'a, 'n, N> {
     pub(crate) naming: &'s N,
     pub(crate) table: &'s Table<'a>,
-    pub(crate) numbers: &'s Numbers<'a, 'n>,
+    pub(crate) numbers: &'s ItemNumbers<'a, 'n>,
     pub(crate) symbols: &'s Symbols,
     ghost bodies: { AreBodies (origins_of (map instance_plain table.now)) numbers.now.bodies } by { let number : Coded (Option ℕ) = Prim.hlevel codes in Π_prop (λ i. Π_prop (λ x. Coded-set number _ _)) },
     ghost states: { AreVariables (map instance_plain table.now) OfVarKind.State (origins_of (map instance_plain table.now)) numbers.now.states } by { let number : Coded (Option ℕ) = Prim.hlevel codes in Π_prop (λ x. Coded-set number _ _) },

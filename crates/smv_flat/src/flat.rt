@@ -1,16 +1,16 @@
 // Expressions over the numbers of items and symbols, each node with its type.
-ghost use Rattle.std.specs.Prelude.{◌≡◌, Bool, Option, Some, None, false, true, [], map, IfOk};
+ghost use Rattle.std.specs.Prelude.{Bool, Option, Some, None, false, true, map, IfOk};
 ghost use Rattle.smv_text.specs.Tree.{links_of, branches_of, trees_of};
 ghost use Rattle.smv_text.specs.View.{plain, plain_link, plain_branch};
 ghost use Rattle.smv_meaning.specs.Types.{ExprType, truth_type};
-ghost use Rattle.smv_meaning.specs.Checks.{typing, single, condition_types, value_types, tree_types, literal_type};
+ghost use Rattle.smv_meaning.specs.Checks.{literal_type};
 ghost use Rattle.smv_types.specs.View.{named_seen, standing_seen};
 ghost use Rattle.smv_types.specs.Steps.{number_step, name_step, next_step, range_step};
-ghost use Rattle.smv_flat.specs.FlatTree.{FlatTree, flat_truth, flat_number, flat_literal, flat_range, leaf_tree, flat_tree, flat_links, flat_branches, flat_trees, is_set, has_set};
+ghost use Rattle.smv_flat.specs.FlatTree.{FlatTree, flat_truth, flat_number, flat_literal, flat_range, leaf_tree};
 ghost use Rattle.smv_instances.specs.View.{instance_plain};
 ghost use Rattle.smv_items.specs.FlatItems.{leaf_in};
 ghost use Rattle.smv_items.specs.FlatOrigins.{leaf_plain};
-ghost use Rattle.smv_flat.specs.FlatView.{IsNode, AreOperands, AreParts, AreCases, behind_types};
+ghost use Rattle.smv_flat.specs.FlatView.{IsNode, IsFlat, AreFlatLinks, AreFlatBranches, AreFlatTrees};
 
 use crate::context::Context;
 use crate::expressions::{FlatExpr, FlatShape};
@@ -117,7 +117,7 @@ pub(crate) fn flat<'s, 'a, 'n, N: Naming>(
     at: Standing,
     under: bool,
 ) -> Result<Typed, NoMemory>
-    ensures { IfOk result (λ x. IsNode x (flat_tree (N.names context.now.naming.now i) (leaf_in (map instance_plain context.now.table.now) i) (standing_seen at) under (plain e.now)) (typing (N.names context.now.naming.now i) (standing_seen at) (plain e.now)).type (is_set (plain e.now))) }
+    ensures { IfOk result (IsFlat (N.names context.now.naming.now i) (leaf_in (map instance_plain context.now.table.now) i) (standing_seen at) under (plain e.now)) }
 {
     let place = e.place;
     match &e.shape {
@@ -179,7 +179,7 @@ fn flat_links<'s, 'a, 'n, N: Naming>(
     at: Standing,
     under: bool,
 ) -> Result<Operands, NoMemory>
-    ensures { IfOk result (λ x. AreOperands x (flat_links (N.names context.now.naming.now i) (leaf_in (map instance_plain context.now.table.now) i) (standing_seen at) under (links_of (map plain_link links.now))) (behind_types (N.names context.now.naming.now i) (standing_seen at) (links_of (map plain_link links.now)))) }
+    ensures { IfOk result (AreFlatLinks (N.names context.now.naming.now i) (leaf_in (map instance_plain context.now.table.now) i) (standing_seen at) under (links_of (map plain_link links.now))) }
 {
     let mut operands = Operands {
         links: Vec::new(alloc),
@@ -201,7 +201,7 @@ fn flat_branches<'s, 'a, 'n, N: Naming>(
     at: Standing,
     under: bool,
 ) -> Result<Cases, NoMemory>
-    ensures { IfOk result (λ x. AreCases x (flat_branches (N.names context.now.naming.now i) (leaf_in (map instance_plain context.now.table.now) i) (standing_seen at) under (branches_of (map plain_branch branches.now))) (condition_types (N.names context.now.naming.now i) (single (standing_seen at)) (branches_of (map plain_branch branches.now))) (value_types (N.names context.now.naming.now i) (standing_seen at) (branches_of (map plain_branch branches.now)) []) (has_set (branches_of (map plain_branch branches.now)))) }
+    ensures { IfOk result (AreFlatBranches (N.names context.now.naming.now i) (leaf_in (map instance_plain context.now.table.now) i) (standing_seen at) under (branches_of (map plain_branch branches.now))) }
 {
     let mut cases = Cases {
         branches: Vec::new(alloc),
@@ -228,7 +228,7 @@ fn flat_parts<'s, 'a, 'n, N: Naming>(
     at: Standing,
     under: bool,
 ) -> Result<Parts, NoMemory>
-    ensures { IfOk result (λ x. AreParts x (flat_trees (N.names context.now.naming.now i) (leaf_in (map instance_plain context.now.table.now) i) (standing_seen at) under (trees_of (map plain parts.now))) (tree_types (N.names context.now.naming.now i) (standing_seen at) (trees_of (map plain parts.now)))) }
+    ensures { IfOk result (AreFlatTrees (N.names context.now.naming.now i) (leaf_in (map instance_plain context.now.table.now) i) (standing_seen at) under (trees_of (map plain parts.now))) }
 {
     let mut all = Parts {
         exprs: Vec::new(alloc),

@@ -1,21 +1,21 @@
 // The formulas of a model over the numbers of its items.
 ghost use Rattle.std.specs.Prelude.{◌≡◌, true, ◌+◌, ◌++◌, ◌∷◌, [], map, flat_map, OnOk, IfOk};
-ghost use Rattle.smv_text.specs.View.{plain, plain_assignment, plain_element};
-ghost use Rattle.smv_meaning.specs.Phases.{in_state, in_step, in_assignment};
+ghost use Rattle.smv_text.specs.View.{plain_assignment, plain_element};
+ghost use Rattle.smv_meaning.specs.Phases.{in_assignment};
 ghost use Rattle.smv_meaning.specs.Settled.{types_in};
 ghost use Rattle.smv_instances.specs.View.{instance_plain};
 ghost use Rattle.smv_types.specs.View.{position_seen};
-ghost use Rattle.smv_items.specs.FlatItems.{origins_of, symbols_of, leaf_in, items_here};
+ghost use Rattle.smv_items.specs.FlatItems.{origins_of, symbols_of, items_here};
 ghost use Rattle.smv_items.specs.FlatOrigins.{origin_plain, content_plain, leaf_plain, AreNumbers};
-ghost use Rattle.smv_flat.specs.FlatForms.{flat_in, content_form, body_forms, number_or_first, assignment_form, element_forms, forms_here, forms_of};
-ghost use Rattle.smv_flat.specs.FlatFormulas.{form_plain};
+ghost use Rattle.smv_flat.specs.FlatForms.{content_form, body_forms, number_or_first, assignment_form, element_forms, forms_here, forms_of};
+ghost use Rattle.smv_flat.specs.FlatFormulas.{form_plain, form_of};
 
 use crate::context::Context;
 use crate::flat::flat;
-use crate::forms::{FlatFormula, Role};
+use crate::forms::{FlatFormula, Role, SourceFormula};
 use crate::naming::Naming;
 use smv_instances::{Instance, Table};
-use smv_items::{Content, Leaf, Numbers, Origin, Symbols, origins_at};
+use smv_items::{Content, ItemNumbers, Leaf, Origin, Symbols, origins_at};
 use smv_text::{Assignment, Assignments, Element, Elements, Expr, When};
 use smv_types::{Position, Standing};
 use std::alloc::Global;
@@ -31,25 +31,21 @@ fn small(n: usize) -> Result<u32, NoMemory>
     }
 }
 
-// A formula of an instance, read in the instance i at such a place.
+// The flat form of a formula of the model.
 fn formula<'s, 'a, 'n, N: Naming>(
     alloc: Global,
     context: &Context<'s, 'a, 'n, N>,
-    instance: usize,
-    role: Role,
-    i: usize,
-    e: &'a Expr,
-    position: Position,
+    source: SourceFormula<'a>,
 ) -> Result<FlatFormula, NoMemory>
     requires typed { N.names context.now.naming.now ≡ types_in true (map instance_plain context.now.table.now) }
-    ensures { IfOk result (λ f. form_plain f ≡ record { instance = instance; role = role; body = flat_in (map instance_plain context.now.table.now) i (position_seen position) (plain e.now) }) }
+    ensures { IfOk result (λ f. form_plain f ≡ form_of (map instance_plain context.now.table.now) source.entry) }
 {
-    let owner = small(instance)?;
-    let at = Standing::of(position);
-    let x = flat(alloc, context, i, e, at, false)?;
+    let instance = small(source.instance)?;
+    let at = Standing::of(source.position);
+    let x = flat(alloc, context, source.reader, source.body, at, false)?;
     Ok(FlatFormula {
-        instance: owner,
-        role,
+        instance,
+        role: source.role,
         body: x.expr,
     })
 }
@@ -60,22 +56,31 @@ fn push(forms: &mut Vec<FlatFormula>, form: FlatFormula) -> Result<(), NoMemory>
     Ok(forms.push(form)?)
 }
 
-// Adds such a formula.
+// Adds the flat form of a formula of the model.
 fn add<'s, 'a, 'n, N: Naming>(
     alloc: Global,
     context: &Context<'s, 'a, 'n, N>,
     forms: &mut Vec<FlatFormula>,
-    instance: usize,
-    role: Role,
-    i: usize,
-    e: &'a Expr,
-    position: Position,
+    source: SourceFormula<'a>,
 ) -> Result<(), NoMemory>
     requires typed { N.names context.now.naming.now ≡ types_in true (map instance_plain context.now.table.now) }
-    ensures { OnOk result (map form_plain forms.new.items ≡ map form_plain forms.old.items ++ record { instance = instance; role = role; body = flat_in (map instance_plain context.now.table.now) i (position_seen position) (plain e.now) } ∷ []) }
+    ensures { OnOk result (map form_plain forms.new.items ≡ map form_plain forms.old.items ++ form_of (map instance_plain context.now.table.now) source.entry ∷ []) }
 {
-    let form = formula(alloc, context, instance, role, i, e, position)?;
+    let form = formula(alloc, context, source)?;
     push(forms, form)
+}
+
+// A formula that is read in its own instance.
+fn read_here<'a>(i: usize, role: Role, body: &'a Expr, position: Position) -> SourceFormula<'a>
+    ensures { result ≡ record { instance = i; role = role; reader = i; body = body.entry; position = position } }
+{
+    SourceFormula {
+        instance: i,
+        role,
+        reader: i,
+        body,
+        position,
+    }
 }
 
 // The body of a definition or an actual, which is the item of number k.
@@ -89,16 +94,28 @@ fn add_body<'s, 'a, 'n, N: Naming>(
     requires typed { N.names context.now.naming.now ≡ types_in true (map instance_plain context.now.table.now) }
     ensures { OnOk result (map form_plain forms.new.items ≡ map form_plain forms.old.items ++ content_form (map instance_plain context.now.table.now) k origin.now.instance (content_plain origin.now.content)) }
 {
-    let i = origin.instance;
+    let instance = origin.instance;
     match origin.content {
         Content::Variable(_, _) => Ok(()),
-        Content::Definition(j, e) => {
-            let role = Role::Body(small(k)?);
-            add(alloc, context, forms, i, role, j, e, Position::Define)
+        Content::Definition(reader, body) => {
+            let source = SourceFormula {
+                instance,
+                role: Role::Body(small(k)?),
+                reader,
+                body,
+                position: Position::Define,
+            };
+            add(alloc, context, forms, source)
         }
-        Content::Actual(j, e) => {
-            let role = Role::Body(small(k)?);
-            add(alloc, context, forms, i, role, j, e, Position::Actual)
+        Content::Actual(reader, body) => {
+            let source = SourceFormula {
+                instance,
+                role: Role::Body(small(k)?),
+                reader,
+                body,
+                position: Position::Actual,
+            };
+            add(alloc, context, forms, source)
         }
     }
 }
@@ -158,8 +175,8 @@ fn add_assignment<'s, 'a, 'n, N: Naming>(
     let leaf = context.leaf(alloc, i, &assignment.target)?;
     let role = Role::Assign(assignment.when, target(leaf));
     let position = behind(assignment.when);
-    let body = &assignment.body;
-    add(alloc, context, forms, i, role, i, body, position)
+    let source = read_here(i, role, &assignment.body, position);
+    add(alloc, context, forms, source)
 }
 
 fn add_assignments<'s, 'a, 'n, N: Naming>(
@@ -193,19 +210,22 @@ fn add_element<'s, 'a, 'n, N: Naming>(
         Element::Defines(_) => Ok(()),
         Element::Constants(_) => Ok(()),
         Element::Assigns(assignments) => add_assignments(alloc, context, forms, i, assignments),
-        Element::Init(e) => add(alloc, context, forms, i, Role::Init, i, e, Position::Now),
-        Element::Trans(e) => add(alloc, context, forms, i, Role::Trans, i, e, Position::Step),
-        Element::Invar(e) => add(alloc, context, forms, i, Role::Invar, i, e, Position::Now),
-        Element::Spec(_, e) => add(
-            alloc,
-            context,
-            forms,
-            i,
-            Role::Invariant,
-            i,
-            e,
-            Position::Now,
-        ),
+        Element::Init(e) => {
+            let source = read_here(i, Role::Init, e, Position::Now);
+            add(alloc, context, forms, source)
+        }
+        Element::Trans(e) => {
+            let source = read_here(i, Role::Trans, e, Position::Step);
+            add(alloc, context, forms, source)
+        }
+        Element::Invar(e) => {
+            let source = read_here(i, Role::Invar, e, Position::Now);
+            add(alloc, context, forms, source)
+        }
+        Element::Spec(_, e) => {
+            let source = read_here(i, Role::Invariant, e, Position::Now);
+            add(alloc, context, forms, source)
+        }
     }
 }
 
@@ -239,13 +259,13 @@ fn add_instance<'s, 'a, 'n, N: Naming>(
     requires own { map origin_plain own.now ≡ items_here i (instance_plain at.now) }
     ensures { OnOk result (map form_plain forms.new.items ≡ map form_plain forms.old.items ++ forms_here (map instance_plain context.now.table.now) first i (instance_plain at.now)) }
 {
-    let plan = at.plan;
+    let module = at.module;
     add_bodies(alloc, context, forms, first, own)?;
-    add_elements(alloc, context, forms, i, &plan.elements)
+    add_elements(alloc, context, forms, i, &module.elements)
 }
 
 // The formulas of all instances.
-#[tactic(auto, using(smv_items::specs::laws::Lists::front_is, smv_items::specs::laws::Lists::end_is))]
+#[tactic(auto, using(smv_meaning::specs::laws::Lists::front_is, smv_meaning::specs::laws::Lists::end_is))]
 fn all_formulas<'s, 'a, 'n, N: Naming>(
     alloc: Global,
     context: &Context<'s, 'a, 'n, N>,
@@ -273,7 +293,7 @@ pub fn formulas_in<'a, 'n, N: Naming>(
     alloc: Global,
     names: &N,
     table: &Table<'a>,
-    numbers: &Numbers<'a, 'n>,
+    numbers: &ItemNumbers<'a, 'n>,
     symbols: &Symbols,
 ) -> Result<Vec<FlatFormula>, NoMemory>
     requires typed { N.names names.now ≡ types_in true (map instance_plain table.now) }

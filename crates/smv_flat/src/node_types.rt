@@ -92,7 +92,7 @@ fn front_type(
 }
 
 // The type of a chain that is read from the left, front by front.
-#[tactic(auto, using(smv_items::specs::laws::Lists::front_is, smv_items::specs::laws::Lists::end_is))]
+#[tactic(auto, using(smv_meaning::specs::laws::Lists::front_is, smv_meaning::specs::laws::Lists::end_is))]
 pub(crate) fn fronts_type(
     at: Standing,
     place: Place,

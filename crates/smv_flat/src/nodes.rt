@@ -3,12 +3,12 @@ ghost use Rattle.std.specs.Prelude.{◌≡◌, Bool, true, false, ◌||◌, ◌+
 ghost use Rattle.smv_text.specs.Tree.{links_of, trees_of};
 ghost use Rattle.smv_text.specs.View.{plain, plain_link};
 ghost use Rattle.smv_meaning.specs.Types.{ExprType, numbers_of};
-ghost use Rattle.smv_meaning.specs.Checks.{all_types, are_unions};
+ghost use Rattle.smv_meaning.specs.Checks.{all_types};
 ghost use Rattle.smv_intervals.specs.View.{seen};
 ghost use Rattle.smv_types.specs.View.{standing_seen};
-ghost use Rattle.smv_types.specs.Steps.{prefix_step, select_step, branches_step, call_step, set_step};
-ghost use Rattle.smv_flat.specs.FlatTree.{FlatTree, FlatLinks as PlainLinks, FlatBranches as PlainBranches, FlatTrees as PlainTrees, flat_prefix, flat_chain, flat_choice, flat_cases, flat_select, flat_call, flat_set, unless_set};
-ghost use Rattle.smv_flat.specs.FlatView.{plain_flat, plain_flat_link, plain_flat_branch, IsNode, AreOperands, AreParts, AreCases, chain_type};
+ghost use Rattle.smv_types.specs.Steps.{branches_step, set_step};
+ghost use Rattle.smv_flat.specs.FlatTree.{FlatTree, FlatBranches as PlainBranches, FlatTrees as PlainTrees, flat_set, unless_set};
+ghost use Rattle.smv_flat.specs.FlatView.{plain_flat, plain_flat_link, plain_flat_branch, IsNode, IsPrefixNode, IsSelectNode, MakesChain, MakesChoice, IsCasesNode, IsCallNode, AreParts, AreCases, chain_type};
 
 use crate::expressions::{
     FlatBranch, FlatBranches, FlatExpr, FlatExprs, FlatLink, FlatLinks, FlatShape,
@@ -71,7 +71,7 @@ fn small(n: u64) -> Result<u32, NoMemory>
 }
 
 // A set has no type of its own.
-fn own_type(is_set: bool, ty: Option<Ty>) -> Option<Ty>
+fn type_unless_set(is_set: bool, ty: Option<Ty>) -> Option<Ty>
     ensures { option_map seen result ≡ unless_set is_set (option_map seen ty) }
 {
     if is_set { None } else { ty }
@@ -85,7 +85,7 @@ pub fn prefixed(
     count: u32,
     operand: Typed,
 ) -> Result<Typed, NoMemory>
-    ensures { (tree : FlatTree) (type : Option ExprType) (set : Bool) → IsNode operand tree type set → IfOk result (λ x. IsNode x (flat_prefix (prefix_step place sign count type).type sign count tree) (prefix_step place sign count type).type false) }
+    ensures { (tree : FlatTree) (type : Option ExprType) (set : Bool) → IsNode operand tree type set → IfOk result (IsPrefixNode place sign count tree type) }
 {
     let ty = prefix_type(place, sign, count, operand.ty);
     let inner = boxed(alloc, operand.expr)?;
@@ -105,7 +105,7 @@ pub fn selected(
     high: u64,
     low: u64,
 ) -> Result<Typed, NoMemory>
-    ensures { (tree : FlatTree) (type : Option ExprType) (set : Bool) → IsNode operand tree type set → IfOk result (λ x. IsNode x (flat_select (select_step place high low type).type tree high low) (select_step place high low type).type false) }
+    ensures { (tree : FlatTree) (type : Option ExprType) (set : Bool) → IsNode operand tree type set → IfOk result (IsSelectNode place high low tree type) }
 {
     let ty = select_type(place, operand.ty, high, low);
     let inner = boxed(alloc, operand.expr)?;
@@ -144,7 +144,7 @@ pub fn chained(
     links: &[Link],
     operands: Operands,
 ) -> Result<Typed, NoMemory>
-    ensures { (tree : FlatTree) (type : Option ExprType) (set : Bool) (ls : PlainLinks) (ts : List (Option ExprType)) → IsNode first tree type set → AreOperands operands ls ts → IfOk result (λ x. IsNode x (flat_chain (unless_set (are_unions (links_of (map plain_link links.now))) (chain_type (standing_seen at) place type (links_of (map plain_link links.now)) ts)) tree ls) (chain_type (standing_seen at) place type (links_of (map plain_link links.now)) ts) (are_unions (links_of (map plain_link links.now)))) }
+    ensures { MakesChain (standing_seen at) place (links_of (map plain_link links.now)) first operands result }
 {
     let ty = chain_type(alloc, place, at, first.ty, links, &operands.types)?;
     let is_set = are_unions(links);
@@ -152,7 +152,7 @@ pub fn chained(
     let shape = FlatShape::Chain(inner, operands.links);
     Ok(Typed {
         expr: FlatExpr {
-            ty: own_type(is_set, ty),
+            ty: type_unless_set(is_set, ty),
             shape,
         },
         ty,
@@ -175,7 +175,7 @@ fn choice_type(
 
 /// A choice, with what stands behind its last colon.
 pub fn chosen(alloc: Global, place: Place, cases: Cases, last: Typed) -> Result<Typed, NoMemory>
-    ensures { (bs : PlainBranches) (cs vs : List (Option ExprType)) (some : Bool) (tree : FlatTree) (type : Option ExprType) (set : Bool) → AreCases cases bs cs vs some → IsNode last tree type set → IfOk result (λ x. IsNode x (flat_choice (unless_set (some || set) (branches_step place (all_types cs) (all_types (vs ++ type ∷ []))).type) bs tree) (branches_step place (all_types cs) (all_types (vs ++ type ∷ []))).type (some || set)) }
+    ensures { MakesChoice place cases last result }
 {
     let Cases {
         branches,
@@ -188,7 +188,7 @@ pub fn chosen(alloc: Global, place: Place, cases: Cases, last: Typed) -> Result<
     let shape = FlatShape::Choice(branches, inner);
     Ok(Typed {
         expr: FlatExpr {
-            ty: own_type(is_set, ty),
+            ty: type_unless_set(is_set, ty),
             shape,
         },
         ty,
@@ -198,14 +198,14 @@ pub fn chosen(alloc: Global, place: Place, cases: Cases, last: Typed) -> Result<
 
 /// A case.
 pub fn cased(alloc: Global, place: Place, cases: Cases) -> Result<Typed, NoMemory>
-    ensures { (bs : PlainBranches) (cs vs : List (Option ExprType)) (some : Bool) → AreCases cases bs cs vs some → IfOk result (λ x. IsNode x (flat_cases (unless_set some (branches_step place (all_types cs) (all_types vs)).type) bs) (branches_step place (all_types cs) (all_types vs)).type some) }
+    ensures { (bs : PlainBranches) (cs vs : List (Option ExprType)) (some : Bool) → AreCases cases bs cs vs some → IfOk result (IsCasesNode place bs cs vs some) }
 {
     let ty = branches_type(alloc, place, &cases.types)?;
     let is_set = cases.has_set;
     let shape = FlatShape::Case(cases.branches);
     Ok(Typed {
         expr: FlatExpr {
-            ty: own_type(is_set, ty),
+            ty: type_unless_set(is_set, ty),
             shape,
         },
         ty,
@@ -221,7 +221,7 @@ pub fn called(
     arguments: &[Expr],
     parts: Parts,
 ) -> Result<Typed, NoMemory>
-    ensures { (es : PlainTrees) (ts : List (Option ExprType)) → AreParts parts es ts → IfOk result (λ x. IsNode x (flat_call (call_step place function (all_types ts) (numbers_of (trees_of (map plain arguments.now)))).type function es) (call_step place function (all_types ts) (numbers_of (trees_of (map plain arguments.now)))).type false) }
+    ensures { (es : PlainTrees) (ts : List (Option ExprType)) → AreParts parts es ts → IfOk result (IsCallNode place function (numbers_of (trees_of (map plain arguments.now))) es ts) }
 {
     let ty = call_type(alloc, place, function, &parts.types, arguments)?;
     let shape = FlatShape::Call(function, parts.exprs);

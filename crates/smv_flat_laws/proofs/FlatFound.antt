@@ -178,11 +178,11 @@ elements_give i (spec l e ∷ es) x k b h = elements_give i es x k b h
 
 instance_gives : (i : ℕ) (at : Instance) (x : List ℕ) (k : ℕ) (b : Tree) → local_in i x (Some at) ≡ formula k b → first (is_body_of i x) body_of (items_here i at) ≡ Some (pair k b)
 instance_gives i at x k b h =
-    let own = flat_map (element_items i) at.plan.elements in
-    let outer = actual_items i (parent_of at) at.plan.parameters at.actuals in
+    let own = flat_map (element_items i) at.module.elements in
+    let outer = actual_items i (parent_of at) at.module.parameters at.actuals in
     ⊎_elim (λ a. first_left (is_body_of i x) body_of outer own (pair k b) a)
-    (λ a. first_right (is_body_of i x) body_of outer own (pair k b) a.0 (elements_give i at.plan.elements x k b a.1))
-    (actuals_give i (parent_of at) at.plan.parameters at.actuals x (among_elements i at.plan.elements x) k b h)
+    (λ a. first_right (is_body_of i x) body_of outer own (pair k b) a.0 (elements_give i at.module.elements x k b a.1))
+    (actuals_give i (parent_of at) at.module.parameters at.actuals x (among_elements i at.module.elements x) k b h)
 
 -- ---- items of other instances
 
@@ -221,8 +221,8 @@ apart_elements n i x (e ∷ es) h = none_joined (is_body_of i x) (element_items 
 
 apart_instance : (n i : ℕ) (x : List ℕ) (at : Instance) → (n == i) ≡ false → list_any (is_body_of i x) (items_here n at) ≡ false
 apart_instance n i x at h =
-    none_joined (is_body_of i x) (actual_items n (parent_of at) at.plan.parameters at.actuals) (flat_map (element_items n) at.plan.elements)
-    (apart_actuals n i (parent_of at) x at.plan.parameters at.actuals h) (apart_elements n i x at.plan.elements h)
+    none_joined (is_body_of i x) (actual_items n (parent_of at) at.module.parameters at.actuals) (flat_map (element_items n) at.module.elements)
+    (apart_actuals n i (parent_of at) x at.module.parameters at.actuals h) (apart_elements n i x at.module.elements h)
 
 less_apart : (n i : ℕ) → n < i → (n == i) ≡ false
 less_apart n i h = by (n == i) refl
@@ -349,8 +349,8 @@ variables_at t i x k d (at ∷ rest) from zero s h =
     let e : i ≡ from = omega arith in
     subst (λ n. list_any (is_variable_of t i x k) (items_here n at ++ over_instances items_here (from + 1) rest) ≡ true) e
     (any_left (is_variable_of t i x k) (items_here i at) (over_instances items_here (from + 1) rest)
-    (any_right (is_variable_of t i x k) (actual_items i (parent_of at) at.plan.parameters at.actuals) (flat_map (element_items i) at.plan.elements)
-    (elements_have t i at.plan.elements x k d (past_parameters (parent_of at) at.plan.parameters at.actuals x (among_elements i at.plan.elements x) k d h))))
+    (any_right (is_variable_of t i x k) (actual_items i (parent_of at) at.module.parameters at.actuals) (flat_map (element_items i) at.module.elements)
+    (elements_have t i at.module.elements x k d (past_parameters (parent_of at) at.module.parameters at.actuals x (among_elements i at.module.elements x) k d h))))
 variables_at t i x k d (at ∷ rest) from (suc a) s h =
     any_right (is_variable_of t i x k) (items_here from at) (over_instances items_here (from + 1) rest) (variables_at t i x k d rest (from + 1) a (omega arith) h)
 
@@ -476,14 +476,14 @@ element_symbol x (trans e) = refl
 element_symbol x (invar e) = refl
 element_symbol x (spec l e) = refl
 
-abbrev pub plan_symbols : Instance → List (List ℕ)
-plan_symbols at = flat_map element_symbols at.plan.elements
+abbrev pub instance_symbols : Instance → List (List ℕ)
+instance_symbols at = flat_map element_symbols at.module.elements
 
-all_symbols : (t : List Instance) (x : List ℕ) → has_symbol t x ≡ list_any (named_so x) (flat_map plan_symbols t)
+all_symbols : (t : List Instance) (x : List ℕ) → has_symbol t x ≡ list_any (named_so x) (flat_map instance_symbols t)
 all_symbols t x =
-    any_same (instance_has x) (λ at. list_any (named_so x) (plan_symbols at)) t
-    (λ at. any_same (element_has x) (λ e. list_any (named_so x) (element_symbols e)) at.plan.elements (element_symbol x) ∙ sym (any_flat (named_so x) element_symbols at.plan.elements))
-    ∙ sym (any_flat (named_so x) plan_symbols t)
+    any_same (instance_has x) (λ at. list_any (named_so x) (instance_symbols at)) t
+    (λ at. any_same (element_has x) (λ e. list_any (named_so x) (element_symbols e)) at.module.elements (element_symbol x) ∙ sym (any_flat (named_so x) element_symbols at.module.elements))
+    ∙ sym (any_flat (named_so x) instance_symbols t)
 
 -- what is seen or comes is kept
 abbrev Seen : List ℕ → List (List ℕ) → List (List ℕ) → Type 0
@@ -526,4 +526,4 @@ any_swapped x (y ∷ ys) h =
 pub symbol_at : (t : List Instance) (x : List ℕ) → has_symbol t x ≡ true → At (bytes_eq x) (λ y. Some true) (symbols_of t) true
 symbol_at t x h =
     first_at (bytes_eq x) (λ y. Some true) (symbols_of t) true
-    (any_first (bytes_eq x) (symbols_of t) (any_swapped x (symbols_of t) (kept x [] (flat_map plan_symbols t) (inr (sym (all_symbols t x) ∙ h)))))
+    (any_first (bytes_eq x) (symbols_of t) (any_swapped x (symbols_of t) (kept x [] (flat_map instance_symbols t) (inr (sym (all_symbols t x) ∙ h)))))

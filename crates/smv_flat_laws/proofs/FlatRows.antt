@@ -125,7 +125,7 @@ forms_meet : (t : List Instance) (row : Row) (k i : ℕ) (rest : List Instance) 
 forms_meet t row k i [] h = tt
 forms_meet t row k i (at ∷ rest) h =
     let r = forms_front (flat_of t) row (forms_here t k i at) (forms_from t (k + length (items_here i at)) (i + 1) rest) h in
-    let s = forms_front (flat_of t) row (body_forms t k (items_here i at)) (flat_map (element_forms t i) at.plan.elements) r.0 in
+    let s = forms_front (flat_of t) row (body_forms t k (items_here i at)) (flat_map (element_forms t i) at.module.elements) r.0 in
     all_joined (MeetsOrigin t row) (items_here i at) (over_instances items_here (i + 1) rest) k (bodies_meet t row k (items_here i at) s.0)
     (forms_meet t row (k + length (items_here i at)) (i + 1) rest r.1)
 
@@ -134,7 +134,7 @@ forms_met t row k i [] h = tt
 forms_met t row k i (at ∷ rest) h =
     let r = all_front (MeetsOrigin t row) (items_here i at) (over_instances items_here (i + 1) rest) k h in
     forms_joined (flat_of t) row (forms_here t k i at) (forms_from t (k + length (items_here i at)) (i + 1) rest)
-    (forms_joined (flat_of t) row (body_forms t k (items_here i at)) (flat_map (element_forms t i) at.plan.elements) (bodies_met t row k (items_here i at) r.0) (elements_met t row i at.plan.elements))
+    (forms_joined (flat_of t) row (body_forms t k (items_here i at)) (flat_map (element_forms t i) at.module.elements) (bodies_met t row k (items_here i at) r.0) (elements_met t row i at.module.elements))
     (forms_met t row (k + length (items_here i at)) (i + 1) rest r.1)
 
 -- ---- the value that a row gives to what a path becomes

@@ -66,15 +66,15 @@ modules_plain (module_then x identifier a b f es rest) = two_true _ _ (elements_
 -- ---- each instance is one of a module
 
 abbrev pub AllPlans : (PlainModule → Bool) → List Instance → Type 0
-AllPlans test t = list_all (λ (at : Instance). test at.plan) t ≡ true
+AllPlans test t = list_all (λ (at : Instance). test at.module) t ≡ true
 
 abbrev IsGood : (PlainModule → Bool) → Option Instance → Type 0
 IsGood test None = Unit {0}
-IsGood test (Some at) = test at.plan ≡ true
+IsGood test (Some at) = test at.module ≡ true
 
 -- it keeps a list good
 abbrev Keeps : (PlainModule → Bool) → (Instance → List Instance → List Instance) → Type 0
-Keeps test g = (at : Instance) (t : List Instance) → test at.plan ≡ true → AllPlans test t → AllPlans test (g at t)
+Keeps test g = (at : Instance) (t : List Instance) → test at.module ≡ true → AllPlans test t → AllPlans test (g at t)
 
 module_good : (test : PlainModule → Bool) (i : ℕ) (path x : List ℕ) (actuals : Trees) (m : List ℕ) (ms : List PlainModule) → list_all test ms ≡ true → IsGood test (placed i path x actuals (module_named ms m))
 module_good test i path x actuals m [] h = tt
@@ -119,8 +119,8 @@ grow_good : (test : PlainModule → Bool) (ms : List PlainModule) → list_all t
 unfolding grow
 grow_good test ms p zero at t e h = h
 grow_good test ms p (suc n) at t e h =
-    elements_good test (grow n ms) (grow_good test ms p n) ms p (length t) at.path at.plan.elements (t ++ at ∷ [])
-    (list_all-append (λ (a : Instance). test a.plan) t (at ∷ []) ∙ two_true _ _ h (two_true _ _ e refl))
+    elements_good test (grow n ms) (grow_good test ms p n) ms p (length t) at.path at.module.elements (t ++ at ∷ [])
+    (list_all-append (λ (a : Instance). test a.module) t (at ∷ []) ∙ two_true _ _ h (two_true _ _ e refl))
 
 named_good : (test : PlainModule → Bool) (ms : List PlainModule) (m : List ℕ) → list_all test ms ≡ true → (o : Option PlainModule) → o ≡ module_named ms m → AllPlans test (grown_from ms o)
 named_good test ms m p None e = refl

@@ -168,11 +168,11 @@ instances_stay : (t : List Instance) (state following : Valuation) (i : ℕ) (re
     → list_all (origin_stays t state following) (over_instances items_here i rest) ≡ frozen_stay rest state following
 instances_stay t state following i [] r h = refl
 instances_stay t state following i (at ∷ rest) r h =
-    let s = both_true (module_is_plain at.plan) (list_all (λ (a : Instance). module_is_plain a.plan) rest) h in
-    both_so (origin_stays t state following) (items_here i at) (over_instances items_here (i + 1) rest) (list_all (element_stays at.path state following) at.plan.elements) (frozen_stay rest state following)
-    (both_so (origin_stays t state following) (actual_items i (parent_of at) at.plan.parameters at.actuals) (flat_map (element_items i) at.plan.elements) true (list_all (element_stays at.path state following) at.plan.elements)
-    (actuals_stay t state following i (parent_of at) at.plan.parameters at.actuals)
-    (elements_stay t state following i at.path at.plan.elements (rest_path t i at rest r) s.0))
+    let s = both_true (module_is_plain at.module) (list_all (λ (a : Instance). module_is_plain a.module) rest) h in
+    both_so (origin_stays t state following) (items_here i at) (over_instances items_here (i + 1) rest) (list_all (element_stays at.path state following) at.module.elements) (frozen_stay rest state following)
+    (both_so (origin_stays t state following) (actual_items i (parent_of at) at.module.parameters at.actuals) (flat_map (element_items i) at.module.elements) true (list_all (element_stays at.path state following) at.module.elements)
+    (actuals_stay t state following i (parent_of at) at.module.parameters at.actuals)
+    (elements_stay t state following i at.path at.module.elements (rest_path t i at rest r) s.0))
     (instances_stay t state following (i + 1) rest (rest_more t i at rest r) s.1)
 
 pub stays_same : (t : List Instance) (state label following other : Valuation) (read more : ℕ → Path → Value) (now later : Row) → HasItems t state label read now → HasItems t following other more later
@@ -248,7 +248,7 @@ elements_match t now later target meant value g i (el ∷ es) c =
     (element_matches t now later target meant value g i el s.0) (elements_match t now later target meant value g i es s.1)
 
 abbrev invariants_here : ℕ → Instance → List (ℕ × Tree)
-invariants_here i at = flat_map (element_invariants i) at.plan.elements
+invariants_here i at = flat_map (element_invariants i) at.module.elements
 
 pub invariants_match : (t : List Instance) (now later target : Row) (meant : ℕ → Tree → Denotation) (value : ℕ → Path → Value) → Agrees t First now later target meant value
     → (k i : ℕ) (rest : List Instance) → Holds (over_instances (type_checks (types_in true t)) i rest)
@@ -256,10 +256,10 @@ pub invariants_match : (t : List Instance) (now later target : Row) (meant : ℕ
 invariants_match t now later target meant value g k i [] c = tt
 invariants_match t now later target meant value g k i (at ∷ rest) c =
     let s = split (type_checks (types_in true t) i at) (over_instances (type_checks (types_in true t)) (i + 1) rest) c in
-    let r = split (actuals_typing (types_in true t (parent_of at)) at.actuals) (flat_map (element_typing (types_in true t i)) at.plan.elements) s.0 in
+    let r = split (actuals_typing (types_in true t (parent_of at)) at.actuals) (flat_map (element_typing (types_in true t i)) at.module.elements) s.0 in
     forms_match t now later meant (forms_here t k i at) (forms_from t (k + _) (i + 1) rest) (invariants_here i at) (over_instances invariants_here (i + 1) rest)
-    (forms_match t now later meant (body_forms t k (items_here i at)) (flat_map (element_forms t i) at.plan.elements) [] (invariants_here i at)
-    (subst (λ us. Matches t now later meant us []) (sym (bodies_none t k (items_here i at))) tt) (elements_match t now later target meant value g i at.plan.elements r.1))
+    (forms_match t now later meant (body_forms t k (items_here i at)) (flat_map (element_forms t i) at.module.elements) [] (invariants_here i at)
+    (subst (λ us. Matches t now later meant us []) (sym (bodies_none t k (items_here i at))) tt) (elements_match t now later target meant value g i at.module.elements r.1))
     (invariants_match t now later target meant value g (k + _) (i + 1) rest s.1)
 
 -- the one of a number

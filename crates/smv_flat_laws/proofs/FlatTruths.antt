@@ -234,10 +234,10 @@ bodies_hold t when target now later k (m ∷ ms) =
     ∙ bodies_hold t when target now later (k + 1) ms
 
 abbrev pub assigned_here : List Instance → ℕ → Instance → List Assigned
-assigned_here t i at = flat_map (element_assigns (found_in t) i) at.plan.elements
+assigned_here t i at = flat_map (element_assigns (found_in t) i) at.module.elements
 
 abbrev pub elements_hold : When → (ℕ → Tree → Denotation) → (ℕ → Path → Value) → ℕ → Instance → Bool
-elements_hold when meant value i at = list_all (element_holds (meant i) (value i) when) at.plan.elements
+elements_hold when meant value i at = list_all (element_holds (meant i) (value i) when) at.module.elements
 
 pub forms_same : (t : List Instance) (when : When) (now later target : Row) (meant : ℕ → Tree → Denotation) (value : ℕ → Path → Value) → Agrees t when now later target meant value
     → (k i : ℕ) (rest : List Instance) → Holds (over_instances (type_checks (types_in true t)) i rest) → list_all assignable (over_instances (assigned_here t) i rest) ≡ true
@@ -246,15 +246,15 @@ forms_same t when now later target meant value g k i [] c d = refl
 forms_same t when now later target meant value g k i (at ∷ rest) c d =
     let p = holds_here t when target now later in
     let more = k + length (items_here i at) in
-    let own = flat_map (element_forms t i) at.plan.elements in
+    let own = flat_map (element_forms t i) at.module.elements in
     let s = split (type_checks (types_in true t) i at) (over_instances (type_checks (types_in true t)) (i + 1) rest) c in
-    let r = split (actuals_typing (types_in true t (parent_of at)) at.actuals) (flat_map (element_typing (types_in true t i)) at.plan.elements) s.0 in
+    let r = split (actuals_typing (types_in true t (parent_of at)) at.actuals) (flat_map (element_typing (types_in true t i)) at.module.elements) s.0 in
     let u = all_parts assignable (assigned_here t i at) (over_instances (assigned_here t) (i + 1) rest) d in
     list_all-append p (forms_here t k i at) (forms_from t more (i + 1) rest)
     ∙ ap (λ b. b && list_all p (forms_from t more (i + 1) rest))
     (list_all-append p (body_forms t k (items_here i at)) own
     ∙ ap (λ b. b && list_all p own) (bodies_hold t when target now later k (items_here i at))
-    ∙ elements_same t when now later target meant value g i at.plan.elements r.1 u.0)
+    ∙ elements_same t when now later target meant value g i at.module.elements r.1 u.0)
     ∙ ap (λ b. elements_hold when meant value i at && b) (forms_same t when now later target meant value g more (i + 1) rest s.1 u.1)
 
 -- ---- the three times

@@ -167,8 +167,8 @@ forms_lie t k i (at ∷ rest) l h =
     let s = all_parts assignable (assigned_here t i at) (over_instances (assigned_here t) (i + 1) rest) h in
     list_all-append (lies_in t) (forms_here t k i at) (forms_from t more (i + 1) rest)
     ∙ two_true _ _
-    (list_all-append (lies_in t) (body_forms t k (items_here i at)) (flat_map (element_forms t i) at.plan.elements)
-    ∙ two_true _ _ (bodies_lie t k (items_here i at) (omega (arith, long, l))) (elements_lie t i at.plan.elements s.0))
+    (list_all-append (lies_in t) (body_forms t k (items_here i at)) (flat_map (element_forms t i) at.module.elements)
+    ∙ two_true _ _ (bodies_lie t k (items_here i at) (omega (arith, long, l))) (elements_lie t i at.module.elements s.0))
     (forms_lie t more (i + 1) rest (omega (arith, long, l)) s.1)
 
 pub numbers_lie_law : NumbersLie

@@ -21,11 +21,11 @@ fn sum(a: u32, b: u32) -> Result<u32, NoMemory>
 /// The tokens of the modules' bodies, summed over the instances.
 #[tactic(auto, using(crate::proofs::Lists::front_is, crate::proofs::Lists::end_is))]
 pub(crate) fn weight_in(table: &Table) -> Result<u32, NoMemory>
-    ensures { IfOk result (λ n. n ≡ sum_by (λ at. at.plan.tokens) (map instance_plain table.now)) }
+    ensures { IfOk result (λ n. n ≡ sum_by (λ at. at.module.tokens) (map instance_plain table.now)) }
 {
     let mut weight: u32 = 0;
     for i in 0..table.len() {
-        weight = sum(weight, table.at(i).plan.tokens)?;
+        weight = sum(weight, table.at(i).module.tokens)?;
     }
     Ok(weight)
 }
@@ -65,7 +65,7 @@ pub(crate) fn invariant_count(table: &Table) -> Result<u32, NoMemory>
 {
     let mut count: u32 = 0;
     for i in 0..table.len() {
-        count = counted_all(count, &table.at(i).plan.elements)?;
+        count = counted_all(count, &table.at(i).module.elements)?;
     }
     Ok(count)
 }

@@ -1,5 +1,5 @@
 // The flat form of a model that passes its checks.
-ghost use Rattle.std.specs.Prelude.{◌≡◌, map, length, sum_by, IfOk};
+ghost use Rattle.std.specs.Prelude.{◌≡◌, ◌≤◌, map, length, sum_by, IfOk};
 ghost use Rattle.smv_text.specs.View.{plain_source};
 ghost use Rattle.smv_meaning.specs.Instances.{instances_of, weight_of};
 ghost use Rattle.smv_meaning.specs.Phases.{checks_of, invariants_in, IsAccepted};
@@ -95,6 +95,7 @@ fn contents_of<'a>(
     ensures items { IfOk result (λ x. map item_plain x.items.items ≡ map (flat_item_of (map instance_plain table.now)) (origins_of (map instance_plain table.now))) }
     ensures formulas { IfOk result (λ x. map form_plain x.formulas.items ≡ forms_of (map instance_plain table.now)) }
     ensures width { IfOk result (λ x. x.width ≡ width_of (flat_of (map instance_plain table.now))) }
+    ensures bounds { IfOk result (λ x. (1 ≤ x.width) × (x.width ≤ 64)) }
 {
     let origins = sources.origins.as_slice();
     let paths = sources.paths.as_slice();
@@ -113,7 +114,7 @@ fn flattened<'a>(alloc: Global, table: &Table<'a>, types: &Types<'a>) -> Result<
     requires { AreTypesOf (map instance_plain table.now) types.now }
     ensures form { IfOk result (λ f. flat_plain f ≡ flat_of (map instance_plain table.now)) }
     ensures width { IfOk result (λ f. f.width ≡ width_of (flat_of (map instance_plain table.now))) }
-    ensures weight { IfOk result (λ f. f.weight ≡ sum_by (λ at. at.plan.tokens) (map instance_plain table.now)) }
+    ensures weight { IfOk result (λ f. f.weight ≡ sum_by (λ at. at.module.tokens) (map instance_plain table.now)) }
     ensures invariants { IfOk result (λ f. f.invariants ≡ length (invariants_in (map instance_plain table.now))) }
 {
     let weight = weight_in(table)?;

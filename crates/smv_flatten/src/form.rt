@@ -1,5 +1,5 @@
 // The flat form of a model.
-ghost use Rattle.std.specs.Prelude.{◌≡◌};
+ghost use Rattle.std.specs.Prelude.{◌≡◌, ◌≤◌};
 
 use crate::sequences::{FlatFormulas, FlatItems};
 use std::marker::Model;
@@ -28,6 +28,10 @@ impl Model for Flat {
     ghost coded = { Prim.hlevel (codes, expr.the_row.coded, shape.the_row.coded) };
 
     ghost view = { λ f. record { items = f.items; symbols = f.symbols; formulas = f.formulas; width = f.width; weight = f.weight; invariants = f.invariants } };
+
+    ghost use Rattle.std.specs.Prelude.{◌≤◌};
+
+    ghost invariant = { λ f. (1 ≤ f.width) × (f.width ≤ 64) };
 }
 
 impl Flat {
@@ -55,7 +59,9 @@ impl Flat {
 
     /// The bits of an integer, from 1 to 64: 1 where no integer occurs.
     pub fn width(&self) -> u32
-        ensures { result ≡ self.now.width }
+        ensures value { result ≡ self.now.width }
+        ensures some { 1 ≤ result }
+        ensures bound { result ≤ 64 }
     {
         self.width
     }

@@ -19,3 +19,8 @@ pub use form::Flat;
 pub use joining::accepted;
 pub use kept::Accepted;
 pub use sequences::{FlatFormulas, FlatItems};
+pub use smv_flat::{
+    FlatBranch, FlatBranches, FlatExpr, FlatExprs, FlatFormula, FlatLink, FlatLinks, FlatShape,
+    Role,
+};
+pub use smv_items::{FlatItem, ItemKind};

@@ -7,10 +7,9 @@ use Rattle.smv_text.specs.declared.token.Token.{Token}
 use Rattle.smv_text.specs.declared.token.TokenKind.{TokenKind}
 use Rattle.smv_text.specs.declared.token.TokenKind.TheVariants as kind
 use Rattle.smv_text.specs.declared.token.Reserved.TheVariants as word
-use Rattle.smv_text.specs.declared.tree.Path.{Path}
 use Rattle.smv_text.specs.declared.tree.Prefix.{Prefix}
 use Rattle.smv_text.specs.declared.tree.Prefix.TheVariants as prefixes
-use Rattle.smv_text.specs.declared.level.Joint.{Joint}
+use Rattle.smv_text.specs.declared.level.OperatorClass.{OperatorClass}
 use Rattle.smv_text.specs.declared.level.Level.{Level}
 use Rattle.smv_text.specs.declared.level.Level.TheVariants.{Chain, Choice, Range, Before, Selection}
 use Rattle.smv_text.specs.Tree.{Tree, number}
@@ -20,9 +19,9 @@ use Rattle.smv_grammar.specs.declared.levels.Leader.TheVariants as leader
 use Rattle.smv_grammar.specs.Marks.{is_sign}
 use Rattle.smv_grammar.specs.Ranks.{level_at, tightest, level_rank, rank_of, first_rank}
 use Rattle.smv_grammar.specs.Machine.{prefix_sign, is_prefix, bare, Frame, operand, when, selected, State, ask, have, signed, integer, minus, negative, upto, Move, onto, opened, pushed, minus_to, number_pushed, number_gives, primary, leader_of, path_head, begin, begin_integer, after_minus, after_sign, give, along, walk}
-use Rattle.smv_grammar.specs.Reading.{after, joint_after, found, number_at, first_number, negated, first_integer, integer_at, starts_with_dots, dots_behind, starts_range, path_on, path_at, first_path, waiting}
+use Rattle.smv_grammar.specs.Reading.{after, operator_after, found, number_at, first_number, negated, first_integer, integer_at, starts_with_dots, dots_behind, starts_range, path_on, path_at, first_path, waiting}
 use Rattle.smv_grammar.proofs.Signs.{after_found, not_minus}
-use Rattle.smv_grammar.proofs.Ranked.{no_joint, not_sign, EachBelow, each_below}
+use Rattle.smv_grammar.proofs.Ranked.{no_operator, not_sign, EachBelow, each_below}
 use Rattle.smv_grammar.proofs.Steps.{operand_goes, chain_goes, when_leaves, selected_leaves, named_on, named_goes}
 
 -- what does not go on with a level
@@ -30,9 +29,9 @@ pub none_after : (s : Sign) (xs : List Token) → (first_rank xs ≡ rank_of (ki
 none_after s [] h = refl
 none_after s (x ∷ xs) h = ap (λ b. cond b (Some xs) None) (not_sign s x.kind h)
 
-pub none_joined : (j : Joint) (xs : List Token) → (first_rank xs ≡ level_rank (Chain j) → ⊥) → joint_after j xs ≡ None
+pub none_joined : (j : OperatorClass) (xs : List Token) → (first_rank xs ≡ level_rank (Chain j) → ⊥) → operator_after j xs ≡ None
 none_joined j [] h = refl
-none_joined j (x ∷ xs) h = ap (option_map (λ op. (op, xs))) (no_joint j x.kind h)
+none_joined j (x ∷ xs) h = ap (option_map (λ op. (op, xs))) (no_operator j x.kind h)
 
 pub opened_leaves : (level : Level) (below : List Level) (p : Place) (k : List Frame) (t : Tree) (xs : List Token) → (first_rank xs ≡ level_rank level → ⊥)
     → walk xs (have t (opened level below p k)) ≡ walk xs (have t k)
@@ -43,7 +42,7 @@ opened_leaves (Before pre) below p k t xs h = refl
 opened_leaves Selection below p k t xs h = selected_leaves k t xs p (none_after sign.OpenBracket xs h)
 
 -- an expression begins at the next level
-pub chain_begins : (j : Joint) (below : List Level) (k : List Frame) (xs : List Token) → walk xs (ask (Chain j ∷ below) k) ≡ walk xs (ask below (operand j below (start xs) bare ∷ k))
+pub chain_begins : (j : OperatorClass) (below : List Level) (k : List Frame) (xs : List Token) → walk xs (ask (Chain j ∷ below) k) ≡ walk xs (ask below (operand j below (start xs) bare ∷ k))
 unfolding walk
 chain_begins j below k [] = refl
 chain_begins j below k (x ∷ xs) = refl

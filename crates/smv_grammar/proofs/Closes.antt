@@ -10,14 +10,14 @@ use Rattle.smv_text.specs.declared.token.TokenKind.TheVariants as kind
 use Rattle.smv_text.specs.declared.tree.Path.{Path}
 use Rattle.smv_text.specs.declared.tree.Prefix.{Prefix}
 use Rattle.smv_text.specs.declared.tree.Prefix.TheVariants as prefix
-use Rattle.smv_text.specs.declared.level.Joint.{Joint}
-use Rattle.smv_text.specs.declared.level.Joint.TheVariants as joints
+use Rattle.smv_text.specs.declared.level.OperatorClass.{OperatorClass}
+use Rattle.smv_text.specs.declared.level.OperatorClass.TheVariants as classes
 use Rattle.smv_text.specs.declared.level.Level.{Level}
 use Rattle.smv_text.specs.declared.level.Level.TheVariants.{Chain, Choice, Range, Before, Selection}
 use Rattle.smv_text.specs.Levels.{all_levels}
 use Rattle.smv_text.specs.Tree.{Tree, name}
 use Rattle.smv_grammar.specs.declared.listing.Listing.TheVariants.{Arguments, Elements}
-use Rattle.smv_grammar.specs.Ranks.{joint_rank, level_rank, rank_of, first_rank}
+use Rattle.smv_grammar.specs.Ranks.{class_rank, level_rank, rank_of, first_rank}
 use Rattle.smv_grammar.specs.Machine.{prefix_sign, bare, taken, Frame, operand, when, value, signs, selected, bracket, following, listing, condition, result, closing_of, State, ask, have, signed, integer, minus, negative, upto, upto_minus, named, dotted, open_next, open_call, high_end, high_colon, low_end, low_close, case_goes, pushed, longer, Reach, reached, walk}
 use Rattle.smv_grammar.specs.Reading.{after, starts_with_dots}
 use Rattle.smv_grammar.proofs.Ranked.{not_sign}
@@ -72,12 +72,12 @@ closes_rank (listing p Elements all ∷ k) = refl
 closes_rank (condition p bs ∷ k) = refl
 closes_rank (result p bs w ∷ k) = refl
 
-joint_low : (j : Joint) → joint_rank j < 17
-joint_low joints.Sums = omega arith
-joint_low _ = omega arith
+class_low : (j : OperatorClass) → class_rank j < 17
+class_low classes.Sums = omega arith
+class_low _ = omega arith
 
 level_low : (l : Level) → level_rank l < 17
-level_low (Chain j) = joint_low j
+level_low (Chain j) = class_low j
 level_low Choice = omega arith
 level_low Range = omega arith
 level_low (Before prefix.Not) = omega arith

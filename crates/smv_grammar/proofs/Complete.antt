@@ -13,8 +13,8 @@ use Rattle.smv_text.specs.declared.tree.Prefix.{Prefix}
 use Rattle.smv_text.specs.declared.tree.Prefix.TheVariants as prefix
 use Rattle.smv_text.specs.declared.tree.Infix.{Infix}
 use Rattle.smv_text.specs.declared.tree.Function.{Function}
-use Rattle.smv_text.specs.declared.level.Joint.{Joint}
-use Rattle.smv_text.specs.declared.level.Joint.TheVariants as joints
+use Rattle.smv_text.specs.declared.level.OperatorClass.{OperatorClass}
+use Rattle.smv_text.specs.declared.level.OperatorClass.TheVariants as classes
 use Rattle.smv_text.specs.declared.level.Level.{Level}
 use Rattle.smv_text.specs.declared.level.Level.TheVariants.{Chain, Choice, Range, Before, Selection}
 use Rattle.smv_text.specs.Levels.{all_levels, infix_of, prefix_kind, function_at}
@@ -24,10 +24,10 @@ use Rattle.smv_grammar.specs.declared.listing.Listing.{Listing}
 use Rattle.smv_grammar.specs.declared.listing.Listing.TheVariants.{Arguments, Elements}
 use Rattle.smv_grammar.specs.declared.levels.Leader.TheVariants as leader
 use Rattle.smv_grammar.specs.Marks.{is_sign, is_word}
-use Rattle.smv_grammar.specs.Ranks.{level_at, tightest, joint_rank, level_rank, rank_of, first_rank}
+use Rattle.smv_grammar.specs.Ranks.{level_at, tightest, class_rank, level_rank, rank_of, first_rank}
 use Rattle.smv_grammar.specs.Machine.{prefix_sign, is_prefix, Chained, bare, joined, taken, chain_at, choice_at, Frame, operand, when, value, selected, bracket, following, listing, condition, result, closing_of, listed, ask, have, signed, opened, longer, leader_of, calling, walk}
 use Rattle.smv_grammar.specs.Reading.{after, after_word, Found, found, lost, number_at, first_number, negated, integer_at, first_integer, starts_with_dots, dots_behind, starts_range, name_at, path_on, path_at}
-use Rattle.smv_grammar.proofs.Ranked.{rank_at, joint_ranks, not_sign, Stops}
+use Rattle.smv_grammar.proofs.Ranked.{rank_at, class_ranks, not_sign, Stops}
 use Rattle.smv_grammar.proofs.First.{path_on-step, path_on-ends}
 use Rattle.smv_grammar.proofs.Steps.{chained, chain_goes, when_goes, value_goes, selected_goes, bracket_goes, following_goes, condition_goes, result_goes, listing_goes, listing_ends, when_leaves, selected_leaves, signs_fold, operand_goes, signed_goes, open_next_goes, open_call_goes, high_colon_goes, low_close_goes, signed_ends, case_more, case_ends, high_end_goes, low_end_goes, upto_goes, named_on}
 use Rattle.smv_grammar.proofs.Climbing.{none_after, none_joined, opened_leaves, chain_begins, choice_begins, selection_begins, IsPlain, passes, prefix_begins, range_goes, leads_by, path_begins}
@@ -125,15 +125,15 @@ function_integer (kind.Number n) f xs e = cc
 function_integer (kind.Reserved w) f xs e = refl
 function_integer _ f xs e = refl
 
-joint_kind : (j : Joint) (x : TokenKind) (op : Infix) → infix_of j x ≡ Some op → 0 < rank_of x
-joint_kind j x op e = let r = joint_ranks j x op e in let some = joint_some j in omega arith
+operator_kind : (j : OperatorClass) (x : TokenKind) (op : Infix) → infix_of j x ≡ Some op → 0 < rank_of x
+operator_kind j x op e = let r = class_ranks j x op e in let some = class_some j in omega arith
   where
-    joint_some : (i : Joint) → 0 < joint_rank i
-    joint_some joints.Sums = omega arith
-    joint_some _ = omega arith
+    class_some : (i : OperatorClass) → 0 < class_rank i
+    class_some classes.Sums = omega arith
+    class_some _ = omega arith
 
-joint_dots : (j : Joint) (x : TokenKind) (op : Infix) → infix_of j x ≡ Some op → is_sign sign.Range x ≡ false
-joint_dots j x op e = not_sign sign.Range x (λ same. let some = joint_kind j x op e in let zero_is : rank_of x ≡ 0 = same in omega arith)
+operator_dots : (j : OperatorClass) (x : TokenKind) (op : Infix) → infix_of j x ≡ Some op → is_sign sign.Range x ≡ false
+operator_dots j x op e = not_sign sign.Range x (λ same. let some = operator_kind j x op e in let zero_is : rank_of x ≡ 0 = same in omega arith)
 
 -- what a spelling begins with
 abbrev pub Filled : List Token → Type 0
@@ -251,7 +251,7 @@ unranged (pass s) zero few is ys h = cc
 unranged (pass {level = l} {below = b} s) (suc m) few is ys h = unranged s m (omega arith) (below_is l b m is) ys h
 unranged (chains s more) zero few is ys h = cc
 unranged (chains {j = j} {below = b} {xs = xs} s (one_more {op = op} {xs = vs} {ys = ws} x e t more)) (suc m) few is ys h =
-    ap starts_range (append_assoc xs (x ∷ (vs ++ ws)) ys) ∙ unranged s m (omega arith) (below_is (Chain j) b m is) (x ∷ ((vs ++ ws) ++ ys)) (joint_dots j x.kind op e)
+    ap starts_range (append_assoc xs (x ∷ (vs ++ ws)) ys) ∙ unranged s m (omega arith) (below_is (Chain j) b m is) (x ∷ ((vs ++ ws) ++ ys)) (operator_dots j x.kind op e)
 unranged (chooses ps) zero few is ys h = cc
 unranged (chooses {below = b} (picks {xs = xs} {ys = vs} {zs = zs} s q e v c g ps)) (suc m) few is ys h =
     ap starts_range (append_assoc xs (q ∷ (vs ++ c ∷ zs)) ys) ∙ unranged s m (omega arith) (below_is Choice b m is) (q ∷ ((vs ++ c ∷ zs) ++ ys)) (of_kind q _ sign.Range e refl)
@@ -467,11 +467,11 @@ mutual
   selects_go (sets o e s) is k ys stops = cc
   selects_go (switches x e s) is k ys stops = cc
 
-  links_stop : {j : Joint} {below : List Level} {links : Links} {xs : List Token} → SpellsLinks j below links xs → (m : ℕ) → joint_rank j ≡ suc m → (ys : List Token) → Stops (suc m) ys → Stops m (xs ++ ys)
+  links_stop : {j : OperatorClass} {below : List Level} {links : Links} {xs : List Token} → SpellsLinks j below links xs → (m : ℕ) → class_rank j ≡ suc m → (ys : List Token) → Stops (suc m) ys → Stops m (xs ++ ys)
   links_stop no_more m r ys stops = omega arith
-  links_stop (one_more {j = j} {op = op} x e s more) m r ys stops = let same = joint_ranks j x.kind op e in omega arith
+  links_stop (one_more {j = j} {op = op} x e s more) m r ys stops = let same = class_ranks j x.kind op e in omega arith
 
-  links_go : {j : Joint} {below : List Level} {links : Links} {xs : List Token} → SpellsLinks j below links xs → (m : ℕ) → m ≤ 16 → joint_rank j ≡ suc m → below ≡ tightest m → (k : List Frame) (p : Place) (c : Chained) (ys : List Token)
+  links_go : {j : OperatorClass} {below : List Level} {links : Links} {xs : List Token} → SpellsLinks j below links xs → (m : ℕ) → m ≤ 16 → class_rank j ≡ suc m → below ≡ tightest m → (k : List Frame) (p : Place) (c : Chained) (ys : List Token)
       → Stops (suc m) ys → chained j below p c k (xs ++ ys) ≡ walk ys (have (chain_at p c.first (links_onto c.links links)) k)
   links_go (no_more {j = j} {below = below}) m few r same k p c ys stops =
       ap (chain_goes j below p c k ys) (none_joined j ys (λ other. omega arith)) ∙ ap (λ ls. walk ys (have (chain_at p c.first ls) k)) (links_all c.links)

@@ -7,13 +7,14 @@ use Rattle.smv_text.specs.declared.token.Token.{Token}
 use Rattle.smv_text.specs.declared.token.TokenKind.{TokenKind}
 use Rattle.smv_text.specs.declared.token.TokenKind.TheVariants as kind
 use Rattle.smv_text.specs.declared.tree.Infix.{Infix}
-use Rattle.smv_text.specs.declared.level.Joint.{Joint}
-use Rattle.smv_text.specs.declared.level.Joint.TheVariants as joints
+use Rattle.smv_text.specs.declared.level.OperatorClass.{OperatorClass}
 use Rattle.smv_text.specs.declared.level.Level.{Level}
 use Rattle.smv_text.specs.declared.level.TheConstants.{LEVELS}
-use Rattle.smv_text.specs.Levels.{infix_at, infix_of, at_joint, joint_of, joint_number}
+use Rattle.smv_text.specs.Levels.{infix_of}
+use Rattle.smv_text.specs.Operators.{infix_at, of_class, class_of, class_number}
+use Rattle.smv_text.specs.laws.Operators.{infix_is, same_class}
 use Rattle.smv_grammar.specs.Marks.{is_sign}
-use Rattle.smv_grammar.specs.Ranks.{level_at, joint_rank, level_rank, rank_by, rank_of, first_rank}
+use Rattle.smv_grammar.specs.Ranks.{level_at, class_rank, level_rank, rank_by, rank_of, first_rank}
 use Rattle.smv_grammar.specs.Machine.{goes_on, Ends}
 use Rattle.smv_grammar.proofs.Signs.{sign_is}
 
@@ -40,37 +41,24 @@ rank_at n h =
     let all : EachBelow 16 (λ m. level_rank (level_at m) ≡ suc m) = (refl, (refl, (refl, (refl, (refl, (refl, (refl, (refl, (refl, (refl, (refl, (refl, (refl, (refl, (refl, (refl, tt)))))))))))))))) in
     each_below 16 (λ m. level_rank (level_at m) ≡ suc m) all n h
 
-all_joints : List Joint
-all_joints =
-    joints.Implications ∷ joints.Equivalences ∷ joints.Disjunctions ∷ joints.Conjunctions ∷ joints.Comparisons ∷ joints.Memberships ∷ joints.Unions
-    ∷ joints.Shifts ∷ joints.Sums ∷ joints.Products ∷ joints.Concatenations ∷ []
-
-joint_numbered : (j : Joint) → get_or all_joints (joint_number j) joints.Sums ≡ j
-unfolding all_joints
-joint_numbered joints.Implications = refl
-joint_numbered _ = refl
-
-same_joint : (i j : Joint) → nat_eq (joint_number i) (joint_number j) ≡ true → i ≡ j
-same_joint i j e = sym (joint_numbered i) ∙ ap (λ n. get_or all_joints n joints.Sums) (eqb-true (joint_number i) (joint_number j) e) ∙ joint_numbered j
-
 -- a token is an operator of a chain where it has that level's rank
-pub joint_ranks : (j : Joint) (x : TokenKind) (op : Infix) → infix_of j x ≡ Some op → rank_of x ≡ joint_rank j
-joint_ranks j x op e = go (infix_at x) e
+pub class_ranks : (j : OperatorClass) (x : TokenKind) (op : Infix) → infix_of j x ≡ Some op → rank_of x ≡ class_rank j
+class_ranks j x op e = go (infix_at x) (sym (infix_is j x) ∙ e)
   where
-    go : (o : Option Infix) → at_joint j o ≡ Some op → rank_by o x ≡ joint_rank j
+    go : (o : Option Infix) → of_class j o ≡ Some op → rank_by o x ≡ class_rank j
     go None e = cc
-    go (Some i) e = by (nat_eq (joint_number (joint_of i)) (joint_number j)) refl e
+    go (Some i) e = by (nat_eq (class_number (class_of i)) (class_number j)) refl e
       where
-        by : (b : Bool) → nat_eq (joint_number (joint_of i)) (joint_number j) ≡ b → cond b (Some i) None ≡ Some op → joint_rank (joint_of i) ≡ joint_rank j
-        by true same e = ap joint_rank (same_joint (joint_of i) j same)
+        by : (b : Bool) → nat_eq (class_number (class_of i)) (class_number j) ≡ b → cond b (Some i) None ≡ Some op → class_rank (class_of i) ≡ class_rank j
+        by true same e = ap class_rank (same_class (class_of i) j same)
         by false same e = cc
 
-pub no_joint : (j : Joint) (x : TokenKind) → (rank_of x ≡ joint_rank j → ⊥) → infix_of j x ≡ None
-no_joint j x other = go (infix_of j x) refl
+pub no_operator : (j : OperatorClass) (x : TokenKind) → (rank_of x ≡ class_rank j → ⊥) → infix_of j x ≡ None
+no_operator j x other = go (infix_of j x) refl
   where
     go : (o : Option Infix) → infix_of j x ≡ o → infix_of j x ≡ None
     go None e = e
-    go (Some op) e = absurd (other (joint_ranks j x op e))
+    go (Some op) e = absurd (other (class_ranks j x op e))
 
 sign_rank : (s : Sign) (x : TokenKind) → is_sign s x ≡ true → rank_of x ≡ rank_of (kind.Sign s)
 sign_rank s x e = ap rank_of (sign_is x s e)

@@ -13,7 +13,7 @@ use Rattle.smv_text.specs.declared.tree.Prefix.{Prefix}
 use Rattle.smv_text.specs.declared.tree.Prefix.TheVariants as prefix
 use Rattle.smv_text.specs.declared.tree.Infix.{Infix}
 use Rattle.smv_text.specs.declared.tree.Function.{Function}
-use Rattle.smv_text.specs.declared.level.Joint.{Joint}
+use Rattle.smv_text.specs.declared.level.OperatorClass.{OperatorClass}
 use Rattle.smv_text.specs.declared.level.Level.{Level}
 use Rattle.smv_text.specs.declared.level.Level.TheVariants.{Chain, Choice, Range, Before, Selection}
 use Rattle.smv_text.specs.Levels.{all_levels, infix_of, prefix_kind, function_at}
@@ -36,7 +36,7 @@ itself : (ls : List Level) → Lifts ls ls
 itself ls t xs d = d
 
 -- the parts so far, told by what they make of those to come
-abbrev pub LinksBefore : Joint → List Level → List (Infix × Tree) → List Token → Type 0
+abbrev pub LinksBefore : OperatorClass → List Level → List (Infix × Tree) → List Token → Type 0
 LinksBefore j below all xs = (ls : Links) (ys : List Token) → SpellsLinks j below ls ys → SpellsLinks j below (links_onto all ls) (xs ++ ys)
 
 abbrev pub PicksBefore : List Level → List (Tree × Tree) → List Token → Type 0
@@ -58,7 +58,7 @@ start_or [] s = s
 start_or (x ∷ xs) s = x.place
 
 -- the tokens of a chain so far
-abbrev pub Chains : Joint → List Level → Chained → List Token → Type 0
+abbrev pub Chains : OperatorClass → List Level → Chained → List Token → Type 0
 Chains j below c xs = (ys : List Token) × (zs : List Token) × (xs ≡ ys ++ zs) × Spells below c.first ys × LinksBefore j below c.links zs
 
 -- The frames wait for an expression at these levels, whose first token stands at this place, and these tokens led to them.
@@ -232,7 +232,7 @@ begin_means (Before pre ∷ below) k q x r w e =
 begin_means (Selection ∷ below) k q x r w e = begin_means below (selected x.place ∷ k) q x r (opened_waits Selection below k q x.place w) e
 
 -- a chain grows by an operand
-chain_grows : (j : Joint) (below : List Level) (c : Chained) (op : Infix) (t : Tree) (xs : List Token) (y : Token) (zs : List Token)
+chain_grows : (j : OperatorClass) (below : List Level) (c : Chained) (op : Infix) (t : Tree) (xs : List Token) (y : Token) (zs : List Token)
     → Chains j below c xs → infix_of j y.kind ≡ Some op → Spells below t zs → Chains j below (taken (joined c op) t) (xs ++ y ∷ zs)
 chain_grows j below c op t xs y zs h e d = (
   h.0,
@@ -243,14 +243,14 @@ chain_grows j below c op t xs y zs h e d = (
       (subst (λ l. SpellsLinks j below l (h.1 ++ y ∷ (zs ++ ws))) (sym (links_push c.links op t ls)) (h.4 (link op t ls) (y ∷ (zs ++ ws)) (one_more y e d tl))),
 )
 
-chain_start : (j : Joint) (below : List Level) (c : Chained) (xs : List Token) → Chains j below c xs → (r : List Token) → start (xs ++ r) ≡ start xs
+chain_start : (j : OperatorClass) (below : List Level) (c : Chained) (xs : List Token) → Chains j below c xs → (r : List Token) → start (xs ++ r) ≡ start xs
 chain_start j below c xs h r =
     ap (λ l. start (l ++ r)) h.2 ∙ ap start (append_assoc h.0 h.1 r) ∙ start_front h.3 (h.1 ++ r) ∙ sym (start_front h.3 h.1) ∙ ap start (sym h.2)
 
-no_tokens : {j : Joint} {below : List Level} {xs : List Token} → SpellsLinks j below no_links xs → xs ≡ []
+no_tokens : {j : OperatorClass} {below : List Level} {xs : List Token} → SpellsLinks j below no_links xs → xs ≡ []
 no_tokens no_more = refl
 
-chain_spelled : (j : Joint) (below : List Level) (c : Chained) (xs : List Token) (p : Place) → Chains j below c xs → p ≡ start xs → Spells (Chain j ∷ below) (whole p c) xs
+chain_spelled : (j : OperatorClass) (below : List Level) (c : Chained) (xs : List Token) (p : Place) → Chains j below c xs → p ≡ start xs → Spells (Chain j ∷ below) (whole p c) xs
 chain_spelled j below c xs p h at = go (links_of c.links) tails
   where
     tails : SpellsLinks j below (links_of c.links) h.1
@@ -263,7 +263,7 @@ chain_spelled j below c xs p h at = go (links_of c.links) tails
         (subst (λ r. Spells (Chain j ∷ below) (chain r c.first (link op u ls)) (h.0 ++ h.1)) (sym (at ∙ ap start h.2 ∙ start_front h.3 h.1)) (chains h.3 tl))
 
 -- an operand was read: what the chain is then
-operand_held : (j : Joint) (below : List Level) (p : Place) (front : Front) (k : List Frame) (t : Tree) (q : List Token) → Held (operand j below p front ∷ k) t q
+operand_held : (j : OperatorClass) (below : List Level) (p : Place) (front : Front) (k : List Frame) (t : Tree) (q : List Token) → Held (operand j below p front ∷ k) t q
     → (w : List Token) × (xs : List Token) × (q ≡ w ++ xs) × Chains j below (taken front t) xs × (p ≡ start xs) × Waits k (Chain j ∷ below) w p
 operand_held j below p bare k t q h =
     let w = h.5 in (h.1, h.2, h.3, (h.2, [], sym (append-nil h.2), w.0 t h.2 h.4, λ ls ys tl. tl), w.1, subst (Waits k (Chain j ∷ below) h.1) (sym w.1) w.2)

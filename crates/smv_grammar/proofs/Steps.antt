@@ -11,7 +11,7 @@ use Rattle.smv_text.specs.declared.tree.Path.{Path}
 use Rattle.smv_text.specs.declared.tree.Prefix.{Prefix}
 use Rattle.smv_text.specs.declared.tree.Infix.{Infix}
 use Rattle.smv_text.specs.declared.tree.Function.{Function}
-use Rattle.smv_text.specs.declared.level.Joint.{Joint}
+use Rattle.smv_text.specs.declared.level.OperatorClass.{OperatorClass}
 use Rattle.smv_text.specs.declared.level.Level.{Level}
 use Rattle.smv_text.specs.Levels.{all_levels, infix_of}
 use Rattle.smv_text.specs.Tree.{Tree, name, prefix, cases, select, next, range, branches_of}
@@ -19,7 +19,7 @@ use Rattle.smv_grammar.specs.declared.listing.Listing.{Listing}
 use Rattle.smv_grammar.specs.declared.listing.Listing.TheVariants.{Arguments}
 use Rattle.smv_grammar.specs.Marks.{is_sign, is_word}
 use Rattle.smv_grammar.specs.Machine.{prefix_sign, Chained, Front, joined, taken, whole, choice_at, Frame, operand, when, value, signs, selected, bracket, following, listing, condition, result, closing_of, listed, State, ask, have, signed, upto, upto_minus, named, dotted, open_next, open_call, high_end, high_colon, low_end, low_close, case_goes, Move, onto, or_else, give, begin, longer, Reach, failed, along, walk, expects, take_number, take_name, range_end}
-use Rattle.smv_grammar.specs.Reading.{after, after_word, joint_after, Found, found, lost, number_at, first_number, negated, first_integer, integer_at, with_name, path_on, path_step}
+use Rattle.smv_grammar.specs.Reading.{after, after_word, operator_after, Found, found, lost, number_at, first_number, negated, first_integer, integer_at, with_name, path_on, path_step}
 use Rattle.smv_grammar.proofs.Signs.{after_found, not_minus}
 
 -- what a test leads to
@@ -170,21 +170,21 @@ module _ (k : List Frame) (t : Tree) where
       comma_left k t x xs (is_sign sign.Comma x.kind) _ _ _ _ (not_minus _ xs e) ∙ leaving (is_sign (closing_of what) x.kind) _ _ x xs _ (not_minus _ xs f)
 
 -- what the machine comes to from a chain so far
-abbrev pub chain_goes : Joint → List Level → Place → Chained → List Frame → List Token → Option (Infix × List Token) → Reach
+abbrev pub chain_goes : OperatorClass → List Level → Place → Chained → List Frame → List Token → Option (Infix × List Token) → Reach
 chain_goes j below p c k xs None = walk xs (have (whole p c) k)
 chain_goes j below p c k xs (Some m) = walk m.1 (ask below (operand j below p (joined c m.0) ∷ k))
 
-abbrev pub chained : Joint → List Level → Place → Chained → List Frame → List Token → Reach
-chained j below p c k xs = chain_goes j below p c k xs (joint_after j xs)
+abbrev pub chained : OperatorClass → List Level → Place → Chained → List Frame → List Token → Reach
+chained j below p c k xs = chain_goes j below p c k xs (operator_after j xs)
 
-chain_on : (m : Option Infix) (j : Joint) (below : List Level) (p : Place) (c : Chained) (k : List Frame) (x : Token) (xs : List Token)
+chain_on : (m : Option Infix) (j : OperatorClass) (below : List Level) (p : Place) (c : Chained) (k : List Frame) (x : Token) (xs : List Token)
     → along (or_else (option_map (λ op. ask below (operand j below p (joined c op) ∷ k)) m) (give k (whole p c) x.kind)) x xs (λ s. walk xs s)
     ≡ chain_goes j below p c k (x ∷ xs) (option_map (λ op. (op, xs)) m)
 unfolding walk
 chain_on None j below p c k x xs = refl
 chain_on (Some op) j below p c k x xs = refl
 
-pub operand_goes : (k : List Frame) (below : List Level) (j : Joint) (p : Place) (front : Front) (t : Tree) (xs : List Token)
+pub operand_goes : (k : List Frame) (below : List Level) (j : OperatorClass) (p : Place) (front : Front) (t : Tree) (xs : List Token)
     → walk xs (have t (operand j below p front ∷ k)) ≡ chained j below p (taken front t) k xs
 unfolding walk
 operand_goes k below j p front t [] = refl

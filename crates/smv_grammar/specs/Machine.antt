@@ -12,10 +12,11 @@ use Rattle.smv_text.specs.declared.tree.Prefix.{Prefix}
 use Rattle.smv_text.specs.declared.tree.Prefix.TheVariants as prefixes
 use Rattle.smv_text.specs.declared.tree.Infix.{Infix}
 use Rattle.smv_text.specs.declared.tree.Function.{Function}
-use Rattle.smv_text.specs.declared.level.Joint.{Joint}
+use Rattle.smv_text.specs.declared.level.OperatorClass.{OperatorClass}
 use Rattle.smv_text.specs.declared.level.Level.{Level}
 use Rattle.smv_text.specs.declared.level.Level.TheVariants.{Chain, Choice, Range, Before, Selection}
-use Rattle.smv_text.specs.Levels.{all_levels, infix_at, infix_of, function_at}
+use Rattle.smv_text.specs.Levels.{all_levels, infix_of, function_at}
+use Rattle.smv_text.specs.Operators.{infix_at}
 use Rattle.smv_text.specs.Tree.{Tree, truth, number, literal, name, prefix, chain, choice, cases, select, call, next as next_value, set, range, Links, no_links, link, Branches, no_branches, branch, links_of, branches_of, trees_of}
 use Rattle.smv_grammar.specs.declared.listing.Listing.{Listing}
 use Rattle.smv_grammar.specs.declared.listing.Listing.TheVariants.{Arguments, Elements}
@@ -53,7 +54,7 @@ listed p Elements ts = set p (trees_of ts)
 
 -- What waits for an expression, with the place of its own first token.
 pub data Frame : Type 0 where
-  operand : Joint → List Level → Place → Front → Frame
+  operand : OperatorClass → List Level → Place → Front → Frame
   when : List Level → Place → List (Tree × Tree) → Frame  -- a condition of a choice, or what stands behind its last colon
   value : List Level → Place → List (Tree × Tree) → Tree → Frame
   signs : Prefix → List Level → Place → ℕ → Frame

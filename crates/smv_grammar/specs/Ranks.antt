@@ -6,18 +6,18 @@ use Rattle.smv_text.specs.declared.token.TokenKind.{TokenKind}
 use Rattle.smv_text.specs.declared.token.TokenKind.TheVariants as kind
 use Rattle.smv_text.specs.declared.tree.Prefix.TheVariants as prefixes
 use Rattle.smv_text.specs.declared.tree.Infix.{Infix}
-use Rattle.smv_text.specs.declared.level.Joint.{Joint}
-use Rattle.smv_text.specs.declared.level.Joint.TheVariants as joints
+use Rattle.smv_text.specs.declared.level.OperatorClass.{OperatorClass}
+use Rattle.smv_text.specs.declared.level.OperatorClass.TheVariants as classes
 use Rattle.smv_text.specs.declared.level.Level.{Level}
 use Rattle.smv_text.specs.declared.level.Level.TheVariants.{Chain, Choice, Range, Before, Selection}
-use Rattle.smv_text.specs.Levels.{infix_at, joint_of}
+use Rattle.smv_text.specs.Operators.{infix_at, class_of}
 
 -- all levels, from the tightest to the loosest
 abbrev pub tight_levels : List Level
 tight_levels =
-    Selection ∷ Before prefixes.Not ∷ Chain joints.Concatenations ∷ Before prefixes.Minus ∷ Chain joints.Products ∷ Chain joints.Sums
-    ∷ Chain joints.Shifts ∷ Range ∷ Chain joints.Unions ∷ Chain joints.Memberships ∷ Chain joints.Comparisons ∷ Chain joints.Conjunctions
-    ∷ Chain joints.Disjunctions ∷ Choice ∷ Chain joints.Equivalences ∷ Chain joints.Implications ∷ []
+    Selection ∷ Before prefixes.Not ∷ Chain classes.Concatenations ∷ Before prefixes.Minus ∷ Chain classes.Products ∷ Chain classes.Sums
+    ∷ Chain classes.Shifts ∷ Range ∷ Chain classes.Unions ∷ Chain classes.Memberships ∷ Chain classes.Comparisons ∷ Chain classes.Conjunctions
+    ∷ Chain classes.Disjunctions ∷ Choice ∷ Chain classes.Equivalences ∷ Chain classes.Implications ∷ []
 
 -- the level over n others
 abbrev pub level_at : ℕ → Level
@@ -28,22 +28,22 @@ abbrev pub tightest : ℕ → List Level
 tightest zero = []
 tightest (suc n) = level_at n ∷ tightest n
 
-abbrev pub joint_rank : Joint → ℕ
-joint_rank joints.Concatenations = 3
-joint_rank joints.Products = 5
-joint_rank joints.Sums = 6
-joint_rank joints.Shifts = 7
-joint_rank joints.Unions = 9
-joint_rank joints.Memberships = 10
-joint_rank joints.Comparisons = 11
-joint_rank joints.Conjunctions = 12
-joint_rank joints.Disjunctions = 13
-joint_rank joints.Equivalences = 15
-joint_rank joints.Implications = 16
+abbrev pub class_rank : OperatorClass → ℕ
+class_rank classes.Concatenations = 3
+class_rank classes.Products = 5
+class_rank classes.Sums = 6
+class_rank classes.Shifts = 7
+class_rank classes.Unions = 9
+class_rank classes.Memberships = 10
+class_rank classes.Comparisons = 11
+class_rank classes.Conjunctions = 12
+class_rank classes.Disjunctions = 13
+class_rank classes.Equivalences = 15
+class_rank classes.Implications = 16
 
 -- how many levels a level is with those below it
 abbrev pub level_rank : Level → ℕ
-level_rank (Chain j) = joint_rank j
+level_rank (Chain j) = class_rank j
 level_rank Choice = 14
 level_rank Range = 8
 level_rank (Before prefixes.Minus) = 4
@@ -51,7 +51,7 @@ level_rank (Before prefixes.Not) = 2
 level_rank Selection = 1
 
 abbrev pub rank_by : Option Infix → TokenKind → ℕ
-rank_by (Some op) x = joint_rank (joint_of op)
+rank_by (Some op) x = class_rank (class_of op)
 rank_by None (kind.Sign sign.Question) = 14
 rank_by None (kind.Sign sign.OpenBracket) = 1
 rank_by None (kind.Sign sign.Dot) = 0

@@ -10,7 +10,7 @@ use Rattle.smv_text.specs.declared.token.TokenKind.{TokenKind}
 use Rattle.smv_text.specs.declared.token.TokenKind.TheVariants as kind
 use Rattle.smv_text.specs.declared.tree.Infix.{Infix}
 use Rattle.smv_text.specs.declared.tree.Path.{Path}
-use Rattle.smv_text.specs.declared.level.Joint.{Joint}
+use Rattle.smv_text.specs.declared.level.OperatorClass.{OperatorClass}
 use Rattle.smv_text.specs.Levels.{infix_of}
 use Rattle.smv_grammar.specs.Marks.{is_sign, is_word}
 use Rattle.smv_grammar.specs.Ranks.{level_at, tightest}
@@ -25,9 +25,9 @@ abbrev pub after_word : Reserved → List Token → Option (List Token)
 after_word w [] = None
 after_word w (x ∷ xs) = cond (is_word w x.kind) (Some xs) None
 
-abbrev pub joint_after : Joint → List Token → Option (Infix × List Token)
-joint_after j [] = None
-joint_after j (x ∷ xs) = option_map (λ op. (op, xs)) (infix_of j x.kind)
+abbrev pub operator_after : OperatorClass → List Token → Option (Infix × List Token)
+operator_after j [] = None
+operator_after j (x ∷ xs) = option_map (λ op. (op, xs)) (infix_of j x.kind)
 
 -- a number, a path or an integer that comes first, with the tokens behind it, or how many tokens are left where none comes, the
 -- dead one among them

@@ -1,12 +1,13 @@
 // The levels of the grammar, and the tokens that go on with an expression or begin one.
 
 ghost use Rattle.std.specs.Prelude.{◌≡◌, ◌<◌, option_map, IfSome, suc, length};
-ghost use Rattle.smv_text.specs.Levels.{infix_at, infix_of, joint_of, joint_number, function_at};
+ghost use Rattle.smv_text.specs.Levels.{infix_of, function_at};
+ghost use Rattle.smv_text.specs.Operators.{infix_at, class_of, class_number};
 ghost use Rattle.smv_grammar.specs.Machine.{calling, leader_of};
-ghost use Rattle.smv_grammar.specs.Ranks.{joint_rank, rank_of, first_rank, level_at};
-ghost use Rattle.smv_grammar.specs.Reading.{joint_after};
+ghost use Rattle.smv_grammar.specs.Ranks.{class_rank, rank_of, first_rank, level_at};
+ghost use Rattle.smv_grammar.specs.Reading.{operator_after};
 
-use smv_text::{Function, Infix, Joint, LEVELS, Level, Reserved, Sign, Token, TokenKind};
+use smv_text::{Function, Infix, LEVELS, Level, OperatorClass, Reserved, Sign, Token, TokenKind};
 use word_core::Word;
 
 /// What a token begins, below all levels.
@@ -126,70 +127,71 @@ fn infix_at(kind: &TokenKind) -> Option<Infix>
 }
 
 #[inline(always)]
-fn joint_of(op: Infix) -> Joint
-    ensures { result ≡ joint_of op }
+fn class_of(op: Infix) -> OperatorClass
+    ensures { result ≡ class_of op }
 {
     match op {
-        Infix::Implies => Joint::Implications,
-        Infix::Iff => Joint::Equivalences,
-        Infix::Or => Joint::Disjunctions,
-        Infix::Xor => Joint::Disjunctions,
-        Infix::Xnor => Joint::Disjunctions,
-        Infix::And => Joint::Conjunctions,
-        Infix::Equal => Joint::Comparisons,
-        Infix::Unequal => Joint::Comparisons,
-        Infix::Less => Joint::Comparisons,
-        Infix::Greater => Joint::Comparisons,
-        Infix::LessEq => Joint::Comparisons,
-        Infix::GreaterEq => Joint::Comparisons,
-        Infix::Member => Joint::Memberships,
-        Infix::Union => Joint::Unions,
-        Infix::ShiftLeft => Joint::Shifts,
-        Infix::ShiftRight => Joint::Shifts,
-        Infix::Plus => Joint::Sums,
-        Infix::Minus => Joint::Sums,
-        Infix::Times => Joint::Products,
-        Infix::Divide => Joint::Products,
-        Infix::Mod => Joint::Products,
-        Infix::Concat => Joint::Concatenations,
+        Infix::Implies => OperatorClass::Implications,
+        Infix::Iff => OperatorClass::Equivalences,
+        Infix::Or => OperatorClass::Disjunctions,
+        Infix::Xor => OperatorClass::Disjunctions,
+        Infix::Xnor => OperatorClass::Disjunctions,
+        Infix::And => OperatorClass::Conjunctions,
+        Infix::Equal => OperatorClass::Comparisons,
+        Infix::Unequal => OperatorClass::Comparisons,
+        Infix::Less => OperatorClass::Comparisons,
+        Infix::Greater => OperatorClass::Comparisons,
+        Infix::LessEq => OperatorClass::Comparisons,
+        Infix::GreaterEq => OperatorClass::Comparisons,
+        Infix::Member => OperatorClass::Memberships,
+        Infix::Union => OperatorClass::Unions,
+        Infix::ShiftLeft => OperatorClass::Shifts,
+        Infix::ShiftRight => OperatorClass::Shifts,
+        Infix::Plus => OperatorClass::Sums,
+        Infix::Minus => OperatorClass::Sums,
+        Infix::Times => OperatorClass::Products,
+        Infix::Divide => OperatorClass::Products,
+        Infix::Mod => OperatorClass::Products,
+        Infix::Concat => OperatorClass::Concatenations,
     }
 }
 
 #[inline(always)]
-fn joint_number(joint: Joint) -> u8
-    ensures { result ≡ joint_number joint }
+fn class_number(class: OperatorClass) -> u8
+    ensures { result ≡ class_number class }
 {
-    joint as u8
+    class as u8
 }
 
 #[inline(always)]
-fn joint_rank(joint: Joint) -> usize
-    ensures { result ≡ joint_rank joint }
+fn class_rank(class: OperatorClass) -> usize
+    ensures { result ≡ class_rank class }
 {
-    match joint {
-        Joint::Concatenations => 3,
-        Joint::Products => 5,
-        Joint::Sums => 6,
-        Joint::Shifts => 7,
-        Joint::Unions => 9,
-        Joint::Memberships => 10,
-        Joint::Comparisons => 11,
-        Joint::Conjunctions => 12,
-        Joint::Disjunctions => 13,
-        Joint::Equivalences => 15,
-        Joint::Implications => 16,
+    match class {
+        OperatorClass::Concatenations => 3,
+        OperatorClass::Products => 5,
+        OperatorClass::Sums => 6,
+        OperatorClass::Shifts => 7,
+        OperatorClass::Unions => 9,
+        OperatorClass::Memberships => 10,
+        OperatorClass::Comparisons => 11,
+        OperatorClass::Conjunctions => 12,
+        OperatorClass::Disjunctions => 13,
+        OperatorClass::Equivalences => 15,
+        OperatorClass::Implications => 16,
     }
 }
 
-/// The operator of this level that a token is.
+/// The operator of this class that a token is.
 #[inline(always)]
-fn infix_of(joint: Joint, kind: &TokenKind) -> Option<Infix>
-    ensures { result ≡ infix_of joint kind.now }
+#[tactic(auto, using(smv_text::specs::laws::Operators::infix_is))]
+fn infix_of(class: OperatorClass, kind: &TokenKind) -> Option<Infix>
+    ensures { result ≡ infix_of class kind.now }
 {
     match infix_at(kind) {
         None => None,
         Some(op) => {
-            if joint_number(joint_of(op)) == joint_number(joint) {
+            if class_number(class_of(op)) == class_number(class) {
                 Some(op)
             } else {
                 None
@@ -198,14 +200,14 @@ fn infix_of(joint: Joint, kind: &TokenKind) -> Option<Infix>
     }
 }
 
-/// The operator of this level that comes first, and the tokens after it.
+/// The operator of this class that comes first, and the tokens after it.
 #[inline(always)]
-pub fn joint_after(tokens: &[Token], joint: Joint) -> Option<(Infix, &[Token])>
-    ensures found { option_map (λ r. (r.0, r.1.now)) result ≡ joint_after joint tokens.now }
+pub fn operator_after(tokens: &[Token], class: OperatorClass) -> Option<(Infix, &[Token])>
+    ensures found { option_map (λ r. (r.0, r.1.now)) result ≡ operator_after class tokens.now }
     ensures shorter { IfSome result (λ r. length tokens.now ≡ suc (length r.1.now)) }
 {
     match tokens.split_first() {
-        Some((token, rest)) => match infix_of(joint, &token.kind) {
+        Some((token, rest)) => match infix_of(class, &token.kind) {
             Some(op) => Some((op, rest)),
             None => None,
         },
@@ -219,7 +221,7 @@ fn rank_of(kind: &TokenKind) -> usize
     ensures { result ≡ rank_of kind.now }
 {
     match infix_at(kind) {
-        Some(op) => joint_rank(joint_of(op)),
+        Some(op) => class_rank(class_of(op)),
         None => match kind {
             TokenKind::Sign(sign) => match sign {
                 Sign::Question => 14,

@@ -65,21 +65,21 @@ same_number : (i : ℕ) → (i == i) ≡ true
 same_number i = grind arith
 
 pub more_keys : (ts : List PartOf) (old new : List Key) (i n : ℕ) (p : PartOf) → n ≡ length ts → i < n → p ≡ slice_index_or ts i p
-    → ((j : ℕ) (x : List ℕ) → list_any (is_key j x) new ≡ (list_any (is_key j x) old || (i == j && list_any (λ q. bytes_eq q.name x) p.plan.now.parameters)))
+    → ((j : ℕ) (x : List ℕ) → list_any (is_key j x) new ≡ (list_any (is_key j x) old || (i == j && list_any (λ q. bytes_eq q.name x) p.module.now.parameters)))
     → ((j : ℕ) (x : List ℕ) → j < i → is_alias (local (map instance_plain ts) j x) ≡ true → list_any (is_key j x) old ≡ true)
     → (j : ℕ) (x : List ℕ) → j < i + 1 → is_alias (local (map instance_plain ts) j x) ≡ true → list_any (is_key j x) new ≡ true
 more_keys ts old new i n p e h is k before j x l a = k j x ∙ ⊎_elim earlier last (cases_lt j i)
   where
-    earlier : j < i → (list_any (is_key j x) old || (i == j && list_any (λ q. bytes_eq q.name x) p.plan.now.parameters)) ≡ true
+    earlier : j < i → (list_any (is_key j x) old || (i == j && list_any (λ q. bytes_eq q.name x) p.module.now.parameters)) ≡ true
     earlier b = there (list_any (is_key j x) old) _ (before j x b a)
 
-    last : i ≤ j → (list_any (is_key j x) old || (i == j && list_any (λ q. bytes_eq q.name x) p.plan.now.parameters)) ≡ true
+    last : i ≤ j → (list_any (is_key j x) old || (i == j && list_any (λ q. bytes_eq q.name x) p.module.now.parameters)) ≡ true
     last b =
         let s : j ≡ i = omega (arith, b, l) in
         let g : slice_get (map instance_plain ts) i ≡ Some (instance_plain p) = slice_get-map instance_plain ts i ∙ ap (option_map instance_plain) (slice_get_read ts n i p e h is) in
         let c : is_alias (local_in i x (Some (instance_plain p))) ≡ true = ap (λ o. is_alias (local_in i x o)) (sym g) ∙ ap (λ m. is_alias (local (map instance_plain ts) m x)) (sym s) ∙ a in
-        here (list_any (is_key j x) old) (i == j) (list_any (λ q. bytes_eq q.name x) p.plan.now.parameters)
-        (is_parameter (parent_of (instance_plain p)) p.plan.now.parameters (instance_plain p).actuals x (among_elements i (instance_plain p).plan.elements x) (elements_apart i (instance_plain p).plan.elements x) c)
+        here (list_any (is_key j x) old) (i == j) (list_any (λ q. bytes_eq q.name x) p.module.now.parameters)
+        (is_parameter (parent_of (instance_plain p)) p.module.now.parameters (instance_plain p).actuals x (among_elements i (instance_plain p).module.elements x) (elements_apart i (instance_plain p).module.elements x) c)
         (ap (λ m. i == m) s ∙ same_number i)
 
 pub all_keys : (ts : List PartOf) (ks : List Key) (i n : ℕ) → n ≡ length ts → n ≤ i → ((j : ℕ) (x : List ℕ) → j < i → is_alias (local (map instance_plain ts) j x) ≡ true → list_any (is_key j x) ks ≡ true)

@@ -1,5 +1,5 @@
 pub mod Grow
 pub mod KeyLemmas
 pub mod LeadLemmas
-pub mod ScopeLemmas
+pub mod KnownLemmas
 pub mod TableLemmas

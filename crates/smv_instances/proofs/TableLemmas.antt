@@ -10,5 +10,5 @@ use Rattle.smv_instances.specs.laws.NameLemmas.{steps_front}
 
 -- the definitions and actuals from an instance on
 pub steps_on : (ts : List PartOf) (i : ℕ) (p : PartOf) → i < length ts → p ≡ slice_index_or ts i p
-    → steps_of (map instance_plain (drop i ts)) ≡ sum_by definitions_in (map plain_element p.plan.now.elements) + length p.actuals.now + steps_of (map instance_plain (drop (i + 1) ts))
+    → steps_of (map instance_plain (drop i ts)) ≡ sum_by definitions_in (map plain_element p.module.now.elements) + length p.actuals.now + steps_of (map instance_plain (drop (i + 1) ts))
 steps_on ts i p h is = steps_front (drop i ts) p (drop (i + 1) ts) (front_is ts i (length ts) p refl h is)

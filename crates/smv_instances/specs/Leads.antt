@@ -48,9 +48,13 @@ WalkOf t m g (Waits key) = IsOpen t m key.instance key.name.now × ((n : ℕ) �
 abbrev pub IsWaiting : {S : Type 0} → List Instance → HashMap (ℕ × Bor (List ℕ)) Lead S → ℕ → List ℕ → Type 0
 IsWaiting t m i x = (j : ℕ) × (y : List ℕ) × IsOpen t m j y × ((n : ℕ) → look t n j y ≡ cyclic → look t (suc n) i x ≡ cyclic)
 
+-- an alias, where it is open, comes to an open alias
+abbrev pub WaitsIfOpen : {S : Type 0} → List Instance → HashMap (ℕ × Bor (List ℕ)) Lead S → ℕ → List ℕ → Type 0
+WaitsIfOpen t m i x = IsOpen t m i x → IsWaiting t m i x
+
 -- each open alias comes to an open alias, so all of them lead into cycles
 abbrev pub IsClosed : {S : Type 0} → List Instance → HashMap (ℕ × Bor (List ℕ)) Lead S → Type 0
-IsClosed t m = (i : ℕ) (x : List ℕ) → IsOpen t m i x → IsWaiting t m i x
+IsClosed t m = (i : ℕ) (x : List ℕ) → WaitsIfOpen t m i x
 
 abbrev pub is_key : ℕ → List ℕ → Key → Bool
 is_key i x key = key.instance == i && bytes_eq key.name.now x
@@ -67,4 +71,4 @@ KeyWalk t m i x (Some (Waits key)) = IsOpen t m key.instance key.name.now × ((n
 
 -- each of these parameters that is open comes to an open alias
 abbrev pub AllWait : {S : Type 0} → List Instance → HashMap (ℕ × Bor (List ℕ)) Lead S → List Key → Type 0
-AllWait t m ks = (i : ℕ) (x : List ℕ) → list_any (is_key i x) ks ≡ true → IsOpen t m i x → IsWaiting t m i x
+AllWait t m ks = (i : ℕ) (x : List ℕ) → list_any (is_key i x) ks ≡ true → WaitsIfOpen t m i x

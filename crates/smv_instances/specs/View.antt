@@ -15,7 +15,7 @@ use Rattle.smv_meaning.specs.Instances.{Instance}
 
 abbrev pub instance_plain : PartOf → Instance
 instance_plain i =
-    record { parent = i.parent; own = i.own.now; path = i.path; plan = plain_module i.plan.now; actuals = trees_of (map plain i.actuals.now) }
+    record { parent = i.parent; name = i.name.now; path = i.path; «module» = plain_module i.module.now; actuals = trees_of (map plain i.actuals.now) }
 
 abbrev pub instance_or_none : Option PartOf → Option Instance
 instance_or_none None = None

@@ -1,23 +1,15 @@
 // The leads of all aliases.
-ghost use Rattle.std.specs.Prelude.{◌≡◌, ◌<◌, ◌+◌, List, ℕ, None, Some, false, length, map, slice_index_or, IfOk, OnOk};
-ghost use Rattle.smv_instances.specs.NameMap.{named_in};
-ghost use Rattle.smv_instances.specs.Leads.{Right, IsOpen, KeyWalk, IsWaiting, AllWait, IsClosed};
+ghost use Rattle.std.specs.Prelude.{◌≡◌, ◌<◌, ◌+◌, Some, false, length, map, slice_index_or, IfOk, OnOk};
+ghost use Rattle.smv_instances.specs.Leads.{Right, KeyWalk, WaitsIfOpen, AllWait, IsClosed};
 ghost use Rattle.smv_instances.specs.View.{instance_plain};
 
-use crate::children::{Children, child_in, put};
+use crate::instance_map::{InstanceMap, nothing_in, put_in, value_in};
 use crate::keys::keys_of;
-use crate::leads::{Key, Lead, Leads, Walk, keep, kept, path_walk};
+use crate::leads::{Key, Lead, Leads, Walk, path_walk};
 use crate::names::Known;
 use crate::parts::Parts;
 use std::alloc::Global;
-use std::collections::HashMap;
 use text_core::NoMemory;
-
-fn no_leads<'a>(alloc: Global) -> Leads<'a>
-    ensures { (i : ℕ) (x : List ℕ) → named_in result i x ≡ None }
-{
-    HashMap::new(alloc)
-}
 
 fn deeper<'a>(lead: Lead<'a>) -> Result<Lead<'a>, NoMemory>
     ensures depth { IfOk result (λ d. d.depth ≡ lead.entry.depth + 1) }
@@ -36,7 +28,7 @@ fn key_walk<'a>(parts: &Parts<'a>, leads: &Leads<'a>, key: Key<'a>) -> Option<Wa
     requires right { Right (map instance_plain parts.now) leads.now }
     ensures { KeyWalk (map instance_plain parts.now) leads.now key.entry.instance key.entry.name.now result }
 {
-    if let Some(_) = kept(leads, key.instance, key.name) {
+    if let Some(_) = value_in(leads, key.instance, key.name) {
         return None;
     }
     match parts.local(key.instance, key.name) {
@@ -59,17 +51,15 @@ fn keep_deeper<'a>(
     ensures { OnOk result (Right (map instance_plain parts.now) leads.new) }
 {
     let deep = deeper(lead)?;
-    match keep(leads, key, deep) {
-        Ok(()) => Ok(()),
-        Err(end) => Err(end),
-    }
+    put_in(leads, key.instance, key.name, deep)?;
+    Ok(())
 }
 
 // Keeps the lead of a parameter that is an open alias, where its walk ends, and says whether it does.
 fn retried<'a>(parts: &Parts<'a>, leads: &mut Leads<'a>, key: &Key<'a>) -> Result<bool, NoMemory>
     requires right { Right (map instance_plain parts.now) leads.old }
     ensures right { OnOk result (Right (map instance_plain parts.now) leads.new) }
-    ensures waits { IfOk result (λ b. b ≡ false → (leads.new ≡ leads.old) × (IsOpen (map instance_plain parts.now) leads.old key.now.instance key.now.name.now → IsWaiting (map instance_plain parts.now) leads.old key.now.instance key.now.name.now)) }
+    ensures waits { IfOk result (λ b. b ≡ false → (leads.new ≡ leads.old) × WaitsIfOpen (map instance_plain parts.now) leads.old key.now.instance key.now.name.now) }
 {
     match key_walk(parts, leads, *key) {
         None => Ok(false),
@@ -112,7 +102,7 @@ fn searched<'a>(
     alloc: Global,
     parts: &Parts<'a>,
     leads: &mut Leads<'a>,
-    opened: &mut Children<'a>,
+    opened: &mut InstanceMap<'a, bool>,
     first: Key<'a>,
 ) -> Result<(), NoMemory>
     requires right { Right (map instance_plain parts.now) leads.old }
@@ -127,8 +117,8 @@ fn searched<'a>(
         match key_walk(parts, leads, key) {
             None => {}
             Some(Walk::Ends(lead)) => keep_deeper(parts, leads, key, lead)?,
-            Some(Walk::Waits(next)) => if child_in(opened, next.instance, next.name).is_none() {
-                put(opened, next.instance, next.name, 0)?;
+            Some(Walk::Waits(next)) => if value_in(opened, next.instance, next.name).is_none() {
+                put_in(opened, next.instance, next.name, true)?;
                 stack.push(key)?;
                 stack.push(next)?;
             },
@@ -144,8 +134,8 @@ pub fn leads_of<'a>(alloc: Global, parts: &Parts<'a>) -> Result<Leads<'a>, NoMem
     ensures closed { IfOk result (IsClosed (map instance_plain parts.now)) }
 {
     let keys = keys_of(alloc, parts)?;
-    let mut leads = no_leads(alloc);
-    let mut opened = HashMap::new(alloc);
+    let mut leads = nothing_in(alloc);
+    let mut opened = nothing_in(alloc);
     for key in &keys {
         searched(alloc, parts, &mut leads, &mut opened, *key)?;
     }

@@ -1,48 +1,16 @@
 // Which instance a name is in an instance, found with no scan.
-ghost use Rattle.std.specs.Prelude.{◌≡◌, List, ℕ, Some, is_none, map, position, IfOk, OnOk, bytes_eq, ◌&&◌, ◌==◌, if◌then◌else◌};
+ghost use Rattle.std.specs.Prelude.{◌≡◌, List, ℕ, Some, is_none, map, position, IfOk, OnOk, ◌&&◌, if◌then◌else◌};
 ghost use Rattle.smv_meaning.specs.Names.{is_child};
 ghost use Rattle.smv_instances.specs.NameMap.{named_in};
 ghost use Rattle.smv_instances.specs.View.{instance_plain};
 
+use crate::instance_map::{InstanceMap, nothing_in, put_first};
 use crate::instances::Instance;
 use std::alloc::Global;
-use std::collections::HashMap;
 use text_core::NoMemory;
 
 /// Numbers of instances by the number of the instance that they stand in, and their name there.
-pub type Children<'a> = HashMap<(usize, &'a [u8]), usize>;
-
-/// The number under this name in the instance.
-pub fn child_in<'a>(children: &Children<'a>, i: usize, x: &[u8]) -> Option<usize>
-    ensures { result ≡ named_in children.now i x.now }
-{
-    children.get(&(i, x)).copied()
-}
-
-/// Gives the name in the numbered instance this number.
-pub fn put<'a>(children: &mut Children<'a>, i: usize, x: &'a [u8], c: usize) -> Result<(), NoMemory>
-    ensures { OnOk result ((j : ℕ) (y : List ℕ) → named_in children.new j y ≡ (if i == j && bytes_eq x.now y then Some c else named_in children.old j y)) }
-{
-    match children.insert((i, x), c) {
-        Ok(_) => Ok(()),
-        Err(_) => Err(NoMemory),
-    }
-}
-
-// The first number that is put under a name counts.
-pub fn put_first<'a>(
-    children: &mut Children<'a>,
-    i: usize,
-    x: &'a [u8],
-    c: usize,
-) -> Result<(), NoMemory>
-    ensures { OnOk result ((j : ℕ) (y : List ℕ) → named_in children.new j y ≡ (if is_none (named_in children.old j y) && (i == j && bytes_eq x.now y) then Some c else named_in children.old j y)) }
-{
-    match child_in(children, i, x) {
-        Some(_) => Ok(()),
-        None => put(children, i, x, c),
-    }
-}
+pub type Children<'a> = InstanceMap<'a, usize>;
 
 #[tactic(auto, using(crate::specs::laws::ChildLemmas::unchanged))]
 fn put_part<'a>(children: &mut Children<'a>, c: usize, part: &Instance<'a>) -> Result<(), NoMemory>
@@ -50,7 +18,7 @@ fn put_part<'a>(children: &mut Children<'a>, c: usize, part: &Instance<'a>) -> R
 {
     match part.parent {
         None => Ok(()),
-        Some(i) => put_first(children, i, part.own, c),
+        Some(i) => put_first(children, i, part.name, c),
     }
 }
 
@@ -59,7 +27,7 @@ fn put_part<'a>(children: &mut Children<'a>, c: usize, part: &Instance<'a>) -> R
 pub fn children_of<'a>(alloc: Global, table: &[Instance<'a>]) -> Result<Children<'a>, NoMemory>
     ensures { IfOk result (λ m. (i : ℕ) (x : List ℕ) → named_in m i x ≡ position (is_child i x) (map instance_plain table.now)) }
 {
-    let mut children = HashMap::new(alloc);
+    let mut children = nothing_in(alloc);
     for c in 0..table.len() {
         put_part(&mut children, c, &table[c])?;
     }

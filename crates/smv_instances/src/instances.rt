@@ -14,9 +14,9 @@ use text_core::{NoMemory, Text};
 #[derive(Drop)]
 pub struct Instance<'a> {
     pub parent: Option<usize>,
-    pub own: &'a [u8],
+    pub name: &'a [u8],
     pub path: Text,
-    pub plan: &'a Module,
+    pub module: &'a Module,
     pub actuals: &'a [Expr],
 }
 
@@ -50,13 +50,13 @@ fn child<'a>(
         Domain::Bits(_) => Ok(None),
         Domain::Instance(name, actuals) => match modules.named(name.bytes()) {
             None => Ok(None),
-            Some(plan) => {
+            Some(module) => {
                 let below = path_below(alloc, path, item.name.bytes())?;
                 Ok(Some(Instance {
                     parent: Some(i),
-                    own: item.name.bytes(),
+                    name: item.name.bytes(),
                     path: below,
-                    plan,
+                    module,
                     actuals: actuals.as_slice(),
                 }))
             }
@@ -80,7 +80,7 @@ fn extend<'a>(
         return Ok(());
     }
     let i = table.len();
-    let elements = &new.plan.elements;
+    let elements = &new.module.elements;
     let mut copy = Text::new(alloc);
     copy.put(new.path.bytes())?;
     let path = copy.bytes();
@@ -133,12 +133,12 @@ pub fn instances<'a>(alloc: Global, source: &'a Source) -> Result<Vec<Instance<'
     let mut table = Vec::new(alloc);
     match modules.named(b"main") {
         None => Ok(table),
-        Some(plan) => {
+        Some(module) => {
             let main = Instance {
                 parent: None,
-                own: &[],
+                name: &[],
                 path: Text::new(alloc),
-                plan,
+                module,
                 actuals: &[],
             };
             extend(alloc, &modules, modules.len(), main, &mut table)?;

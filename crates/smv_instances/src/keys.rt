@@ -37,8 +37,8 @@ pub fn keys_of<'a>(alloc: Global, parts: &Parts<'a>) -> Result<Vec<Key<'a>>, NoM
 {
     let mut keys = Vec::new(alloc);
     for i in 0..parts.len() {
-        let plan = parts.at(i).plan;
-        add_keys(&mut keys, i, &plan.parameters)?;
+        let module = parts.at(i).module;
+        add_keys(&mut keys, i, &module.parameters)?;
     }
     Ok(keys)
 }

@@ -1,18 +1,14 @@
 // Where aliases lead, each found once.
-ghost use Rattle.std.specs.Prelude.{◌≡◌, ◌&&◌, ◌==◌, List, ℕ, Some, false, map, if◌then◌else◌, bytes_eq, IfOk, OnOk};
-ghost use Rattle.std.specs.List.{list_any};
+ghost use Rattle.std.specs.Prelude.{◌≡◌, map};
 ghost use Rattle.smv_meaning.specs.Names.{look, walk, resolved, local};
-ghost use Rattle.smv_instances.specs.NameMap.{named_in};
-ghost use Rattle.smv_instances.specs.Leads.{Right, IsOpen, LeadAt, WalkOf, IsWaiting, IsClosed, is_key, AreAll};
+ghost use Rattle.smv_instances.specs.Leads.{Right, LeadAt, WalkOf};
 ghost use Rattle.smv_instances.specs.View.{instance_plain};
 
-use crate::children::{Children, child_in, put as put_number};
+use crate::instance_map::{InstanceMap, value_in};
 use crate::names::{Known, Target, last};
 use crate::parts::Parts;
 use smv_text::Path;
-use std::alloc::Global;
-use std::collections::HashMap;
-use text_core::{Names, NoMemory};
+use text_core::Names;
 
 /// What an alias leads to, and how deep the aliases on its way lead into one another, itself among them.
 #[derive(Clone, Copy)]
@@ -36,24 +32,7 @@ pub enum Walk<'a> {
 }
 
 /// Leads of aliases by their instance and name.
-pub type Leads<'a> = HashMap<(usize, &'a [u8]), Lead<'a>>;
-
-/// The lead that is kept of an alias.
-pub fn kept<'a>(leads: &Leads<'a>, i: usize, x: &[u8]) -> Option<Lead<'a>>
-    ensures { result ≡ named_in leads.now i x.now }
-{
-    leads.get(&(i, x)).copied()
-}
-
-/// Keeps the lead of an alias.
-pub fn keep<'a>(leads: &mut Leads<'a>, key: Key<'a>, lead: Lead<'a>) -> Result<(), NoMemory>
-    ensures { OnOk result ((j : ℕ) (y : List ℕ) → named_in leads.new j y ≡ (if key.entry.instance == j && bytes_eq key.entry.name.now y then Some lead.entry else named_in leads.old j y)) }
-{
-    match leads.insert((key.instance, key.name), lead) {
-        Ok(_) => Ok(()),
-        Err(_) => Err(NoMemory),
-    }
-}
+pub type Leads<'a> = InstanceMap<'a, Lead<'a>>;
 
 fn one_deep<'a>(target: Target<'a>) -> Lead<'a>
     ensures depth { result.depth ≡ 1 }
@@ -68,7 +47,7 @@ pub fn lead_at<'a>(parts: &Parts<'a>, leads: &Leads<'a>, i: usize, x: &'a [u8]) 
     ensures { LeadAt (map instance_plain parts.now) leads.now i x.now result }
 {
     match parts.local(i, x) {
-        Known::Alias(_, _) => kept(leads, i, x),
+        Known::Alias(_, _) => value_in(leads, i, x),
         Known::Formula(j, e) => Some(one_deep(Target::Body(i, x, j, e))),
         Known::Variable(kind, d) => Some(one_deep(Target::Variable(i, x, kind, d))),
         Known::Inner => match parts.child(i, x) {

@@ -3,18 +3,19 @@
 
 mod aliases;
 mod children;
+mod instance_map;
 mod instances;
 mod keys;
+mod known_names;
 mod leads;
 mod modules;
 mod name_map;
 mod names;
 mod parts;
-mod scopes;
 mod symbols;
 mod table;
 
-pub use children::{Children, child_in, put_first};
+pub use instance_map::{InstanceMap, nothing_in, put_first, put_in, value_in};
 pub use instances::{Instance, instances as instance_list, path_below};
 pub use modules::ModuleTable;
 pub use name_map::{NameMap, no_names, put, value_under};

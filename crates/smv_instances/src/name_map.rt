@@ -20,10 +20,8 @@ pub fn no_names<'a, V>(alloc: Global) -> NameMap<'a, V>
 pub fn put<'a, V: Drop>(map: &mut NameMap<'a, V>, name: &'a [u8], value: V) -> Result<(), NoMemory>
     ensures { OnOk result ((x : List ℕ) → named map.new x ≡ (if bytes_eq name.now x then Some value else named map.old x)) }
 {
-    match map.insert(name, value) {
-        Ok(_) => Ok(()),
-        Err(_) => Err(NoMemory),
-    }
+    map.insert(name, value)?;
+    Ok(())
 }
 
 /// The value of the name.

@@ -4,12 +4,13 @@ ghost use Rattle.smv_text.specs.View.{plain_element};
 ghost use Rattle.smv_meaning.specs.Names.{definitions_in, formulas_in, steps_of, local, is_child, has_symbol};
 ghost use Rattle.smv_instances.specs.View.{instance_plain, local_plain};
 
-use crate::children::{Children, child_in, children_of};
+use crate::children::{Children, children_of};
+use crate::instance_map::value_in;
 use crate::instances::Instance;
+use crate::known_names::{KnownNames, known_in_all};
 use crate::name_map::value_under;
 use crate::names::Known;
-use crate::scopes::{Scope, scopes_of};
-use crate::symbols::{Symbols, symbols_of};
+use crate::symbols::{SymbolNames, symbols_of};
 use smv_text::{Element, Elements};
 use std::alloc::Global;
 use std::marker::Model;
@@ -19,9 +20,9 @@ use text_core::NoMemory;
 #[derive(Drop)]
 pub struct Parts<'a> {
     parts: Vec<Instance<'a>>,
-    scopes: Vec<Scope<'a>>,
+    known: Vec<KnownNames<'a>>,
     children: Children<'a>,
-    symbols: Symbols<'a>,
+    symbols: SymbolNames<'a>,
     steps: usize,
 }
 
@@ -44,7 +45,7 @@ impl<'a> Model for Parts<'a> {
 
     ghost use Rattle.smv_instances.specs.NameMap.{Knows, Bears, Holds};
 
-    ghost invariant = { λ t. (t.steps ≡ steps_of (map instance_plain t.parts.items)) × Knows t.parts.items t.scopes.items × Bears t.parts.items t.children × Holds t.parts.items t.symbols };
+    ghost invariant = { λ t. (t.steps ≡ steps_of (map instance_plain t.parts.items)) × Knows t.parts.items t.known.items × Bears t.parts.items t.children × Holds t.parts.items t.symbols };
 }
 
 impl<'a> Parts<'a> {
@@ -55,12 +56,12 @@ impl<'a> Parts<'a> {
         let Some(steps) = counted(parts.as_slice()) else {
             return Err(NoMemory);
         };
-        let scopes = scopes_of(alloc, parts.as_slice())?;
+        let known = known_in_all(alloc, parts.as_slice())?;
         let children = children_of(alloc, parts.as_slice())?;
         let symbols = symbols_of(alloc, parts.as_slice())?;
         Ok(Parts {
             parts,
-            scopes,
+            known,
             children,
             symbols,
             steps,
@@ -86,9 +87,9 @@ impl<'a> Parts<'a> {
     pub fn local(&self, i: usize, x: &[u8]) -> Known<'a>
         ensures { local_plain result ≡ local (map instance_plain self.now) i x.now }
     {
-        match self.scopes.get(i) {
+        match self.known.get(i) {
             None => Known::Nothing,
-            Some(scope) => value_under(scope, x).unwrap_or(Known::Nothing),
+            Some(known) => value_under(known, x).unwrap_or(Known::Nothing),
         }
     }
 
@@ -96,7 +97,7 @@ impl<'a> Parts<'a> {
     pub fn child(&self, i: usize, x: &[u8]) -> Option<usize>
         ensures { result ≡ position (is_child i x.now) (map instance_plain self.now) }
     {
-        child_in(&self.children, i, x)
+        value_in(&self.children, i, x)
     }
 
     /// Is the name in an enumeration or CONSTANTS of an instantiated module?
@@ -121,7 +122,7 @@ fn counted<'a>(table: &[Instance<'a>]) -> Option<usize>
 {
     let mut count: usize = 1;
     for part in table {
-        count = count.checked_add(definitions(&part.plan.elements)?)?;
+        count = count.checked_add(definitions(&part.module.elements)?)?;
         count = count.checked_add(part.actuals.len())?;
     }
     Some(count)

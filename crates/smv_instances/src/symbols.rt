@@ -14,9 +14,9 @@ use std::alloc::Global;
 use text_core::{Names, NoMemory};
 
 /// The names that are symbols.
-pub type Symbols<'a> = NameMap<'a, ()>;
+pub type SymbolNames<'a> = NameMap<'a, ()>;
 
-fn put_members<'a>(symbols: &mut Symbols<'a>, members: &'a Members) -> Result<(), NoMemory>
+fn put_members<'a>(symbols: &mut SymbolNames<'a>, members: &'a Members) -> Result<(), NoMemory>
     ensures { OnOk result ((x : List ℕ) → is_some (named symbols.new x) ≡ (is_some (named symbols.old x) || list_any (is_symbol x) members.now)) }
 {
     for member in members {
@@ -28,7 +28,7 @@ fn put_members<'a>(symbols: &mut Symbols<'a>, members: &'a Members) -> Result<()
     Ok(())
 }
 
-fn put_domains<'a>(symbols: &mut Symbols<'a>, items: &'a Items) -> Result<(), NoMemory>
+fn put_domains<'a>(symbols: &mut SymbolNames<'a>, items: &'a Items) -> Result<(), NoMemory>
     ensures { OnOk result ((x : List ℕ) → is_some (named symbols.new x) ≡ (is_some (named symbols.old x) || list_any (item_has x) (map plain_item items.now))) }
 {
     for item in items {
@@ -43,17 +43,16 @@ fn put_domains<'a>(symbols: &mut Symbols<'a>, items: &'a Items) -> Result<(), No
     Ok(())
 }
 
-#[tactic(auto, using(smv_meaning::specs::laws::Lists::front_is, smv_meaning::specs::laws::Lists::end_is))]
-fn put_constants<'a>(symbols: &mut Symbols<'a>, names: &'a Names) -> Result<(), NoMemory>
+fn put_constants<'a>(symbols: &mut SymbolNames<'a>, names: &'a Names) -> Result<(), NoMemory>
     ensures { OnOk result ((x : List ℕ) → is_some (named symbols.new x) ≡ (is_some (named symbols.old x) || is_one_of names.now x)) }
 {
-    for k in 0..names.len() {
-        put(symbols, names.at(k).bytes(), ())?;
+    for name in names {
+        put(symbols, name.bytes(), ())?;
     }
     Ok(())
 }
 
-fn put_elements<'a>(symbols: &mut Symbols<'a>, elements: &'a Elements) -> Result<(), NoMemory>
+fn put_elements<'a>(symbols: &mut SymbolNames<'a>, elements: &'a Elements) -> Result<(), NoMemory>
     ensures { OnOk result ((x : List ℕ) → is_some (named symbols.new x) ≡ (is_some (named symbols.old x) || list_any (element_has x) (map plain_element elements.now))) }
 {
     for element in elements {
@@ -67,12 +66,12 @@ fn put_elements<'a>(symbols: &mut Symbols<'a>, elements: &'a Elements) -> Result
 }
 
 /// The symbols of the instantiated modules.
-pub fn symbols_of<'a>(alloc: Global, table: &[Instance<'a>]) -> Result<Symbols<'a>, NoMemory>
+pub fn symbols_of<'a>(alloc: Global, table: &[Instance<'a>]) -> Result<SymbolNames<'a>, NoMemory>
     ensures { IfOk result (λ m. (x : List ℕ) → is_some (named m x) ≡ has_symbol (map instance_plain table.now) x) }
 {
     let mut symbols = no_names(alloc);
     for part in table {
-        put_elements(&mut symbols, &part.plan.elements)?;
+        put_elements(&mut symbols, &part.module.elements)?;
     }
     Ok(symbols)
 }

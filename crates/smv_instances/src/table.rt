@@ -16,7 +16,7 @@ use std::alloc::Global;
 use std::marker::Model;
 use text_core::NoMemory;
 
-/// The instances of a model, numbered in preorder, with what their names mean (NuSMV 2.6 User Manual, 2.3.12 and 2.3.16).
+/// The instances of a model, numbered in preorder, with what their names mean (NuSMV 2.6 User Manual, 2.3).
 #[derive(Drop)]
 pub struct Table<'a> {
     parts: Parts<'a>,

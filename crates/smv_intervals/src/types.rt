@@ -12,7 +12,7 @@ pub enum Ty {
     Integer(i64, i64),
     /// A symbol of an enumeration.
     Symbol,
-    /// `unsigned word[n]`: its width, from 1 to 64.
+    /// `unsigned word[n]`: its width, from 1 to `WIDEST`.
     Bits(u32),
 }
 

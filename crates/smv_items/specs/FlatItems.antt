@@ -63,7 +63,7 @@ element_items i (defines ds) = map (definition_item i) ds
 element_items i e = []
 
 abbrev pub items_here : ℕ → Instance → List Origin
-items_here i at = actual_items i (parent_of at) at.plan.parameters at.actuals ++ flat_map (element_items i) at.plan.elements
+items_here i at = actual_items i (parent_of at) at.module.parameters at.actuals ++ flat_map (element_items i) at.module.elements
 
 abbrev pub origins_of : List Instance → List Origin
 origins_of t = over_instances items_here 0 t
@@ -89,7 +89,7 @@ gathered seen [] = seen
 gathered seen (x ∷ xs) = gathered (if is_one_of seen x then seen else seen ++ x ∷ []) xs
 
 abbrev pub symbols_of : List Instance → List (List ℕ)
-symbols_of t = gathered [] (flat_map (λ at. flat_map element_symbols at.plan.elements) t)
+symbols_of t = gathered [] (flat_map (λ at. flat_map element_symbols at.module.elements) t)
 
 -- ---- numbers
 

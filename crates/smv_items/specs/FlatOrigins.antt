@@ -1,5 +1,5 @@
 -- What the code keeps of items while it numbers them.
-use Rattle.std.specs.Prelude.{◌≡◌, ℕ, List, position, Option, Some, None, ◌&&◌, ◌==◌, bytes_eq}
+use Rattle.std.specs.Prelude.{◌≡◌, ℕ, Bool, List, position, Option, Some, None, ◌&&◌, ◌==◌, bytes_eq}
 use Rattle.std.specs.Borrow.{Bor}
 use Rattle.std.specs.HashMap.{HashMap}
 use Rattle.smv_text.specs.View.{plain, plain_domain}
@@ -12,7 +12,7 @@ use Rattle.smv_text.specs.declared.tree.VarKind.TheVariants as OfVarKind
 use Rattle.smv_instances.specs.NameMap.{named, named_in}
 use Rattle.smv_items.specs.declared.numbers.Leaf.{Leaf as KeptLeaf}
 use Rattle.smv_items.specs.declared.numbers.Leaf.TheVariants as OfLeaf
-use Rattle.smv_items.specs.declared.numbers.Numbers.{Numbers}
+use Rattle.smv_items.specs.declared.numbers.ItemNumbers.{ItemNumbers}
 use Rattle.smv_items.specs.FlatItems.{Leaf, of_item, of_symbol, of_nothing, Content, variable, definition, actual, Origin, is_variable_as, is_body, path_of}
 
 abbrev pub content_plain : Kept → Content
@@ -34,15 +34,19 @@ leaf_plain OfLeaf.Nothing = of_nothing
 
 -- ---- numbers
 
+-- the definition or the actual of this name in the instance
+abbrev pub is_body_at : ℕ → List ℕ → Origin → Bool
+is_body_at i x o = is_body o.content && (o.instance == i && bytes_eq o.name x)
+
 -- the number of a body is the place of the first that has its instance and its name
 abbrev pub AreBodies : {S : Type 0} → List Origin → HashMap (ℕ × Bor (List ℕ)) ℕ S → Type 0
-AreBodies ms m = (i : ℕ) (x : List ℕ) → named_in m i x ≡ position (λ o. is_body o.content && (o.instance == i && bytes_eq o.name x)) ms
+AreBodies ms m = (i : ℕ) (x : List ℕ) → named_in m i x ≡ position (is_body_at i x) ms
 
 -- that of a variable is the place of the first that has its dotted path, inputs apart
 abbrev pub AreVariables : {S : Type 0} → List Instance → VarKind → List Origin → HashMap (Bor (List ℕ)) ℕ S → Type 0
 AreVariables t kind ms m = (x : List ℕ) → named m x ≡ position (λ o. is_variable_as kind o.content && bytes_eq (path_of t o) x) ms
 
-pub record AreNumbers (t : List Instance) (ms : List Origin) (ns : Numbers) : Type 0 where
+pub record AreNumbers (t : List Instance) (ms : List Origin) (ns : ItemNumbers) : Type 0 where
   pub bodies : AreBodies ms ns.bodies
   pub states : AreVariables t OfVarKind.State ms ns.states
   pub inputs : AreVariables t OfVarKind.Input ms ns.inputs

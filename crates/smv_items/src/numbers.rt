@@ -1,55 +1,32 @@
 // The numbers of a model's items and symbols, and what paths become.
-ghost use Rattle.std.specs.Prelude.{◌≡◌, ◌++◌, ◌∷◌, [], ◌&&◌, ◌==◌, length, List, ℕ, Some, None, is_none, map, position, bytes_eq, if◌then◌else◌, OnOk, IfOk};
+ghost use Rattle.std.specs.Prelude.{◌≡◌, ◌&&◌, length, List, ℕ, Some, None, is_none, map, bytes_eq, if◌then◌else◌, OnOk, IfOk};
 ghost use Rattle.smv_text.specs.declared.tree.VarKind.TheVariants as OfVarKind;
 ghost use Rattle.smv_meaning.specs.Instances.{Instance as Specified};
 ghost use Rattle.smv_meaning.specs.Meaning.{is_input};
 ghost use Rattle.smv_instances.specs.NameMap.{named, named_in};
 ghost use Rattle.smv_instances.specs.View.{instance_plain};
 ghost use Rattle.smv_items.specs.FlatItems.{is_variable_as, is_body, path_of, leaf_in, item_leaf, symbol_leaf, origins_of, symbols_of};
-ghost use Rattle.smv_items.specs.FlatOrigins.{origin_plain, content_plain, leaf_plain, AreBodies, AreVariables, AreNumbers};
+ghost use Rattle.smv_items.specs.FlatOrigins.{origin_plain, content_plain, leaf_plain, is_body_at, AreBodies, AreVariables, AreNumbers};
 
 use crate::origins::{Content, Origin, dotted_path};
 use crate::symbols::Symbols;
-use smv_instances::{NameMap, Table, Target, no_names, put, value_under};
+use smv_instances::{
+    InstanceMap, NameMap, Table, Target, no_names, nothing_in, put, put_first, value_in,
+    value_under,
+};
 use smv_text::{Path, VarKind};
 use std::alloc::Global;
-use std::collections::HashMap;
 use text_core::{NoMemory, Text};
 
-/// Numbers of bodies by their instances and names.
-pub type Bodies<'a> = HashMap<(usize, &'a [u8]), usize>;
+/// ItemNumbers of bodies by their instances and names.
+pub type Bodies<'a> = InstanceMap<'a, usize>;
 
 /// The numbers of items: bodies by instance and name, and variables by their dotted paths, inputs apart.
 #[derive(Drop)]
-pub struct Numbers<'a, 'n> {
+pub struct ItemNumbers<'a, 'n> {
     pub bodies: Bodies<'a>,
     pub states: NameMap<'n, usize>,
     pub inputs: NameMap<'n, usize>,
-}
-
-fn body_in<'a>(bodies: &Bodies<'a>, i: usize, x: &[u8]) -> Option<usize>
-    ensures { result ≡ named_in bodies.now i x.now }
-{
-    bodies.get(&(i, x)).copied()
-}
-
-fn put_body<'a>(bodies: &mut Bodies<'a>, i: usize, x: &'a [u8], k: usize) -> Result<(), NoMemory>
-    ensures { OnOk result ((j : ℕ) (y : List ℕ) → named_in bodies.new j y ≡ (if i == j && bytes_eq x.now y then Some k else named_in bodies.old j y)) }
-{
-    match bodies.insert((i, x), k) {
-        Ok(_) => Ok(()),
-        Err(_) => Err(NoMemory),
-    }
-}
-
-// The first number that is put under a name counts.
-fn put_first<'a>(bodies: &mut Bodies<'a>, i: usize, x: &'a [u8], k: usize) -> Result<(), NoMemory>
-    ensures { OnOk result ((j : ℕ) (y : List ℕ) → named_in bodies.new j y ≡ (if is_none (named_in bodies.old j y) && (i == j && bytes_eq x.now y) then Some k else named_in bodies.old j y)) }
-{
-    match body_in(bodies, i, x) {
-        Some(_) => Ok(()),
-        None => put_body(bodies, i, x, k),
-    }
 }
 
 fn put_path<'n>(paths: &mut NameMap<'n, usize>, x: &'n [u8], k: usize) -> Result<(), NoMemory>
@@ -99,7 +76,7 @@ fn is_input(content: &Content) -> bool
 
 // Notes the number of an item that is a body.
 fn note_body<'a>(bodies: &mut Bodies<'a>, origin: &Origin<'a>, k: usize) -> Result<(), NoMemory>
-    ensures { OnOk result ((i : ℕ) (x : List ℕ) → named_in bodies.new i x ≡ (if is_none (named_in bodies.old i x) && (is_body (content_plain origin.now.content) && (origin.now.instance == i && bytes_eq origin.now.name.now x)) then Some k else named_in bodies.old i x)) }
+    ensures { OnOk result ((i : ℕ) (x : List ℕ) → named_in bodies.new i x ≡ (if is_none (named_in bodies.old i x) && is_body_at i x (origin_plain origin.now) then Some k else named_in bodies.old i x)) }
 {
     if is_body(&origin.content) {
         put_first(bodies, origin.instance, origin.name, k)
@@ -112,7 +89,7 @@ fn note_body<'a>(bodies: &mut Bodies<'a>, origin: &Origin<'a>, k: usize) -> Resu
 fn bodies_of<'a>(alloc: Global, origins: &[Origin<'a>]) -> Result<Bodies<'a>, NoMemory>
     ensures { IfOk result (λ m. AreBodies (map origin_plain origins.now) m) }
 {
-    let mut bodies = HashMap::new(alloc);
+    let mut bodies = nothing_in(alloc);
     for k in 0..origins.len() {
         note_body(&mut bodies, &origins[k], k)?;
     }
@@ -198,14 +175,14 @@ pub fn numbers_of<'a, 'n>(
     alloc: Global,
     origins: &[Origin<'a>],
     paths: &'n [Text],
-) -> Result<Numbers<'a, 'n>, NoMemory>
+) -> Result<ItemNumbers<'a, 'n>, NoMemory>
     requires { length paths.now ≡ length origins.now }
     ensures { (t : List Specified) → paths.now ≡ map (path_of t) (map origin_plain origins.now) → IfOk result (λ ns. AreNumbers t (map origin_plain origins.now) ns) }
 {
     let bodies = bodies_of(alloc, origins)?;
     let states = states_of(alloc, origins, paths)?;
     let inputs = inputs_of(alloc, origins, paths)?;
-    Ok(Numbers {
+    Ok(ItemNumbers {
         bodies,
         states,
         inputs,
@@ -246,7 +223,7 @@ fn symbol(k: Option<usize>) -> Result<Leaf, NoMemory>
 }
 
 // The number of a variable with this dotted path.
-fn variable_in(numbers: &Numbers, kind: VarKind, path: &[u8]) -> Option<usize>
+fn variable_in(numbers: &ItemNumbers, kind: VarKind, path: &[u8]) -> Option<usize>
     ensures { result ≡ named (if is_input kind then numbers.now.inputs else numbers.now.states) path.now }
 {
     match kind {
@@ -259,7 +236,7 @@ fn variable_in(numbers: &Numbers, kind: VarKind, path: &[u8]) -> Option<usize>
 pub fn leaf_at<'a, 'n>(
     alloc: Global,
     table: &Table<'a>,
-    numbers: &Numbers<'a, 'n>,
+    numbers: &ItemNumbers<'a, 'n>,
     symbols: &Symbols,
     i: usize,
     path: &'a Path,
@@ -273,7 +250,7 @@ pub fn leaf_at<'a, 'n>(
             let path = dotted_path(alloc, table, j, x)?;
             item(variable_in(numbers, kind, path.bytes()))
         }
-        Target::Body(j, x, _, _) => item(body_in(&numbers.bodies, j, x)),
+        Target::Body(j, x, _, _) => item(value_in(&numbers.bodies, j, x)),
         Target::Within(_) => Ok(Leaf::Nothing),
         Target::Symbol(x) => symbol(symbols.place(x)),
         Target::Cyclic => Ok(Leaf::Nothing),

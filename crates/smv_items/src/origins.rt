@@ -1,10 +1,10 @@
 // Where the items of a model come from, in their order.
-ghost use Rattle.std.specs.Prelude.{◌≡◌, ◌++◌, ◌∷◌, [], map, flat_map, OnOk, IfOk};
+ghost use Rattle.std.specs.Prelude.{◌≡◌, ◌++◌, [], map, flat_map, OnOk, IfOk};
 ghost use Rattle.smv_text.specs.Tree.{trees_of};
 ghost use Rattle.smv_text.specs.View.{plain, plain_item, plain_definition, plain_element, plain_domain};
 ghost use Rattle.smv_meaning.specs.Names.{dotted_at};
 ghost use Rattle.smv_instances.specs.View.{instance_plain};
-ghost use Rattle.smv_items.specs.FlatItems.{with_content, actual_content, actual_items, domain_content, variable_item, definition_item, element_items, items_here, origins_of, path_of};
+ghost use Rattle.smv_items.specs.FlatItems.{with_content, actual_content, actual_items, domain_content, variable_item, definition_item, element_items, items_here, origins_of};
 ghost use Rattle.smv_items.specs.FlatOrigins.{origin_plain, content_or_none};
 
 use smv_instances::{Instance, Table, path_below};
@@ -72,7 +72,7 @@ fn variable<'a>(kind: VarKind, d: &'a Domain) -> Option<Content<'a>>
     }
 }
 
-#[tactic(auto, using(crate::specs::laws::Lists::front_is, crate::specs::laws::Lists::end_is, crate::specs::laws::Lists::trees_front, crate::specs::laws::Lists::trees_end, crate::specs::laws::OriginLemmas::append_none, crate::specs::laws::OriginLemmas::none_actual))]
+#[tactic(auto, using(smv_meaning::specs::laws::Lists::front_is, smv_meaning::specs::laws::Lists::end_is, smv_meaning::specs::laws::Lists::trees_front, smv_meaning::specs::laws::Lists::trees_end, crate::specs::laws::OriginLemmas::append_none, crate::specs::laws::OriginLemmas::none_actual))]
 fn add_actuals<'a>(
     origins: &mut Origins<'a>,
     i: usize,
@@ -163,15 +163,15 @@ fn add_elements<'a>(
 fn add_instance<'a>(origins: &mut Origins<'a>, i: usize, at: &Instance<'a>) -> Result<(), NoMemory>
     ensures { OnOk result (map origin_plain origins.new.items ≡ map origin_plain origins.old.items ++ items_here i (instance_plain at.now)) }
 {
-    let plan = at.plan;
+    let module = at.module;
     add_actuals(
         origins,
         i,
         at.parent.unwrap_or(0),
-        &plan.parameters,
+        &module.parameters,
         at.actuals,
     )?;
-    add_elements(origins, i, &plan.elements)
+    add_elements(origins, i, &module.elements)
 }
 
 /// The items of the instance with this number.
@@ -184,7 +184,7 @@ pub fn origins_at<'a>(alloc: Global, i: usize, at: &Instance<'a>) -> Result<Orig
 }
 
 /// The items of a model in their order.
-#[tactic(auto, using(crate::specs::laws::Lists::front_is, crate::specs::laws::Lists::end_is, crate::specs::laws::OriginLemmas::joined_on))]
+#[tactic(auto, using(smv_meaning::specs::laws::Lists::front_is, smv_meaning::specs::laws::Lists::end_is, crate::specs::laws::OriginLemmas::joined_on))]
 pub fn origins_in<'a>(alloc: Global, table: &Table<'a>) -> Result<Origins<'a>, NoMemory>
     ensures { IfOk result (λ os. map origin_plain os.items ≡ origins_of (map instance_plain table.now)) }
 {

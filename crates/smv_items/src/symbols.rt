@@ -137,14 +137,14 @@ fn note_elements(alloc: Global, symbols: &mut Symbols, elements: &Elements) -> R
 }
 
 /// The symbols of a model: those of enumerations and CONSTANTS.
-#[tactic(auto, using(crate::specs::laws::Lists::front_is, crate::specs::laws::Lists::end_is, crate::proofs::SymbolLemmas::gathered_joined))]
+#[tactic(auto, using(smv_meaning::specs::laws::Lists::front_is, smv_meaning::specs::laws::Lists::end_is, crate::proofs::SymbolLemmas::gathered_joined))]
 pub fn symbols_in<'a>(alloc: Global, table: &Table<'a>) -> Result<Symbols, NoMemory>
     ensures { IfOk result (λ s. s ≡ symbols_of (map instance_plain table.now)) }
 {
     let mut symbols = Symbols::new(alloc);
     for i in 0..table.len() {
-        let plan = table.at(i).plan;
-        note_elements(alloc, &mut symbols, &plan.elements)?;
+        let module = table.at(i).module;
+        note_elements(alloc, &mut symbols, &module.elements)?;
     }
     Ok(symbols)
 }

@@ -6,7 +6,7 @@ use Rattle.text_core.specs.declared.place.Refusal.{Refusal}
 use Rattle.smv_text.specs.declared.token.Token.{Token}
 use Rattle.text_core.specs.Places.{start}
 use Rattle.smv_lex.specs.Answer.{IsAnswered}
-use Rattle.smv_text.specs.Lexing.{Next, finished, go, bad, Steps, ends, token, stray, misspelled, too_nested, Lexes, last, more, Refuses, here, later, opened}
+use Rattle.smv_text.specs.Lexing.{Next, finished, go, bad, Steps, ends, token, stray, misspelled, too_nested, LexesFrom, last, more, Refuses, here, later, opened}
 use Rattle.smv_lex.proofs.Laws.{lexeme_there, next_steps}
 
 shorter : {n : ℕ} {at : Place} {text : List ℕ} {x : Next} → Steps n at text x → (t : Token) (next : Place) (rest : List ℕ) → x ≡ go t next rest → length rest < length text
@@ -14,11 +14,11 @@ shorter (ends at g a) t next rest e = absurd (cc)
 shorter (token at g l r k a b d f) t next rest e =
     let same : r ≡ rest = cc in omega (arith, ap length same, lexeme_there l r b.fits, length-append g (l ++ r), length-append l r)
 shorter (stray at g rest' a some none) t next rest e = absurd (cc)
-shorter (misspelled at g l r a b run d) t next rest e = absurd (cc)
+shorter (misspelled at g l r a b d) t next rest e = absurd (cc)
 shorter (too_nested at g l r k a b d f) t next rest e = absurd (cc)
 
 abbrev Behind : List Token → Place → List ℕ → Type 0
-Behind before at text = ((ts : List Token) × Lexes before at text ts) ⊎ ((why : Refusal) × Refuses before at text why)
+Behind before at text = ((ts : List Token) × LexesFrom before at text ts) ⊎ ((why : Refusal) × Refuses before at text why)
 
 by_next : (before : List Token) (at : Place) (text : List ℕ) (x : Next) → Steps (opened before) at text x
     → ((t : Token) (next : Place) (rest : List ℕ) → x ≡ go t next rest → Behind (before ++ t ∷ []) next rest) → Behind before at text

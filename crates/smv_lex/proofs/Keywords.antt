@@ -5,7 +5,9 @@ use Rattle.std.specs.Str.{bytes_eq}
 use Rattle.std.proofs.lemmas.Bool.{and_parts, eq-eqb}
 use Rattle.std.proofs.lemmas.Bool.Decides.{nat_tests}
 use Rattle.smv_text.specs.declared.token.Reserved.{Reserved}
-use Rattle.smv_text.specs.Keywords.{Keyword, keywords, look_up}
+use Rattle.smv_text.specs.Bytes.{look_up}
+use Rattle.smv_text.specs.Keywords.{keywords}
+use Rattle.smv_lex.specs.Reading.{Keyword}
 
 -- lists of bytes that differ in length differ
 pub bytes_eq-length : (bs w : List ℕ) → bytes_eq bs w ≡ true → length w ≡ length bs

@@ -1,6 +1,6 @@
 -- What stands next is one, so what a text lexes to and its refusal are one.
-use Rattle.std.proofs.Common.{◌≡◌, ◌≢◌, ◌<◌, ℕ, suc, true, false, leb, eqb, Option, Some, None, Result, Ok, Err, List, [], ◌∷◌, ◌++◌, length, take, drop, refl, sym, ap, ◌∙◌, subst, inl, inr, arith}
-use Rattle.std.specs.Prelude.{IfOk, IfErr}
+use Rattle.std.proofs.Common.{◌≡◌, ◌≢◌, ◌<◌, ℕ, suc, false, leb, eqb, Option, Some, None, Result, Ok, Err, List, [], ◌∷◌, ◌++◌, length, take, drop, refl, sym, ap, ◌∙◌, subst, inl, inr, arith}
+use Rattle.std.specs.Prelude.{IfOk, IfErr, fold}
 use Rattle.std.proofs.lemmas.List.{append-nil, length-append, take-append-drop}
 use Rattle.std.proofs.lemmas.Bool.{ne_eqb, le-leb, lt-leb, leb-true, leb-false, cond_both, eqb-true, eqb-false, cases_lt, cond-true, cond-false}
 use Rattle.text_core.specs.declared.end.End.{End}
@@ -8,16 +8,14 @@ use Rattle.text_core.specs.declared.end.End.TheVariants.{Bad, NoMemory}
 use Rattle.text_core.specs.declared.place.Place.{Place}
 use Rattle.text_core.specs.declared.place.Refusal.{Refusal}
 use Rattle.smv_text.specs.declared.token.TokenKind.{TokenKind}
-use Rattle.smv_text.specs.declared.token.TokenKind.TheVariants as kind
 use Rattle.smv_text.specs.declared.token.Token.{Token}
 use Rattle.smv_lex.specs.Answer.{Reads, Stops, IsRefused}
 use Rattle.smv_text.specs.Bytes.{IsLongest}
 use Rattle.text_core.specs.Places.{after, next_place, Reaches}
-use Rattle.smv_text.specs.Words.{IsGap, IsLexeme, is_run, kind_of}
-use Rattle.smv_text.specs.Lexing.{TokenList, Next, finished, bad, Steps, ends, token, stray, misspelled, too_nested, Lexes, last, more, Refuses, here, later, LexesTo, IsLexRefusal, opened_by, opened_after, opened, most_brackets}
+use Rattle.smv_text.specs.Words.{IsGap, IsLexeme, kind_of}
+use Rattle.smv_text.specs.Lexing.{TokenList, Next, finished, bad, Steps, ends, token, stray, misspelled, too_nested, LexesFrom, last, more, Refuses, here, later, Lexes, IsLexRefusal, opened_by, opened, most_brackets}
 use Rattle.smv_lex.specs.Reading.{gap_length, lexeme_length, kinded, sized, behind, next_of, Gives}
 use Rattle.smv_lex.proofs.Longest.{same_front, longest_gap, longest_lexeme, lexeme_longest, no_lexeme}
-use Rattle.smv_lex.proofs.Spellings.{sign_read}
 
 abbrev Gap : List ℕ → List ℕ → Type 0
 Gap f r = IsGap f
@@ -69,21 +67,13 @@ next_is {n = n} (ends at g a) = ap (next_of n at) (sym (append-nil g)) ∙ next_
 next_is {n = n} (token at g l r k a b d f) =
     next_lexeme n at g l r a b ∙ ap (kinded n (after at g) l r) d ∙ cond-true _ _ _ (le-leb (opened_by n k) most_brackets f)
 next_is {n = n} (stray at g rest a some none) = next_gap n at g rest a ∙ no_size n (after at g) rest some (stray_size rest none)
-next_is {n = n} (misspelled at g l r a b run d) = next_lexeme n at g l r a b ∙ ap (kinded n (after at g) l r) d
+next_is {n = n} (misspelled at g l r a b d) = next_lexeme n at g l r a b ∙ ap (kinded n (after at g) l r) d
 next_is {n = n} (too_nested at g l r k a b d f) =
     next_lexeme n at g l r a b ∙ ap (kinded n (after at g) l r) d ∙ cond-false _ _ _ (lt-leb (opened_by n k) most_brackets f)
 
--- a lexeme that spells nothing is a run
-unspelled_run : (l r : List ℕ) → IsLexeme l r → kind_of l ≡ None → is_run l ≡ true
-unspelled_run [] r a e = absurd a
-unspelled_run (b ∷ bs) r (inl (letter, passes)) e = let f = sym (cond-true _ _ _ letter) ∙ e in absurd (cc)
-unspelled_run (b ∷ bs) r (inr (inl (digit, passes))) e = digit
-unspelled_run (b ∷ bs) r (inr (inr (s, same, h))) e =
-    let f : Some (kind.Sign s) ≡ None = sym (sign_read s) ∙ ap kind_of (sym same) ∙ e in absurd (cc)
-
 -- and something stands next
 kinded_steps : (n : ℕ) (at : Place) (g l r : List ℕ) (o : Option TokenKind) → IsLongest Gap g (l ++ r) → IsLongest IsLexeme l r → kind_of l ≡ o → Steps n at (g ++ (l ++ r)) (kinded n (after at g) l r o)
-kinded_steps n at g l r None a b d = misspelled at g l r a b (unspelled_run l r b.fits d) d
+kinded_steps n at g l r None a b d = misspelled at g l r a b d
 kinded_steps n at g l r (Some k) a b d =
     cond_both (leb (opened_by n k) most_brackets) _ _ (Steps n at (g ++ (l ++ r))) (λ e. token at g l r k a b d (leb-true _ _ e)) (λ e. too_nested at g l r k a b d (leb-false _ _ e))
 
@@ -109,7 +99,7 @@ next_steps n at text =
 one_next : {n n' : ℕ} {at at' : Place} {text text' : List ℕ} {x y : Next} → Steps n at text x → Steps n' at' text' y → n ≡ n' → at ≡ at' → text ≡ text' → x ≡ y
 one_next a b c e f = let p = next_is a in let q = next_is b in cc
 
-pub one_list : {bs cs ts us : List Token} {at at' : Place} {text text' : List ℕ} → Lexes bs at text ts → Lexes cs at' text' us → bs ≡ cs → at ≡ at' → text ≡ text' → ts ≡ us
+pub one_list : {bs cs ts us : List Token} {at at' : Place} {text text' : List ℕ} → LexesFrom bs at text ts → LexesFrom cs at' text' us → bs ≡ cs → at ≡ at' → text ≡ text' → ts ≡ us
 one_list (last a) (last b) d e f = d
 one_list (last a) (more t n r b h) d e f = let x = one_next a b (ap opened d) e f in cc
 one_list (more t n r b h) (last a) d e f = let x = one_next b a (ap opened d) e f in cc
@@ -121,7 +111,7 @@ one_list {bs = bs} {cs = cs} (more t n r a h) (more t' n' r' b h') d e f =
     let before : (bs ++ t ∷ []) ≡ (cs ++ t' ∷ []) = cc in
     one_list h h' before places rests
 
-pub no_list : {bs cs ts : List Token} {at at' : Place} {text text' : List ℕ} {why : Refusal} → Lexes bs at text ts → Refuses cs at' text' why → bs ≡ cs → at ≡ at' → text ≡ text' → ⊥
+pub no_list : {bs cs ts : List Token} {at at' : Place} {text text' : List ℕ} {why : Refusal} → LexesFrom bs at text ts → Refuses cs at' text' why → bs ≡ cs → at ≡ at' → text ≡ text' → ⊥
 no_list (last a) (here why b) d e f = let x = one_next a b (ap opened d) e f in cc
 no_list (last a) (later t n r b h) d e f = let x = one_next a b (ap opened d) e f in cc
 no_list (more t n r a h) (here why b) d e f = let x = one_next a b (ap opened d) e f in cc
@@ -145,22 +135,22 @@ one_refusal {bs = bs} {cs = cs} (later t n r a h) (later t' n' r' b h') d e f =
     let before : (bs ++ t ∷ []) ≡ (cs ++ t' ∷ []) = cc in
     one_refusal h h' before places rests
 
-pub one_lexing : (text : List ℕ) (ts us : List Token) → LexesTo text ts → LexesTo text us → ts ≡ us
+pub one_lexing : (text : List ℕ) (ts us : List Token) → Lexes text ts → Lexes text us → ts ≡ us
 one_lexing text ts us a b = one_list a b refl refl refl
 
 pub one_lex_refusal : (text : List ℕ) (why other : Refusal) → IsLexRefusal text why → IsLexRefusal text other → why ≡ other
 one_lex_refusal text why other a b = one_refusal a b refl refl refl
 
-pub not_both : (text : List ℕ) (ts : List Token) (why : Refusal) → LexesTo text ts → IsLexRefusal text why → ⊥
+pub not_both : (text : List ℕ) (ts : List Token) (why : Refusal) → Lexes text ts → IsLexRefusal text why → ⊥
 not_both text ts why a b = no_list a b refl refl refl
 
 -- the answers, from the two that the loop gives
-pub exact_from : (text : List ℕ) (r : Result TokenList End) → IfOk r (λ tokens. LexesTo text tokens.items) → IfErr r (IsRefused text) → (ts : List Token) → LexesTo text ts → Reads ts r
+pub exact_from : (text : List ℕ) (r : Result TokenList End) → IfOk r (λ tokens. Lexes text tokens.items) → IfErr r (IsRefused text) → (ts : List Token) → Lexes text ts → Reads ts r
 exact_from text (Ok v) a b ts h = one_lexing text v.items ts a h
 exact_from text (Err (Bad why)) a b ts h = not_both text ts why h b
 exact_from text (Err NoMemory) a b ts h = tt
 
-pub stops_from : (text : List ℕ) (r : Result TokenList End) → IfOk r (λ tokens. LexesTo text tokens.items) → IfErr r (IsRefused text) → (why : Refusal) → IsLexRefusal text why → Stops why r
+pub stops_from : (text : List ℕ) (r : Result TokenList End) → IfOk r (λ tokens. Lexes text tokens.items) → IfErr r (IsRefused text) → (why : Refusal) → IsLexRefusal text why → Stops why r
 stops_from text (Ok v) a b why h = not_both text v.items why a h
 stops_from text (Err (Bad other)) a b why h = one_lex_refusal text other why b h
 stops_from text (Err NoMemory) a b why h = tt
@@ -204,7 +194,7 @@ refused_from whole before n p text at rest (Bad why) c e f g all = all why (here
 refused_from whole before n p text at rest NoMemory c e f g all = tt
 
 -- one token more
-opened_push : (n : ℕ) (ts : List Token) (t : Token) → opened_after n (ts ++ t ∷ []) ≡ opened_by (opened_after n ts) t.kind
+opened_push : (n : ℕ) (ts : List Token) (t : Token) → fold (λ m u. opened_by m u.kind) n (ts ++ t ∷ []) ≡ opened_by (fold (λ m u. opened_by m u.kind) n ts) t.kind
 opened_push n [] t = refl
 opened_push n (x ∷ xs) t = opened_push (opened_by n x.kind) xs t
 

@@ -1,29 +1,33 @@
 -- A printed list of tokens is lexed again, and the tokens of a text can be printed.
-use Rattle.std.proofs.Common.{◌≡◌, ◌<◌, ◌≤◌, ◌^◌, ℕ, suc, Bool, true, false, not, cond, ◌&&◌, ◌||◌, eqb, Option, Some, None, option_map, List, [], ◌∷◌, ◌++◌, length, take, drop, refl, sym, ap, ◌∙◌, subst, inl, inr, arith}
+use Rattle.std.proofs.Common.{◌≡◌, ◌<◌, ◌≤◌, ◌^◌, ℕ, suc, Bool, true, false, cond, ◌&&◌, eqb, Option, Some, None, option_map, List, [], ◌∷◌, ◌++◌, length, take, drop, refl, sym, ap, ◌∙◌, subst, inl, inr, arith}
 use Rattle.std.proofs.lemmas.List.{append_assoc, take_at, drop_at, append-nil}
 use Rattle.std.proofs.lemmas.Bool.{and_parts}
 use Rattle.std.proofs.lemmas.Bool.Decides.{nat_tests}
 use Rattle.std.specs.Prelude.{nat_lt, nat_le, option_and_then}
+use Rattle.std.specs.Option.{option_or}
 use Rattle.text_core.specs.declared.place.Place.{Place}
 use Rattle.word_core.specs.Words.{BitVector, IsWord}
+use Rattle.word_core.specs.declared.word.TheConstants.{WIDEST}
 use Rattle.word_core.specs.Digits.{below, fitted, digits_value, read_word}
 use Rattle.smv_text.specs.declared.token.Reserved.{Reserved}
 use Rattle.smv_text.specs.declared.token.Token.{Token}
 use Rattle.smv_text.specs.declared.token.TokenKind.{TokenKind}
 use Rattle.smv_text.specs.declared.token.TokenKind.TheVariants as kind
-use Rattle.smv_text.specs.Bytes.{AllPass, front_length, is_letter, is_digit, heads}
+use Rattle.text_core.specs.Bytes.{is_digit}
+use Rattle.smv_text.specs.Bytes.{AllPass, front_length, is_letter, look_up}
 use Rattle.text_core.specs.Places.{after, start}
-use Rattle.smv_text.specs.Signs.{sign_at}
-use Rattle.smv_text.specs.Numbers.{number_of, literal_of, based_word, past_sign, parted_word, marked_word, bare, base_of, is_unmarked}
-use Rattle.smv_text.specs.Keywords.{look_up, keywords}
-use Rattle.smv_text.specs.Words.{IsLexeme, no_gap, in_word, is_word_byte, kind_of, word_kind, keyword_kind, run_kind, or_literal}
-use Rattle.smv_text.specs.Lexing.{Steps, ends, token, stray, misspelled, too_nested, Next, finished, go, bad, Lexes, last, more, LexesTo, kinds, token_at, opened_by, opened, most_brackets, refusal_at}
-use Rattle.smv_lex.specs.Reading.{lexeme_length, next_of, behind, sized, kinded}
+use Rattle.smv_text.specs.Signs.{signs}
+use Rattle.smv_text.specs.Numbers.{number_of, literal_of, based_word, past_sign, parted_word, marked_word, bare, base_of}
+use Rattle.smv_text.specs.Keywords.{keywords}
+use Rattle.smv_text.specs.Words.{IsLexeme, no_gap, in_word, kind_of, word_kind, keyword_kind, run_kind}
+use Rattle.smv_text.specs.Lexing.{Steps, ends, token, stray, misspelled, too_nested, Next, finished, go, bad, LexesFrom, last, more, Lexes, kinds, token_at, opened_by, opened, most_brackets, refusal_at}
+use Rattle.smv_lex.specs.Reading.{lexeme_length, next_of, behind, sized, kinded, is_unmarked}
 use Rattle.smv_lex.specs.Spelling.{spelled, spaced, joined}
 use Rattle.smv_lex.specs.Printable.{ArePrintable, CanBePrinted, CanAllBePrinted}
 use Rattle.smv_lex.proofs.Laws.{next_steps, opened_more}
 use Rattle.smv_lex.proofs.Printed.{Apart, at_end, blank_first, IsReadAs, printed_as, digit_kind}
 use Rattle.smv_lex.proofs.Spellings.{sign_read}
+use Rattle.smv_lex.proofs.Whole.{passes_alone}
 
 some_same : {A : Type 0} (x y : A) → Some x ≡ Some y → x ≡ y
 some_same x y e = cc
@@ -65,7 +69,7 @@ spaced_apart (k ∷ ks) = blank_first (spelled k ++ spaced ks)
 -- these tokens behind those before
 record IsLexed (before : List Token) (at : Place) (text : List ℕ) (ks : List TokenKind) : Type 0 where
   tokens : List Token
-  lexed : Lexes before at text (before ++ tokens)
+  lexed : LexesFrom before at text (before ++ tokens)
   are : kinds tokens ≡ ks
 
 one_more : (before : List Token) (at next : Place) (text rest : List ℕ) (ks : List TokenKind) (t : Token)
@@ -73,7 +77,7 @@ one_more : (before : List Token) (at next : Place) (text rest : List ℕ) (ks : 
 one_more before at next text rest ks t e l = record {
   tokens = t ∷ l.tokens;
   lexed = more t next rest (subst (Steps (opened before) at text) e (next_steps (opened before) at text))
-      (subst (Lexes (before ++ t ∷ []) next rest) (append_assoc before (t ∷ []) l.tokens) l.lexed);
+      (subst (LexesFrom (before ++ t ∷ []) next rest) (append_assoc before (t ∷ []) l.tokens) l.lexed);
   are = ap (λ x. t.kind ∷ x) l.are;
 }
 
@@ -81,7 +85,7 @@ counted : (before : List Token) (t : Token) (ks : List TokenKind) → ArePrintab
 counted before t ks p = subst (λ n. ArePrintable n ks) (opened_more (opened before) _ before (before ++ t ∷ []) t refl refl refl) p
 
 spaced_lexed : (before : List Token) (at : Place) (ks : List TokenKind) → ArePrintable (opened before) ks → IsLexed before at (spaced ks) ks
-spaced_lexed before at [] p = record { tokens = []; lexed = subst (Lexes before at []) (sym (append-nil before)) (last (ends at [] no_gap)); are = refl }
+spaced_lexed before at [] p = record { tokens = []; lexed = subst (LexesFrom before at []) (sym (append-nil before)) (last (ends at [] no_gap)); are = refl }
 spaced_lexed before at (k ∷ ks) p =
     let f = spelled k in
     let t = token_at (after at (32 ∷ [])) f k in
@@ -98,7 +102,7 @@ joined_lexed (k ∷ ks) p =
     one_more [] start next (f ++ spaced ks) (spaced ks) ks t (first_read 0 start k f (spaced ks) (printed_as k p.0) (spaced_apart ks) p.1)
     (spaced_lexed (t ∷ []) next ks (counted [] t ks p.2))
 
-pub lexed_again : (ks : List TokenKind) → ArePrintable 0 ks → (ts : List Token) × LexesTo (joined ks) ts × (kinds ts ≡ ks)
+pub lexed_again : (ks : List TokenKind) → ArePrintable 0 ks → (ts : List Token) × Lexes (joined ks) ts × (kinds ts ≡ ks)
 lexed_again ks p = let l = joined_lexed ks p in (l.tokens, l.lexed, l.are)
 
 -- the tokens of a text can be printed
@@ -113,22 +117,22 @@ number_small : (o : Option ℕ) (m : ℕ) → option_and_then (below (2 ^ 62)) o
 number_small None m e = cc
 number_small (Some n) m e = below_limit (2 ^ 62) n m e
 
-fitted_word : (width n : ℕ) (w : BitVector) → 1 ≤ width → width ≤ 64 → fitted width n ≡ Some w → IsWord w
+fitted_word : (width n : ℕ) (w : BitVector) → 1 ≤ width → width ≤ WIDEST → fitted width n ≡ Some w → IsWord w
 fitted_word width n w some most e = at_test (nat_lt n (2 ^ width)) refl e
   where
     at_test : (c : Bool) → nat_lt n (2 ^ width) ≡ c → cond c (Some (record { width = width; bits = n })) None ≡ Some w → IsWord w
     at_test true t e = let same : record { width = width; bits = n } ≡ w = cc in subst IsWord same (some, most, grind (arith, nat_tests, t))
     at_test false t e = cc
 
-value_word : (width : ℕ) (o : Option ℕ) (w : BitVector) → 1 ≤ width → width ≤ 64 → option_and_then (fitted width) o ≡ Some w → IsWord w
+value_word : (width : ℕ) (o : Option ℕ) (w : BitVector) → 1 ≤ width → width ≤ WIDEST → option_and_then (fitted width) o ≡ Some w → IsWord w
 value_word width None w some most e = cc
 value_word width (Some n) w some most e = fitted_word width n w some most e
 
 read_is_word : (width base : ℕ) (digits : List ℕ) (w : BitVector) → read_word width base digits ≡ Some w → IsWord w
-read_is_word width base digits w e = at_test (nat_le 1 width && nat_le width 64) refl e
+read_is_word width base digits w e = at_test (nat_le 1 width && nat_le width WIDEST) refl e
   where
-    at_test : (c : Bool) → (nat_le 1 width && nat_le width 64) ≡ c → cond c (option_and_then (fitted width) (digits_value base digits)) None ≡ Some w → IsWord w
-    at_test true t e = let h = and_parts (nat_le 1 width) (nat_le width 64) t in value_word width (digits_value base digits) w (grind (arith, nat_tests, h.0)) (grind (arith, nat_tests, h.1)) e
+    at_test : (c : Bool) → (nat_le 1 width && nat_le width WIDEST) ≡ c → cond c (option_and_then (fitted width) (digits_value base digits)) None ≡ Some w → IsWord w
+    at_test true t e = let h = and_parts (nat_le 1 width) (nat_le width WIDEST) t in value_word width (digits_value base digits) w (grind (arith, nat_tests, h.0)) (grind (arith, nat_tests, h.1)) e
     at_test false t e = cc
 
 sized_is_word : (o : Option ℕ) (base : ℕ) (digits : List ℕ) (w : BitVector) → option_and_then (λ n. read_word n base (bare digits)) o ≡ Some w → IsWord w
@@ -155,21 +159,6 @@ literal_is_word (b ∷ bs) w e = at_test (eqb b 48) e
     at_test true e = based_is_word (past_sign bs) w e
     at_test false e = cc
 
--- a word before some rest is one before none
-in_word_alone : (b : ℕ) (rest : List ℕ) → in_word b rest ≡ true → in_word b [] ≡ true
-in_word_alone b rest e = either (is_word_byte b) (eqb b 45) (heads 62 rest) e
-  where
-    either : (w d h : Bool) → (w || (d && not h)) ≡ true → (w || (d && true)) ≡ true
-    either true d h e = refl
-    either false true h e = refl
-    either false false h e = cc
-
-passes_alone : (bs rest : List ℕ) → AllPass in_word bs rest → front_length in_word bs ≡ length bs
-passes_alone [] rest a = refl
-passes_alone (b ∷ []) rest a = ap (λ c. cond c 1 0) (in_word_alone b rest a.0)
-passes_alone (b ∷ c ∷ cs) rest a =
-    ap (λ t. cond t (suc (front_length in_word (c ∷ cs))) 0) a.0 ∙ ap suc (passes_alone (c ∷ cs) rest a.1)
-
 letter_kind : {A : Type 0} (l : Bool) (x y : A) → l ≡ true → cond l x y ≡ x
 letter_kind l x y e = rw e refl
 
@@ -195,7 +184,7 @@ literal_printable k (Some w) h e = subst CanBePrinted (some_same _ _ e) (inr (h 
 run_printable : (k : TokenKind) (f : List ℕ) → run_kind f ≡ Some k → CanBePrinted k
 run_printable k f e = by_number (number_of f) refl e
   where
-    by_number : (o : Option ℕ) → number_of f ≡ o → or_literal o f ≡ Some k → CanBePrinted k
+    by_number : (o : Option ℕ) → number_of f ≡ o → option_or (option_map kind.Number o) (option_map kind.Literal (literal_of f)) ≡ Some k → CanBePrinted k
     by_number None n e = literal_printable k (literal_of f) (literal_is_word f) e
     by_number (Some m) n e = subst CanBePrinted (some_same _ _ e) (inr (number_small (digits_value 10 f) m n))
 
@@ -205,7 +194,7 @@ token_printable k [] rest a e = absurd a
 token_printable k (b ∷ bs) rest (inl (letter, passes)) e = word_printable k b bs rest letter passes e
 token_printable k (b ∷ bs) rest (inr (inl (digit, passes))) e =
     let no_letter : is_letter b ≡ false = grind (arith, nat_tests, digit) in
-    run_printable k (b ∷ bs) (sym (digit_kind (is_letter b) (is_digit b) (Some (word_kind (b ∷ bs))) (run_kind (b ∷ bs)) (option_map kind.Sign (sign_at b bs)) no_letter digit) ∙ e)
+    run_printable k (b ∷ bs) (sym (digit_kind (is_letter b) (is_digit b) (Some (word_kind (b ∷ bs))) (run_kind (b ∷ bs)) (option_map kind.Sign (look_up (b ∷ bs) signs)) no_letter digit) ∙ e)
 token_printable k (b ∷ bs) rest (inr (inr (s, same, stands))) e =
     subst CanBePrinted (some_same _ _ (sym (sign_read s) ∙ ap kind_of (sym same) ∙ e)) (inr tt)
 
@@ -220,10 +209,10 @@ unfolding StepPrintable
 step_printable (ends at gap g) = tt
 step_printable (token at gap lexeme rest kind g l k few) = (token_printable kind lexeme rest l.fits k, few)
 step_printable (stray at gap rest g some none) = tt
-step_printable (misspelled at gap lexeme rest g l r k) = tt
+step_printable (misspelled at gap lexeme rest g l k) = tt
 step_printable (too_nested at gap lexeme rest kind g l k many) = tt
 
-tokens_printable : {before all : List Token} {at : Place} {text : List ℕ} → Lexes before at text all → (ts : List Token) × (all ≡ before ++ ts) × CanAllBePrinted (opened before) (kinds ts)
+tokens_printable : {before all : List Token} {at : Place} {text : List ℕ} → LexesFrom before at text all → (ts : List Token) × (all ≡ before ++ ts) × CanAllBePrinted (opened before) (kinds ts)
 unfolding StepPrintable
 tokens_printable {before = before} (last s) = ([], sym (append-nil before), tt)
 tokens_printable {before = before} (more t next rest s l) =
@@ -234,5 +223,5 @@ tokens_printable {before = before} (more t next rest s l) =
       (p.0, p.1, subst (λ n. CanAllBePrinted n (kinds ih.0)) (sym (opened_more (opened before) _ before (before ++ t ∷ []) t refl refl refl)) ih.2),
     )
 
-pub lexed_printable : (text : List ℕ) (ts : List Token) → LexesTo text ts → CanAllBePrinted 0 (kinds ts)
+pub lexed_printable : (text : List ℕ) (ts : List Token) → Lexes text ts → CanAllBePrinted 0 (kinds ts)
 lexed_printable text ts l = let h = tokens_printable l in subst (λ us. CanAllBePrinted 0 (kinds us)) (sym h.1) h.2

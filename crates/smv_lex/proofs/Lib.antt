@@ -5,4 +5,5 @@ pub mod Laws
 pub mod Answered
 pub mod Fewer
 pub mod Printed
+pub mod Whole
 pub mod LexedAgain

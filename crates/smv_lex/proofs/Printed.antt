@@ -2,13 +2,15 @@
 use Rattle.std.proofs.Common.{◌≡◌, ◌<◌, ◌≤◌, ◌^◌, ◌+◌, ◌*◌, ◌-◌, ℕ, suc, Bool, true, false, cond, ◌&&◌, eqb, Option, Some, None, option_map, List, [], ◌∷◌, ◌++◌, length, take, drop, refl, sym, ap, ◌∙◌, arith, rules}
 use Rattle.std.proofs.lemmas.List.{take_at, drop_at}
 use Rattle.std.proofs.lemmas.Str.Parse.{IsNumeralModel, numerals_by_fold}
-use Rattle.std.proofs.lemmas.Fmt.{digits_decimal, digits_value-decimal, decimal_nonempty}
+use Rattle.std.proofs.lemmas.Fmt.{decimal_is_IsNumeral_wide}
 use Rattle.std.proofs.lemmas.Bool.{and_parts}
 use Rattle.std.proofs.lemmas.Bool.Decides.{nat_tests}
 use Rattle.std.proofs.Math.Nat.{pow-le-pow_right}
 use Rattle.std.specs.Fmt.{decimal}
 use Rattle.std.specs.Prelude.{nat_lt, nat_le, option_and_then}
+use Rattle.std.specs.Option.{option_or}
 use Rattle.word_core.specs.Words.{BitVector, IsWord}
+use Rattle.word_core.specs.declared.word.TheConstants.{WIDEST}
 use Rattle.word_core.specs.Digits.{digit_number, number_after, digits_value, read_word}
 use Rattle.smv_text.specs.declared.token.Reserved.{Reserved}
 use Rattle.smv_text.specs.declared.token.Reserved.TheVariants as word
@@ -16,12 +18,13 @@ use Rattle.smv_text.specs.declared.token.Sign.{Sign}
 use Rattle.smv_text.specs.declared.token.Sign.TheVariants as sign
 use Rattle.smv_text.specs.declared.token.TokenKind.{TokenKind}
 use Rattle.smv_text.specs.declared.token.TokenKind.TheVariants as kind
-use Rattle.smv_text.specs.Bytes.{is_digit, is_letter, is_blank, front_length}
-use Rattle.smv_text.specs.Signs.{sign_bytes, sign_at}
+use Rattle.text_core.specs.Bytes.{is_digit}
+use Rattle.smv_text.specs.Bytes.{is_letter, is_blank, front_length, look_up}
+use Rattle.smv_text.specs.Signs.{sign_bytes, signs}
 use Rattle.smv_text.specs.Keywords.{word_bytes}
-use Rattle.smv_text.specs.Numbers.{number_of, literal_of, is_unmarked, bare, marked_word, parted_word}
-use Rattle.smv_text.specs.Words.{in_word, in_run, is_run_byte, kind_of, word_kind, or_literal}
-use Rattle.smv_lex.specs.Reading.{gap_length, lexeme_length}
+use Rattle.smv_text.specs.Numbers.{number_of, literal_of, bare, marked_word, parted_word}
+use Rattle.smv_text.specs.Words.{in_word, in_run, kind_of, word_kind, run_kind}
+use Rattle.smv_lex.specs.Reading.{gap_length, lexeme_length, is_unmarked}
 use Rattle.smv_lex.specs.Spelling.{spelled, literal_bytes}
 use Rattle.smv_lex.specs.Printable.{IsIdentifier, IsPrintable}
 use Rattle.smv_lex.proofs.Spellings.{sign_read, word_read}
@@ -208,7 +211,7 @@ sign_apart : (s : Sign) (r : List ℕ) → Apart r → gap_length false (sign_by
 sign_apart s r at_end = sign_gapless_last s
 sign_apart s r (blank_first rest) = sign_gapless s rest
 
-sign_ends : (s : Sign) (r : List ℕ) → Apart r → lexeme_length (sign_bytes s ++ r) ≡ length (sign_bytes s)
+pub sign_ends : (s : Sign) (r : List ℕ) → Apart r → lexeme_length (sign_bytes s ++ r) ≡ length (sign_bytes s)
 sign_ends s r at_end = sign_whole_last s
 sign_ends s r (blank_first rest) = sign_whole s rest
 
@@ -323,8 +326,21 @@ abbrev pub value_from : ℕ → List ℕ → ℕ
 value_from n [] = n
 value_from n (b ∷ bs) = value_from (n * 10 + (b - 48)) bs
 
-own : IsNumeralModel (λ ds. digits_all ds ≡ true) (value_from 0)
-own = numerals_by_fold _ (search rules) value_from (search rules)
+numerals : IsNumeralModel (λ ds. digits_all ds ≡ true) (value_from 0)
+numerals = numerals_by_fold _ (search rules) value_from (search rules)
+
+-- the numbers of words have fewer than 64 decimal digits
+short : (n : ℕ) → n < 2 ^ WIDEST → n < 10 ^ 64
+short n lt = omega (arith, lt)
+
+decimal_some : (n : ℕ) → n < 2 ^ WIDEST → 0 < length (decimal n)
+decimal_some n lt = (decimal_is_IsNumeral_wide n (short n lt)).0.0
+
+decimal_digits : (n : ℕ) → n < 2 ^ WIDEST → digits_all (decimal n) ≡ true
+decimal_digits n lt = numerals.from (decimal n) (decimal_is_IsNumeral_wide n (short n lt)).0.1
+
+decimal_value : (n : ℕ) → n < 2 ^ WIDEST → value_from 0 (decimal n) ≡ n
+decimal_value n lt = let is = decimal_is_IsNumeral_wide n (short n lt) in numerals.same (decimal n) is.0.1 ∙ is.1
 
 digit_value : (b : ℕ) → is_digit b ≡ true → (digit_number b ≡ b - 48) × (nat_lt (digit_number b) 10 ≡ true)
 digit_value b e = let same : digit_number b ≡ b - 48 = rw e refl in (same, grind (arith, nat_tests, same))
@@ -340,14 +356,14 @@ run_long : (bs : List ℕ) → digits_all bs ≡ true → front_length in_run bs
 run_long [] e = refl
 run_long (b ∷ bs) e =
     let h = and_parts (is_digit b) (digits_all bs) e in
-    let goes : is_run_byte b ≡ true = grind (arith, nat_tests, h.0) in
+    let goes : in_run b [] ≡ true = grind (arith, nat_tests, h.0) in
     rw goes (ap suc (run_long bs h.1))
 
-small : (n : ℕ) → n < 2 ^ 62 → n < 2 ^ 64
+small : (n : ℕ) → n < 2 ^ 62 → n < 2 ^ WIDEST
 small n lt = omega (arith, lt)
 
-value_again : (n : ℕ) → n < 2 ^ 64 → digits_value 10 (decimal n) ≡ Some n
-value_again n lt = go (decimal n) (decimal_nonempty n lt) (number_is (decimal n) 0 (digits_decimal own n lt) ∙ ap Some (digits_value-decimal own n lt))
+value_again : (n : ℕ) → n < 2 ^ WIDEST → digits_value 10 (decimal n) ≡ Some n
+value_again n lt = go (decimal n) (decimal_some n lt) (number_is (decimal n) 0 (decimal_digits n lt) ∙ ap Some (decimal_value n lt))
   where
     go : (ds : List ℕ) → 0 < length ds → number_after 10 0 ds ≡ Some n → digits_value 10 ds ≡ Some n
     go [] some e = absurd (omega (arith, some))
@@ -362,14 +378,15 @@ pub digit_kind : {A : Type 0} (l d : Bool) (x y z : A) → l ≡ false → d ≡
 digit_kind l d x y z e f = rw (e, f) refl
 
 number_as : (n : ℕ) → n < 2 ^ 62 → IsReadAs (kind.Number n) (decimal n)
-number_as n lt = go (decimal n) (decimal_nonempty n (small n lt)) (digits_decimal own n (small n lt)) (number_again n lt)
+number_as n lt = go (decimal n) (decimal_some n (small n lt)) (decimal_digits n (small n lt)) (number_again n lt)
   where
     go : (ds : List ℕ) → 0 < length ds → digits_all ds ≡ true → number_of ds ≡ Some n → IsReadAs (kind.Number n) ds
     go [] some all is = absurd (omega (arith, some))
     go (b ∷ bs) some all is =
         let h = and_parts (is_digit b) (digits_all bs) all in
         let no_letter : is_letter b ≡ false = grind (arith, nat_tests, h.0) in
-        run_as (kind.Number n) b bs h.0 (run_long bs h.1) (digit_kind (is_letter b) (is_digit b) (Some (word_kind (b ∷ bs))) (or_literal (number_of (b ∷ bs)) (b ∷ bs)) (option_map kind.Sign (sign_at b bs)) no_letter h.0 ∙ ap (λ o. or_literal o (b ∷ bs)) is)
+        run_as (kind.Number n) b bs h.0 (run_long bs h.1) (digit_kind (is_letter b) (is_digit b) (Some (word_kind (b ∷ bs))) (run_kind (b ∷ bs)) (option_map kind.Sign (look_up (b ∷ bs) signs)) no_letter h.0
+        ∙ ap (λ o. option_or (option_map kind.Number o) (option_map kind.Literal (literal_of (b ∷ bs)))) is)
 
 -- word literals
 unmarked : (bs rest : List ℕ) → digits_all bs ≡ true → front_length is_unmarked (bs ++ 95 ∷ rest) ≡ length bs
@@ -390,37 +407,37 @@ run_marked : (bs rest : List ℕ) → digits_all bs ≡ true → digits_all rest
 run_marked [] rest e f = ap suc (run_long rest f)
 run_marked (b ∷ bs) rest e f =
     let h = and_parts (is_digit b) (digits_all bs) e in
-    let goes : is_run_byte b ≡ true = grind (arith, nat_tests, h.0) in
+    let goes : in_run b [] ≡ true = grind (arith, nat_tests, h.0) in
     rw goes (ap suc (run_marked bs rest h.1 f))
 
-small_bits : (w : BitVector) → IsWord w → w.bits < 2 ^ 64
-small_bits w is = let up : 2 ^ w.width ≤ 2 ^ 64 = pow-le-pow_right {n = 2} (omega arith) is.1 in omega (arith, up, is.2)
+small_bits : (w : BitVector) → IsWord w → w.bits < 2 ^ WIDEST
+small_bits w is = let up : 2 ^ w.width ≤ 2 ^ WIDEST = pow-le-pow_right {n = 2} (omega arith) is.1 in omega (arith, up, is.2)
 
 literal_again : (w : BitVector) → IsWord w → parted_word (decimal w.width ++ 95 ∷ decimal w.bits) 10 ≡ Some w
 literal_again w is =
-    let narrow : w.width < 2 ^ 64 = omega (arith, is.1) in
+    let narrow : w.width < 2 ^ WIDEST = omega (arith, is.1) in
     let bits = small_bits w is in
     let ds = decimal w.width in
     let es = decimal w.bits in
-    let at : front_length is_unmarked (ds ++ 95 ∷ es) ≡ length ds = unmarked ds es (digits_decimal own w.width narrow) in
+    let at : front_length is_unmarked (ds ++ 95 ∷ es) ≡ length ds = unmarked ds es (decimal_digits w.width narrow) in
     ap (λ n. marked_word 10 (take n (ds ++ 95 ∷ es)) (drop n (ds ++ 95 ∷ es))) at
     ∙ ap (λ x. marked_word 10 x (drop (length ds) (ds ++ 95 ∷ es))) (take_at ds (95 ∷ es) (length ds) refl)
     ∙ ap (marked_word 10 ds) (drop_at ds (95 ∷ es) (length ds) refl)
     ∙ ap (option_and_then (λ n. read_word n 10 (bare es))) (value_again w.width narrow)
-    ∙ ap (read_word w.width 10) (bare_digits es (digits_decimal own w.bits bits))
+    ∙ ap (read_word w.width 10) (bare_digits es (decimal_digits w.bits bits))
     ∙ fits (value_again w.bits bits)
   where
     fits : digits_value 10 (decimal w.bits) ≡ Some w.bits → read_word w.width 10 (decimal w.bits) ≡ Some w
     fits e =
-        let wide : (nat_le 1 w.width && nat_le w.width 64) ≡ true = grind (arith, nat_tests, is) in
+        let wide : (nat_le 1 w.width && nat_le w.width WIDEST) ≡ true = grind (arith, nat_tests, is) in
         let inside : nat_lt w.bits (2 ^ w.width) ≡ true = grind (arith, nat_tests, is) in
         rw (wide, e, inside) refl
 
 literal_as : (w : BitVector) → IsWord w → IsReadAs (kind.Literal w) (literal_bytes w)
 literal_as w is =
-    let narrow : w.width < 2 ^ 64 = omega (arith, is.1) in
+    let narrow : w.width < 2 ^ WIDEST = omega (arith, is.1) in
     run_as (kind.Literal w) 48 (117 ∷ 100 ∷ (decimal w.width ++ 95 ∷ decimal w.bits)) refl
-    (ap (λ n. suc (suc n)) (run_marked (decimal w.width) (decimal w.bits) (digits_decimal own w.width narrow) (digits_decimal own w.bits (small_bits w is))))
+    (ap (λ n. suc (suc n)) (run_marked (decimal w.width) (decimal w.bits) (decimal_digits w.width narrow) (decimal_digits w.bits (small_bits w is))))
     (ap (λ o. option_map_literal o) (literal_again w is))
   where
     option_map_literal : Option BitVector → Option TokenKind
@@ -442,14 +459,14 @@ no_name b bs l e = go (is_letter b) (is_digit b) l e
     by_literal None e = cc
     by_literal (Some w) e = cc
 
-    by_number : (o : Option ℕ) → or_literal o (b ∷ bs) ≡ Some (kind.Ident (b ∷ bs)) → ⊥
+    by_number : (o : Option ℕ) → option_or (option_map kind.Number o) (option_map kind.Literal (literal_of (b ∷ bs))) ≡ Some (kind.Ident (b ∷ bs)) → ⊥
     by_number None e = by_literal (literal_of (b ∷ bs)) e
     by_number (Some n) e = cc
 
-    go : (l d : Bool) → l ≡ false → cond l (Some (word_kind (b ∷ bs))) (cond d (or_literal (number_of (b ∷ bs)) (b ∷ bs)) (option_map kind.Sign (sign_at b bs))) ≡ Some (kind.Ident (b ∷ bs)) → ⊥
+    go : (l d : Bool) → l ≡ false → cond l (Some (word_kind (b ∷ bs))) (cond d (run_kind (b ∷ bs)) (option_map kind.Sign (look_up (b ∷ bs) signs))) ≡ Some (kind.Ident (b ∷ bs)) → ⊥
     go true d l e = cc
     go false true l e = by_number (number_of (b ∷ bs)) e
-    go false false l e = by_sign (sign_at b bs) e
+    go false false l e = by_sign (look_up (b ∷ bs) signs) e
 
 none_some : (k : TokenKind) (o : Option TokenKind) → o ≡ None → o ≡ Some k → ⊥
 none_some k o e f = cc

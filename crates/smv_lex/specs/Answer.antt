@@ -4,7 +4,7 @@ use Rattle.text_core.specs.declared.end.End.{End}
 use Rattle.text_core.specs.declared.end.End.TheVariants.{Bad, NoMemory}
 use Rattle.text_core.specs.declared.place.Refusal.{Refusal}
 use Rattle.smv_text.specs.declared.token.Token.{Token}
-use Rattle.smv_text.specs.Lexing.{TokenList, LexesTo, IsLexRefusal}
+use Rattle.smv_text.specs.Lexing.{TokenList, Lexes, IsLexRefusal}
 
 -- these tokens, or want of memory
 abbrev pub Reads : List Token → Result TokenList End → Type 0
@@ -25,4 +25,4 @@ IsRefused text NoMemory = Unit {0}
 
 -- the text has tokens or a refusal
 abbrev pub IsAnswered : List ℕ → Type 0
-IsAnswered text = ((ts : List Token) × LexesTo text ts) ⊎ ((why : Refusal) × IsLexRefusal text why)
+IsAnswered text = ((ts : List Token) × Lexes text ts) ⊎ ((why : Refusal) × IsLexRefusal text why)

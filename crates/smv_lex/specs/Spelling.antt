@@ -1,4 +1,4 @@
--- How tokens are spelled (NuSMV 2.6 User Manual, chapter 2, before section 2.1, and 2.2.3).
+-- How tokens are spelled (NuSMV 2.6 User Manual, chapter 2, before section 2.1, and 2.2).
 use Rattle.std.specs.Prelude.{ℕ, Bool, true, false, List, [], ◌∷◌, ◌++◌, codes, decimal}
 use Rattle.std.specs.List.{flat_map}
 use Rattle.word_core.specs.Words.{BitVector}

@@ -13,7 +13,7 @@ ghost use Rattle.smv_lex.specs.Reading.{gap_length, Gives};
 ghost use Rattle.smv_lex.specs.Answer.{Reads, Stops, IsRefused, IsAnswered};
 ghost use Rattle.smv_lex.specs.Spelling.{joined};
 ghost use Rattle.smv_lex.specs.Printable.{ArePrintable, CanAllBePrinted};
-ghost use Rattle.smv_text.specs.Lexing.{kinds, LexesTo, IsLexRefusal, opened_by, most_brackets};
+ghost use Rattle.smv_text.specs.Lexing.{kinds, Lexes, IsLexRefusal, opened_by, most_brackets};
 
 use crate::brackets::{MOST_BRACKETS, opened_by};
 use crate::scan::{gap_length, kind_of, lexeme_length};
@@ -75,7 +75,7 @@ fn read_token(alloc: Global, place: Place, opened: u32, text: &[u8]) -> Result<T
 /// The tokens of a text, or its refusal.
 fn tokens_of(alloc: Global, text: &[u8]) -> Result<Tokens, LexEnd>
     requires { length text.now ≤ 2 ^ 31 }
-    ensures lexed { IfOk result (λ tokens. LexesTo text.now tokens.items) }
+    ensures lexed { IfOk result (λ tokens. Lexes text.now tokens.items) }
     ensures end { IfOk result (λ tokens. tokens.end ≡ after start text.now) }
     ensures refused { IfErr result (IsRefused text.now) }
 {
@@ -103,13 +103,13 @@ fn tokens_of(alloc: Global, text: &[u8]) -> Result<Tokens, LexEnd>
 pub fn lex(alloc: Global, text: &[u8]) -> Result<Tokens, LexEnd>
     requires { length text.now ≤ 2 ^ 31 }
     // The text lexes to the tokens.
-    ensures lexed { IfOk result (λ tokens. LexesTo text.now tokens.items) }
+    ensures lexed { IfOk result (λ tokens. Lexes text.now tokens.items) }
     // Their list has the place of the text's end.
     ensures end { IfOk result (λ tokens. tokens.end ≡ after start text.now) }
     // There are no more tokens than bytes.
     ensures few { IfOk result (λ tokens. length tokens.items ≤ length text.now) }
     // What it lexes to is read, unless memory runs out.
-    ensures exact { (ts : List Token) → LexesTo text.now ts → Reads ts result }
+    ensures exact { (ts : List Token) → Lexes text.now ts → Reads ts result }
     // The refusal is that of the text.
     ensures refused { IfErr result (IsRefused text.now) }
     // What it is refused with is answered, unless memory runs out.
@@ -121,11 +121,11 @@ pub fn lex(alloc: Global, text: &[u8]) -> Result<Tokens, LexEnd>
 /// Each text lexes to one list of tokens, or has one refusal.
 pub fn one_lexing()
     // No text lexes to two lists of tokens.
-    ensures tokens { (text : List ℕ) (ts us : List Token) → LexesTo text ts → LexesTo text us → ts ≡ us }
+    ensures tokens { (text : List ℕ) (ts us : List Token) → Lexes text ts → Lexes text us → ts ≡ us }
     // No text has two refusals.
     ensures refusal { (text : List ℕ) (why other : Refusal) → IsLexRefusal text why → IsLexRefusal text other → why ≡ other }
     // None has both tokens and a refusal.
-    ensures apart { (text : List ℕ) (ts : List Token) (why : Refusal) → LexesTo text ts → IsLexRefusal text why → ⊥ }
+    ensures apart { (text : List ℕ) (ts : List Token) (why : Refusal) → Lexes text ts → IsLexRefusal text why → ⊥ }
     // Each has one or the other.
     ensures total { (text : List ℕ) → IsAnswered text }
 {}
@@ -138,6 +138,6 @@ pub fn spellings_are_read()
 
 /// Tokens that are printed with single blanks between them are lexed again, and the tokens of a text can be printed.
 pub fn printed_is_lexed()
-    ensures again { (ks : List TokenKind) → ArePrintable 0 ks → (ts : List Token) × LexesTo (joined ks) ts × (kinds ts ≡ ks) }
-    ensures printable { (text : List ℕ) (ts : List Token) → LexesTo text ts → CanAllBePrinted 0 (kinds ts) }
+    ensures again { (ks : List TokenKind) → ArePrintable 0 ks → (ts : List Token) × Lexes (joined ks) ts × (kinds ts ≡ ks) }
+    ensures printable { (text : List ℕ) (ts : List Token) → Lexes text ts → CanAllBePrinted 0 (kinds ts) }
 {}

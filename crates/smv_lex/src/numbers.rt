@@ -2,7 +2,8 @@
 ghost use Rattle.std.specs.Prelude.{◌≡◌, ◌⊎◌, ◌≤◌, length, IfOk};
 ghost use Rattle.word_core.specs.Digits.{digits_value, read_word};
 ghost use Rattle.smv_text.specs.Bytes.{front_length};
-ghost use Rattle.smv_text.specs.Numbers.{bare, base_of, based_word, is_unmarked, literal_of, marked_word, number_of, parted_word, past_sign, sized_word};
+ghost use Rattle.smv_text.specs.Numbers.{bare, base_of, based_word, literal_of, marked_word, number_of, parted_word, past_sign};
+ghost use Rattle.smv_lex.specs.Reading.{is_unmarked, sized_word};
 ghost use Rattle.smv_text.specs.Words.{run_kind};
 
 use smv_text::TokenKind;
@@ -71,7 +72,7 @@ fn bare(alloc: Global, digits: &[u8]) -> Result<Vec<u8>, NoMemory>
     Ok(kept)
 }
 
-/// The word of a width and of digits of a base. Each width that words have is below 128.
+/// The word of a width and of digits of a base. Each width that words have is below 256.
 fn sized_word(
     alloc: Global,
     base: u32,
@@ -81,7 +82,7 @@ fn sized_word(
     requires { (base ≡ 2) ⊎ ((base ≡ 8) ⊎ ((base ≡ 10) ⊎ (base ≡ 16))) }
     ensures { IfOk result (λ word. word ≡ sized_word base width.now digits.now) }
 {
-    match read_digits(7, 10, width) {
+    match read_digits(8, 10, width) {
         Some(width) => {
             let kept = bare(alloc, digits)?;
             Ok(read_digits(width.bits() as u32, base, &kept))

@@ -1,7 +1,7 @@
 // Parts of a text: gaps, lexemes, kinds and places.
-ghost use Rattle.std.specs.Prelude.{◌≡◌, ◌+◌, ◌<◌, ◌≤◌, ◌^◌, length, false, option_map, IfOk};
-ghost use Rattle.smv_text.specs.Bytes.{is_digit, is_letter, is_blank, front_length};
-ghost use Rattle.smv_text.specs.Words.{is_word_byte, in_word, is_run_byte, in_run, kind_of};
+ghost use Rattle.std.specs.Prelude.{◌≡◌, ◌+◌, ◌<◌, ◌≤◌, ◌^◌, [], length, false, option_map, IfOk};
+ghost use Rattle.smv_text.specs.Bytes.{is_letter, is_blank, front_length};
+ghost use Rattle.smv_text.specs.Words.{in_word, in_run, kind_of};
 ghost use Rattle.smv_lex.specs.Reading.{gap_step, gap_length, lexeme_length};
 
 use crate::numbers::run_kind;
@@ -9,13 +9,7 @@ use crate::signs::{heads, sign_at, sign_length};
 use crate::words::word_kind;
 use smv_text::{Sign, TokenKind};
 use std::alloc::Global;
-use text_core::NoMemory;
-
-fn is_digit(b: u8) -> bool
-    ensures { result ≡ is_digit b }
-{
-    b >= b'0' && b <= b'9'
-}
+use text_core::{NoMemory, is_digit};
 
 fn is_letter(b: u8) -> bool
     ensures { result ≡ is_letter b }
@@ -63,17 +57,11 @@ pub fn gap_length(text: &[u8]) -> usize
     count
 }
 
-fn is_word_byte(b: u8) -> bool
-    ensures { result ≡ is_word_byte b }
-{
-    is_letter(b) || is_digit(b) || b == b'$' || b == b'#'
-}
-
 /// Whether a byte goes on with a word.
 fn in_word(b: u8, rest: &[u8]) -> bool
     ensures { result ≡ in_word b rest.now }
 {
-    is_word_byte(b) || (b == b'-' && !heads(b'>', rest))
+    is_letter(b) || is_digit(b) || b == b'$' || b == b'#' || (b == b'-' && !heads(b'>', rest))
 }
 
 /// How many bytes go on with a word.
@@ -93,8 +81,9 @@ fn word_length(text: &[u8]) -> usize
     count
 }
 
-fn is_run_byte(b: u8) -> bool
-    ensures { result ≡ is_run_byte b }
+/// Whether a byte goes on with a run.
+fn in_run(b: u8) -> bool
+    ensures { result ≡ in_run b [] }
 {
     is_letter(b) || is_digit(b)
 }
@@ -107,7 +96,7 @@ fn run_length(text: &[u8]) -> usize
     let mut rest = text;
     let mut count = 0;
     while let Some((b, more)) = rest.split_first() {
-        if !is_run_byte(*b) {
+        if !in_run(*b) {
             return count;
         }
         count += 1;
@@ -137,6 +126,7 @@ pub fn lexeme_length(text: &[u8]) -> usize
 
 /// The kind of a lexeme, or None where it spells nothing.
 pub fn kind_of(alloc: Global, lexeme: &[u8]) -> Result<Option<TokenKind>, NoMemory>
+    requires { lexeme_length lexeme.now ≡ length lexeme.now }
     ensures { IfOk result (λ kind. kind ≡ kind_of lexeme.now) }
 {
     match lexeme.split_first() {

@@ -1,9 +1,8 @@
 // Signs: the longest one at a place.
 ghost use Rattle.std.specs.Prelude.{◌≡◌, drop};
 ghost use Rattle.smv_text.specs.Bytes.{heads};
-ghost use Rattle.smv_text.specs.Signs.{begins_comment, sign_at};
-ghost use Rattle.smv_text.specs.Signs as spec;
-ghost use Rattle.smv_lex.specs.Reading.{sign_length};
+ghost use Rattle.smv_lex.specs.Reading.{begins_comment, sign_at, sign_length};
+ghost use Rattle.smv_lex.specs.Reading as spec;
 
 use smv_text::Sign;
 

@@ -2,7 +2,9 @@
 ghost use Rattle.std.specs.Prelude.{◌≡◌, ◌==◌, ℕ, length, map, IfOk};
 ghost use Rattle.std.specs.List.{filter};
 ghost use Rattle.std.specs.Str.{bytes_eq};
-ghost use Rattle.smv_text.specs.Keywords.{keywords, look_up, row};
+ghost use Rattle.smv_text.specs.Bytes.{look_up};
+ghost use Rattle.smv_text.specs.Keywords.{keywords};
+ghost use Rattle.smv_lex.specs.Reading.{row};
 ghost use Rattle.smv_text.specs.Words.{keyword_kind, word_kind};
 
 use smv_text::{Reserved, TokenKind};

@@ -236,8 +236,8 @@ example_40 : first_refusal (record { modules = ((record { name = codes "main"; p
 unfolding grow look naming reaches at refused
 example_40 = refl
 
--- `MODULE main VAR w : word[40]; INVARSPEC w :: w = w`
-example_41 : first_refusal (record { modules = ((record { name = codes "main"; place = (at 1 8 7); parameters = ([]); elements = ((vars K.State ((record { name = codes "w"; place = (at 1 17 16); domain = (bits 40); domain_place = (at 1 21 20) }) ∷ [])) ∷ (spec None (chain (at 1 41 40) (chain (at 1 41 40) (name (at 1 41 40) (record { from_self = false; names = (codes "w" ∷ []); place = (at 1 41 40) })) (link I.Concat (name (at 1 46 45) (record { from_self = false; names = (codes "w" ∷ []); place = (at 1 46 45) })) no_links)) (link I.Equal (name (at 1 50 49) (record { from_self = false; names = (codes "w" ∷ []); place = (at 1 50 49) })) no_links))) ∷ []); tokens = 14 }) ∷ []); end = (at 1 51 50) }) 0 ≡ refused 25 (at 1 41 40)
+-- `MODULE main VAR w : word[70]; INVARSPEC w :: w = w`
+example_41 : first_refusal (record { modules = ((record { name = codes "main"; place = (at 1 8 7); parameters = ([]); elements = ((vars K.State ((record { name = codes "w"; place = (at 1 17 16); domain = (bits 70); domain_place = (at 1 21 20) }) ∷ [])) ∷ (spec None (chain (at 1 41 40) (chain (at 1 41 40) (name (at 1 41 40) (record { from_self = false; names = (codes "w" ∷ []); place = (at 1 41 40) })) (link I.Concat (name (at 1 46 45) (record { from_self = false; names = (codes "w" ∷ []); place = (at 1 46 45) })) no_links)) (link I.Equal (name (at 1 50 49) (record { from_self = false; names = (codes "w" ∷ []); place = (at 1 50 49) })) no_links))) ∷ []); tokens = 14 }) ∷ []); end = (at 1 51 50) }) 0 ≡ refused 25 (at 1 41 40)
 unfolding grow look naming reaches at refused
 example_41 = refl
 
@@ -375,6 +375,11 @@ verdict_13 = refl
 verdict_14 : judged_smv (record { modules = ((record { name = codes "main"; place = (at 1 8 7); parameters = ([]); elements = ((vars K.State ((record { name = codes "x"; place = (at 1 17 16); domain = boolean; domain_place = (at 1 21 20) }) ∷ [])) ∷ (init (truth (at 1 35 34) true)) ∷ (trans (truth (at 1 46 45) false)) ∷ (spec None (prefix (at 1 62 61) F.Not 1 (name (at 1 63 62) (record { from_self = false; names = (codes "x" ∷ []); place = (at 1 63 62) })))) ∷ []); tokens = 12 }) ∷ []); end = (at 1 64 63) }) 0 ((λ x. (if bytes_eq x (codes "x") then Truth true else no_value)) ∷ (λ x. (if bytes_eq x (codes "x") then Truth true else no_value)) ∷ []) (no_values ∷ []) ≡ No 1 TransFails
 unfolding grow look reading at
 verdict_14 = refl
+
+-- `MODULE main VAR x : boolean; INIT TRUE TRANS FALSE INVARSPEC !x`, with one label too many
+verdict_15 : judged_smv (record { modules = ((record { name = codes "main"; place = (at 1 8 7); parameters = ([]); elements = ((vars K.State ((record { name = codes "x"; place = (at 1 17 16); domain = boolean; domain_place = (at 1 21 20) }) ∷ [])) ∷ (init (truth (at 1 35 34) true)) ∷ (trans (truth (at 1 46 45) false)) ∷ (spec None (prefix (at 1 62 61) F.Not 1 (name (at 1 63 62) (record { from_self = false; names = (codes "x" ∷ []); place = (at 1 63 62) })))) ∷ []); tokens = 12 }) ∷ []); end = (at 1 64 63) }) 0 ((λ x. (if bytes_eq x (codes "x") then Truth true else no_value)) ∷ []) (no_values ∷ []) ≡ No 1 ValueOutside
+unfolding grow look reading at
+verdict_15 = refl
 
 -- P`VAR y…y : boolean;`, a name of 1,001 letters
 example_54 : first_refusal (record { modules = ((record { name = codes "main"; place = (at 1 8 7); parameters = ([]); elements = ((vars K.State ((record { name = codes "x"; place = (at 1 17 16); domain = boolean; domain_place = (at 1 21 20) }) ∷ [])) ∷ (vars K.State ((record { name = replicate 1001 121; place = (at 1 34 33); domain = boolean; domain_place = (at 1 1038 1037) }) ∷ [])) ∷ []); tokens = 10 }) ∷ []); end = (at 1 1046 1045) }) 0 ≡ refused 28 (at 1 34 33)

@@ -37,7 +37,7 @@ AcceptedIsChecked = (source : PlainSource) (needed : ℕ) → IsAccepted source 
 
 -- each expression of an instance, its actuals among them, passes the test
 abbrev pub instance_all : (Tree → Bool) → Instance → Bool
-instance_all test at = list_all test (list_of at.actuals) && list_all test (flat_map expressions_in at.plan.elements)
+instance_all test at = list_all test (list_of at.actuals) && list_all test (flat_map expressions_in at.module.elements)
 
 abbrev pub all_trees : (Tree → Bool) → List Instance → Bool
 all_trees test t = list_all (instance_all test) t

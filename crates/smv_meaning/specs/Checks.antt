@@ -58,7 +58,7 @@ pub record Typing : Type 0 where
 
 -- a node with the checks of its operands and its own, and the type that it has where its own hold
 abbrev pub node : List Check → List Check → Option ExprType → Typing
-node operands own type = record { checks = operands ++ own; type = if passes own then type else None }
+node before here type = record { checks = before ++ here; type = if passes here then type else None }
 
 -- a test of an operand's type, which holds where it has none
 abbrev pub on_type : Option ExprType → (ExprType → Bool) → Bool

@@ -1,4 +1,4 @@
--- What an expression denotes, given the values of its names (NuSMV 2.6 User Manual, 2.2.3): nothing here knows of instances.
+-- What an expression denotes, given the values of its names (NuSMV 2.6 User Manual, 2.2): nothing here knows of instances.
 use Rattle.std.specs.Prelude.{Bool, true, false, ◌&&◌, ◌||◌, if◌then◌else◌, pos, List, [], ◌∷◌}
 use Rattle.smv_text.specs.declared.tree.Path.{Path}
 use Rattle.smv_text.specs.declared.tree.Infix.{Infix}

@@ -9,7 +9,7 @@ use Rattle.smv_meaning.specs.Instances.{Instance}
 use Rattle.smv_text.specs.declared.tree.Path.{Path}
 use Rattle.smv_meaning.specs.Names.{Found, instance_at, look, steps_of}
 use Rattle.smv_meaning.specs.Checks.{check, first_failing}
-use Rattle.smv_meaning.specs.Phases.{Formula, formula_same, refers, touched, place_of, over_instances}
+use Rattle.smv_meaning.specs.Phases.{Formula, formula_same, refers, path_formulas, place_of, over_instances}
 use Rattle.smv_meaning.specs.Settled.{Acyclic, cycle_checks_of}
 
 -- a definition or an actual, and where it stands
@@ -30,7 +30,7 @@ element_formulas i (defines ds) = map (placed_definition i) ds
 element_formulas i e = []
 
 abbrev pub formulas_here : ℕ → Instance → List Placed
-formulas_here i at = actual_formulas i at.plan.parameters at.actuals ++ flat_map (element_formulas i) at.plan.elements
+formulas_here i at = actual_formulas i at.module.parameters at.actuals ++ flat_map (element_formulas i) at.module.elements
 
 -- over the instances in preorder; in each the actuals come first, then the definitions in the order of the text
 abbrev pub placed_formulas : List Instance → List Placed
@@ -51,12 +51,12 @@ instance_within (instance_at c) = Some c
 instance_within m = None
 
 -- the numbers of those that a path goes through
-abbrev pub touched_numbers : List Instance → ℕ → List (List ℕ) → List ℕ
-touched_numbers t i names = map (number_or (formulas_of t)) (touched t (look t (steps_of t)) i names)
+abbrev pub path_numbers : List Instance → ℕ → List (List ℕ) → List ℕ
+path_numbers t i names = map (number_or (formulas_of t)) (path_formulas t (look t (steps_of t)) i names)
 
-abbrev pub all_touched : List Instance → ℕ → List Path → List ℕ
-all_touched t i [] = []
-all_touched t i (q ∷ qs) = touched_numbers t i q.names ++ all_touched t i qs
+abbrev pub all_path_numbers : List Instance → ℕ → List Path → List ℕ
+all_path_numbers t i [] = []
+all_path_numbers t i (q ∷ qs) = path_numbers t i q.names ++ all_path_numbers t i qs
 
 abbrev pub references_of : List Instance → Formula → List ℕ
 references_of t k = map (number_or (formulas_of t)) (refers t k)

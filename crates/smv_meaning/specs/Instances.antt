@@ -1,4 +1,4 @@
--- The instances of a model in preorder (NuSMV 2.6 User Manual, 2.3.12).
+-- The instances of a model in preorder (NuSMV 2.6 User Manual, 2.3).
 use Rattle.std.specs.Prelude.{ℕ, zero, suc, Bool, if◌then◌else◌, List, [], ◌∷◌, ◌++◌, length, codes, Option, Some, None, bytes_eq, sum_by, slice_get}
 use Rattle.std.specs.List.{list_any}
 use Rattle.smv_text.specs.Tree.{Trees, no_trees, PlainDomain, instance, PlainItem, PlainElement, vars, PlainModule, PlainSource}
@@ -6,9 +6,9 @@ use Rattle.smv_text.specs.Tree.{Trees, no_trees, PlainDomain, instance, PlainIte
 -- an instance; its actuals are read in its parent, which is named by its place in the list of instances
 pub record Instance : Type 0 where
   pub parent : Option ℕ  -- none for main
-  pub own : List ℕ  -- its name in its parent
+  pub name : List ℕ  -- its name in its parent
   pub path : List ℕ  -- its dotted path from main, empty for main
-  pub plan : PlainModule
+  pub «module» : PlainModule
   pub actuals : Trees
 
 -- a name in the instance with this path
@@ -27,7 +27,7 @@ module_named (m ∷ ms) x = if bytes_eq m.name x then Some m else module_named m
 abbrev pub placed : ℕ → List ℕ → List ℕ → Trees → Option PlainModule → Option Instance
 placed i path x actuals None = None
 placed i path x actuals (Some m) =
-    Some (record { parent = Some i; own = x; path = dotted path x; plan = m; actuals = actuals })
+    Some (record { parent = Some i; name = x; path = dotted path x; «module» = m; actuals = actuals })
 
 abbrev pub child_in : List PlainModule → ℕ → List ℕ → List ℕ → PlainDomain → Option Instance
 child_in ms i path x (instance m actuals) = placed i path x actuals (module_named ms m)
@@ -53,13 +53,13 @@ grow_elements g ms i path (e ∷ es) t = grow_elements g ms i path es t
 -- the list with the instance and then all below it added; modules nest at most as deep as the number tells
 unfoldable pub grow : ℕ → List PlainModule → Instance → List Instance → List Instance
 grow zero ms at t = t
-grow (suc n) ms at t = grow_elements (grow n ms) ms (length t) at.path at.plan.elements (t ++ at ∷ [])
+grow (suc n) ms at t = grow_elements (grow n ms) ms (length t) at.path at.module.elements (t ++ at ∷ [])
 
 abbrev pub main_name : List ℕ
 main_name = codes "main"
 
 abbrev pub main_instance : PlainModule → Instance
-main_instance m = record { parent = None; own = []; path = []; plan = m; actuals = no_trees }
+main_instance m = record { parent = None; name = []; path = []; «module» = m; actuals = no_trees }
 
 abbrev pub grown_from : List PlainModule → Option PlainModule → List Instance
 grown_from ms None = []
@@ -71,7 +71,7 @@ instances_of source = grown_from source.modules (module_named source.modules mai
 
 abbrev pub module_and_above : (Option ℕ → List (List ℕ)) → Option Instance → List (List ℕ)
 module_and_above above None = []
-module_and_above above (Some at) = at.plan.name ∷ above at.parent
+module_and_above above (Some at) = at.module.name ∷ above at.parent
 
 -- the names of the modules of an instance and of all above it
 abbrev pub modules_above : ℕ → List Instance → Option ℕ → List (List ℕ)
@@ -81,4 +81,4 @@ modules_above (suc n) t (Some i) = module_and_above (modules_above n t) (slice_g
 
 -- the number of tokens of the modules' bodies, summed over the instances
 abbrev pub weight_of : PlainSource → ℕ
-weight_of source = sum_by (λ at. at.plan.tokens) (instances_of source)
+weight_of source = sum_by (λ at. at.module.tokens) (instances_of source)

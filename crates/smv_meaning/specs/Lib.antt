@@ -19,4 +19,6 @@ pub mod Parts
 pub mod Checked
 pub mod Reached
 pub mod Orders
+pub mod TypedValues
+pub mod Verdicts
 pub mod laws

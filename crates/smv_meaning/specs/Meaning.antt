@@ -1,4 +1,4 @@
--- The value of an expression in an instance, and the values that it permits (NuSMV 2.6 User Manual, 2.2.3 and 2.3.2).
+-- The value of an expression in an instance, and the values that it permits (NuSMV 2.6 User Manual, 2.2 and 2.3).
 use Rattle.std.specs.Prelude.{ℕ, zero, suc, Bool, true, false, if◌then◌else◌, IsTrue}
 use Rattle.smv_text.specs.declared.tree.Path.{Path}
 use Rattle.smv_text.specs.declared.tree.VarKind.{VarKind}
@@ -9,7 +9,7 @@ use Rattle.smv_meaning.specs.declared.value.Value.TheVariants.{Symbol}
 use Rattle.smv_meaning.specs.Values.{Valuation, no_value}
 use Rattle.smv_meaning.specs.Expressions.{Denotation, denote}
 use Rattle.smv_meaning.specs.Instances.{instances_of}
-use Rattle.smv_meaning.specs.Names.{Found, variable_at, body_at, instance_at, symbol_of, cyclic, none, found_in, steps_of}
+use Rattle.smv_meaning.specs.Names.{Found, variable_at, body_at, instance_at, symbol_of, cyclic, none, steps_of, meaning_of}
 
 abbrev pub is_input : VarKind → Bool
 is_input OfVarKind.Input = true
@@ -37,7 +37,7 @@ denoted found n i e state label following =
 
 abbrev pub denotation_of : PlainSource → ℕ → Tree → Valuation → Valuation → Valuation → Denotation
 denotation_of source i e state label following =
-    denoted (found_in (instances_of source)) (steps_of (instances_of source)) i e state label following
+    denoted (meaning_of source) (steps_of (instances_of source)) i e state label following
 
 abbrev pub value_of : PlainSource → ℕ → Tree → Valuation → Valuation → Valuation → Value
 value_of source i e state label following = (denotation_of source i e state label following).value

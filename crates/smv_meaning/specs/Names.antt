@@ -1,4 +1,4 @@
--- What a path means in an instance (NuSMV 2.6 User Manual, 2.3.16).
+-- What a path means in an instance (NuSMV 2.6 User Manual, 2.3).
 use Rattle.std.specs.Prelude.{ℕ, zero, suc, ◌+◌, Bool, true, false, ◌&&◌, ◌==◌, if◌then◌else◌, List, [], ◌∷◌, length, Option, Some, None, slice_get, position, bytes_eq, sum_by, unwrap_or}
 use Rattle.std.specs.List.{list_any}
 use Rattle.smv_text.specs.declared.tree.Path.{Path}
@@ -53,7 +53,7 @@ parent_of at = unwrap_or at.parent 0
 abbrev pub local_in : ℕ → List ℕ → Option Instance → Local
 local_in i x None = nothing
 local_in i x (Some at) =
-    among_parameters (parent_of at) at.plan.parameters at.actuals x (among_elements i at.plan.elements x)
+    among_parameters (parent_of at) at.module.parameters at.actuals x (among_elements i at.module.elements x)
 
 abbrev pub local : List Instance → ℕ → List ℕ → Local
 local t i x = local_in i x (slice_get t i)
@@ -72,7 +72,7 @@ is_parent i None = false
 is_parent i (Some j) = j == i
 
 abbrev pub is_child : ℕ → List ℕ → Instance → Bool
-is_child i x at = is_parent i at.parent && bytes_eq at.own x
+is_child i x at = is_parent i at.parent && bytes_eq at.name x
 
 abbrev pub at_child : Option ℕ → Found
 at_child None = none
@@ -122,7 +122,7 @@ element_has x (constants names) = is_one_of names x
 element_has x e = false
 
 abbrev pub instance_has : List ℕ → Instance → Bool
-instance_has x at = list_any (element_has x) at.plan.elements
+instance_has x at = list_any (element_has x) at.module.elements
 
 -- an enumeration or CONSTANTS of an instantiated module has the name
 abbrev pub has_symbol : List Instance → List ℕ → Bool
@@ -166,7 +166,7 @@ trees_in (tree e es) = trees_in es + 1
 
 -- the definitions and the actuals of an instance
 abbrev pub formulas_in : Instance → ℕ
-formulas_in at = sum_by definitions_in at.plan.elements + trees_in at.actuals
+formulas_in at = sum_by definitions_in at.module.elements + trees_in at.actuals
 
 -- definitions and actuals that lead into one another without a cycle are no more than there are of them
 abbrev pub steps_of : List Instance → ℕ
@@ -177,4 +177,4 @@ found_in t i path = resolved t (look t (steps_of t)) i path
 
 -- the meaning of a path in an instance of a model
 abbrev pub meaning_of : PlainSource → ℕ → Path → Found
-meaning_of source i path = found_in (instances_of source) i path
+meaning_of source = found_in (instances_of source)

@@ -1,4 +1,4 @@
--- The operators on values (NuSMV 2.6 User Manual, 2.2.3): integers are whole numbers, words are numbers modulo two to their
+-- The operators on values (NuSMV 2.6 User Manual, 2.2): integers are whole numbers, words are numbers modulo two to their
 -- width, by the operator table of BTOR2. Where operands don't fit an operator there is no value.
 use Rattle.std.specs.Prelude.{ℕ, ◌+◌, ◌-◌, ◌%◌, ◌^◌, Bool, not, ◌&&◌, ◌||◌, ◌==◌, nat_lt, nat_le, if◌then◌else◌, ℤ, pos, ◌+ℤ◌, ◌-ℤ◌, ◌*ℤ◌, neg_ℤ, int_lt, int_le, int_div, List, [], ◌∷◌}
 use Rattle.std.specs.Int.{int_min, int_max}

@@ -52,7 +52,7 @@ expressions_in (spec label e) = e ∷ []
 
 abbrev pub InElements : Tree → Option Instance → Type 0
 InElements e None = ⊥
-InElements e (Some at) = InOne e (flat_map expressions_in at.plan.elements)
+InElements e (Some at) = InOne e (flat_map expressions_in at.module.elements)
 
 -- in an actual that is read in the numbered instance
 abbrev pub InActuals : ℕ → Tree → List Instance → Type 0

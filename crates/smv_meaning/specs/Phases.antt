@@ -22,13 +22,9 @@ abbrev pub name_checks : List (List ℕ) → List PlainModule → List Check
 name_checks seen [] = []
 name_checks seen (m ∷ ms) = check 9 m.place (not (is_one_of seen m.name)) ∷ name_checks (m.name ∷ seen) ms
 
-abbrev pub has_none : List Parameter → Bool
-has_none [] = true
-has_none (q ∷ qs) = false
-
 abbrev pub main_check : Place → Option PlainModule → Check
 main_check end None = check 8 end false
-main_check end (Some m) = check 8 m.place (has_none m.parameters)
+main_check end (Some m) = check 8 m.place (length m.parameters == 0)
 
 abbrev pub module_checks : PlainSource → List Check
 module_checks source =
@@ -56,12 +52,9 @@ abbrev pub domain_declares_instance : PlainDomain → Bool
 domain_declares_instance (instance m actuals) = true
 domain_declares_instance d = false
 
-abbrev pub item_declares_instance : Option PlainItem → Bool
-item_declares_instance None = false
-item_declares_instance (Some i) = domain_declares_instance i.domain
-
-abbrev pub declares_instance : Declared → Bool
-declares_instance d = item_declares_instance d.item
+abbrev pub declares_instance : Option PlainItem → Bool
+declares_instance None = false
+declares_instance (Some i) = domain_declares_instance i.domain
 
 -- the most bytes of a dotted path, instances, and tokens of instances
 abbrev pub longest_path : ℕ
@@ -89,7 +82,7 @@ item_checks ms above (Some i) = instance_checks ms above i.domain_place i.domain
 
 -- with one instance more, where the declaration makes one
 abbrev pub counted : ℕ → Declared → ℕ
-counted met d = if declares_instance d then met + 1 else met
+counted met d = if declares_instance d.item then met + 1 else met
 
 -- given the modules above, the instance's path, the names that were declared earlier in the module, and how many instances
 -- were met so far, main among them
@@ -98,7 +91,7 @@ declared_checks ms above path seen met [] = []
 declared_checks ms above path seen met (d ∷ ds) =
     check 10 d.place (not (is_one_of seen d.name))
     ∷ item_checks ms above d.item
-    ++ check 28 d.place (nat_le (length (dotted path d.name)) longest_path && (not (declares_instance d) || nat_le (met + 1) most_instances))
+    ++ check 28 d.place (nat_le (length (dotted path d.name)) longest_path && (not (declares_instance d.item) || nat_le (met + 1) most_instances))
     ∷ declared_checks ms above path (d.name ∷ seen) (counted met d) ds
 
 abbrev pub counted_all : ℕ → List Declared → ℕ
@@ -109,8 +102,8 @@ counted_all met (d ∷ ds) = counted_all (counted met d) ds
 abbrev pub declaration_checks : List PlainModule → List Instance → ℕ → ℕ → List Instance → List Check
 declaration_checks ms all i met [] = []
 declaration_checks ms all i met (at ∷ t) =
-    declared_checks ms (modules_above (length all) all (Some i)) at.path [] met (declared_in at.plan)
-    ++ declaration_checks ms all (i + 1) (counted_all met (declared_in at.plan)) t
+    declared_checks ms (modules_above (length all) all (Some i)) at.path [] met (declared_in at.module)
+    ++ declaration_checks ms all (i + 1) (counted_all met (declared_in at.module)) t
 
 -- ---- phase 3: the weight, and names of main that are symbols
 
@@ -119,7 +112,7 @@ start_place = record { line = 1; column = 1; offset = 0 }
 
 abbrev pub symbol_checks : List Instance → Option Instance → List Check
 symbol_checks t None = []
-symbol_checks t (Some main) = map (λ d. check 10 d.place (not (has_symbol t d.name))) (declared_in main.plan)
+symbol_checks t (Some main) = map (λ d. check 10 d.place (not (has_symbol t d.name))) (declared_in main.module)
 
 abbrev pub size_checks : PlainSource → List Check
 size_checks source =
@@ -152,7 +145,7 @@ path_check found i path = check 14 path.place (is_something (found i path))
 
 abbrev pub path_checks : (ℕ → Path → Found) → ℕ → Instance → List Check
 path_checks found i at =
-    map (path_check found (parent_of at)) (tree_paths at.actuals []) ++ map (path_check found i) (flat_map element_paths at.plan.elements)
+    map (path_check found (parent_of at)) (tree_paths at.actuals []) ++ map (path_check found i) (flat_map element_paths at.module.elements)
 
 -- ---- phase 5: no definition and no actual reaches itself
 
@@ -173,13 +166,13 @@ from_instance (instance_at c) go = go c
 from_instance m go = []
 
 -- the definitions and actuals that a path goes through
-abbrev pub touched : List Instance → (ℕ → List ℕ → Found) → ℕ → List (List ℕ) → List Formula
-touched t look i [] = []
-touched t look i (x ∷ rest) = formula_here i x (local t i x) ++ from_instance (look i x) (λ c. touched t look c rest)
+abbrev pub path_formulas : List Instance → (ℕ → List ℕ → Found) → ℕ → List (List ℕ) → List Formula
+path_formulas t look i [] = []
+path_formulas t look i (x ∷ rest) = formula_here i x (local t i x) ++ from_instance (look i x) (λ c. path_formulas t look c rest)
 
 abbrev pub referred : List Instance → (ℕ → List ℕ → Found) → Local → List Formula
-referred t look (alias j path) = touched t look j path.names
-referred t look (formula j e) = flat_map (λ q. touched t look j q.names) (paths_of e [])
+referred t look (alias j path) = path_formulas t look j path.names
+referred t look (formula j e) = flat_map (λ q. path_formulas t look j q.names) (paths_of e [])
 referred t look l = []
 
 -- the definitions and actuals to which a definition or an actual refers
@@ -219,7 +212,7 @@ element_cycles t i (defines ds) = map (λ d. cycle_check t i d.name d.place) ds
 element_cycles t i e = []
 
 abbrev pub cycle_checks : List Instance → ℕ → Instance → List Check
-cycle_checks t i at = actual_cycles t i at.plan.parameters at.actuals ++ flat_map (element_cycles t i) at.plan.elements
+cycle_checks t i at = actual_cycles t i at.module.parameters at.actuals ++ flat_map (element_cycles t i) at.module.elements
 
 -- ---- phase 6: types and positions
 
@@ -267,7 +260,7 @@ element_typing names (spec label e) = formula_typing names in_state e
 
 abbrev pub type_checks : (ℕ → Path → Named) → ℕ → Instance → List Check
 type_checks names i at =
-    actuals_typing (names (parent_of at)) at.actuals ++ flat_map (element_typing (names i)) at.plan.elements
+    actuals_typing (names (parent_of at)) at.actuals ++ flat_map (element_typing (names i)) at.module.elements
 
 -- ---- phase 7: what is assigned
 
@@ -309,7 +302,7 @@ assigned_checks seen (a ∷ more) =
 
 abbrev pub assignment_checks : (ℕ → Path → Found) → List Instance → List Check
 assignment_checks found t =
-    assigned_checks [] (over_instances (λ i at. flat_map (element_assigns found i) at.plan.elements) 0 t)
+    assigned_checks [] (over_instances (λ i at. flat_map (element_assigns found i) at.module.elements) 0 t)
 
 -- ---- phase 8: the invariants
 
@@ -319,7 +312,7 @@ element_invariants i e = []
 
 -- the invariants with their instances, in preorder and then in the order of the text
 abbrev pub invariants_in : List Instance → List (ℕ × Tree)
-invariants_in t = over_instances (λ i at. flat_map (element_invariants i) at.plan.elements) 0 t
+invariants_in t = over_instances (λ i at. flat_map (element_invariants i) at.module.elements) 0 t
 
 -- ---- all phases
 

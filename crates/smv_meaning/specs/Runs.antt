@@ -1,4 +1,4 @@
--- The runs of a model, and the verdict on a stated one (NuSMV 2.6 User Manual, 2.3.5 to 2.3.8 and 2.4.1). A run is finite: its
+-- The runs of a model, and the verdict on a stated one (NuSMV 2.6 User Manual, 2.3 and 2.4). A run is finite: its
 -- last state needs no successor.
 use Rattle.std.specs.Prelude.{ℕ, ◌+◌, Bool, true, false, not, ◌&&◌, ◌||◌, if◌then◌else◌, List, [], ◌∷◌, Option, Some, None, slice_get, IsTrue}
 use Rattle.std.specs.List.{list_all}
@@ -36,7 +36,7 @@ element_fits picked path values (vars kind items) = not (picked kind) || list_al
 element_fits picked path values e = true
 
 abbrev pub values_fit : (VarKind → Bool) → List Instance → Valuation → Bool
-values_fit picked t values = list_all (λ at. list_all (element_fits picked at.path values) at.plan.elements) t
+values_fit picked t values = list_all (λ at. list_all (element_fits picked at.path values) at.module.elements) t
 
 -- a state gives each state and frozen variable a value of its type, a label each input
 abbrev pub state_fits : List Instance → Valuation → Bool
@@ -70,7 +70,7 @@ no_values x = no_value
 -- INIT and `init(x) :=` in a state, or INVAR and `x :=`
 abbrev pub state_holds : List Instance → When → Valuation → Bool
 state_holds t when state = over_all
-    (λ i at. list_all (element_holds (λ e. denoted (found_in t) (steps_of t) i e state no_values no_values) (reading (found_in t) (steps_of t) state no_values i) when) at.plan.elements)
+    (λ i at. list_all (element_holds (λ e. denoted (found_in t) (steps_of t) i e state no_values no_values) (reading (found_in t) (steps_of t) state no_values i) when) at.module.elements)
     0 t
 
 abbrev pub init_holds : List Instance → Valuation → Bool
@@ -82,7 +82,7 @@ invar_holds t state = state_holds t Always state
 -- TRANS and `next(x) :=` between two states under a label
 abbrev pub trans_holds : List Instance → Valuation → Valuation → Valuation → Bool
 trans_holds t state label following = over_all
-    (λ i at. list_all (element_holds (λ e. denoted (found_in t) (steps_of t) i e state label following) (reading (found_in t) (steps_of t) following label i) Following) at.plan.elements)
+    (λ i at. list_all (element_holds (λ e. denoted (found_in t) (steps_of t) i e state label following) (reading (found_in t) (steps_of t) following label i) Following) at.module.elements)
     0 t
 
 abbrev pub is_frozen : VarKind → Bool
@@ -96,7 +96,7 @@ element_stays path state following e = true
 
 -- each frozen variable keeps its value
 abbrev pub frozen_stay : List Instance → Valuation → Valuation → Bool
-frozen_stay t state following = list_all (λ at. list_all (element_stays at.path state following) at.plan.elements) t
+frozen_stay t state following = list_all (λ at. list_all (element_stays at.path state following) at.module.elements) t
 
 abbrev pub step_holds : List Instance → Valuation → Valuation → Valuation → Bool
 step_holds t state label following = trans_holds t state label following && frozen_stay t state following
@@ -105,11 +105,9 @@ step_holds t state label following = trans_holds t state label following && froz
 
 -- between each two states there is a label, under which the transition holds
 abbrev pub StepsHold : List Instance → List Valuation → List Valuation → Type 0
-StepsHold t [] labels = ⊥
 StepsHold t (s ∷ []) [] = Unit {0}
-StepsHold t (s ∷ []) (l ∷ labels) = ⊥
-StepsHold t (s ∷ u ∷ states) [] = ⊥
 StepsHold t (s ∷ u ∷ states) (l ∷ labels) = IsTrue (step_holds t s l u) × StepsHold t (u ∷ states) labels
+StepsHold t states labels = ⊥
 
 abbrev pub Starts : List Instance → List Valuation → Type 0
 Starts t [] = ⊥
@@ -137,20 +135,24 @@ is_broken t j state = is_false_at t state (slice_get (invariants_in t) j)
 abbrev pub Breaks : PlainSource → ℕ → Valuation → Type 0
 Breaks source j state = IsTrue (is_broken (instances_of source) j state)
 
+-- the last state of the run breaks it
+abbrev pub LastBreaks : PlainSource → ℕ → List Valuation → Type 0
+LastBreaks source j [] = ⊥
+LastBreaks source j (s ∷ []) = Breaks source j s
+LastBreaks source j (s ∷ u ∷ states) = LastBreaks source j (u ∷ states)
+
 -- ---- the verdict
 
--- a clause, and whether it holds
-abbrev pub Tested : Type 0
-Tested = Clause × Bool
-
--- the first clause that fails at a step, else what is said of the rest
-abbrev pub unless_fails : ℕ → List Tested → Verdict → Verdict
+-- the first clause that fails at a step, each with whether it holds, else what is said of the rest
+abbrev pub unless_fails : ℕ → List (Clause × Bool) → Verdict → Verdict
 unless_fails n [] rest = rest
 unless_fails n (c ∷ cs) rest = if c.1 then unless_fails n cs rest else No n c.0
 
--- the transition to the next state fails at the step that it leads to
+-- a label and a transition belong to the step that they lead to; where the state or the label of a step is missing, its value
+-- is outside
 abbrev pub judged_after : List Instance → ℕ → ℕ → Valuation → List Valuation → List Valuation → Verdict
-judged_after t j n s [] labels = unless_fails n ((NotBroken, is_broken t j s) ∷ []) Yes
+judged_after t j n s [] [] = unless_fails n ((NotBroken, is_broken t j s) ∷ []) Yes
+judged_after t j n s [] (l ∷ labels) = No (n + 1) ValueOutside
 judged_after t j n s (u ∷ states) [] = No (n + 1) ValueOutside
 judged_after t j n s (u ∷ states) (l ∷ labels) =
     unless_fails (n + 1)

@@ -1,6 +1,6 @@
 -- The types of expressions, and the intervals in which their integers lie (NuSMV 2.6 User Manual, 2.2; the intervals are this
 -- translator's own).
-use Rattle.std.specs.Prelude.{ℕ, ◌+◌, ◌-◌, ◌%◌, ◌^◌, Bool, true, false, not, ◌&&◌, ◌||◌, ◌==◌, nat_lt, nat_le, if◌then◌else◌, ℤ, pos, ◌+ℤ◌, ◌-ℤ◌, ◌*ℤ◌, neg_ℤ, int_lt, int_le, int_div, nat_abs, List, [], ◌∷◌, map, length, Option, Some, None}
+use Rattle.std.specs.Prelude.{ℕ, ◌+◌, ◌-◌, ◌%◌, ◌^◌, Bool, true, false, not, ◌&&◌, ◌||◌, ◌==◌, nat_lt, nat_le, if◌then◌else◌, ℤ, pos, ◌+ℤ◌, ◌-ℤ◌, ◌*ℤ◌, neg_ℤ, int_lt, int_le, int_div, nat_abs, List, [], ◌∷◌, map, length, drop, Option, Some, None}
 use Rattle.std.specs.Int.{int_min, int_max}
 use Rattle.std.specs.List.{list_all}
 use Rattle.smv_text.specs.declared.tree.Prefix.{Prefix}
@@ -48,15 +48,9 @@ type_same t u = false
 abbrev pub widths_same : ExprType → ExprType → Bool
 widths_same t u = is_word_type t && is_word_type u && type_width t == type_width u
 
--- the limit of integers
-abbrev pub least_integer : ℤ
-least_integer = neg_ℤ (pos (2 ^ 62))
-
-abbrev pub greatest_integer : ℤ
-greatest_integer = pos (2 ^ 62 - 1)
-
+-- integers lie from -2^62 to 2^62 - 1
 abbrev pub in_limit : ExprType → Bool
-in_limit (integer_type low high) = int_le least_integer low && int_le high greatest_integer
+in_limit (integer_type low high) = int_le (neg_ℤ (pos (2 ^ 62))) low && int_le high (pos (2 ^ 62 - 1))
 in_limit t = true
 
 -- ---- intervals
@@ -127,7 +121,7 @@ logical_fits t u = (is_truth_type t && is_truth_type u) || widths_same t u
 abbrev pub number_fits : ExprType → ExprType → Bool
 number_fits t u = (is_integer_type t && is_integer_type u) || widths_same t u
 
--- the operands' types fit the operator
+-- the operands' types fit the operator; the last line is for comparisons by order and for sums, products and quotients
 abbrev pub infix_fits : Infix → ExprType → ExprType → Bool
 infix_fits Implies t u = logical_fits t u
 infix_fits Iff t u = logical_fits t u
@@ -137,29 +131,16 @@ infix_fits Xnor t u = logical_fits t u
 infix_fits And t u = logical_fits t u
 infix_fits Equal t u = type_same t u
 infix_fits Unequal t u = type_same t u
-infix_fits Less t u = number_fits t u
-infix_fits Greater t u = number_fits t u
-infix_fits LessEq t u = number_fits t u
-infix_fits GreaterEq t u = number_fits t u
 infix_fits Member t u = type_same t u
 infix_fits Union t u = type_same t u
 infix_fits ShiftLeft t u = is_word_type t
 infix_fits ShiftRight t u = is_word_type t
-infix_fits Plus t u = number_fits t u
-infix_fits Minus t u = number_fits t u
-infix_fits Times t u = number_fits t u
-infix_fits Divide t u = number_fits t u
-infix_fits Mod t u = number_fits t u
 infix_fits Concat t u = is_word_type t && is_word_type u
+infix_fits op t u = number_fits t u
 
--- the type of the whole, where the operands fit; the right operand's text is read for a divisor
+-- the type of the whole, where the operands fit; the right operand's text is read for a divisor; the last line is
+-- for logical operators and shifts
 abbrev pub infix_type : Infix → ExprType → ExprType → Tree → ExprType
-infix_type Implies t u e = t
-infix_type Iff t u e = t
-infix_type Or t u e = t
-infix_type Xor t u e = t
-infix_type Xnor t u e = t
-infix_type And t u e = t
 infix_type Equal t u e = truth_type
 infix_type Unequal t u e = truth_type
 infix_type Less t u e = truth_type
@@ -168,14 +149,13 @@ infix_type LessEq t u e = truth_type
 infix_type GreaterEq t u e = truth_type
 infix_type Member t u e = truth_type
 infix_type Union t u e = hull t u
-infix_type ShiftLeft t u e = t
-infix_type ShiftRight t u e = t
 infix_type Plus t u e = over_both_ends (λ a b. a +ℤ b) t u
 infix_type Minus t u e = over_both_ends (λ a b. a -ℤ b) t u
 infix_type Times t u e = over_both_ends (λ a b. a *ℤ b) t u
 infix_type Divide t u e = quotient_type t (divisor_of e)
 infix_type Mod t u e = rest_type t (divisor_of e)
 infix_type Concat t u e = word_type (type_width t + type_width u)
+infix_type op t u e = t
 
 abbrev pub is_shift_amount : Option ℕ → ExprType → Bool
 is_shift_amount None t = false
@@ -249,10 +229,6 @@ abbrev pub first_type : List ExprType → ExprType
 first_type [] = truth_type
 first_type (t ∷ ts) = t
 
-abbrev pub second_type : List ExprType → ExprType
-second_type [] = truth_type
-second_type (t ∷ ts) = first_type ts
-
 -- the type of the whole, where the arguments fit
 abbrev pub function_type : Function → List ExprType → List (Option ℕ) → ExprType
 function_type OfFunction.Bool ts ns = truth_type
@@ -262,8 +238,8 @@ function_type OfFunction.Uwconst ts ns = word_type (second_number ns)
 function_type OfFunction.Extend ts ns = word_type (type_width (first_type ts) + second_number ns)
 function_type OfFunction.Resize ts ns = word_type (second_number ns)
 function_type OfFunction.Count ts ns = integer_type (pos 0) (pos (length ts))
-function_type OfFunction.Max ts ns = over_both_ends int_max (first_type ts) (second_type ts)
-function_type OfFunction.Min ts ns = over_both_ends int_min (first_type ts) (second_type ts)
+function_type OfFunction.Max ts ns = over_both_ends int_max (first_type ts) (first_type (drop 1 ts))
+function_type OfFunction.Min ts ns = over_both_ends int_min (first_type ts) (first_type (drop 1 ts))
 function_type OfFunction.Abs ts ns = abs_type (first_type ts)
 
 -- the parts have one type

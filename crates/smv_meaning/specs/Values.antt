@@ -1,6 +1,5 @@
--- Values, the types of variables with their values, and states (NuSMV 2.6 User Manual, 2.1 and 2.3.1).
-use Rattle.std.specs.Prelude.{ℕ, ◌^◌, Bool, true, false, not, ◌&&◌, ◌||◌, ◌==◌, nat_lt, nat_le, if◌then◌else◌, ℤ, int_le, List, [], ◌∷◌, bytes_eq}
-use Rattle.word_core.specs.Words.{BitVector}
+-- Values, the types of variables with their values, and states (NuSMV 2.6 User Manual, 2.1 and 2.3).
+use Rattle.std.specs.Prelude.{ℕ, ◌^◌, Bool, true, false, not, ◌&&◌, ◌||◌, ◌==◌, nat_lt, nat_le, if◌then◌else◌, ℤ, int_le, List, [], ◌∷◌, IsTrue, bytes_eq}
 use Rattle.smv_text.specs.declared.tree.Member.{Member}
 use Rattle.smv_text.specs.declared.tree.Member.TheVariants as OfMember
 use Rattle.smv_text.specs.Tree.{PlainDomain, boolean, members, between, bits, instance}
@@ -20,18 +19,12 @@ abbrev pub bool_eq : Bool → Bool → Bool
 bool_eq true b = b
 bool_eq false b = not b
 
-abbrev pub int_same : ℤ → ℤ → Bool
-int_same a b = int_le a b && int_le b a
-
-abbrev pub word_same : BitVector → BitVector → Bool
-word_same v w = v.width == w.width && v.bits == w.bits
-
 -- two values are one: equal symbols are, whatever types they come from
 abbrev pub value_same : Value → Value → Bool
 value_same (Truth a) (Truth b) = bool_eq a b
-value_same (Integer a) (Integer b) = int_same a b
+value_same (Integer a) (Integer b) = int_le a b && int_le b a
 value_same (Symbol a) (Symbol b) = bytes_eq a b
-value_same (Bits v) (Bits w) = word_same v w
+value_same (Bits v) (Bits w) = v.width == w.width && v.bits == w.bits
 value_same v w = false
 
 -- an integer between two ends
@@ -63,6 +56,9 @@ is_of_type (members ms) v = is_among ms v
 is_of_type (between low high) v = is_between low high v
 is_of_type (bits n) v = nat_le 1 n && is_word_of n v
 is_of_type (instance m actuals) v = false
+
+abbrev pub IsOfType : PlainDomain → Value → Type 0
+IsOfType d v = IsTrue (is_of_type d v)
 
 -- a state gives each state and frozen variable, named by its dotted path, a value; a label gives each input one
 abbrev pub Valuation : Type 0

@@ -80,8 +80,8 @@ mutual
   among_trees no_trees xs ys h = h
   among_trees (tree e es) xs ys h = among_paths e (tree_paths es xs) (tree_paths es ys) (among_trees es xs ys h)
 
-pub own_paths : (e : Tree) (more : List Path) (q : Path) → In q (paths_of e []) → In q (paths_of e more)
-own_paths e more q h = among_paths e [] more (λ z i. absurd i) q h
+pub paths_before : (e : Tree) (more : List Path) (q : Path) → In q (paths_of e []) → In q (paths_of e more)
+paths_before e more q h = among_paths e [] more (λ z i. absurd i) q h
 
 -- ---- values
 

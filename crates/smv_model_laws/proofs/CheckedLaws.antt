@@ -25,7 +25,7 @@ use Rattle.smv_meaning.specs.Checked.{IsChecked, instance_all, all_trees, names_
 use Rattle.smv_meaning.specs.laws.Booleans.{both_true, absurd_bool}
 use Rattle.smv_model_laws.proofs.FoundLaws.{Closed, LocalGood, by_name, in_place, there, found_good}
 use Rattle.smv_model_laws.proofs.Cycles.{In, in_all, in_left, in_right}
-use Rattle.smv_model_laws.proofs.Agreeing.{more_paths, own_paths}
+use Rattle.smv_model_laws.proofs.Agreeing.{more_paths, paths_before}
 use Rattle.smv_model_laws.proofs.Typable.{TypedPaths, split, has_type}
 use Rattle.smv_model_laws.proofs.Ranked.{key}
 use Rattle.smv_model_laws.proofs.Settling.{Under, under_more, all_under, body_under, descent, ranking, types_settle_law}
@@ -152,7 +152,7 @@ given_elements t path i (e ∷ es) x h l f =
 given_actual : (t : List Instance) (path : List ℕ) (i j : ℕ) (x : List ℕ) (e : Tree) (more : List Path) → passes (actual_typing (names_at t j) e) ≡ true → Lead t j (paths_of e more)
     → words_fit e ≡ true → LocalGood (Given t) path i x (of_actual j e)
 given_actual t path i j x (name p q) more h l w = tt
-given_actual t path i j x e more h l w = record { paths = λ r g. l r (own_paths e more r g); words = w; checks = h }
+given_actual t path i j x e more h l w = record { paths = λ r g. l r (paths_before e more r g); words = w; checks = h }
 
 more_lead : (t : List Instance) (i : ℕ) (e : Tree) (more : List Path) → Lead t i (paths_of e more) → Lead t i more
 more_lead t i e more h q g = h q (more_paths e more q g)
@@ -173,24 +173,24 @@ given_parameters t path i j (q ∷ qs) (tree e es) x other h l f k =
 
 pub record Checked (t : List Instance) (i : ℕ) (at : Instance) : Type 0 where
   pub actual_types : passes (actuals_typing (types_in true t (parent_of at)) at.actuals) ≡ true
-  pub element_types : passes (flat_map (element_typing (types_in true t i)) at.plan.elements) ≡ true
+  pub element_types : passes (flat_map (element_typing (types_in true t i)) at.module.elements) ≡ true
   pub actual_paths : Lead t (parent_of at) (tree_paths at.actuals [])
-  pub own_paths : Lead t i (flat_map element_paths at.plan.elements)
+  pub element_paths_lead : Lead t i (flat_map element_paths at.module.elements)
   pub actual_words : list_all words_fit (list_of at.actuals) ≡ true
-  pub own_words : list_all words_fit (flat_map expressions_in at.plan.elements) ≡ true
+  pub element_words : list_all words_fit (flat_map expressions_in at.module.elements) ≡ true
 
 pub checked_at : (t : List Instance) → IsChecked t → all_trees words_fit t ≡ true → (i : ℕ) (at : Instance) → slice_get t i ≡ Some at → Checked t i at
 checked_at t c w i at e =
-    let types = split (actuals_typing (types_in true t (parent_of at)) at.actuals) (flat_map (element_typing (types_in true t i)) at.plan.elements) (at_pass (type_checks (names_in t)) t i at c.types e) in
-    let paths = split (map (path_check (found_in t) (parent_of at)) (tree_paths at.actuals [])) (map (path_check (found_in t) i) (flat_map element_paths at.plan.elements)) (at_pass (path_checks (found_in t)) t i at c.paths e) in
-    let words = both_true (list_all words_fit (list_of at.actuals)) (list_all words_fit (flat_map expressions_in at.plan.elements)) (there (instance_all words_fit) t i at w e) in
+    let types = split (actuals_typing (types_in true t (parent_of at)) at.actuals) (flat_map (element_typing (types_in true t i)) at.module.elements) (at_pass (type_checks (names_in t)) t i at c.types e) in
+    let paths = split (map (path_check (found_in t) (parent_of at)) (tree_paths at.actuals [])) (map (path_check (found_in t) i) (flat_map element_paths at.module.elements)) (at_pass (path_checks (found_in t)) t i at c.paths e) in
+    let words = both_true (list_all words_fit (list_of at.actuals)) (list_all words_fit (flat_map expressions_in at.module.elements)) (there (instance_all words_fit) t i at w e) in
     record {
       actual_types = types.0;
       element_types = types.1;
       actual_paths = lead t (parent_of at) (tree_paths at.actuals []) paths.0;
-      own_paths = lead t i (flat_map element_paths at.plan.elements) paths.1;
+      element_paths_lead = lead t i (flat_map element_paths at.module.elements) paths.1;
       actual_words = words.0;
-      own_words = words.1;
+      element_words = words.1;
     }
 
 -- what a name is in its instance is in order
@@ -198,8 +198,8 @@ pub local_given : (t : List Instance) → ((i : ℕ) (at : Instance) → slice_g
 local_given t c i x = in_place (Given t) i x (slice_get t i)
     (λ at e.
     let k = c i at e in
-    given_parameters t at.path i (parent_of at) at.plan.parameters at.actuals x (among_elements i at.plan.elements x) k.actual_types k.actual_paths k.actual_words
-    (given_elements t at.path i at.plan.elements x k.element_types k.own_paths k.own_words))
+    given_parameters t at.path i (parent_of at) at.module.parameters at.actuals x (among_elements i at.module.elements x) k.actual_types k.actual_paths k.actual_words
+    (given_elements t at.path i at.module.elements x k.element_types k.element_paths_lead k.element_words))
 
 pub all_given : (t : List Instance) → ((i : ℕ) (at : Instance) → slice_get t i ≡ Some at → Checked t i at) → (i : ℕ) (path : Path) → Given t (found_in t i path)
 all_given t c i path = found_good (Given t) (given_closed t) t (local_given t c) i path
@@ -322,7 +322,7 @@ in_elements t i (m ∷ ms) g h l f e k =
 in_actual : (t : List Instance) (i : ℕ) (x : Tree) (more : List Path) → AllTyped t → passes (actual_typing (names_at t i) x) ≡ true → Lead t i (paths_of x more) → words_fit x ≡ true
     → (e : Tree) → IsPart e x → SoundOrName t i e
 in_actual t i (name p q) more g h l w e k = inr (p, q, k, l q (inl refl))
-in_actual t i x more g h l w e k = part_of t i x g (λ r s. l r (own_paths x more r s)) w (in_body, h) e k
+in_actual t i x more g h l w e k = part_of t i x g (λ r s. l r (paths_before x more r s)) w (in_body, h) e k
 
 in_trees : (t : List Instance) (i : ℕ) (xs : Trees) → AllTyped t → passes (actuals_typing (names_at t i) xs) ≡ true → Lead t i (tree_paths xs []) → Words (list_of xs) → (e : Tree) → InTrees e xs
     → SoundOrName t i e
@@ -343,7 +343,7 @@ stands_sound t g c i e (inl h) = by (slice_get t i) refl h
   where
     by : (o : Option Instance) → slice_get t i ≡ o → InElements e o → SoundOrName t i e
     by None s k = absurd k
-    by (Some at) s k = let r = c i at s in in_elements t i at.plan.elements g r.element_types r.own_paths r.own_words e k
+    by (Some at) s k = let r = c i at s in in_elements t i at.module.elements g r.element_types r.element_paths_lead r.element_words e k
 stands_sound t g c i e (inr h) =
     let r = actual_at i e t h in
     let k = c r.0 r.1 r.2 in

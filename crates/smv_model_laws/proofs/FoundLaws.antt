@@ -231,7 +231,7 @@ pub gives_found : (inputs : Bool) (t : List Instance) (s l : Valuation) → stat
 gives_found inputs t s l a b i path = found_good (GivesFound inputs s l) (gives_closed inputs s l) t
     (λ i x. in_place (GivesFound inputs s l) i x (slice_get t i)
     (λ at e.
-    let c = there (λ at. list_all (element_fits (λ k. not (is_input k)) at.path s) at.plan.elements) t i at a e in
-    gives_parameters inputs s l at.path i (parent_of at) at.plan.parameters at.actuals x (among_elements i at.plan.elements x)
-    (gives_elements inputs s l at.path i at.plan.elements x c (λ f. there (λ at. list_all (element_fits is_input at.path l) at.plan.elements) t i at (b f) e))))
+    let c = there (λ at. list_all (element_fits (λ k. not (is_input k)) at.path s) at.module.elements) t i at a e in
+    gives_parameters inputs s l at.path i (parent_of at) at.module.parameters at.actuals x (among_elements i at.module.elements x)
+    (gives_elements inputs s l at.path i at.module.elements x c (λ f. there (λ at. list_all (element_fits is_input at.path l) at.module.elements) t i at (b f) e))))
     i path

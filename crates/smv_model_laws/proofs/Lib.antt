@@ -12,3 +12,5 @@ pub mod PartLaws
 pub mod FoundLaws
 pub mod CheckedLaws
 pub mod SafeExpressions
+pub mod ValueLaws
+pub mod VerdictLaws

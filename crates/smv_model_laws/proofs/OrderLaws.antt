@@ -124,9 +124,9 @@ element_keys_are i (spec o e) = refl
 
 here_keys_are : (i : ℕ) (at : Instance) → map formula_in (formulas_here i at) ≡ keys_in i at
 here_keys_are i at =
-    map-append formula_in (actual_formulas i at.plan.parameters at.actuals) (flat_map (element_formulas i) at.plan.elements)
-    ∙ ap (λ xs. xs ++ map formula_in (flat_map (element_formulas i) at.plan.elements)) (actual_keys_are i at.plan.parameters at.actuals)
-    ∙ ap (λ xs. actual_keys i at.plan.parameters at.actuals ++ xs) (map_flat formula_in (element_formulas i) (element_keys i) (element_keys_are i) at.plan.elements)
+    map-append formula_in (actual_formulas i at.module.parameters at.actuals) (flat_map (element_formulas i) at.module.elements)
+    ∙ ap (λ xs. xs ++ map formula_in (flat_map (element_formulas i) at.module.elements)) (actual_keys_are i at.module.parameters at.actuals)
+    ∙ ap (λ xs. actual_keys i at.module.parameters at.actuals ++ xs) (map_flat formula_in (element_formulas i) (element_keys i) (element_keys_are i) at.module.elements)
 
 pub formulas_are : (t : List Instance) → formulas_of t ≡ keys_of t
 formulas_are t = map_over formula_in formulas_here keys_in here_keys_are 0 t
@@ -153,9 +153,9 @@ element_checks_are t i (spec o e) = refl
 
 here_checks_are : (t : List Instance) (i : ℕ) (at : Instance) → map (check_of t) (formulas_here i at) ≡ cycle_checks t i at
 here_checks_are t i at =
-    map-append (check_of t) (actual_formulas i at.plan.parameters at.actuals) (flat_map (element_formulas i) at.plan.elements)
-    ∙ ap (λ xs. xs ++ map (check_of t) (flat_map (element_formulas i) at.plan.elements)) (actual_checks_are t i at.plan.parameters at.actuals)
-    ∙ ap (λ xs. actual_cycles t i at.plan.parameters at.actuals ++ xs) (map_flat (check_of t) (element_formulas i) (element_cycles t i) (element_checks_are t i) at.plan.elements)
+    map-append (check_of t) (actual_formulas i at.module.parameters at.actuals) (flat_map (element_formulas i) at.module.elements)
+    ∙ ap (λ xs. xs ++ map (check_of t) (flat_map (element_formulas i) at.module.elements)) (actual_checks_are t i at.module.parameters at.actuals)
+    ∙ ap (λ xs. actual_cycles t i at.module.parameters at.actuals ++ xs) (map_flat (check_of t) (element_formulas i) (element_cycles t i) (element_checks_are t i) at.module.elements)
 
 pub checks_are : (t : List Instance) → map (check_of t) (placed_formulas t) ≡ cycle_checks_of t
 checks_are t = map_over (check_of t) formulas_here (cycle_checks t) (here_checks_are t) 0 t

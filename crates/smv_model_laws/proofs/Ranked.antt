@@ -15,7 +15,7 @@ use Rattle.smv_meaning.specs.Instances.{Instance}
 use Rattle.smv_meaning.specs.Names.{Local, alias, formula, variable_of, inner, nothing, of_actual, of_domain, among_items, among_definitions, among_elements, among_parameters, parent_of, local_in, local, Found, instance_at, look, definitions_in, trees_in, formulas_in, steps_of}
 use Rattle.smv_meaning.specs.Expressions.{paths_of}
 use Rattle.smv_meaning.specs.Checks.{Check, passes}
-use Rattle.smv_meaning.specs.Phases.{Formula, formula_same, formula_here, from_instance, touched, referred, refers, reaches, actual_cycles, element_cycles, cycle_checks, over_instances}
+use Rattle.smv_meaning.specs.Phases.{Formula, formula_same, formula_here, from_instance, path_formulas, referred, refers, reaches, actual_cycles, element_cycles, cycle_checks, over_instances}
 use Rattle.smv_meaning.specs.Settled.{Acyclic, is_formula, cycle_checks_of, IsRank, RankedIsAcyclic, CyclesAreChecked, AcyclicIsRanked, rank_of}
 use Rattle.smv_meaning.specs.laws.Booleans.{or_true, absurd_bool}
 use Rattle.smv_model_laws.proofs.Cycles.{In, any_in, in_all, all_in, in_left, in_right, in_either, in_flat, same_is, Within, chain_falls, chain_most}
@@ -35,7 +35,7 @@ element_keys i (defines ds) = map (λ d. key i d.name) ds
 element_keys i e = []
 
 abbrev pub keys_in : ℕ → Instance → List Formula
-keys_in i at = actual_keys i at.plan.parameters at.actuals ++ flat_map (element_keys i) at.plan.elements
+keys_in i at = actual_keys i at.module.parameters at.actuals ++ flat_map (element_keys i) at.module.elements
 
 abbrev pub keys_of : List Instance → List Formula
 keys_of t = over_instances keys_in 0 t
@@ -85,9 +85,9 @@ in_parameters i j (q ∷ qs) (tree e es) x other h =
 
 in_instance : (i : ℕ) (x : List ℕ) (at : Instance) → is_formula (local_in i x (Some at)) ≡ true → In (key i x) (keys_in i at)
 in_instance i x at h =
-    ⊎_elim (λ s. in_left (key i x) (actual_keys i at.plan.parameters at.actuals) (flat_map (element_keys i) at.plan.elements) s)
-    (λ s. in_right (key i x) (actual_keys i at.plan.parameters at.actuals) (flat_map (element_keys i) at.plan.elements) (in_elements i at.plan.elements x s))
-    (in_parameters i (parent_of at) at.plan.parameters at.actuals x (among_elements i at.plan.elements x) h)
+    ⊎_elim (λ s. in_left (key i x) (actual_keys i at.module.parameters at.actuals) (flat_map (element_keys i) at.module.elements) s)
+    (λ s. in_right (key i x) (actual_keys i at.module.parameters at.actuals) (flat_map (element_keys i) at.module.elements) (in_elements i at.module.elements x s))
+    (in_parameters i (parent_of at) at.module.parameters at.actuals x (among_elements i at.module.elements x) h)
 
 pub over_in : {X : Type 0} (f : ℕ → Instance → List X) (k : X) (n : ℕ) (t : List Instance) (i : ℕ) (at : Instance) → slice_get t i ≡ Some at → In k (f (n + i) at) → In k (over_instances f n t)
 over_in f k n [] i at e h = cc
@@ -131,9 +131,9 @@ elements_counted i (e ∷ es) =
 over_counted : (n : ℕ) (t : List Instance) → length (over_instances keys_in n t) ≤ sum_by formulas_in t
 over_counted n [] = omega arith
 over_counted n (at ∷ t) =
-    let a = actuals_counted n at.plan.parameters at.actuals in
-    let b = elements_counted n at.plan.elements in
-    let c = length-append (actual_keys n at.plan.parameters at.actuals) (flat_map (element_keys n) at.plan.elements) in
+    let a = actuals_counted n at.module.parameters at.actuals in
+    let b = elements_counted n at.module.elements in
+    let c = length-append (actual_keys n at.module.parameters at.actuals) (flat_map (element_keys n) at.module.elements) in
     let d = over_counted (n + 1) t in
     let e = length-append (keys_in n at) (over_instances keys_in (n + 1) t) in
     let f = sum_by-cons formulas_in at t in
@@ -182,10 +182,10 @@ elements_tests t i (e ∷ es) =
 
 instance_tests : (t : List Instance) (i : ℕ) (at : Instance) → list_all holds (cycle_checks t i at) ≡ list_all (is_clear t) (keys_in i at)
 instance_tests t i at =
-    list_all-append holds (actual_cycles t i at.plan.parameters at.actuals) (flat_map (element_cycles t i) at.plan.elements)
-    ∙ ap (λ b. b && list_all holds (flat_map (element_cycles t i) at.plan.elements)) (actual_tests t i at.plan.parameters at.actuals)
-    ∙ ap (λ b. list_all (is_clear t) (actual_keys i at.plan.parameters at.actuals) && b) (elements_tests t i at.plan.elements)
-    ∙ sym (list_all-append (is_clear t) (actual_keys i at.plan.parameters at.actuals) (flat_map (element_keys i) at.plan.elements))
+    list_all-append holds (actual_cycles t i at.module.parameters at.actuals) (flat_map (element_cycles t i) at.module.elements)
+    ∙ ap (λ b. b && list_all holds (flat_map (element_cycles t i) at.module.elements)) (actual_tests t i at.module.parameters at.actuals)
+    ∙ ap (λ b. list_all (is_clear t) (actual_keys i at.module.parameters at.actuals) && b) (elements_tests t i at.module.elements)
+    ∙ sym (list_all-append (is_clear t) (actual_keys i at.module.parameters at.actuals) (flat_map (element_keys i) at.module.elements))
 
 pub all_tests : (t : List Instance) → passes (cycle_checks_of t) ≡ list_all (is_clear t) (keys_of t)
 all_tests t = test_all holds (is_clear t) (cycle_checks t) keys_in (instance_tests t) 0 t
@@ -221,15 +221,15 @@ in_from : (m : Found) (go : ℕ → List Formula) (k : Formula) → In k (from_i
 in_from (instance_at c) go k h = (c, h)
 in_from m go k h = absurd h
 
-touched_is : (t : List Instance) (f : ℕ → List ℕ → Found) (i : ℕ) (xs : List (List ℕ)) (k : Formula) → In k (touched t f i xs) → is_formula (local t k.0 k.1) ≡ true
-touched_is t f i [] k h = absurd h
-touched_is t f i (x ∷ xs) k h =
-    ⊎_elim (λ s. here_is t i x k s) (λ s. let r = in_from (f i x) (λ c. touched t f c xs) k s in touched_is t f r.0 xs k r.1)
-    (in_either k (formula_here i x (local t i x)) (from_instance (f i x) (λ c. touched t f c xs)) h)
+path_formulas_is : (t : List Instance) (f : ℕ → List ℕ → Found) (i : ℕ) (xs : List (List ℕ)) (k : Formula) → In k (path_formulas t f i xs) → is_formula (local t k.0 k.1) ≡ true
+path_formulas_is t f i [] k h = absurd h
+path_formulas_is t f i (x ∷ xs) k h =
+    ⊎_elim (λ s. here_is t i x k s) (λ s. let r = in_from (f i x) (λ c. path_formulas t f c xs) k s in path_formulas_is t f r.0 xs k r.1)
+    (in_either k (formula_here i x (local t i x)) (from_instance (f i x) (λ c. path_formulas t f c xs)) h)
 
 pub referred_is : (t : List Instance) (f : ℕ → List ℕ → Found) (l : Local) (k : Formula) → In k (referred t f l) → (is_formula l ≡ true) × (is_formula (local t k.0 k.1) ≡ true)
-referred_is t f (alias j path) k h = (refl, touched_is t f j path.names k h)
-referred_is t f (formula j e) k h = let r = in_flat (λ q. touched t f j q.names) k (paths_of e []) h in (refl, touched_is t f j r.0.names k r.2)
+referred_is t f (alias j path) k h = (refl, path_formulas_is t f j path.names k h)
+referred_is t f (formula j e) k h = let r = in_flat (λ q. path_formulas t f j q.names) k (paths_of e []) h in (refl, path_formulas_is t f j r.0.names k r.2)
 referred_is t f (variable_of kind d) k h = absurd h
 referred_is t f inner k h = absurd h
 referred_is t f nothing k h = absurd h

@@ -13,7 +13,7 @@ use Rattle.smv_meaning.specs.Meaning.{value_found, reading}
 use Rattle.smv_meaning.specs.Types.{ExprType}
 use Rattle.smv_meaning.specs.Checks.{Named, Typing}
 use Rattle.smv_meaning.specs.Naming.{in_body, named_found, naming}
-use Rattle.smv_meaning.specs.Phases.{Formula, formula_here, from_instance, touched, referred, refers}
+use Rattle.smv_meaning.specs.Phases.{Formula, formula_here, from_instance, path_formulas, referred, refers}
 use Rattle.smv_meaning.specs.Settled.{is_formula, Acyclic, chain_length, rank_of, is_cyclic, NamesSettle, ValuesSettle, ValuesAreOne, TypesSettle}
 use Rattle.smv_meaning.specs.laws.Booleans.{absurd_bool}
 use Rattle.smv_model_laws.proofs.Cycles.{In, in_left, in_right, flat_in, chain_most}
@@ -49,7 +49,7 @@ last_look t i x = look t (steps_of t) i x
 
 -- each definition and actual that the path goes through has a lesser rank
 abbrev pub Below : List Instance → (Formula → ℕ) → ℕ → ℕ → List (List ℕ) → Type 0
-Below t rank r i xs = (m : Formula) → In m (touched t (look t (steps_of t)) i xs) → rank m < r
+Below t rank r i xs = (m : Formula) → In m (path_formulas t (look t (steps_of t)) i xs) → rank m < r
 
 -- the name, where it is a definition or an actual, has a lesser rank
 abbrev pub NameBelow : List Instance → (Formula → ℕ) → ℕ → ℕ → List ℕ → Type 0
@@ -62,12 +62,12 @@ here_in i x l h = absurd_bool h
 
 first_below : (t : List Instance) (rank : Formula → ℕ) (r i : ℕ) (x : List ℕ) (xs : List (List ℕ)) → Below t rank r i (x ∷ xs) → NameBelow t rank r i x
 first_below t rank r i x xs h e =
-    h (key i x) (in_left (key i x) (formula_here i x (local t i x)) (from_instance (last_look t i x) (λ c. touched t (last_look t) c xs)) (here_in i x (local t i x) e))
+    h (key i x) (in_left (key i x) (formula_here i x (local t i x)) (from_instance (last_look t i x) (λ c. path_formulas t (last_look t) c xs)) (here_in i x (local t i x) e))
 
 rest_below : (t : List Instance) (rank : Formula → ℕ) (r i c : ℕ) (x : List ℕ) (xs : List (List ℕ)) → Below t rank r i (x ∷ xs) → last_look t i x ≡ instance_at c → Below t rank r c xs
 rest_below t rank r i c x xs h e m k =
-    h m (in_right m (formula_here i x (local t i x)) (from_instance (last_look t i x) (λ d. touched t (last_look t) d xs))
-    (subst (λ f. In m (from_instance f (λ d. touched t (last_look t) d xs))) (sym e) k))
+    h m (in_right m (formula_here i x (local t i x)) (from_instance (last_look t i x) (λ d. path_formulas t (last_look t) d xs))
+    (subst (λ f. In m (from_instance f (λ d. path_formulas t (last_look t) d xs))) (sym e) k))
 
 -- each has a greater number than those to which it refers
 abbrev pub Falls : List Instance → (Formula → ℕ) → Type 0
@@ -79,9 +79,9 @@ alias_below t rank falls i x j path e m h = falls (key i x) m (subst (λ l. In m
 
 -- what a path of a body goes through is among that to which it refers
 pub path_refers : (t : List Instance) (i : ℕ) (x : List ℕ) (j : ℕ) (b : Tree) → local t i x ≡ formula j b
-    → (q : Path) → In q (paths_of b []) → (m : Formula) → In m (touched t (last_look t) j q.names) → In m (refers t (key i x))
+    → (q : Path) → In q (paths_of b []) → (m : Formula) → In m (path_formulas t (last_look t) j q.names) → In m (refers t (key i x))
 path_refers t i x j b e q g m h =
-    subst (λ l. In m (referred t (last_look t) l)) (sym e) (flat_in (λ p. touched t (last_look t) j p.names) m q (paths_of b []) g h)
+    subst (λ l. In m (referred t (last_look t) l)) (sym e) (flat_in (λ p. path_formulas t (last_look t) j p.names) m q (paths_of b []) g h)
 
 pub body_below : (t : List Instance) (rank : Formula → ℕ) → Falls t rank → (i : ℕ) (x : List ℕ) (j : ℕ) (b : Tree) → local t i x ≡ formula j b
     → (q : Path) → In q (paths_of b []) → Below t rank (rank (key i x)) j q.names

@@ -1,4 +1,4 @@
--- How a row is filled: what is put into it is right, and at the end it has all.
+-- How the entries are filled: what is put into them is right, and at the end they have all.
 use Rattle.std.proofs.Common.{◌≡◌, ℕ, Bool, true, false, ◌&&◌, ◌||◌, ◌==◌, if◌then◌else◌, List, [], ◌∷◌, ◌++◌, map, Option, Some, None, is_some, bytes_eq, flat_map, refl, sym, ap, ◌∙◌}
 use Rattle.std.specs.List.{list_all, list_any, position}
 use Rattle.std.proofs.lemmas.Bool.{eqb-true, eq-eqb}
@@ -12,11 +12,11 @@ use Rattle.smv_meaning.specs.Expressions.{paths_of}
 use Rattle.smv_meaning.specs.Names.{Local, alias, formula, variable_of, inner, nothing, local, Found, variable_at, body_at, instance_at, symbol_of, cyclic, none, is_child, is_end, at_child, onward, walk, has_symbol, single, through, landed, look, found_in, steps_of}
 use Rattle.smv_meaning.specs.Checks.{Named, Typing, typing}
 use Rattle.smv_meaning.specs.Naming.{in_body, unnamed, named_found}
-use Rattle.smv_meaning.specs.Phases.{Formula, formula_same, formula_here, from_instance, touched, referred, refers}
+use Rattle.smv_meaning.specs.Phases.{Formula, formula_same, formula_here, from_instance, path_formulas, referred, refers}
 use Rattle.smv_meaning.specs.Settled.{Acyclic, is_formula, types_in, NamesSettle, TypesSettle}
 use Rattle.smv_meaning.specs.Formulas.{instance_within, IsFormulaOrder}
 use Rattle.smv_meaning.specs.Orders.{numbered, is_listed, SameOn, TypesHangOnPaths, OrderIsWhole}
-use Rattle.smv_model_types.specs.Row.{Entries, nameless, entry_or, row_step, row_walk, row_single, row_through, row_names, HasEach, put_for, variable_put, or_else, Becomes, Right, Has}
+use Rattle.smv_model_types.specs.Entries.{Entries, nameless, entry_or, entries_step, entries_walk, entries_single, entries_through, entries_names, HasEach, put_for, variable_put, or_else, Becomes, Right, Has}
 
 -- ---- tests
 
@@ -49,7 +49,7 @@ looked t = look t (steps_of t)
 abbrev pub Settled : List Instance → Type 0
 Settled t = (i : ℕ) (x : List ℕ) → looked t i x ≡ landed t (looked t) i x (local t i x)
 
--- ---- a row that has what a path goes through has the path
+-- ---- entries that have what a path goes through have the path
 
 entry_at : (t : List Instance) (i : ℕ) (x : List ℕ) (l : Local) (m : Found) (o : Option Named) → m ≡ landed t (looked t) i x l → instance_within m ≡ None → (is_formula l ≡ true → is_some o ≡ true)
     → ((n : Named) → o ≡ Some n → n ≡ meaning t m) → entry_or l o ≡ meaning t m
@@ -79,69 +79,69 @@ here_listed ks i x (variable_of kind d) h f = absurd_bool f
 here_listed ks i x inner h f = absurd_bool f
 here_listed ks i x nothing h f = absurd_bool f
 
--- a row that is right and has those of a list
-pub record Holds (t : List Instance) (row : Entries) (ks : List Formula) : Type 0 where
-  pub right : Right t row
-  pub has : Has t row ks
+-- entries that are right and have those of a list
+pub record Holds (t : List Instance) (entries : Entries) (ks : List Formula) : Type 0 where
+  pub right : Right t entries
+  pub has : Has t entries ks
 
-step_right : (t : List Instance) (row : Entries) (at_end : Bool) (n : Named) (m : Found) (rest : List (List ℕ)) (ks : List Formula) → (instance_within m ≡ None → n ≡ meaning t m)
-    → ((c : ℕ) → list_all (is_listed ks) (touched t (looked t) c rest) ≡ true → row_walk t row c rest ≡ meaning t (walk (looked t) c rest))
-    → list_all (is_listed ks) (from_instance m (λ c. touched t (looked t) c rest)) ≡ true
-    → row_step (instance_within m) at_end n (λ c. row_walk t row c rest) ≡ meaning t (onward m at_end (λ c. walk (looked t) c rest))
-step_right t row at_end n (instance_at c) rest ks e ih h = ih c h
-step_right t row at_end n (variable_at x kind d) rest ks e ih h = ends_as t at_end n (variable_at x kind d) (e refl)
-step_right t row at_end n (body_at i x j b) rest ks e ih h = ends_as t at_end n (body_at i x j b) (e refl)
-step_right t row at_end n (symbol_of x) rest ks e ih h = ends_as t at_end n (symbol_of x) (e refl)
-step_right t row at_end n cyclic rest ks e ih h = ends_cyclic at_end n (e refl)
-step_right t row at_end n none rest ks e ih h = ends_as t at_end n none (e refl)
+step_right : (t : List Instance) (entries : Entries) (at_end : Bool) (n : Named) (m : Found) (rest : List (List ℕ)) (ks : List Formula) → (instance_within m ≡ None → n ≡ meaning t m)
+    → ((c : ℕ) → list_all (is_listed ks) (path_formulas t (looked t) c rest) ≡ true → entries_walk t entries c rest ≡ meaning t (walk (looked t) c rest))
+    → list_all (is_listed ks) (from_instance m (λ c. path_formulas t (looked t) c rest)) ≡ true
+    → entries_step (instance_within m) at_end n (λ c. entries_walk t entries c rest) ≡ meaning t (onward m at_end (λ c. walk (looked t) c rest))
+step_right t entries at_end n (instance_at c) rest ks e ih h = ih c h
+step_right t entries at_end n (variable_at x kind d) rest ks e ih h = ends_as t at_end n (variable_at x kind d) (e refl)
+step_right t entries at_end n (body_at i x j b) rest ks e ih h = ends_as t at_end n (body_at i x j b) (e refl)
+step_right t entries at_end n (symbol_of x) rest ks e ih h = ends_as t at_end n (symbol_of x) (e refl)
+step_right t entries at_end n cyclic rest ks e ih h = ends_cyclic at_end n (e refl)
+step_right t entries at_end n none rest ks e ih h = ends_as t at_end n none (e refl)
 
-pub walk_right : (t : List Instance) (row : Entries) (ks : List Formula) → Settled t → Holds t row ks → (names : List (List ℕ)) (i : ℕ) → list_all (is_listed ks) (touched t (looked t) i names) ≡ true
-    → row_walk t row i names ≡ meaning t (walk (looked t) i names)
-walk_right t row ks s r [] i h = refl
-walk_right t row ks s r (x ∷ rest) i h =
+pub walk_right : (t : List Instance) (entries : Entries) (ks : List Formula) → Settled t → Holds t entries ks → (names : List (List ℕ)) (i : ℕ) → list_all (is_listed ks) (path_formulas t (looked t) i names) ≡ true
+    → entries_walk t entries i names ≡ meaning t (walk (looked t) i names)
+walk_right t entries ks s r [] i h = refl
+walk_right t entries ks s r (x ∷ rest) i h =
     let m = looked t i x in
-    let more : List Formula = from_instance m (λ c. touched t (looked t) c rest) in
+    let more : List Formula = from_instance m (λ c. path_formulas t (looked t) c rest) in
     let b = both_true (list_all (is_listed ks) (formula_here i x (local t i x))) (list_all (is_listed ks) more) (sym (list_all-append (is_listed ks) (formula_here i x (local t i x)) more) ∙ h) in
-    step_right t row (is_end rest) (entry_or (local t i x) (row i x)) m rest ks
-    (λ w. entry_at t i x (local t i x) m (row i x) (s i x) w (λ f. r.has (i, x) (here_listed ks i x (local t i x) b.0 f) f) (r.right i x))
-    (λ c k. walk_right t row ks s r rest c k) b.1
+    step_right t entries (is_end rest) (entry_or (local t i x) (entries i x)) m rest ks
+    (λ w. entry_at t i x (local t i x) m (entries i x) (s i x) w (λ f. r.has (i, x) (here_listed ks i x (local t i x) b.0 f) f) (r.right i x))
+    (λ c k. walk_right t entries ks s r rest c k) b.1
 
 symbol_right : (t : List Instance) (b : Bool) (x : List ℕ) → named_found true nameless (if b then symbol_of x else none) ≡ meaning t (if b then symbol_of x else none)
 symbol_right t true x = refl
 symbol_right t false x = refl
 
-single_right : (t : List Instance) (row : Entries) (i : ℕ) (x : List ℕ) (l : Local) → row_walk t row i (x ∷ []) ≡ meaning t (walk (looked t) i (x ∷ [])) → row_single t row i x l ≡ meaning t (single t (looked t) i x l)
-single_right t row i x (alias j path) e = e
-single_right t row i x (formula j b) e = e
-single_right t row i x (variable_of kind d) e = e
-single_right t row i x inner e = e
-single_right t row i x nothing e = symbol_right t (has_symbol t x) x
+single_right : (t : List Instance) (entries : Entries) (i : ℕ) (x : List ℕ) (l : Local) → entries_walk t entries i (x ∷ []) ≡ meaning t (walk (looked t) i (x ∷ [])) → entries_single t entries i x l ≡ meaning t (single t (looked t) i x l)
+single_right t entries i x (alias j path) e = e
+single_right t entries i x (formula j b) e = e
+single_right t entries i x (variable_of kind d) e = e
+single_right t entries i x inner e = e
+single_right t entries i x nothing e = symbol_right t (has_symbol t x) x
 
-through_right : (t : List Instance) (row : Entries) (i : ℕ) (names : List (List ℕ)) → row_walk t row i names ≡ meaning t (walk (looked t) i names) → row_through t row i names ≡ meaning t (through t (looked t) i names)
-through_right t row i [] e = e
-through_right t row i (x ∷ []) e = single_right t row i x (local t i x) e
-through_right t row i (x ∷ y ∷ ys) e = e
+through_right : (t : List Instance) (entries : Entries) (i : ℕ) (names : List (List ℕ)) → entries_walk t entries i names ≡ meaning t (walk (looked t) i names) → entries_through t entries i names ≡ meaning t (through t (looked t) i names)
+through_right t entries i [] e = e
+through_right t entries i (x ∷ []) e = single_right t entries i x (local t i x) e
+through_right t entries i (x ∷ y ∷ ys) e = e
 
 either_right : (t : List Instance) (b : Bool) (n m : Named) (f g : Found) → n ≡ meaning t f → m ≡ meaning t g → (if b then n else m) ≡ meaning t (if b then f else g)
 either_right t true n m f g p q = p
 either_right t false n m f g p q = q
 
-names_right : (t : List Instance) (row : Entries) (ks : List Formula) → Settled t → Holds t row ks → (i : ℕ) (path : Path) → list_all (is_listed ks) (touched t (looked t) i path.names) ≡ true
-    → row_names t row i path ≡ meaning t (found_in t i path)
-names_right t row ks s r i path h =
-    let e = walk_right t row ks s r path.names i h in
-    either_right t path.from_self (row_walk t row i path.names) (row_through t row i path.names) (walk (looked t) i path.names) (through t (looked t) i path.names) e
-    (through_right t row i path.names e)
+names_right : (t : List Instance) (entries : Entries) (ks : List Formula) → Settled t → Holds t entries ks → (i : ℕ) (path : Path) → list_all (is_listed ks) (path_formulas t (looked t) i path.names) ≡ true
+    → entries_names t entries i path ≡ meaning t (found_in t i path)
+names_right t entries ks s r i path h =
+    let e = walk_right t entries ks s r path.names i h in
+    either_right t path.from_self (entries_walk t entries i path.names) (entries_through t entries i path.names) (walk (looked t) i path.names) (through t (looked t) i path.names) e
+    (through_right t entries i path.names e)
 
 -- ---- bodies
 
-paths_right : (t : List Instance) (row : Entries) (ks : List Formula) → Settled t → ((i : ℕ) (path : Path) → types_in true t i path ≡ meaning t (found_in t i path)) → Holds t row ks
-    → (j : ℕ) (qs : List Path) → list_all (is_listed ks) (flat_map (λ q. touched t (looked t) j q.names) qs) ≡ true → SameOn (row_names t row j) (types_in true t j) qs
-paths_right t row ks s types r j [] h = tt
-paths_right t row ks s types r j (q ∷ qs) h =
-    let more = flat_map (λ p. touched t (looked t) j p.names) qs in
-    let b = both_true (list_all (is_listed ks) (touched t (looked t) j q.names)) (list_all (is_listed ks) more) (sym (list_all-append (is_listed ks) (touched t (looked t) j q.names) more) ∙ h) in
-    (names_right t row ks s r j q b.0 ∙ sym (types j q), paths_right t row ks s types r j qs b.1)
+paths_right : (t : List Instance) (entries : Entries) (ks : List Formula) → Settled t → ((i : ℕ) (path : Path) → types_in true t i path ≡ meaning t (found_in t i path)) → Holds t entries ks
+    → (j : ℕ) (qs : List Path) → list_all (is_listed ks) (flat_map (λ q. path_formulas t (looked t) j q.names) qs) ≡ true → SameOn (entries_names t entries j) (types_in true t j) qs
+paths_right t entries ks s types r j [] h = tt
+paths_right t entries ks s types r j (q ∷ qs) h =
+    let more = flat_map (λ p. path_formulas t (looked t) j p.names) qs in
+    let b = both_true (list_all (is_listed ks) (path_formulas t (looked t) j q.names)) (list_all (is_listed ks) more) (sym (list_all-append (is_listed ks) (path_formulas t (looked t) j q.names) more) ∙ h) in
+    (names_right t entries ks s r j q b.0 ∙ sym (types j q), paths_right t entries ks s types r j qs b.1)
 
 any_same : (f g : Path → Named) (qs : List Path) → SameOn f g qs → list_any (λ q. (f q).reaches_input) qs ≡ list_any (λ q. (g q).reaches_input) qs
 any_same f g [] s = refl
@@ -150,11 +150,11 @@ any_same f g (q ∷ qs) s = ap (λ (n : Named). n.reaches_input || list_any (λ 
 abbrev body_is : Option ExprType → Bool → Named
 body_is t b = record { type = t; is_instance = false; reaches_input = b }
 
-bodies_same : (hang : TypesHangOnPaths) (t : List Instance) (row : Entries) (i : ℕ) (x : List ℕ) (j : ℕ) (e : Tree) → SameOn (row_names t row j) (types_in true t j) (paths_of e [])
-    → named_found true (row_names t row) (body_at 0 [] j e) ≡ meaning t (body_at i x j e)
-bodies_same hang t row i x j e s =
-    ap (λ (a : Typing). body_is a.type (list_any (λ q. (row_names t row j q).reaches_input) (paths_of e []))) (hang (row_names t row j) (types_in true t j) in_body e s)
-    ∙ ap (λ b. body_is (typing (types_in true t j) in_body e).type b) (any_same (row_names t row j) (types_in true t j) (paths_of e []) s)
+bodies_same : (hang : TypesHangOnPaths) (t : List Instance) (entries : Entries) (i : ℕ) (x : List ℕ) (j : ℕ) (e : Tree) → SameOn (entries_names t entries j) (types_in true t j) (paths_of e [])
+    → named_found true (entries_names t entries) (body_at 0 [] j e) ≡ meaning t (body_at i x j e)
+bodies_same hang t entries i x j e s =
+    ap (λ (a : Typing). body_is a.type (list_any (λ q. (entries_names t entries j q).reaches_input) (paths_of e []))) (hang (entries_names t entries j) (types_in true t j) in_body e s)
+    ∙ ap (λ b. body_is (typing (types_in true t j) in_body e).type b) (any_same (entries_names t entries j) (types_in true t j) (paths_of e []) s)
 
 -- ---- what is put is right
 
@@ -166,22 +166,22 @@ record Laws (t : List Instance) : Type 0 where
 laws : (t : List Instance) → Acyclic t → NamesSettle → TypesSettle → TypesHangOnPaths → Laws t
 laws t a n y h = record { settled = (n t a).1; types = y t a true; hang = h }
 
-put_right : (t : List Instance) (row : Entries) (ks : List Formula) → Laws t → Holds t row ks → (i : ℕ) (x : List ℕ) (l : Local) → list_all (is_listed ks) (referred t (looked t) l) ≡ true
-    → (n : Named) → put_for t row l ≡ Some n → n ≡ meaning t (landed t (looked t) i x l)
-put_right t row ks w r i x (alias j path) h n e = let f : row_names t row j path ≡ n = cc in sym f ∙ names_right t row ks w.settled r j path h
-put_right t row ks w r i x (formula j b) h n e =
-    let f : named_found true (row_names t row) (body_at 0 [] j b) ≡ n = cc in
-    sym f ∙ bodies_same w.hang t row i x j b (paths_right t row ks w.settled w.types r j (paths_of b []) h)
-put_right t row ks w r i x (variable_of kind d) h n e = cc
-put_right t row ks w r i x inner h n e = cc
-put_right t row ks w r i x nothing h n e = cc
+put_right : (t : List Instance) (entries : Entries) (ks : List Formula) → Laws t → Holds t entries ks → (i : ℕ) (x : List ℕ) (l : Local) → list_all (is_listed ks) (referred t (looked t) l) ≡ true
+    → (n : Named) → put_for t entries l ≡ Some n → n ≡ meaning t (landed t (looked t) i x l)
+put_right t entries ks w r i x (alias j path) h n e = let f : entries_names t entries j path ≡ n = cc in sym f ∙ names_right t entries ks w.settled r j path h
+put_right t entries ks w r i x (formula j b) h n e =
+    let f : named_found true (entries_names t entries) (body_at 0 [] j b) ≡ n = cc in
+    sym f ∙ bodies_same w.hang t entries i x j b (paths_right t entries ks w.settled w.types r j (paths_of b []) h)
+put_right t entries ks w r i x (variable_of kind d) h n e = cc
+put_right t entries ks w r i x inner h n e = cc
+put_right t entries ks w r i x nothing h n e = cc
 
-put_there : (t : List Instance) (row : Entries) (l : Local) → is_formula l ≡ true → is_some (put_for t row l) ≡ true
-put_there t row (alias j path) f = refl
-put_there t row (formula j e) f = refl
-put_there t row (variable_of kind d) f = absurd_bool f
-put_there t row inner f = absurd_bool f
-put_there t row nothing f = absurd_bool f
+put_there : (t : List Instance) (entries : Entries) (l : Local) → is_formula l ≡ true → is_some (put_for t entries l) ≡ true
+put_there t entries (alias j path) f = refl
+put_there t entries (formula j e) f = refl
+put_there t entries (variable_of kind d) f = absurd_bool f
+put_there t entries inner f = absurd_bool f
+put_there t entries nothing f = absurd_bool f
 
 pub variable_right : (t : List Instance) (i : ℕ) (x : List ℕ) (l : Local) (n : Named) → variable_put l ≡ Some n → n ≡ meaning t (landed t (looked t) i x l)
 variable_right t i x (alias j path) n e = cc
@@ -190,7 +190,7 @@ variable_right t i x (variable_of kind d) n e = let f : named_found true nameles
 variable_right t i x inner n e = cc
 variable_right t i x nothing n e = cc
 
--- ---- the row with what is put into it
+-- ---- the entries with what is put into them
 
 became_right : (m : Found → Named) (k : Formula) (o old : Option Named) (b : Bool) (n : Named) (f g : Found) → (b ≡ true → f ≡ g) → ((p : Named) → o ≡ Some p → p ≡ m f) → ((p : Named) → old ≡ Some p → p ≡ m g)
     → (if b then or_else o old else old) ≡ Some n → n ≡ m g
@@ -230,10 +230,13 @@ has_becomes t old new k ks o b h put m l f = by (is_listed ks m) refl
         let e : m ≡ k = same_is m k (last_true (formula_same m k) (sym (ap (λ c. c || (formula_same m k || false)) s) ∙ g)) in
         ap is_some (b m.0 m.1) ∙ some_put (formula_same k m) o (old m.0 m.1) (same_self k m e) (put (ap (λ (q : Formula). is_formula (local t q.0 q.1)) (sym e) ∙ f))
 
--- ---- the row's beginning, steps and end
+-- ---- their beginning, steps and end
 
-pub none_held : (t : List Instance) (row : Entries) → Right t row → Holds t row []
-none_held t row r = record { right = r; has = λ k h f. absurd_bool h }
+pub none_right : (t : List Instance) (entries : Entries) → ((i : ℕ) (x : List ℕ) → entries i x ≡ None) → Right t entries
+none_right t entries h i x n e = let no : None ≡ Some n = sym (h i x) ∙ e in cc
+
+pub none_held : (t : List Instance) (entries : Entries) → Right t entries → Holds t entries []
+none_held t entries r = record { right = r; has = λ k h f. absurd_bool h }
 
 pub one_more : (t : List Instance) (old new : Entries) (k : Formula) (ks : List Formula) → Acyclic t → NamesSettle → TypesSettle → TypesHangOnPaths → list_all (is_listed ks) (refers t k) ≡ true
     → Becomes old k (put_for t old (local t k.0 k.1)) new → Holds t old ks → Holds t new (ks ++ k ∷ [])
@@ -248,13 +251,13 @@ pub variable_more : (t : List Instance) (old new : Entries) (i : ℕ) (x : List 
 variable_more t old new i x a n b r =
     right_becomes t old new (i, x) (variable_put (local t i x)) b r (λ m e. variable_right t i x (local t i x) m e ∙ sym (ap (meaning t) ((n t a).1 i x)))
 
-touched_listed : (t : List Instance) (ks : List Formula) → ((k : Formula) → is_formula (local t k.0 k.1) ≡ true → is_listed ks k ≡ true) → (names : List (List ℕ)) (i : ℕ) → list_all (is_listed ks) (touched t (looked t) i names) ≡ true
-touched_listed t ks whole [] i = refl
-touched_listed t ks whole (x ∷ rest) i =
-    let more : List Formula = from_instance (looked t i x) (λ c. touched t (looked t) c rest) in
+path_formulas_listed : (t : List Instance) (ks : List Formula) → ((k : Formula) → is_formula (local t k.0 k.1) ≡ true → is_listed ks k ≡ true) → (names : List (List ℕ)) (i : ℕ) → list_all (is_listed ks) (path_formulas t (looked t) i names) ≡ true
+path_formulas_listed t ks whole [] i = refl
+path_formulas_listed t ks whole (x ∷ rest) i =
+    let more : List Formula = from_instance (looked t i x) (λ c. path_formulas t (looked t) c rest) in
     list_all-append (is_listed ks) (formula_here i x (local t i x)) more
     ∙ two_true (list_all (is_listed ks) (formula_here i x (local t i x))) (list_all (is_listed ks) more) (here (local t i x) (λ f. whole (i, x) f))
-    (inside (looked t i x) (λ c. touched_listed t ks whole rest c))
+    (inside (looked t i x) (λ c. path_formulas_listed t ks whole rest c))
   where
     here : (l : Local) → (is_formula l ≡ true → is_listed ks (i, x) ≡ true) → list_all (is_listed ks) (formula_here i x l) ≡ true
     here (alias j path) f = two_true (is_listed ks (i, x)) true (f refl) refl
@@ -263,7 +266,7 @@ touched_listed t ks whole (x ∷ rest) i =
     here inner f = refl
     here nothing f = refl
 
-    inside : (m : Found) → ((c : ℕ) → list_all (is_listed ks) (touched t (looked t) c rest) ≡ true) → list_all (is_listed ks) (from_instance m (λ c. touched t (looked t) c rest)) ≡ true
+    inside : (m : Found) → ((c : ℕ) → list_all (is_listed ks) (path_formulas t (looked t) c rest) ≡ true) → list_all (is_listed ks) (from_instance m (λ c. path_formulas t (looked t) c rest)) ≡ true
     inside (instance_at c) f = f c
     inside (variable_at y kind d) f = refl
     inside (body_at j y c e) f = refl
@@ -271,6 +274,6 @@ touched_listed t ks whole (x ∷ rest) i =
     inside cyclic f = refl
     inside none f = refl
 
-pub all_held : (t : List Instance) (row : Entries) (order : List ℕ) → IsFormulaOrder t order → NamesSettle → TypesSettle → OrderIsWhole → Holds t row (map (numbered t) order) → HasEach t row
-all_held t row order o n y whole r i path =
-    names_right t row (map (numbered t) order) (n t o.acyclic).1 r i path (touched_listed t (map (numbered t) order) (whole t order o) path.names i) ∙ sym (y t o.acyclic true i path)
+pub all_held : (t : List Instance) (entries : Entries) (order : List ℕ) → IsFormulaOrder t order → NamesSettle → TypesSettle → OrderIsWhole → Holds t entries (map (numbered t) order) → HasEach t entries
+all_held t entries order o n y whole r i path =
+    names_right t entries (map (numbered t) order) (n t o.acyclic).1 r i path (path_formulas_listed t (map (numbered t) order) (whole t order o) path.names i) ∙ sym (y t o.acyclic true i path)

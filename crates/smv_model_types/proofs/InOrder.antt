@@ -12,7 +12,7 @@ use Rattle.smv_meaning.specs.Settled.{NamesSettle, TypesSettle}
 use Rattle.smv_meaning.specs.Formulas.{Placed, placed_formulas, formulas_of, references_of, reference_graph, IsFormulaOrder}
 use Rattle.smv_meaning.specs.Orders.{numbered, is_listed, ReferencesStandBefore, TypesHangOnPaths}
 use Rattle.smv_references.specs.View.{formula_plain, key_of}
-use Rattle.smv_model_types.specs.Row.{Entries, put_for, Becomes}
+use Rattle.smv_model_types.specs.Entries.{Entries, put_for, Becomes}
 use Rattle.smv_model_types.proofs.Filling.{both_true, Holds, one_more}
 
 each_low : (n : ℕ) (xs : List ℕ) (k d : ℕ) → list_all (λ x. nat_lt x n) xs ≡ true → k < length xs → slice_index_or xs k d < n
@@ -39,7 +39,7 @@ key_is t fs n f e l is =
 parted : (order : List ℕ) (k n : ℕ) → k < length order → n ≡ slice_index_or order k n → order ≡ take k order ++ n ∷ drop (k + 1) order
 parted order k n l is = sym (take-append-drop k order) ∙ ap (λ xs. take k order ++ xs) (drop_more order k n l ∙ ap (λ m. m ∷ drop (k + 1) order) (sym is))
 
--- one more of the order is put into the row
+-- one more of the order is put into the entries
 pub next_put : (t : List Instance) (fs : List Kept) (order : List ℕ) (k n : ℕ) (f : Kept) (old new : Entries) → map formula_plain fs ≡ placed_formulas t → IsFormulaOrder t order → NamesSettle → TypesSettle → TypesHangOnPaths → ReferencesStandBefore
     → k < length order → n ≡ slice_index_or order k n → f ≡ slice_index_or fs n f → Becomes old (key_of f) (put_for t old (local t f.instance f.name.now)) new
     → Holds t old (map (numbered t) (take k order)) → Holds t new (map (numbered t) (take (k + 1) order))

@@ -1,2 +1,2 @@
-pub mod Row
+pub mod Entries
 pub mod Outcome

@@ -13,7 +13,7 @@ use Rattle.smv_intervals.specs.View.{seen}
 use Rattle.smv_names.specs.Outcome.{IsBad}
 use Rattle.smv_meaning.specs.Instances.{Instance}
 use Rattle.smv_model_types.specs.declared.types.Types.{Types}
-use Rattle.smv_model_types.specs.Row.{row_seen, HasEach}
+use Rattle.smv_model_types.specs.Entries.{entries_seen, HasEach}
 
 -- the checks of a declared type hold and its type is this one, or the first that fails is of this kind
 abbrev pub IsDeclared : Result (Option Ty) Kind → PlainDomain → Type 0
@@ -22,7 +22,7 @@ IsDeclared (Err kind) d = (p : Place) → first_failing (domain_checks p d) ≡ 
 
 -- what each path is to the types
 abbrev pub AreTypesOf : List Instance → Types → Type 0
-AreTypesOf t types = HasEach t (row_seen types.row)
+AreTypesOf t types = HasEach t (entries_seen types.entries)
 
 -- the checks of an expression hold and its type is this one, or the first that fails refuses
 abbrev pub Finds : Result (Option Ty) End → Typing → Type 0

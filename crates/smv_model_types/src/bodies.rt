@@ -10,12 +10,11 @@ ghost use Rattle.smv_instances.specs.View.{instance_plain};
 ghost use Rattle.smv_references.specs.View.{formula_plain, path_seen, key_of};
 ghost use Rattle.smv_intervals.specs.View.{seen};
 ghost use Rattle.smv_types.specs.View.{named_seen};
-ghost use Rattle.smv_model_types.specs.Row.{row_seen, row_names, put_for, Becomes, HasEach};
+ghost use Rattle.smv_model_types.specs.Entries.{entries_seen, entries_names, put_for, Becomes, HasEach};
 
-use crate::names::{Reader, path_named};
-use crate::row::{Row, keep};
+use crate::names::{Entries, Reader, path_named};
 use crate::variables::variables_of;
-use smv_instances::{Known, Table};
+use smv_instances::{Known, Table, put_in};
 use smv_intervals::Ty;
 use smv_model_laws::{
     names_settle, order_is_whole, references_stand_before, refused_have_no_type,
@@ -28,11 +27,11 @@ use std::alloc::Global;
 use text_core::{List, NoMemory};
 
 // Does one of the paths reach an input?
-fn one_reaches<'a>(table: &Table<'a>, row: &Row<'a>, j: usize, paths: &[&Path]) -> bool
-    ensures { result ≡ list_any (λ q. (row_names (map instance_plain table.now) (row_seen row.now) j q).reaches_input) (map path_seen paths.now) }
+fn one_reaches<'a>(table: &Table<'a>, entries: &Entries<'a>, j: usize, paths: &[&Path]) -> bool
+    ensures { result ≡ list_any (λ q. (entries_names (map instance_plain table.now) (entries_seen entries.now) j q).reaches_input) (map path_seen paths.now) }
 {
     for path in paths {
-        if path_named(table, row, j, path).reaches_input {
+        if path_named(table, entries, j, path).reaches_input {
             return true;
         }
     }
@@ -44,16 +43,16 @@ fn one_reaches<'a>(table: &Table<'a>, row: &Row<'a>, j: usize, paths: &[&Path]) 
 fn body_type<'a>(
     alloc: Global,
     table: &Table<'a>,
-    row: &Row<'a>,
+    entries: &Entries<'a>,
     j: usize,
     e: &Expr,
 ) -> Result<Option<Ty>, NoMemory>
-    ensures { IfOk result (λ o. option_map seen o ≡ (typing (row_names (map instance_plain table.now) (row_seen row.now) j) in_body (plain e.now)).type) }
+    ensures { IfOk result (λ o. option_map seen o ≡ (typing (entries_names (map instance_plain table.now) (entries_seen entries.now) j) in_body (plain e.now)).type) }
 {
     refused_have_no_type();
     let names = Reader {
         table,
-        row,
+        entries,
         instance: j,
     };
     match type_of(alloc, &names, e, Position::Define) {
@@ -67,38 +66,38 @@ fn body_type<'a>(
 fn body_named<'a>(
     alloc: Global,
     table: &Table<'a>,
-    row: &Row<'a>,
+    entries: &Entries<'a>,
     j: usize,
     e: &Expr,
 ) -> Result<Named, NoMemory>
-    ensures { IfOk result (λ n. named_seen n ≡ named_found true (row_names (map instance_plain table.now) (row_seen row.now)) (body_at 0 [] j (plain e.now))) }
+    ensures { IfOk result (λ n. named_seen n ≡ named_found true (entries_names (map instance_plain table.now) (entries_seen entries.now)) (body_at 0 [] j (plain e.now))) }
 {
-    let ty = body_type(alloc, table, row, j, e)?;
+    let ty = body_type(alloc, table, entries, j, e)?;
     let paths = paths_in(alloc, e)?;
     Ok(Named {
         ty,
         is_instance: false,
-        reaches_input: one_reaches(table, row, j, paths.as_slice()),
+        reaches_input: one_reaches(table, entries, j, paths.as_slice()),
     })
 }
 
-// Gives the row what a definition or an actual is.
+// Gives the entries what a definition or an actual is.
 fn put_formula<'a>(
     alloc: Global,
     table: &Table<'a>,
-    row: &mut Row<'a>,
+    entries: &mut Entries<'a>,
     formula: &Formula<'a>,
 ) -> Result<(), NoMemory>
-    ensures { OnOk result (Becomes (row_seen row.old) (key_of formula.now) (put_for (map instance_plain table.now) (row_seen row.old) (local (map instance_plain table.now) formula.now.instance formula.now.name.now)) (row_seen row.new)) }
+    ensures { OnOk result (Becomes (entries_seen entries.old) (key_of formula.now) (put_for (map instance_plain table.now) (entries_seen entries.old) (local (map instance_plain table.now) formula.now.instance formula.now.name.now)) (entries_seen entries.new)) }
 {
     match table.local(formula.instance, formula.name) {
         Known::Alias(j, path) => {
-            let named = path_named(table, row, j, path);
-            keep(row, formula.instance, formula.name, named)
+            let named = path_named(table, entries, j, path);
+            put_in(entries, formula.instance, formula.name, named)
         }
         Known::Formula(j, e) => {
-            let named = body_named(alloc, table, row, j, e)?;
-            keep(row, formula.instance, formula.name, named)
+            let named = body_named(alloc, table, entries, j, e)?;
+            put_in(entries, formula.instance, formula.name, named)
         }
         Known::Variable(_, _) => Ok(()),
         Known::Inner => Ok(()),
@@ -114,25 +113,25 @@ fn formula_at<'f, 'a>(formulas: &'f [Formula<'a>], n: usize) -> &'f Formula<'a>
 }
 
 /// What each variable, definition and actual of the model is.
-pub(crate) fn row_of<'a>(
+pub(crate) fn entries_of<'a>(
     alloc: Global,
     table: &Table<'a>,
     formulas: &[Formula<'a>],
     order: &List<usize>,
-) -> Result<Row<'a>, NoMemory>
+) -> Result<Entries<'a>, NoMemory>
     requires formulas { map formula_plain formulas.now ≡ placed_formulas (map instance_plain table.now) }
     requires order { IsFormulaOrder (map instance_plain table.now) order.now }
-    ensures { IfOk result (λ row. HasEach (map instance_plain table.now) (row_seen row)) }
+    ensures { IfOk result (λ entries. HasEach (map instance_plain table.now) (entries_seen entries)) }
 {
     names_settle();
     types_settle();
     types_hang_on_paths();
     references_stand_before();
     order_is_whole();
-    let mut row = variables_of(alloc, table)?;
+    let mut entries = variables_of(alloc, table)?;
     for k in 0..order.len() {
         let formula = formula_at(formulas, *order.at(k));
-        put_formula(alloc, table, &mut row, formula)?;
+        put_formula(alloc, table, &mut entries, formula)?;
     }
-    Ok(row)
+    Ok(entries)
 }

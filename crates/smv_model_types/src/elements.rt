@@ -140,6 +140,6 @@ pub(crate) fn instance_checked<'a>(
     ensures { Settles result (type_checks (names_in (map instance_plain table.now)) i (instance_plain at.now)) }
 {
     actuals_checked(alloc, table, types, at.parent.unwrap_or(0), at.actuals)?;
-    elements_checked(alloc, table, types, i, &at.plan.elements)?;
+    elements_checked(alloc, table, types, i, &at.module.elements)?;
     Ok(())
 }

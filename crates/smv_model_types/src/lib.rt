@@ -6,7 +6,6 @@ mod checks;
 mod domains;
 mod elements;
 mod names;
-mod row;
 mod types;
 mod variables;
 

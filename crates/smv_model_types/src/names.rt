@@ -1,20 +1,21 @@
-// What paths are to the types, as far as the row has what they go through.
-ghost use Rattle.std.specs.Prelude.{◌≡◌, List, ℕ, Bool, true, map};
-ghost use Rattle.smv_meaning.specs.Instances.{Instance};
+// What paths are to the types, as far as the entries have what they go through.
+ghost use Rattle.std.specs.Prelude.{◌≡◌, true, map};
 ghost use Rattle.smv_meaning.specs.Names.{local, look, steps_of};
 ghost use Rattle.smv_meaning.specs.Naming.{unnamed};
 ghost use Rattle.smv_meaning.specs.Formulas.{instance_within};
 ghost use Rattle.smv_instances.specs.View.{instance_plain};
 ghost use Rattle.smv_types.specs.View.{named_seen};
-ghost use Rattle.smv_model_types.specs.Row.{row_seen, entry_or, named_instance, named_symbol, row_walk, row_names};
+ghost use Rattle.smv_model_types.specs.Entries.{entries_seen, entry_or, named_instance, named_symbol, entries_walk, entries_names};
 
 use crate::domains::variable_named;
-use crate::row::{Row, kept};
-use smv_instances::{Known, Table, Target};
+use smv_instances::{InstanceMap, Known, Table, Target, value_in};
 use smv_intervals::Ty;
 use smv_text::Path;
 use smv_types::{Named, Scope};
 use text_core::Names;
+
+/// What variables, definitions and actuals are to the types, by their instances and names.
+pub(crate) type Entries<'a> = InstanceMap<'a, Named>;
 
 fn unnamed() -> Named
     ensures { named_seen result ≡ unnamed }
@@ -47,10 +48,10 @@ fn symbol() -> Named
 }
 
 // What a name is that leads to no instance.
-fn entry<'a>(table: &Table<'a>, row: &Row<'a>, i: usize, x: &[u8]) -> Named
-    ensures { named_seen result ≡ entry_or (local (map instance_plain table.now) i x.now) (row_seen row.now i x.now) }
+fn entry<'a>(table: &Table<'a>, entries: &Entries<'a>, i: usize, x: &[u8]) -> Named
+    ensures { named_seen result ≡ entry_or (local (map instance_plain table.now) i x.now) (entries_seen entries.now i x.now) }
 {
-    match kept(row, i, x) {
+    match value_in(entries, i, x) {
         Some(named) => named,
         None => match table.local(i, x) {
             Known::Alias(_, _) => unnamed(),
@@ -78,8 +79,8 @@ fn inner<'a>(table: &Table<'a>, i: usize, x: &[u8]) -> Option<usize>
 
 // Steps from name to name.
 #[tactic(auto, using(crate::proofs::Lists::front_is, crate::proofs::Lists::end_is))]
-fn walked<'a>(table: &Table<'a>, row: &Row<'a>, i: usize, names: &Names) -> Named
-    ensures { named_seen result ≡ row_walk (map instance_plain table.now) (row_seen row.now) i names.now }
+fn walked<'a>(table: &Table<'a>, entries: &Entries<'a>, i: usize, names: &Names) -> Named
+    ensures { named_seen result ≡ entries_walk (map instance_plain table.now) (entries_seen entries.now) i names.now }
 {
     let mut at = i;
     for k in 0..names.len() {
@@ -87,7 +88,7 @@ fn walked<'a>(table: &Table<'a>, row: &Row<'a>, i: usize, names: &Names) -> Name
         match inner(table, at, x) {
             Some(c) => at = c,
             None => return if k + 1 == names.len() {
-                entry(table, row, at, x)
+                entry(table, entries, at, x)
             } else {
                 unnamed()
             },
@@ -96,10 +97,15 @@ fn walked<'a>(table: &Table<'a>, row: &Row<'a>, i: usize, names: &Names) -> Name
     instance()
 }
 
-/// What a path is, by the row.
+/// What a path is, by the entries.
 #[tactic(auto, using(crate::proofs::Lists::front_is, crate::proofs::Lists::end_is))]
-pub(crate) fn path_named<'a>(table: &Table<'a>, row: &Row<'a>, i: usize, path: &Path) -> Named
-    ensures { named_seen result ≡ row_names (map instance_plain table.now) (row_seen row.now) i path.now }
+pub(crate) fn path_named<'a>(
+    table: &Table<'a>,
+    entries: &Entries<'a>,
+    i: usize,
+    path: &Path,
+) -> Named
+    ensures { named_seen result ≡ entries_names (map instance_plain table.now) (entries_seen entries.now) i path.now }
 {
     if !path.from_self && path.names.len() == 1 {
         let x = path.names.at(0).bytes();
@@ -111,27 +117,27 @@ pub(crate) fn path_named<'a>(table: &Table<'a>, row: &Row<'a>, i: usize, path: &
             };
         }
     }
-    walked(table, row, i, &path.names)
+    walked(table, entries, i, &path.names)
 }
 
-/// The names of an instance, by the row.
+/// The names of an instance, by the entries.
 #[derive(Drop)]
 pub(crate) struct Reader<'s, 'a> {
     pub(crate) table: &'s Table<'a>,
-    pub(crate) row: &'s Row<'a>,
+    pub(crate) entries: &'s Entries<'a>,
     pub(crate) instance: usize,
 }
 
 impl<'s, 'a> Scope for Reader<'s, 'a> {
     ghost use Rattle.std.specs.Prelude.{true, map};
     ghost use Rattle.smv_instances.specs.View.{instance_plain};
-    ghost use Rattle.smv_model_types.specs.Row.{row_seen, row_names};
+    ghost use Rattle.smv_model_types.specs.Entries.{entries_seen, entries_names};
 
-    ghost names = { λ s. row_names (map instance_plain s.table.now) (row_seen s.row.now) s.instance };
+    ghost names = { λ s. entries_names (map instance_plain s.table.now) (entries_seen s.entries.now) s.instance };
 
     ghost knows = { λ s path. true };
 
     fn named(&self, path: &Path) -> Named {
-        path_named(self.table, self.row, self.instance, path)
+        path_named(self.table, self.entries, self.instance, path)
     }
 }

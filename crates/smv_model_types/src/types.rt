@@ -11,10 +11,9 @@ ghost use Rattle.smv_types.specs.View.{named_seen, position_seen};
 ghost use Rattle.smv_names.specs.Outcome.{Settles};
 ghost use Rattle.smv_model_types.specs.Outcome.{AreTypesOf, Finds};
 
-use crate::bodies::row_of;
+use crate::bodies::entries_of;
 use crate::elements::instance_checked;
-use crate::names::{Reader, path_named};
-use crate::row::Row;
+use crate::names::{Entries, Reader, path_named};
 use smv_instances::Table;
 use smv_intervals::Ty;
 use smv_model_laws::types_hang_on_paths;
@@ -28,7 +27,7 @@ use text_core::{List, NoMemory};
 /// The types of a model's variables, definitions and actuals.
 #[derive(Drop)]
 pub struct Types<'a> {
-    row: Row<'a>,
+    entries: Entries<'a>,
 }
 
 impl<'a> Types<'a> {
@@ -42,8 +41,8 @@ impl<'a> Types<'a> {
         requires order { IsFormulaOrder (map instance_plain table.now) order.now }
         ensures { IfOk result (λ t. AreTypesOf (map instance_plain table.now) t) }
     {
-        let row = row_of(alloc, table, formulas, order)?;
-        Ok(Types { row })
+        let entries = entries_of(alloc, table, formulas, order)?;
+        Ok(Types { entries })
     }
 
     /// What a path is in the numbered instance: its type, where it has one, whether it is an instance, and whether it reaches an
@@ -52,7 +51,7 @@ impl<'a> Types<'a> {
         requires { AreTypesOf (map instance_plain table.now) self.now }
         ensures { named_seen result ≡ types_in true (map instance_plain table.now) i path.now }
     {
-        path_named(table, &self.row, i, path)
+        path_named(table, &self.entries, i, path)
     }
 
     /// The checks of an expression that stands in the numbered instance, and its type: none where it has none.
@@ -71,7 +70,7 @@ impl<'a> Types<'a> {
         types_hang_on_paths();
         let names = Reader {
             table,
-            row: &self.row,
+            entries: &self.entries,
             instance: i,
         };
         type_of(alloc, &names, e, position)

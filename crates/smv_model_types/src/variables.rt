@@ -1,29 +1,28 @@
 // The variables of a model, each typed once.
-ghost use Rattle.std.specs.Prelude.{◌≡◌, map, IfOk, OnOk};
+ghost use Rattle.std.specs.Prelude.{map, IfOk, OnOk};
 ghost use Rattle.smv_meaning.specs.Names.{local};
 ghost use Rattle.smv_meaning.specs.Settled.{Acyclic};
 ghost use Rattle.smv_instances.specs.View.{instance_plain};
-ghost use Rattle.smv_model_types.specs.Row.{row_seen, variable_put, Becomes, Right};
+ghost use Rattle.smv_model_types.specs.Entries.{entries_seen, variable_put, Becomes, Right};
 
 use crate::domains::variable_named;
-use crate::row::{Row, keep};
-use smv_instances::{Known, Table};
+use crate::names::Entries;
+use smv_instances::{Known, Table, nothing_in, put_in};
 use smv_model_laws::names_settle;
 use smv_text::{Element, Elements, Items};
 use std::alloc::Global;
-use std::collections::HashMap;
 use text_core::NoMemory;
 
 fn put_variable<'a>(
     table: &Table<'a>,
-    row: &mut Row<'a>,
+    entries: &mut Entries<'a>,
     i: usize,
     x: &'a [u8],
 ) -> Result<(), NoMemory>
-    ensures { OnOk result (Becomes (row_seen row.old) (i, x.now) (variable_put (local (map instance_plain table.now) i x.now)) (row_seen row.new)) }
+    ensures { OnOk result (Becomes (entries_seen entries.old) (i, x.now) (variable_put (local (map instance_plain table.now) i x.now)) (entries_seen entries.new)) }
 {
     match table.local(i, x) {
-        Known::Variable(kind, domain) => keep(row, i, x, variable_named(kind, domain)),
+        Known::Variable(kind, domain) => put_in(entries, i, x, variable_named(kind, domain)),
         Known::Alias(_, _) => Ok(()),
         Known::Formula(_, _) => Ok(()),
         Known::Inner => Ok(()),
@@ -33,33 +32,33 @@ fn put_variable<'a>(
 
 fn put_items<'a>(
     table: &Table<'a>,
-    row: &mut Row<'a>,
+    entries: &mut Entries<'a>,
     i: usize,
     items: &'a Items,
 ) -> Result<(), NoMemory>
     requires acyclic { Acyclic (map instance_plain table.now) }
-    requires right { Right (map instance_plain table.now) (row_seen row.old) }
-    ensures { OnOk result (Right (map instance_plain table.now) (row_seen row.new)) }
+    requires right { Right (map instance_plain table.now) (entries_seen entries.old) }
+    ensures { OnOk result (Right (map instance_plain table.now) (entries_seen entries.new)) }
 {
     names_settle();
     for item in items {
-        put_variable(table, row, i, item.name.bytes())?;
+        put_variable(table, entries, i, item.name.bytes())?;
     }
     Ok(())
 }
 
 fn put_element<'a>(
     table: &Table<'a>,
-    row: &mut Row<'a>,
+    entries: &mut Entries<'a>,
     i: usize,
     element: &'a Element,
 ) -> Result<(), NoMemory>
     requires acyclic { Acyclic (map instance_plain table.now) }
-    requires right { Right (map instance_plain table.now) (row_seen row.old) }
-    ensures { OnOk result (Right (map instance_plain table.now) (row_seen row.new)) }
+    requires right { Right (map instance_plain table.now) (entries_seen entries.old) }
+    ensures { OnOk result (Right (map instance_plain table.now) (entries_seen entries.new)) }
 {
     match element {
-        Element::Vars(_, items) => put_items(table, row, i, items),
+        Element::Vars(_, items) => put_items(table, entries, i, items),
         Element::Defines(_) => Ok(()),
         Element::Constants(_) => Ok(()),
         Element::Assigns(_) => Ok(()),
@@ -72,28 +71,28 @@ fn put_element<'a>(
 
 fn put_elements<'a>(
     table: &Table<'a>,
-    row: &mut Row<'a>,
+    entries: &mut Entries<'a>,
     i: usize,
     elements: &'a Elements,
 ) -> Result<(), NoMemory>
     requires acyclic { Acyclic (map instance_plain table.now) }
-    requires right { Right (map instance_plain table.now) (row_seen row.old) }
-    ensures { OnOk result (Right (map instance_plain table.now) (row_seen row.new)) }
+    requires right { Right (map instance_plain table.now) (entries_seen entries.old) }
+    ensures { OnOk result (Right (map instance_plain table.now) (entries_seen entries.new)) }
 {
     for element in elements {
-        put_element(table, row, i, element)?;
+        put_element(table, entries, i, element)?;
     }
     Ok(())
 }
 
-/// A row of the variables of all instances.
-pub(crate) fn variables_of<'a>(alloc: Global, table: &Table<'a>) -> Result<Row<'a>, NoMemory>
+/// The entries of the variables of all instances.
+pub(crate) fn variables_of<'a>(alloc: Global, table: &Table<'a>) -> Result<Entries<'a>, NoMemory>
     requires acyclic { Acyclic (map instance_plain table.now) }
-    ensures { IfOk result (λ row. Right (map instance_plain table.now) (row_seen row)) }
+    ensures { IfOk result (λ entries. Right (map instance_plain table.now) (entries_seen entries)) }
 {
-    let mut row = HashMap::new(alloc);
+    let mut entries = nothing_in(alloc);
     for i in 0..table.len() {
-        put_elements(table, &mut row, i, &table.at(i).plan.elements)?;
+        put_elements(table, &mut entries, i, &table.at(i).module.elements)?;
     }
-    Ok(row)
+    Ok(entries)
 }

@@ -12,7 +12,7 @@ use Rattle.smv_instances.specs.View.{instance_plain}
 use Rattle.std.proofs.Common.{not}
 use Rattle.smv_meaning.specs.Names.{has_symbol}
 
-pub main_first : (ts : List PartOf) (n : ℕ) (p : PartOf) (ds : List Declared) (o : Option Refusal) → n ≡ length ts → 0 < n → p ≡ slice_index_or ts 0 p → ds ≡ declared_in (instance_plain p).plan
+pub main_first : (ts : List PartOf) (n : ℕ) (p : PartOf) (ds : List Declared) (o : Option Refusal) → n ≡ length ts → 0 < n → p ≡ slice_index_or ts 0 p → ds ≡ declared_in (instance_plain p).module
     → o ≡ first_failing (map (λ d. check 10 d.place (not (has_symbol (map instance_plain ts) d.name))) ds)
     → o ≡ first_failing (symbol_checks (map instance_plain ts) (slice_get (map instance_plain ts) 0))
 main_first ts n p ds o e h is d k =

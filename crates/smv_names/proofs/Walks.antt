@@ -19,7 +19,7 @@ abbrev pub Matches : List Instance → ℕ → List Instance → List Visit → 
 Matches all i [] [] = Unit {0}
 Matches all i [] (v ∷ vs) = ⊥
 Matches all i (at ∷ t) [] = ⊥
-Matches all i (at ∷ t) (v ∷ vs) = (at.plan ≡ v.plan) × (at.path ≡ v.path) × (modules_above (length all) all (Some i) ≡ v.above) × Matches all (i + 1) t vs
+Matches all i (at ∷ t) (v ∷ vs) = (at.module ≡ v.module) × (at.path ≡ v.path) × (modules_above (length all) all (Some i) ≡ v.above) × Matches all (i + 1) t vs
 
 matches_append : (all : List Instance) (i j : ℕ) (s t : List Instance) (vs ws : List Visit) → j ≡ i + length s → Matches all i s vs → Matches all j t ws → Matches all i (s ++ t) (vs ++ ws)
 matches_append all i j [] t [] ws e h k = subst (λ n. Matches all n t ws) (omega (arith, e)) k
@@ -32,12 +32,12 @@ matches_checks ms all i met [] [] h = refl
 matches_checks ms all i met [] (v ∷ vs) h = absurd h
 matches_checks ms all i met (at ∷ t) [] h = absurd h
 matches_checks ms all i met (at ∷ t) (v ∷ vs) h =
-    let e : declared_checks ms (modules_above (length all) all (Some i)) at.path [] met (declared_in at.plan) ≡ declared_checks ms v.above v.path [] met (declared_in v.plan) =
-    ap (λ a. declared_checks ms a at.path [] met (declared_in at.plan)) h.2 ∙ ap (λ p. declared_checks ms v.above p [] met (declared_in at.plan)) h.1
+    let e : declared_checks ms (modules_above (length all) all (Some i)) at.path [] met (declared_in at.module) ≡ declared_checks ms v.above v.path [] met (declared_in v.module) =
+    ap (λ a. declared_checks ms a at.path [] met (declared_in at.module)) h.2 ∙ ap (λ p. declared_checks ms v.above p [] met (declared_in at.module)) h.1
     ∙ ap (λ m. declared_checks ms v.above v.path [] met (declared_in m)) h.0 in
-    let f = matches_checks ms all (i + 1) (counted_all met (declared_in at.plan)) t vs h.3 in
-    ap (λ cs. cs ++ declaration_checks ms all (i + 1) (counted_all met (declared_in at.plan)) t) e
-    ∙ ap (λ cs. declared_checks ms v.above v.path [] met (declared_in v.plan) ++ cs) (f ∙ ap (λ m. visit_checks ms (counted_all met (declared_in m)) vs) h.0)
+    let f = matches_checks ms all (i + 1) (counted_all met (declared_in at.module)) t vs h.3 in
+    ap (λ cs. cs ++ declaration_checks ms all (i + 1) (counted_all met (declared_in at.module)) t) e
+    ∙ ap (λ cs. declared_checks ms v.above v.path [] met (declared_in v.module) ++ cs) (f ∙ ap (λ m. visit_checks ms (counted_all met (declared_in m)) vs) h.0)
 
 -- the modules above an instance, however many steps there are beyond these
 abbrev pub AreAbove : List Instance → Option ℕ → List (List ℕ) → Type 0
@@ -68,18 +68,18 @@ stands : (t new more all : List Instance) (at : Instance) → all ≡ (t ++ at �
 stands [] new more all at e = ap (λ l. slice_get l 0) e
 stands (x ∷ t) new more all at e = ap (λ l. slice_get l (suc (length t))) e ∙ stands t new more ((t ++ at ∷ []) ++ more) at refl
 
-unroll : (n : ℕ) (all : List Instance) (i : ℕ) (at : Instance) → 0 < n → slice_get all i ≡ Some at → modules_above n all (Some i) ≡ at.plan.name ∷ modules_above (n - 1) all at.parent
+unroll : (n : ℕ) (all : List Instance) (i : ℕ) (at : Instance) → 0 < n → slice_get all i ≡ Some at → modules_above n all (Some i) ≡ at.module.name ∷ modules_above (n - 1) all at.parent
 unroll zero all i at h e = absurd (omega (arith, h))
-unroll (suc n) all i at h e = ap (module_and_above (modules_above n all)) e ∙ ap (λ m. at.plan.name ∷ modules_above m all at.parent) (omega arith)
+unroll (suc n) all i at h e = ap (module_and_above (modules_above n all)) e ∙ ap (λ m. at.module.name ∷ modules_above m all at.parent) (omega arith)
 
-above_child : (t more all : List Instance) (at : Instance) (above : List (List ℕ)) → all ≡ (t ++ at ∷ []) ++ more → AreAbove all at.parent above → AreAbove all (Some (length t)) (at.plan.name ∷ above)
+above_child : (t more all : List Instance) (at : Instance) (above : List (List ℕ)) → all ≡ (t ++ at ∷ []) ++ more → AreAbove all at.parent above → AreAbove all (Some (length t)) (at.module.name ∷ above)
 above_child t more all at above e h n l =
-    unroll n all (length t) at (omega (arith, l)) (stands t [] more all at e) ∙ ap (λ a. at.plan.name ∷ a) (h (n - 1) (omega (arith, l)))
+    unroll n all (length t) at (omega (arith, l)) (stands t [] more all at e) ∙ ap (λ a. at.module.name ∷ a) (h (n - 1) (omega (arith, l)))
 
 -- ---- an instance with all below it, given that for fewer levels
 
 abbrev pub Below : ℕ → List PlainModule → Type 0
-Below n ms = (at : Instance) (t : List Instance) (above : List (List ℕ)) → length above ≤ length t → Grows above at.parent t (grow n ms at t) (visits n ms above at.path at.plan)
+Below n ms = (at : Instance) (t : List Instance) (above : List (List ℕ)) → length above ≤ length t → Grows above at.parent t (grow n ms at t) (visits n ms above at.path at.module)
 
 domain_grows : (n : ℕ) (ms : List PlainModule) → Below n ms → (i : ℕ) (path x : List ℕ) (above : List (List ℕ)) (d : PlainDomain) (t : List Instance) → length above ≤ length t
     → Grows above (Some i) t (with_child (grow n ms) (child_in ms i path x d) t) (domain_visits (visits n ms above) ms (dotted path x) d)
@@ -87,7 +87,7 @@ domain_grows n ms b i path x above (instance m actuals) t h = of_module (module_
   where
     of_module : (o : Option PlainModule) → Grows above (Some i) t (with_child (grow n ms) (placed i path x actuals o) t) (placed_visits (visits n ms above) (dotted path x) o)
     of_module None = stays above (Some i) t
-    of_module (Some plan) = b (record { parent = Some i; own = x; path = dotted path x; plan = plan; actuals = actuals }) t above h
+    of_module (Some m) = b (record { parent = Some i; name = x; path = dotted path x; «module» = m; actuals = actuals }) t above h
 domain_grows n ms b i path x above d t h = stays above (Some i) t
 
 items_grow : (n : ℕ) (ms : List PlainModule) → Below n ms → (i : ℕ) (path : List ℕ) (above : List (List ℕ)) (items : List PlainItem) (t : List Instance) → length above ≤ length t
@@ -138,13 +138,13 @@ grows zero ms at t above h = stays above at.parent t
 grows (suc n) ms at t above h =
     let i = length t in
     let u = t ++ at ∷ [] in
-    let g = grow_elements (grow n ms) ms i at.path at.plan.elements u in
-    let own = at.plan.name ∷ above in
+    let g = grow_elements (grow n ms) ms i at.path at.module.elements u in
+    let own = at.module.name ∷ above in
     let f = visits n ms own in
-    let qs : List Declared = map (λ (q : Parameter). record { name = q.name; place = q.place; item = None }) at.plan.parameters in
-    let rest = elements_grow n ms (grows n ms) i at.path own at.plan.elements u (omega (arith, h, length-append t (at ∷ []))) in
-    let e : declared_visits f ms at.path (flat_map element_declares at.plan.elements) ≡ declared_visits f ms at.path (declared_in at.plan) =
-    sym (visits_append f ms at.path qs (flat_map element_declares at.plan.elements) ∙ ap (λ l. l ++ declared_visits f ms at.path (flat_map element_declares at.plan.elements)) (no_parameters f ms at.path at.plan.parameters)) in (
+    let qs : List Declared = map (λ (q : Parameter). record { name = q.name; place = q.place; item = None }) at.module.parameters in
+    let rest = elements_grow n ms (grows n ms) i at.path own at.module.elements u (omega (arith, h, length-append t (at ∷ []))) in
+    let e : declared_visits f ms at.path (flat_map element_declares at.module.elements) ≡ declared_visits f ms at.path (declared_in at.module) =
+    sym (visits_append f ms at.path qs (flat_map element_declares at.module.elements) ∙ ap (λ l. l ++ declared_visits f ms at.path (flat_map element_declares at.module.elements)) (no_parameters f ms at.path at.module.parameters)) in (
       at ∷ rest.0,
       rest.1 ∙ append_assoc t (at ∷ []) rest.0,
       λ all more s a.
@@ -153,7 +153,7 @@ grows (suc n) ms at t above h =
             refl,
             refl,
             c (length all) (omega (arith, h, ap length p, length-append u (rest.0 ++ more), length-append t (at ∷ []))),
-            subst (λ j. Matches all j rest.0 (declared_visits f ms at.path (declared_in at.plan))) (length-append t (at ∷ []))
+            subst (λ j. Matches all j rest.0 (declared_visits f ms at.path (declared_in at.module))) (length-append t (at ∷ []))
                 (subst (Matches all (length u) rest.0) e (rest.2 all more s c)),
           ),
     )
@@ -180,12 +180,12 @@ walk_is source o e = matches_checks source.modules (instances_of source) 0 1 (in
     (subst (λ p. Matches (instances_of source) 0 (instances_of source) (walk_from source.modules p)) (sym e) (from_main source.modules (module_named source.modules main_name)))
 
 -- the walk from main, as the code begins it
-pub walked : (list table : List Module) (end : Place) (n : ℕ) (plan : PlainModule) (above : List (Bor (List ℕ))) → table ≡ list → above ≡ [] → n ≡ length table → Some plan ≡ module_named (map plain_module table) main_name
+pub walked : (list table : List Module) (end : Place) (n : ℕ) (m : PlainModule) (above : List (Bor (List ℕ))) → table ≡ list → above ≡ [] → n ≡ length table → Some m ≡ module_named (map plain_module table) main_name
     → (let source : PlainSource = record { modules = map plain_module list; end = end } in first_failing (declaration_checks source.modules (instances_of source) 0 1 (instances_of source)))
-    ≡ first_failing (visit_checks (map plain_module table) 1 (visits n (map plain_module table) (names_above above) [] plan))
-walked list table end n plan above same empty e h =
+    ≡ first_failing (visit_checks (map plain_module table) 1 (visits n (map plain_module table) (names_above above) [] m))
+walked list table end n m above same empty e h =
     let ms = map plain_module table in
     ap (λ l. let source : PlainSource = record { modules = map plain_module l; end = end } in first_failing (declaration_checks source.modules (instances_of source) 0 1 (instances_of source))) (sym same)
-    ∙ ap first_failing (walk_is (record { modules = ms; end = end }) (Some plan) h)
-    ∙ ap (λ k. first_failing (visit_checks ms 1 (visits k ms [] [] plan))) (length-map table plain_module ∙ sym e)
-    ∙ ap (λ a. first_failing (visit_checks ms 1 (visits n ms (names_above a) [] plan))) (sym empty)
+    ∙ ap first_failing (walk_is (record { modules = ms; end = end }) (Some m) h)
+    ∙ ap (λ k. first_failing (visit_checks ms 1 (visits k ms [] [] m))) (length-map table plain_module ∙ sym e)
+    ∙ ap (λ a. first_failing (visit_checks ms 1 (visits n ms (names_above a) [] m))) (sym empty)

@@ -6,7 +6,7 @@ ghost use Rattle.smv_meaning.specs.Checks.{first_failing};
 ghost use Rattle.smv_meaning.specs.Phases.{takes, item_checks, declares_instance, longest_path, most_instances, declared_checks, counted_all, declaration_checks};
 ghost use Rattle.smv_names.specs.Outcome.{Settles, Counts};
 ghost use Rattle.smv_names.specs.View.{declared_plain, names_above};
-ghost use Rattle.smv_names.specs.Visits.{own_checks};
+ghost use Rattle.smv_names.specs.Visits.{checks_behind_name};
 
 use crate::declared::Declaration;
 use crate::ends::NamesEnd;
@@ -55,12 +55,12 @@ fn item_failing(modules: &ModuleTable, above: &[&[u8]], item: &Item) -> Option<R
                 kind: smv::NO_SUCH_MODULE,
                 place: item.domain_place,
             }),
-            Some(plan) => if is_above(above, name.bytes()) {
+            Some(module) => if is_above(above, name.bytes()) {
                 Some(Refusal {
                     kind: smv::MODULE_CYCLE,
                     place: item.domain_place,
                 })
-            } else if plan.parameters.len() != actuals.len() {
+            } else if module.parameters.len() != actuals.len() {
                 Some(Refusal {
                     kind: smv::ARG_COUNT,
                     place: item.domain_place,
@@ -84,7 +84,7 @@ fn is_short(path: &[u8], name: &[u8]) -> bool
 }
 
 fn is_instance(declaration: &Declaration) -> bool
-    ensures { result ≡ declares_instance (declared_plain declaration.now) }
+    ensures { result ≡ declares_instance (declared_plain declaration.now).item }
 {
     match declaration.item {
         None => false,
@@ -106,7 +106,7 @@ fn declaration_failing(
     met: usize,
     declaration: &Declaration,
 ) -> Option<Refusal>
-    ensures { result ≡ first_failing (own_checks (map plain_module modules.now) (names_above above.now) path.now met (declared_plain declaration.now)) }
+    ensures { result ≡ first_failing (checks_behind_name (map plain_module modules.now) (names_above above.now) path.now met (declared_plain declaration.now)) }
 {
     if let Some(item) = declaration.item {
         if let Some(why) = item_failing(modules, above, item) {
@@ -164,11 +164,11 @@ pub fn declarations_checked(alloc: Global, source: &Source) -> Result<(), NamesE
     ensures { Settles result (declaration_checks (plain_source source.now).modules (instances_of (plain_source source.now)) 0 1 (instances_of (plain_source source.now))) }
 {
     let modules = ModuleTable::of(alloc, &source.modules)?;
-    let Some(plan) = modules.named(b"main") else {
+    let Some(module) = modules.named(b"main") else {
         return Ok(());
     };
     let mut above = Vec::new(alloc);
-    match visited(alloc, &modules, modules.len(), &mut above, &[], plan, 1) {
+    match visited(alloc, &modules, modules.len(), &mut above, &[], module, 1) {
         Ok(_) => Ok(()),
         Err(end) => Err(end),
     }

@@ -93,11 +93,11 @@ fn add_elements<'a>(list: &mut Declarations<'a>, elements: &'a Elements) -> Resu
 }
 
 /// What a module declares: parameters first, then in the order of the text.
-pub fn declared_of<'a>(alloc: Global, plan: &'a Module) -> Result<Declarations<'a>, NoMemory>
-    ensures { IfOk result (λ ds. map declared_plain ds.items ≡ declared_in (plain_module plan.now)) }
+pub fn declared_of<'a>(alloc: Global, module: &'a Module) -> Result<Declarations<'a>, NoMemory>
+    ensures { IfOk result (λ ds. map declared_plain ds.items ≡ declared_in (plain_module module.now)) }
 {
     let mut list = Vec::new(alloc);
-    add_parameters(&mut list, &plan.parameters)?;
-    add_elements(&mut list, &plan.elements)?;
+    add_parameters(&mut list, &module.parameters)?;
+    add_elements(&mut list, &module.elements)?;
     Ok(list)
 }

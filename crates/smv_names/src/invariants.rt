@@ -45,7 +45,7 @@ pub fn invariants_checked(table: &Table, end: Place, needed: u32) -> Result<(), 
 {
     let mut missing = needed as u64 + 1;
     for i in 0..table.len() {
-        missing = missing_behind(missing, &table.at(i).plan.elements);
+        missing = missing_behind(missing, &table.at(i).module.elements);
     }
     if missing == 0 {
         Ok(())

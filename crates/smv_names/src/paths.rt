@@ -113,7 +113,7 @@ fn instance_checked<'a>(
     put_all_paths(&mut outer, at.actuals)?;
     all_checked(table, at.parent.unwrap_or(0), outer.as_slice())?;
     let mut own = Vec::new(alloc);
-    put_elements_paths(&mut own, &at.plan.elements)?;
+    put_elements_paths(&mut own, &at.module.elements)?;
     all_checked(table, i, own.as_slice())?;
     Ok(())
 }

@@ -22,11 +22,11 @@ const MOST_TOKENS: u64 = 200_000;
 
 // Is the weight no greater than it may be?
 fn is_light(parts: &[Instance]) -> bool
-    ensures { result ≡ nat_le (sum_by (λ at. at.plan.tokens) (map instance_plain parts.now)) most_tokens }
+    ensures { result ≡ nat_le (sum_by (λ at. at.module.tokens) (map instance_plain parts.now)) most_tokens }
 {
     let mut weight: u64 = 0;
     for part in parts {
-        weight += part.plan.tokens as u64;
+        weight += part.module.tokens as u64;
         if weight > MOST_TOKENS {
             return false;
         }
@@ -57,7 +57,7 @@ fn main_failing(alloc: Global, table: &Table) -> Result<Option<Refusal>, NoMemor
     if table.len() == 0 {
         return Ok(None);
     }
-    let list = declared_of(alloc, table.at(0).plan)?;
+    let list = declared_of(alloc, table.at(0).module)?;
     Ok(symbol_failing(table, list.as_slice()))
 }
 

@@ -1,9 +1,8 @@
 // A walk over the instances of a model in preorder, which ends at the first check that fails.
 ghost use Rattle.std.specs.Prelude.{◌≡◌, ◌++◌, ◌∷◌, [], map, OnOk};
 ghost use Rattle.smv_text.specs.View.{plain_module};
-ghost use Rattle.smv_names.specs.Outcome.{Counts};
 ghost use Rattle.smv_names.specs.View.{item_or_none, names_above};
-ghost use Rattle.smv_names.specs.Visits.{item_visits, visits, visit_checks, visit_count};
+ghost use Rattle.smv_names.specs.Visits.{item_visits, visits, CountsVisits};
 
 use crate::declarations::declared_checked;
 use crate::declared::declared_of;
@@ -30,7 +29,7 @@ fn item_visited<'a>(
     item: Option<&'a Item>,
     met: usize,
 ) -> Result<usize, NamesEnd>
-    ensures counts { let vs = item_visits (visits deep (map plain_module modules.now) (names_above above.old.items)) (map plain_module modules.now) path.now (item_or_none item.entry) in Counts result (visit_checks (map plain_module modules.now) met vs) (visit_count met vs) }
+    ensures counts { CountsVisits result (map plain_module modules.now) met (item_visits (visits deep (map plain_module modules.now) (names_above above.old.items)) (map plain_module modules.now) path.now (item_or_none item.entry)) }
     ensures same { OnOk result (above.new.items ≡ above.old.items) }
 {
     let Some(item) = item else {
@@ -43,9 +42,9 @@ fn item_visited<'a>(
         Domain::Bits(_) => Ok(met),
         Domain::Instance(name, _) => match modules.named(name.bytes()) {
             None => Ok(met),
-            Some(plan) => {
+            Some(module) => {
                 let below = path_below(alloc, path, item.name.bytes())?;
-                visited(alloc, modules, deep, above, below.bytes(), plan, met)
+                visited(alloc, modules, deep, above, below.bytes(), module, met)
             }
         },
     }
@@ -59,18 +58,18 @@ pub(crate) fn visited<'a>(
     deep: usize,
     above: &mut Vec<&'a [u8]>,
     path: &[u8],
-    plan: &'a Module,
+    module: &'a Module,
     met: usize,
 ) -> Result<usize, NamesEnd>
-    ensures counts { let vs = visits deep (map plain_module modules.now) (names_above above.old.items) path.now (plain_module plan.now) in Counts result (visit_checks (map plain_module modules.now) met vs) (visit_count met vs) }
+    ensures counts { CountsVisits result (map plain_module modules.now) met (visits deep (map plain_module modules.now) (names_above above.old.items) path.now (plain_module module.now)) }
     ensures same { OnOk result (above.new.items ≡ above.old.items) }
 {
     if deep == 0 {
         return Ok(met);
     }
     let depth = above.len();
-    push(above, plan.name.bytes())?;
-    let list = declared_of(alloc, plan)?;
+    push(above, module.name.bytes())?;
+    let list = declared_of(alloc, module)?;
     let mut count = match declared_checked(
         alloc,
         modules,

@@ -11,7 +11,6 @@ use Rattle.smv_expressions.specs.declared.stop.Stop.{Stop}
 use Rattle.smv_expressions.specs.declared.stop.Stop.TheVariants.{Dead, NoMemory}
 use Rattle.smv_parse.specs.Answers.{Loses}
 use Rattle.smv_parse.specs.Parsing.{refusal, dead_refusal, IsTooHigh, HasDead}
-use Rattle.smv_grammar.specs.Machine.{dead}
 use Rattle.std.specs.Borrow.{Bor}
 use Rattle.smv_expressions.specs.declared.kept.Kept.{Kept}
 use Rattle.smv_expressions.specs.Following.{Takes}

@@ -4,7 +4,6 @@ use Rattle.std.proofs.lemmas.Bool.Decides.{nat_tests}
 use Rattle.std.proofs.lemmas.Int.{ints}
 use Rattle.word_core.specs.Words.{BitVector}
 use Rattle.smv_text.specs.declared.token.Token.{Token}
-use Rattle.smv_text.specs.declared.token.Reserved.{Reserved}
 use Rattle.smv_text.specs.declared.token.Reserved.TheVariants as word
 use Rattle.smv_text.specs.declared.token.Sign.{Sign}
 use Rattle.smv_text.specs.declared.token.Sign.TheVariants as sign
@@ -17,17 +16,18 @@ use Rattle.smv_text.specs.declared.tree.Infix.{Infix}
 use Rattle.smv_text.specs.declared.tree.Infix.TheVariants as op
 use Rattle.smv_text.specs.declared.tree.Function.{Function}
 use Rattle.smv_text.specs.declared.tree.Function.TheVariants as function
-use Rattle.smv_text.specs.declared.level.Joint.{Joint}
+use Rattle.smv_text.specs.declared.level.OperatorClass.{OperatorClass}
 use Rattle.smv_text.specs.declared.level.Level.{Level}
 use Rattle.smv_text.specs.declared.level.Level.TheVariants.{Chain, Choice, Range, Before, Selection}
 use Rattle.smv_text.specs.Lexing.{kinds, opened_by, most_brackets}
-use Rattle.smv_text.specs.Levels.{all_levels, joint_of, infix_of, prefix_kind, function_at}
+use Rattle.smv_text.specs.Levels.{all_levels, infix_of, prefix_kind, function_at}
+use Rattle.smv_text.specs.Operators.{class_of, infix_at, of_class}
+use Rattle.smv_text.specs.laws.Operators.{class_is, infix_is}
 use Rattle.smv_text.specs.Tree.{Tree, truth, number, literal, name, prefix, chain, choice, cases, select, call, next, set, range, Links, link, Branches, no_branches, branch, Trees, tree}
 use Rattle.smv_text.specs.Grammar.{Signs, no_signs, sign_then, SpellsInteger, unsigned, negative, SpellsSteps, no_steps, step, SpellsPath, from_name, from_itself, Spells, pass, chains, chooses, ranges, prefixes, selects, is_true, is_false, numbers, literals, names, brackets, nexts, calls, sets, switches, SpellsLinks, no_more, one_more, SpellsBranches, otherwise, picks, SpellsListed, last_one, one_before, SpellsCases, last_case, case_before}
 use Rattle.smv_print.specs.Ranks.{rank, tree_rank, tightest}
 use Rattle.smv_print.specs.Printing.{infix_kind, function_word, repeated, parted, ident, in_brackets, int_kinds, path_kinds, standing, tree_kinds, link_kinds, choice_kinds, case_kinds, argument_kinds}
 use Rattle.smv_lex.specs.Printable.{IsPrintable, ArePrintable, CanBePrinted, CanAllBePrinted}
-use Rattle.smv_print.proofs.Raised.{joint_is}
 
 -- how many brackets stand open behind tokens of these kinds
 abbrev pub open_behind : ℕ → List TokenKind → ℕ
@@ -159,21 +159,24 @@ pub name_fits : (n : List ℕ) → CanBePrinted (kind.Ident n) → IsPrintable (
 name_fits n c = refused_not {k = kind.Ident n} (λ e. cc) c
 
 -- operators and functions are no brackets
-pub infix_plain : (j : Joint) (k : TokenKind) (o : Infix) → infix_of j k ≡ Some o → (m : ℕ) → opened_by m k ≡ m
-infix_plain j (kind.Reserved word.Case) o e m = cc
-infix_plain j (kind.Reserved word.Esac) o e m = cc
-infix_plain j (kind.Reserved _) o e m = refl
-infix_plain j kind.Refused o e m = refl
-infix_plain j (kind.Ident x) o e m = refl
-infix_plain j (kind.Number x) o e m = refl
-infix_plain j (kind.Literal x) o e m = refl
-infix_plain j (kind.Sign sign.Open) o e m = cc
-infix_plain j (kind.Sign sign.OpenBrace) o e m = cc
-infix_plain j (kind.Sign sign.OpenBracket) o e m = cc
-infix_plain j (kind.Sign sign.Close) o e m = cc
-infix_plain j (kind.Sign sign.CloseBrace) o e m = cc
-infix_plain j (kind.Sign sign.CloseBracket) o e m = cc
-infix_plain j (kind.Sign _) o e m = refl
+plain_operator : (j : OperatorClass) (k : TokenKind) (o : Infix) → of_class j (infix_at k) ≡ Some o → (m : ℕ) → opened_by m k ≡ m
+plain_operator j (kind.Reserved word.Case) o e m = cc
+plain_operator j (kind.Reserved word.Esac) o e m = cc
+plain_operator j (kind.Reserved _) o e m = refl
+plain_operator j kind.Refused o e m = refl
+plain_operator j (kind.Ident x) o e m = refl
+plain_operator j (kind.Number x) o e m = refl
+plain_operator j (kind.Literal x) o e m = refl
+plain_operator j (kind.Sign sign.Open) o e m = cc
+plain_operator j (kind.Sign sign.OpenBrace) o e m = cc
+plain_operator j (kind.Sign sign.OpenBracket) o e m = cc
+plain_operator j (kind.Sign sign.Close) o e m = cc
+plain_operator j (kind.Sign sign.CloseBrace) o e m = cc
+plain_operator j (kind.Sign sign.CloseBracket) o e m = cc
+plain_operator j (kind.Sign _) o e m = refl
+
+pub infix_plain : (j : OperatorClass) (k : TokenKind) (o : Infix) → infix_of j k ≡ Some o → (m : ℕ) → opened_by m k ≡ m
+infix_plain j k o e m = plain_operator j k o (sym (infix_is j k) ∙ e) m
 
 pub function_plain : (k : TokenKind) (f : Function) → function_at k ≡ Some f → (m : ℕ) → opened_by m k ≡ m
 function_plain (kind.Reserved word.Case) f e m = cc
@@ -383,7 +386,7 @@ pub path_none : {path : Path} {xs : List Token} → SpellsPath path xs → Opens
 path_none (from_name {n = n} {xs = xs} x a s) = plain_none x xs (kind.Ident n) a (plain_of (kind.Ident n) (λ m. refl)) (steps_none s)
 path_none (from_itself {xs = xs} x a s) = plain_none x xs (kind.Reserved word.Itself) a (plain_of (kind.Reserved word.Itself) (λ m. refl)) (steps_none s)
 
-infix_token : (j : Joint) (x : Token) (xs : List Token) (o : Infix) → infix_of j x.kind ≡ Some o → OpensNone xs → OpensNone (x ∷ xs)
+infix_token : (j : OperatorClass) (x : Token) (xs : List Token) (o : Infix) → infix_of j x.kind ≡ Some o → OpensNone xs → OpensNone (x ∷ xs)
 infix_token j x xs o e a = plain_none x xs x.kind refl (plain_of x.kind (infix_plain j x.kind o e)) a
 
 pub colon_plain : IsPlain (kind.Sign sign.Colon)
@@ -432,7 +435,7 @@ mutual
   spelled_none (sets {xs = xs} opening a l) = open_none opening xs (kind.Sign sign.OpenBrace) a opens_curly (listed_less closes_curly l)
   spelled_none (switches {xs = xs} x a c) = open_none x xs (kind.Reserved word.Case) a opens_case (cases_less c)
 
-  pub links_none : {j : Joint} {below : List Level} {links : Links} {xs : List Token} → SpellsLinks j below links xs → OpensNone xs
+  pub links_none : {j : OperatorClass} {below : List Level} {links : Links} {xs : List Token} → SpellsLinks j below links xs → OpensNone xs
   links_none no_more = no_tokens
   links_none {j = j} (one_more {op = o} {xs = xs} {ys = ys} x is s ls) = infix_token j x (xs ++ ys) o is (none_none xs ys (spelled_none s) (links_none ls))
 
@@ -523,8 +526,8 @@ path_prints (from_name {n = i} {ns = ns} {xs = xs} x a s) n few c =
 path_prints (from_itself {ns = ns} {xs = xs} x a s) n few c =
     prints_one n (kind.Reserved word.Itself) (parted sign.Dot true (map ident ns)) (plain_of (kind.Reserved word.Itself) (λ m. refl)) few tt (steps_prints s n few (past n n x xs (kind.Reserved word.Itself) a refl c))
 
-links_joint : {j : Joint} {below : List Level} {o : Infix} {u : Tree} {links : Links} {xs : List Token} → SpellsLinks j below (link o u links) xs → joint_of o ≡ j
-links_joint {j = j} {o = o} (one_more x e s ls) = joint_is j x.kind o e
+links_class : {j : OperatorClass} {below : List Level} {o : Infix} {u : Tree} {links : Links} {xs : List Token} → SpellsLinks j below (link o u links) xs → class_of o ≡ j
+links_class {j = j} {o = o} (one_more x e s ls) = class_is j x.kind o e
 
 pub opens_none_at : (xs : List Token) → OpensNone xs → (m : ℕ) → open_behind m (kinds xs) ≡ m
 unfolding OpensNone
@@ -564,12 +567,12 @@ mutual
       record { bare = r.bare; loose = λ lt. r.loose (omega (arith, lt)) }
   nests (chains {j = j} {below = below} {t = t} {u = u} {op = o} {links = links} {xs = xs} {ys = ys} s ls) f n e most few c =
       let h = first_of f (Chain j) below e in
-      let same = links_joint ls in
+      let same = links_class ls in
       let r = nests s (suc f) n h.2 h.1 few (front n xs ys c) in
       let m = links_nest ls (suc f) n h.2 h.1 few (back n n xs ys (opens_none_at _ (spelled_none s) n) c) in
       let at : Prints n (standing (suc f) t (tree_kinds t) ++ link_kinds (suc f) (link o u links)) = prints_append n (standing (suc f) t (tree_kinds t)) (link_kinds (suc f) (link o u links)) (stands (suc f) n t r) m in
-      let own : f ≡ rank (Chain (joint_of o)) = h.0 ∙ ap (λ i. rank (Chain i)) (sym same) in
-      tight f n (chain _ t (link o u links)) (omega (arith, own)) (subst (λ g. Prints n (standing (suc g) t (tree_kinds t) ++ link_kinds (suc g) (link o u links))) own at)
+      let remade : f ≡ rank (Chain (class_of o)) = h.0 ∙ ap (λ i. rank (Chain i)) (sym same) in
+      tight f n (chain _ t (link o u links)) (omega (arith, remade)) (subst (λ g. Prints n (standing (suc g) t (tree_kinds t) ++ link_kinds (suc g) (link o u links))) remade at)
   nests (chooses {below = below} {w = w} {v = v} {t = t} {bs = bs} s) f n e most few c =
       let h = first_of f Choice below e in
       let r = branches_nest s (suc f) n h.2 h.1 few c in
@@ -629,7 +632,7 @@ mutual
       let r = cases_nest cs (suc n) deep (past n (suc n) x xs (kind.Reserved word.Case) a refl c) in
       tight f n (cases _ bs) most (prints_within n (kind.Reserved word.Case) (kind.Reserved word.Esac) (case_kinds bs) opens_case closes_esac tt tt deep r)
 
-  links_nest : {j : Joint} {below : List Level} {links : Links} {xs : List Token} → SpellsLinks j below links xs → (f n : ℕ) → drop f all_levels ≡ below → f ≤ tightest → n ≤ most_brackets → CanPrint n xs → Prints n (link_kinds f links)
+  links_nest : {j : OperatorClass} {below : List Level} {links : Links} {xs : List Token} → SpellsLinks j below links xs → (f n : ℕ) → drop f all_levels ≡ below → f ≤ tightest → n ≤ most_brackets → CanPrint n xs → Prints n (link_kinds f links)
   links_nest no_more f n e most few c = prints_none n
   links_nest {j = j} (one_more {op = o} {t = t} {links = links} {xs = xs} {ys = ys} x is s ls) f n e most few c =
       let c1 = past n n x (xs ++ ys) x.kind refl (infix_plain j x.kind o is n) c in

@@ -13,14 +13,14 @@ use Rattle.smv_text.specs.declared.level.Level.TheVariants.{Chain, Before}
 use Rattle.smv_text.specs.Levels.{prefix_kind}
 use Rattle.smv_text.specs.Tree.{Tree, truth, number, literal, name, prefix, chain, choice, cases, select, call, next, set, range, Links, no_links, link, Branches, no_branches, branch, Trees, no_trees, tree, PlainDomain, boolean, members, between, bits, instance, PlainItem, PlainDefinition, PlainAssignment, PlainElement, vars, defines, constants, assigns, init, trans, invar, spec, PlainModule, PlainSource}
 use Rattle.smv_text.specs.Sources.{section_word}
-use Rattle.smv_print.specs.Ranks.{rank, chain_joint, tree_rank}
+use Rattle.smv_print.specs.Ranks.{rank, chain_class, tree_rank}
 use Rattle.smv_lex.specs.Spelling.{joined}
 use Rattle.smv_print.specs.Printing.{function_word, infix_kind, wanted, repeated, parted, ident, in_brackets, path_kinds, standing, tree_kinds, link_kinds, choice_kinds, case_kinds, argument_kinds, actual_kinds, domain_kinds, item_kinds, body_kinds, definition_kinds, target_kinds, assignment_kinds, spec_name_kinds, formula_kinds, element_kinds, parameter_name, parameter_kinds, module_kinds, printed}
 use Rattle.smv_print.specs.Unplaced.{unplaced_path, unplaced, unplaced_links, unplaced_branches, unplaced_trees, unplaced_domain, unplaced_item, unplaced_definition, unplaced_assignment, unplaced_element, unplaced_parameter, unplaced_module, unplaced_source}
 
-joint_same : (ls : Links) → chain_joint (unplaced_links ls) ≡ chain_joint ls
-joint_same no_links = refl
-joint_same (link o t ls) = refl
+class_same : (ls : Links) → chain_class (unplaced_links ls) ≡ chain_class ls
+class_same no_links = refl
+class_same (link o t ls) = refl
 
 rank_same : (t : Tree) → tree_rank (unplaced t) ≡ tree_rank t
 rank_same (truth p b) = refl
@@ -28,7 +28,7 @@ rank_same (number p n) = refl
 rank_same (literal p w) = refl
 rank_same (name p path) = refl
 rank_same (prefix p s n t) = refl
-rank_same (chain p t ls) = ap (λ j. rank (Chain j)) (joint_same ls)
+rank_same (chain p t ls) = ap (λ j. rank (Chain j)) (class_same ls)
 rank_same (choice p bs t) = refl
 rank_same (cases p bs) = refl
 rank_same (select p t high low) = refl
@@ -48,9 +48,9 @@ mutual
   tree_same (name p path) = refl
   tree_same (prefix p s n t) = ap (λ ks. repeated n (prefix_kind s) ++ ks) (stands_same (suc (rank (Before s))) t (tree_same t))
   tree_same (chain p t ls) =
-      ap (λ j. standing (suc (rank (Chain j))) (unplaced t) (tree_kinds (unplaced t)) ++ link_kinds (suc (rank (Chain j))) (unplaced_links ls)) (joint_same ls)
-      ∙ ap (λ ks. ks ++ link_kinds (suc (rank (Chain (chain_joint ls)))) (unplaced_links ls)) (stands_same (suc (rank (Chain (chain_joint ls)))) t (tree_same t))
-      ∙ ap (λ ks. standing (suc (rank (Chain (chain_joint ls)))) t (tree_kinds t) ++ ks) (links_same (suc (rank (Chain (chain_joint ls)))) ls)
+      ap (λ j. standing (suc (rank (Chain j))) (unplaced t) (tree_kinds (unplaced t)) ++ link_kinds (suc (rank (Chain j))) (unplaced_links ls)) (class_same ls)
+      ∙ ap (λ ks. ks ++ link_kinds (suc (rank (Chain (chain_class ls)))) (unplaced_links ls)) (stands_same (suc (rank (Chain (chain_class ls)))) t (tree_same t))
+      ∙ ap (λ ks. standing (suc (rank (Chain (chain_class ls)))) t (tree_kinds t) ++ ks) (links_same (suc (rank (Chain (chain_class ls)))) ls)
   tree_same (choice p bs t) = ap (λ ks. ks ++ standing 3 (unplaced t) (tree_kinds (unplaced t))) (choices_same bs) ∙ ap (λ ks. choice_kinds bs ++ ks) (stands_same 3 t (tree_same t))
   tree_same (cases p bs) = ap (λ ks. kind.Reserved word.Case ∷ (ks ++ kind.Reserved word.Esac ∷ [])) (cases_same bs)
   tree_same (select p t high low) = ap (λ ks. ks ++ kind.Sign sign.OpenBracket ∷ kind.Number high ∷ kind.Sign sign.Colon ∷ kind.Number low ∷ kind.Sign sign.CloseBracket ∷ []) (stands_same 15 t (tree_same t))

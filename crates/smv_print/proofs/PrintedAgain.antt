@@ -1,13 +1,14 @@
 -- What is printed for a model that a text spells is lexed and spelled again, as the same model but for places.
 use Rattle.std.proofs.Common.{◌≡◌, ℕ, suc, ◌+◌, Bool, true, false, cond, nat_le, Option, Some, None, List, [], ◌∷◌, ◌++◌, map, refl, sym, ap, ◌∙◌}
 use Rattle.std.proofs.lemmas.List.{map-append}
+use Rattle.std.specs.List.{flat_map}
 use Rattle.text_core.specs.declared.place.Place.{Place}
 use Rattle.smv_text.specs.declared.token.Token.{Token}
 use Rattle.smv_text.specs.declared.token.TokenKind.{TokenKind}
 use Rattle.text_core.specs.Places.{start, after}
-use Rattle.smv_text.specs.Lexing.{kinds, LexesTo}
+use Rattle.smv_text.specs.Lexing.{kinds, Lexes}
 use Rattle.smv_text.specs.Tree.{Tree, truth, number, literal, name, prefix, chain, choice, cases, select, call, next, set, range, Links, no_links, link, Branches, no_branches, branch, Trees, no_trees, tree, PlainDomain, boolean, members, between, bits, instance, PlainItem, PlainDefinition, PlainAssignment, PlainElement, vars, defines, constants, assigns, init, trans, invar, spec, PlainModule, PlainSource}
-use Rattle.smv_text.specs.Heights.{height, link_heights, branch_heights, heights, chain_height, branches_height, highest, most_height, place_of, first_high, list_of, of_domain, of_items, of_definitions, of_assignments, of_element, of_elements, of_modules}
+use Rattle.smv_text.specs.Heights.{height, link_heights, branch_heights, heights, chain_height, branches_height, highest, most_height, place_of, first_high, list_of, of_domain, of_items, of_definitions, of_assignments, of_element, of_modules}
 use Rattle.smv_text.specs.Sources.{SpellsSource}
 use Rattle.smv_print.specs.Printing.{printed, source_kinds}
 use Rattle.smv_print.specs.Unplaced.{unplaced, unplaced_links, unplaced_branches, unplaced_trees, unplaced_domain, unplaced_item, unplaced_definition, unplaced_assignment, unplaced_element, unplaced_module, unplaced_source, IsReadAgain}
@@ -83,16 +84,16 @@ in_element (trans t) = refl
 in_element (invar t) = refl
 in_element (spec o t) = refl
 
-in_elements : (es : List PlainElement) → of_elements (map unplaced_element es) ≡ map unplaced (of_elements es)
+in_elements : (es : List PlainElement) → flat_map of_element (map unplaced_element es) ≡ map unplaced (flat_map of_element es)
 in_elements [] = refl
 in_elements (e ∷ es) =
-    ap (λ us. us ++ of_elements (map unplaced_element es)) (in_element e) ∙ ap (λ us. map unplaced (of_element e) ++ us) (in_elements es) ∙ sym (map-append unplaced (of_element e) (of_elements es))
+    ap (λ us. us ++ flat_map of_element (map unplaced_element es)) (in_element e) ∙ ap (λ us. map unplaced (of_element e) ++ us) (in_elements es) ∙ sym (map-append unplaced (of_element e) (flat_map of_element es))
 
 in_modules : (ms : List PlainModule) → of_modules (map unplaced_module ms) ≡ map unplaced (of_modules ms)
 in_modules [] = refl
 in_modules (m ∷ ms) =
-    ap (λ us. us ++ of_modules (map unplaced_module ms)) (in_elements m.elements) ∙ ap (λ us. map unplaced (of_elements m.elements) ++ us) (in_modules ms)
-    ∙ sym (map-append unplaced (of_elements m.elements) (of_modules ms))
+    ap (λ us. us ++ of_modules (map unplaced_module ms)) (in_elements m.elements) ∙ ap (λ us. map unplaced (flat_map of_element m.elements) ++ us) (in_modules ms)
+    ∙ sym (map-append unplaced (flat_map of_element m.elements) (of_modules ms))
 
 -- none is too high where none is without its places
 low_by : (b c : Bool) (p q : Place) (o r : Option Place) → b ≡ c → (o ≡ None → r ≡ None) → cond b o (Some p) ≡ None → cond c r (Some q) ≡ None
@@ -117,7 +118,7 @@ low_again s t e n =
     low_placed (of_modules s.modules)
     (ap first_high (sym (in_modules s.modules) ∙ ap (λ u. of_modules u.modules) e ∙ in_modules t.modules) ∙ low_unplaced (of_modules t.modules) n)
 
-pub read_again : (again : (ks : List TokenKind) → ArePrintable 0 ks → (ts : List Token) × LexesTo (joined ks) ts × (kinds ts ≡ ks)) (printable : (text : List ℕ) (ts : List Token) → LexesTo text ts → CanAllBePrinted 0 (kinds ts)) (source : PlainSource) (end : Place) (text : List ℕ) (xs : List Token) → LexesTo text xs → SpellsSource source end xs → IsReadAgain source (printed source)
+pub read_again : (again : (ks : List TokenKind) → ArePrintable 0 ks → (ts : List Token) × Lexes (joined ks) ts × (kinds ts ≡ ks)) (printable : (text : List ℕ) (ts : List Token) → Lexes text ts → CanAllBePrinted 0 (kinds ts)) (source : PlainSource) (end : Place) (text : List ℕ) (xs : List Token) → Lexes text xs → SpellsSource source end xs → IsReadAgain source (printed source)
 read_again again printable source end text xs l s =
     let c = source_prints source.modules xs s.0 (printable text xs l) in
     let lexed = again (source_kinds source) c in

@@ -1,5 +1,5 @@
 -- What is spelled at a level is spelled at the looser ones.
-use Rattle.std.proofs.Common.{◌≡◌, ◌≤◌, ℕ, zero, suc, Bool, true, false, cond, Option, Some, None, nat_eq, List, [], ◌∷◌, drop, get_or, refl, sym, ap, ◌∙◌, arith}
+use Rattle.std.proofs.Common.{◌≡◌, ◌≤◌, ℕ, zero, suc, Some, List, [], ◌∷◌, drop, refl, ap, arith}
 use Rattle.smv_text.specs.declared.token.Token.{Token}
 use Rattle.smv_text.specs.declared.token.TokenKind.{TokenKind}
 use Rattle.smv_text.specs.declared.token.TokenKind.TheVariants as kind
@@ -8,14 +8,17 @@ use Rattle.smv_text.specs.declared.tree.Infix.TheVariants as op
 use Rattle.smv_text.specs.declared.tree.Prefix.TheVariants as prefixes
 use Rattle.smv_text.specs.declared.tree.Function.{Function}
 use Rattle.smv_text.specs.declared.tree.Function.TheVariants as function
-use Rattle.smv_text.specs.declared.level.Joint.{Joint}
-use Rattle.smv_text.specs.declared.level.Joint.TheVariants as joints
+use Rattle.smv_text.specs.declared.level.OperatorClass.{OperatorClass}
+use Rattle.smv_text.specs.declared.level.OperatorClass.TheVariants as classes
 use Rattle.smv_text.specs.declared.level.Level.{Level}
 use Rattle.smv_text.specs.declared.level.Level.TheVariants.{Chain, Choice, Range, Before, Selection}
-use Rattle.smv_text.specs.Levels.{all_levels, joint_of, joint_number, at_joint, infix_at, infix_of, function_at}
-use Rattle.smv_text.specs.Tree.{Tree}
+use Rattle.smv_text.specs.Levels.{all_levels, infix_of, function_at}
+use Rattle.smv_text.specs.Operators.{class_of}
+use Rattle.smv_text.specs.laws.Operators.{class_is}
+use Rattle.text_core.specs.declared.place.Place.{Place}
+use Rattle.smv_text.specs.Tree.{Tree, chain, Links, link}
 use Rattle.smv_text.specs.Grammar.{Spells, pass}
-use Rattle.smv_print.specs.Ranks.{rank}
+use Rattle.smv_print.specs.Ranks.{rank, tree_rank}
 use Rattle.smv_print.specs.Printing.{infix_kind, function_word}
 
 pub from_below : {t : Tree} {xs : List Token} (ls : List Level) → Spells [] t xs → Spells ls t xs
@@ -34,17 +37,17 @@ raised (suc n) (suc m) [] h s = s
 raised (suc n) (suc m) (l ∷ ls) h s = raised n m ls (omega arith) s
 
 pub level_first : (l : Level) → drop (rank l) all_levels ≡ l ∷ drop (suc (rank l)) all_levels
-level_first (Chain joints.Implications) = refl
-level_first (Chain joints.Equivalences) = refl
-level_first (Chain joints.Disjunctions) = refl
-level_first (Chain joints.Conjunctions) = refl
-level_first (Chain joints.Comparisons) = refl
-level_first (Chain joints.Memberships) = refl
-level_first (Chain joints.Unions) = refl
-level_first (Chain joints.Shifts) = refl
-level_first (Chain joints.Sums) = refl
-level_first (Chain joints.Products) = refl
-level_first (Chain joints.Concatenations) = refl
+level_first (Chain classes.Implications) = refl
+level_first (Chain classes.Equivalences) = refl
+level_first (Chain classes.Disjunctions) = refl
+level_first (Chain classes.Conjunctions) = refl
+level_first (Chain classes.Comparisons) = refl
+level_first (Chain classes.Memberships) = refl
+level_first (Chain classes.Unions) = refl
+level_first (Chain classes.Shifts) = refl
+level_first (Chain classes.Sums) = refl
+level_first (Chain classes.Products) = refl
+level_first (Chain classes.Concatenations) = refl
 level_first Choice = refl
 level_first Range = refl
 level_first (Before prefixes.Minus) = refl
@@ -52,7 +55,7 @@ level_first (Before prefixes.Not) = refl
 level_first Selection = refl
 
 -- the token of an operator is that operator
-pub infix_again : (o : Infix) → infix_of (joint_of o) (infix_kind o) ≡ Some o
+pub infix_again : (o : Infix) → infix_of (class_of o) (infix_kind o) ≡ Some o
 infix_again op.Implies = refl
 infix_again op.Iff = refl
 infix_again op.Or = refl
@@ -88,38 +91,6 @@ function_again function.Max = refl
 function_again function.Min = refl
 function_again function.Abs = refl
 
--- joints are told apart by their numbers
-all_joints : List Joint
-all_joints =
-    joints.Implications ∷ joints.Equivalences ∷ joints.Disjunctions ∷ joints.Conjunctions ∷ joints.Comparisons ∷ joints.Memberships ∷ joints.Unions ∷ joints.Shifts ∷ joints.Sums ∷ joints.Products ∷ joints.Concatenations ∷ []
-
-numbered : (j : Joint) → get_or all_joints (joint_number j) joints.Implications ≡ j
-unfolding all_joints
-numbered joints.Implications = refl
-numbered joints.Equivalences = refl
-numbered joints.Disjunctions = refl
-numbered joints.Conjunctions = refl
-numbered joints.Comparisons = refl
-numbered joints.Memberships = refl
-numbered joints.Unions = refl
-numbered joints.Shifts = refl
-numbered joints.Sums = refl
-numbered joints.Products = refl
-numbered joints.Concatenations = refl
-
-same_joint : (i j : Joint) → joint_number i ≡ joint_number j → i ≡ j
-same_joint i j e = sym (numbered i) ∙ ap (λ n. get_or all_joints n joints.Implications) e ∙ numbered j
-
-picked : (j : Joint) (o o' : Infix) (b : Bool) → nat_eq (joint_number (joint_of o)) (joint_number j) ≡ b → cond b (Some o) None ≡ Some o' → joint_of o' ≡ j
-picked j o o' true e f =
-    let same : o ≡ o' = cc in
-    ap joint_of (sym same) ∙ same_joint (joint_of o) j (grind arith)
-picked j o o' false e f = absurd (cc)
-
-at_joint_is : (j : Joint) (o : Option Infix) (o' : Infix) → at_joint j o ≡ Some o' → joint_of o' ≡ j
-at_joint_is j None o' e = absurd (cc)
-at_joint_is j (Some o) o' e = picked j o o' _ refl e
-
--- an operator belongs to the chain that it joins
-pub joint_is : (j : Joint) (k : TokenKind) (o : Infix) → infix_of j k ≡ Some o → joint_of o ≡ j
-joint_is j k o e = at_joint_is j (infix_at k) o e
+-- A chain has the rank of the class of its operators.
+pub chain_rank : (c : OperatorClass) (k : TokenKind) (o : Infix) (p : Place) (t u : Tree) (ls : Links) → infix_of c k ≡ Some o → tree_rank (chain p t (link o u ls)) ≡ rank (Chain c)
+chain_rank c k o p t u ls e = ap (λ i. rank (Chain i)) (class_is c k o e)

@@ -1,5 +1,5 @@
 -- The printed form of a model: brackets only where the grammar needs them, every optional `;`, no brackets for empty lists of
--- parameters, and `word` without `unsigned` (NuSMV 2.6 User Manual, 2.2.3 and 2.3). This layout is our own.
+-- parameters, and `word` without `unsigned` (NuSMV 2.6 User Manual, 2.2 and 2.3). This layout is our own.
 use Rattle.std.specs.Prelude.{ℕ, zero, suc, ℤ, pos, negsuc, Bool, true, false, cond, nat_le, Option, Some, None, List, [], ◌∷◌, ◌++◌, map}
 use Rattle.std.specs.List.{flat_map}
 use Rattle.smv_text.specs.declared.token.Reserved.{Reserved}
@@ -20,7 +20,7 @@ use Rattle.smv_text.specs.declared.tree.When.TheVariants.{Always, First, Followi
 use Rattle.smv_text.specs.declared.tree.Parameter.{Parameter}
 use Rattle.smv_text.specs.declared.level.Level.TheVariants as level
 use Rattle.smv_text.specs.Levels.{prefix_kind}
-use Rattle.smv_print.specs.Ranks.{rank, chain_joint, tree_rank}
+use Rattle.smv_print.specs.Ranks.{rank, chain_class, tree_rank}
 use Rattle.smv_text.specs.Sources.{section_word}
 use Rattle.smv_lex.specs.Spelling.{joined}
 use Rattle.smv_text.specs.Tree.{Tree, truth, number, literal, name, prefix, chain, choice, cases, select, call, next, set, range, Links, no_links, link, Branches, no_branches, branch, Trees, no_trees, tree, PlainDomain, boolean, members, between, bits, instance, PlainItem, PlainDefinition, PlainAssignment, PlainElement, vars, defines, constants, assigns, init, trans, invar, spec, PlainModule, PlainSource}
@@ -116,7 +116,7 @@ abbrev mutual
   tree_kinds (literal p w) = kind.Literal w ∷ []
   tree_kinds (name p path) = path_kinds path
   tree_kinds (prefix p s n t) = repeated n (prefix_kind s) ++ standing (suc (rank (level.Before s))) t (tree_kinds t)
-  tree_kinds (chain p t ls) = standing (suc (rank (level.Chain (chain_joint ls)))) t (tree_kinds t) ++ link_kinds (suc (rank (level.Chain (chain_joint ls)))) ls
+  tree_kinds (chain p t ls) = standing (suc (rank (level.Chain (chain_class ls)))) t (tree_kinds t) ++ link_kinds (suc (rank (level.Chain (chain_class ls)))) ls
   tree_kinds (choice p bs t) = choice_kinds bs ++ standing (suc (rank level.Choice)) t (tree_kinds t)
   tree_kinds (cases p bs) = kind.Reserved word.Case ∷ (case_kinds bs ++ kind.Reserved word.Esac ∷ [])
   tree_kinds (select p t high low) =

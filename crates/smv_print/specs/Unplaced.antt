@@ -8,7 +8,7 @@ use Rattle.smv_text.specs.declared.level.Level.{Level}
 use Rattle.smv_text.specs.Tree.{Tree, truth, number, literal, name, prefix, chain, choice, cases, select, call, next, set, range, Links, no_links, link, Branches, no_branches, branch, Trees, no_trees, tree, PlainDomain, boolean, members, between, bits, instance, PlainItem, PlainDefinition, PlainAssignment, PlainElement, vars, defines, constants, assigns, init, trans, invar, spec, PlainModule, PlainSource}
 use Rattle.smv_text.specs.Grammar.{Spells}
 use Rattle.text_core.specs.Places.{start, after}
-use Rattle.smv_text.specs.Lexing.{LexesTo}
+use Rattle.smv_text.specs.Lexing.{Lexes}
 use Rattle.smv_text.specs.Heights.{first_high, of_modules}
 use Rattle.smv_text.specs.Sources.{SpellsSource}
 
@@ -99,6 +99,6 @@ pub record SpellsSameSource (source : PlainSource) (end : Place) (xs : List Toke
 -- is too high, none of theirs is.
 pub record IsReadAgain (source : PlainSource) (text : List ℕ) : Type 0 where
   pub tokens : List Token
-  pub lexed : LexesTo text tokens
+  pub lexed : Lexes text tokens
   pub spells : SpellsSameSource source (after start text) tokens
   pub low : first_high (of_modules source.modules) ≡ None → first_high (of_modules spells.model.modules) ≡ None

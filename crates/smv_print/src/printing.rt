@@ -1,18 +1,25 @@
 // The printed form of a model.
-ghost use Rattle.std.specs.Prelude.{◌≡◌, ◌++◌, ℕ, List, [], ◌∷◌, true, false, map, IfOk, OnOk, suc};
+ghost use Rattle.std.specs.Prelude.{◌≡◌, ◌++◌, ℕ, List, [], ◌∷◌, Some, true, false, drop, map, IfOk, OnOk, suc};
 ghost use Rattle.std.specs.List.{flat_map};
-ghost use Rattle.smv_text.specs.Tree.{Tree, PlainSource, trees_of, links_of, branches_of};
+ghost use Rattle.smv_text.specs.Tree.{Tree, chain, Links, link, PlainSource, trees_of, links_of, branches_of};
 ghost use Rattle.smv_text.specs.View.{plain, plain_link, plain_branch, plain_domain, plain_item, plain_definition, plain_assignment, plain_element, plain_module, plain_source};
-ghost use Rattle.smv_text.specs.Levels.{all_levels, joint_of, prefix_kind};
-ghost use Rattle.smv_print.specs.Ranks.{rank, chain_joint, tree_rank};
+ghost use Rattle.smv_text.specs.Levels.{all_levels, infix_of, prefix_kind};
+ghost use Rattle.smv_text.specs.Operators.{class_of};
+ghost use Rattle.smv_print.specs.Ranks.{rank, chain_class, tree_rank};
 ghost use Rattle.smv_text.specs.Sources.{section_word, SpellsSource};
-ghost use Rattle.smv_text.specs.Lexing.{kinds, LexesTo};
+ghost use Rattle.smv_text.specs.Lexing.{kinds, Lexes};
 ghost use Rattle.smv_text.specs.Grammar.{Spells};
 ghost use Rattle.smv_print.specs.Unplaced.{unplaced_source, SpellsSame, SpellsSameSource, IsReadAgain};
 ghost use Rattle.smv_text.specs.declared.token.Token.{Token};
+ghost use Rattle.smv_text.specs.declared.token.TokenKind.{TokenKind};
+ghost use Rattle.smv_text.specs.declared.tree.Infix.{Infix};
+ghost use Rattle.smv_text.specs.declared.level.OperatorClass.{OperatorClass};
+ghost use Rattle.smv_text.specs.declared.level.Level.{Level};
 ghost use Rattle.text_core.specs.declared.place.Place.{Place};
 ghost use Rattle.smv_lex.specs.Spelling.{spaced, written};
-ghost use Rattle.smv_print.specs.Printing.{repeated, parted, ident, path_kinds, standing, tree_kinds, link_kinds, choice_kinds, case_kinds, argument_kinds, in_brackets, member_kinds, actual_kinds, domain_kinds, item_kinds, body_kinds, definition_kinds, target_kinds, assignment_kinds, spec_name_kinds, formula_kinds, element_kinds, parameter_name, parameter_kinds, rest_kinds, module_kinds, source_kinds, printed};
+ghost use Rattle.smv_print.specs.Printing.{infix_kind, repeated, parted, ident, path_kinds, standing, tree_kinds, link_kinds, choice_kinds, case_kinds, argument_kinds, in_brackets};
+ghost use Rattle.smv_print.specs.Printing.{member_kinds, actual_kinds, domain_kinds, item_kinds, body_kinds, definition_kinds};
+ghost use Rattle.smv_print.specs.Printing.{target_kinds, assignment_kinds, spec_name_kinds, formula_kinds, element_kinds, parameter_name, parameter_kinds, rest_kinds, module_kinds, source_kinds, printed};
 
 use crate::spelling::{
     put_first, put_function, put_ident, put_infix, put_int, put_literal, put_number, put_prefixes,
@@ -21,8 +28,8 @@ use crate::spelling::{
 use smv_lex::printed_is_lexed;
 use smv_text::{
     Assignment, Assignments, Branch, Definition, Definitions, Domain, Element, Elements, Expr,
-    Infix, Item, Items, Joint, Level, Link, Member, Members, Module, Parameters, Path, Prefix,
-    Reserved, Shape, Sign, Source, TokenKind, VarKind, When,
+    Infix, Item, Items, Level, Link, Member, Members, Module, OperatorClass, Parameters, Path,
+    Prefix, Reserved, Shape, Sign, Source, TokenKind, VarKind, When,
 };
 use std::alloc::Global;
 use text_core::{Name, Names, NoMemory, Text};
@@ -35,9 +42,9 @@ fn put_names(out: &mut Text, sign: Sign, first: bool, names: &Names) -> Result<(
     ensures { OnOk result (out.new ≡ out.old ++ spaced (parted sign first (map ident names.now))) }
 {
     let mut behind = first;
-    for i in 0..names.len() {
+    for name in names {
         put_wanted(out, behind, sign)?;
-        put_ident(out, names.at(i))?;
+        put_ident(out, name)?;
         behind = true;
     }
     Ok(())
@@ -59,7 +66,7 @@ fn rank(level: Level) -> u8
     ensures { result ≡ rank level }
 {
     match level {
-        Level::Chain(joint) => joint_rank(joint),
+        Level::Chain(class) => class_rank(class),
         Level::Choice => 2,
         Level::Range => 8,
         Level::Before(Prefix::Minus) => 12,
@@ -68,53 +75,53 @@ fn rank(level: Level) -> u8
     }
 }
 
-fn joint_rank(joint: Joint) -> u8
-    ensures { result ≡ rank (Level.Chain joint) }
+fn class_rank(class: OperatorClass) -> u8
+    ensures { result ≡ rank (Level.Chain class) }
 {
-    match joint {
-        Joint::Implications => 0,
-        Joint::Equivalences => 1,
-        Joint::Disjunctions => 3,
-        Joint::Conjunctions => 4,
-        Joint::Comparisons => 5,
-        Joint::Memberships => 6,
-        Joint::Unions => 7,
-        Joint::Shifts => 9,
-        Joint::Sums => 10,
-        Joint::Products => 11,
-        Joint::Concatenations => 13,
+    match class {
+        OperatorClass::Implications => 0,
+        OperatorClass::Equivalences => 1,
+        OperatorClass::Disjunctions => 3,
+        OperatorClass::Conjunctions => 4,
+        OperatorClass::Comparisons => 5,
+        OperatorClass::Memberships => 6,
+        OperatorClass::Unions => 7,
+        OperatorClass::Shifts => 9,
+        OperatorClass::Sums => 10,
+        OperatorClass::Products => 11,
+        OperatorClass::Concatenations => 13,
     }
 }
 
-fn joint_of(op: Infix) -> Joint
-    ensures { result ≡ joint_of op }
+fn class_of(op: Infix) -> OperatorClass
+    ensures { result ≡ class_of op }
 {
     match op {
-        Infix::Implies => Joint::Implications,
-        Infix::Iff => Joint::Equivalences,
-        Infix::Or | Infix::Xor | Infix::Xnor => Joint::Disjunctions,
-        Infix::And => Joint::Conjunctions,
+        Infix::Implies => OperatorClass::Implications,
+        Infix::Iff => OperatorClass::Equivalences,
+        Infix::Or | Infix::Xor | Infix::Xnor => OperatorClass::Disjunctions,
+        Infix::And => OperatorClass::Conjunctions,
         Infix::Equal
         | Infix::Unequal
         | Infix::Less
         | Infix::Greater
         | Infix::LessEq
-        | Infix::GreaterEq => Joint::Comparisons,
-        Infix::Member => Joint::Memberships,
-        Infix::Union => Joint::Unions,
-        Infix::ShiftLeft | Infix::ShiftRight => Joint::Shifts,
-        Infix::Plus | Infix::Minus => Joint::Sums,
-        Infix::Times | Infix::Divide | Infix::Mod => Joint::Products,
-        Infix::Concat => Joint::Concatenations,
+        | Infix::GreaterEq => OperatorClass::Comparisons,
+        Infix::Member => OperatorClass::Memberships,
+        Infix::Union => OperatorClass::Unions,
+        Infix::ShiftLeft | Infix::ShiftRight => OperatorClass::Shifts,
+        Infix::Plus | Infix::Minus => OperatorClass::Sums,
+        Infix::Times | Infix::Divide | Infix::Mod => OperatorClass::Products,
+        Infix::Concat => OperatorClass::Concatenations,
     }
 }
 
-fn chain_joint(links: &[Link]) -> Joint
-    ensures { result ≡ chain_joint (links_of (map plain_link links.now)) }
+fn chain_class(links: &[Link]) -> OperatorClass
+    ensures { result ≡ chain_class (links_of (map plain_link links.now)) }
 {
     match links {
-        [] => Joint::Implications,
-        [link, ..] => joint_of(link.op),
+        [] => OperatorClass::Implications,
+        [link, ..] => class_of(link.op),
     }
 }
 
@@ -124,7 +131,7 @@ fn rank_of(expr: &Expr) -> u8
 {
     match &expr.shape {
         Shape::Prefix(prefix, _, _) => rank(Level::Before(*prefix)),
-        Shape::Chain(_, links) => rank(Level::Chain(chain_joint(links))),
+        Shape::Chain(_, links) => rank(Level::Chain(chain_class(links))),
         Shape::Choice(_, _) => rank(Level::Choice),
         Shape::Select(_, _, _) => rank(Level::Selection),
         Shape::Range(_, _) => rank(Level::Range),
@@ -159,7 +166,7 @@ fn put_expr(out: &mut Text, expr: &Expr) -> Result<(), NoMemory>
         Shape::Name(path) => put_path(out, path),
         Shape::Prefix(prefix, count, operand) => put_prefixed(out, *prefix, *count, operand),
         Shape::Chain(first, links) => {
-            let floor = rank(Level::Chain(chain_joint(links))) + 1;
+            let floor = rank(Level::Chain(chain_class(links))) + 1;
             put_standing(out, floor, first)?;
             put_links(out, floor, links)
         }
@@ -300,9 +307,9 @@ fn put_members(out: &mut Text, members: &Members) -> Result<(), NoMemory>
     ensures { OnOk result (out.new ≡ out.old ++ spaced (parted Sign.Comma false (map member_kinds members.now))) }
 {
     let mut behind = false;
-    for i in 0..members.len() {
+    for member in members {
         put_wanted(out, behind, Sign::Comma)?;
-        put_member(out, members.at(i))?;
+        put_member(out, member)?;
         behind = true;
     }
     Ok(())
@@ -357,8 +364,8 @@ fn put_item(out: &mut Text, item: &Item) -> Result<(), NoMemory>
 fn put_items(out: &mut Text, items: &Items) -> Result<(), NoMemory>
     ensures { OnOk result (out.new ≡ out.old ++ spaced (flat_map item_kinds (map plain_item items.now))) }
 {
-    for i in 0..items.len() {
-        put_item(out, items.at(i))?;
+    for item in items {
+        put_item(out, item)?;
     }
     Ok(())
 }
@@ -389,8 +396,8 @@ fn put_definition(out: &mut Text, definition: &Definition) -> Result<(), NoMemor
 fn put_definitions(out: &mut Text, definitions: &Definitions) -> Result<(), NoMemory>
     ensures { OnOk result (out.new ≡ out.old ++ spaced (flat_map definition_kinds (map plain_definition definitions.now))) }
 {
-    for i in 0..definitions.len() {
-        put_definition(out, definitions.at(i))?;
+    for definition in definitions {
+        put_definition(out, definition)?;
     }
     Ok(())
 }
@@ -425,8 +432,8 @@ fn put_assignment(out: &mut Text, assignment: &Assignment) -> Result<(), NoMemor
 fn put_assignments(out: &mut Text, assignments: &Assignments) -> Result<(), NoMemory>
     ensures { OnOk result (out.new ≡ out.old ++ spaced (flat_map assignment_kinds (map plain_assignment assignments.now))) }
 {
-    for i in 0..assignments.len() {
-        put_assignment(out, assignments.at(i))?;
+    for assignment in assignments {
+        put_assignment(out, assignment)?;
     }
     Ok(())
 }
@@ -501,8 +508,8 @@ fn put_element(out: &mut Text, element: &Element) -> Result<(), NoMemory>
 fn put_elements(out: &mut Text, elements: &Elements) -> Result<(), NoMemory>
     ensures { OnOk result (out.new ≡ out.old ++ spaced (flat_map element_kinds (map plain_element elements.now))) }
 {
-    for i in 0..elements.len() {
-        put_element(out, elements.at(i))?;
+    for element in elements {
+        put_element(out, element)?;
     }
     Ok(())
 }
@@ -511,9 +518,9 @@ fn put_parameter_names(out: &mut Text, parameters: &Parameters) -> Result<(), No
     ensures { OnOk result (out.new ≡ out.old ++ spaced (parted Sign.Comma false (map ident (map parameter_name parameters.now)))) }
 {
     let mut behind = false;
-    for i in 0..parameters.len() {
+    for parameter in parameters {
         put_wanted(out, behind, Sign::Comma)?;
-        put_ident(out, &parameters.at(i).name)?;
+        put_ident(out, &parameter.name)?;
         behind = true;
     }
     Ok(())
@@ -549,14 +556,14 @@ fn put_module(out: &mut Text, behind: bool, declared: &Module) -> Result<(), NoM
 
 /// Writes a model in one spelling: single blanks between the tokens and no line end, brackets only where the grammar needs
 /// them, every `;` that may stand, no brackets for an empty list of parameters, `word` without `unsigned`, and a word
-/// literal as `0ud`, its width, `_` and its decimal digits (NuSMV 2.6 User Manual, 2.2.3 and 2.3). The layout is our own.
+/// literal as `0ud`, its width, `_` and its decimal digits (NuSMV 2.6 User Manual, 2.2 and 2.3). The layout is our own.
 pub fn print(alloc: Global, source: &Source) -> Result<Text, NoMemory>
     ensures { IfOk result (λ text. text ≡ printed (plain_source source.now)) }
 {
     let mut out = Text::new(alloc);
     let mut behind = false;
-    for i in 0..source.modules.len() {
-        put_module(&mut out, behind, source.modules.at(i))?;
+    for declared in &source.modules {
+        put_module(&mut out, behind, declared)?;
         behind = true;
     }
     Ok(out)
@@ -571,10 +578,20 @@ pub fn printed_spells()
     ensures one_text { (source model : PlainSource) → unplaced_source source ≡ unplaced_source model → printed source ≡ printed model }
 {}
 
+/// The levels by which brackets are printed are those of the grammar.
+pub fn ranks_are_levels()
+    // The rank of a level is its place among all levels.
+    ensures ranks { (l : Level) → drop (rank l) all_levels ≡ l ∷ drop (suc (rank l)) all_levels }
+    // An operator is printed as the token that the grammar reads as it.
+    ensures operators { (o : Infix) → infix_of (class_of o) (infix_kind o) ≡ Some o }
+    // A chain has the rank of the level whose operators join it in the grammar.
+    ensures chains { (c : OperatorClass) (k : TokenKind) (o : Infix) (p : Place) (t u : Tree) (ls : Links) → infix_of c k ≡ Some o → tree_rank (chain p t (link o u ls)) ≡ rank (Level.Chain c) }
+{}
+
 /// What is printed for a model that a text spells is lexed and spelled again, as the same model but for its places and its
 /// counts of tokens.
 pub fn printed_is_read()
-    ensures { (source : PlainSource) (end : Place) (text : List ℕ) (xs : List Token) → LexesTo text xs → SpellsSource source end xs → IsReadAgain source (printed source) }
+    ensures { (source : PlainSource) (end : Place) (text : List ℕ) (xs : List Token) → Lexes text xs → SpellsSource source end xs → IsReadAgain source (printed source) }
 {
     printed_is_lexed();
 }

@@ -175,7 +175,7 @@ lawful_expression = record {
   begins = λ h xs n e. let b = dead_begins xs n (asked_died h xs n e) in record {
     front = b.front;
     back = b.back;
-    further = b.zs;
+    remainder = b.zs;
     value = b.t;
     split = b.parts;
     count = b.left;

@@ -107,7 +107,7 @@ module _ {A : Type 0} (value : TokenKind → Option A) where
   one_begins k a is h [] n e = record {
     front = [];
     back = [];
-    further = k ∷ [];
+    remainder = k ∷ [];
     value = (a, k.place);
     split = refl;
     count = died_count (one value h []) 0 n (one_ends h) e;
@@ -118,7 +118,7 @@ module _ {A : Type 0} (value : TokenKind → Option A) where
     | inr f ↦ record {
       front = [];
       back = x ∷ xs;
-      further = k ∷ [];
+      remainder = k ∷ [];
       value = (a, k.place);
       split = refl;
       count = died_count (one value h (x ∷ xs)) (suc (length xs)) n f e;
@@ -285,11 +285,11 @@ module _ {A : Type 0} (pick : Pick A) (other : Reader A) (P : TokenKind → Plac
         | inl i ↦ let b = i.2.begins h zs n (sym (either_picks pick other h z zs i.0 i.1) ∙ f) in record {
           front = z ∷ b.front;
           back = b.back;
-          further = b.further;
+          remainder = b.remainder;
           value = b.value;
           split = ap (λ l. z ∷ l) b.split;
           count = b.count;
-          spells = inl (z, b.front ++ b.further, refl, b.spells);
+          spells = inl (z, b.front ++ b.remainder, refl, b.spells);
         }
         | inr i ↦ begun h (z ∷ zs) n (sym (either_passes pick other h (z ∷ zs) i.0) ∙ f)
       ]
@@ -332,7 +332,7 @@ module _ {A : Type 0} (pick : Pick A) (P : TokenKind → Place → A → List To
       (λ h xs n e. let b = m.begins h xs n e in record {
         front = b.front;
         back = b.back;
-        further = b.further;
+        remainder = b.remainder;
         value = b.value;
         split = b.split;
         count = b.count;
@@ -357,7 +357,7 @@ module _ {A : Type 0} (pick : Pick A) (P : TokenKind → Place → A → List To
       (λ h xs n e. record {
         front = [];
         back = xs;
-        further = some.1;
+        remainder = some.1;
         value = some.0;
         split = refl;
         count = died_count (fail {A = A} h xs) (length xs) n refl e;

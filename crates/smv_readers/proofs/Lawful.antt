@@ -26,11 +26,11 @@ pub record Complete {A : Type 0} (r : Reader A) (of : A → List Tree) (v : A) (
 pub record Begun {A : Type 0} (R : A → List Token → Type 0) (xs : List Token) (n : ℕ) : Type 0 where
   pub front : List Token
   pub back : List Token
-  pub further : List Token
+  pub remainder : List Token
   pub value : A
   pub split : xs ≡ front ++ back
   pub count : length back ≡ n
-  pub spells : R value (front ++ further)
+  pub spells : R value (front ++ remainder)
 
 pub record Lawful {A : Type 0} (r : Reader A) (R : A → List Token → Type 0) (of : A → List Tree) (stops : List Token → Type 0) : Type 0 where
   pub sound : (h : Option Place) (xs : List Token) (a : A) (g : Option Place) (rest : List Token) → r h xs ≡ found a g rest → Sound R of h xs a g rest
@@ -210,20 +210,20 @@ module _ {A B : Type 0} (r : Reader A) (s : Reader B) (R : A → List Token → 
     | inl f ↦ let b = l.begins h xs n f in record {
       front = b.front;
       back = b.back;
-      further = b.further ++ some.1;
+      remainder = b.remainder ++ some.1;
       value = (b.value, some.0);
       split = b.split;
       count = b.count;
-      spells = (b.front ++ b.further, some.1, sym (append_assoc b.front b.further some.1), b.spells, some.2);
+      spells = (b.front ++ b.remainder, some.1, sym (append_assoc b.front b.remainder some.1), b.spells, some.2);
     }
     | inr i ↦ let p = l.sound h xs i.0 i.1 i.2 i.3 in let b = m.begins i.1 i.2 n i.4 in record {
       front = p.tokens ++ b.front;
       back = b.back;
-      further = b.further;
+      remainder = b.remainder;
       value = (p.value, b.value);
       split = p.split ∙ ap (λ z. p.tokens ++ z) b.split ∙ sym (append_assoc p.tokens b.front b.back);
       count = b.count;
-      spells = (p.tokens, b.front ++ b.further, append_assoc p.tokens b.front b.further, p.spells, b.spells);
+      spells = (p.tokens, b.front ++ b.remainder, append_assoc p.tokens b.front b.remainder, p.spells, b.spells);
     }
   ]
 

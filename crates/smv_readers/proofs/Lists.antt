@@ -42,12 +42,12 @@ pub record Listed {A : Type 0} (R : A → List Token → Type 0) (s : Sign) (vs 
   pub first : A
   pub others : List A
   pub tokens : List Token
-  pub further : List Token
+  pub remainder : List Token
   pub closing : Token
   pub values : vs ≡ first ∷ others
-  pub split : xs ≡ tokens ++ (further ++ closing ∷ [])
+  pub split : xs ≡ tokens ++ (remainder ++ closing ∷ [])
   pub spells : R first tokens
-  pub more : Many (Behind signs.Comma R) others further
+  pub more : Many (Behind signs.Comma R) others remainder
   pub closes : IsSign s closing
 
 module _ {A : Type 0} (r : Reader A) (R : A → List Token → Type 0) (of : A → List Tree) (stops : List Token → Type 0) (l : Lawful r R of stops) (s : Sign)
@@ -71,8 +71,8 @@ module _ {A : Type 0} (r : Reader A) (R : A → List Token → Type 0) (of : A �
       (λ w zs rest d stop. (d.0, rest, ap (λ z. z ++ rest) d.1, d.2))
 
   -- what begins here, what is further or what closes, ends an element
-  further_stops : (w : List A × (Unit {0} × Place)) (zs rest : List Token) → Both (Many (Behind signs.Comma R)) (SignAt s) w zs → Free rest → stops (zs ++ rest)
-  further_stops w zs rest d stop = subst (λ z. stops (z ++ rest)) (sym d.2) (go d.3)
+  remainder_stops : (w : List A × (Unit {0} × Place)) (zs rest : List Token) → Both (Many (Behind signs.Comma R)) (SignAt s) w zs → Free rest → stops (zs ++ rest)
+  remainder_stops w zs rest d stop = subst (λ z. stops (z ++ rest)) (sym d.2) (go d.3)
     where
       go : {vs : List A} {ys : List Token} → Many (Behind signs.Comma R) vs ys → stops ((ys ++ d.1) ++ rest)
       go none = subst (λ z. stops (z ++ rest)) (sym d.4.1) (close_stops d.4.0 rest d.4.2)
@@ -83,13 +83,13 @@ module _ {A : Type 0} (r : Reader A) (R : A → List Token → Type 0) (of : A �
   lawful_listed = lawful_mapped (λ q. q.0 ∷ q.1.0) (both r (both (many (behind signs.Comma r)) (sign s)))
       (Both R (Both (Many (Behind signs.Comma R)) (SignAt s))) (of_both of (of_both (of_all of) of_none)) Free
       (lawful_both r (both (many (behind signs.Comma r)) (sign s)) R (Both (Many (Behind signs.Comma R)) (SignAt s)) of (of_both (of_all of) of_none) stops Free l closed
-      (([], (some_sign s).0), (some_sign s).1, ([], (some_sign s).1, refl, none, (some_sign s).2)) further_stops)
+      (([], (some_sign s).0), (some_sign s).1, ([], (some_sign s).1, refl, none, (some_sign s).2)) remainder_stops)
       (Listed R s) (of_all of)
       (λ q ys d. record {
         first = q.0;
         others = q.1.0;
         tokens = d.0;
-        further = d.4.0;
+        remainder = d.4.0;
         closing = d.4.4.0;
         values = refl;
         split = d.2 ∙ ap (λ z. d.0 ++ z) (d.4.2 ∙ ap (λ z. d.4.0 ++ z) d.4.4.1);
@@ -100,7 +100,7 @@ module _ {A : Type 0} (r : Reader A) (R : A → List Token → Type 0) (of : A �
       (λ vs ys d. (
         (d.first, (d.others, (tt, d.closing.place))),
         sym d.values,
-        (d.tokens, d.further ++ d.closing ∷ [], d.split, d.spells, (d.further, d.closing ∷ [], refl, d.more, (d.closing, refl, d.closes, refl))),
+        (d.tokens, d.remainder ++ d.closing ∷ [], d.split, d.spells, (d.remainder, d.closing ∷ [], refl, d.more, (d.closing, refl, d.closes, refl))),
       ))
       (λ q. ap (λ z. of q.0 ++ z) (sym (append-nil (of_all of q.1.0))))
 
@@ -124,8 +124,8 @@ module _ {A : Type 0} (r : Reader A) (R : A → List Token → Type 0) (of : A �
   unclosed : (vs : List A) (ys rest : List Token) → Listed R signs.Close vs ys → Free rest → Unpicked (behind signs.Close (nothing {A = List A} [])) (ys ++ rest)
   unclosed vs ys rest d stop =
       let o = opens d.first d.tokens d.spells in
-      subst (λ z. Unpicked (behind signs.Close (nothing {A = List A} [])) (z ++ rest)) (sym (d.split ∙ ap (λ z. z ++ (d.further ++ d.closing ∷ [])) o.2))
-      (not_behind signs.Close (nothing {A = List A} []) o.0 ((o.1 ++ (d.further ++ d.closing ∷ [])) ++ rest) o.3)
+      subst (λ z. Unpicked (behind signs.Close (nothing {A = List A} [])) (z ++ rest)) (sym (d.split ∙ ap (λ z. z ++ (d.remainder ++ d.closing ∷ [])) o.2))
+      (not_behind signs.Close (nothing {A = List A} []) o.0 ((o.1 ++ (d.remainder ++ d.closing ∷ [])) ++ rest) o.3)
 
   inner : Lawful (either (behind signs.Close (nothing [])) (listed r signs.Close)) Inner (of_all of) Free
   inner = lawful_either (behind signs.Close (nothing [])) (Behind signs.Close (Nothing [])) (of_all of) Free

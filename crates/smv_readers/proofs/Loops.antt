@@ -114,11 +114,11 @@ module _ {A : Type 0} (pick : Pick A) (P : TokenKind → Place → A → List To
       | inl f ↦ let b = i.2.begins h xs m f in record {
         front = x ∷ b.front;
         back = b.back;
-        further = b.further;
+        remainder = b.remainder;
         value = b.value ∷ [];
         split = ap (λ z. x ∷ z) b.split;
         count = b.count;
-        spells = subst (λ (z : List Token). Many P (b.value ∷ []) (x ∷ z)) (append-nil (b.front ++ b.further)) (more x b.spells none);
+        spells = subst (λ (z : List Token). Many P (b.value ∷ []) (x ∷ z)) (append-nil (b.front ++ b.remainder)) (more x b.spells none);
       }
       | inr j ↦
           let p = i.2.sound h xs j.0 j.1 j.2 j.3 in
@@ -126,11 +126,11 @@ module _ {A : Type 0} (pick : Pick A) (P : TokenKind → Place → A → List To
           record {
             front = x ∷ (p.tokens ++ b.front);
             back = b.back;
-            further = b.further;
+            remainder = b.remainder;
             value = p.value ∷ b.value;
             split = ap (λ z. x ∷ z) (p.split ∙ ap (λ z. p.tokens ++ z) b.split ∙ sym (append_assoc p.tokens b.front b.back));
             count = b.count;
-            spells = subst (λ (z : List Token). Many P (p.value ∷ b.value) (x ∷ z)) (sym (append_assoc p.tokens b.front b.further)) (more x p.spells b.spells);
+            spells = subst (λ (z : List Token). Many P (p.value ∷ b.value) (x ∷ z)) (sym (append_assoc p.tokens b.front b.remainder)) (more x p.spells b.spells);
           }
     ]
     | inr i ↦ absurd (not_both (sym (loop_ends pick (suc n) h (x ∷ xs) i.0) ∙ e))

@@ -66,11 +66,11 @@ module _ {A B : Type 0} (f : A → B) (r : Reader A) (R : A → List Token → T
     begins = λ h xs n e. let b = l.begins h xs n (mapped_died f r h xs n e) in record {
       front = b.front;
       back = b.back;
-      further = b.further;
+      remainder = b.remainder;
       value = f b.value;
       split = b.split;
       count = b.count;
-      spells = to b.value (b.front ++ b.further) b.spells;
+      spells = to b.value (b.front ++ b.remainder) b.spells;
     };
     unique = λ v w ys zs rest other d e stop stop' same.
         let i = from v ys d in
@@ -107,13 +107,13 @@ abbrev pub of_second : {A C : Type 0} → (A → List Tree) → C × A → List 
 of_second of c = of c.1
 
 module _ {A C : Type 0} (tell : List Token → List Token → C) (tells : List Token → C) (r : Reader A) (R : A → List Token → Type 0) (of : A → List Tree) (stops : List Token → Type 0) (l : Lawful r R of stops)
-    (own : (v : A) (ys : List Token) → R v ys → (rest : List Token) → tell (ys ++ rest) rest ≡ tells ys)
+    (alone : (v : A) (ys : List Token) → R v ys → (rest : List Token) → tell (ys ++ rest) rest ≡ tells ys)
     (alike : (front : List Token) (x : Token) (back other tokens left : List Token) → front ++ x ∷ back ≡ tokens ++ (left ++ x ∷ back) → tell (front ++ x ∷ back) (left ++ x ∷ back) ≡ tell (front ++ x ∷ other) (left ++ x ∷ other)) where
   told_sound : (h : Option Place) (xs : List Token) (c : C × A) (g : Option Place) (rest : List Token) → told tell r h xs ≡ found c g rest → Sound (Told tells R) (of_second of) h xs c g rest
   told_sound h xs c g rest e =
       let i = told_found tell r h xs c g rest e in
       let p = l.sound h xs c.1 g rest i.0 in
-      let first : c.0 ≡ tells p.tokens = sym i.1 ∙ ap (λ z. tell z rest) p.split ∙ own p.value p.tokens p.spells rest in
+      let first : c.0 ≡ tells p.tokens = sym i.1 ∙ ap (λ z. tell z rest) p.split ∙ alone p.value p.tokens p.spells rest in
       record {
         value = (tells p.tokens, p.value);
         tokens = p.tokens;
@@ -128,7 +128,7 @@ module _ {A C : Type 0} (tell : List Token → List Token → C) (tells : List T
       let p = l.complete v.1 ys d.0 h rest stop in
       record {
         value = (tells ys, p.value);
-        reads = told_reads tell r p.reads ∙ ap (λ (z : C). found (z, p.value) (highs h (of v.1)) rest) (own v.1 ys d.0 rest);
+        reads = told_reads tell r p.reads ∙ ap (λ (z : C). found (z, p.value) (highs h (of v.1)) rest) (alone v.1 ys d.0 rest);
         same = λ none. ap (λ (z : C). (z, p.value)) (sym d.1) ∙ ap (λ (z : A). (v.0, z)) (p.same none);
       }
 
@@ -145,8 +145,8 @@ module _ {A C : Type 0} (tell : List Token → List Token → C) (tells : List T
     begins = λ h xs n e. let b = l.begins h xs n (told_died tell r h xs n e) in record {
       front = b.front;
       back = b.back;
-      further = b.further;
-      value = (tells (b.front ++ b.further), b.value);
+      remainder = b.remainder;
+      value = (tells (b.front ++ b.remainder), b.value);
       split = b.split;
       count = b.count;
       spells = (b.spells, refl);
@@ -161,8 +161,8 @@ Placed R = Told start R
 abbrev pub Counted : {A : Type 0} → (A → List Token → Type 0) → ℕ × A → List Token → Type 0
 Counted R = Told length R
 
-start_own : (x : Token) (zs ys rest : List Token) → ys ≡ x ∷ zs → start (ys ++ rest) ≡ start ys
-start_own x zs ys rest e = ap (λ z. start (z ++ rest)) e ∙ sym (ap start e)
+start_alone : (x : Token) (zs ys rest : List Token) → ys ≡ x ∷ zs → start (ys ++ rest) ≡ start ys
+start_alone x zs ys rest e = ap (λ z. start (z ++ rest)) e ∙ sym (ap start e)
 
 start_alike : (front : List Token) (x : Token) (back other : List Token) → start (front ++ x ∷ back) ≡ start (front ++ x ∷ other)
 start_alike [] x back other = refl
@@ -172,7 +172,7 @@ module _ {A : Type 0} (r : Reader A) (R : A → List Token → Type 0) (of : A �
   pub lawful_placed : ((v : A) (ys : List Token) → R v ys → (x : Token) × (zs : List Token) × (ys ≡ x ∷ zs)) → Lawful (placed r) (Placed R) (of_second of) stops
   unfolding placed
   lawful_placed some = lawful_told (λ xs ys. start xs) start r R of stops l
-      (λ v ys d rest. let s = some v ys d in start_own s.0 s.1 ys rest s.2) (λ front x back other tokens left e. start_alike front x back other)
+      (λ v ys d rest. let s = some v ys d in start_alone s.0 s.1 ys rest s.2) (λ front x back other tokens left e. start_alike front x back other)
 
   pub lawful_counted : Lawful (counted r) (Counted R) (of_second of) stops
   unfolding counted

@@ -58,11 +58,11 @@ front_of [] back (suc i) e = absurd (omega arith)
 front_of (f ∷ fs) back zero e = absurd (omega arith)
 front_of (f ∷ fs) back (suc i) e = ap (λ z. f ∷ z) (front_of fs back i (omega arith))
 
-one_further : (front : List Token) (x : Token) (back : List Token) (i : ℕ) → length front ≡ i → take (suc i) (front ++ x ∷ back) ≡ front ++ x ∷ []
-one_further [] x back zero e = refl
-one_further [] x back (suc i) e = absurd (omega arith)
-one_further (f ∷ fs) x back zero e = absurd (omega arith)
-one_further (f ∷ fs) x back (suc i) e = ap (λ z. f ∷ z) (one_further fs x back i (omega arith))
+one_more_taken : (front : List Token) (x : Token) (back : List Token) (i : ℕ) → length front ≡ i → take (suc i) (front ++ x ∷ back) ≡ front ++ x ∷ []
+one_more_taken [] x back zero e = refl
+one_more_taken [] x back (suc i) e = absurd (omega arith)
+one_more_taken (f ∷ fs) x back zero e = absurd (omega arith)
+one_more_taken (f ∷ fs) x back (suc i) e = ap (λ z. f ∷ z) (one_more_taken fs x back i (omega arith))
 
 -- where the tokens part: those before the dead one begin a spelling, and with it they begin none
 pub record Halts (xs : List Token) (n : ℕ) : Type 0 where
@@ -81,7 +81,7 @@ died_halts xs n e =
       back = b.back;
       split = b.split;
       count = b.count;
-      begins = (b.value, b.further, b.spells);
+      begins = (b.value, b.remainder, b.spells);
       stays = λ x others same ms ys d.
           let f : reading (b.front ++ x ∷ others) ≡ died (suc (length others)) =
           ap reading (ap (λ z. b.front ++ z) (sym same) ∙ sym b.split) ∙ e ∙ ap died (sym b.count ∙ ap length same) in
@@ -146,7 +146,7 @@ dead_at xs n i e at =
             absurd (omega (arith, length-append h.front h.back))
         go (x ∷ others) same =
             h.stays x others same ms ys
-            (subst (SpellsModules ms) (ap (λ z. z ++ ys) (ap (take (suc i)) (h.split ∙ ap (λ z. h.front ++ z) same) ∙ one_further h.front x others i here) ∙ append_assoc h.front (x ∷ []) ys) d)
+            (subst (SpellsModules ms) (ap (λ z. z ++ ys) (ap (take (suc i)) (h.split ∙ ap (λ z. h.front ++ z) same) ∙ one_more_taken h.front x others i here) ∙ append_assoc h.front (x ∷ []) ys) d)
 
 -- what the code finds, told by all tokens
 pub model_within : (xs : List Token) (n : ℕ) → model xs ≡ died n → n ≤ length xs

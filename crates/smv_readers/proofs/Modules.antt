@@ -1,5 +1,6 @@
 -- The readers of sections and modules.
 use Rattle.std.proofs.Common.{◌≡◌, inl, inr, ℕ, Bool, true, false, Option, Some, None, List, [], ◌∷◌, ◌++◌, length, refl, sym, ap, ◌∙◌, subst, append_assoc}
+use Rattle.std.specs.List.{flat_map}
 use Rattle.text_core.specs.declared.place.Place.{Place}
 use Rattle.smv_text.specs.declared.token.Reserved.TheVariants as words
 use Rattle.smv_text.specs.declared.token.Sign.TheVariants as signs
@@ -11,7 +12,7 @@ use Rattle.smv_text.specs.declared.tree.VarKind.TheVariants.{State, Input, Froze
 use Rattle.smv_text.specs.declared.tree.Parameter.{Parameter}
 use Rattle.smv_text.specs.Levels.{all_levels}
 use Rattle.smv_text.specs.Grammar.{Spells}
-use Rattle.smv_text.specs.Heights.{of_element, of_elements, of_modules}
+use Rattle.smv_text.specs.Heights.{of_element, of_modules}
 use Rattle.smv_text.specs.Sources.{SpellsNames, no_names, name_then, SpellsFormals, no_formals, SpellsItems, SpellsDefinitions, SpellsAssignments, IsOptional, left_out, semicolon, SpellsLabel, no_label, label as label_stated, section_word, SpellsElement, variables, definitions, symbol_names, assignments, inits, transitions, invariants, specifications, SpellsElements, no_elements, element_then, SpellsModules, no_modules, module_then}
 use Rattle.smv_text.specs.Tree.{Tree, PlainElement, vars, defines, constants, assigns, init, trans, invar, spec, PlainModule}
 use Rattle.smv_grammar.specs.Marks.{is_sign, is_word}
@@ -266,7 +267,7 @@ element_to x e ys d = go x.kind refl d
         let l = f.2 in
         let q = l.spells.2 in
         carried SpellsElement (ap constants (ap (λ (z : List ℕ). z ∷ l.others) l.spells.1 ∙ sym l.values) ∙ f.1)
-        (ap (λ z. x ∷ z) (ap (λ z. z ++ (l.further ++ l.closing ∷ [])) (sym q.1) ∙ sym l.split)) (symbol_names x q.0 i q.2 (names_to l.more) l.closing l.closes)
+        (ap (λ z. x ∷ z) (ap (λ z. z ++ (l.remainder ++ l.closing ∷ [])) (sym q.1) ∙ sym l.split)) (symbol_names x q.0 i q.2 (names_to l.more) l.closing l.closes)
     go (kind.Reserved words.Assign) i f = subst (λ z. SpellsElement z (x ∷ ys)) f.1 (assignments x i f.2)
     go (kind.Reserved words.Init) i f = held init (λ t xs zs d o. inits x i d o) f
     go (kind.Reserved words.Trans) i f = held trans (λ t xs zs d o. transitions x i d o) f
@@ -287,7 +288,7 @@ element_from e ys (symbol_names {n = n} {ns = ns} {xs = xs} x first i f m semi s
       first = n;
       others = ns;
       tokens = first ∷ [];
-      further = xs;
+      remainder = xs;
       closing = semi;
       values = refl;
       split = refl;
@@ -346,7 +347,7 @@ lawful_elements = lawful_as (many element_pick) (Many ElementAt) SpellsElements 
     (lawful_many element_pick ElementAt of_element Closed Outside element_law (λ rest stop. (outside_unpicked rest stop, outside_closed rest stop)) (λ x v ys zs d. element_closes x.kind x.place v ys d))
     (λ v ys d. elements_to d) (λ v ys d. elements_from d)
 
-all_elements : (es : List PlainElement) → of_all of_element es ≡ of_elements es
+all_elements : (es : List PlainElement) → of_all of_element es ≡ flat_map of_element es
 all_elements [] = refl
 all_elements (e ∷ es) = ap (λ z. of_element e ++ z) (all_elements es)
 
@@ -358,7 +359,7 @@ abbrev pub module_of : Parts → PlainModule
 module_of q = record { name = q.0.0; place = q.0.1; parameters = q.1.0; elements = q.1.1.1; tokens = q.1.1.0 }
 
 abbrev pub of_module : PlainModule → List Tree
-of_module m = of_elements m.elements
+of_module m = flat_map of_element m.elements
 
 abbrev pub PartsAt : Parts → List Token → Type 0
 PartsAt = Both NameAt (Both SpellsFormals (Counted SpellsElements))
@@ -434,4 +435,4 @@ lawful_modules = lawful_as (many module_pick) (Many ModuleAt) SpellsModules (of_
 
 pub all_modules : (ms : List PlainModule) → of_all of_module ms ≡ of_modules ms
 all_modules [] = refl
-all_modules (m ∷ ms) = ap (λ z. of_elements m.elements ++ z) (all_modules ms)
+all_modules (m ∷ ms) = ap (λ z. flat_map of_element m.elements ++ z) (all_modules ms)

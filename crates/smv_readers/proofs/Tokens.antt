@@ -83,11 +83,11 @@ module _ {A : Type 0} (r : Reader A) (R S : A → List Token → Type 0) (of : A
     begins = λ h xs n e. let b = l.begins h xs n e in record {
       front = b.front;
       back = b.back;
-      further = b.further;
+      remainder = b.remainder;
       value = b.value;
       split = b.split;
       count = b.count;
-      spells = to b.value (b.front ++ b.further) b.spells;
+      spells = to b.value (b.front ++ b.remainder) b.spells;
     };
     unique = λ v w ys zs rest other d e stop stop' same. l.unique v w ys zs rest other (from v ys d) (from w zs e) stop stop' same;
   }

@@ -118,7 +118,7 @@ formals_to ps ys (empty_brackets opening closing o c) = empty_formals opening cl
 formals_to ps ys (in_brackets opening o d) =
     let q = d.spells.2 in
     carried SpellsFormals (ap (λ (z : Parameter). z ∷ d.others) (ap (λ z. record { name = d.spells.0.0; place = z }) (sym q.3) ∙ d.spells.1) ∙ sym d.values)
-    (ap (λ z. opening ∷ z) (ap (λ z. z ++ (d.further ++ d.closing ∷ [])) (sym q.1) ∙ sym d.split))
+    (ap (λ z. opening ∷ z) (ap (λ z. z ++ (d.remainder ++ d.closing ∷ [])) (sym q.1) ∙ sym d.split))
     (formals opening q.0 d.closing o q.2 (parameters_to d.more) d.closes)
 
 formals_from : (ps : List Parameter) (ys : List Token) → SpellsFormals ps ys → Bracketed ParameterAt ps ys
@@ -128,7 +128,7 @@ formals_from ps ys (formals {n = n} {ps = others} {xs = xs} opening x closing o 
   first = record { name = n; place = x.place };
   others = others;
   tokens = x ∷ [];
-  further = xs;
+  remainder = xs;
   closing = closing;
   values = refl;
   split = refl;
@@ -306,7 +306,7 @@ listed_from (last_one {t = t} {xs = xs} e closing c) = (
     first = t;
     others = [];
     tokens = xs;
-    further = [];
+    remainder = [];
     closing = closing;
     values = refl;
     split = refl;
@@ -323,10 +323,10 @@ listed_from (one_before {t = t} {u = u} {ts = ts} {xs = xs} {ys = zs} e comma c 
         first = t;
         others = d.0;
         tokens = xs;
-        further = comma ∷ (d.2.tokens ++ d.2.further);
+        remainder = comma ∷ (d.2.tokens ++ d.2.remainder);
         closing = d.2.closing;
         values = refl;
-        split = ap (λ z. xs ++ comma ∷ z) (d.2.split ∙ sym (append_assoc d.2.tokens d.2.further (d.2.closing ∷ [])));
+        split = ap (λ z. xs ++ comma ∷ z) (d.2.split ∙ sym (append_assoc d.2.tokens d.2.remainder (d.2.closing ∷ [])));
         spells = e;
         more = carried (Many (Behind signs.Comma (Spells all_levels))) (sym d.2.values) refl (more comma (c, d.2.spells) d.2.more);
         closes = d.2.closes;
@@ -423,7 +423,7 @@ type_from k d ys (enumerations {m = m} {ms = ms} {xs = xs} {ys = zs} opening o f
       first = m;
       others = ms;
       tokens = xs;
-      further = zs;
+      remainder = zs;
       closing = closing;
       values = refl;
       split = refl;

@@ -66,8 +66,8 @@ with_first a (found all h rest) = found (a ∷ all) h rest
 with_first a (died n) = died n
 
 abbrev pub again : {A : Type 0} → Reader (List A) → Option (Reader A) → Option Place → Token → List Token → Reading (List A)
-again further None h x xs = found [] h (x ∷ xs)
-again further (Some r) h x xs = and_then (r h xs) (λ a g ys. with_first a (further g ys))
+again others None h x xs = found [] h (x ∷ xs)
+again others (Some r) h x xs = and_then (r h xs) (λ a g ys. with_first a (others g ys))
 
 -- as long as the first token may stand, and so many times at most
 unfoldable pub loop : {A : Type 0} → ℕ → Pick A → Reader (List A)

@@ -7,8 +7,8 @@ use Rattle.smv_text.specs.Tree.{Tree}
 use Rattle.smv_meaning.specs.Expressions.{paths_of}
 use Rattle.smv_meaning.specs.Instances.{Instance}
 use Rattle.smv_meaning.specs.Names.{Found, variable_at, body_at, instance_at, symbol_of, cyclic, none, Local, alias, formula, local, look, steps_of}
-use Rattle.smv_meaning.specs.Phases.{Formula, formula_here, from_instance, touched, referred}
-use Rattle.smv_meaning.specs.Formulas.{formulas_of, number_or, touched_numbers, all_touched, instance_within, references_of}
+use Rattle.smv_meaning.specs.Phases.{Formula, formula_here, from_instance, path_formulas, referred}
+use Rattle.smv_meaning.specs.Formulas.{formulas_of, number_or, path_numbers, all_path_numbers, instance_within, references_of}
 use Rattle.smv_meaning.specs.Settled.{is_formula}
 use Rattle.smv_model_laws.proofs.Ranked.{no_reference}
 use Rattle.smv_references.proofs.FormulaLemmas.{append_none}
@@ -32,35 +32,35 @@ from_some (symbol_of x) go c h = cc
 from_some cyclic go c h = cc
 from_some none go c h = cc
 
-pub touched_none : (t : List Instance) (i : ℕ) (names : List (List ℕ)) → names ≡ [] → touched_numbers t i names ≡ []
-touched_none t i names e = ap (touched_numbers t i) e
+pub path_numbers_none : (t : List Instance) (i : ℕ) (names : List (List ℕ)) → names ≡ [] → path_numbers t i names ≡ []
+path_numbers_none t i names e = ap (path_numbers t i) e
 
-pub touched_last : (t : List Instance) (i : ℕ) (x : List ℕ) (names rest : List (List ℕ)) → None ≡ instance_within (look t (steps_of t) i x) → names ≡ x ∷ rest → touched_numbers t i names ≡ here_numbers t i x
-touched_last t i x names rest h e =
-    ap (touched_numbers t i) e
-    ∙ ap (λ fs. map (number_or (formulas_of t)) (formula_here i x (local t i x) ++ fs)) (from_none (look t (steps_of t) i x) (λ c. touched t (look t (steps_of t)) c rest) (sym h))
+pub path_numbers_last : (t : List Instance) (i : ℕ) (x : List ℕ) (names rest : List (List ℕ)) → None ≡ instance_within (look t (steps_of t) i x) → names ≡ x ∷ rest → path_numbers t i names ≡ here_numbers t i x
+path_numbers_last t i x names rest h e =
+    ap (path_numbers t i) e
+    ∙ ap (λ fs. map (number_or (formulas_of t)) (formula_here i x (local t i x) ++ fs)) (from_none (look t (steps_of t) i x) (λ c. path_formulas t (look t (steps_of t)) c rest) (sym h))
     ∙ ap (map (number_or (formulas_of t))) (append_none (formula_here i x (local t i x)))
 
-pub touched_more : (t : List Instance) (i c : ℕ) (x : List ℕ) (names rest : List (List ℕ)) → Some c ≡ instance_within (look t (steps_of t) i x) → names ≡ x ∷ rest
-    → touched_numbers t i names ≡ here_numbers t i x ++ touched_numbers t c rest
-touched_more t i c x names rest h e =
-    ap (touched_numbers t i) e
-    ∙ ap (λ fs. map (number_or (formulas_of t)) (formula_here i x (local t i x) ++ fs)) (from_some (look t (steps_of t) i x) (λ c. touched t (look t (steps_of t)) c rest) c (sym h))
-    ∙ map-append (number_or (formulas_of t)) (formula_here i x (local t i x)) (touched t (look t (steps_of t)) c rest)
+pub path_numbers_more : (t : List Instance) (i c : ℕ) (x : List ℕ) (names rest : List (List ℕ)) → Some c ≡ instance_within (look t (steps_of t) i x) → names ≡ x ∷ rest
+    → path_numbers t i names ≡ here_numbers t i x ++ path_numbers t c rest
+path_numbers_more t i c x names rest h e =
+    ap (path_numbers t i) e
+    ∙ ap (λ fs. map (number_or (formulas_of t)) (formula_here i x (local t i x) ++ fs)) (from_some (look t (steps_of t) i x) (λ c. path_formulas t (look t (steps_of t)) c rest) c (sym h))
+    ∙ map-append (number_or (formulas_of t)) (formula_here i x (local t i x)) (path_formulas t (look t (steps_of t)) c rest)
 
 -- what all paths of an expression go through
-pub all_touched_is : (t : List Instance) (j : ℕ) (qs : List Path) → all_touched t j qs ≡ map (number_or (formulas_of t)) (flat_map (λ q. touched t (look t (steps_of t)) j q.names) qs)
-all_touched_is t j [] = refl
-all_touched_is t j (q ∷ qs) =
-    ap (λ ns. touched_numbers t j q.names ++ ns) (all_touched_is t j qs)
-    ∙ sym (map-append (number_or (formulas_of t)) (touched t (look t (steps_of t)) j q.names) (flat_map (λ r. touched t (look t (steps_of t)) j r.names) qs))
+pub all_path_numbers_is : (t : List Instance) (j : ℕ) (qs : List Path) → all_path_numbers t j qs ≡ map (number_or (formulas_of t)) (flat_map (λ q. path_formulas t (look t (steps_of t)) j q.names) qs)
+all_path_numbers_is t j [] = refl
+all_path_numbers_is t j (q ∷ qs) =
+    ap (λ ns. path_numbers t j q.names ++ ns) (all_path_numbers_is t j qs)
+    ∙ sym (map-append (number_or (formulas_of t)) (path_formulas t (look t (steps_of t)) j q.names) (flat_map (λ r. path_formulas t (look t (steps_of t)) j r.names) qs))
 
 -- the row of a definition or an actual
-pub alias_row : (t : List Instance) (k : Formula) (j : ℕ) (p : Path) → alias j p ≡ local t k.0 k.1 → touched_numbers t j p.names ≡ references_of t k
+pub alias_row : (t : List Instance) (k : Formula) (j : ℕ) (p : Path) → alias j p ≡ local t k.0 k.1 → path_numbers t j p.names ≡ references_of t k
 alias_row t k j p h = ap (λ l. map (number_or (formulas_of t)) (referred t (look t (steps_of t)) l)) h
 
-pub formula_row : (t : List Instance) (k : Formula) (j : ℕ) (e : Tree) → formula j e ≡ local t k.0 k.1 → all_touched t j (paths_of e []) ≡ references_of t k
-formula_row t k j e h = all_touched_is t j (paths_of e []) ∙ ap (λ l. map (number_or (formulas_of t)) (referred t (look t (steps_of t)) l)) h
+pub formula_row : (t : List Instance) (k : Formula) (j : ℕ) (e : Tree) → formula j e ≡ local t k.0 k.1 → all_path_numbers t j (paths_of e []) ≡ references_of t k
+formula_row t k j e h = all_path_numbers_is t j (paths_of e []) ∙ ap (λ l. map (number_or (formulas_of t)) (referred t (look t (steps_of t)) l)) h
 
 pub no_row : (t : List Instance) (k : Formula) (l : Local) → l ≡ local t k.0 k.1 → is_formula l ≡ false → references_of t k ≡ []
 no_row t k l h e = ap (λ fs. map (number_or (formulas_of t)) fs) (ap (referred t (look t (steps_of t))) (sym h) ∙ no_reference t (look t (steps_of t)) l e)

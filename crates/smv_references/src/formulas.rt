@@ -118,8 +118,8 @@ pub fn formulas_in<'a>(alloc: Global, table: &Table<'a>) -> Result<Vec<Formula<'
     let mut formulas = Vec::new(alloc);
     for i in 0..table.len() {
         let at = table.at(i);
-        add_actuals(&mut formulas, i, &at.plan.parameters, at.actuals)?;
-        add_elements(&mut formulas, i, &at.plan.elements)?;
+        add_actuals(&mut formulas, i, &at.module.parameters, at.actuals)?;
+        add_elements(&mut formulas, i, &at.module.elements)?;
     }
     Ok(formulas)
 }

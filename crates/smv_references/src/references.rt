@@ -1,24 +1,23 @@
 // To which definitions and actuals each refers, and an order in which each stands after these.
-ghost use Rattle.std.specs.Prelude.{◌≡◌, ◌<◌, ◌++◌, ◌∷◌, [], List, ℕ, map, length, IfOk, OnOk, position, slice_index_or, unwrap_or, flat_map};
+ghost use Rattle.std.specs.Prelude.{◌≡◌, ◌<◌, ◌++◌, [], List, ℕ, map, IfOk, OnOk, unwrap_or};
 ghost use Rattle.digraph.specs.Ordering.{IsOrder};
 ghost use Rattle.smv_meaning.specs.Instances.{Instance as Specified};
 ghost use Rattle.smv_meaning.specs.Names.{look, local, steps_of};
 ghost use Rattle.smv_meaning.specs.Phases.{formula_here};
-ghost use Rattle.smv_meaning.specs.Formulas.{placed_formulas, formulas_of, number_in, number_or, references_of, reference_graph, touched_numbers, all_touched, instance_within};
+ghost use Rattle.smv_meaning.specs.Formulas.{placed_formulas, formulas_of, number_in, number_or, references_of, reference_graph, path_numbers, all_path_numbers, instance_within};
 ghost use Rattle.smv_references.specs.FormulaOrders.{IsOrdering};
 ghost use Rattle.smv_text.specs.View.{plain};
 ghost use Rattle.smv_meaning.specs.Expressions.{paths_of};
 ghost use Rattle.smv_instances.specs.NameMap.{named_in};
-ghost use Rattle.smv_instances.specs.View.{instance_plain, local_plain};
+ghost use Rattle.smv_instances.specs.View.{instance_plain};
 ghost use Rattle.smv_references.specs.View.{formula_plain, path_seen, key_of};
 
 use crate::formulas::Formula;
 use crate::paths::paths_in;
 use digraph::{Graph, Order, sort};
-use smv_instances::{Children, Known, Table, Target, child_in, put_first};
+use smv_instances::{InstanceMap, Known, Table, Target, nothing_in, put_first, value_in};
 use smv_text::{Expr, Path};
 use std::alloc::Global;
-use std::collections::HashMap;
 use text_core::{List, Names, NoMemory};
 
 /// How the definitions and actuals of a model refer to one another.
@@ -30,11 +29,17 @@ pub enum Ordering {
     Cycle(usize),
 }
 
-/// The numbers of definitions and actuals by their instances and names.
-pub fn numbers_of<'a>(alloc: Global, formulas: &[Formula<'a>]) -> Result<Children<'a>, NoMemory>
+/// Numbers of definitions and actuals by their instances and names.
+pub type FormulaNumbers<'a> = InstanceMap<'a, usize>;
+
+/// The number of each definition and actual: the place of the first one of its instance and name.
+pub fn numbers_of<'a>(
+    alloc: Global,
+    formulas: &[Formula<'a>],
+) -> Result<FormulaNumbers<'a>, NoMemory>
     ensures { IfOk result (λ m. (i : ℕ) (x : List ℕ) → named_in m i x ≡ number_in (map key_of formulas.now) (i, x)) }
 {
-    let mut numbers = HashMap::new(alloc);
+    let mut numbers = nothing_in(alloc);
     for k in 0..formulas.len() {
         let formula = &formulas[k];
         put_first(&mut numbers, formula.instance, formula.name, k)?;
@@ -42,10 +47,10 @@ pub fn numbers_of<'a>(alloc: Global, formulas: &[Formula<'a>]) -> Result<Childre
     Ok(numbers)
 }
 
-fn number<'a>(numbers: &Children<'a>, i: usize, x: &[u8]) -> usize
+fn number<'a>(numbers: &FormulaNumbers<'a>, i: usize, x: &[u8]) -> usize
     ensures { result ≡ unwrap_or (named_in numbers.now i x.now) 0 }
 {
-    match child_in(numbers, i, x) {
+    match value_in(numbers, i, x) {
         None => 0,
         Some(k) => k,
     }
@@ -54,7 +59,7 @@ fn number<'a>(numbers: &Children<'a>, i: usize, x: &[u8]) -> usize
 // Adds the number of a name that is a definition or an actual.
 fn note<'a>(
     table: &Table<'a>,
-    numbers: &Children<'a>,
+    numbers: &FormulaNumbers<'a>,
     i: usize,
     x: &[u8],
     row: &mut List<usize>,
@@ -87,16 +92,16 @@ fn inner<'a>(table: &Table<'a>, i: usize, x: &'a [u8]) -> Option<usize>
 }
 
 // Adds the numbers of the definitions and actuals that a path goes through.
-#[tactic(auto, using(smv_meaning::specs::laws::Lists::front_is, smv_meaning::specs::laws::Lists::end_is, crate::proofs::ReferenceLemmas::touched_none, crate::proofs::ReferenceLemmas::touched_last, crate::proofs::ReferenceLemmas::touched_more))]
-fn touch<'a>(
+#[tactic(auto, using(smv_meaning::specs::laws::Lists::front_is, smv_meaning::specs::laws::Lists::end_is, crate::proofs::ReferenceLemmas::path_numbers_none, crate::proofs::ReferenceLemmas::path_numbers_last, crate::proofs::ReferenceLemmas::path_numbers_more))]
+fn add_path_numbers<'a>(
     table: &Table<'a>,
-    numbers: &Children<'a>,
+    numbers: &FormulaNumbers<'a>,
     i: usize,
     names: &'a Names,
     row: &mut List<usize>,
 ) -> Result<(), NoMemory>
     requires { (i : ℕ) (x : List ℕ) → named_in numbers.now i x ≡ number_in (formulas_of (map instance_plain table.now)) (i, x) }
-    ensures { OnOk result (row.new ≡ row.old ++ touched_numbers (map instance_plain table.now) i names.now) }
+    ensures { OnOk result (row.new ≡ row.old ++ path_numbers (map instance_plain table.now) i names.now) }
 {
     let mut at = i;
     for k in 0..names.len() {
@@ -110,18 +115,18 @@ fn touch<'a>(
     Ok(())
 }
 
-fn touch_all<'a>(
+fn add_all_path_numbers<'a>(
     table: &Table<'a>,
-    numbers: &Children<'a>,
+    numbers: &FormulaNumbers<'a>,
     i: usize,
     paths: &[&'a Path],
     row: &mut List<usize>,
 ) -> Result<(), NoMemory>
     requires { (i : ℕ) (x : List ℕ) → named_in numbers.now i x ≡ number_in (formulas_of (map instance_plain table.now)) (i, x) }
-    ensures { OnOk result (row.new ≡ row.old ++ all_touched (map instance_plain table.now) i (map path_seen paths.now)) }
+    ensures { OnOk result (row.new ≡ row.old ++ all_path_numbers (map instance_plain table.now) i (map path_seen paths.now)) }
 {
     for path in paths {
-        touch(table, numbers, i, &path.names, row)?;
+        add_path_numbers(table, numbers, i, &path.names, row)?;
     }
     Ok(())
 }
@@ -129,31 +134,31 @@ fn touch_all<'a>(
 fn alias_row<'a>(
     alloc: Global,
     table: &Table<'a>,
-    numbers: &Children<'a>,
+    numbers: &FormulaNumbers<'a>,
     j: usize,
     path: &'a Path,
 ) -> Result<List<usize>, NoMemory>
     requires { (i : ℕ) (x : List ℕ) → named_in numbers.now i x ≡ number_in (formulas_of (map instance_plain table.now)) (i, x) }
-    ensures { IfOk result (λ row. row ≡ touched_numbers (map instance_plain table.now) j path.now.names) }
+    ensures { IfOk result (λ row. row ≡ path_numbers (map instance_plain table.now) j path.now.names) }
 {
     let mut row = List::new(alloc);
-    touch(table, numbers, j, &path.names, &mut row)?;
+    add_path_numbers(table, numbers, j, &path.names, &mut row)?;
     Ok(row)
 }
 
 fn body_row<'a>(
     alloc: Global,
     table: &Table<'a>,
-    numbers: &Children<'a>,
+    numbers: &FormulaNumbers<'a>,
     j: usize,
     e: &'a Expr,
 ) -> Result<List<usize>, NoMemory>
     requires { (i : ℕ) (x : List ℕ) → named_in numbers.now i x ≡ number_in (formulas_of (map instance_plain table.now)) (i, x) }
-    ensures { IfOk result (λ row. row ≡ all_touched (map instance_plain table.now) j (paths_of (plain e.now) [])) }
+    ensures { IfOk result (λ row. row ≡ all_path_numbers (map instance_plain table.now) j (paths_of (plain e.now) [])) }
 {
     let paths = paths_in(alloc, e)?;
     let mut row = List::new(alloc);
-    touch_all(table, numbers, j, paths.as_slice(), &mut row)?;
+    add_all_path_numbers(table, numbers, j, paths.as_slice(), &mut row)?;
     Ok(row)
 }
 
@@ -162,7 +167,7 @@ fn body_row<'a>(
 fn row_of<'a>(
     alloc: Global,
     table: &Table<'a>,
-    numbers: &Children<'a>,
+    numbers: &FormulaNumbers<'a>,
     formula: &Formula<'a>,
 ) -> Result<List<usize>, NoMemory>
     requires { (i : ℕ) (x : List ℕ) → named_in numbers.now i x ≡ number_in (formulas_of (map instance_plain table.now)) (i, x) }

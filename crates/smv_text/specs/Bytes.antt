@@ -1,9 +1,6 @@
 -- Bytes, and fronts of lists of bytes.
-use Rattle.std.specs.Prelude.{◌≡◌, ◌==◌, ◌+◌, ◌≤◌, ℕ, suc, Bool, false, ◌&&◌, ◌||◌, IsTrue, nat_le, if◌then◌else◌, List, [], ◌∷◌, ◌++◌, length}
-
--- 0 to 9
-abbrev pub is_digit : ℕ → Bool
-is_digit b = nat_le 48 b && nat_le b 57
+use Rattle.std.specs.Prelude.{◌≡◌, ◌==◌, ◌≤◌, ℕ, suc, Bool, false, ◌&&◌, ◌||◌, IsTrue, nat_le, if◌then◌else◌, Option, Some, None, List, [], ◌∷◌, ◌++◌, length}
+use Rattle.std.specs.Str.{bytes_eq}
 
 -- A to Z, a to z, and the underscore
 abbrev pub is_letter : ℕ → Bool
@@ -32,3 +29,8 @@ AllPass p (b ∷ bs) rest = IsTrue (p b (bs ++ rest)) × AllPass p bs rest
 pub record IsLongest (P : List ℕ → List ℕ → Type 0) (front rest : List ℕ) : Type 0 where
   pub fits : P front rest
   pub longest : (f r : List ℕ) → f ++ r ≡ front ++ rest → P f r → length f ≤ length front
+
+-- what stands beside the first of these spellings that is equal to the bytes
+abbrev pub look_up : {A : Type 0} → List ℕ → List (List ℕ × A) → Option A
+look_up bs [] = None
+look_up bs (w ∷ ws) = if bytes_eq bs w.0 then Some w.1 else look_up bs ws

@@ -1,4 +1,4 @@
--- Which tokens spell which expression, by the levels of the grammar (NuSMV 2.6 User Manual, 2.2.3). Round brackets may stand at
+-- Which tokens spell which expression, by the levels of the grammar (NuSMV 2.6 User Manual, 2.2). Round brackets may stand at
 -- any level and leave no trace in the tree. The place of an expression is that of its first token.
 use Rattle.std.specs.Prelude.{◌≡◌, ℕ, ℤ, pos, ◌-ℤ◌, suc, true, false, Some, List, [], ◌∷◌, ◌++◌}
 use Rattle.text_core.specs.declared.place.Place.{Place}
@@ -12,7 +12,7 @@ use Rattle.smv_text.specs.declared.tree.Path.{Path}
 use Rattle.smv_text.specs.declared.tree.Prefix.{Prefix}
 use Rattle.smv_text.specs.declared.tree.Infix.{Infix}
 use Rattle.smv_text.specs.declared.tree.Function.{Function}
-use Rattle.smv_text.specs.declared.level.Joint.{Joint}
+use Rattle.smv_text.specs.declared.level.OperatorClass.{OperatorClass}
 use Rattle.smv_text.specs.declared.level.Level.{Level}
 use Rattle.smv_text.specs.declared.level.Level.TheVariants.{Chain, Choice, Range, Before, Selection}
 use Rattle.smv_text.specs.Levels.{all_levels, infix_of, prefix_kind, function_at}
@@ -43,7 +43,7 @@ pub data SpellsSteps : List (List ℕ) → List Token → Type 0 where
   step : {n : List ℕ} {ns : List (List ℕ)} {xs : List Token} (dot x : Token)
       → IsSign sign.Dot dot → x.kind ≡ kind.Ident n → SpellsSteps ns xs → SpellsSteps (n ∷ ns) (dot ∷ x ∷ xs)
 
--- a path: `self` or an identifier, and the names that it steps into (manual, 2.3.16)
+-- a path: `self` or an identifier, and the names that it steps into (manual, 2.3)
 pub data SpellsPath : Path → List Token → Type 0 where
   from_name : {n : List ℕ} {ns : List (List ℕ)} {xs : List Token} (x : Token)
       → x.kind ≡ kind.Ident n → SpellsSteps ns xs → SpellsPath (record { from_self = false; names = n ∷ ns; place = x.place }) (x ∷ xs)
@@ -56,7 +56,7 @@ mutual
   pub data Spells : List Level → Tree → List Token → Type 0 where
     pass : {level : Level} {below : List Level} {t : Tree} {xs : List Token} → Spells below t xs → Spells (level ∷ below) t xs
     -- operands of one level and the operators between them; an operand is of the levels below, or in brackets
-    chains : {j : Joint} {below : List Level} {t u : Tree} {op : Infix} {links : Links} {xs ys : List Token}
+    chains : {j : OperatorClass} {below : List Level} {t u : Tree} {op : Infix} {links : Links} {xs ys : List Token}
         → Spells below t xs → SpellsLinks j below (link op u links) ys
         → Spells (Chain j ∷ below) (chain (start xs) t (link op u links)) (xs ++ ys)
     -- conditions with their values, and what stands behind the last colon, each of the levels below, or in brackets
@@ -93,9 +93,9 @@ mutual
         → (x : Token) → x.kind ≡ kind.Reserved word.Case → SpellsCases bs xs → Spells [] (cases x.place bs) (x ∷ xs)
 
   -- further operands, each behind its operator
-  pub data SpellsLinks : Joint → List Level → Links → List Token → Type 0 where
-    no_more : {j : Joint} {below : List Level} → SpellsLinks j below no_links []
-    one_more : {j : Joint} {below : List Level} {op : Infix} {t : Tree} {links : Links} {xs ys : List Token}
+  pub data SpellsLinks : OperatorClass → List Level → Links → List Token → Type 0 where
+    no_more : {j : OperatorClass} {below : List Level} → SpellsLinks j below no_links []
+    one_more : {j : OperatorClass} {below : List Level} {op : Infix} {t : Tree} {links : Links} {xs ys : List Token}
         → (x : Token) → infix_of j x.kind ≡ Some op → Spells below t xs → SpellsLinks j below links ys
         → SpellsLinks j below (link op t links) (x ∷ (xs ++ ys))
 

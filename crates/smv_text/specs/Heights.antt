@@ -1,51 +1,30 @@
 -- How high an expression is: how many levels of nodes stand over one another where chains are folded (the rule is our own).
-use Rattle.std.specs.Prelude.{ℕ, suc, ◌+◌, max, Bool, true, false, nat_eq, nat_le, ◌&&◌, if◌then◌else◌, Option, Some, None, List, [], ◌∷◌, ◌++◌}
+use Rattle.std.specs.Prelude.{ℕ, suc, ◌+◌, max, Bool, true, false, nat_eq, nat_le, nat_lt, ◌&&◌, if◌then◌else◌, Option, Some, None, List, [], ◌∷◌, map, flat_map}
+use Rattle.std.specs.List.{list_all}
 use Rattle.text_core.specs.declared.place.Place.{Place}
 use Rattle.smv_text.specs.declared.tree.Infix.{Infix}
 use Rattle.smv_text.specs.declared.tree.Infix.TheVariants as infixes
 use Rattle.smv_text.specs.Tree.{Tree, truth, number, literal, name, prefix, chain, choice, cases, select, call, next, set, range, Links, no_links, link, Branches, no_branches, branch, Trees, no_trees, tree, PlainDomain, instance, PlainItem, PlainDefinition, PlainAssignment, PlainElement, vars, defines, constants, assigns, init, trans, invar, spec, PlainModule}
 
--- the operators of which a chain, where it has no others, is one node; the others have no number
-abbrev pub joined_number : Infix → Option ℕ
-joined_number infixes.And = Some 1
-joined_number infixes.Or = Some 2
-joined_number infixes.Xor = Some 3
-joined_number infixes.Plus = Some 4
-joined_number infixes.Times = Some 5
-joined_number infixes.Union = Some 6
-joined_number _ = None
+-- the operators of which a chain, where it has no others, is one node, by numbers; 0 for any other
+abbrev pub joined_number : Infix → ℕ
+joined_number infixes.And = 1
+joined_number infixes.Or = 2
+joined_number infixes.Xor = 3
+joined_number infixes.Plus = 4
+joined_number infixes.Times = 5
+joined_number infixes.Union = 6
+joined_number _ = 0
 
-abbrev pub has_number : Option ℕ → ℕ → Bool
-has_number None n = false
-has_number (Some m) n = nat_eq m n
-
--- each operator is the one of this number
-abbrev pub all_joined : ℕ → List (Infix × ℕ) → Bool
-all_joined n [] = true
-all_joined n (l ∷ ls) = has_number (joined_number l.0) n && all_joined n ls
-
--- all operators are this one, of which a chain is one node
-abbrev pub joined_as : Option ℕ → List (Infix × ℕ) → Bool
-joined_as None ls = false
-joined_as (Some n) ls = all_joined n ls
-
+-- all operators are the same one of these
 abbrev pub is_joined : List (Infix × ℕ) → Bool
 is_joined [] = true
-is_joined (l ∷ ls) = joined_as (joined_number l.0) ls
-
-abbrev pub is_implies : Infix → Bool
-is_implies infixes.Implies = true
-is_implies _ = false
+is_joined (l ∷ ls) = nat_lt 0 (joined_number l.0) && list_all (λ m. nat_eq (joined_number m.0) (joined_number l.0)) ls
 
 -- the chain is one of implications, which is folded from the right
 abbrev pub is_implied : List (Infix × ℕ) → Bool
-is_implied [] = false
-is_implied (l ∷ ls) = is_implies l.0
-
--- the highest operand
-abbrev pub highest_link : ℕ → List (Infix × ℕ) → ℕ
-highest_link n [] = n
-highest_link n (l ∷ ls) = highest_link (max n l.1) ls
+is_implied ((infixes.Implies, n) ∷ ls) = true
+is_implied _ = false
 
 -- each operator joins what stands before it to the next operand
 abbrev pub folded : ℕ → List (Infix × ℕ) → ℕ
@@ -57,18 +36,19 @@ abbrev pub folded_right : ℕ → List (Infix × ℕ) → ℕ
 folded_right n [] = n
 folded_right n (l ∷ ls) = suc (max n (folded_right l.1 ls))
 
+-- the greatest of these
+abbrev pub highest : List ℕ → ℕ
+highest [] = 0
+highest (n ∷ ns) = max n (highest ns)
+
 -- the height of a chain, by the heights of its operands
 abbrev pub chain_height : ℕ → List (Infix × ℕ) → ℕ
-chain_height n ls = if is_joined ls then suc (highest_link n ls) else (if is_implied ls then folded_right n ls else folded n ls)
+chain_height n ls = if is_joined ls then suc (max n (highest (map (λ l. l.1) ls))) else (if is_implied ls then folded_right n ls else folded n ls)
 
 -- Branch number i, from 1, stands under i levels, and what stands behind the last one under as many as there are branches.
 abbrev pub branches_height : List (ℕ × ℕ) → ℕ → ℕ
 branches_height [] n = n
 branches_height (b ∷ bs) n = suc (max (max b.0 b.1) (branches_height bs n))
-
-abbrev pub highest : List ℕ → ℕ
-highest [] = 0
-highest (n ∷ ns) = max n (highest ns)
 
 abbrev mutual
   -- a leaf has 1; a repeated sign adds each time it stands
@@ -134,16 +114,13 @@ of_domain (instance n ts) = list_of ts
 of_domain _ = []
 
 abbrev pub of_items : List PlainItem → List Tree
-of_items [] = []
-of_items (i ∷ is) = of_domain i.domain ++ of_items is
+of_items is = flat_map (λ i. of_domain i.domain) is
 
 abbrev pub of_definitions : List PlainDefinition → List Tree
-of_definitions [] = []
-of_definitions (d ∷ ds) = d.body ∷ of_definitions ds
+of_definitions ds = map (λ d. d.body) ds
 
 abbrev pub of_assignments : List PlainAssignment → List Tree
-of_assignments [] = []
-of_assignments (a ∷ rest) = a.body ∷ of_assignments rest
+of_assignments rest = map (λ a. a.body) rest
 
 abbrev pub of_element : PlainElement → List Tree
 of_element (vars k is) = of_items is
@@ -155,10 +132,5 @@ of_element (trans t) = t ∷ []
 of_element (invar t) = t ∷ []
 of_element (spec o t) = t ∷ []
 
-abbrev pub of_elements : List PlainElement → List Tree
-of_elements [] = []
-of_elements (e ∷ es) = of_element e ++ of_elements es
-
 abbrev pub of_modules : List PlainModule → List Tree
-of_modules [] = []
-of_modules (m ∷ ms) = of_elements m.elements ++ of_modules ms
+of_modules ms = flat_map (λ m. flat_map of_element m.elements) ms

@@ -1,8 +1,6 @@
 -- Words that are no identifiers: the reserved words, and those of parts of the language that aren't supported (NuSMV 2.6 User
 -- Manual, chapter 2, before section 2.1, reserved keywords; the names of operators of temporal logic in section 2.4).
 use Rattle.std.specs.Prelude.{◌==◌, ℕ, if◌then◌else◌, Option, Some, None, List, [], ◌∷◌, ◌++◌, map, codes}
-use Rattle.std.specs.Str.{bytes_eq}
-use Rattle.std.specs.Borrow.{Bor}
 use Rattle.smv_text.specs.declared.token.Reserved.{Reserved}
 use Rattle.smv_text.specs.declared.token.Reserved.TheVariants as word
 
@@ -48,7 +46,10 @@ word_bytes word.Abs = codes "abs"
 
 abbrev pub all_reserved : List Reserved
 all_reserved =
-    word.Module ∷ word.Var ∷ word.Ivar ∷ word.Frozenvar ∷ word.Define ∷ word.Constants ∷ word.Assign ∷ word.Init ∷ word.Trans ∷ word.Invar ∷ word.Invarspec ∷ word.Name ∷ word.True ∷ word.False ∷ word.Boolean ∷ word.Word ∷ word.Unsigned ∷ word.Case ∷ word.Esac ∷ word.Next ∷ word.Initial ∷ word.Itself ∷ word.Mod ∷ word.Union ∷ word.In ∷ word.Xor ∷ word.Xnor ∷ word.Bool ∷ word.Word1 ∷ word.Toint ∷ word.Uwconst ∷ word.Extend ∷ word.Resize ∷ word.Count ∷ word.Max ∷ word.Min ∷ word.Abs ∷ []
+    word.Module ∷ word.Var ∷ word.Ivar ∷ word.Frozenvar ∷ word.Define ∷ word.Constants ∷ word.Assign ∷ word.Init ∷ word.Trans ∷ word.Invar ∷ word.Invarspec
+    ∷ word.Name ∷ word.True ∷ word.False ∷ word.Boolean ∷ word.Word ∷ word.Unsigned ∷ word.Case ∷ word.Esac ∷ word.Next ∷ word.Initial ∷ word.Itself
+    ∷ word.Mod ∷ word.Union ∷ word.In ∷ word.Xor ∷ word.Xnor ∷ word.Bool ∷ word.Word1 ∷ word.Toint ∷ word.Uwconst ∷ word.Extend ∷ word.Resize
+    ∷ word.Count ∷ word.Max ∷ word.Min ∷ word.Abs ∷ []
 
 -- this byte before the first of these words
 abbrev pub in_first : ℕ → List (List ℕ) → List (List ℕ)
@@ -66,19 +67,6 @@ unsupported_words =
     ++ words_in (codes "PSLWFF COMPWFF IN MIN MAX MDEFINE PRED PREDICATES MIRROR process array of integer real signed swconst sizeof")
     ++ words_in (codes "A E F G H O S T U V X Y Z AF AG AX EF EG EX ABF ABG EBF EBG BU")
 
--- a word, and which reserved one it is, if it is supported
-abbrev pub Keyword : Type 0
-Keyword = List ℕ × Option Reserved
-
--- a row of a table of words
-abbrev pub row : Bor (List ℕ) × Option Reserved → Keyword
-row w = (w.0.now, w.1)
-
--- all words that are no identifiers
-unfoldable pub keywords : List Keyword
+-- all words that are no identifiers, and which reserved one each is, if it is supported
+unfoldable pub keywords : List (List ℕ × Option Reserved)
 keywords = map (λ r. (word_bytes r, Some r)) all_reserved ++ map (λ w. (w, None)) unsupported_words
-
--- what the first of these words that is equal to the bytes stands for
-abbrev pub look_up : List ℕ → List Keyword → Option (Option Reserved)
-look_up bs [] = None
-look_up bs (w ∷ ws) = if bytes_eq bs w.0 then Some w.1 else look_up bs ws

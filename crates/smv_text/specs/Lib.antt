@@ -7,6 +7,8 @@ pub mod Lexing
 pub mod Tree
 pub mod View
 pub mod Levels
+pub mod Operators
 pub mod Grammar
 pub mod Heights
 pub mod Sources
+pub mod laws

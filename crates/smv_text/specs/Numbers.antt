@@ -1,5 +1,5 @@
--- Numbers and word constants (NuSMV 2.6 User Manual, section 2.2.3, integer constants and word constants).
-use Rattle.std.specs.Prelude.{◌==◌, ℕ, ◌^◌, Bool, not, ◌||◌, if◌then◌else◌, Option, Some, None, option_and_then, List, [], ◌∷◌, take, drop}
+-- Numbers and word constants (NuSMV 2.6 User Manual, section 2.2, integer constants and word constants).
+use Rattle.std.specs.Prelude.{◌==◌, ℕ, ◌^◌, not, ◌||◌, if◌then◌else◌, Option, Some, None, option_and_then, List, [], ◌∷◌, take, drop}
 use Rattle.std.specs.List.{filter}
 use Rattle.word_core.specs.Words.{BitVector}
 use Rattle.word_core.specs.Digits.{below, digits_value, read_word}
@@ -18,22 +18,14 @@ base_of b =
 abbrev pub bare : List ℕ → List ℕ
 bare digits = filter (λ b. not (b == 95)) digits
 
--- the word of a width in decimal digits and of digits of a base
-abbrev pub sized_word : ℕ → List ℕ → List ℕ → Option BitVector
-sized_word base width digits = option_and_then (λ w. read_word w base (bare digits)) (digits_value 10 width)
-
--- the same, where `_` stands before the digits
+-- the word of a width in decimal digits and of digits of a base behind a `_`
 abbrev pub marked_word : ℕ → List ℕ → List ℕ → Option BitVector
 marked_word base width [] = None
-marked_word base width (mark ∷ digits) = sized_word base width digits
-
--- the byte isn't `_`
-abbrev pub is_unmarked : ℕ → List ℕ → Bool
-is_unmarked b rest = not (b == 95)
+marked_word base width (mark ∷ digits) = option_and_then (λ w. read_word w base (bare digits)) (digits_value 10 width)
 
 -- the width goes to the first `_`
 abbrev pub parted_word : List ℕ → ℕ → Option BitVector
-parted_word bs base = marked_word base (take (front_length is_unmarked bs) bs) (drop (front_length is_unmarked bs) bs)
+parted_word bs base = marked_word base (take (front_length (λ b rest. not (b == 95)) bs) bs) (drop (front_length (λ b rest. not (b == 95)) bs) bs)
 
 -- what stands behind the `0` and the `u` of a literal, with its base in front
 abbrev pub based_word : List ℕ → Option BitVector
@@ -46,7 +38,7 @@ past_sign [] = []
 past_sign (b ∷ bs) = if b == 117 then bs else b ∷ bs
 
 -- A word literal: `0`, `u` or nothing, the letter of a base, the width, `_`, and digits of the base, among which `_` may stand.
--- The width is 1 to 64 and the value is below two to it. A literal without a width isn't read (this is our own).
+-- The width is 1 to `WIDEST` and the value is below two to it. A literal without a width isn't read (this is our own).
 abbrev pub literal_of : List ℕ → Option BitVector
 literal_of [] = None
 literal_of (b ∷ bs) = if b == 48 then based_word (past_sign bs) else None

@@ -66,7 +66,7 @@ pub data IsUnsigned : List Token → Type 0 where
   unstated : IsUnsigned []
   stated : (x : Token) → IsWord word.Unsigned x → IsUnsigned (x ∷ [])
 
--- what a variable ranges over (manual, 2.3.1)
+-- what a variable ranges over (manual, 2.3)
 pub data SpellsType : PlainDomain → List Token → Type 0 where
   booleans : (x : Token) → IsWord word.Boolean x → SpellsType boolean (x ∷ [])
   enumerations : {m : Member} {ms : List Member} {xs ys : List Token} (opening : Token)
@@ -78,7 +78,7 @@ pub data SpellsType : PlainDomain → List Token → Type 0 where
       → IsWord word.Word x → IsSign sign.OpenBracket opening → width.kind ≡ kind.Number n → IsSign sign.CloseBracket closing
       → SpellsType (bits n) (xs ++ x ∷ opening ∷ width ∷ closing ∷ [])
 
--- a type, or in VAR an instance of a module (manual, 2.3.11)
+-- a type, or in VAR an instance of a module (manual, 2.3)
 pub data SpellsDomain : VarKind → PlainDomain → List Token → Type 0 where
   types : {k : VarKind} {d : PlainDomain} {xs : List Token} → SpellsType d xs → SpellsDomain k d xs
   instances : {n : List ℕ} {ts : Trees} {xs : List Token} (x : Token)
@@ -92,7 +92,7 @@ pub data SpellsItems (k : VarKind) : List PlainItem → List Token → Type 0 wh
       → SpellsItems k is ys
       → SpellsItems k (record { name = n; place = x.place; domain = d; domain_place = start xs } ∷ is) (x ∷ colon ∷ (xs ++ semicolon ∷ ys))
 
--- definitions, each with its semicolon (manual, 2.3.2)
+-- definitions, each with its semicolon (manual, 2.3)
 pub data SpellsDefinitions : List PlainDefinition → List Token → Type 0 where
   no_definitions : SpellsDefinitions [] []
   definition_then : {n : List ℕ} {t : Tree} {ds : List PlainDefinition} {xs ys : List Token} (x assign : Token)
@@ -100,7 +100,7 @@ pub data SpellsDefinitions : List PlainDefinition → List Token → Type 0 wher
       → SpellsDefinitions ds ys
       → SpellsDefinitions (record { name = n; place = x.place; body = t } ∷ ds) (x ∷ assign ∷ (xs ++ semicolon ∷ ys))
 
--- the left side of an assignment (manual, 2.3.8)
+-- the left side of an assignment (manual, 2.3)
 pub data SpellsTarget : When → Path → List Token → Type 0 where
   always : {path : Path} {xs : List Token} → SpellsPath path xs → SpellsTarget when_.Always path xs
   first : {path : Path} {xs : List Token} (x opening : Token) → IsWord word.Initial x → IsSign sign.Open opening
@@ -159,7 +159,7 @@ pub data SpellsElements : List PlainElement → List Token → Type 0 where
   element_then : {e : PlainElement} {es : List PlainElement} {xs ys : List Token}
       → SpellsElement e xs → SpellsElements es ys → SpellsElements (e ∷ es) (xs ++ ys)
 
--- modules, each with the number of its body's tokens (manual, 2.3.10)
+-- modules, each with the number of its body's tokens (manual, 2.3)
 pub data SpellsModules : List PlainModule → List Token → Type 0 where
   no_modules : SpellsModules [] []
   module_then : {n : List ℕ} {ps : List Parameter} {es : List PlainElement} {ms : List PlainModule} {xs ys zs : List Token} (x identifier : Token)

@@ -12,7 +12,7 @@ use Rattle.smv_text.specs.declared.tree.VarKind.{VarKind}
 use Rattle.smv_text.specs.declared.tree.When.{When}
 use Rattle.smv_text.specs.declared.tree.Parameter.{Parameter}
 
--- an expression (manual, 2.2.3); each shape begins with the place of its first token
+-- an expression (manual, 2.2); each shape begins with the place of its first token
 mutual
   pub data Tree : Type 0 where
     truth : Place → Bool → Tree  -- TRUE and FALSE
@@ -55,7 +55,7 @@ abbrev pub trees_of : List Tree → Trees
 trees_of [] = no_trees
 trees_of (t ∷ ts) = tree t (trees_of ts)
 
--- what a variable ranges over, or the module and the actuals of an instance (manual, 2.3.1)
+-- what a variable ranges over, or the module and the actuals of an instance (manual, 2.3)
 pub data PlainDomain : Type 0 where
   boolean : PlainDomain
   members : List Member → PlainDomain

@@ -4,7 +4,7 @@ use crate::tree::Prefix;
 
 /// Which operators join the operands of a chain.
 #[derive(Clone, Copy, PartialEq, Eq)]
-pub enum Joint {
+pub enum OperatorClass {
     /// `->`
     Implications,
     /// `<->`
@@ -34,7 +34,7 @@ pub enum Joint {
 #[derive(Clone, Copy, PartialEq, Eq)]
 pub enum Level {
     /// A chain of operators.
-    Chain(Joint),
+    Chain(OperatorClass),
     /// `c ? v : w`
     Choice,
     /// `l..h`
@@ -47,20 +47,20 @@ pub enum Level {
 
 /// All levels. Below them stand names, constants, functions, cases, sets and brackets.
 pub const LEVELS: [Level; 16] = [
-    Level::Chain(Joint::Implications),
-    Level::Chain(Joint::Equivalences),
+    Level::Chain(OperatorClass::Implications),
+    Level::Chain(OperatorClass::Equivalences),
     Level::Choice,
-    Level::Chain(Joint::Disjunctions),
-    Level::Chain(Joint::Conjunctions),
-    Level::Chain(Joint::Comparisons),
-    Level::Chain(Joint::Memberships),
-    Level::Chain(Joint::Unions),
+    Level::Chain(OperatorClass::Disjunctions),
+    Level::Chain(OperatorClass::Conjunctions),
+    Level::Chain(OperatorClass::Comparisons),
+    Level::Chain(OperatorClass::Memberships),
+    Level::Chain(OperatorClass::Unions),
     Level::Range,
-    Level::Chain(Joint::Shifts),
-    Level::Chain(Joint::Sums),
-    Level::Chain(Joint::Products),
+    Level::Chain(OperatorClass::Shifts),
+    Level::Chain(OperatorClass::Sums),
+    Level::Chain(OperatorClass::Products),
     Level::Before(Prefix::Minus),
-    Level::Chain(Joint::Concatenations),
+    Level::Chain(OperatorClass::Concatenations),
     Level::Before(Prefix::Not),
     Level::Selection,
 ];

@@ -5,7 +5,7 @@ mod level;
 mod token;
 mod tree;
 
-pub use level::{Joint, LEVELS, Level};
+pub use level::{LEVELS, Level, OperatorClass};
 pub use token::{Reserved, Sign, Token, TokenKind, Tokens};
 pub use tree::{
     Assignment, Assignments, Branch, Branches, Definition, Definitions, Domain, Element, Elements,

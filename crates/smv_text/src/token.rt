@@ -84,7 +84,7 @@ pub enum Reserved {
     Abs,
 }
 
-/// A sign: a bracket, a separator or an operator (NuSMV 2.6 User Manual, sections 2.2.3 and 2.3).
+/// A sign: a bracket, a separator or an operator (NuSMV 2.6 User Manual, sections 2.2 and 2.3).
 #[derive(Clone, Copy, PartialEq, Eq)]
 pub enum Sign {
     /// `(`
@@ -162,7 +162,7 @@ pub enum TokenKind {
     Ident(Name),
     /// A decimal number below 2^62.
     Number(u64),
-    /// A word literal: a width from 1 to 64, and a value below two to that width.
+    /// A word literal: a width from 1 to `WIDEST`, and a value below two to that width.
     Literal(Word),
     /// A sign.
     Sign(Sign),

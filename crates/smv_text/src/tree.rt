@@ -3,7 +3,7 @@
 use text_core::{List, Name, Names, Place};
 use word_core::Word;
 
-/// A name: `self` or an identifier, and the names that it steps into (manual, 2.3.16). Its place is that of its first token.
+/// A name: `self` or an identifier, and the names that it steps into (manual, 2.3). Its place is that of its first token.
 #[derive(Drop)]
 pub struct Path {
     /// Does it begin with `self`?
@@ -22,7 +22,7 @@ pub enum Prefix {
     Minus,
 }
 
-/// An operator between two operands (manual, 2.2.3).
+/// An operator between two operands (manual, 2.2).
 #[derive(Clone, Copy, PartialEq, Eq)]
 pub enum Infix {
     /// `->`
@@ -71,7 +71,7 @@ pub enum Infix {
     Concat,
 }
 
-/// A named function (manual, 2.2.3).
+/// A named function (manual, 2.2).
 #[derive(Clone, Copy, PartialEq, Eq)]
 pub enum Function {
     /// `bool`
@@ -104,7 +104,7 @@ pub struct Expr {
     pub shape: Shape,
 }
 
-/// What an expression is (manual, 2.2.3).
+/// What an expression is (manual, 2.2).
 #[cycle(tree)]
 #[derive(Drop)]
 pub enum Shape {
@@ -172,7 +172,7 @@ pub enum Member {
     Integer(i64),
 }
 
-/// What a variable ranges over, or the module and the actuals of an instance (manual, 2.3.1).
+/// What a variable ranges over, or the module and the actuals of an instance (manual, 2.3).
 #[derive(Drop)]
 pub enum Domain {
     /// `boolean`
@@ -196,7 +196,7 @@ pub struct Item {
     pub domain_place: Place,
 }
 
-/// The kind of a variable (manual, 2.3.1 to 2.3.3).
+/// The kind of a variable (manual, 2.3).
 #[derive(Clone, Copy, PartialEq, Eq)]
 pub enum VarKind {
     /// `VAR`
@@ -215,7 +215,7 @@ pub struct Definition {
     pub body: Expr,
 }
 
-/// When an assignment holds (manual, 2.3.8).
+/// When an assignment holds (manual, 2.3).
 #[derive(Clone, Copy, PartialEq, Eq)]
 pub enum When {
     /// In each state: `x := e`.

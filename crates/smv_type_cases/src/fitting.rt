@@ -184,7 +184,7 @@ pub fn values_fit<'a>(
 {
     for k in 0..parts.len() {
         let at = &parts[k];
-        if !elements_fit(alloc, inputs, at.path.bytes(), &at.plan.elements, state)? {
+        if !elements_fit(alloc, inputs, at.path.bytes(), &at.module.elements, state)? {
             return Ok(false);
         }
     }

@@ -46,7 +46,7 @@ pub fn asked_in<'a>(parts: &[Instance<'a>], i: usize) -> Option<&'a Expr>
     ensures { IfSome result (λ e. StandsIn (map instance_plain parts.now) i (plain e.now)) }
 {
     if i < parts.len() {
-        asked_of(parts[i].plan)
+        asked_of(parts[i].module)
     } else {
         None
     }

@@ -1,5 +1,5 @@
 -- An expression that has a type is evaluated safely.
-use Rattle.std.proofs.Common.{◌≡◌, ℕ, zero, suc, ◌+◌, ◌-◌, Bool, true, false, not, ◌||◌, ◌==◌, if◌then◌else◌, pos, int_le, List, [], ◌∷◌, Option, Some, None, option_map, is_some, refl, ap, subst, arith}
+use Rattle.std.proofs.Common.{◌≡◌, ℕ, zero, suc, ◌+◌, ◌-◌, Bool, true, false, not, ◌||◌, ◌==◌, if◌then◌else◌, ◌^◌, pos, neg_ℤ, int_le, List, [], ◌∷◌, Option, Some, None, option_map, is_some, refl, ap, subst, arith}
 use Rattle.std.proofs.lemmas.Int.{ints}
 use mathlib.Core.Logic.{◌⊎◌, inl, inr, ⊎_elim}
 use Rattle.text_core.specs.declared.place.Place.{Place}
@@ -18,7 +18,7 @@ use Rattle.smv_meaning.specs.Operators.{Operands, truths, integers, words, mixed
 use Rattle.smv_meaning.specs.Expressions.{Denotation, alone, joined, is_implies, are_implies, is_from_right, denote, values_of}
 use Rattle.smv_meaning.specs.Names.{Found, variable_at, body_at, instance_at, symbol_of, cyclic, none}
 use Rattle.smv_meaning.specs.Meaning.{reading}
-use Rattle.smv_meaning.specs.Types.{least_integer, greatest_integer, ExprType, truth_type, integer_type, symbol_type, word_type, in_limit, infix_fits, infix_type, divides, shifts, joins, is_union, prefix_fits, prefix_type, function_fits, arguments_fit, function_type, numbers_of, hull_of, first_type, are_same, implies_fits, is_select, is_word_type}
+use Rattle.smv_meaning.specs.Types.{ExprType, truth_type, integer_type, symbol_type, word_type, in_limit, infix_fits, infix_type, divides, shifts, joins, is_union, prefix_fits, prefix_type, function_fits, arguments_fit, function_type, numbers_of, hull_of, first_type, are_same, implies_fits, is_select, is_word_type}
 use Rattle.smv_meaning.specs.Checks.{check, passes, Position, single, under_next, Named, Typing, on_type, on_all, all_types, both_types, front_checks, front, are_unions, across, behind, branches_fit, branches_type, typing, link_types, linked, condition_types, value_types, tree_types}
 use Rattle.smv_meaning.specs.Naming.{in_body, named_found, naming}
 use Rattle.smv_meaning.specs.Safety.{Fits, front_value, Safe, SafeLinks, SafeOperands, SafeBranches, SafeTrees, SafeFound, SafePath}
@@ -67,7 +67,7 @@ some_has t u e = ap is_some e
 -- an integer within the limit fits 64 bits
 fits_in_limit : (t : ExprType) (v : Value) → in_limit t ≡ true → LiesIn t v → Fits v
 fits_in_limit (integer_type low high) (Integer z) l h =
-    let b = both_true (int_le least_integer low) (int_le high greatest_integer) l in
+    let b = both_true (int_le (neg_ℤ (pos (2 ^ 62))) low) (int_le high (pos (2 ^ 62 - 1))) l in
     let p = b.0 in let q = b.1 in let r = h.0 in let s = h.1 in omega (arith, ints)
 fits_in_limit (integer_type low high) v l h = absurd h
 fits_in_limit truth_type (Truth b) l h = tt
@@ -143,7 +143,7 @@ front_lies : (f g : Path → Value) (op : Infix) (at : Position) (p : Place) (a 
     → Fine b.type (denote f g e) (behind op at).sets → Lies (front op at p a b e).type (front_value op v (denote f g e))
 front_lies f g op at p a b e v s h k =
     subst (λ w. Lies (front op at p a b e).type w) (front_value_is op (alone v) (denote f g e))
-    ((front_fine f g op at p a b e (alone v) (alone_fine a.type v at.sets h) k (inl s)).own s)
+    ((front_fine f g op at p a b e (alone v) (alone_fine a.type v at.sets h) k (inl s)).valued s)
 
 -- `->` gives no integer
 implied_fits : (a b : Value) → Fits (implied a b)
@@ -185,7 +185,7 @@ mutual
   safe names f g P Q hf hg p q at (literal l w) h = tt
   safe names f g P Q hf hg p q at (name l x) h = p x (if_has (passes (check 16 l (not (names x).is_instance) ∷ check 18 l (at.inputs || not (names x).reaches_input) ∷ [])) (names x).type h).1
   safe names f g P Q hf hg p q at (prefix l sign n e) h =
-      let s = prefix_safe l sign n (typing names (single at) e).type (denote f g e).value ((fine names f g hf hg (single at) e).own refl) h in
+      let s = prefix_safe l sign n (typing names (single at) e).type (denote f g e).value ((fine names f g hf hg (single at) e).valued refl) h in
       (safe names f g P Q hf hg p q (single at) e s.0, s.1)
   safe names f g P Q hf hg p q at (chain l e ls) h = ⊎_elim
       (λ r.
@@ -198,7 +198,7 @@ mutual
       (λ r.
       let own = linked_has names (across ls at) l (typing names (across ls at) e) ls r.1 in
       let s = safe_links names f g P Q hf hg p q (across ls at) l (typing names (across ls at) e) (denote f g e).value ls (may_join ls at (are_unions ls) refl)
-      (fine names f g hf hg (across ls at) e).own r.1 in
+      (fine names f g hf hg (across ls at) e).valued r.1 in
       (safe names f g P Q hf hg p q (across ls at) e own, s, operands_safe P Q f g (denote f g e).value ls s))
       (typing_has (is_from_right ls) _ _ h)
   safe names f g P Q hf hg p q at (choice l bs e) h =
@@ -262,7 +262,7 @@ mutual
       let bt = right_has (λ t u. infix_type op t u e) a.type b.type (if_has (passes (front_checks op at l a.type b.type e)) (both_types (λ t u. infix_type op t u e) a.type b.type) ft).1 in
       let j = first_joins op e ls at.sets may in (
         safe names f g P Q hf hg p q (behind op at) e bt,
-        front_safe f g op at l a.type b.type e v ft (⊎_elim (λ s. inr (lies s, (fine names f g hf hg (behind op at) e).own)) (λ u. inl u) j.0),
+        front_safe f g op at l a.type b.type e v ft (⊎_elim (λ s. inr (lies s, (fine names f g hf hg (behind op at) e).valued)) (λ u. inl u) j.0),
         safe_links names f g P Q hf hg p q at l (front op at l a b e) (front_value op v (denote f g e)) ls j.1
             (λ s. front_lies f g op at l a b e v s (lies s) (fine names f g hf hg (behind op at) e)) h,
       )

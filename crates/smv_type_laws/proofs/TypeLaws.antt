@@ -15,7 +15,7 @@ use Rattle.smv_text.specs.declared.tree.Infix.TheVariants.{Member, Union}
 use Rattle.smv_text.specs.Tree.{Tree, truth, number, literal, name, prefix, chain, choice, cases, select, call, next, set, range, Links, no_links, link, Branches, no_branches, branch, Trees, no_trees, tree}
 use Rattle.smv_meaning.specs.declared.value.Value.{Value}
 use Rattle.smv_meaning.specs.declared.value.Value.TheVariants.{Truth, Integer, Symbol, Bits}
-use Rattle.smv_meaning.specs.Values.{Valuation, is_true, value_same, int_same, is_between}
+use Rattle.smv_meaning.specs.Values.{Valuation, is_true, value_same, is_between}
 use Rattle.smv_meaning.specs.Operators.{applied, signed, selected, called, is_width}
 use Rattle.smv_meaning.specs.Expressions.{Denotation, alone, set_of, joined, is_from_right, is_last, denote, implications, linked as linked_values, chosen, taken, values_of, one_permits}
 use Rattle.smv_meaning.specs.Names.{Found, variable_at, body_at, instance_at, symbol_of, cyclic, none}
@@ -30,9 +30,9 @@ use Rattle.smv_type_laws.proofs.OperatorLaws.{width_of, DivisorIs, NumberIs, Num
 -- what the denotation permits lies in the type, and so does its value where it may not be a set
 pub record Fine (t : Option ExprType) (d : Denotation) (sets : Bool) : Type 0 where
   pub permitted : (v : Value) → d.permits v ≡ true → Lies t v
-  pub own : sets ≡ false → Lies t d.value
+  pub valued : sets ≡ false → Lies t d.value
 
-int_same_is : (a b : ℤ) → int_same a b ≡ true → (a ≤ℤ b) × (b ≤ℤ a)
+int_same_is : (a b : ℤ) → (int_le a b && int_le b a) ≡ true → (a ≤ℤ b) × (b ≤ℤ a)
 int_same_is a b h = let t = both_true (int_le a b) (int_le b a) h in let p = t.0 in let q = t.1 in (omega (arith, ints), omega (arith, ints))
 
 pub same_lies : (t : ExprType) (v w : Value) → value_same v w ≡ true → LiesIn t v → LiesIn t w
@@ -55,11 +55,11 @@ same_lies (word_type n) (Bits x) w e h = cc
 same_lies (word_type n) v w e h = absurd h
 
 pub alone_fine : (t : Option ExprType) (v : Value) (sets : Bool) → Lies t v → Fine t (alone v) sets
-alone_fine None v sets h = record { permitted = λ w e. tt; own = λ e. tt }
-alone_fine (Some t) v sets h = record { permitted = λ w e. same_lies t v w e h; own = λ e. h }
+alone_fine None v sets h = record { permitted = λ w e. tt; valued = λ e. tt }
+alone_fine (Some t) v sets h = record { permitted = λ w e. same_lies t v w e h; valued = λ e. h }
 
 untyped : (d : Denotation) (sets : Bool) → Fine None d sets
-untyped d sets = record { permitted = λ w e. tt; own = λ e. tt }
+untyped d sets = record { permitted = λ w e. tt; valued = λ e. tt }
 
 node_fine : (own : List Check) (t : Option ExprType) (d : Denotation) (sets : Bool) → (passes own ≡ true → Fine t d sets) → Fine (if passes own then t else None) d sets
 node_fine own t d sets h = by (passes own) refl
@@ -69,7 +69,7 @@ node_fine own t d sets h = by (passes own) refl
     by false e = untyped d sets
 
 any_sets : (t : Option ExprType) (d : Denotation) (sets : Bool) → Fine t d false → Fine t d sets
-any_sets t d sets f = record { permitted = f.permitted; own = λ e. f.own refl }
+any_sets t d sets f = record { permitted = f.permitted; valued = λ e. f.valued refl }
 
 pub false_true : {X : Type 0} (b : Bool) → b ≡ false → b ≡ true → X
 false_true b h k = cc
@@ -150,7 +150,7 @@ union_front at p (Some t) (Some u) e d c left right = node_fine (front_checks Un
     let k = six_true (type_same t u) (in_limit (hull t u)) at.sets true true true passed in
     record {
       permitted = λ v h. ⊎_elim (λ l. hull_left t u v (left.permitted v l)) (λ l. hull_right t u v k.0 (right.permitted v l)) (or_true (d.permits v) (c.permits v) h);
-      own = λ s. false_true at.sets s k.2;
+      valued = λ s. false_true at.sets s k.2;
     })
 
 pub front_fine : (f g : Path → Value) (op : Infix) (at : Position) (p : Place) (a b : Typing) (e : Tree) (d : Denotation)
@@ -159,7 +159,7 @@ pub front_fine : (f g : Path → Value) (op : Infix) (at : Position) (p : Place)
 front_fine f g Member at p a b e d left right may = member_front at p a.type b.type e _
 front_fine f g Union at p a b e d left right may = union_front at p a.type b.type e d (denote f g e) left right
 front_fine f g op at p a b e d left right may =
-    ⊎_elim (λ s. value_front f g op at p a.type b.type e d.value refl (left.own s) (right.own refl)) (λ u. absurd_bool u) may
+    ⊎_elim (λ s. value_front f g op at p a.type b.type e d.value refl (left.valued s) (right.valued refl)) (λ u. absurd_bool u) may
 
 -- ---- lists of operands
 
@@ -193,14 +193,14 @@ logical_all t u (s ∷ ss) h k =
 -- what a denotation permits lies in one of the types
 record OneFine (ts : List ExprType) (d : Denotation) (sets : Bool) : Type 0 where
   permitted : (v : Value) → d.permits v ≡ true → LiesInOne ts v
-  own : sets ≡ false → LiesInOne ts d.value
+  valued : sets ≡ false → LiesInOne ts d.value
 
 one_first : (t : Option ExprType) (u : ExprType) (us : List ExprType) (d : Denotation) (sets : Bool) → t ≡ Some u → Fine t d sets → OneFine (u ∷ us) d sets
 one_first t u us d sets e f =
-    record { permitted = λ v h. inl (lies_as t u v e (f.permitted v h)); own = λ s. inl (lies_as t u d.value e (f.own s)) }
+    record { permitted = λ v h. inl (lies_as t u v e (f.permitted v h)); valued = λ s. inl (lies_as t u d.value e (f.valued s)) }
 
 one_later : (u : ExprType) (us : List ExprType) (d : Denotation) (sets : Bool) → OneFine us d sets → OneFine (u ∷ us) d sets
-one_later u us d sets f = record { permitted = λ v h. inr (f.permitted v h); own = λ s. inr (f.own s) }
+one_later u us d sets f = record { permitted = λ v h. inr (f.permitted v h); valued = λ s. inr (f.valued s) }
 
 one_if : (ts : List ExprType) (b : Bool) (d c : Denotation) (sets : Bool) → OneFine ts d sets → (b ≡ false → OneFine ts c sets) → OneFine ts (if b then d else c) sets
 one_if ts true d c sets h k = h
@@ -211,7 +211,7 @@ as_types ts us d sets e f = subst (λ xs. OneFine xs d sets) e f
 
 hull_fine : (ts : List ExprType) (d : Denotation) (sets : Bool) → are_same ts ≡ true → OneFine ts d sets → Fine (Some (hull_of ts)) d sets
 hull_fine ts d sets e f =
-    record { permitted = λ v h. hull_of_holds ts v e (f.permitted v h); own = λ s. hull_of_holds ts d.value e (f.own s) }
+    record { permitted = λ v h. hull_of_holds ts v e (f.permitted v h); valued = λ s. hull_of_holds ts d.value e (f.valued s) }
 
 -- the branches of a case or a choice
 branches_fine : (p : Place) (cs vs : Option (List ExprType)) (d : Denotation) (sets : Bool) → ((us : List ExprType) → vs ≡ Some us → OneFine us d sets)
@@ -264,7 +264,7 @@ set_fine p None permits sets h = node_fine (check 16 p true ∷ check 20 p sets 
 set_fine p (Some us) permits sets h = node_fine (check 16 p (are_same us) ∷ check 20 p sets ∷ []) (Some (hull_of us)) _ sets
     (λ passed.
     let b = two_tests (are_same us) sets passed in
-    record { permitted = λ v k. hull_of_holds us v b.0 (h us refl v k); own = λ s. false_true sets s b.1 })
+    record { permitted = λ v k. hull_of_holds us v b.0 (h us refl v k); valued = λ s. false_true sets s b.1 })
 
 pub between_lies : (low high : ℤ) (v : Value) → is_between low high v ≡ true → LiesIn (integer_type low high) v
 between_lies low high (Integer z) h =
@@ -278,7 +278,7 @@ range_fine p low high sets =
     node_fine (check 17 p (in_limit (integer_type low high)) ∷ check 20 p sets ∷ check 26 p (int_le low high) ∷ []) (Some (integer_type low high)) _ sets
     (λ passed.
     let c = three_tests (in_limit (integer_type low high)) sets (int_le low high) passed in
-    record { permitted = λ v k. between_lies low high v k; own = λ s. false_true sets s c.1 })
+    record { permitted = λ v k. between_lies low high v k; valued = λ s. false_true sets s c.1 })
 
 literal_fine : (w : BitVector) (sets : Bool) → Fine (literal_type w) (alone (Bits w)) sets
 literal_fine w sets = by (is_literal w) refl
@@ -341,7 +341,7 @@ mutual
       node_fine (check 16 p (not (names x).is_instance) ∷ check 18 p (at.inputs || not (names x).reaches_input) ∷ []) (names x).type _ at.sets
       (λ passed. alone_fine (names x).type (f x) at.sets (hf x))
   fine names f g hf hg at (prefix p sign n e) =
-      prefix_fine p sign n (typing names (single at) e).type (denote f g e).value at.sets ((fine names f g hf hg (single at) e).own refl)
+      prefix_fine p sign n (typing names (single at) e).type (denote f g e).value at.sets ((fine names f g hf hg (single at) e).valued refl)
   fine names f g hf hg at (chain p e ls) = chain_fine (is_from_right ls) _ _ _ _ at.sets
       (λ b. implies_fine p (all_types ((typing names (single at) e).type ∷ link_types names (single at) ls)) (implications f g (denote f g e).value ls) at.sets
       (λ u us h k.
@@ -349,7 +349,7 @@ mutual
       let s = heads c.0 u c.1 us c.4 k in
       subst (λ t. LiesIn t (implications f g (denote f g e).value ls)) s.1
       (implied_fine names f g hf hg at c.0 c.1 (denote f g e).value ls c.3 s.0
-      (lies_as (typing names (single at) e).type c.0 (denote f g e).value c.2 ((fine names f g hf hg (single at) e).own refl)))))
+      (lies_as (typing names (single at) e).type c.0 (denote f g e).value c.2 ((fine names f g hf hg (single at) e).valued refl)))))
       (λ b. across_fine at (are_unions ls) _ _ (linked_fine names f g hf hg (across ls at) p (typing names (across ls at) e) (denote f g e) ls
       (fine names f g hf hg (across ls at) e) (may_join ls at (are_unions ls) refl)))
   fine names f g hf hg at (choice p bs e) =
@@ -360,7 +360,7 @@ mutual
       branches_fine p (all_types (condition_types names (single at) (branch c e rest))) (all_types (value_types names at (branch c e rest) [])) (taken f g (branch c e rest)) at.sets
       (λ us h. taken_fine names f g hf hg at (branch c e rest) refl us h)
   fine names f g hf hg at (select p e high low) =
-      select_fine p high low (typing names (single at) e).type (denote f g e).value at.sets ((fine names f g hf hg (single at) e).own refl)
+      select_fine p high low (typing names (single at) e).type (denote f g e).value at.sets ((fine names f g hf hg (single at) e).valued refl)
   fine names f g hf hg at (call p h es) =
       call_fine p h (all_types (tree_types names (single at) es)) (numbers_of es) (values_of f g es) at.sets (λ us e. trees_lie names f g hf hg at es us e) (numbers_are f g es)
   fine names f g hf hg at (next p e) = node_fine (check 19 p at.nexts ∷ []) (typing names under_next e).type _ at.sets
@@ -378,7 +378,7 @@ mutual
       let b = both_true (logical_fits u c.0) (list_all (logical_fits u) c.1) fits in
       implied_lies u c.0 v (implications f g (denote f g e).value ls) b.0 l
       (implied_fine names f g hf hg at c.0 c.1 (denote f g e).value ls c.3 (logical_all u c.0 c.1 b.0 b.1)
-      (lies_as (typing names (single at) e).type c.0 (denote f g e).value c.2 ((fine names f g hf hg (single at) e).own refl)))
+      (lies_as (typing names (single at) e).type c.0 (denote f g e).value c.2 ((fine names f g hf hg (single at) e).valued refl)))
 
   linked_fine : (names : Path → Named) (f g : Path → Value) → NamesLie names f → NamesLie names g → (at : Position) (p : Place) (a : Typing) (d : Denotation) (ls : Links)
       → Fine a.type d at.sets → (at.sets ≡ false) ⊎ (are_unions ls ≡ true) → Fine (linked names at p a ls).type (linked_values f g d ls) at.sets
@@ -415,7 +415,7 @@ mutual
   trees_lie names f g hf hg at (tree x es) us e =
       let c = all_cons (typing names (single at) x).type (tree_types names (single at) es) us e in
       subst (λ ts. AllLie ts (values_of f g (tree x es))) c.4
-      (lies_as (typing names (single at) x).type c.0 (denote f g x).value c.2 ((fine names f g hf hg (single at) x).own refl), trees_lie names f g hf hg at es c.1 c.3)
+      (lies_as (typing names (single at) x).type c.0 (denote f g x).value c.2 ((fine names f g hf hg (single at) x).valued refl), trees_lie names f g hf hg at es c.1 c.3)
 
   one_lies : (names : Path → Named) (f g : Path → Value) → NamesLie names f → NamesLie names g → (at : Position) (es : Trees)
       → (us : List ExprType) → all_types (tree_types names at es) ≡ Some us → (v : Value) → one_permits f g es v ≡ true → LiesInOne us v
@@ -433,7 +433,7 @@ found_lies : (inputs : Bool) (found : ℕ → Path → Found) (state label : Val
     → Lies (named_found inputs (naming inputs found n) m).type (value_found (reading found n state label) state label m)
 found_lies inputs found state label n (variable_at x kind d) given ih = given
 found_lies inputs found state label n (body_at i x j e) given ih =
-    (fine (naming inputs found n j) (reading found n state label j) (reading found n state label j) (ih j) (ih j) in_body e).own refl
+    (fine (naming inputs found n j) (reading found n state label j) (reading found n state label j) (ih j) (ih j) in_body e).valued refl
 found_lies inputs found state label n (instance_at i) given ih = tt
 found_lies inputs found state label n (symbol_of x) given ih = tt
 found_lies inputs found state label n cyclic given ih = tt

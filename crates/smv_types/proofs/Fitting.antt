@@ -68,6 +68,10 @@ word_in_limit w h = let g : 2 ^ w ≤ 2 ^ 62 = pow_mono h in let k : 2 ^ w - 1 �
 pub word_over_limit : (w : ℕ) → 62 < w → in_limit (integer_type (pos 0) (pos (2 ^ w - 1))) ≡ false
 word_over_limit w h = let g : 2 ^ 63 ≤ 2 ^ w = pow_mono h in let k : 2 ^ 62 - 1 < 2 ^ w - 1 = omega arith in grind (arith, nat_tests)
 
+-- a word of 64 bits or more has room for each number of 64 bits
+pub wide_enough : (w n : ℕ) → 64 ≤ w → n < 2 ^ 64 → n < 2 ^ w
+wide_enough w n h small = let up : 2 ^ 64 ≤ 2 ^ w = pow_mono h in omega (arith, up, small)
+
 pub uwconst_fits : (ts : List Ty) → length ts ≡ 2 → function_fits OfFunction.Uwconst (map seen ts) ≡ true
 uwconst_fits [] h = absurd (omega arith)
 uwconst_fits (t ∷ []) h = absurd (omega arith)

@@ -117,11 +117,11 @@ fn word_of_numbers(place: Place, types: &[Ty], arguments: &[Expr]) -> Result<Opt
     }
 }
 
-// Has a word of n bits room for v? A width is at most 64.
+// Has a word of n bits room for v?
 fn is_below(v: u64, n: u64) -> bool
-    ensures { n ≤ 64 → result ≡ nat_lt v (2 ^ n) }
+    ensures { result ≡ nat_lt v (2 ^ n) }
 {
-    n >= 64 || v < 1u64 << n
+    n >= u64::from(u64::BITS) || v < 1u64 << n
 }
 
 // `extend(w, n)`

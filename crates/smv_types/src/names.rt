@@ -7,7 +7,7 @@ ghost use Rattle.smv_types.specs.View.{named_seen};
 use smv_intervals::Ty;
 use smv_text::Path;
 
-/// What a name is (NuSMV 2.6 User Manual, 2.3.16).
+/// What a name is (NuSMV 2.6 User Manual, 2.3).
 #[derive(Clone, Copy, PartialEq, Eq)]
 pub struct Named {
     /// Its type. None for an instance, for a variable whose declared type fails a check, and for a definition or an actual

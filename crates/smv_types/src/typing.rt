@@ -1,14 +1,15 @@
 // The checks of an expression and its type, in one pass.
-ghost use Rattle.std.specs.Prelude.{◌≡◌, [], ◌∷◌, IsTrue, IfOk, IfErr, None, Ok, map, option_map};
+ghost use Rattle.std.specs.Prelude.{◌≡◌, [], ◌∷◌, IsTrue, IfOk, IfErr, None, map, option_map};
 ghost use Rattle.std.specs.List.{list_all};
-ghost use Rattle.smv_text.specs.Tree.{Tree, prefix, chain, choice, cases, select, call, next, set, Branches as PlainBranches, links_of, branches_of, trees_of};
+ghost use Rattle.smv_text.specs.Tree.{prefix, cases, select, call, next, set, links_of, branches_of, trees_of};
 ghost use Rattle.smv_text.specs.View.{plain, plain_link, plain_branch};
 ghost use Rattle.smv_meaning.specs.Expressions.{paths_of};
-ghost use Rattle.smv_meaning.specs.Checks.{typing, single, across, linked, tree_checks, tree_types, link_checks, link_types, branch_checks, condition_types, value_types, first_failing};
+ghost use Rattle.smv_meaning.specs.Checks.{typing, single, linked, tree_checks, tree_types, link_checks, link_types, branch_checks, condition_types, value_types, first_failing};
 ghost use Rattle.smv_intervals.specs.View.{seen};
 ghost use Rattle.smv_types.specs.View.{standing_seen, position_seen};
-ghost use Rattle.smv_types.specs.Outcome.{outcome, Ends, IsBad, is_known, links_known, branches_known, trees_known};
-ghost use Rattle.smv_types.specs.Steps.{passed, implications_step};
+ghost use Rattle.smv_types.specs.Outcome.{Ends, IsBad, is_known, links_known, branches_known, trees_known};
+ghost use Rattle.smv_types.specs.Steps.{passed};
+ghost use Rattle.smv_types.specs.Operands.{EndsChain, implications_typing, EndsChoice};
 
 use crate::calls::called;
 use crate::chains::{across, behind, front, is_from_right};
@@ -140,7 +141,7 @@ fn chain_typed<C: Scope>(
     at: Standing,
 ) -> Result<Option<Ty>, CheckEnd>
     requires { IsTrue (links_known (C.knows scope.now) (links_of (map plain_link links.now))) }
-    ensures { (f : Tree) → outcome (typing (C.names scope.now) (across (links_of (map plain_link links.now)) (standing_seen at)) f) ≡ Ok (option_map seen first) → Ends result (typing (C.names scope.now) (standing_seen at) (chain place f (links_of (map plain_link links.now)))) }
+    ensures { EndsChain (C.names scope.now) (standing_seen at) place (option_map seen first) (links_of (map plain_link links.now)) result }
 {
     if is_from_right(links) {
         implications_typed(alloc, scope, place, first, links, at.single())
@@ -160,7 +161,7 @@ fn implications_typed<C: Scope>(
     at: Standing,
 ) -> Result<Option<Ty>, CheckEnd>
     requires { IsTrue (links_known (C.knows scope.now) (links_of (map plain_link links.now))) }
-    ensures { Ends result (implications_step place (option_map seen first) (link_checks (C.names scope.now) (standing_seen at) (links_of (map plain_link links.now))) (link_types (C.names scope.now) (standing_seen at) (links_of (map plain_link links.now)))) }
+    ensures { Ends result (implications_typing (C.names scope.now) (standing_seen at) place (option_map seen first) (links_of (map plain_link links.now))) }
 {
     let types = operand_types(alloc, scope, first, links, at)?;
     implied(alloc, place, &types)
@@ -273,7 +274,7 @@ fn choice_typed<C: Scope>(
     at: Standing,
 ) -> Result<Option<Ty>, CheckEnd>
     requires { IsTrue (is_known (C.knows scope.now) (plain last.now)) }
-    ensures { (bs : PlainBranches) → first_failing (branch_checks (C.names scope.now) (standing_seen at) bs) ≡ None → map (option_map seen) types.conditions.items ≡ condition_types (C.names scope.now) (single (standing_seen at)) bs → map (option_map seen) types.values.items ≡ value_types (C.names scope.now) (standing_seen at) bs [] → Ends result (typing (C.names scope.now) (standing_seen at) (choice place bs (plain last.now))) }
+    ensures { EndsChoice (C.names scope.now) (standing_seen at) place (map (option_map seen) types.conditions.items) (map (option_map seen) types.values.items) (plain last.now) result }
 {
     let t = typed(alloc, scope, last, at)?;
     types.values.push(t)?;

@@ -22,9 +22,9 @@ use Rattle.smv_model_laws.proofs.Typable.{split}
 use Rattle.smv_model_laws.proofs.SafeExpressions.{accepted_is_checked_law}
 use Rattle.smv_items.specs.FlatItems.{Content, variable, definition, actual, Origin, with_content, actual_content, actual_items, domain_content, variable_item, definition_item, element_items, items_here, leaf_in, content_type, type_or_truth, PlainFlatItem, flat_item_of}
 use Rattle.smv_flat.specs.FlatForms.{Form, flat_in, content_form, body_forms, assignment_form, element_forms, forms_here, forms_from}
-use Rattle.smv_width.specs.FlatWidth.{integers_width, own_width, tree_width, items_width, forms_width}
+use Rattle.smv_width.specs.FlatWidth.{integers_width, node_width, tree_width, items_width, forms_width}
 use Rattle.smv_width.specs.SourceWidth.{expression_width, has_operators, greatest, element_widths, actual_width, actual_widths, instance_widths, SameModelWidth}
-use Rattle.smv_width.proofs.SourceWidths.{source_own, same_width}
+use Rattle.smv_width.proofs.SourceWidths.{source_node, same_width}
 use Rattle.smv_width.proofs.SpelledWidths.{instances_operators}
 
 -- ---- lists
@@ -72,7 +72,7 @@ here_joined items bodies forms all origins actuals elements x y z m f e h =
 -- ---- items and their bodies
 
 abbrev origin_width : List Instance → Content → ℕ
-origin_width t (variable kind d) = own_width (variable_type d)
+origin_width t (variable kind d) = node_width (variable_type d)
 origin_width t (definition j e) = expression_width (types_in true t j) in_body e
 origin_width t (actual j e) = expression_width (types_in true t j) in_body e
 
@@ -97,19 +97,19 @@ bodies_append : (t : List Instance) (xs ys : List Origin) → BodiesSame t xs �
 bodies_append t [] ys h k = k
 bodies_append t (x ∷ xs) ys h k = (h.0, bodies_append t xs ys h.1 k)
 
-type_wide : (o : Option ExprType) → integers_width (type_or_truth o) ≡ own_width o
+type_wide : (o : Option ExprType) → integers_width (type_or_truth o) ≡ node_width o
 type_wide None = refl
 type_wide (Some t) = refl
 
 content_same : (t : List Instance) (k i : ℕ) (c : Content) → BodySame t c → max 1 (max (integers_width (type_or_truth (content_type t c))) (forms_width (content_form t k i c))) ≡ max 1 (origin_width t c)
-content_same t k i (variable kind d) s = let w : integers_width (type_or_truth (variable_type d)) ≡ own_width (variable_type d) = type_wide (variable_type d) in omega (arith, w)
+content_same t k i (variable kind d) s = let w : integers_width (type_or_truth (variable_type d)) ≡ node_width (variable_type d) = type_wide (variable_type d) in omega (arith, w)
 content_same t k i (definition j e) s =
-    let w : integers_width (type_or_truth (typing (types_in true t j) in_body e).type) ≡ own_width (typing (types_in true t j) in_body e).type = type_wide (typing (types_in true t j) in_body e).type in
-    let o : own_width (typing (types_in true t j) in_body e).type ≤ expression_width (types_in true t j) in_body e = source_own (types_in true t j) in_body e in
+    let w : integers_width (type_or_truth (typing (types_in true t j) in_body e).type) ≡ node_width (typing (types_in true t j) in_body e).type = type_wide (typing (types_in true t j) in_body e).type in
+    let o : node_width (typing (types_in true t j) in_body e).type ≤ expression_width (types_in true t j) in_body e = source_node (types_in true t j) in_body e in
     omega (arith, w, o, s)
 content_same t k i (actual j e) s =
-    let w : integers_width (type_or_truth (typing (types_in true t j) in_body e).type) ≡ own_width (typing (types_in true t j) in_body e).type = type_wide (typing (types_in true t j) in_body e).type in
-    let o : own_width (typing (types_in true t j) in_body e).type ≤ expression_width (types_in true t j) in_body e = source_own (types_in true t j) in_body e in
+    let w : integers_width (type_or_truth (typing (types_in true t j) in_body e).type) ≡ node_width (typing (types_in true t j) in_body e).type = type_wide (typing (types_in true t j) in_body e).type in
+    let o : node_width (typing (types_in true t j) in_body e).type ≤ expression_width (types_in true t j) in_body e = source_node (types_in true t j) in_body e in
     omega (arith, w, o, s)
 
 bodies_width : (t : List Instance) (k : ℕ) (ms : List Origin) → BodiesSame t ms → max 1 (max (items_width (map (flat_item_of t) ms)) (forms_width (body_forms t k ms))) ≡ max 1 (origins_width t ms)
@@ -166,7 +166,7 @@ actuals_same t i j (q ∷ qs) (tree e es) w h =
 -- ---- elements
 
 variable_bodies : (t : List Instance) (i : ℕ) (kind : VarKind) (x : List ℕ) (d : PlainDomain)
-    → BodiesSame t (with_content i x (domain_content kind d)) × (max 1 (origins_width t (with_content i x (domain_content kind d))) ≡ max 1 (own_width (variable_type d)))
+    → BodiesSame t (with_content i x (domain_content kind d)) × (max 1 (origins_width t (with_content i x (domain_content kind d))) ≡ max 1 (node_width (variable_type d)))
 variable_bodies t i kind x boolean = ((tt, tt), refl)
 variable_bodies t i kind x (members ms) = ((tt, tt), omega arith)
 variable_bodies t i kind x (between low high) = ((tt, tt), omega arith)
@@ -174,13 +174,13 @@ variable_bodies t i kind x (bits n) = ((tt, tt), omega arith)
 variable_bodies t i kind x (instance m es) = (tt, refl)
 
 variables_same : (t : List Instance) (i : ℕ) (kind : VarKind) (vs : List PlainItem)
-    → BodiesSame t (flat_map (variable_item i kind) vs) × (max 1 (origins_width t (flat_map (variable_item i kind) vs)) ≡ max 1 (greatest (map (λ v. own_width (variable_type v.domain)) vs)))
+    → BodiesSame t (flat_map (variable_item i kind) vs) × (max 1 (origins_width t (flat_map (variable_item i kind) vs)) ≡ max 1 (greatest (map (λ v. node_width (variable_type v.domain)) vs)))
 variables_same t i kind [] = (tt, refl)
 variables_same t i kind (v ∷ vs) =
     let a = variable_bodies t i kind v.name v.domain in
     let b = variables_same t i kind vs in
-    let x : max 1 (origins_width t (variable_item i kind v)) ≡ max 1 (own_width (variable_type v.domain)) = a.1 in
-    let y : max 1 (origins_width t (flat_map (variable_item i kind) vs)) ≡ max 1 (greatest (map (λ u. own_width (variable_type u.domain)) vs)) = b.1 in
+    let x : max 1 (origins_width t (variable_item i kind v)) ≡ max 1 (node_width (variable_type v.domain)) = a.1 in
+    let y : max 1 (origins_width t (flat_map (variable_item i kind) vs)) ≡ max 1 (greatest (map (λ u. node_width (variable_type u.domain)) vs)) = b.1 in
     let m : origins_width t (variable_item i kind v ++ flat_map (variable_item i kind) vs) ≡ max (origins_width t (variable_item i kind v)) (origins_width t (flat_map (variable_item i kind) vs)) =
     origins_append t (variable_item i kind v) (flat_map (variable_item i kind) vs) in
     (bodies_append t (variable_item i kind v) (flat_map (variable_item i kind) vs) a.0 b.0, omega (arith, x, y, m))
@@ -219,7 +219,7 @@ ElementSame t i x = BodiesSame t (element_items i x)
 element_same : (t : List Instance) (i : ℕ) (x : PlainElement) → list_all has_operators (expressions_in x) ≡ true → passes (element_typing (types_in true t i) x) ≡ true → ElementSame t i x
 element_same t i (vars kind vs) w h =
     let a = variables_same t i kind vs in
-    let y : max 1 (origins_width t (flat_map (variable_item i kind) vs)) ≡ max 1 (greatest (map (λ v. own_width (variable_type v.domain)) vs)) = a.1 in
+    let y : max 1 (origins_width t (flat_map (variable_item i kind) vs)) ≡ max 1 (greatest (map (λ v. node_width (variable_type v.domain)) vs)) = a.1 in
     (a.0, omega (arith, y))
 element_same t i (defines ds) w h =
     let a = definitions_same t i ds w h in
@@ -263,21 +263,21 @@ elements_same t i (x ∷ xs) w h =
 instance_same : (t : List Instance) (k i : ℕ) (at : Instance) → instance_all has_operators at ≡ true → passes (type_checks (types_in true t) i at) ≡ true
     → max 1 (max (items_width (map (flat_item_of t) (items_here i at))) (forms_width (forms_here t k i at))) ≡ max 1 (greatest (instance_widths t i at))
 instance_same t k i at w h =
-    let o = both_true (list_all has_operators (list_of at.actuals)) (list_all has_operators (flat_map expressions_in at.plan.elements)) w in
-    let c = split (actuals_typing (types_in true t (parent_of at)) at.actuals) (flat_map (element_typing (types_in true t i)) at.plan.elements) h in
-    let xs = actual_items i (parent_of at) at.plan.parameters at.actuals in
-    let a = actuals_same t i (parent_of at) at.plan.parameters at.actuals o.0 c.0 in
-    let b = elements_same t i at.plan.elements o.1 c.1 in
-    let x : origins_width t (actual_items i (parent_of at) at.plan.parameters at.actuals) ≡ greatest (actual_widths (types_in true t (parent_of at)) at.plan.parameters at.actuals) = a.1 in
-    let y : max 1 (max (origins_width t (flat_map (element_items i) at.plan.elements)) (forms_width (flat_map (element_forms t i) at.plan.elements))) ≡ max 1 (greatest (flat_map (element_widths (types_in true t i)) at.plan.elements)) = b.1 in
-    let s = bodies_append t (actual_items i (parent_of at) at.plan.parameters at.actuals) (flat_map (element_items i) at.plan.elements) a.0 b.0 in
+    let o = both_true (list_all has_operators (list_of at.actuals)) (list_all has_operators (flat_map expressions_in at.module.elements)) w in
+    let c = split (actuals_typing (types_in true t (parent_of at)) at.actuals) (flat_map (element_typing (types_in true t i)) at.module.elements) h in
+    let xs = actual_items i (parent_of at) at.module.parameters at.actuals in
+    let a = actuals_same t i (parent_of at) at.module.parameters at.actuals o.0 c.0 in
+    let b = elements_same t i at.module.elements o.1 c.1 in
+    let x : origins_width t (actual_items i (parent_of at) at.module.parameters at.actuals) ≡ greatest (actual_widths (types_in true t (parent_of at)) at.module.parameters at.actuals) = a.1 in
+    let y : max 1 (max (origins_width t (flat_map (element_items i) at.module.elements)) (forms_width (flat_map (element_forms t i) at.module.elements))) ≡ max 1 (greatest (flat_map (element_widths (types_in true t i)) at.module.elements)) = b.1 in
+    let s = bodies_append t (actual_items i (parent_of at) at.module.parameters at.actuals) (flat_map (element_items i) at.module.elements) a.0 b.0 in
     let z : max 1 (max (items_width (map (flat_item_of t) (items_here i at))) (forms_width (body_forms t k (items_here i at)))) ≡ max 1 (origins_width t (items_here i at)) = bodies_width t k (items_here i at) s in
-    let m : origins_width t (items_here i at) ≡ max (origins_width t (actual_items i (parent_of at) at.plan.parameters at.actuals)) (origins_width t (flat_map (element_items i) at.plan.elements)) =
-    origins_append t (actual_items i (parent_of at) at.plan.parameters at.actuals) (flat_map (element_items i) at.plan.elements) in
-    let f : forms_width (forms_here t k i at) ≡ max (forms_width (body_forms t k (items_here i at))) (forms_width (flat_map (element_forms t i) at.plan.elements)) =
-    forms_append (body_forms t k (items_here i at)) (flat_map (element_forms t i) at.plan.elements) in
-    let g : greatest (instance_widths t i at) ≡ max (greatest (actual_widths (types_in true t (parent_of at)) at.plan.parameters at.actuals)) (greatest (flat_map (element_widths (types_in true t i)) at.plan.elements)) =
-    greatest_append (actual_widths (types_in true t (parent_of at)) at.plan.parameters at.actuals) (flat_map (element_widths (types_in true t i)) at.plan.elements) in
+    let m : origins_width t (items_here i at) ≡ max (origins_width t (actual_items i (parent_of at) at.module.parameters at.actuals)) (origins_width t (flat_map (element_items i) at.module.elements)) =
+    origins_append t (actual_items i (parent_of at) at.module.parameters at.actuals) (flat_map (element_items i) at.module.elements) in
+    let f : forms_width (forms_here t k i at) ≡ max (forms_width (body_forms t k (items_here i at))) (forms_width (flat_map (element_forms t i) at.module.elements)) =
+    forms_append (body_forms t k (items_here i at)) (flat_map (element_forms t i) at.module.elements) in
+    let g : greatest (instance_widths t i at) ≡ max (greatest (actual_widths (types_in true t (parent_of at)) at.module.parameters at.actuals)) (greatest (flat_map (element_widths (types_in true t i)) at.module.elements)) =
+    greatest_append (actual_widths (types_in true t (parent_of at)) at.module.parameters at.actuals) (flat_map (element_widths (types_in true t i)) at.module.elements) in
     here_joined _ _ _ _ _ _ _ _ _ z m f x y ∙ ap (max 1) (sym g)
 
 instances_same : (t : List Instance) (k i : ℕ) (rest : List Instance) → list_all (instance_all has_operators) rest ≡ true → passes (over_instances (type_checks (types_in true t)) i rest) ≡ true

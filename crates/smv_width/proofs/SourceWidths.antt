@@ -16,53 +16,53 @@ use Rattle.smv_meaning.specs.laws.Booleans.{absurd_bool}
 use Rattle.smv_model_laws.proofs.Typable.{split}
 use Rattle.smv_items.specs.FlatItems.{Leaf, of_item, of_symbol, of_nothing}
 use Rattle.smv_flat.specs.FlatTree.{leaf_tree, FlatTree, flat_truth, flat_number, flat_literal, flat_symbol, flat_item, flat_prefix, flat_chain, flat_choice, flat_cases, flat_select, flat_call, flat_set, flat_range, flat_tree, flat_links, flat_branches, flat_trees, is_set, has_set, unless_set}
-use Rattle.smv_width.specs.FlatWidth.{integer_width, interval_width, integers_width, own_width, integer_within, infix_type_by, front_by, flat_divisor, flat_type, operand_width, arguments_width, tree_width, links_width, branches_width, trees_width, first_width}
+use Rattle.smv_width.specs.FlatWidth.{integer_width, interval_width, integers_width, node_width, integer_within, infix_type_by, front_by, flat_divisor, flat_type, operand_width, arguments_width, tree_width, links_width, branches_width, trees_width, first_width}
 use Rattle.smv_width.specs.SourceWidth.{expression_width, implied_width, fronts_width, branch_width, part_width, front_width, has_link, has_operators, link_operators, branch_operators, part_operators, SameWidth}
-use Rattle.smv_width.proofs.WidthLaw.{own_some}
+use Rattle.smv_width.proofs.WidthLaw.{node_some}
 
 -- ---- widths of types
 
 integers_some : (t : ExprType) → 1 ≤ integers_width t
-integers_some (integer_type low high) = let s : 1 ≤ integer_width low = own_some low in omega (arith, s)
+integers_some (integer_type low high) = let s : 1 ≤ integer_width low = node_some low in omega (arith, s)
 integers_some truth_type = omega arith
 integers_some symbol_type = omega arith
 integers_some (word_type n) = omega arith
 
-type_some : (t : Option ExprType) → 1 ≤ own_width t
+type_some : (t : Option ExprType) → 1 ≤ node_width t
 type_some None = omega arith
 type_some (Some t) = integers_some t
 
-flat_own : (t : FlatTree) → own_width (flat_type t) ≤ tree_width t
-flat_own (flat_truth t b) = omega arith
-flat_own (flat_number t n) = omega arith
-flat_own (flat_literal t w) = omega arith
-flat_own (flat_symbol t s) = omega arith
-flat_own (flat_item t k under) = omega arith
-flat_own (flat_prefix t sign n e) = omega arith
-flat_own (flat_chain t e ls) = omega arith
-flat_own (flat_choice t bs e) = omega arith
-flat_own (flat_cases t bs) = omega arith
-flat_own (flat_select t e high low) = omega arith
-flat_own (flat_call t f es) = omega arith
-flat_own (flat_set t es) = omega arith
-flat_own (flat_range t low high) = omega arith
+flat_node : (t : FlatTree) → node_width (flat_type t) ≤ tree_width t
+flat_node (flat_truth t b) = omega arith
+flat_node (flat_number t n) = omega arith
+flat_node (flat_literal t w) = omega arith
+flat_node (flat_symbol t s) = omega arith
+flat_node (flat_item t k under) = omega arith
+flat_node (flat_prefix t sign n e) = omega arith
+flat_node (flat_chain t e ls) = omega arith
+flat_node (flat_choice t bs e) = omega arith
+flat_node (flat_cases t bs) = omega arith
+flat_node (flat_select t e high low) = omega arith
+flat_node (flat_call t f es) = omega arith
+flat_node (flat_set t es) = omega arith
+flat_node (flat_range t low high) = omega arith
 
-pub source_own : (names : Path → Named) (at : Position) (e : Tree) → own_width (typing names at e).type ≤ expression_width names at e
-source_own names at (truth p b) = omega arith
-source_own names at (number p n) = omega arith
-source_own names at (literal p w) = omega arith
-source_own names at (name p x) = omega arith
-source_own names at (prefix p sign n e) = omega arith
-source_own names at (chain p e ls) = omega arith
-source_own names at (choice p bs e) = omega arith
-source_own names at (cases p bs) = omega arith
-source_own names at (select p e high low) = omega arith
-source_own names at (call p f es) = omega arith
-source_own names at (next p e) = omega arith
-source_own names at (set p es) = omega arith
-source_own names at (range p low high) = omega arith
+pub source_node : (names : Path → Named) (at : Position) (e : Tree) → node_width (typing names at e).type ≤ expression_width names at e
+source_node names at (truth p b) = omega arith
+source_node names at (number p n) = omega arith
+source_node names at (literal p w) = omega arith
+source_node names at (name p x) = omega arith
+source_node names at (prefix p sign n e) = omega arith
+source_node names at (chain p e ls) = omega arith
+source_node names at (choice p bs e) = omega arith
+source_node names at (cases p bs) = omega arith
+source_node names at (select p e high low) = omega arith
+source_node names at (call p f es) = omega arith
+source_node names at (next p e) = omega arith
+source_node names at (set p es) = omega arith
+source_node names at (range p low high) = omega arith
 
-guard_wide : (b : Bool) (t : Option ExprType) → own_width (if b then t else None) ≤ max 1 (own_width t)
+guard_wide : (b : Bool) (t : Option ExprType) → node_width (if b then t else None) ≤ max 1 (node_width t)
 guard_wide true t = omega arith
 guard_wide false t = omega arith
 
@@ -88,9 +88,9 @@ abbrev greatest : List ExprType → ℕ
 greatest [] = 0
 greatest (t ∷ ts) = max (integers_width t) (greatest ts)
 
-abbrev own_greatest : List (Option ExprType) → ℕ
-own_greatest [] = 0
-own_greatest (t ∷ ts) = max (own_width t) (own_greatest ts)
+abbrev node_greatest : List (Option ExprType) → ℕ
+node_greatest [] = 0
+node_greatest (t ∷ ts) = max (node_width t) (node_greatest ts)
 
 hull_with_wide : (t : ExprType) (us : List ExprType) → integers_width (hull_with t us) ≤ max (integers_width t) (greatest us)
 hull_with_wide t [] = omega arith
@@ -108,30 +108,30 @@ map_twice f g None = refl
 map_twice f g (Some ts) = refl
 
 all_wide : (f : List ExprType → ExprType) (m : ℕ) (ts : List (Option ExprType)) → 1 ≤ m → ((us : List ExprType) → integers_width (f us) ≤ max m (greatest us))
-    → own_width (option_map f (all_types ts)) ≤ max m (own_greatest ts)
+    → node_width (option_map f (all_types ts)) ≤ max m (node_greatest ts)
 all_wide f m [] s k = k []
 all_wide f m (None ∷ ts) s k = omega (arith, s)
 all_wide f m (Some t ∷ ts) s k =
-    let p : own_width (option_map (λ us. f (t ∷ us)) (all_types ts)) ≤ max (max m (integers_width t)) (own_greatest ts) =
+    let p : node_width (option_map (λ us. f (t ∷ us)) (all_types ts)) ≤ max (max m (integers_width t)) (node_greatest ts) =
     all_wide (λ us. f (t ∷ us)) (max m (integers_width t)) ts (omega (arith, s)) (λ us. let q : integers_width (f (t ∷ us)) ≤ max m (max (integers_width t) (greatest us)) = k (t ∷ us) in omega (arith, q)) in
-    let e : own_width (option_map f (option_map (λ us. t ∷ us) (all_types ts))) ≡ own_width (option_map (λ us. f (t ∷ us)) (all_types ts)) = ap own_width (map_twice f (λ us. t ∷ us) (all_types ts)) in
+    let e : node_width (option_map f (option_map (λ us. t ∷ us) (all_types ts))) ≡ node_width (option_map (λ us. f (t ∷ us)) (all_types ts)) = ap node_width (map_twice f (λ us. t ∷ us) (all_types ts)) in
     omega (arith, p, e)
 
-parts_wide : (names : Path → Named) (at : Position) (es : Trees) → own_greatest (tree_types names at es) ≤ part_width names at es
+parts_wide : (names : Path → Named) (at : Position) (es : Trees) → node_greatest (tree_types names at es) ≤ part_width names at es
 parts_wide names at no_trees = omega arith
 parts_wide names at (tree e es) =
-    let p : own_width (typing names at e).type ≤ expression_width names at e = source_own names at e in
-    let q : own_greatest (tree_types names at es) ≤ part_width names at es = parts_wide names at es in
+    let p : node_width (typing names at e).type ≤ expression_width names at e = source_node names at e in
+    let q : node_greatest (tree_types names at es) ≤ part_width names at es = parts_wide names at es in
     omega (arith, p, q)
 
-values_wide : (names : Path → Named) (at : Position) (bs : Branches) (more : List (Option ExprType)) → own_greatest (value_types names at bs more) ≤ max (branch_width names at bs) (own_greatest more)
+values_wide : (names : Path → Named) (at : Position) (bs : Branches) (more : List (Option ExprType)) → node_greatest (value_types names at bs more) ≤ max (branch_width names at bs) (node_greatest more)
 values_wide names at no_branches more = omega arith
 values_wide names at (branch c e rest) more =
-    let p : own_width (typing names at e).type ≤ expression_width names at e = source_own names at e in
-    let q : own_greatest (value_types names at rest more) ≤ max (branch_width names at rest) (own_greatest more) = values_wide names at rest more in
+    let p : node_width (typing names at e).type ≤ expression_width names at e = source_node names at e in
+    let q : node_greatest (value_types names at rest more) ≤ max (branch_width names at rest) (node_greatest more) = values_wide names at rest more in
     omega (arith, p, q)
 
-branches_wide : (cs vs : Option (List ExprType)) → own_width (branches_type cs vs) ≤ max 1 (own_width (option_map hull_of vs))
+branches_wide : (cs vs : Option (List ExprType)) → node_width (branches_type cs vs) ≤ max 1 (node_width (option_map hull_of vs))
 branches_wide (Some cs) (Some vs) = omega arith
 branches_wide (Some cs) None = omega arith
 branches_wide None vs = omega arith
@@ -278,15 +278,15 @@ only (Some symbol_type) = None
 only (Some (word_type n)) = None
 only None = None
 
-own_only : (t : Option ExprType) → own_width t ≡ own_width (only t)
-own_only (Some (integer_type low high)) = refl
-own_only (Some truth_type) = refl
-own_only (Some symbol_type) = refl
-own_only (Some (word_type n)) = refl
-own_only None = refl
+node_only : (t : Option ExprType) → node_width t ≡ node_width (only t)
+node_only (Some (integer_type low high)) = refl
+node_only (Some truth_type) = refl
+node_only (Some symbol_type) = refl
+node_only (Some (word_type n)) = refl
+node_only None = refl
 
-only_same : (t u : Option ExprType) → only t ≡ only u → own_width t ≡ own_width u
-only_same t u h = own_only t ∙ ap own_width h ∙ sym (own_only u)
+only_same : (t u : Option ExprType) → only t ≡ only u → node_width t ≡ node_width u
+only_same t u h = node_only t ∙ ap node_width h ∙ sym (node_only u)
 
 only_integer : (t : Option ExprType) (low high : ℤ) → only t ≡ Some (integer_type low high) → t ≡ Some (integer_type low high)
 only_integer (Some (integer_type a b)) low high h = h
@@ -497,71 +497,71 @@ behind_sets op at m s = refl
 
 -- ---- fronts that add nothing
 
-limit_wide : (b : Bool) (t : ExprType) → own_width (if b then Some t else None) ≤ integers_width t
+limit_wide : (b : Bool) (t : ExprType) → node_width (if b then Some t else None) ≤ integers_width t
 limit_wide true t = omega arith
 limit_wide false t = integers_some t
 
-within_wide : (t : ExprType) → own_width (integer_within t) ≤ integers_width t
+within_wide : (t : ExprType) → node_width (integer_within t) ≤ integers_width t
 within_wide (integer_type low high) = limit_wide (in_limit (integer_type low high)) (integer_type low high)
 within_wide truth_type = omega arith
 within_wide symbol_type = omega arith
 within_wide (word_type n) = omega arith
 
 -- the front of a union or of `->` is no wider than its operands
-union_by_wide : (g u : Option ExprType) (d : Option ℤ) → own_width (front_by Union g u d) ≤ max (own_width g) (own_width u)
-union_by_wide None u d = let s : 1 ≤ own_width u = type_some u in omega (arith, s)
+union_by_wide : (g u : Option ExprType) (d : Option ℤ) → node_width (front_by Union g u d) ≤ max (node_width g) (node_width u)
+union_by_wide None u d = let s : 1 ≤ node_width u = type_some u in omega (arith, s)
 union_by_wide (Some t) None d = let s : 1 ≤ integers_width t = integers_some t in omega (arith, s)
 union_by_wide (Some t) (Some u) d =
     let p : integers_width (hull t u) ≤ max (integers_width t) (integers_width u) = hull_wide t u in
-    let q : own_width (integer_within (hull t u)) ≤ integers_width (hull t u) = within_wide (hull t u) in
+    let q : node_width (integer_within (hull t u)) ≤ integers_width (hull t u) = within_wide (hull t u) in
     omega (arith, p, q)
 
-implies_by_wide : (g u : Option ExprType) (d : Option ℤ) → own_width (front_by Implies g u d) ≤ own_width g
+implies_by_wide : (g u : Option ExprType) (d : Option ℤ) → node_width (front_by Implies g u d) ≤ node_width g
 implies_by_wide None u d = omega arith
 implies_by_wide (Some t) None d = integers_some t
 implies_by_wide (Some t) (Some u) d = within_wide t
 
-union_types_wide : (x y : Option ExprType) (e : Tree) → own_width (both_types (λ t z. infix_type Union t z e) x y) ≤ max (own_width x) (own_width y)
-union_types_wide None y e = let s : 1 ≤ own_width y = type_some y in omega (arith, s)
+union_types_wide : (x y : Option ExprType) (e : Tree) → node_width (both_types (λ t z. infix_type Union t z e) x y) ≤ max (node_width x) (node_width y)
+union_types_wide None y e = let s : 1 ≤ node_width y = type_some y in omega (arith, s)
 union_types_wide (Some t) None e = let s : 1 ≤ integers_width t = integers_some t in omega (arith, s)
 union_types_wide (Some t) (Some u) e = hull_wide t u
 
 -- ---- chains, choices and sets
 
-linked_wide : (names : Path → Named) (at : Position) (p : Place) (a : Typing) (ls : Links) → own_width (linked names at p a ls).type ≤ max (own_width a.type) (fronts_width names at p a ls)
+linked_wide : (names : Path → Named) (at : Position) (p : Place) (a : Typing) (ls : Links) → node_width (linked names at p a ls).type ≤ max (node_width a.type) (fronts_width names at p a ls)
 linked_wide names at p a no_links = omega arith
 linked_wide names at p a (link op e ls) =
     let f = front op at p a (typing names (behind op at) e) e in
-    let k : own_width (linked names at p (front op at p a (typing names (behind op at) e) e) ls).type ≤ max (own_width (front op at p a (typing names (behind op at) e) e).type) (fronts_width names at p (front op at p a (typing names (behind op at) e) e) ls) =
+    let k : node_width (linked names at p (front op at p a (typing names (behind op at) e) e) ls).type ≤ max (node_width (front op at p a (typing names (behind op at) e) e).type) (fronts_width names at p (front op at p a (typing names (behind op at) e) e) ls) =
     linked_wide names at p (front op at p a (typing names (behind op at) e) e) ls in
     omega (arith, k)
 
-unless_same : (b : Bool) (t : Option ExprType) (x y : ℕ) → x ≡ y → own_width t ≤ max 1 y → max (own_width (unless_set b t)) x ≡ max (own_width t) y
-unless_same true t x y e h = let s : 1 ≤ own_width t = type_some t in omega (arith, e, h, s)
+unless_same : (b : Bool) (t : Option ExprType) (x y : ℕ) → x ≡ y → node_width t ≤ max 1 y → max (node_width (unless_set b t)) x ≡ max (node_width t) y
+unless_same true t x y e h = let s : 1 ≤ node_width t = type_some t in omega (arith, e, h, s)
 unless_same false t x y e h = omega (arith, e)
 
 choice_wide : (names : Path → Named) (at : Position) (bs : Branches) (more : List (Option ExprType)) (m : ℕ) (own : List Check) (cs : Option (List ExprType))
-    → own_greatest more ≤ m → own_width (if passes own then branches_type cs (all_types (value_types names at bs more)) else None) ≤ max 1 (max (branch_width names at bs) m)
+    → node_greatest more ≤ m → node_width (if passes own then branches_type cs (all_types (value_types names at bs more)) else None) ≤ max 1 (max (branch_width names at bs) m)
 choice_wide names at bs more m own cs h =
-    let a : own_width (if passes own then branches_type cs (all_types (value_types names at bs more)) else None) ≤ max 1 (own_width (branches_type cs (all_types (value_types names at bs more)))) =
+    let a : node_width (if passes own then branches_type cs (all_types (value_types names at bs more)) else None) ≤ max 1 (node_width (branches_type cs (all_types (value_types names at bs more)))) =
     guard_wide (passes own) (branches_type cs (all_types (value_types names at bs more))) in
-    let b : own_width (branches_type cs (all_types (value_types names at bs more))) ≤ max 1 (own_width (option_map hull_of (all_types (value_types names at bs more)))) = branches_wide cs (all_types (value_types names at bs more)) in
-    let c : own_width (option_map hull_of (all_types (value_types names at bs more))) ≤ max 1 (own_greatest (value_types names at bs more)) = all_wide hull_of 1 (value_types names at bs more) (omega arith) hull_of_wide in
-    let d : own_greatest (value_types names at bs more) ≤ max (branch_width names at bs) (own_greatest more) = values_wide names at bs more in
+    let b : node_width (branches_type cs (all_types (value_types names at bs more))) ≤ max 1 (node_width (option_map hull_of (all_types (value_types names at bs more)))) = branches_wide cs (all_types (value_types names at bs more)) in
+    let c : node_width (option_map hull_of (all_types (value_types names at bs more))) ≤ max 1 (node_greatest (value_types names at bs more)) = all_wide hull_of 1 (value_types names at bs more) (omega arith) hull_of_wide in
+    let d : node_greatest (value_types names at bs more) ≤ max (branch_width names at bs) (node_greatest more) = values_wide names at bs more in
     omega (arith, a, b, c, d, h)
 
-set_wide : (names : Path → Named) (at : Position) (es : Trees) (own : List Check) → own_width (if passes own then option_map hull_of (all_types (tree_types names at es)) else None) ≤ max 1 (part_width names at es)
+set_wide : (names : Path → Named) (at : Position) (es : Trees) (own : List Check) → node_width (if passes own then option_map hull_of (all_types (tree_types names at es)) else None) ≤ max 1 (part_width names at es)
 set_wide names at es own =
-    let a : own_width (if passes own then option_map hull_of (all_types (tree_types names at es)) else None) ≤ max 1 (own_width (option_map hull_of (all_types (tree_types names at es)))) =
+    let a : node_width (if passes own then option_map hull_of (all_types (tree_types names at es)) else None) ≤ max 1 (node_width (option_map hull_of (all_types (tree_types names at es)))) =
     guard_wide (passes own) (option_map hull_of (all_types (tree_types names at es))) in
-    let c : own_width (option_map hull_of (all_types (tree_types names at es))) ≤ max 1 (own_greatest (tree_types names at es)) = all_wide hull_of 1 (tree_types names at es) (omega arith) hull_of_wide in
-    let d : own_greatest (tree_types names at es) ≤ part_width names at es = parts_wide names at es in
+    let c : node_width (option_map hull_of (all_types (tree_types names at es))) ≤ max 1 (node_greatest (tree_types names at es)) = all_wide hull_of 1 (tree_types names at es) (omega arith) hull_of_wide in
+    let d : node_greatest (tree_types names at es) ≤ part_width names at es = parts_wide names at es in
     omega (arith, a, c, d)
 
 greater_same : (a b c d : ℕ) → a ≡ b → c ≡ d → max a c ≡ max b d
 greater_same a b c d p q = omega (arith, p, q)
 
-link_same : (op : Infix) (w v : ℕ) (g f : Option ExprType) (x y : ℕ) → w ≡ v → own_width g ≡ own_width f → x ≡ y → max (max (operand_width op w) (own_width g)) x ≡ max (max (operand_width op v) (own_width f)) y
+link_same : (op : Infix) (w v : ℕ) (g f : Option ExprType) (x y : ℕ) → w ≡ v → node_width g ≡ node_width f → x ≡ y → max (max (operand_width op w) (node_width g)) x ≡ max (max (operand_width op v) (node_width f)) y
 link_same op w v g f x y p q r = let o : operand_width op w ≡ operand_width op v = ap (operand_width op) p in omega (arith, o, q, r)
 
 -- a front that is no wider than what is there
@@ -571,7 +571,7 @@ link_over m w v f g x y e p q r = omega (arith, e, p, q, r)
 implied_over : (m w v f x y : ℕ) → w ≡ v → f ≤ m → max m x ≡ max m y → max m (max (max w f) x) ≡ max m (max v y)
 implied_over m w v f x y e p r = omega (arith, e, p, r)
 
-name_width : (t : Option ExprType) (under : Bool) (l : Leaf) → tree_width (leaf_tree t under l) ≡ own_width t
+name_width : (t : Option ExprType) (under : Bool) (l : Leaf) → tree_width (leaf_tree t under l) ≡ node_width t
 name_width t under (of_item k) = refl
 name_width t under (of_symbol s) = refl
 name_width t under of_nothing = refl
@@ -593,11 +593,11 @@ abbrev FirstSame : (Path → Named) → (Path → Leaf) → Bool → Tree → Ty
 FirstSame names leaf under e = (at : Position) → passes (typing names at e).checks ≡ true → tree_width (flat_tree names leaf at under e) ≡ expression_width names at e
 
 abbrev ImpliedSame : (Path → Named) → (Path → Leaf) → Position → Bool → Links → Type 0
-ImpliedSame names leaf at under ls = (g : Option ExprType) (m : ℕ) → are_implies ls ≡ true → passes (link_checks names (single at) ls) ≡ true → own_width g ≤ m
+ImpliedSame names leaf at under ls = (g : Option ExprType) (m : ℕ) → are_implies ls ≡ true → passes (link_checks names (single at) ls) ≡ true → node_width g ≤ m
     → max m (links_width g (flat_links names leaf at under ls)) ≡ max m (implied_width names (single at) ls)
 
 abbrev UnionsSame : (Path → Named) → (Path → Leaf) → Position → Bool → Place → Links → Type 0
-UnionsSame names leaf at under p ls = (a : Typing) (g : Option ExprType) (m : ℕ) → are_unions ls ≡ true → passes (linked names at p a ls).checks ≡ true → own_width a.type ≤ m → own_width g ≤ m
+UnionsSame names leaf at under p ls = (a : Typing) (g : Option ExprType) (m : ℕ) → are_unions ls ≡ true → passes (linked names at p a ls).checks ≡ true → node_width a.type ≤ m → node_width g ≤ m
     → max m (links_width g (flat_links names leaf at under ls)) ≡ max m (fronts_width names at p a ls)
 
 abbrev FrontsSame : (Path → Named) → (Path → Leaf) → Position → Bool → Place → Links → Type 0
@@ -611,8 +611,8 @@ same_left : (names : Path → Named) (leaf : Path → Leaf) (at : Position) (und
     → max (tree_width (flat_tree names leaf (across ls at) under e)) (links_width (flat_type (flat_tree names leaf (across ls at) under e)) (flat_links names leaf (across ls at) under ls))
     ≡ max (expression_width names (across ls at) e) (fronts_width names (across ls at) p (typing names (across ls at) e) ls)
 same_left names leaf at under p e ls true u w k i iu fr =
-    let f : own_width (flat_type (flat_tree names leaf (across ls at) under e)) ≤ tree_width (flat_tree names leaf (across ls at) under e) = flat_own (flat_tree names leaf (across ls at) under e) in
-    let own : own_width (typing names (across ls at) e).type ≤ expression_width names (across ls at) e = source_own names (across ls at) e in
+    let f : node_width (flat_type (flat_tree names leaf (across ls at) under e)) ≤ tree_width (flat_tree names leaf (across ls at) under e) = flat_node (flat_tree names leaf (across ls at) under e) in
+    let own : node_width (typing names (across ls at) e).type ≤ expression_width names (across ls at) e = source_node names (across ls at) e in
     iu (typing names (across ls at) e) (flat_type (flat_tree names leaf (across ls at) under e)) (tree_width (flat_tree names leaf (across ls at) under e)) u k
     (omega (arith, own, i)) f
     ∙ ap (λ x. max x (fronts_width names (across ls at) p (typing names (across ls at) e) ls)) i
@@ -633,16 +633,16 @@ same_chain names leaf at under p e ls true r w h fe im iu fr =
     let t = (typing names at (chain p e ls)).type in
     let n = right_no_union ls r in
     let i : tree_width (flat_tree names leaf (single at) under e) ≡ expression_width names (single at) e = fe (single at) k.0 in
-    let f : own_width (flat_type (flat_tree names leaf (single at) under e)) ≤ tree_width (flat_tree names leaf (single at) under e) = flat_own (flat_tree names leaf (single at) under e) in
+    let f : node_width (flat_type (flat_tree names leaf (single at) under e)) ≤ tree_width (flat_tree names leaf (single at) under e) = flat_node (flat_tree names leaf (single at) under e) in
     let m : max (tree_width (flat_tree names leaf (single at) under e)) (links_width (flat_type (flat_tree names leaf (single at) under e)) (flat_links names leaf (single at) under ls))
     ≡ max (tree_width (flat_tree names leaf (single at) under e)) (implied_width names (single at) ls) =
     im (flat_type (flat_tree names leaf (single at) under e)) (tree_width (flat_tree names leaf (single at) under e)) (right_implies ls r) k.1 f in
     let g : max (tree_width (flat_tree names leaf (single at) under e)) (links_width (flat_type (flat_tree names leaf (single at) under e)) (flat_links names leaf (single at) under ls))
     ≡ max (expression_width names (single at) e) (implied_width names (single at) ls) = m ∙ ap (λ x. max x (implied_width names (single at) ls)) i in
-    ap (λ (b : Bool). max (own_width (unless_set b t)) (max (tree_width (flat_tree names leaf (across ls at) under e)) (links_width (flat_type (flat_tree names leaf (across ls at) under e)) (flat_links names leaf (across ls at) under ls)))) n
-    ∙ ap (λ (c : Position). max (own_width t) (max (tree_width (flat_tree names leaf c under e)) (links_width (flat_type (flat_tree names leaf c under e)) (flat_links names leaf c under ls)))) (across_no_union ls at n)
-    ∙ ap (max (own_width t)) g
-    ∙ ap (λ (b : Bool). max (own_width t) (if b then max (expression_width names (single at) e) (implied_width names (single at) ls)
+    ap (λ (b : Bool). max (node_width (unless_set b t)) (max (tree_width (flat_tree names leaf (across ls at) under e)) (links_width (flat_type (flat_tree names leaf (across ls at) under e)) (flat_links names leaf (across ls at) under ls)))) n
+    ∙ ap (λ (c : Position). max (node_width t) (max (tree_width (flat_tree names leaf c under e)) (links_width (flat_type (flat_tree names leaf c under e)) (flat_links names leaf c under ls)))) (across_no_union ls at n)
+    ∙ ap (max (node_width t)) g
+    ∙ ap (λ (b : Bool). max (node_width t) (if b then max (expression_width names (single at) e) (implied_width names (single at) ls)
     else max (expression_width names (across ls at) e) (fronts_width names (across ls at) p (typing names (across ls at) e) ls))) (sym r)
 same_chain names leaf at under p e ls false r w h fe im iu fr =
     let t = (typing names at (chain p e ls)).type in
@@ -650,12 +650,12 @@ same_chain names leaf at under p e ls false r w h fe im iu fr =
     let k : passes (linked names (across ls at) p (typing names (across ls at) e) ls).checks ≡ true = subst (λ (x : Typing). passes x.checks ≡ true) l h in
     let i : tree_width (flat_tree names leaf (across ls at) under e) ≡ expression_width names (across ls at) e =
     fe (across ls at) (linked_keeps names (across ls at) p (typing names (across ls at) e) ls k) in
-    let wide : own_width (linked names (across ls at) p (typing names (across ls at) e) ls).type ≤ max (own_width (typing names (across ls at) e).type) (fronts_width names (across ls at) p (typing names (across ls at) e) ls) =
+    let wide : node_width (linked names (across ls at) p (typing names (across ls at) e) ls).type ≤ max (node_width (typing names (across ls at) e).type) (fronts_width names (across ls at) p (typing names (across ls at) e) ls) =
     linked_wide names (across ls at) p (typing names (across ls at) e) ls in
-    let own : own_width (typing names (across ls at) e).type ≤ expression_width names (across ls at) e = source_own names (across ls at) e in
-    let same : own_width (typing names at (chain p e ls)).type ≡ own_width (linked names (across ls at) p (typing names (across ls at) e) ls).type = ap (λ (x : Typing). own_width x.type) l in
+    let own : node_width (typing names (across ls at) e).type ≤ expression_width names (across ls at) e = source_node names (across ls at) e in
+    let same : node_width (typing names at (chain p e ls)).type ≡ node_width (linked names (across ls at) p (typing names (across ls at) e) ls).type = ap (λ (x : Typing). node_width x.type) l in
     unless_same (are_unions ls) t _ _ (same_left names leaf at under p e ls (are_unions ls) refl w k i iu fr) (omega (arith, wide, own, same))
-    ∙ ap (λ (b : Bool). max (own_width t) (if b then max (expression_width names (single at) e) (implied_width names (single at) ls)
+    ∙ ap (λ (b : Bool). max (node_width t) (if b then max (expression_width names (single at) e) (implied_width names (single at) ls)
     else max (expression_width names (across ls at) e) (fronts_width names (across ls at) p (typing names (across ls at) e) ls))) (sym r)
 
 -- ---- the widths are the same
@@ -668,7 +668,7 @@ mutual
   same_tree names leaf at under (literal p v) w h = refl
   same_tree names leaf at under (name p x) w h = name_width _ under (leaf x)
   same_tree names leaf at under (prefix p sign n e) w h =
-      ap (max (own_width (typing names at (prefix p sign n e)).type)) (same_tree names leaf (single at) under e w (split (typing names (single at) e).checks _ h).0)
+      ap (max (node_width (typing names at (prefix p sign n e)).type)) (same_tree names leaf (single at) under e w (split (typing names (single at) e).checks _ h).0)
   same_tree names leaf at under (chain p e ls) w h =
       let o = both_true (has_link ls) (has_operators e && link_operators ls) w in
       let q = both_true (has_operators e) (link_operators ls) o.1 in
@@ -680,32 +680,32 @@ mutual
   same_tree names leaf at under (choice p bs e) w h =
       let o = both_true (branch_operators bs) (has_operators e) w in
       let k = split (branch_checks names at bs) (typing names at e).checks (split (branch_checks names at bs ++ (typing names at e).checks) _ h).0 in
-      let s : own_width (typing names at e).type ≤ expression_width names at e = source_own names at e in
+      let s : node_width (typing names at e).type ≤ expression_width names at e = source_node names at e in
       unless_same (has_set bs || is_set e) (typing names at (choice p bs e)).type _ _
       (greater_same _ _ _ _ (same_branches names leaf at under bs o.0 k.0) (same_tree names leaf at under e o.1 k.1))
       (choice_wide names at bs ((typing names at e).type ∷ []) (expression_width names at e)
       (check 16 p (branches_fit (all_types (condition_types names (single at) bs)) (all_types (value_types names at bs ((typing names at e).type ∷ [])))) ∷ [])
       (all_types (condition_types names (single at) bs)) (omega (arith, s)))
   same_tree names leaf at under (cases p bs) w h =
-      let g : own_width (typing names at (cases p bs)).type ≤ max 1 (max (branch_width names at bs) 0) = choice_wide names at bs [] 0
+      let g : node_width (typing names at (cases p bs)).type ≤ max 1 (max (branch_width names at bs) 0) = choice_wide names at bs [] 0
       (check 16 p (branches_fit (all_types (condition_types names (single at) bs)) (all_types (value_types names at bs []))) ∷ []) (all_types (condition_types names (single at) bs)) (omega arith) in
       unless_same (has_set bs) (typing names at (cases p bs)).type _ _ (same_branches names leaf at under bs w (split (branch_checks names at bs) _ h).0) (omega (arith, g))
   same_tree names leaf at under (select p e high low) w h =
-      ap (max (own_width (typing names at (select p e high low)).type)) (same_tree names leaf (single at) under e w (split (typing names (single at) e).checks _ h).0)
+      ap (max (node_width (typing names at (select p e high low)).type)) (same_tree names leaf (single at) under e w (split (typing names (single at) e).checks _ h).0)
   same_tree names leaf at under (call p f es) w h =
       let k = (split (tree_checks names (single at) es) _ h).0 in
-      ap (λ n. max (own_width (typing names at (call p f es)).type) (arguments_width f n (trees_width (flat_trees names leaf (single at) under es)))) (same_first names leaf (single at) under es w k)
-      ∙ ap (λ n. max (own_width (typing names at (call p f es)).type) (arguments_width f (front_width names (single at) es) n)) (same_parts names leaf (single at) under es w k)
+      ap (λ n. max (node_width (typing names at (call p f es)).type) (arguments_width f n (trees_width (flat_trees names leaf (single at) under es)))) (same_first names leaf (single at) under es w k)
+      ∙ ap (λ n. max (node_width (typing names at (call p f es)).type) (arguments_width f (front_width names (single at) es) n)) (same_parts names leaf (single at) under es w k)
   same_tree names leaf at under (next p e) w h =
       let k = (split (typing names under_next e).checks _ h).0 in
       let i : tree_width (flat_tree names leaf under_next true e) ≡ expression_width names under_next e = same_tree names leaf under_next true e w k in
-      let t : own_width (typing names at (next p e)).type ≡ own_width (typing names under_next e).type = ap own_width (node_type (typing names under_next e).checks _ (typing names under_next e).type h) in
-      let s : own_width (typing names under_next e).type ≤ expression_width names under_next e = source_own names under_next e in
+      let t : node_width (typing names at (next p e)).type ≡ node_width (typing names under_next e).type = ap node_width (node_type (typing names under_next e).checks _ (typing names under_next e).type h) in
+      let s : node_width (typing names under_next e).type ≤ expression_width names under_next e = source_node names under_next e in
       omega (arith, i, t, s)
   same_tree names leaf at under (set p es) w h =
       unless_same true (typing names at (set p es)).type _ _ (same_parts names leaf at under es w (split (tree_checks names at es) _ h).0) (set_wide names at es (check 16 p (on_all (all_types (tree_types names at es)) are_same) ∷ check 20 p at.sets ∷ []))
   same_tree names leaf at under (range p low high) w h =
-      let t : own_width (typing names at (range p low high)).type ≡ interval_width low high = ap own_width (node_type [] (check 17 p (in_limit (integer_type low high)) ∷ check 20 p at.sets ∷ check 26 p (int_le low high) ∷ []) (Some (integer_type low high)) h) in
+      let t : node_width (typing names at (range p low high)).type ≡ interval_width low high = ap node_width (node_type [] (check 17 p (in_limit (integer_type low high)) ∷ check 20 p at.sets ∷ check 26 p (int_le low high) ∷ []) (Some (integer_type low high)) h) in
       let s : 1 ≤ interval_width low high = integers_some (integer_type low high) in
       omega (arith, t, s)
 
@@ -730,25 +730,25 @@ mutual
       (same_fronts names leaf at under p (front op at p a (typing names (behind op at) e) e) (front_by op g (flat_type (flat_tree names leaf (behind op at) under e)) (flat_divisor (flat_tree names leaf (behind op at) under e))) ls s o.1 h same)
 
   same_unions : (names : Path → Named) (leaf : Path → Leaf) (at : Position) (under : Bool) (p : Place) (a : Typing) (g : Option ExprType) (m : ℕ) (ls : Links) → are_unions ls ≡ true → link_operators ls ≡ true
-      → passes (linked names at p a ls).checks ≡ true → own_width a.type ≤ m → own_width g ≤ m → max m (links_width g (flat_links names leaf at under ls)) ≡ max m (fronts_width names at p a ls)
+      → passes (linked names at p a ls).checks ≡ true → node_width a.type ≤ m → node_width g ≤ m → max m (links_width g (flat_links names leaf at under ls)) ≡ max m (fronts_width names at p a ls)
   same_unions names leaf at under p a g m no_links u v h q r = refl
   same_unions names leaf at under p a g m (link Union e ls) u v h q r =
       let o = both_true (has_operators e) (link_operators ls) v in
       let b = typing names at e in
       let k = front_parts Union at p a (typing names at e) e (linked_keeps names at p (front Union at p a (typing names at e) e) ls h) in
       let i : tree_width (flat_tree names leaf at under e) ≡ expression_width names at e = same_tree names leaf at under e o.0 k.0 in
-      let x : own_width (flat_type (flat_tree names leaf at under e)) ≤ tree_width (flat_tree names leaf at under e) = flat_own (flat_tree names leaf at under e) in
-      let y : own_width (typing names at e).type ≤ expression_width names at e = source_own names at e in
-      let fg : own_width (front_by Union g (flat_type (flat_tree names leaf at under e)) (flat_divisor (flat_tree names leaf at under e))) ≤ max (own_width g) (own_width (flat_type (flat_tree names leaf at under e))) =
+      let x : node_width (flat_type (flat_tree names leaf at under e)) ≤ tree_width (flat_tree names leaf at under e) = flat_node (flat_tree names leaf at under e) in
+      let y : node_width (typing names at e).type ≤ expression_width names at e = source_node names at e in
+      let fg : node_width (front_by Union g (flat_type (flat_tree names leaf at under e)) (flat_divisor (flat_tree names leaf at under e))) ≤ max (node_width g) (node_width (flat_type (flat_tree names leaf at under e))) =
       union_by_wide g (flat_type (flat_tree names leaf at under e)) (flat_divisor (flat_tree names leaf at under e)) in
-      let fs : own_width (front Union at p a (typing names at e) e).type ≤ max 1 (own_width (both_types (λ t z. infix_type Union t z e) a.type (typing names at e).type)) =
+      let fs : node_width (front Union at p a (typing names at e) e).type ≤ max 1 (node_width (both_types (λ t z. infix_type Union t z e) a.type (typing names at e).type)) =
       guard_wide (passes (front_checks Union at p a.type (typing names at e).type e)) (both_types (λ t z. infix_type Union t z e) a.type (typing names at e).type) in
-      let ft : own_width (both_types (λ t z. infix_type Union t z e) a.type (typing names at e).type) ≤ max (own_width a.type) (own_width (typing names at e).type) = union_types_wide a.type (typing names at e).type e in
-      let some : 1 ≤ own_width a.type = type_some a.type in
-      let gm : own_width (front_by Union g (flat_type (flat_tree names leaf at under e)) (flat_divisor (flat_tree names leaf at under e))) ≤ max m (tree_width (flat_tree names leaf at under e)) = omega (arith, fg, r, x) in
-      let sm : own_width (front Union at p a (typing names at e) e).type ≤ max m (tree_width (flat_tree names leaf at under e)) = omega (arith, fs, ft, some, q, y, i) in
+      let ft : node_width (both_types (λ t z. infix_type Union t z e) a.type (typing names at e).type) ≤ max (node_width a.type) (node_width (typing names at e).type) = union_types_wide a.type (typing names at e).type e in
+      let some : 1 ≤ node_width a.type = type_some a.type in
+      let gm : node_width (front_by Union g (flat_type (flat_tree names leaf at under e)) (flat_divisor (flat_tree names leaf at under e))) ≤ max m (tree_width (flat_tree names leaf at under e)) = omega (arith, fg, r, x) in
+      let sm : node_width (front Union at p a (typing names at e) e).type ≤ max m (tree_width (flat_tree names leaf at under e)) = omega (arith, fs, ft, some, q, y, i) in
       link_over m (tree_width (flat_tree names leaf at under e)) (expression_width names at e)
-      (own_width (front_by Union g (flat_type (flat_tree names leaf at under e)) (flat_divisor (flat_tree names leaf at under e)))) (own_width (front Union at p a (typing names at e) e).type)
+      (node_width (front_by Union g (flat_type (flat_tree names leaf at under e)) (flat_divisor (flat_tree names leaf at under e)))) (node_width (front Union at p a (typing names at e) e).type)
       (links_width (front_by Union g (flat_type (flat_tree names leaf at under e)) (flat_divisor (flat_tree names leaf at under e))) (flat_links names leaf at under ls)) (fronts_width names at p (front Union at p a (typing names at e) e) ls)
       i gm (omega (arith, sm, i))
       (same_unions names leaf at under p (front Union at p a (typing names at e) e) (front_by Union g (flat_type (flat_tree names leaf at under e)) (flat_divisor (flat_tree names leaf at under e)))
@@ -756,13 +756,13 @@ mutual
   same_unions names leaf at under p a g m (link op e ls) u v h q r = absurd_bool u
 
   same_implied : (names : Path → Named) (leaf : Path → Leaf) (at : Position) (under : Bool) (g : Option ExprType) (m : ℕ) (ls : Links) → are_implies ls ≡ true → link_operators ls ≡ true
-      → passes (link_checks names (single at) ls) ≡ true → own_width g ≤ m → max m (links_width g (flat_links names leaf at under ls)) ≡ max m (implied_width names (single at) ls)
+      → passes (link_checks names (single at) ls) ≡ true → node_width g ≤ m → max m (links_width g (flat_links names leaf at under ls)) ≡ max m (implied_width names (single at) ls)
   same_implied names leaf at under g m no_links u v h r = refl
   same_implied names leaf at under g m (link Implies e ls) u v h r =
       let o = both_true (has_operators e) (link_operators ls) v in
       let k = split (typing names (single at) e).checks (link_checks names (single at) ls) h in
       let i : tree_width (flat_tree names leaf (single at) under e) ≡ expression_width names (single at) e = same_tree names leaf (single at) under e o.0 k.0 in
-      let fg : own_width (front_by Implies g (flat_type (flat_tree names leaf (single at) under e)) (flat_divisor (flat_tree names leaf (single at) under e))) ≤ own_width g =
+      let fg : node_width (front_by Implies g (flat_type (flat_tree names leaf (single at) under e)) (flat_divisor (flat_tree names leaf (single at) under e))) ≤ node_width g =
       implies_by_wide g (flat_type (flat_tree names leaf (single at) under e)) (flat_divisor (flat_tree names leaf (single at) under e)) in
       let rest : max m (links_width (front_by Implies g (flat_type (flat_tree names leaf (single at) under e)) (flat_divisor (flat_tree names leaf (single at) under e))) (flat_links names leaf at under ls))
       ≡ max m (implied_width names (single at) ls) =

@@ -6,7 +6,7 @@ use Rattle.std.proofs.lemmas.List.Folds.{list_all-append}
 use Rattle.smv_text.specs.declared.token.Token.{Token}
 use Rattle.smv_text.specs.declared.token.Sign.{Sign}
 use Rattle.smv_text.specs.declared.tree.VarKind.{VarKind}
-use Rattle.smv_text.specs.declared.level.Joint.{Joint}
+use Rattle.smv_text.specs.declared.level.OperatorClass.{OperatorClass}
 use Rattle.smv_text.specs.declared.level.Level.{Level}
 use Rattle.smv_text.specs.Tree.{Tree, Links, Branches, Trees, PlainDomain, boolean, members, between, bits, instance, PlainItem, PlainDefinition, PlainAssignment, PlainElement, vars, defines, constants, assigns, init, trans, invar, spec, PlainModule, PlainSource}
 use Rattle.smv_text.specs.Grammar.{Spells, pass, chains, chooses, ranges, prefixes, selects, is_true, is_false, numbers, literals, names, brackets, nexts, calls, sets, switches, SpellsLinks, no_more, one_more, SpellsBranches, otherwise, picks, SpellsListed, last_one, one_before, SpellsCases, last_case, case_before}
@@ -39,7 +39,7 @@ mutual
   spelled_operators (sets opening a l) = spelled_parts l
   spelled_operators (switches x a c) = spelled_cases c
 
-  spelled_links : {j : Joint} {below : List Level} {ls : Links} {xs : List Token} → SpellsLinks j below ls xs → link_operators ls ≡ true
+  spelled_links : {c : OperatorClass} {below : List Level} {ls : Links} {xs : List Token} → SpellsLinks c below ls xs → link_operators ls ≡ true
   spelled_links no_more = refl
   spelled_links (one_more x a s ls) = two_true _ _ (spelled_operators s) (spelled_links ls)
 
@@ -120,7 +120,7 @@ spelled_modules (module_then x identifier a b f es rest) = two_true _ _ (spelled
 -- ---- what holds of each expression of a model's modules holds of each one of its instances
 
 abbrev Good : (Tree → Bool) → Instance → Type 0
-Good test at = (list_all test (list_of at.actuals) ≡ true) × (module_all test at.plan ≡ true)
+Good test at = (list_all test (list_of at.actuals) ≡ true) × (module_all test at.module ≡ true)
 
 abbrev IsGood : (Tree → Bool) → Option Instance → Type 0
 IsGood test None = Unit {0}
@@ -144,7 +144,7 @@ expressions_all test (invar e ∷ es) h = let s = both_true (list_all test (e �
 expressions_all test (spec l e ∷ es) h = let s = both_true (list_all test (e ∷ [])) (list_all (element_all test) es) h in append_all test (e ∷ []) (flat_map expressions_in es) s.0 (expressions_all test es s.1)
 
 good_instance : (test : Tree → Bool) (at : Instance) → Good test at → instance_all test at ≡ true
-good_instance test at g = two_true _ _ g.0 (expressions_all test at.plan.elements g.1)
+good_instance test at g = two_true _ _ g.0 (expressions_all test at.module.elements g.1)
 
 placed_good : (test : Tree → Bool) (i : ℕ) (path x m : List ℕ) (given : Trees) (ms : List PlainModule) → list_all (module_all test) ms ≡ true → list_all test (list_of given) ≡ true
     → IsGood test (placed i path x given (module_named ms m))
@@ -193,7 +193,7 @@ grow_good : (test : Tree → Bool) (ms : List PlainModule) → list_all (module_
 unfolding grow
 grow_good test ms p zero at t e h = h
 grow_good test ms p (suc n) at t e h =
-    elements_good test (grow n ms) (grow_good test ms p n) ms p (length t) at.path at.plan.elements (t ++ at ∷ []) e.1
+    elements_good test (grow n ms) (grow_good test ms p n) ms p (length t) at.path at.module.elements (t ++ at ∷ []) e.1
     (list_all-append (instance_all test) t (at ∷ []) ∙ two_true _ _ h (two_true _ _ (good_instance test at e) refl))
 
 named_good : (test : Tree → Bool) (ms : List PlainModule) (m : List ℕ) → list_all (module_all test) ms ≡ true → (o : Option PlainModule) → o ≡ module_named ms m → AllGood test (grown_from ms o)

@@ -10,29 +10,29 @@ use Rattle.smv_width.proofs.WidthLemmas.{digits_below, digits_most}
 same_power : (d : ℕ) → 2 ^ (d + 1 - 1) ≡ 2 ^ d
 same_power d = ap (λ k. 2 ^ k) (omega arith)
 
-holds_own : (z : ℤ) → Holds (integer_width z) z
-holds_own (pos n) =
+holds_node : (z : ℤ) → Holds (integer_width z) z
+holds_node (pos n) =
     let below : n < 2 ^ binary_digits n = digits_below n n (omega arith) in
     let same = same_power (binary_digits n) in
     (omega (arith, ints, below, same), omega (arith, ints, below, same))
-holds_own (negsuc n) =
+holds_node (negsuc n) =
     let below : n < 2 ^ binary_digits n = digits_below n n (omega arith) in
     let same = same_power (binary_digits n) in
     (omega (arith, ints, below, same), omega (arith, ints, below, same))
 
-own_least : (z : ℤ) (v : ℕ) → 1 ≤ v → Holds v z → integer_width z ≤ v
-own_least (pos n) v some h =
+node_least : (z : ℤ) (v : ℕ) → 1 ≤ v → Holds v z → integer_width z ≤ v
+node_least (pos n) v some h =
     let above = h.1 in
     let most : binary_digits n ≤ v - 1 = digits_most (v - 1) n (omega (arith, ints, above)) in
     omega (arith, some, most)
-own_least (negsuc n) v some h =
+node_least (negsuc n) v some h =
     let above = h.0 in
     let most : binary_digits n ≤ v - 1 = digits_most (v - 1) n (omega (arith, ints, above)) in
     omega (arith, some, most)
 
-pub own_some : (z : ℤ) → 1 ≤ integer_width z
-own_some (pos n) = omega arith
-own_some (negsuc n) = omega arith
+pub node_some : (z : ℤ) → 1 ≤ integer_width z
+node_some (pos n) = omega arith
+node_some (negsuc n) = omega arith
 
 -- ---- an interval
 
@@ -51,21 +51,21 @@ itself z = omega (arith, ints)
 
 pub width_is_least : WidthIsLeast
 width_is_least z = record {
-  some = own_some z;
-  holds = λ y p q. between (integer_width z) z z y (holds_own z) (holds_own z) p q;
-  least = λ v s h. own_least z v s (h z (itself z) (itself z));
+  some = node_some z;
+  holds = λ y p q. between (integer_width z) z z y (holds_node z) (holds_node z) p q;
+  least = λ v s h. node_least z v s (h z (itself z) (itself z));
 }
 
 pub interval_width_is_least : IntervalWidthIsLeast
 interval_width_is_least low high l =
     let w = interval_width low high in
-    let left : Holds (interval_width low high) low = wider (integer_width low) (interval_width low high) low (omega arith) (holds_own low) in
-    let right : Holds (interval_width low high) high = wider (integer_width high) (interval_width low high) high (omega arith) (holds_own high) in
+    let left : Holds (interval_width low high) low = wider (integer_width low) (interval_width low high) low (omega arith) (holds_node low) in
+    let right : Holds (interval_width low high) high = wider (integer_width high) (interval_width low high) high (omega arith) (holds_node high) in
     record {
-      some = let s : 1 ≤ integer_width low = own_some low in omega (arith, s);
+      some = let s : 1 ≤ integer_width low = node_some low in omega (arith, s);
       holds = λ z p q. between (interval_width low high) low high z left right p q;
       least = λ v s h.
-          let p : integer_width low ≤ v = own_least low v s (h low (itself low) l) in
-          let q : integer_width high ≤ v = own_least high v s (h high l (itself high)) in
+          let p : integer_width low ≤ v = node_least low v s (h low (itself low) l) in
+          let q : integer_width high ≤ v = node_least high v s (h high l (itself high)) in
           omega (arith, p, q);
     }

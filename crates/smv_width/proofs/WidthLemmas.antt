@@ -12,7 +12,7 @@ use Rattle.smv_flat.specs.declared.expressions.FlatShape.TheVariants as OfShape
 use Rattle.smv_flat.specs.declared.expressions.FlatLink.{FlatLink}
 use Rattle.smv_flat.specs.FlatTree.{FlatTree, FlatLinks, flat_chain, flat_link, flat_links_of}
 use Rattle.smv_flat.specs.FlatView.{flat_shape_step, plain_flat, plain_flat_link}
-use Rattle.smv_width.specs.FlatWidth.{digits_within, binary_digits, own_width, flat_type, flat_divisor, front_by, operand_width, tree_width, links_width}
+use Rattle.smv_width.specs.FlatWidth.{digits_within, binary_digits, node_width, flat_type, flat_divisor, front_by, operand_width, tree_width, links_width}
 
 -- ---- digits
 
@@ -54,6 +54,10 @@ digits_most k (suc n) h =
     let twice : 2 ^ suc k ≡ 2 ^ k * 2 = pow-suc 2 k in
     most_by (digits_within (suc n) (suc n)) k (omega (arith, above, twice, h))
 
+-- of an integer of 64 bits
+pub digits_low : (n : ℕ) → n < 2 ^ 63 → binary_digits n ≤ 63
+digits_low n h = digits_most 63 n h
+
 digits_over : (n : ℕ) → 2 ^ binary_digits n ≤ 2 * n + 1
 digits_over zero = omega arith
 digits_over (suc n) = let above : 2 ^ digits_within (suc n) (suc n) ≤ 2 * suc n = digits_above (suc n) (suc n) (omega arith) (omega arith) in omega (arith, above)
@@ -89,7 +93,7 @@ pub type_is : (e : FlatExpr) → flat_type (plain_flat e) ≡ option_map seen e.
 type_is e = search (rules, the_lemmas, step_type)
 
 link_width : (op : Infix) (e : FlatTree) (ls : FlatLinks) (t u front : Option ExprType) (o f : ℕ) → flat_type e ≡ u → o ≡ operand_width op (tree_width e) → front ≡ front_by op t u (flat_divisor e)
-    → f ≡ own_width front → links_width t (flat_link op e ls) ≡ max (max o f) (links_width front ls)
+    → f ≡ node_width front → links_width t (flat_link op e ls) ≡ max (max o f) (links_width front ls)
 link_width op e ls t u front o f h p q r = rw (p, r, q, ← h) refl
 
 max_over : (w v x y all : ℕ) → y ≡ max v x → max w y ≡ all → max (max w v) x ≡ all
@@ -97,7 +101,7 @@ max_over w v x y all h k = omega (arith, h, k)
 
 pub links_on : (xs : List FlatLink) (i : ℕ) (l : FlatLink) (whole front : Option ExprType) (w o f all : ℕ) → drop i xs ≡ l ∷ drop (i + 1) xs
     → o ≡ operand_width l.op (tree_width (plain_flat l.operand)) → front ≡ front_by l.op whole (option_map seen l.operand.ty) (flat_divisor (plain_flat l.operand))
-    → f ≡ own_width front → max w (links_width whole (flat_links_of (map plain_flat_link (drop i xs)))) ≡ all
+    → f ≡ node_width front → max w (links_width whole (flat_links_of (map plain_flat_link (drop i xs)))) ≡ all
     → max (max w (max o f)) (links_width front (flat_links_of (map plain_flat_link (drop (i + 1) xs)))) ≡ all
 links_on xs i l whole front w o f all h p q r k =
     let e : flat_links_of (map plain_flat_link (drop i xs)) ≡ flat_link l.op (plain_flat l.operand) (flat_links_of (map plain_flat_link (drop (i + 1) xs))) =
@@ -111,7 +115,7 @@ plain_chain : (e : FlatExpr) (a : Box FlatExpr Global) (ls : Vec FlatLink Global
 plain_chain e a ls h = search (rules, the_lemmas)
 
 pub chain_at : (e : FlatExpr) (a : Box FlatExpr Global) (ls : Vec FlatLink Global) → e.shape ≡ OfShape.Chain a ls
-    → tree_width (plain_flat e) ≡ max (own_width (option_map seen e.ty)) (max (tree_width (plain_flat a.value)) (links_width (option_map seen a.value.ty) (flat_links_of (map plain_flat_link ls.items))))
+    → tree_width (plain_flat e) ≡ max (node_width (option_map seen e.ty)) (max (tree_width (plain_flat a.value)) (links_width (option_map seen a.value.ty) (flat_links_of (map plain_flat_link ls.items))))
 chain_at e a ls h =
     ap tree_width (plain_chain e a ls h)
-    ∙ ap (λ t. max (own_width (option_map seen e.ty)) (max (tree_width (plain_flat a.value)) (links_width t (flat_links_of (map plain_flat_link ls.items))))) (type_is a.value)
+    ∙ ap (λ t. max (node_width (option_map seen e.ty)) (max (tree_width (plain_flat a.value)) (links_width t (flat_links_of (map plain_flat_link ls.items))))) (type_is a.value)

@@ -36,9 +36,9 @@ abbrev pub integers_width : ExprType → ℕ
 integers_width (integer_type low high) = interval_width low high
 integers_width t = 1
 
-abbrev pub own_width : Option ExprType → ℕ
-own_width None = 1
-own_width (Some t) = integers_width t
+abbrev pub node_width : Option ExprType → ℕ
+node_width None = 1
+node_width (Some t) = integers_width t
 
 -- two's complement of this width has the integer
 abbrev pub Holds : ℕ → ℤ → Type 0
@@ -137,26 +137,26 @@ arguments_width f first all = all
 -- The fronts of a chain of `->`, which is read from the right, have the type of its first operand: they add nothing.
 abbrev mutual
   pub tree_width : FlatTree → ℕ
-  tree_width (flat_truth t b) = own_width t
-  tree_width (flat_number t n) = own_width t
-  tree_width (flat_literal t w) = own_width t
-  tree_width (flat_symbol t s) = own_width t
-  tree_width (flat_item t k under) = own_width t
-  tree_width (flat_prefix t sign n e) = max (own_width t) (tree_width e)
-  tree_width (flat_chain t e ls) = max (own_width t) (max (tree_width e) (links_width (flat_type e) ls))
-  tree_width (flat_choice t bs e) = max (own_width t) (max (branches_width bs) (tree_width e))
-  tree_width (flat_cases t bs) = max (own_width t) (branches_width bs)
-  tree_width (flat_select t e high low) = max (own_width t) (tree_width e)
-  tree_width (flat_call t f es) = max (own_width t) (arguments_width f (first_width es) (trees_width es))
-  tree_width (flat_set t es) = max (own_width t) (trees_width es)
-  tree_width (flat_range t low high) = max (own_width t) (interval_width low high)
+  tree_width (flat_truth t b) = node_width t
+  tree_width (flat_number t n) = node_width t
+  tree_width (flat_literal t w) = node_width t
+  tree_width (flat_symbol t s) = node_width t
+  tree_width (flat_item t k under) = node_width t
+  tree_width (flat_prefix t sign n e) = max (node_width t) (tree_width e)
+  tree_width (flat_chain t e ls) = max (node_width t) (max (tree_width e) (links_width (flat_type e) ls))
+  tree_width (flat_choice t bs e) = max (node_width t) (max (branches_width bs) (tree_width e))
+  tree_width (flat_cases t bs) = max (node_width t) (branches_width bs)
+  tree_width (flat_select t e high low) = max (node_width t) (tree_width e)
+  tree_width (flat_call t f es) = max (node_width t) (arguments_width f (first_width es) (trees_width es))
+  tree_width (flat_set t es) = max (node_width t) (trees_width es)
+  tree_width (flat_range t low high) = max (node_width t) (interval_width low high)
 
   -- the operands and the fronts that end with them, given the type of what stands before
   pub links_width : Option ExprType → FlatLinks → ℕ
   links_width t no_flat_links = 0
   links_width t (flat_link op e ls) =
       let front = front_by op t (flat_type e) (flat_divisor e) in
-      max (max (operand_width op (tree_width e)) (own_width front)) (links_width front ls)
+      max (max (operand_width op (tree_width e)) (node_width front)) (links_width front ls)
 
   pub branches_width : FlatBranches → ℕ
   branches_width no_flat_branches = 0

@@ -16,31 +16,31 @@ use Rattle.smv_meaning.specs.Settled.{types_in}
 use Rattle.smv_items.specs.FlatItems.{Leaf}
 use Rattle.smv_flat.specs.FlatTree.{flat_tree}
 use Rattle.smv_flat.specs.FlatForms.{flat_smv}
-use Rattle.smv_width.specs.FlatWidth.{own_width, operand_width, arguments_width, tree_width, width_of}
+use Rattle.smv_width.specs.FlatWidth.{node_width, operand_width, arguments_width, tree_width, width_of}
 
 -- The greatest width of an integer's interval among its subexpressions, and among the fronts of its chains that are read from the
 -- left; shift amounts and arguments that are numbers don't count.
 abbrev mutual
   pub expression_width : (Path → Named) → Position → Tree → ℕ
-  expression_width names at (truth p b) = own_width (typing names at (truth p b)).type
-  expression_width names at (number p n) = own_width (typing names at (number p n)).type
-  expression_width names at (literal p w) = own_width (typing names at (literal p w)).type
-  expression_width names at (name p x) = own_width (typing names at (name p x)).type
-  expression_width names at (prefix p sign n e) = max (own_width (typing names at (prefix p sign n e)).type) (expression_width names (single at) e)
+  expression_width names at (truth p b) = node_width (typing names at (truth p b)).type
+  expression_width names at (number p n) = node_width (typing names at (number p n)).type
+  expression_width names at (literal p w) = node_width (typing names at (literal p w)).type
+  expression_width names at (name p x) = node_width (typing names at (name p x)).type
+  expression_width names at (prefix p sign n e) = max (node_width (typing names at (prefix p sign n e)).type) (expression_width names (single at) e)
   expression_width names at (chain p e ls) =
-      max (own_width (typing names at (chain p e ls)).type)
+      max (node_width (typing names at (chain p e ls)).type)
       (if is_from_right ls
       then max (expression_width names (single at) e) (implied_width names (single at) ls)
       else max (expression_width names (across ls at) e) (fronts_width names (across ls at) p (typing names (across ls at) e) ls))
   expression_width names at (choice p bs e) =
-      max (own_width (typing names at (choice p bs e)).type) (max (branch_width names at bs) (expression_width names at e))
-  expression_width names at (cases p bs) = max (own_width (typing names at (cases p bs)).type) (branch_width names at bs)
-  expression_width names at (select p e high low) = max (own_width (typing names at (select p e high low)).type) (expression_width names (single at) e)
+      max (node_width (typing names at (choice p bs e)).type) (max (branch_width names at bs) (expression_width names at e))
+  expression_width names at (cases p bs) = max (node_width (typing names at (cases p bs)).type) (branch_width names at bs)
+  expression_width names at (select p e high low) = max (node_width (typing names at (select p e high low)).type) (expression_width names (single at) e)
   expression_width names at (call p f es) =
-      max (own_width (typing names at (call p f es)).type) (arguments_width f (front_width names (single at) es) (part_width names (single at) es))
-  expression_width names at (next p e) = max (own_width (typing names at (next p e)).type) (expression_width names under_next e)
-  expression_width names at (set p es) = max (own_width (typing names at (set p es)).type) (part_width names at es)
-  expression_width names at (range p low high) = own_width (typing names at (range p low high)).type
+      max (node_width (typing names at (call p f es)).type) (arguments_width f (front_width names (single at) es) (part_width names (single at) es))
+  expression_width names at (next p e) = max (node_width (typing names at (next p e)).type) (expression_width names under_next e)
+  expression_width names at (set p es) = max (node_width (typing names at (set p es)).type) (part_width names at es)
+  expression_width names at (range p low high) = node_width (typing names at (range p low high)).type
 
   -- the operands behind `->`
   pub implied_width : (Path → Named) → Position → Links → ℕ
@@ -52,7 +52,7 @@ abbrev mutual
   fronts_width names at p a no_links = 0
   fronts_width names at p a (link op e ls) =
       let whole = front op at p a (typing names (behind op at) e) e in
-      max (max (operand_width op (expression_width names (behind op at) e)) (own_width whole.type)) (fronts_width names at p whole ls)
+      max (max (operand_width op (expression_width names (behind op at) e)) (node_width whole.type)) (fronts_width names at p whole ls)
 
   pub branch_width : (Path → Named) → Position → Branches → ℕ
   branch_width names at no_branches = 0
@@ -107,7 +107,7 @@ greatest (n ∷ ns) = max n (greatest ns)
 
 -- given what the names of its instance are: variables count by their types
 abbrev pub element_widths : (Path → Named) → PlainElement → List ℕ
-element_widths names (vars kind items) = map (λ v. own_width (variable_type v.domain)) items
+element_widths names (vars kind items) = map (λ v. node_width (variable_type v.domain)) items
 element_widths names (defines ds) = map (λ d. expression_width names in_body d.body) ds
 element_widths names (constants cs) = []
 element_widths names (assigns xs) = map (λ a. expression_width names (in_assignment a.when) a.body) xs
@@ -127,7 +127,7 @@ actual_widths names (q ∷ qs) no_trees = []
 actual_widths names (q ∷ qs) (tree e es) = actual_width names e ++ actual_widths names qs es
 
 abbrev pub instance_widths : List Instance → ℕ → Instance → List ℕ
-instance_widths t i at = actual_widths (types_in true t (parent_of at)) at.plan.parameters at.actuals ++ flat_map (element_widths (types_in true t i)) at.plan.elements
+instance_widths t i at = actual_widths (types_in true t (parent_of at)) at.module.parameters at.actuals ++ flat_map (element_widths (types_in true t i)) at.module.elements
 
 -- the greatest width of an integer's interval among the types and the expressions of a model
 abbrev pub model_width : List Instance → ℕ

@@ -1,12 +1,13 @@
 // The width of the integers of a flat form.
-ghost use Rattle.std.specs.Prelude.{◌≡◌, ◌≤◌, ℤ, negsuc, map, max, option_map, Option};
+ghost use Rattle.std.specs.Prelude.{◌≡◌, ◌≤◌, ◌<◌, ◌^◌, map, max, option_map};
 ghost use Rattle.smv_intervals.specs.View.{seen};
 ghost use Rattle.smv_flat.specs.FlatTree.{flat_links_of, flat_branches_of, flat_trees_of};
 ghost use Rattle.smv_flat.specs.FlatForms.{PlainFlat};
 ghost use Rattle.smv_flat.specs.FlatFormulas.{form_plain};
 ghost use Rattle.smv_items.specs.FlatItemView.{item_plain};
 ghost use Rattle.smv_flat.specs.FlatView.{plain_flat, plain_flat_link, plain_flat_branch};
-ghost use Rattle.smv_width.specs.FlatWidth.{binary_digits, integer_width, interval_width, integers_width, own_width, flat_divisor, flat_type, operand_width, arguments_width, tree_width, links_width, branches_width, trees_width, first_width, items_width, forms_width, width_of};
+ghost use Rattle.smv_width.specs.FlatWidth.{binary_digits, integer_width, interval_width, integers_width, node_width, operand_width, arguments_width};
+ghost use Rattle.smv_width.specs.FlatWidth.{tree_width, links_width, branches_width, trees_width, first_width, items_width, forms_width, width_of};
 
 use crate::fronts::{divisor_of, front};
 use smv_flat::{FlatBranch, FlatExpr, FlatFormula, FlatLink, FlatShape};
@@ -14,17 +15,19 @@ use smv_intervals::Ty;
 use smv_items::FlatItem;
 use smv_text::{Function, Infix};
 
-#[tactic(auto, using(crate::proofs::WidthLemmas::leading_digits, crate::proofs::WidthLemmas::digits_most))]
+#[tactic(auto, using(crate::proofs::WidthLemmas::leading_digits, crate::proofs::WidthLemmas::digits_low))]
 fn digits(n: u64) -> u32
+    requires { n < 2 ^ 63 }
     ensures value { result ≡ binary_digits n }
-    ensures bound { result ≤ 64 }
+    ensures bound { result ≤ 63 }
 {
     64 - n.leading_zeros()
 }
 
 // The least width of two's complement that holds the integer.
 fn integer_width(z: i64) -> u32
-    ensures { result ≡ integer_width z }
+    ensures value { result ≡ integer_width z }
+    ensures bound { result ≤ 64 }
 {
     if z < 0 {
         digits((-1 - z) as u64) + 1
@@ -33,14 +36,26 @@ fn integer_width(z: i64) -> u32
     }
 }
 
-fn interval_width(low: i64, high: i64) -> u32
-    ensures { result ≡ interval_width low high }
+// Of two widths.
+fn greater(a: u32, b: u32) -> u32
+    requires first { a ≤ 64 }
+    requires second { b ≤ 64 }
+    ensures value { result ≡ max a b }
+    ensures bound { result ≤ 64 }
 {
-    integer_width(low).max(integer_width(high))
+    a.max(b)
+}
+
+fn interval_width(low: i64, high: i64) -> u32
+    ensures value { result ≡ interval_width low high }
+    ensures bound { result ≤ 64 }
+{
+    greater(integer_width(low), integer_width(high))
 }
 
 fn integers_width(ty: Ty) -> u32
-    ensures { result ≡ integers_width (seen ty) }
+    ensures value { result ≡ integers_width (seen ty) }
+    ensures bound { result ≤ 64 }
 {
     match ty {
         Ty::Integer(low, high) => interval_width(low, high),
@@ -48,8 +63,9 @@ fn integers_width(ty: Ty) -> u32
     }
 }
 
-fn own_width(ty: Option<Ty>) -> u32
-    ensures { result ≡ own_width (option_map seen ty) }
+fn node_width(ty: Option<Ty>) -> u32
+    ensures value { result ≡ node_width (option_map seen ty) }
+    ensures bound { result ≤ 64 }
 {
     match ty {
         None => 1,
@@ -57,18 +73,13 @@ fn own_width(ty: Option<Ty>) -> u32
     }
 }
 
-fn greater(a: u32, b: u32) -> u32
-    ensures { result ≡ max a b }
-{
-    a.max(b)
-}
-
 // Also of what the expression denotes where it is never taken.
 #[cycle(width)]
 fn expr_width(expr: &FlatExpr) -> u32
-    ensures { result ≡ tree_width (plain_flat expr.now) }
+    ensures value { result ≡ tree_width (plain_flat expr.now) }
+    ensures bound { result ≤ 64 }
 {
-    let own = own_width(expr.ty);
+    let own = node_width(expr.ty);
     match &expr.shape {
         FlatShape::True
         | FlatShape::False
@@ -96,7 +107,8 @@ fn expr_width(expr: &FlatExpr) -> u32
 
 // What an operand of this width counts behind an operator: the amount of a shift doesn't.
 fn operand_width(op: Infix, width: u32) -> u32
-    ensures { result ≡ operand_width op width }
+    ensures value { result ≡ operand_width op width }
+    ensures bound { result ≤ width }
 {
     match op {
         Infix::ShiftLeft | Infix::ShiftRight => 0,
@@ -107,21 +119,23 @@ fn operand_width(op: Infix, width: u32) -> u32
 // The operands of a chain behind its operators and the fronts that end with them, given the type of what stands before.
 #[cycle(width)]
 fn links_width(first: Option<Ty>, links: &[FlatLink]) -> u32
-    ensures { result ≡ links_width (option_map seen first) (flat_links_of (map plain_flat_link links.now)) }
+    ensures value { result ≡ links_width (option_map seen first) (flat_links_of (map plain_flat_link links.now)) }
+    ensures bound { result ≤ 64 }
 {
     let mut width = 0;
     let mut whole = first;
     for link in links {
         let operand = operand_width(link.op, expr_width(&link.operand));
         whole = front(link.op, whole, link.operand.ty, divisor_of(&link.operand));
-        width = greater(width, greater(operand, own_width(whole)));
+        width = greater(width, greater(operand, node_width(whole)));
     }
     width
 }
 
 #[cycle(width)]
 fn branches_width(branches: &[FlatBranch]) -> u32
-    ensures { result ≡ branches_width (flat_branches_of (map plain_flat_branch branches.now)) }
+    ensures value { result ≡ branches_width (flat_branches_of (map plain_flat_branch branches.now)) }
+    ensures bound { result ≤ 64 }
 {
     let mut width = 0;
     for branch in branches {
@@ -134,7 +148,8 @@ fn branches_width(branches: &[FlatBranch]) -> u32
 // The arguments of a function; those that are numbers don't count.
 #[cycle(width)]
 fn call_width(function: Function, arguments: &[FlatExpr]) -> u32
-    ensures { result ≡ arguments_width function (first_width (flat_trees_of (map plain_flat arguments.now))) (trees_width (flat_trees_of (map plain_flat arguments.now))) }
+    ensures value { result ≡ arguments_width function (first_width (flat_trees_of (map plain_flat arguments.now))) (trees_width (flat_trees_of (map plain_flat arguments.now))) }
+    ensures bound { result ≤ 64 }
 {
     match function {
         Function::Uwconst => 0,
@@ -145,7 +160,8 @@ fn call_width(function: Function, arguments: &[FlatExpr]) -> u32
 
 #[cycle(width)]
 fn first_width(exprs: &[FlatExpr]) -> u32
-    ensures { result ≡ first_width (flat_trees_of (map plain_flat exprs.now)) }
+    ensures value { result ≡ first_width (flat_trees_of (map plain_flat exprs.now)) }
+    ensures bound { result ≤ 64 }
 {
     match exprs.first() {
         None => 0,
@@ -155,7 +171,8 @@ fn first_width(exprs: &[FlatExpr]) -> u32
 
 #[cycle(width)]
 fn exprs_width(exprs: &[FlatExpr]) -> u32
-    ensures { result ≡ trees_width (flat_trees_of (map plain_flat exprs.now)) }
+    ensures value { result ≡ trees_width (flat_trees_of (map plain_flat exprs.now)) }
+    ensures bound { result ≤ 64 }
 {
     let mut width = 0;
     for expr in exprs {
@@ -165,7 +182,8 @@ fn exprs_width(exprs: &[FlatExpr]) -> u32
 }
 
 fn items_width(items: &[FlatItem]) -> u32
-    ensures { result ≡ items_width (map item_plain items.now) }
+    ensures value { result ≡ items_width (map item_plain items.now) }
+    ensures bound { result ≤ 64 }
 {
     let mut width = 0;
     for item in items {
@@ -175,7 +193,8 @@ fn items_width(items: &[FlatItem]) -> u32
 }
 
 fn forms_width(formulas: &[FlatFormula]) -> u32
-    ensures { result ≡ forms_width (map form_plain formulas.now) }
+    ensures value { result ≡ forms_width (map form_plain formulas.now) }
+    ensures bound { result ≤ 64 }
 {
     let mut width = 0;
     for formula in formulas {
@@ -188,7 +207,9 @@ fn forms_width(formulas: &[FlatFormula]) -> u32
 /// expression and type, also in branches that are never taken, and 1 where no integer occurs. Shift amounts and the number
 /// arguments of `uwconst`, `extend` and `resize` don't count. (NuSMV 2.6 User Manual, 2.2; the width is this translator's own.)
 pub fn width_of(items: &[FlatItem], formulas: &[FlatFormula]) -> u32
-    ensures { (flat : PlainFlat) → flat.items ≡ map item_plain items.now → flat.forms ≡ map form_plain formulas.now → result ≡ width_of flat }
+    ensures some { 1 ≤ result }
+    ensures bound { result ≤ 64 }
+    ensures value { (flat : PlainFlat) → flat.items ≡ map item_plain items.now → flat.forms ≡ map form_plain formulas.now → result ≡ width_of flat }
 {
     greater(1, greater(items_width(items), forms_width(formulas)))
 }

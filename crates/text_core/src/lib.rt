@@ -1,6 +1,7 @@
 //! Names, texts and lists, and what the outside is: files that are read and streams that are written.
 #![tactic(auto)]
 
+mod bytes;
 mod end;
 mod errors;
 pub mod kinds;
@@ -15,6 +16,7 @@ mod text;
 mod verdict;
 mod whole;
 
+pub use bytes::is_digit;
 pub use end::End;
 pub use errors::{NoMemory, ReadEnd, ShelfFault, SinkFault};
 pub use lists::{FilePair, FilePairs, List, Numbers};

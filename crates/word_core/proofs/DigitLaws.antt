@@ -1,11 +1,15 @@
 -- More digits make no number less.
 use Rattle.std.proofs.lemmas.List.{drop_more}
 use Rattle.std.proofs.Common.{length, drop, get_or, subst, ◌≡◌, ℕ, ◌+◌, ◌*◌, ◌<◌, ◌≤◌, Bool, true, false, cond, List, [], ◌∷◌, Some, None, refl, arith, ap, ◌∙◌}
+use Rattle.std.proofs.lemmas.Bool.Decides.{nat_tests}
 use Rattle.std.specs.Prelude.{nat_lt, option_and_then}
 use Rattle.word_core.specs.Digits.{below, digit_number, number_after}
 
 not_below : (limit n : ℕ) → limit ≤ n → below limit n ≡ None
 not_below limit n h = let e : nat_lt n limit ≡ false = grind (arith, h) in ap (λ c. cond c (Some n) None) e
+
+over : (limit n : ℕ) → below limit n ≡ None → limit ≤ n
+over limit n e = grind (arith, nat_tests, e)
 
 grows : (base n d : ℕ) → 1 ≤ base → n ≤ n * base + d
 grows base n d h = grind (arith, h)
@@ -25,7 +29,7 @@ one_more base limit n x rest h small k =
     ap (λ c. option_and_then (below limit) (cond c (number_after base (n * base + digit_number x) rest) None)) e
     ∙ passes base limit (n * base + digit_number x) rest h k
 
-pub passes_at : (base limit n i d : ℕ) (bs : List ℕ) → 1 ≤ base → i < length bs → d ≡ digit_number (get_or bs i 0) → d < base → limit ≤ n * base + d → option_and_then (below limit) (number_after base n (drop i bs)) ≡ None
+pub passes_at : (base limit n i d : ℕ) (bs : List ℕ) → 1 ≤ base → i < length bs → d ≡ digit_number (get_or bs i 0) → d < base → below limit (n * base + d) ≡ None → option_and_then (below limit) (number_after base n (drop i bs)) ≡ None
 passes_at base limit n i d bs h within is small k =
     ap (λ rest. option_and_then (below limit) (number_after base n rest)) (drop_more bs i 0 within)
-    ∙ one_more base limit n (get_or bs i 0) (drop (i + 1) bs) h (subst (λ m. m < base) is small) (subst (λ m. limit ≤ n * base + m) is k)
+    ∙ one_more base limit n (get_or bs i 0) (drop (i + 1) bs) h (subst (λ m. m < base) is small) (over limit (n * base + digit_number (get_or bs i 0)) (subst (λ m. below limit (n * base + m) ≡ None) is k))

@@ -1,8 +1,8 @@
 // Words from digits.
-ghost use Rattle.std.specs.Prelude.{◌≡◌, ◌⊎◌, ◌<◌, ◌≤◌, ◌^◌, Some, None, option_and_then, length};
+ghost use Rattle.std.specs.Prelude.{◌≡◌, ◌⊎◌, ◌<◌, ◌≤◌, ◌+◌, ◌*◌, ◌^◌, Some, None, option_and_then, length};
 ghost use Rattle.word_core.specs.Digits.{below, digit_number, fitted, number_after, read_word};
 
-use crate::numbers::power;
+use crate::numbers::ones;
 use crate::word::{WIDEST, Word};
 
 /// The word of this width whose digits of base 2, 8, 10 or 16 these are, the highest first, with letters in either case,
@@ -14,30 +14,36 @@ pub fn read_digits(width: u32, base: u32, digits: &[u8]) -> Option<Word>
     if width < 1 || width > WIDEST || digits.is_empty() {
         return None;
     }
-    let number = number_below(power(width), u128::from(base), digits)?;
+    let number = number_below(width, u128::from(base), digits)?;
     Word::of(width, number)
 }
 
-// The number that the digits stand for, if it is below the limit.
-fn number_below(limit: u128, base: u128, digits: &[u8]) -> Option<u128>
+// The number that the digits stand for, if it is below two to the width.
+fn number_below(width: u32, base: u128, digits: &[u8]) -> Option<u128>
     requires base { base ≤ 16 }
     requires base_low { 2 ≤ base }
-    requires limit_low { 1 ≤ limit }
-    requires limit { limit ≤ 2 ^ 64 }
-    ensures { result ≡ option_and_then (below limit) (number_after base 0 digits.now) }
+    requires low { 1 ≤ width }
+    requires high { width ≤ WIDEST }
+    ensures { result ≡ option_and_then (below (2 ^ width)) (number_after base 0 digits.now) }
 {
+    let most = ones(width);
     let mut number = 0;
     for b in digits {
         let digit = digit_number(*b);
         if digit >= base {
             return None;
         }
-        number = number * base + digit;
-        if number >= limit {
-            return None;
-        }
+        number = with_digit(most, base, number, digit)?;
     }
     Some(number)
+}
+
+// The number with one more digit, if it is at most this.
+fn with_digit(most: u128, base: u128, number: u128, digit: u128) -> Option<u128>
+    ensures { result ≡ below (most + 1) (number * base + digit) }
+{
+    let next = number.checked_mul(base)?.checked_add(digit)?;
+    if next <= most { Some(next) } else { None }
 }
 
 fn digit_number(b: u8) -> u128

@@ -1,4 +1,4 @@
-//! Words of 1 to 64 bits, and operators on them.
+//! Words of 1 to 128 bits, and operators on them.
 #![tactic(auto)]
 
 mod digits;
@@ -10,4 +10,4 @@ mod word;
 pub use digits::read_digits;
 pub use kinds::{Binary, Unary};
 pub use operators::{binary, ite, sext, slice, uext, unary};
-pub use word::{WIDEST, Word};
+pub use word::{WIDEST, Word, widest_is};

@@ -1,29 +1,78 @@
 // The numbers of the operators' results.
-ghost use Rattle.std.specs.Prelude.{◌≡◌, ◌<◌, ◌≤◌, ◌+◌, ◌^◌};
+ghost use Rattle.std.specs.Prelude.{◌≡◌, ◌<◌, ◌≤◌, ◌+◌, ◌-◌, ◌*◌, ◌/◌, ◌%◌, ◌^◌, int_lt, int_le};
 ghost use Rattle.word_core.specs.Table.{BinaryFits, binary_bits, is_minus, magnitude, modulus, negated, negated_if, quotient, rest, signed_value, unary_bits};
 
 use crate::kinds::{Binary, Unary};
 use crate::word::WIDEST;
 
-// Two to the width.
-pub fn power(width: u32) -> u128
-    requires { width ≤ WIDEST }
-    ensures { result ≡ 2 ^ width }
-{
-    1u128 << width
-}
-
-// The signed value.
-fn signed(width: u32, a: u128) -> i128
+// Ones for all bits of the width. Two to the greatest width itself is no u128.
+pub fn ones(width: u32) -> u128
     requires low { 1 ≤ width }
     requires high { width ≤ WIDEST }
-    requires fits { a < 2 ^ width }
-    ensures { result ≡ signed_value width a }
+    ensures { result ≡ 2 ^ width - 1 }
 {
-    if a < power(width - 1) {
-        a as i128
-    } else {
-        a as i128 - power(width) as i128
+    u128::MAX >> (u128::BITS - width)
+}
+
+// The number modulo two to the width: its low bits.
+pub fn reduced(width: u32, n: u128) -> u128
+    requires low { 1 ≤ width }
+    requires high { width ≤ WIDEST }
+    ensures value { result ≡ n % 2 ^ width }
+    ensures fits { result < 2 ^ width }
+{
+    n & ones(width)
+}
+
+// The sum modulo two to the width. What wraps at 128 bits has the same low bits.
+fn sum(width: u32, a: u128, b: u128) -> u128
+    requires low { 1 ≤ width }
+    requires high { width ≤ WIDEST }
+    ensures value { result ≡ (a + b) % 2 ^ width }
+    ensures fits { result < 2 ^ width }
+{
+    reduced(width, a.wrapping_add(b))
+}
+
+// The difference modulo two to the width.
+fn difference(width: u32, a: u128, b: u128) -> u128
+    requires low { 1 ≤ width }
+    requires high { width ≤ WIDEST }
+    requires fits { b < 2 ^ width }
+    ensures value { result ≡ (a + (2 ^ width - b)) % 2 ^ width }
+    ensures fits { result < 2 ^ width }
+{
+    reduced(width, a.wrapping_sub(b))
+}
+
+// The product modulo two to the width.
+fn product(width: u32, a: u128, b: u128) -> u128
+    requires low { 1 ≤ width }
+    requires high { width ≤ WIDEST }
+    ensures { result ≡ (a * b) % 2 ^ width }
+{
+    reduced(width, a.wrapping_mul(b))
+}
+
+// The quotient, rounded down. Where both numbers have 64 bits, their division is much the faster one.
+fn divided(a: u128, b: u128) -> u128
+    requires { 1 ≤ b }
+    ensures { result ≡ a / b }
+{
+    match (u64::try_from(a), u64::try_from(b)) {
+        (Ok(short), Ok(by)) => u128::from(short / by),
+        _ => a / b,
+    }
+}
+
+// What the division leaves over.
+fn left_over(a: u128, b: u128) -> u128
+    requires { 1 ≤ b }
+    ensures { result ≡ a % b }
+{
+    match (u64::try_from(a), u64::try_from(b)) {
+        (Ok(short), Ok(by)) => u128::from(short % by),
+        _ => a % b,
     }
 }
 
@@ -33,19 +82,53 @@ pub fn is_minus(width: u32, a: u128) -> bool
     requires high { width ≤ WIDEST }
     ensures { result ≡ is_minus width a }
 {
-    a >= power(width - 1)
+    a >= 1u128 << (width - 1)
+}
+
+// Is the first signed value less than the second?
+fn is_less(width: u32, a: u128, b: u128) -> bool
+    requires low { 1 ≤ width }
+    requires high { width ≤ WIDEST }
+    requires a_fits { a < 2 ^ width }
+    requires b_fits { b < 2 ^ width }
+    ensures { result ≡ int_lt (signed_value width a) (signed_value width b) }
+{
+    let minus = is_minus(width, a);
+    if minus == is_minus(width, b) {
+        a < b
+    } else {
+        minus
+    }
+}
+
+// Is the first signed value at most the second?
+fn is_at_most(width: u32, a: u128, b: u128) -> bool
+    requires low { 1 ≤ width }
+    requires high { width ≤ WIDEST }
+    requires a_fits { a < 2 ^ width }
+    requires b_fits { b < 2 ^ width }
+    ensures { result ≡ int_le (signed_value width a) (signed_value width b) }
+{
+    let minus = is_minus(width, a);
+    if minus == is_minus(width, b) {
+        a <= b
+    } else {
+        minus
+    }
 }
 
 fn negated(width: u32, a: u128) -> u128
+    requires low { 1 ≤ width }
     requires high { width ≤ WIDEST }
     requires fits { a < 2 ^ width }
     ensures value { result ≡ negated width a }
     ensures fits { result < 2 ^ width }
 {
-    (power(width) - a) % power(width)
+    difference(width, 0, a)
 }
 
 fn negated_if(minus: bool, width: u32, a: u128) -> u128
+    requires low { 1 ≤ width }
     requires high { width ≤ WIDEST }
     requires fits { a < 2 ^ width }
     ensures value { result ≡ negated_if minus width a }
@@ -66,12 +149,13 @@ fn magnitude(width: u32, a: u128) -> u128
 }
 
 fn quotient(width: u32, a: u128, b: u128) -> u128
+    requires low { 1 ≤ width }
     requires high { width ≤ WIDEST }
     requires fits { a < 2 ^ width }
     ensures value { result ≡ quotient width a b }
     ensures fits { result < 2 ^ width }
 {
-    if b == 0 { power(width) - 1 } else { a / b }
+    if b == 0 { ones(width) } else { divided(a, b) }
 }
 
 fn rest(width: u32, a: u128, b: u128) -> u128
@@ -79,7 +163,7 @@ fn rest(width: u32, a: u128, b: u128) -> u128
     ensures value { result ≡ rest a b }
     ensures fits { result < 2 ^ width }
 {
-    if b == 0 { a } else { a % b }
+    if b == 0 { a } else { left_over(a, b) }
 }
 
 // The rest of magnitudes, given the divisor's sign.
@@ -96,22 +180,23 @@ fn modulus(width: u32, a: u128, b: u128, u: u128) -> u128
         if is_minus(width, b) {
             negated(width, u)
         } else {
-            (negated(width, u) + b) % power(width)
+            sum(width, negated(width, u), b)
         }
     } else if is_minus(width, b) {
-        (u + b) % power(width)
+        sum(width, u, b)
     } else {
         u
     }
 }
 
 fn shifted_left(width: u32, a: u128, b: u128) -> u128
+    requires low { 1 ≤ width }
     requires high { width ≤ WIDEST }
     requires fits { a < 2 ^ width }
     ensures { result ≡ binary_bits Binary.Sll width width a b }
 {
     if b < u128::from(width) {
-        (a << b) % power(width)
+        reduced(width, a << b)
     } else {
         0
     }
@@ -131,11 +216,11 @@ fn shifted_signed(width: u32, a: u128, b: u128) -> u128
     requires fits { a < 2 ^ width }
     ensures { result ≡ binary_bits Binary.Sra width width a b }
 {
-    let by = b.min(u128::from(width));
     if is_minus(width, a) {
-        power(width) - 1 - ((power(width) - 1 - a) >> by)
+        let all = ones(width);
+        all - shifted_right(width, all - a, b)
     } else {
-        a >> by
+        shifted_right(width, a, b)
     }
 }
 
@@ -177,6 +262,17 @@ fn signed_modulus(width: u32, a: u128, b: u128) -> u128
     modulus(width, a, b, left)
 }
 
+// The bits of a in front of those of b.
+fn joined(v: u32, w: u32, a: u128, b: u128) -> u128
+    requires low { 1 ≤ v }
+    requires high { v + w ≤ WIDEST }
+    requires a_fits { a < 2 ^ v }
+    requires b_fits { b < 2 ^ w }
+    ensures { result ≡ a * 2 ^ w + b }
+{
+    (a << w) + b
+}
+
 /// The number that the operator's row gives.
 pub fn unary_number(op: Unary, width: u32, a: u128) -> u128
     requires low { 1 ≤ width }
@@ -185,11 +281,11 @@ pub fn unary_number(op: Unary, width: u32, a: u128) -> u128
     ensures { result ≡ unary_bits op width a }
 {
     match op {
-        Unary::Not => power(width) - 1 - a,
-        Unary::Inc => (a + 1) % power(width),
-        Unary::Dec => (a + (power(width) - 1)) % power(width),
+        Unary::Not => ones(width) - a,
+        Unary::Inc => sum(width, a, 1),
+        Unary::Dec => sum(width, a, ones(width)),
         Unary::Neg => negated(width, a),
-        Unary::RedAnd => u128::from(a == power(width) - 1),
+        Unary::RedAnd => u128::from(a == ones(width)),
         Unary::RedOr => u128::from(a != 0),
         Unary::RedXor => u128::from(a.count_ones() % 2),
     }
@@ -211,31 +307,31 @@ pub fn binary_number(op: Binary, v: u32, w: u32, a: u128, b: u128) -> u128
         Binary::Iff | Binary::Eq => u128::from(a == b),
         Binary::Implies => (1 - a) | b,
         Binary::Neq => u128::from(a != b),
-        Binary::Sgt => u128::from(signed(v, a) > signed(w, b)),
-        Binary::Sgte => u128::from(signed(v, a) >= signed(w, b)),
-        Binary::Slt => u128::from(signed(v, a) < signed(w, b)),
-        Binary::Slte => u128::from(signed(v, a) <= signed(w, b)),
+        Binary::Sgt => u128::from(is_less(v, b, a)),
+        Binary::Sgte => u128::from(is_at_most(v, b, a)),
+        Binary::Slt => u128::from(is_less(v, a, b)),
+        Binary::Slte => u128::from(is_at_most(v, a, b)),
         Binary::Ugt => u128::from(a > b),
         Binary::Ugte => u128::from(a >= b),
         Binary::Ult => u128::from(a < b),
         Binary::Ulte => u128::from(a <= b),
         Binary::And => a & b,
-        Binary::Nand => power(v) - 1 - (a & b),
-        Binary::Nor => power(v) - 1 - (a | b),
+        Binary::Nand => ones(v) - (a & b),
+        Binary::Nor => ones(v) - (a | b),
         Binary::Or => a | b,
-        Binary::Xnor => power(v) - 1 - (a ^ b),
+        Binary::Xnor => ones(v) - (a ^ b),
         Binary::Xor => a ^ b,
         Binary::Sll => shifted_left(v, a, b),
         Binary::Srl => shifted_right(v, a, b),
         Binary::Sra => shifted_signed(v, a, b),
-        Binary::Add => (a + b) % power(v),
-        Binary::Sub => (a + (power(v) - b)) % power(v),
-        Binary::Mul => (a * b) % power(v),
+        Binary::Add => sum(v, a, b),
+        Binary::Sub => difference(v, a, b),
+        Binary::Mul => product(v, a, b),
         Binary::Udiv => quotient(v, a, b),
         Binary::Sdiv => signed_quotient(v, a, b),
         Binary::Urem => rest(v, a, b),
         Binary::Srem => signed_rest(v, a, b),
         Binary::Smod => signed_modulus(v, a, b),
-        Binary::Concat => a * power(w) + b,
+        Binary::Concat => joined(v, w, a, b),
     }
 }

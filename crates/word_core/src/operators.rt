@@ -3,7 +3,7 @@ ghost use Rattle.std.specs.Prelude.{◌≡◌, ◌<◌, ◌≤◌, ◌+◌};
 ghost use Rattle.word_core.specs.Table.{BinaryFits, binary_of, binary_width, ite_of, sext_of, slice_of, uext_of, unary_of, unary_width};
 
 use crate::kinds::{Binary, Unary};
-use crate::numbers::{binary_number, is_minus, power, unary_number};
+use crate::numbers::{binary_number, is_minus, ones, reduced, unary_number};
 use crate::word::{WIDEST, Word, made_word};
 
 /// The word that the operator's row gives.
@@ -79,7 +79,7 @@ pub fn slice(a: Word, high: u32, low: u32) -> Word
 {
     let _width = a.width();
     let width = high - low + 1;
-    made_word(width, (a.bits() >> low) % power(width))
+    made_word(width, reduced(width, a.bits() >> low))
 }
 
 /// The word with this many zeros in front.
@@ -97,7 +97,7 @@ pub fn sext(a: Word, count: u32) -> Word
 {
     let width = a.width() + count;
     if is_minus(a.width(), a.bits()) {
-        made_word(width, a.bits() + (power(width) - power(a.width())))
+        made_word(width, a.bits() + (ones(width) - ones(a.width())))
     } else {
         made_word(width, a.bits())
     }

@@ -1,29 +1,40 @@
 // A word: a width, and a number below two to that width.
-ghost use Rattle.std.specs.Prelude.{◌≡◌, ◌<◌, ◌≤◌, ◌^◌, ◌/◌, ◌%◌, ◌↔◌, IsTrue, IsSome, IfSome};
+ghost use Rattle.std.specs.Prelude.{◌≡◌, ◌<◌, ◌≤◌, ◌+◌, ◌*◌, ◌^◌, ◌/◌, ◌%◌, ◌↔◌, IsTrue, IsSome, IfSome};
 ghost use Rattle.word_core.specs.Words.{BitVector, IsWord};
 
+use crate::numbers::ones;
 use std::marker::Model;
 
 /// The greatest width of a word.
-pub const WIDEST: u32 = 64;
+pub const WIDEST: u32 = 128;
 
-/// A width from 1 to `WIDEST`, and bits below two to that width.
+/// The greatest width is 128.
+pub fn widest_is()
+    ensures { WIDEST ≡ 128 }
+{}
+
+// Two to the number of bits of each half of a word.
+const HALF: u128 = 1 << 64;
+
+/// A width from 1 to `WIDEST`, and bits below two to that width. They are kept as two halves, so that a word takes 24 bytes.
 #[derive(Clone, Copy, Debug)]
 pub struct Word {
+    low: u64,
+    high: u64,
     width: u32,
-    bits: u64,
 }
 
 impl Model for Word {
+    ghost use Rattle.std.specs.Prelude.{◌<◌, ◌+◌, ◌*◌, ◌/◌, ◌%◌, ◌^◌};
     ghost use Rattle.word_core.specs.Words.{BitVector, IsWord};
 
     ghost Value = { BitVector };
 
-    ghost view = { λ a. record { width = a.width; bits = a.bits } };
+    ghost view = { λ a. record { width = a.width; bits = a.high * 2 ^ 64 + a.low } };
 
-    ghost invariant = { λ a. IsWord (record { width = a.width; bits = a.bits }) };
+    ghost invariant = { λ a. IsWord (record { width = a.width; bits = a.high * 2 ^ 64 + a.low }) × (a.low < 2 ^ 64) };
 
-    ghost inverse = { λ v. record { width = v.width; bits = v.bits } };
+    ghost inverse = { λ v. record { width = v.width; low = v.bits % 2 ^ 64; high = v.bits / 2 ^ 64 } };
 }
 
 impl Word {
@@ -32,7 +43,7 @@ impl Word {
         ensures there { IsSome result ↔ IsWord (record { width = width; bits = bits }) }
         ensures value { IfSome result (λ w. w ≡ record { width = width; bits = bits }) }
     {
-        if width >= 1 && width <= WIDEST && bits < 1u128 << width {
+        if width >= 1 && width <= WIDEST && bits <= ones(width) {
             Some(made_word(width, bits))
         } else {
             None
@@ -52,7 +63,7 @@ impl Word {
         ensures value { result ≡ self.now.bits }
         ensures word { IsWord self.now }
     {
-        u128::from(self.bits)
+        (u128::from(self.high) << 64) + u128::from(self.low)
     }
 
     /// Bit number i, counted from the low end.
@@ -60,7 +71,7 @@ impl Word {
         requires { i < self.now.width }
         ensures { IsTrue result ↔ ((self.now.bits / 2 ^ i) % 2 ≡ 1) }
     {
-        (self.bits >> i) % 2 == 1
+        (self.bits() >> i) % 2 == 1
     }
 }
 
@@ -70,7 +81,8 @@ pub fn made_word(width: u32, bits: u128) -> Word
     ensures { result ≡ record { width = width; bits = bits } }
 {
     Word {
+        low: (bits % HALF) as u64,
+        high: (bits / HALF) as u64,
         width,
-        bits: bits as u64,
     }
 }

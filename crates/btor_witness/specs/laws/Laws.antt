@@ -1,26 +1,25 @@
 -- What a text spells, and its refusal, are one.
-use Rattle.std.proofs.Common.{◌≡◌, ◌≤◌, ℕ, ◌+◌, Bool, true, false, ◌-◌, suc, List, [], ◌∷◌, length, Option, Some, None, Result, Ok, Err, refl, sym, ap, ◌∙◌, subst, arith, inl, inr, ◌⊎◌}
+use Rattle.std.proofs.Common.{◌≡◌, ◌≤◌, ℕ, ◌+◌, Bool, true, false, List, [], ◌∷◌, length, Option, Some, None, Result, Ok, Err, refl, sym, ap, ◌∙◌, subst, arith, inl, inr, ◌⊎◌}
 use Rattle.std.specs.Prelude.{IfOk, IfErr}
 use Rattle.std.proofs.lemmas.Bool.{cond-true, cond-false, cases_Bool, cases_lt}
 use Rattle.text_core.specs.declared.place.Kind.{Kind}
 use Rattle.text_core.specs.declared.place.Place.{Place}
 use Rattle.text_core.specs.declared.place.Refusal.{Refusal}
 use Rattle.btor_tree.specs.declared.lines.Line.{Line}
-use Rattle.btor_tree.specs.Parts.{Parts, raw_lines}
+use Rattle.btor_tree.specs.Parts.{Parts, raw_lines, line_place}
 use Rattle.btor_tree.proofs.Fronts.{split_line}
 use Rattle.btor_witness.specs.declared.shape.Shape.{Shape}
 use Rattle.btor_witness.specs.declared.ends.LineEnd.{LineEnd}
 use Rattle.btor_witness.specs.declared.ends.LineEnd.TheVariants as end
-use Rattle.text_core.specs.declared.kinds.witness.TheConstants.{UNENDED, TOO_LONG}
-use Rattle.btor_witness.specs.declared.read.TheConstants.{MOST_BYTES}
+use Rattle.text_core.specs.declared.place.Kind.TheVariants.{X}
 use Rattle.btor_witness.specs.declared.witness.Witness.{Witness}
 use Rattle.text_core.specs.declared.end.End.{End}
 use Rattle.text_core.specs.declared.end.End.TheVariants.{Bad, NoMemory}
 use Rattle.btor_witness.specs.Bytes.{line_parts}
-use Rattle.btor_witness.specs.Sizes.{Sizes, sizes_of}
+use Rattle.btor_witness.specs.Sizes.{Sizes, sizes_of, most_bytes}
 use Rattle.btor_witness.specs.Shapes.{Spells, shape_of, is_passed}
 use Rattle.btor_witness.specs.Reading.{Reading, begin, Next, nothing, moves, done, bad}
-use Rattle.btor_witness.specs.Texts.{IsNext, passed, spelled, shapeless, Reads, blank, line, last, Refuses, unended, here, past_blank, past_line, ReadsText, SpellsWitness, RefusesWitness, bytes_before, line_start, shaped_next, next_of}
+use Rattle.btor_witness.specs.Texts.{IsNext, passed, spelled, shapeless, Reads, blank, line, last, Refuses, unended, here, past_blank, past_line, ReadsText, SpellsWitness, RefusesWitness, shaped_next, next_of}
 use Rattle.btor_witness.specs.Answer.{Gives, Stops, IsRefused, IsRefusedLine, Steps, Takes}
 use Rattle.btor_witness.specs.laws.Shapes.{shape_reads, shape_from}
 
@@ -70,7 +69,7 @@ same_witness e = cc
 same_kind : {k j : Kind} → bad k ≡ bad j → k ≡ j
 same_kind e = cc
 
-pub one_reading : {sizes : Sizes} {r q : Reading} {raws : List (List ℕ)} {w v : Witness} → Reads sizes r raws w → Reads sizes q raws v → r ≡ q → w ≡ v
+pub one_reading : {sizes : Sizes} {r q : Reading} {raws : Parts} {w v : Witness} → Reads sizes r raws w → Reads sizes q raws v → r ≡ q → w ≡ v
 one_reading (blank a h) (blank b k) e = one_reading h k e
 one_reading (blank a h) (line n b k) e = absurd (let f = one_next a (moved e b) in cc)
 one_reading (blank a h) (last b) e = absurd (let f = one_next a (moved e b) in cc)
@@ -81,7 +80,7 @@ one_reading (last a) (blank b k) e = absurd (let f = one_next a (moved e b) in c
 one_reading (last a) (line m b k) e = absurd (let f = one_next a (moved e b) in cc)
 one_reading (last a) (last b) e = same_witness (one_next a (moved e b))
 
-pub no_reading : {sizes : Sizes} {r q : Reading} {raws : List (List ℕ)} {w : Witness} {n at : ℕ} {k : Kind} → Reads sizes r raws w → Refuses n sizes q raws k at → r ≡ q → ⊥
+pub no_reading : {sizes : Sizes} {r q : Reading} {raws : Parts} {w : Witness} {n at : ℕ} {k : Kind} → Reads sizes r raws w → Refuses n sizes q raws k at → r ≡ q → ⊥
 no_reading (blank a h) (here b) e = let f = one_next a (moved e b) in cc
 no_reading (blank a h) (past_blank b g) e = no_reading h g e
 no_reading (blank a h) (past_line m b g) e = let f = one_next a (moved e b) in cc
@@ -92,7 +91,7 @@ no_reading (last a) (here b) e = let f = one_next a (moved e b) in cc
 no_reading (last a) (past_blank b g) e = let f = one_next a (moved e b) in cc
 no_reading (last a) (past_line m b g) e = let f = one_next a (moved e b) in cc
 
-pub one_refusal : {sizes : Sizes} {r q : Reading} {raws : List (List ℕ)} {n m at to : ℕ} {j k : Kind} → Refuses n sizes r raws j at → Refuses m sizes q raws k to → r ≡ q → n ≡ m → (j ≡ k) × (at ≡ to)
+pub one_refusal : {sizes : Sizes} {r q : Reading} {raws : Parts} {n m at to : ℕ} {j k : Kind} → Refuses n sizes r raws j at → Refuses m sizes q raws k to → r ≡ q → n ≡ m → (j ≡ k) × (at ≡ to)
 one_refusal unended unended e f = (refl, f)
 one_refusal (here a) (here b) e f = (same_kind (one_next a (moved e b)), ap (λ i. i + 1) f)
 one_refusal (here a) (past_blank b g) e f = absurd (let x = one_next a (moved e b) in cc)
@@ -126,7 +125,7 @@ pub stops_from : (lines : List Line) (text : List ℕ) (r : Result Witness End) 
 stops_from lines text (Ok v) a b k at h = not_both lines text v k at a h
 stops_from lines text (Err (Bad refusal)) a b k at h =
     let e = one_end lines text refusal.kind k refusal.place.line at b.0 h in
-    (e.0, b.1 ∙ ap (line_start text) e.1)
+    (e.0, b.1 ∙ ap (line_place text) e.1)
 stops_from lines text (Err NoMemory) a b k at h = tt
 
 -- what one line of the text does
@@ -136,7 +135,7 @@ taken x old new (Ok true) h = h
 taken x old new (Err (end.Bad k)) h = h
 taken x old new (Err end.NoMemory) h = h
 
-goes_on : (n : ℕ) (sizes : Sizes) (old new : Reading) (raw : List ℕ) (raws : List (List ℕ)) (x : Next) → IsNext sizes old (line_parts raw) x → (x ≡ moves new) ⊎ ((x ≡ nothing) × (new ≡ old))
+goes_on : (n : ℕ) (sizes : Sizes) (old new : Reading) (raw : List ℕ) (raws : Parts) (x : Next) → IsNext sizes old (line_parts raw) x → (x ≡ moves new) ⊎ ((x ≡ nothing) × (new ≡ old))
     → ((w : Witness) → Reads sizes new raws w → Reads sizes old (raw ∷ raws) w) × ((k : Kind) (at : ℕ) → Refuses (n + 1) sizes new raws k at → Refuses n sizes old (raw ∷ raws) k at)
 goes_on n sizes old new raw raws x a (inl e) =
     let b = subst (IsNext sizes old (line_parts raw)) e a in
@@ -145,7 +144,7 @@ goes_on n sizes old new raw raws x a (inr e) =
     let b = subst (IsNext sizes old (line_parts raw)) e.0 a in
     (λ w h. blank b (subst (λ r. Reads sizes r raws w) e.1 h), λ k at h. past_blank b (subst (λ r. Refuses (n + 1) sizes r raws k at) e.1 h))
 
-pub reads_on : (n : ℕ) (sizes : Sizes) (old new : Reading) (raw : List ℕ) (raws : List (List ℕ)) → Takes (next_of sizes old (line_parts raw)) old new (Ok false)
+pub reads_on : (n : ℕ) (sizes : Sizes) (old new : Reading) (raw : List ℕ) (raws : Parts) → Takes (next_of sizes old (line_parts raw)) old new (Ok false)
     → ((w : Witness) → Reads sizes new raws w → Reads sizes old (raw ∷ raws) w) × ((k : Kind) (at : ℕ) → Refuses (n + 1) sizes new raws k at → Refuses n sizes old (raw ∷ raws) k at)
 reads_on n sizes old new raw raws h = goes_on n sizes old new raw raws (next_of sizes old (line_parts raw)) (next_there sizes old (line_parts raw)) h
 
@@ -168,49 +167,43 @@ failed_at s t old new ps x k e f h =
     subst (λ (y : LineEnd). Takes (next_of t old ps) old new (Err y)) f g
 
 -- a text that is no longer than a witness may be
-pub ok_within : (lines : List Line) (text : List ℕ) (r : Result Witness End) → length text ≤ MOST_BYTES → IfOk r (ReadsText (sizes_of lines) text) → IfOk r (SpellsWitness lines text)
+pub ok_within : (lines : List Line) (text : List ℕ) (r : Result Witness End) → length text ≤ most_bytes → IfOk r (ReadsText (sizes_of lines) text) → IfOk r (SpellsWitness lines text)
 ok_within lines text (Ok w) lt h = (lt, h)
 ok_within lines text (Err e) lt h = tt
 
-pub err_within : (lines : List Line) (text : List ℕ) (r : Result Witness End) → length text ≤ MOST_BYTES → IfErr r (IsRefusedLine (sizes_of lines) text) → IfErr r (IsRefused lines text)
+pub err_within : (lines : List Line) (text : List ℕ) (r : Result Witness End) → length text ≤ most_bytes → IfErr r (IsRefusedLine (sizes_of lines) text) → IfErr r (IsRefused lines text)
 err_within lines text (Ok w) lt h = tt
 err_within lines text (Err (Bad refusal)) lt h = (inr (lt, h.0), h.1)
 err_within lines text (Err NoMemory) lt h = tt
 
 -- each text is answered
-abbrev OneOf : ℕ → Sizes → Reading → List (List ℕ) → Type 0
+abbrev OneOf : ℕ → Sizes → Reading → Parts → Type 0
 OneOf n sizes r raws = ((w : Witness) × Reads sizes r raws w) ⊎ ((k : Kind) × (at : ℕ) × Refuses n sizes r raws k at)
 
-answer_on : (n : ℕ) (sizes : Sizes) (r : Reading) (raw : List ℕ) (raws : List (List ℕ)) (x : Next) → IsNext sizes r (line_parts raw) x → ((q : Reading) → OneOf (n + 1) sizes q raws) → OneOf n sizes r (raw ∷ raws)
+answer_on : (n : ℕ) (sizes : Sizes) (r : Reading) (raw : List ℕ) (raws : Parts) (x : Next) → IsNext sizes r (line_parts raw) x → ((q : Reading) → OneOf (n + 1) sizes q raws) → OneOf n sizes r (raw ∷ raws)
 answer_on n sizes r raw raws nothing a on = elim (on r) [ inl h ↦ inl (h.0, blank a h.1) | inr h ↦ inr (h.0, h.1, past_blank a h.2) ]
 answer_on n sizes r raw raws (moves q) a on = elim (on q) [ inl h ↦ inl (h.0, line q a h.1) | inr h ↦ inr (h.0, h.1, past_line q a h.2) ]
 answer_on n sizes r raw raws (done w) a on = inl (w, last a)
 answer_on n sizes r raw raws (bad k) a on = inr (k, n + 1, here a)
 
-answer_of : (raws : List (List ℕ)) (n : ℕ) (sizes : Sizes) (r : Reading) → OneOf n sizes r raws
-answer_of [] n sizes r = inr (UNENDED, n, unended)
+answer_of : (raws : Parts) (n : ℕ) (sizes : Sizes) (r : Reading) → OneOf n sizes r raws
+answer_of [] n sizes r = inr ((X 6), n, unended)
 answer_of (raw ∷ raws) n sizes r = answer_on n sizes r raw raws (next_of sizes r (line_parts raw)) (next_there sizes r (line_parts raw)) (answer_of raws (n + 1) sizes)
 
 pub one_answer : (lines : List Line) (text : List ℕ) → ((w : Witness) × SpellsWitness lines text w) ⊎ ((k : Kind) × (at : ℕ) × RefusesWitness lines text k at)
 one_answer lines text =
-    elim (cases_lt MOST_BYTES (length text)) [
-      | inl long ↦ inr (TOO_LONG, 1, inl (long, refl, refl))
+    elim (cases_lt most_bytes (length text)) [
+      | inl long ↦ inr ((X 8), 1, inl (long, refl, refl))
       | inr short ↦ elim (answer_of (raw_lines text) 0 (sizes_of lines) begin) [ inl h ↦ inl (h.0, (short, h.1)) | inr h ↦ inr (h.0, h.1, inr (short, h.2)) ]
     ]
 
--- the places of lines, from the rest of the text on
-pub starts_more : (text rest raw more : List ℕ) (n : ℕ) → raw_lines rest ≡ raw ∷ raw_lines more → length rest ≡ length raw + 1 + length more → length rest ≤ length text
-    → ((k : ℕ) → bytes_before (n + k) (raw_lines text) ≡ (length text - length rest) + bytes_before k (raw_lines rest))
-    → (k : ℕ) → bytes_before (n + 1 + k) (raw_lines text) ≡ (length text - length more) + bytes_before k (raw_lines more)
-starts_more text rest raw more n lines size within before k =
-    let e : n + 1 + k ≡ n + suc k = omega arith in
-    ap (λ m. bytes_before m (raw_lines text)) e ∙ before (suc k) ∙ ap (λ x. (length text - length rest) + bytes_before (suc k) x) lines ∙ omega (arith, size, within)
+-- a text has one refusal at most, of one kind at one place
+same_parts : (r s : Refusal) → r.kind ≡ s.kind → r.place ≡ s.place → r ≡ s
+same_parts r s e f =
+    let kinds : record { kind = r.kind; place = r.place } ≡ record { kind = s.kind; place = r.place } = ap (λ (k : Kind). record { kind = k; place = r.place }) e in
+    kinds ∙ ap (λ (p : Place). record { kind = s.kind; place = p }) f
 
-pub start_here : (text rest : List ℕ) (n : ℕ) → ((k : ℕ) → bytes_before (n + k) (raw_lines text) ≡ (length text - length rest) + bytes_before k (raw_lines rest))
-    → (k : Kind) (offset : ℕ) (refusal : Refusal) → offset ≡ length text - length rest → refusal ≡ record { kind = k; place = record { line = n + 1; column = 1; offset = offset } } → refusal.place ≡ line_start text refusal.place.line
-start_here text rest n before k offset refusal e f =
-    let none : n + 1 - 1 ≡ n + 0 = omega arith in
-    let at : bytes_before (n + 1 - 1) (raw_lines text) ≡ offset = ap (λ m. bytes_before m (raw_lines text)) none ∙ before 0 ∙ omega (arith, e) in
-    let place : Place = record { line = n + 1; column = 1; offset = offset } in
-    let there : place ≡ line_start text (n + 1) = ap (λ o. record { line = n + 1; column = 1; offset = o }) (sym at) in
-    ap (λ (r : Refusal). r.place) f ∙ there ∙ ap (λ (r : Refusal). line_start text r.place.line) (sym f)
+pub same_refusal : (lines : List Line) (text : List ℕ) (r s : Refusal) → IsRefused lines text (Bad r) → IsRefused lines text (Bad s) → r ≡ s
+same_refusal lines text r s a b =
+    let one = one_end lines text r.kind s.kind r.place.line s.place.line a.0 b.0 in
+    same_parts r s one.0 (a.1 ∙ ap (line_place text) one.1 ∙ sym b.1)

@@ -3,7 +3,7 @@ use Rattle.std.proofs.Common.{◌≡◌, ◌<◌, ◌≤◌, Bool, ◌&&◌, inl
 use Rattle.std.proofs.lemmas.Bool.{cases_lt}
 use Rattle.std.proofs.lemmas.Bool.Decides.{nat_tests}
 use Rattle.text_core.specs.declared.place.Refusal.{Refusal}
-use Rattle.moxi_sorts.specs.Failures.{key, pick, sooner, least}
+use Rattle.moxi_sorts.specs.Failures.{key, pick, minimum, least}
 use Rattle.moxi_scripts.specs.Collecting.{also}
 
 pick_other : (a b : Refusal) → key b < key a → pick a b ≡ b
@@ -28,31 +28,31 @@ pick_assoc a b c =
       ]
     ]
 
-sooner_none : (a : Option Refusal) → sooner a None ≡ a
-sooner_none None = refl
-sooner_none (Some a) = refl
+minimum_none : (a : Option Refusal) → minimum a None ≡ a
+minimum_none None = refl
+minimum_none (Some a) = refl
 
-sooner_assoc : (a b c : Option Refusal) → sooner a (sooner b c) ≡ sooner (sooner a b) c
-sooner_assoc None b c = refl
-sooner_assoc (Some a) None c = refl
-sooner_assoc (Some a) (Some b) None = refl
-sooner_assoc (Some a) (Some b) (Some c) = ap Some (pick_assoc a b c)
+minimum_assoc : (a b c : Option Refusal) → minimum a (minimum b c) ≡ minimum (minimum a b) c
+minimum_assoc None b c = refl
+minimum_assoc (Some a) None c = refl
+minimum_assoc (Some a) (Some b) None = refl
+minimum_assoc (Some a) (Some b) (Some c) = ap Some (pick_assoc a b c)
 
-least_append : (xs ys : List Refusal) → least (xs ++ ys) ≡ sooner (least xs) (least ys)
+least_append : (xs ys : List Refusal) → least (xs ++ ys) ≡ minimum (least xs) (least ys)
 least_append [] ys = refl
-least_append (x ∷ xs) ys = ap (sooner (Some x)) (least_append xs ys) ∙ sooner_assoc (Some x) (least xs) (least ys)
+least_append (x ∷ xs) ys = ap (minimum (Some x)) (least_append xs ys) ∙ minimum_assoc (Some x) (least xs) (least ys)
 
 pub also_none : (found : Option Refusal) → also found [] ≡ found
 unfolding also
-also_none found = sooner_none found
+also_none found = minimum_none found
 
 pub also_append : (found : Option Refusal) (xs ys : List Refusal) → also (also found xs) ys ≡ also found (xs ++ ys)
 unfolding also
-also_append found xs ys = sym (sooner_assoc found (least xs) (least ys)) ∙ ap (sooner found) (sym (least_append xs ys))
+also_append found xs ys = sym (minimum_assoc found (least xs) (least ys)) ∙ ap (minimum found) (sym (least_append xs ys))
 
-pub also_least : (found f : Option Refusal) (fs : List Refusal) → f ≡ least fs → sooner found f ≡ also found fs
+pub also_least : (found f : Option Refusal) (fs : List Refusal) → f ≡ least fs → minimum found f ≡ also found fs
 unfolding also
-also_least found f fs e = ap (sooner found) e
+also_least found f fs e = ap (minimum found) e
 
 -- one round of a loop, and its end
 pub list_step : {A : Type 0} (all now one more whole total : List A) → now ≡ all ++ one → whole ≡ one ++ more → all ++ whole ≡ total → now ++ more ≡ total

@@ -5,7 +5,7 @@ use Rattle.std.proofs.lemmas.Bool.{cases_lt}
 use Rattle.std.proofs.lemmas.Bool.Decides.{nat_tests}
 use Rattle.std.proofs.lemmas.Option.{same_Some, none-some}
 use Rattle.text_core.specs.declared.place.Refusal.{Refusal}
-use Rattle.moxi_sorts.specs.Failures.{key, pick, sooner, least, IsLeast}
+use Rattle.moxi_sorts.specs.Failures.{key, pick, minimum, least, IsLeast}
 
 pub pick_other : (a b : Refusal) → key b < key a → pick a b ≡ b
 pick_other a b h = let e : nat_lt (key b) (key a) ≡ true = grind (arith, nat_tests) in ap (λ t. cond t b a) e
@@ -29,24 +29,24 @@ pick_assoc a b c =
       ]
     ]
 
-pub sooner_assoc : (a b c : Option Refusal) → sooner a (sooner b c) ≡ sooner (sooner a b) c
-sooner_assoc None b c = refl
-sooner_assoc (Some a) None c = refl
-sooner_assoc (Some a) (Some b) None = refl
-sooner_assoc (Some a) (Some b) (Some c) = ap Some (pick_assoc a b c)
+pub minimum_assoc : (a b c : Option Refusal) → minimum a (minimum b c) ≡ minimum (minimum a b) c
+minimum_assoc None b c = refl
+minimum_assoc (Some a) None c = refl
+minimum_assoc (Some a) (Some b) None = refl
+minimum_assoc (Some a) (Some b) (Some c) = ap Some (pick_assoc a b c)
 
 -- one test after another
-pub least_append : (xs ys : List Refusal) → least (xs ++ ys) ≡ sooner (least xs) (least ys)
+pub least_append : (xs ys : List Refusal) → least (xs ++ ys) ≡ minimum (least xs) (least ys)
 least_append [] ys = refl
-least_append (x ∷ xs) ys = ap (sooner (Some x)) (least_append xs ys) ∙ sooner_assoc (Some x) (least xs) (least ys)
+least_append (x ∷ xs) ys = ap (minimum (Some x)) (least_append xs ys) ∙ minimum_assoc (Some x) (least xs) (least ys)
 
 pub least_none : (xs : List Refusal) → least xs ≡ None → xs ≡ []
 least_none [] h = refl
-least_none (x ∷ xs) h = absurd (some_sooner x (least xs) h)
+least_none (x ∷ xs) h = absurd (some_minimum x (least xs) h)
   where
-    some_sooner : (x : Refusal) (o : Option Refusal) → sooner (Some x) o ≡ None → ⊥
-    some_sooner x None h = none-some x (sym h)
-    some_sooner x (Some y) h = none-some (pick x y) (sym h)
+    some_minimum : (x : Refusal) (o : Option Refusal) → minimum (Some x) o ≡ None → ⊥
+    some_minimum x None h = none-some x (sym h)
+    some_minimum x (Some y) h = none-some (pick x y) (sym h)
 
 -- what `least` gives is the least one
 pub all_after : (f g : Refusal) (xs : List Refusal) → key g ≤ key f → AllByRecursion (λ h. key f ≤ key h) xs → AllByRecursion (λ h. key g ≤ key h) xs
@@ -63,6 +63,6 @@ pub is_least : (xs : List Refusal) (f : Refusal) → least xs ≡ Some f → IsL
 is_least [] f h = absurd (none-some f h)
 is_least (x ∷ xs) f h = by_rest x xs (least xs) f (λ y e. is_least xs y e) refl h
   where
-    by_rest : (x : Refusal) (xs : List Refusal) (o : Option Refusal) (f : Refusal) → ((y : Refusal) → least xs ≡ Some y → IsLeast y xs) → least xs ≡ o → sooner (Some x) o ≡ Some f → IsLeast f (x ∷ xs)
+    by_rest : (x : Refusal) (xs : List Refusal) (o : Option Refusal) (f : Refusal) → ((y : Refusal) → least xs ≡ Some y → IsLeast y xs) → least xs ≡ o → minimum (Some x) o ≡ Some f → IsLeast f (x ∷ xs)
     by_rest x xs None f ih e h = subst (λ f. IsLeast f (x ∷ xs)) (same_Some x f h) (inl refl, (omega arith, subst (AllByRecursion (λ g. key x ≤ key g)) (sym (least_none xs e)) tt))
     by_rest x xs (Some y) f ih e h = least_more x y f xs (ih y e) (same_Some (pick x y) f h)

@@ -41,7 +41,7 @@ pub absent_among : (names : List (List ℕ)) (name : List ℕ) → Absent names 
 absent_among names name h = some_of_none (place_of names name) (placed names name ∙ ap not h)
 
 pub record IsNewTerm (s : ScopeState) (name : List ℕ) : Type 0 where
-  pub own : is_fixed_term name ≡ false
+  pub free : is_fixed_term name ≡ false
   pub constants : Absent (all_constants s.enumerations) name
   pub functions : Absent (function_names s) name
 
@@ -54,7 +54,7 @@ new_term s name h =
     let r = or_parts (bytes_eq name (codes "false")) (cs || fs) q.1 in
     let t = or_parts cs fs r.1 in
     record {
-      own = or_both (is_operator name) (bytes_eq name (codes "true") || bytes_eq name (codes "false")) p.0 (or_both (bytes_eq name (codes "true")) (bytes_eq name (codes "false")) q.0 r.0);
+      free = or_both (is_operator name) (bytes_eq name (codes "true") || bytes_eq name (codes "false")) p.0 (or_both (bytes_eq name (codes "true")) (bytes_eq name (codes "false")) q.0 r.0);
       constants = among_absent (all_constants s.enumerations) name t.0;
       functions = among_absent (function_names s) name t.1;
     }
@@ -63,7 +63,7 @@ pub term_new : (s : ScopeState) (name : List ℕ) → IsNewTerm s name → is_te
 term_new s name n =
     let cs = is_among (all_constants s.enumerations) name in
     let fs = is_among (function_names s) name in
-    let p = or_parts (is_operator name) (bytes_eq name (codes "true") || bytes_eq name (codes "false")) n.own in
+    let p = or_parts (is_operator name) (bytes_eq name (codes "true") || bytes_eq name (codes "false")) n.free in
     let q = or_parts (bytes_eq name (codes "true")) (bytes_eq name (codes "false")) p.1 in
     or_both (is_operator name) (bytes_eq name (codes "true") || (bytes_eq name (codes "false") || (cs || fs))) p.0
     (or_both (bytes_eq name (codes "true")) (bytes_eq name (codes "false") || (cs || fs)) q.0
@@ -71,7 +71,7 @@ term_new s name n =
     (or_both cs fs (absent_among (all_constants s.enumerations) name n.constants) (absent_among (function_names s) name n.functions))))
 
 record IsNewSort (s : ScopeState) (name : List ℕ) : Type 0 where
-  pub own : is_fixed_sort name ≡ false
+  pub free : is_fixed_sort name ≡ false
   pub enumerations : Absent (enumeration_names s) name
   pub sorts : Absent (sort_names s) name
 
@@ -83,7 +83,7 @@ new_sort s name h =
     let q = or_parts (bytes_eq name (codes "BitVec")) (es || ss) p.1 in
     let r = or_parts es ss q.1 in
     record {
-      own = or_both (bytes_eq name (codes "Bool")) (bytes_eq name (codes "BitVec")) p.0 q.0;
+      free = or_both (bytes_eq name (codes "Bool")) (bytes_eq name (codes "BitVec")) p.0 q.0;
       enumerations = among_absent (enumeration_names s) name r.0;
       sorts = among_absent (sort_names s) name r.1;
     }
@@ -111,7 +111,7 @@ pub stays_new : (s t : ScopeState) → GrowsTo s t → (name : List ℕ) → is_
 stays_new s t g name h =
     let n = new_term t name h in
     term_new s name (record {
-      own = n.own;
+      free = n.free;
       constants = (absent_parts (all_constants s.enumerations) (all_constants g.more_enumerations) name (subst (λ cs. Absent cs name) (ap all_constants g.enumerations ∙ constants_append s.enumerations g.more_enumerations) n.constants)).0;
       functions = (absent_parts (function_names s) (map (λ (f : PlainFunction). f.name) g.more_functions) name
           (subst (λ fs. Absent fs name) (ap (map (λ (f : PlainFunction). f.name)) g.functions ∙ map_append (λ (f : PlainFunction). f.name) s.functions g.more_functions) n.functions)).0;
@@ -279,8 +279,8 @@ with_enumeration_so_far s name cs k n =
     let x = new_sort s name n.sort in
     let fixed_sort = λ (name : List ℕ). is_fixed_sort name ≡ false in
     let fixed_term = λ (name : List ℕ). is_fixed_term name ≡ false in
-    let own_sorts = all_parts fixed_sort (enumeration_names s) (sort_names s) k.sorts.own in
-    let own_terms = all_parts fixed_term (all_constants es) (function_names s) k.terms.own in
+    let sorts_free = all_parts fixed_sort (enumeration_names s) (sort_names s) k.sorts.free in
+    let terms_free = all_parts fixed_term (all_constants es) (function_names s) k.terms.free in
     let new = λ (c : List ℕ). is_term_name s c ≡ false in
     record {
       scope = record {
@@ -291,16 +291,16 @@ with_enumeration_so_far s name cs k n =
       sorts = record {
         differ = ap (λ ns. are_fresh [] (ns ++ sort_names s)) names
             ∙ fresh_between (enumeration_names s) (name ∷ []) (sort_names s) k.sorts.differ (fresh_more (enumeration_names s) name [] x.enumerations refl) (absent_swap (name ∷ []) (sort_names s) (x.sorts, tt));
-        own = subst (λ ns. AllByRecursion fixed_sort (ns ++ sort_names s)) (sym names)
-            (all_append fixed_sort (enumeration_names s ++ name ∷ []) (sort_names s) (all_append fixed_sort (enumeration_names s) (name ∷ []) own_sorts.0 (x.own, tt)) own_sorts.1);
+        free = subst (λ ns. AllByRecursion fixed_sort (ns ++ sort_names s)) (sym names)
+            (all_append fixed_sort (enumeration_names s ++ name ∷ []) (sort_names s) (all_append fixed_sort (enumeration_names s) (name ∷ []) sorts_free.0 (x.free, tt)) sorts_free.1);
       };
       terms = record {
         differ = ap (λ ns. are_fresh [] (ns ++ function_names s)) (constants_end es name cs)
             ∙ fresh_between (all_constants es) cs (function_names s) k.terms.differ n.differ
             (absent_swap cs (function_names s) (all_of new (Absent (function_names s)) cs (λ c h. (new_term s c h).functions) n.constants));
-        own = subst (λ ns. AllByRecursion fixed_term (ns ++ function_names s)) (sym (constants_end es name cs))
+        free = subst (λ ns. AllByRecursion fixed_term (ns ++ function_names s)) (sym (constants_end es name cs))
             (all_append fixed_term (all_constants es ++ cs) (function_names s)
-            (all_append fixed_term (all_constants es) cs own_terms.0 (all_of new fixed_term cs (λ c h. (new_term s c h).own) n.constants)) own_terms.1);
+            (all_append fixed_term (all_constants es) cs terms_free.0 (all_of new fixed_term cs (λ c h. (new_term s c h).free) n.constants)) terms_free.1);
       };
     }
 
@@ -315,7 +315,7 @@ with_sort_so_far s name sort k h is =
       scope = record { enumerations = k.scope.enumerations; sorts = all_append (λ (n : NamedSort). IsSort s.enumerations n.sort) s.sorts (x ∷ []) k.scope.sorts (is, tt); functions = k.scope.functions };
       sorts = record {
         differ = ap (are_fresh []) names ∙ fresh_end (enumeration_names s ++ sort_names s) name k.sorts.differ (absent_append (enumeration_names s) (sort_names s) name n.enumerations n.sorts);
-        own = subst (AllByRecursion fixed) (sym names) (all_append fixed (enumeration_names s ++ sort_names s) (name ∷ []) k.sorts.own (n.own, tt));
+        free = subst (AllByRecursion fixed) (sym names) (all_append fixed (enumeration_names s ++ sort_names s) (name ∷ []) k.sorts.free (n.free, tt));
       };
       terms = k.terms;
     }
@@ -332,6 +332,6 @@ with_function_so_far s f k h is =
       sorts = k.sorts;
       terms = record {
         differ = ap (are_fresh []) names ∙ fresh_end (cs ++ function_names s) f.name k.terms.differ (absent_append cs (function_names s) f.name n.constants n.functions);
-        own = subst (AllByRecursion fixed) (sym names) (all_append fixed (cs ++ function_names s) (f.name ∷ []) k.terms.own (n.own, tt));
+        free = subst (AllByRecursion fixed) (sym names) (all_append fixed (cs ++ function_names s) (f.name ∷ []) k.terms.free (n.free, tt));
       };
     }

@@ -1,11 +1,13 @@
 -- The parts of forms of which no test fails: names that are found, constants, words and the sorts of applications.
 use Rattle.std.proofs.Common.{◌≡◌, ℕ, suc, ◌+◌, ◌^◌, ◌<◌, ◌≤◌, nat_le, nat_lt, Bool, true, false, cond, ◌&&◌, List, [], ◌∷◌, ◌++◌, length, Option, None, Some, Result, Ok, Err, refl, ap, ◌∙◌, subst, arith}
-use Rattle.std.specs.Prelude.{slice_get, option_and_then}
-use Rattle.std.specs.List.{AllByRecursion}
+use Rattle.std.specs.Prelude.{slice_get, option_and_then, is_some}
+use Rattle.std.specs.List.{AllByRecursion, list_all}
 use Rattle.std.specs.Str.{bytes_eq}
 use Rattle.std.proofs.lemmas.Bool.{and_parts}
 use Rattle.std.proofs.lemmas.Bool.Decides.{nat_tests}
 use Rattle.std.proofs.lemmas.Option.{same_Some, none-some}
+use Rattle.text_core.specs.declared.place.Kind.{Kind}
+use Rattle.text_core.specs.declared.place.Kind.TheVariants.{M}
 use Rattle.text_core.specs.declared.place.Place.{Place}
 use Rattle.text_core.specs.declared.place.Refusal.{Refusal}
 use Rattle.word_core.specs.Words.{BitVector, IsWord}
@@ -86,6 +88,12 @@ known_append [] ms (s ∷ ss) ts h g = absurd h
 known_append (l ∷ ls) ms [] ts h g = absurd h
 known_append (l ∷ ls) ms (s ∷ ss) ts h g = (h.0, known_append ls ms ss ts h.1 g)
 
+pub all_have_sorts : (ls : List Local) (ss : List Sort) → HaveKnownSorts ls ss → list_all reading.has_sort ls ≡ true
+all_have_sorts [] [] h = refl
+all_have_sorts [] (s ∷ ss) h = absurd h
+all_have_sorts (l ∷ ls) [] h = absurd h
+all_have_sorts (l ∷ ls) (s ∷ ss) h = ap (λ o. is_some o && list_all reading.has_sort ls) h.0 ∙ all_have_sorts ls ss h.1
+
 pub names_long : (ls : List Local) (ss : List Sort) → HaveKnownSorts ls ss → length (reading.names_of ls) ≡ length ss
 names_long [] [] h = refl
 names_long [] (s ∷ ss) h = absurd h
@@ -144,9 +152,9 @@ sorts_same (s ∷ ss) (t ∷ ts) h =
     let p = and_parts (same_sort s t) (same_sorts ss ts) h in
     ap (λ s. s ∷ ss) (same_sorts_are s t p.0) ∙ ap (λ ss. t ∷ ss) (sorts_same ss ts p.1)
 
-pub sort_holds : (p : Place) (r : Result Sort ℕ) → reading.sort_failures p r ≡ [] → (s : Sort) × (r ≡ Ok s)
+pub sort_holds : (p : Place) (r : Result Sort Kind) → reading.sort_failures p r ≡ [] → (s : Sort) × (r ≡ Ok s)
 sort_holds p (Ok s) h = (s, refl)
-sort_holds p (Err n) h = absurd (some_fails (refusal n p) [] h)
+sort_holds p (Err k) h = absurd (some_fails (record { kind = k; place = p }) [] h)
 
 pub tests_hold : (fs : List PlainFunction) (p : Place) (h : Head) (n : ℕ) (ss : List Sort) → reading.argument_tests fs p h n (Some ss) ≡ [] → (s : Sort) × (typing.head_sort fs h ss ≡ Ok s)
 tests_hold fs p h n ss e = by_count (typing.head_count_fits fs h n) e
@@ -159,7 +167,7 @@ pub call_fits : (o : Option PlainFunction) (ss : List Sort) (s : Sort) → typin
 call_fits None ss s h = absurd (cc)
 call_fits (Some f) ss s h = by_test (same_sorts (sorts_of f.parameters) ss) refl h
   where
-    by_test : (b : Bool) → same_sorts (sorts_of f.parameters) ss ≡ b → (let r : Result Sort ℕ = cond b (Ok f.result) (Err 5) in r) ≡ Ok s
+    by_test : (b : Bool) → same_sorts (sorts_of f.parameters) ss ≡ b → (let r : Result Sort Kind = cond b (Ok f.result) (Err (M 5)) in r) ≡ Ok s
         → (g : PlainFunction) × (Some f ≡ Some g) × (sorts_of g.parameters ≡ ss) × (g.result ≡ s)
     by_test true e g = (f, refl, sorts_same (sorts_of f.parameters) ss e, same_ok f.result s g)
     by_test false e g = absurd (cc)

@@ -73,7 +73,7 @@ with_part ts c n p i x o new e h is s k =
     ∙ sym (position_push (is_child i x) (map instance_plain (take c ts)) (instance_plain p)) ∙ ap (position (is_child i x)) (sym b)
 
 pub unchanged : (p : PartOf) (o : Option ℕ) (c i : ℕ) (x : List ℕ) → p.parent ≡ None → o ≡ (if is_none o && is_child i x (instance_plain p) then Some c else o)
-unchanged p o c i x e = over o ∙ ap (λ q. if is_none o && (is_parent i q && bytes_eq p.own.now x) then Some c else o) (sym e)
+unchanged p o c i x e = over o ∙ ap (λ q. if is_none o && (is_parent i q && bytes_eq p.name.now x) then Some c else o) (sym e)
   where
     over : (o : Option ℕ) → o ≡ (if is_none o && false then Some c else o)
     over None = refl

@@ -46,5 +46,5 @@ number_found ts x o e =
 
 -- the definitions and actuals of the first instance and those of the rest
 pub steps_front : (ts : List PartOf) (p : PartOf) (ps : List PartOf) → ts ≡ p ∷ ps
-    → steps_of (map instance_plain ts) ≡ sum_by definitions_in (map plain_element p.plan.now.elements) + length p.actuals.now + steps_of (map instance_plain ps)
+    → steps_of (map instance_plain ts) ≡ sum_by definitions_in (map plain_element p.module.now.elements) + length p.actuals.now + steps_of (map instance_plain ps)
 steps_front ts p ps e = ap (λ l. steps_of (map instance_plain l)) e ∙ (let h = trees_length p.actuals.now in let k = sum_by-cons formulas_in (instance_plain p) (map instance_plain ps) in omega arith)

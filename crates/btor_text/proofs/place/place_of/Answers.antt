@@ -1,12 +1,12 @@
 use Rattle.std.proofs.Common.{◌≡◌, ◌+◌, ◌-◌, ◌/◌, ◌<◌, ◌≤◌, length, sym, arith}
-use Rattle.btor_tree.specs.declared.lines.TheConstants.{GREATEST_ID}
+use Rattle.btor_tree.specs.Fits.{greatest_id}
 use Rattle.btor_tree.proofs.Grows.{lines_short}
 use Rattle.btor_text.proofs.Search.{found_here, go_up, go_down, nowhere}
 use Rattle.btor_text.proofs.place.place_of.Goals as goal
 
 pub overflow_cast-result : goal.overflow_cast-result
 overflow_cast-result c =
-    let short : length c.args.nodes.now ≤ GREATEST_ID = lines_short c.args.nodes.now c.len-high.ensures.well_formed in
+    let short : length c.args.nodes.now ≤ greatest_id = lines_short c.args.nodes.now c.len-high.ensures.well_formed in
     let lt : c.search.low < c.search.high = grind arith in
     grind (arith, short, lt, c.search.invariant.within)
 

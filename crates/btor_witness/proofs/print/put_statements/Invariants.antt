@@ -1,7 +1,9 @@
-use Rattle.std.proofs.Common.{◌≡◌, ◌++◌, take}
+use Rattle.std.proofs.Common.{◌≡◌, ◌++◌}
+use Rattle.std.specs.Slice.Iter.{iter_rest}
 use Rattle.std.specs.List.{flat_map}
 use Rattle.btor_witness.specs.Printing.{statement_line}
 use Rattle.btor_witness.proofs.print.put_statements.Given as goal
 
-abbrev pub invariant-loop-i : goal.invariant-loop-i
-invariant-loop-i l = l.out ≡ l.fn.out ++ flat_map statement_line (take l.i l.stated)
+abbrev pub invariant-loop-statement : goal.invariant-loop-statement
+invariant-loop-statement l =
+    l.out ++ flat_map statement_line (iter_rest l.statement-iterator) ≡ l.fn.out ++ flat_map statement_line l.fn.stated

@@ -1,15 +1,16 @@
 use Rattle.std.proofs.Common.{◌≡◌, ◌+◌, ℕ, true, false, List, [], ◌∷◌, length, refl, sym, ap, ◌∙◌, subst, arith}
 use Rattle.std.proofs.lemmas.List.{nil_from_length}
-use Rattle.text_core.specs.declared.kinds.witness.TheConstants.{UNENDED}
+use Rattle.text_core.specs.declared.place.Kind.TheVariants.{X}
 use Rattle.text_core.specs.declared.end.End.{End}
 use Rattle.btor_tree.specs.Parts.{raw_lines}
 use Rattle.btor_tree.proofs.Fronts.{split_line, rest_lines}
+use Rattle.btor_tree.proofs.Places.{behind_line, place_behind}
 use Rattle.btor_witness.specs.Bytes.{line_parts}
 use Rattle.btor_witness.specs.Sizes.{sizes_of}
 use Rattle.btor_witness.specs.Reading.{done}
 use Rattle.btor_witness.specs.Texts.{Reads, Refuses, unended}
 use Rattle.btor_witness.specs.Answer.{IsRefusedLine}
-use Rattle.btor_witness.specs.laws.Laws.{takes_at, failed_at, reads_on, ends_here, refused_here, starts_more, start_here}
+use Rattle.btor_witness.specs.laws.Laws.{takes_at, failed_at, reads_on, ends_here, refused_here}
 use Rattle.btor_witness.proofs.read.read_lines.Goals as goal
 
 pub returns-then-ended-clause-spelled : goal.returns-then-ended-clause-spelled
@@ -36,7 +37,7 @@ returns-in-Bad-clause-refused c =
     let stops = refused_here c.lines.number sizes reading raw back k next in
     let refuses = c.lines.invariant.refuses k (c.lines.number + 1) (subst (λ (x : List (List ℕ)). Refuses c.lines.number sizes reading x k (c.lines.number + 1)) (sym lines) stops) in
     subst (λ (x : End). IsRefusedLine sizes c.args.text.now x) (sym c.refused.ensures)
-    (refuses, start_here c.args.text.now c.lines.rest.now c.lines.number c.lines.invariant.starts k _ _ refl refl)
+    (refuses, place_behind c.args.text.now c.lines.rest.now c.lines.number _ _ refl c.lines.invariant.starts refl)
 
 pub returns-in_default-clause-refused : goal.returns-in_default-clause-refused
 returns-in_default-clause-refused c =
@@ -48,10 +49,10 @@ returns-in_default-clause-refused c =
     let none : back ≡ [] = nil_from_length back c.in_default.ensures.cases in
     let lines = rest_lines c.lines.rest.now raw back c.line_length.result c.line_length.ensures.value c.split_at.ensures.front c.split_at.ensures.back ∙ ap (split_line raw) none in
     let takes = takes_at c.lines.reader.sizes sizes reading new (line_parts raw) c.in-Ok.ended false c.lines.invariant.sizes c.if-ended.false c.in-Ok.ensures.next in
-    let stops = (reads_on c.lines.number sizes reading new raw [] takes).1 UNENDED (c.lines.number + 1) unended in
-    let refuses = c.lines.invariant.refuses UNENDED (c.lines.number + 1) (subst (λ (x : List (List ℕ)). Refuses c.lines.number sizes reading x UNENDED (c.lines.number + 1)) (sym lines) stops) in
+    let stops = (reads_on c.lines.number sizes reading new raw [] takes).1 (X 6) (c.lines.number + 1) unended in
+    let refuses = c.lines.invariant.refuses (X 6) (c.lines.number + 1) (subst (λ (x : List (List ℕ)). Refuses c.lines.number sizes reading x (X 6) (c.lines.number + 1)) (sym lines) stops) in
     subst (λ (x : End). IsRefusedLine sizes c.args.text.now x) (sym c.refused-in_default.ensures)
-    (refuses, start_here c.args.text.now c.lines.rest.now c.lines.number c.lines.invariant.starts UNENDED _ _ refl refl)
+    (refuses, place_behind c.args.text.now c.lines.rest.now c.lines.number _ _ refl c.lines.invariant.starts refl)
 
 pub lines-preserved : goal.lines-preserved
 lines-preserved c =
@@ -69,6 +70,6 @@ lines-preserved c =
       reads = λ w h. c.lines.invariant.reads w (subst (λ (x : List (List ℕ)). Reads sizes reading x w) (sym lines) (on.0 w h));
       refuses = λ k at h. c.lines.invariant.refuses k at (subst (λ (x : List (List ℕ)). Refuses c.lines.number sizes reading x k at) (sym lines) (on.1 k at h));
       sizes = c.take_line.ensures.sizes ∙ c.lines.invariant.sizes;
-      starts = starts_more c.args.text.now c.lines.rest.now raw last c.lines.number lines (omega (arith, c.split_at.ensures.front_len, c.split_at.ensures.back_len, c.line_length.ensures.within, ap length more)) (omega (arith, c.lines.invariant.many)) c.lines.invariant.starts;
+      starts = behind_line c.args.text.now c.lines.rest.now raw last c.lines.number _ refl lines (omega (arith, c.split_at.ensures.front_len, c.split_at.ensures.back_len, c.line_length.ensures.within, ap length more)) (omega (arith, c.lines.invariant.many)) c.lines.invariant.starts;
       many = omega (arith, c.lines.invariant.many, c.split_at.ensures.back_len, ap length more);
     }

@@ -6,28 +6,29 @@ use Rattle.moxi_scripts.specs.declared.parts.DeclaredList.{DeclaredList}
 use Rattle.moxi_attributes.specs.Views.{value_now}
 use Rattle.moxi_scripts.specs.Attributes.{value_of}
 use Rattle.moxi_scripts.specs.Collecting.{also}
-use Rattle.moxi_scripts.specs.Lists.{listed_entries, listed_failures}
-use Rattle.moxi_scripts.proofs.FunctionLaws.{none_is_nil, own_least}
+use Rattle.moxi_scripts.specs.Lists.{list_shape, listed_entries, listed_failures}
+use Rattle.moxi_scripts.proofs.FunctionLaws.{none_is_nil, least_found}
 use Rattle.moxi_attributes.proofs.lists.read_list.Goals as goal
 
-abbrev list_with : List Declared → Bool → DeclaredList
-list_with es w = record { entries = es; whole = w }
+abbrev list_with : List Declared → Bool → Bool → DeclaredList
+list_with es b w = record { entries = es; shaped = b; whole = w }
 
 pub returns-clause-list : goal.returns-clause-list
 returns-clause-list c =
     let a = c.args in
     let s = a.scope.now in
     let o = value_of a.command a.k AtKeyword (plain_forms a.forms.now) in
-    let got = c.in_ok-read_entries_of.ensures in
-    let own : c.read_entries_of.new.found ≡ also None (listed_failures s o) = got.finds ∙ ap (λ v. also None (listed_failures s v)) c.value_of.ensures in
+    let got = c.in_ok-shaped.ensures in
+    let failed : c.read_entries_of.new.found ≡ also None (listed_failures s o) = got.finds ∙ ap (λ v. also None (listed_failures s v)) c.value_of.ensures in
     let es : c.read_entries_of.new.entries ≡ listed_entries s o =
     got.adds ∙ ap (λ xs. xs ++ listed_entries s (value_now c.value_of.result)) c.new-entries.ensures ∙ ap (listed_entries s) c.value_of.ensures in
-    ap (λ xs. list_with xs c.is_nothing.result) es
-    ∙ ap (list_with (listed_entries s o)) (c.is_nothing.ensures ∙ ap is_none own ∙ none_is_nil (listed_failures s o))
+    ap (λ xs. list_with xs c.in_ok-shaped.shaped c.is_nothing.result) es
+    ∙ ap (λ b. list_with (listed_entries s o) b c.is_nothing.result) (got.shaped ∙ ap list_shape c.value_of.ensures)
+    ∙ ap (list_with (listed_entries s o) (list_shape o)) (c.is_nothing.ensures ∙ ap is_none failed ∙ none_is_nil (listed_failures s o))
 
 pub returns-clause-finds : goal.returns-clause-finds
 returns-clause-finds c =
     let a = c.args in
     let s = a.scope.now in
     let o = value_of a.command a.k AtKeyword (plain_forms a.forms.now) in
-    c.note.ensures (listed_failures s o) (own_least _ _ (c.in_ok-read_entries_of.ensures.finds ∙ ap (λ v. also None (listed_failures s v)) c.value_of.ensures))
+    c.note.ensures (listed_failures s o) (least_found _ _ (c.in_ok-shaped.ensures.finds ∙ ap (λ v. also None (listed_failures s v)) c.value_of.ensures))

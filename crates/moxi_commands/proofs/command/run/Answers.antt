@@ -1,25 +1,11 @@
-use Rattle.moxi_commands.proofs.OutcomeLemmas.{run_done, run_served, run_translates, run_prefix, run_complete, run_refused, run_second_refused, run_no, run_read_fault, run_absent}
+use Rattle.moxi_commands.proofs.OutcomeLemmas.{run_done, run_served, run_translates, run_prefix, run_complete, run_refused, run_second_refused, run_no, run_usage, run_no_command, run_read_fault, run_absent, run_noted, run_silent, run_fault_noted, run_untouched, run_write_fault, memory_fault_noted}
 use Rattle.moxi_commands.proofs.command.run.Goals as goal
 
 pub returns-in-Ok-clause-done : goal.returns-in-Ok-clause-done
-returns-in-Ok-clause-done g c =
-    run_done _ _ _ c.in-Ok.answer c.deliver.result _ _ c.in-Ok.ensures.answer c.deliver.ensures.status c.deliver.ensures.text
+returns-in-Ok-clause-done g c = run_done _ _ _ c.in-Ok.answer c.deliver.result _ _ c.in-Ok.ensures.answer c.deliver.ensures.status c.deliver.ensures.text
 
-pub returns-in-Ok-clause-prefix : goal.returns-in-Ok-clause-prefix
-returns-in-Ok-clause-prefix g c = λ fault.
-    run_prefix _ _ _ c.in-Ok.answer _ _ c.in-Ok.ensures.answer c.deliver.ensures.part
-
-pub returns-in-Ok-clause-complete : goal.returns-in-Ok-clause-complete
-returns-in-Ok-clause-complete g c =
-    run_complete _ _ _ _ _ c.in-Ok.answer c.deliver.result c.in-Ok.ensures.answer c.deliver.ensures.status c.deliver.ensures.write_fault
-
-pub returns-in-Ok-clause-served : goal.returns-in-Ok-clause-served
-returns-in-Ok-clause-served g c = λ done.
-    run_served _ _ _ _ (run_done _ _ _ c.in-Ok.answer c.deliver.result _ _ c.in-Ok.ensures.answer c.deliver.ensures.status c.deliver.ensures.text done)
-
-pub returns-in-Ok-clause-translates : goal.returns-in-Ok-clause-translates
-returns-in-Ok-clause-translates g c =
-    run_translates _ _ _ _ _ c.in-Ok.answer c.deliver.result _ _ c.in-Ok.ensures.answer c.deliver.ensures.status c.deliver.ensures.text c.deliver.ensures.write_fault
+pub returns-in-Ok-clause-no : goal.returns-in-Ok-clause-no
+returns-in-Ok-clause-no g c = run_no _ _ _ c.in-Ok.answer c.deliver.result c.in-Ok.ensures.answer c.deliver.ensures.status
 
 pub returns-in-Ok-clause-refused : goal.returns-in-Ok-clause-refused
 returns-in-Ok-clause-refused g c = run_refused _ _ _ c.in-Ok.answer c.deliver.result c.in-Ok.ensures.answer c.deliver.ensures.status
@@ -27,11 +13,44 @@ returns-in-Ok-clause-refused g c = run_refused _ _ _ c.in-Ok.answer c.deliver.re
 pub returns-in-Ok-clause-second_refused : goal.returns-in-Ok-clause-second_refused
 returns-in-Ok-clause-second_refused g c = run_second_refused _ _ _ c.in-Ok.answer c.deliver.result c.in-Ok.ensures.answer c.deliver.ensures.status
 
-pub returns-in-Ok-clause-no : goal.returns-in-Ok-clause-no
-returns-in-Ok-clause-no g c = run_no _ _ _ c.in-Ok.answer c.deliver.result c.in-Ok.ensures.answer c.deliver.ensures.status
+pub returns-in-Ok-clause-usage : goal.returns-in-Ok-clause-usage
+returns-in-Ok-clause-usage g c = run_usage _ _ _ c.in-Ok.answer c.deliver.result c.in-Ok.ensures.answer c.deliver.ensures.status
+
+pub returns-in-Ok-clause-no_command : goal.returns-in-Ok-clause-no_command
+returns-in-Ok-clause-no_command g c = run_no_command _ _ _ c.in-Ok.answer c.deliver.result c.in-Ok.ensures.answer c.deliver.ensures.status
 
 pub returns-in-Ok-clause-read_fault : goal.returns-in-Ok-clause-read_fault
 returns-in-Ok-clause-read_fault g c = run_read_fault _ _ _ c.in-Ok.answer c.deliver.result c.in-Ok.ensures.answer c.deliver.ensures.status
 
 pub returns-in-Ok-clause-absent : goal.returns-in-Ok-clause-absent
 returns-in-Ok-clause-absent g c = run_absent _ _ _ c.in-Ok.answer c.deliver.result c.in-Ok.ensures.answer c.deliver.ensures.status
+
+pub returns-in-Ok-clause-noted : goal.returns-in-Ok-clause-noted
+returns-in-Ok-clause-noted g c = run_noted _ _ _ c.in-Ok.answer c.deliver.result _ _ c.in-Ok.ensures.answer c.deliver.ensures.status c.deliver.ensures.line
+
+pub returns-in-Ok-clause-silent : goal.returns-in-Ok-clause-silent
+returns-in-Ok-clause-silent g c = run_silent c.in-Ok.answer c.deliver.result _ _ c.deliver.ensures.status c.deliver.ensures.line
+
+pub returns-in-Ok-clause-fault_noted : goal.returns-in-Ok-clause-fault_noted
+returns-in-Ok-clause-fault_noted g c = run_fault_noted _ _ _ c.in-Ok.answer c.deliver.result _ _ _ _ _ c.in-Ok.ensures.answer c.deliver.ensures.write_fault
+
+pub returns-in-Ok-clause-untouched : goal.returns-in-Ok-clause-untouched
+returns-in-Ok-clause-untouched g c = run_untouched c.in-Ok.answer c.deliver.result _ _ c.deliver.ensures.status c.deliver.ensures.text
+
+pub returns-in-Ok-clause-write_fault : goal.returns-in-Ok-clause-write_fault
+returns-in-Ok-clause-write_fault g c = run_write_fault _ _ _ _ _ _ c.deliver.result c.deliver.ensures.write_fault
+
+pub returns-in-Ok-clause-prefix : goal.returns-in-Ok-clause-prefix
+returns-in-Ok-clause-prefix g c = λ fault. run_prefix _ _ _ c.in-Ok.answer _ _ c.in-Ok.ensures.answer c.deliver.ensures.part
+
+pub returns-in-Ok-clause-complete : goal.returns-in-Ok-clause-complete
+returns-in-Ok-clause-complete g c = run_complete _ _ _ _ _ c.in-Ok.answer c.deliver.result _ _ _ _ c.in-Ok.ensures.answer c.deliver.ensures.status c.deliver.ensures.text c.deliver.ensures.line (run_write_fault _ _ _ _ _ _ c.deliver.result c.deliver.ensures.write_fault)
+
+pub returns-in-Ok-clause-served : goal.returns-in-Ok-clause-served
+returns-in-Ok-clause-served g c = λ done. run_served _ _ _ _ (run_done _ _ _ c.in-Ok.answer c.deliver.result _ _ c.in-Ok.ensures.answer c.deliver.ensures.status c.deliver.ensures.text done)
+
+pub returns-in-Ok-clause-translates : goal.returns-in-Ok-clause-translates
+returns-in-Ok-clause-translates g c = run_translates _ _ _ _ _ c.in-Ok.answer c.deliver.result _ _ c.in-Ok.ensures.answer c.deliver.ensures.status c.deliver.ensures.text (run_write_fault _ _ _ _ _ _ c.deliver.result c.deliver.ensures.write_fault)
+
+pub returns-in-Err-clause-fault_noted : goal.returns-in-Err-clause-fault_noted
+returns-in-Err-clause-fault_noted g c = memory_fault_noted _ _ _ _ c.note.result _ _ _ _ _ c.note.ensures

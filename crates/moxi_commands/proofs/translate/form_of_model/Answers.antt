@@ -1,7 +1,8 @@
 use Rattle.std.proofs.Common.{rules, ◌≡◌, ◌≤◌, false, true, length, option_map, inl, inr, sym, ap, ◌∙◌, arith}
 use Rattle.smv_text.specs.View.{plain_source}
 use Rattle.moxi_commands.specs.Trees.{source_of}
-use Rattle.moxi_commands.specs.Translation.{most_tokens, has_no_brackets}
+use Rattle.moxi_commands.specs.Limits.{most_form_tokens}
+use Rattle.moxi_commands.specs.Translation.{has_no_brackets}
 use Rattle.moxi_commands.proofs.Sources.{few_read, accepted_read, refused_read}
 use Rattle.moxi_commands.proofs.translate.form_of_model.Goals as goal
 
@@ -20,12 +21,12 @@ returns-then-not-has_no_brackets-clause-refused c =
 
 pub form_of-requires : goal.form_of-requires
 form_of-requires c =
-    let few : length c.args.tokens.now.items ≤ most_tokens = omega (arith, c.if-len-gt-MOST_TOKENS.false, c.len.ensures) in
+    let few : length c.args.tokens.now.items ≤ most_form_tokens = omega (arith, c.if-len-gt-MOST_TOKENS.false, c.len.ensures) in
     record { few = few_read c.args.bytes.now c.args.tokens.now.items (plain_source c.args.model.now) c.requires.model few }
 
 pub returns-in-Some-clause-accepted : goal.returns-in-Some-clause-accepted
 returns-in-Some-clause-accepted c =
-    let few : length c.args.tokens.now.items ≤ most_tokens = omega (arith, c.if-len-gt-MOST_TOKENS.false, c.len.ensures) in
+    let few : length c.args.tokens.now.items ≤ most_form_tokens = omega (arith, c.if-len-gt-MOST_TOKENS.false, c.len.ensures) in
     let bare : has_no_brackets c.args.tokens.now.items ≡ true = search rules in
     accepted_read c.args.bytes.now c.args.tokens.now.items (plain_source c.args.model.now) (source_of c.in-Some.source) c.requires.model few bare (sym c.in_ok-source.ensures ∙ ap (option_map source_of) c.in-Some.is)
 

@@ -10,7 +10,7 @@ use Rattle.moxi_scripts.specs.Declarations.{body_reading, is_nil, part_failures,
 use Rattle.moxi_scripts.specs.Entries.{entries_of, known_sort, twice_failures}
 use Rattle.moxi_declarations.specs.FunctionView.{function_here}
 use Rattle.moxi_attributes.specs.laws.Collecting.{also_two}
-use Rattle.moxi_scripts.proofs.FunctionLaws.{function_is, nil_is, none_is_nil, own_least, some_each}
+use Rattle.moxi_scripts.proofs.FunctionLaws.{function_is, nil_is, none_is_nil, least_found, some_each}
 use Rattle.moxi_declarations.proofs.functions.define_function.Goals as goal
 
 pub add_whole-requires : goal.add_whole-requires
@@ -52,5 +52,5 @@ returns-clause-finds c =
     let n = a.f.name in
     let pf = part_failures s a.p f in
     let got = c.in_ok-sort.ensures in
-    also_two _ _ _ _ _ c.in_ok-test_names.ensures.finds (c.note.ensures pf (own_least _ pf got.finds))
+    also_two _ _ _ _ _ c.in_ok-test_names.ensures.finds (c.note.ensures pf (least_found _ pf got.finds))
     ∙ ap (λ ds. also a.found.now (((prime_failures n.primed n.place ++ term_name_tests s a.names.now n.name.now n.place) ++ twice_failures [] ds) ++ pf)) got.parameters

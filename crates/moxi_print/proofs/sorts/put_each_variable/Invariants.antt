@@ -1,7 +1,8 @@
-use Rattle.std.proofs.Common.{◌≡◌, ◌++◌, [], drop}
+use Rattle.std.proofs.Common.{◌≡◌, ◌++◌, []}
+use Rattle.std.specs.Slice.Iter.{iter_rest}
 use Rattle.moxi_print.specs.Shown.{parts_text}
 use Rattle.moxi_print.specs.Terms.{shown_variables}
 use Rattle.moxi_print.proofs.sorts.put_each_variable.Given as goal
 
-abbrev pub invariant-loop-i : goal.invariant-loop-i
-invariant-loop-i l = l.out ++ parts_text l.separator (shown_variables l.scope (drop l.i l.variables)) ≡ l.fn.out ++ parts_text [] (shown_variables l.scope l.variables)
+abbrev pub invariant-loop-variable : goal.invariant-loop-variable
+invariant-loop-variable l = l.out ++ parts_text l.separator (shown_variables l.scope (iter_rest l.variable-iterator)) ≡ l.fn.out ++ parts_text [] (shown_variables l.scope l.fn.variables)

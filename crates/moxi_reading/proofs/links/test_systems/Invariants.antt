@@ -5,4 +5,4 @@ use Rattle.moxi_declarations.specs.Views.{plain_reading}
 use Rattle.moxi_reading.proofs.links.test_systems.Given as goal
 
 abbrev pub invariant-loop-r : goal.invariant-loop-r
-invariant-loop-r l = also l.found (systems_failures (map plain_reading l.systems) l.names (map plain_reading (drop l.r-index l.systems))) ≡ also l.fn.found (systems_failures (map plain_reading l.systems) l.names (map plain_reading l.systems))
+invariant-loop-r l = also l.found (systems_failures (map plain_reading l.systems) l.names (map plain_reading (drop l.r-index l.tested))) ≡ also l.fn.found (systems_failures (map plain_reading l.systems) l.names (map plain_reading l.tested))

@@ -9,7 +9,7 @@ use Rattle.moxi_declarations.specs.Views.{plain_check_reading, plain_draft, plai
 use Rattle.moxi_scripts.specs.Collecting.{also}
 use Rattle.moxi_scripts.specs.Script.{PlainScript}
 use Rattle.moxi_scripts.specs.Spelling.{SpellsScript, check_of, reading_of, script_failures, system_of}
-use Rattle.moxi_scripts.proofs.FunctionLaws.{own_least}
+use Rattle.moxi_scripts.proofs.FunctionLaws.{least_found}
 use Rattle.moxi_scripts.proofs.ScriptLaws.{always_there, spells}
 use Rattle.moxi_reading.proofs.read.script_in.Goals as goal
 
@@ -30,7 +30,7 @@ taken fs gs end d found check s e read finds none there logic scope systems chec
 pub returns-in-Some-clause-refused : goal.returns-in-Some-clause-refused
 returns-in-Some-clause-refused c =
     let finds = finds_in _ _ c.args.end c.read_whole_script.new.found c.deref.ensures.value c.in_ok-read_whole_script.ensures.finds in
-    sym (own_least c.read_whole_script.new.found _ finds) ∙ c.in-Some.is
+    sym (least_found c.read_whole_script.new.found _ finds) ∙ c.in-Some.is
 
 pub unreachable-requires : goal.unreachable-requires
 unreachable-requires c =

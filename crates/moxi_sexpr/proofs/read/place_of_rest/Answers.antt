@@ -9,4 +9,4 @@ returns-else-starts_quoted c =
     let text = c.args.text.now in
     let neither : (heads 124 text || heads 34 text) ≡ false = sym c.starts_quoted.ensures ∙ c.if-starts_quoted.false in
     let parts = or_parts (heads 124 text) (heads 34 text) neither in
-    c.further.ensures ∙ sym (token_along c.args.place text c.args.rest.now c.requires.token.0 c.requires.token.1 parts.0 parts.1 c.requires.within)
+    c.along.ensures ∙ sym (token_along c.args.place text c.args.rest.now c.requires.token.0 c.requires.token.1 parts.0 parts.1 c.requires.within)

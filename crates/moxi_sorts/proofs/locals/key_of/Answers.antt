@@ -13,7 +13,7 @@ returns-in_ok-declare-in-None-clause-stacked c bs i =
     let is : fresh ≡ true = c.in_ok-declare-in-None.ensures.fresh ∙ ap is_none none in
     let more : c.declare.new.self ≡ names ++ name ∷ [] = c.in_ok-declare-in-None.ensures.names ∙ ap (λ b. cond b (names ++ name ∷ []) names) is in
     let lasts : c.push.new.self.items ≡ take (length names) c.args.lasts.now.items ++ None ∷ [] =
-    c.in-Ok.ensures.items ∙ ap (λ xs. xs ++ None ∷ []) (c.truncate.ensures.items ∙ ap (λ n. take n c.args.lasts.now.items) c.len-key.ensures) in
+    c.in_ok-push-in-None.ensures.items ∙ ap (λ xs. xs ++ None ∷ []) (c.truncate.ensures.items ∙ ap (λ n. take n c.args.lasts.now.items) c.len-key.ensures) in
     subst (λ n. IsStacked n bs c.push.new.self.items) (sym more) (subst (IsStacked (names ++ name ∷ []) bs) (sym lasts) (stacked_new names bs c.args.lasts.now.items name i none))
 
 pub returns-in_ok-declare-in-None-clause-same : goal.returns-in_ok-declare-in-None-clause-same

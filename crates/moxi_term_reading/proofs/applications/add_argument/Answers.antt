@@ -9,5 +9,5 @@ pub returns : goal.returns
 returns c x y a r = record {
   terms = ap (map plain) c.in_ok-put.ensures ∙ plain_end c.args.args.now.terms.items c.args.r.term ∙ ap (λ ts. ts ++ plain c.args.r.term ∷ []) a.terms ∙ ap (λ t. x.terms ++ t ∷ []) r.term;
   sorts = c.in_ok-args.ensures ∙ ap (λ o. joined o (option_map (λ s. s ∷ []) c.args.r.sort)) a.sorts ∙ ap (λ o. joined x.sorts (option_map (λ s. s ∷ []) o)) r.sort;
-  failure = c.sooner-args.ensures ∙ tests_both c.args.args.now.failure c.args.r.failure x.failures y.failures a.failure r.failure;
+  failure = c.minimum-args.ensures ∙ tests_both c.args.args.now.failure c.args.r.failure x.failures y.failures a.failure r.failure;
 }

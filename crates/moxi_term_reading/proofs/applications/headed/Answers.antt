@@ -18,9 +18,9 @@ returns c x fs a e =
     let test = c.application_test-test.ensures ∙ ap (λ ss. least (argument_tests functions c.args.p h c.count.result (kept args.whole ss))) c.deref-2.ensures.value
     ∙ ap (λ n. least (argument_tests functions c.args.p h n (kept args.whole args.sorts.items))) many ∙ ap (λ ss. least (argument_tests functions c.args.p h (length x.terms) ss)) a.sorts in
     let tests = argument_tests functions c.args.p h (length x.terms) x.sorts in
-    let own = c.sooner-own.ensures ∙ tests_both c.args.primes c.application_test-test.result fs tests e test in
+    let both = c.minimum-tests.ensures ∙ tests_both c.args.primes c.application_test-test.result fs tests e test in
     record {
       term = c.head_term.ensures ∙ ap (λ ts. headed h (trees_of ts)) a.terms;
-      sort = c.unless_failed.ensures ∙ unless_least (fs ++ tests) c.applied_sort-sort.result c.sooner-own.result own ∙ ap (unless_failed (fs ++ tests)) sort;
-      failure = c.sooner.ensures ∙ tests_both args.failure c.sooner-own.result x.failures (fs ++ tests) a.failure own;
+      sort = c.unless_failed.ensures ∙ unless_least (fs ++ tests) c.applied_sort-sort.result c.minimum-tests.result both ∙ ap (unless_failed (fs ++ tests)) sort;
+      failure = c.minimum.ensures ∙ tests_both args.failure c.minimum-tests.result x.failures (fs ++ tests) a.failure both;
     }

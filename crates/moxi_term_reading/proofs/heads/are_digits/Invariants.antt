@@ -1,6 +1,6 @@
 use Rattle.std.proofs.Common.{◌≡◌, drop}
 use Rattle.std.specs.List.{list_all}
-use Rattle.moxi_sexpr.specs.Bytes.{is_digit}
+use Rattle.text_core.specs.Bytes.{is_digit}
 use Rattle.moxi_term_reading.proofs.heads.are_digits.Given as goal
 
 abbrev pub invariant-loop-b : goal.invariant-loop-b

@@ -12,6 +12,6 @@ returns c x y fs e b r =
       locals = c.in_ok-push-2.ensures.ok ∙ ap (λ n. all.locals ++ record { name = n; sort = c.args.r.sort } ∷ []) c.in_ok-of-2.ensures ∙ ap (λ ls. ls ++ record { name = name; sort = c.args.r.sort } ∷ []) b.locals
           ∙ ap (λ s. x.locals ++ record { name = name; sort = s } ∷ []) r.sort;
       terms = ap (map plain) c.in_ok-put.ensures ∙ plain_end all.terms.items c.args.r.term ∙ ap (λ ts. ts ++ plain c.args.r.term ∷ []) b.terms ∙ ap (λ t. x.terms ++ t ∷ []) r.term;
-      shape = c.sooner-all.ensures ∙ tests_both all.shape c.args.primes x.shape fs b.shape e;
-      failure = c.sooner-all-2.ensures ∙ tests_both all.failure c.args.r.failure x.failures y.failures b.failure r.failure;
+      shape = c.minimum-all.ensures ∙ tests_both all.shape c.args.primes x.shape fs b.shape e;
+      failure = c.minimum-all-2.ensures ∙ tests_both all.failure c.args.r.failure x.failures y.failures b.failure r.failure;
     }

@@ -133,7 +133,7 @@ read_let-returns-in_ok-bindings-in-List-clause-read t c =
     let kept : c.read_bindings.new.bounds ≡ b = c.in_ok-bindings-in-List.ensures.kept in
     if_ok_map _ _ c.read_body.result
     (λ r g fs e.
-    let own = c.sooner-own.ensures ∙ tests_both c.args.primes c.some_binding.result fs (bindings_tests q bs) e some in
+    let tests = c.minimum-failure.ensures ∙ tests_both c.args.primes c.some_binding.result fs (bindings_tests q bs) e some in
     subst (λ ts. IsRead (read_let ctx b p fs ts) r) (sym rest)
-    (subst (λ d. IsRead (let_reading (fs ++ bindings_tests q bs) x (read ctx (d ++ x.locals) body)) r) kept (g (fs ++ bindings_tests q bs) x own bound)))
+    (subst (λ d. IsRead (let_reading (fs ++ bindings_tests q bs) x (read ctx (d ++ x.locals) body)) r) kept (g (fs ++ bindings_tests q bs) x tests bound)))
     c.read_body.ensures.read

@@ -14,9 +14,9 @@ loop-n-init c =
     let t = map instance_plain c.args.table.now in
     record {
       within = omega (arith, c.len-n.ensures);
-      starts = first_starts t c.args.i (plain c.args.e.now) c.nothing_kept-marks.result c.mark_body.new.marks c.nothing_kept-marks.ensures c.in_ok-mark_body.ensures;
+      starts = first_starts t c.args.i (plain c.args.e.now) c.nothing_in-marks.result c.mark_body.new.marks c.nothing_in-marks.ensures c.in_ok-mark_body.ensures;
       closed = closed_end t c.args.order.now c.requires.order c.mark_body.new.marks c.len-n.result c.len-n.ensures;
-      least = first_least t c.args.i (plain c.args.e.now) c.nothing_kept-marks.result c.mark_body.new.marks c.nothing_kept-marks.ensures c.in_ok-mark_body.ensures;
+      least = first_least t c.args.i (plain c.args.e.now) c.nothing_in-marks.result c.mark_body.new.marks c.nothing_in-marks.ensures c.in_ok-mark_body.ensures;
     }
 
 pub loop-n-preserved : goal.loop-n-preserved

@@ -1,9 +1,9 @@
-use Rattle.std.proofs.Common.{◌≡◌, true, false, is_some, suc, ◌-◌, Some, None, List, [], ◌∷◌, ◌++◌, refl, sym, ap, ◌∙◌, subst, arith, add-one}
+use Rattle.std.proofs.Common.{◌≡◌, false, is_some, suc, ◌-◌, Some, None, List, [], ◌∷◌, ◌++◌, refl, sym, ap, ◌∙◌, subst, arith, add-one}
 use Rattle.std.proofs.lemmas.Result.{err_from_is_err_and}
 use Rattle.smv_text.specs.declared.token.Sign.TheVariants as sign
 use Rattle.smv_text.specs.declared.tree.Prefix.TheVariants as prefixes
 use Rattle.smv_text.specs.Levels.{all_levels}
-use Rattle.smv_text.specs.Tree.{name, prefix, cases, next, branches_of}
+use Rattle.smv_text.specs.Tree.{prefix, cases, next, branches_of}
 use Rattle.smv_text.specs.Grammar.{start}
 use Rattle.smv_grammar.specs.declared.listing.Listing.TheVariants.{Arguments, Elements}
 use Rattle.smv_grammar.specs.declared.levels.Leader.TheVariants as leader
@@ -11,7 +11,7 @@ use Rattle.smv_expressions.specs.Gathered.{read_of, single}
 use Rattle.smv_grammar.specs.Ranks.{level_at, tightest}
 use Rattle.smv_grammar.specs.Machine.{bare, joined, whole, operand, when, value, signs, bracket, following, listing, condition, result, closing_of, Frame, listed, choice_at, prefix_sign, leader_of, opened, ask, have, signed, open_next, walk}
 use Rattle.std.specs.Bool.{OnTrue}
-use Rattle.smv_grammar.specs.Reading.{after, found, waiting}
+use Rattle.smv_grammar.specs.Reading.{after, waiting}
 use Rattle.smv_expressions.specs.Following.{IsOperand, Passes, Follows}
 use Rattle.smv_expressions.proofs.Capping.{none_so_far}
 use Rattle.smv_expressions.proofs.Keeping.{read_height}
@@ -233,7 +233,7 @@ pub chain-returns-in_err-rest-clause-reads : goal.chain-returns-in_err-rest-clau
 chain-returns-in_err-rest-clause-reads m c t h =
     let q = c.from_residual in
     let p = err_from_is_err_and q.result q.ensures.1 in
-    let from = λ (k : List Frame). have t (operand c.args.joint (tightest c.args.below) c.args.place bare ∷ k) in
+    let from = λ (k : List Frame). have t (operand c.args.class (tightest c.args.below) c.args.place bare ∷ k) in
     let none = c.new-operands.ensures t (read_height c.args.kept.now t h) in
     follows_err _ _ from from c.args.tokens.now c.args.tokens.now _ p.0 _ p.1 p.2 (λ k. (k, refl)) (collects_err _ _ _ _ _ _ _ c.in_err-rest.was (c.gather_operands-answer.ensures.reads c.args.place t none))
 
@@ -251,11 +251,11 @@ pub chain-returns-in_err-chain-clause-reads : goal.chain-returns-in_err-chain-cl
 chain-returns-in_err-chain-clause-reads m c t h =
     let q = c.from_residual-in_err-chain in
     let p = err_from_is_err_and q.result q.ensures.1 in
-    follows_free _ _ (λ k. have t (operand c.args.joint (tightest c.args.below) c.args.place bare ∷ k)) c.args.tokens.now _ p.0 _ p.1 p.2 c.in_err-chain.ensures.free
+    follows_free _ _ (λ k. have t (operand c.args.class (tightest c.args.below) c.args.place bare ∷ k)) c.args.tokens.now _ p.0 _ p.1 p.2 c.in_err-chain.ensures.free
 
 pub gather_operands-loop-op-init : goal.gather_operands-loop-op-init
 gather_operands-loop-op-init m c =
-    let j = c.args.joint in
+    let j = c.args.class in
     let below = tightest c.args.below in
     record {
       reads = λ p t o. ([], o, λ k. operand_goes k below j p bare t c.args.tokens.now);
@@ -264,7 +264,7 @@ gather_operands-loop-op-init m c =
 
 pub gather_operands-loop-op-preserved : goal.gather_operands-loop-op-preserved
 gather_operands-loop-op-preserved m c =
-    let j = c.args.joint in
+    let j = c.args.class in
     let below = tightest c.args.below in
     let l = c.loop-op in
     let op = c.in-Some.op in
@@ -290,7 +290,7 @@ pub gather_operands-returns-in_err-last-clause-reads : goal.gather_operands-retu
 gather_operands-returns-in_err-last-clause-reads m c p t none =
     let q = c.from_residual in
     let e = err_from_is_err_and q.result q.ensures.1 in
-    let j = c.args.joint in
+    let j = c.args.class in
     let below = tightest c.args.below in
     let l = c.loop-op in
     let i = l.invariant.reads p t none in
@@ -300,7 +300,7 @@ gather_operands-returns-in_err-last-clause-reads m c p t none =
 
 pub gather_operands-returns-clause-reads : goal.gather_operands-returns-clause-reads
 gather_operands-returns-clause-reads m c p t none =
-    let j = c.args.joint in
+    let j = c.args.class in
     let below = tightest c.args.below in
     let l = c.loop-op in
     let i = l.invariant.reads p t none in

@@ -75,7 +75,7 @@ abbrev pub invariant-gather_operands-loop-op : goal.invariant-gather_operands-lo
 invariant-gather_operands-loop-op l = record {
   reads : (p : Place) (t : Tree) → AreOperands t [] l.fn.operands
       → (ls : List (Infix × Tree)) × AreOperands t ls l.operands
-      × ((k : List Frame) → walk l.tokens (have t (operand l.joint (tightest l.below) p bare ∷ k)) ≡ chained l.joint (tightest l.below) p (record { first = t; links = ls }) k l.rest);
+      × ((k : List Frame) → walk l.tokens (have t (operand l.class (tightest l.below) p bare ∷ k)) ≡ chained l.class (tightest l.below) p (record { first = t; links = ls }) k l.rest);
   shorter : length l.rest ≤ length l.tokens;
 }
 

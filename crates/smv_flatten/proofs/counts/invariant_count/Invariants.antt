@@ -6,5 +6,5 @@ use Rattle.smv_flatten.proofs.counts.invariant_count.Given as goal
 
 abbrev pub invariant-loop-i : goal.invariant-loop-i
 invariant-loop-i l =
-    l.count + length (over_instances (λ i at. flat_map (element_invariants i) at.plan.elements) l.i (map instance_plain (drop l.i l.table)))
+    l.count + length (over_instances (λ i at. flat_map (element_invariants i) at.module.elements) l.i (map instance_plain (drop l.i l.table)))
     ≡ length (invariants_in (map instance_plain l.table))

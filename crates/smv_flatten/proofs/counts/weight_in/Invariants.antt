@@ -4,4 +4,4 @@ use Rattle.smv_flatten.proofs.counts.weight_in.Given as goal
 
 abbrev pub invariant-loop-i : goal.invariant-loop-i
 invariant-loop-i l =
-    l.weight + sum_by (λ at. at.plan.tokens) (map instance_plain (drop l.i l.table)) ≡ sum_by (λ at. at.plan.tokens) (map instance_plain l.table)
+    l.weight + sum_by (λ at. at.module.tokens) (map instance_plain (drop l.i l.table)) ≡ sum_by (λ at. at.module.tokens) (map instance_plain l.table)

@@ -3,8 +3,8 @@ use Rattle.smv_instances.specs.View.{instance_plain}
 use Rattle.smv_instances.proofs.LeadLemmas.{right_more, deeper_leads}
 use Rattle.smv_instances.proofs.aliases.keep_deeper.Goals as goal
 
-pub returns-in-Ok : goal.returns-in-Ok
-returns-in-Ok c =
+pub returns : goal.returns
+returns c =
     let t = map instance_plain c.args.parts.now in
-    right_more t c.args.leads.now c.keep.new.leads c.args.key.instance c.args.key.name.now c.in_ok-deep.deep c.requires.right
-    (deeper_leads t c.args.key.instance c.args.key.name.now c.args.lead c.in_ok-deep.deep c.in_ok-deep.ensures.depth c.in_ok-deep.ensures.target c.requires.leads) c.in-Ok.ensures
+    right_more t c.args.leads.now c.put_in.new.map c.args.key.instance c.args.key.name.now c.in_ok-deep.deep c.requires.right
+    (deeper_leads t c.args.key.instance c.args.key.name.now c.args.lead c.in_ok-deep.deep c.in_ok-deep.ensures.depth c.in_ok-deep.ensures.target c.requires.leads) c.in_ok-put_in.ensures

@@ -6,4 +6,4 @@ use Rattle.smv_items.proofs.symbols.symbols_in.Given as goal
 
 abbrev pub invariant-loop-i : goal.invariant-loop-i
 invariant-loop-i l =
-    gathered l.symbols (flat_map (λ at. flat_map element_symbols at.plan.elements) (map instance_plain (drop l.i l.table))) ≡ symbols_of (map instance_plain l.table)
+    gathered l.symbols (flat_map (λ at. flat_map element_symbols at.module.elements) (map instance_plain (drop l.i l.table))) ≡ symbols_of (map instance_plain l.table)

@@ -3,7 +3,7 @@ use Rattle.std.proofs.lemmas.List.{nil_from_length, take-append-drop}
 use Rattle.std.proofs.lemmas.Bool.{eqb-true}
 use Rattle.std.proofs.lemmas.Result.{err_from_is_err_and}
 use Rattle.text_core.specs.Places.{after}
-use Rattle.smv_text.specs.Lexing.{Lexes, LexesTo, Refuses, last, more, later, finished, go, opened}
+use Rattle.smv_text.specs.Lexing.{LexesFrom, Lexes, Refuses, last, more, later, finished, go, opened}
 use Rattle.smv_lex.specs.Reading.{behind}
 use Rattle.smv_lex.proofs.Laws.{gap_end, after-append, next_from, refused_from, opened_more, reaches_along}
 use Rattle.smv_lex.proofs.lexing.tokens_of.Goals as goal
@@ -14,7 +14,7 @@ returns-then-is_empty-clause-lexed c =
     let items = c.tokens.tokens.items in
     let none : rest ≡ [] = nil_from_length rest (eqb-true (length rest) 0 (sym c.is_empty.ensures ∙ c.if-is_empty.true)) in
     let s = next_from c.tokens.opened (opened items) c.tokens.place c.tokens.rest.now c.skip_gap.result.0 rest finished c.tokens.invariant.counted c.skip_gap.ensures.place c.skip_gap.ensures.rest (ap (behind c.tokens.opened c.skip_gap.result.0) none) in
-    subst (LexesTo c.args.text.now) (sym c.of.ensures.items) (c.tokens.invariant.lexes items (last s))
+    subst (Lexes c.args.text.now) (sym c.of.ensures.items) (c.tokens.invariant.lexes items (last s))
 
 pub returns-then-is_empty-clause-end : goal.returns-then-is_empty-clause-end
 returns-then-is_empty-clause-end c =
@@ -40,7 +40,7 @@ tokens-preserved c =
     let s = next_from c.tokens.opened (opened items) c.tokens.place c.tokens.rest.now at more_text (go t next rest) c.tokens.invariant.counted c.skip_gap.ensures.place c.skip_gap.ensures.rest (c.in_ok-token.ensures.next ∙ ap (λ x. go t x (drop t.length more_text)) next_is ∙ ap (go t next) (sym c.split_at.ensures.back)) in
     let splits : more_text ≡ c.split_at.result.0.now ++ rest = sym (take-append-drop t.length more_text) ∙ ap (λ x. x ++ drop t.length more_text) (sym c.split_at.ensures.front) ∙ ap (λ x. c.split_at.result.0.now ++ x) (sym c.split_at.ensures.back) in
     record {
-      lexes = λ all h. c.tokens.invariant.lexes all (more t next rest s (subst (λ ts. Lexes ts next rest all) c.in_ok-push.ensures.items h));
+      lexes = λ all h. c.tokens.invariant.lexes all (more t next rest s (subst (λ ts. LexesFrom ts next rest all) c.in_ok-push.ensures.items h));
       refuses = λ why h. c.tokens.invariant.refuses why (later t next rest s (subst (λ ts. Refuses ts next rest why) c.in_ok-push.ensures.items h));
       end_is = sym (ap (after at) splits ∙ after-append at c.split_at.result.0.now rest ∙ ap (λ p. after p rest) (sym c.after-place.ensures)) ∙ gap_end c.tokens.place c.tokens.rest.now at more_text c.skip_gap.ensures.place c.skip_gap.ensures.rest ∙ c.tokens.invariant.end_is;
       reaches = reaches_along more_text c.split_at.result.0.now rest at next splits c.after-place.ensures c.skip_gap.ensures.reaches;

@@ -1,6 +1,6 @@
 use Rattle.std.proofs.Common.{◌≡◌, ◌+◌, length}
 use Rattle.smv_text.specs.Bytes.{front_length}
-use Rattle.smv_text.specs.Numbers.{is_unmarked}
+use Rattle.smv_lex.specs.Reading.{is_unmarked}
 use Rattle.smv_lex.proofs.numbers.width_length.Given as goal
 
 abbrev pub invariant-loop-b : goal.invariant-loop-b

@@ -1,5 +1,6 @@
 use Rattle.std.proofs.Common.{sym, ap, ◌∙◌}
-use Rattle.smv_text.specs.Keywords.{keywords, look_up}
+use Rattle.smv_text.specs.Bytes.{look_up}
+use Rattle.smv_text.specs.Keywords.{keywords}
 use Rattle.smv_lex.proofs.Keywords.{found_same_length}
 use Rattle.smv_lex.proofs.words.keyword_of.Goals as goal
 

@@ -1,7 +1,8 @@
 use Rattle.std.proofs.Common.{ℕ, eqb, List, length, sym, ap, arith}
 use Rattle.std.specs.List.{filter}
 use Rattle.std.proofs.lemmas.Bool.Decides.{nat_tests}
-use Rattle.smv_text.specs.Keywords.{Keyword, keywords}
+use Rattle.smv_text.specs.Keywords.{keywords}
+use Rattle.smv_lex.specs.Reading.{Keyword}
 use Rattle.smv_lex.proofs.Keywords.{none_of_size}
 use Rattle.smv_lex.proofs.words.keywords_of.Goals as goal
 

@@ -1,5 +1,6 @@
 use Rattle.std.proofs.Common.{◌≡◌, drop, map}
-use Rattle.smv_text.specs.Keywords.{look_up, row}
+use Rattle.smv_text.specs.Bytes.{look_up}
+use Rattle.smv_lex.specs.Reading.{row}
 use Rattle.smv_lex.proofs.words.look_up.Given as goal
 
 abbrev pub invariant-loop-bytes : goal.invariant-loop-bytes

@@ -1,7 +1,7 @@
 use Rattle.std.proofs.Common.{map}
 use Rattle.smv_instances.specs.View.{instance_plain}
-use Rattle.smv_model_types.specs.Row.{row_seen, Right}
+use Rattle.smv_model_types.specs.Entries.{entries_seen, Right}
 use Rattle.smv_model_types.proofs.variables.variables_of.Given as goal
 
 abbrev pub invariant-loop-i : goal.invariant-loop-i
-invariant-loop-i l = Right (map instance_plain l.table) (row_seen l.row)
+invariant-loop-i l = Right (map instance_plain l.table) (entries_seen l.entries)

@@ -6,5 +6,5 @@ use Rattle.smv_names.proofs.invariants.invariants_checked.Given as goal
 
 abbrev pub invariant-loop-i : goal.invariant-loop-i
 invariant-loop-i l =
-    l.missing - length (over_instances (λ i at. flat_map (element_invariants i) at.plan.elements) l.i (map instance_plain (drop l.i l.table)))
+    l.missing - length (over_instances (λ i at. flat_map (element_invariants i) at.module.elements) l.i (map instance_plain (drop l.i l.table)))
     ≡ l.needed + 1 - length (invariants_in (map instance_plain l.table))

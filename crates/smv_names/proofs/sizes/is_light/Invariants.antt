@@ -5,5 +5,5 @@ use Rattle.smv_names.proofs.sizes.is_light.Given as goal
 abbrev pub invariant-loop-part : goal.invariant-loop-part
 invariant-loop-part l = record {
   light : l.weight ≤ 200000;
-  rest : l.weight + sum_by (λ at. at.plan.tokens) (map instance_plain (drop l.part-index l.parts)) ≡ sum_by (λ at. at.plan.tokens) (map instance_plain l.parts);
+  rest : l.weight + sum_by (λ at. at.module.tokens) (map instance_plain (drop l.part-index l.parts)) ≡ sum_by (λ at. at.module.tokens) (map instance_plain l.parts);
 }

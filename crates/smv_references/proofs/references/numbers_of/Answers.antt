@@ -6,5 +6,5 @@ use Rattle.smv_references.proofs.references.numbers_of.Goals as goal
 
 pub loop-k-preserved : goal.loop-k-preserved
 loop-k-preserved c = λ i x.
-    with_formula c.args.formulas.now c.loop-k.k (length c.args.formulas.now) (read c.args.formulas.now c.loop-k.k) i x (named_in c.loop-k.numbers i x) (named_in c.put_first.new.children i x)
+    with_formula c.args.formulas.now c.loop-k.k (length c.args.formulas.now) (read c.args.formulas.now c.loop-k.k) i x (named_in c.loop-k.numbers i x) (named_in c.put_first.new.numbers i x)
     refl c.loop-k-test.true (get_or_default c.args.formulas.now c.loop-k.k _ _ c.loop-k-test.true) (c.loop-k.invariant i x) (c.in_ok-put_first.ensures i x)

@@ -16,7 +16,7 @@ invariant_of-self-2 c =
     let b : Binding = record { key = c.in_ok-key.key; before = c.index-before.result.now; sort = c.args.local.now.sort } in
     let place : place_of names c.bytes.result.now ≡ Some c.in_ok-key.key = c.in_ok-key.ensures.key in
     let number : c.len-count.result ≡ length bs = c.len-count.ensures ∙ ap length (sym c.self.view_is) ∙ locals_long s.names bs in
-    let pushed : c.push.new.self.items ≡ bs ++ b ∷ [] = c.in-Ok.ensures.items in
+    let pushed : c.push.new.self.items ≡ bs ++ b ∷ [] = c.in_ok-push.ensures.items in
     subst (λ xs. IsStacked names xs (slice_set lasts c.in_ok-key.key (Some c.len-count.result))) (sym pushed)
     (stacked_bind names bs lasts i c.bytes.result.now b c.len-count.result place (before_read names bs lasts c.bytes.result.now c.in_ok-key.key c.index-before.result.now i place c.index-before.ensures) number)
 
@@ -26,7 +26,7 @@ returns c =
     let names = c.key_of.new.names in
     let bs = s.bindings.items in
     let b : Binding = record { key = c.in_ok-key.key; before = c.index-before.result.now; sort = c.args.local.now.sort } in
-    let pushed : c.push.new.self.items ≡ bs ++ b ∷ [] = c.in-Ok.ensures.items in
+    let pushed : c.push.new.self.items ≡ bs ++ b ∷ [] = c.in_ok-push.ensures.items in
     ap (locals_in names) pushed ∙ bound_locals names bs b c.bytes.result.now c.in_ok-key.ensures.key
     ∙ ap (λ ls. ls ++ record { name = c.bytes.result.now; sort = b.sort } ∷ []) (c.in_ok-key.ensures.same bs c.self.invariant ∙ c.self.view_is)
     ∙ ap (λ n. c.args.self.now ++ record { name = n; sort = b.sort } ∷ []) c.bytes.ensures

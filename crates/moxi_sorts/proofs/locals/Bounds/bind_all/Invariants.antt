@@ -1,5 +1,6 @@
-use Rattle.std.proofs.Common.{◌≡◌, ◌++◌, take}
+use Rattle.std.proofs.Common.{◌≡◌, ◌++◌}
+use Rattle.std.specs.Slice.Iter.{iter_rest}
 use Rattle.moxi_sorts.proofs.locals.Bounds.bind_all.Given as goal
 
-abbrev pub invariant-loop-i : goal.invariant-loop-i
-invariant-loop-i l = l.self ≡ l.initial.self ++ take l.i l.names
+abbrev pub invariant-loop-local : goal.invariant-loop-local
+invariant-loop-local l = l.self ++ iter_rest l.local-iterator ≡ l.initial.self ++ l.names

@@ -5,31 +5,31 @@ use Rattle.moxi_sorts.specs.declared.locals.Local.{Local}
 use Rattle.moxi_sorts.proofs.FindingLaws.{indexed_front, indexed_more, kept_names}
 use Rattle.moxi_sorts.proofs.locals.Locals.add.Goals as goal
 
-pub invariant_of-self-in-Ok-push : goal.invariant_of-self-in-Ok-push
-invariant_of-self-in-Ok-push c =
+pub invariant_of-self-in-Ok : goal.invariant_of-self-in-Ok
+invariant_of-self-in-Ok c =
     let s = c.self.inside in
     let x : Local = record { name = c.args.name; sort = c.args.sort } in
     let fresh = c.in_ok-declare.field-0 in
     let name : c.bytes.result.now ≡ c.args.name = c.bytes.ensures in
     let firsts : c.push.new.self.items ≡ take (length s.names) s.firsts.items ++ length s.locals ∷ [] =
-    c.in-Ok.ensures.items ∙ ap (λ xs. xs ++ c.len-number.result ∷ []) (c.truncate.ensures.items ∙ ap (λ n. take n s.firsts.items) c.len-before.ensures)
+    c.in_ok-push.ensures.items ∙ ap (λ xs. xs ++ c.len-number.result ∷ []) (c.truncate.ensures.items ∙ ap (λ n. take n s.firsts.items) c.len-before.ensures)
     ∙ ap (λ n. take (length s.names) s.firsts.items ++ n ∷ []) c.len-number.ensures in
     let is : fresh ≡ is_none (place_of s.names c.args.name) = c.in_ok-declare.ensures.fresh ∙ ap (λ n. is_none (place_of s.names n)) name in
     let names : c.declare.new.self ≡ cond fresh (s.names ++ c.args.name ∷ []) s.names = c.in_ok-declare.ensures.names ∙ ap (λ n. cond fresh (s.names ++ n ∷ []) s.names) name in
     let few : length s.locals < 2 ^ 32 - 1 = subst (λ l. length l < 2 ^ 32 - 1) (sym c.self.view_is) c.requires.room in
-    let locals : c.push-2.new.self ≡ s.locals ++ x ∷ [] = c.in-Ok-push.ensures.ok in
+    let locals : c.push-2.new.self ≡ s.locals ++ x ∷ [] = c.in-Ok.ensures.ok in
     subst (λ l. IsIndexed l c.declare.new.self c.push.new.self.items) (sym locals)
     (subst (λ n. IsIndexed (s.locals ++ x ∷ []) n c.push.new.self.items) (sym names)
     (subst (IsIndexed (s.locals ++ x ∷ []) (cond fresh (s.names ++ c.args.name ∷ []) s.names)) (sym firsts) (indexed_more s.locals s.names s.firsts.items x fresh c.self.invariant few is)))
 
-pub invariant_of-self-in-Err-push : goal.invariant_of-self-in-Err-push
-invariant_of-self-in-Err-push c =
+pub invariant_of-self-in-Err : goal.invariant_of-self-in-Err
+invariant_of-self-in-Err c =
     let s = c.self.inside in
     let fresh = c.in_ok-declare.field-0 in
     let firsts : c.push.new.self.items ≡ take (length s.names) s.firsts.items ++ c.len-number.result ∷ [] =
-    c.in-Ok.ensures.items ∙ ap (λ xs. xs ++ c.len-number.result ∷ []) (c.truncate.ensures.items ∙ ap (λ n. take n s.firsts.items) c.len-before.ensures) in
+    c.in_ok-push.ensures.items ∙ ap (λ xs. xs ++ c.len-number.result ∷ []) (c.truncate.ensures.items ∙ ap (λ n. take n s.firsts.items) c.len-before.ensures) in
     let names : c.keep.new.self ≡ s.names = c.keep.ensures ∙ kept_names s.names c.declare.new.self c.bytes.result.now fresh c.len-before.result c.in_ok-declare.ensures.names c.len-before.ensures in
-    let locals : c.push-2.new.self ≡ s.locals = c.in-Err-push.ensures.err in
+    let locals : c.push-2.new.self ≡ s.locals = c.in-Err.ensures.err in
     subst (λ l. IsIndexed l c.keep.new.self c.push.new.self.items) (sym locals)
     (subst (λ n. IsIndexed s.locals n c.push.new.self.items) (sym names)
     (subst (IsIndexed s.locals s.names) (sym firsts) (indexed_front s.locals s.names s.firsts.items (c.len-number.result ∷ []) c.self.invariant)))

@@ -1,0 +1,10 @@
+use Rattle.std.proofs.Common.{map, ap}
+use Rattle.std.specs.Prelude.{option_map}
+use Rattle.smv_instances.specs.View.{instance_plain}
+use Rattle.smv_types.specs.View.{named_seen}
+use Rattle.smv_model_types.specs.Entries.{entries_seen}
+use Rattle.smv_model_types.proofs.Filling.{none_right}
+use Rattle.smv_model_types.proofs.variables.variables_of.Goals as goal
+
+pub loop-i-init : goal.loop-i-init
+loop-i-init c = none_right (map instance_plain c.args.table.now) (entries_seen c.nothing_in-entries.result) (λ i x. ap (option_map named_seen) (c.nothing_in-entries.ensures i x))

@@ -1,0 +1,92 @@
+-- What names are to the types, as the entries have them.
+use Rattle.std.specs.Prelude.{◌≡◌, ℕ, Bool, true, false, if◌then◌else◌, List, [], ◌∷◌, Option, Some, None, option_map, is_some}
+use Rattle.std.specs.Borrow.{Bor}
+use Rattle.std.specs.HashMap.{HashMap}
+use Rattle.smv_text.specs.declared.tree.Path.{Path}
+use Rattle.smv_meaning.specs.Instances.{Instance}
+use Rattle.smv_meaning.specs.Types.{symbol_type}
+use Rattle.smv_meaning.specs.Names.{Local, alias, formula, variable_of, nothing, local, variable_at, body_at, is_end, look, steps_of, symbol_or_none}
+use Rattle.smv_meaning.specs.Checks.{Named}
+use Rattle.smv_meaning.specs.Naming.{unnamed, named_found}
+use Rattle.smv_meaning.specs.Phases.{Formula, formula_same}
+use Rattle.smv_meaning.specs.Settled.{is_formula, types_in}
+use Rattle.smv_meaning.specs.Formulas.{instance_within}
+use Rattle.smv_instances.specs.NameMap.{named_in}
+use Rattle.smv_meaning.specs.Orders.{is_listed}
+use Rattle.smv_types.specs.declared.names.Named.{Named as Kept}
+use Rattle.smv_types.specs.View.{named_seen}
+
+-- by instance and name
+abbrev pub Entries : Type 0
+Entries = ℕ → List ℕ → Option Named
+
+abbrev pub entries_seen : {S : Type 0} → HashMap (ℕ × Bor (List ℕ)) Kept S → Entries
+entries_seen m i x = option_map named_seen (named_in m i x)
+
+abbrev pub nameless : ℕ → Path → Named
+nameless i path = unnamed
+
+abbrev pub named_instance : Named
+named_instance = record { type = None; is_instance = true; reaches_input = false }
+
+abbrev pub named_symbol : Named
+named_symbol = record { type = Some symbol_type; is_instance = false; reaches_input = false }
+
+-- what the entries have for a name; a variable is known without it
+abbrev pub entry_or : Local → Option Named → Named
+entry_or l (Some n) = n
+entry_or (variable_of kind d) None = named_found true nameless (variable_at [] kind d)
+entry_or l None = unnamed
+
+abbrev pub entries_step : Option ℕ → Bool → Named → (ℕ → Named) → Named
+entries_step (Some c) at_end n go = go c
+entries_step None at_end n go = if at_end then n else unnamed
+
+abbrev pub entries_walk : List Instance → Entries → ℕ → List (List ℕ) → Named
+entries_walk t entries i [] = named_instance
+entries_walk t entries i (x ∷ rest) =
+    entries_step (instance_within (look t (steps_of t) i x)) (is_end rest) (entry_or (local t i x) (entries i x)) (λ c. entries_walk t entries c rest)
+
+abbrev pub entries_single : List Instance → Entries → ℕ → List ℕ → Local → Named
+entries_single t entries i x nothing = named_found true nameless (symbol_or_none t x)
+entries_single t entries i x known = entries_walk t entries i (x ∷ [])
+
+abbrev pub entries_through : List Instance → Entries → ℕ → List (List ℕ) → Named
+entries_through t entries i (x ∷ []) = entries_single t entries i x (local t i x)
+entries_through t entries i xs = entries_walk t entries i xs
+
+-- what a path is, by the entries
+abbrev pub entries_names : List Instance → Entries → ℕ → Path → Named
+entries_names t entries i path = if path.from_self then entries_walk t entries i path.names else entries_through t entries i path.names
+
+-- the entries have what each path is
+abbrev pub HasEach : List Instance → Entries → Type 0
+HasEach t entries = (i : ℕ) (path : Path) → entries_names t entries i path ≡ types_in true t i path
+
+-- ---- how the entries are filled
+
+-- what is put into the entries for a name
+abbrev pub put_for : List Instance → Entries → Local → Option Named
+put_for t entries (alias j path) = Some (entries_names t entries j path)
+put_for t entries (formula j e) = Some (named_found true (entries_names t entries) (body_at 0 [] j e))
+put_for t entries l = None
+
+abbrev pub variable_put : Local → Option Named
+variable_put (variable_of kind d) = Some (named_found true nameless (variable_at [] kind d))
+variable_put l = None
+
+abbrev pub or_else : Option Named → Option Named → Option Named
+or_else (Some n) other = Some n
+or_else None other = other
+
+-- the entries with what is put into them under a name
+abbrev pub Becomes : Entries → Formula → Option Named → Entries → Type 0
+Becomes old k o new = (j : ℕ) (y : List ℕ) → new j y ≡ (if formula_same k (j, y) then or_else o (old j y) else old j y)
+
+-- what the entries have is right
+abbrev pub Right : List Instance → Entries → Type 0
+Right t entries = (i : ℕ) (x : List ℕ) (n : Named) → entries i x ≡ Some n → n ≡ named_found true (types_in true t) (look t (steps_of t) i x)
+
+-- the entries have those of the list that are definitions and actuals
+abbrev pub Has : List Instance → Entries → List Formula → Type 0
+Has t entries ks = (k : Formula) → is_listed ks k ≡ true → is_formula (local t k.0 k.1) ≡ true → is_some (entries k.0 k.1) ≡ true

@@ -1,0 +1,2 @@
+-- What the definitions have to do with one another.
+pub mod Operators

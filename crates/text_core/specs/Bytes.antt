@@ -1,0 +1,6 @@
+-- Bytes that more than one language's lexer asks for.
+use Rattle.std.specs.Prelude.{◌&&◌, ℕ, Bool, nat_le}
+
+-- 0 to 9
+abbrev pub is_digit : ℕ → Bool
+is_digit b = nat_le 48 b && nat_le b 57
