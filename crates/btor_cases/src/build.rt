@@ -3,7 +3,7 @@ ghost use Rattle.std.specs.Prelude.{◌≡◌, IfOk};
 ghost use Rattle.btor_tree.specs.Fits.{sort_at, width_at};
 
 use btor_print::print_btor;
-use btor_tree::{Args, Builder, GREATEST_ID, LineOp, Nodes, has_word};
+use btor_tree::{Args, GREATEST_ID, LineOp, Nodes, NumberedLines, has_word};
 use case_text::{Answer, Fault, Stop, small_number};
 use std::alloc::Global;
 use text_core::{Name, NoMemory};
@@ -54,10 +54,10 @@ fn copied_symbol(alloc: Global, symbol: &Option<Name>) -> Result<Option<Name>, N
 }
 
 /// The same lines, made one by one; their ids have to be 1, 2, 3 and so on.
-pub fn rebuilt(alloc: Global, nodes: &Nodes) -> Result<Builder, Fault>
+pub fn rebuilt(alloc: Global, nodes: &Nodes) -> Result<NumberedLines, Fault>
     ensures { IfOk result (λ builder. builder ≡ nodes.now) }
 {
-    let mut builder = Builder::new(alloc);
+    let mut builder = NumberedLines::new(alloc);
     for i in 0..nodes.len() {
         let line = nodes.at(i);
         if line.id as usize != i + 1 {
@@ -83,7 +83,7 @@ pub fn put_sort(alloc: Global, out: &mut Answer, nodes: &Nodes, row: &[u8]) -> R
     put_sort_asked(out, &mut builder, row)
 }
 
-fn put_sort_asked(out: &mut Answer, builder: &mut Builder, row: &[u8]) -> Result<(), Stop> {
+fn put_sort_asked(out: &mut Answer, builder: &mut NumberedLines, row: &[u8]) -> Result<(), Stop> {
     let width = small_number(row)?;
     if width < 1 || width > WIDEST || builder.len() >= GREATEST_ID as usize {
         return Err(Stop::from("a width or a list that is too large"));
@@ -130,7 +130,7 @@ pub fn put_widths(alloc: Global, out: &mut Answer, nodes: &Nodes) -> Result<(), 
     put_all_widths(out, nodes, &builder)
 }
 
-fn put_all_widths(out: &mut Answer, nodes: &Nodes, builder: &Builder) -> Result<(), Stop>
+fn put_all_widths(out: &mut Answer, nodes: &Nodes, builder: &NumberedLines) -> Result<(), Stop>
     requires { builder.now ≡ nodes.now }
 {
     for i in 0..nodes.len() {

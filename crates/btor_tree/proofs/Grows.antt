@@ -1,9 +1,9 @@
 -- Lists of lines that grow at their end.
-use Rattle.std.proofs.Common.{◌≡◌, ℕ, zero, suc, ◌+◌, Bool, true, false, cond, take, ◌<◌, ◌≤◌, List, [], ◌∷◌, ◌++◌, length, Some, refl, sym, ap, ◌∙◌, subst, arith, inl, inr, ◌⊎◌}
+use Rattle.std.proofs.Common.{◌≡◌, ℕ, zero, suc, ◌+◌, Bool, true, false, cond, take, ◌<◌, ◌≤◌, List, [], ◌∷◌, ◌++◌, length, get_or, Some, refl, sym, ap, ◌∙◌, subst, arith, inl, inr, ◌⊎◌}
 use Rattle.std.specs.Prelude.{slice_get}
 use Rattle.std.proofs.lemmas.Bool.{cases_lt}
-use Rattle.std.proofs.lemmas.Option.{same_Some, none-some}
-use Rattle.std.proofs.lemmas.List.{take-append-le, take_all}
+use Rattle.std.proofs.lemmas.Option.{same_Some, none-some, slice_get-get_or}
+use Rattle.std.proofs.lemmas.List.{take-append-le, take_all, length-take}
 use Rattle.btor_tree.specs.declared.lines.Line.{Line}
 use Rattle.btor_tree.specs.declared.lines.LineOp.{LineOp}
 use Rattle.word_core.specs.Words.{BitVector}
@@ -113,6 +113,19 @@ pub count_push : (kind : LineOp → Bool) (lines : List Line) (line : Line) → 
 count_push kind [] line = omega arith
 count_push kind (l ∷ ls) line = omega (arith, count_push kind ls line)
 
+count_next : (kind : LineOp → Bool) (lines : List Line) (i : ℕ) (l : Line) → slice_get lines i ≡ Some l → count_of kind (take (suc i) lines) ≡ count_of kind (take i lines) + cond (kind l.op) 1 0
+count_next kind lines i l h = ap (count_of kind) (take_push lines i l h) ∙ count_push kind (take i lines) l
+
+-- what a loop over a list holds at its index
+pub item_at : {X : Type 0} (xs ys : List X) (i : ℕ) (x : X) → ys ≡ xs → x ≡ get_or ys i x → i < length ys → slice_get xs i ≡ Some x
+item_at xs ys i x e h lt = ap (λ zs. slice_get zs i) (sym e) ∙ slice_get-get_or ys i x lt ∙ ap Some (sym h)
+
+pub count_step : (kind : LineOp → Bool) (lines : List Line) (i n m : ℕ) (l : Line) → slice_get lines i ≡ Some l → n ≡ count_of kind (take i lines) → m ≡ cond (kind l.op) 1 0 → n + m ≡ count_of kind (take (i + 1) lines)
+count_step kind lines i n m l h a b =
+    let next : i + 1 ≡ suc i = omega arith in
+    let e : count_of kind (take (i + 1) lines) ≡ count_of kind (take (suc i) lines) = ap (λ k. count_of kind (take k lines)) next in
+    omega (arith, a, b, e, count_next kind lines i l h)
+
 one_at_most : (b : Bool) → cond b 1 0 ≤ 1
 one_at_most true = omega arith
 one_at_most false = omega arith
@@ -123,6 +136,11 @@ count_short kind (l ∷ ls) = omega (arith, count_short kind ls, one_at_most (ki
 
 pub counts_small : (kind : LineOp → Bool) (lines : List Line) → IsWellFormed lines → count_of kind lines ≤ greatest_id
 counts_small kind lines w = omega (arith, count_short kind lines, lines_short lines w)
+
+-- so many lines of a kind are few, also among the first ones
+pub count_few : (kind : LineOp → Bool) (lines : List Line) (i n m : ℕ) (l : Line) → IsWellFormed lines → slice_get lines i ≡ Some l → n ≡ count_of kind (take i lines) → m ≡ cond (kind l.op) 1 0 → n + m ≤ greatest_id
+count_few kind lines i n m l w h a b =
+    omega (arith, count_step kind lines i n m l h a b, count_short kind (take (i + 1) lines), length-take (i + 1) lines, lines_short lines w)
 
 pub empty_well_formed : IsWellFormed []
 empty_well_formed = record { by_line = λ i l h. absurd (none-some l h) }

@@ -1,7 +1,10 @@
 pub mod Grows
+pub mod Alike
 pub mod Sorts
 pub mod Words
 pub mod Widths
+pub mod Keyed
+pub mod Equations
 pub mod Rows
 pub mod Paths
 pub mod Numerals

@@ -1,6 +1,8 @@
 pub mod Fits
 pub mod Frame
 pub mod Held
+pub mod Sharing
+pub mod LineKeys
 pub mod Parts
 pub mod Bytes
 pub mod Shapes

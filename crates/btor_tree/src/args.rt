@@ -5,7 +5,7 @@ use std::alloc::Global;
 use text_core::{List, NoMemory};
 
 /// An earlier line by its place, counted from 0, or the bitwise not of its word.
-#[derive(Clone, Copy, PartialEq, Eq)]
+#[derive(Clone, Copy, PartialEq, Eq, PartialOrd, Ord)]
 pub struct Arg {
     pub line: u32,
     pub negated: bool,

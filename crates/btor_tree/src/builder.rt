@@ -1,38 +1,43 @@
-// A list of lines that numbers them 1, 2, 3 and so on, with one sort line for each width.
-ghost use Rattle.std.specs.Prelude.{◌≡◌, ◌+◌, ◌<◌, ◌≤◌, [], ◌∷◌, ◌++◌, length, IfOk, OnErr};
-ghost use Rattle.btor_tree.specs.Fits.{Suits, IsWellFormed, SortIsAt, sort_at, sort_of, sort_place, width_at};
-ghost use Rattle.btor_tree.specs.Held.{noted};
+// A list of lines that numbers them 1, 2, 3 and so on, with one line for all that say the same.
+ghost use Rattle.std.specs.Prelude.{◌≡◌, ◌+◌, ◌<◌, ◌≤◌, [], ◌^◌, length, IfOk, OnErr};
+ghost use Rattle.std.specs.BTreeMap.{IsUnchanged, get};
+ghost use Rattle.btor_tree.specs.Fits.{Suits, IsWellFormed, last_id, sort_at, sort_of, width_at};
+ghost use Rattle.btor_tree.specs.LineKeys.{Enters, EntersKey, Puts, place_in};
+ghost use Rattle.btor_tree.specs.Sharing.{HasNoTwoAlike, pushed, with_sort};
 
 use crate::args::Args;
+use crate::line_key::{LineKey, line_key};
 use crate::lines::{GREATEST_ID, Line, LineOp, sort_width};
 use crate::nodes::Nodes;
 use std::alloc::Global;
+use std::collections::BTreeMap;
+use std::collections::btree_map::Entry;
 use std::marker::Model;
 use text_core::{Name, NoMemory};
 use word_core::WIDEST;
 
-// How many widths there are.
-const WIDTHS: usize = WIDEST as usize;
-
-/// Lines with the ids 1, 2, 3 and so on, seen as the list of those made so far.
+/// Lines with the ids 1, 2, 3 and so on, seen as the list of those made so far. No two sorts, constants or operators in it
+/// say the same: a line says its word with its numbers, its sort and its arguments, whatever its symbol is.
 #[derive(Drop)]
 pub struct Builder {
-    nodes: Nodes,
+    lines: Vec<Line>,
+    places: BTreeMap<LineKey, u32>,
     alloc: Global,
-    sorts: [Option<u32>; WIDTHS],
 }
 
 impl Model for Builder {
     ghost use Rattle.std.specs.Prelude.{List};
     ghost use Rattle.btor_tree.specs.declared.lines.Line.{Line};
     ghost use Rattle.btor_tree.specs.Fits.{IsWellFormed};
-    ghost use Rattle.btor_tree.specs.Held.{IsNumbered, HasSorts};
+    ghost use Rattle.btor_tree.specs.Held.{IsNumbered};
+    ghost use Rattle.btor_tree.specs.LineKeys.{HasPlaces};
+    ghost use Rattle.btor_tree.specs.Sharing.{HasNoTwoAlike};
 
     ghost Value = { List Line };
 
-    ghost view = { λ a. a.nodes };
+    ghost view = { λ a. a.lines.items };
 
-    ghost invariant = { λ a. IsWellFormed a.nodes × IsNumbered a.nodes × HasSorts a.nodes a.sorts };
+    ghost invariant = { λ a. IsWellFormed a.lines.items × IsNumbered a.lines.items × HasNoTwoAlike a.lines.items × HasPlaces a.lines.items a.places };
 }
 
 impl Builder {
@@ -41,14 +46,14 @@ impl Builder {
         ensures { result ≡ [] }
     {
         Builder {
-            nodes: Nodes::new(alloc),
+            lines: Vec::new(alloc),
+            places: BTreeMap::new(alloc),
             alloc,
-            sorts: [None; WIDTHS],
         }
     }
 
-    /// Adds a line whose id is one more than the number of lines so far, and answers its place. The lines stay as they
-    /// are where it is refused.
+    /// The place of the sort, constant or operator line that says this already, or else of a new line at the end, whose id is
+    /// one more than the number of lines so far. The lines stay as they are where it is refused.
     pub fn push(
         &mut self,
         op: LineOp,
@@ -58,38 +63,39 @@ impl Builder {
     ) -> Result<u32, NoMemory>
         requires room { length self.old < GREATEST_ID }
         requires fits { Suits self.old op sort args symbol }
-        ensures line { IfOk result (λ p. (p ≡ length self.old) × (self.new ≡ self.old ++ record { id = length self.old + 1; op = op; sort = sort; args = args; symbol = symbol } ∷ [])) }
+        ensures line { IfOk result (λ p. (self.new, p) ≡ pushed self.old op sort args symbol) }
         ensures refused { OnErr result (self.new ≡ self.old) }
         ensures well_formed { IsWellFormed self.new }
+        ensures numbered { last_id self.new ≡ length self.new }
+        ensures distinct { HasNoTwoAlike self.new }
     {
-        let place = self.nodes.len() as u32;
-        let width = sort_width(&op);
-        self.nodes.add(Line {
+        let place = self.lines.len() as u32;
+        let line = Line {
             id: place + 1,
             op,
             sort,
             args,
             symbol,
-        })?;
-        note_sort(&mut self.sorts, width, place);
-        Ok(place)
+        };
+        let key = line_key(&line.op, line.sort, &line.args);
+        put_line(&mut self.lines, &mut self.places, key, line)
     }
 
-    /// The place of the first sort line of this width, which is added where there is none. The lines stay as they are
-    /// where it is refused.
+    /// The place of the sort line of this width, which is made at the first need. The lines stay as they are where it is
+    /// refused.
     pub fn sort(&mut self, width: u32) -> Result<u32, NoMemory>
         requires room { length self.old < GREATEST_ID }
         requires least { 1 ≤ width }
         requires most { width ≤ WIDEST }
-        ensures place { IfOk result (λ p. SortIsAt (sort_place self.old width) self.old width p self.new) }
+        ensures line { IfOk result (λ p. (self.new, p) ≡ with_sort self.old width) }
         ensures width { IfOk result (λ p. sort_at self.new p ≡ width) }
         ensures refused { OnErr result (self.new ≡ self.old) }
         ensures well_formed { IsWellFormed self.new }
+        ensures numbered { last_id self.new ≡ length self.new }
+        ensures distinct { HasNoTwoAlike self.new }
     {
-        match self.sorts[width as usize - 1] {
-            Some(place) => Ok(place),
-            None => self.push(LineOp::Sort(width), 0, Args::new(self.alloc), None),
-        }
+        let none = Args::new(self.alloc);
+        self.push(LineOp::Sort(width), 0, none, None)
     }
 
     /// The place of the sort line of the line at a place. The caller owes a line that has a word.
@@ -98,7 +104,7 @@ impl Builder {
         ensures place { result ≡ sort_of self.now line }
         ensures width { sort_at self.now result ≡ width_at self.now line }
     {
-        self.nodes.at(line as usize).sort
+        self.lines[line as usize].sort
     }
 
     /// How many lines there are so far.
@@ -106,7 +112,7 @@ impl Builder {
         ensures value { result ≡ length self.now }
         ensures well_formed { IsWellFormed self.now }
     {
-        self.nodes.len()
+        self.lines.len()
     }
 
     /// The width of the word of the line at a place. The caller owes a line of a kind that has a word.
@@ -114,25 +120,80 @@ impl Builder {
         requires { 1 ≤ width_at self.now line }
         ensures { result ≡ width_at self.now line }
     {
-        self.nodes.width_of(line)
+        let sort = self.lines[line as usize].sort;
+        sort_width(&self.lines[sort as usize].op)
     }
 
     /// The lines made so far.
     pub fn done(self) -> Nodes
         ensures lines { result ≡ self }
         ensures well_formed { IsWellFormed self }
+        ensures distinct { HasNoTwoAlike self }
     {
-        self.nodes
+        Nodes::of_lines(self.lines)
     }
 }
 
-// Enters the place of a sort line of this width, where the table has none. A width of 0 is of no sort line.
-fn note_sort(sorts: &mut [Option<u32>; WIDTHS], width: u32, place: u32)
-    requires { width ≤ WIDEST }
-    ensures { sorts.new ≡ noted sorts.old width place }
+// The value that the map has for a key, or none, and then it takes the new value for it. It stays as it is where it has one, or
+// where it is refused.
+fn enter_key<K: Ord + Drop>(
+    places: &mut BTreeMap<K, u32>,
+    key: K,
+    place: u32,
+) -> Result<Option<u32>, NoMemory>
+    ensures found { IfOk result (λ found. found ≡ get K.cmp places.old key) }
+    ensures entered { IfOk result (λ found. EntersKey K.cmp found key place places.old places.new) }
+    ensures refused { OnErr result (IsUnchanged places.old places.new) }
 {
-    if width > 0 {
-        let i = width as usize - 1;
-        sorts[i] = sorts[i].or(Some(place));
+    match places.entry(key) {
+        Ok(Entry::Occupied(there)) => Ok(Some(*there.get())),
+        Ok(Entry::Vacant(room)) => {
+            room.insert(place);
+            Ok(None)
+        }
+        Err(_) => Err(NoMemory),
+    }
+}
+
+// The same for what may not be shared: the map has no place for it and takes none.
+fn enter_place(
+    places: &mut BTreeMap<LineKey, u32>,
+    key: Option<LineKey>,
+    place: u32,
+) -> Result<Option<u32>, NoMemory>
+    ensures found { IfOk result (λ found. found ≡ place_in places.old key) }
+    ensures entered { IfOk result (λ found. Enters found key place places.old places.new) }
+    ensures refused { OnErr result (IsUnchanged places.old places.new) }
+{
+    match key {
+        None => Ok(None),
+        Some(key) => enter_key(places, key, place),
+    }
+}
+
+// The place of the line that says this already, or else of this line, added at the end. Lines and places stay as they are where
+// it is refused.
+fn put_line(
+    lines: &mut Vec<Line>,
+    places: &mut BTreeMap<LineKey, u32>,
+    key: Option<LineKey>,
+    line: Line,
+) -> Result<u32, NoMemory>
+    requires { length lines.old.items < 2 ^ 32 }
+    ensures put { IfOk result (λ p. Puts (place_in places.old key) key line lines.old.items places.old p lines.new.items places.new) }
+    ensures lines_stay { OnErr result (lines.new.items ≡ lines.old.items) }
+    ensures places_stay { OnErr result (IsUnchanged places.old places.new) }
+{
+    // First the list makes its room, so that it takes the line without growing once the map has the place.
+    if lines.reserve(1).is_err() {
+        return Err(NoMemory);
+    }
+    let place = lines.len() as u32;
+    if let Some(there) = enter_place(places, key, place)? {
+        return Ok(there);
+    }
+    match lines.push(line) {
+        Ok(()) => Ok(place),
+        Err(_) => Err(NoMemory),
     }
 }

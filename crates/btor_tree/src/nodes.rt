@@ -42,6 +42,27 @@ impl Nodes {
         }
     }
 
+    /// The list of these lines.
+    pub(crate) fn of_lines(lines: Vec<Line>) -> Nodes
+        requires { IsWellFormed lines.items }
+        ensures { result ≡ lines.items }
+    {
+        let mut inputs = 0;
+        let mut states = 0;
+        let mut bads = 0;
+        for line in lines.iter() {
+            inputs += one_where(is_input(&line.op));
+            states += one_where(is_state(&line.op));
+            bads += one_where(is_bad(&line.op));
+        }
+        Nodes {
+            items: lines,
+            inputs,
+            states,
+            bads,
+        }
+    }
+
     /// Adds a line at the end, and leaves the list unchanged where it is refused.
     #[tactic(auto, using(crate::proofs::Grows::well_formed_push, crate::proofs::Grows::count_push, crate::proofs::Grows::counts_small))]
     pub fn add(&mut self, line: Line) -> Result<(), NoMemory>
@@ -50,9 +71,9 @@ impl Nodes {
         ensures err { OnErr result (self.new ≡ self.old) }
         ensures well_formed { IsWellFormed self.new }
     {
-        let inputs = self.inputs + one_where(matches!(line.op, LineOp::Input));
-        let states = self.states + one_where(matches!(line.op, LineOp::State));
-        let bads = self.bads + one_where(matches!(line.op, LineOp::Bad));
+        let inputs = self.inputs + one_where(is_input(&line.op));
+        let states = self.states + one_where(is_state(&line.op));
+        let bads = self.bads + one_where(is_bad(&line.op));
         self.items.push(line)?;
         self.inputs = inputs;
         self.states = states;
@@ -105,6 +126,24 @@ impl Nodes {
         let sort = self.items[line as usize].sort;
         sort_width(&self.items[sort as usize].op)
     }
+}
+
+fn is_input(op: &LineOp) -> bool
+    ensures { result ≡ is_input op.now }
+{
+    matches!(op, LineOp::Input)
+}
+
+fn is_state(op: &LineOp) -> bool
+    ensures { result ≡ is_state op.now }
+{
+    matches!(op, LineOp::State)
+}
+
+fn is_bad(op: &LineOp) -> bool
+    ensures { result ≡ is_bad op.now }
+{
+    matches!(op, LineOp::Bad)
 }
 
 // One where it is so, else nothing.

@@ -9,7 +9,8 @@ use crate::forms::forms_of;
 use crate::scripts::{given_script, query_named};
 use crate::values::push_values;
 use case_text::{Answer, Piece, Stop, given};
-use moxi_scripts::{Queries, Script};
+use moxi_attributes::parts_of;
+use moxi_scripts::{Formulas, Queries, Script};
 use moxi_sexpr::{Atom, Form, FormShape};
 use moxi_sorts::symbol_of;
 use moxi_systems::query_failing;
@@ -18,8 +19,8 @@ use std::alloc::Global;
 use text_core::Clause;
 use word_core::read_digits;
 
-/// Appends the first clause that fails of what a query asks of a step, in a row such as `q at 0 of 1 (x true)`: the query, the
-/// step, the last step, and the values of the check's variables.
+/// Appends the first clause that fails of what a query asks of a step, in a row such as `q at 1 of 1 after (r) (x true)`: the
+/// query, the step, the last step, the reachable formulas that were true before, and the values of the check's variables.
 pub fn put_failing(alloc: Global, out: &mut Answer, pieces: &[Piece]) -> Result<(), Stop> {
     let script = given_script(alloc, pieces)?;
     let clause = failing_in_row(alloc, &script, pieces);
@@ -41,12 +42,34 @@ fn failing_in_row(
 }
 
 fn failing_in(alloc: Global, script: &Script, row: &[Form]) -> Result<Option<Clause>, Stop> {
-    let [query, _, step, _, last, entries @ ..] = row else {
+    let [query, _, step, _, last, _, reached, entries @ ..] = row else {
         return Err(Stop::from("a row without a step"))
     };
     let number = query_of(&script.check.queries, query)?;
+    let before = marks_of(alloc, &script.check.reachables, reached)?;
     let now = check_values(alloc, script, entries)?;
-    failing_at(alloc, script, number, step, last, &now)
+    failing_at(alloc, script, number, step, last, &before, &now)
+}
+
+// A mark for each formula, where the list has its name.
+fn marks_of(alloc: Global, formulas: &Formulas, list: &Form) -> Result<Vec<bool>, Stop> {
+    let names = parts_of(list).ok_or("no list of formulas")?;
+    let mut marks = Vec::new(alloc);
+    for formula in formulas {
+        marks.push(has_symbol(names, formula.name.bytes()))?;
+    }
+    Ok(marks)
+}
+
+fn has_symbol(forms: &[Form], name: &[u8]) -> bool {
+    forms.iter().any(|form| is_symbol(form, name))
+}
+
+fn is_symbol(form: &Form, name: &[u8]) -> bool {
+    match symbol_of(form) {
+        Some((symbol, _)) => symbol == name,
+        None => false,
+    }
 }
 
 // The number of the query that a form names.
@@ -64,6 +87,7 @@ fn failing_at(
     query: u32,
     step: &Form,
     last: &Form,
+    before: &[bool],
     now: &Env,
 ) -> Result<Option<Clause>, Stop>
     requires there { query < length script.now.check.queries }
@@ -71,7 +95,7 @@ fn failing_at(
 {
     let step = step_of(step)?;
     let last = step_of(last)?;
-    Ok(query_failing(alloc, script, query, step, last, now)?)
+    Ok(query_failing(alloc, script, query, step, last, before, now)?)
 }
 
 // The values that entries give the check's variables.

@@ -135,8 +135,7 @@ fn put_query(out: &mut Answer, query: &Query) {
     put_name(out, query.name.bytes());
     put_list(out, b": assumptions", &query.assumptions);
     put_list(out, b", current", &query.currents);
-    out.put(b", reachable ");
-    out.put_unsigned(u128::from(query.reachable));
+    put_list(out, b", reachable", &query.reachables);
 }
 
 fn put_list(out: &mut Answer, name: &[u8], numbers: &Numbers) {

@@ -1,7 +1,7 @@
 // Traces of scripts over truth values: do they behave, and do they meet a query at their last step?
 use crate::behaving::behaves;
 use crate::scripts::{given_script, query_named};
-use crate::truths::{Steps, always, begins, ends};
+use crate::truths::{Steps, always, begins, ends, ever};
 use case_text::{Answer, Piece, Stop, given, words};
 use moxi_scripts::{Check, Formulas, Query, Script};
 use moxi_terms::Term;
@@ -94,7 +94,8 @@ fn meets(alloc: Global, check: &Check, query: &Query, steps: &Steps) -> Result<b
     Ok(
         are_assumed(alloc, &check.assumptions, &query.assumptions, steps)?
             && are_current(alloc, &check.currents, &query.currents, steps)?
-            && is_reached(alloc, &check.reachables, query.reachable, steps)?,
+            && are_reached(alloc, &check.reachables, &query.reachables, steps)?
+            && one_ends(alloc, &check.reachables, &query.reachables, steps)?,
     )
 }
 
@@ -128,14 +129,34 @@ fn are_current(
     Ok(true)
 }
 
-// The formula of this number is true at the last step.
-fn is_reached(
+// The formulas of these numbers are each true at some step.
+fn are_reached(
     alloc: Global,
     formulas: &Formulas,
-    number: u32,
+    numbers: &Numbers,
     steps: &Steps,
 ) -> Result<bool, Stop> {
-    ends(alloc, formula_at(formulas, u64::from(number))?, steps)
+    for number in numbers {
+        if !ever(alloc, formula_at(formulas, *number)?, steps)? {
+            return Ok(false);
+        }
+    }
+    Ok(true)
+}
+
+// One of the formulas of these numbers is true at the last step.
+fn one_ends(
+    alloc: Global,
+    formulas: &Formulas,
+    numbers: &Numbers,
+    steps: &Steps,
+) -> Result<bool, Stop> {
+    for number in numbers {
+        if ends(alloc, formula_at(formulas, *number)?, steps)? {
+            return Ok(true);
+        }
+    }
+    Ok(false)
 }
 
 // The formula of this number.

@@ -74,6 +74,16 @@ pub fn always(alloc: Global, formula: &Term, steps: &Steps) -> Result<bool, Stop
     Ok(true)
 }
 
+/// Is the formula true at some step?
+pub fn ever(alloc: Global, formula: &Term, steps: &Steps) -> Result<bool, Stop> {
+    for step in steps {
+        if value(alloc, formula, step, step)? {
+            return Ok(true);
+        }
+    }
+    Ok(false)
+}
+
 /// Is the formula true between each two steps?
 pub fn between(alloc: Global, formula: &Term, steps: &Steps) -> Result<bool, Stop> {
     for pair in steps.windows(2) {

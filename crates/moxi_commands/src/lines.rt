@@ -10,7 +10,7 @@ ghost use Rattle.moxi_commands.specs.Matching.{StandsFor};
 ghost use Rattle.moxi_commands.specs.Stands.{Ready, Stands, AllStand, HasInputs, HaveInputs};
 
 use crate::formula::{BooleanFormula, BooleanModel};
-use btor_tree::{Builder, LineOp, Nodes, one_arg, plain_arg, two_args};
+use btor_tree::{LineOp, Nodes, NumberedLines, one_arg, plain_arg, two_args};
 use std::alloc::Global;
 use text_core::{List, Name, Names, NoMemory};
 use word_core::{Binary, Unary};
@@ -51,7 +51,7 @@ fn variable_symbol(alloc: Global, name: &Name, ending: &[u8]) -> Result<Name, No
 }
 
 // The six lines that come first.
-fn put_first(alloc: Global, builder: &mut Builder) -> Result<(), NoMemory>
+fn put_first(alloc: Global, builder: &mut NumberedLines) -> Result<(), NoMemory>
     requires { builder.old ≡ [] }
     ensures { OnOk result (builder.new ≡ spec.first_lines) }
 {
@@ -68,7 +68,7 @@ fn put_first(alloc: Global, builder: &mut Builder) -> Result<(), NoMemory>
 }
 
 // The three lines of a variable.
-fn put_variable(alloc: Global, builder: &mut Builder, name: &Name) -> Result<(), NoMemory>
+fn put_variable(alloc: Global, builder: &mut NumberedLines, name: &Name) -> Result<(), NoMemory>
     requires room { length builder.old + 3 ≤ greatest_id }
     requires ready { Ready builder.old }
     ensures { OnOk result (builder.new ≡ spec.with_variable builder.old name.now) }
@@ -83,7 +83,7 @@ fn put_variable(alloc: Global, builder: &mut Builder, name: &Name) -> Result<(),
 }
 
 // The lines of the variables.
-fn put_variables(alloc: Global, builder: &mut Builder, names: &Names) -> Result<(), NoMemory>
+fn put_variables(alloc: Global, builder: &mut NumberedLines, names: &Names) -> Result<(), NoMemory>
     requires room { length builder.old + 3 * length names.now ≤ greatest_id }
     requires first { builder.old ≡ spec.first_lines }
     ensures { OnOk result (builder.new ≡ spec.with_variables builder.old names.now) }
@@ -95,7 +95,7 @@ fn put_variables(alloc: Global, builder: &mut Builder, names: &Names) -> Result<
 }
 
 // The `not` of the line at a place.
-fn put_not(alloc: Global, builder: &mut Builder, place: u32) -> Result<u32, NoMemory>
+fn put_not(alloc: Global, builder: &mut NumberedLines, place: u32) -> Result<u32, NoMemory>
     requires room { length builder.old < greatest_id }
     requires stands { Stands (spec.made builder.old place) }
     ensures { IfOk result (λ p. spec.made builder.new p ≡ spec.with_not (spec.made builder.old place)) }
@@ -107,7 +107,7 @@ fn put_not(alloc: Global, builder: &mut Builder, place: u32) -> Result<u32, NoMe
 // The sign `!`, so many times.
 fn put_signs(
     alloc: Global,
-    builder: &mut Builder,
+    builder: &mut NumberedLines,
     count: u32,
     operand: u32,
 ) -> Result<u32, NoMemory>
@@ -123,7 +123,12 @@ fn put_signs(
 }
 
 // The `and` of the lines at two places.
-fn put_and(alloc: Global, builder: &mut Builder, left: u32, right: u32) -> Result<u32, NoMemory>
+fn put_and(
+    alloc: Global,
+    builder: &mut NumberedLines,
+    left: u32,
+    right: u32,
+) -> Result<u32, NoMemory>
     requires room { length builder.old < greatest_id }
     requires left { Stands (spec.made builder.old left) }
     requires right { Stands (spec.made builder.old right) }
@@ -136,7 +141,7 @@ fn put_and(alloc: Global, builder: &mut Builder, left: u32, right: u32) -> Resul
 // A chain's own lines, from the left.
 fn put_ands(
     alloc: Global,
-    builder: &mut Builder,
+    builder: &mut NumberedLines,
     first: u32,
     places: &[u32],
 ) -> Result<u32, NoMemory>
@@ -156,7 +161,7 @@ fn put_ands(
 #[cycle(formulas)]
 fn put_formulas(
     alloc: Global,
-    builder: &mut Builder,
+    builder: &mut NumberedLines,
     formulas: &[BooleanFormula],
 ) -> Result<Vec<u32>, NoMemory>
     requires room { length builder.old + spec.sizes (formulas_of (map plain formulas.now)) ≤ greatest_id }
@@ -178,7 +183,7 @@ fn put_formulas(
 #[cycle(formulas)]
 fn put_formula(
     alloc: Global,
-    builder: &mut Builder,
+    builder: &mut NumberedLines,
     formula: &BooleanFormula,
 ) -> Result<u32, NoMemory>
     requires room { length builder.old + spec.size (plain formula.now) ≤ greatest_id }
@@ -201,7 +206,7 @@ fn put_formula(
 }
 
 // The negation of the line at a place, and the bad line of that.
-fn put_bad(alloc: Global, builder: &mut Builder, place: u32) -> Result<(), NoMemory>
+fn put_bad(alloc: Global, builder: &mut NumberedLines, place: u32) -> Result<(), NoMemory>
     requires room { length builder.old + 2 ≤ greatest_id }
     requires stands { Stands (spec.made builder.old place) }
     ensures { OnOk result (builder.new ≡ spec.with_bad (spec.made builder.old place)) }
@@ -221,7 +226,7 @@ pub fn lines_of(alloc: Global, source: &BooleanModel) -> Result<Nodes, NoMemory>
     ensures lines { IfOk result (λ nodes. nodes ≡ spec.lines_of (source_of source.now)) }
     ensures well_formed { IfOk result (λ nodes. IsWellFormed nodes) }
 {
-    let mut builder = Builder::new(alloc);
+    let mut builder = NumberedLines::new(alloc);
     put_first(alloc, &mut builder)?;
     put_variables(alloc, &mut builder, &source.names)?;
     let place = put_formula(alloc, &mut builder, &source.invariant)?;

@@ -1,5 +1,6 @@
 // The queries of a check.
-ghost use Rattle.std.specs.Prelude.{◌≡◌, ◌++◌, ◌∷◌, [], IfOk, OnOk, is_some, slice_index_or};
+ghost use Rattle.std.specs.Prelude.{◌≡◌, ◌++◌, ◌∷◌, [], IfOk, OnOk, if◌then◌else◌, is_some, not};
+ghost use Rattle.digraph.specs.Graph.{are_distinct, is_in};
 ghost use Rattle.moxi_sexpr.specs.Tree.{no_trees, plain, plain_forms, tree};
 ghost use Rattle.moxi_sorts.specs.Forms.{place_in, symbol_of};
 ghost use Rattle.moxi_scripts.specs.declared.parts.Turn.TheVariants as turns;
@@ -9,10 +10,11 @@ ghost use Rattle.moxi_attributes.specs.Views.{plain_labels, named_here};
 ghost use Rattle.moxi_scripts.specs.QueryReading.{all_queries_failures, is_bad_query, list_failures, forms_among, names_after};
 ghost use Rattle.moxi_scripts.specs.QueryReading.{names_with_queries, names_with_query, no_names, queries_after, queries_among};
 ghost use Rattle.moxi_scripts.specs.QueryReading.{queries_failures, queries_in, query_failures, query_forms, query_of};
-ghost use Rattle.moxi_scripts.specs.QueryReading.{query_with, symbol_tests, symbols_failures, with_number, with_prime};
+ghost use Rattle.moxi_scripts.specs.QueryReading.{query_with, some_distinct, symbol_tests, symbols_failures, with_number, with_prime};
 ghost use Rattle.moxi_scripts.specs.QueryReading.{with_symbol};
 ghost use Rattle.moxi_scripts.specs.Shapes.{parts_of};
 
+use indexmap::IndexSet;
 use moxi_attributes::{
     Labels, Named, both, fail, fail_if, fail_primed, is_behind, misshapen, named_form, parts_of,
     place_of, refuse, turn_after,
@@ -123,22 +125,54 @@ fn read_names(
     Ok(symbols)
 }
 
-fn is_bad_query(ls: &Labels, q: &QueryNames) -> bool
-    ensures { result ≡ is_bad_query (plain_labels ls.now) q.now }
+// Puts a number to others, and says whether it is new.
+fn put_number(numbers: &mut IndexSet<u64>, number: u64) -> Result<bool, NoMemory>
+    ensures fresh { IfOk result (λ fresh. fresh ≡ not (is_in numbers.old.keys number)) }
+    ensures keys { IfOk result (λ fresh. numbers.new.keys ≡ (if fresh then numbers.old.keys ++ number ∷ [] else numbers.old.keys)) }
 {
-    ls.whole && !q.primed && !(q.known && q.reachables.len() == 1)
-}
-
-fn first_of(numbers: &Numbers) -> Result<u32, NoMemory>
-    ensures { IfOk result (λ n. n ≡ slice_index_or numbers.now 0 0) }
-{
-    if numbers.len() == 0 {
-        return Ok(0);
-    }
-    match u32::try_from(*numbers.at(0)) {
-        Ok(n) => Ok(n),
+    match numbers.insert_full(number) {
+        Ok((_, fresh)) => Ok(fresh),
         Err(_) => Err(NoMemory),
     }
+}
+
+// Does no number stand twice? From the last on, so that each is compared with those behind it.
+fn are_distinct(alloc: Global, numbers: &Numbers) -> Result<bool, NoMemory>
+    ensures { IfOk result (λ distinct. distinct ≡ are_distinct numbers.now) }
+{
+    let mut seen = IndexSet::new(alloc);
+    let mut k = numbers.len();
+    while k > 0 {
+        k -= 1;
+        if !put_number(&mut seen, *numbers.at(k))? {
+            return Ok(false);
+        }
+    }
+    Ok(true)
+}
+
+// Most queries name one reachable formula, and take no memory here.
+#[tactic(auto, using(crate::proofs::NumberLaws::few_distinct, crate::proofs::NumberLaws::many_distinct))]
+fn are_some_distinct(alloc: Global, numbers: &Numbers) -> Result<bool, NoMemory>
+    ensures { IfOk result (λ some. some ≡ some_distinct numbers.now) }
+{
+    if numbers.len() < 2 {
+        return Ok(numbers.len() == 1);
+    }
+    are_distinct(alloc, numbers)
+}
+
+fn is_bad_query(alloc: Global, ls: &Labels, q: &QueryNames) -> Result<bool, NoMemory>
+    ensures { IfOk result (λ bad. bad ≡ is_bad_query (plain_labels ls.now) q.now) }
+{
+    if !ls.whole || q.primed {
+        return Ok(false);
+    }
+    if !q.known {
+        return Ok(true);
+    }
+    let named = are_some_distinct(alloc, &q.reachables)?;
+    Ok(!named)
 }
 
 // The names of a query in a list at q.
@@ -163,7 +197,7 @@ fn read_query_list(
             let mut q = no_names(alloc);
             let symbols = read_names(ls, parts, &mut q, found)?;
             fail_if(found, !symbols, moxi::ARITY, place_of(n.form));
-            let bad = is_bad_query(ls, &q);
+            let bad = is_bad_query(alloc, ls, &q)?;
             fail_if(found, both(symbols, bad), moxi::QUERY_FORM, p);
             add_query(alloc, n.name, q, queries)?;
             Ok(())
@@ -179,12 +213,11 @@ fn add_query(
 ) -> Result<(), NoMemory>
     ensures { OnOk result (queries.new ≡ queries.old ++ query_with name.now q ∷ []) }
 {
-    let reachable = first_of(&q.reachables)?;
     queries.push(Query {
         name: Name::of(alloc, name)?,
         assumptions: q.assumptions,
         currents: q.currents,
-        reachable,
+        reachables: q.reachables,
     })?;
     Ok(())
 }

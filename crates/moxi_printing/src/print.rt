@@ -106,7 +106,7 @@ fn put_script(alloc: Global, out: &mut Text, script: &Script) -> Result<(), NoMe
 
 /// Writes each command of a script on a line of its own: the logic where there is one, the enumerations, the defined sorts,
 /// the functions, the systems and the check (MoXI, SPIN 2024). A system's lists and formulas stand always, and a query names
-/// its assumptions, its current conditions and then its reachable formula.
+/// its assumptions, its current conditions and then its reachable formulas.
 pub fn print_script(alloc: Global, script: &Script) -> Result<Text, NoMemory>
     ensures printed { IfOk result (λ text. text ≡ lines_text (shown_script (plain_script script.now))) }
     // What is printed is read again as the script, where no more brackets stand open than may be read.

@@ -89,7 +89,7 @@ fn query_names<'a>(
     let mut names = Vec::new(alloc);
     push_names_of(&mut names, assumptions, &query.assumptions)?;
     push_names_of(&mut names, currents, &query.currents)?;
-    push(&mut names, name_in(reachables, query.reachable as u64))?;
+    push_names_of(&mut names, reachables, &query.reachables)?;
     Ok(names)
 }
 
@@ -171,7 +171,7 @@ fn put_conditions(
 }
 
 /// Appends `(check-system S ..)`, given the names of all systems. Its lists stand always, and each query is an attribute of
-/// its own, with its names in the order assumptions, currents, reachable formula.
+/// its own, with its names in the order assumptions, currents, reachable formulas.
 #[tactic(auto, using(crate::proofs::Pieces::pieces))]
 pub fn put_check(
     alloc: Global,

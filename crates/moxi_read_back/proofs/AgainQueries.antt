@@ -92,7 +92,7 @@ one_symbol ls q r s name more t ts h e n =
 abbrev AreBelow : ℕ → List ℕ → Type 0
 AreBelow n xs = AllByRecursion (λ (i : ℕ). i < n) xs
 
--- the assumptions, and then the currents
+-- the assumptions, then the currents, then the reachable formulas
 assumptions_numbered : (fs gs hs : List PlainFormula) (xs ys ns : List ℕ) (more : List (List ℕ)) (ts : form.Trees) → AreThree (formula_names fs) (formula_names gs) (formula_names hs) → AreBelow (length (formula_names fs)) ns
     → ShowEach ts (shown_symbols (names_of (formula_names fs) ns ++ more)) → AreNumbered (made_labels fs gs hs) (numbered xs ys []) (numbered (xs ++ ns) ys []) more ts
 assumptions_numbered fs gs hs xs ys [] more ts three b h = record { forms = ts; show = h; after = ap (λ xs. query.names_after (made_labels fs gs hs) (numbered xs ys []) ts) (sym (append-nil xs)); pass = refl; symbols = refl }
@@ -116,33 +116,47 @@ currents_numbered fs gs hs xs ys (n ∷ ns) more (form.tree t ts) three b h =
     ∙ ap (λ o. query.with_number (numbered xs ys []) None o (place_of (formula_names hs) name)) (three.second n b.0).1)
     (subst (λ zs. AreNumbered ls (numbered xs (ys ++ n ∷ []) []) (numbered xs zs []) more ts) (append_assoc ys (n ∷ []) ns) (currents_numbered fs gs hs xs (ys ++ n ∷ []) ns more ts three b.1 h.1))
 
+reachables_numbered : (fs gs hs : List PlainFormula) (xs ys zs ns : List ℕ) (more : List (List ℕ)) (ts : form.Trees) → AreThree (formula_names fs) (formula_names gs) (formula_names hs) → AreBelow (length (formula_names hs)) ns
+    → ShowEach ts (shown_symbols (names_of (formula_names hs) ns ++ more)) → AreNumbered (made_labels fs gs hs) (numbered xs ys zs) (numbered xs ys (zs ++ ns)) more ts
+reachables_numbered fs gs hs xs ys zs [] more ts three b h = record { forms = ts; show = h; after = ap (λ zs. query.names_after (made_labels fs gs hs) (numbered xs ys zs) ts) (sym (append-nil zs)); pass = refl; symbols = refl }
+reachables_numbered fs gs hs xs ys zs (n ∷ ns) more form.no_trees three b h = absurd h
+reachables_numbered fs gs hs xs ys zs (n ∷ ns) more (form.tree t ts) three b h =
+    let ls = made_labels fs gs hs in
+    let name = name_at (formula_names hs) n in
+    let places = three.third n b.0 in
+    one_symbol ls (numbered xs ys zs) (numbered xs ys (zs ++ n ∷ [])) (numbered xs ys (zs ++ n ∷ ns)) name more t ts h.0
+    (ap (λ o. query.with_number (numbered xs ys zs) o (place_of (formula_names gs) name) (place_of (formula_names hs) name)) places.0
+    ∙ ap (λ o. query.with_number (numbered xs ys zs) None o (place_of (formula_names hs) name)) places.1
+    ∙ ap (λ o. query.with_number (numbered xs ys zs) None None o) places.2)
+    (subst (λ ws. AreNumbered ls (numbered xs ys (zs ++ n ∷ [])) (numbered xs ys ws) more ts) (append_assoc zs (n ∷ []) ns) (reachables_numbered fs gs hs xs ys (zs ++ n ∷ []) ns more ts three b.1 h.1))
+
 -- QUERIES
 
 record AreNames (fs gs hs : List PlainFormula) (q : Query) (ts : form.Trees) : Type 0 where
-  pub after : query.names_after (made_labels fs gs hs) query.no_names ts ≡ numbered q.assumptions q.currents (q.reachable ∷ [])
+  pub after : query.names_after (made_labels fs gs hs) query.no_names ts ≡ numbered q.assumptions q.currents q.reachables
   pub pass : query.symbols_failures ts ≡ []
   pub symbols : are_symbols ts ≡ true
+
+-- where nothing is shown, there are no forms
+shows_none : (ts : form.Trees) → ShowEach ts (shown_symbols []) → ts ≡ form.no_trees
+shows_none form.no_trees h = refl
+shows_none (form.tree t ts) h = absurd h
 
 names_read : (fs gs hs : List PlainFormula) (q : Query) (ts : form.Trees) → AreThree (formula_names fs) (formula_names gs) (formula_names hs)
     → IsWholeQuery (length (formula_names fs)) (length (formula_names gs)) (length (formula_names hs)) q
     → ShowEach ts (shown_symbols (query_names (formula_names fs) (formula_names gs) (formula_names hs) q)) → AreNames fs gs hs q ts
 names_read fs gs hs q ts three w h =
     let ls = made_labels fs gs hs in
-    let name = name_at (formula_names hs) q.reachable in
-    let a = assumptions_numbered fs gs hs [] [] q.assumptions (names_of (formula_names gs) q.currents ++ name ∷ []) ts three w.assumptions_there h in
-    let b = currents_numbered fs gs hs q.assumptions [] q.currents (name ∷ []) a.forms three w.currents_there a.show in
-    let c = shape.is_one b.forms (symbol name) b.show in
-    let d = shape.is_part c.0 (Symbol name false) c.2 in
-    let is : b.forms ≡ form.tree (form.atom d.0 (Symbol name false)) form.no_trees = c.1 ∙ ap (λ t. form.tree t form.no_trees) d.1 in
-    let places = three.third q.reachable w.reachable_there in
-    let so_far = numbered q.assumptions q.currents [] in
+    let names = names_of (formula_names hs) q.reachables in
+    let a = assumptions_numbered fs gs hs [] [] q.assumptions (names_of (formula_names gs) q.currents ++ names) ts three w.assumptions_there h in
+    let b = currents_numbered fs gs hs q.assumptions [] q.currents names a.forms three w.currents_there a.show in
+    let all : names ≡ names ++ [] = sym (append-nil names) in
+    let c = reachables_numbered fs gs hs q.assumptions q.currents [] q.reachables [] b.forms three w.reachables_there (subst (λ ns. ShowEach b.forms (shown_symbols ns)) all b.show) in
+    let none : c.forms ≡ form.no_trees = shows_none c.forms c.show in
     record {
-      after =
-          a.after ∙ b.after ∙ ap (query.names_after ls so_far) is
-          ∙ ap (λ o. query.with_number so_far o (place_of (formula_names gs) name) (place_of (formula_names hs) name)) places.0
-          ∙ ap (λ o. query.with_number so_far None o (place_of (formula_names hs) name)) places.1 ∙ ap (λ o. query.with_number so_far None None o) places.2;
-      pass = a.pass ∙ b.pass ∙ ap query.symbols_failures is;
-      symbols = a.symbols ∙ b.symbols ∙ ap are_symbols is;
+      after = a.after ∙ b.after ∙ c.after ∙ ap (query.names_after ls (numbered q.assumptions q.currents q.reachables)) none;
+      pass = a.pass ∙ b.pass ∙ c.pass ∙ ap query.symbols_failures none;
+      symbols = a.symbols ∙ b.symbols ∙ c.symbols ∙ ap are_symbols none;
     }
 
 record IsReadQuery (fs gs hs : List PlainFormula) (q : Query) (t : form.Tree) : Type 0 where
@@ -168,7 +182,8 @@ query_read fs gs hs q t three w h =
           ∙ ap (query.list_failures ls (place_in t) nf) l.is
           ∙ ap (λ xs. (xs ++ fails_if (not (are_symbols l.parts)) 12 (place_in n.form)) ++ fails_if (are_symbols l.parts && query.is_bad_query ls (query.names_after ls query.no_names l.parts)) 14 (place_in t)) r.pass
           ∙ ap (λ b. fails_if (not b) 12 (place_in n.form) ++ fails_if (b && query.is_bad_query ls (query.names_after ls query.no_names l.parts)) 14 (place_in t)) r.symbols
-          ∙ ap (λ x. fails_if (query.is_bad_query ls x) 14 (place_in t)) r.after;
+          ∙ ap (λ x. fails_if (query.is_bad_query ls x) 14 (place_in t)) r.after
+          ∙ ap (λ b. fails_if (not b) 14 (place_in t)) w.reachables_differ;
       names_then = λ before new. ap (query.names_with_named before) n.is ∙ ap (λ b. cond b (before ++ q.name ∷ []) before) new;
       listed = n.listed;
     }

@@ -1,5 +1,6 @@
--- The queries of a check, `(q (name ..))`: each names any assumptions and currents, and one reachable formula once.
-use Rattle.std.specs.Prelude.{◌==◌, ℕ, Bool, true, false, not, ◌&&◌, ◌||◌, is_none, if◌then◌else◌, Option, None, Some, List, [], ◌∷◌, ◌++◌, length, slice_index_or}
+-- The queries of a check, `(q (name ..))`: each names any assumptions and currents, and one or more reachable formulas, each once.
+use Rattle.std.specs.Prelude.{ℕ, Bool, true, false, not, ◌&&◌, ◌||◌, is_none, if◌then◌else◌, Option, None, Some, List, [], ◌∷◌, ◌++◌}
+use Rattle.digraph.specs.Graph.{are_distinct}
 use Rattle.text_core.specs.declared.place.Place.{Place}
 use Rattle.text_core.specs.declared.place.Refusal.{Refusal}
 use Rattle.moxi_sexpr.specs.Lexing.{refusal}
@@ -49,12 +50,17 @@ symbols_failures (tree t ts) = symbol_tests (place_in t) (symbol_of t) ++ symbol
 abbrev pub no_names : QueryNames
 no_names = record { assumptions = []; currents = []; reachables = []; known = true; primed = false }
 
+-- one or more numbers, none of which stands twice
+abbrev pub some_distinct : List ℕ → Bool
+some_distinct [] = false
+some_distinct (n ∷ ns) = are_distinct (n ∷ ns)
+
 -- the test of what a query names holds where a name is primed or a formula hasn't its shape
 abbrev pub is_bad_query : FormulaLists → QueryNames → Bool
-is_bad_query ls q = (ls.whole && not q.primed) && not (q.known && (length q.reachables == 1))
+is_bad_query ls q = (ls.whole && not q.primed) && not (q.known && some_distinct q.reachables)
 
 abbrev pub query_with : List ℕ → QueryNames → Query
-query_with name q = record { name = name; assumptions = q.assumptions; currents = q.currents; reachable = slice_index_or q.reachables 0 0 }
+query_with name q = record { name = name; assumptions = q.assumptions; currents = q.currents; reachables = q.reachables }
 
 abbrev pub queries_among : FormulaLists → NamedForm → Option Trees → List Query
 queries_among ls n None = []

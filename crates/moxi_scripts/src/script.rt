@@ -42,13 +42,14 @@ pub struct Formula {
 /// Formulas of one kind, in the order in which they stand.
 pub type Formulas = List<Formula>;
 
-/// A query: the numbers of its assumptions and of its current conditions, and that of its one reachable formula.
+/// A query: the numbers of its assumptions, of its current conditions and of its reachable formulas, each in the order in which
+/// the query names them. It has one or more reachable formulas, each once.
 #[derive(Drop)]
 pub struct Query {
     pub name: Name,
     pub assumptions: Numbers,
     pub currents: Numbers,
-    pub reachable: u32,
+    pub reachables: Numbers,
 }
 
 /// Queries, in the order in which they stand.

@@ -197,8 +197,8 @@ module _ (terms : TermsCanBeShown) (sorts : SortsCanBeShown) (stand : SortsStand
     where
       all : AreSpellable (query_names xs ys zs q)
       all =
-          all_append IsSpellable (names_of xs q.assumptions) (names_of ys q.currents ++ name_at zs q.reachable ∷ []) (numbered_spellable xs q.assumptions a)
-          (all_append IsSpellable (names_of ys q.currents) (name_at zs q.reachable ∷ []) (numbered_spellable ys q.currents c) (name_spellable zs q.reachable r, tt))
+          all_append IsSpellable (names_of xs q.assumptions) (names_of ys q.currents ++ names_of zs q.reachables) (numbered_spellable xs q.assumptions a)
+          (all_append IsSpellable (names_of ys q.currents) (names_of zs q.reachables) (numbered_spellable ys q.currents c) (numbered_spellable zs q.reachables r))
 
   conditions_shown : (vs : List Variable) (c : PlainCheck) → VariablesAreSpellable vs → AreFormulas s vs c.assumptions → AreFormulas s vs c.currents → AreFormulas s vs c.reachables → IsSpellableCheck c
       → AllCanBeShown (shown_conditions s (variable_names vs) c)

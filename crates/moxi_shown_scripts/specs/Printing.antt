@@ -80,9 +80,9 @@ shown_labels s vars name (f ∷ fs) = joined (attribute name (shown_label s vars
 abbrev pub formula_names : List PlainFormula → List (List ℕ)
 formula_names fs = map (λ (f : PlainFormula). f.name) fs
 
--- the names of a query, given those of all formulas: assumptions, currents, reachable formula
+-- the names of a query, given those of all formulas: assumptions, currents, reachable formulas
 abbrev pub query_names : List (List ℕ) → List (List ℕ) → List (List ℕ) → Query → List (List ℕ)
-query_names assumptions currents reachables q = names_of assumptions q.assumptions ++ (names_of currents q.currents ++ name_at reachables q.reachable ∷ [])
+query_names assumptions currents reachables q = names_of assumptions q.assumptions ++ (names_of currents q.currents ++ names_of reachables q.reachables)
 
 abbrev pub shown_query : List (List ℕ) → List (List ℕ) → List (List ℕ) → Query → Showns
 shown_query assumptions currents reachables q = attribute (codes "query") (shown_names q.name (query_names assumptions currents reachables q))

@@ -1,7 +1,7 @@
 -- The queries of a whole script can be asked, and the tests of a step in two parts.
-use Rattle.std.proofs.Common.{◌≡◌, ℕ, zero, suc, ◌+◌, ◌<◌, ◌≤◌, ◌&&◌, drop, Bool, true, false, cond, Some, List, [], ◌∷◌, ◌++◌, length, map, refl, sym, ap, ◌∙◌, subst, arith}
+use Rattle.std.proofs.Common.{◌≡◌, ℕ, zero, suc, ◌+◌, ◌<◌, ◌≤◌, ◌&&◌, ◌||◌, drop, Bool, true, false, cond, Some, List, [], ◌∷◌, ◌++◌, length, map, refl, sym, ap, ◌∙◌, subst, arith}
 use Rattle.std.specs.Prelude.{slice_index_or}
-use Rattle.std.specs.List.{AllByRecursion, list_all}
+use Rattle.std.specs.List.{AllByRecursion, list_all, list_any}
 use Rattle.std.proofs.Math.Logic.{∥∥₁_map}
 use Rattle.text_core.specs.declared.verdict.Clause.{Clause}
 use Rattle.moxi_terms.specs.declared.data.Primes.TheVariants.{Refused}
@@ -12,7 +12,7 @@ use Rattle.moxi_term_reading.specs.laws.SortedParts.{known_variables}
 use Rattle.moxi_scripts.specs.declared.script.Query.{Query}
 use Rattle.moxi_systems.specs.Asking.{AreTruths, CanAsk, IsTruth, check_sorts, query_tests, system_tests}
 use Rattle.moxi_systems.specs.Behaviour.{Trace}
-use Rattle.moxi_systems.specs.Meeting.{Hiddens, first_failing, step_tests}
+use Rattle.moxi_systems.specs.Meeting.{Hiddens, first_failing, is_reached_before, step_tests}
 use Rattle.moxi_scripts.specs.declared.script.Formula.{Formula}
 use Rattle.moxi_scripts.specs.Script.{PlainFormula, PlainScript, plain_formula}
 use Rattle.moxi_systems.specs.Whole.{AreFormulas, IsWhole, IsWholeQuery, check_variables, over}
@@ -22,7 +22,7 @@ use Rattle.moxi_scripts.proofs.Forms.{items_end, items_step}
 
 -- TESTS IN TWO PARTS
 
-pub two_parts : (s : PlainScript) (q : Query) (last : ℕ) (trace : Trace) (hs : Hiddens) (j : ℕ) → step_tests s q last trace hs j ≡ system_tests s trace hs j ++ query_tests s q last j (trace j)
+pub two_parts : (s : PlainScript) (q : Query) (last : ℕ) (trace : Trace) (hs : Hiddens) (j : ℕ) → step_tests s q last trace hs j ≡ system_tests s trace hs j ++ query_tests s q last (is_reached_before s trace j) j (trace j)
 two_parts s q last trace hs zero = refl
 two_parts s q last trace hs (suc j) = refl
 
@@ -35,8 +35,8 @@ first_of_two (t ∷ ts) us = by_test t.0 (first_of_two ts us)
     by_test false h = refl
 
 pub first_part : (s : PlainScript) (q : Query) (last : ℕ) (trace : Trace) (hs : Hiddens) (j : ℕ)
-    → first_failing (step_tests s q last trace hs j) ≡ or_else (first_failing (system_tests s trace hs j)) (first_failing (query_tests s q last j (trace j)))
-first_part s q last trace hs j = ap first_failing (two_parts s q last trace hs j) ∙ first_of_two (system_tests s trace hs j) (query_tests s q last j (trace j))
+    → first_failing (step_tests s q last trace hs j) ≡ or_else (first_failing (system_tests s trace hs j)) (first_failing (query_tests s q last (is_reached_before s trace j) j (trace j)))
+first_part s q last trace hs j = ap first_failing (two_parts s q last trace hs j) ∙ first_of_two (system_tests s trace hs j) (query_tests s q last (is_reached_before s trace j) j (trace j))
 
 -- QUERIES OF A WHOLE SCRIPT
 
@@ -64,7 +64,7 @@ module _ (s : PlainScript) (w : ∥ IsWhole s ∥₁) where
   asked q f = record {
     assumptions_there = below (length s.check.assumptions) q.assumptions (λ v. (f v).assumptions_there);
     currents_there = below (length s.check.currents) q.currents (λ v. (f v).currents_there);
-    reachable_there = lt_held q.reachable (length s.check.reachables) (∥∥₁_map w (λ v. (f v).reachable_there));
+    reachables_there = below (length s.check.reachables) q.reachables (λ v. (f v).reachables_there);
     assumptions = truths s.check.assumptions (λ v. v.check.formulas.assumptions);
     currents = truths s.check.currents (λ v. v.check.formulas.currents);
     reachables = truths s.check.reachables (λ v. v.check.formulas.reachables);
@@ -95,3 +95,15 @@ goes P is i n x b e l t kept free passes =
 
 pub ends : (P : ℕ → Bool) (is : List ℕ) (i n : ℕ) → n ≡ length is → n ≤ i → list_all P (drop i is) ≡ list_all P is → true ≡ list_all P is
 ends P is i n e l kept = sym (ap (list_all P) (items_end is i n e l)) ∙ kept
+
+-- the same, until one passes
+pub finds : (P : ℕ → Bool) (is : List ℕ) (i n x : ℕ) (b : Bool) → n ≡ length is → i < n → x ≡ slice_index_or is i x → list_any P (drop i is) ≡ list_any P is → b ≡ P x → b ≡ true → true ≡ list_any P is
+finds P is i n x b e l t kept free passes =
+    sym (ap (λ a. a || list_any P (drop (i + 1) is)) (sym free ∙ passes)) ∙ sym (ap (list_any P) (items_step is i n x e l t)) ∙ kept
+
+pub seeks : (P : ℕ → Bool) (is : List ℕ) (i n x : ℕ) (b : Bool) → n ≡ length is → i < n → x ≡ slice_index_or is i x → list_any P (drop i is) ≡ list_any P is → b ≡ P x → b ≡ false → list_any P (drop (i + 1) is) ≡ list_any P is
+seeks P is i n x b e l t kept free fails =
+    sym (ap (λ a. a || list_any P (drop (i + 1) is)) (sym free ∙ fails)) ∙ sym (ap (list_any P) (items_step is i n x e l t)) ∙ kept
+
+pub misses : (P : ℕ → Bool) (is : List ℕ) (i n : ℕ) → n ≡ length is → n ≤ i → list_any P (drop i is) ≡ list_any P is → false ≡ list_any P is
+misses P is i n e l kept = sym (ap (list_any P) (items_end is i n e l)) ∙ kept

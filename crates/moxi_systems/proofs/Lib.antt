@@ -15,3 +15,4 @@ pub mod WholeRanks
 pub mod AskingSorts
 pub mod AskingStands
 pub mod AskingLaws
+pub mod MeetingLaws

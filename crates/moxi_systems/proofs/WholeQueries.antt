@@ -1,9 +1,7 @@
--- Queries of which no test fails: their names differ, and each number is that of a formula.
-use Rattle.std.proofs.Common.{◌≡◌, ℕ, ◌<◌, eqb, Bool, true, false, not, cond, nat_lt, ◌&&◌, is_none, Option, None, Some, List, [], ◌∷◌, ◌++◌, length, refl, sym, ap, ◌∙◌, subst, arith, append_assoc, append-nil}
-use Rattle.std.specs.Prelude.{slice_index_or}
+-- Queries of which no test fails: their names differ, each number is that of a formula, and those of reachable formulas differ.
+use Rattle.std.proofs.Common.{◌≡◌, ℕ, ◌<◌, Bool, true, false, not, cond, nat_lt, ◌&&◌, is_none, Option, None, Some, List, [], ◌∷◌, ◌++◌, length, refl, sym, ap, ◌∙◌, subst, arith, append_assoc, append-nil}
 use Rattle.std.specs.List.{AllByRecursion, position_or_len}
 use Rattle.std.specs.Str.{bytes_eq}
-use Rattle.std.proofs.lemmas.Bool.Decides.{nat_tests}
 use Rattle.text_core.specs.declared.place.Place.{Place}
 use Rattle.moxi_sexpr.specs.Lexing.{refusal}
 use Rattle.moxi_sexpr.specs.Tree as form
@@ -85,10 +83,6 @@ module _ (ls : FormulaLists) where
       let f = none_in (queries.symbol_tests (place_in t) (symbol_of t)) (queries.symbols_failures ts) h in
       names_prime (queries.with_symbol ls q (symbol_of t)) ts f.1 (symbol_prime q (place_in t) (symbol_of t) f.0 e)
 
-  first_below : (n : ℕ) (is : List ℕ) → eqb (length is) 1 ≡ true → Below n is → slice_index_or is 0 0 < n
-  first_below n [] h b = absurd (grind (arith, nat_tests))
-  first_below n (i ∷ is) h b = b.0
-
   good_query : (w p k l s : Bool) → s ≡ true → (s && ((w && not p) && not (k && l))) ≡ false → w ≡ true → p ≡ false → l ≡ true
   good_query true false true true true a b c d = refl
   good_query true false true false true a b c d = absurd (cc)
@@ -115,9 +109,9 @@ module _ (ls : FormulaLists) where
         let all : are_symbols ts ≡ true = not_false _ (no_failure _ 12 (place_in n.form) f.1) in
         let x = queries.names_after ls queries.no_names ts in
         let b = names_below queries.no_names ts (record { assumptions = tt; currents = tt; reachables = tt }) in
-        let one : eqb (length x.reachables) 1 ≡ true =
-        good_query ls.whole x.primed x.known (eqb (length x.reachables) 1) (are_symbols ts) all (no_failure _ 14 p e.1) whole (names_prime queries.no_names ts f.0 refl) in
-        (queries.query_with n.name x, refl, refl, record { assumptions_there = b.assumptions; currents_there = b.currents; reachable_there = first_below _ x.reachables one b.reachables })
+        let differ : queries.some_distinct x.reachables ≡ true =
+        good_query ls.whole x.primed x.known (queries.some_distinct x.reachables) (are_symbols ts) all (no_failure _ 14 p e.1) whole (names_prime queries.no_names ts f.0 refl) in
+        (queries.query_with n.name x, refl, refl, record { assumptions_there = b.assumptions; currents_there = b.currents; reachables_there = b.reachables; reachables_differ = differ })
 
     named_is : (names : List (List ℕ)) (around : Place) (t : form.Tree) (o : Option NamedForm) → queries.named_failures ls names around t o ≡ []
         → AreNext names (queries.queries_named ls o) (queries.names_with_named names o)

@@ -1,5 +1,5 @@
 -- What a query asks of the values that a check's variables have at a step, apart from what the system asks of them (MoXI, SPIN 2024).
-use Rattle.std.specs.Prelude.{ℕ, zero, suc, ◌<◌, Bool, List, [], ◌∷◌, length, slice_index_or}
+use Rattle.std.specs.Prelude.{◌≡◌, ℕ, zero, suc, ◌<◌, ◌≤◌, Bool, false, None, List, [], ◌∷◌, length, slice_index_or}
 use Rattle.std.specs.List.{AllByRecursion}
 use Rattle.text_core.specs.declared.verdict.Clause.{Clause}
 use Rattle.text_core.specs.declared.verdict.Clause.TheVariants.{InitFails, TransFails, InvarFails, AssumptionFails, CurrentFails, NotBroken}
@@ -10,22 +10,31 @@ use Rattle.moxi_terms.specs.Tree.{Tree, sorts_of}
 use Rattle.moxi_terms.specs.Value.{Values}
 use Rattle.moxi_scripts.specs.declared.script.Query.{Query}
 use Rattle.moxi_systems.specs.Behaviour.{Trace}
-use Rattle.moxi_systems.specs.Meeting.{Hiddens, all_hold, assumptions_hold, currents_hold, is_reached}
+use Rattle.moxi_systems.specs.Meeting.{Hiddens, all_hold, assumptions_hold, currents_hold, ends_reached, first_failing, is_reached_before}
 use Rattle.moxi_scripts.specs.Script.{PlainFormula, PlainScript}
 use Rattle.moxi_systems.specs.Whole.{check_variables}
 
 -- what stands where no query is
 abbrev pub no_query : Query
-no_query = record { name = []; assumptions = []; currents = []; reachable = 0 }
+no_query = record { name = []; assumptions = []; currents = []; reachables = [] }
 
 -- the query of this number
 abbrev pub query_at : List Query → ℕ → Query
 query_at qs i = slice_index_or qs i no_query
 
--- the query's tests of a step of so many: its assumptions, at step 0 its current conditions, and at the last step its reachable formula
-abbrev pub query_tests : PlainScript → Query → ℕ → ℕ → Values → List (Bool × Clause)
-query_tests s q last zero now = (assumptions_hold s q now, AssumptionFails) ∷ (currents_hold s q now, CurrentFails) ∷ (is_reached s q last 0 (λ i. now), NotBroken) ∷ []
-query_tests s q last (suc j) now = (assumptions_hold s q now, AssumptionFails) ∷ (is_reached s q last (suc j) (λ i. now), NotBroken) ∷ []
+-- The query's tests of a step of so many, given which formulas were reached before: its assumptions, at step 0 its current
+-- conditions, and at the last step its reachable formulas.
+abbrev pub query_tests : PlainScript → Query → ℕ → (ℕ → Bool) → ℕ → Values → List (Bool × Clause)
+query_tests s q last before zero now = (assumptions_hold s q now, AssumptionFails) ∷ (currents_hold s q now, CurrentFails) ∷ (ends_reached s q last before 0 now, NotBroken) ∷ []
+query_tests s q last before (suc j) now = (assumptions_hold s q now, AssumptionFails) ∷ (ends_reached s q last before (suc j) now, NotBroken) ∷ []
+
+-- nothing fails of what the query asks of the steps 0 to k of a trace
+abbrev pub NothingFails : PlainScript → Query → ℕ → Trace → Type 0
+NothingFails s q k trace = (j : ℕ) → j ≤ k → first_failing (query_tests s q k (is_reached_before s trace j) j (trace j)) ≡ None
+
+-- the mark of this number; beyond the marks there is none
+abbrev pub is_marked : List Bool → ℕ → Bool
+is_marked marks r = slice_index_or marks r false
 
 -- the tests of a step by the formulas of the system and its subsystems
 abbrev pub system_tests : PlainScript → Trace → Hiddens → ℕ → List (Bool × Clause)
@@ -47,7 +56,7 @@ AreTruths s fs = AllByRecursion (λ (f : PlainFormula). IsTruth s f.term) fs
 pub record CanAsk (s : PlainScript) (q : Query) : Type 0 where
   pub assumptions_there : AllByRecursion (λ (a : ℕ). a < length s.check.assumptions) q.assumptions
   pub currents_there : AllByRecursion (λ (c : ℕ). c < length s.check.currents) q.currents
-  pub reachable_there : q.reachable < length s.check.reachables
+  pub reachables_there : AllByRecursion (λ (r : ℕ). r < length s.check.reachables) q.reachables
   pub assumptions : AreTruths s s.check.assumptions
   pub currents : AreTruths s s.check.currents
   pub reachables : AreTruths s s.check.reachables

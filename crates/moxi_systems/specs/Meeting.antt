@@ -1,6 +1,6 @@
 -- When a trace meets a query of a script at a step, and what a judge says of a trace with stated hidden values.
-use Rattle.std.specs.Prelude.{◌==◌, ℕ, zero, suc, ◌+◌, ◌-◌, ◌≤◌, nat_lt, Bool, true, false, ◌&&◌, if◌then◌else◌, Option, None, Some, List, [], ◌∷◌, length, slice_index_or}
-use Rattle.std.specs.List.{AllByRecursion, list_all}
+use Rattle.std.specs.Prelude.{◌==◌, ℕ, zero, suc, ◌+◌, ◌-◌, ◌≤◌, nat_lt, Bool, true, false, ◌&&◌, ◌||◌, if◌then◌else◌, Option, None, Some, List, [], ◌∷◌, length, slice_index_or}
+use Rattle.std.specs.List.{AllByRecursion, Any, list_all, list_any}
 use Rattle.text_core.specs.declared.verdict.Clause.{Clause}
 use Rattle.text_core.specs.declared.verdict.Clause.TheVariants.{InitFails, TransFails, InvarFails, AssumptionFails, CurrentFails, NotBroken}
 use Rattle.text_core.specs.declared.verdict.Verdict.{Verdict}
@@ -13,13 +13,18 @@ use Rattle.moxi_scripts.specs.declared.script.Subsystem.{Subsystem}
 use Rattle.moxi_scripts.specs.Script.{PlainScript, PlainSystem, calls_in, formula_at, system_at}
 use Rattle.moxi_systems.specs.Behaviour.{Behaves, Holds, Trace}
 
+-- the reachable formula of this number holds at step j
+abbrev pub Reaches : PlainScript → Trace → ℕ → ℕ → Type 0
+Reaches s trace j r = Holds (calls_in s.scope) (trace j) (trace j) (formula_at s.check.reachables r)
+
 -- A trace of steps 0 to k meets a query: the checked system behaves on it, the query's assumptions hold at every step, its
--- current conditions at step 0, and its reachable formula at step k.
+-- current conditions at step 0, each of its reachable formulas at some step from 0 to k, and one or more of them at step k.
 pub record MeetsQuery (s : PlainScript) (q : Query) (k : ℕ) (trace : Trace) : Type 0 where
   pub behaves : Behaves s.scope.enumerations (calls_in s.scope) s.systems (k + 1) s.check.system trace
   pub assumptions : (j : ℕ) → j ≤ k → AllByRecursion (λ a. Holds (calls_in s.scope) (trace j) (trace j) (formula_at s.check.assumptions a)) q.assumptions
   pub currents : AllByRecursion (λ c. Holds (calls_in s.scope) (trace 0) (trace 0) (formula_at s.check.currents c)) q.currents
-  pub reachable : Holds (calls_in s.scope) (trace k) (trace k) (formula_at s.check.reachables q.reachable)
+  pub reached : AllByRecursion (λ r. (j : ℕ) × (j ≤ k) × Reaches s trace j r) q.reachables
+  pub reached_last : Any (Reaches s trace k) q.reachables
 
 -- the values of the locals of a subsystem at each step, and what its own subsystems have
 mutual
@@ -59,9 +64,22 @@ assumptions_hold s q now = list_all (λ a. is_true s now now (formula_at s.check
 abbrev pub currents_hold : PlainScript → Query → Values → Bool
 currents_hold s q now = list_all (λ c. is_true s now now (formula_at s.check.currents c)) q.currents
 
--- the last step reaches the query's formula
-abbrev pub is_reached : PlainScript → Query → ℕ → ℕ → Trace → Bool
-is_reached s q last j trace = if last == j then is_true s (trace j) (trace j) (formula_at s.check.reachables q.reachable) else true
+-- the reachable formula of this number is true at a step
+abbrev pub reaches : PlainScript → Values → ℕ → Bool
+reaches s now r = is_true s now now (formula_at s.check.reachables r)
+
+-- it is true at one of the steps before step j
+abbrev pub is_reached_before : PlainScript → Trace → ℕ → ℕ → Bool
+is_reached_before s trace zero r = false
+is_reached_before s trace (suc j) r = is_reached_before s trace j r || reaches s (trace j) r
+
+-- each of the query's formulas is reached now or was reached before, and one or more are reached now
+abbrev pub all_reached : PlainScript → Query → (ℕ → Bool) → Values → Bool
+all_reached s q before now = list_all (λ r. before r || reaches s now r) q.reachables && list_any (reaches s now) q.reachables
+
+-- that is asked at the last step alone
+abbrev pub ends_reached : PlainScript → Query → ℕ → (ℕ → Bool) → ℕ → Values → Bool
+ends_reached s q last before j now = if last == j then all_reached s q before now else true
 
 abbrev pub first_failing : List (Bool × Clause) → Option Clause
 first_failing [] = None
@@ -71,10 +89,10 @@ first_failing (t ∷ ts) = if t.0 then first_failing ts else Some t.1
 abbrev pub step_tests : PlainScript → Query → ℕ → Trace → Hiddens → ℕ → List (Bool × Clause)
 step_tests s q last trace hs zero =
     (all_hold s (λ x. x.init) 0 0 trace hs, InitFails) ∷ (all_hold s (λ x. x.inv) 0 0 trace hs, InvarFails) ∷ (assumptions_hold s q (trace 0), AssumptionFails)
-    ∷ (currents_hold s q (trace 0), CurrentFails) ∷ (is_reached s q last 0 trace, NotBroken) ∷ []
+    ∷ (currents_hold s q (trace 0), CurrentFails) ∷ (ends_reached s q last (is_reached_before s trace 0) 0 (trace 0), NotBroken) ∷ []
 step_tests s q last trace hs (suc j) =
     (all_hold s (λ x. x.trans) j (suc j) trace hs, TransFails) ∷ (all_hold s (λ x. x.inv) (suc j) (suc j) trace hs, InvarFails)
-    ∷ (assumptions_hold s q (trace (suc j)), AssumptionFails) ∷ (is_reached s q last (suc j) trace, NotBroken) ∷ []
+    ∷ (assumptions_hold s q (trace (suc j)), AssumptionFails) ∷ (ends_reached s q last (is_reached_before s trace (suc j)) (suc j) (trace (suc j)), NotBroken) ∷ []
 
 abbrev pub verdict_or : ℕ → Option Clause → Verdict → Verdict
 verdict_or j None v = v

@@ -21,6 +21,7 @@ use Rattle.moxi_print.specs.Terms.{variable_names}
 use Rattle.moxi_scripts.specs.declared.script.Query.{Query}
 use Rattle.moxi_scripts.specs.declared.script.Subsystem.{Subsystem}
 use Rattle.moxi_scripts.specs.Cycles.{nodes_from}
+use Rattle.moxi_scripts.specs.QueryReading.{some_distinct}
 use Rattle.moxi_scripts.specs.Script.{PlainCheck, PlainFormula, PlainScript, PlainSystem, system_at, variables_in}
 
 -- NAMES
@@ -149,11 +150,12 @@ pub record HasFormulas (s : ScopeState) (c : PlainCheck) : Type 0 where
   pub currents : AreFormulas s (check_variables c) c.currents
   pub reachables : AreFormulas s (check_variables c) c.reachables
 
--- each number is that of a formula
+-- each number is that of a formula; there are one or more of reachable formulas, none of them twice
 pub record IsWholeQuery (assumptions currents reachables : ℕ) (q : Query) : Type 0 where
   pub assumptions_there : AllByRecursion (λ (i : ℕ). i < assumptions) q.assumptions
   pub currents_there : AllByRecursion (λ (i : ℕ). i < currents) q.currents
-  pub reachable_there : q.reachable < reachables
+  pub reachables_there : AllByRecursion (λ (i : ℕ). i < reachables) q.reachables
+  pub reachables_differ : some_distinct q.reachables ≡ true
 
 abbrev pub query_names : List Query → List (List ℕ)
 query_names qs = map (λ (q : Query). q.name) qs

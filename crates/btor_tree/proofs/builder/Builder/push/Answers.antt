@@ -1,24 +1,42 @@
-use Rattle.std.proofs.Common.{◌≡◌, ◌+◌, [], ◌∷◌, ◌++◌, length, sym, ap, ◌∙◌, subst}
-use Rattle.std.proofs.lemmas.List.{length_push}
-use Rattle.btor_tree.specs.declared.lines.Line.{Line}
-use Rattle.btor_tree.specs.Fits.{sort_width}
-use Rattle.btor_tree.specs.Held.{IsNumbered, HasSorts, noted}
-use Rattle.btor_tree.proofs.Grows.{last_push}
-use Rattle.btor_tree.proofs.Sorts.{has_sorts_push}
-use Rattle.btor_tree.proofs.Widths.{op_small}
+use Rattle.std.proofs.Common.{arith, refl}
+use Rattle.std.proofs.lemmas.Result.{IfOk-weaker}
+use Rattle.btor_tree.specs.LineKeys.{place_in}
+use Rattle.btor_tree.proofs.Keyed.{Found, put_pushed, keeps_both}
 use Rattle.btor_tree.proofs.builder.Builder.push.Goals as goal
 
-pub invariant_of-self-2 : goal.invariant_of-self-2
-invariant_of-self-2 c =
-    let lines = c.self.inside.nodes in
-    let line : Line = record { id = c.len-place.result + 1; op = c.args.op; sort = c.args.sort; args = c.args.args; symbol = c.args.symbol } in
-    let is : c.add.new.self ≡ lines ++ line ∷ [] = c.in_ok-add.ensures.ok in
-    let small = op_small c.args.self.now c.args.sort c.args.op c.args.args c.requires.fits.sorts in
-    let numbered : IsNumbered (lines ++ line ∷ []) = last_push lines line ∙ ap (λ n. n + 1) c.len-place.ensures.value ∙ sym (length_push lines line) in
-    let sorts : c.note_sort.new.sorts ≡ noted c.self.inside.sorts (sort_width c.args.op) (length lines) =
-    c.note_sort.ensures ∙ ap (λ w. noted c.self.inside.sorts w c.len-place.result) c.sort_width-width.ensures ∙ ap (noted c.self.inside.sorts (sort_width c.args.op)) c.len-place.ensures.value in
-    let has = has_sorts_push lines line c.self.inside.sorts small c.self.invariant.2 in (
-      c.in_ok-add.ensures.well_formed,
-      subst IsNumbered (sym is) numbered,
-      subst (λ ls. HasSorts ls c.note_sort.new.sorts) (sym is) (subst (HasSorts (lines ++ line ∷ [])) (sym sorts) has),
-    )
+pub invariant_of-self : goal.invariant_of-self
+invariant_of-self c =
+    let a = c.args in
+    let found : Found c.self.inside.lines.items a.self.now c.self.inside.places a.op a.sort a.args a.symbol c.line_key-key.result (place_in c.self.inside.places c.line_key-key.result) =
+    record { view = c.self.view_is; keeps = c.self.invariant; suits = c.requires.fits; is = c.line_key-key.ensures; at = refl } in
+    keeps_both c.self.inside.lines.items a.self.now c.self.inside.places a.op a.sort a.args a.symbol c.line_key-key.result (place_in c.self.inside.places c.line_key-key.result) found c.put_line.result c.put_line.new.lines.items c.len-place.result c.put_line.new.places (omega (arith, c.len-place.ensures, c.self.inside.lines.ok)) c.requires.room c.put_line.ensures.put c.put_line.ensures.lines_stay c.put_line.ensures.places_stay
+
+pub returns-clause-line : goal.returns-clause-line
+returns-clause-line c =
+    let a = c.args in
+    let found : Found c.self.inside.lines.items a.self.now c.self.inside.places a.op a.sort a.args a.symbol c.line_key-key.result (place_in c.self.inside.places c.line_key-key.result) =
+    record { view = c.self.view_is; keeps = c.self.invariant; suits = c.requires.fits; is = c.line_key-key.ensures; at = refl } in
+    IfOk-weaker c.put_line.result _ _
+    (λ p q. put_pushed c.self.inside.lines.items a.self.now c.self.inside.places a.op a.sort a.args a.symbol c.line_key-key.result (place_in c.self.inside.places c.line_key-key.result) found _ refl c.put_line.new.lines.items c.len-place.result p c.put_line.new.places (omega (arith, c.len-place.ensures, c.self.inside.lines.ok)) q)
+    c.put_line.ensures.put
+
+pub returns-clause-well_formed : goal.returns-clause-well_formed
+returns-clause-well_formed c =
+    let a = c.args in
+    let found : Found c.self.inside.lines.items a.self.now c.self.inside.places a.op a.sort a.args a.symbol c.line_key-key.result (place_in c.self.inside.places c.line_key-key.result) =
+    record { view = c.self.view_is; keeps = c.self.invariant; suits = c.requires.fits; is = c.line_key-key.ensures; at = refl } in
+    (keeps_both c.self.inside.lines.items a.self.now c.self.inside.places a.op a.sort a.args a.symbol c.line_key-key.result (place_in c.self.inside.places c.line_key-key.result) found c.put_line.result c.put_line.new.lines.items c.len-place.result c.put_line.new.places (omega (arith, c.len-place.ensures, c.self.inside.lines.ok)) c.requires.room c.put_line.ensures.put c.put_line.ensures.lines_stay c.put_line.ensures.places_stay).0
+
+pub returns-clause-numbered : goal.returns-clause-numbered
+returns-clause-numbered c =
+    let a = c.args in
+    let found : Found c.self.inside.lines.items a.self.now c.self.inside.places a.op a.sort a.args a.symbol c.line_key-key.result (place_in c.self.inside.places c.line_key-key.result) =
+    record { view = c.self.view_is; keeps = c.self.invariant; suits = c.requires.fits; is = c.line_key-key.ensures; at = refl } in
+    (keeps_both c.self.inside.lines.items a.self.now c.self.inside.places a.op a.sort a.args a.symbol c.line_key-key.result (place_in c.self.inside.places c.line_key-key.result) found c.put_line.result c.put_line.new.lines.items c.len-place.result c.put_line.new.places (omega (arith, c.len-place.ensures, c.self.inside.lines.ok)) c.requires.room c.put_line.ensures.put c.put_line.ensures.lines_stay c.put_line.ensures.places_stay).1
+
+pub returns-clause-distinct : goal.returns-clause-distinct
+returns-clause-distinct c =
+    let a = c.args in
+    let found : Found c.self.inside.lines.items a.self.now c.self.inside.places a.op a.sort a.args a.symbol c.line_key-key.result (place_in c.self.inside.places c.line_key-key.result) =
+    record { view = c.self.view_is; keeps = c.self.invariant; suits = c.requires.fits; is = c.line_key-key.ensures; at = refl } in
+    (keeps_both c.self.inside.lines.items a.self.now c.self.inside.places a.op a.sort a.args a.symbol c.line_key-key.result (place_in c.self.inside.places c.line_key-key.result) found c.put_line.result c.put_line.new.lines.items c.len-place.result c.put_line.new.places (omega (arith, c.len-place.ensures, c.self.inside.lines.ok)) c.requires.room c.put_line.ensures.put c.put_line.ensures.lines_stay c.put_line.ensures.places_stay).2

@@ -4,7 +4,7 @@ use Rattle.btor_tree.specs.Fits.{IsWellFormed, sort_place}
 use Rattle.btor_tree.specs.Held.{IsNumbered}
 use Rattle.btor_tree.proofs.Grows.{empty_well_formed}
 use Rattle.btor_tree.proofs.Sorts.{none_at}
-use Rattle.btor_tree.proofs.builder.Builder.new.Goals as goal
+use Rattle.btor_tree.proofs.numbered_lines.NumberedLines.new.Goals as goal
 
 pub invariant_of-result : goal.invariant_of-result
 invariant_of-result c =

@@ -1,0 +1,119 @@
+// What a line says, as a key of an ordered map.
+ghost use Rattle.std.specs.Prelude.{◌≡◌, slice_index_or};
+ghost use Rattle.btor_tree.specs.Fits.{plain_arg};
+ghost use Rattle.btor_tree.specs.Sharing.{is_shared, op_kind, op_number, op_second};
+ghost use Rattle.btor_tree.specs.LineKeys as spec;
+
+use crate::args::{Arg, Args, plain_arg};
+use crate::lines::LineOp;
+use std::cmp::Reverse;
+
+/// What a line says that is shared: its first three arguments and how many there are, the number of its kind and its numbers,
+/// and its sort. Keys are ordered by what tells most lines apart first, with the latest lines in front, since most pushes
+/// have such arguments.
+#[derive(Clone, Copy, PartialEq, Eq, PartialOrd, Ord)]
+pub struct LineKey {
+    first: Reverse<Arg>,
+    second: Reverse<Arg>,
+    number: u128,
+    kind: u8,
+    sort: u32,
+    other: u32,
+    third: Arg,
+    count: u8,
+}
+
+/// What a line says, where such lines are shared.
+pub fn line_key(op: &LineOp, sort: u32, args: &Args) -> Option<LineKey>
+    requires { spec.IsShort args.now }
+    ensures { result ≡ spec.shared_key op.now sort args.now }
+{
+    if is_shared(op) {
+        Some(LineKey {
+            first: Reverse(arg_at(args, 0)),
+            second: Reverse(arg_at(args, 1)),
+            number: op_number(op),
+            kind: op_kind(op),
+            sort,
+            other: op_second(op),
+            third: arg_at(args, 2),
+            count: args.len() as u8,
+        })
+    } else {
+        None
+    }
+}
+
+// The argument at a place, or the first line where there is none.
+fn arg_at(args: &Args, i: usize) -> Arg
+    ensures { result ≡ slice_index_or args.now i (plain_arg 0) }
+{
+    if i < args.len() {
+        *args.at(i)
+    } else {
+        plain_arg(0)
+    }
+}
+
+// Is one line of this kind enough for all that say the same?
+fn is_shared(op: &LineOp) -> bool
+    ensures { result ≡ is_shared op.now }
+{
+    match op {
+        LineOp::Input
+        | LineOp::State
+        | LineOp::Init
+        | LineOp::Next
+        | LineOp::Bad
+        | LineOp::Constraint
+        | LineOp::Output => false,
+        _ => true,
+    }
+}
+
+// The number of a kind of line that is shared.
+fn op_kind(op: &LineOp) -> u8
+    ensures { result ≡ op_kind op.now }
+{
+    match op {
+        LineOp::Sort(_) => 1,
+        LineOp::Constant(_) => 2,
+        LineOp::One => 3,
+        LineOp::Zero => 4,
+        LineOp::Ones => 5,
+        LineOp::Unary(_) => 6,
+        LineOp::Binary(_) => 7,
+        LineOp::Ite => 8,
+        LineOp::Slice(_, _) => 9,
+        LineOp::Uext(_) => 10,
+        LineOp::Sext(_) => 11,
+        _ => 0,
+    }
+}
+
+// The first number that the line has.
+fn op_number(op: &LineOp) -> u128
+    ensures { result ≡ op_number op.now }
+{
+    match op {
+        LineOp::Sort(width) => u128::from(*width),
+        LineOp::Constant(word) => word.bits(),
+        LineOp::Unary(operator) => u128::from(*operator as u8),
+        LineOp::Binary(operator) => u128::from(*operator as u8),
+        LineOp::Slice(high, _) => u128::from(*high),
+        LineOp::Uext(count) => u128::from(*count),
+        LineOp::Sext(count) => u128::from(*count),
+        _ => 0,
+    }
+}
+
+// The second number that the line has.
+fn op_second(op: &LineOp) -> u32
+    ensures { result ≡ op_second op.now }
+{
+    match op {
+        LineOp::Constant(word) => word.width(),
+        LineOp::Slice(_, low) => *low,
+        _ => 0,
+    }
+}

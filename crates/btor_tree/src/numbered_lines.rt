@@ -1,0 +1,138 @@
+// A list of lines that numbers them 1, 2, 3 and so on, with one sort line for each width.
+ghost use Rattle.std.specs.Prelude.{◌≡◌, ◌+◌, ◌<◌, ◌≤◌, [], ◌∷◌, ◌++◌, length, IfOk, OnErr};
+ghost use Rattle.btor_tree.specs.Fits.{Suits, IsWellFormed, SortIsAt, sort_at, sort_of, sort_place, width_at};
+ghost use Rattle.btor_tree.specs.Held.{noted};
+
+use crate::args::Args;
+use crate::lines::{GREATEST_ID, Line, LineOp, sort_width};
+use crate::nodes::Nodes;
+use std::alloc::Global;
+use std::marker::Model;
+use text_core::{Name, NoMemory};
+use word_core::WIDEST;
+
+// How many widths there are.
+const WIDTHS: usize = WIDEST as usize;
+
+/// Lines with the ids 1, 2, 3 and so on, seen as the list of those made so far.
+#[derive(Drop)]
+pub struct NumberedLines {
+    nodes: Nodes,
+    alloc: Global,
+    sorts: [Option<u32>; WIDTHS],
+}
+
+impl Model for NumberedLines {
+    ghost use Rattle.std.specs.Prelude.{List};
+    ghost use Rattle.btor_tree.specs.declared.lines.Line.{Line};
+    ghost use Rattle.btor_tree.specs.Fits.{IsWellFormed};
+    ghost use Rattle.btor_tree.specs.Held.{IsNumbered, HasSorts};
+
+    ghost Value = { List Line };
+
+    ghost view = { λ a. a.nodes };
+
+    ghost invariant = { λ a. IsWellFormed a.nodes × IsNumbered a.nodes × HasSorts a.nodes a.sorts };
+}
+
+impl NumberedLines {
+    /// No lines. It takes no memory.
+    pub fn new(alloc: Global) -> NumberedLines
+        ensures { result ≡ [] }
+    {
+        NumberedLines {
+            nodes: Nodes::new(alloc),
+            alloc,
+            sorts: [None; WIDTHS],
+        }
+    }
+
+    /// Adds a line whose id is one more than the number of lines so far, and answers its place. The lines stay as they
+    /// are where it is refused.
+    pub fn push(
+        &mut self,
+        op: LineOp,
+        sort: u32,
+        args: Args,
+        symbol: Option<Name>,
+    ) -> Result<u32, NoMemory>
+        requires room { length self.old < GREATEST_ID }
+        requires fits { Suits self.old op sort args symbol }
+        ensures line { IfOk result (λ p. (p ≡ length self.old) × (self.new ≡ self.old ++ record { id = length self.old + 1; op = op; sort = sort; args = args; symbol = symbol } ∷ [])) }
+        ensures refused { OnErr result (self.new ≡ self.old) }
+        ensures well_formed { IsWellFormed self.new }
+    {
+        let place = self.nodes.len() as u32;
+        let width = sort_width(&op);
+        self.nodes.add(Line {
+            id: place + 1,
+            op,
+            sort,
+            args,
+            symbol,
+        })?;
+        note_sort(&mut self.sorts, width, place);
+        Ok(place)
+    }
+
+    /// The place of the first sort line of this width, which is added where there is none. The lines stay as they are
+    /// where it is refused.
+    pub fn sort(&mut self, width: u32) -> Result<u32, NoMemory>
+        requires room { length self.old < GREATEST_ID }
+        requires least { 1 ≤ width }
+        requires most { width ≤ WIDEST }
+        ensures place { IfOk result (λ p. SortIsAt (sort_place self.old width) self.old width p self.new) }
+        ensures width { IfOk result (λ p. sort_at self.new p ≡ width) }
+        ensures refused { OnErr result (self.new ≡ self.old) }
+        ensures well_formed { IsWellFormed self.new }
+    {
+        match self.sorts[width as usize - 1] {
+            Some(place) => Ok(place),
+            None => self.push(LineOp::Sort(width), 0, Args::new(self.alloc), None),
+        }
+    }
+
+    /// The place of the sort line of the line at a place. The caller owes a line that has a word.
+    pub fn sort_of(&self, line: u32) -> u32
+        requires { 1 ≤ width_at self.now line }
+        ensures place { result ≡ sort_of self.now line }
+        ensures width { sort_at self.now result ≡ width_at self.now line }
+    {
+        self.nodes.at(line as usize).sort
+    }
+
+    /// How many lines there are so far.
+    pub fn len(&self) -> usize
+        ensures value { result ≡ length self.now }
+        ensures well_formed { IsWellFormed self.now }
+    {
+        self.nodes.len()
+    }
+
+    /// The width of the word of the line at a place. The caller owes a line of a kind that has a word.
+    pub fn width_of(&self, line: u32) -> u32
+        requires { 1 ≤ width_at self.now line }
+        ensures { result ≡ width_at self.now line }
+    {
+        self.nodes.width_of(line)
+    }
+
+    /// The lines made so far.
+    pub fn done(self) -> Nodes
+        ensures lines { result ≡ self }
+        ensures well_formed { IsWellFormed self }
+    {
+        self.nodes
+    }
+}
+
+// Enters the place of a sort line of this width, where the table has none. A width of 0 is of no sort line.
+fn note_sort(sorts: &mut [Option<u32>; WIDTHS], width: u32, place: u32)
+    requires { width ≤ WIDEST }
+    ensures { sorts.new ≡ noted sorts.old width place }
+{
+    if width > 0 {
+        let i = width as usize - 1;
+        sorts[i] = sorts[i].or(Some(place));
+    }
+}
