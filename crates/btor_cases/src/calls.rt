@@ -4,6 +4,7 @@ use crate::build::{put_build, put_sort, put_widths};
 use crate::frames::put_frames;
 use crate::lines::{nodes_of, put_counts, put_lines};
 use crate::operators::put_word_answer;
+use crate::pieces::put_judged;
 use crate::rows::{lines_of, put_on_one_line, text_of};
 use crate::witnesses::{put_verdict, put_witness};
 use btor_tree::Nodes;
@@ -22,9 +23,10 @@ enum Call {
     Witness,
     Verdict,
     PlainVerdict,
+    Judged,
 }
 
-const CALLS: [(&str, Call); 8] = [
+const CALLS: [(&str, Call); 9] = [
     ("counts", Call::Counts),
     ("build", Call::Build),
     ("sort", Call::Sort),
@@ -33,13 +35,15 @@ const CALLS: [(&str, Call); 8] = [
     ("witness", Call::Witness),
     ("verdict", Call::Verdict),
     ("plain-verdict", Call::PlainVerdict),
+    ("judged", Call::Judged),
 ];
 
 /// Appends what a call answers to the pieces. The calls `of`, `bits` and `digits` and those by the name of an operator of
 /// words take a row. All others take the piece `lines`, a text of BTOR2 lines: `lines` prints them again, `build` prints them
 /// made one by one, `counts` and `widths` say how many and how wide they are, `sort` takes a width as its row, `frames` the
-/// piece `words`, `witness` and `verdict` the piece `witness`, and `plain-verdict` a number of frames as its row. A row can
-/// stand for a piece that isn't given. Where there is a row, the answer is on one line.
+/// piece `words`, `witness` and `verdict` the piece `witness`, `judged` the same piece, cut in many ways, and `plain-verdict`
+/// a number of frames as its row. A row can stand for a piece that isn't given. Where there is a row, the answer is on one
+/// line.
 pub fn put_answer(
     alloc: Global,
     out: &mut Answer,
@@ -123,5 +127,6 @@ fn put_node_answer(
         Call::Witness => put_witness(alloc, out, nodes, text_of(pieces, lines, "witness")?),
         Call::Verdict => put_verdict(alloc, out, nodes, text_of(pieces, lines, "witness")?),
         Call::PlainVerdict => put_agreement(alloc, out, nodes, given(pieces, "row")?),
+        Call::Judged => put_judged(alloc, out, nodes, text_of(pieces, lines, "witness")?),
     }
 }

@@ -7,6 +7,7 @@ mod calls;
 mod frames;
 mod lines;
 mod operators;
+mod pieces;
 mod plain;
 mod rows;
 mod witnesses;

@@ -74,7 +74,7 @@ pub record SoFar (lines : List Line) (w : Witness) (i : ℕ) (room : Room) : Typ
   pub goes : (v : Verdict) → IsJudgedAfter lines w.bad i room.frames.begun room.frames.row (map statement_of (drop i w.frames)) v → IsJudged lines w v
 
 -- in frame 0 no frame before is read
-any_before : (lines : List Line) (j step : ℕ) (before other : List BitVector) (stated : List Statement) (v : Verdict) → IsJudgedAfter lines j step false before stated v → IsJudgedAfter lines j step false other stated v
+pub any_before : (lines : List Line) (j step : ℕ) (before other : List BitVector) (stated : List Statement) (v : Verdict) → IsJudgedAfter lines j step false before stated v → IsJudgedAfter lines j step false other stated v
 any_before lines j step before other [] v h = h
 any_before lines j step before other (s ∷ more) v h =
     (h.0, record { frame = h.1.frame; values = h.1.values; inputs = h.1.inputs; states = h.1.states }, h.2)

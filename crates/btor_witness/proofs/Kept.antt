@@ -23,6 +23,7 @@ use Rattle.btor_witness.specs.Parts.{is_stated, with_word, with_width, stating}
 use Rattle.btor_witness.specs.Reading.{Reading, begin, Next, nothing, moves, done, bad, last_frame, frames_at, frames_of, sat_line, property_line, justice_line, new_frame, states_line, inputs_line, with_states, with_inputs, assignment_line, end_line, step}
 use Rattle.btor_witness.specs.Texts.{IsNext, passed, spelled, shapeless, Reads, blank, line, last, ReadsText}
 use Rattle.btor_witness.specs.Printing.{IsOf, IsStatedOnce, IsPart, IsWitness}
+use Rattle.btor_witness.specs.Fitting.{BadFits, FrameFits, FitsAt}
 use Rattle.btor_witness.proofs.Binary.{bits_small}
 
 all_push : {X : Type 0} (P : X → Type 0) (xs : List X) (x : X) → AllByRecursion P xs → P x → AllByRecursion P (xs ++ x ∷ [])
@@ -81,29 +82,11 @@ width_stated widths stated i (Some width) word there part fits =
 stating_fits : (widths : List ℕ) (stated : List Stated) (i : ℕ) (word : Option BitVector) → IsPart widths stated → IfSome word IsWord → IfOk (stating widths stated i word) (IsPart widths)
 stating_fits widths stated i word part fits = width_stated widths stated i (slice_get widths i) word refl part fits
 
--- what was read so far is that of a witness for the lines
-abbrev BadFits : Sizes → ℕ → Phase → Type 0
-BadFits sizes n phase.Start = Unit {0}
-BadFits sizes n phase.Property = Unit {0}
-BadFits sizes n phase.Heading = n < sizes.bads
-BadFits sizes n phase.States = n < sizes.bads
-BadFits sizes n phase.Inputs = n < sizes.bads
-
-abbrev FrameFits : Sizes → Frame → Type 0
-FrameFits sizes f = IsPart sizes.states f.states × IsPart sizes.inputs f.inputs
-
-pub record FitsAt (sizes : Sizes) (p : Phase) (r : Reading) : Type 0 where
-  pub bad_line : BadFits sizes r.bad p
-  pub frames : AllByRecursion (FrameFits sizes) r.frames
-  pub states : IsPart sizes.states r.states
-  pub inputs : IsPart sizes.inputs r.inputs
-  pub within : is_within sizes (length (frames_at p r)) ≡ true
-
 -- a witness for the lines that keeps the limits
 abbrev pub IsShort : Sizes → Witness → Type 0
 IsShort sizes w = IsWitness sizes w × (is_within sizes (length w.frames) ≡ true)
 
-abbrev NextFits : Sizes → Next → Type 0
+abbrev pub NextFits : Sizes → Next → Type 0
 NextFits sizes nothing = Unit {0}
 NextFits sizes (moves r) = FitsAt sizes r.phase r
 NextFits sizes (done w) = IsShort sizes w
@@ -250,7 +233,7 @@ step_fits sizes r (Inputs n) s h = inputs_fits sizes n r h
 step_fits sizes r End s h = end_fits sizes r h
 step_fits sizes r (Assignment i word) s h = assignment_fits sizes i word r s h
 
-next_fits : {sizes : Sizes} {r : Reading} {ps : Parts} {x : Next} → IsNext sizes r ps x → FitsAt sizes r.phase r → NextFits sizes x
+pub next_fits : {sizes : Sizes} {r : Reading} {ps : Parts} {x : Next} → IsNext sizes r ps x → FitsAt sizes r.phase r → NextFits sizes x
 next_fits (passed e) h = tt
 next_fits {sizes = sizes} {r = r} {ps = ps} (spelled shape e spells) h = step_fits sizes r shape (shape_fits shape ps spells) h
 next_fits (shapeless e none) h = tt
@@ -260,7 +243,7 @@ reads_fit (blank a k) h = reads_fit k h
 reads_fit (line next a k) h = reads_fit k (next_fits a h)
 reads_fit (last a) h = next_fits a h
 
-begin_fits : (sizes : Sizes) → FitsAt sizes phase.Start begin
+pub begin_fits : (sizes : Sizes) → FitsAt sizes phase.Start begin
 begin_fits sizes = record {
   bad_line = tt;
   frames = tt;

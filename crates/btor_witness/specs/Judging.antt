@@ -7,7 +7,7 @@ use Rattle.text_core.specs.declared.verdict.Verdict.TheVariants.{Yes, No}
 use Rattle.word_core.specs.Words.{BitVector}
 use Rattle.btor_tree.specs.declared.lines.Line.{Line}
 use Rattle.btor_tree.specs.Frame.{ConstraintsHold, IsBad}
-use Rattle.btor_frames.specs.Judged.{Statement, IsStatedFrame, StatesAgree}
+use Rattle.btor_frames.specs.Judged.{Statement, IsStatedFrame, AreStatedFrames, StatesAgree}
 use Rattle.btor_witness.specs.declared.witness.Frame.{Frame}
 use Rattle.btor_witness.specs.declared.witness.Witness.{Witness}
 use Rattle.btor_witness.specs.Printing.{value_of}
@@ -54,3 +54,12 @@ IsJudgedAfter lines j step begun before (stated ∷ more) verdict =
 -- the verdict on a witness: yes, or the earliest step whose frame fails, with the first clause that it fails
 abbrev pub IsJudged : List Line → Witness → Verdict → Type 0
 IsJudged lines w verdict = IsJudgedAfter lines w.bad 0 false [] (statements_of w) verdict
+
+-- the verdict by the name that contracts use
+abbrev pub judged_btor : List Line → Witness → Verdict → Type 0
+judged_btor lines w verdict = IsJudged lines w verdict
+
+-- the frames that a witness states: each determined state has its word, and each other state and each input the stated
+-- word or zero
+abbrev pub stated_frames : List Line → Witness → List (List BitVector) → Type 0
+stated_frames lines w rows = AreStatedFrames lines (statements_of w) rows

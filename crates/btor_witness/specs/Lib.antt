@@ -7,6 +7,7 @@ pub mod Reading
 pub mod Texts
 pub mod Answer
 pub mod Printing
+pub mod Fitting
 pub mod Judging
 pub mod Room
 pub mod laws

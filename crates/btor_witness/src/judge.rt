@@ -4,7 +4,7 @@ ghost use Rattle.text_core.specs.declared.verdict.Verdict.TheVariants.{No};
 ghost use Rattle.btor_tree.specs.Fits as fits;
 ghost use Rattle.btor_witness.specs.Sizes.{sizes_of, widths_of};
 ghost use Rattle.btor_witness.specs.Printing.{IsPart, IsWitness};
-ghost use Rattle.btor_witness.specs.Judging.{statement_of, OnStated, Passes, FailsFirst, IsJudged};
+ghost use Rattle.btor_witness.specs.Judging.{statement_of, OnStated, Passes, FailsFirst, judged_btor};
 ghost use Rattle.btor_witness.specs.Room.{RoomFits};
 
 use crate::room::Room;
@@ -20,7 +20,7 @@ use text_core::{Clause, NoMemory, Verdict};
 /// the right widths, of which each is stated once. A step past the numbers of 32 bits is answered as want of memory.
 pub fn judge_btor(alloc: Global, nodes: &Nodes, witness: &Witness) -> Result<Verdict, NoMemory>
     requires { IsWitness (sizes_of nodes.now) witness.now }
-    ensures { IfOk result (λ verdict. IsJudged nodes.now witness.now verdict) }
+    ensures { IfOk result (λ verdict. judged_btor nodes.now witness.now verdict) }
 {
     let mut room = Room::new(alloc, nodes)?;
     let frames = witness.frames.len();

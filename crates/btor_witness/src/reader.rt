@@ -253,7 +253,7 @@ fn is_input(op: &LineOp) -> bool
     matches!(op, LineOp::Input)
 }
 
-// The widths of the states, in order.
+/// The widths of the states, in order.
 #[tactic(auto, using(btor_tree::proofs::Grows::lines_short))]
 pub fn state_widths(alloc: Global, nodes: &Nodes) -> Result<List<u32>, NoMemory>
     ensures { IfOk result (λ widths. widths ≡ widths_of fits.is_state nodes.now) }
@@ -267,7 +267,7 @@ pub fn state_widths(alloc: Global, nodes: &Nodes) -> Result<List<u32>, NoMemory>
     Ok(widths)
 }
 
-// The widths of the inputs, in order.
+/// The widths of the inputs, in order.
 #[tactic(auto, using(btor_tree::proofs::Grows::lines_short))]
 pub fn input_widths(alloc: Global, nodes: &Nodes) -> Result<List<u32>, NoMemory>
     ensures { IfOk result (λ widths. widths ≡ widths_of fits.is_input nodes.now) }

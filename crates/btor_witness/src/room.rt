@@ -101,14 +101,15 @@ impl Room {
     }
 }
 
-fn is_same(x: Word, y: Word) -> bool
+/// Are two words the same?
+pub fn is_same(x: Word, y: Word) -> bool
     ensures { IsTrue result ↔ (x ≡ y) }
 {
     x.width() == y.width() && x.bits() == y.bits()
 }
 
-// The word 0 of a width.
-fn zero_of(width: u32) -> Word
+/// The word 0 of a width.
+pub fn zero_of(width: u32) -> Word
     requires some { 1 ≤ width }
     requires small { width ≤ WIDEST }
     ensures { result ≡ spec.zero_of width }
@@ -116,8 +117,8 @@ fn zero_of(width: u32) -> Word
     Word::of(width, 0).unwrap()
 }
 
-// The word 0 for each width.
-fn zeros(alloc: Global, widths: &List<u32>) -> Result<Words, NoMemory>
+/// The word 0 for each width.
+pub fn zeros(alloc: Global, widths: &List<u32>) -> Result<Words, NoMemory>
     requires { AreWidths widths.now }
     ensures { IfOk result (λ words. HoldsStated widths.now [] words) }
 {
@@ -128,9 +129,9 @@ fn zeros(alloc: Global, widths: &List<u32>) -> Result<Words, NoMemory>
     Ok(words)
 }
 
-// The places of the states, in order.
+/// The places of the state lines, in order.
 #[tactic(auto, using(btor_tree::proofs::Grows::lines_short))]
-fn state_places(alloc: Global, nodes: &Nodes) -> Result<List<u32>, NoMemory>
+pub fn state_places(alloc: Global, nodes: &Nodes) -> Result<List<u32>, NoMemory>
     ensures { IfOk result (λ places. places ≡ places_of fits.is_state nodes.now) }
 {
     let mut places = List::new(alloc);

@@ -21,7 +21,8 @@ pub enum Shape {
     Assignment(u32, Option<Word>),
 }
 
-fn marked(mark: u8, number: u32) -> Option<Shape>
+/// The shape of a line that is a mark and a number.
+pub fn marked(mark: u8, number: u32) -> Option<Shape>
     ensures { result ≡ marked mark number }
 {
     match mark {

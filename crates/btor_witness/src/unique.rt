@@ -1,5 +1,5 @@
 // Laws of what a text spells and of its refusal.
-ghost use Rattle.std.specs.Prelude.{◌≡◌, ◌≢◌, ◌⊎◌, ◌↔◌, ℕ, List, []};
+ghost use Rattle.std.specs.Prelude.{◌≡◌, ◌≢◌, ◌⊎◌, ◌↔◌, ℕ, List, [], false};
 ghost use Rattle.text_core.specs.declared.place.Kind.{Kind};
 ghost use Rattle.text_core.specs.declared.place.Refusal.{Refusal};
 ghost use Rattle.text_core.specs.declared.end.End.TheVariants.{Bad};
@@ -7,11 +7,12 @@ ghost use Rattle.text_core.specs.declared.verdict.Verdict.{Verdict};
 ghost use Rattle.text_core.specs.declared.verdict.Verdict.TheVariants.{Yes};
 ghost use Rattle.btor_tree.specs.declared.lines.Line.{Line};
 ghost use Rattle.btor_tree.specs.Fits.{IsWellFormed};
-ghost use Rattle.btor_frames.specs.Judged.{IsAccepted};
+ghost use Rattle.word_core.specs.Words.{BitVector};
+ghost use Rattle.btor_frames.specs.Judged.{PassAfter};
 ghost use Rattle.btor_witness.specs.declared.witness.Witness.{Witness};
 ghost use Rattle.btor_witness.specs.Sizes.{sizes_of};
 ghost use Rattle.btor_witness.specs.Printing.{IsWitness, IsWithinLimits, printed, rising_witness};
-ghost use Rattle.btor_witness.specs.Judging.{statements_of, IsJudged};
+ghost use Rattle.btor_witness.specs.Judging.{statements_of, stated_frames, judged_btor};
 ghost use Rattle.btor_witness.specs.Texts.{SpellsWitness, RefusesWitness};
 ghost use Rattle.btor_witness.specs.Answer.{IsRefused};
 
@@ -48,11 +49,11 @@ pub fn printed_is_read()
 /// A witness has one verdict at most.
 #[tactic(auto, using(crate::specs::laws::Verdicts::one_verdict))]
 pub fn one_verdict()
-    ensures { (lines : List Line) (w : Witness) (v u : Verdict) → IsWellFormed lines → IsJudged lines w v → IsJudged lines w u → v ≡ u }
+    ensures { (lines : List Line) (w : Witness) (v u : Verdict) → IsWellFormed lines → judged_btor lines w v → judged_btor lines w u → v ≡ u }
 {}
 
 /// The verdict is `Yes` exactly where the frames that the witness states pass.
 #[tactic(auto, using(crate::specs::laws::Verdicts::yes_where_accepted))]
 pub fn yes_where_accepted()
-    ensures { (lines : List Line) (w : Witness) → w.frames ≢ [] → IsJudged lines w Yes ↔ IsAccepted lines w.bad (statements_of w) }
+    ensures { (lines : List Line) (w : Witness) → w.frames ≢ [] → judged_btor lines w Yes ↔ ((rows : List (List BitVector)) × stated_frames lines w rows × PassAfter lines w.bad false (statements_of w) rows) }
 {}

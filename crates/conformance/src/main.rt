@@ -9,6 +9,7 @@ mod files;
 mod report;
 mod running;
 mod setting;
+mod short;
 mod tally;
 
 use files::Files;

@@ -5,11 +5,12 @@ ghost use Rattle.moxi_commands.specs.Outcome.{IsAbsent};
 
 use crate::compared::{Wanted, put_difference, put_number_difference};
 use crate::files::Files;
-use crate::setting::Setting;
+use crate::setting::{Setting, reads_of};
+use crate::short::ShortShelf;
 use case_text::{Answer, Case, Fault};
 use moxi_commands::{Status, run};
 use std::alloc::Global;
-use text_core::{DropSink, MemoryShelf, Shelf, SureShelf};
+use text_core::{DropSink, MemoryShelf, Numbers, Shelf, SureShelf};
 
 /// Runs the program as the case states, and puts what differs from what it wants.
 pub fn put_run<F: Shelf + Drop>(
@@ -19,17 +20,35 @@ pub fn put_run<F: Shelf + Drop>(
     differences: &mut Answer,
 ) -> Result<(), Fault> {
     let wanted = Wanted::of(alloc, case)?;
-    let setting = Setting::of(alloc, files, case)?;
-    put_set_run(alloc, setting, &wanted, differences)
+    let reads = reads_of(alloc, case)?;
+    put_runs(alloc, files, case, &reads, &wanted, differences)
+}
+
+// A run for each of the numbers, with at most so many bytes of a file in a call.
+fn put_runs<F: Shelf + Drop>(
+    alloc: Global,
+    files: &mut Files<F>,
+    case: &Case,
+    reads: &Numbers,
+    wanted: &Wanted,
+    differences: &mut Answer,
+) -> Result<(), Fault> {
+    for most in reads.iter() {
+        let setting = Setting::of(alloc, files, case)?;
+        put_set_run(alloc, setting, *most, wanted, differences)?;
+    }
+    Ok(())
 }
 
 fn put_set_run(
     alloc: Global,
     setting: Setting,
+    most: u64,
     wanted: &Wanted,
     differences: &mut Answer,
 ) -> Result<(), Fault> {
-    let mut shelf = MemoryShelf::new(setting.files, setting.shelf_fails);
+    let files = MemoryShelf::new(setting.files, setting.shelf_fails);
+    let mut shelf = ShortShelf::new(files, usize::try_from(most).unwrap_or(0));
     let mut out = setting.out.sink(alloc)?;
     let mut notes = setting.notes.sink(alloc)?;
     let status = run(alloc, &setting.words, &mut shelf, &mut out, &mut notes);

@@ -97,8 +97,9 @@ impl Setting {
             "run" | "sure" => self.words = strings(alloc, entry.says)?,
             "file" => self.files.push(files.pair(alloc, entry)?)?,
             "shelf" => {
-                let (_, rest) = entry.says.split_once("fails ").ok_or("calls that fail")?;
-                self.shelf_fails = numbers(alloc, rest)?;
+                if let Some(("fails", rest)) = entry.says.split_once(' ') {
+                    self.shelf_fails = numbers(alloc, rest)?;
+                }
             }
             "out" => {
                 self.out.take(alloc, entry.says)?;
@@ -109,6 +110,24 @@ impl Setting {
             _ => {}
         }
         Ok(())
+    }
+}
+
+/// The most bytes that a call reads of a file, for each of the runs that a case states: 0, which is no limit, where it states
+/// none.
+pub fn reads_of(alloc: Global, case: &Case) -> Result<Numbers, Fault> {
+    for entry in &case.entries {
+        if let Some(says) = reads_in(entry) {
+            return numbers(alloc, says);
+        }
+    }
+    numbers(alloc, "0")
+}
+
+fn reads_in<'a>(entry: &Entry<'a>) -> Option<&'a str> {
+    match (entry.key, entry.says.split_once(' ')) {
+        ("shelf", Some(("most", rest))) => Some(rest),
+        _ => None,
     }
 }
 

@@ -173,9 +173,9 @@ module _ (form : BooleanModel) (x : List ℕ) (place : Place) (is : List PlainIt
   types_hold : first_failing (over_instances (type_checks (names_in t)) 0 t) ≡ None
   types_hold =
       let domains = flat_map (λ (i : PlainItem). domain_checks i.domain_place i.domain) is in
-      let own = formula_typing (names_in t 0) in_state e in
-      ap first_failing (append-nil (domains ++ (own ++ [])))
-      ∙ both_pass domains (own ++ []) (domains_hold is truths) (ap first_failing (append-nil own) ∙ formula_holds)
+      let checks = formula_typing (names_in t 0) in_state e in
+      ap first_failing (append-nil (domains ++ (checks ++ [])))
+      ∙ both_pass domains (checks ++ []) (domains_hold is truths) (ap first_failing (append-nil checks) ∙ formula_holds)
 
   later_hold : first_failing (later_checks t) ≡ None
   later_hold =

@@ -14,6 +14,9 @@ pub mod Heads
 pub mod Truth
 pub mod Both
 pub mod Judgements
+pub mod Fronts
+pub mod Judged
+pub mod Stops
 pub mod SinkLemmas
 pub mod FormShape
 pub mod FormValues

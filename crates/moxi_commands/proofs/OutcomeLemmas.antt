@@ -17,7 +17,8 @@ use Rattle.moxi_commands.specs.Answers.{status_of, text_of, line_of}
 use Rattle.moxi_commands.specs.BooleanModels.{BooleanModel}
 use Rattle.moxi_commands.specs.Limits.{most_smv_bytes}
 use Rattle.moxi_commands.specs.Notes.{no_memory_line}
-use Rattle.moxi_commands.specs.Outcome.{Answers, IsAbsent, IsCutLine, IsLineOf, IsTold, MayAnswer, Serves}
+use Rattle.moxi_commands.specs.Outcome.{IsAbsent, IsCutLine, IsLineOf, IsTold, MayAnswer}
+use Rattle.moxi_commands.specs.Words.{Answers, Serves}
 use Rattle.moxi_commands.specs.Reading.{GoesOn, file_within, within_limit}
 use Rattle.moxi_commands.specs.Sinks.{IsPart, Noted}
 use Rattle.moxi_commands.specs.Translation.{HasForm, Accepts, TranslatesTo, IsServed, OfBytes, btor_text, smv_too_long}
@@ -231,6 +232,22 @@ run_fault_noted files command rose a s out notes untouched before now m w is =
 
 pub run_write_fault : (out told untouched undone part notes : Type 0) (s : Status) → (s ≡ status.WriteFault → (out × told) ⊎ (untouched × undone × part × notes)) → s ≡ status.WriteFault → out ⊎ notes
 run_write_fault out told untouched undone part notes s w is = elim (w is) [ inl o ↦ inl o.0 | inr n ↦ inr n.3 ]
+
+no_want : (a : Answer) → status_of a ≢ status.NoMemory
+no_want Usage e = absurd (cc)
+no_want (Unread name) e = absurd (cc)
+no_want (Refused r) e = absurd (cc)
+no_want (SecondRefused r) e = absurd (cc)
+no_want (No step clause) e = absurd (cc)
+no_want (Done output) e = absurd (cc)
+
+-- an answer that is there isn't for want of memory
+pub run_memory : {P : Type 0} (a : Answer) (s : Status) → Ends s a → s ≡ status.NoMemory → P
+run_memory a s ends is =
+    elim ends [
+      | inl e ↦ absurd (no_want a (sym e ∙ is))
+      | inr w ↦ absurd (let clash : status.WriteFault ≡ status.NoMemory = sym w ∙ is in cc)
+    ]
 
 -- there was no memory
 pub memory_noted : (files : Option Files) (command : Option Command) (rose : Type 0) (s : Status) (before now : Option (List ℕ)) (count later : ℕ) → Noted before now count later no_memory_line status.NoMemory s → s ≢ status.WriteFault

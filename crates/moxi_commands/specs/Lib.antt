@@ -16,4 +16,5 @@ pub mod Reading
 pub mod Sinks
 pub mod Translation
 pub mod Judgement
+pub mod Pieces
 pub mod Outcome

@@ -8,28 +8,13 @@ use Rattle.moxi_commands.specs.declared.status.Status.TheVariants as status
 use Rattle.moxi_commands.specs.declared.answer.Answer.{Answer}
 use Rattle.moxi_commands.specs.declared.answer.Answer.TheVariants.{Usage, Unread, Refused, SecondRefused, No}
 use Rattle.moxi_commands.specs.declared.words.Command.{Command}
-use Rattle.moxi_commands.specs.declared.words.Command.TheVariants.{SmvToBtor, JudgeBtor}
-use Rattle.moxi_commands.specs.Words.{command_of, Names}
+use Rattle.moxi_commands.specs.Words.{Answers, Names, command_of}
 use Rattle.moxi_commands.specs.Notes.{denied_line, no_memory_line, refused_line, refused_words, unread_line, usage_line, write_fault_line}
 use Rattle.moxi_commands.specs.Sinks.{IsPart}
-use Rattle.moxi_commands.specs.Translation.{IsServed, IsTranslation}
-use Rattle.moxi_commands.specs.Judgement.{IsJudgement}
-
--- the answer to a command
-abbrev pub Answers : Option Command → Files → Answer → Type 0
-Answers None files answer = answer ≡ Usage
-Answers (Some (SmvToBtor model)) files answer = IsTranslation files model answer
-Answers (Some (JudgeBtor model second)) files answer = IsJudgement files model second answer
 
 -- the answer that words and files define
-abbrev pub IsOutcome : List (List ℕ) → Files → Answer → Type 0
-IsOutcome words files answer = Answers (command_of words) files answer
-
--- what was written for a command stands for its model
-abbrev pub Serves : Option Command → Files → Option (List ℕ) → Option (List ℕ) → Type 0
-Serves None files before now = ⊥
-Serves (Some (SmvToBtor model)) files before now = IsServed files model before now
-Serves (Some (JudgeBtor model second)) files before now = Unit {0}
+abbrev pub outcome_of : List (List ℕ) → Files → Answer → Type 0
+outcome_of words files answer = Answers (command_of words) files answer
 
 -- the files are told, and this holds of them
 abbrev pub IsTold : Option Files → (Files → Type 0) → Type 0

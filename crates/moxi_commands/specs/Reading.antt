@@ -32,6 +32,11 @@ abbrev pub StopsWith : (Answer → Type 0) → Stop → Type 0
 StopsWith P (Answered answer) = P answer
 StopsWith P NoMemory = Unit {0}
 
+-- where a step stops for want of memory, this holds
+abbrev pub OnNoMemory : Type 0 → Stop → Type 0
+OnNoMemory P (Answered answer) = Unit {0}
+OnNoMemory P NoMemory = P
+
 -- the answer is that a file was not read
 abbrev pub SaysUnread : Answer → Type 0
 SaysUnread answer = status_of answer ≡ ReadFault

@@ -1,12 +1,17 @@
--- What the command words ask for.
+-- The commands: the words that ask for one, its files, and what is answered to it.
 use Rattle.std.specs.Prelude.{◌≡◌, ◌⊎◌, ◌==◌, ℕ, Bool, false, List, [], ◌∷◌, Option, Some, None, if◌then◌else◌, codes}
 use Rattle.std.specs.Str.{bytes_eq}
 use Rattle.std.specs.List.{list_any}
 use Rattle.std.specs.Borrow.{Bor}
+use Rattle.text_core.specs.Outside.{BeginsOnly, Files}
+use Rattle.moxi_commands.specs.declared.answer.Answer.{Answer}
+use Rattle.moxi_commands.specs.declared.answer.Answer.TheVariants.{Usage}
 use Rattle.moxi_commands.specs.declared.words.Task.{Task}
 use Rattle.moxi_commands.specs.declared.words.Task.TheVariants as task
 use Rattle.moxi_commands.specs.declared.words.Command.{Command}
 use Rattle.moxi_commands.specs.declared.words.Command.TheVariants.{SmvToBtor, JudgeBtor}
+use Rattle.moxi_commands.specs.Translation.{IsServed, IsTranslation}
+use Rattle.moxi_commands.specs.Judgement.{IsJudgement}
 
 -- byte 45 is `-`
 abbrev pub begins_with_dash : List ℕ → Bool
@@ -52,3 +57,21 @@ IsAmong (x ∷ y ∷ xs) name = (name ≡ x) ⊎ IsAmong (y ∷ xs) name
 abbrev pub Names : Option Command → List ℕ → Type 0
 Names None name = ⊥
 Names (Some command) name = IsAmong (files_of command) name
+
+-- the answer to a command
+abbrev pub Answers : Option Command → Files → Answer → Type 0
+Answers None files answer = answer ≡ Usage
+Answers (Some (SmvToBtor model)) files answer = IsTranslation files model answer
+Answers (Some (JudgeBtor model second)) files answer = IsJudgement files model second answer
+
+-- what was written for a command stands for its model
+abbrev pub Serves : Option Command → Files → Option (List ℕ) → Option (List ℕ) → Type 0
+Serves None files before now = ⊥
+Serves (Some (SmvToBtor model)) files before now = IsServed files model before now
+Serves (Some (JudgeBtor model second)) files before now = Unit {0}
+
+-- no second file was begun
+abbrev pub BeginsNoSecond : Option Files → Option (List ℕ) → Option (List ℕ) → Option Command → Type 0
+BeginsNoSecond files before now None = Unit {0}
+BeginsNoSecond files before now (Some (SmvToBtor model)) = Unit {0}
+BeginsNoSecond files before now (Some (JudgeBtor model second)) = BeginsOnly files before now model

@@ -1,5 +1,5 @@
 // The top call: reads the words, does what they say, and writes.
-ghost use Rattle.std.specs.Prelude.{◌≡◌, ◌≢◌, ◌⊎◌, ◌<◌, map, string_bytes, None, Some, IfOk, IfErr, IfSome, IsErrAnd, List, ℕ};
+ghost use Rattle.std.specs.Prelude.{◌≡◌, ◌≢◌, ◌⊎◌, ◌<◌, map, string_bytes, None, Some, IfOk, IfSome, OnErr, List, ℕ};
 ghost use Rattle.text_core.specs.Outside.{file_at, grown, Rose};
 ghost use Rattle.text_core.specs.declared.place.Refusal.{Refusal};
 ghost use Rattle.text_core.specs.declared.verdict.Clause.{Clause};
@@ -8,18 +8,16 @@ ghost use Rattle.moxi_commands.specs.declared.answer.Answer.{Answer};
 ghost use Rattle.moxi_commands.specs.declared.words.Command.{Command};
 ghost use Rattle.moxi_commands.specs.Answers.{line_of, status_of, text_of};
 ghost use Rattle.moxi_commands.specs.Notes.{write_fault_line};
-ghost use Rattle.moxi_commands.specs.Outcome.{BeginsFor, IsAbsent, IsCutLine, IsLineOf, IsOutcome, MayAnswer, Serves};
-ghost use Rattle.moxi_commands.specs.Reading.{SaysUnread, StopsUnread, StopsWith};
+ghost use Rattle.moxi_commands.specs.Outcome.{BeginsFor, IsAbsent, IsCutLine, IsLineOf, MayAnswer, outcome_of};
+ghost use Rattle.moxi_commands.specs.Reading.{SaysUnread};
 ghost use Rattle.moxi_commands.specs.Sinks.{IsPart, Took};
 ghost use Rattle.moxi_commands.specs.Translation.{Accepts, TranslatesTo};
-ghost use Rattle.moxi_commands.specs.Words.{command_of};
+ghost use Rattle.moxi_commands.specs.Words.{BeginsNoSecond, Serves, command_of};
 
 use crate::answer::{Answer, Stop};
-use crate::judge::judge_files;
 use crate::notes::{deliver, note};
 use crate::status::Status;
-use crate::translate::smv_to_btor;
-use crate::words::{Command, read_command};
+use crate::words::{answer_command, read_command};
 use std::alloc::Global;
 use text_core::{NoMemory, Shelf, Sink};
 
@@ -46,17 +44,17 @@ pub fn run<F: Shelf, K: Sink, N: Sink>(
 
     // The whole defined text was taken.
     ensures done { result ≡ Status.Done → IfSome (F.files shelf.old) (λ files. (answer : Answer)
-        × IsOutcome (map string_bytes words.now.items) files answer × (status_of answer ≡ Status.Done) × (K.taken out.new ≡ grown (K.taken out.old) (text_of answer))) }
+        × outcome_of (map string_bytes words.now.items) files answer × (status_of answer ≡ Status.Done) × (K.taken out.new ≡ grown (K.taken out.old) (text_of answer))) }
 
     // The judge denies the stated run as it is defined.
     ensures no { result ≡ Status.No → IfSome (F.files shelf.old) (λ files. (step : ℕ) × (clause : Clause)
-        × IsOutcome (map string_bytes words.now.items) files (Answer.No step clause)) }
+        × outcome_of (map string_bytes words.now.items) files (Answer.No step clause)) }
 
     // The model is refused as it is defined.
     ensures refused { result ≡ Status.Refused → IfSome (F.files shelf.old) (λ files. (refusal : Refusal)
-        × IsOutcome (map string_bytes words.now.items) files (Answer.Refused refusal)) }
+        × outcome_of (map string_bytes words.now.items) files (Answer.Refused refusal)) }
     ensures second_refused { result ≡ Status.SecondRefused → IfSome (F.files shelf.old) (λ files. (refusal : Refusal)
-        × IsOutcome (map string_bytes words.now.items) files (Answer.SecondRefused refusal)) }
+        × outcome_of (map string_bytes words.now.items) files (Answer.SecondRefused refusal)) }
 
     // The words are no command, whatever the shelf tells.
     ensures usage { result ≡ Status.Usage → command_of (map string_bytes words.now.items) ≡ None }
@@ -82,7 +80,7 @@ pub fn run<F: Shelf, K: Sink, N: Sink>(
     // `out` took nothing, or a front of the defined text.
     ensures untouched { result ≢ Status.Done → result ≢ Status.WriteFault → K.taken out.new ≡ K.taken out.old }
     ensures prefix { result ≡ Status.WriteFault → IfSome (F.files shelf.old) (λ files. (answer : Answer)
-        → IsOutcome (map string_bytes words.now.items) files answer → IsPart (K.taken out.old) (K.taken out.new) (text_of answer)) }
+        → outcome_of (map string_bytes words.now.items) files answer → IsPart (K.taken out.old) (K.taken out.new) (text_of answer)) }
 
     // No fault is passed over.
     ensures shelf_rose { F.faults shelf.old < F.faults shelf.new → (result ≡ Status.ReadFault) ⊎ (result ≡ Status.WriteFault) ⊎ (result ≡ Status.NoMemory) }
@@ -93,9 +91,12 @@ pub fn run<F: Shelf, K: Sink, N: Sink>(
     // Where no count rose, the status, the text and the line are those of the defined answer, but for want of memory.
     ensures complete { IfSome (F.files shelf.old) (λ files.
         ¬ Rose (F.faults shelf.old) (F.faults shelf.new) → ¬ Rose (K.faults out.old) (K.faults out.new) → ¬ Rose (N.faults notes.old) (N.faults notes.new)
-        → (answer : Answer) → IsOutcome (map string_bytes words.now.items) files answer
+        → (answer : Answer) → outcome_of (map string_bytes words.now.items) files answer
         → ((result ≡ status_of answer) × (K.taken out.new ≡ grown (K.taken out.old) (text_of answer)) × (N.taken notes.new ≡ grown (N.taken notes.old) (line_of answer)))
         ⊎ (result ≡ Status.NoMemory)) }
+
+    // Once the second file is begun, memory is never wanting.
+    ensures memory { result ≡ Status.NoMemory → BeginsNoSecond (F.files shelf.old) (F.begun shelf.old) (F.begun shelf.new) (command_of (map string_bytes words.now.items)) }
 
     // Only files that the words name are begun, and the shelf's files stay.
     ensures begun { BeginsFor (F.files shelf.old) (F.begun shelf.old) (F.begun shelf.new) (command_of (map string_bytes words.now.items)) }
@@ -108,6 +109,7 @@ pub fn run<F: Shelf, K: Sink, N: Sink>(
 }
 
 // Reads the words and the files that they name.
+#[tactic(auto, using(crate::proofs::Stops::begins_nothing))]
 fn answer_words<F: Shelf>(
     alloc: Global,
     words: &Vec<String>,
@@ -116,6 +118,7 @@ fn answer_words<F: Shelf>(
     ensures answer { IfOk result (MayAnswer (F.files shelf.old) (command_of (map string_bytes words.now.items)) (Rose (F.faults shelf.old) (F.faults shelf.new))) }
     ensures fault { F.faults shelf.old < F.faults shelf.new → IfOk result SaysUnread }
     ensures begun { BeginsFor (F.files shelf.old) (F.begun shelf.old) (F.begun shelf.new) (command_of (map string_bytes words.now.items)) }
+    ensures memory { OnErr result (BeginsNoSecond (F.files shelf.old) (F.begun shelf.old) (F.begun shelf.new) (command_of (map string_bytes words.now.items))) }
     ensures files { F.files shelf.new ≡ F.files shelf.old }
 {
     let Some(command) = read_command(alloc, words)? else {
@@ -124,19 +127,5 @@ fn answer_words<F: Shelf>(
     match answer_command(alloc, &command, shelf) {
         Ok(answer) | Err(Stop::Answered(answer)) => Ok(answer),
         Err(Stop::NoMemory) => Err(NoMemory),
-    }
-}
-
-// Does what the command says.
-fn answer_command<F: Shelf>(alloc: Global, command: &Command, shelf: &mut F) -> Result<Answer, Stop>
-    ensures answer { IfOk result (MayAnswer (F.files shelf.old) (Some command.now) (Rose (F.faults shelf.old) (F.faults shelf.new))) }
-    ensures stop { IfErr result (StopsWith (MayAnswer (F.files shelf.old) (Some command.now) (Rose (F.faults shelf.old) (F.faults shelf.new)))) }
-    ensures fault { F.faults shelf.old < F.faults shelf.new → IsErrAnd result (λ stop. StopsUnread stop) }
-    ensures begun { BeginsFor (F.files shelf.old) (F.begun shelf.old) (F.begun shelf.new) (Some command.now) }
-    ensures files { F.files shelf.new ≡ F.files shelf.old }
-{
-    match command {
-        Command::SmvToBtor(model) => smv_to_btor(alloc, model, shelf),
-        Command::JudgeBtor(model, second) => judge_files(alloc, model, second, shelf),
     }
 }

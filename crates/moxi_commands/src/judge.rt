@@ -1,21 +1,21 @@
 // The verdict on a witness for a BTOR2 text.
-ghost use Rattle.std.specs.Prelude.{◌≡◌, ◌<◌, ◌≤◌, length, IfOk, IfErr, IsErrAnd, Some};
-ghost use Rattle.text_core.specs.Outside.{Rose};
+ghost use Rattle.std.specs.Prelude.{◌≡◌, ◌<◌, ◌≤◌, [], length, false, IfOk, IfErr, IsErrAnd, Some};
+ghost use Rattle.text_core.specs.Outside.{BeginsOnly, Rose};
 ghost use Rattle.btor_tree.specs.Texts.{SpellsLines};
-ghost use Rattle.btor_witness.specs.Texts.{SpellsWitness};
-ghost use Rattle.btor_witness.specs.Sizes.{sizes_of};
-ghost use Rattle.btor_witness.specs.Printing.{IsWitness};
-ghost use Rattle.moxi_commands.specs.Judgement.{IsLinesRefusal, IsWitnessRefusal, IsVerdict, OfText};
+ghost use Rattle.btor_judge.specs.Judging.{StandsFor, has_ended};
+ghost use Rattle.moxi_commands.specs.Judgement.{IsLinesRefusal, witness_too_long};
 ghost use Rattle.moxi_commands.specs.declared.words.Command.{Command};
 ghost use Rattle.moxi_commands.specs.Limits.{most_btor_bytes, most_witness_bytes};
 ghost use Rattle.moxi_commands.specs.Outcome.{BeginsFor, MayAnswer};
-ghost use Rattle.moxi_commands.specs.Reading.{StopsUnread, StopsWith};
+ghost use Rattle.moxi_commands.specs.Pieces.{IsOfFile, judge_answer};
+ghost use Rattle.moxi_commands.specs.Reading.{Instead, OnNoMemory, StopsUnread, StopsWith};
 
 use crate::answer::{Answer, Output, Stop, refusal};
 use crate::files::read_file;
+use crate::pieces::{PIECE, PieceEnd, feed_file};
+use btor_judge::{Judge, JudgeEnd};
 use btor_text::read_btor;
 use btor_tree::Nodes;
-use btor_witness::{MOST_BYTES, Witness, judge_btor, read_witness};
 use std::alloc::Global;
 use text_core::kinds::{btor, witness};
 use text_core::{End, Name, Shelf, Verdict};
@@ -24,6 +24,7 @@ use text_core::{End, Name, Shelf, Verdict};
 const BTOR_LIMIT: usize = 134_217_728;
 
 /// Reads a BTOR2 text and a witness for it, and judges the witness.
+#[tactic(auto, using(crate::proofs::Judged::may_judge, crate::proofs::Stops::always))]
 pub fn judge_files<F: Shelf>(
     alloc: Global,
     model: &Name,
@@ -36,13 +37,13 @@ pub fn judge_files<F: Shelf>(
     ensures later { F.faults shelf.old ≤ F.faults shelf.new }
     ensures files { F.files shelf.new ≡ F.files shelf.old }
     ensures begun { BeginsFor (F.files shelf.old) (F.begun shelf.old) (F.begun shelf.new) (Some (Command.JudgeBtor model.now second.now)) }
+    ensures memory { IfErr result (OnNoMemory (BeginsOnly (F.files shelf.old) (F.begun shelf.old) (F.begun shelf.new) model.now)) }
 {
     let too_long = Answer::Refused(refusal(btor::TOO_LONG));
     let bytes = read_file(alloc, shelf, model, BTOR_LIMIT, too_long)?;
     let nodes = lines_of(alloc, &bytes)?;
-    let too_long = Answer::SecondRefused(refusal(witness::TOO_LONG));
-    let text = read_file(alloc, shelf, second, MOST_BYTES, too_long)?;
-    text_answer(alloc, &nodes, &text)
+    let answer = second_answer(alloc, &nodes, second, shelf)?;
+    Ok(answer)
 }
 
 // The lines that the bytes spell.
@@ -58,42 +59,66 @@ fn lines_of(alloc: Global, bytes: &[u8]) -> Result<Nodes, Stop>
     }
 }
 
-// The verdict on the witness that the text spells for the lines.
-fn text_answer(alloc: Global, nodes: &Nodes, text: &[u8]) -> Result<Answer, Stop>
-    requires { length text.now ≤ most_witness_bytes }
-    ensures answer { IfOk result (OfText nodes.now text.now) }
-    ensures stop { IfErr result (StopsWith (OfText nodes.now text.now)) }
+// The verdict on the witness in the second file. What takes memory is made before the file is begun.
+#[tactic(auto, using(crate::proofs::Stops::never))]
+fn second_answer<F: Shelf>(
+    alloc: Global,
+    nodes: &Nodes,
+    second: &Name,
+    shelf: &mut F,
+) -> Result<Answer, Stop>
+    ensures answer { IfOk result (IsOfFile (F.files shelf.old) second.now nodes.now) }
+    ensures stop { IfErr result (StopsWith (Instead (F.files shelf.old) (Rose (F.faults shelf.old) (F.faults shelf.new)) second.now most_witness_bytes witness_too_long)) }
+    ensures fault { F.faults shelf.old < F.faults shelf.new → IsErrAnd result (λ stop. StopsUnread stop) }
+    ensures later { F.faults shelf.old ≤ F.faults shelf.new }
+    ensures files { F.files shelf.new ≡ F.files shelf.old }
+    ensures begun { BeginsOnly (F.files shelf.old) (F.begun shelf.old) (F.begun shelf.new) second.now }
+    ensures memory { IfErr result (OnNoMemory (F.begun shelf.new ≡ F.begun shelf.old)) }
 {
-    let witness = witness_of(alloc, nodes, text)?;
-    verdict_answer(alloc, nodes, &witness)
+    let mut judge = Judge::new(alloc, nodes)?;
+    let spare = second.duplicate(alloc)?;
+    fed_answer(second, spare, nodes, &mut judge, shelf)
 }
 
-// The witness that the text spells for the lines.
-fn witness_of(alloc: Global, nodes: &Nodes, text: &[u8]) -> Result<Witness, Stop>
-    requires { length text.now ≤ most_witness_bytes }
-    ensures witness { IfOk result (SpellsWitness nodes.now text.now) }
-    ensures fits { IfOk result (IsWitness (sizes_of nodes.now)) }
-    ensures stop { IfErr result (StopsWith (IsWitnessRefusal nodes.now text.now)) }
+// The verdict on the witness in the second file, by a judge that nothing was fed to, with one more name for the note. This takes no
+// memory.
+#[tactic(auto, using(crate::proofs::Judged::of_file, crate::proofs::Judged::stands_for_some))]
+fn fed_answer<F: Shelf>(
+    second: &Name,
+    spare: Name,
+    nodes: &Nodes,
+    judge: &mut Judge,
+    shelf: &mut F,
+) -> Result<Answer, Stop>
+    requires same { spare ≡ second.now }
+    requires stands { StandsFor nodes.now judge.old [] }
+    requires going { has_ended judge.old ≡ false }
+    ensures answer { IfOk result (IsOfFile (F.files shelf.old) second.now nodes.now) }
+    ensures stop { IfErr result (StopsWith (Instead (F.files shelf.old) (Rose (F.faults shelf.old) (F.faults shelf.new)) second.now most_witness_bytes witness_too_long)) }
+    ensures memory { IfErr result (OnNoMemory ⊥) }
+    ensures fault { F.faults shelf.old < F.faults shelf.new → IsErrAnd result (λ stop. StopsUnread stop) }
+    ensures later { F.faults shelf.old ≤ F.faults shelf.new }
+    ensures files { F.files shelf.new ≡ F.files shelf.old }
+    ensures begun { BeginsOnly (F.files shelf.old) (F.begun shelf.old) (F.begun shelf.new) second.now }
 {
-    match read_witness(alloc, nodes, text) {
-        Ok(witness) => Ok(witness),
-        Err(End::Bad(refusal)) => Err(Stop::Answered(Answer::SecondRefused(refusal))),
-        Err(End::NoMemory) => Err(Stop::NoMemory),
+    let mut buffer = [0u8; PIECE];
+    match feed_file(shelf, second, &mut buffer, nodes, judge) {
+        Ok(()) => Ok(judge_answer(judge.end(nodes))),
+        Err(PieceEnd::Fault) => Err(Stop::Answered(Answer::Unread(spare))),
+        Err(PieceEnd::TooLong) => {
+            let too_long = Answer::SecondRefused(refusal(witness::TOO_LONG));
+            Err(Stop::Answered(too_long))
+        }
     }
 }
 
-// What is answered to the verdict on a witness.
-fn verdict_answer(alloc: Global, nodes: &Nodes, witness: &Witness) -> Result<Answer, Stop>
-    requires { IsWitness (sizes_of nodes.now) witness.now }
-    ensures answer { IfOk result (IsVerdict nodes.now witness.now) }
-    ensures stop { IfErr result (λ stop. stop ≡ Stop.NoMemory) }
+// What is answered to what the judge says.
+fn judge_answer(end: JudgeEnd) -> Answer
+    ensures { result ≡ judge_answer end }
 {
-    // A witness that was read has 100,000 frames at most.
-    let Ok(last) = u32::try_from(witness.frames.len().saturating_sub(1)) else {
-        return Err(Stop::NoMemory);
-    };
-    match judge_btor(alloc, nodes, witness)? {
-        Verdict::Yes => Ok(Answer::Done(Output::Yes(witness.bad, last))),
-        Verdict::No(step, clause) => Ok(Answer::No(step, clause)),
+    match end {
+        JudgeEnd::Judged(bad, last, Verdict::Yes) => Answer::Done(Output::Yes(bad, last)),
+        JudgeEnd::Judged(_, _, Verdict::No(step, clause)) => Answer::No(step, clause),
+        JudgeEnd::Bad(refusal) => Answer::SecondRefused(refusal),
     }
 }

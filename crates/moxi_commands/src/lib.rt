@@ -10,6 +10,7 @@ mod formula;
 mod judge;
 mod lines;
 mod notes;
+mod pieces;
 mod status;
 mod translate;
 mod words;

@@ -1,10 +1,16 @@
-// Reading of the command words.
-ghost use Rattle.std.specs.Prelude.{◌≡◌, map, string_bytes, IfOk, Some};
+// The commands: how words are read as one, and what each does.
+ghost use Rattle.std.specs.Prelude.{◌≡◌, ◌<◌, map, string_bytes, IfOk, IfErr, IsErrAnd, Some};
 ghost use Rattle.std.specs.List.{list_any};
-ghost use Rattle.moxi_commands.specs.Words.{begins_with_dash, command_of, command_with, row, task_in};
+ghost use Rattle.text_core.specs.Outside.{Rose};
+ghost use Rattle.moxi_commands.specs.Outcome.{BeginsFor, MayAnswer};
+ghost use Rattle.moxi_commands.specs.Reading.{OnNoMemory, StopsUnread, StopsWith};
+ghost use Rattle.moxi_commands.specs.Words.{BeginsNoSecond, begins_with_dash, command_of, command_with, row, task_in};
 
+use crate::answer::{Answer, Stop};
+use crate::judge::judge_files;
+use crate::translate::smv_to_btor;
 use std::alloc::Global;
-use text_core::{Name, NoMemory};
+use text_core::{Name, NoMemory, Shelf};
 
 /// What the command words ask for.
 #[derive(Drop)]
@@ -41,6 +47,26 @@ pub fn read_command(alloc: Global, words: &Vec<String>) -> Result<Option<Command
     match task_in(&COMMANDS, word.as_bytes()) {
         Some(task) => command_with(alloc, task, files),
         None => Ok(None),
+    }
+}
+
+/// Does what the command says.
+#[tactic(auto, using(crate::proofs::Stops::held))]
+pub fn answer_command<F: Shelf>(
+    alloc: Global,
+    command: &Command,
+    shelf: &mut F,
+) -> Result<Answer, Stop>
+    ensures answer { IfOk result (MayAnswer (F.files shelf.old) (Some command.now) (Rose (F.faults shelf.old) (F.faults shelf.new))) }
+    ensures stop { IfErr result (StopsWith (MayAnswer (F.files shelf.old) (Some command.now) (Rose (F.faults shelf.old) (F.faults shelf.new)))) }
+    ensures fault { F.faults shelf.old < F.faults shelf.new → IsErrAnd result (λ stop. StopsUnread stop) }
+    ensures begun { BeginsFor (F.files shelf.old) (F.begun shelf.old) (F.begun shelf.new) (Some command.now) }
+    ensures memory { IfErr result (OnNoMemory (BeginsNoSecond (F.files shelf.old) (F.begun shelf.old) (F.begun shelf.new) (Some command.now))) }
+    ensures files { F.files shelf.new ≡ F.files shelf.old }
+{
+    match command {
+        Command::SmvToBtor(model) => smv_to_btor(alloc, model, shelf),
+        Command::JudgeBtor(model, second) => judge_files(alloc, model, second, shelf),
     }
 }
 

@@ -11,9 +11,6 @@ use smv_text::{Path, Reserved, Sign, Token, TokenKind};
 use std::alloc::Global;
 use text_core::{Name, Names};
 
-// Numbers of a text are below this bound.
-const NUMBER_BOUND: u64 = 1 << 62;
-
 /// The tokens after this sign, which has to come.
 pub fn expect(tokens: &[Token], sign: Sign) -> Result<&[Token], Stop>
     ensures passes { Passes (λ r. r.now) result sign tokens.now }
@@ -39,16 +36,15 @@ pub fn number(tokens: &[Token]) -> Result<(u64, &[Token]), Stop>
     }
 }
 
-// The integer of a number. No text has a number over the bound, for which there would be no place in a tree.
+// The integer of a number. No text has a number of 2^62 or more, so that one for which there is no place in a tree comes never.
 fn signed(number: u64) -> Result<i64, Stop>
     ensures ok { IfOk result (λ z. z ≡ pos number) }
-    ensures small { OnOk result (number < 2 ^ 62) }
+    ensures small { OnOk result (number < 2 ^ 63) }
     ensures err { IfErr result (λ e. e ≡ NoMemory) }
 {
-    if number < NUMBER_BOUND {
-        Ok(number as i64)
-    } else {
-        Err(Stop::NoMemory)
+    match i64::try_from(number) {
+        Ok(integer) => Ok(integer),
+        Err(_) => Err(Stop::NoMemory),
     }
 }
 

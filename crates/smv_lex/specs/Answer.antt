@@ -6,6 +6,10 @@ use Rattle.text_core.specs.declared.place.Refusal.{Refusal}
 use Rattle.smv_text.specs.declared.token.Token.{Token}
 use Rattle.smv_text.specs.Lexing.{TokenList, Lexes, IsLexRefusal}
 
+-- the refusal of a text: of the first byte at which it goes on no more in gaps and tokens
+abbrev pub lex_refusal : List ℕ → Refusal → Type 0
+lex_refusal = IsLexRefusal
+
 -- these tokens, or want of memory
 abbrev pub Reads : List Token → Result TokenList End → Type 0
 Reads ts (Ok tokens) = tokens.items ≡ ts

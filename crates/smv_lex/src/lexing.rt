@@ -10,10 +10,10 @@ ghost use Rattle.smv_text.specs.Signs.{sign_bytes};
 ghost use Rattle.smv_text.specs.Keywords.{word_bytes};
 ghost use Rattle.smv_text.specs.Words.{kind_of};
 ghost use Rattle.smv_lex.specs.Reading.{gap_length, Gives};
-ghost use Rattle.smv_lex.specs.Answer.{Reads, Stops, IsRefused, IsAnswered};
+ghost use Rattle.smv_lex.specs.Answer.{Reads, Stops, IsRefused, IsAnswered, lex_refusal};
 ghost use Rattle.smv_lex.specs.Spelling.{joined};
 ghost use Rattle.smv_lex.specs.Printable.{ArePrintable, CanAllBePrinted};
-ghost use Rattle.smv_text.specs.Lexing.{kinds, Lexes, IsLexRefusal, opened_by, most_brackets};
+ghost use Rattle.smv_text.specs.Lexing.{kinds, Lexes, opened_by, most_brackets};
 
 use crate::brackets::{MOST_BRACKETS, opened_by};
 use crate::scan::{gap_length, kind_of, lexeme_length};
@@ -113,7 +113,7 @@ pub fn lex(alloc: Global, text: &[u8]) -> Result<Tokens, LexEnd>
     // The refusal is that of the text.
     ensures refused { IfErr result (IsRefused text.now) }
     // What it is refused with is answered, unless memory runs out.
-    ensures stops { (why : Refusal) → IsLexRefusal text.now why → Stops why result }
+    ensures stops { (why : Refusal) → lex_refusal text.now why → Stops why result }
 {
     tokens_of(alloc, text)
 }
@@ -123,9 +123,9 @@ pub fn one_lexing()
     // No text lexes to two lists of tokens.
     ensures tokens { (text : List ℕ) (ts us : List Token) → Lexes text ts → Lexes text us → ts ≡ us }
     // No text has two refusals.
-    ensures refusal { (text : List ℕ) (why other : Refusal) → IsLexRefusal text why → IsLexRefusal text other → why ≡ other }
+    ensures refusal { (text : List ℕ) (why other : Refusal) → lex_refusal text why → lex_refusal text other → why ≡ other }
     // None has both tokens and a refusal.
-    ensures apart { (text : List ℕ) (ts : List Token) (why : Refusal) → Lexes text ts → IsLexRefusal text why → ⊥ }
+    ensures apart { (text : List ℕ) (ts : List Token) (why : Refusal) → Lexes text ts → lex_refusal text why → ⊥ }
     // Each has one or the other.
     ensures total { (text : List ℕ) → IsAnswered text }
 {}

@@ -42,10 +42,14 @@ pub record IsTooHigh (tokens : TokenList) (why : Refusal) : Type 0 where
   pub first : first_high (of_modules source.modules) ≡ Some place
   pub is : why ≡ refusal 7 place
 
+-- the dead token of these is at this place: no spelling begins with the tokens up to it, and one begins with those before
+abbrev pub dead_token : List Token → ℕ → Type 0
+dead_token = IsDeadAt
+
 -- The tokens have a dead token, and it is here.
 pub record HasDead (tokens : TokenList) (why : Refusal) : Type 0 where
   pub index : ℕ
-  pub dead : IsDeadAt tokens.items index
+  pub dead : dead_token tokens.items index
   pub is : why ≡ dead_refusal tokens.end (drop index tokens.items)
 
 pub data IsRefused (tokens : TokenList) : End → Type 0 where

@@ -1,4 +1,4 @@
-use Rattle.moxi_commands.proofs.OutcomeLemmas.{run_done, run_served, run_translates, run_prefix, run_complete, run_refused, run_second_refused, run_no, run_usage, run_no_command, run_read_fault, run_absent, run_noted, run_silent, run_fault_noted, run_untouched, run_write_fault, memory_fault_noted}
+use Rattle.moxi_commands.proofs.OutcomeLemmas.{run_done, run_served, run_translates, run_prefix, run_complete, run_refused, run_second_refused, run_no, run_usage, run_no_command, run_read_fault, run_absent, run_noted, run_silent, run_fault_noted, run_untouched, run_write_fault, run_memory, memory_fault_noted}
 use Rattle.moxi_commands.proofs.command.run.Goals as goal
 
 pub returns-in-Ok-clause-done : goal.returns-in-Ok-clause-done
@@ -51,6 +51,9 @@ returns-in-Ok-clause-served g c = λ done. run_served _ _ _ _ (run_done _ _ _ c.
 
 pub returns-in-Ok-clause-translates : goal.returns-in-Ok-clause-translates
 returns-in-Ok-clause-translates g c = run_translates _ _ _ _ _ c.in-Ok.answer c.deliver.result _ _ c.in-Ok.ensures.answer c.deliver.ensures.status c.deliver.ensures.text (run_write_fault _ _ _ _ _ _ c.deliver.result c.deliver.ensures.write_fault)
+
+pub returns-in-Ok-clause-memory : goal.returns-in-Ok-clause-memory
+returns-in-Ok-clause-memory g c = run_memory c.in-Ok.answer c.deliver.result c.deliver.ensures.status
 
 pub returns-in-Err-clause-fault_noted : goal.returns-in-Err-clause-fault_noted
 returns-in-Err-clause-fault_noted g c = memory_fault_noted _ _ _ _ c.note.result _ _ _ _ _ c.note.ensures

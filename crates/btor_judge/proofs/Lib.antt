@@ -1,0 +1,9 @@
+pub mod FirstLaws
+pub mod DigitLaws
+pub mod ScanLaws
+pub mod KeptLaws
+pub mod Passing
+pub mod StandLaws
+pub mod Turns
+pub mod Pieces
+pub mod Ending

@@ -1,0 +1,118 @@
+// The first part of a line, byte by byte.
+ghost use Rattle.std.specs.Prelude.{◌≡◌, ◌+◌, ◌-◌, ◌*◌, ◌≤◌, min};
+ghost use Rattle.btor_tree.specs.Parts.{cap};
+ghost use Rattle.btor_judge.specs.Firsts.{first_byte, first_next, first_shape, first_number, is_comment, marked_next};
+
+use btor_witness::{Shape, marked};
+use text_core::is_digit;
+
+/// What the bytes of a line's first part are so far: a beginning of `sat` or the whole word, a dot, a comment, a mark (`b`,
+/// `j`, `#` or `@`) alone or with a number behind it, a number, or none of these. Numbers stop at 2^31.
+#[derive(Clone, Copy)]
+pub enum First {
+    Empty,
+    S,
+    Sa,
+    Sat,
+    Dot,
+    Comment,
+    Mark(u8),
+    Marked(u8, u32),
+    Number(u32),
+    Other,
+}
+
+// A number with one digit more.
+fn with_digit(number: u32, digit: u8) -> u32
+    requires low { 48 ≤ digit }
+    requires high { digit ≤ 57 }
+    ensures { result ≡ min (10 * number + (digit - 48)) cap }
+{
+    let next = 10 * u64::from(number) + u64::from(digit - b'0');
+    next.min(1 << 31) as u32
+}
+
+fn first_byte(b: u8) -> First
+    ensures { result ≡ first_byte b }
+{
+    if is_digit(b) {
+        return First::Number(u32::from(b - b'0'));
+    }
+    match b {
+        b's' => First::S,
+        b'.' => First::Dot,
+        b';' => First::Comment,
+        b'b' => First::Mark(b),
+        b'j' => First::Mark(b),
+        b'#' => First::Mark(b),
+        b'@' => First::Mark(b),
+        _ => First::Other,
+    }
+}
+
+impl First {
+    /// With one byte more.
+    pub fn next(self, b: u8) -> First
+        ensures { result ≡ first_next self b }
+    {
+        match self {
+            First::Empty => first_byte(b),
+            First::S => { if b == b'a' { First::Sa } else { First::Other } }
+            First::Sa => { if b == b't' { First::Sat } else { First::Other } }
+            First::Comment => First::Comment,
+            First::Mark(mark) => marked_next(mark, 0, b),
+            First::Marked(mark, number) => marked_next(mark, number, b),
+            First::Number(number) => {
+                if is_digit(b) {
+                    First::Number(with_digit(number, b))
+                } else {
+                    First::Other
+                }
+            }
+            _ => First::Other,
+        }
+    }
+
+    /// Is it a comment?
+    pub fn is_comment(self) -> bool
+        ensures { result ≡ is_comment self }
+    {
+        match self {
+            First::Comment => true,
+            _ => false,
+        }
+    }
+
+    /// The shape of a line that has no other part.
+    pub fn shape(self) -> Option<Shape>
+        ensures { result ≡ first_shape self }
+    {
+        match self {
+            First::Sat => Some(Shape::Sat),
+            First::Dot => Some(Shape::End),
+            First::Marked(mark, number) => marked(mark, number),
+            _ => None,
+        }
+    }
+
+    /// The number that the part spells.
+    pub fn number(self) -> Option<u32>
+        ensures { result ≡ first_number self }
+    {
+        match self {
+            First::Number(number) => Some(number),
+            _ => None,
+        }
+    }
+}
+
+// A mark and the number behind it, with one byte more.
+fn marked_next(mark: u8, number: u32, b: u8) -> First
+    ensures { result ≡ marked_next mark number b }
+{
+    if is_digit(b) {
+        First::Marked(mark, with_digit(number, b))
+    } else {
+        First::Other
+    }
+}

@@ -1,0 +1,194 @@
+// The judge of a text that comes in pieces.
+ghost use Rattle.std.specs.Prelude.{◌≡◌, ◌<◌, ℕ, List, [], ◌∷◌, ◌++◌, length, true, false, IfOk};
+ghost use Rattle.btor_tree.specs.declared.lines.Line.{Line as TreeLine};
+ghost use Rattle.btor_witness.specs.Sizes.{most_bytes};
+ghost use Rattle.btor_judge.specs.Judging.{Stands, StandsFor, IsReading, counted, closed, has_ended, Answers};
+
+use crate::line::Line;
+use crate::reader::{Reader, Stage};
+use btor_tree::Nodes;
+use btor_witness::MOST_BYTES;
+use std::alloc::Global;
+use text_core::kinds::witness;
+use text_core::{FIRST_PLACE, NoMemory, Place, Refusal, Verdict};
+
+/// What a judge answers: the number of the bad line, the number of the last step and the verdict, or the text's refusal.
+#[derive(Clone, Copy, Debug, PartialEq, Eq)]
+pub enum JudgeEnd {
+    Judged(u32, u32, Verdict),
+    Bad(Refusal),
+}
+
+/// A judge of a witness whose text comes in pieces. All its memory is taken by `new`, and is independent of the text's
+/// length. The lines stay with the caller, who hands the same ones to each call.
+#[derive(Drop)]
+pub struct Judge {
+    reader: Reader,
+    line: Line,
+    stage: Stage,
+    ended: bool,
+    bytes: u32,
+    lines: u32,
+    offset: u32,
+}
+
+impl Judge {
+    /// A judge that stands for the empty text.
+    pub fn new(alloc: Global, nodes: &Nodes) -> Result<Judge, NoMemory>
+        ensures stands { IfOk result (λ judge. StandsFor nodes.now judge []) }
+        ensures unended { IfOk result (λ judge. has_ended judge ≡ false) }
+        ensures some { IfOk result (λ judge. Stands nodes.now judge) }
+    {
+        Ok(Judge {
+            reader: Reader::new(alloc, nodes)?,
+            line: Line::new(),
+            stage: Stage::Going,
+            ended: false,
+            bytes: 0,
+            lines: 0,
+            offset: 0,
+        })
+    }
+
+    /// Takes the next piece of the text. It takes no memory. Once the judge has ended, nothing changes.
+    pub fn feed(&mut self, nodes: &Nodes, piece: &[u8])
+        requires { Stands nodes.now self.old }
+        ensures stands { (text : List ℕ) → has_ended self.old ≡ false → StandsFor nodes.now self.old text → StandsFor nodes.now self.new (text ++ piece.now) }
+        ensures some { Stands nodes.now self.new }
+        ensures kept { has_ended self.new ≡ has_ended self.old }
+        ensures ended { has_ended self.old ≡ true → self.new ≡ self.old }
+    {
+        if self.ended {
+            return;
+        }
+        for b in piece {
+            self.take(nodes, *b);
+        }
+    }
+
+    // Takes one byte.
+    fn take(&mut self, nodes: &Nodes, b: u8)
+        requires some { Stands nodes.now self.old }
+        requires unended { has_ended self.old ≡ false }
+        ensures stands { (text : List ℕ) → StandsFor nodes.now self.old text → StandsFor nodes.now self.new (text ++ b ∷ []) }
+        ensures kept { has_ended self.new ≡ has_ended self.old }
+    {
+        if self.bytes as usize >= MOST_BYTES {
+            self.stage = Stage::TooLong;
+            return;
+        }
+        match self.stage {
+            Stage::Going => {
+                self.read(nodes, b);
+                self.bytes += 1;
+            }
+            _ => self.bytes += 1,
+        }
+    }
+
+    // Reads one byte, which is counted behind it.
+    fn read(&mut self, nodes: &Nodes, b: u8)
+        requires { (text : List ℕ) × IsReading nodes.now self.old text × (length text < most_bytes) }
+        ensures stands { (text : List ℕ) → IsReading nodes.now self.old text → length text < most_bytes → StandsFor nodes.now (counted self.new) (text ++ b ∷ []) }
+        ensures kept { has_ended self.new ≡ has_ended self.old }
+        ensures bytes { self.new.bytes ≡ self.old.bytes }
+    {
+        if b == b'\n' {
+            self.end_line(nodes);
+        } else {
+            self.line.put(b);
+        }
+    }
+
+    fn end_line(&mut self, nodes: &Nodes)
+        requires { (text : List ℕ) × IsReading nodes.now self.old text × (length text < most_bytes) }
+        ensures stands { (text : List ℕ) → IsReading nodes.now self.old text → length text < most_bytes → StandsFor nodes.now (counted self.new) (text ++ 10 ∷ []) }
+        ensures kept { has_ended self.new ≡ has_ended self.old }
+        ensures bytes { self.new.bytes ≡ self.old.bytes }
+    {
+        self.stage = self.reader.take_line(nodes, &self.line);
+        match self.stage {
+            Stage::Going => {
+                self.lines += 1;
+                self.offset = self.bytes + 1;
+                self.line = Line::new();
+            }
+            _ => {}
+        }
+    }
+
+    /// What is answered of the text that came: the first refusal, in the order in which `read_witness` has them, or else
+    /// what `judge_btor` says. It takes no memory. From then on the judge has ended, and a further call answers the same.
+    pub fn end(&mut self, nodes: &Nodes) -> JudgeEnd
+        requires { Stands nodes.now self.old }
+        ensures answers { (text : List ℕ) → StandsFor nodes.now self.old text → Answers nodes.now text result }
+        ensures only { (text : List ℕ) (other : JudgeEnd) → StandsFor nodes.now self.old text → Answers nodes.now text other → result ≡ other }
+        ensures stands { (text : List ℕ) → StandsFor nodes.now self.old text → StandsFor nodes.now self.new text }
+        ensures some { Stands nodes.now self.new }
+        ensures ended { has_ended self.new ≡ true }
+        ensures same { has_ended self.old ≡ true → self.new ≡ self.old }
+    {
+        // This call's contract says that the lines fit one another.
+        let _count = nodes.len();
+        if self.ended {
+            return self.answer();
+        }
+        self.close(nodes);
+        self.answer()
+    }
+
+    // The text has no more bytes.
+    fn close(&mut self, nodes: &Nodes)
+        requires some { Stands nodes.now self.old }
+        requires unended { has_ended self.old ≡ false }
+        ensures stands { (text : List ℕ) → StandsFor nodes.now self.old text → StandsFor nodes.now self.new text }
+        ensures ended { has_ended self.new ≡ true }
+    {
+        match self.stage {
+            Stage::Going => {
+                self.close_line(nodes);
+                self.ended = true;
+            }
+            _ => self.ended = true,
+        }
+    }
+
+    // The last line may lack its end; a text that ends before the witness does is refused there.
+    fn close_line(&mut self, nodes: &Nodes)
+        requires { (text : List ℕ) × IsReading nodes.now self.old text }
+        ensures { (text : List ℕ) → IsReading nodes.now self.old text → StandsFor nodes.now (closed self.new) text }
+    {
+        self.stage = self.reader.take_line(nodes, &self.line);
+        match self.stage {
+            Stage::Going => self.stage = Stage::Refused(witness::UNENDED),
+            _ => {}
+        }
+    }
+
+    fn answer(&self) -> JudgeEnd
+        requires { (lines : List TreeLine) × Stands lines self.now }
+        ensures { (lines : List TreeLine) (text : List ℕ) → has_ended self.now ≡ true → StandsFor lines self.now text → Answers lines text result }
+    {
+        match self.stage {
+            Stage::Done => {
+                JudgeEnd::Judged(
+                    self.reader.bad(),
+                    self.reader.count(),
+                    self.reader.verdict(),
+                )
+            }
+            Stage::Refused(kind) => JudgeEnd::Bad(Refusal {
+                kind,
+                place: Place {
+                    line: self.lines + 1,
+                    column: 1,
+                    offset: self.offset,
+                },
+            }),
+            _ => JudgeEnd::Bad(Refusal {
+                kind: witness::TOO_LONG,
+                place: FIRST_PLACE,
+            }),
+        }
+    }
+}

@@ -1,0 +1,360 @@
+// Where the reading of a witness stands, and what is judged so far.
+ghost use Rattle.std.specs.Prelude.{◌≡◌, ◌⊎◌, ◌+◌, ◌<◌, ◌^◌, ◌↔◌, ℕ, true, List, [], ◌∷◌, ◌++◌, length, IfOk, IfSome, IfNone, IsTrue};
+ghost use Rattle.std.specs.List.{AllByRecursion};
+ghost use Rattle.btor_tree.specs.declared.lines.Line.{Line as TreeLine};
+ghost use Rattle.btor_tree.specs.Fits.{is_state};
+ghost use Rattle.btor_frames.specs.Held.{FramesFit};
+ghost use Rattle.btor_witness.specs.declared.phase.Phase.TheVariants as phase;
+ghost use Rattle.btor_witness.specs.declared.witness.Frame.{Frame};
+ghost use Rattle.btor_witness.specs.Bytes.{line_parts};
+ghost use Rattle.btor_witness.specs.Sizes.{sizes_of, is_within};
+ghost use Rattle.btor_witness.specs.Reading.{Reading, begin, frames_of, sat_line, property_line, justice_line, new_frame, states_line, inputs_line, assignment_line, end_line, step};
+ghost use Rattle.btor_witness.specs.Texts.{next_of};
+ghost use Rattle.btor_witness.specs.Judging.{statement_of, OnStated, Passes, FailsFirst};
+ghost use Rattle.btor_witness.specs.Room.{IsWordThere, places_of};
+ghost use Rattle.btor_judge.specs.Scanning.{line_of};
+ghost use Rattle.btor_judge.specs.Standing.{ReaderFits, AreJudged, IsAt, StandsIn, IsSomewhere, HasFrame, AgreesAt, JudgesFrame, HasClosed, Does, IsStageOf};
+
+use crate::line::Line;
+use crate::part::Part;
+use btor_frames::Frames;
+use btor_tree::Nodes;
+use btor_witness::{
+    MOST_FRAMES, MOST_WORDS, Phase, Shape, input_widths, is_same, state_places, state_widths,
+};
+use std::alloc::Global;
+use text_core::kinds::witness;
+use text_core::{Clause, Kind, List, NoMemory, Verdict};
+use word_core::Word;
+
+/// How far the reading of a text is: it goes on, it is past the witness's end, the current line is refused, or the text is
+/// longer than a witness may be.
+#[derive(Clone, Copy)]
+pub enum Stage {
+    Going,
+    Done,
+    Refused(Kind),
+    TooLong,
+}
+
+/// What is read of a witness: what comes next, the bad line, the number of the frames before the last one with the verdict
+/// on them, and what the last frame states so far; and the current frame of the lines, with the places of the states.
+#[derive(Drop)]
+pub struct Reader {
+    bads: u32,
+    phase: Phase,
+    bad: u32,
+    count: u32,
+    verdict: Verdict,
+    states: Part,
+    inputs: Part,
+    frames: Frames,
+    places: List<u32>,
+}
+
+impl Reader {
+    /// A reader that has read nothing.
+    pub fn new(alloc: Global, nodes: &Nodes) -> Result<Reader, NoMemory>
+        ensures { IfOk result (λ reader. IsAt nodes.now reader begin) }
+    {
+        // This call's contract says that the lines fit one another.
+        let _count = nodes.len();
+        let states = state_widths(alloc, nodes)?;
+        let inputs = input_widths(alloc, nodes)?;
+        Ok(Reader {
+            bads: nodes.bads(),
+            phase: Phase::Start,
+            bad: 0,
+            count: 0,
+            verdict: Verdict::Yes,
+            states: Part::new(alloc, states)?,
+            inputs: Part::new(alloc, inputs)?,
+            frames: Frames::new(alloc, nodes)?,
+            places: state_places(alloc, nodes)?,
+        })
+    }
+
+    /// Reads one line.
+    pub fn take_line(&mut self, nodes: &Nodes, line: &Line) -> Stage
+        requires { IsSomewhere nodes.now self.old }
+        ensures { (r : Reading) (raw : List ℕ) → StandsIn nodes.now self.old r → line.now ≡ line_of raw → Does nodes.now r (next_of (sizes_of nodes.now) r (line_parts raw)) self.new result }
+    {
+        if line.is_passed() {
+            return Stage::Going;
+        }
+        match line.shape() {
+            Some(shape) => self.step(nodes, shape),
+            None => Stage::Refused(witness::LINE),
+        }
+    }
+
+    fn step(&mut self, nodes: &Nodes, shape: Shape) -> Stage
+        requires { IsSomewhere nodes.now self.old }
+        ensures { (r : Reading) → StandsIn nodes.now self.old r → Does nodes.now r (step (sizes_of nodes.now) r shape) self.new result }
+    {
+        match shape {
+            Shape::Sat => self.sat_line(),
+            Shape::Property(number) => self.property_line(number),
+            Shape::Justice(_) => self.justice_line(),
+            Shape::States(number) => self.states_line(nodes, number),
+            Shape::Inputs(number) => self.inputs_line(nodes, number),
+            Shape::End => self.end_line(nodes),
+            Shape::Assignment(index, word) => self.assignment_line(index, word),
+        }
+    }
+
+    fn sat_line(&mut self) -> Stage
+        ensures { (lines : List TreeLine) (r : Reading) → IsAt lines self.old r → Does lines r (sat_line r.phase r) self.new result }
+    {
+        match self.phase {
+            Phase::Start => {
+                self.phase = Phase::Property;
+                Stage::Going
+            }
+            _ => Stage::Refused(witness::LINE),
+        }
+    }
+
+    fn property_line(&mut self, number: u32) -> Stage
+        ensures { (lines : List TreeLine) (r : Reading) → IsAt lines self.old r → Does lines r (property_line (sizes_of lines) number r.phase r) self.new result }
+    {
+        match self.phase {
+            Phase::Property => {
+                if number >= self.bads {
+                    return Stage::Refused(witness::NO_BAD);
+                }
+                self.bad = number;
+                self.phase = Phase::Heading;
+                Stage::Going
+            }
+            _ => Stage::Refused(witness::LINE),
+        }
+    }
+
+    fn justice_line(&self) -> Stage
+        ensures { (lines : List TreeLine) (r : Reading) → IsAt lines self.now r → Does lines r (justice_line r.phase) self.now result }
+    {
+        match self.phase {
+            Phase::Property => Stage::Refused(witness::JUSTICE),
+            _ => Stage::Refused(witness::LINE),
+        }
+    }
+
+    fn states_line(&mut self, nodes: &Nodes, number: u32) -> Stage
+        requires { IsSomewhere nodes.now self.old }
+        ensures { (r : Reading) → StandsIn nodes.now self.old r → Does nodes.now r (states_line (sizes_of nodes.now) number r.phase r) self.new result }
+    {
+        match self.phase {
+            Phase::Start => Stage::Refused(witness::LINE),
+            Phase::Property => Stage::Refused(witness::LINE),
+            _ => self.new_frame(nodes, Phase::States, number),
+        }
+    }
+
+    fn inputs_line(&mut self, nodes: &Nodes, number: u32) -> Stage
+        requires { IsSomewhere nodes.now self.old }
+        ensures { (r : Reading) → StandsIn nodes.now self.old r → Does nodes.now r (inputs_line (sizes_of nodes.now) number r.phase r) self.new result }
+    {
+        match self.phase {
+            Phase::Start => Stage::Refused(witness::LINE),
+            Phase::Property => Stage::Refused(witness::LINE),
+            Phase::States => {
+                if number == self.count {
+                    self.phase = Phase::Inputs;
+                    return Stage::Going;
+                }
+                self.new_frame(nodes, Phase::Inputs, number)
+            }
+            _ => self.new_frame(nodes, Phase::Inputs, number),
+        }
+    }
+
+    // Begins a frame with this part, once the one before it is judged.
+    fn new_frame(&mut self, nodes: &Nodes, part: Phase, number: u32) -> Stage
+        requires somewhere { IsSomewhere nodes.now self.old }
+        requires part { (part ≡ phase.States) ⊎ (part ≡ phase.Inputs) }
+        ensures { (r : Reading) → StandsIn nodes.now self.old r → Does nodes.now r (new_frame (sizes_of nodes.now) part number r) self.new result }
+    {
+        if number != self.frame_count() {
+            return Stage::Refused(witness::FRAME_ORDER);
+        }
+        if !self.may_follow(number) {
+            return Stage::Refused(witness::TOO_LONG);
+        }
+        self.close_frame(nodes);
+        self.states.clear();
+        self.inputs.clear();
+        self.phase = part;
+        Stage::Going
+    }
+
+    // How many frames have begun.
+    fn frame_count(&self) -> u32
+        requires { self.now.count < 2 ^ 31 }
+        ensures { (r : Reading) → self.now.phase ≡ r.phase → self.now.count ≡ length r.frames → result ≡ length (frames_of r) }
+    {
+        match self.phase {
+            Phase::States => self.count + 1,
+            Phase::Inputs => self.count + 1,
+            _ => self.count,
+        }
+    }
+
+    // May one frame more follow so many?
+    fn may_follow(&self, count: u32) -> bool
+        ensures { (lines : List TreeLine) → ReaderFits lines self.now → result ≡ is_within (sizes_of lines) (count + 1) }
+    {
+        let frames = u64::from(count) + 1;
+        let lines = self.states.len() as u128 + self.inputs.len() as u128;
+        frames <= MOST_FRAMES && u128::from(frames) * lines <= u128::from(MOST_WORDS)
+    }
+
+    // Judges the last frame, where there is one, which another one follows.
+    fn close_frame(&mut self, nodes: &Nodes)
+        requires { IsSomewhere nodes.now self.old }
+        ensures { (r : Reading) → StandsIn nodes.now self.old r → HasClosed nodes.now self.new r }
+    {
+        match self.phase {
+            Phase::States => self.pass_frame(nodes),
+            Phase::Inputs => self.pass_frame(nodes),
+            _ => {}
+        }
+    }
+
+    fn pass_frame(&mut self, nodes: &Nodes)
+        requires frame { (f : Frame) × HasFrame nodes.now self.old f }
+        requires few { self.old.count < 2 ^ 31 }
+        ensures rest { self.new ≡ record self.old { frames = self.new.frames; verdict = self.new.verdict; count = self.old.count + 1 } }
+        ensures fits { FramesFit nodes.now self.new.frames }
+        ensures judged { (f : Frame) (before : List Frame) → HasFrame nodes.now self.old f → AreJudged nodes.now self.old.frames self.old.count self.old.bad before self.old.verdict → AreJudged nodes.now self.new.frames (self.old.count + 1) self.old.bad (before ++ f ∷ []) self.new.verdict }
+    {
+        self.judge_frame(nodes, false);
+        self.count += 1;
+    }
+
+    // Judges the last frame, where none before it has failed.
+    fn judge_frame(&mut self, nodes: &Nodes, last: bool)
+        requires { (f : Frame) × HasFrame nodes.now self.old f }
+        ensures rest { self.new ≡ record self.old { frames = self.new.frames; verdict = self.new.verdict } }
+        ensures fits { FramesFit nodes.now self.new.frames }
+        ensures judged { (f : Frame) (before : List Frame) → HasFrame nodes.now self.old f → AreJudged nodes.now self.old.frames self.old.count self.old.bad before self.old.verdict → JudgesFrame nodes.now last self.new.frames self.old.count self.old.bad before f self.new.verdict }
+    {
+        // This call's contract says that the lines fit one another.
+        let _count = nodes.len();
+        match self.verdict {
+            Verdict::Yes => {
+                self.frames
+                    .step(nodes, self.inputs.words(), self.states.words());
+                if let Some(clause) = self.failure(nodes, last) {
+                    self.verdict = Verdict::No(self.count, clause);
+                }
+            }
+            _ => {}
+        }
+    }
+
+    // The first clause that the current frame fails.
+    fn failure(&self, nodes: &Nodes, last: bool) -> Option<Clause>
+        requires frame { (f : Frame) × HasFrame nodes.now self.now f }
+        requires begun { self.now.frames.begun ≡ true }
+        ensures some { IfSome result (λ clause. (f : Frame) → HasFrame nodes.now self.now f → OnStated nodes.now (statement_of f) self.now.frames.row (λ begun. FailsFirst nodes.now self.now.bad begun last (statement_of f) self.now.frames.row clause)) }
+        ensures none { IfNone result ((f : Frame) → HasFrame nodes.now self.now f → OnStated nodes.now (statement_of f) self.now.frames.row (λ begun. Passes nodes.now self.now.bad begun last (statement_of f) self.now.frames.row)) }
+    {
+        if !self.agrees(nodes) {
+            return Some(Clause::StateDiffers);
+        }
+        if !self.frames.constraints_hold(nodes) {
+            return Some(Clause::ConstraintFails);
+        }
+        if last && !self.frames.bad(nodes, self.bad) {
+            return Some(Clause::NotBroken);
+        }
+        None
+    }
+
+    // Are the stated words of states those of the current frame?
+    fn agrees(&self, nodes: &Nodes) -> bool
+        requires { (f : Frame) × HasFrame nodes.now self.now f }
+        ensures { (f : Frame) → HasFrame nodes.now self.now f → IsTrue result ↔ AllByRecursion (IsWordThere (places_of is_state nodes.now) self.now.frames.row) f.states }
+    {
+        for k in 0..self.places.len() {
+            if !self.agrees_at(nodes, k) {
+                return false;
+            }
+        }
+        true
+    }
+
+    // Is the word of one state that of the current frame, where it is stated?
+    fn agrees_at(&self, nodes: &Nodes, k: usize) -> bool
+        requires frame { (f : Frame) × HasFrame nodes.now self.now f }
+        requires inside { k < length self.now.places }
+        ensures { IsTrue result ↔ AgreesAt (places_of is_state nodes.now) self.now.frames.row self.now.states k }
+    {
+        // This call's contract says that the lines fit one another.
+        let _count = nodes.len();
+        if !self.states.is_marked(k) {
+            return true;
+        }
+        let place = *self.places.at(k);
+        is_same(self.frames.value(place), self.states.words().at(k))
+    }
+
+    fn assignment_line(&mut self, index: u32, word: Option<Word>) -> Stage
+        ensures { (lines : List TreeLine) (r : Reading) → IsAt lines self.old r → Does lines r (assignment_line (sizes_of lines) index word r.phase r) self.new result }
+    {
+        match self.phase {
+            Phase::States => stage_of(self.states.state(index, word)),
+            Phase::Inputs => stage_of(self.inputs.state(index, word)),
+            _ => Stage::Refused(witness::LINE),
+        }
+    }
+
+    fn end_line(&mut self, nodes: &Nodes) -> Stage
+        requires { IsSomewhere nodes.now self.old }
+        ensures { (r : Reading) → StandsIn nodes.now self.old r → Does nodes.now r (end_line r.phase r) self.new result }
+    {
+        match self.phase {
+            Phase::States => {
+                self.judge_frame(nodes, true);
+                Stage::Done
+            }
+            Phase::Inputs => {
+                self.judge_frame(nodes, true);
+                Stage::Done
+            }
+            _ => Stage::Refused(witness::LINE),
+        }
+    }
+
+    /// The number of the bad line.
+    pub fn bad(&self) -> u32
+        ensures { result ≡ self.now.bad }
+    {
+        self.bad
+    }
+
+    /// The last step.
+    pub fn count(&self) -> u32
+        ensures { result ≡ self.now.count }
+    {
+        self.count
+    }
+
+    /// The verdict.
+    pub fn verdict(&self) -> Verdict
+        ensures { result ≡ self.now.verdict }
+    {
+        self.verdict
+    }
+}
+
+// The reading goes on behind a statement, unless it is refused.
+fn stage_of(stated: Result<(), Kind>) -> Stage
+    ensures { IsStageOf stated result }
+{
+    match stated {
+        Ok(()) => Stage::Going,
+        Err(kind) => Stage::Refused(kind),
+    }
+}
