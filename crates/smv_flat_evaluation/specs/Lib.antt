@@ -1,0 +1,2 @@
+pub mod RowValues
+pub mod Fronts

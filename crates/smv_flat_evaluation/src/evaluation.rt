@@ -1,0 +1,525 @@
+// The value of a flat expression, given the values of items.
+ghost use Rattle.std.specs.Prelude.{◌≡◌, [], ◌∷◌, pos, map, IfSome};
+ghost use Rattle.smv_meaning.specs.declared.value.Value.TheVariants as OfValue;
+ghost use Rattle.smv_meaning.specs.Operators.{applied, signed, called, trues};
+ghost use Rattle.smv_meaning.specs.Values.{is_between};
+ghost use Rattle.smv_meaning.specs.Expressions.{is_implies};
+ghost use Rattle.smv_meaning.specs.Safety.{front_value};
+ghost use Rattle.smv_flat.specs.FlatTree.{flat_links_of, flat_branches_of, flat_trees_of, flat_from_right, flat_are_implies, flat_values, flat_permits};
+ghost use Rattle.smv_flat.specs.FlatView.{plain_flat, plain_flat_link, plain_flat_branch};
+ghost use Rattle.smv_flat_laws.specs.FlatTruth.{symbol_value};
+ghost use Rattle.smv_operators.specs.View.{seen_value, plain_value};
+ghost use Rattle.smv_flat_evaluation.specs.RowValues.{row_values, row_denote, row_chosen, row_taken};
+ghost use Rattle.smv_flat_evaluation.specs.Fronts.{row_chain, row_implications, row_fronts_value, row_fronts_permit};
+
+use crate::fits::{infix_fits, one_fits, sign_fits, two_fit};
+use smv_flat::{FlatBranch, FlatExpr, FlatLink, FlatShape};
+use smv_operators::{
+    Plain, Seen, apply, call_one, call_two, copied, implication, no_plain, no_seen, opposite,
+    plain_same, same, seen_of, selection, truth_of,
+};
+use smv_text::{Function, Infix, Prefix};
+use text_core::Names;
+
+/// The value of the item with this number in a row; what stands for a value where the row has none.
+#[tactic(auto, unfolding(crate::specs::RowValues::row_values))]
+pub fn item_at<'a>(row: &[Seen<'a>], k: usize) -> Seen<'a>
+    ensures { seen_value result ≡ row_values row.now k }
+{
+    match row.get(k) {
+        None => no_seen(),
+        Some(value) => copied(value),
+    }
+}
+
+// The value of the symbol with this number.
+fn symbol_at<'a>(symbols: &'a Names, s: u32) -> Seen<'a>
+    ensures { seen_value result ≡ symbol_value symbols.now s }
+{
+    let s = s as usize;
+    if s < symbols.len() {
+        Seen::Symbol(symbols.at(s).bytes())
+    } else {
+        no_seen()
+    }
+}
+
+// ---- operators; there is no value where an integer passes 64 bits
+
+fn number_value<'a>(n: u64) -> Option<Seen<'a>>
+    ensures { IfSome result (λ v. seen_value v ≡ OfValue.Integer (pos n)) }
+{
+    match i64::try_from(n) {
+        Ok(z) => Some(Seen::Integer(z)),
+        Err(_) => None,
+    }
+}
+
+fn signed_value<'a>(sign: Prefix, count: u32, value: &Seen<'a>) -> Option<Seen<'a>>
+    ensures { IfSome result (λ v. seen_value v ≡ signed sign count (seen_value value.now)) }
+{
+    if count % 2 == 0 {
+        Some(copied(value))
+    } else if sign_fits(sign, count, value) {
+        Some(seen_of(opposite(sign, count, value)))
+    } else {
+        None
+    }
+}
+
+fn infix_value(op: Infix, a: &Seen, b: &Seen) -> Option<Plain>
+    ensures { IfSome result (λ v. plain_value v ≡ applied op (seen_value a.now) (seen_value b.now)) }
+{
+    if infix_fits(op, a, b) {
+        Some(apply(op, a, b))
+    } else {
+        None
+    }
+}
+
+fn one_value(f: Function, a: &Seen) -> Option<Plain>
+    ensures { IfSome result (λ v. plain_value v ≡ called f (seen_value a.now ∷ [])) }
+{
+    if one_fits(f, a) {
+        Some(call_one(f, a))
+    } else {
+        None
+    }
+}
+
+fn two_value(f: Function, a: &Seen, b: &Seen) -> Plain
+    ensures { plain_value result ≡ called f (seen_value a.now ∷ seen_value b.now ∷ []) }
+{
+    two_fit(f, a, b);
+    call_two(f, a, b)
+}
+
+fn lies_between(low: i64, high: i64, value: &Seen) -> bool
+    ensures { result ≡ is_between low high (seen_value value.now) }
+{
+    match value {
+        Seen::Truth(_) => false,
+        Seen::Integer(z) => low <= *z && *z <= high,
+        Seen::Symbol(_) => false,
+        Seen::Bits(_) => false,
+    }
+}
+
+// ---- chains
+
+// A chain of `->` is read from the right.
+#[tactic(auto, using(crate::proofs::Evaluating::right_front))]
+fn is_from_right(links: &[FlatLink]) -> bool
+    ensures { result ≡ flat_from_right (flat_links_of (map plain_flat_link links.now)) }
+{
+    match links.split_first() {
+        None => false,
+        Some(_) => all_imply(links),
+    }
+}
+
+#[tactic(auto, using(crate::proofs::Evaluating::implies_front))]
+fn all_imply(links: &[FlatLink]) -> bool
+    ensures { result ≡ flat_are_implies (flat_links_of (map plain_flat_link links.now)) }
+{
+    let mut rest = links;
+    while let Some((first, more)) = rest.split_first() {
+        if !is_implication(first.op) {
+            return false;
+        }
+        rest = more;
+    }
+    true
+}
+
+fn is_implication(op: Infix) -> bool
+    ensures { result ≡ is_implies op }
+{
+    match op {
+        Infix::Implies => true,
+        _ => false,
+    }
+}
+
+// ---- expressions
+
+/// The value of an expression, given the names of symbols, and the values of items in this state and in the following one, which
+/// `next` reads. There is none where an integer on the way passes 64 bits.
+#[cycle(evaluation)]
+pub fn evaluate<'a>(
+    symbols: &'a Names,
+    e: &FlatExpr,
+    now: &[Seen<'a>],
+    later: &[Seen<'a>],
+) -> Option<Seen<'a>>
+    ensures { IfSome result (λ v. seen_value v ≡ (row_denote symbols.now now.now later.now (plain_flat e.now)).value) }
+{
+    match &e.shape {
+        FlatShape::True => Some(Seen::Truth(true)),
+        FlatShape::False => Some(Seen::Truth(false)),
+        FlatShape::Number(n) => number_value(*n),
+        FlatShape::Literal(w) => Some(Seen::Bits(*w)),
+        FlatShape::Symbol(s) => Some(symbol_at(symbols, *s)),
+        FlatShape::Item(k, under) => {
+            let row = if *under { later } else { now };
+            Some(item_at(row, *k as usize))
+        },
+        FlatShape::Prefix(sign, count, a) => {
+            let Some(value) = evaluate(symbols, a, now, later) else {
+                return None;
+            };
+            signed_value(*sign, *count, &value)
+        }
+        FlatShape::Chain(a, links) => {
+            let Some(first) = evaluate(symbols, a, now, later) else {
+                return None;
+            };
+            chained(symbols, &first, links.as_slice(), now, later)
+        }
+        FlatShape::Choice(branches, last) => {
+            chosen(symbols, branches.as_slice(), last, now, later)
+        }
+        FlatShape::Case(branches) => taken(symbols, branches.as_slice(), now, later),
+        FlatShape::Select(a, high, low) => {
+            let Some(value) = evaluate(symbols, a, now, later) else {
+                return None;
+            };
+            Some(seen_of(selection(*high as u64, *low as u64, &value)))
+        }
+        FlatShape::Call(f, arguments) => {
+            let value = call_value(symbols, *f, arguments.as_slice(), now, later)?;
+            Some(seen_of(value))
+        }
+        FlatShape::Set(_) => Some(no_seen()),
+        FlatShape::Range(_, _) => Some(no_seen()),
+    }
+}
+
+// A chain, given the value of its first operand.
+#[cycle(evaluation)]
+fn chained<'a>(
+    symbols: &'a Names,
+    first: &Seen<'a>,
+    links: &[FlatLink],
+    now: &[Seen<'a>],
+    later: &[Seen<'a>],
+) -> Option<Seen<'a>>
+    ensures { IfSome result (λ v. seen_value v ≡ row_chain symbols.now now.now later.now (seen_value first.now) (flat_links_of (map plain_flat_link links.now))) }
+{
+    if is_from_right(links) {
+        rest_implied(symbols, first, links, now, later)
+    } else {
+        last_front(symbols, first, links, now, later)
+    }
+}
+
+// The value with the implications that follow it.
+#[cycle(evaluation)]
+fn rest_implied<'a>(
+    symbols: &'a Names,
+    first: &Seen<'a>,
+    links: &[FlatLink],
+    now: &[Seen<'a>],
+    later: &[Seen<'a>],
+) -> Option<Seen<'a>>
+    ensures { IfSome result (λ v. seen_value v ≡ row_implications symbols.now now.now later.now (seen_value first.now) (flat_links_of (map plain_flat_link links.now))) }
+{
+    match links.split_first() {
+        None => Some(copied(first)),
+        Some((link, more)) => {
+            let Some(operand) = evaluate(symbols, &link.operand, now, later) else {
+                return None;
+            };
+            let Some(rest) = rest_implied(symbols, &operand, more, now, later) else {
+                return None;
+            };
+            Some(seen_of(implication(first, &rest)))
+        }
+    }
+}
+
+// The front of a chain with the links that follow it, from the left.
+#[cycle(evaluation)]
+fn last_front<'a>(
+    symbols: &'a Names,
+    first: &Seen<'a>,
+    links: &[FlatLink],
+    now: &[Seen<'a>],
+    later: &[Seen<'a>],
+) -> Option<Seen<'a>>
+    ensures { IfSome result (λ v. seen_value v ≡ row_fronts_value symbols.now now.now later.now (seen_value first.now) (flat_links_of (map plain_flat_link links.now))) }
+{
+    let mut front = copied(first);
+    let mut rest = links;
+    while let Some((link, more)) = rest.split_first() {
+        let next = next_front(symbols, link.op, &front, &link.operand, now, later)?;
+        front = seen_of(next);
+        rest = more;
+    }
+    Some(front)
+}
+
+// A front with the operand behind its last operator.
+#[cycle(evaluation)]
+fn next_front<'a>(
+    symbols: &'a Names,
+    op: Infix,
+    front: &Seen<'a>,
+    operand: &FlatExpr,
+    now: &[Seen<'a>],
+    later: &[Seen<'a>],
+) -> Option<Plain>
+    ensures { IfSome result (λ v. plain_value v ≡ front_value op (seen_value front.now) (row_denote symbols.now now.now later.now (plain_flat operand.now))) }
+{
+    match op {
+        Infix::Member => {
+            let is_member = permits(symbols, operand, front, now, later)?;
+            Some(Plain::Truth(is_member))
+        }
+        Infix::Union => Some(no_plain()),
+        _ => {
+            let Some(value) = evaluate(symbols, operand, now, later) else {
+                return None;
+            };
+            infix_value(op, front, &value)
+        }
+    }
+}
+
+// The first branch whose condition is true, else what stands behind the last colon.
+#[cycle(evaluation)]
+fn chosen<'a>(
+    symbols: &'a Names,
+    branches: &[FlatBranch],
+    last: &FlatExpr,
+    now: &[Seen<'a>],
+    later: &[Seen<'a>],
+) -> Option<Seen<'a>>
+    ensures { IfSome result (λ v. seen_value v ≡ (row_chosen symbols.now now.now later.now (flat_branches_of (map plain_flat_branch branches.now)) (row_denote symbols.now now.now later.now (plain_flat last.now))).value) }
+{
+    let mut rest = branches;
+    while let Some((branch, more)) = rest.split_first() {
+        let Some(condition) = evaluate(symbols, &branch.when, now, later) else {
+            return None;
+        };
+        if truth_of(&condition) {
+            return evaluate(symbols, &branch.value, now, later);
+        }
+        rest = more;
+    }
+    evaluate(symbols, last, now, later)
+}
+
+// The first branch whose condition is true, and the last branch if none is.
+#[cycle(evaluation)]
+fn taken<'a>(
+    symbols: &'a Names,
+    branches: &[FlatBranch],
+    now: &[Seen<'a>],
+    later: &[Seen<'a>],
+) -> Option<Seen<'a>>
+    ensures { IfSome result (λ v. seen_value v ≡ (row_taken symbols.now now.now later.now (flat_branches_of (map plain_flat_branch branches.now))).value) }
+{
+    match branches.split_last() {
+        None => Some(no_seen()),
+        Some((last, firsts)) => chosen(symbols, firsts, &last.value, now, later),
+    }
+}
+
+// A function of its arguments.
+#[cycle(evaluation)]
+fn call_value<'a>(
+    symbols: &'a Names,
+    f: Function,
+    arguments: &[FlatExpr],
+    now: &[Seen<'a>],
+    later: &[Seen<'a>],
+) -> Option<Plain>
+    ensures { IfSome result (λ v. plain_value v ≡ called f (flat_values (symbol_value symbols.now) (row_values now.now) (row_values later.now) (flat_trees_of (map plain_flat arguments.now)))) }
+{
+    if let Function::Count = f {
+        let count = true_count(symbols, arguments, now, later)?;
+        return Some(Plain::Integer(count));
+    }
+    match arguments.split_first() {
+        None => Some(no_plain()),
+        Some((first, more)) => {
+            let Some(a) = evaluate(symbols, first, now, later) else {
+                return None;
+            };
+            match more.split_first() {
+                None => one_value(f, &a),
+                Some((second, others)) => {
+                    let Some(b) = evaluate(symbols, second, now, later) else {
+                        return None;
+                    };
+                    match others.split_first() {
+                        None => Some(two_value(f, &a, &b)),
+                        Some(_) => Some(no_plain()),
+                    }
+                }
+            }
+        }
+    }
+}
+
+// How many of these are true.
+#[cycle(evaluation)]
+fn true_count<'a>(
+    symbols: &'a Names,
+    arguments: &[FlatExpr],
+    now: &[Seen<'a>],
+    later: &[Seen<'a>],
+) -> Option<i64>
+    ensures { IfSome result (λ n. n ≡ pos (trues (flat_values (symbol_value symbols.now) (row_values now.now) (row_values later.now) (flat_trees_of (map plain_flat arguments.now))))) }
+{
+    let mut count = 0i64;
+    let mut rest = arguments;
+    while let Some((first, more)) = rest.split_first() {
+        let Some(value) = evaluate(symbols, first, now, later) else {
+            return None;
+        };
+        if truth_of(&value) {
+            count = count.checked_add(1)?;
+        }
+        rest = more;
+    }
+    Some(count)
+}
+
+/// Does the expression permit the value? There is no answer where an integer on the way passes 64 bits.
+#[cycle(evaluation)]
+pub fn permits<'a>(
+    symbols: &'a Names,
+    e: &FlatExpr,
+    value: &Seen<'a>,
+    now: &[Seen<'a>],
+    later: &[Seen<'a>],
+) -> Option<bool>
+    ensures { IfSome result (λ b. b ≡ (row_denote symbols.now now.now later.now (plain_flat e.now)).permits (seen_value value.now)) }
+{
+    match &e.shape {
+        FlatShape::Set(elements) => one_permits(symbols, elements.as_slice(), value, now, later),
+        FlatShape::Range(low, high) => Some(lies_between(*low, *high, value)),
+        FlatShape::Choice(branches, last) => {
+            chosen_permits(symbols, branches.as_slice(), last, value, now, later)
+        }
+        FlatShape::Case(branches) => {
+            taken_permits(symbols, branches.as_slice(), value, now, later)
+        }
+        FlatShape::Chain(a, links) => {
+            if is_from_right(links.as_slice()) {
+                let Some(own) = evaluate(symbols, e, now, later) else {
+                    return None;
+                };
+                Some(same(&own, value))
+            } else {
+                let Some(first) = evaluate(symbols, a, now, later) else {
+                    return None;
+                };
+                let has = permits(symbols, a, value, now, later)?;
+                last_permits(symbols, &first, has, links.as_slice(), value, now, later)
+            }
+        }
+        _ => {
+            let Some(own) = evaluate(symbols, e, now, later) else {
+                return None;
+            };
+            Some(same(&own, value))
+        }
+    }
+}
+
+// Does one of the expressions permit the value?
+#[cycle(evaluation)]
+fn one_permits<'a>(
+    symbols: &'a Names,
+    elements: &[FlatExpr],
+    value: &Seen<'a>,
+    now: &[Seen<'a>],
+    later: &[Seen<'a>],
+) -> Option<bool>
+    ensures { IfSome result (λ b. b ≡ flat_permits (symbol_value symbols.now) (row_values now.now) (row_values later.now) (flat_trees_of (map plain_flat elements.now)) (seen_value value.now)) }
+{
+    let mut rest = elements;
+    while let Some((first, more)) = rest.split_first() {
+        let has = permits(symbols, first, value, now, later)?;
+        if has {
+            return Some(true);
+        }
+        rest = more;
+    }
+    Some(false)
+}
+
+// Does a choice permit the value?
+#[cycle(evaluation)]
+fn chosen_permits<'a>(
+    symbols: &'a Names,
+    branches: &[FlatBranch],
+    last: &FlatExpr,
+    value: &Seen<'a>,
+    now: &[Seen<'a>],
+    later: &[Seen<'a>],
+) -> Option<bool>
+    ensures { IfSome result (λ b. b ≡ (row_chosen symbols.now now.now later.now (flat_branches_of (map plain_flat_branch branches.now)) (row_denote symbols.now now.now later.now (plain_flat last.now))).permits (seen_value value.now)) }
+{
+    let mut rest = branches;
+    while let Some((branch, more)) = rest.split_first() {
+        let Some(condition) = evaluate(symbols, &branch.when, now, later) else {
+            return None;
+        };
+        if truth_of(&condition) {
+            return permits(symbols, &branch.value, value, now, later);
+        }
+        rest = more;
+    }
+    permits(symbols, last, value, now, later)
+}
+
+// Does a case permit the value?
+#[cycle(evaluation)]
+fn taken_permits<'a>(
+    symbols: &'a Names,
+    branches: &[FlatBranch],
+    value: &Seen<'a>,
+    now: &[Seen<'a>],
+    later: &[Seen<'a>],
+) -> Option<bool>
+    ensures { IfSome result (λ b. b ≡ (row_taken symbols.now now.now later.now (flat_branches_of (map plain_flat_branch branches.now))).permits (seen_value value.now)) }
+{
+    match branches.split_last() {
+        None => Some(same(&no_seen(), value)),
+        Some((last, firsts)) => chosen_permits(symbols, firsts, &last.value, value, now, later),
+    }
+}
+
+// Does a chain permit the value, given the value of its first operand and whether that permits it?
+#[cycle(evaluation)]
+fn last_permits<'a>(
+    symbols: &'a Names,
+    first: &Seen<'a>,
+    first_has: bool,
+    links: &[FlatLink],
+    value: &Seen<'a>,
+    now: &[Seen<'a>],
+    later: &[Seen<'a>],
+) -> Option<bool>
+    ensures { IfSome result (λ b. b ≡ row_fronts_permit symbols.now now.now later.now (seen_value value.now) (seen_value first.now) first_has (flat_links_of (map plain_flat_link links.now))) }
+{
+    let mut front = copied(first);
+    let mut has = first_has;
+    let mut rest = links;
+    while let Some((link, more)) = rest.split_first() {
+        let next = next_front(symbols, link.op, &front, &link.operand, now, later)?;
+        if let Infix::Union = link.op {
+            let operand_has = permits(symbols, &link.operand, value, now, later)?;
+            has = has || operand_has;
+        } else {
+            has = plain_same(&next, value);
+        }
+        front = seen_of(next);
+        rest = more;
+    }
+    Some(has)
+}

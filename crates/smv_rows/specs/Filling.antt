@@ -1,0 +1,34 @@
+-- Rows that are filled body by body.
+use Rattle.std.specs.Prelude.{ℕ, ◌==◌, if◌then◌else◌, List, [], ◌∷◌, Option, Some, None, slice_get}
+use Rattle.std.specs.Borrow.{Bor}
+use Rattle.smv_flat.specs.declared.expressions.FlatExpr.{FlatExpr}
+use Rattle.smv_flat.specs.FlatTree.{FlatTree, flat_denote}
+use Rattle.smv_flat.specs.FlatView.{plain_flat}
+use Rattle.smv_meaning.specs.declared.value.Value.{Value}
+use Rattle.smv_flat_laws.specs.FlatTruth.{Row}
+
+-- the body of each item that has one
+abbrev pub Bodies : Type 0
+Bodies = ℕ → Option FlatTree
+
+abbrev pub body_plain : Option (Bor FlatExpr) → Option FlatTree
+body_plain None = None
+body_plain (Some e) = Some (plain_flat e.now)
+
+abbrev pub body_or_none : Option (Option (Bor FlatExpr)) → Option FlatTree
+body_or_none None = None
+body_or_none (Some o) = body_plain o
+
+-- the bodies that stand in a list, each at the number of its item
+abbrev pub bodies_in : List (Option (Bor FlatExpr)) → Bodies
+bodies_in bodies k = body_or_none (slice_get bodies k)
+
+-- the row in which an item has the value of its body
+abbrev pub with_body : (ℕ → Value) → Row → ℕ → Option FlatTree → Row
+with_body symbols row k None m = row m
+with_body symbols row k (Some e) m = if k == m then (flat_denote symbols row row e).value else row m
+
+-- the row in which the items of a list, one after another, have the values of their bodies
+abbrev pub filled : Bodies → (ℕ → Value) → Row → List ℕ → Row
+filled bodies symbols row [] = row
+filled bodies symbols row (k ∷ ks) = filled bodies symbols (with_body symbols row k (bodies k)) ks

@@ -1,0 +1,18 @@
+//! Rows of values of a flat form's items, and what its formulas say of rows.
+#![tactic(auto)]
+
+mod bodies;
+mod order;
+mod parts;
+mod places;
+mod reading;
+mod references;
+mod row;
+mod truth;
+mod variables;
+
+pub use order::{RowOrder, row_order};
+pub use parts::FlatParts;
+pub use places::ItemPlace;
+pub use row::Row;
+pub use truth::{frozen_stay, init_holds, invar_holds, is_broken, trans_holds};

@@ -1,0 +1,46 @@
+// How rows of a flat form are filled.
+ghost use Rattle.std.specs.Prelude.{IfOk, IfSome};
+ghost use Rattle.smv_rows.specs.RowOrders.{IsRowOrder};
+
+use crate::bodies::bodies_of;
+use crate::parts::FlatParts;
+use crate::places::{ItemPlace, name_all, places_of};
+use crate::references::order_of;
+use name_set::NameSet;
+use smv_flat::FlatExpr;
+use std::alloc::Global;
+use text_core::{List, NoMemory};
+
+/// How rows of a flat form are filled: the bodies by the numbers of their items, the order in which they are evaluated, the names
+/// of the items, and the place of each item's name among them.
+#[derive(Drop)]
+pub struct RowOrder<'f> {
+    pub bodies: Vec<Option<&'f FlatExpr>>,
+    pub order: List<usize>,
+    pub names: NameSet,
+    pub places: Vec<ItemPlace>,
+}
+
+/// How rows of the flat form are filled. There is no way where bodies read one another in a circle, an item has two bodies or a
+/// variable has one, or a number is of no item.
+pub fn row_order<'f>(alloc: Global, flat: &FlatParts<'f>) -> Result<Option<RowOrder<'f>>, NoMemory>
+    ensures { IfOk result (λ o. IfSome o (IsRowOrder flat.now)) }
+{
+    let Some(bodies) = bodies_of(alloc, flat.items, flat.formulas)? else {
+        return Ok(None);
+    };
+    let Some(order) = order_of(alloc, bodies.as_slice())? else {
+        return Ok(None);
+    };
+    let mut names = NameSet::new(alloc);
+    name_all(alloc, flat.items, &mut names)?;
+    let Some(places) = places_of(alloc, flat.items, &names)? else {
+        return Ok(None);
+    };
+    Ok(Some(RowOrder {
+        bodies,
+        order,
+        names,
+        places,
+    }))
+}

@@ -1,0 +1,13 @@
+// What rows are filled from.
+
+use smv_flat::FlatFormula;
+use smv_items::FlatItem;
+use text_core::Names;
+
+/// The parts of a flat form: its items, the names of its symbols and its formulas.
+#[derive(Clone, Copy)]
+pub struct FlatParts<'f> {
+    pub items: &'f [FlatItem],
+    pub symbols: &'f Names,
+    pub formulas: &'f [FlatFormula],
+}

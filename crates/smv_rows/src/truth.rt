@@ -1,0 +1,200 @@
+// What the formulas of a flat form say of rows.
+ghost use Rattle.std.specs.Prelude.{◌≡◌, ◌==◌, map, IfSome, slice_get};
+ghost use Rattle.std.specs.List.{list_all};
+ghost use Rattle.smv_meaning.specs.Values.{is_true as truth};
+ghost use Rattle.smv_meaning.specs.Phases.{when_same};
+ghost use Rattle.smv_items.specs.FlatItemView.{item_plain};
+ghost use Rattle.smv_flat.specs.FlatView.{plain_flat};
+ghost use Rattle.smv_flat.specs.FlatFormulas.{form_plain};
+ghost use Rattle.smv_flat_laws.specs.FlatTruth.{kind_stays as kind_keeps, items_stay, forms_invariants, flat_init, flat_invar, flat_trans, flat_stay, flat_broken};
+ghost use Rattle.smv_flat_evaluation.specs.RowValues.{row_values, row_denote};
+ghost use Rattle.smv_rows.specs.Filling.{body_plain};
+ghost use Rattle.smv_rows.specs.Parts.{parts_plain};
+ghost use Rattle.smv_rows.specs.Truths.{row_role_holds, row_forms_hold};
+
+use crate::parts::FlatParts;
+use crate::row::Row;
+use smv_flat::{FlatExpr, FlatFormula, Role};
+use smv_flat_evaluation::{evaluate, item_at, permits};
+use smv_items::{FlatItem, ItemKind};
+use smv_operators::{Seen, same, truth_of};
+use smv_text::When;
+use text_core::Names;
+
+// Is the expression true?
+fn is_true<'a>(
+    symbols: &'a Names,
+    e: &FlatExpr,
+    now: &[Seen<'a>],
+    later: &[Seen<'a>],
+) -> Option<bool>
+    ensures { IfSome result (λ b. b ≡ truth (row_denote symbols.now now.now later.now (plain_flat e.now)).value) }
+{
+    let Some(value) = evaluate(symbols, e, now, later) else {
+        return None;
+    };
+    Some(truth_of(&value))
+}
+
+fn is_same(a: When, b: When) -> bool
+    ensures { result ≡ when_same a b }
+{
+    a == b
+}
+
+// Does the formula hold, if it speaks of this time? An assignment permits the value of its item in the target.
+fn formula_holds<'a>(
+    symbols: &'a Names,
+    formula: &FlatFormula,
+    when: When,
+    target: &[Seen<'a>],
+    now: &[Seen<'a>],
+    later: &[Seen<'a>],
+) -> Option<bool>
+    ensures { IfSome result (λ b. b ≡ row_role_holds symbols.now when target.now now.now later.now (form_plain formula.now)) }
+{
+    match formula.role {
+        Role::Body(_) => Some(true),
+        Role::Assign(own, k) => if is_same(own, when) {
+            permits(
+                symbols,
+                &formula.body,
+                &item_at(target, k as usize),
+                now,
+                later,
+            )
+        } else {
+            Some(true)
+        },
+        Role::Init => match when {
+            When::First => is_true(symbols, &formula.body, now, later),
+            When::Always => Some(true),
+            When::Following => Some(true),
+        },
+        Role::Trans => match when {
+            When::First => Some(true),
+            When::Always => Some(true),
+            When::Following => is_true(symbols, &formula.body, now, later),
+        },
+        Role::Invar => match when {
+            When::First => Some(true),
+            When::Always => is_true(symbols, &formula.body, now, later),
+            When::Following => Some(true),
+        },
+        Role::Invariant => Some(true),
+    }
+}
+
+fn formulas_hold<'a>(
+    flat: &FlatParts<'a>,
+    when: When,
+    target: &[Seen<'a>],
+    now: &[Seen<'a>],
+    later: &[Seen<'a>],
+) -> Option<bool>
+    ensures { IfSome result (λ b. b ≡ row_forms_hold flat.now.symbols.now when target.now now.now later.now (map form_plain flat.now.formulas.now)) }
+{
+    let symbols = flat.symbols;
+    let mut rest = flat.formulas;
+    while let Some((formula, more)) = rest.split_first() {
+        let holds = formula_holds(symbols, formula, when, target, now, later)?;
+        if !holds {
+            return Some(false);
+        }
+        rest = more;
+    }
+    Some(true)
+}
+
+/// Do INIT and `init(x) :=` hold in the row? There is no answer where an integer on the way passes 64 bits.
+pub fn init_holds<'a>(flat: &FlatParts<'a>, row: &Row<'a>) -> Option<bool>
+    ensures { IfSome result (λ b. b ≡ flat_init (parts_plain flat.now) (row_values row.now.values.items) (row_values row.now.values.items)) }
+{
+    let values = row.values.as_slice();
+    formulas_hold(flat, When::First, values, values, values)
+}
+
+/// Do INVAR and `x :=` hold in the row? There is no answer where an integer on the way passes 64 bits.
+pub fn invar_holds<'a>(flat: &FlatParts<'a>, row: &Row<'a>) -> Option<bool>
+    ensures { IfSome result (λ b. b ≡ flat_invar (parts_plain flat.now) (row_values row.now.values.items) (row_values row.now.values.items)) }
+{
+    let values = row.values.as_slice();
+    formulas_hold(flat, When::Always, values, values, values)
+}
+
+/// Do TRANS and `next(x) :=` hold between the row of a state and its label and that of the following state? There is no answer where
+/// an integer on the way passes 64 bits.
+pub fn trans_holds<'a>(flat: &FlatParts<'a>, now: &Row<'a>, later: &Row<'a>) -> Option<bool>
+    ensures { IfSome result (λ b. b ≡ flat_trans (parts_plain flat.now) (row_values now.now.values.items) (row_values later.now.values.items)) }
+{
+    let values = now.values.as_slice();
+    let following = later.values.as_slice();
+    formulas_hold(flat, When::Following, following, values, following)
+}
+
+// Is the value kept, where the item is a frozen variable?
+fn kind_stays<'a>(kind: ItemKind, k: usize, now: &[Seen<'a>], later: &[Seen<'a>]) -> bool
+    ensures { result ≡ kind_keeps (row_values now.now k) (row_values later.now k) kind }
+{
+    match kind {
+        ItemKind::Frozen => same(&item_at(now, k), &item_at(later, k)),
+        ItemKind::State => true,
+        ItemKind::Input => true,
+        ItemKind::Define => true,
+        ItemKind::Actual => true,
+    }
+}
+
+fn all_stay<'a>(items: &[FlatItem], now: &[Seen<'a>], later: &[Seen<'a>]) -> bool
+    ensures { result ≡ items_stay (row_values now.now) (row_values later.now) 0 (map item_plain items.now) }
+{
+    let mut k = 0usize;
+    let mut rest = items;
+    while let Some((item, more)) = rest.split_first() {
+        if !kind_stays(item.kind, k, now, later) {
+            return false;
+        }
+        k += 1;
+        rest = more;
+    }
+    true
+}
+
+/// Does each frozen variable keep its value?
+pub fn frozen_stay<'a>(flat: &FlatParts<'a>, now: &Row<'a>, later: &Row<'a>) -> bool
+    ensures { result ≡ flat_stay (parts_plain flat.now) (row_values now.now.values.items) (row_values later.now.values.items) }
+{
+    all_stay(flat.items, now.values.as_slice(), later.values.as_slice())
+}
+
+// The invariant of this number, counted from 0.
+fn invariant_at(formulas: &[FlatFormula], j: u32) -> Option<&FlatExpr>
+    ensures { body_plain result ≡ slice_get (forms_invariants (map form_plain formulas.now)) j }
+{
+    let mut left = j;
+    let mut rest = formulas;
+    while let Some((formula, more)) = rest.split_first() {
+        if let Role::Invariant = formula.role {
+            if left == 0 {
+                return Some(&formula.body);
+            }
+            left -= 1;
+        }
+        rest = more;
+    }
+    None
+}
+
+/// Is the invariant of this number, counted from 0, false in the row? There is no answer where an integer on the way passes 64 bits.
+pub fn is_broken<'a>(flat: &FlatParts<'a>, j: u32, row: &Row<'a>) -> Option<bool>
+    ensures { IfSome result (λ b. b ≡ flat_broken (parts_plain flat.now) j (row_values row.now.values.items) (row_values row.now.values.items)) }
+{
+    let values = row.values.as_slice();
+    match invariant_at(flat.formulas, j) {
+        None => Some(false),
+        Some(e) => {
+            let holds = is_true(flat.symbols, e, values, values)?;
+            Some(!holds)
+        }
+    }
+}

@@ -1,0 +1,94 @@
+// The values that a state and a label give the variables of a flat form.
+ghost use Rattle.std.specs.Prelude.{◌≡◌, ℕ, List, Some, length, map, if◌then◌else◌, bytes_eq, OnOk};
+ghost use Rattle.name_set.specs.Names.{place_of};
+ghost use Rattle.smv_meaning.specs.Values.{no_value, given};
+ghost use Rattle.smv_operators.specs.View.{seen_value};
+ghost use Rattle.smv_flat_evaluation.specs.RowValues.{row_values};
+ghost use Rattle.smv_rows.specs.Places.{NamesHave, given_value};
+
+use crate::places::ItemPlace;
+use name_set::NameSet;
+use smv_flat_evaluation::item_at;
+use smv_items::ItemKind;
+use smv_meaning::{State, Value};
+use smv_operators::{Seen, borrowed, no_seen};
+use text_core::NoMemory;
+
+// So many values that stand for none, in the room of the list.
+fn clear_values<'a>(count: usize, values: &mut Vec<Seen<'a>>) -> Result<(), NoMemory>
+    ensures size { OnOk result (length values.new.items ≡ count) }
+    ensures none { OnOk result ((p : ℕ) → row_values values.new.items p ≡ no_value) }
+{
+    values.clear();
+    while values.len() < count {
+        if values.push(no_seen()).is_err() {
+            return Err(NoMemory);
+        }
+    }
+    Ok(())
+}
+
+/// Gives each name, at its place, what the state gives it; of two values of one name the first counts.
+pub(crate) fn give_names<'a>(
+    names: &NameSet,
+    state: &'a State,
+    values: &mut Vec<Seen<'a>>,
+) -> Result<(), NoMemory>
+    ensures { OnOk result (NamesHave names.now (given state.now) values.new.items) }
+{
+    clear_values(names.len(), values)?;
+    let mut k = state.len();
+    while k > 0 {
+        k -= 1;
+        let entry = state.at(k);
+        give_name(names, entry.name.bytes(), &entry.value, values);
+    }
+    Ok(())
+}
+
+// Gives a name its value at its place, where it is one of the names.
+fn give_name<'a>(names: &NameSet, name: &[u8], value: &'a Value, values: &mut Vec<Seen<'a>>)
+    requires { length values.old.items ≡ length names.now }
+    ensures size { length values.new.items ≡ length values.old.items }
+    ensures given { (x : List ℕ) (p : ℕ) → place_of names.now x ≡ Some p → row_values values.new.items p ≡ (if bytes_eq name.now x then value.now else row_values values.old.items p) }
+{
+    match names.place(name) {
+        None => {}
+        Some(p) => {
+            values[p] = borrowed(value);
+        }
+    }
+}
+
+// What an item has of a state or, as an input, of a label; one that is no variable has nothing of them.
+fn value_of<'a>(item: &ItemPlace, state: &[Seen<'a>], label: &[Seen<'a>]) -> Seen<'a>
+    ensures { seen_value result ≡ given_value state.now label.now item.now }
+{
+    match item.kind {
+        ItemKind::State => item_at(state, item.place),
+        ItemKind::Frozen => item_at(state, item.place),
+        ItemKind::Input => item_at(label, item.place),
+        ItemKind::Define => no_seen(),
+        ItemKind::Actual => no_seen(),
+    }
+}
+
+/// Gives each variable its value of the state, or as an input of the label; the other items have none yet.
+pub(crate) fn give_variables<'a>(
+    places: &[ItemPlace],
+    state: &[Seen<'a>],
+    label: &[Seen<'a>],
+    values: &mut Vec<Seen<'a>>,
+) -> Result<(), NoMemory>
+    ensures { OnOk result (map seen_value values.new.items ≡ map (given_value state.now label.now) places.now) }
+{
+    values.clear();
+    let mut rest = places;
+    while let Some((item, more)) = rest.split_first() {
+        if values.push(value_of(item, state, label)).is_err() {
+            return Err(NoMemory);
+        }
+        rest = more;
+    }
+    Ok(())
+}

@@ -1,0 +1,4 @@
+pub mod Codes
+pub mod Operators
+pub mod Terms
+pub mod Script

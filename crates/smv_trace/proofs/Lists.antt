@@ -1,0 +1,40 @@
+-- Lists from a place on.
+use Rattle.std.proofs.Common.{◌≡◌, ℕ, ◌+◌, ◌<◌, ◌≤◌, false, ◌&&◌, ◌||◌, Option, Some, is_none, List, [], ◌∷◌, ◌++◌, length, drop, sym, ap, ◌∙◌, append_assoc, arith}
+use Rattle.std.specs.Prelude.{slice_index_or, slice_get}
+use Rattle.std.proofs.lemmas.List.{drop_more, drop_all}
+use Rattle.std.proofs.lemmas.Option.{slice_get_within, get_or_from_slice_get}
+use Rattle.smv_meaning.specs.declared.value.Value.{Value}
+use Rattle.smv_items.specs.FlatItems.{PlainFlatItem}
+use Rattle.smv_trace.specs.declared.heading.Heading.{Heading}
+use Rattle.smv_trace.specs.Runs.{picks}
+use Rattle.smv_trace.specs.Reading.{lacks, given_if, values_of}
+
+pub front_is : {X : Type 0} (xs : List X) (i n : ℕ) (x : X) → n ≡ length xs → i < n → x ≡ slice_index_or xs i x → drop i xs ≡ x ∷ drop (i + 1) xs
+front_is xs i n x e l is = drop_more xs i x (omega (arith, e, l)) ∙ ap (λ y. y ∷ drop (i + 1) xs) (sym is)
+
+pub end_is : {X : Type 0} (xs : List X) (i n : ℕ) → n ≡ length xs → n ≤ i → drop i xs ≡ []
+end_is xs i n e l = drop_all i xs (omega (arith, e, l))
+
+-- what was put at the end counts as the front of what is to come
+pub joined_on : {X : Type 0} (front more : List X) (x : X) → (front ++ x ∷ []) ++ more ≡ front ++ x ∷ more
+joined_on front more x = append_assoc front (x ∷ []) more
+
+front_at : {X : Type 0} (xs : List X) (i : ℕ) (x : X) → slice_get xs i ≡ Some x → drop i xs ≡ x ∷ drop (i + 1) xs
+front_at xs i x is = drop_more xs i x (slice_get_within xs i x is) ∙ ap (λ y. y ∷ drop (i + 1) xs) (get_or_from_slice_get xs i x x is)
+
+-- the values of the items from one on
+pub values_on : (h : Heading) (items : List PlainFlatItem) (stated : List (Option Value)) (k n : ℕ) (m : PlainFlatItem) (v : Option Value) → slice_get items k ≡ Some m → n ≡ length stated → k < n → v ≡ slice_index_or stated k v
+    → values_of h (drop k items) (drop k stated) ≡ given_if (picks h m.kind) m.name v ++ values_of h (drop (k + 1) items) (drop (k + 1) stated)
+values_on h items stated k n m v at long l is =
+    ap (λ ms. values_of h ms (drop k stated)) (front_at items k m at) ∙ ap (values_of h (m ∷ drop (k + 1) items)) (front_is stated k n v long l is)
+
+pub values_end : (h : Heading) (items : List PlainFlatItem) (stated : List (Option Value)) (k n : ℕ) → n ≡ length items → n ≤ k → values_of h (drop k items) (drop k stated) ≡ []
+values_end h items stated k n e l = ap (λ ms. values_of h ms (drop k stated)) (end_is items k n e l)
+
+pub lacks_on : (h : Heading) (items : List PlainFlatItem) (stated : List (Option Value)) (k n : ℕ) (m : PlainFlatItem) (v : Option Value) → slice_get items k ≡ Some m → n ≡ length stated → k < n → v ≡ slice_index_or stated k v
+    → lacks h (drop k items) (drop k stated) ≡ ((picks h m.kind && is_none v) || lacks h (drop (k + 1) items) (drop (k + 1) stated))
+lacks_on h items stated k n m v at long l is =
+    ap (λ ms. lacks h ms (drop k stated)) (front_at items k m at) ∙ ap (lacks h (m ∷ drop (k + 1) items)) (front_is stated k n v long l is)
+
+pub lacks_end : (h : Heading) (items : List PlainFlatItem) (stated : List (Option Value)) (k n : ℕ) → n ≡ length items → n ≤ k → lacks h (drop k items) (drop k stated) ≡ false
+lacks_end h items stated k n e l = ap (λ ms. lacks h ms (drop k stated)) (end_is items k n e l)

@@ -1,0 +1,59 @@
+-- Steps one behind another, and what each line is.
+use Rattle.std.proofs.Common.{◌≡◌, true, false, Option, Some, None, List, ℕ, Result, Ok, Err, refl, sym, ap, ◌∙◌, subst}
+use Rattle.std.specs.Prelude.{is_some, codes}
+use Rattle.std.proofs.lemmas.Bool.{cond-true, cond-false}
+use Rattle.text_core.specs.declared.place.Kind.TheVariants.{Y}
+use Rattle.text_core.specs.declared.place.Place.{Place}
+use Rattle.text_core.specs.declared.place.Refusal.{Refusal}
+use Rattle.text_core.specs.declared.end.End.{End}
+use Rattle.text_core.specs.declared.end.End.TheVariants.{Bad, NoMemory}
+use Rattle.smv_trace.specs.declared.heading.Heading.{Heading}
+use Rattle.smv_trace.specs.declared.heading.Heading.TheVariants.{State, Input}
+use Rattle.smv_trace.specs.Runs.{Declarations}
+use Rattle.smv_trace_text.specs.Lines.{is_passed, heading_numbers}
+use Rattle.smv_trace.specs.Reading.{Reading, go_on, ended, heading_line, other_step, state_step, step, run_of, finished_at, finished}
+use Rattle.smv_trace.specs.Answer.{Leaves, Finishes}
+
+-- the first of two steps is refused
+pub first_refuses : (B : Type 0) (o : Result Reading Refusal) (f : Reading → Result Reading Refusal) (q new : Reading) (e : End) → Leaves {B = B} o q (Err e) → Leaves {B = B} (go_on o f) new (Err e)
+first_refuses B o f q new (Bad refusal) h = ap (λ x. go_on x f) h
+first_refuses B o f q new NoMemory h = tt
+
+-- or goes on
+pub then_leaves : {B : Type 0} (o : Result Reading Refusal) (f : Reading → Result Reading Refusal) (q new : Reading) (r : Result B End) → o ≡ Ok q → Leaves (f q) new r → Leaves (go_on o f) new r
+then_leaves o f q new r e h = subst (λ (x : Result Reading Refusal). Leaves (go_on x f) new r) (sym e) h
+
+-- the last step gives the run
+last_finishes : {B : Type 0} (o : Result Reading Refusal) (new : Reading) (r : Result B End) → Leaves o new r → Finishes (go_on o run_of) new r
+last_finishes o new (Ok x) h = ap (λ x. go_on x run_of) h
+last_finishes o new (Err (Bad refusal)) h = ap (λ x. go_on x run_of) h
+last_finishes o new (Err NoMemory) h = tt
+
+pub finish_none : (d : Declarations) (end : Place) (r : Reading) → is_some r.heading ≡ false → finished d end r ≡ Err (record { kind = Y 1; place = end })
+unfolding finished
+finish_none d end r none = go r.heading none
+  where
+    go : (o : Option Heading) → is_some o ≡ false → finished_at d end o r ≡ Err (record { kind = Y 1; place = end })
+    go None e = refl
+    go (Some h) e = absurd (let g : true ≡ false = e in cc)
+
+pub finish_some : {B : Type 0} (d : Declarations) (end : Place) (r new : Reading) (result : Result B End) → is_some r.heading ≡ true → Leaves (ended d Input r.heading r) new result → Finishes (finished d end r) new result
+unfolding finished
+finish_some d end r new result some h = go r.heading some h
+  where
+    go : (o : Option Heading) → is_some o ≡ true → Leaves (ended d Input o r) new result → Finishes (finished_at d end o r) new result
+    go None e h = absurd (let g : false ≡ true = e in cc)
+    go (Some i) e h = last_finishes (ended d Input (Some i) r) new result h
+
+-- what a line is
+pub passed_step : (d : Declarations) (at : Place) (line : List ℕ) (r : Reading) → is_passed line ≡ true → step d at line r ≡ Ok r
+unfolding step
+passed_step d at line r e = cond-true (is_passed line) _ _ e
+
+pub state_heading : (d : Declarations) (at : Place) (line : List ℕ) (r : Reading) (p : List ℕ × List ℕ) → is_passed line ≡ false → heading_numbers (codes "State:") line ≡ Some p → step d at line r ≡ heading_line d State at p r
+unfolding step
+state_heading d at line r p e f = cond-false (is_passed line) _ _ e ∙ ap (state_step d at line r) f
+
+pub other_line : (d : Declarations) (at : Place) (line : List ℕ) (r : Reading) → is_passed line ≡ false → heading_numbers (codes "State:") line ≡ None → step d at line r ≡ other_step d at line r r.heading
+unfolding step
+other_line d at line r e f = cond-false (is_passed line) _ _ e ∙ ap (state_step d at line r) f

@@ -1,0 +1,5 @@
+use Rattle.smv_trace.proofs.Unique as unique
+use Rattle.smv_trace.proofs.laws.one_refusal.Goals as goal
+
+pub returns : goal.returns
+returns c = unique.one_refusal

@@ -1,0 +1,54 @@
+use Rattle.std.proofs.Common.{◌≡◌, [], ◌∷◌, length, Result, Err, sym, ap, ◌∙◌, subst, arith}
+use Rattle.std.proofs.lemmas.List.{nil_from_length}
+use Rattle.text_core.specs.declared.place.Place.{Place}
+use Rattle.text_core.specs.declared.place.Refusal.{Refusal}
+use Rattle.text_core.specs.Places.{start, after}
+use Rattle.smv_meaning.specs.declared.value.Run.{Run}
+use Rattle.smv_trace_text.specs.Lines.{lines_of, behind_line}
+use Rattle.smv_trace.specs.Reading.{finished}
+use Rattle.smv_trace.specs.Texts.{lines_read}
+use Rattle.smv_trace.specs.Answer.{Finishes}
+use Rattle.smv_trace.proofs.LineLaws.{rest_lines, line_stops, line_last, line_more}
+use Rattle.smv_trace.proofs.read.read_lines.Goals as goal
+
+pub returns-in-Err : goal.returns-in-Err
+returns-in-Err c =
+    let d = c.args.table.now in
+    let end = after start c.args.text.now in
+    let rest = c.lines.rest.now in
+    let line = c.split_at.result.0.now in
+    let marked = c.split_at.result.1.now in
+    let lines = rest_lines rest line marked c.length_before.result c.length_before.ensures.value c.split_at.ensures.front c.split_at.ensures.back in
+    let stops = line_stops (Unit {0}) d end c.lines.at rest line marked c.trimmed.result.now c.lines.reader c.take_line.new.self c.take_line.new.self c.in-Err.end lines c.trimmed.ensures c.in-Err.ensures.step in
+    subst (λ (x : Result Run Refusal). Finishes {B = Unit {0}} x c.take_line.new.self (Err c.in-Err.end)) c.lines.invariant.same stops
+
+pub returns-in_default : goal.returns-in_default
+returns-in_default c =
+    let d = c.args.table.now in
+    let rest = c.lines.rest.now in
+    let line = c.split_at.result.0.now in
+    let marked = c.split_at.result.1.now in
+    let lines = rest_lines rest line marked c.length_before.result c.length_before.ensures.value c.split_at.ensures.front c.split_at.ensures.back in
+    let none : marked ≡ [] = nil_from_length marked c.in_default.ensures.cases in
+    let last = line_last d (after start c.args.text.now) c.lines.at rest line marked c.trimmed.result.now c.lines.reader c.take_line.new.self lines c.trimmed.ensures none c.in-Ok.ensures.step in
+    let e = sym c.lines.invariant.same ∙ last ∙ ap (λ (p : Place). finished d p c.take_line.new.self) (sym c.after.ensures) in
+    subst (λ (x : Result Run Refusal). Finishes x c.finish.new.self c.finish.result) (sym e) c.finish.ensures
+
+pub lines-preserved : goal.lines-preserved
+lines-preserved c =
+    let d = c.args.table.now in
+    let end = after start c.args.text.now in
+    let rest = c.lines.rest.now in
+    let line = c.split_at.result.0.now in
+    let marked = c.split_at.result.1.now in
+    let more = c.in-Some.more.now in
+    let lines = rest_lines rest line marked c.length_before.result c.length_before.ensures.value c.split_at.ensures.front c.split_at.ensures.back in
+    let some : marked ≡ c.in-Some.field-0-0.now ∷ more = c.in-Some.ensures.cases.0 in
+    let step = line_more d end c.lines.at rest line marked c.trimmed.result.now more c.in-Some.field-0-0.now c.lines.reader c.take_line.new.self lines c.trimmed.ensures some c.in-Ok.ensures.step in
+    let at : c.behind_line-at.result ≡ behind_line c.lines.at line = c.behind_line-at.ensures in
+    record {
+      same = ap (λ (p : Place). lines_read d end p (lines_of more) c.take_line.new.self) at ∙ sym step ∙ c.lines.invariant.same;
+      sized = c.take_line.ensures.sized ∙ c.lines.invariant.sized;
+      line = omega (arith, ap (λ (p : Place). p.line) at, c.lines.invariant.line, c.split_at.ensures.back_len, ap length some);
+      offset = omega (arith, ap (λ (p : Place). p.offset) at, c.lines.invariant.offset, c.split_at.ensures.front_len, c.split_at.ensures.back_len, ap length some);
+    }

@@ -1,0 +1,15 @@
+use Rattle.std.proofs.Common.{Err, sym, subst}
+use Rattle.text_core.specs.declared.end.End.{End}
+use Rattle.smv_trace.specs.Reading.{finished}
+use Rattle.smv_trace.specs.Answer.{Finishes}
+use Rattle.smv_trace.proofs.Steps.{finish_none, finish_some}
+use Rattle.smv_trace.proofs.reader.Reader.finish.Goals as goal
+
+pub returns-then-not-has_begun : goal.returns-then-not-has_begun
+returns-then-not-has_begun c =
+    let r = c.args.self.now in
+    let none = finish_none c.args.table.now c.args.end r (sym c.if-not-has_begun.ensures) in
+    subst (λ (x : End). Finishes {B = Unit {0}} (finished c.args.table.now c.args.end r) r (Err x)) (sym c.refused.ensures) none
+
+pub returns : goal.returns
+returns c = finish_some c.args.table.now c.args.end c.args.self.now c.end.new.self c.end.result (sym c.if-not-has_begun.ensures) c.end.ensures.step

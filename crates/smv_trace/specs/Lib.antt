@@ -1,0 +1,5 @@
+pub mod Runs
+pub mod Values
+pub mod Reading
+pub mod Texts
+pub mod Answer

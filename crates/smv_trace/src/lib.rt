@@ -1,0 +1,14 @@
+//! Traces of SMV models: printed, and read against the flat form of a model.
+#![tactic(auto)]
+
+mod heading;
+mod laws;
+mod read;
+mod reader;
+mod table;
+mod values;
+
+pub use laws::{not_both, one_of_both, one_refusal, one_trace};
+pub use read::{MOST_BYTES, TraceEnd, read_trace};
+pub use reader::{MOST_STATES, MOST_VALUES};
+pub use smv_trace_text::print_trace;

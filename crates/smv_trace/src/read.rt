@@ -1,0 +1,90 @@
+// The reader of a whole text.
+ghost use Rattle.std.specs.Prelude.{◌≡◌, ◌≤◌, ◌<◌, ◌+◌, ◌^◌, length, true, IfOk};
+ghost use Rattle.text_core.specs.Places.{start, after};
+ghost use Rattle.smv_trace_text.specs.Lines.{lines_of, behind_line};
+ghost use Rattle.smv_trace.specs.Runs.{IsStatedRun};
+ghost use Rattle.smv_trace.specs.Reading.{begin, is_within};
+ghost use Rattle.smv_trace.specs.Texts.{lines_read, trace_of};
+ghost use Rattle.smv_trace.specs.Answer.{Answers, Finishes, declarations_of};
+
+use crate::reader::{Reader, refused};
+use crate::table::Table;
+use smv_flatten::Flat;
+use smv_meaning::Run;
+use smv_trace_text::{length_before, trimmed};
+use std::alloc::Global;
+use text_core::kinds::trace;
+use text_core::{End, FIRST_PLACE, Place};
+
+/// The most bytes of a trace.
+pub const MOST_BYTES: usize = 67108864;
+
+/// Why a text is not read as a trace.
+pub type TraceEnd = End;
+
+// The place of the line behind this one.
+fn behind_line(at: Place, line: &[u8]) -> Place
+    requires line { at.line + 1 < 2 ^ 32 }
+    requires offset { at.offset + length line.now + 1 < 2 ^ 32 }
+    ensures { result ≡ behind_line at line.now }
+{
+    Place {
+        line: at.line + 1,
+        column: 1,
+        offset: at.offset + line.len() as u32 + 1,
+    }
+}
+
+// Reads the lines of a text.
+fn read_lines(alloc: Global, table: &Table, text: &[u8], reader: &mut Reader) -> Result<(), End>
+    requires few { length text.now ≤ MOST_BYTES }
+    requires begin { reader.old ≡ begin table.now }
+    ensures { Finishes (lines_read table.now (after start text.now) start (lines_of text.now) reader.old) reader.new result }
+{
+    let mut rest = text;
+    let mut at = FIRST_PLACE;
+    'lines: loop {
+        let (line, marked) = rest.split_at(length_before(b'\n', rest));
+        match reader.take_line(alloc, table, at, trimmed(line)) {
+            Ok(()) => {}
+            Err(end) => return Err(end),
+        }
+        let Some((_, more)) = marked.split_first() else {
+            return reader.finish(alloc, table, FIRST_PLACE.after(text))
+        };
+        at = behind_line(at, line);
+        rest = more;
+    }
+}
+
+// The run of a text that is short enough.
+fn read_text(alloc: Global, flat: &Flat, text: &[u8]) -> Result<Run, TraceEnd>
+    requires { length text.now ≤ MOST_BYTES }
+    ensures { Answers (trace_of (declarations_of flat.now) text.now) result }
+{
+    let table = Table::of(alloc, flat)?;
+    let mut reader = Reader::new(alloc, &table)?;
+    read_lines(alloc, &table, text, &mut reader)?;
+    Ok(reader.run())
+}
+
+/// The run that a text states for a model (the layout is this translator's own; headings and values look like those of NuSMV's
+/// counterexamples). Blanks around a line don't count. Blank lines, lines that begin with `--`, all lines before the first heading
+/// of a state and values of definitions are passed over. The first numbers of all headings are the same, the second count states
+/// from 1, and the heading of a label has the number of the state that follows. Values are carried forward, and a label behind
+/// the last state is dropped. A refusal is at a line: `Y1` where no shape fits or the numbering is wrong, `Y2` where the heading
+/// states no variable of the name, `Y3` where the value isn't spelled as one of the variable's kind, `Y4` at the heading of a
+/// variable that has no value, and `Y5` past a limit of states, of states times variables, or of bytes.
+pub fn read_trace(alloc: Global, flat: &Flat, text: &[u8]) -> Result<Run, TraceEnd>
+    // What the text states, or its first refusal.
+    ensures exact { Answers (trace_of (declarations_of flat.now) text.now) result }
+    // The run names each variable, with values that a trace can state.
+    ensures stated { IfOk result (IsStatedRun (declarations_of flat.now)) }
+    // It keeps the limits.
+    ensures within { IfOk result (λ run. is_within (declarations_of flat.now) (length run.states) ≡ true) }
+{
+    if text.len() > MOST_BYTES {
+        return Err(refused(trace::TOO_LONG, FIRST_PLACE));
+    }
+    read_text(alloc, flat, text)
+}

@@ -1,0 +1,465 @@
+// The reader of a trace, line by line.
+ghost use Rattle.std.specs.Prelude.{◌≡◌, ◌<◌, ◌+◌, ◌^◌, ◌&&◌, ◌++◌, length, decimal, Some, is_none, is_some, IfOk, OnOk};
+ghost use Rattle.std.specs.Str.{bytes_eq};
+ghost use Rattle.text_core.specs.declared.end.End.TheVariants as end;
+ghost use Rattle.smv_items.specs.FlatItemView.{item_plain};
+ghost use Rattle.smv_trace.specs.declared.heading.Heading.TheVariants as heading;
+ghost use Rattle.smv_trace.specs.Runs.{picks};
+ghost use Rattle.smv_trace_text.specs.Lines.{value_parts};
+ghost use Rattle.smv_trace.specs.Reading.{lacks, given_if, values_of, lacks_state, labels_on, with_state, ended, is_within, is_numbered, is_allowed, begun, heading_line, is_define, with_value, item_line, placed_line, value_line, value_step, label_step, other_step, state_step, step, finished, begin, nothing_stated};
+ghost use Rattle.smv_trace.specs.Answer.{Leaves, Finishes};
+
+use crate::heading::Heading;
+use crate::table::Table;
+use crate::values::value_of;
+use itoa::Buffer;
+use smv_flatten::{FlatItem, ItemKind};
+use smv_meaning::{Given, Run, State, States, Value};
+use smv_trace_text::{heading_numbers, is_passed, value_parts};
+use std::alloc::Global;
+use std::marker::Model;
+use text_core::kinds::trace;
+use text_core::{End, FIRST_PLACE, Kind, Name, NoMemory, Place, Refusal};
+
+/// The most states of a trace.
+pub const MOST_STATES: u64 = 100000;
+/// The most that the states of a trace times the variables may be, inputs among them.
+pub const MOST_VALUES: u64 = 4000000;
+
+/// Where the reading of a trace stands.
+#[derive(Drop)]
+pub struct Reader {
+    heading: Option<Heading>,
+    place: Place,
+    first: Name,
+    stated: Vec<Option<Value>>,
+    states: States,
+    labels: States,
+}
+
+impl Model for Reader {
+    ghost use Rattle.smv_trace.specs.Reading.{Reading};
+
+    ghost Value = { Reading };
+
+    ghost view = { λ r. record { heading = r.heading; place = r.place; first = r.first; stated = r.stated.items; states = r.states; labels = r.labels } };
+}
+
+// The refusal at this place.
+pub(crate) fn refused(kind: Kind, place: Place) -> End
+    ensures { result ≡ end.Bad (record { kind = kind; place = place }) }
+{
+    End::Bad(Refusal { kind, place })
+}
+
+fn duplicate(alloc: Global, value: &Value) -> Result<Value, NoMemory>
+    ensures { IfOk result (λ v. v ≡ value.now) }
+{
+    match value {
+        Value::Truth(truth) => Ok(Value::Truth(*truth)),
+        Value::Integer(number) => Ok(Value::Integer(*number)),
+        Value::Symbol(name) => Ok(Value::Symbol(name.duplicate(alloc)?)),
+        Value::Bits(word) => Ok(Value::Bits(*word)),
+    }
+}
+
+fn given(alloc: Global, name: &Name, value: &Value) -> Result<Given, NoMemory>
+    ensures { IfOk result (λ g. g ≡ record { name = name.now; value = value.now }) }
+{
+    let value = duplicate(alloc, value)?;
+    let name = name.duplicate(alloc)?;
+    Ok(Given { name, value })
+}
+
+fn add_given(
+    alloc: Global,
+    state: &mut State,
+    heading: Heading,
+    item: &FlatItem,
+    stated: &Option<Value>,
+) -> Result<(), NoMemory>
+    ensures { OnOk result (state.new ≡ state.old ++ given_if (picks heading item.now.kind) item.now.name stated.now) }
+{
+    if !heading.picks(item.kind) {
+        return Ok(());
+    }
+    match stated {
+        Some(value) => {
+            let given = given(alloc, &item.name, value)?;
+            state.push(given)
+        }
+        None => Ok(()),
+    }
+}
+
+// The values of the variables of the heading, in order.
+#[tactic(auto, using(crate::proofs::Lists::values_end))]
+fn values_of(
+    alloc: Global,
+    table: &Table,
+    heading: Heading,
+    stated: &[Option<Value>],
+) -> Result<State, NoMemory>
+    requires { length stated.now ≡ length table.now.items }
+    ensures { IfOk result (λ state. state ≡ values_of heading table.now.items stated.now) }
+{
+    let mut state = State::new(alloc);
+    for k in 0..table.len() {
+        add_given(alloc, &mut state, heading, table.item(k), &stated[k])?;
+    }
+    Ok(state)
+}
+
+// Is an item a variable of the heading that has no value yet?
+fn is_missing(heading: Heading, item: &FlatItem, stated: &Option<Value>) -> bool
+    ensures { result ≡ (picks heading item.now.kind && is_none stated.now) }
+{
+    heading.picks(item.kind) && stated.is_none()
+}
+
+// Has a variable of the heading no value yet?
+#[tactic(auto, using(crate::proofs::Lists::lacks_end))]
+fn lacks(table: &Table, heading: Heading, stated: &[Option<Value>]) -> bool
+    requires { length stated.now ≡ length table.now.items }
+    ensures { result ≡ lacks heading table.now.items stated.now }
+{
+    for k in 0..table.len() {
+        if is_missing(heading, table.item(k), &stated[k]) {
+            return true;
+        }
+    }
+    false
+}
+
+// No value for each item.
+fn nothing_stated(alloc: Global, table: &Table) -> Result<Vec<Option<Value>>, NoMemory>
+    ensures { IfOk result (λ stated. stated.items ≡ nothing_stated table.now.items) }
+{
+    let mut stated = Vec::new(alloc);
+    for _k in 0..table.len() {
+        stated.push(None)?;
+    }
+    Ok(stated)
+}
+
+// Are the digits those of the number?
+fn is_decimal(digits: &[u8], number: u128) -> bool
+    ensures { result ≡ bytes_eq digits.now (decimal number) }
+{
+    let mut buffer = Buffer::new();
+    digits == buffer.format(number).as_bytes()
+}
+
+// May a trace have so many states?
+fn is_within(table: &Table, states: u128) -> bool
+    requires { states < 2 ^ 64 + 1 }
+    ensures { result ≡ is_within table.now states }
+{
+    states <= u128::from(MOST_STATES)
+        && states * (table.variables() as u128) <= u128::from(MOST_VALUES)
+}
+
+fn is_define(kind: ItemKind) -> bool
+    ensures { result ≡ is_define kind }
+{
+    matches!(kind, ItemKind::Define)
+}
+
+impl Reader {
+    /// A reader that has read nothing.
+    pub fn new(alloc: Global, table: &Table) -> Result<Reader, NoMemory>
+        ensures { IfOk result (λ r. r ≡ begin table.now) }
+    {
+        let stated = nothing_stated(alloc, table)?;
+        let first = Name::of(alloc, b"")?;
+        Ok(Reader {
+            heading: None,
+            place: FIRST_PLACE,
+            first,
+            stated,
+            states: States::new(alloc),
+            labels: States::new(alloc),
+        })
+    }
+
+    /// The run that was read.
+    pub fn run(self) -> Run
+        ensures { result ≡ record { states = self.states; labels = self.labels } }
+    {
+        Run {
+            states: self.states,
+            labels: self.labels,
+        }
+    }
+
+    // Has a heading been read?
+    fn has_begun(&self) -> bool
+        ensures { result ≡ is_some self.now.heading }
+    {
+        self.heading.is_some()
+    }
+
+    // The number of the state that comes next, from 1 on.
+    fn number(&self) -> u128
+        ensures value { result ≡ length self.now.states + 1 }
+        ensures small { result < 2 ^ 64 + 1 }
+    {
+        self.states.len() as u128 + 1
+    }
+
+    fn lacks_state(&self, table: &Table) -> bool
+        requires { length self.now.stated ≡ length table.now.items }
+        ensures { result ≡ lacks_state table.now self.now }
+    {
+        lacks(table, Heading::State, &self.stated)
+            || (self.states.len() != 0 && lacks(table, Heading::Input, &self.stated))
+    }
+
+    // Adds the label that leads to the state, where the state isn't the first.
+    fn add_label(&mut self, alloc: Global, table: &Table) -> Result<(), NoMemory>
+        requires { length self.old.stated ≡ length table.now.items }
+        ensures sized { length self.new.stated ≡ length self.old.stated }
+        ensures step { OnOk result (self.new ≡ record { heading = self.old.heading; place = self.old.place; first = self.old.first; stated = self.old.stated; states = self.old.states; labels = labels_on table.now self.old }) }
+    {
+        if self.states.len() == 0 {
+            return Ok(());
+        }
+        let label = values_of(alloc, table, Heading::Input, &self.stated)?;
+        self.labels.push(label)
+    }
+
+    fn add_state(&mut self, alloc: Global, table: &Table) -> Result<(), NoMemory>
+        requires { length self.old.stated ≡ length table.now.items }
+        ensures sized { length self.new.stated ≡ length self.old.stated }
+        ensures step { OnOk result (self.new ≡ with_state table.now self.old) }
+    {
+        self.add_label(alloc, table)?;
+        let state = values_of(alloc, table, Heading::State, &self.stated)?;
+        self.states.push(state)
+    }
+
+    // Ends the lines of the last heading, where nothing or a heading of this kind comes behind.
+    fn end(&mut self, alloc: Global, table: &Table, next: Heading) -> Result<(), End>
+        requires { length self.old.stated ≡ length table.now.items }
+        ensures sized { length self.new.stated ≡ length self.old.stated }
+        ensures step { Leaves (ended table.now next self.old.heading self.old) self.new result }
+    {
+        match self.heading {
+            None => Ok(()),
+            Some(Heading::State) => {
+                if self.lacks_state(table) {
+                    return Err(refused(trace::MISSING, self.place));
+                }
+                self.add_state(alloc, table)?;
+                Ok(())
+            }
+            Some(Heading::Input) => self.end_label(table, next),
+        }
+    }
+
+    fn end_label(&self, table: &Table, next: Heading) -> Result<(), End>
+        requires { length self.now.stated ≡ length table.now.items }
+        ensures { Leaves (ended table.now next (Some heading.Input) self.now) self.now result }
+    {
+        match next {
+            Heading::Input => Ok(()),
+            Heading::State => {
+                if lacks(table, Heading::Input, &self.stated) {
+                    return Err(refused(trace::MISSING, self.place));
+                }
+                Ok(())
+            }
+        }
+    }
+
+    fn is_numbered(&self, first: &[u8], second: &[u8]) -> bool
+        ensures { result ≡ is_numbered self.now (first.now, second.now) }
+    {
+        (self.heading.is_none() || first == self.first.bytes()) && is_decimal(second, self.number())
+    }
+
+    fn is_allowed(&self, table: &Table, next: Heading) -> bool
+        ensures { result ≡ is_allowed table.now next self.now }
+    {
+        match next {
+            Heading::State => is_within(table, self.number()),
+            Heading::Input => true,
+        }
+    }
+
+    fn begin(
+        &mut self,
+        alloc: Global,
+        table: &Table,
+        next: Heading,
+        at: Place,
+        first: &[u8],
+        second: &[u8],
+    ) -> Result<(), End>
+        ensures sized { length self.new.stated ≡ length self.old.stated }
+        ensures step { Leaves (begun table.now next at (first.now, second.now) self.old) self.new result }
+    {
+        if !self.is_numbered(first, second) {
+            return Err(refused(trace::LINE, at));
+        }
+        if !self.is_allowed(table, next) {
+            return Err(refused(trace::TOO_LONG, at));
+        }
+        self.first = Name::of(alloc, first)?;
+        self.heading = Some(next);
+        self.place = at;
+        Ok(())
+    }
+
+    fn heading_line(
+        &mut self,
+        alloc: Global,
+        table: &Table,
+        next: Heading,
+        at: Place,
+        first: &[u8],
+        second: &[u8],
+    ) -> Result<(), End>
+        requires { length self.old.stated ≡ length table.now.items }
+        ensures sized { length self.new.stated ≡ length self.old.stated }
+        ensures step { Leaves (heading_line table.now next at (first.now, second.now) self.old) self.new result }
+    {
+        match self.end(alloc, table, next) {
+            Ok(()) => self.begin(alloc, table, next, at, first, second),
+            Err(end) => Err(end),
+        }
+    }
+
+    fn state_value(&mut self, at: Place, k: usize, value: Option<Value>) -> Result<(), End>
+        requires { k < length self.old.stated }
+        ensures sized { length self.new.stated ≡ length self.old.stated }
+        ensures step { Leaves (with_value at k self.old value) self.new result }
+    {
+        match value {
+            Some(value) => {
+                self.stated[k] = Some(value);
+                Ok(())
+            }
+            None => Err(refused(trace::VALUE, at)),
+        }
+    }
+
+    fn item_line(
+        &mut self,
+        alloc: Global,
+        table: &Table,
+        heading: Heading,
+        at: Place,
+        text: &[u8],
+        k: usize,
+    ) -> Result<(), End>
+        requires sized { length self.old.stated ≡ length table.now.items }
+        requires within { k < length table.now.items }
+        ensures sized { length self.new.stated ≡ length self.old.stated }
+        ensures step { Leaves (placed_line table.now heading at text.now self.old (Some k)) self.new result }
+    {
+        let item = table.item(k);
+        if is_define(item.kind) {
+            return Ok(());
+        }
+        if !heading.picks(item.kind) {
+            return Err(refused(trace::UNKNOWN, at));
+        }
+        let value = value_of(alloc, table, item.ty, text)?;
+        self.state_value(at, k, value)
+    }
+
+    fn value_line(
+        &mut self,
+        alloc: Global,
+        table: &Table,
+        heading: Heading,
+        at: Place,
+        name: &[u8],
+        text: &[u8],
+    ) -> Result<(), End>
+        requires { length self.old.stated ≡ length table.now.items }
+        ensures sized { length self.new.stated ≡ length self.old.stated }
+        ensures step { Leaves (value_line table.now heading at (name.now, text.now) self.old) self.new result }
+    {
+        match table.place(name) {
+            Some(k) => self.item_line(alloc, table, heading, at, text, k),
+            None => Err(refused(trace::UNKNOWN, at)),
+        }
+    }
+
+    fn value_step(
+        &mut self,
+        alloc: Global,
+        table: &Table,
+        heading: Heading,
+        at: Place,
+        line: &[u8],
+    ) -> Result<(), End>
+        requires { length self.old.stated ≡ length table.now.items }
+        ensures sized { length self.new.stated ≡ length self.old.stated }
+        ensures step { Leaves (value_step table.now heading at self.old (value_parts line.now)) self.new result }
+    {
+        match value_parts(line) {
+            Some((name, text)) => self.value_line(alloc, table, heading, at, name, text),
+            None => Err(refused(trace::LINE, at)),
+        }
+    }
+
+    // A line that is no heading of a state.
+    fn other_line(
+        &mut self,
+        alloc: Global,
+        table: &Table,
+        at: Place,
+        line: &[u8],
+    ) -> Result<(), End>
+        requires { length self.old.stated ≡ length table.now.items }
+        ensures sized { length self.new.stated ≡ length self.old.stated }
+        ensures step { Leaves (other_step table.now at line.now self.old self.old.heading) self.new result }
+    {
+        let Some(heading) = self.heading else {
+            return Ok(())
+        };
+        match heading_numbers(b"Input:", line) {
+            Some((first, second)) => {
+                self.heading_line(alloc, table, Heading::Input, at, first, second)
+            }
+            None => self.value_step(alloc, table, heading, at, line),
+        }
+    }
+
+    /// Reads one line at this place, which has no blanks around it.
+    pub fn take_line(
+        &mut self,
+        alloc: Global,
+        table: &Table,
+        at: Place,
+        line: &[u8],
+    ) -> Result<(), End>
+        requires { length self.old.stated ≡ length table.now.items }
+        ensures sized { length self.new.stated ≡ length self.old.stated }
+        ensures step { Leaves (step table.now at line.now self.old) self.new result }
+    {
+        if is_passed(line) {
+            return Ok(());
+        }
+        match heading_numbers(b"State:", line) {
+            Some((first, second)) => {
+                self.heading_line(alloc, table, Heading::State, at, first, second)
+            }
+            None => self.other_line(alloc, table, at, line),
+        }
+    }
+
+    /// Ends the text at this place.
+    pub fn finish(&mut self, alloc: Global, table: &Table, end: Place) -> Result<(), End>
+        requires { length self.old.stated ≡ length table.now.items }
+        ensures { Finishes (finished table.now end self.old) self.new result }
+    {
+        if !self.has_begun() {
+            return Err(refused(trace::LINE, end));
+        }
+        self.end(alloc, table, Heading::Input)
+    }
+}

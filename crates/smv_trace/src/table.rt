@@ -1,0 +1,136 @@
+// What a trace is read against, with its names found without a scan.
+ghost use Rattle.std.specs.Prelude.{◌≡◌, ◌<◌, ◌++◌, Some, map, length, is_some, IfOk, IfSome, slice_get};
+ghost use Rattle.name_set.specs.Names.{place_of};
+ghost use Rattle.smv_items.specs.FlatItemView.{item_plain};
+ghost use Rattle.smv_trace.specs.Reading.{is_variable, variables_of};
+ghost use Rattle.smv_trace.specs.Answer.{declarations_of};
+
+use crate::heading::Heading;
+use name_set::NameSet;
+use smv_flatten::{Flat, FlatItem, FlatItems};
+use std::alloc::Global;
+use std::marker::Model;
+use text_core::NoMemory;
+
+/// The items and the symbols of a model, and how many variables there are.
+#[derive(Drop)]
+pub struct Table<'a> {
+    items: &'a FlatItems,
+    names: NameSet,
+    symbols: NameSet,
+    variables: usize,
+}
+
+impl<'a> Model for Table<'a> {
+    ghost use Rattle.std.specs.Prelude.{◌≡◌, map, length};
+    ghost use Rattle.smv_items.specs.FlatItemView.{item_plain};
+    ghost use Rattle.smv_trace.specs.Runs.{Declarations};
+    ghost use Rattle.smv_trace.specs.Reading.{variables_of};
+
+    ghost Value = { Declarations };
+
+    ghost view = { λ t. record { items = map item_plain t.items.now; symbols = t.symbols } };
+
+    ghost invariant = { λ t. (t.names ≡ map (λ m. m.name) (map item_plain t.items.now)) × (t.variables ≡ length (variables_of (map item_plain t.items.now))) };
+}
+
+// The names of the items, each of which an accepted model has once.
+#[tactic(auto, using(crate::proofs::Lists::front_is, crate::proofs::Lists::end_is, crate::proofs::Lists::joined_on))]
+fn names_of(alloc: Global, items: &FlatItems) -> Result<NameSet, NoMemory>
+    ensures { IfOk result (λ names. names ≡ map (λ m. m.name) (map item_plain items.now)) }
+{
+    let mut names = NameSet::new(alloc);
+    for k in 0..items.len() {
+        if !names.declare(alloc, items.at(k).name.bytes())? {
+            return Err(NoMemory);
+        }
+    }
+    Ok(names)
+}
+
+fn is_variable(item: &FlatItem) -> bool
+    ensures { result ≡ is_variable (item_plain item.now) }
+{
+    Heading::State.picks(item.kind) || Heading::Input.picks(item.kind)
+}
+
+// How many variables there are, inputs among them.
+#[tactic(auto, using(crate::proofs::Lists::front_is, crate::proofs::Lists::end_is))]
+fn variables_in(items: &FlatItems) -> usize
+    ensures { result ≡ length (variables_of (map item_plain items.now)) }
+{
+    let mut count = 0;
+    for k in 0..items.len() {
+        if is_variable(items.at(k)) {
+            count += 1;
+        }
+    }
+    count
+}
+
+// The symbols, each of which a flat form has once.
+fn symbols_of(alloc: Global, flat: &Flat) -> Result<NameSet, NoMemory>
+    ensures { IfOk result (λ symbols. symbols ≡ flat.now.symbols) }
+{
+    let mut symbols = NameSet::new(alloc);
+    if symbols.declare_all(alloc, flat.symbols())? {
+        Ok(symbols)
+    } else {
+        Err(NoMemory)
+    }
+}
+
+impl<'a> Table<'a> {
+    /// What a flat form declares.
+    pub fn of(alloc: Global, flat: &'a Flat) -> Result<Table<'a>, NoMemory>
+        ensures { IfOk result (λ table. table ≡ declarations_of flat.now) }
+    {
+        let items = flat.items();
+        let names = names_of(alloc, items)?;
+        let symbols = symbols_of(alloc, flat)?;
+        let variables = variables_in(items);
+        Ok(Table {
+            items,
+            names,
+            symbols,
+            variables,
+        })
+    }
+
+    /// How many items there are.
+    pub fn len(&self) -> usize
+        ensures { result ≡ length self.now.items }
+    {
+        self.items.len()
+    }
+
+    /// The item of this number.
+    pub fn item(&self, k: usize) -> &FlatItem
+        requires { k < length self.now.items }
+        ensures { slice_get self.now.items k ≡ Some (item_plain result.now) }
+    {
+        self.items.at(k)
+    }
+
+    /// The number of the item of this name.
+    pub fn place(&self, name: &[u8]) -> Option<usize>
+        ensures place { result ≡ place_of (map (λ m. m.name) self.now.items) name.now }
+        ensures within { IfSome result (λ k. k < length self.now.items) }
+    {
+        self.names.place(name)
+    }
+
+    /// Is there a symbol of this name?
+    pub fn has_symbol(&self, name: &[u8]) -> bool
+        ensures { result ≡ is_some (place_of self.now.symbols name.now) }
+    {
+        self.symbols.place(name).is_some()
+    }
+
+    /// How many variables there are, inputs among them.
+    pub fn variables(&self) -> usize
+        ensures { result ≡ length (variables_of self.now.items) }
+    {
+        self.variables
+    }
+}

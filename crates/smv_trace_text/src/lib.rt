@@ -1,0 +1,10 @@
+//! Traces of SMV models as texts: the printed layout of a stated run, and what each line of a trace says by itself.
+#![tactic(auto)]
+
+mod lines;
+mod literal;
+mod print;
+
+pub use lines::{heading_numbers, is_passed, length_before, trimmed, value_parts};
+pub use literal::literal_of;
+pub use print::print_trace;

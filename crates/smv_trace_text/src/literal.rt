@@ -1,0 +1,105 @@
+// Word literals.
+ghost use Rattle.std.specs.Prelude.{◌≡◌, ◌⊎◌, IfOk};
+ghost use Rattle.smv_text.specs.Numbers.{bare, base_of, based_word, literal_of, parted_word, past_sign};
+ghost use Rattle.smv_lex.specs.Reading.{sized_word};
+
+use crate::lines::length_before;
+use std::alloc::Global;
+use text_core::NoMemory;
+use word_core::{Word, read_digits};
+
+// The base of its letter.
+fn base_of(b: u8) -> Option<u32>
+    ensures { result ≡ base_of b }
+{
+    match b {
+        b'b' | b'B' => Some(2),
+        b'o' | b'O' => Some(8),
+        b'd' | b'D' => Some(10),
+        b'h' | b'H' => Some(16),
+        _ => None,
+    }
+}
+
+// What stands behind a `u`, if it comes first.
+fn past_sign(text: &[u8]) -> &[u8]
+    ensures { result.now ≡ past_sign text.now }
+{
+    match text.split_first() {
+        Some((b, rest)) => { if *b == b'u' { rest } else { text } }
+        None => text,
+    }
+}
+
+// The digits without the `_` among them.
+fn bare(alloc: Global, digits: &[u8]) -> Result<Vec<u8>, NoMemory>
+    ensures { IfOk result (λ kept. kept.items ≡ bare digits.now) }
+{
+    let mut kept = Vec::new(alloc);
+    for b in digits {
+        if *b != b'_' {
+            kept.push(*b)?;
+        }
+    }
+    Ok(kept)
+}
+
+// The word of a width and of digits of a base. Each width that words have is below 256.
+fn sized_word(
+    alloc: Global,
+    base: u32,
+    width: &[u8],
+    digits: &[u8],
+) -> Result<Option<Word>, NoMemory>
+    requires { (base ≡ 2) ⊎ ((base ≡ 8) ⊎ ((base ≡ 10) ⊎ (base ≡ 16))) }
+    ensures { IfOk result (λ word. word ≡ sized_word base width.now digits.now) }
+{
+    match read_digits(8, 10, width) {
+        Some(width) => {
+            let kept = bare(alloc, digits)?;
+            Ok(read_digits(width.bits() as u32, base, &kept))
+        }
+        None => Ok(None),
+    }
+}
+
+// The word whose width, `_` and digits stand behind the letter of its base.
+fn parted_word(alloc: Global, text: &[u8], base: u32) -> Result<Option<Word>, NoMemory>
+    requires { (base ≡ 2) ⊎ ((base ≡ 8) ⊎ ((base ≡ 10) ⊎ (base ≡ 16))) }
+    ensures { IfOk result (λ word. word ≡ parted_word text.now base) }
+{
+    let (width, marked) = text.split_at(length_before(b'_', text));
+    match marked.split_first() {
+        Some((_, digits)) => sized_word(alloc, base, width, digits),
+        None => Ok(None),
+    }
+}
+
+// The word that stands behind the `0` and the `u` of a literal.
+fn based_word(alloc: Global, text: &[u8]) -> Result<Option<Word>, NoMemory>
+    ensures { IfOk result (λ word. word ≡ based_word text.now) }
+{
+    match text.split_first() {
+        Some((b, rest)) => match base_of(*b) {
+            Some(base) => parted_word(alloc, rest, base),
+            None => Ok(None),
+        },
+        None => Ok(None),
+    }
+}
+
+/// The word that bytes spell as a literal.
+pub fn literal_of(alloc: Global, text: &[u8]) -> Result<Option<Word>, NoMemory>
+    ensures { IfOk result (λ word. word ≡ literal_of text.now) }
+{
+    match text.split_first() {
+        Some((b, rest)) => {
+            if *b == b'0' {
+                based_word(alloc, past_sign(rest))
+            } else {
+                Ok(None)
+            }
+        }
+        None => Ok(None),
+    }
+}
