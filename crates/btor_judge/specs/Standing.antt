@@ -1,6 +1,7 @@
 -- What a reader holds of a witness that is read, and of the frames that are judged.
 use Rattle.std.specs.Prelude.{◌≡◌, ◌⊎◌, ◌+◌, ◌<◌, ℕ, Bool, true, false, List, [], ◌∷◌, ◌++◌, length, get_or, Some, slice_get, Result, Ok, Err}
 use Rattle.text_core.specs.declared.place.Kind.{Kind}
+use Rattle.text_core.specs.declared.verdict.Clause.{Clause}
 use Rattle.text_core.specs.declared.verdict.Verdict.{Verdict}
 use Rattle.text_core.specs.declared.verdict.Verdict.TheVariants.{Yes, No}
 use Rattle.btor_tree.specs.declared.lines.Line.{Line}
@@ -17,7 +18,7 @@ use Rattle.btor_witness.specs.Sizes.{sizes_of, widths_of}
 use Rattle.btor_witness.specs.Reading.{Reading, frames_of, Next, nothing, moves, done, bad}
 use Rattle.btor_witness.specs.Fitting.{FitsAt}
 use Rattle.btor_witness.specs.Printing.{IsPart}
-use Rattle.btor_witness.specs.Judging.{statement_of, IsJudgedAfter, IsJudged}
+use Rattle.btor_witness.specs.Judging.{statement_of, OnStated, Passes, FailsFirst, IsJudgedAfter, IsJudged}
 use Rattle.btor_witness.specs.Room.{places_of}
 use Rattle.btor_judge.specs.declared.reader.Reader.{Reader}
 use Rattle.btor_judge.specs.declared.reader.Stage.{Stage}
@@ -87,6 +88,21 @@ AgreesAt places row kept k = get_or kept.marks k false ≡ true → (place : ℕ
 abbrev pub JudgesFrame : List Line → Bool → Held → ℕ → ℕ → List Frame → Frame → Verdict → Type 0
 JudgesFrame lines true held count j before f verdict = IsJudged lines (record { bad = j; frames = before ++ f ∷ [] }) verdict
 JudgesFrame lines false held count j before f verdict = AreJudged lines held (count + 1) j (before ++ f ∷ []) verdict
+
+-- the frame that the reader held is judged too, behind any others: as the last one, or as one that another follows
+abbrev pub JudgesHeld : List Line → Bool → (old new : Reader) → Type 0
+JudgesHeld lines last old new = (f : Frame) (before : List Frame) → HasFrame lines old f
+    → AreJudged lines old.frames old.count old.bad before old.verdict → JudgesFrame lines last new.frames old.count old.bad before f new.verdict
+
+-- the frame that the reader holds first fails this clause
+abbrev pub HeldFails : List Line → Reader → Bool → Clause → Type 0
+HeldFails lines reader last clause = (f : Frame) → HasFrame lines reader f
+    → OnStated lines (statement_of f) reader.frames.row (λ begun. FailsFirst lines reader.bad begun last (statement_of f) reader.frames.row clause)
+
+-- the frame that the reader holds fails no clause
+abbrev pub HeldPasses : List Line → Reader → Bool → Type 0
+HeldPasses lines reader last = (f : Frame) → HasFrame lines reader f
+    → OnStated lines (statement_of f) reader.frames.row (λ begun. Passes lines reader.bad begun last (statement_of f) reader.frames.row)
 
 -- all frames of a reading are judged
 pub record HasClosed (lines : List Line) (reader : Reader) (r : Reading) : Type 0 where

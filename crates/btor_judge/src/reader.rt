@@ -1,5 +1,5 @@
 // Where the reading of a witness stands, and what is judged so far.
-ghost use Rattle.std.specs.Prelude.{◌≡◌, ◌⊎◌, ◌+◌, ◌<◌, ◌^◌, ◌↔◌, ℕ, true, List, [], ◌∷◌, ◌++◌, length, IfOk, IfSome, IfNone, IsTrue};
+ghost use Rattle.std.specs.Prelude.{◌≡◌, ◌⊎◌, ◌+◌, ◌<◌, ◌^◌, ◌↔◌, ℕ, true, false, List, length, IfOk, IfSome, IfNone, IsTrue};
 ghost use Rattle.std.specs.List.{AllByRecursion};
 ghost use Rattle.btor_tree.specs.declared.lines.Line.{Line as TreeLine};
 ghost use Rattle.btor_tree.specs.Fits.{is_state};
@@ -10,10 +10,9 @@ ghost use Rattle.btor_witness.specs.Bytes.{line_parts};
 ghost use Rattle.btor_witness.specs.Sizes.{sizes_of, is_within};
 ghost use Rattle.btor_witness.specs.Reading.{Reading, begin, frames_of, sat_line, property_line, justice_line, new_frame, states_line, inputs_line, assignment_line, end_line, step};
 ghost use Rattle.btor_witness.specs.Texts.{next_of};
-ghost use Rattle.btor_witness.specs.Judging.{statement_of, OnStated, Passes, FailsFirst};
 ghost use Rattle.btor_witness.specs.Room.{IsWordThere, places_of};
 ghost use Rattle.btor_judge.specs.Scanning.{line_of};
-ghost use Rattle.btor_judge.specs.Standing.{ReaderFits, AreJudged, IsAt, StandsIn, IsSomewhere, HasFrame, AgreesAt, JudgesFrame, HasClosed, Does, IsStageOf};
+ghost use Rattle.btor_judge.specs.Standing.{ReaderFits, IsAt, StandsIn, IsSomewhere, HasFrame, AgreesAt, JudgesHeld, HeldFails, HeldPasses, HasClosed, Does, IsStageOf};
 
 use crate::line::Line;
 use crate::part::Part;
@@ -226,7 +225,7 @@ impl Reader {
         requires few { self.old.count < 2 ^ 31 }
         ensures rest { self.new ≡ record self.old { frames = self.new.frames; verdict = self.new.verdict; count = self.old.count + 1 } }
         ensures fits { FramesFit nodes.now self.new.frames }
-        ensures judged { (f : Frame) (before : List Frame) → HasFrame nodes.now self.old f → AreJudged nodes.now self.old.frames self.old.count self.old.bad before self.old.verdict → AreJudged nodes.now self.new.frames (self.old.count + 1) self.old.bad (before ++ f ∷ []) self.new.verdict }
+        ensures judged { JudgesHeld nodes.now false self.old self.new }
     {
         self.judge_frame(nodes, false);
         self.count += 1;
@@ -237,7 +236,7 @@ impl Reader {
         requires { (f : Frame) × HasFrame nodes.now self.old f }
         ensures rest { self.new ≡ record self.old { frames = self.new.frames; verdict = self.new.verdict } }
         ensures fits { FramesFit nodes.now self.new.frames }
-        ensures judged { (f : Frame) (before : List Frame) → HasFrame nodes.now self.old f → AreJudged nodes.now self.old.frames self.old.count self.old.bad before self.old.verdict → JudgesFrame nodes.now last self.new.frames self.old.count self.old.bad before f self.new.verdict }
+        ensures judged { JudgesHeld nodes.now last self.old self.new }
     {
         // This call's contract says that the lines fit one another.
         let _count = nodes.len();
@@ -257,8 +256,8 @@ impl Reader {
     fn failure(&self, nodes: &Nodes, last: bool) -> Option<Clause>
         requires frame { (f : Frame) × HasFrame nodes.now self.now f }
         requires begun { self.now.frames.begun ≡ true }
-        ensures some { IfSome result (λ clause. (f : Frame) → HasFrame nodes.now self.now f → OnStated nodes.now (statement_of f) self.now.frames.row (λ begun. FailsFirst nodes.now self.now.bad begun last (statement_of f) self.now.frames.row clause)) }
-        ensures none { IfNone result ((f : Frame) → HasFrame nodes.now self.now f → OnStated nodes.now (statement_of f) self.now.frames.row (λ begun. Passes nodes.now self.now.bad begun last (statement_of f) self.now.frames.row)) }
+        ensures some { IfSome result (HeldFails nodes.now self.now last) }
+        ensures none { IfNone result (HeldPasses nodes.now self.now last) }
     {
         if !self.agrees(nodes) {
             return Some(Clause::StateDiffers);

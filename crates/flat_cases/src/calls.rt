@@ -1,4 +1,7 @@
 // The calls by their words.
+ghost use Rattle.smv_text.specs.View.{plain_source};
+ghost use Rattle.smv_flatten.specs.FlatModel.{IsRead};
+
 use crate::form::put_form;
 use crate::sizes::{put_checked, put_sizes};
 use crate::widths::{put_formula_of, put_interval, put_width};
@@ -45,6 +48,7 @@ fn put_of_row(alloc: Global, out: &mut Answer, name: &str, pieces: &[Piece]) -> 
     }
 }
 
+#[tactic(auto, using(crate::proofs::Read::is_read))]
 fn put_of_model(alloc: Global, out: &mut Answer, name: &str, pieces: &[Piece]) -> Result<(), Stop> {
     let wanted = wanted(pieces)?;
     let source = source_of(alloc, given(pieces, "model")?)?;
@@ -69,7 +73,9 @@ fn put_of_flat(
     name: &str,
     source: &Source,
     wanted: u32,
-) -> Result<(), Stop> {
+) -> Result<(), Stop>
+    requires { IsRead (plain_source source.now) }
+{
     let flat = flatten(alloc, source, wanted)?;
     let done = put_flat(alloc, out, name, source, &flat);
     drop(flat);

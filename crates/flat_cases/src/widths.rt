@@ -52,6 +52,7 @@ fn model_text(alloc: Global, declarations: &[u8], expression: &[u8]) -> Result<T
     out.done()
 }
 
+#[tactic(auto, using(crate::proofs::Read::is_read))]
 fn flat_of_text(alloc: Global, text: &[u8]) -> Result<Flat, Stop> {
     let source = source_of(alloc, text)?;
     Ok(flatten(alloc, &source, 0)?)

@@ -134,6 +134,10 @@ kept_denote ts i now later label e = denote (row_reads ts i now label) (row_read
 abbrev pub kept_chosen : List PartOf → ℕ → (now later : Row) → Values → Branches → Denotation → Denotation
 kept_chosen ts i now later label bs d = chosen (row_reads ts i now label) (row_reads ts i later label) bs d
 
+-- the expression is the one that is chosen: the value of the first branch whose condition is true, else the last one
+abbrev pub IsChosen : List PartOf → ℕ → (now later : Row) → Values → Branches → (last e : Tree) → Type 0
+IsChosen ts i now later label bs last e = kept_denote ts i now later label e ≡ kept_chosen ts i now later label bs (kept_denote ts i now later label last)
+
 abbrev pub kept_taken : List PartOf → ℕ → (now later : Row) → Values → Branches → Denotation
 kept_taken ts i now later label bs = taken (row_reads ts i now label) (row_reads ts i later label) bs
 

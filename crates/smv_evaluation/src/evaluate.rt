@@ -5,7 +5,7 @@ ghost use Rattle.smv_text.specs.View.{plain, plain_branch, plain_link};
 ghost use Rattle.smv_meaning.specs.Operators.{called};
 ghost use Rattle.smv_meaning.specs.Expressions.{is_from_right as right_first, are_implies, is_implies, implications, values_of, one_permits};
 ghost use Rattle.smv_meaning.specs.Safety.{depth, branch_depth, Fits, front_value, fronts_value, fronts_permit, SafeTrees, SafeOperands};
-ghost use Rattle.smv_evaluation.specs.Rows.{row_reads, IsKept, KeptSafe, KeptSafeLinks, KeptSafeBranches, kept_denote, kept_chosen, kept_taken};
+ghost use Rattle.smv_evaluation.specs.Rows.{row_reads, IsKept, KeptSafe, KeptSafeLinks, KeptSafeBranches, kept_denote, IsChosen, kept_taken};
 ghost use Rattle.smv_operators.specs.View.{seen_value, plain_value, plain_or};
 ghost use Rattle.smv_evaluation.specs.View.{denoted_or_none};
 
@@ -228,7 +228,7 @@ fn chosen_branch<'a>(
 ) -> &'a Expr
     requires safe { KeptSafeBranches table.now i now.now later.now label.now (branches_of (map plain_branch branches.now)) }
     requires safe_last { KeptSafe table.now i now.now later.now label.now (plain last.now) }
-    ensures value { kept_denote table.now i now.now later.now label.now (plain result.now) ≡ kept_chosen table.now i now.now later.now label.now (branches_of (map plain_branch branches.now)) (kept_denote table.now i now.now later.now label.now (plain last.now)) }
+    ensures value { IsChosen table.now i now.now later.now label.now (branches_of (map plain_branch branches.now)) (plain last.now) (plain result.now) }
     ensures low { depth (plain result.now) ≤ max (branch_depth (branches_of (map plain_branch branches.now))) (depth (plain last.now)) }
     ensures safe { KeptSafe table.now i now.now later.now label.now (plain result.now) }
 {

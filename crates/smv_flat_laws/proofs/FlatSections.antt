@@ -122,7 +122,7 @@ grow_good test ms p (suc n) at t e h =
     elements_good test (grow n ms) (grow_good test ms p n) ms p (length t) at.path at.module.elements (t ++ at ∷ [])
     (list_all-append (λ (a : Instance). test a.module) t (at ∷ []) ∙ two_true _ _ h (two_true _ _ e refl))
 
-named_good : (test : PlainModule → Bool) (ms : List PlainModule) (m : List ℕ) → list_all test ms ≡ true → (o : Option PlainModule) → o ≡ module_named ms m → AllPlans test (grown_from ms o)
+pub named_good : (test : PlainModule → Bool) (ms : List PlainModule) (m : List ℕ) → list_all test ms ≡ true → (o : Option PlainModule) → o ≡ module_named ms m → AllPlans test (grown_from ms o)
 named_good test ms m p None e = refl
 named_good test ms m p (Some q) e = grow_good test ms p (length ms) (main_instance q) [] (there ms p (sym e)) refl
   where

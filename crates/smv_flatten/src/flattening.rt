@@ -11,7 +11,7 @@ ghost use Rattle.smv_flat.specs.FlatForms.{forms_of, flat_of, flat_smv};
 ghost use Rattle.smv_flat.specs.FlatFormulas.{form_plain};
 ghost use Rattle.smv_items.specs.FlatOrigins.{origin_plain};
 ghost use Rattle.smv_width.specs.FlatWidth.{width_of};
-ghost use Rattle.smv_flatten.specs.FlatModel.{flat_plain};
+ghost use Rattle.smv_flatten.specs.FlatModel.{flat_plain, AreOfModel, IsRead};
 ghost use Rattle.smv_flatten.specs.Refusing.{Decides};
 
 use crate::counts::{invariant_count, weight_in};
@@ -111,7 +111,8 @@ fn contents_of<'a>(
 
 // The flat form of these instances.
 fn flattened<'a>(alloc: Global, table: &Table<'a>, types: &Types<'a>) -> Result<Flat, NoMemory>
-    requires { AreTypesOf (map instance_plain table.now) types.now }
+    requires typed { AreTypesOf (map instance_plain table.now) types.now }
+    requires model { AreOfModel (map instance_plain table.now) }
     ensures form { IfOk result (λ f. flat_plain f ≡ flat_of (map instance_plain table.now)) }
     ensures width { IfOk result (λ f. f.width ≡ width_of (flat_of (map instance_plain table.now))) }
     ensures weight { IfOk result (λ f. f.weight ≡ sum_by (λ at. at.module.tokens) (map instance_plain table.now)) }
@@ -132,9 +133,12 @@ fn flattened<'a>(alloc: Global, table: &Table<'a>, types: &Types<'a>) -> Result<
     })
 }
 
-/// The flat form of a model of which the invariant with this number is wanted, 0 where any will do; the refusal is that of the
-/// first check that fails.
+/// The flat form of a model, as the parser answers it, of which the invariant with this number is wanted, 0 where any will do; the
+/// refusal is that of the first check that fails.
+#[tactic(auto, using(crate::proofs::Models::are_of_model))]
 pub fn flatten(alloc: Global, source: &Source, needed: u32) -> Result<Flat, FlatEnd>
+    // A text spells the model, and none of its expressions is too high.
+    requires read { IsRead (plain_source source.now) }
     ensures checks { Decides result (checks_of (plain_source source.now) needed) }
     ensures passes { IfOk result (λ f. IsAccepted (plain_source source.now) needed) }
     ensures form { IfOk result (λ f. flat_plain f ≡ flat_smv (plain_source source.now)) }

@@ -1,5 +1,6 @@
 // The flat form of a model.
 ghost use Rattle.std.specs.Prelude.{◌≡◌, ◌≤◌};
+ghost use Rattle.smv_flatten.specs.FlatModel.{IsOfModel};
 
 use crate::sequences::{FlatFormulas, FlatItems};
 use std::marker::Model;
@@ -21,7 +22,7 @@ impl Model for Flat {
     ghost use Rattle.std.specs.Coded.{codes};
     ghost use Rattle.smv_flat.specs.contracts.expressions.FlatExpr as expr;
     ghost use Rattle.smv_flat.specs.contracts.expressions.FlatShape as shape;
-    ghost use Rattle.smv_flatten.specs.FlatModel.{FlatModel};
+    ghost use Rattle.smv_flatten.specs.FlatModel.{FlatModel, IsOfModel};
 
     ghost Value = { FlatModel };
 
@@ -31,7 +32,7 @@ impl Model for Flat {
 
     ghost use Rattle.std.specs.Prelude.{◌≤◌};
 
-    ghost invariant = { λ f. (1 ≤ f.width) × (f.width ≤ 64) };
+    ghost invariant = { λ f. (1 ≤ f.width) × (f.width ≤ 64) × ∥ IsOfModel (record { items = f.items; symbols = f.symbols; formulas = f.formulas; width = f.width; weight = f.weight; invariants = f.invariants }) ∥₁ };
 }
 
 impl Flat {
@@ -78,5 +79,13 @@ impl Flat {
         ensures { result ≡ self.now.invariants }
     {
         self.invariants
+    }
+
+    /// A text spells the model of which this is the flat form, and the model's checks hold; this function does nothing.
+    pub fn is_of_model(&self)
+        ensures { ∥ IsOfModel self.now ∥₁ }
+    {
+        // This use of a field brings the invariant.
+        let _ = &self.items;
     }
 }

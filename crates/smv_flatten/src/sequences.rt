@@ -41,6 +41,13 @@ impl FlatItems {
     {
         &self.items[k]
     }
+
+    /// All of them.
+    pub fn as_slice(&self) -> &[FlatItem]
+        ensures { result.now ≡ self.now }
+    {
+        self.items.as_slice()
+    }
 }
 
 /// The formulas of a flat form in their order, seen as their list.
@@ -83,5 +90,12 @@ impl FlatFormulas {
         ensures { result.now ≡ slice_index_or self.now k result.now }
     {
         &self.formulas[k]
+    }
+
+    /// All of them.
+    pub fn as_slice(&self) -> &[FlatFormula]
+        ensures { result.now ≡ self.now }
+    {
+        self.formulas.as_slice()
     }
 }

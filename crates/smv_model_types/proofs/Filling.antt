@@ -16,7 +16,7 @@ use Rattle.smv_meaning.specs.Phases.{Formula, formula_same, formula_here, from_i
 use Rattle.smv_meaning.specs.Settled.{Acyclic, is_formula, types_in, NamesSettle, TypesSettle}
 use Rattle.smv_meaning.specs.Formulas.{instance_within, IsFormulaOrder}
 use Rattle.smv_meaning.specs.Orders.{numbered, is_listed, SameOn, TypesHangOnPaths, OrderIsWhole}
-use Rattle.smv_model_types.specs.Entries.{Entries, nameless, entry_or, entries_step, entries_walk, entries_single, entries_through, entries_names, HasEach, put_for, variable_put, or_else, Becomes, Right, Has}
+use Rattle.smv_model_types.specs.Entries.{Entries, nameless, entry_or, entries_step, entries_walk, entries_single, entries_through, entries_names, HasEach, put_for, variable_put, or_else, Becomes, IsPut, Right, Has}
 
 -- ---- tests
 
@@ -239,7 +239,7 @@ pub none_held : (t : List Instance) (entries : Entries) → Right t entries → 
 none_held t entries r = record { right = r; has = λ k h f. absurd_bool h }
 
 pub one_more : (t : List Instance) (old new : Entries) (k : Formula) (ks : List Formula) → Acyclic t → NamesSettle → TypesSettle → TypesHangOnPaths → list_all (is_listed ks) (refers t k) ≡ true
-    → Becomes old k (put_for t old (local t k.0 k.1)) new → Holds t old ks → Holds t new (ks ++ k ∷ [])
+    → IsPut t k old new → Holds t old ks → Holds t new (ks ++ k ∷ [])
 one_more t old new k ks a n y h before b r =
     let w = laws t a n y h in
     record {

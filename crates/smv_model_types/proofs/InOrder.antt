@@ -6,13 +6,12 @@ use Rattle.std.proofs.lemmas.Bool.{ltb-true}
 use Rattle.std.proofs.lemmas.List.{length-map, get_or-map, map-append, take_more, drop_more, take-append-drop}
 use Rattle.smv_references.specs.declared.formulas.Formula.{Formula as Kept}
 use Rattle.smv_meaning.specs.Instances.{Instance}
-use Rattle.smv_meaning.specs.Names.{local}
 use Rattle.smv_meaning.specs.Phases.{refers}
 use Rattle.smv_meaning.specs.Settled.{NamesSettle, TypesSettle}
 use Rattle.smv_meaning.specs.Formulas.{Placed, placed_formulas, formulas_of, references_of, reference_graph, IsFormulaOrder}
 use Rattle.smv_meaning.specs.Orders.{numbered, is_listed, ReferencesStandBefore, TypesHangOnPaths}
 use Rattle.smv_references.specs.View.{formula_plain, key_of}
-use Rattle.smv_model_types.specs.Entries.{Entries, put_for, Becomes}
+use Rattle.smv_model_types.specs.Entries.{Entries, IsPut}
 use Rattle.smv_model_types.proofs.Filling.{both_true, Holds, one_more}
 
 each_low : (n : ℕ) (xs : List ℕ) (k d : ℕ) → list_all (λ x. nat_lt x n) xs ≡ true → k < length xs → slice_index_or xs k d < n
@@ -41,7 +40,7 @@ parted order k n l is = sym (take-append-drop k order) ∙ ap (λ xs. take k ord
 
 -- one more of the order is put into the entries
 pub next_put : (t : List Instance) (fs : List Kept) (order : List ℕ) (k n : ℕ) (f : Kept) (old new : Entries) → map formula_plain fs ≡ placed_formulas t → IsFormulaOrder t order → NamesSettle → TypesSettle → TypesHangOnPaths → ReferencesStandBefore
-    → k < length order → n ≡ slice_index_or order k n → f ≡ slice_index_or fs n f → Becomes old (key_of f) (put_for t old (local t f.instance f.name.now)) new
+    → k < length order → n ≡ slice_index_or order k n → f ≡ slice_index_or fs n f → IsPut t (key_of f) old new
     → Holds t old (map (numbered t) (take k order)) → Holds t new (map (numbered t) (take (k + 1) order))
 next_put t fs order k n f old new e o names types hang before l is fis b h =
     let low = number_low t fs order k n e o l is in

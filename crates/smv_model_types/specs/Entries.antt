@@ -83,6 +83,10 @@ or_else None other = other
 abbrev pub Becomes : Entries → Formula → Option Named → Entries → Type 0
 Becomes old k o new = (j : ℕ) (y : List ℕ) → new j y ≡ (if formula_same k (j, y) then or_else o (old j y) else old j y)
 
+-- the entries with what a definition or an actual is, where the name is one
+abbrev pub IsPut : List Instance → Formula → (old new : Entries) → Type 0
+IsPut t k old new = Becomes old k (put_for t old (local t k.0 k.1)) new
+
 -- what the entries have is right
 abbrev pub Right : List Instance → Entries → Type 0
 Right t entries = (i : ℕ) (x : List ℕ) (n : Named) → entries i x ≡ Some n → n ≡ named_found true (types_in true t) (look t (steps_of t) i x)

@@ -2,7 +2,7 @@
 ghost use Rattle.std.specs.Prelude.{◌≡◌, ◌<◌, true, [], length, map, option_map, slice_index_or, IfOk, OnOk};
 ghost use Rattle.std.specs.List.{list_any};
 ghost use Rattle.smv_text.specs.View.{plain};
-ghost use Rattle.smv_meaning.specs.Names.{local, body_at};
+ghost use Rattle.smv_meaning.specs.Names.{body_at};
 ghost use Rattle.smv_meaning.specs.Checks.{typing};
 ghost use Rattle.smv_meaning.specs.Naming.{in_body, named_found};
 ghost use Rattle.smv_meaning.specs.Formulas.{placed_formulas, IsFormulaOrder};
@@ -10,7 +10,7 @@ ghost use Rattle.smv_instances.specs.View.{instance_plain};
 ghost use Rattle.smv_references.specs.View.{formula_plain, path_seen, key_of};
 ghost use Rattle.smv_intervals.specs.View.{seen};
 ghost use Rattle.smv_types.specs.View.{named_seen};
-ghost use Rattle.smv_model_types.specs.Entries.{entries_seen, entries_names, put_for, Becomes, HasEach};
+ghost use Rattle.smv_model_types.specs.Entries.{entries_seen, entries_names, IsPut, HasEach};
 
 use crate::names::{Entries, Reader, path_named};
 use crate::variables::variables_of;
@@ -88,7 +88,7 @@ fn put_formula<'a>(
     entries: &mut Entries<'a>,
     formula: &Formula<'a>,
 ) -> Result<(), NoMemory>
-    ensures { OnOk result (Becomes (entries_seen entries.old) (key_of formula.now) (put_for (map instance_plain table.now) (entries_seen entries.old) (local (map instance_plain table.now) formula.now.instance formula.now.name.now)) (entries_seen entries.new)) }
+    ensures { OnOk result (IsPut (map instance_plain table.now) (key_of formula.now) (entries_seen entries.old) (entries_seen entries.new)) }
 {
     match table.local(formula.instance, formula.name) {
         Known::Alias(j, path) => {

@@ -1,5 +1,8 @@
 // Texts read as tokens, as models and as expressions, or their refusals.
 ghost use Rattle.std.specs.Prelude.{◌<◌, ◌^◌, length, IfOk};
+ghost use Rattle.smv_text.specs.Lexing.{Lexes};
+ghost use Rattle.smv_text.specs.View.{plain_source};
+ghost use Rattle.smv_text_cases.specs.Spelled.{IsSpelled};
 
 use case_text::{Answer, Fault, Stop};
 use smv_lex::lex;
@@ -16,7 +19,8 @@ const FRONT: &[u8] = b"MODULE main INVARSPEC\n";
 
 /// The tokens of a text.
 pub(crate) fn tokens_of(alloc: Global, text: &[u8]) -> Result<Tokens, Stop>
-    ensures { IfOk result (λ tokens. length tokens.items < 2 ^ 32) }
+    ensures few { IfOk result (λ tokens. length tokens.items < 2 ^ 32) }
+    ensures lexed { IfOk result (λ tokens. Lexes text.now tokens.items) }
 {
     if text.len() > MOST_BYTES {
         return Err(Stop::from("too long a text"));
@@ -25,7 +29,9 @@ pub(crate) fn tokens_of(alloc: Global, text: &[u8]) -> Result<Tokens, Stop>
 }
 
 /// The model that a text spells.
-pub fn source_of(alloc: Global, text: &[u8]) -> Result<Source, Stop> {
+pub fn source_of(alloc: Global, text: &[u8]) -> Result<Source, Stop>
+    ensures { IfOk result (λ s. IsSpelled text.now (plain_source s)) }
+{
     let tokens = tokens_of(alloc, text)?;
     Ok(parse(alloc, &tokens)?)
 }
