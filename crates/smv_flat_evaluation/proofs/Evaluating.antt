@@ -16,6 +16,7 @@ use Rattle.smv_flat.specs.declared.expressions.FlatShape.{Chain, the_lemmas as s
 use Rattle.smv_flat.specs.FlatTree.{FlatTree, flat_chain, FlatLinks, no_flat_links, flat_link, flat_links_of, flat_branches_of, flat_are_implies, flat_from_right, flat_is_last, flat_denote, flat_implications, flat_linked, flat_chosen, flat_taken}
 use Rattle.smv_flat.specs.FlatView.{plain_flat, plain_flat_link, plain_flat_branch}
 use Rattle.smv_flat_evaluation.specs.Fronts.{flat_fronts_value, flat_fronts_permit, chain_value}
+use Rattle.smv_flat_evaluation.specs.FlatSafety.{FlatSafe, FlatSafeBranches}
 use Rattle.smv_flat_evaluation.proofs.Depths.{flat_depth, flat_branch_depth}
 
 -- ---- plain forms
@@ -105,6 +106,20 @@ depth_firsts_of bs l all e =
 
 value_of_branch : (l : FlatBranch) → (plain_flat_branch l).1 ≡ plain_flat l.value
 value_of_branch l = ap (λ p. p.1) (branch_at l)
+
+safe_firsts_of : (s f g : ℕ → Value) (bs : List FlatBranch) (l : FlatBranch) (all : List FlatBranch) → all ≡ bs ++ l ∷ []
+    → FlatSafeBranches s f g (flat_branches_of (map plain_flat_branch all)) → FlatSafeBranches s f g (flat_branches_of (map plain_flat_branch bs)) × FlatSafe s f g (plain_flat_branch l).1
+safe_firsts_of s f g bs l all e h = by bs (subst (λ xs. FlatSafeBranches s f g (flat_branches_of (map plain_flat_branch xs))) e h)
+  where
+    by : (bs : List FlatBranch) → FlatSafeBranches s f g (flat_branches_of (map plain_flat_branch (bs ++ l ∷ [])))
+        → FlatSafeBranches s f g (flat_branches_of (map plain_flat_branch bs)) × FlatSafe s f g (plain_flat_branch l).1
+    by [] h = (tt, h.1)
+    by (b ∷ bs) h = let r = by bs h.2 in ((h.0, h.1, r.0), r.1)
+
+pub safe_firsts : (s f g : ℕ → Value) (bs : List FlatBranch) (l : FlatBranch) (all : List FlatBranch) → all ≡ bs ++ l ∷ []
+    → FlatSafeBranches s f g (flat_branches_of (map plain_flat_branch all)) → FlatSafeBranches s f g (flat_branches_of (map plain_flat_branch bs)) × FlatSafe s f g (plain_flat l.value)
+safe_firsts s f g bs l all e h =
+    let r = safe_firsts_of s f g bs l all e h in (r.0, subst (λ t. FlatSafe s f g t) (value_of_branch l) r.1)
 
 pub taken_is_chosen : (s f g : ℕ → Value) (bs : List FlatBranch) (l : FlatBranch) (all : List FlatBranch) → all ≡ bs ++ l ∷ []
     → flat_taken s f g (flat_branches_of (map plain_flat_branch all)) ≡ flat_chosen s f g (flat_branches_of (map plain_flat_branch bs)) (flat_denote s f g (plain_flat l.value))

@@ -1,3 +1,4 @@
-pub mod FitLaws
 pub mod Depths
 pub mod Evaluating
+pub mod SafeFlat
+pub mod SafeForms

@@ -1,2 +1,3 @@
 pub mod RowValues
 pub mod Fronts
+pub mod FlatSafety

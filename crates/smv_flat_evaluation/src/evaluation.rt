@@ -1,24 +1,23 @@
 // The value of a flat expression, given the values of items.
-ghost use Rattle.std.specs.Prelude.{◌≡◌, [], ◌∷◌, pos, map, IfSome};
-ghost use Rattle.smv_meaning.specs.declared.value.Value.TheVariants as OfValue;
-ghost use Rattle.smv_meaning.specs.Operators.{applied, signed, called, trues};
+ghost use Rattle.std.specs.Prelude.{◌≡◌, [], ◌∷◌, map};
+ghost use Rattle.smv_meaning.specs.Operators.{called};
 ghost use Rattle.smv_meaning.specs.Values.{is_between};
 ghost use Rattle.smv_meaning.specs.Expressions.{is_implies};
-ghost use Rattle.smv_meaning.specs.Safety.{front_value};
+ghost use Rattle.smv_meaning.specs.Safety.{Fits, front_value};
 ghost use Rattle.smv_flat.specs.FlatTree.{flat_links_of, flat_branches_of, flat_trees_of, flat_from_right, flat_are_implies, flat_values, flat_permits};
 ghost use Rattle.smv_flat.specs.FlatView.{plain_flat, plain_flat_link, plain_flat_branch};
 ghost use Rattle.smv_flat_laws.specs.FlatTruth.{symbol_value};
 ghost use Rattle.smv_operators.specs.View.{seen_value, plain_value};
 ghost use Rattle.smv_flat_evaluation.specs.RowValues.{row_values, row_denote, row_chosen, row_taken};
 ghost use Rattle.smv_flat_evaluation.specs.Fronts.{row_chain, row_implications, row_fronts_value, row_fronts_permit};
+ghost use Rattle.smv_flat_evaluation.specs.FlatSafety.{RowSafe, RowSafeLinks, RowSafeOperands, RowSafeBranches, RowSafeTrees};
 
-use crate::fits::{infix_fits, one_fits, sign_fits, two_fit};
 use smv_flat::{FlatBranch, FlatExpr, FlatLink, FlatShape};
 use smv_operators::{
     Plain, Seen, apply, call_one, call_two, copied, implication, no_plain, no_seen, opposite,
     plain_same, same, seen_of, selection, truth_of,
 };
-use smv_text::{Function, Infix, Prefix};
+use smv_text::{Function, Infix};
 use text_core::Names;
 
 /// The value of the item with this number in a row; what stands for a value where the row has none.
@@ -42,56 +41,6 @@ fn symbol_at<'a>(symbols: &'a Names, s: u32) -> Seen<'a>
     } else {
         no_seen()
     }
-}
-
-// ---- operators; there is no value where an integer passes 64 bits
-
-fn number_value<'a>(n: u64) -> Option<Seen<'a>>
-    ensures { IfSome result (λ v. seen_value v ≡ OfValue.Integer (pos n)) }
-{
-    match i64::try_from(n) {
-        Ok(z) => Some(Seen::Integer(z)),
-        Err(_) => None,
-    }
-}
-
-fn signed_value<'a>(sign: Prefix, count: u32, value: &Seen<'a>) -> Option<Seen<'a>>
-    ensures { IfSome result (λ v. seen_value v ≡ signed sign count (seen_value value.now)) }
-{
-    if count % 2 == 0 {
-        Some(copied(value))
-    } else if sign_fits(sign, count, value) {
-        Some(seen_of(opposite(sign, count, value)))
-    } else {
-        None
-    }
-}
-
-fn infix_value(op: Infix, a: &Seen, b: &Seen) -> Option<Plain>
-    ensures { IfSome result (λ v. plain_value v ≡ applied op (seen_value a.now) (seen_value b.now)) }
-{
-    if infix_fits(op, a, b) {
-        Some(apply(op, a, b))
-    } else {
-        None
-    }
-}
-
-fn one_value(f: Function, a: &Seen) -> Option<Plain>
-    ensures { IfSome result (λ v. plain_value v ≡ called f (seen_value a.now ∷ [])) }
-{
-    if one_fits(f, a) {
-        Some(call_one(f, a))
-    } else {
-        None
-    }
-}
-
-fn two_value(f: Function, a: &Seen, b: &Seen) -> Plain
-    ensures { plain_value result ≡ called f (seen_value a.now ∷ seen_value b.now ∷ []) }
-{
-    two_fit(f, a, b);
-    call_two(f, a, b)
 }
 
 fn lies_between(low: i64, high: i64, value: &Seen) -> bool
@@ -144,36 +93,38 @@ fn is_implication(op: Infix) -> bool
 // ---- expressions
 
 /// The value of an expression, given the names of symbols, and the values of items in this state and in the following one, which
-/// `next` reads. There is none where an integer on the way passes 64 bits.
+/// `next` reads.
 #[cycle(evaluation)]
 pub fn evaluate<'a>(
     symbols: &'a Names,
     e: &FlatExpr,
     now: &[Seen<'a>],
     later: &[Seen<'a>],
-) -> Option<Seen<'a>>
-    ensures { IfSome result (λ v. seen_value v ≡ (row_denote symbols.now now.now later.now (plain_flat e.now)).value) }
+) -> Seen<'a>
+    // Each integer on the way fits 64 bits.
+    requires safe { RowSafe symbols.now now.now later.now (plain_flat e.now) }
+    ensures { seen_value result ≡ (row_denote symbols.now now.now later.now (plain_flat e.now)).value }
 {
     match &e.shape {
-        FlatShape::True => Some(Seen::Truth(true)),
-        FlatShape::False => Some(Seen::Truth(false)),
-        FlatShape::Number(n) => number_value(*n),
-        FlatShape::Literal(w) => Some(Seen::Bits(*w)),
-        FlatShape::Symbol(s) => Some(symbol_at(symbols, *s)),
+        FlatShape::True => Seen::Truth(true),
+        FlatShape::False => Seen::Truth(false),
+        FlatShape::Number(n) => Seen::Integer(*n as i64),
+        FlatShape::Literal(w) => Seen::Bits(*w),
+        FlatShape::Symbol(s) => symbol_at(symbols, *s),
         FlatShape::Item(k, under) => {
             let row = if *under { later } else { now };
-            Some(item_at(row, *k as usize))
+            item_at(row, *k as usize)
         },
         FlatShape::Prefix(sign, count, a) => {
-            let Some(value) = evaluate(symbols, a, now, later) else {
-                return None;
-            };
-            signed_value(*sign, *count, &value)
+            let value = evaluate(symbols, a, now, later);
+            if *count % 2 == 0 {
+                value
+            } else {
+                seen_of(opposite(*sign, *count, &value))
+            }
         }
         FlatShape::Chain(a, links) => {
-            let Some(first) = evaluate(symbols, a, now, later) else {
-                return None;
-            };
+            let first = evaluate(symbols, a, now, later);
             chained(symbols, &first, links.as_slice(), now, later)
         }
         FlatShape::Choice(branches, last) => {
@@ -181,17 +132,14 @@ pub fn evaluate<'a>(
         }
         FlatShape::Case(branches) => taken(symbols, branches.as_slice(), now, later),
         FlatShape::Select(a, high, low) => {
-            let Some(value) = evaluate(symbols, a, now, later) else {
-                return None;
-            };
-            Some(seen_of(selection(*high as u64, *low as u64, &value)))
+            let value = evaluate(symbols, a, now, later);
+            seen_of(selection(*high as u64, *low as u64, &value))
         }
         FlatShape::Call(f, arguments) => {
-            let value = call_value(symbols, *f, arguments.as_slice(), now, later)?;
-            Some(seen_of(value))
+            seen_of(call_value(symbols, *f, arguments.as_slice(), now, later))
         }
-        FlatShape::Set(_) => Some(no_seen()),
-        FlatShape::Range(_, _) => Some(no_seen()),
+        FlatShape::Set(_) => no_seen(),
+        FlatShape::Range(_, _) => no_seen(),
     }
 }
 
@@ -203,8 +151,10 @@ fn chained<'a>(
     links: &[FlatLink],
     now: &[Seen<'a>],
     later: &[Seen<'a>],
-) -> Option<Seen<'a>>
-    ensures { IfSome result (λ v. seen_value v ≡ row_chain symbols.now now.now later.now (seen_value first.now) (flat_links_of (map plain_flat_link links.now))) }
+) -> Seen<'a>
+    requires fronts { RowSafeLinks symbols.now now.now later.now (seen_value first.now) (flat_links_of (map plain_flat_link links.now)) }
+    requires operands { RowSafeOperands symbols.now now.now later.now (flat_links_of (map plain_flat_link links.now)) }
+    ensures { seen_value result ≡ row_chain symbols.now now.now later.now (seen_value first.now) (flat_links_of (map plain_flat_link links.now)) }
 {
     if is_from_right(links) {
         rest_implied(symbols, first, links, now, later)
@@ -221,19 +171,16 @@ fn rest_implied<'a>(
     links: &[FlatLink],
     now: &[Seen<'a>],
     later: &[Seen<'a>],
-) -> Option<Seen<'a>>
-    ensures { IfSome result (λ v. seen_value v ≡ row_implications symbols.now now.now later.now (seen_value first.now) (flat_links_of (map plain_flat_link links.now))) }
+) -> Seen<'a>
+    requires safe { RowSafeOperands symbols.now now.now later.now (flat_links_of (map plain_flat_link links.now)) }
+    ensures { seen_value result ≡ row_implications symbols.now now.now later.now (seen_value first.now) (flat_links_of (map plain_flat_link links.now)) }
 {
     match links.split_first() {
-        None => Some(copied(first)),
+        None => copied(first),
         Some((link, more)) => {
-            let Some(operand) = evaluate(symbols, &link.operand, now, later) else {
-                return None;
-            };
-            let Some(rest) = rest_implied(symbols, &operand, more, now, later) else {
-                return None;
-            };
-            Some(seen_of(implication(first, &rest)))
+            let operand = evaluate(symbols, &link.operand, now, later);
+            let rest = rest_implied(symbols, &operand, more, now, later);
+            seen_of(implication(first, &rest))
         }
     }
 }
@@ -246,17 +193,17 @@ fn last_front<'a>(
     links: &[FlatLink],
     now: &[Seen<'a>],
     later: &[Seen<'a>],
-) -> Option<Seen<'a>>
-    ensures { IfSome result (λ v. seen_value v ≡ row_fronts_value symbols.now now.now later.now (seen_value first.now) (flat_links_of (map plain_flat_link links.now))) }
+) -> Seen<'a>
+    requires safe { RowSafeLinks symbols.now now.now later.now (seen_value first.now) (flat_links_of (map plain_flat_link links.now)) }
+    ensures { seen_value result ≡ row_fronts_value symbols.now now.now later.now (seen_value first.now) (flat_links_of (map plain_flat_link links.now)) }
 {
     let mut front = copied(first);
     let mut rest = links;
     while let Some((link, more)) = rest.split_first() {
-        let next = next_front(symbols, link.op, &front, &link.operand, now, later)?;
-        front = seen_of(next);
+        front = seen_of(next_front(symbols, link.op, &front, &link.operand, now, later));
         rest = more;
     }
-    Some(front)
+    front
 }
 
 // A front with the operand behind its last operator.
@@ -268,20 +215,17 @@ fn next_front<'a>(
     operand: &FlatExpr,
     now: &[Seen<'a>],
     later: &[Seen<'a>],
-) -> Option<Plain>
-    ensures { IfSome result (λ v. plain_value v ≡ front_value op (seen_value front.now) (row_denote symbols.now now.now later.now (plain_flat operand.now))) }
+) -> Plain
+    requires safe { RowSafe symbols.now now.now later.now (plain_flat operand.now) }
+    requires fits { Fits (front_value op (seen_value front.now) (row_denote symbols.now now.now later.now (plain_flat operand.now))) }
+    ensures { plain_value result ≡ front_value op (seen_value front.now) (row_denote symbols.now now.now later.now (plain_flat operand.now)) }
 {
     match op {
-        Infix::Member => {
-            let is_member = permits(symbols, operand, front, now, later)?;
-            Some(Plain::Truth(is_member))
-        }
-        Infix::Union => Some(no_plain()),
+        Infix::Member => Plain::Truth(permits(symbols, operand, front, now, later)),
+        Infix::Union => no_plain(),
         _ => {
-            let Some(value) = evaluate(symbols, operand, now, later) else {
-                return None;
-            };
-            infix_value(op, front, &value)
+            let value = evaluate(symbols, operand, now, later);
+            apply(op, front, &value)
         }
     }
 }
@@ -294,14 +238,14 @@ fn chosen<'a>(
     last: &FlatExpr,
     now: &[Seen<'a>],
     later: &[Seen<'a>],
-) -> Option<Seen<'a>>
-    ensures { IfSome result (λ v. seen_value v ≡ (row_chosen symbols.now now.now later.now (flat_branches_of (map plain_flat_branch branches.now)) (row_denote symbols.now now.now later.now (plain_flat last.now))).value) }
+) -> Seen<'a>
+    requires safe { RowSafeBranches symbols.now now.now later.now (flat_branches_of (map plain_flat_branch branches.now)) }
+    requires safe_last { RowSafe symbols.now now.now later.now (plain_flat last.now) }
+    ensures { seen_value result ≡ (row_chosen symbols.now now.now later.now (flat_branches_of (map plain_flat_branch branches.now)) (row_denote symbols.now now.now later.now (plain_flat last.now))).value }
 {
     let mut rest = branches;
     while let Some((branch, more)) = rest.split_first() {
-        let Some(condition) = evaluate(symbols, &branch.when, now, later) else {
-            return None;
-        };
+        let condition = evaluate(symbols, &branch.when, now, later);
         if truth_of(&condition) {
             return evaluate(symbols, &branch.value, now, later);
         }
@@ -317,11 +261,12 @@ fn taken<'a>(
     branches: &[FlatBranch],
     now: &[Seen<'a>],
     later: &[Seen<'a>],
-) -> Option<Seen<'a>>
-    ensures { IfSome result (λ v. seen_value v ≡ (row_taken symbols.now now.now later.now (flat_branches_of (map plain_flat_branch branches.now))).value) }
+) -> Seen<'a>
+    requires safe { RowSafeBranches symbols.now now.now later.now (flat_branches_of (map plain_flat_branch branches.now)) }
+    ensures { seen_value result ≡ (row_taken symbols.now now.now later.now (flat_branches_of (map plain_flat_branch branches.now))).value }
 {
     match branches.split_last() {
-        None => Some(no_seen()),
+        None => no_seen(),
         Some((last, firsts)) => chosen(symbols, firsts, &last.value, now, later),
     }
 }
@@ -334,28 +279,34 @@ fn call_value<'a>(
     arguments: &[FlatExpr],
     now: &[Seen<'a>],
     later: &[Seen<'a>],
-) -> Option<Plain>
-    ensures { IfSome result (λ v. plain_value v ≡ called f (flat_values (symbol_value symbols.now) (row_values now.now) (row_values later.now) (flat_trees_of (map plain_flat arguments.now)))) }
+) -> Plain
+    requires safe { RowSafeTrees symbols.now now.now later.now (flat_trees_of (map plain_flat arguments.now)) }
+    requires fits { Fits (called f (flat_values (symbol_value symbols.now) (row_values now.now) (row_values later.now) (flat_trees_of (map plain_flat arguments.now)))) }
+    ensures { plain_value result ≡ called f (flat_values (symbol_value symbols.now) (row_values now.now) (row_values later.now) (flat_trees_of (map plain_flat arguments.now))) }
 {
     if let Function::Count = f {
-        let count = true_count(symbols, arguments, now, later)?;
-        return Some(Plain::Integer(count));
+        let mut count = 0i64;
+        let mut rest = arguments;
+        while let Some((first, more)) = rest.split_first() {
+            let value = evaluate(symbols, first, now, later);
+            if truth_of(&value) {
+                count += 1;
+            }
+            rest = more;
+        }
+        return Plain::Integer(count);
     }
     match arguments.split_first() {
-        None => Some(no_plain()),
+        None => no_plain(),
         Some((first, more)) => {
-            let Some(a) = evaluate(symbols, first, now, later) else {
-                return None;
-            };
+            let a = evaluate(symbols, first, now, later);
             match more.split_first() {
-                None => one_value(f, &a),
+                None => call_one(f, &a),
                 Some((second, others)) => {
-                    let Some(b) = evaluate(symbols, second, now, later) else {
-                        return None;
-                    };
+                    let b = evaluate(symbols, second, now, later);
                     match others.split_first() {
-                        None => Some(two_value(f, &a, &b)),
-                        Some(_) => Some(no_plain()),
+                        None => call_two(f, &a, &b),
+                        Some(_) => no_plain(),
                     }
                 }
             }
@@ -363,31 +314,7 @@ fn call_value<'a>(
     }
 }
 
-// How many of these are true.
-#[cycle(evaluation)]
-fn true_count<'a>(
-    symbols: &'a Names,
-    arguments: &[FlatExpr],
-    now: &[Seen<'a>],
-    later: &[Seen<'a>],
-) -> Option<i64>
-    ensures { IfSome result (λ n. n ≡ pos (trues (flat_values (symbol_value symbols.now) (row_values now.now) (row_values later.now) (flat_trees_of (map plain_flat arguments.now))))) }
-{
-    let mut count = 0i64;
-    let mut rest = arguments;
-    while let Some((first, more)) = rest.split_first() {
-        let Some(value) = evaluate(symbols, first, now, later) else {
-            return None;
-        };
-        if truth_of(&value) {
-            count = count.checked_add(1)?;
-        }
-        rest = more;
-    }
-    Some(count)
-}
-
-/// Does the expression permit the value? There is no answer where an integer on the way passes 64 bits.
+/// Does the expression permit the value?
 #[cycle(evaluation)]
 pub fn permits<'a>(
     symbols: &'a Names,
@@ -395,12 +322,14 @@ pub fn permits<'a>(
     value: &Seen<'a>,
     now: &[Seen<'a>],
     later: &[Seen<'a>],
-) -> Option<bool>
-    ensures { IfSome result (λ b. b ≡ (row_denote symbols.now now.now later.now (plain_flat e.now)).permits (seen_value value.now)) }
+) -> bool
+    // Each integer on the way fits 64 bits.
+    requires safe { RowSafe symbols.now now.now later.now (plain_flat e.now) }
+    ensures { result ≡ (row_denote symbols.now now.now later.now (plain_flat e.now)).permits (seen_value value.now) }
 {
     match &e.shape {
         FlatShape::Set(elements) => one_permits(symbols, elements.as_slice(), value, now, later),
-        FlatShape::Range(low, high) => Some(lies_between(*low, *high, value)),
+        FlatShape::Range(low, high) => lies_between(*low, *high, value),
         FlatShape::Choice(branches, last) => {
             chosen_permits(symbols, branches.as_slice(), last, value, now, later)
         }
@@ -409,23 +338,17 @@ pub fn permits<'a>(
         }
         FlatShape::Chain(a, links) => {
             if is_from_right(links.as_slice()) {
-                let Some(own) = evaluate(symbols, e, now, later) else {
-                    return None;
-                };
-                Some(same(&own, value))
+                let own = evaluate(symbols, e, now, later);
+                same(&own, value)
             } else {
-                let Some(first) = evaluate(symbols, a, now, later) else {
-                    return None;
-                };
-                let has = permits(symbols, a, value, now, later)?;
+                let first = evaluate(symbols, a, now, later);
+                let has = permits(symbols, a, value, now, later);
                 last_permits(symbols, &first, has, links.as_slice(), value, now, later)
             }
         }
         _ => {
-            let Some(own) = evaluate(symbols, e, now, later) else {
-                return None;
-            };
-            Some(same(&own, value))
+            let own = evaluate(symbols, e, now, later);
+            same(&own, value)
         }
     }
 }
@@ -438,18 +361,18 @@ fn one_permits<'a>(
     value: &Seen<'a>,
     now: &[Seen<'a>],
     later: &[Seen<'a>],
-) -> Option<bool>
-    ensures { IfSome result (λ b. b ≡ flat_permits (symbol_value symbols.now) (row_values now.now) (row_values later.now) (flat_trees_of (map plain_flat elements.now)) (seen_value value.now)) }
+) -> bool
+    requires safe { RowSafeTrees symbols.now now.now later.now (flat_trees_of (map plain_flat elements.now)) }
+    ensures { result ≡ flat_permits (symbol_value symbols.now) (row_values now.now) (row_values later.now) (flat_trees_of (map plain_flat elements.now)) (seen_value value.now) }
 {
     let mut rest = elements;
     while let Some((first, more)) = rest.split_first() {
-        let has = permits(symbols, first, value, now, later)?;
-        if has {
-            return Some(true);
+        if permits(symbols, first, value, now, later) {
+            return true;
         }
         rest = more;
     }
-    Some(false)
+    false
 }
 
 // Does a choice permit the value?
@@ -461,14 +384,14 @@ fn chosen_permits<'a>(
     value: &Seen<'a>,
     now: &[Seen<'a>],
     later: &[Seen<'a>],
-) -> Option<bool>
-    ensures { IfSome result (λ b. b ≡ (row_chosen symbols.now now.now later.now (flat_branches_of (map plain_flat_branch branches.now)) (row_denote symbols.now now.now later.now (plain_flat last.now))).permits (seen_value value.now)) }
+) -> bool
+    requires safe { RowSafeBranches symbols.now now.now later.now (flat_branches_of (map plain_flat_branch branches.now)) }
+    requires safe_last { RowSafe symbols.now now.now later.now (plain_flat last.now) }
+    ensures { result ≡ (row_chosen symbols.now now.now later.now (flat_branches_of (map plain_flat_branch branches.now)) (row_denote symbols.now now.now later.now (plain_flat last.now))).permits (seen_value value.now) }
 {
     let mut rest = branches;
     while let Some((branch, more)) = rest.split_first() {
-        let Some(condition) = evaluate(symbols, &branch.when, now, later) else {
-            return None;
-        };
+        let condition = evaluate(symbols, &branch.when, now, later);
         if truth_of(&condition) {
             return permits(symbols, &branch.value, value, now, later);
         }
@@ -485,11 +408,12 @@ fn taken_permits<'a>(
     value: &Seen<'a>,
     now: &[Seen<'a>],
     later: &[Seen<'a>],
-) -> Option<bool>
-    ensures { IfSome result (λ b. b ≡ (row_taken symbols.now now.now later.now (flat_branches_of (map plain_flat_branch branches.now))).permits (seen_value value.now)) }
+) -> bool
+    requires safe { RowSafeBranches symbols.now now.now later.now (flat_branches_of (map plain_flat_branch branches.now)) }
+    ensures { result ≡ (row_taken symbols.now now.now later.now (flat_branches_of (map plain_flat_branch branches.now))).permits (seen_value value.now) }
 {
     match branches.split_last() {
-        None => Some(same(&no_seen(), value)),
+        None => same(&no_seen(), value),
         Some((last, firsts)) => chosen_permits(symbols, firsts, &last.value, value, now, later),
     }
 }
@@ -504,16 +428,17 @@ fn last_permits<'a>(
     value: &Seen<'a>,
     now: &[Seen<'a>],
     later: &[Seen<'a>],
-) -> Option<bool>
-    ensures { IfSome result (λ b. b ≡ row_fronts_permit symbols.now now.now later.now (seen_value value.now) (seen_value first.now) first_has (flat_links_of (map plain_flat_link links.now))) }
+) -> bool
+    requires safe { RowSafeLinks symbols.now now.now later.now (seen_value first.now) (flat_links_of (map plain_flat_link links.now)) }
+    ensures { result ≡ row_fronts_permit symbols.now now.now later.now (seen_value value.now) (seen_value first.now) first_has (flat_links_of (map plain_flat_link links.now)) }
 {
     let mut front = copied(first);
     let mut has = first_has;
     let mut rest = links;
     while let Some((link, more)) = rest.split_first() {
-        let next = next_front(symbols, link.op, &front, &link.operand, now, later)?;
+        let next = next_front(symbols, link.op, &front, &link.operand, now, later);
         if let Infix::Union = link.op {
-            let operand_has = permits(symbols, &link.operand, value, now, later)?;
+            let operand_has = permits(symbols, &link.operand, value, now, later);
             has = has || operand_has;
         } else {
             has = plain_same(&next, value);
@@ -521,5 +446,5 @@ fn last_permits<'a>(
         front = seen_of(next);
         rest = more;
     }
-    Some(has)
+    has
 }

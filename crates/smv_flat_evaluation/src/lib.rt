@@ -2,6 +2,7 @@
 #![tactic(auto)]
 
 mod evaluation;
-mod fits;
+mod laws;
 
 pub use evaluation::{evaluate, item_at, permits};
+pub use laws::forms_are_safe;

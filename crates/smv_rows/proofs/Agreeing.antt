@@ -70,7 +70,7 @@ mutual
       let g = both_true (all_read test e) (branches_read test rest) b.1 in
       choose _ _ _ _ _ _ (ap (λ (x : Denotation). is_true x.value || flat_is_last rest) (denote_same test s r q h c b.0)) (denote_same test s r q h e g.0) (taken_same test s r q h rest g.1)
 
-  values_same : (test : ℕ → Bool) (s r q : ℕ → Value) → Agree test r q → (es : FlatTrees) → trees_read test es ≡ true → flat_values s r r es ≡ flat_values s q q es
+  pub values_same : (test : ℕ → Bool) (s r q : ℕ → Value) → Agree test r q → (es : FlatTrees) → trees_read test es ≡ true → flat_values s r r es ≡ flat_values s q q es
   values_same test s r q h no_flat_trees a = refl
   values_same test s r q h (flat_tree_then e es) a =
       let b = both_true (all_read test e) (trees_read test es) a in

@@ -1,14 +1,25 @@
 -- Bodies that are added one after another.
-use Rattle.std.proofs.Common.{List, ◌∷◌, Option}
+use Rattle.std.proofs.Common.{◌≡◌, ℕ, ◌<◌, ◌⊎◌, inl, inr, Bool, true, false, not, ◌&&◌, ◌||◌, ◌==◌, nat_lt, List, [], ◌∷◌, ◌++◌, map, length, Option, Some, None, option_map, refl, sym, ap, ◌∙◌, subst}
 use Rattle.std.specs.Borrow.{Bor}
+use Rattle.std.specs.List.{slice_get, AllByRecursion}
+use Rattle.std.proofs.lemmas.List.{length-map}
+use Rattle.std.proofs.lemmas.Option.{slice_get-map, slice_get_within}
+use Rattle.digraph.specs.Graph.{is_in, are_distinct}
+use Rattle.smv_meaning.specs.laws.Booleans.{both_true}
+use Rattle.smv_items.specs.declared.items.ItemKind.{ItemKind}
 use Rattle.smv_items.specs.declared.items.FlatItem.{FlatItem}
+use Rattle.smv_items.specs.FlatItems.{PlainFlatItem}
+use Rattle.smv_items.specs.FlatItemView.{item_plain}
 use Rattle.smv_flat.specs.declared.expressions.FlatExpr.{FlatExpr}
 use Rattle.smv_flat.specs.FlatTree.{FlatTree}
 use Rattle.smv_flat.specs.FlatForms.{Form}
 use Rattle.smv_flat.specs.declared.forms.Role.{Role}
 use Rattle.smv_flat.specs.declared.forms.Role.TheVariants.{Body, Assign, Init, Trans, Invar, Invariant}
+use Rattle.smv_rows.specs.Reading.{all_read}
 use Rattle.smv_rows.specs.Filling.{Bodies, bodies_in}
-use Rattle.smv_rows.specs.RowOrders.{IsRoleBody, HaveBodies, Extends, Added}
+use Rattle.smv_rows.specs.RowOrders.{IsRoleBody, HaveBodies, Extends, CanAdd, Added, IsAmong, ComeFrom, holds_body, VariablesAreFree, role_number, body_numbers, RoleRanked, FormRanked, AreItemBodies, HaveRanks}
+use Rattle.smv_rows.proofs.Sets.{own}
+use Rattle.smv_rows.proofs.Filled.{not_true}
 
 pub role_on : (old new : Bodies) → Extends old new → (r : Role) (e : FlatTree) → IsRoleBody old r e → IsRoleBody new r e
 role_on old new h (Body k) e b = h k e b
@@ -19,8 +30,119 @@ role_on old new h Invar e b = tt
 role_on old new h Invariant e b = tt
 
 -- the formulas up to here and one more
-pub have_on : (old new : List (Option (Bor FlatExpr))) (items : List FlatItem) (f : Form) (fs all : List Form) → Added items old new f.role f.body
+pub have_on : (old new : List (Option (Bor FlatExpr))) (f : Form) (fs all : List Form) → Added old new f.role f.body
     → ((later : List (Option (Bor FlatExpr))) → Extends (bodies_in old) (bodies_in later) → HaveBodies (bodies_in later) (f ∷ fs) → HaveBodies (bodies_in later) all)
     → (later : List (Option (Bor FlatExpr))) → Extends (bodies_in new) (bodies_in later) → HaveBodies (bodies_in later) fs → HaveBodies (bodies_in later) all
-have_on old new items f fs all a h later ext have =
+have_on old new f fs all a h later ext have =
     h later (λ k e g. ext k e (a.extends k e g)) (role_on (bodies_in new) (bodies_in later) ext f.role f.body a.is, have)
+
+-- what stands among the rest stands among all
+abbrev pub AmongAll : List Form → List Form → Type 0
+AmongAll rest all = (k : ℕ) (e : FlatTree) → IsAmong k e rest → IsAmong k e all
+
+pub come_on : (old new : List (Option (Bor FlatExpr))) (f : Form) (fs all : List Form) → Added old new f.role f.body → ComeFrom (bodies_in old) all → AmongAll (f ∷ fs) all → ComeFrom (bodies_in new) all
+come_on old new f fs all a h among k e g = by (a.only k e g)
+  where
+    by : (bodies_in old k ≡ Some e) ⊎ ((f.role ≡ Body k) × (f.body ≡ e)) → IsAmong k e all
+    by (inl s) = h k e s
+    by (inr s) = among k e (inl s)
+
+-- the items of the rest have no body yet
+abbrev pub RestIsFree : List (Option (Bor FlatExpr)) → List Form → Type 0
+RestIsFree bodies rest = (k : ℕ) → is_in (body_numbers rest) k ≡ true → bodies_in bodies k ≡ None
+
+or_behind : (a b : Bool) → b ≡ true → (a || b) ≡ true
+or_behind true b h = refl
+or_behind false b h = h
+
+or_front : (a b : Bool) → a ≡ true → (a || b) ≡ true
+or_front true b h = refl
+or_front false b h = cc
+
+behind_role : (r : Role) (ks : List ℕ) (k : ℕ) → is_in ks k ≡ true → is_in (role_number r ++ ks) k ≡ true
+behind_role (Body j) ks k h = or_behind (j == k) (is_in ks k) h
+behind_role (Assign w j) ks k h = h
+behind_role Init ks k h = h
+behind_role Trans ks k h = h
+behind_role Invar ks k h = h
+behind_role Invariant ks k h = h
+
+distinct_behind : (r : Role) (ks : List ℕ) → are_distinct (role_number r ++ ks) ≡ true → are_distinct ks ≡ true
+distinct_behind (Body j) ks h = (both_true (not (is_in ks j)) (are_distinct ks) h).1
+distinct_behind (Assign w j) ks h = h
+distinct_behind Init ks h = h
+distinct_behind Trans ks h = h
+distinct_behind Invar ks h = h
+distinct_behind Invariant ks h = h
+
+role_out : (r : Role) (ks : List ℕ) (k : ℕ) → are_distinct (role_number r ++ ks) ≡ true → r ≡ Body k → is_in ks k ≡ false
+role_out r ks k h e =
+    let d : are_distinct (k ∷ ks) ≡ true = subst (λ x. are_distinct (role_number x ++ ks) ≡ true) e h in not_true (is_in ks k) (both_true (not (is_in ks k)) (are_distinct ks) d).0
+
+pub distinct_on : (f : Form) (fs : List Form) → are_distinct (body_numbers (f ∷ fs)) ≡ true → are_distinct (body_numbers fs) ≡ true
+distinct_on f fs h = distinct_behind f.role (body_numbers fs) h
+
+pub free_on : (old new : List (Option (Bor FlatExpr))) (f : Form) (fs : List Form) → Added old new f.role f.body → are_distinct (body_numbers (f ∷ fs)) ≡ true → RestIsFree old (f ∷ fs) → RestIsFree new fs
+free_on old new f fs a d h k i = by (bodies_in new k) refl
+  where
+    by : (o : Option FlatTree) → bodies_in new k ≡ o → bodies_in new k ≡ None
+    by None e = e
+    by (Some b) e = at (a.only k b e)
+      where
+        at : (bodies_in old k ≡ Some b) ⊎ ((f.role ≡ Body k) × (f.body ≡ b)) → bodies_in new k ≡ None
+        at (inl s) = let n = h k (behind_role f.role (body_numbers fs) k i) in cc
+        at (inr s) = let n = role_out f.role (body_numbers fs) k d s.0 in cc
+
+holds_within : (kinds : List ItemKind) (k : ℕ) → holds_body (slice_get kinds k) ≡ true → k < length kinds
+holds_within kinds k h = by (slice_get kinds k) refl h
+  where
+    by : (o : Option ItemKind) → slice_get kinds k ≡ o → holds_body o ≡ true → k < length kinds
+    by None e g = cc
+    by (Some kind) e g = slice_get_within kinds k kind e
+
+pub can_add : (items : List FlatItem) (rank : ℕ → ℕ) (bodies : List (Option (Bor FlatExpr))) (r : Role) (e : FlatTree) (ks : List ℕ) → length bodies ≡ length items
+    → RoleRanked (map (λ m. m.kind) items) rank r e → ((k : ℕ) → is_in (role_number r ++ ks) k ≡ true → bodies_in bodies k ≡ None) → CanAdd bodies r
+can_add items rank bodies (Body k) e ks size ranked free =
+    let low = holds_within (map (λ m. m.kind) items) k ranked.0 in
+    (subst (λ n. k < n) (length-map items (λ m. m.kind) ∙ sym size) low, free k (or_front (k == k) (is_in ks k) (own k)))
+can_add items rank bodies (Assign w k) e ks size ranked free = tt
+can_add items rank bodies Init e ks size ranked free = tt
+can_add items rank bodies Trans e ks size ranked free = tt
+can_add items rank bodies Invar e ks size ranked free = tt
+can_add items rank bodies Invariant e ks size ranked free = tt
+
+-- ---- what was added
+
+pub among_ranked : (kinds : List ItemKind) (rank : ℕ → ℕ) (fs : List Form) → AllByRecursion (FormRanked kinds rank) fs → (k : ℕ) (e : FlatTree) → IsAmong k e fs → RoleRanked kinds rank (Body k) e
+among_ranked kinds rank [] r k e i = absurd i
+among_ranked kinds rank (f ∷ fs) r k e (inl s) = subst (λ x. RoleRanked kinds rank x e) s.0 (subst (λ x. RoleRanked kinds rank f.role x) s.1 r.0)
+among_ranked kinds rank (f ∷ fs) r k e (inr s) = among_ranked kinds rank fs r.1 k e s
+
+pub variables_free : (items : List FlatItem) (rank : ℕ → ℕ) (fs : List Form) (bodies : Bodies) → AllByRecursion (FormRanked (map (λ m. m.kind) items) rank) fs → ComeFrom bodies fs → VariablesAreFree bodies items
+variables_free items rank fs bodies r c k m there v = by (bodies k) refl
+  where
+    by : (o : Option FlatTree) → bodies k ≡ o → bodies k ≡ None
+    by None e = e
+    by (Some b) e =
+        let h = (among_ranked (map (λ m. m.kind) items) rank fs r k b (c k b e)).0 in
+        let at : slice_get (map (λ m. m.kind) items) k ≡ Some m.kind = slice_get-map (λ m. m.kind) items k ∙ ap (option_map (λ m. m.kind)) there in
+        let g : holds_body (Some m.kind) ≡ true = subst (λ o. holds_body o ≡ true) at h in
+        let n : not true ≡ true = subst (λ b. not b ≡ true) v g in cc
+
+-- ---- the flat form's kinds, from the code's items
+
+kinds_same : (items : List FlatItem) → map {A = PlainFlatItem} (λ m. m.kind) (map item_plain items) ≡ map {A = FlatItem} (λ m. m.kind) items
+kinds_same [] = refl
+kinds_same (m ∷ ms) = ap (λ ks. m.kind ∷ ks) (kinds_same ms)
+
+pub forms_ranked : (items : List FlatItem) (rank : ℕ → ℕ) (fs : List Form) → AllByRecursion (FormRanked (map {A = PlainFlatItem} (λ m. m.kind) (map item_plain items)) rank) fs
+    → AllByRecursion (FormRanked (map {A = FlatItem} (λ m. m.kind) items) rank) fs
+forms_ranked items rank fs h = subst (λ ks. AllByRecursion (FormRanked ks rank) fs) (kinds_same items) h
+
+pub bodies_ranked : (items : List FlatItem) (rank : ℕ → ℕ) (fs : List Form) (bodies : List (Option (Bor FlatExpr))) → AllByRecursion (FormRanked (map {A = FlatItem} (λ m. m.kind) items) rank) fs
+    → AreItemBodies items fs bodies → HaveRanks bodies
+bodies_ranked items rank fs bodies r a = (
+  rank,
+  λ k e h. subst (λ n. all_read (λ m. nat_lt m n && nat_lt (rank m) (rank k)) e ≡ true) (length-map items (λ m. m.kind) ∙ sym a.size)
+      (among_ranked (map (λ m. m.kind) items) rank fs r k e (a.only k e h)).1,
+)

@@ -38,7 +38,7 @@ with_body_out symbols row k m None h = refl
 with_body_out symbols row k m (Some e) h = ap (λ b. if b then (flat_denote symbols row row e).value else row m) h
 
 -- what isn't listed stays
-filled_out : (bodies : Bodies) (symbols : ℕ → Value) (row : Row) (ks : List ℕ) (m : ℕ) → is_in ks m ≡ false → filled bodies symbols row ks m ≡ row m
+pub filled_out : (bodies : Bodies) (symbols : ℕ → Value) (row : Row) (ks : List ℕ) (m : ℕ) → is_in ks m ≡ false → filled bodies symbols row ks m ≡ row m
 filled_out bodies symbols row [] m h = refl
 filled_out bodies symbols row (k ∷ ks) m h =
     let s = or_false (k == m) (is_in ks m) h in

@@ -1,8 +1,14 @@
 pub mod Sets
 pub mod Agreeing
+pub mod SafeAgreeing
 pub mod Filled
+pub mod SafeFilled
+pub mod SafeInvariants
 pub mod Ordering
+pub mod Ranks
 pub mod Bodied
+pub mod Named
 pub mod ReadParts
 pub mod VariableRows
 pub mod RowLaw
+pub mod FlatOrders

@@ -15,12 +15,12 @@ use Rattle.smv_rows.specs.RowOrders.{body_reads, IsGraphOf, is_settled, IsOrderO
 use Rattle.smv_rows.proofs.Sets.{same}
 use Rattle.smv_rows.proofs.Filled.{or_false, not_true}
 
-all_more : {X : Type 0} (p q : X → Bool) → ((x : X) → p x ≡ true → q x ≡ true) → (xs : List X) → list_all p xs ≡ true → list_all q xs ≡ true
+pub all_more : {X : Type 0} (p q : X → Bool) → ((x : X) → p x ≡ true → q x ≡ true) → (xs : List X) → list_all p xs ≡ true → list_all q xs ≡ true
 all_more p q f [] h = refl
 all_more p q f (x ∷ xs) h = let b = both_true (p x) (list_all p xs) h in two_true (q x) (list_all q xs) (f x b.0) (all_more p q f xs b.1)
 
 -- what a node leads to is what its body reads
-reads_at : (test : ℕ → Bool) (g : NodeLists) (bodies : List (Option (Bor FlatExpr))) → map (list_all test) g ≡ map (λ b. body_reads test (body_plain b)) bodies
+pub reads_at : (test : ℕ → Bool) (g : NodeLists) (bodies : List (Option (Bor FlatExpr))) → map (list_all test) g ≡ map (λ b. body_reads test (body_plain b)) bodies
     → (k : ℕ) → list_all test (next_of g k) ≡ body_reads test (bodies_in bodies k)
 reads_at test [] [] h k = refl
 reads_at test [] (b ∷ bs) h k = cc

@@ -6,6 +6,7 @@ use Rattle.smv_flat.specs.FlatTree.{FlatTree, flat_denote}
 use Rattle.smv_flat.specs.FlatView.{plain_flat}
 use Rattle.smv_meaning.specs.declared.value.Value.{Value}
 use Rattle.smv_flat_laws.specs.FlatTruth.{Row}
+use Rattle.smv_flat_evaluation.specs.FlatSafety.{FlatSafe}
 
 -- the body of each item that has one
 abbrev pub Bodies : Type 0
@@ -32,3 +33,14 @@ with_body symbols row k (Some e) m = if k == m then (flat_denote symbols row row
 abbrev pub filled : Bodies → (ℕ → Value) → Row → List ℕ → Row
 filled bodies symbols row [] = row
 filled bodies symbols row (k ∷ ks) = filled bodies symbols (with_body symbols row k (bodies k)) ks
+
+-- ---- where each integer on the way fits 64 bits
+
+abbrev pub BodySafe : (ℕ → Value) → Row → Option FlatTree → Type 0
+BodySafe symbols row None = Unit {0}
+BodySafe symbols row (Some e) = FlatSafe symbols row row e
+
+-- each body of the list, in the row that those before it leave
+abbrev pub FillsSafely : Bodies → (ℕ → Value) → Row → List ℕ → Type 0
+FillsSafely bodies symbols row [] = Unit {0}
+FillsSafely bodies symbols row (k ∷ ks) = BodySafe symbols row (bodies k) × FillsSafely bodies symbols (with_body symbols row k (bodies k)) ks

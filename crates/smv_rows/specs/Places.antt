@@ -1,5 +1,6 @@
 -- Names of items by their places, and the values that states and labels give.
-use Rattle.std.specs.Prelude.{◌≡◌, ℕ, List, map, Option, Some}
+use Rattle.std.specs.Prelude.{◌≡◌, ℕ, Bool, true, List, map, length, Option, Some, option_map, is_some, slice_get}
+use Rattle.std.specs.List.{list_all}
 use Rattle.name_set.specs.Names.{place_of}
 use Rattle.smv_meaning.specs.declared.value.Value.{Value}
 use Rattle.smv_meaning.specs.Values.{Valuation, no_value}
@@ -7,6 +8,8 @@ use Rattle.smv_operators.specs.declared.seen.Seen.{Seen}
 use Rattle.smv_items.specs.declared.items.ItemKind.{ItemKind}
 use Rattle.smv_items.specs.declared.items.ItemKind.TheVariants.{State, Frozen, Input, Define, Actual}
 use Rattle.smv_items.specs.declared.items.FlatItem.{FlatItem}
+use Rattle.smv_items.specs.FlatItemView.{item_plain}
+use Rattle.smv_flat_laws.specs.FlatTruth.{GivesItem}
 use Rattle.smv_flat_evaluation.specs.RowValues.{row_values}
 use Rattle.smv_rows.specs.declared.places.ItemPlace.{ItemPlace}
 
@@ -34,3 +37,18 @@ value_of_kind state label p Actual = no_value
 
 abbrev pub given_value : List Seen → List Seen → ItemPlace → Value
 given_value state label i = value_of_kind state label i.place i.kind
+
+-- ---- names that were declared
+
+abbrev pub is_named : List (List ℕ) → FlatItem → Bool
+is_named names m = is_some (place_of names m.name)
+
+abbrev pub AreNamed : List (List ℕ) → List FlatItem → Type 0
+AreNamed names items = list_all (is_named names) items ≡ true
+
+-- ---- values of variables
+
+-- each variable has the value that the state or, as an input, the label gives it
+pub record IsGiven (items : List FlatItem) (state label : Valuation) (values : List Seen) : Type 0 where
+  pub size : length values ≡ length items
+  pub variables : (k : ℕ) → GivesItem state label (row_values values k) (option_map item_plain (slice_get items k))

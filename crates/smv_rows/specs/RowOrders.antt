@@ -1,8 +1,10 @@
 -- How rows of a flat form are filled.
-use Rattle.std.specs.Prelude.{◌≡◌, ℕ, Bool, true, false, ◌&&◌, not, nat_lt, List, [], ◌∷◌, map, length, Option, Some, None, slice_get}
+use Rattle.std.specs.Prelude.{◌≡◌, ◌⊎◌, ℕ, ◌<◌, Bool, true, false, ◌&&◌, not, nat_lt, List, [], ◌∷◌, ◌++◌, map, length, Option, Some, None, slice_get}
 use Rattle.std.specs.Borrow.{Bor}
-use Rattle.std.specs.List.{list_all}
-use Rattle.digraph.specs.Graph.{NodeLists, is_in}
+use Rattle.std.specs.List.{list_all, AllByRecursion}
+use Rattle.digraph.specs.Graph.{NodeLists, is_in, are_distinct}
+use Rattle.smv_text.specs.Tree.{PlainSource}
+use Rattle.smv_meaning.specs.Phases.{IsAccepted}
 use Rattle.smv_items.specs.declared.items.ItemKind.{ItemKind}
 use Rattle.smv_items.specs.declared.items.ItemKind.TheVariants.{State, Frozen, Input, Define, Actual}
 use Rattle.smv_items.specs.declared.items.FlatItem.{FlatItem}
@@ -10,7 +12,7 @@ use Rattle.smv_flat.specs.declared.expressions.FlatExpr.{FlatExpr}
 use Rattle.smv_flat.specs.FlatTree.{FlatTree}
 use Rattle.smv_flat.specs.declared.forms.Role.{Role}
 use Rattle.smv_flat.specs.declared.forms.Role.TheVariants.{Body}
-use Rattle.smv_flat.specs.FlatForms.{Form}
+use Rattle.smv_flat.specs.FlatForms.{Form, PlainFlat, flat_smv}
 use Rattle.smv_rows.specs.Reading.{all_read}
 use Rattle.smv_rows.specs.Filling.{Bodies, body_plain, bodies_in}
 use Rattle.smv_rows.specs.Parts.{parts_plain}
@@ -44,17 +46,32 @@ VariablesAreFree bodies items = (k : ℕ) (m : FlatItem) → slice_get items k �
 abbrev pub Extends : (old new : Bodies) → Type 0
 Extends old new = (k : ℕ) (e : FlatTree) → old k ≡ Some e → new k ≡ Some e
 
+-- the body of an item stands among the formulas
+abbrev pub IsAmong : ℕ → FlatTree → List Form → Type 0
+IsAmong k e [] = ⊥
+IsAmong k e (f ∷ fs) = ((f.role ≡ Body k) × (f.body ≡ e)) ⊎ IsAmong k e fs
+
+-- no body comes from elsewhere
+abbrev pub ComeFrom : Bodies → List Form → Type 0
+ComeFrom bodies fs = (k : ℕ) (e : FlatTree) → bodies k ≡ Some e → IsAmong k e fs
+
 pub record AreItemBodies (items : List FlatItem) (forms : List Form) (bodies : List (Option (Bor FlatExpr))) : Type 0 where
   pub size : length bodies ≡ length items
   pub have : HaveBodies (bodies_in bodies) forms
   pub free : VariablesAreFree (bodies_in bodies) items
+  pub only : ComeFrom (bodies_in bodies) forms
+
+-- a body can be added: there is a place for it, and none stands there yet
+abbrev pub CanAdd : List (Option (Bor FlatExpr)) → Role → Type 0
+CanAdd bodies (Body k) = (k < length bodies) × (bodies_in bodies k ≡ None)
+CanAdd bodies r = Unit {0}
 
 -- what has a body afterwards, where one was added
-pub record Added (items : List FlatItem) (old new : List (Option (Bor FlatExpr))) (role : Role) (e : FlatTree) : Type 0 where
+pub record Added (old new : List (Option (Bor FlatExpr))) (role : Role) (e : FlatTree) : Type 0 where
   pub size : length new ≡ length old
   pub extends : Extends (bodies_in old) (bodies_in new)
   pub is : IsRoleBody (bodies_in new) role e
-  pub free : VariablesAreFree (bodies_in old) items → VariablesAreFree (bodies_in new) items
+  pub only : (k : ℕ) (b : FlatTree) → bodies_in new k ≡ Some b → (bodies_in old k ≡ Some b) ⊎ ((role ≡ Body k) × (e ≡ b))
 
 -- ---- the order of references
 
@@ -79,6 +96,44 @@ pub record IsOrderOf (bodies : List (Option (Bor FlatExpr))) (order : List ℕ) 
   pub within : list_all (λ k. nat_lt k (length bodies)) order ≡ true
   pub settled : is_settled (bodies_in bodies) order ≡ true
   pub whole : AllStand (bodies_in bodies) order
+
+-- ---- flat forms that have an order
+
+abbrev pub role_number : Role → List ℕ
+role_number (Body k) = k ∷ []
+role_number r = []
+
+-- the items of which there are bodies
+abbrev pub body_numbers : List Form → List ℕ
+body_numbers [] = []
+body_numbers (f ∷ fs) = role_number f.role ++ body_numbers fs
+
+-- an item that may have a body is there and is no variable
+abbrev pub holds_body : Option ItemKind → Bool
+holds_body None = false
+holds_body (Some kind) = not (is_variable kind)
+
+-- the item of a body is a definition or an actual, and those that the body reads are there and have lesser ranks
+abbrev pub RoleRanked : List ItemKind → (ℕ → ℕ) → Role → FlatTree → Type 0
+RoleRanked kinds rank (Body k) e = (holds_body (slice_get kinds k) ≡ true) × (all_read (λ m. nat_lt m (length kinds) && nat_lt (rank m) (rank k)) e ≡ true)
+RoleRanked kinds rank r e = Unit {0}
+
+abbrev pub FormRanked : List ItemKind → (ℕ → ℕ) → Form → Type 0
+FormRanked kinds rank f = RoleRanked kinds rank f.role f.body
+
+-- no item has two bodies, and the items can be ranked so
+pub record IsOrderly (flat : PlainFlat) : Type 0 where
+  pub rank : ℕ → ℕ
+  pub ranked : AllByRecursion (FormRanked (map (λ m. m.kind) flat.items) rank) flat.forms
+  pub apart : are_distinct (body_numbers flat.forms) ≡ true
+
+-- the same of bodies that stand in a list
+abbrev pub HaveRanks : List (Option (Bor FlatExpr)) → Type 0
+HaveRanks bodies = (rank : ℕ → ℕ) × ((k : ℕ) (e : FlatTree) → bodies_in bodies k ≡ Some e → all_read (λ m. nat_lt m (length bodies) && nat_lt (rank m) (rank k)) e ≡ true)
+
+-- so are the flat forms of accepted models
+abbrev pub FlatIsOrderly : Type 0
+FlatIsOrderly = (source : PlainSource) (needed : ℕ) → IsAccepted source needed → IsOrderly (flat_smv source)
 
 -- ---- all
 

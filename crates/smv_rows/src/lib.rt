@@ -2,6 +2,7 @@
 #![tactic(auto)]
 
 mod bodies;
+mod laws;
 mod order;
 mod parts;
 mod places;
@@ -11,6 +12,7 @@ mod row;
 mod truth;
 mod variables;
 
+pub use laws::flat_is_orderly;
 pub use order::{RowOrder, row_order};
 pub use parts::FlatParts;
 pub use places::ItemPlace;

@@ -1,6 +1,7 @@
 // How rows of a flat form are filled.
-ghost use Rattle.std.specs.Prelude.{IfOk, IfSome};
-ghost use Rattle.smv_rows.specs.RowOrders.{IsRowOrder};
+ghost use Rattle.std.specs.Prelude.{IfOk};
+ghost use Rattle.smv_rows.specs.Parts.{parts_plain};
+ghost use Rattle.smv_rows.specs.RowOrders.{IsOrderly, IsRowOrder};
 
 use crate::bodies::bodies_of;
 use crate::parts::FlatParts;
@@ -21,26 +22,20 @@ pub struct RowOrder<'f> {
     pub places: Vec<ItemPlace>,
 }
 
-/// How rows of the flat form are filled. There is no way where bodies read one another in a circle, an item has two bodies or a
-/// variable has one, or a number is of no item.
-pub fn row_order<'f>(alloc: Global, flat: &FlatParts<'f>) -> Result<Option<RowOrder<'f>>, NoMemory>
-    ensures { IfOk result (λ o. IfSome o (IsRowOrder flat.now)) }
+/// How rows of the flat form are filled.
+pub fn row_order<'f>(alloc: Global, flat: &FlatParts<'f>) -> Result<RowOrder<'f>, NoMemory>
+    requires { IsOrderly (parts_plain flat.now) }
+    ensures { IfOk result (IsRowOrder flat.now) }
 {
-    let Some(bodies) = bodies_of(alloc, flat.items, flat.formulas)? else {
-        return Ok(None);
-    };
-    let Some(order) = order_of(alloc, bodies.as_slice())? else {
-        return Ok(None);
-    };
+    let bodies = bodies_of(alloc, flat.items, flat.formulas)?;
+    let order = order_of(alloc, bodies.as_slice())?;
     let mut names = NameSet::new(alloc);
     name_all(alloc, flat.items, &mut names)?;
-    let Some(places) = places_of(alloc, flat.items, &names)? else {
-        return Ok(None);
-    };
-    Ok(Some(RowOrder {
+    let places = places_of(alloc, flat.items, &names)?;
+    Ok(RowOrder {
         bodies,
         order,
         names,
         places,
-    }))
+    })
 }

@@ -1,6 +1,6 @@
 // The names of items, and their places.
-ghost use Rattle.std.specs.Prelude.{IfOk, IfSome};
-ghost use Rattle.smv_rows.specs.Places.{HavePlaces};
+ghost use Rattle.std.specs.Prelude.{IfOk, OnOk};
+ghost use Rattle.smv_rows.specs.Places.{HavePlaces, AreNamed};
 
 use name_set::NameSet;
 use smv_items::{FlatItem, ItemKind};
@@ -19,32 +19,35 @@ pub(crate) fn name_all(
     alloc: Global,
     items: &[FlatItem],
     names: &mut NameSet,
-) -> Result<(), NoMemory> {
-    for item in items {
+) -> Result<(), NoMemory>
+    ensures { OnOk result (AreNamed names.new items.now) }
+{
+    let mut rest = items;
+    while let Some((item, more)) = rest.split_first() {
         names.declare(alloc, item.name.bytes())?;
+        rest = more;
     }
     Ok(())
 }
 
-/// The place of each item's name. There are none where a name isn't there.
+/// The place of each item's name.
 pub(crate) fn places_of(
     alloc: Global,
     items: &[FlatItem],
     names: &NameSet,
-) -> Result<Option<Vec<ItemPlace>>, NoMemory>
-    ensures { IfOk result (λ o. IfSome o (λ places. HavePlaces names.now places.items items.now)) }
+) -> Result<Vec<ItemPlace>, NoMemory>
+    requires { AreNamed names.now items.now }
+    ensures { IfOk result (λ places. HavePlaces names.now places.items items.now) }
 {
     let mut places = Vec::new(alloc);
     let mut rest = items;
     while let Some((item, more)) = rest.split_first() {
-        match names.place(item.name.bytes()) {
-            None => return Ok(None),
-            Some(place) => {
-                let kind = item.kind;
-                places.push(ItemPlace { kind, place })?;
-            }
-        }
+        let Some(place) = names.place(item.name.bytes()) else {
+            unreachable!()
+        };
+        let kind = item.kind;
+        places.push(ItemPlace { kind, place })?;
         rest = more;
     }
-    Ok(Some(places))
+    Ok(places)
 }

@@ -1,12 +1,13 @@
 // Rows of values, filled again for each state.
-ghost use Rattle.std.specs.Prelude.{◌≡◌, ◌<◌, true, length, nat_lt, IfOk};
+ghost use Rattle.std.specs.Prelude.{◌≡◌, ◌<◌, true, length, nat_lt, OnOk};
 ghost use Rattle.std.specs.List.{list_all};
 ghost use Rattle.smv_meaning.specs.Values.{given};
 ghost use Rattle.smv_flat_laws.specs.FlatTruth.{symbol_value, IsRow};
 ghost use Rattle.smv_flat_evaluation.specs.RowValues.{row_values};
-ghost use Rattle.smv_rows.specs.Filling.{body_plain, bodies_in, with_body, filled};
+ghost use Rattle.smv_rows.specs.Filling.{body_plain, bodies_in, with_body, filled, BodySafe, FillsSafely};
 ghost use Rattle.smv_rows.specs.Parts.{parts_plain};
 ghost use Rattle.smv_rows.specs.RowOrders.{IsRowOrder};
+ghost use Rattle.smv_rows.specs.Truths.{RowsAreSafe, Gives, CanFill, Fills};
 
 use crate::order::RowOrder;
 use crate::parts::FlatParts;
@@ -36,18 +37,15 @@ impl<'a> Row<'a> {
         }
     }
 
-    /// Gives each item its value under the state and the label: a variable the one that is given, a definition or an actual that of
-    /// its body, each evaluated once. It says no where an integer on the way passes 64 bits. A row that is filled again takes no more
-    /// memory.
-    pub fn fill(
+    /// Gives each variable its value of the state, or as an input of the label; the other items have none yet. A row to which
+    /// values are given again takes no more memory.
+    pub fn give(
         &mut self,
-        flat: &FlatParts<'a>,
         order: &RowOrder,
         state: &'a State,
         label: &'a State,
-    ) -> Result<bool, NoMemory>
-        requires { IsRowOrder flat.now order.now }
-        ensures { IfOk result (λ done. done ≡ true → IsRow (parts_plain flat.now) (given state.now) (given label.now) (row_values self.new.values.items)) }
+    ) -> Result<(), NoMemory>
+        ensures { OnOk result (Gives order.now (given state.now) (given label.now) self.new.values.items) }
     {
         give_names(&order.names, state, &mut self.state)?;
         give_names(&order.names, label, &mut self.label)?;
@@ -57,12 +55,41 @@ impl<'a> Row<'a> {
             self.label.as_slice(),
             &mut self.values,
         )?;
-        Ok(fill_bodies(
+        Ok(())
+    }
+
+    /// Gives each definition and actual the value of its body, each evaluated once.
+    pub fn evaluate(&mut self, flat: &FlatParts<'a>, order: &RowOrder)
+        requires order { IsRowOrder flat.now order.now }
+        // Each integer on the way fits 64 bits.
+        requires safe { CanFill flat.now self.old.values.items }
+        ensures { Fills flat.now self.old.values.items self.new.values.items }
+    {
+        fill_bodies(
             flat.symbols,
             order.bodies.as_slice(),
             order.order.as_slice(),
             &mut self.values,
-        ))
+        );
+    }
+
+    /// Gives each item its value under the state and the label: a variable the one that is given, a definition or an actual that of
+    /// its body.
+    pub fn fill(
+        &mut self,
+        flat: &FlatParts<'a>,
+        order: &RowOrder,
+        state: &'a State,
+        label: &'a State,
+    ) -> Result<(), NoMemory>
+        requires order { IsRowOrder flat.now order.now }
+        // Each integer on the way fits 64 bits.
+        requires safe { RowsAreSafe (parts_plain flat.now) (given state.now) (given label.now) }
+        ensures { OnOk result (IsRow (parts_plain flat.now) (given state.now) (given label.now) (row_values self.new.values.items)) }
+    {
+        self.give(order, state, label)?;
+        self.evaluate(flat, order);
+        Ok(())
     }
 }
 
@@ -72,40 +99,31 @@ fn fill_bodies<'a>(
     bodies: &[Option<&FlatExpr>],
     order: &[usize],
     values: &mut Vec<Seen<'a>>,
-) -> bool
+)
     requires size { length values.old.items ≡ length bodies.now }
     requires within { list_all (λ k. nat_lt k (length bodies.now)) order.now ≡ true }
-    ensures { result ≡ true → row_values values.new.items ≡ filled (bodies_in bodies.now) (symbol_value symbols.now) (row_values values.old.items) order.now }
+    requires safe { FillsSafely (bodies_in bodies.now) (symbol_value symbols.now) (row_values values.old.items) order.now }
+    ensures { row_values values.new.items ≡ filled (bodies_in bodies.now) (symbol_value symbols.now) (row_values values.old.items) order.now }
 {
     let mut rest = order;
     while let Some((k, more)) = rest.split_first() {
-        if !fill_body(symbols, bodies[*k], *k, values) {
-            return false;
-        }
+        fill_body(symbols, bodies[*k], *k, values);
         rest = more;
     }
-    true
 }
 
 // Gives an item the value of its body, where it has one.
-fn fill_body<'a>(
-    symbols: &'a Names,
-    body: Option<&FlatExpr>,
-    k: usize,
-    values: &mut Vec<Seen<'a>>,
-) -> bool
-    requires { k < length values.old.items }
+fn fill_body<'a>(symbols: &'a Names, body: Option<&FlatExpr>, k: usize, values: &mut Vec<Seen<'a>>)
+    requires low { k < length values.old.items }
+    requires safe { BodySafe (symbol_value symbols.now) (row_values values.old.items) (body_plain body) }
     ensures size { length values.new.items ≡ length values.old.items }
-    ensures value { result ≡ true → row_values values.new.items ≡ with_body (symbol_value symbols.now) (row_values values.old.items) k (body_plain body.entry) }
+    ensures value { row_values values.new.items ≡ with_body (symbol_value symbols.now) (row_values values.old.items) k (body_plain body.entry) }
 {
     match body {
-        None => true,
-        Some(e) => match evaluate(symbols, e, values.as_slice(), values.as_slice()) {
-            None => false,
-            Some(value) => {
-                values[k] = value;
-                true
-            }
-        },
+        None => {}
+        Some(e) => {
+            let value = evaluate(symbols, e, values.as_slice(), values.as_slice());
+            values[k] = value;
+        }
     }
 }

@@ -1,5 +1,5 @@
 // What the formulas of a flat form say of rows.
-ghost use Rattle.std.specs.Prelude.{◌≡◌, ◌==◌, map, IfSome, slice_get};
+ghost use Rattle.std.specs.Prelude.{◌≡◌, ◌==◌, map, slice_get};
 ghost use Rattle.std.specs.List.{list_all};
 ghost use Rattle.smv_meaning.specs.Values.{is_true as truth};
 ghost use Rattle.smv_meaning.specs.Phases.{when_same};
@@ -8,9 +8,10 @@ ghost use Rattle.smv_flat.specs.FlatView.{plain_flat};
 ghost use Rattle.smv_flat.specs.FlatFormulas.{form_plain};
 ghost use Rattle.smv_flat_laws.specs.FlatTruth.{kind_stays as kind_keeps, items_stay, forms_invariants, flat_init, flat_invar, flat_trans, flat_stay, flat_broken};
 ghost use Rattle.smv_flat_evaluation.specs.RowValues.{row_values, row_denote};
+ghost use Rattle.smv_flat_evaluation.specs.FlatSafety.{RowSafe};
 ghost use Rattle.smv_rows.specs.Filling.{body_plain};
 ghost use Rattle.smv_rows.specs.Parts.{parts_plain};
-ghost use Rattle.smv_rows.specs.Truths.{row_role_holds, row_forms_hold};
+ghost use Rattle.smv_rows.specs.Truths.{row_role_holds, row_forms_hold, AllSafe};
 
 use crate::parts::FlatParts;
 use crate::row::Row;
@@ -22,18 +23,11 @@ use smv_text::When;
 use text_core::Names;
 
 // Is the expression true?
-fn is_true<'a>(
-    symbols: &'a Names,
-    e: &FlatExpr,
-    now: &[Seen<'a>],
-    later: &[Seen<'a>],
-) -> Option<bool>
-    ensures { IfSome result (λ b. b ≡ truth (row_denote symbols.now now.now later.now (plain_flat e.now)).value) }
+fn is_true<'a>(symbols: &'a Names, e: &FlatExpr, now: &[Seen<'a>], later: &[Seen<'a>]) -> bool
+    requires { RowSafe symbols.now now.now later.now (plain_flat e.now) }
+    ensures { result ≡ truth (row_denote symbols.now now.now later.now (plain_flat e.now)).value }
 {
-    let Some(value) = evaluate(symbols, e, now, later) else {
-        return None;
-    };
-    Some(truth_of(&value))
+    truth_of(&evaluate(symbols, e, now, later))
 }
 
 fn is_same(a: When, b: When) -> bool
@@ -50,11 +44,12 @@ fn formula_holds<'a>(
     target: &[Seen<'a>],
     now: &[Seen<'a>],
     later: &[Seen<'a>],
-) -> Option<bool>
-    ensures { IfSome result (λ b. b ≡ row_role_holds symbols.now when target.now now.now later.now (form_plain formula.now)) }
+) -> bool
+    requires { RowSafe symbols.now now.now later.now (plain_flat formula.now.body) }
+    ensures { result ≡ row_role_holds symbols.now when target.now now.now later.now (form_plain formula.now) }
 {
     match formula.role {
-        Role::Body(_) => Some(true),
+        Role::Body(_) => true,
         Role::Assign(own, k) => if is_same(own, when) {
             permits(
                 symbols,
@@ -64,24 +59,24 @@ fn formula_holds<'a>(
                 later,
             )
         } else {
-            Some(true)
+            true
         },
         Role::Init => match when {
             When::First => is_true(symbols, &formula.body, now, later),
-            When::Always => Some(true),
-            When::Following => Some(true),
+            When::Always => true,
+            When::Following => true,
         },
         Role::Trans => match when {
-            When::First => Some(true),
-            When::Always => Some(true),
+            When::First => true,
+            When::Always => true,
             When::Following => is_true(symbols, &formula.body, now, later),
         },
         Role::Invar => match when {
-            When::First => Some(true),
+            When::First => true,
             When::Always => is_true(symbols, &formula.body, now, later),
-            When::Following => Some(true),
+            When::Following => true,
         },
-        Role::Invariant => Some(true),
+        Role::Invariant => true,
     }
 }
 
@@ -91,41 +86,46 @@ fn formulas_hold<'a>(
     target: &[Seen<'a>],
     now: &[Seen<'a>],
     later: &[Seen<'a>],
-) -> Option<bool>
-    ensures { IfSome result (λ b. b ≡ row_forms_hold flat.now.symbols.now when target.now now.now later.now (map form_plain flat.now.formulas.now)) }
+) -> bool
+    requires { AllSafe flat.now now.now later.now }
+    ensures { result ≡ row_forms_hold flat.now.symbols.now when target.now now.now later.now (map form_plain flat.now.formulas.now) }
 {
     let symbols = flat.symbols;
     let mut rest = flat.formulas;
     while let Some((formula, more)) = rest.split_first() {
-        let holds = formula_holds(symbols, formula, when, target, now, later)?;
-        if !holds {
-            return Some(false);
+        if !formula_holds(symbols, formula, when, target, now, later) {
+            return false;
         }
         rest = more;
     }
-    Some(true)
+    true
 }
 
-/// Do INIT and `init(x) :=` hold in the row? There is no answer where an integer on the way passes 64 bits.
-pub fn init_holds<'a>(flat: &FlatParts<'a>, row: &Row<'a>) -> Option<bool>
-    ensures { IfSome result (λ b. b ≡ flat_init (parts_plain flat.now) (row_values row.now.values.items) (row_values row.now.values.items)) }
+/// Do INIT and `init(x) :=` hold in the row?
+pub fn init_holds<'a>(flat: &FlatParts<'a>, row: &Row<'a>) -> bool
+    // Each integer on the way fits 64 bits.
+    requires { AllSafe flat.now row.now.values.items row.now.values.items }
+    ensures { result ≡ flat_init (parts_plain flat.now) (row_values row.now.values.items) (row_values row.now.values.items) }
 {
     let values = row.values.as_slice();
     formulas_hold(flat, When::First, values, values, values)
 }
 
-/// Do INVAR and `x :=` hold in the row? There is no answer where an integer on the way passes 64 bits.
-pub fn invar_holds<'a>(flat: &FlatParts<'a>, row: &Row<'a>) -> Option<bool>
-    ensures { IfSome result (λ b. b ≡ flat_invar (parts_plain flat.now) (row_values row.now.values.items) (row_values row.now.values.items)) }
+/// Do INVAR and `x :=` hold in the row?
+pub fn invar_holds<'a>(flat: &FlatParts<'a>, row: &Row<'a>) -> bool
+    // Each integer on the way fits 64 bits.
+    requires { AllSafe flat.now row.now.values.items row.now.values.items }
+    ensures { result ≡ flat_invar (parts_plain flat.now) (row_values row.now.values.items) (row_values row.now.values.items) }
 {
     let values = row.values.as_slice();
     formulas_hold(flat, When::Always, values, values, values)
 }
 
-/// Do TRANS and `next(x) :=` hold between the row of a state and its label and that of the following state? There is no answer where
-/// an integer on the way passes 64 bits.
-pub fn trans_holds<'a>(flat: &FlatParts<'a>, now: &Row<'a>, later: &Row<'a>) -> Option<bool>
-    ensures { IfSome result (λ b. b ≡ flat_trans (parts_plain flat.now) (row_values now.now.values.items) (row_values later.now.values.items)) }
+/// Do TRANS and `next(x) :=` hold between the row of a state and its label and that of the following state?
+pub fn trans_holds<'a>(flat: &FlatParts<'a>, now: &Row<'a>, later: &Row<'a>) -> bool
+    // Each integer on the way fits 64 bits.
+    requires { AllSafe flat.now now.now.values.items later.now.values.items }
+    ensures { result ≡ flat_trans (parts_plain flat.now) (row_values now.now.values.items) (row_values later.now.values.items) }
 {
     let values = now.values.as_slice();
     let following = later.values.as_slice();
@@ -185,16 +185,15 @@ fn invariant_at(formulas: &[FlatFormula], j: u32) -> Option<&FlatExpr>
     None
 }
 
-/// Is the invariant of this number, counted from 0, false in the row? There is no answer where an integer on the way passes 64 bits.
-pub fn is_broken<'a>(flat: &FlatParts<'a>, j: u32, row: &Row<'a>) -> Option<bool>
-    ensures { IfSome result (λ b. b ≡ flat_broken (parts_plain flat.now) j (row_values row.now.values.items) (row_values row.now.values.items)) }
+/// Is the invariant of this number, counted from 0, false in the row?
+pub fn is_broken<'a>(flat: &FlatParts<'a>, j: u32, row: &Row<'a>) -> bool
+    // Each integer on the way fits 64 bits.
+    requires { AllSafe flat.now row.now.values.items row.now.values.items }
+    ensures { result ≡ flat_broken (parts_plain flat.now) j (row_values row.now.values.items) (row_values row.now.values.items) }
 {
     let values = row.values.as_slice();
     match invariant_at(flat.formulas, j) {
-        None => Some(false),
-        Some(e) => {
-            let holds = is_true(flat.symbols, e, values, values)?;
-            Some(!holds)
-        }
+        None => false,
+        Some(e) => !is_true(flat.symbols, e, values, values),
     }
 }

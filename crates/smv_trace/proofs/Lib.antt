@@ -1,5 +1,14 @@
 pub mod Lists
 pub mod LineLaws
 pub mod Steps
+pub mod Literals
 pub mod Sound
 pub mod Unique
+pub mod Solid
+pub mod PrintedLines
+pub mod PrintedValues
+pub mod Restated
+pub mod PrintedSteps
+pub mod ReadBack
+pub mod Told
+pub mod SmallTraces

@@ -9,7 +9,7 @@ use Rattle.std.proofs.lemmas.Slice.Eq.{bytes_eq-Decides}
 use Rattle.text_core.specs.declared.place.Place.{Place}
 use Rattle.text_core.specs.declared.place.Refusal.{Refusal}
 use Rattle.text_core.specs.Places.{start, after}
-use Rattle.word_core.specs.Words.{BitVector}
+use Rattle.word_core.specs.Words.{BitVector, IsWord}
 use Rattle.word_core.specs.Digits.{below, digits_value}
 use Rattle.smv_text.specs.Numbers.{number_of, literal_of}
 use Rattle.smv_meaning.specs.declared.value.Value.{Value}
@@ -28,6 +28,7 @@ use Rattle.smv_trace.specs.Reading.{Reading, go_on, refused, is_empty, lacks, gi
 use Rattle.text_core.specs.declared.end.End.{End}
 use Rattle.smv_trace.specs.Answer.{Answers}
 use Rattle.smv_trace.specs.Texts.{lines_read, most_bytes, trace_of}
+use Rattle.smv_trace.proofs.Literals.{literal_is_word, word_of}
 
 -- ---- results
 
@@ -78,11 +79,11 @@ negative_fits n lt = grind (arith, nat_tests)
 positive_fits : (n : ℕ) → n < 2 ^ 62 → in_limits (pos n) ≡ true
 positive_fits n lt = grind (arith, nat_tests)
 
-word_fits : (symbols : List (List ℕ)) (n : ℕ) (w : BitVector) (v : Value) → word_as n w ≡ Some v → can_be_stated symbols (word_type n) v ≡ true
-word_fits symbols n w v e = go (w.width == n) refl e
+word_fits : (symbols : List (List ℕ)) (n : ℕ) (w : BitVector) → IsWord w → (v : Value) → word_as n w ≡ Some v → can_be_stated symbols (word_type n) v ≡ true
+word_fits symbols n w is v e = go (w.width == n) refl e
   where
     go : (b : Bool) → (w.width == n) ≡ b → cond b (Some (Bits w)) None ≡ Some v → can_be_stated symbols (word_type n) v ≡ true
-    go true t e = subst (λ v. can_be_stated symbols (word_type n) v ≡ true) (some_same (Bits w) v e) t
+    go true t e = subst (λ v. can_be_stated symbols (word_type n) v ≡ true) (some_same (Bits w) v e) (word_of n w t is)
     go false t e = absurd (let g : None ≡ Some v = e in cc)
 
 neg_fits : (o : Option ℕ) → ((m : ℕ) → o ≡ Some m → m < 2 ^ 62 + 1) → (z : ℤ) → option_map (λ n. neg_ℤ (pos n)) o ≡ Some z → in_limits z ≡ true
@@ -109,15 +110,15 @@ symbol_fits : (symbols : List (List ℕ)) (text : List ℕ) (o : Option ℕ) →
 symbol_fits symbols text None p v e = absurd (let g : None ≡ Some v = e in cc)
 symbol_fits symbols text (Some k) p v e = subst (λ (v : Value). can_be_stated symbols symbol_type v ≡ true) (some_same (Symbol text) v e) (ap is_some p)
 
-words_fit : (symbols : List (List ℕ)) (n : ℕ) (o : Option BitVector) (v : Value) → option_and_then (word_as n) o ≡ Some v → can_be_stated symbols (word_type n) v ≡ true
-words_fit symbols n None v e = absurd (let g : None ≡ Some v = e in cc)
-words_fit symbols n (Some w) v e = word_fits symbols n w v e
+words_fit : (symbols : List (List ℕ)) (n : ℕ) (o : Option BitVector) → ((w : BitVector) → o ≡ Some w → IsWord w) → (v : Value) → option_and_then (word_as n) o ≡ Some v → can_be_stated symbols (word_type n) v ≡ true
+words_fit symbols n None is v e = absurd (let g : None ≡ Some v = e in cc)
+words_fit symbols n (Some w) is v e = word_fits symbols n w (is w refl) v e
 
 value_fits : (symbols : List (List ℕ)) (t : ExprType) (text : List ℕ) (v : Value) → value_of symbols t text ≡ Some v → can_be_stated symbols t v ≡ true
 value_fits symbols truth_type text v e = truth_fits symbols (truth_of text) v e
 value_fits symbols (integer_type low high) text v e = integers_fit symbols low high text (integer_of text) (integer_fits text) v e
 value_fits symbols symbol_type text v e = symbol_fits symbols text (place_of symbols text) refl v e
-value_fits symbols (word_type n) text v e = words_fit symbols n (literal_of text) v e
+value_fits symbols (word_type n) text v e = words_fit symbols n (literal_of text) (literal_is_word text) v e
 
 -- ---- what is stated fits
 

@@ -2,4 +2,6 @@ pub mod Runs
 pub mod Values
 pub mod Reading
 pub mod Texts
+pub mod ReadBack
+pub mod Examples
 pub mod Answer

@@ -1,7 +1,9 @@
 -- What a run is that a trace can state.
-use Rattle.std.specs.Prelude.{◌≡◌, ℕ, ◌+◌, ◌≤◌, ◌^◌, ◌-◌, ◌==◌, Bool, true, false, ◌&&◌, pos, neg_ℤ, int_le, List, [], ◌∷◌, length, is_some, IsTrue}
+use Rattle.std.specs.Prelude.{◌≡◌, ℕ, ◌+◌, ◌≤◌, ◌^◌, ◌-◌, ◌==◌, Bool, true, false, ◌&&◌, nat_le, nat_lt, pos, neg_ℤ, int_le, List, [], ◌∷◌, length, is_some, IsTrue}
 use Rattle.std.specs.List.{filter, list_all}
 use Rattle.std.specs.Str.{bytes_eq}
+use Rattle.word_core.specs.Words.{BitVector}
+use Rattle.word_core.specs.declared.word.TheConstants.{WIDEST}
 use Rattle.smv_meaning.specs.declared.value.Value.{Value}
 use Rattle.smv_meaning.specs.declared.value.Value.TheVariants.{Truth, Integer, Symbol, Bits}
 use Rattle.smv_meaning.specs.declared.value.Given.{Given}
@@ -26,12 +28,16 @@ picks State kind.Frozen = true
 picks Input kind.Input = true
 picks heading k = false
 
+-- a word of this width: its bits are below two to the width
+abbrev pub is_word_of : ℕ → BitVector → Bool
+is_word_of n w = (w.width == n) && ((nat_le 1 w.width && nat_le w.width WIDEST) && nat_lt w.bits (2 ^ w.width))
+
 -- a value that can be stated for a variable of a type, inside its range or symbols or not
 abbrev pub can_be_stated : List (List ℕ) → ExprType → Value → Bool
 can_be_stated symbols truth_type (Truth b) = true
 can_be_stated symbols (integer_type low high) (Integer z) = int_le (neg_ℤ (pos (2 ^ 62))) z && int_le z (pos (2 ^ 62 - 1))
 can_be_stated symbols symbol_type (Symbol s) = is_some (place_of symbols s)
-can_be_stated symbols (word_type n) (Bits w) = w.width == n
+can_be_stated symbols (word_type n) (Bits w) = is_word_of n w
 can_be_stated symbols t v = false
 
 -- each of these variables in order, and nothing else

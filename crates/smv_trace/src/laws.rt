@@ -4,6 +4,8 @@ ghost use Rattle.text_core.specs.declared.place.Refusal.{Refusal};
 ghost use Rattle.smv_meaning.specs.declared.value.Run.{Run};
 ghost use Rattle.smv_trace.specs.Runs.{Declarations};
 ghost use Rattle.smv_trace.specs.Texts.{ReadsTrace, RefusesTrace};
+ghost use Rattle.smv_trace.specs.ReadBack.{PrintedReadsBack};
+ghost use Rattle.smv_trace.specs.Examples.{PrintsAndReads, light, light_run, light_text, count, count_run, count_text, three, three_run, three_text};
 
 /// A text states one run at most.
 pub fn one_trace()
@@ -23,4 +25,16 @@ pub fn not_both()
 /// Each text states a run or is refused.
 pub fn one_of_both()
     ensures { (d : Declarations) (text : List ℕ) → ((run : Run) × ReadsTrace d text run) ⊎ ((why : Refusal) × RefusesTrace d text why) }
+{}
+
+/// Within the limits of the reader what is printed of a run of an accepted model states the run.
+pub fn printed_reads_back()
+    ensures { PrintedReadsBack }
+{}
+
+/// Small traces: of a state and an input, without inputs, and of an integer, a symbol and a word.
+pub fn small_traces()
+    ensures light { PrintsAndReads light 0 light_run light_text }
+    ensures count { PrintsAndReads count 12 count_run count_text }
+    ensures three { PrintsAndReads three 3 three_run three_text }
 {}

@@ -3,12 +3,13 @@
 
 mod heading;
 mod laws;
+mod print;
 mod read;
 mod reader;
 mod table;
 mod values;
 
-pub use laws::{not_both, one_of_both, one_refusal, one_trace};
+pub use laws::{not_both, one_of_both, one_refusal, one_trace, printed_reads_back, small_traces};
+pub use print::print_trace;
 pub use read::{MOST_BYTES, TraceEnd, read_trace};
 pub use reader::{MOST_STATES, MOST_VALUES};
-pub use smv_trace_text::print_trace;

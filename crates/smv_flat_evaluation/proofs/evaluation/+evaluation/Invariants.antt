@@ -6,6 +6,7 @@ use Rattle.smv_flat_laws.specs.FlatTruth.{symbol_value}
 use Rattle.smv_operators.specs.View.{seen_value}
 use Rattle.smv_flat_evaluation.specs.RowValues.{row_values}
 use Rattle.smv_flat_evaluation.specs.Fronts.{flat_fronts_value, flat_fronts_permit}
+use Rattle.smv_flat_evaluation.specs.FlatSafety.{FlatSafeLinks, FlatSafeBranches, FlatSafeTrees}
 use Rattle.smv_flat_evaluation.proofs.Depths.{flat_depth, flat_right_depth, flat_link_depth, flat_branch_depth, flat_trees_depth, chain_depth}
 use Rattle.smv_flat_evaluation.proofs.evaluation.+evaluation.Given as goal
 
@@ -45,15 +46,13 @@ decreases-taken_permits l = 8 * flat_branch_depth (flat_branches_of (map plain_f
 abbrev pub decreases-call_value : goal.decreases-call_value
 decreases-call_value l = 8 * flat_trees_depth (flat_trees_of (map plain_flat l.arguments.now)) + 4
 
-abbrev pub decreases-true_count : goal.decreases-true_count
-decreases-true_count l = 8 * flat_trees_depth (flat_trees_of (map plain_flat l.arguments.now)) + 3
-
 abbrev pub decreases-one_permits : goal.decreases-one_permits
 decreases-one_permits l = 8 * flat_trees_depth (flat_trees_of (map plain_flat l.elements.now)) + 3
 
 abbrev pub invariant-last_front-loop-link : goal.invariant-last_front-loop-link
 invariant-last_front-loop-link l = record {
   low : flat_link_depth (flat_links_of (map plain_flat_link l.rest)) ≤ flat_link_depth (flat_links_of (map plain_flat_link l.fn.links));
+  safe : FlatSafeLinks (symbol_value l.symbols) (row_values l.now) (row_values l.later) (seen_value l.front) (flat_links_of (map plain_flat_link l.rest));
   same : flat_fronts_value (symbol_value l.symbols) (row_values l.now) (row_values l.later) (seen_value l.front) (flat_links_of (map plain_flat_link l.rest)) ≡ flat_fronts_value (symbol_value l.symbols) (row_values l.now) (row_values l.later) (seen_value l.first) (flat_links_of (map plain_flat_link l.fn.links));
 }
 
@@ -63,6 +62,7 @@ decreases-last_front-loop-link l = length l.rest
 abbrev pub invariant-last_permits-loop-link : goal.invariant-last_permits-loop-link
 invariant-last_permits-loop-link l = record {
   low : flat_link_depth (flat_links_of (map plain_flat_link l.rest)) ≤ flat_link_depth (flat_links_of (map plain_flat_link l.fn.links));
+  safe : FlatSafeLinks (symbol_value l.symbols) (row_values l.now) (row_values l.later) (seen_value l.front) (flat_links_of (map plain_flat_link l.rest));
   same : flat_fronts_permit (symbol_value l.symbols) (row_values l.now) (row_values l.later) (seen_value l.value) (seen_value l.front) l.has (flat_links_of (map plain_flat_link l.rest)) ≡ flat_fronts_permit (symbol_value l.symbols) (row_values l.now) (row_values l.later) (seen_value l.value) (seen_value l.first) l.fn.first_has (flat_links_of (map plain_flat_link l.fn.links));
 }
 
@@ -72,6 +72,7 @@ decreases-last_permits-loop-link l = length l.rest
 abbrev pub invariant-chosen-loop-branch : goal.invariant-chosen-loop-branch
 invariant-chosen-loop-branch l = record {
   low : flat_branch_depth (flat_branches_of (map plain_flat_branch l.rest)) ≤ flat_branch_depth (flat_branches_of (map plain_flat_branch l.fn.branches));
+  safe : FlatSafeBranches (symbol_value l.symbols) (row_values l.now) (row_values l.later) (flat_branches_of (map plain_flat_branch l.rest));
   same : flat_chosen (symbol_value l.symbols) (row_values l.now) (row_values l.later) (flat_branches_of (map plain_flat_branch l.rest)) (flat_denote (symbol_value l.symbols) (row_values l.now) (row_values l.later) (plain_flat l.last)) ≡ flat_chosen (symbol_value l.symbols) (row_values l.now) (row_values l.later) (flat_branches_of (map plain_flat_branch l.fn.branches)) (flat_denote (symbol_value l.symbols) (row_values l.now) (row_values l.later) (plain_flat l.last));
 }
 
@@ -81,24 +82,27 @@ decreases-chosen-loop-branch l = length l.rest
 abbrev pub invariant-chosen_permits-loop-branch : goal.invariant-chosen_permits-loop-branch
 invariant-chosen_permits-loop-branch l = record {
   low : flat_branch_depth (flat_branches_of (map plain_flat_branch l.rest)) ≤ flat_branch_depth (flat_branches_of (map plain_flat_branch l.fn.branches));
+  safe : FlatSafeBranches (symbol_value l.symbols) (row_values l.now) (row_values l.later) (flat_branches_of (map plain_flat_branch l.rest));
   same : flat_chosen (symbol_value l.symbols) (row_values l.now) (row_values l.later) (flat_branches_of (map plain_flat_branch l.rest)) (flat_denote (symbol_value l.symbols) (row_values l.now) (row_values l.later) (plain_flat l.last)) ≡ flat_chosen (symbol_value l.symbols) (row_values l.now) (row_values l.later) (flat_branches_of (map plain_flat_branch l.fn.branches)) (flat_denote (symbol_value l.symbols) (row_values l.now) (row_values l.later) (plain_flat l.last));
 }
 
 abbrev pub decreases-chosen_permits-loop-branch : goal.decreases-chosen_permits-loop-branch
 decreases-chosen_permits-loop-branch l = length l.rest
 
-abbrev pub invariant-true_count-loop-first : goal.invariant-true_count-loop-first
-invariant-true_count-loop-first l = record {
-  low : flat_trees_depth (flat_trees_of (map plain_flat l.rest)) ≤ flat_trees_depth (flat_trees_of (map plain_flat l.fn.arguments));
-  same : l.count +ℤ pos (trues (flat_values (symbol_value l.symbols) (row_values l.now) (row_values l.later) (flat_trees_of (map plain_flat l.rest)))) ≡ pos (trues (flat_values (symbol_value l.symbols) (row_values l.now) (row_values l.later) (flat_trees_of (map plain_flat l.fn.arguments))));
+abbrev pub invariant-call_value-loop-first : goal.invariant-call_value-loop-first
+invariant-call_value-loop-first l = record {
+  low : flat_trees_depth (flat_trees_of (map plain_flat l.rest)) ≤ flat_trees_depth (flat_trees_of (map plain_flat l.arguments));
+  safe : FlatSafeTrees (symbol_value l.symbols) (row_values l.now) (row_values l.later) (flat_trees_of (map plain_flat l.rest));
+  same : l.count +ℤ pos (trues (flat_values (symbol_value l.symbols) (row_values l.now) (row_values l.later) (flat_trees_of (map plain_flat l.rest)))) ≡ pos (trues (flat_values (symbol_value l.symbols) (row_values l.now) (row_values l.later) (flat_trees_of (map plain_flat l.arguments))));
 }
 
-abbrev pub decreases-true_count-loop-first : goal.decreases-true_count-loop-first
-decreases-true_count-loop-first l = length l.rest
+abbrev pub decreases-call_value-loop-first : goal.decreases-call_value-loop-first
+decreases-call_value-loop-first l = length l.rest
 
 abbrev pub invariant-one_permits-loop-first : goal.invariant-one_permits-loop-first
 invariant-one_permits-loop-first l = record {
   low : flat_trees_depth (flat_trees_of (map plain_flat l.rest)) ≤ flat_trees_depth (flat_trees_of (map plain_flat l.fn.elements));
+  safe : FlatSafeTrees (symbol_value l.symbols) (row_values l.now) (row_values l.later) (flat_trees_of (map plain_flat l.rest));
   same : flat_permits (symbol_value l.symbols) (row_values l.now) (row_values l.later) (flat_trees_of (map plain_flat l.rest)) (seen_value l.value) ≡ flat_permits (symbol_value l.symbols) (row_values l.now) (row_values l.later) (flat_trees_of (map plain_flat l.fn.elements)) (seen_value l.value);
 }
 

@@ -1,15 +1,22 @@
-use Rattle.std.proofs.Common.{◌≡◌, List, Option, map, length}
+use Rattle.std.proofs.Common.{◌≡◌, true, ℕ, List, Option, map, length}
 use Rattle.std.specs.Borrow.{Bor}
+use Rattle.std.specs.List.{AllByRecursion}
+use Rattle.digraph.specs.Graph.{are_distinct}
 use Rattle.smv_flat.specs.declared.expressions.FlatExpr.{FlatExpr}
 use Rattle.smv_flat.specs.FlatFormulas.{form_plain}
 use Rattle.smv_rows.specs.Filling.{bodies_in}
-use Rattle.smv_rows.specs.RowOrders.{HaveBodies, VariablesAreFree, Extends}
+use Rattle.smv_rows.specs.RowOrders.{HaveBodies, Extends, ComeFrom, FormRanked, body_numbers}
+use Rattle.smv_rows.proofs.Bodied.{AmongAll, RestIsFree}
 use Rattle.smv_rows.proofs.bodies.bodies_of.Given as goal
 
 abbrev pub invariant-loop-formula : goal.invariant-loop-formula
 invariant-loop-formula l = record {
   size : length l.bodies.items ≡ length l.items;
-  free : VariablesAreFree (bodies_in l.bodies.items) l.items;
+  ranked : (rank : ℕ → ℕ) × AllByRecursion (FormRanked (map (λ m. m.kind) l.items) rank) (map form_plain l.rest);
+  apart : are_distinct (body_numbers (map form_plain l.rest)) ≡ true;
+  free : RestIsFree l.bodies.items (map form_plain l.rest);
+  among : AmongAll (map form_plain l.rest) (map form_plain l.fn.formulas);
+  only : ComeFrom (bodies_in l.bodies.items) (map form_plain l.fn.formulas);
   have : (later : List (Option (Bor FlatExpr))) → Extends (bodies_in l.bodies.items) (bodies_in later) → HaveBodies (bodies_in later) (map form_plain l.rest) → HaveBodies (bodies_in later) (map form_plain l.fn.formulas);
 }
 

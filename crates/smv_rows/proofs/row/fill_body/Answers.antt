@@ -8,12 +8,12 @@ use Rattle.smv_rows.specs.Filling.{body_plain, with_body}
 use Rattle.smv_rows.proofs.VariableRows.{body_set}
 use Rattle.smv_rows.proofs.row.fill_body.Goals as goal
 
-pub returns-in-Some-evaluate-clause-value : goal.returns-in-Some-evaluate-clause-value
-returns-in-Some-evaluate-clause-value c = λ h.
+pub returns-in-Some-clause-value : goal.returns-in-Some-clause-value
+returns-in-Some-clause-value c =
     let symbols = symbol_value c.args.symbols.now in
     let xs = c.args.values.now.items in
     let e = plain_flat c.in-Some.e.now in
-    body_set symbols xs c.args.k c.in-Some-evaluate.value e c.requires
-    (c.in-Some-evaluate.ensures ∙ ap (λ (l : List Seen). (flat_denote symbols (row_values l) (row_values c.as_slice-in-Some.result.now) e).value) c.as_slice.ensures.value
+    body_set symbols xs c.args.k c.evaluate-value.result e c.requires.low
+    (c.evaluate-value.ensures ∙ ap (λ (l : List Seen). (flat_denote symbols (row_values l) (row_values c.as_slice-in-Some.result.now) e).value) c.as_slice.ensures.value
     ∙ ap (λ (l : List Seen). (flat_denote symbols (row_values xs) (row_values l) e).value) c.as_slice-in-Some.ensures.value)
     ∙ ap (with_body symbols (row_values xs) c.args.k) (sym (ap body_plain c.in-Some.is))

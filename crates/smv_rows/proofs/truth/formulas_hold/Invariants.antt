@@ -1,10 +1,16 @@
 use Rattle.std.proofs.Common.{◌≡◌, map, length}
 use Rattle.smv_flat.specs.FlatFormulas.{form_plain}
+use Rattle.smv_flat_evaluation.specs.RowValues.{row_values}
+use Rattle.smv_flat_evaluation.specs.FlatSafety.{FormsSafe}
+use Rattle.smv_rows.specs.Parts.{parts_plain}
 use Rattle.smv_rows.specs.Truths.{row_forms_hold}
 use Rattle.smv_rows.proofs.truth.formulas_hold.Given as goal
 
 abbrev pub invariant-loop-formula : goal.invariant-loop-formula
-invariant-loop-formula l = row_forms_hold l.flat.symbols.now l.when l.target l.now l.later (map form_plain l.rest) ≡ row_forms_hold l.flat.symbols.now l.when l.target l.now l.later (map form_plain l.flat.formulas.now)
+invariant-loop-formula l = record {
+  safe : FormsSafe (parts_plain l.flat) (row_values l.now) (row_values l.later) (map form_plain l.rest);
+  same : row_forms_hold l.flat.symbols.now l.when l.target l.now l.later (map form_plain l.rest) ≡ row_forms_hold l.flat.symbols.now l.when l.target l.now l.later (map form_plain l.flat.formulas.now);
+}
 
 abbrev pub decreases-loop-formula : goal.decreases-loop-formula
 decreases-loop-formula l = length l.rest

@@ -1,0 +1,4 @@
+pub mod Fitting
+pub mod Declared
+pub mod FitLaws
+pub mod StepLaws

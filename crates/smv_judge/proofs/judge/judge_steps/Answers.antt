@@ -1,0 +1,63 @@
+use Rattle.std.proofs.Common.{◌+◌, true, false, List, ◌∷◌, map, length, ap, sym, ◌∙◌, arith}
+use Rattle.smv_meaning.specs.declared.value.Given.{Given}
+use Rattle.smv_meaning.specs.Values.{given}
+use Rattle.smv_meaning.specs.Instances.{instances_of}
+use Rattle.smv_meaning.specs.Runs.{judged_after}
+use Rattle.smv_flat_evaluation.specs.RowValues.{row_values}
+use Rattle.smv_judge.specs.Models.{step_clauses}
+use Rattle.smv_judge.proofs.StepLaws.{truth_is, rows_safe, rows_true, outside_end, broken_end, none_said}
+use Rattle.smv_judge.proofs.judge.judge_steps.Goals as goal
+
+pub returns-then-not-is_empty : goal.returns-then-not-is_empty
+returns-then-not-is_empty c = λ source k.
+    outside_end (instances_of source) c.args.j c.loop-next.step (given c.loop-next.state.now) c.loop-next.states.now c.loop-next.labels.now _ c.in_default.ensures.cases (sym c.is_empty.ensures ∙ c.if-not-is_empty.true)
+    (c.loop-next.invariant.same source k)
+
+pub is_broken-requires : goal.is_broken-requires
+is_broken-requires c =
+    let flat = c.args.flat.now in
+    let m = c.requires.model in
+    let r = c.loop-next.invariant.row in
+    let s = given c.loop-next.state.now in
+    let row = row_values c.loop-next.row.values.items in
+    rows_safe flat m.0 m.1 s r.label s r.label (r.state_fits m.0 m.1) (r.label_fits m.0 m.1) (r.state_fits m.0 m.1) (r.label_fits m.0 m.1) row row r.row r.row
+
+pub returns-then-is_broken : goal.returns-then-is_broken
+returns-then-is_broken c = λ source k.
+    let r = c.loop-next.invariant.row in
+    let s = given c.loop-next.state.now in
+    let row = row_values c.loop-next.row.values.items in
+    let h = rows_true c.args.flat.now source k s r.label s r.label row row r.row r.row in
+    broken_end (instances_of source) c.args.j c.loop-next.step s c.loop-next.states.now c.loop-next.labels.now _ true c.in_default.ensures.cases (sym c.is_empty.ensures ∙ c.if-not-is_empty.false)
+    (truth_is _ _ true c.is_broken.result (h.broken c.args.j) c.is_broken.ensures c.if-is_broken.true) (c.loop-next.invariant.same source k)
+
+pub returns : goal.returns
+returns c = λ source k.
+    let r = c.loop-next.invariant.row in
+    let s = given c.loop-next.state.now in
+    let row = row_values c.loop-next.row.values.items in
+    let h = rows_true c.args.flat.now source k s r.label s r.label row row r.row r.row in
+    broken_end (instances_of source) c.args.j c.loop-next.step s c.loop-next.states.now c.loop-next.labels.now _ false c.in_default.ensures.cases (sym c.is_empty.ensures ∙ c.if-not-is_empty.false)
+    (truth_is _ _ false c.is_broken.result (h.broken c.args.j) c.is_broken.ensures c.if-is_broken.false) (c.loop-next.invariant.same source k)
+
+pub loop-next-preserved : goal.loop-next-preserved
+loop-next-preserved c =
+    let i = c.loop-next.invariant in
+    let s = given c.loop-next.state.now in
+    let u = given c.in-Some.next.now in
+    let l = given c.in-Some-split_first.label.now in
+    let us = c.in-Some.others.now in
+    let ls = c.in-Some-split_first.more.now in
+    let states = c.in-Some.ensures.cases.0 in
+    let labels = c.in-Some-split_first.ensures.cases.0 in
+    record {
+      count = omega (arith, i.count, ap length states);
+      row = c.in_ok-clause.ensures.row c.in-None.is;
+      same = λ source k.
+          let t = instances_of source in
+          let rest = judged_after t c.args.j (c.loop-next.step + 1) u (map given us) (map given ls) in
+          none_said (c.loop-next.step + 1) (step_clauses t s l u) rest (sym c.in-None.is ∙ c.in_ok-clause.ensures.clause source k)
+          ∙ sym (ap (λ (xs : List (List Given)). judged_after t c.args.j c.loop-next.step s (map given xs) (map given c.loop-next.labels.now)) states
+          ∙ ap (λ (xs : List (List Given)). judged_after t c.args.j c.loop-next.step s (map given (c.in-Some.next.now ∷ us)) (map given xs)) labels)
+          ∙ i.same source k;
+    }

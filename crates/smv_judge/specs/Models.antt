@@ -1,0 +1,56 @@
+-- Of which model a flat form is, and what fails at a step of a stated run (NuSMV 2.6 User Manual, 2.3 and 2.4).
+use Rattle.std.specs.Prelude.{◌≡◌, ℕ, ◌&&◌, Bool, if◌then◌else◌, List, [], ◌∷◌, Option, Some, None, IsTrue}
+use Rattle.text_core.specs.declared.verdict.Clause.{Clause}
+use Rattle.text_core.specs.declared.verdict.Clause.TheVariants.{ValueOutside, InitFails, TransFails, InvarFails}
+use Rattle.smv_text.specs.Tree.{PlainSource}
+use Rattle.smv_meaning.specs.Values.{Valuation}
+use Rattle.smv_meaning.specs.Instances.{Instance, instances_of}
+use Rattle.smv_meaning.specs.Phases.{IsAccepted}
+use Rattle.smv_meaning.specs.Runs.{state_fits, label_fits, init_holds, invar_holds, step_holds}
+use Rattle.smv_flat.specs.FlatForms.{PlainFlat, flat_smv}
+use Rattle.smv_flat_laws.specs.FlatTruth.{IsRow}
+use Rattle.smv_operators.specs.declared.seen.Seen.{Seen}
+use Rattle.smv_flat_evaluation.specs.RowValues.{row_values}
+use Rattle.smv_flatten.specs.FlatModel.{IsRead}
+use Rattle.smv_rows.specs.declared.parts.FlatParts.{FlatParts}
+use Rattle.smv_rows.specs.Parts.{parts_plain}
+
+-- a text spells the model, its checks hold, and this is its flat form
+pub record IsFlatOf (source : PlainSource) (flat : PlainFlat) : Type 0 where
+  pub needed : ℕ
+  pub read : IsRead source
+  pub accepted : IsAccepted source needed
+  pub form : flat ≡ flat_smv source
+
+abbrev pub HasModel : FlatParts → Type 0
+HasModel flat = (source : PlainSource) × IsFlatOf source (parts_plain flat)
+
+-- ---- clauses
+
+-- the first that fails
+abbrev pub failing : List (Clause × Bool) → Option Clause
+failing [] = None
+failing (c ∷ cs) = if c.1 then failing cs else Some c.0
+
+abbrev pub first_clauses : List Instance → Valuation → List (Clause × Bool)
+first_clauses t s = (ValueOutside, state_fits t s) ∷ (InitFails, init_holds t s) ∷ (InvarFails, invar_holds t s) ∷ []
+
+-- of the step to the state u under the label l
+abbrev pub step_clauses : List Instance → Valuation → Valuation → Valuation → List (Clause × Bool)
+step_clauses t s l u = (ValueOutside, state_fits t u && label_fits t l) ∷ (TransFails, step_holds t s l u) ∷ (InvarFails, invar_holds t u) ∷ []
+
+-- ---- rows
+
+-- whatever model the flat form is of, the label's values are of the declared types
+abbrev pub LabelFits : FlatParts → Valuation → Type 0
+LabelFits flat label = (source : PlainSource) → IsFlatOf source (parts_plain flat) → IsTrue (label_fits (instances_of source) label)
+
+abbrev pub StateFits : FlatParts → Valuation → Type 0
+StateFits flat state = (source : PlainSource) → IsFlatOf source (parts_plain flat) → IsTrue (state_fits (instances_of source) state)
+
+-- a row of the state under some label, both of the declared types
+pub record IsStateRow (flat : FlatParts) (state : Valuation) (values : List Seen) : Type 0 where
+  pub label : Valuation
+  pub row : IsRow (parts_plain flat) state label (row_values values)
+  pub state_fits : StateFits flat state
+  pub label_fits : LabelFits flat label

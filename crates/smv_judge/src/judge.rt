@@ -1,0 +1,129 @@
+// The judge of stated runs.
+ghost use Rattle.std.specs.Prelude.{◌≡◌, ◌<◌, ◌+◌, ◌^◌, length, map, IfOk};
+ghost use Rattle.smv_text.specs.Tree.{PlainSource};
+ghost use Rattle.smv_text.specs.View.{plain_source};
+ghost use Rattle.smv_meaning.specs.Values.{given};
+ghost use Rattle.smv_meaning.specs.Instances.{instances_of};
+ghost use Rattle.smv_meaning.specs.Phases.{IsAccepted};
+ghost use Rattle.smv_meaning.specs.Runs.{judged_after, judged_smv};
+ghost use Rattle.smv_flatten.specs.FlatModel.{IsRead, flat_plain};
+ghost use Rattle.smv_rows.specs.Parts.{parts_plain};
+ghost use Rattle.smv_rows.specs.RowOrders.{IsRowOrder};
+ghost use Rattle.smv_judge.specs.Models.{IsFlatOf, HasModel, LabelFits, IsStateRow};
+
+use crate::labels::first_label;
+use crate::steps::{first_failure, step_failure};
+use smv_flatten::{Flat, FlatEnd, flatten};
+use smv_meaning::{Run, State};
+use smv_rows::{FlatParts, Row, RowOrder, is_broken, row_order};
+use smv_text::Source;
+use std::alloc::Global;
+use text_core::{Clause, NoMemory, Verdict};
+
+// The verdict on what follows a state, of which the row is one.
+fn judge_steps<'a>(
+    alloc: Global,
+    flat: &FlatParts<'a>,
+    order: &RowOrder,
+    j: u32,
+    first: &'a State,
+    following: &'a [State],
+    labels: &'a [State],
+    row: &mut Row<'a>,
+) -> Result<Verdict, NoMemory>
+    requires model { HasModel flat.now }
+    requires order { IsRowOrder flat.now order.now }
+    requires row { IsStateRow flat.now (given first.now) row.old.values.items }
+    requires few { length following.now + 1 < 2 ^ 32 }
+    ensures { IfOk result (λ v. (source : PlainSource) → IsFlatOf source (parts_plain flat.now) → v ≡ judged_after (instances_of source) j 0 (given first.now) (map given following.now) (map given labels.now)) }
+{
+    let mut before = Row::new(alloc);
+    let mut state = first;
+    let mut states = following;
+    let mut labels = labels;
+    let mut step = 0u32;
+    while let Some((next, others)) = states.split_first() {
+        let Some((label, more)) = labels.split_first() else {
+            return Ok(Verdict::No(step + 1, Clause::ValueOutside));
+        };
+        match step_failure(flat, order, state, label, next, &mut before, row)? {
+            Some(clause) => return Ok(Verdict::No(step + 1, clause)),
+            None => {}
+        }
+        state = next;
+        states = others;
+        labels = more;
+        step += 1;
+    }
+    if !labels.is_empty() {
+        Ok(Verdict::No(step + 1, Clause::ValueOutside))
+    } else if is_broken(flat, j, row) {
+        Ok(Verdict::Yes)
+    } else {
+        Ok(Verdict::No(step, Clause::NotBroken))
+    }
+}
+
+// The verdict on a stated run, given a label whose values are of the declared types.
+fn judge_parts<'a>(
+    alloc: Global,
+    flat: &FlatParts<'a>,
+    label: &'a State,
+    j: u32,
+    run: &'a Run,
+) -> Result<Verdict, NoMemory>
+    requires model { HasModel flat.now }
+    requires label { LabelFits flat.now (given label.now) }
+    requires few { length run.now.states < 2 ^ 32 }
+    ensures { IfOk result (λ v. (source : PlainSource) → IsFlatOf source (parts_plain flat.now) → v ≡ judged_smv source j (map given run.now.states) (map given run.now.labels)) }
+{
+    let order = row_order(alloc, flat)?;
+    let Some((first, following)) = run.states.as_slice().split_first() else {
+        return Ok(Verdict::No(0, Clause::ValueOutside));
+    };
+    let mut row = Row::new(alloc);
+    match first_failure(flat, &order, first, label, &mut row)? {
+        Some(clause) => Ok(Verdict::No(0, clause)),
+        None => judge_steps(
+            alloc,
+            flat,
+            &order,
+            j,
+            first,
+            following,
+            run.labels.as_slice(),
+            &mut row,
+        ),
+    }
+}
+
+fn judge_flat(alloc: Global, flat: &Flat, j: u32, run: &Run) -> Result<Verdict, NoMemory>
+    requires model { (source : PlainSource) × IsFlatOf source (flat_plain flat.now) }
+    requires few { length run.now.states < 2 ^ 32 }
+    ensures { IfOk result (λ v. (source : PlainSource) → IsFlatOf source (flat_plain flat.now) → v ≡ judged_smv source j (map given run.now.states) (map given run.now.labels)) }
+{
+    let parts = FlatParts {
+        items: flat.items().as_slice(),
+        symbols: flat.symbols(),
+        formulas: flat.formulas().as_slice(),
+    };
+    let label = first_label(alloc, parts.items)?;
+    judge_parts(alloc, &parts, &label, j, run)
+}
+
+/// The verdict on a stated run and the invariant of number j, counted from 0: Yes exactly where the states and labels are a run of the
+/// model (NuSMV 2.6 User Manual, 2.3 and 2.4) whose last state breaks the invariant, else the earliest step with its first failing
+/// clause. A label and a transition belong to the step to which they lead.
+pub fn judge_smv(alloc: Global, source: &Source, j: u32, run: &Run) -> Result<Verdict, NoMemory>
+    // A text spells the model, its checks hold, and it has the invariant.
+    requires read { IsRead (plain_source source.now) }
+    requires accepted { IsAccepted (plain_source source.now) j }
+    requires few { length run.now.states < 2 ^ 32 }
+    ensures { IfOk result (λ v. v ≡ judged_smv (plain_source source.now) j (map given run.now.states) (map given run.now.labels)) }
+{
+    match flatten(alloc, source, j) {
+        Ok(flat) => judge_flat(alloc, &flat, j, run),
+        Err(FlatEnd::Bad(_)) => unreachable!(),
+        Err(FlatEnd::NoMemory) => Err(NoMemory),
+    }
+}

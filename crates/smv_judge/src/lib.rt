@@ -1,0 +1,9 @@
+//! The judge of stated runs of SMV models.
+#![tactic(auto)]
+
+mod fits;
+mod judge;
+mod labels;
+mod steps;
+
+pub use judge::judge_smv;
