@@ -2,6 +2,7 @@
 -- invariant, which a state that breaks it meets. The names and the order are this translator's own.
 use Rattle.std.specs.Prelude.{◌==◌, ℕ, ◌+◌, max, Bool, true, false, zero, suc, if◌then◌else◌, List, [], ◌∷◌, ◌++◌, map, flat_map, take, length, slice_get, codes, decimal, Option, Some, None}
 use Rattle.std.specs.List.{filter}
+use Rattle.smv_text.specs.Tree.{PlainSource}
 use Rattle.smv_text.specs.declared.tree.When.{When}
 use Rattle.smv_text.specs.declared.tree.When.TheVariants.{Always, First, Following}
 use Rattle.smv_text.specs.declared.tree.Member.{Member}
@@ -13,9 +14,10 @@ use Rattle.smv_items.specs.declared.items.ItemKind.TheVariants.{State, Frozen, I
 use Rattle.smv_items.specs.FlatItems.{PlainFlatItem}
 use Rattle.smv_flat.specs.declared.forms.Role.{Role}
 use Rattle.smv_flat.specs.declared.forms.Role.TheVariants.{Body, Assign, Init, Trans, Invar}
-use Rattle.smv_flat.specs.FlatForms.{Form, PlainFlat}
+use Rattle.smv_flat.specs.FlatForms.{Form, PlainFlat, flat_smv}
 use Rattle.smv_flat_laws.specs.FlatTruth.{forms_invariants}
 use Rattle.smv_flat.specs.FlatTree.{FlatTree}
+use Rattle.smv_width.specs.FlatWidth.{width_of}
 use Rattle.moxi_terms.specs.declared.data.Datum.TheVariants as datum
 use Rattle.moxi_terms.specs.declared.data.TermOp.TheVariants as op
 use Rattle.moxi_terms.specs.declared.term.Variable.{Variable}
@@ -217,3 +219,7 @@ script_of flat width = record {
   systems = system_of flat width ∷ [];
   check = check_of flat width;
 }
+
+-- the script that stands for a model
+abbrev pub script_for : PlainSource → PlainScript
+script_for source = script_of (flat_smv source) (width_of (flat_smv source))

@@ -1,0 +1,13 @@
+pub mod Measures
+pub mod Rows
+pub mod ChainHeights
+pub mod Chains
+pub mod Expressions
+pub mod Charges
+pub mod Instances
+pub mod Prices
+pub mod Formulas
+pub mod Weights
+pub mod Lows
+pub mod Printed
+pub mod Limits

@@ -1,0 +1,13 @@
+pub mod Trees
+pub mod Fitting
+pub mod Symbols
+pub mod Bodies
+pub mod Givens
+pub mod Domains
+pub mod Models
+pub mod Steps
+pub mod Same
+pub mod Known
+pub mod RowEnvironments
+pub mod Decoded
+pub mod Environments

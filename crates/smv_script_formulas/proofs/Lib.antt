@@ -1,0 +1,10 @@
+pub mod Lists
+pub mod Splits
+pub mod Variables
+pub mod Forms
+pub mod Targets
+pub mod Meanings
+pub mod Premises
+pub mod Members
+pub mod Items
+pub mod Outcomes

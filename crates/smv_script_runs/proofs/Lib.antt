@@ -1,0 +1,5 @@
+pub mod Defaults
+pub mod Listed
+pub mod Meanings
+pub mod Outcomes
+pub mod Queries

@@ -1,0 +1,13 @@
+pub mod Bounds
+pub mod Applied
+pub mod Rows
+pub mod Functions
+pub mod Typed
+pub mod Translated
+pub mod Declared
+pub mod Inhabited
+pub mod Leaves
+pub mod Variables
+pub mod Constants
+pub mod Sorts
+pub mod SortLaws

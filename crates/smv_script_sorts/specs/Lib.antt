@@ -1,0 +1,3 @@
+pub mod LetNames
+pub mod Standing
+pub mod Laws

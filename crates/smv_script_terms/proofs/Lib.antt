@@ -1,0 +1,9 @@
+pub mod Steps
+mod TreeLists
+mod LinkLists
+mod Depths
+pub mod Translated
+mod Termed
+pub mod Numbered
+mod Distributed
+mod Formed

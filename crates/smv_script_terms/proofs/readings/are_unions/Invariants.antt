@@ -1,0 +1,8 @@
+use Rattle.std.proofs.Common.{◌≡◌, drop, map}
+use Rattle.smv_flat.specs.FlatTree.{flat_links_of}
+use Rattle.smv_flat.specs.FlatView.{plain_flat_link}
+use Rattle.smv_script.specs.Terms.{are_flat_unions}
+use Rattle.smv_script_terms.proofs.readings.are_unions.Given as goal
+
+abbrev pub invariant-loop-link : goal.invariant-loop-link
+invariant-loop-link l = are_flat_unions (flat_links_of (map plain_flat_link (drop l.link-index l.links))) ≡ are_flat_unions (flat_links_of (map plain_flat_link l.links))

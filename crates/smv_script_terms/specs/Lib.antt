@@ -1,0 +1,8 @@
+pub mod Questions
+pub mod Operands
+pub mod Functions
+pub mod Readings
+pub mod Groups
+pub mod Buckets
+pub mod Parts
+pub mod Sources

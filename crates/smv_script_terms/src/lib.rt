@@ -1,0 +1,19 @@
+//! The terms, variables and formulas of the script of MoXI that stands for a flat form, as code makes them.
+#![tactic(auto)]
+
+mod buckets;
+mod coding;
+mod formulas;
+mod functions;
+mod operands;
+mod operators;
+mod parts;
+mod readings;
+mod terms;
+mod variables;
+
+pub use coding::{Coding, Question, Subject};
+pub use formulas::{Source, formula_of};
+pub use operators::negated;
+pub use terms::stated;
+pub use variables::{Group, places_of, variables_in};

@@ -1,0 +1,241 @@
+// Applications of MoXI's operators.
+ghost use Rattle.std.specs.Prelude.{◌≡◌, IfOk, map};
+ghost use Rattle.moxi_terms.specs.Tree.{apply, constant, trees_of};
+ghost use Rattle.moxi_terms.specs.Operators.{nothing};
+ghost use Rattle.moxi_terms.specs.View.{plain};
+ghost use Rattle.smv_script.specs.Operators.{one, two, three, not_term, equal_term, choice_term, infix_term, repeated, sign_op, logical_op, signed_op, joint_op};
+ghost use Rattle.smv_script_terms.specs.Questions.{answered_value};
+ghost use Rattle.smv_script_terms.specs.Operands.{several, plain_op};
+ghost use Rattle.smv_text.specs.declared.tree.Infix.TheVariants.{Implies, Iff, Xnor};
+
+use crate::coding::{Question, subject_term};
+use moxi_terms::{Datum, Term, TermOp, Terms};
+use smv_text::{Infix, Prefix};
+use std::alloc::Global;
+use text_core::NoMemory;
+use word_core::{Binary, Unary};
+
+/// What stands where no value is.
+pub(crate) fn nothing() -> Term
+    ensures { plain result ≡ constant nothing }
+{
+    Term::Constant(Datum::Truth(false))
+}
+
+pub(crate) fn apply_one(alloc: Global, op: TermOp, a: Term) -> Result<Term, NoMemory>
+    ensures { IfOk result (λ t. plain t ≡ apply op (one (plain a))) }
+{
+    let mut terms = Vec::new(alloc);
+    terms.push(a)?;
+    Ok(Term::Apply(op, terms))
+}
+
+pub(crate) fn apply_two(alloc: Global, op: TermOp, a: Term, b: Term) -> Result<Term, NoMemory>
+    ensures { IfOk result (λ t. plain t ≡ apply op (two (plain a) (plain b))) }
+{
+    let mut terms = Vec::new(alloc);
+    terms.push(a)?;
+    terms.push(b)?;
+    Ok(Term::Apply(op, terms))
+}
+
+pub(crate) fn choice(alloc: Global, c: Term, a: Term, b: Term) -> Result<Term, NoMemory>
+    ensures { IfOk result (λ t. plain t ≡ choice_term (plain c) (plain a) (plain b)) }
+{
+    let mut terms = Vec::new(alloc);
+    terms.push(c)?;
+    terms.push(a)?;
+    terms.push(b)?;
+    Ok(Term::Apply(TermOp::Ite, terms))
+}
+
+pub(crate) fn equal(alloc: Global, a: Term, b: Term) -> Result<Term, NoMemory>
+    ensures { IfOk result (λ t. plain t ≡ equal_term (plain a) (plain b)) }
+{
+    apply_two(alloc, TermOp::Equal, a, b)
+}
+
+/// The negation of a truth value.
+pub fn negated(alloc: Global, a: Term) -> Result<Term, NoMemory>
+    ensures { IfOk result (λ t. plain t ≡ not_term (plain a)) }
+{
+    apply_one(alloc, TermOp::Not, a)
+}
+
+/// One application of an operator: a truth value where there is no part, and a single part itself.
+pub(crate) fn several(op: TermOp, empty: bool, terms: Terms) -> Term
+    ensures { plain result ≡ several op empty (trees_of (map plain terms.items)) }
+{
+    let mut terms = terms;
+    if terms.len() > 1 {
+        return Term::Apply(op, terms);
+    }
+    match terms.pop() {
+        Some(a) => a,
+        None => Term::Constant(Datum::Truth(empty)),
+    }
+}
+
+/// What an expression answers that is no set and has this value.
+pub(crate) fn answer(alloc: Global, question: Question, value: Term) -> Result<Term, NoMemory>
+    ensures { IfOk result (λ t. plain t ≡ answered_value question (plain value)) }
+{
+    match question {
+        Question::Value => Ok(value),
+        Question::Permits(subject) => equal(alloc, subject_term(subject), value),
+    }
+}
+
+// ---- signs
+
+/// The operator that stands for a sign, given whether its operand is a word.
+pub(crate) fn sign_operator(sign: Prefix, words: bool) -> TermOp
+    ensures { result ≡ sign_op sign words }
+{
+    match sign {
+        Prefix::Not => {
+            if words {
+                TermOp::BvUnary(Unary::Not)
+            } else {
+                TermOp::Not
+            }
+        }
+        Prefix::Minus => TermOp::BvUnary(Unary::Neg),
+    }
+}
+
+/// An operator that stands so many times.
+pub(crate) fn repeated(alloc: Global, op: TermOp, count: u32, a: Term) -> Result<Term, NoMemory>
+    ensures { IfOk result (λ t. plain t ≡ repeated op count (plain a)) }
+{
+    let mut whole = a;
+    for _ in 0..count {
+        whole = apply_one(alloc, op, whole)?;
+    }
+    Ok(whole)
+}
+
+// ---- operators between two operands
+
+fn logical(words: bool, op: TermOp, binary: Binary) -> TermOp
+    ensures { result ≡ logical_op words op binary }
+{
+    if words { TermOp::BvBinary(binary) } else { op }
+}
+
+fn signed(words: bool, signed: Binary, unsigned: Binary) -> TermOp
+    ensures { result ≡ signed_op words signed unsigned }
+{
+    TermOp::BvBinary(if words { unsigned } else { signed })
+}
+
+/// The operators of which a chain of one sign is one application, given whether its operands are words.
+pub(crate) fn joint_operator(op: Infix, words: bool) -> TermOp
+    ensures { result ≡ joint_op op words }
+{
+    match op {
+        Infix::And => logical(words, TermOp::And, Binary::And),
+        Infix::Or => logical(words, TermOp::Or, Binary::Or),
+        Infix::Xor => logical(words, TermOp::Xor, Binary::Xor),
+        Infix::Plus => TermOp::BvBinary(Binary::Add),
+        Infix::Times => TermOp::BvBinary(Binary::Mul),
+        _ => TermOp::And,
+    }
+}
+
+// The operators that stand alone between two terms, and those of a joined chain.
+fn plain_operator(op: Infix, words: bool) -> TermOp
+    ensures { result ≡ plain_op op words }
+{
+    match op {
+        Infix::Equal => TermOp::Equal,
+        Infix::Less => signed(words, Binary::Slt, Binary::Ult),
+        Infix::Greater => signed(words, Binary::Sgt, Binary::Ugt),
+        Infix::LessEq => signed(words, Binary::Slte, Binary::Ulte),
+        Infix::GreaterEq => signed(words, Binary::Sgte, Binary::Ugte),
+        Infix::Minus => TermOp::BvBinary(Binary::Sub),
+        Infix::Divide => signed(words, Binary::Sdiv, Binary::Udiv),
+        Infix::Mod => signed(words, Binary::Srem, Binary::Urem),
+        Infix::Concat => TermOp::Concat,
+        Infix::ShiftLeft => TermOp::BvBinary(Binary::Sll),
+        Infix::ShiftRight => TermOp::BvBinary(Binary::Srl),
+        Infix::And | Infix::Or | Infix::Xor | Infix::Plus | Infix::Times => {
+            joint_operator(op, words)
+        }
+        Infix::Implies | Infix::Iff | Infix::Xnor | Infix::Unequal | Infix::Member | Infix::Union =>
+            TermOp::And,
+    }
+}
+
+pub(crate) fn implication(alloc: Global, words: bool, a: Term, b: Term) -> Result<Term, NoMemory>
+    ensures { IfOk result (λ t. plain t ≡ infix_term Implies words (plain a) (plain b)) }
+{
+    if words {
+        let c = apply_one(alloc, TermOp::BvUnary(Unary::Not), a)?;
+        apply_two(alloc, TermOp::BvBinary(Binary::Or), c, b)
+    } else {
+        apply_two(alloc, TermOp::Implies, a, b)
+    }
+}
+
+fn equivalence(alloc: Global, words: bool, a: Term, b: Term) -> Result<Term, NoMemory>
+    ensures { IfOk result (λ t. plain t ≡ infix_term Iff words (plain a) (plain b)) }
+{
+    if words {
+        let c = apply_two(alloc, TermOp::BvBinary(Binary::Xor), a, b)?;
+        apply_one(alloc, TermOp::BvUnary(Unary::Not), c)
+    } else {
+        equal(alloc, a, b)
+    }
+}
+
+fn exclusive_nor(alloc: Global, words: bool, a: Term, b: Term) -> Result<Term, NoMemory>
+    ensures { IfOk result (λ t. plain t ≡ infix_term Xnor words (plain a) (plain b)) }
+{
+    if words {
+        let c = apply_two(alloc, TermOp::BvBinary(Binary::Xor), a, b)?;
+        apply_one(alloc, TermOp::BvUnary(Unary::Not), c)
+    } else {
+        let c = apply_two(alloc, TermOp::Xor, a, b)?;
+        negated(alloc, c)
+    }
+}
+
+/// An operator between two terms, given whether the operands are words. `in` and `union` stand for nothing here.
+pub(crate) fn infix(
+    alloc: Global,
+    op: Infix,
+    words: bool,
+    a: Term,
+    b: Term,
+) -> Result<Term, NoMemory>
+    ensures { IfOk result (λ t. plain t ≡ infix_term op words (plain a) (plain b)) }
+{
+    match op {
+        Infix::Implies => implication(alloc, words, a, b),
+        Infix::Iff => equivalence(alloc, words, a, b),
+        Infix::Xnor => exclusive_nor(alloc, words, a, b),
+        Infix::Unequal => {
+            let c = equal(alloc, a, b)?;
+            negated(alloc, c)
+        }
+        Infix::Member => Ok(nothing()),
+        Infix::Union => Ok(nothing()),
+        Infix::Or
+        | Infix::Xor
+        | Infix::And
+        | Infix::Equal
+        | Infix::Less
+        | Infix::Greater
+        | Infix::LessEq
+        | Infix::GreaterEq
+        | Infix::ShiftLeft
+        | Infix::ShiftRight
+        | Infix::Plus
+        | Infix::Minus
+        | Infix::Times
+        | Infix::Divide
+        | Infix::Mod
+        | Infix::Concat => apply_two(alloc, plain_operator(op, words), a, b),
+    }
+}

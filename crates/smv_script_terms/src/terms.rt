@@ -1,0 +1,371 @@
+// The terms of expressions.
+ghost use Rattle.std.specs.Prelude.{◌≡◌, IfOk, map};
+ghost use Rattle.moxi_terms.specs.Tree.{tree, trees_of};
+ghost use Rattle.moxi_terms.specs.View.{plain};
+ghost use Rattle.smv_flat.specs.FlatTree.{flat_links_of, flat_branches_of, flat_trees_of};
+ghost use Rattle.smv_flat.specs.FlatView.{plain_flat, plain_flat_link, plain_flat_branch};
+ghost use Rattle.smv_script.specs.Operators.{repeated, sign_op};
+ghost use Rattle.smv_script.specs.Terms.{is_word, translation, taken_translation};
+ghost use Rattle.smv_script_terms.specs.Questions.{answered, codes_of};
+ghost use Rattle.smv_script_terms.specs.Operands.{answers, behind_term, case_plain, cases_of, link_answers, operand_plain, operands_of};
+ghost use Rattle.smv_script_terms.specs.Readings.{called_term, chain_answered, folded_answer, gathered_answer, named_subject, ranged_answer, united_answer};
+
+use crate::coding::{Coding, Question, Subject, integer_term};
+use crate::functions::{arguments_of, between, function_term, selected};
+use crate::operands::{Case, Operand, chosen, front_width, implied, is_word, joined, word_width};
+use crate::operators::{answer, joint_operator, nothing, repeated, several, sign_operator};
+use crate::readings::{Reading, reading_of};
+use moxi_terms::{Datum, Term, TermOp, Terms};
+use smv_flat::{FlatBranch, FlatExpr, FlatLink, FlatShape};
+use smv_text::{Function, Infix, Prefix};
+use std::alloc::Global;
+use text_core::NoMemory;
+
+/// The term of an expression, or the one that says whether the expression permits the value of another term, given how many names
+/// are bound around.
+#[inline(never)]
+#[cycle(terms)]
+pub fn stated(
+    alloc: Global,
+    coding: &Coding,
+    k: u32,
+    question: Question,
+    e: &FlatExpr,
+) -> Result<Term, NoMemory>
+    ensures { IfOk result (λ t. plain t ≡ answered question (translation (codes_of coding.now) (plain_flat e.now)) k) }
+{
+    match &e.shape {
+        FlatShape::True => answer(alloc, question, Term::Constant(Datum::Truth(true))),
+        FlatShape::False => answer(alloc, question, Term::Constant(Datum::Truth(false))),
+        FlatShape::Number(n) => { answer(alloc, question, integer_term(coding.width, *n as i128)?) }
+        FlatShape::Literal(word) => answer(alloc, question, Term::Constant(Datum::Bits(*word))),
+        FlatShape::Symbol(s) => answer(alloc, question, Term::Constant(Datum::Constant(0, *s))),
+        FlatShape::Item(i, under) => {
+            answer(alloc, question, Term::Variable(coding.place(*i), *under))
+        }
+        FlatShape::Prefix(sign, count, operand) => {
+            let value = prefixed(alloc, coding, k, *sign, *count, operand)?;
+            answer(alloc, question, value)
+        }
+        FlatShape::Chain(first, links) => chained(alloc, coding, k, question, first, links),
+        FlatShape::Choice(branches, last) => {
+            let whole = stated(alloc, coding, k, question, last)?;
+            let cases = cases(alloc, coding, k, question, branches)?;
+            chosen(alloc, cases, whole)
+        }
+        FlatShape::Case(branches) => taken(alloc, coding, k, question, branches),
+        FlatShape::Select(operand, high, low) => {
+            let a = stated(alloc, coding, k, Question::Value, operand)?;
+            let value = selected(alloc, word_width(operand), *high, *low, a)?;
+            answer(alloc, question, value)
+        }
+        FlatShape::Call(function, arguments) => {
+            let value = called(alloc, coding, k, *function, arguments)?;
+            answer(alloc, question, value)
+        }
+        FlatShape::Set(elements) => gathered(alloc, coding, k, question, elements),
+        FlatShape::Range(low, high) => ranged(alloc, coding, question, *low, *high),
+    }
+}
+
+#[inline(never)]
+#[cycle(terms)]
+fn prefixed(
+    alloc: Global,
+    coding: &Coding,
+    k: u32,
+    sign: Prefix,
+    count: u32,
+    operand: &FlatExpr,
+) -> Result<Term, NoMemory>
+    ensures { IfOk result (λ t. plain t ≡ repeated (sign_op sign (is_word (plain_flat operand.now))) count ((translation (codes_of coding.now) (plain_flat operand.now)).term k)) }
+{
+    let a = stated(alloc, coding, k, Question::Value, operand)?;
+    repeated(alloc, sign_operator(sign, is_word(operand)), count, a)
+}
+
+// A chain, whatever its operators.
+#[inline(never)]
+#[cycle(terms)]
+fn chained(
+    alloc: Global,
+    coding: &Coding,
+    k: u32,
+    question: Question,
+    first: &FlatExpr,
+    links: &[FlatLink],
+) -> Result<Term, NoMemory>
+    ensures { IfOk result (λ t. plain t ≡ chain_answered question (codes_of coding.now) k (plain_flat first.now) (flat_links_of (map plain_flat_link links.now))) }
+{
+    match reading_of(links) {
+        Reading::Single => stated(alloc, coding, k, question, first),
+        Reading::Union => united(alloc, coding, k, question, first, links),
+        Reading::Implied => {
+            let a = stated(alloc, coding, k, Question::Value, first)?;
+            let operands = operands(alloc, coding, k, links)?;
+            let value = implied(alloc, a, operands)?;
+            answer(alloc, question, value)
+        }
+        Reading::Joint(op, words) => {
+            let terms = link_terms(alloc, coding, k, Question::Value, first, links)?;
+            let value = Term::Apply(joint_operator(op, words), terms);
+            answer(alloc, question, value)
+        }
+        Reading::Left => {
+            let value = folded(alloc, coding, k, first, links)?;
+            answer(alloc, question, value)
+        }
+    }
+}
+
+// A chain of `union`.
+#[inline(never)]
+#[cycle(terms)]
+fn united(
+    alloc: Global,
+    coding: &Coding,
+    k: u32,
+    question: Question,
+    first: &FlatExpr,
+    links: &[FlatLink],
+) -> Result<Term, NoMemory>
+    ensures { IfOk result (λ t. plain t ≡ united_answer question (codes_of coding.now) k (plain_flat first.now) (flat_links_of (map plain_flat_link links.now))) }
+{
+    match question {
+        Question::Value => Ok(nothing()),
+        Question::Permits(_) => {
+            let terms = link_terms(alloc, coding, k, question, first, links)?;
+            Ok(several(TermOp::Or, false, terms))
+        }
+    }
+}
+
+// The answers of the operands of a chain.
+#[inline(never)]
+#[cycle(terms)]
+fn link_terms(
+    alloc: Global,
+    coding: &Coding,
+    k: u32,
+    question: Question,
+    first: &FlatExpr,
+    links: &[FlatLink],
+) -> Result<Terms, NoMemory>
+    ensures { IfOk result (λ ts. trees_of (map plain ts.items) ≡ tree (answered question (translation (codes_of coding.now) (plain_flat first.now)) k) (link_answers question (codes_of coding.now) k (flat_links_of (map plain_flat_link links.now)))) }
+{
+    let mut all = Vec::new(alloc);
+    all.push(stated(alloc, coding, k, question, first)?)?;
+    for link in links {
+        let t = stated(alloc, coding, k, question, &link.operand)?;
+        all.push(t)?;
+    }
+    Ok(all)
+}
+
+// The operands of a chain of `->` behind the first.
+#[inline(never)]
+#[cycle(terms)]
+fn operands(
+    alloc: Global,
+    coding: &Coding,
+    k: u32,
+    links: &[FlatLink],
+) -> Result<Vec<Operand>, NoMemory>
+    ensures { IfOk result (λ xs. map operand_plain xs.items ≡ operands_of (codes_of coding.now) k (flat_links_of (map plain_flat_link links.now))) }
+{
+    let mut all = Vec::new(alloc);
+    for link in links {
+        let term = stated(alloc, coding, k, Question::Value, &link.operand)?;
+        let words = is_word(&link.operand);
+        all.push(Operand { words, term })?;
+    }
+    Ok(all)
+}
+
+// A chain that is read from the left.
+#[inline(never)]
+#[cycle(terms)]
+fn folded(
+    alloc: Global,
+    coding: &Coding,
+    k: u32,
+    first: &FlatExpr,
+    links: &[FlatLink],
+) -> Result<Term, NoMemory>
+    ensures { IfOk result (λ t. plain t ≡ folded_answer (codes_of coding.now) k (plain_flat first.now) (flat_links_of (map plain_flat_link links.now))) }
+{
+    let mut whole = stated(alloc, coding, k, Question::Value, first)?;
+    let mut tested = subject_of(coding, first);
+    let mut width = word_width(first);
+    for link in links {
+        let term = behind(alloc, coding, k, link.op, tested, &link.operand)?;
+        let next = front_width(link.op, width, word_width(&link.operand))?;
+        let named = tested.is_some();
+        whole = joined(alloc, link.op, named, width, whole, &link.operand, term)?;
+        width = next;
+        tested = None;
+    }
+    Ok(whole)
+}
+
+// An operand behind an operator, where what stands before may be a name.
+#[inline(never)]
+#[cycle(terms)]
+fn behind(
+    alloc: Global,
+    coding: &Coding,
+    k: u32,
+    op: Infix,
+    tested: Option<Subject>,
+    operand: &FlatExpr,
+) -> Result<Term, NoMemory>
+    ensures { IfOk result (λ t. plain t ≡ behind_term op k tested (translation (codes_of coding.now) (plain_flat operand.now))) }
+{
+    match op {
+        Infix::Member => match tested {
+            Some(subject) => stated(alloc, coding, k, Question::Permits(subject), operand),
+            None => {
+                let Some(next) = k.checked_add(1) else {
+                    return Err(NoMemory);
+                };
+                let question = Question::Permits(Subject::Bound(k));
+                stated(alloc, coding, next, question, operand)
+            }
+        },
+        _ => stated(alloc, coding, k, Question::Value, operand),
+    }
+}
+
+// A case, whose last condition is left out.
+#[inline(never)]
+#[cycle(terms)]
+fn taken(
+    alloc: Global,
+    coding: &Coding,
+    k: u32,
+    question: Question,
+    branches: &[FlatBranch],
+) -> Result<Term, NoMemory>
+    ensures { IfOk result (λ t. plain t ≡ answered question (taken_translation (codes_of coding.now) (flat_branches_of (map plain_flat_branch branches.now))) k) }
+{
+    match branches.split_last() {
+        None => answer(alloc, question, nothing()),
+        Some((last, firsts)) => {
+            let whole = stated(alloc, coding, k, question, &last.value)?;
+            let cases = cases(alloc, coding, k, question, firsts)?;
+            chosen(alloc, cases, whole)
+        }
+    }
+}
+
+// The terms of conditions, and the answers of what counts where they are true.
+#[inline(never)]
+#[cycle(terms)]
+fn cases(
+    alloc: Global,
+    coding: &Coding,
+    k: u32,
+    question: Question,
+    branches: &[FlatBranch],
+) -> Result<Vec<Case>, NoMemory>
+    ensures { IfOk result (λ xs. map case_plain xs.items ≡ cases_of question (codes_of coding.now) k (flat_branches_of (map plain_flat_branch branches.now))) }
+{
+    let mut all = Vec::new(alloc);
+    for branch in branches {
+        let when = stated(alloc, coding, k, Question::Value, &branch.when)?;
+        let value = stated(alloc, coding, k, question, &branch.value)?;
+        all.push(Case { when, value })?;
+    }
+    Ok(all)
+}
+
+// The answers of arguments or elements.
+#[inline(never)]
+#[cycle(terms)]
+fn parts(
+    alloc: Global,
+    coding: &Coding,
+    k: u32,
+    question: Question,
+    exprs: &[FlatExpr],
+) -> Result<Terms, NoMemory>
+    ensures { IfOk result (λ ts. trees_of (map plain ts.items) ≡ answers question (codes_of coding.now) k (flat_trees_of (map plain_flat exprs.now))) }
+{
+    let mut all = Vec::new(alloc);
+    for e in exprs {
+        let t = stated(alloc, coding, k, question, e)?;
+        all.push(t)?;
+    }
+    Ok(all)
+}
+
+// A call of a function.
+#[inline(never)]
+#[cycle(terms)]
+fn called(
+    alloc: Global,
+    coding: &Coding,
+    k: u32,
+    function: Function,
+    arguments: &[FlatExpr],
+) -> Result<Term, NoMemory>
+    ensures { IfOk result (λ t. plain t ≡ called_term (codes_of coding.now) k function (flat_trees_of (map plain_flat arguments.now))) }
+{
+    let terms = parts(alloc, coding, k, Question::Value, arguments)?;
+    function_term(
+        alloc,
+        coding.width,
+        k,
+        function,
+        arguments_of(arguments),
+        terms,
+    )
+}
+
+// A set of elements.
+#[inline(never)]
+#[cycle(terms)]
+fn gathered(
+    alloc: Global,
+    coding: &Coding,
+    k: u32,
+    question: Question,
+    elements: &[FlatExpr],
+) -> Result<Term, NoMemory>
+    ensures { IfOk result (λ t. plain t ≡ gathered_answer question (codes_of coding.now) k (flat_trees_of (map plain_flat elements.now))) }
+{
+    match question {
+        Question::Value => Ok(nothing()),
+        Question::Permits(_) => {
+            let terms = parts(alloc, coding, k, question, elements)?;
+            Ok(several(TermOp::Or, false, terms))
+        }
+    }
+}
+
+// An interval.
+fn ranged(
+    alloc: Global,
+    coding: &Coding,
+    question: Question,
+    low: i64,
+    high: i64,
+) -> Result<Term, NoMemory>
+    ensures { IfOk result (λ t. plain t ≡ ranged_answer question coding.now.width low high) }
+{
+    match question {
+        Question::Value => Ok(nothing()),
+        Question::Permits(subject) => between(alloc, coding.width, low, high, subject),
+    }
+}
+
+// What stands for a name, also under `next`.
+fn subject_of(coding: &Coding, e: &FlatExpr) -> Option<Subject>
+    ensures { result ≡ named_subject (codes_of coding.now) (plain_flat e.now) }
+{
+    match &e.shape {
+        FlatShape::Item(i, under) => Some(Subject::Variable(coding.place(*i), *under)),
+        FlatShape::Symbol(s) => Some(Subject::Symbol(*s)),
+        _ => None,
+    }
+}

@@ -1,0 +1,6 @@
+mod Scripts
+mod SpelledScripts
+pub mod LiftedParts
+pub mod LiftedSteps
+pub mod LiftedWords
+pub mod LiftedTraces

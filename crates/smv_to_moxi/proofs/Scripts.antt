@@ -1,0 +1,208 @@
+-- The queries of a script and what they reach.
+use Rattle.std.proofs.Common.{◌≡◌, ℕ, zero, suc, ◌+◌, ◌++◌, Bool, true, false, Result, Ok, Err, IfOk, List, [], ◌∷◌, codes, drop, get_or, if◌then◌else◌, length, map, Some, refl, subst, sym, ap, ◌∙◌, arith}
+use Rattle.smv_items.specs.declared.items.FlatItem.{FlatItem}
+use Rattle.smv_items.specs.FlatItemView.{item_plain}
+use Rattle.smv_flat.specs.declared.forms.Role.{Role}
+use Rattle.smv_flat.specs.declared.forms.Role.TheVariants.{Body, Assign, Init, Trans, Invar, Invariant}
+use Rattle.smv_flat.specs.declared.forms.FlatFormula.{FlatFormula}
+use Rattle.smv_flat.specs.FlatFormulas.{form_plain}
+use Rattle.smv_flat.specs.FlatTree.{FlatTree}
+use Rattle.smv_flat.specs.FlatView.{plain_flat}
+use Rattle.smv_flat_laws.specs.FlatTruth.{forms_invariants, role_invariant}
+use Rattle.moxi_scripts.specs.declared.script.Formula.{Formula}
+use Rattle.moxi_scripts.specs.declared.script.Query.{Query}
+use Rattle.smv_text.specs.declared.tree.When.TheVariants.{Always, First, Following}
+use Rattle.moxi_terms.specs.declared.term.Variable.{Variable}
+use Rattle.moxi_terms.specs.Tree.{Tree}
+use Rattle.moxi_terms.specs.View.{ScopeState}
+use Rattle.moxi_terms.specs.Names.{no_scope, with_enumeration}
+use Rattle.moxi_terms.specs.declared.term.Enumeration.{Enumeration}
+use Rattle.moxi_scripts.specs.declared.script.Subsystem.{Subsystem}
+use Rattle.moxi_scripts.specs.declared.script.Script.{Script}
+use Rattle.moxi_scripts.specs.ScriptView.{plain_script}
+use Rattle.text_core.specs.declared.errors.NoMemory.{NoMemory}
+use Rattle.moxi_scripts.specs.Script.{PlainCheck, PlainFormula, PlainScript, PlainSystem, plain_formula, plain_system}
+use Rattle.smv_flat.specs.FlatForms.{PlainFlat}
+use Rattle.smv_script.specs.Terms.{Coding}
+use Rattle.smv_script.specs.Script.{check_of, coding_of, formula_of, inputs, locals, outputs, place_of_item, queries_from, query_of, reachables_from, script_of, symbol_sort, system_of, variables_in}
+use Rattle.smv_script_terms.specs.Sources.{flat_in}
+use Rattle.smv_to_moxi.specs.Assembling.{symbol_scope, check_form, is_invariant, reachable_of, script_form, script_under, script_with, system_form}
+use Rattle.moxi_scripts.specs.Invariant.{IsSpelled}
+
+role_is : (r : Role) (e : FlatTree) → is_invariant r ≡ true → role_invariant r e ≡ e ∷ []
+role_is Invariant e h = refl
+role_is (Body j) e h = cc
+role_is (Assign w j) e h = cc
+role_is Init e h = cc
+role_is Trans e h = cc
+role_is Invar e h = cc
+
+role_none : (r : Role) (e : FlatTree) → is_invariant r ≡ false → role_invariant r e ≡ []
+role_none Invariant e h = cc
+role_none (Body j) e h = refl
+role_none (Assign w j) e h = refl
+role_none Init e h = refl
+role_none Trans e h = refl
+role_none Invar e h = refl
+
+-- the first formula is one, or is none
+pub one_there : (xs : List FlatFormula) (i : ℕ) (f : FlatFormula) → drop i xs ≡ f ∷ drop (i + 1) xs → is_invariant f.role ≡ true
+    → forms_invariants (map form_plain (drop i xs)) ≡ plain_flat f.body ∷ forms_invariants (map form_plain (drop (i + 1) xs))
+one_there xs i f h e = ap (λ ys. forms_invariants (map form_plain ys)) h ∙ ap (λ ys. ys ++ forms_invariants (map form_plain (drop (i + 1) xs))) (role_is f.role (plain_flat f.body) e)
+
+pub none_there : (xs : List FlatFormula) (i : ℕ) (f : FlatFormula) → drop i xs ≡ f ∷ drop (i + 1) xs → is_invariant f.role ≡ false
+    → forms_invariants (map form_plain (drop i xs)) ≡ forms_invariants (map form_plain (drop (i + 1) xs))
+none_there xs i f h e = ap (λ ys. forms_invariants (map form_plain ys)) h ∙ ap (λ ys. ys ++ forms_invariants (map form_plain (drop (i + 1) xs))) (role_none f.role (plain_flat f.body) e)
+
+grown : {A : Type 0} (xs : List A) (x : A) → length (xs ++ x ∷ []) ≡ length xs + 1
+grown [] x = refl
+grown (y ∷ xs) x = let r = grown xs x in omega (arith, r)
+
+joined : {A B : Type 0} (g : A → B) (xs : List A) (x : A) (ys : List B) → map g (xs ++ x ∷ []) ++ ys ≡ map g xs ++ g x ∷ ys
+joined g [] x ys = refl
+joined g (z ∷ xs) x ys = ap (λ zs. g z ∷ zs) (joined g xs x ys)
+
+put : {A : Type 0} (xs : List A) (x : A) (ys : List A) → (xs ++ x ∷ []) ++ ys ≡ xs ++ x ∷ ys
+put [] x ys = refl
+put (z ∷ xs) x ys = ap (λ zs. z ∷ zs) (put xs x ys)
+
+pub reachable_on : (c : Coding) (xs : List FlatFormula) (i : ℕ) (f : FlatFormula) (all more : List Formula) (x : Formula) (total : List PlainFormula) → drop i xs ≡ f ∷ drop (i + 1) xs → is_invariant f.role ≡ true
+    → more ≡ all ++ x ∷ [] → plain_formula x ≡ reachable_of c (length all) (plain_flat f.body) → map plain_formula all ++ reachables_from c (length all) (forms_invariants (map form_plain (drop i xs))) ≡ total
+    → map plain_formula more ++ reachables_from c (length more) (forms_invariants (map form_plain (drop (i + 1) xs))) ≡ total
+reachable_on c xs i f all more x total h e m p k =
+    ap (λ ys. map plain_formula ys ++ reachables_from c (length ys) (forms_invariants (map form_plain (drop (i + 1) xs)))) m
+    ∙ joined plain_formula all x (reachables_from c (length (all ++ x ∷ [])) (forms_invariants (map form_plain (drop (i + 1) xs))))
+    ∙ ap (λ n. map plain_formula all ++ plain_formula x ∷ reachables_from c n (forms_invariants (map form_plain (drop (i + 1) xs)))) (grown all x)
+    ∙ ap (λ y. map plain_formula all ++ y ∷ reachables_from c (length all + 1) (forms_invariants (map form_plain (drop (i + 1) xs)))) p
+    ∙ ap (λ es. map plain_formula all ++ reachables_from c (length all) es) (sym (one_there xs i f h e)) ∙ k
+
+pub reachable_off : (c : Coding) (xs : List FlatFormula) (i : ℕ) (f : FlatFormula) (all : List Formula) (total : List PlainFormula) → drop i xs ≡ f ∷ drop (i + 1) xs → is_invariant f.role ≡ false
+    → map plain_formula all ++ reachables_from c (length all) (forms_invariants (map form_plain (drop i xs))) ≡ total
+    → map plain_formula all ++ reachables_from c (length all) (forms_invariants (map form_plain (drop (i + 1) xs))) ≡ total
+reachable_off c xs i f all total h e k = ap (λ es. map plain_formula all ++ reachables_from c (length all) es) (sym (none_there xs i f h e)) ∙ k
+
+pub query_on : (xs : List FlatFormula) (i : ℕ) (f : FlatFormula) (all more : List Query) (x : Query) (total : List Query) → drop i xs ≡ f ∷ drop (i + 1) xs → is_invariant f.role ≡ true
+    → more ≡ all ++ x ∷ [] → x ≡ query_of (length all) → all ++ queries_from (length all) (forms_invariants (map form_plain (drop i xs))) ≡ total
+    → more ++ queries_from (length more) (forms_invariants (map form_plain (drop (i + 1) xs))) ≡ total
+query_on xs i f all more x total h e m p k =
+    ap (λ ys. ys ++ queries_from (length ys) (forms_invariants (map form_plain (drop (i + 1) xs)))) m
+    ∙ put all x (queries_from (length (all ++ x ∷ [])) (forms_invariants (map form_plain (drop (i + 1) xs))))
+    ∙ ap (λ n. all ++ x ∷ queries_from n (forms_invariants (map form_plain (drop (i + 1) xs)))) (grown all x)
+    ∙ ap (λ y. all ++ y ∷ queries_from (length all + 1) (forms_invariants (map form_plain (drop (i + 1) xs)))) p
+    ∙ ap (λ es. all ++ queries_from (length all) es) (sym (one_there xs i f h e)) ∙ k
+
+pub query_off : (xs : List FlatFormula) (i : ℕ) (f : FlatFormula) (all : List Query) (total : List Query) → drop i xs ≡ f ∷ drop (i + 1) xs → is_invariant f.role ≡ false
+    → all ++ queries_from (length all) (forms_invariants (map form_plain (drop i xs))) ≡ total → all ++ queries_from (length all) (forms_invariants (map form_plain (drop (i + 1) xs))) ≡ total
+query_off xs i f all total h e k = ap (λ es. all ++ queries_from (length all) es) (sym (none_there xs i f h e)) ∙ k
+
+-- ---- the parts of a script
+
+abbrev system_with : List ℕ → (ins outs locs : List Variable) → (init trans inv : Tree) → List Subsystem → PlainSystem
+system_with name ins outs locs init trans inv subsystems =
+    record { name = name; inputs = ins; outputs = outs; locals = locs; init = init; trans = trans; inv = inv; subsystems = subsystems }
+
+pub system_same : (n m : List ℕ) (i j o p l k : List Variable) (f g t u v w : Tree) (s r : List Subsystem) → n ≡ m → i ≡ j → o ≡ p → l ≡ k → f ≡ g → t ≡ u → v ≡ w → s ≡ r
+    → system_with n i o l f t v s ≡ system_with m j p k g u w r
+system_same n m i j o p l k f g t u v w s r a b c d e h q z =
+    ap (λ x. system_with x i o l f t v s) a ∙ ap (λ x. system_with m x o l f t v s) b ∙ ap (λ x. system_with m j x l f t v s) c ∙ ap (λ x. system_with m j p x f t v s) d
+    ∙ ap (λ x. system_with m j p k x t v s) e ∙ ap (λ x. system_with m j p k g x v s) h ∙ ap (λ x. system_with m j p k g u x s) q ∙ ap (λ x. system_with m j p k g u w x) z
+
+abbrev check_with : (ins outs locs : List Variable) → (assumptions currents reachables : List PlainFormula) → List Query → PlainCheck
+check_with ins outs locs assumptions currents reachables queries =
+    record { place = record { line = 1; column = 1; offset = 0 }; system = 0; inputs = ins; outputs = outs; locals = locs; assumptions = assumptions; currents = currents; reachables = reachables; queries = queries }
+
+pub check_same : (i j o p l k : List Variable) (f g t u v w : List PlainFormula) (s r : List Query) → i ≡ j → o ≡ p → l ≡ k → f ≡ g → t ≡ u → v ≡ w → s ≡ r → check_with i o l f t v s ≡ check_with j p k g u w r
+check_same i j o p l k f g t u v w s r b c d e h q z =
+    ap (λ x. check_with x o l f t v s) b ∙ ap (λ x. check_with j x l f t v s) c ∙ ap (λ x. check_with j p x f t v s) d
+    ∙ ap (λ x. check_with j p k x t v s) e ∙ ap (λ x. check_with j p k g x v s) h ∙ ap (λ x. check_with j p k g u x s) q ∙ ap (λ x. check_with j p k g u w x) z
+
+pub script_same : (l m : List ℕ) (o p : ScopeState) (s t : PlainSystem) (c d : PlainCheck) → l ≡ m → o ≡ p → s ≡ t → c ≡ d → script_with l o s c ≡ script_with m p t d
+script_same l m o p s t c d a b e f =
+    ap (λ x. script_with x o s c) a ∙ ap (λ x. script_with m x s c) b ∙ ap (λ x. script_with m p x c) e ∙ ap (λ x. script_with m p t x) f
+
+pub spelled_by : (s t : PlainScript) → s ≡ t → ∥ IsSpelled t ∥₁ → ∥ IsSpelled s ∥₁
+spelled_by s t e h = subst (λ (x : PlainScript). ∥ IsSpelled x ∥₁) (sym e) h
+
+abbrev pub coding_with : ℕ → (ℕ → ℕ) → Coding
+coding_with width place = record { width = width; place = place }
+
+pub coding_is : (places : List ℕ) (width : ℕ) (items : List FlatItem) (symbols : List (List ℕ)) (formulas : List FlatFormula) → (λ k. get_or places k 0) ≡ place_of_item (map item_plain items)
+    → coding_with width (λ k. get_or places k 0) ≡ coding_of (flat_in items symbols formulas) width
+coding_is places width items symbols formulas h = ap (coding_with width) h
+
+abbrev scope_with : List Enumeration → ScopeState
+scope_with es = record { enumerations = es; sorts = []; functions = [] }
+
+abbrev symbols_as : List ℕ → List (List ℕ) → Enumeration
+symbols_as name constants = record { name = name; constants = constants }
+
+some_symbols : (symbols : List (List ℕ)) → (length symbols ≡ 0 → ⊥) → symbols_as (codes "Symbol") (map (λ x. codes "c." ++ x) symbols) ∷ [] ≡ symbol_sort symbols
+some_symbols [] h = absurd (h refl)
+some_symbols (s ∷ ss) h = refl
+
+-- the scope to which the symbols are added
+pub scope_is : (old new : ScopeState) (name : List ℕ) (constants symbols : List (List ℕ)) (added : Bool) → old ≡ no_scope → name ≡ codes "Symbol" → constants ≡ map (λ x. codes "c." ++ x) symbols → (length symbols ≡ 0 → ⊥)
+    → added ≡ true → new ≡ (if added then with_enumeration old name constants else old) → new ≡ record { enumerations = symbol_sort symbols; sorts = []; functions = [] }
+scope_is old new name constants symbols added o n d h a e =
+    e ∙ ap (λ b. if b then with_enumeration old name constants else old) a
+    ∙ ap (λ s. with_enumeration s name constants) o
+    ∙ ap (λ x. scope_with (symbols_as x constants ∷ [])) n
+    ∙ ap (λ x. scope_with (symbols_as (codes "Symbol") x ∷ [])) d
+    ∙ ap scope_with (some_symbols symbols h)
+
+pub scope_by : (symbols others : List (List ℕ)) → symbols ≡ others → scope_with (symbol_sort symbols) ≡ scope_with (symbol_sort others)
+scope_by symbols others h = ap (λ x. scope_with (symbol_sort x)) h
+
+pub symbols_are : (new : ScopeState) (symbols : List (List ℕ)) → new ≡ record { enumerations = symbol_sort symbols; sorts = []; functions = [] } → new ≡ symbol_scope symbols
+unfolding symbol_scope
+symbols_are new symbols e = e
+
+pub no_symbols : (old : ScopeState) (symbols : List (List ℕ)) → old ≡ no_scope → length symbols ≡ 0 → old ≡ symbol_scope symbols
+unfolding symbol_scope
+no_symbols old [] e h = e
+no_symbols old (s ∷ ss) e h = absurd (omega (arith, h))
+
+-- ---- the whole script
+
+pub system_form_is : (flat : PlainFlat) (w : ℕ) → system_of flat w ≡ system_form flat w
+unfolding system_form
+system_form_is flat w = refl
+
+pub check_form_is : (flat : PlainFlat) (w : ℕ) → check_of flat w ≡ check_form flat w
+unfolding check_form
+check_form_is flat w = refl
+
+pub script_form_is : (flat : PlainFlat) (w : ℕ) → script_form flat w ≡ script_of flat w
+unfolding script_form
+script_form_is flat w = refl
+
+pub with_check : (l : List ℕ) (o : ScopeState) (s : PlainSystem) (c d : PlainCheck) → c ≡ d → script_with l o s c ≡ script_with l o s d
+with_check l o s c d e = ap (λ x. script_with l o s x) e
+
+pub with_system : (l : List ℕ) (o : ScopeState) (s t : PlainSystem) (c : PlainCheck) → s ≡ t → script_with l o s c ≡ script_with l o t c
+with_system l o s t c e = ap (λ x. script_with l o x c) e
+
+script_is : (flat : PlainFlat) (w : ℕ) → script_under (codes "QF_BV") (scope_with (symbol_sort flat.symbols)) flat w ≡ script_form flat w
+unfolding system_form check_form script_form
+script_is flat w = refl
+
+under_symbols : (l : List ℕ) (o : ScopeState) (flat : PlainFlat) (w : ℕ) → l ≡ codes "QF_BV" → o ≡ scope_with (symbol_sort flat.symbols) → script_under l o flat w ≡ script_under (codes "QF_BV") (scope_with (symbol_sort flat.symbols)) flat w
+under_symbols l o flat w e h = ap (λ x. script_under x o flat w) e ∙ ap (λ x. script_under (codes "QF_BV") x flat w) h
+
+scope_form_is : (symbols : List (List ℕ)) → symbol_scope symbols ≡ scope_with (symbol_sort symbols)
+unfolding symbol_scope
+scope_form_is symbols = refl
+
+pub under_is : (l : List ℕ) (o : ScopeState) (symbols : List (List ℕ)) (flat : PlainFlat) (w : ℕ) → l ≡ codes "QF_BV" → o ≡ symbol_scope symbols → symbols ≡ flat.symbols → script_under l o flat w ≡ script_form flat w
+under_is l o symbols flat w e h s = under_symbols l o flat w e (h ∙ scope_form_is symbols ∙ scope_by symbols flat.symbols s) ∙ script_is flat w
+
+pub width_is : (flat : PlainFlat) (w v : ℕ) → w ≡ v → script_form flat w ≡ script_form flat v
+width_is flat w v e = ap (script_form flat) e
+
+pub set_is : (items : List FlatItem) (symbols set : List (List ℕ)) (formulas : List FlatFormula) (width : ℕ) → set ≡ symbols → script_form (flat_in items set formulas) width ≡ script_form (flat_in items symbols formulas) width
+set_is items symbols set formulas width e = ap (λ t. script_form (flat_in items t formulas) width) e
+
+-- what is made is the script
+pub made_is : (r : Result Script NoMemory) (x y : PlainScript) → x ≡ y → IfOk r (λ t. plain_script t ≡ x) → IfOk r (λ t. plain_script t ≡ y)
+made_is (Ok s) x y e h = h ∙ e
+made_is (Err n) x y e h = h

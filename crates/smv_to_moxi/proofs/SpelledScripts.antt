@@ -1,0 +1,30 @@
+-- Some forms spell the script of a flat form.
+use Rattle.std.proofs.Common.{◌≡◌, ℕ, List, refl, sym, ap, ◌∙◌, subst}
+use Rattle.std.proofs.Math.Logic.{∥∥₁_map}
+use Rattle.smv_items.specs.declared.items.FlatItem.{FlatItem}
+use Rattle.smv_flat.specs.declared.forms.FlatFormula.{FlatFormula}
+use Rattle.smv_flat.specs.FlatForms.{flat_smv}
+use Rattle.smv_flatten.specs.FlatModel.{FlatModel, IsOfModel, flat_plain}
+use Rattle.moxi_scripts.specs.Invariant.{IsSpelled}
+use Rattle.moxi_scripts.specs.Script.{PlainScript}
+use Rattle.smv_script.specs.Script.{script_of}
+use Rattle.smv_script_whole.specs.Laws.{ScriptsAreSpelled}
+use Rattle.smv_script_terms.specs.Sources.{flat_in}
+use Rattle.smv_to_moxi.specs.Assembling.{script_form}
+use Rattle.smv_to_moxi.proofs.Scripts.{script_form_is}
+
+pub parts_are : (f : FlatModel) (items : List FlatItem) (symbols : List (List ℕ)) (formulas : List FlatFormula) (width : ℕ) → items ≡ f.items → symbols ≡ f.symbols → formulas ≡ f.formulas → width ≡ f.width
+    → script_form (flat_in items symbols formulas) width ≡ script_of (flat_plain f) f.width
+parts_are f items symbols formulas width i s o w =
+    ap (λ x. script_form (flat_in x symbols formulas) width) i ∙ ap (λ x. script_form (flat_in f.items x formulas) width) s
+    ∙ ap (λ x. script_form (flat_in f.items f.symbols x) width) o ∙ ap (λ n. script_form (flat_plain f) n) w ∙ script_form_is (flat_plain f) f.width
+
+of_model : ScriptsAreSpelled → (f : FlatModel) → IsOfModel f → IsSpelled (script_of (flat_plain f) f.width)
+of_model law f m =
+    subst (λ (s : PlainScript). IsSpelled s) (sym (ap (λ x. script_of x f.width) m.form ∙ ap (script_of (flat_smv m.source)) m.width))
+    (law m.source m.read.end m.read.text m.read.tokens m.read.lexed m.read.spelled m.needed m.accepted)
+
+pub spelled_parts : ScriptsAreSpelled → (f : FlatModel) → ∥ IsOfModel f ∥₁ → (items : List FlatItem) (symbols : List (List ℕ)) (formulas : List FlatFormula) (width : ℕ) → items ≡ f.items → symbols ≡ f.symbols → formulas ≡ f.formulas
+    → width ≡ f.width → ∥ IsSpelled (script_form (flat_in items symbols formulas) width) ∥₁
+spelled_parts law f m items symbols formulas width i s o w =
+    ∥∥₁_map m (λ (k : IsOfModel f). subst (λ (t : PlainScript). IsSpelled t) (sym (parts_are f items symbols formulas width i s o w)) (of_model law f k))

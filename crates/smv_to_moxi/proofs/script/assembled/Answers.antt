@@ -1,0 +1,18 @@
+use Rattle.std.proofs.Common.{◌∙◌, ◌++◌, ◌∷◌, [], ap, map, Some}
+use Rattle.moxi_scripts.specs.Invariant.{script_of}
+use Rattle.moxi_scripts.specs.Script.{plain_system}
+use Rattle.smv_to_moxi.proofs.Scripts.{spelled_by}
+use Rattle.smv_to_moxi.proofs.script.assembled.Goals as goal
+
+pub invariant_of-result : goal.invariant_of-result
+invariant_of-result c = record {
+  spelled = spelled_by _ _
+      (ap (λ o. script_of (Some c.args.logic) o c.push.new.self c.args.check) c.replace-scope.ensures.value
+      ∙ ap (λ ss. script_of (Some c.args.logic) c.args.scope.now ss c.args.check) (c.in_ok-push.ensures.ok ∙ ap (λ ss. ss ++ c.args.system ∷ []) c.new-systems.ensures))
+      c.requires;
+}
+
+pub returns : goal.returns
+returns c =
+    ap (λ o. script_of (Some c.args.logic) o c.push.new.self c.args.check) c.replace-scope.ensures.value
+    ∙ ap (λ ss. script_of (Some c.args.logic) c.args.scope.now ss c.args.check) (c.in_ok-push.ensures.ok ∙ ap (λ ss. ss ++ c.args.system ∷ []) c.new-systems.ensures)

@@ -1,0 +1,9 @@
+//! The script of MoXI that stands for a flat form, as code makes it.
+#![tactic(auto)]
+
+mod flat_script;
+mod lift;
+mod script;
+
+pub use flat_script::to_moxi;
+pub use lift::lift_states;

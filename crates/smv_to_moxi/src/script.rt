@@ -1,0 +1,352 @@
+// The script of a flat form.
+ghost use Rattle.moxi_terms.specs.Names.{no_scope};
+ghost use Rattle.std.specs.Prelude.{OnOk, ◌≡◌, ◌++◌, [], IfOk, map, codes, decimal};
+ghost use Rattle.moxi_scripts.specs.Invariant.{IsSpelled};
+ghost use Rattle.moxi_scripts.specs.Script.{plain_check, plain_formula, plain_system};
+ghost use Rattle.moxi_scripts.specs.ScriptView.{plain_script};
+ghost use Rattle.smv_items.specs.FlatItemView.{item_plain};
+ghost use Rattle.smv_flat.specs.FlatFormulas.{form_plain};
+ghost use Rattle.smv_flat.specs.FlatView.{plain_flat};
+ghost use Rattle.smv_flat_laws.specs.FlatTruth.{forms_invariants};
+ghost use Rattle.smv_script.specs.Script.{coding_of, place_of_item, query_of, queries_from, reachables_from, symbol_sort};
+ghost use Rattle.smv_script_terms.specs.Questions.{codes_of, place_at};
+ghost use Rattle.smv_script_terms.specs.Sources.{flat_in, source_plain};
+ghost use Rattle.smv_to_moxi.specs.Assembling.{symbol_scope, check_form, is_invariant, reachable_of, script_form, script_under, script_with, system_form};
+
+use moxi_scripts::{Check, Formula, Formulas, Queries, Query, Script, Subsystems, System, Systems};
+use moxi_terms::Scope;
+use name_set::NameSet;
+use smv_flat::{FlatFormula, Role};
+use smv_items::FlatItem;
+use smv_script_terms::{
+    Coding, Group, Question, Source, formula_of, negated, places_of, stated, variables_in,
+};
+use smv_text::When;
+use std::alloc::Global;
+use std::mem;
+use text_core::{Name, Names, NoMemory, Numbers, Place, Text};
+
+// The name of these two pieces.
+fn name_of(alloc: Global, first: &[u8], second: &[u8]) -> Result<Name, NoMemory>
+    ensures { IfOk result (λ n. n ≡ first.now ++ second.now) }
+{
+    let mut text = Text::new(alloc);
+    text.put(first)?;
+    text.put(second)?;
+    Name::of(alloc, text.bytes())
+}
+
+fn constant_names(alloc: Global, symbols: &Names) -> Result<Names, NoMemory>
+    ensures { IfOk result (λ ns. ns ≡ map (λ x. codes "c." ++ x) symbols.now) }
+{
+    let mut all = Names::new(alloc);
+    for i in 0..symbols.len() {
+        let name = name_of(alloc, b"c.", symbols.at(i).bytes())?;
+        all.push(name)?;
+    }
+    Ok(all)
+}
+
+// Declares the one sort that has the symbols as constants, where there are any. More than 32 bits number stand in no accepted model.
+fn declare_symbols(alloc: Global, scope: &mut Scope, symbols: &Names) -> Result<(), NoMemory>
+    requires { scope.old ≡ no_scope }
+    ensures { OnOk result (scope.new ≡ symbol_scope symbols.now) }
+{
+    if symbols.len() == 0 {
+        return Ok(());
+    }
+    let constants = constant_names(alloc, symbols)?;
+    if constants.len() == 0 || constants.len() > u32::MAX as usize {
+        return Err(NoMemory);
+    }
+    let name = Name::of(alloc, b"Symbol")?;
+    match scope.add_enumeration(name, constants) {
+        Ok(true) => Ok(()),
+        Ok(false) => Err(NoMemory),
+        Err(e) => Err(e),
+    }
+}
+
+// The symbols by their numbers. The symbols of a flat form differ.
+fn symbol_set(alloc: Global, symbols: &Names) -> Result<NameSet, NoMemory>
+    ensures { IfOk result (λ s. s ≡ symbols.now) }
+{
+    let mut set = NameSet::new(alloc);
+    match set.declare_all(alloc, symbols) {
+        Ok(true) => Ok(set),
+        Ok(false) => Err(NoMemory),
+        Err(e) => Err(e),
+    }
+}
+
+fn system_of<'f>(alloc: Global, coding: &Coding, source: &Source<'f>) -> Result<System, NoMemory>
+    requires { codes_of coding.now ≡ coding_of (source_plain source.now) coding.now.width }
+    ensures { IfOk result (λ s. plain_system s ≡ system_form (source_plain source.now) coding.now.width) }
+{
+    let name = Name::of(alloc, b"main")?;
+    let width = coding.width;
+    let inputs = variables_in(alloc, width, Group::Inputs, source.items)?;
+    let outputs = variables_in(alloc, width, Group::Outputs, source.items)?;
+    let locals = variables_in(alloc, width, Group::Locals, source.items)?;
+    let init = formula_of(alloc, coding, When::First, source)?;
+    let trans = formula_of(alloc, coding, When::Following, source)?;
+    let inv = formula_of(alloc, coding, When::Always, source)?;
+    Ok(System {
+        name,
+        inputs,
+        outputs,
+        locals,
+        init,
+        trans,
+        inv,
+        subsystems: Subsystems::new(alloc),
+    })
+}
+
+// A letter with a dot, and a number.
+fn numbered(alloc: Global, letter: &[u8], number: usize) -> Result<Name, NoMemory>
+    ensures { IfOk result (λ n. n ≡ letter.now ++ decimal number) }
+{
+    let mut text = Text::new(alloc);
+    text.put(letter)?;
+    text.put_unsigned(number as u128)?;
+    Name::of(alloc, text.bytes())
+}
+
+fn query_of(alloc: Global, j: usize) -> Result<Query, NoMemory>
+    ensures { IfOk result (λ q. q ≡ query_of j) }
+{
+    let name = numbered(alloc, b"q.", j)?;
+    let mut reachables = Numbers::new(alloc);
+    reachables.push(j as u64)?;
+    Ok(Query {
+        name,
+        assumptions: Numbers::new(alloc),
+        currents: Numbers::new(alloc),
+        reachables,
+    })
+}
+
+// The formula that an invariant is broken.
+fn reachable_of(
+    alloc: Global,
+    coding: &Coding,
+    j: usize,
+    form: &FlatFormula,
+) -> Result<Formula, NoMemory>
+    ensures { IfOk result (λ f. plain_formula f ≡ reachable_of (codes_of coding.now) j (plain_flat form.now.body)) }
+{
+    let name = numbered(alloc, b"r.", j)?;
+    let held = stated(alloc, coding, 0, Question::Value, &form.body)?;
+    let term = negated(alloc, held)?;
+    Ok(Formula { name, term })
+}
+
+// Is the formula an invariant?
+fn is_invariant(form: &FlatFormula) -> bool
+    ensures { result ≡ is_invariant form.now.role }
+{
+    match form.role {
+        Role::Invariant => true,
+        Role::Body(_) | Role::Assign(_, _) | Role::Init | Role::Trans | Role::Invar => false,
+    }
+}
+
+// What is reached where an invariant is broken, for each.
+fn reachables_of(
+    alloc: Global,
+    coding: &Coding,
+    formulas: &[FlatFormula],
+) -> Result<Formulas, NoMemory>
+    ensures { IfOk result (λ fs. map plain_formula fs ≡ reachables_from (codes_of coding.now) 0 (forms_invariants (map form_plain formulas.now))) }
+{
+    let mut all = Formulas::new(alloc);
+    for form in formulas {
+        if is_invariant(form) {
+            let formula = reachable_of(alloc, coding, all.len(), form)?;
+            all.push(formula)?;
+        }
+    }
+    Ok(all)
+}
+
+// The query for each invariant.
+fn queries_of(alloc: Global, formulas: &[FlatFormula]) -> Result<Queries, NoMemory>
+    ensures { IfOk result (λ qs. qs ≡ queries_from 0 (forms_invariants (map form_plain formulas.now))) }
+{
+    let mut all = Queries::new(alloc);
+    for form in formulas {
+        if is_invariant(form) {
+            let query = query_of(alloc, all.len())?;
+            all.push(query)?;
+        }
+    }
+    Ok(all)
+}
+
+fn check_of<'f>(alloc: Global, coding: &Coding, source: &Source<'f>) -> Result<Check, NoMemory>
+    requires { codes_of coding.now ≡ coding_of (source_plain source.now) coding.now.width }
+    ensures { IfOk result (λ c. plain_check c ≡ check_form (source_plain source.now) coding.now.width) }
+{
+    let width = coding.width;
+    let inputs = variables_in(alloc, width, Group::Inputs, source.items)?;
+    let outputs = variables_in(alloc, width, Group::Outputs, source.items)?;
+    let locals = variables_in(alloc, width, Group::Locals, source.items)?;
+    let reachables = reachables_of(alloc, coding, source.formulas)?;
+    let queries = queries_of(alloc, source.formulas)?;
+    Ok(Check {
+        place: Place {
+            line: 1,
+            column: 1,
+            offset: 0,
+        },
+        system: 0,
+        inputs,
+        outputs,
+        locals,
+        assumptions: Formulas::new(alloc),
+        currents: Formulas::new(alloc),
+        reachables,
+        queries,
+    })
+}
+
+// The bits of integers, and the numbers of the items' variables.
+fn coding_of(alloc: Global, width: u32, items: &[FlatItem]) -> Result<Coding, NoMemory>
+    ensures width { IfOk result (λ c. c.width ≡ width) }
+    ensures places { IfOk result (λ c. (λ k. place_at c.places.items k) ≡ place_of_item (map item_plain items.now)) }
+{
+    let places = places_of(alloc, items)?;
+    Ok(Coding { width, places })
+}
+
+// The script of these parts; the scope is taken out.
+fn assembled(
+    alloc: Global,
+    logic: Name,
+    scope: &mut Scope,
+    system: System,
+    check: Check,
+) -> Result<Script, NoMemory>
+    requires { ∥ IsSpelled (script_with logic scope.old (plain_system system) (plain_check check)) ∥₁ }
+    ensures { IfOk result (λ s. plain_script s ≡ script_with logic scope.old (plain_system system) (plain_check check)) }
+{
+    let mut systems = Systems::new(alloc);
+    systems.push(system)?;
+    let scope = mem::replace(scope, Scope::new(alloc));
+    Ok(Script {
+        logic: Some(logic),
+        scope,
+        systems,
+        check,
+    })
+}
+
+// The script with this system.
+fn script_of_system<'f>(
+    alloc: Global,
+    coding: &Coding,
+    source: &Source<'f>,
+    logic: Name,
+    scope: &mut Scope,
+    system: System,
+) -> Result<Script, NoMemory>
+    requires coding { codes_of coding.now ≡ coding_of (source_plain source.now) coding.now.width }
+    requires spelled { ∥ IsSpelled (script_with logic scope.old (plain_system system) (check_form (source_plain source.now) coding.now.width)) ∥₁ }
+    ensures { IfOk result (λ s. plain_script s ≡ script_with logic scope.old (plain_system system) (check_form (source_plain source.now) coding.now.width)) }
+{
+    match check_of(alloc, coding, source) {
+        Ok(check) => assembled(alloc, logic, scope, system, check),
+        Err(e) => {
+            drop(logic);
+            drop(system);
+            Err(e)
+        }
+    }
+}
+
+// The script with this logic and this scope.
+fn script_of_scope<'f>(
+    alloc: Global,
+    coding: &Coding,
+    source: &Source<'f>,
+    logic: Name,
+    scope: &mut Scope,
+) -> Result<Script, NoMemory>
+    requires coding { codes_of coding.now ≡ coding_of (source_plain source.now) coding.now.width }
+    requires spelled { ∥ IsSpelled (script_under logic scope.old (source_plain source.now) coding.now.width) ∥₁ }
+    ensures { IfOk result (λ s. plain_script s ≡ script_under logic scope.old (source_plain source.now) coding.now.width) }
+{
+    match system_of(alloc, coding, source) {
+        Ok(system) => script_of_system(alloc, coding, source, logic, scope, system),
+        Err(e) => {
+            drop(logic);
+            Err(e)
+        }
+    }
+}
+
+// The logic of words.
+fn logic_of(alloc: Global) -> Result<Name, NoMemory>
+    ensures { IfOk result (λ n. n ≡ codes "QF_BV") }
+{
+    Name::of(alloc, b"QF_BV")
+}
+
+// The script of a flat form with this coding, given a scope of nothing.
+fn coded_script<'f>(
+    alloc: Global,
+    coding: &Coding,
+    source: &Source<'f>,
+    symbols: &Names,
+    scope: &mut Scope,
+) -> Result<Script, NoMemory>
+    requires nothing { scope.old ≡ no_scope }
+    requires same { symbols.now ≡ source.now.symbols.now }
+    requires coding { codes_of coding.now ≡ coding_of (source_plain source.now) coding.now.width }
+    requires spelled { ∥ IsSpelled (script_form (source_plain source.now) coding.now.width) ∥₁ }
+    ensures { IfOk result (λ s. plain_script s ≡ script_form (source_plain source.now) coding.now.width) }
+{
+    declare_symbols(alloc, scope, symbols)?;
+    let logic = logic_of(alloc)?;
+    script_of_scope(alloc, coding, source, logic, scope)
+}
+
+// The script of this source, whose integers have so many bits.
+fn script_from<'f>(
+    alloc: Global,
+    width: u32,
+    source: &Source<'f>,
+    symbols: &Names,
+    scope: &mut Scope,
+) -> Result<Script, NoMemory>
+    requires nothing { scope.old ≡ no_scope }
+    requires same { symbols.now ≡ source.now.symbols.now }
+    requires spelled { ∥ IsSpelled (script_form (source_plain source.now) width) ∥₁ }
+    ensures { IfOk result (λ s. plain_script s ≡ script_form (source_plain source.now) width) }
+{
+    let coding = coding_of(alloc, width, source.items)?;
+    coded_script(alloc, &coding, source, symbols, scope)
+}
+
+/// The script of a flat form of these items, symbols and formulas, whose integers have so many bits.
+pub(crate) fn script_in(
+    alloc: Global,
+    width: u32,
+    items: &[FlatItem],
+    symbols: &Names,
+    formulas: &[FlatFormula],
+    scope: &mut Scope,
+) -> Result<Script, NoMemory>
+    requires nothing { scope.old ≡ no_scope }
+    requires spelled { ∥ IsSpelled (script_form (flat_in items.now symbols.now formulas.now) width) ∥₁ }
+    ensures { IfOk result (λ s. plain_script s ≡ script_form (flat_in items.now symbols.now formulas.now) width) }
+{
+    let set = symbol_set(alloc, symbols)?;
+    let source = Source {
+        items,
+        symbols: &set,
+        formulas,
+    };
+    script_from(alloc, width, &source, symbols, scope)
+}
