@@ -1,0 +1,17 @@
+pub mod Renumbered
+pub mod Values
+pub mod Nesting
+pub mod Fine
+pub mod Shown
+pub mod Written
+pub mod Scripts
+pub mod Tested
+pub mod Judged
+pub mod Kept
+pub mod SortedSystem
+pub mod Small
+pub mod Enough
+pub mod Alike
+pub mod WrittenOut
+pub mod Single
+pub mod Sizes

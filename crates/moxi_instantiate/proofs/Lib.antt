@@ -1,0 +1,11 @@
+pub mod Capping
+pub mod Bodies
+pub mod Filling
+pub mod Ordering
+pub mod Marking
+pub mod CheckLaws
+pub mod Measured
+pub mod Copied
+pub mod Held
+pub mod Named
+pub mod Placed

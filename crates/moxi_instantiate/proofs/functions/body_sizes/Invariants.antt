@@ -1,0 +1,11 @@
+use Rattle.std.proofs.Common.{◌≡◌, length, map}
+use Rattle.moxi_terms.specs.View.{plain_function}
+use Rattle.moxi_sizes.specs.Terms.{measured_upto, term_size}
+use Rattle.moxi_instantiate.specs.Counting.{AreCounted}
+use Rattle.moxi_instantiate.proofs.functions.body_sizes.Given as goal
+
+abbrev pub invariant-loop-k : goal.invariant-loop-k
+invariant-loop-k l = record {
+  long : length l.sizes.items ≡ l.k;
+  counted : AreCounted (measured_upto term_size (map plain_function l.functions) l.k) l.sizes.items;
+}

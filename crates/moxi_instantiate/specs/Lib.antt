@@ -1,0 +1,5 @@
+pub mod Counting
+pub mod Amounts
+pub mod CheckCounts
+pub mod Copying
+pub mod PlainParts

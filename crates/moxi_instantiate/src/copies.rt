@@ -1,0 +1,76 @@
+// Copies of terms over other numbers of their variables.
+ghost use Rattle.std.specs.Prelude.{◌≡◌, map, IfOk, OnOk, ◌++◌, ◌∷◌, []};
+ghost use Rattle.moxi_terms.specs.View.{plain};
+ghost use Rattle.moxi_flat.specs.Renumbering.{renumbered};
+ghost use Rattle.moxi_instantiate.specs.Copying.{number_in};
+
+use moxi_terms::{Term, Terms};
+use std::alloc::Global;
+use text_core::{Names, NoMemory};
+
+fn number_in(places: &[u32], v: u32) -> u32
+    ensures { result ≡ number_in places.now v }
+{
+    match places.get(v as usize) {
+        Some(place) => *place,
+        None => 0,
+    }
+}
+
+fn copied_names(alloc: Global, names: &Names) -> Result<Names, NoMemory>
+    ensures { IfOk result (λ copy. copy ≡ names.now) }
+{
+    let mut copy = Names::new(alloc);
+    for k in 0..names.len() {
+        let name = names.at(k).duplicate(alloc)?;
+        copy.push(name)?;
+    }
+    Ok(copy)
+}
+
+fn put_term(terms: &mut Terms, term: Term) -> Result<(), NoMemory>
+    ensures { OnOk result (terms.new.items ≡ terms.old.items ++ term ∷ []) }
+{
+    Ok(terms.push(term)?)
+}
+
+/// A term in which each variable has the number at its place.
+#[inline(never)]
+#[cycle(copy)]
+pub fn renumbered(alloc: Global, places: &[u32], term: &Term) -> Result<Term, NoMemory>
+    ensures { IfOk result (λ copy. plain copy ≡ renumbered (number_in places.now) (plain term.now)) }
+{
+    match term {
+        Term::Constant(value) => Ok(Term::Constant(*value)),
+        Term::Variable(v, primed) => Ok(Term::Variable(number_in(places, *v), *primed)),
+        Term::Bound(i) => Ok(Term::Bound(*i)),
+        Term::Apply(op, terms) => {
+            let copies = all_renumbered(alloc, places, terms)?;
+            Ok(Term::Apply(*op, copies))
+        }
+        Term::Let(names, terms, body) => {
+            let bound = copied_names(alloc, names)?;
+            let copies = all_renumbered(alloc, places, terms)?;
+            let inner = renumbered(alloc, places, body)?;
+            let held = Box::new(alloc, inner)?;
+            Ok(Term::Let(bound, copies, held))
+        }
+        Term::Call(n, terms) => {
+            let copies = all_renumbered(alloc, places, terms)?;
+            Ok(Term::Call(*n, copies))
+        }
+    }
+}
+
+#[inline(never)]
+#[cycle(copy)]
+fn all_renumbered(alloc: Global, places: &[u32], terms: &[Term]) -> Result<Terms, NoMemory>
+    ensures { IfOk result (λ copies. map plain copies.items ≡ map (λ t. renumbered (number_in places.now) (plain t)) terms.now) }
+{
+    let mut copies = Vec::new(alloc);
+    for term in terms {
+        let copy = renumbered(alloc, places, term)?;
+        put_term(&mut copies, copy)?;
+    }
+    Ok(copies)
+}

@@ -1,0 +1,69 @@
+// The parts of a flat system: the formulas of each instance over the flat system's variables.
+ghost use Rattle.std.specs.Prelude.{◌≡◌, ◌<◌, ◌+◌, ◌++◌, ◌∷◌, [], ◌^◌, ℕ, length, IfOk, OnOk};
+ghost use Rattle.moxi_scripts.specs.Script.{plain_system};
+ghost use Rattle.moxi_flat.specs.FlatSystem.{part_of, place_inside};
+ghost use Rattle.moxi_instantiate.specs.Copying.{number_in};
+ghost use Rattle.moxi_instantiate.specs.PlainParts.{plain_part};
+
+use crate::copies::renumbered;
+use moxi_scripts::System;
+use moxi_terms::Term;
+use std::alloc::Global;
+use text_core::{NoMemory, Numbers};
+
+/// The formulas of one instance.
+#[derive(Drop)]
+pub struct Part {
+    pub init: Term,
+    pub trans: Term,
+    pub inv: Term,
+}
+
+/// The formulas of an instance of a system, whose variables have the numbers at their places.
+pub fn part_of(alloc: Global, places: &[u32], system: &System) -> Result<Part, NoMemory>
+    ensures { IfOk result (λ part. plain_part part ≡ part_of (number_in places.now) (plain_system system.now)) }
+{
+    let init = renumbered(alloc, places, &system.init)?;
+    let trans = renumbered(alloc, places, &system.trans)?;
+    let inv = renumbered(alloc, places, &system.inv)?;
+    Ok(Part { init, trans, inv })
+}
+
+fn put_place(places: &mut Vec<u32>, place: u32) -> Result<(), NoMemory>
+    ensures { OnOk result (places.new.items ≡ places.old.items ++ place ∷ []) }
+{
+    Ok(places.push(place)?)
+}
+
+/// The places of the variables of an instance: inputs and outputs have those of their actuals, and so many locals begin at `fresh`.
+pub fn places_inside(
+    alloc: Global,
+    places: &[u32],
+    actuals: &Numbers,
+    fresh: u32,
+    locals: usize,
+) -> Result<Vec<u32>, NoMemory>
+    requires { fresh + locals < 2 ^ 32 }
+    ensures long { IfOk result (λ inside. length inside.items ≡ length actuals.now + locals) }
+    ensures places { IfOk result (λ inside. (v : ℕ) → v < length actuals.now + locals → number_in inside.items v ≡ place_inside (number_in places.now) actuals.now fresh v) }
+{
+    let mut inside = Vec::new(alloc);
+    for a in 0..actuals.len() {
+        let actual = *actuals.at(a);
+        let place = number_of(places, actual);
+        put_place(&mut inside, place)?;
+    }
+    for k in 0..locals {
+        put_place(&mut inside, fresh + k as u32)?;
+    }
+    Ok(inside)
+}
+
+fn number_of(places: &[u32], number: u64) -> u32
+    ensures { result ≡ number_in places.now number }
+{
+    match places.get(number as usize) {
+        Some(place) => *place,
+        None => 0,
+    }
+}

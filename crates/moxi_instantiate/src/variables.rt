@@ -1,0 +1,96 @@
+// The variables of all instances inside a system, under dotted names.
+ghost use Rattle.std.specs.Prelude.{◌≡◌, ◌<◌, ◌++◌, map, length, IfOk, OnOk};
+ghost use Rattle.moxi_scripts.specs.Script.{plain_system, system_at};
+ghost use Rattle.moxi_flat.specs.FlatSystem.{locals_upto, named_inside, path_inside};
+ghost use Rattle.moxi_instantiate.specs.Amounts.{AreRanked};
+
+use moxi_scripts::{Subsystem, Systems};
+use moxi_terms::{Variable, Variables};
+use std::alloc::Global;
+use text_core::{Name, NoMemory};
+
+fn append(bytes: &mut Vec<u8>, more: &[u8]) -> Result<(), NoMemory>
+    ensures { OnOk result (bytes.new.items ≡ bytes.old.items ++ more.now) }
+{
+    Ok(bytes.extend_from_slice(more)?)
+}
+
+fn joined(alloc: Global, path: &[u8], name: &[u8]) -> Result<Name, NoMemory>
+    ensures { IfOk result (λ joined. joined ≡ path.now ++ name.now) }
+{
+    let mut bytes = Vec::new(alloc);
+    append(&mut bytes, path)?;
+    append(&mut bytes, name)?;
+    Name::of(alloc, &bytes)
+}
+
+fn path_inside(alloc: Global, path: &[u8], subsystem: &Subsystem) -> Result<Vec<u8>, NoMemory>
+    ensures { IfOk result (λ inside. inside.items ≡ path_inside path.now subsystem.now) }
+{
+    let mut inside = Vec::new(alloc);
+    append(&mut inside, path)?;
+    append(&mut inside, subsystem.name.bytes())?;
+    append(&mut inside, b".")?;
+    Ok(inside)
+}
+
+pub(crate) fn add_named(
+    alloc: Global,
+    path: &[u8],
+    variables: &Variables,
+    all: &mut Variables,
+) -> Result<(), NoMemory>
+    ensures { OnOk result (all.new ≡ all.old ++ named_inside path.now variables.now) }
+{
+    for k in 0..variables.len() {
+        let variable = variables.at(k);
+        let name = joined(alloc, path, variable.name.bytes())?;
+        all.push(Variable {
+            name,
+            sort: variable.sort,
+        })?;
+    }
+    Ok(())
+}
+
+/// Adds the locals of all instances inside the system of this number.
+#[inline(never)]
+#[cycle(locals)]
+pub fn add_locals(
+    alloc: Global,
+    systems: &Systems,
+    path: &[u8],
+    i: u32,
+    all: &mut Variables,
+) -> Result<(), NoMemory>
+    requires ranked { ∥ AreRanked (map plain_system systems.now) ∥₁ }
+    requires there { i < length (map plain_system systems.now) }
+    ensures { OnOk result (all.new ≡ all.old ++ locals_upto (map plain_system systems.now) (length (map plain_system systems.now)) path.now i) }
+{
+    let subsystems = &systems.at(i as usize).subsystems;
+    for k in 0..subsystems.len() {
+        add_subsystem(alloc, systems, path, subsystems.at(k), all)?;
+    }
+    Ok(())
+}
+
+// Adds the locals of a subsystem and of all instances inside it.
+#[inline(never)]
+#[cycle(locals)]
+fn add_subsystem(
+    alloc: Global,
+    systems: &Systems,
+    path: &[u8],
+    subsystem: &Subsystem,
+    all: &mut Variables,
+) -> Result<(), NoMemory>
+    requires ranked { ∥ AreRanked (map plain_system systems.now) ∥₁ }
+    requires there { subsystem.now.system < length (map plain_system systems.now) }
+    ensures { OnOk result (all.new ≡ all.old ++ (named_inside (path_inside path.now subsystem.now) (system_at (map plain_system systems.now) subsystem.now.system).locals
+        ++ locals_upto (map plain_system systems.now) (length (map plain_system systems.now)) (path_inside path.now subsystem.now) subsystem.now.system)) }
+{
+    let inside = path_inside(alloc, path, subsystem)?;
+    let system = systems.at(subsystem.system as usize);
+    add_named(alloc, &inside, &system.locals, all)?;
+    add_locals(alloc, systems, &inside, subsystem.system, all)
+}

@@ -1,0 +1,10 @@
+pub mod Examples
+pub mod Extending
+pub mod Parts
+pub mod VariableLines
+pub mod VariableLaws
+pub mod HeadLines
+pub mod Decoded
+pub mod Queries
+pub mod Systems
+pub mod Framed

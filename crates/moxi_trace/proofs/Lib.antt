@@ -1,0 +1,11 @@
+pub mod Symbols
+pub mod Steps
+pub mod Unique
+pub mod Fits
+pub mod Sound
+pub mod Spelled
+pub mod Going
+pub mod Head
+pub mod Trail
+pub mod Stepping
+pub mod Printed

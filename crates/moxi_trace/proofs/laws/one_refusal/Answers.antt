@@ -1,0 +1,5 @@
+use Rattle.moxi_trace.proofs.Unique as unique
+use Rattle.moxi_trace.proofs.laws.one_refusal.Goals as goal
+
+pub returns : goal.returns
+returns c = unique.one_refusal

@@ -1,0 +1,9 @@
+use Rattle.std.proofs.Common.{◌≡◌, length}
+use Rattle.moxi_trace.specs.Reading.{without_zeros}
+use Rattle.moxi_trace.proofs.reader.without_zeros.Given as goal
+
+abbrev pub invariant-loop-b : goal.invariant-loop-b
+invariant-loop-b l = without_zeros l.rest ≡ without_zeros l.digits
+
+abbrev pub decreases-loop-b : goal.decreases-loop-b
+decreases-loop-b l = length l.rest

@@ -1,0 +1,9 @@
+pub mod Traces
+pub mod Texts
+pub mod Tokens
+pub mod Scans
+pub mod Values
+pub mod Reading
+pub mod Responses
+pub mod Answer
+pub mod ReadBack

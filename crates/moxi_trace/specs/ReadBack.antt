@@ -1,0 +1,24 @@
+-- What a check declares so that its responses can be printed and read back.
+use Rattle.std.specs.Prelude.{◌≡◌, ◌<◌, ℕ, true, Some, List, length, slice_get}
+use Rattle.std.specs.List.{list_all}
+use Rattle.name_set.specs.Names.{place_of}
+use Rattle.moxi_sexpr.specs.Bytes.{is_barred_byte}
+use Rattle.moxi_terms.specs.declared.data.Sort.TheVariants.{Choice}
+use Rattle.moxi_terms.specs.declared.data.Datum.TheVariants.{Constant}
+use Rattle.moxi_terms.specs.declared.term.Variable.{Variable}
+use Rattle.moxi_terms.specs.Sorts.{IsConstant}
+use Rattle.moxi_trace.specs.Traces.{Declared, names_of}
+use Rattle.moxi_trace.specs.Texts.{name_at, constant_name}
+use Rattle.moxi_trace.specs.Values.{symbol_value}
+
+-- the name can stand in bars
+abbrev pub CanBeSpelled : List ℕ → Type 0
+CanBeSpelled name = list_all is_barred_byte name ≡ true
+
+-- each name can be printed and is found by itself
+pub record CanBeReadBack (d : Declared) : Type 0 where
+  pub system : CanBeSpelled d.system
+  pub queries : (q : ℕ) → q < length d.queries → CanBeSpelled (name_at d.queries q) × (place_of d.queries (name_at d.queries q) ≡ Some q)
+  pub variables : (k : ℕ) (v : Variable) → slice_get d.variables k ≡ Some v → CanBeSpelled v.name × (place_of (names_of d.variables) v.name ≡ Some k)
+  pub constants : (n i : ℕ) → IsConstant d.enumerations n i
+      → CanBeSpelled (constant_name d.enumerations n i) × (symbol_value d.enumerations (Choice n) (constant_name d.enumerations n i) ≡ Some (Constant n i))

@@ -1,0 +1,124 @@
+// What a response is read against, with its names found without a scan.
+ghost use Rattle.std.specs.Prelude.{◌≡◌, ◌<◌, ◌≤◌, ◌^◌, ◌+◌, ◌++◌, Some, None, map, length, IfOk, IfSome, option_and_then, slice_get};
+ghost use Rattle.name_set.specs.Names.{place_of};
+ghost use Rattle.moxi_trace.specs.Traces.{names_of, is_within};
+ghost use Rattle.moxi_trace.specs.Values.{value_of};
+ghost use Rattle.moxi_trace.specs.Reading.{value_at};
+
+use crate::declarations::Declarations;
+use crate::tokens::Shape;
+use crate::values::value_of;
+use moxi_terms::{Datum, Variables};
+use name_set::NameSet;
+use std::alloc::Global;
+use std::marker::Model;
+use text_core::NoMemory;
+
+/// The most steps of a trace.
+pub const MOST_STEPS: u64 = 100000;
+/// The most that the steps of a trace times the variables may be.
+pub const MOST_VALUES: u64 = 4000000;
+
+/// What is declared, with the names of the variables and of the queries.
+#[derive(Drop)]
+pub struct Table<'a> {
+    declarations: &'a Declarations<'a>,
+    names: NameSet,
+    queries: NameSet,
+}
+
+impl<'a> Model for Table<'a> {
+    ghost use Rattle.std.specs.Prelude.{◌≡◌, ◌≤◌, ◌^◌, length};
+    ghost use Rattle.moxi_trace.specs.Traces.{Declared, names_of};
+
+    ghost Value = { Declared };
+
+    ghost view = { λ t. t.declarations.now };
+
+    ghost invariant = { λ t. (t.names ≡ names_of t.declarations.now.variables) × ((t.queries ≡ t.declarations.now.queries) × (length t.queries ≤ 2 ^ 32)) };
+}
+
+// The names of the variables, each of which a check has once.
+fn variable_names(alloc: Global, variables: &Variables) -> Result<NameSet, NoMemory>
+    ensures { IfOk result (λ names. names ≡ names_of variables.now) }
+{
+    let mut names = NameSet::new(alloc);
+    for variable in variables {
+        if !names.declare(alloc, variable.name.bytes())? {
+            return Err(NoMemory);
+        }
+    }
+    Ok(names)
+}
+
+impl<'a> Table<'a> {
+    /// What is declared. Each of the variables and each of the queries has a name of its own.
+    pub fn of(alloc: Global, declarations: &'a Declarations<'a>) -> Result<Table<'a>, NoMemory>
+        ensures { IfOk result (λ table. table ≡ declarations.now) }
+    {
+        let names = variable_names(alloc, declarations.variables)?;
+        let mut queries = NameSet::new(alloc);
+        if declarations.queries.len() > u32::MAX as usize
+            || !queries.declare_all(alloc, declarations.queries)?
+        {
+            return Err(NoMemory);
+        }
+        Ok(Table {
+            declarations,
+            names,
+            queries,
+        })
+    }
+
+    /// The name of the system.
+    pub fn system(&self) -> &[u8]
+        ensures { result.now ≡ self.now.system }
+    {
+        let declarations = self.declarations;
+        declarations.system.bytes()
+    }
+
+    /// How many variables there are.
+    pub fn len(&self) -> usize
+        ensures { result ≡ length self.now.variables }
+    {
+        let declarations = self.declarations;
+        declarations.variables.len()
+    }
+
+    /// The number of the variable of this name.
+    pub fn variable(&self, name: &[u8]) -> Option<usize>
+        ensures { result ≡ place_of (names_of self.now.variables) name.now }
+    {
+        self.names.place(name)
+    }
+
+    /// The number of the query of this name.
+    pub fn query(&self, name: &[u8]) -> Option<u32>
+        ensures { result ≡ place_of self.now.queries name.now }
+    {
+        let place = self.queries.place(name)?;
+        Some(place as u32)
+    }
+
+    /// The value of the variable number k that a token spells.
+    pub fn value(&self, k: usize, shape: Shape, bytes: &[u8]) -> Option<Datum>
+        ensures { result ≡ value_at self.now k shape bytes.now }
+    {
+        let declarations = self.declarations;
+        if k < declarations.variables.len() {
+            let sort = declarations.variables.at(k).sort;
+            value_of(declarations.scope, sort, shape, bytes)
+        } else {
+            None
+        }
+    }
+
+    /// May a trace have so many steps?
+    pub fn is_within(&self, steps: u128) -> bool
+        requires { steps < 2 ^ 64 + 1 }
+        ensures { result ≡ is_within self.now steps }
+    {
+        steps <= u128::from(MOST_STEPS) && steps * (self.len() as u128) <= u128::from(MOST_VALUES)
+    }
+}
