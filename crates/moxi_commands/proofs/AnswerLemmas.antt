@@ -5,10 +5,11 @@ use Rattle.text_core.specs.Outside.{Files, IsFile, file_at}
 use Rattle.moxi_commands.specs.declared.answer.Answer.{Answer}
 use Rattle.moxi_commands.specs.declared.answer.Answer.TheVariants.{Refused, Done}
 use Rattle.moxi_commands.specs.declared.answer.Output.TheVariants.{Text}
-use Rattle.moxi_commands.specs.declared.words.Command.TheVariants.{SmvToBtor}
+use Rattle.moxi_commands.specs.declared.words.Command.TheVariants.{SmvToBtor, SmvToMoxi}
 use Rattle.moxi_commands.specs.Limits.{most_smv_bytes}
 use Rattle.moxi_commands.specs.Outcome.{MayAnswer}
 use Rattle.moxi_commands.specs.Reading.{GoesOn, file_within, within_limit}
+use Rattle.moxi_commands.specs.Scripts as scripts
 use Rattle.moxi_commands.specs.Translation.{OfBytes, smv_too_long}
 
 -- the bytes of a file that is there and within its limit
@@ -29,3 +30,15 @@ may_translate files rose model bytes there within a h = absurd h
 pub translated : {E : Type 0} (files : Option Files) (rose : Type 0) (model bytes : List ℕ) (result : Result Answer E) → IsFile files model bytes → length bytes ≤ most_smv_bytes → IfOk result (OfBytes bytes) → IfOk result (MayAnswer files (Some (SmvToBtor model)) rose)
 translated files rose model bytes (Ok a) there within h = may_translate files rose model bytes there within a h
 translated files rose model bytes (Err e) there within h = tt
+
+-- the same of its script
+may_write : (files : Option Files) (rose : Type 0) (model bytes : List ℕ) → IsFile files model bytes → length bytes ≤ most_smv_bytes → (a : Answer) → scripts.OfBytes bytes a → MayAnswer files (Some (SmvToMoxi model)) rose a
+may_write None rose model bytes there within (Refused refusal) h = tt
+may_write (Some fs) rose model bytes there within (Refused refusal) h = on_read fs model bytes most_smv_bytes smv_too_long scripts.OfBytes (Refused refusal) there within h
+may_write None rose model bytes there within (Done (Text text)) h = tt
+may_write (Some fs) rose model bytes there within (Done (Text text)) h = on_read fs model bytes most_smv_bytes smv_too_long scripts.OfBytes (Done (Text text)) there within h
+may_write files rose model bytes there within a h = absurd h
+
+pub written : {E : Type 0} (files : Option Files) (rose : Type 0) (model bytes : List ℕ) (result : Result Answer E) → IsFile files model bytes → length bytes ≤ most_smv_bytes → IfOk result (scripts.OfBytes bytes) → IfOk result (MayAnswer files (Some (SmvToMoxi model)) rose)
+written files rose model bytes (Ok a) there within h = may_write files rose model bytes there within a h
+written files rose model bytes (Err e) there within h = tt

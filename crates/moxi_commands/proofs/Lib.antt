@@ -3,6 +3,9 @@ pub mod Formed
 pub mod Bounds
 pub mod Within
 pub mod Sources
+pub mod Checked
+pub mod ScriptStands
+pub mod JudgedSmv
 pub mod OutcomeLemmas
 pub mod AnswerLemmas
 pub mod Grown

@@ -12,18 +12,22 @@ use Rattle.moxi_commands.specs.declared.answer.Answer.{Answer}
 use Rattle.moxi_commands.specs.declared.answer.Answer.TheVariants.{Usage, Unread, Refused, SecondRefused, No, Done}
 use Rattle.moxi_commands.specs.declared.answer.Output.TheVariants.{Text}
 use Rattle.moxi_commands.specs.declared.words.Command.{Command}
-use Rattle.moxi_commands.specs.declared.words.Command.TheVariants.{SmvToBtor, JudgeBtor}
+use Rattle.moxi_commands.specs.declared.words.Command.TheVariants.{SmvToBtor, SmvToMoxi, JudgeBtor, JudgeSmv}
 use Rattle.moxi_commands.specs.Answers.{status_of, text_of, line_of}
 use Rattle.moxi_commands.specs.BooleanModels.{BooleanModel}
 use Rattle.moxi_commands.specs.Limits.{most_smv_bytes}
 use Rattle.moxi_commands.specs.Notes.{no_memory_line}
-use Rattle.moxi_commands.specs.Outcome.{IsAbsent, IsCutLine, IsLineOf, IsTold, MayAnswer}
+use Rattle.moxi_commands.specs.Outcome.{IsAbsent, IsCutLine, IsLineOf, IsTold, MayAnswer, outcome_of}
 use Rattle.moxi_commands.specs.Words.{Answers, Serves}
 use Rattle.moxi_commands.specs.Reading.{GoesOn, file_within, within_limit}
+use Rattle.moxi_commands.specs.Scripts as scripts
+use Rattle.moxi_commands.specs.Scripts.{ScriptsStand}
 use Rattle.moxi_commands.specs.Sinks.{IsPart, Noted}
 use Rattle.moxi_commands.specs.Translation.{HasForm, Accepts, TranslatesTo, IsServed, OfBytes, btor_text, smv_too_long}
 use Rattle.moxi_commands.proofs.AnswerLemmas.{on_read}
 use Rattle.moxi_commands.proofs.Judgements.{goes_once, one_judgement}
+use Rattle.moxi_commands.proofs.JudgedSmv.{one_smv_judgement}
+use Rattle.moxi_commands.proofs.ScriptStands.{one_script}
 use Rattle.moxi_commands.proofs.Sources.{one_form, one_smv_refusal, not_refused, text_stands}
 
 one_translation : (bytes : List ℕ) (a b : Answer) → OfBytes bytes a → OfBytes bytes b → a ≡ b
@@ -39,7 +43,9 @@ one_translation bytes a b h k = absurd h
 pub one_answer : (command : Option Command) (fs : Files) (a b : Answer) → Answers command fs a → Answers command fs b → a ≡ b
 one_answer None fs a b h k = h ∙ sym k
 one_answer (Some (SmvToBtor model)) fs a b h k = goes_once (file_within fs model most_smv_bytes smv_too_long) OfBytes one_translation a b h k
+one_answer (Some (SmvToMoxi model)) fs a b h k = goes_once (file_within fs model most_smv_bytes smv_too_long) scripts.OfBytes one_script a b h k
 one_answer (Some (JudgeBtor model second)) fs a b h k = one_judgement fs model second a b h k
+one_answer (Some (JudgeSmv model second j)) fs a b h k = one_smv_judgement fs model second j a b h k
 
 -- where the shelf's count did not rise, an answer that may be given is the defined one
 defined : (fs : Files) (command : Option Command) (rose : Type 0) (a : Answer) → MayAnswer (Some fs) command rose a → (rose → ⊥) → Answers command fs a
@@ -139,6 +145,15 @@ run_absent None command rose a s m ends absent = absurd absent
 run_absent (Some fs) command rose a s m ends absent =
     elim ends [ inl e ↦ inl (e ∙ unread_by fs command rose a absent.0 m absent.1) | inr w ↦ inr (inl w) ]
 
+grown_nothing : (before : Option (List ℕ)) → grown before [] ≡ before
+grown_nothing None = refl
+grown_nothing (Some taken) = ap Some (append-nil taken)
+
+-- nothing was taken
+pub none_put : (files : Option Files) (words : List (List ℕ)) (before : Option (List ℕ)) → IfSome files (λ fs. (a : Answer) → outcome_of words fs a → IsPart before before (text_of a))
+none_put None words before = tt
+none_put (Some fs) words before = λ a d. record { count = 0; within = omega arith; taken = sym (grown_nothing before) }
+
 -- nothing was put, which is a front of anything
 nothing_put : (before now : Option (List ℕ)) (bytes : List ℕ) → IsPart before now [] → IsPart before now bytes
 nothing_put before now bytes p =
@@ -165,10 +180,6 @@ run_complete (Some fs) command shelf out notes a s before now was is m ends text
       | inl e ↦ inl (e ∙ ap status_of once, text whole ∙ ap (λ x. grown before (text_of x)) once, line whole ∙ ap (λ x. grown was (line_of x)) once)
       | inr f ↦ absurd (whole f)
     ]
-
-grown_nothing : (before : Option (List ℕ)) → grown before [] ≡ before
-grown_nothing None = refl
-grown_nothing (Some taken) = ap Some (append-nil taken)
 
 quiet : (a : Answer) → status_of a ≢ status.Done → text_of a ≡ []
 quiet (Done output) n = absurd (n refl)
@@ -273,22 +284,35 @@ served_text fs model bytes (Done (Text text)) before now there h s w =
 served_text fs model bytes (Refused r) before now there h s w = absurd (cc)
 served_text fs model bytes b before now there h s w = absurd h
 
-served_model : (fs : Files) (model : List ℕ) (content : Option (List ℕ)) (b : Answer) (before now : Option (List ℕ)) → file_at fs model ≡ content → GoesOn (within_limit content model most_smv_bytes smv_too_long) OfBytes b → status_of b ≡ status.Done → now ≡ grown before (text_of b) → IsServed fs model before now
-served_model fs model None b before now there h s w = let e : status.ReadFault ≡ status.Done = sym (ap status_of h) ∙ s in absurd (cc)
-served_model fs model (Some bytes) b before now there h s w = by_length (nat_lt most_smv_bytes (length bytes)) h
+-- what was written whole was made of a file's bytes
+served_from : {S : Type 0} (model : List ℕ) (content : Option (List ℕ)) (next : List ℕ → Answer → Type 0) (b : Answer) → GoesOn (within_limit content model most_smv_bytes smv_too_long) next b → status_of b ≡ status.Done
+    → ((bytes : List ℕ) → content ≡ Some bytes → next bytes b → S) → S
+served_from model None next b h s go = let e : status.ReadFault ≡ status.Done = sym (ap status_of h) ∙ s in absurd (cc)
+served_from {S} model (Some bytes) next b h s go = by_length (nat_lt most_smv_bytes (length bytes)) h
   where
-    by_length : (long : Bool) → GoesOn (cond long (Err smv_too_long) (Ok bytes)) OfBytes b → IsServed fs model before now
+    by_length : (long : Bool) → GoesOn (cond long (Err smv_too_long) (Ok bytes)) next b → S
     by_length true g = let e : status.Refused ≡ status.Done = sym (ap status_of g) ∙ s in absurd (cc)
-    by_length false g = served_text fs model bytes b before now there g s w
+    by_length false g = go bytes refl g
 
-served_by : (command : Option Command) (fs : Files) (b : Answer) (before now : Option (List ℕ)) → Answers command fs b → status_of b ≡ status.Done → now ≡ grown before (text_of b) → Serves command fs before now
-served_by None fs b before now h s w = let e : status.Usage ≡ status.Done = sym (ap status_of h) ∙ s in absurd (cc)
-served_by (Some (SmvToBtor model)) fs b before now h s w = served_model fs model (file_at fs model) b before now refl h s w
-served_by (Some (JudgeBtor model second)) fs b before now h s w = tt
+-- a script that was written whole stands for its model
+served_script : (stands : ScriptsStand) (fs : Files) (model bytes : List ℕ) (b : Answer) (before now : Option (List ℕ)) → file_at fs model ≡ Some bytes → scripts.OfBytes bytes b → status_of b ≡ status.Done → now ≡ grown before (text_of b) → scripts.IsServed fs model before now
+served_script stands fs model bytes (Done (Text text)) before now there h s w =
+    record { bytes = bytes; there = there; source = h.0; accepted = h.1; text = text; written = w; script = subst (scripts.WritesScript h.0) (sym h.2) (stands bytes h.0 h.1) }
+served_script stands fs model bytes (Refused r) before now there h s w = absurd (cc)
+served_script stands fs model bytes b before now there h s w = absurd h
 
-pub run_served : (files : Option Files) (command : Option Command) (before now : Option (List ℕ)) → IfSome files (λ fs. (b : Answer) × Answers command fs b × (status_of b ≡ status.Done) × (now ≡ grown before (text_of b))) → IfSome files (λ fs. Serves command fs before now)
-run_served None command before now h = tt
-run_served (Some fs) command before now h = served_by command fs h.0 before now h.1 h.2 h.3
+served_by : (stands : ScriptsStand) (command : Option Command) (fs : Files) (b : Answer) (before now : Option (List ℕ)) → Answers command fs b → status_of b ≡ status.Done → now ≡ grown before (text_of b) → Serves command fs before now
+served_by stands None fs b before now h s w = let e : status.Usage ≡ status.Done = sym (ap status_of h) ∙ s in absurd (cc)
+served_by stands (Some (SmvToBtor model)) fs b before now h s w =
+    served_from model (file_at fs model) OfBytes b h s (λ bytes there g. served_text fs model bytes b before now there g s w)
+served_by stands (Some (SmvToMoxi model)) fs b before now h s w =
+    served_from model (file_at fs model) scripts.OfBytes b h s (λ bytes there g. served_script stands fs model bytes b before now there g s w)
+served_by stands (Some (JudgeBtor model second)) fs b before now h s w = tt
+served_by stands (Some (JudgeSmv model second j)) fs b before now h s w = tt
+
+pub run_served : (stands : ScriptsStand) (files : Option Files) (command : Option Command) (before now : Option (List ℕ)) → IfSome files (λ fs. (b : Answer) × Answers command fs b × (status_of b ≡ status.Done) × (now ≡ grown before (text_of b))) → IfSome files (λ fs. Serves command fs before now)
+run_served stands None command before now h = tt
+run_served stands (Some fs) command before now h = served_by stands command fs h.0 before now h.1 h.2 h.3
 
 -- the defined answer to an accepted model
 accepted_answer : (fs : Files) (command : Option Command) (model bytes : List ℕ) (form : BooleanModel) → command ≡ Some (SmvToBtor model) → file_at fs model ≡ Some bytes → HasForm bytes form → Answers command fs (Done (Text (btor_text form)))

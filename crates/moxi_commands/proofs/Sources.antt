@@ -54,7 +54,7 @@ formed_accepted bytes source a = accepted_form bytes a.0 (source, a.1)
 same_source : (m n : PlainSource) → m.modules ≡ n.modules → m.end ≡ n.end → m ≡ n
 same_source m n e f = ap (λ (ms : List PlainModule). record { modules = ms; end = m.end }) e ∙ ap (λ p. record { modules = n.modules; end = p }) f
 
-same_model : (bytes : List ℕ) (m n : PlainSource) → IsModel bytes m → IsModel bytes n → m ≡ n
+pub same_model : (bytes : List ℕ) (m n : PlainSource) → IsModel bytes m → IsModel bytes n → m ≡ n
 same_model bytes m n a b =
     let spelled = subst (SpellsSource m (after start bytes)) (one_lexing bytes a.tokens b.tokens a.lexed b.lexed) a.spelled in
     same_source m n (one_model b.tokens m.modules n.modules spelled.0 b.spelled.0) (spelled.1 ∙ sym b.spelled.1)
@@ -88,7 +88,7 @@ abbrev pub GrammarRefusal : List ℕ → List Token → Refusal → Type 0
 GrammarRefusal bytes tokens why = IsRefused (record { items = tokens; end = after start bytes }) (Bad why)
 
 -- it is none where a model is spelled
-grammar_no_model : (bytes : List ℕ) (why : Refusal) (tokens : List Token) (m : PlainSource) → Lexes bytes tokens → GrammarRefusal bytes tokens why → IsModel bytes m → ⊥
+pub grammar_no_model : (bytes : List ℕ) (why : Refusal) (tokens : List Token) (m : PlainSource) → Lexes bytes tokens → GrammarRefusal bytes tokens why → IsModel bytes m → ⊥
 grammar_no_model bytes why tokens m l r a =
     refused_not_low (record { items = tokens; end = after start bytes }) why m.modules r (subst (SpellsSource m (after start bytes)) (one_lexing bytes a.tokens tokens a.lexed l) a.spelled).0 a.low
 
@@ -102,13 +102,13 @@ none_fails [] h = refl
 none_fails (c ∷ cs) h = none_first c.holds c.refusal cs h (none_fails cs)
 
 -- a refusal by a check is none of an accepted model
-refused_none : (cs : List Check) (why : Refusal) → first_failing cs ≡ Some why → IsTrue (passes cs) → ⊥
+pub refused_none : (cs : List Check) (why : Refusal) → first_failing cs ≡ Some why → IsTrue (passes cs) → ⊥
 refused_none cs why e h = let n = none_fails cs h in absurd (cc)
 
-one_some : (o : Option Refusal) (why other : Refusal) → o ≡ Some why → o ≡ Some other → why ≡ other
+pub one_some : (o : Option Refusal) (why other : Refusal) → o ≡ Some why → o ≡ Some other → why ≡ other
 one_some o why other e f = cc
 
-model_refused : (bytes : List ℕ) (m n : PlainSource) (why : Refusal) → IsModel bytes m → IsModel bytes n → first_refusal m 0 ≡ Some why → IsAccepted n 0 → ⊥
+pub model_refused : (bytes : List ℕ) (m n : PlainSource) (why : Refusal) → IsModel bytes m → IsModel bytes n → first_refusal m 0 ≡ Some why → IsAccepted n 0 → ⊥
 model_refused bytes m n why is is' e h =
     refused_none (checks_of n 0) why (ap (λ s. first_refusal s 0) (same_model bytes n m is' is) ∙ e) h
 

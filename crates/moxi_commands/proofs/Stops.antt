@@ -5,7 +5,7 @@ use Rattle.moxi_commands.specs.declared.answer.Stop.{Stop}
 use Rattle.moxi_commands.specs.declared.answer.Stop.TheVariants.{Answered, NoMemory}
 use Rattle.text_core.specs.Outside.{Files}
 use Rattle.moxi_commands.specs.declared.words.Command.{Command}
-use Rattle.moxi_commands.specs.declared.words.Command.TheVariants.{SmvToBtor, JudgeBtor}
+use Rattle.moxi_commands.specs.declared.words.Command.TheVariants.{SmvToBtor, SmvToMoxi, JudgeBtor, JudgeSmv}
 use Rattle.moxi_commands.specs.Reading.{OnNoMemory}
 use Rattle.moxi_commands.specs.Words.{BeginsNoSecond}
 
@@ -22,6 +22,8 @@ held (Err stop) p = always stop p
 pub begins_nothing : (files : Option Files) (before : Option (List ℕ)) (command : Option Command) → BeginsNoSecond files before before command
 begins_nothing files before None = tt
 begins_nothing files before (Some (SmvToBtor model)) = tt
+begins_nothing files before (Some (SmvToMoxi model)) = tt
+begins_nothing files before (Some (JudgeSmv model second j)) = tt
 begins_nothing None before (Some (JudgeBtor model second)) = tt
 begins_nothing (Some fs) before (Some (JudgeBtor model second)) = inr refl
 

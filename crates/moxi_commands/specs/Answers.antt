@@ -1,11 +1,11 @@
 -- What an answer means: its status, what is written for it, and the line that is noted.
-use Rattle.std.specs.Prelude.{ℕ, true, false, List, []}
+use Rattle.std.specs.Prelude.{ℕ, true, false, List, [], codes}
 use Rattle.moxi_commands.specs.declared.status.Status.{Status}
 use Rattle.moxi_commands.specs.declared.status.Status.TheVariants as status
 use Rattle.moxi_commands.specs.declared.answer.Answer.{Answer}
 use Rattle.moxi_commands.specs.declared.answer.Answer.TheVariants.{Usage, Unread, Refused, SecondRefused, No, Done}
 use Rattle.moxi_commands.specs.declared.answer.Output.{Output}
-use Rattle.moxi_commands.specs.declared.answer.Output.TheVariants.{Text, Yes}
+use Rattle.moxi_commands.specs.declared.answer.Output.TheVariants.{Text, Yes, Broken}
 use Rattle.moxi_commands.specs.Notes.{usage_line, unread_line, refused_line, refused_words, denied_line, accepted_line}
 
 abbrev pub status_of : Answer → Status
@@ -19,7 +19,8 @@ status_of (Done output) = status.Done
 -- the whole text of what is written
 abbrev pub output_text : Output → List ℕ
 output_text (Text text) = text
-output_text (Yes bad step) = accepted_line bad step
+output_text (Yes bad step) = accepted_line (codes "yes: bad ") bad step
+output_text (Broken j step) = accepted_line (codes "yes: invariant ") j step
 
 -- the whole text that is written for an answer
 abbrev pub text_of : Answer → List ℕ

@@ -16,5 +16,8 @@ pub mod Reading
 pub mod Sinks
 pub mod Translation
 pub mod Judgement
+pub mod Models
+pub mod Scripts
+pub mod SmvJudgement
 pub mod Pieces
 pub mod Outcome

@@ -16,3 +16,7 @@ most_witness_bytes = 67108864
 -- the most tokens of a model that is translated today
 abbrev pub most_form_tokens : ℕ
 most_form_tokens = 4096
+
+-- the most bytes of a trace
+abbrev pub most_trace_bytes : ℕ
+most_trace_bytes = 67108864

@@ -84,6 +84,6 @@ refused_line words refusal =
 abbrev pub denied_line : ℕ → Clause → List ℕ
 denied_line step clause = codes "no: step " ++ (decimal step ++ (codes ": " ++ (clause_name clause ++ codes "\n")))
 
--- what is written for an accepted witness
-abbrev pub accepted_line : ℕ → ℕ → List ℕ
-accepted_line bad step = codes "yes: bad " ++ (decimal bad ++ (codes " at step " ++ (decimal step ++ codes "\n")))
+-- what is written for an accepted witness or trace
+abbrev pub accepted_line : List ℕ → ℕ → ℕ → List ℕ
+accepted_line words number step = words ++ (decimal number ++ (codes " at step " ++ (decimal step ++ codes "\n")))

@@ -9,9 +9,11 @@ use Rattle.moxi_commands.specs.declared.answer.Answer.TheVariants.{Usage}
 use Rattle.moxi_commands.specs.declared.words.Task.{Task}
 use Rattle.moxi_commands.specs.declared.words.Task.TheVariants as task
 use Rattle.moxi_commands.specs.declared.words.Command.{Command}
-use Rattle.moxi_commands.specs.declared.words.Command.TheVariants.{SmvToBtor, JudgeBtor}
+use Rattle.moxi_commands.specs.declared.words.Command.TheVariants.{SmvToBtor, SmvToMoxi, JudgeBtor, JudgeSmv}
 use Rattle.moxi_commands.specs.Translation.{IsServed, IsTranslation}
 use Rattle.moxi_commands.specs.Judgement.{IsJudgement}
+use Rattle.moxi_commands.specs.SmvJudgement.{IsSmvJudgement}
+use Rattle.moxi_commands.specs.Scripts.{IsScript, IsServed as IsServedScript}
 
 -- byte 45 is `-`
 abbrev pub begins_with_dash : List ℕ → Bool
@@ -20,7 +22,7 @@ begins_with_dash (b ∷ bs) = b == 45
 
 -- the first words of the commands
 abbrev pub commands : List (List ℕ × Task)
-commands = (codes "smv2btor", task.SmvToBtor) ∷ (codes "judge-btor", task.JudgeBtor) ∷ []
+commands = (codes "smv2btor", task.SmvToBtor) ∷ (codes "smv2moxi", task.SmvToMoxi) ∷ (codes "judge-btor", task.JudgeBtor) ∷ (codes "judge-smv", task.JudgeSmv) ∷ []
 
 -- the task of the first row with this word
 abbrev pub task_in : List (List ℕ × Task) → List ℕ → Option Task
@@ -34,7 +36,9 @@ row r = (r.0.now, r.1)
 -- the task with its files, where they are as many as it takes
 abbrev pub command_with : Option Task → List (List ℕ) → Option Command
 command_with (Some task.SmvToBtor) (model ∷ []) = Some (SmvToBtor model)
+command_with (Some task.SmvToMoxi) (model ∷ []) = Some (SmvToMoxi model)
 command_with (Some task.JudgeBtor) (model ∷ second ∷ []) = Some (JudgeBtor model second)
+command_with (Some task.JudgeSmv) (model ∷ second ∷ []) = Some (JudgeSmv model second 0)
 command_with task files = None
 
 -- the command that the words are, if they are one
@@ -45,7 +49,9 @@ command_of (word ∷ files) = if list_any begins_with_dash files then None else 
 -- the files that a command names
 abbrev pub files_of : Command → List (List ℕ)
 files_of (SmvToBtor model) = model ∷ []
+files_of (SmvToMoxi model) = model ∷ []
 files_of (JudgeBtor model second) = model ∷ second ∷ []
+files_of (JudgeSmv model second j) = model ∷ second ∷ []
 
 -- the name is one of these
 abbrev pub IsAmong : List (List ℕ) → List ℕ → Type 0
@@ -62,16 +68,22 @@ Names (Some command) name = IsAmong (files_of command) name
 abbrev pub Answers : Option Command → Files → Answer → Type 0
 Answers None files answer = answer ≡ Usage
 Answers (Some (SmvToBtor model)) files answer = IsTranslation files model answer
+Answers (Some (SmvToMoxi model)) files answer = IsScript files model answer
 Answers (Some (JudgeBtor model second)) files answer = IsJudgement files model second answer
+Answers (Some (JudgeSmv model second j)) files answer = IsSmvJudgement files model second j answer
 
 -- what was written for a command stands for its model
 abbrev pub Serves : Option Command → Files → Option (List ℕ) → Option (List ℕ) → Type 0
 Serves None files before now = ⊥
 Serves (Some (SmvToBtor model)) files before now = IsServed files model before now
+Serves (Some (SmvToMoxi model)) files before now = IsServedScript files model before now
 Serves (Some (JudgeBtor model second)) files before now = Unit {0}
+Serves (Some (JudgeSmv model second j)) files before now = Unit {0}
 
--- no second file was begun
+-- no second file was begun by a judge of witnesses; other commands may want memory for theirs
 abbrev pub BeginsNoSecond : Option Files → Option (List ℕ) → Option (List ℕ) → Option Command → Type 0
 BeginsNoSecond files before now None = Unit {0}
 BeginsNoSecond files before now (Some (SmvToBtor model)) = Unit {0}
+BeginsNoSecond files before now (Some (SmvToMoxi model)) = Unit {0}
 BeginsNoSecond files before now (Some (JudgeBtor model second)) = BeginsOnly files before now model
+BeginsNoSecond files before now (Some (JudgeSmv model second j)) = Unit {0}

@@ -30,6 +30,8 @@ pub enum Output {
     Text(Text),
     /// The line of an accepted witness: the bad line's number, and the last step.
     Yes(u32, u32),
+    /// The line of an accepted trace: the invariant's number, and the last step.
+    Broken(u32, u32),
 }
 
 /// Why a step does not go on: an answer that stands, or want of memory.

@@ -16,6 +16,7 @@ ghost use Rattle.moxi_commands.specs.Words.{BeginsNoSecond, Serves, command_of};
 
 use crate::answer::{Answer, Stop};
 use crate::notes::{deliver, note};
+use crate::script::scripts_stand;
 use crate::status::Status;
 use crate::words::{answer_command, read_command};
 use std::alloc::Global;
@@ -102,6 +103,7 @@ pub fn run<F: Shelf, K: Sink, N: Sink>(
     ensures begun { BeginsFor (F.files shelf.old) (F.begun shelf.old) (F.begun shelf.new) (command_of (map string_bytes words.now.items)) }
     ensures files { F.files shelf.new ≡ F.files shelf.old }
 {
+    scripts_stand();
     match answer_words(alloc, words, shelf) {
         Ok(answer) => deliver(&answer, out, notes),
         Err(NoMemory) => note(notes, &[b"no memory\n"], Status::NoMemory),

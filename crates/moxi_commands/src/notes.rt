@@ -59,19 +59,20 @@ fn put_output<K: Sink>(output: &Output, out: &mut K) -> Result<(), SinkFault>
 {
     match output {
         Output::Text(text) => put_pieces(out, &[text.bytes()]),
-        Output::Yes(bad, step) => put_accepted(*bad, *step, out),
+        Output::Yes(bad, step) => put_accepted(b"yes: bad ", *bad, *step, out),
+        Output::Broken(j, step) => put_accepted(b"yes: invariant ", *j, *step, out),
     }
 }
 
-// Puts the line of an accepted witness.
-fn put_accepted<K: Sink>(bad: u32, step: u32, out: &mut K) -> Result<(), SinkFault>
-    ensures { Puts (K.taken out.old) (K.taken out.new) (K.faults out.old) (K.faults out.new) (accepted_line bad step) result }
+// Puts the line of an accepted witness or trace, behind these words.
+fn put_accepted<K: Sink>(words: &[u8], number: u32, step: u32, out: &mut K) -> Result<(), SinkFault>
+    ensures { Puts (K.taken out.old) (K.taken out.new) (K.faults out.old) (K.faults out.new) (accepted_line words.now number step) result }
 {
-    let mut number = Buffer::new();
+    let mut digits = Buffer::new();
     let mut at = Buffer::new();
     let pieces = [
-        b"yes: bad ".as_slice(),
-        number.format(bad).as_bytes(),
+        words,
+        digits.format(number).as_bytes(),
         b" at step ",
         at.format(step).as_bytes(),
         b"\n",

@@ -21,6 +21,7 @@ use crate::files::read_file;
 use crate::form::form_of;
 use crate::formula::BooleanModel;
 use crate::lines::lines_of;
+use crate::models::SMV_LIMIT;
 use btor_print::print_btor;
 use smv_flatten::accepted;
 use smv_lex::lex;
@@ -29,9 +30,6 @@ use smv_text::{Reserved, Source as Model, Token, TokenKind, Tokens};
 use std::alloc::Global;
 use text_core::kinds::smv;
 use text_core::{End, Name, NoMemory, Shelf, Text};
-
-// The most bytes that an SMV model may have.
-const SMV_LIMIT: usize = 1_048_576;
 
 // The most tokens that a model of the first grammar may have.
 const MOST_TOKENS: usize = 4096;

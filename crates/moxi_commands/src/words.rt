@@ -8,6 +8,8 @@ ghost use Rattle.moxi_commands.specs.Words.{BeginsNoSecond, begins_with_dash, co
 
 use crate::answer::{Answer, Stop};
 use crate::judge::judge_files;
+use crate::judge_smv::judge_smv_files;
+use crate::script::smv_to_moxi;
 use crate::translate::smv_to_btor;
 use std::alloc::Global;
 use text_core::{Name, NoMemory, Shelf};
@@ -17,21 +19,29 @@ use text_core::{Name, NoMemory, Shelf};
 pub enum Command {
     /// The BTOR2 text of an SMV model.
     SmvToBtor(Name),
+    /// The MoXI script of an SMV model.
+    SmvToMoxi(Name),
     /// The verdict on a witness for a BTOR2 text: the text's file, and the witness's.
     JudgeBtor(Name, Name),
+    /// The verdict on a trace of an SMV model and the invariant of a number: the model's file, the trace's, and the number.
+    JudgeSmv(Name, Name, u32),
 }
 
 /// What a command does with the files that it names.
 #[derive(Clone, Copy)]
 pub enum Task {
     SmvToBtor,
+    SmvToMoxi,
     JudgeBtor,
+    JudgeSmv,
 }
 
 // The first words of the commands.
-const COMMANDS: [(&[u8], Task); 2] = [
+const COMMANDS: [(&[u8], Task); 4] = [
     (b"smv2btor", Task::SmvToBtor),
+    (b"smv2moxi", Task::SmvToMoxi),
     (b"judge-btor", Task::JudgeBtor),
+    (b"judge-smv", Task::JudgeSmv),
 ];
 
 /// Reads the command words, without the program's name.
@@ -66,7 +76,9 @@ pub fn answer_command<F: Shelf>(
 {
     match command {
         Command::SmvToBtor(model) => smv_to_btor(alloc, model, shelf),
+        Command::SmvToMoxi(model) => smv_to_moxi(alloc, model, shelf),
         Command::JudgeBtor(model, second) => judge_files(alloc, model, second, shelf),
+        Command::JudgeSmv(model, second, j) => judge_smv_files(alloc, model, second, *j, shelf),
     }
 }
 
@@ -88,10 +100,16 @@ fn command_with(alloc: Global, task: Task, files: &[String]) -> Result<Option<Co
 {
     match (task, files) {
         (Task::SmvToBtor, [model]) => Ok(Some(Command::SmvToBtor(name_of(alloc, model)?))),
+        (Task::SmvToMoxi, [model]) => Ok(Some(Command::SmvToMoxi(name_of(alloc, model)?))),
         (Task::JudgeBtor, [model, second]) => {
             let model = name_of(alloc, model)?;
             let second = name_of(alloc, second)?;
             Ok(Some(Command::JudgeBtor(model, second)))
+        }
+        (Task::JudgeSmv, [model, second]) => {
+            let model = name_of(alloc, model)?;
+            let second = name_of(alloc, second)?;
+            Ok(Some(Command::JudgeSmv(model, second, 0)))
         }
         _ => Ok(None),
     }

@@ -1,4 +1,5 @@
-use Rattle.moxi_commands.proofs.OutcomeLemmas.{run_done, run_served, run_translates, run_prefix, run_complete, run_refused, run_second_refused, run_no, run_usage, run_no_command, run_read_fault, run_absent, run_noted, run_silent, run_fault_noted, run_untouched, run_write_fault, run_memory, memory_fault_noted}
+use Rattle.std.proofs.Common.{Global, map, string_bytes}
+use Rattle.moxi_commands.proofs.OutcomeLemmas.{run_done, run_served, run_translates, run_prefix, run_complete, run_refused, run_second_refused, run_no, run_usage, run_no_command, run_read_fault, run_absent, run_noted, run_silent, run_fault_noted, run_untouched, run_write_fault, run_memory, memory_fault_noted, none_put}
 use Rattle.moxi_commands.proofs.command.run.Goals as goal
 
 pub returns-in-Ok-clause-done : goal.returns-in-Ok-clause-done
@@ -47,7 +48,7 @@ pub returns-in-Ok-clause-complete : goal.returns-in-Ok-clause-complete
 returns-in-Ok-clause-complete g c = run_complete _ _ _ _ _ c.in-Ok.answer c.deliver.result _ _ _ _ c.in-Ok.ensures.answer c.deliver.ensures.status c.deliver.ensures.text c.deliver.ensures.line (run_write_fault _ _ _ _ _ _ c.deliver.result c.deliver.ensures.write_fault)
 
 pub returns-in-Ok-clause-served : goal.returns-in-Ok-clause-served
-returns-in-Ok-clause-served g c = λ done. run_served _ _ _ _ (run_done _ _ _ c.in-Ok.answer c.deliver.result _ _ c.in-Ok.ensures.answer c.deliver.ensures.status c.deliver.ensures.text done)
+returns-in-Ok-clause-served g c = λ done. run_served c.scripts_stand.ensures _ _ _ _ (run_done _ _ _ c.in-Ok.answer c.deliver.result _ _ c.in-Ok.ensures.answer c.deliver.ensures.status c.deliver.ensures.text done)
 
 pub returns-in-Ok-clause-translates : goal.returns-in-Ok-clause-translates
 returns-in-Ok-clause-translates g c = run_translates _ _ _ _ _ c.in-Ok.answer c.deliver.result _ _ c.in-Ok.ensures.answer c.deliver.ensures.status c.deliver.ensures.text (run_write_fault _ _ _ _ _ _ c.deliver.result c.deliver.ensures.write_fault)
@@ -57,3 +58,6 @@ returns-in-Ok-clause-memory g c = run_memory c.in-Ok.answer c.deliver.result c.d
 
 pub returns-in-Err-clause-fault_noted : goal.returns-in-Err-clause-fault_noted
 returns-in-Err-clause-fault_noted g c = memory_fault_noted _ _ _ _ c.note.result _ _ _ _ _ c.note.ensures
+
+pub returns-in-Err-clause-prefix : goal.returns-in-Err-clause-prefix
+returns-in-Err-clause-prefix g c = λ fault. none_put (g.F.Shelf.files c.args.shelf.now) (map (string_bytes {Z = Global}) c.args.words.now.items) (g.K.Sink.taken c.args.out.now)
