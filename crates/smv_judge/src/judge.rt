@@ -7,6 +7,7 @@ ghost use Rattle.smv_meaning.specs.Instances.{instances_of};
 ghost use Rattle.smv_meaning.specs.Phases.{IsAccepted};
 ghost use Rattle.smv_meaning.specs.Runs.{judged_after, judged_smv};
 ghost use Rattle.smv_flatten.specs.FlatModel.{IsRead, flat_plain};
+ghost use Rattle.smv_rows.specs.Held.{HoldsState};
 ghost use Rattle.smv_rows.specs.Parts.{parts_plain};
 ghost use Rattle.smv_rows.specs.RowOrders.{IsRowOrder};
 ghost use Rattle.smv_judge.specs.Models.{IsFlatOf, HasModel, LabelFits, IsStateRow};
@@ -18,6 +19,7 @@ use smv_meaning::{Run, State};
 use smv_rows::{FlatParts, Row, RowOrder, is_broken, row_order};
 use smv_text::Source;
 use std::alloc::Global;
+use std::mem;
 use text_core::{Clause, NoMemory, Verdict};
 
 // The verdict on what follows a state, of which the row is one.
@@ -34,6 +36,7 @@ fn judge_steps<'a>(
     requires model { HasModel flat.now }
     requires order { IsRowOrder flat.now order.now }
     requires row { IsStateRow flat.now (given first.now) row.old.values.items }
+    requires held { HoldsState order.now (given first.now) row.old }
     requires few { length following.now + 1 < 2 ^ 32 }
     ensures { IfOk result (λ v. (source : PlainSource) → IsFlatOf source (parts_plain flat.now) → v ≡ judged_after (instances_of source) j 0 (given first.now) (map given following.now) (map given labels.now)) }
 {
@@ -46,6 +49,7 @@ fn judge_steps<'a>(
         let Some((label, more)) = labels.split_first() else {
             return Ok(Verdict::No(step + 1, Clause::ValueOutside));
         };
+        mem::swap(&mut before, row);
         match step_failure(flat, order, state, label, next, &mut before, row)? {
             Some(clause) => return Ok(Verdict::No(step + 1, clause)),
             None => {}

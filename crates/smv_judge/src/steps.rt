@@ -5,6 +5,7 @@ ghost use Rattle.smv_meaning.specs.Values.{given};
 ghost use Rattle.smv_meaning.specs.Instances.{instances_of};
 ghost use Rattle.smv_flat_laws.specs.FlatTruth.{flat_trans, flat_stay};
 ghost use Rattle.smv_flat_evaluation.specs.RowValues.{row_values};
+ghost use Rattle.smv_rows.specs.Held.{HoldsState};
 ghost use Rattle.smv_rows.specs.Parts.{parts_plain};
 ghost use Rattle.smv_rows.specs.RowOrders.{IsRowOrder};
 ghost use Rattle.smv_rows.specs.Truths.{AllSafe};
@@ -28,6 +29,7 @@ pub(crate) fn first_failure<'a>(
     requires label { LabelFits flat.now (given label.now) }
     ensures clause { IfOk result (λ c. (source : PlainSource) → IsFlatOf source (parts_plain flat.now) → c ≡ failing (first_clauses (instances_of source) (given state.now))) }
     ensures row { IfOk result (λ c. c ≡ None → IsStateRow flat.now (given state.now) row.new.values.items) }
+    ensures held { IfOk result (λ c. c ≡ None → HoldsState order.now (given state.now) row.new) }
 {
     row.give(order, state, label)?;
     if !items_fit(flat.items, row.values.as_slice()) {
@@ -51,8 +53,8 @@ fn step_holds<'a>(flat: &FlatParts<'a>, now: &Row<'a>, later: &Row<'a>) -> bool
     trans_holds(flat, now, later) && frozen_stay(flat, now, later)
 }
 
-/// The first clause that fails at the step from a state under a label to the following state. Where none does, the row is one of the
-/// following state.
+/// The first clause that fails at the step from a state, which the row before holds, under a label to the following state. Where none
+/// does, the row is one of the following state.
 pub(crate) fn step_failure<'a>(
     flat: &FlatParts<'a>,
     order: &RowOrder,
@@ -65,15 +67,18 @@ pub(crate) fn step_failure<'a>(
     requires model { HasModel flat.now }
     requires order { IsRowOrder flat.now order.now }
     requires state { StateFits flat.now (given state.now) }
+    requires held { HoldsState order.now (given state.now) before.old }
     ensures clause { IfOk result (λ c. (source : PlainSource) → IsFlatOf source (parts_plain flat.now) → c ≡ failing (step_clauses (instances_of source) (given state.now) (given label.now) (given following.now))) }
     ensures row { IfOk result (λ c. c ≡ None → IsStateRow flat.now (given following.now) row.new.values.items) }
+    ensures held { IfOk result (λ c. c ≡ None → HoldsState order.now (given following.now) row.new) }
 {
     row.give(order, following, label)?;
     if !items_fit(flat.items, row.values.as_slice()) {
         return Ok(Some(Clause::ValueOutside));
     }
+    before.give_again(order, row)?;
     row.evaluate(flat, order);
-    before.fill(flat, order, state, label)?;
+    before.evaluate(flat, order);
     if !step_holds(flat, before, row) {
         return Ok(Some(Clause::TransFails));
     }

@@ -1,5 +1,6 @@
 pub mod Reading
 pub mod Filling
+pub mod Held
 pub mod Parts
 pub mod Places
 pub mod RowOrders

@@ -7,7 +7,7 @@ use crate::bodies::bodies_of;
 use crate::parts::FlatParts;
 use crate::places::{ItemPlace, name_all, places_of};
 use crate::references::order_of;
-use name_set::NameSet;
+use name_lookup::NameTable;
 use smv_flat::FlatExpr;
 use std::alloc::Global;
 use text_core::{List, NoMemory};
@@ -18,7 +18,7 @@ use text_core::{List, NoMemory};
 pub struct RowOrder<'f> {
     pub bodies: Vec<Option<&'f FlatExpr>>,
     pub order: List<usize>,
-    pub names: NameSet,
+    pub names: NameTable,
     pub places: Vec<ItemPlace>,
 }
 
@@ -29,7 +29,7 @@ pub fn row_order<'f>(alloc: Global, flat: &FlatParts<'f>) -> Result<RowOrder<'f>
 {
     let bodies = bodies_of(alloc, flat.items, flat.formulas)?;
     let order = order_of(alloc, bodies.as_slice())?;
-    let mut names = NameSet::new(alloc);
+    let mut names = NameTable::new(alloc);
     name_all(alloc, flat.items, &mut names)?;
     let places = places_of(alloc, flat.items, &names)?;
     Ok(RowOrder {

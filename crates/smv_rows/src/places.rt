@@ -2,7 +2,7 @@
 ghost use Rattle.std.specs.Prelude.{IfOk, OnOk};
 ghost use Rattle.smv_rows.specs.Places.{HavePlaces, AreNamed};
 
-use name_set::NameSet;
+use name_lookup::NameTable;
 use smv_items::{FlatItem, ItemKind};
 use std::alloc::Global;
 use text_core::NoMemory;
@@ -18,7 +18,7 @@ pub struct ItemPlace {
 pub(crate) fn name_all(
     alloc: Global,
     items: &[FlatItem],
-    names: &mut NameSet,
+    names: &mut NameTable,
 ) -> Result<(), NoMemory>
     ensures { OnOk result (AreNamed names.new items.now) }
 {
@@ -34,7 +34,7 @@ pub(crate) fn name_all(
 pub(crate) fn places_of(
     alloc: Global,
     items: &[FlatItem],
-    names: &NameSet,
+    names: &NameTable,
 ) -> Result<Vec<ItemPlace>, NoMemory>
     requires { AreNamed names.now items.now }
     ensures { IfOk result (λ places. HavePlaces names.now places.items items.now) }

@@ -1,17 +1,18 @@
 // Rows of values, filled again for each state.
 ghost use Rattle.std.specs.Prelude.{◌≡◌, ◌<◌, true, length, nat_lt, OnOk};
 ghost use Rattle.std.specs.List.{list_all};
-ghost use Rattle.smv_meaning.specs.Values.{given};
-ghost use Rattle.smv_flat_laws.specs.FlatTruth.{symbol_value, IsRow};
+ghost use Rattle.smv_meaning.specs.Values.{Valuation, given};
+ghost use Rattle.smv_flat_laws.specs.FlatTruth.{symbol_value};
 ghost use Rattle.smv_flat_evaluation.specs.RowValues.{row_values};
 ghost use Rattle.smv_rows.specs.Filling.{body_plain, bodies_in, with_body, filled, BodySafe, FillsSafely};
-ghost use Rattle.smv_rows.specs.Parts.{parts_plain};
+ghost use Rattle.smv_rows.specs.Held.{HoldsState, HoldsLabel};
 ghost use Rattle.smv_rows.specs.RowOrders.{IsRowOrder};
-ghost use Rattle.smv_rows.specs.Truths.{RowsAreSafe, Gives, CanFill, Fills};
+ghost use Rattle.smv_rows.specs.Truths.{Gives, CanFill, Fills};
 
 use crate::order::RowOrder;
 use crate::parts::FlatParts;
 use crate::variables::{give_names, give_variables};
+use name_lookup::Successors;
 use smv_flat::FlatExpr;
 use smv_flat_evaluation::evaluate;
 use smv_meaning::State;
@@ -25,6 +26,7 @@ pub struct Row<'a> {
     pub values: Vec<Seen<'a>>,
     pub state: Vec<Seen<'a>>,
     pub label: Vec<Seen<'a>>,
+    successors: Successors,
 }
 
 impl<'a> Row<'a> {
@@ -34,6 +36,7 @@ impl<'a> Row<'a> {
             values: Vec::new(alloc),
             state: Vec::new(alloc),
             label: Vec::new(alloc),
+            successors: Successors::new(alloc),
         }
     }
 
@@ -45,10 +48,14 @@ impl<'a> Row<'a> {
         state: &'a State,
         label: &'a State,
     ) -> Result<(), NoMemory>
-        ensures { OnOk result (Gives order.now (given state.now) (given label.now) self.new.values.items) }
+        ensures values { OnOk result (Gives order.now (given state.now) (given label.now) self.new.values.items) }
+        // The row holds the values of the state and of the label.
+        ensures state { OnOk result (HoldsState order.now (given state.now) self.new) }
+        ensures label { OnOk result (HoldsLabel order.now (given label.now) self.new) }
     {
-        give_names(&order.names, state, &mut self.state)?;
-        give_names(&order.names, label, &mut self.label)?;
+        self.successors.cover(&order.names)?;
+        give_names(&order.names, state, &mut self.successors, &mut self.state)?;
+        give_names(&order.names, label, &mut self.successors, &mut self.label)?;
         give_variables(
             order.places.as_slice(),
             self.state.as_slice(),
@@ -63,7 +70,8 @@ impl<'a> Row<'a> {
         requires order { IsRowOrder flat.now order.now }
         // Each integer on the way fits 64 bits.
         requires safe { CanFill flat.now self.old.values.items }
-        ensures { Fills flat.now self.old.values.items self.new.values.items }
+        ensures values { Fills flat.now self.old.values.items self.new.values.items }
+        ensures state { self.new.state ≡ self.old.state }
     {
         fill_bodies(
             flat.symbols,
@@ -73,22 +81,16 @@ impl<'a> Row<'a> {
         );
     }
 
-    /// Gives each item its value under the state and the label: a variable the one that is given, a definition or an actual that of
-    /// its body.
-    pub fn fill(
-        &mut self,
-        flat: &FlatParts<'a>,
-        order: &RowOrder,
-        state: &'a State,
-        label: &'a State,
-    ) -> Result<(), NoMemory>
-        requires order { IsRowOrder flat.now order.now }
-        // Each integer on the way fits 64 bits.
-        requires safe { RowsAreSafe (parts_plain flat.now) (given state.now) (given label.now) }
-        ensures { OnOk result (IsRow (parts_plain flat.now) (given state.now) (given label.now) (row_values self.new.values.items)) }
+    /// Gives each variable its value of the state that the row holds, or as an input of the label that the other row holds.
+    pub fn give_again(&mut self, order: &RowOrder, other: &Row<'a>) -> Result<(), NoMemory>
+        ensures { OnOk result ((state label : Valuation) → HoldsState order.now state self.old → HoldsLabel order.now label other.now → Gives order.now state label self.new.values.items) }
     {
-        self.give(order, state, label)?;
-        self.evaluate(flat, order);
+        give_variables(
+            order.places.as_slice(),
+            self.state.as_slice(),
+            other.label.as_slice(),
+            &mut self.values,
+        )?;
         Ok(())
     }
 }

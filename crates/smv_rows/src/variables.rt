@@ -7,7 +7,7 @@ ghost use Rattle.smv_flat_evaluation.specs.RowValues.{row_values};
 ghost use Rattle.smv_rows.specs.Places.{NamesHave, given_value};
 
 use crate::places::ItemPlace;
-use name_set::NameSet;
+use name_lookup::{NameTable, Successors};
 use smv_flat_evaluation::item_at;
 use smv_items::ItemKind;
 use smv_meaning::{State, Value};
@@ -30,29 +30,40 @@ fn clear_values<'a>(count: usize, values: &mut Vec<Seen<'a>>) -> Result<(), NoMe
 
 /// Gives each name, at its place, what the state gives it; of two values of one name the first counts.
 pub(crate) fn give_names<'a>(
-    names: &NameSet,
+    names: &NameTable,
     state: &'a State,
+    successors: &mut Successors,
     values: &mut Vec<Seen<'a>>,
 ) -> Result<(), NoMemory>
     ensures { OnOk result (NamesHave names.now (given state.now) values.new.items) }
 {
+    if state.len() == 0 {
+        values.clear();
+        return Ok(());
+    }
     clear_values(names.len(), values)?;
     let mut k = state.len();
     while k > 0 {
         k -= 1;
         let entry = state.at(k);
-        give_name(names, entry.name.bytes(), &entry.value, values);
+        give_name(names, entry.name.bytes(), &entry.value, successors, values);
     }
     Ok(())
 }
 
 // Gives a name its value at its place, where it is one of the names.
-fn give_name<'a>(names: &NameSet, name: &[u8], value: &'a Value, values: &mut Vec<Seen<'a>>)
+fn give_name<'a>(
+    names: &NameTable,
+    name: &[u8],
+    value: &'a Value,
+    successors: &mut Successors,
+    values: &mut Vec<Seen<'a>>,
+)
     requires { length values.old.items ≡ length names.now }
     ensures size { length values.new.items ≡ length values.old.items }
     ensures given { (x : List ℕ) (p : ℕ) → place_of names.now x ≡ Some p → row_values values.new.items p ≡ (if bytes_eq name.now x then value.now else row_values values.old.items p) }
 {
-    match names.place(name) {
+    match successors.place(names, name) {
         None => {}
         Some(p) => {
             values[p] = borrowed(value);

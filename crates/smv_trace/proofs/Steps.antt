@@ -1,6 +1,6 @@
 -- Steps one behind another, and what each line is.
 use Rattle.std.proofs.Common.{◌≡◌, true, false, Option, Some, None, List, ℕ, Result, Ok, Err, refl, sym, ap, ◌∙◌, subst}
-use Rattle.std.specs.Prelude.{is_some, codes}
+use Rattle.std.specs.Prelude.{is_some, codes, slice_get}
 use Rattle.std.proofs.lemmas.Bool.{cond-true, cond-false}
 use Rattle.text_core.specs.declared.place.Kind.TheVariants.{Y}
 use Rattle.text_core.specs.declared.place.Place.{Place}
@@ -9,9 +9,12 @@ use Rattle.text_core.specs.declared.end.End.{End}
 use Rattle.text_core.specs.declared.end.End.TheVariants.{Bad, NoMemory}
 use Rattle.smv_trace.specs.declared.heading.Heading.{Heading}
 use Rattle.smv_trace.specs.declared.heading.Heading.TheVariants.{State, Input}
-use Rattle.smv_trace.specs.Runs.{Declarations}
+use Rattle.smv_meaning.specs.declared.value.Value.{Value}
+use Rattle.smv_items.specs.FlatItems.{PlainFlatItem}
+use Rattle.smv_trace.specs.Runs.{Declarations, picks}
+use Rattle.smv_trace.specs.Values.{value_of}
 use Rattle.smv_trace_text.specs.Lines.{is_passed, heading_numbers}
-use Rattle.smv_trace.specs.Reading.{Reading, go_on, ended, heading_line, other_step, state_step, step, run_of, finished_at, finished}
+use Rattle.smv_trace.specs.Reading.{Reading, go_on, ended, is_define, with_value, item_line, heading_line, other_step, state_step, step, run_of, finished_at, finished}
 use Rattle.smv_trace.specs.Answer.{Leaves, Finishes}
 
 -- the first of two steps is refused
@@ -45,6 +48,12 @@ finish_some d end r new result some h = go r.heading some h
     go None e h = absurd (let g : false ≡ true = e in cc)
     go (Some i) e h = last_finishes (ended d Input (Some i) r) new result h
 
+-- a value of an item that the heading states
+pub item_taken : (d : Declarations) (h : Heading) (at : Place) (text : List ℕ) (k : ℕ) (r : Reading) (m : PlainFlatItem) (v : Option Value) → slice_get d.items k ≡ Some m → is_define m.kind ≡ false → picks h m.kind ≡ true
+    → v ≡ value_of d.symbols m.type text → item_line d h at text k r (slice_get d.items k) ≡ with_value at k r v
+item_taken d h at text k r m v is define picked value =
+    ap (item_line d h at text k r) is ∙ cond-false (is_define m.kind) _ _ define ∙ cond-true (picks h m.kind) _ _ picked ∙ ap (with_value at k r) (sym value)
+
 -- what a line is
 pub passed_step : (d : Declarations) (at : Place) (line : List ℕ) (r : Reading) → is_passed line ≡ true → step d at line r ≡ Ok r
 unfolding step
@@ -57,3 +66,7 @@ state_heading d at line r p e f = cond-false (is_passed line) _ _ e ∙ ap (stat
 pub other_line : (d : Declarations) (at : Place) (line : List ℕ) (r : Reading) → is_passed line ≡ false → heading_numbers (codes "State:") line ≡ None → step d at line r ≡ other_step d at line r r.heading
 unfolding step
 other_line d at line r e f = cond-false (is_passed line) _ _ e ∙ ap (state_step d at line r) f
+
+pub marked_step : (d : Declarations) (at : Place) (line : List ℕ) (r : Reading) → is_passed line ≡ false → step d at line r ≡ state_step d at line r (heading_numbers (codes "State:") line)
+unfolding step
+marked_step d at line r e = cond-false (is_passed line) _ _ e

@@ -1,6 +1,7 @@
 //! Traces of SMV models: printed, and read against the flat form of a model.
 #![tactic(auto)]
 
+mod fault;
 mod heading;
 mod laws;
 mod print;
@@ -11,5 +12,5 @@ mod values;
 
 pub use laws::{not_both, one_of_both, one_refusal, one_trace, printed_reads_back, small_traces};
 pub use print::print_trace;
-pub use read::{MOST_BYTES, TraceEnd, read_trace};
-pub use reader::{MOST_STATES, MOST_VALUES};
+pub use read::{TraceEnd, read_trace};
+pub use reader::{MOST_BYTES, MOST_STATES, MOST_VALUES};

@@ -7,17 +7,14 @@ ghost use Rattle.smv_trace.specs.Reading.{begin, is_within};
 ghost use Rattle.smv_trace.specs.Texts.{lines_read, trace_of};
 ghost use Rattle.smv_trace.specs.Answer.{Answers, Finishes, declarations_of};
 
-use crate::reader::{Reader, refused};
+use crate::reader::{MOST_BYTES, Reader, refused};
 use crate::table::Table;
 use smv_flatten::Flat;
 use smv_meaning::Run;
-use smv_trace_text::{length_before, trimmed};
+use smv_trace_text::{line_length, trimmed};
 use std::alloc::Global;
 use text_core::kinds::trace;
 use text_core::{End, FIRST_PLACE, Place};
-
-/// The most bytes of a trace.
-pub const MOST_BYTES: usize = 67108864;
 
 /// Why a text is not read as a trace.
 pub type TraceEnd = End;
@@ -44,17 +41,27 @@ fn read_lines(alloc: Global, table: &Table, text: &[u8], reader: &mut Reader) ->
     let mut rest = text;
     let mut at = FIRST_PLACE;
     'lines: loop {
-        let (line, marked) = rest.split_at(length_before(b'\n', rest));
+        let (line, marked) = rest.split_at(line_length(rest));
         match reader.take_line(alloc, table, at, trimmed(line)) {
             Ok(()) => {}
             Err(end) => return Err(end),
         }
         let Some((_, more)) = marked.split_first() else {
-            return reader.finish(alloc, table, FIRST_PLACE.after(text))
+            return reader.finish(alloc, table, text)
         };
         at = behind_line(at, line);
         rest = more;
     }
+}
+
+// The run of a text that is short enough, against what a model declares.
+fn read_against(alloc: Global, table: &Table, text: &[u8]) -> Result<Run, TraceEnd>
+    requires { length text.now ≤ MOST_BYTES }
+    ensures { Answers (trace_of table.now text.now) result }
+{
+    let mut reader = Reader::new(alloc, table)?;
+    read_lines(alloc, table, text, &mut reader)?;
+    Ok(reader.run())
 }
 
 // The run of a text that is short enough.
@@ -63,9 +70,7 @@ fn read_text(alloc: Global, flat: &Flat, text: &[u8]) -> Result<Run, TraceEnd>
     ensures { Answers (trace_of (declarations_of flat.now) text.now) result }
 {
     let table = Table::of(alloc, flat)?;
-    let mut reader = Reader::new(alloc, &table)?;
-    read_lines(alloc, &table, text, &mut reader)?;
-    Ok(reader.run())
+    read_against(alloc, &table, text)
 }
 
 /// The run that a text states for a model (the layout is this translator's own; headings and values look like those of NuSMV's

@@ -1,26 +1,31 @@
 // The reader of a trace, line by line.
-ghost use Rattle.std.specs.Prelude.{◌≡◌, ◌<◌, ◌+◌, ◌^◌, ◌&&◌, ◌++◌, length, decimal, Some, is_none, is_some, IfOk, OnOk};
+ghost use Rattle.std.specs.Prelude.{◌≡◌, ◌<◌, ◌≤◌, ◌+◌, ◌^◌, ◌&&◌, ◌++◌, codes, length, decimal, ℕ, List, None, Some, is_none, is_some, IfOk, OnOk};
 ghost use Rattle.std.specs.Str.{bytes_eq};
 ghost use Rattle.text_core.specs.declared.end.End.TheVariants as end;
+ghost use Rattle.text_core.specs.Places.{start, after};
 ghost use Rattle.smv_items.specs.FlatItemView.{item_plain};
 ghost use Rattle.smv_trace.specs.declared.heading.Heading.TheVariants as heading;
 ghost use Rattle.smv_trace.specs.Runs.{picks};
-ghost use Rattle.smv_trace_text.specs.Lines.{value_parts};
+ghost use Rattle.smv_trace_text.specs.Lines.{heading_numbers, value_parts};
 ghost use Rattle.smv_trace.specs.Reading.{lacks, given_if, values_of, lacks_state, labels_on, with_state, ended, is_within, is_numbered, is_allowed, begun, heading_line, is_define, with_value, item_line, placed_line, value_line, value_step, label_step, other_step, state_step, step, finished, begin, nothing_stated};
-ghost use Rattle.smv_trace.specs.Answer.{Leaves, Finishes};
+ghost use Rattle.smv_trace.specs.Answer.{Leaves, Finishes, Takes};
 
+use crate::fault::ValueFault;
 use crate::heading::Heading;
 use crate::table::Table;
 use crate::values::value_of;
 use itoa::Buffer;
+use name_lookup::Successors;
 use smv_flatten::{FlatItem, ItemKind};
 use smv_meaning::{Given, Run, State, States, Value};
-use smv_trace_text::{heading_numbers, is_passed, value_parts};
+use smv_trace_text::{begins_with_dash, heading_numbers, is_passed, value_parts};
 use std::alloc::Global;
 use std::marker::Model;
 use text_core::kinds::trace;
 use text_core::{End, FIRST_PLACE, Kind, Name, NoMemory, Place, Refusal};
 
+/// The most bytes of a trace.
+pub const MOST_BYTES: usize = 67108864;
 /// The most states of a trace.
 pub const MOST_STATES: u64 = 100000;
 /// The most that the states of a trace times the variables may be, inputs among them.
@@ -35,6 +40,7 @@ pub struct Reader {
     stated: Vec<Option<Value>>,
     states: States,
     labels: States,
+    successors: Successors,
 }
 
 impl Model for Reader {
@@ -172,6 +178,8 @@ impl Reader {
     {
         let stated = nothing_stated(alloc, table)?;
         let first = Name::of(alloc, b"")?;
+        let mut successors = Successors::new(alloc);
+        successors.cover(table.names())?;
         Ok(Reader {
             heading: None,
             place: FIRST_PLACE,
@@ -179,6 +187,7 @@ impl Reader {
             stated,
             states: States::new(alloc),
             labels: States::new(alloc),
+            successors,
         })
     }
 
@@ -330,17 +339,17 @@ impl Reader {
         }
     }
 
-    fn state_value(&mut self, at: Place, k: usize, value: Option<Value>) -> Result<(), End>
+    fn state_value(&mut self, k: usize, value: Option<Value>) -> Result<(), ValueFault>
         requires { k < length self.old.stated }
         ensures sized { length self.new.stated ≡ length self.old.stated }
-        ensures step { Leaves (with_value at k self.old value) self.new result }
+        ensures step { (at : Place) → Takes at (with_value at k self.old value) self.new result }
     {
         match value {
             Some(value) => {
                 self.stated[k] = Some(value);
                 Ok(())
             }
-            None => Err(refused(trace::VALUE, at)),
+            None => Err(ValueFault::Value),
         }
     }
 
@@ -349,24 +358,25 @@ impl Reader {
         alloc: Global,
         table: &Table,
         heading: Heading,
-        at: Place,
         text: &[u8],
         k: usize,
-    ) -> Result<(), End>
+    ) -> Result<(), ValueFault>
         requires sized { length self.old.stated ≡ length table.now.items }
         requires within { k < length table.now.items }
         ensures sized { length self.new.stated ≡ length self.old.stated }
-        ensures step { Leaves (placed_line table.now heading at text.now self.old (Some k)) self.new result }
+        ensures step { (at : Place) → Takes at (placed_line table.now heading at text.now self.old (Some k)) self.new result }
     {
         let item = table.item(k);
         if is_define(item.kind) {
             return Ok(());
         }
         if !heading.picks(item.kind) {
-            return Err(refused(trace::UNKNOWN, at));
+            return Err(ValueFault::Name);
         }
-        let value = value_of(alloc, table, item.ty, text)?;
-        self.state_value(at, k, value)
+        match value_of(alloc, table, item.ty, text) {
+            Ok(value) => self.state_value(k, value),
+            Err(_) => Err(ValueFault::NoMemory),
+        }
     }
 
     fn value_line(
@@ -374,17 +384,16 @@ impl Reader {
         alloc: Global,
         table: &Table,
         heading: Heading,
-        at: Place,
         name: &[u8],
         text: &[u8],
-    ) -> Result<(), End>
+    ) -> Result<(), ValueFault>
         requires { length self.old.stated ≡ length table.now.items }
         ensures sized { length self.new.stated ≡ length self.old.stated }
-        ensures step { Leaves (value_line table.now heading at (name.now, text.now) self.old) self.new result }
+        ensures step { (at : Place) → Takes at (value_line table.now heading at (name.now, text.now) self.old) self.new result }
     {
-        match table.place(name) {
-            Some(k) => self.item_line(alloc, table, heading, at, text, k),
-            None => Err(refused(trace::UNKNOWN, at)),
+        match table.place(&mut self.successors, name) {
+            Some(k) => self.item_line(alloc, table, heading, text, k),
+            None => Err(ValueFault::Name),
         }
     }
 
@@ -393,16 +402,37 @@ impl Reader {
         alloc: Global,
         table: &Table,
         heading: Heading,
+        line: &[u8],
+    ) -> Result<(), ValueFault>
+        requires { length self.old.stated ≡ length table.now.items }
+        ensures sized { length self.new.stated ≡ length self.old.stated }
+        ensures step { (at : Place) → Takes at (value_step table.now heading at self.old (value_parts line.now)) self.new result }
+    {
+        match value_parts(line) {
+            Some((name, text)) => self.value_line(alloc, table, heading, name, text),
+            None => Err(ValueFault::Shape),
+        }
+    }
+
+    // A line that doesn't begin like a heading.
+    fn plain_line(
+        &mut self,
+        alloc: Global,
+        table: &Table,
         at: Place,
         line: &[u8],
     ) -> Result<(), End>
-        requires { length self.old.stated ≡ length table.now.items }
+        requires sized { length self.old.stated ≡ length table.now.items }
+        requires plain { (word : List ℕ) → heading_numbers word line.now ≡ None }
         ensures sized { length self.new.stated ≡ length self.old.stated }
-        ensures step { Leaves (value_step table.now heading at self.old (value_parts line.now)) self.new result }
+        ensures step { Leaves (other_step table.now at line.now self.old self.old.heading) self.new result }
     {
-        match value_parts(line) {
-            Some((name, text)) => self.value_line(alloc, table, heading, at, name, text),
-            None => Err(refused(trace::LINE, at)),
+        let Some(heading) = self.heading else {
+            return Ok(())
+        };
+        match self.value_step(alloc, table, heading, line) {
+            Ok(()) => Ok(()),
+            Err(fault) => Err(fault.at(at)),
         }
     }
 
@@ -425,7 +455,30 @@ impl Reader {
             Some((first, second)) => {
                 self.heading_line(alloc, table, Heading::Input, at, first, second)
             }
-            None => self.value_step(alloc, table, heading, at, line),
+            None => match self.value_step(alloc, table, heading, line) {
+                Ok(()) => Ok(()),
+                Err(fault) => Err(fault.at(at)),
+            },
+        }
+    }
+
+    // A line that begins like a heading.
+    fn marked_line(
+        &mut self,
+        alloc: Global,
+        table: &Table,
+        at: Place,
+        line: &[u8],
+    ) -> Result<(), End>
+        requires { length self.old.stated ≡ length table.now.items }
+        ensures sized { length self.new.stated ≡ length self.old.stated }
+        ensures step { Leaves (state_step table.now at line.now self.old (heading_numbers (codes "State:") line.now)) self.new result }
+    {
+        match heading_numbers(b"State:", line) {
+            Some((first, second)) => {
+                self.heading_line(alloc, table, Heading::State, at, first, second)
+            }
+            None => self.other_line(alloc, table, at, line),
         }
     }
 
@@ -444,21 +497,21 @@ impl Reader {
         if is_passed(line) {
             return Ok(());
         }
-        match heading_numbers(b"State:", line) {
-            Some((first, second)) => {
-                self.heading_line(alloc, table, Heading::State, at, first, second)
-            }
-            None => self.other_line(alloc, table, at, line),
+        if begins_with_dash(line) {
+            self.marked_line(alloc, table, at, line)
+        } else {
+            self.plain_line(alloc, table, at, line)
         }
     }
 
-    /// Ends the text at this place.
-    pub fn finish(&mut self, alloc: Global, table: &Table, end: Place) -> Result<(), End>
-        requires { length self.old.stated ≡ length table.now.items }
-        ensures { Finishes (finished table.now end self.old) self.new result }
+    /// Ends the text.
+    pub fn finish(&mut self, alloc: Global, table: &Table, text: &[u8]) -> Result<(), End>
+        requires few { length text.now ≤ MOST_BYTES }
+        requires sized { length self.old.stated ≡ length table.now.items }
+        ensures { Finishes (finished table.now (after start text.now) self.old) self.new result }
     {
         if !self.has_begun() {
-            return Err(refused(trace::LINE, end));
+            return Err(refused(trace::LINE, FIRST_PLACE.after(text)));
         }
         self.end(alloc, table, Heading::Input)
     }

@@ -6,6 +6,7 @@ ghost use Rattle.smv_trace.specs.Reading.{is_variable, variables_of};
 ghost use Rattle.smv_trace.specs.Answer.{declarations_of};
 
 use crate::heading::Heading;
+use name_lookup::{NameTable, Successors};
 use name_set::NameSet;
 use smv_flatten::{Flat, FlatItem, FlatItems};
 use std::alloc::Global;
@@ -16,7 +17,7 @@ use text_core::NoMemory;
 #[derive(Drop)]
 pub struct Table<'a> {
     items: &'a FlatItems,
-    names: NameSet,
+    names: NameTable,
     symbols: NameSet,
     variables: usize,
 }
@@ -36,10 +37,10 @@ impl<'a> Model for Table<'a> {
 
 // The names of the items, each of which an accepted model has once.
 #[tactic(auto, using(crate::proofs::Lists::front_is, crate::proofs::Lists::end_is, crate::proofs::Lists::joined_on))]
-fn names_of(alloc: Global, items: &FlatItems) -> Result<NameSet, NoMemory>
+fn names_of(alloc: Global, items: &FlatItems) -> Result<NameTable, NoMemory>
     ensures { IfOk result (λ names. names ≡ map (λ m. m.name) (map item_plain items.now)) }
 {
-    let mut names = NameSet::new(alloc);
+    let mut names = NameTable::new(alloc);
     for k in 0..items.len() {
         if !names.declare(alloc, items.at(k).name.bytes())? {
             return Err(NoMemory);
@@ -112,12 +113,19 @@ impl<'a> Table<'a> {
         self.items.at(k)
     }
 
+    /// The names of the items.
+    pub fn names(&self) -> &NameTable
+        ensures { result.now ≡ map (λ m. m.name) self.now.items }
+    {
+        &self.names
+    }
+
     /// The number of the item of this name.
-    pub fn place(&self, name: &[u8]) -> Option<usize>
+    pub fn place(&self, successors: &mut Successors, name: &[u8]) -> Option<usize>
         ensures place { result ≡ place_of (map (λ m. m.name) self.now.items) name.now }
         ensures within { IfSome result (λ k. k < length self.now.items) }
     {
-        self.names.place(name)
+        successors.place(&self.names, name)
     }
 
     /// Is there a symbol of this name?

@@ -1,15 +1,16 @@
 // Lines of a trace, and what each says by itself.
-ghost use Rattle.std.specs.Prelude.{◌≡◌, ◌≤◌, length};
+ghost use Rattle.std.specs.Prelude.{◌≡◌, ◌≤◌, ℕ, List, None, false, length};
 ghost use Rattle.std.specs.List.{list_all};
 ghost use Rattle.text_core.specs.Bytes.{is_digit};
-ghost use Rattle.smv_text.specs.Bytes.{is_blank, front_length};
-ghost use Rattle.smv_trace_text.specs.Lines.{past_blanks, without_end, trimmed, is_other, halves, is_number, without_zeros, is_passed, numbers_in, numbers_before_end, numbers_behind, heading_numbers, value_behind, value_parts};
+ghost use Rattle.smv_text.specs.Bytes.{is_blank, front_length, heads};
+ghost use Rattle.smv_trace_text.specs.Lines.{past_blanks, without_end, trimmed, is_other, halves, is_number, without_zeros, is_passed, numbers_in, numbers_before_end, numbers_behind, heading_numbers, value_of_rest, value_parts};
 ghost use Rattle.smv_trace_text.specs.Parts.{seen};
 
+use memchr::memchr;
 use text_core::is_digit;
 
 /// How many bytes stand before the first of this kind.
-pub fn length_before(mark: u8, text: &[u8]) -> usize
+pub(crate) fn length_before(mark: u8, text: &[u8]) -> usize
     ensures value { result ≡ front_length (is_other mark) text.now }
     ensures within { result ≤ length text.now }
 {
@@ -25,6 +26,17 @@ pub fn length_before(mark: u8, text: &[u8]) -> usize
     count
 }
 
+/// How many bytes stand before the end of the first line.
+pub fn line_length(text: &[u8]) -> usize
+    ensures value { result ≡ front_length (is_other 10) text.now }
+    ensures within { result ≤ length text.now }
+{
+    match memchr(b'\n', text) {
+        Some(count) => count,
+        None => text.len(),
+    }
+}
+
 // What stands before the first byte of this kind, and what stands behind it, where there is one.
 fn halves(mark: u8, text: &[u8]) -> Option<(&[u8], &[u8])>
     ensures { seen result ≡ halves mark text.now }
@@ -38,7 +50,7 @@ fn halves(mark: u8, text: &[u8]) -> Option<(&[u8], &[u8])>
 fn is_blank(b: u8) -> bool
     ensures { result ≡ is_blank b }
 {
-    (b >= 9 && b <= 13) || b == b' '
+    b == b' ' || (b >= 9 && b <= 13)
 }
 
 fn past_blanks(line: &[u8]) -> &[u8]
@@ -153,6 +165,18 @@ fn numbers_behind<'t>(
     numbers_before_end(numbers, end)
 }
 
+/// Does a line begin like a heading or like a line that is passed over?
+pub fn begins_with_dash(line: &[u8]) -> bool
+    ensures begins { result ≡ heads 45 line.now }
+    // Else it is no heading.
+    ensures plain { result ≡ false → (word : List ℕ) → heading_numbers word line.now ≡ None }
+{
+    match line.split_first() {
+        Some((b, _)) => *b == b'-',
+        None => false,
+    }
+}
+
 /// The two numbers of `-> WORD A.B <-` without the zeros that they begin with, where the line is that.
 pub fn heading_numbers<'t>(word: &[u8], line: &'t [u8]) -> Option<(&'t [u8], &'t [u8])>
     ensures { seen result ≡ heading_numbers word.now line.now }
@@ -162,10 +186,12 @@ pub fn heading_numbers<'t>(word: &[u8], line: &'t [u8]) -> Option<(&'t [u8], &'t
     numbers_behind(word, arrow, second, rest)
 }
 
-fn value_behind<'t>(name: &'t [u8], sign: &[u8], value: &'t [u8]) -> Option<(&'t [u8], &'t [u8])>
-    ensures { seen result ≡ value_behind name.now (sign.now, value.now) }
+fn value_of_rest<'t>(name: &'t [u8], rest: &'t [u8]) -> Option<(&'t [u8], &'t [u8])>
+    ensures { seen result ≡ value_of_rest (name.now, rest.now) }
 {
-    if sign == b"=".as_slice() && halves(b' ', value).is_none() {
+    let (sign, marked) = rest.split_first()?;
+    let (blank, value) = marked.split_first()?;
+    if *sign == b'=' && *blank == b' ' && halves(b' ', value).is_none() {
         Some((name, value))
     } else {
         None
@@ -177,6 +203,5 @@ pub fn value_parts(line: &[u8]) -> Option<(&[u8], &[u8])>
     ensures { seen result ≡ value_parts line.now }
 {
     let (name, rest) = halves(b' ', line)?;
-    let (sign, value) = halves(b' ', rest)?;
-    value_behind(name, sign, value)
+    value_of_rest(name, rest)
 }

@@ -5,7 +5,7 @@ use Rattle.smv_meaning.specs.Instances.{instances_of}
 use Rattle.smv_meaning.specs.Runs.{judged_after}
 use Rattle.smv_flat_evaluation.specs.RowValues.{row_values}
 use Rattle.smv_judge.specs.Models.{step_clauses}
-use Rattle.smv_judge.proofs.StepLaws.{truth_is, rows_safe, rows_true, outside_end, broken_end, none_said}
+use Rattle.smv_judge.proofs.StepLaws.{truth_is, rows_safe, rows_true, outside_end, broken_end, none_said, some_said}
 use Rattle.smv_judge.proofs.judge.judge_steps.Goals as goal
 
 pub returns-then-not-is_empty : goal.returns-then-not-is_empty
@@ -53,6 +53,7 @@ loop-next-preserved c =
     record {
       count = omega (arith, i.count, ap length states);
       row = c.in_ok-clause.ensures.row c.in-None.is;
+      held = c.in_ok-clause.ensures.held c.in-None.is;
       same = λ source k.
           let t = instances_of source in
           let rest = judged_after t c.args.j (c.loop-next.step + 1) u (map given us) (map given ls) in
@@ -61,3 +62,17 @@ loop-next-preserved c =
           ∙ ap (λ (xs : List (List Given)). judged_after t c.args.j c.loop-next.step s (map given (c.in-Some.next.now ∷ us)) (map given xs)) labels)
           ∙ i.same source k;
     }
+
+pub returns-in-Some-2 : goal.returns-in-Some-2
+returns-in-Some-2 c = λ source k.
+    let s = given c.loop-next.state.now in
+    let u = given c.in-Some.next.now in
+    let l = given c.in-Some-split_first.label.now in
+    let us = c.in-Some.others.now in
+    let ls = c.in-Some-split_first.more.now in
+    let t = instances_of source in
+    let rest = judged_after t c.args.j (c.loop-next.step + 1) u (map given us) (map given ls) in
+    some_said (c.loop-next.step + 1) (step_clauses t s l u) rest c.in-Some-2.clause (sym c.in-Some-2.is ∙ c.in_ok-clause.ensures.clause source k)
+    ∙ sym (ap (λ (xs : List (List Given)). judged_after t c.args.j c.loop-next.step s (map given xs) (map given c.loop-next.labels.now)) c.in-Some.ensures.cases.0
+    ∙ ap (λ (xs : List (List Given)). judged_after t c.args.j c.loop-next.step s (map given (c.in-Some.next.now ∷ us)) (map given xs)) c.in-Some-split_first.ensures.cases.0)
+    ∙ c.loop-next.invariant.same source k

@@ -16,7 +16,7 @@ returns-then-not-items_fit-clause-clause c =
     let flat = c.args.flat.now in
     let m = c.requires.model in
     let values = c.give.new.self.values.items in
-    let g = c.in_ok-give.ensures flat.items.now c.requires.order.places in
+    let g = c.in_ok-give.ensures.values flat.items.now c.requires.order.places in
     let s = given c.args.state.now in
     let l = given c.args.label.now in
     let u = given c.args.following.now in
@@ -28,43 +28,45 @@ evaluate-requires-clause-safe c =
     let flat = c.args.flat.now in
     let m = c.requires.model in
     let values = c.give.new.self.values.items in
-    let g = c.in_ok-give.ensures flat.items.now c.requires.order.places in
+    let g = c.in_ok-give.ensures.values flat.items.now c.requires.order.places in
     let s = given c.args.state.now in
     let l = given c.args.label.now in
     let u = given c.args.following.now in
     let fits = told flat values c.as_slice.result.now c.items_fit.result true c.as_slice.ensures.value c.items_fit.ensures c.if-not-items_fit.false in
     can_fill flat m u l values g fits
 
-pub fill-requires-clause-safe : goal.fill-requires-clause-safe
-fill-requires-clause-safe c =
+pub evaluate-requires-2-clause-safe : goal.evaluate-requires-2-clause-safe
+evaluate-requires-2-clause-safe c =
     let flat = c.args.flat.now in
     let m = c.requires.model in
     let values = c.give.new.self.values.items in
-    let g = c.in_ok-give.ensures flat.items.now c.requires.order.places in
+    let g = c.in_ok-give.ensures.values flat.items.now c.requires.order.places in
     let s = given c.args.state.now in
     let l = given c.args.label.now in
     let u = given c.args.following.now in
     let fits = told flat values c.as_slice.result.now c.items_fit.result true c.as_slice.ensures.value c.items_fit.ensures c.if-not-items_fit.false in
-    all_safe flat m s l c.requires.state (λ source k. (both_fit flat source k u l values g fits).1)
+    let again = c.in_ok-give_again.ensures s l c.requires.held c.in_ok-give.ensures.label flat.items.now c.requires.order.places in
+    (s, l, again, all_safe flat m s l c.requires.state (λ source k. (both_fit flat source k u l values g fits).1))
 
 pub step_holds-requires : goal.step_holds-requires
 step_holds-requires c =
     let flat = c.args.flat.now in
     let m = c.requires.model in
     let values = c.give.new.self.values.items in
-    let g = c.in_ok-give.ensures flat.items.now c.requires.order.places in
+    let g = c.in_ok-give.ensures.values flat.items.now c.requires.order.places in
     let s = given c.args.state.now in
     let l = given c.args.label.now in
     let u = given c.args.following.now in
     let fits = told flat values c.as_slice.result.now c.items_fit.result true c.as_slice.ensures.value c.items_fit.ensures c.if-not-items_fit.false in
     let new = c.evaluate.new.self.values.items in
-    let row = c.evaluate.ensures u l g in
+    let row = c.evaluate.ensures.values u l g in
     let state : (source : PlainSource) → IsFlatOf source (parts_plain flat) → IsTrue (state_fits (instances_of source) u) = λ source k. (both_fit flat source k u l values g fits).0 in
     let label : (source : PlainSource) → IsFlatOf source (parts_plain flat) → IsTrue (label_fits (instances_of source) l) = λ source k. (both_fit flat source k u l values g fits).1 in
     let values_fit : (source : PlainSource) → IsFlatOf source (parts_plain flat) → (state_fits (instances_of source) u && label_fits (instances_of source) l) ≡ true =
     λ source k. both_same _ _ true true (state source k) (label source k) in
-    let old = c.fill.new.self.values.items in
-    let before = c.in_ok-fill.ensures in
+    let old = c.evaluate-2.new.self.values.items in
+    let again = c.in_ok-give_again.ensures s l c.requires.held c.in_ok-give.ensures.label flat.items.now c.requires.order.places in
+    let before = c.evaluate-2.ensures.values s l again in
     rows_safe flat m.0 m.1 s l u l (c.requires.state m.0 m.1) (label m.0 m.1) (state m.0 m.1) (label m.0 m.1) (row_values old) (row_values new) before row
 
 pub returns-then-not-step_holds-clause-clause : goal.returns-then-not-step_holds-clause-clause
@@ -72,19 +74,20 @@ returns-then-not-step_holds-clause-clause c =
     let flat = c.args.flat.now in
     let m = c.requires.model in
     let values = c.give.new.self.values.items in
-    let g = c.in_ok-give.ensures flat.items.now c.requires.order.places in
+    let g = c.in_ok-give.ensures.values flat.items.now c.requires.order.places in
     let s = given c.args.state.now in
     let l = given c.args.label.now in
     let u = given c.args.following.now in
     let fits = told flat values c.as_slice.result.now c.items_fit.result true c.as_slice.ensures.value c.items_fit.ensures c.if-not-items_fit.false in
     let new = c.evaluate.new.self.values.items in
-    let row = c.evaluate.ensures u l g in
+    let row = c.evaluate.ensures.values u l g in
     let state : (source : PlainSource) → IsFlatOf source (parts_plain flat) → IsTrue (state_fits (instances_of source) u) = λ source k. (both_fit flat source k u l values g fits).0 in
     let label : (source : PlainSource) → IsFlatOf source (parts_plain flat) → IsTrue (label_fits (instances_of source) l) = λ source k. (both_fit flat source k u l values g fits).1 in
     let values_fit : (source : PlainSource) → IsFlatOf source (parts_plain flat) → (state_fits (instances_of source) u && label_fits (instances_of source) l) ≡ true =
     λ source k. both_same _ _ true true (state source k) (label source k) in
-    let old = c.fill.new.self.values.items in
-    let before = c.in_ok-fill.ensures in
+    let old = c.evaluate-2.new.self.values.items in
+    let again = c.in_ok-give_again.ensures s l c.requires.held c.in_ok-give.ensures.label flat.items.now c.requires.order.places in
+    let before = c.evaluate-2.ensures.values s l again in
     let goes : (b : Bool) → c.step_holds.result ≡ b → (source : PlainSource) → IsFlatOf source (parts_plain flat) → step_holds (instances_of source) s l u ≡ b =
     λ b e source k.
     let h = rows_true flat source k s l u l (row_values old) (row_values new) before row in
@@ -96,13 +99,13 @@ invar_holds-requires c =
     let flat = c.args.flat.now in
     let m = c.requires.model in
     let values = c.give.new.self.values.items in
-    let g = c.in_ok-give.ensures flat.items.now c.requires.order.places in
+    let g = c.in_ok-give.ensures.values flat.items.now c.requires.order.places in
     let s = given c.args.state.now in
     let l = given c.args.label.now in
     let u = given c.args.following.now in
     let fits = told flat values c.as_slice.result.now c.items_fit.result true c.as_slice.ensures.value c.items_fit.ensures c.if-not-items_fit.false in
     let new = c.evaluate.new.self.values.items in
-    let row = c.evaluate.ensures u l g in
+    let row = c.evaluate.ensures.values u l g in
     let state : (source : PlainSource) → IsFlatOf source (parts_plain flat) → IsTrue (state_fits (instances_of source) u) = λ source k. (both_fit flat source k u l values g fits).0 in
     let label : (source : PlainSource) → IsFlatOf source (parts_plain flat) → IsTrue (label_fits (instances_of source) l) = λ source k. (both_fit flat source k u l values g fits).1 in
     let values_fit : (source : PlainSource) → IsFlatOf source (parts_plain flat) → (state_fits (instances_of source) u && label_fits (instances_of source) l) ≡ true =
@@ -114,19 +117,20 @@ returns-then-not-invar_holds-clause-clause c =
     let flat = c.args.flat.now in
     let m = c.requires.model in
     let values = c.give.new.self.values.items in
-    let g = c.in_ok-give.ensures flat.items.now c.requires.order.places in
+    let g = c.in_ok-give.ensures.values flat.items.now c.requires.order.places in
     let s = given c.args.state.now in
     let l = given c.args.label.now in
     let u = given c.args.following.now in
     let fits = told flat values c.as_slice.result.now c.items_fit.result true c.as_slice.ensures.value c.items_fit.ensures c.if-not-items_fit.false in
     let new = c.evaluate.new.self.values.items in
-    let row = c.evaluate.ensures u l g in
+    let row = c.evaluate.ensures.values u l g in
     let state : (source : PlainSource) → IsFlatOf source (parts_plain flat) → IsTrue (state_fits (instances_of source) u) = λ source k. (both_fit flat source k u l values g fits).0 in
     let label : (source : PlainSource) → IsFlatOf source (parts_plain flat) → IsTrue (label_fits (instances_of source) l) = λ source k. (both_fit flat source k u l values g fits).1 in
     let values_fit : (source : PlainSource) → IsFlatOf source (parts_plain flat) → (state_fits (instances_of source) u && label_fits (instances_of source) l) ≡ true =
     λ source k. both_same _ _ true true (state source k) (label source k) in
-    let old = c.fill.new.self.values.items in
-    let before = c.in_ok-fill.ensures in
+    let old = c.evaluate-2.new.self.values.items in
+    let again = c.in_ok-give_again.ensures s l c.requires.held c.in_ok-give.ensures.label flat.items.now c.requires.order.places in
+    let before = c.evaluate-2.ensures.values s l again in
     let goes : (b : Bool) → c.step_holds.result ≡ b → (source : PlainSource) → IsFlatOf source (parts_plain flat) → step_holds (instances_of source) s l u ≡ b =
     λ b e source k.
     let h = rows_true flat source k s l u l (row_values old) (row_values new) before row in
@@ -142,19 +146,20 @@ returns-clause-clause c =
     let flat = c.args.flat.now in
     let m = c.requires.model in
     let values = c.give.new.self.values.items in
-    let g = c.in_ok-give.ensures flat.items.now c.requires.order.places in
+    let g = c.in_ok-give.ensures.values flat.items.now c.requires.order.places in
     let s = given c.args.state.now in
     let l = given c.args.label.now in
     let u = given c.args.following.now in
     let fits = told flat values c.as_slice.result.now c.items_fit.result true c.as_slice.ensures.value c.items_fit.ensures c.if-not-items_fit.false in
     let new = c.evaluate.new.self.values.items in
-    let row = c.evaluate.ensures u l g in
+    let row = c.evaluate.ensures.values u l g in
     let state : (source : PlainSource) → IsFlatOf source (parts_plain flat) → IsTrue (state_fits (instances_of source) u) = λ source k. (both_fit flat source k u l values g fits).0 in
     let label : (source : PlainSource) → IsFlatOf source (parts_plain flat) → IsTrue (label_fits (instances_of source) l) = λ source k. (both_fit flat source k u l values g fits).1 in
     let values_fit : (source : PlainSource) → IsFlatOf source (parts_plain flat) → (state_fits (instances_of source) u && label_fits (instances_of source) l) ≡ true =
     λ source k. both_same _ _ true true (state source k) (label source k) in
-    let old = c.fill.new.self.values.items in
-    let before = c.in_ok-fill.ensures in
+    let old = c.evaluate-2.new.self.values.items in
+    let again = c.in_ok-give_again.ensures s l c.requires.held c.in_ok-give.ensures.label flat.items.now c.requires.order.places in
+    let before = c.evaluate-2.ensures.values s l again in
     let goes : (b : Bool) → c.step_holds.result ≡ b → (source : PlainSource) → IsFlatOf source (parts_plain flat) → step_holds (instances_of source) s l u ≡ b =
     λ b e source k.
     let h = rows_true flat source k s l u l (row_values old) (row_values new) before row in
@@ -170,13 +175,13 @@ returns-clause-row c =
     let flat = c.args.flat.now in
     let m = c.requires.model in
     let values = c.give.new.self.values.items in
-    let g = c.in_ok-give.ensures flat.items.now c.requires.order.places in
+    let g = c.in_ok-give.ensures.values flat.items.now c.requires.order.places in
     let s = given c.args.state.now in
     let l = given c.args.label.now in
     let u = given c.args.following.now in
     let fits = told flat values c.as_slice.result.now c.items_fit.result true c.as_slice.ensures.value c.items_fit.ensures c.if-not-items_fit.false in
     let new = c.evaluate.new.self.values.items in
-    let row = c.evaluate.ensures u l g in
+    let row = c.evaluate.ensures.values u l g in
     let state : (source : PlainSource) → IsFlatOf source (parts_plain flat) → IsTrue (state_fits (instances_of source) u) = λ source k. (both_fit flat source k u l values g fits).0 in
     let label : (source : PlainSource) → IsFlatOf source (parts_plain flat) → IsTrue (label_fits (instances_of source) l) = λ source k. (both_fit flat source k u l values g fits).1 in
     let values_fit : (source : PlainSource) → IsFlatOf source (parts_plain flat) → (state_fits (instances_of source) u && label_fits (instances_of source) l) ≡ true =

@@ -1,4 +1,8 @@
-use Rattle.std.proofs.Common.{Err, sym, subst}
+use Rattle.std.proofs.Common.{Err, sym, ap, ◌∙◌, subst}
+use Rattle.text_core.specs.declared.end.End.TheVariants.{Bad}
+use Rattle.text_core.specs.declared.place.Place.{Place}
+use Rattle.text_core.specs.declared.place.Kind.TheVariants.{Y}
+use Rattle.text_core.specs.Places.{start, after}
 use Rattle.text_core.specs.declared.end.End.{End}
 use Rattle.smv_trace.specs.Reading.{finished}
 use Rattle.smv_trace.specs.Answer.{Finishes}
@@ -8,8 +12,9 @@ use Rattle.smv_trace.proofs.reader.Reader.finish.Goals as goal
 pub returns-then-not-has_begun : goal.returns-then-not-has_begun
 returns-then-not-has_begun c =
     let r = c.args.self.now in
-    let none = finish_none c.args.table.now c.args.end r (sym c.if-not-has_begun.ensures) in
-    subst (λ (x : End). Finishes {B = Unit {0}} (finished c.args.table.now c.args.end r) r (Err x)) (sym c.refused.ensures) none
+    let end = after start c.args.text.now in
+    let none = finish_none c.args.table.now end r (sym c.if-not-has_begun.ensures) in
+    subst (λ (x : End). Finishes {B = Unit {0}} (finished c.args.table.now end r) r (Err x)) (sym (c.refused.ensures ∙ ap (λ (p : Place). Bad (record { kind = Y 1; place = p })) c.after.ensures)) none
 
 pub returns : goal.returns
-returns c = finish_some c.args.table.now c.args.end c.args.self.now c.end.new.self c.end.result (sym c.if-not-has_begun.ensures) c.end.ensures.step
+returns c = finish_some c.args.table.now (after start c.args.text.now) c.args.self.now c.end.new.self c.end.result (sym c.if-not-has_begun.ensures) c.end.ensures.step
