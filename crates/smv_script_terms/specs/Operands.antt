@@ -91,6 +91,10 @@ abbrev pub link_answers : Question → Coding → ℕ → FlatLinks → Trees
 link_answers q c k no_flat_links = no_trees
 link_answers q c k (flat_link o e ls) = tree (answered q (translation c e) k) (link_answers q c k ls)
 
+-- those of a chain's first operand and of the others
+abbrev pub chain_answers : Question → Coding → ℕ → FlatTree → FlatLinks → Trees
+chain_answers q c k e ls = tree (answered q (translation c e) k) (link_answers q c k ls)
+
 abbrev pub answers : Question → Coding → ℕ → FlatTrees → Trees
 answers q c k no_flat_trees = no_trees
 answers q c k (flat_tree_then e es) = tree (answered q (translation c e) k) (answers q c k es)

@@ -235,7 +235,7 @@ pub(crate) fn infix(
         | Infix::Minus
         | Infix::Times
         | Infix::Divide
-        | Infix::Mod
-        | Infix::Concat => apply_two(alloc, plain_operator(op, words), a, b),
+        | Infix::Mod => apply_two(alloc, plain_operator(op, words), a, b),
+        Infix::Concat => apply_two(alloc, TermOp::Concat, a, b),
     }
 }

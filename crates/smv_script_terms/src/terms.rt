@@ -7,7 +7,7 @@ ghost use Rattle.smv_flat.specs.FlatView.{plain_flat, plain_flat_link, plain_fla
 ghost use Rattle.smv_script.specs.Operators.{repeated, sign_op};
 ghost use Rattle.smv_script.specs.Terms.{is_word, translation, taken_translation};
 ghost use Rattle.smv_script_terms.specs.Questions.{answered, codes_of};
-ghost use Rattle.smv_script_terms.specs.Operands.{answers, behind_term, case_plain, cases_of, link_answers, operand_plain, operands_of};
+ghost use Rattle.smv_script_terms.specs.Operands.{answers, behind_term, case_plain, cases_of, chain_answers, link_answers, operand_plain, operands_of};
 ghost use Rattle.smv_script_terms.specs.Readings.{called_term, chain_answered, folded_answer, gathered_answer, named_subject, ranged_answer, united_answer};
 
 use crate::coding::{Coding, Question, Subject, integer_term};
@@ -151,7 +151,7 @@ fn link_terms(
     first: &FlatExpr,
     links: &[FlatLink],
 ) -> Result<Terms, NoMemory>
-    ensures { IfOk result (λ ts. trees_of (map plain ts.items) ≡ tree (answered question (translation (codes_of coding.now) (plain_flat first.now)) k) (link_answers question (codes_of coding.now) k (flat_links_of (map plain_flat_link links.now)))) }
+    ensures { IfOk result (λ ts. trees_of (map plain ts.items) ≡ chain_answers question (codes_of coding.now) k (plain_flat first.now) (flat_links_of (map plain_flat_link links.now))) }
 {
     let mut all = Vec::new(alloc);
     all.push(stated(alloc, coding, k, question, first)?)?;

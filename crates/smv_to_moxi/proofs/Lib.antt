@@ -1,5 +1,6 @@
 mod Scripts
 mod SpelledScripts
+mod Bounded
 pub mod LiftedParts
 pub mod LiftedSteps
 pub mod LiftedWords

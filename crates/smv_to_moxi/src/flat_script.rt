@@ -3,22 +3,30 @@ ghost use Rattle.std.specs.Prelude.{◌≡◌, IfOk};
 ghost use Rattle.moxi_scripts.specs.ScriptView.{plain_script};
 ghost use Rattle.smv_flatten.specs.FlatModel.{flat_plain};
 ghost use Rattle.smv_script.specs.Script.{script_of};
+ghost use Rattle.smv_to_moxi.specs.Bounds.{IsBounded};
 
 use crate::script::script_in;
 use moxi_scripts::Script;
 use moxi_terms::Scope;
 use smv_flatten::Flat;
+use smv_script_bounds::{brackets_are_few, counts_are_weighed, heights_are_low, sizes_are_weighed};
 use smv_script_whole::scripts_are_spelled;
 use std::alloc::Global;
 use text_core::NoMemory;
 
 /// The script of MoXI that stands for a flat form (MoXI, SPIN 2024): one system with a variable for each item, and for each invariant
-/// a query that a state which breaks it meets. Only want of memory keeps it from being made.
+/// a query that a state which breaks it meets. It is linear in the model's weight, and neither high nor deep. Only want of memory
+/// keeps it from being made.
 pub fn to_moxi(alloc: Global, flat: &Flat) -> Result<Script, NoMemory>
-    ensures { IfOk result (λ s. plain_script s ≡ script_of (flat_plain flat.now) flat.now.width) }
+    ensures script { IfOk result (λ s. plain_script s ≡ script_of (flat_plain flat.now) flat.now.width) }
+    ensures bounded { IfOk result (λ s. IsBounded flat.now.weight (plain_script s)) }
 {
     flat.is_of_model();
     scripts_are_spelled();
+    sizes_are_weighed();
+    counts_are_weighed();
+    heights_are_low();
+    brackets_are_few();
     let mut scope = Scope::new(alloc);
     let script = script_in(
         alloc,
