@@ -9,3 +9,7 @@ pub mod Copied
 pub mod Held
 pub mod Named
 pub mod Placed
+pub mod Agreeing
+pub mod Whole
+pub mod Instanced
+pub mod Accepted

@@ -3,3 +3,4 @@ pub mod Amounts
 pub mod CheckCounts
 pub mod Copying
 pub mod PlainParts
+pub mod Instances

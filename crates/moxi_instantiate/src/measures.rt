@@ -3,6 +3,7 @@ ghost use Rattle.std.specs.Prelude.{◌≡◌, ◌<◌, ◌≤◌, ◌||◌, nat
 ghost use Rattle.moxi_flat.specs.declared.limits.TheConstants as limits;
 ghost use Rattle.digraph.specs.Graph.{IsSorted};
 ghost use Rattle.moxi_scripts.specs.ScriptView.{plain_script};
+ghost use Rattle.moxi_systems.specs.Whole.{IsWhole};
 ghost use Rattle.moxi_sizes.specs.Systems.{script_height, script_nesting, script_size};
 ghost use Rattle.moxi_flat.specs.Limits.{is_too_large};
 ghost use Rattle.moxi_instantiate.specs.Amounts.{AreRanked, amount_upto, links_of};
@@ -26,6 +27,13 @@ pub struct Measures {
     pub size: u64,
     pub height: u64,
     pub nesting: u64,
+}
+
+// Forms spell the script, so that it is whole. This function does nothing.
+pub(crate) fn script_is_whole(script: &Script)
+    ensures { ∥ IsWhole (plain_script script.now) ∥₁ }
+{
+    spelled_scripts_are_whole();
 }
 
 // The systems of a script have an order, and the checked one is among them. This function does nothing.

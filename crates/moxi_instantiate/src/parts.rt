@@ -9,7 +9,7 @@ use crate::copies::renumbered;
 use moxi_scripts::System;
 use moxi_terms::Term;
 use std::alloc::Global;
-use text_core::{NoMemory, Numbers};
+use text_core::{List, NoMemory, Numbers};
 
 /// The formulas of one instance.
 #[derive(Drop)]
@@ -18,6 +18,9 @@ pub struct Part {
     pub trans: Term,
     pub inv: Term,
 }
+
+/// The formulas of all instances, in preorder.
+pub type Parts = List<Part>;
 
 /// The formulas of an instance of a system, whose variables have the numbers at their places.
 pub fn part_of(alloc: Global, places: &[u32], system: &System) -> Result<Part, NoMemory>

@@ -1,10 +1,13 @@
 // Which scripts have no flat system.
-ghost use Rattle.std.specs.Prelude.{◌≡◌, [], not, IfOk};
+ghost use Rattle.std.specs.Prelude.{◌≡◌, [], not, None, IfOk, IfErr};
+ghost use Rattle.text_core.specs.declared.end.End.TheVariants.{Bad};
+ghost use Rattle.text_core.specs.declared.place.Kind.TheVariants.{M};
 ghost use Rattle.name_set.specs.Names.{are_fresh};
 ghost use Rattle.moxi_print.specs.Terms.{variable_names};
 ghost use Rattle.moxi_scripts.specs.ScriptView.{plain_script};
 ghost use Rattle.moxi_flat.specs.FlatSystem.{flat_of};
 ghost use Rattle.moxi_flat.specs.Limits.{flat_refusal};
+ghost use Rattle.moxi_instantiate.specs.Instances.{IsInstEnd};
 
 use crate::measures::{is_too_large, script_is_ranked};
 use crate::variables::{add_locals, add_named};
@@ -12,7 +15,7 @@ use moxi_scripts::Script;
 use moxi_terms::Variables;
 use name_set::NameSet;
 use std::alloc::Global;
-use text_core::{Kind, List, NoMemory, Refusal};
+use text_core::{End, Kind, List, NoMemory, Refusal};
 
 /// The variables of the flat system: the check's under the check's names, and the locals of all instances under dotted names.
 pub fn flat_variables(alloc: Global, script: &Script) -> Result<Variables, NoMemory>
@@ -39,26 +42,28 @@ fn has_name_twice(alloc: Global, variables: &Variables) -> Result<bool, NoMemory
     Ok(false)
 }
 
-/// Why a script has no flat system, where it has none: M15 where it is too large, and else M9 where two variables have one name,
-/// both at the check. Where it is too large nothing of it is written out.
-pub fn refusal_of(alloc: Global, script: &Script) -> Result<Option<Refusal>, NoMemory>
-    ensures { IfOk result (λ refusal. refusal ≡ flat_refusal (plain_script script.now)) }
+fn refused(kind: u8, script: &Script) -> End
+    ensures { result ≡ Bad (record { kind = M kind; place = script.now.check.place }) }
 {
-    let large = is_too_large(alloc, script)?;
-    if large {
-        return Ok(Some(Refusal {
-            kind: Kind::M(15),
-            place: script.check.place,
-        }));
+    End::Bad(Refusal {
+        kind: Kind::M(kind),
+        place: script.check.place,
+    })
+}
+
+/// The variables of the flat system, where a script has one. It is refused at the check: with `M15` where it is too large, before
+/// anything of it is written out, and else with `M9` where two variables have one name.
+pub fn accepted_variables(alloc: Global, script: &Script) -> Result<Variables, End>
+    ensures variables { IfOk result (λ variables. variables ≡ (flat_of (plain_script script.now)).variables) }
+    ensures accepted { IfOk result (λ _. flat_refusal (plain_script script.now) ≡ None) }
+    ensures refused { IfErr result (IsInstEnd (plain_script script.now)) }
+{
+    if is_too_large(alloc, script)? {
+        return Err(refused(15, script));
     }
     let variables = flat_variables(alloc, script)?;
-    let twice = has_name_twice(alloc, &variables)?;
-    Ok(if twice {
-        Some(Refusal {
-            kind: Kind::M(9),
-            place: script.check.place,
-        })
-    } else {
-        None
-    })
+    if has_name_twice(alloc, &variables)? {
+        return Err(refused(9, script));
+    }
+    Ok(variables)
 }

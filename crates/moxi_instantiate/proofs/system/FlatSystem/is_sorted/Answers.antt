@@ -1,0 +1,5 @@
+use Rattle.moxi_instantiate.proofs.Accepted.{sorted_held}
+use Rattle.moxi_instantiate.proofs.system.FlatSystem.is_sorted.Goals as goal
+
+pub returns : goal.returns
+returns c = sorted_held c.args.self.now c.is_instance.ensures c.flat_systems_are_sorted.ensures

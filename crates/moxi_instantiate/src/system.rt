@@ -1,0 +1,151 @@
+// The flat system of a script.
+ghost use Rattle.std.specs.Prelude.{◌≡◌, ◌≤◌, ◌+◌, [], None, true, length, map, IfOk, IfErr};
+ghost use Rattle.name_set.specs.Names.{are_fresh};
+ghost use Rattle.moxi_print.specs.Terms.{variable_names};
+ghost use Rattle.moxi_scripts.specs.Script.{plain_formula};
+ghost use Rattle.moxi_scripts.specs.ScriptView.{plain_script};
+ghost use Rattle.moxi_flat.specs.declared.limits.TheConstants as limits;
+ghost use Rattle.moxi_flat.specs.FlatSorts.{IsSortedFlat};
+ghost use Rattle.moxi_flat.specs.FlatSystem.{flat_of};
+ghost use Rattle.moxi_flat.specs.Limits.{flat_refusal};
+ghost use Rattle.moxi_instantiate.specs.Instances.{IsInstEnd, IsInstance, flat_height, flat_size};
+ghost use Rattle.moxi_instantiate.specs.PlainParts.{plain_part};
+
+use crate::instances::flat_parts;
+use crate::measures::script_is_whole;
+use crate::parts::Parts;
+use crate::refusals::accepted_variables;
+use moxi_flat::{flat_systems_are_small, flat_systems_are_sorted, flat_systems_have_sizes};
+use moxi_scripts::{Check, Formulas, Queries, Script};
+use moxi_terms::{Scope, Variables};
+use std::alloc::Global;
+use std::marker::Model;
+use text_core::End;
+
+/// Why a script has no flat system.
+pub type InstEnd = End;
+
+/// The flat system of a script: its variables, one part for each system instance, and the check's formulas and queries. Formulas
+/// are over the numbers of the variables and call the functions of the scope.
+#[derive(Drop)]
+pub struct FlatSystem<'a> {
+    scope: &'a Scope,
+    check: &'a Check,
+    variables: Variables,
+    parts: Parts,
+}
+
+impl<'a> Model for FlatSystem<'a> {
+    ghost use Rattle.moxi_terms.specs.Code.{Node, tree_code};
+    ghost use Rattle.moxi_flat.specs.FlatSystem.{PlainFlatSystem};
+    ghost use Rattle.moxi_instantiate.specs.Instances.{IsInstance, flat_form};
+    ghost use Rattle.std.specs.Coded.{Coded, codes};
+
+    ghost Value = { PlainFlatSystem };
+
+    ghost coded = { let node : Coded Node = Prim.hlevel codes in Prim.hlevel (codes, tree_code node) };
+
+    ghost view = { λ f. flat_form f.scope.now f.check.now f.variables f.parts };
+
+    ghost invariant = { λ f. ∥ IsInstance (flat_form f.scope.now f.check.now f.variables f.parts) ∥₁ };
+}
+
+impl<'a> FlatSystem<'a> {
+    /// What the script declares.
+    pub fn scope(&self) -> &Scope
+        ensures { result.now ≡ self.now.scope }
+    {
+        self.scope
+    }
+
+    /// The variables: the check's inputs, outputs and locals under the check's names, and then the locals of all instances in
+    /// preorder under dotted names.
+    pub fn variables(&self) -> &Variables
+        ensures { result.now ≡ self.now.variables }
+    {
+        &self.variables
+    }
+
+    /// The formulas of each instance, in preorder.
+    pub fn parts(&self) -> &Parts
+        ensures { map plain_part result.now ≡ self.now.parts }
+    {
+        &self.parts
+    }
+
+    /// The assumptions of the check.
+    pub fn assumptions(&self) -> &Formulas
+        ensures { map plain_formula result.now ≡ self.now.assumptions }
+    {
+        &self.check.assumptions
+    }
+
+    /// The current conditions of the check.
+    pub fn currents(&self) -> &Formulas
+        ensures { map plain_formula result.now ≡ self.now.currents }
+    {
+        &self.check.currents
+    }
+
+    /// The reachable formulas of the check.
+    pub fn reachables(&self) -> &Formulas
+        ensures { map plain_formula result.now ≡ self.now.reachables }
+    {
+        &self.check.reachables
+    }
+
+    /// The queries of the check.
+    pub fn queries(&self) -> &Queries
+        ensures { result.now ≡ self.now.queries }
+    {
+        &self.check.queries
+    }
+
+    /// It is the flat system of a whole script that isn't refused; this function does nothing.
+    pub fn is_instance(&self)
+        ensures { ∥ IsInstance self.now ∥₁ }
+    {
+        // This use of a field brings the invariant.
+        let _ = &self.parts;
+    }
+
+    /// Its variables have sorts of the scope, and its formulas are of truth values over them; this function does nothing.
+    pub fn is_sorted(&self)
+        ensures { ∥ IsSortedFlat self.now ∥₁ }
+    {
+        self.is_instance();
+        flat_systems_are_sorted();
+    }
+
+    /// Its size and its height are within the limits, variables and parts together are no more than its size may be, and its
+    /// variables have names of their own; this function does nothing.
+    pub fn is_within_limits(&self)
+        ensures size { flat_size self.now ≤ limits.LARGEST }
+        ensures height { flat_height self.now ≤ limits.HIGHEST }
+        ensures count { length self.now.variables + length self.now.parts ≤ limits.LARGEST }
+        ensures names { are_fresh [] (variable_names self.now.variables) ≡ true }
+    {
+        self.is_instance();
+        flat_systems_have_sizes();
+        flat_systems_are_small();
+    }
+}
+
+/// The flat system of a script, in time and memory linear in its size. Refused at the check: with `M15` where the size is above
+/// 2,000,000, the height above 4,000 or the nesting above 1,000, before anything is written out, and else with `M9` where two
+/// variables have one name.
+pub fn instantiate<'a>(alloc: Global, script: &'a Script) -> Result<FlatSystem<'a>, InstEnd>
+    ensures flat { IfOk result (λ f. f ≡ flat_of (plain_script script.now)) }
+    ensures accepted { IfOk result (λ _. flat_refusal (plain_script script.now) ≡ None) }
+    ensures refused { IfErr result (IsInstEnd (plain_script script.now)) }
+{
+    let variables = accepted_variables(alloc, script)?;
+    let parts = flat_parts(alloc, script)?;
+    script_is_whole(script);
+    Ok(FlatSystem {
+        scope: &script.scope,
+        check: &script.check,
+        variables,
+        parts,
+    })
+}

@@ -1,0 +1,4 @@
+pub mod Elements
+pub mod Held
+pub mod Steps
+pub mod Verdicts

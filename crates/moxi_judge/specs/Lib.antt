@@ -1,0 +1,2 @@
+pub mod FlatTests
+pub mod Judging

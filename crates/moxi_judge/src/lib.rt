@@ -1,0 +1,9 @@
+//! The judge of traces of MoXI scripts.
+#![tactic(auto)]
+
+mod judge;
+mod parts;
+mod queries;
+mod terms;
+
+pub use judge::judge_moxi;

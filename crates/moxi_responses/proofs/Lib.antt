@@ -1,0 +1,3 @@
+pub mod Named
+pub mod Spelled
+pub mod ReadAgain

@@ -1,0 +1,18 @@
+// Responses of a script's check can be read back.
+ghost use Rattle.std.specs.Prelude.{◌≡◌, None};
+ghost use Rattle.moxi_scripts.specs.Invariant.{IsSpelled};
+ghost use Rattle.moxi_scripts.specs.Script.{PlainScript};
+ghost use Rattle.moxi_flat.specs.Limits.{flat_refusal};
+ghost use Rattle.moxi_trace.specs.ReadBack.{CanBeReadBack};
+ghost use Rattle.moxi_responses.specs.Declaring.{declared_of};
+
+use moxi_shown_scripts::printable_forms_give_spellable_names;
+use moxi_systems::spelled_scripts_are_whole;
+
+/// What the check of a script declares can be printed and read back, where printable forms spell the script and it isn't refused.
+pub fn responses_are_read_back()
+    ensures { (s : PlainScript) → IsSpelled s → flat_refusal s ≡ None → CanBeReadBack (declared_of s) }
+{
+    spelled_scripts_are_whole();
+    printable_forms_give_spellable_names();
+}

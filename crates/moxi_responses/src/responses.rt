@@ -1,0 +1,65 @@
+// The printer and the reader.
+ghost use Rattle.std.specs.Prelude.{◌≡◌, ◌≤◌, ◌<◌, true, length, IfOk};
+ghost use Rattle.moxi_scripts.specs.ScriptView.{plain_script};
+ghost use Rattle.moxi_flat.specs.FlatSystem.{flat_of};
+ghost use Rattle.moxi_judge.specs.Judging.{IsStatedTrace};
+ghost use Rattle.moxi_trace.specs.Answer.{Answers};
+ghost use Rattle.moxi_trace.specs.Responses.{IsStatedResponse, ReadsResponse, response_of};
+ghost use Rattle.moxi_trace.specs.Texts.{response_text};
+ghost use Rattle.moxi_trace.specs.Traces.{is_within, most_bytes};
+ghost use Rattle.moxi_responses.specs.Declaring.{declared_of};
+
+use crate::declared::{checked_name, names_of};
+use moxi_instantiate::FlatSystem;
+use moxi_scripts::Script;
+use moxi_systems::MoxiTrace;
+use moxi_trace::{Answered, Declarations, ResponseEnd};
+use std::alloc::Global;
+use text_core::{NoMemory, Text};
+
+/// The printed form of the response that a trace meets the query number q of the script's check, counted from 0. The system is the
+/// one that `instantiate` gave for the script, and the trace has a value of each of its variables. Within the limits of responses
+/// what is printed is read again.
+pub fn print_response(
+    alloc: Global,
+    script: &Script,
+    system: &FlatSystem<'_>,
+    q: u32,
+    trace: &MoxiTrace,
+) -> Result<Text, NoMemory>
+    requires system { system.now ≡ flat_of (plain_script script.now) }
+    requires query { q < length script.now.check.queries }
+    requires trace { IsStatedTrace system.now trace.now }
+    ensures text { IfOk result (λ text. text ≡ response_text (declared_of (plain_script script.now)) q trace.now) }
+{
+    let queries = names_of(alloc, &script.check.queries)?;
+    let declarations = Declarations {
+        system: checked_name(script),
+        scope: system.scope(),
+        variables: system.variables(),
+        queries: &queries,
+    };
+    moxi_trace::print_response(alloc, &declarations, q, trace)
+}
+
+/// The query and the trace that a response's text states, or its first refusal, of `Y1` to `Y5`. The system is the one that
+/// `instantiate` gave for the script.
+pub fn read_response(
+    alloc: Global,
+    script: &Script,
+    system: &FlatSystem<'_>,
+    text: &[u8],
+) -> Result<Answered, ResponseEnd>
+    requires system { system.now ≡ flat_of (plain_script script.now) }
+    ensures exact { Answers (response_of (declared_of (plain_script script.now)) text.now) result }
+    ensures stated { IfOk result (IsStatedResponse (declared_of (plain_script script.now))) }
+{
+    let queries = names_of(alloc, &script.check.queries)?;
+    let declarations = Declarations {
+        system: checked_name(script),
+        scope: system.scope(),
+        variables: system.variables(),
+        queries: &queries,
+    };
+    moxi_trace::read_response(alloc, &declarations, text)
+}
