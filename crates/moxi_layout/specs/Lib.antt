@@ -1,0 +1,4 @@
+pub mod Skeleton
+pub mod Layout
+pub mod Laws
+pub mod Witnesses

@@ -1,0 +1,14 @@
+pub mod Queries
+pub mod Bits
+pub mod Latches
+pub mod Conditions
+pub mod Reachables
+pub mod Goals
+pub mod Additions
+pub mod QueryAdditions
+pub mod PartAdditions
+pub mod VariableAdditions
+pub mod Inits
+pub mod QueryLayout
+pub mod VariablePlaces
+pub mod LayoutLaw

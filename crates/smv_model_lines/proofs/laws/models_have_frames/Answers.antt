@@ -1,0 +1,18 @@
+use Rattle.std.proofs.Common.{◌∙◌}
+use Rattle.smv_script.specs.Script.{script_for}
+use Rattle.smv_model_lines.specs.Laws.{model_lines, model_system}
+use Rattle.smv_model_lines.proofs.Frames.{FlatTracesOf, FramesOfSystem, complete_frames, sound_frames}
+use Rattle.smv_model_lines.proofs.laws.models_have_frames.Goals as goal
+
+pub returns : goal.returns
+returns c source end text xs l s needed a low =
+    let whole = c.scripts_are_whole.ensures source end text xs l s needed a in
+    let laid = (c.model_lines_are_laid_out.ensures source end text xs l s needed a low).laid in
+    let has = c.runs_are_traces.ensures.queries source in
+    let flat : FlatTracesOf source = c.traces_have_flat_traces.ensures (script_for source) whole in
+    let frames : FramesOfSystem source = c.traces_have_frames.ensures (model_system source) (model_lines source) laid in
+    record {
+      bads = c.bads_are_queries.ensures (model_system source) (model_lines source) laid.lays ∙ has.counted;
+      sound = sound_frames source has flat frames (c.runs_are_traces.ensures.decoded source end text xs l s needed a);
+      complete = complete_frames source has flat frames (c.runs_are_traces.ensures.traced source end text xs l s needed a);
+    }
