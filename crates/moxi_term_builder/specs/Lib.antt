@@ -1,0 +1,3 @@
+pub mod Putting
+pub mod Standing
+pub mod Terms

@@ -1,0 +1,3 @@
+pub mod Putting
+pub mod Queries
+pub mod Systems

@@ -1,0 +1,114 @@
+// Lines that say something of frames, and symbols.
+ghost use Rattle.std.specs.Prelude.{◌≡◌, ◌++◌, ◌∷◌, [], map, IfOk, OnOk};
+ghost use Rattle.moxi_lines.specs.Lines.{symbol_byte, symbol_of, with_bad, with_constraint, with_free, with_given};
+ghost use Rattle.moxi_to_btor.specs.Putting.{CanPutFree, CanPutGiven, CanPutTruth};
+
+use btor_tree::{Args, Builder, LineOp, one_arg, plain_arg, two_args};
+use std::alloc::Global;
+use text_core::{Name, NoMemory};
+
+// A byte of a symbol: itself where it is visible and begins no comment, else `_`.
+fn symbol_byte(byte: u8) -> u8
+    ensures { result ≡ symbol_byte byte }
+{
+    if byte >= 33 && byte <= 126 && byte != b';' {
+        byte
+    } else {
+        b'_'
+    }
+}
+
+fn symbol_bytes(alloc: Global, name: &[u8]) -> Result<Vec<u8>, NoMemory>
+    ensures { IfOk result (λ bytes. bytes.items ≡ map symbol_byte name.now) }
+{
+    Ok(name.iter().map(|byte| symbol_byte(*byte)).collect(alloc)?)
+}
+
+/// The symbol of a line. An empty name gives none.
+#[tactic(auto, using(crate::proofs::Giving::symbol_some))]
+pub fn symbol_of(alloc: Global, name: &[u8]) -> Result<Option<Name>, NoMemory>
+    ensures { IfOk result (λ symbol. symbol ≡ symbol_of name.now) }
+{
+    if name.len() == 0 {
+        return Ok(None);
+    }
+    let bytes = symbol_bytes(alloc, name)?;
+    let symbol = Name::of(alloc, &bytes)?;
+    Ok(Some(symbol))
+}
+
+/// A name with another one behind it.
+pub fn joined(alloc: Global, name: &[u8], more: &[u8]) -> Result<Vec<u8>, NoMemory>
+    ensures { IfOk result (λ all. all.items ≡ name.now ++ more.now) }
+{
+    let mut all = Vec::from_slice(alloc, name)?;
+    all.extend_from_slice(more)?;
+    Ok(all)
+}
+
+/// Adds a place at the end.
+pub fn put_place(places: &mut Vec<u32>, place: u32) -> Result<(), NoMemory>
+    ensures { OnOk result (places.new.items ≡ places.old.items ++ place ∷ []) }
+{
+    Ok(places.push(place)?)
+}
+
+/// An input or a state of this width.
+pub fn put_free(
+    alloc: Global,
+    builder: &mut Builder,
+    op: LineOp,
+    width: u32,
+    name: &[u8],
+) -> Result<u32, NoMemory>
+    requires { CanPutFree builder.old op width name.now }
+    ensures { IfOk result (λ p. (builder.new, p) ≡ with_free builder.old op width name.now) }
+{
+    let symbol = symbol_of(alloc, name)?;
+    let sort = builder.sort(width)?;
+    builder.push(op, sort, Args::new(alloc), symbol)
+}
+
+/// The init or the next of a state of this width.
+pub fn put_given(
+    alloc: Global,
+    builder: &mut Builder,
+    op: LineOp,
+    width: u32,
+    state: u32,
+    value: u32,
+) -> Result<(), NoMemory>
+    requires { CanPutGiven builder.old op width state value }
+    ensures { OnOk result (builder.new ≡ with_given builder.old op width state value) }
+{
+    let args = two_args(alloc, plain_arg(state), plain_arg(value))?;
+    let sort = builder.sort(width)?;
+    builder.push(op, sort, args, None)?;
+    Ok(())
+}
+
+/// A truth value is true in each frame.
+pub fn put_constraint(alloc: Global, builder: &mut Builder, place: u32) -> Result<(), NoMemory>
+    requires { CanPutTruth builder.old place }
+    ensures { OnOk result (builder.new ≡ with_constraint (builder.old, place)) }
+{
+    let args = one_arg(alloc, plain_arg(place))?;
+    builder.push(LineOp::Constraint, 0, args, None)?;
+    Ok(())
+}
+
+/// A truth value that is to be met.
+pub fn put_bad(
+    alloc: Global,
+    builder: &mut Builder,
+    name: &[u8],
+    place: u32,
+) -> Result<(), NoMemory>
+    requires { CanPutTruth builder.old place }
+    ensures { OnOk result (builder.new ≡ with_bad name.now (builder.old, place)) }
+{
+    let symbol = symbol_of(alloc, name)?;
+    let args = one_arg(alloc, plain_arg(place))?;
+    builder.push(LineOp::Bad, 0, args, symbol)?;
+    Ok(())
+}

@@ -1,0 +1,83 @@
+// The lines of a flat system.
+ghost use Rattle.std.specs.Prelude.{◌≡◌, [], IfOk, OnOk};
+ghost use Rattle.btor_tree.specs.Sharing.{HasNoTwoAlike};
+ghost use Rattle.moxi_term_lines.specs.Laws.{HaveCodes};
+ghost use Rattle.moxi_lines.specs.Lines.{head_lines, lines_of};
+ghost use Rattle.moxi_to_btor.specs.Systems.{IsKnown, constant_lines};
+
+use crate::conditions::{ONE, ZERO};
+use crate::lines::{put_free, put_given};
+use crate::parts::{FIRST, put_parts};
+use crate::queries::put_queries;
+use crate::variables::put_variables;
+use btor_tree::{Args, Builder, LineOp, Nodes};
+use moxi_instantiate::FlatSystem;
+use moxi_terms::Enumeration;
+use std::alloc::Global;
+use text_core::{List, NoMemory};
+
+// No enumeration has more constants than words can tell apart, since a list is no longer than memory. This function only looks at
+// the lists.
+fn enumerations_have_codes(enumerations: &List<Enumeration>)
+    ensures { HaveCodes enumerations.now }
+{
+    for enumeration in enumerations.as_slice() {
+        let _ = enumeration.constants.len();
+    }
+}
+
+// Variables have sorts of the scope, formulas are of truth values, queries name formulas that are there, and there are fewer lines
+// than ids. This function does nothing.
+fn system_is_known(system: &FlatSystem)
+    ensures { IsKnown system.now }
+{
+    system.is_sorted();
+    system.is_within_limits();
+}
+
+// The sort of truth values and the constants one and zero.
+fn put_constants(alloc: Global, builder: &mut Builder) -> Result<(), NoMemory>
+    requires { builder.old ≡ [] }
+    ensures { OnOk result (builder.new ≡ constant_lines) }
+{
+    let sort = builder.sort(1)?;
+    builder.push(LineOp::One, sort, Args::new(alloc), None)?;
+    builder.push(LineOp::Zero, sort, Args::new(alloc), None)?;
+    Ok(())
+}
+
+// The state that is one in frame 0 alone.
+fn put_first(alloc: Global, builder: &mut Builder) -> Result<(), NoMemory>
+    requires { builder.old ≡ constant_lines }
+    ensures { OnOk result (builder.new ≡ head_lines) }
+{
+    put_free(alloc, builder, LineOp::State, 1, b"first")?;
+    put_given(alloc, builder, LineOp::Init, 1, FIRST, ONE)?;
+    put_given(alloc, builder, LineOp::Next, 1, FIRST, ZERO)
+}
+
+/// The BTOR2 lines of a flat system (BTOR2, CAV 2018): the head, the variables, the formulas of each part, and the queries, in time
+/// linear in its size but for the search for lines that stand already. No two sorts, constants or operators among them say the same.
+pub fn to_btor(alloc: Global, system: &FlatSystem) -> Result<Nodes, NoMemory>
+    ensures lines { IfOk result (λ nodes. nodes ≡ lines_of system.now) }
+    ensures distinct { IfOk result (λ nodes. HasNoTwoAlike nodes) }
+{
+    let scope = system.scope();
+    let enumerations = scope.enumerations();
+    let _ = scope.functions();
+    enumerations_have_codes(enumerations);
+    system_is_known(system);
+    let mut builder = Builder::new(alloc);
+    put_constants(alloc, &mut builder)?;
+    put_first(alloc, &mut builder)?;
+    let inputs = put_variables(alloc, &mut builder, enumerations, system.variables())?;
+    put_parts(
+        alloc,
+        &mut builder,
+        scope,
+        &inputs,
+        system.parts().as_slice(),
+    )?;
+    put_queries(alloc, &mut builder, system, &inputs, system.queries())?;
+    Ok(builder.done())
+}

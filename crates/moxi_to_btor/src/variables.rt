@@ -1,0 +1,112 @@
+// Lines of variables.
+ghost use Rattle.std.specs.Prelude.{◌≡◌, [], IfOk, OnOk};
+ghost use Rattle.moxi_terms.specs.declared.data.Sort.TheVariants as sort;
+ghost use Rattle.moxi_terms.specs.Sorts.{IsSort};
+ghost use Rattle.moxi_term_lines.specs.Codes.{sort_bits};
+ghost use Rattle.moxi_lines.specs.Lines.{with_code, with_variable, with_variables};
+ghost use Rattle.moxi_to_btor.specs.Putting.{CanPutBelow, CanPutCode, CanPutVariable, CanPutVariables, below_lines};
+
+use crate::lines::{joined, put_constraint, put_free, put_given, put_place};
+use btor_tree::{Builder, LineOp};
+use moxi_term_builder::{choice_width, put_binary, put_constant};
+use moxi_terms::{Enumeration, Sort, Variable, Variables};
+use std::alloc::Global;
+use text_core::{List, NoMemory};
+use word_core::{Binary, Word};
+
+// The width of the words of a sort.
+fn sort_width(enumerations: &List<Enumeration>, sort: Sort) -> u32
+    requires { IsSort enumerations.now sort }
+    ensures { result ≡ sort_bits enumerations.now sort }
+{
+    match sort {
+        Sort::Truth => 1,
+        Sort::Bits(width) => width,
+        Sort::Choice(n) => choice_width(enumerations.at(n as usize).constants.len()),
+    }
+}
+
+// The code of an enumeration is below its number of constants. Where these take all words, their number is no word of that width,
+// and no line says it.
+fn put_choice_code(
+    alloc: Global,
+    builder: &mut Builder,
+    enumerations: &List<Enumeration>,
+    n: u32,
+    place: u32,
+) -> Result<(), NoMemory>
+    requires { CanPutCode enumerations.now (sort.Choice n) builder.old place }
+    ensures { OnOk result (builder.new ≡ with_code enumerations.now (sort.Choice n) builder.old place) }
+{
+    let count = enumerations.at(n as usize).constants.len();
+    match Word::of(choice_width(count), count as u128) {
+        Some(word) => put_below(alloc, builder, word, place),
+        None => Ok(()),
+    }
+}
+
+// The word at a place is below a constant.
+fn put_below(alloc: Global, builder: &mut Builder, limit: Word, place: u32) -> Result<(), NoMemory>
+    requires { CanPutBelow limit builder.old place }
+    ensures { OnOk result (builder.new ≡ below_lines limit builder.old place) }
+{
+    let limit = put_constant(alloc, builder, limit)?;
+    let less = put_binary(alloc, builder, Binary::Ult, place, limit)?;
+    put_constraint(alloc, builder, less)
+}
+
+fn put_code(
+    alloc: Global,
+    builder: &mut Builder,
+    enumerations: &List<Enumeration>,
+    sort: Sort,
+    place: u32,
+) -> Result<(), NoMemory>
+    requires { CanPutCode enumerations.now sort builder.old place }
+    ensures { OnOk result (builder.new ≡ with_code enumerations.now sort builder.old place) }
+{
+    match sort {
+        Sort::Choice(n) => put_choice_code(alloc, builder, enumerations, n, place),
+        Sort::Truth | Sort::Bits(_) => Ok(()),
+    }
+}
+
+// A variable: its input, and behind it the state that has the input of the frame before.
+fn put_variable(
+    alloc: Global,
+    builder: &mut Builder,
+    enumerations: &List<Enumeration>,
+    variable: &Variable,
+) -> Result<u32, NoMemory>
+    requires { CanPutVariable enumerations.now builder.old variable.now }
+    ensures { IfOk result (λ p. (builder.new, p) ≡ with_variable enumerations.now builder.old variable.now) }
+{
+    let name = variable.name.bytes();
+    let width = sort_width(enumerations, variable.sort);
+    let before = joined(alloc, name, b".prev")?;
+    let input = put_free(alloc, builder, LineOp::Input, width, name)?;
+    // The length brings that the lines are well formed.
+    let _ = builder.len();
+    let state = put_free(alloc, builder, LineOp::State, width, &before)?;
+    put_given(alloc, builder, LineOp::Next, width, state, input)?;
+    put_code(alloc, builder, enumerations, variable.sort, input)?;
+    Ok(input)
+}
+
+/// The lines of variables, and the places of their inputs. Behind each input stands the state of the step before.
+pub fn put_variables(
+    alloc: Global,
+    builder: &mut Builder,
+    enumerations: &List<Enumeration>,
+    variables: &Variables,
+) -> Result<Vec<u32>, NoMemory>
+    requires { CanPutVariables enumerations.now (builder.old, []) variables.now }
+    ensures { IfOk result (λ inputs. (builder.new, inputs.items) ≡ with_variables enumerations.now (builder.old, []) variables.now) }
+{
+    let mut inputs = Vec::new(alloc);
+    for variable in variables.as_slice() {
+        let input = put_variable(alloc, builder, enumerations, variable)?;
+        put_place(&mut inputs, input)?;
+    }
+    Ok(inputs)
+}
