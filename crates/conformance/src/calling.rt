@@ -1,7 +1,5 @@
 // Calls of the libraries.
-use crate::compared::{put_difference, put_misread};
-use crate::files::Files;
-use crate::tally::Tally;
+use case_report::{Files, Tally, put_difference, put_misread};
 use case_text::{Answer, Case, Entry, Fault, Piece, Stop, told, words};
 use std::alloc::Global;
 use text_core::{Shelf, Text};

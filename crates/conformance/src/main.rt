@@ -4,15 +4,9 @@
 #![tactic(auto)]
 
 mod calling;
-mod compared;
-mod files;
 mod report;
-mod running;
-mod setting;
-mod short;
-mod tally;
 
-use files::Files;
+use case_report::Files;
 use report::write_report;
 use std::env;
 use std::process::ExitCode;

@@ -1,10 +1,8 @@
 // The report of one file of cases.
 use crate::calling::put_calls;
-use crate::compared::put_misread;
-use crate::files::Files;
-use crate::running::{put_run, put_sure_run};
-use crate::tally::Tally;
+use case_report::{Files, Tally, put_misread};
 use case_text::{Answer, Case, Fault, Unread, read_cases, utf8};
+use command_cases::{put_run, put_sure_run};
 use std::alloc::Global;
 use text_core::{NoMemory, Shelf, Sink, Text, write_whole};
 

@@ -1,51 +1,46 @@
 -- Words and files define one answer, and what that says of a run.
-use Rattle.std.proofs.Common.{◌≡◌, ◌≢◌, ◌⊎◌, inl, inr, List, [], ℕ, Option, Some, None, Ok, Err, refl, sym, ap, ◌∙◌, subst, take, arith, length, Bool, true, false, cond}
+use Rattle.std.proofs.Common.{◌≡◌, ◌≢◌, ◌⊎◌, inl, inr, List, [], ℕ, Option, Some, None, refl, sym, ap, ◌∙◌, subst, take, arith}
 use Rattle.std.proofs.lemmas.List.{append-nil}
-use Rattle.std.specs.Prelude.{IfSome, nat_lt}
+use Rattle.std.specs.Prelude.{IfSome}
 use Rattle.text_core.specs.Outside.{Files, file_at, grown, Rose}
 use Rattle.text_core.specs.declared.place.Refusal.{Refusal}
 use Rattle.text_core.specs.declared.verdict.Clause.{Clause}
 use Rattle.smv_text.specs.Tree.{PlainSource}
-use Rattle.moxi_commands.specs.declared.status.Status.{Status}
-use Rattle.moxi_commands.specs.declared.status.Status.TheVariants as status
-use Rattle.moxi_commands.specs.declared.answer.Answer.{Answer}
-use Rattle.moxi_commands.specs.declared.answer.Answer.TheVariants.{Usage, Unread, Refused, SecondRefused, No, Done}
-use Rattle.moxi_commands.specs.declared.answer.Output.TheVariants.{Text}
+use Rattle.command_answers.specs.declared.status.Status.{Status}
+use Rattle.command_answers.specs.declared.status.Status.TheVariants as status
+use Rattle.command_answers.specs.declared.answer.Answer.{Answer}
+use Rattle.command_answers.specs.declared.answer.Answer.TheVariants.{Usage, Unread, Refused, SecondRefused, No, Done}
+use Rattle.command_answers.specs.declared.answer.Output.TheVariants.{Text}
 use Rattle.moxi_commands.specs.declared.words.Command.{Command}
-use Rattle.moxi_commands.specs.declared.words.Command.TheVariants.{SmvToBtor, SmvToMoxi, JudgeBtor, JudgeSmv}
-use Rattle.moxi_commands.specs.Answers.{status_of, text_of, line_of}
-use Rattle.moxi_commands.specs.BooleanModels.{BooleanModel}
-use Rattle.moxi_commands.specs.Limits.{most_smv_bytes}
-use Rattle.moxi_commands.specs.Notes.{no_memory_line}
-use Rattle.moxi_commands.specs.Outcome.{IsAbsent, IsCutLine, IsLineOf, IsTold, MayAnswer, outcome_of}
+use Rattle.moxi_commands.specs.declared.words.Command.TheVariants.{SmvToBtor, SmvToMoxi, MoxiToBtor, JudgeBtor, JudgeSmv, JudgeMoxi}
+use Rattle.command_answers.specs.Answers.{status_of, text_of, line_of}
+use Rattle.command_answers.specs.Notes.{no_memory_line}
+use Rattle.moxi_commands.specs.Outcome.{IsAbsent, IsCutLine, IsLineOf, MayAnswer, outcome_of}
+use Rattle.command_answers.specs.Giving.{IsTold}
 use Rattle.moxi_commands.specs.Words.{Answers, Serves}
-use Rattle.moxi_commands.specs.Reading.{GoesOn, file_within, within_limit}
-use Rattle.moxi_commands.specs.Scripts as scripts
-use Rattle.moxi_commands.specs.Scripts.{ScriptsStand}
-use Rattle.moxi_commands.specs.Sinks.{IsPart, Noted}
-use Rattle.moxi_commands.specs.Translation.{HasForm, Accepts, TranslatesTo, IsServed, OfBytes, btor_text, smv_too_long}
-use Rattle.moxi_commands.proofs.AnswerLemmas.{on_read}
-use Rattle.moxi_commands.proofs.Judgements.{goes_once, one_judgement}
-use Rattle.moxi_commands.proofs.JudgedSmv.{one_smv_judgement}
-use Rattle.moxi_commands.proofs.ScriptStands.{one_script}
-use Rattle.moxi_commands.proofs.Sources.{one_form, one_smv_refusal, not_refused, text_stands}
-
-one_translation : (bytes : List ℕ) (a b : Answer) → OfBytes bytes a → OfBytes bytes b → a ≡ b
-one_translation bytes (Refused r) (Refused q) h k = ap Refused (one_smv_refusal bytes r q h k)
-one_translation bytes (Refused r) (Done (Text text)) h k = absurd (not_refused bytes r k.0 h k.1)
-one_translation bytes (Refused r) b h k = absurd k
-one_translation bytes (Done (Text text)) (Refused q) h k = absurd (not_refused bytes q h.0 k h.1)
-one_translation bytes (Done (Text text)) (Done (Text other)) h k = ap (λ t. Done (Text t)) (h.2 ∙ ap btor_text (one_form bytes h.0 k.0 h.1 k.1) ∙ sym k.2)
-one_translation bytes (Done (Text text)) b h k = absurd k
-one_translation bytes a b h k = absurd h
+use Rattle.smv_commands.specs.Scripts.{ScriptsStand}
+use Rattle.command_answers.specs.Sinks.{IsPart, Noted}
+use Rattle.smv_to_btor.specs.Translation.{Accepts, TranslatesTo, TranslationsStand, btor_text}
+use Rattle.btor_commands.proofs.Judgements.{one_judgement}
+use Rattle.smv_commands.proofs.JudgedSmv.{one_smv_judgement}
+use Rattle.smv_commands.proofs.ScriptStands.{one_script}
+use Rattle.smv_commands.proofs.Given as scripts
+use Rattle.script_commands.specs.Translation.{LinesStand}
+use Rattle.script_commands.proofs.Judged.{one_moxi_judgement}
+use Rattle.script_commands.proofs.Translated.{one_text}
+use Rattle.script_commands.proofs.Translated as lines
+use Rattle.smv_to_btor.proofs.Given as translations
+use Rattle.smv_to_btor.proofs.Given.{one_translation}
 
 -- words and files define one answer
 pub one_answer : (command : Option Command) (fs : Files) (a b : Answer) → Answers command fs a → Answers command fs b → a ≡ b
 one_answer None fs a b h k = h ∙ sym k
-one_answer (Some (SmvToBtor model)) fs a b h k = goes_once (file_within fs model most_smv_bytes smv_too_long) OfBytes one_translation a b h k
-one_answer (Some (SmvToMoxi model)) fs a b h k = goes_once (file_within fs model most_smv_bytes smv_too_long) scripts.OfBytes one_script a b h k
+one_answer (Some (SmvToBtor model)) fs a b h k = one_translation fs model a b h k
+one_answer (Some (SmvToMoxi model)) fs a b h k = one_script fs model a b h k
+one_answer (Some (MoxiToBtor model)) fs a b h k = one_text fs model a b h k
 one_answer (Some (JudgeBtor model second)) fs a b h k = one_judgement fs model second a b h k
 one_answer (Some (JudgeSmv model second j)) fs a b h k = one_smv_judgement fs model second j a b h k
+one_answer (Some (JudgeMoxi model second)) fs a b h k = one_moxi_judgement fs model second a b h k
 
 -- where the shelf's count did not rise, an answer that may be given is the defined one
 defined : (fs : Files) (command : Option Command) (rose : Type 0) (a : Answer) → MayAnswer (Some fs) command rose a → (rose → ⊥) → Answers command fs a
@@ -277,56 +272,26 @@ memory_fault_noted files command rose out s taken before now count later n is =
       | inr cut ↦ inr (cut.2, refl, record { ending = status.NoMemory; notes = λ e. absurd (cc); differs = λ e. absurd (cc); line = no_memory_line; stands = refl; front = cut.1 })
     ]
 
--- a text that was written whole stands for its model
-served_text : (fs : Files) (model bytes : List ℕ) (b : Answer) (before now : Option (List ℕ)) → file_at fs model ≡ Some bytes → OfBytes bytes b → status_of b ≡ status.Done → now ≡ grown before (text_of b) → IsServed fs model before now
-served_text fs model bytes (Done (Text text)) before now there h s w =
-    record { bytes = bytes; there = there; source = h.1.0; accepted = (h.0, h.1.1); text = text; written = w; translated = subst (TranslatesTo h.1.0) (sym h.2) (text_stands bytes h.1.0 h.0 h.1.1) }
-served_text fs model bytes (Refused r) before now there h s w = absurd (cc)
-served_text fs model bytes b before now there h s w = absurd h
+served_by : (texts : TranslationsStand) (stands : ScriptsStand) (laid : LinesStand) (command : Option Command) (fs : Files) (b : Answer) (before now : Option (List ℕ)) → Answers command fs b → status_of b ≡ status.Done → now ≡ grown before (text_of b) → Serves command fs before now
+served_by texts stands laid None fs b before now h s w = let e : status.Usage ≡ status.Done = sym (ap status_of h) ∙ s in absurd (cc)
+served_by texts stands laid (Some (SmvToBtor model)) fs b before now h s w = translations.served texts fs model b before now h s w
+served_by texts stands laid (Some (SmvToMoxi model)) fs b before now h s w = scripts.served stands fs model b before now h s w
+served_by texts stands laid (Some (MoxiToBtor model)) fs b before now h s w = lines.served laid fs model b before now h s w
+served_by texts stands laid (Some (JudgeBtor model second)) fs b before now h s w = tt
+served_by texts stands laid (Some (JudgeSmv model second j)) fs b before now h s w = tt
+served_by texts stands laid (Some (JudgeMoxi model second)) fs b before now h s w = tt
 
--- what was written whole was made of a file's bytes
-served_from : {S : Type 0} (model : List ℕ) (content : Option (List ℕ)) (next : List ℕ → Answer → Type 0) (b : Answer) → GoesOn (within_limit content model most_smv_bytes smv_too_long) next b → status_of b ≡ status.Done
-    → ((bytes : List ℕ) → content ≡ Some bytes → next bytes b → S) → S
-served_from model None next b h s go = let e : status.ReadFault ≡ status.Done = sym (ap status_of h) ∙ s in absurd (cc)
-served_from {S} model (Some bytes) next b h s go = by_length (nat_lt most_smv_bytes (length bytes)) h
-  where
-    by_length : (long : Bool) → GoesOn (cond long (Err smv_too_long) (Ok bytes)) next b → S
-    by_length true g = let e : status.Refused ≡ status.Done = sym (ap status_of g) ∙ s in absurd (cc)
-    by_length false g = go bytes refl g
+pub run_served : (texts : TranslationsStand) (stands : ScriptsStand) (laid : LinesStand) (files : Option Files) (command : Option Command) (before now : Option (List ℕ)) → IfSome files (λ fs. (b : Answer) × Answers command fs b × (status_of b ≡ status.Done) × (now ≡ grown before (text_of b))) → IfSome files (λ fs. Serves command fs before now)
+run_served texts stands laid None command before now h = tt
+run_served texts stands laid (Some fs) command before now h = served_by texts stands laid command fs h.0 before now h.1 h.2 h.3
 
--- a script that was written whole stands for its model
-served_script : (stands : ScriptsStand) (fs : Files) (model bytes : List ℕ) (b : Answer) (before now : Option (List ℕ)) → file_at fs model ≡ Some bytes → scripts.OfBytes bytes b → status_of b ≡ status.Done → now ≡ grown before (text_of b) → scripts.IsServed fs model before now
-served_script stands fs model bytes (Done (Text text)) before now there h s w =
-    record { bytes = bytes; there = there; source = h.0; accepted = h.1; text = text; written = w; script = subst (scripts.WritesScript h.0) (sym h.2) (stands bytes h.0 h.1) }
-served_script stands fs model bytes (Refused r) before now there h s w = absurd (cc)
-served_script stands fs model bytes b before now there h s w = absurd h
-
-served_by : (stands : ScriptsStand) (command : Option Command) (fs : Files) (b : Answer) (before now : Option (List ℕ)) → Answers command fs b → status_of b ≡ status.Done → now ≡ grown before (text_of b) → Serves command fs before now
-served_by stands None fs b before now h s w = let e : status.Usage ≡ status.Done = sym (ap status_of h) ∙ s in absurd (cc)
-served_by stands (Some (SmvToBtor model)) fs b before now h s w =
-    served_from model (file_at fs model) OfBytes b h s (λ bytes there g. served_text fs model bytes b before now there g s w)
-served_by stands (Some (SmvToMoxi model)) fs b before now h s w =
-    served_from model (file_at fs model) scripts.OfBytes b h s (λ bytes there g. served_script stands fs model bytes b before now there g s w)
-served_by stands (Some (JudgeBtor model second)) fs b before now h s w = tt
-served_by stands (Some (JudgeSmv model second j)) fs b before now h s w = tt
-
-pub run_served : (stands : ScriptsStand) (files : Option Files) (command : Option Command) (before now : Option (List ℕ)) → IfSome files (λ fs. (b : Answer) × Answers command fs b × (status_of b ≡ status.Done) × (now ≡ grown before (text_of b))) → IfSome files (λ fs. Serves command fs before now)
-run_served stands None command before now h = tt
-run_served stands (Some fs) command before now h = served_by stands command fs h.0 before now h.1 h.2 h.3
-
--- the defined answer to an accepted model
-accepted_answer : (fs : Files) (command : Option Command) (model bytes : List ℕ) (form : BooleanModel) → command ≡ Some (SmvToBtor model) → file_at fs model ≡ Some bytes → HasForm bytes form → Answers command fs (Done (Text (btor_text form)))
-accepted_answer fs command model bytes form is there a =
-    subst (λ c. Answers c fs (Done (Text (btor_text form)))) (sym is)
-    (on_read fs model bytes most_smv_bytes smv_too_long OfBytes (Done (Text (btor_text form))) there a.1.is_model.within (form, a, refl))
-
-pub run_translates : (files : Option Files) (command : Option Command) (shelf out notes : Type 0) (a : Answer) (s : Status) (before now : Option (List ℕ)) → MayAnswer files command shelf a → Ends s a → (s ≢ status.WriteFault → now ≡ grown before (text_of a)) → (s ≡ status.WriteFault → out ⊎ notes)
+pub run_translates : (texts : TranslationsStand) (files : Option Files) (command : Option Command) (shelf out notes : Type 0) (a : Answer) (s : Status) (before now : Option (List ℕ)) → MayAnswer files command shelf a → Ends s a → (s ≢ status.WriteFault → now ≡ grown before (text_of a)) → (s ≡ status.WriteFault → out ⊎ notes)
     → IfSome files (λ fs. (model bytes : List ℕ) (source : PlainSource) → command ≡ Some (SmvToBtor model) → file_at fs model ≡ Some bytes → Accepts bytes source → (shelf → ⊥) → (out → ⊥) → (notes → ⊥) → s ≢ status.NoMemory → (s ≡ status.Done) × ((text : List ℕ) × (now ≡ grown before text) × TranslatesTo source text))
-run_translates None command shelf out notes a s before now m ends taken w = tt
-run_translates (Some fs) command shelf out notes a s before now m ends taken w = λ model bytes source is there acc sh o n memory.
-    let once = one_answer command fs a (Done (Text (btor_text acc.0))) (defined fs command shelf a m sh) (accepted_answer fs command model bytes acc.0 is there (source, acc.1)) in
+run_translates texts None command shelf out notes a s before now m ends taken w = tt
+run_translates texts (Some fs) command shelf out notes a s before now m ends taken w = λ model bytes source is there acc sh o n memory.
+    let once = one_answer command fs a (Done (Text (btor_text source))) (defined fs command shelf a m sh) (subst (λ c. Answers c fs (Done (Text (btor_text source)))) (sym is) (translations.accepted_answer fs model bytes source there acc)) in
     let whole : s ≢ status.WriteFault = λ f. elim (w f) [ inl r ↦ o r | inr r ↦ n r ] in
     elim ends [
-      | inl e ↦ (e ∙ ap status_of once, (btor_text acc.0, taken whole ∙ ap (λ x. grown before (text_of x)) once, text_stands bytes source acc.0 acc.1))
+      | inl e ↦ (e ∙ ap status_of once, (btor_text source, taken whole ∙ ap (λ x. grown before (text_of x)) once, texts bytes source acc))
       | inr f ↦ absurd (whole f)
     ]

@@ -1,25 +1,21 @@
 -- The answer that words and files define, and when a call may give an answer.
-use Rattle.std.specs.Prelude.{◌≡◌, ◌≢◌, ◌⊎◌, ℕ, true, false, List, [], Option, Some, None, IfSome}
+use Rattle.std.specs.Prelude.{◌≡◌, ◌≢◌, ℕ, true, false, List, [], Option, Some, None, IfSome}
 use Rattle.text_core.specs.Outside.{Files}
 use Rattle.text_core.specs.declared.place.Refusal.{Refusal}
 use Rattle.text_core.specs.declared.verdict.Clause.{Clause}
-use Rattle.moxi_commands.specs.declared.status.Status.{Status}
-use Rattle.moxi_commands.specs.declared.status.Status.TheVariants as status
-use Rattle.moxi_commands.specs.declared.answer.Answer.{Answer}
-use Rattle.moxi_commands.specs.declared.answer.Answer.TheVariants.{Usage, Unread, Refused, SecondRefused, No}
+use Rattle.command_answers.specs.declared.status.Status.{Status}
+use Rattle.command_answers.specs.declared.status.Status.TheVariants as status
+use Rattle.command_answers.specs.declared.answer.Answer.{Answer}
+use Rattle.command_answers.specs.declared.answer.Answer.TheVariants.{Usage, Unread, Refused, SecondRefused, No}
+use Rattle.command_answers.specs.Giving.{BeginsAmong, IsTold, MayGive}
 use Rattle.moxi_commands.specs.declared.words.Command.{Command}
-use Rattle.moxi_commands.specs.Words.{Answers, Names, command_of}
-use Rattle.moxi_commands.specs.Notes.{denied_line, no_memory_line, refused_line, refused_words, unread_line, usage_line, write_fault_line}
-use Rattle.moxi_commands.specs.Sinks.{IsPart}
+use Rattle.moxi_commands.specs.Words.{Answers, command_of, files_of, named_files}
+use Rattle.command_answers.specs.Notes.{denied_line, no_memory_line, refused_line, refused_words, unread_line, usage_line, write_fault_line}
+use Rattle.command_answers.specs.Sinks.{IsPart}
 
 -- the answer that words and files define
 abbrev pub outcome_of : List (List ℕ) → Files → Answer → Type 0
 outcome_of words files answer = Answers (command_of words) files answer
-
--- the files are told, and this holds of them
-abbrev pub IsTold : Option Files → (Files → Type 0) → Type 0
-IsTold None P = ⊥
-IsTold (Some files) P = P files
 
 -- the files are told, and the defined answer is that a file isn't there: the model's, or where the model is accepted the second
 abbrev pub IsAbsent : Option Files → Option Command → Type 0
@@ -29,14 +25,11 @@ IsAbsent files command = IsTold files (λ fs. (name : List ℕ) × Answers comma
 -- command is the defined one, where the files are told. That a file of it was not read may also be said where the count rose.
 abbrev pub MayAnswer : Option Files → Option Command → Type 0 → Answer → Type 0
 MayAnswer files None rose answer = answer ≡ Usage
-MayAnswer files (Some command) rose Usage = ⊥
-MayAnswer files (Some command) rose (Unread name) = Names (Some command) name × (rose ⊎ IsTold files (λ fs. Answers (Some command) fs (Unread name)))
-MayAnswer files (Some command) rose other = IfSome files (λ fs. Answers (Some command) fs other)
+MayAnswer files (Some command) rose answer = MayGive files (files_of command) (λ fs given. Answers (Some command) fs given) rose answer
 
 -- where the files are told, a file of the command was begun last, or else what was begun before
 abbrev pub BeginsFor : Option Files → Option (List ℕ) → Option (List ℕ) → Option Command → Type 0
-BeginsFor None before now command = Unit {0}
-BeginsFor (Some files) before now command = ((name : List ℕ) × Names command name × (now ≡ Some name)) ⊎ (now ≡ before)
+BeginsFor files before now command = BeginsAmong files before now (named_files command)
 
 -- The line that a run with this status notes. What it says of the model, the second file or the stated run is as defined, where
 -- the files are told.

@@ -4,21 +4,21 @@ ghost use Rattle.text_core.specs.Outside.{file_at, grown, Rose};
 ghost use Rattle.text_core.specs.declared.place.Refusal.{Refusal};
 ghost use Rattle.text_core.specs.declared.verdict.Clause.{Clause};
 ghost use Rattle.smv_text.specs.Tree.{PlainSource};
-ghost use Rattle.moxi_commands.specs.declared.answer.Answer.{Answer};
+ghost use Rattle.command_answers.specs.declared.answer.Answer.{Answer};
 ghost use Rattle.moxi_commands.specs.declared.words.Command.{Command};
-ghost use Rattle.moxi_commands.specs.Answers.{line_of, status_of, text_of};
-ghost use Rattle.moxi_commands.specs.Notes.{write_fault_line};
+ghost use Rattle.command_answers.specs.Answers.{line_of, status_of, text_of};
+ghost use Rattle.command_answers.specs.Notes.{write_fault_line};
 ghost use Rattle.moxi_commands.specs.Outcome.{BeginsFor, IsAbsent, IsCutLine, IsLineOf, MayAnswer, outcome_of};
-ghost use Rattle.moxi_commands.specs.Reading.{SaysUnread};
-ghost use Rattle.moxi_commands.specs.Sinks.{IsPart, Took};
-ghost use Rattle.moxi_commands.specs.Translation.{Accepts, TranslatesTo};
+ghost use Rattle.command_answers.specs.Reading.{SaysUnread};
+ghost use Rattle.command_answers.specs.Sinks.{IsPart, Took};
+ghost use Rattle.smv_to_btor.specs.Translation.{Accepts, TranslatesTo};
 ghost use Rattle.moxi_commands.specs.Words.{BeginsNoSecond, Serves, command_of};
 
-use crate::answer::{Answer, Stop};
-use crate::notes::{deliver, note};
-use crate::script::scripts_stand;
-use crate::status::Status;
 use crate::words::{answer_command, read_command};
+use command_answers::{Answer, Status, Stop, deliver, note};
+use script_commands::lines_stand;
+use smv_commands::scripts_stand;
+use smv_to_btor::translations_stand;
 use std::alloc::Global;
 use text_core::{NoMemory, Shelf, Sink};
 
@@ -103,7 +103,9 @@ pub fn run<F: Shelf, K: Sink, N: Sink>(
     ensures begun { BeginsFor (F.files shelf.old) (F.begun shelf.old) (F.begun shelf.new) (command_of (map string_bytes words.now.items)) }
     ensures files { F.files shelf.new ≡ F.files shelf.old }
 {
+    translations_stand();
     scripts_stand();
+    lines_stand();
     match answer_words(alloc, words, shelf) {
         Ok(answer) => deliver(&answer, out, notes),
         Err(NoMemory) => note(notes, &[b"no memory\n"], Status::NoMemory),

@@ -1,24 +1,9 @@
-//! What the program does: translates SMV models to BTOR2 texts, and judges witnesses for these.
+//! What the program does: it reads words as a command, does what they say, and writes what is answered.
 #![tactic(auto)]
 
-mod answer;
 mod command;
-mod declared;
-mod files;
-mod form;
-mod formula;
-mod judge;
-mod judge_smv;
-mod lines;
-mod models;
-mod notes;
-mod pieces;
-mod script;
-mod status;
-mod translate;
 mod words;
 
-pub use answer::{Answer, Output};
 pub use command::run;
-pub use status::Status;
+pub use command_answers::{Answer, Output, Status};
 pub use words::Command;

@@ -3,14 +3,14 @@ ghost use Rattle.std.specs.Prelude.{◌≡◌, ◌<◌, map, string_bytes, IfOk,
 ghost use Rattle.std.specs.List.{list_any};
 ghost use Rattle.text_core.specs.Outside.{Rose};
 ghost use Rattle.moxi_commands.specs.Outcome.{BeginsFor, MayAnswer};
-ghost use Rattle.moxi_commands.specs.Reading.{OnNoMemory, StopsUnread, StopsWith};
+ghost use Rattle.command_answers.specs.Reading.{OnNoMemory, StopsUnread, StopsWith};
 ghost use Rattle.moxi_commands.specs.Words.{BeginsNoSecond, begins_with_dash, command_of, command_with, row, task_in};
 
-use crate::answer::{Answer, Stop};
-use crate::judge::judge_files;
-use crate::judge_smv::judge_smv_files;
-use crate::script::smv_to_moxi;
-use crate::translate::smv_to_btor;
+use btor_commands::judge_files;
+use command_answers::{Answer, Stop};
+use script_commands::{judge_moxi_files, moxi_to_btor};
+use smv_commands::{judge_smv_files, smv_to_moxi};
+use smv_to_btor::smv_to_btor;
 use std::alloc::Global;
 use text_core::{Name, NoMemory, Shelf};
 
@@ -21,10 +21,14 @@ pub enum Command {
     SmvToBtor(Name),
     /// The MoXI script of an SMV model.
     SmvToMoxi(Name),
+    /// The BTOR2 text of a MoXI script.
+    MoxiToBtor(Name),
     /// The verdict on a witness for a BTOR2 text: the text's file, and the witness's.
     JudgeBtor(Name, Name),
     /// The verdict on a trace of an SMV model and the invariant of a number: the model's file, the trace's, and the number.
     JudgeSmv(Name, Name, u32),
+    /// The verdict on a response to a MoXI script: the script's file, and the response's.
+    JudgeMoxi(Name, Name),
 }
 
 /// What a command does with the files that it names.
@@ -32,16 +36,20 @@ pub enum Command {
 pub enum Task {
     SmvToBtor,
     SmvToMoxi,
+    MoxiToBtor,
     JudgeBtor,
     JudgeSmv,
+    JudgeMoxi,
 }
 
 // The first words of the commands.
-const COMMANDS: [(&[u8], Task); 4] = [
+const COMMANDS: [(&[u8], Task); 6] = [
     (b"smv2btor", Task::SmvToBtor),
     (b"smv2moxi", Task::SmvToMoxi),
+    (b"moxi2btor", Task::MoxiToBtor),
     (b"judge-btor", Task::JudgeBtor),
     (b"judge-smv", Task::JudgeSmv),
+    (b"judge-moxi", Task::JudgeMoxi),
 ];
 
 /// Reads the command words, without the program's name.
@@ -61,7 +69,7 @@ pub fn read_command(alloc: Global, words: &Vec<String>) -> Result<Option<Command
 }
 
 /// Does what the command says.
-#[tactic(auto, using(crate::proofs::Stops::held))]
+#[tactic(auto, using(command_answers::specs::laws::Stops::held))]
 pub fn answer_command<F: Shelf>(
     alloc: Global,
     command: &Command,
@@ -77,8 +85,10 @@ pub fn answer_command<F: Shelf>(
     match command {
         Command::SmvToBtor(model) => smv_to_btor(alloc, model, shelf),
         Command::SmvToMoxi(model) => smv_to_moxi(alloc, model, shelf),
+        Command::MoxiToBtor(model) => moxi_to_btor(alloc, model, shelf),
         Command::JudgeBtor(model, second) => judge_files(alloc, model, second, shelf),
         Command::JudgeSmv(model, second, j) => judge_smv_files(alloc, model, second, *j, shelf),
+        Command::JudgeMoxi(model, second) => judge_moxi_files(alloc, model, second, shelf),
     }
 }
 
@@ -101,6 +111,7 @@ fn command_with(alloc: Global, task: Task, files: &[String]) -> Result<Option<Co
     match (task, files) {
         (Task::SmvToBtor, [model]) => Ok(Some(Command::SmvToBtor(name_of(alloc, model)?))),
         (Task::SmvToMoxi, [model]) => Ok(Some(Command::SmvToMoxi(name_of(alloc, model)?))),
+        (Task::MoxiToBtor, [model]) => Ok(Some(Command::MoxiToBtor(name_of(alloc, model)?))),
         (Task::JudgeBtor, [model, second]) => {
             let model = name_of(alloc, model)?;
             let second = name_of(alloc, second)?;
@@ -110,6 +121,11 @@ fn command_with(alloc: Global, task: Task, files: &[String]) -> Result<Option<Co
             let model = name_of(alloc, model)?;
             let second = name_of(alloc, second)?;
             Ok(Some(Command::JudgeSmv(model, second, 0)))
+        }
+        (Task::JudgeMoxi, [model, second]) => {
+            let model = name_of(alloc, model)?;
+            let second = name_of(alloc, second)?;
+            Ok(Some(Command::JudgeMoxi(model, second)))
         }
         _ => Ok(None),
     }

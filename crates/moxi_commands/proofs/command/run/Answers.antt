@@ -48,10 +48,10 @@ pub returns-in-Ok-clause-complete : goal.returns-in-Ok-clause-complete
 returns-in-Ok-clause-complete g c = run_complete _ _ _ _ _ c.in-Ok.answer c.deliver.result _ _ _ _ c.in-Ok.ensures.answer c.deliver.ensures.status c.deliver.ensures.text c.deliver.ensures.line (run_write_fault _ _ _ _ _ _ c.deliver.result c.deliver.ensures.write_fault)
 
 pub returns-in-Ok-clause-served : goal.returns-in-Ok-clause-served
-returns-in-Ok-clause-served g c = λ done. run_served c.scripts_stand.ensures _ _ _ _ (run_done _ _ _ c.in-Ok.answer c.deliver.result _ _ c.in-Ok.ensures.answer c.deliver.ensures.status c.deliver.ensures.text done)
+returns-in-Ok-clause-served g c = λ done. run_served c.translations_stand.ensures c.scripts_stand.ensures c.lines_stand.ensures _ _ _ _ (run_done _ _ _ c.in-Ok.answer c.deliver.result _ _ c.in-Ok.ensures.answer c.deliver.ensures.status c.deliver.ensures.text done)
 
 pub returns-in-Ok-clause-translates : goal.returns-in-Ok-clause-translates
-returns-in-Ok-clause-translates g c = run_translates _ _ _ _ _ c.in-Ok.answer c.deliver.result _ _ c.in-Ok.ensures.answer c.deliver.ensures.status c.deliver.ensures.text (run_write_fault _ _ _ _ _ _ c.deliver.result c.deliver.ensures.write_fault)
+returns-in-Ok-clause-translates g c = run_translates c.translations_stand.ensures _ _ _ _ _ c.in-Ok.answer c.deliver.result _ _ c.in-Ok.ensures.answer c.deliver.ensures.status c.deliver.ensures.text (run_write_fault _ _ _ _ _ _ c.deliver.result c.deliver.ensures.write_fault)
 
 pub returns-in-Ok-clause-memory : goal.returns-in-Ok-clause-memory
 returns-in-Ok-clause-memory g c = run_memory c.in-Ok.answer c.deliver.result c.deliver.ensures.status

@@ -1,0 +1,8 @@
+pub mod Statuses
+pub mod Notes
+pub mod Answers
+pub mod Reading
+pub mod Giving
+pub mod Sinks
+pub mod Last
+pub mod laws

@@ -1,0 +1,3 @@
+-- Laws that crates above cite.
+pub mod Files
+pub mod Stops

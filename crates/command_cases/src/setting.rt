@@ -1,0 +1,158 @@
+// What a run is given.
+use case_report::Files;
+use case_text::{Case, Entry, Fault, number};
+use std::alloc::Global;
+use text_core::{FilePairs, MemorySink, Numbers, Shelf};
+
+// The room of a sink where the case states none.
+const ROOM: u64 = 1_048_576;
+
+/// What a run is given: its words, its files, and what fails.
+#[derive(Drop)]
+pub struct Setting {
+    pub words: Vec<String>,
+    pub files: FilePairs,
+    pub shelf_fails: Numbers,
+    pub out: Limits,
+    pub notes: Limits,
+}
+
+/// What a sink takes: its room, the most of a call, and the numbers of the calls that fail.
+#[derive(Drop)]
+pub struct Limits {
+    room: u64,
+    most: u64,
+    fails: Numbers,
+}
+
+impl Limits {
+    fn new(alloc: Global) -> Limits {
+        Limits {
+            room: ROOM,
+            most: ROOM,
+            fails: Numbers::new(alloc),
+        }
+    }
+
+    // Takes a line that states a limit, or answers that it states none.
+    fn take(&mut self, alloc: Global, says: &str) -> Result<bool, Fault> {
+        match says.split_once(' ') {
+            Some(("fails", rest)) => self.fails = numbers(alloc, rest)?,
+            Some(("most", rest)) => self.most = number(rest)?,
+            Some(("room", rest)) => self.room = number(rest)?,
+            _ => return Ok(false),
+        }
+        Ok(true)
+    }
+
+    /// The sink with these limits.
+    pub fn sink(self, alloc: Global) -> Result<MemorySink, Fault> {
+        let most = usize::try_from(self.most).unwrap_or(usize::MAX);
+        let room = usize::try_from(self.room).unwrap_or(usize::MAX);
+        if most == 0 {
+            return Err(Fault::Misread("a sink takes at least one byte in a call"));
+        }
+        Ok(MemorySink::new(alloc, room, most, self.fails)?)
+    }
+}
+
+impl Setting {
+    /// The setting that a case states.
+    pub fn of<F: Shelf + Drop>(
+        alloc: Global,
+        files: &mut Files<F>,
+        case: &Case,
+    ) -> Result<Setting, Fault> {
+        let mut setting = Setting {
+            words: Vec::new(alloc),
+            files: FilePairs::new(alloc),
+            shelf_fails: Numbers::new(alloc),
+            out: Limits::new(alloc),
+            notes: Limits::new(alloc),
+        };
+        setting.take_all(alloc, files, case)?;
+        Ok(setting)
+    }
+
+    fn take_all<F: Shelf + Drop>(
+        &mut self,
+        alloc: Global,
+        files: &mut Files<F>,
+        case: &Case,
+    ) -> Result<(), Fault> {
+        for entry in &case.entries {
+            self.take(alloc, files, entry)?;
+        }
+        Ok(())
+    }
+
+    // Takes a line, if it states something of the setting.
+    fn take<F: Shelf + Drop>(
+        &mut self,
+        alloc: Global,
+        files: &mut Files<F>,
+        entry: &Entry,
+    ) -> Result<(), Fault> {
+        match entry.key {
+            "run" | "sure" => self.words = strings(alloc, entry.says)?,
+            "file" => self.files.push(files.pair(alloc, entry)?)?,
+            "shelf" => {
+                if let Some(("fails", rest)) = entry.says.split_once(' ') {
+                    self.shelf_fails = numbers(alloc, rest)?;
+                }
+            }
+            "out" => {
+                self.out.take(alloc, entry.says)?;
+            }
+            "notes" => {
+                self.notes.take(alloc, entry.says)?;
+            }
+            _ => {}
+        }
+        Ok(())
+    }
+}
+
+/// The most bytes that a call reads of a file, for each of the runs that a case states: 0, which is no limit, where it states
+/// none.
+pub fn reads_of(alloc: Global, case: &Case) -> Result<Numbers, Fault> {
+    for entry in &case.entries {
+        if let Some(says) = reads_in(entry) {
+            return numbers(alloc, says);
+        }
+    }
+    numbers(alloc, "0")
+}
+
+fn reads_in<'a>(entry: &Entry<'a>) -> Option<&'a str> {
+    match (entry.key, entry.says.split_once(' ')) {
+        ("shelf", Some(("most", rest))) => Some(rest),
+        _ => None,
+    }
+}
+
+fn strings(alloc: Global, says: &str) -> Result<Vec<String>, Fault> {
+    let mut strings = Vec::new(alloc);
+    push_strings(alloc, says, &mut strings)?;
+    Ok(strings)
+}
+
+fn push_strings(alloc: Global, says: &str, strings: &mut Vec<String>) -> Result<(), Fault> {
+    for word in says.split_whitespace() {
+        strings.push(String::from_str(alloc, word)?)?;
+    }
+    Ok(())
+}
+
+fn numbers(alloc: Global, says: &str) -> Result<Numbers, Fault> {
+    let mut numbers = Numbers::new(alloc);
+    push_numbers(says, &mut numbers)?;
+    Ok(numbers)
+}
+
+fn push_numbers(says: &str, numbers: &mut Numbers) -> Result<(), Fault> {
+    for word in says.split_whitespace() {
+        numbers.push(number(word)?)?;
+    }
+    Ok(())
+}

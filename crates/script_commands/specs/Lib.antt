@@ -1,0 +1,4 @@
+pub mod Limits
+pub mod Scripts
+pub mod Judgement
+pub mod Translation

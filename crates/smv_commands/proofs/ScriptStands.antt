@@ -1,0 +1,131 @@
+-- What is written for an accepted model is a script that stands for it.
+use Rattle.std.proofs.Common.{◌≡◌, ℕ, ◌+◌, ◌<◌, List, [], ◌∷◌, Option, Some, Result, Ok, Err, map, length, sym, ap, ◌∙◌, subst, arith}
+use Rattle.std.specs.Prelude.{IfOk, slice_get}
+use Rattle.text_core.specs.declared.place.Place.{Place}
+use Rattle.smv_text.specs.Tree.{PlainSource}
+use Rattle.smv_meaning.specs.Values.{Valuation, given}
+use Rattle.smv_meaning.specs.Instances.{Instance, instances_of}
+use Rattle.smv_meaning.specs.Runs.{Breaks, LastBreaks, StepsHold}
+use Rattle.smv_flat.specs.FlatForms.{PlainFlat, flat_smv}
+use Rattle.smv_width.specs.FlatWidth.{width_of}
+use Rattle.smv_script.specs.Script.{query_of, script_of}
+use Rattle.moxi_print.specs.Shown.{lines_text}
+use Rattle.moxi_shown_scripts.specs.Printing.{shown_script}
+use Rattle.smv_script_runs.specs.Laws.{BreaksAt, HasQueries, decoded_run}
+use Rattle.smv_script.specs.Script.{script_for}
+use Rattle.moxi_scripts.specs.declared.script.Query.{Query}
+use Rattle.moxi_scripts.specs.Script.{PlainScript}
+use Rattle.moxi_systems.specs.Behaviour.{Trace}
+use Rattle.moxi_systems.specs.Meeting.{MeetsQuery}
+use Rattle.moxi_read_back.specs.Again.{with_place}
+use Rattle.command_answers.specs.declared.answer.Answer.{Answer}
+use Rattle.command_answers.specs.declared.answer.Answer.TheVariants.{Refused, Done}
+use Rattle.command_answers.specs.declared.answer.Output.TheVariants.{Text}
+use Rattle.command_answers.specs.Last.{AtLast}
+use Rattle.smv_commands.specs.Runs.{HasRun, invariant_count}
+use Rattle.smv_commands.specs.Scripts.{HasTrace, IsScript, OfBytes, StandsForModel, moxi_text}
+use Rattle.text_core.specs.Outside.{Files}
+use Rattle.command_answers.specs.Reading.{file_within}
+use Rattle.command_answers.specs.laws.Files.{goes_once}
+use Rattle.smv_commands.specs.Limits.{most_smv_bytes}
+use Rattle.smv_commands.specs.Models.{smv_too_long}
+use Rattle.smv_commands.proofs.Checked.{not_checked, one_check_refusal}
+use Rattle.smv_commands.proofs.Sources.{same_model}
+
+-- ---- one answer
+
+one_of_bytes : (bytes : List ℕ) (a b : Answer) → OfBytes bytes a → OfBytes bytes b → a ≡ b
+one_of_bytes bytes (Refused r) (Refused q) h k = ap Refused (one_check_refusal bytes 0 r q h k)
+one_of_bytes bytes (Refused r) (Done (Text text)) h k = absurd (not_checked bytes 0 r k.0 h k.1)
+one_of_bytes bytes (Refused r) b h k = absurd k
+one_of_bytes bytes (Done (Text text)) (Refused q) h k = absurd (not_checked bytes 0 q h.0 k h.1)
+one_of_bytes bytes (Done (Text text)) (Done (Text other)) h k =
+    ap (λ t. Done (Text t)) (h.2 ∙ ap moxi_text (same_model bytes h.0 k.0 h.1.is_model k.1.is_model) ∙ sym k.2)
+one_of_bytes bytes (Done (Text text)) b h k = absurd k
+one_of_bytes bytes a b h k = absurd h
+
+-- files define one script
+pub one_script : (fs : Files) (model : List ℕ) (a b : Answer) → IsScript fs model a → IsScript fs model b → a ≡ b
+one_script fs model a b h k = goes_once (file_within fs model most_smv_bytes smv_too_long) OfBytes one_of_bytes a b h k
+
+-- ---- runs
+
+at_last : (source : PlainSource) (j : ℕ) (states : List Valuation) → LastBreaks source j states → AtLast (Breaks source j) states
+at_last source j [] h = absurd h
+at_last source j (s ∷ []) h = h
+at_last source j (s ∷ u ∷ states) h = at_last source j (u ∷ states) h
+
+last_breaks : (source : PlainSource) (j : ℕ) (states : List Valuation) → AtLast (Breaks source j) states → LastBreaks source j states
+last_breaks source j [] h = absurd h
+last_breaks source j (s ∷ []) h = h
+last_breaks source j (s ∷ u ∷ states) h = last_breaks source j (u ∷ states) h
+
+one_more : (t : List Instance) (states labels : List Valuation) → StepsHold t states labels → length states ≡ length labels + 1
+one_more t [] labels h = absurd h
+one_more t (s ∷ []) [] h = omega arith
+one_more t (s ∷ []) (l ∷ labels) h = absurd h
+one_more t (s ∷ u ∷ states) [] h = absurd h
+one_more t (s ∷ u ∷ states) (l ∷ labels) h = omega (arith, one_more t (u ∷ states) labels h.1)
+
+run_of_breaks : (source : PlainSource) (j k : ℕ) (states labels : List Valuation) → BreaksAt source j k states labels → HasRun source j k
+run_of_breaks source j k states labels b = record {
+  states = states;
+  labels = labels;
+  states_count = one_more (instances_of source) states labels b.run.steps ∙ ap (λ n. n + 1) b.counted;
+  labels_count = b.counted;
+  is_run = b.run;
+  breaks = at_last source j states b.breaks;
+}
+
+breaks_of_run : (source : PlainSource) (j k : ℕ) (r : HasRun source j k) → BreaksAt source j k r.states r.labels
+breaks_of_run source j k r = record { counted = r.labels_count; run = r.is_run; breaks = last_breaks source j r.states r.breaks }
+
+-- ---- the script, wherever its check stands
+
+met_there : (s : PlainScript) (p : Place) (q : Query) (k : ℕ) (trace : Trace) → MeetsQuery (with_place s p) q k trace → MeetsQuery s q k trace
+met_there s p q k trace m = record { behaves = m.behaves; assumptions = m.assumptions; currents = m.currents; reached = m.reached; reached_last = m.reached_last }
+
+met_here : (s : PlainScript) (p : Place) (q : Query) (k : ℕ) (trace : Trace) → MeetsQuery s q k trace → MeetsQuery (with_place s p) q k trace
+met_here s p q k trace m = record { behaves = m.behaves; assumptions = m.assumptions; currents = m.currents; reached = m.reached; reached_last = m.reached_last }
+
+one_query : (o : Option Query) (q r : Query) → o ≡ Some q → o ≡ Some r → q ≡ r
+one_query o q r e f = cc
+
+module _ (source : PlainSource) (p : Place) (has : HasQueries source)
+    (decoded : (j k : ℕ) (trace : Trace) → MeetsQuery (script_for source) (query_of j) k trace → HasRun source j k)
+    (traced : (j k : ℕ) → HasRun source j k → (trace : Trace) × MeetsQuery (script_for source) (query_of j) k trace) where
+  has_run : (j k : ℕ) → j < invariant_count source → HasTrace (with_place (script_for source) p) j k → HasRun source j k
+  has_run j k h x =
+      let same : x.query ≡ query_of j = one_query (slice_get (script_for source).check.queries j) x.query (query_of j) x.there (has.each j h) in
+      decoded j k x.trace (subst (λ q. MeetsQuery (script_for source) q k x.trace) same (met_there (script_for source) p x.query k x.trace x.meets))
+
+  has_trace : (j k : ℕ) → j < invariant_count source → HasRun source j k → HasTrace (with_place (script_for source) p) j k
+  has_trace j k h r =
+      let m = traced j k r in
+      record { query = query_of j; there = has.each j h; trace = m.0; meets = met_here (script_for source) p (query_of j) k m.0 m.1 }
+
+  pub stands : StandsForModel source (with_place (script_for source) p)
+  stands = record {
+    queries = has.counted;
+    sound = has_run;
+    complete = has_trace;
+  }
+
+pub decoded_runs : (source : PlainSource) (j k : ℕ) (trace : Trace)
+    → BreaksAt source j k (map given (decoded_run source trace k).states) (map given (decoded_run source trace k).labels) → HasRun source j k
+decoded_runs source j k trace b = run_of_breaks source j k (map given (decoded_run source trace k).states) (map given (decoded_run source trace k).labels) b
+
+pub traced_runs : (source : PlainSource) (j k : ℕ) → ((states labels : List Valuation) → BreaksAt source j k states labels → (trace : Trace) × MeetsQuery (script_for source) (query_of j) k trace)
+    → HasRun source j k → (trace : Trace) × MeetsQuery (script_for source) (query_of j) k trace
+traced_runs source j k go r = go r.states r.labels (breaks_of_run source j k r)
+
+-- ---- texts
+
+pub ok_same : {A E : Type 0} (result : Result A E) (x y : A) → x ≡ y → IfOk result (λ a. a ≡ x) → IfOk result (λ a. a ≡ y)
+ok_same (Ok a) x y e h = h ∙ e
+ok_same (Err z) x y e h = tt
+
+-- the text of a model's flat form is the model's
+pub made_text : (source : PlainSource) (flat : PlainFlat) (width : ℕ) → flat ≡ flat_smv source → width ≡ width_of (flat_smv source) → lines_text (shown_script (script_of flat width)) ≡ moxi_text source
+unfolding moxi_text
+made_text source flat width e w = ap (λ (f : PlainFlat). lines_text (shown_script (script_of f width))) e ∙ ap (λ (n : ℕ). lines_text (shown_script (script_of (flat_smv source) n))) w

@@ -1,0 +1,5 @@
+pub mod Limits
+pub mod Models
+pub mod Runs
+pub mod Scripts
+pub mod SmvJudgement

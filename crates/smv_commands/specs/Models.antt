@@ -1,0 +1,57 @@
+-- Which SMV model bytes spell whose checks hold, where the invariant of a number is wanted, 0 where any will do; else their refusal.
+use Rattle.std.specs.Prelude.{◌≡◌, ◌⊎◌, ◌≤◌, ℕ, List, length, Some, None}
+use Rattle.text_core.specs.declared.end.End.{End}
+use Rattle.text_core.specs.declared.end.End.TheVariants.{Bad, NoMemory}
+use Rattle.text_core.specs.declared.place.Kind.TheVariants.{S}
+use Rattle.text_core.specs.declared.place.Refusal.{Refusal}
+use Rattle.text_core.specs.Places.{start, after}
+use Rattle.smv_text.specs.declared.token.Token.{Token}
+use Rattle.smv_text.specs.Tree.{PlainSource}
+use Rattle.smv_text.specs.Heights.{first_high, of_modules}
+use Rattle.smv_text.specs.Lexing.{Lexes, IsLexRefusal}
+use Rattle.smv_text.specs.Sources.{SpellsSource}
+use Rattle.smv_parse.specs.Parsing.{IsRefused}
+use Rattle.smv_meaning.specs.Phases.{IsAccepted, first_refusal}
+use Rattle.command_answers.specs.declared.answer.Answer.{Answer}
+use Rattle.command_answers.specs.declared.answer.Answer.TheVariants.{Refused}
+use Rattle.smv_commands.specs.Limits.{most_smv_bytes}
+
+-- the bytes, within the limit, spell this model, and none of its expressions is too high
+pub record IsModel (bytes : List ℕ) (model : PlainSource) : Type 0 where
+  pub within : length bytes ≤ most_smv_bytes
+  pub tokens : List Token
+  pub lexed : Lexes bytes tokens
+  pub spelled : SpellsSource model (after start bytes) tokens
+  pub low : first_high (of_modules model.modules) ≡ None
+
+-- what is answered to an SMV text that is too long
+abbrev pub smv_too_long : Answer
+smv_too_long = Refused (record { kind = S 1; place = start })
+
+-- the bytes spell this model, and its checks hold
+pub record IsAcceptedModel (bytes : List ℕ) (needed : ℕ) (source : PlainSource) : Type 0 where
+  pub is_model : IsModel bytes source
+  pub accepted : IsAccepted source needed
+
+-- the refusal of a text that spells no model: that of its words, or else of its grammar
+abbrev pub IsTextRefusal : List ℕ → Refusal → Type 0
+IsTextRefusal bytes refusal =
+    IsLexRefusal bytes refusal ⊎ ((tokens : List Token) × Lexes bytes tokens × IsRefused (record { items = tokens; end = after start bytes }) (Bad refusal))
+
+-- the refusal of a text: that of its words or its grammar, or else the first check of its model that fails
+abbrev pub IsCheckRefusal : List ℕ → ℕ → Refusal → Type 0
+IsCheckRefusal bytes needed refusal = IsTextRefusal bytes refusal ⊎ ((model : PlainSource) × IsModel bytes model × (first_refusal model needed ≡ Some refusal))
+
+-- why bytes spell no model: their refusal, or want of memory
+abbrev pub IsTextEnd : List ℕ → End → Type 0
+IsTextEnd bytes (Bad refusal) = IsTextRefusal bytes refusal
+IsTextEnd bytes NoMemory = Unit {0}
+
+-- why a model has no flat form: the first check that fails, or want of memory
+abbrev pub IsFlatEnd : PlainSource → ℕ → End → Type 0
+IsFlatEnd source needed (Bad refusal) = first_refusal source needed ≡ Some refusal
+IsFlatEnd source needed NoMemory = Unit {0}
+
+-- the answer that the model is refused so
+abbrev pub IsRefusal : List ℕ → ℕ → Answer → Type 0
+IsRefusal bytes needed answer = (refusal : Refusal) × IsCheckRefusal bytes needed refusal × (answer ≡ Refused refusal)

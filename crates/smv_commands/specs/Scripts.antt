@@ -1,0 +1,85 @@
+-- Which script is written for an SMV model, and what it stands for (MoXI, SPIN 2024).
+use Rattle.std.specs.Prelude.{◌≡◌, ℕ, ◌<◌, List, length, Option, Some, slice_get}
+use Rattle.text_core.specs.declared.end.End.{End}
+use Rattle.text_core.specs.declared.end.End.TheVariants.{Bad, NoMemory}
+use Rattle.text_core.specs.declared.place.Place.{Place}
+use Rattle.text_core.specs.Outside.{Files, file_at, grown}
+use Rattle.smv_text.specs.Tree.{PlainSource}
+use Rattle.smv_script.specs.Script.{script_for}
+use Rattle.moxi_sexpr.specs.Tree.{Trees}
+use Rattle.moxi_sexpr.specs.Grammar.{SpellsForms}
+use Rattle.moxi_print.specs.Shown.{lines_text}
+use Rattle.moxi_scripts.specs.declared.script.Query.{Query}
+use Rattle.moxi_scripts.specs.Script.{PlainScript}
+use Rattle.moxi_scripts.specs.Spelling.{SpellsScript}
+use Rattle.moxi_systems.specs.Behaviour.{Trace}
+use Rattle.moxi_systems.specs.Meeting.{MeetsQuery}
+use Rattle.moxi_shown_scripts.specs.Printing.{shown_script}
+use Rattle.command_answers.specs.declared.answer.Answer.{Answer}
+use Rattle.command_answers.specs.declared.answer.Answer.TheVariants.{Refused, Done}
+use Rattle.command_answers.specs.declared.answer.Output.TheVariants.{Text}
+use Rattle.smv_commands.specs.Limits.{most_smv_bytes}
+use Rattle.command_answers.specs.Reading.{GoesOn, file_within}
+use Rattle.smv_commands.specs.Runs.{HasRun, invariant_count}
+use Rattle.smv_commands.specs.Models.{IsAcceptedModel, IsCheckRefusal, smv_too_long}
+
+-- the printed script that stands for a model
+unfoldable pub moxi_text : PlainSource → List ℕ
+moxi_text source = lines_text (shown_script (script_for source))
+
+-- why there is no text: the refusal of the bytes, or want of memory
+abbrev pub IsScriptEnd : List ℕ → End → Type 0
+IsScriptEnd bytes (Bad refusal) = IsCheckRefusal bytes 0 refusal
+IsScriptEnd bytes NoMemory = Unit {0}
+
+-- the script of the model that the bytes spell, or their refusal
+abbrev pub OfBytes : List ℕ → Answer → Type 0
+OfBytes bytes (Refused refusal) = IsCheckRefusal bytes 0 refusal
+OfBytes bytes (Done (Text text)) = (source : PlainSource) × IsAcceptedModel bytes 0 source × (text ≡ moxi_text source)
+OfBytes bytes other = ⊥
+
+-- the script of the model in the file of this name
+abbrev pub IsScript : Files → List ℕ → Answer → Type 0
+IsScript files model answer = GoesOn (file_within files model most_smv_bytes smv_too_long) OfBytes answer
+
+-- ---- what a script stands for
+
+-- the bytes spell this script
+pub record SpellsText (bytes : List ℕ) (script : PlainScript) : Type 0 where
+  pub forms : Trees
+  pub formed : SpellsForms bytes forms
+  pub end : Place
+  pub spelled : SpellsScript forms end script
+
+-- some trace meets query j of the script at step k
+pub record HasTrace (script : PlainScript) (j k : ℕ) : Type 0 where
+  pub query : Query
+  pub there : slice_get script.check.queries j ≡ Some query
+  pub trace : Trace
+  pub meets : MeetsQuery script query k trace
+
+-- the script stands for the model: as many queries as invariants, and both directions for each invariant and each number of
+-- transitions
+pub record StandsForModel (source : PlainSource) (script : PlainScript) : Type 0 where
+  pub queries : length script.check.queries ≡ invariant_count source
+  pub sound : (j k : ℕ) → j < invariant_count source → HasTrace script j k → HasRun source j k
+  pub complete : (j k : ℕ) → j < invariant_count source → HasRun source j k → HasTrace script j k
+
+-- the text spells a script, and each script that it spells stands for the model
+pub record WritesScript (source : PlainSource) (text : List ℕ) : Type 0 where
+  pub there : (script : PlainScript) × SpellsText text script
+  pub each : (script : PlainScript) → SpellsText text script → StandsForModel source script
+
+-- what is written for each accepted model
+abbrev pub ScriptsStand : Type 0
+ScriptsStand = (bytes : List ℕ) (source : PlainSource) → IsAcceptedModel bytes 0 source → WritesScript source (moxi_text source)
+
+-- the text that was written stands for the model that the file of this name spells
+pub record IsServed (files : Files) (name : List ℕ) (before now : Option (List ℕ)) : Type 0 where
+  pub bytes : List ℕ
+  pub there : file_at files name ≡ Some bytes
+  pub source : PlainSource
+  pub accepted : IsAcceptedModel bytes 0 source
+  pub text : List ℕ
+  pub written : now ≡ grown before text
+  pub script : WritesScript source text
