@@ -87,6 +87,8 @@ pub fn put_operator(
         TermOp::Xor => put_chain(alloc, builder, Binary::Xor, places),
         TermOp::Implies => put_implied(alloc, builder, places),
         TermOp::Equal => match places.split_first() {
+            // Most equations are of two words.
+            Some((first, [other])) => put_binary(alloc, builder, Binary::Eq, *first, *other),
             Some((first, rest)) => {
                 let pairs = neighbours(alloc, *first, rest)?;
                 put_compared(alloc, builder, Binary::Eq, &pairs)

@@ -182,7 +182,7 @@ fn put_trees(
     ensures lines { IfOk result (λ places. (builder.new, places.items) ≡ all_lines_in scene.entry.now bound.old.items builder.old (trees_of (map plain terms.now))) }
     ensures kept { OnOk result (bound.new.items ≡ bound.old.items) }
 {
-    let mut places = Vec::new(alloc);
+    let mut places = Vec::with_capacity(alloc, terms.len())?;
     for t in terms {
         let place = put_tree(alloc, builder, scene, bound, t)?;
         put_place(&mut places, place)?;

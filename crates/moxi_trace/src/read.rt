@@ -84,6 +84,16 @@ fn read_bytes(alloc: Global, table: &Table, text: &[u8], reader: &mut Reader) ->
     }
 }
 
+// The response of a text that is short enough, read against the table of what is declared.
+fn read_against(alloc: Global, table: &Table, text: &[u8]) -> Result<Answered, ResponseEnd>
+    requires { length text.now ≤ MOST_BYTES }
+    ensures { Answers (response_of table.now text.now) result }
+{
+    let mut reader = Reader::new(alloc, table)?;
+    read_bytes(alloc, table, text, &mut reader)?;
+    Ok(reader.answer())
+}
+
 // The response of a text that is short enough.
 fn read_text(
     alloc: Global,
@@ -94,9 +104,7 @@ fn read_text(
     ensures { Answers (response_of declarations.now text.now) result }
 {
     let table = Table::of(alloc, declarations)?;
-    let mut reader = Reader::new(alloc, &table)?;
-    read_bytes(alloc, &table, text, &mut reader)?;
-    Ok(reader.answer())
+    read_against(alloc, &table, text)
 }
 
 /// The response that a text states for a check (the layout is this translator's own, modelled on MoXI's responses, SPIN 2024):

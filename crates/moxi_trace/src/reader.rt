@@ -16,6 +16,7 @@ use crate::table::Table;
 use crate::tokens::Shape;
 use itoa::Buffer;
 use moxi_terms::{Datum, Env};
+use name_lookup::Successors;
 use std::alloc::Global;
 use std::marker::Model;
 use text_core::{End, FIRST_PLACE, Kind, NoMemory, Place, Refusal};
@@ -30,6 +31,7 @@ pub struct Reader {
     step: Place,
     stated: Vec<Option<Datum>>,
     steps: Steps,
+    successors: Successors,
 }
 
 impl Model for Reader {
@@ -225,6 +227,8 @@ impl Reader {
         ensures { IfOk result (λ r. r ≡ begin table.now) }
     {
         let stated = nothing_stated(alloc, table.len())?;
+        let mut successors = Successors::new(alloc);
+        successors.cover(table.names())?;
         Ok(Reader {
             point: Point::Head(0),
             line: 0,
@@ -233,6 +237,7 @@ impl Reader {
             step: FIRST_PLACE,
             stated,
             steps: Steps::new(alloc),
+            successors,
         })
     }
 
@@ -474,7 +479,8 @@ impl Reader {
         if !is_symbol(shape) {
             return Err(refused(LINE, at));
         }
-        self.name_variable(table.variable(name), at)
+        let variable = table.variable(&mut self.successors, name);
+        self.name_variable(variable, at)
     }
 
     fn state(&mut self, k: usize, value: Datum)

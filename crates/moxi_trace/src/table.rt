@@ -9,6 +9,7 @@ use crate::declarations::Declarations;
 use crate::tokens::Shape;
 use crate::values::value_of;
 use moxi_terms::{Datum, Variables};
+use name_lookup::{NameTable, Successors};
 use name_set::NameSet;
 use std::alloc::Global;
 use std::marker::Model;
@@ -23,7 +24,7 @@ pub const MOST_VALUES: u64 = 4000000;
 #[derive(Drop)]
 pub struct Table<'a> {
     declarations: &'a Declarations<'a>,
-    names: NameSet,
+    names: NameTable,
     queries: NameSet,
 }
 
@@ -39,10 +40,10 @@ impl<'a> Model for Table<'a> {
 }
 
 // The names of the variables, each of which a check has once.
-fn variable_names(alloc: Global, variables: &Variables) -> Result<NameSet, NoMemory>
+fn variable_names(alloc: Global, variables: &Variables) -> Result<NameTable, NoMemory>
     ensures { IfOk result (λ names. names ≡ names_of variables.now) }
 {
-    let mut names = NameSet::new(alloc);
+    let mut names = NameTable::new(alloc);
     for variable in variables {
         if !names.declare(alloc, variable.name.bytes())? {
             return Err(NoMemory);
@@ -86,11 +87,18 @@ impl<'a> Table<'a> {
         declarations.variables.len()
     }
 
+    /// The names of the variables.
+    pub fn names(&self) -> &NameTable
+        ensures { result.now ≡ names_of self.now.variables }
+    {
+        &self.names
+    }
+
     /// The number of the variable of this name.
-    pub fn variable(&self, name: &[u8]) -> Option<usize>
+    pub fn variable(&self, successors: &mut Successors, name: &[u8]) -> Option<usize>
         ensures { result ≡ place_of (names_of self.now.variables) name.now }
     {
-        self.names.place(name)
+        successors.place(&self.names, name)
     }
 
     /// The number of the query of this name.

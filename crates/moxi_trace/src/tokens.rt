@@ -1,7 +1,6 @@
 // Tokens of a response.
 ghost use Rattle.std.specs.Prelude.{◌≡◌, ◌<◌, ◌≤◌, ◌+◌, ◌==◌, ◌∷◌, length, false, IfSome};
-ghost use Rattle.std.specs.List.{list_any};
-ghost use Rattle.moxi_sexpr.specs.Bytes.{is_symbol_byte, is_letter, is_sign, is_blank, is_hex_digit};
+ghost use Rattle.moxi_sexpr.specs.Bytes.{is_symbol_byte, is_blank, is_hex_digit};
 ghost use Rattle.moxi_sexpr.specs.Atoms.{starts_simple};
 ghost use Rattle.moxi_sexpr.specs.Reading.{run_length, has_prime, past_prime, quote_length};
 ghost use Rattle.moxi_trace.specs.Tokens.{belongs, run_of, keyword_of, symbol_shape, symbol_with, bare_of, barred_of, quoted, digits_of, atom_at, token_of};
@@ -40,22 +39,21 @@ pub enum Shape {
 /// A token's shape, its bytes without the signs around them, and what stands behind it.
 pub type Scan<'t> = Option<(Shape, &'t [u8], &'t [u8])>;
 
-fn is_letter(b: u8) -> bool
-    ensures { result ≡ is_letter b }
-{
-    (b >= b'A' && b <= b'Z') || (b >= b'a' && b <= b'z')
-}
-
-fn is_sign(b: u8) -> bool
-    ensures { result ≡ is_sign b }
-{
-    b"~!@$%^&*_-+=<>.?/".contains(&b)
-}
+/// The bytes of a simple symbol, each at its own number, and `#` at all others.
+const SYMBOL_BYTES: [u8; 256] = *b"\
+    ################################\
+    #!##$%&###*+#-./0123456789##<=>?\
+    @ABCDEFGHIJKLMNOPQRSTUVWXYZ###^_\
+    #abcdefghijklmnopqrstuvwxyz###~#\
+    ################################\
+    ################################\
+    ################################\
+    ################################";
 
 fn is_symbol_byte(b: u8) -> bool
     ensures { result ≡ is_symbol_byte b }
 {
-    is_letter(b) || is_digit(b) || is_sign(b)
+    SYMBOL_BYTES[b as usize] != b'#'
 }
 
 /// Tab, line feed, carriage return or space?
