@@ -1,5 +1,5 @@
 -- What is known of a flat system without its cause.
-use Rattle.std.proofs.Common.{◌≡◌, ℕ, suc, ◌<◌, ◌≤◌, true, List, [], ◌∷◌, length, refl, arith}
+use Rattle.std.proofs.Common.{◌≡◌, ℕ, suc, ◌+◌, ◌*◌, ◌<◌, ◌≤◌, true, List, [], ◌∷◌, length, refl, arith}
 use Rattle.std.proofs.Math.Bool.{Bool-set}
 use Rattle.std.proofs.Math.Logic.{∥∥₁_elim, ∥∥₁_map}
 use Rattle.std.specs.List.{AllByRecursion}
@@ -19,11 +19,12 @@ use Rattle.moxi_flat.specs.FlatSorts.{AreFlatTruths, IsSortedFlat, PartIsSorted}
 use Rattle.moxi_flat.specs.FlatSystem.{PlainFlatSystem, PlainPart}
 use Rattle.moxi_instantiate.specs.Instances as instances
 use Rattle.moxi_line_counts.specs.Counts as counts
-use Rattle.moxi_line_counts.proofs.Whole.{lines_stay_few_law}
+use Rattle.moxi_line_counts.proofs.Whole.{lines_are_counted_law, lines_stay_few_law}
 use Rattle.moxi_lines.specs.Lines.{lines_of}
+use Rattle.moxi_term_lines.specs.Laws.{HaveCodes}
 use Rattle.moxi_to_btor.specs.Putting.{IsPartOver, IsTruthOver}
 use Rattle.moxi_to_btor.specs.Queries.{AreTruthsOver, IsQueryOf}
-use Rattle.moxi_to_btor.specs.Systems.{IsKnown}
+use Rattle.moxi_to_btor.specs.Systems.{AreFew, IsKnown}
 
 at_most : (a b : ℕ) → ∥ a ≤ b ∥₁ → a ≤ b
 at_most a b h = let l : a < suc b = lt_held a (suc b) (∥∥₁_map h (λ e. let m : a < suc b = omega (arith, e) in m)) in omega (arith, l)
@@ -73,3 +74,8 @@ module _ (f : PlainFlatSystem) where
     where
       formulas_known : (fs : List PlainFormula) → (IsSortedFlat f → AreFlatTruths f fs) → AreTruthsOver f fs
       formulas_known fs g = all_known _ (λ (x : PlainFormula). IsTruthOver f.scope f.variables x.term) (IsSortedFlat f) fs h g (λ x k. truth_known x.term (∥∥₁_map k (λ v. v.0)))
+
+  pub few_known : ∥ IsSortedFlat f ∥₁ → IsKnown f → HaveCodes f.scope.enumerations → AreFew f (lines_of f)
+  few_known h known codes names =
+      at_most (length (lines_of f)) (2 * counts.flat_size f + 6 * (length f.variables + length f.queries) + 150)
+      (∥∥₁_map h (λ sorted. lines_are_counted_law f codes sorted names known.room))

@@ -1,5 +1,5 @@
 -- What is known of a flat system where its lines are put.
-use Rattle.std.specs.Prelude.{◌<◌, List, [], length, None}
+use Rattle.std.specs.Prelude.{◌+◌, ◌*◌, ◌<◌, ◌≤◌, List, [], length, None}
 use Rattle.std.specs.List.{AllByRecursion}
 use Rattle.btor_tree.specs.declared.lines.Line.{Line}
 use Rattle.btor_tree.specs.declared.lines.LineOp.TheVariants as line
@@ -8,6 +8,7 @@ use Rattle.btor_tree.specs.Sharing.{pushed, with_sort}
 use Rattle.moxi_terms.specs.Sorted.{AreSorts}
 use Rattle.moxi_terms.specs.Tree.{sorts_of}
 use Rattle.moxi_flat.specs.FlatSystem.{PlainFlatSystem}
+use Rattle.moxi_line_counts.specs.Counts.{NamesOneFormula, flat_size}
 use Rattle.moxi_lines.specs.Lines.{lines_of}
 use Rattle.moxi_to_btor.specs.Putting.{IsPartOver}
 use Rattle.moxi_to_btor.specs.Queries.{AreTruthsOver, IsQueryOf}
@@ -20,6 +21,11 @@ pub record IsKnown (f : PlainFlatSystem) : Type 0 where
   pub reachables : AreTruthsOver f f.reachables
   pub queries : AllByRecursion (IsQueryOf f) f.queries
   pub room : length (lines_of f) < greatest_id
+
+-- where each query names one reachable formula and nothing else, there are at most two lines for each unit of the system's size, six
+-- for each variable and each query, and 150
+abbrev pub AreFew : PlainFlatSystem → List Line → Type 0
+AreFew f lines = AllByRecursion NamesOneFormula f.queries → length lines ≤ 2 * flat_size f + 6 * (length f.variables + length f.queries) + 150
 
 -- the sort of truth values, and the constants one and zero
 abbrev pub constant_lines : List Line

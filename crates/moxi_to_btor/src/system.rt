@@ -3,7 +3,7 @@ ghost use Rattle.std.specs.Prelude.{◌≡◌, [], IfOk, OnOk};
 ghost use Rattle.btor_tree.specs.Sharing.{HasNoTwoAlike};
 ghost use Rattle.moxi_term_lines.specs.Laws.{HaveCodes};
 ghost use Rattle.moxi_lines.specs.Lines.{head_lines, lines_of};
-ghost use Rattle.moxi_to_btor.specs.Systems.{IsKnown, constant_lines};
+ghost use Rattle.moxi_to_btor.specs.Systems.{AreFew, IsKnown, constant_lines};
 
 use crate::conditions::{ONE, ZERO};
 use crate::lines::{put_free, put_given};
@@ -27,9 +27,10 @@ fn enumerations_have_codes(enumerations: &List<Enumeration>)
 }
 
 // Variables have sorts of the scope, formulas are of truth values, queries name formulas that are there, and there are fewer lines
-// than ids. This function does nothing.
+// than ids, and few where each query names one formula. This function does nothing.
 fn system_is_known(system: &FlatSystem)
-    ensures { IsKnown system.now }
+    ensures known { IsKnown system.now }
+    ensures few { HaveCodes system.now.scope.enumerations → AreFew system.now (lines_of system.now) }
 {
     system.is_sorted();
     system.is_within_limits();
@@ -58,9 +59,12 @@ fn put_first(alloc: Global, builder: &mut Builder) -> Result<(), NoMemory>
 
 /// The BTOR2 lines of a flat system (BTOR2, CAV 2018): the head, the variables, the formulas of each part, and the queries, in time
 /// linear in its size but for the search for lines that stand already. No two sorts, constants or operators among them say the same.
+/// Where each query names one reachable formula and nothing else, there are at most two lines for each unit of the system's size, six
+/// for each variable and each query, and 150.
 pub fn to_btor(alloc: Global, system: &FlatSystem) -> Result<Nodes, NoMemory>
     ensures lines { IfOk result (λ nodes. nodes ≡ lines_of system.now) }
     ensures distinct { IfOk result (λ nodes. HasNoTwoAlike nodes) }
+    ensures few { IfOk result (AreFew system.now) }
 {
     let scope = system.scope();
     let enumerations = scope.enumerations();

@@ -17,7 +17,7 @@ put_variables-requires c =
     let all = c.enumerations-enumerations.ensures ∙ ap (λ (s : ScopeState). s.enumerations) scope in
     let codes = subst HaveCodes all c.enumerations_have_codes.ensures in
     let sound = subst IsScope scope c.functions.ensures.scope in
-    let k = c.system_is_known.ensures in
+    let k = c.system_is_known.ensures.known in
     variables_can f codes sound k c.enumerations-enumerations.result.now c.put_first.new.builder c.variables.result.now all c.in_ok-put_first.ensures c.variables.ensures
 
 pub put_parts-requires : goal.put_parts-requires
@@ -27,7 +27,7 @@ put_parts-requires c =
     let all = c.enumerations-enumerations.ensures ∙ ap (λ (s : ScopeState). s.enumerations) scope in
     let codes = subst HaveCodes all c.enumerations_have_codes.ensures in
     let sound = subst IsScope scope c.functions.ensures.scope in
-    let k = c.system_is_known.ensures in
+    let k = c.system_is_known.ensures.known in
     let m = all_made c.put_variables.new.builder c.in_ok-inputs.inputs.items in
     let made = c.in_ok-inputs.ensures ∙ variables_are f codes sound k c.enumerations-enumerations.result.now c.put_first.new.builder c.variables.result.now all c.in_ok-put_first.ensures c.variables.ensures in
     let parts = ap (map plain_part) c.as_slice.ensures ∙ c.parts.ensures in
@@ -41,7 +41,7 @@ put_queries-requires c =
     let all = c.enumerations-enumerations.ensures ∙ ap (λ (s : ScopeState). s.enumerations) scope in
     let codes = subst HaveCodes all c.enumerations_have_codes.ensures in
     let sound = subst IsScope scope c.functions.ensures.scope in
-    let k = c.system_is_known.ensures in
+    let k = c.system_is_known.ensures.known in
     let m = all_made c.put_variables.new.builder c.in_ok-inputs.inputs.items in
     let made = c.in_ok-inputs.ensures ∙ variables_are f codes sound k c.enumerations-enumerations.result.now c.put_first.new.builder c.variables.result.now all c.in_ok-put_first.ensures c.variables.ensures in
     let parts = ap (map plain_part) c.as_slice.ensures ∙ c.parts.ensures in
