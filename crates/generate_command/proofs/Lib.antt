@@ -1,0 +1,4 @@
+pub mod Accepting
+pub mod Answering
+pub mod Forms
+pub mod OneAnswer
