@@ -30,7 +30,7 @@ use Rattle.moxi_line_counts.specs.Counts.{FlatSizesAreScriptSizes, LinesStayFew,
 use Rattle.moxi_query_lines.specs.Laws.{LinesAreWellFormed, LinesLayOut}
 use Rattle.moxi_script_counts.specs.Laws.{CodesAreFew}
 use Rattle.script_commands.specs.Limits.{most_script_bytes}
-use Rattle.script_commands.specs.Translation.{HasTrace, IsInstantiated, StandFor, WritesLines, btor_text}
+use Rattle.script_commands.specs.Translation.{HasTrace, IsInstantiated, ScriptLinesAreLaidOut, StandFor, WritesLines, btor_text}
 
 -- ---- sizes
 
@@ -100,13 +100,19 @@ written s spells one laid stands =
 fits : (bytes : List ℕ) → length bytes ≤ most_script_bytes → length bytes ≤ 2 ^ WIDEST
 fits bytes h = omega (arith, h)
 
-pub lines_stand : ((ts : Trees) (end : Place) (s : PlainScript) → SpellsScript ts end s → IsWhole s) → CodesAreFew → FlatSystemsAreSorted → FlatSizesAreScriptSizes → LinesStayFew → LinesLayOut → LinesAreWellFormed → BadsAreQueries
-    → TracesHaveFrames → TracesHaveFlatTraces → ((lines : List Line) → IsWellFormed lines → SpellsLines (printed lines) lines)
-    → ((text : List ℕ) (lines others : List Line) → SpellsLines text lines → SpellsLines text others → lines ≡ others) → (bytes : List ℕ) (s : PlainScript) → IsInstantiated bytes s → WritesLines s (btor_text s)
-lines_stand wholes coded sorts sizes counted lay formed bads framed flattened spells one bytes s h =
+pub laid_lines : ((ts : Trees) (end : Place) (s : PlainScript) → SpellsScript ts end s → IsWhole s) → CodesAreFew → FlatSystemsAreSorted → FlatSizesAreScriptSizes → LinesStayFew → LinesLayOut → LinesAreWellFormed → ScriptLinesAreLaidOut
+laid_lines wholes coded sorts sizes counted lay formed bytes s h =
     let x = h.is_script in
     let whole = wholes x.forms (after start bytes) s x.spelled in
     let sorted = sorts s whole in
     let codes = coded bytes x.forms (after start bytes) s (fits bytes x.within) x.formed x.spelled in
-    let laid = laid_out s lay formed codes sorted (few s counted sizes whole sorted h.accepted) in
-    written s spells one laid (stand s (lines_of (flat_of s)) framed flattened bads whole laid)
+    laid_out s lay formed codes sorted (few s counted sizes whole sorted h.accepted)
+
+pub lines_stand : ((ts : Trees) (end : Place) (s : PlainScript) → SpellsScript ts end s → IsWhole s) → ScriptLinesAreLaidOut → BadsAreQueries → TracesHaveFrames → TracesHaveFlatTraces
+    → ((lines : List Line) → IsWellFormed lines → SpellsLines (printed lines) lines) → ((text : List ℕ) (lines others : List Line) → SpellsLines text lines → SpellsLines text others → lines ≡ others)
+    → (bytes : List ℕ) (s : PlainScript) → IsInstantiated bytes s → WritesLines s (btor_text s)
+lines_stand wholes laid bads framed flattened spells one bytes s h =
+    let x = h.is_script in
+    let whole = wholes x.forms (after start bytes) s x.spelled in
+    let lay = laid bytes s h in
+    written s spells one lay (stand s (lines_of (flat_of s)) framed flattened bads whole lay)

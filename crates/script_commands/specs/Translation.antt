@@ -14,7 +14,7 @@ use Rattle.moxi_systems.specs.Meeting.{MeetsQuery}
 use Rattle.moxi_flat.specs.FlatSystem.{flat_of}
 use Rattle.moxi_flat.specs.Limits.{flat_refusal}
 use Rattle.moxi_lines.specs.Lines.{lines_of}
-use Rattle.moxi_layout.specs.Laws.{HasFrames}
+use Rattle.moxi_layout.specs.Laws.{HasFrames, IsLaidOut}
 use Rattle.command_answers.specs.declared.answer.Answer.{Answer}
 use Rattle.command_answers.specs.declared.answer.Answer.TheVariants.{Refused, Done}
 use Rattle.command_answers.specs.declared.answer.Output.TheVariants.{Text}
@@ -67,6 +67,10 @@ pub record WritesLines (script : PlainScript) (text : List ℕ) : Type 0 where
   pub spelled : SpellsLines text lines
   pub only : (others : List Line) → SpellsLines text others → others ≡ lines
   pub stand : StandFor script lines
+
+-- the lines of a script's flat system lay the system out
+abbrev pub ScriptLinesAreLaidOut : Type 0
+ScriptLinesAreLaidOut = (bytes : List ℕ) (script : PlainScript) → IsInstantiated bytes script → IsLaidOut (flat_of script) (lines_of (flat_of script))
 
 -- what is written for each script
 abbrev pub LinesStand : Type 0

@@ -7,4 +7,4 @@ mod translate;
 
 pub use judge::judge_moxi_files;
 pub use scripts::{SCRIPT_LIMIT, script_of};
-pub use translate::{lines_stand, moxi_to_btor};
+pub use translate::{lines_stand, moxi_to_btor, script_lines_are_laid_out};

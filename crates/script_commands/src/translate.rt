@@ -11,7 +11,7 @@ ghost use Rattle.command_answers.specs.declared.answer.Stop.TheVariants as Stop;
 ghost use Rattle.command_answers.specs.Giving.{BeginsAmong, MayGive};
 ghost use Rattle.command_answers.specs.Reading.{StopsUnread, StopsWith};
 ghost use Rattle.script_commands.specs.Limits.{most_script_bytes};
-ghost use Rattle.script_commands.specs.Translation.{IsBtorText, IsInstantiated, IsLinesEnd, LinesStand, OfBytes, btor_text};
+ghost use Rattle.script_commands.specs.Translation.{IsBtorText, IsInstantiated, IsLinesEnd, LinesStand, OfBytes, ScriptLinesAreLaidOut, btor_text};
 
 use crate::scripts::{SCRIPT_LIMIT, script_of};
 use btor_print::print_btor;
@@ -93,10 +93,9 @@ fn text_of_system(alloc: Global, system: &FlatSystem<'_>) -> Result<Text, NoMemo
     print_btor(alloc, &nodes)
 }
 
-/// What is written for a script spells one list of lines, which have frames 0 to k with every constraint true and the bad line of
-/// number j true in the last one exactly where some trace meets the query of number j at step k. This function does nothing.
-pub fn lines_stand()
-    ensures { LinesStand }
+/// The lines of the flat system that a script's check instantiates lay the system out. This function does nothing.
+pub fn script_lines_are_laid_out()
+    ensures { ScriptLinesAreLaidOut }
 {
     spelled_scripts_are_whole();
     codes_are_few();
@@ -104,6 +103,15 @@ pub fn lines_stand()
     flat_sizes_are_script_sizes();
     lines_stay_few();
     lines_lay_out();
+}
+
+/// What is written for a script spells one list of lines, which have frames 0 to k with every constraint true and the bad line of
+/// number j true in the last one exactly where some trace meets the query of number j at step k. This function does nothing.
+pub fn lines_stand()
+    ensures { LinesStand }
+{
+    spelled_scripts_are_whole();
+    script_lines_are_laid_out();
     bads_are_queries();
     traces_have_frames();
     traces_have_flat_traces();

@@ -1,0 +1,6 @@
+pub mod Seconds
+pub mod Given
+pub mod Smv
+pub mod Moxi
+pub mod LiftedRuns
+pub mod LiftedTraces
