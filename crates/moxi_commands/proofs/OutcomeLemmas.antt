@@ -1,5 +1,5 @@
 -- Words and files define one answer, and what that says of a run.
-use Rattle.std.proofs.Common.{◌≡◌, ◌≢◌, ◌⊎◌, inl, inr, List, [], ℕ, Option, Some, None, refl, sym, ap, ◌∙◌, subst, take, arith}
+use Rattle.std.proofs.Common.{◌≡◌, ◌≢◌, ◌⊎◌, inl, inr, List, [], ℕ, Option, Some, None, ◌≤◌, length, refl, sym, ap, ◌∙◌, subst, take, arith}
 use Rattle.std.proofs.lemmas.List.{append-nil}
 use Rattle.std.specs.Prelude.{IfSome}
 use Rattle.text_core.specs.Outside.{Files, file_at, grown, Rose}
@@ -12,35 +12,57 @@ use Rattle.command_answers.specs.declared.answer.Answer.{Answer}
 use Rattle.command_answers.specs.declared.answer.Answer.TheVariants.{Usage, Unread, Refused, SecondRefused, No, Done}
 use Rattle.command_answers.specs.declared.answer.Output.TheVariants.{Text}
 use Rattle.moxi_commands.specs.declared.words.Command.{Command}
-use Rattle.moxi_commands.specs.declared.words.Command.TheVariants.{SmvToBtor, SmvToMoxi, MoxiToBtor, JudgeBtor, JudgeSmv, JudgeMoxi}
+use Rattle.moxi_commands.specs.declared.words.Command.TheVariants.{SmvToBtor, SmvToMoxi, MoxiToBtor, JudgeBtor, JudgeSmv, JudgeMoxi, LiftSmv, LiftMoxi, Generate}
 use Rattle.command_answers.specs.Answers.{status_of, text_of, line_of}
 use Rattle.command_answers.specs.Notes.{no_memory_line}
 use Rattle.moxi_commands.specs.Outcome.{IsAbsent, IsCutLine, IsLineOf, MayAnswer, outcome_of}
 use Rattle.command_answers.specs.Giving.{IsTold}
 use Rattle.moxi_commands.specs.Words.{Answers, Serves}
-use Rattle.smv_commands.specs.Scripts.{ScriptsStand}
+use Rattle.smv_commands.specs.Scripts.{ScriptsStand, moxi_text}
 use Rattle.command_answers.specs.Sinks.{IsPart, Noted}
 use Rattle.smv_to_btor.specs.Translation.{Accepts, TranslatesTo, TranslationsStand, btor_text}
 use Rattle.btor_commands.proofs.Judgements.{one_judgement}
 use Rattle.smv_commands.proofs.JudgedSmv.{one_smv_judgement}
 use Rattle.smv_commands.proofs.ScriptStands.{one_script}
 use Rattle.smv_commands.proofs.Given as scripts
-use Rattle.script_commands.specs.Translation.{LinesStand}
+use Rattle.script_commands.specs.Translation.{LinesStand, OfBytes as OfScriptBytes}
+use Rattle.script_commands.specs.Limits.{most_script_bytes}
+use Rattle.script_commands.specs.Scripts.{script_too_long}
+use Rattle.moxi_commands.specs.Routes.{RoutesMeet}
+use Rattle.command_answers.specs.laws.Files.{on_read}
 use Rattle.script_commands.proofs.Judged.{one_moxi_judgement}
 use Rattle.script_commands.proofs.Translated.{one_text}
 use Rattle.script_commands.proofs.Translated as lines
 use Rattle.smv_to_btor.proofs.Given as translations
 use Rattle.smv_to_btor.proofs.Given.{one_translation}
+use Rattle.text_core.specs.declared.verdict.Verdict.TheVariants.{Yes}
+use Rattle.btor_tree.specs.declared.lines.Line.{Line}
+use Rattle.btor_tree.specs.Texts.{SpellsLines}
+use Rattle.btor_witness.specs.declared.witness.Witness.{Witness}
+use Rattle.btor_witness.specs.Judging.{judged_btor}
+use Rattle.btor_witness.specs.Texts.{SpellsWitness}
+use Rattle.lift_commands.specs.SmvLift.{LiftsBack, RunsAreLifted, lifted_trace}
+use Rattle.lift_commands.specs.MoxiLift.{TracesAreLifted}
+use Rattle.lift_commands.proofs.Smv as traces
+use Rattle.lift_commands.proofs.Smv.{one_smv_lift}
+use Rattle.lift_commands.proofs.Moxi as responses
+use Rattle.generate_command.specs.Generating.{IsGenerated}
+use Rattle.generate_command.specs.Laws.{OneGenerated}
+use Rattle.moxi_commands.proofs.Summaries as generated
+use Rattle.lift_commands.proofs.Moxi.{one_moxi_lift}
 
 -- words and files define one answer
-pub one_answer : (command : Option Command) (fs : Files) (a b : Answer) → Answers command fs a → Answers command fs b → a ≡ b
-one_answer None fs a b h k = h ∙ sym k
-one_answer (Some (SmvToBtor model)) fs a b h k = one_translation fs model a b h k
-one_answer (Some (SmvToMoxi model)) fs a b h k = one_script fs model a b h k
-one_answer (Some (MoxiToBtor model)) fs a b h k = one_text fs model a b h k
-one_answer (Some (JudgeBtor model second)) fs a b h k = one_judgement fs model second a b h k
-one_answer (Some (JudgeSmv model second j)) fs a b h k = one_smv_judgement fs model second j a b h k
-one_answer (Some (JudgeMoxi model second)) fs a b h k = one_moxi_judgement fs model second a b h k
+pub one_answer : (once : OneGenerated) → (command : Option Command) (fs : Files) (a b : Answer) → Answers command fs a → Answers command fs b → a ≡ b
+one_answer once None fs a b h k = h ∙ sym k
+one_answer once (Some (SmvToBtor model)) fs a b h k = one_translation fs model a b h k
+one_answer once (Some (SmvToMoxi model)) fs a b h k = one_script fs model a b h k
+one_answer once (Some (MoxiToBtor model)) fs a b h k = one_text fs model a b h k
+one_answer once (Some (JudgeBtor model second)) fs a b h k = one_judgement fs model second a b h k
+one_answer once (Some (JudgeSmv model second j)) fs a b h k = one_smv_judgement fs model second j a b h k
+one_answer once (Some (JudgeMoxi model second)) fs a b h k = one_moxi_judgement fs model second a b h k
+one_answer once (Some (LiftSmv model second)) fs a b h k = one_smv_lift fs model second a b h k
+one_answer once (Some (LiftMoxi model second)) fs a b h k = one_moxi_lift fs model second a b h k
+one_answer once (Some (Generate n)) fs a b h k = once n a b h k
 
 -- where the shelf's count did not rise, an answer that may be given is the defined one
 defined : (fs : Files) (command : Option Command) (rose : Type 0) (a : Answer) → MayAnswer (Some fs) command rose a → (rose → ⊥) → Answers command fs a
@@ -126,19 +148,19 @@ read_by files (Some command) rose a m s = absurd (cc)
 pub run_read_fault : (files : Option Files) (command : Option Command) (rose : Type 0) (a : Answer) (s : Status) → MayAnswer files command rose a → Ends s a → s ≡ status.ReadFault → rose ⊎ IsAbsent files command
 run_read_fault files command rose a s m ends is = by_status s status.ReadFault a ends is (λ e. absurd (cc)) (read_by files command rose a m)
 
-unread_by : (fs : Files) (command : Option Command) (rose : Type 0) (a : Answer) (name : List ℕ) → MayAnswer (Some fs) command rose a → Answers command fs (Unread name) → status_of a ≡ status.ReadFault
-unread_by fs None rose a name m d = absurd (let clash : Unread name ≡ Usage = d in cc)
-unread_by fs (Some command) rose Usage name m d = absurd m
-unread_by fs (Some command) rose (Unread other) name m d = refl
-unread_by fs (Some command) rose (Refused r) name m d = ap status_of (one_answer (Some command) fs (Refused r) (Unread name) m d)
-unread_by fs (Some command) rose (SecondRefused r) name m d = ap status_of (one_answer (Some command) fs (SecondRefused r) (Unread name) m d)
-unread_by fs (Some command) rose (No step clause) name m d = ap status_of (one_answer (Some command) fs (No step clause) (Unread name) m d)
-unread_by fs (Some command) rose (Done output) name m d = ap status_of (one_answer (Some command) fs (Done output) (Unread name) m d)
+unread_by : (once : OneGenerated) → (fs : Files) (command : Option Command) (rose : Type 0) (a : Answer) (name : List ℕ) → MayAnswer (Some fs) command rose a → Answers command fs (Unread name) → status_of a ≡ status.ReadFault
+unread_by once fs None rose a name m d = absurd (let clash : Unread name ≡ Usage = d in cc)
+unread_by once fs (Some command) rose Usage name m d = absurd m
+unread_by once fs (Some command) rose (Unread other) name m d = refl
+unread_by once fs (Some command) rose (Refused r) name m d = ap status_of (one_answer once (Some command) fs (Refused r) (Unread name) m d)
+unread_by once fs (Some command) rose (SecondRefused r) name m d = ap status_of (one_answer once (Some command) fs (SecondRefused r) (Unread name) m d)
+unread_by once fs (Some command) rose (No step clause) name m d = ap status_of (one_answer once (Some command) fs (No step clause) (Unread name) m d)
+unread_by once fs (Some command) rose (Done output) name m d = ap status_of (one_answer once (Some command) fs (Done output) (Unread name) m d)
 
-pub run_absent : (files : Option Files) (command : Option Command) (rose : Type 0) (a : Answer) (s : Status) → MayAnswer files command rose a → Ends s a → IsAbsent files command → (s ≡ status.ReadFault) ⊎ ((s ≡ status.WriteFault) ⊎ (s ≡ status.NoMemory))
-run_absent None command rose a s m ends absent = absurd absent
-run_absent (Some fs) command rose a s m ends absent =
-    elim ends [ inl e ↦ inl (e ∙ unread_by fs command rose a absent.0 m absent.1) | inr w ↦ inr (inl w) ]
+pub run_absent : (once : OneGenerated) → (files : Option Files) (command : Option Command) (rose : Type 0) (a : Answer) (s : Status) → MayAnswer files command rose a → Ends s a → IsAbsent files command → (s ≡ status.ReadFault) ⊎ ((s ≡ status.WriteFault) ⊎ (s ≡ status.NoMemory))
+run_absent once None command rose a s m ends absent = absurd absent
+run_absent once (Some fs) command rose a s m ends absent =
+    elim ends [ inl e ↦ inl (e ∙ unread_by once fs command rose a absent.0 m absent.1) | inr w ↦ inr (inl w) ]
 
 grown_nothing : (before : Option (List ℕ)) → grown before [] ≡ before
 grown_nothing None = refl
@@ -155,24 +177,24 @@ nothing_put before now bytes p =
     let none : p.count ≡ 0 = omega (arith, p.within) in
     record { count = 0; within = omega arith; taken = p.taken ∙ ap (λ n. grown before (take n [])) none }
 
-part_by : (fs : Files) (command : Option Command) (rose : Type 0) (a b : Answer) (before now : Option (List ℕ)) → MayAnswer (Some fs) command rose a → Answers command fs b → IsPart before now (text_of a) → IsPart before now (text_of b)
-part_by fs None rose a b before now m d p = subst (IsPart before now) (ap text_of (m ∙ sym d)) p
-part_by fs (Some command) rose (Done output) b before now m d p = subst (IsPart before now) (ap text_of (one_answer (Some command) fs (Done output) b m d)) p
-part_by fs (Some command) rose a b before now m d p = nothing_put before now (text_of b) p
+part_by : (once : OneGenerated) → (fs : Files) (command : Option Command) (rose : Type 0) (a b : Answer) (before now : Option (List ℕ)) → MayAnswer (Some fs) command rose a → Answers command fs b → IsPart before now (text_of a) → IsPart before now (text_of b)
+part_by once fs None rose a b before now m d p = subst (IsPart before now) (ap text_of (m ∙ sym d)) p
+part_by once fs (Some command) rose (Done output) b before now m d p = subst (IsPart before now) (ap text_of (one_answer once (Some command) fs (Done output) b m d)) p
+part_by once fs (Some command) rose a b before now m d p = nothing_put before now (text_of b) p
 
-pub run_prefix : (files : Option Files) (command : Option Command) (rose : Type 0) (a : Answer) (before now : Option (List ℕ)) → MayAnswer files command rose a → IsPart before now (text_of a) → IfSome files (λ fs. (b : Answer) → Answers command fs b → IsPart before now (text_of b))
-run_prefix None command rose a before now m p = tt
-run_prefix (Some fs) command rose a before now m p = λ b d. part_by fs command rose a b before now m d p
+pub run_prefix : (once : OneGenerated) → (files : Option Files) (command : Option Command) (rose : Type 0) (a : Answer) (before now : Option (List ℕ)) → MayAnswer files command rose a → IsPart before now (text_of a) → IfSome files (λ fs. (b : Answer) → Answers command fs b → IsPart before now (text_of b))
+run_prefix once None command rose a before now m p = tt
+run_prefix once (Some fs) command rose a before now m p = λ b d. part_by once fs command rose a b before now m d p
 
-pub run_complete : (files : Option Files) (command : Option Command) (shelf out notes : Type 0) (a : Answer) (s : Status) (before now was is : Option (List ℕ)) → MayAnswer files command shelf a → Ends s a
+pub run_complete : (once : OneGenerated) → (files : Option Files) (command : Option Command) (shelf out notes : Type 0) (a : Answer) (s : Status) (before now was is : Option (List ℕ)) → MayAnswer files command shelf a → Ends s a
     → (s ≢ status.WriteFault → now ≡ grown before (text_of a)) → (s ≢ status.WriteFault → is ≡ grown was (line_of a)) → (s ≡ status.WriteFault → out ⊎ notes)
     → IfSome files (λ fs. (shelf → ⊥) → (out → ⊥) → (notes → ⊥) → (b : Answer) → Answers command fs b → ((s ≡ status_of b) × (now ≡ grown before (text_of b)) × (is ≡ grown was (line_of b))) ⊎ (s ≡ status.NoMemory))
-run_complete None command shelf out notes a s before now was is m ends text line w = tt
-run_complete (Some fs) command shelf out notes a s before now was is m ends text line w = λ sh o n b d.
+run_complete once None command shelf out notes a s before now was is m ends text line w = tt
+run_complete once (Some fs) command shelf out notes a s before now was is m ends text line w = λ sh o n b d.
     let whole : s ≢ status.WriteFault = λ f. elim (w f) [ inl r ↦ o r | inr r ↦ n r ] in
-    let once = one_answer command fs a b (defined fs command shelf a m sh) d in
+    let same = one_answer once command fs a b (defined fs command shelf a m sh) d in
     elim ends [
-      | inl e ↦ inl (e ∙ ap status_of once, text whole ∙ ap (λ x. grown before (text_of x)) once, line whole ∙ ap (λ x. grown was (line_of x)) once)
+      | inl e ↦ inl (e ∙ ap status_of same, text whole ∙ ap (λ x. grown before (text_of x)) same, line whole ∙ ap (λ x. grown was (line_of x)) same)
       | inr f ↦ absurd (whole f)
     ]
 
@@ -272,26 +294,77 @@ memory_fault_noted files command rose out s taken before now count later n is =
       | inr cut ↦ inr (cut.2, refl, record { ending = status.NoMemory; notes = λ e. absurd (cc); differs = λ e. absurd (cc); line = no_memory_line; stands = refl; front = cut.1 })
     ]
 
-served_by : (texts : TranslationsStand) (stands : ScriptsStand) (laid : LinesStand) (command : Option Command) (fs : Files) (b : Answer) (before now : Option (List ℕ)) → Answers command fs b → status_of b ≡ status.Done → now ≡ grown before (text_of b) → Serves command fs before now
-served_by texts stands laid None fs b before now h s w = let e : status.Usage ≡ status.Done = sym (ap status_of h) ∙ s in absurd (cc)
-served_by texts stands laid (Some (SmvToBtor model)) fs b before now h s w = translations.served texts fs model b before now h s w
-served_by texts stands laid (Some (SmvToMoxi model)) fs b before now h s w = scripts.served stands fs model b before now h s w
-served_by texts stands laid (Some (MoxiToBtor model)) fs b before now h s w = lines.served laid fs model b before now h s w
-served_by texts stands laid (Some (JudgeBtor model second)) fs b before now h s w = tt
-served_by texts stands laid (Some (JudgeSmv model second j)) fs b before now h s w = tt
-served_by texts stands laid (Some (JudgeMoxi model second)) fs b before now h s w = tt
+-- what the laws say of the texts that are written
+pub record Laws : Type 0 where
+  pub texts : TranslationsStand
+  pub scripts : ScriptsStand
+  pub lines : LinesStand
+  pub traces : RunsAreLifted
+  pub responses : TracesAreLifted
 
-pub run_served : (texts : TranslationsStand) (stands : ScriptsStand) (laid : LinesStand) (files : Option Files) (command : Option Command) (before now : Option (List ℕ)) → IfSome files (λ fs. (b : Answer) × Answers command fs b × (status_of b ≡ status.Done) × (now ≡ grown before (text_of b))) → IfSome files (λ fs. Serves command fs before now)
-run_served texts stands laid None command before now h = tt
-run_served texts stands laid (Some fs) command before now h = served_by texts stands laid command fs h.0 before now h.1 h.2 h.3
+served_by : (laws : Laws) (command : Option Command) (fs : Files) (b : Answer) (before now : Option (List ℕ)) → Answers command fs b → status_of b ≡ status.Done → now ≡ grown before (text_of b) → Serves command fs before now
+served_by laws None fs b before now h s w = let e : status.Usage ≡ status.Done = sym (ap status_of h) ∙ s in absurd (cc)
+served_by laws (Some (SmvToBtor model)) fs b before now h s w = translations.served laws.texts fs model b before now h s w
+served_by laws (Some (SmvToMoxi model)) fs b before now h s w = scripts.served laws.scripts fs model b before now h s w
+served_by laws (Some (MoxiToBtor model)) fs b before now h s w = lines.served laws.lines fs model b before now h s w
+served_by laws (Some (JudgeBtor model second)) fs b before now h s w = tt
+served_by laws (Some (JudgeSmv model second j)) fs b before now h s w = tt
+served_by laws (Some (JudgeMoxi model second)) fs b before now h s w = tt
+served_by laws (Some (LiftSmv model second)) fs b before now h s w = traces.served laws.traces fs model second b before now h s w
+served_by laws (Some (LiftMoxi model second)) fs b before now h s w = responses.served laws.responses fs model second b before now h s w
+served_by laws (Some (Generate n)) fs b before now h s w = generated.summarized n b before now h s w
 
-pub run_translates : (texts : TranslationsStand) (files : Option Files) (command : Option Command) (shelf out notes : Type 0) (a : Answer) (s : Status) (before now : Option (List ℕ)) → MayAnswer files command shelf a → Ends s a → (s ≢ status.WriteFault → now ≡ grown before (text_of a)) → (s ≡ status.WriteFault → out ⊎ notes)
+pub run_served : (laws : Laws) (files : Option Files) (command : Option Command) (before now : Option (List ℕ)) → IfSome files (λ fs. (b : Answer) × Answers command fs b × (status_of b ≡ status.Done) × (now ≡ grown before (text_of b))) → IfSome files (λ fs. Serves command fs before now)
+run_served laws None command before now h = tt
+run_served laws (Some fs) command before now h = served_by laws command fs h.0 before now h.1 h.2 h.3
+
+pub run_translates : (once : OneGenerated) → (texts : TranslationsStand) (files : Option Files) (command : Option Command) (shelf out notes : Type 0) (a : Answer) (s : Status) (before now : Option (List ℕ)) → MayAnswer files command shelf a → Ends s a → (s ≢ status.WriteFault → now ≡ grown before (text_of a)) → (s ≡ status.WriteFault → out ⊎ notes)
     → IfSome files (λ fs. (model bytes : List ℕ) (source : PlainSource) → command ≡ Some (SmvToBtor model) → file_at fs model ≡ Some bytes → Accepts bytes source → (shelf → ⊥) → (out → ⊥) → (notes → ⊥) → s ≢ status.NoMemory → (s ≡ status.Done) × ((text : List ℕ) × (now ≡ grown before text) × TranslatesTo source text))
-run_translates texts None command shelf out notes a s before now m ends taken w = tt
-run_translates texts (Some fs) command shelf out notes a s before now m ends taken w = λ model bytes source is there acc sh o n memory.
-    let once = one_answer command fs a (Done (Text (btor_text source))) (defined fs command shelf a m sh) (subst (λ c. Answers c fs (Done (Text (btor_text source)))) (sym is) (translations.accepted_answer fs model bytes source there acc)) in
+run_translates once texts None command shelf out notes a s before now m ends taken w = tt
+run_translates once texts (Some fs) command shelf out notes a s before now m ends taken w = λ model bytes source is there acc sh o n memory.
+    let same = one_answer once command fs a (Done (Text (btor_text source))) (defined fs command shelf a m sh) (subst (λ c. Answers c fs (Done (Text (btor_text source)))) (sym is) (translations.accepted_answer fs model bytes source there acc)) in
     let whole : s ≢ status.WriteFault = λ f. elim (w f) [ inl r ↦ o r | inr r ↦ n r ] in
     elim ends [
-      | inl e ↦ (e ∙ ap status_of once, (btor_text source, taken whole ∙ ap (λ x. grown before (text_of x)) once, texts bytes source acc))
+      | inl e ↦ (e ∙ ap status_of same, (btor_text source, taken whole ∙ ap (λ x. grown before (text_of x)) same, texts bytes source acc))
       | inr f ↦ absurd (whole f)
     ]
+
+pub run_lifts : (once : OneGenerated) → (lifted : RunsAreLifted) (files : Option Files) (command : Option Command) (shelf out notes : Type 0) (a : Answer) (s : Status) (before now : Option (List ℕ)) → MayAnswer files command shelf a → Ends s a → (s ≢ status.WriteFault → now ≡ grown before (text_of a)) → (s ≡ status.WriteFault → out ⊎ notes)
+    → IfSome files (λ fs. (model second bytes text : List ℕ) (source : PlainSource) (lines : List Line) (w : Witness) → command ≡ Some (LiftSmv model second) → file_at fs model ≡ Some bytes → Accepts bytes source → SpellsLines (btor_text source) lines
+    → file_at fs second ≡ Some text → SpellsWitness lines text w → judged_btor lines w Yes → (shelf → ⊥) → (out → ⊥) → (notes → ⊥) → s ≢ status.NoMemory → (s ≡ status.Done) × ((trace : List ℕ) × (now ≡ grown before trace) × LiftsBack source w trace))
+run_lifts once lifted None command shelf out notes a s before now m ends taken w = tt
+run_lifts once lifted (Some fs) command shelf out notes a s before now m ends taken w = λ model second bytes text source lines v is there acc spelled second_there states judged sh o n memory.
+    let answer = Done (Text (lifted_trace source v)) in
+    let same = one_answer once command fs a answer (defined fs command shelf a m sh) (subst (λ c. Answers c fs answer) (sym is) (traces.accepted_answer fs model second bytes text source lines v there acc spelled second_there states judged)) in
+    let whole : s ≢ status.WriteFault = λ f. elim (w f) [ inl r ↦ o r | inr r ↦ n r ] in
+    elim ends [
+      | inl e ↦ (e ∙ ap status_of same, (lifted_trace source v, taken whole ∙ ap (λ x. grown before (text_of x)) same, lifted bytes source acc lines spelled text v states judged))
+      | inr f ↦ absurd (whole f)
+    ]
+
+pub run_routes : (once : OneGenerated) → (meet : RoutesMeet) (files : Option Files) (command : Option Command) (shelf out notes : Type 0) (a : Answer) (s : Status) (before now : Option (List ℕ)) → MayAnswer files command shelf a → Ends s a → (s ≢ status.WriteFault → now ≡ grown before (text_of a)) → (s ≡ status.WriteFault → out ⊎ notes)
+    → IfSome files (λ fs. (model bytes : List ℕ) (source : PlainSource) → command ≡ Some (MoxiToBtor model) → Accepts bytes source → file_at fs model ≡ Some (moxi_text source) → length (moxi_text source) ≤ most_script_bytes → (shelf → ⊥) → (out → ⊥) → (notes → ⊥) → s ≢ status.NoMemory
+    → (s ≡ status.Done) × (now ≡ grown before (btor_text source)))
+run_routes once meet None command shelf out notes a s before now m ends taken w = tt
+run_routes once meet (Some fs) command shelf out notes a s before now m ends taken w = λ model bytes source is acc there within sh o n memory.
+    let answer = Done (Text (btor_text source)) in
+    let made = on_read fs model (moxi_text source) most_script_bytes script_too_long OfScriptBytes answer there within (meet bytes source acc within) in
+    let same = one_answer once command fs a answer (defined fs command shelf a m sh) (subst (λ c. Answers c fs answer) (sym is) made) in
+    let whole : s ≢ status.WriteFault = λ f. elim (w f) [ inl r ↦ o r | inr r ↦ n r ] in
+    elim ends [
+      | inl e ↦ (e ∙ ap status_of same, taken whole ∙ ap (λ x. grown before (text_of x)) same)
+      | inr f ↦ absurd (whole f)
+    ]
+
+pub run_generated : (n : ℕ) (a : Answer) (s : Status) (before now was is : Option (List ℕ)) → IsGenerated n a → Ends s a → (s ≢ status.WriteFault → now ≡ grown before (text_of a)) → (s ≢ status.WriteFault → is ≡ grown was (line_of a))
+    → (s ≡ status.NoMemory) ⊎ ((s ≡ status.WriteFault) ⊎ ((b : Answer) × IsGenerated n b × (s ≡ status_of b) × (now ≡ grown before (text_of b)) × (is ≡ grown was (line_of b))))
+run_generated n a s before now was is made ends taken noted =
+    elim ends [
+      | inl e ↦
+          let whole : s ≢ status.WriteFault = λ f. no_fault a (sym e ∙ f) in
+          inr (inr (a, made, e, taken whole, noted whole))
+      | inr f ↦ inr (inl f)
+    ]
+
+pub no_memory_generated : {T : Type 0} (s : Status) (before now : Option (List ℕ)) (count later : ℕ) → Noted before now count later no_memory_line status.NoMemory s → (s ≡ status.NoMemory) ⊎ ((s ≡ status.WriteFault) ⊎ T)
+no_memory_generated s before now count later n = elim n [ inl whole ↦ inl whole.0 | inr cut ↦ inr (inl cut.0) ]

@@ -1,21 +1,34 @@
 // The top call: reads the words, does what they say, and writes.
-ghost use Rattle.std.specs.Prelude.{◌≡◌, ◌≢◌, ◌⊎◌, ◌<◌, map, string_bytes, None, Some, IfOk, IfSome, OnErr, List, ℕ};
+ghost use Rattle.std.specs.Prelude.{◌≡◌, ◌≢◌, ◌⊎◌, ◌<◌, ◌≤◌, length, map, string_bytes, None, Some, IfOk, IfSome, OnErr, List, ℕ};
 ghost use Rattle.text_core.specs.Outside.{file_at, grown, Rose};
 ghost use Rattle.text_core.specs.declared.place.Refusal.{Refusal};
 ghost use Rattle.text_core.specs.declared.verdict.Clause.{Clause};
 ghost use Rattle.smv_text.specs.Tree.{PlainSource};
 ghost use Rattle.command_answers.specs.declared.answer.Answer.{Answer};
-ghost use Rattle.moxi_commands.specs.declared.words.Command.{Command};
+ghost use Rattle.moxi_commands.specs.declared.words.Command.TheVariants as Command;
 ghost use Rattle.command_answers.specs.Answers.{line_of, status_of, text_of};
 ghost use Rattle.command_answers.specs.Notes.{write_fault_line};
 ghost use Rattle.moxi_commands.specs.Outcome.{BeginsFor, IsAbsent, IsCutLine, IsLineOf, MayAnswer, outcome_of};
 ghost use Rattle.command_answers.specs.Reading.{SaysUnread};
 ghost use Rattle.command_answers.specs.Sinks.{IsPart, Took};
-ghost use Rattle.smv_to_btor.specs.Translation.{Accepts, TranslatesTo};
-ghost use Rattle.moxi_commands.specs.Words.{BeginsNoSecond, Serves, command_of};
+ghost use Rattle.smv_to_btor.specs.Translation.{Accepts, TranslatesTo, btor_text};
+ghost use Rattle.text_core.specs.declared.verdict.Verdict.TheVariants.{Yes};
+ghost use Rattle.btor_tree.specs.declared.lines.Line.{Line};
+ghost use Rattle.btor_tree.specs.Texts.{SpellsLines};
+ghost use Rattle.btor_witness.specs.declared.witness.Witness.{Witness};
+ghost use Rattle.btor_witness.specs.Judging.{judged_btor};
+ghost use Rattle.btor_witness.specs.Texts.{SpellsWitness};
+ghost use Rattle.smv_commands.specs.Scripts.{moxi_text};
+ghost use Rattle.script_commands.specs.Limits.{most_script_bytes};
+ghost use Rattle.lift_commands.specs.SmvLift.{LiftsBack};
+ghost use Rattle.generate_command.specs.Generating.{IsGenerated};
+ghost use Rattle.moxi_commands.specs.Words.{BeginsNoSecond, IsInRange, Serves, command_of};
 
-use crate::words::{answer_command, read_command};
+use crate::routes::routes_meet;
+use crate::words::{Command, answer_command, read_command};
 use command_answers::{Answer, Status, Stop, deliver, note};
+use generate_command::one_generated;
+use lift_commands::{runs_are_lifted, traces_are_lifted};
 use script_commands::lines_stand;
 use smv_commands::scripts_stand;
 use smv_to_btor::translations_stand;
@@ -40,7 +53,31 @@ pub fn run<F: Shelf, K: Sink, N: Sink>(
         → result ≢ Status.NoMemory
         → (result ≡ Status.Done) × ((text : List ℕ) × (K.taken out.new ≡ grown (K.taken out.old) text) × TranslatesTo source text)) }
 
-    // The same of every text that was written whole.
+    // For every accepted model that the first file spells, where nothing fails: a witness in the second file for the lines of the
+    // model's text, of which the judge says Yes, is written back as the trace of a run of the model with a state for each frame,
+    // whose last state breaks the invariant of the witness's bad line.
+    ensures lifts { IfSome (F.files shelf.old) (λ files. (model second bytes text : List ℕ) (source : PlainSource) (lines : List Line) (witness : Witness)
+        → command_of (map string_bytes words.now.items) ≡ Some (Command.LiftSmv model second) → file_at files model ≡ Some bytes → Accepts bytes source
+        → SpellsLines (btor_text source) lines → file_at files second ≡ Some text → SpellsWitness lines text witness → judged_btor lines witness Yes
+        → ¬ Rose (F.faults shelf.old) (F.faults shelf.new) → ¬ Rose (K.faults out.old) (K.faults out.new) → ¬ Rose (N.faults notes.old) (N.faults notes.new)
+        → result ≢ Status.NoMemory
+        → (result ≡ Status.Done) × ((trace : List ℕ) × (K.taken out.new ≡ grown (K.taken out.old) trace) × LiftsBack source witness trace)) }
+
+    // For every accepted model, where nothing fails: the BTOR2 text of the script that is written for the model is the one that is
+    // written for the model itself, where the script isn't too long.
+    ensures routes { IfSome (F.files shelf.old) (λ files. (model bytes : List ℕ) (source : PlainSource)
+        → command_of (map string_bytes words.now.items) ≡ Some (Command.MoxiToBtor model) → Accepts bytes source → file_at files model ≡ Some (moxi_text source) → length (moxi_text source) ≤ most_script_bytes
+        → ¬ Rose (F.faults shelf.old) (F.faults shelf.new) → ¬ Rose (K.faults out.old) (K.faults out.new) → ¬ Rose (N.faults notes.old) (N.faults notes.new)
+        → result ≢ Status.NoMemory
+        → (result ≡ Status.Done) × (K.taken out.new ≡ grown (K.taken out.old) (btor_text source))) }
+
+    // For a number of cells, whatever the shelf tells: the answer is the one that is defined of the model and the witness that are
+    // made of so many cells.
+    ensures generated { (n : ℕ) → command_of (map string_bytes words.now.items) ≡ Some (Command.Generate n)
+        → (result ≡ Status.NoMemory) ⊎ ((result ≡ Status.WriteFault) ⊎ ((answer : Answer) × IsGenerated n answer × (result ≡ status_of answer)
+        × (K.taken out.new ≡ grown (K.taken out.old) (text_of answer)) × (N.taken notes.new ≡ grown (N.taken notes.old) (line_of answer)))) }
+
+    // What is written stands for the model, of every text that was written whole.
     ensures served { result ≡ Status.Done → IfSome (F.files shelf.old) (λ files. Serves (command_of (map string_bytes words.now.items)) files (K.taken out.old) (K.taken out.new)) }
 
     // The whole defined text was taken.
@@ -106,6 +143,10 @@ pub fn run<F: Shelf, K: Sink, N: Sink>(
     translations_stand();
     scripts_stand();
     lines_stand();
+    runs_are_lifted();
+    traces_are_lifted();
+    routes_meet();
+    one_generated();
     match answer_words(alloc, words, shelf) {
         Ok(answer) => deliver(&answer, out, notes),
         Err(NoMemory) => note(notes, &[b"no memory\n"], Status::NoMemory),
@@ -113,23 +154,43 @@ pub fn run<F: Shelf, K: Sink, N: Sink>(
 }
 
 // Reads the words and the files that they name.
-#[tactic(auto, using(crate::proofs::Stops::begins_nothing))]
+#[tactic(auto, using(crate::proofs::Stops::begins_nothing, crate::proofs::Summaries::in_range, crate::proofs::Summaries::same_count))]
 fn answer_words<F: Shelf>(
     alloc: Global,
     words: &Vec<String>,
     shelf: &mut F,
 ) -> Result<Answer, NoMemory>
     ensures answer { IfOk result (MayAnswer (F.files shelf.old) (command_of (map string_bytes words.now.items)) (Rose (F.faults shelf.old) (F.faults shelf.new))) }
+    ensures generated { (n : ℕ) → command_of (map string_bytes words.now.items) ≡ Some (Command.Generate n) → IfOk result (IsGenerated n) }
     ensures fault { F.faults shelf.old < F.faults shelf.new → IfOk result SaysUnread }
     ensures begun { BeginsFor (F.files shelf.old) (F.begun shelf.old) (F.begun shelf.new) (command_of (map string_bytes words.now.items)) }
     ensures memory { OnErr result (BeginsNoSecond (F.files shelf.old) (F.begun shelf.old) (F.begun shelf.new) (command_of (map string_bytes words.now.items))) }
     ensures files { F.files shelf.new ≡ F.files shelf.old }
 {
-    let Some(command) = read_command(alloc, words)? else {
-        return Ok(Answer::Usage);
-    };
-    match answer_command(alloc, &command, shelf) {
-        Ok(answer) | Err(Stop::Answered(answer)) => Ok(answer),
+    match read_command(alloc, words)? {
+        Some(command) => answer_read(alloc, &command, shelf),
+        None => Ok(Answer::Usage),
+    }
+}
+
+// The answer to a command, or want of memory.
+#[tactic(auto, using(crate::proofs::Summaries::generated_stop))]
+fn answer_read<F: Shelf>(
+    alloc: Global,
+    command: &Command,
+    shelf: &mut F,
+) -> Result<Answer, NoMemory>
+    requires { IsInRange command.now }
+    ensures answer { IfOk result (MayAnswer (F.files shelf.old) (Some command.now) (Rose (F.faults shelf.old) (F.faults shelf.new))) }
+    ensures generated { (n : ℕ) → command.now ≡ Command.Generate n → IfOk result (IsGenerated n) }
+    ensures fault { F.faults shelf.old < F.faults shelf.new → IfOk result SaysUnread }
+    ensures begun { BeginsFor (F.files shelf.old) (F.begun shelf.old) (F.begun shelf.new) (Some command.now) }
+    ensures memory { OnErr result (BeginsNoSecond (F.files shelf.old) (F.begun shelf.old) (F.begun shelf.new) (Some command.now)) }
+    ensures files { F.files shelf.new ≡ F.files shelf.old }
+{
+    match answer_command(alloc, command, shelf) {
+        Ok(answer) => Ok(answer),
+        Err(Stop::Answered(answer)) => Ok(answer),
         Err(Stop::NoMemory) => Err(NoMemory),
     }
 }

@@ -2,8 +2,10 @@
 #![tactic(auto)]
 
 mod command;
+mod routes;
 mod words;
 
 pub use command::run;
 pub use command_answers::{Answer, Output, Status};
+pub use routes::routes_meet;
 pub use words::Command;

@@ -1,0 +1,23 @@
+// Two ways from a model to its BTOR2 text; this function does nothing but cite what it follows from.
+ghost use Rattle.moxi_commands.specs.Routes.{RoutesMeet};
+
+use moxi_print::shown_is_read_back;
+use moxi_read_back::printed_scripts_are_spelled;
+use moxi_shown_scripts::whole_scripts_can_be_shown;
+use smv_model_lines::models_have_flat_systems;
+use smv_script_bounds::brackets_are_few;
+use smv_script_whole::{names_are_spellable, scripts_are_whole};
+
+/// The script that is written for an accepted model, where it isn't too long for a script, has the BTOR2 text that is written for the
+/// model.
+pub fn routes_meet()
+    ensures { RoutesMeet }
+{
+    scripts_are_whole();
+    names_are_spellable();
+    brackets_are_few();
+    whole_scripts_can_be_shown();
+    shown_is_read_back();
+    printed_scripts_are_spelled();
+    models_have_flat_systems();
+}
