@@ -133,7 +133,7 @@ pub fn run<F: Shelf, K: Sink, N: Sink>(
         → ((result ≡ status_of answer) × (K.taken out.new ≡ grown (K.taken out.old) (text_of answer)) × (N.taken notes.new ≡ grown (N.taken notes.old) (line_of answer)))
         ⊎ (result ≡ Status.NoMemory)) }
 
-    // Once the second file is begun, memory is never wanting.
+    // Once `judge-btor` has begun its second file, memory is never wanting.
     ensures memory { result ≡ Status.NoMemory → BeginsNoSecond (F.files shelf.old) (F.begun shelf.old) (F.begun shelf.new) (command_of (map string_bytes words.now.items)) }
 
     // Only files that the words name are begun, and the shelf's files stay.
