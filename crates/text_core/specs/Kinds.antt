@@ -33,8 +33,7 @@ smv_names =
     codes "BadSelect" ∷
     codes "EmptyRange" ∷
     codes "NoInvarspec" ∷
-    codes "TooLarge" ∷
-    codes "NotBuilt" ∷ []
+    codes "TooLarge" ∷ []
 
 -- the names of the kinds of a MoXI script, from 1 on
 abbrev pub moxi_names : List (List ℕ)

@@ -11,7 +11,7 @@ pub mod witness;
 use crate::place::Kind;
 
 // The names of the kinds of an SMV model, from 1 on.
-const SMV: [&[u8]; 29] = [
+const SMV: [&[u8]; 28] = [
     b"TooLong",
     b"BadByte",
     b"BadNumber",
@@ -40,7 +40,6 @@ const SMV: [&[u8]; 29] = [
     b"EmptyRange",
     b"NoInvarspec",
     b"TooLarge",
-    b"NotBuilt",
 ];
 
 // The names of the kinds of a MoXI script, from 1 on.

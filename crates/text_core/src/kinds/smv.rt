@@ -57,5 +57,3 @@ pub const EMPTY_RANGE: Kind = Kind::S(26);
 pub const NO_INVARSPEC: Kind = Kind::S(27);
 /// `S28 TooLarge`
 pub const TOO_LARGE: Kind = Kind::S(28);
-/// `S29 NotBuilt`
-pub const NOT_BUILT: Kind = Kind::S(29);
