@@ -5,16 +5,15 @@ use Rattle.std.specs.Prelude.{slice_index_or}
 use Rattle.std.specs.List.{list_any}
 use Rattle.std.proofs.Math.Numerals.{add-one}
 use Rattle.std.proofs.Math.Seq.{take-suc}
-use Rattle.std.specs.Borrow.{Bor}
-use Rattle.std.specs.HashMap.{HashMap}
+use Rattle.smv_instances.specs.declared.instance_rows.InstanceRows.{InstanceRows}
 use Rattle.std.proofs.lemmas.Bool.{ltb-true, cases_lt, eqb-true}
 use Rattle.std.proofs.lemmas.Slice.Eq.{bytes_eq-Decides}
 use Rattle.smv_text.specs.declared.tree.Path.{Path}
 use Rattle.smv_instances.specs.declared.leads.Lead.{Lead}
 use Rattle.smv_instances.specs.declared.leads.Key.{Key}
 use Rattle.smv_meaning.specs.Instances.{Instance}
-use Rattle.smv_meaning.specs.Names.{Local, alias, local, Found, cyclic, landed, look, resolved}
-use Rattle.smv_instances.specs.NameMap.{named_in}
+use Rattle.smv_meaning.specs.Names.{Local, alias, local, Found, variable_at, body_at, instance_at, symbol_of, cyclic, none, landed, look, onward, walk, resolved}
+use Rattle.smv_instances.specs.Rows.{row_in}
 use Rattle.smv_instances.specs.Leads.{until, LeadsTo, NameLeads, Right, IsOpen, IsWaiting, AllWait, IsClosed, is_key, WalkOf, KeyWalk}
 use Rattle.smv_instances.specs.declared.leads.Walk.{Walk}
 use Rattle.smv_instances.specs.declared.leads.Walk.TheVariants.{Ends, Waits}
@@ -52,18 +51,18 @@ unfolding look
 alias_waits t i x j p n e h = ap (landed t (look t n) i x) (sym e) ∙ h
 
 -- the leads stay right where one more is kept
-pub right_more : {S : Type 0} (t : List Instance) (was now : HashMap (ℕ × Bor (List ℕ)) Lead S) (i : ℕ) (x : List ℕ) (lead : Lead) → Right t was → LeadsTo t (λ n. look t n i x) lead
-    → ((j : ℕ) (y : List ℕ) → named_in now j y ≡ (if i == j && bytes_eq x y then Some lead else named_in was j y)) → Right t now
+pub right_more : (t : List Instance) (was now : InstanceRows Lead) (i : ℕ) (x : List ℕ) (lead : Lead) → Right t was → LeadsTo t (λ n. look t n i x) lead
+    → ((j : ℕ) (y : List ℕ) → row_in now j y ≡ (if i == j && bytes_eq x y then Some lead else row_in was j y)) → Right t now
 right_more t was now i x lead h l k j y = subst (NameLeads t j y) (sym (k j y)) (by (i == j && bytes_eq x y) refl)
   where
-    by : (b : Bool) → (i == j && bytes_eq x y) ≡ b → NameLeads t j y (if b then Some lead else named_in was j y)
+    by : (b : Bool) → (i == j && bytes_eq x y) ≡ b → NameLeads t j y (if b then Some lead else row_in was j y)
     by true e =
         let b = both_true (i == j) (bytes_eq x y) e in
         subst (λ z. LeadsTo t (λ n. look t n j z) lead) ((bytes_eq-Decides x y).0 b.1) (subst (λ a. LeadsTo t (λ n. look t n a x) lead) (eqb-true i j b.0) l)
     by false e = h j y
 
 -- what is open where each open alias comes to an open alias leads into a cycle
-pub open_is_cyclic : {S : Type 0} (t : List Instance) (m : HashMap (ℕ × Bor (List ℕ)) Lead S) → IsClosed t m → (n i : ℕ) (x : List ℕ) → IsOpen t m i x → look t n i x ≡ cyclic
+pub open_is_cyclic : (t : List Instance) (m : InstanceRows Lead) → IsClosed t m → (n i : ℕ) (x : List ℕ) → IsOpen t m i x → look t n i x ≡ cyclic
 unfolding look
 open_is_cyclic t m h zero i x o = refl
 open_is_cyclic t m h (suc n) i x o = let w = h i x o in w.3 n (open_is_cyclic t m h n w.0 w.1 w.2)
@@ -92,9 +91,9 @@ list_any_push p [] key = or_nothing (p key)
 list_any_push p (k ∷ ks) key = or_moved (p k) (list_any p ks) (p key) (list_any p (ks ++ key ∷ [])) (list_any_push p ks key)
 
 -- one parameter more waits
-pub wait_more : {S : Type 0} (t : List Instance) (was now : HashMap (ℕ × Bor (List ℕ)) Lead S) (ks : List Key) (k n : ℕ) (key : Key) → n ≡ length ks → k < n → key ≡ slice_index_or ks k key → now ≡ was
+pub wait_more : (t : List Instance) (was now : InstanceRows Lead) (ks : List Key) (k n : ℕ) (key : Key) → n ≡ length ks → k < n → key ≡ slice_index_or ks k key → now ≡ was
     → (IsOpen t was key.instance key.name.now → IsWaiting t was key.instance key.name.now) → AllWait t was (take k ks) → AllWait t now (take (k + 1) ks)
-wait_more {S} t was now ks k n key e h is same own before = subst (λ m. AllWait t m (take (k + 1) ks)) (sym same) there
+wait_more t was now ks k n key e h is same own before = subst (λ m. AllWait t m (take (k + 1) ks)) (sym same) there
   where
     there : AllWait t was (take (k + 1) ks)
     there i x a o =
@@ -105,6 +104,21 @@ wait_more {S} t was now ks k n key e h is same own before = subst (λ m. AllWait
         subst (λ y. IsWaiting t was i y) d.1 (subst (λ j. IsWaiting t was j key.name.now) d.0 (own (subst (λ y. IsOpen t was key.instance y) (sym d.1) (subst (λ j. IsOpen t was j x) (sym d.0) o)))))
         (or_true (list_any (is_key i x) (take k ks)) (is_key i x key) b)
 
-pub walk_key : {S : Type 0} (t : List Instance) (m : HashMap (ℕ × Bor (List ℕ)) Lead S) (i : ℕ) (x : List ℕ) (j : ℕ) (p : Path) (w : Walk) → alias j p ≡ local t i x → WalkOf t m (λ n. resolved t (look t n) j p) w → KeyWalk t m i x (Some w)
+pub walk_key : (t : List Instance) (m : InstanceRows Lead) (i : ℕ) (x : List ℕ) (j : ℕ) (p : Path) (w : Walk) → alias j p ≡ local t i x → WalkOf t m (λ n. resolved t (look t n) j p) w → KeyWalk t m i x (Some w)
 walk_key t m i x j p (Ends lead) e h = alias_leads t i x j p lead.depth (found_plain t lead.target) e h
 walk_key t m i x j p (Waits key) e h = (h.0, λ n c. alias_waits t i x j p n e (h.1 n c))
+
+one_onward : (m : Found) → onward m true (λ c. instance_at c) ≡ m
+one_onward (variable_at x kind d) = refl
+one_onward (body_at i x j e) = refl
+one_onward (instance_at c) = refl
+one_onward (symbol_of x) = refl
+one_onward cyclic = refl
+one_onward none = refl
+
+-- a path of one name leads where the name does
+pub one_walked : (f : ℕ → List ℕ → Found) (i : ℕ) (x : List ℕ) → walk f i (x ∷ []) ≡ f i x
+one_walked f i x = one_onward (f i x)
+
+pub one_ends : (t : List Instance) (i : ℕ) (x : List ℕ) (lead : Lead) → LeadsTo t (λ n. look t n i x) lead → LeadsTo t (λ n. walk (look t n) i (x ∷ [])) lead
+one_ends t i x lead h n = one_walked (look t n) i x ∙ h n

@@ -1,4 +1,5 @@
 pub mod Grow
+pub mod RowLemmas
 pub mod KeyLemmas
 pub mod LeadLemmas
 pub mod KnownLemmas

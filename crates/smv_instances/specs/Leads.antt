@@ -1,15 +1,14 @@
 -- Where aliases lead, each found once: how deep the aliases on its way lead into one another, and what stands at the end.
 use Rattle.std.specs.Prelude.{◌≡◌, ℕ, suc, ◌+◌, ◌==◌, ◌&&◌, nat_lt, Bool, true, false, List, if◌then◌else◌, Option, Some, None, bytes_eq}
 use Rattle.std.specs.List.{list_any}
-use Rattle.std.specs.Borrow.{Bor}
-use Rattle.std.specs.HashMap.{HashMap}
+use Rattle.smv_instances.specs.declared.instance_rows.InstanceRows.{InstanceRows}
 use Rattle.smv_instances.specs.declared.leads.Lead.{Lead}
 use Rattle.smv_instances.specs.declared.leads.Key.{Key}
 use Rattle.smv_instances.specs.declared.leads.Walk.{Walk}
 use Rattle.smv_instances.specs.declared.leads.Walk.TheVariants.{Ends, Waits}
 use Rattle.smv_meaning.specs.Instances.{Instance}
 use Rattle.smv_meaning.specs.Names.{Local, alias, local, Found, cyclic, look}
-use Rattle.smv_instances.specs.NameMap.{named_in}
+use Rattle.smv_instances.specs.Rows.{row_in}
 use Rattle.smv_instances.specs.View.{found_plain}
 
 -- cyclic where fewer steps are taken
@@ -28,32 +27,32 @@ NameLeads t i x None = Unit {0}
 NameLeads t i x (Some lead) = LeadsTo t (λ n. look t n i x) lead
 
 -- each lead that is kept is right
-abbrev pub Right : {S : Type 0} → List Instance → HashMap (ℕ × Bor (List ℕ)) Lead S → Type 0
-Right t m = (i : ℕ) (x : List ℕ) → NameLeads t i x (named_in m i x)
+abbrev pub Right : List Instance → InstanceRows Lead → Type 0
+Right t m = (i : ℕ) (x : List ℕ) → NameLeads t i x (row_in m i x)
 
 -- an alias of which no lead is kept
-abbrev pub IsOpen : {S : Type 0} → List Instance → HashMap (ℕ × Bor (List ℕ)) Lead S → ℕ → List ℕ → Type 0
-IsOpen t m i x = (is_alias (local t i x) ≡ true) × (named_in m i x ≡ None)
+abbrev pub IsOpen : List Instance → InstanceRows Lead → ℕ → List ℕ → Type 0
+IsOpen t m i x = (is_alias (local t i x) ≡ true) × (row_in m i x ≡ None)
 
-abbrev pub LeadAt : {S : Type 0} → List Instance → HashMap (ℕ × Bor (List ℕ)) Lead S → ℕ → List ℕ → Option Lead → Type 0
+abbrev pub LeadAt : List Instance → InstanceRows Lead → ℕ → List ℕ → Option Lead → Type 0
 LeadAt t m i x None = IsOpen t m i x
 LeadAt t m i x (Some lead) = LeadsTo t (λ n. look t n i x) lead
 
 -- a walk ends, or comes to an open alias
-abbrev pub WalkOf : {S : Type 0} → List Instance → HashMap (ℕ × Bor (List ℕ)) Lead S → (ℕ → Found) → Walk → Type 0
+abbrev pub WalkOf : List Instance → InstanceRows Lead → (ℕ → Found) → Walk → Type 0
 WalkOf t m g (Ends lead) = LeadsTo t g lead
 WalkOf t m g (Waits key) = IsOpen t m key.instance key.name.now × ((n : ℕ) → look t n key.instance key.name.now ≡ cyclic → g n ≡ cyclic)
 
 -- an open alias comes to an open alias
-abbrev pub IsWaiting : {S : Type 0} → List Instance → HashMap (ℕ × Bor (List ℕ)) Lead S → ℕ → List ℕ → Type 0
+abbrev pub IsWaiting : List Instance → InstanceRows Lead → ℕ → List ℕ → Type 0
 IsWaiting t m i x = (j : ℕ) × (y : List ℕ) × IsOpen t m j y × ((n : ℕ) → look t n j y ≡ cyclic → look t (suc n) i x ≡ cyclic)
 
 -- an alias, where it is open, comes to an open alias
-abbrev pub WaitsIfOpen : {S : Type 0} → List Instance → HashMap (ℕ × Bor (List ℕ)) Lead S → ℕ → List ℕ → Type 0
+abbrev pub WaitsIfOpen : List Instance → InstanceRows Lead → ℕ → List ℕ → Type 0
 WaitsIfOpen t m i x = IsOpen t m i x → IsWaiting t m i x
 
 -- each open alias comes to an open alias, so all of them lead into cycles
-abbrev pub IsClosed : {S : Type 0} → List Instance → HashMap (ℕ × Bor (List ℕ)) Lead S → Type 0
+abbrev pub IsClosed : List Instance → InstanceRows Lead → Type 0
 IsClosed t m = (i : ℕ) (x : List ℕ) → WaitsIfOpen t m i x
 
 abbrev pub is_key : ℕ → List ℕ → Key → Bool
@@ -64,11 +63,11 @@ abbrev pub AreAll : List Instance → List Key → Type 0
 AreAll t ks = (i : ℕ) (x : List ℕ) → is_alias (local t i x) ≡ true → list_any (is_key i x) ks ≡ true
 
 -- the walk of a parameter that is an open alias
-abbrev pub KeyWalk : {S : Type 0} → List Instance → HashMap (ℕ × Bor (List ℕ)) Lead S → ℕ → List ℕ → Option Walk → Type 0
+abbrev pub KeyWalk : List Instance → InstanceRows Lead → ℕ → List ℕ → Option Walk → Type 0
 KeyWalk t m i x None = ¬ IsOpen t m i x
 KeyWalk t m i x (Some (Ends lead)) = (n : ℕ) → look t n i x ≡ until (lead.depth + 1) n (found_plain t lead.target)
 KeyWalk t m i x (Some (Waits key)) = IsOpen t m key.instance key.name.now × ((n : ℕ) → look t n key.instance key.name.now ≡ cyclic → look t (suc n) i x ≡ cyclic)
 
 -- each of these parameters that is open comes to an open alias
-abbrev pub AllWait : {S : Type 0} → List Instance → HashMap (ℕ × Bor (List ℕ)) Lead S → List Key → Type 0
+abbrev pub AllWait : List Instance → InstanceRows Lead → List Key → Type 0
 AllWait t m ks = (i : ℕ) (x : List ℕ) → list_any (is_key i x) ks ≡ true → WaitsIfOpen t m i x

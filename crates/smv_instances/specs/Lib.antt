@@ -1,4 +1,5 @@
 pub mod View
+pub mod Rows
 pub mod NameMap
 pub mod Leads
 pub mod laws

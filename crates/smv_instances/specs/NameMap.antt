@@ -8,6 +8,9 @@ use Rattle.smv_meaning.specs.Instances.{module_named}
 use Rattle.smv_instances.specs.declared.instances.Instance.{Instance as PartOf}
 use Rattle.smv_instances.specs.declared.names.Known.{Known}
 use Rattle.smv_meaning.specs.Names.{Local, nothing, local, is_child, has_symbol}
+use Rattle.smv_instances.specs.declared.rows.NameRows.{NameRows}
+use Rattle.smv_instances.specs.declared.instance_rows.InstanceRows.{InstanceRows}
+use Rattle.smv_instances.specs.Rows.{row_named, row_in}
 use Rattle.smv_instances.specs.View.{instance_plain, or_local, module_or_none}
 
 -- the value of a name
@@ -19,22 +22,22 @@ abbrev pub named_in : {X S : Type 0} → HashMap (ℕ × Bor (List ℕ)) X S →
 named_in m i x = get_by (λ k. i == k.0 && bytes_eq x k.1.now) m
 
 -- the first module of a name
-abbrev pub Finds : {S : Type 0} → List Module → HashMap (Bor (List ℕ)) (Bor Module) S → Type 0
-Finds ms m = (x : List ℕ) → module_or_none (named m x) ≡ module_named (map plain_module ms) x
+abbrev pub Finds : List Module → NameRows (Bor Module) → Type 0
+Finds ms m = (x : List ℕ) → module_or_none (row_named m x) ≡ module_named (map plain_module ms) x
 
 -- ---- what a table keeps, beside its instances
 
-abbrev pub known_under : {S : Type 0} → Option (HashMap (Bor (List ℕ)) Known S) → List ℕ → Local
+abbrev pub known_under : Option (NameRows Known) → List ℕ → Local
 known_under None x = nothing
-known_under (Some m) x = or_local (named m x) nothing
+known_under (Some m) x = or_local (row_named m x) nothing
 
 -- what the names of each instance are
-abbrev pub Knows : {S : Type 0} → List PartOf → List (HashMap (Bor (List ℕ)) Known S) → Type 0
+abbrev pub Knows : List PartOf → List (NameRows Known) → Type 0
 Knows ts ms = (i : ℕ) (x : List ℕ) → known_under (slice_get ms i) x ≡ local (map instance_plain ts) i x
 
 -- which instance a name is in an instance
-abbrev pub Bears : {S : Type 0} → List PartOf → HashMap (ℕ × Bor (List ℕ)) ℕ S → Type 0
-Bears ts m = (i : ℕ) (x : List ℕ) → named_in m i x ≡ position (is_child i x) (map instance_plain ts)
+abbrev pub Bears : List PartOf → InstanceRows ℕ → Type 0
+Bears ts m = (i : ℕ) (x : List ℕ) → row_in m i x ≡ position (is_child i x) (map instance_plain ts)
 
 -- the symbols
 abbrev pub Holds : {X S : Type 0} → List PartOf → HashMap (Bor (List ℕ)) X S → Type 0

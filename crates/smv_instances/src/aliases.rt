@@ -4,6 +4,7 @@ ghost use Rattle.smv_instances.specs.Leads.{Right, KeyWalk, WaitsIfOpen, AllWait
 ghost use Rattle.smv_instances.specs.View.{instance_plain};
 
 use crate::instance_map::{InstanceMap, nothing_in, put_in, value_in};
+use crate::instance_rows::{add_row_in, no_rows_in, row_value_in};
 use crate::keys::keys_of;
 use crate::leads::{Key, Lead, Leads, Walk, path_walk};
 use crate::names::Known;
@@ -28,7 +29,7 @@ fn key_walk<'a>(parts: &Parts<'a>, leads: &Leads<'a>, key: Key<'a>) -> Option<Wa
     requires right { Right (map instance_plain parts.now) leads.now }
     ensures { KeyWalk (map instance_plain parts.now) leads.now key.entry.instance key.entry.name.now result }
 {
-    if let Some(_) = value_in(leads, key.instance, key.name) {
+    if let Some(_) = row_value_in(leads, key.instance, key.name) {
         return None;
     }
     match parts.local(key.instance, key.name) {
@@ -51,7 +52,7 @@ fn keep_deeper<'a>(
     ensures { OnOk result (Right (map instance_plain parts.now) leads.new) }
 {
     let deep = deeper(lead)?;
-    put_in(leads, key.instance, key.name, deep)?;
+    add_row_in(leads, key.instance, key.name, deep)?;
     Ok(())
 }
 
@@ -134,7 +135,7 @@ pub fn leads_of<'a>(alloc: Global, parts: &Parts<'a>) -> Result<Leads<'a>, NoMem
     ensures closed { IfOk result (IsClosed (map instance_plain parts.now)) }
 {
     let keys = keys_of(alloc, parts)?;
-    let mut leads = nothing_in(alloc);
+    let mut leads = no_rows_in(alloc, parts.list())?;
     let mut opened = nothing_in(alloc);
     for key in &keys {
         searched(alloc, parts, &mut leads, &mut opened, *key)?;

@@ -1,33 +1,33 @@
 // Which instance a name is in an instance, found with no scan.
 ghost use Rattle.std.specs.Prelude.{◌≡◌, List, ℕ, Some, is_none, map, position, IfOk, OnOk, ◌&&◌, if◌then◌else◌};
 ghost use Rattle.smv_meaning.specs.Names.{is_child};
-ghost use Rattle.smv_instances.specs.NameMap.{named_in};
+ghost use Rattle.smv_instances.specs.Rows.{row_in};
 ghost use Rattle.smv_instances.specs.View.{instance_plain};
 
-use crate::instance_map::{InstanceMap, nothing_in, put_first};
+use crate::instance_rows::{InstanceRows, add_first_in, no_rows_in};
 use crate::instances::Instance;
 use std::alloc::Global;
 use text_core::NoMemory;
 
 /// Numbers of instances by the number of the instance that they stand in, and their name there.
-pub type Children<'a> = InstanceMap<'a, usize>;
+pub type Children<'a> = InstanceRows<'a, usize>;
 
 #[tactic(auto, using(crate::specs::laws::ChildLemmas::unchanged))]
 fn put_part<'a>(children: &mut Children<'a>, c: usize, part: &Instance<'a>) -> Result<(), NoMemory>
-    ensures { OnOk result ((i : ℕ) (x : List ℕ) → named_in children.new i x ≡ (if is_none (named_in children.old i x) && is_child i x (instance_plain part.now) then Some c else named_in children.old i x)) }
+    ensures { OnOk result ((i : ℕ) (x : List ℕ) → row_in children.new i x ≡ (if is_none (row_in children.old i x) && is_child i x (instance_plain part.now) then Some c else row_in children.old i x)) }
 {
     match part.parent {
         None => Ok(()),
-        Some(i) => put_first(children, i, part.name, c),
+        Some(i) => add_first_in(children, i, part.name, c),
     }
 }
 
 /// The first instance of each name in each instance.
 #[tactic(auto, using(crate::specs::laws::ChildLemmas::with_part, crate::specs::laws::ChildLemmas::whole))]
 pub fn children_of<'a>(alloc: Global, table: &[Instance<'a>]) -> Result<Children<'a>, NoMemory>
-    ensures { IfOk result (λ m. (i : ℕ) (x : List ℕ) → named_in m i x ≡ position (is_child i x) (map instance_plain table.now)) }
+    ensures { IfOk result (λ m. (i : ℕ) (x : List ℕ) → row_in m i x ≡ position (is_child i x) (map instance_plain table.now)) }
 {
-    let mut children = nothing_in(alloc);
+    let mut children = no_rows_in(alloc, table)?;
     for c in 0..table.len() {
         put_part(&mut children, c, &table[c])?;
     }

@@ -3,18 +3,20 @@ ghost use Rattle.std.specs.Prelude.{◌≡◌, List, ℕ, Some, map, unwrap_or, 
 ghost use Rattle.smv_text.specs.Tree.{trees_of};
 ghost use Rattle.smv_text.specs.View.{plain, plain_item, plain_definition, plain_element};
 ghost use Rattle.smv_meaning.specs.Names.{nothing, among_items, among_definitions, among_elements, among_parameters, local_in};
-ghost use Rattle.smv_instances.specs.NameMap.{named, Knows};
+ghost use Rattle.smv_instances.specs.NameMap.{Knows};
+ghost use Rattle.smv_instances.specs.Rows.{row_named};
 ghost use Rattle.smv_instances.specs.View.{instance_plain, or_local};
 
+use crate::instance_rows::names_in;
 use crate::instances::Instance;
-use crate::name_map::{NameMap, no_names, put};
 use crate::names::{Known, actual, domain};
+use crate::rows::{NameRows, add_row, no_rows};
 use smv_text::{Definitions, Element, Elements, Expr, Items, Parameters, VarKind};
 use std::alloc::Global;
 use text_core::NoMemory;
 
 /// What names are in an instance.
-pub type KnownNames<'a> = NameMap<'a, Known<'a>>;
+pub type KnownNames<'a> = NameRows<'a, Known<'a>>;
 
 // From the last on, so that the first one of a name counts.
 fn put_items<'a>(
@@ -22,13 +24,13 @@ fn put_items<'a>(
     kind: VarKind,
     items: &'a Items,
 ) -> Result<(), NoMemory>
-    ensures { OnOk result ((x : List ℕ) → or_local (named known.new x) nothing ≡ among_items kind (map plain_item items.now) x (or_local (named known.old x) nothing)) }
+    ensures { OnOk result ((x : List ℕ) → or_local (row_named known.new x) nothing ≡ among_items kind (map plain_item items.now) x (or_local (row_named known.old x) nothing)) }
 {
     let mut k = items.len();
     while k > 0 {
         k -= 1;
         let item = items.at(k);
-        put(known, item.name.bytes(), domain(kind, &item.domain))?;
+        add_row(known, item.name.bytes(), domain(kind, &item.domain))?;
     }
     Ok(())
 }
@@ -38,13 +40,13 @@ fn put_definitions<'a>(
     i: usize,
     definitions: &'a Definitions,
 ) -> Result<(), NoMemory>
-    ensures { OnOk result ((x : List ℕ) → or_local (named known.new x) nothing ≡ among_definitions i (map plain_definition definitions.now) x (or_local (named known.old x) nothing)) }
+    ensures { OnOk result ((x : List ℕ) → or_local (row_named known.new x) nothing ≡ among_definitions i (map plain_definition definitions.now) x (or_local (row_named known.old x) nothing)) }
 {
     let mut k = definitions.len();
     while k > 0 {
         k -= 1;
         let definition = definitions.at(k);
-        put(
+        add_row(
             known,
             definition.name.bytes(),
             Known::Formula(i, &definition.body),
@@ -56,11 +58,12 @@ fn put_definitions<'a>(
 fn known_in_elements<'a>(
     alloc: Global,
     i: usize,
+    expected: usize,
     elements: &'a Elements,
 ) -> Result<KnownNames<'a>, NoMemory>
-    ensures { IfOk result (λ m. (x : List ℕ) → or_local (named m x) nothing ≡ among_elements i (map plain_element elements.now) x) }
+    ensures { IfOk result (λ m. (x : List ℕ) → or_local (row_named m x) nothing ≡ among_elements i (map plain_element elements.now) x) }
 {
-    let mut known = no_names(alloc);
+    let mut known = no_rows(alloc, expected)?;
     let mut k = elements.len();
     while k > 0 {
         k -= 1;
@@ -79,12 +82,12 @@ fn put_parameters<'a>(
     parameters: &'a Parameters,
     actuals: &'a [Expr],
 ) -> Result<(), NoMemory>
-    ensures { OnOk result ((x : List ℕ) → or_local (named known.new x) nothing ≡ among_parameters parent parameters.now (trees_of (map plain actuals.now)) x (or_local (named known.old x) nothing)) }
+    ensures { OnOk result ((x : List ℕ) → or_local (row_named known.new x) nothing ≡ among_parameters parent parameters.now (trees_of (map plain actuals.now)) x (or_local (row_named known.old x) nothing)) }
 {
     let mut k = parameters.len().min(actuals.len());
     while k > 0 {
         k -= 1;
-        put(
+        add_row(
             known,
             parameters.at(k).name.bytes(),
             actual(parent, &actuals[k]),
@@ -99,10 +102,10 @@ pub fn known_in<'a>(
     i: usize,
     part: &Instance<'a>,
 ) -> Result<KnownNames<'a>, NoMemory>
-    ensures { IfOk result (λ m. (x : List ℕ) → or_local (named m x) nothing ≡ local_in i x (Some (instance_plain part.now))) }
+    ensures { IfOk result (λ m. (x : List ℕ) → or_local (row_named m x) nothing ≡ local_in i x (Some (instance_plain part.now))) }
 {
     let module = part.module;
-    let mut known = known_in_elements(alloc, i, &module.elements)?;
+    let mut known = known_in_elements(alloc, i, names_in(module), &module.elements)?;
     put_parameters(
         &mut known,
         part.parent.unwrap_or(0),

@@ -1,10 +1,10 @@
 // Where aliases lead, each found once.
-ghost use Rattle.std.specs.Prelude.{◌≡◌, map};
+ghost use Rattle.std.specs.Prelude.{◌≡◌, ◌∷◌, [], map};
 ghost use Rattle.smv_meaning.specs.Names.{look, walk, resolved, local};
 ghost use Rattle.smv_instances.specs.Leads.{Right, LeadAt, WalkOf};
-ghost use Rattle.smv_instances.specs.View.{instance_plain};
+ghost use Rattle.smv_instances.specs.View.{instance_plain, local_plain};
 
-use crate::instance_map::{InstanceMap, value_in};
+use crate::instance_rows::{InstanceRows, row_value_in};
 use crate::names::{Known, Target, last};
 use crate::parts::Parts;
 use smv_text::Path;
@@ -32,7 +32,7 @@ pub enum Walk<'a> {
 }
 
 /// Leads of aliases by their instance and name.
-pub type Leads<'a> = InstanceMap<'a, Lead<'a>>;
+pub type Leads<'a> = InstanceRows<'a, Lead<'a>>;
 
 fn one_deep<'a>(target: Target<'a>) -> Lead<'a>
     ensures depth { result.depth ≡ 1 }
@@ -41,13 +41,20 @@ fn one_deep<'a>(target: Target<'a>) -> Lead<'a>
     Lead { depth: 1, target }
 }
 
-/// Where a name leads, but for an open alias.
-pub fn lead_at<'a>(parts: &Parts<'a>, leads: &Leads<'a>, i: usize, x: &'a [u8]) -> Option<Lead<'a>>
+// Where a name leads of which is known what it is in its instance, but for an open alias.
+fn lead_of<'a>(
+    parts: &Parts<'a>,
+    leads: &Leads<'a>,
+    i: usize,
+    x: &'a [u8],
+    known: Known<'a>,
+) -> Option<Lead<'a>>
     requires right { Right (map instance_plain parts.now) leads.now }
+    requires known { local_plain known ≡ local (map instance_plain parts.now) i x.now }
     ensures { LeadAt (map instance_plain parts.now) leads.now i x.now result }
 {
-    match parts.local(i, x) {
-        Known::Alias(_, _) => value_in(leads, i, x),
+    match known {
+        Known::Alias(_, _) => row_value_in(leads, i, x),
         Known::Formula(j, e) => Some(one_deep(Target::Body(i, x, j, e))),
         Known::Variable(kind, d) => Some(one_deep(Target::Variable(i, x, kind, d))),
         Known::Inner => match parts.child(i, x) {
@@ -55,6 +62,36 @@ pub fn lead_at<'a>(parts: &Parts<'a>, leads: &Leads<'a>, i: usize, x: &'a [u8]) 
             Some(c) => Some(one_deep(Target::Within(c))),
         },
         Known::Nothing => Some(one_deep(Target::Missing)),
+    }
+}
+
+/// Where a name leads, but for an open alias.
+pub fn lead_at<'a>(parts: &Parts<'a>, leads: &Leads<'a>, i: usize, x: &'a [u8]) -> Option<Lead<'a>>
+    requires right { Right (map instance_plain parts.now) leads.now }
+    ensures { LeadAt (map instance_plain parts.now) leads.now i x.now result }
+{
+    let known = parts.local(i, x);
+    lead_of(parts, leads, i, x, known)
+}
+
+// The walk along a path of one name.
+fn name_walk<'a>(
+    parts: &Parts<'a>,
+    leads: &Leads<'a>,
+    i: usize,
+    x: &'a [u8],
+    known: Known<'a>,
+) -> Walk<'a>
+    requires right { Right (map instance_plain parts.now) leads.now }
+    requires known { local_plain known ≡ local (map instance_plain parts.now) i x.now }
+    ensures { WalkOf (map instance_plain parts.now) leads.now (λ n. walk (look (map instance_plain parts.now) n) i (x.now ∷ [])) result }
+{
+    match lead_of(parts, leads, i, x, known) {
+        Some(lead) => Walk::Ends(lead),
+        None => Walk::Waits(Key {
+            instance: i,
+            name: x,
+        }),
     }
 }
 
@@ -93,7 +130,8 @@ pub fn path_walk<'a>(parts: &Parts<'a>, leads: &Leads<'a>, i: usize, path: &'a P
 {
     if !path.from_self && path.names.len() == 1 {
         let x = path.names.at(0).bytes();
-        if let Known::Nothing = parts.local(i, x) {
+        let known = parts.local(i, x);
+        if let Known::Nothing = known {
             let target = if parts.has_symbol(x) {
                 Target::Symbol(x)
             } else {
@@ -101,6 +139,7 @@ pub fn path_walk<'a>(parts: &Parts<'a>, leads: &Leads<'a>, i: usize, path: &'a P
             };
             return Walk::Ends(Lead { depth: 0, target });
         }
+        return name_walk(parts, leads, i, x, known);
     }
     names_walk(parts, leads, i, &path.names)
 }

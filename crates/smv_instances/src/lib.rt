@@ -4,6 +4,7 @@
 mod aliases;
 mod children;
 mod instance_map;
+mod instance_rows;
 mod instances;
 mod keys;
 mod known_names;
@@ -12,12 +13,15 @@ mod modules;
 mod name_map;
 mod names;
 mod parts;
+mod rows;
 mod symbols;
 mod table;
 
 pub use instance_map::{InstanceMap, nothing_in, put_first, put_in, value_in};
+pub use instance_rows::{InstanceRows, add_first_in, add_row_in, no_rows_in, row_value_in};
 pub use instances::{Instance, instances as instance_list, path_below};
 pub use modules::ModuleTable;
 pub use name_map::{NameMap, no_names, put, value_under};
 pub use names::{Known, Target};
+pub use rows::{NameRows, add_row, no_rows, row_value};
 pub use table::Table;

@@ -5,7 +5,7 @@ ghost use Rattle.smv_meaning.specs.Instances.{module_named};
 ghost use Rattle.smv_instances.specs.NameMap.{Finds};
 ghost use Rattle.smv_instances.specs.View.{module_or_none};
 
-use crate::name_map::{NameMap, no_names, put, value_under};
+use crate::rows::{NameRows, add_row, no_rows, row_value};
 use smv_text::{Module, Modules};
 use std::alloc::Global;
 use std::marker::Model;
@@ -15,7 +15,7 @@ use text_core::NoMemory;
 #[derive(Drop)]
 pub struct ModuleTable<'a> {
     list: &'a Modules,
-    by_name: NameMap<'a, &'a Module>,
+    by_name: NameRows<'a, &'a Module>,
 }
 
 impl<'a> Model for ModuleTable<'a> {
@@ -58,20 +58,20 @@ impl<'a> ModuleTable<'a> {
     pub fn named(&self, name: &[u8]) -> Option<&'a Module>
         ensures { module_or_none result ≡ module_named (map plain_module self.now) name.now }
     {
-        value_under(&self.by_name, name)
+        row_value(&self.by_name, name)
     }
 }
 
 // From the last on, so that the first one of a name counts.
-fn by_name<'a>(alloc: Global, modules: &'a Modules) -> Result<NameMap<'a, &'a Module>, NoMemory>
+fn by_name<'a>(alloc: Global, modules: &'a Modules) -> Result<NameRows<'a, &'a Module>, NoMemory>
     ensures { IfOk result (λ m. Finds modules.now m) }
 {
-    let mut found = no_names(alloc);
+    let mut found = no_rows(alloc, modules.len())?;
     let mut k = modules.len();
     while k > 0 {
         k -= 1;
         let module = modules.at(k);
-        put(&mut found, module.name.bytes(), module)?;
+        add_row(&mut found, module.name.bytes(), module)?;
     }
     Ok(found)
 }

@@ -5,11 +5,12 @@ ghost use Rattle.smv_meaning.specs.Names.{definitions_in, formulas_in, steps_of,
 ghost use Rattle.smv_instances.specs.View.{instance_plain, local_plain};
 
 use crate::children::{Children, children_of};
-use crate::instance_map::value_in;
+use crate::instance_rows::row_value_in;
 use crate::instances::Instance;
 use crate::known_names::{KnownNames, known_in_all};
 use crate::name_map::value_under;
 use crate::names::Known;
+use crate::rows::row_value;
 use crate::symbols::{SymbolNames, symbols_of};
 use smv_text::{Element, Elements};
 use std::alloc::Global;
@@ -75,6 +76,13 @@ impl<'a> Parts<'a> {
         self.parts.len()
     }
 
+    /// The instances in their order.
+    pub fn list(&self) -> &[Instance<'a>]
+        ensures { result.now ≡ self.now }
+    {
+        self.parts.as_slice()
+    }
+
     /// The instance with this number.
     pub fn at(&self, i: usize) -> &Instance<'a>
         requires { i < length self.now }
@@ -89,7 +97,7 @@ impl<'a> Parts<'a> {
     {
         match self.known.get(i) {
             None => Known::Nothing,
-            Some(known) => value_under(known, x).unwrap_or(Known::Nothing),
+            Some(known) => row_value(known, x).unwrap_or(Known::Nothing),
         }
     }
 
@@ -97,7 +105,7 @@ impl<'a> Parts<'a> {
     pub fn child(&self, i: usize, x: &[u8]) -> Option<usize>
         ensures { result ≡ position (is_child i x.now) (map instance_plain self.now) }
     {
-        value_in(&self.children, i, x)
+        row_value_in(&self.children, i, x)
     }
 
     /// Is the name in an enumeration or CONSTANTS of an instantiated module?

@@ -79,6 +79,13 @@ impl<'a> Table<'a> {
         self.parts.len()
     }
 
+    /// The instances in their order.
+    pub fn list(&self) -> &[Instance<'a>]
+        ensures { result.now ≡ self.now }
+    {
+        self.parts.list()
+    }
+
     /// The instance with this number.
     pub fn at(&self, i: usize) -> &Instance<'a>
         requires { i < length self.now }

@@ -10,7 +10,7 @@ use Rattle.smv_text.specs.Tree.{PlainDomain}
 use Rattle.smv_meaning.specs.Instances.{Instance}
 use Rattle.smv_meaning.specs.Names.{Found, variable_at}
 use Rattle.smv_meaning.specs.Meaning.{is_input}
-use Rattle.smv_instances.specs.NameMap.{named}
+use Rattle.smv_instances.specs.Rows.{row_named}
 use Rattle.smv_instances.specs.laws.ChildLemmas.{position_push}
 use Rattle.smv_items.specs.declared.origins.Origin.{Origin as KeptOrigin}
 use Rattle.smv_items.specs.declared.numbers.ItemNumbers.{ItemNumbers}
@@ -59,12 +59,12 @@ variable_noted t kind xs paths k n o p q b x old new e l h a g i c s r =
 -- ---- what a path becomes
 
 variable_number : (t : List Instance) (ns : ItemNumbers) → AreNumbers t (origins_of t) ns → (kind : VarKind) (y : List ℕ) (d : PlainDomain)
-    → named (if is_input kind then ns.inputs else ns.states) y ≡ position (is_item t (variable_at y kind d)) (origins_of t)
+    → row_named (if is_input kind then ns.inputs else ns.states) y ≡ position (is_item t (variable_at y kind d)) (origins_of t)
 variable_number t ns h OfVarKind.State y d = h.states y
 variable_number t ns h OfVarKind.Frozen y d = h.states y
 variable_number t ns h OfVarKind.Input y d = h.inputs y
 
 pub variable_leaf : (t : List Instance) (ns : ItemNumbers) → AreNumbers t (origins_of t) ns → (kind : VarKind) (y z : List ℕ) (d : PlainDomain) (k : Option ℕ) (found : Found)
-    → variable_at y kind d ≡ found → z ≡ y → k ≡ named (if is_input kind then ns.inputs else ns.states) z → item_leaf k ≡ leaf_found t found
+    → variable_at y kind d ≡ found → z ≡ y → k ≡ row_named (if is_input kind then ns.inputs else ns.states) z → item_leaf k ≡ leaf_found t found
 variable_leaf t ns h kind y z d k found e s r =
-    ap item_leaf (r ∙ ap (named (if is_input kind then ns.inputs else ns.states)) s ∙ variable_number t ns h kind y d) ∙ ap (leaf_found t) e
+    ap item_leaf (r ∙ ap (row_named (if is_input kind then ns.inputs else ns.states)) s ∙ variable_number t ns h kind y d) ∙ ap (leaf_found t) e

@@ -9,7 +9,9 @@ use Rattle.smv_items.specs.declared.origins.Content.TheVariants as OfContent
 use Rattle.smv_items.specs.declared.origins.Origin.{Origin as KeptOrigin}
 use Rattle.smv_text.specs.declared.tree.VarKind.{VarKind}
 use Rattle.smv_text.specs.declared.tree.VarKind.TheVariants as OfVarKind
-use Rattle.smv_instances.specs.NameMap.{named, named_in}
+use Rattle.smv_instances.specs.declared.rows.NameRows.{NameRows}
+use Rattle.smv_instances.specs.NameMap.{named_in}
+use Rattle.smv_instances.specs.Rows.{row_named}
 use Rattle.smv_items.specs.declared.numbers.Leaf.{Leaf as KeptLeaf}
 use Rattle.smv_items.specs.declared.numbers.Leaf.TheVariants as OfLeaf
 use Rattle.smv_items.specs.declared.numbers.ItemNumbers.{ItemNumbers}
@@ -43,8 +45,8 @@ abbrev pub AreBodies : {S : Type 0} → List Origin → HashMap (ℕ × Bor (Lis
 AreBodies ms m = (i : ℕ) (x : List ℕ) → named_in m i x ≡ position (is_body_at i x) ms
 
 -- that of a variable is the place of the first that has its dotted path, inputs apart
-abbrev pub AreVariables : {S : Type 0} → List Instance → VarKind → List Origin → HashMap (Bor (List ℕ)) ℕ S → Type 0
-AreVariables t kind ms m = (x : List ℕ) → named m x ≡ position (λ o. is_variable_as kind o.content && bytes_eq (path_of t o) x) ms
+abbrev pub AreVariables : List Instance → VarKind → List Origin → NameRows ℕ → Type 0
+AreVariables t kind ms m = (x : List ℕ) → row_named m x ≡ position (λ o. is_variable_as kind o.content && bytes_eq (path_of t o) x) ms
 
 pub record AreNumbers (t : List Instance) (ms : List Origin) (ns : ItemNumbers) : Type 0 where
   pub bodies : AreBodies ms ns.bodies

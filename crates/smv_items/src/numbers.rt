@@ -3,7 +3,8 @@ ghost use Rattle.std.specs.Prelude.{◌≡◌, ◌&&◌, length, List, ℕ, Some
 ghost use Rattle.smv_text.specs.declared.tree.VarKind.TheVariants as OfVarKind;
 ghost use Rattle.smv_meaning.specs.Instances.{Instance as Specified};
 ghost use Rattle.smv_meaning.specs.Meaning.{is_input};
-ghost use Rattle.smv_instances.specs.NameMap.{named, named_in};
+ghost use Rattle.smv_instances.specs.NameMap.{named_in};
+ghost use Rattle.smv_instances.specs.Rows.{row_named};
 ghost use Rattle.smv_instances.specs.View.{instance_plain};
 ghost use Rattle.smv_items.specs.FlatItems.{is_variable_as, is_body, path_of, leaf_in, item_leaf, symbol_leaf, origins_of, symbols_of};
 ghost use Rattle.smv_items.specs.FlatOrigins.{origin_plain, content_plain, leaf_plain, is_body_at, AreBodies, AreVariables, AreNumbers};
@@ -11,8 +12,8 @@ ghost use Rattle.smv_items.specs.FlatOrigins.{origin_plain, content_plain, leaf_
 use crate::origins::{Content, Origin, dotted_path};
 use crate::symbols::Symbols;
 use smv_instances::{
-    InstanceMap, NameMap, Table, Target, no_names, nothing_in, put, put_first, value_in,
-    value_under,
+    InstanceMap, NameRows, Table, Target, add_row, no_rows, nothing_in, put_first, row_value,
+    value_in,
 };
 use smv_text::{Path, VarKind};
 use std::alloc::Global;
@@ -25,16 +26,16 @@ pub type Bodies<'a> = InstanceMap<'a, usize>;
 #[derive(Drop)]
 pub struct ItemNumbers<'a, 'n> {
     pub bodies: Bodies<'a>,
-    pub states: NameMap<'n, usize>,
-    pub inputs: NameMap<'n, usize>,
+    pub states: NameRows<'n, usize>,
+    pub inputs: NameRows<'n, usize>,
 }
 
-fn put_path<'n>(paths: &mut NameMap<'n, usize>, x: &'n [u8], k: usize) -> Result<(), NoMemory>
-    ensures { OnOk result ((y : List ℕ) → named paths.new y ≡ (if is_none (named paths.old y) && bytes_eq x.now y then Some k else named paths.old y)) }
+fn put_path<'n>(paths: &mut NameRows<'n, usize>, x: &'n [u8], k: usize) -> Result<(), NoMemory>
+    ensures { OnOk result ((y : List ℕ) → row_named paths.new y ≡ (if is_none (row_named paths.old y) && bytes_eq x.now y then Some k else row_named paths.old y)) }
 {
-    match value_under(paths, x) {
+    match row_value(paths, x) {
         Some(_) => Ok(()),
-        None => put(paths, x, k),
+        None => add_row(paths, x, k),
     }
 }
 
@@ -98,12 +99,12 @@ fn bodies_of<'a>(alloc: Global, origins: &[Origin<'a>]) -> Result<Bodies<'a>, No
 
 // Notes the number of a variable of these kinds.
 fn note_variable<'n>(
-    paths: &mut NameMap<'n, usize>,
+    paths: &mut NameRows<'n, usize>,
     is_one: bool,
     path: &'n [u8],
     k: usize,
 ) -> Result<(), NoMemory>
-    ensures { OnOk result ((x : List ℕ) → named paths.new x ≡ (if is_none (named paths.old x) && (is_one && bytes_eq path.now x) then Some k else named paths.old x)) }
+    ensures { OnOk result ((x : List ℕ) → row_named paths.new x ≡ (if is_none (row_named paths.old x) && (is_one && bytes_eq path.now x) then Some k else row_named paths.old x)) }
 {
     if is_one {
         put_path(paths, path, k)
@@ -117,11 +118,11 @@ fn states_of<'n, 'a>(
     alloc: Global,
     origins: &[Origin<'a>],
     paths: &'n [Text],
-) -> Result<NameMap<'n, usize>, NoMemory>
+) -> Result<NameRows<'n, usize>, NoMemory>
     requires { length paths.now ≡ length origins.now }
     ensures { (t : List Specified) → paths.now ≡ map (path_of t) (map origin_plain origins.now) → IfOk result (λ m. AreVariables t OfVarKind.State (map origin_plain origins.now) m) }
 {
-    let mut states = no_names(alloc);
+    let mut states = no_rows(alloc, origins.len())?;
     for k in 0..origins.len() {
         note_variable(
             &mut states,
@@ -138,11 +139,11 @@ fn inputs_of<'n, 'a>(
     alloc: Global,
     origins: &[Origin<'a>],
     paths: &'n [Text],
-) -> Result<NameMap<'n, usize>, NoMemory>
+) -> Result<NameRows<'n, usize>, NoMemory>
     requires { length paths.now ≡ length origins.now }
     ensures { (t : List Specified) → paths.now ≡ map (path_of t) (map origin_plain origins.now) → IfOk result (λ m. AreVariables t OfVarKind.Input (map origin_plain origins.now) m) }
 {
-    let mut inputs = no_names(alloc);
+    let mut inputs = no_rows(alloc, origins.len())?;
     for k in 0..origins.len() {
         note_variable(
             &mut inputs,
@@ -224,11 +225,11 @@ fn symbol(k: Option<usize>) -> Result<Leaf, NoMemory>
 
 // The number of a variable with this dotted path.
 fn variable_in(numbers: &ItemNumbers, kind: VarKind, path: &[u8]) -> Option<usize>
-    ensures { result ≡ named (if is_input kind then numbers.now.inputs else numbers.now.states) path.now }
+    ensures { result ≡ row_named (if is_input kind then numbers.now.inputs else numbers.now.states) path.now }
 {
     match kind {
-        VarKind::State | VarKind::Frozen => value_under(&numbers.states, path),
-        VarKind::Input => value_under(&numbers.inputs, path),
+        VarKind::State | VarKind::Frozen => row_value(&numbers.states, path),
+        VarKind::Input => row_value(&numbers.inputs, path),
     }
 }
 

@@ -1,13 +1,14 @@
 -- A word is found among all words where it is found among those of its own length.
-use Rattle.std.proofs.Common.{◌≡◌, ℕ, Bool, true, false, cond, eqb, ltb, leb, ◌||◌, ◌&&◌, Option, Some, List, [], ◌∷◌, length, refl, ap, ◌∙◌, arith}
+use Rattle.std.proofs.Common.{◌≡◌, ℕ, Bool, true, false, cond, eqb, ltb, leb, ◌||◌, ◌&&◌, Option, Some, None, List, [], ◌∷◌, ◌++◌, length, refl, sym, ap, ◌∙◌, arith}
 use Rattle.std.specs.List.{list_all, filter}
 use Rattle.std.specs.Str.{bytes_eq}
 use Rattle.std.proofs.lemmas.Bool.{and_parts, eq-eqb}
 use Rattle.std.proofs.lemmas.Bool.Decides.{nat_tests}
+use Rattle.std.proofs.lemmas.Slice.Eq.{bytes_eq-Decides}
 use Rattle.smv_text.specs.declared.token.Reserved.{Reserved}
 use Rattle.smv_text.specs.Bytes.{look_up}
 use Rattle.smv_text.specs.Keywords.{keywords}
-use Rattle.smv_lex.specs.Reading.{Keyword}
+use Rattle.smv_lex.specs.Reading.{Keyword, last_of, may_be_keyword}
 
 -- lists of bytes that differ in length differ
 pub bytes_eq-length : (bs w : List ℕ) → bytes_eq bs w ≡ true → length w ≡ length bs
@@ -49,3 +50,28 @@ all_sized = refl
 -- no word has no byte, or more than ten
 pub none_of_size : (n : ℕ) → (eqb n 0 || ltb 10 n) ≡ true → filter (λ w. eqb (length w.0) n) keywords ≡ []
 none_of_size n out = none_kept n keywords out all_sized
+
+abbrev may_be : Keyword → Bool
+may_be w = may_be_keyword w.0
+
+all_may_be : list_all may_be keywords ≡ true
+unfolding keywords
+all_may_be = refl
+
+same_bytes : (bs w : List ℕ) → bytes_eq bs w ≡ true → may_be_keyword w ≡ true → may_be_keyword bs ≡ false → ⊥
+same_bytes bs w e h n = let g : may_be_keyword bs ≡ true = ap may_be_keyword ((bytes_eq-Decides bs w).0 e) ∙ h in cc
+
+none_may : (bs : List ℕ) (ws : List Keyword) → list_all may_be ws ≡ true → may_be_keyword bs ≡ false → None ≡ look_up bs ws
+none_may bs [] all n = refl
+none_may bs (w ∷ ws) all n =
+    let parts = and_parts (may_be w) (list_all may_be ws) all in
+    none_may bs ws parts.1 n ∙ sym (passed_over (bytes_eq bs w.0) (Some w.1) (look_up bs ws) (λ e. same_bytes bs w.0 e parts.0 n))
+
+-- a word that can't be one isn't among all words
+pub none_found : (bs : List ℕ) → may_be_keyword bs ≡ false → None ≡ look_up bs keywords
+none_found bs n = none_may bs keywords all_may_be n
+
+pub last_behind : (bs : List ℕ) (b : ℕ) → last_of (bs ++ b ∷ []) ≡ b
+last_behind [] b = refl
+last_behind (c ∷ []) b = refl
+last_behind (c ∷ d ∷ bs) b = last_behind (d ∷ bs) b

@@ -1,5 +1,5 @@
 -- What the scanning functions compute.
-use Rattle.std.specs.Prelude.{option_and_then, ◌≡◌, ◌==◌, ℕ, suc, Bool, true, false, not, ◌&&◌, if◌then◌else◌, nat_le, Option, Some, None, Result, Ok, Err, List, [], ◌∷◌, length, take, drop}
+use Rattle.std.specs.Prelude.{option_and_then, ◌≡◌, ◌==◌, ℕ, suc, Bool, true, false, not, ◌&&◌, ◌||◌, if◌then◌else◌, nat_le, Option, Some, None, Result, Ok, Err, List, [], ◌∷◌, length, take, drop}
 use Rattle.std.specs.Borrow.{Bor}
 use Rattle.word_core.specs.Words.{BitVector}
 use Rattle.word_core.specs.Digits.{digits_value, read_word}
@@ -107,6 +107,16 @@ Keyword = List ℕ × Option Reserved
 -- a row of a table of words
 abbrev pub row : Bor (List ℕ) × Option Reserved → Keyword
 row w = (w.0.now, w.1)
+
+-- the last byte, or 0 where there is none
+abbrev pub last_of : List ℕ → ℕ
+last_of [] = 0
+last_of (b ∷ []) = b
+last_of (b ∷ c ∷ bs) = last_of (c ∷ bs)
+
+-- of the words that are no identifiers, none ends with a digit but one of five bytes
+abbrev pub may_be_keyword : List ℕ → Bool
+may_be_keyword w = (length w == 5) || not (is_digit (last_of w))
 
 -- the byte isn't `_`
 abbrev pub is_unmarked : ℕ → List ℕ → Bool

@@ -4,12 +4,12 @@ ghost use Rattle.std.specs.List.{filter};
 ghost use Rattle.std.specs.Str.{bytes_eq};
 ghost use Rattle.smv_text.specs.Bytes.{look_up};
 ghost use Rattle.smv_text.specs.Keywords.{keywords};
-ghost use Rattle.smv_lex.specs.Reading.{row};
+ghost use Rattle.smv_lex.specs.Reading.{last_of, may_be_keyword, row};
 ghost use Rattle.smv_text.specs.Words.{keyword_kind, word_kind};
 
 use smv_text::{Reserved, TokenKind};
 use std::alloc::Global;
-use text_core::{Name, NoMemory};
+use text_core::{Name, NoMemory, is_digit};
 
 /// A word that is no identifier, and which reserved one it is, if it is supported.
 type Keyword = (&'static [u8], Option<Reserved>);
@@ -184,11 +184,32 @@ fn look_up(word: &[u8], keywords: &[Keyword]) -> Option<Option<Reserved>>
     None
 }
 
+/// The last byte of a word, or 0 where it has none.
+fn last_of(word: &[u8]) -> u8
+    ensures { result ≡ last_of word.now }
+{
+    match word.split_last() {
+        Some((b, _)) => *b,
+        None => 0,
+    }
+}
+
+/// Whether a word may be no identifier, by its last byte: many names end with a digit, and of the reserved words `word1` alone does.
+fn may_be_keyword(word: &[u8]) -> bool
+    ensures { result ≡ may_be_keyword word.now }
+{
+    word.len() == 5 || !is_digit(last_of(word))
+}
+
 /// What a word is, if it is no identifier.
 fn keyword_of(word: &[u8]) -> Option<Option<Reserved>>
     ensures { result ≡ look_up word.now keywords }
 {
-    look_up(word, keywords_of(word.len()))
+    if may_be_keyword(word) {
+        look_up(word, keywords_of(word.len()))
+    } else {
+        None
+    }
 }
 
 /// The kind of a word.

@@ -4,11 +4,10 @@ use Rattle.std.proofs.lemmas.Bool.{false≢true}
 use Rattle.std.proofs.lemmas.Slice.Eq.{bytes_eq-Decides}
 use Rattle.std.specs.List.{list_any}
 use Rattle.std.specs.Prelude.{slice_index_or}
-use Rattle.std.specs.Borrow.{Bor}
-use Rattle.std.specs.HashMap.{HashMap}
 use Rattle.smv_text.specs.declared.tree.When.{When}
 use Rattle.smv_text.specs.declared.tree.When.TheVariants.{Always, First, Following}
-use Rattle.smv_instances.specs.NameMap.{named}
+use Rattle.smv_instances.specs.declared.rows.NameRows.{NameRows}
+use Rattle.smv_instances.specs.Rows.{row_named}
 use Rattle.smv_meaning.specs.Names.{Found, variable_at, body_at, instance_at, symbol_of, cyclic, none}
 use Rattle.smv_meaning.specs.Phases.{Assigned, when_same, is_assignable, variable_same, clashes, assigned_checks}
 use Rattle.smv_meaning.specs.Checks.{check, first_failing}
@@ -50,13 +49,13 @@ same_bools false false g h = refl
 turned : (x y : List ℕ) → bytes_eq x y ≡ bytes_eq y x
 turned x y = same_bools (bytes_eq x y) (bytes_eq y x) (λ h. (bytes_eq-Decides y x).1 (sym ((bytes_eq-Decides x y).0 h))) (λ h. (bytes_eq-Decides x y).1 (sym ((bytes_eq-Decides y x).0 h)))
 
-step : {S : Type 0} (m n : HashMap (Bor (List ℕ)) Kinds S) (at other : Found) (v w : When) (rest : Bool)
-    → ((x : List ℕ) → named n x ≡ (if bytes_eq (target_path other) x then Some (with_kind (kinds_or_none (named m (target_path other))) w) else named m x))
+step : (m n : NameRows Kinds) (at other : Found) (v w : When) (rest : Bool)
+    → ((x : List ℕ) → row_named n x ≡ (if bytes_eq (target_path other) x then Some (with_kind (kinds_or_none (row_named m (target_path other))) w) else row_named m x))
     → is_assignable w other ≡ true → rest ≡ target_clashes m at v
     → ((variable_same at other && (when_same v w || when_same v Always || when_same w Always)) || rest) ≡ target_clashes n at v
 step m n (variable_at x k d) (variable_at y l e) v w rest put can h =
-    by_names (named m x) (named n x) (kinds_or_none (named m y)) w v _ (bytes_eq x y) (bytes_eq y x) rest (put x)
-    (λ q. ap (λ z. kinds_or_none (named m z)) (sym ((bytes_eq-Decides y x).0 q))) (turned x y) refl h
+    by_names (row_named m x) (row_named n x) (kinds_or_none (row_named m y)) w v _ (bytes_eq x y) (bytes_eq y x) rest (put x)
+    (λ q. ap (λ z. kinds_or_none (row_named m z)) (sym ((bytes_eq-Decides y x).0 q))) (turned x y) refl h
 step m n (variable_at x k d) (body_at i z j e) v w rest put can h = absurd (false≢true can)
 step m n (variable_at x k d) (instance_at i) v w rest put can h = absurd (false≢true can)
 step m n (variable_at x k d) (symbol_of z) v w rest put can h = absurd (false≢true can)
@@ -65,8 +64,8 @@ step m n (variable_at x k d) none v w rest put can h = absurd (false≢true can)
 step m n at other v w rest put can h = h
 
 -- where each assignment's kind is noted under its variable, so is it with one assignment more
-pub assigned_more : {S : Type 0} (m n : HashMap (Bor (List ℕ)) Kinds S) (seen : List Assigned) (b : Assigned)
-    → ((x : List ℕ) → named n x ≡ (if bytes_eq (target_path b.target) x then Some (with_kind (kinds_or_none (named m (target_path b.target))) b.when) else named m x))
+pub assigned_more : (m n : NameRows Kinds) (seen : List Assigned) (b : Assigned)
+    → ((x : List ℕ) → row_named n x ≡ (if bytes_eq (target_path b.target) x then Some (with_kind (kinds_or_none (row_named m (target_path b.target))) b.when) else row_named m x))
     → is_assignable b.when b.target ≡ true
     → ((a : Assigned) → list_any (clashes a) seen ≡ target_clashes m a.target a.when)
     → (a : Assigned) → list_any (clashes a) (b ∷ seen) ≡ target_clashes n a.target a.when
@@ -78,7 +77,7 @@ none_clash First = refl
 none_clash Following = refl
 
 -- nothing clashes with what nothing was assigned
-pub none_assigned : {S : Type 0} (m : HashMap (Bor (List ℕ)) Kinds S) → ((x : List ℕ) → named m x ≡ None) → (a : Assigned) → list_any (clashes a) [] ≡ target_clashes m a.target a.when
+pub none_assigned : (m : NameRows Kinds) → ((x : List ℕ) → row_named m x ≡ None) → (a : Assigned) → list_any (clashes a) [] ≡ target_clashes m a.target a.when
 none_assigned m h a = go a.target a.when
   where
     go : (t : Found) (when : When) → false ≡ target_clashes m t when
@@ -86,7 +85,7 @@ none_assigned m h a = go a.target a.when
     go t when = refl
 
 -- what can be assigned is a variable
-pub target_is : {S : Type 0} (m : HashMap (Bor (List ℕ)) Kinds S) (t : Found) (when : When) → is_assignable when t ≡ true → target_clashes m t when ≡ kinds_clash (kinds_or_none (named m (target_path t))) when
+pub target_is : (m : NameRows Kinds) (t : Found) (when : When) → is_assignable when t ≡ true → target_clashes m t when ≡ kinds_clash (kinds_or_none (row_named m (target_path t))) when
 target_is m (variable_at x k d) when can = refl
 target_is m (body_at i z j e) when can = absurd (false≢true can)
 target_is m (instance_at i) when can = absurd (false≢true can)

@@ -1,11 +1,10 @@
 -- What has been assigned so far, by the dotted paths of variables.
 use Rattle.std.specs.Prelude.{ℕ, Bool, true, false, ◌||◌, List, [], map, Option, unwrap_or}
-use Rattle.std.specs.HashMap.{HashMap}
-use Rattle.std.specs.Borrow.{Bor}
 use Rattle.smv_text.specs.declared.tree.When.{When}
 use Rattle.smv_text.specs.declared.tree.When.TheVariants.{Always, First, Following}
 use Rattle.smv_instances.specs.declared.instances.Instance.{Instance as PartOf}
-use Rattle.smv_instances.specs.NameMap.{named}
+use Rattle.smv_instances.specs.declared.rows.NameRows.{NameRows}
+use Rattle.smv_instances.specs.Rows.{row_named}
 use Rattle.smv_meaning.specs.Names.{Found, variable_at}
 use Rattle.smv_meaning.specs.Phases.{Assigned}
 use Rattle.smv_instances.specs.View.{instance_plain, found_plain}
@@ -42,6 +41,6 @@ abbrev pub kinds_or_none : Option Kinds → Kinds
 kinds_or_none o = unwrap_or o no_kinds
 
 -- the target is a variable whose kinds don't go with this one
-abbrev pub target_clashes : {S : Type 0} → HashMap (Bor (List ℕ)) Kinds S → Found → When → Bool
-target_clashes m (variable_at x kind d) when = kinds_clash (kinds_or_none (named m x)) when
+abbrev pub target_clashes : NameRows Kinds → Found → When → Bool
+target_clashes m (variable_at x kind d) when = kinds_clash (kinds_or_none (row_named m x)) when
 target_clashes m n when = false

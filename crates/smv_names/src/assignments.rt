@@ -10,7 +10,7 @@ ghost use Rattle.smv_names.specs.Outcome.{Settles};
 ghost use Rattle.smv_names.specs.Assigning.{assigned_plain, assigned_path, target_path, with_kind, kinds_or_none, kinds_clash};
 
 use crate::ends::NamesEnd;
-use smv_instances::{Table, Target, no_names, path_below, put, value_under};
+use smv_instances::{Table, Target, add_row, no_rows, path_below, row_value};
 use smv_text::{Assignments, Element, Elements, VarKind, When};
 use std::alloc::Global;
 use text_core::kinds::smv;
@@ -179,7 +179,7 @@ pub fn assignments_checked(alloc: Global, table: &Table) -> Result<(), NamesEnd>
 {
     let list = assignments_in(alloc, table)?;
     let paths = paths_of(alloc, table, list.as_slice())?;
-    let mut seen = no_names(alloc);
+    let mut seen = no_rows(alloc, list.len())?;
     for k in 0..list.len() {
         let assignment = &list[k];
         if !is_assignable(assignment.when, &assignment.target) {
@@ -189,14 +189,14 @@ pub fn assignments_checked(alloc: Global, table: &Table) -> Result<(), NamesEnd>
             }));
         }
         let path = paths[k].bytes();
-        let before = value_under(&seen, path);
+        let before = row_value(&seen, path);
         if clashes(before, assignment.when) {
             return Err(NamesEnd::Bad(Refusal {
                 kind: smv::ASSIGNED_TWICE,
                 place: assignment.place,
             }));
         }
-        put(&mut seen, path, with_kind(before, assignment.when))?;
+        add_row(&mut seen, path, with_kind(before, assignment.when))?;
     }
     Ok(())
 }

@@ -11,7 +11,7 @@ ghost use Rattle.smv_names.specs.Visits.{checks_behind_name};
 use crate::declared::Declaration;
 use crate::ends::NamesEnd;
 use crate::visits::visited;
-use smv_instances::{ModuleTable, no_names, put, value_under};
+use smv_instances::{ModuleTable, add_row, no_rows, row_value};
 use smv_text::{Domain, Item, Source};
 use std::alloc::Global;
 use text_core::Refusal;
@@ -137,11 +137,11 @@ pub(crate) fn declared_checked<'a>(
 ) -> Result<usize, NamesEnd>
     ensures { Counts result (declared_checks (map plain_module modules.now) (names_above above.now) path.now [] met (map declared_plain list.now)) (counted_all met (map declared_plain list.now)) }
 {
-    let mut seen = no_names(alloc);
+    let mut seen = no_rows(alloc, list.len())?;
     let mut count = met;
     for k in 0..list.len() {
         let declaration = &list[k];
-        if value_under(&seen, declaration.name).is_some() {
+        if row_value(&seen, declaration.name).is_some() {
             return Err(NamesEnd::Bad(Refusal {
                 kind: smv::NAME_TWICE,
                 place: declaration.place,
@@ -153,7 +153,7 @@ pub(crate) fn declared_checked<'a>(
         if is_instance(declaration) {
             count += 1;
         }
-        put(&mut seen, declaration.name, ())?;
+        add_row(&mut seen, declaration.name, ())?;
     }
     Ok(count)
 }

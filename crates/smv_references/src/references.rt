@@ -8,14 +8,14 @@ ghost use Rattle.smv_meaning.specs.Formulas.{placed_formulas, formulas_of, numbe
 ghost use Rattle.smv_references.specs.FormulaOrders.{IsOrdering};
 ghost use Rattle.smv_text.specs.View.{plain};
 ghost use Rattle.smv_meaning.specs.Expressions.{paths_of};
-ghost use Rattle.smv_instances.specs.NameMap.{named_in};
+ghost use Rattle.smv_instances.specs.Rows.{row_in};
 ghost use Rattle.smv_instances.specs.View.{instance_plain};
 ghost use Rattle.smv_references.specs.View.{formula_plain, path_seen, key_of};
 
 use crate::formulas::Formula;
 use crate::paths::paths_in;
 use digraph::{Graph, Order, sort};
-use smv_instances::{InstanceMap, Known, Table, Target, nothing_in, put_first, value_in};
+use smv_instances::{InstanceRows, Known, Table, Target, add_first_in, no_rows_in, row_value_in};
 use smv_text::{Expr, Path};
 use std::alloc::Global;
 use text_core::{List, Names, NoMemory};
@@ -30,27 +30,28 @@ pub enum Ordering {
 }
 
 /// Numbers of definitions and actuals by their instances and names.
-pub type FormulaNumbers<'a> = InstanceMap<'a, usize>;
+pub type FormulaNumbers<'a> = InstanceRows<'a, usize>;
 
 /// The number of each definition and actual: the place of the first one of its instance and name.
 pub fn numbers_of<'a>(
     alloc: Global,
+    table: &Table<'a>,
     formulas: &[Formula<'a>],
 ) -> Result<FormulaNumbers<'a>, NoMemory>
-    ensures { IfOk result (λ m. (i : ℕ) (x : List ℕ) → named_in m i x ≡ number_in (map key_of formulas.now) (i, x)) }
+    ensures { IfOk result (λ m. (i : ℕ) (x : List ℕ) → row_in m i x ≡ number_in (map key_of formulas.now) (i, x)) }
 {
-    let mut numbers = nothing_in(alloc);
+    let mut numbers = no_rows_in(alloc, table.list())?;
     for k in 0..formulas.len() {
         let formula = &formulas[k];
-        put_first(&mut numbers, formula.instance, formula.name, k)?;
+        add_first_in(&mut numbers, formula.instance, formula.name, k)?;
     }
     Ok(numbers)
 }
 
 fn number<'a>(numbers: &FormulaNumbers<'a>, i: usize, x: &[u8]) -> usize
-    ensures { result ≡ unwrap_or (named_in numbers.now i x.now) 0 }
+    ensures { result ≡ unwrap_or (row_in numbers.now i x.now) 0 }
 {
-    match value_in(numbers, i, x) {
+    match row_value_in(numbers, i, x) {
         None => 0,
         Some(k) => k,
     }
@@ -64,7 +65,7 @@ fn note<'a>(
     x: &[u8],
     row: &mut List<usize>,
 ) -> Result<(), NoMemory>
-    requires { (i : ℕ) (x : List ℕ) → named_in numbers.now i x ≡ number_in (formulas_of (map instance_plain table.now)) (i, x) }
+    requires { (i : ℕ) (x : List ℕ) → row_in numbers.now i x ≡ number_in (formulas_of (map instance_plain table.now)) (i, x) }
     ensures { OnOk result (row.new ≡ row.old ++ map (number_or (formulas_of (map instance_plain table.now))) (formula_here i x.now (local (map instance_plain table.now) i x.now))) }
 {
     match table.local(i, x) {
@@ -100,7 +101,7 @@ fn add_path_numbers<'a>(
     names: &'a Names,
     row: &mut List<usize>,
 ) -> Result<(), NoMemory>
-    requires { (i : ℕ) (x : List ℕ) → named_in numbers.now i x ≡ number_in (formulas_of (map instance_plain table.now)) (i, x) }
+    requires { (i : ℕ) (x : List ℕ) → row_in numbers.now i x ≡ number_in (formulas_of (map instance_plain table.now)) (i, x) }
     ensures { OnOk result (row.new ≡ row.old ++ path_numbers (map instance_plain table.now) i names.now) }
 {
     let mut at = i;
@@ -122,7 +123,7 @@ fn add_all_path_numbers<'a>(
     paths: &[&'a Path],
     row: &mut List<usize>,
 ) -> Result<(), NoMemory>
-    requires { (i : ℕ) (x : List ℕ) → named_in numbers.now i x ≡ number_in (formulas_of (map instance_plain table.now)) (i, x) }
+    requires { (i : ℕ) (x : List ℕ) → row_in numbers.now i x ≡ number_in (formulas_of (map instance_plain table.now)) (i, x) }
     ensures { OnOk result (row.new ≡ row.old ++ all_path_numbers (map instance_plain table.now) i (map path_seen paths.now)) }
 {
     for path in paths {
@@ -138,7 +139,7 @@ fn alias_row<'a>(
     j: usize,
     path: &'a Path,
 ) -> Result<List<usize>, NoMemory>
-    requires { (i : ℕ) (x : List ℕ) → named_in numbers.now i x ≡ number_in (formulas_of (map instance_plain table.now)) (i, x) }
+    requires { (i : ℕ) (x : List ℕ) → row_in numbers.now i x ≡ number_in (formulas_of (map instance_plain table.now)) (i, x) }
     ensures { IfOk result (λ row. row ≡ path_numbers (map instance_plain table.now) j path.now.names) }
 {
     let mut row = List::new(alloc);
@@ -153,7 +154,7 @@ fn body_row<'a>(
     j: usize,
     e: &'a Expr,
 ) -> Result<List<usize>, NoMemory>
-    requires { (i : ℕ) (x : List ℕ) → named_in numbers.now i x ≡ number_in (formulas_of (map instance_plain table.now)) (i, x) }
+    requires { (i : ℕ) (x : List ℕ) → row_in numbers.now i x ≡ number_in (formulas_of (map instance_plain table.now)) (i, x) }
     ensures { IfOk result (λ row. row ≡ all_path_numbers (map instance_plain table.now) j (paths_of (plain e.now) [])) }
 {
     let paths = paths_in(alloc, e)?;
@@ -170,7 +171,7 @@ fn row_of<'a>(
     numbers: &FormulaNumbers<'a>,
     formula: &Formula<'a>,
 ) -> Result<List<usize>, NoMemory>
-    requires { (i : ℕ) (x : List ℕ) → named_in numbers.now i x ≡ number_in (formulas_of (map instance_plain table.now)) (i, x) }
+    requires { (i : ℕ) (x : List ℕ) → row_in numbers.now i x ≡ number_in (formulas_of (map instance_plain table.now)) (i, x) }
     ensures { IfOk result (λ row. row ≡ references_of (map instance_plain table.now) (key_of formula.now)) }
 {
     match table.local(formula.instance, formula.name) {
@@ -190,7 +191,7 @@ fn graph_of<'a>(
     requires { map formula_plain formulas.now ≡ placed_formulas (map instance_plain table.now) }
     ensures { IfOk result (λ g. g ≡ reference_graph (map instance_plain table.now)) }
 {
-    let numbers = numbers_of(alloc, formulas)?;
+    let numbers = numbers_of(alloc, table, formulas)?;
     let mut graph = List::new(alloc);
     for k in 0..formulas.len() {
         graph.push(row_of(alloc, table, &numbers, &formulas[k])?)?;

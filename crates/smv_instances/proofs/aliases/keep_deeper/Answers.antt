@@ -6,5 +6,5 @@ use Rattle.smv_instances.proofs.aliases.keep_deeper.Goals as goal
 pub returns : goal.returns
 returns c =
     let t = map instance_plain c.args.parts.now in
-    right_more t c.args.leads.now c.put_in.new.map c.args.key.instance c.args.key.name.now c.in_ok-deep.deep c.requires.right
-    (deeper_leads t c.args.key.instance c.args.key.name.now c.args.lead c.in_ok-deep.deep c.in_ok-deep.ensures.depth c.in_ok-deep.ensures.target c.requires.leads) c.in_ok-put_in.ensures
+    right_more t c.args.leads.now c.add_row_in.new.map c.args.key.instance c.args.key.name.now c.in_ok-deep.deep c.requires.right
+    (deeper_leads t c.args.key.instance c.args.key.name.now c.args.lead c.in_ok-deep.deep c.in_ok-deep.ensures.depth c.in_ok-deep.ensures.target c.requires.leads) c.in_ok-add_row_in.ensures

@@ -1,7 +1,7 @@
 use Rattle.std.proofs.Common.{◌≡◌, false, ◌+◌, ◌∷◌, map, drop, length, refl, sym, ap, ◌∙◌, arith}
 use Rattle.smv_text.specs.View.{plain_module}
 use Rattle.smv_meaning.specs.Instances.{is_one_of}
-use Rattle.smv_instances.specs.NameMap.{named}
+use Rattle.smv_instances.specs.Rows.{row_named}
 use Rattle.smv_meaning.specs.Checks.{first_failing}
 use Rattle.smv_meaning.specs.Phases.{counted, declared_checks, counted_all}
 use Rattle.smv_names.specs.View.{declared_plain, names_above}
@@ -25,7 +25,7 @@ loop-k-preserved c =
       | else-is_instance w ↦ counted_is c.is_instance.result c.if-is_instance.count c.loop-k.count d c.is_instance.ensures (rw w.if-is_instance.false w.count-is)
     ] in (
       d.name ∷ names,
-      λ x. seen_more names d.name x (named c.loop-k.seen x) (named c.put.new.map x) (c.in_ok-put.ensures x) (c.loop-k.invariant.1 x),
+      λ x. seen_more names d.name x (row_named c.loop-k.seen x) (row_named c.add_row.new.map x) (c.in_ok-add_row.ensures x) (c.loop-k.invariant.1 x),
       ap (λ m. first_failing (declared_checks ms above c.args.path.now (d.name ∷ names) m rest)) n
           ∙ sym (declared_next ms above c.args.path.now names c.loop-k.count d rest fresh (sym c.in_default.ensures))
           ∙ ap (λ l. first_failing (declared_checks ms above c.args.path.now names c.loop-k.count l)) (sym front) ∙ c.loop-k.invariant.2,

@@ -1,0 +1,153 @@
+// Values of names, found by a number made of a name's bytes where they are many.
+ghost use Rattle.std.specs.Prelude.{◌≡◌, ◌<◌, ◌+◌, ◌*◌, ◌%◌, ◌++◌, ◌∷◌, [], List, ℕ, Some, None, length, slice_get, OnOk, IfOk, bytes_eq, if◌then◌else◌};
+ghost use Rattle.smv_instances.specs.Rows.{number_on, last_named, bucket_named, buckets_named, row_named};
+
+use std::alloc::Global;
+use text_core::NoMemory;
+
+/// A name and its value.
+#[derive(Drop)]
+pub struct Row<'a, V> {
+    pub name: &'a [u8],
+    pub value: V,
+}
+
+/// Values by the bytes of a name: few of them in one list, many in as many lists as names are expected.
+#[derive(Drop)]
+pub struct NameRows<'a, V> {
+    pub few: Vec<Row<'a, V>>,
+    pub many: Vec<Vec<Row<'a, V>>>,
+}
+
+// How many names are few.
+const FEW: usize = 8;
+
+// Are the names one? Most names are short, so that a loop is cheaper than a call for any slices.
+fn is_same(name: &[u8], other: &[u8]) -> bool
+    ensures { result ≡ bytes_eq name.now other.now }
+{
+    if name.len() != other.len() {
+        return false;
+    }
+    for k in 0..name.len() {
+        if name[k] != other[k] {
+            return false;
+        }
+    }
+    true
+}
+
+// The multiplier is a prime greater than there are names, so that no number of lists has all names in a few of them.
+fn next_number(h: usize, b: u8) -> usize
+    requires { h < 4294967296 }
+    ensures bound { result < 4294967296 }
+    ensures next { result ≡ (h * 16777619 + b) % 4294967296 }
+{
+    (h * 16777619 + b as usize) % 4294967296
+}
+
+fn number_of(name: &[u8]) -> usize
+    ensures { result ≡ number_on 0 name.now }
+{
+    let mut h = 0;
+    for b in name {
+        h = next_number(h, *b);
+    }
+    h
+}
+
+// The list in which a name stands.
+fn bucket_of(name: &[u8], count: usize) -> usize
+    requires { 0 < count }
+    ensures bound { result < count }
+    ensures number { result ≡ number_on 0 name.now % count }
+{
+    number_of(name) % count
+}
+
+// The value that a name was given last.
+fn last_value<'a, V: Copy>(rows: &[Row<'a, V>], name: &[u8]) -> Option<V>
+    ensures { result ≡ last_named rows.now name.now }
+{
+    let mut k = rows.len();
+    while k > 0 {
+        k -= 1;
+        let row = &rows[k];
+        if is_same(row.name, name) {
+            return Some(row.value);
+        }
+    }
+    None
+}
+
+fn add_to<'a, V: Drop>(rows: &mut Vec<Row<'a, V>>, name: &'a [u8], value: V) -> Result<(), NoMemory>
+    ensures { OnOk result (rows.new.items ≡ rows.old.items ++ record { name = name.entry; value = value } ∷ []) }
+{
+    rows.push(Row { name, value })?;
+    Ok(())
+}
+
+fn add_to_bucket<'a, V: Drop>(
+    many: &mut Vec<Vec<Row<'a, V>>>,
+    name: &'a [u8],
+    value: V,
+) -> Result<(), NoMemory>
+    requires { 0 < length many.old.items }
+    ensures size { length many.new.items ≡ length many.old.items }
+    ensures put { OnOk result ((x : List ℕ) → buckets_named many.new.items x ≡ (if bytes_eq name.now x then Some value else buckets_named many.old.items x)) }
+{
+    let k = bucket_of(name, many.len());
+    add_to(&mut many[k], name, value)?;
+    Ok(())
+}
+
+// So many empty lists.
+fn empty_buckets<'a, V: Drop>(alloc: Global, count: usize) -> Result<Vec<Vec<Row<'a, V>>>, NoMemory>
+    ensures { IfOk result (λ bs. (x : List ℕ) → buckets_named bs.items x ≡ None) }
+{
+    let mut many = Vec::with_capacity(alloc, count)?;
+    for _ in 0..count {
+        many.push(Vec::new(alloc))?;
+    }
+    Ok(many)
+}
+
+/// No names yet. They are found with no scan as long as not many more come than are expected.
+pub fn no_rows<'a, V: Drop>(alloc: Global, expected: usize) -> Result<NameRows<'a, V>, NoMemory>
+    ensures { IfOk result (λ m. (x : List ℕ) → row_named m x ≡ None) }
+{
+    let count = if expected > FEW { expected } else { 0 };
+    let many = empty_buckets(alloc, count)?;
+    Ok(NameRows {
+        few: Vec::new(alloc),
+        many,
+    })
+}
+
+/// Gives the name this value, whatever it had before.
+pub fn add_row<'a, V: Drop>(
+    map: &mut NameRows<'a, V>,
+    name: &'a [u8],
+    value: V,
+) -> Result<(), NoMemory>
+    ensures { OnOk result ((x : List ℕ) → row_named map.new x ≡ (if bytes_eq name.now x then Some value else row_named map.old x)) }
+{
+    if map.many.is_empty() {
+        add_to(&mut map.few, name, value)?;
+    } else {
+        add_to_bucket(&mut map.many, name, value)?;
+    }
+    Ok(())
+}
+
+/// The value of the name.
+pub fn row_value<'a, V: Copy>(map: &NameRows<'a, V>, name: &[u8]) -> Option<V>
+    ensures { result ≡ row_named map.now name.now }
+{
+    if map.many.is_empty() {
+        last_value(map.few.as_slice(), name)
+    } else {
+        let k = bucket_of(name, map.many.len());
+        last_value(map.many[k].as_slice(), name)
+    }
+}
