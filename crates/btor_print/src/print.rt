@@ -1,6 +1,6 @@
 // The printed form of lines, and what it spells.
 
-ghost use Rattle.std.specs.Prelude.{◌≡◌, ◌++◌, [], ◌∷◌, map, decimal, OnOk, IfOk};
+ghost use Rattle.std.specs.Prelude.{◌≡◌, ◌≤◌, ◌++◌, [], ◌∷◌, ◌+◌, map, drop, decimal, OnOk, IfOk};
 ghost use Rattle.btor_tree.specs.Shapes.{unary_text, binary_text, symbol_parts};
 ghost use Rattle.btor_tree.specs.Texts.{SpellsLines};
 ghost use Rattle.btor_tree.specs.Printing.{id_at, operand_text, op_text, sort_parts, number_parts, spaced, line_text, printed};
@@ -9,6 +9,9 @@ use btor_tree::{Arg, Args, Line, LineOp, Nodes};
 use std::alloc::Global;
 use text_core::{Name, NoMemory, Text};
 use word_core::{Binary, Unary};
+
+// Room for three numbers of ten digits with a blank and a sign before each, and a line end.
+const ROOM: usize = 40;
 
 // The bytes behind a single blank.
 fn put_part(out: &mut Text, part: &[u8]) -> Result<(), NoMemory>
@@ -19,13 +22,69 @@ fn put_part(out: &mut Text, part: &[u8]) -> Result<(), NoMemory>
     Ok(())
 }
 
+// Puts the digits of a number before the bytes that stand from `end` on, and says where they start.
+fn digits_before(bytes: &mut [u8; ROOM], end: usize, n: u32) -> usize
+    requires room { 12 ≤ end }
+    requires within { end ≤ ROOM }
+    ensures digits { drop result bytes.new ≡ decimal n ++ drop end bytes.old }
+    ensures few { end ≤ result + 10 }
+    ensures before { result ≤ end }
+{
+    let mut start = end;
+    let mut rest = n;
+    while rest >= 10 {
+        start -= 1;
+        bytes[start] = b'0' + (rest % 10) as u8;
+        rest /= 10;
+    }
+    start -= 1;
+    bytes[start] = b'0' + rest as u8;
+    start
+}
+
+// Puts a byte before those that stand from `end` on.
+#[tactic(auto, using(crate::proofs::Digits::before))]
+fn byte_before(bytes: &mut [u8; ROOM], end: usize, byte: u8) -> usize
+    requires room { 1 ≤ end }
+    requires within { end ≤ ROOM }
+    ensures byte { drop result bytes.new ≡ byte ∷ drop end bytes.old }
+    ensures before { result + 1 ≡ end }
+{
+    bytes[end - 1] = byte;
+    end - 1
+}
+
+// Puts an operand behind a blank before the bytes that stand from `end` on.
+fn operand_before(bytes: &mut [u8; ROOM], end: usize, nodes: &Nodes, arg: Arg) -> usize
+    requires room { 12 ≤ end }
+    requires within { end ≤ ROOM }
+    ensures operand { drop result bytes.new ≡ 32 ∷ operand_text nodes.now arg ++ drop end bytes.old }
+    ensures few { end ≤ result + 12 }
+    ensures before { result ≤ end }
+{
+    let mut start = digits_before(bytes, end, id_at(nodes, arg.line));
+    if arg.negated {
+        start = byte_before(bytes, start, b'-');
+    }
+    byte_before(bytes, start, b' ')
+}
+
+fn put_id(out: &mut Text, id: u32) -> Result<(), NoMemory>
+    ensures { OnOk result (out.new ≡ out.old ++ decimal id) }
+{
+    let mut bytes = [b' '; ROOM];
+    let start = digits_before(&mut bytes, ROOM, id);
+    out.put(&bytes[start..])
+}
+
 // The digits behind a single blank.
 fn put_count(out: &mut Text, n: u32) -> Result<(), NoMemory>
     ensures { OnOk result (out.new ≡ out.old ++ spaced (decimal n ∷ [])) }
 {
-    out.put(b" ")?;
-    out.put_unsigned(n as u128)?;
-    Ok(())
+    let mut bytes = [b' '; ROOM];
+    let start = digits_before(&mut bytes, ROOM, n);
+    let start = byte_before(&mut bytes, start, b' ');
+    out.put(&bytes[start..])
 }
 
 fn id_at(nodes: &Nodes, place: u32) -> u32
@@ -38,79 +97,82 @@ fn id_at(nodes: &Nodes, place: u32) -> u32
     }
 }
 
+// The word of an operator on one word, behind a blank.
 fn unary_text(op: Unary) -> &'static [u8]
-    ensures { result.now ≡ unary_text op }
+    ensures { result.now ≡ 32 ∷ unary_text op }
 {
     match op {
-        Unary::Not => b"not",
-        Unary::Inc => b"inc",
-        Unary::Dec => b"dec",
-        Unary::Neg => b"neg",
-        Unary::RedAnd => b"redand",
-        Unary::RedOr => b"redor",
-        Unary::RedXor => b"redxor",
+        Unary::Not => b" not",
+        Unary::Inc => b" inc",
+        Unary::Dec => b" dec",
+        Unary::Neg => b" neg",
+        Unary::RedAnd => b" redand",
+        Unary::RedOr => b" redor",
+        Unary::RedXor => b" redxor",
     }
 }
 
+// The word of an operator on two words, behind a blank.
 fn binary_text(op: Binary) -> &'static [u8]
-    ensures { result.now ≡ binary_text op }
+    ensures { result.now ≡ 32 ∷ binary_text op }
 {
     match op {
-        Binary::Iff => b"iff",
-        Binary::Implies => b"implies",
-        Binary::Eq => b"eq",
-        Binary::Neq => b"neq",
-        Binary::Sgt => b"sgt",
-        Binary::Sgte => b"sgte",
-        Binary::Slt => b"slt",
-        Binary::Slte => b"slte",
-        Binary::Ugt => b"ugt",
-        Binary::Ugte => b"ugte",
-        Binary::Ult => b"ult",
-        Binary::Ulte => b"ulte",
-        Binary::And => b"and",
-        Binary::Nand => b"nand",
-        Binary::Nor => b"nor",
-        Binary::Or => b"or",
-        Binary::Xnor => b"xnor",
-        Binary::Xor => b"xor",
-        Binary::Sll => b"sll",
-        Binary::Srl => b"srl",
-        Binary::Sra => b"sra",
-        Binary::Add => b"add",
-        Binary::Sub => b"sub",
-        Binary::Mul => b"mul",
-        Binary::Udiv => b"udiv",
-        Binary::Sdiv => b"sdiv",
-        Binary::Urem => b"urem",
-        Binary::Srem => b"srem",
-        Binary::Smod => b"smod",
-        Binary::Concat => b"concat",
+        Binary::Iff => b" iff",
+        Binary::Implies => b" implies",
+        Binary::Eq => b" eq",
+        Binary::Neq => b" neq",
+        Binary::Sgt => b" sgt",
+        Binary::Sgte => b" sgte",
+        Binary::Slt => b" slt",
+        Binary::Slte => b" slte",
+        Binary::Ugt => b" ugt",
+        Binary::Ugte => b" ugte",
+        Binary::Ult => b" ult",
+        Binary::Ulte => b" ulte",
+        Binary::And => b" and",
+        Binary::Nand => b" nand",
+        Binary::Nor => b" nor",
+        Binary::Or => b" or",
+        Binary::Xnor => b" xnor",
+        Binary::Xor => b" xor",
+        Binary::Sll => b" sll",
+        Binary::Srl => b" srl",
+        Binary::Sra => b" sra",
+        Binary::Add => b" add",
+        Binary::Sub => b" sub",
+        Binary::Mul => b" mul",
+        Binary::Udiv => b" udiv",
+        Binary::Sdiv => b" sdiv",
+        Binary::Urem => b" urem",
+        Binary::Srem => b" srem",
+        Binary::Smod => b" smod",
+        Binary::Concat => b" concat",
     }
 }
 
+// The word of a line, behind a blank.
 fn op_text(op: &LineOp) -> &'static [u8]
-    ensures { result.now ≡ op_text op.now }
+    ensures { result.now ≡ 32 ∷ op_text op.now }
 {
     match op {
-        LineOp::Sort(_) => b"sort",
-        LineOp::Input => b"input",
-        LineOp::State => b"state",
-        LineOp::Constant(_) => b"const",
-        LineOp::One => b"one",
-        LineOp::Zero => b"zero",
-        LineOp::Ones => b"ones",
-        LineOp::Init => b"init",
-        LineOp::Next => b"next",
-        LineOp::Bad => b"bad",
-        LineOp::Constraint => b"constraint",
-        LineOp::Output => b"output",
+        LineOp::Sort(_) => b" sort",
+        LineOp::Input => b" input",
+        LineOp::State => b" state",
+        LineOp::Constant(_) => b" const",
+        LineOp::One => b" one",
+        LineOp::Zero => b" zero",
+        LineOp::Ones => b" ones",
+        LineOp::Init => b" init",
+        LineOp::Next => b" next",
+        LineOp::Bad => b" bad",
+        LineOp::Constraint => b" constraint",
+        LineOp::Output => b" output",
         LineOp::Unary(op) => unary_text(*op),
         LineOp::Binary(op) => binary_text(*op),
-        LineOp::Ite => b"ite",
-        LineOp::Slice(_, _) => b"slice",
-        LineOp::Uext(_) => b"uext",
-        LineOp::Sext(_) => b"sext",
+        LineOp::Ite => b" ite",
+        LineOp::Slice(_, _) => b" slice",
+        LineOp::Uext(_) => b" uext",
+        LineOp::Sext(_) => b" sext",
     }
 }
 
@@ -119,7 +181,7 @@ fn put_sort(out: &mut Text, nodes: &Nodes, op: &LineOp, sort: u32) -> Result<(),
 {
     match op {
         LineOp::Sort(width) => {
-            put_part(out, b"bitvec")?;
+            out.put(b" bitvec")?;
             put_count(out, *width)?;
             Ok(())
         }
@@ -137,13 +199,21 @@ fn put_sort(out: &mut Text, nodes: &Nodes, op: &LineOp, sort: u32) -> Result<(),
 fn put_arg(out: &mut Text, nodes: &Nodes, arg: Arg) -> Result<(), NoMemory>
     ensures { OnOk result (out.new ≡ out.old ++ spaced (operand_text nodes.now arg ∷ [])) }
 {
-    if arg.negated {
-        out.put(b" -")?;
-    } else {
-        out.put(b" ")?;
-    }
-    out.put_unsigned(id_at(nodes, arg.line) as u128)?;
-    Ok(())
+    let mut bytes = [b' '; ROOM];
+    let start = operand_before(&mut bytes, ROOM, nodes, arg);
+    out.put(&bytes[start..])
+}
+
+// Puts the sort and the two operands of a line that ends behind them.
+fn put_pair(out: &mut Text, nodes: &Nodes, sort: u32, a: Arg, b: Arg) -> Result<(), NoMemory>
+    ensures { OnOk result (out.new ≡ out.old ++ (32 ∷ decimal (id_at nodes.now sort) ++ (32 ∷ operand_text nodes.now a ++ (32 ∷ operand_text nodes.now b ++ 10 ∷ [])))) }
+{
+    let mut bytes = [b'\n'; ROOM];
+    let start = operand_before(&mut bytes, ROOM - 1, nodes, b);
+    let start = operand_before(&mut bytes, start, nodes, a);
+    let start = digits_before(&mut bytes, start, id_at(nodes, sort));
+    let start = byte_before(&mut bytes, start, b' ');
+    out.put(&bytes[start..])
 }
 
 fn put_args(out: &mut Text, nodes: &Nodes, args: &Args) -> Result<(), NoMemory>
@@ -185,16 +255,35 @@ fn put_tail(out: &mut Text, line: &Line) -> Result<(), NoMemory>
     put_symbol(out, &line.symbol)
 }
 
-fn put_line(out: &mut Text, nodes: &Nodes, line: &Line) -> Result<(), NoMemory>
-    ensures { OnOk result (out.new ≡ out.old ++ line_text nodes.now line.now) }
+// The rest of a line behind its word.
+fn put_rest(out: &mut Text, nodes: &Nodes, line: &Line) -> Result<(), NoMemory>
+    ensures { OnOk result (out.new ≡ out.old ++ (spaced (sort_parts nodes.now line.now.op line.now.sort ++ (map (operand_text nodes.now) line.now.args ++ (number_parts line.now.op ++ symbol_parts line.now.symbol))) ++ 10 ∷ [])) }
 {
-    out.put_unsigned(line.id as u128)?;
-    put_part(out, op_text(&line.op))?;
     put_sort(out, nodes, &line.op, line.sort)?;
     put_args(out, nodes, &line.args)?;
     put_tail(out, line)?;
     out.put(b"\n")?;
     Ok(())
+}
+
+// Most lines have two operands and end behind them.
+fn put_most(out: &mut Text, nodes: &Nodes, line: &Line) -> Result<(), NoMemory>
+    ensures { OnOk result (out.new ≡ out.old ++ (spaced (sort_parts nodes.now line.now.op line.now.sort ++ (map (operand_text nodes.now) line.now.args ++ (number_parts line.now.op ++ symbol_parts line.now.symbol))) ++ 10 ∷ [])) }
+{
+    match (&line.op, &line.symbol, line.args.as_slice()) {
+        (LineOp::Binary(_) | LineOp::Init | LineOp::Next, None, [a, b]) => {
+            put_pair(out, nodes, line.sort, *a, *b)
+        }
+        _ => put_rest(out, nodes, line),
+    }
+}
+
+fn put_line(out: &mut Text, nodes: &Nodes, line: &Line) -> Result<(), NoMemory>
+    ensures { OnOk result (out.new ≡ out.old ++ line_text nodes.now line.now) }
+{
+    put_id(out, line.id)?;
+    out.put(op_text(&line.op))?;
+    put_most(out, nodes, line)
 }
 
 /// The lines as a text: each as `id word arguments [symbol]`, with single blanks and a line end. No line has a comment, and

@@ -169,7 +169,7 @@ place_step true r p h = inl (refl, sym (same_Some 0 p h))
 place_step false None p h = absurd (none-some p h)
 place_step false (Some q) p h = inr (q, refl, sym (same_Some (suc q) p h))
 
-none_step : (b : Bool) (r : Option ℕ) → cond b (Some 0) (option_map suc r) ≡ None → (b ≡ false) × (r ≡ None)
+pub none_step : (b : Bool) (r : Option ℕ) → cond b (Some 0) (option_map suc r) ≡ None → (b ≡ false) × (r ≡ None)
 none_step true r h = absurd (none-some 0 (sym h))
 none_step false None h = (refl, refl)
 none_step false (Some q) h = absurd (none-some (suc q) (sym h))

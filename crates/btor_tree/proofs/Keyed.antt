@@ -10,8 +10,7 @@ use Rattle.std.specs.declared.cmp.Ordering.TheVariants.{Less, Equal, Greater}
 use Rattle.std.specs.Ordering.{ordering_then, nat_cmp, bool_cmp}
 use Rattle.std.specs.Cmp.{bool_cmp_total, Equal-is}
 use Rattle.std.proofs.lemmas.Cmp.{nat_cmp_total, tied_itself}
-use Rattle.std.specs.BTreeMap.{BTreeMap, get, is_at, IsUnchanged}
-use Rattle.std.specs.Map.{lookup}
+use Rattle.std.specs.BTreeMap.{is_at}
 use Rattle.std.proofs.lemmas.Map.Lookups.{CmpEqualImpliesEq, exact_unsigned}
 use Rattle.std.proofs.lemmas.Bool.{and_parts, and_from, and_right, both_ways, false_from_ne_true}
 use Rattle.std.proofs.lemmas.List.{length_push}
@@ -20,10 +19,11 @@ use Rattle.btor_tree.specs.declared.lines.Line.{Line}
 use Rattle.btor_tree.specs.declared.lines.LineOp.{LineOp}
 use Rattle.btor_tree.specs.declared.lines.LineOp.TheVariants as op
 use Rattle.btor_tree.specs.declared.line_key.LineKey.{LineKey}
+use Rattle.btor_tree.specs.declared.line_places.LinePlaces.{LinePlaces}
 use Rattle.btor_tree.specs.Fits.{plain_arg, OnOne, OnTwo, OnThree, OpFits, Suits, Fits, IsWellFormed, greatest_id}
 use Rattle.btor_tree.specs.Held.{IsNumbered}
 use Rattle.btor_tree.specs.Sharing.{is_shared, is_alike, place_alike, standing, next_line, placed, pushed, Says, HasNoTwoAlike}
-use Rattle.btor_tree.specs.LineKeys.{IsShort, key_of, shared_key, arg_cmp, key_cmp, is_keyed, place_keyed, place_in, HasPlaces, EntersKey, Enters, Puts}
+use Rattle.btor_tree.specs.LineKeys.{IsShort, key_of, shared_key, arg_cmp, key_cmp, is_keyed, place_keyed, known_at, KnowsSame, place_in, HasPlaces, EntersKnown, Enters, Puts}
 use Rattle.btor_tree.proofs.Grows.{last_push, well_formed_push}
 use Rattle.btor_tree.proofs.Alike.{alike_says, says_alike, op_told, none_says, standing_none, distinct_push}
 
@@ -104,10 +104,10 @@ key_self k =
     then_equal _ _ (arg_self k.first.0) (then_equal _ _ (arg_self k.second.0) (then_equal _ _ (tied_itself nat_cmp_total k.number) (then_equal _ _ (tied_itself nat_cmp_total k.kind)
     (then_equal _ _ (tied_itself nat_cmp_total k.sort) (then_equal _ _ (tied_itself nat_cmp_total k.other) (then_equal _ _ (arg_self k.third) (tied_itself nat_cmp_total k.count)))))))
 
-at_itself : (k : LineKey) → is_at (key_cmp k) k ≡ true
+pub at_itself : (k : LineKey) → is_at (key_cmp k) k ≡ true
 at_itself k = (Equal-is (key_cmp k k)).1 (key_self k)
 
-at_same : (k q : LineKey) → is_at (key_cmp k) q ≡ true → k ≡ q
+pub at_same : (k q : LineKey) → is_at (key_cmp k) q ≡ true → k ≡ q
 at_same k q h = key_exact k q ((Equal-is (key_cmp k q)).0 h)
 
 -- lines have three arguments at most
@@ -194,11 +194,11 @@ places_same (l ∷ ls) o sort args h short =
     ∙ ap (λ r. cond (is_keyed (key_of o sort args) l) (Some 0) (option_map suc r)) (places_same ls o sort args h short)
 
 -- what the map has for what is pushed is where it stands
-found_choice : (lines : List Line) (places : BTreeMap LineKey ℕ) (o : LineOp) (sort : ℕ) (args : List Arg) (b : Bool) → is_shared o ≡ b → IsShort args → HasPlaces lines places → place_in places (cond b (Some (key_of o sort args)) None) ≡ cond b (place_alike lines o sort args) None
+found_choice : (lines : List Line) (places : LinePlaces) (o : LineOp) (sort : ℕ) (args : List Arg) (b : Bool) → is_shared o ≡ b → IsShort args → HasPlaces lines places → place_in places (cond b (Some (key_of o sort args)) None) ≡ cond b (place_alike lines o sort args) None
 found_choice lines places o sort args true h short has = has.by_key (key_of o sort args) ∙ sym (places_same lines o sort args h short)
 found_choice lines places o sort args false h short has = refl
 
-pub found_standing : (lines : List Line) (places : BTreeMap LineKey ℕ) (o : LineOp) (sort : ℕ) (args : List Arg) → IsShort args → HasPlaces lines places → place_in places (shared_key o sort args) ≡ standing lines o sort args
+pub found_standing : (lines : List Line) (places : LinePlaces) (o : LineOp) (sort : ℕ) (args : List Arg) → IsShort args → HasPlaces lines places → place_in places (shared_key o sort args) ≡ standing lines o sort args
 found_standing lines places o sort args short has = found_choice lines places o sort args (is_shared o) refl short has
 
 -- one line more, and its place in the map
@@ -217,13 +217,13 @@ or_none : (r : Option ℕ) → option_or r None ≡ r
 or_none None = refl
 or_none (Some x) = refl
 
-get_same : (old new : BTreeMap LineKey ℕ) (k : LineKey) → IsUnchanged old new → get key_cmp new k ≡ get key_cmp old k
-get_same old new k h = ap (lookup (is_at (key_cmp k))) h
+get_same : (old new : LinePlaces) (k : LineKey) → KnowsSame old new → known_at new k ≡ known_at old k
+get_same old new k h = h k
 
 keyed_not : (k : LineKey) (l : Line) → is_shared l.op ≡ false → is_keyed k l ≡ false
 keyed_not k l h = ap (λ b. b && is_at (key_cmp k) (key_of l.op l.sort l.args)) h
 
-push_other : (lines : List Line) (l : Line) (old new : BTreeMap LineKey ℕ) → is_shared l.op ≡ false → HasPlaces lines old → IsUnchanged old new → HasPlaces (lines ++ l ∷ []) new
+push_other : (lines : List Line) (l : Line) (old new : LinePlaces) → is_shared l.op ≡ false → HasPlaces lines old → KnowsSame old new → HasPlaces (lines ++ l ∷ []) new
 push_other lines l old new h has same =
     record {
       by_key = λ k.
@@ -232,11 +232,11 @@ push_other lines l old new h has same =
     }
 
 -- the place of a key in the map with one entry more
-at_key : (lines : List Line) (l : Line) (old : BTreeMap LineKey ℕ) (q : LineKey) → is_shared l.op ≡ true → HasPlaces lines old → get key_cmp old (key_of l.op l.sort l.args) ≡ None → (b : Bool) → is_at (key_cmp (key_of l.op l.sort l.args)) q ≡ b → cond b (Some (length lines)) (get key_cmp old q) ≡ option_or (place_keyed lines q) (cond (is_keyed q l) (Some (length lines)) None)
+at_key : (lines : List Line) (l : Line) (old : LinePlaces) (q : LineKey) → is_shared l.op ≡ true → HasPlaces lines old → known_at old (key_of l.op l.sort l.args) ≡ None → (b : Bool) → is_at (key_cmp (key_of l.op l.sort l.args)) q ≡ b → cond b (Some (length lines)) (known_at old q) ≡ option_or (place_keyed lines q) (cond (is_keyed q l) (Some (length lines)) None)
 at_key lines l old q h has none true e =
     let k = key_of l.op l.sort l.args in
     let same : k ≡ q = at_same k q e in
-    let absent : place_keyed lines q ≡ None = sym (has.by_key q) ∙ ap (get key_cmp old) (sym same) ∙ none in
+    let absent : place_keyed lines q ≡ None = sym (has.by_key q) ∙ ap (known_at old) (sym same) ∙ none in
     let there : is_keyed q l ≡ true = and_from _ _ h (subst (λ x. is_at (key_cmp x) k ≡ true) same (at_itself k)) in
     sym (ap (λ r. option_or r (cond (is_keyed q l) (Some (length lines)) None)) absent ∙ ap (λ b. option_or None (cond b (Some (length lines)) None)) there)
 at_key lines l old q h has none false e =
@@ -244,27 +244,27 @@ at_key lines l old q h has none false e =
     let not_there : is_keyed q l ≡ false = and_right _ _ (false_from_ne_true _ (λ f. both_ways (is_at (key_cmp k) q) e (subst (λ x. is_at (key_cmp k) x ≡ true) (sym (at_same q k f)) (at_itself k)))) in
     has.by_key q ∙ sym (or_none (place_keyed lines q)) ∙ ap (λ b. option_or (place_keyed lines q) (cond b (Some (length lines)) None)) (sym not_there)
 
-push_shared : (lines : List Line) (l : Line) (old new : BTreeMap LineKey ℕ) → is_shared l.op ≡ true → HasPlaces lines old → get key_cmp old (key_of l.op l.sort l.args) ≡ None → EntersKey key_cmp None (key_of l.op l.sort l.args) (length lines) old new → HasPlaces (lines ++ l ∷ []) new
+push_shared : (lines : List Line) (l : Line) (old new : LinePlaces) → is_shared l.op ≡ true → HasPlaces lines old → known_at old (key_of l.op l.sort l.args) ≡ None → EntersKnown None (key_of l.op l.sort l.args) (length lines) old new → HasPlaces (lines ++ l ∷ []) new
 push_shared lines l old new h has none enters =
     record {
       by_key = λ q. enters q ∙ at_key lines l old q h has none (is_at (key_cmp (key_of l.op l.sort l.args)) q) refl ∙ sym (place_push lines l q);
     }
 
-push_choice : (lines : List Line) (l : Line) (old new : BTreeMap LineKey ℕ) (b : Bool) → is_shared l.op ≡ b → HasPlaces lines old → place_in old (cond b (Some (key_of l.op l.sort l.args)) None) ≡ None → Enters None (cond b (Some (key_of l.op l.sort l.args)) None) (length lines) old new → HasPlaces (lines ++ l ∷ []) new
+push_choice : (lines : List Line) (l : Line) (old new : LinePlaces) (b : Bool) → is_shared l.op ≡ b → HasPlaces lines old → place_in old (cond b (Some (key_of l.op l.sort l.args)) None) ≡ None → Enters None (cond b (Some (key_of l.op l.sort l.args)) None) (length lines) old new → HasPlaces (lines ++ l ∷ []) new
 push_choice lines l old new true h has none enters = push_shared lines l old new h has none enters
 push_choice lines l old new false h has none enters = push_other lines l old new h has enters
 
-pub has_push : (lines : List Line) (l : Line) (old new : BTreeMap LineKey ℕ) → HasPlaces lines old → place_in old (shared_key l.op l.sort l.args) ≡ None → Enters None (shared_key l.op l.sort l.args) (length lines) old new → HasPlaces (lines ++ l ∷ []) new
+pub has_push : (lines : List Line) (l : Line) (old new : LinePlaces) → HasPlaces lines old → place_in old (shared_key l.op l.sort l.args) ≡ None → Enters None (shared_key l.op l.sort l.args) (length lines) old new → HasPlaces (lines ++ l ∷ []) new
 has_push lines l old new has none enters = push_choice lines l old new (is_shared l.op) refl has none enters
 
 -- what a list and its map keep
-abbrev pub Keeps : List Line → BTreeMap LineKey ℕ → Type 0
+abbrev pub Keeps : List Line → LinePlaces → Type 0
 Keeps lines places = IsWellFormed lines × IsNumbered lines × HasNoTwoAlike lines × HasPlaces lines places
 
 pub fits_next : (lines : List Line) (o : LineOp) (sort : ℕ) (args : List Arg) (symbol : Option (List ℕ)) → IsNumbered lines → length lines < greatest_id → Suits lines o sort args symbol → Fits lines (next_line lines o sort args symbol)
 fits_next lines o sort args symbol numbered room suits = record { rises = omega (arith, numbered); small = omega (arith, room); body = suits }
 
-keeps_push : (lines : List Line) (o : LineOp) (sort : ℕ) (args : List Arg) (symbol : Option (List ℕ)) (old new : BTreeMap LineKey ℕ) → Keeps lines old → length lines < greatest_id → Suits lines o sort args symbol → standing lines o sort args ≡ None → Enters None (shared_key o sort args) (length lines) old new → Keeps (lines ++ next_line lines o sort args symbol ∷ []) new
+keeps_push : (lines : List Line) (o : LineOp) (sort : ℕ) (args : List Arg) (symbol : Option (List ℕ)) (old new : LinePlaces) → Keeps lines old → length lines < greatest_id → Suits lines o sort args symbol → standing lines o sort args ≡ None → Enters None (shared_key o sort args) (length lines) old new → Keeps (lines ++ next_line lines o sort args symbol ∷ []) new
 keeps_push lines o sort args symbol old new keeps room suits none enters =
     let l = next_line lines o sort args symbol in
     let short = fits_short lines sort o args suits.sorts in (
@@ -275,14 +275,14 @@ keeps_push lines o sort args symbol old new keeps room suits none enters =
     )
 
 -- What the code knows of the list and the map before a push, with the key and what was found for it.
-pub record Found (inside now : List Line) (places : BTreeMap LineKey ℕ) (o : LineOp) (sort : ℕ) (args : List Arg) (symbol : Option (List ℕ)) (key : Option LineKey) (found : Option ℕ) : Type 0 where
+pub record Found (inside now : List Line) (places : LinePlaces) (o : LineOp) (sort : ℕ) (args : List Arg) (symbol : Option (List ℕ)) (key : Option LineKey) (found : Option ℕ) : Type 0 where
   pub view : inside ≡ now
   pub keeps : Keeps inside places
   pub suits : Suits now o sort args symbol
   pub is : key ≡ shared_key o sort args
   pub at : found ≡ place_in places key
 
-module _ (inside now : List Line) (places : BTreeMap LineKey ℕ) (o : LineOp) (sort : ℕ) (args : List Arg) (symbol : Option (List ℕ)) (key : Option LineKey) (found : Option ℕ) (f : Found inside now places o sort args symbol key found) where
+module _ (inside now : List Line) (places : LinePlaces) (o : LineOp) (sort : ℕ) (args : List Arg) (symbol : Option (List ℕ)) (key : Option LineKey) (found : Option ℕ) (f : Found inside now places o sort args symbol key found) where
   found_inside : found ≡ standing inside o sort args
   found_inside = f.at ∙ ap (place_in places) f.is ∙ found_standing inside places o sort args (fits_short now sort o args f.suits.sorts) f.keeps.3
 
@@ -299,29 +299,29 @@ module _ (inside now : List Line) (places : BTreeMap LineKey ℕ) (o : LineOp) (
       ∙ ap (λ ls. (ls ++ next_line ls o sort args symbol ∷ [], length ls)) f.view
       ∙ ap (λ r. placed r now (next_line now o sort args symbol)) (sym none ∙ found_now)
 
-  keeps_there : (lines : List Line) (p : ℕ) (new : BTreeMap LineKey ℕ) → found ≡ None → length now < greatest_id → p ≡ length inside → lines ≡ inside ++ (record { id = p + 1; op = o; sort = sort; args = args; symbol = symbol }) ∷ [] → Enters None key (length inside) places new → Keeps lines new
+  keeps_there : (lines : List Line) (p : ℕ) (new : LinePlaces) → found ≡ None → length now < greatest_id → p ≡ length inside → lines ≡ inside ++ (record { id = p + 1; op = o; sort = sort; args = args; symbol = symbol }) ∷ [] → Enters None key (length inside) places new → Keeps lines new
   keeps_there lines p new none room long made enters =
       let e : lines ≡ inside ++ next_line inside o sort args symbol ∷ [] = made ∙ ap (λ n. inside ++ (record { id = n + 1; op = o; sort = sort; args = args; symbol = symbol }) ∷ []) long in
       subst (λ ls. Keeps ls new) (sym e)
       (keeps_push inside o sort args symbol places new f.keeps (subst (λ ls. length ls < greatest_id) (sym f.view) room) (subst (λ ls. Suits ls o sort args symbol) (sym f.view) f.suits) (sym found_inside ∙ none)
       (subst (λ k. Enters None k (length inside) places new) f.is enters))
 
-  pub put_pushed : (r : Option ℕ) → found ≡ r → (lines : List Line) (n p : ℕ) (new : BTreeMap LineKey ℕ) → n ≡ length inside → Puts r key (record { id = n + 1; op = o; sort = sort; args = args; symbol = symbol }) inside places p lines new → (lines, p) ≡ pushed now o sort args symbol
+  pub put_pushed : (r : Option ℕ) → found ≡ r → (lines : List Line) (n p : ℕ) (new : LinePlaces) → n ≡ length inside → Puts r key (record { id = n + 1; op = o; sort = sort; args = args; symbol = symbol }) inside places p lines new → (lines, p) ≡ pushed now o sort args symbol
   put_pushed (Some there) e lines n p new long q = ap (λ x. (lines, x)) q.0 ∙ ap (λ ls. (ls, there)) (q.1 ∙ f.view) ∙ stands_there there e
   put_pushed None e lines n p new long q =
       made_there lines p e q.0 (q.1 ∙ ap (λ k. inside ++ (record { id = k + 1; op = o; sort = sort; args = args; symbol = symbol }) ∷ []) (long ∙ sym q.0))
 
-  keeps_same : (lines : List Line) (new : BTreeMap LineKey ℕ) → lines ≡ inside → IsUnchanged places new → Keeps lines new
+  keeps_same : (lines : List Line) (new : LinePlaces) → lines ≡ inside → KnowsSame places new → Keeps lines new
   keeps_same lines new same stays =
       subst (λ ls. Keeps ls new) (sym same) (f.keeps.0, f.keeps.1, f.keeps.2, record { by_key = λ k. get_same places new k stays ∙ f.keeps.3.by_key k })
 
-  put_keeps : (r : Option ℕ) → found ≡ r → (lines : List Line) (n p : ℕ) (new : BTreeMap LineKey ℕ) → n ≡ length inside → length now < greatest_id → Puts r key (record { id = n + 1; op = o; sort = sort; args = args; symbol = symbol }) inside places p lines new → Keeps lines new
+  put_keeps : (r : Option ℕ) → found ≡ r → (lines : List Line) (n p : ℕ) (new : LinePlaces) → n ≡ length inside → length now < greatest_id → Puts r key (record { id = n + 1; op = o; sort = sort; args = args; symbol = symbol }) inside places p lines new → Keeps lines new
   put_keeps (Some there) e lines n p new long room q = keeps_same lines new q.1 q.2
   put_keeps None e lines n p new long room q =
       keeps_there lines p new e room q.0 (q.1 ∙ ap (λ k. inside ++ (record { id = k + 1; op = o; sort = sort; args = args; symbol = symbol }) ∷ []) (long ∙ sym q.0))
       (subst (λ k. Enters None key k places new) q.0 q.2)
 
   -- whether or not the line was put
-  pub keeps_both : {E : Type 0} (r : Result ℕ E) (lines : List Line) (n : ℕ) (new : BTreeMap LineKey ℕ) → n ≡ length inside → length now < greatest_id → IfOk r (λ p. Puts found key (record { id = n + 1; op = o; sort = sort; args = args; symbol = symbol }) inside places p lines new) → OnErr r (lines ≡ inside) → OnErr r (IsUnchanged places new) → Keeps lines new
+  pub keeps_both : {E : Type 0} (r : Result ℕ E) (lines : List Line) (n : ℕ) (new : LinePlaces) → n ≡ length inside → length now < greatest_id → IfOk r (λ p. Puts found key (record { id = n + 1; op = o; sort = sort; args = args; symbol = symbol }) inside places p lines new) → OnErr r (lines ≡ inside) → OnErr r (KnowsSame places new) → Keeps lines new
   keeps_both (Ok p) lines n new long room put same stays = put_keeps found refl lines n p new long room put
   keeps_both (Err e) lines n new long room put same stays = keeps_same lines new same stays

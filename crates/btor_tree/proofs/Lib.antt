@@ -1,5 +1,7 @@
 pub mod Grows
 pub mod Alike
+pub mod TwoLevels
+pub mod SortTable
 pub mod Sorts
 pub mod Words
 pub mod Widths

@@ -1,28 +1,31 @@
 // A list of lines that numbers them 1, 2, 3 and so on, with one line for all that say the same.
-ghost use Rattle.std.specs.Prelude.{◌≡◌, ◌+◌, ◌<◌, ◌≤◌, [], ◌^◌, length, IfOk, OnErr};
-ghost use Rattle.std.specs.BTreeMap.{IsUnchanged, get};
+ghost use Rattle.std.specs.Prelude.{◌≡◌, ◌+◌, ◌<◌, ◌≤◌, [], ◌^◌, length, Some, IfOk, OnErr};
 ghost use Rattle.btor_tree.specs.Fits.{Suits, IsWellFormed, last_id, sort_at, sort_of, width_at};
-ghost use Rattle.btor_tree.specs.LineKeys.{Enters, EntersKey, Puts, place_in};
-ghost use Rattle.btor_tree.specs.Sharing.{HasNoTwoAlike, pushed, with_sort};
+ghost use Rattle.btor_tree.specs.LineKeys.{Enters, HasTwoLevels, KnowsSame, Puts, place_in};
+ghost use Rattle.btor_tree.specs.Sharing.{HasNoTwoAlike, place_alike, pushed, with_sort};
+ghost use Rattle.btor_tree.specs.declared.lines.LineOp.TheVariants as op;
 
 use crate::args::Args;
 use crate::line_key::{LineKey, line_key};
+use crate::line_places::{LinePlaces, enter, no_places};
 use crate::lines::{GREATEST_ID, Line, LineOp, sort_width};
 use crate::nodes::Nodes;
 use std::alloc::Global;
-use std::collections::BTreeMap;
-use std::collections::btree_map::Entry;
 use std::marker::Model;
 use text_core::{Name, NoMemory};
 use word_core::WIDEST;
+
+// How many widths there are.
+const WIDTHS: usize = WIDEST as usize;
 
 /// Lines with the ids 1, 2, 3 and so on, seen as the list of those made so far. No two sorts, constants or operators in it
 /// say the same: a line says its word with its numbers, its sort and its arguments, whatever its symbol is.
 #[derive(Drop)]
 pub struct Builder {
     lines: Vec<Line>,
-    places: BTreeMap<LineKey, u32>,
+    places: LinePlaces,
     alloc: Global,
+    sorts: [Option<u32>; WIDTHS],
 }
 
 impl Model for Builder {
@@ -30,14 +33,14 @@ impl Model for Builder {
     ghost use Rattle.btor_tree.specs.declared.lines.Line.{Line};
     ghost use Rattle.btor_tree.specs.Fits.{IsWellFormed};
     ghost use Rattle.btor_tree.specs.Held.{IsNumbered};
-    ghost use Rattle.btor_tree.specs.LineKeys.{HasPlaces};
+    ghost use Rattle.btor_tree.specs.LineKeys.{HasPlaces, HasTwoLevels, KnowsSorts};
     ghost use Rattle.btor_tree.specs.Sharing.{HasNoTwoAlike};
 
     ghost Value = { List Line };
 
     ghost view = { λ a. a.lines.items };
 
-    ghost invariant = { λ a. IsWellFormed a.lines.items × IsNumbered a.lines.items × HasNoTwoAlike a.lines.items × HasPlaces a.lines.items a.places };
+    ghost invariant = { λ a. IsWellFormed a.lines.items × IsNumbered a.lines.items × HasNoTwoAlike a.lines.items × HasPlaces a.lines.items a.places × KnowsSorts a.lines.items a.sorts × HasTwoLevels a.places };
 }
 
 impl Builder {
@@ -47,8 +50,9 @@ impl Builder {
     {
         Builder {
             lines: Vec::new(alloc),
-            places: BTreeMap::new(alloc),
+            places: no_places(alloc),
             alloc,
+            sorts: [None; WIDTHS],
         }
     }
 
@@ -94,8 +98,24 @@ impl Builder {
         ensures numbered { last_id self.new ≡ length self.new }
         ensures distinct { HasNoTwoAlike self.new }
     {
+        // A width that was asked before needs no key.
+        if let Some(place) = self.sorts[width as usize - 1] {
+            return Ok(place);
+        }
         let none = Args::new(self.alloc);
-        self.push(LineOp::Sort(width), 0, none, None)
+        let place = self.push(LineOp::Sort(width), 0, none, None)?;
+        self.remember(width, place);
+        Ok(place)
+    }
+
+    // Keeps the place of the sort line of a width.
+    fn remember(&mut self, width: u32, place: u32)
+        requires least { 1 ≤ width }
+        requires most { width ≤ WIDEST }
+        requires there { place_alike self.old (op.Sort width) 0 [] ≡ Some place }
+        ensures { self.new ≡ self.old }
+    {
+        self.sorts[width as usize - 1] = Some(place);
     }
 
     /// The place of the sort line of the line at a place. The caller owes a line that has a word.
@@ -134,40 +154,21 @@ impl Builder {
     }
 }
 
-// The value that the map has for a key, or none, and then it takes the new value for it. It stays as it is where it has one, or
-// where it is refused.
-fn enter_key<K: Ord + Drop>(
-    places: &mut BTreeMap<K, u32>,
-    key: K,
-    place: u32,
-) -> Result<Option<u32>, NoMemory>
-    ensures found { IfOk result (λ found. found ≡ get K.cmp places.old key) }
-    ensures entered { IfOk result (λ found. EntersKey K.cmp found key place places.old places.new) }
-    ensures refused { OnErr result (IsUnchanged places.old places.new) }
-{
-    match places.entry(key) {
-        Ok(Entry::Occupied(there)) => Ok(Some(*there.get())),
-        Ok(Entry::Vacant(room)) => {
-            room.insert(place);
-            Ok(None)
-        }
-        Err(_) => Err(NoMemory),
-    }
-}
-
-// The same for what may not be shared: the map has no place for it and takes none.
+// The place of what is shared. What may not be shared has no place and takes none.
 fn enter_place(
-    places: &mut BTreeMap<LineKey, u32>,
+    places: &mut LinePlaces,
     key: Option<LineKey>,
     place: u32,
 ) -> Result<Option<u32>, NoMemory>
+    requires { HasTwoLevels places.old }
     ensures found { IfOk result (λ found. found ≡ place_in places.old key) }
     ensures entered { IfOk result (λ found. Enters found key place places.old places.new) }
-    ensures refused { OnErr result (IsUnchanged places.old places.new) }
+    ensures refused { OnErr result (KnowsSame places.old places.new) }
+    ensures two { HasTwoLevels places.new }
 {
     match key {
         None => Ok(None),
-        Some(key) => enter_key(places, key, place),
+        Some(key) => enter(places, key, place),
     }
 }
 
@@ -175,17 +176,19 @@ fn enter_place(
 // it is refused.
 fn put_line(
     lines: &mut Vec<Line>,
-    places: &mut BTreeMap<LineKey, u32>,
+    places: &mut LinePlaces,
     key: Option<LineKey>,
     line: Line,
 ) -> Result<u32, NoMemory>
-    requires { length lines.old.items < 2 ^ 32 }
+    requires few { length lines.old.items < 2 ^ 32 }
+    requires two { HasTwoLevels places.old }
     ensures put { IfOk result (λ p. Puts (place_in places.old key) key line lines.old.items places.old p lines.new.items places.new) }
     ensures lines_stay { OnErr result (lines.new.items ≡ lines.old.items) }
-    ensures places_stay { OnErr result (IsUnchanged places.old places.new) }
+    ensures places_stay { OnErr result (KnowsSame places.old places.new) }
+    ensures two_stay { HasTwoLevels places.new }
 {
     // First the list makes its room, so that it takes the line without growing once the map has the place.
-    if lines.reserve(1).is_err() {
+    if lines.len() == lines.capacity() && lines.reserve(1).is_err() {
         return Err(NoMemory);
     }
     let place = lines.len() as u32;

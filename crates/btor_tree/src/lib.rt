@@ -7,6 +7,7 @@ mod builder;
 mod bytes;
 mod laws;
 mod line_key;
+mod line_places;
 mod lines;
 mod nodes;
 mod numbered_lines;

@@ -44,6 +44,13 @@ pub fn line_key(op: &LineOp, sort: u32, args: &Args) -> Option<LineKey>
     }
 }
 
+/// The line of the first argument.
+pub fn first_line(key: &LineKey) -> u32
+    ensures { result ≡ spec.first_line key.now }
+{
+    key.first.0.line
+}
+
 // The argument at a place, or the first line where there is none.
 fn arg_at(args: &Args, i: usize) -> Arg
     ensures { result ≡ slice_index_or args.now i (plain_arg 0) }

@@ -4,6 +4,7 @@
 mod checks;
 mod commands;
 mod functions;
+mod once;
 mod queries;
 mod sorts;
 mod systems;

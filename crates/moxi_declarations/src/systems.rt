@@ -7,7 +7,7 @@ ghost use Rattle.moxi_scripts.specs.declared.parts.Key.TheVariants as keys;
 ghost use Rattle.moxi_scripts.specs.declared.parts.Turn.TheVariants as turns;
 ghost use Rattle.moxi_scripts.specs.declared.parts.Command.TheVariants as commands;
 ghost use Rattle.moxi_scripts.specs.Collecting.{also};
-ghost use Rattle.moxi_scripts.specs.Entries.{names_with, twice_failures};
+ghost use Rattle.moxi_scripts.specs.Entries.{names_with};
 ghost use Rattle.moxi_scripts.specs.Formulas.{formula_term};
 ghost use Rattle.moxi_scripts.specs.Lists.{all_entries, lists_in, value_at};
 ghost use Rattle.moxi_scripts.specs.Shapes.{headed};
@@ -19,10 +19,11 @@ ghost use Rattle.moxi_scripts.specs.Systems.{with_new_system, with_repeated, wit
 ghost use Rattle.moxi_declarations.specs.Views.{plain_reading};
 ghost use Rattle.moxi_scripts.specs.Uses.{uses_failures, uses_in};
 
+use crate::once::{find_locals, test_twice_alone};
 use moxi_attributes::{
     Headed, all_entries, append, are_shaped, fail, fail_if, fail_primed, headed_forms,
-    possible_locals, read_formula, read_lists, read_uses, shape_holds, test_keywords, test_twice,
-    text_entries, true_term, value_of,
+    read_formula, read_lists, read_uses, shape_holds, test_keywords, text_entries, true_term,
+    value_of,
 };
 use moxi_scripts::{Command, DeclaredList, Entries, Key, Lists, Use};
 use moxi_sexpr::Form;
@@ -60,19 +61,6 @@ pub struct SystemFormulas {
     pub inv: Term,
 }
 
-// The test of names in the list itself.
-fn test_twice_alone(
-    alloc: Global,
-    entries: &Entries,
-    found: &mut Option<Refusal>,
-) -> Result<(), NoMemory>
-    ensures { OnOk result (found.new ≡ also found.old (twice_failures [] entries.now)) }
-{
-    let mut names = NameSet::new(alloc);
-    test_twice(alloc, &mut names, entries, found)?;
-    Ok(())
-}
-
 /// The variables of a system or a check, and the tests of its keywords.
 #[tactic(auto, using(moxi_attributes::specs::laws::Collecting::also_append))]
 pub fn read_variables(
@@ -91,11 +79,11 @@ pub fn read_variables(
     test_keywords(command, forms, found);
     let lists = read_lists(alloc, scope, command, forms, found)?;
     let mut text = text_entries(alloc, &lists, command, forms)?;
-    test_twice_alone(alloc, &text, found)?;
+    let once = test_twice_alone(alloc, &text, found)?;
     let mut all = all_entries(alloc, &lists)?;
     append(alloc, variables, &all)?;
     let shaped = are_shaped(&lists);
-    let locals = possible_locals(alloc, scope, shaped, forms, &mut text, &mut all)?;
+    let locals = find_locals(alloc, scope, shaped, once, forms, &mut text, &mut all)?;
     Ok(ReadVariables { lists, locals })
 }
 

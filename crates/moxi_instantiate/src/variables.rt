@@ -18,6 +18,10 @@ fn append(bytes: &mut Vec<u8>, more: &[u8]) -> Result<(), NoMemory>
 fn joined(alloc: Global, path: &[u8], name: &[u8]) -> Result<Name, NoMemory>
     ensures { IfOk result (λ joined. joined ≡ path.now ++ name.now) }
 {
+    // The names of the check itself stand behind no path.
+    if path.is_empty() {
+        return Name::of(alloc, name);
+    }
     let mut bytes = Vec::new(alloc);
     append(&mut bytes, path)?;
     append(&mut bytes, name)?;

@@ -1,5 +1,5 @@
 // Sorts and lists of variables as a text.
-ghost use Rattle.std.specs.Prelude.{◌≡◌, ◌++◌, ◌∷◌, [], OnOk};
+ghost use Rattle.std.specs.Prelude.{◌≡◌, ◌++◌, ◌∷◌, if◌then◌else◌, [], OnOk};
 ghost use Rattle.moxi_print.specs.Shown.{group, parts_text, text_of};
 ghost use Rattle.moxi_print.specs.Terms.{shown_sort, shown_variable, shown_variables};
 
@@ -20,24 +20,47 @@ pub fn put_sort(out: &mut Text, scope: &Scope, sort: Sort) -> Result<(), NoMemor
     }
 }
 
-fn put_variable(out: &mut Text, scope: &Scope, variable: &Variable) -> Result<(), NoMemory>
-    ensures { OnOk result (out.new ≡ out.old ++ text_of (shown_variable scope.now variable.now)) }
+// A sort behind a blank, and the closing bracket behind it.
+fn put_last_sort(out: &mut Text, scope: &Scope, sort: Sort) -> Result<(), NoMemory>
+    ensures { OnOk result (out.new ≡ out.old ++ 32 ∷ (text_of (shown_sort scope.now sort) ++ 41 ∷ [])) }
 {
-    out.put(b"(")?;
+    match sort {
+        Sort::Truth => out.put(b" Bool)"),
+        _ => {
+            out.put(b" ")?;
+            put_sort(out, scope, sort)?;
+            out.put(b")")
+        }
+    }
+}
+
+// The opening bracket of a variable, behind a blank unless it is the first one.
+fn opening(first: bool) -> &'static [u8]
+    ensures { result.now ≡ (if first then [] else 32 ∷ []) ++ 40 ∷ [] }
+{
+    if first { b"(" } else { b" (" }
+}
+
+fn put_variable(
+    out: &mut Text,
+    scope: &Scope,
+    first: bool,
+    variable: &Variable,
+) -> Result<(), NoMemory>
+    ensures { OnOk result (out.new ≡ out.old ++ ((if first then [] else 32 ∷ []) ++ text_of (shown_variable scope.now variable.now))) }
+{
+    out.put(opening(first))?;
     put_symbol(out, variable.name.bytes(), false)?;
-    out.put(b" ")?;
-    put_sort(out, scope, variable.sort)?;
-    out.put(b")")
+    put_last_sort(out, scope, variable.sort)
 }
 
 fn put_each_variable(out: &mut Text, scope: &Scope, variables: &Variables) -> Result<(), NoMemory>
     ensures { OnOk result (out.new ≡ out.old ++ parts_text [] (shown_variables scope.now variables.now)) }
 {
-    let mut separator: &[u8] = b"";
+    let mut first = true;
     for variable in variables {
-        out.put(separator)?;
-        put_variable(out, scope, variable)?;
-        separator = b" ";
+        put_variable(out, scope, first, variable)?;
+        first = false;
     }
     Ok(())
 }

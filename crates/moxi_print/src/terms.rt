@@ -1,5 +1,5 @@
 // Terms as a text.
-ghost use Rattle.std.specs.Prelude.{◌≡◌, ◌++◌, ◌∷◌, [], map, take, length, OnOk};
+ghost use Rattle.std.specs.Prelude.{◌≡◌, ◌++◌, ◌∷◌, if◌then◌else◌, [], map, take, length, OnOk};
 ghost use Rattle.moxi_sexpr.specs.Printing.{bytes_behind};
 ghost use Rattle.moxi_terms.specs.Names.{function_names};
 ghost use Rattle.moxi_terms.specs.Tree.{trees_of};
@@ -9,7 +9,7 @@ ghost use Rattle.moxi_print.specs.Bindings.{shown_binding};
 ghost use Rattle.moxi_print.specs.Terms.{name_at, shown_bindings, shown_call, shown_term, shown_terms, variable_names};
 
 use crate::named::function_name;
-use crate::operators::put_operator;
+use crate::operators::put_head;
 use crate::values::put_value;
 use moxi_sexpr::put_symbol;
 use moxi_terms::{Scope, Term, Variables};
@@ -51,7 +51,7 @@ pub fn put_term_over(
 {
     let scene = Scene { scope, variables };
     let mut bound = Vec::new(alloc);
-    put_tree(out, scene, &mut bound, term)
+    put_tree(out, scene, &mut bound, false, term)
 }
 
 /// Adds the names of variables.
@@ -92,35 +92,56 @@ fn push_names<'a>(bound: &mut Vec<&'a [u8]>, names: &'a Names) -> Result<(), NoM
     Ok(())
 }
 
+// A blank where it is asked for.
+fn put_blank(out: &mut Text, behind: bool) -> Result<(), NoMemory>
+    ensures { OnOk result (out.new ≡ out.old ++ (if behind then 32 ∷ [] else [])) }
+{
+    if behind { out.put(b" ") } else { Ok(()) }
+}
+
+// A term, behind a blank where it is asked for.
 #[cycle(put)]
 #[inline(never)]
 fn put_tree<'a>(
     out: &mut Text,
     scene: Scene,
     bound: &mut Vec<&'a [u8]>,
+    behind: bool,
     term: &'a Term,
 ) -> Result<(), NoMemory>
-    ensures text { OnOk result (out.new ≡ out.old ++ text_of (shown_term scene.entry.scope.now (map bytes_behind scene.entry.variables.now) (map bytes_behind bound.old.items) (plain term.now))) }
+    ensures text { OnOk result (out.new ≡ out.old ++ ((if behind then 32 ∷ [] else []) ++ text_of (shown_term scene.entry.scope.now (map bytes_behind scene.entry.variables.now) (map bytes_behind bound.old.items) (plain term.now)))) }
     ensures kept { OnOk result (bound.new.items ≡ bound.old.items) }
 {
     match term {
-        Term::Constant(value) => put_value(out, scene.scope, value),
-        Term::Variable(v, primed) => put_symbol(out, name_in(scene.variables, *v), *primed),
-        Term::Bound(i) => put_symbol(out, name_in(bound, *i), false),
+        Term::Constant(value) => {
+            put_blank(out, behind)?;
+            put_value(out, scene.scope, value)
+        }
+        Term::Variable(v, primed) => {
+            put_blank(out, behind)?;
+            put_symbol(out, name_in(scene.variables, *v), *primed)
+        }
+        Term::Bound(i) => {
+            put_blank(out, behind)?;
+            put_symbol(out, name_in(bound, *i), false)
+        }
         Term::Apply(op, terms) => {
-            out.put(b"(")?;
-            put_operator(out, *op)?;
+            put_head(out, behind, *op)?;
             put_trees(out, scene, bound, terms)?;
             out.put(b")")
         }
         Term::Let(names, terms, body) => {
+            put_blank(out, behind)?;
             out.put(b"(let (")?;
             put_bindings(out, scene, bound, names, terms)?;
             out.put(b") ")?;
             put_body(out, scene, bound, names, body)?;
             out.put(b")")
         }
-        Term::Call(n, terms) => put_call(out, scene, bound, function_name(scene.scope, *n), terms),
+        Term::Call(n, terms) => {
+            put_blank(out, behind)?;
+            put_call(out, scene, bound, function_name(scene.scope, *n), terms)
+        }
     }
 }
 
@@ -137,8 +158,7 @@ fn put_trees<'a>(
     ensures kept { OnOk result (bound.new.items ≡ bound.old.items) }
 {
     for term in terms {
-        out.put(b" ")?;
-        put_tree(out, scene, bound, term)?;
+        put_tree(out, scene, bound, true, term)?;
     }
     Ok(())
 }
@@ -179,7 +199,7 @@ fn put_body<'a>(
 {
     let before = bound.len();
     push_names(bound, names)?;
-    put_tree(out, scene, bound, term)?;
+    put_tree(out, scene, bound, false, term)?;
     bound.truncate(before);
     Ok(())
 }
@@ -200,7 +220,7 @@ fn put_binding<'a>(
     out.put(b"(")?;
     put_symbol(out, name, false)?;
     out.put(b" ")?;
-    put_tree(out, scene, bound, term)?;
+    put_tree(out, scene, bound, false, term)?;
     out.put(b")")
 }
 

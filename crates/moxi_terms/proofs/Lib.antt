@@ -1,3 +1,4 @@
+pub mod FirstBytes
 pub mod PlaceLaws
 pub mod SortLaws
 pub mod OperatorLaws

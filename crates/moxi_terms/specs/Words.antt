@@ -1,5 +1,5 @@
 -- The operators' names (SMT-LIB 2.6, theories Core and FixedSizeBitVectors), and the names that are left out.
-use Rattle.std.specs.Prelude.{ℕ, Bool, ◌||◌, if◌then◌else◌, Option, None, Some, is_some, List, [], ◌∷◌, codes}
+use Rattle.std.specs.Prelude.{ℕ, Bool, false, ◌==◌, ◌||◌, if◌then◌else◌, Option, None, Some, is_some, List, [], ◌∷◌, codes}
 use Rattle.std.specs.List.{list_any}
 use Rattle.std.specs.Str.{bytes_eq}
 use Rattle.word_core.specs.declared.kinds.Unary.TheVariants as one
@@ -46,3 +46,11 @@ operator_named name = row_named operators name
 -- an operator has this name
 abbrev pub is_operator : List ℕ → Bool
 is_operator name = is_some (operator_named name) || is_one_of indexed_operators name
+
+-- may the name of an operator begin with this byte?
+abbrev pub may_begin : ℕ → Bool
+may_begin b = (b == 61) || ((b == 97) || ((b == 98) || ((b == 99) || ((b == 100) || ((b == 101) || ((b == 105) || ((b == 110) || ((b == 111) || ((b == 115) || ((b == 120) || (b == 122)))))))))))
+
+abbrev pub begins_so : List ℕ → Bool
+begins_so [] = false
+begins_so (b ∷ more) = may_begin b

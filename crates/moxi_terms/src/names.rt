@@ -25,5 +25,17 @@ pub enum Head {
 pub fn is_same(name: &[u8], other: &[u8]) -> bool
     ensures { result ≡ bytes_eq name.now other.now }
 {
-    name == other
+    // Most names are short or differ early, so that bytes are compared one by one.
+    let mut rest = name;
+    let mut behind = other;
+    while let Some((b, more)) = rest.split_first() {
+        match behind.split_first() {
+            Some((c, others)) if b == c => {
+                rest = more;
+                behind = others;
+            }
+            _ => return false,
+        }
+    }
+    behind.is_empty()
 }

@@ -1,6 +1,6 @@
 // The names of operators, and the names that are left out.
 ghost use Rattle.std.specs.Prelude.{◌≡◌, ◌||◌, map};
-ghost use Rattle.moxi_terms.specs.Words.{indexed_operators, is_one_of, is_operator, left_out_operators, left_out_sorts, operator_named, row_named};
+ghost use Rattle.moxi_terms.specs.Words.{begins_so, may_begin, indexed_operators, is_one_of, is_operator, left_out_operators, left_out_sorts, operator_named, row_named};
 ghost use Rattle.moxi_terms.specs.Rows.{bytes_behind, row};
 
 use crate::data::TermOp;
@@ -110,11 +110,41 @@ pub fn is_indexed(name: &[u8]) -> bool
     is_one_of(name, &INDEXED)
 }
 
+// May the name of an operator begin with this byte?
+fn may_begin(byte: u8) -> bool
+    ensures { result ≡ may_begin byte }
+{
+    byte == b'='
+        || byte == b'a'
+        || byte == b'b'
+        || byte == b'c'
+        || byte == b'd'
+        || byte == b'e'
+        || byte == b'i'
+        || byte == b'n'
+        || byte == b'o'
+        || byte == b's'
+        || byte == b'x'
+        || byte == b'z'
+}
+
+// Does the name begin like that of an operator?
+fn begins_so(name: &[u8]) -> bool
+    ensures { result ≡ begins_so name.now }
+{
+    match name.split_first() {
+        Some((byte, _)) => may_begin(*byte),
+        None => false,
+    }
+}
+
 /// Does an operator have this name?
+#[tactic(auto, using(crate::proofs::FirstBytes::no_operator))]
 pub fn is_operator(name: &[u8]) -> bool
     ensures { result ≡ is_operator name.now }
 {
-    operator_named(name).is_some() || is_indexed(name)
+    // Most names begin like no operator, and then no row is read.
+    begins_so(name) && (operator_named(name).is_some() || is_indexed(name))
 }
 
 /// Does an operator that is left out have this name?

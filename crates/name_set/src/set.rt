@@ -41,6 +41,10 @@ impl NameSet {
     pub fn place(&self, name: &[u8]) -> Option<usize>
         ensures { result ≡ place_of self.now name.now }
     {
+        // Most lookups in a set of no names need no hash.
+        if self.names.len() == 0 {
+            return None;
+        }
         self.names.get_index_of(name)
     }
 

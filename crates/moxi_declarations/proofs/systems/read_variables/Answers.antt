@@ -45,4 +45,4 @@ returns-clause-finds c =
     let got = c.in_ok-lists.ensures in
     let same = lists_are s a.command ts c.in_ok-lists.lists got.inputs got.outputs got.locals in
     let text : c.in_ok-text.text ≡ text_entries_in s a.command ts = c.in_ok-text.ensures ∙ ap (λ l. text_entries l a.command AtKeyword ts) same in
-    also_two _ _ _ _ _ (also_two _ _ _ _ _ c.test_keywords.ensures got.finds) (c.in_ok-test_twice_alone.ensures ∙ ap (λ xs. also c.read_lists.new.found (twice_failures [] xs)) text)
+    also_two _ _ _ _ _ (also_two _ _ _ _ _ c.test_keywords.ensures got.finds) (c.in_ok-once.ensures.finds ∙ ap (λ xs. also c.read_lists.new.found (twice_failures [] xs)) text)
