@@ -1,6 +1,6 @@
 -- The word of a line, as the code computes it.
-use Rattle.std.proofs.Common.{◌≡◌, ℕ, ◌+◌, ◌-◌, ◌<◌, ◌≤◌, ◌^◌, Bool, true, false, List, [], ◌∷◌, length, take, drop, Option, Some, refl, sym, ap, ◌∙◌, subst, arith, inl, inr, ◌⊎◌}
-use Rattle.std.specs.Prelude.{slice_get, IfSome}
+use Rattle.std.proofs.Common.{◌≡◌, ℕ, ◌+◌, ◌-◌, ◌<◌, ◌≤◌, ◌^◌, Bool, true, false, List, [], ◌∷◌, length, take, drop, Option, Some, None, refl, sym, ap, ◌∙◌, subst, arith, inl, inr, ◌⊎◌}
+use Rattle.std.specs.Prelude.{slice_get, slice_set, slice_index_or, IfSome}
 use Rattle.std.proofs.lemmas.List.{get_or-take, length-take-le, take-append-drop}
 use Rattle.std.proofs.Math.Nat.{one-le-pow}
 use Rattle.word_core.specs.Words.{BitVector, IsWord}
@@ -76,12 +76,23 @@ one_computed row i f word [] x is e h = absurd h
 one_computed row i f word (a ∷ []) x is e h = h ∙ ap f (sym (operand_take row i a e.0)) ∙ is a
 one_computed row i f word (a ∷ b ∷ more) x is e h = absurd h
 
-two_computed : (row : List BitVector) (i : ℕ) (f : BitVector → BitVector → BitVector) (word : List Arg → BitVector) (args : List Arg) (x : BitVector) → ((a b : Arg) → f (operand (take i row) a) (operand (take i row) b) ≡ word (a ∷ b ∷ [])) → AreEarlier i args → OnTwo args (λ a b. x ≡ f (operand row a) (operand row b)) → x ≡ word args
-two_computed row i f word [] x is e h = absurd h
-two_computed row i f word (a ∷ []) x is e h = absurd h
-two_computed row i f word (a ∷ b ∷ []) x is e h =
-    h ∙ ap (λ u. f u (operand row b)) (sym (operand_take row i a e.0)) ∙ ap (f (operand (take i row) a)) (sym (operand_take row i b e.1.0)) ∙ is a b
-two_computed row i f word (a ∷ b ∷ c ∷ more) x is e h = absurd h
+-- the same of two arguments, where the word is put
+two_put : (row new : List BitVector) (i : ℕ) (f : BitVector → BitVector → BitVector) (word : List Arg → BitVector) (args : List Arg) → ((a b : Arg) → f (operand (take i row) a) (operand (take i row) b) ≡ word (a ∷ b ∷ [])) → AreEarlier i args
+    → OnTwo args (λ a b. new ≡ slice_set row i (f (operand row a) (operand row b))) → new ≡ slice_set row i (word args)
+two_put row new i f word [] is e h = absurd h
+two_put row new i f word (a ∷ []) is e h = absurd h
+two_put row new i f word (a ∷ b ∷ []) is e h =
+    h ∙ ap (slice_set row i) (ap (λ u. f u (operand row b)) (sym (operand_take row i a e.0)) ∙ ap (f (operand (take i row) a)) (sym (operand_take row i b e.1.0)) ∙ is a b)
+two_put row new i f word (a ∷ b ∷ c ∷ more) is e h = absurd h
+
+-- the words of the first two arguments are those of both
+pub joined_put : (P : Arg → Arg → Type 0) (args : List Arg) (row new : List BitVector) (i : ℕ) (f : BitVector → BitVector → BitVector) (x y : Arg) → OnTwo args P → x ≡ slice_index_or args 0 x → y ≡ slice_index_or args 1 y
+    → new ≡ slice_set row i (f (operand row x) (operand row y)) → OnTwo args (λ a b. new ≡ slice_set row i (f (operand row a) (operand row b)))
+joined_put P [] row new i f x y h e g q = h
+joined_put P (a ∷ []) row new i f x y h e g q = h
+joined_put P (a ∷ b ∷ []) row new i f x y h e g q =
+    q ∙ ap (λ u. slice_set row i (f (operand row u) (operand row y))) e ∙ ap (λ u. slice_set row i (f (operand row a) (operand row u))) g
+joined_put P (a ∷ b ∷ c ∷ more) row new i f x y h e g q = h
 
 three_computed : (row : List BitVector) (i : ℕ) (f : BitVector → BitVector → BitVector → BitVector) (word : List Arg → BitVector) (args : List Arg) (x : BitVector) → ((a b c : Arg) → f (operand (take i row) a) (operand (take i row) b) (operand (take i row) c) ≡ word (a ∷ b ∷ c ∷ [])) → AreEarlier i args → OnThree args (λ a b c. x ≡ f (operand row a) (operand row b) (operand row c)) → x ≡ word args
 three_computed row i f word [] x is e h = absurd h
@@ -196,9 +207,9 @@ module _ (lines : List Line) (i : ℕ) (l : Line) (row : List BitVector) (w : Is
   unary_gives op x given e h =
       here (Unary op) x given e (one_computed row i (unary_of op) (gives_at (Unary op) given) l.args x (λ a. refl) earlier h)
 
-  pub binary_gives : (op : _) (x given : BitVector) → l.op ≡ Binary op → OnTwo l.args (λ a b. x ≡ binary_of op (operand row a) (operand row b)) → IsComputed x given
-  binary_gives op x given e h =
-      here (Binary op) x given e (two_computed row i (binary_of op) (gives_at (Binary op) given) l.args x (λ a b. refl) earlier h)
+  pub binary_puts : (op : _) (new : List BitVector) → l.op ≡ Binary op → OnTwo l.args (λ a b. new ≡ slice_set row i (binary_of op (operand row a) (operand row b))) → IfSome (slice_get lines i) (λ k. new ≡ slice_set row i (computed (take i lines) (take i row) k.sort k.op k.args nothing))
+  binary_puts op new e h =
+      if_some (slice_get lines i) _ l g (subst (λ o. new ≡ slice_set row i (computed (take i lines) (take i row) l.sort o l.args nothing)) (sym e) (two_put row new i (binary_of op) (gives_at (Binary op) nothing) l.args (λ a b. refl) earlier h))
 
   pub ite_gives : (x given : BitVector) → l.op ≡ Ite → OnThree l.args (λ c a b. x ≡ ite_of (operand row c) (operand row a) (operand row b)) → IsComputed x given
   ite_gives x given e h =
@@ -223,6 +234,15 @@ module _ (lines : List Line) (i : ℕ) (l : Line) (row : List BitVector) (w : Is
       let s : sort_at lines l.sort ≡ sort_at before l.sort =
       ap (λ ls. sort_at ls l.sort) (sym (take-append-drop i lines)) ∙ sort_front before (drop i lines) l.sort there in
       here l.op x given refl (e ∙ ap (constant_of lines) g ∙ constant_computed lines before (take i row) l.sort l.op l.args given c s)
+
+-- a word is put
+pub put_here : (lines : List Line) (i : ℕ) (row new : List BitVector) (x : BitVector) → new ≡ slice_set row i x → IfSome (slice_get lines i) (λ k. x ≡ computed (take i lines) (take i row) k.sort k.op k.args nothing)
+    → IfSome (slice_get lines i) (λ k. new ≡ slice_set row i (computed (take i lines) (take i row) k.sort k.op k.args nothing))
+put_here lines i row new x e h = go (slice_get lines i) h
+  where
+    go : (o : Option Line) → IfSome o (λ k. x ≡ computed (take i lines) (take i row) k.sort k.op k.args nothing) → IfSome o (λ k. new ≡ slice_set row i (computed (take i lines) (take i row) k.sort k.op k.args nothing))
+    go None q = q
+    go (Some k) q = e ∙ ap (slice_set row i) q
 
 width_inside : (lines : List Line) (i : ℕ) → 1 ≤ width_at lines i → i < length lines
 width_inside lines i h = let g = line_at lines i h in slice_get_inside lines i g.0 g.1

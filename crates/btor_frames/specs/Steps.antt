@@ -13,6 +13,12 @@ abbrev pub value_kind : Bool → LineOp → Bool
 value_kind true op = is_next op
 value_kind false op = is_init op
 
+-- inputs and states take given words
+abbrev pub is_given : LineOp → Bool
+is_given Input = true
+is_given State = true
+is_given op = false
+
 -- states have the words of those lines: read in the frame before, or in frame 0 in the row itself
 abbrev pub ValuesHold : Bool → List Line → List BitVector → List BitVector → Type 0
 ValuesHold true lines last row = NextsHold lines last row

@@ -1,22 +1,23 @@
 // One row of words, filled in order of the lines.
-ghost use Rattle.std.specs.Prelude.{◌≡◌, ◌<◌, ◌≤◌, ◌+◌, ◌^◌, ℕ, Bool, true, false, if◌then◌else◌, List, length, take, Some, None, slice_get, IfSome, IsTrue};
+ghost use Rattle.std.specs.Prelude.{◌≡◌, ◌<◌, ◌≤◌, ◌+◌, ◌^◌, ℕ, Bool, true, false, if◌then◌else◌, List, length, take, Some, None, slice_get, slice_set, IfSome, IsTrue};
 ghost use Rattle.word_core.specs.Words.{BitVector, IsWord};
 ghost use Rattle.word_core.specs.Table.{unary_of, binary_of, ite_of, slice_of, uext_of, sext_of, BinaryFits};
 ghost use Rattle.btor_tree.specs.Fits.{IsWellFormed, OnOne, OnTwo, OnThree, count_of, is_constant, is_input, is_state, kind_at, state_value};
-ghost use Rattle.btor_tree.specs.Frame.{operand, init_operand, signed_word, word_at, read_or, IsFrame};
+ghost use Rattle.btor_tree.specs.Frame.{nothing, operand, init_operand, signed_word, word_at, read_or, IsFrame};
 ghost use Rattle.btor_tree.proofs.Words.{computed};
 ghost use Rattle.btor_tree.proofs.Rows.{row_upto};
 ghost use Rattle.btor_tree.proofs.Paths.{constant_at, pick, given_of};
 ghost use Rattle.btor_frames.specs.Tables.{IsFoundIn};
-ghost use Rattle.btor_frames.specs.Steps.{value_kind, value_word, handed_at, HandedFit};
+ghost use Rattle.btor_frames.specs.Steps.{is_given, value_kind, value_word, handed_at, HandedFit};
 
-use crate::handed::{handed_word, with_input, with_state, word_of};
+use crate::handed::{handed_word, with_input, with_state, word_of, word_or};
 use crate::tables::Tables;
 use crate::words::Words;
 use btor_tree::{Arg, Args, LineOp, Nodes};
 use word_core::{Binary, Unary, WIDEST, Word, binary, ite, sext, slice, uext, unary};
 
 // The word, or the bitwise not of it.
+#[inline(always)]
 fn signed_word(word: Word, negated: bool) -> Word
     ensures { result ≡ signed_word negated word }
 {
@@ -28,6 +29,7 @@ fn signed_word(word: Word, negated: bool) -> Word
 }
 
 // The word of an argument.
+#[inline(always)]
 pub fn operand(row: &Words, a: &Arg) -> Word
     requires { a.now.line < length row.now }
     ensures { result ≡ operand row.now a.now }
@@ -77,6 +79,7 @@ fn init_operand(nodes: &Nodes, row: &Words, a: &Arg) -> Word
 }
 
 // The word of a state's value.
+#[inline(always)]
 fn value_word(nodes: &Nodes, begun: bool, last: &Words, row: &Words, a: &Arg) -> Word
     requires well_formed { IsWellFormed nodes.now }
     requires long { length row.now ≡ length nodes.now }
@@ -92,6 +95,7 @@ fn value_word(nodes: &Nodes, begun: bool, last: &Words, row: &Words, a: &Arg) ->
 }
 
 // The word that a state takes: its value where it has one, and else the one that is handed in.
+#[inline(always)]
 fn state_word(
     nodes: &Nodes,
     tables: &Tables,
@@ -99,22 +103,28 @@ fn state_word(
     begun: bool,
     last: &Words,
     spare: &Words,
-    handed: Word,
+    inputs: &Words,
+    free: &Words,
+    input: usize,
+    state: usize,
 ) -> Word
     requires inside { i < length nodes.now }
     requires long { length spare.now ≡ length nodes.now }
     requires last_long { length last.now ≡ length nodes.now }
     requires well_formed { IsWellFormed nodes.now }
     requires found { IsFoundIn nodes.now tables.now }
-    ensures { result ≡ read_or (state_value (value_kind begun) nodes.now i) (value_word begun nodes.now last.now (take i spare.now)) handed }
+    requires input_is { input ≡ count_of is_input (take i nodes.now) }
+    requires state_is { state ≡ count_of is_state (take i nodes.now) }
+    ensures { result ≡ read_or (state_value (value_kind begun) nodes.now i) (value_word begun nodes.now last.now (take i spare.now)) (handed_at nodes.now inputs.now free.now i) }
 {
     match tables.value(begun, i) {
-        None => handed,
+        None => handed_word(nodes, i, inputs, free, input, state),
         Some(a) => value_word(nodes, begun, last, spare, &a),
     }
 }
 
 // The word that an input or a state takes; at other lines it is not read.
+#[inline(always)]
 fn given_word(
     nodes: &Nodes,
     tables: &Tables,
@@ -122,23 +132,32 @@ fn given_word(
     begun: bool,
     last: &Words,
     spare: &Words,
-    handed: Word,
+    inputs: &Words,
+    free: &Words,
+    input: usize,
+    state: usize,
 ) -> Word
     requires inside { i < length nodes.now }
     requires long { length spare.now ≡ length nodes.now }
     requires last_long { length last.now ≡ length nodes.now }
     requires well_formed { IsWellFormed nodes.now }
     requires found { IsFoundIn nodes.now tables.now }
+    requires input_is { input ≡ count_of is_input (take i nodes.now) }
+    requires state_is { state ≡ count_of is_state (take i nodes.now) }
     ensures { IfSome (slice_get nodes.now i) (λ l. result ≡ pick l.op (state_value (value_kind begun) nodes.now i)
-        (value_word begun nodes.now last.now (take i spare.now)) handed) }
+        (value_word begun nodes.now last.now (take i spare.now)) (handed_at nodes.now inputs.now free.now i)) }
 {
     match nodes.at(i).op {
-        LineOp::State => state_word(nodes, tables, i, begun, last, spare, handed),
-        _ => handed,
+        LineOp::State => state_word(
+            nodes, tables, i, begun, last, spare, inputs, free, input, state,
+        ),
+        LineOp::Input => word_or(inputs, input),
+        _ => handed_word(nodes, i, inputs, free, input, state),
     }
 }
 
 // The word of an operator line on one argument.
+#[inline(always)]
 fn unary_word(op: Unary, args: &Args, row: &Words) -> Word
     requires { OnOne args.now (λ a. a.line < length row.now) }
     ensures { OnOne args.now (λ a. result ≡ unary_of op (operand row.now a)) }
@@ -146,16 +165,69 @@ fn unary_word(op: Unary, args: &Args, row: &Words) -> Word
     unary(op, operand(row, args.at(0)))
 }
 
-// The word of an operator line on two arguments.
-fn binary_word(op: Binary, args: &Args, row: &Words) -> Word
-    requires { OnTwo args.now (λ a b. (a.line < length row.now) × (b.line < length row.now)
-        × BinaryFits op (operand row.now a).width (operand row.now b).width) }
-    ensures { OnTwo args.now (λ a b. result ≡ binary_of op (operand row.now a) (operand row.now b)) }
+// Both words' ones.
+fn and_word(a: Word, b: Word) -> Word
+    requires { BinaryFits Binary.And a.width b.width }
+    ensures { result ≡ binary_of Binary.And a b }
 {
-    binary(op, operand(row, args.at(0)), operand(row, args.at(1)))
+    word_of(a.width(), a.bits() & b.bits())
+}
+
+// The ones of one word or the other.
+fn or_word(a: Word, b: Word) -> Word
+    requires { BinaryFits Binary.Or a.width b.width }
+    ensures { result ≡ binary_of Binary.Or a b }
+{
+    word_of(a.width(), a.bits() | b.bits())
+}
+
+// Is it one number?
+fn eq_word(a: Word, b: Word) -> Word
+    ensures { result ≡ binary_of Binary.Eq a b }
+{
+    word_of(1, u128::from(a.bits() == b.bits()))
+}
+
+// Puts the word that the operator's row gives.
+fn put_joined(op: Binary, args: &Args, i: usize, row: &mut Words)
+    requires inside { i < length row.old }
+    requires fits { OnTwo args.now (λ a b. (a.line < length row.old) × (b.line < length row.old)
+        × BinaryFits op (operand row.old a).width (operand row.old b).width) }
+    ensures { OnTwo args.now (λ a b. row.new ≡ slice_set row.old i (binary_of op (operand row.old a) (operand row.old b))) }
+{
+    row.set(
+        i,
+        binary(op, operand(row, args.at(0)), operand(row, args.at(1))),
+    );
+}
+
+// Puts the word of an operator line on two arguments. The operators of which most lines are stand here, since a call for each line is
+// dear, and each reads its own words, since a word that a call may read is kept in memory.
+fn put_binary(op: Binary, args: &Args, i: usize, row: &mut Words)
+    requires inside { i < length row.old }
+    requires fits { OnTwo args.now (λ a b. (a.line < length row.old) × (b.line < length row.old)
+        × BinaryFits op (operand row.old a).width (operand row.old b).width) }
+    ensures { OnTwo args.now (λ a b. row.new ≡ slice_set row.old i (binary_of op (operand row.old a) (operand row.old b))) }
+{
+    match op {
+        Binary::And => row.set(
+            i,
+            and_word(operand(row, args.at(0)), operand(row, args.at(1))),
+        ),
+        Binary::Or => row.set(
+            i,
+            or_word(operand(row, args.at(0)), operand(row, args.at(1))),
+        ),
+        Binary::Eq => row.set(
+            i,
+            eq_word(operand(row, args.at(0)), operand(row, args.at(1))),
+        ),
+        _ => put_joined(op, args, i, row),
+    }
 }
 
 // The word of a choice: the second argument's where the first's is one, else the third's.
+#[inline(always)]
 fn ite_word(args: &Args, row: &Words) -> Word
     requires { OnThree args.now (λ c a b. (c.line < length row.now) × (a.line < length row.now) × (b.line < length row.now)
         × ((operand row.now c).width ≡ 1) × ((operand row.now a).width ≡ (operand row.now b).width)) }
@@ -192,26 +264,81 @@ fn sext_word(count: u32, args: &Args, row: &Words) -> Word
     sext(operand(row, args.at(0)), count)
 }
 
-// The word of a line, over the words of the lines before it; an input or a state takes the given one.
-fn line_word(nodes: &Nodes, i: usize, spare: &Words, given: Word) -> Word
+// Puts the word of a line that is computed from the words of the lines before it. Each kind of line puts its own word, so that
+// no word is handed from function to function.
+#[inline(always)]
+fn put_computed(nodes: &Nodes, i: usize, spare: &mut Words)
     requires inside { i < length nodes.now }
-    requires long { length spare.now ≡ length nodes.now }
+    requires long { length spare.old ≡ length nodes.now }
     requires well_formed { IsWellFormed nodes.now }
-    requires frame { IsFrame (take i nodes.now) (take i spare.now) }
+    requires frame { IsFrame (take i nodes.now) (take i spare.old) }
     ensures { IfSome (slice_get nodes.now i)
-        (λ l. result ≡ computed (take i nodes.now) (take i spare.now) l.sort l.op l.args given) }
+        (λ l. spare.new ≡ slice_set spare.old i (computed (take i nodes.now) (take i spare.old) l.sort l.op l.args nothing)) }
 {
     let line = nodes.at(i);
     match line.op {
-        LineOp::Input | LineOp::State => given,
-        LineOp::Constant(_) | LineOp::One | LineOp::Zero | LineOp::Ones => constant_word(nodes, i),
-        LineOp::Unary(op) => unary_word(op, &line.args, spare),
-        LineOp::Binary(op) => binary_word(op, &line.args, spare),
-        LineOp::Ite => ite_word(&line.args, spare),
-        LineOp::Slice(high, low) => slice_word(high, low, &line.args, spare),
-        LineOp::Uext(count) => uext_word(count, &line.args, spare),
-        LineOp::Sext(count) => sext_word(count, &line.args, spare),
-        _ => word_of(1, 0),
+        LineOp::Constant(_) | LineOp::One | LineOp::Zero | LineOp::Ones => {
+            spare.set(i, constant_word(nodes, i));
+        }
+        LineOp::Unary(op) => {
+            spare.set(i, unary_word(op, &line.args, spare));
+        }
+        LineOp::Binary(op) => put_binary(op, &line.args, i, spare),
+        LineOp::Ite => {
+            spare.set(i, ite_word(&line.args, spare));
+        }
+        LineOp::Slice(high, low) => {
+            spare.set(i, slice_word(high, low, &line.args, spare));
+        }
+        LineOp::Uext(count) => {
+            spare.set(i, uext_word(count, &line.args, spare));
+        }
+        LineOp::Sext(count) => {
+            spare.set(i, sext_word(count, &line.args, spare));
+        }
+        _ => spare.set(i, word_of(1, 0)),
+    }
+}
+
+// Does a line of this kind take a given word?
+fn is_given(op: &LineOp) -> bool
+    ensures { result ≡ is_given op.now }
+{
+    matches!(op, LineOp::Input | LineOp::State)
+}
+
+// Puts the word of the line at a place. What is given is looked up only where it is taken.
+#[inline(always)]
+fn put_word(
+    nodes: &Nodes,
+    tables: &Tables,
+    i: usize,
+    begun: bool,
+    last: &Words,
+    inputs: &Words,
+    free: &Words,
+    input: usize,
+    state: usize,
+    spare: &mut Words,
+)
+    requires inside { i < length nodes.now }
+    requires long { length spare.old ≡ length nodes.now }
+    requires last_long { length last.now ≡ length nodes.now }
+    requires well_formed { IsWellFormed nodes.now }
+    requires found { IsFoundIn nodes.now tables.now }
+    requires input_is { input ≡ count_of is_input (take i nodes.now) }
+    requires state_is { state ≡ count_of is_state (take i nodes.now) }
+    requires frame { IsFrame (take i nodes.now) (take i spare.old) }
+    ensures { IfSome (slice_get nodes.now i) (λ l. spare.new ≡ slice_set spare.old i (computed (take i nodes.now) (take i spare.old) l.sort l.op l.args
+        (given_of (state_value (value_kind begun) nodes.now) (value_word begun nodes.now last.now) (handed_at nodes.now inputs.now free.now) l.op i (take i spare.old)))) }
+{
+    if is_given(&nodes.at(i).op) {
+        let word = given_word(
+            nodes, tables, i, begun, last, spare, inputs, free, input, state,
+        );
+        spare.set(i, word);
+    } else {
+        put_computed(nodes, i, spare);
     }
 }
 
@@ -236,11 +363,11 @@ pub fn fill(
     let mut input = 0usize;
     let mut state = 0usize;
     for i in 0..nodes.len() {
-        let handed = handed_word(nodes, i, inputs, free, input, state);
-        let given = given_word(nodes, tables, i, begun, last, spare, handed);
-        let word = line_word(nodes, i, spare, given);
-        spare.set(i, word);
-        input = with_input(nodes.at(i), input);
-        state = with_state(nodes.at(i), state);
+        let line = nodes.at(i);
+        put_word(
+            nodes, tables, i, begun, last, inputs, free, input, state, spare,
+        );
+        input = with_input(line, input);
+        state = with_state(line, state);
     }
 }

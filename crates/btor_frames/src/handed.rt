@@ -18,7 +18,8 @@ pub fn word_of(width: u32, bits: u128) -> Word
 }
 
 // The word at a place, or a zero where there is none.
-fn word_or(words: &Words, i: usize) -> Word
+#[inline(always)]
+pub fn word_or(words: &Words, i: usize) -> Word
     ensures { result ≡ word_at words.now i }
 {
     if i < words.len() {
@@ -29,6 +30,7 @@ fn word_or(words: &Words, i: usize) -> Word
 }
 
 // The word that is handed in for a line, after so many inputs and states.
+#[inline(always)]
 pub fn handed_word(
     nodes: &Nodes,
     i: usize,

@@ -9,3 +9,4 @@ pub mod Judgement
 pub mod Plain
 pub mod Again
 pub mod Kept
+pub mod Shaped

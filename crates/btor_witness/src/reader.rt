@@ -67,12 +67,16 @@ impl Reader {
         ensures next { Takes (next_of self.old.sizes self.old.reading (line_parts raw.now)) self.old.reading self.new.reading result }
     {
         let line = without_return(raw);
-        if is_passed(line) {
-            return Ok(false);
-        }
+        // A line that has a shape isn't passed over, and nearly all lines have one.
         match shape_of(line) {
             Some(shape) => self.step(alloc, shape),
-            None => Err(LineEnd::Bad(witness::LINE)),
+            None => {
+                if is_passed(line) {
+                    Ok(false)
+                } else {
+                    Err(LineEnd::Bad(witness::LINE))
+                }
+            }
         }
     }
 

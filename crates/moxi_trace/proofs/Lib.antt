@@ -9,3 +9,4 @@ pub mod Head
 pub mod Trail
 pub mod Stepping
 pub mod Printed
+pub mod Fronts

@@ -45,6 +45,16 @@ statements_text es vs [] = []
 statements_text es [] (x ∷ xs) = []
 statements_text es (v ∷ vs) (x ∷ xs) = statement_text es v x ++ statements_text es vs xs
 
+-- ` (NAME `, which is the same in each step
+abbrev pub front_text : Variable → List ℕ
+front_text v = codes " (" ++ (symbol_text v.name ++ codes " ")
+
+-- the statements, of what stands before each value
+abbrev pub fronted_text : List Enumeration → List (List ℕ) → List Datum → List ℕ
+fronted_text es fs [] = []
+fronted_text es [] (x ∷ xs) = []
+fronted_text es (f ∷ fs) (x ∷ xs) = (f ++ (value_text es x ++ codes ")")) ++ fronted_text es fs xs
+
 -- `(N (NAME VALUE) ..)` on a line of its own
 abbrev pub step_text : Declared → ℕ → List Datum → List ℕ
 step_text d n xs = codes "\n(" ++ (decimal n ++ (statements_text d.enumerations d.variables xs ++ codes ")"))

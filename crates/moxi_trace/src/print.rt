@@ -1,17 +1,20 @@
 // The printer.
-ghost use Rattle.std.specs.Prelude.{◌≡◌, ◌++◌, ◌<◌, ◌^◌, codes, length, OnOk, IfOk};
+ghost use Rattle.std.specs.Prelude.{◌≡◌, ◌++◌, ◌<◌, ◌^◌, codes, length, map, OnOk, IfOk};
 ghost use Rattle.text_core.specs.Binary.{binary_digits};
-ghost use Rattle.moxi_trace.specs.Texts.{symbol_text, name_at, constants_of, constant_name, truth_text, value_text, statement_text, statements_text, step_text, steps_text, words_of_response, words_of_query, words_of_result, words_of_trace, head_text, response_text};
+ghost use Rattle.moxi_trace.specs.Texts.{symbol_text, name_at, constants_of, constant_name, truth_text, value_text, front_text, fronted_text, step_text, steps_text, words_of_response, words_of_query, words_of_result, words_of_trace, head_text, response_text};
 
 use crate::declarations::Declarations;
 use moxi_sexpr::put_symbol;
 use moxi_terms::{Datum, Env, Scope, Variable, Variables};
 use std::alloc::Global;
-use text_core::{List, Names, NoMemory, Text};
+use text_core::{List, Name, Names, NoMemory, Text};
 use word_core::Word;
 
 /// The steps of a trace, each with a value of each variable.
 pub type Steps = List<Env>;
+
+// What stands before the value of each variable.
+type Fronts = List<Name>;
 
 fn name_in(names: &Names, i: u32) -> &[u8]
     ensures { result.now ≡ name_at names.now i }
@@ -32,12 +35,6 @@ fn constant_name(scope: &Scope, n: u32, i: u32) -> &[u8]
     }
 }
 
-fn truth_bytes(truth: bool) -> &'static [u8]
-    ensures { result.now ≡ truth_text truth }
-{
-    if truth { b"true" } else { b"false" }
-}
-
 fn put_word(out: &mut Text, word: &Word) -> Result<(), NoMemory>
     ensures { OnOk result (out.new ≡ out.old ++ (codes "#b" ++ binary_digits word.now.width word.now.bits)) }
 {
@@ -45,45 +42,73 @@ fn put_word(out: &mut Text, word: &Word) -> Result<(), NoMemory>
     out.put_binary(word.width(), word.bits())
 }
 
-fn put_value(out: &mut Text, scope: &Scope, value: &Datum) -> Result<(), NoMemory>
-    ensures { OnOk result (out.new ≡ out.old ++ value_text scope.now.enumerations value.now) }
+fn closed_truth(truth: bool) -> &'static [u8]
+    ensures { result.now ≡ truth_text truth ++ codes ")" }
+{
+    if truth { b"true)" } else { b"false)" }
+}
+
+// A value, and the bracket that closes its statement.
+fn put_closed(out: &mut Text, scope: &Scope, value: &Datum) -> Result<(), NoMemory>
+    ensures { OnOk result (out.new ≡ out.old ++ (value_text scope.now.enumerations value.now ++ codes ")")) }
 {
     match value {
-        Datum::Truth(truth) => out.put(truth_bytes(*truth)),
-        Datum::Bits(word) => put_word(out, word),
-        Datum::Constant(n, i) => put_symbol(out, constant_name(scope, *n, *i), false),
+        Datum::Truth(truth) => out.put(closed_truth(*truth)),
+        Datum::Bits(word) => {
+            put_word(out, word)?;
+            out.put(b")")
+        }
+        Datum::Constant(n, i) => {
+            put_symbol(out, constant_name(scope, *n, *i), false)?;
+            out.put(b")")
+        }
     }
 }
 
-fn put_statement(
-    out: &mut Text,
-    scope: &Scope,
-    variable: &Variable,
-    value: &Datum,
-) -> Result<(), NoMemory>
-    ensures { OnOk result (out.new ≡ out.old ++ statement_text scope.now.enumerations variable.now value.now) }
+// The bytes before a variable's value.
+fn front_of(alloc: Global, variable: &Variable) -> Result<Name, NoMemory>
+    ensures { IfOk result (λ front. front ≡ front_text variable.now) }
 {
-    out.put(b" (")?;
-    put_symbol(out, variable.name.bytes(), false)?;
-    out.put(b" ")?;
-    put_value(out, scope, value)?;
-    out.put(b")")
+    let mut text = Text::new(alloc);
+    text.put(b" (")?;
+    put_symbol(&mut text, variable.name.bytes(), false)?;
+    text.put(b" ")?;
+    Name::of(alloc, text.bytes())
+}
+
+// The bytes before each variable's value, which are the same in each step.
+fn fronts_of(alloc: Global, variables: &Variables) -> Result<Fronts, NoMemory>
+    ensures { IfOk result (λ fronts. fronts ≡ map front_text variables.now) }
+{
+    let mut fronts = Fronts::new(alloc);
+    for variable in variables {
+        let front = front_of(alloc, variable)?;
+        fronts.push(front)?;
+    }
+    Ok(fronts)
+}
+
+fn put_statement(out: &mut Text, scope: &Scope, front: &[u8], value: &Datum) -> Result<(), NoMemory>
+    ensures { OnOk result (out.new ≡ out.old ++ (front.now ++ (value_text scope.now.enumerations value.now ++ codes ")"))) }
+{
+    out.put(front)?;
+    put_closed(out, scope, value)
 }
 
 fn put_statements(
     out: &mut Text,
     scope: &Scope,
-    variables: &Variables,
+    fronts: &Fronts,
     values: &Env,
 ) -> Result<(), NoMemory>
-    ensures { OnOk result (out.new ≡ out.old ++ statements_text scope.now.enumerations variables.now values.now) }
+    ensures { OnOk result (out.new ≡ out.old ++ fronted_text scope.now.enumerations fronts.now values.now) }
 {
-    let mut rest = variables.as_slice();
+    let mut rest = fronts.as_slice();
     for value in values {
-        let Some((variable, more)) = rest.split_first() else {
+        let Some((front, more)) = rest.split_first() else {
             return Ok(())
         };
-        put_statement(out, scope, variable, value)?;
+        put_statement(out, scope, front.bytes(), value)?;
         rest = more;
     }
     Ok(())
@@ -92,23 +117,31 @@ fn put_statements(
 fn put_step(
     out: &mut Text,
     declarations: &Declarations,
+    fronts: &Fronts,
     number: u128,
     step: &Env,
 ) -> Result<(), NoMemory>
+    requires { fronts.now ≡ map front_text declarations.now.variables }
     ensures { OnOk result (out.new ≡ out.old ++ step_text declarations.now number step.now) }
 {
     out.put(b"\n(")?;
     out.put_unsigned(number)?;
-    put_statements(out, declarations.scope, declarations.variables, step)?;
+    put_statements(out, declarations.scope, fronts, step)?;
     out.put(b")")
 }
 
-fn put_steps(out: &mut Text, declarations: &Declarations, steps: &Steps) -> Result<(), NoMemory>
+fn put_steps(
+    out: &mut Text,
+    declarations: &Declarations,
+    fronts: &Fronts,
+    steps: &Steps,
+) -> Result<(), NoMemory>
+    requires { fronts.now ≡ map front_text declarations.now.variables }
     ensures { OnOk result (out.new ≡ out.old ++ steps_text declarations.now 0 steps.now) }
 {
     let mut number: u128 = 0;
     for step in steps {
-        put_step(out, declarations, number, step)?;
+        put_step(out, declarations, fronts, number, step)?;
         number += 1;
     }
     Ok(())
@@ -165,13 +198,14 @@ pub fn print_response(
 ) -> Result<Text, NoMemory>
     ensures { IfOk result (λ text. text ≡ response_text declarations.now q steps.now) }
 {
+    let fronts = fronts_of(alloc, declarations.variables)?;
     let mut out = Text::new(alloc);
     put_head(
         &mut out,
         declarations.system.bytes(),
         name_in(declarations.queries, q),
     )?;
-    put_steps(&mut out, declarations, steps)?;
+    put_steps(&mut out, declarations, &fronts, steps)?;
     out.put(b"))\n")?;
     Ok(out)
 }

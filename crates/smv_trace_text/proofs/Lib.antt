@@ -1,3 +1,4 @@
 pub mod FirstBytes
 pub mod LineEnds
 pub mod Lists
+pub mod Margins

@@ -34,6 +34,16 @@ value_text (Bits w) = literal_bytes w
 abbrev pub value_line : Given → List ℕ
 value_line g = codes "    " ++ (g.name ++ (codes " = " ++ (value_text g.value ++ 10 ∷ [])))
 
+-- the blanks before a name, where a line follows
+abbrev pub margin : Bool → List ℕ
+margin true = codes "    "
+margin false = []
+
+-- the lines without the blanks of the first
+abbrev pub unmargined : List Given → List ℕ
+unmargined [] = []
+unmargined (g ∷ gs) = g.name ++ (codes " = " ++ (value_text g.value ++ 10 ∷ flat_map value_line gs))
+
 -- `  -> State: 1.N <-`, or the same of an input
 unfoldable pub heading_text : List ℕ → ℕ → List ℕ
 heading_text word n = codes "  -> " ++ (word ++ (codes ": 1." ++ (decimal n ++ (codes " <-" ++ 10 ∷ []))))

@@ -1,9 +1,9 @@
 // The printer.
-ghost use Rattle.std.specs.Prelude.{◌≡◌, ◌++◌, ◌<◌, ◌^◌, map, OnOk, IfOk};
+ghost use Rattle.std.specs.Prelude.{◌≡◌, ◌++◌, ◌∷◌, [], ◌<◌, ◌^◌, codes, map, OnOk, IfOk};
 ghost use Rattle.std.specs.List.{flat_map};
 ghost use Rattle.smv_items.specs.FlatItemView.{item_plain};
 ghost use Rattle.smv_lex.specs.Spelling.{literal_bytes};
-ghost use Rattle.smv_trace_text.specs.Texts.{is_input, has_inputs, truth_text, value_text, value_line, heading_text, state_text, label_text, following_text, steps_text, claim_front, claim_back, trace_text};
+ghost use Rattle.smv_trace_text.specs.Texts.{is_input, has_inputs, truth_text, value_text, margin, value_line, heading_text, state_text, label_text, following_text, steps_text, claim_front, claim_back, trace_text};
 
 use smv_flatten::{Flat, FlatItems, ItemKind};
 use smv_meaning::{Given, Run, State, Value};
@@ -56,21 +56,47 @@ fn put_value(out: &mut Text, value: &Value) -> Result<(), NoMemory>
     }
 }
 
-fn put_line(out: &mut Text, given: &Given) -> Result<(), NoMemory>
-    ensures { OnOk result (out.new ≡ out.old ++ value_line given.now) }
+// The blanks before a name, where a line follows.
+fn margin(followed: bool) -> &'static [u8]
+    ensures { result.now ≡ margin followed }
 {
-    out.put(b"    ")?;
-    out.put(given.name.bytes())?;
+    if followed { b"    " } else { b"" }
+}
+
+// What stands behind a name that has a truth value, to the next name.
+fn equal_truth(truth: bool, followed: bool) -> &'static [u8]
+    ensures { result.now ≡ codes " = " ++ (truth_text truth ++ 10 ∷ margin followed) }
+{
+    match (truth, followed) {
+        (true, true) => b" = TRUE\n    ",
+        (true, false) => b" = TRUE\n",
+        (false, true) => b" = FALSE\n    ",
+        (false, false) => b" = FALSE\n",
+    }
+}
+
+// What stands behind a name, to the next name. A truth value is one piece, since most values are.
+fn put_equal(out: &mut Text, value: &Value, followed: bool) -> Result<(), NoMemory>
+    ensures { OnOk result (out.new ≡ out.old ++ (codes " = " ++ (value_text value.now ++ 10 ∷ margin followed))) }
+{
+    if let Value::Truth(truth) = value {
+        return out.put(equal_truth(*truth, followed));
+    }
     out.put(b" = ")?;
-    put_value(out, &given.value)?;
-    out.put(b"\n")
+    put_value(out, value)?;
+    out.put(b"\n")?;
+    out.put(margin(followed))
 }
 
 fn put_lines(out: &mut Text, values: &State) -> Result<(), NoMemory>
     ensures { OnOk result (out.new ≡ out.old ++ flat_map value_line values.now) }
 {
-    for given in values {
-        put_line(out, given)?;
+    let mut rest = values.as_slice();
+    out.put(margin(!rest.is_empty()))?;
+    while let Some((given, more)) = rest.split_first() {
+        out.put(given.name.bytes())?;
+        put_equal(out, &given.value, !more.is_empty())?;
+        rest = more;
     }
     Ok(())
 }

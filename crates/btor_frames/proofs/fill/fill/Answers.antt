@@ -1,12 +1,12 @@
-use Rattle.std.proofs.Common.{◌+◌, ◌<◌, length, take, arith, ap, ◌∙◌, length-set}
+use Rattle.std.proofs.Common.{◌<◌, length, take, arith, ◌∙◌}
 use Rattle.std.proofs.lemmas.List.{length-take}
 use Rattle.btor_tree.specs.Fits.{is_input, is_state}
 use Rattle.btor_tree.proofs.Grows.{count_short, lines_short}
 use Rattle.btor_frames.proofs.Loop.{frame_so_far, one_more, count_step}
 use Rattle.btor_frames.proofs.fill.fill.Goals as goal
 
-pub line_word-word-requires-clause-frame : goal.line_word-word-requires-clause-frame
-line_word-word-requires-clause-frame c =
+pub put_word-requires-clause-frame : goal.put_word-requires-clause-frame
+put_word-requires-clause-frame c =
     frame_so_far c.args.begun c.args.nodes.now c.args.last.now c.args.inputs.now c.args.free.now c.loop-i.spare c.loop-i.i c.len-i-end.ensures.well_formed c.requires.last_frame c.requires.handed (omega arith) c.loop-i.invariant.filled
 
 pub with_input-input-requires : goal.with_input-input-requires
@@ -21,9 +21,10 @@ pub loop-i-preserved : goal.loop-i-preserved
 loop-i-preserved c =
     let inv = c.loop-i.invariant in
     let inside : c.loop-i.i < length c.loop-i.spare = omega arith in
+    let put = one_more c.args.begun c.args.nodes.now c.args.last.now c.args.inputs.now c.args.free.now c.loop-i.spare c.put_word.new.spare c.loop-i.i c.at-line.result.now inside c.at-line.ensures inv.filled c.put_word.ensures in
     record {
-      long = ap length c.set.ensures ∙ length-set c.loop-i.spare c.loop-i.i c.line_word-word.result ∙ inv.long;
-      filled = ap (take (c.loop-i.i + 1)) c.set.ensures ∙ one_more c.args.begun c.args.nodes.now c.args.last.now c.args.inputs.now c.args.free.now c.loop-i.spare c.loop-i.i c.at.result.now c.handed_word-handed.result c.given_word-given.result c.line_word-word.result inside c.at.ensures inv.filled c.handed_word-handed.ensures c.given_word-given.ensures c.line_word-word.ensures;
-      input_is = omega (arith, c.with_input-input.ensures, inv.input_is, count_step is_input c.args.nodes.now c.loop-i.i c.at.result.now c.at.ensures);
-      state_is = omega (arith, c.with_state-state.ensures, inv.state_is, count_step is_state c.args.nodes.now c.loop-i.i c.at-in-loop-i.result.now c.at-in-loop-i.ensures);
+      long = put.0 ∙ inv.long;
+      filled = put.1;
+      input_is = omega (arith, c.with_input-input.ensures, inv.input_is, count_step is_input c.args.nodes.now c.loop-i.i c.at-line.result.now c.at-line.ensures);
+      state_is = omega (arith, c.with_state-state.ensures, inv.state_is, count_step is_state c.args.nodes.now c.loop-i.i c.at-line.result.now c.at-line.ensures);
     }
