@@ -1,5 +1,6 @@
 pub mod Seconds
 pub mod Given
+pub mod Inputs
 pub mod Smv
 pub mod Moxi
 pub mod LiftedRuns

@@ -1,5 +1,5 @@
 -- What is answered to a witness of a model's text is what is defined of it, and stands for a run.
-use Rattle.std.proofs.Common.{◌≡◌, ◌≤◌, ◌-◌, inl, inr, ℕ, List, [], ◌∷◌, Option, Some, None, Result, Ok, Err, refl, sym, ap, ◌∙◌, length, subst}
+use Rattle.std.proofs.Common.{◌≡◌, ◌≤◌, ◌-◌, inl, inr, ℕ, Bool, List, [], ◌∷◌, Option, Some, None, Result, Ok, Err, refl, sym, ap, ◌∙◌, length, subst}
 use Rattle.std.specs.Prelude.{IfOk, IfErr, IfSome}
 use Rattle.text_core.specs.Outside.{Files, IsFile, file_at, grown}
 use Rattle.text_core.specs.declared.verdict.Verdict.TheVariants.{Yes}
@@ -9,6 +9,7 @@ use Rattle.smv_meaning.specs.declared.value.Run.{Run}
 use Rattle.smv_flat.specs.FlatForms.{PlainFlat, flat_smv}
 use Rattle.smv_width.specs.FlatWidth.{width_of}
 use Rattle.smv_flatten.specs.FlatModel.{FlatModel, flat_plain}
+use Rattle.smv_trace_text.specs.Texts.{has_inputs}
 use Rattle.smv_script.specs.Script.{coding_of, script_of}
 use Rattle.smv_script_environments.specs.Decoding.{run_of}
 use Rattle.moxi_terms.specs.declared.data.Datum.{Datum}
@@ -42,7 +43,8 @@ use Rattle.smv_commands.proofs.Sources.{same_model}
 use Rattle.smv_to_btor.specs.Translation.{Accepts, btor_text}
 use Rattle.smv_model_lines.specs.Laws.{model_lines}
 use Rattle.lift_commands.specs.Lifting.{IsOfSecond, OfLines, OfText}
-use Rattle.lift_commands.specs.SmvLift.{IsLiftedTrace, IsOfBytes, IsOfModel, IsSmvLift, OfBytes, RunsAreLifted, lifted_trace, run_text, trace_in}
+use Rattle.lift_commands.specs.SmvLift.{IsLiftedTrace, IsOfBytes, IsOfModel, IsSmvLift, OfBytes, RunsAreLifted, lifted_run, lifted_trace, run_text, trace_in}
+use Rattle.lift_commands.proofs.Inputs.{items_have_inputs}
 use Rattle.lift_commands.proofs.Given.{done_second, may_give, one_of_lines}
 
 -- ---- one answer
@@ -95,14 +97,15 @@ abbrev run_with : PlainFlat → ℕ → List (List Datum) → Run
 run_with flat width steps = run_of flat (coding_of flat width) (trace_of steps) (length steps - 1)
 
 abbrev trace_with : PlainFlat → ℕ → Witness → List ℕ
-trace_with flat width w = run_text flat.items w.bad (run_with flat width (lifted (flat_of (script_of flat width)) w))
+trace_with flat width w = run_text (has_inputs flat.items) w.bad (run_with flat width (lifted (flat_of (script_of flat width)) w))
 
 abbrev IsWith : Option Files → Type 0 → List ℕ → PlainFlat → ℕ → Answer → Type 0
 IsWith files rose second flat width a = IsOfSecond files rose second (lines_for flat width) (trace_with flat width) a
 
 chain_model : (files : Option Files) (rose : Type 0) (second : List ℕ) (source : PlainSource) (a : Answer) → IsWith files rose second (flat_smv source) (width_of (flat_smv source)) a → IsOfSecond files rose second (model_lines source) (lifted_trace source) a
 unfolding lifted_trace
-chain_model files rose second source a h = h
+chain_model files rose second source a h =
+    subst (λ (inputs : Bool). IsOfSecond files rose second (model_lines source) (λ (w : Witness). run_text inputs w.bad (lifted_run source w)) a) (items_have_inputs source) h
 
 of_chain : (files : Option Files) (rose : Type 0) (second : List ℕ) (source : PlainSource) (f : FlatModel) (a : Answer) → flat_plain f ≡ flat_smv source → f.width ≡ width_of (flat_smv source) → IsAccepted source 0
     → IsOfSecond files rose second (lines_in f) (trace_in f) a → IsOfModel files rose second source a

@@ -1,17 +1,18 @@
 -- To which trace a witness of an SMV model's BTOR2 text is lifted, and what it stands for (NuSMV 2.6 User Manual; BTOR2, CAV 2018).
-use Rattle.std.specs.Prelude.{◌≡◌, ◌⊎◌, ◌-◌, ◌≤◌, ℕ, List, length, map, Option, Some}
+use Rattle.std.specs.Prelude.{◌≡◌, ◌⊎◌, ◌++◌, ◌-◌, ◌≤◌, ℕ, Bool, true, false, List, length, map, Option, Some}
+use Rattle.std.specs.List.{list_any}
 use Rattle.text_core.specs.Outside.{Files, file_at, grown}
 use Rattle.text_core.specs.declared.place.Refusal.{Refusal}
 use Rattle.text_core.specs.declared.verdict.Verdict.TheVariants.{Yes}
-use Rattle.smv_text.specs.Tree.{PlainSource}
+use Rattle.smv_text.specs.declared.tree.VarKind.TheVariants.{Input}
+use Rattle.smv_text.specs.Tree.{PlainDomain, instance, PlainElement, vars, PlainSource}
 use Rattle.smv_meaning.specs.declared.value.Run.{Run}
 use Rattle.smv_meaning.specs.Values.{given}
+use Rattle.smv_meaning.specs.Instances.{instances_of}
 use Rattle.smv_meaning.specs.Phases.{IsAccepted, first_refusal}
-use Rattle.smv_flat.specs.FlatForms.{flat_smv}
-use Rattle.smv_items.specs.FlatItems.{PlainFlatItem}
 use Rattle.smv_items.specs.FlatItemView.{item_plain}
 use Rattle.smv_flatten.specs.FlatModel.{FlatModel}
-use Rattle.smv_trace_text.specs.Texts.{trace_text}
+use Rattle.smv_trace_text.specs.Texts.{claim_back, claim_front, has_inputs, steps_text}
 use Rattle.smv_script_runs.specs.Laws.{BreaksAt, decoded_run}
 use Rattle.btor_tree.specs.declared.lines.Line.{Line}
 use Rattle.btor_tree.specs.Texts.{SpellsLines}
@@ -39,13 +40,30 @@ run_for source steps = decoded_run source (trace_of steps) (length steps - 1)
 abbrev pub lifted_run : PlainSource → Witness → Run
 lifted_run source w = run_for source (lifted (model_system source) w)
 
--- the trace of a run that breaks the invariant of this number, as it is printed
-unfoldable pub run_text : List PlainFlatItem → ℕ → Run → List ℕ
-run_text items j run = trace_text items j run.states run.labels
+-- ---- whether a model has inputs
+
+-- a variable, and no instance
+abbrev pub is_variable : PlainDomain → Bool
+is_variable (instance name actuals) = false
+is_variable d = true
+
+abbrev pub declares_inputs : PlainElement → Bool
+declares_inputs (vars Input variables) = list_any (λ v. is_variable v.domain) variables
+declares_inputs e = false
+
+-- an input is declared in some instance
+abbrev pub model_has_inputs : PlainSource → Bool
+model_has_inputs source = list_any (λ at. list_any declares_inputs at.module.elements) (instances_of source)
+
+-- ---- the trace
+
+-- the trace of a run that breaks the invariant of this number, as it is printed; with inputs where the model has some
+unfoldable pub run_text : Bool → ℕ → Run → List ℕ
+run_text inputs j run = claim_front j ++ (claim_back (length run.states) ++ steps_text inputs run.states run.labels)
 
 -- the trace of the run to which a witness is lifted
 unfoldable pub lifted_trace : PlainSource → Witness → List ℕ
-lifted_trace source w = run_text (flat_smv source).items w.bad (lifted_run source w)
+lifted_trace source w = run_text (model_has_inputs source) w.bad (lifted_run source w)
 
 -- what is answered to the witness in the second file, for the model that the bytes spell, or the bytes' refusal
 abbrev pub OfBytes : Files → List ℕ → List ℕ → Answer → Type 0
@@ -60,7 +78,7 @@ IsSmvLift files model second answer = GoesOn (file_within files model most_smv_b
 
 -- the text of a flat form's run for which a witness stands
 abbrev pub trace_in : FlatModel → Witness → List ℕ
-trace_in f w = run_text (map item_plain f.items) w.bad (run_lifted_to f w)
+trace_in f w = run_text (has_inputs (map item_plain f.items)) w.bad (run_lifted_to f w)
 
 -- this is answered to the second file for the model, or the model's refusal
 abbrev pub IsOfModel : Option Files → Type 0 → List ℕ → PlainSource → Answer → Type 0
@@ -77,7 +95,7 @@ IsOfBytes files rose second bytes answer =
 -- the text is the trace of a run of the model with a state for each frame, whose last state breaks the invariant of the bad line
 pub record LiftsBack (source : PlainSource) (w : Witness) (text : List ℕ) : Type 0 where
   pub run : Run
-  pub written : text ≡ run_text (flat_smv source).items w.bad run
+  pub written : text ≡ run_text (model_has_inputs source) w.bad run
   pub each_frame : length run.states ≡ length w.frames
   pub breaks : BreaksAt source w.bad (length w.frames - 1) (map given run.states) (map given run.labels)
 
