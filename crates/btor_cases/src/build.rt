@@ -61,7 +61,7 @@ pub fn rebuilt(alloc: Global, nodes: &Nodes) -> Result<NumberedLines, Fault>
     for i in 0..nodes.len() {
         let line = nodes.at(i);
         if line.id as usize != i + 1 {
-            return Err(Fault::Misread("ids that are not 1, 2, 3 and so on"));
+            return Err(Fault::Unreadable("ids that are not 1, 2, 3 and so on"));
         }
         let args = copied_args(alloc, &line.args)?;
         let symbol = copied_symbol(alloc, &line.symbol)?;

@@ -8,7 +8,7 @@ use crate::pieces::put_judged;
 use crate::rows::{lines_of, put_on_one_line, text_of};
 use crate::witnesses::{put_verdict, put_witness};
 use btor_tree::Nodes;
-use case_text::{Answer, Piece, Stop, beside, given, has};
+use case_text::{Answer, Piece, Stop, has_piece, piece_bytes, value_beside};
 use std::alloc::Global;
 use text_core::Text;
 
@@ -53,7 +53,7 @@ pub fn put_answer(
     let [name] = call else {
         return Err(Stop::from("a call of another length"))
     };
-    if has(pieces, "row") {
+    if has_piece(pieces, "row") {
         put_row_answer(alloc, out, *name, pieces)
     } else {
         put_named(alloc, out, *name, pieces, None)
@@ -66,7 +66,7 @@ fn put_row_answer(
     name: &str,
     pieces: &[Piece],
 ) -> Result<(), Stop> {
-    let lines = lines_of(alloc, given(pieces, "row")?)?;
+    let lines = lines_of(alloc, piece_bytes(pieces, "row")?)?;
     let text = answered(alloc, name, pieces, lines.bytes())?;
     put_on_one_line(out, text.bytes());
     Ok(())
@@ -89,9 +89,9 @@ fn put_named(
     if name == "lines" {
         return put_lines(alloc, out, text_of(pieces, lines, "lines")?);
     }
-    match beside(CALLS.as_slice(), name) {
+    match value_beside(CALLS.as_slice(), name) {
         Some(call) => put_call(alloc, out, call, pieces, lines),
-        None => put_word_answer(alloc, out, name, given(pieces, "row")?),
+        None => put_word_answer(alloc, out, name, piece_bytes(pieces, "row")?),
     }
 }
 
@@ -121,12 +121,12 @@ fn put_node_answer(
             Ok(())
         }
         Call::Build => put_build(alloc, out, nodes),
-        Call::Sort => put_sort(alloc, out, nodes, given(pieces, "row")?),
+        Call::Sort => put_sort(alloc, out, nodes, piece_bytes(pieces, "row")?),
         Call::Widths => put_widths(alloc, out, nodes),
         Call::Frames => put_frames(alloc, out, nodes, text_of(pieces, lines, "words")?),
         Call::Witness => put_witness(alloc, out, nodes, text_of(pieces, lines, "witness")?),
         Call::Verdict => put_verdict(alloc, out, nodes, text_of(pieces, lines, "witness")?),
-        Call::PlainVerdict => put_agreement(alloc, out, nodes, given(pieces, "row")?),
+        Call::PlainVerdict => put_agreement(alloc, out, nodes, piece_bytes(pieces, "row")?),
         Call::Judged => put_judged(alloc, out, nodes, text_of(pieces, lines, "witness")?),
     }
 }

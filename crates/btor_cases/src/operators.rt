@@ -3,7 +3,7 @@
 ghost use Rattle.std.specs.Prelude.{IsTrue};
 ghost use Rattle.word_core.specs.Table.{BinaryFits};
 
-use case_text::{Answer, Stop, beside, words};
+use case_text::{Answer, Stop, value_beside, words};
 use std::alloc::Global;
 use word_core::{Binary, Unary, WIDEST, Word, binary, ite, read_digits, sext, slice, uext, unary};
 
@@ -85,7 +85,7 @@ pub fn put_word_answer(
     name: &str,
     row: &[u8],
 ) -> Result<(), Stop> {
-    let call = beside(CALLS.as_slice(), name).ok_or("no such call")?;
+    let call = value_beside(CALLS.as_slice(), name).ok_or("no such call")?;
     let row = words(alloc, row)?;
     put_called(out, call, row.as_slice())
 }

@@ -20,14 +20,14 @@ fn argument(args: &Args, i: usize) -> Result<Arg, Fault> {
     if i < args.len() {
         Ok(*args.at(i))
     } else {
-        Err(Fault::Misread("an argument"))
+        Err(Fault::Unreadable("an argument"))
     }
 }
 
 fn bit(row: &Row, arg: Arg) -> Result<bool, Fault> {
     match row.get(arg.line as usize) {
         Some(bit) => Ok(*bit != arg.negated),
-        None => Err(Fault::Misread("an earlier line")),
+        None => Err(Fault::Unreadable("an earlier line")),
     }
 }
 

@@ -1,6 +1,6 @@
 // Texts of several lines, and their form on one line: there a `/` stands for a line end, and the blanks around it mean
 // nothing.
-use case_text::{Answer, Fault, Piece, given, has, utf8};
+use case_text::{Answer, Fault, Piece, has_piece, piece_bytes, utf8};
 use std::alloc::Global;
 use text_core::Text;
 
@@ -11,8 +11,8 @@ pub fn text_of<'a>(
     name: &str,
 ) -> Result<&'a [u8], Fault> {
     match lines {
-        Some(lines) if !has(pieces, name) => Ok(lines),
-        _ => given(pieces, name),
+        Some(lines) if !has_piece(pieces, name) => Ok(lines),
+        _ => piece_bytes(pieces, name),
     }
 }
 

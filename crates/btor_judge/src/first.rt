@@ -3,7 +3,7 @@ ghost use Rattle.std.specs.Prelude.{◌≡◌, ◌+◌, ◌-◌, ◌*◌, ◌≤
 ghost use Rattle.btor_tree.specs.Parts.{cap};
 ghost use Rattle.btor_judge.specs.Firsts.{first_byte, first_next, first_shape, first_number, is_comment, marked_next};
 
-use btor_witness::{Shape, marked};
+use btor_witness::{Shape, marked_shape};
 use text_core::is_digit;
 
 /// What the bytes of a line's first part are so far: a beginning of `sat` or the whole word, a dot, a comment, a mark (`b`,
@@ -90,7 +90,7 @@ impl First {
         match self {
             First::Sat => Some(Shape::Sat),
             First::Dot => Some(Shape::End),
-            First::Marked(mark, number) => marked(mark, number),
+            First::Marked(mark, number) => marked_shape(mark, number),
             _ => None,
         }
     }

@@ -20,7 +20,7 @@ pub use print::print_witness;
 pub use read::{MOST_BYTES, read_witness};
 pub use reader::{MOST_FRAMES, MOST_WORDS, input_widths, state_widths};
 pub use room::{is_same, state_places, zero_of, zeros};
-pub use shape::{Shape, marked};
+pub use shape::{Shape, marked_shape};
 pub use unique::{
     not_both, one_of_both, one_refusal, one_verdict, one_witness, printed_is_read, same_refusal,
     yes_where_accepted,

@@ -22,7 +22,7 @@ pub enum Shape {
 }
 
 /// The shape of a line that is a mark and a number.
-pub fn marked(mark: u8, number: u32) -> Option<Shape>
+pub fn marked_shape(mark: u8, number: u32) -> Option<Shape>
     ensures { result ≡ marked mark number }
 {
     match mark {
@@ -39,7 +39,7 @@ fn number_shape(part: &[u8]) -> Option<Shape>
 {
     let (mark, digits) = part.split_first()?;
     let number = numeral(digits)?;
-    marked(*mark, number)
+    marked_shape(*mark, number)
 }
 
 fn single_shape(part: &[u8]) -> Option<Shape>

@@ -41,7 +41,7 @@ fn put_titled(out: &mut Answer, what: &str, which: &[u8], bytes: &[u8]) {
 }
 
 /// Puts why a case is not understood.
-pub fn put_misread(out: &mut Answer, fault: Fault) {
+pub fn put_unreadable(out: &mut Answer, fault: Fault) {
     out.put(b"    not understood: ");
     out.put_fault(fault);
     out.put(b"\n");

@@ -23,8 +23,8 @@ impl<F: Shelf + Drop> Files<F> {
         let name = Name::of(alloc, name.as_bytes())?;
         match read_whole(alloc, &mut self.shelf, &name, LIMIT) {
             Ok(bytes) => Ok(bytes),
-            Err(ReadEnd::Fault) => Err(Fault::Misread("a file that can't be read")),
-            Err(ReadEnd::TooLong) => Err(Fault::Misread("a file that is too long")),
+            Err(ReadEnd::Fault) => Err(Fault::Unreadable("a file that can't be read")),
+            Err(ReadEnd::TooLong) => Err(Fault::Unreadable("a file that is too long")),
             Err(ReadEnd::NoMemory) => Err(Fault::NoMemory),
         }
     }

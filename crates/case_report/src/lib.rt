@@ -5,6 +5,6 @@ mod differences;
 mod files;
 mod tally;
 
-pub use differences::{put_difference, put_misread, put_number_difference};
+pub use differences::{put_difference, put_number_difference, put_unreadable};
 pub use files::Files;
 pub use tally::Tally;

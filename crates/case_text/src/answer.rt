@@ -108,7 +108,7 @@ impl Answer {
     pub fn put_fault(&mut self, fault: Fault) {
         match fault {
             Fault::NoMemory => self.complete = false,
-            Fault::Misread(why) => self.put(why.as_bytes()),
+            Fault::Unreadable(why) => self.put(why.as_bytes()),
         }
     }
 

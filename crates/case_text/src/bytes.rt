@@ -26,7 +26,7 @@ fn put_line(bytes: &mut Vec<u8>, text: &str) -> Result<(), Fault> {
 fn parts<'a>(text: &'a str, wanted: &'static str) -> Result<(&'a str, &'a str), Fault> {
     match text.split_once(' ') {
         Some(parts) => Ok(parts),
-        None => Err(Fault::Misread(wanted)),
+        None => Err(Fault::Unreadable(wanted)),
     }
 }
 
@@ -89,7 +89,7 @@ fn shifted(shift: &str, i: u64) -> Result<u64, Fault> {
         [] => Ok(i),
         [b'-', b'1'] => Ok(i.saturating_sub(1)),
         [b'+', b'1'] => Ok(i.saturating_add(1)),
-        _ => Err(Fault::Misread("a number other than {i}, {i-1}, {i+1}")),
+        _ => Err(Fault::Unreadable("a number other than {i}, {i-1}, {i+1}")),
     }
 }
 
@@ -103,6 +103,6 @@ fn put_hexadecimal(bytes: &mut Vec<u8>, text: &str) -> Result<(), Fault> {
 fn byte_of(word: &str) -> Result<u8, Fault> {
     match u8::from_str_radix(word, 16) {
         Ok(byte) => Ok(byte),
-        Err(_) => Err(Fault::Misread("a byte in hexadecimal")),
+        Err(_) => Err(Fault::Unreadable("a byte in hexadecimal")),
     }
 }

@@ -8,7 +8,7 @@ pub enum Fault {
     /// Want of memory.
     NoMemory,
     /// What the case states can't be used, and why.
-    Misread(&'static str),
+    Unreadable(&'static str),
 }
 
 impl From<NoMemory> for Fault {
@@ -31,7 +31,7 @@ impl<T: Drop> From<AllocFailed<T>> for Fault {
 
 impl From<&'static str> for Fault {
     fn from(why: &'static str) -> Fault {
-        Fault::Misread(why)
+        Fault::Unreadable(why)
     }
 }
 

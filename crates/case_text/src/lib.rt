@@ -11,6 +11,8 @@ mod stop;
 
 pub use answer::Answer;
 pub use fault::{Fault, Unread};
-pub use piece::{Piece, beside, given, has, number, small_number, subject, utf8, words};
+pub use piece::{
+    Piece, has_piece, number, piece_bytes, small_number, subject, utf8, value_beside, words,
+};
 pub use reading::{Case, Entry, read_cases};
-pub use stop::{Stop, told};
+pub use stop::{Stop, answer_or_refusal};

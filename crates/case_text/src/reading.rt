@@ -60,9 +60,9 @@ fn take_marked<'a>(cases: &mut Vec<Case<'a>>, mark: u8, text: &str) -> Result<()
     match cases.last_mut() {
         Some(case) => match case.entries.last_mut() {
             Some(entry) => put_marked(&mut entry.bytes, mark, text),
-            None => Err(Fault::Misread("bytes before a line that takes them")),
+            None => Err(Fault::Unreadable("bytes before a line that takes them")),
         },
-        None => Err(Fault::Misread("bytes before a case")),
+        None => Err(Fault::Unreadable("bytes before a case")),
     }
 }
 
@@ -73,7 +73,7 @@ fn take_entry<'a>(alloc: Global, cases: &mut Vec<Case<'a>>, line: &'a str) -> Re
     } else {
         match cases.last_mut() {
             Some(case) => add_entry(alloc, &mut case.entries, key, says),
-            None => Err(Fault::Misread("a line before a case")),
+            None => Err(Fault::Unreadable("a line before a case")),
         }
     }
 }

@@ -37,7 +37,7 @@ impl From<Fault> for Stop {
 
 impl From<&'static str> for Stop {
     fn from(why: &'static str) -> Stop {
-        Stop::Fault(Fault::Misread(why))
+        Stop::Fault(Fault::Unreadable(why))
     }
 }
 
@@ -69,7 +69,7 @@ impl<T: Drop> From<AllocFailed<T>> for Stop {
 }
 
 /// The answer, or in its place the refusal that is one.
-pub fn told(alloc: Global, answer: Result<Text, Stop>) -> Result<Text, Fault> {
+pub fn answer_or_refusal(alloc: Global, answer: Result<Text, Stop>) -> Result<Text, Fault> {
     match answer {
         Ok(text) => Ok(text),
         Err(Stop::Refused(why)) => refused(alloc, why),

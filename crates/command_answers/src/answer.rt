@@ -81,7 +81,7 @@ pub fn refusal(kind: Kind) -> Refusal
 }
 
 /// The answer that the file was not read.
-pub fn unread(alloc: Global, name: &Name) -> Stop
+pub fn unread_stop(alloc: Global, name: &Name) -> Stop
     ensures { (result ≡ Stop.Answered (Answer.Unread name.now)) ⊎ (result ≡ Stop.NoMemory) }
 {
     match name.duplicate(alloc) {

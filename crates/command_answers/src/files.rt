@@ -3,7 +3,7 @@ ghost use Rattle.std.specs.Prelude.{◌≡◌, ◌<◌, ◌≤◌, IfOk, IfErr, 
 ghost use Rattle.text_core.specs.Outside.{BeginsOnly, IsFile, Rose};
 ghost use Rattle.command_answers.specs.Reading.{Instead, StopsUnread, StopsWith};
 
-use crate::answer::{Answer, Stop, unread};
+use crate::answer::{Answer, Stop, unread_stop};
 use std::alloc::Global;
 use text_core::{Name, ReadEnd, Shelf, read_whole};
 
@@ -25,7 +25,7 @@ pub fn read_file<F: Shelf>(
 {
     match read_whole(alloc, shelf, name, limit) {
         Ok(bytes) => Ok(bytes),
-        Err(ReadEnd::Fault) => Err(unread(alloc, name)),
+        Err(ReadEnd::Fault) => Err(unread_stop(alloc, name)),
         Err(ReadEnd::TooLong) => Err(Stop::Answered(longer)),
         Err(ReadEnd::NoMemory) => Err(Stop::NoMemory),
     }

@@ -6,7 +6,7 @@ mod files;
 mod notes;
 mod status;
 
-pub use answer::{Answer, Output, Stop, refusal, unread};
+pub use answer::{Answer, Output, Stop, refusal, unread_stop};
 pub use files::read_file;
 pub use notes::{deliver, note};
 pub use status::Status;

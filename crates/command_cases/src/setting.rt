@@ -50,7 +50,7 @@ impl Limits {
         let most = usize::try_from(self.most).unwrap_or(usize::MAX);
         let room = usize::try_from(self.room).unwrap_or(usize::MAX);
         if most == 0 {
-            return Err(Fault::Misread("a sink takes at least one byte in a call"));
+            return Err(Fault::Unreadable("a sink takes at least one byte in a call"));
         }
         Ok(MemorySink::new(alloc, room, most, self.fails)?)
     }

@@ -35,7 +35,7 @@ impl Wanted {
         if stated {
             Ok(())
         } else {
-            Err(Fault::Misread("a run with no wanted status"))
+            Err(Fault::Unreadable("a run with no wanted status"))
         }
     }
 

@@ -1,6 +1,6 @@
 // Calls of the libraries.
-use case_report::{Files, Tally, put_difference, put_misread};
-use case_text::{Answer, Case, Entry, Fault, Piece, Stop, told, words};
+use case_report::{Files, Tally, put_difference, put_unreadable};
+use case_text::{Answer, Case, Entry, Fault, Piece, Stop, answer_or_refusal, words};
 use std::alloc::Global;
 use text_core::{Shelf, Text};
 
@@ -29,7 +29,7 @@ fn put_entries<F: Shelf + Drop>(
             "given" => pieces.push(files.piece(alloc, entry)?)?,
             "answer" => put_call(alloc, case, call, pieces, &entry.bytes, tally),
             "row" => put_row(alloc, case, call, pieces, entry, tally)?,
-            _ => return Err(Fault::Misread("a line that says nothing of a call")),
+            _ => return Err(Fault::Unreadable("a line that says nothing of a call")),
         }
     }
     Ok(())
@@ -68,11 +68,11 @@ fn put_call(
     wanted: &[u8],
     tally: &mut Tally,
 ) {
-    let answered = told(alloc, answer(alloc, call, pieces));
+    let answered = answer_or_refusal(alloc, answer(alloc, call, pieces));
     let mut differences = Answer::new(alloc);
     match answered {
         Ok(came) => put_difference(&mut differences, "answer", wanted, came.bytes()),
-        Err(fault) => put_misread(&mut differences, fault),
+        Err(fault) => put_unreadable(&mut differences, fault),
     }
     tally.count(case.title, differences);
 }

@@ -1,6 +1,6 @@
 // The report of one file of cases.
 use crate::calling::put_calls;
-use case_report::{Files, Tally, put_misread};
+use case_report::{Files, Tally, put_unreadable};
 use case_text::{Answer, Case, Fault, Unread, read_cases, utf8};
 use command_cases::{put_run, put_sure_run};
 use std::alloc::Global;
@@ -91,7 +91,7 @@ fn count_case<F: Shelf + Drop>(
 ) {
     if let Err(fault) = put_case(alloc, files, case, tally) {
         let mut differences = Answer::new(alloc);
-        put_misread(&mut differences, fault);
+        put_unreadable(&mut differences, fault);
         tally.count(case.title, differences);
     }
 }

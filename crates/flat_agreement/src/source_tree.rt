@@ -74,7 +74,7 @@ fn module_called<'a>(source: &'a Source, name: &[u8]) -> Result<&'a Module, Faul
             return Ok(module);
         }
     }
-    Err(Fault::Misread("a module that is missing"))
+    Err(Fault::Unreadable("a module that is missing"))
 }
 
 // Adds an instance and those within it.
@@ -86,7 +86,7 @@ fn grow<'a>(
     all: &mut Vec<Instance<'a>>,
 ) -> Result<(), Fault> {
     if depth == 0 {
-        return Err(Fault::Misread("instances that stand too deep"));
+        return Err(Fault::Unreadable("instances that stand too deep"));
     }
     let number = all.len();
     let elements = &at.module.elements;
@@ -108,7 +108,7 @@ fn grow_items<'a>(
     all: &mut Vec<Instance<'a>>,
 ) -> Result<(), Fault> {
     if depth == 0 {
-        return Err(Fault::Misread("instances that stand too deep"));
+        return Err(Fault::Unreadable("instances that stand too deep"));
     }
     for item in items {
         if let Domain::Instance(name, actuals) = &item.domain {

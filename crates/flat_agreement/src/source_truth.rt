@@ -60,7 +60,7 @@ fn assignment_holds(m: Moment, i: usize, assignment: &Assignment) -> Result<bool
         When::First | When::Always => m,
     };
     match read_path(assigned, DEPTH, i, &assignment.target) {
-        Plain::Nothing => Err(Fault::Misread("a variable without a value")),
+        Plain::Nothing => Err(Fault::Unreadable("a variable without a value")),
         v => permits(m, DEPTH, i, &assignment.body, v),
     }
 }

@@ -5,7 +5,7 @@ ghost use Rattle.smv_flatten.specs.FlatModel.{IsRead};
 use crate::form::put_form;
 use crate::sizes::{put_checked, put_sizes};
 use crate::widths::{put_formula_of, put_interval, put_width};
-use case_text::{Answer, Fault, Piece, Stop, given, has, small_number};
+use case_text::{Answer, Fault, Piece, Stop, has_piece, piece_bytes, small_number};
 use flat_agreement::{put_agreement, put_truths};
 use smv_flatten::{Flat, flatten};
 use smv_text::Source;
@@ -40,10 +40,10 @@ pub fn put_answer(
 }
 
 fn put_of_row(alloc: Global, out: &mut Answer, name: &str, pieces: &[Piece]) -> Result<(), Stop> {
-    let row = given(pieces, "row")?;
+    let row = piece_bytes(pieces, "row")?;
     match name {
-        "formula" => put_formula_of(alloc, out, given(pieces, "declarations")?, row),
-        "width" => put_width(alloc, out, given(pieces, "declarations")?, row),
+        "formula" => put_formula_of(alloc, out, piece_bytes(pieces, "declarations")?, row),
+        "width" => put_width(alloc, out, piece_bytes(pieces, "declarations")?, row),
         _ => put_interval(alloc, out, row),
     }
 }
@@ -51,7 +51,7 @@ fn put_of_row(alloc: Global, out: &mut Answer, name: &str, pieces: &[Piece]) -> 
 #[tactic(auto, using(crate::proofs::Read::is_read))]
 fn put_of_model(alloc: Global, out: &mut Answer, name: &str, pieces: &[Piece]) -> Result<(), Stop> {
     let wanted = wanted(pieces)?;
-    let source = source_of(alloc, given(pieces, "model")?)?;
+    let source = source_of(alloc, piece_bytes(pieces, "model")?)?;
     match name {
         "checked" => put_checked(alloc, out, &source, wanted),
         _ => put_of_flat(alloc, out, name, &source, wanted),
@@ -60,8 +60,8 @@ fn put_of_model(alloc: Global, out: &mut Answer, name: &str, pieces: &[Piece]) -
 
 // The number of the wanted invariant, 0 where any will do.
 fn wanted(pieces: &[Piece]) -> Result<u32, Fault> {
-    if has(pieces, "row") {
-        small_number(given(pieces, "row")?)
+    if has_piece(pieces, "row") {
+        small_number(piece_bytes(pieces, "row")?)
     } else {
         Ok(0)
     }
@@ -100,6 +100,6 @@ fn put_flat(
         }
         "truths" => put_truths(alloc, out, flat),
         "agreement" => put_agreement(alloc, out, source, flat),
-        _ => Err(Fault::Misread("no call of `flat`")),
+        _ => Err(Fault::Unreadable("no call of `flat`")),
     }
 }

@@ -1,6 +1,6 @@
 // How large models and their flat forms are.
 use case_text::{Answer, Stop};
-use smv_flatten::{Accepted, Flat, accepted};
+use smv_flatten::{Accepted, Flat, check_model};
 use smv_text::Source;
 use std::alloc::Global;
 
@@ -21,7 +21,7 @@ pub(crate) fn put_checked(
     source: &Source,
     wanted: u32,
 ) -> Result<(), Stop> {
-    let kept = accepted(alloc, source, wanted)?;
+    let kept = check_model(alloc, source, wanted)?;
     put_counts(out, &kept);
     drop(kept);
     Ok(())

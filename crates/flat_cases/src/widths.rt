@@ -100,6 +100,6 @@ fn variable(alloc: Global, ty: Ty) -> Result<FlatItem, NoMemory> {
 fn integer(digits: &str) -> Result<i64, Fault> {
     match digits.parse::<i64>() {
         Ok(n) => Ok(n),
-        Err(_) => Err(Fault::Misread("an integer")),
+        Err(_) => Err(Fault::Unreadable("an integer")),
     }
 }

@@ -10,7 +10,7 @@ ghost use Rattle.moxi_scripts.specs.Shapes.{named};
 
 use crate::collect::{fail, fail_if, fail_primed, note, refuse};
 use crate::constants::both;
-use crate::shapes::{misshapen, named_form, place_of};
+use crate::shapes::{named_form, place_of, shape_refusal};
 use moxi_scripts::{Declared, Entries};
 use moxi_sexpr::Form;
 use moxi_sorts::{Locals, sort_of};
@@ -57,7 +57,7 @@ fn read_entry(
 {
     match named_form(form) {
         None => {
-            refuse(found, misshapen(around, form));
+            refuse(found, shape_refusal(around, form));
             Ok(false)
         }
         Some(n) => {

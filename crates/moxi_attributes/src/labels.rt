@@ -11,7 +11,7 @@ ghost use Rattle.moxi_scripts.specs.Shapes.{named};
 use crate::attributes::turn_after;
 use crate::collect::{fail_if, fail_primed, refuse};
 use crate::formulas::read_truth;
-use crate::shapes::{misshapen, named_form, place_of};
+use crate::shapes::{named_form, place_of, shape_refusal};
 use moxi_scripts::{Command, Formula, Formulas, Key, Turn};
 use moxi_sexpr::Form;
 use moxi_sorts::Locals;
@@ -160,7 +160,7 @@ fn read_label(
 {
     match named_form(form) {
         None => {
-            refuse(found, misshapen(place_of(form), form));
+            refuse(found, shape_refusal(place_of(form), form));
             ls.whole = false;
             Ok(())
         }

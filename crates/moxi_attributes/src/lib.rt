@@ -23,7 +23,7 @@ pub use labels::{Labelled, Labels, no_labels, read_labels};
 pub use lists::{all_entries, are_shaped, read_lists, text_entries};
 pub use possible::possible_locals;
 pub use shapes::{
-    Headed, Named, headed_forms, is_empty_list, misshapen, misshapen_place, named_form, named_in,
-    parts_of, place_of, triple_of,
+    Headed, Named, headed_forms, is_empty_list, misshapen_place, named_form, named_in, parts_of,
+    place_of, shape_refusal, triple_of,
 };
 pub use uses::read_uses;

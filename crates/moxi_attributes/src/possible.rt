@@ -28,7 +28,7 @@ fn is_nothing(meaning: Option<Meaning>) -> bool
 fn is_free(scope: &Scope, name: &[u8]) -> bool
     ensures { result ≡ is_free scope.now name.now }
 {
-    is_nothing(scope.bare(name))
+    is_nothing(scope.constant_or_function(name))
 }
 
 // A symbol at p, where it stands for nothing else.

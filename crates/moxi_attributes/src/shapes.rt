@@ -7,7 +7,7 @@ ghost use Rattle.moxi_scripts.specs.Shapes.{headed, headed_by, misshapen, missha
 ghost use Rattle.moxi_attributes.specs.Views.{headed_now, named_now, parts_now, triple_now};
 
 use moxi_sexpr::{Form, FormShape};
-use moxi_sorts::{only, pair, refusal, symbol_of};
+use moxi_sorts::{only_form, pair, refusal, symbol_of};
 use text_core::kinds::moxi;
 use text_core::{Place, Refusal};
 
@@ -98,7 +98,7 @@ pub fn misshapen_place(around: Place, form: &Form) -> Place
 }
 
 /// A form in a list at `around` that hasn't its shape.
-pub fn misshapen(around: Place, form: &Form) -> Refusal
+pub fn shape_refusal(around: Place, form: &Form) -> Refusal
     ensures { result ≡ misshapen around (plain form.now) }
 {
     refusal(moxi::ARITY, misshapen_place(around, form))
@@ -110,7 +110,7 @@ pub fn named_in<'a>(forms: &'a [Form]) -> Option<Named<'a>>
 {
     match headed_forms(forms) {
         None => None,
-        Some(h) => match only(h.rest) {
+        Some(h) => match only_form(h.rest) {
             None => None,
             Some(form) => Some(Named {
                 name: h.name,

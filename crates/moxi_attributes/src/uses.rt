@@ -15,7 +15,7 @@ ghost use Rattle.moxi_scripts.specs.Uses.{actual_at, actual_failures, actual_in,
 use crate::attributes::{is_behind, turn_after};
 use crate::collect::{fail, fail_if, fail_primed, refuse};
 use crate::constants::both;
-use crate::shapes::{Headed, Named, headed_forms, misshapen, named_form, parts_of, place_of};
+use crate::shapes::{Headed, Named, headed_forms, named_form, parts_of, place_of, shape_refusal};
 use moxi_scripts::{Actual, Command, Key, Turn, Use};
 use moxi_sexpr::Form;
 use moxi_sorts::{Locals, symbol_of};
@@ -173,7 +173,7 @@ fn read_use(
     let p = place_of(form);
     match named_form(form) {
         None => {
-            refuse(found, misshapen(p, form));
+            refuse(found, shape_refusal(p, form));
             Ok(())
         }
         Some(n) => {

@@ -6,7 +6,7 @@ ghost use Rattle.moxi_systems.specs.Asking.{check_sorts};
 ghost use Rattle.moxi_term_cases.specs.Added.{Adds};
 
 use crate::scripts::{given_script, query_named};
-use case_text::{Answer, Piece, Stop, given};
+use case_text::{Answer, Piece, Stop, piece_bytes};
 use moxi_attributes::parts_of;
 use moxi_scripts::{Formulas, Queries, Script};
 use moxi_sexpr::{Atom, Form, FormShape};
@@ -36,7 +36,7 @@ fn failing_in_row(
     script: &Script,
     pieces: &[Piece],
 ) -> Result<Option<Clause>, Stop> {
-    let row = forms_of(alloc, given(pieces, "row")?)?;
+    let row = forms_of(alloc, piece_bytes(pieces, "row")?)?;
     failing_in(alloc, script, &row)
 }
 

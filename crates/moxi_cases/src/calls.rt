@@ -2,7 +2,7 @@
 use crate::asking::put_failing;
 use crate::scripts::{put_given_check, put_given_systems, put_printed_script, put_script};
 use crate::traces::put_trace;
-use case_text::{Answer, Piece, Stop, beside};
+use case_text::{Answer, Piece, Stop, value_beside};
 use moxi_term_cases::{put_entry_sort, put_forms, put_term_sort, put_term_value};
 use moxi_terms::Primes;
 use std::alloc::Global;
@@ -44,7 +44,7 @@ pub fn put_answer(
     let Some((name, words)) = call.split_first() else {
         return Err(Stop::from("a call without a name"))
     };
-    let call = beside(CALLS.as_slice(), *name).ok_or("no such call of MoXI")?;
+    let call = value_beside(CALLS.as_slice(), *name).ok_or("no such call of MoXI")?;
     put_call(alloc, out, call, words, pieces)
 }
 

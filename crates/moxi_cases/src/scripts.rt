@@ -1,7 +1,7 @@
 // Scripts, and how they are printed.
 ghost use Rattle.std.specs.Prelude.{◌<◌, length, IfOk};
 
-use case_text::{Answer, Piece, Stop, given, subject};
+use case_text::{Answer, Piece, Stop, piece_bytes, subject};
 use moxi_printing::print_script;
 use moxi_reading::read_script;
 use moxi_scripts::{Check, Queries, Query, Script, Subsystem, System, Systems};
@@ -18,7 +18,7 @@ fn script_of(alloc: Global, text: &[u8]) -> Result<Script, Stop> {
 
 /// The script that a case gives.
 pub fn given_script(alloc: Global, pieces: &[Piece]) -> Result<Script, Stop> {
-    match script_of(alloc, given(pieces, "script")?) {
+    match script_of(alloc, piece_bytes(pieces, "script")?) {
         Ok(script) => Ok(script),
         Err(end) => Err(end.as_fault()),
     }

@@ -2,7 +2,7 @@
 use crate::behaving::behaves;
 use crate::scripts::{given_script, query_named};
 use crate::truths::{Steps, always, begins, ends, ever};
-use case_text::{Answer, Piece, Stop, given, words};
+use case_text::{Answer, Piece, Stop, piece_bytes, words};
 use moxi_scripts::{Check, Formulas, Query, Script};
 use moxi_terms::Term;
 use std::alloc::Global;
@@ -25,7 +25,7 @@ fn put_given_row(
     script: &Script,
     pieces: &[Piece],
 ) -> Result<(), Stop> {
-    let row = words(alloc, given(pieces, "row")?)?;
+    let row = words(alloc, piece_bytes(pieces, "row")?)?;
     put_row(alloc, out, script, &row)
 }
 

@@ -19,7 +19,7 @@ use crate::systems::{ReadSystem, read_system};
 use moxi_attributes::{Headed, fail, fail_if, fail_primed, headed_forms, place_of};
 use moxi_scripts::{CommandName, Entries};
 use moxi_sexpr::{Form, FormShape};
-use moxi_sorts::{only, symbol_of};
+use moxi_sorts::{only_form, symbol_of};
 use moxi_terms::{Scope, is_same};
 use name_set::NameSet;
 use std::alloc::Global;
@@ -129,7 +129,7 @@ fn read_logic(
     ensures logic { OnOk result (logic.new ≡ logic_of logic.old (only_of (plain_forms forms.now))) }
     ensures finds { OnOk result (found.new ≡ also found.old (logic_failures p (only_of (plain_forms forms.now)))) }
 {
-    match only(forms) {
+    match only_form(forms) {
         None => {
             fail(found, moxi::ARITY, p);
             Ok(())

@@ -16,8 +16,8 @@ ghost use Rattle.moxi_scripts.specs.Shapes.{parts_of};
 
 use indexmap::IndexSet;
 use moxi_attributes::{
-    Labels, Named, both, fail, fail_if, fail_primed, is_behind, misshapen, named_form, parts_of,
-    place_of, refuse, turn_after,
+    Labels, Named, both, fail, fail_if, fail_primed, is_behind, named_form, parts_of, place_of,
+    refuse, shape_refusal, turn_after,
 };
 use moxi_scripts::{Command, Key, Queries, Query, QueryNames, Turn};
 use moxi_sexpr::Form;
@@ -239,7 +239,7 @@ fn read_query(
 {
     match named_form(form) {
         None => {
-            refuse(found, misshapen(around, form));
+            refuse(found, shape_refusal(around, form));
             Ok(())
         }
         Some(n) => {

@@ -37,7 +37,7 @@ fn put_term(terms: &mut Terms, term: Term) -> Result<(), NoMemory>
 /// A term in which each variable has the number at its place.
 #[inline(never)]
 #[cycle(copy)]
-pub fn renumbered(alloc: Global, places: &[u32], term: &Term) -> Result<Term, NoMemory>
+pub fn renumber(alloc: Global, places: &[u32], term: &Term) -> Result<Term, NoMemory>
     ensures { IfOk result (λ copy. plain copy ≡ renumbered (number_in places.now) (plain term.now)) }
 {
     match term {
@@ -51,7 +51,7 @@ pub fn renumbered(alloc: Global, places: &[u32], term: &Term) -> Result<Term, No
         Term::Let(names, terms, body) => {
             let bound = copied_names(alloc, names)?;
             let copies = all_renumbered(alloc, places, terms)?;
-            let inner = renumbered(alloc, places, body)?;
+            let inner = renumber(alloc, places, body)?;
             let held = Box::new(alloc, inner)?;
             Ok(Term::Let(bound, copies, held))
         }
@@ -69,7 +69,7 @@ fn all_renumbered(alloc: Global, places: &[u32], terms: &[Term]) -> Result<Terms
 {
     let mut copies = Vec::new(alloc);
     for term in terms {
-        let copy = renumbered(alloc, places, term)?;
+        let copy = renumber(alloc, places, term)?;
         put_term(&mut copies, copy)?;
     }
     Ok(copies)

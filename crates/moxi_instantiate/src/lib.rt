@@ -15,7 +15,7 @@ mod terms;
 mod variables;
 
 pub use checks::{check_height, check_size};
-pub use copies::renumbered;
+pub use copies::renumber;
 pub use counts::MOST;
 pub use functions::{body_heights, body_sizes};
 pub use measures::{Measures, is_too_large, measures_of};

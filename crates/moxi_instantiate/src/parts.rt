@@ -5,7 +5,7 @@ ghost use Rattle.moxi_flat.specs.FlatSystem.{part_of, place_inside};
 ghost use Rattle.moxi_instantiate.specs.Copying.{number_in};
 ghost use Rattle.moxi_instantiate.specs.PlainParts.{plain_part};
 
-use crate::copies::renumbered;
+use crate::copies::renumber;
 use moxi_scripts::System;
 use moxi_terms::Term;
 use std::alloc::Global;
@@ -26,9 +26,9 @@ pub type Parts = List<Part>;
 pub fn part_of(alloc: Global, places: &[u32], system: &System) -> Result<Part, NoMemory>
     ensures { IfOk result (λ part. plain_part part ≡ part_of (number_in places.now) (plain_system system.now)) }
 {
-    let init = renumbered(alloc, places, &system.init)?;
-    let trans = renumbered(alloc, places, &system.trans)?;
-    let inv = renumbered(alloc, places, &system.inv)?;
+    let init = renumber(alloc, places, &system.init)?;
+    let trans = renumber(alloc, places, &system.trans)?;
+    let inv = renumber(alloc, places, &system.inv)?;
     Ok(Part { init, trans, inv })
 }
 

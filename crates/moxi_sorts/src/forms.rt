@@ -64,7 +64,7 @@ pub fn numeral_of<'a>(form: &'a Form) -> Option<&'a [u8]>
 
 /// The form, where it is the only one.
 #[tactic(auto, using(crate::proofs::FormLaws::only_none, crate::proofs::FormLaws::only_one))]
-pub fn only<'a>(forms: &'a [Form]) -> Option<&'a Form>
+pub fn only_form<'a>(forms: &'a [Form]) -> Option<&'a Form>
     ensures { only_now result ≡ only_of (plain_forms forms.now) }
 {
     match forms.split_first() {
@@ -83,7 +83,7 @@ pub fn pair<'a>(forms: &'a [Form]) -> Option<(&'a Form, &'a Form)>
 {
     match forms.split_first() {
         None => None,
-        Some((first, rest)) => match only(rest) {
+        Some((first, rest)) => match only_form(rest) {
             None => None,
             Some(second) => Some((first, second)),
         },
@@ -94,7 +94,7 @@ pub fn pair<'a>(forms: &'a [Form]) -> Option<(&'a Form, &'a Form)>
 pub fn only_numeral<'a>(forms: &'a [Form]) -> Option<&'a [u8]>
     ensures { digits_now result ≡ only_numeral (plain_forms forms.now) }
 {
-    match only(forms) {
+    match only_form(forms) {
         Some(form) => numeral_of(form),
         None => None,
     }

@@ -34,7 +34,7 @@ pub fn index_of(digits: &[u8]) -> u32
 }
 
 /// What a form at p is refused with, that has a name at q which stands for nothing.
-pub fn unknown(left_out: bool, p: Place, q: Place) -> Refusal
+pub fn unknown_refusal(left_out: bool, p: Place, q: Place) -> Refusal
     ensures { result ≡ unknown left_out p q }
 {
     if left_out {
@@ -53,7 +53,7 @@ fn symbol_sort(sort: Option<Sort>, name: &[u8], primed: bool, p: Place) -> Resul
         } else {
             Ok(s)
         },
-        None => Err(unknown(is_left_out_sort(name), p, p)),
+        None => Err(unknown_refusal(is_left_out_sort(name), p, p)),
     }
 }
 
@@ -150,7 +150,7 @@ fn listed_sort(
         } else if is_same(name, b"BitVec") || scope.sort_named(name).is_some() {
             Err(refusal(moxi::ARITY, p))
         } else {
-            Err(unknown(is_left_out_sort(name), p, q))
+            Err(unknown_refusal(is_left_out_sort(name), p, q))
         },
     }
 }

@@ -4,14 +4,14 @@ ghost use Rattle.moxi_sexpr.specs.Printing.{ArePrintable};
 ghost use Rattle.moxi_sexpr.specs.Tree.{plain_forms};
 
 use crate::places::put_places;
-use case_text::{Answer, Fault, Piece, Stop, given, has, subject};
+use case_text::{Answer, Fault, Piece, Stop, has_piece, piece_bytes, subject};
 use moxi_sexpr::{Forms, print_forms, read_forms, readings_are_one};
 use std::alloc::Global;
 
 /// The bytes of a piece, none where there is no such piece.
 pub fn optional<'a>(pieces: &'a [Piece], name: &str) -> Result<&'a [u8], Fault> {
-    if has(pieces, name) {
-        given(pieces, name)
+    if has_piece(pieces, name) {
+        piece_bytes(pieces, name)
     } else {
         Ok(b"")
     }
@@ -32,7 +32,7 @@ pub fn forms_of(alloc: Global, text: &[u8]) -> Result<Forms, Stop>
 /// Appends the forms as they are printed, each on a line, or those of a row on one, and behind them the places of all forms.
 pub fn put_forms(alloc: Global, out: &mut Answer, pieces: &[Piece]) -> Result<(), Stop> {
     let forms = forms_of(alloc, subject(pieces, "text")?)?;
-    put_with_places(alloc, out, &forms, has(pieces, "row"))
+    put_with_places(alloc, out, &forms, has_piece(pieces, "row"))
 }
 
 fn put_with_places(

@@ -10,7 +10,7 @@ ghost use Rattle.moxi_term_cases.specs.Added.{Adds};
 use crate::forms::{forms_of, optional};
 use crate::shown::put_name;
 use crate::terms::{declare_given, entry_of, given_variables};
-use case_text::{Answer, Piece, Stop, has, subject};
+use case_text::{Answer, Piece, Stop, has_piece, subject};
 use moxi_declarations::{Draft, nothing_read};
 use moxi_sexpr::Form;
 use moxi_term_reading::term_of;
@@ -162,7 +162,7 @@ fn given_value(
     requires { length variables.now ≤ 1000 }
 {
     let now = given_values(alloc, scope, variables, pieces, "now")?;
-    if has(pieces, "later") {
+    if has_piece(pieces, "later") {
         let later = given_values(alloc, scope, variables, pieces, "later")?;
         value_between(alloc, scope, variables, form, &now, &later)
     } else {

@@ -11,7 +11,9 @@ ghost use Rattle.moxi_term_reading.specs.Reading.{atom_reading, literal_digits, 
 use crate::heads::{literal_digits, prime};
 use crate::outcome::{ReadTerm, Setting, checked_term, failed};
 use moxi_sexpr::{Atom, Form};
-use moxi_sorts::{Bounds, index_of, minimum, only_numeral, place_in, refusal, symbol_of, unknown};
+use moxi_sorts::{
+    Bounds, index_of, minimum, only_numeral, place_in, refusal, symbol_of, unknown_refusal,
+};
 use moxi_terms::{Datum, Meaning, Primes, Sort, Term, is_left_out};
 use std::alloc::Global;
 use text_core::kinds::moxi;
@@ -36,7 +38,7 @@ fn meaning_of(setting: Setting, bounds: &Bounds, name: &[u8]) -> Option<Meaning>
         Some((i, sort)) => Some(Meaning::Bound(i, sort)),
         None => match setting.locals.find(name) {
             Some((v, sort)) => Some(Meaning::Variable(v, sort)),
-            None => setting.scope.bare(name),
+            None => setting.scope.constant_or_function(name),
         },
     }
 }
@@ -149,7 +151,7 @@ fn named_literal(
 {
     match literal_digits(name) {
         Some(digits) => literal(p, digits, primes, only_numeral(rest)),
-        None => failed(unknown(is_left_out(name), p, q)),
+        None => failed(unknown_refusal(is_left_out(name), p, q)),
     }
 }
 

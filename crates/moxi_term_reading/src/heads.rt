@@ -10,7 +10,7 @@ ghost use Rattle.moxi_term_reading.specs.Reading.{atom_head, decimal_digits, ext
 use moxi_sexpr::{Form, FormShape};
 use moxi_sorts::{
     index_of, is_primed, is_word, minimum, numeral_of, only_numeral, pair, refusal, symbol_atom,
-    symbol_of, unknown,
+    symbol_of, unknown_refusal,
 };
 use moxi_terms::{Head, Scope, TermOp, is_indexed, is_left_out, is_same};
 use text_core::kinds::moxi;
@@ -113,7 +113,7 @@ fn listed_head(p: Place, q: Place, rest: &[Form]) -> Result<Head, Refusal>
             Some((name, _)) => if is_indexed(name) {
                 indexed_head(q, name, indices)
             } else {
-                Err(unknown(is_left_out(name), p, q))
+                Err(unknown_refusal(is_left_out(name), p, q))
             },
             None => Err(refusal(moxi::UNKNOWN, q)),
         },
@@ -132,7 +132,7 @@ fn atom_head(
     match symbol {
         Some((name, _)) => match scope.head(name) {
             Some(h) => Ok(h),
-            None => Err(unknown(is_left_out(name), p, q)),
+            None => Err(unknown_refusal(is_left_out(name), p, q)),
         },
         None => Err(refusal(moxi::UNKNOWN, q)),
     }

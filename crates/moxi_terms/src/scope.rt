@@ -305,7 +305,7 @@ impl Scope {
     }
 
     /// The constant, or else the function without parameters, of this name.
-    pub fn bare(&self, name: &[u8]) -> Option<Meaning>
+    pub fn constant_or_function(&self, name: &[u8]) -> Option<Meaning>
         ensures { result ≡ or_else (value_named self.now name.now) (call_of bare_call self.now.functions (place_of (function_names self.now) name.now)) }
     {
         match self.value_named(name) {

@@ -51,7 +51,7 @@ fn meant_value(s: Sort, meaning: Option<Meaning>) -> Option<Datum>
 fn symbol_value(scope: &Scope, s: Sort, name: &[u8]) -> Option<Datum>
     ensures { result ≡ symbol_value scope.now.enumerations s name.now }
 {
-    meant_value(s, scope.bare(name))
+    meant_value(s, scope.constant_or_function(name))
 }
 
 fn bits_value(width: u32, digits: &[u8]) -> Option<Datum>

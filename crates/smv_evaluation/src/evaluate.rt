@@ -12,8 +12,8 @@ ghost use Rattle.smv_evaluation.specs.View.{denoted_or_none};
 use crate::rows::{Row, Values, value_of_path};
 use smv_instances::Table;
 use smv_operators::{
-    Plain, Seen, apply, call_one, call_two, implication, no_plain, no_seen, opposite, plain_same,
-    same, seen_of, selection, truth_of,
+    Plain, Seen, apply, are_same, are_same_plain, call_one, call_two, implication, no_plain,
+    no_seen, prefix_value, seen_of, selection, truth_of,
 };
 use smv_text::{Branch, Expr, Function, Infix, Link, Shape};
 
@@ -42,7 +42,7 @@ pub fn evaluate<'a>(
             if *count % 2 == 0 {
                 value
             } else {
-                seen_of(opposite(*sign, *count, &value))
+                seen_of(prefix_value(*sign, *count, &value))
             }
         }
         Shape::Chain(a, links) => {
@@ -351,14 +351,14 @@ pub fn permits<'a>(
             label,
             later,
         ) {
-            None => same(&no_seen(), value),
+            None => are_same(&no_seen(), value),
             Some(branch) => permits(table, i, branch, value, now, label, later),
         },
         Shape::Next(a) => permits(table, i, a, value, later, label, later),
         Shape::Chain(a, links) => {
             if is_from_right(links.as_slice()) {
                 let own = evaluate(table, i, e, now, label, later);
-                same(&own, value)
+                are_same(&own, value)
             } else {
                 let first = evaluate(table, i, a, now, label, later);
                 let has = permits(table, i, a, value, now, label, later);
@@ -377,7 +377,7 @@ pub fn permits<'a>(
         }
         _ => {
             let own = evaluate(table, i, e, now, label, later);
-            same(&own, value)
+            are_same(&own, value)
         }
     }
 }
@@ -443,7 +443,7 @@ fn last_has<'a>(
             let operand_has = permits(table, i, &link.operand, value, now, label, later);
             has = has || operand_has;
         } else {
-            has = plain_same(&next, value);
+            has = are_same_plain(&next, value);
         }
         front = Some(next);
         rest = more;

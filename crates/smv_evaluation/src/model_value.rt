@@ -18,7 +18,7 @@ use crate::reached::reach_of;
 use crate::rows::values_of;
 use smv_instances::{Instance, Table, instance_list as instances};
 use smv_meaning::{State, Value};
-use smv_operators::owned;
+use smv_operators::into_value;
 use smv_text::{Expr, Source};
 use std::alloc::Global;
 use text_core::{Name, NoMemory};
@@ -72,10 +72,10 @@ pub fn value_at<'a>(
     let label = values_of(alloc, label)?;
     let here = row_of(alloc, &table, &reach, now, &label)?;
     match following {
-        None => owned(alloc, evaluate(&table, i, expr, &here, &label, &here)),
+        None => into_value(alloc, evaluate(&table, i, expr, &here, &label, &here)),
         Some(later) => {
             let there = row_of(alloc, &table, &reach, later, &label)?;
-            owned(alloc, evaluate(&table, i, expr, &here, &label, &there))
+            into_value(alloc, evaluate(&table, i, expr, &here, &label, &there))
         }
     }
 }

@@ -35,7 +35,7 @@ fn mark<'a>(
 ) -> Result<(), NoMemory>
     ensures { OnOk result ((k : ℕ) (x : List ℕ) → is_marked marks.new k x ≡ (is_marked marks.old k x || is_body_of k x (found_in (map instance_plain table.now) i path.now))) }
 {
-    match table.found(i, path) {
+    match table.target(i, path) {
         Target::Body(k, x, _, _) => put_in(marks, k, x, true),
         Target::Variable(_, _, _, _) => Ok(()),
         Target::Within(_) => Ok(()),

@@ -13,7 +13,7 @@ ghost use Rattle.smv_evaluation.specs.View.{stated};
 use crate::dotted::Dotted;
 use smv_instances::{InstanceMap, Table, Target};
 use smv_meaning::{State, Value};
-use smv_operators::{Seen, borrowed, copied, no_seen};
+use smv_operators::{Seen, borrow_value, copy_value, no_seen};
 use smv_text::{Path, VarKind};
 use std::alloc::Global;
 use std::collections::HashMap;
@@ -44,7 +44,7 @@ fn seen_under<'a>(kept: &Kept<'a>, i: usize, x: &[u8]) -> Option<Seen<'a>>
 {
     match kept.get(&(i, x)) {
         None => None,
-        Some(value) => Some(copied(value)),
+        Some(value) => Some(copy_value(value)),
     }
 }
 
@@ -84,7 +84,7 @@ fn value_named<'a>(names: &Named<'a>, path: &[u8], name: &[u8]) -> Seen<'a>
 {
     match names.get(&Dotted { path, name }).copied() {
         None => no_seen(),
-        Some(value) => borrowed(value),
+        Some(value) => borrow_value(value),
     }
 }
 
@@ -154,7 +154,7 @@ pub fn value_of_path<'a>(
     requires { IsKept table.now i row.now label.now path.now }
     ensures { seen_value result ≡ row_reads table.now i row.now label.now path.now }
 {
-    match table.found(i, path) {
+    match table.target(i, path) {
         Target::Variable(k, x, kind, _) => value_of_kind(table, kind, k, x, row, label),
         Target::Body(k, x, _, _) => value_of_formula(row, k, x),
         Target::Within(_) => no_seen(),

@@ -21,7 +21,8 @@ use crate::kept::{
 use crate::leaves::{expect, integer, number, path, starts_range};
 use crate::stop::Stop;
 use smv_grammar::{
-    Leader, Listing, after, after_word, first_rank, is_first, leader_of, level_at, operator_after,
+    Leader, Listing, after_word, first_rank, is_first, leader_of, level_at, operator_after,
+    tokens_after,
 };
 use smv_text::{Level, OperatorClass, Prefix, Reserved, Shape, Sign, Token, TokenKind};
 use std::alloc::Global;
@@ -337,7 +338,7 @@ fn gather_choices<'a>(
     ensures shorter { IfOk result (λ r. length r.now ≤ length tokens.now) }
 {
     let mut rest = tokens;
-    while let Some(more) = after(rest, Sign::Question) {
+    while let Some(more) = tokens_after(rest, Sign::Question) {
         let next = read(alloc, below, more, value)?;
         let behind = expect(next, Sign::Colon)?;
         branches.push(taken(kept), taken(value))?;
@@ -358,7 +359,7 @@ fn selections<'a>(
     ensures shorter { IfOk result (λ r. length r.now ≤ length tokens.now) }
 {
     let mut rest = tokens;
-    while let Some(more) = after(rest, Sign::OpenBracket) {
+    while let Some(more) = tokens_after(rest, Sign::OpenBracket) {
         let (high, low, last) = ends(more)?;
         selected(alloc, place, kept, high, low)?;
         rest = last;
@@ -396,7 +397,7 @@ fn prefixed<'a>(
 {
     let mut count: u32 = 1;
     let mut rest = tokens;
-    while let Some(more) = after(rest, sign_of(prefix)) {
+    while let Some(more) = tokens_after(rest, sign_of(prefix)) {
         count += 1;
         rest = more;
     }
@@ -549,7 +550,7 @@ fn gather_members<'a>(
     loop {
         let more = read(alloc, 16, rest, kept)?;
         members.push(taken(kept))?;
-        match after(more, Sign::Comma) {
+        match tokens_after(more, Sign::Comma) {
             Some(next) => rest = next,
             None => return expect(more, closing_of(what)),
         }

@@ -6,7 +6,7 @@ ghost use Rattle.smv_expressions.specs.Following.{Finds, IsLost, Passes};
 ghost use Rattle.smv_expressions.specs.declared.stop.Stop.TheVariants.{NoMemory};
 
 use crate::stop::Stop;
-use smv_grammar::{after, is_sign};
+use smv_grammar::{is_sign, tokens_after};
 use smv_text::{Path, Reserved, Sign, Token, TokenKind};
 use std::alloc::Global;
 use text_core::{Name, Names};
@@ -16,7 +16,7 @@ pub fn expect(tokens: &[Token], sign: Sign) -> Result<&[Token], Stop>
     ensures passes { Passes (λ r. r.now) result sign tokens.now }
     ensures shorter { IfOk result (λ r. length tokens.now ≡ suc (length r.now)) }
 {
-    match after(tokens, sign) {
+    match tokens_after(tokens, sign) {
         Some(rest) => Ok(rest),
         None => Err(Stop::Dead(tokens.len())),
     }
@@ -53,7 +53,7 @@ pub fn integer(tokens: &[Token]) -> Result<(i64, &[Token]), Stop>
     ensures found { Finds (λ x. (x.0, x.1.now)) (first_integer tokens.now) result }
     ensures shorter { IfOk result (λ x. length x.1.now < length tokens.now) }
 {
-    match after(tokens, Sign::Minus) {
+    match tokens_after(tokens, Sign::Minus) {
         Some(more) => {
             let (n, rest) = number(more)?;
             Ok((-signed(n)?, rest))
@@ -110,7 +110,7 @@ pub fn path(alloc: Global, tokens: &[Token]) -> Result<(Path, &[Token]), Stop>
     ensures shorter { IfOk result (λ x. length x.1.now < length tokens.now) }
 {
     let (mut path, mut rest) = path_head(alloc, tokens)?;
-    while let Some(more) = after(rest, Sign::Dot) {
+    while let Some(more) = tokens_after(rest, Sign::Dot) {
         let (name, last) = name(alloc, more)?;
         path.names.push(name)?;
         rest = last;

@@ -23,7 +23,7 @@ use crate::nodes::{
 use smv_intervals::Ty;
 use smv_items::Leaf;
 use smv_text::{Branch, Expr, Link, Shape};
-use smv_types::chains::{across, behind};
+use smv_types::chains::{first_standing, operand_standing};
 use smv_types::lists::BranchTypes;
 use smv_types::{Named, Standing};
 use std::alloc::Global;
@@ -130,12 +130,12 @@ pub(crate) fn flat<'s, 'a, 'n, N: Naming>(
             Ok(name_node(place, at, context.naming.named(i, path), leaf, under))
         }
         Shape::Prefix(sign, count, operand) => {
-            let x = flat(alloc, context, i, operand, at.single(), under)?;
+            let x = flat(alloc, context, i, operand, at.without_sets(), under)?;
             prefixed(alloc, place, *sign, *count, x)
         }
         Shape::Chain(first, links) => {
             let links = links.as_slice();
-            let at = across(links, at);
+            let at = first_standing(links, at);
             let x = flat(alloc, context, i, first, at, under)?;
             let operands = flat_links(alloc, context, i, links, at, under)?;
             chained(alloc, place, at, x, links, operands)
@@ -150,12 +150,12 @@ pub(crate) fn flat<'s, 'a, 'n, N: Naming>(
             cased(alloc, place, cases)
         }
         Shape::Select(operand, high, low) => {
-            let x = flat(alloc, context, i, operand, at.single(), under)?;
+            let x = flat(alloc, context, i, operand, at.without_sets(), under)?;
             selected(alloc, place, x, *high, *low)
         }
         Shape::Call(function, arguments) => {
             let arguments = arguments.as_slice();
-            let parts = flat_parts(alloc, context, i, arguments, at.single(), under)?;
+            let parts = flat_parts(alloc, context, i, arguments, at.without_sets(), under)?;
             called(alloc, place, *function, arguments, parts)
         }
         Shape::Next(operand) => {
@@ -186,7 +186,14 @@ fn flat_links<'s, 'a, 'n, N: Naming>(
         types: Vec::new(alloc),
     };
     for link in links {
-        let x = flat(alloc, context, i, &link.operand, behind(link.op, at), under)?;
+        let x = flat(
+            alloc,
+            context,
+            i,
+            &link.operand,
+            operand_standing(link.op, at),
+            under,
+        )?;
         add_link(&mut operands, link.op, x)?;
     }
     Ok(operands)
@@ -212,7 +219,7 @@ fn flat_branches<'s, 'a, 'n, N: Naming>(
         has_set: false,
     };
     for branch in branches {
-        let when = flat(alloc, context, i, &branch.when, at.single(), under)?;
+        let when = flat(alloc, context, i, &branch.when, at.without_sets(), under)?;
         let value = flat(alloc, context, i, &branch.value, at, under)?;
         add_branch(&mut cases, when, value)?;
     }

@@ -12,10 +12,10 @@ ghost use Rattle.smv_flat.specs.FlatView.{fronts_type};
 
 use smv_intervals::Ty;
 use smv_text::{Expr, Function, Infix, Link, Prefix};
-use smv_types::calls::called;
-use smv_types::chains::front;
-use smv_types::lists::{BranchTypes, branched, gathered, implied};
-use smv_types::nodes::{following, name, number, range, selected, signed};
+use smv_types::calls::check_call;
+use smv_types::chains::check_front;
+use smv_types::lists::{BranchTypes, check_branches, check_implication, check_set};
+use smv_types::nodes::{check_next, check_range, check_selection, check_sign, name, number};
 use smv_types::{CheckEnd, Named, Standing};
 use std::alloc::Global;
 use text_core::{NoMemory, Place, Refusal};
@@ -57,25 +57,25 @@ pub(crate) fn name_type(place: Place, at: Standing, named: Named) -> Option<Ty>
 pub(crate) fn prefix_type(place: Place, sign: Prefix, count: u32, operand: Option<Ty>) -> Option<Ty>
     ensures { option_map seen result ≡ (prefix_step place sign count (option_map seen operand)).type }
 {
-    settled(signed(place, sign, count, operand))
+    settled(check_sign(place, sign, count, operand))
 }
 
 pub(crate) fn select_type(place: Place, operand: Option<Ty>, high: u64, low: u64) -> Option<Ty>
     ensures { option_map seen result ≡ (select_step place high low (option_map seen operand)).type }
 {
-    settled(selected(place, operand, high, low))
+    settled(check_selection(place, operand, high, low))
 }
 
 pub(crate) fn next_type(place: Place, at: Standing, operand: Option<Ty>) -> Option<Ty>
     ensures { option_map seen result ≡ (next_step place (standing_seen at) (option_map seen operand)).type }
 {
-    settled(following(place, at, operand))
+    settled(check_next(place, at, operand))
 }
 
 pub(crate) fn range_type(place: Place, at: Standing, low: i64, high: i64) -> Option<Ty>
     ensures { option_map seen result ≡ (range_step place (standing_seen at) low high).type }
 {
-    settled(range(place, at, low, high))
+    settled(check_range(place, at, low, high))
 }
 
 fn front_type(
@@ -88,7 +88,7 @@ fn front_type(
 ) -> Option<Ty>
     ensures { option_map seen result ≡ (front_step op (standing_seen at) place (option_map seen left) (option_map seen right) (plain operand.now)).type }
 {
-    settled(front(op, at, place, left, right, operand))
+    settled(check_front(op, at, place, left, right, operand))
 }
 
 // The type of a chain that is read from the left, front by front.
@@ -126,7 +126,7 @@ pub(crate) fn implies_type(
     for t in types {
         put(&mut all, *t)?;
     }
-    ended(implied(alloc, place, &all))
+    ended(check_implication(alloc, place, &all))
 }
 
 fn put(types: &mut Vec<Option<Ty>>, ty: Option<Ty>) -> Result<(), NoMemory>
@@ -142,7 +142,7 @@ pub(crate) fn branches_type(
 ) -> Result<Option<Ty>, NoMemory>
     ensures { IfOk result (λ o. option_map seen o ≡ (branches_step place (all_types (map (option_map seen) types.now.conditions.items)) (all_types (map (option_map seen) types.now.values.items))).type) }
 {
-    ended(branched(alloc, place, types))
+    ended(check_branches(alloc, place, types))
 }
 
 pub(crate) fn call_type(
@@ -154,7 +154,7 @@ pub(crate) fn call_type(
 ) -> Result<Option<Ty>, NoMemory>
     ensures { IfOk result (λ o. option_map seen o ≡ (call_step place function (all_types (map (option_map seen) types.now)) (numbers_of (trees_of (map plain arguments.now)))).type) }
 {
-    ended(called(alloc, place, function, types, arguments))
+    ended(check_call(alloc, place, function, types, arguments))
 }
 
 pub(crate) fn set_type(
@@ -165,5 +165,5 @@ pub(crate) fn set_type(
 ) -> Result<Option<Ty>, NoMemory>
     ensures { IfOk result (λ o. option_map seen o ≡ (set_step place (standing_seen at) (all_types (map (option_map seen) types.now))).type) }
 {
-    ended(gathered(alloc, place, at, types))
+    ended(check_set(alloc, place, at, types))
 }

@@ -14,8 +14,8 @@ ghost use Rattle.smv_flat_evaluation.specs.FlatSafety.{RowSafe, RowSafeLinks, Ro
 
 use smv_flat::{FlatBranch, FlatExpr, FlatLink, FlatShape};
 use smv_operators::{
-    Plain, Seen, apply, call_one, call_two, copied, implication, no_plain, no_seen, opposite,
-    plain_same, same, seen_of, selection, truth_of,
+    Plain, Seen, apply, are_same, are_same_plain, call_one, call_two, copy_value, implication,
+    no_plain, no_seen, prefix_value, seen_of, selection, truth_of,
 };
 use smv_text::{Function, Infix};
 use text_core::Names;
@@ -27,7 +27,7 @@ pub fn item_at<'a>(row: &[Seen<'a>], k: usize) -> Seen<'a>
 {
     match row.get(k) {
         None => no_seen(),
-        Some(value) => copied(value),
+        Some(value) => copy_value(value),
     }
 }
 
@@ -120,7 +120,7 @@ pub fn evaluate<'a>(
             if *count % 2 == 0 {
                 value
             } else {
-                seen_of(opposite(*sign, *count, &value))
+                seen_of(prefix_value(*sign, *count, &value))
             }
         }
         FlatShape::Chain(a, links) => {
@@ -176,7 +176,7 @@ fn rest_implied<'a>(
     ensures { seen_value result ≡ row_implications symbols.now now.now later.now (seen_value first.now) (flat_links_of (map plain_flat_link links.now)) }
 {
     match links.split_first() {
-        None => copied(first),
+        None => copy_value(first),
         Some((link, more)) => {
             let operand = evaluate(symbols, &link.operand, now, later);
             let rest = rest_implied(symbols, &operand, more, now, later);
@@ -197,7 +197,7 @@ fn last_front<'a>(
     requires safe { RowSafeLinks symbols.now now.now later.now (seen_value first.now) (flat_links_of (map plain_flat_link links.now)) }
     ensures { seen_value result ≡ row_fronts_value symbols.now now.now later.now (seen_value first.now) (flat_links_of (map plain_flat_link links.now)) }
 {
-    let mut front = copied(first);
+    let mut front = copy_value(first);
     let mut rest = links;
     while let Some((link, more)) = rest.split_first() {
         front = seen_of(next_front(symbols, link.op, &front, &link.operand, now, later));
@@ -339,7 +339,7 @@ pub fn permits<'a>(
         FlatShape::Chain(a, links) => {
             if is_from_right(links.as_slice()) {
                 let own = evaluate(symbols, e, now, later);
-                same(&own, value)
+                are_same(&own, value)
             } else {
                 let first = evaluate(symbols, a, now, later);
                 let has = permits(symbols, a, value, now, later);
@@ -348,7 +348,7 @@ pub fn permits<'a>(
         }
         _ => {
             let own = evaluate(symbols, e, now, later);
-            same(&own, value)
+            are_same(&own, value)
         }
     }
 }
@@ -413,7 +413,7 @@ fn taken_permits<'a>(
     ensures { result ≡ (row_taken symbols.now now.now later.now (flat_branches_of (map plain_flat_branch branches.now))).permits (seen_value value.now) }
 {
     match branches.split_last() {
-        None => same(&no_seen(), value),
+        None => are_same(&no_seen(), value),
         Some((last, firsts)) => chosen_permits(symbols, firsts, &last.value, value, now, later),
     }
 }
@@ -432,7 +432,7 @@ fn last_permits<'a>(
     requires safe { RowSafeLinks symbols.now now.now later.now (seen_value first.now) (flat_links_of (map plain_flat_link links.now)) }
     ensures { result ≡ row_fronts_permit symbols.now now.now later.now (seen_value value.now) (seen_value first.now) first_has (flat_links_of (map plain_flat_link links.now)) }
 {
-    let mut front = copied(first);
+    let mut front = copy_value(first);
     let mut has = first_has;
     let mut rest = links;
     while let Some((link, more)) = rest.split_first() {
@@ -441,7 +441,7 @@ fn last_permits<'a>(
             let operand_has = permits(symbols, &link.operand, value, now, later);
             has = has || operand_has;
         } else {
-            has = plain_same(&next, value);
+            has = are_same_plain(&next, value);
         }
         front = seen_of(next);
         rest = more;

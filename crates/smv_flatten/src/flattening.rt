@@ -18,7 +18,7 @@ use crate::counts::{invariant_count, weight_in};
 use crate::ends::FlatEnd;
 use crate::form::Flat;
 use crate::item_list::flat_items;
-use crate::joining::accepted;
+use crate::joining::check_model;
 use crate::sequences::{FlatFormulas, FlatItems};
 use crate::type_names::TypeNames;
 use smv_flat::{FlatFormula, formulas_in};
@@ -146,6 +146,6 @@ pub fn flatten(alloc: Global, source: &Source, needed: u32) -> Result<Flat, Flat
     ensures weight { IfOk result (λ f. f.weight ≡ weight_of (plain_source source.now)) }
     ensures invariants { IfOk result (λ f. f.invariants ≡ length (invariants_in (instances_of (plain_source source.now)))) }
 {
-    let kept = accepted(alloc, source, needed)?;
+    let kept = check_model(alloc, source, needed)?;
     Ok(flattened(alloc, &kept.table, &kept.types)?)
 }

@@ -109,7 +109,7 @@ fn joined<'a>(alloc: Global, source: &'a Source, needed: u32) -> Result<Accepted
 
 /// Checks a model of which the invariant with this number is wanted: the refusal is that of the first check that fails, in
 /// the order of the phases.
-pub fn accepted<'a>(
+pub fn check_model<'a>(
     alloc: Global,
     source: &'a Source,
     needed: u32,

@@ -16,7 +16,7 @@ mod type_names;
 pub use ends::FlatEnd;
 pub use flattening::flatten;
 pub use form::Flat;
-pub use joining::accepted;
+pub use joining::check_model;
 pub use kept::Accepted;
 pub use sequences::{FlatFormulas, FlatItems};
 pub use smv_flat::{

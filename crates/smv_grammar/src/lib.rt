@@ -9,4 +9,4 @@ mod marks;
 pub use laws::{machine_is_exact, one_tree};
 pub use levels::{Leader, first_rank, leader_of, level_at, operator_after};
 pub use listing::Listing;
-pub use marks::{after, after_word, is_first, is_sign};
+pub use marks::{after_word, is_first, is_sign, tokens_after};

@@ -47,7 +47,7 @@ fn is_word(kind: &TokenKind, word: Reserved) -> bool
 }
 
 /// The tokens after this sign, where it comes first.
-pub fn after(tokens: &[Token], sign: Sign) -> Option<&[Token]>
+pub fn tokens_after(tokens: &[Token], sign: Sign) -> Option<&[Token]>
     ensures found { option_map (λ r. r.now) result ≡ after sign tokens.now }
     ensures shorter { IfSome result (λ r. length tokens.now ≡ suc (length r.now)) }
 {

@@ -116,7 +116,7 @@ impl<'a> Table<'a> {
     }
 
     /// What a path leads to in the numbered instance.
-    pub fn found(&self, i: usize, path: &'a Path) -> Target<'a>
+    pub fn target(&self, i: usize, path: &'a Path) -> Target<'a>
         ensures { found_plain (map instance_plain self.now) result ≡ found_in (map instance_plain self.now) i path.now }
     {
         match path_walk(&self.parts, &self.leads, i, path) {
@@ -126,7 +126,7 @@ impl<'a> Table<'a> {
     }
 
     /// What a name, and no symbol, leads to in the numbered instance.
-    pub fn found_name(&self, i: usize, x: &'a [u8]) -> Target<'a>
+    pub fn target_of_name(&self, i: usize, x: &'a [u8]) -> Target<'a>
         ensures { found_plain (map instance_plain self.now) result ≡ look (map instance_plain self.now) (steps_of (map instance_plain self.now)) i x.now }
     {
         match lead_at(&self.parts, &self.leads, i, x) {

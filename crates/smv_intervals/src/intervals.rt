@@ -15,7 +15,7 @@ const LEAST: i64 = -4_611_686_018_427_387_904;
 const GREATEST: i64 = 4_611_686_018_427_387_903;
 
 /// The interval of these ends, where it is within the limit.
-pub fn limited(low: i64, high: i64) -> Option<Ty>
+pub fn interval_within_limit(low: i64, high: i64) -> Option<Ty>
     ensures { Kept result (integer_type low high) }
 {
     if LEAST <= low && high <= GREATEST {
@@ -26,7 +26,7 @@ pub fn limited(low: i64, high: i64) -> Option<Ty>
 }
 
 /// The interval of these ends, which are in order, where it is within the limit.
-pub fn within(low: i128, high: i128) -> Option<Ty>
+pub fn ordered_interval(low: i128, high: i128) -> Option<Ty>
     requires { low ≤ℤ high }
     ensures { Kept result (integer_type low high) }
 {
@@ -41,7 +41,7 @@ pub fn within(low: i128, high: i128) -> Option<Ty>
 fn over_two(a: i128, b: i128) -> Option<Ty>
     ensures { Kept result (integer_type (int_min a b) (int_max a b)) }
 {
-    within(a.min(b), a.max(b))
+    ordered_interval(a.min(b), a.max(b))
 }
 
 fn least(a: i128, b: i128, c: i128, d: i128) -> i128
@@ -64,15 +64,15 @@ fn greatest(a: i128, b: i128, c: i128, d: i128) -> i128
 fn over_four(a: i128, b: i128, c: i128, d: i128) -> Option<Ty>
     ensures { Kept result (integer_type (int_min (int_min a b) (int_min c d)) (int_max (int_max a b) (int_max c d))) }
 {
-    within(least(a, b, c, d), greatest(a, b, c, d))
+    ordered_interval(least(a, b, c, d), greatest(a, b, c, d))
 }
 
 /// The type, where its interval is within the limit.
-pub fn kept(t: Ty) -> Option<Ty>
+pub fn type_within_limit(t: Ty) -> Option<Ty>
     ensures { Kept result (seen t) }
 {
     match t {
-        Ty::Integer(low, high) => limited(low, high),
+        Ty::Integer(low, high) => interval_within_limit(low, high),
         Ty::Truth | Ty::Symbol | Ty::Bits(_) => Some(t),
     }
 }
@@ -144,7 +144,7 @@ pub fn sum_type(t: Ty, u: Ty) -> Option<Ty>
                 sum(high, less),
                 sum(high, more),
             ),
-            Ty::Truth | Ty::Symbol | Ty::Bits(_) => limited(low, high),
+            Ty::Truth | Ty::Symbol | Ty::Bits(_) => interval_within_limit(low, high),
         },
         Ty::Truth | Ty::Symbol | Ty::Bits(_) => Some(t),
     }
@@ -162,7 +162,7 @@ pub fn difference_type(t: Ty, u: Ty) -> Option<Ty>
                 difference(high, less),
                 difference(high, more),
             ),
-            Ty::Truth | Ty::Symbol | Ty::Bits(_) => limited(low, high),
+            Ty::Truth | Ty::Symbol | Ty::Bits(_) => interval_within_limit(low, high),
         },
         Ty::Truth | Ty::Symbol | Ty::Bits(_) => Some(t),
     }
@@ -180,7 +180,7 @@ pub fn product_type(t: Ty, u: Ty) -> Option<Ty>
                 product(high, less),
                 product(high, more),
             ),
-            Ty::Truth | Ty::Symbol | Ty::Bits(_) => limited(low, high),
+            Ty::Truth | Ty::Symbol | Ty::Bits(_) => interval_within_limit(low, high),
         },
         Ty::Truth | Ty::Symbol | Ty::Bits(_) => Some(t),
     }
@@ -198,7 +198,7 @@ pub fn max_type(t: Ty, u: Ty) -> Option<Ty>
                 larger(high, less),
                 larger(high, more),
             ),
-            Ty::Truth | Ty::Symbol | Ty::Bits(_) => limited(low, high),
+            Ty::Truth | Ty::Symbol | Ty::Bits(_) => interval_within_limit(low, high),
         },
         Ty::Truth | Ty::Symbol | Ty::Bits(_) => Some(t),
     }
@@ -216,7 +216,7 @@ pub fn min_type(t: Ty, u: Ty) -> Option<Ty>
                 smaller(high, less),
                 smaller(high, more),
             ),
-            Ty::Truth | Ty::Symbol | Ty::Bits(_) => limited(low, high),
+            Ty::Truth | Ty::Symbol | Ty::Bits(_) => interval_within_limit(low, high),
         },
         Ty::Truth | Ty::Symbol | Ty::Bits(_) => Some(t),
     }
@@ -239,7 +239,7 @@ pub fn abs_type(t: Ty) -> Option<Ty>
     match t {
         Ty::Integer(low, high) => {
             if low < 0 && 0 < high {
-                within(0, magnitude(low).max(magnitude(high)))
+                ordered_interval(0, magnitude(low).max(magnitude(high)))
             } else {
                 over_two(magnitude(low), magnitude(high))
             }
@@ -260,7 +260,7 @@ pub fn quotient_type(t: Ty, divisor: Option<i128>) -> Option<Ty>
     ensures { Kept result (quotient_type (seen t) divisor) }
 {
     match divisor {
-        None => kept(t),
+        None => type_within_limit(t),
         Some(b) => match t {
             Ty::Integer(low, high) => over_two(quotient(low, b), quotient(high, b)),
             Ty::Truth | Ty::Symbol | Ty::Bits(_) => Some(t),
@@ -299,11 +299,11 @@ pub fn rest_type(t: Ty, divisor: Option<i128>) -> Option<Ty>
     ensures { Kept result (rest_type (seen t) divisor) }
 {
     match divisor {
-        None => kept(t),
+        None => type_within_limit(t),
         Some(b) => match t {
             Ty::Integer(low, high) => {
                 let size = b.unsigned_abs();
-                limited(lowest_rest(low, size), highest_rest(high, size))
+                interval_within_limit(lowest_rest(low, size), highest_rest(high, size))
             }
             Ty::Truth | Ty::Symbol | Ty::Bits(_) => Some(t),
         },

@@ -5,7 +5,7 @@ mod intervals;
 mod types;
 
 pub use intervals::{
-    abs_type, difference_type, hull, kept, limited, max_type, min_type, negation_type,
-    product_type, quotient_type, rest_type, sum_type, within,
+    abs_type, difference_type, hull, interval_within_limit, max_type, min_type, negation_type,
+    ordered_interval, product_type, quotient_type, rest_type, sum_type, type_within_limit,
 };
 pub use types::Ty;

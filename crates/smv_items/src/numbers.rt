@@ -246,7 +246,7 @@ pub fn leaf_at<'a, 'n>(
     requires symbols { symbols.now ≡ symbols_of (map instance_plain table.now) }
     ensures { IfOk result (λ l. leaf_plain l ≡ leaf_in (map instance_plain table.now) i path.now) }
 {
-    match table.found(i, path) {
+    match table.target(i, path) {
         Target::Variable(j, x, kind, _) => {
             let path = dotted_path(alloc, table, j, x)?;
             item(variable_in(numbers, kind, path.bytes()))

@@ -11,7 +11,7 @@ ghost use Rattle.smv_types.specs.View.{named_seen};
 ghost use Rattle.smv_names.specs.Outcome.{Settles};
 ghost use Rattle.smv_model_types.specs.Outcome.{IsDeclared};
 
-use smv_intervals::{Ty, hull, kept};
+use smv_intervals::{Ty, hull, type_within_limit};
 use smv_names::NamesEnd;
 use smv_text::{Domain, Member, Members, VarKind};
 use smv_types::Named;
@@ -70,12 +70,12 @@ fn declared(domain: &Domain) -> Result<Option<Ty>, Kind>
             if !are_same(members) {
                 return Err(smv::TYPE_CLASH);
             }
-            match kept(hull_of(members)) {
+            match type_within_limit(hull_of(members)) {
                 Some(t) => Ok(Some(t)),
                 None => Err(smv::INT_TOO_WIDE),
             }
         }
-        Domain::Between(low, high) => match kept(Ty::Integer(*low, *high)) {
+        Domain::Between(low, high) => match type_within_limit(Ty::Integer(*low, *high)) {
             Some(t) => if *low <= *high {
                 Ok(Some(t))
             } else {

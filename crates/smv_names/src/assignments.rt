@@ -108,7 +108,7 @@ fn add_assignments<'a>(
         let target = &assignment.target;
         list.push(Assignment {
             when: assignment.when,
-            target: table.found(i, target),
+            target: table.target(i, target),
             place: target.place,
         })?;
     }

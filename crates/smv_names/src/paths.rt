@@ -21,7 +21,7 @@ use text_core::{NoMemory, Refusal};
 fn leads_somewhere<'a>(table: &Table<'a>, i: usize, path: &'a Path) -> bool
     ensures { result ≡ is_something (found_in (map instance_plain table.now) i path.now) }
 {
-    match table.found(i, path) {
+    match table.target(i, path) {
         Target::Variable(_, _, _, _) => true,
         Target::Body(_, _, _, _) => true,
         Target::Within(_) => true,

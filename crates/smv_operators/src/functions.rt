@@ -6,7 +6,7 @@ ghost use Rattle.smv_meaning.specs.Operators.{called, resized, is_width};
 ghost use Rattle.smv_meaning.specs.Safety.{Fits};
 ghost use Rattle.smv_operators.specs.View.{seen_value, plain_value};
 
-use crate::operators::{Pair, Plain, no_plain, paired};
+use crate::operators::{Pair, Plain, no_plain, pair_of};
 use crate::seen::{Seen, truth_of};
 use smv_text::Function;
 use word_core::{WIDEST, Word, slice, uext};
@@ -85,13 +85,13 @@ pub fn call_two(f: Function, a: &Seen, b: &Seen) -> Plain
             let second = truth_of(b);
             Plain::Integer(first as i64 + second as i64)
         }
-        Function::Max => match paired(a, b) {
+        Function::Max => match pair_of(a, b) {
             Pair::Truths(_, _) => no_plain(),
             Pair::Integers(x, y) => Plain::Integer(x.max(y)),
             Pair::Words(_, _) => no_plain(),
             Pair::Mixed => no_plain(),
         },
-        Function::Min => match paired(a, b) {
+        Function::Min => match pair_of(a, b) {
             Pair::Truths(_, _) => no_plain(),
             Pair::Integers(x, y) => Plain::Integer(x.min(y)),
             Pair::Words(_, _) => no_plain(),
@@ -105,7 +105,7 @@ pub fn call_two(f: Function, a: &Seen, b: &Seen) -> Plain
 fn constant(a: &Seen, b: &Seen) -> Plain
     ensures { plain_value result ≡ called OfFunction.Uwconst (seen_value a.now ∷ seen_value b.now ∷ []) }
 {
-    match paired(a, b) {
+    match pair_of(a, b) {
         Pair::Truths(_, _) => no_plain(),
         Pair::Integers(v, n) => word_of_number(v, n),
         Pair::Words(_, _) => no_plain(),

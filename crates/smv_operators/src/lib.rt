@@ -7,7 +7,7 @@ mod seen;
 
 pub use functions::{call_one, call_two};
 pub use operators::{
-    Pair, Plain, apply, implication, minus_of, negated, no_plain, opposite, paired, plain_same,
-    seen_of, selection,
+    Pair, Plain, apply, are_same_plain, implication, minus_of, negate, no_plain, pair_of,
+    prefix_value, seen_of, selection,
 };
-pub use seen::{Seen, borrowed, copied, no_seen, owned, same, truth_of};
+pub use seen::{Seen, are_same, borrow_value, copy_value, into_value, no_seen, truth_of};

@@ -8,7 +8,7 @@ ghost use Rattle.smv_meaning.specs.Operators.{word, operands_of, words_by, words
 ghost use Rattle.smv_meaning.specs.Safety.{Fits};
 ghost use Rattle.smv_operators.specs.View.{seen_value, plain_value, pair_operands};
 
-use crate::seen::{Seen, same};
+use crate::seen::{Seen, are_same};
 use smv_text::{Infix, Prefix};
 use word_core::{Binary, Unary, WIDEST, Word, binary, slice, uext, unary};
 
@@ -41,13 +41,13 @@ pub fn seen_of<'a>(value: Plain) -> Seen<'a>
 }
 
 /// Are two values one?
-pub fn plain_same(a: &Plain, b: &Seen) -> bool
+pub fn are_same_plain(a: &Plain, b: &Seen) -> bool
     ensures { result ≡ value_same (plain_value a.now) (seen_value b.now) }
 {
     match a {
-        Plain::Truth(x) => same(&Seen::Truth(*x), b),
-        Plain::Integer(z) => same(&Seen::Integer(*z), b),
-        Plain::Bits(w) => same(&Seen::Bits(*w), b),
+        Plain::Truth(x) => are_same(&Seen::Truth(*x), b),
+        Plain::Integer(z) => are_same(&Seen::Integer(*z), b),
+        Plain::Bits(w) => are_same(&Seen::Bits(*w), b),
     }
 }
 
@@ -59,7 +59,7 @@ pub fn no_plain() -> Plain
 }
 
 /// The operands, where they are of one kind.
-pub fn paired(a: &Seen, b: &Seen) -> Pair
+pub fn pair_of(a: &Seen, b: &Seen) -> Pair
     ensures { pair_operands result ≡ operands_of (seen_value a.now) (seen_value b.now) }
 {
     match a {
@@ -104,7 +104,7 @@ fn compare_words(op: Binary, v: Word, w: Word) -> Plain
 }
 
 /// `!`
-pub fn negated(value: &Seen) -> Plain
+pub fn negate(value: &Seen) -> Plain
     ensures { plain_value result ≡ negation (seen_value value.now) }
 {
     match value {
@@ -129,13 +129,13 @@ pub fn minus_of(value: &Seen) -> Plain
 }
 
 /// A sign that stands an odd number of times.
-pub fn opposite(sign: Prefix, count: u32, value: &Seen) -> Plain
+pub fn prefix_value(sign: Prefix, count: u32, value: &Seen) -> Plain
     requires odd { count % 2 ≡ 1 }
     requires fits { Fits (signed sign count (seen_value value.now)) }
     ensures { plain_value result ≡ signed sign count (seen_value value.now) }
 {
     match sign {
-        Prefix::Not => negated(value),
+        Prefix::Not => negate(value),
         Prefix::Minus => minus_of(value),
     }
 }
@@ -144,13 +144,13 @@ pub fn opposite(sign: Prefix, count: u32, value: &Seen) -> Plain
 pub fn implication(a: &Seen, b: &Seen) -> Plain
     ensures { plain_value result ≡ implied (seen_value a.now) (seen_value b.now) }
 {
-    disjunction(&seen_of(negated(a)), b)
+    disjunction(&seen_of(negate(a)), b)
 }
 
 fn disjunction(a: &Seen, b: &Seen) -> Plain
     ensures { plain_value result ≡ logical (λ p q. p || q) OnWords.Or (seen_value a.now) (seen_value b.now) }
 {
-    match paired(a, b) {
+    match pair_of(a, b) {
         Pair::Truths(p, q) => Plain::Truth(p || q),
         Pair::Integers(_, _) => no_plain(),
         Pair::Words(v, w) => on_words(Binary::Or, v, w),
@@ -161,7 +161,7 @@ fn disjunction(a: &Seen, b: &Seen) -> Plain
 fn conjunction(a: &Seen, b: &Seen) -> Plain
     ensures { plain_value result ≡ logical (λ p q. p && q) OnWords.And (seen_value a.now) (seen_value b.now) }
 {
-    match paired(a, b) {
+    match pair_of(a, b) {
         Pair::Truths(p, q) => Plain::Truth(p && q),
         Pair::Integers(_, _) => no_plain(),
         Pair::Words(v, w) => on_words(Binary::And, v, w),
@@ -172,7 +172,7 @@ fn conjunction(a: &Seen, b: &Seen) -> Plain
 fn difference(a: &Seen, b: &Seen) -> Plain
     ensures { plain_value result ≡ logical (λ p q. not (bool_eq p q)) OnWords.Xor (seen_value a.now) (seen_value b.now) }
 {
-    match paired(a, b) {
+    match pair_of(a, b) {
         Pair::Truths(p, q) => Plain::Truth(p != q),
         Pair::Integers(_, _) => no_plain(),
         Pair::Words(v, w) => on_words(Binary::Xor, v, w),
@@ -183,7 +183,7 @@ fn difference(a: &Seen, b: &Seen) -> Plain
 fn equivalence(a: &Seen, b: &Seen) -> Plain
     ensures { plain_value result ≡ logical bool_eq OnWords.Xnor (seen_value a.now) (seen_value b.now) }
 {
-    match paired(a, b) {
+    match pair_of(a, b) {
         Pair::Truths(p, q) => Plain::Truth(p == q),
         Pair::Integers(_, _) => no_plain(),
         Pair::Words(v, w) => on_words(Binary::Xnor, v, w),
@@ -194,7 +194,7 @@ fn equivalence(a: &Seen, b: &Seen) -> Plain
 fn less(a: &Seen, b: &Seen) -> Plain
     ensures { plain_value result ≡ compared int_lt OnWords.Ult (seen_value a.now) (seen_value b.now) }
 {
-    match paired(a, b) {
+    match pair_of(a, b) {
         Pair::Truths(_, _) => no_plain(),
         Pair::Integers(x, y) => Plain::Truth(x < y),
         Pair::Words(v, w) => compare_words(Binary::Ult, v, w),
@@ -205,7 +205,7 @@ fn less(a: &Seen, b: &Seen) -> Plain
 fn greater(a: &Seen, b: &Seen) -> Plain
     ensures { plain_value result ≡ compared (λ x y. int_lt y x) OnWords.Ugt (seen_value a.now) (seen_value b.now) }
 {
-    match paired(a, b) {
+    match pair_of(a, b) {
         Pair::Truths(_, _) => no_plain(),
         Pair::Integers(x, y) => Plain::Truth(x > y),
         Pair::Words(v, w) => compare_words(Binary::Ugt, v, w),
@@ -216,7 +216,7 @@ fn greater(a: &Seen, b: &Seen) -> Plain
 fn at_most(a: &Seen, b: &Seen) -> Plain
     ensures { plain_value result ≡ compared int_le OnWords.Ulte (seen_value a.now) (seen_value b.now) }
 {
-    match paired(a, b) {
+    match pair_of(a, b) {
         Pair::Truths(_, _) => no_plain(),
         Pair::Integers(x, y) => Plain::Truth(x <= y),
         Pair::Words(v, w) => compare_words(Binary::Ulte, v, w),
@@ -227,7 +227,7 @@ fn at_most(a: &Seen, b: &Seen) -> Plain
 fn at_least(a: &Seen, b: &Seen) -> Plain
     ensures { plain_value result ≡ compared (λ x y. int_le y x) OnWords.Ugte (seen_value a.now) (seen_value b.now) }
 {
-    match paired(a, b) {
+    match pair_of(a, b) {
         Pair::Truths(_, _) => no_plain(),
         Pair::Integers(x, y) => Plain::Truth(x >= y),
         Pair::Words(v, w) => compare_words(Binary::Ugte, v, w),
@@ -239,7 +239,7 @@ fn sum(a: &Seen, b: &Seen) -> Plain
     requires { Fits (calculated (λ x y. x +ℤ y) OnWords.Add (seen_value a.now) (seen_value b.now)) }
     ensures { plain_value result ≡ calculated (λ x y. x +ℤ y) OnWords.Add (seen_value a.now) (seen_value b.now) }
 {
-    match paired(a, b) {
+    match pair_of(a, b) {
         Pair::Truths(_, _) => no_plain(),
         Pair::Integers(x, y) => Plain::Integer(x + y),
         Pair::Words(v, w) => on_words(Binary::Add, v, w),
@@ -251,7 +251,7 @@ fn subtraction(a: &Seen, b: &Seen) -> Plain
     requires { Fits (calculated (λ x y. x -ℤ y) OnWords.Sub (seen_value a.now) (seen_value b.now)) }
     ensures { plain_value result ≡ calculated (λ x y. x -ℤ y) OnWords.Sub (seen_value a.now) (seen_value b.now) }
 {
-    match paired(a, b) {
+    match pair_of(a, b) {
         Pair::Truths(_, _) => no_plain(),
         Pair::Integers(x, y) => Plain::Integer(x - y),
         Pair::Words(v, w) => on_words(Binary::Sub, v, w),
@@ -263,7 +263,7 @@ fn product(a: &Seen, b: &Seen) -> Plain
     requires { Fits (calculated (λ x y. x *ℤ y) OnWords.Mul (seen_value a.now) (seen_value b.now)) }
     ensures { plain_value result ≡ calculated (λ x y. x *ℤ y) OnWords.Mul (seen_value a.now) (seen_value b.now) }
 {
-    match paired(a, b) {
+    match pair_of(a, b) {
         Pair::Truths(_, _) => no_plain(),
         Pair::Integers(x, y) => Plain::Integer(x * y),
         Pair::Words(v, w) => on_words(Binary::Mul, v, w),
@@ -275,7 +275,7 @@ fn quotient(a: &Seen, b: &Seen) -> Plain
     requires { Fits (calculated int_div OnWords.Udiv (seen_value a.now) (seen_value b.now)) }
     ensures { plain_value result ≡ calculated int_div OnWords.Udiv (seen_value a.now) (seen_value b.now) }
 {
-    match paired(a, b) {
+    match pair_of(a, b) {
         Pair::Truths(_, _) => no_plain(),
         Pair::Integers(x, y) => if y == 0 {
             Plain::Integer(0)
@@ -290,7 +290,7 @@ fn quotient(a: &Seen, b: &Seen) -> Plain
 fn rest(a: &Seen, b: &Seen) -> Plain
     ensures { plain_value result ≡ calculated int_mod OnWords.Urem (seen_value a.now) (seen_value b.now) }
 {
-    match paired(a, b) {
+    match pair_of(a, b) {
         Pair::Truths(_, _) => no_plain(),
         Pair::Integers(x, y) => Plain::Integer(rest_of(x, y)),
         Pair::Words(v, w) => on_words(Binary::Urem, v, w),
@@ -354,7 +354,7 @@ fn amount(v: Word, n: u64) -> Word
 fn concatenation(a: &Seen, b: &Seen) -> Plain
     ensures { plain_value result ≡ concatenated (seen_value a.now) (seen_value b.now) }
 {
-    match paired(a, b) {
+    match pair_of(a, b) {
         Pair::Truths(_, _) => no_plain(),
         Pair::Integers(_, _) => no_plain(),
         Pair::Words(v, w) => if v.width() + w.width() <= WIDEST {
@@ -378,8 +378,8 @@ pub fn apply(op: Infix, a: &Seen, b: &Seen) -> Plain
         Infix::Xor => difference(a, b),
         Infix::Xnor => equivalence(a, b),
         Infix::And => conjunction(a, b),
-        Infix::Equal => Plain::Truth(same(a, b)),
-        Infix::Unequal => Plain::Truth(!same(a, b)),
+        Infix::Equal => Plain::Truth(are_same(a, b)),
+        Infix::Unequal => Plain::Truth(!are_same(a, b)),
         Infix::Less => less(a, b),
         Infix::Greater => greater(a, b),
         Infix::LessEq => at_most(a, b),

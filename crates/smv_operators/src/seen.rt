@@ -25,7 +25,7 @@ pub fn no_seen<'a>() -> Seen<'a>
 }
 
 /// The value itself.
-pub fn borrowed<'a>(value: &'a Value) -> Seen<'a>
+pub fn borrow_value<'a>(value: &'a Value) -> Seen<'a>
     ensures { seen_value result ≡ value.now }
 {
     match value {
@@ -37,7 +37,7 @@ pub fn borrowed<'a>(value: &'a Value) -> Seen<'a>
 }
 
 /// A copy, which borrows the same symbol.
-pub fn copied<'a>(value: &Seen<'a>) -> Seen<'a>
+pub fn copy_value<'a>(value: &Seen<'a>) -> Seen<'a>
     ensures { result ≡ value.now }
 {
     match value {
@@ -49,7 +49,7 @@ pub fn copied<'a>(value: &Seen<'a>) -> Seen<'a>
 }
 
 /// The same value with a symbol of its own.
-pub fn owned(alloc: Global, value: Seen) -> Result<Value, NoMemory>
+pub fn into_value(alloc: Global, value: Seen) -> Result<Value, NoMemory>
     ensures { IfOk result (λ v. v ≡ seen_value value.entry) }
 {
     match value {
@@ -73,7 +73,7 @@ pub fn truth_of(value: &Seen) -> bool
 }
 
 /// Are two values one?
-pub fn same(a: &Seen, b: &Seen) -> bool
+pub fn are_same(a: &Seen, b: &Seen) -> bool
     ensures { result ≡ value_same (seen_value a.now) (seen_value b.now) }
 {
     match a {

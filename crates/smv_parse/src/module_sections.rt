@@ -12,7 +12,7 @@ ghost use Rattle.smv_readers.specs.Rules.{item_pick, body, definition_pick, encl
 
 use crate::module_types::{domain, first_is_name, formals, kept_expression, placed_name, symbols};
 use smv_expressions::{Stop, expect, path, start};
-use smv_grammar::{after, after_word};
+use smv_grammar::{after_word, tokens_after};
 use smv_text::{
     Assignment, Assignments, Definition, Definitions, Element, Elements, Expr, Item, Items, Module,
     Modules, Path, Reserved, Sign, Token, TokenKind, VarKind, When,
@@ -220,7 +220,7 @@ fn constraint<'a>(
     ensures within { IfOk result (λ y. length y.2.now ≤ length tokens.now) }
 {
     let (value, high, rest) = kept_expression(alloc, high, tokens)?;
-    match after(rest, Sign::Semicolon) {
+    match tokens_after(rest, Sign::Semicolon) {
         Some(last) => Ok((value, high, last)),
         None => Ok((value, high, rest)),
     }

@@ -13,7 +13,7 @@ ghost use Rattle.smv_readers.specs.Readers.{expression, high_or, picked, died};
 ghost use Rattle.smv_readers.specs.Rules.{name, parameter, symbol, listed, bracketed, member, width, interval, domain, domain_pick, instance_pick};
 
 use smv_expressions::{MOST, Stop, expect, expression, integer, leaf, name, number, start};
-use smv_grammar::{after, after_word};
+use smv_grammar::{after_word, tokens_after};
 use smv_text::{
     Domain, Expr, Exprs, Member, Members, Parameter, Parameters, Reserved, Shape, Sign, Token,
     TokenKind, VarKind,
@@ -88,9 +88,9 @@ pub(crate) fn formals<'a>(
     ensures reads { (h : Option Place) → Gives (λ y. (y.0, h, y.1.now)) (bracketed parameter h tokens.now) result }
     ensures within { IfOk result (λ y. length y.1.now ≤ length tokens.now) }
 {
-    match after(tokens, Sign::Open) {
+    match tokens_after(tokens, Sign::Open) {
         None => Ok((Parameters::new(alloc), tokens)),
-        Some(rest) => match after(rest, Sign::Close) {
+        Some(rest) => match tokens_after(rest, Sign::Close) {
             Some(last) => Ok((Parameters::new(alloc), last)),
             None => parameters(alloc, rest),
         },
@@ -105,7 +105,7 @@ fn parameters<'a>(alloc: Global, tokens: &'a [Token]) -> Result<(Parameters, &'a
     let mut all = Parameters::new(alloc);
     let (first, mut rest) = parameter(alloc, tokens)?;
     all.push(first)?;
-    while let Some(more) = after(rest, Sign::Comma) {
+    while let Some(more) = tokens_after(rest, Sign::Comma) {
         let (next, last) = parameter(alloc, more)?;
         all.push(next)?;
         rest = last;
@@ -144,7 +144,7 @@ fn members<'a>(alloc: Global, tokens: &'a [Token]) -> Result<(Members, &'a [Toke
     let mut all = Members::new(alloc);
     let (first, mut rest) = member(alloc, tokens)?;
     all.push(first)?;
-    while let Some(more) = after(rest, Sign::Comma) {
+    while let Some(more) = tokens_after(rest, Sign::Comma) {
         let (next, last) = member(alloc, more)?;
         all.push(next)?;
         rest = last;
@@ -161,7 +161,7 @@ pub(crate) fn symbols<'a>(alloc: Global, tokens: &'a [Token]) -> Result<(Names, 
     let mut all = Names::new(alloc);
     let (first, _, mut rest) = placed_name(alloc, tokens)?;
     all.push(first)?;
-    while let Some(more) = after(rest, Sign::Comma) {
+    while let Some(more) = tokens_after(rest, Sign::Comma) {
         let (next, _, last) = placed_name(alloc, more)?;
         all.push(next)?;
         rest = last;
@@ -180,9 +180,9 @@ fn actuals<'a>(
     ensures reads { Gives (λ y. (map plain y.0.items, y.1, y.2.now)) (bracketed expression high tokens.now) result }
     ensures within { IfOk result (λ y. length y.2.now ≤ length tokens.now) }
 {
-    match after(tokens, Sign::Open) {
+    match tokens_after(tokens, Sign::Open) {
         None => Ok((Vec::new(alloc), high, tokens)),
-        Some(rest) => match after(rest, Sign::Close) {
+        Some(rest) => match tokens_after(rest, Sign::Close) {
             Some(last) => Ok((Vec::new(alloc), high, last)),
             None => arguments(alloc, high, rest),
         },
@@ -202,7 +202,7 @@ fn arguments<'a>(
     let mut all = Vec::new(alloc);
     let (first, mut high, mut rest) = kept_expression(alloc, high, tokens)?;
     all.push(first)?;
-    while let Some(more) = after(rest, Sign::Comma) {
+    while let Some(more) = tokens_after(rest, Sign::Comma) {
         let (next, so_far, last) = kept_expression(alloc, high, more)?;
         all.push(next)?;
         high = so_far;

@@ -82,7 +82,7 @@ fn note<'a>(
 fn inner<'a>(table: &Table<'a>, i: usize, x: &'a [u8]) -> Option<usize>
     ensures { result ≡ instance_within (look (map instance_plain table.now) (steps_of (map instance_plain table.now)) i x.now) }
 {
-    match table.found_name(i, x) {
+    match table.target_of_name(i, x) {
         Target::Within(c) => Some(c),
         Target::Variable(_, _, _, _) => None,
         Target::Body(_, _, _, _) => None,

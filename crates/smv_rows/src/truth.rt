@@ -18,7 +18,7 @@ use crate::row::Row;
 use smv_flat::{FlatExpr, FlatFormula, Role};
 use smv_flat_evaluation::{evaluate, item_at, permits};
 use smv_items::{FlatItem, ItemKind};
-use smv_operators::{Seen, same, truth_of};
+use smv_operators::{Seen, are_same, truth_of};
 use smv_text::When;
 use text_core::Names;
 
@@ -137,7 +137,7 @@ fn kind_stays<'a>(kind: ItemKind, k: usize, now: &[Seen<'a>], later: &[Seen<'a>]
     ensures { result ≡ kind_keeps (row_values now.now k) (row_values later.now k) kind }
 {
     match kind {
-        ItemKind::Frozen => same(&item_at(now, k), &item_at(later, k)),
+        ItemKind::Frozen => are_same(&item_at(now, k), &item_at(later, k)),
         ItemKind::State => true,
         ItemKind::Input => true,
         ItemKind::Define => true,

@@ -11,7 +11,7 @@ use name_lookup::{NameTable, Successors};
 use smv_flat_evaluation::item_at;
 use smv_items::ItemKind;
 use smv_meaning::{State, Value};
-use smv_operators::{Seen, borrowed, no_seen};
+use smv_operators::{Seen, borrow_value, no_seen};
 use text_core::NoMemory;
 
 // So many values that stand for none, in the room of the list.
@@ -66,7 +66,7 @@ fn give_name<'a>(
     match successors.place(names, name) {
         None => {}
         Some(p) => {
-            values[p] = borrowed(value);
+            values[p] = borrow_value(value);
         }
     }
 }

@@ -128,7 +128,7 @@ subject_is c (flat_range t low high) k = tt
 -- ---- by how a chain is read
 
 abbrev flags : Bool → Bool → Bool → Infix → Bool → Reading
-flags a b d o words = if a then by.Union else (if b then by.Implied else (if d then by.Joint o words else by.Left))
+flags a b d o words = if a then by.Union else (if b then by.Implied else (if d then by.OneOperator o words else by.Left))
 
 abbrev picked : Bool → Bool → Bool → (s t u v : Translation) → Translation
 picked a b d s t u v = if a then s else (if b then t else (if d then u else v))
@@ -156,7 +156,7 @@ record IsJoint (o p : Infix) (w x : Bool) (d u : Translation) : Type 0 where
   pub words : w ≡ x
   pub picked : d ≡ u
 
-joint_flag : (a b d : Bool) (o p : Infix) (w x : Bool) (s t u v : Translation) → flags a b d o w ≡ by.Joint p x → IsJoint o p w x (picked a b d s t u v) u
+joint_flag : (a b d : Bool) (o p : Infix) (w x : Bool) (s t u v : Translation) → flags a b d o w ≡ by.OneOperator p x → IsJoint o p w x (picked a b d s t u v) u
 joint_flag true b d o p w x s t u v h = cc
 joint_flag false true d o p w x s t u v h = cc
 joint_flag false false true o p w x s t u v h = record { sign = cc; words = cc; picked = refl }
@@ -185,7 +185,7 @@ implied_read q c k e (flat_link o f ls) v h g =
     (implied_flag (are_flat_unions (flat_link o f ls)) (flat_are_implies (flat_link o f ls)) (all_join_with o (flat_link o f ls)) o (is_word f) _ _ _ _ h)
     (g ∙ implied_are c k ((translation c e).term k) (flat_link o f ls))
 
-pub joint_read : (q : Question) (c : Coding) (k : ℕ) (e : FlatTree) (ls : FlatLinks) (p : Infix) (words : Bool) (v : Tree) → reading ls ≡ by.Joint p words
+pub joint_read : (q : Question) (c : Coding) (k : ℕ) (e : FlatTree) (ls : FlatLinks) (p : Infix) (words : Bool) (v : Tree) → reading ls ≡ by.OneOperator p words
     → v ≡ apply (joint_op p words) (tree ((translation c e).term k) (link_answers Value c k ls)) → answered_value q v ≡ chain_answered q c k e ls
 joint_read q c k e no_flat_links p words v h g = cc
 joint_read q c k e (flat_link o f ls) p words v h g =

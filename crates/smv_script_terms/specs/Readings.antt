@@ -20,7 +20,7 @@ abbrev pub reading : FlatLinks → Reading
 reading no_flat_links = by.Single
 reading (flat_link o e ls) =
     if are_flat_unions (flat_link o e ls) then by.Union else (if flat_are_implies (flat_link o e ls) then by.Implied
-    else (if all_join_with o (flat_link o e ls) then by.Joint o (is_word e) else by.Left))
+    else (if all_join_with o (flat_link o e ls) then by.OneOperator o (is_word e) else by.Left))
 
 -- a name, also under `next`
 abbrev pub named_subject : Coding → FlatTree → Option Subject

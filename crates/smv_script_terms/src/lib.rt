@@ -14,6 +14,6 @@ mod variables;
 
 pub use coding::{Coding, Question, Subject};
 pub use formulas::{Source, formula_of};
-pub use operators::negated;
-pub use terms::stated;
+pub use operators::negate;
+pub use terms::terms_of;
 pub use variables::{Group, places_of, variables_in};

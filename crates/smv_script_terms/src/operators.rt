@@ -56,7 +56,7 @@ pub(crate) fn equal(alloc: Global, a: Term, b: Term) -> Result<Term, NoMemory>
 }
 
 /// The negation of a truth value.
-pub fn negated(alloc: Global, a: Term) -> Result<Term, NoMemory>
+pub fn negate(alloc: Global, a: Term) -> Result<Term, NoMemory>
     ensures { IfOk result (λ t. plain t ≡ not_term (plain a)) }
 {
     apply_one(alloc, TermOp::Not, a)
@@ -197,7 +197,7 @@ fn exclusive_nor(alloc: Global, words: bool, a: Term, b: Term) -> Result<Term, N
         apply_one(alloc, TermOp::BvUnary(Unary::Not), c)
     } else {
         let c = apply_two(alloc, TermOp::Xor, a, b)?;
-        negated(alloc, c)
+        negate(alloc, c)
     }
 }
 
@@ -217,7 +217,7 @@ pub(crate) fn infix(
         Infix::Xnor => exclusive_nor(alloc, words, a, b),
         Infix::Unequal => {
             let c = equal(alloc, a, b)?;
-            negated(alloc, c)
+            negate(alloc, c)
         }
         Infix::Member => Ok(nothing()),
         Infix::Union => Ok(nothing()),

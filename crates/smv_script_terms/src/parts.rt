@@ -18,7 +18,7 @@ use crate::buckets::{Owned, buckets_of};
 use crate::coding::{Coding, Question, Subject, integer_term, subject_term};
 use crate::functions::between;
 use crate::operators::{equal, several};
-use crate::terms::stated;
+use crate::terms::terms_of;
 use moxi_terms::{Datum, Term, TermOp, Terms};
 use name_set::NameSet;
 use smv_flat::{FlatExpr, FlatFormula, Role};
@@ -208,7 +208,7 @@ fn body_part(
 {
     match form.role {
         Role::Body(number) => {
-            let body = stated(alloc, coding, 0, Question::Value, &form.body)?;
+            let body = terms_of(alloc, coding, 0, Question::Value, &form.body)?;
             let t = equal(alloc, variable(coding, number, false), body)?;
             let terms = alone(alloc, t)?;
             Ok(all.push(Owned { number, terms })?)
@@ -264,7 +264,7 @@ fn assigned(
     ensures { IfOk result (λ ts. map plain ts.items ≡ ((translation (codes_of coding.now) (plain_flat body.now)).member 0 (variable ((codes_of coding.now).place k) (is_following when))) ∷ []) }
 {
     let subject = Subject::Variable(coding.place(k), is_following(when));
-    let t = stated(alloc, coding, 0, Question::Permits(subject), body)?;
+    let t = terms_of(alloc, coding, 0, Question::Permits(subject), body)?;
     alone(alloc, t)
 }
 
@@ -272,7 +272,7 @@ fn assigned(
 fn held(alloc: Global, coding: &Coding, body: &FlatExpr) -> Result<Terms, NoMemory>
     ensures { IfOk result (λ ts. map plain ts.items ≡ (translation (codes_of coding.now) (plain_flat body.now)).term 0 ∷ []) }
 {
-    let t = stated(alloc, coding, 0, Question::Value, body)?;
+    let t = terms_of(alloc, coding, 0, Question::Value, body)?;
     alone(alloc, t)
 }
 

@@ -19,7 +19,7 @@ pub(crate) enum Reading {
     Single,
     Union,
     Implied,
-    Joint(Infix, bool),
+    OneOperator(Infix, bool),
     Left,
 }
 
@@ -99,7 +99,7 @@ pub(crate) fn reading_of(links: &[FlatLink]) -> Reading
             } else if are_implies(links) {
                 Reading::Implied
             } else if all_join_with(link.op, links) {
-                Reading::Joint(link.op, is_word(&link.operand))
+                Reading::OneOperator(link.op, is_word(&link.operand))
             } else {
                 Reading::Left
             }

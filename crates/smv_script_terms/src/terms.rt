@@ -25,7 +25,7 @@ use text_core::NoMemory;
 /// are bound around.
 #[inline(never)]
 #[cycle(terms)]
-pub fn stated(
+pub fn terms_of(
     alloc: Global,
     coding: &Coding,
     k: u32,
@@ -49,13 +49,13 @@ pub fn stated(
         }
         FlatShape::Chain(first, links) => chained(alloc, coding, k, question, first, links),
         FlatShape::Choice(branches, last) => {
-            let whole = stated(alloc, coding, k, question, last)?;
+            let whole = terms_of(alloc, coding, k, question, last)?;
             let cases = cases(alloc, coding, k, question, branches)?;
             chosen(alloc, cases, whole)
         }
         FlatShape::Case(branches) => taken(alloc, coding, k, question, branches),
         FlatShape::Select(operand, high, low) => {
-            let a = stated(alloc, coding, k, Question::Value, operand)?;
+            let a = terms_of(alloc, coding, k, Question::Value, operand)?;
             let value = selected(alloc, word_width(operand), *high, *low, a)?;
             answer(alloc, question, value)
         }
@@ -80,7 +80,7 @@ fn prefixed(
 ) -> Result<Term, NoMemory>
     ensures { IfOk result (λ t. plain t ≡ repeated (sign_op sign (is_word (plain_flat operand.now))) count ((translation (codes_of coding.now) (plain_flat operand.now)).term k)) }
 {
-    let a = stated(alloc, coding, k, Question::Value, operand)?;
+    let a = terms_of(alloc, coding, k, Question::Value, operand)?;
     repeated(alloc, sign_operator(sign, is_word(operand)), count, a)
 }
 
@@ -98,15 +98,15 @@ fn chained(
     ensures { IfOk result (λ t. plain t ≡ chain_answered question (codes_of coding.now) k (plain_flat first.now) (flat_links_of (map plain_flat_link links.now))) }
 {
     match reading_of(links) {
-        Reading::Single => stated(alloc, coding, k, question, first),
+        Reading::Single => terms_of(alloc, coding, k, question, first),
         Reading::Union => united(alloc, coding, k, question, first, links),
         Reading::Implied => {
-            let a = stated(alloc, coding, k, Question::Value, first)?;
+            let a = terms_of(alloc, coding, k, Question::Value, first)?;
             let operands = operands(alloc, coding, k, links)?;
             let value = implied(alloc, a, operands)?;
             answer(alloc, question, value)
         }
-        Reading::Joint(op, words) => {
+        Reading::OneOperator(op, words) => {
             let terms = link_terms(alloc, coding, k, Question::Value, first, links)?;
             let value = Term::Apply(joint_operator(op, words), terms);
             answer(alloc, question, value)
@@ -154,9 +154,9 @@ fn link_terms(
     ensures { IfOk result (λ ts. trees_of (map plain ts.items) ≡ chain_answers question (codes_of coding.now) k (plain_flat first.now) (flat_links_of (map plain_flat_link links.now))) }
 {
     let mut all = Vec::new(alloc);
-    all.push(stated(alloc, coding, k, question, first)?)?;
+    all.push(terms_of(alloc, coding, k, question, first)?)?;
     for link in links {
-        let t = stated(alloc, coding, k, question, &link.operand)?;
+        let t = terms_of(alloc, coding, k, question, &link.operand)?;
         all.push(t)?;
     }
     Ok(all)
@@ -175,7 +175,7 @@ fn operands(
 {
     let mut all = Vec::new(alloc);
     for link in links {
-        let term = stated(alloc, coding, k, Question::Value, &link.operand)?;
+        let term = terms_of(alloc, coding, k, Question::Value, &link.operand)?;
         let words = is_word(&link.operand);
         all.push(Operand { words, term })?;
     }
@@ -194,7 +194,7 @@ fn folded(
 ) -> Result<Term, NoMemory>
     ensures { IfOk result (λ t. plain t ≡ folded_answer (codes_of coding.now) k (plain_flat first.now) (flat_links_of (map plain_flat_link links.now))) }
 {
-    let mut whole = stated(alloc, coding, k, Question::Value, first)?;
+    let mut whole = terms_of(alloc, coding, k, Question::Value, first)?;
     let mut tested = subject_of(coding, first);
     let mut width = word_width(first);
     for link in links {
@@ -223,16 +223,16 @@ fn behind(
 {
     match op {
         Infix::Member => match tested {
-            Some(subject) => stated(alloc, coding, k, Question::Permits(subject), operand),
+            Some(subject) => terms_of(alloc, coding, k, Question::Permits(subject), operand),
             None => {
                 let Some(next) = k.checked_add(1) else {
                     return Err(NoMemory);
                 };
                 let question = Question::Permits(Subject::Bound(k));
-                stated(alloc, coding, next, question, operand)
+                terms_of(alloc, coding, next, question, operand)
             }
         },
-        _ => stated(alloc, coding, k, Question::Value, operand),
+        _ => terms_of(alloc, coding, k, Question::Value, operand),
     }
 }
 
@@ -251,7 +251,7 @@ fn taken(
     match branches.split_last() {
         None => answer(alloc, question, nothing()),
         Some((last, firsts)) => {
-            let whole = stated(alloc, coding, k, question, &last.value)?;
+            let whole = terms_of(alloc, coding, k, question, &last.value)?;
             let cases = cases(alloc, coding, k, question, firsts)?;
             chosen(alloc, cases, whole)
         }
@@ -272,8 +272,8 @@ fn cases(
 {
     let mut all = Vec::new(alloc);
     for branch in branches {
-        let when = stated(alloc, coding, k, Question::Value, &branch.when)?;
-        let value = stated(alloc, coding, k, question, &branch.value)?;
+        let when = terms_of(alloc, coding, k, Question::Value, &branch.when)?;
+        let value = terms_of(alloc, coding, k, question, &branch.value)?;
         all.push(Case { when, value })?;
     }
     Ok(all)
@@ -293,7 +293,7 @@ fn parts(
 {
     let mut all = Vec::new(alloc);
     for e in exprs {
-        let t = stated(alloc, coding, k, question, e)?;
+        let t = terms_of(alloc, coding, k, question, e)?;
         all.push(t)?;
     }
     Ok(all)

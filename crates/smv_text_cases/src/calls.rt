@@ -5,7 +5,7 @@ use crate::printed::{put_printed_expression, put_printed_model};
 use crate::reading::{expression_of, expression_source};
 use crate::tokens::{put_kinds, put_tokens};
 use crate::trees::put_tree;
-use case_text::{Answer, Piece, Stop, has, subject};
+use case_text::{Answer, Piece, Stop, has_piece, subject};
 use std::alloc::Global;
 
 /// Appends what a call answers. The text is a row, or the piece `text`; a refused text is answered as `S5 at 1:7`.
@@ -24,7 +24,7 @@ pub fn put_answer(
     let text = subject(pieces, "text")?;
     match call {
         ["tokens"] => {
-            let mark = if has(pieces, "row") {
+            let mark = if has_piece(pieces, "row") {
                 b", ".as_slice()
             } else {
                 b"\n"

@@ -11,5 +11,5 @@ mod tokens;
 mod trees;
 
 pub use calls::put_answer;
-pub use reading::{counted, expression_of, expression_source, source_of};
+pub use reading::{expression_of, expression_source, source_of, stop_in_expression};
 pub use spellings::{function_word, infix_sign, prefix_sign, put_dotted, put_literal, put_type};

@@ -41,7 +41,7 @@ pub fn expression_source(alloc: Global, text: &[u8]) -> Result<Source, Stop> {
     let whole = model_around(alloc, text)?;
     match source_of(alloc, whole.bytes()) {
         Ok(source) => Ok(source),
-        Err(stop) => Err(counted(stop)),
+        Err(stop) => Err(stop_in_expression(stop)),
     }
 }
 
@@ -53,7 +53,7 @@ fn model_around(alloc: Global, expression: &[u8]) -> Result<Text, NoMemory> {
 }
 
 /// What was found in the model around an expression: its place counts from the expression's first byte.
-pub fn counted(stop: Stop) -> Stop {
+pub fn stop_in_expression(stop: Stop) -> Stop {
     match stop {
         Stop::Refused(why) => {
             let Place {
@@ -78,10 +78,10 @@ pub fn counted(stop: Stop) -> Stop {
 /// The expression that is the one invariant of a model.
 pub fn expression_of(source: &Source) -> Result<&Expr, Fault> {
     if source.modules.len() != 1 || source.modules.at(0).elements.len() != 1 {
-        return Err(Fault::Misread("more than an expression"));
+        return Err(Fault::Unreadable("more than an expression"));
     }
     match source.modules.at(0).elements.at(0) {
         Element::Spec(_, expression) => Ok(expression),
-        _ => Err(Fault::Misread("no expression")),
+        _ => Err(Fault::Unreadable("no expression")),
     }
 }

@@ -19,7 +19,7 @@ use name_set::NameSet;
 use smv_flat::{FlatFormula, Role};
 use smv_items::FlatItem;
 use smv_script_terms::{
-    Coding, Group, Question, Source, formula_of, negated, places_of, stated, variables_in,
+    Coding, Group, Question, Source, formula_of, negate, places_of, terms_of, variables_in,
 };
 use smv_text::When;
 use std::alloc::Global;
@@ -137,8 +137,8 @@ fn reachable_of(
     ensures { IfOk result (λ f. plain_formula f ≡ reachable_of (codes_of coding.now) j (plain_flat form.now.body)) }
 {
     let name = numbered(alloc, b"r.", j)?;
-    let held = stated(alloc, coding, 0, Question::Value, &form.body)?;
-    let term = negated(alloc, held)?;
+    let held = terms_of(alloc, coding, 0, Question::Value, &form.body)?;
+    let term = negate(alloc, held)?;
     Ok(Formula { name, term })
 }
 

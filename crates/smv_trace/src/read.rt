@@ -11,7 +11,7 @@ use crate::reader::{MOST_BYTES, Reader, refused};
 use crate::table::Table;
 use smv_flatten::Flat;
 use smv_meaning::Run;
-use smv_trace_text::{line_length, trimmed};
+use smv_trace_text::{line_length, trim};
 use std::alloc::Global;
 use text_core::kinds::trace;
 use text_core::{End, FIRST_PLACE, Place};
@@ -42,7 +42,7 @@ fn read_lines(alloc: Global, table: &Table, text: &[u8], reader: &mut Reader) ->
     let mut at = FIRST_PLACE;
     'lines: loop {
         let (line, marked) = rest.split_at(line_length(rest));
-        match reader.take_line(alloc, table, at, trimmed(line)) {
+        match reader.take_line(alloc, table, at, trim(line)) {
             Ok(()) => {}
             Err(end) => return Err(end),
         }

@@ -5,6 +5,6 @@ mod lines;
 mod literal;
 mod print;
 
-pub use lines::{begins_with_dash, heading_numbers, is_passed, line_length, trimmed, value_parts};
+pub use lines::{begins_with_dash, heading_numbers, is_passed, line_length, trim, value_parts};
 pub use literal::literal_of;
 pub use print::print_trace;

@@ -80,7 +80,7 @@ fn without_end(line: &[u8]) -> &[u8]
 }
 
 /// A line without the blanks around it.
-pub fn trimmed(line: &[u8]) -> &[u8]
+pub fn trim(line: &[u8]) -> &[u8]
     ensures { result.now ≡ trimmed line.now }
 {
     without_end(past_blanks(line))

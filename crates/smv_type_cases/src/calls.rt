@@ -6,10 +6,10 @@ use crate::models::typed_model;
 use crate::shown::{put_named, put_type_or_none};
 use crate::values::put_value_of;
 use crate::wanted::put_wanted;
-use case_text::{Answer, Fault, Piece, Stop, given, has, subject};
+use case_text::{Answer, Fault, Piece, Stop, has_piece, piece_bytes, subject};
 use smv_intervals::Ty;
 use smv_text::{Expr, Path, Shape};
-use smv_text_cases::{counted, expression_of, expression_source, source_of};
+use smv_text_cases::{expression_of, expression_source, source_of, stop_in_expression};
 use smv_types::{Named, Position, type_of};
 use std::alloc::Global;
 
@@ -35,7 +35,12 @@ pub fn put_answer(
         ["type", place] => put_type_at(alloc, out, position(place)?, pieces),
         ["intervals"] => put_bounds(alloc, out, pieces),
         ["named"] => put_given_named(alloc, out, pieces),
-        ["wanted"] => put_wanted(alloc, out, given(pieces, "model")?, given(pieces, "row")?),
+        ["wanted"] => put_wanted(
+            alloc,
+            out,
+            piece_bytes(pieces, "model")?,
+            piece_bytes(pieces, "row")?,
+        ),
         ["value"] => put_value_of(alloc, out, "", pieces),
         ["value", path] => put_value_of(alloc, out, path, pieces),
         ["order"] => put_order_of(alloc, out, subject(pieces, "text")?),
@@ -52,7 +57,7 @@ fn position(place: &str) -> Result<Position, Fault> {
         "x:=" => Ok(Position::AssignNow),
         "init(x):=" => Ok(Position::AssignFirst),
         "next(x):=" => Ok(Position::AssignFollowing),
-        _ => Err(Fault::Misread("no such position")),
+        _ => Err(Fault::Unreadable("no such position")),
     }
 }
 
@@ -74,10 +79,10 @@ fn type_at(
     e: &Expr,
     position: Position,
 ) -> Result<Option<Ty>, Stop> {
-    if has(pieces, "model") {
-        type_in_model(alloc, given(pieces, "model")?, e, position)
+    if has_piece(pieces, "model") {
+        type_in_model(alloc, piece_bytes(pieces, "model")?, e, position)
     } else {
-        type_among(alloc, given(pieces, "names")?, e, position)
+        type_among(alloc, piece_bytes(pieces, "names")?, e, position)
     }
 }
 
@@ -90,7 +95,7 @@ fn type_among(
     let names = Environment::declared(alloc, names)?;
     match type_of(alloc, &names, e, position) {
         Ok(t) => Ok(t),
-        Err(end) => Err(counted(Stop::from(end))),
+        Err(end) => Err(stop_in_expression(Stop::from(end))),
     }
 }
 
@@ -107,7 +112,7 @@ fn type_in_model(
         .expression_checked(alloc, &model.table, 0, e, position)
     {
         Ok(t) => Ok(t),
-        Err(end) => Err(counted(Stop::from(end))),
+        Err(end) => Err(stop_in_expression(Stop::from(end))),
     }
 }
 
@@ -116,7 +121,7 @@ fn put_given_named(alloc: Global, out: &mut Answer, pieces: &[Piece]) -> Result<
     let Shape::Name(path) = &expression_of(&row)?.shape else {
         return Err(Stop::from("a path"));
     };
-    let named = named_in(alloc, given(pieces, "model")?, path)?;
+    let named = named_in(alloc, piece_bytes(pieces, "model")?, path)?;
     put_named(out, named);
     Ok(())
 }

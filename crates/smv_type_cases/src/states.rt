@@ -55,11 +55,11 @@ fn value_of(alloc: Global, e: &Expr) -> Result<Value, Fault> {
         Shape::Number(n) => integer(*n, 1),
         Shape::Prefix(Prefix::Minus, 1, operand) => match operand.shape {
             Shape::Number(n) => integer(n, -1),
-            _ => Err(Fault::Misread("a value")),
+            _ => Err(Fault::Unreadable("a value")),
         },
         Shape::Literal(word) => Ok(Value::Bits(*word)),
         Shape::Name(path) => Ok(Value::Symbol(dotted(alloc, path)?)),
-        _ => Err(Fault::Misread("a value")),
+        _ => Err(Fault::Unreadable("a value")),
     }
 }
 

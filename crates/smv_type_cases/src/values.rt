@@ -14,7 +14,7 @@ use crate::instances::{asked_in, number_of};
 use crate::models::{Typed, typed_model};
 use crate::shown::put_value;
 use crate::states::state_of;
-use case_text::{Answer, Piece, Stop, given, has};
+use case_text::{Answer, Piece, Stop, has_piece, piece_bytes};
 use smv_evaluation::value_at;
 use smv_instances::{Instance, instance_list};
 use smv_meaning::{State, Value};
@@ -46,20 +46,24 @@ fn asking(alloc: Global, model: &[u8], expression: &[u8]) -> Result<Text, NoMemo
 
 // The model with the expression that the row asks for.
 fn asked(alloc: Global, pieces: &[Piece]) -> Result<Source, Stop> {
-    let text = asking(alloc, given(pieces, "model")?, given(pieces, "row")?)?;
+    let text = asking(
+        alloc,
+        piece_bytes(pieces, "model")?,
+        piece_bytes(pieces, "row")?,
+    )?;
     source_of(alloc, text.bytes())
 }
 
 fn stated_in(alloc: Global, pieces: &[Piece], name: &str) -> Result<Option<State>, Stop> {
-    if has(pieces, name) {
-        Ok(Some(state_of(alloc, given(pieces, name)?)?))
+    if has_piece(pieces, name) {
+        Ok(Some(state_of(alloc, piece_bytes(pieces, name)?)?))
     } else {
         Ok(None)
     }
 }
 
 fn stated_of(alloc: Global, pieces: &[Piece]) -> Result<Stated, Stop> {
-    let now = state_of(alloc, given(pieces, "state")?)?;
+    let now = state_of(alloc, piece_bytes(pieces, "state")?)?;
     let label = stated_in(alloc, pieces, "inputs")?;
     let following = stated_in(alloc, pieces, "following")?;
     Ok(Stated {

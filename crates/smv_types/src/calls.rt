@@ -14,7 +14,7 @@ ghost use Rattle.smv_types.specs.Steps.{call_step};
 use crate::arguments::number_of;
 use crate::ends::{CheckEnd, answered, check, refusal};
 use crate::lists::{all_types, are_truths};
-use smv_intervals::{Ty, abs_type, max_type, min_type, within};
+use smv_intervals::{Ty, abs_type, max_type, min_type, ordered_interval};
 use smv_text::{Expr, Function};
 use std::alloc::Global;
 use text_core::kinds::smv;
@@ -182,7 +182,7 @@ fn counted(place: Place, types: &[Ty]) -> Result<Option<Ty>, Refusal>
         place,
         !types.is_empty() && are_truths(types),
     )?;
-    bounded(place, within(0, types.len() as i128))
+    bounded(place, ordered_interval(0, types.len() as i128))
 }
 
 // `max(a, b)`
@@ -267,7 +267,7 @@ fn application(
 }
 
 /// The checks and the type of a call, given the types of its arguments.
-pub fn called(
+pub fn check_call(
     alloc: Global,
     place: Place,
     function: Function,

@@ -15,7 +15,7 @@ use crate::arguments::{divisor_of, is_divisor, number_of};
 use crate::ends::{check, refusal};
 use crate::positions::Standing;
 use smv_intervals::{
-    Ty, difference_type, hull, kept, product_type, quotient_type, rest_type, sum_type,
+    Ty, difference_type, hull, product_type, quotient_type, rest_type, sum_type, type_within_limit,
 };
 use smv_text::{Expr, Infix, Link};
 use text_core::kinds::smv;
@@ -70,7 +70,7 @@ fn infix_type(op: Infix, t: Ty, u: Ty, operand: &Expr) -> Option<Ty>
         | Infix::Xnor
         | Infix::And
         | Infix::ShiftLeft
-        | Infix::ShiftRight => kept(t),
+        | Infix::ShiftRight => type_within_limit(t),
         Infix::Equal
         | Infix::Unequal
         | Infix::Less
@@ -78,7 +78,7 @@ fn infix_type(op: Infix, t: Ty, u: Ty, operand: &Expr) -> Option<Ty>
         | Infix::LessEq
         | Infix::GreaterEq
         | Infix::Member => Some(Ty::Truth),
-        Infix::Union => kept(hull(t, u)),
+        Infix::Union => type_within_limit(hull(t, u)),
         Infix::Plus => sum_type(t, u),
         Infix::Minus => difference_type(t, u),
         Infix::Times => product_type(t, u),
@@ -173,7 +173,7 @@ fn untyped(op: Infix, at: Standing, place: Place, operand: &Expr) -> Result<Opti
 
 /// The checks and the type of the front of a chain that ends with an operand, given the types of what stands before it and of the
 /// operand.
-pub fn front(
+pub fn check_front(
     op: Infix,
     at: Standing,
     place: Place,
@@ -241,19 +241,23 @@ pub fn are_unions(links: &[Link]) -> bool
 }
 
 /// Where a chain's first operand stands: it may be a set in a chain of `union`, where the whole may be one.
-pub fn across(links: &[Link], at: Standing) -> Standing
+pub fn first_standing(links: &[Link], at: Standing) -> Standing
     ensures { standing_seen result ≡ across (links_of (map plain_link links.now)) (standing_seen at) }
 {
-    if are_unions(links) { at } else { at.single() }
+    if are_unions(links) {
+        at
+    } else {
+        at.without_sets()
+    }
 }
 
 /// Where the operand behind an operator stands: behind `in` a set may stand.
-pub fn behind(op: Infix, at: Standing) -> Standing
+pub fn operand_standing(op: Infix, at: Standing) -> Standing
     ensures { standing_seen result ≡ behind op (standing_seen at) }
 {
     match op {
         Infix::Member => at.with_sets(),
         Infix::Union => at,
-        _ => at.single(),
+        _ => at.without_sets(),
     }
 }

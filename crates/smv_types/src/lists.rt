@@ -151,7 +151,11 @@ fn gathering(place: Place, at: Standing, types: &Option<Vec<Ty>>) -> Result<Opti
 }
 
 /// The checks and the type of a chain of `->`, given the types of its operands.
-pub fn implied(alloc: Global, place: Place, types: &[Option<Ty>]) -> Result<Option<Ty>, CheckEnd>
+pub fn check_implication(
+    alloc: Global,
+    place: Place,
+    types: &[Option<Ty>],
+) -> Result<Option<Ty>, CheckEnd>
     ensures { Ends result (implies_step place (all_types (map (option_map seen) types.now))) }
 {
     let types = all_types(alloc, types)?;
@@ -166,7 +170,11 @@ pub struct BranchTypes {
 }
 
 /// The checks and the type of a case or a choice.
-pub fn branched(alloc: Global, place: Place, types: &BranchTypes) -> Result<Option<Ty>, CheckEnd>
+pub fn check_branches(
+    alloc: Global,
+    place: Place,
+    types: &BranchTypes,
+) -> Result<Option<Ty>, CheckEnd>
     ensures { Ends result (branches_step place (all_types (map (option_map seen) types.now.conditions.items)) (all_types (map (option_map seen) types.now.values.items))) }
 {
     let conditions = all_types(alloc, &types.conditions)?;
@@ -175,7 +183,7 @@ pub fn branched(alloc: Global, place: Place, types: &BranchTypes) -> Result<Opti
 }
 
 /// The checks and the type of a set, given the types of its elements.
-pub fn gathered(
+pub fn check_set(
     alloc: Global,
     place: Place,
     at: Standing,

@@ -10,7 +10,9 @@ ghost use Rattle.smv_types.specs.Steps.{number_step, name_step, prefix_step, sel
 use crate::ends::{check, refusal};
 use crate::names::Named;
 use crate::positions::Standing;
-use smv_intervals::{Ty, kept, limited, negation_type, within};
+use smv_intervals::{
+    Ty, interval_within_limit, negation_type, ordered_interval, type_within_limit,
+};
 use smv_text::Prefix;
 use text_core::kinds::smv;
 use text_core::{Place, Refusal};
@@ -19,7 +21,7 @@ use text_core::{Place, Refusal};
 pub fn number(place: Place, n: u64) -> Result<Option<Ty>, Refusal>
     ensures { Answers result (number_step place n) }
 {
-    match within(n as i128, n as i128) {
+    match ordered_interval(n as i128, n as i128) {
         Some(t) => Ok(Some(t)),
         None => Err(refusal(smv::INT_TOO_WIDE, place)),
     }
@@ -48,19 +50,19 @@ fn signed_type(sign: Prefix, count: u32, t: Ty) -> Option<Ty>
     ensures { Kept result (prefix_type sign count (seen t)) }
 {
     match sign {
-        Prefix::Not => kept(t),
+        Prefix::Not => type_within_limit(t),
         Prefix::Minus => {
             if count % 2 == 1 {
                 negation_type(t)
             } else {
-                kept(t)
+                type_within_limit(t)
             }
         }
     }
 }
 
 /// Those of a sign that stands so many times before an operand of this type.
-pub fn signed(
+pub fn check_sign(
     place: Place,
     sign: Prefix,
     count: u32,
@@ -81,7 +83,7 @@ pub fn signed(
 }
 
 /// Those of the bits of a word from the high end to the low end.
-pub fn selected(
+pub fn check_selection(
     place: Place,
     operand: Option<Ty>,
     high: u64,
@@ -104,7 +106,7 @@ pub fn selected(
 }
 
 /// Those of `next`, given the type of its operand.
-pub fn following(place: Place, at: Standing, operand: Option<Ty>) -> Result<Option<Ty>, Refusal>
+pub fn check_next(place: Place, at: Standing, operand: Option<Ty>) -> Result<Option<Ty>, Refusal>
     ensures { Answers result (next_step place (standing_seen at) (option_map seen operand)) }
 {
     check(smv::NEXT_HERE, place, at.nexts)?;
@@ -112,10 +114,10 @@ pub fn following(place: Place, at: Standing, operand: Option<Ty>) -> Result<Opti
 }
 
 /// Those of a range in a set.
-pub fn range(place: Place, at: Standing, low: i64, high: i64) -> Result<Option<Ty>, Refusal>
+pub fn check_range(place: Place, at: Standing, low: i64, high: i64) -> Result<Option<Ty>, Refusal>
     ensures { Answers result (range_step place (standing_seen at) low high) }
 {
-    match limited(low, high) {
+    match interval_within_limit(low, high) {
         None => Err(refusal(smv::INT_TOO_WIDE, place)),
         Some(t) => {
             check(smv::SET_HERE, place, at.sets)?;

@@ -53,7 +53,7 @@ impl Standing {
     }
 
     /// The same, where no set may stand.
-    pub fn single(self) -> Standing
+    pub fn without_sets(self) -> Standing
         ensures { standing_seen result ≡ single (standing_seen self) }
     {
         Standing {

@@ -11,12 +11,12 @@ ghost use Rattle.smv_types.specs.Outcome.{Ends, IsBad, is_known, links_known, br
 ghost use Rattle.smv_types.specs.Steps.{passed};
 ghost use Rattle.smv_types.specs.Operands.{EndsChain, implications_typing, EndsChoice};
 
-use crate::calls::called;
-use crate::chains::{across, behind, front, is_from_right};
+use crate::calls::check_call;
+use crate::chains::{check_front, first_standing, is_from_right, operand_standing};
 use crate::ends::{CheckEnd, answered};
-use crate::lists::{BranchTypes, branched, gathered, implied};
+use crate::lists::{BranchTypes, check_branches, check_implication, check_set};
 use crate::names::Scope;
-use crate::nodes::{following, name, number, range, selected, signed};
+use crate::nodes::{check_next, check_range, check_selection, check_sign, name, number};
 use crate::positions::{Position, Standing};
 use smv_intervals::Ty;
 use smv_text::{Branch, Expr, Function, Link, Prefix, Shape};
@@ -61,7 +61,7 @@ fn typed<C: Scope>(
         }
         Shape::Chain(first, links) => {
             let links = links.as_slice();
-            let t = typed(alloc, scope, first, across(links, at))?;
+            let t = typed(alloc, scope, first, first_standing(links, at))?;
             chain_typed(alloc, scope, place, t, links, at)
         }
         Shape::Choice(branches, last) => {
@@ -77,7 +77,7 @@ fn typed<C: Scope>(
         }
         Shape::Next(operand) => next_typed(alloc, scope, place, operand, at),
         Shape::Set(elements) => set_typed(alloc, scope, place, elements, at),
-        Shape::Range(low, high) => answered(range(place, at, *low, *high)),
+        Shape::Range(low, high) => answered(check_range(place, at, *low, *high)),
     }
 }
 
@@ -94,8 +94,8 @@ fn prefix_typed<C: Scope>(
     requires { IsTrue (is_known (C.knows scope.now) (plain operand.now)) }
     ensures { Ends result (typing (C.names scope.now) (standing_seen at) (prefix place sign count (plain operand.now))) }
 {
-    let t = typed(alloc, scope, operand, at.single())?;
-    answered(signed(place, sign, count, t))
+    let t = typed(alloc, scope, operand, at.without_sets())?;
+    answered(check_sign(place, sign, count, t))
 }
 
 #[cycle(typing)]
@@ -111,8 +111,8 @@ fn select_typed<C: Scope>(
     requires { IsTrue (is_known (C.knows scope.now) (plain operand.now)) }
     ensures { Ends result (typing (C.names scope.now) (standing_seen at) (select place (plain operand.now) high low)) }
 {
-    let t = typed(alloc, scope, operand, at.single())?;
-    answered(selected(place, t, high, low))
+    let t = typed(alloc, scope, operand, at.without_sets())?;
+    answered(check_selection(place, t, high, low))
 }
 
 #[cycle(typing)]
@@ -127,7 +127,7 @@ fn next_typed<C: Scope>(
     ensures { Ends result (typing (C.names scope.now) (standing_seen at) (next place (plain operand.now))) }
 {
     let t = typed(alloc, scope, operand, Standing::under_next())?;
-    answered(following(place, at, t))
+    answered(check_next(place, at, t))
 }
 
 // A chain, given the type of its first operand.
@@ -144,9 +144,9 @@ fn chain_typed<C: Scope>(
     ensures { EndsChain (C.names scope.now) (standing_seen at) place (option_map seen first) (links_of (map plain_link links.now)) result }
 {
     if is_from_right(links) {
-        implications_typed(alloc, scope, place, first, links, at.single())
+        implications_typed(alloc, scope, place, first, links, at.without_sets())
     } else {
-        fronts_typed(alloc, scope, place, first, links, across(links, at))
+        fronts_typed(alloc, scope, place, first, links, first_standing(links, at))
     }
 }
 
@@ -164,7 +164,7 @@ fn implications_typed<C: Scope>(
     ensures { Ends result (implications_typing (C.names scope.now) (standing_seen at) place (option_map seen first) (links_of (map plain_link links.now))) }
 {
     let types = operand_types(alloc, scope, first, links, at)?;
-    implied(alloc, place, &types)
+    check_implication(alloc, place, &types)
 }
 
 // The fronts of a chain in turn, given the type of its first operand.
@@ -182,8 +182,8 @@ fn fronts_typed<C: Scope>(
 {
     let mut whole = first;
     for link in links {
-        let t = typed(alloc, scope, &link.operand, behind(link.op, at))?;
-        whole = answered(front(link.op, at, place, whole, t, &link.operand))?;
+        let t = typed(alloc, scope, &link.operand, operand_standing(link.op, at))?;
+        whole = answered(check_front(link.op, at, place, whole, t, &link.operand))?;
     }
     Ok(whole)
 }
@@ -223,8 +223,8 @@ fn call_typed<C: Scope>(
     requires { IsTrue (trees_known (C.knows scope.now) (trees_of (map plain arguments.now))) }
     ensures { Ends result (typing (C.names scope.now) (standing_seen at) (call place function (trees_of (map plain arguments.now)))) }
 {
-    let types = part_types(alloc, scope, arguments, at.single())?;
-    called(alloc, place, function, &types, arguments)
+    let types = part_types(alloc, scope, arguments, at.without_sets())?;
+    check_call(alloc, place, function, &types, arguments)
 }
 
 #[cycle(typing)]
@@ -239,7 +239,7 @@ fn set_typed<C: Scope>(
     ensures { Ends result (typing (C.names scope.now) (standing_seen at) (set place (trees_of (map plain elements.now)))) }
 {
     let types = part_types(alloc, scope, elements, at)?;
-    gathered(alloc, place, at, &types)
+    check_set(alloc, place, at, &types)
 }
 
 // The types of arguments or elements.
@@ -278,7 +278,7 @@ fn choice_typed<C: Scope>(
 {
     let t = typed(alloc, scope, last, at)?;
     types.values.push(t)?;
-    branched(alloc, place, &types)
+    check_branches(alloc, place, &types)
 }
 
 #[cycle(typing)]
@@ -293,7 +293,7 @@ fn case_typed<C: Scope>(
     ensures { Ends result (typing (C.names scope.now) (standing_seen at) (cases place (branches_of (map plain_branch branches.now)))) }
 {
     let types = branch_types(alloc, scope, branches, at)?;
-    branched(alloc, place, &types)
+    check_branches(alloc, place, &types)
 }
 
 // The types of the conditions and of the values of branches.
@@ -313,7 +313,7 @@ fn branch_types<C: Scope>(
     let mut conditions = Vec::new(alloc);
     let mut values = Vec::new(alloc);
     for branch in branches {
-        let condition = typed(alloc, scope, &branch.when, at.single())?;
+        let condition = typed(alloc, scope, &branch.when, at.without_sets())?;
         let value = typed(alloc, scope, &branch.value, at)?;
         conditions.push(condition)?;
         values.push(value)?;

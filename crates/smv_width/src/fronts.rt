@@ -8,7 +8,7 @@ ghost use Rattle.smv_width.specs.FlatWidth.{infix_type_by, integer_within, front
 
 use smv_flat::{FlatExpr, FlatShape};
 use smv_intervals::{
-    Ty, difference_type, hull, kept, product_type, quotient_type, rest_type, sum_type,
+    Ty, difference_type, hull, product_type, quotient_type, rest_type, sum_type, type_within_limit,
 };
 use smv_text::{Infix, Prefix};
 
@@ -33,7 +33,7 @@ fn joined(op: Infix, t: Ty, u: Ty, divisor: Option<i128>) -> Option<Ty>
         | Infix::Xnor
         | Infix::And
         | Infix::ShiftLeft
-        | Infix::ShiftRight => integer(kept(t)),
+        | Infix::ShiftRight => integer(type_within_limit(t)),
         Infix::Equal
         | Infix::Unequal
         | Infix::Less
@@ -42,7 +42,7 @@ fn joined(op: Infix, t: Ty, u: Ty, divisor: Option<i128>) -> Option<Ty>
         | Infix::GreaterEq
         | Infix::Member
         | Infix::Concat => None,
-        Infix::Union => integer(kept(hull(t, u))),
+        Infix::Union => integer(type_within_limit(hull(t, u))),
         Infix::Plus => integer(sum_type(t, u)),
         Infix::Minus => integer(difference_type(t, u)),
         Infix::Times => integer(product_type(t, u)),

@@ -83,11 +83,11 @@ returns-in-None c =
     let asked : Asked (map instance_plain ts) c.number_of-i.result e state c.args.label c.args.following =
     asked_at ts t c.number_of-i.result k e state c.args.label c.args.following et ei
     (record { checked = c.requires.checked; words = words; stands = c.requires.stands; reach = c.requires.labelled; now_fits = c.requires.now_given; label_fits = c.requires.label_given; next_fits = c.requires.following_given }) in
-    other_value c.owned.result _ _
+    other_value c.into_value.result _ _
     (c.evaluate.ensures
     ∙ value_is ts (plain_source c.args.source.now) c.number_of-i.result k e state (following_or state c.args.following) c.args.label c.in_ok-here.here c.in_ok-here.here c.in_ok-label.label et ei asked.checked
     (ap stated c.in_ok-here.ensures.given) (ap stated c.in_ok-here.ensures.given ∙ sym (ap (following_or state) c.in-None.is)) c.in_ok-label.ensures.given)
-    c.owned.ensures
+    c.into_value.ensures
 
 pub row_of-requires-in-Some-clause-safe : goal.row_of-requires-in-Some-clause-safe
 row_of-requires-in-Some-clause-safe c =
@@ -144,8 +144,8 @@ returns c =
     let asked : Asked (map instance_plain ts) c.number_of-i.result e state c.args.label c.args.following =
     asked_at ts t c.number_of-i.result k e state c.args.label c.args.following et ei
     (record { checked = c.requires.checked; words = words; stands = c.requires.stands; reach = c.requires.labelled; now_fits = c.requires.now_given; label_fits = c.requires.label_given; next_fits = c.requires.following_given }) in
-    other_value c.owned-in-Some.result _ _
+    other_value c.into_value-in-Some.result _ _
     (c.evaluate-in-Some.ensures
     ∙ value_is ts (plain_source c.args.source.now) c.number_of-i.result k e state (following_or state c.args.following) c.args.label c.in_ok-here.here c.in_ok-there-in-Some.there c.in_ok-label.label et ei asked.checked
     (ap stated c.in_ok-here.ensures.given) (ap stated c.in_ok-there-in-Some.ensures.given ∙ sym (ap (following_or state) c.in-Some.is)) c.in_ok-label.ensures.given)
-    c.owned-in-Some.ensures
+    c.into_value-in-Some.ensures

@@ -7,15 +7,15 @@ use Rattle.smv_flat.proofs.flat.+flat_form.Goals as goal
 
 pub flat-returns-in_ok-x-in-Prefix : goal.flat-returns-in_ok-x-in-Prefix
 flat-returns-in_ok-x-in-Prefix g t c =
-    prefix_made (g.N.Naming.names c.args.context.now.naming.now c.args.i) (leaf_in (map instance_plain c.args.context.now.table.now) c.args.i) (standing_seen c.args.at) (standing_seen c.single.result) c.args.under c.args.e.now
-    c.deref.result.now c.in-Prefix.sign c.in-Prefix.count c.in-Prefix.operand c.in_ok-x-in-Prefix.x c.prefixed.result c.in-Prefix.is c.single.ensures c.deref.ensures c.in_ok-x-in-Prefix.ensures
+    prefix_made (g.N.Naming.names c.args.context.now.naming.now c.args.i) (leaf_in (map instance_plain c.args.context.now.table.now) c.args.i) (standing_seen c.args.at) (standing_seen c.without_sets.result) c.args.under c.args.e.now
+    c.deref.result.now c.in-Prefix.sign c.in-Prefix.count c.in-Prefix.operand c.in_ok-x-in-Prefix.x c.prefixed.result c.in-Prefix.is c.without_sets.ensures c.deref.ensures c.in_ok-x-in-Prefix.ensures
     c.prefixed.ensures
 
 pub flat-returns-in_ok-operands-in-Chain : goal.flat-returns-in_ok-operands-in-Chain
 flat-returns-in_ok-operands-in-Chain g t c =
-    chain_made (g.N.Naming.names c.args.context.now.naming.now c.args.i) (leaf_in (map instance_plain c.args.context.now.table.now) c.args.i) (standing_seen c.args.at) (standing_seen c.across-at.result) c.args.under c.args.e.now
+    chain_made (g.N.Naming.names c.args.context.now.naming.now c.args.i) (leaf_in (map instance_plain c.args.context.now.table.now) c.args.i) (standing_seen c.args.at) (standing_seen c.first_standing-at.result) c.args.under c.args.e.now
     c.deref-in-Chain.result.now c.in-Chain.first c.in-Chain.links c.as_slice-links.result.now c.in_ok-x-in-Chain.x c.in_ok-operands-in-Chain.operands c.chained.result c.in-Chain.is
-    c.as_slice-links.ensures.value c.across-at.ensures c.deref-in-Chain.ensures c.in_ok-x-in-Chain.ensures c.in_ok-operands-in-Chain.ensures c.chained.ensures
+    c.as_slice-links.ensures.value c.first_standing-at.ensures c.deref-in-Chain.ensures c.in_ok-x-in-Chain.ensures c.in_ok-operands-in-Chain.ensures c.chained.ensures
 
 pub flat-returns-in_ok-x-in-Choice : goal.flat-returns-in_ok-x-in-Choice
 flat-returns-in_ok-x-in-Choice g t c =
@@ -25,14 +25,14 @@ flat-returns-in_ok-x-in-Choice g t c =
 
 pub flat-returns-in_ok-x-in-Select : goal.flat-returns-in_ok-x-in-Select
 flat-returns-in_ok-x-in-Select g t c =
-    select_made (g.N.Naming.names c.args.context.now.naming.now c.args.i) (leaf_in (map instance_plain c.args.context.now.table.now) c.args.i) (standing_seen c.args.at) (standing_seen c.single-in-Select.result) c.args.under
-    c.args.e.now c.deref-in-Select.result.now c.in-Select.operand c.in-Select.high c.in-Select.low c.in_ok-x-in-Select.x c.selected.result c.in-Select.is c.single-in-Select.ensures
+    select_made (g.N.Naming.names c.args.context.now.naming.now c.args.i) (leaf_in (map instance_plain c.args.context.now.table.now) c.args.i) (standing_seen c.args.at) (standing_seen c.without_sets-in-Select.result) c.args.under
+    c.args.e.now c.deref-in-Select.result.now c.in-Select.operand c.in-Select.high c.in-Select.low c.in_ok-x-in-Select.x c.selected.result c.in-Select.is c.without_sets-in-Select.ensures
     c.deref-in-Select.ensures c.in_ok-x-in-Select.ensures c.selected.ensures
 
 pub flat-returns-in_ok-parts-in-Call : goal.flat-returns-in_ok-parts-in-Call
 flat-returns-in_ok-parts-in-Call g t c =
-    call_made (g.N.Naming.names c.args.context.now.naming.now c.args.i) (leaf_in (map instance_plain c.args.context.now.table.now) c.args.i) (standing_seen c.args.at) (standing_seen c.single-in-Call.result) c.args.under c.args.e.now
-    c.in-Call.function c.in-Call.arguments c.as_slice-arguments.result.now c.in_ok-parts-in-Call.parts c.called.result c.in-Call.is c.as_slice-arguments.ensures.value c.single-in-Call.ensures
+    call_made (g.N.Naming.names c.args.context.now.naming.now c.args.i) (leaf_in (map instance_plain c.args.context.now.table.now) c.args.i) (standing_seen c.args.at) (standing_seen c.without_sets-in-Call.result) c.args.under c.args.e.now
+    c.in-Call.function c.in-Call.arguments c.as_slice-arguments.result.now c.in_ok-parts-in-Call.parts c.called.result c.in-Call.is c.as_slice-arguments.ensures.value c.without_sets-in-Call.ensures
     c.in_ok-parts-in-Call.ensures c.called.ensures
 
 pub flat-returns-in_ok-x-in-Next : goal.flat-returns-in_ok-x-in-Next

@@ -9,4 +9,4 @@ pub returns : goal.returns
 returns c =
     subst (λ ts. IfOk c.ended.result (λ o. option_map seen o ≡ (implies_step c.args.place (all_types ts)).type))
     (all_put c.args.types.now c.loop-t.all.items c.deref.result.now c.loop-t.t-index (option_map seen c.args.first ∷ map (option_map seen) c.args.types.now) c.loop-t-test.false c.loop-t.invariant c.deref.ensures.value)
-    (c.ended.ensures _ _ c.implied.ensures)
+    (c.ended.ensures _ _ c.check_implication.ensures)

@@ -11,10 +11,10 @@ pub returns-in-None-clause-reads : goal.returns-in-None-clause-reads
 returns-in-None-clause-reads c =
     bracketed_none expression c.args.high c.args.tokens.now (sym c.in-None.ensures.found) ∙ ap (λ z. found (map plain z) c.args.high c.args.tokens.now) (sym c.new.ensures.items)
 
-pub returns-in-Some-after-clause-reads : goal.returns-in-Some-after-clause-reads
-returns-in-Some-after-clause-reads c =
-    bracketed_empty expression c.args.high c.args.tokens.now c.in-Some.rest.now c.in-Some-after.last.now (sym c.in-Some.ensures.found) (sym c.in-Some-after.ensures.found) ∙ ap (λ z. found (map plain z) c.args.high c.in-Some-after.last.now) (sym c.new-in-Some-after.ensures.items)
+pub returns-in-Some-tokens_after-clause-reads : goal.returns-in-Some-tokens_after-clause-reads
+returns-in-Some-tokens_after-clause-reads c =
+    bracketed_empty expression c.args.high c.args.tokens.now c.in-Some.rest.now c.in-Some-tokens_after.last.now (sym c.in-Some.ensures.found) (sym c.in-Some-tokens_after.ensures.found) ∙ ap (λ z. found (map plain z) c.args.high c.in-Some-tokens_after.last.now) (sym c.new-in-Some-tokens_after.ensures.items)
 
-pub returns-in-None-after-clause-reads : goal.returns-in-None-after-clause-reads
-returns-in-None-after-clause-reads c =
-    gives_same _ (bracketed expression c.args.high c.args.tokens.now) (listed expression signs.Close c.args.high c.in-Some.rest.now) _ (bracketed_some expression c.args.high c.args.tokens.now c.in-Some.rest.now (sym c.in-Some.ensures.found) (sym c.in-None-after.ensures.found)) c.arguments.ensures.reads
+pub returns-in-None-tokens_after-clause-reads : goal.returns-in-None-tokens_after-clause-reads
+returns-in-None-tokens_after-clause-reads c =
+    gives_same _ (bracketed expression c.args.high c.args.tokens.now) (listed expression signs.Close c.args.high c.in-Some.rest.now) _ (bracketed_some expression c.args.high c.args.tokens.now c.in-Some.rest.now (sym c.in-Some.ensures.found) (sym c.in-None-tokens_after.ensures.found)) c.arguments.ensures.reads

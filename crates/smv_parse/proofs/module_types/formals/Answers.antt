@@ -10,10 +10,10 @@ pub returns-in-None-clause-reads : goal.returns-in-None-clause-reads
 returns-in-None-clause-reads c h =
     bracketed_none parameter h c.args.tokens.now (sym c.in-None.ensures.found) ∙ ap (λ z. found z h c.args.tokens.now) (sym c.new.ensures)
 
-pub returns-in-Some-after-clause-reads : goal.returns-in-Some-after-clause-reads
-returns-in-Some-after-clause-reads c h =
-    bracketed_empty parameter h c.args.tokens.now c.in-Some.rest.now c.in-Some-after.last.now (sym c.in-Some.ensures.found) (sym c.in-Some-after.ensures.found) ∙ ap (λ z. found z h c.in-Some-after.last.now) (sym c.new-in-Some-after.ensures)
+pub returns-in-Some-tokens_after-clause-reads : goal.returns-in-Some-tokens_after-clause-reads
+returns-in-Some-tokens_after-clause-reads c h =
+    bracketed_empty parameter h c.args.tokens.now c.in-Some.rest.now c.in-Some-tokens_after.last.now (sym c.in-Some.ensures.found) (sym c.in-Some-tokens_after.ensures.found) ∙ ap (λ z. found z h c.in-Some-tokens_after.last.now) (sym c.new-in-Some-tokens_after.ensures)
 
-pub returns-in-None-after-clause-reads : goal.returns-in-None-after-clause-reads
-returns-in-None-after-clause-reads c h =
-    gives_same _ (bracketed parameter h c.args.tokens.now) (listed parameter signs.Close h c.in-Some.rest.now) _ (bracketed_some parameter h c.args.tokens.now c.in-Some.rest.now (sym c.in-Some.ensures.found) (sym c.in-None-after.ensures.found)) (c.parameters.ensures.reads h)
+pub returns-in-None-tokens_after-clause-reads : goal.returns-in-None-tokens_after-clause-reads
+returns-in-None-tokens_after-clause-reads c h =
+    gives_same _ (bracketed parameter h c.args.tokens.now) (listed parameter signs.Close h c.in-Some.rest.now) _ (bracketed_some parameter h c.args.tokens.now c.in-Some.rest.now (sym c.in-Some.ensures.found) (sym c.in-None-tokens_after.ensures.found)) (c.parameters.ensures.reads h)

@@ -18,26 +18,26 @@ use Rattle.smv_script_terms.proofs.terms.+terms.Goals as goal
 
 -- ---- depths
 
-pub cases-stated-requires : goal.cases-stated-requires
-cases-stated-requires t c = let d = branch_low c.args.branches.now c.loop-branch.branch-index c.branch-item.result c.loop-branch-test.true c.branch-item.is in omega (arith, d.when)
+pub cases-terms_of-requires : goal.cases-terms_of-requires
+cases-terms_of-requires t c = let d = branch_low c.args.branches.now c.loop-branch.branch-index c.branch-item.result c.loop-branch-test.true c.branch-item.is in omega (arith, d.when)
 
-pub cases-stated-requires-in-loop-branch : goal.cases-stated-requires-in-loop-branch
-cases-stated-requires-in-loop-branch t c = let d = branch_low c.args.branches.now c.loop-branch.branch-index c.branch-item.result c.loop-branch-test.true c.branch-item.is in omega (arith, d.value)
+pub cases-terms_of-requires-in-loop-branch : goal.cases-terms_of-requires-in-loop-branch
+cases-terms_of-requires-in-loop-branch t c = let d = branch_low c.args.branches.now c.loop-branch.branch-index c.branch-item.result c.loop-branch-test.true c.branch-item.is in omega (arith, d.value)
 
 pub folded-behind-requires : goal.folded-behind-requires
 folded-behind-requires t c = let d = link_low c.args.links.now c.loop-link.link-index c.link-item.result c.loop-link-test.true c.link-item.is in omega (arith, d)
 
-pub link_terms-stated-requires-in-loop-link : goal.link_terms-stated-requires-in-loop-link
-link_terms-stated-requires-in-loop-link t c = let d = link_low c.args.links.now c.loop-link.link-index c.link-item.result c.loop-link-test.true c.link-item.is in omega (arith, d)
+pub link_terms-terms_of-requires-in-loop-link : goal.link_terms-terms_of-requires-in-loop-link
+link_terms-terms_of-requires-in-loop-link t c = let d = link_low c.args.links.now c.loop-link.link-index c.link-item.result c.loop-link-test.true c.link-item.is in omega (arith, d)
 
-pub operands-stated-requires : goal.operands-stated-requires
-operands-stated-requires t c = let d = link_low c.args.links.now c.loop-link.link-index c.link-item.result c.loop-link-test.true c.link-item.is in omega (arith, d)
+pub operands-terms_of-requires : goal.operands-terms_of-requires
+operands-terms_of-requires t c = let d = link_low c.args.links.now c.loop-link.link-index c.link-item.result c.loop-link-test.true c.link-item.is in omega (arith, d)
 
-pub parts-stated-requires : goal.parts-stated-requires
-parts-stated-requires t c = let d = tree_low c.args.exprs.now c.loop-e.e-index c.e-item.result c.loop-e-test.true c.e-item.is in omega (arith, d)
+pub parts-terms_of-requires : goal.parts-terms_of-requires
+parts-terms_of-requires t c = let d = tree_low c.args.exprs.now c.loop-e.e-index c.e-item.result c.loop-e-test.true c.e-item.is in omega (arith, d)
 
-pub taken-stated-requires : goal.taken-stated-requires
-taken-stated-requires t c = let d = firsts_low c.args.branches.now c.in-Some.firsts.now c.in-Some.last.now c.in-Some.ensures.cases.0 in omega (arith, d.last)
+pub taken-terms_of-requires : goal.taken-terms_of-requires
+taken-terms_of-requires t c = let d = firsts_low c.args.branches.now c.in-Some.firsts.now c.in-Some.last.now c.in-Some.ensures.cases.0 in omega (arith, d.last)
 
 pub taken-cases-requires : goal.taken-cases-requires
 taken-cases-requires t c = let d = firsts_low c.args.branches.now c.in-Some.firsts.now c.in-Some.last.now c.in-Some.ensures.cases.0 in omega (arith, d.firsts)
@@ -113,12 +113,12 @@ chained-returns-in_ok-value-in-Implied t c = ok_same plain c.answer.result _ _
     ∙ ap (implied_parts ((translation (codes_of c.args.coding.now) (plain_flat c.args.first.now)).term c.args.k)) c.in_ok-operands-in-Implied.ensures))
     c.answer.ensures
 
-pub chained-returns-in_ok-terms-in-Joint : goal.chained-returns-in_ok-terms-in-Joint
-chained-returns-in_ok-terms-in-Joint t c = ok_same plain c.answer-in-Joint.result _ _
-    (joint_read c.args.question (codes_of c.args.coding.now) c.args.k (plain_flat c.args.first.now) (flat_links_of (map plain_flat_link c.args.links.now)) c.in-Joint.op c.in-Joint.words _
-    (sym c.reading_of.ensures ∙ c.in-Joint.is)
-    (plain-Apply c.joint_operator.result c.in_ok-terms-in-Joint.terms ∙ ap (λ o. apply o (trees_of (map plain c.in_ok-terms-in-Joint.terms.items))) c.joint_operator.ensures ∙ ap (apply (joint_op c.in-Joint.op c.in-Joint.words)) c.in_ok-terms-in-Joint.ensures))
-    c.answer-in-Joint.ensures
+pub chained-returns-in_ok-terms-in-OneOperator : goal.chained-returns-in_ok-terms-in-OneOperator
+chained-returns-in_ok-terms-in-OneOperator t c = ok_same plain c.answer-in-OneOperator.result _ _
+    (joint_read c.args.question (codes_of c.args.coding.now) c.args.k (plain_flat c.args.first.now) (flat_links_of (map plain_flat_link c.args.links.now)) c.in-OneOperator.op c.in-OneOperator.words _
+    (sym c.reading_of.ensures ∙ c.in-OneOperator.is)
+    (plain-Apply c.joint_operator.result c.in_ok-terms-in-OneOperator.terms ∙ ap (λ o. apply o (trees_of (map plain c.in_ok-terms-in-OneOperator.terms.items))) c.joint_operator.ensures ∙ ap (apply (joint_op c.in-OneOperator.op c.in-OneOperator.words)) c.in_ok-terms-in-OneOperator.ensures))
+    c.answer-in-OneOperator.ensures
 
 pub chained-returns-in_ok-value-in-Left : goal.chained-returns-in_ok-value-in-Left
 chained-returns-in_ok-value-in-Left t c = ok_same plain c.answer-in-Left.result _ _
@@ -132,31 +132,31 @@ taken-returns-in_ok-cases-in-Some t c = ok_same plain c.chosen.result _ _
     c.in-Some.ensures.cases.0 c.in_ok-cases-in-Some.ensures c.in_ok-whole-in-Some.ensures)
     c.chosen.ensures
 
-pub stated-returns-in_ok-value-in-Prefix : goal.stated-returns-in_ok-value-in-Prefix
-stated-returns-in_ok-value-in-Prefix t c = ok_same plain c.answer-in-Prefix.result _ _
+pub terms_of-returns-in_ok-value-in-Prefix : goal.terms_of-returns-in_ok-value-in-Prefix
+terms_of-returns-in_ok-value-in-Prefix t c = ok_same plain c.answer-in-Prefix.result _ _
     (prefix_made c.args.question (codes_of c.args.coding.now) c.args.k c.args.e.now c.deref.result.now c.in-Prefix.sign c.in-Prefix.count c.in-Prefix.operand (plain c.in_ok-value-in-Prefix.value)
     c.in-Prefix.is c.deref.ensures c.in_ok-value-in-Prefix.ensures)
     c.answer-in-Prefix.ensures
 
-pub stated-returns-in_ok-value-in-Select : goal.stated-returns-in_ok-value-in-Select
-stated-returns-in_ok-value-in-Select t c = ok_same plain c.answer-in-Select.result _ _
+pub terms_of-returns-in_ok-value-in-Select : goal.terms_of-returns-in_ok-value-in-Select
+terms_of-returns-in_ok-value-in-Select t c = ok_same plain c.answer-in-Select.result _ _
     (select_made c.args.question (codes_of c.args.coding.now) c.args.k c.args.e.now c.deref-in-Select.result.now c.deref-in-Select-2.result.now c.in-Select.operand c.in-Select.high c.in-Select.low c.word_width.result
     (plain c.in_ok-a-in-Select.a) (plain c.in_ok-value-in-Select.value) c.in-Select.is c.deref-in-Select.ensures c.deref-in-Select-2.ensures c.in_ok-a-in-Select.ensures c.word_width.ensures c.in_ok-value-in-Select.ensures)
     c.answer-in-Select.ensures
 
-pub stated-returns-in_ok-value-in-Call : goal.stated-returns-in_ok-value-in-Call
-stated-returns-in_ok-value-in-Call t c = ok_same plain c.answer-in-Call.result _ _
+pub terms_of-returns-in_ok-value-in-Call : goal.terms_of-returns-in_ok-value-in-Call
+terms_of-returns-in_ok-value-in-Call t c = ok_same plain c.answer-in-Call.result _ _
     (call_made c.args.question (codes_of c.args.coding.now) c.args.k c.args.e.now c.in-Call.function c.in-Call.arguments c.deref-in-Call.result.now (plain c.in_ok-value-in-Call.value)
     c.in-Call.is c.deref-in-Call.ensures.value c.in_ok-value-in-Call.ensures)
     c.answer-in-Call.ensures
 
-pub stated-returns-in-Set : goal.stated-returns-in-Set
-stated-returns-in-Set t c = ok_same plain c.gathered.result _ _
+pub terms_of-returns-in-Set : goal.terms_of-returns-in-Set
+terms_of-returns-in-Set t c = ok_same plain c.gathered.result _ _
     (set_made c.args.question (codes_of c.args.coding.now) c.args.k c.args.e.now c.in-Set.elements c.deref-in-Set.result.now c.in-Set.is c.deref-in-Set.ensures.value)
     c.gathered.ensures
 
-pub stated-returns-in_ok-cases-in-Choice : goal.stated-returns-in_ok-cases-in-Choice
-stated-returns-in_ok-cases-in-Choice t c = ok_same plain c.chosen.result _ _
+pub terms_of-returns-in_ok-cases-in-Choice : goal.terms_of-returns-in_ok-cases-in-Choice
+terms_of-returns-in_ok-cases-in-Choice t c = ok_same plain c.chosen.result _ _
     (choice_made c.args.question (codes_of c.args.coding.now) c.args.k c.args.e.now c.deref-in-Choice.result.now c.in-Choice.branches c.in-Choice.last c.deref-in-Choice-2.result.now
     (map case_plain c.in_ok-cases-in-Choice.cases.items) (plain c.in_ok-whole-in-Choice.whole) c.in-Choice.is c.deref-in-Choice-2.ensures.value c.deref-in-Choice.ensures
     c.in_ok-cases-in-Choice.ensures c.in_ok-whole-in-Choice.ensures)

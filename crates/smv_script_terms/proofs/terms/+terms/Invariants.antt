@@ -10,8 +10,8 @@ use Rattle.smv_script_terms.specs.Readings.{folded_answer}
 use Rattle.smv_script_terms.proofs.Depths.{depth, links_depth, branches_depth, trees_depth}
 use Rattle.smv_script_terms.proofs.terms.+terms.Given as goal
 
-abbrev pub decreases-stated : goal.decreases-stated
-decreases-stated l = 8 * depth (plain_flat l.e.now) + 1
+abbrev pub decreases-terms_of : goal.decreases-terms_of
+decreases-terms_of l = 8 * depth (plain_flat l.e.now) + 1
 
 abbrev pub decreases-prefixed : goal.decreases-prefixed
 decreases-prefixed l = 8 * depth (plain_flat l.operand.now) + 2

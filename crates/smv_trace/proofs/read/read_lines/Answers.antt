@@ -19,7 +19,7 @@ returns-in-Err c =
     let line = c.split_at.result.0.now in
     let marked = c.split_at.result.1.now in
     let lines = rest_lines rest line marked c.line_length.result c.line_length.ensures.value c.split_at.ensures.front c.split_at.ensures.back in
-    let stops = line_stops (Unit {0}) d end c.lines.at rest line marked c.trimmed.result.now c.lines.reader c.take_line.new.self c.take_line.new.self c.in-Err.end lines c.trimmed.ensures c.in-Err.ensures.step in
+    let stops = line_stops (Unit {0}) d end c.lines.at rest line marked c.trim.result.now c.lines.reader c.take_line.new.self c.take_line.new.self c.in-Err.end lines c.trim.ensures c.in-Err.ensures.step in
     subst (λ (x : Result Run Refusal). Finishes {B = Unit {0}} x c.take_line.new.self (Err c.in-Err.end)) c.lines.invariant.same stops
 
 pub returns-in_default : goal.returns-in_default
@@ -30,7 +30,7 @@ returns-in_default c =
     let marked = c.split_at.result.1.now in
     let lines = rest_lines rest line marked c.line_length.result c.line_length.ensures.value c.split_at.ensures.front c.split_at.ensures.back in
     let none : marked ≡ [] = nil_from_length marked c.in_default.ensures.cases in
-    let last = line_last d (after start c.args.text.now) c.lines.at rest line marked c.trimmed.result.now c.lines.reader c.take_line.new.self lines c.trimmed.ensures none c.in-Ok.ensures.step in
+    let last = line_last d (after start c.args.text.now) c.lines.at rest line marked c.trim.result.now c.lines.reader c.take_line.new.self lines c.trim.ensures none c.in-Ok.ensures.step in
     let e = sym c.lines.invariant.same ∙ last in
     subst (λ (x : Result Run Refusal). Finishes x c.finish.new.self c.finish.result) (sym e) c.finish.ensures
 
@@ -44,7 +44,7 @@ lines-preserved c =
     let more = c.in-Some.more.now in
     let lines = rest_lines rest line marked c.line_length.result c.line_length.ensures.value c.split_at.ensures.front c.split_at.ensures.back in
     let some : marked ≡ c.in-Some.field-0-0.now ∷ more = c.in-Some.ensures.cases.0 in
-    let step = line_more d end c.lines.at rest line marked c.trimmed.result.now more c.in-Some.field-0-0.now c.lines.reader c.take_line.new.self lines c.trimmed.ensures some c.in-Ok.ensures.step in
+    let step = line_more d end c.lines.at rest line marked c.trim.result.now more c.in-Some.field-0-0.now c.lines.reader c.take_line.new.self lines c.trim.ensures some c.in-Ok.ensures.step in
     let at : c.behind_line-at.result ≡ behind_line c.lines.at line = c.behind_line-at.ensures in
     record {
       same = ap (λ (p : Place). lines_read d end p (lines_of more) c.take_line.new.self) at ∙ sym step ∙ c.lines.invariant.same;

@@ -20,27 +20,27 @@ pub prefix_typed-returns-in_err-t : goal.prefix_typed-returns-in_err-t
 prefix_typed-returns-in_err-t g t c =
     let a = typing (g.C.Scope.names c.args.scope.now) (single (standing_seen c.args.at)) (plain c.args.operand.now) in
     rest_stops c.from_residual.result c.in_err-t.field-0.0 a.checks (prefix_step c.args.place c.args.sign c.args.count a.type) c.from_residual.ensures.1
-    (rw c.single.ensures at c.in_err-t.ensures)
+    (rw c.without_sets.ensures at c.in_err-t.ensures)
 
 pub prefix_typed-returns : goal.prefix_typed-returns
 prefix_typed-returns g t c =
     let a = typing (g.C.Scope.names c.args.scope.now) (single (standing_seen c.args.at)) (plain c.args.operand.now) in
     let x = option_map seen c.in_ok-t.t in
-    passed_operand c.answered.result a x (prefix_step c.args.place c.args.sign c.args.count) (rw c.single.ensures at c.in_ok-t.ensures)
-    (c.answered.ensures (prefix_step c.args.place c.args.sign c.args.count x) c.signed.ensures)
+    passed_operand c.answered.result a x (prefix_step c.args.place c.args.sign c.args.count) (rw c.without_sets.ensures at c.in_ok-t.ensures)
+    (c.answered.ensures (prefix_step c.args.place c.args.sign c.args.count x) c.check_sign.ensures)
 
 pub select_typed-returns-in_err-t : goal.select_typed-returns-in_err-t
 select_typed-returns-in_err-t g t c =
     let a = typing (g.C.Scope.names c.args.scope.now) (single (standing_seen c.args.at)) (plain c.args.operand.now) in
     rest_stops c.from_residual.result c.in_err-t.field-0.0 a.checks (select_step c.args.place c.args.high c.args.low a.type) c.from_residual.ensures.1
-    (rw c.single.ensures at c.in_err-t.ensures)
+    (rw c.without_sets.ensures at c.in_err-t.ensures)
 
 pub select_typed-returns : goal.select_typed-returns
 select_typed-returns g t c =
     let a = typing (g.C.Scope.names c.args.scope.now) (single (standing_seen c.args.at)) (plain c.args.operand.now) in
     let x = option_map seen c.in_ok-t.t in
-    passed_operand c.answered.result a x (select_step c.args.place c.args.high c.args.low) (rw c.single.ensures at c.in_ok-t.ensures)
-    (c.answered.ensures (select_step c.args.place c.args.high c.args.low x) c.selected.ensures)
+    passed_operand c.answered.result a x (select_step c.args.place c.args.high c.args.low) (rw c.without_sets.ensures at c.in_ok-t.ensures)
+    (c.answered.ensures (select_step c.args.place c.args.high c.args.low x) c.check_selection.ensures)
 
 pub next_typed-returns-in_err-t : goal.next_typed-returns-in_err-t
 next_typed-returns-in_err-t g t c =
@@ -53,7 +53,7 @@ next_typed-returns g t c =
     let a = typing (g.C.Scope.names c.args.scope.now) under_next (plain c.args.operand.now) in
     let x = option_map seen c.in_ok-t.t in
     passed_operand c.answered.result a x (next_step c.args.place (standing_seen c.args.at)) (rw c.under_next.ensures at c.in_ok-t.ensures)
-    (c.answered.ensures (next_step c.args.place (standing_seen c.args.at) x) c.following.ensures)
+    (c.answered.ensures (next_step c.args.place (standing_seen c.args.at) x) c.check_next.ensures)
 
 -- ---- several operands
 
@@ -64,19 +64,19 @@ call_typed-returns-in_err-types g t c =
     let es = trees_of (map plain c.args.arguments.now) in
     rest_stops c.from_residual.result c.in_err-types.field-0.0 (tree_checks names at es)
     (call_step c.args.place c.args.function (all_types (tree_types names at es)) (numbers_of es)) c.from_residual.ensures.1
-    (rw c.single.ensures at c.in_err-types.ensures.refused)
+    (rw c.without_sets.ensures at c.in_err-types.ensures.refused)
 
 pub call_typed-returns : goal.call_typed-returns
 call_typed-returns g t c =
     let names = g.C.Scope.names c.args.scope.now in
     let at = single (standing_seen c.args.at) in
     let es = trees_of (map plain c.args.arguments.now) in
-    over c.called.result (tree_checks names at es)
+    over c.check_call.result (tree_checks names at es)
     (call_step c.args.place c.args.function (all_types (map (option_map seen) c.deref.result.now)) (numbers_of es))
     (call_step c.args.place c.args.function (all_types (tree_types names at es)) (numbers_of es))
-    (rw c.single.ensures at c.in_ok-types.ensures.passes)
-    (ap (λ ts. call_step c.args.place c.args.function (all_types ts) (numbers_of es)) (ap (map (option_map seen)) c.deref.ensures.value ∙ (rw c.single.ensures at c.in_ok-types.ensures.types)))
-    c.called.ensures
+    (rw c.without_sets.ensures at c.in_ok-types.ensures.passes)
+    (ap (λ ts. call_step c.args.place c.args.function (all_types ts) (numbers_of es)) (ap (map (option_map seen)) c.deref.ensures.value ∙ (rw c.without_sets.ensures at c.in_ok-types.ensures.types)))
+    c.check_call.ensures
 
 pub set_typed-returns-in_err-types : goal.set_typed-returns-in_err-types
 set_typed-returns-in_err-types g t c =
@@ -91,12 +91,12 @@ set_typed-returns g t c =
     let names = g.C.Scope.names c.args.scope.now in
     let at = standing_seen c.args.at in
     let es = trees_of (map plain c.args.elements.now) in
-    over c.gathered.result (tree_checks names at es)
+    over c.check_set.result (tree_checks names at es)
     (set_step c.args.place at (all_types (map (option_map seen) c.deref.result.now)))
     (set_step c.args.place at (all_types (tree_types names at es)))
     c.in_ok-types.ensures.passes
     (ap (λ ts. set_step c.args.place at (all_types ts)) (ap (map (option_map seen)) c.deref.ensures.value ∙ c.in_ok-types.ensures.types))
-    c.gathered.ensures
+    c.check_set.ensures
 
 pub implications_typed-returns-in_err-types : goal.implications_typed-returns-in_err-types
 implications_typed-returns-in_err-types g t c =
@@ -111,12 +111,12 @@ implications_typed-returns g t c =
     let names = g.C.Scope.names c.args.scope.now in
     let at = standing_seen c.args.at in
     let ls = links_of (map plain_link c.args.links.now) in
-    over c.implied.result (link_checks names at ls)
+    over c.check_implication.result (link_checks names at ls)
     (implies_step c.args.place (all_types (map (option_map seen) c.deref.result.now)))
     (implies_step c.args.place (all_types (option_map seen c.args.first ∷ link_types names at ls)))
     c.in_ok-types.ensures.passes
     (ap (λ ts. implies_step c.args.place (all_types ts)) (ap (map (option_map seen)) c.deref.ensures.value ∙ c.in_ok-types.ensures.types))
-    c.implied.ensures
+    c.check_implication.ensures
 
 pub case_typed-returns-in_err-types : goal.case_typed-returns-in_err-types
 case_typed-returns-in_err-types g t c =
@@ -133,13 +133,13 @@ case_typed-returns g t c =
     let bs = branches_of (map plain_branch c.args.branches.now) in
     let conditions = map (option_map seen) c.in_ok-types.types.conditions.items in
     let values = map (option_map seen) c.in_ok-types.types.values.items in
-    over c.branched.result (branch_checks names at bs)
+    over c.check_branches.result (branch_checks names at bs)
     (branches_step c.args.place (all_types conditions) (all_types values))
     (branches_step c.args.place (all_types (condition_types names (single at) bs)) (all_types (value_types names at bs [])))
     c.in_ok-types.ensures.passes
     (ap (λ ts. branches_step c.args.place (all_types ts) (all_types values)) c.in_ok-types.ensures.conditions
     ∙ ap (λ ts. branches_step c.args.place (all_types (condition_types names (single at) bs)) (all_types ts)) c.in_ok-types.ensures.values)
-    c.branched.ensures
+    c.check_branches.ensures
 
 -- ---- loops over operands
 
@@ -202,7 +202,7 @@ fronts_typed-returns-in_err-t g t c =
     let s = taken c.args.links.now c.loop-link.link-index c.link-item.result c.loop-link-test.true c.link-item.is in
     fronts_end names at c.args.place (option_map seen c.loop-link.whole) c.args.links.now (drop (c.loop-link.link-index + 1) c.args.links.now) c.link-item.result c.loop-link.link-index
     c.in_err-t.field-0.0 (linked names at c.args.place (passed (option_map seen c.args.first)) (links_of (map plain_link c.args.links.now))) c.from_residual.result s
-    c.loop-link.invariant.same c.from_residual.ensures.1 (rw c.behind.ensures at c.in_err-t.ensures)
+    c.loop-link.invariant.same c.from_residual.ensures.1 (rw c.operand_standing.ensures at c.in_err-t.ensures)
 
 pub fronts_typed-returns-in_err-whole : goal.fronts_typed-returns-in_err-whole
 fronts_typed-returns-in_err-whole g t c =
@@ -213,8 +213,8 @@ fronts_typed-returns-in_err-whole g t c =
     let s = taken c.args.links.now c.loop-link.link-index c.link-item.result c.loop-link-test.true c.link-item.is in
     fronts_stop names at c.args.place w y c.args.links.now (drop (c.loop-link.link-index + 1) c.args.links.now) c.link-item.result c.loop-link.link-index
     c.in_err-whole.field-0.0 (linked names at c.args.place (passed (option_map seen c.args.first)) (links_of (map plain_link c.args.links.now))) c.from_residual-in_err-whole.result s
-    c.loop-link.invariant.same c.from_residual-in_err-whole.ensures.1 (rw c.behind.ensures at c.in_ok-t.ensures)
-    (c.in_err-whole.ensures (front_step c.link-item.result.op at c.args.place w y (plain c.link-item.result.operand)) c.front.ensures)
+    c.loop-link.invariant.same c.from_residual-in_err-whole.ensures.1 (rw c.operand_standing.ensures at c.in_ok-t.ensures)
+    (c.in_err-whole.ensures (front_step c.link-item.result.op at c.args.place w y (plain c.link-item.result.operand)) c.check_front.ensures)
 
 pub fronts_typed-loop-link-preserved : goal.fronts_typed-loop-link-preserved
 fronts_typed-loop-link-preserved g t c =
@@ -230,8 +230,8 @@ fronts_typed-loop-link-preserved g t c =
       same =
           fronts_go names at c.args.place w y (option_map seen c.in_ok-whole.whole) xs rest c.link-item.result c.loop-link.link-index
           (outcome (linked names at c.args.place (passed (option_map seen c.args.first)) (links_of (map plain_link xs)))) s c.loop-link.invariant.same
-          (rw c.behind.ensures at c.in_ok-t.ensures)
-          (c.in_ok-whole.ensures (front_step c.link-item.result.op at c.args.place w y (plain c.link-item.result.operand)) c.front.ensures);
+          (rw c.operand_standing.ensures at c.in_ok-t.ensures)
+          (c.in_ok-whole.ensures (front_step c.link-item.result.op at c.args.place w y (plain c.link-item.result.operand)) c.check_front.ensures);
     }
 
 pub branch_types-returns-in_err-condition-clause-refused : goal.branch_types-returns-in_err-condition-clause-refused
@@ -241,7 +241,7 @@ branch_types-returns-in_err-condition-clause-refused g t c =
     let s = taken c.args.branches.now c.loop-branch.branch-index c.branch-item.result c.loop-branch-test.true c.branch-item.is in
     rest_refuses c.from_residual.result c.in_err-condition.field-0.0 (first_failing (branch_checks names at (branches_of (map plain_branch c.args.branches.now)))) c.from_residual.ensures.1
     (conditions_end names at c.args.branches.now (drop (c.loop-branch.branch-index + 1) c.args.branches.now) c.branch-item.result c.loop-branch.branch-index c.in_err-condition.field-0.0 s
-    c.loop-branch.invariant.passes (rw c.single.ensures at c.in_err-condition.ensures))
+    c.loop-branch.invariant.passes (rw c.without_sets.ensures at c.in_err-condition.ensures))
 
 pub branch_types-returns-in_err-value-clause-refused : goal.branch_types-returns-in_err-value-clause-refused
 branch_types-returns-in_err-value-clause-refused g t c =
@@ -250,7 +250,7 @@ branch_types-returns-in_err-value-clause-refused g t c =
     let s = taken c.args.branches.now c.loop-branch.branch-index c.branch-item.result c.loop-branch-test.true c.branch-item.is in
     rest_refuses c.from_residual-in_err-value.result c.in_err-value.field-0.0 (first_failing (branch_checks names at (branches_of (map plain_branch c.args.branches.now)))) c.from_residual-in_err-value.ensures.1
     (values_end names at c.args.branches.now (drop (c.loop-branch.branch-index + 1) c.args.branches.now) c.branch-item.result c.loop-branch.branch-index
-    (option_map seen c.in_ok-condition.condition) c.in_err-value.field-0.0 s c.loop-branch.invariant.passes (rw c.single.ensures at c.in_ok-condition.ensures) c.in_err-value.ensures)
+    (option_map seen c.in_ok-condition.condition) c.in_err-value.field-0.0 s c.loop-branch.invariant.passes (rw c.without_sets.ensures at c.in_ok-condition.ensures) c.in_err-value.ensures)
 
 pub branch_types-loop-branch-preserved : goal.branch_types-loop-branch-preserved
 branch_types-loop-branch-preserved g t c =
@@ -259,7 +259,7 @@ branch_types-loop-branch-preserved g t c =
     let xs = c.args.branches.now in
     let rest = drop (c.loop-branch.branch-index + 1) c.args.branches.now in
     let s = taken c.args.branches.now c.loop-branch.branch-index c.branch-item.result c.loop-branch-test.true c.branch-item.is in
-    let when = rw c.single.ensures at c.in_ok-condition.ensures in
+    let when = rw c.without_sets.ensures at c.in_ok-condition.ensures in
     record {
       known = branches_still (g.C.Scope.knows c.args.scope.now) xs rest c.branch-item.result c.loop-branch.branch-index s c.loop-branch.invariant.known;
       passes = branches_go names at xs rest c.branch-item.result c.loop-branch.branch-index (option_map seen c.in_ok-condition.condition) (option_map seen c.in_ok-value.value) s
@@ -281,12 +281,12 @@ branch_types-loop-branch-preserved g t c =
 pub chain_typed-returns-then-is_from_right : goal.chain_typed-returns-then-is_from_right
 chain_typed-returns-then-is_from_right g t c f h =
     right_goes (g.C.Scope.names c.args.scope.now) (standing_seen c.args.at) c.args.place f (links_of (map plain_link c.args.links.now)) c.implications_typed.result
-    (option_map seen c.args.first) (sym c.is_from_right.ensures ∙ c.if-is_from_right.true) h (rw c.single.ensures at c.implications_typed.ensures)
+    (option_map seen c.args.first) (sym c.is_from_right.ensures ∙ c.if-is_from_right.true) h (rw c.without_sets.ensures at c.implications_typed.ensures)
 
 pub chain_typed-returns-else-is_from_right : goal.chain_typed-returns-else-is_from_right
 chain_typed-returns-else-is_from_right g t c f h =
     left_goes (g.C.Scope.names c.args.scope.now) (standing_seen c.args.at) c.args.place f (links_of (map plain_link c.args.links.now)) c.fronts_typed.result
-    (option_map seen c.args.first) (sym c.is_from_right.ensures ∙ c.if-is_from_right.false) h (rw c.across.ensures at c.fronts_typed.ensures)
+    (option_map seen c.args.first) (sym c.is_from_right.ensures ∙ c.if-is_from_right.false) h (rw c.first_standing.ensures at c.fronts_typed.ensures)
 
 pub choice_typed-returns-in_err-t : goal.choice_typed-returns-in_err-t
 choice_typed-returns-in_err-t g t c bs h j k =
@@ -296,9 +296,9 @@ choice_typed-returns-in_err-t g t c bs h j k =
 pub choice_typed-returns : goal.choice_typed-returns
 choice_typed-returns g t c bs h j k =
     let conditions = c.args.types.conditions.items in
-    let whole : Ends c.branched.result (branches_step c.args.place (all_types (map (option_map seen) conditions)) (all_types (map (option_map seen) c.push.new.self.items)))
-    = c.branched.ensures in
-    choice_goes (g.C.Scope.names c.args.scope.now) (standing_seen c.args.at) c.args.place bs (plain c.args.last.now) c.branched.result
+    let whole : Ends c.check_branches.result (branches_step c.args.place (all_types (map (option_map seen) conditions)) (all_types (map (option_map seen) c.push.new.self.items)))
+    = c.check_branches.ensures in
+    choice_goes (g.C.Scope.names c.args.scope.now) (standing_seen c.args.at) c.args.place bs (plain c.args.last.now) c.check_branches.result
     conditions c.args.types.values.items c.in_ok-t.t h j k c.in_ok-t.ensures (rw c.in_ok-push.ensures.items at whole)
 
 pub typed-returns-in_err-t-in-Chain : goal.typed-returns-in_err-t-in-Chain
@@ -309,7 +309,7 @@ typed-returns-in_err-t-in-Chain g t c =
     let ls = links_of (map plain_link c.in-Chain.links.items) in
     subst (λ tr. Ends c.from_residual.result (typing names at tr)) (sym e) (
     chain_stops names at c.args.expr.now.place (plain c.in-Chain.first.value) ls c.from_residual.result c.in_err-t-in-Chain.field-0.0
-    c.from_residual.ensures.1 (rw (c.across.ensures, c.deref-in-Chain.ensures, c.as_slice-links.ensures.value) at c.in_err-t-in-Chain.ensures)
+    c.from_residual.ensures.1 (rw (c.first_standing.ensures, c.deref-in-Chain.ensures, c.as_slice-links.ensures.value) at c.in_err-t-in-Chain.ensures)
     )
 
 pub typed-returns-in_ok-t-in-Chain : goal.typed-returns-in_ok-t-in-Chain
@@ -318,7 +318,7 @@ typed-returns-in_ok-t-in-Chain g t c =
     let at = standing_seen c.args.at in
     let first = plain c.in-Chain.first.value in
     let e = plain_chain c.args.expr.now c.in-Chain.first c.in-Chain.links c.in-Chain.is in
-    let told = rw (c.across.ensures, c.deref-in-Chain.ensures) at c.in_ok-t-in-Chain.ensures in
+    let told = rw (c.first_standing.ensures, c.deref-in-Chain.ensures) at c.in_ok-t-in-Chain.ensures in
     subst (λ tr. Ends c.chain_typed.result (typing names at tr)) (sym e) (
     subst (λ (xs : List Link). Ends c.chain_typed.result (typing names at (chain c.args.expr.now.place first (links_of (map plain_link xs))))) c.as_slice-links.ensures.value
     (c.chain_typed.ensures first told)

@@ -2,7 +2,7 @@ use Rattle.std.proofs.Common.{◌≡◌, map, sym, subst}
 use Rattle.smv_meaning.specs.Names.{cyclic, steps_of, found_in}
 use Rattle.smv_instances.specs.View.{instance_plain}
 use Rattle.smv_instances.proofs.LeadLemmas.{open_is_cyclic}
-use Rattle.smv_instances.proofs.table.Table.found.Goals as goal
+use Rattle.smv_instances.proofs.table.Table.target.Goals as goal
 
 pub returns-in-Waits : goal.returns-in-Waits
 returns-in-Waits c =
