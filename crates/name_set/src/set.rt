@@ -2,6 +2,7 @@
 ghost use Rattle.std.specs.Prelude.{◌≡◌, true, is_none, ◌++◌, ◌∷◌, [], length, take, IfOk, OnErr, if◌then◌else◌};
 ghost use Rattle.name_set.specs.Names.{are_fresh, place_of};
 
+use crate::key::{Key, Wanted};
 use indexmap::IndexSet;
 use std::alloc::Global;
 use std::marker::Model;
@@ -10,7 +11,7 @@ use text_core::{Name, Names, NoMemory};
 /// Names, each once, in the order in which they were declared, seen as their list. They are found with no scan.
 #[derive(Drop)]
 pub struct NameSet {
-    names: IndexSet<Vec<u8>>,
+    names: IndexSet<Key>,
 }
 
 impl Model for NameSet {
@@ -18,7 +19,7 @@ impl Model for NameSet {
 
     ghost Value = { List (List ℕ) };
 
-    ghost view = { λ d. map (λ name. name.items) d.names.keys };
+    ghost view = { λ d. map (λ key. key.name) d.names.keys };
 }
 
 impl NameSet {
@@ -45,7 +46,7 @@ impl NameSet {
         if self.names.len() == 0 {
             return None;
         }
-        self.names.get_index_of(name)
+        self.names.get_index_of(Wanted { bytes: name })
     }
 
     /// The names as a list.
@@ -57,7 +58,7 @@ impl NameSet {
         let mut names = Names::new(alloc);
         for k in 0..keys.len() {
             match keys.get_index(k) {
-                Some(key) => names.push(Name::of(alloc, key.as_slice())?)?,
+                Some(key) => names.push(key.name.duplicate(alloc)?)?,
                 None => {}
             }
         }
@@ -70,9 +71,16 @@ impl NameSet {
         ensures names { IfOk result (λ fresh. self.new ≡ (if fresh then self.old ++ name.now ∷ [] else self.old)) }
         ensures err { OnErr result (self.new ≡ self.old) }
     {
-        let Ok(key) = Vec::from_slice(alloc, name) else {
-            return Err(NoMemory);
-        };
+        let name = Name::of(alloc, name)?;
+        self.insert(Key { name })
+    }
+
+    // Declares the name of a key, and says whether it is new.
+    fn insert(&mut self, key: Key) -> Result<bool, NoMemory>
+        ensures fresh { IfOk result (λ fresh. fresh ≡ is_none (place_of self.old key.name)) }
+        ensures names { IfOk result (λ fresh. self.new ≡ (if fresh then self.old ++ key.name ∷ [] else self.old)) }
+        ensures err { OnErr result (self.new ≡ self.old) }
+    {
         match self.names.insert_full(key) {
             Ok((_, fresh)) => Ok(fresh),
             Err(_) => Err(NoMemory),

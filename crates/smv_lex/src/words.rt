@@ -9,7 +9,7 @@ ghost use Rattle.smv_text.specs.Words.{keyword_kind, word_kind};
 
 use smv_text::{Reserved, TokenKind};
 use std::alloc::Global;
-use text_core::{Name, NoMemory, is_digit};
+use text_core::{Name, NoMemory, is_digit, is_same};
 
 /// A word that is no identifier, and which reserved one it is, if it is supported.
 type Keyword = (&'static [u8], Option<Reserved>);
@@ -159,17 +159,6 @@ fn keywords_of(size: usize) -> &'static [Keyword]
         &TEN
     } else {
         &[]
-    }
-}
-
-/// Whether two words are equal. Most words differ in their first byte.
-fn is_same(word: &[u8], other: &[u8]) -> bool
-    ensures { result ≡ bytes_eq word.now other.now }
-{
-    match (word.split_first(), other.split_first()) {
-        (Some((b, rest)), Some((c, others))) => *b == *c && rest == others,
-        (None, None) => true,
-        _ => false,
     }
 }
 

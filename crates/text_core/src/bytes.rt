@@ -1,5 +1,6 @@
-// Bytes that more than one language's lexer asks for.
+// What more than one language asks of bytes.
 ghost use Rattle.std.specs.Prelude.{◌≡◌};
+ghost use Rattle.std.specs.Str.{bytes_eq};
 ghost use Rattle.text_core.specs.Bytes.{is_digit};
 
 /// Whether the byte is a decimal digit, `0` to `9`.
@@ -7,4 +8,19 @@ pub fn is_digit(b: u8) -> bool
     ensures { result ≡ is_digit b }
 {
     b >= b'0' && b <= b'9'
+}
+
+/// Are the names one? Most names are short, so that a loop is cheaper than a call for any slices.
+pub fn is_same(name: &[u8], other: &[u8]) -> bool
+    ensures { result ≡ bytes_eq name.now other.now }
+{
+    if name.len() != other.len() {
+        return false;
+    }
+    for k in 0..name.len() {
+        if name[k] != other[k] {
+            return false;
+        }
+    }
+    true
 }

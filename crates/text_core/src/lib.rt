@@ -16,7 +16,7 @@ mod text;
 mod verdict;
 mod whole;
 
-pub use bytes::is_digit;
+pub use bytes::{is_digit, is_same};
 pub use end::End;
 pub use errors::{NoMemory, ReadEnd, ShelfFault, SinkFault};
 pub use lists::{FilePair, FilePairs, List, Numbers};

@@ -1,5 +1,5 @@
 // One list type for all elements: it is seen as the list of its elements.
-ghost use Rattle.std.specs.Prelude.{◌≡◌, ◌==◌, ◌<◌, ◌^◌, ◌++◌, [], ◌∷◌, length, None, IfSome, IfNone, OnOk, OnErr, slice_index_or};
+ghost use Rattle.std.specs.Prelude.{◌≡◌, ◌==◌, ◌<◌, ◌^◌, ◌++◌, [], ◌∷◌, length, None, IfSome, IfNone, IfOk, OnOk, OnErr, slice_index_or};
 ghost use Rattle.std.specs.List.{list_any};
 ghost use Rattle.std.specs.Iterator.Adapters.{IterYieldsInOrder, IterYieldsInReverse};
 ghost use Rattle.std.specs.Iterator.Runs.{EveryRun, ItemsMapTo};
@@ -34,6 +34,16 @@ impl<T: Drop> List<T> {
     {
         List {
             items: Vec::new(alloc),
+        }
+    }
+
+    /// The empty list, with room for this many elements.
+    pub fn with_capacity(alloc: Global, count: usize) -> Result<List<T>, NoMemory>
+        ensures { IfOk result (λ list. list ≡ []) }
+    {
+        match Vec::with_capacity(alloc, count) {
+            Ok(items) => Ok(List { items }),
+            Err(_) => Err(NoMemory),
         }
     }
 
