@@ -3,7 +3,7 @@ ghost use Rattle.std.specs.Prelude.{◌≡◌, IfOk};
 ghost use Rattle.btor_tree.specs.Fits.{sort_at, width_at};
 
 use btor_print::print_btor;
-use btor_tree::{Args, GREATEST_ID, LineOp, Nodes, NumberedLines, has_word};
+use btor_tree::{GREATEST_ID, LineOp, Nodes, NumberedLines, has_word};
 use case_text::{Answer, Fault, Stop, small_number};
 use std::alloc::Global;
 use text_core::{Name, NoMemory};
@@ -34,16 +34,6 @@ fn copied_op(op: &LineOp) -> LineOp
     }
 }
 
-fn copied_args(alloc: Global, args: &Args) -> Result<Args, NoMemory>
-    ensures { IfOk result (λ copy. copy ≡ args.now) }
-{
-    let mut copy = Args::new(alloc);
-    for arg in args {
-        copy.push(*arg)?;
-    }
-    Ok(copy)
-}
-
 fn copied_symbol(alloc: Global, symbol: &Option<Name>) -> Result<Option<Name>, NoMemory>
     ensures { IfOk result (λ copy. copy ≡ symbol.now) }
 {
@@ -63,7 +53,7 @@ pub fn rebuilt(alloc: Global, nodes: &Nodes) -> Result<NumberedLines, Fault>
         if line.id as usize != i + 1 {
             return Err(Fault::Unreadable("ids that are not 1, 2, 3 and so on"));
         }
-        let args = copied_args(alloc, &line.args)?;
+        let args = line.args.duplicate();
         let symbol = copied_symbol(alloc, &line.symbol)?;
         builder.push(copied_op(&line.op), line.sort, args, symbol)?;
     }

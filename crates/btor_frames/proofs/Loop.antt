@@ -7,7 +7,7 @@ use Rattle.btor_tree.specs.declared.args.Arg.{Arg}
 use Rattle.btor_tree.specs.declared.lines.Line.{Line}
 use Rattle.btor_tree.specs.declared.lines.LineOp.{LineOp}
 use Rattle.btor_tree.specs.declared.lines.LineOp.TheVariants.{Input, State, Unary, Binary, Ite, Slice, Uext, Sext}
-use Rattle.btor_tree.specs.Fits.{IsWellFormed, count_of, state_value, is_init, is_next}
+use Rattle.btor_tree.specs.Fits.{IsWellFormed, count_of, is_input, is_state, state_value, is_init, is_next}
 use Rattle.btor_tree.specs.Frame.{nothing, IsFrame, FreeFits, GivenFits, operand, init_operand}
 use Rattle.btor_tree.proofs.Grows.{take_push, count_push}
 use Rattle.btor_tree.proofs.Words.{computed}
@@ -77,6 +77,15 @@ computed_other before row s (Sext n) [] given other h = refl
 computed_other before row s (Sext n) (a ∷ []) given other h = refl
 computed_other before row s (Sext n) (a ∷ b ∷ more) given other h = refl
 computed_other before row s op args given other h = refl
+
+-- what takes no given word is neither an input nor a state
+pub not_input : (op : LineOp) → is_given op ≡ false → is_input op ≡ false
+not_input Input h = h
+not_input op h = refl
+
+pub not_state : (op : LineOp) → is_given op ≡ false → is_state op ≡ false
+not_state State h = h
+not_state op h = refl
 
 -- the word of a line is put, where it is the given one
 pub taken_here : (lines : List Line) (row new : List BitVector) (i : ℕ) (G : Given) (l : Line) (x : BitVector) → slice_get lines i ≡ Some l → is_given l.op ≡ true → IfSome (slice_get lines i) (λ k. x ≡ G k.op i (take i row)) → new ≡ slice_set row i x

@@ -13,7 +13,7 @@ ghost use Rattle.btor_frames.specs.Steps.{is_given, value_kind, value_word, hand
 use crate::handed::{handed_word, with_input, with_state, word_of, word_or};
 use crate::tables::Tables;
 use crate::words::Words;
-use btor_tree::{Arg, Args, LineOp, Nodes};
+use btor_tree::{Arg, Args, Line, LineOp, Nodes};
 use word_core::{Binary, Unary, WIDEST, Word, binary, ite, sext, slice, uext, unary};
 
 // The word, or the bitwise not of it.
@@ -307,12 +307,14 @@ fn is_given(op: &LineOp) -> bool
     matches!(op, LineOp::Input | LineOp::State)
 }
 
-// Puts the word of the line at a place. What is given is looked up only where it is taken.
+// Puts the word of the line at a place, and counts on where it is an input or a state. What is given is looked up only where it is
+// taken.
 #[inline(always)]
 fn put_word(
     nodes: &Nodes,
     tables: &Tables,
     i: usize,
+    line: &Line,
     begun: bool,
     last: &Words,
     inputs: &Words,
@@ -320,7 +322,7 @@ fn put_word(
     input: usize,
     state: usize,
     spare: &mut Words,
-)
+) -> (usize, usize)
     requires inside { i < length nodes.now }
     requires long { length spare.old ≡ length nodes.now }
     requires last_long { length last.now ≡ length nodes.now }
@@ -328,17 +330,24 @@ fn put_word(
     requires found { IsFoundIn nodes.now tables.now }
     requires input_is { input ≡ count_of is_input (take i nodes.now) }
     requires state_is { state ≡ count_of is_state (take i nodes.now) }
+    requires line_is { slice_get nodes.now i ≡ Some line.now }
+    requires few_inputs { input < 2 ^ 63 }
+    requires few_states { state < 2 ^ 63 }
     requires frame { IsFrame (take i nodes.now) (take i spare.old) }
-    ensures { IfSome (slice_get nodes.now i) (λ l. spare.new ≡ slice_set spare.old i (computed (take i nodes.now) (take i spare.old) l.sort l.op l.args
+    ensures word { IfSome (slice_get nodes.now i) (λ l. spare.new ≡ slice_set spare.old i (computed (take i nodes.now) (take i spare.old) l.sort l.op l.args
         (given_of (state_value (value_kind begun) nodes.now) (value_word begun nodes.now last.now) (handed_at nodes.now inputs.now free.now) l.op i (take i spare.old)))) }
+    ensures next_input { result.0 ≡ input + (if is_input line.now.op then 1 else 0) }
+    ensures next_state { result.1 ≡ state + (if is_state line.now.op then 1 else 0) }
 {
-    if is_given(&nodes.at(i).op) {
+    if is_given(&line.op) {
         let word = given_word(
             nodes, tables, i, begun, last, spare, inputs, free, input, state,
         );
         spare.set(i, word);
+        (with_input(line, input), with_state(line, state))
     } else {
         put_computed(nodes, i, spare);
+        (input, state)
     }
 }
 
@@ -364,10 +373,10 @@ pub fn fill(
     let mut state = 0usize;
     for i in 0..nodes.len() {
         let line = nodes.at(i);
-        put_word(
-            nodes, tables, i, begun, last, inputs, free, input, state, spare,
+        let (next_input, next_state) = put_word(
+            nodes, tables, i, line, begun, last, inputs, free, input, state, spare,
         );
-        input = with_input(line, input);
-        state = with_state(line, state);
+        input = next_input;
+        state = next_state;
     }
 }

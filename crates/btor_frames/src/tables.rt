@@ -6,7 +6,7 @@ ghost use Rattle.btor_frames.specs.Tables.{has_role, HoldsNone, HoldsValues, IsF
 use btor_tree::{Arg, Args, Line, LineOp, Nodes};
 use std::alloc::Global;
 use std::marker::Model;
-use text_core::NoMemory;
+use text_core::{List, NoMemory};
 
 // The kinds of line whose arguments are kept.
 #[derive(Clone, Copy)]
@@ -23,8 +23,8 @@ pub enum Role {
 pub struct Tables {
     inits: Vec<Option<Arg>>,
     nexts: Vec<Option<Arg>>,
-    bads: Args,
-    constraints: Args,
+    bads: List<Arg>,
+    constraints: List<Arg>,
 }
 
 impl Model for Tables {
@@ -57,14 +57,14 @@ impl Tables {
     }
 
     /// The arguments of the bad lines.
-    pub fn bads(&self) -> &Args
+    pub fn bads(&self) -> &List<Arg>
         ensures { result.now ≡ self.now.bads }
     {
         &self.bads
     }
 
     /// The arguments of the constraint lines.
-    pub fn constraints(&self) -> &Args
+    pub fn constraints(&self) -> &List<Arg>
         ensures { result.now ≡ self.now.constraints }
     {
         &self.constraints
@@ -118,10 +118,10 @@ fn note_value(values: &mut Vec<Option<Arg>>, role: Role, line: &Line)
 }
 
 // The arguments of the lines of a role, in order.
-fn role_operands(alloc: Global, nodes: &Nodes, role: Role) -> Result<Args, NoMemory>
+fn role_operands(alloc: Global, nodes: &Nodes, role: Role) -> Result<List<Arg>, NoMemory>
     ensures { IfOk result (λ args. args ≡ operands (has_role role) nodes.now) }
 {
-    let mut args = Args::new(alloc);
+    let mut args = List::new(alloc);
     for i in 0..nodes.len() {
         add_operands(&mut args, role, nodes.at(i))?;
     }
@@ -129,7 +129,7 @@ fn role_operands(alloc: Global, nodes: &Nodes, role: Role) -> Result<Args, NoMem
 }
 
 // Adds the arguments of a line, where it is of the role.
-fn add_operands(args: &mut Args, role: Role, line: &Line) -> Result<(), NoMemory>
+fn add_operands(args: &mut List<Arg>, role: Role, line: &Line) -> Result<(), NoMemory>
     ensures { OnOk result (args.new ≡ args.old ++ line_operands (has_role role) line.now) }
 {
     if has_role(role, &line.op) {
@@ -139,11 +139,11 @@ fn add_operands(args: &mut Args, role: Role, line: &Line) -> Result<(), NoMemory
 }
 
 // Adds arguments at the end.
-fn add_all(args: &mut Args, more: &Args) -> Result<(), NoMemory>
+fn add_all(args: &mut List<Arg>, more: &Args) -> Result<(), NoMemory>
     ensures { OnOk result (args.new ≡ args.old ++ more.now) }
 {
-    for arg in more {
-        args.push(*arg)?;
+    for k in 0..more.len() {
+        args.push(*more.at(k))?;
     }
     Ok(())
 }

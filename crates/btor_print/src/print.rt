@@ -219,8 +219,8 @@ fn put_pair(out: &mut Text, nodes: &Nodes, sort: u32, a: Arg, b: Arg) -> Result<
 fn put_args(out: &mut Text, nodes: &Nodes, args: &Args) -> Result<(), NoMemory>
     ensures { OnOk result (out.new ≡ out.old ++ spaced (map (operand_text nodes.now) args.now)) }
 {
-    for arg in args {
-        put_arg(out, nodes, *arg)?;
+    for k in 0..args.len() {
+        put_arg(out, nodes, *args.at(k))?;
     }
     Ok(())
 }
@@ -270,9 +270,9 @@ fn put_rest(out: &mut Text, nodes: &Nodes, line: &Line) -> Result<(), NoMemory>
 fn put_most(out: &mut Text, nodes: &Nodes, line: &Line) -> Result<(), NoMemory>
     ensures { OnOk result (out.new ≡ out.old ++ (spaced (sort_parts nodes.now line.now.op line.now.sort ++ (map (operand_text nodes.now) line.now.args ++ (number_parts line.now.op ++ symbol_parts line.now.symbol))) ++ 10 ∷ [])) }
 {
-    match (&line.op, &line.symbol, line.args.as_slice()) {
-        (LineOp::Binary(_) | LineOp::Init | LineOp::Next, None, [a, b]) => {
-            put_pair(out, nodes, line.sort, *a, *b)
+    match (&line.op, &line.symbol, line.args.pair()) {
+        (LineOp::Binary(_) | LineOp::Init | LineOp::Next, None, Some((a, b))) => {
+            put_pair(out, nodes, line.sort, a, b)
         }
         _ => put_rest(out, nodes, line),
     }

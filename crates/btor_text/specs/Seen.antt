@@ -23,8 +23,6 @@ use Rattle.btor_text.specs.declared.shape.Operand.{Operand}
 use Rattle.btor_text.specs.declared.shape.Content.{Content}
 use Rattle.btor_text.specs.declared.shape.Content.TheVariants as content
 use Rattle.btor_text.specs.declared.shape.Shape.{Shape}
-use Rattle.btor_text.specs.declared.resolve.Arguments.{Arguments}
-use Rattle.btor_text.specs.declared.resolve.Arguments.TheVariants as arguments
 use Rattle.btor_text.specs.declared.resolve.Body.{Body}
 use Rattle.btor_text.specs.declared.resolve.Fault.{Fault}
 use Rattle.btor_text.specs.declared.resolve.Fault.TheVariants as fault
@@ -114,13 +112,7 @@ seen_fault fault.SortClash = faults.sort_clash
 seen_fault fault.Twice = faults.twice
 seen_fault fault.InitLate = faults.init_late
 
-abbrev pub seen_arguments : Arguments → List Arg
-seen_arguments arguments.None = []
-seen_arguments (arguments.One a) = a ∷ []
-seen_arguments (arguments.Two a b) = a ∷ b ∷ []
-seen_arguments (arguments.Three a b c) = a ∷ b ∷ c ∷ []
-
 -- the line of a shape and what was found for it, or its fault
 abbrev pub line_of : shapes.Shape → Result Body Fault → Result Line faults.Fault
-line_of sh (Ok body) = Ok (faults.filled sh body.op body.sort (seen_arguments body.args))
+line_of sh (Ok body) = Ok (faults.filled sh body.op body.sort body.args)
 line_of sh (Err k) = Err (seen_fault k)

@@ -6,14 +6,14 @@ ghost use Rattle.btor_tree.specs.Fits.{Fits};
 ghost use Rattle.btor_tree.specs.Resolving as rules;
 ghost use Rattle.btor_tree.specs.Reading.{next_of};
 ghost use Rattle.btor_tree.specs.Texts.{SpellsLines, RefusesText};
-ghost use Rattle.btor_text.specs.Seen.{seen_arguments, seen_fault, seen_shape, seen_symbol};
+ghost use Rattle.btor_text.specs.Seen.{seen_fault, seen_shape, seen_symbol};
 ghost use Rattle.btor_text.specs.Answer.{Answers, Fails, Gives, IsRefused, IsResolved, Stops, Takes, kind_of};
 
 use crate::bytes::clean;
 use crate::progress::Progress;
-use crate::resolve::{Arguments, Body, Fault, resolve};
+use crate::resolve::{Body, Fault, resolve};
 use crate::shape::{Shape, shape_of};
-use btor_tree::{Args, Line, Nodes, first_part, line_length, one_arg, three_args, two_args};
+use btor_tree::{Line, Nodes, first_part, line_length};
 use std::alloc::Global;
 use text_core::kinds::btor;
 use text_core::{End, Kind, Name, NoMemory, Place, Refusal};
@@ -40,17 +40,6 @@ impl From<NoMemory> for LineEnd {
     }
 }
 
-fn args_of(alloc: Global, arguments: Arguments) -> Result<Args, NoMemory>
-    ensures { IfOk result (λ args. args ≡ seen_arguments arguments) }
-{
-    match arguments {
-        Arguments::None => Ok(Args::new(alloc)),
-        Arguments::One(a) => one_arg(alloc, a),
-        Arguments::Two(a, b) => two_args(alloc, a, b),
-        Arguments::Three(a, b, c) => three_args(alloc, a, b, c),
-    }
-}
-
 fn symbol_of(alloc: Global, symbol: Option<&[u8]>) -> Result<Option<Name>, NoMemory>
     ensures { IfOk result (λ name. name ≡ seen_symbol symbol.entry) }
 {
@@ -65,10 +54,9 @@ fn symbol_of(alloc: Global, symbol: Option<&[u8]>) -> Result<Option<Name>, NoMem
 
 // The line of a shape, with what was found for it.
 fn built(alloc: Global, shape: &Shape<'_>, body: Body) -> Result<Line, NoMemory>
-    ensures { IfOk result (λ line. line ≡ rules.filled (seen_shape shape.now) body.op body.sort (seen_arguments body.args)) }
+    ensures { IfOk result (λ line. line ≡ rules.filled (seen_shape shape.now) body.op body.sort body.args) }
 {
     let Body { op, sort, args } = body;
-    let args = args_of(alloc, args)?;
     let symbol = symbol_of(alloc, shape.symbol)?;
     Ok(Line {
         id: shape.id,

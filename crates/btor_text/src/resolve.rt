@@ -9,7 +9,7 @@ use crate::place::{is_constant_at, sort_at, sort_of_id, state_of_id, width_at, w
 use crate::progress::Progress;
 use crate::shape::{Content, Operand, Shape};
 use crate::word::{Base, Binding, Extension, Nullary, Property, literal_word};
-use btor_tree::{Arg, LineOp, Nodes, plain_arg};
+use btor_tree::{Arg, Args, LineOp, Nodes, no_args, one_arg, plain_arg, three_args, two_args};
 use word_core::{Binary, Unary, WIDEST};
 
 /// Why a line can't follow the lines before it.
@@ -25,21 +25,12 @@ pub enum Fault {
     InitLate,
 }
 
-/// The arguments of a line.
-#[derive(Clone, Copy, PartialEq, Eq)]
-pub enum Arguments {
-    None,
-    One(Arg),
-    Two(Arg, Arg),
-    Three(Arg, Arg, Arg),
-}
-
 /// What a line does, with places for its sort and its arguments.
 #[derive(Drop)]
 pub struct Body {
     pub op: LineOp,
     pub sort: u32,
-    pub args: Arguments,
+    pub args: Args,
 }
 
 fn nullary_op(kind: Nullary) -> LineOp
@@ -100,7 +91,7 @@ fn resolve_sort(nodes: &Nodes, width: u32) -> Result<Body, Fault>
     Ok(Body {
         op: LineOp::Sort(width),
         sort: 0,
-        args: Arguments::None,
+        args: no_args(),
     })
 }
 
@@ -113,7 +104,7 @@ fn resolve_nullary(nodes: &Nodes, kind: Nullary, sort: u32) -> Result<Body, Faul
     Ok(Body {
         op: nullary_op(kind),
         sort,
-        args: Arguments::None,
+        args: no_args(),
     })
 }
 
@@ -129,7 +120,7 @@ fn resolve_constant(nodes: &Nodes, kind: Base, sort: u32, digits: &[u8]) -> Resu
     Ok(Body {
         op: LineOp::Constant(word),
         sort,
-        args: Arguments::None,
+        args: no_args(),
     })
 }
 
@@ -185,7 +176,7 @@ fn resolve_binding(
     Ok(Body {
         op: binding_op(kind),
         sort,
-        args: Arguments::Two(plain_arg(state), argument(value, place)),
+        args: two_args(plain_arg(state), argument(value, place)),
     })
 }
 
@@ -210,7 +201,7 @@ fn resolve_property(nodes: &Nodes, kind: Property, operand: Operand) -> Result<B
     Ok(Body {
         op: property_op(kind),
         sort: 0,
-        args: Arguments::One(argument(operand, place)),
+        args: one_arg(argument(operand, place)),
     })
 }
 
@@ -238,7 +229,7 @@ fn resolve_unary(nodes: &Nodes, op: Unary, sort: u32, operand: Operand) -> Resul
     Ok(Body {
         op: LineOp::Unary(op),
         sort,
-        args: Arguments::One(argument(operand, place)),
+        args: one_arg(argument(operand, place)),
     })
 }
 
@@ -304,7 +295,7 @@ fn resolve_binary(
     Ok(Body {
         op: LineOp::Binary(op),
         sort,
-        args: Arguments::Two(argument(first, left), argument(second, right)),
+        args: two_args(argument(first, left), argument(second, right)),
     })
 }
 
@@ -339,7 +330,7 @@ fn resolve_ite(
     Ok(Body {
         op: LineOp::Ite,
         sort,
-        args: Arguments::Three(
+        args: three_args(
             argument(condition, choice),
             argument(first, left),
             argument(second, right),
@@ -371,7 +362,7 @@ fn resolve_slice(
     Ok(Body {
         op: LineOp::Slice(high, low),
         sort,
-        args: Arguments::One(argument(operand, place)),
+        args: one_arg(argument(operand, place)),
     })
 }
 
@@ -397,7 +388,7 @@ fn resolve_extension(
     Ok(Body {
         op: extension_op(kind, count),
         sort,
-        args: Arguments::One(argument(operand, place)),
+        args: one_arg(argument(operand, place)),
     })
 }
 

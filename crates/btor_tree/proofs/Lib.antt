@@ -19,3 +19,4 @@ pub mod Readings
 pub mod IdLaws
 pub mod Printed
 pub mod Resolved
+pub mod Slots

@@ -1,3 +1,4 @@
+pub mod ListedArgs
 pub mod Fits
 pub mod Frame
 pub mod Held

@@ -1,8 +1,7 @@
 // The arguments of a line.
-ghost use Rattle.std.specs.Prelude.{◌≡◌, [], ◌∷◌, false, IfOk};
+ghost use Rattle.std.specs.Prelude.{◌≡◌, ◌<◌, [], ◌∷◌, false, length, slice_index_or, IfSome};
 
-use std::alloc::Global;
-use text_core::{List, NoMemory};
+use std::marker::Model;
 
 /// An earlier line by its place, counted from 0, or the bitwise not of its word.
 #[derive(Clone, Copy, PartialEq, Eq, PartialOrd, Ord)]
@@ -11,8 +10,26 @@ pub struct Arg {
     pub negated: bool,
 }
 
-/// A list of arguments.
-pub type Args = List<Arg>;
+/// The arguments of a line, three at most, seen as their list. They lie in the line itself, since there are so many lines.
+#[derive(Drop)]
+pub struct Args {
+    count: u8,
+    first: Arg,
+    second: Arg,
+    third: Arg,
+}
+
+impl Model for Args {
+    ghost use Rattle.std.specs.Prelude.{◌≤◌, List};
+    ghost use Rattle.btor_tree.specs.declared.args.Arg.{Arg};
+    ghost use Rattle.btor_tree.specs.ListedArgs.{listed};
+
+    ghost Value = { List Arg };
+
+    ghost view = { λ a. listed a.count a.first a.second a.third };
+
+    ghost invariant = { λ a. a.count ≤ 3 };
+}
 
 /// The word of the line at a place, as it is.
 pub fn plain_arg(line: u32) -> Arg
@@ -24,32 +41,100 @@ pub fn plain_arg(line: u32) -> Arg
     }
 }
 
-/// A list of one argument.
-pub fn one_arg(alloc: Global, a: Arg) -> Result<Args, NoMemory>
-    ensures { IfOk result (λ args. args ≡ a ∷ []) }
+/// No argument.
+pub fn no_args() -> Args
+    ensures { result ≡ [] }
 {
-    let mut args = Args::new(alloc);
-    args.push(a)?;
-    Ok(args)
+    let none = plain_arg(0);
+    Args {
+        count: 0,
+        first: none,
+        second: none,
+        third: none,
+    }
 }
 
-/// A list of three arguments.
-pub fn three_args(alloc: Global, a: Arg, b: Arg, c: Arg) -> Result<Args, NoMemory>
-    ensures { IfOk result (λ args. args ≡ a ∷ b ∷ c ∷ []) }
+/// One argument.
+pub fn one_arg(a: Arg) -> Args
+    ensures { result ≡ a ∷ [] }
 {
-    let mut args = Args::new(alloc);
-    args.push(a)?;
-    args.push(b)?;
-    args.push(c)?;
-    Ok(args)
+    let none = plain_arg(0);
+    Args {
+        count: 1,
+        first: a,
+        second: none,
+        third: none,
+    }
 }
 
-/// A list of two arguments.
-pub fn two_args(alloc: Global, a: Arg, b: Arg) -> Result<Args, NoMemory>
-    ensures { IfOk result (λ args. args ≡ a ∷ b ∷ []) }
+/// Two arguments.
+pub fn two_args(a: Arg, b: Arg) -> Args
+    ensures { result ≡ a ∷ b ∷ [] }
 {
-    let mut args = Args::new(alloc);
-    args.push(a)?;
-    args.push(b)?;
-    Ok(args)
+    Args {
+        count: 2,
+        first: a,
+        second: b,
+        third: plain_arg(0),
+    }
+}
+
+/// Three arguments.
+pub fn three_args(a: Arg, b: Arg, c: Arg) -> Args
+    ensures { result ≡ a ∷ b ∷ c ∷ [] }
+{
+    Args {
+        count: 3,
+        first: a,
+        second: b,
+        third: c,
+    }
+}
+
+impl Args {
+    #[tactic(auto, using(crate::proofs::Slots::as_many))]
+    pub fn len(&self) -> usize
+        ensures { result ≡ length self.now }
+    {
+        self.count as usize
+    }
+
+    /// The argument at a place, counted from 0.
+    #[tactic(auto, using(crate::proofs::Slots::first_at, crate::proofs::Slots::second_at, crate::proofs::Slots::third_at))]
+    pub fn at(&self, i: usize) -> &Arg
+        requires { i < length self.now }
+        ensures { result.now ≡ slice_index_or self.now i result.now }
+    {
+        if i == 0 {
+            &self.first
+        } else if i == 1 {
+            &self.second
+        } else {
+            &self.third
+        }
+    }
+
+    /// The same arguments once more.
+    pub fn duplicate(&self) -> Args
+        ensures { result ≡ self.now }
+    {
+        Args {
+            count: self.count,
+            first: self.first,
+            second: self.second,
+            third: self.third,
+        }
+    }
+
+    /// Both arguments, where there are two.
+    #[tactic(auto, using(crate::proofs::Slots::two_there))]
+    pub fn pair(&self) -> Option<(Arg, Arg)>
+        ensures there { IfSome result (λ both. self.now ≡ both.0 ∷ both.1 ∷ []) }
+    {
+        if self.count == 2 {
+            Some((self.first, self.second))
+        } else {
+            None
+        }
+    }
 }

@@ -5,7 +5,7 @@ ghost use Rattle.btor_tree.specs.LineKeys.{Enters, HasTwoLevels, KnowsSame, Puts
 ghost use Rattle.btor_tree.specs.Sharing.{HasNoTwoAlike, place_alike, pushed, with_sort};
 ghost use Rattle.btor_tree.specs.declared.lines.LineOp.TheVariants as op;
 
-use crate::args::Args;
+use crate::args::{Args, no_args};
 use crate::line_key::{LineKey, line_key};
 use crate::line_places::{LinePlaces, enter, no_places};
 use crate::lines::{GREATEST_ID, Line, LineOp, sort_width};
@@ -24,7 +24,6 @@ const WIDTHS: usize = WIDEST as usize;
 pub struct Builder {
     lines: Vec<Line>,
     places: LinePlaces,
-    alloc: Global,
     sorts: [Option<u32>; WIDTHS],
 }
 
@@ -51,7 +50,6 @@ impl Builder {
         Builder {
             lines: Vec::new(alloc),
             places: no_places(alloc),
-            alloc,
             sorts: [None; WIDTHS],
         }
     }
@@ -102,8 +100,7 @@ impl Builder {
         if let Some(place) = self.sorts[width as usize - 1] {
             return Ok(place);
         }
-        let none = Args::new(self.alloc);
-        let place = self.push(LineOp::Sort(width), 0, none, None)?;
+        let place = self.push(LineOp::Sort(width), 0, no_args(), None)?;
         self.remember(width, place);
         Ok(place)
     }

@@ -12,7 +12,7 @@ mod lines;
 mod nodes;
 mod numbered_lines;
 
-pub use args::{Arg, Args, one_arg, plain_arg, three_args, two_args};
+pub use args::{Arg, Args, no_args, one_arg, plain_arg, three_args, two_args};
 pub use builder::Builder;
 pub use bytes::{first_part, line_length, numeral};
 pub use laws::{

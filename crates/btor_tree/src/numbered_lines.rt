@@ -3,7 +3,7 @@ ghost use Rattle.std.specs.Prelude.{◌≡◌, ◌+◌, ◌<◌, ◌≤◌, [], 
 ghost use Rattle.btor_tree.specs.Fits.{Suits, IsWellFormed, SortIsAt, sort_at, sort_of, sort_place, width_at};
 ghost use Rattle.btor_tree.specs.Held.{noted};
 
-use crate::args::Args;
+use crate::args::{Args, no_args};
 use crate::lines::{GREATEST_ID, Line, LineOp, sort_width};
 use crate::nodes::Nodes;
 use std::alloc::Global;
@@ -18,7 +18,6 @@ const WIDTHS: usize = WIDEST as usize;
 #[derive(Drop)]
 pub struct NumberedLines {
     nodes: Nodes,
-    alloc: Global,
     sorts: [Option<u32>; WIDTHS],
 }
 
@@ -42,7 +41,6 @@ impl NumberedLines {
     {
         NumberedLines {
             nodes: Nodes::new(alloc),
-            alloc,
             sorts: [None; WIDTHS],
         }
     }
@@ -88,7 +86,7 @@ impl NumberedLines {
     {
         match self.sorts[width as usize - 1] {
             Some(place) => Ok(place),
-            None => self.push(LineOp::Sort(width), 0, Args::new(self.alloc), None),
+            None => self.push(LineOp::Sort(width), 0, no_args(), None),
         }
     }
 

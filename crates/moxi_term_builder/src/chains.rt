@@ -12,7 +12,6 @@ use word_core::Binary;
 
 /// An operator on this word and the others, from the left.
 pub fn put_folded(
-    alloc: Global,
     builder: &mut Builder,
     op: Binary,
     first: u32,
@@ -23,41 +22,31 @@ pub fn put_folded(
 {
     let mut chain = first;
     for p in rest {
-        chain = put_binary(alloc, builder, op, chain, *p)?;
+        chain = put_binary(builder, op, chain, *p)?;
     }
     Ok(chain)
 }
 
 /// An operator on one or more words, from the left.
-pub fn put_chain(
-    alloc: Global,
-    builder: &mut Builder,
-    op: Binary,
-    places: &[u32],
-) -> Result<u32, NoMemory>
+pub fn put_chain(builder: &mut Builder, op: Binary, places: &[u32]) -> Result<u32, NoMemory>
     requires { CanChain op builder.old places.now }
     ensures { IfOk result (λ p. (builder.new, p) ≡ chain_lines op builder.old places.now) }
 {
     match places.split_first() {
-        Some((first, rest)) => put_folded(alloc, builder, op, *first, rest),
+        Some((first, rest)) => put_folded(builder, op, *first, rest),
         None => Ok(0),
     }
 }
 
 // An implication by each of these words, the last first, of what stands last.
-fn put_implied_onto(
-    alloc: Global,
-    builder: &mut Builder,
-    before: &[u32],
-    last: u32,
-) -> Result<u32, NoMemory>
+fn put_implied_onto(builder: &mut Builder, before: &[u32], last: u32) -> Result<u32, NoMemory>
     requires { CanImply before.now (builder.old, last) }
     ensures { IfOk result (λ p. (builder.new, p) ≡ implied_onto before.now (builder.old, last)) }
 {
     let mut chain = last;
     let mut rest = before;
     while let Some((p, more)) = rest.split_last() {
-        chain = put_binary(alloc, builder, Binary::Implies, *p, chain)?;
+        chain = put_binary(builder, Binary::Implies, *p, chain)?;
         rest = more;
     }
     Ok(chain)
@@ -65,12 +54,12 @@ fn put_implied_onto(
 
 /// Implications between one or more words, from the right.
 #[tactic(auto, using(crate::proofs::Folding::implied_is))]
-pub fn put_implied(alloc: Global, builder: &mut Builder, places: &[u32]) -> Result<u32, NoMemory>
+pub fn put_implied(builder: &mut Builder, places: &[u32]) -> Result<u32, NoMemory>
     requires { CanImplyAll builder.old places.now }
     ensures { IfOk result (λ p. (builder.new, p) ≡ with_operator op.Implies builder.old places.now) }
 {
     match places.split_last() {
-        Some((last, before)) => put_implied_onto(alloc, builder, before, *last),
+        Some((last, before)) => put_implied_onto(builder, before, *last),
         None => Ok(0),
     }
 }
@@ -100,7 +89,7 @@ fn put_pairs(
 {
     let mut places = Vec::new(alloc);
     for (p, q) in pairs {
-        let place = put_binary(alloc, builder, op, *p, *q)?;
+        let place = put_binary(builder, op, *p, *q)?;
         put_place(&mut places, place)?;
     }
     Ok(places)
@@ -117,7 +106,7 @@ pub fn put_compared(
     ensures { IfOk result (λ p. (builder.new, p) ≡ compared_lines op builder.old pairs.now) }
 {
     let places = put_pairs(alloc, builder, op, pairs)?;
-    put_chain(alloc, builder, Binary::And, &places)
+    put_chain(builder, Binary::And, &places)
 }
 
 /// Each place with the next one.

@@ -10,7 +10,7 @@ use crate::chains::{neighbours, pairs_of, put_chain, put_compared, put_implied};
 use crate::words::{
     put_binary, put_constant, put_ite, put_signs, put_slice, put_unary, put_word, put_zeros,
 };
-use btor_tree::{Args, Builder, LineOp};
+use btor_tree::{Builder, LineOp, no_args};
 use moxi_terms::{Datum, Enumeration, TermOp};
 use std::alloc::Global;
 use text_core::{List, NoMemory};
@@ -31,7 +31,6 @@ pub fn choice_width(count: usize) -> u32
 
 // The place of a constant of an enumeration, as a word.
 fn put_choice(
-    alloc: Global,
     builder: &mut Builder,
     enumerations: &List<Enumeration>,
     n: u32,
@@ -44,14 +43,13 @@ fn put_choice(
 {
     let count = enumerations.at(n as usize).constants.len();
     match Word::of(choice_width(count), u128::from(i)) {
-        Some(word) => put_constant(alloc, builder, word),
+        Some(word) => put_constant(builder, word),
         None => Ok(0),
     }
 }
 
 /// The constant of a value: one or zero for a truth value, and for a constant of an enumeration its place.
 pub fn put_datum(
-    alloc: Global,
     builder: &mut Builder,
     enumerations: &List<Enumeration>,
     datum: Datum,
@@ -60,10 +58,10 @@ pub fn put_datum(
     ensures { IfOk result (λ p. (builder.new, p) ≡ with_datum enumerations.now builder.old datum) }
 {
     match datum {
-        Datum::Truth(true) => put_word(builder, LineOp::One, 1, Args::new(alloc)),
-        Datum::Truth(false) => put_word(builder, LineOp::Zero, 1, Args::new(alloc)),
-        Datum::Bits(word) => put_constant(alloc, builder, word),
-        Datum::Constant(n, i) => put_choice(alloc, builder, enumerations, n, i),
+        Datum::Truth(true) => put_word(builder, LineOp::One, 1, no_args()),
+        Datum::Truth(false) => put_word(builder, LineOp::Zero, 1, no_args()),
+        Datum::Bits(word) => put_constant(builder, word),
+        Datum::Constant(n, i) => put_choice(builder, enumerations, n, i),
     }
 }
 
@@ -79,16 +77,16 @@ pub fn put_operator(
 {
     match op {
         TermOp::Not => match places {
-            [p] => put_unary(alloc, builder, Unary::Not, *p),
+            [p] => put_unary(builder, Unary::Not, *p),
             _ => Ok(0),
         },
-        TermOp::And => put_chain(alloc, builder, Binary::And, places),
-        TermOp::Or => put_chain(alloc, builder, Binary::Or, places),
-        TermOp::Xor => put_chain(alloc, builder, Binary::Xor, places),
-        TermOp::Implies => put_implied(alloc, builder, places),
+        TermOp::And => put_chain(builder, Binary::And, places),
+        TermOp::Or => put_chain(builder, Binary::Or, places),
+        TermOp::Xor => put_chain(builder, Binary::Xor, places),
+        TermOp::Implies => put_implied(builder, places),
         TermOp::Equal => match places.split_first() {
             // Most equations are of two words.
-            Some((first, [other])) => put_binary(alloc, builder, Binary::Eq, *first, *other),
+            Some((first, [other])) => put_binary(builder, Binary::Eq, *first, *other),
             Some((first, rest)) => {
                 let pairs = neighbours(alloc, *first, rest)?;
                 put_compared(alloc, builder, Binary::Eq, &pairs)
@@ -100,29 +98,29 @@ pub fn put_operator(
             put_compared(alloc, builder, Binary::Neq, &pairs)
         }
         TermOp::Ite => match places {
-            [c, p, q] => put_ite(alloc, builder, *c, *p, *q),
+            [c, p, q] => put_ite(builder, *c, *p, *q),
             _ => Ok(0),
         },
         TermOp::Concat => match places {
-            [p, q] => put_binary(alloc, builder, Binary::Concat, *p, *q),
+            [p, q] => put_binary(builder, Binary::Concat, *p, *q),
             _ => Ok(0),
         },
         TermOp::Extract(high, low) => match places {
-            [p] => put_slice(alloc, builder, high, low, *p),
+            [p] => put_slice(builder, high, low, *p),
             _ => Ok(0),
         },
         TermOp::ZeroExtend(count) => match places {
-            [p] => put_zeros(alloc, builder, count, *p),
+            [p] => put_zeros(builder, count, *p),
             _ => Ok(0),
         },
         TermOp::SignExtend(count) => match places {
-            [p] => put_signs(alloc, builder, count, *p),
+            [p] => put_signs(builder, count, *p),
             _ => Ok(0),
         },
         TermOp::BvUnary(unary) => match places {
-            [p] => put_unary(alloc, builder, unary, *p),
+            [p] => put_unary(builder, unary, *p),
             _ => Ok(0),
         },
-        TermOp::BvBinary(binary) => put_chain(alloc, builder, binary, places),
+        TermOp::BvBinary(binary) => put_chain(builder, binary, places),
     }
 }

@@ -87,7 +87,7 @@ fn put_tree(
     ensures kept { OnOk result (bound.new.items ≡ bound.old.items) }
 {
     match t {
-        Term::Constant(d) => put_datum(alloc, builder, scene.enumerations, *d),
+        Term::Constant(d) => put_datum(builder, scene.enumerations, *d),
         Term::Variable(v, primed) => Ok(if *primed {
             variable_place(scene.later, *v)
         } else {

@@ -37,7 +37,7 @@ pub fn put_latch(
     // The length brings that the lines are well formed.
     let _ = builder.len();
     let state = put_free(alloc, builder, LineOp::State, 1, name)?;
-    put_given(alloc, builder, LineOp::Init, 1, state, value)?;
+    put_given(builder, LineOp::Init, 1, state, value)?;
     Ok(state)
 }
 
@@ -95,7 +95,7 @@ fn put_current(
     ensures { IfOk result (λ p. (builder.new, p) ≡ current_lines scope.now inputs.now builder.old (map plain_formula formulas.now) number) }
 {
     let place = put_numbered(alloc, builder, scope, inputs, formulas, number)?;
-    put_binary(alloc, builder, Binary::Implies, FIRST, place)
+    put_binary(builder, Binary::Implies, FIRST, place)
 }
 
 fn put_currents(
@@ -153,7 +153,7 @@ pub fn put_conditions(
         &mut parts,
         query.currents.as_slice(),
     )?;
-    let chain = put_folded(alloc, builder, Binary::And, ok, &parts)?;
-    put_given(alloc, builder, LineOp::Next, 1, ok, chain)?;
+    let chain = put_folded(builder, Binary::And, ok, &parts)?;
+    put_given(builder, LineOp::Next, 1, ok, chain)?;
     Ok(chain)
 }

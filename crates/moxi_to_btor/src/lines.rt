@@ -1,9 +1,9 @@
 // Lines that say something of frames, and symbols.
-ghost use Rattle.std.specs.Prelude.{◌≡◌, ◌++◌, ◌∷◌, [], map, IfOk, OnOk};
+ghost use Rattle.std.specs.Prelude.{◌≡◌, ◌++◌, ◌∷◌, [], true, map, IfOk, OnOk};
 ghost use Rattle.moxi_lines.specs.Lines.{symbol_byte, symbol_of, with_bad, with_constraint, with_free, with_given};
 ghost use Rattle.moxi_to_btor.specs.Putting.{CanPutFree, CanPutGiven, CanPutTruth};
 
-use btor_tree::{Args, Builder, LineOp, one_arg, plain_arg, two_args};
+use btor_tree::{Builder, LineOp, no_args, one_arg, plain_arg, two_args};
 use std::alloc::Global;
 use text_core::{Name, NoMemory};
 
@@ -24,6 +24,31 @@ fn symbol_bytes(alloc: Global, name: &[u8]) -> Result<Vec<u8>, NoMemory>
     Ok(name.iter().map(|byte| symbol_byte(*byte)).collect(alloc)?)
 }
 
+// Does each byte stand for itself?
+fn is_plain(name: &[u8]) -> bool
+    ensures { result ≡ true → map symbol_byte name.now ≡ name.now }
+{
+    let mut rest = name;
+    while let Some((byte, more)) = rest.split_first() {
+        if symbol_byte(*byte) != *byte {
+            return false;
+        }
+        rest = more;
+    }
+    true
+}
+
+// The bytes of a symbol as a name. Most names have no byte that is changed.
+fn symbol_name(alloc: Global, name: &[u8]) -> Result<Name, NoMemory>
+    ensures { IfOk result (λ symbol. symbol ≡ map symbol_byte name.now) }
+{
+    if is_plain(name) {
+        return Name::of(alloc, name);
+    }
+    let bytes = symbol_bytes(alloc, name)?;
+    Name::of(alloc, &bytes)
+}
+
 /// The symbol of a line. An empty name gives none.
 #[tactic(auto, using(crate::proofs::Giving::symbol_some))]
 pub fn symbol_of(alloc: Global, name: &[u8]) -> Result<Option<Name>, NoMemory>
@@ -32,9 +57,7 @@ pub fn symbol_of(alloc: Global, name: &[u8]) -> Result<Option<Name>, NoMemory>
     if name.len() == 0 {
         return Ok(None);
     }
-    let bytes = symbol_bytes(alloc, name)?;
-    let symbol = Name::of(alloc, &bytes)?;
-    Ok(Some(symbol))
+    Ok(Some(symbol_name(alloc, name)?))
 }
 
 /// A name with another one behind it.
@@ -66,12 +89,11 @@ pub fn put_free(
 {
     let symbol = symbol_of(alloc, name)?;
     let sort = builder.sort(width)?;
-    builder.push(op, sort, Args::new(alloc), symbol)
+    builder.push(op, sort, no_args(), symbol)
 }
 
 /// The init or the next of a state of this width.
 pub fn put_given(
-    alloc: Global,
     builder: &mut Builder,
     op: LineOp,
     width: u32,
@@ -81,18 +103,18 @@ pub fn put_given(
     requires { CanPutGiven builder.old op width state value }
     ensures { OnOk result (builder.new ≡ with_given builder.old op width state value) }
 {
-    let args = two_args(alloc, plain_arg(state), plain_arg(value))?;
+    let args = two_args(plain_arg(state), plain_arg(value));
     let sort = builder.sort(width)?;
     builder.push(op, sort, args, None)?;
     Ok(())
 }
 
 /// A truth value is true in each frame.
-pub fn put_constraint(alloc: Global, builder: &mut Builder, place: u32) -> Result<(), NoMemory>
+pub fn put_constraint(builder: &mut Builder, place: u32) -> Result<(), NoMemory>
     requires { CanPutTruth builder.old place }
     ensures { OnOk result (builder.new ≡ with_constraint (builder.old, place)) }
 {
-    let args = one_arg(alloc, plain_arg(place))?;
+    let args = one_arg(plain_arg(place));
     builder.push(LineOp::Constraint, 0, args, None)?;
     Ok(())
 }
@@ -108,7 +130,7 @@ pub fn put_bad(
     ensures { OnOk result (builder.new ≡ with_bad name.now (builder.old, place)) }
 {
     let symbol = symbol_of(alloc, name)?;
-    let args = one_arg(alloc, plain_arg(place))?;
+    let args = one_arg(plain_arg(place));
     builder.push(LineOp::Bad, 0, args, symbol)?;
     Ok(())
 }

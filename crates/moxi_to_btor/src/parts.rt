@@ -71,8 +71,8 @@ fn put_init(
         return Ok(());
     }
     let place = put_formula(alloc, builder, scope, inputs, term)?;
-    let gated = put_binary(alloc, builder, Binary::Implies, FIRST, place)?;
-    put_constraint(alloc, builder, gated)
+    let gated = put_binary(builder, Binary::Implies, FIRST, place)?;
+    put_constraint(builder, gated)
 }
 
 fn put_trans(
@@ -89,8 +89,8 @@ fn put_trans(
         return Ok(());
     }
     let place = put_step(alloc, builder, scope, inputs, term)?;
-    let gated = put_binary(alloc, builder, Binary::Or, FIRST, place)?;
-    put_constraint(alloc, builder, gated)
+    let gated = put_binary(builder, Binary::Or, FIRST, place)?;
+    put_constraint(builder, gated)
 }
 
 fn put_inv(
@@ -107,7 +107,7 @@ fn put_inv(
         return Ok(());
     }
     let place = put_formula(alloc, builder, scope, inputs, term)?;
-    put_constraint(alloc, builder, place)
+    put_constraint(builder, place)
 }
 
 // The constraints of an instance: its init formula counts in frame 0, its trans formula in all others, its inv formula in each.

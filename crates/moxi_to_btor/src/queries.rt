@@ -41,8 +41,8 @@ fn put_reachable(
     let name = seen_name(alloc, name, reachables.at(number as usize).name.bytes())?;
     let latch = put_latch(alloc, builder, &name, ZERO)?;
     let place = put_numbered(alloc, builder, system.scope(), inputs, reachables, number)?;
-    let met = put_binary(alloc, builder, Binary::Or, latch, place)?;
-    put_given(alloc, builder, LineOp::Next, 1, latch, met)?;
+    let met = put_binary(builder, Binary::Or, latch, place)?;
+    put_given(builder, LineOp::Next, 1, latch, met)?;
     put_place(formulas, place)?;
     put_place(seen, met)
 }
@@ -88,23 +88,18 @@ fn put_all_met(
     ensures { IfOk result (λ p. (builder.new, p) ≡ with_all_met (reaching builder.old formulas.now seen.now) before.now) }
 {
     let parts = joined_places(alloc, before, seen)?;
-    let all = put_chain(alloc, builder, Binary::And, &parts)?;
-    let some = put_chain(alloc, builder, Binary::Or, formulas)?;
-    put_binary(alloc, builder, Binary::And, all, some)
+    let all = put_chain(builder, Binary::And, &parts)?;
+    let some = put_chain(builder, Binary::Or, formulas)?;
+    put_binary(builder, Binary::And, all, some)
 }
 
 // The only formula is met, and the conditions have held, where there are any.
-fn put_one_met(
-    alloc: Global,
-    builder: &mut Builder,
-    place: u32,
-    before: &[u32],
-) -> Result<u32, NoMemory>
+fn put_one_met(builder: &mut Builder, place: u32, before: &[u32]) -> Result<u32, NoMemory>
     requires { CanPutOneMet builder.old place before.now }
     ensures { IfOk result (λ p. (builder.new, p) ≡ with_one_met (builder.old, place) before.now) }
 {
     match before.first() {
-        Some(chain) => put_binary(alloc, builder, Binary::And, *chain, place),
+        Some(chain) => put_binary(builder, Binary::And, *chain, place),
         None => Ok(place),
     }
 }
@@ -158,7 +153,7 @@ fn put_goal(
             system.reachables(),
             number,
         )?;
-        put_one_met(alloc, builder, place, before)
+        put_one_met(builder, place, before)
     } else {
         put_several(alloc, builder, system, inputs, query, before)
     }

@@ -10,7 +10,7 @@ use crate::lines::{put_free, put_given};
 use crate::parts::{FIRST, put_parts};
 use crate::queries::put_queries;
 use crate::variables::put_variables;
-use btor_tree::{Args, Builder, LineOp, Nodes};
+use btor_tree::{Builder, LineOp, Nodes, no_args};
 use moxi_instantiate::FlatSystem;
 use moxi_terms::Enumeration;
 use std::alloc::Global;
@@ -37,13 +37,13 @@ fn system_is_known(system: &FlatSystem)
 }
 
 // The sort of truth values and the constants one and zero.
-fn put_constants(alloc: Global, builder: &mut Builder) -> Result<(), NoMemory>
+fn put_constants(builder: &mut Builder) -> Result<(), NoMemory>
     requires { builder.old ≡ [] }
     ensures { OnOk result (builder.new ≡ constant_lines) }
 {
     let sort = builder.sort(1)?;
-    builder.push(LineOp::One, sort, Args::new(alloc), None)?;
-    builder.push(LineOp::Zero, sort, Args::new(alloc), None)?;
+    builder.push(LineOp::One, sort, no_args(), None)?;
+    builder.push(LineOp::Zero, sort, no_args(), None)?;
     Ok(())
 }
 
@@ -53,8 +53,8 @@ fn put_first(alloc: Global, builder: &mut Builder) -> Result<(), NoMemory>
     ensures { OnOk result (builder.new ≡ head_lines) }
 {
     put_free(alloc, builder, LineOp::State, 1, b"first")?;
-    put_given(alloc, builder, LineOp::Init, 1, FIRST, ONE)?;
-    put_given(alloc, builder, LineOp::Next, 1, FIRST, ZERO)
+    put_given(builder, LineOp::Init, 1, FIRST, ONE)?;
+    put_given(builder, LineOp::Next, 1, FIRST, ZERO)
 }
 
 /// The BTOR2 lines of a flat system (BTOR2, CAV 2018): the head, the variables, the formulas of each part, and the queries, in time
@@ -72,7 +72,7 @@ pub fn to_btor(alloc: Global, system: &FlatSystem) -> Result<Nodes, NoMemory>
     enumerations_have_codes(enumerations);
     system_is_known(system);
     let mut builder = Builder::new(alloc);
-    put_constants(alloc, &mut builder)?;
+    put_constants(&mut builder)?;
     put_first(alloc, &mut builder)?;
     let inputs = put_variables(alloc, &mut builder, enumerations, system.variables())?;
     put_parts(

@@ -29,7 +29,6 @@ fn sort_width(enumerations: &List<Enumeration>, sort: Sort) -> u32
 // The code of an enumeration is below its number of constants. Where these take all words, their number is no word of that width,
 // and no line says it.
 fn put_choice_code(
-    alloc: Global,
     builder: &mut Builder,
     enumerations: &List<Enumeration>,
     n: u32,
@@ -40,23 +39,22 @@ fn put_choice_code(
 {
     let count = enumerations.at(n as usize).constants.len();
     match Word::of(choice_width(count), count as u128) {
-        Some(word) => put_below(alloc, builder, word, place),
+        Some(word) => put_below(builder, word, place),
         None => Ok(()),
     }
 }
 
 // The word at a place is below a constant.
-fn put_below(alloc: Global, builder: &mut Builder, limit: Word, place: u32) -> Result<(), NoMemory>
+fn put_below(builder: &mut Builder, limit: Word, place: u32) -> Result<(), NoMemory>
     requires { CanPutBelow limit builder.old place }
     ensures { OnOk result (builder.new ≡ below_lines limit builder.old place) }
 {
-    let limit = put_constant(alloc, builder, limit)?;
-    let less = put_binary(alloc, builder, Binary::Ult, place, limit)?;
-    put_constraint(alloc, builder, less)
+    let limit = put_constant(builder, limit)?;
+    let less = put_binary(builder, Binary::Ult, place, limit)?;
+    put_constraint(builder, less)
 }
 
 fn put_code(
-    alloc: Global,
     builder: &mut Builder,
     enumerations: &List<Enumeration>,
     sort: Sort,
@@ -66,7 +64,7 @@ fn put_code(
     ensures { OnOk result (builder.new ≡ with_code enumerations.now sort builder.old place) }
 {
     match sort {
-        Sort::Choice(n) => put_choice_code(alloc, builder, enumerations, n, place),
+        Sort::Choice(n) => put_choice_code(builder, enumerations, n, place),
         Sort::Truth | Sort::Bits(_) => Ok(()),
     }
 }
@@ -88,8 +86,8 @@ fn put_variable(
     // The length brings that the lines are well formed.
     let _ = builder.len();
     let state = put_free(alloc, builder, LineOp::State, width, &before)?;
-    put_given(alloc, builder, LineOp::Next, width, state, input)?;
-    put_code(alloc, builder, enumerations, variable.sort, input)?;
+    put_given(builder, LineOp::Next, width, state, input)?;
+    put_code(builder, enumerations, variable.sort, input)?;
     Ok(input)
 }
 

@@ -5,26 +5,26 @@ use Rattle.btor_tree.proofs.Grows.{count_short, lines_short}
 use Rattle.btor_frames.proofs.Loop.{frame_so_far, one_more, count_step}
 use Rattle.btor_frames.proofs.fill.fill.Goals as goal
 
-pub put_word-requires-clause-frame : goal.put_word-requires-clause-frame
-put_word-requires-clause-frame c =
+pub put_word-next_input-requires-clause-frame : goal.put_word-next_input-requires-clause-frame
+put_word-next_input-requires-clause-frame c =
     frame_so_far c.args.begun c.args.nodes.now c.args.last.now c.args.inputs.now c.args.free.now c.loop-i.spare c.loop-i.i c.len-i-end.ensures.well_formed c.requires.last_frame c.requires.handed (omega arith) c.loop-i.invariant.filled
 
-pub with_input-input-requires : goal.with_input-input-requires
-with_input-input-requires c =
+pub put_word-next_input-requires-clause-few_inputs : goal.put_word-next_input-requires-clause-few_inputs
+put_word-next_input-requires-clause-few_inputs c =
     omega (arith, count_short is_input (take c.loop-i.i c.args.nodes.now), length-take c.loop-i.i c.args.nodes.now, lines_short c.args.nodes.now c.len-i-end.ensures.well_formed)
 
-pub with_state-state-requires : goal.with_state-state-requires
-with_state-state-requires c =
+pub put_word-next_input-requires-clause-few_states : goal.put_word-next_input-requires-clause-few_states
+put_word-next_input-requires-clause-few_states c =
     omega (arith, count_short is_state (take c.loop-i.i c.args.nodes.now), length-take c.loop-i.i c.args.nodes.now, lines_short c.args.nodes.now c.len-i-end.ensures.well_formed)
 
 pub loop-i-preserved : goal.loop-i-preserved
 loop-i-preserved c =
     let inv = c.loop-i.invariant in
     let inside : c.loop-i.i < length c.loop-i.spare = omega arith in
-    let put = one_more c.args.begun c.args.nodes.now c.args.last.now c.args.inputs.now c.args.free.now c.loop-i.spare c.put_word.new.spare c.loop-i.i c.at-line.result.now inside c.at-line.ensures inv.filled c.put_word.ensures in
+    let put = one_more c.args.begun c.args.nodes.now c.args.last.now c.args.inputs.now c.args.free.now c.loop-i.spare c.put_word-next_input.new.spare c.loop-i.i c.at-line.result.now inside c.at-line.ensures inv.filled c.put_word-next_input.ensures.word in
     record {
       long = put.0 ∙ inv.long;
       filled = put.1;
-      input_is = omega (arith, c.with_input-input.ensures, inv.input_is, count_step is_input c.args.nodes.now c.loop-i.i c.at-line.result.now c.at-line.ensures);
-      state_is = omega (arith, c.with_state-state.ensures, inv.state_is, count_step is_state c.args.nodes.now c.loop-i.i c.at-line.result.now c.at-line.ensures);
+      input_is = omega (arith, c.put_word-next_input.ensures.next_input, inv.input_is, count_step is_input c.args.nodes.now c.loop-i.i c.at-line.result.now c.at-line.ensures);
+      state_is = omega (arith, c.put_word-next_input.ensures.next_state, inv.state_is, count_step is_state c.args.nodes.now c.loop-i.i c.at-line.result.now c.at-line.ensures);
     }

@@ -15,13 +15,13 @@ returns-in-Some-clause-width c =
 
 pub remember-requires-clause-there : goal.remember-requires-clause-there
 remember-requires-clause-there c =
-    pushed_there c.args.self.now c.args.width c.new-none.result None c.push.new.self c.in_ok-place.place c.new-none.ensures c.in_ok-place.ensures.line
+    pushed_there c.args.self.now c.args.width c.no_args.result None c.push.new.self c.in_ok-place.place c.no_args.ensures c.in_ok-place.ensures.line
 
 pub returns-clause-width : goal.returns-clause-width
 returns-clause-width c =
     ap (λ ls. sort_at ls c.in_ok-place.place) c.remember.ensures
     ∙ ap (λ (x : List Line × ℕ). sort_at x.0 x.1) c.in_ok-place.ensures.line
-    ∙ pushed_sort c.args.self.now c.args.width c.new-none.result None
+    ∙ pushed_sort c.args.self.now c.args.width c.no_args.result None
 
 pub returns-in-Some-clause-line : goal.returns-in-Some-clause-line
 returns-in-Some-clause-line c =

@@ -17,6 +17,6 @@ returns-in-Some-clause-width c =
 
 pub returns-in-None-clause-width : goal.returns-in-None-clause-width
 returns-in-None-clause-width c =
-    IfOk-weaker c.push-in-None.result _ _
-    (λ p made. sort_made c.args.self.now c.push-in-None.new.self (sort_line (length c.args.self.now + 1) c.args.width) p made.0 made.1)
-    rw c.new.ensures at c.push-in-None.ensures.line
+    IfOk-weaker c.push.result _ _
+    (λ p made. sort_made c.args.self.now c.push.new.self (sort_line (length c.args.self.now + 1) c.args.width) p made.0 made.1)
+    rw c.no_args.ensures at c.push.ensures.line
