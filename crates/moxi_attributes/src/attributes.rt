@@ -13,9 +13,8 @@ use crate::collect::fail;
 use crate::shapes::place_of;
 use moxi_scripts::{Command, Key, Turn};
 use moxi_sexpr::{Atom, Form, FormShape};
-use moxi_terms::is_same;
 use text_core::kinds::moxi;
-use text_core::{Place, Refusal};
+use text_core::{Place, Refusal, is_same};
 
 fn key_number(k: Key) -> u8
     ensures { result ≡ key_number k }

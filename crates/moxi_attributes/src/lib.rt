@@ -8,6 +8,7 @@ mod entries;
 mod formulas;
 mod labels;
 mod lists;
+mod order;
 mod possible;
 mod shapes;
 mod uses;
@@ -20,7 +21,8 @@ pub use entries::{
 };
 pub use formulas::{read_formula, true_term};
 pub use labels::{Labelled, Labels, no_labels, read_labels};
-pub use lists::{all_entries, are_shaped, read_lists, text_entries};
+pub use lists::{all_entries, append_lists, are_shaped, read_lists, text_entries};
+pub use order::is_in_order;
 pub use possible::possible_locals;
 pub use shapes::{
     Headed, Named, headed_forms, is_empty_list, misshapen_place, named_form, named_in, parts_of,

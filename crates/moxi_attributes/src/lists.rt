@@ -46,6 +46,17 @@ fn read_entries_of(
     }
 }
 
+// No list declares more variables than it has forms.
+fn most_entries(value: Option<&Form>) -> usize {
+    match value {
+        None => 0,
+        Some(form) => match parts_of(form) {
+            None => 0,
+            Some(parts) => parts.len(),
+        },
+    }
+}
+
 // The list that is the value of a key.
 fn read_list(
     alloc: Global,
@@ -58,15 +69,10 @@ fn read_list(
     ensures list { IfOk result (λ l. l ≡ list_of scope.now (value_of command k turns.AtKeyword (plain_forms forms.now))) }
     ensures finds { OnOk result (found.new ≡ also found.old (listed_failures scope.now (value_of command k turns.AtKeyword (plain_forms forms.now)))) }
 {
-    let mut entries = Entries::new(alloc);
+    let value = value_of(command, k, forms);
+    let mut entries = Entries::with_capacity(alloc, most_entries(value))?;
     let mut failure = None;
-    let shaped = read_entries_of(
-        alloc,
-        scope,
-        value_of(command, k, forms),
-        &mut entries,
-        &mut failure,
-    )?;
+    let shaped = read_entries_of(alloc, scope, value, &mut entries, &mut failure)?;
     note(found, failure);
     Ok(DeclaredList {
         entries,
@@ -75,15 +81,22 @@ fn read_list(
     })
 }
 
+/// Adds the variables of all lists: inputs, outputs, locals.
+#[tactic(auto, using(crate::specs::laws::Collecting::list_joined))]
+pub fn append_lists(alloc: Global, all: &mut Entries, lists: &Lists) -> Result<(), NoMemory>
+    ensures { OnOk result (all.new ≡ all.old ++ all_entries lists.now) }
+{
+    append(alloc, all, &lists.inputs.entries)?;
+    append(alloc, all, &lists.outputs.entries)?;
+    append(alloc, all, &lists.locals.entries)
+}
+
 /// The variables of all lists: inputs, outputs, locals.
-#[tactic(auto, using(crate::specs::laws::Collecting::joined))]
 pub fn all_entries(alloc: Global, lists: &Lists) -> Result<Entries, NoMemory>
     ensures { IfOk result (λ all. all ≡ all_entries lists.now) }
 {
     let mut all = Entries::new(alloc);
-    append(alloc, &mut all, &lists.inputs.entries)?;
-    append(alloc, &mut all, &lists.outputs.entries)?;
-    append(alloc, &mut all, &lists.locals.entries)?;
+    append_lists(alloc, &mut all, lists)?;
     Ok(all)
 }
 

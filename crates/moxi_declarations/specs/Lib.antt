@@ -1,2 +1,3 @@
 pub mod FunctionView
+pub mod Once
 pub mod Views

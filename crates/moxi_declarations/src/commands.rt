@@ -20,12 +20,12 @@ use moxi_attributes::{Headed, fail, fail_if, fail_primed, headed_forms, place_of
 use moxi_scripts::{CommandName, Entries};
 use moxi_sexpr::{Form, FormShape};
 use moxi_sorts::{only_form, symbol_of};
-use moxi_terms::{Scope, is_same};
+use moxi_terms::Scope;
 use name_set::NameSet;
 use std::alloc::Global;
 use std::mem::{self, drop};
 use text_core::kinds::moxi;
-use text_core::{Name, NoMemory, Place, Refusal};
+use text_core::{Name, NoMemory, Place, Refusal, is_same};
 
 /// What the commands so far declare. A system whose name is taken is one of `repeated`.
 #[derive(Drop)]

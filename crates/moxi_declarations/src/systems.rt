@@ -19,11 +19,10 @@ ghost use Rattle.moxi_scripts.specs.Systems.{with_new_system, with_repeated, wit
 ghost use Rattle.moxi_declarations.specs.Views.{plain_reading};
 ghost use Rattle.moxi_scripts.specs.Uses.{uses_failures, uses_in};
 
-use crate::once::{find_locals, test_twice_alone};
+use crate::once::read_locals;
 use moxi_attributes::{
-    Headed, all_entries, append, are_shaped, fail, fail_if, fail_primed, headed_forms,
-    read_formula, read_lists, read_uses, shape_holds, test_keywords, text_entries, true_term,
-    value_of,
+    Headed, append_lists, fail, fail_if, fail_primed, headed_forms, read_formula, read_lists,
+    read_uses, shape_holds, test_keywords, true_term, value_of,
 };
 use moxi_scripts::{Command, DeclaredList, Entries, Key, Lists, Use};
 use moxi_sexpr::Form;
@@ -78,12 +77,10 @@ pub fn read_variables(
 {
     test_keywords(command, forms, found);
     let lists = read_lists(alloc, scope, command, forms, found)?;
-    let mut text = text_entries(alloc, &lists, command, forms)?;
-    let once = test_twice_alone(alloc, &text, found)?;
-    let mut all = all_entries(alloc, &lists)?;
-    append(alloc, variables, &all)?;
-    let shaped = are_shaped(&lists);
-    let locals = find_locals(alloc, scope, shaped, once, forms, &mut text, &mut all)?;
+    let before = variables.len();
+    append_lists(alloc, variables, &lists)?;
+    let all = &variables.as_slice()[before..];
+    let locals = read_locals(alloc, scope, &lists, command, forms, all, found)?;
     Ok(ReadVariables { lists, locals })
 }
 

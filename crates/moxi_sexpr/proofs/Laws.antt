@@ -227,9 +227,13 @@ pub reaches_along : (text bs rest : List ℕ) (p q : Place) → text ≡ bs ++ r
 reaches_along text bs rest p q e f h =
     subst (λ (x : Place). Reaches x (length rest)) (sym f) (reaches_after bs p rest (subst (λ (x : List ℕ). Reaches p (length x)) e h))
 
--- what the loop's parts make of the text that is left
-pub next_from : (m : Mark) (text : List ℕ) (at : Place) (rest : List ℕ) (x : Next)
-    → at ≡ after m.place (take (gap_length false text) text) → rest ≡ drop (gap_length false text) text → stands (record { place = at; depth = m.depth }) rest ≡ x → Steps m text x
+-- a token stands at the front, or the text is at its end
+pub steps_at : (m : Mark) (text : List ℕ) (b : ℕ) (bs : List ℕ) (x : Next) → text ≡ b ∷ bs → is_blank b ≡ false → eqb b 59 ≡ false → stands m text ≡ x → Steps m text x
 unfolding next_of
-next_from m text at rest x e f h =
-    steps_from m text x (ap (λ p. stands (record { place = p; depth = m.depth }) (drop (gap_length false text) text)) (sym e) ∙ ap (stands (record { place = at; depth = m.depth })) (sym f) ∙ h)
+steps_at m text b bs x is e f h =
+    let none : gap_length false (b ∷ bs) ≡ 0 = rw (e, f) refl in
+    steps_from m text x (at_once m text (ap (gap_length false) is ∙ none) ∙ h)
+
+pub steps_end : (m : Mark) (text : List ℕ) (x : Next) → text ≡ [] → stands m text ≡ x → Steps m text x
+unfolding next_of
+steps_end m text x none h = steps_from m text x (at_once m text (ap (gap_length false) none) ∙ h)

@@ -1,7 +1,7 @@
 -- What a loop over tokens keeps: whatever stands from here on makes it of the whole text.
-use Rattle.std.proofs.Common.{◌≡◌, ◌<◌, ◌≤◌, ℕ, true, false, eqb, Option, Some, None, Result, Ok, Err, List, [], ◌∷◌, ◌++◌, length, take, drop, map, refl, sym, ap, ◌∙◌, subst, arith, Vec, Global}
+use Rattle.std.proofs.Common.{◌≡◌, ◌<◌, ℕ, true, false, eqb, Option, Some, None, Result, Ok, Err, List, [], ◌∷◌, ◌++◌, length, take, drop, map, refl, sym, ap, ◌∙◌, subst, arith, Vec, Global}
 use Rattle.std.specs.Prelude.{IfOk, IfErr, IsTrue}
-use Rattle.std.proofs.lemmas.List.{length-reverse, length-map, length-append, length-drop}
+use Rattle.std.proofs.lemmas.List.{length-reverse, length-map, length-append, take-append-drop}
 use Rattle.std.proofs.lemmas.Bool.{cond_both, cond-true, cond-false, ne_eqb}
 use Rattle.text_core.specs.declared.end.End.{End}
 use Rattle.text_core.specs.declared.end.End.TheVariants.{Bad, NoMemory}
@@ -12,17 +12,18 @@ use Rattle.moxi_sexpr.specs.declared.scan.Spelling.{Spelling}
 use Rattle.moxi_sexpr.specs.declared.scan.Spelling.TheVariants as how
 use Rattle.moxi_sexpr.specs.declared.read.TokenKind.{TokenKind}
 use Rattle.moxi_sexpr.specs.declared.read.Opened.{Opened}
+use Rattle.moxi_sexpr.specs.Bytes.{is_blank, is_comment_byte}
 use Rattle.moxi_sexpr.specs.Atoms.{may_stand, spelled}
 use Rattle.moxi_sexpr.specs.Tree.{Tree, Trees, trees_of, plain}
-use Rattle.moxi_sexpr.specs.Lexing.{Token, token, Mark, finished, go, bad, refusal, past, Steps, Lexes, last, more, Refuses, here, later, begin}
+use Rattle.moxi_sexpr.specs.Lexing.{Token, token, Mark, Next, finished, go, bad, refusal, past, Steps, blank, comment, Lexes, last, more, Refuses, here, later, begin}
 use Rattle.moxi_sexpr.specs.Grammar.{SpellsAll, SpellsForms, RefusesWith}
-use Rattle.moxi_sexpr.specs.Reading.{gap_length, Scan, scan_of, value_of, token_from, token_of, nested, front, turned, behind, stands}
-use Rattle.moxi_sexpr.specs.Machine.{Frame, stop, onward, shift, step, run, plain_open, open_lists}
-use Rattle.moxi_sexpr.specs.Answer.{IsBehind, Gives, Moves, Reads, IsAnswered, IsRefused}
+use Rattle.moxi_sexpr.specs.Reading.{run_length, Scan, scan_of, value_of, token_from, token_of, nested, front, turned, behind, stands}
+use Rattle.moxi_sexpr.specs.Machine.{Frame, Move, stop, onward, stops, goes_to, with_rest, turn_of, shift, step, run, plain_open, open_lists}
+use Rattle.moxi_sexpr.specs.Answer.{IsBehind, Turns, Reads, IsAnswered, IsRefused}
 use Rattle.text_core.specs.Places.{start, after}
-use Rattle.moxi_sexpr.proofs.Runs.{front_is}
+use Rattle.moxi_sexpr.proofs.Runs.{front_is, run_passes, run_stops}
 use Rattle.moxi_sexpr.proofs.Scanning.{Found, scan_found}
-use Rattle.moxi_sexpr.proofs.Laws.{stands_token, next_from, one_list, no_list, one_refusal}
+use Rattle.moxi_sexpr.proofs.Laws.{stands_token, steps_at, steps_end, one_list, no_list, one_refusal}
 use Rattle.moxi_sexpr.proofs.Forming.{goes, sound, one_forms, step_goes, step_stops}
 
 pub record Leads (text : List ℕ) (m : Mark) (rest : List ℕ) (k : List Frame) (done : List Tree) : Type 0 where
@@ -49,6 +50,35 @@ leads_on text m next rest behind k j done more_done t l s e = record {
   spells = λ ts fs lexed formed. l.spells (t ∷ ts) fs (more t next behind s lexed) (goes t ts k j done more_done e ∙ formed);
   refuses = λ why h. l.refuses why (later t next behind s h);
 }
+
+-- what goes on behind blanks and comments goes on before them
+lexes_by : {m next : Mark} {text rest : List ℕ} {ts : List Token} → ((x : Next) → Steps next rest x → Steps m text x) → Lexes next rest ts → Lexes m text ts
+lexes_by f (last s) = last (f finished s)
+lexes_by f (more t next rest s h) = more t next rest (f (go t next rest) s) h
+
+refuses_by : {m next : Mark} {text rest : List ℕ} {why : Refusal} → ((x : Next) → Steps next rest x → Steps m text x) → Refuses next rest why → Refuses m text why
+refuses_by f (here why s) = here why (f (bad why) s)
+refuses_by f (later t next rest s h) = later t next rest (f (go t next rest) s) h
+
+leads_by : (text : List ℕ) (m next : Mark) (rest behind : List ℕ) (k : List Frame) (done : List Tree)
+    → Leads text m rest k done → ((x : Next) → Steps next behind x → Steps m rest x) → Leads text next behind k done
+leads_by text m next rest behind k done l f = record {
+  spells = λ ts fs lexed formed. l.spells ts fs (lexes_by f lexed) formed;
+  refuses = λ why h. l.refuses why (refuses_by f h);
+}
+
+blank_steps : (m : Mark) (rest ahead : List ℕ) (b : ℕ) (q : Place) → rest ≡ b ∷ ahead → is_blank b ≡ true → q ≡ after m.place (b ∷ []) → (x : Next) → Steps (record { place = q; depth = m.depth }) ahead x → Steps m rest x
+blank_steps m rest ahead b q is e same x s =
+    let P : Place → Type 0 = λ p. Steps (record { place = p; depth = m.depth }) ahead x in
+    subst (λ (t : List ℕ). Steps m t x) (sym is) (blank b e (subst P same s))
+
+comment_steps : (m : Mark) (rest ahead : List ℕ) (q : Place) → rest ≡ 59 ∷ ahead → q ≡ after m.place (59 ∷ take (run_length is_comment_byte ahead) ahead)
+    → (x : Next) → Steps (record { place = q; depth = m.depth }) (drop (run_length is_comment_byte ahead) ahead) x → Steps m rest x
+comment_steps m rest ahead q is same x s =
+    let n = run_length is_comment_byte ahead in
+    let P : Place → Type 0 = λ p. Steps (record { place = p; depth = m.depth }) (drop n ahead) x in
+    let through : Steps m (59 ∷ (take n ahead ++ drop n ahead)) x = comment (take n ahead) (run_passes is_comment_byte ahead) (run_stops is_comment_byte ahead) (subst P same s) in
+    subst (λ (t : List ℕ). Steps m t x) (sym is) (subst (λ (t : List ℕ). Steps m (59 ∷ t) x) (take-append-drop n ahead) through)
 
 -- one token, by what the code's step says
 pub stands_go : (m : Mark) (text : List ℕ) (i : TokenKind) (rest : List ℕ) (k j : List Frame) (done more_done : List Tree)
@@ -107,9 +137,6 @@ token_splits text rest i e = let b = token_behind text (i, rest) e in splits tex
 pub token_shorter : (text rest : List ℕ) (i : TokenKind) → token_of text ≡ Some (i, rest) → length rest < length text
 token_shorter text rest i e = let b = token_behind text (i, rest) e in let some = b.some in let n : length text ≡ length (b.bytes ++ rest) = ap length b.is in omega (arith, n, some, length-append b.bytes rest)
 
-pub gap_shorter : (text rest : List ℕ) → rest ≡ drop (gap_length false text) text → length rest ≤ length text
-gap_shorter text rest e = let n : length rest ≡ length (drop (gap_length false text) text) = ap length e in omega (arith, n, length-drop (gap_length false text) text)
-
 pub leads_new : (text : List ℕ) (os : List Opened) (fs : List Form) → os ≡ [] → fs ≡ [] → Leads text (record { place = start; depth = length (open_lists os) }) text (open_lists os) (map plain fs)
 leads_new text [] [] e f = leads_start text
 leads_new text [] (x ∷ fs) e f = absurd (cc)
@@ -123,36 +150,64 @@ stands_unclosed : (m : Mark) (text : List ℕ) → text ≡ [] → 0 < m.depth �
 stands_unclosed m [] e d = cond-false _ _ _ (ne_eqb m.depth 0 (λ z. omega arith))
 stands_unclosed m (b ∷ bs) e d = absurd (cc)
 
+-- a token and a move behind it
+pub record Went (o : Option (TokenKind × List ℕ)) (place : Place) (k : List Frame) (done : List Tree) (rest : List ℕ) (j : List Frame) (more_done : List Tree) : Type 0 where
+  pub kind : TokenKind
+  pub is : o ≡ Some (kind, rest)
+  pub move : step kind place k done ≡ onward j more_done
+
+went_by : (x : TokenKind × List ℕ) (move : Move) (place : Place) (k : List Frame) (done : List Tree) (rest : List ℕ) (j : List Frame) (more_done : List Tree)
+    → step x.0 place k done ≡ move → with_rest x.1 move ≡ goes_to rest j more_done → Went (Some x) place k done rest j more_done
+went_by x (stop why) place k done rest j more_done e f = absurd (cc)
+went_by x (onward l d) place k done rest j more_done e f =
+    let same : x.1 ≡ rest = cc in
+    let lists : l ≡ j = cc in
+    let forms : d ≡ more_done = cc in
+    record { kind = x.0; is = ap (λ r. Some (x.0, r)) same; move = cc }
+
+pub went : (o : Option (TokenKind × List ℕ)) (place : Place) (k : List Frame) (done : List Tree) (rest : List ℕ) (j : List Frame) (more_done : List Tree)
+    → turn_of place o k done ≡ goes_to rest j more_done → Went o place k done rest j more_done
+went None place k done rest j more_done e = absurd (cc)
+went (Some x) place k done rest j more_done e = went_by x (step x.0 place k done) place k done rest j more_done refl e
+
+stopped : (rest : List ℕ) (move : Move) (why : Refusal) → with_rest rest move ≡ stops why → move ≡ stop why
+stopped rest (stop x) why e = cc
+stopped rest (onward k done) why e = absurd (cc)
+
+stands_halt : (m : Mark) (text : List ℕ) (k : List Frame) (done : List Tree) (why : Refusal) (o : Option (TokenKind × List ℕ))
+    → 0 < length text → m.depth ≡ length k → token_of text ≡ o → turn_of m.place o k done ≡ stops why → stands m text ≡ bad why
+stands_halt m text k done why None some d e h = let same : refusal 1 m.place ≡ why = cc in stands_none m text some e ∙ ap bad same
+stands_halt m text k done why (Some x) some d e h = stands_stop m text x.0 x.1 k done why e d (stopped x.1 (step x.0 m.place k done) why h)
+
 -- one round of the loop, by what its calls answer
-module _ (text : List ℕ) (m : Mark) (rest : List ℕ) (k : List Frame) (done : List Tree) (l : Leads text m rest k done) (d : m.depth ≡ length k) (at : Place) (ahead : List ℕ)
-    (e : at ≡ after m.place (take (gap_length false rest) rest)) (f : ahead ≡ drop (gap_length false rest) rest) where
-  abbrev there : Mark
-  there = record { place = at; depth = m.depth }
+module _ (text : List ℕ) (m : Mark) (rest : List ℕ) (k : List Frame) (done : List Tree) (l : Leads text m rest k done) (d : m.depth ≡ length k) where
+  pub end_done : rest ≡ [] → length k ≡ 0 → SpellsForms text (trees_of done)
+  end_done none closed = leads_done text m rest k done l closed (steps_end m rest finished none (stands_finished m rest none (d ∙ closed)))
 
-  pub end_done : ahead ≡ [] → length k ≡ 0 → SpellsForms text (trees_of done)
-  end_done none closed = leads_done text m rest k done l closed (next_from m rest at ahead finished e f (stands_finished there ahead none (d ∙ closed)))
+  pub end_open : rest ≡ [] → 0 < length k → (why : Refusal) → why ≡ refusal 2 m.place → RefusesWith text why
+  end_open none some why is = leads_bad text m rest k done why l (steps_end m rest (bad why) none (stands_unclosed m rest none (let h = d in omega arith) ∙ ap bad (sym is)))
 
-  pub end_open : ahead ≡ [] → 0 < length k → (why : Refusal) → why ≡ refusal 2 at → RefusesWith text why
-  end_open none some why is =
-      leads_bad text m rest k done why l (next_from m rest at ahead (bad why) e f (stands_unclosed there ahead none (let h = d in omega arith) ∙ ap bad (sym is)))
+  pub blank_leads : (b : ℕ) (ahead : List ℕ) (q : Place) → rest ≡ b ∷ ahead → is_blank b ≡ true → q ≡ after m.place (b ∷ []) → Leads text (record { place = q; depth = m.depth }) ahead k done
+  blank_leads b ahead q is e same = leads_by text m (record { place = q; depth = m.depth }) rest ahead k done l (blank_steps m rest ahead b q is e same)
 
-  pub token_refused : (x : End) → 0 < length ahead → Gives at (Err x) (token_of ahead) → IsRefused text x
-  token_refused (Bad why) some g =
-      leads_bad text m rest k done why l (next_from m rest at ahead (bad why) e f (stands_none there ahead some g.0 ∙ ap bad (sym g.1)))
-  token_refused NoMemory some g = tt
+  pub comment_leads : (ahead : List ℕ) (q : Place) → rest ≡ 59 ∷ ahead → q ≡ after m.place (59 ∷ take (run_length is_comment_byte ahead) ahead)
+      → Leads text (record { place = q; depth = m.depth }) (drop (run_length is_comment_byte ahead) ahead) k done
+  comment_leads ahead q is same = leads_by text m (record { place = q; depth = m.depth }) rest (drop (run_length is_comment_byte ahead) ahead) k done l (comment_steps m rest ahead q is same)
 
-  pub take_refused : (i : TokenKind) (behind : List ℕ) (x : End) (j : List Frame) (more_done : List Tree) → token_of ahead ≡ Some (i, behind) → Moves (step i at k done) (Err x) j more_done → IsRefused text x
-  take_refused i behind (Bad why) j more_done t g =
-      leads_bad text m rest k done why l (next_from m rest at ahead (bad why) e f (stands_stop there ahead i behind k done why t d g))
-  take_refused i behind NoMemory j more_done t g = tt
+  module _ (b : ℕ) (ahead : List ℕ) (is : rest ≡ b ∷ ahead) (e : is_blank b ≡ false) (f : eqb b 59 ≡ false) where
+    pub token_refused : (x : End) (j : List Frame) (more_done : List Tree) → Turns (turn_of m.place (token_of rest) k done) (Err x) j more_done → IsRefused text x
+    token_refused (Bad why) j more_done t =
+        let some : 0 < length rest = (let n : length rest ≡ length (b ∷ ahead) = ap length is in omega arith) in
+        leads_bad text m rest k done why l (steps_at m rest b ahead (bad why) is e f (stands_halt m rest k done why (token_of rest) some d refl t))
+    token_refused NoMemory j more_done t = tt
 
-  pub round_leads : (i : TokenKind) (behind : List ℕ) (j : List Frame) (more_done : List Tree) (q : Place) → token_of ahead ≡ Some (i, behind) → step i at k done ≡ onward j more_done
-      → q ≡ after at (front ahead behind) → Leads text (record { place = q; depth = length j }) behind j more_done
-  round_leads i behind j more_done q t g same =
-      let s = next_from m rest at ahead (go (token at i) (past there (front ahead behind) (length j)) behind) e f (stands_go there ahead i behind k j done more_done t d g) in
-      let next : past there (front ahead behind) (length j) ≡ record { place = q; depth = length j } = ap (λ (p : Place). record { place = p; depth = length j }) (sym same) in
-      leads_on text m (record { place = q; depth = length j }) rest behind k j done more_done (token at i) l (subst (λ (y : Mark). Steps m rest (go (token at i) y behind)) next s)
-      (step_goes i at k j done more_done g).0
+    pub token_leads : (behind : List ℕ) (j : List Frame) (more_done : List Tree) (q : Place) → Went (token_of rest) m.place k done behind j more_done → q ≡ after m.place (front rest behind)
+        → Leads text (record { place = q; depth = length j }) behind j more_done
+    token_leads behind j more_done q w same =
+        let s = steps_at m rest b ahead (go (token m.place w.kind) (past m (front rest behind) (length j)) behind) is e f (stands_go m rest w.kind behind k j done more_done w.is d w.move) in
+        let next : past m (front rest behind) (length j) ≡ record { place = q; depth = length j } = ap (λ (p : Place). record { place = p; depth = length j }) (sym same) in
+        leads_on text m (record { place = q; depth = length j }) rest behind k j done more_done (token m.place w.kind) l (subst (λ (y : Mark). Steps m rest (go (token m.place w.kind) y behind)) next s)
+        (step_goes w.kind m.place k j done more_done w.move).0
 
 pub refused_err : {Y : Type 0} (text : List ℕ) (r : Result Y End) (x y : End) → r ≡ Err x → x ≡ y → IsRefused text y → IfErr r (IsRefused text)
 refused_err text r x y is same h = subst (λ r. IfErr r (IsRefused text)) (sym (is ∙ ap Err same)) h

@@ -1,20 +1,20 @@
 -- The place behind a token that neither a bar nor a quote begins: it stands in one line.
-use Rattle.std.proofs.Common.{◌≡◌, ◌-◌, ◌≤◌, ◌+◌, ℕ, Bool, true, false, not, eqb, Option, Some, None, List, [], ◌∷◌, ◌++◌, length, refl, sym, ap, ◌∙◌, subst, arith}
+use Rattle.std.proofs.Common.{◌≡◌, ◌-◌, ◌≤◌, ◌<◌, ◌+◌, ℕ, zero, suc, Bool, true, false, not, eqb, Option, Some, None, List, [], ◌∷◌, ◌++◌, length, take, drop, get_or, refl, eq-eqb, sym, ap, ◌∙◌, subst, arith}
 use Rattle.std.specs.Prelude.{IsTrue}
 use Rattle.std.specs.List.{list_all}
 use Rattle.std.proofs.lemmas.List.{length-take}
 use Rattle.std.proofs.lemmas.List.Folds.{list_all-append}
-use Rattle.std.proofs.lemmas.Bool.{eqb-true, cond_both, cond-false, and_parts}
+use Rattle.std.proofs.lemmas.Bool.{eqb-true, cond_both, cond-true, cond-false, and_parts}
 use Rattle.text_core.specs.declared.place.Place.{Place}
 use Rattle.moxi_sexpr.specs.declared.scan.Spelling.{Spelling}
 use Rattle.moxi_sexpr.specs.declared.scan.Spelling.TheVariants as how
 use Rattle.moxi_sexpr.specs.declared.read.TokenKind.{TokenKind}
 use Rattle.text_core.specs.Bytes.{is_digit}
-use Rattle.moxi_sexpr.specs.Bytes.{is_symbol_byte, is_binary_digit, is_hex_digit, heads}
-use Rattle.text_core.specs.Places.{next_place, after}
+use Rattle.moxi_sexpr.specs.Bytes.{is_symbol_byte, is_binary_digit, is_hex_digit, is_comment_byte, heads}
+use Rattle.text_core.specs.Places.{next_place, after, start}
 use Rattle.moxi_sexpr.specs.Atoms.{prime, may_stand, spelled}
-use Rattle.moxi_sexpr.specs.Reading.{Scan, scan_of, value_of, token_from, token_of, front}
-use Rattle.moxi_sexpr.proofs.Runs.{other_byte, run_all, simple_all, front_is}
+use Rattle.moxi_sexpr.specs.Reading.{run_length, line_ends, last_line, Scan, scan_of, value_of, token_from, token_of, front}
+use Rattle.moxi_sexpr.proofs.Runs.{other_byte, run_all, simple_all, run_passes, front_is}
 use Rattle.moxi_sexpr.proofs.Scanning.{Found, scan_found}
 
 abbrev is_inner : ℕ → Bool
@@ -24,7 +24,7 @@ is_inner b = not (eqb b 10)
 abbrev IsInLine : List ℕ → Type 0
 IsInLine bs = list_all is_inner bs ≡ true
 
-abbrev placed : ℕ → ℕ → ℕ → Place
+abbrev pub placed : ℕ → ℕ → ℕ → Place
 placed line column offset = record { line = line; column = column; offset = offset }
 
 -- the place so many bytes along the line
@@ -37,6 +37,9 @@ same_place line c d o u e f = ap (λ x. placed line x o) e ∙ ap (placed line d
 no_end : (t : Bool) → not t ≡ true → t ≡ false
 no_end true e = absurd (let g : false ≡ true = e in cc)
 no_end false e = refl
+
+any_place : (l m c d o u : ℕ) → l ≡ m → c ≡ d → o ≡ u → placed l c o ≡ placed m d u
+any_place l m c d o u e f g = ap (λ x. placed x c o) e ∙ same_place m c d o u f g
 
 after_line : (bs : List ℕ) (p : Place) → IsInLine bs → after p bs ≡ along p (length bs)
 after_line [] p e = same_place p.line p.column (p.column + 0) p.offset (p.offset + 0) (omega arith) (omega arith)
@@ -97,3 +100,39 @@ pub token_along : (p : Place) (text rest : List ℕ) (k : TokenKind) → token_o
 token_along p text rest k e bar quote within =
     let n : length (front text rest) ≡ length text - length rest = omega (arith, length-take (length text - length rest) text) in
     after_line (front text rest) p (subst (InnerBy text) e (inner_token text) bar quote) ∙ ap (along p) n
+
+-- a comment stands in one line
+pub comment_along : (p : Place) (text : List ℕ) (size : ℕ) → size ≡ run_length is_comment_byte text → size ≤ length text → after p (59 ∷ take (run_length is_comment_byte text) text) ≡ along p (size + 1)
+comment_along p text size e within =
+    let n = run_length is_comment_byte text in
+    let long : length (59 ∷ take n text) ≡ size + 1 = omega (arith, length-take n text) in
+    after_line (59 ∷ take n text) p (all_inner is_comment_byte (take n text) refl (run_passes is_comment_byte text)) ∙ ap (along p) long
+
+-- the place at the end of a text
+after_step : (t : Bool) (b : ℕ) (bs : List ℕ) (line n offset : ℕ) → eqb b 10 ≡ t
+    → ((line n offset : ℕ) → after (placed line (suc n) offset) bs ≡ placed (line + line_ends bs) (suc (last_line n bs)) (offset + length bs))
+    → after (placed line (suc n) offset) (b ∷ bs) ≡ placed (line + line_ends (b ∷ bs)) (suc (last_line n (b ∷ bs))) (offset + length (b ∷ bs))
+after_step true b bs line n offset e ih =
+    let ends : line_ends (b ∷ bs) ≡ suc (line_ends bs) = cond-true _ _ _ e in
+    let last : last_line n (b ∷ bs) ≡ last_line 0 bs = cond-true _ _ _ e in
+    let next : next_place (placed line (suc n) offset) b ≡ placed (line + 1) 1 (offset + 1) = cond-true _ _ _ e in
+    ap (λ q. after q bs) next ∙ ih (line + 1) 0 (offset + 1) ∙ any_place _ _ _ _ _ _ (omega (arith, ends)) (ap suc (sym last)) (omega arith)
+after_step false b bs line n offset e ih =
+    let ends : line_ends (b ∷ bs) ≡ line_ends bs = cond-false _ _ _ e in
+    let last : last_line n (b ∷ bs) ≡ last_line (suc n) bs = cond-false _ _ _ e in
+    let next : next_place (placed line (suc n) offset) b ≡ placed line (suc n + 1) (offset + 1) = cond-false _ _ _ e in
+    let more : suc n + 1 ≡ suc (suc n) = omega arith in
+    ap (λ q. after q bs) (next ∙ ap (λ x. placed line x (offset + 1)) more) ∙ ih line (suc n) (offset + 1) ∙ any_place _ _ _ _ _ _ (omega (arith, ends)) (ap suc (sym last)) (omega arith)
+
+pub after_is : (bs : List ℕ) (line n offset : ℕ) → after (placed line (suc n) offset) bs ≡ placed (line + line_ends bs) (suc (last_line n bs)) (offset + length bs)
+after_is [] line n offset = any_place _ _ _ _ _ _ (omega arith) refl (omega arith)
+after_is (b ∷ bs) line n offset = after_step (eqb b 10) b bs line n offset refl (after_is bs)
+
+pub end_is : (text : List ℕ) (ends last : ℕ) → ends ≡ line_ends text → last ≡ last_line 0 text → placed (ends + 1) (last + 1) (length text) ≡ after start text
+end_is text ends last e f = any_place _ _ _ _ _ _ (omega arith) (omega arith) (omega arith) ∙ sym (after_is text 1 0 0)
+
+-- the last line stands behind an end of a line
+pub last_at : (text : List ℕ) (k n : ℕ) → k < length text → get_or text k 0 ≡ 10 → last_line n text ≡ last_line 0 (drop (suc k) text)
+last_at [] k n h e = absurd (omega arith)
+last_at (b ∷ bs) zero n h e = cond-true _ _ _ (eq-eqb b 10 e)
+last_at (b ∷ bs) (suc k) n h e = cond_both (eqb b 10) _ _ (λ j. j ≡ last_line 0 (drop (suc k) bs)) (λ _. last_at bs k 0 (omega arith) e) (λ _. last_at bs k (suc n) (omega arith) e)

@@ -1,9 +1,9 @@
 -- The scanning functions find what is spelled, and nothing else.
-use Rattle.std.proofs.Common.{◌≡◌, ℕ, Bool, true, false, not, cond, eqb, ◌&&◌, Option, Some, None, List, [], ◌∷◌, ◌++◌, length, take, drop, refl, sym, ap, ◌∙◌, subst, arith}
+use Rattle.std.proofs.Common.{◌≡◌, ◌≢◌, ℕ, Bool, true, false, not, cond, eqb, ◌&&◌, Option, Some, None, List, [], ◌∷◌, ◌++◌, length, take, drop, refl, sym, ap, ◌∙◌, subst, arith}
 use Rattle.std.specs.Prelude.{IsTrue}
 use Rattle.std.specs.List.{list_all}
 use Rattle.std.proofs.lemmas.List.{take_at, drop_at, take-append-drop, append_assoc}
-use Rattle.std.proofs.lemmas.Bool.{eqb-true, cond_both, and_parts, or_parts, cond-true, cond-false}
+use Rattle.std.proofs.lemmas.Bool.{ne_eqb, eqb-true, cond_both, and_parts, or_parts, cond-true, cond-false}
 use Rattle.moxi_sexpr.specs.declared.scan.Spelling.{Spelling}
 use Rattle.moxi_sexpr.specs.declared.scan.Spelling.TheVariants as how
 use Rattle.moxi_sexpr.specs.declared.read.TokenKind.TheVariants.{Atom}
@@ -44,6 +44,10 @@ digit_first b bs e =
     let h : eqb b 34 ≡ false = other_byte P b 34 e refl in
     let i : eqb b 35 ≡ false = other_byte P b 35 e refl in
     cond-false _ _ _ a ∙ cond-false _ _ _ c ∙ ap token_from (cond-false _ _ _ f ∙ cond-false _ _ _ g ∙ cond-false _ _ _ h ∙ cond-false _ _ _ i ∙ cond-true _ _ _ e)
+
+-- no bracket stands first
+pub atom_token : (text : List ℕ) (b : ℕ) (rest : List ℕ) → text ≡ b ∷ rest → b ≢ 40 → b ≢ 41 → token_of text ≡ token_from (scan_of text)
+atom_token text b rest is e f = subst (λ (t : List ℕ). token_of t ≡ token_from (scan_of t)) (sym is) (cond-false _ _ _ (ne_eqb b 40 e) ∙ cond-false _ _ _ (ne_eqb b 41 f))
 
 no_gap_first : (p : ℕ → Bool) (b : ℕ) (bs : List ℕ) → p b ≡ true → p 9 ≡ false → p 10 ≡ false → p 13 ≡ false → p 32 ≡ false → p 59 ≡ false → gap_length false (b ∷ bs) ≡ 0
 no_gap_first p b bs e f g h i j =

@@ -4,16 +4,13 @@ use Rattle.std.specs.Borrow.{Bor}
 use Rattle.std.specs.Global.{Vec}
 use Rattle.text_core.specs.declared.end.End.{End}
 use Rattle.text_core.specs.declared.end.End.TheVariants.{Bad, NoMemory}
-use Rattle.text_core.specs.declared.place.Place.{Place}
 use Rattle.text_core.specs.declared.place.Refusal.{Refusal}
 use Rattle.moxi_sexpr.specs.declared.scan.Spelling.{Spelling}
 use Rattle.moxi_sexpr.specs.declared.form.Form.{Form}
-use Rattle.moxi_sexpr.specs.declared.read.TokenKind.{TokenKind}
 use Rattle.moxi_sexpr.specs.Tree.{Tree, Trees, trees_of, plain}
-use Rattle.moxi_sexpr.specs.Lexing.{refusal}
 use Rattle.moxi_sexpr.specs.Grammar.{RefusesWith}
 use Rattle.moxi_sexpr.specs.Reading.{Scan}
-use Rattle.moxi_sexpr.specs.Machine.{Frame, Move, stop, onward}
+use Rattle.moxi_sexpr.specs.Machine.{Frame, Move, stop, onward, Turn, stops, goes_to}
 
 -- these forms, or want of memory
 abbrev pub Reads : Trees → Result (Vec Form) End → Type 0
@@ -43,14 +40,14 @@ pub record IsBehind (text rest : List ℕ) : Type 0 where
   pub is : text ≡ bytes ++ rest
   pub some : 0 < length bytes
 
--- the token and the rest, or that none stands there
-abbrev pub Gives : Place → Result (TokenKind × Bor (List ℕ)) End → Option (TokenKind × List ℕ) → Type 0
-Gives place (Ok x) o = o ≡ Some (x.0, x.1.now)
-Gives place (Err (Bad why)) o = (o ≡ None) × (why ≡ refusal 1 place)
-Gives place (Err NoMemory) o = Unit {0}
-
 -- a move goes on to these open lists and forms
 abbrev pub Moves : Move → Result (Unit {0}) End → List Frame → List Tree → Type 0
 Moves m (Ok u) k done = m ≡ onward k done
 Moves m (Err (Bad why)) k done = m ≡ stop why
 Moves m (Err NoMemory) k done = Unit {0}
+
+-- a turn goes on to this rest, these open lists and forms
+abbrev pub Turns : Turn → Result (Bor (List ℕ)) End → List Frame → List Tree → Type 0
+Turns t (Ok rest) k done = t ≡ goes_to rest.now k done
+Turns t (Err (Bad why)) k done = t ≡ stops why
+Turns t (Err NoMemory) k done = Unit {0}

@@ -1,5 +1,5 @@
 -- Bytes by what they may stand in (SMT-LIB 2.6, section 3.1).
-use Rattle.std.specs.Prelude.{◌≡◌, ◌==◌, ◌+◌, ◌^◌, ℕ, Bool, false, not, ◌&&◌, ◌||◌, nat_le, List, [], ◌∷◌, codes}
+use Rattle.std.specs.Prelude.{◌≡◌, ◌==◌, ℕ, Bool, false, not, ◌&&◌, ◌||◌, nat_le, List, [], ◌∷◌, codes}
 use Rattle.std.specs.List.{list_any}
 use Rattle.text_core.specs.Bytes.{is_digit}
 use Rattle.moxi_sexpr.specs.declared.bytes.ByteSet.{ByteSet}
@@ -33,12 +33,17 @@ is_hex_digit b = is_digit b || ((nat_le 65 b && nat_le b 70) || (nat_le 97 b && 
 abbrev pub is_barred_byte : ℕ → Bool
 is_barred_byte b = not ((b == 124) || (b == 92))
 
+-- any byte before which a comment doesn't end
+abbrev pub is_comment_byte : ℕ → Bool
+is_comment_byte b = not (ends_line b)
+
 abbrev pub belongs : ByteSet → ℕ → Bool
 belongs set.Symbol b = is_symbol_byte b
 belongs set.Decimal b = is_digit b
 belongs set.Binary b = is_binary_digit b
 belongs set.Hexadecimal b = is_hex_digit b
 belongs set.Barred b = is_barred_byte b
+belongs set.Comment b = is_comment_byte b
 
 -- the text begins with this byte
 abbrev pub heads : ℕ → List ℕ → Bool

@@ -1,5 +1,5 @@
 -- Reading, one token at a time, with the lists that stand open.
-use Rattle.std.specs.Prelude.{nat_lt, if◌then◌else◌, Option, None, Some, List, [], ◌∷◌, ◌++◌, length, map, reverse}
+use Rattle.std.specs.Prelude.{ℕ, nat_lt, if◌then◌else◌, Option, None, Some, List, [], ◌∷◌, ◌++◌, length, map, reverse}
 use Rattle.text_core.specs.declared.place.Place.{Place}
 use Rattle.text_core.specs.declared.place.Refusal.{Refusal}
 use Rattle.moxi_sexpr.specs.declared.read.TokenKind.{TokenKind}
@@ -25,6 +25,21 @@ abbrev pub step : TokenKind → Place → List Frame → List Tree → Move
 step Open place k done = if nat_lt (length k) limit then onward (record { place = place; before = done } ∷ k) [] else stop (refusal 3 place)
 step Close place k done = closed place k done
 step (Atom a) place k done = onward k (done ++ atom place a ∷ [])
+
+-- a refusal, or the text that is left, the open lists and the forms
+pub data Turn : Type 0 where
+  stops : Refusal → Turn
+  goes_to : List ℕ → List Frame → List Tree → Turn
+
+-- the move, with this text left
+abbrev pub with_rest : List ℕ → Move → Turn
+with_rest rest (stop why) = stops why
+with_rest rest (onward k done) = goes_to rest k done
+
+-- what the token at the front of a text, if one stands there, leads to
+abbrev pub turn_of : Place → Option (TokenKind × List ℕ) → List Frame → List Tree → Turn
+turn_of place None k done = stops (refusal 1 place)
+turn_of place (Some x) k done = with_rest x.1 (step x.0 place k done)
 
 -- the move without the limit
 abbrev pub shift : TokenKind → Place → List Frame → List Tree → Move

@@ -1,5 +1,7 @@
 -- What the scanning functions compute.
 use Rattle.std.specs.Prelude.{◌==◌, ◌+◌, ◌-◌, ℕ, zero, suc, Bool, true, false, not, nat_lt, if◌then◌else◌, Option, Some, None, Result, Ok, Err, List, [], ◌∷◌, length, take, drop}
+use Rattle.moxi_sexpr.specs.declared.form.Atom as form
+use Rattle.moxi_sexpr.specs.declared.form.Atom.TheVariants as atoms
 use Rattle.moxi_sexpr.specs.declared.scan.Spelling.{Spelling}
 use Rattle.moxi_sexpr.specs.declared.scan.Spelling.TheVariants as how
 use Rattle.moxi_sexpr.specs.declared.read.TokenKind.{TokenKind}
@@ -48,6 +50,13 @@ with_prime h raw rest = Some (h (has_prime rest), raw, past_prime rest)
 
 abbrev pub bare_of : List ℕ → Scan
 bare_of text = if starts_simple text then with_prime how.Bare (take (run_length is_symbol_byte text) text) (drop (run_length is_symbol_byte text) text) else None
+
+-- the symbol at the front of a text that begins with a simple symbol, and what stands behind it
+abbrev pub symbol_of : List ℕ → form.Atom
+symbol_of text = atoms.Symbol (take (run_length is_symbol_byte text) text) (has_prime (drop (run_length is_symbol_byte text) text))
+
+abbrev pub past_symbol : List ℕ → List ℕ
+past_symbol text = past_prime (drop (run_length is_symbol_byte text) text)
 
 abbrev pub closed_by_bar : List ℕ → List ℕ → Scan
 closed_by_bar raw [] = None
@@ -103,6 +112,16 @@ token_from (Some x) = Some (Atom (atom_of x.0 (value_of x.0 x.1)), x.2)
 abbrev pub token_of : List ℕ → Option (TokenKind × List ℕ)
 token_of [] = None
 token_of (b ∷ bs) = if b == 40 then Some (Open, bs) else (if b == 41 then Some (Close, bs) else token_from (scan_of (b ∷ bs)))
+
+-- how many lines end
+abbrev pub line_ends : List ℕ → ℕ
+line_ends [] = 0
+line_ends (b ∷ bs) = if b == 10 then suc (line_ends bs) else line_ends bs
+
+-- how many bytes stand behind the last end of a line, or n more where no line ends
+abbrev pub last_line : ℕ → List ℕ → ℕ
+last_line n [] = n
+last_line n (b ∷ bs) = if b == 10 then last_line 0 bs else last_line (suc n) bs
 
 -- how many brackets stand open behind a token, or the number of the refusal
 abbrev pub nested : TokenKind → ℕ → Result ℕ ℕ

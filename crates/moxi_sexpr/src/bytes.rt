@@ -22,6 +22,8 @@ pub enum ByteSet {
     Hexadecimal,
     /// Bytes between bars.
     Barred,
+    /// Bytes of a comment.
+    Comment,
 }
 
 /// The bytes of a simple symbol, each at its own number, and `#` at all others.
@@ -48,7 +50,7 @@ pub fn is_blank(b: u8) -> bool
 }
 
 /// Whether a comment ends before this byte.
-pub fn ends_line(b: u8) -> bool
+fn ends_line(b: u8) -> bool
     ensures { result ≡ ends_line b }
 {
     b == b'\n' || b == b'\r'
@@ -60,7 +62,7 @@ fn is_hex_digit(b: u8) -> bool
     is_digit(b) || (b >= b'A' && b <= b'F') || (b >= b'a' && b <= b'f')
 }
 
-pub fn belongs(set: ByteSet, b: u8) -> bool
+fn belongs(set: ByteSet, b: u8) -> bool
     ensures { result ≡ belongs set b }
 {
     match set {
@@ -69,6 +71,7 @@ pub fn belongs(set: ByteSet, b: u8) -> bool
         ByteSet::Binary => b == b'0' || b == b'1',
         ByteSet::Hexadecimal => is_hex_digit(b),
         ByteSet::Barred => !(b == b'|' || b == b'\\'),
+        ByteSet::Comment => !ends_line(b),
     }
 }
 

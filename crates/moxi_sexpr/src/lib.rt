@@ -2,6 +2,7 @@
 #![tactic(auto)]
 
 mod bytes;
+mod ends;
 mod form;
 mod print;
 mod read;

@@ -12,7 +12,7 @@ use crate::bytes::is_simple;
 use crate::form::{Atom, Form, FormShape, Forms};
 use crate::scan::Spelling;
 use std::alloc::Global;
-use text_core::{NoMemory, Text};
+use text_core::{NoMemory, Text, is_same};
 
 /// The simple symbols that are printed in bars, since SMT-LIB reserves them.
 const RESERVED: [&[u8]; 13] = [
@@ -35,7 +35,7 @@ fn is_among(name: &[u8], words: &[&[u8]]) -> bool
     ensures { result ≡ is_among name.now (map bytes_behind words.now) }
 {
     for word in words {
-        if name == *word {
+        if is_same(name, *word) {
             return true;
         }
     }
@@ -62,13 +62,12 @@ fn put_between(out: &mut Text, opening: &[u8], bytes: &[u8], closing: &[u8]) -> 
 pub fn put_symbol(out: &mut Text, name: &[u8], primed: bool) -> Result<(), NoMemory>
     ensures { OnOk result (out.new ≡ out.old ++ printed_atom (atoms.Symbol name.now primed)) }
 {
-    let prime: &[u8] = if primed { b"'" } else { b"" };
     if is_simple(name) && !is_reserved(name) {
-        put_between(out, b"", name, prime)
+        out.put(name)?;
     } else {
         put_between(out, b"|", name, b"|")?;
-        out.put(prime)
     }
+    if primed { out.put(b"'") } else { Ok(()) }
 }
 
 // Bytes with each quote doubled.

@@ -1,25 +1,29 @@
 // Forms from a text.
 
-ghost use Rattle.std.specs.Prelude.{◌≡◌, ◌≤◌, ◌^◌, ◌⊎◌, ℕ, List, false, length, take, drop, map, Some, IfOk, IfErr};
+ghost use Rattle.std.specs.Prelude.{◌≡◌, ◌≤◌, ◌<◌, ◌+◌, ◌^◌, ◌⊎◌, ℕ, List, [], ◌∷◌, ◌++◌, length, take, drop, map, Some, IfOk, IfErr, OnOk, vec_len, vec_capacity};
 ghost use Rattle.text_core.specs.declared.place.Place.{Place};
 ghost use Rattle.text_core.specs.declared.place.Refusal.{Refusal};
 ghost use Rattle.moxi_sexpr.specs.declared.read.TokenKind.{TokenKind};
+ghost use Rattle.moxi_sexpr.specs.declared.read.TokenKind.TheVariants as kind;
 ghost use Rattle.text_core.specs.Places.{start, after, Reaches};
+ghost use Rattle.moxi_sexpr.specs.Bytes.{is_comment_byte};
+ghost use Rattle.moxi_sexpr.specs.Tree as tree;
 ghost use Rattle.moxi_sexpr.specs.Tree.{Trees, plain, plain_forms, depths};
 ghost use Rattle.moxi_sexpr.specs.Lexing.{refusal, limit};
 ghost use Rattle.moxi_sexpr.specs.Grammar.{SpellsForms, RefusesWith};
-ghost use Rattle.moxi_sexpr.specs.Reading.{gap_length, token_of, front};
-ghost use Rattle.moxi_sexpr.specs.Machine.{step, open_lists};
+ghost use Rattle.moxi_sexpr.specs.Reading.{run_length, scan_of, token_from, token_of, symbol_of, past_symbol, front};
+ghost use Rattle.moxi_sexpr.specs.Machine.{Frame, step, turn_of, open_lists};
 ghost use Rattle.moxi_sexpr.specs.Printing.{ArePrintable};
-ghost use Rattle.moxi_sexpr.specs.Answer.{Gives, Moves, IsRefused, Reads, IsAnswered};
+ghost use Rattle.moxi_sexpr.specs.Answer.{Moves, Turns, IsRefused, Reads, IsAnswered};
 
-use crate::bytes::along;
+use crate::bytes::{ByteSet, along, is_blank, run_length, starts_simple};
+use crate::ends::{last_line, line_ends};
 use crate::form::{Atom, Form, FormShape, Forms};
-use crate::scan::{make_atom, pass_gap, scan, starts_quoted};
+use crate::scan::{make_atom, scan, split_symbol, starts_quoted};
 use std::alloc::Global;
 use std::mem;
 use text_core::kinds::moxi;
-use text_core::{End, FIRST_PLACE, Kind, Place, Refusal};
+use text_core::{End, FIRST_PLACE, Kind, Name, NoMemory, Place, Refusal};
 
 /// Why a text gives no forms: it is refused, or memory runs out. M1 stands at a byte that starts nothing, a `)` that closes
 /// nothing, or a bar or quote that isn't closed; M2 at the end of the text, where a bracket stands open there; M3 at the
@@ -29,7 +33,7 @@ pub type FormEnd = End;
 /// How many brackets may stand open.
 const MOST_OPEN: usize = 1200;
 
-/// A bracket or an atom.
+/// A bracket or an atom: what the contracts call a token. The reader takes each where it stands, and makes none of them.
 #[derive(Drop)]
 pub enum TokenKind {
     Open,
@@ -50,16 +54,16 @@ fn refusal(kind: Kind, place: Place) -> Refusal
     Refusal { kind, place }
 }
 
-/// The place and the text behind the blanks and comments that a text begins with.
-fn skip_gap(place: Place, text: &[u8]) -> (Place, &[u8])
-    requires { Reaches place (length text.now) }
-    ensures place { result.0 ≡ after place (take (gap_length false text.now) text.now) }
-    ensures rest { result.1.now ≡ drop (gap_length false text.now) text.now }
-    ensures reaches { Reaches result.0 (length result.1.now) }
+/// The place and the text behind a comment, of which the text is what follows its first byte.
+#[inline(never)]
+fn skip_comment(place: Place, text: &[u8]) -> (Place, &[u8])
+    requires { Reaches place (length text.now + 1) }
+    ensures place { result.0 ≡ after place (59 ∷ take (run_length is_comment_byte text.now) text.now) }
+    ensures rest { result.1.now ≡ drop (run_length is_comment_byte text.now) text.now }
 {
-    let (behind, count) = pass_gap(place, text);
-    let (_, rest) = text.split_at(count);
-    (behind, rest)
+    let size = run_length(ByteSet::Comment, text);
+    let (_, rest) = text.split_at(size);
+    (along(place, size + 1), rest)
 }
 
 /// The place behind the token at the front of a text. Only bars and quotes may hold the end of a line.
@@ -77,64 +81,132 @@ fn place_of_rest(place: Place, text: &[u8], rest: &[u8]) -> Place
     }
 }
 
-/// The token at the front of a text, and what stands behind it.
-fn read_token(alloc: Global, place: Place, text: &[u8]) -> Result<(TokenKind, &[u8]), FormEnd>
-    ensures { Gives place result (token_of text.now) }
+/// Makes room for one more form where there is none.
+#[cold]
+#[inline(never)]
+fn grow(forms: &mut Forms) -> Result<(), NoMemory>
+    ensures items { forms.new.items ≡ forms.old.items }
+    ensures room { OnOk result (vec_len forms.new < vec_capacity forms.new) }
 {
-    let Some((b, rest)) = text.split_first() else {
-        return Err(FormEnd::Bad(refusal(moxi::BAD_BYTE, place)))
-    };
-    match *b {
-        b'(' => Ok((TokenKind::Open, rest)),
-        b')' => Ok((TokenKind::Close, rest)),
-        _ => {
-            let Some((how, raw, last)) = scan(text) else {
-                return Err(FormEnd::Bad(refusal(moxi::BAD_BYTE, place)))
-            };
-            let atom = make_atom(alloc, how, raw)?;
-            Ok((TokenKind::Atom(atom), last))
-        }
+    forms.reserve(1)?;
+    Ok(())
+}
+
+/// Makes room for one more form. A form is made when its room is there, so that it is written where it stays.
+#[inline(always)]
+fn make_room(forms: &mut Forms) -> Result<(), NoMemory>
+    ensures items { forms.new.items ≡ forms.old.items }
+    ensures room { OnOk result (vec_len forms.new < vec_capacity forms.new) }
+{
+    if forms.len() < forms.capacity() {
+        Ok(())
+    } else {
+        grow(forms)
     }
 }
 
-/// Takes the next token.
-fn take(
+/// Opens a list.
+fn open_list(
     alloc: Global,
     stack: &mut Vec<Opened>,
     done: &mut Forms,
     place: Place,
-    token: TokenKind,
 ) -> Result<(), FormEnd>
-    ensures { Moves (step token place (open_lists stack.old.items) (map plain done.old.items)) result (open_lists stack.new.items) (map plain done.new.items) }
+    ensures { Moves (step kind.Open place (open_lists stack.old.items) (map plain done.old.items)) result (open_lists stack.new.items) (map plain done.new.items) }
 {
-    match token {
-        TokenKind::Open => {
-            if stack.len() >= MOST_OPEN {
-                return Err(FormEnd::Bad(refusal(moxi::TOO_NESTED, place)));
-            }
-            let before = mem::replace(done, Vec::new(alloc));
-            stack.push(Opened { place, before })?;
-            Ok(())
-        }
-        TokenKind::Close => match stack.pop() {
-            None => Err(FormEnd::Bad(refusal(moxi::BAD_BYTE, place))),
-            Some(opened) => {
-                let inner = mem::replace(done, opened.before);
-                done.push(Form {
-                    place: opened.place,
-                    shape: FormShape::List(inner),
-                })?;
-                Ok(())
-            }
-        },
-        TokenKind::Atom(atom) => {
-            done.push(Form {
-                place,
-                shape: FormShape::Atom(atom),
-            })?;
+    if stack.len() >= MOST_OPEN {
+        return Err(FormEnd::Bad(refusal(moxi::TOO_NESTED, place)));
+    }
+    let before = mem::replace(done, Vec::new(alloc));
+    stack.push(Opened { place, before })?;
+    Ok(())
+}
+
+/// Closes the list that was opened last.
+fn close_list(stack: &mut Vec<Opened>, done: &mut Forms, place: Place) -> Result<(), FormEnd>
+    ensures { Moves (step kind.Close place (open_lists stack.old.items) (map plain done.old.items)) result (open_lists stack.new.items) (map plain done.new.items) }
+{
+    match stack.pop() {
+        None => Err(FormEnd::Bad(refusal(moxi::BAD_BYTE, place))),
+        Some(opened) => {
+            let inner = mem::replace(done, opened.before);
+            make_room(done)?;
+            done.push_reserved(Form {
+                place: opened.place,
+                shape: FormShape::List(inner),
+            });
             Ok(())
         }
     }
+}
+
+/// Adds the simple symbol at the front of a text to the forms, and answers what stands behind it.
+fn take_symbol<'a>(
+    alloc: Global,
+    done: &mut Forms,
+    place: Place,
+    text: &'a [u8],
+) -> Result<&'a [u8], NoMemory>
+    ensures form { OnOk result (map plain done.new.items ≡ map plain done.old.items ++ tree.atom place (symbol_of text.now) ∷ []) }
+    ensures rest { IfOk result (λ rest. rest.now ≡ past_symbol text.now) }
+{
+    let (name, primed, rest) = split_symbol(text);
+    make_room(done)?;
+    let name = Name::of(alloc, name)?;
+    done.push_reserved(Form {
+        place,
+        shape: FormShape::Atom(Atom::Symbol(name, primed)),
+    });
+    Ok(rest)
+}
+
+/// Adds the atom at the front of a text to the forms, and answers what stands behind it.
+#[inline(never)]
+fn take_atom<'a>(
+    alloc: Global,
+    done: &mut Forms,
+    place: Place,
+    text: &'a [u8],
+) -> Result<&'a [u8], FormEnd>
+    ensures { (k : List Frame) → Turns (turn_of place (token_from (scan_of text.now)) k (map plain done.old.items)) result k (map plain done.new.items) }
+{
+    let Some((how, raw, rest)) = scan(text) else {
+        return Err(FormEnd::Bad(refusal(moxi::BAD_BYTE, place)))
+    };
+    make_room(done)?;
+    let atom = make_atom(alloc, how, raw)?;
+    done.push_reserved(Form {
+        place,
+        shape: FormShape::Atom(atom),
+    });
+    Ok(rest)
+}
+
+/// Takes the token at the front of a text, and answers what stands behind it. Most atoms are simple symbols.
+fn take_token<'a>(
+    alloc: Global,
+    stack: &mut Vec<Opened>,
+    done: &mut Forms,
+    place: Place,
+    text: &'a [u8],
+) -> Result<&'a [u8], FormEnd>
+    ensures { Turns (turn_of place (token_of text.now) (open_lists stack.old.items) (map plain done.old.items)) result (open_lists stack.new.items) (map plain done.new.items) }
+{
+    let Some((b, rest)) = text.split_first() else {
+        return Err(FormEnd::Bad(refusal(moxi::BAD_BYTE, place)))
+    };
+    if *b == b'(' {
+        open_list(alloc, stack, done, place)?;
+        return Ok(rest);
+    }
+    if *b == b')' {
+        close_list(stack, done, place)?;
+        return Ok(rest);
+    }
+    if starts_simple(text) {
+        return Ok(take_symbol(alloc, done, place, text)?);
+    }
+    take_atom(alloc, done, place, text)
 }
 
 /// The forms of a text, or its refusal.
@@ -148,17 +220,24 @@ fn forms_of(alloc: Global, text: &[u8]) -> Result<Forms, FormEnd>
     let mut place = FIRST_PLACE;
     let mut rest = text;
     'tokens: loop {
-        let (at, more) = skip_gap(place, rest);
-        if more.is_empty() {
+        let Some((b, more)) = rest.split_first() else {
             if stack.is_empty() {
                 return Ok(done);
             }
-            return Err(FormEnd::Bad(refusal(moxi::UNCLOSED, at)));
+            return Err(FormEnd::Bad(refusal(moxi::UNCLOSED, place)))
+        };
+        if is_blank(*b) {
+            place = place.next(*b);
+            rest = more;
+        } else if *b == b';' {
+            let (behind, last) = skip_comment(place, more);
+            place = behind;
+            rest = last;
+        } else {
+            let last = take_token(alloc, &mut stack, &mut done, place, rest)?;
+            place = place_of_rest(place, rest, last);
+            rest = last;
         }
-        let (token, last) = read_token(alloc, at, more)?;
-        take(alloc, &mut stack, &mut done, at, token)?;
-        place = place_of_rest(at, more, last);
-        rest = last;
     }
 }
 
@@ -183,7 +262,11 @@ pub fn end_of(text: &[u8]) -> Place
     requires { length text.now ≤ 2 ^ 31 }
     ensures { result ≡ after start text.now }
 {
-    FIRST_PLACE.after(text)
+    Place {
+        line: line_ends(text) + 1,
+        column: last_line(text) as u32 + 1,
+        offset: text.len() as u32,
+    }
 }
 
 /// Each text spells one list of forms or is refused in one way, and not both. A bracket that stands open is refused at

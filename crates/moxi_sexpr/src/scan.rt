@@ -1,16 +1,15 @@
-// What stands at the front of a text: blanks and comments, or the bytes of an atom.
+// The atom at the front of a text.
 
-ghost use Rattle.std.specs.Prelude.{◌≡◌, ◌<◌, ◌≤◌, ◌∷◌, ◌++◌, ◌||◌, ℕ, List, false, length, take, IfOk, IfSome};
-ghost use Rattle.moxi_sexpr.specs.Bytes.{belongs, heads};
-ghost use Rattle.text_core.specs.Places.{after, Reaches};
+ghost use Rattle.std.specs.Prelude.{◌≡◌, ◌<◌, ◌≤◌, ◌∷◌, ◌++◌, ◌||◌, ℕ, List, false, length, take, drop, IfOk, IfSome};
+ghost use Rattle.moxi_sexpr.specs.Bytes.{belongs, is_symbol_byte, heads};
 ghost use Rattle.moxi_sexpr.specs.Atoms.{atom_of};
-ghost use Rattle.moxi_sexpr.specs.Reading.{gap_step, gap_length, run_of, simple_of, has_prime, past_prime, bare_of, barred_of, quote_length, quote_of, digits_of, scan_of, undoubled, value_of};
+ghost use Rattle.moxi_sexpr.specs.Reading.{run_length, run_of, simple_of, has_prime, past_prime, past_symbol, bare_of, barred_of, quote_length, quote_of, digits_of, scan_of, undoubled, value_of};
 ghost use Rattle.moxi_sexpr.specs.Answer.{Scans};
 
-use crate::bytes::{ByteSet, belongs, ends_line, is_blank, run_length, starts_simple};
+use crate::bytes::{ByteSet, run_length, starts_simple};
 use crate::form::Atom;
 use std::alloc::Global;
-use text_core::{Name, NoMemory, Place, is_digit};
+use text_core::{Name, NoMemory, is_digit};
 
 /// How an atom is spelled.
 #[derive(Clone, Copy)]
@@ -29,42 +28,6 @@ pub enum Spelling {
     Hex,
     /// Bytes between quotes, each quote among them doubled.
     Quote,
-}
-
-/// Whether a byte goes on with blanks and comments, and whether a comment stands open behind it.
-fn gap_step(inside: bool, b: u8) -> Option<bool>
-    ensures { result ≡ gap_step inside b }
-{
-    if inside {
-        Some(!ends_line(b))
-    } else if is_blank(b) {
-        Some(false)
-    } else if b == b';' {
-        Some(true)
-    } else {
-        None
-    }
-}
-
-/// The place behind the blanks and comments that a text begins with, and their length.
-pub fn pass_gap(place: Place, text: &[u8]) -> (Place, usize)
-    requires { Reaches place (length text.now) }
-    ensures place { result.0 ≡ after place (take (gap_length false text.now) text.now) }
-    ensures length { result.1 ≡ gap_length false text.now }
-    ensures within { result.1 ≤ length text.now }
-{
-    let mut place = place;
-    let mut count = 0;
-    let mut inside = false;
-    for b in text {
-        let Some(next) = gap_step(inside, *b) else {
-            return (place, count)
-        };
-        inside = next;
-        place = place.next(*b);
-        count += 1;
-    }
-    (place, count)
 }
 
 /// A run of the set's bytes that isn't empty, and what stands behind it.
@@ -106,6 +69,18 @@ fn split_prime(text: &[u8]) -> (bool, &[u8])
     }
 }
 
+/// The name of the symbol at the front of a text that begins with a simple symbol, whether it is primed, and what stands
+/// behind it.
+pub fn split_symbol(text: &[u8]) -> (&[u8], bool, &[u8])
+    ensures name { result.0.now ≡ take (run_length is_symbol_byte text.now) text.now }
+    ensures primed { result.1 ≡ has_prime (drop (run_length is_symbol_byte text.now) text.now) }
+    ensures rest { result.2.now ≡ past_symbol text.now }
+{
+    let (name, more) = text.split_at(run_length(ByteSet::Symbol, text));
+    let (primed, rest) = split_prime(more);
+    (name, primed, rest)
+}
+
 /// A simple symbol with or without a prime, and what stands behind it.
 fn scan_bare(text: &[u8]) -> Option<(Spelling, &[u8], &[u8])>
     ensures { Scans result (bare_of text.now) }
@@ -113,8 +88,7 @@ fn scan_bare(text: &[u8]) -> Option<(Spelling, &[u8], &[u8])>
     if !starts_simple(text) {
         return None;
     }
-    let (content, more) = text.split_at(run_length(ByteSet::Symbol, text));
-    let (primed, rest) = split_prime(more);
+    let (content, primed, rest) = split_symbol(text);
     Some((Spelling::Bare(primed), content, rest))
 }
 

@@ -81,6 +81,14 @@ first_some locals names firsts q k i e =
 first_none : (locals : List Local) (names : List (List ℕ)) (firsts : List ℕ) (q : List ℕ) → IsIndexed locals names firsts → place_of names q ≡ None → first_of 0 locals q ≡ None
 first_none locals names firsts q i e = none_found (first_of 0 locals q) (sym (ap (number_at firsts) e) ∙ i.first q)
 
+-- a name has a place where some variable has it
+pub indexed_none : (locals : List Local) (names : List (List ℕ)) (firsts : List ℕ) (q : List ℕ) → IsIndexed locals names firsts → is_none (place_of names q) ≡ is_none (first_of 0 locals q)
+indexed_none locals names firsts q i = go (place_of names q) refl
+  where
+    go : (o : Option ℕ) → place_of names q ≡ o → is_none (place_of names q) ≡ is_none (first_of 0 locals q)
+    go None e = ap is_none e ∙ sym (ap is_none (first_none locals names firsts q i e))
+    go (Some k) e = ap is_none e ∙ sym (ap is_none (first_some locals names firsts q k i e).1)
+
 differ : (names : List (List ℕ)) (q x : List ℕ) (p : ℕ) (b : Bool) → place_of names x ≡ Some p → place_of names q ≡ None → bytes_eq q x ≡ b → b ≡ false
 differ names q x p true g h t = absurd (none-some p (sym h ∙ ap (place_of names) ((bytes_eq-Decides q x).0 t) ∙ g))
 differ names q x p false g h t = refl

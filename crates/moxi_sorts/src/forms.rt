@@ -5,8 +5,7 @@ ghost use Rattle.moxi_sorts.specs.Forms.{digits_now, is_primed, is_word, numeral
 ghost use Rattle.moxi_sorts.specs.SortReading.{only_numeral};
 
 use moxi_sexpr::{Atom, Form, FormShape};
-use moxi_terms::is_same;
-use text_core::Place;
+use text_core::{Place, is_same};
 
 /// The name of a symbol, and whether it is primed.
 pub fn symbol_atom<'a>(a: &'a Atom) -> Option<(&'a [u8], bool)>

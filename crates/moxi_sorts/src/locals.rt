@@ -1,5 +1,5 @@
 // The variables of a term, and the names that the `let`s around it bind, found with no scan.
-ghost use Rattle.std.specs.Prelude.{◌≡◌, ◌<◌, ◌^◌, ◌-◌, ◌≤◌, ◌+◌, ◌++◌, ◌∷◌, [], List, length, take, Some, None, IfOk, OnOk, OnErr};
+ghost use Rattle.std.specs.Prelude.{◌≡◌, ◌<◌, ◌^◌, ◌-◌, ◌≤◌, ◌+◌, ◌++◌, ◌∷◌, [], List, length, take, Some, None, is_none, IfOk, OnOk, OnErr};
 ghost use Rattle.moxi_sorts.specs.Finding.{first_of, last_of, IsStacked, found, locals_in};
 ghost use Rattle.name_set.specs.Names.{place_of};
 ghost use Rattle.moxi_sorts.specs.declared.locals.Binding.{Binding};
@@ -51,9 +51,11 @@ impl Locals {
         }
     }
 
-    /// Adds a variable, without a sort where it has none. Nothing changes where memory is refused.
-    pub fn add(&mut self, name: Name, sort: Option<Sort>) -> Result<(), NoMemory>
+    /// Adds a variable, without a sort where it has none, and says whether its name is new. Nothing changes where memory is
+    /// refused.
+    pub fn add(&mut self, name: Name, sort: Option<Sort>) -> Result<bool, NoMemory>
         requires room { length self.old < 2 ^ 32 - 1 }
+        ensures fresh { IfOk result (λ fresh. fresh ≡ is_none (first_of 0 self.old name)) }
         ensures ok { OnOk result (self.new ≡ self.old ++ record { name = name; sort = sort } ∷ []) }
         ensures err { OnErr result (self.new ≡ self.old) }
     {
@@ -61,9 +63,9 @@ impl Locals {
         let number = self.locals.len() as u32;
         self.firsts.truncate(before);
         self.firsts.push(number)?;
-        self.names.declare(self.alloc, name.bytes())?;
+        let fresh = self.names.declare(self.alloc, name.bytes())?;
         match self.locals.push(Local { name, sort }) {
-            Ok(()) => Ok(()),
+            Ok(()) => Ok(fresh),
             Err(e) => {
                 self.names.keep(before);
                 Err(e)

@@ -11,9 +11,9 @@ ghost use Rattle.moxi_terms.specs.Words.{is_one_of, left_out_sorts};
 
 use crate::forms::{only_numeral, symbol_atom, symbol_of};
 use moxi_sexpr::{Form, FormShape};
-use moxi_terms::{Scope, Sort, is_left_out_sort, is_same};
+use moxi_terms::{Scope, Sort, is_left_out_sort};
 use text_core::kinds::moxi;
-use text_core::{Kind, Place, Refusal};
+use text_core::{Kind, Place, Refusal, is_same};
 use word_core::{WIDEST, read_digits};
 
 /// A refusal of this kind at this place.

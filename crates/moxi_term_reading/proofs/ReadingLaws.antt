@@ -1,7 +1,8 @@
 -- What is read by parts.
-use Rattle.std.proofs.Common.{◌≡◌, ℕ, suc, ◌+◌, ◌<◌, List, [], ◌∷◌, ◌++◌, map, length, drop, Option, None, Some, Result, Ok, Err, IfOk, OnOk, Vec, Global, refl, sym, ap, ◌∙◌, arith, rules, append_assoc, drop-cons, add-one}
-use Rattle.std.proofs.lemmas.List.{length-append}
+use Rattle.std.proofs.Common.{◌≡◌, ℕ, suc, Bool, true, false, ◌&&◌, is_some, ◌+◌, ◌<◌, List, [], ◌∷◌, ◌++◌, map, length, drop, Option, None, Some, Result, Ok, Err, IfOk, OnOk, Vec, Global, refl, sym, ap, ◌∙◌, arith, rules, append_assoc, drop-cons, add-one}
+use Rattle.std.proofs.lemmas.List.{append-nil, length-append}
 use Rattle.std.specs.Prelude.{slice_index_or}
+use Rattle.std.specs.Option.{option_map}
 use Rattle.text_core.specs.declared.place.Place.{Place}
 use Rattle.text_core.specs.declared.place.Refusal.{Refusal}
 use Rattle.moxi_sexpr.specs.declared.form.Form.{Form, out-Form}
@@ -15,9 +16,10 @@ use Rattle.moxi_terms.specs.View.{plain}
 use Rattle.moxi_sorts.specs.Failures.{minimum, least}
 use Rattle.moxi_term_reading.specs.Reading.{Arguments, joined, no_arguments, both_arguments, names_of, unless_failed, bindings_tests}
 use Rattle.std.proofs.lemmas.Option.{same_Some, none-some}
+use Rattle.moxi_sorts.specs.Finding.{last_of}
 use Rattle.moxi_sorts.specs.Forms.{pair_of}
 use Rattle.moxi_terms.specs.declared.term.Variable.{Variable}
-use Rattle.moxi_term_reading.specs.Answer.{unless_some, locals_of}
+use Rattle.moxi_term_reading.specs.Answer.{unless_some, locals_of, kept, sorts_in}
 use Rattle.moxi_sorts.specs.laws.Least.{least_append}
 
 -- tests one after another
@@ -35,7 +37,19 @@ unless_least fs s f e = ap (λ f. unless_some f s) e ∙ go fs
     go [] = refl
     go (x ∷ xs) = some_least x (least xs)
 
+-- two sorts that count as one where this test passes count so where another passes too
+pub unless_both : (f g : Option Refusal) (s t : Option Sort) → unless_some g s ≡ unless_some g t → unless_some (minimum f g) s ≡ unless_some (minimum f g) t
+unless_both None g s t e = e
+unless_both (Some x) None s t e = refl
+unless_both (Some x) (Some y) s t e = refl
+
 -- ARGUMENTS
+
+pub kept_more : (whole : Bool) (own : List Sort) (s : Option Sort) → kept (is_some s && whole) (own ++ sorts_in s) ≡ joined (kept whole own) (option_map (λ s. s ∷ []) s)
+kept_more true own None = refl
+kept_more true own (Some s) = refl
+kept_more false own None = refl
+kept_more false own (Some s) = refl
 
 joined_assoc : (a b c : Option (List Sort)) → joined (joined a b) c ≡ joined a (joined b c)
 joined_assoc None b c = refl
@@ -56,6 +70,16 @@ arguments_assoc x y z =
 pub arguments_front : (x : Arguments) → both_arguments no_arguments x ≡ x
 arguments_front x = ap (λ ss. record { terms = x.terms; sorts = ss; failures = x.failures }) (joined_front x.sorts)
 
+joined_back : (a : Option (List Sort)) → joined a (Some []) ≡ a
+joined_back None = refl
+joined_back (Some x) = ap Some (append-nil x)
+
+pub arguments_back : (x : Arguments) → both_arguments x no_arguments ≡ x
+arguments_back x =
+    ap (λ ts. record { terms = ts; sorts = joined x.sorts (Some []); failures = x.failures ++ [] }) (append-nil x.terms)
+    ∙ ap (λ ss. record { terms = x.terms; sorts = ss; failures = x.failures ++ [] }) (joined_back x.sorts)
+    ∙ ap (λ fs. record { terms = x.terms; sorts = x.sorts; failures = fs }) (append-nil x.failures)
+
 names_append : (xs ys : List Local) → names_of (xs ++ ys) ≡ names_of xs ++ names_of ys
 names_append [] ys = refl
 names_append (x ∷ xs) ys = ap (λ ns. x.name ∷ ns) (names_append xs ys)
@@ -69,6 +93,10 @@ forms_step fs i x h e = ap form.plain_forms (drop-cons fs i x h ∙ ap (λ y. y 
 pub empty_bindings : (q : Place) (fs : List Form) → length fs ≡ 0 → least (bindings_tests q (form.plain_forms fs)) ≡ Some (refusal 12 q)
 empty_bindings q [] h = refl
 empty_bindings q (f ∷ fs) h = absurd (omega arith)
+
+pub last_of_none : (ls : List Local) (name : List ℕ) → length ls ≡ 0 → last_of 0 ls name ≡ None
+last_of_none [] name h = refl
+last_of_none (l ∷ ls) name h = absurd (omega arith)
 
 pub plain_end : (ts : List Term) (t : Term) → map plain (ts ++ t ∷ []) ≡ map plain ts ++ plain t ∷ []
 plain_end [] t = refl

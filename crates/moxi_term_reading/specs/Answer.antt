@@ -1,5 +1,5 @@
 -- What the calls answer.
-use Rattle.std.specs.Prelude.{◌≡◌, Some, None, Option, Bool, true, false, Result, Ok, Err, List, [], ◌∷◌, map}
+use Rattle.std.specs.Prelude.{◌≡◌, Some, None, Option, Bool, true, false, Result, Ok, Err, List, [], ◌∷◌, ◌++◌, map}
 use Rattle.text_core.specs.declared.end.End.{End}
 use Rattle.text_core.specs.declared.end.End.TheVariants.{Bad, NoMemory}
 use Rattle.text_core.specs.declared.place.Refusal.{Refusal}
@@ -31,10 +31,22 @@ abbrev pub kept : Bool → List Sort → Option (List Sort)
 kept true ss = Some ss
 kept false ss = None
 
-pub record AreRead (x : Arguments) (r : ReadArguments) : Type 0 where
+-- a sort as a list
+abbrev pub sorts_in : Option Sort → List Sort
+sorts_in None = []
+sorts_in (Some s) = s ∷ []
+
+-- the arguments; these are the sorts of those that have one
+pub record AreRead (x : Arguments) (r : ReadArguments) (own : List Sort) : Type 0 where
   pub terms : map plain r.terms.items ≡ x.terms
-  pub sorts : kept r.whole r.sorts.items ≡ x.sorts
+  pub sorts : kept r.whole own ≡ x.sorts
   pub failure : r.failure ≡ least x.failures
+
+-- the arguments, whose sorts stand on the stack behind those before
+pub record AreStacked (x : Arguments) (r : ReadArguments) (before all : List Sort) : Type 0 where
+  pub own : List Sort
+  pub stack : all ≡ before ++ own
+  pub read : AreRead x r own
 
 pub record AreBound (x : Bindings) (r : ReadBindings) : Type 0 where
   pub names : r.names ≡ names_of x.locals

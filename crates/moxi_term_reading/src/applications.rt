@@ -1,11 +1,11 @@
 // Applications of operators and functions.
-ghost use Rattle.std.specs.Prelude.{◌≡◌, ◌++◌, ◌∷◌, [], Ok, None, List, length, map, IfOk, OnOk};
-ghost use Rattle.std.specs.Option.{option_map};
+ghost use Rattle.std.specs.Prelude.{◌≡◌, ◌++◌, ◌∷◌, [], Ok, None, List, length, map, is_some, ◌&&◌, IfOk, OnOk};
 ghost use Rattle.text_core.specs.declared.place.Refusal.{Refusal};
-ghost use Rattle.moxi_term_reading.specs.Answer.{AreRead, IsRead, kept};
+ghost use Rattle.moxi_term_reading.specs.Answer.{AreRead, AreStacked, IsRead, kept, sorts_in, unless_some};
 ghost use Rattle.moxi_sorts.specs.Failures.{least};
-ghost use Rattle.moxi_term_reading.specs.Reading.{Arguments, Reading, application, applied_sort, argument, argument_tests, both_arguments, headed, joined, no_term};
-ghost use Rattle.moxi_terms.specs.Tree.{trees_of};
+ghost use Rattle.moxi_term_reading.specs.Reading.{Arguments, Reading, application, applied_sort, argument, argument_tests, both_arguments, headed, no_term};
+ghost use Rattle.moxi_terms.specs.declared.data.Sort.{Sort};
+ghost use Rattle.moxi_terms.specs.Tree.{trees_of, variable};
 ghost use Rattle.moxi_terms.specs.View.{plain};
 
 use crate::outcome::{ReadTerm, no_term, unless_failed};
@@ -14,33 +14,54 @@ use moxi_terms::{Head, Scope, Sort, Term, Terms};
 use text_core::kinds::moxi;
 use text_core::{NoMemory, Place, Refusal};
 
-/// Terms one behind the other. `whole` tells whether each of them has a sort.
+/// Terms one behind the other. `whole` tells whether each of them has a sort; the sorts stand on a stack of their own.
 #[derive(Drop)]
 pub struct ReadArguments {
     pub terms: Terms,
-    pub sorts: Vec<Sort>,
     pub whole: bool,
     pub failure: Option<Refusal>,
 }
 
-/// One more argument.
-pub fn add_argument(r: ReadTerm, args: &mut ReadArguments) -> Result<(), NoMemory>
-    ensures { OnOk result ((x : Arguments) (y : Reading) → AreRead x args.old → IsRead y r → AreRead (both_arguments x (argument y)) args.new) }
+/// One more argument. Its sort comes on top of the sorts.
+pub fn add_argument(
+    r: ReadTerm,
+    args: &mut ReadArguments,
+    sorts: &mut Vec<Sort>,
+) -> Result<(), NoMemory>
+    ensures { OnOk result ((x : Arguments) (y : Reading) (before : List Sort) → AreStacked x args.old before sorts.old.items → IsRead y r → AreStacked (both_arguments x (argument y)) args.new before sorts.new.items) }
 {
     put(&mut args.terms, r.term)?;
-    args.whole = add_sort(&mut args.sorts, args.whole, r.sort)?;
+    args.whole = add_sort(sorts, args.whole, r.sort)?;
     args.failure = minimum(args.failure, r.failure);
     Ok(())
 }
 
+/// One more argument, a variable with this sort and this failing test.
+pub fn add_variable(
+    v: u32,
+    primed: bool,
+    sort: Option<Sort>,
+    failure: Option<Refusal>,
+    args: &mut ReadArguments,
+    sorts: &mut Vec<Sort>,
+) -> Result<(), NoMemory>
+    ensures { OnOk result ((x : Arguments) (y : Reading) (before : List Sort) → AreStacked x args.old before sorts.old.items → y.term ≡ variable v primed → sort ≡ y.sort → failure ≡ least y.failures → AreStacked (both_arguments x (argument y)) args.new before sorts.new.items) }
+{
+    args.terms.push(Term::Variable(v, primed))?;
+    args.whole = add_sort(sorts, args.whole, sort)?;
+    args.failure = minimum(args.failure, failure);
+    Ok(())
+}
+
 // One more sort, where there is one.
-fn add_sort(all: &mut Vec<Sort>, whole: bool, sort: Option<Sort>) -> Result<bool, NoMemory>
-    ensures { IfOk result (λ b. kept b all.new.items ≡ joined (kept whole all.old.items) (option_map (λ s. s ∷ []) sort)) }
+fn add_sort(sorts: &mut Vec<Sort>, whole: bool, sort: Option<Sort>) -> Result<bool, NoMemory>
+    ensures sorts { OnOk result (sorts.new.items ≡ sorts.old.items ++ sorts_in sort) }
+    ensures whole { IfOk result (λ b. b ≡ (is_some sort && whole)) }
 {
     match sort {
         None => Ok(false),
         Some(s) => {
-            put(all, s)?;
+            put(sorts, s)?;
             Ok(whole)
         }
     }
@@ -62,19 +83,20 @@ where
     Ok(all.push(x)?)
 }
 
-/// An application at p of a head whose primes fail so.
+/// An application at p of a head whose primes fail so, to arguments with these sorts.
 pub fn application(
     scope: &Scope,
     p: Place,
     primes: Option<Refusal>,
     head: Result<Head, Refusal>,
     args: ReadArguments,
+    sorts: &[Sort],
 ) -> ReadTerm
-    ensures { (x : Arguments) (fs : List Refusal) → AreRead x args → primes ≡ least fs → IsRead (application scope.now.functions p fs head x) result }
+    ensures { (x : Arguments) (fs : List Refusal) → AreRead x args sorts.now → primes ≡ least fs → IsRead (application scope.now.functions p fs head x) result }
 {
     match head {
         Err(f) => unheaded(f, args.failure),
-        Ok(h) => headed(scope, p, primes, h, args),
+        Ok(h) => headed(scope, p, primes, h, args, sorts),
     }
 }
 
@@ -95,11 +117,11 @@ fn headed(
     primes: Option<Refusal>,
     head: Head,
     args: ReadArguments,
+    sorts: &[Sort],
 ) -> ReadTerm
-    ensures { (x : Arguments) (fs : List Refusal) → AreRead x args → primes ≡ least fs → IsRead (application scope.now.functions p fs (Ok head) x) result }
+    ensures { (x : Arguments) (fs : List Refusal) → AreRead x args sorts.now → primes ≡ least fs → IsRead (application scope.now.functions p fs (Ok head) x) result }
 {
-    let sort = applied_sort(scope, head, &args.sorts, args.whole);
-    let test = application_test(scope, p, head, &args.sorts, args.whole, count(&args.terms));
+    let (sort, test) = applied(scope, p, head, sorts, args.whole, count(&args.terms));
     let tests = minimum(primes, test);
     ReadTerm {
         term: head_term(head, args.terms),
@@ -117,36 +139,27 @@ fn head_term(head: Head, terms: Terms) -> Term
     }
 }
 
-// The sort of an application, where the arguments have sorts that fit.
-fn applied_sort(scope: &Scope, head: Head, sorts: &[Sort], whole: bool) -> Option<Sort>
-    ensures { result ≡ applied_sort scope.now.functions head (kept whole sorts.now) }
-{
-    if whole {
-        head_sort(scope, head, sorts).ok()
-    } else {
-        None
-    }
-}
-
-// The failing test of the number and the sorts of an application's arguments.
-fn application_test(
+// The sort of an application, and the failing test of the number and the sorts of its arguments: the sort counts where none
+// fails.
+fn applied(
     scope: &Scope,
     p: Place,
     head: Head,
     sorts: &[Sort],
     whole: bool,
     count: usize,
-) -> Option<Refusal>
-    ensures { result ≡ least (argument_tests scope.now.functions p head count (kept whole sorts.now)) }
+) -> (Option<Sort>, Option<Refusal>)
+    ensures sort { unless_some result.1 result.0 ≡ unless_some result.1 (applied_sort scope.now.functions head (kept whole sorts.now)) }
+    ensures test { result.1 ≡ least (argument_tests scope.now.functions p head count (kept whole sorts.now)) }
 {
     if !head_count_fits(scope, head, count) {
-        Some(refusal(moxi::ARITY, p))
+        (None, Some(refusal(moxi::ARITY, p)))
     } else if whole {
         match head_sort(scope, head, sorts) {
-            Ok(_) => None,
-            Err(kind) => Some(refusal(kind, p)),
+            Ok(sort) => (Some(sort), None),
+            Err(kind) => (None, Some(refusal(kind, p))),
         }
     } else {
-        None
+        (None, None)
     }
 }

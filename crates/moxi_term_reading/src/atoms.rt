@@ -1,23 +1,26 @@
 // Atoms, and literals with an `_`.
-ghost use Rattle.std.specs.Prelude.{◌≡◌, ◌*◌, List, length};
+ghost use Rattle.std.specs.Prelude.{◌≡◌, ◌*◌, List, length, OnOk};
 ghost use Rattle.text_core.specs.declared.place.Refusal.{Refusal};
 ghost use Rattle.word_core.specs.Digits.{read_word};
 ghost use Rattle.moxi_sexpr.specs.Tree.{plain_forms};
-ghost use Rattle.moxi_term_reading.specs.Answer.{IsRead, context_of};
+ghost use Rattle.moxi_term_reading.specs.Answer.{AreStacked, IsRead, context_of};
 ghost use Rattle.moxi_sorts.specs.Failures.{least};
+ghost use Rattle.moxi_sorts.specs.Finding.{found, last_of};
 ghost use Rattle.moxi_sorts.specs.Forms.{digits_now};
-ghost use Rattle.moxi_term_reading.specs.Reading.{atom_reading, literal_digits, literal_named, literal_reading, meaning_of, named_reading, underscore_reading, variable_primes, word_reading};
+ghost use Rattle.moxi_term_reading.specs.Reading.{Arguments, argument, both_arguments, atom_reading, literal_digits, literal_named, literal_reading, meaning_of, named_reading, underscore_reading, variable_primes, word_reading};
 
+use crate::applications::{ReadArguments, add_argument, add_variable};
 use crate::heads::{literal_digits, prime};
-use crate::outcome::{ReadTerm, Setting, checked_term, failed};
+use crate::outcome::{ReadTerm, Setting, checked_term, failed, unless_failed};
 use moxi_sexpr::{Atom, Form};
 use moxi_sorts::{
-    Bounds, index_of, minimum, only_numeral, place_in, refusal, symbol_of, unknown_refusal,
+    Bounds, index_of, minimum, only_numeral, place_in, refusal, symbol_atom, symbol_of,
+    unknown_refusal,
 };
 use moxi_terms::{Datum, Meaning, Primes, Sort, Term, is_left_out};
 use std::alloc::Global;
 use text_core::kinds::moxi;
-use text_core::{Place, Refusal};
+use text_core::{NoMemory, Place, Refusal};
 use word_core::{WIDEST, Word, read_digits};
 
 // The failing test of the prime of a variable.
@@ -30,11 +33,23 @@ fn variable_prime(primes: Primes, primed: bool, p: Place) -> Option<Refusal>
     }
 }
 
+// What a `let` around the term binds under this name. Most terms stand in none.
+#[tactic(auto, using(crate::proofs::ReadingLaws::last_of_none))]
+fn bound_named(bounds: &Bounds, name: &[u8]) -> Option<(u32, Option<Sort>)>
+    ensures { found result ≡ last_of 0 bounds.now name.now }
+{
+    if bounds.len() == 0 {
+        None
+    } else {
+        bounds.find(name)
+    }
+}
+
 // What a bare name stands for.
 fn meaning_of(setting: Setting, bounds: &Bounds, name: &[u8]) -> Option<Meaning>
     ensures { result ≡ meaning_of (context_of setting.entry) bounds.now name.now }
 {
-    match bounds.find(name) {
+    match bound_named(bounds, name) {
         Some((i, sort)) => Some(Meaning::Bound(i, sort)),
         None => match setting.locals.find(name) {
             Some((v, sort)) => Some(Meaning::Variable(v, sort)),
@@ -127,6 +142,83 @@ pub fn read_atom(alloc: Global, setting: Setting, bounds: &Bounds, p: Place, a: 
         Atom::Numeral(_) => failed(refusal(moxi::ARITY, p)),
         Atom::Quote(_) => failed(refusal(moxi::ARITY, p)),
     }
+}
+
+/// One more argument, which the atom at p spells.
+pub fn add_atom(
+    alloc: Global,
+    setting: Setting,
+    bounds: &Bounds,
+    p: Place,
+    a: &Atom,
+    args: &mut ReadArguments,
+    sorts: &mut Vec<Sort>,
+) -> Result<(), NoMemory>
+    ensures { OnOk result ((x : Arguments) (before : List Sort) → AreStacked x args.old before sorts.old.items → AreStacked (both_arguments x (argument (atom_reading (context_of setting.entry) bounds.now p a.now))) args.new before sorts.new.items) }
+{
+    match symbol_atom(a) {
+        Some((name, primed)) => add_name(alloc, setting, bounds, p, name, primed, args, sorts),
+        None => add_argument(read_atom(alloc, setting, bounds, p, a), args, sorts),
+    }
+}
+
+// One more argument, which a name spells.
+fn add_name(
+    alloc: Global,
+    setting: Setting,
+    bounds: &Bounds,
+    p: Place,
+    name: &[u8],
+    primed: bool,
+    args: &mut ReadArguments,
+    sorts: &mut Vec<Sort>,
+) -> Result<(), NoMemory>
+    ensures { OnOk result ((x : Arguments) (before : List Sort) → AreStacked x args.old before sorts.old.items → AreStacked (both_arguments x (argument (named_reading setting.entry.primes p primed (meaning_of (context_of setting.entry) bounds.now name.now)))) args.new before sorts.new.items) }
+{
+    // Most names are variables: their terms are added with no copy.
+    match bound_named(bounds, name) {
+        None => match setting.locals.find(name) {
+            Some((v, sort)) => {
+                let failure = variable_prime(setting.primes, primed, p);
+                add_variable(
+                    v,
+                    primed,
+                    unless_failed(failure, sort),
+                    failure,
+                    args,
+                    sorts,
+                )
+            }
+            None => {
+                let meaning = setting.scope.constant_or_function(name);
+                add_meaning(alloc, setting.primes, p, primed, meaning, args, sorts)
+            }
+        },
+        Some((i, sort)) => add_meaning(
+            alloc,
+            setting.primes,
+            p,
+            primed,
+            Some(Meaning::Bound(i, sort)),
+            args,
+            sorts,
+        ),
+    }
+}
+
+// One more argument, which a name spells that stands for this.
+fn add_meaning(
+    alloc: Global,
+    primes: Primes,
+    p: Place,
+    primed: bool,
+    meaning: Option<Meaning>,
+    args: &mut ReadArguments,
+    sorts: &mut Vec<Sort>,
+) -> Result<(), NoMemory>
+    ensures { OnOk result ((x : Arguments) (before : List Sort) → AreStacked x args.old before sorts.old.items → AreStacked (both_arguments x (argument (named_reading primes p primed meaning))) args.new before sorts.new.items) }
+{
+    add_argument(named(alloc, primes, p, primed, meaning), args, sorts)
 }
 
 // What stands behind `bvN`, whose digits are these: the numeral of the width.

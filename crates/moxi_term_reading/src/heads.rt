@@ -4,7 +4,7 @@ ghost use Rattle.std.specs.List.{list_all};
 ghost use Rattle.text_core.specs.Bytes.{is_digit};
 ghost use Rattle.moxi_sexpr.specs.Tree.{plain, plain_forms};
 ghost use Rattle.moxi_sorts.specs.Failures.{least};
-ghost use Rattle.moxi_sorts.specs.Forms.{digits_now, pair_now, symbol_now};
+ghost use Rattle.moxi_sorts.specs.Forms.{digits_now, is_named, pair_now, symbol_now};
 ghost use Rattle.moxi_term_reading.specs.Reading.{atom_head, decimal_digits, extended_head, extracted_head, head_of, head_primes, indexed_head, listed_head, literal_digits, paired_head, prime_failures, symbol_primes};
 
 use moxi_sexpr::{Form, FormShape};
@@ -12,9 +12,9 @@ use moxi_sorts::{
     index_of, is_primed, is_word, minimum, numeral_of, only_numeral, pair, refusal, symbol_atom,
     symbol_of, unknown_refusal,
 };
-use moxi_terms::{Head, Scope, TermOp, is_indexed, is_left_out, is_same};
+use moxi_terms::{Head, Scope, TermOp, is_indexed, is_left_out};
 use text_core::kinds::moxi;
-use text_core::{Place, Refusal, is_digit};
+use text_core::{Place, Refusal, is_digit, is_same};
 
 /// The failing test of a prime.
 pub fn prime(primed: bool, p: Place) -> Option<Refusal>
@@ -24,6 +24,16 @@ pub fn prime(primed: bool, p: Place) -> Option<Refusal>
         Some(refusal(moxi::PRIME_HERE, p))
     } else {
         None
+    }
+}
+
+/// Is the symbol this word, primed or not?
+pub fn is_named(word: &[u8], symbol: Option<(&[u8], bool)>) -> bool
+    ensures { result ≡ is_named word.now (symbol_now symbol.entry) }
+{
+    match symbol {
+        Some((name, _)) => is_same(name, word),
+        None => false,
     }
 }
 

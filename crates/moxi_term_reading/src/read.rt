@@ -5,20 +5,20 @@ ghost use Rattle.moxi_term_reading.specs.declared.outcome.ReadTerm.{ReadTerm};
 ghost use Rattle.moxi_terms.specs.Tree.{sorts_of};
 ghost use Rattle.moxi_terms.specs.View.{plain};
 ghost use Rattle.text_core.specs.declared.place.Refusal.{Refusal};
-ghost use Rattle.moxi_sexpr.specs.Tree.{Tree, plain as plain_form, plain_forms};
-ghost use Rattle.moxi_term_reading.specs.Answer.{Answers, AreBound, AreRead, IsRead, context_of, locals_of};
+ghost use Rattle.moxi_sexpr.specs.Tree.{Tree, list as list_form, plain as plain_form, plain_forms};
+ghost use Rattle.moxi_term_reading.specs.Answer.{Answers, AreBound, AreStacked, IsRead, context_of, locals_of};
 ghost use Rattle.moxi_sorts.specs.Failures.{least};
 ghost use Rattle.moxi_terms.specs.declared.data.Sort.{Sort};
 ghost use Rattle.moxi_term_reading.specs.WellSorted.{HaveKnownSorts, IsSortedTerm, IsTerm, IsWellSorted};
-ghost use Rattle.moxi_term_reading.specs.Reading.{Bindings, Context, both_bindings, let_reading, read, read_all, read_binding, read_bindings, read_let};
+ghost use Rattle.moxi_term_reading.specs.Reading.{Arguments, Bindings, Context, application, argument, both_arguments, both_bindings, head_of, head_primes, let_reading, read, read_all, read_binding, read_bindings, read_let};
 
 use crate::applications::{ReadArguments, add_argument, application};
-use crate::atoms::{read_atom, underscored};
-use crate::heads::{head_of, head_prime, prime};
+use crate::atoms::{add_atom, read_atom, underscored};
+use crate::heads::{head_of, head_prime, is_named, prime};
 use crate::lets::{ReadBindings, bind_to, let_term, misshapen, some_binding};
 use crate::outcome::{ReadTerm, Setting, failed};
 use moxi_sexpr::{Form, FormShape};
-use moxi_sorts::{Bounds, Locals, is_primed, is_word, minimum, pair, place_in, refusal, symbol_of};
+use moxi_sorts::{Bounds, Locals, is_primed, minimum, pair, place_in, refusal, symbol_of};
 use moxi_terms::{Primes, Scope, Sort, Term, Variables};
 use std::alloc::Global;
 use text_core::kinds::moxi;
@@ -27,37 +27,82 @@ use text_core::{End, List, Name, Names, NoMemory, Place, Refusal};
 /// Why a form spells no term: a test fails, or memory runs out.
 pub type TermEnd = End;
 
+// The stack of sorts holds those of the arguments that are read so far, for each application around the form.
 #[cycle(read)]
 #[inline(never)]
 fn read_form(
     alloc: Global,
     setting: Setting,
     bounds: &mut Bounds,
+    sorts: &mut Vec<Sort>,
     form: &Form,
 ) -> Result<ReadTerm, NoMemory>
     ensures read { IfOk result (IsRead (read (context_of setting.entry) bounds.old (plain_form form.now))) }
     ensures kept { OnOk result (bounds.new ≡ bounds.old) }
+    ensures stack { OnOk result (sorts.new.items ≡ sorts.old.items) }
 {
     match &form.shape {
         FormShape::Atom(a) => Ok(read_atom(alloc, setting, bounds, form.place, a)),
-        FormShape::List(parts) => match parts.split_first() {
-            None => Ok(failed(refusal(moxi::ARITY, form.place))),
-            Some((head, rest)) => if is_word(b"let", head) {
-                read_let(alloc, setting, bounds, form.place, head_prime(head), rest)
-            } else if is_word(b"_", head) {
-                Ok(underscored(form.place, place_in(head), is_primed(head), rest))
-            } else {
-                let args = read_all(alloc, setting, bounds, rest)?;
-                Ok(application(
-                    setting.scope,
-                    form.place,
-                    head_prime(head),
-                    head_of(setting.scope, form.place, head),
-                    args,
-                ))
-            },
-        },
+        FormShape::List(parts) => read_list(alloc, setting, bounds, sorts, form.place, parts),
     }
+}
+
+#[cycle(read)]
+#[inline(never)]
+fn read_list(
+    alloc: Global,
+    setting: Setting,
+    bounds: &mut Bounds,
+    sorts: &mut Vec<Sort>,
+    p: Place,
+    parts: &[Form],
+) -> Result<ReadTerm, NoMemory>
+    ensures read { IfOk result (IsRead (read (context_of setting.entry) bounds.old (list_form p (plain_forms parts.now)))) }
+    ensures kept { OnOk result (bounds.new ≡ bounds.old) }
+    ensures stack { OnOk result (sorts.new.items ≡ sorts.old.items) }
+{
+    match parts.split_first() {
+        None => Ok(failed(refusal(moxi::ARITY, p))),
+        Some((head, rest)) => {
+            let symbol = symbol_of(head);
+            if is_named(b"let", symbol) {
+                read_let(alloc, setting, bounds, sorts, p, head_prime(head), rest)
+            } else if is_named(b"_", symbol) {
+                Ok(underscored(p, place_in(head), is_primed(head), rest))
+            } else {
+                read_application(alloc, setting, bounds, sorts, p, head, rest)
+            }
+        }
+    }
+}
+
+#[cycle(read)]
+#[inline(never)]
+fn read_application(
+    alloc: Global,
+    setting: Setting,
+    bounds: &mut Bounds,
+    sorts: &mut Vec<Sort>,
+    p: Place,
+    head: &Form,
+    rest: &[Form],
+) -> Result<ReadTerm, NoMemory>
+    ensures read { IfOk result (IsRead (application setting.entry.scope.now.functions p (head_primes (plain_form head.now)) (head_of setting.entry.scope.now p (plain_form head.now)) (read_all (context_of setting.entry) bounds.old (plain_forms rest.now)))) }
+    ensures kept { OnOk result (bounds.new ≡ bounds.old) }
+    ensures stack { OnOk result (sorts.new.items ≡ sorts.old.items) }
+{
+    let before = sorts.len();
+    let args = read_all(alloc, setting, bounds, sorts, rest)?;
+    let r = application(
+        setting.scope,
+        p,
+        head_prime(head),
+        head_of(setting.scope, p, head),
+        args,
+        &sorts[before..],
+    );
+    sorts.truncate(before);
+    Ok(r)
 }
 
 #[cycle(read)]
@@ -66,22 +111,43 @@ fn read_all(
     alloc: Global,
     setting: Setting,
     bounds: &mut Bounds,
+    sorts: &mut Vec<Sort>,
     forms: &[Form],
 ) -> Result<ReadArguments, NoMemory>
-    ensures read { IfOk result (AreRead (read_all (context_of setting.entry) bounds.old (plain_forms forms.now))) }
+    ensures read { IfOk result (λ args. AreStacked (read_all (context_of setting.entry) bounds.old (plain_forms forms.now)) args sorts.old.items sorts.new.items) }
     ensures kept { OnOk result (bounds.new ≡ bounds.old) }
 {
     let mut args = ReadArguments {
-        terms: Vec::new(alloc),
-        sorts: Vec::new(alloc),
+        terms: Vec::with_capacity(alloc, forms.len())?,
         whole: true,
         failure: None,
     };
     for form in forms {
-        let r = read_form(alloc, setting, bounds, form)?;
-        add_argument(r, &mut args)?;
+        read_argument(alloc, setting, bounds, sorts, form, &mut args)?;
     }
     Ok(args)
+}
+
+#[cycle(read)]
+#[inline(never)]
+fn read_argument(
+    alloc: Global,
+    setting: Setting,
+    bounds: &mut Bounds,
+    sorts: &mut Vec<Sort>,
+    form: &Form,
+    args: &mut ReadArguments,
+) -> Result<(), NoMemory>
+    ensures read { OnOk result ((x : Arguments) (before : List Sort) → AreStacked x args.old before sorts.old.items → AreStacked (both_arguments x (argument (read (context_of setting.entry) bounds.old (plain_form form.now)))) args.new before sorts.new.items) }
+    ensures kept { OnOk result (bounds.new ≡ bounds.old) }
+{
+    match &form.shape {
+        FormShape::Atom(a) => add_atom(alloc, setting, bounds, form.place, a, args, sorts),
+        FormShape::List(parts) => {
+            let r = read_list(alloc, setting, bounds, sorts, form.place, parts)?;
+            add_argument(r, args, sorts)
+        }
+    }
 }
 
 // The forms behind the `let` of a term at p.
@@ -91,19 +157,21 @@ fn read_let(
     alloc: Global,
     setting: Setting,
     bounds: &mut Bounds,
+    sorts: &mut Vec<Sort>,
     p: Place,
     primes: Option<Refusal>,
     rest: &[Form],
 ) -> Result<ReadTerm, NoMemory>
     ensures read { IfOk result (λ r. (fs : List Refusal) → primes ≡ least fs → IsRead (read_let (context_of setting.entry) bounds.old p fs (plain_forms rest.now)) r) }
     ensures kept { OnOk result (bounds.new ≡ bounds.old) }
+    ensures stack { OnOk result (sorts.new.items ≡ sorts.old.items) }
 {
     match pair(rest) {
         Some((list, body)) => match &list.shape {
             FormShape::List(parts) => {
-                let bindings = read_bindings(alloc, setting, bounds, list.place, parts)?;
+                let bindings = read_bindings(alloc, setting, bounds, sorts, list.place, parts)?;
                 let failure = minimum(primes, some_binding(list.place, parts));
-                read_body(alloc, setting, bounds, failure, bindings, body)
+                read_body(alloc, setting, bounds, sorts, failure, bindings, body)
             }
             FormShape::Atom(_) => Ok(failed(refusal(moxi::ARITY, p))),
         },
@@ -118,16 +186,18 @@ fn read_body(
     alloc: Global,
     setting: Setting,
     bounds: &mut Bounds,
+    sorts: &mut Vec<Sort>,
     failure: Option<Refusal>,
     bindings: ReadBindings,
     body: &Form,
 ) -> Result<ReadTerm, NoMemory>
     ensures read { IfOk result (λ r. (fs : List Refusal) (x : Bindings) → failure ≡ least fs → AreBound x bindings → IsRead (let_reading fs x (read (context_of setting.entry) (bounds.old ++ x.locals) (plain_form body.now))) r) }
     ensures kept { OnOk result (bounds.new ≡ bounds.old) }
+    ensures stack { OnOk result (sorts.new.items ≡ sorts.old.items) }
 {
     let before = bounds.len();
     bounds.bind_all(&bindings.locals)?;
-    let r = read_form(alloc, setting, bounds, body)?;
+    let r = read_form(alloc, setting, bounds, sorts, body)?;
     bounds.keep(before);
     let_term(alloc, failure, bindings, r)
 }
@@ -139,11 +209,13 @@ fn read_bindings(
     alloc: Global,
     setting: Setting,
     bounds: &mut Bounds,
+    sorts: &mut Vec<Sort>,
     q: Place,
     forms: &[Form],
 ) -> Result<ReadBindings, NoMemory>
     ensures read { IfOk result (AreBound (read_bindings (context_of setting.entry) bounds.old q (plain_forms forms.now))) }
     ensures kept { OnOk result (bounds.new ≡ bounds.old) }
+    ensures stack { OnOk result (sorts.new.items ≡ sorts.old.items) }
 {
     let mut all = ReadBindings {
         names: Names::new(alloc),
@@ -153,7 +225,7 @@ fn read_bindings(
         failure: None,
     };
     for form in forms {
-        read_binding(alloc, setting, bounds, q, form, &mut all)?;
+        read_binding(alloc, setting, bounds, sorts, q, form, &mut all)?;
     }
     Ok(all)
 }
@@ -165,12 +237,14 @@ fn read_binding(
     alloc: Global,
     setting: Setting,
     bounds: &mut Bounds,
+    sorts: &mut Vec<Sort>,
     q: Place,
     form: &Form,
     all: &mut ReadBindings,
 ) -> Result<(), NoMemory>
     ensures read { OnOk result ((x : Bindings) → AreBound x all.old → AreBound (both_bindings x (read_binding (context_of setting.entry) bounds.old q (plain_form form.now))) all.new) }
     ensures kept { OnOk result (bounds.new ≡ bounds.old) }
+    ensures stack { OnOk result (sorts.new.items ≡ sorts.old.items) }
 {
     match &form.shape {
         FormShape::Atom(_) => {
@@ -180,7 +254,7 @@ fn read_binding(
         FormShape::List(parts) => match pair(parts) {
             Some((symbol, value)) => match symbol_of(symbol) {
                 Some((name, primed)) => {
-                    let r = read_form(alloc, setting, bounds, value)?;
+                    let r = read_form(alloc, setting, bounds, sorts, value)?;
                     bind_to(alloc, name, prime(primed, place_in(symbol)), r, all)
                 }
                 None => {
@@ -208,12 +282,13 @@ pub fn read_term(
     ensures { IfOk result (IsRead (read (record { scope = scope.now; variables = locals.now; primes = primes }) [] (plain_form form.now))) }
 {
     let mut bounds = Bounds::new(alloc);
+    let mut sorts = Vec::new(alloc);
     let setting = Setting {
         scope,
         locals,
         primes,
     };
-    read_form(alloc, setting, &mut bounds, form)
+    read_form(alloc, setting, &mut bounds, &mut sorts, form)
 }
 
 // The variables, found by their names.

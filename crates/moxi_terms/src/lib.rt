@@ -11,7 +11,7 @@ mod words;
 
 pub use data::{Datum, Primes, Sort, TermOp};
 pub use evaluate::{eval, values_have_sorts};
-pub use names::{Head, Meaning, is_same};
+pub use names::{Head, Meaning};
 pub use operate::is_comparison;
 pub use scope::Scope;
 pub use term::{Enumeration, Env, Function, NamedSort, Term, Terms, Variable, Variables};

@@ -1,6 +1,4 @@
 // What names stand for.
-ghost use Rattle.std.specs.Prelude.{◌≡◌};
-ghost use Rattle.std.specs.Str.{bytes_eq};
 
 use crate::data::{Datum, Sort, TermOp};
 
@@ -19,23 +17,4 @@ pub enum Meaning {
 pub enum Head {
     Operator(TermOp),
     Function(u32),
-}
-
-/// Are the names one?
-pub fn is_same(name: &[u8], other: &[u8]) -> bool
-    ensures { result ≡ bytes_eq name.now other.now }
-{
-    // Most names are short or differ early, so that bytes are compared one by one.
-    let mut rest = name;
-    let mut behind = other;
-    while let Some((b, more)) = rest.split_first() {
-        match behind.split_first() {
-            Some((c, others)) if b == c => {
-                rest = more;
-                behind = others;
-            }
-            _ => return false,
-        }
-    }
-    behind.is_empty()
 }

@@ -11,13 +11,13 @@ ghost use Rattle.moxi_terms.specs.Sorts.{IsSort};
 ghost use Rattle.moxi_terms.specs.View.{plain_function};
 
 use crate::data::{Datum, Sort};
-use crate::names::{Head, Meaning, is_same};
+use crate::names::{Head, Meaning};
 use crate::term::{Enumeration, Function, NamedSort};
 use crate::words::{is_operator, operator_named};
 use name_set::NameSet;
 use std::alloc::Global;
 use std::marker::Model;
-use text_core::{List, Name, Names, NoMemory};
+use text_core::{List, Name, Names, NoMemory, is_same};
 
 /// The enumerations, sorts and functions of a script, each kind numbered from 0 in the order of adding. It is seen as the
 /// lists of what was added; names are found with no scan.

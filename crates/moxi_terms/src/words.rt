@@ -4,11 +4,12 @@ ghost use Rattle.moxi_terms.specs.Words.{begins_so, may_begin, indexed_operators
 ghost use Rattle.moxi_terms.specs.Rows.{bytes_behind, row};
 
 use crate::data::TermOp;
+use text_core::is_same;
 use word_core::{Binary, Unary};
 
-type Row = (&'static [u8], TermOp);
+type OperatorName = (&'static [u8], TermOp);
 
-const OPERATORS: [Row; 33] = [
+const OPERATORS: [OperatorName; 33] = [
     (b"not", TermOp::Not),
     (b"and", TermOp::And),
     (b"or", TermOp::Or),
@@ -78,18 +79,18 @@ fn is_one_of(name: &[u8], words: &[&[u8]]) -> bool
     ensures { result ≡ is_one_of (map bytes_behind words.now) name.now }
 {
     for word in words {
-        if name == *word {
+        if is_same(name, *word) {
             return true;
         }
     }
     false
 }
 
-fn look_up(rows: &[Row], name: &[u8]) -> Option<TermOp>
+fn look_up(rows: &[OperatorName], name: &[u8]) -> Option<TermOp>
     ensures { result ≡ row_named (map row rows.now) name.now }
 {
     for (word, op) in rows {
-        if name == *word {
+        if is_same(name, *word) {
             return Some(*op);
         }
     }

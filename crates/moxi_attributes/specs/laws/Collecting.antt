@@ -77,5 +77,5 @@ and_step all now one more whole total e f g = ap (λ b. b && more) e ∙ regroup
 pub nothing_more : {A : Type 0} (xs : List A) → xs ++ [] ≡ xs
 nothing_more xs = append-nil xs
 
-pub joined : {A : Type 0} (a b c d x y z : List A) → x ≡ [] ++ a → y ≡ x ++ b → z ≡ y ++ c → z ≡ (a ++ b) ++ c
-joined a b c d x y z e f g = g ∙ ap (λ w. w ++ c) (f ∙ ap (λ w. w ++ b) e)
+pub list_joined : {A : Type 0} (a b c w x y z : List A) → x ≡ w ++ a → y ≡ x ++ b → z ≡ y ++ c → z ≡ w ++ ((a ++ b) ++ c)
+list_joined a b c w x y z e f g = g ∙ ap (λ v. v ++ c) (f ∙ ap (λ v. v ++ b) e ∙ append_assoc w a b) ∙ append_assoc w (a ++ b) c

@@ -1,4 +1,4 @@
-use Rattle.std.proofs.Common.{◌≡◌, ◌++◌, [], ap, ◌∙◌}
+use Rattle.std.proofs.Common.{◌≡◌, [], ap, ◌∙◌}
 use Rattle.moxi_sexpr.specs.Tree.{Trees, plain_forms}
 use Rattle.moxi_terms.specs.View.{ScopeState}
 use Rattle.moxi_scripts.specs.declared.parts.Command.{Command}
@@ -7,10 +7,10 @@ use Rattle.moxi_scripts.specs.declared.parts.Key.TheVariants as keys
 use Rattle.moxi_scripts.specs.declared.parts.Lists.{Lists}
 use Rattle.moxi_scripts.specs.declared.parts.Turn.TheVariants.{AtKeyword}
 use Rattle.moxi_scripts.specs.Collecting.{also}
-use Rattle.moxi_scripts.specs.Entries.{locals_among, locals_found, twice_failures}
-use Rattle.moxi_scripts.specs.Lists.{all_entries, are_shaped, list_of, lists_in, possible_entries, text_entries, value_at}
-use Rattle.moxi_scripts.specs.Systems.{text_entries_in}
+use Rattle.moxi_scripts.specs.Entries.{twice_failures}
+use Rattle.moxi_scripts.specs.Lists.{list_of, lists_in, text_entries, value_at}
 use Rattle.moxi_attributes.specs.laws.Collecting.{also_two}
+use Rattle.moxi_declarations.specs.Once.{locals_listed}
 use Rattle.moxi_declarations.proofs.systems.read_variables.Goals as goal
 
 abbrev three_lists : DeclaredList → DeclaredList → DeclaredList → Lists
@@ -29,13 +29,7 @@ returns-clause-locals c =
     let ts = plain_forms a.forms.now in
     let got = c.in_ok-lists.ensures in
     let same = lists_are s a.command ts c.in_ok-lists.lists got.inputs got.outputs got.locals in
-    let text : c.in_ok-text.text ≡ text_entries_in s a.command ts = c.in_ok-text.ensures ∙ ap (λ l. text_entries l a.command AtKeyword ts) same in
-    let all : c.in_ok-all.all ≡ all_entries (lists_in s a.command ts) = c.in_ok-all.ensures ∙ ap all_entries same in
-    let shaped : c.are_shaped-shaped.result ≡ are_shaped (lists_in s a.command ts) = c.are_shaped-shaped.ensures ∙ ap are_shaped same in
-    c.in_ok-locals.ensures
-    ∙ ap (λ b. locals_found (locals_among (c.in_ok-text.text ++ possible_entries s b ts)) (c.in_ok-all.all ++ possible_entries s b ts)) shaped
-    ∙ ap (λ xs. locals_found (locals_among (xs ++ possible_entries s (are_shaped (lists_in s a.command ts)) ts)) (c.in_ok-all.all ++ possible_entries s (are_shaped (lists_in s a.command ts)) ts)) text
-    ∙ ap (λ xs. locals_found (locals_among (text_entries_in s a.command ts ++ possible_entries s (are_shaped (lists_in s a.command ts)) ts)) (xs ++ possible_entries s (are_shaped (lists_in s a.command ts)) ts)) all
+    c.in_ok-locals.ensures.locals ∙ ap (λ l. locals_listed s l a.command ts) same
 
 pub returns-clause-finds : goal.returns-clause-finds
 returns-clause-finds c =
@@ -44,5 +38,5 @@ returns-clause-finds c =
     let ts = plain_forms a.forms.now in
     let got = c.in_ok-lists.ensures in
     let same = lists_are s a.command ts c.in_ok-lists.lists got.inputs got.outputs got.locals in
-    let text : c.in_ok-text.text ≡ text_entries_in s a.command ts = c.in_ok-text.ensures ∙ ap (λ l. text_entries l a.command AtKeyword ts) same in
-    also_two _ _ _ _ _ (also_two _ _ _ _ _ c.test_keywords.ensures got.finds) (c.in_ok-once.ensures.finds ∙ ap (λ xs. also c.read_lists.new.found (twice_failures [] xs)) text)
+    also_two _ _ _ _ _ (also_two _ _ _ _ _ c.test_keywords.ensures got.finds)
+    (c.in_ok-locals.ensures.finds ∙ ap (λ l. also c.read_lists.new.found (twice_failures [] (text_entries l a.command AtKeyword ts))) same)

@@ -1,18 +1,23 @@
-use Rattle.std.proofs.Common.{◌≡◌, ◌++◌, ◌+◌, true, false, cond, Some, map, drop, refl, sym, ap, ◌∙◌, subst, arith}
+use Rattle.std.proofs.Common.{◌≡◌, [], ◌++◌, ◌+◌, true, false, cond, Some, map, drop, refl, sym, ap, ◌∙◌, subst, arith, drop_of_length-le}
+use Rattle.std.proofs.lemmas.List.{append-nil}
 use Rattle.std.specs.Prelude.{codes}
 use Rattle.moxi_sexpr.specs.declared.form.Form.{out-Form}
 use Rattle.moxi_sexpr.specs.Tree as form
 use Rattle.moxi_terms.specs.View.{plain}
 use Rattle.moxi_sorts.specs.Failures.{least}
-use Rattle.moxi_sorts.specs.Forms.{sizes, is_word, pair_now, symbol_of, symbol_now, place_in, is_primed}
+use Rattle.moxi_sorts.specs.Forms.{sizes, is_named, is_word, pair_now, symbol_of, symbol_now, place_in, is_primed}
 use Rattle.moxi_term_reading.specs.Reading.{no_arguments, argument, both_arguments, no_bindings, both_bindings, bound_to, binding_of, bindings_tests, prime_failures, let_reading, application, underscore_reading, head_primes, head_of, read, read_all, read_let, read_binding, read_bindings}
-use Rattle.moxi_term_reading.specs.Answer.{IsRead, AreBound, context_of}
-use Rattle.moxi_term_reading.proofs.ReadingLaws.{tests_both, arguments_assoc, arguments_front, forms_step, plain_list, pair_is, if_ok_map, on_ok_map}
+use Rattle.moxi_term_reading.specs.Answer.{IsRead, AreStacked, AreBound, context_of}
+use Rattle.moxi_term_reading.proofs.ReadingLaws.{tests_both, arguments_assoc, arguments_front, arguments_back, forms_step, plain_list, pair_is, if_ok_map, on_ok_map}
 use Rattle.moxi_term_reading.proofs.read.+read.Goals as goal
 
 pub read_all-loop-form-init : goal.read_all-loop-form-init
 read_all-loop-form-init t c = record {
-  read = (no_arguments, record { terms = ap (map plain) c.new.ensures.items; sorts = ap Some c.new-2.ensures.items; failure = refl }, arguments_front (read_all (context_of c.args.setting) c.args.bounds.now (form.plain_forms c.args.forms.now)));
+  read = (
+    no_arguments,
+    record { own = []; stack = sym (append-nil c.args.sorts.now.items); read = record { terms = ap (map plain) c.in_ok-with_capacity.ensures.items; sorts = refl; failure = refl } },
+    arguments_front (read_all (context_of c.args.setting) c.args.bounds.now (form.plain_forms c.args.forms.now)),
+  );
   kept = refl;
   left = omega arith;
 }
@@ -23,23 +28,38 @@ read_all-loop-form-preserved t c =
     let fs = c.args.forms.now in
     let ctx = context_of c.args.setting in
     let b = c.args.bounds.now in
+    let before = c.args.sorts.now.items in
     let f = c.form-item.result in
     let e = forms_step fs l.form-index f c.loop-form-test.true c.form-item.is in
     let rest = form.plain_forms (drop (l.form-index + 1) fs) in
     let x = l.invariant.read in
-    let y = read ctx b (form.plain f) in
-    let got : IsRead y c.in_ok-r.r = subst (λ b. IsRead (read ctx b (form.plain f)) c.in_ok-r.r) l.invariant.kept c.in_ok-r.ensures.read in
-    let kept : c.read_form.new.bounds ≡ l.bounds = c.in_ok-r.ensures.kept in
+    let y = argument (read ctx b (form.plain f)) in
+    let added = c.in_ok-read_argument.ensures.read x.0 before x.1 in
+    let got : AreStacked (both_arguments x.0 y) c.read_argument.new.args before c.read_argument.new.sorts.items =
+    subst (λ b. AreStacked (both_arguments x.0 (argument (read ctx b (form.plain f)))) c.read_argument.new.args before c.read_argument.new.sorts.items) l.invariant.kept added in
+    let kept : c.read_argument.new.bounds ≡ l.bounds = c.in_ok-read_argument.ensures.kept in
     record {
-      read = (both_arguments x.0 (argument y), c.in_ok-add_argument.ensures x.0 y x.1 got, arguments_assoc x.0 (argument y) (read_all ctx b rest) ∙ ap (λ ts. both_arguments x.0 (read_all ctx b ts)) (sym e) ∙ x.2);
+      read = (both_arguments x.0 y, got, arguments_assoc x.0 y (read_all ctx b rest) ∙ ap (λ ts. both_arguments x.0 (read_all ctx b ts)) (sym e) ∙ x.2);
       kept = kept ∙ l.invariant.kept;
       left = omega (arith, ap sizes e, l.invariant.left);
     }
+
+pub read_all-returns-clause-read : goal.read_all-returns-clause-read
+read_all-returns-clause-read t c =
+    let l = c.loop-form in
+    let fs = c.args.forms.now in
+    let ctx = context_of c.args.setting in
+    let b = c.args.bounds.now in
+    let x = l.invariant.read in
+    let e = ap form.plain_forms (drop_of_length-le fs c.loop-form-test.false) in
+    let is : x.0 ≡ read_all ctx b (form.plain_forms fs) = sym (arguments_back x.0) ∙ ap (λ ts. both_arguments x.0 (read_all ctx b ts)) (sym e) ∙ x.2 in
+    subst (λ x. AreStacked x l.args c.args.sorts.now.items l.sorts.items) is x.1
 
 pub read_bindings-loop-form-init : goal.read_bindings-loop-form-init
 read_bindings-loop-form-init t c = record {
   read = (no_bindings, record { names = c.new.ensures; locals = c.new-2.ensures; terms = ap (map plain) c.new-3.ensures.items; shape = refl; failure = refl }, refl);
   kept = refl;
+  stack = refl;
   left = omega arith;
 }
 
@@ -79,40 +99,39 @@ read_body-returns-clause-read t c =
     h x (read ctx (b ++ x.locals) body) fs e a (subst (λ b. IsRead (read ctx b body) c.in_ok-r.r) here c.in_ok-r.ensures.read))
     c.let_term.ensures
 
-pub read_form-returns-then-is_word-clause-read : goal.read_form-returns-then-is_word-clause-read
-read_form-returns-then-is_word-clause-read t c =
+pub read_list-returns-then-is_named-clause-read : goal.read_list-returns-then-is_named-clause-read
+read_list-returns-then-is_named-clause-read t c =
     let ctx = context_of c.args.setting in
     let b = c.args.bounds.now in
-    let f = c.args.form.now in
-    let p = (out-Form f).place in
+    let p = c.args.p in
     let h = form.plain c.in-Some.head.now in
     let ts = form.plain_forms c.in-Some.rest.now in
-    let e : form.plain f ≡ form.list p (form.tree h ts) = plain_list f c.in-List.parts c.in-List.is ∙ ap (λ fs. form.list p (form.plain_forms fs)) (sym c.deref.ensures.value ∙ c.in-Some.ensures.cases.0) in
+    let e : form.plain_forms c.args.parts.now ≡ form.tree h ts = ap form.plain_forms c.in-Some.ensures.cases.0 in
     let other = cond (is_word (codes "_") h) (underscore_reading p (place_in h) (is_primed h) ts) (application ctx.scope.functions p (head_primes h) (head_of ctx.scope p h) (read_all ctx b ts)) in
-    let word : is_word (codes "let") h ≡ true = sym c.is_word.ensures ∙ c.if-is_word.true in
-    let is : read ctx b (form.plain f) ≡ read_let ctx b p (head_primes h) ts = ap (read ctx b) e ∙ ap (λ w. cond w (read_let ctx b p (head_primes h) ts) other) word in
+    let word : is_word (codes "let") h ≡ true = ap (is_named (codes "let")) (sym c.symbol_of-symbol.ensures) ∙ sym c.is_named.ensures ∙ c.if-is_named.true in
+    let is : read ctx b (form.list p (form.plain_forms c.args.parts.now)) ≡ read_let ctx b p (head_primes h) ts =
+    ap (λ ts. read ctx b (form.list p ts)) e ∙ ap (λ w. cond w (read_let ctx b p (head_primes h) ts) other) word in
     if_ok_map _ _ c.read_let.result
     (λ r g. subst (λ x. IsRead x r) (sym is) (g (head_primes h) c.head_prime.ensures))
     c.read_let.ensures.read
 
-pub read_form-returns-in_ok-args-in-Some-clause-read : goal.read_form-returns-in_ok-args-in-Some-clause-read
-read_form-returns-in_ok-args-in-Some-clause-read t c =
+pub read_list-returns-else-is_named-2-clause-read : goal.read_list-returns-else-is_named-2-clause-read
+read_list-returns-else-is_named-2-clause-read t c =
     let ctx = context_of c.args.setting in
     let b = c.args.bounds.now in
-    let f = c.args.form.now in
-    let p = (out-Form f).place in
+    let p = c.args.p in
     let h = form.plain c.in-Some.head.now in
     let ts = form.plain_forms c.in-Some.rest.now in
-    let e : form.plain f ≡ form.list p (form.tree h ts) = plain_list f c.in-List.parts c.in-List.is ∙ ap (λ fs. form.list p (form.plain_forms fs)) (sym c.deref.ensures.value ∙ c.in-Some.ensures.cases.0) in
+    let e : form.plain_forms c.args.parts.now ≡ form.tree h ts = ap form.plain_forms c.in-Some.ensures.cases.0 in
     let last = application ctx.scope.functions p (head_primes h) (head_of ctx.scope p h) (read_all ctx b ts) in
-    let one : is_word (codes "let") h ≡ false = sym c.is_word.ensures ∙ c.if-is_word.false in
-    let two : is_word (codes "_") h ≡ false = sym c.is_word-else-is_word.ensures ∙ c.if-is_word-2.false in
-    let is : read ctx b (form.plain f) ≡ last =
-    ap (read ctx b) e ∙ ap (λ w. cond w (read_let ctx b p (head_primes h) ts) (cond (is_word (codes "_") h) (underscore_reading p (place_in h) (is_primed h) ts) last)) one
+    let one : is_word (codes "let") h ≡ false = ap (is_named (codes "let")) (sym c.symbol_of-symbol.ensures) ∙ sym c.is_named.ensures ∙ c.if-is_named.false in
+    let two : is_word (codes "_") h ≡ false = ap (is_named (codes "_")) (sym c.symbol_of-symbol.ensures) ∙ sym c.is_named-else-is_named.ensures ∙ c.if-is_named-2.false in
+    let is : read ctx b (form.list p (form.plain_forms c.args.parts.now)) ≡ last =
+    ap (λ ts. read ctx b (form.list p ts)) e ∙ ap (λ w. cond w (read_let ctx b p (head_primes h) ts) (cond (is_word (codes "_") h) (underscore_reading p (place_in h) (is_primed h) ts) last)) one
     ∙ ap (λ w. cond w (underscore_reading p (place_in h) (is_primed h) ts) last) two in
-    let got = c.application.ensures (read_all ctx b ts) (head_primes h) c.in_ok-args-in-Some.ensures.read c.head_prime-else-is_word-2.ensures in
-    subst (λ x. IsRead x c.application.result) (sym is)
-    (subst (λ o. IsRead (application ctx.scope.functions p (head_primes h) o (read_all ctx b ts)) c.application.result) c.head_of.ensures got)
+    if_ok_map _ _ c.read_application.result
+    (λ r g. subst (λ x. IsRead x r) (sym is) g)
+    c.read_application.ensures.read
 
 pub read_let-returns-in_ok-bindings-in-List-clause-read : goal.read_let-returns-in_ok-bindings-in-List-clause-read
 read_let-returns-in_ok-bindings-in-List-clause-read t c =
