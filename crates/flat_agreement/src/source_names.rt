@@ -11,7 +11,7 @@ pub(crate) enum Thing<'a> {
     /// A variable, by its instance, kind and name.
     Variable(usize, VarKind, &'a [u8]),
     /// An instance.
-    Within(usize),
+    Instance(usize),
     Symbol(&'a [u8]),
     Unknown,
 }
@@ -23,10 +23,10 @@ pub(crate) fn found<'a>(tree: &Tree<'a>, depth: u32, i: usize, path: &'a Path) -
     if depth == 0 {
         return Thing::Unknown;
     }
-    let mut thing = Thing::Within(i);
+    let mut thing = Thing::Instance(i);
     for k in 0..path.names.len() {
         thing = match thing {
-            Thing::Within(inner) => one_name(tree, depth - 1, inner, path.names.at(k).bytes()),
+            Thing::Instance(inner) => one_name(tree, depth - 1, inner, path.names.at(k).bytes()),
             _ => Thing::Unknown,
         };
     }
@@ -97,7 +97,7 @@ fn instance_called<'a>(tree: &Tree<'a>, parent: usize, x: &[u8]) -> Thing<'a> {
     for k in 1..tree.instances.len() {
         let at = tree.instances[k];
         if at.parent == parent && at.name == x {
-            return Thing::Within(k);
+            return Thing::Instance(k);
         }
     }
     Thing::Unknown

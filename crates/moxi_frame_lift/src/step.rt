@@ -94,7 +94,7 @@ pub fn lifted_step(
     ensures { IfOk result (λ env. env ≡ lifted_step scope.now.enumerations variables.now stated.now) }
 {
     let table = table_of(alloc, stated, variables.len())?;
-    let mut env = Env::new(alloc);
+    let mut env = Env::with_capacity(alloc, variables.len())?;
     for v in 0..variables.len() {
         let datum = value_of(scope, variables.at(v).sort, table[v])?;
         env.push(datum)?;

@@ -67,7 +67,7 @@ pub fn renumber(alloc: Global, places: &[u32], term: &Term) -> Result<Term, NoMe
 fn all_renumbered(alloc: Global, places: &[u32], terms: &[Term]) -> Result<Terms, NoMemory>
     ensures { IfOk result (λ copies. map plain copies.items ≡ map (λ t. renumbered (number_in places.now) (plain t)) terms.now) }
 {
-    let mut copies = Vec::new(alloc);
+    let mut copies = Vec::with_capacity(alloc, terms.len())?;
     for term in terms {
         let copy = renumber(alloc, places, term)?;
         put_term(&mut copies, copy)?;

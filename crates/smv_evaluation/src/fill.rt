@@ -34,7 +34,7 @@ fn keep_local<'a>(
         }
         Known::Alias(_, _) => Ok(()),
         Known::Variable(_, _) => Ok(()),
-        Known::Inner => Ok(()),
+        Known::Instance => Ok(()),
         Known::Nothing => Ok(()),
     }
 }

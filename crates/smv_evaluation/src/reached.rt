@@ -38,7 +38,7 @@ fn mark<'a>(
     match table.target(i, path) {
         Target::Body(k, x, _, _) => put_in(marks, k, x, true),
         Target::Variable(_, _, _, _) => Ok(()),
-        Target::Within(_) => Ok(()),
+        Target::Instance(_) => Ok(()),
         Target::Symbol(_) => Ok(()),
         Target::Cyclic => Ok(()),
         Target::Missing => Ok(()),
@@ -86,7 +86,7 @@ fn mark_local<'a>(
         Known::Formula(j, e) => mark_body(alloc, table, j, e, marks),
         Known::Alias(_, _) => Ok(()),
         Known::Variable(_, _) => Ok(()),
-        Known::Inner => Ok(()),
+        Known::Instance => Ok(()),
         Known::Nothing => Ok(()),
     }
 }

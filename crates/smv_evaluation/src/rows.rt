@@ -157,7 +157,7 @@ pub fn value_of_path<'a>(
     match table.target(i, path) {
         Target::Variable(k, x, kind, _) => value_of_kind(table, kind, k, x, row, label),
         Target::Body(k, x, _, _) => value_of_formula(row, k, x),
-        Target::Within(_) => no_seen(),
+        Target::Instance(_) => no_seen(),
         Target::Symbol(s) => Seen::Symbol(s),
         Target::Cyclic => no_seen(),
         Target::Missing => no_seen(),

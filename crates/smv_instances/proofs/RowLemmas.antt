@@ -7,12 +7,12 @@ use Rattle.std.proofs.lemmas.Bool.{eqb-true}
 use Rattle.std.proofs.lemmas.Slice.Eq.{bytes_eq-Decides}
 use Rattle.std.proofs.lemmas.Option.{slice_get_read}
 use Rattle.std.proofs.lemmas.List.{length-set}
-use Rattle.smv_instances.specs.declared.rows.Row.{Row}
+use Rattle.smv_instances.specs.declared.rows.NamedValue.{NamedValue}
 use Rattle.smv_instances.specs.declared.rows.NameRows.{NameRows}
 use Rattle.smv_instances.specs.Rows.{number_on, or_row, last_named, bucket_named, buckets_named, few_or_many, row_named, row_under}
 
 -- a row behind others
-pub last_push : {V : Type 0} (rs : List (Row V)) (r : Row V) (x : List ℕ) → last_named (rs ++ r ∷ []) x ≡ (if bytes_eq r.name.now x then Some r.value else last_named rs x)
+pub last_push : {V : Type 0} (rs : List (NamedValue V)) (r : NamedValue V) (x : List ℕ) → last_named (rs ++ r ∷ []) x ≡ (if bytes_eq r.name.now x then Some r.value else last_named rs x)
 last_push [] r x = refl
 last_push (q ∷ rs) r x = ap (λ o. or_row o (bytes_eq q.name.now x) q.value) (last_push rs r x) ∙ over (bytes_eq r.name.now x)
   where
@@ -33,7 +33,7 @@ set_elsewhere (x ∷ xs) (suc i) zero w h = refl
 set_elsewhere (x ∷ xs) (suc i) (suc j) w h = set_elsewhere xs i j w (λ e. h (ap suc e))
 
 -- a row behind those of its bucket
-pub bucket_put : {V : Type 0} (bs new : List (Vec (Row V) Global)) (k : ℕ) (b more : Vec (Row V) Global) (r : Row V) (name : List ℕ) (v : V) → k ≡ number_on 0 name % length bs → k < length bs → b ≡ slice_index_or bs k b
+pub bucket_put : {V : Type 0} (bs new : List (Vec (NamedValue V) Global)) (k : ℕ) (b more : Vec (NamedValue V) Global) (r : NamedValue V) (name : List ℕ) (v : V) → k ≡ number_on 0 name % length bs → k < length bs → b ≡ slice_index_or bs k b
     → more.items ≡ b.items ++ r ∷ [] → r.name.now ≡ name → r.value ≡ v → new ≡ set bs k more → (x : List ℕ) → buckets_named new x ≡ (if bytes_eq name x then Some v else buckets_named bs x)
 bucket_put bs new k b more r name v ek lk eb em en ev es x = ap (λ l. buckets_named l x) es ∙ ap (λ n. bucket_named (slice_get (set bs k more) (number_on 0 x % n)) x) (length-set bs k more) ∙ by (k == place) refl
   where
@@ -59,42 +59,42 @@ bucket_put bs new k b more r name v ek lk eb em en ev es x = ap (λ l. buckets_n
         over false q = refl
 
 -- a bucket more that is empty
-pub still_empty : {V : Type 0} (bs new : List (Vec (Row V) Global)) (b : Vec (Row V) Global) → new ≡ bs ++ b ∷ [] → b.items ≡ [] → ((i : ℕ) (x : List ℕ) → bucket_named (slice_get bs i) x ≡ None) → (i : ℕ) (x : List ℕ) → bucket_named (slice_get new i) x ≡ None
+pub still_empty : {V : Type 0} (bs new : List (Vec (NamedValue V) Global)) (b : Vec (NamedValue V) Global) → new ≡ bs ++ b ∷ [] → b.items ≡ [] → ((i : ℕ) (x : List ℕ) → bucket_named (slice_get bs i) x ≡ None) → (i : ℕ) (x : List ℕ) → bucket_named (slice_get new i) x ≡ None
 still_empty {V} bs new b e n h i x = ap (λ l. bucket_named (slice_get l i) x) e ∙ over bs i h
   where
     end : (j : ℕ) → bucket_named (slice_get (b ∷ []) j) x ≡ None
     end zero = ap (λ l. last_named l x) n
     end (suc j) = refl
 
-    over : (cs : List (Vec (Row V) Global)) (j : ℕ) → ((i : ℕ) (y : List ℕ) → bucket_named (slice_get cs i) y ≡ None) → bucket_named (slice_get (cs ++ b ∷ []) j) x ≡ None
+    over : (cs : List (Vec (NamedValue V) Global)) (j : ℕ) → ((i : ℕ) (y : List ℕ) → bucket_named (slice_get cs i) y ≡ None) → bucket_named (slice_get (cs ++ b ∷ []) j) x ≡ None
     over [] j g = end j
     over (c ∷ cs) zero g = g zero x
     over (c ∷ cs) (suc j) g = over cs j (λ i y. g (suc i) y)
 
-taken : {V : Type 0} (rs : List (Row V)) (k : ℕ) (r : Row V) → 0 < k → k ≤ length rs → r ≡ slice_index_or rs (k - 1) r → take k rs ≡ take (k - 1) rs ++ r ∷ []
+taken : {V : Type 0} (rs : List (NamedValue V)) (k : ℕ) (r : NamedValue V) → 0 < k → k ≤ length rs → r ≡ slice_index_or rs (k - 1) r → take k rs ≡ take (k - 1) rs ++ r ∷ []
 taken rs k r h l e = ap (λ n. take n rs) (let s : k ≡ suc (k - 1) = omega (arith, h) in s) ∙ take-suc rs (k - 1) r (omega (arith, h, l)) ∙ ap (λ y. take (k - 1) rs ++ y ∷ []) (sym e)
 
 -- the last row of those that are left has the name, or hasn't
-pub last_found : {V : Type 0} (rs : List (Row V)) (k : ℕ) (r : Row V) (x : List ℕ) → 0 < k → k ≤ length rs → r ≡ slice_index_or rs (k - 1) r → bytes_eq r.name.now x ≡ true → last_named (take k rs) x ≡ last_named rs x → Some r.value ≡ last_named rs x
+pub last_found : {V : Type 0} (rs : List (NamedValue V)) (k : ℕ) (r : NamedValue V) (x : List ℕ) → 0 < k → k ≤ length rs → r ≡ slice_index_or rs (k - 1) r → bytes_eq r.name.now x ≡ true → last_named (take k rs) x ≡ last_named rs x → Some r.value ≡ last_named rs x
 last_found rs k r x h l e b w = sym (ap (λ o. if o then Some r.value else last_named (take (k - 1) rs) x) b) ∙ sym (last_push (take (k - 1) rs) r x) ∙ ap (λ ts. last_named ts x) (sym (taken rs k r h l e)) ∙ w
 
-pub last_passed : {V : Type 0} (rs : List (Row V)) (k : ℕ) (r : Row V) (x : List ℕ) → 0 < k → k ≤ length rs → r ≡ slice_index_or rs (k - 1) r → bytes_eq r.name.now x ≡ false → last_named (take k rs) x ≡ last_named rs x
+pub last_passed : {V : Type 0} (rs : List (NamedValue V)) (k : ℕ) (r : NamedValue V) (x : List ℕ) → 0 < k → k ≤ length rs → r ≡ slice_index_or rs (k - 1) r → bytes_eq r.name.now x ≡ false → last_named (take k rs) x ≡ last_named rs x
     → last_named (take (k - 1) rs) x ≡ last_named rs x
 last_passed rs k r x h l e b w = sym (ap (λ o. if o then Some r.value else last_named (take (k - 1) rs) x) b) ∙ sym (last_push (take (k - 1) rs) r x) ∙ ap (λ ts. last_named ts x) (sym (taken rs k r h l e)) ∙ w
 
 -- a row behind the few
-pub few_put : {V : Type 0} (few new : List (Row V)) (bs : List (Vec (Row V) Global)) (r : Row V) (name : List ℕ) (v : V) → bs ≡ [] → new ≡ few ++ r ∷ [] → r.name.now ≡ name → r.value ≡ v
+pub few_put : {V : Type 0} (few new : List (NamedValue V)) (bs : List (Vec (NamedValue V) Global)) (r : NamedValue V) (name : List ℕ) (v : V) → bs ≡ [] → new ≡ few ++ r ∷ [] → r.name.now ≡ name → r.value ≡ v
     → (x : List ℕ) → few_or_many new bs x ≡ (if bytes_eq name x then Some v else few_or_many few bs x)
 few_put few new bs r name v eb en ex ev x =
     ap (λ l. few_or_many new l x) eb ∙ ap (λ l. last_named l x) en ∙ last_push few r x ∙ ap (λ n. if bytes_eq n x then Some r.value else last_named few x) ex ∙ ap (λ w. if bytes_eq name x then Some w else last_named few x) ev
     ∙ ap (λ l. if bytes_eq name x then Some v else few_or_many few l x) (sym eb)
 
-pub many_is : {V : Type 0} (few : List (Row V)) (bs : List (Vec (Row V) Global)) (x : List ℕ) → 0 < length bs → few_or_many few bs x ≡ buckets_named bs x
+pub many_is : {V : Type 0} (few : List (NamedValue V)) (bs : List (Vec (NamedValue V) Global)) (x : List ℕ) → 0 < length bs → few_or_many few bs x ≡ buckets_named bs x
 many_is few [] x h = absurd (omega (arith, h))
 many_is few (b ∷ bs) x h = refl
 
 -- a row among the many
-pub many_put : {V : Type 0} (few : List (Row V)) (bs new : List (Vec (Row V) Global)) (name : List ℕ) (v : V) → 0 < length bs → length new ≡ length bs
+pub many_put : {V : Type 0} (few : List (NamedValue V)) (bs new : List (Vec (NamedValue V) Global)) (name : List ℕ) (v : V) → 0 < length bs → length new ≡ length bs
     → ((x : List ℕ) → buckets_named new x ≡ (if bytes_eq name x then Some v else buckets_named bs x))
     → (x : List ℕ) → few_or_many few new x ≡ (if bytes_eq name x then Some v else few_or_many few bs x)
 many_put few bs new name v h l e x = many_is few new x (subst (λ n. 0 < n) (sym l) h) ∙ e x ∙ ap (λ o. if bytes_eq name x then Some v else o) (sym (many_is few bs x h))

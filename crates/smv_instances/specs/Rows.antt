@@ -1,7 +1,7 @@
 -- Values of names in rows.
 use Rattle.std.specs.Prelude.{ℕ, ◌+◌, ◌*◌, ◌%◌, Bool, if◌then◌else◌, List, [], ◌∷◌, length, Option, Some, None, slice_get, bytes_eq}
 use Rattle.std.proofs.Common.{Vec, Global}
-use Rattle.smv_instances.specs.declared.rows.Row.{Row}
+use Rattle.smv_instances.specs.declared.rows.NamedValue.{NamedValue}
 use Rattle.smv_instances.specs.declared.rows.NameRows.{NameRows}
 use Rattle.smv_instances.specs.declared.instance_rows.InstanceRows.{InstanceRows}
 
@@ -15,18 +15,18 @@ or_row (Some v) b w = Some v
 or_row None b w = if b then Some w else None
 
 -- the value that a name was given last
-abbrev pub last_named : {V : Type 0} → List (Row V) → List ℕ → Option V
+abbrev pub last_named : {V : Type 0} → List (NamedValue V) → List ℕ → Option V
 last_named [] x = None
 last_named (r ∷ rs) x = or_row (last_named rs x) (bytes_eq r.name.now x) r.value
 
-abbrev pub bucket_named : {V : Type 0} → Option (Vec (Row V) Global) → List ℕ → Option V
+abbrev pub bucket_named : {V : Type 0} → Option (Vec (NamedValue V) Global) → List ℕ → Option V
 bucket_named None x = None
 bucket_named (Some b) x = last_named b.items x
 
-abbrev pub buckets_named : {V : Type 0} → List (Vec (Row V) Global) → List ℕ → Option V
+abbrev pub buckets_named : {V : Type 0} → List (Vec (NamedValue V) Global) → List ℕ → Option V
 buckets_named bs x = bucket_named (slice_get bs (number_on 0 x % length bs)) x
 
-abbrev pub few_or_many : {V : Type 0} → List (Row V) → List (Vec (Row V) Global) → List ℕ → Option V
+abbrev pub few_or_many : {V : Type 0} → List (NamedValue V) → List (Vec (NamedValue V) Global) → List ℕ → Option V
 few_or_many few [] x = last_named few x
 few_or_many few (b ∷ bs) x = buckets_named (b ∷ bs) x
 

@@ -29,7 +29,7 @@ abbrev pub local_plain : Known → Local
 local_plain (OfKnown.Alias i path) = alias i path.now
 local_plain (OfKnown.Formula i e) = formula i (plain e.now)
 local_plain (OfKnown.Variable kind d) = variable_of kind (plain_domain d.now)
-local_plain OfKnown.Inner = inner
+local_plain OfKnown.Instance = inner
 local_plain OfKnown.Nothing = nothing
 
 abbrev pub or_local : Option Known → Local → Local
@@ -39,7 +39,7 @@ or_local (Some k) other = local_plain k
 abbrev pub found_plain : List Instance → Target → Found
 found_plain t (OfTarget.Variable i x kind d) = variable_at (dotted_at t i x.now) kind (plain_domain d.now)
 found_plain t (OfTarget.Body i x j e) = body_at i x.now j (plain e.now)
-found_plain t (OfTarget.Within i) = instance_at i
+found_plain t (OfTarget.Instance i) = instance_at i
 found_plain t (OfTarget.Symbol x) = symbol_of x.now
 found_plain t OfTarget.Cyclic = cyclic
 found_plain t OfTarget.Missing = none

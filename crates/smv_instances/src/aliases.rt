@@ -36,7 +36,7 @@ fn key_walk<'a>(parts: &Parts<'a>, leads: &Leads<'a>, key: Key<'a>) -> Option<Wa
         Known::Alias(j, path) => Some(path_walk(parts, leads, j, path)),
         Known::Formula(_, _) => None,
         Known::Variable(_, _) => None,
-        Known::Inner => None,
+        Known::Instance => None,
         Known::Nothing => None,
     }
 }

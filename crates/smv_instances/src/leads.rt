@@ -57,9 +57,9 @@ fn lead_of<'a>(
         Known::Alias(_, _) => row_value_in(leads, i, x),
         Known::Formula(j, e) => Some(one_deep(Target::Body(i, x, j, e))),
         Known::Variable(kind, d) => Some(one_deep(Target::Variable(i, x, kind, d))),
-        Known::Inner => match parts.child(i, x) {
+        Known::Instance => match parts.child(i, x) {
             None => Some(one_deep(Target::Missing)),
-            Some(c) => Some(one_deep(Target::Within(c))),
+            Some(c) => Some(one_deep(Target::Instance(c))),
         },
         Known::Nothing => Some(one_deep(Target::Missing)),
     }
@@ -110,7 +110,7 @@ fn names_walk<'a>(parts: &Parts<'a>, leads: &Leads<'a>, i: usize, names: &'a Nam
             depth = lead.depth;
         }
         match lead.target {
-            Target::Within(c) => at = c,
+            Target::Instance(c) => at = c,
             found => {
                 let target = last(found, k + 1 == names.len());
                 return Walk::Ends(Lead { depth, target });
@@ -119,7 +119,7 @@ fn names_walk<'a>(parts: &Parts<'a>, leads: &Leads<'a>, i: usize, names: &'a Nam
     }
     Walk::Ends(Lead {
         depth,
-        target: Target::Within(at),
+        target: Target::Instance(at),
     })
 }
 

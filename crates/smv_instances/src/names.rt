@@ -16,7 +16,7 @@ pub enum Known<'a> {
     Formula(usize, &'a Expr),
     Variable(VarKind, &'a Domain),
     /// An instance.
-    Inner,
+    Instance,
     Nothing,
 }
 
@@ -27,7 +27,8 @@ pub enum Target<'a> {
     Variable(usize, &'a [u8], VarKind, &'a Domain),
     /// A definition or an actual: its instance, its name there, the instance in which its body is read, and the body.
     Body(usize, &'a [u8], usize, &'a Expr),
-    Within(usize),
+    /// An instance.
+    Instance(usize),
     Symbol(&'a [u8]),
     Cyclic,
     Missing,
@@ -52,7 +53,7 @@ pub fn domain<'a>(kind: VarKind, d: &'a Domain) -> Known<'a>
         Domain::Members(_) => Known::Variable(kind, d),
         Domain::Between(_, _) => Known::Variable(kind, d),
         Domain::Bits(_) => Known::Variable(kind, d),
-        Domain::Instance(_, _) => Known::Inner,
+        Domain::Instance(_, _) => Known::Instance,
     }
 }
 
@@ -62,7 +63,7 @@ pub fn last<'a>(found: Target<'a>, at_end: bool) -> Target<'a>
 {
     match found {
         Target::Cyclic => Target::Cyclic,
-        Target::Within(c) => Target::Within(c),
+        Target::Instance(c) => Target::Instance(c),
         Target::Missing => Target::Missing,
         found => if at_end { found } else { Target::Missing },
     }

@@ -3,11 +3,11 @@ ghost use Rattle.std.specs.Prelude.{◌≡◌, ◌<◌, ◌+◌, ◌*◌, ◌%�
 ghost use Rattle.smv_instances.specs.Rows.{number_on, last_named, bucket_named, buckets_named, row_named};
 
 use std::alloc::Global;
-use text_core::NoMemory;
+use text_core::{NoMemory, is_same};
 
 /// A name and its value.
 #[derive(Drop)]
-pub struct Row<'a, V> {
+pub struct NamedValue<'a, V> {
     pub name: &'a [u8],
     pub value: V,
 }
@@ -15,27 +15,12 @@ pub struct Row<'a, V> {
 /// Values by the bytes of a name: few of them in one list, many in as many lists as names are expected.
 #[derive(Drop)]
 pub struct NameRows<'a, V> {
-    pub few: Vec<Row<'a, V>>,
-    pub many: Vec<Vec<Row<'a, V>>>,
+    pub few: Vec<NamedValue<'a, V>>,
+    pub many: Vec<Vec<NamedValue<'a, V>>>,
 }
 
 // How many names are few.
 const FEW: usize = 8;
-
-// Are the names one? Most names are short, so that a loop is cheaper than a call for any slices.
-fn is_same(name: &[u8], other: &[u8]) -> bool
-    ensures { result ≡ bytes_eq name.now other.now }
-{
-    if name.len() != other.len() {
-        return false;
-    }
-    for k in 0..name.len() {
-        if name[k] != other[k] {
-            return false;
-        }
-    }
-    true
-}
 
 // The multiplier is a prime greater than there are names, so that no number of lists has all names in a few of them.
 fn next_number(h: usize, b: u8) -> usize
@@ -66,7 +51,7 @@ fn bucket_of(name: &[u8], count: usize) -> usize
 }
 
 // The value that a name was given last.
-fn last_value<'a, V: Copy>(rows: &[Row<'a, V>], name: &[u8]) -> Option<V>
+fn last_value<'a, V: Copy>(rows: &[NamedValue<'a, V>], name: &[u8]) -> Option<V>
     ensures { result ≡ last_named rows.now name.now }
 {
     let mut k = rows.len();
@@ -80,15 +65,19 @@ fn last_value<'a, V: Copy>(rows: &[Row<'a, V>], name: &[u8]) -> Option<V>
     None
 }
 
-fn add_to<'a, V: Drop>(rows: &mut Vec<Row<'a, V>>, name: &'a [u8], value: V) -> Result<(), NoMemory>
+fn add_to<'a, V: Drop>(
+    rows: &mut Vec<NamedValue<'a, V>>,
+    name: &'a [u8],
+    value: V,
+) -> Result<(), NoMemory>
     ensures { OnOk result (rows.new.items ≡ rows.old.items ++ record { name = name.entry; value = value } ∷ []) }
 {
-    rows.push(Row { name, value })?;
+    rows.push(NamedValue { name, value })?;
     Ok(())
 }
 
 fn add_to_bucket<'a, V: Drop>(
-    many: &mut Vec<Vec<Row<'a, V>>>,
+    many: &mut Vec<Vec<NamedValue<'a, V>>>,
     name: &'a [u8],
     value: V,
 ) -> Result<(), NoMemory>
@@ -102,7 +91,10 @@ fn add_to_bucket<'a, V: Drop>(
 }
 
 // So many empty lists.
-fn empty_buckets<'a, V: Drop>(alloc: Global, count: usize) -> Result<Vec<Vec<Row<'a, V>>>, NoMemory>
+fn empty_buckets<'a, V: Drop>(
+    alloc: Global,
+    count: usize,
+) -> Result<Vec<Vec<NamedValue<'a, V>>>, NoMemory>
     ensures { IfOk result (λ bs. (x : List ℕ) → buckets_named bs.items x ≡ None) }
 {
     let mut many = Vec::with_capacity(alloc, count)?;

@@ -252,7 +252,7 @@ pub fn leaf_at<'a, 'n>(
             item(variable_in(numbers, kind, path.bytes()))
         }
         Target::Body(j, x, _, _) => item(value_in(&numbers.bodies, j, x)),
-        Target::Within(_) => Ok(Leaf::Nothing),
+        Target::Instance(_) => Ok(Leaf::Nothing),
         Target::Symbol(x) => symbol(symbols.place(x)),
         Target::Cyclic => Ok(Leaf::Nothing),
         Target::Missing => Ok(Leaf::Nothing),

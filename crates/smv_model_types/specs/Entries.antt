@@ -1,7 +1,5 @@
 -- What names are to the types, as the entries have them.
 use Rattle.std.specs.Prelude.{◌≡◌, ℕ, Bool, true, false, if◌then◌else◌, List, [], ◌∷◌, Option, Some, None, option_map, is_some}
-use Rattle.std.specs.Borrow.{Bor}
-use Rattle.std.specs.HashMap.{HashMap}
 use Rattle.smv_text.specs.declared.tree.Path.{Path}
 use Rattle.smv_meaning.specs.Instances.{Instance}
 use Rattle.smv_meaning.specs.Types.{symbol_type}
@@ -11,7 +9,8 @@ use Rattle.smv_meaning.specs.Naming.{unnamed, named_found}
 use Rattle.smv_meaning.specs.Phases.{Formula, formula_same}
 use Rattle.smv_meaning.specs.Settled.{is_formula, types_in}
 use Rattle.smv_meaning.specs.Formulas.{instance_within}
-use Rattle.smv_instances.specs.NameMap.{named_in}
+use Rattle.smv_instances.specs.declared.instance_rows.InstanceRows.{InstanceRows}
+use Rattle.smv_instances.specs.Rows.{row_in}
 use Rattle.smv_meaning.specs.Orders.{is_listed}
 use Rattle.smv_types.specs.declared.names.Named.{Named as Kept}
 use Rattle.smv_types.specs.View.{named_seen}
@@ -20,8 +19,8 @@ use Rattle.smv_types.specs.View.{named_seen}
 abbrev pub Entries : Type 0
 Entries = ℕ → List ℕ → Option Named
 
-abbrev pub entries_seen : {S : Type 0} → HashMap (ℕ × Bor (List ℕ)) Kept S → Entries
-entries_seen m i x = option_map named_seen (named_in m i x)
+abbrev pub entries_seen : InstanceRows Kept → Entries
+entries_seen m i x = option_map named_seen (row_in m i x)
 
 abbrev pub nameless : ℕ → Path → Named
 nameless i path = unnamed

@@ -14,7 +14,7 @@ ghost use Rattle.smv_model_types.specs.Entries.{entries_seen, entries_names, IsP
 
 use crate::names::{Entries, Reader, path_named};
 use crate::variables::variables_of;
-use smv_instances::{Known, Table, put_in};
+use smv_instances::{Known, Table, add_row_in};
 use smv_intervals::Ty;
 use smv_model_laws::{
     names_settle, order_is_whole, references_stand_before, refused_have_no_type,
@@ -93,14 +93,14 @@ fn put_formula<'a>(
     match table.local(formula.instance, formula.name) {
         Known::Alias(j, path) => {
             let named = path_named(table, entries, j, path);
-            put_in(entries, formula.instance, formula.name, named)
+            add_row_in(entries, formula.instance, formula.name, named)
         }
         Known::Formula(j, e) => {
             let named = body_named(alloc, table, entries, j, e)?;
-            put_in(entries, formula.instance, formula.name, named)
+            add_row_in(entries, formula.instance, formula.name, named)
         }
         Known::Variable(_, _) => Ok(()),
-        Known::Inner => Ok(()),
+        Known::Instance => Ok(()),
         Known::Nothing => Ok(()),
     }
 }

@@ -8,14 +8,14 @@ ghost use Rattle.smv_types.specs.View.{named_seen};
 ghost use Rattle.smv_model_types.specs.Entries.{entries_seen, entry_or, named_instance, named_symbol, entries_walk, entries_names};
 
 use crate::domains::variable_named;
-use smv_instances::{InstanceMap, Known, Table, Target, value_in};
+use smv_instances::{InstanceRows, Known, Table, Target, row_value_in};
 use smv_intervals::Ty;
 use smv_text::Path;
 use smv_types::{Named, Scope};
 use text_core::Names;
 
 /// What variables, definitions and actuals are to the types, by their instances and names.
-pub(crate) type Entries<'a> = InstanceMap<'a, Named>;
+pub(crate) type Entries<'a> = InstanceRows<'a, Named>;
 
 fn unnamed() -> Named
     ensures { named_seen result ≡ unnamed }
@@ -51,13 +51,13 @@ fn symbol() -> Named
 fn entry<'a>(table: &Table<'a>, entries: &Entries<'a>, i: usize, x: &[u8]) -> Named
     ensures { named_seen result ≡ entry_or (local (map instance_plain table.now) i x.now) (entries_seen entries.now i x.now) }
 {
-    match value_in(entries, i, x) {
+    match row_value_in(entries, i, x) {
         Some(named) => named,
         None => match table.local(i, x) {
             Known::Alias(_, _) => unnamed(),
             Known::Formula(_, _) => unnamed(),
             Known::Variable(kind, domain) => variable_named(kind, domain),
-            Known::Inner => unnamed(),
+            Known::Instance => unnamed(),
             Known::Nothing => unnamed(),
         },
     }
@@ -68,7 +68,7 @@ fn inner<'a>(table: &Table<'a>, i: usize, x: &[u8]) -> Option<usize>
     ensures { result ≡ instance_within (look (map instance_plain table.now) (steps_of (map instance_plain table.now)) i x.now) }
 {
     match table.target_of_name(i, x) {
-        Target::Within(c) => Some(c),
+        Target::Instance(c) => Some(c),
         Target::Variable(_, _, _, _) => None,
         Target::Body(_, _, _, _) => None,
         Target::Symbol(_) => None,

@@ -7,7 +7,7 @@ ghost use Rattle.smv_model_types.specs.Entries.{entries_seen, variable_put, Beco
 
 use crate::domains::variable_named;
 use crate::names::Entries;
-use smv_instances::{Known, Table, nothing_in, put_in};
+use smv_instances::{Known, Table, add_row_in, no_rows_in};
 use smv_model_laws::names_settle;
 use smv_text::{Element, Elements, Items};
 use std::alloc::Global;
@@ -22,10 +22,10 @@ fn put_variable<'a>(
     ensures { OnOk result (Becomes (entries_seen entries.old) (i, x.now) (variable_put (local (map instance_plain table.now) i x.now)) (entries_seen entries.new)) }
 {
     match table.local(i, x) {
-        Known::Variable(kind, domain) => put_in(entries, i, x, variable_named(kind, domain)),
+        Known::Variable(kind, domain) => add_row_in(entries, i, x, variable_named(kind, domain)),
         Known::Alias(_, _) => Ok(()),
         Known::Formula(_, _) => Ok(()),
-        Known::Inner => Ok(()),
+        Known::Instance => Ok(()),
         Known::Nothing => Ok(()),
     }
 }
@@ -90,7 +90,7 @@ pub(crate) fn variables_of<'a>(alloc: Global, table: &Table<'a>) -> Result<Entri
     requires acyclic { Acyclic (map instance_plain table.now) }
     ensures { IfOk result (λ entries. Right (map instance_plain table.now) (entries_seen entries)) }
 {
-    let mut entries = nothing_in(alloc);
+    let mut entries = no_rows_in(alloc, table.list())?;
     for i in 0..table.len() {
         put_elements(table, &mut entries, i, &table.at(i).module.elements)?;
     }

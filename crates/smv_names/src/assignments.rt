@@ -46,7 +46,7 @@ fn is_assignable(when: When, target: &Target) -> bool
             VarKind::Input => false,
         },
         Target::Body(_, _, _, _) => false,
-        Target::Within(_) => false,
+        Target::Instance(_) => false,
         Target::Symbol(_) => false,
         Target::Cyclic => false,
         Target::Missing => false,
@@ -155,7 +155,7 @@ fn path_of(alloc: Global, table: &Table, target: &Target) -> Result<Text, NoMemo
             path_below(alloc, &[], x)
         },
         Target::Body(_, _, _, _) => Ok(Text::new(alloc)),
-        Target::Within(_) => Ok(Text::new(alloc)),
+        Target::Instance(_) => Ok(Text::new(alloc)),
         Target::Symbol(_) => Ok(Text::new(alloc)),
         Target::Cyclic => Ok(Text::new(alloc)),
         Target::Missing => Ok(Text::new(alloc)),

@@ -24,7 +24,7 @@ fn leads_somewhere<'a>(table: &Table<'a>, i: usize, path: &'a Path) -> bool
     match table.target(i, path) {
         Target::Variable(_, _, _, _) => true,
         Target::Body(_, _, _, _) => true,
-        Target::Within(_) => true,
+        Target::Instance(_) => true,
         Target::Symbol(_) => true,
         Target::Cyclic => true,
         Target::Missing => false,

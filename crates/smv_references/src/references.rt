@@ -72,7 +72,7 @@ fn note<'a>(
         Known::Alias(_, _) => row.push(number(numbers, i, x))?,
         Known::Formula(_, _) => row.push(number(numbers, i, x))?,
         Known::Variable(_, _) => {}
-        Known::Inner => {}
+        Known::Instance => {}
         Known::Nothing => {}
     }
     Ok(())
@@ -83,7 +83,7 @@ fn inner<'a>(table: &Table<'a>, i: usize, x: &'a [u8]) -> Option<usize>
     ensures { result ≡ instance_within (look (map instance_plain table.now) (steps_of (map instance_plain table.now)) i x.now) }
 {
     match table.target_of_name(i, x) {
-        Target::Within(c) => Some(c),
+        Target::Instance(c) => Some(c),
         Target::Variable(_, _, _, _) => None,
         Target::Body(_, _, _, _) => None,
         Target::Symbol(_) => None,
@@ -178,7 +178,7 @@ fn row_of<'a>(
         Known::Alias(j, path) => Ok(alias_row(alloc, table, numbers, j, path)?),
         Known::Formula(j, e) => Ok(body_row(alloc, table, numbers, j, e)?),
         Known::Variable(_, _) => Ok(List::new(alloc)),
-        Known::Inner => Ok(List::new(alloc)),
+        Known::Instance => Ok(List::new(alloc)),
         Known::Nothing => Ok(List::new(alloc)),
     }
 }

@@ -5,4 +5,4 @@ pub mod Readings
 pub mod Groups
 pub mod Buckets
 pub mod Parts
-pub mod Sources
+pub mod FlatParts

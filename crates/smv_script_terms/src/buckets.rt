@@ -19,12 +19,13 @@ pub(crate) struct Owned {
 fn put_all(all: &mut Terms, terms: Terms) -> Result<(), NoMemory>
     ensures { OnOk result (map plain all.new.items ≡ map plain all.old.items ++ map plain terms.items) }
 {
-    let mut terms = terms;
-    terms.reverse();
-    'terms: while let Some(t) = terms.pop() {
-        all.push(t)?;
+    // Most terms are the first of theirs, and need not be moved.
+    if all.is_empty() {
+        *all = terms;
+        return Ok(());
     }
-    Ok(())
+    let mut terms = terms;
+    Ok(all.append(&mut terms)?)
 }
 
 // So many empty lists.

@@ -7,7 +7,7 @@ ghost use Rattle.smv_script.specs.Script.{above_forms, above_items, formula_of, 
 ghost use Rattle.smv_script_terms.specs.Questions.{codes_of};
 ghost use Rattle.smv_script_terms.specs.Parts.{form_owned, item_owned};
 ghost use Rattle.smv_script_terms.specs.Buckets.{owned_by, owned_plain};
-ghost use Rattle.smv_script_terms.specs.Sources.{source_plain};
+ghost use Rattle.smv_script_terms.specs.FlatParts.{plain_parts};
 
 use crate::buckets::{Owned, distributed};
 use crate::coding::Coding;
@@ -23,7 +23,7 @@ use text_core::NoMemory;
 
 /// The items and the formulas of a flat form, and its symbols by their numbers.
 #[derive(Clone, Copy)]
-pub struct Source<'f> {
+pub struct FlatParts<'f> {
     /// The items.
     pub items: &'f [FlatItem],
     /// The symbols by their numbers.
@@ -36,15 +36,15 @@ pub struct Source<'f> {
 fn invar_items<'f>(
     alloc: Global,
     coding: &Coding,
-    source: &Source<'f>,
+    flat: &FlatParts<'f>,
 ) -> Result<Vec<Owned>, NoMemory>
-    ensures { IfOk result (λ xs. map owned_plain xs.items ≡ item_owned (λ k m. invar_item (source_plain source.now) (codes_of coding.now) k m m.kind) 0 (map item_plain source.now.items.now)) }
+    ensures { IfOk result (λ xs. map owned_plain xs.items ≡ item_owned (λ k m. invar_item (plain_parts flat.now) (codes_of coding.now) k m m.kind) 0 (map item_plain flat.now.items.now)) }
 {
-    let mut bodies = bodies_of(alloc, coding, source.items.len(), source.formulas)?;
+    let mut bodies = bodies_of(alloc, coding, flat.items.len(), flat.formulas)?;
     let mut all = Vec::new(alloc);
-    for k in 0..source.items.len() {
-        let item = &source.items[k];
-        let terms = invar_item(alloc, coding, source.symbols, k, item, &mut bodies)?;
+    for k in 0..flat.items.len() {
+        let item = &flat.items[k];
+        let terms = invar_item(alloc, coding, flat.symbols, k, item, &mut bodies)?;
         all.push(Owned {
             number: item.instance,
             terms,
@@ -119,14 +119,14 @@ fn owned_items<'f>(
     alloc: Global,
     coding: &Coding,
     when: When,
-    source: &Source<'f>,
+    flat: &FlatParts<'f>,
 ) -> Result<Vec<Owned>, NoMemory>
-    ensures { IfOk result (λ xs. (i : ℕ) → owned_by i (map owned_plain xs.items) ≡ numbered_parts (source_plain source.now) (codes_of coding.now) when i 0 (map item_plain source.now.items.now)) }
+    ensures { IfOk result (λ xs. (i : ℕ) → owned_by i (map owned_plain xs.items) ≡ numbered_parts (plain_parts flat.now) (codes_of coding.now) when i 0 (map item_plain flat.now.items.now)) }
 {
     match when {
         When::First => Ok(Vec::new(alloc)),
-        When::Always => invar_items(alloc, coding, source),
-        When::Following => trans_items(alloc, coding, source.items),
+        When::Always => invar_items(alloc, coding, flat),
+        When::Following => trans_items(alloc, coding, flat.items),
     }
 }
 
@@ -135,13 +135,13 @@ pub fn formula_of<'f>(
     alloc: Global,
     coding: &Coding,
     when: When,
-    source: &Source<'f>,
+    flat: &FlatParts<'f>,
 ) -> Result<Term, NoMemory>
-    ensures { IfOk result (λ t. plain t ≡ formula_of (source_plain source.now) (codes_of coding.now) when) }
+    ensures { IfOk result (λ t. plain t ≡ formula_of (plain_parts flat.now) (codes_of coding.now) when) }
 {
-    let mut owned = owned_items(alloc, coding, when, source)?;
-    add_forms(alloc, coding, when, source.formulas, &mut owned)?;
-    let count = instances_of(source.items, source.formulas);
+    let mut owned = owned_items(alloc, coding, when, flat)?;
+    add_forms(alloc, coding, when, flat.formulas, &mut owned)?;
+    let count = instances_of(flat.items, flat.formulas);
     let parts = distributed(alloc, count, owned)?;
     Ok(several(TermOp::And, true, parts))
 }

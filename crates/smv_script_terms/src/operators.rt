@@ -25,7 +25,7 @@ pub(crate) fn nothing() -> Term
 pub(crate) fn apply_one(alloc: Global, op: TermOp, a: Term) -> Result<Term, NoMemory>
     ensures { IfOk result (λ t. plain t ≡ apply op (one (plain a))) }
 {
-    let mut terms = Vec::new(alloc);
+    let mut terms = Vec::with_capacity(alloc, 1)?;
     terms.push(a)?;
     Ok(Term::Apply(op, terms))
 }
@@ -33,7 +33,7 @@ pub(crate) fn apply_one(alloc: Global, op: TermOp, a: Term) -> Result<Term, NoMe
 pub(crate) fn apply_two(alloc: Global, op: TermOp, a: Term, b: Term) -> Result<Term, NoMemory>
     ensures { IfOk result (λ t. plain t ≡ apply op (two (plain a) (plain b))) }
 {
-    let mut terms = Vec::new(alloc);
+    let mut terms = Vec::with_capacity(alloc, 2)?;
     terms.push(a)?;
     terms.push(b)?;
     Ok(Term::Apply(op, terms))
@@ -42,7 +42,7 @@ pub(crate) fn apply_two(alloc: Global, op: TermOp, a: Term, b: Term) -> Result<T
 pub(crate) fn choice(alloc: Global, c: Term, a: Term, b: Term) -> Result<Term, NoMemory>
     ensures { IfOk result (λ t. plain t ≡ choice_term (plain c) (plain a) (plain b)) }
 {
-    let mut terms = Vec::new(alloc);
+    let mut terms = Vec::with_capacity(alloc, 3)?;
     terms.push(c)?;
     terms.push(a)?;
     terms.push(b)?;

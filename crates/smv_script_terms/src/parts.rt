@@ -50,7 +50,7 @@ pub(crate) fn none(alloc: Global) -> Terms
 pub(crate) fn alone(alloc: Global, t: Term) -> Result<Terms, NoMemory>
     ensures { IfOk result (λ ts. map plain ts.items ≡ plain t ∷ []) }
 {
-    let mut terms = Vec::new(alloc);
+    let mut terms = Vec::with_capacity(alloc, 1)?;
     terms.push(t)?;
     Ok(terms)
 }

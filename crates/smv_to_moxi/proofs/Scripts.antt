@@ -25,7 +25,7 @@ use Rattle.moxi_scripts.specs.Script.{PlainCheck, PlainFormula, PlainScript, Pla
 use Rattle.smv_flat.specs.FlatForms.{PlainFlat}
 use Rattle.smv_script.specs.Terms.{Coding}
 use Rattle.smv_script.specs.Script.{check_of, coding_of, formula_of, inputs, locals, outputs, place_of_item, queries_from, query_of, reachables_from, script_of, symbol_sort, system_of, variables_in}
-use Rattle.smv_script_terms.specs.Sources.{flat_in}
+use Rattle.smv_script_terms.specs.FlatParts.{flat_in}
 use Rattle.smv_to_moxi.specs.Assembling.{symbol_scope, check_form, is_invariant, reachable_of, script_form, script_under, script_with, system_form}
 use Rattle.moxi_scripts.specs.Invariant.{IsSpelled}
 

@@ -89,13 +89,14 @@ fn read(
     flat: &Flat,
     part: Part,
     first: usize,
+    room: usize,
     env: &[Datum],
 ) -> Result<State, NoMemory>
     requires step { IsStepOf flat.now env.now }
     requires first { first ≡ group_start (map item_plain flat.now.items) (group_in part) }
     ensures { IfOk result (λ state. state ≡ read_of part flat.now env.now) }
 {
-    let mut state = State::new(alloc);
+    let mut state = State::with_capacity(alloc, room)?;
     let mut place = first;
     for item in flat.items().as_slice() {
         if part.picks(item.kind) {
@@ -119,9 +120,12 @@ fn read_all(
     requires first { first ≡ group_start (map item_plain flat.now.items) (group_in part) }
     ensures { IfOk result (λ states. states ≡ map (read_of part flat.now) envs.now) }
 {
-    let mut states = States::new(alloc);
+    let mut states = States::with_capacity(alloc, envs.len())?;
+    // Each step has as many variables as the one before it.
+    let mut room = 0;
     for env in envs {
-        let state = read(alloc, flat, part, first, env.as_slice())?;
+        let state = read(alloc, flat, part, first, room, env.as_slice())?;
+        room = state.len();
         states.push(state)?;
     }
     Ok(states)

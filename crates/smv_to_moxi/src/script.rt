@@ -10,7 +10,7 @@ ghost use Rattle.smv_flat.specs.FlatView.{plain_flat};
 ghost use Rattle.smv_flat_laws.specs.FlatTruth.{forms_invariants};
 ghost use Rattle.smv_script.specs.Script.{coding_of, place_of_item, query_of, queries_from, reachables_from, symbol_sort};
 ghost use Rattle.smv_script_terms.specs.Questions.{codes_of, place_at};
-ghost use Rattle.smv_script_terms.specs.Sources.{flat_in, source_plain};
+ghost use Rattle.smv_script_terms.specs.FlatParts.{flat_in, plain_parts};
 ghost use Rattle.smv_to_moxi.specs.Assembling.{symbol_scope, check_form, is_invariant, reachable_of, script_form, script_under, script_with, system_form};
 
 use moxi_scripts::{Check, Formula, Formulas, Queries, Query, Script, Subsystems, System, Systems};
@@ -19,7 +19,7 @@ use name_set::NameSet;
 use smv_flat::{FlatFormula, Role};
 use smv_items::FlatItem;
 use smv_script_terms::{
-    Coding, Group, Question, Source, formula_of, negate, places_of, terms_of, variables_in,
+    Coding, FlatParts, Group, Question, formula_of, negate, places_of, terms_of, variables_in,
 };
 use smv_text::When;
 use std::alloc::Global;
@@ -79,18 +79,18 @@ fn symbol_set(alloc: Global, symbols: &Names) -> Result<NameSet, NoMemory>
     }
 }
 
-fn system_of<'f>(alloc: Global, coding: &Coding, source: &Source<'f>) -> Result<System, NoMemory>
-    requires { codes_of coding.now ≡ coding_of (source_plain source.now) coding.now.width }
-    ensures { IfOk result (λ s. plain_system s ≡ system_form (source_plain source.now) coding.now.width) }
+fn system_of<'f>(alloc: Global, coding: &Coding, flat: &FlatParts<'f>) -> Result<System, NoMemory>
+    requires { codes_of coding.now ≡ coding_of (plain_parts flat.now) coding.now.width }
+    ensures { IfOk result (λ s. plain_system s ≡ system_form (plain_parts flat.now) coding.now.width) }
 {
     let name = Name::of(alloc, b"main")?;
     let width = coding.width;
-    let inputs = variables_in(alloc, width, Group::Inputs, source.items)?;
-    let outputs = variables_in(alloc, width, Group::Outputs, source.items)?;
-    let locals = variables_in(alloc, width, Group::Locals, source.items)?;
-    let init = formula_of(alloc, coding, When::First, source)?;
-    let trans = formula_of(alloc, coding, When::Following, source)?;
-    let inv = formula_of(alloc, coding, When::Always, source)?;
+    let inputs = variables_in(alloc, width, Group::Inputs, flat.items)?;
+    let outputs = variables_in(alloc, width, Group::Outputs, flat.items)?;
+    let locals = variables_in(alloc, width, Group::Locals, flat.items)?;
+    let init = formula_of(alloc, coding, When::First, flat)?;
+    let trans = formula_of(alloc, coding, When::Following, flat)?;
+    let inv = formula_of(alloc, coding, When::Always, flat)?;
     Ok(System {
         name,
         inputs,
@@ -184,16 +184,16 @@ fn queries_of(alloc: Global, formulas: &[FlatFormula]) -> Result<Queries, NoMemo
     Ok(all)
 }
 
-fn check_of<'f>(alloc: Global, coding: &Coding, source: &Source<'f>) -> Result<Check, NoMemory>
-    requires { codes_of coding.now ≡ coding_of (source_plain source.now) coding.now.width }
-    ensures { IfOk result (λ c. plain_check c ≡ check_form (source_plain source.now) coding.now.width) }
+fn check_of<'f>(alloc: Global, coding: &Coding, flat: &FlatParts<'f>) -> Result<Check, NoMemory>
+    requires { codes_of coding.now ≡ coding_of (plain_parts flat.now) coding.now.width }
+    ensures { IfOk result (λ c. plain_check c ≡ check_form (plain_parts flat.now) coding.now.width) }
 {
     let width = coding.width;
-    let inputs = variables_in(alloc, width, Group::Inputs, source.items)?;
-    let outputs = variables_in(alloc, width, Group::Outputs, source.items)?;
-    let locals = variables_in(alloc, width, Group::Locals, source.items)?;
-    let reachables = reachables_of(alloc, coding, source.formulas)?;
-    let queries = queries_of(alloc, source.formulas)?;
+    let inputs = variables_in(alloc, width, Group::Inputs, flat.items)?;
+    let outputs = variables_in(alloc, width, Group::Outputs, flat.items)?;
+    let locals = variables_in(alloc, width, Group::Locals, flat.items)?;
+    let reachables = reachables_of(alloc, coding, flat.formulas)?;
+    let queries = queries_of(alloc, flat.formulas)?;
     Ok(Check {
         place: Place {
             line: 1,
@@ -246,16 +246,16 @@ fn assembled(
 fn script_of_system<'f>(
     alloc: Global,
     coding: &Coding,
-    source: &Source<'f>,
+    flat: &FlatParts<'f>,
     logic: Name,
     scope: &mut Scope,
     system: System,
 ) -> Result<Script, NoMemory>
-    requires coding { codes_of coding.now ≡ coding_of (source_plain source.now) coding.now.width }
-    requires spelled { ∥ IsSpelled (script_with logic scope.old (plain_system system) (check_form (source_plain source.now) coding.now.width)) ∥₁ }
-    ensures { IfOk result (λ s. plain_script s ≡ script_with logic scope.old (plain_system system) (check_form (source_plain source.now) coding.now.width)) }
+    requires coding { codes_of coding.now ≡ coding_of (plain_parts flat.now) coding.now.width }
+    requires spelled { ∥ IsSpelled (script_with logic scope.old (plain_system system) (check_form (plain_parts flat.now) coding.now.width)) ∥₁ }
+    ensures { IfOk result (λ s. plain_script s ≡ script_with logic scope.old (plain_system system) (check_form (plain_parts flat.now) coding.now.width)) }
 {
-    match check_of(alloc, coding, source) {
+    match check_of(alloc, coding, flat) {
         Ok(check) => assembled(alloc, logic, scope, system, check),
         Err(e) => {
             drop(logic);
@@ -269,16 +269,16 @@ fn script_of_system<'f>(
 fn script_of_scope<'f>(
     alloc: Global,
     coding: &Coding,
-    source: &Source<'f>,
+    flat: &FlatParts<'f>,
     logic: Name,
     scope: &mut Scope,
 ) -> Result<Script, NoMemory>
-    requires coding { codes_of coding.now ≡ coding_of (source_plain source.now) coding.now.width }
-    requires spelled { ∥ IsSpelled (script_under logic scope.old (source_plain source.now) coding.now.width) ∥₁ }
-    ensures { IfOk result (λ s. plain_script s ≡ script_under logic scope.old (source_plain source.now) coding.now.width) }
+    requires coding { codes_of coding.now ≡ coding_of (plain_parts flat.now) coding.now.width }
+    requires spelled { ∥ IsSpelled (script_under logic scope.old (plain_parts flat.now) coding.now.width) ∥₁ }
+    ensures { IfOk result (λ s. plain_script s ≡ script_under logic scope.old (plain_parts flat.now) coding.now.width) }
 {
-    match system_of(alloc, coding, source) {
-        Ok(system) => script_of_system(alloc, coding, source, logic, scope, system),
+    match system_of(alloc, coding, flat) {
+        Ok(system) => script_of_system(alloc, coding, flat, logic, scope, system),
         Err(e) => {
             drop(logic);
             Err(e)
@@ -297,36 +297,36 @@ fn logic_of(alloc: Global) -> Result<Name, NoMemory>
 fn coded_script<'f>(
     alloc: Global,
     coding: &Coding,
-    source: &Source<'f>,
+    flat: &FlatParts<'f>,
     symbols: &Names,
     scope: &mut Scope,
 ) -> Result<Script, NoMemory>
     requires nothing { scope.old ≡ no_scope }
-    requires same { symbols.now ≡ source.now.symbols.now }
-    requires coding { codes_of coding.now ≡ coding_of (source_plain source.now) coding.now.width }
-    requires spelled { ∥ IsSpelled (script_form (source_plain source.now) coding.now.width) ∥₁ }
-    ensures { IfOk result (λ s. plain_script s ≡ script_form (source_plain source.now) coding.now.width) }
+    requires same { symbols.now ≡ flat.now.symbols.now }
+    requires coding { codes_of coding.now ≡ coding_of (plain_parts flat.now) coding.now.width }
+    requires spelled { ∥ IsSpelled (script_form (plain_parts flat.now) coding.now.width) ∥₁ }
+    ensures { IfOk result (λ s. plain_script s ≡ script_form (plain_parts flat.now) coding.now.width) }
 {
     declare_symbols(alloc, scope, symbols)?;
     let logic = logic_of(alloc)?;
-    script_of_scope(alloc, coding, source, logic, scope)
+    script_of_scope(alloc, coding, flat, logic, scope)
 }
 
-// The script of this source, whose integers have so many bits.
+// The script of this flat, whose integers have so many bits.
 fn script_from<'f>(
     alloc: Global,
     width: u32,
-    source: &Source<'f>,
+    flat: &FlatParts<'f>,
     symbols: &Names,
     scope: &mut Scope,
 ) -> Result<Script, NoMemory>
     requires nothing { scope.old ≡ no_scope }
-    requires same { symbols.now ≡ source.now.symbols.now }
-    requires spelled { ∥ IsSpelled (script_form (source_plain source.now) width) ∥₁ }
-    ensures { IfOk result (λ s. plain_script s ≡ script_form (source_plain source.now) width) }
+    requires same { symbols.now ≡ flat.now.symbols.now }
+    requires spelled { ∥ IsSpelled (script_form (plain_parts flat.now) width) ∥₁ }
+    ensures { IfOk result (λ s. plain_script s ≡ script_form (plain_parts flat.now) width) }
 {
-    let coding = coding_of(alloc, width, source.items)?;
-    coded_script(alloc, &coding, source, symbols, scope)
+    let coding = coding_of(alloc, width, flat.items)?;
+    coded_script(alloc, &coding, flat, symbols, scope)
 }
 
 /// The script of a flat form of these items, symbols and formulas, whose integers have so many bits.
@@ -343,10 +343,10 @@ pub(crate) fn script_in(
     ensures { IfOk result (λ s. plain_script s ≡ script_form (flat_in items.now symbols.now formulas.now) width) }
 {
     let set = symbol_set(alloc, symbols)?;
-    let source = Source {
+    let flat = FlatParts {
         items,
         symbols: &set,
         formulas,
     };
-    script_from(alloc, width, &source, symbols, scope)
+    script_from(alloc, width, &flat, symbols, scope)
 }

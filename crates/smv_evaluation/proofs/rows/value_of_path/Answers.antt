@@ -16,8 +16,8 @@ returns-in-Body c =
     ∙ subst (FoundKept c.args.table.now c.args.row.now c.args.label.now) (sym c.in-Body.ensures) h.2
     ∙ read_found c.args.table.now c.args.i c.args.row.now c.args.label.now c.args.path.now _ c.in-Body.ensures
 
-pub returns-in-Within : goal.returns-in-Within
-returns-in-Within c = c.no_seen.ensures ∙ read_found c.args.table.now c.args.i c.args.row.now c.args.label.now c.args.path.now _ c.in-Within.ensures
+pub returns-in-Instance : goal.returns-in-Instance
+returns-in-Instance c = c.no_seen.ensures ∙ read_found c.args.table.now c.args.i c.args.row.now c.args.label.now c.args.path.now _ c.in-Instance.ensures
 
 pub returns-in-Symbol : goal.returns-in-Symbol
 returns-in-Symbol c = read_found c.args.table.now c.args.i c.args.row.now c.args.label.now c.args.path.now _ c.in-Symbol.ensures

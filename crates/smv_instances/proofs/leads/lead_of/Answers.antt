@@ -17,12 +17,12 @@ returns-in-Variable c =
 pub returns-in-None : goal.returns-in-None
 returns-in-None c =
     let t = map instance_plain c.args.parts.now in
-    lead_one t c.args.i c.args.x.now _ c.one_deep-in-None.result (ap local_plain (sym c.in-Inner.is) ∙ c.requires.known) c.one_deep-in-None.ensures.depth (λ f. ap at_child (sym c.in-None.ensures) ∙ ap (found_plain t) (sym c.one_deep-in-None.ensures.target))
+    lead_one t c.args.i c.args.x.now _ c.one_deep-in-None.result (ap local_plain (sym c.in-Instance.is) ∙ c.requires.known) c.one_deep-in-None.ensures.depth (λ f. ap at_child (sym c.in-None.ensures) ∙ ap (found_plain t) (sym c.one_deep-in-None.ensures.target))
 
 pub returns-in-Some : goal.returns-in-Some
 returns-in-Some c =
     let t = map instance_plain c.args.parts.now in
-    lead_one t c.args.i c.args.x.now _ c.one_deep-in-Some.result (ap local_plain (sym c.in-Inner.is) ∙ c.requires.known) c.one_deep-in-Some.ensures.depth (λ f. ap at_child (sym c.in-Some.ensures) ∙ ap (found_plain t) (sym c.one_deep-in-Some.ensures.target))
+    lead_one t c.args.i c.args.x.now _ c.one_deep-in-Some.result (ap local_plain (sym c.in-Instance.is) ∙ c.requires.known) c.one_deep-in-Some.ensures.depth (λ f. ap at_child (sym c.in-Some.ensures) ∙ ap (found_plain t) (sym c.one_deep-in-Some.ensures.target))
 
 pub returns-in-Nothing : goal.returns-in-Nothing
 returns-in-Nothing c =

@@ -7,4 +7,4 @@ use Rattle.smv_model_types.proofs.Filling.{none_right}
 use Rattle.smv_model_types.proofs.variables.variables_of.Goals as goal
 
 pub loop-i-init : goal.loop-i-init
-loop-i-init c = none_right (map instance_plain c.args.table.now) (entries_seen c.nothing_in-entries.result) (λ i x. ap (option_map named_seen) (c.nothing_in-entries.ensures i x))
+loop-i-init c = none_right (map instance_plain c.args.table.now) (entries_seen c.in_ok-entries.entries) (λ i x. ap (option_map named_seen) (c.in_ok-entries.ensures i x))

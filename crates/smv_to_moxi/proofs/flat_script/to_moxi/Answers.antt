@@ -1,7 +1,7 @@
 use Rattle.std.proofs.Common.{◌∙◌}
 use Rattle.smv_flatten.specs.FlatModel.{flat_plain}
 use Rattle.smv_script.specs.Script.{script_of}
-use Rattle.smv_script_terms.specs.Sources.{flat_in}
+use Rattle.smv_script_terms.specs.FlatParts.{flat_in}
 use Rattle.smv_to_moxi.specs.Assembling.{script_form}
 use Rattle.smv_to_moxi.proofs.SpelledScripts.{parts_are, spelled_parts}
 use Rattle.smv_to_moxi.proofs.Scripts.{made_is}

@@ -11,7 +11,7 @@ use Rattle.smv_to_moxi.proofs.lift.read.Goals.{then-picks+in_ok-given+in_ok-push
 pub loop-item-init : goal.loop-item-init
 loop-item-init c = record {
   whole = c.as_slice-item-items.ensures ∙ c.items.ensures;
-  read = ap (λ gs. gs ++ rest_read c.args.flat.now.symbols (place_of_item (items_of c.args.flat.now)) c.args.part (at c.args.env.now) (items_of c.args.flat.now) 0) c.new-state.ensures;
+  read = ap (λ gs. gs ++ rest_read c.args.flat.now.symbols (place_of_item (items_of c.args.flat.now)) c.args.part (at c.args.env.now) (items_of c.args.flat.now) 0) c.in_ok-state.ensures;
   place = let first = c.requires.first in omega (arith, first);
 }
 

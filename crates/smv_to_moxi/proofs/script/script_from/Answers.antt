@@ -1,4 +1,4 @@
-use Rattle.smv_script_terms.specs.Sources.{source_plain}
+use Rattle.smv_script_terms.specs.FlatParts.{plain_parts}
 use Rattle.smv_to_moxi.specs.Assembling.{script_form}
 use Rattle.smv_to_moxi.proofs.Scripts.{coding_is, made_is, spelled_by, width_is}
 use Rattle.smv_to_moxi.proofs.script.script_from.Goals as goal
@@ -7,13 +7,13 @@ pub coded_script-requires : goal.coded_script-requires
 coded_script-requires c = record {
   nothing = c.requires.nothing;
   same = c.requires.same;
-  coding = coding_is c.in_ok-coding.coding.places.items c.in_ok-coding.coding.width c.args.source.now.items.now c.args.source.now.symbols.now c.args.source.now.formulas.now c.in_ok-coding.ensures.places;
+  coding = coding_is c.in_ok-coding.coding.places.items c.in_ok-coding.coding.width c.args.flat.now.items.now c.args.flat.now.symbols.now c.args.flat.now.formulas.now c.in_ok-coding.ensures.places;
   spelled =
-      spelled_by (script_form (source_plain c.args.source.now) c.in_ok-coding.coding.width) (script_form (source_plain c.args.source.now) c.args.width)
-      (width_is (source_plain c.args.source.now) c.in_ok-coding.coding.width c.args.width c.in_ok-coding.ensures.width) c.requires.spelled;
+      spelled_by (script_form (plain_parts c.args.flat.now) c.in_ok-coding.coding.width) (script_form (plain_parts c.args.flat.now) c.args.width)
+      (width_is (plain_parts c.args.flat.now) c.in_ok-coding.coding.width c.args.width c.in_ok-coding.ensures.width) c.requires.spelled;
 }
 
 pub returns : goal.returns
 returns c =
-    made_is c.coded_script.result (script_form (source_plain c.args.source.now) c.in_ok-coding.coding.width) (script_form (source_plain c.args.source.now) c.args.width)
-    (width_is (source_plain c.args.source.now) c.in_ok-coding.coding.width c.args.width c.in_ok-coding.ensures.width) c.coded_script.ensures
+    made_is c.coded_script.result (script_form (plain_parts c.args.flat.now) c.in_ok-coding.coding.width) (script_form (plain_parts c.args.flat.now) c.args.width)
+    (width_is (plain_parts c.args.flat.now) c.in_ok-coding.coding.width c.args.width c.in_ok-coding.ensures.width) c.coded_script.ensures

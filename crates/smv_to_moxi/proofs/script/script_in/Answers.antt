@@ -1,5 +1,5 @@
 use Rattle.std.proofs.Common.{sym}
-use Rattle.smv_script_terms.specs.Sources.{flat_in}
+use Rattle.smv_script_terms.specs.FlatParts.{flat_in}
 use Rattle.smv_to_moxi.specs.Assembling.{script_form}
 use Rattle.smv_to_moxi.proofs.Scripts.{made_is, set_is, spelled_by}
 use Rattle.smv_to_moxi.proofs.script.script_in.Goals as goal

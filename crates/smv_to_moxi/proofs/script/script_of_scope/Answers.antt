@@ -1,5 +1,5 @@
 use Rattle.moxi_scripts.specs.Script.{plain_system}
-use Rattle.smv_script_terms.specs.Sources.{source_plain}
+use Rattle.smv_script_terms.specs.FlatParts.{plain_parts}
 use Rattle.smv_to_moxi.specs.Assembling.{check_form, system_form, script_under, script_with}
 use Rattle.smv_to_moxi.proofs.Scripts.{made_is, spelled_by, with_system}
 use Rattle.smv_to_moxi.proofs.script.script_of_scope.Goals as goal
@@ -11,15 +11,15 @@ pub script_of_system-requires : goal.script_of_system-requires
 script_of_system-requires c = record {
   coding = c.requires.coding;
   spelled =
-      spelled_by (script_with c.args.logic c.args.scope.now (plain_system c.in-Ok.system) (check_form (source_plain c.args.source.now) c.args.coding.now.width))
-      (script_under c.args.logic c.args.scope.now (source_plain c.args.source.now) c.args.coding.now.width)
-      (with_system c.args.logic c.args.scope.now (plain_system c.in-Ok.system) (system_form (source_plain c.args.source.now) c.args.coding.now.width) (check_form (source_plain c.args.source.now) c.args.coding.now.width) c.in-Ok.ensures)
+      spelled_by (script_with c.args.logic c.args.scope.now (plain_system c.in-Ok.system) (check_form (plain_parts c.args.flat.now) c.args.coding.now.width))
+      (script_under c.args.logic c.args.scope.now (plain_parts c.args.flat.now) c.args.coding.now.width)
+      (with_system c.args.logic c.args.scope.now (plain_system c.in-Ok.system) (system_form (plain_parts c.args.flat.now) c.args.coding.now.width) (check_form (plain_parts c.args.flat.now) c.args.coding.now.width) c.in-Ok.ensures)
       c.requires.spelled;
 }
 
 pub returns-in-Ok : goal.returns-in-Ok
 returns-in-Ok c =
-    made_is c.script_of_system.result (script_with c.args.logic c.args.scope.now (plain_system c.in-Ok.system) (check_form (source_plain c.args.source.now) c.args.coding.now.width))
-    (script_under c.args.logic c.args.scope.now (source_plain c.args.source.now) c.args.coding.now.width)
-    (with_system c.args.logic c.args.scope.now (plain_system c.in-Ok.system) (system_form (source_plain c.args.source.now) c.args.coding.now.width) (check_form (source_plain c.args.source.now) c.args.coding.now.width) c.in-Ok.ensures)
+    made_is c.script_of_system.result (script_with c.args.logic c.args.scope.now (plain_system c.in-Ok.system) (check_form (plain_parts c.args.flat.now) c.args.coding.now.width))
+    (script_under c.args.logic c.args.scope.now (plain_parts c.args.flat.now) c.args.coding.now.width)
+    (with_system c.args.logic c.args.scope.now (plain_system c.in-Ok.system) (system_form (plain_parts c.args.flat.now) c.args.coding.now.width) (check_form (plain_parts c.args.flat.now) c.args.coding.now.width) c.in-Ok.ensures)
     c.script_of_system.ensures
