@@ -1,5 +1,5 @@
 -- The arguments of a line where they lie.
-use Rattle.std.proofs.Common.{◌≡◌, ◌≢◌, ◌<◌, ◌≤◌, ℕ, zero, suc, [], ◌∷◌, length, refl, sym, ap, subst, arith, slice_index_or}
+use Rattle.std.proofs.Common.{◌≡◌, ◌≢◌, ◌<◌, ◌≤◌, ℕ, zero, suc, [], ◌∷◌, length, refl, sym, ap, subst, ◌∙◌, arith, slice_index_or}
 use Rattle.std.proofs.lemmas.List.{length-take-le}
 use Rattle.btor_tree.specs.declared.args.Arg.{Arg}
 use Rattle.btor_tree.specs.ListedArgs.{listed}
@@ -33,3 +33,6 @@ third_at n (suc (suc (suc i))) a b c m e f h = absurd (omega (arith, h, m, as_ma
 
 pub two_there : (n : ℕ) (a b c : Arg) → n ≡ 2 → listed n a b c ≡ a ∷ b ∷ []
 two_there n a b c e = ap (λ m. listed m a b c) e
+
+pub not_two : (n : ℕ) (a b c : Arg) → n ≤ 3 → n ≢ 2 → length (listed n a b c) ≢ 2
+not_two n a b c m e f = e (as_many n a b c m ∙ f)

@@ -1,5 +1,5 @@
 // The arguments of a line.
-ghost use Rattle.std.specs.Prelude.{◌≡◌, ◌<◌, [], ◌∷◌, false, length, slice_index_or, IfSome};
+ghost use Rattle.std.specs.Prelude.{◌≡◌, ◌≢◌, ◌<◌, [], ◌∷◌, false, length, slice_index_or, IfSome, IfNone};
 
 use std::marker::Model;
 
@@ -127,9 +127,10 @@ impl Args {
     }
 
     /// Both arguments, where there are two.
-    #[tactic(auto, using(crate::proofs::Slots::two_there))]
+    #[tactic(auto, using(crate::proofs::Slots::two_there, crate::proofs::Slots::not_two))]
     pub fn pair(&self) -> Option<(Arg, Arg)>
         ensures there { IfSome result (λ both. self.now ≡ both.0 ∷ both.1 ∷ []) }
+        ensures missing { IfNone result (length self.now ≢ 2) }
     {
         if self.count == 2 {
             Some((self.first, self.second))
