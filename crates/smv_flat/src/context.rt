@@ -4,7 +4,7 @@ ghost use Rattle.std.specs.Coded.{Coded, Coded-set, codes, Π_prop};
 ghost use Rattle.smv_text.specs.declared.tree.VarKind.TheVariants as OfVarKind;
 ghost use Rattle.smv_instances.specs.View.{instance_plain};
 ghost use Rattle.smv_items.specs.FlatItems.{origins_of, symbols_of, leaf_in};
-ghost use Rattle.smv_items.specs.FlatOrigins.{leaf_plain, AreBodies, AreVariables};
+ghost use Rattle.smv_items.specs.FlatOrigins.{leaf_plain, AreBodies, AreVariables, AreInstanceNumbers};
 
 use smv_instances::Table;
 use smv_items::{ItemNumbers, Leaf, Symbols, leaf_at};
@@ -20,8 +20,9 @@ pub(crate) struct Context<'s, 'a, 'n, N> {
     pub(crate) numbers: &'s ItemNumbers<'a, 'n>,
     pub(crate) symbols: &'s Symbols,
     ghost bodies: { AreBodies (origins_of (map instance_plain table.now)) numbers.now.bodies } by { let number : Coded (Option ℕ) = Prim.hlevel codes in Π_prop (λ i. Π_prop (λ x. Coded-set number _ _)) },
-    ghost states: { AreVariables (map instance_plain table.now) OfVarKind.State (origins_of (map instance_plain table.now)) numbers.now.states } by { let number : Coded (Option ℕ) = Prim.hlevel codes in Π_prop (λ x. Coded-set number _ _) },
-    ghost inputs: { AreVariables (map instance_plain table.now) OfVarKind.Input (origins_of (map instance_plain table.now)) numbers.now.inputs } by { let number : Coded (Option ℕ) = Prim.hlevel codes in Π_prop (λ x. Coded-set number _ _) },
+    ghost states: { AreVariables (map instance_plain table.now) OfVarKind.State (origins_of (map instance_plain table.now)) numbers.now.paths.states } by { let number : Coded (Option ℕ) = Prim.hlevel codes in Π_prop (λ x. Coded-set number _ _) },
+    ghost inputs: { AreVariables (map instance_plain table.now) OfVarKind.Input (origins_of (map instance_plain table.now)) numbers.now.paths.inputs } by { let number : Coded (Option ℕ) = Prim.hlevel codes in Π_prop (λ x. Coded-set number _ _) },
+    ghost variables: { AreInstanceNumbers (map instance_plain table.now) numbers.now.paths numbers.now.variables } by { let number : Coded (Option ℕ) = Prim.hlevel codes in Π_prop (λ is_input. Π_prop (λ i. Π_prop (λ x. Coded-set number _ _))) },
     ghost all_symbols: { symbols.now ≡ symbols_of (map instance_plain table.now) } by { let texts : Coded (List (List ℕ)) = Prim.hlevel codes in Coded-set texts _ _ },
 }
 

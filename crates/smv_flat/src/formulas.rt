@@ -15,7 +15,7 @@ use crate::flat::flat;
 use crate::forms::{FlatFormula, Role, SourceFormula};
 use crate::naming::Naming;
 use smv_instances::{Instance, Table};
-use smv_items::{Content, ItemNumbers, Leaf, Origin, Symbols, origins_at};
+use smv_items::{Content, ItemNumbers, Leaf, Origin, Symbols, put_origins};
 use smv_text::{Assignment, Assignments, Element, Elements, Expr, When};
 use smv_types::{Position, Standing};
 use std::alloc::Global;
@@ -274,10 +274,12 @@ fn all_formulas<'s, 'a, 'n, N: Naming>(
     ensures { IfOk result (λ fs. map form_plain fs.items ≡ forms_of (map instance_plain context.now.table.now)) }
 {
     let mut forms = Vec::new(alloc);
+    let mut own = Vec::new(alloc);
     let mut first: usize = 0;
     for i in 0..context.table.len() {
         let at = context.table.at(i);
-        let own = origins_at(alloc, i, at)?;
+        own.clear();
+        put_origins(&mut own, i, at)?;
         add_instance(alloc, context, &mut forms, first, i, at, &own)?;
         let Some(next) = first.checked_add(own.len()) else {
             return Err(NoMemory);

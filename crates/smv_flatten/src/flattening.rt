@@ -28,13 +28,13 @@ use smv_model_types::Types;
 use smv_text::Source;
 use smv_width::width_of;
 use std::alloc::Global;
-use text_core::{NoMemory, Text};
+use text_core::{Name, NoMemory};
 
 // Where the items of a model come from, their dotted paths, and the symbols.
 #[derive(Drop)]
 struct Sources<'a> {
     origins: Origins<'a>,
-    paths: Vec<Text>,
+    paths: Vec<Name>,
     symbols: Symbols,
 }
 
@@ -59,7 +59,7 @@ fn flat_formulas<'a>(
     table: &Table<'a>,
     types: &Types<'a>,
     origins: &[Origin<'a>],
-    paths: &[Text],
+    paths: &[Name],
     symbols: &Symbols,
 ) -> Result<Vec<FlatFormula>, NoMemory>
     requires typed { AreTypesOf (map instance_plain table.now) types.now }
@@ -69,7 +69,7 @@ fn flat_formulas<'a>(
     requires symbols { symbols.now ≡ symbols_of (map instance_plain table.now) }
     ensures { IfOk result (λ fs. map form_plain fs.items ≡ forms_of (map instance_plain table.now)) }
 {
-    let numbers = numbers_of(alloc, origins, paths)?;
+    let numbers = numbers_of(alloc, table, origins, paths)?;
     let names = TypeNames { table, types };
     formulas_in(alloc, &names, table, &numbers, symbols)
 }

@@ -13,7 +13,7 @@ use smv_items::{Content, FlatItem, ItemKind, Origin};
 use smv_model_types::Types;
 use smv_text::VarKind;
 use std::alloc::Global;
-use text_core::{Name, NoMemory, Text};
+use text_core::{Name, NoMemory};
 
 fn kind_of(content: &Content) -> ItemKind
     ensures { result ≡ kind_of (content_plain content.now) }
@@ -43,7 +43,7 @@ fn flat_item<'a>(
     table: &Table<'a>,
     types: &Types<'a>,
     origin: &Origin<'a>,
-    path: &[u8],
+    path: &Name,
 ) -> Result<FlatItem, NoMemory>
     requires typed { AreTypesOf (map instance_plain table.now) types.now }
     requires path { path.now ≡ path_of (map instance_plain table.now) (origin_plain origin.now) }
@@ -52,7 +52,7 @@ fn flat_item<'a>(
     let instance = small(origin.instance)?;
     let ty = item_type(alloc, table, types, &origin.content)?;
     let members = members_of(alloc, &origin.content)?;
-    let name = Name::of(alloc, path)?;
+    let name = path.duplicate(alloc)?;
     let kind = kind_of(&origin.content);
     Ok(FlatItem {
         name,
@@ -70,7 +70,7 @@ pub(crate) fn flat_items<'a>(
     table: &Table<'a>,
     types: &Types<'a>,
     origins: &[Origin<'a>],
-    paths: &[Text],
+    paths: &[Name],
 ) -> Result<Vec<FlatItem>, NoMemory>
     requires typed { AreTypesOf (map instance_plain table.now) types.now }
     requires long { length paths.now ≡ length origins.now }
@@ -79,7 +79,7 @@ pub(crate) fn flat_items<'a>(
 {
     let mut items = Vec::new(alloc);
     for k in 0..origins.len() {
-        let item = flat_item(alloc, table, types, &origins[k], paths[k].bytes())?;
+        let item = flat_item(alloc, table, types, &origins[k], &paths[k])?;
         items.push(item)?;
     }
     Ok(items)

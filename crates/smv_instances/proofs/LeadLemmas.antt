@@ -1,5 +1,5 @@
 -- Steps of a walk over leads.
-use Rattle.std.proofs.Common.{◌≡◌, ℕ, zero, suc, ◌+◌, ◌<◌, ◌≤◌, nat_lt, Bool, true, false, ◌&&◌, ◌||◌, ◌==◌, if◌then◌else◌, List, [], ◌∷◌, ◌++◌, take, length, Some, bytes_eq, refl, sym, ap, ◌∙◌, subst, arith}
+use Rattle.std.proofs.Common.{◌≡◌, ℕ, zero, suc, ◌+◌, ◌<◌, ◌≤◌, nat_lt, Bool, true, false, ◌&&◌, ◌||◌, ◌==◌, if◌then◌else◌, List, [], ◌∷◌, ◌++◌, take, length, Option, Some, None, bytes_eq, refl, sym, ap, ◌∙◌, subst, arith}
 use mathlib.Core.Logic.{⊎_elim}
 use Rattle.std.specs.Prelude.{slice_index_or}
 use Rattle.std.specs.List.{list_any}
@@ -12,7 +12,8 @@ use Rattle.smv_text.specs.declared.tree.Path.{Path}
 use Rattle.smv_instances.specs.declared.leads.Lead.{Lead}
 use Rattle.smv_instances.specs.declared.leads.Key.{Key}
 use Rattle.smv_meaning.specs.Instances.{Instance}
-use Rattle.smv_meaning.specs.Names.{Local, alias, local, Found, variable_at, body_at, instance_at, symbol_of, cyclic, none, landed, look, onward, walk, resolved}
+use Rattle.smv_meaning.specs.Formulas.{instance_within}
+use Rattle.smv_meaning.specs.Names.{Local, alias, local, Found, variable_at, body_at, instance_at, symbol_of, cyclic, none, at_child, landed, look, steps_of, onward, walk, single, resolved}
 use Rattle.smv_instances.specs.Rows.{row_in}
 use Rattle.smv_instances.specs.Leads.{until, LeadsTo, NameLeads, Right, IsOpen, IsWaiting, AllWait, IsClosed, is_key, WalkOf, KeyWalk}
 use Rattle.smv_instances.specs.declared.leads.Walk.{Walk}
@@ -39,6 +40,14 @@ pub look_one : (t : List Instance) (i : ℕ) (x : List ℕ) (l : Local) (m : Fou
 unfolding look
 look_one t i x l m e h zero = refl
 look_one t i x l m e h (suc n) = ap (landed t (look t n) i x) (sym e) ∙ h (look t n) ∙ sym (past 1 (suc n) m (omega arith))
+
+-- what a name leads to that is no alias
+pub looked_once : (t : List Instance) (i : ℕ) (x : List ℕ) (l : Local) (m : Found) → l ≡ local t i x → ((f : ℕ → List ℕ → Found) → landed t f i x l ≡ m) → look t (steps_of t) i x ≡ m
+looked_once t i x l m e h = look_one t i x l m e h (steps_of t) ∙ past 1 (steps_of t) m (omega arith)
+
+pub child_within : (c : Option ℕ) → c ≡ instance_within (at_child c)
+child_within None = refl
+child_within (Some n) = refl
 
 -- an alias leads where its path does, one step deeper
 pub alias_leads : (t : List Instance) (i : ℕ) (x : List ℕ) (j : ℕ) (p : Path) (r : ℕ) (m : Found) → alias j p ≡ local t i x → ((n : ℕ) → resolved t (look t n) j p ≡ until r n m) → (n : ℕ) → look t n i x ≡ until (r + 1) n m
@@ -119,6 +128,11 @@ one_onward none = refl
 -- a path of one name leads where the name does
 pub one_walked : (f : ℕ → List ℕ → Found) (i : ℕ) (x : List ℕ) → walk f i (x ∷ []) ≡ f i x
 one_walked f i x = one_onward (f i x)
+
+-- what a path of one name leads to that is no alias
+pub single_is : (t : List Instance) (i : ℕ) (x : List ℕ) (l k : Local) (m : Found) → l ≡ k → k ≡ local t i x → ((f : ℕ → List ℕ → Found) → landed t f i x l ≡ m) → walk (look t (steps_of t)) i (x ∷ []) ≡ single t (look t (steps_of t)) i x l
+    → m ≡ single t (look t (steps_of t)) i x k
+single_is t i x l k m e r h w = sym (looked_once t i x l m (e ∙ r) h) ∙ sym (one_walked (look t (steps_of t)) i x) ∙ w ∙ ap (single t (look t (steps_of t)) i x) e
 
 pub one_ends : (t : List Instance) (i : ℕ) (x : List ℕ) (lead : Lead) → LeadsTo t (λ n. look t n i x) lead → LeadsTo t (λ n. walk (look t n) i (x ∷ [])) lead
 one_ends t i x lead h n = one_walked (look t n) i x ∙ h n

@@ -4,3 +4,5 @@ pub mod KeyLemmas
 pub mod LeadLemmas
 pub mod KnownLemmas
 pub mod TableLemmas
+pub mod LastLemmas
+pub mod PathLemmas

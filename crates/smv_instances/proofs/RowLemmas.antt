@@ -1,5 +1,5 @@
 -- Values of names in rows.
-use Rattle.std.proofs.Common.{◌≡◌, ℕ, zero, suc, ◌+◌, ◌<◌, ◌≤◌, ◌-◌, ◌%◌, Bool, true, false, ◌==◌, ◌&&◌, if◌then◌else◌, List, [], ◌∷◌, ◌++◌, take, length, Some, None, slice_get, bytes_eq, refl, sym, ap, ◌∙◌, subst, arith, Vec, Global}
+use Rattle.std.proofs.Common.{◌≡◌, ℕ, zero, suc, ◌+◌, ◌<◌, ◌≤◌, ◌-◌, ◌%◌, Bool, true, false, ◌==◌, ◌&&◌, if◌then◌else◌, List, [], ◌∷◌, ◌++◌, take, length, Option, Some, None, slice_get, bytes_eq, refl, sym, ap, ◌∙◌, subst, arith}
 use Rattle.std.specs.Prelude.{slice_index_or}
 use Rattle.std.proofs.Math.ListN.{set}
 use Rattle.std.proofs.Math.Seq.{take-suc}
@@ -8,8 +8,9 @@ use Rattle.std.proofs.lemmas.Slice.Eq.{bytes_eq-Decides}
 use Rattle.std.proofs.lemmas.Option.{slice_get_read}
 use Rattle.std.proofs.lemmas.List.{length-set}
 use Rattle.smv_instances.specs.declared.rows.NamedValue.{NamedValue}
+use Rattle.smv_instances.specs.declared.rows.Bucket.{Bucket}
 use Rattle.smv_instances.specs.declared.rows.NameRows.{NameRows}
-use Rattle.smv_instances.specs.Rows.{number_on, or_row, last_named, bucket_named, buckets_named, few_or_many, row_named, row_under}
+use Rattle.smv_instances.specs.Rows.{number_on, or_row, last_named, rows_of, held_named, bucket_named, buckets_named, few_or_many, row_named, row_under}
 
 -- a row behind others
 pub last_push : {V : Type 0} (rs : List (NamedValue V)) (r : NamedValue V) (x : List ℕ) → last_named (rs ++ r ∷ []) x ≡ (if bytes_eq r.name.now x then Some r.value else last_named rs x)
@@ -19,6 +20,15 @@ last_push (q ∷ rs) r x = ap (λ o. or_row o (bytes_eq q.name.now x) q.value) (
     over : (b : Bool) → or_row (if b then Some r.value else last_named rs x) (bytes_eq q.name.now x) q.value ≡ (if b then Some r.value else or_row (last_named rs x) (bytes_eq q.name.now x) q.value)
     over true = refl
     over false = refl
+
+-- where the rest has no row of the name, the first row tells
+pub held_first : {V : Type 0} (first : Option (NamedValue V)) (rest : List (NamedValue V)) (x : List ℕ) (o : Option V) → last_named rest x ≡ None → o ≡ last_named (rows_of first []) x → o ≡ last_named (rows_of first rest) x
+held_first None rest x o e h = h ∙ sym e
+held_first (Some r) rest x o e h = h ∙ ap (λ p. or_row p (bytes_eq r.name.now x) r.value) (sym e)
+
+pub held_rest : {V : Type 0} (first : Option (NamedValue V)) (rest : List (NamedValue V)) (x : List ℕ) (v : V) → last_named rest x ≡ Some v → Some v ≡ last_named (rows_of first rest) x
+held_rest None rest x v e = sym e
+held_rest (Some r) rest x v e = ap (λ p. or_row p (bytes_eq r.name.now x) r.value) (sym e)
 
 set_here : {X : Type 0} (xs : List X) (i : ℕ) (w : X) → i < length xs → slice_get (set xs i w) i ≡ Some w
 set_here [] i w h = absurd (omega (arith, h))
@@ -32,10 +42,22 @@ set_elsewhere (x ∷ xs) zero (suc j) w h = refl
 set_elsewhere (x ∷ xs) (suc i) zero w h = refl
 set_elsewhere (x ∷ xs) (suc i) (suc j) w h = set_elsewhere xs i j w (λ e. h (ap suc e))
 
--- a row behind those of its bucket
-pub bucket_put : {V : Type 0} (bs new : List (Vec (NamedValue V) Global)) (k : ℕ) (b more : Vec (NamedValue V) Global) (r : NamedValue V) (name : List ℕ) (v : V) → k ≡ number_on 0 name % length bs → k < length bs → b ≡ slice_index_or bs k b
-    → more.items ≡ b.items ++ r ∷ [] → r.name.now ≡ name → r.value ≡ v → new ≡ set bs k more → (x : List ℕ) → buckets_named new x ≡ (if bytes_eq name x then Some v else buckets_named bs x)
-bucket_put bs new k b more r name v ek lk eb em en ev es x = ap (λ l. buckets_named l x) es ∙ ap (λ n. bucket_named (slice_get (set bs k more) (number_on 0 x % n)) x) (length-set bs k more) ∙ by (k == place) refl
+-- the first row of a bucket
+pub first_put : {V : Type 0} (first : Option (NamedValue V)) (rest : List (NamedValue V)) (r : NamedValue V) → first ≡ None → rest ≡ []
+    → (x : List ℕ) → last_named (rows_of (Some r) rest) x ≡ (if bytes_eq r.name.now x then Some r.value else last_named (rows_of first rest) x)
+first_put first rest r ef er x =
+    ap (λ l. last_named (r ∷ l) x) er ∙ ap (λ l. if bytes_eq r.name.now x then Some r.value else last_named l x) (sym (ap (λ o. rows_of o rest) ef ∙ er))
+
+-- a row behind the others of a bucket
+pub rest_put : {V : Type 0} (first : Option (NamedValue V)) (rest new : List (NamedValue V)) (r : NamedValue V) → new ≡ rest ++ r ∷ []
+    → (x : List ℕ) → last_named (rows_of first new) x ≡ (if bytes_eq r.name.now x then Some r.value else last_named (rows_of first rest) x)
+rest_put None rest new r e x = ap (λ l. last_named l x) e ∙ last_push rest r x
+rest_put (Some f) rest new r e x = ap (λ l. last_named (f ∷ l) x) e ∙ last_push (f ∷ rest) r x
+
+-- a name more in its bucket
+pub bucket_put : {V : Type 0} (bs new : List (Bucket V)) (k : ℕ) (b more : Bucket V) (name : List ℕ) (v : V) → k ≡ number_on 0 name % length bs → k < length bs → b ≡ slice_index_or bs k b
+    → ((x : List ℕ) → held_named more x ≡ (if bytes_eq name x then Some v else held_named b x)) → new ≡ set bs k more → (x : List ℕ) → buckets_named new x ≡ (if bytes_eq name x then Some v else buckets_named bs x)
+bucket_put bs new k b more name v ek lk eb em es x = ap (λ l. buckets_named l x) es ∙ ap (λ n. bucket_named (slice_get (set bs k more) (number_on 0 x % n)) x) (length-set bs k more) ∙ by (k == place) refl
   where
     place : ℕ
     place = number_on 0 x % length bs
@@ -46,8 +68,7 @@ bucket_put bs new k b more r name v ek lk eb em en ev es x = ap (λ l. buckets_n
     by : (c : Bool) → (k == place) ≡ c → bucket_named (slice_get (set bs k more) place) x ≡ (if bytes_eq name x then Some v else buckets_named bs x)
     by true h =
         let e : k ≡ place = eqb-true k place h in
-        ap (λ p. bucket_named (slice_get (set bs k more) p) x) (sym e) ∙ ap (λ o. bucket_named o x) (set_here bs k more lk)
-        ∙ ap (λ l. last_named l x) em ∙ last_push b.items r x ∙ ap (λ n. if bytes_eq n x then Some r.value else last_named b.items x) en ∙ ap (λ w. if bytes_eq name x then Some w else last_named b.items x) ev
+        ap (λ p. bucket_named (slice_get (set bs k more) p) x) (sym e) ∙ ap (λ o. bucket_named o x) (set_here bs k more lk) ∙ em x
         ∙ ap (λ o. if bytes_eq name x then Some v else bucket_named o x) (sym at) ∙ ap (λ p. if bytes_eq name x then Some v else bucket_named (slice_get bs p) x) e
     by false h = ap (λ o. bucket_named o x) (set_elsewhere bs k place more apart) ∙ over (bytes_eq name x) refl
       where
@@ -59,14 +80,14 @@ bucket_put bs new k b more r name v ek lk eb em en ev es x = ap (λ l. buckets_n
         over false q = refl
 
 -- a bucket more that is empty
-pub still_empty : {V : Type 0} (bs new : List (Vec (NamedValue V) Global)) (b : Vec (NamedValue V) Global) → new ≡ bs ++ b ∷ [] → b.items ≡ [] → ((i : ℕ) (x : List ℕ) → bucket_named (slice_get bs i) x ≡ None) → (i : ℕ) (x : List ℕ) → bucket_named (slice_get new i) x ≡ None
+pub still_empty : {V : Type 0} (bs new : List (Bucket V)) (b : Bucket V) → new ≡ bs ++ b ∷ [] → rows_of b.first b.rest.items ≡ [] → ((i : ℕ) (x : List ℕ) → bucket_named (slice_get bs i) x ≡ None) → (i : ℕ) (x : List ℕ) → bucket_named (slice_get new i) x ≡ None
 still_empty {V} bs new b e n h i x = ap (λ l. bucket_named (slice_get l i) x) e ∙ over bs i h
   where
     end : (j : ℕ) → bucket_named (slice_get (b ∷ []) j) x ≡ None
     end zero = ap (λ l. last_named l x) n
     end (suc j) = refl
 
-    over : (cs : List (Vec (NamedValue V) Global)) (j : ℕ) → ((i : ℕ) (y : List ℕ) → bucket_named (slice_get cs i) y ≡ None) → bucket_named (slice_get (cs ++ b ∷ []) j) x ≡ None
+    over : (cs : List (Bucket V)) (j : ℕ) → ((i : ℕ) (y : List ℕ) → bucket_named (slice_get cs i) y ≡ None) → bucket_named (slice_get (cs ++ b ∷ []) j) x ≡ None
     over [] j g = end j
     over (c ∷ cs) zero g = g zero x
     over (c ∷ cs) (suc j) g = over cs j (λ i y. g (suc i) y)
@@ -82,19 +103,17 @@ pub last_passed : {V : Type 0} (rs : List (NamedValue V)) (k : ℕ) (r : NamedVa
     → last_named (take (k - 1) rs) x ≡ last_named rs x
 last_passed rs k r x h l e b w = sym (ap (λ o. if o then Some r.value else last_named (take (k - 1) rs) x) b) ∙ sym (last_push (take (k - 1) rs) r x) ∙ ap (λ ts. last_named ts x) (sym (taken rs k r h l e)) ∙ w
 
--- a row behind the few
-pub few_put : {V : Type 0} (few new : List (NamedValue V)) (bs : List (Vec (NamedValue V) Global)) (r : NamedValue V) (name : List ℕ) (v : V) → bs ≡ [] → new ≡ few ++ r ∷ [] → r.name.now ≡ name → r.value ≡ v
+-- a name more among the few
+pub few_put : {V : Type 0} (few new : Bucket V) (bs : List (Bucket V)) (name : List ℕ) (v : V) → bs ≡ [] → ((x : List ℕ) → held_named new x ≡ (if bytes_eq name x then Some v else held_named few x))
     → (x : List ℕ) → few_or_many new bs x ≡ (if bytes_eq name x then Some v else few_or_many few bs x)
-few_put few new bs r name v eb en ex ev x =
-    ap (λ l. few_or_many new l x) eb ∙ ap (λ l. last_named l x) en ∙ last_push few r x ∙ ap (λ n. if bytes_eq n x then Some r.value else last_named few x) ex ∙ ap (λ w. if bytes_eq name x then Some w else last_named few x) ev
-    ∙ ap (λ l. if bytes_eq name x then Some v else few_or_many few l x) (sym eb)
+few_put few new bs name v eb e x = ap (λ l. few_or_many new l x) eb ∙ e x ∙ ap (λ l. if bytes_eq name x then Some v else few_or_many few l x) (sym eb)
 
-pub many_is : {V : Type 0} (few : List (NamedValue V)) (bs : List (Vec (NamedValue V) Global)) (x : List ℕ) → 0 < length bs → few_or_many few bs x ≡ buckets_named bs x
+pub many_is : {V : Type 0} (few : Bucket V) (bs : List (Bucket V)) (x : List ℕ) → 0 < length bs → few_or_many few bs x ≡ buckets_named bs x
 many_is few [] x h = absurd (omega (arith, h))
 many_is few (b ∷ bs) x h = refl
 
--- a row among the many
-pub many_put : {V : Type 0} (few : List (NamedValue V)) (bs new : List (Vec (NamedValue V) Global)) (name : List ℕ) (v : V) → 0 < length bs → length new ≡ length bs
+-- a name more among the many
+pub many_put : {V : Type 0} (few : Bucket V) (bs new : List (Bucket V)) (name : List ℕ) (v : V) → 0 < length bs → length new ≡ length bs
     → ((x : List ℕ) → buckets_named new x ≡ (if bytes_eq name x then Some v else buckets_named bs x))
     → (x : List ℕ) → few_or_many few new x ≡ (if bytes_eq name x then Some v else few_or_many few bs x)
 many_put few bs new name v h l e x = many_is few new x (subst (λ n. 0 < n) (sym l) h) ∙ e x ∙ ap (λ o. if bytes_eq name x then Some v else o) (sym (many_is few bs x h))

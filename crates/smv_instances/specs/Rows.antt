@@ -1,7 +1,7 @@
 -- Values of names in rows.
 use Rattle.std.specs.Prelude.{ℕ, ◌+◌, ◌*◌, ◌%◌, Bool, if◌then◌else◌, List, [], ◌∷◌, length, Option, Some, None, slice_get, bytes_eq}
-use Rattle.std.proofs.Common.{Vec, Global}
 use Rattle.smv_instances.specs.declared.rows.NamedValue.{NamedValue}
+use Rattle.smv_instances.specs.declared.rows.Bucket.{Bucket}
 use Rattle.smv_instances.specs.declared.rows.NameRows.{NameRows}
 use Rattle.smv_instances.specs.declared.instance_rows.InstanceRows.{InstanceRows}
 
@@ -19,20 +19,29 @@ abbrev pub last_named : {V : Type 0} → List (NamedValue V) → List ℕ → Op
 last_named [] x = None
 last_named (r ∷ rs) x = or_row (last_named rs x) (bytes_eq r.name.now x) r.value
 
-abbrev pub bucket_named : {V : Type 0} → Option (Vec (NamedValue V) Global) → List ℕ → Option V
-bucket_named None x = None
-bucket_named (Some b) x = last_named b.items x
+-- the rows of a bucket
+abbrev pub rows_of : {V : Type 0} → Option (NamedValue V) → List (NamedValue V) → List (NamedValue V)
+rows_of None rest = rest
+rows_of (Some r) rest = r ∷ rest
 
-abbrev pub buckets_named : {V : Type 0} → List (Vec (NamedValue V) Global) → List ℕ → Option V
+-- the value that a name was given last in a bucket
+abbrev pub held_named : {V : Type 0} → Bucket V → List ℕ → Option V
+held_named b x = last_named (rows_of b.first b.rest.items) x
+
+abbrev pub bucket_named : {V : Type 0} → Option (Bucket V) → List ℕ → Option V
+bucket_named None x = None
+bucket_named (Some b) x = held_named b x
+
+abbrev pub buckets_named : {V : Type 0} → List (Bucket V) → List ℕ → Option V
 buckets_named bs x = bucket_named (slice_get bs (number_on 0 x % length bs)) x
 
-abbrev pub few_or_many : {V : Type 0} → List (NamedValue V) → List (Vec (NamedValue V) Global) → List ℕ → Option V
-few_or_many few [] x = last_named few x
+abbrev pub few_or_many : {V : Type 0} → Bucket V → List (Bucket V) → List ℕ → Option V
+few_or_many few [] x = held_named few x
 few_or_many few (b ∷ bs) x = buckets_named (b ∷ bs) x
 
 -- the value of a name
-abbrev pub row_named : {V : Type 0} → NameRows V → List ℕ → Option V
-row_named m x = few_or_many m.few.items m.many.items x
+unfoldable pub row_named : {V : Type 0} → NameRows V → List ℕ → Option V
+row_named m x = few_or_many m.few m.many.items x
 
 abbrev pub row_under : {V : Type 0} → Option (NameRows V) → List ℕ → Option V
 row_under None x = None

@@ -98,18 +98,17 @@ fn all_retried<'a>(
     Ok(changed)
 }
 
-// Follows the alias, and before it each open alias that it comes to and that was not yet followed.
+// Follows the alias, and before it each open alias that it comes to and that was not yet followed. The stack is empty again behind it.
 fn searched<'a>(
-    alloc: Global,
     parts: &Parts<'a>,
     leads: &mut Leads<'a>,
     opened: &mut InstanceMap<'a, bool>,
+    stack: &mut Vec<Key<'a>>,
     first: Key<'a>,
 ) -> Result<(), NoMemory>
     requires right { Right (map instance_plain parts.now) leads.old }
     ensures { OnOk result (Right (map instance_plain parts.now) leads.new) }
 {
-    let mut stack = Vec::new(alloc);
     stack.push(first)?;
     for _ in 0..usize::MAX {
         let Some(key) = stack.pop() else {
@@ -128,6 +127,24 @@ fn searched<'a>(
     Ok(())
 }
 
+// Follows each of these parameters that is an alias.
+fn all_searched<'a>(
+    alloc: Global,
+    parts: &Parts<'a>,
+    leads: &mut Leads<'a>,
+    keys: &[Key<'a>],
+) -> Result<(), NoMemory>
+    requires right { Right (map instance_plain parts.now) leads.old }
+    ensures { OnOk result (Right (map instance_plain parts.now) leads.new) }
+{
+    let mut opened = nothing_in(alloc);
+    let mut stack = Vec::new(alloc);
+    for key in keys {
+        searched(parts, leads, &mut opened, &mut stack, *key)?;
+    }
+    Ok(())
+}
+
 /// The leads of all aliases but of those that lead into cycles. The search keeps them all; what is open then is tried until
 /// nothing more is kept, so that each open alias comes to an open one.
 pub fn leads_of<'a>(alloc: Global, parts: &Parts<'a>) -> Result<Leads<'a>, NoMemory>
@@ -136,10 +153,7 @@ pub fn leads_of<'a>(alloc: Global, parts: &Parts<'a>) -> Result<Leads<'a>, NoMem
 {
     let keys = keys_of(alloc, parts)?;
     let mut leads = no_rows_in(alloc, parts.list())?;
-    let mut opened = nothing_in(alloc);
-    for key in &keys {
-        searched(alloc, parts, &mut leads, &mut opened, *key)?;
-    }
+    all_searched(alloc, parts, &mut leads, keys.as_slice())?;
     for _ in 0..usize::MAX {
         if !all_retried(parts, &mut leads, keys.as_slice())? {
             return Ok(leads);

@@ -1,5 +1,5 @@
 // What names stand for in their instances, found with no scan.
-ghost use Rattle.std.specs.Prelude.{◌≡◌, List, ℕ, Some, None, is_none, OnOk, bytes_eq, ◌&&◌, ◌==◌, if◌then◌else◌};
+ghost use Rattle.std.specs.Prelude.{◌≡◌, List, ℕ, Some, None, OnOk, bytes_eq, ◌&&◌, ◌==◌, if◌then◌else◌};
 ghost use Rattle.smv_instances.specs.NameMap.{named_in};
 
 use std::alloc::Global;
@@ -27,21 +27,6 @@ pub fn put_in<'a, V: Drop>(
 {
     map.insert((i, x), value)?;
     Ok(())
-}
-
-/// Gives the name in the numbered instance this number, unless it has one: the first number of a name counts.
-pub fn put_first<'a>(
-    numbers: &mut InstanceMap<'a, usize>,
-    i: usize,
-    x: &'a [u8],
-    n: usize,
-) -> Result<(), NoMemory>
-    ensures { OnOk result ((j : ℕ) (y : List ℕ) → named_in numbers.new j y ≡ (if is_none (named_in numbers.old j y) && (i == j && bytes_eq x.now y) then Some n else named_in numbers.old j y)) }
-{
-    match value_in(numbers, i, x) {
-        Some(_) => Ok(()),
-        None => put_in(numbers, i, x, n),
-    }
 }
 
 /// The value of the name in the numbered instance.

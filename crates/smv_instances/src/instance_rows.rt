@@ -1,5 +1,7 @@
 // Values of names in instances, found by the number of the instance and then by the name.
-ghost use Rattle.std.specs.Prelude.{◌≡◌, List, ℕ, Some, None, is_none, IfOk, OnOk, bytes_eq, ◌&&◌, ◌==◌, if◌then◌else◌};
+ghost use Rattle.std.specs.Prelude.{◌≡◌, ◌-◌, ◌^◌, min, List, ℕ, Some, None, is_none, IfOk, OnOk, bytes_eq, ◌&&◌, ◌==◌, if◌then◌else◌};
+ghost use Rattle.smv_text.specs.View.{plain_module};
+ghost use Rattle.smv_instances.specs.NameCounts.{names_of};
 ghost use Rattle.smv_instances.specs.Rows.{row_in};
 
 use crate::instances::Instance;
@@ -14,8 +16,10 @@ pub struct InstanceRows<'a, V> {
     pub rows: Vec<NameRows<'a, V>>,
 }
 
-/// How many names a module declares.
-pub fn names_in(module: &Module) -> usize {
+/// How many names a module declares, as far as a number can tell it.
+pub fn names_in(module: &Module) -> usize
+    ensures { result ≡ min (names_of (plain_module «module».now)) (2 ^ 64 - 1) }
+{
     let mut count = module.parameters.len();
     for element in &module.elements {
         match element {

@@ -1,5 +1,5 @@
 // The instances of a model, numbered in preorder.
-ghost use Rattle.std.specs.Prelude.{◌≡◌, ◌++◌, ◌∷◌, [], map, List, IfOk, length};
+ghost use Rattle.std.specs.Prelude.{◌≡◌, ◌+◌, ◌<◌, ◌++◌, ◌∷◌, [], map, List, IfOk, length};
 ghost use Rattle.smv_text.specs.View.{plain_module, plain_element, plain_item, plain_source};
 ghost use Rattle.smv_meaning.specs.Instances.{dotted, child_of, grow, grow_items, instances_of};
 ghost use Rattle.smv_instances.specs.View.{instance_plain, instance_or_none};
@@ -7,7 +7,7 @@ ghost use Rattle.smv_instances.specs.View.{instance_plain, instance_or_none};
 use crate::modules::ModuleTable;
 use smv_text::{Domain, Element, Expr, Item, Items, Module, Source};
 use std::alloc::Global;
-use text_core::{NoMemory, Text};
+use text_core::{Name, NoMemory, Text};
 
 /// An instance: the number of the instance in which it is declared and in whose scope its actuals are read, its name
 /// there, its dotted path, its module and its actuals.
@@ -15,22 +15,50 @@ use text_core::{NoMemory, Text};
 pub struct Instance<'a> {
     pub parent: Option<usize>,
     pub name: &'a [u8],
-    pub path: Text,
+    pub path: Name,
     pub module: &'a Module,
     pub actuals: &'a [Expr],
 }
 
-/// The dotted path of a name in the instance with this path.
-pub fn path_below(alloc: Global, path: &[u8], name: &[u8]) -> Result<Text, NoMemory>
-    ensures { IfOk result (λ p. p ≡ dotted path.now name.now) }
+// How long a dotted path may be that is put together in place.
+const SHORT: usize = 22;
+
+// The dotted path of a name below a path, put together in place.
+fn short_path(alloc: Global, path: &[u8], name: &[u8]) -> Result<Name, NoMemory>
+    requires { length path.now + length name.now < 22 }
+    ensures { IfOk result (λ p. p ≡ path.now ++ 46 ∷ name.now) }
+{
+    // The dot between them is there already.
+    let mut room = [b'.'; SHORT];
+    let start = path.len() + 1;
+    let end = start + name.len();
+    room[..path.len()].copy_from_slice(path);
+    room[start..end].copy_from_slice(name);
+    Name::of(alloc, &room[..end])
+}
+
+// The dotted path of a name below a path, put together in memory of its own.
+fn long_path(alloc: Global, path: &[u8], name: &[u8]) -> Result<Name, NoMemory>
+    ensures { IfOk result (λ p. p ≡ path.now ++ 46 ∷ name.now) }
 {
     let mut below = Text::new(alloc);
-    if !path.is_empty() {
-        below.put(path)?;
-        below.put(b".")?;
-    }
+    below.put(path)?;
+    below.put(b".")?;
     below.put(name)?;
-    Ok(below)
+    Name::of(alloc, below.bytes())
+}
+
+/// The dotted path of a name in the instance with this path.
+pub fn path_below(alloc: Global, path: &[u8], name: &[u8]) -> Result<Name, NoMemory>
+    ensures { IfOk result (λ p. p ≡ dotted path.now name.now) }
+{
+    if path.is_empty() {
+        Name::of(alloc, name)
+    } else if path.len() < SHORT && name.len() < SHORT - path.len() {
+        short_path(alloc, path, name)
+    } else {
+        long_path(alloc, path, name)
+    }
 }
 
 // The instance that a declaration in the instance i, which has this path, makes.
@@ -81,8 +109,7 @@ fn extend<'a>(
     }
     let i = table.len();
     let elements = &new.module.elements;
-    let mut copy = Text::new(alloc);
-    copy.put(new.path.bytes())?;
+    let copy = new.path.duplicate(alloc)?;
     let path = copy.bytes();
     table.push(new)?;
     for element in elements {
@@ -137,7 +164,7 @@ pub fn instances<'a>(alloc: Global, source: &'a Source) -> Result<Vec<Instance<'
             let main = Instance {
                 parent: None,
                 name: &[],
-                path: Text::new(alloc),
+                path: Name::of(alloc, &[])?,
                 module,
                 actuals: &[],
             };

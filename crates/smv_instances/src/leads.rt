@@ -41,8 +41,8 @@ fn one_deep<'a>(target: Target<'a>) -> Lead<'a>
     Lead { depth: 1, target }
 }
 
-// Where a name leads of which is known what it is in its instance, but for an open alias.
-fn lead_of<'a>(
+/// Where a name leads of which is known what it is in its instance, but for an open alias.
+pub fn lead_of<'a>(
     parts: &Parts<'a>,
     leads: &Leads<'a>,
     i: usize,

@@ -17,7 +17,7 @@ mod rows;
 mod symbols;
 mod table;
 
-pub use instance_map::{InstanceMap, nothing_in, put_first, put_in, value_in};
+pub use instance_map::{InstanceMap, nothing_in, put_in, value_in};
 pub use instance_rows::{InstanceRows, add_first_in, add_row_in, no_rows_in, row_value_in};
 pub use instances::{Instance, instances as instance_list, path_below};
 pub use modules::ModuleTable;

@@ -2,13 +2,14 @@
 ghost use Rattle.std.specs.Prelude.{◌≡◌, ◌<◌, List, length, map, position, slice_index_or, IfOk};
 ghost use Rattle.smv_text.specs.View.{plain_source};
 ghost use Rattle.smv_meaning.specs.Instances.{Instance as Specified, instances_of};
-ghost use Rattle.smv_meaning.specs.Names.{steps_of, local, is_child, has_symbol, found_in, look};
+ghost use Rattle.smv_meaning.specs.Formulas.{instance_within};
+ghost use Rattle.smv_meaning.specs.Names.{steps_of, local, is_child, has_symbol, found_in, look, single};
 ghost use Rattle.smv_instances.specs.Leads.{until};
 ghost use Rattle.smv_instances.specs.View.{instance_plain, local_plain, found_plain};
 
 use crate::aliases::leads_of;
 use crate::instances::{Instance, instances};
-use crate::leads::{Lead, Leads, Walk, lead_at, path_walk};
+use crate::leads::{Lead, Leads, Walk, lead_of, path_walk};
 use crate::names::{Known, Target};
 use crate::parts::Parts;
 use smv_text::{Path, Source};
@@ -51,6 +52,19 @@ fn reached<'a>(steps: usize, lead: Lead<'a>) -> Target<'a>
         Target::Cyclic
     } else {
         lead.target
+    }
+}
+
+fn instance_in<'a>(target: Target<'a>) -> Option<usize>
+    ensures { (t : List Specified) → result ≡ instance_within (found_plain t target.entry) }
+{
+    match target {
+        Target::Instance(c) => Some(c),
+        Target::Variable(_, _, _, _) => None,
+        Target::Body(_, _, _, _) => None,
+        Target::Symbol(_) => None,
+        Target::Cyclic => None,
+        Target::Missing => None,
     }
 }
 
@@ -115,23 +129,63 @@ impl<'a> Table<'a> {
         self.parts.has_symbol(x)
     }
 
+    // What an alias leads to.
+    fn target_of_alias(&self, i: usize, x: &'a [u8], known: Known<'a>) -> Target<'a>
+        requires known { local_plain known ≡ local (map instance_plain self.now) i x.now }
+        ensures { found_plain (map instance_plain self.now) result ≡ look (map instance_plain self.now) (steps_of (map instance_plain self.now)) i x.now }
+    {
+        match lead_of(&self.parts, &self.leads, i, x, known) {
+            Some(lead) => reached(self.parts.steps(), lead),
+            None => Target::Cyclic,
+        }
+    }
+
+    // What a path of one name leads to, given what the name is in its own instance.
+    fn target_of_single(&self, i: usize, x: &'a [u8], known: Known<'a>) -> Target<'a>
+        requires known { local_plain known ≡ local (map instance_plain self.now) i x.now }
+        ensures { found_plain (map instance_plain self.now) result ≡ single (map instance_plain self.now) (look (map instance_plain self.now) (steps_of (map instance_plain self.now))) i x.now (local_plain known.entry) }
+    {
+        match known {
+            Known::Alias(_, _) => self.target_of_alias(i, x, known),
+            Known::Formula(j, e) => Target::Body(i, x, j, e),
+            Known::Variable(kind, d) => Target::Variable(i, x, kind, d),
+            Known::Instance => match self.child(i, x) {
+                None => Target::Missing,
+                Some(c) => Target::Instance(c),
+            },
+            Known::Nothing => if self.has_symbol(x) {
+                Target::Symbol(x)
+            } else {
+                Target::Missing
+            },
+        }
+    }
+
     /// What a path leads to in the numbered instance.
     pub fn target(&self, i: usize, path: &'a Path) -> Target<'a>
         ensures { found_plain (map instance_plain self.now) result ≡ found_in (map instance_plain self.now) i path.now }
     {
+        if !path.from_self && path.names.len() == 1 {
+            let x = path.names.at(0).bytes();
+            return self.target_of_single(i, x, self.local(i, x));
+        }
         match path_walk(&self.parts, &self.leads, i, path) {
             Walk::Ends(lead) => reached(self.parts.steps(), lead),
             Walk::Waits(_) => Target::Cyclic,
         }
     }
 
-    /// What a name, and no symbol, leads to in the numbered instance.
-    pub fn target_of_name(&self, i: usize, x: &'a [u8]) -> Target<'a>
-        ensures { found_plain (map instance_plain self.now) result ≡ look (map instance_plain self.now) (steps_of (map instance_plain self.now)) i x.now }
+    /// The instance to which a name leads, given what it is in its own instance: none where it leads to no instance.
+    pub fn instance_of_name(&self, i: usize, x: &'a [u8], known: Known<'a>) -> Option<usize>
+        requires known { local_plain known ≡ local (map instance_plain self.now) i x.now }
+        ensures { result ≡ instance_within (look (map instance_plain self.now) (steps_of (map instance_plain self.now)) i x.now) }
     {
-        match lead_at(&self.parts, &self.leads, i, x) {
-            Some(lead) => reached(self.parts.steps(), lead),
-            None => Target::Cyclic,
+        match known {
+            Known::Alias(_, _) => instance_in(self.target_of_alias(i, x, known)),
+            Known::Formula(_, _) => None,
+            Known::Variable(_, _) => None,
+            Known::Instance => self.child(i, x),
+            Known::Nothing => None,
         }
     }
 

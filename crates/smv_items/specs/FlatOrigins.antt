@@ -1,19 +1,22 @@
 -- What the code keeps of items while it numbers them.
-use Rattle.std.specs.Prelude.{◌≡◌, ℕ, Bool, List, position, Option, Some, None, ◌&&◌, ◌==◌, bytes_eq}
-use Rattle.std.specs.Borrow.{Bor}
-use Rattle.std.specs.HashMap.{HashMap}
+use Rattle.std.specs.Prelude.{◌≡◌, ℕ, Bool, if◌then◌else◌, List, position, Option, Some, None, ◌&&◌, ◌==◌, bytes_eq}
+use Rattle.std.specs.Option.{option_or}
 use Rattle.smv_text.specs.View.{plain, plain_domain}
 use Rattle.smv_meaning.specs.Instances.{Instance}
+use Rattle.smv_meaning.specs.Names.{dotted_at}
 use Rattle.smv_items.specs.declared.origins.Content.{Content as Kept}
 use Rattle.smv_items.specs.declared.origins.Content.TheVariants as OfContent
 use Rattle.smv_items.specs.declared.origins.Origin.{Origin as KeptOrigin}
 use Rattle.smv_text.specs.declared.tree.VarKind.{VarKind}
 use Rattle.smv_text.specs.declared.tree.VarKind.TheVariants as OfVarKind
 use Rattle.smv_instances.specs.declared.rows.NameRows.{NameRows}
-use Rattle.smv_instances.specs.NameMap.{named_in}
-use Rattle.smv_instances.specs.Rows.{row_named}
+use Rattle.smv_instances.specs.declared.instance_rows.InstanceRows.{InstanceRows}
+use Rattle.smv_instances.specs.Rows.{row_named, row_in}
 use Rattle.smv_items.specs.declared.numbers.Leaf.{Leaf as KeptLeaf}
 use Rattle.smv_items.specs.declared.numbers.Leaf.TheVariants as OfLeaf
+use Rattle.smv_items.specs.declared.numbers.PathNumbers.{PathNumbers}
+use Rattle.smv_items.specs.declared.numbers.VariableNumber.{VariableNumber}
+use Rattle.smv_items.specs.declared.numbers.VariableNumber.TheVariants as OfNumber
 use Rattle.smv_items.specs.declared.numbers.ItemNumbers.{ItemNumbers}
 use Rattle.smv_items.specs.FlatItems.{Leaf, of_item, of_symbol, of_nothing, Content, variable, definition, actual, Origin, is_variable_as, is_body, path_of}
 
@@ -41,14 +44,36 @@ abbrev pub is_body_at : ℕ → List ℕ → Origin → Bool
 is_body_at i x o = is_body o.content && (o.instance == i && bytes_eq o.name x)
 
 -- the number of a body is the place of the first that has its instance and its name
-abbrev pub AreBodies : {S : Type 0} → List Origin → HashMap (ℕ × Bor (List ℕ)) ℕ S → Type 0
-AreBodies ms m = (i : ℕ) (x : List ℕ) → named_in m i x ≡ position (is_body_at i x) ms
+abbrev pub AreBodies : List Origin → InstanceRows ℕ → Type 0
+AreBodies ms m = (i : ℕ) (x : List ℕ) → row_in m i x ≡ position (is_body_at i x) ms
 
 -- that of a variable is the place of the first that has its dotted path, inputs apart
 abbrev pub AreVariables : List Instance → VarKind → List Origin → NameRows ℕ → Type 0
 AreVariables t kind ms m = (x : List ℕ) → row_named m x ≡ position (λ o. is_variable_as kind o.content && bytes_eq (path_of t o) x) ms
 
-pub record AreNumbers (t : List Instance) (ms : List Origin) (ns : ItemNumbers) : Type 0 where
-  pub bodies : AreBodies ms ns.bodies
+pub record ArePathNumbers (t : List Instance) (ms : List Origin) (ns : PathNumbers) : Type 0 where
   pub states : AreVariables t OfVarKind.State ms ns.states
   pub inputs : AreVariables t OfVarKind.Input ms ns.inputs
+
+-- the number of an input, or of another variable, by its dotted path
+abbrev pub path_number : PathNumbers → Bool → List ℕ → Option ℕ
+path_number ns is_input x = row_named (if is_input then ns.inputs else ns.states) x
+
+abbrev pub number_as : Bool → ℕ → VariableNumber
+number_as is_input k = if is_input then OfNumber.Input k else OfNumber.State k
+
+-- a number that is kept of an input, or of another variable
+abbrev pub number_kept : Bool → Option VariableNumber → Option ℕ
+number_kept is_input None = None
+number_kept is_input (Some (OfNumber.State k)) = if is_input then None else Some k
+number_kept is_input (Some (OfNumber.Input k)) = if is_input then Some k else None
+
+-- where a number is kept by instance and name, it is that of the dotted path
+abbrev pub AreInstanceNumbers : List Instance → PathNumbers → InstanceRows VariableNumber → Type 0
+AreInstanceNumbers t ns m = (is_input : Bool) (i : ℕ) (x : List ℕ)
+    → option_or (number_kept is_input (row_in m i x)) (path_number ns is_input (dotted_at t i x)) ≡ path_number ns is_input (dotted_at t i x)
+
+pub record AreNumbers (t : List Instance) (ms : List Origin) (ns : ItemNumbers) : Type 0 where
+  pub bodies : AreBodies ms ns.bodies
+  pub paths : ArePathNumbers t ms ns.paths
+  pub variables : AreInstanceNumbers t ns.paths ns.variables

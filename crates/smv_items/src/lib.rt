@@ -7,6 +7,9 @@ mod origins;
 mod symbols;
 
 pub use items::{FlatItem, ItemKind};
-pub use numbers::{Bodies, ItemNumbers, Leaf, leaf_at, numbers_of, paths_of};
-pub use origins::{Content, Origin, Origins, dotted_path, origins_at, origins_in};
+pub use numbers::{
+    Bodies, ItemNumbers, Leaf, PathNumbers, VariableNumber, Variables, leaf_at, numbers_of,
+    paths_of,
+};
+pub use origins::{Content, Origin, Origins, dotted_path, origins_in, put_origins};
 pub use symbols::{Symbols, symbols_in};

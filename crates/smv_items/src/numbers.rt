@@ -3,31 +3,49 @@ ghost use Rattle.std.specs.Prelude.{◌≡◌, ◌&&◌, length, List, ℕ, Some
 ghost use Rattle.smv_text.specs.declared.tree.VarKind.TheVariants as OfVarKind;
 ghost use Rattle.smv_meaning.specs.Instances.{Instance as Specified};
 ghost use Rattle.smv_meaning.specs.Meaning.{is_input};
-ghost use Rattle.smv_instances.specs.NameMap.{named_in};
-ghost use Rattle.smv_instances.specs.Rows.{row_named};
+ghost use Rattle.smv_meaning.specs.Names.{dotted_at};
+ghost use Rattle.smv_instances.specs.Rows.{row_named, row_in};
 ghost use Rattle.smv_instances.specs.View.{instance_plain};
 ghost use Rattle.smv_items.specs.FlatItems.{is_variable_as, is_body, path_of, leaf_in, item_leaf, symbol_leaf, origins_of, symbols_of};
-ghost use Rattle.smv_items.specs.FlatOrigins.{origin_plain, content_plain, leaf_plain, is_body_at, AreBodies, AreVariables, AreNumbers};
+ghost use Rattle.smv_items.specs.FlatOrigins.{origin_plain, content_plain, leaf_plain, is_body_at, number_kept, number_as, path_number, AreBodies, AreVariables, AreInstanceNumbers, ArePathNumbers, AreNumbers};
 
 use crate::origins::{Content, Origin, dotted_path};
 use crate::symbols::Symbols;
 use smv_instances::{
-    InstanceMap, NameRows, Table, Target, add_row, no_rows, nothing_in, put_first, row_value,
-    value_in,
+    InstanceRows, NameRows, Table, Target, add_first_in, add_row, add_row_in, no_rows, no_rows_in,
+    row_value, row_value_in,
 };
 use smv_text::{Path, VarKind};
 use std::alloc::Global;
-use text_core::{NoMemory, Text};
+use text_core::{Name, NoMemory};
 
-/// ItemNumbers of bodies by their instances and names.
-pub type Bodies<'a> = InstanceMap<'a, usize>;
+/// Numbers of bodies by their instances and names.
+pub type Bodies<'a> = InstanceRows<'a, usize>;
 
-/// The numbers of items: bodies by instance and name, and variables by their dotted paths, inputs apart.
+/// Numbers of variables by their dotted paths, inputs apart.
+#[derive(Drop)]
+pub struct PathNumbers<'n> {
+    pub states: NameRows<'n, usize>,
+    pub inputs: NameRows<'n, usize>,
+}
+
+/// The number of a variable that is no input, or of one that is.
+#[derive(Clone, Copy)]
+pub enum VariableNumber {
+    State(usize),
+    Input(usize),
+}
+
+/// Numbers of variables by their instances and names.
+pub type Variables<'a> = InstanceRows<'a, VariableNumber>;
+
+/// The numbers of items: bodies by instance and name, and variables by their dotted paths; those again by instance and name, so
+/// that no dotted path is made to look one up.
 #[derive(Drop)]
 pub struct ItemNumbers<'a, 'n> {
     pub bodies: Bodies<'a>,
-    pub states: NameRows<'n, usize>,
-    pub inputs: NameRows<'n, usize>,
+    pub paths: PathNumbers<'n>,
+    pub variables: Variables<'a>,
 }
 
 fn put_path<'n>(paths: &mut NameRows<'n, usize>, x: &'n [u8], k: usize) -> Result<(), NoMemory>
@@ -77,20 +95,24 @@ fn is_input(content: &Content) -> bool
 
 // Notes the number of an item that is a body.
 fn note_body<'a>(bodies: &mut Bodies<'a>, origin: &Origin<'a>, k: usize) -> Result<(), NoMemory>
-    ensures { OnOk result ((i : ℕ) (x : List ℕ) → named_in bodies.new i x ≡ (if is_none (named_in bodies.old i x) && is_body_at i x (origin_plain origin.now) then Some k else named_in bodies.old i x)) }
+    ensures { OnOk result ((i : ℕ) (x : List ℕ) → row_in bodies.new i x ≡ (if is_none (row_in bodies.old i x) && is_body_at i x (origin_plain origin.now) then Some k else row_in bodies.old i x)) }
 {
     if is_body(&origin.content) {
-        put_first(bodies, origin.instance, origin.name, k)
+        add_first_in(bodies, origin.instance, origin.name, k)
     } else {
         Ok(())
     }
 }
 
 // The numbers of bodies.
-fn bodies_of<'a>(alloc: Global, origins: &[Origin<'a>]) -> Result<Bodies<'a>, NoMemory>
+fn bodies_of<'a>(
+    alloc: Global,
+    table: &Table<'a>,
+    origins: &[Origin<'a>],
+) -> Result<Bodies<'a>, NoMemory>
     ensures { IfOk result (λ m. AreBodies (map origin_plain origins.now) m) }
 {
-    let mut bodies = nothing_in(alloc);
+    let mut bodies = no_rows_in(alloc, table.list())?;
     for k in 0..origins.len() {
         note_body(&mut bodies, &origins[k], k)?;
     }
@@ -117,7 +139,7 @@ fn note_variable<'n>(
 fn states_of<'n, 'a>(
     alloc: Global,
     origins: &[Origin<'a>],
-    paths: &'n [Text],
+    paths: &'n [Name],
 ) -> Result<NameRows<'n, usize>, NoMemory>
     requires { length paths.now ≡ length origins.now }
     ensures { (t : List Specified) → paths.now ≡ map (path_of t) (map origin_plain origins.now) → IfOk result (λ m. AreVariables t OfVarKind.State (map origin_plain origins.now) m) }
@@ -138,7 +160,7 @@ fn states_of<'n, 'a>(
 fn inputs_of<'n, 'a>(
     alloc: Global,
     origins: &[Origin<'a>],
-    paths: &'n [Text],
+    paths: &'n [Name],
 ) -> Result<NameRows<'n, usize>, NoMemory>
     requires { length paths.now ≡ length origins.now }
     ensures { (t : List Specified) → paths.now ≡ map (path_of t) (map origin_plain origins.now) → IfOk result (λ m. AreVariables t OfVarKind.Input (map origin_plain origins.now) m) }
@@ -155,12 +177,112 @@ fn inputs_of<'n, 'a>(
     Ok(inputs)
 }
 
+// The numbers of variables by their dotted paths.
+fn path_numbers<'n, 'a>(
+    alloc: Global,
+    origins: &[Origin<'a>],
+    paths: &'n [Name],
+) -> Result<PathNumbers<'n>, NoMemory>
+    requires { length paths.now ≡ length origins.now }
+    ensures { (t : List Specified) → paths.now ≡ map (path_of t) (map origin_plain origins.now) → IfOk result (λ ns. ArePathNumbers t (map origin_plain origins.now) ns) }
+{
+    let states = states_of(alloc, origins, paths)?;
+    let inputs = inputs_of(alloc, origins, paths)?;
+    Ok(PathNumbers { states, inputs })
+}
+
+// The number of a variable with this dotted path.
+fn number_of_path(numbers: &PathNumbers, kind: VarKind, path: &[u8]) -> Option<usize>
+    ensures { result ≡ path_number numbers.now (is_input kind) path.now }
+{
+    match kind {
+        VarKind::State | VarKind::Frozen => row_value(&numbers.states, path),
+        VarKind::Input => row_value(&numbers.inputs, path),
+    }
+}
+
+fn number_as(kind: VarKind, k: usize) -> VariableNumber
+    ensures { result ≡ number_as (is_input kind) k }
+{
+    match kind {
+        VarKind::State | VarKind::Frozen => VariableNumber::State(k),
+        VarKind::Input => VariableNumber::Input(k),
+    }
+}
+
+// The number that was kept, where it is that of a variable of these kinds.
+fn number_kept(number: Option<VariableNumber>, kind: VarKind) -> Option<usize>
+    ensures { result ≡ number_kept (is_input kind) number }
+{
+    match number {
+        None => None,
+        Some(VariableNumber::State(k)) => match kind {
+            VarKind::State | VarKind::Frozen => Some(k),
+            VarKind::Input => None,
+        },
+        Some(VariableNumber::Input(k)) => match kind {
+            VarKind::State | VarKind::Frozen => None,
+            VarKind::Input => Some(k),
+        },
+    }
+}
+
+// Keeps the number of the variable with this dotted path by its instance and name.
+fn keep_number<'a>(
+    variables: &mut Variables<'a>,
+    numbers: &PathNumbers,
+    origin: &Origin<'a>,
+    kind: VarKind,
+    path: &[u8],
+) -> Result<(), NoMemory>
+    ensures { (t : List Specified) → path.now ≡ path_of t (origin_plain origin.now) → AreInstanceNumbers t numbers.now variables.old → OnOk result (AreInstanceNumbers t numbers.now variables.new) }
+{
+    match number_of_path(numbers, kind, path) {
+        None => Ok(()),
+        Some(k) => add_row_in(variables, origin.instance, origin.name, number_as(kind, k)),
+    }
+}
+
+// Keeps the number of an item that is a variable.
+fn note_number<'a>(
+    variables: &mut Variables<'a>,
+    numbers: &PathNumbers,
+    origin: &Origin<'a>,
+    path: &[u8],
+) -> Result<(), NoMemory>
+    ensures { (t : List Specified) → path.now ≡ path_of t (origin_plain origin.now) → AreInstanceNumbers t numbers.now variables.old → OnOk result (AreInstanceNumbers t numbers.now variables.new) }
+{
+    match origin.content {
+        Content::Variable(kind, _) => keep_number(variables, numbers, origin, kind, path),
+        Content::Definition(_, _) => Ok(()),
+        Content::Actual(_, _) => Ok(()),
+    }
+}
+
+// The numbers of variables by instance and name, given those by dotted path.
+fn variables_of<'a>(
+    alloc: Global,
+    table: &Table<'a>,
+    origins: &[Origin<'a>],
+    paths: &[Name],
+    numbers: &PathNumbers,
+) -> Result<Variables<'a>, NoMemory>
+    requires { length paths.now ≡ length origins.now }
+    ensures { (t : List Specified) → paths.now ≡ map (path_of t) (map origin_plain origins.now) → IfOk result (λ m. AreInstanceNumbers t numbers.now m) }
+{
+    let mut variables = no_rows_in(alloc, table.list())?;
+    for k in 0..origins.len() {
+        note_number(&mut variables, numbers, &origins[k], paths[k].bytes())?;
+    }
+    Ok(variables)
+}
+
 /// The dotted paths of the items.
 pub fn paths_of<'a>(
     alloc: Global,
     table: &Table<'a>,
     origins: &[Origin<'a>],
-) -> Result<Vec<Text>, NoMemory>
+) -> Result<Vec<Name>, NoMemory>
     ensures { IfOk result (λ ps. ps.items ≡ map (path_of (map instance_plain table.now)) (map origin_plain origins.now)) }
 {
     let mut paths = Vec::new(alloc);
@@ -174,19 +296,20 @@ pub fn paths_of<'a>(
 /// The numbers of all items, given their dotted paths.
 pub fn numbers_of<'a, 'n>(
     alloc: Global,
+    table: &Table<'a>,
     origins: &[Origin<'a>],
-    paths: &'n [Text],
+    paths: &'n [Name],
 ) -> Result<ItemNumbers<'a, 'n>, NoMemory>
     requires { length paths.now ≡ length origins.now }
     ensures { (t : List Specified) → paths.now ≡ map (path_of t) (map origin_plain origins.now) → IfOk result (λ ns. AreNumbers t (map origin_plain origins.now) ns) }
 {
-    let bodies = bodies_of(alloc, origins)?;
-    let states = states_of(alloc, origins, paths)?;
-    let inputs = inputs_of(alloc, origins, paths)?;
+    let numbers = path_numbers(alloc, origins, paths)?;
+    let variables = variables_of(alloc, table, origins, paths, &numbers)?;
+    let bodies = bodies_of(alloc, table, origins)?;
     Ok(ItemNumbers {
         bodies,
-        states,
-        inputs,
+        paths: numbers,
+        variables,
     })
 }
 
@@ -223,13 +346,24 @@ fn symbol(k: Option<usize>) -> Result<Leaf, NoMemory>
     }
 }
 
-// The number of a variable with this dotted path.
-fn variable_in(numbers: &ItemNumbers, kind: VarKind, path: &[u8]) -> Option<usize>
-    ensures { result ≡ row_named (if is_input kind then numbers.now.inputs else numbers.now.states) path.now }
+// The number of a variable, which is kept by instance and name; only where none is kept does its dotted path have to be made.
+fn variable_number<'a>(
+    alloc: Global,
+    table: &Table<'a>,
+    numbers: &ItemNumbers,
+    i: usize,
+    x: &[u8],
+    kind: VarKind,
+) -> Result<Option<usize>, NoMemory>
+    requires { AreInstanceNumbers (map instance_plain table.now) numbers.now.paths numbers.now.variables }
+    ensures { IfOk result (λ k. k ≡ path_number numbers.now.paths (is_input kind) (dotted_at (map instance_plain table.now) i x.now)) }
 {
-    match kind {
-        VarKind::State | VarKind::Frozen => row_value(&numbers.states, path),
-        VarKind::Input => row_value(&numbers.inputs, path),
+    match number_kept(row_value_in(&numbers.variables, i, x), kind) {
+        Some(k) => Ok(Some(k)),
+        None => {
+            let path = dotted_path(alloc, table, i, x)?;
+            Ok(number_of_path(&numbers.paths, kind, path.bytes()))
+        }
     }
 }
 
@@ -248,10 +382,10 @@ pub fn leaf_at<'a, 'n>(
 {
     match table.target(i, path) {
         Target::Variable(j, x, kind, _) => {
-            let path = dotted_path(alloc, table, j, x)?;
-            item(variable_in(numbers, kind, path.bytes()))
+            let number = variable_number(alloc, table, numbers, j, x, kind)?;
+            item(number)
         }
-        Target::Body(j, x, _, _) => item(value_in(&numbers.bodies, j, x)),
+        Target::Body(j, x, _, _) => item(row_value_in(&numbers.bodies, j, x)),
         Target::Instance(_) => Ok(Leaf::Nothing),
         Target::Symbol(x) => symbol(symbols.place(x)),
         Target::Cyclic => Ok(Leaf::Nothing),

@@ -10,7 +10,7 @@ ghost use Rattle.smv_items.specs.FlatOrigins.{origin_plain, content_or_none};
 use smv_instances::{Instance, Table, path_below};
 use smv_text::{Definitions, Domain, Element, Elements, Expr, Items, Parameters, Shape, VarKind};
 use std::alloc::Global;
-use text_core::{NoMemory, Text};
+use text_core::{Name, NoMemory};
 
 /// A variable, or a body with the number of the instance in which it is read.
 #[derive(Clone, Copy)]
@@ -160,7 +160,12 @@ fn add_elements<'a>(
     Ok(())
 }
 
-fn add_instance<'a>(origins: &mut Origins<'a>, i: usize, at: &Instance<'a>) -> Result<(), NoMemory>
+/// Puts the items of the instance with this number behind others.
+pub fn put_origins<'a>(
+    origins: &mut Origins<'a>,
+    i: usize,
+    at: &Instance<'a>,
+) -> Result<(), NoMemory>
     ensures { OnOk result (map origin_plain origins.new.items ≡ map origin_plain origins.old.items ++ items_here i (instance_plain at.now)) }
 {
     let module = at.module;
@@ -174,15 +179,6 @@ fn add_instance<'a>(origins: &mut Origins<'a>, i: usize, at: &Instance<'a>) -> R
     add_elements(origins, i, &module.elements)
 }
 
-/// The items of the instance with this number.
-pub fn origins_at<'a>(alloc: Global, i: usize, at: &Instance<'a>) -> Result<Origins<'a>, NoMemory>
-    ensures { IfOk result (λ os. map origin_plain os.items ≡ items_here i (instance_plain at.now)) }
-{
-    let mut origins = Vec::new(alloc);
-    add_instance(&mut origins, i, at)?;
-    Ok(origins)
-}
-
 /// The items of a model in their order.
 #[tactic(auto, using(smv_meaning::specs::laws::Lists::front_is, smv_meaning::specs::laws::Lists::end_is, crate::specs::laws::OriginLemmas::joined_on))]
 pub fn origins_in<'a>(alloc: Global, table: &Table<'a>) -> Result<Origins<'a>, NoMemory>
@@ -190,7 +186,7 @@ pub fn origins_in<'a>(alloc: Global, table: &Table<'a>) -> Result<Origins<'a>, N
 {
     let mut origins = Vec::new(alloc);
     for i in 0..table.len() {
-        add_instance(&mut origins, i, table.at(i))?;
+        put_origins(&mut origins, i, table.at(i))?;
     }
     Ok(origins)
 }
@@ -201,7 +197,7 @@ pub fn dotted_path<'a>(
     table: &Table<'a>,
     i: usize,
     name: &[u8],
-) -> Result<Text, NoMemory>
+) -> Result<Name, NoMemory>
     ensures { IfOk result (λ p. p ≡ dotted_at (map instance_plain table.now) i name.now) }
 {
     if i < table.len() {

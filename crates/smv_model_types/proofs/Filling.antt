@@ -5,18 +5,19 @@ use Rattle.std.proofs.lemmas.Bool.{eqb-true, eq-eqb}
 use Rattle.std.proofs.lemmas.Slice.Eq.{bytes_eq-Decides}
 use Rattle.std.proofs.lemmas.List.Folds.{list_all-append, list_any-append}
 use Rattle.smv_text.specs.declared.tree.Path.{Path}
-use Rattle.smv_text.specs.Tree.{Tree}
+use Rattle.smv_text.specs.declared.tree.VarKind.{VarKind}
+use Rattle.smv_text.specs.Tree.{Tree, PlainDomain, boolean, members, between, bits, instance}
 use Rattle.smv_meaning.specs.Types.{ExprType}
 use Rattle.smv_meaning.specs.Instances.{Instance}
 use Rattle.smv_meaning.specs.Expressions.{paths_of}
-use Rattle.smv_meaning.specs.Names.{Local, alias, formula, variable_of, inner, nothing, local, Found, variable_at, body_at, instance_at, symbol_of, cyclic, none, is_child, is_end, at_child, onward, walk, has_symbol, single, through, landed, look, found_in, steps_of}
+use Rattle.smv_meaning.specs.Names.{Local, alias, formula, variable_of, inner, nothing, local, Found, variable_at, body_at, instance_at, symbol_of, cyclic, none, is_child, is_end, at_child, dotted_at, onward, walk, has_symbol, single, through, landed, look, found_in, steps_of}
 use Rattle.smv_meaning.specs.Checks.{Named, Typing, typing}
 use Rattle.smv_meaning.specs.Naming.{in_body, unnamed, named_found}
 use Rattle.smv_meaning.specs.Phases.{Formula, formula_same, formula_here, from_instance, path_formulas, referred, refers}
 use Rattle.smv_meaning.specs.Settled.{Acyclic, is_formula, types_in, NamesSettle, TypesSettle}
 use Rattle.smv_meaning.specs.Formulas.{instance_within, IsFormulaOrder}
 use Rattle.smv_meaning.specs.Orders.{numbered, is_listed, SameOn, TypesHangOnPaths, OrderIsWhole}
-use Rattle.smv_model_types.specs.Entries.{Entries, nameless, entry_or, entries_step, entries_walk, entries_single, entries_through, entries_names, HasEach, put_for, variable_put, or_else, Becomes, IsPut, Right, Has}
+use Rattle.smv_model_types.specs.Entries.{Entries, nameless, named_instance, or_unnamed, variable_or, entry_or, alias_or, entries_step, entries_walk, entries_single, entries_through, entries_names, HasEach, put_for, variable_put, or_else, Becomes, IsPut, Right, Has}
 
 -- ---- tests
 
@@ -51,18 +52,30 @@ Settled t = (i : ℕ) (x : List ℕ) → looked t i x ≡ landed t (looked t) i 
 
 -- ---- entries that have what a path goes through have the path
 
+variable_there : (t : List Instance) (i : ℕ) (x : List ℕ) (kind : VarKind) (d : PlainDomain) (m : Found) (o : Option Named) → m ≡ variable_at (dotted_at t i x) kind d → ((n : Named) → o ≡ Some n → n ≡ meaning t m)
+    → variable_or kind d o ≡ meaning t m
+variable_there t i x kind (members ms) m (Some n) e r = r n refl
+variable_there t i x kind (members ms) m None e r = sym (ap (meaning t) e)
+variable_there t i x kind boolean m o e r = sym (ap (meaning t) e)
+variable_there t i x kind (between low high) m o e r = sym (ap (meaning t) e)
+variable_there t i x kind (bits n) m o e r = sym (ap (meaning t) e)
+variable_there t i x kind (instance y es) m o e r = sym (ap (meaning t) e)
+
+formula_there : (t : List Instance) (m : Found) (o : Option Named) → is_some o ≡ true → ((n : Named) → o ≡ Some n → n ≡ meaning t m) → or_unnamed o ≡ meaning t m
+formula_there t m (Some n) h r = r n refl
+formula_there t m None h r = absurd_bool h
+
 entry_at : (t : List Instance) (i : ℕ) (x : List ℕ) (l : Local) (m : Found) (o : Option Named) → m ≡ landed t (looked t) i x l → instance_within m ≡ None → (is_formula l ≡ true → is_some o ≡ true)
     → ((n : Named) → o ≡ Some n → n ≡ meaning t m) → entry_or l o ≡ meaning t m
-entry_at t i x l m (Some n) e w f r = r n refl
-entry_at t i x (alias j path) m None e w f r = absurd_bool (f refl)
-entry_at t i x (formula j b) m None e w f r = absurd_bool (f refl)
-entry_at t i x (variable_of kind d) m None e w f r = sym (ap (meaning t) e)
-entry_at t i x inner m None e w f r = by (position (is_child i x) t) e
+entry_at t i x (alias j path) m o e w f r = formula_there t m o (f refl) r
+entry_at t i x (formula j b) m o e w f r = formula_there t m o (f refl) r
+entry_at t i x (variable_of kind d) m o e w f r = variable_there t i x kind d m o e r
+entry_at t i x inner m o e w f r = by (position (is_child i x) t) e
   where
     by : (c : Option ℕ) → m ≡ at_child c → unnamed ≡ meaning t m
     by None s = sym (ap (meaning t) s)
     by (Some c) s = let g : instance_within m ≡ Some c = ap instance_within s in cc
-entry_at t i x nothing m None e w f r = sym (ap (meaning t) e)
+entry_at t i x nothing m o e w f r = sym (ap (meaning t) e)
 
 ends_as : (t : List Instance) (b : Bool) (n : Named) (m : Found) → n ≡ meaning t m → (if b then n else unnamed) ≡ meaning t (if b then m else none)
 ends_as t true n m e = e
@@ -110,17 +123,41 @@ symbol_right : (t : List Instance) (b : Bool) (x : List ℕ) → named_found tru
 symbol_right t true x = refl
 symbol_right t false x = refl
 
-single_right : (t : List Instance) (entries : Entries) (i : ℕ) (x : List ℕ) (l : Local) → entries_walk t entries i (x ∷ []) ≡ meaning t (walk (looked t) i (x ∷ [])) → entries_single t entries i x l ≡ meaning t (single t (looked t) i x l)
-single_right t entries i x (alias j path) e = e
-single_right t entries i x (formula j b) e = e
-single_right t entries i x (variable_of kind d) e = e
-single_right t entries i x inner e = e
-single_right t entries i x nothing e = symbol_right t (has_symbol t x) x
+one_onward : (m : Found) → onward m true (λ c. instance_at c) ≡ m
+one_onward (variable_at x kind d) = refl
+one_onward (body_at i x j e) = refl
+one_onward (instance_at c) = refl
+one_onward (symbol_of x) = refl
+one_onward cyclic = refl
+one_onward none = refl
 
-through_right : (t : List Instance) (entries : Entries) (i : ℕ) (names : List (List ℕ)) → entries_walk t entries i names ≡ meaning t (walk (looked t) i names) → entries_through t entries i names ≡ meaning t (through t (looked t) i names)
-through_right t entries i [] e = e
-through_right t entries i (x ∷ []) e = single_right t entries i x (local t i x) e
-through_right t entries i (x ∷ y ∷ ys) e = e
+not_entered : (o : Option ℕ) → alias_or None o ≡ entries_step o true unnamed (λ c. named_instance)
+not_entered None = refl
+not_entered (Some c) = refl
+
+alias_right : (t : List Instance) (entries : Entries) → Right t entries → (i : ℕ) (x : List ℕ) (j : ℕ) (path : Path) → alias j path ≡ local t i x → entries_walk t entries i (x ∷ []) ≡ meaning t (walk (looked t) i (x ∷ []))
+    → alias_or (entries i x) (instance_within (looked t i x)) ≡ meaning t (walk (looked t) i (x ∷ []))
+alias_right t entries r i x j path h e = by (entries i x) refl
+  where
+    by : (o : Option Named) → entries i x ≡ o → alias_or o (instance_within (looked t i x)) ≡ meaning t (walk (looked t) i (x ∷ []))
+    by (Some n) s = r i x n s ∙ ap (meaning t) (sym (one_onward (looked t i x)))
+    by None s =
+        not_entered (instance_within (looked t i x))
+        ∙ ap (λ n. entries_step (instance_within (looked t i x)) true n (λ c. named_instance)) (ap (λ l. entry_or l None) h ∙ ap (entry_or (local t i x)) (sym s)) ∙ e
+
+single_right : (t : List Instance) (entries : Entries) → Right t entries → (i : ℕ) (x : List ℕ) (l : Local) → l ≡ local t i x → entries_walk t entries i (x ∷ []) ≡ meaning t (walk (looked t) i (x ∷ []))
+    → entries_single t entries i x l ≡ meaning t (single t (looked t) i x l)
+single_right t entries r i x (alias j path) h e = alias_right t entries r i x j path h e
+single_right t entries r i x (formula j b) h e = e
+single_right t entries r i x (variable_of kind d) h e = e
+single_right t entries r i x inner h e = e
+single_right t entries r i x nothing h e = symbol_right t (has_symbol t x) x
+
+through_right : (t : List Instance) (entries : Entries) → Right t entries → (i : ℕ) (names : List (List ℕ)) → entries_walk t entries i names ≡ meaning t (walk (looked t) i names)
+    → entries_through t entries i names ≡ meaning t (through t (looked t) i names)
+through_right t entries r i [] e = e
+through_right t entries r i (x ∷ []) e = single_right t entries r i x (local t i x) refl e
+through_right t entries r i (x ∷ y ∷ ys) e = e
 
 either_right : (t : List Instance) (b : Bool) (n m : Named) (f g : Found) → n ≡ meaning t f → m ≡ meaning t g → (if b then n else m) ≡ meaning t (if b then f else g)
 either_right t true n m f g p q = p
@@ -131,7 +168,7 @@ names_right : (t : List Instance) (entries : Entries) (ks : List Formula) → Se
 names_right t entries ks s r i path h =
     let e = walk_right t entries ks s r path.names i h in
     either_right t path.from_self (entries_walk t entries i path.names) (entries_through t entries i path.names) (walk (looked t) i path.names) (through t (looked t) i path.names) e
-    (through_right t entries i path.names e)
+    (through_right t entries r.right i path.names e)
 
 -- ---- bodies
 

@@ -1,6 +1,8 @@
 -- What names are to the types, as the entries have them.
 use Rattle.std.specs.Prelude.{◌≡◌, ℕ, Bool, true, false, if◌then◌else◌, List, [], ◌∷◌, Option, Some, None, option_map, is_some}
 use Rattle.smv_text.specs.declared.tree.Path.{Path}
+use Rattle.smv_text.specs.declared.tree.VarKind.{VarKind}
+use Rattle.smv_text.specs.Tree.{PlainDomain, members}
 use Rattle.smv_meaning.specs.Instances.{Instance}
 use Rattle.smv_meaning.specs.Types.{symbol_type}
 use Rattle.smv_meaning.specs.Names.{Local, alias, formula, variable_of, nothing, local, variable_at, body_at, is_end, look, steps_of, symbol_or_none}
@@ -31,11 +33,21 @@ named_instance = record { type = None; is_instance = true; reaches_input = false
 abbrev pub named_symbol : Named
 named_symbol = record { type = Some symbol_type; is_instance = false; reaches_input = false }
 
--- what the entries have for a name; a variable is known without it
+abbrev pub or_unnamed : Option Named → Named
+or_unnamed (Some n) = n
+or_unnamed None = unnamed
+
+-- a variable is known without the entries, which are asked for that of an enumeration
+abbrev pub variable_or : VarKind → PlainDomain → Option Named → Named
+variable_or kind (members ms) (Some n) = n
+variable_or kind d o = named_found true nameless (variable_at [] kind d)
+
+-- what a name is that leads to no instance
 abbrev pub entry_or : Local → Option Named → Named
-entry_or l (Some n) = n
-entry_or (variable_of kind d) None = named_found true nameless (variable_at [] kind d)
-entry_or l None = unnamed
+entry_or (alias j path) o = or_unnamed o
+entry_or (formula j e) o = or_unnamed o
+entry_or (variable_of kind d) o = variable_or kind d o
+entry_or l o = unnamed
 
 abbrev pub entries_step : Option ℕ → Bool → Named → (ℕ → Named) → Named
 entries_step (Some c) at_end n go = go c
@@ -46,7 +58,14 @@ entries_walk t entries i [] = named_instance
 entries_walk t entries i (x ∷ rest) =
     entries_step (instance_within (look t (steps_of t) i x)) (is_end rest) (entry_or (local t i x) (entries i x)) (λ c. entries_walk t entries c rest)
 
+-- what a parameter with a path is, by its entry, or else by where it leads
+abbrev pub alias_or : Option Named → Option ℕ → Named
+alias_or (Some n) c = n
+alias_or None (Some c) = named_instance
+alias_or None None = unnamed
+
 abbrev pub entries_single : List Instance → Entries → ℕ → List ℕ → Local → Named
+entries_single t entries i x (alias j path) = alias_or (entries i x) (instance_within (look t (steps_of t) i x))
 entries_single t entries i x nothing = named_found true nameless (symbol_or_none t x)
 entries_single t entries i x known = entries_walk t entries i (x ∷ [])
 

@@ -1,16 +1,17 @@
 // What paths are to the types, as far as the entries have what they go through.
-ghost use Rattle.std.specs.Prelude.{◌≡◌, true, map};
+ghost use Rattle.std.specs.Prelude.{◌≡◌, ◌∷◌, [], true, map};
+ghost use Rattle.smv_text.specs.View.{plain_domain};
+ghost use Rattle.smv_meaning.specs.Formulas.{instance_within};
 ghost use Rattle.smv_meaning.specs.Names.{local, look, steps_of};
 ghost use Rattle.smv_meaning.specs.Naming.{unnamed};
-ghost use Rattle.smv_meaning.specs.Formulas.{instance_within};
-ghost use Rattle.smv_instances.specs.View.{instance_plain};
+ghost use Rattle.smv_instances.specs.View.{instance_plain, local_plain};
 ghost use Rattle.smv_types.specs.View.{named_seen};
-ghost use Rattle.smv_model_types.specs.Entries.{entries_seen, entry_or, named_instance, named_symbol, entries_walk, entries_names};
+ghost use Rattle.smv_model_types.specs.Entries.{entries_seen, alias_or, entry_or, or_unnamed, variable_or, named_instance, named_symbol, entries_single, entries_walk, entries_names};
 
 use crate::domains::variable_named;
-use smv_instances::{InstanceRows, Known, Table, Target, row_value_in};
+use smv_instances::{InstanceRows, Known, Table, row_value_in};
 use smv_intervals::Ty;
-use smv_text::Path;
+use smv_text::{Domain, Path, VarKind};
 use smv_types::{Named, Scope};
 use text_core::Names;
 
@@ -47,33 +48,103 @@ fn symbol() -> Named
     }
 }
 
-// What a name is that leads to no instance.
-fn entry<'a>(table: &Table<'a>, entries: &Entries<'a>, i: usize, x: &[u8]) -> Named
-    ensures { named_seen result ≡ entry_or (local (map instance_plain table.now) i x.now) (entries_seen entries.now i x.now) }
+// What the entries have for a name that leads to no instance.
+fn entered<'a>(entries: &Entries<'a>, i: usize, x: &[u8]) -> Named
+    ensures { named_seen result ≡ or_unnamed (entries_seen entries.now i x.now) }
 {
     match row_value_in(entries, i, x) {
         Some(named) => named,
-        None => match table.local(i, x) {
-            Known::Alias(_, _) => unnamed(),
-            Known::Formula(_, _) => unnamed(),
-            Known::Variable(kind, domain) => variable_named(kind, domain),
-            Known::Instance => unnamed(),
-            Known::Nothing => unnamed(),
+        None => unnamed(),
+    }
+}
+
+// What a variable is. Only the type of an enumeration is not told by its declaration alone in a step or two.
+fn variable<'a>(entries: &Entries<'a>, i: usize, x: &[u8], kind: VarKind, domain: &Domain) -> Named
+    ensures { named_seen result ≡ variable_or kind (plain_domain domain.now) (entries_seen entries.now i x.now) }
+{
+    match domain {
+        Domain::Members(_) => match row_value_in(entries, i, x) {
+            Some(named) => named,
+            None => variable_named(kind, domain),
+        },
+        Domain::Boolean => variable_named(kind, domain),
+        Domain::Between(_, _) => variable_named(kind, domain),
+        Domain::Bits(_) => variable_named(kind, domain),
+        Domain::Instance(_, _) => variable_named(kind, domain),
+    }
+}
+
+// What a name is that leads to no instance, given what it is in its own instance.
+fn entry<'a>(entries: &Entries<'a>, i: usize, x: &[u8], known: Known<'a>) -> Named
+    ensures { named_seen result ≡ entry_or (local_plain known.entry) (entries_seen entries.now i x.now) }
+{
+    match known {
+        Known::Alias(_, _) => entered(entries, i, x),
+        Known::Formula(_, _) => entered(entries, i, x),
+        Known::Variable(kind, domain) => variable(entries, i, x, kind, domain),
+        Known::Instance => unnamed(),
+        Known::Nothing => unnamed(),
+    }
+}
+
+// What a name is that ends its path, given what it is in its own instance.
+fn ended<'a>(
+    table: &Table<'a>,
+    entries: &Entries<'a>,
+    i: usize,
+    x: &'a [u8],
+    known: Known<'a>,
+) -> Named
+    requires known { local_plain known ≡ local (map instance_plain table.now) i x.now }
+    ensures { named_seen result ≡ entries_walk (map instance_plain table.now) (entries_seen entries.now) i (x.now ∷ []) }
+{
+    match table.instance_of_name(i, x, known) {
+        Some(_) => instance(),
+        None => entry(entries, i, x, known),
+    }
+}
+
+// What a parameter with a path is. Most have entries.
+fn alias<'a>(
+    table: &Table<'a>,
+    entries: &Entries<'a>,
+    i: usize,
+    x: &'a [u8],
+    known: Known<'a>,
+) -> Named
+    requires known { local_plain known ≡ local (map instance_plain table.now) i x.now }
+    ensures { named_seen result ≡ alias_or (entries_seen entries.now i x.now) (instance_within (look (map instance_plain table.now) (steps_of (map instance_plain table.now)) i x.now)) }
+{
+    match row_value_in(entries, i, x) {
+        Some(named) => named,
+        None => match table.instance_of_name(i, x, known) {
+            Some(_) => instance(),
+            None => unnamed(),
         },
     }
 }
 
-// The instance that a name leads to, where it leads to one.
-fn inner<'a>(table: &Table<'a>, i: usize, x: &[u8]) -> Option<usize>
-    ensures { result ≡ instance_within (look (map instance_plain table.now) (steps_of (map instance_plain table.now)) i x.now) }
+// What a path of one name is, given what this name is in its own instance.
+fn single<'a>(
+    table: &Table<'a>,
+    entries: &Entries<'a>,
+    i: usize,
+    x: &'a [u8],
+    known: Known<'a>,
+) -> Named
+    requires known { local_plain known ≡ local (map instance_plain table.now) i x.now }
+    ensures { named_seen result ≡ entries_single (map instance_plain table.now) (entries_seen entries.now) i x.now (local_plain known.entry) }
 {
-    match table.target_of_name(i, x) {
-        Target::Instance(c) => Some(c),
-        Target::Variable(_, _, _, _) => None,
-        Target::Body(_, _, _, _) => None,
-        Target::Symbol(_) => None,
-        Target::Cyclic => None,
-        Target::Missing => None,
+    match known {
+        Known::Alias(_, _) => alias(table, entries, i, x, known),
+        Known::Formula(_, _) => ended(table, entries, i, x, known),
+        Known::Variable(_, _) => ended(table, entries, i, x, known),
+        Known::Instance => ended(table, entries, i, x, known),
+        Known::Nothing => if table.has_symbol(x) {
+            symbol()
+        } else {
+            unnamed()
+        },
     }
 }
 
@@ -85,10 +156,11 @@ fn walked<'a>(table: &Table<'a>, entries: &Entries<'a>, i: usize, names: &Names)
     let mut at = i;
     for k in 0..names.len() {
         let x = names.at(k).bytes();
-        match inner(table, at, x) {
+        let known = table.local(at, x);
+        match (&*table).instance_of_name(at, x, known) {
             Some(c) => at = c,
             None => return if k + 1 == names.len() {
-                entry(table, entries, at, x)
+                entry(entries, at, x, known)
             } else {
                 unnamed()
             },
@@ -109,13 +181,7 @@ pub(crate) fn path_named<'a>(
 {
     if !path.from_self && path.names.len() == 1 {
         let x = path.names.at(0).bytes();
-        if let Known::Nothing = table.local(i, x) {
-            return if table.has_symbol(x) {
-                symbol()
-            } else {
-                unnamed()
-            };
-        }
+        return single(&*table, &*entries, i, x, table.local(i, x));
     }
     walked(table, entries, i, &path.names)
 }

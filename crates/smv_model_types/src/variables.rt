@@ -1,4 +1,4 @@
-// The variables of a model, each typed once.
+// The variables of a model that have enumerations, each typed once.
 ghost use Rattle.std.specs.Prelude.{map, IfOk, OnOk};
 ghost use Rattle.smv_meaning.specs.Names.{local};
 ghost use Rattle.smv_meaning.specs.Settled.{Acyclic};
@@ -9,7 +9,7 @@ use crate::domains::variable_named;
 use crate::names::Entries;
 use smv_instances::{Known, Table, add_row_in, no_rows_in};
 use smv_model_laws::names_settle;
-use smv_text::{Element, Elements, Items};
+use smv_text::{Domain, Element, Elements, Item, Items};
 use std::alloc::Global;
 use text_core::NoMemory;
 
@@ -30,6 +30,30 @@ fn put_variable<'a>(
     }
 }
 
+// The type of an enumeration is found once; any other is told by the declaration in a step or two.
+fn put_item<'a>(
+    table: &Table<'a>,
+    entries: &mut Entries<'a>,
+    i: usize,
+    item: &'a Item,
+) -> Result<(), NoMemory>
+    requires acyclic { Acyclic (map instance_plain table.now) }
+    requires right { Right (map instance_plain table.now) (entries_seen entries.old) }
+    ensures { OnOk result (Right (map instance_plain table.now) (entries_seen entries.new)) }
+{
+    names_settle();
+    match &item.domain {
+        Domain::Members(_) => {
+            put_variable(table, entries, i, item.name.bytes())?;
+            Ok(())
+        }
+        Domain::Boolean => Ok(()),
+        Domain::Between(_, _) => Ok(()),
+        Domain::Bits(_) => Ok(()),
+        Domain::Instance(_, _) => Ok(()),
+    }
+}
+
 fn put_items<'a>(
     table: &Table<'a>,
     entries: &mut Entries<'a>,
@@ -40,9 +64,8 @@ fn put_items<'a>(
     requires right { Right (map instance_plain table.now) (entries_seen entries.old) }
     ensures { OnOk result (Right (map instance_plain table.now) (entries_seen entries.new)) }
 {
-    names_settle();
     for item in items {
-        put_variable(table, entries, i, item.name.bytes())?;
+        put_item(table, entries, i, item)?;
     }
     Ok(())
 }
@@ -85,7 +108,7 @@ fn put_elements<'a>(
     Ok(())
 }
 
-/// The entries of the variables of all instances.
+/// The entries of the variables of all instances that have enumerations.
 pub(crate) fn variables_of<'a>(alloc: Global, table: &Table<'a>) -> Result<Entries<'a>, NoMemory>
     requires acyclic { Acyclic (map instance_plain table.now) }
     ensures { IfOk result (λ entries. Right (map instance_plain table.now) (entries_seen entries)) }

@@ -14,7 +14,7 @@ use smv_instances::{Table, Target, add_row, no_rows, path_below, row_value};
 use smv_text::{Assignments, Element, Elements, VarKind, When};
 use std::alloc::Global;
 use text_core::kinds::smv;
-use text_core::{NoMemory, Place, Refusal, Text};
+use text_core::{Name, NoMemory, Place, Refusal};
 
 /// An assignment: when it holds, what its target leads to, and where the target stands.
 #[derive(Clone, Copy)]
@@ -145,7 +145,7 @@ fn assignments_in<'a>(alloc: Global, table: &Table<'a>) -> Result<Vec<Assignment
 }
 
 // The dotted path of a target that is a variable.
-fn path_of(alloc: Global, table: &Table, target: &Target) -> Result<Text, NoMemory>
+fn path_of(alloc: Global, table: &Table, target: &Target) -> Result<Name, NoMemory>
     ensures { IfOk result (λ p. p ≡ target_path (found_plain (map instance_plain table.now) target.now)) }
 {
     match target {
@@ -154,15 +154,15 @@ fn path_of(alloc: Global, table: &Table, target: &Target) -> Result<Text, NoMemo
         } else {
             path_below(alloc, &[], x)
         },
-        Target::Body(_, _, _, _) => Ok(Text::new(alloc)),
-        Target::Instance(_) => Ok(Text::new(alloc)),
-        Target::Symbol(_) => Ok(Text::new(alloc)),
-        Target::Cyclic => Ok(Text::new(alloc)),
-        Target::Missing => Ok(Text::new(alloc)),
+        Target::Body(_, _, _, _) => Name::of(alloc, &[]),
+        Target::Instance(_) => Name::of(alloc, &[]),
+        Target::Symbol(_) => Name::of(alloc, &[]),
+        Target::Cyclic => Name::of(alloc, &[]),
+        Target::Missing => Name::of(alloc, &[]),
     }
 }
 
-fn paths_of(alloc: Global, table: &Table, list: &[Assignment]) -> Result<Vec<Text>, NoMemory>
+fn paths_of(alloc: Global, table: &Table, list: &[Assignment]) -> Result<Vec<Name>, NoMemory>
     ensures { IfOk result (λ ps. ps.items ≡ map assigned_path (map (assigned_plain table.now) list.now)) }
 {
     let mut paths = Vec::new(alloc);

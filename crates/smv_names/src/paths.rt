@@ -99,22 +99,22 @@ fn put_elements_paths<'a>(paths: &mut Vec<&'a Path>, elements: &'a Elements) -> 
     Ok(())
 }
 
-// The paths of the actuals, read in the instance that it stands in, and then those of its own elements.
+// The paths of the actuals, read in the instance that it stands in, and then those of its own elements. The list is room for them.
 #[tactic(auto, using(crate::specs::laws::Composing::both_pass, crate::specs::laws::Composing::ends, crate::specs::laws::Composing::ends_behind))]
 fn instance_checked<'a>(
-    alloc: Global,
     table: &Table<'a>,
     i: usize,
     at: &Instance<'a>,
+    paths: &mut Vec<&'a Path>,
 ) -> Result<(), NamesEnd>
     ensures { Settles result (path_checks (found_in (map instance_plain table.now)) i (instance_plain at.now)) }
 {
-    let mut outer = Vec::new(alloc);
-    put_all_paths(&mut outer, at.actuals)?;
-    all_checked(table, at.parent.unwrap_or(0), outer.as_slice())?;
-    let mut own = Vec::new(alloc);
-    put_elements_paths(&mut own, &at.module.elements)?;
-    all_checked(table, i, own.as_slice())?;
+    paths.clear();
+    put_all_paths(paths, at.actuals)?;
+    all_checked(table, at.parent.unwrap_or(0), paths.as_slice())?;
+    paths.clear();
+    put_elements_paths(paths, &at.module.elements)?;
+    all_checked(table, i, paths.as_slice())?;
     Ok(())
 }
 
@@ -123,8 +123,9 @@ fn instance_checked<'a>(
 pub fn paths_checked<'a>(alloc: Global, table: &Table<'a>) -> Result<(), NamesEnd>
     ensures { Settles result (over_instances (path_checks (found_in (map instance_plain table.now))) 0 (map instance_plain table.now)) }
 {
+    let mut paths = Vec::new(alloc);
     for i in 0..table.len() {
-        instance_checked(alloc, table, i, table.at(i))?;
+        instance_checked(table, i, table.at(i), &mut paths)?;
     }
     Ok(())
 }

@@ -2,20 +2,19 @@
 ghost use Rattle.std.specs.Prelude.{◌≡◌, ◌<◌, ◌++◌, [], List, ℕ, map, IfOk, OnOk, unwrap_or};
 ghost use Rattle.digraph.specs.Ordering.{IsOrder};
 ghost use Rattle.smv_meaning.specs.Instances.{Instance as Specified};
-ghost use Rattle.smv_meaning.specs.Names.{look, local, steps_of};
 ghost use Rattle.smv_meaning.specs.Phases.{formula_here};
-ghost use Rattle.smv_meaning.specs.Formulas.{placed_formulas, formulas_of, number_in, number_or, references_of, reference_graph, path_numbers, all_path_numbers, instance_within};
+ghost use Rattle.smv_meaning.specs.Formulas.{placed_formulas, formulas_of, number_in, number_or, references_of, reference_graph, path_numbers, all_path_numbers};
 ghost use Rattle.smv_references.specs.FormulaOrders.{IsOrdering};
 ghost use Rattle.smv_text.specs.View.{plain};
 ghost use Rattle.smv_meaning.specs.Expressions.{paths_of};
 ghost use Rattle.smv_instances.specs.Rows.{row_in};
-ghost use Rattle.smv_instances.specs.View.{instance_plain};
+ghost use Rattle.smv_instances.specs.View.{instance_plain, local_plain};
 ghost use Rattle.smv_references.specs.View.{formula_plain, path_seen, key_of};
 
 use crate::formulas::Formula;
 use crate::paths::paths_in;
 use digraph::{Graph, Order, sort};
-use smv_instances::{InstanceRows, Known, Table, Target, add_first_in, no_rows_in, row_value_in};
+use smv_instances::{InstanceRows, Known, Table, add_first_in, no_rows_in, row_value_in};
 use smv_text::{Expr, Path};
 use std::alloc::Global;
 use text_core::{List, Names, NoMemory};
@@ -57,18 +56,17 @@ fn number<'a>(numbers: &FormulaNumbers<'a>, i: usize, x: &[u8]) -> usize
     }
 }
 
-// Adds the number of a name that is a definition or an actual.
+// Adds the number of a name that is a definition or an actual, given what it is in its instance.
 fn note<'a>(
-    table: &Table<'a>,
     numbers: &FormulaNumbers<'a>,
     i: usize,
     x: &[u8],
+    known: Known<'a>,
     row: &mut List<usize>,
 ) -> Result<(), NoMemory>
-    requires { (i : ℕ) (x : List ℕ) → row_in numbers.now i x ≡ number_in (formulas_of (map instance_plain table.now)) (i, x) }
-    ensures { OnOk result (row.new ≡ row.old ++ map (number_or (formulas_of (map instance_plain table.now))) (formula_here i x.now (local (map instance_plain table.now) i x.now))) }
+    ensures { (t : List Specified) → ((j : ℕ) (y : List ℕ) → row_in numbers.now j y ≡ number_in (formulas_of t) (j, y)) → OnOk result (row.new ≡ row.old ++ map (number_or (formulas_of t)) (formula_here i x.now (local_plain known.entry))) }
 {
-    match table.local(i, x) {
+    match known {
         Known::Alias(_, _) => row.push(number(numbers, i, x))?,
         Known::Formula(_, _) => row.push(number(numbers, i, x))?,
         Known::Variable(_, _) => {}
@@ -76,20 +74,6 @@ fn note<'a>(
         Known::Nothing => {}
     }
     Ok(())
-}
-
-// The instance that a name leads to, where it leads to one.
-fn inner<'a>(table: &Table<'a>, i: usize, x: &'a [u8]) -> Option<usize>
-    ensures { result ≡ instance_within (look (map instance_plain table.now) (steps_of (map instance_plain table.now)) i x.now) }
-{
-    match table.target_of_name(i, x) {
-        Target::Instance(c) => Some(c),
-        Target::Variable(_, _, _, _) => None,
-        Target::Body(_, _, _, _) => None,
-        Target::Symbol(_) => None,
-        Target::Cyclic => None,
-        Target::Missing => None,
-    }
 }
 
 // Adds the numbers of the definitions and actuals that a path goes through.
@@ -107,8 +91,9 @@ fn add_path_numbers<'a>(
     let mut at = i;
     for k in 0..names.len() {
         let x = names.at(k).bytes();
-        note(table, numbers, at, x, row)?;
-        match inner(table, at, x) {
+        let known = table.local(at, x);
+        note(numbers, at, x, known, row)?;
+        match table.instance_of_name(at, x, known) {
             None => return Ok(()),
             Some(c) => at = c,
         }

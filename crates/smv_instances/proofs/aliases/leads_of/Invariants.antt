@@ -3,8 +3,5 @@ use Rattle.smv_instances.specs.Leads.{Right}
 use Rattle.smv_instances.specs.View.{instance_plain}
 use Rattle.smv_instances.proofs.aliases.leads_of.Given as goal
 
-abbrev pub invariant-loop-key : goal.invariant-loop-key
-invariant-loop-key l = Right (map instance_plain l.parts) l.leads
-
 abbrev pub invariant-loop : goal.invariant-loop
 invariant-loop l = Right (map instance_plain l.parts) l.leads

@@ -2,7 +2,7 @@ use Rattle.std.proofs.Common.{◌≡◌, map, sym, subst}
 use Rattle.smv_meaning.specs.Names.{cyclic, steps_of, look}
 use Rattle.smv_instances.specs.View.{instance_plain}
 use Rattle.smv_instances.proofs.LeadLemmas.{open_is_cyclic}
-use Rattle.smv_instances.proofs.table.Table.target_of_name.Goals as goal
+use Rattle.smv_instances.proofs.table.Table.target_of_alias.Goals as goal
 
 pub returns-in-None : goal.returns-in-None
 returns-in-None c =

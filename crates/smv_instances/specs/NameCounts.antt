@@ -1,0 +1,12 @@
+-- How many names a module declares.
+use Rattle.std.specs.Prelude.{ℕ, ◌+◌, length, sum_by}
+use Rattle.smv_text.specs.Tree.{PlainElement, vars, defines, PlainModule}
+
+abbrev pub names_of_element : PlainElement → ℕ
+names_of_element (vars kind items) = length items
+names_of_element (defines ds) = length ds
+names_of_element e = 0
+
+-- the parameters, the variables and the definitions
+abbrev pub names_of : PlainModule → ℕ
+names_of m = length m.parameters + sum_by names_of_element m.elements
