@@ -1,10 +1,10 @@
 -- The parts of the formulas of a system by the numbers of instances.
-use Rattle.std.proofs.Common.{◌≡◌, ℕ, zero, suc, ◌+◌, ◌≤◌, ◌<◌, ◌++◌, ◌==◌, if◌then◌else◌, Bool, true, false, List, [], ◌∷◌, drop, length, map, flat_map, Result, Ok, Err, IfOk, Vec, Global, refl, sym, ap, ◌∙◌, append_assoc, append-nil, inl, inr}
+use Rattle.std.proofs.Common.{◌≡◌, ℕ, zero, suc, ◌+◌, ◌≤◌, ◌<◌, ◌++◌, ◌==◌, if◌then◌else◌, get_or, Bool, true, false, List, [], ◌∷◌, drop, length, map, flat_map, Result, Ok, Err, refl, sym, ap, ◌∙◌, arith, append_assoc, inl, inr}
+use Rattle.std.specs.Result.{OnOk}
 use Rattle.std.proofs.lemmas.Bool.Decides.{eqb_tells}
+use Rattle.std.proofs.lemmas.List.{drop-map, length-map}
+use Rattle.text_core.specs.declared.errors.NoMemory.{NoMemory}
 use Rattle.smv_text.specs.declared.tree.When.{When}
-use Rattle.smv_text.specs.declared.tree.When.TheVariants.{Always, First, Following}
-use Rattle.smv_items.specs.declared.items.ItemKind.{ItemKind}
-use Rattle.smv_items.specs.declared.items.ItemKind.TheVariants.{State, Frozen, Input, Define, Actual}
 use Rattle.smv_items.specs.declared.items.FlatItem.{FlatItem}
 use Rattle.smv_items.specs.FlatItems.{PlainFlatItem}
 use Rattle.smv_items.specs.FlatItemView.{item_plain}
@@ -14,126 +14,143 @@ use Rattle.smv_flat.specs.declared.forms.FlatFormula.{FlatFormula}
 use Rattle.smv_flat.specs.FlatForms.{Form, PlainFlat}
 use Rattle.smv_flat.specs.FlatFormulas.{form_plain}
 use Rattle.smv_flat.specs.FlatTree.{FlatTree}
+use Rattle.smv_flat.specs.laws.FlatSteps.{drop_item}
 use Rattle.moxi_terms.specs.declared.data.TermOp.TheVariants as op
 use Rattle.moxi_terms.specs.Tree.{Tree, variable, trees_of}
 use Rattle.smv_script.specs.Operators.{equal_term}
 use Rattle.smv_script.specs.Terms.{Coding, translation}
-use Rattle.smv_script.specs.Script.{all_term, body_part, body_parts, form_parts, instance_parts, invar_item, item_parts, numbered_parts, parts_upto, trans_item}
+use Rattle.smv_script.specs.Script.{all_term, body_part, body_parts, form_parts, instance_parts, item_parts, numbered_parts, parts_upto}
 use Rattle.smv_script_terms.specs.Operands.{several}
-use Rattle.text_core.specs.declared.errors.NoMemory.{NoMemory}
-use Rattle.moxi_terms.specs.declared.term.Term.{Term}
-use Rattle.smv_script_terms.specs.declared.buckets.Owned.{Owned}
-use Rattle.smv_script_terms.specs.Buckets.{bucket, owned_by, owned_plain, owned_upto}
-use Rattle.smv_script_terms.specs.Parts.{all_bodies, fixed_by, form_owned, item_owned, role_owned}
-use Rattle.smv_script_terms.proofs.Steps.{IsOfElements}
+use Rattle.smv_script_terms.specs.Chains.{AreChained}
+use Rattle.smv_script_terms.specs.Parts.{body_equation, body_number, body_number_of, body_owned, form_owned, item_number, item_owned, owned_by}
+use Rattle.smv_script_terms.proofs.Walked.{Walks, walk_ends, walk_goes_on}
 
 -- ---- bodies
 
-pub owned_joined : (i : ℕ) (xs ys : List (ℕ × List Tree)) → owned_by i (xs ++ ys) ≡ owned_by i xs ++ owned_by i ys
-owned_joined i [] ys = refl
-owned_joined i (x ∷ xs) ys = ap (λ ts. (if x.0 == i then x.1 else []) ++ ts) (owned_joined i xs ys) ∙ sym (append_assoc (if x.0 == i then x.1 else []) (owned_by i xs) (owned_by i ys))
+abbrev equation : Coding → ℕ → FlatTree → List Tree
+equation c k e = equal_term (variable (c.place k) false) ((translation c e).term 0) ∷ []
 
-abbrev body_equation : Coding → ℕ → FlatTree → List Tree
-body_equation c k e = equal_term (variable (c.place k) false) ((translation c e).term 0) ∷ []
-
-at_number : (c : Coding) (j k : ℕ) (e : FlatTree) → (if j == k then body_equation c j e else []) ≡ (if j == k then body_equation c k e else [])
+at_number : (c : Coding) (j k : ℕ) (e : FlatTree) → (if j == k then equation c j e else []) ≡ (if j == k then equation c k e else [])
 at_number c j k e =
     elim (eqb_tells j k) [
-      | inl q ↦ ap (λ n. if j == k then body_equation c n e else []) q.1
-      | inr q ↦ ap (λ b. if b then body_equation c j e else []) q.0 ∙ sym (ap (λ b. if b then body_equation c k e else []) q.0)
+      | inl q ↦ ap (λ n. if j == k then equation c n e else []) q.1
+      | inr q ↦ ap (λ b. if b then equation c j e else []) q.0 ∙ sym (ap (λ b. if b then equation c k e else []) q.0)
     ]
 
-role_is : (c : Coding) (k : ℕ) (r : Role) (e : FlatTree) → owned_by k (role_owned c r e) ≡ body_part c k r e
-role_is c k (Body j) e = append-nil (if j == k then body_equation c j e else []) ∙ at_number c j k e
-role_is c k (Assign w j) e = refl
-role_is c k Init e = refl
-role_is c k Trans e = refl
-role_is c k Invar e = refl
-role_is c k Invariant e = refl
+none_either : (b : Bool) → ◌≡◌ {A = List Tree} (if b then [] else []) []
+none_either true = refl
+none_either false = refl
 
-pub bodies_are : (c : Coding) (k : ℕ) (fs : List Form) → owned_by k (all_bodies c fs) ≡ body_parts c k fs
-bodies_are c k [] = refl
-bodies_are c k (f ∷ fs) =
-    owned_joined k (role_owned c f.role f.body) (all_bodies c fs) ∙ ap (λ ts. ts ++ owned_by k (all_bodies c fs)) (role_is c k f.role f.body)
-    ∙ ap (λ ts. body_part c k f.role f.body ++ ts) (bodies_are c k fs)
+body_is : (none k : ℕ) (c : Coding) (r : Role) (e : FlatTree) → (if body_number none r == k then body_equation c r e else []) ≡ body_part c k r e
+body_is none k c (Body j) e = at_number c j k e
+body_is none k c (Assign w j) e = none_either (none == k)
+body_is none k c Init e = none_either (none == k)
+body_is none k c Trans e = none_either (none == k)
+body_is none k c Invar e = none_either (none == k)
+body_is none k c Invariant e = none_either (none == k)
 
-abbrev pub body_list : Coding → List FlatFormula → List (ℕ × List Tree)
-body_list c xs = all_bodies c (map form_plain xs)
-
-pub body_elements : (c : Coding) → IsOfElements (body_list c)
-body_elements c x xs = ap (λ ys. ys ++ all_bodies c (map form_plain xs)) (sym (append-nil (role_owned c x.role (form_plain x).body)))
+pub bodies_are : (none k : ℕ) (c : Coding) (fs : List Form) → owned_by k (map (body_owned none c) fs) ≡ body_parts c k fs
+bodies_are none k c [] = refl
+bodies_are none k c (f ∷ fs) =
+    ap (λ ts. ts ++ owned_by k (map (body_owned none c) fs)) (body_is none k c f.role f.body) ∙ ap (λ ts. body_part c k f.role f.body ++ ts) (bodies_are none k c fs)
 
 -- ---- items
 
-pub fixed_is : (flat : PlainFlat) (c : Coding) (k : ℕ) (m : PlainFlatItem) (kind : ItemKind) → fixed_by c flat.symbols k m (body_parts c k flat.forms) kind ≡ invar_item flat c k m kind
-fixed_is flat c k m State = refl
-fixed_is flat c k m Frozen = refl
-fixed_is flat c k m Input = refl
-fixed_is flat c k m Define = refl
-fixed_is flat c k m Actual = refl
+pub items_are : (i : ℕ) (flat : PlainFlat) (c : Coding) (when : When) (k : ℕ) (ms : List PlainFlatItem) → owned_by i (item_owned (item_parts flat c when) k ms) ≡ numbered_parts flat c when i k ms
+items_are i flat c when k [] = refl
+items_are i flat c when k (m ∷ ms) = ap (λ ts. (if m.instance == i then item_parts flat c when k m else []) ++ ts) (items_are i flat c when (k + 1) ms)
 
--- one item more
-pub item_on : (part : ℕ → PlainFlatItem → List Tree) (xs : List FlatItem) (k : ℕ) (x : FlatItem) (all more : List (ℕ × List Tree)) (ts : List Tree) (total : List (ℕ × List Tree)) → drop k xs ≡ x ∷ drop (k + 1) xs
-    → more ≡ all ++ (x.instance, ts) ∷ [] → ts ≡ part k (item_plain x) → all ++ item_owned part k (map item_plain (drop k xs)) ≡ total → more ++ item_owned part (k + 1) (map item_plain (drop (k + 1) xs)) ≡ total
-item_on part xs k x all more ts total h e m r =
-    ap (λ ys. ys ++ item_owned part (k + 1) (map item_plain (drop (k + 1) xs))) (e ∙ ap (λ us. all ++ (x.instance, us) ∷ []) m)
-    ∙ append_assoc all ((x.instance, part k (item_plain x)) ∷ []) (item_owned part (k + 1) (map item_plain (drop (k + 1) xs)))
-    ∙ ap (λ ys. all ++ item_owned part k (map item_plain ys)) (sym h) ∙ r
+pub item_numbers : (part : ℕ → PlainFlatItem → List Tree) (k : ℕ) (xs : List FlatItem) → map (λ x. x.0) (item_owned part k (map item_plain xs)) ≡ map item_number xs
+item_numbers part k [] = refl
+item_numbers part k (x ∷ xs) = ap (λ ns. x.instance ∷ ns) (item_numbers part (k + 1) xs)
 
-by_parts : (i : ℕ) (part : ℕ → PlainFlatItem → List Tree) (flat : PlainFlat) (c : Coding) (when : When) (k : ℕ) (ms : List PlainFlatItem) → ((k : ℕ) (m : PlainFlatItem) → part k m ≡ item_parts flat c when k m)
-    → owned_by i (item_owned part k ms) ≡ numbered_parts flat c when i k ms
-by_parts i part flat c when k [] h = refl
-by_parts i part flat c when k (m ∷ ms) h =
-    ap (λ ts. (if m.instance == i then ts else []) ++ owned_by i (item_owned part (k + 1) ms)) (h k m)
-    ∙ ap (λ ts. (if m.instance == i then item_parts flat c when k m else []) ++ ts) (by_parts i part flat c when (k + 1) ms h)
+items_left : (part : ℕ → PlainFlatItem → List Tree) (k p : ℕ) (ms : List PlainFlatItem) → drop p (item_owned part k ms) ≡ item_owned part (k + p) (drop p ms)
+items_left part k zero ms = ap (λ n. item_owned part n ms) (let r : k ≡ k + 0 = omega arith in r)
+items_left part k (suc p) [] = refl
+items_left part k (suc p) (m ∷ ms) = items_left part (k + 1) p ms ∙ ap (λ n. item_owned part n (drop p ms)) (let r : k + 1 + p ≡ k + suc p = omega arith in r)
 
-either_none : (b : Bool) (ts : List Tree) → (if b then [] else []) ++ ts ≡ ts
-either_none true ts = refl
-either_none false ts = refl
+items_from : (part : ℕ → PlainFlatItem → List Tree) (p : ℕ) (xs : List FlatItem) → drop p (item_owned part 0 (map item_plain xs)) ≡ item_owned part p (map item_plain (drop p xs))
+items_from part p xs = items_left part 0 p (map item_plain xs) ∙ ap (item_owned part (0 + p)) (drop-map item_plain p xs) ∙ ap (λ n. item_owned part n (map item_plain (drop p xs))) (let r : 0 + p ≡ p = omega arith in r)
 
-pub none_first : (i : ℕ) (flat : PlainFlat) (c : Coding) (k : ℕ) (ms : List PlainFlatItem) → [] ≡ numbered_parts flat c First i k ms
-none_first i flat c k [] = refl
-none_first i flat c k (m ∷ ms) = none_first i flat c (k + 1) ms ∙ sym (either_none (m.instance == i) (numbered_parts flat c First i (k + 1) ms))
+item_first : (part : ℕ → PlainFlatItem → List Tree) (p : ℕ) (xs : List FlatItem) (x : FlatItem) → p < length xs → x ≡ get_or xs p x
+    → drop p (item_owned part 0 (map item_plain xs)) ≡ (x.instance, part p (item_plain x)) ∷ drop (p + 1) (item_owned part 0 (map item_plain xs))
+item_first part p xs x h e =
+    items_from part p xs ∙ ap (λ ys. item_owned part p (map item_plain ys)) (drop_item xs p x h e)
+    ∙ ap (λ os. (x.instance, part p (item_plain x)) ∷ os) (sym (items_from part (p + 1) xs))
 
-pub invars_are : (i : ℕ) (flat : PlainFlat) (c : Coding) (ms : List PlainFlatItem) → owned_by i (item_owned (λ k m. invar_item flat c k m m.kind) 0 ms) ≡ numbered_parts flat c Always i 0 ms
-invars_are i flat c ms = by_parts i (λ k m. invar_item flat c k m m.kind) flat c Always 0 ms (λ k m. refl)
+-- the parts of an item are added
+pub items_go_on : (part : ℕ → PlainFlatItem → List Tree) (xs : List FlatItem) (firsts nexts : List ℕ) (count i p q : ℕ) (x : FlatItem) (done more total : List Tree) → AreChained (map item_number xs) count 0 firsts nexts → i < count
+    → p < length xs → x ≡ get_or xs p x → more ≡ done ++ part p (item_plain (get_or xs p x)) → q ≡ get_or nexts p 0 → Walks (map item_number xs) i (item_owned part 0 (map item_plain xs)) done total p
+    → Walks (map item_number xs) i (item_owned part 0 (map item_plain xs)) more total q
+items_go_on part xs firsts nexts count i p q x done more total c k l e m n w =
+    walk_goes_on (item_owned part 0 (map item_plain xs)) (map item_number xs) firsts nexts count i p q (x.instance, part p (item_plain x)) done more total (item_numbers part 0 xs) c k
+    (let r : length (map item_number xs) ≡ length xs = length-map xs item_number in omega (arith, r, l)) (item_first part p xs x l e) (m ∙ ap (λ y. done ++ part p (item_plain y)) (sym e)) n w
 
-pub transitions_are : (i : ℕ) (flat : PlainFlat) (c : Coding) (ms : List PlainFlatItem) → owned_by i (item_owned (λ k m. trans_item c k m.kind) 0 ms) ≡ numbered_parts flat c Following i 0 ms
-transitions_are i flat c ms = by_parts i (λ k m. trans_item c k m.kind) flat c Following 0 ms (λ k m. refl)
+pub items_end : (i p : ℕ) (flat : PlainFlat) (c : Coding) (when : When) (xs : List FlatItem) (done before : List Tree) → length xs ≤ p
+    → Walks (map item_number xs) i (item_owned (item_parts flat c when) 0 (map item_plain xs)) done (before ++ owned_by i (item_owned (item_parts flat c when) 0 (map item_plain xs))) p
+    → done ≡ before ++ numbered_parts flat c when i 0 (map item_plain xs)
+items_end i p flat c when xs done before h w =
+    let os = item_owned (item_parts flat c when) 0 (map item_plain xs) in
+    walk_ends os (map item_number xs) i p done (before ++ owned_by i os) (item_numbers (item_parts flat c when) 0 xs) (let r : length (map item_number xs) ≡ length xs = length-map xs item_number in omega (arith, r, h)) w
+    ∙ ap (λ ts. before ++ ts) (items_are i flat c when 0 (map item_plain xs))
 
--- ---- the formula
+-- ---- formulas
+
+-- of each formula its number and its parts
+pub form_numbers : (g : Form → ℕ × List Tree) (h : FlatFormula → ℕ) (fs : List FlatFormula) → ((f : FlatFormula) → (g (form_plain f)).0 ≡ h f) → map (λ x. x.0) (map g (map form_plain fs)) ≡ map h fs
+form_numbers g h [] same = refl
+form_numbers g h (f ∷ fs) same = ap (λ n. n ∷ map (λ x. x.0) (map g (map form_plain fs))) (same f) ∙ ap (λ ns. h f ∷ ns) (form_numbers g h fs same)
+
+forms_from : (g : Form → ℕ × List Tree) (p : ℕ) (fs : List FlatFormula) → drop p (map g (map form_plain fs)) ≡ map g (map form_plain (drop p fs))
+forms_from g p fs = drop-map g p (map form_plain fs) ∙ ap (map g) (drop-map form_plain p fs)
+
+form_first : (g : Form → ℕ × List Tree) (p : ℕ) (fs : List FlatFormula) (f : FlatFormula) → p < length fs → f ≡ get_or fs p f
+    → drop p (map g (map form_plain fs)) ≡ g (form_plain f) ∷ drop (p + 1) (map g (map form_plain fs))
+form_first g p fs f h e =
+    forms_from g p fs ∙ ap (λ ys. map g (map form_plain ys)) (drop_item fs p f h e)
+    ∙ ap (λ os. g (form_plain f) ∷ os) (sym (forms_from g (p + 1) fs))
+
+-- the parts of a formula are added
+pub forms_go_on : (g : Form → ℕ × List Tree) (h : FlatFormula → ℕ) (fs : List FlatFormula) (firsts nexts : List ℕ) (count i p q : ℕ) (f : FlatFormula) (done more total : List Tree) → ((f : FlatFormula) → (g (form_plain f)).0 ≡ h f)
+    → AreChained (map h fs) count 0 firsts nexts → i < count → p < length fs → f ≡ get_or fs p f → more ≡ done ++ (g (form_plain (get_or fs p f))).1 → q ≡ get_or nexts p 0
+    → Walks (map h fs) i (map g (map form_plain fs)) done total p → Walks (map h fs) i (map g (map form_plain fs)) more total q
+forms_go_on g h fs firsts nexts count i p q f done more total same c k l e m n w =
+    walk_goes_on (map g (map form_plain fs)) (map h fs) firsts nexts count i p q (g (form_plain f)) done more total (form_numbers g h fs same) c k
+    (let r : length (map h fs) ≡ length fs = length-map fs h in omega (arith, r, l)) (form_first g p fs f l e) (m ∙ ap (λ y. done ++ (g (form_plain y)).1) (sym e)) n w
+
+pub forms_end : (g : Form → ℕ × List Tree) (h : FlatFormula → ℕ) (fs : List FlatFormula) (i p : ℕ) (done total : List Tree) → ((f : FlatFormula) → (g (form_plain f)).0 ≡ h f) → length fs ≤ p
+    → Walks (map h fs) i (map g (map form_plain fs)) done total p → done ≡ total
+forms_end g h fs i p done total same l w =
+    walk_ends (map g (map form_plain fs)) (map h fs) i p done total (form_numbers g h fs same) (let r : length (map h fs) ≡ length fs = length-map fs h in omega (arith, r, l)) w
+
+pub bodies_end : (none k p : ℕ) (c : Coding) (fs : List FlatFormula) (done before : List Tree) → length fs ≤ p
+    → Walks (map (body_number_of none) fs) k (map (body_owned none c) (map form_plain fs)) done (before ++ owned_by k (map (body_owned none c) (map form_plain fs))) p → done ≡ before ++ body_parts c k (map form_plain fs)
+bodies_end none k p c fs done before l w =
+    forms_end (body_owned none c) (body_number_of none) fs k p done (before ++ owned_by k (map (body_owned none c) (map form_plain fs))) (λ f. refl) l w ∙ ap (λ ts. before ++ ts) (bodies_are none k c (map form_plain fs))
 
 forms_are : (i : ℕ) (c : Coding) (when : When) (fs : List Form) → owned_by i (map (form_owned c when) fs) ≡ flat_map (λ (f : Form). if f.instance == i then form_parts c when f.role f.body else []) fs
 forms_are i c when [] = refl
 forms_are i c when (f ∷ fs) = ap (λ ts. (if f.instance == i then form_parts c when f.role f.body else []) ++ ts) (forms_are i c when fs)
 
-of_instance : (i : ℕ) (flat : PlainFlat) (c : Coding) (when : When) (xs : List (ℕ × List Tree)) → owned_by i xs ≡ numbered_parts flat c when i 0 flat.items
-    → owned_by i (xs ++ map (form_owned c when) flat.forms) ≡ instance_parts flat c when i
-of_instance i flat c when xs h =
-    owned_joined i xs (map (form_owned c when) flat.forms) ∙ ap (λ ts. ts ++ owned_by i (map (form_owned c when) flat.forms)) h
-    ∙ ap (λ ts. numbered_parts flat c when i 0 flat.items ++ ts) (forms_are i c when flat.forms)
+-- ---- the whole formula
 
-upto_is : (n : ℕ) (flat : PlainFlat) (c : Coding) (when : When) (xs : List (ℕ × List Tree)) → ((i : ℕ) → owned_by i xs ≡ instance_parts flat c when i) → owned_upto n xs ≡ parts_upto flat c when n
-upto_is zero flat c when xs h = refl
-upto_is (suc n) flat c when xs h = ap (λ ts. ts ++ owned_by n xs) (upto_is n flat c when xs h) ∙ ap (λ ts. parts_upto flat c when n ++ ts) (h n)
+-- those of the items of an instance, and those of its formulas
+pub instance_done : (i : ℕ) (flat : PlainFlat) (c : Coding) (when : When) (done more all : List Tree) → more ≡ done ++ numbered_parts flat c when i 0 flat.items → all ≡ more ++ owned_by i (map (form_owned c when) flat.forms)
+    → all ≡ done ++ instance_parts flat c when i
+instance_done i flat c when done more all h e =
+    e ∙ ap (λ ts. ts ++ owned_by i (map (form_owned c when) flat.forms)) h ∙ append_assoc done (numbered_parts flat c when i 0 flat.items) (owned_by i (map (form_owned c when) flat.forms))
+    ∙ ap (λ ts. done ++ (numbered_parts flat c when i 0 flat.items ++ ts)) (forms_are i c when flat.forms)
 
-pub parts_are : (n : ℕ) (flat : PlainFlat) (c : Coding) (when : When) (xs ys : List (ℕ × List Tree)) → ((i : ℕ) → owned_by i xs ≡ numbered_parts flat c when i 0 flat.items) → ys ≡ xs ++ map (form_owned c when) flat.forms
-    → owned_upto n ys ≡ parts_upto flat c when n
-parts_are n flat c when xs ys h e = ap (owned_upto n) e ∙ upto_is n flat c when (xs ++ map (form_owned c when) flat.forms) (λ i. of_instance i flat c when xs (h i))
+-- where there is memory
+pub where_ok : {A : Type 0} (P Q : Type 0) (r : Result A NoMemory) → (P → Q) → OnOk r P → OnOk r Q
+where_ok P Q (Ok a) f h = f h
+where_ok P Q (Err e) f h = h
+
+pub instances_go_on : (i : ℕ) (flat : PlainFlat) (c : Coding) (when : When) (done more : List Tree) → more ≡ done ++ instance_parts flat c when i → done ≡ parts_upto flat c when i → more ≡ parts_upto flat c when (i + 1)
+instances_go_on i flat c when done more h e =
+    h ∙ ap (λ ts. ts ++ instance_parts flat c when i) e ∙ ap (parts_upto flat c when) (let r : suc i ≡ i + 1 = omega arith in r)
 
 pub all_is : (ts : List Tree) → several op.And true (trees_of ts) ≡ all_term ts
 all_is [] = refl
 all_is (t ∷ []) = refl
 all_is (t ∷ u ∷ ts) = refl
-
--- ---- where there is memory
-
-pub ok_bodies : (c : Coding) (fs : List Form) (xs : List (ℕ × List Tree)) (r : Result (Vec (Vec Term Global) Global) NoMemory) → xs ≡ all_bodies c fs → IfOk r (λ bs. (k : ℕ) → bucket bs.items k ≡ owned_by k xs)
-    → IfOk r (λ bs. (k : ℕ) → bucket bs.items k ≡ body_parts c k fs)
-ok_bodies c fs xs (Ok bs) h g = λ k. g k ∙ ap (owned_by k) h ∙ bodies_are c k fs
-ok_bodies c fs xs (Err e) h g = g
-
-pub ok_owned : (flat : PlainFlat) (c : Coding) (when w : When) (ms : List PlainFlatItem) (os : List (ℕ × List Tree)) (r : Result (Vec Owned Global) NoMemory) → ((i : ℕ) → owned_by i os ≡ numbered_parts flat c w i 0 ms)
-    → when ≡ w → IfOk r (λ xs. map owned_plain xs.items ≡ os) → IfOk r (λ xs. (i : ℕ) → owned_by i (map owned_plain xs.items) ≡ numbered_parts flat c when i 0 ms)
-ok_owned flat c when w ms os (Ok xs) h e g = λ i. ap (owned_by i) g ∙ h i ∙ ap (λ v. numbered_parts flat c v i 0 ms) (sym e)
-ok_owned flat c when w ms os (Err x) h e g = g

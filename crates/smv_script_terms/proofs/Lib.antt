@@ -5,5 +5,6 @@ mod Depths
 pub mod Translated
 mod Termed
 pub mod Numbered
-mod Distributed
+mod Chained
+mod Walked
 mod Formed

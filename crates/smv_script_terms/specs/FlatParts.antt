@@ -1,14 +1,35 @@
 -- The flat form of which the code makes a script.
-use Rattle.std.specs.Prelude.{ℕ, List, map}
+use Rattle.std.specs.Prelude.{◌≡◌, ℕ, List, length, map, max}
+use Rattle.smv_text.specs.declared.tree.When.{When}
+use Rattle.smv_text.specs.declared.tree.When.TheVariants.{Always}
 use Rattle.smv_items.specs.declared.items.FlatItem.{FlatItem}
 use Rattle.smv_items.specs.FlatItemView.{item_plain}
 use Rattle.smv_flat.specs.declared.forms.FlatFormula.{FlatFormula}
 use Rattle.smv_flat.specs.FlatForms.{PlainFlat}
 use Rattle.smv_flat.specs.FlatFormulas.{form_plain}
+use Rattle.smv_script.specs.Script.{above_forms, above_items}
+use Rattle.smv_script_terms.specs.declared.chains.Chains.{Chains}
 use Rattle.smv_script_terms.specs.declared.formulas.FlatParts.{FlatParts}
+use Rattle.smv_script_terms.specs.declared.formulas.FlatChains.{FlatChains}
+use Rattle.smv_script_terms.specs.Chains.{AreChains}
+use Rattle.smv_script_terms.specs.Parts.{body_number_of, form_number, item_number}
 
 abbrev pub flat_in : List FlatItem → List (List ℕ) → List FlatFormula → PlainFlat
 flat_in items symbols formulas = record { items = map item_plain items; symbols = symbols; forms = map form_plain formulas }
 
 abbrev pub plain_parts : FlatParts → PlainFlat
 plain_parts s = flat_in s.items.now s.symbols.now s.formulas.now
+
+-- one more than the greatest number of an instance
+abbrev pub instance_count : FlatParts → ℕ
+instance_count s = max (above_items (map item_plain s.items.now)) (above_forms (map form_plain s.formulas.now))
+
+-- the chains of the bodies of each item
+abbrev pub AreBodyChains : FlatParts → Chains → Type 0
+AreBodyChains s c = AreChains (map (body_number_of (length s.items.now)) s.formulas.now) (length s.items.now) c
+
+-- the chains of what belongs to each instance; bodies are asked for each state alone
+pub record AreFlatChains (s : FlatParts) (when : When) (c : FlatChains) : Type 0 where
+  pub items : AreChains (map item_number s.items.now) (instance_count s) c.items
+  pub formulas : AreChains (map form_number s.formulas.now) (instance_count s) c.formulas
+  pub bodies : when ≡ Always → AreBodyChains s c.bodies

@@ -3,6 +3,6 @@ pub mod Operands
 pub mod Functions
 pub mod Readings
 pub mod Groups
-pub mod Buckets
+pub mod Chains
 pub mod Parts
 pub mod FlatParts

@@ -1,19 +1,20 @@
 // The formulas of a system.
-ghost use Rattle.std.specs.Prelude.{◌≡◌, ◌++◌, ℕ, IfOk, OnOk, map, max};
+ghost use Rattle.std.specs.Prelude.{◌≡◌, ◌<◌, ◌++◌, IfOk, OnOk, length, map, max};
 ghost use Rattle.moxi_terms.specs.View.{plain};
+ghost use Rattle.smv_text.specs.declared.tree.When.TheVariants.{Always};
 ghost use Rattle.smv_items.specs.FlatItemView.{item_plain};
 ghost use Rattle.smv_flat.specs.FlatFormulas.{form_plain};
-ghost use Rattle.smv_script.specs.Script.{above_forms, above_items, formula_of, invar_item, numbered_parts, trans_item};
+ghost use Rattle.smv_script.specs.Script.{above_forms, above_items, formula_of, instance_parts, item_parts, numbered_parts, parts_upto};
+ghost use Rattle.smv_script_terms.specs.Chains.{AreChains};
+ghost use Rattle.smv_script_terms.specs.FlatParts.{AreBodyChains, AreFlatChains, instance_count, plain_parts};
+ghost use Rattle.smv_script_terms.specs.Parts.{form_number, form_owned, item_number, owned_by};
 ghost use Rattle.smv_script_terms.specs.Questions.{codes_of};
-ghost use Rattle.smv_script_terms.specs.Parts.{form_owned, item_owned};
-ghost use Rattle.smv_script_terms.specs.Buckets.{owned_by, owned_plain};
-ghost use Rattle.smv_script_terms.specs.FlatParts.{plain_parts};
 
-use crate::buckets::{Owned, distributed};
+use crate::chains::{Chains, chains_of};
 use crate::coding::Coding;
 use crate::operators::several;
-use crate::parts::{bodies_of, form_parts, invar_item, trans_item};
-use moxi_terms::{Term, TermOp};
+use crate::parts::{add_form, add_invar_item, add_trans_item, body_chains};
+use moxi_terms::{Term, TermOp, Terms};
 use name_set::NameSet;
 use smv_flat::FlatFormula;
 use smv_items::FlatItem;
@@ -32,60 +33,12 @@ pub struct FlatParts<'f> {
     pub formulas: &'f [FlatFormula],
 }
 
-// What is asked of the items in each state, by their instances.
-fn invar_items<'f>(
-    alloc: Global,
-    coding: &Coding,
-    flat: &FlatParts<'f>,
-) -> Result<Vec<Owned>, NoMemory>
-    ensures { IfOk result (λ xs. map owned_plain xs.items ≡ item_owned (λ k m. invar_item (plain_parts flat.now) (codes_of coding.now) k m m.kind) 0 (map item_plain flat.now.items.now)) }
-{
-    let mut bodies = bodies_of(alloc, coding, flat.items.len(), flat.formulas)?;
-    let mut all = Vec::new(alloc);
-    for k in 0..flat.items.len() {
-        let item = &flat.items[k];
-        let terms = invar_item(alloc, coding, flat.symbols, k, item, &mut bodies)?;
-        all.push(Owned {
-            number: item.instance,
-            terms,
-        })?;
-    }
-    Ok(all)
-}
-
-// What is asked of the items in each transition, by their instances.
-fn trans_items(alloc: Global, coding: &Coding, items: &[FlatItem]) -> Result<Vec<Owned>, NoMemory>
-    ensures { IfOk result (λ xs. map owned_plain xs.items ≡ item_owned (λ k m. trans_item (codes_of coding.now) k m.kind) 0 (map item_plain items.now)) }
-{
-    let mut all = Vec::new(alloc);
-    for k in 0..items.len() {
-        let terms = trans_item(alloc, coding, k, &items[k])?;
-        all.push(Owned {
-            number: items[k].instance,
-            terms,
-        })?;
-    }
-    Ok(all)
-}
-
-// Puts what the formulas ask behind what the items do.
-fn add_forms(
-    alloc: Global,
-    coding: &Coding,
-    when: When,
-    formulas: &[FlatFormula],
-    all: &mut Vec<Owned>,
-) -> Result<(), NoMemory>
-    ensures { OnOk result (map owned_plain all.new.items ≡ map owned_plain all.old.items ++ map (form_owned (codes_of coding.now) when) (map form_plain formulas.now)) }
-{
-    for form in formulas {
-        let terms = form_parts(alloc, coding, when, form)?;
-        all.push(Owned {
-            number: form.instance,
-            terms,
-        })?;
-    }
-    Ok(())
+// The chains of items and of formulas by their instances, and of bodies by their items.
+#[derive(Drop)]
+struct FlatChains {
+    items: Chains,
+    formulas: Chains,
+    bodies: Chains,
 }
 
 // One more than the greatest number of an instance.
@@ -115,19 +68,156 @@ fn above_forms(formulas: &[FlatFormula]) -> usize
     most
 }
 
-fn owned_items<'f>(
+fn item_chains(alloc: Global, count: usize, items: &[FlatItem]) -> Result<Chains, NoMemory>
+    ensures { IfOk result (λ c. AreChains (map item_number items.now) count c) }
+{
+    let mut numbers = Vec::with_capacity(alloc, items.len())?;
+    for item in items {
+        numbers.push(item.instance as usize)?;
+    }
+    chains_of(alloc, count, numbers)
+}
+
+fn form_chains(alloc: Global, count: usize, formulas: &[FlatFormula]) -> Result<Chains, NoMemory>
+    ensures { IfOk result (λ c. AreChains (map form_number formulas.now) count c) }
+{
+    let mut numbers = Vec::with_capacity(alloc, formulas.len())?;
+    for form in formulas {
+        numbers.push(form.instance as usize)?;
+    }
+    chains_of(alloc, count, numbers)
+}
+
+// The chains of the bodies, where these are asked for.
+fn body_chains_at<'f>(alloc: Global, when: When, flat: &FlatParts<'f>) -> Result<Chains, NoMemory>
+    ensures { IfOk result (λ c. when ≡ Always → AreBodyChains flat.now c) }
+{
+    match when {
+        When::Always => body_chains(alloc, flat),
+        When::First | When::Following => Ok(Chains::none(alloc)),
+    }
+}
+
+fn flat_chains<'f>(
+    alloc: Global,
+    when: When,
+    count: usize,
+    flat: &FlatParts<'f>,
+) -> Result<FlatChains, NoMemory>
+    requires { count ≡ instance_count flat.now }
+    ensures { IfOk result (λ c. AreFlatChains flat.now when c) }
+{
+    let items = item_chains(alloc, count, flat.items)?;
+    let formulas = form_chains(alloc, count, flat.formulas)?;
+    let bodies = body_chains_at(alloc, when, flat)?;
+    Ok(FlatChains {
+        items,
+        formulas,
+        bodies,
+    })
+}
+
+// Adds what is asked of an item.
+fn add_item<'f>(
     alloc: Global,
     coding: &Coding,
     when: When,
     flat: &FlatParts<'f>,
-) -> Result<Vec<Owned>, NoMemory>
-    ensures { IfOk result (λ xs. (i : ℕ) → owned_by i (map owned_plain xs.items) ≡ numbered_parts (plain_parts flat.now) (codes_of coding.now) when i 0 (map item_plain flat.now.items.now)) }
+    bodies: &Chains,
+    k: usize,
+    item: &FlatItem,
+    all: &mut Terms,
+) -> Result<(), NoMemory>
+    requires number { k < length flat.now.items.now }
+    requires bodies { when ≡ Always → AreBodyChains flat.now bodies.now }
+    ensures { OnOk result (map plain all.new.items ≡ map plain all.old.items ++ item_parts (plain_parts flat.now) (codes_of coding.now) when k (item_plain item.now)) }
 {
     match when {
-        When::First => Ok(Vec::new(alloc)),
-        When::Always => invar_items(alloc, coding, flat),
-        When::Following => trans_items(alloc, coding, flat.items),
+        When::First => Ok(()),
+        When::Always => add_invar_item(alloc, coding, flat, bodies, k, item, all),
+        When::Following => add_trans_item(alloc, coding, k, item, all),
     }
+}
+
+// Adds what is asked of the items of an instance.
+fn add_items<'f>(
+    alloc: Global,
+    coding: &Coding,
+    when: When,
+    flat: &FlatParts<'f>,
+    chains: &FlatChains,
+    i: usize,
+    all: &mut Terms,
+) -> Result<(), NoMemory>
+    requires number { i < instance_count flat.now }
+    requires chains { AreFlatChains flat.now when chains.now }
+    ensures { OnOk result (map plain all.new.items ≡ map plain all.old.items ++ numbered_parts (plain_parts flat.now) (codes_of coding.now) when i 0 (map item_plain flat.now.items.now)) }
+{
+    let mut k = chains.items.first(i);
+    'items: while k < flat.items.len() {
+        let item = &flat.items[k];
+        add_item(alloc, coding, when, flat, &chains.bodies, k, item, all)?;
+        k = chains.items.next(k);
+    }
+    Ok(())
+}
+
+// Adds what the formulas of an instance ask.
+fn add_forms<'f>(
+    alloc: Global,
+    coding: &Coding,
+    when: When,
+    flat: &FlatParts<'f>,
+    chains: &FlatChains,
+    i: usize,
+    all: &mut Terms,
+) -> Result<(), NoMemory>
+    requires number { i < instance_count flat.now }
+    requires chains { AreFlatChains flat.now when chains.now }
+    ensures { OnOk result (map plain all.new.items ≡ map plain all.old.items ++ owned_by i (map (form_owned (codes_of coding.now) when) (map form_plain flat.now.formulas.now))) }
+{
+    let mut j = chains.formulas.first(i);
+    'formulas: while j < flat.formulas.len() {
+        add_form(alloc, coding, when, &flat.formulas[j], all)?;
+        j = chains.formulas.next(j);
+    }
+    Ok(())
+}
+
+// Adds the parts of an instance.
+fn add_instance<'f>(
+    alloc: Global,
+    coding: &Coding,
+    when: When,
+    flat: &FlatParts<'f>,
+    chains: &FlatChains,
+    i: usize,
+    all: &mut Terms,
+) -> Result<(), NoMemory>
+    requires number { i < instance_count flat.now }
+    requires chains { AreFlatChains flat.now when chains.now }
+    ensures { OnOk result (map plain all.new.items ≡ map plain all.old.items ++ instance_parts (plain_parts flat.now) (codes_of coding.now) when i) }
+{
+    add_items(alloc, coding, when, flat, chains, i, all)?;
+    add_forms(alloc, coding, when, flat, chains, i, all)
+}
+
+// The parts of all instances.
+fn parts_of<'f>(
+    alloc: Global,
+    coding: &Coding,
+    when: When,
+    flat: &FlatParts<'f>,
+) -> Result<Terms, NoMemory>
+    ensures { IfOk result (λ ts. map plain ts.items ≡ parts_upto (plain_parts flat.now) (codes_of coding.now) when (instance_count flat.now)) }
+{
+    let count = instances_of(flat.items, flat.formulas);
+    let chains = flat_chains(alloc, when, count, flat)?;
+    let mut all = Vec::new(alloc);
+    for i in 0..count {
+        add_instance(alloc, coding, when, flat, &chains, i, &mut all)?;
+    }
+    Ok(all)
 }
 
 /// The formula of the first state, of each state or of each transition of a system (MoXI, SPIN 2024).
@@ -139,9 +229,6 @@ pub fn formula_of<'f>(
 ) -> Result<Term, NoMemory>
     ensures { IfOk result (λ t. plain t ≡ formula_of (plain_parts flat.now) (codes_of coding.now) when) }
 {
-    let mut owned = owned_items(alloc, coding, when, flat)?;
-    add_forms(alloc, coding, when, flat.formulas, &mut owned)?;
-    let count = instances_of(flat.items, flat.formulas);
-    let parts = distributed(alloc, count, owned)?;
+    let parts = parts_of(alloc, coding, when, flat)?;
     Ok(several(TermOp::And, true, parts))
 }

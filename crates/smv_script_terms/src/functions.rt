@@ -116,7 +116,7 @@ fn counted_terms(alloc: Global, width: u32, terms: Terms) -> Result<Terms, NoMem
 {
     let mut terms = terms;
     terms.reverse();
-    let mut all = Vec::new(alloc);
+    let mut all = Vec::with_capacity(alloc, terms.len())?;
     'terms: while let Some(a) = terms.pop() {
         let t = counted_term(alloc, width, a)?;
         all.push(t)?;

@@ -1,7 +1,7 @@
 //! The terms, variables and formulas of the script of MoXI that stands for a flat form, as code makes them.
 #![tactic(auto)]
 
-mod buckets;
+mod chains;
 mod coding;
 mod formulas;
 mod functions;

@@ -107,7 +107,7 @@ pub(crate) fn bound_to(alloc: Global, value: Term, body: Term) -> Result<Term, N
     ensures { IfOk result (λ t. plain t ≡ binding t_alone (one (plain value)) (plain body)) }
 {
     let names = Names::one(alloc, Name::of(alloc, b"t")?);
-    let mut values = Vec::new(alloc);
+    let mut values = Vec::with_capacity(alloc, 1)?;
     values.push(value)?;
     let held = Box::new(alloc, body)?;
     Ok(Term::Let(names, values, held))

@@ -1,5 +1,5 @@
 // The parts of the formulas of a system.
-ghost use Rattle.std.specs.Prelude.{◌≡◌, ◌<◌, ◌++◌, ◌∷◌, [], ℕ, false, IfOk, OnOk, length, map};
+ghost use Rattle.std.specs.Prelude.{◌≡◌, ◌<◌, ◌++◌, false, IfOk, OnOk, length, map};
 ghost use Rattle.moxi_terms.specs.Tree.{constant, variable};
 ghost use Rattle.moxi_terms.specs.View.{plain};
 ghost use Rattle.smv_intervals.specs.View.{seen};
@@ -7,15 +7,16 @@ ghost use Rattle.smv_items.specs.FlatItemView.{item_plain};
 ghost use Rattle.smv_flat.specs.FlatFormulas.{form_plain};
 ghost use Rattle.smv_flat.specs.FlatView.{plain_flat};
 ghost use Rattle.smv_script.specs.Codes.{symbol_datum};
-ghost use Rattle.smv_script.specs.Script.{body_parts, domain_parts, form_parts, interval_parts, is_following, member_term, trans_item};
+ghost use Rattle.smv_script.specs.Script.{body_parts, domain_parts, form_parts, interval_parts, invar_item, is_following, member_term, trans_item};
 ghost use Rattle.smv_script.specs.Terms.{translation};
 ghost use Rattle.smv_meaning.specs.Phases.{when_same};
+ghost use Rattle.smv_script_terms.specs.FlatParts.{AreBodyChains, plain_parts};
+ghost use Rattle.smv_script_terms.specs.Parts.{body_equation, body_number, body_number_of};
 ghost use Rattle.smv_script_terms.specs.Questions.{codes_of};
-ghost use Rattle.smv_script_terms.specs.Parts.{body_owned, fixed_parts};
-ghost use Rattle.smv_script_terms.specs.Buckets.{bucket, owned_plain};
 
-use crate::buckets::{Owned, buckets_of};
-use crate::coding::{Coding, Question, Subject, integer_term, subject_term};
+use crate::chains::{Chains, chains_of};
+use crate::coding::{Coding, Question, Subject, integer_term};
+use crate::formulas::FlatParts;
 use crate::functions::between;
 use crate::operators::{equal, several};
 use crate::terms::terms_of;
@@ -26,7 +27,6 @@ use smv_intervals::Ty;
 use smv_items::{FlatItem, ItemKind};
 use smv_text::{Member, When};
 use std::alloc::Global;
-use std::mem;
 use text_core::NoMemory;
 
 // What 32 bits don't hold stands in no accepted model.
@@ -37,22 +37,6 @@ fn small(n: usize) -> Result<u32, NoMemory>
         Ok(m) => Ok(m),
         Err(_) => Err(NoMemory),
     }
-}
-
-/// No term.
-pub(crate) fn none(alloc: Global) -> Terms
-    ensures { map plain result.items ≡ [] }
-{
-    Vec::new(alloc)
-}
-
-/// One term alone.
-pub(crate) fn alone(alloc: Global, t: Term) -> Result<Terms, NoMemory>
-    ensures { IfOk result (λ ts. map plain ts.items ≡ plain t ∷ []) }
-{
-    let mut terms = Vec::with_capacity(alloc, 1)?;
-    terms.push(t)?;
-    Ok(terms)
 }
 
 // The variable of an item, primed or not.
@@ -98,7 +82,7 @@ fn member_terms(
 ) -> Result<Terms, NoMemory>
     ensures { IfOk result (λ ts. map plain ts.items ≡ map (member_term coding.now.width symbols.now (variable ((codes_of coding.now).place k) false)) members.now) }
 {
-    let mut all = Vec::new(alloc);
+    let mut all = Vec::with_capacity(alloc, members.len())?;
     for member in members {
         let t = member_term(alloc, coding, symbols, k, member)?;
         all.push(t)?;
@@ -106,132 +90,167 @@ fn member_terms(
     Ok(all)
 }
 
-fn interval_parts(alloc: Global, coding: &Coding, k: u32, ty: Ty) -> Result<Terms, NoMemory>
-    ensures { IfOk result (λ ts. map plain ts.items ≡ interval_parts coding.now.width (variable ((codes_of coding.now).place k) false) (seen ty)) }
+// Adds that a variable of a range has a value of it.
+fn add_interval(
+    alloc: Global,
+    coding: &Coding,
+    k: u32,
+    ty: Ty,
+    all: &mut Terms,
+) -> Result<(), NoMemory>
+    ensures { OnOk result (map plain all.new.items ≡ map plain all.old.items ++ interval_parts coding.now.width (variable ((codes_of coding.now).place k) false) (seen ty)) }
 {
     match ty {
         Ty::Integer(low, high) => {
             let subject = Subject::Variable(coding.place(k), false);
             let t = between(alloc, coding.width, low, high, subject)?;
-            alone(alloc, t)
+            Ok(all.push(t)?)
         }
-        Ty::Truth | Ty::Symbol | Ty::Bits(_) => Ok(none(alloc)),
+        Ty::Truth | Ty::Symbol | Ty::Bits(_) => Ok(()),
     }
 }
 
-// That a variable of an enumeration or of a range has a value of its type.
-fn domain_parts(
+// Adds that a variable of an enumeration or of a range has a value of its type.
+fn add_domain(
     alloc: Global,
     coding: &Coding,
     symbols: &NameSet,
     k: u32,
     ty: Ty,
     members: &[Member],
-) -> Result<Terms, NoMemory>
-    ensures { IfOk result (λ ts. map plain ts.items ≡ domain_parts coding.now.width symbols.now (variable ((codes_of coding.now).place k) false) (seen ty) members.now) }
+    all: &mut Terms,
+) -> Result<(), NoMemory>
+    ensures { OnOk result (map plain all.new.items ≡ map plain all.old.items ++ domain_parts coding.now.width symbols.now (variable ((codes_of coding.now).place k) false) (seen ty) members.now) }
 {
     match members.first() {
-        None => interval_parts(alloc, coding, k, ty),
+        None => add_interval(alloc, coding, k, ty, all),
         Some(_) => {
             let terms = member_terms(alloc, coding, symbols, k, members)?;
-            alone(alloc, several(TermOp::Or, false, terms))
+            Ok(all.push(several(TermOp::Or, false, terms))?)
         }
     }
 }
 
-// Takes the equations of an item.
-fn taken(alloc: Global, k: usize, bodies: &mut Vec<Terms>) -> Terms
-    requires { k < length bodies.old.items }
-    ensures size { length bodies.new.items ≡ length bodies.old.items }
-    ensures others { (j : ℕ) → k < j → bucket bodies.new.items j ≡ bucket bodies.old.items j }
-    ensures parts { map plain result.items ≡ bucket bodies.old.items k }
+// The number of the item of which a formula is the body; of another formula this number, which no item has.
+fn body_number(role: Role, none: usize) -> usize
+    ensures { result ≡ body_number none role }
 {
-    mem::replace(&mut bodies[k], Vec::new(alloc))
+    match role {
+        Role::Body(k) => k as usize,
+        Role::Assign(_, _) | Role::Init | Role::Trans | Role::Invar | Role::Invariant => none,
+    }
 }
 
-/// What is asked of an item's value in each state, given the equations of the items with bodies.
-pub(crate) fn invar_item(
+fn body_numbers(
+    alloc: Global,
+    none: usize,
+    formulas: &[FlatFormula],
+) -> Result<Vec<usize>, NoMemory>
+    ensures { IfOk result (λ ns. ns.items ≡ map (body_number_of none) formulas.now) }
+{
+    let mut numbers = Vec::with_capacity(alloc, formulas.len())?;
+    for form in formulas {
+        numbers.push(body_number(form.role, none))?;
+    }
+    Ok(numbers)
+}
+
+/// The chains of the bodies of each item.
+pub(crate) fn body_chains<'f>(alloc: Global, flat: &FlatParts<'f>) -> Result<Chains, NoMemory>
+    ensures { IfOk result (λ c. AreBodyChains flat.now c) }
+{
+    let count = flat.items.len();
+    let numbers = body_numbers(alloc, count, flat.formulas)?;
+    chains_of(alloc, count, numbers)
+}
+
+// Adds that a definition or an actual has the value of its body.
+fn add_body(
     alloc: Global,
     coding: &Coding,
-    symbols: &NameSet,
+    form: &FlatFormula,
+    all: &mut Terms,
+) -> Result<(), NoMemory>
+    ensures { OnOk result (map plain all.new.items ≡ map plain all.old.items ++ body_equation (codes_of coding.now) form.now.role (plain_flat form.now.body)) }
+{
+    match form.role {
+        Role::Body(k) => {
+            let body = terms_of(alloc, coding, 0, Question::Value, &form.body)?;
+            let equation = equal(alloc, variable(coding, k, false), body)?;
+            Ok(all.push(equation)?)
+        }
+        Role::Assign(_, _) | Role::Init | Role::Trans | Role::Invar | Role::Invariant => Ok(()),
+    }
+}
+
+// Adds the equations of an item's bodies.
+fn add_bodies<'f>(
+    alloc: Global,
+    coding: &Coding,
+    flat: &FlatParts<'f>,
+    bodies: &Chains,
+    k: usize,
+    all: &mut Terms,
+) -> Result<(), NoMemory>
+    requires number { k < length flat.now.items.now }
+    requires bodies { AreBodyChains flat.now bodies.now }
+    ensures { OnOk result (map plain all.new.items ≡ map plain all.old.items ++ body_parts (codes_of coding.now) k (map form_plain flat.now.formulas.now)) }
+{
+    let mut j = bodies.first(k);
+    'bodies: while j < flat.formulas.len() {
+        add_body(alloc, coding, &flat.formulas[j], all)?;
+        j = bodies.next(j);
+    }
+    Ok(())
+}
+
+/// Adds what is asked of an item's value in each state, given the chains of the items' bodies.
+pub(crate) fn add_invar_item<'f>(
+    alloc: Global,
+    coding: &Coding,
+    flat: &FlatParts<'f>,
+    bodies: &Chains,
     k: usize,
     item: &FlatItem,
-    bodies: &mut Vec<Terms>,
-) -> Result<Terms, NoMemory>
-    requires { k < length bodies.old.items }
-    ensures size { OnOk result (length bodies.new.items ≡ length bodies.old.items) }
-    ensures others { OnOk result ((j : ℕ) → k < j → bucket bodies.new.items j ≡ bucket bodies.old.items j) }
-    ensures parts { IfOk result (λ ts. map plain ts.items ≡ fixed_parts (codes_of coding.now) symbols.now k (item_plain item.now) (bucket bodies.old.items k)) }
+    all: &mut Terms,
+) -> Result<(), NoMemory>
+    requires number { k < length flat.now.items.now }
+    requires bodies { AreBodyChains flat.now bodies.now }
+    ensures { OnOk result (map plain all.new.items ≡ map plain all.old.items ++ invar_item (plain_parts flat.now) (codes_of coding.now) k (item_plain item.now) item.now.kind) }
 {
     match item.kind {
-        ItemKind::Define => Ok(taken(alloc, k, bodies)),
-        ItemKind::Actual => Ok(taken(alloc, k, bodies)),
-        ItemKind::State | ItemKind::Frozen | ItemKind::Input => domain_parts(
+        ItemKind::Define | ItemKind::Actual => add_bodies(alloc, coding, flat, bodies, k, all),
+        ItemKind::State | ItemKind::Frozen | ItemKind::Input => add_domain(
             alloc,
             coding,
-            symbols,
+            flat.symbols,
             small(k)?,
             item.ty,
             item.members.as_slice(),
+            all,
         ),
     }
 }
 
-/// A frozen variable keeps its value.
-pub(crate) fn trans_item(
+/// Adds that a frozen variable keeps its value.
+pub(crate) fn add_trans_item(
     alloc: Global,
     coding: &Coding,
     k: usize,
     item: &FlatItem,
-) -> Result<Terms, NoMemory>
-    ensures { IfOk result (λ ts. map plain ts.items ≡ trans_item (codes_of coding.now) k item.now.kind) }
+    all: &mut Terms,
+) -> Result<(), NoMemory>
+    ensures { OnOk result (map plain all.new.items ≡ map plain all.old.items ++ trans_item (codes_of coding.now) k item.now.kind) }
 {
     match item.kind {
         ItemKind::Frozen => {
             let k = small(k)?;
             let (next, now) = (variable(coding, k, true), variable(coding, k, false));
             let t = equal(alloc, next, now)?;
-            alone(alloc, t)
+            Ok(all.push(t)?)
         }
-        ItemKind::State | ItemKind::Input | ItemKind::Define | ItemKind::Actual => Ok(none(alloc)),
+        ItemKind::State | ItemKind::Input | ItemKind::Define | ItemKind::Actual => Ok(()),
     }
-}
-
-// That a definition or an actual has the value of its body.
-fn body_part(
-    alloc: Global,
-    coding: &Coding,
-    form: &FlatFormula,
-    all: &mut Vec<Owned>,
-) -> Result<(), NoMemory>
-    ensures { OnOk result (map owned_plain all.new.items ≡ map owned_plain all.old.items ++ body_owned (codes_of coding.now) (form_plain form.now)) }
-{
-    match form.role {
-        Role::Body(number) => {
-            let body = terms_of(alloc, coding, 0, Question::Value, &form.body)?;
-            let t = equal(alloc, variable(coding, number, false), body)?;
-            let terms = alone(alloc, t)?;
-            Ok(all.push(Owned { number, terms })?)
-        }
-        Role::Assign(_, _) | Role::Init | Role::Trans | Role::Invar | Role::Invariant => Ok(()),
-    }
-}
-
-/// The equations of the bodies, by the numbers of their items.
-pub(crate) fn bodies_of(
-    alloc: Global,
-    coding: &Coding,
-    count: usize,
-    formulas: &[FlatFormula],
-) -> Result<Vec<Terms>, NoMemory>
-    ensures size { IfOk result (λ bs. length bs.items ≡ count) }
-    ensures each { IfOk result (λ bs. (k : ℕ) → bucket bs.items k ≡ body_parts (codes_of coding.now) k (map form_plain formulas.now)) }
-{
-    let mut all = Vec::new(alloc);
-    for form in formulas {
-        body_part(alloc, coding, form, &mut all)?;
-    }
-    buckets_of(alloc, count, all)
 }
 
 fn is_same_when(a: When, b: When) -> bool
@@ -260,41 +279,37 @@ fn assigned(
     when: When,
     k: u32,
     body: &FlatExpr,
-) -> Result<Terms, NoMemory>
-    ensures { IfOk result (λ ts. map plain ts.items ≡ ((translation (codes_of coding.now) (plain_flat body.now)).member 0 (variable ((codes_of coding.now).place k) (is_following when))) ∷ []) }
+) -> Result<Term, NoMemory>
+    ensures { IfOk result (λ t. plain t ≡ (translation (codes_of coding.now) (plain_flat body.now)).member 0 (variable ((codes_of coding.now).place k) (is_following when))) }
 {
     let subject = Subject::Variable(coding.place(k), is_following(when));
-    let t = terms_of(alloc, coding, 0, Question::Permits(subject), body)?;
-    alone(alloc, t)
+    terms_of(alloc, coding, 0, Question::Permits(subject), body)
 }
 
-// The value of a formula.
-fn held(alloc: Global, coding: &Coding, body: &FlatExpr) -> Result<Terms, NoMemory>
-    ensures { IfOk result (λ ts. map plain ts.items ≡ (translation (codes_of coding.now) (plain_flat body.now)).term 0 ∷ []) }
-{
-    let t = terms_of(alloc, coding, 0, Question::Value, body)?;
-    alone(alloc, t)
-}
-
-/// What a formula adds to that of the first state, of each state or of each transition.
-pub(crate) fn form_parts(
+/// Adds what a formula asks in the first state, in each state or in each transition.
+pub(crate) fn add_form(
     alloc: Global,
     coding: &Coding,
     when: When,
     form: &FlatFormula,
-) -> Result<Terms, NoMemory>
-    ensures { IfOk result (λ ts. map plain ts.items ≡ form_parts (codes_of coding.now) when form.now.role (plain_flat form.now.body)) }
+    all: &mut Terms,
+) -> Result<(), NoMemory>
+    ensures { OnOk result (map plain all.new.items ≡ map plain all.old.items ++ form_parts (codes_of coding.now) when form.now.role (plain_flat form.now.body)) }
 {
     match (form.role, when) {
         (Role::Assign(w, k), _) => {
             if is_same_when(w, when) {
-                assigned(alloc, coding, when, k, &form.body)
+                let t = assigned(alloc, coding, when, k, &form.body)?;
+                Ok(all.push(t)?)
             } else {
-                Ok(none(alloc))
+                Ok(())
             }
         }
         (Role::Init, When::First) | (Role::Trans, When::Following) | (Role::Invar, When::Always) =>
-            held(alloc, coding, &form.body),
-        _ => Ok(none(alloc)),
+            {
+                let t = terms_of(alloc, coding, 0, Question::Value, &form.body)?;
+                Ok(all.push(t)?)
+            }
+        _ => Ok(()),
     }
 }

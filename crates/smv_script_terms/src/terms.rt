@@ -153,7 +153,7 @@ fn link_terms(
 ) -> Result<Terms, NoMemory>
     ensures { IfOk result (λ ts. trees_of (map plain ts.items) ≡ chain_answers question (codes_of coding.now) k (plain_flat first.now) (flat_links_of (map plain_flat_link links.now))) }
 {
-    let mut all = Vec::new(alloc);
+    let mut all = Vec::with_capacity(alloc, links.len() + 1)?;
     all.push(terms_of(alloc, coding, k, question, first)?)?;
     for link in links {
         let t = terms_of(alloc, coding, k, question, &link.operand)?;
@@ -173,7 +173,7 @@ fn operands(
 ) -> Result<Vec<Operand>, NoMemory>
     ensures { IfOk result (λ xs. map operand_plain xs.items ≡ operands_of (codes_of coding.now) k (flat_links_of (map plain_flat_link links.now))) }
 {
-    let mut all = Vec::new(alloc);
+    let mut all = Vec::with_capacity(alloc, links.len())?;
     for link in links {
         let term = terms_of(alloc, coding, k, Question::Value, &link.operand)?;
         let words = is_word(&link.operand);
@@ -270,7 +270,7 @@ fn cases(
 ) -> Result<Vec<Case>, NoMemory>
     ensures { IfOk result (λ xs. map case_plain xs.items ≡ cases_of question (codes_of coding.now) k (flat_branches_of (map plain_flat_branch branches.now))) }
 {
-    let mut all = Vec::new(alloc);
+    let mut all = Vec::with_capacity(alloc, branches.len())?;
     for branch in branches {
         let when = terms_of(alloc, coding, k, Question::Value, &branch.when)?;
         let value = terms_of(alloc, coding, k, question, &branch.value)?;
@@ -291,7 +291,7 @@ fn parts(
 ) -> Result<Terms, NoMemory>
     ensures { IfOk result (λ ts. trees_of (map plain ts.items) ≡ answers question (codes_of coding.now) k (flat_trees_of (map plain_flat exprs.now))) }
 {
-    let mut all = Vec::new(alloc);
+    let mut all = Vec::with_capacity(alloc, exprs.len())?;
     for e in exprs {
         let t = terms_of(alloc, coding, k, question, e)?;
         all.push(t)?;

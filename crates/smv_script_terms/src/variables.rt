@@ -10,7 +10,7 @@ use moxi_terms::{Sort, Variable, Variables};
 use smv_intervals::Ty;
 use smv_items::{FlatItem, ItemKind};
 use std::alloc::Global;
-use text_core::{Name, NoMemory, Text};
+use text_core::{Name, NoMemory};
 
 /// The list of variables in which an item's variable stands (MoXI, SPIN 2024).
 #[derive(Clone, Copy)]
@@ -76,20 +76,25 @@ fn sort_of(width: u32, ty: Ty) -> Sort
     }
 }
 
-// The name of these two pieces.
-fn name_of(alloc: Global, first: &[u8], second: &[u8]) -> Result<Name, NoMemory>
+// The name of these two pieces, which are joined in the room.
+fn name_of(alloc: Global, first: &[u8], second: &[u8], room: &mut Vec<u8>) -> Result<Name, NoMemory>
     ensures { IfOk result (λ n. n ≡ first.now ++ second.now) }
 {
-    let mut text = Text::new(alloc);
-    text.put(first)?;
-    text.put(second)?;
-    Name::of(alloc, text.bytes())
+    room.clear();
+    room.extend_from_slice(first)?;
+    room.extend_from_slice(second)?;
+    Name::of(alloc, room.as_slice())
 }
 
-fn variable_of(alloc: Global, width: u32, item: &FlatItem) -> Result<Variable, NoMemory>
+fn variable_of(
+    alloc: Global,
+    width: u32,
+    item: &FlatItem,
+    room: &mut Vec<u8>,
+) -> Result<Variable, NoMemory>
     ensures { IfOk result (λ v. v ≡ variable_of width (item_plain item.now)) }
 {
-    let name = name_of(alloc, letter(item.kind), item.name.bytes())?;
+    let name = name_of(alloc, letter(item.kind), item.name.bytes(), room)?;
     let sort = sort_of(width, item.ty);
     Ok(Variable { name, sort })
 }
@@ -104,8 +109,10 @@ pub fn variables_in(
     ensures { IfOk result (λ vs. vs ≡ variables_in width (group_plain group) (map item_plain items.now)) }
 {
     let mut all = Variables::new(alloc);
+    // Each name is joined in the same room.
+    let mut room = Vec::new(alloc);
     for item in items {
-        add_variable(alloc, width, group, item, &mut all)?;
+        add_variable(alloc, width, group, item, &mut room, &mut all)?;
     }
     Ok(all)
 }
@@ -116,12 +123,13 @@ fn add_variable(
     width: u32,
     group: Group,
     item: &FlatItem,
+    room: &mut Vec<u8>,
     all: &mut Variables,
 ) -> Result<(), NoMemory>
     ensures { OnOk result (all.new ≡ all.old ++ variables_in width (group_plain group) (item_plain item.now ∷ [])) }
 {
     if is_in(group, item.kind) {
-        all.push(variable_of(alloc, width, item)?)?;
+        all.push(variable_of(alloc, width, item, room)?)?;
     }
     Ok(())
 }
@@ -207,7 +215,7 @@ pub fn places_of(alloc: Global, items: &[FlatItem]) -> Result<Vec<u32>, NoMemory
     ensures { IfOk result (λ ps. ps.items ≡ numbers_from (start_counts (map item_plain items.now)) (map item_plain items.now)) }
 {
     let mut counts = start_counts(items)?;
-    let mut all = Vec::new(alloc);
+    let mut all = Vec::with_capacity(alloc, items.len())?;
     for item in items {
         let group = group_of(item.kind);
         all.push(number_in(counts, group))?;

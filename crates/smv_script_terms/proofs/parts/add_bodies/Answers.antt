@@ -1,0 +1,29 @@
+use Rattle.std.proofs.Common.{length, map, refl}
+use Rattle.moxi_terms.specs.View.{plain}
+use Rattle.smv_flat.specs.FlatFormulas.{form_plain}
+use Rattle.smv_script_terms.specs.Parts.{body_number_of, body_owned}
+use Rattle.smv_script_terms.specs.Questions.{codes_of}
+use Rattle.smv_script_terms.proofs.Walked.{walk_starts}
+use Rattle.smv_script_terms.proofs.Formed.{bodies_end, form_numbers, forms_go_on}
+use Rattle.smv_script_terms.proofs.parts.add_bodies.Goals as goal
+
+pub bodies-init : goal.bodies-init
+bodies-init c =
+    let count = length c.args.flat.now.items.now in
+    let g = body_owned count (codes_of c.args.coding.now) in
+    let formulas = c.args.flat.now.formulas.now in
+    let s = c.args.bodies.now in
+    walk_starts (map g (map form_plain formulas)) (map (body_number_of count) formulas) s.firsts.items s.nexts.items count c.args.k c.first-j.result (map plain c.args.all.now.items)
+    (form_numbers g (body_number_of count) formulas (λ f. refl)) c.requires.bodies c.requires.number c.first-j.ensures
+
+pub bodies-preserved : goal.bodies-preserved
+bodies-preserved c =
+    let count = length c.args.flat.now.items.now in
+    let g = body_owned count (codes_of c.args.coding.now) in
+    let s = c.args.bodies.now in
+    forms_go_on g (body_number_of count) c.args.flat.now.formulas.now s.firsts.items s.nexts.items count c.args.k c.bodies.j c.next-j.result c.index-flat-j.result (map plain c.bodies.all.items) (map plain c.add_body.new.all.items) _
+    (λ f. refl) c.requires.bodies c.requires.number c.bodies-test.true c.index-flat-j.is c.in_ok-add_body.ensures c.next-j.ensures c.bodies.invariant
+
+pub returns : goal.returns
+returns c =
+    bodies_end (length c.args.flat.now.items.now) c.args.k c.bodies.j (codes_of c.args.coding.now) c.args.flat.now.formulas.now (map plain c.bodies.all.items) (map plain c.args.all.now.items) c.bodies-test.false c.bodies.invariant

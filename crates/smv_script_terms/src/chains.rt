@@ -1,0 +1,62 @@
+// The places of a list by the numbers that stand there.
+ghost use Rattle.std.specs.Prelude.{◌≡◌, ◌<◌, IfOk, length, slice_index_or};
+ghost use Rattle.smv_script_terms.specs.Chains.{AreChains};
+
+use std::alloc::Global;
+use text_core::NoMemory;
+
+/// For each number its first place, and for each place the next one with the same number. Where there is none stands how many places
+/// there are.
+#[derive(Drop)]
+pub(crate) struct Chains {
+    firsts: Vec<usize>,
+    nexts: Vec<usize>,
+}
+
+impl Chains {
+    /// No chains.
+    pub(crate) fn none(alloc: Global) -> Chains {
+        Chains {
+            firsts: Vec::new(alloc),
+            nexts: Vec::new(alloc),
+        }
+    }
+
+    /// The first place of a number.
+    pub(crate) fn first(&self, number: usize) -> usize
+        requires { number < length self.now.firsts.items }
+        ensures { result ≡ slice_index_or self.now.firsts.items number 0 }
+    {
+        self.firsts[number]
+    }
+
+    /// The next place that has the number of this one.
+    pub(crate) fn next(&self, place: usize) -> usize
+        requires { place < length self.now.nexts.items }
+        ensures { result ≡ slice_index_or self.now.nexts.items place 0 }
+    {
+        self.nexts[place]
+    }
+}
+
+/// The chains of the numbers below the count, given the number at each place.
+pub(crate) fn chains_of(
+    alloc: Global,
+    count: usize,
+    numbers: Vec<usize>,
+) -> Result<Chains, NoMemory>
+    ensures { IfOk result (λ c. AreChains numbers.items count c) }
+{
+    let mut nexts = numbers;
+    let mut place = nexts.len();
+    let mut firsts = vec![in alloc; place; count]?;
+    'places: while place > 0 {
+        place -= 1;
+        let number = nexts[place];
+        if number < count {
+            nexts[place] = firsts[number];
+            firsts[number] = place;
+        }
+    }
+    Ok(Chains { firsts, nexts })
+}
