@@ -1,6 +1,6 @@
 // The printed form of lines, and what it spells.
 
-ghost use Rattle.std.specs.Prelude.{◌≡◌, ◌≤◌, ◌++◌, [], ◌∷◌, ◌+◌, map, drop, decimal, OnOk, IfOk};
+ghost use Rattle.std.specs.Prelude.{◌≡◌, ◌≤◌, ◌++◌, [], ◌∷◌, ◌+◌, map, drop, length, decimal, OnOk, IfOk};
 ghost use Rattle.btor_tree.specs.Shapes.{unary_text, binary_text, symbol_parts};
 ghost use Rattle.btor_tree.specs.Texts.{SpellsLines};
 ghost use Rattle.btor_tree.specs.Printing.{id_at, operand_text, op_text, sort_parts, number_parts, spaced, line_text, printed};
@@ -10,8 +10,8 @@ use std::alloc::Global;
 use text_core::{Name, NoMemory, Text};
 use word_core::{Binary, Unary};
 
-// Room for three numbers of ten digits with a blank and a sign before each, and a line end.
-const ROOM: usize = 40;
+// Room for four numbers of ten digits, of which two may have a sign, a word, the blanks between them, and a line end.
+const ROOM: usize = 64;
 
 // The bytes behind a single blank.
 fn put_part(out: &mut Text, part: &[u8]) -> Result<(), NoMemory>
@@ -52,6 +52,18 @@ fn byte_before(bytes: &mut [u8; ROOM], end: usize, byte: u8) -> usize
 {
     bytes[end - 1] = byte;
     end - 1
+}
+
+// Puts a word before the bytes that stand from `end` on.
+fn word_before(bytes: &mut [u8; ROOM], end: usize, word: &[u8]) -> usize
+    requires room { length word.now ≤ end }
+    requires within { end ≤ ROOM }
+    ensures word { drop result bytes.new ≡ word.now ++ drop end bytes.old }
+    ensures before { result + length word.now ≡ end }
+{
+    let start = end - word.len();
+    bytes[start..end].copy_from_slice(word);
+    start
 }
 
 // Puts an operand behind a blank before the bytes that stand from `end` on.
@@ -99,7 +111,8 @@ fn id_at(nodes: &Nodes, place: u32) -> u32
 
 // The word of an operator on one word, behind a blank.
 fn unary_text(op: Unary) -> &'static [u8]
-    ensures { result.now ≡ 32 ∷ unary_text op }
+    ensures text { result.now ≡ 32 ∷ unary_text op }
+    ensures short { length result.now ≤ 11 }
 {
     match op {
         Unary::Not => b" not",
@@ -114,7 +127,8 @@ fn unary_text(op: Unary) -> &'static [u8]
 
 // The word of an operator on two words, behind a blank.
 fn binary_text(op: Binary) -> &'static [u8]
-    ensures { result.now ≡ 32 ∷ binary_text op }
+    ensures text { result.now ≡ 32 ∷ binary_text op }
+    ensures short { length result.now ≤ 11 }
 {
     match op {
         Binary::Iff => b" iff",
@@ -152,7 +166,8 @@ fn binary_text(op: Binary) -> &'static [u8]
 
 // The word of a line, behind a blank.
 fn op_text(op: &LineOp) -> &'static [u8]
-    ensures { result.now ≡ 32 ∷ op_text op.now }
+    ensures text { result.now ≡ 32 ∷ op_text op.now }
+    ensures short { length result.now ≤ 11 }
 {
     match op {
         LineOp::Sort(_) => b" sort",
@@ -204,15 +219,17 @@ fn put_arg(out: &mut Text, nodes: &Nodes, arg: Arg) -> Result<(), NoMemory>
     out.put(&bytes[start..])
 }
 
-// Puts the sort and the two operands of a line that ends behind them.
-fn put_pair(out: &mut Text, nodes: &Nodes, sort: u32, a: Arg, b: Arg) -> Result<(), NoMemory>
-    ensures { OnOk result (out.new ≡ out.old ++ (32 ∷ decimal (id_at nodes.now sort) ++ (32 ∷ operand_text nodes.now a ++ (32 ∷ operand_text nodes.now b ++ 10 ∷ [])))) }
+// Puts a line that ends behind its two operands.
+fn put_pair(out: &mut Text, nodes: &Nodes, line: &Line, a: Arg, b: Arg) -> Result<(), NoMemory>
+    ensures { OnOk result (out.new ≡ out.old ++ (decimal line.now.id ++ (32 ∷ op_text line.now.op ++ (32 ∷ decimal (id_at nodes.now line.now.sort) ++ (32 ∷ operand_text nodes.now a ++ (32 ∷ operand_text nodes.now b ++ 10 ∷ [])))))) }
 {
     let mut bytes = [b'\n'; ROOM];
     let start = operand_before(&mut bytes, ROOM - 1, nodes, b);
     let start = operand_before(&mut bytes, start, nodes, a);
-    let start = digits_before(&mut bytes, start, id_at(nodes, sort));
+    let start = digits_before(&mut bytes, start, id_at(nodes, line.sort));
     let start = byte_before(&mut bytes, start, b' ');
+    let start = word_before(&mut bytes, start, op_text(&line.op));
+    let start = digits_before(&mut bytes, start, line.id);
     out.put(&bytes[start..])
 }
 
@@ -266,24 +283,24 @@ fn put_rest(out: &mut Text, nodes: &Nodes, line: &Line) -> Result<(), NoMemory>
     Ok(())
 }
 
-// Most lines have two operands and end behind them.
-fn put_most(out: &mut Text, nodes: &Nodes, line: &Line) -> Result<(), NoMemory>
-    ensures { OnOk result (out.new ≡ out.old ++ (spaced (sort_parts nodes.now line.now.op line.now.sort ++ (map (operand_text nodes.now) line.now.args ++ (number_parts line.now.op ++ symbol_parts line.now.symbol))) ++ 10 ∷ [])) }
-{
-    match (&line.op, &line.symbol, line.args.pair()) {
-        (LineOp::Binary(_) | LineOp::Init | LineOp::Next, None, Some((a, b))) => {
-            put_pair(out, nodes, line.sort, a, b)
-        }
-        _ => put_rest(out, nodes, line),
-    }
-}
-
-fn put_line(out: &mut Text, nodes: &Nodes, line: &Line) -> Result<(), NoMemory>
+fn put_any(out: &mut Text, nodes: &Nodes, line: &Line) -> Result<(), NoMemory>
     ensures { OnOk result (out.new ≡ out.old ++ line_text nodes.now line.now) }
 {
     put_id(out, line.id)?;
     out.put(op_text(&line.op))?;
-    put_most(out, nodes, line)
+    put_rest(out, nodes, line)
+}
+
+// Most lines have two operands and end behind them.
+fn put_line(out: &mut Text, nodes: &Nodes, line: &Line) -> Result<(), NoMemory>
+    ensures { OnOk result (out.new ≡ out.old ++ line_text nodes.now line.now) }
+{
+    match (&line.op, &line.symbol, line.args.pair()) {
+        (LineOp::Binary(_) | LineOp::Init | LineOp::Next, None, Some((a, b))) => {
+            put_pair(out, nodes, line, a, b)
+        }
+        _ => put_any(out, nodes, line),
+    }
 }
 
 /// The lines as a text: each as `id word arguments [symbol]`, with single blanks and a line end. No line has a comment, and

@@ -5,7 +5,7 @@ use Rattle.btor_print.proofs.print.digits_before.Given as goal
 -- the digits that stand end the number
 abbrev pub invariant-loop-rest : goal.invariant-loop-rest
 invariant-loop-rest l = record {
-  long : length l.bytes ≡ 40;
+  long : length l.bytes ≡ 64;
   whole : decimal l.rest ++ drop l.start l.bytes ≡ decimal l.n ++ drop l.end l.initial.bytes;
   room : length (decimal l.rest) + l.end ≤ l.start + 10;
   within : l.start ≤ l.end;
