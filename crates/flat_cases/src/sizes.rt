@@ -29,11 +29,7 @@ pub(crate) fn put_checked(
 
 fn put_counts(out: &mut Answer, kept: &Accepted) {
     put_size(out, b"instances ", kept.table.len() as u64);
-    put_size(
-        out,
-        b", definitions and actuals ",
-        kept.formulas.len() as u64,
-    );
+    put_size(out, b", definitions and actuals ", kept.bodies.len() as u64);
 }
 
 /// Appends what is counted, and how many there are.

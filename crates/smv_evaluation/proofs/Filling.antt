@@ -10,11 +10,11 @@ use Rattle.smv_evaluation.specs.declared.rows.Values.{Values}
 use Rattle.smv_evaluation.specs.declared.rows.Row.{Row}
 use Rattle.smv_instances.specs.declared.instances.Instance.{Instance as PartOf}
 use Rattle.smv_meaning.specs.Expressions.{denote, paths_of}
-use Rattle.smv_meaning.specs.Names.{Local, alias, formula, variable_of, inner, nothing, local, Found, variable_at, body_at, instance_at, symbol_of, cyclic, none, found_in}
-use Rattle.smv_meaning.specs.Phases.{Formula}
+use Rattle.smv_meaning.specs.Names.{Local, alias, body_of, variable_of, inner, nothing, local, Found, variable_at, body_at, instance_at, symbol_of, cyclic, none, found_in}
+use Rattle.smv_meaning.specs.Phases.{Body}
 use Rattle.smv_instances.specs.NameMap.{named_in}
-use Rattle.smv_meaning.specs.Settled.{is_formula, values_in}
-use Rattle.smv_meaning.specs.Formulas.{IsFormulaOrder}
+use Rattle.smv_meaning.specs.Settled.{has_body, values_in}
+use Rattle.smv_meaning.specs.Bodies.{IsBodyOrder}
 use Rattle.smv_evaluation.specs.Rows.{AreGiven, kept_value, row_values, FoundKept, IsKept, is_marked, MarksClosed, is_written, LocalReady, local_value, LocalSafe, MarkedSafe, MarkedKept, KeepsMarked}
 use Rattle.smv_meaning.specs.Reached.{is_body_of, local_leads_to}
 use Rattle.smv_instances.specs.View.{instance_plain}
@@ -30,7 +30,7 @@ use Rattle.smv_evaluation.proofs.RowReads.{kept, safely_kept, denoted_kept}
 -- up to a place in the order the values of what is marked are kept
 abbrev pub KeptUpto : {S : Type 0} → List PartOf → List ℕ → HashMap (ℕ × Bor (List ℕ)) Bool S → Row → Values → ℕ → Type 0
 KeptUpto ts order marks row label n = (k : ℕ) (x : List ℕ) (j : ℕ) (e : Tree) → order_rank (map instance_plain ts) order (key k x) ≤ n → is_marked marks k x ≡ true
-    → local (map instance_plain ts) k x ≡ formula j e → FoundKept ts row label (body_at k x j e)
+    → local (map instance_plain ts) k x ≡ body_of j e → FoundKept ts row label (body_at k x j e)
 
 -- what a path leads to is kept, where it stands before and is marked
 found_kept : {S : Type 0} (ts : List PartOf) (order : List ℕ) (marks : HashMap (ℕ × Bor (List ℕ)) Bool S) (row : Row) (label : Values) (n : ℕ) → KeptUpto ts order marks row label n
@@ -44,14 +44,14 @@ found_kept ts order marks row label n h cyclic u s = tt
 found_kept ts order marks row label n h none u s = tt
 
 -- a marked one at a place is safely evaluated
-pub ready : {S : Type 0} (ts : List PartOf) (order : List ℕ) → IsFormulaOrder (map instance_plain ts) order → (marks : HashMap (ℕ × Bor (List ℕ)) Bool S) → MarksClosed (map instance_plain ts) marks
+pub ready : {S : Type 0} (ts : List PartOf) (order : List ℕ) → IsBodyOrder (map instance_plain ts) order → (marks : HashMap (ℕ × Bor (List ℕ)) Bool S) → MarksClosed (map instance_plain ts) marks
     → (row : Row) (label : Values) → AreGiven row.state → AreGiven label → MarkedSafe (map instance_plain ts) marks (stated row.state.given) (stated label.given)
     → (n : ℕ) → n < length order → KeptUpto ts order marks row label n → (i : ℕ) (x : List ℕ) → at_place (map instance_plain ts) order n ≡ key i x → is_marked marks i x ≡ true
     → LocalReady ts row label (local (map instance_plain ts) i x)
 ready ts order o marks closed row label right labelled safe n l h i x at marked = by (local (map instance_plain ts) i x) refl (safe i x marked)
   where
     by : (m : Local) → local (map instance_plain ts) i x ≡ m → LocalSafe (values_in (map instance_plain ts) (stated row.state.given) (stated label.given)) m → LocalReady ts row label m
-    by (formula j e) is s =
+    by (body_of j e) is s =
         let each : (q : Path) → In q (paths_of e []) → IsKept ts j row label q = λ q g.
         kept ts j row label q right labelled
         (found_kept ts order marks row label n h (found_in (map instance_plain ts) j q) (body_before (map instance_plain ts) order o n l i x at j e is q g)
@@ -62,7 +62,7 @@ ready ts order o marks closed row label right labelled safe n l h i x at marked 
     by inner is s = tt
     by nothing is s = tt
 
-pub kept_on : {S : Type 0} (ts : List PartOf) (order : List ℕ) → IsFormulaOrder (map instance_plain ts) order → (marks : HashMap (ℕ × Bor (List ℕ)) Bool S) (was now : Row) (label : Values) (n : ℕ) → n < length order
+pub kept_on : {S : Type 0} (ts : List PartOf) (order : List ℕ) → IsBodyOrder (map instance_plain ts) order → (marks : HashMap (ℕ × Bor (List ℕ)) Bool S) (was now : Row) (label : Values) (n : ℕ) → n < length order
     → (i : ℕ) (x : List ℕ) → at_place (map instance_plain ts) order n ≡ key i x → now.state ≡ was.state → KeepsMarked ts marks was now label i x
     → KeptUpto ts order marks was label n → KeptUpto ts order marks now label (n + 1)
 kept_on ts order o marks was now label n l i x at same put h k y j e low marked is = put k y ∙ by (bool_cases picked) ∙ still
@@ -74,31 +74,31 @@ kept_on ts order o marks was now label n l i x at same put h k y j e low marked 
     still = ap (λ (v : Values). (denote (values_in (map instance_plain ts) (stated v.given) (stated label.given) j) (values_in (map instance_plain ts) (stated v.given) (stated label.given) j) e).value) (sym same)
 
     own : key i x ≡ key k y → local_value ts was label (local (map instance_plain ts) i x) ≡ (denote (row_values ts was label j) (row_values ts was label j) e).value
-    own s = ap (λ (q : Formula). local_value ts was label (local (map instance_plain ts) q.0 q.1)) s ∙ ap (local_value ts was label) is ∙ denoted_kept ts o.acyclic j was was label e
+    own s = ap (λ (q : Body). local_value ts was label (local (map instance_plain ts) q.0 q.1)) s ∙ ap (local_value ts was label) is ∙ denoted_kept ts o.acyclic j was was label e
 
     chosen : key i x ≡ key k y → picked ≡ true
     chosen s =
-        ap (λ (q : Formula). is_marked marks q.0 q.1 && (is_written (local (map instance_plain ts) q.0 q.1) && (q.0 == k && bytes_eq q.1 y))) s
+        ap (λ (q : Body). is_marked marks q.0 q.1 && (is_written (local (map instance_plain ts) q.0 q.1) && (q.0 == k && bytes_eq q.1 y))) s
         ∙ ap (λ b. b && (is_written (local (map instance_plain ts) k y) && (k == k && bytes_eq y y))) marked ∙ ap (λ m. is_written m && (k == k && bytes_eq y y)) is ∙ same_self (key k y)
 
-    by : (picked ≡ true) ⊎ (picked ≡ false) → (if picked then local_value ts was label (local (map instance_plain ts) i x) else kept_value (named_in was.formulas k y)) ≡ (denote (row_values ts was label j) (row_values ts was label j) e).value
+    by : (picked ≡ true) ⊎ (picked ≡ false) → (if picked then local_value ts was label (local (map instance_plain ts) i x) else kept_value (named_in was.bodies k y)) ≡ (denote (row_values ts was label j) (row_values ts was label j) e).value
     by (inl b) =
         let c = both_true (is_marked marks i x) (is_written (local (map instance_plain ts) i x) && (i == k && bytes_eq x y)) b in
         let d = both_true (is_written (local (map instance_plain ts) i x)) (i == k && bytes_eq x y) c.1 in
-        ap (λ z. if z then local_value ts was label (local (map instance_plain ts) i x) else kept_value (named_in was.formulas k y)) b ∙ own (same_is (key i x) (key k y) d.1)
+        ap (λ z. if z then local_value ts was label (local (map instance_plain ts) i x) else kept_value (named_in was.bodies k y)) b ∙ own (same_is (key i x) (key k y) d.1)
     by (inr b) =
-        ap (λ z. if z then local_value ts was label (local (map instance_plain ts) i x) else kept_value (named_in was.formulas k y)) b
+        ap (λ z. if z then local_value ts was label (local (map instance_plain ts) i x) else kept_value (named_in was.bodies k y)) b
         ∙ ⊎_elim (λ r. h k y j e (omega (arith, r)) marked is)
         (λ r.
         let there : order_rank (map instance_plain ts) order (key k y) ≡ n + 1 = omega (arith, r, low) in
-        let z = chosen (sym at ∙ rank_at (map instance_plain ts) order (key k y) (in_keys (map instance_plain ts) k y (ap is_formula is)) n l there) in
+        let z = chosen (sym at ∙ rank_at (map instance_plain ts) order (key k y) (in_keys (map instance_plain ts) k y (ap has_body is)) n l there) in
         absurd_bool (sym b ∙ z))
         (cases_lt (order_rank (map instance_plain ts) order (key k y)) (n + 1))
 
-pub kept_end : {S : Type 0} (ts : List PartOf) (order : List ℕ) → IsFormulaOrder (map instance_plain ts) order → (marks : HashMap (ℕ × Bor (List ℕ)) Bool S) (row : Row) (label : Values) (n : ℕ) → length order ≤ n
+pub kept_end : {S : Type 0} (ts : List PartOf) (order : List ℕ) → IsBodyOrder (map instance_plain ts) order → (marks : HashMap (ℕ × Bor (List ℕ)) Bool S) (row : Row) (label : Values) (n : ℕ) → length order ≤ n
     → KeptUpto ts order marks row label n → MarkedKept ts marks row label
 kept_end ts order o marks row label n l h k x j e marked is =
-    h k x j e (let low = rank_low (map instance_plain ts) order o (key k x) (in_keys (map instance_plain ts) k x (ap is_formula is)) in omega (arith, low, l)) marked is
+    h k x j e (let low = rank_low (map instance_plain ts) order o (key k x) (in_keys (map instance_plain ts) k x (ap has_body is)) in omega (arith, low, l)) marked is
 
 -- nothing stands up to the beginning
 pub kept_none : {S : Type 0} (ts : List PartOf) (order : List ℕ) (marks : HashMap (ℕ × Bor (List ℕ)) Bool S) (row : Row) (label : Values) → KeptUpto ts order marks row label 0

@@ -8,18 +8,18 @@ use mathlib.Core.Logic.{◌⊎◌, inl, inr, ⊎_elim}
 use Rattle.digraph.specs.Graph.{NodeLists, next_of, is_in, falls_from}
 use Rattle.smv_text.specs.declared.tree.Path.{Path}
 use Rattle.smv_text.specs.Tree.{Tree}
-use Rattle.smv_references.specs.declared.formulas.Formula.{Formula as KeptFormula}
+use Rattle.smv_references.specs.declared.bodies.Body.{Body as KeptBody}
 use Rattle.smv_meaning.specs.Expressions.{paths_of}
 use Rattle.smv_meaning.specs.Instances.{Instance}
-use Rattle.smv_meaning.specs.Names.{formula, local, found_in}
-use Rattle.smv_meaning.specs.Phases.{Formula, refers}
+use Rattle.smv_meaning.specs.Names.{body_of, local, found_in}
+use Rattle.smv_meaning.specs.Phases.{Body, refers}
 use Rattle.smv_meaning.specs.Settled.{rank_of}
-use Rattle.smv_meaning.specs.Formulas.{formulas_of, number_or, reference_graph, placed_formulas, IsFormulaOrder}
-use Rattle.smv_references.specs.View.{key_of, formula_plain}
+use Rattle.smv_meaning.specs.Bodies.{bodies_of, number_or, reference_graph, placed_bodies, IsBodyOrder}
+use Rattle.smv_references.specs.View.{key_of, body_plain}
 use Rattle.smv_meaning.specs.laws.Booleans.{both_true, or_true, absurd_bool}
 use Rattle.smv_model_laws.proofs.Cycles.{In, in_all}
 use Rattle.smv_model_laws.proofs.Ranked.{key, keys_of, within_keys}
-use Rattle.smv_model_laws.proofs.OrderLaws.{number, nobody, bool_cases, place_within, place_is, number_to, graph_length, row_at, formulas_are}
+use Rattle.smv_model_laws.proofs.OrderLaws.{number, nobody, bool_cases, place_within, place_is, number_to, graph_length, row_at, bodies_are}
 use Rattle.smv_references.specs.laws.NumberLemmas.{keys_are}
 use Rattle.smv_model_laws.proofs.Settling.{Under, Falls, Descent, found_under, path_refers, ranking, look_settles}
 
@@ -91,14 +91,14 @@ stands_before g seen (k ∷ ks) f (suc n) m l i =
 
 -- ---- places of definitions and actuals
 
-abbrev pub order_rank : List Instance → List ℕ → Formula → ℕ
+abbrev pub order_rank : List Instance → List ℕ → Body → ℕ
 order_rank t order k = upto order (number t k)
 
 -- what stands at a place
-abbrev pub at_place : List Instance → List ℕ → ℕ → Formula
+abbrev pub at_place : List Instance → List ℕ → ℕ → Body
 at_place t order n = slice_index_or (keys_of t) (slice_index_or order n 0) nobody
 
-pub node_within : (t : List Instance) (order : List ℕ) → IsFormulaOrder t order → (n : ℕ) → n < length order → slice_index_or order n 0 < length (keys_of t)
+pub node_within : (t : List Instance) (order : List ℕ) → IsBodyOrder t order → (n : ℕ) → n < length order → slice_index_or order n 0 < length (keys_of t)
 node_within t order o n l = by order n l o.sorted.within
   where
     by : (ks : List ℕ) (n : ℕ) → n < length ks → list_all (λ k. nat_lt k (length (reference_graph t))) ks ≡ true → slice_index_or ks n 0 < length (keys_of t)
@@ -114,23 +114,23 @@ in_map f x (y ∷ ys) (inl s) = inl (ap f s)
 in_map f x (y ∷ ys) (inr s) = inr (in_map f x ys s)
 
 -- those to which it refers stand before
-pub refers_before : (t : List Instance) (order : List ℕ) → IsFormulaOrder t order → (n : ℕ) → n < length order → (m : Formula) → In m (refers t (at_place t order n)) → order_rank t order m ≤ n
+pub refers_before : (t : List Instance) (order : List ℕ) → IsBodyOrder t order → (n : ℕ) → n < length order → (m : Body) → In m (refers t (at_place t order n)) → order_rank t order m ≤ n
 refers_before t order o n l m i =
     let a = slice_index_or order n 0 in
     let there : In m (keys_of t) = (within_keys t (at_place t order n) m i).1 in
-    let row : In (number_or (formulas_of t) m) (next_of (reference_graph t) a) =
-    subst (λ xs. In (number_or (formulas_of t) m) xs) (sym (row_at t a (node_within t order o n l))) (in_map (number_or (formulas_of t)) m (refers t (at_place t order n)) i) in
+    let row : In (number_or (bodies_of t) m) (next_of (reference_graph t) a) =
+    subst (λ xs. In (number_or (bodies_of t) m) xs) (sym (row_at t a (node_within t order o n l))) (in_map (number_or (bodies_of t)) m (refers t (at_place t order n)) i) in
     ⊎_elim (λ s. absurd_bool s) (λ s. s)
     (stands_before (reference_graph t) [] order o.sorted.falls n (number t m) l (subst (λ k. In k (next_of (reference_graph t) a)) (number_to t m there) row))
 
-pub rank_low : (t : List Instance) (order : List ℕ) → IsFormulaOrder t order → (k : Formula) → In k (keys_of t) → order_rank t order k ≤ length order
+pub rank_low : (t : List Instance) (order : List ℕ) → IsBodyOrder t order → (k : Body) → In k (keys_of t) → order_rank t order k ≤ length order
 rank_low t order o k i = upto_within order (number t k) (o.sorted.whole (number t k) (omega (arith, place_within (keys_of t) k i, graph_length t)))
 
 -- it stands at its place
-pub rank_at : (t : List Instance) (order : List ℕ) (k : Formula) → In k (keys_of t) → (n : ℕ) → n < length order → order_rank t order k ≡ n + 1 → at_place t order n ≡ k
+pub rank_at : (t : List Instance) (order : List ℕ) (k : Body) → In k (keys_of t) → (n : ℕ) → n < length order → order_rank t order k ≡ n + 1 → at_place t order n ≡ k
 rank_at t order k i n l e = ap (λ a. slice_index_or (keys_of t) a nobody) (upto_at order (number t k) n l e) ∙ place_is (keys_of t) k i
 
-order_falls : (t : List Instance) (order : List ℕ) → IsFormulaOrder t order → Falls t (order_rank t order)
+order_falls : (t : List Instance) (order : List ℕ) → IsBodyOrder t order → Falls t (order_rank t order)
 order_falls t order o k m i =
     let here : In k (keys_of t) = (within_keys t k m i).0 in
     let low = rank_low t order o k here in
@@ -141,29 +141,29 @@ order_falls t order o k m i =
     let before = refers_before t order o n less m (subst (λ z. In m (refers t z)) (sym (rank_at t order k here n less same)) i) in
     omega arith
 
-pub order_descent : (t : List Instance) (order : List ℕ) → IsFormulaOrder t order → Descent t (order_rank t order)
+pub order_descent : (t : List Instance) (order : List ℕ) → IsBodyOrder t order → Descent t (order_rank t order)
 order_descent t order o = record { falls = order_falls t order o; settles = look_settles t (rank_of t) (ranking t o.acyclic) }
 
 -- what the paths of its body lead to stands before
-pub body_before : (t : List Instance) (order : List ℕ) → IsFormulaOrder t order → (n : ℕ) → n < length order → (i : ℕ) (x : List ℕ) → at_place t order n ≡ key i x
-    → (j : ℕ) (e : Tree) → local t i x ≡ formula j e → (q : Path) → In q (paths_of e []) → Under t (order_rank t order) (n + 1) (found_in t j q)
+pub body_before : (t : List Instance) (order : List ℕ) → IsBodyOrder t order → (n : ℕ) → n < length order → (i : ℕ) (x : List ℕ) → at_place t order n ≡ key i x
+    → (j : ℕ) (e : Tree) → local t i x ≡ body_of j e → (q : Path) → In q (paths_of e []) → Under t (order_rank t order) (n + 1) (found_in t j q)
 body_before t order o n l i x at j e is q g =
     found_under t (order_rank t order) (order_descent t order o) (n + 1) j q
     (λ m h. let r = refers_before t order o n l m (subst (λ z. In m (refers t z)) (sym at) (path_refers t i x j e is q g m h)) in omega arith)
 
 -- ---- as they are numbered in the code
 
-pub kept_low : (fs : List KeptFormula) (t : List Instance) (order : List ℕ) → map formula_plain fs ≡ placed_formulas t → IsFormulaOrder t order → (n a : ℕ) → n < length order → a ≡ slice_index_or order n a → a < length fs
+pub kept_low : (fs : List KeptBody) (t : List Instance) (order : List ℕ) → map body_plain fs ≡ placed_bodies t → IsBodyOrder t order → (n a : ℕ) → n < length order → a ≡ slice_index_or order n a → a < length fs
 kept_low fs t order e o n a l is =
-    let ks : map key_of fs ≡ keys_of t = keys_are fs t e ∙ formulas_are t in
+    let ks : map key_of fs ≡ keys_of t = keys_are fs t e ∙ bodies_are t in
     let same : a ≡ slice_index_or order n 0 = is ∙ get_or_default order n a 0 l in
     let many : length (map key_of fs) ≡ length (keys_of t) = ap length ks in
     let count = length-map fs key_of in
     omega (arith, node_within t order o n l, same, many, count)
 
-pub kept_at : (fs : List KeptFormula) (t : List Instance) (order : List ℕ) → map formula_plain fs ≡ placed_formulas t → IsFormulaOrder t order → (n a : ℕ) (f : KeptFormula) → n < length order → a ≡ slice_index_or order n a
+pub kept_at : (fs : List KeptBody) (t : List Instance) (order : List ℕ) → map body_plain fs ≡ placed_bodies t → IsBodyOrder t order → (n a : ℕ) (f : KeptBody) → n < length order → a ≡ slice_index_or order n a
     → f ≡ slice_index_or fs a f → at_place t order n ≡ key_of f
 kept_at fs t order e o n a f l is at =
-    let ks : map key_of fs ≡ keys_of t = keys_are fs t e ∙ formulas_are t in
+    let ks : map key_of fs ≡ keys_of t = keys_are fs t e ∙ bodies_are t in
     let same : a ≡ slice_index_or order n 0 = is ∙ get_or_default order n a 0 l in
     ap (λ b. slice_index_or (keys_of t) b nobody) (sym same) ∙ ap (λ l. slice_index_or l a nobody) (sym ks) ∙ get_or-map key_of fs a f nobody (kept_low fs t order e o n a l is) ∙ ap key_of (sym at)

@@ -7,11 +7,11 @@ use Rattle.std.proofs.lemmas.Bool.{cases_lt}
 use Rattle.smv_text.specs.Tree.{Tree}
 use Rattle.smv_meaning.specs.Expressions.{paths_of}
 use Rattle.smv_meaning.specs.Instances.{Instance}
-use Rattle.smv_meaning.specs.Names.{Local, alias, formula, variable_of, inner, nothing, local, Found, variable_at, body_at, instance_at, symbol_of, cyclic, none, found_in}
-use Rattle.smv_meaning.specs.Phases.{Formula}
+use Rattle.smv_meaning.specs.Names.{Local, alias, body_of, variable_of, inner, nothing, local, Found, variable_at, body_at, instance_at, symbol_of, cyclic, none, found_in}
+use Rattle.smv_meaning.specs.Phases.{Body}
 use Rattle.smv_instances.specs.NameMap.{named_in}
-use Rattle.smv_meaning.specs.Settled.{is_formula}
-use Rattle.smv_meaning.specs.Formulas.{IsFormulaOrder}
+use Rattle.smv_meaning.specs.Settled.{has_body}
+use Rattle.smv_meaning.specs.Bodies.{IsBodyOrder}
 use Rattle.smv_evaluation.specs.Rows.{is_marked, MarkedOn, MarksStart, MarksLeast}
 use Rattle.smv_meaning.specs.Reached.{is_body_of, leads_to, local_leads_to}
 use Rattle.smv_meaning.specs.laws.Booleans.{both_true, or_true, absurd_bool}
@@ -26,15 +26,15 @@ Marks S = HashMap (ℕ × Bor (List ℕ)) Bool S
 
 -- ---- what is written and leads on
 
-written : (t : List Instance) (l : Local) (k : ℕ) (x : List ℕ) → local_leads_to t l k x ≡ true → is_formula l ≡ true
-written t (formula j e) k x h = refl
+written : (t : List Instance) (l : Local) (k : ℕ) (x : List ℕ) → local_leads_to t l k x ≡ true → has_body l ≡ true
+written t (body_of j e) k x h = refl
 written t (alias j path) k x h = absurd_bool h
 written t (variable_of kind d) k x h = absurd_bool h
 written t inner k x h = absurd_bool h
 written t nothing k x h = absurd_bool h
 
 -- what a body leads to stands before it
-under_rank : (t : List Instance) (rank : Formula → ℕ) (r k : ℕ) (x : List ℕ) (m : Found) → is_body_of k x m ≡ true → Under t rank r m → rank (key k x) < r
+under_rank : (t : List Instance) (rank : Body → ℕ) (r k : ℕ) (x : List ℕ) (m : Found) → is_body_of k x m ≡ true → Under t rank r m → rank (key k x) < r
 under_rank t rank r k x (body_at l y j e) s u = subst (λ z. rank z < r) (same_is (l, y) (k, x) s) u.0
 under_rank t rank r k x (variable_at y kind d) s u = absurd_bool s
 under_rank t rank r k x (instance_at l) s u = absurd_bool s
@@ -42,12 +42,12 @@ under_rank t rank r k x (symbol_of y) s u = absurd_bool s
 under_rank t rank r k x cyclic s u = absurd_bool s
 under_rank t rank r k x none s u = absurd_bool s
 
-leads_before : (t : List Instance) (order : List ℕ) → IsFormulaOrder t order → (n : ℕ) → n < length order → (i : ℕ) (x : List ℕ) → at_place t order n ≡ key i x
+leads_before : (t : List Instance) (order : List ℕ) → IsBodyOrder t order → (n : ℕ) → n < length order → (i : ℕ) (x : List ℕ) → at_place t order n ≡ key i x
     → (k : ℕ) (z : List ℕ) → local_leads_to t (local t i x) k z ≡ true → order_rank t order (key k z) < n + 1
 leads_before t order o n l i x at k z h = by (local t i x) refl h
   where
     by : (m : Local) → local t i x ≡ m → local_leads_to t m k z ≡ true → order_rank t order (key k z) < n + 1
-    by (formula j e) is s =
+    by (body_of j e) is s =
         let w = any_in (λ q. is_body_of k z (found_in t j q)) (paths_of e []) s in
         under_rank t (order_rank t order) (n + 1) k z (found_in t j w.0) w.2 (body_before t order o n l i x at j e is w.0 w.1)
     by (alias j path) is s = absurd_bool s
@@ -83,7 +83,7 @@ least_on t was now i x put j e h test first on k z m =
 abbrev pub ClosedBehind : {S : Type 0} → List Instance → List ℕ → Marks S → ℕ → Type 0
 ClosedBehind t order marks n = (k : ℕ) (x : List ℕ) (m : ℕ) (y : List ℕ) → n < order_rank t order (key k x) → is_marked marks k x ≡ true → local_leads_to t (local t k x) m y ≡ true → is_marked marks m y ≡ true
 
-pub closed_on : {S : Type 0} (t : List Instance) (order : List ℕ) → IsFormulaOrder t order → (was now : Marks S) (n i : ℕ) (x : List ℕ) → n < length order → at_place t order n ≡ key i x
+pub closed_on : {S : Type 0} (t : List Instance) (order : List ℕ) → IsBodyOrder t order → (was now : Marks S) (n i : ℕ) (x : List ℕ) → n < length order → at_place t order n ≡ key i x
     → MarkedOn t was now i x → ClosedBehind t order was (n + 1) → ClosedBehind t order now n
 closed_on t order o was now n i x l at put h k z m y less marked leads =
     ⊎_elim old
@@ -95,8 +95,8 @@ closed_on t order o was now n i x l at put h k z m y less marked leads =
 
     own : is_marked was k z ≡ true → key k z ≡ key i x → is_marked now m y ≡ true
     own s e =
-        let first : is_marked was i x ≡ true = subst (λ (q : Formula). is_marked was q.0 q.1 ≡ true) e s in
-        let there : local_leads_to t (local t i x) m y ≡ true = subst (λ (q : Formula). local_leads_to t (local t q.0 q.1) m y ≡ true) e leads in
+        let first : is_marked was i x ≡ true = subst (λ (q : Body). is_marked was q.0 q.1 ≡ true) e s in
+        let there : local_leads_to t (local t i x) m y ≡ true = subst (λ (q : Body). local_leads_to t (local t q.0 q.1) m y ≡ true) e leads in
         put m y ∙ or_right (is_marked was m y) (is_marked was i x && local_leads_to t (local t i x) m y) (and_both (is_marked was i x) (local_leads_to t (local t i x) m y) first there)
 
     old : is_marked was k z ≡ true → is_marked now m y ≡ true
@@ -105,7 +105,7 @@ closed_on t order o was now n i x l at put h k z m y less marked leads =
         (λ r. let same : order_rank t order (key k z) ≡ n + 1 = omega (arith, less, r) in own s (sym (rank_at t order (key k z) here n l same) ∙ at))
         (cases_lt (n + 1) (order_rank t order (key k z)))
 
-pub closed_end : {S : Type 0} (t : List Instance) (order : List ℕ) → IsFormulaOrder t order → (marks : Marks S) (n : ℕ) → n ≡ length order → ClosedBehind t order marks n
+pub closed_end : {S : Type 0} (t : List Instance) (order : List ℕ) → IsBodyOrder t order → (marks : Marks S) (n : ℕ) → n ≡ length order → ClosedBehind t order marks n
 closed_end t order o marks n e k x m y less marked leads =
     absurd (let low = rank_low t order o (key k x) (in_keys t k x (written t (local t k x) m y leads)) in omega arith)
 

@@ -13,7 +13,7 @@ use Rattle.smv_evaluation.specs.declared.rows.Row.{Row}
 use Rattle.smv_instances.specs.declared.instances.Instance.{Instance as PartOf}
 use Rattle.smv_meaning.specs.Values.{Valuation}
 use Rattle.smv_meaning.specs.Instances.{Instance, instances_of}
-use Rattle.smv_meaning.specs.Names.{Local, alias, formula, variable_of, inner, nothing, local, Found, variable_at, body_at, instance_at, symbol_of, cyclic, none, found_in, steps_of}
+use Rattle.smv_meaning.specs.Names.{Local, alias, body_of, variable_of, inner, nothing, local, Found, variable_at, body_at, instance_at, symbol_of, cyclic, none, found_in, steps_of}
 use Rattle.smv_meaning.specs.Meaning.{denoted, value_of}
 use Rattle.smv_meaning.specs.Expressions.{denote, paths_of}
 use Rattle.smv_meaning.specs.Safety.{Safe, SafePath}
@@ -77,7 +77,7 @@ marked_safe t i e state label following a marks least s gives k x m =
     (λ l y n z h r. local_clear t (acyclic t a.checked) (is_some label) (local t l y) h n z r) k x m)
   where
     by : (l : Local) → local t k x ≡ l → (is_some label || not (local_reaches t l)) ≡ true → LocalSafe (values_in t s (stated label)) l
-    by (formula j b) is h =
+    by (body_of j b) is h =
         safe_holds (SafePath (found_in t) (steps_of t) s (stated label) j) (SafePath (found_in t) (steps_of t) s (stated label) j) (λ q. Unit {0}) (λ q. Unit {0})
         (values_in t s (stated label) j) (values_in t s (stated label) j) b [] (λ q g. (tt, tt)) (body_is_safe t a.checked a.words (is_some label) s (stated label) gives k x j b is h)
     by (alias j path) is h = tt

@@ -10,13 +10,13 @@ use Rattle.smv_evaluation.specs.declared.dotted.Dotted.{Dotted}
 use Rattle.smv_evaluation.specs.declared.rows.Values.{Values}
 use Rattle.smv_evaluation.specs.declared.rows.Row.{Row}
 use Rattle.smv_evaluation.specs.declared.reached.Reach.{Reach}
-use Rattle.smv_meaning.specs.Formulas.{placed_formulas, IsFormulaOrder}
+use Rattle.smv_meaning.specs.Bodies.{placed_bodies, IsBodyOrder}
 use Rattle.smv_instances.specs.declared.instances.Instance.{Instance as PartOf}
 use Rattle.smv_meaning.specs.Values.{Valuation, no_value}
 use Rattle.smv_meaning.specs.Expressions.{Denotation, denote, chosen, taken}
 use Rattle.smv_meaning.specs.Instances.{Instance, dotted}
 use Rattle.smv_evaluation.specs.Dotting.{dotted_name}
-use Rattle.smv_meaning.specs.Names.{Local, formula, local, Found, body_at}
+use Rattle.smv_meaning.specs.Names.{Local, body_of, local, Found, body_at}
 use Rattle.smv_meaning.specs.Meaning.{value_found}
 use Rattle.smv_instances.specs.NameMap.{named_in}
 use Rattle.smv_meaning.specs.Reached.{leads_to, local_leads_to}
@@ -25,7 +25,7 @@ use Rattle.smv_meaning.specs.Settled.{values_in}
 use Rattle.smv_operators.specs.View.{seen_value}
 use Rattle.smv_evaluation.specs.View.{stated}
 use Rattle.smv_instances.specs.View.{instance_plain, found_here}
-use Rattle.smv_references.specs.View.{formula_plain}
+use Rattle.smv_references.specs.View.{body_plain}
 
 -- ---- values of variables
 
@@ -59,7 +59,7 @@ row_reads ts i row label path = value_found (row_values ts row label) (stated ro
 
 -- the value of a definition or an actual is kept
 abbrev pub FoundKept : List PartOf → Row → Values → Found → Type 0
-FoundKept ts row label (body_at k x j e) = kept_value (named_in row.formulas k x) ≡ (denote (row_values ts row label j) (row_values ts row label j) e).value
+FoundKept ts row label (body_at k x j e) = kept_value (named_in row.bodies k x) ≡ (denote (row_values ts row label j) (row_values ts row label j) e).value
 FoundKept ts row label m = Unit {0}
 
 -- what is owed of a name, so that its value is read in the row
@@ -87,27 +87,27 @@ MarksLeast t i e marks = (test : ℕ → List ℕ → Bool) → ((k : ℕ) (x : 
 
 -- all definitions and actuals, and an order in which each stands after those to which it refers
 pub record IsOrdered (t : List Instance) (reach : Reach) : Type 0 where
-  pub formulas : map formula_plain reach.formulas.items ≡ placed_formulas t
-  pub order : IsFormulaOrder t reach.order
+  pub bodies : map body_plain reach.bodies.items ≡ placed_bodies t
+  pub order : IsBodyOrder t reach.order
 
 -- ---- rows
 
 abbrev pub is_written : Local → Bool
-is_written (formula j e) = true
+is_written (body_of j e) = true
 is_written l = false
 
 -- its body is safely evaluated by what is kept
 abbrev pub LocalReady : List PartOf → Row → Values → Local → Type 0
-LocalReady ts row label (formula j e) = Safe (IsKept ts j row label) (IsKept ts j row label) (row_reads ts j row label) (row_reads ts j row label) e
+LocalReady ts row label (body_of j e) = Safe (IsKept ts j row label) (IsKept ts j row label) (row_reads ts j row label) (row_reads ts j row label) e
 LocalReady ts row label l = Unit {0}
 
 abbrev pub local_value : List PartOf → Row → Values → Local → Value
-local_value ts row label (formula j e) = (denote (row_reads ts j row label) (row_reads ts j row label) e).value
+local_value ts row label (body_of j e) = (denote (row_reads ts j row label) (row_reads ts j row label) e).value
 local_value ts row label l = no_value
 
 -- its evaluation under the values of all names is safe
 abbrev pub LocalSafe : (ℕ → Path → Value) → Local → Type 0
-LocalSafe values (formula j e) = Safe (λ q. Unit {0}) (λ q. Unit {0}) (values j) (values j) e
+LocalSafe values (body_of j e) = Safe (λ q. Unit {0}) (λ q. Unit {0}) (values j) (values j) e
 LocalSafe values l = Unit {0}
 
 abbrev pub MarkedSafe : {S : Type 0} → List Instance → HashMap (ℕ × Bor (List ℕ)) Bool S → Valuation → Valuation → Type 0
@@ -115,7 +115,7 @@ MarkedSafe t marks state label = (k : ℕ) (x : List ℕ) → is_marked marks k 
 
 -- the values of all that is marked are kept
 abbrev pub MarkedKept : {S : Type 0} → List PartOf → HashMap (ℕ × Bor (List ℕ)) Bool S → Row → Values → Type 0
-MarkedKept ts marks row label = (k : ℕ) (x : List ℕ) (j : ℕ) (e : Tree) → is_marked marks k x ≡ true → local (map instance_plain ts) k x ≡ formula j e → FoundKept ts row label (body_at k x j e)
+MarkedKept ts marks row label = (k : ℕ) (x : List ℕ) (j : ℕ) (e : Tree) → is_marked marks k x ≡ true → local (map instance_plain ts) k x ≡ body_of j e → FoundKept ts row label (body_at k x j e)
 
 -- ---- an expression of an instance, by what is kept for this state and for the following one
 
@@ -145,13 +145,13 @@ kept_taken ts i now later label bs = taken (row_reads ts i now label) (row_reads
 
 -- the value of one of the names that are definitions or actuals with a body is kept, and those of all others stay
 abbrev pub KeepsLocal : List PartOf → (old new : Row) → Values → ℕ → List ℕ → Type 0
-KeepsLocal ts old new label i x = (k : ℕ) (y : List ℕ) → kept_value (named_in new.formulas k y)
-    ≡ (if is_written (local (map instance_plain ts) i x) && (i == k && bytes_eq x y) then local_value ts old label (local (map instance_plain ts) i x) else kept_value (named_in old.formulas k y))
+KeepsLocal ts old new label i x = (k : ℕ) (y : List ℕ) → kept_value (named_in new.bodies k y)
+    ≡ (if is_written (local (map instance_plain ts) i x) && (i == k && bytes_eq x y) then local_value ts old label (local (map instance_plain ts) i x) else kept_value (named_in old.bodies k y))
 
 -- the same, where the name is marked
 abbrev pub KeepsMarked : {S : Type 0} → List PartOf → HashMap (ℕ × Bor (List ℕ)) Bool S → (old new : Row) → Values → ℕ → List ℕ → Type 0
-KeepsMarked ts marks old new label i x = (k : ℕ) (y : List ℕ) → kept_value (named_in new.formulas k y)
-    ≡ (if is_marked marks i x && (is_written (local (map instance_plain ts) i x) && (i == k && bytes_eq x y)) then local_value ts old label (local (map instance_plain ts) i x) else kept_value (named_in old.formulas k y))
+KeepsMarked ts marks old new label i x = (k : ℕ) (y : List ℕ) → kept_value (named_in new.bodies k y)
+    ≡ (if is_marked marks i x && (is_written (local (map instance_plain ts) i x) && (i == k && bytes_eq x y)) then local_value ts old label (local (map instance_plain ts) i x) else kept_value (named_in old.bodies k y))
 
 -- what the body of the name leads to is marked too, where the name is marked itself
 abbrev pub MarkedOn : {S : Type 0} → List Instance → (old new : HashMap (ℕ × Bor (List ℕ)) Bool S) → ℕ → List ℕ → Type 0

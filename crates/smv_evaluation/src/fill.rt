@@ -11,7 +11,7 @@ use crate::reached::{Marks, Reach, has_mark};
 use crate::rows::{Row, Values, values_of};
 use smv_instances::{Known, Table, nothing_in, put_in};
 use smv_meaning::State;
-use smv_references::Formula;
+use smv_references::Body;
 use std::alloc::Global;
 use text_core::NoMemory;
 
@@ -28,9 +28,9 @@ fn keep_local<'a>(
     ensures kept { OnOk result (KeepsLocal table.now row.old row.new label.now i x.now) }
 {
     match table.local(i, x) {
-        Known::Formula(j, e) => {
+        Known::Body(j, e) => {
             let value = evaluate(table, j, e, row, label, row);
-            put_in(&mut row.formulas, i, x, value)
+            put_in(&mut row.bodies, i, x, value)
         }
         Known::Alias(_, _) => Ok(()),
         Known::Variable(_, _) => Ok(()),
@@ -42,17 +42,17 @@ fn keep_local<'a>(
 // The body is evaluated by what is kept, which holds all to which it leads.
 fn keep_marked<'a>(
     table: &Table<'a>,
-    formula: &Formula<'a>,
+    body: &Body<'a>,
     marks: &Marks<'a>,
     label: &Values<'a>,
     row: &mut Row<'a>,
 ) -> Result<(), NoMemory>
-    requires { is_marked marks.now formula.now.instance formula.now.name.now ≡ true → LocalReady table.now row.old label.now (local (map instance_plain table.now) formula.now.instance formula.now.name.now) }
+    requires { is_marked marks.now body.now.instance body.now.name.now ≡ true → LocalReady table.now row.old label.now (local (map instance_plain table.now) body.now.instance body.now.name.now) }
     ensures state { OnOk result (row.new.state ≡ row.old.state) }
-    ensures kept { OnOk result (KeepsMarked table.now marks.now row.old row.new label.now formula.now.instance formula.now.name.now) }
+    ensures kept { OnOk result (KeepsMarked table.now marks.now row.old row.new label.now body.now.instance body.now.name.now) }
 {
-    if has_mark(marks, formula.instance, formula.name) {
-        keep_local(table, formula.instance, formula.name, label, row)
+    if has_mark(marks, body.instance, body.name) {
+        keep_local(table, body.instance, body.name, label, row)
     } else {
         Ok(())
     }
@@ -73,10 +73,10 @@ fn keep_all<'a>(
     ensures state { OnOk result (row.new.state ≡ row.old.state) }
     ensures kept { OnOk result (MarkedKept table.now reach.now.marks row.new label.now) }
 {
-    let formulas = reach.formulas.as_slice();
+    let bodies = reach.bodies.as_slice();
     for n in 0..reach.order.len() {
         let k = *reach.order.at(n);
-        keep_marked(table, &formulas[k], &reach.marks, label, row)?;
+        keep_marked(table, &bodies[k], &reach.marks, label, row)?;
     }
     Ok(())
 }
@@ -99,7 +99,7 @@ pub fn row_of<'a>(
 {
     let mut row = Row {
         state: values_of(alloc, Some(state))?,
-        formulas: nothing_in(alloc),
+        bodies: nothing_in(alloc),
     };
     keep_all(table, reach, label, &mut row)?;
     Ok(row)

@@ -5,14 +5,14 @@ ghost use Rattle.smv_text.specs.View.{plain};
 ghost use Rattle.smv_meaning.specs.Names.{local, found_in};
 ghost use Rattle.smv_meaning.specs.Checks.{first_failing};
 ghost use Rattle.smv_meaning.specs.Settled.{cycle_checks_of};
-ghost use Rattle.smv_meaning.specs.Formulas.{placed_formulas, IsFormulaOrder};
+ghost use Rattle.smv_meaning.specs.Bodies.{placed_bodies, IsBodyOrder};
 ghost use Rattle.smv_evaluation.specs.Rows.{is_marked, MarkedOn, MarksStart, MarksClosed, MarksLeast, IsOrdered};
 ghost use Rattle.smv_meaning.specs.Reached.{is_body_of, leads_to, local_leads_to};
 ghost use Rattle.smv_instances.specs.View.{instance_plain};
-ghost use Rattle.smv_references.specs.View.{formula_plain, path_seen};
+ghost use Rattle.smv_references.specs.View.{body_plain, path_seen};
 
 use smv_instances::{InstanceMap, Known, Table, Target, nothing_in, put_in, value_in};
-use smv_references::{Formula, Ordering, formula_order, formulas_in, paths_in};
+use smv_references::{Body, Ordering, bodies_in, body_order, paths_in};
 use smv_text::{Expr, Path};
 use std::alloc::Global;
 use text_core::{List, NoMemory};
@@ -83,7 +83,7 @@ fn mark_local<'a>(
     ensures { OnOk result ((l : ℕ) (y : List ℕ) → is_marked marks.new l y ≡ (is_marked marks.old l y || local_leads_to (map instance_plain table.now) (local (map instance_plain table.now) i x.now) l y)) }
 {
     match table.local(i, x) {
-        Known::Formula(j, e) => mark_body(alloc, table, j, e, marks),
+        Known::Body(j, e) => mark_body(alloc, table, j, e, marks),
         Known::Alias(_, _) => Ok(()),
         Known::Variable(_, _) => Ok(()),
         Known::Instance => Ok(()),
@@ -95,13 +95,13 @@ fn mark_local<'a>(
 fn mark_on<'a>(
     alloc: Global,
     table: &Table<'a>,
-    formula: &Formula<'a>,
+    body: &Body<'a>,
     marks: &mut Marks<'a>,
 ) -> Result<(), NoMemory>
-    ensures { OnOk result (MarkedOn (map instance_plain table.now) marks.old marks.new formula.now.instance formula.now.name.now) }
+    ensures { OnOk result (MarkedOn (map instance_plain table.now) marks.old marks.new body.now.instance body.now.name.now) }
 {
-    if has_mark(marks, formula.instance, formula.name) {
-        mark_local(alloc, table, formula.instance, formula.name, marks)
+    if has_mark(marks, body.instance, body.name) {
+        mark_local(alloc, table, body.instance, body.name, marks)
     } else {
         Ok(())
     }
@@ -111,13 +111,13 @@ fn mark_on<'a>(
 fn marks_of<'a>(
     alloc: Global,
     table: &Table<'a>,
-    formulas: &[Formula<'a>],
+    bodies: &[Body<'a>],
     order: &List<usize>,
     i: usize,
     e: &'a Expr,
 ) -> Result<Marks<'a>, NoMemory>
-    requires formulas { map formula_plain formulas.now ≡ placed_formulas (map instance_plain table.now) }
-    requires order { IsFormulaOrder (map instance_plain table.now) order.now }
+    requires bodies { map body_plain bodies.now ≡ placed_bodies (map instance_plain table.now) }
+    requires order { IsBodyOrder (map instance_plain table.now) order.now }
     ensures starts { IfOk result (MarksStart (map instance_plain table.now) i (plain e.now)) }
     ensures closed { IfOk result (MarksClosed (map instance_plain table.now)) }
     ensures least { IfOk result (MarksLeast (map instance_plain table.now) i (plain e.now)) }
@@ -128,7 +128,7 @@ fn marks_of<'a>(
     while n > 0 {
         n -= 1;
         let k = *order.at(n);
-        mark_on(alloc, table, &formulas[k], &mut marks)?;
+        mark_on(alloc, table, &bodies[k], &mut marks)?;
     }
     Ok(marks)
 }
@@ -137,13 +137,13 @@ fn marks_of<'a>(
 fn order_of<'a>(
     alloc: Global,
     table: &Table<'a>,
-    formulas: &[Formula<'a>],
+    bodies: &[Body<'a>],
 ) -> Result<List<usize>, NoMemory>
-    requires formulas { map formula_plain formulas.now ≡ placed_formulas (map instance_plain table.now) }
+    requires bodies { map body_plain bodies.now ≡ placed_bodies (map instance_plain table.now) }
     requires passing { first_failing (cycle_checks_of (map instance_plain table.now)) ≡ None }
-    ensures { IfOk result (IsFormulaOrder (map instance_plain table.now)) }
+    ensures { IfOk result (IsBodyOrder (map instance_plain table.now)) }
 {
-    match formula_order(alloc, table, formulas)? {
+    match body_order(alloc, table, bodies)? {
         Ordering::Ordered(order) => Ok(order),
         Ordering::Cycle(_) => Ok(List::new(alloc)),
     }
@@ -153,7 +153,7 @@ fn order_of<'a>(
 /// expression reaches.
 #[derive(Drop)]
 pub struct Reach<'a> {
-    pub formulas: Vec<Formula<'a>>,
+    pub bodies: Vec<Body<'a>>,
     pub order: List<usize>,
     pub marks: Marks<'a>,
 }
@@ -171,11 +171,11 @@ pub fn reach_of<'a>(
     ensures closed { IfOk result (λ r. MarksClosed (map instance_plain table.now) r.marks) }
     ensures least { IfOk result (λ r. MarksLeast (map instance_plain table.now) i (plain e.now) r.marks) }
 {
-    let formulas = formulas_in(alloc, table)?;
-    let order = order_of(alloc, table, formulas.as_slice())?;
-    let marks = marks_of(alloc, table, formulas.as_slice(), &order, i, e)?;
+    let bodies = bodies_in(alloc, table)?;
+    let order = order_of(alloc, table, bodies.as_slice())?;
+    let marks = marks_of(alloc, table, bodies.as_slice(), &order, i, e)?;
     Ok(Reach {
-        formulas,
+        bodies,
         order,
         marks,
     })

@@ -36,7 +36,7 @@ pub struct Values<'a> {
 #[derive(Drop)]
 pub struct Row<'a> {
     pub state: Values<'a>,
-    pub formulas: Kept<'a>,
+    pub bodies: Kept<'a>,
 }
 
 fn seen_under<'a>(kept: &Kept<'a>, i: usize, x: &[u8]) -> Option<Seen<'a>>
@@ -134,10 +134,10 @@ fn value_of_kind<'a>(
 
 // ---- names
 
-fn value_of_formula<'a>(row: &Row<'a>, i: usize, x: &[u8]) -> Seen<'a>
-    ensures { seen_value result ≡ kept_value (named_in row.now.formulas i x.now) }
+fn value_of_body<'a>(row: &Row<'a>, i: usize, x: &[u8]) -> Seen<'a>
+    ensures { seen_value result ≡ kept_value (named_in row.now.bodies i x.now) }
 {
-    match seen_under(&row.formulas, i, x) {
+    match seen_under(&row.bodies, i, x) {
         None => no_seen(),
         Some(value) => value,
     }
@@ -156,7 +156,7 @@ pub fn value_of_path<'a>(
 {
     match table.target(i, path) {
         Target::Variable(k, x, kind, _) => value_of_kind(table, kind, k, x, row, label),
-        Target::Body(k, x, _, _) => value_of_formula(row, k, x),
+        Target::Body(k, x, _, _) => value_of_body(row, k, x),
         Target::Instance(_) => no_seen(),
         Target::Symbol(s) => Seen::Symbol(s),
         Target::Cyclic => no_seen(),

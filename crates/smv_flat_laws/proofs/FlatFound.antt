@@ -12,7 +12,7 @@ use Rattle.smv_text.specs.declared.tree.Member.{Member}
 use Rattle.smv_text.specs.declared.tree.Member.TheVariants as OfMember
 use Rattle.smv_text.specs.Tree.{Tree, truth, number, literal, name, prefix, chain, choice, cases, select, call, next, set, range, Trees, no_trees, tree, PlainDomain, boolean, members, between, bits, instance, PlainItem, PlainDefinition, PlainElement, vars, defines, constants, assigns, init, trans, invar, spec}
 use Rattle.smv_meaning.specs.Instances.{Instance, is_one_of}
-use Rattle.smv_meaning.specs.Names.{Local, alias, formula, variable_of, inner, nothing, of_actual, of_domain, among_items, among_definitions, among_elements, among_parameters, parent_of, local_in, local, Found, variable_at, body_at, instance_at, symbol_of, cyclic, none, at_child, is_child, onward, is_end, walk, is_symbol, domain_has, item_has, element_has, instance_has, has_symbol, symbol_or_none, single, through, resolved, landed, look, steps_of, found_in, dotted_at}
+use Rattle.smv_meaning.specs.Names.{Local, alias, body_of, variable_of, inner, nothing, of_actual, of_domain, among_items, among_definitions, among_elements, among_parameters, parent_of, local_in, local, Found, variable_at, body_at, instance_at, symbol_of, cyclic, none, at_child, is_child, onward, is_end, walk, is_symbol, domain_has, item_has, element_has, instance_has, has_symbol, symbol_or_none, single, through, resolved, landed, look, steps_of, found_in, dotted_at}
 use Rattle.smv_meaning.specs.Phases.{over_instances}
 use Rattle.smv_items.specs.FlatItems.{Content, variable, definition, actual, Origin, with_content, actual_content, actual_items, domain_content, variable_item, definition_item, element_items, items_here, origins_of, member_symbols, domain_symbols, element_symbols, gathered, symbols_of, is_variable_as, is_body, path_of}
 use Rattle.smv_flat_laws.proofs.FlatPlaces.{first, At, first_at, first_left, first_right, any_left, any_right, none_joined, any_first}
@@ -24,8 +24,8 @@ body_in (variable kind d) = None
 body_in (definition j e) = Some (j, e)
 body_in (actual j e) = Some (j, e)
 
-abbrev pub body_of : Origin → Option (ℕ × Tree)
-body_of m = body_in m.content
+abbrev pub origin_body : Origin → Option (ℕ × Tree)
+origin_body m = body_in m.content
 
 abbrev pub pair : ℕ → Tree → ℕ × Tree
 pair j e = (j, e)
@@ -59,18 +59,18 @@ or_none : (a b : Bool) → a ≡ false → b ≡ false → (a || b) ≡ false
 or_none true b h k = cc
 or_none false b h k = k
 
--- a formula that is one of these is the actual's
-actual_formula : (i j : ℕ) (x : List ℕ) (y : List ℕ) (e : Tree) (k : ℕ) (b : Tree) (ms : List Origin) → bytes_eq y x ≡ true → of_actual j e ≡ formula k b
-    → first (is_body_of i x) body_of (with_content i y (actual_content j e) ++ ms) ≡ Some (pair k b)
-actual_formula i j x y e k b ms h s = by e s
+-- a body that is one of these is the actual's
+actual_body : (i j : ℕ) (x : List ℕ) (y : List ℕ) (e : Tree) (k : ℕ) (b : Tree) (ms : List Origin) → bytes_eq y x ≡ true → of_actual j e ≡ body_of k b
+    → first (is_body_of i x) origin_body (with_content i y (actual_content j e) ++ ms) ≡ Some (pair k b)
+actual_body i j x y e k b ms h s = by e s
   where
-    here : (c : Tree) → formula j c ≡ formula k b → (if true && ((i == i) && bytes_eq y x) then Some (pair j c) else first (is_body_of i x) body_of ms) ≡ Some (pair k b)
+    here : (c : Tree) → body_of j c ≡ body_of k b → (if true && ((i == i) && bytes_eq y x) then Some (pair j c) else first (is_body_of i x) origin_body ms) ≡ Some (pair k b)
     here c s =
         let p : j ≡ k = cc in let q : c ≡ b = cc in
-        ap (λ t. if t && bytes_eq y x then Some (pair j c) else first (is_body_of i x) body_of ms) (number_self i)
-        ∙ ap (λ t. if t then Some (pair j c) else first (is_body_of i x) body_of ms) h ∙ ap (λ n. Some (pair n c)) p ∙ ap (λ d. Some (pair k d)) q
+        ap (λ t. if t && bytes_eq y x then Some (pair j c) else first (is_body_of i x) origin_body ms) (number_self i)
+        ∙ ap (λ t. if t then Some (pair j c) else first (is_body_of i x) origin_body ms) h ∙ ap (λ n. Some (pair n c)) p ∙ ap (λ d. Some (pair k d)) q
 
-    by : (c : Tree) → of_actual j c ≡ formula k b → first (is_body_of i x) body_of (with_content i y (actual_content j c) ++ ms) ≡ Some (pair k b)
+    by : (c : Tree) → of_actual j c ≡ body_of k b → first (is_body_of i x) origin_body (with_content i y (actual_content j c) ++ ms) ≡ Some (pair k b)
     by (name p q) s = cc
     by (truth p c) s = here (truth p c) s
     by (number p n) s = here (number p n) s
@@ -95,20 +95,20 @@ other_actual i j x y e h = by (actual_content j e)
 
 -- what the actuals give, or else what comes behind them
 abbrev pub Gives : ℕ → List ℕ → List Origin → Local → ℕ → Tree → Type 0
-Gives i x ms other k b = (first (is_body_of i x) body_of ms ≡ Some (pair k b)) ⊎ ((list_any (is_body_of i x) ms ≡ false) × (other ≡ formula k b))
+Gives i x ms other k b = (first (is_body_of i x) origin_body ms ≡ Some (pair k b)) ⊎ ((list_any (is_body_of i x) ms ≡ false) × (other ≡ body_of k b))
 
 actuals_give : (i j : ℕ) (qs : List Parameter) (es : Trees) (x : List ℕ) (other : Local) (k : ℕ) (b : Tree)
-    → among_parameters j qs es x other ≡ formula k b → Gives i x (actual_items i j qs es) other k b
+    → among_parameters j qs es x other ≡ body_of k b → Gives i x (actual_items i j qs es) other k b
 actuals_give i j [] es x other k b h = inr (refl, h)
 actuals_give i j (q ∷ qs) no_trees x other k b h = inr (refl, h)
 actuals_give i j (q ∷ qs) (tree e es) x other k b h = by (λ g. actuals_give i j qs es x other k b g) (bytes_eq q.name x) refl h
   where
-    by : (among_parameters j qs es x other ≡ formula k b → Gives i x (actual_items i j qs es) other k b) → (t : Bool) → bytes_eq q.name x ≡ t → (if t then of_actual j e else among_parameters j qs es x other) ≡ formula k b
+    by : (among_parameters j qs es x other ≡ body_of k b → Gives i x (actual_items i j qs es) other k b) → (t : Bool) → bytes_eq q.name x ≡ t → (if t then of_actual j e else among_parameters j qs es x other) ≡ body_of k b
         → Gives i x (with_content i q.name (actual_content j e) ++ actual_items i j qs es) other k b
-    by ih true s g = inl (actual_formula i j x q.name e k b (actual_items i j qs es) s g)
+    by ih true s g = inl (actual_body i j x q.name e k b (actual_items i j qs es) s g)
     by ih false s g =
         let n = other_actual i j x q.name e s in
-        ⊎_elim (λ a. inl (first_right (is_body_of i x) body_of (with_content i q.name (actual_content j e)) (actual_items i j qs es) (pair k b) n a))
+        ⊎_elim (λ a. inl (first_right (is_body_of i x) origin_body (with_content i q.name (actual_content j e)) (actual_items i j qs es) (pair k b) n a))
         (λ a. inr (none_joined (is_body_of i x) (with_content i q.name (actual_content j e)) (actual_items i j qs es) n a.0, a.1))
         (ih g)
 
@@ -127,47 +127,47 @@ variables_no_body : (i : ℕ) (x : List ℕ) (kind : VarKind) (vs : List PlainIt
 variables_no_body i x kind [] = refl
 variables_no_body i x kind (v ∷ vs) = none_joined (is_body_of i x) (variable_item i kind v) (flat_map (variable_item i kind) vs) (variable_no_body i x kind v) (variables_no_body i x kind vs)
 
--- a variable or an instance is no formula
-past_variables : (kind : VarKind) (vs : List PlainItem) (x : List ℕ) (other : Local) (k : ℕ) (b : Tree) → among_items kind vs x other ≡ formula k b → other ≡ formula k b
+-- a variable or an instance is no body
+past_variables : (kind : VarKind) (vs : List PlainItem) (x : List ℕ) (other : Local) (k : ℕ) (b : Tree) → among_items kind vs x other ≡ body_of k b → other ≡ body_of k b
 past_variables kind [] x other k b h = h
 past_variables kind (v ∷ vs) x other k b h = by (λ s. past_variables kind vs x other k b s) (bytes_eq v.name x) h
   where
-    here : (d : PlainDomain) → of_domain kind d ≡ formula k b → other ≡ formula k b
+    here : (d : PlainDomain) → of_domain kind d ≡ body_of k b → other ≡ body_of k b
     here boolean s = cc
     here (members ms) s = cc
     here (between low high) s = cc
     here (bits n) s = cc
     here (instance m es) s = cc
 
-    by : (among_items kind vs x other ≡ formula k b → other ≡ formula k b) → (t : Bool) → (if t then of_domain kind v.domain else among_items kind vs x other) ≡ formula k b → other ≡ formula k b
+    by : (among_items kind vs x other ≡ body_of k b → other ≡ body_of k b) → (t : Bool) → (if t then of_domain kind v.domain else among_items kind vs x other) ≡ body_of k b → other ≡ body_of k b
     by ih true s = here v.domain s
     by ih false s = ih s
 
 definitions_give : (i : ℕ) (ds : List PlainDefinition) (x : List ℕ) (other : Local) (k : ℕ) (b : Tree)
-    → among_definitions i ds x other ≡ formula k b → Gives i x (map (definition_item i) ds) other k b
+    → among_definitions i ds x other ≡ body_of k b → Gives i x (map (definition_item i) ds) other k b
 definitions_give i [] x other k b h = inr (refl, h)
 definitions_give i (d ∷ ds) x other k b h = by (λ g. definitions_give i ds x other k b g) (bytes_eq d.name x) refl h
   where
-    by : (among_definitions i ds x other ≡ formula k b → Gives i x (map (definition_item i) ds) other k b) → (t : Bool) → bytes_eq d.name x ≡ t → (if t then formula i d.body else among_definitions i ds x other) ≡ formula k b
+    by : (among_definitions i ds x other ≡ body_of k b → Gives i x (map (definition_item i) ds) other k b) → (t : Bool) → bytes_eq d.name x ≡ t → (if t then body_of i d.body else among_definitions i ds x other) ≡ body_of k b
         → Gives i x (definition_item i d ∷ map (definition_item i) ds) other k b
     by ih true s g =
         let p : i ≡ k = cc in let q : d.body ≡ b = cc in
-        inl (ap (λ t. if t && bytes_eq d.name x then Some (pair i d.body) else first (is_body_of i x) body_of (map (definition_item i) ds)) (number_self i)
-        ∙ ap (λ t. if t then Some (pair i d.body) else first (is_body_of i x) body_of (map (definition_item i) ds)) s ∙ ap (λ n. Some (pair n d.body)) p ∙ ap (λ c. Some (pair k c)) q)
+        inl (ap (λ t. if t && bytes_eq d.name x then Some (pair i d.body) else first (is_body_of i x) origin_body (map (definition_item i) ds)) (number_self i)
+        ∙ ap (λ t. if t then Some (pair i d.body) else first (is_body_of i x) origin_body (map (definition_item i) ds)) s ∙ ap (λ n. Some (pair n d.body)) p ∙ ap (λ c. Some (pair k c)) q)
     by ih false s g =
         let n : is_body_of i x (definition_item i d) ≡ false = and_false (i == i) (bytes_eq d.name x) s in
-        ⊎_elim (λ a. inl (ap (λ t. if t then Some (pair i d.body) else first (is_body_of i x) body_of (map (definition_item i) ds)) n ∙ a))
+        ⊎_elim (λ a. inl (ap (λ t. if t then Some (pair i d.body) else first (is_body_of i x) origin_body (map (definition_item i) ds)) n ∙ a))
         (λ a. inr (or_none (is_body_of i x (definition_item i d)) (list_any (is_body_of i x) (map (definition_item i) ds)) n a.0, a.1))
         (ih g)
 
-elements_give : (i : ℕ) (es : List PlainElement) (x : List ℕ) (k : ℕ) (b : Tree) → among_elements i es x ≡ formula k b → first (is_body_of i x) body_of (flat_map (element_items i) es) ≡ Some (pair k b)
+elements_give : (i : ℕ) (es : List PlainElement) (x : List ℕ) (k : ℕ) (b : Tree) → among_elements i es x ≡ body_of k b → first (is_body_of i x) origin_body (flat_map (element_items i) es) ≡ Some (pair k b)
 elements_give i [] x k b h = cc
 elements_give i (vars kind items ∷ es) x k b h =
-    first_right (is_body_of i x) body_of (flat_map (variable_item i kind) items) (flat_map (element_items i) es) (pair k b) (variables_no_body i x kind items)
+    first_right (is_body_of i x) origin_body (flat_map (variable_item i kind) items) (flat_map (element_items i) es) (pair k b) (variables_no_body i x kind items)
     (elements_give i es x k b (past_variables kind items x (among_elements i es x) k b h))
 elements_give i (defines ds ∷ es) x k b h =
-    ⊎_elim (λ a. first_left (is_body_of i x) body_of (map (definition_item i) ds) (flat_map (element_items i) es) (pair k b) a)
-    (λ a. first_right (is_body_of i x) body_of (map (definition_item i) ds) (flat_map (element_items i) es) (pair k b) a.0 (elements_give i es x k b a.1))
+    ⊎_elim (λ a. first_left (is_body_of i x) origin_body (map (definition_item i) ds) (flat_map (element_items i) es) (pair k b) a)
+    (λ a. first_right (is_body_of i x) origin_body (map (definition_item i) ds) (flat_map (element_items i) es) (pair k b) a.0 (elements_give i es x k b a.1))
     (definitions_give i ds x (among_elements i es x) k b h)
 elements_give i (constants cs ∷ es) x k b h = elements_give i es x k b h
 elements_give i (assigns xs ∷ es) x k b h = elements_give i es x k b h
@@ -176,12 +176,12 @@ elements_give i (trans e ∷ es) x k b h = elements_give i es x k b h
 elements_give i (invar e ∷ es) x k b h = elements_give i es x k b h
 elements_give i (spec l e ∷ es) x k b h = elements_give i es x k b h
 
-instance_gives : (i : ℕ) (at : Instance) (x : List ℕ) (k : ℕ) (b : Tree) → local_in i x (Some at) ≡ formula k b → first (is_body_of i x) body_of (items_here i at) ≡ Some (pair k b)
+instance_gives : (i : ℕ) (at : Instance) (x : List ℕ) (k : ℕ) (b : Tree) → local_in i x (Some at) ≡ body_of k b → first (is_body_of i x) origin_body (items_here i at) ≡ Some (pair k b)
 instance_gives i at x k b h =
     let own = flat_map (element_items i) at.module.elements in
     let outer = actual_items i (parent_of at) at.module.parameters at.actuals in
-    ⊎_elim (λ a. first_left (is_body_of i x) body_of outer own (pair k b) a)
-    (λ a. first_right (is_body_of i x) body_of outer own (pair k b) a.0 (elements_give i at.module.elements x k b a.1))
+    ⊎_elim (λ a. first_left (is_body_of i x) origin_body outer own (pair k b) a)
+    (λ a. first_right (is_body_of i x) origin_body outer own (pair k b) a.0 (elements_give i at.module.elements x k b a.1))
     (actuals_give i (parent_of at) at.module.parameters at.actuals x (among_elements i at.module.elements x) k b h)
 
 -- ---- items of other instances
@@ -231,20 +231,20 @@ less_apart n i h = by (n == i) refl
     by true e = let s : n ≡ i = eqb-true n i e in absurd (omega arith)
     by false e = refl
 
-bodies_at : (i : ℕ) (x : List ℕ) (k : ℕ) (b : Tree) (rest : List Instance) (from a : ℕ) → i ≡ from + a → local_in i x (slice_get rest a) ≡ formula k b
-    → first (is_body_of i x) body_of (over_instances items_here from rest) ≡ Some (pair k b)
+bodies_at : (i : ℕ) (x : List ℕ) (k : ℕ) (b : Tree) (rest : List Instance) (from a : ℕ) → i ≡ from + a → local_in i x (slice_get rest a) ≡ body_of k b
+    → first (is_body_of i x) origin_body (over_instances items_here from rest) ≡ Some (pair k b)
 bodies_at i x k b [] from a s h = cc
 bodies_at i x k b (at ∷ rest) from zero s h =
     let e : i ≡ from = omega arith in
-    subst (λ n. first (is_body_of i x) body_of (items_here n at ++ over_instances items_here (from + 1) rest) ≡ Some (pair k b)) e
-    (first_left (is_body_of i x) body_of (items_here i at) (over_instances items_here (from + 1) rest) (pair k b) (instance_gives i at x k b h))
+    subst (λ n. first (is_body_of i x) origin_body (items_here n at ++ over_instances items_here (from + 1) rest) ≡ Some (pair k b)) e
+    (first_left (is_body_of i x) origin_body (items_here i at) (over_instances items_here (from + 1) rest) (pair k b) (instance_gives i at x k b h))
 bodies_at i x k b (at ∷ rest) from (suc a) s h =
-    first_right (is_body_of i x) body_of (items_here from at) (over_instances items_here (from + 1) rest) (pair k b)
+    first_right (is_body_of i x) origin_body (items_here from at) (over_instances items_here (from + 1) rest) (pair k b)
     (apart_instance from i x at (less_apart from i (omega arith))) (bodies_at i x k b rest (from + 1) a (omega arith) h)
 
 -- a definition or an actual is the first item that has its instance and its name
-pub body_at_item : (t : List Instance) (i : ℕ) (x : List ℕ) (j : ℕ) (e : Tree) → local t i x ≡ formula j e → At (is_body_of i x) body_of (origins_of t) (pair j e)
-body_at_item t i x j e h = first_at (is_body_of i x) body_of (origins_of t) (pair j e) (bodies_at i x j e t 0 i (omega arith) h)
+pub body_at_item : (t : List Instance) (i : ℕ) (x : List ℕ) (j : ℕ) (e : Tree) → local t i x ≡ body_of j e → At (is_body_of i x) origin_body (origins_of t) (pair j e)
+body_at_item t i x j e h = first_at (is_body_of i x) origin_body (origins_of t) (pair j e) (bodies_at i x j e t 0 i (omega arith) h)
 
 -- ---- variables
 
@@ -293,7 +293,7 @@ past_definitions i [] x other kind d h = h
 past_definitions i (c ∷ ds) x other kind d h = by (λ s. past_definitions i ds x other kind d s) (bytes_eq c.name x) h
   where
     by : (among_definitions i ds x other ≡ variable_of kind d → other ≡ variable_of kind d) → (b : Bool)
-        → (if b then formula i c.body else among_definitions i ds x other) ≡ variable_of kind d → other ≡ variable_of kind d
+        → (if b then body_of i c.body else among_definitions i ds x other) ≡ variable_of kind d → other ≡ variable_of kind d
     by ih true s = cc
     by ih false s = ih s
 
@@ -364,7 +364,7 @@ variable_at_item t i x k d h =
 
 abbrev pub Home : List Instance → Found → Type 0
 Home t (variable_at y k d) = (i : ℕ) × (x : List ℕ) × (y ≡ dotted_at t i x) × (local t i x ≡ variable_of k d)
-Home t (body_at i x j e) = local t i x ≡ formula j e
+Home t (body_at i x j e) = local t i x ≡ body_of j e
 Home t (symbol_of x) = has_symbol t x ≡ true
 Home t f = Unit {0}
 
@@ -394,7 +394,7 @@ home_symbol t x = by (has_symbol t x) refl
 home_single : (t : List Instance) (f : ℕ → List ℕ → Found) → ((i : ℕ) (x : List ℕ) → Home t (f i x)) → (i : ℕ) (x : List ℕ) (l : Local) → Home t (single t f i x l)
 home_single t f h i x nothing = home_symbol t x
 home_single t f h i x (alias j q) = home_walk t f h i (x ∷ [])
-home_single t f h i x (formula j e) = home_walk t f h i (x ∷ [])
+home_single t f h i x (body_of j e) = home_walk t f h i (x ∷ [])
 home_single t f h i x (variable_of k d) = home_walk t f h i (x ∷ [])
 home_single t f h i x inner = home_walk t f h i (x ∷ [])
 
@@ -416,7 +416,7 @@ home_child t (Some c) = tt
 
 home_landed : (t : List Instance) (f : ℕ → List ℕ → Found) → ((i : ℕ) (x : List ℕ) → Home t (f i x)) → (i : ℕ) (x : List ℕ) (l : Local) → local t i x ≡ l → Home t (landed t f i x l)
 home_landed t f h i x (alias j q) e = home_resolved t f h j q
-home_landed t f h i x (formula j b) e = e
+home_landed t f h i x (body_of j b) e = e
 home_landed t f h i x (variable_of k d) e = (i, x, refl, e)
 home_landed t f h i x inner e = home_child t (position (is_child i x) t)
 home_landed t f h i x nothing e = tt

@@ -6,9 +6,9 @@ use Rattle.smv_meaning.specs.Checks.{Check}
 use Rattle.smv_meaning.specs.Checked.{path_checks_of, type_checks_of}
 use Rattle.smv_meaning.specs.Settled.{cycle_checks_of}
 use Rattle.smv_meaning.specs.Phases.{module_checks, declaration_checks, size_checks}
-use Rattle.smv_meaning.specs.Formulas.{IsFormulaOrder, placed_formulas}
+use Rattle.smv_meaning.specs.Bodies.{IsBodyOrder, placed_bodies}
 use Rattle.smv_instances.specs.View.{instance_plain}
-use Rattle.smv_references.specs.View.{formula_plain}
+use Rattle.smv_references.specs.View.{body_plain}
 use Rattle.smv_model_types.specs.Outcome.{AreTypesOf}
 use Rattle.smv_flatten.specs.declared.kept.Accepted.{Accepted}
 use Rattle.smv_flatten.specs.declared.joining.Found.{Found}
@@ -24,13 +24,13 @@ typing_checks t = path_checks_of t ++ cycle_checks_of t ++ type_checks_of t
 
 -- all definitions and actuals, in an order in which each stands after those to which it refers, and the types of all names
 pub record AreFound (t : List Instance) (found : Found) : Type 0 where
-  pub formulas : map formula_plain found.formulas.items ≡ placed_formulas t
-  pub order : IsFormulaOrder t found.order
+  pub bodies : map body_plain found.bodies.items ≡ placed_bodies t
+  pub order : IsBodyOrder t found.order
   pub types : AreTypesOf t found.types
 
 -- the same with these instances
 pub record IsKept (t : List Instance) (kept : Accepted) : Type 0 where
   pub table : map instance_plain kept.table ≡ t
-  pub formulas : map formula_plain kept.formulas.items ≡ placed_formulas t
-  pub order : IsFormulaOrder t kept.order
+  pub bodies : map body_plain kept.bodies.items ≡ placed_bodies t
+  pub order : IsBodyOrder t kept.order
   pub types : AreTypesOf t kept.types

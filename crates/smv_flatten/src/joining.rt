@@ -15,7 +15,7 @@ use smv_names::{
     NamesEnd, assignments_checked, cycles_checked, declarations_checked, invariants_checked,
     modules_checked, paths_checked, sizes_checked,
 };
-use smv_references::{Formula, formulas_in};
+use smv_references::{Body, bodies_in};
 use smv_text::Source;
 use std::alloc::Global;
 use text_core::{List, Place};
@@ -23,7 +23,7 @@ use text_core::{List, Place};
 // What is found of the definitions and actuals.
 #[derive(Drop)]
 struct Found<'a> {
-    formulas: Vec<Formula<'a>>,
+    bodies: Vec<Body<'a>>,
     order: List<usize>,
     types: Types<'a>,
 }
@@ -46,11 +46,11 @@ fn typed<'a>(alloc: Global, table: &Table<'a>) -> Result<Found<'a>, NamesEnd>
     ensures found { IfOk result (AreFound (map instance_plain table.now)) }
 {
     paths_checked(alloc, table)?;
-    let formulas = formulas_in(alloc, table)?;
-    let order = cycles_checked(alloc, table, formulas.as_slice())?;
-    let types = types_checked(alloc, table, formulas.as_slice(), &order)?;
+    let bodies = bodies_in(alloc, table)?;
+    let order = cycles_checked(alloc, table, bodies.as_slice())?;
+    let types = types_checked(alloc, table, bodies.as_slice(), &order)?;
     Ok(Found {
-        formulas,
+        bodies,
         order,
         types,
     })
@@ -72,7 +72,7 @@ fn kept<'a>(table: Table<'a>, found: Found<'a>) -> Accepted<'a>
 {
     Accepted {
         table,
-        formulas: found.formulas,
+        bodies: found.bodies,
         order: found.order,
         types: found.types,
     }

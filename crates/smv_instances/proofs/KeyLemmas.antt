@@ -12,7 +12,7 @@ use Rattle.smv_text.specs.declared.tree.VarKind.{VarKind}
 use Rattle.smv_text.specs.Tree.{Trees, no_trees, tree, PlainDomain, boolean, members, between, bits, instance, PlainItem, PlainDefinition, PlainElement, vars, defines}
 use Rattle.smv_instances.specs.declared.instances.Instance.{Instance as PartOf}
 use Rattle.smv_instances.specs.declared.leads.Key.{Key}
-use Rattle.smv_meaning.specs.Names.{Local, of_actual, of_domain, among_items, among_definitions, among_elements, among_parameters, formula, parent_of, local_in, local}
+use Rattle.smv_meaning.specs.Names.{Local, of_actual, of_domain, among_items, among_definitions, among_elements, among_parameters, body_of, parent_of, local_in, local}
 use Rattle.smv_instances.specs.Leads.{is_alias, is_key}
 use Rattle.smv_instances.specs.View.{instance_plain}
 
@@ -34,7 +34,7 @@ items_apart kind (item ∷ items) x other h =
 
 definitions_apart : (i : ℕ) (ds : List PlainDefinition) (x : List ℕ) (other : Local) → is_alias other ≡ false → is_alias (among_definitions i ds x other) ≡ false
 definitions_apart i [] x other h = h
-definitions_apart i (d ∷ ds) x other h = either (bytes_eq d.name x) (formula i d.body) (among_definitions i ds x other) refl (definitions_apart i ds x other h)
+definitions_apart i (d ∷ ds) x other h = either (bytes_eq d.name x) (body_of i d.body) (among_definitions i ds x other) refl (definitions_apart i ds x other h)
 
 elements_apart : (i : ℕ) (es : List PlainElement) (x : List ℕ) → is_alias (among_elements i es x) ≡ false
 elements_apart i [] x = refl

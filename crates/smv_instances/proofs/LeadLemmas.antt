@@ -12,7 +12,7 @@ use Rattle.smv_text.specs.declared.tree.Path.{Path}
 use Rattle.smv_instances.specs.declared.leads.Lead.{Lead}
 use Rattle.smv_instances.specs.declared.leads.Key.{Key}
 use Rattle.smv_meaning.specs.Instances.{Instance}
-use Rattle.smv_meaning.specs.Formulas.{instance_within}
+use Rattle.smv_meaning.specs.Bodies.{instance_within}
 use Rattle.smv_meaning.specs.Names.{Local, alias, local, Found, variable_at, body_at, instance_at, symbol_of, cyclic, none, at_child, landed, look, steps_of, onward, walk, single, resolved}
 use Rattle.smv_instances.specs.Rows.{row_in}
 use Rattle.smv_instances.specs.Leads.{until, LeadsTo, NameLeads, Right, IsOpen, IsWaiting, AllWait, IsClosed, is_key, WalkOf, KeyWalk}

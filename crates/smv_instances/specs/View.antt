@@ -9,7 +9,7 @@ use Rattle.smv_instances.specs.declared.names.Known.TheVariants as OfKnown
 use Rattle.smv_instances.specs.declared.names.Target.{Target}
 use Rattle.smv_instances.specs.declared.names.Target.TheVariants as OfTarget
 use Rattle.smv_text.specs.declared.tree.Path.{Path}
-use Rattle.smv_meaning.specs.Names.{found_in, Local, alias, formula, variable_of, inner, nothing, Found, variable_at, body_at, instance_at, symbol_of, cyclic, none, dotted_at}
+use Rattle.smv_meaning.specs.Names.{found_in, Local, alias, body_of, variable_of, inner, nothing, Found, variable_at, body_at, instance_at, symbol_of, cyclic, none, dotted_at}
 use Rattle.smv_instances.specs.declared.instances.Instance.{Instance as PartOf}
 use Rattle.smv_meaning.specs.Instances.{Instance}
 
@@ -27,7 +27,7 @@ module_or_none (Some m) = Some (plain_module m.now)
 
 abbrev pub local_plain : Known → Local
 local_plain (OfKnown.Alias i path) = alias i path.now
-local_plain (OfKnown.Formula i e) = formula i (plain e.now)
+local_plain (OfKnown.Body i e) = body_of i (plain e.now)
 local_plain (OfKnown.Variable kind d) = variable_of kind (plain_domain d.now)
 local_plain OfKnown.Instance = inner
 local_plain OfKnown.Nothing = nothing

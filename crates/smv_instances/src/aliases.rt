@@ -34,7 +34,7 @@ fn key_walk<'a>(parts: &Parts<'a>, leads: &Leads<'a>, key: Key<'a>) -> Option<Wa
     }
     match parts.local(key.instance, key.name) {
         Known::Alias(j, path) => Some(path_walk(parts, leads, j, path)),
-        Known::Formula(_, _) => None,
+        Known::Body(_, _) => None,
         Known::Variable(_, _) => None,
         Known::Instance => None,
         Known::Nothing => None,

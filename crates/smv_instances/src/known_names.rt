@@ -49,7 +49,7 @@ fn put_definitions<'a>(
         add_row(
             known,
             definition.name.bytes(),
-            Known::Formula(i, &definition.body),
+            Known::Body(i, &definition.body),
         )?;
     }
     Ok(())

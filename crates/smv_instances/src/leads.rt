@@ -55,7 +55,7 @@ pub fn lead_of<'a>(
 {
     match known {
         Known::Alias(_, _) => row_value_in(leads, i, x),
-        Known::Formula(j, e) => Some(one_deep(Target::Body(i, x, j, e))),
+        Known::Body(j, e) => Some(one_deep(Target::Body(i, x, j, e))),
         Known::Variable(kind, d) => Some(one_deep(Target::Variable(i, x, kind, d))),
         Known::Instance => match parts.child(i, x) {
             None => Some(one_deep(Target::Missing)),

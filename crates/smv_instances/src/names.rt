@@ -13,7 +13,7 @@ pub enum Known<'a> {
     /// A parameter whose actual is a path, read in the numbered instance.
     Alias(usize, &'a Path),
     /// A definition, or a parameter with any other actual, read in the numbered instance.
-    Formula(usize, &'a Expr),
+    Body(usize, &'a Expr),
     Variable(VarKind, &'a Domain),
     /// An instance.
     Instance,
@@ -40,7 +40,7 @@ pub fn actual<'a>(parent: usize, e: &'a Expr) -> Known<'a>
 {
     match &e.shape {
         Shape::Name(path) => Known::Alias(parent, path),
-        _ => Known::Formula(parent, e),
+        _ => Known::Body(parent, e),
     }
 }
 

@@ -2,7 +2,7 @@
 ghost use Rattle.std.specs.Prelude.{◌≡◌, ◌<◌, List, length, map, position, slice_index_or, IfOk};
 ghost use Rattle.smv_text.specs.View.{plain_source};
 ghost use Rattle.smv_meaning.specs.Instances.{Instance as Specified, instances_of};
-ghost use Rattle.smv_meaning.specs.Formulas.{instance_within};
+ghost use Rattle.smv_meaning.specs.Bodies.{instance_within};
 ghost use Rattle.smv_meaning.specs.Names.{steps_of, local, is_child, has_symbol, found_in, look, single};
 ghost use Rattle.smv_instances.specs.Leads.{until};
 ghost use Rattle.smv_instances.specs.View.{instance_plain, local_plain, found_plain};
@@ -147,7 +147,7 @@ impl<'a> Table<'a> {
     {
         match known {
             Known::Alias(_, _) => self.target_of_alias(i, x, known),
-            Known::Formula(j, e) => Target::Body(i, x, j, e),
+            Known::Body(j, e) => Target::Body(i, x, j, e),
             Known::Variable(kind, d) => Target::Variable(i, x, kind, d),
             Known::Instance => match self.child(i, x) {
                 None => Target::Missing,
@@ -182,7 +182,7 @@ impl<'a> Table<'a> {
     {
         match known {
             Known::Alias(_, _) => instance_in(self.target_of_alias(i, x, known)),
-            Known::Formula(_, _) => None,
+            Known::Body(_, _) => None,
             Known::Variable(_, _) => None,
             Known::Instance => self.child(i, x),
             Known::Nothing => None,

@@ -13,7 +13,7 @@ pub mod Typed
 pub mod Safety
 pub mod Owed
 pub mod Settled
-pub mod Formulas
+pub mod Bodies
 pub mod Literals
 pub mod Parts
 pub mod Checked

@@ -12,14 +12,14 @@ use Rattle.smv_meaning.specs.Instances.{Instance, dotted, is_one_of, instances_o
 -- what one name is in its own instance
 pub data Local : Type 0 where
   alias : ℕ → Path → Local  -- a parameter whose actual is a path, read in the numbered instance
-  formula : ℕ → Tree → Local  -- a definition, or a parameter with any other actual, read in the numbered instance
+  body_of : ℕ → Tree → Local  -- a definition, or a parameter with any other actual, read in the numbered instance
   variable_of : VarKind → PlainDomain → Local
   inner : Local  -- an instance
   nothing : Local
 
 abbrev pub of_actual : ℕ → Tree → Local
 of_actual i (name p x) = alias i x
-of_actual i e = formula i e
+of_actual i e = body_of i e
 
 abbrev pub of_domain : VarKind → PlainDomain → Local
 of_domain kind (instance m actuals) = inner
@@ -32,7 +32,7 @@ among_items kind (item ∷ items) x other =
 
 abbrev pub among_definitions : ℕ → List PlainDefinition → List ℕ → Local → Local
 among_definitions i [] x other = other
-among_definitions i (d ∷ ds) x other = if bytes_eq d.name x then formula i d.body else among_definitions i ds x other
+among_definitions i (d ∷ ds) x other = if bytes_eq d.name x then body_of i d.body else among_definitions i ds x other
 
 abbrev pub among_elements : ℕ → List PlainElement → List ℕ → Local
 among_elements i [] x = nothing
@@ -146,7 +146,7 @@ resolved t look i path = if path.from_self then walk look i path.names else thro
 
 abbrev pub landed : List Instance → (ℕ → List ℕ → Found) → ℕ → List ℕ → Local → Found
 landed t look i x (alias j path) = resolved t look j path
-landed t look i x (formula j e) = body_at i x j e
+landed t look i x (body_of j e) = body_at i x j e
 landed t look i x (variable_of kind d) = variable_at (dotted_at t i x) kind d
 landed t look i x inner = at_child (position (is_child i x) t)
 landed t look i x nothing = none
@@ -165,12 +165,12 @@ trees_in no_trees = 0
 trees_in (tree e es) = trees_in es + 1
 
 -- the definitions and the actuals of an instance
-abbrev pub formulas_in : Instance → ℕ
-formulas_in at = sum_by definitions_in at.module.elements + trees_in at.actuals
+abbrev pub bodies_in : Instance → ℕ
+bodies_in at = sum_by definitions_in at.module.elements + trees_in at.actuals
 
 -- definitions and actuals that lead into one another without a cycle are no more than there are of them
 abbrev pub steps_of : List Instance → ℕ
-steps_of t = sum_by formulas_in t + 1
+steps_of t = sum_by bodies_in t + 1
 
 abbrev pub found_in : List Instance → ℕ → Path → Found
 found_in t i path = resolved t (look t (steps_of t)) i path

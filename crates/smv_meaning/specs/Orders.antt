@@ -8,25 +8,25 @@ use Rattle.smv_meaning.specs.Expressions.{paths_of}
 use Rattle.smv_meaning.specs.Instances.{Instance}
 use Rattle.smv_meaning.specs.Names.{local}
 use Rattle.smv_meaning.specs.Checks.{Position, Named, typing, first_failing}
-use Rattle.smv_meaning.specs.Phases.{Formula, formula_same, refers}
-use Rattle.smv_meaning.specs.Settled.{is_formula}
-use Rattle.smv_meaning.specs.Formulas.{formulas_of, IsFormulaOrder}
+use Rattle.smv_meaning.specs.Phases.{Body, body_same, refers}
+use Rattle.smv_meaning.specs.Settled.{has_body}
+use Rattle.smv_meaning.specs.Bodies.{bodies_of, IsBodyOrder}
 
 -- the definition or the actual with this number
-abbrev pub numbered : List Instance → ℕ → Formula
-numbered t n = slice_index_or (formulas_of t) n (0, [])
+abbrev pub numbered : List Instance → ℕ → Body
+numbered t n = slice_index_or (bodies_of t) n (0, [])
 
-abbrev pub is_listed : List Formula → Formula → Bool
-is_listed ks k = list_any (formula_same k) ks
+abbrev pub is_listed : List Body → Body → Bool
+is_listed ks k = list_any (body_same k) ks
 
 -- an order has each definition and each actual
 abbrev pub OrderIsWhole : Type 0
-OrderIsWhole = (t : List Instance) (order : List ℕ) → IsFormulaOrder t order
-    → (k : Formula) → is_formula (local t k.0 k.1) ≡ true → is_listed (map (numbered t) order) k ≡ true
+OrderIsWhole = (t : List Instance) (order : List ℕ) → IsBodyOrder t order
+    → (k : Body) → has_body (local t k.0 k.1) ≡ true → is_listed (map (numbered t) order) k ≡ true
 
 -- those to which one refers stand before it
 abbrev pub ReferencesStandBefore : Type 0
-ReferencesStandBefore = (t : List Instance) (before after : List ℕ) (n : ℕ) → IsFormulaOrder t (before ++ n ∷ after)
+ReferencesStandBefore = (t : List Instance) (before after : List ℕ) (n : ℕ) → IsBodyOrder t (before ++ n ∷ after)
     → IsTrue (list_all (is_listed (map (numbered t) before)) (refers t (numbered t n)))
 
 -- ---- types

@@ -11,7 +11,7 @@ use Rattle.smv_text.specs.declared.tree.When.TheVariants.{Always, First, Followi
 use Rattle.smv_text.specs.Tree.{Tree, truth, number, literal, name, prefix, chain, choice, cases, select, call, next, set, range, Trees, no_trees, tree, PlainDomain, instance, PlainItem, PlainAssignment, PlainElement, vars, defines, constants, assigns, init, trans, invar, spec, PlainModule, PlainSource}
 use Rattle.smv_meaning.specs.Expressions.{paths_of, tree_paths}
 use Rattle.smv_meaning.specs.Instances.{Instance, dotted, is_one_of, module_named, modules_above, main_name, instances_of, weight_of}
-use Rattle.smv_meaning.specs.Names.{Local, alias, formula, local, parent_of, trees_in, Found, variable_at, instance_at, none, look, found_in, steps_of, has_symbol}
+use Rattle.smv_meaning.specs.Names.{Local, alias, body_of, local, parent_of, trees_in, Found, variable_at, instance_at, none, look, found_in, steps_of, has_symbol}
 use Rattle.smv_meaning.specs.Types.{is_truth_type, type_same}
 use Rattle.smv_meaning.specs.Checks.{Check, check, passes, first_failing, Position, Named, typing, on_type, on_types, domain_checks}
 use Rattle.smv_meaning.specs.Naming.{in_body, naming}
@@ -150,39 +150,39 @@ path_checks found i at =
 -- ---- phase 5: no definition and no actual reaches itself
 
 -- a definition or an actual: its instance and its name
-abbrev pub Formula : Type 0
-Formula = ℕ × List ℕ
+abbrev pub Body : Type 0
+Body = ℕ × List ℕ
 
-abbrev pub formula_same : Formula → Formula → Bool
-formula_same k m = k.0 == m.0 && bytes_eq k.1 m.1
+abbrev pub body_same : Body → Body → Bool
+body_same k m = k.0 == m.0 && bytes_eq k.1 m.1
 
-abbrev pub formula_here : ℕ → List ℕ → Local → List Formula
-formula_here i x (alias j path) = (i, x) ∷ []
-formula_here i x (formula j e) = (i, x) ∷ []
-formula_here i x l = []
+abbrev pub body_here : ℕ → List ℕ → Local → List Body
+body_here i x (alias j path) = (i, x) ∷ []
+body_here i x (body_of j e) = (i, x) ∷ []
+body_here i x l = []
 
 abbrev pub from_instance {ℓ} : {X : Type ℓ} → Found → (ℕ → List X) → List X
 from_instance (instance_at c) go = go c
 from_instance m go = []
 
 -- the definitions and actuals that a path goes through
-abbrev pub path_formulas : List Instance → (ℕ → List ℕ → Found) → ℕ → List (List ℕ) → List Formula
-path_formulas t look i [] = []
-path_formulas t look i (x ∷ rest) = formula_here i x (local t i x) ++ from_instance (look i x) (λ c. path_formulas t look c rest)
+abbrev pub path_bodies : List Instance → (ℕ → List ℕ → Found) → ℕ → List (List ℕ) → List Body
+path_bodies t look i [] = []
+path_bodies t look i (x ∷ rest) = body_here i x (local t i x) ++ from_instance (look i x) (λ c. path_bodies t look c rest)
 
-abbrev pub referred : List Instance → (ℕ → List ℕ → Found) → Local → List Formula
-referred t look (alias j path) = path_formulas t look j path.names
-referred t look (formula j e) = flat_map (λ q. path_formulas t look j q.names) (paths_of e [])
+abbrev pub referred : List Instance → (ℕ → List ℕ → Found) → Local → List Body
+referred t look (alias j path) = path_bodies t look j path.names
+referred t look (body_of j e) = flat_map (λ q. path_bodies t look j q.names) (paths_of e [])
 referred t look l = []
 
 -- the definitions and actuals to which a definition or an actual refers
-abbrev pub refers : List Instance → Formula → List Formula
+abbrev pub refers : List Instance → Body → List Body
 refers t k = referred t (look t (steps_of t)) (local t k.0 k.1)
 
 -- one leads to the other in one or more references, at most as many as the number tells
-unfoldable pub reaches : (Formula → List Formula) → ℕ → Formula → Formula → Bool
+unfoldable pub reaches : (Body → List Body) → ℕ → Body → Body → Bool
 reaches refers zero k m = false
-reaches refers (suc n) k m = list_any (λ r. formula_same r m || reaches refers n r m) (refers k)
+reaches refers (suc n) k m = list_any (λ r. body_same r m || reaches refers n r m) (refers k)
 
 abbrev pub cycle_check : List Instance → ℕ → List ℕ → Place → Check
 cycle_check t i x place = check 15 place (not (reaches (refers t) (steps_of t) (i, x) (i, x)))

@@ -4,7 +4,7 @@ use Rattle.std.specs.List.{list_any}
 use Rattle.smv_text.specs.Tree.{Tree}
 use Rattle.smv_meaning.specs.Expressions.{paths_of}
 use Rattle.smv_meaning.specs.Instances.{Instance}
-use Rattle.smv_meaning.specs.Names.{Local, formula, Found, body_at, found_in}
+use Rattle.smv_meaning.specs.Names.{Local, body_of, Found, body_at, found_in}
 
 -- this definition or actual was found
 abbrev pub is_body_of : ℕ → List ℕ → Found → Bool
@@ -16,5 +16,5 @@ abbrev pub leads_to : List Instance → ℕ → Tree → ℕ → List ℕ → Bo
 leads_to t i e k x = list_any (λ q. is_body_of k x (found_in t i q)) (paths_of e [])
 
 abbrev pub local_leads_to : List Instance → Local → ℕ → List ℕ → Bool
-local_leads_to t (formula j e) k x = leads_to t j e k x
+local_leads_to t (body_of j e) k x = leads_to t j e k x
 local_leads_to t l k x = false

@@ -5,15 +5,15 @@ use Rattle.smv_text.specs.declared.tree.Path.{Path}
 use Rattle.smv_meaning.specs.declared.value.Value.{Value}
 use Rattle.smv_meaning.specs.Values.{Valuation}
 use Rattle.smv_meaning.specs.Instances.{Instance}
-use Rattle.smv_meaning.specs.Names.{Local, alias, formula, local, Found, cyclic, look, landed, found_in, formulas_in, steps_of}
+use Rattle.smv_meaning.specs.Names.{Local, alias, body_of, local, Found, cyclic, look, landed, found_in, bodies_in, steps_of}
 use Rattle.smv_meaning.specs.Meaning.{value_found, reading}
 use Rattle.smv_meaning.specs.Checks.{Check, passes, Named}
 use Rattle.smv_meaning.specs.Naming.{named_found, naming}
-use Rattle.smv_meaning.specs.Phases.{Formula, formula_same, refers, reaches, over_instances, cycle_checks}
+use Rattle.smv_meaning.specs.Phases.{Body, body_same, refers, reaches, over_instances, cycle_checks}
 
 -- no definition and no actual reaches itself
 abbrev pub Acyclic : List Instance → Type 0
-Acyclic t = (k : Formula) → reaches (refers t) (steps_of t) k k ≡ false
+Acyclic t = (k : Body) → reaches (refers t) (steps_of t) k k ≡ false
 
 -- the checks of phase 5
 abbrev pub cycle_checks_of : List Instance → List Check
@@ -26,43 +26,43 @@ CyclesAreChecked = (t : List Instance) → (IsTrue (passes (cycle_checks_of t)) 
 -- ---- ranks
 
 -- each definition and actual has a greater number than those to which it refers
-abbrev pub IsRank : List Instance → (Formula → ℕ) → Type 0
-IsRank t rank = (k : Formula) → IsTrue (list_all (λ m. nat_lt (rank m) (rank k)) (refers t k))
+abbrev pub IsRank : List Instance → (Body → ℕ) → Type 0
+IsRank t rank = (k : Body) → IsTrue (list_all (λ m. nat_lt (rank m) (rank k)) (refers t k))
 
 -- whatever numbers them so, nothing reaches itself
 abbrev pub RankedIsAcyclic : Type 0
-RankedIsAcyclic = (t : List Instance) (rank : Formula → ℕ) → IsRank t rank → Acyclic t
+RankedIsAcyclic = (t : List Instance) (rank : Body → ℕ) → IsRank t rank → Acyclic t
 
 -- the name stands for a definition or an actual
-abbrev pub is_formula : Local → Bool
-is_formula (alias j path) = true
-is_formula (formula j e) = true
-is_formula l = false
+abbrev pub has_body : Local → Bool
+has_body (alias j path) = true
+has_body (body_of j e) = true
+has_body l = false
 
 -- each of a list stands after those to which it refers, or these were seen before
-abbrev pub is_ordered : (Formula → List Formula) → List Formula → List Formula → Bool
+abbrev pub is_ordered : (Body → List Body) → List Body → List Body → Bool
 is_ordered refers seen [] = true
-is_ordered refers seen (k ∷ ks) = list_all (λ m. list_any (formula_same m) seen) (refers k) && is_ordered refers (k ∷ seen) ks
+is_ordered refers seen (k ∷ ks) = list_all (λ m. list_any (body_same m) seen) (refers k) && is_ordered refers (k ∷ seen) ks
 
 -- where all definitions and actuals can be listed so, nothing reaches itself
 abbrev pub OrderedIsAcyclic : Type 0
-OrderedIsAcyclic = (t : List Instance) (ks : List Formula) → IsTrue (is_ordered (refers t) [] ks)
-    → ((k : Formula) → is_formula (local t k.0 k.1) ≡ true → IsTrue (list_any (formula_same k) ks)) → Acyclic t
+OrderedIsAcyclic = (t : List Instance) (ks : List Body) → IsTrue (is_ordered (refers t) [] ks)
+    → ((k : Body) → has_body (local t k.0 k.1) ≡ true → IsTrue (list_any (body_same k) ks)) → Acyclic t
 
-abbrev pub greatest : (Formula → ℕ) → List Formula → ℕ
+abbrev pub greatest : (Body → ℕ) → List Body → ℕ
 greatest f [] = 0
 greatest f (k ∷ ks) = max (f k) (greatest f ks)
 
 -- how many definitions and actuals lead into one another from this one on, at most as many as the number tells
-unfoldable pub chain_length : (Formula → List Formula) → ℕ → Formula → ℕ
+unfoldable pub chain_length : (Body → List Body) → ℕ → Body → ℕ
 chain_length refers zero k = 0
 chain_length refers (suc n) k = suc (greatest (chain_length refers n) (refers k))
 
-abbrev pub rank_of : List Instance → Formula → ℕ
-rank_of t = chain_length (refers t) (sum_by formulas_in t)
+abbrev pub rank_of : List Instance → Body → ℕ
+rank_of t = chain_length (refers t) (sum_by bodies_in t)
 
 abbrev pub AcyclicIsRanked : Type 0
-AcyclicIsRanked = (t : List Instance) → Acyclic t → IsRank t (rank_of t) × ((k : Formula) → rank_of t k < steps_of t)
+AcyclicIsRanked = (t : List Instance) → Acyclic t → IsRank t (rank_of t) × ((k : Body) → rank_of t k < steps_of t)
 
 -- ---- what settles
 

@@ -11,7 +11,7 @@ use Rattle.smv_text.specs.Tree.{Tree, name, Trees, no_trees, tree, PlainDomain, 
 use Rattle.smv_text.specs.Heights.{list_of, of_definitions, of_assignments}
 use Rattle.smv_meaning.specs.Expressions.{paths_of, tree_paths}
 use Rattle.smv_meaning.specs.Instances.{Instance}
-use Rattle.smv_meaning.specs.Names.{Local, formula, of_actual, of_domain, among_items, among_definitions, among_elements, among_parameters, parent_of, Found, variable_at, body_at, instance_at, symbol_of, cyclic, none, found_in, steps_of, path_in, local}
+use Rattle.smv_meaning.specs.Names.{Local, body_of, of_actual, of_domain, among_items, among_definitions, among_elements, among_parameters, parent_of, Found, variable_at, body_at, instance_at, symbol_of, cyclic, none, found_in, steps_of, path_in, local}
 use Rattle.smv_meaning.specs.Meaning.{is_input}
 use Rattle.smv_meaning.specs.Types.{ExprType, is_unmixed, has_width, has_order, domain_type, in_limit}
 use Rattle.smv_meaning.specs.Checks.{Check, passes, Position, Named, typing, on_type, domain_checks, variable_type}
@@ -20,7 +20,7 @@ use Rattle.smv_meaning.specs.Phases.{over_instances, path_check, path_checks, el
 use Rattle.smv_meaning.specs.Owed.{HasType}
 use Rattle.smv_meaning.specs.Literals.{words_fit}
 use Rattle.smv_meaning.specs.Parts.{IsPart, InTrees, InOne, expressions_in, InElements, InActuals, StandsIn}
-use Rattle.smv_meaning.specs.Settled.{is_formula, Acyclic, types_in, rank_of}
+use Rattle.smv_meaning.specs.Settled.{has_body, Acyclic, types_in, rank_of}
 use Rattle.smv_meaning.specs.Checked.{IsChecked, instance_all, all_trees, names_instance}
 use Rattle.smv_meaning.specs.laws.Booleans.{both_true, absurd_bool}
 use Rattle.smv_model_laws.proofs.FoundLaws.{Closed, LocalGood, by_name, in_place, there, found_good}
@@ -126,7 +126,7 @@ given_definitions t path i [] x other h l f k = k
 given_definitions t path i (d ∷ ds) x other h l f k =
     let b = split (typing (names_at t i) in_body d.body).checks (flat_map (λ (c : PlainDefinition). (typing (names_at t i) in_body c.body).checks) ds) h in
     let w = both_words d.body (of_definitions ds) f in
-    by_name (λ y m. LocalGood (Given t) path i y m) d.name x (formula i d.body) (among_definitions i ds x other)
+    by_name (λ y m. LocalGood (Given t) path i y m) d.name x (body_of i d.body) (among_definitions i ds x other)
     (λ e. record {
       paths = left_lead t i (paths_of d.body []) (flat_map (λ (c : PlainDefinition). paths_of c.body []) ds) l;
       words = w.0;
@@ -235,7 +235,7 @@ typed_names t a g (suc n) i path u p s f =
     by (variable_at x kind d) h v r b ih = label_there kind d h
     by (body_at k x j c) h v r b ih =
         let less = v.0 in
-        let above = (ranking t a).positive (key k x) (ap is_formula v.1) in
+        let above = (ranking t a).positive (key k x) (ap has_body v.1) in
         has_type (types_in true t j) in_body c []
         (λ q i f. ih j q (under_more t (rank_of t) (rank_of t (key k x)) n (omega arith) (found_in t j q) (body_under t (rank_of t) (descent t (rank_of t) (ranking t a)) k x j c v.1 q i)) (omega arith) (h.paths q i) f)
         h.words h.checks

@@ -5,7 +5,7 @@ use Rattle.std.proofs.lemmas.Slice.Eq.{bytes_eq-Decides}
 use Rattle.std.proofs.Math.Nat.{le-max_left, le-max_right}
 use mathlib.Core.Logic.{◌⊎◌, inl, inr, ⊎_elim}
 use Rattle.std.specs.List.{list_all, list_any}
-use Rattle.smv_meaning.specs.Phases.{Formula, formula_same, reaches}
+use Rattle.smv_meaning.specs.Phases.{Body, body_same, reaches}
 use Rattle.smv_meaning.specs.Settled.{greatest, chain_length}
 use Rattle.smv_meaning.specs.laws.Booleans.{both_true, two_true, or_true, absurd_bool}
 
@@ -15,14 +15,14 @@ abbrev pub In : {X : Type 0} → X → List X → Type 0
 In x [] = ⊥
 In x (y ∷ ys) = (x ≡ y) ⊎ In x ys
 
-pub same_is : (k m : Formula) → formula_same k m ≡ true → k ≡ m
+pub same_is : (k m : Body) → body_same k m ≡ true → k ≡ m
 same_is k m h =
     let b = both_true (k.0 == m.0) (bytes_eq k.1 m.1) h in
     let first : (k.0, k.1) ≡ (m.0, k.1) = ap (λ (i : ℕ). (i, k.1)) (eqb-true k.0 m.0 b.0) in
     let second : (m.0, k.1) ≡ (m.0, m.1) = ap (λ (x : List ℕ). (m.0, x)) ((bytes_eq-Decides k.1 m.1).0 b.1) in
     first ∙ second
 
-pub same_self : (k : Formula) → formula_same k k ≡ true
+pub same_self : (k : Body) → body_same k k ≡ true
 same_self k = two_true (k.0 == k.0) (bytes_eq k.1 k.1) (eq-eqb k.0 k.0 refl) ((bytes_eq-Decides k.1 k.1).1 refl)
 
 right_true : (a b : Bool) → b ≡ true → (a || b) ≡ true
@@ -76,96 +76,96 @@ flat_in f y x (z ∷ xs) (inr s) e = in_right y (f z) (flat_map f xs) (flat_in f
 
 -- ---- more of them than there are, and one stands twice
 
-without : Formula → List Formula → List Formula
+without : Body → List Body → List Body
 without k [] = []
-without k (m ∷ ms) = if formula_same k m then ms else m ∷ without k ms
+without k (m ∷ ms) = if body_same k m then ms else m ∷ without k ms
 
-without_shorter : (k : Formula) (ms : List Formula) → In k ms → suc (length (without k ms)) ≡ length ms
+without_shorter : (k : Body) (ms : List Body) → In k ms → suc (length (without k ms)) ≡ length ms
 unfolding without
 without_shorter k [] h = absurd h
-without_shorter k (m ∷ ms) h = by (λ s. without_shorter k ms s) (formula_same k m) refl
+without_shorter k (m ∷ ms) h = by (λ s. without_shorter k ms s) (body_same k m) refl
   where
-    by : (In k ms → suc (length (without k ms)) ≡ length ms) → (b : Bool) → formula_same k m ≡ b → suc (length (if b then ms else m ∷ without k ms)) ≡ length (m ∷ ms)
+    by : (In k ms → suc (length (without k ms)) ≡ length ms) → (b : Bool) → body_same k m ≡ b → suc (length (if b then ms else m ∷ without k ms)) ≡ length (m ∷ ms)
     by ih true e = refl
-    by ih false e = ⊎_elim (λ s. absurd_bool (sym e ∙ ap (λ z. formula_same k z) (sym s) ∙ same_self k)) (λ s. ap suc (ih s)) h
+    by ih false e = ⊎_elim (λ s. absurd_bool (sym e ∙ ap (λ z. body_same k z) (sym s) ∙ same_self k)) (λ s. ap suc (ih s)) h
 
-without_keeps : (k z : Formula) (ms : List Formula) → formula_same k z ≡ false → In z ms → In z (without k ms)
+without_keeps : (k z : Body) (ms : List Body) → body_same k z ≡ false → In z ms → In z (without k ms)
 unfolding without
 without_keeps k z [] d h = absurd h
-without_keeps k z (m ∷ ms) d h = by (λ s. without_keeps k z ms d s) (formula_same k m) refl h
+without_keeps k z (m ∷ ms) d h = by (λ s. without_keeps k z ms d s) (body_same k m) refl h
   where
-    by : (In z ms → In z (without k ms)) → (b : Bool) → formula_same k m ≡ b → In z (m ∷ ms) → In z (if b then ms else m ∷ without k ms)
-    by ih true e (inl s) = absurd_bool (sym d ∙ ap (formula_same k) s ∙ e)
+    by : (In z ms → In z (without k ms)) → (b : Bool) → body_same k m ≡ b → In z (m ∷ ms) → In z (if b then ms else m ∷ without k ms)
+    by ih true e (inl s) = absurd_bool (sym d ∙ ap (body_same k) s ∙ e)
     by ih true e (inr s) = s
     by ih false e (inl s) = inl s
     by ih false e (inr s) = inr (ih s)
 
-abbrev Twice : List Formula → Type 0
+abbrev Twice : List Body → Type 0
 Twice [] = ⊥
 Twice (k ∷ ks) = In k ks ⊎ Twice ks
 
-differs : (k z : Formula) (ks : List Formula) → list_any (formula_same k) ks ≡ false → In z ks → formula_same k z ≡ false
-differs k z ks e i = by (formula_same k z) refl
+differs : (k z : Body) (ks : List Body) → list_any (body_same k) ks ≡ false → In z ks → body_same k z ≡ false
+differs k z ks e i = by (body_same k z) refl
   where
-    by : (c : Bool) → formula_same k z ≡ c → formula_same k z ≡ false
-    by true s = absurd_bool (sym e ∙ in_any (formula_same k) z ks i s)
+    by : (c : Bool) → body_same k z ≡ c → body_same k z ≡ false
+    by true s = absurd_bool (sym e ∙ in_any (body_same k) z ks i s)
     by false s = s
 
-twice : (ks ms : List Formula) → ((k : Formula) → In k ks → In k ms) → length ms < length ks → Twice ks
+twice : (ks ms : List Body) → ((k : Body) → In k ks → In k ms) → length ms < length ks → Twice ks
 twice [] ms h l = absurd (omega arith)
 twice (k ∷ ks) ms h l =
     let shorter = without_shorter k ms (h k (inl refl)) in
-    by (λ e. twice ks (without k ms) (λ z i. without_keeps k z ms (differs k z ks e i) (h z (inr i))) (omega arith)) (list_any (formula_same k) ks) refl
+    by (λ e. twice ks (without k ms) (λ z i. without_keeps k z ms (differs k z ks e i) (h z (inr i))) (omega arith)) (list_any (body_same k) ks) refl
   where
-    by : (list_any (formula_same k) ks ≡ false → Twice ks) → (b : Bool) → list_any (formula_same k) ks ≡ b → In k ks ⊎ Twice ks
-    by ih true e = let r = any_in (formula_same k) ks e in inl (subst (λ z. In z ks) (sym (same_is k r.0 r.2)) r.1)
+    by : (list_any (body_same k) ks ≡ false → Twice ks) → (b : Bool) → list_any (body_same k) ks ≡ b → In k ks ⊎ Twice ks
+    by ih true e = let r = any_in (body_same k) ks e in inl (subst (λ z. In z ks) (sym (same_is k r.0 r.2)) r.1)
     by ih false e = inr (ih e)
 
 -- ---- what one reaches
 
-pub reaches_one : (f : Formula → List Formula) (n : ℕ) (z x : Formula) → In x (f z) → reaches f (suc n) z x ≡ true
+pub reaches_one : (f : Body → List Body) (n : ℕ) (z x : Body) → In x (f z) → reaches f (suc n) z x ≡ true
 unfolding reaches
-reaches_one f n z x e = in_any (λ r. formula_same r x || reaches f n r x) x (f z) e (left_true (formula_same x x) (reaches f n x x) (same_self x))
+reaches_one f n z x e = in_any (λ r. body_same r x || reaches f n r x) x (f z) e (left_true (body_same x x) (reaches f n x x) (same_self x))
 
 -- one reference more at the end
-reaches_on : (f : Formula → List Formula) (n : ℕ) (z y x : Formula) → reaches f n z y ≡ true → In x (f y) → reaches f (suc n) z x ≡ true
+reaches_on : (f : Body → List Body) (n : ℕ) (z y x : Body) → reaches f n z y ≡ true → In x (f y) → reaches f (suc n) z x ≡ true
 unfolding reaches
 reaches_on f zero z y x h e = absurd_bool h
 reaches_on f (suc n) z y x h e =
-    let r = any_in (λ r. formula_same r y || reaches f n r y) (f z) h in
-    in_any (λ r. formula_same r x || reaches f (suc n) r x) r.0 (f z) r.1
-    (right_true (formula_same r.0 x) (reaches f (suc n) r.0 x)
+    let r = any_in (λ r. body_same r y || reaches f n r y) (f z) h in
+    in_any (λ r. body_same r x || reaches f (suc n) r x) r.0 (f z) r.1
+    (right_true (body_same r.0 x) (reaches f (suc n) r.0 x)
     (⊎_elim (λ s. reaches_one f n r.0 x (subst (λ w. In x (f w)) (sym (same_is r.0 y s)) e)) (λ s. reaches_on f n r.0 y x s e)
-    (or_true (formula_same r.0 y) (reaches f n r.0 y) r.2)))
+    (or_true (body_same r.0 y) (reaches f n r.0 y) r.2)))
 
-reaches_more : (f : Formula → List Formula) (n m : ℕ) (z x : Formula) → n ≤ m → reaches f n z x ≡ true → reaches f m z x ≡ true
+reaches_more : (f : Body → List Body) (n m : ℕ) (z x : Body) → n ≤ m → reaches f n z x ≡ true → reaches f m z x ≡ true
 unfolding reaches
 reaches_more f zero m z x l h = absurd_bool h
 reaches_more f (suc n) zero z x l h = absurd (omega arith)
 reaches_more f (suc n) (suc m) z x l h =
     let less : n ≤ m = omega arith in
-    let r = any_in (λ r. formula_same r x || reaches f n r x) (f z) h in
-    in_any (λ r. formula_same r x || reaches f m r x) r.0 (f z) r.1
-    (⊎_elim (λ s. left_true (formula_same r.0 x) (reaches f m r.0 x) s) (λ s. right_true (formula_same r.0 x) (reaches f m r.0 x) (reaches_more f n m r.0 x less s))
-    (or_true (formula_same r.0 x) (reaches f n r.0 x) r.2))
+    let r = any_in (λ r. body_same r x || reaches f n r x) (f z) h in
+    in_any (λ r. body_same r x || reaches f m r x) r.0 (f z) r.1
+    (⊎_elim (λ s. left_true (body_same r.0 x) (reaches f m r.0 x) s) (λ s. right_true (body_same r.0 x) (reaches f m r.0 x) (reaches_more f n m r.0 x less s))
+    (or_true (body_same r.0 x) (reaches f n r.0 x) r.2))
 
 -- each refers to the one before it
-abbrev Chain : (Formula → List Formula) → List Formula → Type 0
+abbrev Chain : (Body → List Body) → List Body → Type 0
 Chain f [] = Unit {0}
 Chain f (x ∷ []) = Unit {0}
 Chain f (x ∷ y ∷ ks) = In x (f y) × Chain f (y ∷ ks)
 
-chain_reaches : (f : Formula → List Formula) (x : Formula) (ks : List Formula) (z : Formula) → Chain f (x ∷ ks) → In z ks → reaches f (length ks) z x ≡ true
+chain_reaches : (f : Body → List Body) (x : Body) (ks : List Body) (z : Body) → Chain f (x ∷ ks) → In z ks → reaches f (length ks) z x ≡ true
 chain_reaches f x [] z c h = absurd h
 chain_reaches f x (y ∷ ks) z c (inl s) = subst (λ w. reaches f (suc (length ks)) w x ≡ true) (sym s) (reaches_one f (length ks) y x c.0)
 chain_reaches f x (y ∷ ks) z c (inr s) = reaches_on f (length ks) z y x (chain_reaches f y ks z c.1 s) c.0
 
-chain_rest : (f : Formula → List Formula) (x : Formula) (ks : List Formula) → Chain f (x ∷ ks) → Chain f ks
+chain_rest : (f : Body → List Body) (x : Body) (ks : List Body) → Chain f (x ∷ ks) → Chain f ks
 chain_rest f x [] c = tt
 chain_rest f x (y ∷ ks) c = c.1
 
 -- where nothing reaches itself, nothing stands twice in a chain
-chain_once : (f : Formula → List Formula) (n : ℕ) → ((k : Formula) → reaches f n k k ≡ false) → (ks : List Formula) → length ks ≤ suc n → Chain f ks → Twice ks → ⊥
+chain_once : (f : Body → List Body) (n : ℕ) → ((k : Body) → reaches f n k k ≡ false) → (ks : List Body) → length ks ≤ suc n → Chain f ks → Twice ks → ⊥
 chain_once f n a [] l c h = h
 chain_once f n a (x ∷ ks) l c h =
     let less : length ks ≤ n = omega arith in
@@ -174,36 +174,36 @@ chain_once f n a (x ∷ ks) l c h =
 
 -- ---- the length of what leads into one another
 
-greatest_same : (f g : Formula → ℕ) (ks : List Formula) → ((k : Formula) → In k ks → f k ≡ g k) → greatest f ks ≡ greatest g ks
+greatest_same : (f g : Body → ℕ) (ks : List Body) → ((k : Body) → In k ks → f k ≡ g k) → greatest f ks ≡ greatest g ks
 greatest_same f g [] h = refl
 greatest_same f g (k ∷ ks) h = let a = h k (inl refl) in let b = greatest_same f g ks (λ m i. h m (inr i)) in cc
 
-greatest_has : (f : Formula → ℕ) (ks : List Formula) (k : Formula) → In k ks → f k ≤ greatest f ks
+greatest_has : (f : Body → ℕ) (ks : List Body) (k : Body) → In k ks → f k ≤ greatest f ks
 greatest_has f [] k h = absurd h
 greatest_has f (m ∷ ks) k (inl s) = let e = ap f s in let l = le-max_left (f m) (greatest f ks) in omega arith
 greatest_has f (m ∷ ks) k (inr s) = let e = greatest_has f ks k s in let l = le-max_right (f m) (greatest f ks) in omega arith
 
-greatest_most : (f : Formula → ℕ) (n : ℕ) → ((k : Formula) → f k ≤ n) → (ks : List Formula) → greatest f ks ≤ n
+greatest_most : (f : Body → ℕ) (n : ℕ) → ((k : Body) → f k ≤ n) → (ks : List Body) → greatest f ks ≤ n
 greatest_most f n h [] = omega arith
 greatest_most f n h (k ∷ ks) = let a = h k in let b = greatest_most f n h ks in omega arith
 
-pub chain_most : (f : Formula → List Formula) (n : ℕ) (k : Formula) → chain_length f n k ≤ n
+pub chain_most : (f : Body → List Body) (n : ℕ) (k : Body) → chain_length f n k ≤ n
 unfolding chain_length
 chain_most f zero k = omega arith
 chain_most f (suc n) k = let h = greatest_most (chain_length f n) n (chain_most f n) (f k) in omega arith
 
 -- what only members of a list lead to
-abbrev pub Within : (Formula → List Formula) → List Formula → Type 0
-Within f ks = (k m : Formula) → In m (f k) → In k ks × In m ks
+abbrev pub Within : (Body → List Body) → List Body → Type 0
+Within f ks = (k m : Body) → In m (f k) → In k ks × In m ks
 
-chain_within : (f : Formula → List Formula) (ks : List Formula) → Within f ks → (x : Formula) → In x ks → (ms : List Formula) → Chain f (x ∷ ms) → (k : Formula) → In k (x ∷ ms) → In k ks
+chain_within : (f : Body → List Body) (ks : List Body) → Within f ks → (x : Body) → In x ks → (ms : List Body) → Chain f (x ∷ ms) → (k : Body) → In k (x ∷ ms) → In k ks
 chain_within f ks w x h ms c k (inl s) = subst (λ z. In z ks) (sym s) h
 chain_within f ks w x h [] c k (inr s) = absurd s
 chain_within f ks w x h (y ∷ ms) c k (inr s) = chain_within f ks w y (w y x c.0).0 ms c.1 k s
 
 -- from some number on it stays the same
-chain_stays : (f : Formula → List Formula) (ks : List Formula) (m : ℕ) → Within f ks → length ks ≤ m → ((k : Formula) → reaches f (suc m) k k ≡ false)
-    → (n : ℕ) (x : Formula) (ms : List Formula) → In x ks → Chain f (x ∷ ms) → length (x ∷ ms) + n ≡ suc m → chain_length f n x ≡ chain_length f (suc n) x
+chain_stays : (f : Body → List Body) (ks : List Body) (m : ℕ) → Within f ks → length ks ≤ m → ((k : Body) → reaches f (suc m) k k ≡ false)
+    → (n : ℕ) (x : Body) (ms : List Body) → In x ks → Chain f (x ∷ ms) → length (x ∷ ms) + n ≡ suc m → chain_length f n x ≡ chain_length f (suc n) x
 unfolding chain_length
 chain_stays f ks m w l a zero x ms h c e =
     absurd (chain_once f (suc m) a (x ∷ ms) (omega arith) c (twice (x ∷ ms) ks (chain_within f ks w x h ms c) (omega arith)))
@@ -212,8 +212,8 @@ chain_stays f ks m w l a (suc n) x ms h c e =
     (λ k i. chain_stays f ks m w l a n k (x ∷ ms) (w x k i).1 (i, c) (omega arith)))
 
 -- it falls along each reference
-pub chain_falls : (f : Formula → List Formula) (ks : List Formula) (m : ℕ) → Within f ks → length ks ≤ m → ((k : Formula) → reaches f (suc m) k k ≡ false)
-    → (k x : Formula) → In x (f k) → chain_length f m x < chain_length f m k
+pub chain_falls : (f : Body → List Body) (ks : List Body) (m : ℕ) → Within f ks → length ks ≤ m → ((k : Body) → reaches f (suc m) k k ≡ false)
+    → (k x : Body) → In x (f k) → chain_length f m x < chain_length f m k
 unfolding chain_length
 chain_falls f ks m w l a k x h =
     let i = w k x h in

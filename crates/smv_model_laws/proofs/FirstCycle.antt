@@ -9,21 +9,21 @@ use Rattle.digraph.specs.Graph.{leads, IsFirstReturn}
 use Rattle.smv_meaning.specs.Instances.{Instance}
 use Rattle.smv_meaning.specs.Names.{steps_of}
 use Rattle.smv_meaning.specs.Checks.{Check, first_failing}
-use Rattle.smv_meaning.specs.Phases.{Formula, refers, reaches}
-use Rattle.smv_meaning.specs.Formulas.{Placed, placed_formulas, formulas_of, number_or, references_of, reference_graph, refusal_of, IsFirstCycle}
+use Rattle.smv_meaning.specs.Phases.{Body, refers, reaches}
+use Rattle.smv_meaning.specs.Bodies.{Placed, placed_bodies, bodies_of, number_or, references_of, reference_graph, refusal_of, IsFirstCycle}
 use Rattle.smv_model_laws.proofs.Cycles.{In, any_in}
 use Rattle.smv_meaning.specs.laws.Booleans.{or_true, absurd_bool}
 use Rattle.smv_model_laws.proofs.Ranked.{keys_of, keys_counted, within_keys}
-use Rattle.smv_model_laws.proofs.OrderLaws.{nobody, place_within, place_is, place_first, at_in, number, number_to, leads_is, leads_step, leads_zero, row_at, graph_length, formulas_are, checks_are, check_of, formula_in}
+use Rattle.smv_model_laws.proofs.OrderLaws.{nobody, place_within, place_is, place_first, at_in, number, number_to, leads_is, leads_step, leads_zero, row_at, graph_length, bodies_are, checks_are, check_of, body_in}
 
 -- what is led to is the number of something
-hit : (t : List Instance) (n a b : ℕ) → a < length (keys_of t) → leads (reference_graph t) n a b ≡ true → (r : Formula) × In r (keys_of t) × (number t r ≡ b)
+hit : (t : List Instance) (n a b : ℕ) → a < length (keys_of t) → leads (reference_graph t) n a b ≡ true → (r : Body) × In r (keys_of t) × (number t r ≡ b)
 hit t zero a b l h = absurd_bool (sym (leads_zero (reference_graph t) a b) ∙ h)
 hit t (suc n) a b l h =
     let k = slice_index_or (keys_of t) a nobody in
     let some = any_in (λ r. r == b || leads (reference_graph t) n r b) (references_of t k)
     (ap (list_any (λ r. r == b || leads (reference_graph t) n r b)) (sym (row_at t a l)) ∙ sym (leads_step (reference_graph t) n a b) ∙ h) in
-    let from = in_map (number_or (formulas_of t)) (refers t k) some.0 some.1 in
+    let from = in_map (number_or (bodies_of t)) (refers t k) some.0 some.1 in
     let there : In from.0 (keys_of t) = (within_keys t k from.0 from.1).1 in
     let is : number t from.0 ≡ some.0 = sym (number_to t from.0 there) ∙ from.2 in
     elim (or_true (some.0 == b) (leads (reference_graph t) n some.0 b) some.2) [
@@ -71,21 +71,21 @@ first_is_first t a h =
     let self : k ≡ some.0 = ap (λ i. slice_index_or (keys_of t) i nobody) (sym some.2) ∙ place_is (keys_of t) some.0 some.1 in
     let num : number t k ≡ a = ap (number t) self ∙ some.2 in
     let reached : reaches (refers t) (steps_of t) k k ≡ true = sym (leads_is t (steps_of t) a k l (at_in (keys_of t) a l)) ∙ ap (leads (reference_graph t) (steps_of t) a) num ∙ back in
-    let lf : a < length (placed_formulas t) = omega (arith, l, sym (ap length (formulas_are t)) ∙ refl, length-map (placed_formulas t) formula_in) in
-    let d : Placed = record { formula = nobody; place = record { line = 0; column = 0; offset = 0 } } in
-    let key_at : (j : ℕ) → j < length (placed_formulas t) → (slice_index_or (placed_formulas t) j d).formula ≡ slice_index_or (keys_of t) j nobody =
-    λ j m. sym (get_or-map formula_in (placed_formulas t) j d nobody m) ∙ ap (λ ks. slice_index_or ks j nobody) (formulas_are t) in
+    let lf : a < length (placed_bodies t) = omega (arith, l, sym (ap length (bodies_are t)) ∙ refl, length-map (placed_bodies t) body_in) in
+    let d : Placed = record { body = nobody; place = record { line = 0; column = 0; offset = 0 } } in
+    let key_at : (j : ℕ) → j < length (placed_bodies t) → (slice_index_or (placed_bodies t) j d).body ≡ slice_index_or (keys_of t) j nobody =
+    λ j m. sym (get_or-map body_in (placed_bodies t) j d nobody m) ∙ ap (λ ks. slice_index_or ks j nobody) (bodies_are t) in
     let C = check_of t in
     record {
-      there = omega (arith, lf, length-map (placed_formulas t) formula_in);
+      there = omega (arith, lf, length-map (placed_bodies t) body_in);
       failing =
           ap first_failing (sym (checks_are t))
-          ∙ fails_at C (placed_formulas t) a d lf
-          (λ j m. holds_if (reaches (refers t) (steps_of t) (slice_index_or (placed_formulas t) j d).formula (slice_index_or (placed_formulas t) j d).formula)
+          ∙ fails_at C (placed_bodies t) a d lf
+          (λ j m. holds_if (reaches (refers t) (steps_of t) (slice_index_or (placed_bodies t) j d).body (slice_index_or (placed_bodies t) j d).body)
           (ap (λ q. reaches (refers t) (steps_of t) q q) (key_at j (omega (arith, m, lf))) ∙ clear t a h l j m))
-          (fails_if (reaches (refers t) (steps_of t) (slice_index_or (placed_formulas t) a d).formula (slice_index_or (placed_formulas t) a d).formula)
+          (fails_if (reaches (refers t) (steps_of t) (slice_index_or (placed_bodies t) a d).body (slice_index_or (placed_bodies t) a d).body)
           (ap (λ q. reaches (refers t) (steps_of t) q q) (key_at a lf) ∙ reached))
-          ∙ sym (ap refusal_of (get_some (placed_formulas t) a d lf));
+          ∙ sym (ap refusal_of (get_some (placed_bodies t) a d lf));
     }
   where
     -- those before it don't reach themselves

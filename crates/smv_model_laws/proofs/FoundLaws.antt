@@ -15,7 +15,7 @@ use Rattle.smv_meaning.specs.declared.value.Value.{Value}
 use Rattle.smv_meaning.specs.declared.value.Value.TheVariants.{Truth, Bits}
 use Rattle.smv_meaning.specs.Values.{Valuation, value_same, member_value, is_among, is_word_of, is_of_type}
 use Rattle.smv_meaning.specs.Instances.{Instance, dotted}
-use Rattle.smv_meaning.specs.Names.{Local, alias, formula, variable_of, inner, nothing, of_actual, of_domain, among_items, among_definitions, among_elements, among_parameters, parent_of, local_in, local, Found, variable_at, body_at, instance_at, symbol_of, cyclic, none, at_child, is_child, path_in, onward, is_end, walk, has_symbol, single, through, resolved, landed, look, steps_of, found_in}
+use Rattle.smv_meaning.specs.Names.{Local, alias, body_of, variable_of, inner, nothing, of_actual, of_domain, among_items, among_definitions, among_elements, among_parameters, parent_of, local_in, local, Found, variable_at, body_at, instance_at, symbol_of, cyclic, none, at_child, is_child, path_in, onward, is_end, walk, has_symbol, single, through, resolved, landed, look, steps_of, found_in}
 use Rattle.smv_meaning.specs.Meaning.{is_input}
 use Rattle.smv_meaning.specs.Runs.{domain_fits, is_fit, element_fits, state_fits, label_fits}
 use Rattle.smv_meaning.specs.Typed.{LiesIn, Lies, GivesFound, Gives}
@@ -38,7 +38,7 @@ pub record Closed (P : Found → Type 0) : Type 0 where
   pub missing : P none
 
 abbrev pub LocalGood : (Found → Type 0) → List ℕ → ℕ → List ℕ → Local → Type 0
-LocalGood P path i x (formula j e) = P (body_at i x j e)
+LocalGood P path i x (body_of j e) = P (body_at i x j e)
 LocalGood P path i x (variable_of kind d) = P (variable_at (dotted path x) kind d)
 LocalGood P path i x l = Unit {0}
 
@@ -77,7 +77,7 @@ resolved_good P k t f h i path = pick_good P path.from_self (walk f i path.names
 landed_good : (P : Found → Type 0) → Closed P → (t : List Instance) (f : ℕ → List ℕ → Found) → ((i : ℕ) (x : List ℕ) → P (f i x)) → (i : ℕ) (x : List ℕ) (l : Local)
     → LocalGood P (path_in (slice_get t i)) i x l → P (landed t f i x l)
 landed_good P k t f h i x (alias j path) g = resolved_good P k t f h j path
-landed_good P k t f h i x (formula j e) g = g
+landed_good P k t f h i x (body_of j e) g = g
 landed_good P k t f h i x (variable_of kind d) g = g
 landed_good P k t f h i x inner g = child_good P k (position (is_child i x) t)
 landed_good P k t f h i x nothing g = k.missing
@@ -203,7 +203,7 @@ gives_definitions : (inputs : Bool) (s l : Valuation) (path : List ℕ) (i : ℕ
     → LocalGood (GivesFound inputs s l) path i x (among_definitions i ds x other)
 gives_definitions inputs s l path i [] x other h = h
 gives_definitions inputs s l path i (d ∷ ds) x other h =
-    by_name (λ y m. LocalGood (GivesFound inputs s l) path i y m) d.name x (formula i d.body) (among_definitions i ds x other) (λ e. tt) (gives_definitions inputs s l path i ds x other h)
+    by_name (λ y m. LocalGood (GivesFound inputs s l) path i y m) d.name x (body_of i d.body) (among_definitions i ds x other) (λ e. tt) (gives_definitions inputs s l path i ds x other h)
 
 gives_elements : (inputs : Bool) (s l : Valuation) (path : List ℕ) (i : ℕ) (es : List PlainElement) (x : List ℕ)
     → list_all (element_fits (λ k. not (is_input k)) path s) es ≡ true → (inputs ≡ true → list_all (element_fits is_input path l) es ≡ true)

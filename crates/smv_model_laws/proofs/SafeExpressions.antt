@@ -10,17 +10,17 @@ use Rattle.smv_text.specs.Tree.{Tree, name, PlainDomain}
 use Rattle.smv_meaning.specs.Values.{Valuation}
 use Rattle.smv_meaning.specs.Expressions.{paths_of}
 use Rattle.smv_meaning.specs.Instances.{Instance, instances_of}
-use Rattle.smv_meaning.specs.Names.{Local, alias, formula, variable_of, inner, nothing, local, path_in, Found, variable_at, body_at, instance_at, symbol_of, cyclic, none, found_in, steps_of}
+use Rattle.smv_meaning.specs.Names.{Local, alias, body_of, variable_of, inner, nothing, local, path_in, Found, variable_at, body_at, instance_at, symbol_of, cyclic, none, found_in, steps_of}
 use Rattle.smv_meaning.specs.Meaning.{is_input, reading}
 use Rattle.smv_meaning.specs.Types.{ExprType}
 use Rattle.smv_meaning.specs.Checks.{Position, Named, Typing, typing}
 use Rattle.smv_meaning.specs.Naming.{in_body, typed_variable, named_found}
-use Rattle.smv_meaning.specs.Phases.{Formula, is_something, module_checks, declaration_checks, size_checks, later_checks}
+use Rattle.smv_meaning.specs.Phases.{Body, is_something, module_checks, declaration_checks, size_checks, later_checks}
 use Rattle.smv_meaning.specs.Safety.{Safe, SafeFound, SafePath}
 use Rattle.smv_meaning.specs.Typed.{Gives}
 use Rattle.smv_meaning.specs.Owed.{HasType}
 use Rattle.smv_meaning.specs.Literals.{words_fit}
-use Rattle.smv_meaning.specs.Settled.{is_formula, Acyclic, cycle_checks_of, types_in, values_in, rank_of}
+use Rattle.smv_meaning.specs.Settled.{has_body, Acyclic, cycle_checks_of, types_in, values_in, rank_of}
 use Rattle.smv_meaning.specs.Reached.{is_body_of, leads_to, local_leads_to}
 use Rattle.smv_meaning.specs.Checked.{path_checks_of, type_checks_of, IsChecked, AcceptedIsChecked, all_trees, names_instance, NamesHaveTypes, ExpressionsHaveTypes, reaches_an_input, ExpressionsAreSafe}
 use Rattle.smv_meaning.specs.laws.Booleans.{absurd_bool}
@@ -90,7 +90,7 @@ names_without t a (suc n) i path u p r =
     by (variable_at x kind d) v s ih = ap (λ (o : Option ExprType). record { type = o; is_instance = false; reaches_input = is_input kind }) (variable_without kind d s)
     by (body_at k x j e) v s ih =
         let less = v.0 in
-        let above = (ranking t a).positive (key k x) (ap is_formula v.1) in
+        let above = (ranking t a).positive (key k x) (ap has_body v.1) in
         let same : (q : Path) → In q (paths_of e []) → types_in false t j q ≡ types_in true t j q =
         λ q g. ih j q (under_more t (rank_of t) (rank_of t (key k x)) n (omega arith) (found_in t j q) (body_under t (rank_of t) (descent t (rank_of t) (ranking t a)) k x j e v.1 q g)) (omega arith)
         (any_false (λ z. (types_in true t j z).reaches_input) (paths_of e []) s q g) in
@@ -171,12 +171,12 @@ expressions_are_safe_law t c w inputs state label following gives later i e stan
 
 -- what is written in an instance reaches an input
 abbrev pub local_reaches : List Instance → Local → Bool
-local_reaches t (formula j e) = reaches_an_input t j e
+local_reaches t (body_of j e) = reaches_an_input t j e
 local_reaches t l = false
 
 -- a body is evaluated safely, where a label is given or it reaches no input
 pub body_is_safe : (t : List Instance) → IsChecked t → all_trees words_fit t ≡ true → (inputs : Bool) (state label : Valuation) → Gives inputs (found_in t) state label
-    → (k : ℕ) (x : List ℕ) (j : ℕ) (e : Tree) → local t k x ≡ formula j e → (inputs || not (reaches_an_input t j e)) ≡ true
+    → (k : ℕ) (x : List ℕ) (j : ℕ) (e : Tree) → local t k x ≡ body_of j e → (inputs || not (reaches_an_input t j e)) ≡ true
     → Safe (SafePath (found_in t) (steps_of t) state label j) (SafePath (found_in t) (steps_of t) state label j) (values_in t state label j) (values_in t state label j) e
 body_is_safe t c w inputs state label gives k x j e is reach =
     let a = acyclic t c in
@@ -202,7 +202,7 @@ leads_clear t a false i e h k x r =
     by : (m : Found) → is_body_of k x m ≡ true → Under t (rank_of t) (steps_of t) m → (named_found true (types_in true t) m).reaches_input ≡ false → local_reaches t (local t k x) ≡ false
     by (body_at l y j b) s u f =
         let same : (l, y) ≡ (k, x) = same_is (l, y) (k, x) s in
-        ap (λ (z : Formula). local_reaches t (local t z.0 z.1)) (sym same) ∙ ap (local_reaches t) u.1 ∙ f
+        ap (λ (z : Body). local_reaches t (local t z.0 z.1)) (sym same) ∙ ap (local_reaches t) u.1 ∙ f
     by (variable_at y kind d) s u f = absurd_bool s
     by (instance_at l) s u f = absurd_bool s
     by (symbol_of y) s u f = absurd_bool s
@@ -212,7 +212,7 @@ leads_clear t a false i e h k x r =
 -- nor what is written in the bodies
 pub local_clear : (t : List Instance) → Acyclic t → (inputs : Bool) (l : Local) → (inputs || not (local_reaches t l)) ≡ true
     → (k : ℕ) (x : List ℕ) → local_leads_to t l k x ≡ true → (inputs || not (local_reaches t (local t k x))) ≡ true
-local_clear t a inputs (formula j e) h k x r = leads_clear t a inputs j e h k x r
+local_clear t a inputs (body_of j e) h k x r = leads_clear t a inputs j e h k x r
 local_clear t a inputs (alias j path) h k x r = absurd_bool r
 local_clear t a inputs (variable_of kind d) h k x r = absurd_bool r
 local_clear t a inputs inner h k x r = absurd_bool r

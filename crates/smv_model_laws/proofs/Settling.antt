@@ -8,13 +8,13 @@ use Rattle.smv_meaning.specs.declared.value.Value.{Value}
 use Rattle.smv_meaning.specs.Values.{Valuation}
 use Rattle.smv_meaning.specs.Expressions.{Denotation, paths_of}
 use Rattle.smv_meaning.specs.Instances.{Instance}
-use Rattle.smv_meaning.specs.Names.{Local, alias, formula, variable_of, inner, nothing, local, Found, variable_at, body_at, instance_at, symbol_of, cyclic, none, at_child, is_child, onward, is_end, walk, has_symbol, single, through, resolved, landed, look, formulas_in, steps_of, found_in}
+use Rattle.smv_meaning.specs.Names.{Local, alias, body_of, variable_of, inner, nothing, local, Found, variable_at, body_at, instance_at, symbol_of, cyclic, none, at_child, is_child, onward, is_end, walk, has_symbol, single, through, resolved, landed, look, bodies_in, steps_of, found_in}
 use Rattle.smv_meaning.specs.Meaning.{value_found, reading}
 use Rattle.smv_meaning.specs.Types.{ExprType}
 use Rattle.smv_meaning.specs.Checks.{Named, Typing}
 use Rattle.smv_meaning.specs.Naming.{in_body, named_found, naming}
-use Rattle.smv_meaning.specs.Phases.{Formula, formula_here, from_instance, path_formulas, referred, refers}
-use Rattle.smv_meaning.specs.Settled.{is_formula, Acyclic, chain_length, rank_of, is_cyclic, NamesSettle, ValuesSettle, ValuesAreOne, TypesSettle}
+use Rattle.smv_meaning.specs.Phases.{Body, body_here, from_instance, path_bodies, referred, refers}
+use Rattle.smv_meaning.specs.Settled.{has_body, Acyclic, chain_length, rank_of, is_cyclic, NamesSettle, ValuesSettle, ValuesAreOne, TypesSettle}
 use Rattle.smv_meaning.specs.laws.Booleans.{absurd_bool}
 use Rattle.smv_model_laws.proofs.Cycles.{In, in_left, in_right, flat_in, chain_most}
 use Rattle.smv_model_laws.proofs.Ranked.{key, in_keys, keys_of, keys_counted, acyclic_falls}
@@ -22,16 +22,16 @@ use Rattle.smv_model_laws.proofs.Agreeing.{denote_same, typing_same}
 
 -- ---- the rank
 
-pub record Ranking (t : List Instance) (rank : Formula → ℕ) : Type 0 where
-  pub falls : (k m : Formula) → In m (refers t k) → rank m < rank k
-  pub positive : (k : Formula) → is_formula (local t k.0 k.1) ≡ true → 0 < rank k
-  pub few : (k : Formula) → rank k < steps_of t
+pub record Ranking (t : List Instance) (rank : Body → ℕ) : Type 0 where
+  pub falls : (k m : Body) → In m (refers t k) → rank m < rank k
+  pub positive : (k : Body) → has_body (local t k.0 k.1) ≡ true → 0 < rank k
+  pub few : (k : Body) → rank k < steps_of t
 
-some_key : (k : Formula) (ks : List Formula) → In k ks → 0 < length ks
+some_key : (k : Body) (ks : List Body) → In k ks → 0 < length ks
 some_key k [] h = absurd h
 some_key k (m ∷ ks) h = omega arith
 
-chain_positive : (f : Formula → List Formula) (n : ℕ) (k : Formula) → 0 < n → 0 < chain_length f n k
+chain_positive : (f : Body → List Body) (n : ℕ) (k : Body) → 0 < n → 0 < chain_length f n k
 unfolding chain_length
 chain_positive f zero k h = absurd (omega arith)
 chain_positive f (suc n) k h = omega arith
@@ -39,8 +39,8 @@ chain_positive f (suc n) k h = omega arith
 pub ranking : (t : List Instance) → Acyclic t → Ranking t (rank_of t)
 ranking t a = record {
   falls = acyclic_falls t a;
-  positive = λ k h. let e = some_key k (keys_of t) (in_keys t k.0 k.1 h) in let l = keys_counted t in chain_positive (refers t) (sum_by formulas_in t) k (omega arith);
-  few = λ k. let h = chain_most (refers t) (sum_by formulas_in t) k in omega arith;
+  positive = λ k h. let e = some_key k (keys_of t) (in_keys t k.0 k.1 h) in let l = keys_counted t in chain_positive (refers t) (sum_by bodies_in t) k (omega arith);
+  few = λ k. let h = chain_most (refers t) (sum_by bodies_in t) k in omega arith;
 }
 
 -- what is found at last
@@ -48,42 +48,42 @@ abbrev last_look : List Instance → ℕ → List ℕ → Found
 last_look t i x = look t (steps_of t) i x
 
 -- each definition and actual that the path goes through has a lesser rank
-abbrev pub Below : List Instance → (Formula → ℕ) → ℕ → ℕ → List (List ℕ) → Type 0
-Below t rank r i xs = (m : Formula) → In m (path_formulas t (look t (steps_of t)) i xs) → rank m < r
+abbrev pub Below : List Instance → (Body → ℕ) → ℕ → ℕ → List (List ℕ) → Type 0
+Below t rank r i xs = (m : Body) → In m (path_bodies t (look t (steps_of t)) i xs) → rank m < r
 
 -- the name, where it is a definition or an actual, has a lesser rank
-abbrev pub NameBelow : List Instance → (Formula → ℕ) → ℕ → ℕ → List ℕ → Type 0
-NameBelow t rank r i x = is_formula (local t i x) ≡ true → rank (key i x) < r
+abbrev pub NameBelow : List Instance → (Body → ℕ) → ℕ → ℕ → List ℕ → Type 0
+NameBelow t rank r i x = has_body (local t i x) ≡ true → rank (key i x) < r
 
-here_in : (i : ℕ) (x : List ℕ) (l : Local) → is_formula l ≡ true → In (key i x) (formula_here i x l)
+here_in : (i : ℕ) (x : List ℕ) (l : Local) → has_body l ≡ true → In (key i x) (body_here i x l)
 here_in i x (alias j path) h = inl refl
-here_in i x (formula j e) h = inl refl
+here_in i x (body_of j e) h = inl refl
 here_in i x l h = absurd_bool h
 
-first_below : (t : List Instance) (rank : Formula → ℕ) (r i : ℕ) (x : List ℕ) (xs : List (List ℕ)) → Below t rank r i (x ∷ xs) → NameBelow t rank r i x
+first_below : (t : List Instance) (rank : Body → ℕ) (r i : ℕ) (x : List ℕ) (xs : List (List ℕ)) → Below t rank r i (x ∷ xs) → NameBelow t rank r i x
 first_below t rank r i x xs h e =
-    h (key i x) (in_left (key i x) (formula_here i x (local t i x)) (from_instance (last_look t i x) (λ c. path_formulas t (last_look t) c xs)) (here_in i x (local t i x) e))
+    h (key i x) (in_left (key i x) (body_here i x (local t i x)) (from_instance (last_look t i x) (λ c. path_bodies t (last_look t) c xs)) (here_in i x (local t i x) e))
 
-rest_below : (t : List Instance) (rank : Formula → ℕ) (r i c : ℕ) (x : List ℕ) (xs : List (List ℕ)) → Below t rank r i (x ∷ xs) → last_look t i x ≡ instance_at c → Below t rank r c xs
+rest_below : (t : List Instance) (rank : Body → ℕ) (r i c : ℕ) (x : List ℕ) (xs : List (List ℕ)) → Below t rank r i (x ∷ xs) → last_look t i x ≡ instance_at c → Below t rank r c xs
 rest_below t rank r i c x xs h e m k =
-    h m (in_right m (formula_here i x (local t i x)) (from_instance (last_look t i x) (λ d. path_formulas t (last_look t) d xs))
-    (subst (λ f. In m (from_instance f (λ d. path_formulas t (last_look t) d xs))) (sym e) k))
+    h m (in_right m (body_here i x (local t i x)) (from_instance (last_look t i x) (λ d. path_bodies t (last_look t) d xs))
+    (subst (λ f. In m (from_instance f (λ d. path_bodies t (last_look t) d xs))) (sym e) k))
 
 -- each has a greater number than those to which it refers
-abbrev pub Falls : List Instance → (Formula → ℕ) → Type 0
-Falls t rank = (k m : Formula) → In m (refers t k) → rank m < rank k
+abbrev pub Falls : List Instance → (Body → ℕ) → Type 0
+Falls t rank = (k m : Body) → In m (refers t k) → rank m < rank k
 
 -- what an actual that is a path goes through, and what the paths of a body do
-pub alias_below : (t : List Instance) (rank : Formula → ℕ) → Falls t rank → (i : ℕ) (x : List ℕ) (j : ℕ) (path : Path) → local t i x ≡ alias j path → Below t rank (rank (key i x)) j path.names
+pub alias_below : (t : List Instance) (rank : Body → ℕ) → Falls t rank → (i : ℕ) (x : List ℕ) (j : ℕ) (path : Path) → local t i x ≡ alias j path → Below t rank (rank (key i x)) j path.names
 alias_below t rank falls i x j path e m h = falls (key i x) m (subst (λ l. In m (referred t (last_look t) l)) (sym e) h)
 
 -- what a path of a body goes through is among that to which it refers
-pub path_refers : (t : List Instance) (i : ℕ) (x : List ℕ) (j : ℕ) (b : Tree) → local t i x ≡ formula j b
-    → (q : Path) → In q (paths_of b []) → (m : Formula) → In m (path_formulas t (last_look t) j q.names) → In m (refers t (key i x))
+pub path_refers : (t : List Instance) (i : ℕ) (x : List ℕ) (j : ℕ) (b : Tree) → local t i x ≡ body_of j b
+    → (q : Path) → In q (paths_of b []) → (m : Body) → In m (path_bodies t (last_look t) j q.names) → In m (refers t (key i x))
 path_refers t i x j b e q g m h =
-    subst (λ l. In m (referred t (last_look t) l)) (sym e) (flat_in (λ p. path_formulas t (last_look t) j p.names) m q (paths_of b []) g h)
+    subst (λ l. In m (referred t (last_look t) l)) (sym e) (flat_in (λ p. path_bodies t (last_look t) j p.names) m q (paths_of b []) g h)
 
-pub body_below : (t : List Instance) (rank : Formula → ℕ) → Falls t rank → (i : ℕ) (x : List ℕ) (j : ℕ) (b : Tree) → local t i x ≡ formula j b
+pub body_below : (t : List Instance) (rank : Body → ℕ) → Falls t rank → (i : ℕ) (x : List ℕ) (j : ℕ) (b : Tree) → local t i x ≡ body_of j b
     → (q : Path) → In q (paths_of b []) → Below t rank (rank (key i x)) j q.names
 body_below t rank falls i x j b e q g m h = falls (key i x) m (path_refers t i x j b e q g m h)
 
@@ -98,10 +98,10 @@ onward_same (symbol_of x) b f g h = refl
 onward_same none b f g h = refl
 
 -- both find at a name below the rank what is found at last
-abbrev BothFind : List Instance → (Formula → ℕ) → ℕ → (f g : ℕ → List ℕ → Found) → Type 0
+abbrev BothFind : List Instance → (Body → ℕ) → ℕ → (f g : ℕ → List ℕ → Found) → Type 0
 BothFind t rank r f g = (i : ℕ) (x : List ℕ) → NameBelow t rank r i x → (f i x ≡ last_look t i x) × (g i x ≡ last_look t i x)
 
-walk_same : (t : List Instance) (rank : Formula → ℕ) (r : ℕ) (f g : ℕ → List ℕ → Found) → BothFind t rank r f g → (i : ℕ) (xs : List (List ℕ)) → Below t rank r i xs → walk f i xs ≡ walk g i xs
+walk_same : (t : List Instance) (rank : Body → ℕ) (r : ℕ) (f g : ℕ → List ℕ → Found) → BothFind t rank r f g → (i : ℕ) (xs : List (List ℕ)) → Below t rank r i xs → walk f i xs ≡ walk g i xs
 walk_same t rank r f g s i [] h = refl
 walk_same t rank r f g s i (x ∷ xs) h =
     let e = s i x (first_below t rank r i x xs h) in
@@ -109,15 +109,15 @@ walk_same t rank r f g s i (x ∷ xs) h =
     ∙ onward_same (last_look t i x) (is_end xs) (λ c. walk f c xs) (λ c. walk g c xs) (λ c k. walk_same t rank r f g s c xs (rest_below t rank r i c x xs h k))
     ∙ ap (λ m. onward m (is_end xs) (λ c. walk g c xs)) (sym e.1)
 
-single_same : (t : List Instance) (rank : Formula → ℕ) (r : ℕ) (f g : ℕ → List ℕ → Found) → BothFind t rank r f g → (i : ℕ) (x : List ℕ) → Below t rank r i (x ∷ [])
+single_same : (t : List Instance) (rank : Body → ℕ) (r : ℕ) (f g : ℕ → List ℕ → Found) → BothFind t rank r f g → (i : ℕ) (x : List ℕ) → Below t rank r i (x ∷ [])
     → (l : Local) → single t f i x l ≡ single t g i x l
 single_same t rank r f g s i x h nothing = refl
 single_same t rank r f g s i x h (alias j path) = walk_same t rank r f g s i (x ∷ []) h
-single_same t rank r f g s i x h (formula j e) = walk_same t rank r f g s i (x ∷ []) h
+single_same t rank r f g s i x h (body_of j e) = walk_same t rank r f g s i (x ∷ []) h
 single_same t rank r f g s i x h (variable_of kind d) = walk_same t rank r f g s i (x ∷ []) h
 single_same t rank r f g s i x h inner = walk_same t rank r f g s i (x ∷ []) h
 
-through_same : (t : List Instance) (rank : Formula → ℕ) (r : ℕ) (f g : ℕ → List ℕ → Found) → BothFind t rank r f g → (i : ℕ) (xs : List (List ℕ)) → Below t rank r i xs → through t f i xs ≡ through t g i xs
+through_same : (t : List Instance) (rank : Body → ℕ) (r : ℕ) (f g : ℕ → List ℕ → Found) → BothFind t rank r f g → (i : ℕ) (xs : List (List ℕ)) → Below t rank r i xs → through t f i xs ≡ through t g i xs
 through_same t rank r f g s i [] h = refl
 through_same t rank r f g s i (x ∷ []) h = single_same t rank r f g s i x h (local t i x)
 through_same t rank r f g s i (x ∷ y ∷ xs) h = walk_same t rank r f g s i (x ∷ y ∷ xs) h
@@ -126,7 +126,7 @@ pick_same : {X : Type 0} (b : Bool) (x y z w : X) → x ≡ z → y ≡ w → (i
 pick_same true x y z w h k = h
 pick_same false x y z w h k = k
 
-resolved_same : (t : List Instance) (rank : Formula → ℕ) (r : ℕ) (f g : ℕ → List ℕ → Found) → BothFind t rank r f g → (i : ℕ) (path : Path) → Below t rank r i path.names
+resolved_same : (t : List Instance) (rank : Body → ℕ) (r : ℕ) (f g : ℕ → List ℕ → Found) → BothFind t rank r f g → (i : ℕ) (path : Path) → Below t rank r i path.names
     → resolved t f i path ≡ resolved t g i path
 resolved_same t rank r f g s i path h =
     pick_same path.from_self _ _ _ _ (walk_same t rank r f g s i path.names h) (through_same t rank r f g s i path.names h)
@@ -137,34 +137,34 @@ landed_same t f g i x h = by (local t i x) refl
   where
     by : (l : Local) → local t i x ≡ l → landed t f i x l ≡ landed t g i x l
     by (alias j path) e = h j path e
-    by (formula j e) s = refl
+    by (body_of j e) s = refl
     by (variable_of kind d) e = refl
     by inner e = refl
     by nothing e = refl
 
-look_same : (t : List Instance) (rank : Formula → ℕ) → Ranking t rank → (n : ℕ) → n ≤ steps_of t → (i : ℕ) (x : List ℕ) → NameBelow t rank n i x → 0 < n → (m : ℕ) → n ≤ m → look t n i x ≡ look t m i x
+look_same : (t : List Instance) (rank : Body → ℕ) → Ranking t rank → (n : ℕ) → n ≤ steps_of t → (i : ℕ) (x : List ℕ) → NameBelow t rank n i x → 0 < n → (m : ℕ) → n ≤ m → look t n i x ≡ look t m i x
 unfolding look
 look_same t rank k zero l i x b p m g = absurd (omega arith)
 look_same t rank k (suc n) l i x b p zero g = absurd (omega arith)
 look_same t rank k (suc n) l i x b p (suc m) g = landed_same t (look t n) (look t m) i x
     (λ j path e.
-    let lower = b (ap is_formula e) in
-    let above = k.positive (key i x) (ap is_formula e) in
+    let lower = b (ap has_body e) in
+    let above = k.positive (key i x) (ap has_body e) in
     let ih : (j' : ℕ) (y : List ℕ) → NameBelow t rank (rank (key i x)) j' y → (m' : ℕ) → n ≤ m' → look t n j' y ≡ look t m' j' y =
     λ j' y s m' g'. look_same t rank k n (omega arith) j' y (λ w. let z = s w in omega arith) (omega arith) m' g' in
     resolved_same t rank (rank (key i x)) (look t n) (look t m)
     (λ j' y s. (ih j' y s (steps_of t) (omega arith), sym (ih j' y s m (omega arith)) ∙ ih j' y s (steps_of t) (omega arith))) j path (alias_below t rank k.falls i x j path e))
 
-pub look_settles : (t : List Instance) (rank : Formula → ℕ) → Ranking t rank → (i : ℕ) (x : List ℕ) → look t (steps_of t) i x ≡ landed t (look t (steps_of t)) i x (local t i x)
+pub look_settles : (t : List Instance) (rank : Body → ℕ) → Ranking t rank → (i : ℕ) (x : List ℕ) → look t (steps_of t) i x ≡ landed t (look t (steps_of t)) i x (local t i x)
 unfolding look
 look_settles t rank k i x = look_same t rank k (steps_of t) (omega arith) i x (λ e. k.few (key i x)) (omega arith) (suc (steps_of t)) (omega arith)
 
 -- the numbers fall, and names are what their declarations say
-pub record Descent (t : List Instance) (rank : Formula → ℕ) : Type 0 where
+pub record Descent (t : List Instance) (rank : Body → ℕ) : Type 0 where
   pub falls : Falls t rank
   pub settles : (i : ℕ) (x : List ℕ) → look t (steps_of t) i x ≡ landed t (look t (steps_of t)) i x (local t i x)
 
-pub descent : (t : List Instance) (rank : Formula → ℕ) → Ranking t rank → Descent t rank
+pub descent : (t : List Instance) (rank : Body → ℕ) → Ranking t rank → Descent t rank
 descent t rank k = record { falls = k.falls; settles = look_settles t rank k }
 
 -- ---- what is found along a path
@@ -188,29 +188,29 @@ onward_has P k (symbol_of x) b go h l = pick_has P b (symbol_of x) none h k.miss
 onward_has P k none b go h l = pick_has P b none none h k.missing
 
 -- it holds at each name below the rank
-abbrev NamesHave : List Instance → (Formula → ℕ) → ℕ → (Found → Type 0) → Type 0
+abbrev NamesHave : List Instance → (Body → ℕ) → ℕ → (Found → Type 0) → Type 0
 NamesHave t rank r P = (i : ℕ) (x : List ℕ) → NameBelow t rank r i x → P (last_look t i x)
 
-walk_has : (t : List Instance) (rank : Formula → ℕ) (r : ℕ) (P : Found → Type 0) → Kept P → NamesHave t rank r P → (i : ℕ) (xs : List (List ℕ)) → Below t rank r i xs → P (walk (last_look t) i xs)
+walk_has : (t : List Instance) (rank : Body → ℕ) (r : ℕ) (P : Found → Type 0) → Kept P → NamesHave t rank r P → (i : ℕ) (xs : List (List ℕ)) → Below t rank r i xs → P (walk (last_look t) i xs)
 walk_has t rank r P k s i [] h = k.instances i
 walk_has t rank r P k s i (x ∷ xs) h =
     onward_has P k (last_look t i x) (is_end xs) (λ c. walk (last_look t) c xs) (s i x (first_below t rank r i x xs h))
     (λ c e. walk_has t rank r P k s c xs (rest_below t rank r i c x xs h e))
 
-single_has : (t : List Instance) (rank : Formula → ℕ) (r : ℕ) (P : Found → Type 0) → Kept P → NamesHave t rank r P → (i : ℕ) (x : List ℕ) → Below t rank r i (x ∷ []) → (l : Local)
+single_has : (t : List Instance) (rank : Body → ℕ) (r : ℕ) (P : Found → Type 0) → Kept P → NamesHave t rank r P → (i : ℕ) (x : List ℕ) → Below t rank r i (x ∷ []) → (l : Local)
     → P (single t (last_look t) i x l)
 single_has t rank r P k s i x h nothing = pick_has P (has_symbol t x) (symbol_of x) none (k.symbols x) k.missing
 single_has t rank r P k s i x h (alias j path) = walk_has t rank r P k s i (x ∷ []) h
-single_has t rank r P k s i x h (formula j e) = walk_has t rank r P k s i (x ∷ []) h
+single_has t rank r P k s i x h (body_of j e) = walk_has t rank r P k s i (x ∷ []) h
 single_has t rank r P k s i x h (variable_of kind d) = walk_has t rank r P k s i (x ∷ []) h
 single_has t rank r P k s i x h inner = walk_has t rank r P k s i (x ∷ []) h
 
-through_has : (t : List Instance) (rank : Formula → ℕ) (r : ℕ) (P : Found → Type 0) → Kept P → NamesHave t rank r P → (i : ℕ) (xs : List (List ℕ)) → Below t rank r i xs → P (through t (last_look t) i xs)
+through_has : (t : List Instance) (rank : Body → ℕ) (r : ℕ) (P : Found → Type 0) → Kept P → NamesHave t rank r P → (i : ℕ) (xs : List (List ℕ)) → Below t rank r i xs → P (through t (last_look t) i xs)
 through_has t rank r P k s i [] h = k.instances i
 through_has t rank r P k s i (x ∷ []) h = single_has t rank r P k s i x h (local t i x)
 through_has t rank r P k s i (x ∷ y ∷ xs) h = walk_has t rank r P k s i (x ∷ y ∷ xs) h
 
-resolved_has : (t : List Instance) (rank : Formula → ℕ) (r : ℕ) (P : Found → Type 0) → Kept P → NamesHave t rank r P → (i : ℕ) (path : Path) → Below t rank r i path.names → P (found_in t i path)
+resolved_has : (t : List Instance) (rank : Body → ℕ) (r : ℕ) (P : Found → Type 0) → Kept P → NamesHave t rank r P → (i : ℕ) (path : Path) → Below t rank r i path.names → P (found_in t i path)
 resolved_has t rank r P k s i path h =
     pick_has P path.from_self (walk (last_look t) i path.names) (through t (last_look t) i path.names) (walk_has t rank r P k s i path.names h) (through_has t rank r P k s i path.names h)
 
@@ -221,15 +221,15 @@ child_has P k None = k.missing
 child_has P k (Some c) = k.instances c
 
 -- a variable, a definition or an actual of a lesser rank, an instance, a symbol or nothing
-abbrev pub Under : List Instance → (Formula → ℕ) → ℕ → Found → Type 0
-Under t rank r (body_at i x j e) = (rank (key i x) < r) × (local t i x ≡ formula j e)
+abbrev pub Under : List Instance → (Body → ℕ) → ℕ → Found → Type 0
+Under t rank r (body_at i x j e) = (rank (key i x) < r) × (local t i x ≡ body_of j e)
 Under t rank r cyclic = ⊥
 Under t rank r m = Unit {0}
 
-under_kept : (t : List Instance) (rank : Formula → ℕ) (r : ℕ) → Kept (Under t rank r)
+under_kept : (t : List Instance) (rank : Body → ℕ) (r : ℕ) → Kept (Under t rank r)
 under_kept t rank r = record { instances = λ i. tt; symbols = λ x. tt; missing = tt }
 
-pub under_more : (t : List Instance) (rank : Formula → ℕ) (r s : ℕ) → r ≤ s → (m : Found) → Under t rank r m → Under t rank s m
+pub under_more : (t : List Instance) (rank : Body → ℕ) (r s : ℕ) → r ≤ s → (m : Found) → Under t rank r m → Under t rank s m
 under_more t rank r s l (body_at i x j e) h = let less = h.0 in (omega arith, h.1)
 under_more t rank r s l cyclic h = h
 under_more t rank r s l (variable_at x kind d) h = tt
@@ -237,18 +237,18 @@ under_more t rank r s l (instance_at i) h = tt
 under_more t rank r s l (symbol_of x) h = tt
 under_more t rank r s l none h = tt
 
-landed_under : (t : List Instance) (rank : Formula → ℕ) (r i : ℕ) (x : List ℕ) → NameBelow t rank r i x
+landed_under : (t : List Instance) (rank : Body → ℕ) (r i : ℕ) (x : List ℕ) → NameBelow t rank r i x
     → ((j : ℕ) (path : Path) → local t i x ≡ alias j path → rank (key i x) < r → Under t rank r (found_in t j path)) → Under t rank r (landed t (last_look t) i x (local t i x))
 landed_under t rank r i x b h = by (local t i x) refl
   where
     by : (l : Local) → local t i x ≡ l → Under t rank r (landed t (last_look t) i x l)
-    by (alias j path) e = h j path e (b (ap is_formula e))
-    by (formula j c) e = (b (ap is_formula e), e)
+    by (alias j path) e = h j path e (b (ap has_body e))
+    by (body_of j c) e = (b (ap has_body e), e)
     by (variable_of kind d) e = tt
     by inner e = child_has (Under t rank r) (under_kept t rank r) (position (is_child i x) t)
     by nothing e = tt
 
-look_under : (t : List Instance) (rank : Formula → ℕ) → Descent t rank → (b r : ℕ) → r ≤ b → NamesHave t rank r (Under t rank r)
+look_under : (t : List Instance) (rank : Body → ℕ) → Descent t rank → (b r : ℕ) → r ≤ b → NamesHave t rank r (Under t rank r)
 look_under t rank k zero r l i x n =
     subst (Under t rank r) (sym (k.settles i x)) (landed_under t rank r i x n (λ j path e less. absurd (omega arith)))
 look_under t rank k (suc b) r l i x n =
@@ -256,21 +256,21 @@ look_under t rank k (suc b) r l i x n =
     (λ j path e less. under_more t rank (rank (key i x)) r (omega arith) (found_in t j path)
     (resolved_has t rank (rank (key i x)) (Under t rank (rank (key i x))) (under_kept t rank (rank (key i x))) (look_under t rank k b (rank (key i x)) (omega arith)) j path (alias_below t rank k.falls i x j path e))))
 
-pub found_under : (t : List Instance) (rank : Formula → ℕ) → Descent t rank → (r i : ℕ) (path : Path) → Below t rank r i path.names → Under t rank r (found_in t i path)
+pub found_under : (t : List Instance) (rank : Body → ℕ) → Descent t rank → (r i : ℕ) (path : Path) → Below t rank r i path.names → Under t rank r (found_in t i path)
 found_under t rank k r i path h = resolved_has t rank r (Under t rank r) (under_kept t rank r) (look_under t rank k r r (omega arith)) i path h
 
 -- all that is found
-pub all_under : (t : List Instance) (rank : Formula → ℕ) → Ranking t rank → (i : ℕ) (path : Path) → Under t rank (steps_of t) (found_in t i path)
+pub all_under : (t : List Instance) (rank : Body → ℕ) → Ranking t rank → (i : ℕ) (path : Path) → Under t rank (steps_of t) (found_in t i path)
 all_under t rank k i path = found_under t rank (descent t rank k) (steps_of t) i path (λ m h. k.few m)
 
 -- what the paths of a body lead to
-pub body_under : (t : List Instance) (rank : Formula → ℕ) → Descent t rank → (i : ℕ) (x : List ℕ) (j : ℕ) (e : Tree) → local t i x ≡ formula j e
+pub body_under : (t : List Instance) (rank : Body → ℕ) → Descent t rank → (i : ℕ) (x : List ℕ) (j : ℕ) (e : Tree) → local t i x ≡ body_of j e
     → (q : Path) → In q (paths_of e []) → Under t rank (rank (key i x)) (found_in t j q)
 body_under t rank k i x j e h q g = found_under t rank k (rank (key i x)) j q (body_below t rank k.falls i x j e h q g)
 
 -- ---- the laws
 
-under_ends : (t : List Instance) (rank : Formula → ℕ) (r : ℕ) (m : Found) → Under t rank r m → is_cyclic m ≡ false
+under_ends : (t : List Instance) (rank : Body → ℕ) (r : ℕ) (m : Found) → Under t rank r m → is_cyclic m ≡ false
 under_ends t rank r (body_at i x j e) h = refl
 under_ends t rank r cyclic h = absurd h
 under_ends t rank r (variable_at x kind d) h = refl
@@ -294,13 +294,13 @@ pub record Closing {X : Type 0} (found : ℕ → Path → Found) (step : (ℕ �
   pub bodies : (f h : ℕ → Path → X) (i : ℕ) (x : List ℕ) (j : ℕ) (e : Tree) → ((q : Path) → In q (paths_of e []) → f j q ≡ h j q) → step f (body_at i x j e) ≡ step h (body_at i x j e)
   pub others : (f h : ℕ → Path → X) (m : Found) → is_body m ≡ false → step f m ≡ step h m
 
-step_same : {X : Type 0} (t : List Instance) (rank : Formula → ℕ) → Ranking t rank → (step : (ℕ → Path → X) → Found → X) (g : ℕ → ℕ → Path → X) → Closing (found_in t) step g
+step_same : {X : Type 0} (t : List Instance) (rank : Body → ℕ) → Ranking t rank → (step : (ℕ → Path → X) → Found → X) (g : ℕ → ℕ → Path → X) → Closing (found_in t) step g
     → (n : ℕ) (f h : ℕ → Path → X) → ((i : ℕ) (path : Path) → Under t rank n (found_in t i path) → 0 < n → f i path ≡ h i path)
     → (m : Found) → Under t rank (suc n) m → step f m ≡ step h m
 step_same t rank k step g c n f h ih (body_at i x j e) u = c.bodies f h i x j e
     (λ q s.
     let less = u.0 in
-    let above = k.positive (key i x) (ap is_formula u.1) in
+    let above = k.positive (key i x) (ap has_body u.1) in
     ih j q (under_more t rank (rank (key i x)) n (omega arith) (found_in t j q) (body_under t rank (descent t rank k) i x j e u.1 q s)) (omega arith))
 step_same t rank k step g c n f h ih (variable_at x kind d) u = c.others f h (variable_at x kind d) refl
 step_same t rank k step g c n f h ih (instance_at i) u = c.others f h (instance_at i) refl
@@ -309,7 +309,7 @@ step_same t rank k step g c n f h ih cyclic u = c.others f h cyclic refl
 step_same t rank k step g c n f h ih none u = c.others f h none refl
 
 -- what meets the equations is what the steps come to
-pub one_meaning : {X : Type 0} (t : List Instance) (rank : Formula → ℕ) → Ranking t rank → (step : (ℕ → Path → X) → Found → X) (g : ℕ → ℕ → Path → X) → Closing (found_in t) step g
+pub one_meaning : {X : Type 0} (t : List Instance) (rank : Body → ℕ) → Ranking t rank → (step : (ℕ → Path → X) → Found → X) (g : ℕ → ℕ → Path → X) → Closing (found_in t) step g
     → (row : ℕ → Path → X) → ((i : ℕ) (path : Path) → row i path ≡ step row (found_in t i path))
     → (n i : ℕ) (path : Path) → Under t rank n (found_in t i path) → 0 < n → row i path ≡ g n i path
 one_meaning t rank k step g c row h zero i path u p = absurd (omega arith)
@@ -317,13 +317,13 @@ one_meaning t rank k step g c row h (suc n) i path u p =
     h i path ∙ step_same t rank k step g c n row (g n) (λ j q v w. one_meaning t rank k step g c row h n j q v w) (found_in t i path) u ∙ sym (c.goes n i path)
 
 -- one step more changes nothing
-pub steps_same : {X : Type 0} (t : List Instance) (rank : Formula → ℕ) → Ranking t rank → (step : (ℕ → Path → X) → Found → X) (g : ℕ → ℕ → Path → X) → Closing (found_in t) step g
+pub steps_same : {X : Type 0} (t : List Instance) (rank : Body → ℕ) → Ranking t rank → (step : (ℕ → Path → X) → Found → X) (g : ℕ → ℕ → Path → X) → Closing (found_in t) step g
     → (n i : ℕ) (path : Path) → Under t rank n (found_in t i path) → 0 < n → g n i path ≡ g (suc n) i path
 steps_same t rank k step g c zero i path u p = absurd (omega arith)
 steps_same t rank k step g c (suc n) i path u p =
     c.goes n i path ∙ step_same t rank k step g c n (g n) (g (suc n)) (λ j q v w. steps_same t rank k step g c n j q v w) (found_in t i path) u ∙ sym (c.goes (suc n) i path)
 
-pub meaning_settles : {X : Type 0} (t : List Instance) (rank : Formula → ℕ) → Ranking t rank → (step : (ℕ → Path → X) → Found → X) (g : ℕ → ℕ → Path → X) → Closing (found_in t) step g
+pub meaning_settles : {X : Type 0} (t : List Instance) (rank : Body → ℕ) → Ranking t rank → (step : (ℕ → Path → X) → Found → X) (g : ℕ → ℕ → Path → X) → Closing (found_in t) step g
     → (i : ℕ) (path : Path) → g (steps_of t) i path ≡ step (g (steps_of t)) (found_in t i path)
 meaning_settles t rank k step g c i path =
     steps_same t rank k step g c (steps_of t) i path (all_under t rank k i path) (omega arith) ∙ c.goes (steps_of t) i path

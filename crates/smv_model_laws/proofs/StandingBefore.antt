@@ -8,32 +8,32 @@ use Rattle.smv_text.specs.declared.tree.Path.{Path}
 use Rattle.smv_meaning.specs.Instances.{Instance}
 use Rattle.smv_meaning.specs.Expressions.{paths_of}
 use Rattle.smv_meaning.specs.Checks.{Named}
-use Rattle.smv_meaning.specs.Phases.{Formula, formula_same, refers}
-use Rattle.smv_meaning.specs.Formulas.{formulas_of, number_or, reference_graph}
+use Rattle.smv_meaning.specs.Phases.{Body, body_same, refers}
+use Rattle.smv_meaning.specs.Bodies.{bodies_of, number_or, reference_graph}
 use Rattle.smv_meaning.specs.Orders.{numbered, is_listed, OrderIsWhole, ReferencesStandBefore, SameOn, TypesHangOnPaths}
 use Rattle.smv_meaning.specs.laws.Booleans.{both_true}
 use Rattle.smv_model_laws.proofs.Cycles.{In, same_self, in_any, any_in}
 use Rattle.smv_model_laws.proofs.Ranked.{keys_of, in_keys, within_keys}
-use Rattle.smv_model_laws.proofs.OrderLaws.{nobody, place_within, place_is, formulas_are, number, number_to, graph_length, row_at}
+use Rattle.smv_model_laws.proofs.OrderLaws.{nobody, place_within, place_is, bodies_are, number, number_to, graph_length, row_at}
 use Rattle.smv_model_laws.proofs.Agreeing.{typing_same}
 use mathlib.Core.Logic.{inl, inr}
 
 -- ---- numbers and what they number
 
 numbered_is : (t : List Instance) (n : ℕ) → numbered t n ≡ slice_index_or (keys_of t) n nobody
-numbered_is t n = ap (λ ks. slice_index_or ks n nobody) (formulas_are t)
+numbered_is t n = ap (λ ks. slice_index_or ks n nobody) (bodies_are t)
 
-listed : (t : List Instance) (order : List ℕ) (k : Formula) → In k (keys_of t) → is_in order (number t k) ≡ true → is_listed (map (numbered t) order) k ≡ true
+listed : (t : List Instance) (order : List ℕ) (k : Body) → In k (keys_of t) → is_in order (number t k) ≡ true → is_listed (map (numbered t) order) k ≡ true
 listed t [] k h e = e
 listed t (n ∷ ns) k h e = by (λ l. listed t ns k h l) (n == number t k) refl e
   where
     by : (is_in ns (number t k) ≡ true → is_listed (map (numbered t) ns) k ≡ true) → (b : Bool) → (n == number t k) ≡ b → (b || is_in ns (number t k)) ≡ true → is_listed (map (numbered t) (n ∷ ns)) k ≡ true
     by ih true s g =
         let same : numbered t n ≡ k = numbered_is t n ∙ ap (λ m. slice_index_or (keys_of t) m nobody) (eqb-true n (number t k) s) ∙ place_is (keys_of t) k h in
-        in_any (formula_same k) (numbered t n) (map (numbered t) (n ∷ ns)) (inl refl) (ap (formula_same k) same ∙ same_self k)
+        in_any (body_same k) (numbered t n) (map (numbered t) (n ∷ ns)) (inl refl) (ap (body_same k) same ∙ same_self k)
     by ih false s g =
-        let more = any_in (formula_same k) (map (numbered t) ns) (ih g) in
-        in_any (formula_same k) more.0 (map (numbered t) (n ∷ ns)) (inr more.1) more.2
+        let more = any_in (body_same k) (map (numbered t) ns) (ih g) in
+        in_any (body_same k) more.0 (map (numbered t) (n ∷ ns)) (inr more.1) more.2
 
 pub order_is_whole_law : OrderIsWhole
 order_is_whole_law t order o k h =
@@ -48,11 +48,11 @@ stands g seen (m ∷ mid) after n h =
     subst (λ l. list_all (is_in l) (next_of g n) ≡ true) (append_assoc seen (m ∷ []) mid)
     (stands g (seen ++ m ∷ []) mid after n (both_true (list_all (is_in seen) (next_of g m)) (falls_from g (seen ++ m ∷ []) (mid ++ n ∷ after)) h).1)
 
-all_listed : (t : List Instance) (before : List ℕ) (rs : List Formula) → ((r : Formula) → In r rs → In r (keys_of t)) → list_all (is_in before) (map (number_or (formulas_of t)) rs) ≡ true
+all_listed : (t : List Instance) (before : List ℕ) (rs : List Body) → ((r : Body) → In r rs → In r (keys_of t)) → list_all (is_in before) (map (number_or (bodies_of t)) rs) ≡ true
     → list_all (is_listed (map (numbered t) before)) rs ≡ true
 all_listed t before [] w h = refl
 all_listed t before (r ∷ rs) w h =
-    let b = both_true (is_in before (number_or (formulas_of t) r)) (list_all (is_in before) (map (number_or (formulas_of t)) rs)) h in
+    let b = both_true (is_in before (number_or (bodies_of t) r)) (list_all (is_in before) (map (number_or (bodies_of t)) rs)) h in
     let there = w r (inl refl) in
     let first : is_listed (map (numbered t) before) r ≡ true = listed t before r there (ap (is_in before) (sym (number_to t r there)) ∙ b.0) in
     ap (λ c. c && list_all (is_listed (map (numbered t) before)) rs) first ∙ all_listed t before rs (λ q i. w q (inr i)) b.1

@@ -10,12 +10,12 @@ use Rattle.smv_text.specs.Tree.{Tree, PlainDomain, boolean, members, between, bi
 use Rattle.smv_meaning.specs.Types.{ExprType}
 use Rattle.smv_meaning.specs.Instances.{Instance}
 use Rattle.smv_meaning.specs.Expressions.{paths_of}
-use Rattle.smv_meaning.specs.Names.{Local, alias, formula, variable_of, inner, nothing, local, Found, variable_at, body_at, instance_at, symbol_of, cyclic, none, is_child, is_end, at_child, dotted_at, onward, walk, has_symbol, single, through, landed, look, found_in, steps_of}
+use Rattle.smv_meaning.specs.Names.{Local, alias, body_of, variable_of, inner, nothing, local, Found, variable_at, body_at, instance_at, symbol_of, cyclic, none, is_child, is_end, at_child, dotted_at, onward, walk, has_symbol, single, through, landed, look, found_in, steps_of}
 use Rattle.smv_meaning.specs.Checks.{Named, Typing, typing}
 use Rattle.smv_meaning.specs.Naming.{in_body, unnamed, named_found}
-use Rattle.smv_meaning.specs.Phases.{Formula, formula_same, formula_here, from_instance, path_formulas, referred, refers}
-use Rattle.smv_meaning.specs.Settled.{Acyclic, is_formula, types_in, NamesSettle, TypesSettle}
-use Rattle.smv_meaning.specs.Formulas.{instance_within, IsFormulaOrder}
+use Rattle.smv_meaning.specs.Phases.{Body, body_same, body_here, from_instance, path_bodies, referred, refers}
+use Rattle.smv_meaning.specs.Settled.{Acyclic, has_body, types_in, NamesSettle, TypesSettle}
+use Rattle.smv_meaning.specs.Bodies.{instance_within, IsBodyOrder}
 use Rattle.smv_meaning.specs.Orders.{numbered, is_listed, SameOn, TypesHangOnPaths, OrderIsWhole}
 use Rattle.smv_model_types.specs.Entries.{Entries, nameless, named_instance, or_unnamed, variable_or, entry_or, alias_or, entries_step, entries_walk, entries_single, entries_through, entries_names, HasEach, put_for, variable_put, or_else, Becomes, IsPut, Right, Has}
 
@@ -32,7 +32,7 @@ two_true : (a b : Bool) → a ≡ true → b ≡ true → (a && b) ≡ true
 two_true true b h k = k
 two_true false b h k = absurd_bool h
 
-same_is : (k m : Formula) → formula_same k m ≡ true → k ≡ m
+same_is : (k m : Body) → body_same k m ≡ true → k ≡ m
 same_is k m h =
     let b = both_true (k.0 == m.0) (bytes_eq k.1 m.1) h in
     let first : (k.0, k.1) ≡ (m.0, k.1) = ap (λ (i : ℕ). (i, k.1)) (eqb-true k.0 m.0 b.0) in
@@ -61,14 +61,14 @@ variable_there t i x kind (between low high) m o e r = sym (ap (meaning t) e)
 variable_there t i x kind (bits n) m o e r = sym (ap (meaning t) e)
 variable_there t i x kind (instance y es) m o e r = sym (ap (meaning t) e)
 
-formula_there : (t : List Instance) (m : Found) (o : Option Named) → is_some o ≡ true → ((n : Named) → o ≡ Some n → n ≡ meaning t m) → or_unnamed o ≡ meaning t m
-formula_there t m (Some n) h r = r n refl
-formula_there t m None h r = absurd_bool h
+body_there : (t : List Instance) (m : Found) (o : Option Named) → is_some o ≡ true → ((n : Named) → o ≡ Some n → n ≡ meaning t m) → or_unnamed o ≡ meaning t m
+body_there t m (Some n) h r = r n refl
+body_there t m None h r = absurd_bool h
 
-entry_at : (t : List Instance) (i : ℕ) (x : List ℕ) (l : Local) (m : Found) (o : Option Named) → m ≡ landed t (looked t) i x l → instance_within m ≡ None → (is_formula l ≡ true → is_some o ≡ true)
+entry_at : (t : List Instance) (i : ℕ) (x : List ℕ) (l : Local) (m : Found) (o : Option Named) → m ≡ landed t (looked t) i x l → instance_within m ≡ None → (has_body l ≡ true → is_some o ≡ true)
     → ((n : Named) → o ≡ Some n → n ≡ meaning t m) → entry_or l o ≡ meaning t m
-entry_at t i x (alias j path) m o e w f r = formula_there t m o (f refl) r
-entry_at t i x (formula j b) m o e w f r = formula_there t m o (f refl) r
+entry_at t i x (alias j path) m o e w f r = body_there t m o (f refl) r
+entry_at t i x (body_of j b) m o e w f r = body_there t m o (f refl) r
 entry_at t i x (variable_of kind d) m o e w f r = variable_there t i x kind d m o e r
 entry_at t i x inner m o e w f r = by (position (is_child i x) t) e
   where
@@ -85,21 +85,21 @@ ends_cyclic : (b : Bool) (n : Named) → n ≡ unnamed → (if b then n else unn
 ends_cyclic true n e = e
 ends_cyclic false n e = refl
 
-here_listed : (ks : List Formula) (i : ℕ) (x : List ℕ) (l : Local) → list_all (is_listed ks) (formula_here i x l) ≡ true → is_formula l ≡ true → is_listed ks (i, x) ≡ true
+here_listed : (ks : List Body) (i : ℕ) (x : List ℕ) (l : Local) → list_all (is_listed ks) (body_here i x l) ≡ true → has_body l ≡ true → is_listed ks (i, x) ≡ true
 here_listed ks i x (alias j path) h f = (both_true (is_listed ks (i, x)) true h).0
-here_listed ks i x (formula j e) h f = (both_true (is_listed ks (i, x)) true h).0
+here_listed ks i x (body_of j e) h f = (both_true (is_listed ks (i, x)) true h).0
 here_listed ks i x (variable_of kind d) h f = absurd_bool f
 here_listed ks i x inner h f = absurd_bool f
 here_listed ks i x nothing h f = absurd_bool f
 
 -- entries that are right and have those of a list
-pub record Holds (t : List Instance) (entries : Entries) (ks : List Formula) : Type 0 where
+pub record Holds (t : List Instance) (entries : Entries) (ks : List Body) : Type 0 where
   pub right : Right t entries
   pub has : Has t entries ks
 
-step_right : (t : List Instance) (entries : Entries) (at_end : Bool) (n : Named) (m : Found) (rest : List (List ℕ)) (ks : List Formula) → (instance_within m ≡ None → n ≡ meaning t m)
-    → ((c : ℕ) → list_all (is_listed ks) (path_formulas t (looked t) c rest) ≡ true → entries_walk t entries c rest ≡ meaning t (walk (looked t) c rest))
-    → list_all (is_listed ks) (from_instance m (λ c. path_formulas t (looked t) c rest)) ≡ true
+step_right : (t : List Instance) (entries : Entries) (at_end : Bool) (n : Named) (m : Found) (rest : List (List ℕ)) (ks : List Body) → (instance_within m ≡ None → n ≡ meaning t m)
+    → ((c : ℕ) → list_all (is_listed ks) (path_bodies t (looked t) c rest) ≡ true → entries_walk t entries c rest ≡ meaning t (walk (looked t) c rest))
+    → list_all (is_listed ks) (from_instance m (λ c. path_bodies t (looked t) c rest)) ≡ true
     → entries_step (instance_within m) at_end n (λ c. entries_walk t entries c rest) ≡ meaning t (onward m at_end (λ c. walk (looked t) c rest))
 step_right t entries at_end n (instance_at c) rest ks e ih h = ih c h
 step_right t entries at_end n (variable_at x kind d) rest ks e ih h = ends_as t at_end n (variable_at x kind d) (e refl)
@@ -108,13 +108,13 @@ step_right t entries at_end n (symbol_of x) rest ks e ih h = ends_as t at_end n 
 step_right t entries at_end n cyclic rest ks e ih h = ends_cyclic at_end n (e refl)
 step_right t entries at_end n none rest ks e ih h = ends_as t at_end n none (e refl)
 
-pub walk_right : (t : List Instance) (entries : Entries) (ks : List Formula) → Settled t → Holds t entries ks → (names : List (List ℕ)) (i : ℕ) → list_all (is_listed ks) (path_formulas t (looked t) i names) ≡ true
+pub walk_right : (t : List Instance) (entries : Entries) (ks : List Body) → Settled t → Holds t entries ks → (names : List (List ℕ)) (i : ℕ) → list_all (is_listed ks) (path_bodies t (looked t) i names) ≡ true
     → entries_walk t entries i names ≡ meaning t (walk (looked t) i names)
 walk_right t entries ks s r [] i h = refl
 walk_right t entries ks s r (x ∷ rest) i h =
     let m = looked t i x in
-    let more : List Formula = from_instance m (λ c. path_formulas t (looked t) c rest) in
-    let b = both_true (list_all (is_listed ks) (formula_here i x (local t i x))) (list_all (is_listed ks) more) (sym (list_all-append (is_listed ks) (formula_here i x (local t i x)) more) ∙ h) in
+    let more : List Body = from_instance m (λ c. path_bodies t (looked t) c rest) in
+    let b = both_true (list_all (is_listed ks) (body_here i x (local t i x))) (list_all (is_listed ks) more) (sym (list_all-append (is_listed ks) (body_here i x (local t i x)) more) ∙ h) in
     step_right t entries (is_end rest) (entry_or (local t i x) (entries i x)) m rest ks
     (λ w. entry_at t i x (local t i x) m (entries i x) (s i x) w (λ f. r.has (i, x) (here_listed ks i x (local t i x) b.0 f) f) (r.right i x))
     (λ c k. walk_right t entries ks s r rest c k) b.1
@@ -148,7 +148,7 @@ alias_right t entries r i x j path h e = by (entries i x) refl
 single_right : (t : List Instance) (entries : Entries) → Right t entries → (i : ℕ) (x : List ℕ) (l : Local) → l ≡ local t i x → entries_walk t entries i (x ∷ []) ≡ meaning t (walk (looked t) i (x ∷ []))
     → entries_single t entries i x l ≡ meaning t (single t (looked t) i x l)
 single_right t entries r i x (alias j path) h e = alias_right t entries r i x j path h e
-single_right t entries r i x (formula j b) h e = e
+single_right t entries r i x (body_of j b) h e = e
 single_right t entries r i x (variable_of kind d) h e = e
 single_right t entries r i x inner h e = e
 single_right t entries r i x nothing h e = symbol_right t (has_symbol t x) x
@@ -163,7 +163,7 @@ either_right : (t : List Instance) (b : Bool) (n m : Named) (f g : Found) → n 
 either_right t true n m f g p q = p
 either_right t false n m f g p q = q
 
-names_right : (t : List Instance) (entries : Entries) (ks : List Formula) → Settled t → Holds t entries ks → (i : ℕ) (path : Path) → list_all (is_listed ks) (path_formulas t (looked t) i path.names) ≡ true
+names_right : (t : List Instance) (entries : Entries) (ks : List Body) → Settled t → Holds t entries ks → (i : ℕ) (path : Path) → list_all (is_listed ks) (path_bodies t (looked t) i path.names) ≡ true
     → entries_names t entries i path ≡ meaning t (found_in t i path)
 names_right t entries ks s r i path h =
     let e = walk_right t entries ks s r path.names i h in
@@ -172,12 +172,12 @@ names_right t entries ks s r i path h =
 
 -- ---- bodies
 
-paths_right : (t : List Instance) (entries : Entries) (ks : List Formula) → Settled t → ((i : ℕ) (path : Path) → types_in true t i path ≡ meaning t (found_in t i path)) → Holds t entries ks
-    → (j : ℕ) (qs : List Path) → list_all (is_listed ks) (flat_map (λ q. path_formulas t (looked t) j q.names) qs) ≡ true → SameOn (entries_names t entries j) (types_in true t j) qs
+paths_right : (t : List Instance) (entries : Entries) (ks : List Body) → Settled t → ((i : ℕ) (path : Path) → types_in true t i path ≡ meaning t (found_in t i path)) → Holds t entries ks
+    → (j : ℕ) (qs : List Path) → list_all (is_listed ks) (flat_map (λ q. path_bodies t (looked t) j q.names) qs) ≡ true → SameOn (entries_names t entries j) (types_in true t j) qs
 paths_right t entries ks s types r j [] h = tt
 paths_right t entries ks s types r j (q ∷ qs) h =
-    let more = flat_map (λ p. path_formulas t (looked t) j p.names) qs in
-    let b = both_true (list_all (is_listed ks) (path_formulas t (looked t) j q.names)) (list_all (is_listed ks) more) (sym (list_all-append (is_listed ks) (path_formulas t (looked t) j q.names) more) ∙ h) in
+    let more = flat_map (λ p. path_bodies t (looked t) j p.names) qs in
+    let b = both_true (list_all (is_listed ks) (path_bodies t (looked t) j q.names)) (list_all (is_listed ks) more) (sym (list_all-append (is_listed ks) (path_bodies t (looked t) j q.names) more) ∙ h) in
     (names_right t entries ks s r j q b.0 ∙ sym (types j q), paths_right t entries ks s types r j qs b.1)
 
 any_same : (f g : Path → Named) (qs : List Path) → SameOn f g qs → list_any (λ q. (f q).reaches_input) qs ≡ list_any (λ q. (g q).reaches_input) qs
@@ -203,41 +203,41 @@ record Laws (t : List Instance) : Type 0 where
 laws : (t : List Instance) → Acyclic t → NamesSettle → TypesSettle → TypesHangOnPaths → Laws t
 laws t a n y h = record { settled = (n t a).1; types = y t a true; hang = h }
 
-put_right : (t : List Instance) (entries : Entries) (ks : List Formula) → Laws t → Holds t entries ks → (i : ℕ) (x : List ℕ) (l : Local) → list_all (is_listed ks) (referred t (looked t) l) ≡ true
+put_right : (t : List Instance) (entries : Entries) (ks : List Body) → Laws t → Holds t entries ks → (i : ℕ) (x : List ℕ) (l : Local) → list_all (is_listed ks) (referred t (looked t) l) ≡ true
     → (n : Named) → put_for t entries l ≡ Some n → n ≡ meaning t (landed t (looked t) i x l)
 put_right t entries ks w r i x (alias j path) h n e = let f : entries_names t entries j path ≡ n = cc in sym f ∙ names_right t entries ks w.settled r j path h
-put_right t entries ks w r i x (formula j b) h n e =
+put_right t entries ks w r i x (body_of j b) h n e =
     let f : named_found true (entries_names t entries) (body_at 0 [] j b) ≡ n = cc in
     sym f ∙ bodies_same w.hang t entries i x j b (paths_right t entries ks w.settled w.types r j (paths_of b []) h)
 put_right t entries ks w r i x (variable_of kind d) h n e = cc
 put_right t entries ks w r i x inner h n e = cc
 put_right t entries ks w r i x nothing h n e = cc
 
-put_there : (t : List Instance) (entries : Entries) (l : Local) → is_formula l ≡ true → is_some (put_for t entries l) ≡ true
+put_there : (t : List Instance) (entries : Entries) (l : Local) → has_body l ≡ true → is_some (put_for t entries l) ≡ true
 put_there t entries (alias j path) f = refl
-put_there t entries (formula j e) f = refl
+put_there t entries (body_of j e) f = refl
 put_there t entries (variable_of kind d) f = absurd_bool f
 put_there t entries inner f = absurd_bool f
 put_there t entries nothing f = absurd_bool f
 
 pub variable_right : (t : List Instance) (i : ℕ) (x : List ℕ) (l : Local) (n : Named) → variable_put l ≡ Some n → n ≡ meaning t (landed t (looked t) i x l)
 variable_right t i x (alias j path) n e = cc
-variable_right t i x (formula j b) n e = cc
+variable_right t i x (body_of j b) n e = cc
 variable_right t i x (variable_of kind d) n e = let f : named_found true nameless (variable_at [] kind d) ≡ n = cc in sym f
 variable_right t i x inner n e = cc
 variable_right t i x nothing n e = cc
 
 -- ---- the entries with what is put into them
 
-became_right : (m : Found → Named) (k : Formula) (o old : Option Named) (b : Bool) (n : Named) (f g : Found) → (b ≡ true → f ≡ g) → ((p : Named) → o ≡ Some p → p ≡ m f) → ((p : Named) → old ≡ Some p → p ≡ m g)
+became_right : (m : Found → Named) (k : Body) (o old : Option Named) (b : Bool) (n : Named) (f g : Found) → (b ≡ true → f ≡ g) → ((p : Named) → o ≡ Some p → p ≡ m f) → ((p : Named) → old ≡ Some p → p ≡ m g)
     → (if b then or_else o old else old) ≡ Some n → n ≡ m g
 became_right m k (Some p) old true n f g s put was e = let q : p ≡ n = cc in sym q ∙ put p refl ∙ ap m (s refl)
 became_right m k None old true n f g s put was e = was n e
 became_right m k o old false n f g s put was e = was n e
 
-pub right_becomes : (t : List Instance) (old new : Entries) (k : Formula) (o : Option Named) → Becomes old k o new → Right t old → ((n : Named) → o ≡ Some n → n ≡ meaning t (looked t k.0 k.1)) → Right t new
+pub right_becomes : (t : List Instance) (old new : Entries) (k : Body) (o : Option Named) → Becomes old k o new → Right t old → ((n : Named) → o ≡ Some n → n ≡ meaning t (looked t k.0 k.1)) → Right t new
 right_becomes t old new k o b r put i x n e =
-    became_right (meaning t) k o (old i x) (formula_same k (i, x)) n (looked t k.0 k.1) (looked t i x) (λ s. ap (λ (q : Formula). looked t q.0 q.1) (same_is k (i, x) s)) put (r i x) (sym (b i x) ∙ e)
+    became_right (meaning t) k o (old i x) (body_same k (i, x)) n (looked t k.0 k.1) (looked t i x) (λ s. ap (λ (q : Body). looked t q.0 q.1) (same_is k (i, x) s)) put (r i x) (sym (b i x) ∙ e)
 
 some_stays : (b : Bool) (o old : Option Named) → is_some old ≡ true → is_some (if b then or_else o old else old) ≡ true
 some_stays true (Some n) old h = refl
@@ -249,23 +249,23 @@ some_put true (Some n) old s h = refl
 some_put true None old s h = absurd_bool h
 some_put false o old s h = absurd_bool s
 
-same_self : (k m : Formula) → m ≡ k → formula_same k m ≡ true
+same_self : (k m : Body) → m ≡ k → body_same k m ≡ true
 same_self k m e =
-    two_true (k.0 == m.0) (bytes_eq k.1 m.1) (eq-eqb k.0 m.0 (ap (λ (q : Formula). q.0) (sym e))) ((bytes_eq-Decides k.1 m.1).1 (ap (λ (q : Formula). q.1) (sym e)))
+    two_true (k.0 == m.0) (bytes_eq k.1 m.1) (eq-eqb k.0 m.0 (ap (λ (q : Body). q.0) (sym e))) ((bytes_eq-Decides k.1 m.1).1 (ap (λ (q : Body). q.1) (sym e)))
 
 last_true : (a : Bool) → (a || false) ≡ true → a ≡ true
 last_true true h = refl
 last_true false h = h
 
-has_becomes : (t : List Instance) (old new : Entries) (k : Formula) (ks : List Formula) (o : Option Named) → Becomes old k o new → Has t old ks → (is_formula (local t k.0 k.1) ≡ true → is_some o ≡ true) → Has t new (ks ++ k ∷ [])
+has_becomes : (t : List Instance) (old new : Entries) (k : Body) (ks : List Body) (o : Option Named) → Becomes old k o new → Has t old ks → (has_body (local t k.0 k.1) ≡ true → is_some o ≡ true) → Has t new (ks ++ k ∷ [])
 has_becomes t old new k ks o b h put m l f = by (is_listed ks m) refl
   where
     by : (c : Bool) → is_listed ks m ≡ c → is_some (new m.0 m.1) ≡ true
-    by true s = ap is_some (b m.0 m.1) ∙ some_stays (formula_same k m) o (old m.0 m.1) (h m s f)
+    by true s = ap is_some (b m.0 m.1) ∙ some_stays (body_same k m) o (old m.0 m.1) (h m s f)
     by false s =
-        let g : (is_listed ks m || (formula_same m k || false)) ≡ true = sym (list_any-append (formula_same m) ks (k ∷ [])) ∙ l in
-        let e : m ≡ k = same_is m k (last_true (formula_same m k) (sym (ap (λ c. c || (formula_same m k || false)) s) ∙ g)) in
-        ap is_some (b m.0 m.1) ∙ some_put (formula_same k m) o (old m.0 m.1) (same_self k m e) (put (ap (λ (q : Formula). is_formula (local t q.0 q.1)) (sym e) ∙ f))
+        let g : (is_listed ks m || (body_same m k || false)) ≡ true = sym (list_any-append (body_same m) ks (k ∷ [])) ∙ l in
+        let e : m ≡ k = same_is m k (last_true (body_same m k) (sym (ap (λ c. c || (body_same m k || false)) s) ∙ g)) in
+        ap is_some (b m.0 m.1) ∙ some_put (body_same k m) o (old m.0 m.1) (same_self k m e) (put (ap (λ (q : Body). has_body (local t q.0 q.1)) (sym e) ∙ f))
 
 -- ---- their beginning, steps and end
 
@@ -275,7 +275,7 @@ none_right t entries h i x n e = let no : None ≡ Some n = sym (h i x) ∙ e in
 pub none_held : (t : List Instance) (entries : Entries) → Right t entries → Holds t entries []
 none_held t entries r = record { right = r; has = λ k h f. absurd_bool h }
 
-pub one_more : (t : List Instance) (old new : Entries) (k : Formula) (ks : List Formula) → Acyclic t → NamesSettle → TypesSettle → TypesHangOnPaths → list_all (is_listed ks) (refers t k) ≡ true
+pub one_more : (t : List Instance) (old new : Entries) (k : Body) (ks : List Body) → Acyclic t → NamesSettle → TypesSettle → TypesHangOnPaths → list_all (is_listed ks) (refers t k) ≡ true
     → IsPut t k old new → Holds t old ks → Holds t new (ks ++ k ∷ [])
 one_more t old new k ks a n y h before b r =
     let w = laws t a n y h in
@@ -288,22 +288,22 @@ pub variable_more : (t : List Instance) (old new : Entries) (i : ℕ) (x : List 
 variable_more t old new i x a n b r =
     right_becomes t old new (i, x) (variable_put (local t i x)) b r (λ m e. variable_right t i x (local t i x) m e ∙ sym (ap (meaning t) ((n t a).1 i x)))
 
-path_formulas_listed : (t : List Instance) (ks : List Formula) → ((k : Formula) → is_formula (local t k.0 k.1) ≡ true → is_listed ks k ≡ true) → (names : List (List ℕ)) (i : ℕ) → list_all (is_listed ks) (path_formulas t (looked t) i names) ≡ true
-path_formulas_listed t ks whole [] i = refl
-path_formulas_listed t ks whole (x ∷ rest) i =
-    let more : List Formula = from_instance (looked t i x) (λ c. path_formulas t (looked t) c rest) in
-    list_all-append (is_listed ks) (formula_here i x (local t i x)) more
-    ∙ two_true (list_all (is_listed ks) (formula_here i x (local t i x))) (list_all (is_listed ks) more) (here (local t i x) (λ f. whole (i, x) f))
-    (inside (looked t i x) (λ c. path_formulas_listed t ks whole rest c))
+path_bodies_listed : (t : List Instance) (ks : List Body) → ((k : Body) → has_body (local t k.0 k.1) ≡ true → is_listed ks k ≡ true) → (names : List (List ℕ)) (i : ℕ) → list_all (is_listed ks) (path_bodies t (looked t) i names) ≡ true
+path_bodies_listed t ks whole [] i = refl
+path_bodies_listed t ks whole (x ∷ rest) i =
+    let more : List Body = from_instance (looked t i x) (λ c. path_bodies t (looked t) c rest) in
+    list_all-append (is_listed ks) (body_here i x (local t i x)) more
+    ∙ two_true (list_all (is_listed ks) (body_here i x (local t i x))) (list_all (is_listed ks) more) (here (local t i x) (λ f. whole (i, x) f))
+    (inside (looked t i x) (λ c. path_bodies_listed t ks whole rest c))
   where
-    here : (l : Local) → (is_formula l ≡ true → is_listed ks (i, x) ≡ true) → list_all (is_listed ks) (formula_here i x l) ≡ true
+    here : (l : Local) → (has_body l ≡ true → is_listed ks (i, x) ≡ true) → list_all (is_listed ks) (body_here i x l) ≡ true
     here (alias j path) f = two_true (is_listed ks (i, x)) true (f refl) refl
-    here (formula j e) f = two_true (is_listed ks (i, x)) true (f refl) refl
+    here (body_of j e) f = two_true (is_listed ks (i, x)) true (f refl) refl
     here (variable_of kind d) f = refl
     here inner f = refl
     here nothing f = refl
 
-    inside : (m : Found) → ((c : ℕ) → list_all (is_listed ks) (path_formulas t (looked t) c rest) ≡ true) → list_all (is_listed ks) (from_instance m (λ c. path_formulas t (looked t) c rest)) ≡ true
+    inside : (m : Found) → ((c : ℕ) → list_all (is_listed ks) (path_bodies t (looked t) c rest) ≡ true) → list_all (is_listed ks) (from_instance m (λ c. path_bodies t (looked t) c rest)) ≡ true
     inside (instance_at c) f = f c
     inside (variable_at y kind d) f = refl
     inside (body_at j y c e) f = refl
@@ -311,6 +311,6 @@ path_formulas_listed t ks whole (x ∷ rest) i =
     inside cyclic f = refl
     inside none f = refl
 
-pub all_held : (t : List Instance) (entries : Entries) (order : List ℕ) → IsFormulaOrder t order → NamesSettle → TypesSettle → OrderIsWhole → Holds t entries (map (numbered t) order) → HasEach t entries
+pub all_held : (t : List Instance) (entries : Entries) (order : List ℕ) → IsBodyOrder t order → NamesSettle → TypesSettle → OrderIsWhole → Holds t entries (map (numbered t) order) → HasEach t entries
 all_held t entries order o n y whole r i path =
-    names_right t entries (map (numbered t) order) (n t o.acyclic).1 r i path (path_formulas_listed t (map (numbered t) order) (whole t order o) path.names i) ∙ sym (y t o.acyclic true i path)
+    names_right t entries (map (numbered t) order) (n t o.acyclic).1 r i path (path_bodies_listed t (map (numbered t) order) (whole t order o) path.names i) ∙ sym (y t o.acyclic true i path)

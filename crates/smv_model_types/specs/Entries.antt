@@ -5,12 +5,12 @@ use Rattle.smv_text.specs.declared.tree.VarKind.{VarKind}
 use Rattle.smv_text.specs.Tree.{PlainDomain, members}
 use Rattle.smv_meaning.specs.Instances.{Instance}
 use Rattle.smv_meaning.specs.Types.{symbol_type}
-use Rattle.smv_meaning.specs.Names.{Local, alias, formula, variable_of, nothing, local, variable_at, body_at, is_end, look, steps_of, symbol_or_none}
+use Rattle.smv_meaning.specs.Names.{Local, alias, body_of, variable_of, nothing, local, variable_at, body_at, is_end, look, steps_of, symbol_or_none}
 use Rattle.smv_meaning.specs.Checks.{Named}
 use Rattle.smv_meaning.specs.Naming.{unnamed, named_found}
-use Rattle.smv_meaning.specs.Phases.{Formula, formula_same}
-use Rattle.smv_meaning.specs.Settled.{is_formula, types_in}
-use Rattle.smv_meaning.specs.Formulas.{instance_within}
+use Rattle.smv_meaning.specs.Phases.{Body, body_same}
+use Rattle.smv_meaning.specs.Settled.{has_body, types_in}
+use Rattle.smv_meaning.specs.Bodies.{instance_within}
 use Rattle.smv_instances.specs.declared.instance_rows.InstanceRows.{InstanceRows}
 use Rattle.smv_instances.specs.Rows.{row_in}
 use Rattle.smv_meaning.specs.Orders.{is_listed}
@@ -45,7 +45,7 @@ variable_or kind d o = named_found true nameless (variable_at [] kind d)
 -- what a name is that leads to no instance
 abbrev pub entry_or : Local → Option Named → Named
 entry_or (alias j path) o = or_unnamed o
-entry_or (formula j e) o = or_unnamed o
+entry_or (body_of j e) o = or_unnamed o
 entry_or (variable_of kind d) o = variable_or kind d o
 entry_or l o = unnamed
 
@@ -86,7 +86,7 @@ HasEach t entries = (i : ℕ) (path : Path) → entries_names t entries i path �
 -- what is put into the entries for a name
 abbrev pub put_for : List Instance → Entries → Local → Option Named
 put_for t entries (alias j path) = Some (entries_names t entries j path)
-put_for t entries (formula j e) = Some (named_found true (entries_names t entries) (body_at 0 [] j e))
+put_for t entries (body_of j e) = Some (named_found true (entries_names t entries) (body_at 0 [] j e))
 put_for t entries l = None
 
 abbrev pub variable_put : Local → Option Named
@@ -98,11 +98,11 @@ or_else (Some n) other = Some n
 or_else None other = other
 
 -- the entries with what is put into them under a name
-abbrev pub Becomes : Entries → Formula → Option Named → Entries → Type 0
-Becomes old k o new = (j : ℕ) (y : List ℕ) → new j y ≡ (if formula_same k (j, y) then or_else o (old j y) else old j y)
+abbrev pub Becomes : Entries → Body → Option Named → Entries → Type 0
+Becomes old k o new = (j : ℕ) (y : List ℕ) → new j y ≡ (if body_same k (j, y) then or_else o (old j y) else old j y)
 
 -- the entries with what a definition or an actual is, where the name is one
-abbrev pub IsPut : List Instance → Formula → (old new : Entries) → Type 0
+abbrev pub IsPut : List Instance → Body → (old new : Entries) → Type 0
 IsPut t k old new = Becomes old k (put_for t old (local t k.0 k.1)) new
 
 -- what the entries have is right
@@ -110,5 +110,5 @@ abbrev pub Right : List Instance → Entries → Type 0
 Right t entries = (i : ℕ) (x : List ℕ) (n : Named) → entries i x ≡ Some n → n ≡ named_found true (types_in true t) (look t (steps_of t) i x)
 
 -- the entries have those of the list that are definitions and actuals
-abbrev pub Has : List Instance → Entries → List Formula → Type 0
-Has t entries ks = (k : Formula) → is_listed ks k ≡ true → is_formula (local t k.0 k.1) ≡ true → is_some (entries k.0 k.1) ≡ true
+abbrev pub Has : List Instance → Entries → List Body → Type 0
+Has t entries ks = (k : Body) → is_listed ks k ≡ true → has_body (local t k.0 k.1) ≡ true → is_some (entries k.0 k.1) ≡ true

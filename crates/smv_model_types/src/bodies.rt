@@ -5,9 +5,9 @@ ghost use Rattle.smv_text.specs.View.{plain};
 ghost use Rattle.smv_meaning.specs.Names.{body_at};
 ghost use Rattle.smv_meaning.specs.Checks.{typing};
 ghost use Rattle.smv_meaning.specs.Naming.{in_body, named_found};
-ghost use Rattle.smv_meaning.specs.Formulas.{placed_formulas, IsFormulaOrder};
+ghost use Rattle.smv_meaning.specs.Bodies.{placed_bodies, IsBodyOrder};
 ghost use Rattle.smv_instances.specs.View.{instance_plain};
-ghost use Rattle.smv_references.specs.View.{formula_plain, path_seen, key_of};
+ghost use Rattle.smv_references.specs.View.{body_plain, path_seen, key_of};
 ghost use Rattle.smv_intervals.specs.View.{seen};
 ghost use Rattle.smv_types.specs.View.{named_seen};
 ghost use Rattle.smv_model_types.specs.Entries.{entries_seen, entries_names, IsPut, HasEach};
@@ -20,7 +20,7 @@ use smv_model_laws::{
     names_settle, order_is_whole, references_stand_before, refused_have_no_type,
     types_hang_on_paths, types_settle,
 };
-use smv_references::{Formula, paths_in};
+use smv_references::{Body, paths_in};
 use smv_text::{Expr, Path};
 use smv_types::{CheckEnd, Named, Position, type_of};
 use std::alloc::Global;
@@ -82,22 +82,22 @@ fn body_named<'a>(
 }
 
 // Gives the entries what a definition or an actual is.
-fn put_formula<'a>(
+fn put_body<'a>(
     alloc: Global,
     table: &Table<'a>,
     entries: &mut Entries<'a>,
-    formula: &Formula<'a>,
+    body: &Body<'a>,
 ) -> Result<(), NoMemory>
-    ensures { OnOk result (IsPut (map instance_plain table.now) (key_of formula.now) (entries_seen entries.old) (entries_seen entries.new)) }
+    ensures { OnOk result (IsPut (map instance_plain table.now) (key_of body.now) (entries_seen entries.old) (entries_seen entries.new)) }
 {
-    match table.local(formula.instance, formula.name) {
+    match table.local(body.instance, body.name) {
         Known::Alias(j, path) => {
             let named = path_named(table, entries, j, path);
-            add_row_in(entries, formula.instance, formula.name, named)
+            add_row_in(entries, body.instance, body.name, named)
         }
-        Known::Formula(j, e) => {
+        Known::Body(j, e) => {
             let named = body_named(alloc, table, entries, j, e)?;
-            add_row_in(entries, formula.instance, formula.name, named)
+            add_row_in(entries, body.instance, body.name, named)
         }
         Known::Variable(_, _) => Ok(()),
         Known::Instance => Ok(()),
@@ -105,22 +105,22 @@ fn put_formula<'a>(
     }
 }
 
-fn formula_at<'f, 'a>(formulas: &'f [Formula<'a>], n: usize) -> &'f Formula<'a>
-    requires { n < length formulas.now }
-    ensures { result.now ≡ slice_index_or formulas.now n result.now }
+fn numbered_body<'f, 'a>(bodies: &'f [Body<'a>], n: usize) -> &'f Body<'a>
+    requires { n < length bodies.now }
+    ensures { result.now ≡ slice_index_or bodies.now n result.now }
 {
-    &formulas[n]
+    &bodies[n]
 }
 
 /// What each variable, definition and actual of the model is.
 pub(crate) fn entries_of<'a>(
     alloc: Global,
     table: &Table<'a>,
-    formulas: &[Formula<'a>],
+    bodies: &[Body<'a>],
     order: &List<usize>,
 ) -> Result<Entries<'a>, NoMemory>
-    requires formulas { map formula_plain formulas.now ≡ placed_formulas (map instance_plain table.now) }
-    requires order { IsFormulaOrder (map instance_plain table.now) order.now }
+    requires bodies { map body_plain bodies.now ≡ placed_bodies (map instance_plain table.now) }
+    requires order { IsBodyOrder (map instance_plain table.now) order.now }
     ensures { IfOk result (λ entries. HasEach (map instance_plain table.now) (entries_seen entries)) }
 {
     names_settle();
@@ -130,8 +130,8 @@ pub(crate) fn entries_of<'a>(
     order_is_whole();
     let mut entries = variables_of(alloc, table)?;
     for k in 0..order.len() {
-        let formula = formula_at(formulas, *order.at(k));
-        put_formula(alloc, table, &mut entries, formula)?;
+        let body = numbered_body(bodies, *order.at(k));
+        put_body(alloc, table, &mut entries, body)?;
     }
     Ok(entries)
 }

@@ -1,7 +1,7 @@
 // What paths are to the types, as far as the entries have what they go through.
 ghost use Rattle.std.specs.Prelude.{◌≡◌, ◌∷◌, [], true, map};
 ghost use Rattle.smv_text.specs.View.{plain_domain};
-ghost use Rattle.smv_meaning.specs.Formulas.{instance_within};
+ghost use Rattle.smv_meaning.specs.Bodies.{instance_within};
 ghost use Rattle.smv_meaning.specs.Names.{local, look, steps_of};
 ghost use Rattle.smv_meaning.specs.Naming.{unnamed};
 ghost use Rattle.smv_instances.specs.View.{instance_plain, local_plain};
@@ -80,7 +80,7 @@ fn entry<'a>(entries: &Entries<'a>, i: usize, x: &[u8], known: Known<'a>) -> Nam
 {
     match known {
         Known::Alias(_, _) => entered(entries, i, x),
-        Known::Formula(_, _) => entered(entries, i, x),
+        Known::Body(_, _) => entered(entries, i, x),
         Known::Variable(kind, domain) => variable(entries, i, x, kind, domain),
         Known::Instance => unnamed(),
         Known::Nothing => unnamed(),
@@ -137,7 +137,7 @@ fn single<'a>(
 {
     match known {
         Known::Alias(_, _) => alias(table, entries, i, x, known),
-        Known::Formula(_, _) => ended(table, entries, i, x, known),
+        Known::Body(_, _) => ended(table, entries, i, x, known),
         Known::Variable(_, _) => ended(table, entries, i, x, known),
         Known::Instance => ended(table, entries, i, x, known),
         Known::Nothing => if table.has_symbol(x) {

@@ -4,9 +4,9 @@ ghost use Rattle.smv_text.specs.View.{plain};
 ghost use Rattle.smv_meaning.specs.Checks.{typing};
 ghost use Rattle.smv_meaning.specs.Checked.{type_checks_of};
 ghost use Rattle.smv_meaning.specs.Settled.{types_in};
-ghost use Rattle.smv_meaning.specs.Formulas.{placed_formulas, IsFormulaOrder};
+ghost use Rattle.smv_meaning.specs.Bodies.{placed_bodies, IsBodyOrder};
 ghost use Rattle.smv_instances.specs.View.{instance_plain};
-ghost use Rattle.smv_references.specs.View.{formula_plain};
+ghost use Rattle.smv_references.specs.View.{body_plain};
 ghost use Rattle.smv_types.specs.View.{named_seen, position_seen};
 ghost use Rattle.smv_names.specs.Outcome.{Settles};
 ghost use Rattle.smv_model_types.specs.Outcome.{AreTypesOf, Finds};
@@ -18,7 +18,7 @@ use smv_instances::Table;
 use smv_intervals::Ty;
 use smv_model_laws::types_hang_on_paths;
 use smv_names::NamesEnd;
-use smv_references::Formula;
+use smv_references::Body;
 use smv_text::{Expr, Path};
 use smv_types::{Named, Position, type_of};
 use std::alloc::Global;
@@ -34,14 +34,14 @@ impl<'a> Types<'a> {
     fn of(
         alloc: Global,
         table: &Table<'a>,
-        formulas: &[Formula<'a>],
+        bodies: &[Body<'a>],
         order: &List<usize>,
     ) -> Result<Types<'a>, NoMemory>
-        requires formulas { map formula_plain formulas.now ≡ placed_formulas (map instance_plain table.now) }
-        requires order { IsFormulaOrder (map instance_plain table.now) order.now }
+        requires bodies { map body_plain bodies.now ≡ placed_bodies (map instance_plain table.now) }
+        requires order { IsBodyOrder (map instance_plain table.now) order.now }
         ensures { IfOk result (λ t. AreTypesOf (map instance_plain table.now) t) }
     {
-        let entries = entries_of(alloc, table, formulas, order)?;
+        let entries = entries_of(alloc, table, bodies, order)?;
         Ok(Types { entries })
     }
 
@@ -83,15 +83,15 @@ impl<'a> Types<'a> {
 pub fn types_checked<'a>(
     alloc: Global,
     table: &Table<'a>,
-    formulas: &[Formula<'a>],
+    bodies: &[Body<'a>],
     order: &List<usize>,
 ) -> Result<Types<'a>, NamesEnd>
-    requires formulas { map formula_plain formulas.now ≡ placed_formulas (map instance_plain table.now) }
-    requires order { IsFormulaOrder (map instance_plain table.now) order.now }
+    requires bodies { map body_plain bodies.now ≡ placed_bodies (map instance_plain table.now) }
+    requires order { IsBodyOrder (map instance_plain table.now) order.now }
     ensures checks { Settles result (type_checks_of (map instance_plain table.now)) }
     ensures types { IfOk result (λ t. AreTypesOf (map instance_plain table.now) t) }
 {
-    let types = Types::of(alloc, table, formulas, order)?;
+    let types = Types::of(alloc, table, bodies, order)?;
     for i in 0..table.len() {
         instance_checked(alloc, table, &types, i, table.at(i))?;
     }

@@ -24,7 +24,7 @@ fn put_variable<'a>(
     match table.local(i, x) {
         Known::Variable(kind, domain) => add_row_in(entries, i, x, variable_named(kind, domain)),
         Known::Alias(_, _) => Ok(()),
-        Known::Formula(_, _) => Ok(()),
+        Known::Body(_, _) => Ok(()),
         Known::Instance => Ok(()),
         Known::Nothing => Ok(()),
     }

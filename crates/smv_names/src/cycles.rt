@@ -1,14 +1,14 @@
 // No definition and no actual reaches itself.
 ghost use Rattle.std.specs.Prelude.{◌≡◌, map, IfOk};
-ghost use Rattle.smv_meaning.specs.Formulas.{IsFormulaOrder, placed_formulas};
+ghost use Rattle.smv_meaning.specs.Bodies.{IsBodyOrder, placed_bodies};
 ghost use Rattle.smv_meaning.specs.Settled.{cycle_checks_of};
 ghost use Rattle.smv_instances.specs.View.{instance_plain};
-ghost use Rattle.smv_references.specs.View.{formula_plain};
+ghost use Rattle.smv_references.specs.View.{body_plain};
 ghost use Rattle.smv_names.specs.Outcome.{Settles};
 
 use crate::ends::NamesEnd;
 use smv_instances::Table;
-use smv_references::{Formula, Ordering, formula_order};
+use smv_references::{Body, Ordering, body_order};
 use std::alloc::Global;
 use text_core::kinds::smv;
 use text_core::{List, Refusal};
@@ -18,17 +18,17 @@ use text_core::{List, Refusal};
 pub fn cycles_checked<'a>(
     alloc: Global,
     table: &Table<'a>,
-    formulas: &[Formula<'a>],
+    bodies: &[Body<'a>],
 ) -> Result<List<usize>, NamesEnd>
-    requires { map formula_plain formulas.now ≡ placed_formulas (map instance_plain table.now) }
+    requires { map body_plain bodies.now ≡ placed_bodies (map instance_plain table.now) }
     ensures checks { Settles result (cycle_checks_of (map instance_plain table.now)) }
-    ensures order { IfOk result (IsFormulaOrder (map instance_plain table.now)) }
+    ensures order { IfOk result (IsBodyOrder (map instance_plain table.now)) }
 {
-    match formula_order(alloc, table, formulas)? {
+    match body_order(alloc, table, bodies)? {
         Ordering::Ordered(order) => Ok(order),
         Ordering::Cycle(k) => Err(NamesEnd::Bad(Refusal {
             kind: smv::DEFINE_CYCLE,
-            place: formulas[k].place,
+            place: bodies[k].place,
         })),
     }
 }

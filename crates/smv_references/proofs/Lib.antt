@@ -1,2 +1,2 @@
-pub mod FormulaLemmas
+pub mod BodyLemmas
 pub mod ReferenceLemmas

@@ -1,3 +1,3 @@
 pub mod View
-pub mod FormulaOrders
+pub mod BodyOrders
 pub mod laws

@@ -2,10 +2,10 @@
 //! refers.
 #![tactic(auto)]
 
-mod formulas;
+mod bodies;
 mod paths;
 mod references;
 
-pub use formulas::{Formula, formulas_in, place};
+pub use bodies::{Body, bodies_in, place};
 pub use paths::{paths_in, put_all_paths, put_paths};
-pub use references::{Ordering, formula_order};
+pub use references::{Ordering, body_order};

@@ -2,16 +2,16 @@
 ghost use Rattle.std.specs.Prelude.{◌≡◌, ◌<◌, ◌++◌, [], List, ℕ, map, IfOk, OnOk, unwrap_or};
 ghost use Rattle.digraph.specs.Ordering.{IsOrder};
 ghost use Rattle.smv_meaning.specs.Instances.{Instance as Specified};
-ghost use Rattle.smv_meaning.specs.Phases.{formula_here};
-ghost use Rattle.smv_meaning.specs.Formulas.{placed_formulas, formulas_of, number_in, number_or, references_of, reference_graph, path_numbers, all_path_numbers};
-ghost use Rattle.smv_references.specs.FormulaOrders.{IsOrdering};
+ghost use Rattle.smv_meaning.specs.Phases.{body_here};
+ghost use Rattle.smv_meaning.specs.Bodies.{placed_bodies, bodies_of, number_in, number_or, references_of, reference_graph, path_numbers, all_path_numbers};
+ghost use Rattle.smv_references.specs.BodyOrders.{IsOrdering};
 ghost use Rattle.smv_text.specs.View.{plain};
 ghost use Rattle.smv_meaning.specs.Expressions.{paths_of};
 ghost use Rattle.smv_instances.specs.Rows.{row_in};
 ghost use Rattle.smv_instances.specs.View.{instance_plain, local_plain};
-ghost use Rattle.smv_references.specs.View.{formula_plain, path_seen, key_of};
+ghost use Rattle.smv_references.specs.View.{body_plain, path_seen, key_of};
 
-use crate::formulas::Formula;
+use crate::bodies::Body;
 use crate::paths::paths_in;
 use digraph::{Graph, Order, sort};
 use smv_instances::{InstanceRows, Known, Table, add_first_in, no_rows_in, row_value_in};
@@ -29,25 +29,25 @@ pub enum Ordering {
 }
 
 /// Numbers of definitions and actuals by their instances and names.
-pub type FormulaNumbers<'a> = InstanceRows<'a, usize>;
+pub type BodyNumbers<'a> = InstanceRows<'a, usize>;
 
 /// The number of each definition and actual: the place of the first one of its instance and name.
 pub fn numbers_of<'a>(
     alloc: Global,
     table: &Table<'a>,
-    formulas: &[Formula<'a>],
-) -> Result<FormulaNumbers<'a>, NoMemory>
-    ensures { IfOk result (λ m. (i : ℕ) (x : List ℕ) → row_in m i x ≡ number_in (map key_of formulas.now) (i, x)) }
+    bodies: &[Body<'a>],
+) -> Result<BodyNumbers<'a>, NoMemory>
+    ensures { IfOk result (λ m. (i : ℕ) (x : List ℕ) → row_in m i x ≡ number_in (map key_of bodies.now) (i, x)) }
 {
     let mut numbers = no_rows_in(alloc, table.list())?;
-    for k in 0..formulas.len() {
-        let formula = &formulas[k];
-        add_first_in(&mut numbers, formula.instance, formula.name, k)?;
+    for k in 0..bodies.len() {
+        let body = &bodies[k];
+        add_first_in(&mut numbers, body.instance, body.name, k)?;
     }
     Ok(numbers)
 }
 
-fn number<'a>(numbers: &FormulaNumbers<'a>, i: usize, x: &[u8]) -> usize
+fn number<'a>(numbers: &BodyNumbers<'a>, i: usize, x: &[u8]) -> usize
     ensures { result ≡ unwrap_or (row_in numbers.now i x.now) 0 }
 {
     match row_value_in(numbers, i, x) {
@@ -58,17 +58,17 @@ fn number<'a>(numbers: &FormulaNumbers<'a>, i: usize, x: &[u8]) -> usize
 
 // Adds the number of a name that is a definition or an actual, given what it is in its instance.
 fn note<'a>(
-    numbers: &FormulaNumbers<'a>,
+    numbers: &BodyNumbers<'a>,
     i: usize,
     x: &[u8],
     known: Known<'a>,
     row: &mut List<usize>,
 ) -> Result<(), NoMemory>
-    ensures { (t : List Specified) → ((j : ℕ) (y : List ℕ) → row_in numbers.now j y ≡ number_in (formulas_of t) (j, y)) → OnOk result (row.new ≡ row.old ++ map (number_or (formulas_of t)) (formula_here i x.now (local_plain known.entry))) }
+    ensures { (t : List Specified) → ((j : ℕ) (y : List ℕ) → row_in numbers.now j y ≡ number_in (bodies_of t) (j, y)) → OnOk result (row.new ≡ row.old ++ map (number_or (bodies_of t)) (body_here i x.now (local_plain known.entry))) }
 {
     match known {
         Known::Alias(_, _) => row.push(number(numbers, i, x))?,
-        Known::Formula(_, _) => row.push(number(numbers, i, x))?,
+        Known::Body(_, _) => row.push(number(numbers, i, x))?,
         Known::Variable(_, _) => {}
         Known::Instance => {}
         Known::Nothing => {}
@@ -80,12 +80,12 @@ fn note<'a>(
 #[tactic(auto, using(smv_meaning::specs::laws::Lists::front_is, smv_meaning::specs::laws::Lists::end_is, crate::proofs::ReferenceLemmas::path_numbers_none, crate::proofs::ReferenceLemmas::path_numbers_last, crate::proofs::ReferenceLemmas::path_numbers_more))]
 fn add_path_numbers<'a>(
     table: &Table<'a>,
-    numbers: &FormulaNumbers<'a>,
+    numbers: &BodyNumbers<'a>,
     i: usize,
     names: &'a Names,
     row: &mut List<usize>,
 ) -> Result<(), NoMemory>
-    requires { (i : ℕ) (x : List ℕ) → row_in numbers.now i x ≡ number_in (formulas_of (map instance_plain table.now)) (i, x) }
+    requires { (i : ℕ) (x : List ℕ) → row_in numbers.now i x ≡ number_in (bodies_of (map instance_plain table.now)) (i, x) }
     ensures { OnOk result (row.new ≡ row.old ++ path_numbers (map instance_plain table.now) i names.now) }
 {
     let mut at = i;
@@ -103,12 +103,12 @@ fn add_path_numbers<'a>(
 
 fn add_all_path_numbers<'a>(
     table: &Table<'a>,
-    numbers: &FormulaNumbers<'a>,
+    numbers: &BodyNumbers<'a>,
     i: usize,
     paths: &[&'a Path],
     row: &mut List<usize>,
 ) -> Result<(), NoMemory>
-    requires { (i : ℕ) (x : List ℕ) → row_in numbers.now i x ≡ number_in (formulas_of (map instance_plain table.now)) (i, x) }
+    requires { (i : ℕ) (x : List ℕ) → row_in numbers.now i x ≡ number_in (bodies_of (map instance_plain table.now)) (i, x) }
     ensures { OnOk result (row.new ≡ row.old ++ all_path_numbers (map instance_plain table.now) i (map path_seen paths.now)) }
 {
     for path in paths {
@@ -120,11 +120,11 @@ fn add_all_path_numbers<'a>(
 fn alias_row<'a>(
     alloc: Global,
     table: &Table<'a>,
-    numbers: &FormulaNumbers<'a>,
+    numbers: &BodyNumbers<'a>,
     j: usize,
     path: &'a Path,
 ) -> Result<List<usize>, NoMemory>
-    requires { (i : ℕ) (x : List ℕ) → row_in numbers.now i x ≡ number_in (formulas_of (map instance_plain table.now)) (i, x) }
+    requires { (i : ℕ) (x : List ℕ) → row_in numbers.now i x ≡ number_in (bodies_of (map instance_plain table.now)) (i, x) }
     ensures { IfOk result (λ row. row ≡ path_numbers (map instance_plain table.now) j path.now.names) }
 {
     let mut row = List::new(alloc);
@@ -135,11 +135,11 @@ fn alias_row<'a>(
 fn body_row<'a>(
     alloc: Global,
     table: &Table<'a>,
-    numbers: &FormulaNumbers<'a>,
+    numbers: &BodyNumbers<'a>,
     j: usize,
     e: &'a Expr,
 ) -> Result<List<usize>, NoMemory>
-    requires { (i : ℕ) (x : List ℕ) → row_in numbers.now i x ≡ number_in (formulas_of (map instance_plain table.now)) (i, x) }
+    requires { (i : ℕ) (x : List ℕ) → row_in numbers.now i x ≡ number_in (bodies_of (map instance_plain table.now)) (i, x) }
     ensures { IfOk result (λ row. row ≡ all_path_numbers (map instance_plain table.now) j (paths_of (plain e.now) [])) }
 {
     let paths = paths_in(alloc, e)?;
@@ -149,37 +149,33 @@ fn body_row<'a>(
 }
 
 // The numbers of the definitions and actuals to which one refers.
-#[tactic(auto, using(crate::proofs::ReferenceLemmas::alias_row, crate::proofs::ReferenceLemmas::formula_row, crate::proofs::ReferenceLemmas::no_row))]
+#[tactic(auto, using(crate::proofs::ReferenceLemmas::alias_row, crate::proofs::ReferenceLemmas::body_row, crate::proofs::ReferenceLemmas::no_row))]
 fn row_of<'a>(
     alloc: Global,
     table: &Table<'a>,
-    numbers: &FormulaNumbers<'a>,
-    formula: &Formula<'a>,
+    numbers: &BodyNumbers<'a>,
+    body: &Body<'a>,
 ) -> Result<List<usize>, NoMemory>
-    requires { (i : ℕ) (x : List ℕ) → row_in numbers.now i x ≡ number_in (formulas_of (map instance_plain table.now)) (i, x) }
-    ensures { IfOk result (λ row. row ≡ references_of (map instance_plain table.now) (key_of formula.now)) }
+    requires { (i : ℕ) (x : List ℕ) → row_in numbers.now i x ≡ number_in (bodies_of (map instance_plain table.now)) (i, x) }
+    ensures { IfOk result (λ row. row ≡ references_of (map instance_plain table.now) (key_of body.now)) }
 {
-    match table.local(formula.instance, formula.name) {
+    match table.local(body.instance, body.name) {
         Known::Alias(j, path) => Ok(alias_row(alloc, table, numbers, j, path)?),
-        Known::Formula(j, e) => Ok(body_row(alloc, table, numbers, j, e)?),
+        Known::Body(j, e) => Ok(body_row(alloc, table, numbers, j, e)?),
         Known::Variable(_, _) => Ok(List::new(alloc)),
         Known::Instance => Ok(List::new(alloc)),
         Known::Nothing => Ok(List::new(alloc)),
     }
 }
 
-fn graph_of<'a>(
-    alloc: Global,
-    table: &Table<'a>,
-    formulas: &[Formula<'a>],
-) -> Result<Graph, NoMemory>
-    requires { map formula_plain formulas.now ≡ placed_formulas (map instance_plain table.now) }
+fn graph_of<'a>(alloc: Global, table: &Table<'a>, bodies: &[Body<'a>]) -> Result<Graph, NoMemory>
+    requires { map body_plain bodies.now ≡ placed_bodies (map instance_plain table.now) }
     ensures { IfOk result (λ g. g ≡ reference_graph (map instance_plain table.now)) }
 {
-    let numbers = numbers_of(alloc, table, formulas)?;
+    let numbers = numbers_of(alloc, table, bodies)?;
     let mut graph = List::new(alloc);
-    for k in 0..formulas.len() {
-        graph.push(row_of(alloc, table, &numbers, &formulas[k])?)?;
+    for k in 0..bodies.len() {
+        graph.push(row_of(alloc, table, &numbers, &bodies[k])?)?;
     }
     Ok(graph)
 }
@@ -195,14 +191,14 @@ fn ordering_of(order: Order) -> Ordering
 
 /// An order in which each definition and actual stands after those to which it refers, where none reaches itself, else the first
 /// one that does, in the order of their numbers.
-pub fn formula_order<'a>(
+pub fn body_order<'a>(
     alloc: Global,
     table: &Table<'a>,
-    formulas: &[Formula<'a>],
+    bodies: &[Body<'a>],
 ) -> Result<Ordering, NoMemory>
-    requires { map formula_plain formulas.now ≡ placed_formulas (map instance_plain table.now) }
+    requires { map body_plain bodies.now ≡ placed_bodies (map instance_plain table.now) }
     ensures { IfOk result (IsOrdering (map instance_plain table.now)) }
 {
-    let graph = graph_of(alloc, table, formulas)?;
+    let graph = graph_of(alloc, table, bodies)?;
     Ok(ordering_of(sort(alloc, &graph)?))
 }

@@ -13,7 +13,7 @@ use Rattle.smv_text.specs.Tree.{Tree, truth, number, literal, name, prefix, chai
 use Rattle.smv_meaning.specs.Expressions.{paths_of, link_paths, branch_paths, tree_paths}
 use Rattle.smv_meaning.specs.Types.{ExprType}
 use Rattle.smv_meaning.specs.Instances.{Instance, instances_of}
-use Rattle.smv_meaning.specs.Names.{Local, alias, formula, variable_of, inner, nothing, local, Found, variable_at, body_at, instance_at, symbol_of, cyclic, none, found_in, steps_of}
+use Rattle.smv_meaning.specs.Names.{Local, alias, body_of, variable_of, inner, nothing, local, Found, variable_at, body_at, instance_at, symbol_of, cyclic, none, found_in, steps_of}
 use Rattle.smv_meaning.specs.Checks.{Position, Named, single, under_next, across, behind}
 use Rattle.smv_meaning.specs.Naming.{in_body}
 use Rattle.smv_meaning.specs.Phases.{over_instances}
@@ -30,7 +30,7 @@ use Rattle.smv_flat.specs.declared.forms.Role.{Role}
 use Rattle.smv_flat.specs.declared.forms.Role.TheVariants.{Body, Assign, Init, Trans, Invar, Invariant}
 use Rattle.smv_flat.specs.FlatTree.{leaf_tree, flat_tree, flat_links, flat_branches, flat_trees}
 use Rattle.smv_flat.specs.FlatForms.{Form, flat_in, content_form, body_forms, assignment_form, element_forms, forms_here, forms_from, flat_of}
-use Rattle.smv_flat_laws.proofs.FlatFound.{body_in, body_of, pair, is_body_of, both, body_at_item, variable_at_item, Home, home_found}
+use Rattle.smv_flat_laws.proofs.FlatFound.{body_in, origin_body, pair, is_body_of, both, body_at_item, variable_at_item, Home, home_found}
 use Rattle.smv_rows.specs.Reading.{all_read, links_read, branches_read, trees_read}
 use Rattle.smv_rows.specs.RowOrders.{holds_body, role_number, body_numbers, RoleRanked, FormRanked, FlatIsOrderly}
 use Rattle.smv_rows.proofs.Sets.{same, own}
@@ -98,7 +98,7 @@ is_placed (Some n) k = n == k
 
 -- a definition or an actual to which names lead has its own rank, one that they never reach a greater one than all
 abbrev pub local_rank : List Instance → ℕ → ℕ → List ℕ → Local → ℕ
-local_rank t k i x (formula j e) = if is_placed (position (is_body_of i x) (origins_of t)) k then suc (rank_of t (key i x)) else suc (steps_of t)
+local_rank t k i x (body_of j e) = if is_placed (position (is_body_of i x) (origins_of t)) k then suc (rank_of t (key i x)) else suc (steps_of t)
 local_rank t k i x l = suc (steps_of t)
 
 abbrev pub content_rank : List Instance → ℕ → ℕ → List ℕ → Content → ℕ
@@ -122,7 +122,7 @@ variable_rank t k m kind there h = ap (origin_rank t k) there ∙ by m.content h
     by (definition j e) g = cc
     by (actual j e) g = cc
 
-body_rank : (t : List Instance) (k i : ℕ) (x : List ℕ) (m : Origin) (j : ℕ) (e : Tree) → slice_get (origins_of t) k ≡ Some m → is_body_of i x m ≡ true → local t i x ≡ formula j e
+body_rank : (t : List Instance) (k i : ℕ) (x : List ℕ) (m : Origin) (j : ℕ) (e : Tree) → slice_get (origins_of t) k ≡ Some m → is_body_of i x m ≡ true → local t i x ≡ body_of j e
     → position (is_body_of i x) (origins_of t) ≡ Some k → item_rank t k ≡ suc (rank_of t (key i x))
 body_rank t k i x m j e there holds is placed =
     let a = both (is_body m.content) ((m.instance == i) && bytes_eq m.name x) holds in
@@ -187,15 +187,15 @@ all_ranked t a j e =
     tree_reads _ (types_in true t j) (leaf_in t j) in_body false e []
     (λ q i. found_passes t (steps_of t) (suc (steps_of t)) (omega arith) (found_in t j q) (home_found t j q) (all_under t (rank_of t) (ranking t a) j q))
 
-own_ranked : (t : List Instance) → Acyclic t → (i : ℕ) (x : List ℕ) (j : ℕ) (e : Tree) → local t i x ≡ formula j e → BodyRanked t (suc (rank_of t (key i x))) j e
+own_ranked : (t : List Instance) → Acyclic t → (i : ℕ) (x : List ℕ) (j : ℕ) (e : Tree) → local t i x ≡ body_of j e → BodyRanked t (suc (rank_of t (key i x))) j e
 own_ranked t a i x j e is =
     tree_reads _ (types_in true t j) (leaf_in t j) in_body false e []
     (λ q g. found_passes t (rank_of t (key i x)) (suc (rank_of t (key i x))) (omega arith) (found_in t j q) (home_found t j q)
     (body_under t (rank_of t) (descent t (rank_of t) (ranking t a)) i x j e is q g))
 
-local_ranked : (t : List Instance) → Acyclic t → (k : ℕ) (m : Origin) (j : ℕ) (e : Tree) → slice_get (origins_of t) k ≡ Some m → body_of m ≡ Some (pair j e)
+local_ranked : (t : List Instance) → Acyclic t → (k : ℕ) (m : Origin) (j : ℕ) (e : Tree) → slice_get (origins_of t) k ≡ Some m → origin_body m ≡ Some (pair j e)
     → (l : Local) → local t m.instance m.name ≡ l → BodyRanked t (local_rank t k m.instance m.name l) j e
-local_ranked t a k m j e there gives (formula i b) is = by (is_placed (position (is_body_of m.instance m.name) (origins_of t)) k) refl
+local_ranked t a k m j e there gives (body_of i b) is = by (is_placed (position (is_body_of m.instance m.name) (origins_of t)) k) refl
   where
     by : (p : Bool) → is_placed (position (is_body_of m.instance m.name) (origins_of t)) k ≡ p → BodyRanked t (if p then suc (rank_of t (key m.instance m.name)) else suc (steps_of t)) j e
     by false h = all_ranked t a j e
@@ -204,8 +204,8 @@ local_ranked t a k m j e there gives (formula i b) is = by (is_placed (position 
         let n : Some at.k ≡ Some k = sym at.placed ∙ placed_is (position (is_body_of m.instance m.name) (origins_of t)) k h in
         let z : at.k ≡ k = cc in
         let x : at.x ≡ m = there_same t k at.x m (subst (λ y. slice_get (origins_of t) y ≡ Some at.x) z at.there) there in
-        let p = pair_parts i j b e (sym at.gives ∙ ap body_of x ∙ gives) in
-        own_ranked t a m.instance m.name j e (is ∙ ap (λ y. formula y b) p.0 ∙ ap (formula j) p.1)
+        let p = pair_parts i j b e (sym at.gives ∙ ap origin_body x ∙ gives) in
+        own_ranked t a m.instance m.name j e (is ∙ ap (λ y. body_of y b) p.0 ∙ ap (body_of j) p.1)
 local_ranked t a k m j e there gives (alias i path) is = all_ranked t a j e
 local_ranked t a k m j e there gives (variable_of kind d) is = all_ranked t a j e
 local_ranked t a k m j e there gives inner is = all_ranked t a j e
@@ -216,7 +216,7 @@ body_kind (variable kind d) j e h = cc
 body_kind (definition i b) j e h = refl
 body_kind (actual i b) j e h = refl
 
-rank_is : (t : List Instance) (k : ℕ) (m : Origin) (j : ℕ) (e : Tree) → slice_get (origins_of t) k ≡ Some m → body_of m ≡ Some (pair j e) → item_rank t k ≡ local_rank t k m.instance m.name (local t m.instance m.name)
+rank_is : (t : List Instance) (k : ℕ) (m : Origin) (j : ℕ) (e : Tree) → slice_get (origins_of t) k ≡ Some m → origin_body m ≡ Some (pair j e) → item_rank t k ≡ local_rank t k m.instance m.name (local t m.instance m.name)
 rank_is t k m j e there gives = ap (origin_rank t k) there ∙ by m.content gives
   where
     by : (c : Content) → body_in c ≡ Some (pair j e) → content_rank t k m.instance m.name c ≡ local_rank t k m.instance m.name (local t m.instance m.name)
@@ -237,7 +237,7 @@ kind_at t k m h =
     own_kind : PlainFlatItem → ItemKind
     own_kind x = x.kind
 
-body_is_ranked : (t : List Instance) → Acyclic t → (k : ℕ) (m : Origin) (j : ℕ) (e : Tree) → slice_get (origins_of t) k ≡ Some m → body_of m ≡ Some (pair j e)
+body_is_ranked : (t : List Instance) → Acyclic t → (k : ℕ) (m : Origin) (j : ℕ) (e : Tree) → slice_get (origins_of t) k ≡ Some m → origin_body m ≡ Some (pair j e)
     → RoleRanked (kinds_of t) (item_rank t) (Body k) (flat_in t j in_body e)
 body_is_ranked t a k m j e there gives = (
   subst (λ o. holds_body o ≡ true) (sym (kind_at t k m there)) (body_kind m.content j e gives),

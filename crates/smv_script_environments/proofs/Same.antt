@@ -9,7 +9,7 @@ use Rattle.smv_text.specs.Tree.{Tree, PlainDomain}
 use Rattle.smv_meaning.specs.Values.{Valuation}
 use Rattle.smv_meaning.specs.Expressions.{denote}
 use Rattle.smv_meaning.specs.Instances.{Instance}
-use Rattle.smv_meaning.specs.Names.{formula, local, Found, variable_at, body_at, instance_at, symbol_of, cyclic, none, found_in, steps_of}
+use Rattle.smv_meaning.specs.Names.{body_of, local, Found, variable_at, body_at, instance_at, symbol_of, cyclic, none, found_in, steps_of}
 use Rattle.smv_meaning.specs.Types.{ExprType}
 use Rattle.smv_meaning.specs.Checks.{typing}
 use Rattle.smv_meaning.specs.Naming.{in_body}
@@ -158,7 +158,7 @@ module _ (t : List Instance) (c : Coding) (calls : Calls) (row : Row) (env : Val
       let p = found_origin t (variable_at y kind d) k e in
       variable_origin k p.0 kind p.1 p.0.content refl (both_true (is_variable_as kind p.0.content) (bytes_eq (path_of t p.0) y) p.2).0
 
-  bodies_same : (i : ℕ) (x : List ℕ) (j : ℕ) (e : Tree) → local t i x ≡ formula j e → Reads t row state label j e
+  bodies_same : (i : ℕ) (x : List ℕ) (j : ℕ) (e : Tree) → local t i x ≡ body_of j e → Reads t row state label j e
       → leaves_same t row (row_of t state label) (leaf_found t (body_at i x j e))
   bodies_same i x j e h r =
       let a = body_at_item t i x j e h in

@@ -8,7 +8,7 @@ use Rattle.smv_text.specs.declared.tree.Member.{Member}
 use Rattle.smv_text.specs.declared.tree.Member.TheVariants as OfMember
 use Rattle.smv_text.specs.Tree.{Tree, truth, number, literal, name, prefix, chain, choice, cases, select, call, next, set, range, Trees, no_trees, tree, PlainDomain, boolean, members, between, bits, instance, PlainItem, PlainDefinition, PlainElement, vars, defines, constants, assigns, init, trans, invar, spec}
 use Rattle.smv_meaning.specs.Instances.{Instance}
-use Rattle.smv_meaning.specs.Names.{Local, formula, variable_of, of_actual, of_domain, among_items, among_definitions, among_elements, among_parameters, parent_of, local_in, local, has_symbol, instance_has, element_has, item_has, domain_has, is_symbol}
+use Rattle.smv_meaning.specs.Names.{Local, body_of, variable_of, of_actual, of_domain, among_items, among_definitions, among_elements, among_parameters, parent_of, local_in, local, has_symbol, instance_has, element_has, item_has, domain_has, is_symbol}
 use Rattle.name_set.specs.Names.{place_of}
 use Rattle.smv_model_laws.proofs.Cycles.{In, in_any, in_right, flat_in}
 use Rattle.smv_model_laws.proofs.Ranked.{over_in}
@@ -60,7 +60,7 @@ past_definitions i [] x other kind d h = h
 past_definitions i (c ∷ ds) x other kind d h = by (λ s. past_definitions i ds x other kind d s) (bytes_eq c.name x) h
   where
     by : (among_definitions i ds x other ≡ variable_of kind d → other ≡ variable_of kind d) → (b : Bool)
-        → (if b then formula i c.body else among_definitions i ds x other) ≡ variable_of kind d → other ≡ variable_of kind d
+        → (if b then body_of i c.body else among_definitions i ds x other) ≡ variable_of kind d → other ≡ variable_of kind d
     by ih true s = cc
     by ih false s = ih s
 

@@ -12,7 +12,7 @@ use smv_model_types::{Types, types_checked};
 use smv_names::{
     NamesEnd, cycles_checked, declarations_checked, modules_checked, paths_checked, sizes_checked,
 };
-use smv_references::formulas_in;
+use smv_references::bodies_in;
 use smv_text::Source;
 use std::alloc::Global;
 
@@ -49,7 +49,7 @@ fn types_of<'a>(alloc: Global, table: &Table<'a>) -> Result<Types<'a>, NamesEnd>
     ensures { IfOk result (λ types. IsChecked (map instance_plain table.now) × AreTypesOf (map instance_plain table.now) types) }
 {
     paths_checked(alloc, table)?;
-    let formulas = formulas_in(alloc, table)?;
-    let order = cycles_checked(alloc, table, formulas.as_slice())?;
-    types_checked(alloc, table, formulas.as_slice(), &order)
+    let bodies = bodies_in(alloc, table)?;
+    let order = cycles_checked(alloc, table, bodies.as_slice())?;
+    types_checked(alloc, table, bodies.as_slice(), &order)
 }

@@ -8,7 +8,7 @@ use Rattle.std.proofs.Common.{Bool, position, Option}
 use Rattle.std.proofs.Common.{not, bytes_eq}
 use Rattle.std.specs.Prelude.{unwrap_or}
 use Rattle.std.proofs.Common.{sum_by, ◌+◌}
-use Rattle.smv_meaning.specs.Names.{trees_in, definitions_in, formulas_in, steps_of, Local, among_parameters}
+use Rattle.smv_meaning.specs.Names.{trees_in, definitions_in, bodies_in, steps_of, Local, among_parameters}
 use Rattle.std.proofs.lemmas.List.Sums.{sum_by-cons}
 use Rattle.smv_meaning.specs.Owed.{instance_number}
 use Rattle.std.specs.List.{prefix_len}
@@ -47,4 +47,4 @@ number_found ts x o e =
 -- the definitions and actuals of the first instance and those of the rest
 pub steps_front : (ts : List PartOf) (p : PartOf) (ps : List PartOf) → ts ≡ p ∷ ps
     → steps_of (map instance_plain ts) ≡ sum_by definitions_in (map plain_element p.module.now.elements) + length p.actuals.now + steps_of (map instance_plain ps)
-steps_front ts p ps e = ap (λ l. steps_of (map instance_plain l)) e ∙ (let h = trees_length p.actuals.now in let k = sum_by-cons formulas_in (instance_plain p) (map instance_plain ps) in omega arith)
+steps_front ts p ps e = ap (λ l. steps_of (map instance_plain l)) e ∙ (let h = trees_length p.actuals.now in let k = sum_by-cons bodies_in (instance_plain p) (map instance_plain ps) in omega arith)

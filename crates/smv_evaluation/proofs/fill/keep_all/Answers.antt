@@ -2,9 +2,9 @@ use Rattle.std.proofs.Common.{◌≡◌, ◌<◌, map, length, refl, sym, ap, �
 use Rattle.std.proofs.lemmas.List.{get_or_default}
 use Rattle.smv_evaluation.specs.declared.rows.Values.{Values}
 use Rattle.smv_evaluation.specs.Rows.{AreGiven, MarkedSafe}
-use Rattle.smv_meaning.specs.Formulas.{placed_formulas}
+use Rattle.smv_meaning.specs.Bodies.{placed_bodies}
 use Rattle.smv_instances.specs.View.{instance_plain}
-use Rattle.smv_references.specs.View.{formula_plain}
+use Rattle.smv_references.specs.View.{body_plain}
 use Rattle.smv_evaluation.specs.View.{stated}
 use Rattle.smv_model_laws.proofs.Ranked.{key}
 use Rattle.smv_references.specs.laws.NumberLemmas.{read}
@@ -20,8 +20,8 @@ keep_marked-requires c =
     let ts = c.args.table.now in
     let t = map instance_plain ts in
     let order = c.args.reach.now.order in
-    let fs = c.as_slice-formulas.result.now in
-    let many : map formula_plain fs ≡ placed_formulas t = ap (map formula_plain) c.as_slice-formulas.ensures.value ∙ c.requires.ordered.formulas in
+    let fs = c.as_slice-bodies.result.now in
+    let many : map body_plain fs ≡ placed_bodies t = ap (map body_plain) c.as_slice-bodies.ensures.value ∙ c.requires.ordered.bodies in
     let f = read fs c.at-k.result.now in
     let less : c.loop-n.n < length order = omega (arith, c.loop-n-test.true, c.len-n-end.ensures) in
     let low = kept_low fs t order many c.requires.ordered.order c.loop-n.n c.at-k.result.now less c.at-k.ensures in
@@ -37,8 +37,8 @@ loop-n-preserved c =
     let ts = c.args.table.now in
     let t = map instance_plain ts in
     let order = c.args.reach.now.order in
-    let fs = c.as_slice-formulas.result.now in
-    let many : map formula_plain fs ≡ placed_formulas t = ap (map formula_plain) c.as_slice-formulas.ensures.value ∙ c.requires.ordered.formulas in
+    let fs = c.as_slice-bodies.result.now in
+    let many : map body_plain fs ≡ placed_bodies t = ap (map body_plain) c.as_slice-bodies.ensures.value ∙ c.requires.ordered.bodies in
     let f = read fs c.at-k.result.now in
     let less : c.loop-n.n < length order = omega (arith, c.loop-n-test.true, c.len-n-end.ensures) in
     let low = kept_low fs t order many c.requires.ordered.order c.loop-n.n c.at-k.result.now less c.at-k.ensures in

@@ -25,10 +25,10 @@ loop-n-preserved c =
     let n = c.loop-n.n - 1 in
     let back : n + 1 ≡ c.loop-n.n = omega (arith, c.loop-n-test.true) in
     let less : n < length c.args.order.now = omega (arith, c.loop-n.invariant.within, c.loop-n-test.true) in
-    let f = read c.args.formulas.now c.at-k.result.now in
-    let low = kept_low c.args.formulas.now t c.args.order.now c.requires.formulas c.requires.order n c.at-k.result.now less c.at-k.ensures in
+    let f = read c.args.bodies.now c.at-k.result.now in
+    let low = kept_low c.args.bodies.now t c.args.order.now c.requires.bodies c.requires.order n c.at-k.result.now less c.at-k.ensures in
     let at : at_place t c.args.order.now n ≡ key f.instance f.name.now =
-    kept_at c.args.formulas.now t c.args.order.now c.requires.formulas c.requires.order n c.at-k.result.now f less c.at-k.ensures (get_or_default c.args.formulas.now c.at-k.result.now _ _ low) in
+    kept_at c.args.bodies.now t c.args.order.now c.requires.bodies c.requires.order n c.at-k.result.now f less c.at-k.ensures (get_or_default c.args.bodies.now c.at-k.result.now _ _ low) in
     record {
       within = omega (arith, less);
       starts = start_on t c.loop-n.marks c.mark_on.new.marks f.instance f.name.now c.in_ok-mark_on.ensures c.args.i (plain c.args.e.now) c.loop-n.invariant.starts;

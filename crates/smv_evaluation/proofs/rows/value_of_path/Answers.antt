@@ -12,7 +12,7 @@ returns-in-Variable c = c.value_of_kind.ensures ∙ read_found c.args.table.now 
 pub returns-in-Body : goal.returns-in-Body
 returns-in-Body c =
     let h = is_kept c.args.table.now c.args.i c.args.row.now c.args.label.now c.args.path.now c.requires in
-    c.value_of_formula.ensures
+    c.value_of_body.ensures
     ∙ subst (FoundKept c.args.table.now c.args.row.now c.args.label.now) (sym c.in-Body.ensures) h.2
     ∙ read_found c.args.table.now c.args.i c.args.row.now c.args.label.now c.args.path.now _ c.in-Body.ensures
 

@@ -4,10 +4,10 @@ use Rattle.smv_instances.specs.View.{instance_plain, local_plain, found_plain}
 use Rattle.smv_instances.proofs.LeadLemmas.{lead_one}
 use Rattle.smv_instances.proofs.leads.lead_of.Goals as goal
 
-pub returns-in-Formula : goal.returns-in-Formula
-returns-in-Formula c =
+pub returns-in-Body : goal.returns-in-Body
+returns-in-Body c =
     let t = map instance_plain c.args.parts.now in
-    lead_one t c.args.i c.args.x.now _ c.one_deep.result (ap local_plain (sym c.in-Formula.is) ∙ c.requires.known) c.one_deep.ensures.depth (λ f. ap (found_plain t) (sym c.one_deep.ensures.target))
+    lead_one t c.args.i c.args.x.now _ c.one_deep.result (ap local_plain (sym c.in-Body.is) ∙ c.requires.known) c.one_deep.ensures.depth (λ f. ap (found_plain t) (sym c.one_deep.ensures.target))
 
 pub returns-in-Variable : goal.returns-in-Variable
 returns-in-Variable c =

@@ -7,10 +7,10 @@ use Rattle.smv_model_types.proofs.Filling.{Holds, none_held, all_held}
 use Rattle.smv_model_types.proofs.InOrder.{number_low, next_put}
 use Rattle.smv_model_types.proofs.bodies.entries_of.Goals as goal
 
-pub formula_at-formula-requires : goal.formula_at-formula-requires
-formula_at-formula-requires c =
+pub numbered_body-body-requires : goal.numbered_body-body-requires
+numbered_body-body-requires c =
     let low : c.loop-k.k < length c.args.order.now = omega arith in
-    number_low (map instance_plain c.args.table.now) c.args.formulas.now c.args.order.now c.loop-k.k c.at.result.now c.requires.formulas c.requires.order low c.at.ensures
+    number_low (map instance_plain c.args.table.now) c.args.bodies.now c.args.order.now c.loop-k.k c.at.result.now c.requires.bodies c.requires.order low c.at.ensures
 
 pub loop-k-init : goal.loop-k-init
 loop-k-init c = none_held (map instance_plain c.args.table.now) (entries_seen c.in_ok-entries.entries) c.in_ok-entries.ensures
@@ -18,8 +18,8 @@ loop-k-init c = none_held (map instance_plain c.args.table.now) (entries_seen c.
 pub loop-k-preserved : goal.loop-k-preserved
 loop-k-preserved c =
     let low : c.loop-k.k < length c.args.order.now = omega arith in
-    next_put (map instance_plain c.args.table.now) c.args.formulas.now c.args.order.now c.loop-k.k c.at.result.now c.formula_at-formula.result.now (entries_seen c.loop-k.entries) (entries_seen c.put_formula.new.entries) c.requires.formulas c.requires.order
-    c.names_settle.ensures c.types_settle.ensures c.types_hang_on_paths.ensures c.references_stand_before.ensures low c.at.ensures c.formula_at-formula.ensures c.in_ok-put_formula.ensures c.loop-k.invariant
+    next_put (map instance_plain c.args.table.now) c.args.bodies.now c.args.order.now c.loop-k.k c.at.result.now c.numbered_body-body.result.now (entries_seen c.loop-k.entries) (entries_seen c.put_body.new.entries) c.requires.bodies c.requires.order
+    c.names_settle.ensures c.types_settle.ensures c.types_hang_on_paths.ensures c.references_stand_before.ensures low c.at.ensures c.numbered_body-body.ensures c.in_ok-put_body.ensures c.loop-k.invariant
 
 pub returns : goal.returns
 returns c =

@@ -1,5 +1,5 @@
 use Rattle.std.proofs.Common.{◌≡◌, ◌++◌, drop, map}
-use Rattle.smv_meaning.specs.Formulas.{all_path_numbers}
+use Rattle.smv_meaning.specs.Bodies.{all_path_numbers}
 use Rattle.smv_instances.specs.View.{instance_plain}
 use Rattle.smv_references.specs.View.{path_seen}
 use Rattle.smv_references.proofs.references.add_all_path_numbers.Given as goal

@@ -1,8 +1,8 @@
 use Rattle.std.proofs.Common.{◌≡◌, take, map}
-use Rattle.smv_meaning.specs.Formulas.{references_of}
+use Rattle.smv_meaning.specs.Bodies.{references_of}
 use Rattle.smv_instances.specs.View.{instance_plain}
 use Rattle.smv_references.specs.View.{key_of}
 use Rattle.smv_references.proofs.references.graph_of.Given as goal
 
 abbrev pub invariant-loop-k : goal.invariant-loop-k
-invariant-loop-k l = l.graph ≡ map (references_of (map instance_plain l.table)) (map key_of (take l.k l.formulas))
+invariant-loop-k l = l.graph ≡ map (references_of (map instance_plain l.table)) (map key_of (take l.k l.bodies))

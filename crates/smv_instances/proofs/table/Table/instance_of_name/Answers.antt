@@ -1,17 +1,17 @@
 use Rattle.std.proofs.Common.{map, position, sym, ap, refl, ◌∙◌}
 use Rattle.smv_text.specs.View.{plain, plain_domain}
-use Rattle.smv_meaning.specs.Formulas.{instance_within}
-use Rattle.smv_meaning.specs.Names.{formula, variable_of, inner, nothing, variable_at, body_at, none, dotted_at, at_child, is_child}
+use Rattle.smv_meaning.specs.Bodies.{instance_within}
+use Rattle.smv_meaning.specs.Names.{body_of, variable_of, inner, nothing, variable_at, body_at, none, dotted_at, at_child, is_child}
 use Rattle.smv_instances.specs.View.{instance_plain, local_plain}
 use Rattle.smv_instances.proofs.LeadLemmas.{looked_once, child_within}
 use Rattle.smv_instances.proofs.table.Table.instance_of_name.Goals as goal
 
-pub returns-in-Formula : goal.returns-in-Formula
-returns-in-Formula c =
+pub returns-in-Body : goal.returns-in-Body
+returns-in-Body c =
     let t = map instance_plain c.args.self.now in
-    let j = c.in-Formula.field-0 in
-    let e = plain c.in-Formula.field-1.now in
-    ap instance_within (sym (looked_once t c.args.i c.args.x.now (formula j e) (body_at c.args.i c.args.x.now j e) (ap local_plain (sym c.in-Formula.is) ∙ c.requires.known) (λ f. refl)))
+    let j = c.in-Body.field-0 in
+    let e = plain c.in-Body.field-1.now in
+    ap instance_within (sym (looked_once t c.args.i c.args.x.now (body_of j e) (body_at c.args.i c.args.x.now j e) (ap local_plain (sym c.in-Body.is) ∙ c.requires.known) (λ f. refl)))
 
 pub returns-in-Variable : goal.returns-in-Variable
 returns-in-Variable c =

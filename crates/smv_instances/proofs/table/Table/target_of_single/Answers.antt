@@ -1,6 +1,6 @@
 use Rattle.std.proofs.Common.{map, sym, ap, refl, ◌∙◌}
 use Rattle.smv_text.specs.View.{plain, plain_domain}
-use Rattle.smv_meaning.specs.Names.{formula, variable_of, inner, variable_at, body_at, instance_at, none, dotted_at, at_child, look, single, steps_of}
+use Rattle.smv_meaning.specs.Names.{body_of, variable_of, inner, variable_at, body_at, instance_at, none, dotted_at, at_child, look, single, steps_of}
 use Rattle.smv_instances.specs.View.{instance_plain, local_plain}
 use Rattle.smv_instances.proofs.LeadLemmas.{one_walked, single_is}
 use Rattle.smv_instances.proofs.table.Table.target_of_single.Goals as goal
@@ -10,11 +10,11 @@ returns-in-Alias c =
     let t = map instance_plain c.args.self.now in
     c.target_of_alias.ensures ∙ sym (one_walked (look t (steps_of t)) c.args.i c.args.x.now) ∙ ap (λ k. single t (look t (steps_of t)) c.args.i c.args.x.now (local_plain k)) (sym c.in-Alias.is)
 
-pub returns-in-Formula : goal.returns-in-Formula
-returns-in-Formula c =
-    let j = c.in-Formula.j in
-    let e = plain c.in-Formula.e.now in
-    single_is (map instance_plain c.args.self.now) c.args.i c.args.x.now (formula j e) (local_plain c.args.known) (body_at c.args.i c.args.x.now j e) (ap local_plain (sym c.in-Formula.is)) c.requires.known (λ f. refl) refl
+pub returns-in-Body : goal.returns-in-Body
+returns-in-Body c =
+    let j = c.in-Body.j in
+    let e = plain c.in-Body.e.now in
+    single_is (map instance_plain c.args.self.now) c.args.i c.args.x.now (body_of j e) (local_plain c.args.known) (body_at c.args.i c.args.x.now j e) (ap local_plain (sym c.in-Body.is)) c.requires.known (λ f. refl) refl
 
 pub returns-in-Variable : goal.returns-in-Variable
 returns-in-Variable c =

@@ -3,7 +3,7 @@ use Rattle.digraph.specs.Graph.{NodeLists, is_graph}
 use Rattle.digraph.specs.Ordering.{IsOrder}
 use Rattle.smv_instances.specs.View.{instance_plain}
 use Rattle.smv_model_laws.proofs.OrderLaws.{graph_within}
-use Rattle.smv_references.proofs.references.formula_order.Goals as goal
+use Rattle.smv_references.proofs.references.body_order.Goals as goal
 
 pub sort-requires : goal.sort-requires
 sort-requires c = ap is_graph c.in_ok-graph.ensures ∙ graph_within (map instance_plain c.args.table.now)

@@ -2,10 +2,10 @@
 ghost use Rattle.std.specs.Prelude.{◌≡◌, ◌<◌, ◌++◌, ◌∷◌, [], List, ℕ, map, flat_map, length, position, slice_index_or, IfOk, OnOk, is_some};
 ghost use Rattle.smv_text.specs.Tree.{trees_of};
 ghost use Rattle.smv_text.specs.View.{plain, plain_definition, plain_element};
-ghost use Rattle.smv_meaning.specs.Formulas.{Placed, actual_formulas, element_formulas, placed_definition, formulas_here, placed_formulas, formulas_of, number_in};
+ghost use Rattle.smv_meaning.specs.Bodies.{Placed, actual_bodies, element_bodies, placed_definition, bodies_here, placed_bodies, bodies_of, number_in};
 ghost use Rattle.smv_meaning.specs.Phases.{over_instances, place_of};
 ghost use Rattle.smv_instances.specs.View.{instance_plain};
-ghost use Rattle.smv_references.specs.View.{formula_plain};
+ghost use Rattle.smv_references.specs.View.{body_plain};
 
 use smv_instances::{Instance, Table};
 use smv_text::{Definitions, Element, Elements, Expr, Parameters, Shape};
@@ -14,21 +14,21 @@ use text_core::{NoMemory, Place};
 
 /// A definition, or an actual by the name of its parameter: its instance, its name there and where it stands.
 #[derive(Drop)]
-pub struct Formula<'a> {
+pub struct Body<'a> {
     pub instance: usize,
     pub name: &'a [u8],
     pub place: Place,
 }
 
 fn add<'a>(
-    formulas: &mut Vec<Formula<'a>>,
+    bodies: &mut Vec<Body<'a>>,
     instance: usize,
     name: &'a [u8],
     place: Place,
 ) -> Result<(), NoMemory>
-    ensures { OnOk result (map formula_plain formulas.new.items ≡ map formula_plain formulas.old.items ++ record { formula = (instance, name.now); place = place } ∷ []) }
+    ensures { OnOk result (map body_plain bodies.new.items ≡ map body_plain bodies.old.items ++ record { body = (instance, name.now); place = place } ∷ []) }
 {
-    Ok(formulas.push(Formula {
+    Ok(bodies.push(Body {
         instance,
         name,
         place,
@@ -57,54 +57,49 @@ pub fn place(e: &Expr) -> Place
     }
 }
 
-#[tactic(auto, using(smv_meaning::specs::laws::Lists::front_is, smv_meaning::specs::laws::Lists::trees_front, smv_meaning::specs::laws::Lists::end_is, smv_meaning::specs::laws::Lists::trees_end, crate::proofs::FormulaLemmas::append_none, crate::proofs::FormulaLemmas::none_placed))]
+#[tactic(auto, using(smv_meaning::specs::laws::Lists::front_is, smv_meaning::specs::laws::Lists::trees_front, smv_meaning::specs::laws::Lists::end_is, smv_meaning::specs::laws::Lists::trees_end, crate::proofs::BodyLemmas::append_none, crate::proofs::BodyLemmas::none_placed))]
 fn add_actuals<'a>(
-    formulas: &mut Vec<Formula<'a>>,
+    bodies: &mut Vec<Body<'a>>,
     i: usize,
     parameters: &'a Parameters,
     actuals: &'a [Expr],
 ) -> Result<(), NoMemory>
-    ensures { OnOk result (map formula_plain formulas.new.items ≡ map formula_plain formulas.old.items ++ actual_formulas i parameters.now (trees_of (map plain actuals.now))) }
+    ensures { OnOk result (map body_plain bodies.new.items ≡ map body_plain bodies.old.items ++ actual_bodies i parameters.now (trees_of (map plain actuals.now))) }
 {
     for k in 0..parameters.len() {
         if k >= actuals.len() {
             return Ok(());
         }
-        add(
-            formulas,
-            i,
-            parameters.at(k).name.bytes(),
-            place(&actuals[k]),
-        )?;
+        add(bodies, i, parameters.at(k).name.bytes(), place(&actuals[k]))?;
     }
     Ok(())
 }
 
-#[tactic(auto, using(crate::proofs::FormulaLemmas::joined_on))]
+#[tactic(auto, using(crate::proofs::BodyLemmas::joined_on))]
 fn add_definitions<'a>(
-    formulas: &mut Vec<Formula<'a>>,
+    bodies: &mut Vec<Body<'a>>,
     i: usize,
     definitions: &'a Definitions,
 ) -> Result<(), NoMemory>
-    ensures { OnOk result (map formula_plain formulas.new.items ≡ map formula_plain formulas.old.items ++ map (placed_definition i) (map plain_definition definitions.now)) }
+    ensures { OnOk result (map body_plain bodies.new.items ≡ map body_plain bodies.old.items ++ map (placed_definition i) (map plain_definition definitions.now)) }
 {
     for definition in definitions {
-        add(formulas, i, definition.name.bytes(), definition.place)?;
+        add(bodies, i, definition.name.bytes(), definition.place)?;
     }
     Ok(())
 }
 
-#[tactic(auto, using(crate::proofs::FormulaLemmas::joined_on))]
+#[tactic(auto, using(crate::proofs::BodyLemmas::joined_on))]
 fn add_elements<'a>(
-    formulas: &mut Vec<Formula<'a>>,
+    bodies: &mut Vec<Body<'a>>,
     i: usize,
     elements: &'a Elements,
 ) -> Result<(), NoMemory>
-    ensures { OnOk result (map formula_plain formulas.new.items ≡ map formula_plain formulas.old.items ++ flat_map (element_formulas i) (map plain_element elements.now)) }
+    ensures { OnOk result (map body_plain bodies.new.items ≡ map body_plain bodies.old.items ++ flat_map (element_bodies i) (map plain_element elements.now)) }
 {
     for element in elements {
         if let Element::Defines(definitions) = element {
-            add_definitions(formulas, i, definitions)?;
+            add_definitions(bodies, i, definitions)?;
         }
     }
     Ok(())
@@ -112,14 +107,14 @@ fn add_elements<'a>(
 
 /// The definitions and actuals of the model: instances in preorder, in each its actuals and then its definitions in the order of
 /// the text.
-pub fn formulas_in<'a>(alloc: Global, table: &Table<'a>) -> Result<Vec<Formula<'a>>, NoMemory>
-    ensures { IfOk result (λ fs. map formula_plain fs.items ≡ placed_formulas (map instance_plain table.now)) }
+pub fn bodies_in<'a>(alloc: Global, table: &Table<'a>) -> Result<Vec<Body<'a>>, NoMemory>
+    ensures { IfOk result (λ fs. map body_plain fs.items ≡ placed_bodies (map instance_plain table.now)) }
 {
-    let mut formulas = Vec::new(alloc);
+    let mut bodies = Vec::new(alloc);
     for i in 0..table.len() {
         let at = table.at(i);
-        add_actuals(&mut formulas, i, &at.module.parameters, at.actuals)?;
-        add_elements(&mut formulas, i, &at.module.elements)?;
+        add_actuals(&mut bodies, i, &at.module.parameters, at.actuals)?;
+        add_elements(&mut bodies, i, &at.module.elements)?;
     }
-    Ok(formulas)
+    Ok(bodies)
 }
