@@ -14,7 +14,8 @@ use Rattle.smv_text.specs.Bytes.{IsLongest}
 use Rattle.text_core.specs.Places.{after, next_place, Reaches}
 use Rattle.smv_text.specs.Words.{IsGap, IsLexeme, kind_of}
 use Rattle.smv_text.specs.Lexing.{TokenList, Next, finished, bad, Steps, ends, token, stray, misspelled, too_nested, LexesFrom, last, more, Refuses, here, later, Lexes, IsLexRefusal, opened_by, opened, most_brackets}
-use Rattle.smv_lex.specs.Reading.{gap_length, lexeme_length, kinded, sized, behind, next_of, Gives}
+use Rattle.smv_lex.specs.Reading.{gap_length, lexeme_length, kinded, sized, behind, next_of}
+use Rattle.smv_lex.specs.Adding.{IsBad}
 use Rattle.smv_lex.proofs.Longest.{same_front, longest_gap, longest_lexeme, lexeme_longest, no_lexeme}
 
 abbrev Gap : List ℕ → List ℕ → Type 0
@@ -33,7 +34,7 @@ pub lexeme_there : (l r : List ℕ) → IsLexeme l r → 0 < length l
 lexeme_there [] r a = absurd a
 lexeme_there (b ∷ bs) r a = omega arith
 
-behind_more : (n : ℕ) (at : Place) (text : List ℕ) → 0 < lexeme_length text → behind n at text ≡ kinded n at (take (lexeme_length text) text) (drop (lexeme_length text) text) (kind_of (take (lexeme_length text) text))
+pub behind_more : (n : ℕ) (at : Place) (text : List ℕ) → 0 < lexeme_length text → behind n at text ≡ kinded n at (take (lexeme_length text) text) (drop (lexeme_length text) text) (kind_of (take (lexeme_length text) text))
 behind_more n at [] lt = absurd (omega arith)
 behind_more n at (b ∷ bs) lt = rw (ne_eqb (lexeme_length (b ∷ bs)) 0 (λ e. omega arith)) refl
 
@@ -51,7 +52,7 @@ next_lexeme n at g l r a b = next_gap n at g (l ++ r) a ∙ behind_lexeme n (aft
 all_gap : (g : List ℕ) → IsGap g → IsLongest Gap g []
 all_gap g a = record { fits = a; longest = λ f r e b. omega (arith, ap length e, length-append f r, length-append {A = ℕ} g []) }
 
-no_size : (n : ℕ) (at : Place) (rest : List ℕ) → rest ≢ [] → lexeme_length rest ≡ 0 → behind n at rest ≡ sized n at rest 0
+pub no_size : (n : ℕ) (at : Place) (rest : List ℕ) → rest ≢ [] → lexeme_length rest ≡ 0 → behind n at rest ≡ sized n at rest 0
 no_size n at [] some e = absurd (some refl)
 no_size n at (b ∷ bs) some e = ap (sized n at (b ∷ bs)) e
 
@@ -188,7 +189,7 @@ next_from n m p text at rest x c e f h =
 
 -- what the loop answers where reading a token fails
 pub refused_from : (whole : List ℕ) (before : List Token) (n : ℕ) (p : Place) (text : List ℕ) (at : Place) (rest : List ℕ) (why : End)
-    → n ≡ opened before → at ≡ after p (take (gap_length false text) text) → rest ≡ drop (gap_length false text) text → Gives n at rest (Err why)
+    → n ≡ opened before → at ≡ after p (take (gap_length false text) text) → rest ≡ drop (gap_length false text) text → IsBad n at rest why
     → ((w : Refusal) → Refuses before p text w → IsLexRefusal whole w) → IsRefused whole why
 refused_from whole before n p text at rest (Bad why) c e f g all = all why (here why (next_from n (opened before) p text at rest (bad why) c e f g))
 refused_from whole before n p text at rest NoMemory c e f g all = tt

@@ -1,9 +1,13 @@
 pub mod Longest
 pub mod Keywords
 pub mod Spellings
+pub mod Gaps
+pub mod Lines
 pub mod Laws
+pub mod Sized
 pub mod Answered
 pub mod Fewer
 pub mod Printed
 pub mod Whole
 pub mod LexedAgain
+pub mod WordBytes

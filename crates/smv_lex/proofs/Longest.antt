@@ -1,17 +1,16 @@
 -- Longest fronts: two of one text are one, and the scanning functions find them.
 use Rattle.std.proofs.Common.{◌≡◌, ◌≤◌, ◌<◌, ◌+◌, ℕ, suc, Bool, true, false, not, cond, eqb, ◌&&◌, Option, Some, None, List, [], ◌∷◌, ◌++◌, length, take, drop, refl, sym, ap, ◌∙◌, subst, inl, inr, arith}
 use Rattle.std.specs.Prelude.{IsTrue}
-use Rattle.std.proofs.lemmas.List.{take_at, drop_at, append-nil, append_assoc, length-append, nil_from_length, take-append-drop, length-take-le}
+use Rattle.std.proofs.lemmas.List.{take_at, drop_at, append_assoc, length-append, take-append-drop, length-take-le}
 use Rattle.std.proofs.lemmas.Bool.{eqb-true, cond_both, and_parts}
 use Rattle.std.proofs.lemmas.Bool.Decides.{nat_tests}
 use Rattle.smv_text.specs.declared.token.Sign.{Sign}
 use Rattle.smv_text.specs.declared.token.Sign.TheVariants as sign
 use Rattle.text_core.specs.Bytes.{is_digit}
-use Rattle.smv_text.specs.Bytes.{is_letter, is_blank, AllPass, IsLongest, front_length, heads, look_up}
-use Rattle.smv_text.specs.Signs.{sign_bytes, signs, may_stand}
+use Rattle.smv_text.specs.Bytes.{is_letter, is_blank, AllPass, IsLongest, front_length, heads}
+use Rattle.smv_text.specs.Signs.{sign_bytes, may_stand}
 use Rattle.smv_text.specs.Words.{IsGap, no_gap, blank, comment, IsLexeme, in_word, in_run}
 use Rattle.smv_lex.specs.Reading.{on_some, gap_step, gap_length, lexeme_length, begins_comment, colon_sign, dot_sign, bang_sign, less_sign, greater_sign, dash_sign, slash_sign, sign_at, sign_length}
-use Rattle.smv_lex.proofs.Spellings.{sign_found}
 
 pub same_front : {P : List ℕ → List ℕ → Type 0} (f r g s : List ℕ) → f ++ r ≡ g ++ s → IsLongest P f r → IsLongest P g s → (f ≡ g) × (r ≡ s)
 same_front {P = P} f r g s e a b =
@@ -211,17 +210,13 @@ sign_fits b bs =
     cond_both (eqb b 47) _ _ P (at_byte b 47 bs _ (slash_fits bs)) (λ _.
     cond_both (eqb b 63) (Some sign.Question) None P (at_byte b 63 bs _ (fits_one 63 bs sign.Question refl refl)) (λ _. no_sign (b ∷ bs))))))))))))))))))))))
 
--- a sign that is the whole of some bytes is the one that they spell
-pub spelled_sign : (b : ℕ) (bs : List ℕ) (o : Option Sign) → OnSign (b ∷ bs) o → sign_length o ≡ length (b ∷ bs) → look_up (b ∷ bs) signs ≡ o
+-- a sign at the front of a text is the bytes there
+pub sign_front : (text : List ℕ) (s : Sign) → OnSign text (Some s) → take (length (sign_bytes s)) text ≡ sign_bytes s
 unfolding OnSign
-spelled_sign b bs None h e = absurd (omega (arith, e))
-spelled_sign b bs (Some s) (rest, same, h) e =
-    let none : rest ≡ [] = nil_from_length rest (omega (arith, e, ap length same, length-append (sign_bytes s) rest)) in
-    let is : (b ∷ bs) ≡ sign_bytes s = same ∙ ap (λ r. sign_bytes s ++ r) none ∙ append-nil (sign_bytes s) in
-    ap (λ x. look_up x signs) is ∙ sign_found s
+sign_front text s (rest, same, h) = ap (take (length (sign_bytes s))) same ∙ take_at (sign_bytes s) rest (length (sign_bytes s)) refl
 
 -- every sign has a byte
-some_bytes : (s : Sign) → 1 ≤ length (sign_bytes s)
+pub some_bytes : (s : Sign) → 1 ≤ length (sign_bytes s)
 some_bytes sign.Open = omega arith
 some_bytes sign.Close = omega arith
 some_bytes sign.OpenBrace = omega arith

@@ -5,7 +5,6 @@ use Rattle.smv_text.specs.declared.token.Reserved.TheVariants as word
 use Rattle.smv_text.specs.declared.token.Sign.{Sign}
 use Rattle.smv_text.specs.declared.token.Sign.TheVariants as sign
 use Rattle.smv_text.specs.declared.token.TokenKind.TheVariants as kind
-use Rattle.smv_text.specs.Bytes.{look_up}
 use Rattle.smv_text.specs.Signs.{sign_bytes, signs}
 use Rattle.smv_text.specs.Keywords.{keywords, word_bytes}
 use Rattle.smv_text.specs.Words.{kind_of}
@@ -43,41 +42,6 @@ sign_read sign.Concat = refl
 sign_read sign.Question = refl
 sign_read sign.Implies = refl
 sign_read sign.Iff = refl
-
--- and a sign is found by its spelling
-pub sign_found : (s : Sign) → look_up (sign_bytes s) signs ≡ Some s
-unfolding signs
-sign_found sign.Open = refl
-sign_found sign.Close = refl
-sign_found sign.OpenBrace = refl
-sign_found sign.CloseBrace = refl
-sign_found sign.OpenBracket = refl
-sign_found sign.CloseBracket = refl
-sign_found sign.Comma = refl
-sign_found sign.Semicolon = refl
-sign_found sign.Colon = refl
-sign_found sign.Dot = refl
-sign_found sign.Range = refl
-sign_found sign.Assign = refl
-sign_found sign.Equal = refl
-sign_found sign.Unequal = refl
-sign_found sign.Less = refl
-sign_found sign.Greater = refl
-sign_found sign.LessEqual = refl
-sign_found sign.GreaterEqual = refl
-sign_found sign.Not = refl
-sign_found sign.And = refl
-sign_found sign.Or = refl
-sign_found sign.Plus = refl
-sign_found sign.Minus = refl
-sign_found sign.Times = refl
-sign_found sign.Divide = refl
-sign_found sign.ShiftLeft = refl
-sign_found sign.ShiftRight = refl
-sign_found sign.Concat = refl
-sign_found sign.Question = refl
-sign_found sign.Implies = refl
-sign_found sign.Iff = refl
 
 pub word_read : (r : Reserved) → kind_of (word_bytes r) ≡ Some (kind.Reserved r)
 unfolding keywords

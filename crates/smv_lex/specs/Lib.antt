@@ -1,4 +1,5 @@
 pub mod Reading
+pub mod Adding
 pub mod Answer
 pub mod Spelling
 pub mod Printable

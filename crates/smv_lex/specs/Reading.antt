@@ -1,12 +1,9 @@
 -- What the scanning functions compute.
-use Rattle.std.specs.Prelude.{option_and_then, ◌≡◌, ◌==◌, ℕ, suc, Bool, true, false, not, ◌&&◌, ◌||◌, if◌then◌else◌, nat_le, Option, Some, None, Result, Ok, Err, List, [], ◌∷◌, length, take, drop}
+use Rattle.std.specs.Prelude.{option_and_then, ◌==◌, ◌+◌, ℕ, suc, Bool, true, false, not, ◌&&◌, ◌||◌, if◌then◌else◌, nat_le, Option, Some, None, List, [], ◌∷◌, length, take, drop}
 use Rattle.std.specs.Borrow.{Bor}
 use Rattle.word_core.specs.Words.{BitVector}
 use Rattle.word_core.specs.Digits.{digits_value, read_word}
-use Rattle.text_core.specs.declared.end.End.{End}
-use Rattle.text_core.specs.declared.end.End.TheVariants.{Bad, NoMemory}
 use Rattle.text_core.specs.declared.place.Place.{Place}
-use Rattle.smv_text.specs.declared.token.Token.{Token}
 use Rattle.smv_text.specs.declared.token.TokenKind.{TokenKind}
 use Rattle.smv_text.specs.declared.token.Reserved.{Reserved}
 use Rattle.smv_text.specs.declared.token.Sign.{Sign}
@@ -32,6 +29,10 @@ gap_step false b rest = if is_blank b then Some false else (if (b == 45) && head
 abbrev pub gap_length : Bool → List ℕ → ℕ
 gap_length inside [] = 0
 gap_length inside (b ∷ bs) = on_some (gap_step inside b bs) 0 (λ i. suc (gap_length i bs))
+
+-- a byte that goes on with a word, whatever stands behind it
+abbrev pub is_word_byte : ℕ → Bool
+is_word_byte b = is_letter b || (is_digit b || ((b == 36) || (b == 35)))
 
 -- a comment stands at the front
 abbrev pub begins_comment : List ℕ → Bool
@@ -74,6 +75,10 @@ lexeme_length [] = 0
 lexeme_length (b ∷ bs) =
     if is_letter b then suc (front_length in_word bs) else (if is_digit b then suc (front_length in_run bs) else sign_length (sign_at b bs))
 
+-- the place so many bytes along the line
+abbrev pub along : Place → ℕ → Place
+along p n = record { line = p.line; column = p.column + n; offset = p.offset + n }
+
 -- what stands next at a lexeme with the rest behind it, where n brackets stand open
 abbrev pub kinded : ℕ → Place → List ℕ → List ℕ → Option TokenKind → Next
 kinded n at lexeme rest None = bad (refusal_at 3 at)
@@ -94,12 +99,6 @@ behind n at (b ∷ bs) = sized n at (b ∷ bs) (lexeme_length (b ∷ bs))
 unfoldable pub next_of : ℕ → Place → List ℕ → Next
 next_of n at text = behind n (after at (take (gap_length false text) text)) (drop (gap_length false text) text)
 
--- what reading a token answers
-abbrev pub Gives : ℕ → Place → List ℕ → Result Token End → Type 0
-Gives n at text (Ok t) = behind n at text ≡ go t (after at (take t.length text)) (drop t.length text)
-Gives n at text (Err (Bad why)) = behind n at text ≡ bad why
-Gives n at text (Err NoMemory) = Unit {0}
-
 -- a word that is no identifier, and which reserved one it is, if it is supported
 abbrev pub Keyword : Type 0
 Keyword = List ℕ × Option Reserved
@@ -107,6 +106,11 @@ Keyword = List ℕ × Option Reserved
 -- a row of a table of words
 abbrev pub row : Bor (List ℕ) × Option Reserved → Keyword
 row w = (w.0.now, w.1)
+
+-- the first byte, or 0 where there is none
+abbrev pub first_of : List ℕ → ℕ
+first_of [] = 0
+first_of (b ∷ bs) = b
 
 -- the last byte, or 0 where there is none
 abbrev pub last_of : List ℕ → ℕ

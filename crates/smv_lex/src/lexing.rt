@@ -9,68 +9,20 @@ ghost use Rattle.text_core.specs.Places.{after, start, Reaches};
 ghost use Rattle.smv_text.specs.Signs.{sign_bytes};
 ghost use Rattle.smv_text.specs.Keywords.{word_bytes};
 ghost use Rattle.smv_text.specs.Words.{kind_of};
-ghost use Rattle.smv_lex.specs.Reading.{gap_length, Gives};
+ghost use Rattle.smv_lex.specs.Reading.{gap_length};
 ghost use Rattle.smv_lex.specs.Answer.{Reads, Stops, IsRefused, IsAnswered, lex_refusal};
 ghost use Rattle.smv_lex.specs.Spelling.{joined};
 ghost use Rattle.smv_lex.specs.Printable.{ArePrintable, CanAllBePrinted};
-ghost use Rattle.smv_text.specs.Lexing.{kinds, Lexes, opened_by, most_brackets};
+ghost use Rattle.smv_text.specs.Lexing.{kinds, Lexes};
 
-use crate::brackets::{MOST_BRACKETS, opened_by};
-use crate::scan::{gap_length, kind_of, lexeme_length};
-use smv_text::{Token, Tokens};
+use crate::adding::add_token;
+use crate::scan::{along, skip_gap};
+use smv_text::Tokens;
 use std::alloc::Global;
-use text_core::kinds::smv;
-use text_core::{End, FIRST_PLACE, Place, Refusal};
+use text_core::{End, FIRST_PLACE};
 
 /// Why there are no tokens.
 pub type LexEnd = End;
-
-/// The place and the text behind the gap that a text begins with.
-fn skip_gap(place: Place, text: &[u8]) -> (Place, &[u8])
-    requires { Reaches place (length text.now) }
-    ensures place { result.0 ≡ after place (take (gap_length false text.now) text.now) }
-    ensures rest { result.1.now ≡ drop (gap_length false text.now) text.now }
-    ensures reaches { Reaches result.0 (length result.1.now) }
-{
-    let (gap, rest) = text.split_at(gap_length(text));
-    (place.after(gap), rest)
-}
-
-/// The token at the front of a text that isn't empty, where so many brackets stand open.
-fn read_token(alloc: Global, place: Place, opened: u32, text: &[u8]) -> Result<Token, LexEnd>
-    requires reaches { Reaches place (length text.now) }
-    requires opened { opened ≤ most_brackets }
-    requires more { text.now ≢ [] }
-    ensures next { Gives opened place text.now result }
-    ensures some { IfOk result (λ token. 0 < token.length) }
-    ensures within { IfOk result (λ token. token.length ≤ length text.now) }
-    ensures nested { IfOk result (λ token. opened_by opened token.kind ≤ most_brackets) }
-{
-    let size = lexeme_length(text);
-    if size == 0 {
-        return Err(LexEnd::Bad(Refusal {
-            kind: smv::BAD_BYTE,
-            place,
-        }));
-    }
-    let Some(kind) = kind_of(alloc, &text[..size])? else {
-        return Err(LexEnd::Bad(Refusal {
-            kind: smv::BAD_NUMBER,
-            place,
-        }));
-    };
-    if opened_by(opened, &kind) > MOST_BRACKETS {
-        return Err(LexEnd::Bad(Refusal {
-            kind: smv::TOO_NESTED,
-            place,
-        }));
-    }
-    Ok(Token {
-        kind,
-        place,
-        length: size as u32,
-    })
-}
 
 /// The tokens of a text, or its refusal.
 fn tokens_of(alloc: Global, text: &[u8]) -> Result<Tokens, LexEnd>
@@ -88,12 +40,10 @@ fn tokens_of(alloc: Global, text: &[u8]) -> Result<Tokens, LexEnd>
         if more.is_empty() {
             return Ok(Tokens::of(tokens, at));
         }
-        let token = read_token(alloc, at, opened, more)?;
-        let (lexeme, last) = more.split_at(token.length as usize);
-        opened = opened_by(opened, &token.kind);
-        tokens.push(token)?;
-        place = at.after(lexeme);
-        rest = last;
+        let added = add_token(alloc, &mut tokens, at, opened, more)?;
+        opened = added.opened;
+        place = along(at, added.size);
+        rest = more.split_at(added.size).1;
     }
 }
 

@@ -1,11 +1,13 @@
 //! The lexer of SMV models: the tokens of a text, or its first refusal.
 #![tactic(auto)]
 
+mod adding;
 mod brackets;
 mod lexing;
 mod numbers;
 mod scan;
 mod signs;
+mod tables;
 mod words;
 
 pub use brackets::{MOST_BRACKETS, opened_by};

@@ -1,17 +1,14 @@
-// Parts of a text: gaps, lexemes, kinds and places.
-ghost use Rattle.std.specs.Prelude.{◌≡◌, ◌+◌, ◌<◌, ◌≤◌, ◌^◌, [], length, false, option_map, IfOk};
+// Parts of a text: gaps, words, runs and places.
+ghost use Rattle.std.specs.Prelude.{◌≡◌, ◌+◌, ◌<◌, ◌≤◌, ◌^◌, [], length, take, drop, false};
 ghost use Rattle.smv_text.specs.Bytes.{is_letter, is_blank, front_length};
-ghost use Rattle.smv_text.specs.Words.{in_word, in_run, kind_of};
-ghost use Rattle.smv_lex.specs.Reading.{gap_step, gap_length, lexeme_length};
+ghost use Rattle.smv_text.specs.Words.{in_word, in_run};
+ghost use Rattle.smv_lex.specs.Reading.{along, gap_step, gap_length, is_word_byte};
+ghost use Rattle.text_core.specs.Places.{Reaches, after};
 
-use crate::numbers::run_kind;
-use crate::signs::{heads, sign_at, sign_length};
-use crate::words::word_kind;
-use smv_text::{Sign, TokenKind};
-use std::alloc::Global;
-use text_core::{NoMemory, is_digit};
+use crate::signs::heads;
+use text_core::{Place, is_digit};
 
-fn is_letter(b: u8) -> bool
+pub fn is_letter(b: u8) -> bool
     ensures { result ≡ is_letter b }
 {
     (b >= b'A' && b <= b'Z') || (b >= b'a' && b <= b'z') || b == b'_'
@@ -38,34 +35,54 @@ fn gap_step(inside: bool, b: u8, rest: &[u8]) -> Option<bool>
     }
 }
 
-/// The length of the gap that a text begins with.
-pub fn gap_length(text: &[u8]) -> usize
-    ensures value { result ≡ gap_length false text.now }
-    ensures within { result ≤ length text.now }
+/// The place and the text behind the gap that a text begins with.
+pub fn skip_gap(place: Place, text: &[u8]) -> (Place, &[u8])
+    requires { Reaches place (length text.now) }
+    ensures place { result.0 ≡ after place (take (gap_length false text.now) text.now) }
+    ensures rest { result.1.now ≡ drop (gap_length false text.now) text.now }
+    ensures reaches { Reaches result.0 (length result.1.now) }
 {
+    let mut at = place;
     let mut rest = text;
     let mut inside = false;
-    let mut count = 0;
     while let Some((b, more)) = rest.split_first() {
         let Some(next) = gap_step(inside, *b, more) else {
-            return count
+            return (at, rest)
         };
+        at = at.next(*b);
         inside = next;
-        count += 1;
         rest = more;
     }
-    count
+    (at, rest)
+}
+
+/// The bytes that go on with a word wherever they stand, each at its own number, and `-` at all others.
+const WORD_BYTES: [u8; 256] = *b"\
+    --------------------------------\
+    ---#$-----------0123456789------\
+    -ABCDEFGHIJKLMNOPQRSTUVWXYZ----_\
+    -abcdefghijklmnopqrstuvwxyz-----\
+    --------------------------------\
+    --------------------------------\
+    --------------------------------\
+    --------------------------------";
+
+/// Whether a byte goes on with a word wherever it stands.
+fn is_word_byte(b: u8) -> bool
+    ensures { result ≡ is_word_byte b }
+{
+    WORD_BYTES[b as usize] != b'-'
 }
 
 /// Whether a byte goes on with a word.
 fn in_word(b: u8, rest: &[u8]) -> bool
     ensures { result ≡ in_word b rest.now }
 {
-    is_letter(b) || is_digit(b) || b == b'$' || b == b'#' || (b == b'-' && !heads(b'>', rest))
+    is_word_byte(b) || (b == b'-' && !heads(b'>', rest))
 }
 
 /// How many bytes go on with a word.
-fn word_length(text: &[u8]) -> usize
+pub fn word_length(text: &[u8]) -> usize
     ensures value { result ≡ front_length in_word text.now }
     ensures within { result ≤ length text.now }
 {
@@ -89,7 +106,7 @@ fn in_run(b: u8) -> bool
 }
 
 /// How many bytes go on with a run of letters and digits.
-fn run_length(text: &[u8]) -> usize
+pub fn run_length(text: &[u8]) -> usize
     ensures value { result ≡ front_length in_run text.now }
     ensures within { result ≤ length text.now }
 {
@@ -105,50 +122,15 @@ fn run_length(text: &[u8]) -> usize
     count
 }
 
-/// The length of the lexeme that a text begins with, or 0 where none stands there.
-pub fn lexeme_length(text: &[u8]) -> usize
-    ensures value { result ≡ lexeme_length text.now }
-    ensures within { result ≤ length text.now }
+/// The place so many bytes along the same line.
+pub fn along(place: Place, count: usize) -> Place
+    requires { Reaches place count }
+    ensures { result ≡ along place count }
 {
-    match text.split_first() {
-        None => 0,
-        Some((b, rest)) => {
-            if is_letter(*b) {
-                word_length(rest) + 1
-            } else if is_digit(*b) {
-                run_length(rest) + 1
-            } else {
-                sign_length(sign_at(*b, rest))
-            }
-        }
-    }
-}
-
-/// The kind of a lexeme, or None where it spells nothing.
-pub fn kind_of(alloc: Global, lexeme: &[u8]) -> Result<Option<TokenKind>, NoMemory>
-    requires { lexeme_length lexeme.now ≡ length lexeme.now }
-    ensures { IfOk result (λ kind. kind ≡ kind_of lexeme.now) }
-{
-    match lexeme.split_first() {
-        None => Ok(None),
-        Some((b, rest)) => {
-            if is_letter(*b) {
-                Ok(Some(word_kind(alloc, lexeme)?))
-            } else if is_digit(*b) {
-                run_kind(alloc, lexeme)
-            } else {
-                Ok(sign_kind(sign_at(*b, rest)))
-            }
-        }
-    }
-}
-
-/// The kind of a sign.
-fn sign_kind(sign: Option<Sign>) -> Option<TokenKind>
-    ensures { result ≡ option_map TokenKind.Sign sign }
-{
-    match sign {
-        Some(sign) => Some(TokenKind::Sign(sign)),
-        None => None,
+    let count = count as u32;
+    Place {
+        line: place.line,
+        column: place.column + count,
+        offset: place.offset + count,
     }
 }

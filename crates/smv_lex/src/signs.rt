@@ -1,7 +1,8 @@
 // Signs: the longest one at a place.
-ghost use Rattle.std.specs.Prelude.{◌≡◌, drop};
+ghost use Rattle.std.specs.Prelude.{◌≡◌, drop, length};
 ghost use Rattle.smv_text.specs.Bytes.{heads};
-ghost use Rattle.smv_lex.specs.Reading.{begins_comment, sign_at, sign_length};
+ghost use Rattle.smv_lex.specs.Reading.{begins_comment, sign_at};
+ghost use Rattle.smv_text.specs.Signs.{sign_bytes};
 ghost use Rattle.smv_lex.specs.Reading as spec;
 
 use smv_text::Sign;
@@ -131,24 +132,21 @@ fn slash_sign(rest: &[u8]) -> Option<Sign>
     }
 }
 
-/// The length of a sign, and 0 of none.
-pub fn sign_length(sign: Option<Sign>) -> usize
-    ensures { result ≡ sign_length sign }
+/// The length of a sign.
+pub fn sign_length(sign: Sign) -> usize
+    ensures { result ≡ length (sign_bytes sign) }
 {
     match sign {
-        None => 0,
-        Some(
-            Sign::Range
-            | Sign::Assign
-            | Sign::Unequal
-            | Sign::LessEqual
-            | Sign::GreaterEqual
-            | Sign::ShiftLeft
-            | Sign::ShiftRight
-            | Sign::Concat
-            | Sign::Implies,
-        ) => 2,
-        Some(Sign::Iff) => 3,
-        Some(_) => 1,
+        Sign::Range
+        | Sign::Assign
+        | Sign::Unequal
+        | Sign::LessEqual
+        | Sign::GreaterEqual
+        | Sign::ShiftLeft
+        | Sign::ShiftRight
+        | Sign::Concat
+        | Sign::Implies => 2,
+        Sign::Iff => 3,
+        _ => 1,
     }
 }
