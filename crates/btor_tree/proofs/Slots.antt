@@ -1,8 +1,9 @@
 -- The arguments of a line where they lie.
-use Rattle.std.proofs.Common.{◌≡◌, ◌≢◌, ◌<◌, ◌≤◌, ℕ, zero, suc, [], ◌∷◌, length, refl, sym, ap, subst, ◌∙◌, arith, slice_index_or}
+use Rattle.std.proofs.Common.{◌≡◌, ◌≢◌, ◌<◌, ◌≤◌, ℕ, zero, suc, Bool, true, false, ◌&&◌, List, [], ◌∷◌, length, refl, sym, ap, subst, ◌∙◌, arith, slice_index_or}
 use Rattle.std.proofs.lemmas.List.{length-take-le}
 use Rattle.btor_tree.specs.declared.args.Arg.{Arg}
 use Rattle.btor_tree.specs.ListedArgs.{listed}
+use Rattle.btor_tree.specs.Sharing.{same_arg, same_args}
 
 pub as_many : (n : ℕ) (a b c : Arg) → n ≤ 3 → n ≡ length (listed n a b c)
 as_many n a b c h = sym (length-take-le n (a ∷ b ∷ c ∷ []) h)
@@ -36,3 +37,17 @@ two_there n a b c e = ap (λ m. listed m a b c) e
 
 pub not_two : (n : ℕ) (a b c : Arg) → n ≤ 3 → n ≢ 2 → length (listed n a b c) ≢ 2
 not_two n a b c m e f = e (as_many n a b c m ∙ f)
+
+and_no : (b : Bool) → (b && false) ≡ false
+and_no true = refl
+and_no false = refl
+
+differ : (xs ys : List Arg) → length xs ≢ length ys → same_args xs ys ≡ false
+differ [] [] d = absurd (d refl)
+differ [] (y ∷ ys) d = refl
+differ (x ∷ xs) [] d = refl
+differ (x ∷ xs) (y ∷ ys) d = ap (λ b. same_arg x y && b) (differ xs ys (λ e. d (ap suc e))) ∙ and_no (same_arg x y)
+
+pub not_as_many : (n m : ℕ) (a b c x y z : Arg) → n ≤ 3 → m ≤ 3 → n ≢ m → false ≡ same_args (listed n a b c) (listed m x y z)
+not_as_many n m a b c x y z h g d =
+    sym (differ (listed n a b c) (listed m x y z) (λ e. d (as_many n a b c h ∙ e ∙ sym (as_many m x y z g))))

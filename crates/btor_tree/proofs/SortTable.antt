@@ -1,5 +1,5 @@
--- The table of the places of sort lines.
-use Rattle.std.proofs.Common.{◌≡◌, ℕ, suc, ◌-◌, ◌≤◌, Bool, true, false, cond, List, [], ◌∷◌, ◌++◌, length, set, get_or, Option, Some, None, option_map, refl, sym, ap, ◌∙◌, subst, arith, inl, inr}
+-- The table of the places of sort lines, and what a builder keeps.
+use Rattle.std.proofs.Common.{◌≡◌, ℕ, suc, ◌+◌, ◌-◌, ◌<◌, ◌≤◌, Bool, true, false, cond, List, [], ◌∷◌, ◌++◌, length, set, get_or, Option, Some, None, option_map, refl, sym, ap, ◌∙◌, subst, arith, inl, inr}
 use Rattle.std.specs.Prelude.{IfOk, OnErr}
 use Rattle.std.specs.declared.result.Result.{Result}
 use Rattle.std.specs.declared.result.Result.TheVariants.{Ok, Err}
@@ -11,11 +11,12 @@ use Rattle.btor_tree.specs.declared.args.Arg.{Arg}
 use Rattle.btor_tree.specs.declared.lines.Line.{Line}
 use Rattle.btor_tree.specs.declared.lines.LineOp.{LineOp}
 use Rattle.btor_tree.specs.declared.lines.LineOp.TheVariants as op
-use Rattle.btor_tree.specs.declared.line_key.LineKey.{LineKey}
-use Rattle.btor_tree.specs.declared.line_places.LinePlaces.{LinePlaces}
-use Rattle.btor_tree.specs.Sharing.{is_alike, place_alike, next_line, placed, pushed}
-use Rattle.btor_tree.specs.LineKeys.{KnowsSorts, Puts}
-use Rattle.btor_tree.proofs.Alike.{none_step, says_alike}
+use Rattle.btor_tree.specs.Fits.{IsWellFormed, Suits, greatest_id}
+use Rattle.btor_tree.specs.Held.{IsNumbered}
+use Rattle.btor_tree.specs.Sharing.{HasNoTwoAlike, is_alike, place_alike, standing, next_line, placed, pushed}
+use Rattle.btor_tree.specs.LineKeys.{KnowsSorts}
+use Rattle.btor_tree.proofs.Alike.{none_step, pushed_distinct, says_alike}
+use Rattle.btor_tree.proofs.Equations.{pushed_fit}
 use Rattle.btor_tree.proofs.Sorts.{no_places, none_at}
 
 -- a line at the end changes no place that was found
@@ -33,17 +34,29 @@ knows_push : (lines : List Line) (l : Line) (sorts : List (Option ℕ)) → Know
 knows_push lines l sorts k =
     record { long = k.long; places = λ w p h. place_stays lines l (op.Sort (suc w)) 0 [] p (k.places w p h) }
 
-knows_same : (lines more : List Line) (sorts : List (Option ℕ)) → more ≡ lines → KnowsSorts lines sorts → KnowsSorts more sorts
-knows_same lines more sorts e k = subst (λ ls. KnowsSorts ls sorts) (sym e) k
+knows_placed : (found : Option ℕ) (lines : List Line) (l : Line) (sorts : List (Option ℕ)) → KnowsSorts lines sorts → KnowsSorts (placed found lines l).0 sorts
+knows_placed (Some there) lines l sorts k = k
+knows_placed None lines l sorts k = knows_push lines l sorts k
 
-knows_put : (found : Option ℕ) (key : Option LineKey) (l : Line) (lines more : List Line) (places new : LinePlaces) (p : ℕ) (sorts : List (Option ℕ)) → Puts found key l lines places p more new → KnowsSorts lines sorts → KnowsSorts more sorts
-knows_put (Some there) key l lines more places new p sorts q k = knows_same lines more sorts q.1 k
-knows_put None key l lines more places new p sorts q k = knows_same (lines ++ l ∷ []) more sorts q.1 (knows_push lines l sorts k)
+pub knows_pushed : (lines : List Line) (o : LineOp) (sort : ℕ) (args : List Arg) (symbol : Option (List ℕ)) (sorts : List (Option ℕ)) → KnowsSorts lines sorts → KnowsSorts (pushed lines o sort args symbol).0 sorts
+knows_pushed lines o sort args symbol sorts k = knows_placed (standing lines o sort args) lines (next_line lines o sort args symbol) sorts k
 
--- whether or not a line was put
-pub knows_both : {E : Type 0} (r : Result ℕ E) (found : Option ℕ) (key : Option LineKey) (l : Line) (lines more : List Line) (places new : LinePlaces) (sorts : List (Option ℕ)) → IfOk r (λ p. Puts found key l lines places p more new) → OnErr r (more ≡ lines) → KnowsSorts lines sorts → KnowsSorts more sorts
-knows_both (Ok p) found key l lines more places new sorts put same k = knows_put found key l lines more places new p sorts put k
-knows_both (Err e) found key l lines more places new sorts put same k = knows_same lines more sorts same k
+-- what a builder keeps of its lines and its table
+abbrev pub Keeps : List Line → List (Option ℕ) → Type 0
+Keeps lines sorts = IsWellFormed lines × IsNumbered lines × HasNoTwoAlike lines × KnowsSorts lines sorts
+
+keeps_pushed : (lines : List Line) (sorts : List (Option ℕ)) (o : LineOp) (sort : ℕ) (args : List Arg) (symbol : Option (List ℕ)) → Keeps lines sorts → length lines < greatest_id → Suits lines o sort args symbol → Keeps (pushed lines o sort args symbol).0 sorts
+keeps_pushed lines sorts o sort args symbol k room suits =
+    let fit = pushed_fit lines o sort args symbol k.0 k.1 room suits in
+    (fit.0, fit.1, pushed_distinct lines o sort args symbol k.2, knows_pushed lines o sort args symbol sorts k.3)
+
+-- whether or not a line was pushed
+pub keeps_both : {E : Type 0} (r : Result ℕ E) (now inside more : List Line) (sorts : List (Option ℕ)) (o : LineOp) (sort : ℕ) (args : List Arg) (symbol : Option (List ℕ)) (n : ℕ) → inside ≡ now → n ≡ length inside → Keeps inside sorts → length now < greatest_id → Suits now o sort args symbol → IfOk r (λ p. (more, p) ≡ placed (standing inside o sort args) inside (record { id = n + 1; op = o; sort = sort; args = args; symbol = symbol })) → OnErr r (more ≡ inside) → Keeps more sorts
+keeps_both (Ok p) now inside more sorts o sort args symbol n view long k room suits put same =
+    let e : (more, p) ≡ pushed inside o sort args symbol = put ∙ ap (λ m. placed (standing inside o sort args) inside (record { id = m + 1; op = o; sort = sort; args = args; symbol = symbol })) long in
+    subst (λ (x : List Line × ℕ). Keeps x.0 sorts) (sym e)
+    (keeps_pushed inside sorts o sort args symbol k (subst (λ ls. length ls < greatest_id) (sym view) room) (subst (λ ls. Suits ls o sort args symbol) (sym view) suits))
+keeps_both (Err e) now inside more sorts o sort args symbol n view long k room suits put same = subst (λ ls. Keeps ls sorts) (sym same) k
 
 -- an empty table
 pub knows_none : (lines : List Line) → KnowsSorts lines (no_places WIDEST)

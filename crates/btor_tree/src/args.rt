@@ -1,5 +1,6 @@
 // The arguments of a line.
 ghost use Rattle.std.specs.Prelude.{◌≡◌, ◌≢◌, ◌<◌, [], ◌∷◌, false, length, slice_index_or, IfSome, IfNone};
+ghost use Rattle.btor_tree.specs.Sharing.{same_arg, same_args};
 
 use std::marker::Model;
 
@@ -39,6 +40,12 @@ pub fn plain_arg(line: u32) -> Arg
         line,
         negated: false,
     }
+}
+
+fn is_same_arg(a: &Arg, b: &Arg) -> bool
+    ensures { result ≡ same_arg a.now b.now }
+{
+    a.line == b.line && a.negated == b.negated
 }
 
 /// No argument.
@@ -111,6 +118,28 @@ impl Args {
             &self.second
         } else {
             &self.third
+        }
+    }
+
+    /// Are these the same arguments?
+    #[tactic(auto, using(crate::proofs::Slots::not_as_many))]
+    pub(crate) fn is_same(&self, other: &Args) -> bool
+        ensures { result ≡ same_args self.now other.now }
+    {
+        if self.count != other.count {
+            return false;
+        }
+        match self.count {
+            0 => true,
+            1 => is_same_arg(&self.first, &other.first),
+            2 => {
+                is_same_arg(&self.first, &other.first) && is_same_arg(&self.second, &other.second)
+            }
+            _ => {
+                is_same_arg(&self.first, &other.first)
+                    && is_same_arg(&self.second, &other.second)
+                    && is_same_arg(&self.third, &other.third)
+            }
         }
     }
 

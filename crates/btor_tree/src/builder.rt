@@ -1,12 +1,13 @@
 // A list of lines that numbers them 1, 2, 3 and so on, with one line for all that say the same.
-ghost use Rattle.std.specs.Prelude.{◌≡◌, ◌+◌, ◌<◌, ◌≤◌, [], ◌^◌, length, Some, IfOk, OnErr};
+ghost use Rattle.std.specs.Prelude.{◌≡◌, ◌<◌, ◌≤◌, [], ◌^◌, length, Some, IfOk, OnErr};
 ghost use Rattle.btor_tree.specs.Fits.{Suits, IsWellFormed, last_id, sort_at, sort_of, width_at};
-ghost use Rattle.btor_tree.specs.LineKeys.{Enters, HasTwoLevels, KnowsSame, Puts, place_in};
-ghost use Rattle.btor_tree.specs.Sharing.{HasNoTwoAlike, place_alike, pushed, with_sort};
+ghost use Rattle.btor_tree.specs.LineKeys.{HasPlaces, IsShort};
+ghost use Rattle.btor_tree.specs.Sharing.{HasNoTwoAlike, place_alike, placed, pushed, standing, with_sort};
+ghost use Rattle.btor_tree.specs.declared.lines.Line.{Line};
 ghost use Rattle.btor_tree.specs.declared.lines.LineOp.TheVariants as op;
 
 use crate::args::{Args, no_args};
-use crate::line_key::{LineKey, line_key};
+use crate::line_key::is_shared;
 use crate::line_places::{LinePlaces, enter, no_places};
 use crate::lines::{GREATEST_ID, Line, LineOp, sort_width};
 use crate::nodes::Nodes;
@@ -32,14 +33,14 @@ impl Model for Builder {
     ghost use Rattle.btor_tree.specs.declared.lines.Line.{Line};
     ghost use Rattle.btor_tree.specs.Fits.{IsWellFormed};
     ghost use Rattle.btor_tree.specs.Held.{IsNumbered};
-    ghost use Rattle.btor_tree.specs.LineKeys.{HasPlaces, HasTwoLevels, KnowsSorts};
+    ghost use Rattle.btor_tree.specs.LineKeys.{HasPlaces, KnowsSorts};
     ghost use Rattle.btor_tree.specs.Sharing.{HasNoTwoAlike};
 
     ghost Value = { List Line };
 
     ghost view = { λ a. a.lines.items };
 
-    ghost invariant = { λ a. IsWellFormed a.lines.items × IsNumbered a.lines.items × HasNoTwoAlike a.lines.items × HasPlaces a.lines.items a.places × KnowsSorts a.lines.items a.sorts × HasTwoLevels a.places };
+    ghost invariant = { λ a. IsWellFormed a.lines.items × IsNumbered a.lines.items × HasNoTwoAlike a.lines.items × HasPlaces a.lines.items a.places × KnowsSorts a.lines.items a.sorts };
 }
 
 impl Builder {
@@ -79,8 +80,7 @@ impl Builder {
             args,
             symbol,
         };
-        let key = line_key(&line.op, line.sort, &line.args);
-        put_line(&mut self.lines, &mut self.places, key, line)
+        put_line(&mut self.lines, &mut self.places, line)
     }
 
     /// The place of the sort line of this width, which is made at the first need. The lines stay as they are where it is
@@ -151,49 +151,41 @@ impl Builder {
     }
 }
 
-// The place of what is shared. What may not be shared has no place and takes none.
-fn enter_place(
-    places: &mut LinePlaces,
-    key: Option<LineKey>,
-    place: u32,
-) -> Result<Option<u32>, NoMemory>
-    requires { HasTwoLevels places.old }
-    ensures found { IfOk result (λ found. found ≡ place_in places.old key) }
-    ensures entered { IfOk result (λ found. Enters found key place places.old places.new) }
-    ensures refused { OnErr result (KnowsSame places.old places.new) }
-    ensures two { HasTwoLevels places.new }
+// The place of the line that says this already, where such lines are shared, or none, and then the place behind the lines is
+// kept for this line where it is shared.
+fn enter_line(places: &mut LinePlaces, lines: &[Line], line: &Line) -> Result<Option<u32>, NoMemory>
+    requires few { length lines.now < 2 ^ 32 }
+    requires short { IsShort line.now.args }
+    requires has { HasPlaces lines.now places.old }
+    ensures found { IfOk result (λ found. found ≡ standing lines.now line.now.op line.now.sort line.now.args) }
+    ensures entered { IfOk result (λ found. HasPlaces (placed found lines.now line.now).0 places.new) }
+    ensures refused { OnErr result (HasPlaces lines.now places.new) }
 {
-    match key {
-        None => Ok(None),
-        Some(key) => enter(places, key, place),
+    if is_shared(&line.op) {
+        enter(places, lines, line)
+    } else {
+        Ok(None)
     }
 }
 
-// The place of the line that says this already, or else of this line, added at the end. Lines and places stay as they are where
-// it is refused.
-fn put_line(
-    lines: &mut Vec<Line>,
-    places: &mut LinePlaces,
-    key: Option<LineKey>,
-    line: Line,
-) -> Result<u32, NoMemory>
+// The place of the line that says this already, or else of this line, added at the end. The lines stay as they are where it is
+// refused.
+fn put_line(lines: &mut Vec<Line>, places: &mut LinePlaces, line: Line) -> Result<u32, NoMemory>
     requires few { length lines.old.items < 2 ^ 32 }
-    requires two { HasTwoLevels places.old }
-    ensures put { IfOk result (λ p. Puts (place_in places.old key) key line lines.old.items places.old p lines.new.items places.new) }
-    ensures lines_stay { OnErr result (lines.new.items ≡ lines.old.items) }
-    ensures places_stay { OnErr result (KnowsSame places.old places.new) }
-    ensures two_stay { HasTwoLevels places.new }
+    requires short { IsShort line.args }
+    requires has { HasPlaces lines.old.items places.old }
+    ensures put { IfOk result (λ p. (lines.new.items, p) ≡ placed (standing lines.old.items line.op line.sort line.args) lines.old.items line) }
+    ensures refused { OnErr result (lines.new.items ≡ lines.old.items) }
+    ensures has { HasPlaces lines.new.items places.new }
 {
-    // First the list makes its room, so that it takes the line without growing once the map has the place.
-    if lines.len() == lines.capacity() && lines.reserve(1).is_err() {
-        return Err(NoMemory);
+    // First the list makes its room, so that it takes the line without growing once its place is kept.
+    if lines.len() == lines.capacity() {
+        lines.reserve(1)?;
     }
     let place = lines.len() as u32;
-    if let Some(there) = enter_place(places, key, place)? {
+    if let Some(there) = enter_line(places, lines, &line)? {
         return Ok(there);
     }
-    match lines.push(line) {
-        Ok(()) => Ok(place),
-        Err(_) => Err(NoMemory),
-    }
+    lines.push_reserved(line);
+    Ok(place)
 }

@@ -1,11 +1,11 @@
 // What a line says, as a key of an ordered map.
-ghost use Rattle.std.specs.Prelude.{◌≡◌, slice_index_or};
+ghost use Rattle.std.specs.Prelude.{◌≡◌, ◌<◌, ◌+◌, ◌*◌, ◌^◌, slice_index_or};
 ghost use Rattle.btor_tree.specs.Fits.{plain_arg};
-ghost use Rattle.btor_tree.specs.Sharing.{is_shared, op_kind, op_number, op_second};
+ghost use Rattle.btor_tree.specs.Sharing.{is_alike, is_shared, op_kind, op_number, op_second, same_op};
 ghost use Rattle.btor_tree.specs.LineKeys as spec;
 
 use crate::args::{Arg, Args, plain_arg};
-use crate::lines::LineOp;
+use crate::lines::{Line, LineOp};
 use std::cmp::Reverse;
 
 /// What a line says that is shared: its first three arguments and how many there are, the number of its kind and its numbers,
@@ -23,32 +23,44 @@ pub struct LineKey {
     count: u8,
 }
 
-/// What a line says, where such lines are shared.
-pub fn line_key(op: &LineOp, sort: u32, args: &Args) -> Option<LineKey>
+/// What a line says.
+pub fn line_key(op: &LineOp, sort: u32, args: &Args) -> LineKey
     requires { spec.IsShort args.now }
-    ensures { result ≡ spec.shared_key op.now sort args.now }
+    ensures { result ≡ spec.key_of op.now sort args.now }
 {
-    if is_shared(op) {
-        Some(LineKey {
-            first: Reverse(arg_at(args, 0)),
-            second: Reverse(arg_at(args, 1)),
-            number: op_number(op),
-            kind: op_kind(op),
-            sort,
-            other: op_second(op),
-            third: arg_at(args, 2),
-            count: args.len() as u8,
-        })
-    } else {
-        None
+    LineKey {
+        first: Reverse(arg_at(args, 0)),
+        second: Reverse(arg_at(args, 1)),
+        number: op_number(op),
+        kind: op_kind(op),
+        sort,
+        other: op_second(op),
+        third: arg_at(args, 2),
+        count: args.len() as u8,
     }
 }
 
-/// The line of the first argument.
-pub fn first_line(key: &LineKey) -> u32
-    ensures { result ≡ spec.first_line key.now }
+/// A number that tells most arguments apart: twice the line of the first, and the line of the second.
+pub fn slot_of(args: &Args) -> usize
+    ensures value { result ≡ 2 * (slice_index_or args.now 0 (plain_arg 0)).line + (slice_index_or args.now 1 (plain_arg 0)).line }
+    ensures small { result < 2 ^ 63 }
 {
-    key.first.0.line
+    2 * arg_at(args, 0).line as usize + arg_at(args, 1).line as usize
+}
+
+/// Do the lines say the same?
+pub fn is_alike(line: &Line, other: &Line) -> bool
+    ensures { result ≡ is_alike line.now.op line.now.sort line.now.args other.now }
+{
+    line.sort == other.sort && line.args.is_same(&other.args) && is_same_op(&line.op, &other.op)
+}
+
+fn is_same_op(op: &LineOp, other: &LineOp) -> bool
+    ensures { result ≡ same_op op.now other.now }
+{
+    op_kind(op) == op_kind(other)
+        && op_number(op) == op_number(other)
+        && op_second(op) == op_second(other)
 }
 
 // The argument at a place, or the first line where there is none.
@@ -62,8 +74,8 @@ fn arg_at(args: &Args, i: usize) -> Arg
     }
 }
 
-// Is one line of this kind enough for all that say the same?
-fn is_shared(op: &LineOp) -> bool
+/// Is one line of this kind enough for all that say the same?
+pub fn is_shared(op: &LineOp) -> bool
     ensures { result ≡ is_shared op.now }
 {
     match op {

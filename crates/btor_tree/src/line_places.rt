@@ -1,30 +1,36 @@
-// The places of what lines say: found by the first argument where one line has it first, and else in an ordered map.
-ghost use Rattle.std.specs.Prelude.{◌≡◌, ◌==◌, ℕ, get_or, Some, None, IfOk, OnOk, OnErr, if◌then◌else◌};
-ghost use Rattle.std.specs.BTreeMap.{IsUnchanged, get, is_at};
-ghost use Rattle.btor_tree.specs.LineKeys.{EntersKey, EntersKnown, HasTwoLevels, KnowsSame, key_cmp, known_at};
-ghost use Rattle.btor_tree.specs.declared.line_key.LineKey.{LineKey};
+// The places of what lines say: found in a table by the lines of the first two arguments, and else in an ordered map.
+ghost use Rattle.std.specs.Prelude.{◌≡◌, ◌==◌, ◌<◌, ◌≤◌, ◌^◌, ℕ, [], true, length, get_or, Some, None, IfOk, OnOk, OnErr, if◌then◌else◌};
+ghost use Rattle.std.specs.BTreeMap.{IsUnchanged, get};
+ghost use Rattle.btor_tree.specs.LineKeys.{EntersKey, HasPlaces, IsShort};
+ghost use Rattle.btor_tree.specs.Sharing.{is_shared, placed, standing};
+ghost use Rattle.btor_tree.specs.declared.lines.Line.{Line};
 
-use crate::line_key::{LineKey, first_line};
+use crate::line_key::{LineKey, is_alike, line_key, slot_of};
+use crate::lines::Line;
 use std::alloc::Global;
 use std::cmp::Ord;
 use std::collections::BTreeMap;
 use std::collections::btree_map::Entry;
 use text_core::NoMemory;
 
-/// The places of what lines say. Most lines are the first with their first argument, so that they need no map.
+// How many free slots are added at once.
+const MORE: usize = 64;
+
+/// The places of what lines say. A slot has the place of the first line that came to it, and what that line says is read where
+/// it stands. Most lines have a slot of their own, so that they need no map.
 #[derive(Drop)]
 pub struct LinePlaces {
-    firsts: Vec<Option<(LineKey, u32)>>,
+    slots: Vec<Option<u32>>,
     others: BTreeMap<LineKey, u32>,
 }
 
 /// No places. It takes no memory.
+#[tactic(auto, using(crate::proofs::TwoLevels::none_placed))]
 pub fn no_places(alloc: Global) -> LinePlaces
-    ensures two { HasTwoLevels result }
-    ensures none { (k : LineKey) → known_at result k ≡ None }
+    ensures { HasPlaces [] result }
 {
     LinePlaces {
-        firsts: Vec::new(alloc),
+        slots: Vec::new(alloc),
         others: BTreeMap::new(alloc),
     }
 }
@@ -50,57 +56,64 @@ fn enter_key<K: Ord + Drop>(
     }
 }
 
-fn first_at(firsts: &[Option<(LineKey, u32)>], line: u32) -> Option<(LineKey, u32)>
-    ensures { result ≡ get_or firsts.now line None }
+fn at_slot(slots: &[Option<u32>], slot: usize) -> Option<u32>
+    ensures { result ≡ get_or slots.now slot None }
 {
-    match firsts.get(line as usize) {
-        Some(first) => *first,
+    match slots.get(slot) {
+        Some(place) => *place,
         None => None,
     }
 }
 
-fn set_first(
-    firsts: &mut Vec<Option<(LineKey, u32)>>,
-    line: u32,
-    key: LineKey,
-    place: u32,
-) -> Result<(), NoMemory>
-    ensures ok { OnOk result ((i : ℕ) → get_or firsts.new.items i None ≡ (if i == line then Some (key, place) else get_or firsts.old.items i None)) }
-    ensures err { OnErr result ((i : ℕ) → get_or firsts.new.items i None ≡ get_or firsts.old.items i None) }
+// Adds free slots up to this one, and some more, so that it is seldom done.
+fn add_slots(slots: &mut Vec<Option<u32>>, slot: usize) -> Result<(), NoMemory>
+    requires missing { length slots.old.items ≤ slot }
+    requires small { slot < 2 ^ 63 }
+    ensures there { OnOk result (slot < length slots.new.items) }
+    ensures same { (i : ℕ) → get_or slots.new.items i None ≡ get_or slots.old.items i None }
 {
-    let at = line as usize;
-    if firsts.len() <= at {
-        firsts.resize(at + 1, None)?;
-    }
-    firsts[at] = Some((key, place));
+    slots.resize(slot + 1, None)?;
+    slots.extend_from_slice(&[None; MORE])?;
     Ok(())
 }
 
-fn is_same_key(a: &LineKey, b: &LineKey) -> bool
-    ensures { result ≡ is_at (key_cmp a.now) b.now }
+fn take_slot(slots: &mut Vec<Option<u32>>, slot: usize, place: u32) -> Result<(), NoMemory>
+    requires { slot < 2 ^ 63 }
+    ensures ok { OnOk result ((i : ℕ) → get_or slots.new.items i None ≡ (if i == slot then Some place else get_or slots.old.items i None)) }
+    ensures err { OnErr result ((i : ℕ) → get_or slots.new.items i None ≡ get_or slots.old.items i None) }
 {
-    a.cmp(b).is_eq()
+    if slots.len() <= slot {
+        add_slots(slots, slot)?;
+    }
+    slots[slot] = Some(place);
+    Ok(())
 }
 
-/// The place that is known for a key, or none, and then the new place is known for it. What is known stays as it is where it has
-/// one, or where it is refused.
-pub fn enter(places: &mut LinePlaces, key: LineKey, place: u32) -> Result<Option<u32>, NoMemory>
-    requires { HasTwoLevels places.old }
-    ensures found { IfOk result (λ found. found ≡ known_at places.old key) }
-    ensures entered { IfOk result (λ found. EntersKnown found key place places.old places.new) }
-    ensures refused { OnErr result (KnowsSame places.old places.new) }
-    ensures two { HasTwoLevels places.new }
+/// The place of the line that says this already, or none, and then the place behind the lines is kept for this line.
+pub fn enter(places: &mut LinePlaces, lines: &[Line], line: &Line) -> Result<Option<u32>, NoMemory>
+    requires few { length lines.now < 2 ^ 32 }
+    requires short { IsShort line.now.args }
+    requires shared { is_shared line.now.op ≡ true }
+    requires has { HasPlaces lines.now places.old }
+    ensures found { IfOk result (λ found. found ≡ standing lines.now line.now.op line.now.sort line.now.args) }
+    ensures entered { IfOk result (λ found. HasPlaces (placed found lines.now line.now).0 places.new) }
+    ensures refused { OnErr result (HasPlaces lines.now places.new) }
 {
-    let line = first_line(&key);
-    match first_at(&places.firsts, line) {
+    let place = lines.len() as u32;
+    let slot = slot_of(&line.args);
+    match at_slot(&places.slots, slot) {
         None => {
-            set_first(&mut places.firsts, line, key, place)?;
+            take_slot(&mut places.slots, slot, place)?;
             Ok(None)
         }
-        Some((other, there)) => if is_same_key(&other, &key) {
+        Some(there) => if is_alike(line, &lines[there as usize]) {
             Ok(Some(there))
         } else {
-            enter_key(&mut places.others, key, place)
+            enter_key(
+                &mut places.others,
+                line_key(&line.op, line.sort, &line.args),
+                place,
+            )
         },
     }
 }

@@ -6,3 +6,4 @@ pub mod QuerySteps
 pub mod GoalSteps
 pub mod Known
 pub mod SystemSteps
+pub mod Joining

@@ -1,11 +1,14 @@
 // Lines that say something of frames, and symbols.
-ghost use Rattle.std.specs.Prelude.{◌≡◌, ◌++◌, ◌∷◌, [], true, map, IfOk, OnOk};
+ghost use Rattle.std.specs.Prelude.{◌≡◌, ◌≤◌, ◌+◌, ◌++◌, ◌∷◌, [], true, length, map, IfOk, OnOk};
 ghost use Rattle.moxi_lines.specs.Lines.{symbol_byte, symbol_of, with_bad, with_constraint, with_free, with_given};
 ghost use Rattle.moxi_to_btor.specs.Putting.{CanPutFree, CanPutGiven, CanPutTruth};
 
 use btor_tree::{Builder, LineOp, no_args, one_arg, plain_arg, two_args};
 use std::alloc::Global;
 use text_core::{Name, NoMemory};
+
+// How long a name may be that is put together in place.
+const SHORT: usize = 64;
 
 // A byte of a symbol: itself where it is visible and begins no comment, else `_`.
 fn symbol_byte(byte: u8) -> u8
@@ -90,6 +93,46 @@ pub fn put_free(
     let symbol = symbol_of(alloc, name)?;
     let sort = builder.sort(width)?;
     builder.push(op, sort, no_args(), symbol)
+}
+
+// The same with a name that is put together in place.
+fn put_free_short(
+    alloc: Global,
+    builder: &mut Builder,
+    op: LineOp,
+    width: u32,
+    name: &[u8],
+    more: &[u8],
+) -> Result<u32, NoMemory>
+    requires short { length name.now + length more.now ≤ 64 }
+    requires free { CanPutFree builder.old op width (name.now ++ more.now) }
+    ensures { IfOk result (λ p. (builder.new, p) ≡ with_free builder.old op width (name.now ++ more.now)) }
+{
+    let mut room = [0; SHORT];
+    let end = name.len() + more.len();
+    room[..name.len()].copy_from_slice(name);
+    room[name.len()..end].copy_from_slice(more);
+    put_free(alloc, builder, op, width, &room[..end])
+}
+
+/// An input or a state of this width, whose name has this behind it.
+pub fn put_free_behind(
+    alloc: Global,
+    builder: &mut Builder,
+    op: LineOp,
+    width: u32,
+    name: &[u8],
+    more: &[u8],
+) -> Result<u32, NoMemory>
+    requires { CanPutFree builder.old op width (name.now ++ more.now) }
+    ensures { IfOk result (λ p. (builder.new, p) ≡ with_free builder.old op width (name.now ++ more.now)) }
+{
+    if name.len() <= SHORT && more.len() <= SHORT - name.len() {
+        put_free_short(alloc, builder, op, width, name, more)
+    } else {
+        let all = joined(alloc, name, more)?;
+        put_free(alloc, builder, op, width, &all)
+    }
 }
 
 /// The init or the next of a state of this width.

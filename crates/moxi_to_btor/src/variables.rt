@@ -6,7 +6,7 @@ ghost use Rattle.moxi_term_lines.specs.Codes.{sort_bits};
 ghost use Rattle.moxi_lines.specs.Lines.{with_code, with_variable, with_variables};
 ghost use Rattle.moxi_to_btor.specs.Putting.{CanPutBelow, CanPutCode, CanPutVariable, CanPutVariables, below_lines};
 
-use crate::lines::{joined, put_constraint, put_free, put_given, put_place};
+use crate::lines::{put_constraint, put_free, put_free_behind, put_given, put_place};
 use btor_tree::{Builder, LineOp};
 use moxi_term_builder::{choice_width, put_binary, put_constant};
 use moxi_terms::{Enumeration, Sort, Variable, Variables};
@@ -81,11 +81,10 @@ fn put_variable(
 {
     let name = variable.name.bytes();
     let width = sort_width(enumerations, variable.sort);
-    let before = joined(alloc, name, b".prev")?;
     let input = put_free(alloc, builder, LineOp::Input, width, name)?;
     // The length brings that the lines are well formed.
     let _ = builder.len();
-    let state = put_free(alloc, builder, LineOp::State, width, &before)?;
+    let state = put_free_behind(alloc, builder, LineOp::State, width, name, b".prev")?;
     put_given(builder, LineOp::Next, width, state, input)?;
     put_code(builder, enumerations, variable.sort, input)?;
     Ok(input)

@@ -14,7 +14,6 @@ invariant_of-result c =
       subst IsWellFormed (sym none) empty_well_formed,
       subst IsNumbered (sym none) refl,
       subst HasNoTwoAlike (sym none) none_alike,
-      subst (λ ls. HasPlaces ls c.no_places.result) (sym none) (record { by_key = c.no_places.ensures.none }),
+      subst (λ ls. HasPlaces ls c.no_places.result) (sym none) c.no_places.ensures,
       knows_none c.new.result.items,
-      c.no_places.ensures.two,
     )

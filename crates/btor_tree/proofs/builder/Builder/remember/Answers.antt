@@ -8,4 +8,4 @@ pub invariant_of-self : goal.invariant_of-self
 invariant_of-self c =
     let i = c.self.invariant in
     let there : place_alike c.self.inside.lines.items (op.Sort c.args.width) 0 [] ≡ Some c.args.place = ap (λ ls. place_alike ls (op.Sort c.args.width) 0 []) c.self.view_is ∙ c.requires.there in
-    (i.0, i.1, i.2, i.3, knows_set c.self.inside.lines.items c.self.inside.sorts c.args.width c.args.place c.requires.least c.requires.most there i.4, i.5)
+    (i.0, i.1, i.2, i.3, knows_set c.self.inside.lines.items c.self.inside.sorts c.args.width c.args.place c.requires.least c.requires.most there i.4)
