@@ -13,3 +13,4 @@ pub mod Agreeing
 pub mod Whole
 pub mod Instanced
 pub mod Accepted
+pub mod Single

@@ -1,16 +1,18 @@
 // Which scripts have no flat system.
-ghost use Rattle.std.specs.Prelude.{◌≡◌, [], not, None, IfOk, IfErr};
+ghost use Rattle.std.specs.Prelude.{◌≡◌, [], not, nat_eq, None, true, false, length, IfOk, IfErr};
 ghost use Rattle.text_core.specs.declared.end.End.TheVariants.{Bad};
 ghost use Rattle.text_core.specs.declared.place.Kind.TheVariants.{M};
 ghost use Rattle.name_set.specs.Names.{are_fresh};
 ghost use Rattle.moxi_print.specs.Terms.{variable_names};
+ghost use Rattle.moxi_scripts.specs.Script.{system_at};
 ghost use Rattle.moxi_scripts.specs.ScriptView.{plain_script};
 ghost use Rattle.moxi_flat.specs.FlatSystem.{flat_of};
-ghost use Rattle.moxi_flat.specs.Limits.{flat_refusal};
+ghost use Rattle.moxi_flat.specs.Limits.{flat_refusal, has_name_twice};
 ghost use Rattle.moxi_instantiate.specs.Instances.{IsInstEnd};
 
-use crate::measures::{is_too_large, script_is_ranked};
+use crate::measures::{is_too_large, script_is_ranked, script_is_whole};
 use crate::variables::{add_locals, add_named};
+use moxi_flat::single_systems_are_flat;
 use moxi_scripts::Script;
 use moxi_terms::Variables;
 use name_set::NameSet;
@@ -42,6 +44,34 @@ fn has_name_twice(alloc: Global, variables: &Variables) -> Result<bool, NoMemory
     Ok(false)
 }
 
+// Does no system stand inside the checked one? The variables of the flat system are then the check's, and no two of these have one
+// name in a script.
+fn is_single_system(script: &Script) -> bool
+    ensures single { result ≡ nat_eq (length (system_at (plain_script script.now).systems script.now.check.system).subsystems) 0 }
+    ensures names { result ≡ true → has_name_twice (plain_script script.now) ≡ false }
+{
+    script_is_whole(script);
+    script_is_ranked(script);
+    single_systems_are_flat();
+    let checked = script.systems.at(script.check.system as usize);
+    checked.subsystems.len() == 0
+}
+
+// Have two variables of the flat system, which these are, one name? They are looked through only where instances bring some of them.
+fn script_has_name_twice(
+    alloc: Global,
+    script: &Script,
+    variables: &Variables,
+) -> Result<bool, NoMemory>
+    requires { variables.now ≡ (flat_of (plain_script script.now)).variables }
+    ensures { IfOk result (λ twice. twice ≡ has_name_twice (plain_script script.now)) }
+{
+    if is_single_system(script) {
+        return Ok(false);
+    }
+    has_name_twice(alloc, variables)
+}
+
 fn refused(kind: u8, script: &Script) -> End
     ensures { result ≡ Bad (record { kind = M kind; place = script.now.check.place }) }
 {
@@ -62,7 +92,7 @@ pub fn accepted_variables(alloc: Global, script: &Script) -> Result<Variables, E
         return Err(refused(15, script));
     }
     let variables = flat_variables(alloc, script)?;
-    if has_name_twice(alloc, &variables)? {
+    if script_has_name_twice(alloc, script, &variables)? {
         return Err(refused(9, script));
     }
     Ok(variables)

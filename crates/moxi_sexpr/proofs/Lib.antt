@@ -9,3 +9,4 @@ pub mod Lines
 pub mod Again
 pub mod Endings
 pub mod Readable
+pub mod Reserved

@@ -4,6 +4,7 @@ pub mod Tree
 pub mod Lexing
 pub mod Grammar
 pub mod Printing
+pub mod Reserved
 pub mod Writing
 pub mod Reading
 pub mod Machine

@@ -6,6 +6,7 @@ ghost use Rattle.moxi_sexpr.specs.declared.form.Atom.TheVariants as atoms;
 ghost use Rattle.moxi_sexpr.specs.Tree.{Trees, plain, plain_forms, depths};
 ghost use Rattle.moxi_sexpr.specs.Printing.{is_among, bytes_behind, reserved_words, symbol_spelling, printed_atom, printed, printed_parts, printed_forms, ArePrintable, ReadsBack};
 ghost use Rattle.moxi_sexpr.specs.Lexing.{limit};
+ghost use Rattle.moxi_sexpr.specs.Reserved.{may_be_reserved};
 ghost use Rattle.moxi_sexpr.specs.Writing.{WritesLines};
 
 use crate::bytes::is_simple;
@@ -42,10 +43,39 @@ fn is_among(name: &[u8], words: &[&[u8]]) -> bool
     false
 }
 
+// Whether a name may be reserved, by its first byte: most names can't.
+fn may_be_reserved(name: &[u8]) -> bool
+    ensures { result ≡ may_be_reserved name.now }
+{
+    match name {
+        [b, ..] => match *b {
+            b'_'
+            | b'!'
+            | b'a'
+            | b'l'
+            | b'e'
+            | b'f'
+            | b'm'
+            | b'p'
+            | b'B'
+            | b'D'
+            | b'H'
+            | b'N'
+            | b'S' => true,
+            _ => false,
+        },
+        [] => false,
+    }
+}
+
 fn is_reserved(name: &[u8]) -> bool
     ensures { result ≡ is_among name.now reserved_words }
 {
-    is_among(name, &RESERVED)
+    if may_be_reserved(name) {
+        is_among(name, &RESERVED)
+    } else {
+        false
+    }
 }
 
 // Bytes between two signs.
