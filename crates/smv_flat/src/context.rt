@@ -2,12 +2,12 @@
 ghost use Rattle.std.specs.Prelude.{◌≡◌, ℕ, List, Option, map, IfOk};
 ghost use Rattle.std.specs.Coded.{Coded, Coded-set, codes, Π_prop};
 ghost use Rattle.smv_text.specs.declared.tree.VarKind.TheVariants as OfVarKind;
-ghost use Rattle.smv_instances.specs.View.{instance_plain};
-ghost use Rattle.smv_items.specs.FlatItems.{origins_of, symbols_of, leaf_in};
+ghost use Rattle.smv_instances.specs.View.{instance_plain, found_plain};
+ghost use Rattle.smv_items.specs.FlatItems.{origins_of, symbols_of, leaf_found, leaf_in};
 ghost use Rattle.smv_items.specs.FlatOrigins.{leaf_plain, AreBodies, AreVariables, AreInstanceNumbers};
 
-use smv_instances::Table;
-use smv_items::{ItemNumbers, Leaf, Symbols, leaf_at};
+use smv_instances::{Table, Target};
+use smv_items::{ItemNumbers, Leaf, Symbols, leaf_of};
 use smv_text::Path;
 use std::alloc::Global;
 use text_core::NoMemory;
@@ -27,10 +27,17 @@ pub(crate) struct Context<'s, 'a, 'n, N> {
 }
 
 impl<'s, 'a, 'n, N> Context<'s, 'a, 'n, N> {
+    /// What a path becomes that leads to this target.
+    pub(crate) fn leaf_of(&self, alloc: Global, target: Target<'a>) -> Result<Leaf, NoMemory>
+        ensures { IfOk result (λ l. leaf_plain l ≡ leaf_found (map instance_plain self.now.table.now) (found_plain (map instance_plain self.now.table.now) target.entry)) }
+    {
+        leaf_of(alloc, self.table, self.numbers, self.symbols, target)
+    }
+
     /// What a path in the numbered instance becomes.
     pub(crate) fn leaf(&self, alloc: Global, i: usize, path: &'a Path) -> Result<Leaf, NoMemory>
         ensures { IfOk result (λ l. leaf_plain l ≡ leaf_in (map instance_plain self.now.table.now) i path.now) }
     {
-        leaf_at(alloc, self.table, self.numbers, self.symbols, i, path)
+        self.leaf_of(alloc, self.table.target(i, path))
     }
 }

@@ -1,9 +1,10 @@
 // Expressions over the numbers of items and symbols, each node with its type.
-ghost use Rattle.std.specs.Prelude.{Bool, Option, Some, None, false, true, map, IfOk};
-ghost use Rattle.smv_text.specs.Tree.{links_of, branches_of, trees_of};
+ghost use Rattle.std.specs.Prelude.{◌≡◌, Bool, Option, Some, None, false, true, map, IfOk};
+ghost use Rattle.smv_text.specs.Tree.{name, links_of, branches_of, trees_of};
 ghost use Rattle.smv_text.specs.View.{plain, plain_link, plain_branch};
 ghost use Rattle.smv_meaning.specs.Types.{ExprType, truth_type};
 ghost use Rattle.smv_meaning.specs.Checks.{literal_type};
+ghost use Rattle.smv_meaning.specs.Settled.{types_in};
 ghost use Rattle.smv_types.specs.View.{named_seen, standing_seen};
 ghost use Rattle.smv_types.specs.Steps.{number_step, name_step, next_step, range_step};
 ghost use Rattle.smv_flat.specs.FlatTree.{FlatTree, flat_truth, flat_number, flat_literal, flat_range, leaf_tree};
@@ -22,7 +23,7 @@ use crate::nodes::{
 };
 use smv_intervals::Ty;
 use smv_items::Leaf;
-use smv_text::{Branch, Expr, Link, Shape};
+use smv_text::{Branch, Expr, Link, Path, Shape};
 use smv_types::chains::{first_standing, operand_standing};
 use smv_types::lists::BranchTypes;
 use smv_types::{Named, Standing};
@@ -83,6 +84,25 @@ fn name_node(place: Place, at: Standing, named: Named, leaf: Leaf, under: bool) 
     }
 }
 
+// The node of a path, which is followed once.
+fn path_node<'s, 'a, 'n, N: Naming>(
+    alloc: Global,
+    context: &Context<'s, 'a, 'n, N>,
+    i: usize,
+    place: Place,
+    path: &'a Path,
+    at: Standing,
+    under: bool,
+) -> Result<Typed, NoMemory>
+    requires model { N.instances context.now.naming.now ≡ map instance_plain context.now.table.now }
+    ensures { IfOk result (IsFlat (types_in true (map instance_plain context.now.table.now) i) (leaf_in (map instance_plain context.now.table.now) i) (standing_seen at) under (name place path.now)) }
+{
+    let target = context.table.target(i, path);
+    let leaf = context.leaf_of(alloc, target)?;
+    let named = context.naming.named(i, path, target);
+    Ok(name_node(place, at, named, leaf, under))
+}
+
 fn range_node(place: Place, at: Standing, low: i64, high: i64) -> Typed
     ensures { IsNode result (flat_range None low high) (range_step place (standing_seen at) low high).type true }
 {
@@ -117,7 +137,8 @@ pub(crate) fn flat<'s, 'a, 'n, N: Naming>(
     at: Standing,
     under: bool,
 ) -> Result<Typed, NoMemory>
-    ensures { IfOk result (IsFlat (N.names context.now.naming.now i) (leaf_in (map instance_plain context.now.table.now) i) (standing_seen at) under (plain e.now)) }
+    requires model { N.instances context.now.naming.now ≡ map instance_plain context.now.table.now }
+    ensures { IfOk result (IsFlat (types_in true (map instance_plain context.now.table.now) i) (leaf_in (map instance_plain context.now.table.now) i) (standing_seen at) under (plain e.now)) }
 {
     let place = e.place;
     match &e.shape {
@@ -125,10 +146,7 @@ pub(crate) fn flat<'s, 'a, 'n, N: Naming>(
         Shape::False => Ok(truth_node(false)),
         Shape::Number(n) => Ok(number_node(place, *n)),
         Shape::Literal(word) => Ok(literal_node(word)),
-        Shape::Name(path) => {
-            let leaf = context.leaf(alloc, i, path)?;
-            Ok(name_node(place, at, context.naming.named(i, path), leaf, under))
-        }
+        Shape::Name(path) => path_node(alloc, context, i, place, path, at, under),
         Shape::Prefix(sign, count, operand) => {
             let x = flat(alloc, context, i, operand, at.without_sets(), under)?;
             prefixed(alloc, place, *sign, *count, x)
@@ -179,7 +197,8 @@ fn flat_links<'s, 'a, 'n, N: Naming>(
     at: Standing,
     under: bool,
 ) -> Result<Operands, NoMemory>
-    ensures { IfOk result (AreFlatLinks (N.names context.now.naming.now i) (leaf_in (map instance_plain context.now.table.now) i) (standing_seen at) under (links_of (map plain_link links.now))) }
+    requires model { N.instances context.now.naming.now ≡ map instance_plain context.now.table.now }
+    ensures { IfOk result (AreFlatLinks (types_in true (map instance_plain context.now.table.now) i) (leaf_in (map instance_plain context.now.table.now) i) (standing_seen at) under (links_of (map plain_link links.now))) }
 {
     let mut operands = Operands {
         links: Vec::new(alloc),
@@ -208,7 +227,8 @@ fn flat_branches<'s, 'a, 'n, N: Naming>(
     at: Standing,
     under: bool,
 ) -> Result<Cases, NoMemory>
-    ensures { IfOk result (AreFlatBranches (N.names context.now.naming.now i) (leaf_in (map instance_plain context.now.table.now) i) (standing_seen at) under (branches_of (map plain_branch branches.now))) }
+    requires model { N.instances context.now.naming.now ≡ map instance_plain context.now.table.now }
+    ensures { IfOk result (AreFlatBranches (types_in true (map instance_plain context.now.table.now) i) (leaf_in (map instance_plain context.now.table.now) i) (standing_seen at) under (branches_of (map plain_branch branches.now))) }
 {
     let mut cases = Cases {
         branches: Vec::new(alloc),
@@ -235,7 +255,8 @@ fn flat_parts<'s, 'a, 'n, N: Naming>(
     at: Standing,
     under: bool,
 ) -> Result<Parts, NoMemory>
-    ensures { IfOk result (AreFlatTrees (N.names context.now.naming.now i) (leaf_in (map instance_plain context.now.table.now) i) (standing_seen at) under (trees_of (map plain parts.now))) }
+    requires model { N.instances context.now.naming.now ≡ map instance_plain context.now.table.now }
+    ensures { IfOk result (AreFlatTrees (types_in true (map instance_plain context.now.table.now) i) (leaf_in (map instance_plain context.now.table.now) i) (standing_seen at) under (trees_of (map plain parts.now))) }
 {
     let mut all = Parts {
         exprs: Vec::new(alloc),

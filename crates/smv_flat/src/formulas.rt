@@ -2,7 +2,6 @@
 ghost use Rattle.std.specs.Prelude.{◌≡◌, true, ◌+◌, ◌++◌, ◌∷◌, [], map, flat_map, OnOk, IfOk};
 ghost use Rattle.smv_text.specs.View.{plain_assignment, plain_element};
 ghost use Rattle.smv_meaning.specs.Phases.{in_assignment};
-ghost use Rattle.smv_meaning.specs.Settled.{types_in};
 ghost use Rattle.smv_instances.specs.View.{instance_plain};
 ghost use Rattle.smv_types.specs.View.{position_seen};
 ghost use Rattle.smv_items.specs.FlatItems.{origins_of, symbols_of, items_here};
@@ -15,7 +14,7 @@ use crate::flat::flat;
 use crate::forms::{FlatFormula, Role, SourceFormula};
 use crate::naming::Naming;
 use smv_instances::{Instance, Table};
-use smv_items::{Content, ItemNumbers, Leaf, Origin, Symbols, put_origins};
+use smv_items::{Content, ItemNumbers, Leaf, Origin, Symbols, own_count};
 use smv_text::{Assignment, Assignments, Element, Elements, Expr, When};
 use smv_types::{Position, Standing};
 use std::alloc::Global;
@@ -37,7 +36,7 @@ fn formula<'s, 'a, 'n, N: Naming>(
     context: &Context<'s, 'a, 'n, N>,
     source: SourceFormula<'a>,
 ) -> Result<FlatFormula, NoMemory>
-    requires typed { N.names context.now.naming.now ≡ types_in true (map instance_plain context.now.table.now) }
+    requires model { N.instances context.now.naming.now ≡ map instance_plain context.now.table.now }
     ensures { IfOk result (λ f. form_plain f ≡ form_of (map instance_plain context.now.table.now) source.entry) }
 {
     let instance = small(source.instance)?;
@@ -63,7 +62,7 @@ fn add<'s, 'a, 'n, N: Naming>(
     forms: &mut Vec<FlatFormula>,
     source: SourceFormula<'a>,
 ) -> Result<(), NoMemory>
-    requires typed { N.names context.now.naming.now ≡ types_in true (map instance_plain context.now.table.now) }
+    requires model { N.instances context.now.naming.now ≡ map instance_plain context.now.table.now }
     ensures { OnOk result (map form_plain forms.new.items ≡ map form_plain forms.old.items ++ form_of (map instance_plain context.now.table.now) source.entry ∷ []) }
 {
     let form = formula(alloc, context, source)?;
@@ -91,7 +90,7 @@ fn add_body<'s, 'a, 'n, N: Naming>(
     k: usize,
     origin: &Origin<'a>,
 ) -> Result<(), NoMemory>
-    requires typed { N.names context.now.naming.now ≡ types_in true (map instance_plain context.now.table.now) }
+    requires model { N.instances context.now.naming.now ≡ map instance_plain context.now.table.now }
     ensures { OnOk result (map form_plain forms.new.items ≡ map form_plain forms.old.items ++ content_form (map instance_plain context.now.table.now) k origin.now.instance (content_plain origin.now.content)) }
 {
     let instance = origin.instance;
@@ -128,7 +127,7 @@ fn add_bodies<'s, 'a, 'n, N: Naming>(
     first: usize,
     own: &[Origin<'a>],
 ) -> Result<(), NoMemory>
-    requires typed { N.names context.now.naming.now ≡ types_in true (map instance_plain context.now.table.now) }
+    requires model { N.instances context.now.naming.now ≡ map instance_plain context.now.table.now }
     ensures { OnOk result (map form_plain forms.new.items ≡ map form_plain forms.old.items ++ body_forms (map instance_plain context.now.table.now) first (map origin_plain own.now)) }
 {
     let mut number = first;
@@ -169,7 +168,7 @@ fn add_assignment<'s, 'a, 'n, N: Naming>(
     i: usize,
     assignment: &'a Assignment,
 ) -> Result<(), NoMemory>
-    requires typed { N.names context.now.naming.now ≡ types_in true (map instance_plain context.now.table.now) }
+    requires model { N.instances context.now.naming.now ≡ map instance_plain context.now.table.now }
     ensures { OnOk result (map form_plain forms.new.items ≡ map form_plain forms.old.items ++ assignment_form (map instance_plain context.now.table.now) i (plain_assignment assignment.now) ∷ []) }
 {
     let leaf = context.leaf(alloc, i, &assignment.target)?;
@@ -186,7 +185,7 @@ fn add_assignments<'s, 'a, 'n, N: Naming>(
     i: usize,
     assignments: &'a Assignments,
 ) -> Result<(), NoMemory>
-    requires typed { N.names context.now.naming.now ≡ types_in true (map instance_plain context.now.table.now) }
+    requires model { N.instances context.now.naming.now ≡ map instance_plain context.now.table.now }
     ensures { OnOk result (map form_plain forms.new.items ≡ map form_plain forms.old.items ++ map (assignment_form (map instance_plain context.now.table.now) i) (map plain_assignment assignments.now)) }
 {
     for assignment in assignments {
@@ -202,7 +201,7 @@ fn add_element<'s, 'a, 'n, N: Naming>(
     i: usize,
     element: &'a Element,
 ) -> Result<(), NoMemory>
-    requires typed { N.names context.now.naming.now ≡ types_in true (map instance_plain context.now.table.now) }
+    requires model { N.instances context.now.naming.now ≡ map instance_plain context.now.table.now }
     ensures { OnOk result (map form_plain forms.new.items ≡ map form_plain forms.old.items ++ element_forms (map instance_plain context.now.table.now) i (plain_element element.now)) }
 {
     match element {
@@ -236,7 +235,7 @@ fn add_elements<'s, 'a, 'n, N: Naming>(
     i: usize,
     elements: &'a Elements,
 ) -> Result<(), NoMemory>
-    requires typed { N.names context.now.naming.now ≡ types_in true (map instance_plain context.now.table.now) }
+    requires model { N.instances context.now.naming.now ≡ map instance_plain context.now.table.now }
     ensures { OnOk result (map form_plain forms.new.items ≡ map form_plain forms.old.items ++ flat_map (element_forms (map instance_plain context.now.table.now) i) (map plain_element elements.now)) }
 {
     for element in elements {
@@ -255,7 +254,7 @@ fn add_instance<'s, 'a, 'n, N: Naming>(
     at: &Instance<'a>,
     own: &[Origin<'a>],
 ) -> Result<(), NoMemory>
-    requires typed { N.names context.now.naming.now ≡ types_in true (map instance_plain context.now.table.now) }
+    requires model { N.instances context.now.naming.now ≡ map instance_plain context.now.table.now }
     requires own { map origin_plain own.now ≡ items_here i (instance_plain at.now) }
     ensures { OnOk result (map form_plain forms.new.items ≡ map form_plain forms.old.items ++ forms_here (map instance_plain context.now.table.now) first i (instance_plain at.now)) }
 {
@@ -264,41 +263,48 @@ fn add_instance<'s, 'a, 'n, N: Naming>(
     add_elements(alloc, context, forms, i, &module.elements)
 }
 
-// The formulas of all instances.
+// The formulas of all instances, of which these are the items.
 #[tactic(auto, using(smv_meaning::specs::laws::Lists::front_is, smv_meaning::specs::laws::Lists::end_is))]
 fn all_formulas<'s, 'a, 'n, N: Naming>(
     alloc: Global,
     context: &Context<'s, 'a, 'n, N>,
+    origins: &[Origin<'a>],
 ) -> Result<Vec<FlatFormula>, NoMemory>
-    requires typed { N.names context.now.naming.now ≡ types_in true (map instance_plain context.now.table.now) }
+    requires model { N.instances context.now.naming.now ≡ map instance_plain context.now.table.now }
+    requires origins { map origin_plain origins.now ≡ origins_of (map instance_plain context.now.table.now) }
     ensures { IfOk result (λ fs. map form_plain fs.items ≡ forms_of (map instance_plain context.now.table.now)) }
 {
     let mut forms = Vec::new(alloc);
-    let mut own = Vec::new(alloc);
-    let mut first: usize = 0;
+    let mut first = 0;
     for i in 0..context.table.len() {
-        let at = context.table.at(i);
-        own.clear();
-        put_origins(&mut own, i, at)?;
-        add_instance(alloc, context, &mut forms, first, i, at, &own)?;
-        let Some(next) = first.checked_add(own.len()) else {
-            return Err(NoMemory);
-        };
-        first = next;
+        let rest = &origins[first..];
+        let own = &rest[..own_count(rest, i)];
+        add_instance(
+            alloc,
+            context,
+            &mut forms,
+            first,
+            i,
+            context.table.at(i),
+            own,
+        )?;
+        first += own.len();
     }
     Ok(forms)
 }
 
-/// The formulas of a model: instances in preorder, in each first the bodies of its items, then assignments and sections in the
-/// order of the text.
+/// The formulas of a model, given where its items come from: instances in preorder, in each first the bodies of its items, then
+/// assignments and sections in the order of the text.
 pub fn formulas_in<'a, 'n, N: Naming>(
     alloc: Global,
     names: &N,
     table: &Table<'a>,
+    origins: &[Origin<'a>],
     numbers: &ItemNumbers<'a, 'n>,
     symbols: &Symbols,
 ) -> Result<Vec<FlatFormula>, NoMemory>
-    requires typed { N.names names.now ≡ types_in true (map instance_plain table.now) }
+    requires model { N.instances names.now ≡ map instance_plain table.now }
+    requires origins { map origin_plain origins.now ≡ origins_of (map instance_plain table.now) }
     requires numbers { AreNumbers (map instance_plain table.now) (origins_of (map instance_plain table.now)) numbers.now }
     requires symbols { symbols.now ≡ symbols_of (map instance_plain table.now) }
     ensures { IfOk result (λ fs. map form_plain fs.items ≡ forms_of (map instance_plain table.now)) }
@@ -309,5 +315,5 @@ pub fn formulas_in<'a, 'n, N: Naming>(
         numbers,
         symbols,
     };
-    all_formulas(alloc, &context)
+    all_formulas(alloc, &context, origins)
 }

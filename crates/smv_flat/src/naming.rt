@@ -1,17 +1,22 @@
 // What the names of a model are to the types.
-ghost use Rattle.std.specs.Prelude.{◌≡◌, ℕ};
-ghost use Rattle.smv_text.specs.declared.tree.Path.{Path as PlainPath};
-ghost use Rattle.smv_meaning.specs.Checks.{Named as Meaning};
+ghost use Rattle.std.specs.Prelude.{◌≡◌, true, List};
+ghost use Rattle.smv_meaning.specs.Instances.{Instance};
+ghost use Rattle.smv_meaning.specs.Names.{found_in};
+ghost use Rattle.smv_meaning.specs.Settled.{types_in};
+ghost use Rattle.smv_instances.specs.View.{found_plain};
 ghost use Rattle.smv_types.specs.View.{named_seen};
 
+use smv_instances::Target;
 use smv_text::Path;
 use smv_types::Named;
 
 /// What gives the paths of each instance their types.
 pub trait Naming {
-    /// What a path in an instance is.
-    ghost names: { Self → ℕ → PlainPath → Meaning };
+    /// The instances of the model.
+    ghost instances: { Self → List Instance };
 
-    fn named(&self, i: usize, path: &Path) -> Named
-        ensures { named_seen result ≡ names self.now i path.now };
+    /// What a path in an instance is, given what it leads to.
+    fn named(&self, i: usize, path: &Path, target: Target) -> Named
+        requires { found_plain (instances self.now) target ≡ found_in (instances self.now) i path.now }
+        ensures { named_seen result ≡ types_in true (instances self.now) i path.now };
 }

@@ -69,9 +69,9 @@ fn flat_formulas<'a>(
     requires symbols { symbols.now ≡ symbols_of (map instance_plain table.now) }
     ensures { IfOk result (λ fs. map form_plain fs.items ≡ forms_of (map instance_plain table.now)) }
 {
-    let numbers = numbers_of(alloc, table, origins, paths)?;
+    let numbers = numbers_of(alloc, origins, paths)?;
     let names = TypeNames { table, types };
-    formulas_in(alloc, &names, table, &numbers, symbols)
+    formulas_in(alloc, &names, table, origins, &numbers, symbols)
 }
 
 // The items and the formulas of a model, and the width of their integers.

@@ -6,7 +6,7 @@ ghost use Rattle.smv_instances.specs.View.{instance_plain};
 ghost use Rattle.smv_model_types.specs.Outcome.{AreTypesOf};
 
 use smv_flat::Naming;
-use smv_instances::Table;
+use smv_instances::{Table, Target};
 use smv_model_types::Types;
 use smv_text::Path;
 use smv_types::Named;
@@ -20,13 +20,12 @@ pub(crate) struct TypeNames<'s, 'a> {
 }
 
 impl<'s, 'a> Naming for TypeNames<'s, 'a> {
-    ghost use Rattle.std.specs.Prelude.{true, map};
-    ghost use Rattle.smv_meaning.specs.Settled.{types_in};
+    ghost use Rattle.std.specs.Prelude.{map};
     ghost use Rattle.smv_instances.specs.View.{instance_plain};
 
-    ghost names = { λ s. types_in true (map instance_plain s.table.now) };
+    ghost instances = { λ s. map instance_plain s.table.now };
 
-    fn named(&self, i: usize, path: &Path) -> Named {
-        self.types.named(self.table, i, path)
+    fn named(&self, i: usize, path: &Path, target: Target) -> Named {
+        self.types.named_at(self.table, i, path, target)
     }
 }

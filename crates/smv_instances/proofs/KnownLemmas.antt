@@ -1,10 +1,12 @@
 -- What the names of the instances are.
-use Rattle.std.proofs.Common.{◌≡◌, ℕ, ◌+◌, ◌<◌, ◌≤◌, Bool, true, false, nat_le, min, List, [], ◌∷◌, ◌++◌, Some, map, drop, length, refl, sym, ap, ◌∙◌, arith}
+use Rattle.std.proofs.Common.{◌≡◌, ℕ, ◌+◌, ◌<◌, ◌≤◌, Bool, true, false, nat_le, min, List, [], ◌∷◌, ◌++◌, Some, ◌==◌, if◌then◌else◌, map, take, drop, length, refl, sym, ap, ◌∙◌, arith}
 use Rattle.std.specs.Prelude.{slice_get, slice_index_or}
 use Rattle.std.specs.Option.{option_map}
 use mathlib.Core.Logic.{⊎_elim}
-use Rattle.std.proofs.lemmas.Bool.{leb-true, cases_lt}
-use Rattle.std.proofs.lemmas.List.{drop_all, length-map, length_push, get_or_push}
+use Rattle.std.proofs.lemmas.Bool.{eqb-true, leb-true, cases_lt}
+use Rattle.std.proofs.Math.Numerals.{add-one}
+use Rattle.std.proofs.Math.Seq.{take-suc}
+use Rattle.std.proofs.lemmas.List.{drop_all, length-map, length_push, length-take-le, map-append, take_all, get_or_push}
 use Rattle.std.proofs.lemmas.Option.{slice_get-get_or, slice_get-map, slice_get_read, slice_get_past}
 use Rattle.std.proofs.Math.ListN.{get_or-append}
 use Rattle.smv_text.specs.declared.tree.Parameter.{Parameter}
@@ -15,10 +17,9 @@ use Rattle.smv_instances.specs.laws.NameLemmas.{parameters_end}
 use Rattle.smv_instances.specs.declared.instances.Instance.{Instance as PartOf}
 use Rattle.smv_instances.specs.declared.names.Known.{Known}
 use Rattle.smv_meaning.specs.Names.{Local, nothing, among_parameters, local_in, local}
-use Rattle.smv_instances.specs.NameMap.{known_under}
-use Rattle.smv_instances.specs.declared.rows.NameRows.{NameRows}
-use Rattle.smv_instances.specs.Rows.{row_named}
-use Rattle.smv_instances.specs.View.{instance_plain, or_local}
+use Rattle.smv_instances.specs.declared.instance_rows.InstanceRows.{InstanceRows}
+use Rattle.smv_instances.specs.NameMap.{known_at}
+use Rattle.smv_instances.specs.View.{instance_plain}
 
 -- past the last parameter or the last actual there is none
 pub parameters_past : (j k : ℕ) (qs : List Parameter) (es : List Expr) (x : List ℕ) (other : Local) → k ≡ min (length qs) (length es)
@@ -37,28 +38,36 @@ got_before xs y k h =
 got_last : {X : Type 0} (xs : List X) (y : X) (k : ℕ) → length xs ≡ k → slice_get (xs ++ y ∷ []) k ≡ Some y
 got_last xs y k h = slice_get-get_or (xs ++ y ∷ []) k y (omega (arith, h, length_push xs y)) ∙ ap Some (get_or_push xs y y k h)
 
-pub knows_more : (ts : List PartOf) (ms all : List (NameRows Known)) (m : NameRows Known) (i n : ℕ) (p : PartOf) → all ≡ ms ++ m ∷ [] → length ms ≡ i → n ≡ length ts → i < n → p ≡ slice_index_or ts i p
-    → ((k : ℕ) (x : List ℕ) → k < i → known_under (slice_get ms k) x ≡ local (map instance_plain ts) k x)
-    → ((x : List ℕ) → or_local (row_named m x) nothing ≡ local_in i x (Some (instance_plain p)))
-    → (k : ℕ) (x : List ℕ) → k < i + 1 → known_under (slice_get all k) x ≡ local (map instance_plain ts) k x
-knows_more ts ms all m i n p ea em en h is before here k x l = ap (λ o. known_under (slice_get o k) x) ea ∙ ⊎_elim old new (cases_lt k i)
+-- the names of one instance more
+pub knows_more : (ts : List PartOf) (i n : ℕ) (p : PartOf) (m more : InstanceRows Known) → n ≡ length ts → i < n → p ≡ slice_index_or ts i p
+    → ((j : ℕ) (x : List ℕ) → known_at m j x ≡ local (map instance_plain (take i ts)) j x)
+    → ((j : ℕ) (x : List ℕ) → known_at more j x ≡ (if i == j then local_in i x (Some (instance_plain p)) else known_at m j x))
+    → (j : ℕ) (x : List ℕ) → known_at more j x ≡ local (map instance_plain (take (i + 1) ts)) j x
+knows_more ts i n p m more en h is f w j x = w j x ∙ by (i == j) refl ∙ ap (λ l. local l j x) (sym whole)
   where
-    old : k < i → known_under (slice_get (ms ++ m ∷ []) k) x ≡ local (map instance_plain ts) k x
-    old b = ap (λ o. known_under o x) (got_before ms m k (omega (arith, b, em))) ∙ before k x b
+    whole : map instance_plain (take (i + 1) ts) ≡ map instance_plain (take i ts) ++ instance_plain p ∷ []
+    whole = ap (map instance_plain) (rw add-one (take-suc ts i p (omega (arith, en, h)) ∙ ap (λ y. take i ts ++ y ∷ []) (sym is))) ∙ map-append instance_plain (take i ts) (p ∷ [])
 
-    new : i ≤ k → known_under (slice_get (ms ++ m ∷ []) k) x ≡ local (map instance_plain ts) k x
-    new b =
-        let e : k ≡ i = omega (arith, b, l) in
-        ap (λ o. known_under o x) (got_last ms m k (omega (arith, em, e))) ∙ here x
-        ∙ (let s : slice_get (map instance_plain ts) i ≡ Some (instance_plain p) = slice_get-map instance_plain ts i ∙ ap (option_map instance_plain) (slice_get_read ts n i p en h is) in
-        ap (local_in i x) (sym s) ∙ ap (λ j. local (map instance_plain ts) j x) (sym e))
+    count : length (map instance_plain (take i ts)) ≡ i
+    count = length-map (take i ts) instance_plain ∙ length-take-le i ts (omega (arith, en, h))
 
-pub knows_all : (ts : List PartOf) (ms : List (NameRows Known)) (i n : ℕ) → length ms ≡ i → n ≡ length ts → n ≤ i → i ≤ n
-    → ((k : ℕ) (x : List ℕ) → k < i → known_under (slice_get ms k) x ≡ local (map instance_plain ts) k x)
-    → (k : ℕ) (x : List ℕ) → known_under (slice_get ms k) x ≡ local (map instance_plain ts) k x
-knows_all ts ms i n em en h h' before k x = ⊎_elim (before k x) past (cases_lt k i)
-  where
-    past : i ≤ k → known_under (slice_get ms k) x ≡ local (map instance_plain ts) k x
-    past b =
-        ap (λ o. known_under o x) (slice_get_past ms k (omega (arith, em, b)))
-        ∙ ap (local_in k x) (sym (slice_get_past (map instance_plain ts) k (omega (arith, en, h, b, length-map ts instance_plain))))
+    by : (c : Bool) → (i == j) ≡ c → (if c then local_in i x (Some (instance_plain p)) else known_at m j x) ≡ local (map instance_plain (take i ts) ++ instance_plain p ∷ []) j x
+    by true q =
+        let s : i ≡ j = eqb-true i j q in
+        ap (local_in i x) (sym (got_last (map instance_plain (take i ts)) (instance_plain p) i count)) ∙ ap (λ k. local (map instance_plain (take i ts) ++ instance_plain p ∷ []) k x) s
+    by false q = f j x ∙ ap (local_in j x) (sym (⊎_elim below above (cases_lt j i)))
+      where
+        below : j < i → slice_get (map instance_plain (take i ts) ++ instance_plain p ∷ []) j ≡ slice_get (map instance_plain (take i ts)) j
+        below b = got_before (map instance_plain (take i ts)) (instance_plain p) j (omega (arith, b, count))
+
+        above : i ≤ j → slice_get (map instance_plain (take i ts) ++ instance_plain p ∷ []) j ≡ slice_get (map instance_plain (take i ts)) j
+        above b =
+            slice_get_past (map instance_plain (take i ts) ++ instance_plain p ∷ []) j (grind (arith, q, b, count, length_push (map instance_plain (take i ts)) (instance_plain p)))
+            ∙ sym (slice_get_past (map instance_plain (take i ts)) j (omega (arith, b, count)))
+
+-- of the next instance no names are known yet
+pub not_yet : (ts : List PartOf) (i n : ℕ) (m : InstanceRows Known) → n ≡ length ts → i < n → ((j : ℕ) (x : List ℕ) → known_at m j x ≡ local (map instance_plain (take i ts)) j x) → (x : List ℕ) → known_at m i x ≡ nothing
+not_yet ts i n m en h f x = f i x ∙ ap (local_in i x) (slice_get_past (map instance_plain (take i ts)) i (omega (arith, length-map (take i ts) instance_plain, length-take-le i ts (omega (arith, en, h)))))
+
+pub knows_all : (ts : List PartOf) (i n : ℕ) (m : InstanceRows Known) → n ≡ length ts → n ≤ i → ((j : ℕ) (x : List ℕ) → known_at m j x ≡ local (map instance_plain (take i ts)) j x) → (j : ℕ) (x : List ℕ) → known_at m j x ≡ local (map instance_plain ts) j x
+knows_all ts i n m en h f j x = f j x ∙ ap (λ l. local (map instance_plain l) j x) (take_all i ts (omega (arith, en, h)))

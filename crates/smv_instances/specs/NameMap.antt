@@ -1,5 +1,5 @@
 -- Values by the bytes of a name.
-use Rattle.std.specs.Prelude.{◌≡◌, ℕ, ◌==◌, ◌&&◌, List, map, position, Option, Some, None, is_some, slice_get, bytes_eq}
+use Rattle.std.specs.Prelude.{◌≡◌, ℕ, ◌==◌, ◌&&◌, List, map, position, Option, Some, None, is_some, bytes_eq}
 use Rattle.std.specs.Borrow.{Bor}
 use Rattle.std.specs.HashMap.{HashMap, get_by}
 use Rattle.smv_text.specs.declared.tree.Module.{Module}
@@ -27,13 +27,13 @@ Finds ms m = (x : List ℕ) → module_or_none (row_named m x) ≡ module_named 
 
 -- ---- what a table keeps, beside its instances
 
-abbrev pub known_under : Option (NameRows Known) → List ℕ → Local
-known_under None x = nothing
-known_under (Some m) x = or_local (row_named m x) nothing
+-- what a name of the numbered instance is
+abbrev pub known_at : InstanceRows Known → ℕ → List ℕ → Local
+known_at m i x = or_local (row_in m i x) nothing
 
--- what the names of each instance are
-abbrev pub Knows : List PartOf → List (NameRows Known) → Type 0
-Knows ts ms = (i : ℕ) (x : List ℕ) → known_under (slice_get ms i) x ≡ local (map instance_plain ts) i x
+-- what the names of all instances are
+abbrev pub Knows : List PartOf → InstanceRows Known → Type 0
+Knows ts m = (i : ℕ) (x : List ℕ) → known_at m i x ≡ local (map instance_plain ts) i x
 
 -- which instance a name is in an instance
 abbrev pub Bears : List PartOf → InstanceRows ℕ → Type 0

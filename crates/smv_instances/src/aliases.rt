@@ -152,7 +152,7 @@ pub fn leads_of<'a>(alloc: Global, parts: &Parts<'a>) -> Result<Leads<'a>, NoMem
     ensures closed { IfOk result (IsClosed (map instance_plain parts.now)) }
 {
     let keys = keys_of(alloc, parts)?;
-    let mut leads = no_rows_in(alloc, parts.list())?;
+    let mut leads = no_rows_in(alloc, keys.len())?;
     all_searched(alloc, parts, &mut leads, keys.as_slice())?;
     for _ in 0..usize::MAX {
         if !all_retried(parts, &mut leads, keys.as_slice())? {

@@ -27,7 +27,7 @@ fn put_part<'a>(children: &mut Children<'a>, c: usize, part: &Instance<'a>) -> R
 pub fn children_of<'a>(alloc: Global, table: &[Instance<'a>]) -> Result<Children<'a>, NoMemory>
     ensures { IfOk result (λ m. (i : ℕ) (x : List ℕ) → row_in m i x ≡ position (is_child i x) (map instance_plain table.now)) }
 {
-    let mut children = no_rows_in(alloc, table)?;
+    let mut children = no_rows_in(alloc, table.len())?;
     for c in 0..table.len() {
         put_part(&mut children, c, &table[c])?;
     }

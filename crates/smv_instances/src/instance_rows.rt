@@ -1,19 +1,18 @@
-// Values of names in instances, found by the number of the instance and then by the name.
+// Values of names in instances, found with no scan.
 ghost use Rattle.std.specs.Prelude.{◌≡◌, ◌-◌, ◌^◌, min, List, ℕ, Some, None, is_none, IfOk, OnOk, bytes_eq, ◌&&◌, ◌==◌, if◌then◌else◌};
 ghost use Rattle.smv_text.specs.View.{plain_module};
 ghost use Rattle.smv_instances.specs.NameCounts.{names_of};
 ghost use Rattle.smv_instances.specs.Rows.{row_in};
 
-use crate::instances::Instance;
-use crate::rows::{NameRows, add_row, no_rows, row_value};
+use crate::buckets::{Buckets, add_to_buckets, empty_buckets, value_in_buckets};
 use smv_text::{Element, Module};
 use std::alloc::Global;
 use text_core::NoMemory;
 
-/// Values by the number of an instance and the bytes of a name there.
+/// Values by the number of an instance and the bytes of a name there, in as many buckets as names are expected.
 #[derive(Drop)]
 pub struct InstanceRows<'a, V> {
-    pub rows: Vec<NameRows<'a, V>>,
+    pub buckets: Buckets<'a, V>,
 }
 
 /// How many names a module declares, as far as a number can tell it.
@@ -31,22 +30,20 @@ pub fn names_in(module: &Module) -> usize
     count
 }
 
-/// No names in any instance of the table.
+/// No names in any instance. They are found with no scan as long as not many more come than are expected.
+#[tactic(auto, unfolding(crate::specs::Rows::row_in))]
 pub fn no_rows_in<'a, V: Drop>(
     alloc: Global,
-    table: &[Instance<'a>],
+    expected: usize,
 ) -> Result<InstanceRows<'a, V>, NoMemory>
     ensures { IfOk result (λ m. (i : ℕ) (x : List ℕ) → row_in m i x ≡ None) }
 {
-    let mut rows = Vec::with_capacity(alloc, table.len())?;
-    for part in table {
-        let none = no_rows(alloc, names_in(part.module))?;
-        rows.push(none)?;
-    }
-    Ok(InstanceRows { rows })
+    let buckets = empty_buckets(alloc, expected.max(1))?;
+    Ok(InstanceRows { buckets })
 }
 
-/// Gives the name in the numbered instance this value, whatever it had before. What is no instance of the table takes no names.
+/// Gives the name in the numbered instance this value, whatever it had before.
+#[tactic(auto, unfolding(crate::specs::Rows::row_in))]
 pub fn add_row_in<'a, V: Drop>(
     map: &mut InstanceRows<'a, V>,
     i: usize,
@@ -55,10 +52,11 @@ pub fn add_row_in<'a, V: Drop>(
 ) -> Result<(), NoMemory>
     ensures { OnOk result ((j : ℕ) (y : List ℕ) → row_in map.new j y ≡ (if i == j && bytes_eq x.now y then Some value else row_in map.old j y)) }
 {
-    if i >= map.rows.len() {
+    // There is a bucket at least, since no rows have one.
+    if map.buckets.is_empty() {
         return Err(NoMemory);
     }
-    add_row(&mut map.rows[i], x, value)?;
+    add_to_buckets(&mut map.buckets, i, x, value)?;
     Ok(())
 }
 
@@ -78,11 +76,9 @@ pub fn add_first_in<'a>(
 }
 
 /// The value of the name in the numbered instance.
+#[tactic(auto, unfolding(crate::specs::Rows::row_in))]
 pub fn row_value_in<'a, V: Copy>(map: &InstanceRows<'a, V>, i: usize, x: &[u8]) -> Option<V>
     ensures { result ≡ row_in map.now i x.now }
 {
-    match map.rows.get(i) {
-        None => None,
-        Some(rows) => row_value(rows, x),
-    }
+    value_in_buckets(map.buckets.as_slice(), i, x)
 }

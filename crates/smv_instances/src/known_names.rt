@@ -1,36 +1,36 @@
-// What the names of an instance are, found with no scan of its module.
-ghost use Rattle.std.specs.Prelude.{◌≡◌, List, ℕ, Some, map, unwrap_or, IfOk, OnOk};
+// What the names of the instances are, found with no scan of their modules.
+ghost use Rattle.std.specs.Prelude.{◌≡◌, ◌==◌, ◌-◌, ◌^◌, min, if◌then◌else◌, List, ℕ, Some, map, sum_by, unwrap_or, IfOk, OnOk};
 ghost use Rattle.smv_text.specs.Tree.{trees_of};
 ghost use Rattle.smv_text.specs.View.{plain, plain_item, plain_definition, plain_element};
 ghost use Rattle.smv_meaning.specs.Names.{nothing, among_items, among_definitions, among_elements, among_parameters, local_in};
-ghost use Rattle.smv_instances.specs.NameMap.{Knows};
-ghost use Rattle.smv_instances.specs.Rows.{row_named};
-ghost use Rattle.smv_instances.specs.View.{instance_plain, or_local};
+ghost use Rattle.smv_instances.specs.NameCounts.{names_of};
+ghost use Rattle.smv_instances.specs.NameMap.{Knows, known_at};
+ghost use Rattle.smv_instances.specs.View.{instance_plain};
 
-use crate::instance_rows::names_in;
+use crate::instance_rows::{InstanceRows, add_row_in, names_in, no_rows_in};
 use crate::instances::Instance;
 use crate::names::{Known, actual, domain};
-use crate::rows::{NameRows, add_row, no_rows};
 use smv_text::{Definitions, Element, Elements, Expr, Items, Parameters, VarKind};
 use std::alloc::Global;
 use text_core::NoMemory;
 
-/// What names are in an instance.
-pub type KnownNames<'a> = NameRows<'a, Known<'a>>;
+/// What names are in the instances.
+pub type KnownNames<'a> = InstanceRows<'a, Known<'a>>;
 
 // From the last on, so that the first one of a name counts.
 fn put_items<'a>(
     known: &mut KnownNames<'a>,
+    i: usize,
     kind: VarKind,
     items: &'a Items,
 ) -> Result<(), NoMemory>
-    ensures { OnOk result ((x : List ℕ) → or_local (row_named known.new x) nothing ≡ among_items kind (map plain_item items.now) x (or_local (row_named known.old x) nothing)) }
+    ensures { OnOk result ((j : ℕ) (x : List ℕ) → known_at known.new j x ≡ (if i == j then among_items kind (map plain_item items.now) x (known_at known.old j x) else known_at known.old j x)) }
 {
     let mut k = items.len();
     while k > 0 {
         k -= 1;
         let item = items.at(k);
-        add_row(known, item.name.bytes(), domain(kind, &item.domain))?;
+        add_row_in(known, i, item.name.bytes(), domain(kind, &item.domain))?;
     }
     Ok(())
 }
@@ -40,14 +40,15 @@ fn put_definitions<'a>(
     i: usize,
     definitions: &'a Definitions,
 ) -> Result<(), NoMemory>
-    ensures { OnOk result ((x : List ℕ) → or_local (row_named known.new x) nothing ≡ among_definitions i (map plain_definition definitions.now) x (or_local (row_named known.old x) nothing)) }
+    ensures { OnOk result ((j : ℕ) (x : List ℕ) → known_at known.new j x ≡ (if i == j then among_definitions i (map plain_definition definitions.now) x (known_at known.old j x) else known_at known.old j x)) }
 {
     let mut k = definitions.len();
     while k > 0 {
         k -= 1;
         let definition = definitions.at(k);
-        add_row(
+        add_row_in(
             known,
+            i,
             definition.name.bytes(),
             Known::Body(i, &definition.body),
         )?;
@@ -55,40 +56,42 @@ fn put_definitions<'a>(
     Ok(())
 }
 
-fn known_in_elements<'a>(
-    alloc: Global,
+// The names of an instance of which none is known yet.
+fn put_elements<'a>(
+    known: &mut KnownNames<'a>,
     i: usize,
-    expected: usize,
     elements: &'a Elements,
-) -> Result<KnownNames<'a>, NoMemory>
-    ensures { IfOk result (λ m. (x : List ℕ) → or_local (row_named m x) nothing ≡ among_elements i (map plain_element elements.now) x) }
+) -> Result<(), NoMemory>
+    requires { (x : List ℕ) → known_at known.old i x ≡ nothing }
+    ensures { OnOk result ((j : ℕ) (x : List ℕ) → known_at known.new j x ≡ (if i == j then among_elements i (map plain_element elements.now) x else known_at known.old j x)) }
 {
-    let mut known = no_rows(alloc, expected)?;
     let mut k = elements.len();
     while k > 0 {
         k -= 1;
         match elements.at(k) {
-            Element::Vars(kind, items) => put_items(&mut known, *kind, items)?,
-            Element::Defines(definitions) => put_definitions(&mut known, i, definitions)?,
+            Element::Vars(kind, items) => put_items(known, i, *kind, items)?,
+            Element::Defines(definitions) => put_definitions(known, i, definitions)?,
             _ => {}
         }
     }
-    Ok(known)
+    Ok(())
 }
 
 fn put_parameters<'a>(
     known: &mut KnownNames<'a>,
+    i: usize,
     parent: usize,
     parameters: &'a Parameters,
     actuals: &'a [Expr],
 ) -> Result<(), NoMemory>
-    ensures { OnOk result ((x : List ℕ) → or_local (row_named known.new x) nothing ≡ among_parameters parent parameters.now (trees_of (map plain actuals.now)) x (or_local (row_named known.old x) nothing)) }
+    ensures { OnOk result ((j : ℕ) (x : List ℕ) → known_at known.new j x ≡ (if i == j then among_parameters parent parameters.now (trees_of (map plain actuals.now)) x (known_at known.old j x) else known_at known.old j x)) }
 {
     let mut k = parameters.len().min(actuals.len());
     while k > 0 {
         k -= 1;
-        add_row(
+        add_row_in(
             known,
+            i,
             parameters.at(k).name.bytes(),
             actual(parent, &actuals[k]),
         )?;
@@ -96,36 +99,47 @@ fn put_parameters<'a>(
     Ok(())
 }
 
-/// What the names of the instance with this number are.
-pub fn known_in<'a>(
-    alloc: Global,
+// The names of the instance with this number, of which none is known yet.
+fn put_instance<'a>(
+    known: &mut KnownNames<'a>,
     i: usize,
     part: &Instance<'a>,
-) -> Result<KnownNames<'a>, NoMemory>
-    ensures { IfOk result (λ m. (x : List ℕ) → or_local (row_named m x) nothing ≡ local_in i x (Some (instance_plain part.now))) }
+) -> Result<(), NoMemory>
+    requires { (x : List ℕ) → known_at known.old i x ≡ nothing }
+    ensures { OnOk result ((j : ℕ) (x : List ℕ) → known_at known.new j x ≡ (if i == j then local_in i x (Some (instance_plain part.now)) else known_at known.old j x)) }
 {
     let module = part.module;
-    let mut known = known_in_elements(alloc, i, names_in(module), &module.elements)?;
+    put_elements(known, i, &module.elements)?;
     put_parameters(
-        &mut known,
+        known,
+        i,
         part.parent.unwrap_or(0),
         &module.parameters,
         part.actuals,
     )?;
-    Ok(known)
+    Ok(())
 }
 
-/// What the names of each instance are.
-#[tactic(auto, using(crate::proofs::KnownLemmas::knows_more, crate::proofs::KnownLemmas::knows_all))]
-pub fn known_in_all<'a>(
-    alloc: Global,
-    table: &[Instance<'a>],
-) -> Result<Vec<KnownNames<'a>>, NoMemory>
-    ensures { IfOk result (λ ms. Knows table.now ms.items) }
+/// How many names the instances have, as far as a number can tell it.
+#[tactic(auto, using(crate::proofs::TableLemmas::names_on))]
+pub fn names_in_all<'a>(table: &[Instance<'a>]) -> usize
+    ensures { result ≡ min (sum_by (λ at. names_of at.«module») (map instance_plain table.now)) (2 ^ 64 - 1) }
 {
-    let mut known = Vec::new(alloc);
+    let mut count: usize = 0;
+    for part in table {
+        count = count.saturating_add(names_in(part.module));
+    }
+    count
+}
+
+/// What the names of all instances are.
+#[tactic(auto, using(crate::proofs::KnownLemmas::knows_all))]
+pub fn known_in_all<'a>(alloc: Global, table: &[Instance<'a>]) -> Result<KnownNames<'a>, NoMemory>
+    ensures { IfOk result (Knows table.now) }
+{
+    let mut known = no_rows_in(alloc, names_in_all(table))?;
     for i in 0..table.len() {
-        known.push(known_in(alloc, i, &table[i])?)?;
+        put_instance(&mut known, i, &table[i])?;
     }
     Ok(known)
 }

@@ -10,7 +10,6 @@ use crate::instances::Instance;
 use crate::known_names::{KnownNames, known_in_all};
 use crate::name_map::value_under;
 use crate::names::Known;
-use crate::rows::row_value;
 use crate::symbols::{SymbolNames, symbols_of};
 use smv_text::{Element, Elements};
 use std::alloc::Global;
@@ -21,7 +20,7 @@ use text_core::NoMemory;
 #[derive(Drop)]
 pub struct Parts<'a> {
     parts: Vec<Instance<'a>>,
-    known: Vec<KnownNames<'a>>,
+    known: KnownNames<'a>,
     children: Children<'a>,
     symbols: SymbolNames<'a>,
     steps: usize,
@@ -46,7 +45,7 @@ impl<'a> Model for Parts<'a> {
 
     ghost use Rattle.smv_instances.specs.NameMap.{Knows, Bears, Holds};
 
-    ghost invariant = { λ t. (t.steps ≡ steps_of (map instance_plain t.parts.items)) × Knows t.parts.items t.known.items × Bears t.parts.items t.children × Holds t.parts.items t.symbols };
+    ghost invariant = { λ t. (t.steps ≡ steps_of (map instance_plain t.parts.items)) × Knows t.parts.items t.known × Bears t.parts.items t.children × Holds t.parts.items t.symbols };
 }
 
 impl<'a> Parts<'a> {
@@ -95,10 +94,7 @@ impl<'a> Parts<'a> {
     pub fn local(&self, i: usize, x: &[u8]) -> Known<'a>
         ensures { local_plain result ≡ local (map instance_plain self.now) i x.now }
     {
-        match self.known.get(i) {
-            None => Known::Nothing,
-            Some(known) => row_value(known, x).unwrap_or(Known::Nothing),
-        }
+        row_value_in(&self.known, i, x).unwrap_or(Known::Nothing)
     }
 
     /// The first instance with this name in the numbered one.

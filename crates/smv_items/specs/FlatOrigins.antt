@@ -1,5 +1,5 @@
 -- What the code keeps of items while it numbers them.
-use Rattle.std.specs.Prelude.{◌≡◌, ℕ, Bool, if◌then◌else◌, List, position, Option, Some, None, ◌&&◌, ◌==◌, bytes_eq}
+use Rattle.std.specs.Prelude.{◌≡◌, ℕ, Bool, if◌then◌else◌, List, [], ◌∷◌, ◌+◌, position, sum_by, Option, Some, None, is_none, not, ◌&&◌, ◌==◌, bytes_eq}
 use Rattle.std.specs.Option.{option_or}
 use Rattle.smv_text.specs.View.{plain, plain_domain}
 use Rattle.smv_meaning.specs.Instances.{Instance}
@@ -32,10 +32,18 @@ content_or_none (Some c) = Some (content_plain c)
 abbrev pub origin_plain : KeptOrigin → Origin
 origin_plain m = record { instance = m.instance; name = m.name.now; content = content_plain m.content }
 
+-- how many items at the front belong to an instance
+abbrev pub own_count : ℕ → List Origin → ℕ
+own_count i [] = 0
+own_count i (m ∷ ms) = if m.instance == i then own_count i ms + 1 else 0
+
 abbrev pub leaf_plain : KeptLeaf → Leaf
 leaf_plain (OfLeaf.Item k) = of_item k
 leaf_plain (OfLeaf.Symbol s) = of_symbol s
 leaf_plain OfLeaf.Nothing = of_nothing
+
+abbrev pub input_count : List Origin → ℕ
+input_count ms = sum_by (λ m. if is_variable_as OfVarKind.Input m.content then 1 else 0) ms
 
 -- ---- numbers
 
@@ -77,3 +85,20 @@ pub record AreNumbers (t : List Instance) (ms : List Origin) (ns : ItemNumbers) 
   pub bodies : AreBodies ms ns.bodies
   pub paths : ArePathNumbers t ms ns.paths
   pub variables : AreInstanceNumbers t ns.paths ns.variables
+
+-- ---- an item more is noted
+
+-- a dotted path has this number, unless it has one
+abbrev pub IsNoted : Bool → List ℕ → ℕ → (old new : NameRows ℕ) → Type 0
+IsNoted is_one p k old new = (x : List ℕ) → row_named new x ≡ (if is_none (row_named old x) && (is_one && bytes_eq p x) then Some k else row_named old x)
+
+pub record ArePathsNoted (is_input : Bool) (p : List ℕ) (k : ℕ) (old new : PathNumbers) : Type 0 where
+  pub states : IsNoted (not is_input) p k old.states new.states
+  pub inputs : IsNoted is_input p k old.inputs new.inputs
+
+-- the item has the number k and this dotted path
+pub record IsItemNoted (o : Origin) (p : List ℕ) (k : ℕ) (old new : ItemNumbers) : Type 0 where
+  pub bodies : (i : ℕ) (x : List ℕ) → row_in new.bodies i x ≡ (if is_none (row_in old.bodies i x) && is_body_at i x o then Some k else row_in old.bodies i x)
+  pub states : IsNoted (is_variable_as OfVarKind.State o.content) p k old.paths.states new.paths.states
+  pub inputs : IsNoted (is_variable_as OfVarKind.Input o.content) p k old.paths.inputs new.paths.inputs
+  pub variables : (t : List Instance) → p ≡ path_of t o → AreInstanceNumbers t old.paths old.variables → AreInstanceNumbers t new.paths new.variables

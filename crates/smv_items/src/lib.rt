@@ -8,8 +8,8 @@ mod symbols;
 
 pub use items::{FlatItem, ItemKind};
 pub use numbers::{
-    Bodies, ItemNumbers, Leaf, PathNumbers, VariableNumber, Variables, leaf_at, numbers_of,
+    Bodies, ItemNumbers, Leaf, PathNumbers, VariableNumber, Variables, leaf_of, numbers_of,
     paths_of,
 };
-pub use origins::{Content, Origin, Origins, dotted_path, origins_in, put_origins};
+pub use origins::{Content, Origin, Origins, dotted_path, origins_in, own_count};
 pub use symbols::{Symbols, symbols_in};

@@ -1,13 +1,13 @@
 // The numbers of a model's items and symbols, and what paths become.
-ghost use Rattle.std.specs.Prelude.{◌≡◌, ◌&&◌, length, List, ℕ, Some, None, is_none, map, bytes_eq, if◌then◌else◌, OnOk, IfOk};
+ghost use Rattle.std.specs.Prelude.{◌≡◌, true, length, [], List, Some, map, OnOk, IfOk};
 ghost use Rattle.smv_text.specs.declared.tree.VarKind.TheVariants as OfVarKind;
 ghost use Rattle.smv_meaning.specs.Instances.{Instance as Specified};
 ghost use Rattle.smv_meaning.specs.Meaning.{is_input};
 ghost use Rattle.smv_meaning.specs.Names.{dotted_at};
-ghost use Rattle.smv_instances.specs.Rows.{row_named, row_in};
-ghost use Rattle.smv_instances.specs.View.{instance_plain};
-ghost use Rattle.smv_items.specs.FlatItems.{is_variable_as, is_body, path_of, leaf_in, item_leaf, symbol_leaf, origins_of, symbols_of};
-ghost use Rattle.smv_items.specs.FlatOrigins.{origin_plain, content_plain, leaf_plain, is_body_at, number_kept, number_as, path_number, AreBodies, AreVariables, AreInstanceNumbers, ArePathNumbers, AreNumbers};
+ghost use Rattle.smv_instances.specs.Rows.{row_named};
+ghost use Rattle.smv_instances.specs.View.{instance_plain, found_plain};
+ghost use Rattle.smv_items.specs.FlatItems.{is_variable_as, path_of, leaf_found, item_leaf, symbol_leaf, origins_of, symbols_of};
+ghost use Rattle.smv_items.specs.FlatOrigins.{origin_plain, content_plain, input_count, leaf_plain, number_kept, number_as, path_number, AreInstanceNumbers, AreNumbers, IsNoted, ArePathsNoted, IsItemNoted};
 
 use crate::origins::{Content, Origin, dotted_path};
 use crate::symbols::Symbols;
@@ -15,7 +15,7 @@ use smv_instances::{
     InstanceRows, NameRows, Table, Target, add_first_in, add_row, add_row_in, no_rows, no_rows_in,
     row_value, row_value_in,
 };
-use smv_text::{Path, VarKind};
+use smv_text::VarKind;
 use std::alloc::Global;
 use text_core::{Name, NoMemory};
 
@@ -48,147 +48,38 @@ pub struct ItemNumbers<'a, 'n> {
     pub variables: Variables<'a>,
 }
 
-fn put_path<'n>(paths: &mut NameRows<'n, usize>, x: &'n [u8], k: usize) -> Result<(), NoMemory>
-    ensures { OnOk result ((y : List ℕ) → row_named paths.new y ≡ (if is_none (row_named paths.old y) && bytes_eq x.now y then Some k else row_named paths.old y)) }
-{
-    match row_value(paths, x) {
-        Some(_) => Ok(()),
-        None => add_row(paths, x, k),
-    }
-}
-
-fn is_body(content: &Content) -> bool
-    ensures { result ≡ is_body (content_plain content.now) }
-{
-    match content {
-        Content::Variable(_, _) => false,
-        Content::Definition(_, _) => true,
-        Content::Actual(_, _) => true,
-    }
-}
-
-fn is_state(content: &Content) -> bool
-    ensures { result ≡ is_variable_as OfVarKind.State (content_plain content.now) }
-{
-    match content {
-        Content::Variable(kind, _) => match kind {
-            VarKind::State | VarKind::Frozen => true,
-            VarKind::Input => false,
-        },
-        Content::Definition(_, _) => false,
-        Content::Actual(_, _) => false,
-    }
-}
-
-fn is_input(content: &Content) -> bool
-    ensures { result ≡ is_variable_as OfVarKind.Input (content_plain content.now) }
-{
-    match content {
-        Content::Variable(kind, _) => match kind {
-            VarKind::State | VarKind::Frozen => false,
-            VarKind::Input => true,
-        },
-        Content::Definition(_, _) => false,
-        Content::Actual(_, _) => false,
-    }
-}
-
-// Notes the number of an item that is a body.
-fn note_body<'a>(bodies: &mut Bodies<'a>, origin: &Origin<'a>, k: usize) -> Result<(), NoMemory>
-    ensures { OnOk result ((i : ℕ) (x : List ℕ) → row_in bodies.new i x ≡ (if is_none (row_in bodies.old i x) && is_body_at i x (origin_plain origin.now) then Some k else row_in bodies.old i x)) }
-{
-    if is_body(&origin.content) {
-        add_first_in(bodies, origin.instance, origin.name, k)
-    } else {
-        Ok(())
-    }
-}
-
-// The numbers of bodies.
-fn bodies_of<'a>(
-    alloc: Global,
-    table: &Table<'a>,
-    origins: &[Origin<'a>],
-) -> Result<Bodies<'a>, NoMemory>
-    ensures { IfOk result (λ m. AreBodies (map origin_plain origins.now) m) }
-{
-    let mut bodies = no_rows_in(alloc, table.list())?;
-    for k in 0..origins.len() {
-        note_body(&mut bodies, &origins[k], k)?;
-    }
-    Ok(bodies)
-}
-
-// Notes the number of a variable of these kinds.
-fn note_variable<'n>(
-    paths: &mut NameRows<'n, usize>,
-    is_one: bool,
+// The number of a dotted path: the first that is noted counts.
+fn first_number<'n>(
+    numbers: &mut NameRows<'n, usize>,
     path: &'n [u8],
     k: usize,
-) -> Result<(), NoMemory>
-    ensures { OnOk result ((x : List ℕ) → row_named paths.new x ≡ (if is_none (row_named paths.old x) && (is_one && bytes_eq path.now x) then Some k else row_named paths.old x)) }
+) -> Result<usize, NoMemory>
+    ensures noted { OnOk result (IsNoted true path.now k numbers.old numbers.new) }
+    ensures number { IfOk result (λ n. row_named numbers.new path.now ≡ Some n) }
 {
-    if is_one {
-        put_path(paths, path, k)
-    } else {
-        Ok(())
+    match row_value(numbers, path) {
+        Some(n) => Ok(n),
+        None => {
+            add_row(numbers, path, k)?;
+            Ok(k)
+        }
     }
 }
 
-// The numbers of variables that aren't inputs, given the dotted paths of all items.
-fn states_of<'n, 'a>(
-    alloc: Global,
-    origins: &[Origin<'a>],
-    paths: &'n [Name],
-) -> Result<NameRows<'n, usize>, NoMemory>
-    requires { length paths.now ≡ length origins.now }
-    ensures { (t : List Specified) → paths.now ≡ map (path_of t) (map origin_plain origins.now) → IfOk result (λ m. AreVariables t OfVarKind.State (map origin_plain origins.now) m) }
+// The number of a variable's dotted path, which is noted.
+fn note_path<'n>(
+    paths: &mut PathNumbers<'n>,
+    kind: VarKind,
+    path: &'n [u8],
+    k: usize,
+) -> Result<usize, NoMemory>
+    ensures noted { OnOk result (ArePathsNoted (is_input kind) path.now k paths.old paths.new) }
+    ensures number { IfOk result (λ n. path_number paths.new (is_input kind) path.now ≡ Some n) }
 {
-    let mut states = no_rows(alloc, origins.len())?;
-    for k in 0..origins.len() {
-        note_variable(
-            &mut states,
-            is_state(&origins[k].content),
-            paths[k].bytes(),
-            k,
-        )?;
+    match kind {
+        VarKind::State | VarKind::Frozen => first_number(&mut paths.states, path, k),
+        VarKind::Input => first_number(&mut paths.inputs, path, k),
     }
-    Ok(states)
-}
-
-// The numbers of inputs.
-fn inputs_of<'n, 'a>(
-    alloc: Global,
-    origins: &[Origin<'a>],
-    paths: &'n [Name],
-) -> Result<NameRows<'n, usize>, NoMemory>
-    requires { length paths.now ≡ length origins.now }
-    ensures { (t : List Specified) → paths.now ≡ map (path_of t) (map origin_plain origins.now) → IfOk result (λ m. AreVariables t OfVarKind.Input (map origin_plain origins.now) m) }
-{
-    let mut inputs = no_rows(alloc, origins.len())?;
-    for k in 0..origins.len() {
-        note_variable(
-            &mut inputs,
-            is_input(&origins[k].content),
-            paths[k].bytes(),
-            k,
-        )?;
-    }
-    Ok(inputs)
-}
-
-// The numbers of variables by their dotted paths.
-fn path_numbers<'n, 'a>(
-    alloc: Global,
-    origins: &[Origin<'a>],
-    paths: &'n [Name],
-) -> Result<PathNumbers<'n>, NoMemory>
-    requires { length paths.now ≡ length origins.now }
-    ensures { (t : List Specified) → paths.now ≡ map (path_of t) (map origin_plain origins.now) → IfOk result (λ ns. ArePathNumbers t (map origin_plain origins.now) ns) }
-{
-    let states = states_of(alloc, origins, paths)?;
-    let inputs = inputs_of(alloc, origins, paths)?;
-    Ok(PathNumbers { states, inputs })
 }
 
 // The number of a variable with this dotted path.
@@ -227,54 +118,91 @@ fn number_kept(number: Option<VariableNumber>, kind: VarKind) -> Option<usize>
     }
 }
 
-// Keeps the number of the variable with this dotted path by its instance and name.
-fn keep_number<'a>(
+// Notes a variable's dotted path, and keeps the number that it has by the variable's instance and name.
+fn note_variable<'a, 'n>(
+    paths: &mut PathNumbers<'n>,
     variables: &mut Variables<'a>,
-    numbers: &PathNumbers,
     origin: &Origin<'a>,
     kind: VarKind,
-    path: &[u8],
+    path: &'n [u8],
+    k: usize,
 ) -> Result<(), NoMemory>
-    ensures { (t : List Specified) → path.now ≡ path_of t (origin_plain origin.now) → AreInstanceNumbers t numbers.now variables.old → OnOk result (AreInstanceNumbers t numbers.now variables.new) }
+    ensures noted { OnOk result (ArePathsNoted (is_input kind) path.now k paths.old paths.new) }
+    ensures kept { (t : List Specified) → path.now ≡ path_of t (origin_plain origin.now) → AreInstanceNumbers t paths.old variables.old → OnOk result (AreInstanceNumbers t paths.new variables.new) }
 {
-    match number_of_path(numbers, kind, path) {
-        None => Ok(()),
-        Some(k) => add_row_in(variables, origin.instance, origin.name, number_as(kind, k)),
-    }
+    let n = note_path(paths, kind, path, k)?;
+    add_row_in(variables, origin.instance, origin.name, number_as(kind, n))
 }
 
-// Keeps the number of an item that is a variable.
-fn note_number<'a>(
-    variables: &mut Variables<'a>,
-    numbers: &PathNumbers,
+// Notes the item of the number k, which has this dotted path.
+fn note_item<'a, 'n>(
+    numbers: &mut ItemNumbers<'a, 'n>,
     origin: &Origin<'a>,
-    path: &[u8],
+    path: &'n [u8],
+    k: usize,
 ) -> Result<(), NoMemory>
-    ensures { (t : List Specified) → path.now ≡ path_of t (origin_plain origin.now) → AreInstanceNumbers t numbers.now variables.old → OnOk result (AreInstanceNumbers t numbers.now variables.new) }
+    ensures { OnOk result (IsItemNoted (origin_plain origin.now) path.now k numbers.old numbers.new) }
 {
     match origin.content {
-        Content::Variable(kind, _) => keep_number(variables, numbers, origin, kind, path),
-        Content::Definition(_, _) => Ok(()),
-        Content::Actual(_, _) => Ok(()),
+        Content::Variable(kind, _) => note_variable(
+            &mut numbers.paths,
+            &mut numbers.variables,
+            origin,
+            kind,
+            path,
+            k,
+        ),
+        Content::Definition(_, _) => {
+            add_first_in(&mut numbers.bodies, origin.instance, origin.name, k)
+        }
+        Content::Actual(_, _) => {
+            add_first_in(&mut numbers.bodies, origin.instance, origin.name, k)
+        }
     }
 }
 
-// The numbers of variables by instance and name, given those by dotted path.
-fn variables_of<'a>(
-    alloc: Global,
-    table: &Table<'a>,
-    origins: &[Origin<'a>],
-    paths: &[Name],
-    numbers: &PathNumbers,
-) -> Result<Variables<'a>, NoMemory>
-    requires { length paths.now ≡ length origins.now }
-    ensures { (t : List Specified) → paths.now ≡ map (path_of t) (map origin_plain origins.now) → IfOk result (λ m. AreInstanceNumbers t numbers.now m) }
+fn is_input(content: &Content) -> bool
+    ensures { result ≡ is_variable_as OfVarKind.Input (content_plain content.now) }
 {
-    let mut variables = no_rows_in(alloc, table.list())?;
-    for k in 0..origins.len() {
-        note_number(&mut variables, numbers, &origins[k], paths[k].bytes())?;
+    match content {
+        Content::Variable(kind, _) => match kind {
+            VarKind::State | VarKind::Frozen => false,
+            VarKind::Input => true,
+        },
+        Content::Definition(_, _) => false,
+        Content::Actual(_, _) => false,
     }
-    Ok(variables)
+}
+
+// How many inputs there are. Most models have few or none, which then have little room.
+fn input_count(origins: &[Origin]) -> usize
+    ensures { result ≡ input_count (map origin_plain origins.now) }
+{
+    let mut count = 0;
+    for origin in origins {
+        if is_input(&origin.content) {
+            count += 1;
+        }
+    }
+    count
+}
+
+// The numbers of no items yet, with room for those that come.
+fn no_numbers<'a, 'n>(
+    alloc: Global,
+    origins: &[Origin<'a>],
+) -> Result<ItemNumbers<'a, 'n>, NoMemory>
+    ensures { IfOk result (λ ns. (t : List Specified) → AreNumbers t [] ns) }
+{
+    let bodies = no_rows_in(alloc, origins.len())?;
+    let states = no_rows(alloc, origins.len())?;
+    let inputs = no_rows(alloc, input_count(origins))?;
+    let variables = no_rows_in(alloc, origins.len())?;
+    Ok(ItemNumbers {
+        bodies,
+        paths: PathNumbers { states, inputs },
+        variables,
+    })
 }
 
 /// The dotted paths of the items.
@@ -296,21 +224,17 @@ pub fn paths_of<'a>(
 /// The numbers of all items, given their dotted paths.
 pub fn numbers_of<'a, 'n>(
     alloc: Global,
-    table: &Table<'a>,
     origins: &[Origin<'a>],
     paths: &'n [Name],
 ) -> Result<ItemNumbers<'a, 'n>, NoMemory>
     requires { length paths.now ≡ length origins.now }
     ensures { (t : List Specified) → paths.now ≡ map (path_of t) (map origin_plain origins.now) → IfOk result (λ ns. AreNumbers t (map origin_plain origins.now) ns) }
 {
-    let numbers = path_numbers(alloc, origins, paths)?;
-    let variables = variables_of(alloc, table, origins, paths, &numbers)?;
-    let bodies = bodies_of(alloc, table, origins)?;
-    Ok(ItemNumbers {
-        bodies,
-        paths: numbers,
-        variables,
-    })
+    let mut numbers = no_numbers(alloc, origins)?;
+    for k in 0..origins.len() {
+        note_item(&mut numbers, &origins[k], paths[k].bytes(), k)?;
+    }
+    Ok(numbers)
 }
 
 /// What a path becomes: the number of an item or of a symbol.
@@ -367,20 +291,19 @@ fn variable_number<'a>(
     }
 }
 
-/// What a path in the numbered instance becomes.
-pub fn leaf_at<'a, 'n>(
+/// What a path becomes that leads to this target.
+pub fn leaf_of<'a, 'n>(
     alloc: Global,
     table: &Table<'a>,
     numbers: &ItemNumbers<'a, 'n>,
     symbols: &Symbols,
-    i: usize,
-    path: &'a Path,
+    target: Target<'a>,
 ) -> Result<Leaf, NoMemory>
     requires numbers { AreNumbers (map instance_plain table.now) (origins_of (map instance_plain table.now)) numbers.now }
     requires symbols { symbols.now ≡ symbols_of (map instance_plain table.now) }
-    ensures { IfOk result (λ l. leaf_plain l ≡ leaf_in (map instance_plain table.now) i path.now) }
+    ensures { IfOk result (λ l. leaf_plain l ≡ leaf_found (map instance_plain table.now) (found_plain (map instance_plain table.now) target.entry)) }
 {
-    match table.target(i, path) {
+    match target {
         Target::Variable(j, x, kind, _) => {
             let number = variable_number(alloc, table, numbers, j, x, kind)?;
             item(number)

@@ -1,11 +1,11 @@
 // Where the items of a model come from, in their order.
-ghost use Rattle.std.specs.Prelude.{◌≡◌, ◌++◌, [], map, flat_map, OnOk, IfOk};
+ghost use Rattle.std.specs.Prelude.{◌≡◌, ◌≤◌, ◌++◌, [], length, map, flat_map, OnOk, IfOk};
 ghost use Rattle.smv_text.specs.Tree.{trees_of};
 ghost use Rattle.smv_text.specs.View.{plain, plain_item, plain_definition, plain_element, plain_domain};
 ghost use Rattle.smv_meaning.specs.Names.{dotted_at};
 ghost use Rattle.smv_instances.specs.View.{instance_plain};
 ghost use Rattle.smv_items.specs.FlatItems.{with_content, actual_content, actual_items, domain_content, variable_item, definition_item, element_items, items_here, origins_of};
-ghost use Rattle.smv_items.specs.FlatOrigins.{origin_plain, content_or_none};
+ghost use Rattle.smv_items.specs.FlatOrigins.{origin_plain, content_or_none, own_count};
 
 use smv_instances::{Instance, Table, path_below};
 use smv_text::{Definitions, Domain, Element, Elements, Expr, Items, Parameters, Shape, VarKind};
@@ -160,12 +160,8 @@ fn add_elements<'a>(
     Ok(())
 }
 
-/// Puts the items of the instance with this number behind others.
-pub fn put_origins<'a>(
-    origins: &mut Origins<'a>,
-    i: usize,
-    at: &Instance<'a>,
-) -> Result<(), NoMemory>
+// Puts the items of the instance with this number behind others.
+fn put_origins<'a>(origins: &mut Origins<'a>, i: usize, at: &Instance<'a>) -> Result<(), NoMemory>
     ensures { OnOk result (map origin_plain origins.new.items ≡ map origin_plain origins.old.items ++ items_here i (instance_plain at.now)) }
 {
     let module = at.module;
@@ -189,6 +185,20 @@ pub fn origins_in<'a>(alloc: Global, table: &Table<'a>) -> Result<Origins<'a>, N
         put_origins(&mut origins, i, table.at(i))?;
     }
     Ok(origins)
+}
+
+/// How many items at the front of these belong to the numbered instance.
+#[tactic(auto, using(smv_meaning::specs::laws::Lists::front_is, smv_meaning::specs::laws::Lists::end_is))]
+pub fn own_count(origins: &[Origin], i: usize) -> usize
+    ensures bound { result ≤ length origins.now }
+    ensures own { result ≡ own_count i (map origin_plain origins.now) }
+{
+    for k in 0..origins.len() {
+        if origins[k].instance != i {
+            return k;
+        }
+    }
+    origins.len()
 }
 
 /// The dotted path of a name in the numbered instance.

@@ -5,3 +5,4 @@ pub mod DomainLemmas
 pub mod Filling
 pub mod InOrder
 pub mod BodyLemmas
+pub mod Targets

@@ -1,15 +1,16 @@
 // What paths are to the types, as far as the entries have what they go through.
-ghost use Rattle.std.specs.Prelude.{◌≡◌, ◌∷◌, [], true, map};
+ghost use Rattle.std.specs.Prelude.{◌≡◌, ◌∷◌, [], true, map, Some};
 ghost use Rattle.smv_text.specs.View.{plain_domain};
 ghost use Rattle.smv_meaning.specs.Bodies.{instance_within};
-ghost use Rattle.smv_meaning.specs.Names.{local, look, steps_of};
+ghost use Rattle.smv_meaning.specs.Names.{local, look, steps_of, found_in};
 ghost use Rattle.smv_meaning.specs.Naming.{unnamed};
-ghost use Rattle.smv_instances.specs.View.{instance_plain, local_plain};
+ghost use Rattle.smv_meaning.specs.Settled.{types_in};
+ghost use Rattle.smv_instances.specs.View.{instance_plain, local_plain, found_plain};
 ghost use Rattle.smv_types.specs.View.{named_seen};
-ghost use Rattle.smv_model_types.specs.Entries.{entries_seen, alias_or, entry_or, or_unnamed, variable_or, named_instance, named_symbol, entries_single, entries_walk, entries_names};
+ghost use Rattle.smv_model_types.specs.Entries.{entries_seen, alias_or, entry_or, or_unnamed, variable_or, named_instance, named_symbol, entries_single, entries_walk, entries_names, HasEach};
 
 use crate::domains::variable_named;
-use smv_instances::{InstanceRows, Known, Table, row_value_in};
+use smv_instances::{InstanceRows, Known, Table, Target, row_value_in};
 use smv_intervals::Ty;
 use smv_text::{Domain, Path, VarKind};
 use smv_types::{Named, Scope};
@@ -184,6 +185,50 @@ pub(crate) fn path_named<'a>(
         return single(&*table, &*entries, i, x, table.local(i, x));
     }
     walked(table, entries, i, &path.names)
+}
+
+// What a variable is to which a path leads. Only that of an enumeration is not told by its declaration alone in a step or two.
+fn variable_on_path<'a>(
+    table: &Table<'a>,
+    entries: &Entries<'a>,
+    i: usize,
+    path: &Path,
+    kind: VarKind,
+    domain: &Domain,
+) -> Named
+    ensures { named_seen result ≡ variable_or kind (plain_domain domain.now) (Some (entries_names (map instance_plain table.now) (entries_seen entries.now) i path.now)) }
+{
+    match domain {
+        Domain::Members(_) => path_named(table, entries, i, path),
+        Domain::Boolean => variable_named(kind, domain),
+        Domain::Between(_, _) => variable_named(kind, domain),
+        Domain::Bits(_) => variable_named(kind, domain),
+        Domain::Instance(_, _) => variable_named(kind, domain),
+    }
+}
+
+/// What a path is, by the entries, given what it leads to.
+pub(crate) fn target_named<'a>(
+    table: &Table<'a>,
+    entries: &Entries<'a>,
+    i: usize,
+    path: &Path,
+    target: Target,
+) -> Named
+    requires entries { HasEach (map instance_plain table.now) (entries_seen entries.now) }
+    requires target { found_plain (map instance_plain table.now) target ≡ found_in (map instance_plain table.now) i path.now }
+    ensures { named_seen result ≡ types_in true (map instance_plain table.now) i path.now }
+{
+    match target {
+        Target::Variable(_, _, kind, domain) => {
+            variable_on_path(table, entries, i, path, kind, domain)
+        }
+        Target::Body(j, x, _, _) => entered(entries, j, x),
+        Target::Instance(_) => instance(),
+        Target::Symbol(_) => symbol(),
+        Target::Cyclic => unnamed(),
+        Target::Missing => unnamed(),
+    }
 }
 
 /// The names of an instance, by the entries.

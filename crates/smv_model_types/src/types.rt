@@ -1,11 +1,12 @@
 // The types of a model, and its checks of types.
 ghost use Rattle.std.specs.Prelude.{◌≡◌, true, map, IfOk};
 ghost use Rattle.smv_text.specs.View.{plain};
+ghost use Rattle.smv_meaning.specs.Names.{found_in};
 ghost use Rattle.smv_meaning.specs.Checks.{typing};
 ghost use Rattle.smv_meaning.specs.Checked.{type_checks_of};
 ghost use Rattle.smv_meaning.specs.Settled.{types_in};
 ghost use Rattle.smv_meaning.specs.Bodies.{placed_bodies, IsBodyOrder};
-ghost use Rattle.smv_instances.specs.View.{instance_plain};
+ghost use Rattle.smv_instances.specs.View.{instance_plain, found_plain};
 ghost use Rattle.smv_references.specs.View.{body_plain};
 ghost use Rattle.smv_types.specs.View.{named_seen, position_seen};
 ghost use Rattle.smv_names.specs.Outcome.{Settles};
@@ -13,8 +14,8 @@ ghost use Rattle.smv_model_types.specs.Outcome.{AreTypesOf, Finds};
 
 use crate::bodies::entries_of;
 use crate::elements::instance_checked;
-use crate::names::{Entries, Reader, path_named};
-use smv_instances::Table;
+use crate::names::{Entries, Reader, path_named, target_named};
+use smv_instances::{Table, Target};
 use smv_intervals::Ty;
 use smv_model_laws::types_hang_on_paths;
 use smv_names::NamesEnd;
@@ -52,6 +53,15 @@ impl<'a> Types<'a> {
         ensures { named_seen result ≡ types_in true (map instance_plain table.now) i path.now }
     {
         path_named(table, &self.entries, i, path)
+    }
+
+    /// The same, given what the path leads to, so that it isn't followed again; only one to an enumeration is.
+    pub fn named_at(&self, table: &Table<'a>, i: usize, path: &Path, target: Target) -> Named
+        requires types { AreTypesOf (map instance_plain table.now) self.now }
+        requires target { found_plain (map instance_plain table.now) target ≡ found_in (map instance_plain table.now) i path.now }
+        ensures { named_seen result ≡ types_in true (map instance_plain table.now) i path.now }
+    {
+        target_named(table, &self.entries, i, path, target)
     }
 
     /// The checks of an expression that stands in the numbered instance, and its type: none where it has none.

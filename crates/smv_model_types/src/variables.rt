@@ -7,7 +7,7 @@ ghost use Rattle.smv_model_types.specs.Entries.{entries_seen, variable_put, Beco
 
 use crate::domains::variable_named;
 use crate::names::Entries;
-use smv_instances::{Known, Table, add_row_in, no_rows_in};
+use smv_instances::{Known, Table, add_row_in, names_in_all, no_rows_in};
 use smv_model_laws::names_settle;
 use smv_text::{Domain, Element, Elements, Item, Items};
 use std::alloc::Global;
@@ -113,7 +113,7 @@ pub(crate) fn variables_of<'a>(alloc: Global, table: &Table<'a>) -> Result<Entri
     requires acyclic { Acyclic (map instance_plain table.now) }
     ensures { IfOk result (λ entries. Right (map instance_plain table.now) (entries_seen entries)) }
 {
-    let mut entries = no_rows_in(alloc, table.list())?;
+    let mut entries = no_rows_in(alloc, names_in_all(table.list()))?;
     for i in 0..table.len() {
         put_elements(table, &mut entries, i, &table.at(i).module.elements)?;
     }

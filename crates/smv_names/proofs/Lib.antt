@@ -1,5 +1,6 @@
 pub mod Lists
 pub mod Above
+pub mod DeclaringLemmas
 pub mod Walks
 pub mod FirstPart
 pub mod Visiting

@@ -3,19 +3,20 @@ ghost use Rattle.std.specs.Prelude.{◌≡◌, ◌≤◌, [], length, map, nat_l
 ghost use Rattle.smv_text.specs.View.{plain_item, plain_module, plain_source};
 ghost use Rattle.smv_meaning.specs.Instances.{dotted, is_one_of, instances_of};
 ghost use Rattle.smv_meaning.specs.Checks.{first_failing};
-ghost use Rattle.smv_meaning.specs.Phases.{takes, item_checks, declares_instance, longest_path, most_instances, declared_checks, counted_all, declaration_checks};
+ghost use Rattle.smv_meaning.specs.Phases.{takes, item_checks, declared_in, declares_instance, longest_path, most_instances, declared_checks, counted_all, declaration_checks};
 ghost use Rattle.smv_names.specs.Outcome.{Settles, Counts};
 ghost use Rattle.smv_names.specs.View.{declared_plain, names_above};
 ghost use Rattle.smv_names.specs.Visits.{checks_behind_name};
+ghost use Rattle.smv_names.specs.Declaring.{is_place};
 
 use crate::declared::Declaration;
+use crate::declaring::{DeclaredModule, DeclaredModules};
 use crate::ends::NamesEnd;
 use crate::visits::visited;
-use smv_instances::{ModuleTable, add_row, no_rows, row_value};
 use smv_text::{Domain, Item, Source};
 use std::alloc::Global;
-use text_core::Refusal;
 use text_core::kinds::smv;
+use text_core::{Refusal, is_same};
 
 /// The most bytes of a dotted path.
 const LONGEST_PATH: usize = 1000;
@@ -26,7 +27,7 @@ fn is_among(names: &[&[u8]], name: &[u8]) -> bool
     ensures { result ≡ is_one_of (map (λ m. m.now) names.now) name.now }
 {
     for other in names {
-        if *other == name {
+        if is_same(*other, name) {
             return true;
         }
     }
@@ -42,7 +43,7 @@ fn is_above(above: &[&[u8]], name: &[u8]) -> bool
 
 // An instance is one of a module that is there, isn't inside itself, and takes that many actuals.
 #[tactic(auto, using(crate::specs::laws::Composing::trees_length))]
-fn item_failing(modules: &ModuleTable, above: &[&[u8]], item: &Item) -> Option<Refusal>
+fn item_failing(modules: &DeclaredModules, above: &[&[u8]], item: &Item) -> Option<Refusal>
     ensures { result ≡ first_failing (item_checks (map plain_module modules.now) (names_above above.now) (Some (plain_item item.now))) }
 {
     match &item.domain {
@@ -55,12 +56,12 @@ fn item_failing(modules: &ModuleTable, above: &[&[u8]], item: &Item) -> Option<R
                 kind: smv::NO_SUCH_MODULE,
                 place: item.domain_place,
             }),
-            Some(module) => if is_above(above, name.bytes()) {
+            Some(own) => if is_above(above, name.bytes()) {
                 Some(Refusal {
                     kind: smv::MODULE_CYCLE,
                     place: item.domain_place,
                 })
-            } else if module.parameters.len() != actuals.len() {
+            } else if own.module().parameters.len() != actuals.len() {
                 Some(Refusal {
                     kind: smv::ARG_COUNT,
                     place: item.domain_place,
@@ -100,7 +101,7 @@ fn is_instance(declaration: &Declaration) -> bool
 
 // The checks of a declaration but for that of its name: given the modules above and how many instances are met.
 fn declaration_failing(
-    modules: &ModuleTable,
+    modules: &DeclaredModules,
     above: &[&[u8]],
     path: &[u8],
     met: usize,
@@ -124,24 +125,33 @@ fn declaration_failing(
     }
 }
 
+fn stands_at(place: Option<usize>, k: usize) -> bool
+    ensures { result ≡ is_place place k }
+{
+    match place {
+        None => false,
+        Some(other) => other == k,
+    }
+}
+
 /// The checks of what an instance declares, given the modules above, its path and how many instances were met so far; it
 /// answers how many are met then.
 #[tactic(auto, using(crate::proofs::Lists::front_is, crate::proofs::Lists::end_is))]
 pub(crate) fn declared_checked<'a>(
-    alloc: Global,
-    modules: &ModuleTable<'a>,
+    modules: &DeclaredModules<'a>,
     above: &[&'a [u8]],
     path: &[u8],
     met: usize,
-    list: &[Declaration<'a>],
+    own: &DeclaredModule<'a>,
 ) -> Result<usize, NamesEnd>
-    ensures { Counts result (declared_checks (map plain_module modules.now) (names_above above.now) path.now [] met (map declared_plain list.now)) (counted_all met (map declared_plain list.now)) }
+    ensures { Counts result (declared_checks (map plain_module modules.now) (names_above above.now) path.now [] met (declared_in (plain_module own.now))) (counted_all met (declared_in (plain_module own.now))) }
 {
-    let mut seen = no_rows(alloc, list.len())?;
+    let list = own.declarations();
+    let twice = own.twice();
     let mut count = met;
     for k in 0..list.len() {
         let declaration = &list[k];
-        if row_value(&seen, declaration.name).is_some() {
+        if stands_at(twice, k) {
             return Err(NamesEnd::Bad(Refusal {
                 kind: smv::NAME_TWICE,
                 place: declaration.place,
@@ -153,7 +163,6 @@ pub(crate) fn declared_checked<'a>(
         if is_instance(declaration) {
             count += 1;
         }
-        add_row(&mut seen, declaration.name, ())?;
     }
     Ok(count)
 }
@@ -163,12 +172,12 @@ pub(crate) fn declared_checked<'a>(
 pub fn declarations_checked(alloc: Global, source: &Source) -> Result<(), NamesEnd>
     ensures { Settles result (declaration_checks (plain_source source.now).modules (instances_of (plain_source source.now)) 0 1 (instances_of (plain_source source.now))) }
 {
-    let modules = ModuleTable::of(alloc, &source.modules)?;
-    let Some(module) = modules.named(b"main") else {
+    let modules = DeclaredModules::of(alloc, &source.modules)?;
+    let Some(own) = modules.named(b"main") else {
         return Ok(());
     };
     let mut above = Vec::new(alloc);
-    match visited(alloc, &modules, modules.len(), &mut above, &[], module, 1) {
+    match visited(alloc, &modules, modules.len(), &mut above, &[], own, 1) {
         Ok(_) => Ok(()),
         Err(end) => Err(end),
     }

@@ -5,6 +5,7 @@ mod assignments;
 mod cycles;
 mod declarations;
 mod declared;
+mod declaring;
 mod ends;
 mod invariants;
 mod module_names;

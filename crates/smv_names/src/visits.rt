@@ -5,10 +5,10 @@ ghost use Rattle.smv_names.specs.View.{item_or_none, names_above};
 ghost use Rattle.smv_names.specs.Visits.{item_visits, visits, CountsVisits};
 
 use crate::declarations::declared_checked;
-use crate::declared::declared_of;
+use crate::declaring::{DeclaredModule, DeclaredModules};
 use crate::ends::NamesEnd;
-use smv_instances::{ModuleTable, path_below};
-use smv_text::{Domain, Item, Module};
+use smv_instances::path_below;
+use smv_text::{Domain, Item};
 use std::alloc::Global;
 use text_core::NoMemory;
 
@@ -22,7 +22,7 @@ fn push<'a>(above: &mut Vec<&'a [u8]>, name: &'a [u8]) -> Result<(), NoMemory>
 #[cycle(visit)]
 fn item_visited<'a>(
     alloc: Global,
-    modules: &ModuleTable<'a>,
+    modules: &DeclaredModules<'a>,
     deep: usize,
     above: &mut Vec<&'a [u8]>,
     path: &[u8],
@@ -42,9 +42,9 @@ fn item_visited<'a>(
         Domain::Bits(_) => Ok(met),
         Domain::Instance(name, _) => match modules.named(name.bytes()) {
             None => Ok(met),
-            Some(module) => {
+            Some(own) => {
                 let below = path_below(alloc, path, item.name.bytes())?;
-                visited(alloc, modules, deep, above, below.bytes(), module, met)
+                visited(alloc, modules, deep, above, below.bytes(), own, met)
             }
         },
     }
@@ -54,33 +54,27 @@ fn item_visited<'a>(
 #[cycle(visit)]
 pub(crate) fn visited<'a>(
     alloc: Global,
-    modules: &ModuleTable<'a>,
+    modules: &DeclaredModules<'a>,
     deep: usize,
     above: &mut Vec<&'a [u8]>,
     path: &[u8],
-    module: &'a Module,
+    own: &DeclaredModule<'a>,
     met: usize,
 ) -> Result<usize, NamesEnd>
-    ensures counts { CountsVisits result (map plain_module modules.now) met (visits deep (map plain_module modules.now) (names_above above.old.items) path.now (plain_module module.now)) }
+    ensures counts { CountsVisits result (map plain_module modules.now) met (visits deep (map plain_module modules.now) (names_above above.old.items) path.now (plain_module own.now)) }
     ensures same { OnOk result (above.new.items ≡ above.old.items) }
 {
     if deep == 0 {
         return Ok(met);
     }
     let depth = above.len();
+    let module = own.module();
     push(above, module.name.bytes())?;
-    let list = declared_of(alloc, module)?;
-    let mut count = match declared_checked(
-        alloc,
-        modules,
-        above.as_slice(),
-        path,
-        met,
-        list.as_slice(),
-    ) {
+    let mut count = match declared_checked(modules, above.as_slice(), path, met, own) {
         Ok(count) => count,
         Err(end) => return Err(end),
     };
+    let list = own.declarations();
     for k in 0..list.len() {
         match item_visited(alloc, modules, deep - 1, above, path, list[k].item, count) {
             Ok(more) => count = more,

@@ -32,14 +32,10 @@ pub enum Ordering {
 pub type BodyNumbers<'a> = InstanceRows<'a, usize>;
 
 /// The number of each definition and actual: the place of the first one of its instance and name.
-pub fn numbers_of<'a>(
-    alloc: Global,
-    table: &Table<'a>,
-    bodies: &[Body<'a>],
-) -> Result<BodyNumbers<'a>, NoMemory>
+pub fn numbers_of<'a>(alloc: Global, bodies: &[Body<'a>]) -> Result<BodyNumbers<'a>, NoMemory>
     ensures { IfOk result (λ m. (i : ℕ) (x : List ℕ) → row_in m i x ≡ number_in (map key_of bodies.now) (i, x)) }
 {
-    let mut numbers = no_rows_in(alloc, table.list())?;
+    let mut numbers = no_rows_in(alloc, bodies.len())?;
     for k in 0..bodies.len() {
         let body = &bodies[k];
         add_first_in(&mut numbers, body.instance, body.name, k)?;
@@ -172,7 +168,7 @@ fn graph_of<'a>(alloc: Global, table: &Table<'a>, bodies: &[Body<'a>]) -> Result
     requires { map body_plain bodies.now ≡ placed_bodies (map instance_plain table.now) }
     ensures { IfOk result (λ g. g ≡ reference_graph (map instance_plain table.now)) }
 {
-    let numbers = numbers_of(alloc, table, bodies)?;
+    let numbers = numbers_of(alloc, bodies)?;
     let mut graph = List::new(alloc);
     for k in 0..bodies.len() {
         graph.push(row_of(alloc, table, &numbers, &bodies[k])?)?;

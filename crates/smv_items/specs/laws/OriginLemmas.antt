@@ -1,8 +1,16 @@
--- Lists of items, grown from the left.
-use Rattle.std.proofs.Common.{◌≡◌, ℕ, ◌+◌, List, [], ◌∷◌, ◌++◌, refl, ap, append_assoc}
+-- Lists of items, grown from the left, and where the items of an instance end.
+use Rattle.std.proofs.Common.{◌≡◌, ℕ, ◌+◌, ◌<◌, ◌==◌, Bool, true, false, if◌then◌else◌, List, [], ◌∷◌, ◌++◌, take, drop, length, map, flat_map, Option, Some, None, refl, sym, ap, ◌∙◌, append_assoc, arith}
+use Rattle.std.proofs.lemmas.Bool.{eqb-true, eq-eqb}
+use Rattle.std.proofs.lemmas.List.{take-map, drop-map}
+use Rattle.std.proofs.Math.Seq.{take-append_seam, drop-append_seam}
 use Rattle.smv_text.specs.declared.tree.Parameter.{Parameter}
-use Rattle.smv_text.specs.Tree.{no_trees}
-use Rattle.smv_items.specs.FlatItems.{actual_items}
+use Rattle.smv_text.specs.Tree.{Trees, no_trees, tree, PlainDefinition, PlainElement, vars, defines, constants, assigns, init, trans, invar, spec}
+use Rattle.smv_meaning.specs.Instances.{Instance}
+use Rattle.smv_meaning.specs.Names.{parent_of}
+use Rattle.smv_meaning.specs.Phases.{over_instances}
+use Rattle.smv_items.specs.declared.origins.Origin.{Origin as KeptOrigin}
+use Rattle.smv_items.specs.FlatItems.{Content, Origin, with_content, actual_content, actual_items, domain_content, variable_item, definition_item, element_items, items_here}
+use Rattle.smv_items.specs.FlatOrigins.{origin_plain, own_count}
 
 pub append_none : {X : Type 0} (xs : List X) → xs ++ [] ≡ xs
 append_none [] = refl
@@ -15,3 +23,85 @@ joined_on front more all x = append_assoc front (x ∷ []) more
 pub none_actual : (i j : ℕ) (qs : List Parameter) → actual_items i j qs no_trees ≡ []
 none_actual i j [] = refl
 none_actual i j (q ∷ qs) = refl
+
+-- ---- all items of an instance have its number
+
+abbrev AllOwn : ℕ → List Origin → Type 0
+AllOwn i [] = Unit {0}
+AllOwn i (m ∷ ms) = (m.instance ≡ i) × AllOwn i ms
+
+own_both : (i : ℕ) (xs ys : List Origin) → AllOwn i xs → AllOwn i ys → AllOwn i (xs ++ ys)
+own_both i [] ys h k = k
+own_both i (x ∷ xs) ys h k = (h.0, own_both i xs ys h.1 k)
+
+own_content : (i : ℕ) (x : List ℕ) (o : Option Content) → AllOwn i (with_content i x o)
+own_content i x None = tt
+own_content i x (Some c) = (refl, tt)
+
+own_actuals : (i j : ℕ) (qs : List Parameter) (es : Trees) → AllOwn i (actual_items i j qs es)
+own_actuals i j [] es = tt
+own_actuals i j (q ∷ qs) no_trees = tt
+own_actuals i j (q ∷ qs) (tree e es) = own_both i (with_content i q.name (actual_content j e)) (actual_items i j qs es) (own_content i q.name (actual_content j e)) (own_actuals i j qs es)
+
+own_each : {X : Type 0} (i : ℕ) (f : X → List Origin) → ((x : X) → AllOwn i (f x)) → (xs : List X) → AllOwn i (flat_map f xs)
+own_each i f h [] = tt
+own_each i f h (x ∷ xs) = own_both i (f x) (flat_map f xs) (h x) (own_each i f h xs)
+
+own_definitions : (i : ℕ) (ds : List PlainDefinition) → AllOwn i (map (definition_item i) ds)
+own_definitions i [] = tt
+own_definitions i (d ∷ ds) = (refl, own_definitions i ds)
+
+own_element : (i : ℕ) (e : PlainElement) → AllOwn i (element_items i e)
+own_element i (vars kind items) = own_each i (variable_item i kind) (λ v. own_content i v.name (domain_content kind v.domain)) items
+own_element i (defines ds) = own_definitions i ds
+own_element i (constants names) = tt
+own_element i (assigns xs) = tt
+own_element i (init e) = tt
+own_element i (trans e) = tt
+own_element i (invar e) = tt
+own_element i (spec label e) = tt
+
+own_here : (i : ℕ) (at : Instance) → AllOwn i (items_here i at)
+own_here i at =
+    own_both i (actual_items i (parent_of at) at.module.parameters at.actuals) (flat_map (element_items i) at.module.elements) (own_actuals i (parent_of at) at.module.parameters at.actuals)
+    (own_each i (element_items i) (own_element i) at.module.elements)
+
+-- ---- and those of later instances have a greater one
+
+count_own : (i : ℕ) (xs ys : List Origin) → AllOwn i xs → own_count i (xs ++ ys) ≡ length xs + own_count i ys
+count_own i [] ys h = omega arith
+count_own i (x ∷ xs) ys h = ap (λ b. if b then own_count i (xs ++ ys) + 1 else 0) (eq-eqb x.instance i h.0) ∙ omega (arith, count_own i xs ys h.1)
+
+count_other : (i j : ℕ) → i < j → (xs ys : List Origin) → AllOwn j xs → own_count i ys ≡ 0 → own_count i (xs ++ ys) ≡ 0
+count_other i j l [] ys h k = k
+count_other i j l (x ∷ xs) ys h k = by (x.instance == i) refl
+  where
+    by : (b : Bool) → (x.instance == i) ≡ b → (if b then own_count i (xs ++ ys) + 1 else 0) ≡ 0
+    by true e = let same = eqb-true x.instance i e in let other = h.0 in absurd (omega (arith, same, other, l))
+    by false e = refl
+
+count_later : (i j : ℕ) → i < j → (t : List Instance) → own_count i (over_instances items_here j t) ≡ 0
+count_later i j l [] = refl
+count_later i j l (at ∷ t) = count_other i j l (items_here j at) (over_instances items_here (j + 1) t) (own_here j at) (count_later i (j + 1) (omega (arith, l)) t)
+
+count_here : (i : ℕ) (at : Instance) (rest : List Instance) → own_count i (items_here i at ++ over_instances items_here (i + 1) rest) ≡ length (items_here i at)
+count_here i at rest =
+    let own = count_own i (items_here i at) (over_instances items_here (i + 1) rest) (own_here i at) in
+    let later = count_later i (i + 1) (omega arith) rest in
+    omega (arith, own, later)
+
+counted : (i n : ℕ) (at : Instance) (rest : List Instance) (xs : List KeptOrigin) → n ≡ own_count i (map origin_plain xs) → map origin_plain xs ≡ over_instances items_here i (at ∷ rest) → n ≡ length (items_here i at)
+counted i n at rest xs e h = e ∙ ap (own_count i) h ∙ count_here i at rest
+
+-- the items of the first of some instances, and those of the others
+pub own_front : (i n : ℕ) (at : Instance) (rest : List Instance) (xs : List KeptOrigin) → n ≡ own_count i (map origin_plain xs) → map origin_plain xs ≡ over_instances items_here i (at ∷ rest)
+    → map origin_plain (take n xs) ≡ items_here i at
+own_front i n at rest xs e h =
+    sym (take-map origin_plain n xs) ∙ ap (take n) h ∙ ap (λ k. take k (items_here i at ++ over_instances items_here (i + 1) rest)) (counted i n at rest xs e h)
+    ∙ take-append_seam (items_here i at) (over_instances items_here (i + 1) rest)
+
+pub own_passed : (i n : ℕ) (at : Instance) (rest : List Instance) (xs : List KeptOrigin) → n ≡ own_count i (map origin_plain xs) → map origin_plain xs ≡ over_instances items_here i (at ∷ rest)
+    → map origin_plain (drop n xs) ≡ over_instances items_here (i + 1) rest
+own_passed i n at rest xs e h =
+    sym (drop-map origin_plain n xs) ∙ ap (drop n) h ∙ ap (λ k. drop k (items_here i at ++ over_instances items_here (i + 1) rest)) (counted i n at rest xs e h)
+    ∙ drop-append_seam (items_here i at) (over_instances items_here (i + 1) rest)

@@ -8,5 +8,5 @@ use Rattle.smv_flat.proofs.formulas.formula.Goals as goal
 
 pub returns : goal.returns
 returns g c =
-    form_made (g.N.Naming.names c.args.context.now.naming.now) (map instance_plain c.args.context.now.table.now) c.args.source.reader c.in_ok-instance.instance c.args.source.instance c.args.source.role (standing_seen c.of-at.result) (position_seen c.args.source.position)
-    (plain c.args.source.body.now) (plain_flat c.in_ok-x.x.expr) c.requires.typed c.of-at.ensures c.in_ok-instance.ensures c.in_ok-x.ensures.expr
+    form_made (map instance_plain c.args.context.now.table.now) c.args.source.reader c.in_ok-instance.instance c.args.source.instance c.args.source.role (standing_seen c.of-at.result) (position_seen c.args.source.position)
+    (plain c.args.source.body.now) (plain_flat c.in_ok-x.x.expr) c.of-at.ensures c.in_ok-instance.ensures c.in_ok-x.ensures.expr

@@ -1,11 +1,10 @@
-use Rattle.std.proofs.Common.{◌+◌, length, refl, ap, ◌∙◌, arith}
-use Rattle.std.proofs.lemmas.List.{length_push}
-use Rattle.smv_instances.proofs.KnownLemmas.{knows_more}
+use Rattle.std.proofs.Common.{length, refl, arith}
+use Rattle.smv_instances.proofs.KnownLemmas.{knows_more, not_yet}
 use Rattle.smv_instances.proofs.known_names.known_in_all.Goals as goal
 
+pub put_instance-requires : goal.put_instance-requires
+put_instance-requires c = not_yet c.args.table.now c.loop-i.i (length c.args.table.now) c.loop-i.known refl (omega arith) c.loop-i.invariant
+
 pub loop-i-preserved : goal.loop-i-preserved
-loop-i-preserved c = record {
-  many = ap length c.in_ok-push.ensures.items ∙ length_push c.loop-i.known.items c.in_ok-known_in.field-0 ∙ ap (λ n. n + 1) c.loop-i.invariant.many;
-  knows = knows_more c.args.table.now c.loop-i.known.items c.push.new.self.items c.in_ok-known_in.field-0 c.loop-i.i (length c.args.table.now) c.index-table-i.result
-      c.in_ok-push.ensures.items c.loop-i.invariant.many refl (omega arith) c.index-table-i.is c.loop-i.invariant.knows c.in_ok-known_in.ensures;
-}
+loop-i-preserved c =
+    knows_more c.args.table.now c.loop-i.i (length c.args.table.now) c.index-table-i.result c.loop-i.known c.put_instance.new.known refl (omega arith) c.index-table-i.is c.loop-i.invariant c.in_ok-put_instance.ensures

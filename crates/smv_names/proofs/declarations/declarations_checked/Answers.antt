@@ -6,10 +6,10 @@ use Rattle.smv_names.proofs.declarations.declarations_checked.Goals as goal
 
 pub returns-in-Ok : goal.returns-in-Ok
 returns-in-Ok c =
-    walked c.args.source.now.modules c.in_ok-modules.modules c.args.source.now.end c.len.result (plain_module c.in-Some.module.now) c.new-above.result.items c.in_ok-modules.ensures c.new-above.ensures.items c.len.ensures c.in-Some.ensures
+    walked c.args.source.now.modules c.in_ok-modules.modules c.args.source.now.end c.len.result (plain_module c.in-Some.own.now) c.new-above.result.items c.in_ok-modules.ensures c.new-above.ensures.items c.len.ensures c.in-Some.ensures
     ∙ c.in-Ok.ensures.counts.0
 
 pub returns : goal.returns
 returns c = subst (IsBad c.in-Err.end)
-    (sym (walked c.args.source.now.modules c.in_ok-modules.modules c.args.source.now.end c.len.result (plain_module c.in-Some.module.now) c.new-above.result.items c.in_ok-modules.ensures c.new-above.ensures.items c.len.ensures c.in-Some.ensures))
+    (sym (walked c.args.source.now.modules c.in_ok-modules.modules c.args.source.now.end c.len.result (plain_module c.in-Some.own.now) c.new-above.result.items c.in_ok-modules.ensures c.new-above.ensures.items c.len.ensures c.in-Some.ensures))
     c.in-Err.ensures.counts

@@ -13,8 +13,8 @@ decreases-item_visited l = 2 * l.deep + 1
 
 abbrev pub invariant-visited-loop-k : goal.invariant-visited-loop-k
 invariant-visited-loop-k l = record {
-  above : names_above l.above.items ≡ l.module.name ∷ names_above l.fn.above.items;
+  above : names_above l.above.items ≡ l.own.name ∷ names_above l.fn.above.items;
   kept : take (length l.fn.above.items) l.above.items ≡ l.fn.above.items;
-  checks : first_failing (visit_checks (map plain_module l.modules) l.count (declared_visits (visits (l.deep - 1) (map plain_module l.modules) (l.module.name ∷ names_above l.fn.above.items)) (map plain_module l.modules) l.path (map declared_plain (drop l.k l.list.items)))) ≡ first_failing (visit_checks (map plain_module l.modules) l.fn.met (visits l.deep (map plain_module l.modules) (names_above l.fn.above.items) l.path (plain_module l.module)));
-  count : visit_count l.count (declared_visits (visits (l.deep - 1) (map plain_module l.modules) (l.module.name ∷ names_above l.fn.above.items)) (map plain_module l.modules) l.path (map declared_plain (drop l.k l.list.items))) ≡ visit_count l.fn.met (visits l.deep (map plain_module l.modules) (names_above l.fn.above.items) l.path (plain_module l.module));
+  checks : first_failing (visit_checks (map plain_module l.modules) l.count (declared_visits (visits (l.deep - 1) (map plain_module l.modules) (l.own.name ∷ names_above l.fn.above.items)) (map plain_module l.modules) l.path (map declared_plain (drop l.k l.list)))) ≡ first_failing (visit_checks (map plain_module l.modules) l.fn.met (visits l.deep (map plain_module l.modules) (names_above l.fn.above.items) l.path (plain_module l.own)));
+  count : visit_count l.count (declared_visits (visits (l.deep - 1) (map plain_module l.modules) (l.own.name ∷ names_above l.fn.above.items)) (map plain_module l.modules) l.path (map declared_plain (drop l.k l.list))) ≡ visit_count l.fn.met (visits l.deep (map plain_module l.modules) (names_above l.fn.above.items) l.path (plain_module l.own));
 }
