@@ -1,7 +1,5 @@
 -- The flat form of which the code makes a script.
 use Rattle.std.specs.Prelude.{◌≡◌, ℕ, List, length, map, max}
-use Rattle.smv_text.specs.declared.tree.When.{When}
-use Rattle.smv_text.specs.declared.tree.When.TheVariants.{Always}
 use Rattle.smv_items.specs.declared.items.FlatItem.{FlatItem}
 use Rattle.smv_items.specs.FlatItemView.{item_plain}
 use Rattle.smv_flat.specs.declared.forms.FlatFormula.{FlatFormula}
@@ -28,8 +26,9 @@ instance_count s = max (above_items (map item_plain s.items.now)) (above_forms (
 abbrev pub AreBodyChains : FlatParts → Chains → Type 0
 AreBodyChains s c = AreChains (map (body_number_of (length s.items.now)) s.formulas.now) (length s.items.now) c
 
--- the chains of what belongs to each instance; bodies are asked for each state alone
-pub record AreFlatChains (s : FlatParts) (when : When) (c : FlatChains) : Type 0 where
+-- the number of instances, the chains of what belongs to each, and those of the bodies of each item
+pub record AreFlatChains (s : FlatParts) (c : FlatChains) : Type 0 where
+  pub count : c.count ≡ instance_count s
   pub items : AreChains (map item_number s.items.now) (instance_count s) c.items
   pub formulas : AreChains (map form_number s.formulas.now) (instance_count s) c.formulas
-  pub bodies : when ≡ Always → AreBodyChains s c.bodies
+  pub bodies : AreBodyChains s c.bodies

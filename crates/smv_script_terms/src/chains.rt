@@ -14,14 +14,6 @@ pub(crate) struct Chains {
 }
 
 impl Chains {
-    /// No chains.
-    pub(crate) fn none(alloc: Global) -> Chains {
-        Chains {
-            firsts: Vec::new(alloc),
-            nexts: Vec::new(alloc),
-        }
-    }
-
     /// The first place of a number.
     pub(crate) fn first(&self, number: usize) -> usize
         requires { number < length self.now.firsts.items }

@@ -1,7 +1,6 @@
 // The formulas of a system.
 ghost use Rattle.std.specs.Prelude.{◌≡◌, ◌<◌, ◌++◌, IfOk, OnOk, length, map, max};
 ghost use Rattle.moxi_terms.specs.View.{plain};
-ghost use Rattle.smv_text.specs.declared.tree.When.TheVariants.{Always};
 ghost use Rattle.smv_items.specs.FlatItemView.{item_plain};
 ghost use Rattle.smv_flat.specs.FlatFormulas.{form_plain};
 ghost use Rattle.smv_script.specs.Script.{above_forms, above_items, formula_of, instance_parts, item_parts, numbered_parts, parts_upto};
@@ -33,9 +32,10 @@ pub struct FlatParts<'f> {
     pub formulas: &'f [FlatFormula],
 }
 
-// The chains of items and of formulas by their instances, and of bodies by their items.
+/// The chains of items and of formulas by their instances, of bodies by their items, and how many instances there are.
 #[derive(Drop)]
-struct FlatChains {
+pub struct FlatChains {
+    count: usize,
     items: Chains,
     formulas: Chains,
     bodies: Chains,
@@ -88,29 +88,16 @@ fn form_chains(alloc: Global, count: usize, formulas: &[FlatFormula]) -> Result<
     chains_of(alloc, count, numbers)
 }
 
-// The chains of the bodies, where these are asked for.
-fn body_chains_at<'f>(alloc: Global, when: When, flat: &FlatParts<'f>) -> Result<Chains, NoMemory>
-    ensures { IfOk result (λ c. when ≡ Always → AreBodyChains flat.now c) }
+/// The chains of a flat form, which are the same for all its formulas.
+pub fn flat_chains<'f>(alloc: Global, flat: &FlatParts<'f>) -> Result<FlatChains, NoMemory>
+    ensures { IfOk result (AreFlatChains flat.now) }
 {
-    match when {
-        When::Always => body_chains(alloc, flat),
-        When::First | When::Following => Ok(Chains::none(alloc)),
-    }
-}
-
-fn flat_chains<'f>(
-    alloc: Global,
-    when: When,
-    count: usize,
-    flat: &FlatParts<'f>,
-) -> Result<FlatChains, NoMemory>
-    requires { count ≡ instance_count flat.now }
-    ensures { IfOk result (λ c. AreFlatChains flat.now when c) }
-{
+    let count = instances_of(flat.items, flat.formulas);
     let items = item_chains(alloc, count, flat.items)?;
     let formulas = form_chains(alloc, count, flat.formulas)?;
-    let bodies = body_chains_at(alloc, when, flat)?;
+    let bodies = body_chains(alloc, flat)?;
     Ok(FlatChains {
+        count,
         items,
         formulas,
         bodies,
@@ -129,7 +116,7 @@ fn add_item<'f>(
     all: &mut Terms,
 ) -> Result<(), NoMemory>
     requires number { k < length flat.now.items.now }
-    requires bodies { when ≡ Always → AreBodyChains flat.now bodies.now }
+    requires bodies { AreBodyChains flat.now bodies.now }
     ensures { OnOk result (map plain all.new.items ≡ map plain all.old.items ++ item_parts (plain_parts flat.now) (codes_of coding.now) when k (item_plain item.now)) }
 {
     match when {
@@ -150,7 +137,7 @@ fn add_items<'f>(
     all: &mut Terms,
 ) -> Result<(), NoMemory>
     requires number { i < instance_count flat.now }
-    requires chains { AreFlatChains flat.now when chains.now }
+    requires chains { AreFlatChains flat.now chains.now }
     ensures { OnOk result (map plain all.new.items ≡ map plain all.old.items ++ numbered_parts (plain_parts flat.now) (codes_of coding.now) when i 0 (map item_plain flat.now.items.now)) }
 {
     let mut k = chains.items.first(i);
@@ -173,7 +160,7 @@ fn add_forms<'f>(
     all: &mut Terms,
 ) -> Result<(), NoMemory>
     requires number { i < instance_count flat.now }
-    requires chains { AreFlatChains flat.now when chains.now }
+    requires chains { AreFlatChains flat.now chains.now }
     ensures { OnOk result (map plain all.new.items ≡ map plain all.old.items ++ owned_by i (map (form_owned (codes_of coding.now) when) (map form_plain flat.now.formulas.now))) }
 {
     let mut j = chains.formulas.first(i);
@@ -195,7 +182,7 @@ fn add_instance<'f>(
     all: &mut Terms,
 ) -> Result<(), NoMemory>
     requires number { i < instance_count flat.now }
-    requires chains { AreFlatChains flat.now when chains.now }
+    requires chains { AreFlatChains flat.now chains.now }
     ensures { OnOk result (map plain all.new.items ≡ map plain all.old.items ++ instance_parts (plain_parts flat.now) (codes_of coding.now) when i) }
 {
     add_items(alloc, coding, when, flat, chains, i, all)?;
@@ -208,27 +195,30 @@ fn parts_of<'f>(
     coding: &Coding,
     when: When,
     flat: &FlatParts<'f>,
+    chains: &FlatChains,
 ) -> Result<Terms, NoMemory>
+    requires { AreFlatChains flat.now chains.now }
     ensures { IfOk result (λ ts. map plain ts.items ≡ parts_upto (plain_parts flat.now) (codes_of coding.now) when (instance_count flat.now)) }
 {
-    let count = instances_of(flat.items, flat.formulas);
-    let chains = flat_chains(alloc, when, count, flat)?;
     let mut all = Vec::new(alloc);
-    for i in 0..count {
-        add_instance(alloc, coding, when, flat, &chains, i, &mut all)?;
+    for i in 0..chains.count {
+        add_instance(alloc, coding, when, flat, chains, i, &mut all)?;
     }
     Ok(all)
 }
 
-/// The formula of the first state, of each state or of each transition of a system (MoXI, SPIN 2024).
+/// The formula of the first state, of each state or of each transition of a system (MoXI, SPIN 2024), given the chains of its flat
+/// form.
 pub fn formula_of<'f>(
     alloc: Global,
     coding: &Coding,
     when: When,
     flat: &FlatParts<'f>,
+    chains: &FlatChains,
 ) -> Result<Term, NoMemory>
+    requires { AreFlatChains flat.now chains.now }
     ensures { IfOk result (λ t. plain t ≡ formula_of (plain_parts flat.now) (codes_of coding.now) when) }
 {
-    let parts = parts_of(alloc, coding, when, flat)?;
+    let parts = parts_of(alloc, coding, when, flat, chains)?;
     Ok(several(TermOp::And, true, parts))
 }

@@ -13,7 +13,7 @@ mod terms;
 mod variables;
 
 pub use coding::{Coding, Question, Subject};
-pub use formulas::{FlatParts, formula_of};
+pub use formulas::{FlatChains, FlatParts, flat_chains, formula_of};
 pub use operators::negate;
 pub use terms::terms_of;
 pub use variables::{Group, places_of, variables_in};

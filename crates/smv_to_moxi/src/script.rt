@@ -10,7 +10,7 @@ ghost use Rattle.smv_flat.specs.FlatView.{plain_flat};
 ghost use Rattle.smv_flat_laws.specs.FlatTruth.{forms_invariants};
 ghost use Rattle.smv_script.specs.Script.{coding_of, place_of_item, query_of, queries_from, reachables_from, symbol_sort};
 ghost use Rattle.smv_script_terms.specs.Questions.{codes_of, place_at};
-ghost use Rattle.smv_script_terms.specs.FlatParts.{flat_in, plain_parts};
+ghost use Rattle.smv_script_terms.specs.FlatParts.{AreFlatChains, flat_in, plain_parts};
 ghost use Rattle.smv_to_moxi.specs.Assembling.{symbol_scope, check_form, is_invariant, reachable_of, script_form, script_under, script_with, system_form};
 
 use moxi_scripts::{Check, Formula, Formulas, Queries, Query, Script, Subsystems, System, Systems};
@@ -19,7 +19,8 @@ use name_set::NameSet;
 use smv_flat::{FlatFormula, Role};
 use smv_items::FlatItem;
 use smv_script_terms::{
-    Coding, FlatParts, Group, Question, formula_of, negate, places_of, terms_of, variables_in,
+    Coding, FlatChains, FlatParts, Group, Question, flat_chains, formula_of, negate, places_of,
+    terms_of, variables_in,
 };
 use smv_text::When;
 use std::alloc::Global;
@@ -79,8 +80,15 @@ fn symbol_set(alloc: Global, symbols: &Names) -> Result<NameSet, NoMemory>
     }
 }
 
-fn system_of<'f>(alloc: Global, coding: &Coding, flat: &FlatParts<'f>) -> Result<System, NoMemory>
-    requires { codes_of coding.now ≡ coding_of (plain_parts flat.now) coding.now.width }
+// The system, given the chains of the flat form.
+fn system_with<'f>(
+    alloc: Global,
+    coding: &Coding,
+    flat: &FlatParts<'f>,
+    chains: &FlatChains,
+) -> Result<System, NoMemory>
+    requires coding { codes_of coding.now ≡ coding_of (plain_parts flat.now) coding.now.width }
+    requires chains { AreFlatChains flat.now chains.now }
     ensures { IfOk result (λ s. plain_system s ≡ system_form (plain_parts flat.now) coding.now.width) }
 {
     let name = Name::of(alloc, b"main")?;
@@ -88,9 +96,9 @@ fn system_of<'f>(alloc: Global, coding: &Coding, flat: &FlatParts<'f>) -> Result
     let inputs = variables_in(alloc, width, Group::Inputs, flat.items)?;
     let outputs = variables_in(alloc, width, Group::Outputs, flat.items)?;
     let locals = variables_in(alloc, width, Group::Locals, flat.items)?;
-    let init = formula_of(alloc, coding, When::First, flat)?;
-    let trans = formula_of(alloc, coding, When::Following, flat)?;
-    let inv = formula_of(alloc, coding, When::Always, flat)?;
+    let init = formula_of(alloc, coding, When::First, flat, chains)?;
+    let trans = formula_of(alloc, coding, When::Following, flat, chains)?;
+    let inv = formula_of(alloc, coding, When::Always, flat, chains)?;
     Ok(System {
         name,
         inputs,
@@ -101,6 +109,14 @@ fn system_of<'f>(alloc: Global, coding: &Coding, flat: &FlatParts<'f>) -> Result
         inv,
         subsystems: Subsystems::new(alloc),
     })
+}
+
+fn system_of<'f>(alloc: Global, coding: &Coding, flat: &FlatParts<'f>) -> Result<System, NoMemory>
+    requires { codes_of coding.now ≡ coding_of (plain_parts flat.now) coding.now.width }
+    ensures { IfOk result (λ s. plain_system s ≡ system_form (plain_parts flat.now) coding.now.width) }
+{
+    let chains = flat_chains(alloc, flat)?;
+    system_with(alloc, coding, flat, &chains)
 }
 
 // A letter with a dot, and a number.

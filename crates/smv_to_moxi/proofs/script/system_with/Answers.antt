@@ -3,12 +3,12 @@ use Rattle.smv_text.specs.declared.tree.When.TheVariants.{Always, First, Followi
 use Rattle.smv_script.specs.Script.{formula_of}
 use Rattle.smv_script_terms.specs.FlatParts.{plain_parts}
 use Rattle.smv_to_moxi.proofs.Scripts.{system_form_is, system_same}
-use Rattle.smv_to_moxi.proofs.script.system_of.Goals as goal
+use Rattle.smv_to_moxi.proofs.script.system_with.Goals as goal
 
 pub returns : goal.returns
 returns c =
     system_same _ _ _ _ _ _ _ _ _ _ _ _ _ _ _ _ c.in_ok-name.ensures c.in_ok-inputs.ensures c.in_ok-outputs.ensures c.in_ok-locals.ensures
-    (c.in_ok-init.ensures ∙ ap (λ d. formula_of (plain_parts c.args.flat.now) d First) c.requires)
-    (c.in_ok-trans.ensures ∙ ap (λ d. formula_of (plain_parts c.args.flat.now) d Following) c.requires)
-    (c.in_ok-inv.ensures ∙ ap (λ d. formula_of (plain_parts c.args.flat.now) d Always) c.requires) c.new.ensures
+    (c.in_ok-init.ensures ∙ ap (λ d. formula_of (plain_parts c.args.flat.now) d First) c.requires.coding)
+    (c.in_ok-trans.ensures ∙ ap (λ d. formula_of (plain_parts c.args.flat.now) d Following) c.requires.coding)
+    (c.in_ok-inv.ensures ∙ ap (λ d. formula_of (plain_parts c.args.flat.now) d Always) c.requires.coding) c.new.ensures
     ∙ system_form_is (plain_parts c.args.flat.now) c.args.coding.now.width
