@@ -1,13 +1,12 @@
 -- What the names of the instances are.
 use Rattle.std.proofs.Common.{◌≡◌, ℕ, ◌+◌, ◌<◌, ◌≤◌, Bool, true, false, nat_le, min, List, [], ◌∷◌, ◌++◌, Some, ◌==◌, if◌then◌else◌, map, take, drop, length, refl, sym, ap, ◌∙◌, arith}
 use Rattle.std.specs.Prelude.{slice_get, slice_index_or}
-use Rattle.std.specs.Option.{option_map}
 use mathlib.Core.Logic.{⊎_elim}
 use Rattle.std.proofs.lemmas.Bool.{eqb-true, leb-true, cases_lt}
 use Rattle.std.proofs.Math.Numerals.{add-one}
 use Rattle.std.proofs.Math.Seq.{take-suc}
 use Rattle.std.proofs.lemmas.List.{drop_all, length-map, length_push, length-take-le, map-append, take_all, get_or_push}
-use Rattle.std.proofs.lemmas.Option.{slice_get-get_or, slice_get-map, slice_get_read, slice_get_past}
+use Rattle.std.proofs.lemmas.Option.{slice_get-get_or, slice_get_past}
 use Rattle.std.proofs.Math.ListN.{get_or-append}
 use Rattle.smv_text.specs.declared.tree.Parameter.{Parameter}
 use Rattle.smv_text.specs.declared.tree.Expr.{Expr}
@@ -16,9 +15,9 @@ use Rattle.smv_text.specs.View.{plain}
 use Rattle.smv_instances.specs.laws.NameLemmas.{parameters_end}
 use Rattle.smv_instances.specs.declared.instances.Instance.{Instance as PartOf}
 use Rattle.smv_instances.specs.declared.names.Known.{Known}
-use Rattle.smv_meaning.specs.Names.{Local, nothing, among_parameters, local_in, local}
+use Rattle.smv_meaning.specs.Names.{Local, nothing, among_parameters}
 use Rattle.smv_instances.specs.declared.instance_rows.InstanceRows.{InstanceRows}
-use Rattle.smv_instances.specs.NameMap.{known_at}
+use Rattle.smv_instances.specs.NameMap.{known_at, kept_in, kept}
 use Rattle.smv_instances.specs.View.{instance_plain}
 
 -- past the last parameter or the last actual there is none
@@ -40,10 +39,10 @@ got_last xs y k h = slice_get-get_or (xs ++ y ∷ []) k y (omega (arith, h, leng
 
 -- the names of one instance more
 pub knows_more : (ts : List PartOf) (i n : ℕ) (p : PartOf) (m more : InstanceRows Known) → n ≡ length ts → i < n → p ≡ slice_index_or ts i p
-    → ((j : ℕ) (x : List ℕ) → known_at m j x ≡ local (map instance_plain (take i ts)) j x)
-    → ((j : ℕ) (x : List ℕ) → known_at more j x ≡ (if i == j then local_in i x (Some (instance_plain p)) else known_at m j x))
-    → (j : ℕ) (x : List ℕ) → known_at more j x ≡ local (map instance_plain (take (i + 1) ts)) j x
-knows_more ts i n p m more en h is f w j x = w j x ∙ by (i == j) refl ∙ ap (λ l. local l j x) (sym whole)
+    → ((j : ℕ) (x : List ℕ) → known_at m j x ≡ kept (map instance_plain (take i ts)) j x)
+    → ((j : ℕ) (x : List ℕ) → known_at more j x ≡ (if i == j then kept_in i x (Some (instance_plain p)) else known_at m j x))
+    → (j : ℕ) (x : List ℕ) → known_at more j x ≡ kept (map instance_plain (take (i + 1) ts)) j x
+knows_more ts i n p m more en h is f w j x = w j x ∙ by (i == j) refl ∙ ap (λ l. kept l j x) (sym whole)
   where
     whole : map instance_plain (take (i + 1) ts) ≡ map instance_plain (take i ts) ++ instance_plain p ∷ []
     whole = ap (map instance_plain) (rw add-one (take-suc ts i p (omega (arith, en, h)) ∙ ap (λ y. take i ts ++ y ∷ []) (sym is))) ∙ map-append instance_plain (take i ts) (p ∷ [])
@@ -51,11 +50,11 @@ knows_more ts i n p m more en h is f w j x = w j x ∙ by (i == j) refl ∙ ap (
     count : length (map instance_plain (take i ts)) ≡ i
     count = length-map (take i ts) instance_plain ∙ length-take-le i ts (omega (arith, en, h))
 
-    by : (c : Bool) → (i == j) ≡ c → (if c then local_in i x (Some (instance_plain p)) else known_at m j x) ≡ local (map instance_plain (take i ts) ++ instance_plain p ∷ []) j x
+    by : (c : Bool) → (i == j) ≡ c → (if c then kept_in i x (Some (instance_plain p)) else known_at m j x) ≡ kept (map instance_plain (take i ts) ++ instance_plain p ∷ []) j x
     by true q =
         let s : i ≡ j = eqb-true i j q in
-        ap (local_in i x) (sym (got_last (map instance_plain (take i ts)) (instance_plain p) i count)) ∙ ap (λ k. local (map instance_plain (take i ts) ++ instance_plain p ∷ []) k x) s
-    by false q = f j x ∙ ap (local_in j x) (sym (⊎_elim below above (cases_lt j i)))
+        ap (kept_in i x) (sym (got_last (map instance_plain (take i ts)) (instance_plain p) i count)) ∙ ap (λ k. kept (map instance_plain (take i ts) ++ instance_plain p ∷ []) k x) s
+    by false q = f j x ∙ ap (kept_in j x) (sym (⊎_elim below above (cases_lt j i)))
       where
         below : j < i → slice_get (map instance_plain (take i ts) ++ instance_plain p ∷ []) j ≡ slice_get (map instance_plain (take i ts)) j
         below b = got_before (map instance_plain (take i ts)) (instance_plain p) j (omega (arith, b, count))
@@ -66,8 +65,8 @@ knows_more ts i n p m more en h is f w j x = w j x ∙ by (i == j) refl ∙ ap (
             ∙ sym (slice_get_past (map instance_plain (take i ts)) j (omega (arith, b, count)))
 
 -- of the next instance no names are known yet
-pub not_yet : (ts : List PartOf) (i n : ℕ) (m : InstanceRows Known) → n ≡ length ts → i < n → ((j : ℕ) (x : List ℕ) → known_at m j x ≡ local (map instance_plain (take i ts)) j x) → (x : List ℕ) → known_at m i x ≡ nothing
-not_yet ts i n m en h f x = f i x ∙ ap (local_in i x) (slice_get_past (map instance_plain (take i ts)) i (omega (arith, length-map (take i ts) instance_plain, length-take-le i ts (omega (arith, en, h)))))
+pub not_yet : (ts : List PartOf) (i n : ℕ) (m : InstanceRows Known) → n ≡ length ts → i < n → ((j : ℕ) (x : List ℕ) → known_at m j x ≡ kept (map instance_plain (take i ts)) j x) → (x : List ℕ) → known_at m i x ≡ nothing
+not_yet ts i n m en h f x = f i x ∙ ap (kept_in i x) (slice_get_past (map instance_plain (take i ts)) i (omega (arith, length-map (take i ts) instance_plain, length-take-le i ts (omega (arith, en, h)))))
 
-pub knows_all : (ts : List PartOf) (i n : ℕ) (m : InstanceRows Known) → n ≡ length ts → n ≤ i → ((j : ℕ) (x : List ℕ) → known_at m j x ≡ local (map instance_plain (take i ts)) j x) → (j : ℕ) (x : List ℕ) → known_at m j x ≡ local (map instance_plain ts) j x
-knows_all ts i n m en h f j x = f j x ∙ ap (λ l. local (map instance_plain l) j x) (take_all i ts (omega (arith, en, h)))
+pub knows_all : (ts : List PartOf) (i n : ℕ) (m : InstanceRows Known) → n ≡ length ts → n ≤ i → ((j : ℕ) (x : List ℕ) → known_at m j x ≡ kept (map instance_plain (take i ts)) j x) → (j : ℕ) (x : List ℕ) → known_at m j x ≡ kept (map instance_plain ts) j x
+knows_all ts i n m en h f j x = f j x ∙ ap (λ l. kept (map instance_plain l) j x) (take_all i ts (omega (arith, en, h)))

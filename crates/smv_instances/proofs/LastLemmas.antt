@@ -2,7 +2,8 @@
 use Rattle.std.proofs.lemmas.Bool.{eqb-true}
 use Rattle.std.proofs.Common.{◌≡◌, ℕ, suc, ◌-◌, ◌<◌, ◌≤◌, Bool, true, false, ◌==◌, ◌&&◌, if◌then◌else◌, List, ◌∷◌, Option, Some, map, drop, length, bytes_eq, refl, sym, ap, ◌∙◌, arith, drop-cons}
 use Rattle.std.specs.Prelude.{slice_index_or}
-use Rattle.std.specs.Borrow.{Bor}
+use Rattle.std.specs.Option.{option_map}
+use Rattle.std.proofs.lemmas.Option.{slice_get_read}
 use Rattle.smv_text.specs.declared.tree.Element.{Element}
 use Rattle.smv_text.specs.declared.tree.Module.{Module}
 use Rattle.smv_text.specs.declared.tree.VarKind.{VarKind}
@@ -10,29 +11,29 @@ use Rattle.smv_text.specs.declared.tree.Item.{Item}
 use Rattle.smv_text.specs.declared.tree.Definition.{Definition}
 use Rattle.smv_text.specs.declared.tree.Parameter.{Parameter}
 use Rattle.smv_text.specs.declared.tree.Expr.{Expr}
-use Rattle.smv_text.specs.Tree.{PlainElement, PlainItem, PlainDefinition, vars, defines, trees_of}
+use Rattle.smv_text.specs.Tree.{PlainItem, PlainDefinition, vars, defines, trees_of}
 use Rattle.smv_text.specs.View.{plain, plain_module, plain_element, plain_domain, plain_item, plain_definition}
 use Rattle.smv_meaning.specs.Instances.{module_named}
 use Rattle.smv_meaning.specs.Names.{Local, nothing, body_of, of_actual, of_domain, among_items, among_definitions, among_elements, among_parameters}
 use Rattle.smv_instances.specs.declared.names.Known.{Known}
 use Rattle.smv_instances.specs.declared.rows.NameRows.{NameRows}
 use Rattle.smv_instances.specs.declared.instance_rows.InstanceRows.{InstanceRows}
-use Rattle.smv_instances.specs.NameMap.{Finds, known_at}
+use Rattle.smv_instances.specs.NameMap.{module_at, FindsPlaces, known_at}
 use Rattle.smv_instances.specs.Rows.{row_in, row_named}
-use Rattle.smv_instances.specs.View.{module_or_none, local_plain, or_local}
+use Rattle.smv_instances.specs.View.{local_plain, or_local}
 
 from_last : {X : Type 0} (xs : List X) (k : ℕ) (x : X) → 0 < k → k ≤ length xs → x ≡ slice_index_or xs (k - 1) x → drop (k - 1) xs ≡ x ∷ drop k xs
 from_last xs k x h l e = drop-cons xs (k - 1) x (omega (arith, h, l)) ∙ ap (λ y. y ∷ drop (suc (k - 1)) xs) (sym e) ∙ ap (λ n. x ∷ drop n xs) (let s : suc (k - 1) ≡ k = omega (arith, h) in s)
 
--- one module more
-pub finds_more : (ms : List Module) (k : ℕ) (b : Bor Module) (name : List ℕ) (m more : NameRows (Bor Module)) → 0 < k → k ≤ length ms → b.now ≡ slice_index_or ms (k - 1) b.now → name ≡ b.now.name
-    → Finds (drop k ms) m → ((x : List ℕ) → row_named more x ≡ (if bytes_eq name x then Some b else row_named m x)) → Finds (drop (k - 1) ms) more
-finds_more ms k b name m more h l e n f w x =
-    ap module_or_none (w x) ∙ over (bytes_eq name x) (row_named m x) ∙ ap (λ o. if bytes_eq name x then Some (plain_module b.now) else o) (f x) ∙ ap (λ y. if bytes_eq y x then Some (plain_module b.now) else module_named (map plain_module (drop k ms)) x) n
-    ∙ ap (λ l. module_named (map plain_module l) x) (sym (from_last ms k b.now h l e))
+-- the place of one module more
+pub places_more : (ms : List Module) (k : ℕ) (one : Module) (name : List ℕ) (m more : NameRows ℕ) → 0 < k → k ≤ length ms → one ≡ slice_index_or ms (k - 1) one → name ≡ one.name
+    → FindsPlaces ms (drop k ms) m → ((x : List ℕ) → row_named more x ≡ (if bytes_eq name x then Some (k - 1) else row_named m x)) → FindsPlaces ms (drop (k - 1) ms) more
+places_more ms k one name m more h l e n f w x =
+    ap (module_at ms) (w x) ∙ over (bytes_eq name x) (row_named m x) ∙ ap (λ o. if bytes_eq name x then Some (plain_module one) else o) (f x) ∙ ap (λ y. if bytes_eq y x then Some (plain_module one) else module_named (map plain_module (drop k ms)) x) n
+    ∙ ap (λ r. module_named (map plain_module r) x) (sym (from_last ms k one h l e))
   where
-    over : (c : Bool) (o : Option (Bor Module)) → module_or_none (if c then Some b else o) ≡ (if c then Some (plain_module b.now) else module_or_none o)
-    over true o = refl
+    over : (c : Bool) (o : Option ℕ) → module_at ms (if c then Some (k - 1) else o) ≡ (if c then Some (plain_module one) else module_at ms o)
+    over true o = ap (option_map plain_module) (slice_get_read ms (length ms) (k - 1) one refl (omega (arith, h, l)) e)
     over false o = refl
 
 -- the same on both sides of a choice

@@ -3,6 +3,7 @@ pub mod RowLemmas
 pub mod KeyLemmas
 pub mod LeadLemmas
 pub mod KnownLemmas
+pub mod ScanLemmas
 pub mod TableLemmas
 pub mod LastLemmas
 pub mod PathLemmas

@@ -1,17 +1,19 @@
 -- Values by the bytes of a name.
-use Rattle.std.specs.Prelude.{◌≡◌, ℕ, ◌==◌, ◌&&◌, List, map, position, Option, Some, None, is_some, bytes_eq}
+use Rattle.std.specs.Prelude.{◌≡◌, ℕ, ◌==◌, Bool, ◌&&◌, nat_le, if◌then◌else◌, List, map, length, slice_get, position, Option, Some, None, is_some, bytes_eq}
+use Rattle.std.specs.Option.{option_map}
 use Rattle.std.specs.Borrow.{Bor}
 use Rattle.std.specs.HashMap.{HashMap, get_by}
 use Rattle.smv_text.specs.declared.tree.Module.{Module}
+use Rattle.smv_text.specs.Tree.{PlainModule}
 use Rattle.smv_text.specs.View.{plain_module}
-use Rattle.smv_meaning.specs.Instances.{module_named}
+use Rattle.smv_meaning.specs.Instances.{Instance, module_named}
 use Rattle.smv_instances.specs.declared.instances.Instance.{Instance as PartOf}
 use Rattle.smv_instances.specs.declared.names.Known.{Known}
-use Rattle.smv_meaning.specs.Names.{Local, nothing, local, is_child, has_symbol}
+use Rattle.smv_meaning.specs.Names.{Local, nothing, local_in, is_child, has_symbol}
 use Rattle.smv_instances.specs.declared.rows.NameRows.{NameRows}
 use Rattle.smv_instances.specs.declared.instance_rows.InstanceRows.{InstanceRows}
 use Rattle.smv_instances.specs.Rows.{row_named, row_in}
-use Rattle.smv_instances.specs.View.{instance_plain, or_local, module_or_none}
+use Rattle.smv_instances.specs.View.{instance_plain, or_local}
 
 -- the value of a name
 abbrev pub named : {X S : Type 0} → HashMap (Bor (List ℕ)) X S → List ℕ → Option X
@@ -21,9 +23,14 @@ named m x = get_by (λ k. bytes_eq x k.now) m
 abbrev pub named_in : {X S : Type 0} → HashMap (ℕ × Bor (List ℕ)) X S → ℕ → List ℕ → Option X
 named_in m i x = get_by (λ k. i == k.0 && bytes_eq x k.1.now) m
 
--- the first module of a name
-abbrev pub Finds : List Module → NameRows (Bor Module) → Type 0
-Finds ms m = (x : List ℕ) → module_or_none (row_named m x) ≡ module_named (map plain_module ms) x
+-- the module at the place, where there is one
+abbrev pub module_at : List Module → Option ℕ → Option PlainModule
+module_at ms None = None
+module_at ms (Some k) = option_map plain_module (slice_get ms k)
+
+-- a name has the place of the first module of this name among the last ones
+abbrev pub FindsPlaces : List Module → List Module → NameRows ℕ → Type 0
+FindsPlaces ms rest m = (x : List ℕ) → module_at ms (row_named m x) ≡ module_named (map plain_module rest) x
 
 -- ---- what a table keeps, beside its instances
 
@@ -31,9 +38,21 @@ Finds ms m = (x : List ℕ) → module_or_none (row_named m x) ≡ module_named 
 abbrev pub known_at : InstanceRows Known → ℕ → List ℕ → Local
 known_at m i x = or_local (row_in m i x) nothing
 
--- what the names of all instances are
+-- a module of few names, which are found with no rows
+abbrev pub is_small : PlainModule → Bool
+is_small m = nat_le m.tokens 40 && nat_le (length m.parameters) 8
+
+-- what a name of an instance is by its rows, which one of a small module doesn't have
+abbrev pub kept_in : ℕ → List ℕ → Option Instance → Local
+kept_in i x None = nothing
+kept_in i x (Some at) = if is_small at.«module» then nothing else local_in i x (Some at)
+
+abbrev pub kept : List Instance → ℕ → List ℕ → Local
+kept t i x = kept_in i x (slice_get t i)
+
+-- what the names are of all instances that have rows
 abbrev pub Knows : List PartOf → InstanceRows Known → Type 0
-Knows ts m = (i : ℕ) (x : List ℕ) → known_at m i x ≡ local (map instance_plain ts) i x
+Knows ts m = (i : ℕ) (x : List ℕ) → known_at m i x ≡ kept (map instance_plain ts) i x
 
 -- which instance a name is in an instance
 abbrev pub Bears : List PartOf → InstanceRows ℕ → Type 0

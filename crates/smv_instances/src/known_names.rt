@@ -1,16 +1,17 @@
-// What the names of the instances are, found with no scan of their modules.
+// What the names of the instances are, but for those of small modules, found with no scan.
 ghost use Rattle.std.specs.Prelude.{◌≡◌, ◌==◌, ◌-◌, ◌^◌, min, if◌then◌else◌, List, ℕ, Some, map, sum_by, unwrap_or, IfOk, OnOk};
 ghost use Rattle.smv_text.specs.Tree.{trees_of};
-ghost use Rattle.smv_text.specs.View.{plain, plain_item, plain_definition, plain_element};
-ghost use Rattle.smv_meaning.specs.Names.{nothing, among_items, among_definitions, among_elements, among_parameters, local_in};
-ghost use Rattle.smv_instances.specs.NameCounts.{names_of};
-ghost use Rattle.smv_instances.specs.NameMap.{Knows, known_at};
+ghost use Rattle.smv_text.specs.View.{plain, plain_item, plain_definition, plain_element, plain_module};
+ghost use Rattle.smv_meaning.specs.Names.{nothing, among_items, among_definitions, among_elements, among_parameters};
+ghost use Rattle.smv_instances.specs.NameCounts.{names_of, kept_names_of};
+ghost use Rattle.smv_instances.specs.NameMap.{Knows, known_at, kept_in};
 ghost use Rattle.smv_instances.specs.View.{instance_plain};
 
 use crate::instance_rows::{InstanceRows, add_row_in, names_in, no_rows_in};
 use crate::instances::Instance;
 use crate::names::{Known, actual, domain};
-use smv_text::{Definitions, Element, Elements, Expr, Items, Parameters, VarKind};
+use crate::scanning::is_small;
+use smv_text::{Definitions, Element, Elements, Expr, Items, Module, Parameters, VarKind};
 use std::alloc::Global;
 use text_core::NoMemory;
 
@@ -99,16 +100,19 @@ fn put_parameters<'a>(
     Ok(())
 }
 
-// The names of the instance with this number, of which none is known yet.
+// The names of the instance with this number, of which none is known yet. Those of a small module need no rows.
 fn put_instance<'a>(
     known: &mut KnownNames<'a>,
     i: usize,
     part: &Instance<'a>,
 ) -> Result<(), NoMemory>
     requires { (x : List ℕ) → known_at known.old i x ≡ nothing }
-    ensures { OnOk result ((j : ℕ) (x : List ℕ) → known_at known.new j x ≡ (if i == j then local_in i x (Some (instance_plain part.now)) else known_at known.old j x)) }
+    ensures { OnOk result ((j : ℕ) (x : List ℕ) → known_at known.new j x ≡ (if i == j then kept_in i x (Some (instance_plain part.now)) else known_at known.old j x)) }
 {
     let module = part.module;
+    if is_small(module) {
+        return Ok(());
+    }
     put_elements(known, i, &module.elements)?;
     put_parameters(
         known,
@@ -132,12 +136,35 @@ pub fn names_in_all<'a>(table: &[Instance<'a>]) -> usize
     count
 }
 
-/// What the names of all instances are.
+// How many names of a module have rows, as far as a number can tell it.
+fn kept_names_in(module: &Module) -> usize
+    ensures { result ≡ min (kept_names_of (plain_module «module».now)) (2 ^ 64 - 1) }
+{
+    if is_small(module) {
+        0
+    } else {
+        names_in(module)
+    }
+}
+
+// How many names have rows, as far as a number can tell it.
+#[tactic(auto, using(crate::proofs::TableLemmas::kept_names_on))]
+fn kept_names_in_all<'a>(table: &[Instance<'a>]) -> usize
+    ensures { result ≡ min (sum_by (λ at. kept_names_of at.«module») (map instance_plain table.now)) (2 ^ 64 - 1) }
+{
+    let mut count: usize = 0;
+    for part in table {
+        count = count.saturating_add(kept_names_in(part.module));
+    }
+    count
+}
+
+/// What the names are of all instances, but for those of small modules.
 #[tactic(auto, using(crate::proofs::KnownLemmas::knows_all))]
 pub fn known_in_all<'a>(alloc: Global, table: &[Instance<'a>]) -> Result<KnownNames<'a>, NoMemory>
     ensures { IfOk result (Knows table.now) }
 {
-    let mut known = no_rows_in(alloc, names_in_all(table))?;
+    let mut known = no_rows_in(alloc, kept_names_in_all(table))?;
     for i in 0..table.len() {
         put_instance(&mut known, i, &table[i])?;
     }

@@ -15,6 +15,7 @@ mod name_map;
 mod names;
 mod parts;
 mod rows;
+mod scanning;
 mod symbols;
 mod table;
 

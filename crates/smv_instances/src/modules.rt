@@ -1,21 +1,24 @@
-// The modules of a model, found by their names with no scan.
+// The modules of a model, found by their names.
 ghost use Rattle.std.specs.Prelude.{◌≡◌, length, map, IfOk};
 ghost use Rattle.smv_text.specs.View.{plain_module};
 ghost use Rattle.smv_meaning.specs.Instances.{module_named};
-ghost use Rattle.smv_instances.specs.NameMap.{Finds};
+ghost use Rattle.smv_instances.specs.NameMap.{module_at, FindsPlaces};
 ghost use Rattle.smv_instances.specs.View.{module_or_none};
 
 use crate::rows::{NameRows, add_row, no_rows, row_value};
 use smv_text::{Module, Modules};
 use std::alloc::Global;
 use std::marker::Model;
-use text_core::NoMemory;
+use text_core::{NoMemory, is_same};
+
+/// How many modules are gone through for a name.
+const FEW: usize = 4;
 
 /// The modules of a model, seen as their list.
 #[derive(Drop)]
 pub struct ModuleTable<'a> {
     list: &'a Modules,
-    by_name: NameRows<'a, &'a Module>,
+    places: NameRows<'a, usize>,
 }
 
 impl<'a> Model for ModuleTable<'a> {
@@ -29,21 +32,21 @@ impl<'a> Model for ModuleTable<'a> {
 
     ghost coded = { Prim.hlevel (codes, expr.the_row.coded, shape.the_row.coded) };
 
-    ghost use Rattle.smv_instances.specs.NameMap.{Finds};
+    ghost use Rattle.smv_instances.specs.NameMap.{FindsPlaces};
 
     ghost view = { λ t. t.list.now };
 
-    ghost invariant = { λ t. Finds t.list.now t.by_name };
+    ghost invariant = { λ t. FindsPlaces t.list.now t.list.now t.places };
 }
 
 impl<'a> ModuleTable<'a> {
     pub fn of(alloc: Global, modules: &'a Modules) -> Result<ModuleTable<'a>, NoMemory>
         ensures { IfOk result (λ t. t ≡ modules.now) }
     {
-        let by_name = by_name(alloc, modules)?;
+        let places = places_of(alloc, modules)?;
         Ok(ModuleTable {
             list: modules,
-            by_name,
+            places,
         })
     }
 
@@ -54,24 +57,54 @@ impl<'a> ModuleTable<'a> {
         self.list.len()
     }
 
+    /// The place of the first module with this name.
+    pub fn place(&self, name: &[u8]) -> Option<usize>
+        ensures { module_at self.now result ≡ module_named (map plain_module self.now) name.now }
+    {
+        if self.list.len() <= FEW {
+            place_among(self.list, name)
+        } else {
+            row_value(&self.places, name)
+        }
+    }
+
     /// The first module with this name.
     pub fn named(&self, name: &[u8]) -> Option<&'a Module>
         ensures { module_or_none result ≡ module_named (map plain_module self.now) name.now }
     {
-        row_value(&self.by_name, name)
+        match self.place(name) {
+            None => None,
+            Some(k) => if k < self.list.len() {
+                Some(self.list.at(k))
+            } else {
+                None
+            },
+        }
     }
 }
 
-// From the last on, so that the first one of a name counts.
-fn by_name<'a>(alloc: Global, modules: &'a Modules) -> Result<NameRows<'a, &'a Module>, NoMemory>
-    ensures { IfOk result (λ m. Finds modules.now m) }
+// The place of the first module with this name, found with no table.
+#[inline(always)]
+fn place_among(modules: &Modules, name: &[u8]) -> Option<usize>
+    ensures { module_at modules.now result ≡ module_named (map plain_module modules.now) name.now }
 {
-    let mut found = no_rows(alloc, modules.len())?;
+    for k in 0..modules.len() {
+        if is_same(modules.at(k).name.bytes(), name) {
+            return Some(k);
+        }
+    }
+    None
+}
+
+// From the last on, so that the first one of a name counts.
+fn places_of<'a>(alloc: Global, modules: &'a Modules) -> Result<NameRows<'a, usize>, NoMemory>
+    ensures { IfOk result (λ m. FindsPlaces modules.now modules.now m) }
+{
+    let mut places = no_rows(alloc, modules.len())?;
     let mut k = modules.len();
     while k > 0 {
         k -= 1;
-        let module = modules.at(k);
-        add_row(&mut found, module.name.bytes(), module)?;
+        add_row(&mut places, modules.at(k).name.bytes(), k)?;
     }
-    Ok(found)
+    Ok(places)
 }

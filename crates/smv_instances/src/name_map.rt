@@ -28,5 +28,8 @@ pub fn put<'a, V: Drop>(map: &mut NameMap<'a, V>, name: &'a [u8], value: V) -> R
 pub fn value_under<'a, V: Copy>(map: &NameMap<'a, V>, name: &[u8]) -> Option<V>
     ensures { result ≡ named map.now name.now }
 {
+    if map.is_empty() {
+        return None;
+    }
     map.get(name).copied()
 }

@@ -10,6 +10,7 @@ use crate::instances::Instance;
 use crate::known_names::{KnownNames, known_in_all};
 use crate::name_map::value_under;
 use crate::names::Known;
+use crate::scanning::{is_small, scanned};
 use crate::symbols::{SymbolNames, symbols_of};
 use smv_text::{Element, Elements};
 use std::alloc::Global;
@@ -94,7 +95,14 @@ impl<'a> Parts<'a> {
     pub fn local(&self, i: usize, x: &[u8]) -> Known<'a>
         ensures { local_plain result ≡ local (map instance_plain self.now) i x.now }
     {
-        row_value_in(&self.known, i, x).unwrap_or(Known::Nothing)
+        match self.parts.get(i) {
+            None => Known::Nothing,
+            Some(part) => if is_small(part.module) {
+                scanned(i, part, x)
+            } else {
+                row_value_in(&self.known, i, x).unwrap_or(Known::Nothing)
+            },
+        }
     }
 
     /// The first instance with this name in the numbered one.

@@ -5,10 +5,10 @@ ghost use Rattle.smv_meaning.specs.Instances.{module_named};
 ghost use Rattle.smv_meaning.specs.Phases.{declared_in};
 ghost use Rattle.smv_instances.specs.View.{module_or_none};
 ghost use Rattle.smv_names.specs.View.{declared_plain};
-ghost use Rattle.smv_names.specs.Declaring.{first_twice, FindsPlaces};
+ghost use Rattle.smv_names.specs.Declaring.{first_twice};
 
 use crate::declared::{Declaration, Declarations, declared_of};
-use smv_instances::{NameRows, add_row, no_rows, row_value};
+use smv_instances::{ModuleTable, add_row, no_rows, row_value};
 use smv_text::{Module, Modules};
 use std::alloc::Global;
 use std::marker::Model;
@@ -97,11 +97,11 @@ fn place_twice(alloc: Global, list: &[Declaration]) -> Result<Option<usize>, NoM
 #[derive(Drop)]
 pub(crate) struct DeclaredModules<'a> {
     list: Vec<DeclaredModule<'a>>,
-    places: NameRows<'a, usize>,
+    table: ModuleTable<'a>,
 }
 
 impl<'a> Model for DeclaredModules<'a> {
-    ghost use Rattle.std.specs.Prelude.{List};
+    ghost use Rattle.std.specs.Prelude.{◌≡◌, List};
     ghost use Rattle.std.specs.Coded.{codes};
     ghost use Rattle.smv_text.specs.declared.tree.Module.{Module};
     ghost use Rattle.smv_text.specs.contracts.tree.Expr as expr;
@@ -111,11 +111,9 @@ impl<'a> Model for DeclaredModules<'a> {
 
     ghost coded = { Prim.hlevel (codes, expr.the_row.coded, shape.the_row.coded) };
 
-    ghost use Rattle.smv_names.specs.Declaring.{FindsPlaces};
-
     ghost view = { λ t. t.list.items };
 
-    ghost invariant = { λ t. FindsPlaces t.list.items t.list.items t.places };
+    ghost invariant = { λ t. t.table ≡ t.list.items };
 }
 
 impl<'a> DeclaredModules<'a> {
@@ -123,8 +121,8 @@ impl<'a> DeclaredModules<'a> {
         ensures { IfOk result (λ t. t ≡ modules.now) }
     {
         let list = declared_modules(alloc, modules)?;
-        let places = places_of(alloc, list.as_slice())?;
-        Ok(DeclaredModules { list, places })
+        let table = ModuleTable::of(alloc, modules)?;
+        Ok(DeclaredModules { list, table })
     }
 
     /// How many modules there are.
@@ -138,7 +136,7 @@ impl<'a> DeclaredModules<'a> {
     pub(crate) fn named(&self, name: &[u8]) -> Option<&DeclaredModule<'a>>
         ensures { module_or_none result ≡ module_named (map plain_module self.now) name.now }
     {
-        match row_value(&self.places, name) {
+        match self.table.place(name) {
             None => None,
             Some(k) => self.list.get(k),
         }
@@ -167,21 +165,4 @@ fn declared_modules<'a>(
         add(alloc, &mut list, module)?;
     }
     Ok(list)
-}
-
-// From the last on, so that the first one of a name counts.
-fn places_of<'a>(
-    alloc: Global,
-    list: &[DeclaredModule<'a>],
-) -> Result<NameRows<'a, usize>, NoMemory>
-    ensures { IfOk result (λ places. FindsPlaces list.now list.now places) }
-{
-    let mut places = no_rows(alloc, list.len())?;
-    let mut k = list.len();
-    while k > 0 {
-        k -= 1;
-        let module = list[k].module();
-        add_row(&mut places, module.name.bytes(), k)?;
-    }
-    Ok(places)
 }

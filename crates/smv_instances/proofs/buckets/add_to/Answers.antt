@@ -1,4 +1,4 @@
-use Rattle.smv_instances.proofs.RowLemmas.{first_put, second_put, rest_put}
+use Rattle.smv_instances.proofs.RowLemmas.{rest_put}
 use Rattle.smv_instances.proofs.buckets.add_to.Goals as goal
 
 pub returns-in_ok-push : goal.returns-in_ok-push

@@ -1,4 +1,4 @@
-use Rattle.std.proofs.Common.{Bool, true, false, ◌==◌, arith}
+use Rattle.std.proofs.Common.{◌==◌, arith}
 use Rattle.smv_instances.specs.NameMap.{known_at}
 use Rattle.smv_instances.proofs.KnownLemmas.{parameters_past}
 use Rattle.smv_instances.proofs.LastLemmas.{parameters_more, chosen}

@@ -1,9 +1,0 @@
-use Rattle.std.proofs.Common.{arith}
-use Rattle.smv_instances.proofs.LastLemmas.{finds_more}
-use Rattle.smv_instances.proofs.modules.by_name.Goals as goal
-
-pub loop-k-preserved : goal.loop-k-preserved
-loop-k-preserved c = record {
-  within = omega (arith, c.loop-k.invariant.within);
-  finds = finds_more c.args.modules.now c.loop-k.k c.at-module.result c.bytes.result.now c.loop-k.found c.add_row.new.map (omega (arith, c.loop-k-test.true)) c.loop-k.invariant.within c.at-module.ensures c.bytes.ensures c.loop-k.invariant.finds c.in_ok-add_row.ensures;
-}
