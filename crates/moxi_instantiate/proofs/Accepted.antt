@@ -73,6 +73,20 @@ module _ (f : PlainFlatSystem) (w : ∥ IsInstance f ∥₁) where
       ∥∥₁_elim w (Bool-set (are_fresh [] (variable_names f.variables)) true)
       (λ i. subst (λ f. are_fresh [] (variable_names f.variables) ≡ true) i.flat (no_test (are_fresh [] (variable_names (flat_of i.script).variables)) (passes i.script i.accepted).1))
 
+abbrev form_with : ScopeState → Check → List Variable → List PlainPart → PlainFlatSystem
+form_with scope check vs ps = record {
+  scope = scope;
+  variables = vs;
+  parts = ps;
+  assumptions = map plain_formula check.assumptions;
+  currents = map plain_formula check.currents;
+  reachables = map plain_formula check.reachables;
+  queries = check.queries;
+}
+
+pub flat_same : (scope : ScopeState) (check : Check) (us vs : List Variable) (ps qs : List PlainPart) → us ≡ vs → ps ≡ qs → form_with scope check us ps ≡ form_with scope check vs qs
+flat_same scope check us vs ps qs e f = ap (λ x. form_with scope check x ps) e ∙ ap (form_with scope check vs) f
+
 -- the flat system whose variables and parts these are
 pub instance_of : (logic : Option (List ℕ)) (scope : ScopeState) (systems : List System) (check : Check) (variables : List Variable) (parts : List Part)
     → ∥ IsWhole (script_of logic scope systems check) ∥₁ → variables ≡ (flat_of (script_of logic scope systems check)).variables
@@ -83,17 +97,6 @@ instance_of logic scope systems check variables parts w e f accepted =
     ∥∥₁_map w (λ h. record {
       script = s;
       whole = h;
-      flat = sym (ap (λ vs. form vs (map plain_part parts)) e ∙ ap (form (flat_of s).variables) f);
+      flat = sym (flat_same scope check variables (flat_of s).variables (map plain_part parts) (flat_of s).parts e f);
       accepted = accepted;
     })
-  where
-    form : List Variable → List PlainPart → PlainFlatSystem
-    form vs ps = record {
-      scope = scope;
-      variables = vs;
-      parts = ps;
-      assumptions = map plain_formula check.assumptions;
-      currents = map plain_formula check.currents;
-      reachables = map plain_formula check.reachables;
-      queries = check.queries;
-    }

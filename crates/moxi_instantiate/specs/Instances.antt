@@ -1,5 +1,5 @@
 -- Flat systems of scripts: their plain form, what is known of them, and why a script has none.
-use Rattle.std.specs.Prelude.{◌≡◌, ℕ, ◌+◌, ◌<◌, max, Some, None, List, [], map, length, sum_by}
+use Rattle.std.specs.Prelude.{◌≡◌, ℕ, ◌+◌, ◌<◌, max, Some, None, List, [], ◌∷◌, map, length, sum_by}
 use Rattle.text_core.specs.declared.end.End.{End}
 use Rattle.text_core.specs.declared.end.End.TheVariants.{Bad, NoMemory}
 use Rattle.text_core.specs.Places.{start}
@@ -37,6 +37,16 @@ pub record IsInstance (f : PlainFlatSystem) : Type 0 where
   pub whole : IsWhole script
   pub flat : flat_of script ≡ f
   pub accepted : flat_refusal script ≡ None
+
+-- a script of one system; its logic, of which a flat system shows nothing, is left out
+abbrev pub single_script : ScopeState → PlainSystem → PlainCheck → PlainScript
+single_script scope system check = record { logic = None; scope = scope; systems = system ∷ []; check = check }
+
+-- a whole script that isn't refused, in whose checked system no other stands
+pub record IsSingle (s : PlainScript) : Type 0 where
+  pub whole : IsWhole s
+  pub accepted : flat_refusal s ≡ None
+  pub alone : (system_at s.systems s.check.system).subsystems ≡ []
 
 -- the refusal is the script's; of want of memory nothing is said
 abbrev pub IsInstEnd : PlainScript → End → Type 0

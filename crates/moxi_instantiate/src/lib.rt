@@ -21,7 +21,7 @@ pub use functions::{body_heights, body_sizes};
 pub use measures::{Measures, is_too_large, measures_of};
 pub use parts::{Part, Parts, part_of, places_inside};
 pub use refusals::{accepted_variables, flat_variables};
-pub use system::{FlatSystem, InstEnd, instantiate};
+pub use system::{FlatSystem, InstEnd, flat_of_single, instantiate};
 pub use systems::{Measure, amounts, order_of};
 pub use terms::{term_height, term_size};
 pub use variables::add_locals;

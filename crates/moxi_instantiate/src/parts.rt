@@ -1,7 +1,8 @@
 // The parts of a flat system: the formulas of each instance over the flat system's variables.
-ghost use Rattle.std.specs.Prelude.{◌≡◌, ◌<◌, ◌+◌, ◌++◌, ◌∷◌, [], ◌^◌, ℕ, length, IfOk, OnOk};
+ghost use Rattle.std.specs.Prelude.{◌≡◌, ◌<◌, ◌+◌, ◌++◌, ◌∷◌, [], ◌^◌, ℕ, map, length, IfOk, OnOk};
 ghost use Rattle.moxi_scripts.specs.Script.{plain_system};
 ghost use Rattle.moxi_flat.specs.FlatSystem.{part_of, place_inside};
+ghost use Rattle.moxi_flat.specs.Laws.{own_part};
 ghost use Rattle.moxi_instantiate.specs.Copying.{number_in};
 ghost use Rattle.moxi_instantiate.specs.PlainParts.{plain_part};
 
@@ -30,6 +31,32 @@ pub fn part_of(alloc: Global, places: &[u32], system: &System) -> Result<Part, N
     let trans = renumber(alloc, places, &system.trans)?;
     let inv = renumber(alloc, places, &system.inv)?;
     Ok(Part { init, trans, inv })
+}
+
+// The formulas of a system, over the numbers of its own variables.
+fn own_part(system: System) -> Part
+    ensures { plain_part result ≡ own_part (plain_system system) }
+{
+    let System {
+        name: _,
+        inputs: _,
+        outputs: _,
+        locals: _,
+        init,
+        trans,
+        inv,
+        subsystems: _,
+    } = system;
+    Part { init, trans, inv }
+}
+
+// The one part of a system in which no other stands; its formulas aren't copied.
+pub(crate) fn own_parts(alloc: Global, system: System) -> Result<Parts, NoMemory>
+    ensures { IfOk result (λ parts. map plain_part parts ≡ own_part (plain_system system) ∷ []) }
+{
+    let mut parts = List::new(alloc);
+    parts.push(own_part(system))?;
+    Ok(parts)
 }
 
 fn put_place(places: &mut Vec<u32>, place: u32) -> Result<(), NoMemory>

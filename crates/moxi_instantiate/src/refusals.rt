@@ -11,23 +11,20 @@ ghost use Rattle.moxi_flat.specs.Limits.{flat_refusal, has_name_twice};
 ghost use Rattle.moxi_instantiate.specs.Instances.{IsInstEnd};
 
 use crate::measures::{is_too_large, script_is_ranked, script_is_whole};
-use crate::variables::{add_locals, add_named};
+use crate::variables::{add_locals, own_variables};
 use moxi_flat::single_systems_are_flat;
 use moxi_scripts::Script;
 use moxi_terms::Variables;
 use name_set::NameSet;
 use std::alloc::Global;
-use text_core::{End, Kind, List, NoMemory, Refusal};
+use text_core::{End, Kind, NoMemory, Refusal};
 
 /// The variables of the flat system: the check's under the check's names, and the locals of all instances under dotted names.
 pub fn flat_variables(alloc: Global, script: &Script) -> Result<Variables, NoMemory>
     ensures { IfOk result (λ variables. variables ≡ (flat_of (plain_script script.now)).variables) }
 {
     script_is_ranked(script);
-    let mut all = List::new(alloc);
-    add_named(alloc, b"", &script.check.inputs, &mut all)?;
-    add_named(alloc, b"", &script.check.outputs, &mut all)?;
-    add_named(alloc, b"", &script.check.locals, &mut all)?;
+    let mut all = own_variables(alloc, &script.check)?;
     add_locals(alloc, &script.systems, b"", script.check.system, &mut all)?;
     Ok(all)
 }

@@ -2,25 +2,29 @@
 ghost use Rattle.std.specs.Prelude.{◌≡◌, ◌≤◌, ◌+◌, [], None, true, length, map, IfOk, IfErr};
 ghost use Rattle.name_set.specs.Names.{are_fresh};
 ghost use Rattle.moxi_print.specs.Terms.{variable_names};
-ghost use Rattle.moxi_scripts.specs.Script.{plain_formula};
+ghost use Rattle.moxi_scripts.specs.Script.{plain_check, plain_formula, plain_system};
 ghost use Rattle.moxi_scripts.specs.ScriptView.{plain_script};
 ghost use Rattle.moxi_flat.specs.declared.limits.TheConstants as limits;
 ghost use Rattle.moxi_flat.specs.FlatSorts.{IsSortedFlat};
 ghost use Rattle.moxi_flat.specs.FlatSystem.{flat_of};
 ghost use Rattle.moxi_flat.specs.Limits.{flat_refusal};
-ghost use Rattle.moxi_instantiate.specs.Instances.{IsInstEnd, IsInstance, flat_height, flat_size};
+ghost use Rattle.moxi_instantiate.specs.Instances.{IsInstEnd, IsInstance, IsSingle, flat_height, flat_size, single_script};
 ghost use Rattle.moxi_instantiate.specs.PlainParts.{plain_part};
 
 use crate::instances::flat_parts;
 use crate::measures::script_is_whole;
-use crate::parts::Parts;
+use crate::parts::{Parts, own_parts};
 use crate::refusals::accepted_variables;
-use moxi_flat::{flat_systems_are_small, flat_systems_are_sorted, flat_systems_have_sizes};
-use moxi_scripts::{Check, Formulas, Queries, Script};
+use crate::variables::own_variables;
+use moxi_flat::{
+    flat_systems_are_small, flat_systems_are_sorted, flat_systems_have_sizes,
+    single_systems_are_flat,
+};
+use moxi_scripts::{Check, Formulas, Queries, Script, System};
 use moxi_terms::{Scope, Variables};
 use std::alloc::Global;
 use std::marker::Model;
-use text_core::End;
+use text_core::{End, NoMemory};
 
 /// Why a script has no flat system.
 pub type InstEnd = End;
@@ -145,6 +149,28 @@ pub fn instantiate<'a>(alloc: Global, script: &'a Script) -> Result<FlatSystem<'
     Ok(FlatSystem {
         scope: &script.scope,
         check: &script.check,
+        variables,
+        parts,
+    })
+}
+
+/// The flat system of the script of this scope, this system and this check, of which is known that it has one and that no system
+/// stands in this one: nothing is counted, and the system's formulas become those of the one part as they are.
+pub fn flat_of_single<'a>(
+    alloc: Global,
+    scope: &'a Scope,
+    system: System,
+    check: &'a Check,
+) -> Result<FlatSystem<'a>, NoMemory>
+    requires { ∥ IsSingle (single_script scope.now (plain_system system) (plain_check check.now)) ∥₁ }
+    ensures { IfOk result (λ f. f ≡ flat_of (single_script scope.now (plain_system system) (plain_check check.now))) }
+{
+    single_systems_are_flat();
+    let parts = own_parts(alloc, system)?;
+    let variables = own_variables(alloc, check)?;
+    Ok(FlatSystem {
+        scope,
+        check,
         variables,
         parts,
     })

@@ -1,13 +1,14 @@
-// The variables of all instances inside a system, under dotted names.
+// The variables of a check, and those of all instances inside a system, under dotted names.
 ghost use Rattle.std.specs.Prelude.{◌≡◌, ◌<◌, ◌++◌, map, length, IfOk, OnOk};
-ghost use Rattle.moxi_scripts.specs.Script.{plain_system, system_at};
+ghost use Rattle.moxi_scripts.specs.Script.{plain_check, plain_system, system_at};
+ghost use Rattle.moxi_systems.specs.Whole.{check_variables};
 ghost use Rattle.moxi_flat.specs.FlatSystem.{locals_upto, named_inside, path_inside};
 ghost use Rattle.moxi_instantiate.specs.Amounts.{AreRanked};
 
-use moxi_scripts::{Subsystem, Systems};
+use moxi_scripts::{Check, Subsystem, Systems};
 use moxi_terms::{Variable, Variables};
 use std::alloc::Global;
-use text_core::{Name, NoMemory};
+use text_core::{List, Name, NoMemory};
 
 fn append(bytes: &mut Vec<u8>, more: &[u8]) -> Result<(), NoMemory>
     ensures { OnOk result (bytes.new.items ≡ bytes.old.items ++ more.now) }
@@ -38,7 +39,7 @@ fn path_inside(alloc: Global, path: &[u8], subsystem: &Subsystem) -> Result<Vec<
     Ok(inside)
 }
 
-pub(crate) fn add_named(
+fn add_named(
     alloc: Global,
     path: &[u8],
     variables: &Variables,
@@ -55,6 +56,17 @@ pub(crate) fn add_named(
         })?;
     }
     Ok(())
+}
+
+// The variables of a check under their own names: its inputs, outputs and locals.
+pub(crate) fn own_variables(alloc: Global, check: &Check) -> Result<Variables, NoMemory>
+    ensures { IfOk result (λ variables. variables ≡ check_variables (plain_check check.now)) }
+{
+    let mut all = List::new(alloc);
+    add_named(alloc, b"", &check.inputs, &mut all)?;
+    add_named(alloc, b"", &check.outputs, &mut all)?;
+    add_named(alloc, b"", &check.locals, &mut all)?;
+    Ok(all)
 }
 
 /// Adds the locals of all instances inside the system of this number.

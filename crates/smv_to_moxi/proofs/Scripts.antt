@@ -1,5 +1,5 @@
 -- The queries of a script and what they reach.
-use Rattle.std.proofs.Common.{◌≡◌, ℕ, zero, suc, ◌+◌, ◌++◌, Bool, true, false, Result, Ok, Err, IfOk, List, [], ◌∷◌, codes, drop, get_or, if◌then◌else◌, length, map, Some, refl, subst, sym, ap, ◌∙◌, arith}
+use Rattle.std.proofs.Common.{◌≡◌, ℕ, ◌+◌, ◌++◌, Bool, true, false, Result, Ok, Err, IfOk, List, [], ◌∷◌, codes, drop, get_or, if◌then◌else◌, length, map, refl, subst, sym, ap, ◌∙◌, arith}
 use Rattle.smv_items.specs.declared.items.FlatItem.{FlatItem}
 use Rattle.smv_items.specs.FlatItemView.{item_plain}
 use Rattle.smv_flat.specs.declared.forms.Role.{Role}
@@ -11,20 +11,17 @@ use Rattle.smv_flat.specs.FlatView.{plain_flat}
 use Rattle.smv_flat_laws.specs.FlatTruth.{forms_invariants, role_invariant}
 use Rattle.moxi_scripts.specs.declared.script.Formula.{Formula}
 use Rattle.moxi_scripts.specs.declared.script.Query.{Query}
-use Rattle.smv_text.specs.declared.tree.When.TheVariants.{Always, First, Following}
 use Rattle.moxi_terms.specs.declared.term.Variable.{Variable}
 use Rattle.moxi_terms.specs.Tree.{Tree}
 use Rattle.moxi_terms.specs.View.{ScopeState}
 use Rattle.moxi_terms.specs.Names.{no_scope, with_enumeration}
 use Rattle.moxi_terms.specs.declared.term.Enumeration.{Enumeration}
 use Rattle.moxi_scripts.specs.declared.script.Subsystem.{Subsystem}
-use Rattle.moxi_scripts.specs.declared.script.Script.{Script}
-use Rattle.moxi_scripts.specs.ScriptView.{plain_script}
 use Rattle.text_core.specs.declared.errors.NoMemory.{NoMemory}
-use Rattle.moxi_scripts.specs.Script.{PlainCheck, PlainFormula, PlainScript, PlainSystem, plain_formula, plain_system}
+use Rattle.moxi_scripts.specs.Script.{PlainCheck, PlainFormula, PlainScript, PlainSystem, plain_formula}
 use Rattle.smv_flat.specs.FlatForms.{PlainFlat}
 use Rattle.smv_script.specs.Terms.{Coding}
-use Rattle.smv_script.specs.Script.{check_of, coding_of, formula_of, inputs, locals, outputs, place_of_item, queries_from, query_of, reachables_from, script_of, symbol_sort, system_of, variables_in}
+use Rattle.smv_script.specs.Script.{check_of, coding_of, place_of_item, queries_from, query_of, reachables_from, script_of, symbol_sort, system_of}
 use Rattle.smv_script_terms.specs.FlatParts.{flat_in}
 use Rattle.smv_to_moxi.specs.Assembling.{symbol_scope, check_form, is_invariant, reachable_of, script_form, script_under, script_with, system_form}
 use Rattle.moxi_scripts.specs.Invariant.{IsSpelled}
@@ -203,6 +200,6 @@ pub set_is : (items : List FlatItem) (symbols set : List (List ℕ)) (formulas :
 set_is items symbols set formulas width e = ap (λ t. script_form (flat_in items t formulas) width) e
 
 -- what is made is the script
-pub made_is : (r : Result Script NoMemory) (x y : PlainScript) → x ≡ y → IfOk r (λ t. plain_script t ≡ x) → IfOk r (λ t. plain_script t ≡ y)
-made_is (Ok s) x y e h = h ∙ e
-made_is (Err n) x y e h = h
+pub made_is : {T : Type 0} (view : T → PlainScript) (r : Result T NoMemory) (x y : PlainScript) → x ≡ y → IfOk r (λ t. view t ≡ x) → IfOk r (λ t. view t ≡ y)
+made_is view (Ok s) x y e h = h ∙ e
+made_is view (Err n) x y e h = h

@@ -1,5 +1,5 @@
 -- Some forms spell the script of a flat form.
-use Rattle.std.proofs.Common.{◌≡◌, ℕ, List, refl, sym, ap, ◌∙◌, subst}
+use Rattle.std.proofs.Common.{◌≡◌, ℕ, List, sym, ap, ◌∙◌, subst}
 use Rattle.std.proofs.Math.Logic.{∥∥₁_map}
 use Rattle.smv_items.specs.declared.items.FlatItem.{FlatItem}
 use Rattle.smv_flat.specs.declared.forms.FlatFormula.{FlatFormula}
@@ -24,7 +24,5 @@ of_model law f m =
     subst (λ (s : PlainScript). IsSpelled s) (sym (ap (λ x. script_of x f.width) m.form ∙ ap (script_of (flat_smv m.source)) m.width))
     (law m.source m.read.end m.read.text m.read.tokens m.read.lexed m.read.spelled m.needed m.accepted)
 
-pub spelled_parts : ScriptsAreSpelled → (f : FlatModel) → ∥ IsOfModel f ∥₁ → (items : List FlatItem) (symbols : List (List ℕ)) (formulas : List FlatFormula) (width : ℕ) → items ≡ f.items → symbols ≡ f.symbols → formulas ≡ f.formulas
-    → width ≡ f.width → ∥ IsSpelled (script_form (flat_in items symbols formulas) width) ∥₁
-spelled_parts law f m items symbols formulas width i s o w =
-    ∥∥₁_map m (λ (k : IsOfModel f). subst (λ (t : PlainScript). IsSpelled t) (sym (parts_are f items symbols formulas width i s o w)) (of_model law f k))
+pub model_spelled : ScriptsAreSpelled → (f : FlatModel) → ∥ IsOfModel f ∥₁ → ∥ IsSpelled (script_of (flat_plain f) f.width) ∥₁
+model_spelled law f m = ∥∥₁_map m (of_model law f)

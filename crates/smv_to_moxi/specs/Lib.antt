@@ -1,3 +1,4 @@
 pub mod Assembling
+pub mod SingleView
 pub mod Lifting
 pub mod Bounds

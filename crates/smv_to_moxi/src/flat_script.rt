@@ -4,8 +4,9 @@ ghost use Rattle.moxi_scripts.specs.ScriptView.{plain_script};
 ghost use Rattle.smv_flatten.specs.FlatModel.{flat_plain};
 ghost use Rattle.smv_script.specs.Script.{script_of};
 ghost use Rattle.smv_to_moxi.specs.Bounds.{IsBounded};
+ghost use Rattle.smv_to_moxi.specs.SingleView.{plain_single};
 
-use crate::script::script_in;
+use crate::script::{SingleScript, assembled, single_in};
 use moxi_scripts::Script;
 use moxi_terms::Scope;
 use smv_flatten::Flat;
@@ -13,6 +14,24 @@ use smv_script_bounds::{brackets_are_few, counts_are_weighed, heights_are_low, s
 use smv_script_whole::scripts_are_spelled;
 use std::alloc::Global;
 use text_core::NoMemory;
+
+/// The script of MoXI that stands for a flat form, its one system by itself, so that the system's formulas can be moved out of it.
+/// Only want of memory keeps it from being made.
+pub fn to_single(alloc: Global, flat: &Flat) -> Result<SingleScript, NoMemory>
+    ensures { IfOk result (λ s. plain_single s ≡ script_of (flat_plain flat.now) flat.now.width) }
+{
+    let mut scope = Scope::new(alloc);
+    let single = single_in(
+        alloc,
+        flat.width(),
+        flat.items().as_slice(),
+        flat.symbols(),
+        flat.formulas().as_slice(),
+        &mut scope,
+    );
+    drop(scope);
+    single
+}
 
 /// The script of MoXI that stands for a flat form (MoXI, SPIN 2024): one system with a variable for each item, and for each invariant
 /// a query that a state which breaks it meets. It is linear in the model's weight, and neither high nor deep. Only want of memory
@@ -27,15 +46,13 @@ pub fn to_moxi(alloc: Global, flat: &Flat) -> Result<Script, NoMemory>
     counts_are_weighed();
     heights_are_low();
     brackets_are_few();
-    let mut scope = Scope::new(alloc);
-    let script = script_in(
-        alloc,
-        flat.width(),
-        flat.items().as_slice(),
-        flat.symbols(),
-        flat.formulas().as_slice(),
-        &mut scope,
-    );
+    let SingleScript {
+        logic,
+        mut scope,
+        system,
+        check,
+    } = to_single(alloc, flat)?;
+    let script = assembled(alloc, logic, &mut scope, system, check);
     drop(scope);
     script
 }

@@ -5,5 +5,6 @@ mod flat_script;
 mod lift;
 mod script;
 
-pub use flat_script::to_moxi;
+pub use flat_script::{to_moxi, to_single};
 pub use lift::lift_states;
+pub use script::SingleScript;

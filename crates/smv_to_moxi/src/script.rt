@@ -12,6 +12,7 @@ ghost use Rattle.smv_script.specs.Script.{coding_of, place_of_item, query_of, qu
 ghost use Rattle.smv_script_terms.specs.Questions.{codes_of, place_at};
 ghost use Rattle.smv_script_terms.specs.FlatParts.{AreFlatChains, flat_in, plain_parts};
 ghost use Rattle.smv_to_moxi.specs.Assembling.{symbol_scope, check_form, is_invariant, reachable_of, script_form, script_under, script_with, system_form};
+ghost use Rattle.smv_to_moxi.specs.SingleView.{plain_single};
 
 use moxi_scripts::{Check, Formula, Formulas, Queries, Query, Script, Subsystems, System, Systems};
 use moxi_terms::Scope;
@@ -26,6 +27,15 @@ use smv_text::When;
 use std::alloc::Global;
 use std::mem;
 use text_core::{Name, Names, NoMemory, Numbers, Place, Text};
+
+/// The script of a flat form, whose one system stands by itself (MoXI, SPIN 2024).
+#[derive(Drop)]
+pub struct SingleScript {
+    pub logic: Name,
+    pub scope: Scope,
+    pub system: System,
+    pub check: Check,
+}
 
 // The name of these two pieces.
 fn name_of(alloc: Global, first: &[u8], second: &[u8]) -> Result<Name, NoMemory>
@@ -237,7 +247,7 @@ fn coding_of(alloc: Global, width: u32, items: &[FlatItem]) -> Result<Coding, No
 }
 
 // The script of these parts; the scope is taken out.
-fn assembled(
+pub(crate) fn assembled(
     alloc: Global,
     logic: Name,
     scope: &mut Scope,
@@ -258,21 +268,39 @@ fn assembled(
     })
 }
 
+// These parts by themselves; the scope is taken out.
+fn single_with(
+    alloc: Global,
+    logic: Name,
+    scope: &mut Scope,
+    system: System,
+    check: Check,
+) -> SingleScript
+    ensures { plain_single result ≡ script_with logic scope.old (plain_system system) (plain_check check) }
+{
+    let scope = mem::replace(scope, Scope::new(alloc));
+    SingleScript {
+        logic,
+        scope,
+        system,
+        check,
+    }
+}
+
 // The script with this system.
-fn script_of_system<'f>(
+fn single_of_system<'f>(
     alloc: Global,
     coding: &Coding,
     flat: &FlatParts<'f>,
     logic: Name,
     scope: &mut Scope,
     system: System,
-) -> Result<Script, NoMemory>
-    requires coding { codes_of coding.now ≡ coding_of (plain_parts flat.now) coding.now.width }
-    requires spelled { ∥ IsSpelled (script_with logic scope.old (plain_system system) (check_form (plain_parts flat.now) coding.now.width)) ∥₁ }
-    ensures { IfOk result (λ s. plain_script s ≡ script_with logic scope.old (plain_system system) (check_form (plain_parts flat.now) coding.now.width)) }
+) -> Result<SingleScript, NoMemory>
+    requires { codes_of coding.now ≡ coding_of (plain_parts flat.now) coding.now.width }
+    ensures { IfOk result (λ s. plain_single s ≡ script_with logic scope.old (plain_system system) (check_form (plain_parts flat.now) coding.now.width)) }
 {
     match check_of(alloc, coding, flat) {
-        Ok(check) => assembled(alloc, logic, scope, system, check),
+        Ok(check) => Ok(single_with(alloc, logic, scope, system, check)),
         Err(e) => {
             drop(logic);
             drop(system);
@@ -282,19 +310,18 @@ fn script_of_system<'f>(
 }
 
 // The script with this logic and this scope.
-fn script_of_scope<'f>(
+fn single_of_scope<'f>(
     alloc: Global,
     coding: &Coding,
     flat: &FlatParts<'f>,
     logic: Name,
     scope: &mut Scope,
-) -> Result<Script, NoMemory>
-    requires coding { codes_of coding.now ≡ coding_of (plain_parts flat.now) coding.now.width }
-    requires spelled { ∥ IsSpelled (script_under logic scope.old (plain_parts flat.now) coding.now.width) ∥₁ }
-    ensures { IfOk result (λ s. plain_script s ≡ script_under logic scope.old (plain_parts flat.now) coding.now.width) }
+) -> Result<SingleScript, NoMemory>
+    requires { codes_of coding.now ≡ coding_of (plain_parts flat.now) coding.now.width }
+    ensures { IfOk result (λ s. plain_single s ≡ script_under logic scope.old (plain_parts flat.now) coding.now.width) }
 {
     match system_of(alloc, coding, flat) {
-        Ok(system) => script_of_system(alloc, coding, flat, logic, scope, system),
+        Ok(system) => single_of_system(alloc, coding, flat, logic, scope, system),
         Err(e) => {
             drop(logic);
             Err(e)
@@ -310,53 +337,50 @@ fn logic_of(alloc: Global) -> Result<Name, NoMemory>
 }
 
 // The script of a flat form with this coding, given a scope of nothing.
-fn coded_script<'f>(
+fn coded_single<'f>(
     alloc: Global,
     coding: &Coding,
     flat: &FlatParts<'f>,
     symbols: &Names,
     scope: &mut Scope,
-) -> Result<Script, NoMemory>
+) -> Result<SingleScript, NoMemory>
     requires nothing { scope.old ≡ no_scope }
     requires same { symbols.now ≡ flat.now.symbols.now }
     requires coding { codes_of coding.now ≡ coding_of (plain_parts flat.now) coding.now.width }
-    requires spelled { ∥ IsSpelled (script_form (plain_parts flat.now) coding.now.width) ∥₁ }
-    ensures { IfOk result (λ s. plain_script s ≡ script_form (plain_parts flat.now) coding.now.width) }
+    ensures { IfOk result (λ s. plain_single s ≡ script_form (plain_parts flat.now) coding.now.width) }
 {
     declare_symbols(alloc, scope, symbols)?;
     let logic = logic_of(alloc)?;
-    script_of_scope(alloc, coding, flat, logic, scope)
+    single_of_scope(alloc, coding, flat, logic, scope)
 }
 
 // The script of this flat, whose integers have so many bits.
-fn script_from<'f>(
+fn single_from<'f>(
     alloc: Global,
     width: u32,
     flat: &FlatParts<'f>,
     symbols: &Names,
     scope: &mut Scope,
-) -> Result<Script, NoMemory>
+) -> Result<SingleScript, NoMemory>
     requires nothing { scope.old ≡ no_scope }
     requires same { symbols.now ≡ flat.now.symbols.now }
-    requires spelled { ∥ IsSpelled (script_form (plain_parts flat.now) width) ∥₁ }
-    ensures { IfOk result (λ s. plain_script s ≡ script_form (plain_parts flat.now) width) }
+    ensures { IfOk result (λ s. plain_single s ≡ script_form (plain_parts flat.now) width) }
 {
     let coding = coding_of(alloc, width, flat.items)?;
-    coded_script(alloc, &coding, flat, symbols, scope)
+    coded_single(alloc, &coding, flat, symbols, scope)
 }
 
 /// The script of a flat form of these items, symbols and formulas, whose integers have so many bits.
-pub(crate) fn script_in(
+pub(crate) fn single_in(
     alloc: Global,
     width: u32,
     items: &[FlatItem],
     symbols: &Names,
     formulas: &[FlatFormula],
     scope: &mut Scope,
-) -> Result<Script, NoMemory>
-    requires nothing { scope.old ≡ no_scope }
-    requires spelled { ∥ IsSpelled (script_form (flat_in items.now symbols.now formulas.now) width) ∥₁ }
-    ensures { IfOk result (λ s. plain_script s ≡ script_form (flat_in items.now symbols.now formulas.now) width) }
+) -> Result<SingleScript, NoMemory>
+    requires { scope.old ≡ no_scope }
+    ensures { IfOk result (λ s. plain_single s ≡ script_form (flat_in items.now symbols.now formulas.now) width) }
 {
     let set = symbol_set(alloc, symbols)?;
     let flat = FlatParts {
@@ -364,5 +388,5 @@ pub(crate) fn script_in(
         symbols: &set,
         formulas,
     };
-    script_from(alloc, width, &flat, symbols, scope)
+    single_from(alloc, width, &flat, symbols, scope)
 }

@@ -1,5 +1,5 @@
 -- What is known of a model's script and of the trace to which a witness is lifted.
-use Rattle.std.proofs.Common.{◌≡◌, ◌≤◌, ℕ, length, List, Option, Some, None, Result, Ok, Err, refl, sym, ap, ◌∙◌, subst}
+use Rattle.std.proofs.Common.{◌≡◌, ℕ, List, Option, Some, None, Result, Ok, Err, refl, sym, ap, ◌∙◌, subst}
 use Rattle.std.specs.Prelude.{IfErr, IsErrAnd}
 use Rattle.std.specs.List.{AllByRecursion}
 use Rattle.std.proofs.Math.Logic.{∥∥₁_elim, ∥∥₁_map}
@@ -10,33 +10,52 @@ use Rattle.btor_witness.specs.declared.witness.Witness.{Witness}
 use Rattle.btor_witness.specs.Judging.{judged_btor}
 use Rattle.smv_meaning.specs.declared.value.Run.{Run}
 use Rattle.smv_flat.specs.FlatForms.{PlainFlat, flat_smv}
-use Rattle.smv_width.specs.FlatWidth.{width_of}
 use Rattle.smv_flatten.specs.FlatModel.{FlatModel, IsOfModel, flat_plain}
-use Rattle.smv_script.specs.Script.{script_of, symbol_sort, system_of}
+use Rattle.smv_script.specs.Script.{script_for, script_of, symbol_sort, system_of}
+use Rattle.smv_script_whole.specs.Laws.{ScriptsAreWhole}
+use Rattle.smv_to_moxi.specs.Assembling.{script_with}
 use Rattle.smv_to_moxi.specs.Lifting.{IsTraceOf}
 use Rattle.smv_model_lines.specs.Laws.{ModelsHaveFlatSystems}
 use Rattle.moxi_terms.specs.declared.data.Datum.{Datum}
 use Rattle.moxi_terms.specs.declared.term.Variable.{Variable}
 use Rattle.moxi_terms.specs.Sorts.{Fit}
 use Rattle.moxi_terms.specs.Tree.{sorts_of}
-use Rattle.moxi_scripts.specs.Script.{PlainScript, variables_in}
-use Rattle.moxi_flat.specs.FlatSystem.{PlainFlatSystem}
+use Rattle.moxi_terms.specs.View.{ScopeState}
+use Rattle.moxi_scripts.specs.Script.{PlainCheck, PlainScript, PlainSystem, variables_in}
+use Rattle.moxi_systems.specs.Whole.{IsWhole}
 use Rattle.moxi_flat.specs.Limits.{flat_refusal}
-use Rattle.moxi_lines.specs.Lines.{lines_of}
+use Rattle.moxi_instantiate.specs.Instances.{IsSingle, single_script}
 use Rattle.moxi_chain.specs.Ends.{IsLiftEnd}
 use Rattle.moxi_chain.specs.declared.lift.LiftEnd.{LiftEnd}
 use Rattle.witness_lift.specs.Lifting.{IsLifted, lifted_run, lines_in, run_in, system_in}
 
 -- ---- scripts
 
+-- what is known of the model's script is known of the flat form's
+of_model : (P : PlainScript → Type 0) (f : FlatModel) (m : IsOfModel f) → P (script_for m.source) → P (script_of (flat_plain f) f.width)
+of_model P f m h =
+    subst (λ (x : PlainFlat). P (script_of x f.width)) (sym m.form) (subst (λ (n : ℕ). P (script_of (flat_smv m.source) n)) (sym m.width) h)
+
+not_refused_of : (f : FlatModel) → ModelsHaveFlatSystems → IsOfModel f → flat_refusal (script_of (flat_plain f) f.width) ≡ None
+not_refused_of f law m = of_model (λ s. flat_refusal s ≡ None) f m (law m.source m.read.end m.read.text m.read.tokens m.read.lexed m.read.spelled m.needed m.accepted m.read.low)
+
 pub has_system : (f : FlatModel) → ModelsHaveFlatSystems → ∥ IsOfModel f ∥₁ → ∥ flat_refusal (script_of (flat_plain f) f.width) ≡ None ∥₁
-has_system f law model = ∥∥₁_map model (λ m. of m)
-  where
-    of : IsOfModel f → flat_refusal (script_of (flat_plain f) f.width) ≡ None
-    of m =
-        subst (λ (x : PlainFlat). flat_refusal (script_of x f.width) ≡ None) (sym m.form)
-        (subst (λ (n : ℕ). flat_refusal (script_of (flat_smv m.source) n) ≡ None) (sym m.width)
-        (law m.source m.read.end m.read.text m.read.tokens m.read.lexed m.read.spelled m.needed m.accepted m.read.low))
+has_system f law model = ∥∥₁_map model (not_refused_of f law)
+
+pub single_of : (f : FlatModel) → ScriptsAreWhole → ModelsHaveFlatSystems → ∥ IsOfModel f ∥₁ → ∥ IsSingle (script_of (flat_plain f) f.width) ∥₁
+single_of f whole law model = ∥∥₁_map model (λ m. record {
+  whole = of_model IsWhole f m (whole m.source m.read.end m.read.text m.read.tokens m.read.lexed m.read.spelled m.needed m.accepted);
+  accepted = not_refused_of f law m;
+  alone = refl;
+})
+
+-- so it is without its logic
+pub single_parts : (logic : List ℕ) (scope : ScopeState) (system : PlainSystem) (check : PlainCheck) → ∥ IsSingle (script_with logic scope system check) ∥₁ → ∥ IsSingle (single_script scope system check) ∥₁
+single_parts logic scope system check w = ∥∥₁_map w (λ i. record {
+  whole = record { scope = i.whole.scope; systems = i.whole.systems; check = i.whole.check };
+  accepted = i.accepted;
+  alone = i.alone;
+})
 
 both : (o : Option Refusal) (why : Refusal) → o ≡ Some why → o ≡ None → ⊥
 both o why e f = absurd (cc)

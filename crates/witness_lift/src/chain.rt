@@ -8,20 +8,23 @@ ghost use Rattle.smv_width.specs.FlatWidth.{width_of};
 ghost use Rattle.smv_flatten.specs.FlatModel.{IsRead, flat_plain};
 ghost use Rattle.smv_flatten.specs.Refusing.{Decides};
 ghost use Rattle.smv_script.specs.Script.{script_of};
-ghost use Rattle.moxi_scripts.specs.ScriptView.{plain_script};
+ghost use Rattle.moxi_scripts.specs.Script.{plain_check, plain_system};
 ghost use Rattle.moxi_flat.specs.FlatSystem.{flat_of};
 ghost use Rattle.moxi_flat.specs.Limits.{flat_refusal};
+ghost use Rattle.moxi_instantiate.specs.Instances.{IsSingle, single_script};
 ghost use Rattle.moxi_lines.specs.Lines.{lines_of};
 ghost use Rattle.witness_lift.specs.Lifting.{lines_in};
 
 use btor_tree::Nodes;
-use moxi_instantiate::{InstEnd, instantiate};
-use moxi_scripts::Script;
+use moxi_instantiate::flat_of_single;
+use moxi_scripts::{Check, System};
+use moxi_terms::Scope;
 use moxi_to_btor::to_btor;
 use smv_flatten::{Flat, FlatEnd, flatten};
 use smv_model_lines::models_have_flat_systems;
+use smv_script_whole::scripts_are_whole;
 use smv_text::Source;
-use smv_to_moxi::to_moxi;
+use smv_to_moxi::{SingleScript, to_single};
 use std::alloc::Global;
 use std::marker::Model;
 use text_core::NoMemory;
@@ -98,25 +101,41 @@ pub fn has_flat_system(flat: &Flat)
     models_have_flat_systems();
 }
 
-// The lines of a script that has a flat system.
-fn script_lines(alloc: Global, script: &Script) -> Result<Nodes, NoMemory>
-    requires { ∥ flat_refusal (plain_script script.now) ≡ None ∥₁ }
-    ensures { IfOk result (λ nodes. nodes ≡ lines_of (flat_of (plain_script script.now))) }
+// The script of a flat form is whole and has a flat system, and no other system stands in its one; this function does nothing.
+fn is_single(flat: &Flat)
+    ensures { ∥ IsSingle (script_of (flat_plain flat.now) flat.now.width) ∥₁ }
 {
-    match instantiate(alloc, script) {
-        Ok(system) => to_btor(alloc, &system),
-        Err(InstEnd::Bad(_)) => unreachable!(),
-        Err(InstEnd::NoMemory) => Err(NoMemory),
-    }
+    flat.is_of_model();
+    scripts_are_whole();
+    models_have_flat_systems();
 }
 
-// The lines of a flat form's script.
+// The lines of the script of this scope, this system and this check.
+fn single_lines(
+    alloc: Global,
+    scope: &Scope,
+    system: System,
+    check: &Check,
+) -> Result<Nodes, NoMemory>
+    requires { ∥ IsSingle (single_script scope.now (plain_system system) (plain_check check.now)) ∥₁ }
+    ensures { IfOk result (λ nodes. nodes ≡ lines_of (flat_of (single_script scope.now (plain_system system) (plain_check check.now)))) }
+{
+    let flat = flat_of_single(alloc, scope, system, check)?;
+    to_btor(alloc, &flat)
+}
+
+// The lines of a flat form's script. The script's formulas are not copied on the way.
 fn flat_lines(alloc: Global, flat: &Flat) -> Result<Nodes, NoMemory>
     ensures { IfOk result (λ nodes. nodes ≡ lines_in flat.now) }
 {
-    has_flat_system(flat);
-    let script = to_moxi(alloc, flat)?;
-    script_lines(alloc, &script)
+    is_single(flat);
+    let SingleScript {
+        logic: _,
+        scope,
+        system,
+        check,
+    } = to_single(alloc, flat)?;
+    single_lines(alloc, &scope, system, &check)
 }
 
 impl<'a> SmvChain<'a> {

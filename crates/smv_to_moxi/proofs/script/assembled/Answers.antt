@@ -1,6 +1,5 @@
-use Rattle.std.proofs.Common.{◌∙◌, ◌++◌, ◌∷◌, [], ap, map, Some}
+use Rattle.std.proofs.Common.{◌∙◌, ◌++◌, ◌∷◌, [], ap, Some}
 use Rattle.moxi_scripts.specs.Invariant.{script_of}
-use Rattle.moxi_scripts.specs.Script.{plain_system}
 use Rattle.smv_to_moxi.proofs.Scripts.{spelled_by}
 use Rattle.smv_to_moxi.proofs.script.assembled.Goals as goal
 
