@@ -8,7 +8,7 @@ ghost use Rattle.btor_tree.specs.declared.lines.LineOp.TheVariants as op;
 
 use crate::args::{Args, no_args};
 use crate::line_key::is_shared;
-use crate::line_places::{LinePlaces, enter, no_places};
+use crate::line_places::{LinePlaces, enter, make_room, no_places};
 use crate::lines::{GREATEST_ID, Line, LineOp, sort_width};
 use crate::nodes::Nodes;
 use std::alloc::Global;
@@ -53,6 +53,14 @@ impl Builder {
             places: no_places(alloc),
             sorts: [None; WIDTHS],
         }
+    }
+
+    /// Makes room for so many more lines, which are then put with no more memory for the list. The lines stay as they are.
+    pub fn reserve(&mut self, count: usize) -> Result<(), NoMemory>
+        ensures { self.new ≡ self.old }
+    {
+        self.lines.reserve(count)?;
+        make_room(&mut self.places, count)
     }
 
     /// The place of the sort, constant or operator line that says this already, or else of a new line at the end, whose id is

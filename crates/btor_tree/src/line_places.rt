@@ -35,6 +35,16 @@ pub fn no_places(alloc: Global) -> LinePlaces
     }
 }
 
+/// Makes room for the slots of so many more lines: the lines of two arguments tell the slot, which is at most three times the place
+/// of the later one.
+pub fn make_room(places: &mut LinePlaces, count: usize) -> Result<(), NoMemory>
+    ensures slots { places.new.slots.items ≡ places.old.slots.items }
+    ensures others { places.new.others ≡ places.old.others }
+{
+    places.slots.reserve(count.saturating_mul(3))?;
+    Ok(())
+}
+
 // The value that the map has for a key, or none, and then it takes the new value for it. It stays as it is where it has one, or
 // where it is refused.
 fn enter_key<K: Ord + Drop>(

@@ -1,5 +1,5 @@
 // The lines of a flat system.
-ghost use Rattle.std.specs.Prelude.{◌≡◌, [], IfOk, OnOk};
+ghost use Rattle.std.specs.Prelude.{◌≡◌, ◌+◌, ◌-◌, ◌*◌, ◌^◌, min, [], length, IfOk, OnOk};
 ghost use Rattle.btor_tree.specs.Sharing.{HasNoTwoAlike};
 ghost use Rattle.moxi_term_lines.specs.Laws.{HaveCodes};
 ghost use Rattle.moxi_lines.specs.Lines.{head_lines, lines_of};
@@ -57,6 +57,15 @@ fn put_first(alloc: Global, builder: &mut Builder) -> Result<(), NoMemory>
     put_given(builder, LineOp::Next, 1, FIRST, ZERO)
 }
 
+// About how many lines there will be: three for each variable, two equations for most, each with the conjunction that joins it to the
+// others, and some in front and at the end.
+fn room_for(system: &FlatSystem) -> usize
+    ensures { result ≡ min (7 * length system.now.variables + 32) (2 ^ 64 - 1) }
+{
+    let count = system.variables().len();
+    count.saturating_mul(7).saturating_add(32)
+}
+
 /// The BTOR2 lines of a flat system (BTOR2, CAV 2018): the head, the variables, the formulas of each part, and the queries, in time
 /// linear in its size but for the search for lines that stand already. No two sorts, constants or operators among them say the same.
 /// Where each query names one reachable formula and nothing else, there are at most two lines for each unit of the system's size, six
@@ -72,6 +81,7 @@ pub fn to_btor(alloc: Global, system: &FlatSystem) -> Result<Nodes, NoMemory>
     enumerations_have_codes(enumerations);
     system_is_known(system);
     let mut builder = Builder::new(alloc);
+    builder.reserve(room_for(system))?;
     put_constants(&mut builder)?;
     put_first(alloc, &mut builder)?;
     let inputs = put_variables(alloc, &mut builder, enumerations, system.variables())?;

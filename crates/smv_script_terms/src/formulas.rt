@@ -200,7 +200,7 @@ fn parts_of<'f>(
     requires { AreFlatChains flat.now chains.now }
     ensures { IfOk result (λ ts. map plain ts.items ≡ parts_upto (plain_parts flat.now) (codes_of coding.now) when (instance_count flat.now)) }
 {
-    let mut all = Vec::new(alloc);
+    let mut all = Vec::with_capacity(alloc, flat.formulas.len())?;
     for i in 0..chains.count {
         add_instance(alloc, coding, when, flat, chains, i, &mut all)?;
     }
