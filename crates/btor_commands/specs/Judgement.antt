@@ -12,7 +12,7 @@ use Rattle.btor_tree.specs.Texts.{SpellsLines}
 use Rattle.btor_text.specs.Answer as btor
 use Rattle.btor_witness.specs.Answer as witness
 use Rattle.btor_witness.specs.declared.witness.Witness.{Witness}
-use Rattle.btor_witness.specs.Judging.{IsJudged}
+use Rattle.btor_witness.specs.Judging.{judged_btor}
 use Rattle.btor_witness.specs.Texts.{SpellsWitness}
 use Rattle.command_answers.specs.declared.answer.Answer.{Answer}
 use Rattle.command_answers.specs.declared.answer.Answer.TheVariants.{Refused, SecondRefused, No, Done}
@@ -41,7 +41,7 @@ verdict_answer w verdict.Yes = Done (Yes w.bad (length w.frames - 1))
 verdict_answer w (verdict.No step clause) = No step clause
 
 abbrev pub IsVerdict : List Line → Witness → Answer → Type 0
-IsVerdict lines w answer = (v : Verdict) × IsJudged lines w v × (answer ≡ verdict_answer w v)
+IsVerdict lines w answer = (v : Verdict) × judged_btor lines w v × (answer ≡ verdict_answer w v)
 
 -- the verdict on the witness that a text spells for the lines, or the text's refusal
 abbrev pub OfText : List Line → List ℕ → Answer → Type 0

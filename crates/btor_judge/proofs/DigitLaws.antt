@@ -7,7 +7,7 @@ use Rattle.word_core.specs.Words.{BitVector, IsWord}
 use Rattle.word_core.specs.declared.word.TheConstants.{WIDEST}
 use Rattle.btor_witness.specs.Bytes.{is_binary, all_binary, bits_after, word_of}
 use Rattle.btor_witness.specs.Shapes.{assignment_shape}
-use Rattle.btor_witness.proofs.Binary.{bits_small, digit_small}
+use Rattle.btor_witness.specs.laws.Binary.{bits_small, digit_small}
 use Rattle.btor_judge.specs.declared.digits.Digits.TheVariants.{Bits, Long, Other}
 use Rattle.btor_judge.specs.Digit.{digits_of, doubled, digit_next, digits_next, IsWordOf, SpellsDigits, word_from, assigned}
 

@@ -11,7 +11,7 @@ use Rattle.btor_witness.specs.declared.witness.Witness.{Witness}
 use Rattle.btor_witness.specs.Bytes.{line_parts}
 use Rattle.btor_witness.specs.Sizes.{sizes_of, most_bytes}
 use Rattle.btor_witness.specs.Texts.{Refuses, unended, ReadsText, RefusesText, next_of}
-use Rattle.btor_witness.specs.Judging.{IsJudged}
+use Rattle.btor_witness.specs.Judging.{judged_btor}
 use Rattle.btor_witness.specs.laws.Laws.{reads_on, one_witness, not_both, same_refusal}
 use Rattle.btor_witness.specs.laws.Verdicts.{one_verdict}
 use Rattle.btor_judge.specs.declared.judge.Judge.{Judge}
@@ -88,7 +88,7 @@ judged_answer lines judge text b m v e f g h = (
   (h.short, subst (λ x. ReadsText (sizes_of lines) x h.witness) (append-nil text) (h.reads [] (λ t. refl))),
   h.judged.bad ∙ sym e,
   h.judged.steps ∙ ap (λ n. n + 1) (sym f),
-  subst (IsJudged lines h.witness) (sym g) h.judged.verdict,
+  subst (judged_btor lines h.witness) (sym g) h.judged.verdict,
 )
 
 pub refused_answer : (lines : List Line) (judge : Judge) (text : List ℕ) (kind : Kind) → IsStopped lines judge text kind → Answers lines text (Bad (record { kind = kind; place = place_of judge }))
@@ -116,7 +116,7 @@ same_judged b c m n v u e f g = cc
 pub one_answer : (lines : List Line) (text : List ℕ) (a b : JudgeEnd) → IsWellFormed lines → Answers lines text a → Answers lines text b → a ≡ b
 one_answer lines text (Judged i m v) (Judged j n u) well a b =
     let same : a.0 ≡ b.0 = one_witness lines text a.0 b.0 a.1 b.1 in
-    let other : IsJudged lines a.0 u = subst (λ w. IsJudged lines w u) (sym same) b.4 in
+    let other : judged_btor lines a.0 u = subst (λ w. judged_btor lines w u) (sym same) b.4 in
     let steps : m ≡ n = omega (arith, a.3, b.3, ap (λ (w : Witness). length w.frames) same) in
     same_judged i j m n v u (sym a.2 ∙ ap (λ (w : Witness). w.bad) same ∙ b.2) steps (one_verdict lines a.0 v u well a.4 other)
 one_answer lines text (Judged i m v) (Bad r) well a b = absurd (not_both lines text a.0 r.kind r.place.line a.1 b.0)

@@ -1,11 +1,11 @@
 -- What the first part of a line spells, read byte by byte.
-use Rattle.std.proofs.Common.{◌≡◌, ◌*◌, ◌+◌, ◌-◌, ◌<◌, ◌≤◌, ◌⊎◌, ℕ, min, Bool, true, false, eqb, List, [], ◌∷◌, ◌++◌, Option, Some, None, refl, sym, ap, ◌∙◌, subst, arith, inl, inr}
+use Rattle.std.proofs.Common.{◌≡◌, ◌*◌, ◌+◌, ◌-◌, ◌<◌, ◌≤◌, ◌⊎◌, ◌&&◌, ℕ, min, Bool, true, false, cond, eqb, List, [], ◌∷◌, ◌++◌, Option, Some, None, refl, sym, ap, ◌∙◌, subst, arith, inl, inr}
 use Rattle.std.proofs.lemmas.Bool.{cases_Bool, cond_both, cond-true, cond-false, eqb-true, ne_eqb}
 use Rattle.std.proofs.lemmas.Bool.Decides.{nat_tests}
 use Rattle.text_core.specs.Bytes.{is_digit}
 use Rattle.btor_tree.specs.Parts.{Parts, numeral, cap}
 use Rattle.btor_tree.specs.Bytes.{number_after}
-use Rattle.btor_tree.proofs.Numerals.{numeral_from}
+use Rattle.btor_tree.proofs.Numerals.{all_digits, value_after, numeral_from, numeral_is}
 use Rattle.btor_witness.specs.Shapes.{on_number, single_shape, is_passed}
 use Rattle.btor_judge.specs.declared.first.First.{First}
 use Rattle.btor_judge.specs.declared.first.First.TheVariants.{Empty, S, Sa, Sat, Dot, Comment, Mark, Marked, Number, Other}
@@ -168,7 +168,7 @@ word_after [] first h = word_none first h
 word_after (b ∷ bs) first h = word_after bs (first_next first b) (word_next first b h)
 
 no_numeral : (b : ℕ) (bs : List ℕ) → is_digit b ≡ false → numeral (b ∷ bs) ≡ None
-no_numeral b bs f = rw f refl
+no_numeral b bs f = numeral_is b bs ∙ ap (λ t. cond (t && all_digits bs) (Some (min (value_after 0 (b ∷ bs)) cap)) None) f
 
 -- the number of a part
 pub number_is : (part : List ℕ) → first_number (first_of part) ≡ numeral part

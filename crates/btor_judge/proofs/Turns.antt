@@ -12,13 +12,14 @@ use Rattle.btor_frames.specs.Held.{Held, FramesFit}
 use Rattle.btor_witness.specs.declared.phase.Phase.{Phase}
 use Rattle.btor_witness.specs.declared.phase.Phase.TheVariants as phase
 use Rattle.btor_witness.specs.declared.shape.Shape.{Shape}
+use Rattle.btor_witness.specs.declared.shape.Shape.TheVariants.{Sat, Property, States, Inputs, End, Assignment}
 use Rattle.btor_witness.specs.declared.witness.Frame.{Frame}
 use Rattle.btor_witness.specs.Parts.{stating}
 use Rattle.btor_witness.specs.Sizes.{Sizes, sizes_of, is_within}
 use Rattle.btor_witness.specs.Shapes.{is_passed, shape_of}
-use Rattle.btor_witness.specs.Reading.{Reading, moves, done, bad, last_frame, frames_at, frames_of, sat_line, property_line, new_frame, states_line, inputs_line, with_states, with_inputs, assignment_line, end_line, step}
+use Rattle.btor_witness.specs.Reading.{Reading, moves, done, bad, last_frame, frames_at, frames_of, new_frame, step, with_stated, step_in}
 use Rattle.btor_witness.specs.Texts.{next_of}
-use Rattle.btor_witness.specs.Judging.{IsJudged}
+use Rattle.btor_witness.specs.Judging.{judged_btor}
 use Rattle.btor_witness.specs.laws.Laws.{at_passed, at_shape}
 use Rattle.btor_judge.specs.declared.reader.Reader.{Reader}
 use Rattle.btor_judge.specs.declared.reader.Stage.{Stage}
@@ -48,13 +49,13 @@ phase_not : (lines : List Line) (reader : Reader) (r : Reading) (p : Phase) → 
 phase_not lines reader r p h differs e = differs (h.same_phase ∙ e)
 
 -- the line `sat`
-pub at_sat : (lines : List Line) (reader : Reader) (r : Reading) → IsAt lines reader r → reader.phase ≡ phase.Start → Does lines r (sat_line r.phase r) (record reader { phase = phase.Property }) Going
+pub at_sat : (lines : List Line) (reader : Reader) (r : Reading) → IsAt lines reader r → reader.phase ≡ phase.Start → Does lines r (step_in (sizes_of lines) Sat r.phase r) (record reader { phase = phase.Property }) Going
 at_sat lines reader r h e =
     let p = phase_at lines reader r phase.Start h e in
-    (record r { phase = phase.Property }, inl (ap (λ q. sat_line q r) p), at_phase lines reader r phase.Property h (subst (IsFresh reader r.frames) p h.fresh))
+    (record r { phase = phase.Property }, inl (ap (λ q. step_in (sizes_of lines) Sat q r) p), at_phase lines reader r phase.Property h (subst (IsFresh reader r.frames) p h.fresh))
 
 -- the bad line
-pub at_property : (lines : List Line) (reader : Reader) (r : Reading) (n : ℕ) → IsAt lines reader r → reader.phase ≡ phase.Property → n < reader.bads → Does lines r (property_line (sizes_of lines) n r.phase r) (record reader { bad = n; phase = phase.Heading }) Going
+pub at_property : (lines : List Line) (reader : Reader) (r : Reading) (n : ℕ) → IsAt lines reader r → reader.phase ≡ phase.Property → n < reader.bads → Does lines r (step_in (sizes_of lines) (Property n) r.phase r) (record reader { bad = n; phase = phase.Heading }) Going
 at_property lines reader r n h e lt =
     let p = phase_at lines reader r phase.Property h e in
     let fresh = subst (IsFresh reader r.frames) p h.fresh in
@@ -62,7 +63,7 @@ at_property lines reader r n h e lt =
     let sizes = sizes_of lines in
     let there : ltb n sizes.bads ≡ true = lt-ltb n sizes.bads (subst (λ k. n < k) h.fits.bads lt) in (
       q,
-      inl (ap (λ x. property_line sizes n x r) p ∙ cond-true (ltb n sizes.bads) (moves q) (bad (X 2)) there),
+      inl (ap (λ x. step_in sizes (Property n) x r) p ∙ cond-true (ltb n sizes.bads) (moves q) (bad (X 2)) there),
       record {
         fits = record { bads = h.fits.bads; states = h.fits.states; inputs = h.fits.inputs; frames = h.fits.frames; places = h.fits.places };
         same_phase = refl;
@@ -76,39 +77,39 @@ at_property lines reader r n h e lt =
     )
 
 -- headings
-pub states_at : (lines : List Line) (reader : Reader) (r : Reading) (n : ℕ) (p : Phase) → IsAt lines reader r → reader.phase ≡ p → states_line (sizes_of lines) n r.phase r ≡ states_line (sizes_of lines) n p r
-states_at lines reader r n p h e = ap (λ x. states_line (sizes_of lines) n x r) (phase_at lines reader r p h e)
+pub states_at : (lines : List Line) (reader : Reader) (r : Reading) (n : ℕ) (p : Phase) → IsAt lines reader r → reader.phase ≡ p → step_in (sizes_of lines) (States n) r.phase r ≡ step_in (sizes_of lines) (States n) p r
+states_at lines reader r n p h e = ap (λ x. step_in (sizes_of lines) (States n) x r) (phase_at lines reader r p h e)
 
-states_new : (sizes : Sizes) (n : ℕ) (p : Phase) (r : Reading) → (p ≡ phase.Start → ⊥) → (p ≡ phase.Property → ⊥) → states_line sizes n p r ≡ new_frame sizes phase.States n r
+states_new : (sizes : Sizes) (n : ℕ) (p : Phase) (r : Reading) → (p ≡ phase.Start → ⊥) → (p ≡ phase.Property → ⊥) → step_in sizes (States n) p r ≡ new_frame sizes phase.States n r
 states_new sizes n phase.Start r differs none = absurd (differs refl)
 states_new sizes n phase.Property r differs none = absurd (none refl)
 states_new sizes n phase.Heading r differs none = refl
 states_new sizes n phase.States r differs none = refl
 states_new sizes n phase.Inputs r differs none = refl
 
-pub states_frame : (lines : List Line) (reader : Reader) (r : Reading) (n : ℕ) → IsAt lines reader r → (reader.phase ≡ phase.Start → ⊥) → (reader.phase ≡ phase.Property → ⊥) → states_line (sizes_of lines) n r.phase r ≡ new_frame (sizes_of lines) phase.States n r
+pub states_frame : (lines : List Line) (reader : Reader) (r : Reading) (n : ℕ) → IsAt lines reader r → (reader.phase ≡ phase.Start → ⊥) → (reader.phase ≡ phase.Property → ⊥) → step_in (sizes_of lines) (States n) r.phase r ≡ new_frame (sizes_of lines) phase.States n r
 states_frame lines reader r n h differs none = states_new (sizes_of lines) n r.phase r (phase_not lines reader r phase.Start h differs) (phase_not lines reader r phase.Property h none)
 
-pub inputs_at : (lines : List Line) (reader : Reader) (r : Reading) (n : ℕ) (p : Phase) → IsAt lines reader r → reader.phase ≡ p → inputs_line (sizes_of lines) n r.phase r ≡ inputs_line (sizes_of lines) n p r
-inputs_at lines reader r n p h e = ap (λ x. inputs_line (sizes_of lines) n x r) (phase_at lines reader r p h e)
+pub inputs_at : (lines : List Line) (reader : Reader) (r : Reading) (n : ℕ) (p : Phase) → IsAt lines reader r → reader.phase ≡ p → step_in (sizes_of lines) (Inputs n) r.phase r ≡ step_in (sizes_of lines) (Inputs n) p r
+inputs_at lines reader r n p h e = ap (λ x. step_in (sizes_of lines) (Inputs n) x r) (phase_at lines reader r p h e)
 
-inputs_new : (sizes : Sizes) (n : ℕ) (p : Phase) (r : Reading) → (p ≡ phase.Start → ⊥) → (p ≡ phase.Property → ⊥) → (p ≡ phase.States → ⊥) → inputs_line sizes n p r ≡ new_frame sizes phase.Inputs n r
+inputs_new : (sizes : Sizes) (n : ℕ) (p : Phase) (r : Reading) → (p ≡ phase.Start → ⊥) → (p ≡ phase.Property → ⊥) → (p ≡ phase.States → ⊥) → step_in sizes (Inputs n) p r ≡ new_frame sizes phase.Inputs n r
 inputs_new sizes n phase.Start r differs none other = absurd (differs refl)
 inputs_new sizes n phase.Property r differs none other = absurd (none refl)
 inputs_new sizes n phase.Heading r differs none other = refl
 inputs_new sizes n phase.States r differs none other = absurd (other refl)
 inputs_new sizes n phase.Inputs r differs none other = refl
 
-pub inputs_frame : (lines : List Line) (reader : Reader) (r : Reading) (n : ℕ) → IsAt lines reader r → (reader.phase ≡ phase.Start → ⊥) → (reader.phase ≡ phase.Property → ⊥) → (reader.phase ≡ phase.States → ⊥) → inputs_line (sizes_of lines) n r.phase r ≡ new_frame (sizes_of lines) phase.Inputs n r
+pub inputs_frame : (lines : List Line) (reader : Reader) (r : Reading) (n : ℕ) → IsAt lines reader r → (reader.phase ≡ phase.Start → ⊥) → (reader.phase ≡ phase.Property → ⊥) → (reader.phase ≡ phase.States → ⊥) → step_in (sizes_of lines) (Inputs n) r.phase r ≡ new_frame (sizes_of lines) phase.Inputs n r
 inputs_frame lines reader r n h differs none other = inputs_new (sizes_of lines) n r.phase r (phase_not lines reader r phase.Start h differs) (phase_not lines reader r phase.Property h none) (phase_not lines reader r phase.States h other)
 
 -- inputs of the frame whose states were read
-pub at_inputs : (lines : List Line) (reader : Reader) (r : Reading) (n : ℕ) → IsAt lines reader r → reader.phase ≡ phase.States → n ≡ reader.count → Does lines r (inputs_line (sizes_of lines) n r.phase r) (record reader { phase = phase.Inputs }) Going
+pub at_inputs : (lines : List Line) (reader : Reader) (r : Reading) (n : ℕ) → IsAt lines reader r → reader.phase ≡ phase.States → n ≡ reader.count → Does lines r (step_in (sizes_of lines) (Inputs n) r.phase r) (record reader { phase = phase.Inputs }) Going
 at_inputs lines reader r n h e same =
     let q : Reading = record r { phase = phase.Inputs } in
     (q, inl (inputs_at lines reader r n phase.States h e ∙ cond-true (eqb n (length r.frames)) (moves q) (new_frame (sizes_of lines) phase.Inputs n r) (eq-eqb n (length r.frames) (same ∙ h.counted))), at_phase lines reader r phase.Inputs h tt)
 
-pub other_inputs : (lines : List Line) (reader : Reader) (r : Reading) (n : ℕ) → IsAt lines reader r → reader.phase ≡ phase.States → (n ≡ reader.count → ⊥) → inputs_line (sizes_of lines) n r.phase r ≡ new_frame (sizes_of lines) phase.Inputs n r
+pub other_inputs : (lines : List Line) (reader : Reader) (r : Reading) (n : ℕ) → IsAt lines reader r → reader.phase ≡ phase.States → (n ≡ reader.count → ⊥) → step_in (sizes_of lines) (Inputs n) r.phase r ≡ new_frame (sizes_of lines) phase.Inputs n r
 other_inputs lines reader r n h e other =
     inputs_at lines reader r n phase.States h e ∙ cond-false (eqb n (length r.frames)) (moves (record r { phase = phase.Inputs })) (new_frame (sizes_of lines) phase.Inputs n r) (ne_eqb n (length r.frames) (λ same. other (same ∙ sym h.counted)))
 
@@ -186,14 +187,14 @@ closed_one lines old held verdict r h e fits judged =
 
 -- statements
 pub at_states : (lines : List Line) (reader : Reader) (r : Reading) (i : ℕ) (word : Option BitVector) (stated : Result (Unit {0}) Kind) (stage : Stage) (new : Kept) → IsAt lines reader r → reader.phase ≡ phase.States → new.widths ≡ reader.states.widths
-    → IsStating (stating reader.states.widths r.states i word) new stated → IsStageOf stated stage → Does lines r (assignment_line (sizes_of lines) i word r.phase r) (record reader { states = new }) stage
+    → IsStating (stating reader.states.widths r.states i word) new stated → IsStageOf stated stage → Does lines r (step_in (sizes_of lines) (Assignment i word) r.phase r) (record reader { states = new }) stage
 at_states lines reader r i word (Ok u) stage new h e w is stays =
     let q : Reading = record r { states = is.0 } in
     let p = phase_at lines reader r phase.States h e in
     let stating_is : stating (sizes_of lines).states r.states i word ≡ Ok is.0 = ap (λ ws. stating ws r.states i word) (sym h.fits.states) ∙ is.1 in
-    subst (λ s. Does lines r (assignment_line (sizes_of lines) i word r.phase r) (record reader { states = new }) s) (sym stays) (
+    subst (λ s. Does lines r (step_in (sizes_of lines) (Assignment i word) r.phase r) (record reader { states = new }) s) (sym stays) (
       q,
-      inl (ap (λ x. assignment_line (sizes_of lines) i word x r) p ∙ ap (with_states r) stating_is),
+      inl (ap (λ x. step_in (sizes_of lines) (Assignment i word) x r) p ∙ ap (with_stated (λ states. record r { states = states })) stating_is),
       record {
         fits = record { bads = h.fits.bads; states = w ∙ h.fits.states; inputs = h.fits.inputs; frames = h.fits.frames; places = h.fits.places };
         same_phase = h.same_phase;
@@ -207,18 +208,18 @@ at_states lines reader r i word (Ok u) stage new h e w is stays =
     )
 at_states lines reader r i word (Err kind) stage new h e w is stays =
     let stating_is : stating (sizes_of lines).states r.states i word ≡ Err kind = ap (λ ws. stating ws r.states i word) (sym h.fits.states) ∙ is in
-    subst (λ s. Does lines r (assignment_line (sizes_of lines) i word r.phase r) (record reader { states = new }) s) (sym stays)
-    (ap (λ x. assignment_line (sizes_of lines) i word x r) (phase_at lines reader r phase.States h e) ∙ ap (with_states r) stating_is)
+    subst (λ s. Does lines r (step_in (sizes_of lines) (Assignment i word) r.phase r) (record reader { states = new }) s) (sym stays)
+    (ap (λ x. step_in (sizes_of lines) (Assignment i word) x r) (phase_at lines reader r phase.States h e) ∙ ap (with_stated (λ states. record r { states = states })) stating_is)
 
 pub at_input : (lines : List Line) (reader : Reader) (r : Reading) (i : ℕ) (word : Option BitVector) (stated : Result (Unit {0}) Kind) (stage : Stage) (new : Kept) → IsAt lines reader r → reader.phase ≡ phase.Inputs → new.widths ≡ reader.inputs.widths
-    → IsStating (stating reader.inputs.widths r.inputs i word) new stated → IsStageOf stated stage → Does lines r (assignment_line (sizes_of lines) i word r.phase r) (record reader { inputs = new }) stage
+    → IsStating (stating reader.inputs.widths r.inputs i word) new stated → IsStageOf stated stage → Does lines r (step_in (sizes_of lines) (Assignment i word) r.phase r) (record reader { inputs = new }) stage
 at_input lines reader r i word (Ok u) stage new h e w is stays =
     let q : Reading = record r { inputs = is.0 } in
     let p = phase_at lines reader r phase.Inputs h e in
     let stating_is : stating (sizes_of lines).inputs r.inputs i word ≡ Ok is.0 = ap (λ ws. stating ws r.inputs i word) (sym h.fits.inputs) ∙ is.1 in
-    subst (λ s. Does lines r (assignment_line (sizes_of lines) i word r.phase r) (record reader { inputs = new }) s) (sym stays) (
+    subst (λ s. Does lines r (step_in (sizes_of lines) (Assignment i word) r.phase r) (record reader { inputs = new }) s) (sym stays) (
       q,
-      inl (ap (λ x. assignment_line (sizes_of lines) i word x r) p ∙ ap (with_inputs r) stating_is),
+      inl (ap (λ x. step_in (sizes_of lines) (Assignment i word) x r) p ∙ ap (with_stated (λ inputs. record r { inputs = inputs })) stating_is),
       record {
         fits = record { bads = h.fits.bads; states = h.fits.states; inputs = w ∙ h.fits.inputs; frames = h.fits.frames; places = h.fits.places };
         same_phase = h.same_phase;
@@ -232,24 +233,24 @@ at_input lines reader r i word (Ok u) stage new h e w is stays =
     )
 at_input lines reader r i word (Err kind) stage new h e w is stays =
     let stating_is : stating (sizes_of lines).inputs r.inputs i word ≡ Err kind = ap (λ ws. stating ws r.inputs i word) (sym h.fits.inputs) ∙ is in
-    subst (λ s. Does lines r (assignment_line (sizes_of lines) i word r.phase r) (record reader { inputs = new }) s) (sym stays)
-    (ap (λ x. assignment_line (sizes_of lines) i word x r) (phase_at lines reader r phase.Inputs h e) ∙ ap (with_inputs r) stating_is)
+    subst (λ s. Does lines r (step_in (sizes_of lines) (Assignment i word) r.phase r) (record reader { inputs = new }) s) (sym stays)
+    (ap (λ x. step_in (sizes_of lines) (Assignment i word) x r) (phase_at lines reader r phase.Inputs h e) ∙ ap (with_stated (λ inputs. record r { inputs = inputs })) stating_is)
 
 -- the end
-end_in : (p : Phase) (r : Reading) → (p ≡ phase.States) ⊎ (p ≡ phase.Inputs) → end_line p r ≡ done (record { bad = r.bad; frames = frames_of r })
-end_in p r (inl e) = ap (λ x. end_line x r) e
-end_in p r (inr e) = ap (λ x. end_line x r) e
+end_in : (sizes : Sizes) (p : Phase) (r : Reading) → (p ≡ phase.States) ⊎ (p ≡ phase.Inputs) → step_in sizes End p r ≡ done (record { bad = r.bad; frames = frames_of r })
+end_in sizes p r (inl e) = ap (λ x. step_in sizes End x r) e
+end_in sizes p r (inr e) = ap (λ x. step_in sizes End x r) e
 
-pub at_end : (lines : List Line) (old : Reader) (held : Held) (verdict : Verdict) (r : Reading) → IsAt lines old r → (old.phase ≡ phase.States) ⊎ (old.phase ≡ phase.Inputs) → JudgesFrame lines true held old.count old.bad r.frames (last_frame r) verdict → Does lines r (end_line r.phase r) (record old { frames = held; verdict = verdict }) Done
+pub at_end : (lines : List Line) (old : Reader) (held : Held) (verdict : Verdict) (r : Reading) → IsAt lines old r → (old.phase ≡ phase.States) ⊎ (old.phase ≡ phase.Inputs) → JudgesFrame lines true held old.count old.bad r.frames (last_frame r) verdict → Does lines r (step_in (sizes_of lines) End r.phase r) (record old { frames = held; verdict = verdict }) Done
 at_end lines old held verdict r h is judged =
     let there : (r.phase ≡ phase.States) ⊎ (r.phase ≡ phase.Inputs) = elim is [ inl e ↦ inl (phase_at lines old r phase.States h e) | inr e ↦ inr (phase_at lines old r phase.Inputs h e) ] in
     let e = frame_in r.phase r there in (
       record { bad = r.bad; frames = frames_of r },
-      end_in r.phase r there,
+      end_in (sizes_of lines) r.phase r there,
       record {
         bad = sym h.same_bad;
         steps = ap length e ∙ length_push r.frames (last_frame r) ∙ ap (λ n. n + 1) (sym h.counted);
-        verdict = subst (λ fs. IsJudged lines (record { bad = r.bad; frames = fs }) verdict) (sym e) (subst (λ j. IsJudged lines (record { bad = j; frames = r.frames ++ last_frame r ∷ [] }) verdict) h.same_bad judged);
+        verdict = subst (λ fs. judged_btor lines (record { bad = r.bad; frames = fs }) verdict) (sym e) (subst (λ j. judged_btor lines (record { bad = j; frames = r.frames ++ last_frame r ∷ [] }) verdict) h.same_bad judged);
       },
     )
 

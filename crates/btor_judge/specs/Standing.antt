@@ -18,7 +18,7 @@ use Rattle.btor_witness.specs.Sizes.{sizes_of, widths_of}
 use Rattle.btor_witness.specs.Reading.{Reading, frames_of, Next, nothing, moves, done, bad}
 use Rattle.btor_witness.specs.Fitting.{FitsAt}
 use Rattle.btor_witness.specs.Printing.{IsPart}
-use Rattle.btor_witness.specs.Judging.{statement_of, OnStated, Passes, FailsFirst, IsJudgedAfter, IsJudged}
+use Rattle.btor_witness.specs.Judging.{statement_of, OnStated, Passes, FailsFirst, IsJudgedAfter, judged_btor}
 use Rattle.btor_witness.specs.Room.{places_of}
 use Rattle.btor_judge.specs.declared.reader.Reader.{Reader}
 use Rattle.btor_judge.specs.declared.reader.Stage.{Stage}
@@ -86,7 +86,7 @@ AgreesAt places row kept k = get_or kept.marks k false ≡ true → (place : ℕ
 
 -- one frame more is judged with this verdict: the last one, or one that another follows
 abbrev pub JudgesFrame : List Line → Bool → Held → ℕ → ℕ → List Frame → Frame → Verdict → Type 0
-JudgesFrame lines true held count j before f verdict = IsJudged lines (record { bad = j; frames = before ++ f ∷ [] }) verdict
+JudgesFrame lines true held count j before f verdict = judged_btor lines (record { bad = j; frames = before ++ f ∷ [] }) verdict
 JudgesFrame lines false held count j before f verdict = AreJudged lines held (count + 1) j (before ++ f ∷ []) verdict
 
 -- the frame that the reader held is judged too, behind any others: as the last one, or as one that another follows
@@ -117,7 +117,7 @@ pub record HasClosed (lines : List Line) (reader : Reader) (r : Reading) : Type 
 pub record HasJudged (lines : List Line) (reader : Reader) (w : Witness) : Type 0 where
   pub bad : w.bad ≡ reader.bad
   pub steps : length w.frames ≡ reader.count + 1
-  pub verdict : IsJudged lines w reader.verdict
+  pub verdict : judged_btor lines w reader.verdict
 
 -- what a line does to a reader that stood where a reading does
 abbrev pub Does : List Line → Reading → Next → Reader → Stage → Type 0

@@ -8,7 +8,8 @@ ghost use Rattle.btor_witness.specs.declared.phase.Phase.TheVariants as phase;
 ghost use Rattle.btor_witness.specs.declared.witness.Frame.{Frame};
 ghost use Rattle.btor_witness.specs.Bytes.{line_parts};
 ghost use Rattle.btor_witness.specs.Sizes.{sizes_of, is_within};
-ghost use Rattle.btor_witness.specs.Reading.{Reading, begin, frames_of, sat_line, property_line, justice_line, new_frame, states_line, inputs_line, assignment_line, end_line, step};
+ghost use Rattle.btor_witness.specs.declared.shape.Shape.TheVariants as line;
+ghost use Rattle.btor_witness.specs.Reading.{Reading, begin, frames_of, new_frame, step};
 ghost use Rattle.btor_witness.specs.Texts.{next_of};
 ghost use Rattle.btor_witness.specs.Room.{IsWordThere, places_of};
 ghost use Rattle.btor_judge.specs.Scanning.{line_of};
@@ -103,7 +104,7 @@ impl Reader {
     }
 
     fn sat_line(&mut self) -> Stage
-        ensures { (lines : List TreeLine) (r : Reading) → IsAt lines self.old r → Does lines r (sat_line r.phase r) self.new result }
+        ensures { (lines : List TreeLine) (r : Reading) → IsAt lines self.old r → Does lines r (step (sizes_of lines) r line.Sat) self.new result }
     {
         match self.phase {
             Phase::Start => {
@@ -115,7 +116,7 @@ impl Reader {
     }
 
     fn property_line(&mut self, number: u32) -> Stage
-        ensures { (lines : List TreeLine) (r : Reading) → IsAt lines self.old r → Does lines r (property_line (sizes_of lines) number r.phase r) self.new result }
+        ensures { (lines : List TreeLine) (r : Reading) → IsAt lines self.old r → Does lines r (step (sizes_of lines) r (line.Property number)) self.new result }
     {
         match self.phase {
             Phase::Property => {
@@ -131,7 +132,7 @@ impl Reader {
     }
 
     fn justice_line(&self) -> Stage
-        ensures { (lines : List TreeLine) (r : Reading) → IsAt lines self.now r → Does lines r (justice_line r.phase) self.now result }
+        ensures { (lines : List TreeLine) (r : Reading) (number : ℕ) → IsAt lines self.now r → Does lines r (step (sizes_of lines) r (line.Justice number)) self.now result }
     {
         match self.phase {
             Phase::Property => Stage::Refused(witness::JUSTICE),
@@ -141,7 +142,7 @@ impl Reader {
 
     fn states_line(&mut self, nodes: &Nodes, number: u32) -> Stage
         requires { IsSomewhere nodes.now self.old }
-        ensures { (r : Reading) → StandsIn nodes.now self.old r → Does nodes.now r (states_line (sizes_of nodes.now) number r.phase r) self.new result }
+        ensures { (r : Reading) → StandsIn nodes.now self.old r → Does nodes.now r (step (sizes_of nodes.now) r (line.States number)) self.new result }
     {
         match self.phase {
             Phase::Start => Stage::Refused(witness::LINE),
@@ -152,7 +153,7 @@ impl Reader {
 
     fn inputs_line(&mut self, nodes: &Nodes, number: u32) -> Stage
         requires { IsSomewhere nodes.now self.old }
-        ensures { (r : Reading) → StandsIn nodes.now self.old r → Does nodes.now r (inputs_line (sizes_of nodes.now) number r.phase r) self.new result }
+        ensures { (r : Reading) → StandsIn nodes.now self.old r → Does nodes.now r (step (sizes_of nodes.now) r (line.Inputs number)) self.new result }
     {
         match self.phase {
             Phase::Start => Stage::Refused(witness::LINE),
@@ -300,7 +301,7 @@ impl Reader {
     }
 
     fn assignment_line(&mut self, index: u32, word: Option<Word>) -> Stage
-        ensures { (lines : List TreeLine) (r : Reading) → IsAt lines self.old r → Does lines r (assignment_line (sizes_of lines) index word r.phase r) self.new result }
+        ensures { (lines : List TreeLine) (r : Reading) → IsAt lines self.old r → Does lines r (step (sizes_of lines) r (line.Assignment index word)) self.new result }
     {
         match self.phase {
             Phase::States => stage_of(self.states.state(index, word)),
@@ -311,7 +312,7 @@ impl Reader {
 
     fn end_line(&mut self, nodes: &Nodes) -> Stage
         requires { IsSomewhere nodes.now self.old }
-        ensures { (r : Reading) → StandsIn nodes.now self.old r → Does nodes.now r (end_line r.phase r) self.new result }
+        ensures { (r : Reading) → StandsIn nodes.now self.old r → Does nodes.now r (step (sizes_of nodes.now) r line.End) self.new result }
     {
         match self.phase {
             Phase::States => {

@@ -10,7 +10,7 @@ use Rattle.btor_tree.specs.Reading.{shape_of, shaped_next, resolved, next_of}
 use Rattle.btor_tree.specs.Resolving.{Fault, resolve}
 use Rattle.btor_tree.specs.Texts.{Next, nothing, good, faulty, IsNext, Reads, passed, line, Refuses, here, past_blank, past_line, SpellsLines, RefusesText}
 use Rattle.btor_tree.proofs.Fronts.{split_line}
-use Rattle.btor_tree.proofs.Readings.{next_there, one_list, no_list, one_fault}
+use Rattle.btor_tree.proofs.Readings.{next_there, nothing_is, good_is, one_list, no_list, one_fault}
 use Rattle.btor_tree.proofs.ShapeLaws.{shape_from}
 use Rattle.btor_tree.proofs.Resolved.{resolve_fits}
 use Rattle.btor_text.specs.Seen.{seen_fault}
@@ -38,9 +38,10 @@ found_fits before sh ps l e f = subst (λ (r : Result Line Fault). IfOk r (λ k.
 goes_on : (n : ℕ) (before after : List Line) (raw : List ℕ) (raws : Parts) (x : Next) → IsNext before (line_parts raw) x → Takes x before after
     → ((all : List Line) → Reads after raws all → Reads before (raw ∷ raws) all) × ((k : Fault) (at : ℕ) → Refuses (n + 1) after raws k at → Refuses n before (raw ∷ raws) k at)
 goes_on n before after raw raws nothing a e =
-    (λ all h. passed a (subst (λ x. Reads x raws all) e h), λ k at h. past_blank a (subst (λ x. Refuses (n + 1) x raws k at) e h))
+    (λ all h. passed (nothing_is a refl) (subst (λ x. Reads x raws all) e h), λ k at h. past_blank a (subst (λ x. Refuses (n + 1) x raws k at) e h))
 goes_on n before after raw raws (good l) a e =
-    (λ all h. line l a (subst (λ x. Reads x raws all) e h), λ k at h. past_line l a (subst (λ x. Refuses (n + 1) x raws k at) e h))
+    let said = good_is l a refl in
+    (λ all h. line said.0 l said.1 said.2 (subst (λ x. Reads x raws all) e h), λ k at h. past_line l a (subst (λ x. Refuses (n + 1) x raws k at) e h))
 goes_on n before after raw raws (faulty k) a e = absurd e
 
 pub reads_on : (n : ℕ) (before after : List Line) (raw : List ℕ) (raws : Parts) → Takes (next_of before (line_parts raw)) before after

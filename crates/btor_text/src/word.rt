@@ -1,7 +1,10 @@
 // The words of lines, and the digits of constants.
 ghost use Rattle.std.specs.Prelude.{◌≡◌, map, option_map};
+ghost use Rattle.std.specs.List.{list_any};
+ghost use Rattle.std.specs.Str.{bytes_eq};
 ghost use Rattle.word_core.specs.Digits.{digit_number};
-ghost use Rattle.btor_tree.specs.Shapes.{are_digits, is_among, is_literal, is_negative, is_unsupported, magnitude_of};
+ghost use Rattle.btor_tree.specs.Bytes.{are_digits};
+ghost use Rattle.btor_tree.specs.Shapes.{is_literal, is_negative, is_unsupported, magnitude_of};
 ghost use Rattle.btor_tree.specs.Reading.{word_of};
 ghost use Rattle.btor_tree.specs.Resolving.{literal_word, minus_word};
 ghost use Rattle.btor_text.specs.Seen.{entry, look_up, seen_base, seen_word, texts};
@@ -147,7 +150,7 @@ pub fn word_of(text: &[u8]) -> Option<LineWord>
 }
 
 fn is_among(text: &[u8], table: &[&[u8]]) -> bool
-    ensures { result ≡ is_among (texts table.now) text.now }
+    ensures { result ≡ list_any (λ w. bytes_eq text.now w) (texts table.now) }
 {
     for bytes in table {
         if text == *bytes {
@@ -208,6 +211,7 @@ fn is_negative(text: &[u8]) -> bool
 }
 
 /// Whether these are digits of a constant of this kind.
+#[tactic(auto, using(btor_tree::proofs::Literals::digits_tested))]
 pub fn is_literal(kind: Base, text: &[u8]) -> bool
     ensures { result ≡ is_literal (seen_base kind) text.now }
 {

@@ -11,8 +11,9 @@ use Rattle.btor_tree.specs.declared.args.Arg.{Arg}
 use Rattle.btor_tree.specs.declared.lines.Line.{Line}
 use Rattle.btor_tree.specs.declared.lines.LineOp.{LineOp}
 use Rattle.btor_tree.specs.declared.lines.LineOp.TheVariants as op
-use Rattle.btor_tree.specs.Fits.{sort_at, sort_width, width_of_sort}
+use Rattle.btor_tree.specs.Fits.{sort_at, sort_width}
 use Rattle.btor_tree.specs.Sharing.{is_shared, unary_number, binary_number, op_kind, op_number, op_second, same_op, same_sign, same_arg, same_args, is_alike, place_alike, standing, next_line, placed, pushed, Says, SaysAt, GrowsQuietly, HasNoTwoAlike, Push, built}
+use Rattle.btor_tree.proofs.AtPlaces.{width_of_sort}
 use Rattle.btor_tree.proofs.Grows.{push_cases, slice_get_end}
 
 abbrev unaries : List Unary

@@ -7,9 +7,10 @@ use Rattle.btor_tree.specs.declared.args.Arg.{Arg}
 use Rattle.btor_tree.specs.declared.lines.Line.{Line}
 use Rattle.btor_tree.specs.declared.lines.LineOp.{LineOp}
 use Rattle.btor_tree.specs.declared.lines.LineOp.TheVariants as op
-use Rattle.btor_tree.specs.Fits.{Suits, IsWellFormed, has_word, greatest_id, last_id, sort_at, width_at, width_of_line}
+use Rattle.btor_tree.specs.Fits.{Suits, IsWellFormed, has_word, greatest_id, last_id, sort_at, width_at}
 use Rattle.btor_tree.specs.Frame.{Equation, Meets, word_at, constant_word}
 use Rattle.btor_tree.specs.Sharing.{standing, next_line, placed, pushed, SaysAt}
+use Rattle.btor_tree.proofs.AtPlaces.{width_of_line}
 use Rattle.btor_tree.proofs.Grows.{slice_get_end, last_push, meets_front, well_formed_push}
 use Rattle.btor_tree.proofs.Widths.{sort_front, sort_there}
 use Rattle.btor_tree.proofs.Alike.{standing_says}

@@ -1,3 +1,4 @@
+pub mod AtPlaces
 pub mod Grows
 pub mod Alike
 pub mod TwoLevels

@@ -1,6 +1,6 @@
 -- Constants: what digits spell is a word of its width, and the digits of a word spell it.
 use Rattle.std.proofs.Common.{◌≡◌, ℕ, zero, suc, ◌+◌, ◌-◌, ◌*◌, ◌/◌, ◌%◌, ◌<◌, ◌≤◌, ◌^◌, ◌&&◌, ◌⊎◌, Bool, true, false, cond, eqb, ltb, leb, List, [], ◌∷◌, ◌++◌, length, Option, Some, None, refl, sym, ap, ◌∙◌, subst, arith, inl, inr}
-use Rattle.std.specs.Prelude.{option_and_then}
+use Rattle.std.specs.Prelude.{is_some, option_and_then}
 use Rattle.std.proofs.lemmas.Bool.{cond-true, lt-ltb, le-leb, eq-eqb, ltb-true, leb-true, and_parts, and_from}
 use Rattle.std.proofs.lemmas.Option.{same_Some, none-some}
 use Rattle.std.proofs.lemmas.List.{length_push}
@@ -11,8 +11,9 @@ use Rattle.word_core.specs.declared.kinds.Unary.TheVariants.{Neg}
 use Rattle.word_core.specs.Table.{unary_of}
 use Rattle.word_core.specs.Digits.{digit_number, number_after, digits_value, fitted, read_word}
 use Rattle.word_core.specs.laws.Rows.{unary_is_word}
+use Rattle.btor_tree.specs.Bytes.{all_of_base, are_digits}
 use Rattle.btor_tree.specs.Parts.{is_symbol_byte, all_symbol, is_symbol}
-use Rattle.btor_tree.specs.Shapes.{Base, in_binary, in_decimal, in_hex, all_of_base, are_digits, is_negative, magnitude_of}
+use Rattle.btor_tree.specs.Shapes.{Base, in_binary, in_decimal, in_hex, is_negative, magnitude_of}
 use Rattle.btor_tree.specs.Resolving.{minus_word, literal_word}
 use Rattle.btor_tree.proofs.Widths.{IsOfWidth}
 
@@ -107,8 +108,20 @@ some_digits (x ∷ xs) h e = e
 pub digits_part : (w n : ℕ) → 1 ≤ w → is_symbol (binary_digits w n) ≡ true
 digits_part w n h = some_symbol (binary_digits w n) (omega (arith, h, digits_long w n)) (digits_symbol w n)
 
-pub digits_are : (w n : ℕ) → 1 ≤ w → are_digits 2 (binary_digits w n) ≡ true
-digits_are w n h = some_digits (binary_digits w n) (omega (arith, h, digits_long w n)) (digits_of_base w n)
+-- digits stand for a number where each is one of the base
+number_there : (base : ℕ) (bs : List ℕ) (n : ℕ) → is_some (number_after base n bs) ≡ all_of_base base bs
+number_there base [] n = refl
+number_there base (b ∷ bs) n = choice (ltb (digit_number b) base) _ (number_there base bs (n * base + digit_number b)) where
+  choice : (digit : Bool) (o : Option ℕ) → is_some o ≡ all_of_base base bs → is_some (cond digit o None) ≡ digit && all_of_base base bs
+  choice true o e = e
+  choice false o e = refl
+
+pub digits_tested : (base : ℕ) (text : List ℕ) → is_some (digits_value base text) ≡ are_digits base text
+digits_tested base [] = refl
+digits_tested base (b ∷ bs) = number_there base (b ∷ bs) 0
+
+pub digits_are : (w n : ℕ) → 1 ≤ w → is_some (digits_value 2 (binary_digits w n)) ≡ true
+digits_are w n h = digits_tested 2 (binary_digits w n) ∙ some_digits (binary_digits w n) (omega (arith, h, digits_long w n)) (digits_of_base w n)
 
 -- one more digit behind those before
 one_behind : (d : ℕ) → ℕ → Option ℕ

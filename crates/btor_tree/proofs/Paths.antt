@@ -12,8 +12,9 @@ use Rattle.btor_tree.specs.declared.args.Arg.{Arg}
 use Rattle.btor_tree.specs.declared.lines.Line.{Line}
 use Rattle.btor_tree.specs.declared.lines.LineOp.{LineOp}
 use Rattle.btor_tree.specs.declared.lines.LineOp.TheVariants.{Input, State, Constant, One, Zero, Ones, Init, Next}
-use Rattle.btor_tree.specs.Fits.{OnTwo, AreEarlier, OpFits, GivesValue, InitRule, IsWellFormed, sort_at, width_at, width_of_line, has_word, state_value, value_in, value_for, operands, is_init, is_next, is_state, is_constant, is_kind, kind_at}
+use Rattle.btor_tree.specs.Fits.{OnTwo, AreEarlier, OpFits, GivesValue, InitRule, IsWellFormed, sort_at, width_at, has_word, state_value, value_in, value_for, operands, is_init, is_next, is_state, is_constant, kind_at}
 use Rattle.btor_tree.specs.Frame.{GivenFits, FreeFits, read_or, word_at, signed_word, operand, constant_word, constant_of, init_operand, Equation, Meets, IsFrame, InitsHold, NextsHold, Follow, IsPath}
+use Rattle.btor_tree.proofs.AtPlaces.{width_of_line, is_kind}
 use Rattle.btor_tree.proofs.Grows.{slice_get_front, slice_get_inside, well_formed_front}
 use Rattle.btor_tree.proofs.Words.{SameBelow, computed}
 use Rattle.btor_tree.proofs.Widths.{option_cases, line_at, width_front, sort_front, sort_there, IsOfWidth, operand_is, signed_is, one_lt, sort_small, wide}

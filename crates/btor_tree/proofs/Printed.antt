@@ -20,14 +20,15 @@ use Rattle.btor_tree.specs.declared.args.Arg.{Arg}
 use Rattle.btor_tree.specs.declared.lines.Line.{Line}
 use Rattle.btor_tree.specs.declared.lines.LineOp.{LineOp}
 use Rattle.btor_tree.specs.declared.lines.LineOp.TheVariants as op
-use Rattle.btor_tree.specs.Fits.{Fits, OpFits, IsWellFormed, last_id, sort_at, width_at, width_of_sort, width_of_line, kind_at, is_state, is_init, is_next, is_constant, InitRule, GivesValue, IsSymbol}
+use Rattle.btor_tree.specs.Fits.{Fits, OpFits, IsWellFormed, last_id, sort_at, width_at, kind_at, is_state, is_init, is_next, is_constant, InitRule, GivesValue, IsSymbol}
 use Rattle.text_core.specs.Bytes.{is_digit}
-use Rattle.btor_tree.specs.Parts.{Parts, is_symbol, cap, all_digits, numeral, raw_lines, line_parts}
-use Rattle.btor_tree.specs.Shapes.{Operand, Nullary, input, state, one, zero, ones, in_binary, Extension, uext, sext, Binding, init, next, Property, bad, constraint, output, Content, sort_content, nullary_content, constant_content, binding_content, property_content, unary_content, binary_content, ite_content, slice_content, extension_content, Shape, nullary_text, binding_text, property_text, extension_text, unary_text, binary_text, minus, plus, operand_of, symbol_parts, SpellsContent}
-use Rattle.btor_tree.specs.Resolving.{place_of_id, sort_of_id, state_of_id, word_of_id, nullary_op, property_op, extension_op, property_takes, is_supported, binary_fits, is_in_time, filled, resolve_content}
-use Rattle.btor_tree.specs.Texts.{IsNext, blank, spelled, good, Reads, ends, passed, line, SpellsLines}
+use Rattle.btor_tree.specs.Parts.{Parts, is_symbol, cap, numeral, raw_lines}
+use Rattle.btor_tree.specs.Shapes.{Operand, Nullary, input, state, one, zero, ones, in_binary, Extension, uext, sext, Binding, init, next, Property, bad, constraint, output, Content, sort_content, nullary_content, constant_content, binding_content, property_content, unary_content, binary_content, ite_content, slice_content, extension_content, Shape, nullary_text, binding_text, property_text, extension_text, unary_text, binary_text, operand_of, symbol_parts, SpellsContent, Spells}
+use Rattle.btor_tree.specs.Resolving.{place_of_id, sort_of_id, state_of_id, word_of_id, nullary_op, property_op, extension_op, property_takes, is_supported, binary_fits, is_in_time, filled, resolve_content, resolve}
+use Rattle.btor_tree.specs.Texts.{Reads, ends, passed, line, SpellsLines}
 use Rattle.btor_tree.specs.Printing.{id_at, operand_text, op_text, sort_parts, number_parts, printed_rest, spaced, line_text, printed}
-use Rattle.btor_tree.proofs.Numerals.{numeral_again, decimal_digits}
+use Rattle.btor_tree.proofs.AtPlaces.{width_of_sort, width_of_line}
+use Rattle.btor_tree.proofs.Numerals.{all_digits, numeral_again, decimal_digits}
 use Rattle.btor_tree.proofs.PartLaws.{AllParts, parts_append, symbol_bytes, joined_parts, joined_end, decimal_part, line_at, symbol_test}
 use Rattle.btor_tree.proofs.Widths.{sort_small, width_small}
 use Rattle.btor_tree.proofs.Literals.{digits_part, digits_are, literal_again}
@@ -58,17 +59,21 @@ state_back before lines h x le e = place_back before lines h x (λ i. kind_at is
 abbrev back : List Line → Arg → Operand
 back lines a = record { id = id_at lines a.line; negated = a.negated }
 
-no_minus : (bs : List ℕ) → all_digits bs ≡ true → 0 < length bs → operand_of bs ≡ option_map plus (numeral bs)
+abbrev signed : Bool → ℕ → Operand
+signed negated n = record { id = n; negated = negated }
+
+no_minus : (bs : List ℕ) → all_digits bs ≡ true → 0 < length bs → operand_of bs ≡ option_map (signed false) (numeral bs)
 no_minus [] e lt = absurd (omega arith)
 no_minus (b ∷ bs) e lt =
     let digit = (and_parts (is_digit b) (all_digits bs) e).0 in
-    cond-false (eqb b 45) _ (option_map plus (numeral (b ∷ bs))) (grind (arith, nat_tests))
+    let plain : eqb b 45 ≡ false = grind (arith, nat_tests) in
+    ap (λ t. option_map (signed t) (numeral (cond t bs (b ∷ bs)))) plain
 
 operand_again : (n : ℕ) (negated : Bool) → n < cap → operand_of (cond negated (45 ∷ decimal n) (decimal n)) ≡ Some (record { id = n; negated = negated })
-operand_again n true lt = ap (option_map minus) (numeral_again n lt)
+operand_again n true lt = ap (option_map (signed true)) (numeral_again n lt)
 operand_again n false lt =
     let small : n < 2 ^ 64 = omega arith in
-    no_minus (decimal n) (decimal_digits n small) (decimal_nonempty n small) ∙ ap (option_map plus) (numeral_again n lt)
+    no_minus (decimal n) (decimal_digits n small) (decimal_nonempty n small) ∙ ap (option_map (signed false)) (numeral_again n lt)
 
 unsigned_text : (lines : List Line) (x : Arg) → x.negated ≡ false → operand_text lines x ≡ decimal (id_at lines x.line)
 unsigned_text lines x e = cond-false x.negated (45 ∷ decimal (id_at lines x.line)) (decimal (id_at lines x.line)) e
@@ -357,12 +362,13 @@ small_line before l f = omega (arith, f.small)
 first_line : (before : List Line) (l : Line) → Fits before l → 0 < l.id
 first_line before l f = omega (arith, f.rises)
 
-line_spelled : (before lines : List Line) (l : Line) → Printing before lines → Fits before l → IsNext before (decimal l.id ∷ printed_rest lines l) (good l)
+line_spelled : (before lines : List Line) (l : Line) → Printing before lines → Fits before l → (sh : Shape) × Spells sh (decimal l.id ∷ printed_rest lines l) × (resolve before sh ≡ Ok l)
 line_spelled before lines l p f =
-    let a = again before lines p l.id l.sort l.op l.args l.symbol f.body.sorts in
-    let sh : Shape = record { id = l.id; content = a.content; symbol = l.symbol } in
-    spelled sh (record { id_part = decimal l.id; rest = printed_rest lines l; splits = refl; id_is = numeral_again l.id (small_line before l f); first = first_line before l f; small = f.small; content = a.spells; symbol = f.body.symbol })
-    (rw (a.supported, lt-ltb (last_id before) l.id f.rises) a.resolves)
+    let a = again before lines p l.id l.sort l.op l.args l.symbol f.body.sorts in (
+      record { id = l.id; content = a.content; symbol = l.symbol },
+      record { id_part = decimal l.id; rest = printed_rest lines l; splits = refl; id_is = numeral_again l.id (small_line before l f); first = first_line before l f; small = f.small; content = a.spells; symbol = f.body.symbol },
+      rw (a.supported, lt-ltb (last_id before) l.id f.rises) a.resolves,
+    )
 
 -- the parts of a printed line
 unary_part : (o : Unary) → is_symbol (unary_text o) ≡ true
@@ -491,15 +497,15 @@ text_line lines before w b l f text =
     ap raw_lines (append_assoc front (10 ∷ []) text) ∙ line_at front text (joined_end (decimal l.id) (printed_rest lines l) (decimal_part l.id (small_line before l f)) (all_parts lines before w b l f))
 
 reads_printed : (lines : List Line) → IsWellFormed lines → (rest before : List Line) → before ++ rest ≡ lines → Reads before (raw_lines (flat_map (line_text lines) rest)) lines
-reads_printed lines w [] before e = subst (λ (x : List Line). Reads before ([] ∷ []) x) (sym (append-nil before) ∙ e) (passed blank ends)
+reads_printed lines w [] before e = subst (λ (x : List Line). Reads before ([] ∷ []) x) (sym (append-nil before) ∙ e) (passed refl ends)
 reads_printed lines w (l ∷ ls) before e =
     let here : slice_get lines (length before) ≡ Some l = ap (λ x. slice_get x (length before)) (sym e) ∙ get_end before l ls in
     let fits : Fits before l = subst (λ (b : List Line). Fits b l) (ap (take (length before)) (sym e) ∙ take_at before (l ∷ ls) (length before) refl) (w.by_line (length before) l here) in
     let p : Printing before lines = record { knows = front_known before (l ∷ ls) lines e w; small = small_id lines w } in
     let text = flat_map (line_text lines) ls in
-    let next : IsNext before (line_parts (decimal l.id ++ spaced (printed_rest lines l))) (good l) =
-    subst (λ (x : Parts). IsNext before x (good l)) (sym (joined_parts (decimal l.id) (printed_rest lines l) (decimal_part l.id (small_line before l fits)) (all_parts lines before w p.knows.well l fits))) (line_spelled before lines l p fits) in
-    subst (λ (x : Parts). Reads before x lines) (sym (text_line lines before w p.knows.well l fits text)) (line l next (reads_printed lines w ls (before ++ l ∷ []) (append_assoc before (l ∷ []) ls ∙ e)))
+    let said = line_spelled before lines l p fits in
+    let spells = subst (Spells said.0) (sym (joined_parts (decimal l.id) (printed_rest lines l) (decimal_part l.id (small_line before l fits)) (all_parts lines before w p.knows.well l fits))) said.1 in
+    subst (λ (x : Parts). Reads before x lines) (sym (text_line lines before w p.knows.well l fits text)) (line said.0 l spells said.2 (reads_printed lines w ls (before ++ l ∷ []) (append_assoc before (l ∷ []) ls ∙ e)))
 
 pub printed_spells : (lines : List Line) → IsWellFormed lines → SpellsLines (printed lines) lines
 printed_spells lines w = reads_printed lines w lines [] refl

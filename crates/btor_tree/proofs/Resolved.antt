@@ -17,7 +17,7 @@ use Rattle.btor_tree.specs.Fits.{Fits, OpFits, InitRule, AreEarlier, IsWellForme
 use Rattle.btor_tree.specs.Parts.{Parts, line_parts}
 use Rattle.btor_tree.specs.Shapes.{Operand, Nullary, input, state, one, zero, ones, Extension, uext, sext, Binding, init, next, Property, bad, constraint, output, Content, sort_content, nullary_content, constant_content, binding_content, property_content, unary_content, binary_content, ite_content, slice_content, extension_content, unsupported_content, Shape, Spells}
 use Rattle.btor_tree.specs.Resolving.{Fault, not_supported, wide_sort, sort_clash, twice, init_late, id_order, line_ids, place_in, place_of_id, sort_of_id, state_of_id, word_of_id, at_place, owed, nullary_op, binding_op, property_op, extension_op, property_takes, literal_word, at_word, is_supported, binary_fits, is_first, is_in_time, filled, argument, resolve_content, resolve}
-use Rattle.btor_tree.specs.Texts.{IsNext, blank, spelled, shapeless, broken, good, Next, Reads, ends, passed, line}
+use Rattle.btor_tree.specs.Texts.{Reads, ends, passed, line}
 use Rattle.btor_tree.proofs.Grows.{well_formed_push}
 use Rattle.btor_tree.proofs.Literals.{literal_is}
 
@@ -174,17 +174,11 @@ resolve_fits before sh ps h =
     on_owed before (is_supported sh.content) not_supported _ (λ supported. on_owed before (ltb (last_id before) sh.id) id_order (resolve_content before sh sh.content) (λ t.
     content_fits before sh sh.content (λ o s args earlier sorts. record { rises = ltb-true (last_id before) sh.id t; small = h.small; body = record { earlier = earlier; sorts = sorts; symbol = h.symbol } })))
 
-next_fits : (before : List Line) (ps : Parts) (l : Line) (x : Next) → IsNext before ps x → x ≡ good l → Fits before l
-next_fits before ps l x (spelled {l = m} sh h r) e =
-    let same : m ≡ l = cc in
-    let fits : Good before (Ok m) = subst (Good before) r (resolve_fits before sh ps h) in
-    subst (λ (k : Line). Fits before k) same fits
-next_fits before ps l x blank e = absurd (cc)
-next_fits before ps l x (shapeless some none) e = absurd (cc)
-next_fits before ps l x (broken sh h r) e = absurd (cc)
+line_fits : (before : List Line) (ps : Parts) (sh : Shape) (l : Line) → Spells sh ps → resolve before sh ≡ Ok l → Fits before l
+line_fits before ps sh l h r = subst (Good before) r (resolve_fits before sh ps h)
 
 -- lines that are well-formed stay so as a text's are added
 pub reads_well_formed : {before : List Line} {raws : Parts} {all : List Line} → Reads before raws all → IsWellFormed before → IsWellFormed all
 reads_well_formed ends w = w
 reads_well_formed (passed a h) w = reads_well_formed h w
-reads_well_formed {before = before} (line {raw = raw} l a h) w = reads_well_formed h (well_formed_push before l w (next_fits before (line_parts raw) l (good l) a refl))
+reads_well_formed {before = before} (line {raw = raw} sh l s r h) w = reads_well_formed h (well_formed_push before l w (line_fits before (line_parts raw) sh l s r))

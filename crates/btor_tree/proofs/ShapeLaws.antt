@@ -137,9 +137,9 @@ behind w args ps e = ap content_of e ∙ cond-false (is_unsupported (word_text w
 unsupported_reads : (ps tail : Parts) → tail ≡ [] → StartsUnsupported ps → content_of ps ≡ Some (unsupported_content, tail)
 unsupported_reads [] tail e h = absurd h
 unsupported_reads (w ∷ args) tail e (inl t) = cond-true (is_unsupported w) _ _ t ∙ ap (λ x. Some (unsupported_content, x)) (sym e)
-unsupported_reads (w ∷ []) tail e (inr h) = absurd h.1
+unsupported_reads (w ∷ []) tail e (inr h) = absurd (none-some (codes "array") h.1)
 unsupported_reads (w ∷ (k ∷ more)) tail e (inr h) =
-    ap (λ x. content_of (x ∷ (k ∷ more))) h.0 ∙ ap (λ x. content_of (codes "sort" ∷ (x ∷ more))) h.1 ∙ ap (λ x. Some (unsupported_content, x)) (sym e)
+    ap (λ x. content_of (x ∷ (k ∷ more))) h.0 ∙ ap (λ x. content_of (codes "sort" ∷ (x ∷ more))) (same_Some k (codes "array") h.1) ∙ ap (λ x. Some (unsupported_content, x)) (sym e)
 
 content_reads : (content : Content) (tail ps : Parts) → SpellsContent content tail ps → content_of ps ≡ Some (content, tail)
 content_reads (sort_content w) tail ps h = behind sort_word _ ps h.1 ∙ ap (option_map (λ n. (sort_content n, tail))) h.2
@@ -216,7 +216,7 @@ sort_from : (text : List ℕ) (args : Parts) → text ≡ codes "sort" → OnRea
 sort_from text [] e = tt
 sort_from text (k ∷ more) e =
     cond_both (bytes_eq k (codes "array")) (Some (unsupported_content, [])) (bitvec_args k more) (OnRead (text ∷ (k ∷ more)))
-    (λ t. (refl, inr (e, (bytes_eq-Decides k (codes "array")).0 t))) (λ _. bitvec_from text k more e)
+    (λ t. (refl, inr (e, ap Some ((bytes_eq-Decides k (codes "array")).0 t)))) (λ _. bitvec_from text k more e)
 
 nullary_at : (k : Nullary) (text x : List ℕ) (tail : Parts) (o : Option ℕ) → numeral x ≡ o → text ≡ nullary_text k → OnRead (text ∷ (x ∷ tail)) (option_map (λ s. (nullary_content k s, tail)) o)
 nullary_at k text x tail None e f = tt

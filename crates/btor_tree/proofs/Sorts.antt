@@ -6,7 +6,8 @@ use Rattle.std.proofs.lemmas.Option.{same_Some, none-some}
 use Rattle.std.proofs.lemmas.List.{get_or-set_same, get_or-set_other, length-set}
 use Rattle.word_core.specs.declared.word.TheConstants.{WIDEST}
 use Rattle.btor_tree.specs.declared.lines.Line.{Line}
-use Rattle.btor_tree.specs.Fits.{sort_width, sort_place, sort_at, width_of_sort}
+use Rattle.btor_tree.specs.Fits.{sort_width, sort_place, sort_at}
+use Rattle.btor_tree.proofs.AtPlaces.{width_of_sort}
 use Rattle.btor_tree.proofs.Grows.{slice_get_end}
 use Rattle.btor_tree.specs.Held.{HasSorts, noted}
 

@@ -12,8 +12,9 @@ use Rattle.btor_tree.specs.declared.lines.Line.{Line}
 use Rattle.btor_tree.specs.declared.lines.LineOp.{LineOp}
 use Rattle.btor_tree.specs.declared.lines.LineOp.TheVariants.{Sort, Input, State, Constant, One, Zero, Ones, Unary, Binary, Ite, Slice, Uext, Sext}
 use Rattle.word_core.specs.declared.kinds.Unary.TheVariants.{Not}
-use Rattle.btor_tree.specs.Fits.{OpFits, IsWellFormed, sort_at, width_of_sort, sort_width, width_at, width_of_line, has_word}
+use Rattle.btor_tree.specs.Fits.{OpFits, IsWellFormed, sort_at, sort_width, width_at, has_word}
 use Rattle.btor_tree.specs.Frame.{word_at, signed_word, operand, Equation, Meets}
+use Rattle.btor_tree.proofs.AtPlaces.{width_of_sort, width_of_line}
 use Rattle.btor_tree.proofs.Grows.{slice_get_front, slice_get_inside}
 
 -- a list's option, with its equation

@@ -1,6 +1,6 @@
 -- Which lines may follow which (BTOR2, CAV 2018, section 2 and figure 1).
 use Rattle.std.specs.Prelude.{◌≡◌, ◌≢◌, ◌⊎◌, ℕ, suc, ◌+◌, ◌<◌, ◌≤◌, Bool, true, false, List, [], ◌∷◌, ◌++◌, length, take, ◌-◌, Option, Some, None, option_map, slice_get, IfSome, if◌then◌else◌, ◌==◌}
-use Rattle.std.specs.Option.{option_or}
+use Rattle.std.specs.Option.{option_map_or, option_or}
 use Rattle.std.specs.List.{AllByRecursion}
 use Rattle.word_core.specs.declared.word.TheConstants.{WIDEST}
 use Rattle.word_core.specs.Words.{IsWord}
@@ -82,28 +82,20 @@ count_of kind [] = 0
 count_of kind (l ∷ ls) = (if kind l.op then 1 else 0) + count_of kind ls
 
 -- is there a line at the place, and is it of this kind?
-abbrev pub is_kind : (LineOp → Bool) → Option Line → Bool
-is_kind kind None = false
-is_kind kind (Some l) = kind l.op
-
 abbrev pub kind_at : (LineOp → Bool) → List Line → ℕ → Bool
-kind_at kind lines i = is_kind kind (slice_get lines i)
+kind_at kind lines i = option_map_or (λ (l : Line). kind l.op) (slice_get lines i) false
 
 -- the width of the sort line at a place, or 0 where there is none
-abbrev pub width_of_sort : Option Line → ℕ
-width_of_sort None = 0
-width_of_sort (Some l) = sort_width l.op
-
 abbrev pub sort_at : List Line → ℕ → ℕ
-sort_at lines s = width_of_sort (slice_get lines s)
+sort_at lines s = option_map_or (λ (l : Line). sort_width l.op) (slice_get lines s) 0
+
+-- the width of a line's word, or 0 where it has none
+abbrev pub line_width : List Line → Line → ℕ
+line_width lines l = if has_word l.op then sort_at lines l.sort else 0
 
 -- the width of the word of the line at a place, or 0 where it has none
-abbrev pub width_of_line : List Line → Option Line → ℕ
-width_of_line lines None = 0
-width_of_line lines (Some l) = if has_word l.op then sort_at lines l.sort else 0
-
 abbrev pub width_at : List Line → ℕ → ℕ
-width_at lines i = width_of_line lines (slice_get lines i)
+width_at lines i = option_map_or (line_width lines) (slice_get lines i) 0
 
 -- the value that a line of arguments `state value` gives to a state
 abbrev pub value_for : List Arg → ℕ → Option Arg

@@ -1,6 +1,6 @@
 -- Lines, parts and numerals of a BTOR2 text, of lines or of a witness (BTOR2, CAV 2018, section 2 and figure 1).
-use Rattle.std.specs.Prelude.{◌==◌, ◌+◌, ◌-◌, ◌*◌, ◌^◌, ℕ, zero, suc, min, Bool, true, false, not, ◌&&◌, ◌||◌, if◌then◌else◌, Option, Some, None, List, [], ◌∷◌, length}
-use Rattle.text_core.specs.Bytes.{is_digit}
+use Rattle.std.specs.Prelude.{◌==◌, ◌+◌, ◌-◌, ◌^◌, ℕ, zero, suc, min, Bool, true, false, not, ◌&&◌, ◌||◌, if◌then◌else◌, Option, option_map, List, [], ◌∷◌, length}
+use Rattle.word_core.specs.Digits.{digits_value}
 use Rattle.text_core.specs.declared.place.Place.{Place}
 
 -- a list of byte lists
@@ -69,16 +69,6 @@ parts (b ∷ bs) = if is_blank b then parts bs else onto_part b (ends_part bs) (
 abbrev pub line_parts : List ℕ → Parts
 line_parts raw = parts (clean raw)
 
--- decimal digits alone
-abbrev pub all_digits : List ℕ → Bool
-all_digits [] = true
-all_digits (b ∷ bs) = is_digit b && all_digits bs
-
--- the number that digits spell behind those of n
-abbrev pub value_after : ℕ → List ℕ → ℕ
-value_after n [] = n
-value_after n (b ∷ bs) = value_after (10 * n + (b - 48)) bs
-
 -- no id and no width is as large, no list has so many lines of a kind and no witness so many frames, so that all numbers
 -- from here on are as good as one
 abbrev pub cap : ℕ
@@ -86,5 +76,4 @@ cap = 2 ^ 31
 
 -- the number that decimal digits spell, up to the cap
 abbrev pub numeral : List ℕ → Option ℕ
-numeral [] = None
-numeral (b ∷ bs) = if all_digits (b ∷ bs) then Some (min (value_after 0 (b ∷ bs)) cap) else None
+numeral text = option_map (λ n. min n cap) (digits_value 10 text)

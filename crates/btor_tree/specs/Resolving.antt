@@ -85,9 +85,8 @@ extension_op sext n = op.Sext n
 
 -- is this a width that such a line's operand may have? The operand of an output has any.
 abbrev pub property_takes : Property → ℕ → Bool
-property_takes bad w = w == 1
-property_takes constraint w = w == 1
 property_takes output w = true
+property_takes k w = w == 1
 
 -- minus the number of a word, where its magnitude is at most two to the width less one
 abbrev pub minus_word : BitVector → Option BitVector

@@ -1,11 +1,12 @@
 -- What one line of a BTOR2 text says by itself (BTOR2, CAV 2018, figure 1), with ids for its sort and its operands.
-use Rattle.std.specs.Prelude.{◌≡◌, ◌==◌, ℕ, ◌<◌, ◌≤◌, ◌⊎◌, Bool, ◌&&◌, ◌||◌, true, false, nat_lt, List, [], ◌∷◌, Option, Some, None, option_map, IfSome, if◌then◌else◌, codes}
+use Rattle.std.specs.Prelude.{◌≡◌, ◌==◌, ℕ, ◌<◌, ◌≤◌, ◌⊎◌, Bool, true, false, List, [], ◌∷◌, Option, Some, None, is_some, option_map, slice_get, IfSome, if◌then◌else◌, codes}
 use Rattle.word_core.specs.declared.kinds.Unary.{Unary}
 use Rattle.word_core.specs.declared.kinds.Unary.TheVariants.{Not, Inc, Dec, Neg, RedAnd, RedOr, RedXor}
 use Rattle.word_core.specs.declared.kinds.Binary.{Binary}
 use Rattle.word_core.specs.declared.kinds.Binary.TheVariants.{Iff, Implies, Eq, Neq, Sgt, Sgte, Slt, Slte, Ugt, Ugte, Ult, Ulte, And, Nand, Nor, Or, Xnor, Xor, Sll, Srl, Sra, Add, Sub, Mul, Udiv, Sdiv, Urem, Srem, Smod, Concat}
+use Rattle.std.specs.List.{list_any}
 use Rattle.std.specs.Str.{bytes_eq}
-use Rattle.word_core.specs.Digits.{digit_number}
+use Rattle.word_core.specs.Digits.{digits_value}
 use Rattle.btor_tree.specs.Fits.{IsSymbol, greatest_id}
 use Rattle.btor_tree.specs.Parts.{Parts, numeral}
 
@@ -141,49 +142,29 @@ word_text (extension_word k) = extension_text k
 abbrev pub unsupported_words : List (List ℕ)
 unsupported_words = codes "fair" ∷ codes "justice" ∷ codes "rol" ∷ codes "ror" ∷ codes "read" ∷ codes "write" ∷ codes "saddo" ∷ codes "uaddo" ∷ codes "smulo" ∷ codes "umulo" ∷ codes "ssubo" ∷ codes "usubo" ∷ codes "sdivo" ∷ []
 
--- is this one of these texts?
-abbrev pub is_among : List (List ℕ) → List ℕ → Bool
-is_among [] text = false
-is_among (w ∷ ws) text = bytes_eq text w || is_among ws text
-
 abbrev pub is_unsupported : List ℕ → Bool
-is_unsupported = is_among unsupported_words
-
--- `array`, before whatever comes after
-abbrev pub StartsArray : Parts → Type 0
-StartsArray [] = ⊥
-StartsArray (k ∷ more) = k ≡ codes "array"
+is_unsupported text = list_any (λ w. bytes_eq text w) unsupported_words
 
 -- a word that is left out, or `sort array`, before whatever comes after
 abbrev pub StartsUnsupported : Parts → Type 0
 StartsUnsupported [] = ⊥
-StartsUnsupported (w ∷ args) = (is_unsupported w ≡ true) ⊎ ((w ≡ codes "sort") × StartsArray args)
-
--- are these digits of a base?
-abbrev pub all_of_base : ℕ → List ℕ → Bool
-all_of_base base [] = true
-all_of_base base (b ∷ bs) = nat_lt (digit_number b) base && all_of_base base bs
-
--- are these one or more digits of a base?
-abbrev pub are_digits : ℕ → List ℕ → Bool
-are_digits base [] = false
-are_digits base (b ∷ bs) = all_of_base base (b ∷ bs)
+StartsUnsupported (w ∷ args) = (is_unsupported w ≡ true) ⊎ ((w ≡ codes "sort") × (slice_get args 0 ≡ Some (codes "array")))
 
 -- does the first byte say `-`?
 abbrev pub is_negative : List ℕ → Bool
 is_negative [] = false
 is_negative (b ∷ bs) = b == 45
 
--- the digits of a decimal number, behind `-` where there is one
+-- the digits of a number, behind `-` where there is one
 abbrev pub magnitude_of : List ℕ → List ℕ
 magnitude_of [] = []
 magnitude_of (b ∷ bs) = if b == 45 then bs else (b ∷ bs)
 
 -- are these the digits of a constant? A decimal one may have a `-` before them.
 abbrev pub is_literal : Base → List ℕ → Bool
-is_literal in_binary text = are_digits 2 text
-is_literal in_decimal text = are_digits 10 (magnitude_of text)
-is_literal in_hex text = are_digits 16 text
+is_literal in_binary text = is_some (digits_value 2 text)
+is_literal in_decimal text = is_some (digits_value 10 (magnitude_of text))
+is_literal in_hex text = is_some (digits_value 16 text)
 
 -- what a line says behind its id: a width; or the ids of a sort and of a state, operands, digits and numbers; or a word that is
 -- left out
@@ -206,18 +187,9 @@ pub record Shape : Type 0 where
   pub content : Content
   pub symbol : Option (List ℕ)
 
--- the bitwise not of a line's word
-abbrev pub minus : ℕ → Operand
-minus n = record { id = n; negated = true }
-
--- a line's word as it is
-abbrev pub plus : ℕ → Operand
-plus n = record { id = n; negated = false }
-
 -- a numeral, behind `-` where the word is negated
 abbrev pub operand_of : List ℕ → Option Operand
-operand_of [] = None
-operand_of (b ∷ bs) = if b == 45 then option_map minus (numeral bs) else option_map plus (numeral (b ∷ bs))
+operand_of text = option_map (λ n. record { id = n; negated = is_negative text }) (numeral (magnitude_of text))
 
 -- a line may end in a symbol
 abbrev pub symbol_parts : Option (List ℕ) → Parts

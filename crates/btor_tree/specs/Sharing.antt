@@ -1,5 +1,5 @@
 -- One line for all that say the same: which lines are shared, what it is to say the same, and what a push does to a list of lines.
-use Rattle.std.specs.Prelude.{◌≡◌, ◌==◌, ◌+◌, ◌<◌, ℕ, suc, Bool, true, false, not, ◌&&◌, List, [], ◌∷◌, ◌++◌, length, Option, Some, None, option_map, slice_get, if◌then◌else◌}
+use Rattle.std.specs.Prelude.{◌≡◌, ◌==◌, ◌+◌, ◌<◌, ℕ, suc, Bool, true, false, not, ◌&&◌, ◌||◌, List, [], ◌∷◌, ◌++◌, length, Option, Some, None, option_map, slice_get, if◌then◌else◌}
 use Rattle.std.specs.List.{AllByRecursion}
 use Rattle.word_core.specs.declared.kinds.Unary.{Unary}
 use Rattle.word_core.specs.declared.kinds.Unary.TheVariants.{Not, Inc, Dec, Neg, RedAnd, RedOr, RedXor}
@@ -10,20 +10,14 @@ use Rattle.btor_tree.specs.declared.lines.Line.{Line}
 use Rattle.btor_tree.specs.declared.lines.LineOp.{LineOp}
 use Rattle.btor_tree.specs.declared.lines.LineOp.TheVariants as op
 use Rattle.word_core.specs.Words.{BitVector}
-use Rattle.btor_tree.specs.Fits.{Suits, IsWellFormed, greatest_id, has_word, last_id, sort_at, width_at}
+use Rattle.btor_tree.specs.Fits.{Suits, IsWellFormed, greatest_id, has_word, is_input, is_state, last_id, sort_at, width_at}
 use Rattle.btor_tree.specs.Frame.{Meets, Equation, word_at}
 
 -- Is one line enough for all that say the same? Each input and each state is a line of its own, and init, next, bad, constraint and
 -- output lines say something of the frames. A sort, a constant and an operator are fixed by what their line says.
 abbrev pub is_shared : LineOp → Bool
-is_shared op.Input = false
-is_shared op.State = false
-is_shared op.Init = false
-is_shared op.Next = false
-is_shared op.Bad = false
-is_shared op.Constraint = false
-is_shared op.Output = false
-is_shared o = true
+is_shared (op.Sort w) = true
+is_shared o = has_word o && not (is_input o || is_state o)
 
 -- the number of an operator on one word
 abbrev pub unary_number : Unary → ℕ

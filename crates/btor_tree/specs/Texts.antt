@@ -5,6 +5,13 @@ use Rattle.btor_tree.specs.Parts.{Parts, raw_lines, line_parts}
 use Rattle.btor_tree.specs.Shapes.{Shape, Spells}
 use Rattle.btor_tree.specs.Resolving.{Fault, no_shape, resolve}
 
+-- these lines and then those of a text are all of these; a line without parts says nothing
+pub data Reads : List Line → Parts → List Line → Type 0 where
+  ends : {before : List Line} → Reads before [] before
+  passed : {before all : List Line} {raw : List ℕ} {raws : Parts} → line_parts raw ≡ [] → Reads before raws all → Reads before (raw ∷ raws) all
+  line : {before all : List Line} {raw : List ℕ} {raws : Parts} (sh : Shape) (l : Line)
+      → Spells sh (line_parts raw) → resolve before sh ≡ Ok l → Reads (before ++ l ∷ []) raws all → Reads before (raw ∷ raws) all
+
 -- what one line of a text is: nothing, a line, or a fault
 pub data Next : Type 0 where
   nothing : Next
@@ -17,13 +24,6 @@ pub data IsNext : List Line → Parts → Next → Type 0 where
   spelled : {before : List Line} {ps : Parts} {l : Line} (sh : Shape) → Spells sh ps → resolve before sh ≡ Ok l → IsNext before ps (good l)
   shapeless : {before : List Line} {ps : Parts} → ps ≢ [] → ((sh : Shape) → Spells sh ps → ⊥) → IsNext before ps (faulty no_shape)
   broken : {before : List Line} {ps : Parts} {k : Fault} (sh : Shape) → Spells sh ps → resolve before sh ≡ Err k → IsNext before ps (faulty k)
-
--- these lines and then those of a text are all of these
-pub data Reads : List Line → Parts → List Line → Type 0 where
-  ends : {before : List Line} → Reads before [] before
-  passed : {before all : List Line} {raw : List ℕ} {raws : Parts} → IsNext before (line_parts raw) nothing → Reads before raws all → Reads before (raw ∷ raws) all
-  line : {before all : List Line} {raw : List ℕ} {raws : Parts} (l : Line)
-      → IsNext before (line_parts raw) (good l) → Reads (before ++ l ∷ []) raws all → Reads before (raw ∷ raws) all
 
 -- the fault of the first line that can't follow, and that line's number
 pub data Refuses : ℕ → List Line → Parts → Fault → ℕ → Type 0 where

@@ -21,15 +21,16 @@ use Rattle.btor_witness.specs.Bytes.{all_binary, word_of, line_parts}
 use Rattle.btor_witness.specs.Sizes.{Sizes, is_within, sizes_of, widths_of, most_frames, most_words, most_bytes}
 use Rattle.btor_witness.specs.Shapes.{Spells}
 use Rattle.btor_witness.specs.Parts.{is_stated, with_width, stating}
-use Rattle.btor_witness.specs.Reading.{Reading, begin, moves, frames_of, with_states, with_inputs, step, new_frame}
+use Rattle.btor_witness.specs.Reading.{Reading, begin, moves, frames_of, with_stated, step, new_frame}
 use Rattle.btor_witness.specs.Texts.{IsNext, spelled, Reads, line, last, SpellsWitness}
 use Rattle.btor_witness.specs.Printing.{IsOf, IsPart, IsWitness, value_of, one_statement, rising, rising_frame, rising_witness, number_line, statement_line, states_text, inputs_text, frame_text, frames_text, witness_text, printed}
 use Rattle.btor_tree.specs.declared.lines.Line.{Line}
 use Rattle.btor_tree.specs.declared.lines.LineOp.{LineOp}
 use Rattle.btor_tree.specs.Fits.{IsWellFormed, is_bad, is_state, is_input}
-use Rattle.btor_tree.specs.Parts.{Parts, all_digits, numeral, cap, raw_lines}
+use Rattle.btor_tree.specs.Parts.{Parts, numeral, cap, raw_lines}
 use Rattle.btor_tree.proofs.Grows.{slice_get_inside, counts_small}
-use Rattle.btor_tree.proofs.Numerals.{numeral_again, decimal_digits}
+use Rattle.btor_tree.proofs.Numerals.{all_digits, numeral_again, decimal_digits}
+use Rattle.btor_witness.specs.laws.Binary.{binary_tested, binary_word}
 use Rattle.btor_witness.proofs.Tables.{length_widths}
 use Rattle.btor_witness.proofs.Plain.{all_solid, all_free, free_from, free_append, line_at, one_part, two_parts, binary_solid, digits_binary, digits_long, word_again, decimal_solid, digits_read}
 
@@ -62,7 +63,7 @@ assigned_by : (sizes : Sizes) (r next : Reading) (d : ℕ) (ds : List ℕ) (b : 
     → all_binary (b ∷ bs) ≡ true → word_of (b ∷ bs) ≡ Some x → step sizes r (shape.Assignment i (Some x)) ≡ moves next → IsNext sizes r (line_parts ((d ∷ ds) ++ 32 ∷ (b ∷ bs))) (moves next)
 assigned_by sizes r next d ds b bs i x digits solid number binary word does =
     let parts = two_parts d ds b bs solid (binary_solid (b ∷ bs) binary) in
-    let spells : Spells (shape.Assignment i (Some x)) ((d ∷ ds) ∷ (b ∷ bs) ∷ []) = (d ∷ ds, b, bs, None, refl, number, binary, sym word) in
+    let spells : Spells (shape.Assignment i (Some x)) ((d ∷ ds) ∷ (b ∷ bs) ∷ []) = (d ∷ ds, b ∷ bs, None, refl, number, binary_tested b bs ∙ binary, sym (binary_word b bs binary ∙ word)) in
     subst (λ (ps : Parts). IsNext sizes r ps (moves next)) (sym parts)
     (subst (IsNext sizes r ((d ∷ ds) ∷ (b ∷ bs) ∷ [])) does (spelled (shape.Assignment i (Some x)) (digits_read d ds ((b ∷ bs) ∷ []) digits) spells))
 
@@ -155,11 +156,11 @@ ready_next sizes bad fs states inputs within =
 -- one frame
 states_does : (sizes : Sizes) (bad : ℕ) (fs : List Frame) (stated more : List Stated) (i : ℕ) (x : BitVector) → stating sizes.states stated i (Some x) ≡ Ok more
     → step sizes (in_states bad fs stated) (shape.Assignment i (Some x)) ≡ moves (in_states bad fs more)
-states_does sizes bad fs stated more i x e = ap (with_states (in_states bad fs stated)) e
+states_does sizes bad fs stated more i x e = ap (with_stated (in_states bad fs)) e
 
 inputs_does : (sizes : Sizes) (bad : ℕ) (fs : List Frame) (states stated more : List Stated) (i : ℕ) (x : BitVector) → stating sizes.inputs stated i (Some x) ≡ Ok more
     → step sizes (in_inputs bad fs states stated) (shape.Assignment i (Some x)) ≡ moves (in_inputs bad fs states more)
-inputs_does sizes bad fs states stated more i x e = ap (with_inputs (in_inputs bad fs states stated)) e
+inputs_does sizes bad fs states stated more i x e = ap (with_stated (in_inputs bad fs states)) e
 
 abbrev pub FrameRises : Sizes → Frame → Type 0
 FrameRises sizes f = RisesFrom sizes.states 0 f.states × RisesFrom sizes.inputs 0 f.inputs

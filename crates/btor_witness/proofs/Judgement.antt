@@ -22,7 +22,7 @@ use Rattle.btor_witness.specs.declared.witness.Witness.{Witness}
 use Rattle.btor_witness.specs.declared.room.Room.{Room}
 use Rattle.btor_witness.specs.Sizes.{widths_of}
 use Rattle.btor_witness.specs.Printing.{IsOf, IsPart, value_of}
-use Rattle.btor_witness.specs.Judging.{statement_of, statements_of, is_last, Passes, FailsFirst, IsJudgedAfter, IsJudged}
+use Rattle.btor_witness.specs.Judging.{statement_of, statements_of, is_last, Passes, FailsFirst, IsJudgedAfter, judged_btor}
 use Rattle.btor_witness.specs.Room.{HoldsStated, IsWordThere, RoomFits, places_of}
 use Rattle.btor_witness.proofs.Statements.{value_all, value_once, all_from}
 use Rattle.btor_witness.proofs.Places.{place_there, state_place, width_by_number}
@@ -71,7 +71,7 @@ agree_all lines begun before f row part p agree =
 -- the frames before step i pass, and what the rest is judged the whole is
 pub record SoFar (lines : List Line) (w : Witness) (i : ℕ) (room : Room) : Type 0 where
   pub fits : RoomFits lines room
-  pub goes : (v : Verdict) → IsJudgedAfter lines w.bad i room.frames.begun room.frames.row (map statement_of (drop i w.frames)) v → IsJudged lines w v
+  pub goes : (v : Verdict) → IsJudgedAfter lines w.bad i room.frames.begun room.frames.row (map statement_of (drop i w.frames)) v → judged_btor lines w v
 
 -- in frame 0 no frame before is read
 pub any_before : (lines : List Line) (j step : ℕ) (before other : List BitVector) (stated : List Statement) (v : Verdict) → IsJudgedAfter lines j step false before stated v → IsJudgedAfter lines j step false other stated v
@@ -113,7 +113,7 @@ more_far lines w i f room new last h e is so fits begun p passes =
     }
 
 -- a frame fails
-pub fails_here : (lines : List Line) (w : Witness) (i : ℕ) (f : Frame) (room : Room) (row : List BitVector) (last : Bool) (clause : Clause) → i < length w.frames → get_or w.frames i f ≡ f → last ≡ eqb (i + 1) (length w.frames) → SoFar lines w i room → IsStatedFrame lines room.frames.begun room.frames.row (statement_of f) row → FailsFirst lines w.bad room.frames.begun last (statement_of f) row clause → IsJudged lines w (No i clause)
+pub fails_here : (lines : List Line) (w : Witness) (i : ℕ) (f : Frame) (room : Room) (row : List BitVector) (last : Bool) (clause : Clause) → i < length w.frames → get_or w.frames i f ≡ f → last ≡ eqb (i + 1) (length w.frames) → SoFar lines w i room → IsStatedFrame lines room.frames.begun room.frames.row (statement_of f) row → FailsFirst lines w.bad room.frames.begun last (statement_of f) row clause → judged_btor lines w (No i clause)
 fails_here lines w i f room row last clause h e is so p fails =
     let more = map statement_of (drop (suc i) w.frames) in
     let fail : FailsFirst lines w.bad room.frames.begun (is_last more) (statement_of f) row clause = subst (λ b. FailsFirst lines w.bad room.frames.begun b (statement_of f) row clause) (is ∙ sym (last_is w.frames i h)) fails in
@@ -123,6 +123,6 @@ pub not_both : (b : Bool) → b ≡ true → b ≡ false → ⊥
 not_both b t f = let e : true ≡ false = sym t ∙ f in absurd (cc)
 
 -- the verdict that is answered
-pub if_no : (r : Result Verdict NoMemory) (lines : List Line) (w : Witness) (i : ℕ) (clause : Clause) → IfOk r (λ v. v ≡ No i clause) → IsJudged lines w (No i clause) → IfOk r (λ v. IsJudged lines w v)
-if_no (Ok v) lines w i clause e h = subst (λ u. IsJudged lines w u) (sym e) h
+pub if_no : (r : Result Verdict NoMemory) (lines : List Line) (w : Witness) (i : ℕ) (clause : Clause) → IfOk r (λ v. v ≡ No i clause) → judged_btor lines w (No i clause) → IfOk r (λ v. judged_btor lines w v)
+if_no (Ok v) lines w i clause e h = subst (λ u. judged_btor lines w u) (sym e) h
 if_no (Err n) lines w i clause e h = tt

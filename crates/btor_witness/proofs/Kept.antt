@@ -1,12 +1,13 @@
 -- What is read is a witness for the lines.
 use Rattle.std.proofs.Common.{◌≡◌, ◌≢◌, ℕ, ◌+◌, ◌*◌, ◌^◌, ◌<◌, true, false, cond, eqb, ltb, leb, List, [], ◌∷◌, ◌++◌, length, Option, Some, None, Result, Ok, Err, refl, sym, ap, ◌∙◌, subst, arith}
-use Rattle.std.specs.Prelude.{slice_get, IfSome, IfOk}
+use Rattle.std.specs.Prelude.{slice_get, is_some, IfSome, IfOk}
 use Rattle.std.specs.List.{AllByRecursion}
 use Rattle.std.proofs.lemmas.List.{length_push}
 use Rattle.std.proofs.lemmas.Bool.{and_from, le-leb, leb-true, ltb-true, eqb-true, eqb-false, ne_eqb, cond_both, or_parts}
 use Rattle.text_core.specs.declared.place.Kind.{Kind}
 use Rattle.word_core.specs.Words.{BitVector, IsWord}
 use Rattle.word_core.specs.declared.word.TheConstants.{WIDEST}
+use Rattle.word_core.specs.Digits.{digits_value, read_word}
 use Rattle.btor_tree.specs.Parts.{Parts}
 use Rattle.btor_witness.specs.declared.phase.Phase.{Phase}
 use Rattle.btor_witness.specs.declared.phase.Phase.TheVariants as phase
@@ -20,11 +21,11 @@ use Rattle.btor_witness.specs.Bytes.{all_binary, bits_after, word_of}
 use Rattle.btor_witness.specs.Sizes.{Sizes, is_within, most_frames, most_words}
 use Rattle.btor_witness.specs.Shapes.{Spells}
 use Rattle.btor_witness.specs.Parts.{is_stated, with_word, with_width, stating}
-use Rattle.btor_witness.specs.Reading.{Reading, begin, Next, nothing, moves, done, bad, last_frame, frames_at, frames_of, sat_line, property_line, justice_line, new_frame, states_line, inputs_line, with_states, with_inputs, assignment_line, end_line, step}
+use Rattle.btor_witness.specs.Reading.{Reading, begin, Next, nothing, moves, done, bad, last_frame, frames_at, frames_of, new_frame, step, with_stated, step_in}
 use Rattle.btor_witness.specs.Texts.{IsNext, passed, spelled, shapeless, Reads, blank, line, last, ReadsText}
 use Rattle.btor_witness.specs.Printing.{IsOf, IsStatedOnce, IsPart, IsWitness}
 use Rattle.btor_witness.specs.Fitting.{BadFits, FrameFits, FitsAt}
-use Rattle.btor_witness.proofs.Binary.{bits_small}
+use Rattle.btor_witness.specs.laws.Binary.{binary_tested, binary_word, bits_small}
 
 all_push : {X : Type 0} (P : X → Type 0) (xs : List X) (x : X) → AllByRecursion P xs → P x → AllByRecursion P (xs ++ x ∷ [])
 all_push P [] x h p = (p, tt)
@@ -50,7 +51,12 @@ shape_fits (Justice n) ps h = tt
 shape_fits (States n) ps h = tt
 shape_fits (Inputs n) ps h = tt
 shape_fits End ps h = tt
-shape_fits (Assignment i word) ps h = subst (λ o. IfSome o IsWord) (sym h.7) (word_fits h.1 h.2 h.6)
+shape_fits (Assignment i word) ps h = subst (λ o. IfSome o IsWord) (sym h.6) (read_fits h.1 h.5) where
+  read_fits : (digits : List ℕ) → is_some (digits_value 2 digits) ≡ true → IfSome (read_word (length digits) 2 digits) IsWord
+  read_fits [] t = absurd (let f : false ≡ true = t in cc)
+  read_fits (b ∷ bs) t =
+      let binary = sym (binary_tested b bs) ∙ t in
+      subst (λ o. IfSome o IsWord) (sym (binary_word b bs binary)) (word_fits b bs binary)
 
 -- one statement more
 fresh_push : (xs : List Stated) (s : Stated) (i : ℕ) → is_stated xs i ≡ false → i ≢ s.index → is_stated (xs ++ s ∷ []) i ≡ false
@@ -92,14 +98,14 @@ NextFits sizes (moves r) = FitsAt sizes r.phase r
 NextFits sizes (done w) = IsShort sizes w
 NextFits sizes (bad k) = Unit {0}
 
-sat_fits : (sizes : Sizes) (p : Phase) (r : Reading) → FitsAt sizes p r → NextFits sizes (sat_line p r)
+sat_fits : (sizes : Sizes) (p : Phase) (r : Reading) → FitsAt sizes p r → NextFits sizes (step_in sizes Sat p r)
 sat_fits sizes phase.Start r h = record { bad_line = tt; frames = h.frames; states = h.states; inputs = h.inputs; within = h.within }
 sat_fits sizes phase.Property r h = tt
 sat_fits sizes phase.Heading r h = tt
 sat_fits sizes phase.States r h = tt
 sat_fits sizes phase.Inputs r h = tt
 
-property_fits : (sizes : Sizes) (n : ℕ) (p : Phase) (r : Reading) → FitsAt sizes p r → NextFits sizes (property_line sizes n p r)
+property_fits : (sizes : Sizes) (n : ℕ) (p : Phase) (r : Reading) → FitsAt sizes p r → NextFits sizes (step_in sizes (Property n) p r)
 property_fits sizes n phase.Start r h = tt
 property_fits sizes n phase.Property r h =
     cond_both (ltb n sizes.bads) (moves (record r { phase = phase.Heading; bad = n })) _ (NextFits sizes)
@@ -108,12 +114,12 @@ property_fits sizes n phase.Heading r h = tt
 property_fits sizes n phase.States r h = tt
 property_fits sizes n phase.Inputs r h = tt
 
-justice_fits : (sizes : Sizes) (p : Phase) → NextFits sizes (justice_line p)
-justice_fits sizes phase.Start = tt
-justice_fits sizes phase.Property = tt
-justice_fits sizes phase.Heading = tt
-justice_fits sizes phase.States = tt
-justice_fits sizes phase.Inputs = tt
+justice_fits : (sizes : Sizes) (n : ℕ) (p : Phase) (r : Reading) → NextFits sizes (step_in sizes (Justice n) p r)
+justice_fits sizes n phase.Start r = tt
+justice_fits sizes n phase.Property r = tt
+justice_fits sizes n phase.Heading r = tt
+justice_fits sizes n phase.States r = tt
+justice_fits sizes n phase.Inputs r = tt
 
 frames_fit : (sizes : Sizes) (p : Phase) (r : Reading) → FitsAt sizes p r → AllByRecursion (FrameFits sizes) (frames_at p r)
 frames_fit sizes phase.Start r h = h.frames
@@ -144,18 +150,18 @@ new_frame_fits sizes part n r opens lt h =
     (λ _. tt))
     (λ _. tt)
 
-states_fits : (sizes : Sizes) (n : ℕ) (r : Reading) → FitsAt sizes r.phase r → NextFits sizes (states_line sizes n r.phase r)
+states_fits : (sizes : Sizes) (n : ℕ) (r : Reading) → FitsAt sizes r.phase r → NextFits sizes (step_in sizes (States n) r.phase r)
 states_fits sizes n r h = by_phase r.phase h.bad_line where
-  by_phase : (p : Phase) → BadFits sizes r.bad p → NextFits sizes (states_line sizes n p r)
+  by_phase : (p : Phase) → BadFits sizes r.bad p → NextFits sizes (step_in sizes (States n) p r)
   by_phase phase.Start b = tt
   by_phase phase.Property b = tt
   by_phase phase.Heading b = new_frame_fits sizes phase.States n r (states_open sizes) b h
   by_phase phase.States b = new_frame_fits sizes phase.States n r (states_open sizes) b h
   by_phase phase.Inputs b = new_frame_fits sizes phase.States n r (states_open sizes) b h
 
-inputs_fits : (sizes : Sizes) (n : ℕ) (r : Reading) → FitsAt sizes r.phase r → NextFits sizes (inputs_line sizes n r.phase r)
+inputs_fits : (sizes : Sizes) (n : ℕ) (r : Reading) → FitsAt sizes r.phase r → NextFits sizes (step_in sizes (Inputs n) r.phase r)
 inputs_fits sizes n r h = by_phase r.phase h where
-  by_phase : (p : Phase) → FitsAt sizes p r → NextFits sizes (inputs_line sizes n p r)
+  by_phase : (p : Phase) → FitsAt sizes p r → NextFits sizes (step_in sizes (Inputs n) p r)
   by_phase phase.Start b = tt
   by_phase phase.Property b = tt
   by_phase phase.Heading b = new_frame_fits sizes phase.Inputs n r (inputs_open sizes) b.bad_line h
@@ -171,23 +177,23 @@ inputs_fits sizes n r h = by_phase r.phase h where
       (λ _. new_frame_fits sizes phase.Inputs n r (inputs_open sizes) b.bad_line h)
   by_phase phase.Inputs b = new_frame_fits sizes phase.Inputs n r (inputs_open sizes) b.bad_line h
 
-with_states_fits : (sizes : Sizes) (r : Reading) (x : Result (List Stated) Kind) → r.phase ≡ phase.States → FitsAt sizes phase.States r → IfOk x (IsPart sizes.states) → NextFits sizes (with_states r x)
+with_states_fits : (sizes : Sizes) (r : Reading) (x : Result (List Stated) Kind) → r.phase ≡ phase.States → FitsAt sizes phase.States r → IfOk x (IsPart sizes.states) → NextFits sizes (with_stated (λ states. record r { states = states }) x)
 with_states_fits sizes r (Err k) e h part = tt
 with_states_fits sizes r (Ok states) e h part =
     let next : Reading = record r { states = states } in
     subst (λ p. FitsAt sizes p next) (sym e)
     (record { bad_line = h.bad_line; frames = h.frames; states = part; inputs = h.inputs; within = ap (is_within sizes) (length_push r.frames (last_frame next) ∙ sym (length_push r.frames (last_frame r))) ∙ h.within })
 
-with_inputs_fits : (sizes : Sizes) (r : Reading) (x : Result (List Stated) Kind) → r.phase ≡ phase.Inputs → FitsAt sizes phase.Inputs r → IfOk x (IsPart sizes.inputs) → NextFits sizes (with_inputs r x)
+with_inputs_fits : (sizes : Sizes) (r : Reading) (x : Result (List Stated) Kind) → r.phase ≡ phase.Inputs → FitsAt sizes phase.Inputs r → IfOk x (IsPart sizes.inputs) → NextFits sizes (with_stated (λ inputs. record r { inputs = inputs }) x)
 with_inputs_fits sizes r (Err k) e h part = tt
 with_inputs_fits sizes r (Ok inputs) e h part =
     let next : Reading = record r { inputs = inputs } in
     subst (λ p. FitsAt sizes p next) (sym e)
     (record { bad_line = h.bad_line; frames = h.frames; states = h.states; inputs = part; within = ap (is_within sizes) (length_push r.frames (last_frame next) ∙ sym (length_push r.frames (last_frame r))) ∙ h.within })
 
-assignment_fits : (sizes : Sizes) (i : ℕ) (word : Option BitVector) (r : Reading) → IfSome word IsWord → FitsAt sizes r.phase r → NextFits sizes (assignment_line sizes i word r.phase r)
+assignment_fits : (sizes : Sizes) (i : ℕ) (word : Option BitVector) (r : Reading) → IfSome word IsWord → FitsAt sizes r.phase r → NextFits sizes (step_in sizes (Assignment i word) r.phase r)
 assignment_fits sizes i word r fits h = by_phase r.phase refl h where
-  by_phase : (p : Phase) → r.phase ≡ p → FitsAt sizes p r → NextFits sizes (assignment_line sizes i word p r)
+  by_phase : (p : Phase) → r.phase ≡ p → FitsAt sizes p r → NextFits sizes (step_in sizes (Assignment i word) p r)
   by_phase phase.Start e b = tt
   by_phase phase.Property e b = tt
   by_phase phase.Heading e b = tt
@@ -209,9 +215,9 @@ inputs_of sizes (f ∷ fs) h = (h.0.1, inputs_of sizes fs h.1)
 ended_fits : (sizes : Sizes) (r : Reading) (fs : List Frame) → r.bad < sizes.bads → fs ≢ [] → AllByRecursion (FrameFits sizes) fs → is_within sizes (length fs) ≡ true → IsShort sizes (record { bad = r.bad; frames = fs })
 ended_fits sizes r fs lt some all within = (record { bad = lt; some = some; states = states_of sizes fs all; inputs = inputs_of sizes fs all }, within)
 
-end_fits : (sizes : Sizes) (r : Reading) → FitsAt sizes r.phase r → NextFits sizes (end_line r.phase r)
+end_fits : (sizes : Sizes) (r : Reading) → FitsAt sizes r.phase r → NextFits sizes (step_in sizes End r.phase r)
 end_fits sizes r h = by_phase r.phase refl h where
-  by_phase : (p : Phase) → r.phase ≡ p → FitsAt sizes p r → NextFits sizes (end_line p r)
+  by_phase : (p : Phase) → r.phase ≡ p → FitsAt sizes p r → NextFits sizes (step_in sizes End p r)
   by_phase phase.Start e b = tt
   by_phase phase.Property e b = tt
   by_phase phase.Heading e b = tt
@@ -227,7 +233,7 @@ end_fits sizes r h = by_phase r.phase refl h where
 step_fits : (sizes : Sizes) (r : Reading) (shape : Shape) → ShapeFits shape → FitsAt sizes r.phase r → NextFits sizes (step sizes r shape)
 step_fits sizes r Sat s h = sat_fits sizes r.phase r h
 step_fits sizes r (Property n) s h = property_fits sizes n r.phase r h
-step_fits sizes r (Justice n) s h = justice_fits sizes r.phase
+step_fits sizes r (Justice n) s h = justice_fits sizes n r.phase r
 step_fits sizes r (States n) s h = states_fits sizes n r h
 step_fits sizes r (Inputs n) s h = inputs_fits sizes n r h
 step_fits sizes r End s h = end_fits sizes r h

@@ -1,4 +1,3 @@
-pub mod Binary
 pub mod Cuts
 pub mod Marks
 pub mod Widths

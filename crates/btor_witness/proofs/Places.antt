@@ -8,15 +8,17 @@ use Rattle.word_core.specs.Words.{BitVector}
 use Rattle.word_core.specs.declared.word.TheConstants.{WIDEST}
 use Rattle.btor_tree.specs.declared.lines.Line.{Line}
 use Rattle.btor_tree.specs.declared.lines.LineOp.{LineOp}
-use Rattle.btor_tree.specs.Fits.{IsWellFormed, count_of, is_state, has_word, width_of_line, width_at}
+use Rattle.btor_tree.specs.Fits.{IsWellFormed, count_of, is_state, has_word, line_width, width_at}
 use Rattle.btor_tree.specs.Frame.{word_at}
+use Rattle.btor_tree.proofs.AtPlaces.{width_of_line}
 use Rattle.btor_tree.proofs.Grows.{slice_get_inside, take_push}
 use Rattle.btor_tree.proofs.Paths.{width_is}
 use Rattle.btor_tree.proofs.Widths.{width_small}
 use Rattle.btor_witness.specs.declared.witness.Stated.{Stated}
-use Rattle.btor_witness.specs.Sizes.{widths_in, widths_of}
+use Rattle.btor_witness.specs.Sizes.{widths_of}
 use Rattle.btor_witness.specs.Printing.{IsBelow}
 use Rattle.btor_witness.specs.Room.{AreWidths, IsWordThere, places_in, places_of}
+use Rattle.btor_witness.proofs.Widths.{widths_cons, widths_in}
 use Rattle.btor_witness.proofs.Tables.{length_widths, all_at}
 
 abbrev one_where : Bool → ℕ
@@ -62,14 +64,15 @@ on_more false x xs n o h =
     let e : 0 + n ≡ n = omega arith in
     ap (slice_get xs) e ∙ h
 
-pub width_there : (lines : List Line) (kind : LineOp → Bool) (ls : List Line) (i : ℕ) (l : Line) → slice_get ls i ≡ Some l → kind l.op ≡ true → slice_get (widths_in lines kind ls) (count_of kind (take i ls)) ≡ Some (width_of_line lines (Some l))
+pub width_there : (lines : List Line) (kind : LineOp → Bool) (ls : List Line) (i : ℕ) (l : Line) → slice_get ls i ≡ Some l → kind l.op ≡ true → slice_get (widths_in lines kind ls) (count_of kind (take i ls)) ≡ Some (line_width lines l)
 width_there lines kind [] i l g t = absurd (omega (arith, slice_get_inside [] i l g))
 width_there lines kind (m ∷ ls) zero l g t =
     let e : m ≡ l = same_Some m l g in
     let rest = widths_in lines kind ls in
-    ap (λ xs. slice_get xs 0) (cond-true (kind m.op) (width_of_line lines (Some m) ∷ rest) rest (ap (λ x. kind x.op) e ∙ t)) ∙ ap (λ x. Some (width_of_line lines (Some x))) e
+    ap (λ xs. slice_get xs 0) (widths_cons lines kind m ls ∙ cond-true (kind m.op) (line_width lines m ∷ rest) rest (ap (λ x. kind x.op) e ∙ t)) ∙ ap (λ x. Some (line_width lines x)) e
 width_there lines kind (m ∷ ls) (suc i) l g t =
-    on_more (kind m.op) (width_of_line lines (Some m)) (widths_in lines kind ls) (count_of kind (take i ls)) _ (width_there lines kind ls i l g t)
+    ap (λ ws. slice_get ws (count_of kind (take (suc i) (m ∷ ls)))) (widths_cons lines kind m ls)
+    ∙ on_more (kind m.op) (line_width lines m) (widths_in lines kind ls) (count_of kind (take i ls)) _ (width_there lines kind ls i l g t)
 
 -- the width of a line, by its number among the lines of its kind
 pub width_by_number : (lines : List Line) (kind : LineOp → Bool) (i : ℕ) (l : Line) → slice_get lines i ≡ Some l → kind l.op ≡ true → slice_get (widths_of kind lines) (count_of kind (take i lines)) ≡ Some (width_at lines i)

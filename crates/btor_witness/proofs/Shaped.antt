@@ -1,7 +1,8 @@
 -- A line that has a shape isn't passed over.
 use Rattle.std.proofs.Common.{◌≡◌, ℕ, true, false, List, [], ◌∷◌, Option, Some, None, refl, ap, ◌∙◌, sym, inl, inr}
 use Rattle.std.proofs.lemmas.Bool.{cond-false, cases_Bool}
-use Rattle.btor_tree.specs.Parts.{Parts, all_digits, numeral}
+use Rattle.btor_tree.specs.Parts.{Parts, numeral}
+use Rattle.btor_tree.proofs.Numerals.{all_digits, numeral_is}
 use Rattle.btor_witness.specs.declared.shape.Shape.{Shape}
 use Rattle.btor_witness.specs.declared.shape.Shape.TheVariants.{Sat, Property, Justice, States, Inputs, End, Assignment}
 use Rattle.btor_witness.specs.Shapes.{Spells, shape_of, is_passed}
@@ -13,7 +14,7 @@ numeral_read [] i ps e = refl
 numeral_read (b ∷ bs) i ps e =
     elim (cases_Bool (all_digits (b ∷ bs))) [
       | inl t ↦ digits_read b bs ps t
-      | inr f ↦ absurd (let none : numeral (b ∷ bs) ≡ None = cond-false (all_digits (b ∷ bs)) _ _ f in cc)
+      | inr f ↦ absurd (let none : numeral (b ∷ bs) ≡ None = numeral_is b bs ∙ cond-false (all_digits (b ∷ bs)) _ _ f in cc)
     ]
 
 spelled_read : (shape : Shape) (ps : Parts) → Spells shape ps → is_passed ps ≡ false
@@ -23,7 +24,7 @@ spelled_read (Justice n) ps h = ap is_passed h.1
 spelled_read (States n) ps h = ap is_passed h.1
 spelled_read (Inputs n) ps h = ap is_passed h.1
 spelled_read End ps h = ap is_passed h
-spelled_read (Assignment i word) ps h = ap is_passed h.4 ∙ numeral_read h.0 i _ h.5
+spelled_read (Assignment i word) ps h = ap is_passed h.3 ∙ numeral_read h.0 i _ h.4
 
 pub shaped_read : (ps : Parts) (shape : Shape) → shape_of ps ≡ Some shape → is_passed ps ≡ false
 shaped_read ps shape e = spelled_read shape ps (shape_from shape ps e)

@@ -11,8 +11,9 @@ use Rattle.btor_tree.specs.Fits.{count_of}
 use Rattle.btor_tree.proofs.Grows.{slice_get_inside}
 use Rattle.btor_witness.specs.declared.witness.Stated.{Stated}
 use Rattle.btor_witness.specs.declared.witness.Frame.{Frame}
-use Rattle.btor_witness.specs.Sizes.{widths_in, widths_of}
+use Rattle.btor_witness.specs.Sizes.{widths_of}
 use Rattle.btor_witness.specs.Printing.{IsOf, IsPart, IsBelow, value_of, frame_text, frames_text}
+use Rattle.btor_witness.proofs.Widths.{widths_in}
 
 -- an element at a place
 pub all_at : {X : Type 0} (P : X → Type 0) (xs : List X) (i : ℕ) (x : X) → AllByRecursion P xs → i < length xs → get_or xs i x ≡ x → P x

@@ -52,12 +52,8 @@ IsJudgedAfter lines j step begun before (stated ∷ more) verdict =
     (row : List BitVector) × IsStatedFrame lines begun before stated row × (((clause : Clause) × FailsFirst lines j begun (is_last more) stated row clause × (verdict ≡ No step clause)) ⊎ (Passes lines j begun (is_last more) stated row × IsJudgedAfter lines j (suc step) true row more verdict))
 
 -- the verdict on a witness: yes, or the earliest step whose frame fails, with the first clause that it fails
-abbrev pub IsJudged : List Line → Witness → Verdict → Type 0
-IsJudged lines w verdict = IsJudgedAfter lines w.bad 0 false [] (statements_of w) verdict
-
--- the verdict by the name that contracts use
 abbrev pub judged_btor : List Line → Witness → Verdict → Type 0
-judged_btor lines w verdict = IsJudged lines w verdict
+judged_btor lines w verdict = IsJudgedAfter lines w.bad 0 false [] (statements_of w) verdict
 
 -- the frames that a witness states: each determined state has its word, and each other state and each input the stated
 -- word or zero

@@ -1,6 +1,7 @@
 -- What one line of a witness says by itself (BTOR2, CAV 2018, witness format).
-use Rattle.std.specs.Prelude.{◌≡◌, ◌==◌, ℕ, Bool, true, false, List, [], ◌∷◌, Option, Some, None, if◌then◌else◌, codes}
+use Rattle.std.specs.Prelude.{◌≡◌, ◌==◌, ℕ, Bool, true, false, List, [], ◌∷◌, length, Option, Some, None, is_some, if◌then◌else◌, codes}
 use Rattle.std.specs.Str.{bytes_eq}
+use Rattle.word_core.specs.Digits.{digits_value, read_word}
 use Rattle.btor_tree.specs.Parts.{Parts, numeral}
 use Rattle.btor_tree.specs.Shapes.{symbol_parts}
 use Rattle.btor_witness.specs.declared.shape.Shape.{Shape}
@@ -11,7 +12,7 @@ use Rattle.btor_witness.specs.Bytes.{all_binary, word_of}
 abbrev pub IsMarked : ℕ → ℕ → Parts → Type 0
 IsMarked mark n ps = (digits : List ℕ) × (ps ≡ (mark ∷ digits) ∷ []) × (numeral digits ≡ Some n)
 
--- The parts of a line spell a shape.
+-- The parts of a line spell a shape. The word of binary digits has as many bits, and of more digits than a word has there is none.
 abbrev pub Spells : Shape → Parts → Type 0
 Spells Sat ps = ps ≡ codes "sat" ∷ []
 Spells (Property n) ps = IsMarked 98 n ps
@@ -20,7 +21,7 @@ Spells (States n) ps = IsMarked 35 n ps
 Spells (Inputs n) ps = IsMarked 64 n ps
 Spells End ps = ps ≡ codes "." ∷ []
 Spells (Assignment i word) ps =
-    (index : List ℕ) × (b : ℕ) × (bs : List ℕ) × (symbol : Option (List ℕ)) × (ps ≡ index ∷ (b ∷ bs) ∷ symbol_parts symbol) × (numeral index ≡ Some i) × (all_binary (b ∷ bs) ≡ true) × (word ≡ word_of (b ∷ bs))
+    (index : List ℕ) × (digits : List ℕ) × (symbol : Option (List ℕ)) × (ps ≡ index ∷ digits ∷ symbol_parts symbol) × (numeral index ≡ Some i) × (is_some (digits_value 2 digits) ≡ true) × (word ≡ read_word (length digits) 2 digits)
 
 -- the same, read from the front
 abbrev pub marked : ℕ → ℕ → Option Shape

@@ -1,8 +1,9 @@
 -- What a witness is read against: how many bad lines there are, and the widths of the states and of the inputs.
-use Rattle.std.specs.Prelude.{ℕ, ◌+◌, ◌*◌, Bool, ◌&&◌, nat_le, List, [], ◌∷◌, length, Some, if◌then◌else◌}
+use Rattle.std.specs.Prelude.{ℕ, ◌+◌, ◌*◌, Bool, ◌&&◌, nat_le, List, length, map}
+use Rattle.std.specs.List.{filter}
 use Rattle.btor_tree.specs.declared.lines.Line.{Line}
 use Rattle.btor_tree.specs.declared.lines.LineOp.{LineOp}
-use Rattle.btor_tree.specs.Fits.{count_of, is_bad, is_state, is_input, width_of_line}
+use Rattle.btor_tree.specs.Fits.{count_of, is_bad, is_state, is_input, line_width}
 
 pub record Sizes : Type 0 where
   pub bads : ℕ
@@ -10,13 +11,8 @@ pub record Sizes : Type 0 where
   pub inputs : List ℕ
 
 -- the widths of those of the lines that are of a kind, in order
-abbrev pub widths_in : List Line → (LineOp → Bool) → List Line → List ℕ
-widths_in lines kind [] = []
-widths_in lines kind (l ∷ ls) =
-    if kind l.op then (width_of_line lines (Some l) ∷ widths_in lines kind ls) else widths_in lines kind ls
-
 abbrev pub widths_of : (LineOp → Bool) → List Line → List ℕ
-widths_of kind lines = widths_in lines kind lines
+widths_of kind lines = map (line_width lines) (filter (λ (l : Line). kind l.op) lines)
 
 abbrev pub sizes_of : List Line → Sizes
 sizes_of lines = record { bads = count_of is_bad lines; states = widths_of is_state lines; inputs = widths_of is_input lines }

@@ -1,4 +1,5 @@
 -- Laws that crates above cite.
+pub mod Binary
 pub mod Shapes
 pub mod Laws
 pub mod Verdicts

@@ -1,9 +1,10 @@
 // The reader of a witness, line by line.
-ghost use Rattle.std.specs.Prelude.{◌≡◌, ◌<◌, ◌≤◌, ◌++◌, ◌∷◌, [], length, map, IfOk, OnOk, OnErr};
+ghost use Rattle.std.specs.Prelude.{◌≡◌, ℕ, ◌<◌, ◌≤◌, ◌++◌, ◌∷◌, [], length, map, IfOk, OnOk, OnErr};
 ghost use Rattle.btor_tree.specs.Fits as fits;
 ghost use Rattle.btor_witness.specs.Bytes.{line_parts};
 ghost use Rattle.btor_witness.specs.Sizes.{sizes_of, widths_of, is_within};
-ghost use Rattle.btor_witness.specs.Reading.{Reading, begin, frames_of, sat_line, property_line, justice_line, new_frame, states_line, inputs_line, assignment_line, end_line, step};
+ghost use Rattle.btor_witness.specs.declared.shape.Shape.TheVariants as line;
+ghost use Rattle.btor_witness.specs.Reading.{Reading, begin, frames_of, new_frame, step};
 ghost use Rattle.btor_witness.specs.Texts.{next_of};
 ghost use Rattle.btor_witness.specs.Answer.{ReaderState, Steps, Takes};
 
@@ -107,7 +108,7 @@ impl Reader {
 
     fn sat_line(&mut self) -> Result<bool, LineEnd>
         ensures sizes { self.new.sizes ≡ self.old.sizes }
-        ensures next { Steps (sat_line self.old.reading.phase self.old.reading) self.new.reading result }
+        ensures next { Steps (step self.old.sizes self.old.reading line.Sat) self.new.reading result }
     {
         match self.phase {
             Phase::Start => {
@@ -120,7 +121,7 @@ impl Reader {
 
     fn property_line(&mut self, number: u32) -> Result<bool, LineEnd>
         ensures sizes { self.new.sizes ≡ self.old.sizes }
-        ensures next { Steps (property_line self.old.sizes number self.old.reading.phase self.old.reading) self.new.reading result }
+        ensures next { Steps (step self.old.sizes self.old.reading (line.Property number)) self.new.reading result }
     {
         match self.phase {
             Phase::Property => {
@@ -136,7 +137,7 @@ impl Reader {
     }
 
     fn justice_line(&self) -> Result<bool, LineEnd>
-        ensures { Steps (justice_line self.now.reading.phase) self.now.reading result }
+        ensures { (number : ℕ) → Steps (step self.now.sizes self.now.reading (line.Justice number)) self.now.reading result }
     {
         match self.phase {
             Phase::Property => Err(LineEnd::Bad(witness::JUSTICE)),
@@ -146,7 +147,7 @@ impl Reader {
 
     fn states_line(&mut self, alloc: Global, number: u32) -> Result<bool, LineEnd>
         ensures sizes { self.new.sizes ≡ self.old.sizes }
-        ensures next { Steps (states_line self.old.sizes number self.old.reading.phase self.old.reading) self.new.reading result }
+        ensures next { Steps (step self.old.sizes self.old.reading (line.States number)) self.new.reading result }
     {
         match self.phase {
             Phase::Start => Err(LineEnd::Bad(witness::LINE)),
@@ -157,7 +158,7 @@ impl Reader {
 
     fn inputs_line(&mut self, alloc: Global, number: u32) -> Result<bool, LineEnd>
         ensures sizes { self.new.sizes ≡ self.old.sizes }
-        ensures next { Steps (inputs_line self.old.sizes number self.old.reading.phase self.old.reading) self.new.reading result }
+        ensures next { Steps (step self.old.sizes self.old.reading (line.Inputs number)) self.new.reading result }
     {
         match self.phase {
             Phase::Start => Err(LineEnd::Bad(witness::LINE)),
@@ -205,7 +206,7 @@ impl Reader {
 
     fn assignment_line(&mut self, index: u32, word: Option<Word>) -> Result<bool, LineEnd>
         ensures sizes { self.new.sizes ≡ self.old.sizes }
-        ensures next { Steps (assignment_line self.old.sizes index word self.old.reading.phase self.old.reading) self.new.reading result }
+        ensures next { Steps (step self.old.sizes self.old.reading (line.Assignment index word)) self.new.reading result }
     {
         match self.phase {
             Phase::States => {
@@ -222,7 +223,7 @@ impl Reader {
 
     fn end_line(&mut self, alloc: Global) -> Result<bool, LineEnd>
         ensures sizes { self.new.sizes ≡ self.old.sizes }
-        ensures next { Steps (end_line self.old.reading.phase self.old.reading) self.new.reading result }
+        ensures next { Steps (step self.old.sizes self.old.reading line.End) self.new.reading result }
     {
         match self.phase {
             Phase::States => {

@@ -7,7 +7,8 @@ use Rattle.std.proofs.lemmas.List.{append-nil}
 use Rattle.btor_tree.specs.declared.lines.Line.{Line}
 use Rattle.btor_tree.specs.declared.lines.LineOp.{LineOp}
 use Rattle.btor_tree.specs.declared.lines.LineOp.TheVariants as line
-use Rattle.btor_tree.specs.Fits.{count_of, has_word, is_input, sort_at, width_at, width_of_line}
+use Rattle.btor_tree.specs.Fits.{count_of, has_word, is_input, sort_at, width_at}
+use Rattle.btor_tree.proofs.AtPlaces.{width_of_line}
 use Rattle.btor_tree.proofs.Grows.{slice_get_inside}
 use Rattle.moxi_terms.specs.declared.data.Sort.{Sort}
 use Rattle.moxi_terms.specs.declared.term.Enumeration.{Enumeration}

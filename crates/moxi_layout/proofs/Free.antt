@@ -6,8 +6,9 @@ use Rattle.word_core.specs.Words.{BitVector, IsWord}
 use Rattle.btor_tree.specs.declared.lines.Line.{Line}
 use Rattle.btor_tree.specs.declared.lines.LineOp.{LineOp}
 use Rattle.btor_tree.specs.declared.lines.LineOp.TheVariants as line
-use Rattle.btor_tree.specs.Fits.{count_of, has_word, is_input, is_kind, kind_at, sort_at, width_at}
+use Rattle.btor_tree.specs.Fits.{count_of, has_word, is_input, kind_at, sort_at, width_at}
 use Rattle.btor_tree.specs.Frame.{FreeFits, GivenFits, IsPath}
+use Rattle.btor_tree.proofs.AtPlaces.{is_kind}
 use Rattle.btor_tree.proofs.Paths.{Reads, path, width_is}
 use Rattle.btor_tree.proofs.Widths.{width_small}
 use Rattle.moxi_terms.specs.Tree.{sorts_of}

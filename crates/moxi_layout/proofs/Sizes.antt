@@ -6,12 +6,13 @@ use Rattle.std.proofs.lemmas.Option.{same_Some}
 use Rattle.btor_tree.specs.declared.lines.Line.{Line}
 use Rattle.btor_tree.specs.declared.lines.LineOp.{LineOp}
 use Rattle.btor_tree.specs.declared.lines.LineOp.TheVariants as line
-use Rattle.btor_tree.specs.Fits.{count_of, has_word, is_bad, is_input, is_state, sort_at, width_at, width_of_line}
+use Rattle.btor_tree.specs.Fits.{count_of, has_word, is_bad, is_input, is_state, line_width, sort_at, width_at}
 use Rattle.btor_tree.proofs.Grows.{slice_get_inside}
 use Rattle.btor_tree.proofs.Paths.{state_is}
 use Rattle.btor_witness.specs.Room.{places_of}
-use Rattle.btor_witness.specs.Sizes.{Sizes, sizes_of, widths_in, widths_of}
+use Rattle.btor_witness.specs.Sizes.{Sizes, sizes_of, widths_of}
 use Rattle.btor_witness.specs.Texts.{RefusesText, ReadsText}
+use Rattle.btor_witness.proofs.Widths.{widths_cons, widths_in}
 use Rattle.btor_witness.proofs.Places.{length_places, place_of, place_there, width_by_number}
 use Rattle.moxi_terms.specs.declared.term.Enumeration.{Enumeration}
 use Rattle.moxi_terms.specs.declared.term.Variable.{Variable}
@@ -41,22 +42,22 @@ width_in e = e.width
 
 -- the widths of the lines of a kind are those of its entries
 module _ (kind : LineOp → Bool) (ordered : (o : LineOp) → kind o ≡ true → is_ordered o ≡ true) (lines : List Line)
-    (wide : (l : Line) → kind l.op ≡ true → width_of_line lines (Some l) ≡ entry_width lines l.op l.sort) where
+    (wide : (l : Line) → kind l.op ≡ true → line_width lines l ≡ entry_width lines l.op l.sort) where
   widths_are : (ls : List Line) → map width_in (of_kind kind (entries_in lines ls)) ≡ widths_in lines kind ls
   widths_are [] = refl
-  widths_are (m ∷ ls) = ap (map width_in) (entries_cons kind ordered lines m ls) ∙ go (kind m.op) refl (widths_are ls)
+  widths_are (m ∷ ls) = ap (map width_in) (entries_cons kind ordered lines m ls) ∙ go (kind m.op) refl (widths_are ls) ∙ sym (widths_cons lines kind m ls)
     where
       go : (b : Bool) → kind m.op ≡ b → map width_in (of_kind kind (entries_in lines ls)) ≡ widths_in lines kind ls
-          → map width_in (cond b (entry_of lines m ∷ of_kind kind (entries_in lines ls)) (of_kind kind (entries_in lines ls))) ≡ cond b (width_of_line lines (Some m) ∷ widths_in lines kind ls) (widths_in lines kind ls)
-      go true e ih = ap (λ w. w ∷ map width_in (of_kind kind (entries_in lines ls))) (sym (wide m e)) ∙ ap (λ ws. width_of_line lines (Some m) ∷ ws) ih
+          → map width_in (cond b (entry_of lines m ∷ of_kind kind (entries_in lines ls)) (of_kind kind (entries_in lines ls))) ≡ cond b (line_width lines m ∷ widths_in lines kind ls) (widths_in lines kind ls)
+      go true e ih = ap (λ w. w ∷ map width_in (of_kind kind (entries_in lines ls))) (sym (wide m e)) ∙ ap (λ ws. line_width lines m ∷ ws) ih
       go false e ih = ih
 
-input_wide : (lines : List Line) (l : Line) → is_input l.op ≡ true → width_of_line lines (Some l) ≡ entry_width lines l.op l.sort
+input_wide : (lines : List Line) (l : Line) → is_input l.op ≡ true → line_width lines l ≡ entry_width lines l.op l.sort
 input_wide lines l h =
     let e = input_is l.op h in
     ap (λ o. cond (has_word o) (sort_at lines l.sort) 0) e ∙ sym (ap (λ o. entry_width lines o l.sort) e)
 
-state_wide : (lines : List Line) (l : Line) → is_state l.op ≡ true → width_of_line lines (Some l) ≡ entry_width lines l.op l.sort
+state_wide : (lines : List Line) (l : Line) → is_state l.op ≡ true → line_width lines l ≡ entry_width lines l.op l.sort
 state_wide lines l h =
     let e = state_is l.op h in
     ap (λ o. cond (has_word o) (sort_at lines l.sort) 0) e ∙ sym (ap (λ o. entry_width lines o l.sort) e)

@@ -13,9 +13,10 @@ use Rattle.word_core.specs.declared.kinds.Binary.TheVariants as two
 use Rattle.btor_tree.specs.declared.lines.Line.{Line}
 use Rattle.btor_tree.specs.declared.lines.LineOp.{LineOp}
 use Rattle.btor_tree.specs.declared.lines.LineOp.TheVariants as line
-use Rattle.btor_tree.specs.Fits.{Suits, greatest_id, is_constraint, is_input, is_kind, is_next, is_state, kind_at, operands, plain_arg, state_value, value_for, width_at}
+use Rattle.btor_tree.specs.Fits.{Suits, greatest_id, is_constraint, is_input, is_next, is_state, kind_at, operands, plain_arg, state_value, value_for, width_at}
 use Rattle.btor_tree.specs.Frame.{ConstraintsHold, Meets, operand, true_word, word_at}
 use Rattle.btor_tree.specs.Sharing.{GrowsQuietly, is_shared, next_line, with_sort}
+use Rattle.btor_tree.proofs.AtPlaces.{is_kind}
 use Rattle.btor_tree.proofs.Alike.{pushed_quiet}
 use Rattle.btor_tree.proofs.Equations.{pushed_fit}
 use Rattle.btor_tree.proofs.Paths.{kind_front, operands_append, state_value_append}

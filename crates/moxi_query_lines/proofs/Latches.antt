@@ -9,8 +9,9 @@ use Rattle.btor_tree.specs.declared.args.Arg.{Arg}
 use Rattle.btor_tree.specs.declared.lines.Line.{Line}
 use Rattle.btor_tree.specs.declared.lines.LineOp.{LineOp}
 use Rattle.btor_tree.specs.declared.lines.LineOp.TheVariants as line
-use Rattle.btor_tree.specs.Fits.{Suits, greatest_id, is_init, is_kind, is_next, is_state, kind_at, plain_arg, sort_at, state_value, value_for, width_at, width_of_line}
+use Rattle.btor_tree.specs.Fits.{Suits, greatest_id, is_init, is_next, is_state, kind_at, plain_arg, sort_at, state_value, value_for, width_at}
 use Rattle.btor_tree.specs.Sharing.{GrowsQuietly, is_shared, next_line, pushed, with_sort}
+use Rattle.btor_tree.proofs.AtPlaces.{is_kind, width_of_line}
 use Rattle.btor_tree.proofs.Equations.{pushed_fit}
 use Rattle.btor_tree.proofs.Grows.{slice_get_end}
 use Rattle.btor_tree.proofs.Paths.{fresh, kind_front, state_value_append}

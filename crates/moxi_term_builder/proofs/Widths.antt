@@ -9,8 +9,9 @@ use Rattle.btor_tree.specs.declared.args.Arg.{Arg}
 use Rattle.btor_tree.specs.declared.lines.Line.{Line}
 use Rattle.btor_tree.specs.declared.lines.LineOp.{LineOp}
 use Rattle.btor_tree.specs.declared.lines.LineOp.TheVariants as line
-use Rattle.btor_tree.specs.Fits.{AreEarlier, OpFits, greatest_id, has_word, plain_arg, sort_at, width_at, width_of_line}
+use Rattle.btor_tree.specs.Fits.{AreEarlier, OpFits, greatest_id, has_word, plain_arg, sort_at, width_at}
 use Rattle.btor_tree.specs.Sharing.{GrowsQuietly, is_shared, with_sort}
+use Rattle.btor_tree.proofs.AtPlaces.{width_of_line}
 use Rattle.btor_tree.proofs.Alike.{pushed_quiet, pushed_says, pushed_sort}
 use Rattle.moxi_term_lines.specs.TermLines.{with_binary, with_ite, with_signs, with_slice, with_unary, with_word, with_zeros}
 use Rattle.moxi_term_lines.proofs.Growing.{earlier_more, grown_long, grown_sort, grown_width, wide_inside}

@@ -1,15 +1,17 @@
 -- What the parts of a line spell is what is read from their front.
-use Rattle.std.proofs.Common.{◌≡◌, ℕ, true, eqb, List, [], ◌∷◌, Option, Some, None, refl, sym, ap, ◌∙◌, subst}
-use Rattle.std.specs.Prelude.{codes}
+use Rattle.std.proofs.Common.{◌≡◌, ℕ, true, false, eqb, List, [], ◌∷◌, length, Option, Some, None, refl, sym, ap, ◌∙◌, subst}
+use Rattle.std.specs.Prelude.{codes, is_some}
 use Rattle.std.specs.Str.{bytes_eq}
 use Rattle.std.proofs.lemmas.Slice.Eq.{bytes_eq-Decides}
 use Rattle.std.proofs.lemmas.Bool.{cond_both, cond-true, eqb-true}
+use Rattle.word_core.specs.Digits.{digits_value, read_word}
 use Rattle.btor_tree.specs.Parts.{Parts, numeral}
 use Rattle.btor_tree.specs.Shapes.{symbol_parts}
 use Rattle.btor_witness.specs.declared.shape.Shape.{Shape}
 use Rattle.btor_witness.specs.declared.shape.Shape.TheVariants.{Sat, Property, Justice, States, Inputs, End, Assignment}
 use Rattle.btor_witness.specs.Bytes.{all_binary, word_of}
 use Rattle.btor_witness.specs.Shapes.{IsMarked, Spells, marked, on_number, number_shape, single_shape, assignment_shape, shape_of}
+use Rattle.btor_witness.specs.laws.Binary.{binary_tested, binary_word}
 
 assigned : (index : List ℕ) (b : ℕ) (bs : List ℕ) (symbol : Option (List ℕ)) (i : ℕ) → numeral index ≡ Some i → all_binary (b ∷ bs) ≡ true
     → shape_of (index ∷ (b ∷ bs) ∷ symbol_parts symbol) ≡ Some (Assignment i (word_of (b ∷ bs)))
@@ -23,7 +25,12 @@ shape_reads (Justice n) ps h = ap shape_of h.1 ∙ ap (on_number 106) h.2
 shape_reads (States n) ps h = ap shape_of h.1 ∙ ap (on_number 35) h.2
 shape_reads (Inputs n) ps h = ap shape_of h.1 ∙ ap (on_number 64) h.2
 shape_reads End ps h = ap shape_of h
-shape_reads (Assignment i word) ps h = ap shape_of h.4 ∙ assigned h.0 h.1 h.2 h.3 i h.5 h.6 ∙ ap (λ w. Some (Assignment i w)) (sym h.7)
+shape_reads (Assignment i word) ps h = ap shape_of h.3 ∙ from h.1 h.5 h.6 where
+  from : (digits : List ℕ) → is_some (digits_value 2 digits) ≡ true → word ≡ read_word (length digits) 2 digits → shape_of (h.0 ∷ digits ∷ symbol_parts h.2) ≡ Some (Assignment i word)
+  from [] t e = absurd (let f : false ≡ true = t in cc)
+  from (b ∷ bs) t e =
+      let binary = sym (binary_tested b bs) ∙ t in
+      assigned h.0 b bs h.2 i h.4 binary ∙ ap (λ w. Some (Assignment i w)) (sym (e ∙ binary_word b bs binary))
 
 -- and the other way round
 abbrev OnShape : Parts → Option Shape → Type 0
@@ -63,7 +70,7 @@ assignment_from index digits symbol None e = tt
 assignment_from index [] symbol (Some i) e = tt
 assignment_from index (b ∷ bs) symbol (Some i) e =
     cond_both (all_binary (b ∷ bs)) (Some (Assignment i (word_of (b ∷ bs)))) None (OnShape (index ∷ (b ∷ bs) ∷ symbol_parts symbol))
-    (λ t. (index, b, bs, symbol, refl, e, t, refl)) (λ _. tt)
+    (λ t. (index, b ∷ bs, symbol, refl, e, binary_tested b bs ∙ t, sym (binary_word b bs t))) (λ _. tt)
 
 shape_there : (ps : Parts) → OnShape ps (shape_of ps)
 shape_there [] = tt

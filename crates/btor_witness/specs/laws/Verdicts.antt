@@ -11,7 +11,7 @@ use Rattle.btor_frames.specs.Judged.{Statement, AreStatedAfter, PassAfter, IsAcc
 use Rattle.btor_frames.proofs.Stating.{one_stated}
 use Rattle.btor_witness.specs.declared.witness.Frame.{Frame}
 use Rattle.btor_witness.specs.declared.witness.Witness.{Witness}
-use Rattle.btor_witness.specs.Judging.{statement_of, statements_of, is_last, Passes, FailsFirst, IsJudgedAfter, IsJudged}
+use Rattle.btor_witness.specs.Judging.{statement_of, statements_of, is_last, Passes, FailsFirst, IsJudgedAfter, judged_btor}
 
 fails_not : (lines : List Line) (j : ℕ) (begun last : Bool) (s : Statement) (row : List BitVector) (clause : Clause) → FailsFirst lines j begun last s row clause → Passes lines j begun last s row → ⊥
 fails_not lines j begun last s row StateDiffers f p = f p.0
@@ -55,7 +55,7 @@ one_after lines j step begun before (s ∷ more) v u w h k =
       ]
     ]
 
-pub one_verdict : (lines : List Line) (w : Witness) (v u : Verdict) → IsWellFormed lines → IsJudged lines w v → IsJudged lines w u → v ≡ u
+pub one_verdict : (lines : List Line) (w : Witness) (v u : Verdict) → IsWellFormed lines → judged_btor lines w v → judged_btor lines w u → v ≡ u
 one_verdict lines w v u f h k = one_after lines w.bad 0 false [] (statements_of w) v u f h k
 
 yes_no : (step : ℕ) (clause : Clause) → Yes ≡ No step clause → ⊥
@@ -89,5 +89,5 @@ some_stated : (frames : List Frame) → frames ≢ [] → map statement_of frame
 some_stated [] n = absurd (n refl)
 some_stated (f ∷ frames) n = λ e. absurd (omega (arith, ap length e))
 
-pub yes_where_accepted : (lines : List Line) (w : Witness) → w.frames ≢ [] → (IsJudged lines w Yes → IsAccepted lines w.bad (statements_of w)) × (IsAccepted lines w.bad (statements_of w) → IsJudged lines w Yes)
+pub yes_where_accepted : (lines : List Line) (w : Witness) → w.frames ≢ [] → (judged_btor lines w Yes → IsAccepted lines w.bad (statements_of w)) × (IsAccepted lines w.bad (statements_of w) → judged_btor lines w Yes)
 yes_where_accepted lines w n = both lines w.bad (statements_of w) (some_stated w.frames n)

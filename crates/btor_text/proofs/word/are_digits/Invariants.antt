@@ -1,5 +1,5 @@
 use Rattle.std.proofs.Common.{◌≡◌, drop}
-use Rattle.btor_tree.specs.Shapes.{all_of_base}
+use Rattle.btor_tree.specs.Bytes.{all_of_base}
 use Rattle.btor_text.proofs.word.are_digits.Given as goal
 
 abbrev pub invariant-loop-b : goal.invariant-loop-b

@@ -1,7 +1,8 @@
 use Rattle.std.proofs.Common.{◌≡◌, drop}
-use Rattle.btor_tree.specs.Shapes.{is_among}
+use Rattle.std.specs.List.{list_any}
+use Rattle.std.specs.Str.{bytes_eq}
 use Rattle.btor_text.specs.Seen.{texts}
 use Rattle.btor_text.proofs.word.is_among.Given as goal
 
 abbrev pub invariant-loop-bytes : goal.invariant-loop-bytes
-invariant-loop-bytes l = is_among (texts (drop l.bytes-index l.table)) l.text ≡ is_among (texts l.table) l.text
+invariant-loop-bytes l = list_any (λ w. bytes_eq l.text w) (texts (drop l.bytes-index l.table)) ≡ list_any (λ w. bytes_eq l.text w) (texts l.table)

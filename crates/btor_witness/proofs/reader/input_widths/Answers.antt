@@ -1,8 +1,7 @@
 use Rattle.std.proofs.Common.{◌∷◌, ◌++◌, [], sym, ap, ◌∙◌, take, add-one}
 use Rattle.btor_tree.specs.Fits.{is_input}
 use Rattle.btor_tree.proofs.Paths.{width_is}
-use Rattle.btor_witness.specs.Sizes.{widths_in}
-use Rattle.btor_witness.proofs.Widths.{width_more, width_same, input_has_word}
+use Rattle.btor_witness.proofs.Widths.{widths_in, width_more, width_same, input_has_word}
 use Rattle.btor_witness.proofs.reader.input_widths.Goals as goal
 use Rattle.btor_witness.proofs.reader.input_widths.Goals.{then-is_input+in_ok-push, else-is_input}
 

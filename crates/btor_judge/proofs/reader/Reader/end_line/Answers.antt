@@ -1,5 +1,7 @@
 use Rattle.std.proofs.Common.{sym, subst, inl, inr}
-use Rattle.btor_witness.specs.Reading.{last_frame, end_line}
+use Rattle.btor_witness.specs.declared.shape.Shape.TheVariants.{End}
+use Rattle.btor_witness.specs.Sizes.{sizes_of}
+use Rattle.btor_witness.specs.Reading.{last_frame, step}
 use Rattle.btor_judge.specs.declared.reader.Reader.{Reader}
 use Rattle.btor_judge.specs.declared.reader.Stage.TheVariants.{Done}
 use Rattle.btor_judge.specs.Standing.{Does}
@@ -19,7 +21,7 @@ returns-in-States c = λ r h.
     let old = c.args.self.now in
     let new = c.judge_frame.new.self in
     let judged = c.judge_frame.ensures.judged (last_frame r) r.frames (has_frame lines old r (inl c.in-States.is) h) (judged_before lines old r h.0) in
-    subst (λ (x : Reader). Does lines r (end_line r.phase r) x Done) (sym c.judge_frame.ensures.rest) (at_end lines old new.frames new.verdict r h.0 (inl c.in-States.is) judged)
+    subst (λ (x : Reader). Does lines r (step (sizes_of lines) r End) x Done) (sym c.judge_frame.ensures.rest) (at_end lines old new.frames new.verdict r h.0 (inl c.in-States.is) judged)
 
 pub returns-in-Inputs : goal.returns-in-Inputs
 returns-in-Inputs c = λ r h.
@@ -27,4 +29,4 @@ returns-in-Inputs c = λ r h.
     let old = c.args.self.now in
     let new = c.judge_frame-in-Inputs.new.self in
     let judged = c.judge_frame-in-Inputs.ensures.judged (last_frame r) r.frames (has_frame lines old r (inr c.in-Inputs.is) h) (judged_before lines old r h.0) in
-    subst (λ (x : Reader). Does lines r (end_line r.phase r) x Done) (sym c.judge_frame-in-Inputs.ensures.rest) (at_end lines old new.frames new.verdict r h.0 (inr c.in-Inputs.is) judged)
+    subst (λ (x : Reader). Does lines r (step (sizes_of lines) r End) x Done) (sym c.judge_frame-in-Inputs.ensures.rest) (at_end lines old new.frames new.verdict r h.0 (inr c.in-Inputs.is) judged)
