@@ -4,5 +4,4 @@ pub mod Answers
 pub mod Reading
 pub mod Giving
 pub mod Sinks
-pub mod Last
 pub mod laws

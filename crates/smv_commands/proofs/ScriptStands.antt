@@ -3,15 +3,12 @@ use Rattle.std.proofs.Common.{◌≡◌, ℕ, ◌+◌, ◌<◌, List, [], ◌∷
 use Rattle.std.specs.Prelude.{IfOk, slice_get}
 use Rattle.text_core.specs.declared.place.Place.{Place}
 use Rattle.smv_text.specs.Tree.{PlainSource}
-use Rattle.smv_meaning.specs.Values.{Valuation, given}
-use Rattle.smv_meaning.specs.Instances.{Instance, instances_of}
-use Rattle.smv_meaning.specs.Runs.{Breaks, LastBreaks, StepsHold}
 use Rattle.smv_flat.specs.FlatForms.{PlainFlat, flat_smv}
 use Rattle.smv_width.specs.FlatWidth.{width_of}
 use Rattle.smv_script.specs.Script.{query_of, script_of}
 use Rattle.moxi_print.specs.Shown.{lines_text}
 use Rattle.moxi_shown_scripts.specs.Printing.{shown_script}
-use Rattle.smv_script_runs.specs.Laws.{BreaksAt, HasQueries, decoded_run}
+use Rattle.smv_script_runs.specs.Laws.{HasRun, HasQueries, invariant_count}
 use Rattle.smv_script.specs.Script.{script_for}
 use Rattle.moxi_scripts.specs.declared.script.Query.{Query}
 use Rattle.moxi_scripts.specs.Script.{PlainScript}
@@ -21,8 +18,6 @@ use Rattle.moxi_read_back.specs.Again.{with_place}
 use Rattle.command_answers.specs.declared.answer.Answer.{Answer}
 use Rattle.command_answers.specs.declared.answer.Answer.TheVariants.{Refused, Done}
 use Rattle.command_answers.specs.declared.answer.Output.TheVariants.{Text}
-use Rattle.command_answers.specs.Last.{AtLast}
-use Rattle.smv_commands.specs.Runs.{HasRun, invariant_count}
 use Rattle.smv_commands.specs.Scripts.{HasTrace, IsScript, OfBytes, StandsForModel, moxi_text}
 use Rattle.text_core.specs.Outside.{Files}
 use Rattle.command_answers.specs.Reading.{file_within}
@@ -47,38 +42,6 @@ one_of_bytes bytes a b h k = absurd h
 -- files define one script
 pub one_script : (fs : Files) (model : List ℕ) (a b : Answer) → IsScript fs model a → IsScript fs model b → a ≡ b
 one_script fs model a b h k = goes_once (file_within fs model most_smv_bytes smv_too_long) OfBytes one_of_bytes a b h k
-
--- ---- runs
-
-at_last : (source : PlainSource) (j : ℕ) (states : List Valuation) → LastBreaks source j states → AtLast (Breaks source j) states
-at_last source j [] h = absurd h
-at_last source j (s ∷ []) h = h
-at_last source j (s ∷ u ∷ states) h = at_last source j (u ∷ states) h
-
-last_breaks : (source : PlainSource) (j : ℕ) (states : List Valuation) → AtLast (Breaks source j) states → LastBreaks source j states
-last_breaks source j [] h = absurd h
-last_breaks source j (s ∷ []) h = h
-last_breaks source j (s ∷ u ∷ states) h = last_breaks source j (u ∷ states) h
-
-one_more : (t : List Instance) (states labels : List Valuation) → StepsHold t states labels → length states ≡ length labels + 1
-one_more t [] labels h = absurd h
-one_more t (s ∷ []) [] h = omega arith
-one_more t (s ∷ []) (l ∷ labels) h = absurd h
-one_more t (s ∷ u ∷ states) [] h = absurd h
-one_more t (s ∷ u ∷ states) (l ∷ labels) h = omega (arith, one_more t (u ∷ states) labels h.1)
-
-run_of_breaks : (source : PlainSource) (j k : ℕ) (states labels : List Valuation) → BreaksAt source j k states labels → HasRun source j k
-run_of_breaks source j k states labels b = record {
-  states = states;
-  labels = labels;
-  states_count = one_more (instances_of source) states labels b.run.steps ∙ ap (λ n. n + 1) b.counted;
-  labels_count = b.counted;
-  is_run = b.run;
-  breaks = at_last source j states b.breaks;
-}
-
-breaks_of_run : (source : PlainSource) (j k : ℕ) (r : HasRun source j k) → BreaksAt source j k r.states r.labels
-breaks_of_run source j k r = record { counted = r.labels_count; run = r.is_run; breaks = last_breaks source j r.states r.breaks }
 
 -- ---- the script, wherever its check stands
 
@@ -110,14 +73,6 @@ module _ (source : PlainSource) (p : Place) (has : HasQueries source)
     sound = has_run;
     complete = has_trace;
   }
-
-pub decoded_runs : (source : PlainSource) (j k : ℕ) (trace : Trace)
-    → BreaksAt source j k (map given (decoded_run source trace k).states) (map given (decoded_run source trace k).labels) → HasRun source j k
-decoded_runs source j k trace b = run_of_breaks source j k (map given (decoded_run source trace k).states) (map given (decoded_run source trace k).labels) b
-
-pub traced_runs : (source : PlainSource) (j k : ℕ) → ((states labels : List Valuation) → BreaksAt source j k states labels → (trace : Trace) × MeetsQuery (script_for source) (query_of j) k trace)
-    → HasRun source j k → (trace : Trace) × MeetsQuery (script_for source) (query_of j) k trace
-traced_runs source j k go r = go r.states r.labels (breaks_of_run source j k r)
 
 -- ---- texts
 

@@ -20,7 +20,7 @@ use Rattle.command_answers.specs.declared.answer.Answer.TheVariants.{Refused, Do
 use Rattle.command_answers.specs.declared.answer.Output.TheVariants.{Text}
 use Rattle.smv_commands.specs.Limits.{most_smv_bytes}
 use Rattle.command_answers.specs.Reading.{GoesOn, file_within}
-use Rattle.smv_commands.specs.Runs.{HasRun, invariant_count}
+use Rattle.smv_script_runs.specs.Laws.{HasRun, invariant_count}
 use Rattle.smv_commands.specs.Models.{IsAcceptedModel, IsCheckRefusal, smv_too_long}
 
 -- the printed script that stands for a model

@@ -1,12 +1,10 @@
 -- A model's runs are the frames of its lines.
-use Rattle.std.proofs.Common.{◌≡◌, ℕ, ◌+◌, ◌<◌, List, [], ◌∷◌, Some, map, length, refl, ap, ◌∙◌, arith}
+use Rattle.std.proofs.Common.{◌≡◌, ℕ, ◌<◌, List, Some, map, refl}
 use Rattle.std.specs.Prelude.{◌↔◌, slice_get}
 use Rattle.smv_text.specs.Tree.{PlainSource}
 use Rattle.smv_meaning.specs.Values.{Valuation, given}
-use Rattle.smv_meaning.specs.Instances.{Instance, instances_of}
-use Rattle.smv_meaning.specs.Runs.{Breaks, LastBreaks, StepsHold}
 use Rattle.smv_script.specs.Script.{query_of, script_for}
-use Rattle.smv_script_runs.specs.Laws.{BreaksAt, HasQueries, decoded_run}
+use Rattle.smv_script_runs.specs.Laws.{BreaksAt, HasQueries, decoded_run, HasRun, invariant_count}
 use Rattle.moxi_scripts.specs.declared.script.Query.{Query}
 use Rattle.moxi_scripts.specs.Script.{PlainScript}
 use Rattle.moxi_systems.specs.Behaviour.{Trace}
@@ -14,41 +12,8 @@ use Rattle.moxi_systems.specs.Meeting.{MeetsQuery}
 use Rattle.moxi_flat.specs.FlatMeeting.{MeetsFlat}
 use Rattle.moxi_flat.specs.FlatSystem.{flat_of}
 use Rattle.moxi_flat.specs.Laws.{Extends, IsMetFlat}
-use Rattle.moxi_layout.specs.Laws.{AtLast, HasFlatTrace, HasFrames}
+use Rattle.moxi_layout.specs.Laws.{HasFlatTrace, HasFrames}
 use Rattle.smv_model_lines.specs.Laws.{model_lines, model_system}
-use Rattle.smv_model_lines.specs.Runs.{HasRun, invariant_count}
-
--- ---- runs
-
-at_last : (source : PlainSource) (j : ℕ) (states : List Valuation) → LastBreaks source j states → AtLast (Breaks source j) states
-at_last source j [] h = absurd h
-at_last source j (s ∷ []) h = h
-at_last source j (s ∷ u ∷ states) h = at_last source j (u ∷ states) h
-
-last_breaks : (source : PlainSource) (j : ℕ) (states : List Valuation) → AtLast (Breaks source j) states → LastBreaks source j states
-last_breaks source j [] h = absurd h
-last_breaks source j (s ∷ []) h = h
-last_breaks source j (s ∷ u ∷ states) h = last_breaks source j (u ∷ states) h
-
-one_more : (t : List Instance) (states labels : List Valuation) → StepsHold t states labels → length states ≡ length labels + 1
-one_more t [] labels h = absurd h
-one_more t (s ∷ []) [] h = omega arith
-one_more t (s ∷ []) (l ∷ labels) h = absurd h
-one_more t (s ∷ u ∷ states) [] h = absurd h
-one_more t (s ∷ u ∷ states) (l ∷ labels) h = omega (arith, one_more t (u ∷ states) labels h.1)
-
-run_of_breaks : (source : PlainSource) (j k : ℕ) (states labels : List Valuation) → BreaksAt source j k states labels → HasRun source j k
-run_of_breaks source j k states labels b = record {
-  states = states;
-  labels = labels;
-  states_count = one_more (instances_of source) states labels b.run.steps ∙ ap (λ n. n + 1) b.counted;
-  labels_count = b.counted;
-  is_run = b.run;
-  breaks = at_last source j states b.breaks;
-}
-
-breaks_of_run : (source : PlainSource) (j k : ℕ) (r : HasRun source j k) → BreaksAt source j k r.states r.labels
-breaks_of_run source j k r = record { counted = r.labels_count; run = r.is_run; breaks = last_breaks source j r.states r.breaks }
 
 -- ---- traces
 
@@ -75,7 +40,7 @@ module _ (source : PlainSource) (has : HasQueries source) (flat : FlatTracesOf s
   pub complete_frames : ((j k : ℕ) (states labels : List Valuation) → BreaksAt source j k states labels → (trace : Trace) × MeetsQuery (script_for source) (query_of j) k trace)
       → (j k : ℕ) → j < invariant_count source → HasRun source j k → HasFrames (model_lines source) j k
   complete_frames traced j k h r =
-      let m = traced j k r.states r.labels (breaks_of_run source j k r) in
+      let m = traced j k r.0 r.1 r.2 in
       (frames j k (query_of j) (has.each j h)).0 (flat_of_met (script_for source) (query_of j) k m.0 (flat (query_of j) k m.0) m.1)
 
   pub sound_frames : ((j k : ℕ) (trace : Trace) → MeetsQuery (script_for source) (query_of j) k trace → BreaksAt source j k (map given (decoded_run source trace k).states) (map given (decoded_run source trace k).labels))
@@ -83,4 +48,4 @@ module _ (source : PlainSource) (has : HasQueries source) (flat : FlatTracesOf s
   sound_frames decoded j k h x =
       let t = (frames j k (query_of j) (has.each j h)).1 x in
       let m = met_by_flat (script_for source) (query_of j) k t.0 (flat (query_of j) k t.0) t.1 in
-      run_of_breaks source j k (map given (decoded_run source t.0 k).states) (map given (decoded_run source t.0 k).labels) (decoded j k t.0 m)
+      (map given (decoded_run source t.0 k).states, map given (decoded_run source t.0 k).labels, decoded j k t.0 m)

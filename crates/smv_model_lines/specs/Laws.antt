@@ -1,5 +1,5 @@
 -- What the lines of a model's script stand for, and how many they are (BTOR2, CAV 2018; the bounds are this translator's own).
-use Rattle.std.specs.Prelude.{◌≡◌, ℕ, ◌+◌, ◌*◌, ◌<◌, ◌≤◌, List, length, None}
+use Rattle.std.specs.Prelude.{◌≡◌, ◌↔◌, ℕ, ◌+◌, ◌*◌, ◌<◌, ◌≤◌, List, length, None}
 use Rattle.text_core.specs.declared.place.Place.{Place}
 use Rattle.smv_text.specs.declared.token.Token.{Token}
 use Rattle.smv_text.specs.Tree.{PlainSource}
@@ -19,7 +19,7 @@ use Rattle.moxi_flat.specs.FlatSystem.{PlainFlatSystem, flat_of}
 use Rattle.moxi_flat.specs.Limits.{flat_refusal}
 use Rattle.moxi_lines.specs.Lines.{lines_of}
 use Rattle.moxi_layout.specs.Laws.{HasFrames, IsLaidOut}
-use Rattle.smv_model_lines.specs.Runs.{HasRun, invariant_count}
+use Rattle.smv_script_runs.specs.Laws.{HasRun, invariant_count}
 
 -- something of each model that a text spells, whose checks hold, and none of whose expressions is too high
 abbrev pub OfAccepted : (PlainSource → Type 0) → Type 0
@@ -34,12 +34,11 @@ model_system source = flat_of (script_for source)
 abbrev pub model_lines : PlainSource → List Line
 model_lines source = lines_of (model_system source)
 
--- the lines stand for the model: as many bad lines as invariants, and both directions for each invariant and each number
--- of transitions
+-- the lines stand for the model: as many bad lines as invariants, and for each invariant and each number of transitions there is
+-- a run exactly where there are frames
 pub record Translates (source : PlainSource) (lines : List Line) : Type 0 where
   pub bads : length (operands is_bad lines) ≡ invariant_count source
-  pub sound : (j k : ℕ) → j < invariant_count source → HasFrames lines j k → HasRun source j k
-  pub complete : (j k : ℕ) → j < invariant_count source → HasRun source j k → HasFrames lines j k
+  pub frames : (j k : ℕ) → j < invariant_count source → HasRun source j k ↔ HasFrames lines j k
 
 -- a text spells these lines, and no others
 pub record SpellsOnly (text : List ℕ) (lines : List Line) : Type 0 where

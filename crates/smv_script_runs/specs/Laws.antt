@@ -23,6 +23,14 @@ pub record BreaksAt (source : PlainSource) (j k : ℕ) (states labels : List Val
   pub run : IsRun source states labels
   pub breaks : LastBreaks source j states
 
+-- some run of k transitions ends in a state that breaks invariant j
+abbrev pub HasRun : PlainSource → ℕ → ℕ → Type 0
+HasRun source j k = (states : List Valuation) × (labels : List Valuation) × BreaksAt source j k states labels
+
+-- how many invariants a model has, over all its instances
+abbrev pub invariant_count : PlainSource → ℕ
+invariant_count source = length (invariants_in (instances_of source))
+
 -- the run for which the first steps of a trace stand
 abbrev pub decoded_run : PlainSource → Trace → ℕ → Run
 decoded_run source trace k = run_of (flat_smv source) (coding_of (flat_smv source) (width_of (flat_smv source))) trace k
@@ -39,5 +47,5 @@ RunsHaveTraces = (source : PlainSource) (end : Place) (text : List ℕ) (xs : Li
 
 -- the script has a query for each invariant, in their order
 pub record HasQueries (source : PlainSource) : Type 0 where
-  pub counted : length (script_for source).check.queries ≡ length (invariants_in (instances_of source))
-  pub each : (j : ℕ) → j < length (invariants_in (instances_of source)) → slice_get (script_for source).check.queries j ≡ Some (query_of j)
+  pub counted : length (script_for source).check.queries ≡ invariant_count source
+  pub each : (j : ℕ) → j < invariant_count source → slice_get (script_for source).check.queries j ≡ Some (query_of j)

@@ -1,7 +1,8 @@
-use Rattle.std.proofs.Common.{◌≡◌, ℕ, sym, subst, arith}
+use Rattle.std.proofs.Common.{◌≡◌, ℕ, map, sym, subst, arith}
 use Rattle.std.specs.Prelude.{◌≤◌}
 use Rattle.text_core.specs.declared.place.Place.{Place}
 use Rattle.text_core.specs.Places.{start, after}
+use Rattle.smv_meaning.specs.Values.{given}
 use Rattle.smv_flat.specs.FlatForms.{flat_smv}
 use Rattle.smv_width.specs.FlatWidth.{width_of}
 use Rattle.smv_script.specs.Script.{query_of}
@@ -9,7 +10,7 @@ use Rattle.moxi_systems.specs.Behaviour.{Trace}
 use Rattle.moxi_systems.specs.Meeting.{MeetsQuery}
 use Rattle.moxi_systems.specs.Whole.{IsWhole}
 use Rattle.moxi_shown_scripts.specs.NamesOfScripts.{HasSpellableNames}
-use Rattle.smv_commands.specs.Runs.{HasRun}
+use Rattle.smv_script_runs.specs.Laws.{HasRun, decoded_run}
 use Rattle.moxi_print.specs.Shown.{SpellsShown, lines_text, shown_depths}
 use Rattle.moxi_scripts.specs.Script.{PlainScript}
 use Rattle.moxi_scripts.specs.Spelling.{SpellsScript}
@@ -17,7 +18,7 @@ use Rattle.moxi_shown_scripts.specs.Printing.{shown_script}
 use Rattle.moxi_read_back.specs.Again.{ReadsAs, with_place}
 use Rattle.smv_commands.specs.Scripts.{SpellsText, StandsForModel, moxi_text}
 use Rattle.smv_script.specs.Script.{script_for}
-use Rattle.smv_commands.proofs.ScriptStands.{stands, decoded_runs, traced_runs}
+use Rattle.smv_commands.proofs.ScriptStands.{stands}
 use Rattle.smv_commands.proofs.script.scripts_stand.Goals as goal
 
 pub returns : goal.returns
@@ -32,9 +33,13 @@ returns c bytes source a =
     c.shown_is_read_back.ensures (shown_script (script_for source)) (c.whole_scripts_can_be_shown.ensures (script_for source) whole names) (omega (arith, few)) in
     let again : (end : Place) → ReadsAs shown.forms end (script_for source) = λ end. c.printed_scripts_are_spelled.ensures (script_for source) shown.forms end whole shown.shown in
     let decoded : (j k : ℕ) (trace : Trace) → MeetsQuery (script_for source) (query_of j) k trace → HasRun source j k =
-    λ j k trace met. decoded_runs source j k trace (c.runs_are_traces.ensures.decoded source end bytes m.tokens m.lexed m.spelled 0 a.accepted j k trace met) in
+    λ j k trace met. (
+      map given (decoded_run source trace k).states,
+      map given (decoded_run source trace k).labels,
+      c.runs_are_traces.ensures.decoded source end bytes m.tokens m.lexed m.spelled 0 a.accepted j k trace met,
+    ) in
     let traced : (j k : ℕ) → HasRun source j k → (trace : Trace) × MeetsQuery (script_for source) (query_of j) k trace =
-    λ j k r. traced_runs source j k (λ states labels b. c.runs_are_traces.ensures.traced source end bytes m.tokens m.lexed m.spelled 0 a.accepted j k states labels b) r in
+    λ j k r. c.runs_are_traces.ensures.traced source end bytes m.tokens m.lexed m.spelled 0 a.accepted j k r.0 r.1 r.2 in
     let each : (script : PlainScript) → SpellsText (moxi_text source) script → StandsForModel source script =
     λ script t.
     let forms = c.readings_are_one.ensures.forms (moxi_text source) t.forms shown.forms t.formed shown.spelled in

@@ -13,6 +13,8 @@ returns c source end text xs l s needed a low =
     let frames : FramesOfSystem source = c.traces_have_frames.ensures (model_system source) (model_lines source) laid in
     record {
       bads = c.bads_are_queries.ensures (model_system source) (model_lines source) laid.lays ∙ has.counted;
-      sound = sound_frames source has flat frames (c.runs_are_traces.ensures.decoded source end text xs l s needed a);
-      complete = complete_frames source has flat frames (c.runs_are_traces.ensures.traced source end text xs l s needed a);
+      frames = λ j k lt. (
+        complete_frames source has flat frames (c.runs_are_traces.ensures.traced source end text xs l s needed a) j k lt,
+        sound_frames source has flat frames (c.runs_are_traces.ensures.decoded source end text xs l s needed a) j k lt,
+      );
     }
