@@ -44,7 +44,7 @@ RefusesText sizes text = Refuses 0 sizes begin (raw_lines text)
 
 -- the text is no longer than a witness may be, and its lines spell the witness
 abbrev pub SpellsWitness : List Line → List ℕ → Witness → Type 0
-SpellsWitness lines text w = (length text ≤ most_bytes) × Reads (sizes_of lines) begin (raw_lines text) w
+SpellsWitness lines text w = (length text ≤ most_bytes) × ReadsText (sizes_of lines) text w
 
 -- the text is longer, at line 1, or a line of it is the first that is refused
 abbrev pub RefusesWitness : List Line → List ℕ → Kind → ℕ → Type 0
