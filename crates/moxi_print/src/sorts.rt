@@ -27,18 +27,21 @@ fn put_last_sort(out: &mut Text, scope: &Scope, sort: Sort) -> Result<(), NoMemo
     match sort {
         Sort::Truth => out.put(b" Bool)"),
         _ => {
-            out.put(b" ")?;
+            out.put_byte(b' ')?;
             put_sort(out, scope, sort)?;
-            out.put(b")")
+            out.put_byte(b')')
         }
     }
 }
 
 // The opening bracket of a variable, behind a blank unless it is the first one.
-fn opening(first: bool) -> &'static [u8]
-    ensures { result.now ≡ (if first then [] else 32 ∷ []) ++ 40 ∷ [] }
+fn put_opening(out: &mut Text, first: bool) -> Result<(), NoMemory>
+    ensures { OnOk result (out.new ≡ out.old ++ ((if first then [] else 32 ∷ []) ++ 40 ∷ [])) }
 {
-    if first { b"(" } else { b" (" }
+    if !first {
+        out.put_byte(b' ')?;
+    }
+    out.put_byte(b'(')
 }
 
 fn put_variable(
@@ -49,7 +52,7 @@ fn put_variable(
 ) -> Result<(), NoMemory>
     ensures { OnOk result (out.new ≡ out.old ++ ((if first then [] else 32 ∷ []) ++ text_of (shown_variable scope.now variable.now))) }
 {
-    out.put(opening(first))?;
+    put_opening(out, first)?;
     put_symbol(out, variable.name.bytes(), false)?;
     put_last_sort(out, scope, variable.sort)
 }
@@ -69,7 +72,7 @@ fn put_each_variable(out: &mut Text, scope: &Scope, variables: &Variables) -> Re
 pub fn put_variables(out: &mut Text, scope: &Scope, variables: &Variables) -> Result<(), NoMemory>
     ensures { OnOk result (out.new ≡ out.old ++ text_of (group (shown_variables scope.now variables.now))) }
 {
-    out.put(b"(")?;
+    out.put_byte(b'(')?;
     put_each_variable(out, scope, variables)?;
-    out.put(b")")
+    out.put_byte(b')')
 }

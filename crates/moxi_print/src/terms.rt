@@ -96,7 +96,7 @@ fn push_names<'a>(bound: &mut Vec<&'a [u8]>, names: &'a Names) -> Result<(), NoM
 fn put_blank(out: &mut Text, behind: bool) -> Result<(), NoMemory>
     ensures { OnOk result (out.new ≡ out.old ++ (if behind then 32 ∷ [] else [])) }
 {
-    if behind { out.put(b" ") } else { Ok(()) }
+    if behind { out.put_byte(b' ') } else { Ok(()) }
 }
 
 // A term, behind a blank where it is asked for.
@@ -128,7 +128,7 @@ fn put_tree<'a>(
         Term::Apply(op, terms) => {
             put_head(out, behind, *op)?;
             put_trees(out, scene, bound, terms)?;
-            out.put(b")")
+            out.put_byte(b')')
         }
         Term::Let(names, terms, body) => {
             put_blank(out, behind)?;
@@ -136,7 +136,7 @@ fn put_tree<'a>(
             put_bindings(out, scene, bound, names, terms)?;
             out.put(b") ")?;
             put_body(out, scene, bound, names, body)?;
-            out.put(b")")
+            out.put_byte(b')')
         }
         Term::Call(n, terms) => {
             put_blank(out, behind)?;
@@ -178,10 +178,10 @@ fn put_call<'a>(
     if terms.is_empty() {
         return put_symbol(out, name, false);
     }
-    out.put(b"(")?;
+    out.put_byte(b'(')?;
     put_symbol(out, name, false)?;
     put_trees(out, scene, bound, terms)?;
-    out.put(b")")
+    out.put_byte(b')')
 }
 
 // A term around which these names more are bound.
@@ -217,11 +217,11 @@ fn put_binding<'a>(
     ensures text { OnOk result (out.new ≡ out.old ++ text_of (shown_binding scene.entry.scope.now (map bytes_behind scene.entry.variables.now) (map bytes_behind bound.old.items) name.now (plain term.now))) }
     ensures kept { OnOk result (bound.new.items ≡ bound.old.items) }
 {
-    out.put(b"(")?;
+    out.put_byte(b'(')?;
     put_symbol(out, name, false)?;
-    out.put(b" ")?;
+    out.put_byte(b' ')?;
     put_tree(out, scene, bound, false, term)?;
-    out.put(b")")
+    out.put_byte(b')')
 }
 
 // Names and terms, as many as there are of both.

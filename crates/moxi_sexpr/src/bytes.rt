@@ -1,13 +1,12 @@
 // Bytes by what they may stand in.
 
-ghost use Rattle.std.specs.Prelude.{◌≡◌, ◌+◌, ◌≤◌, length};
+ghost use Rattle.std.specs.Prelude.{◌≡◌, ◌≤◌, length};
 ghost use Rattle.std.specs.List.{list_all};
 ghost use Rattle.moxi_sexpr.specs.Bytes.{is_symbol_byte, is_blank, ends_line, is_hex_digit, belongs};
-ghost use Rattle.text_core.specs.Places.{Reaches};
 ghost use Rattle.moxi_sexpr.specs.Atoms.{starts_simple, is_simple};
 ghost use Rattle.moxi_sexpr.specs.Reading.{run_length};
 
-use text_core::{Place, is_digit};
+use text_core::is_digit;
 
 /// The bytes that one part of the lexical form allows.
 #[derive(Clone, Copy)]
@@ -119,17 +118,4 @@ pub fn is_simple(name: &[u8]) -> bool
     ensures { result ≡ is_simple name.now }
 {
     starts_simple(name) && all_belong(ByteSet::Symbol, name)
-}
-
-/// The place so many bytes along the same line.
-pub fn along(place: Place, count: usize) -> Place
-    requires { Reaches place count }
-    ensures { result ≡ record { line = place.line; column = place.column + count; offset = place.offset + count } }
-{
-    let count = count as u32;
-    Place {
-        line: place.line,
-        column: place.column + count,
-        offset: place.offset + count,
-    }
 }

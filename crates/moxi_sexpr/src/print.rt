@@ -97,7 +97,7 @@ pub fn put_symbol(out: &mut Text, name: &[u8], primed: bool) -> Result<(), NoMem
     } else {
         put_between(out, b"|", name, b"|")?;
     }
-    if primed { out.put(b"'") } else { Ok(()) }
+    if primed { out.put_byte(b'\'') } else { Ok(()) }
 }
 
 // Bytes with each quote doubled.

@@ -16,7 +16,7 @@ ghost use Rattle.moxi_sexpr.specs.Machine.{Frame, step, turn_of, open_lists};
 ghost use Rattle.moxi_sexpr.specs.Printing.{ArePrintable};
 ghost use Rattle.moxi_sexpr.specs.Answer.{Moves, Turns, IsRefused, Reads, IsAnswered};
 
-use crate::bytes::{ByteSet, along, is_blank, run_length, starts_simple};
+use crate::bytes::{ByteSet, is_blank, run_length, starts_simple};
 use crate::ends::{last_line, line_ends};
 use crate::form::{Atom, Form, FormShape, Forms};
 use crate::scan::{make_atom, scan, split_symbol, starts_quoted};
@@ -63,7 +63,7 @@ fn skip_comment(place: Place, text: &[u8]) -> (Place, &[u8])
 {
     let size = run_length(ByteSet::Comment, text);
     let (_, rest) = text.split_at(size);
-    (along(place, size + 1), rest)
+    (place.along(size + 1), rest)
 }
 
 /// The place behind the token at the front of a text. Only bars and quotes may hold the end of a line.
@@ -77,7 +77,7 @@ fn place_of_rest(place: Place, text: &[u8], rest: &[u8]) -> Place
     if starts_quoted(text) {
         place.after(&text[..count])
     } else {
-        along(place, count)
+        place.along(count)
     }
 }
 

@@ -6,4 +6,3 @@ pub mod QuerySteps
 pub mod GoalSteps
 pub mod Known
 pub mod SystemSteps
-pub mod Joining

@@ -4,14 +4,14 @@ use Rattle.std.specs.List.{list_all}
 use Rattle.std.proofs.lemmas.List.{length-take-le}
 use Rattle.std.proofs.lemmas.Bool.{cond-false, and_parts, ne_eqb}
 use Rattle.text_core.specs.declared.place.Place.{Place}
-use Rattle.text_core.specs.Places.{after, next_place}
+use Rattle.text_core.specs.Places.{after, next_place, along}
 use Rattle.smv_text.specs.declared.token.Sign.{Sign}
 use Rattle.smv_text.specs.declared.token.Sign.TheVariants as sign
 use Rattle.smv_text.specs.Bytes.{AllPass, is_letter}
 use Rattle.smv_text.specs.Signs.{sign_bytes}
 use Rattle.smv_text.specs.Words.{IsLexeme, in_word, in_run}
 use Rattle.text_core.specs.Bytes.{is_digit}
-use Rattle.smv_lex.specs.Reading.{along, lexeme_length}
+use Rattle.smv_lex.specs.Reading.{lexeme_length}
 use Rattle.smv_lex.proofs.Longest.{lexeme_is, longest_lexeme}
 
 abbrev is_inner : ℕ → Bool

@@ -6,7 +6,7 @@ use Rattle.text_core.specs.declared.end.End.{End}
 use Rattle.text_core.specs.declared.end.End.TheVariants.{Bad, NoMemory}
 use Rattle.text_core.specs.declared.place.Place.{Place}
 use Rattle.text_core.specs.Bytes.{is_digit}
-use Rattle.text_core.specs.Places.{after}
+use Rattle.text_core.specs.Places.{after, along}
 use Rattle.smv_text.specs.declared.token.Reserved.{Reserved}
 use Rattle.smv_text.specs.declared.token.Sign.{Sign}
 use Rattle.smv_text.specs.declared.token.Token.{Token}
@@ -23,7 +23,7 @@ use Rattle.smv_text.specs.Words.{keyword_kind, kind_of, run_kind, word_kind}
 use Rattle.smv_text.specs.Lexing.{go, bad, opened_by, most_brackets}
 use Rattle.smv_lex.specs.declared.adding.Added.{Added}
 use Rattle.smv_lex.specs.Adding.{Adds, AddsKind, sized_token}
-use Rattle.smv_lex.specs.Reading.{along, behind, kinded, lexeme_length, sign_at, sign_length}
+use Rattle.smv_lex.specs.Reading.{behind, kinded, lexeme_length, sign_at, sign_length}
 use Rattle.smv_lex.proofs.Laws.{behind_more}
 use Rattle.smv_lex.proofs.Lines.{lexeme_along}
 use Rattle.smv_lex.proofs.Longest.{OnSign, lexeme_is, sign_fits, sign_front, some_bytes}

@@ -3,12 +3,12 @@ use Rattle.std.specs.Prelude.{◌≡◌, ◌<◌, ◌≤◌, ℕ, Result, Ok, Er
 use Rattle.text_core.specs.declared.end.End.{End}
 use Rattle.text_core.specs.declared.end.End.TheVariants.{Bad, NoMemory}
 use Rattle.text_core.specs.declared.place.Place.{Place}
-use Rattle.text_core.specs.Places.{after}
+use Rattle.text_core.specs.Places.{after, along}
 use Rattle.smv_text.specs.declared.token.Token.{Token}
 use Rattle.smv_text.specs.declared.token.TokenKind.{TokenKind}
 use Rattle.smv_text.specs.Lexing.{go, bad, opened_by, most_brackets, refusal_at}
 use Rattle.smv_lex.specs.declared.adding.Added.{Added}
-use Rattle.smv_lex.specs.Reading.{along, behind}
+use Rattle.smv_lex.specs.Reading.{behind}
 
 abbrev pub sized_token : Place → TokenKind → ℕ → Token
 sized_token at kind size = record { kind = kind; place = at; length = size }

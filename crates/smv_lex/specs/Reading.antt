@@ -75,10 +75,6 @@ lexeme_length [] = 0
 lexeme_length (b ∷ bs) =
     if is_letter b then suc (front_length in_word bs) else (if is_digit b then suc (front_length in_run bs) else sign_length (sign_at b bs))
 
--- the place so many bytes along the line
-abbrev pub along : Place → ℕ → Place
-along p n = record { line = p.line; column = p.column + n; offset = p.offset + n }
-
 -- what stands next at a lexeme with the rest behind it, where n brackets stand open
 abbrev pub kinded : ℕ → Place → List ℕ → List ℕ → Option TokenKind → Next
 kinded n at lexeme rest None = bad (refusal_at 3 at)

@@ -16,7 +16,7 @@ ghost use Rattle.smv_lex.specs.Printable.{ArePrintable, CanAllBePrinted};
 ghost use Rattle.smv_text.specs.Lexing.{kinds, Lexes};
 
 use crate::adding::add_token;
-use crate::scan::{along, skip_gap};
+use crate::scan::skip_gap;
 use smv_text::Tokens;
 use std::alloc::Global;
 use text_core::{End, FIRST_PLACE};
@@ -42,7 +42,7 @@ fn tokens_of(alloc: Global, text: &[u8]) -> Result<Tokens, LexEnd>
         }
         let added = add_token(alloc, &mut tokens, at, opened, more)?;
         opened = added.opened;
-        place = along(at, added.size);
+        place = at.along(added.size);
         rest = more.split_at(added.size).1;
     }
 }

@@ -2,7 +2,7 @@
 ghost use Rattle.std.specs.Prelude.{◌≡◌, ◌+◌, ◌<◌, ◌≤◌, ◌^◌, [], length, take, drop, false};
 ghost use Rattle.smv_text.specs.Bytes.{is_letter, is_blank, front_length};
 ghost use Rattle.smv_text.specs.Words.{in_word, in_run};
-ghost use Rattle.smv_lex.specs.Reading.{along, gap_step, gap_length, is_word_byte};
+ghost use Rattle.smv_lex.specs.Reading.{gap_step, gap_length, is_word_byte};
 ghost use Rattle.text_core.specs.Places.{Reaches, after};
 
 use crate::signs::heads;
@@ -120,17 +120,4 @@ pub fn run_length(text: &[u8]) -> usize
         rest = more;
     }
     count
-}
-
-/// The place so many bytes along the same line.
-pub fn along(place: Place, count: usize) -> Place
-    requires { Reaches place count }
-    ensures { result ≡ along place count }
-{
-    let count = count as u32;
-    Place {
-        line: place.line,
-        column: place.column + count,
-        offset: place.offset + count,
-    }
 }

@@ -16,6 +16,10 @@ abbrev pub after : Place → List ℕ → Place
 after p [] = p
 after p (b ∷ bs) = after (next_place p b) bs
 
+-- the place so many bytes further in the same line
+abbrev pub along : Place → ℕ → Place
+along p n = record { line = p.line; column = p.column + n; offset = p.offset + n }
+
 -- so many more bytes leave the place within its numbers
 pub record Reaches (p : Place) (more : ℕ) : Type 0 where
   pub line : p.line + more ≤ 2 ^ 31 + 1

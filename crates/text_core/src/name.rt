@@ -1,7 +1,8 @@
 // A name: few bytes that don't change.
-ghost use Rattle.std.specs.Prelude.{◌≡◌, ◌≤◌, [], IfOk, length};
+ghost use Rattle.std.specs.Prelude.{◌≡◌, ◌<◌, ◌≤◌, ◌+◌, ◌++◌, ◌∷◌, [], IfOk, length};
 
 use crate::errors::NoMemory;
+use crate::text::Text;
 use std::alloc::Global;
 use std::marker::Model;
 
@@ -43,6 +44,77 @@ impl Name {
         } else {
             Name::long(alloc, bytes)
         }
+    }
+
+    /// The name of these pieces, one behind the other.
+    pub fn joined(alloc: Global, first: &[u8], second: &[u8]) -> Result<Name, NoMemory>
+        ensures { IfOk result (λ name. name ≡ first.now ++ second.now) }
+    {
+        if first.len() <= SHORT && second.len() <= SHORT - first.len() {
+            Ok(Name::short_joined(first, second))
+        } else {
+            Name::long_joined(alloc, first, &[], second)
+        }
+    }
+
+    /// The dotted name of a name below a path.
+    pub fn dotted(alloc: Global, path: &[u8], name: &[u8]) -> Result<Name, NoMemory>
+        ensures { IfOk result (λ dotted. dotted ≡ path.now ++ 46 ∷ name.now) }
+    {
+        if path.len() < SHORT && name.len() < SHORT - path.len() {
+            Ok(Name::short_dotted(path, name))
+        } else {
+            Name::long_joined(alloc, path, b".", name)
+        }
+    }
+
+    // The name of these pieces, put together in place.
+    fn short_joined(first: &[u8], second: &[u8]) -> Name
+        requires { length first.now + length second.now ≤ 22 }
+        ensures { result ≡ first.now ++ second.now }
+    {
+        let mut room = [0u8; SHORT];
+        let start = first.len();
+        let end = start + second.len();
+        room[..start].copy_from_slice(first);
+        room[start..end].copy_from_slice(second);
+        Name {
+            content: Content::Short(end as u8, room),
+        }
+    }
+
+    // The dotted name, put together in place.
+    fn short_dotted(path: &[u8], name: &[u8]) -> Name
+        requires { length path.now + length name.now < 22 }
+        ensures { result ≡ path.now ++ 46 ∷ name.now }
+    {
+        // The dot between them is there already.
+        let mut room = [b'.'; SHORT];
+        let start = path.len() + 1;
+        let end = start + name.len();
+        room[..path.len()].copy_from_slice(path);
+        room[start..end].copy_from_slice(name);
+        Name {
+            content: Content::Short(end as u8, room),
+        }
+    }
+
+    // The name of these pieces, in memory of its own.
+    #[cold]
+    #[inline(never)]
+    fn long_joined(
+        alloc: Global,
+        first: &[u8],
+        second: &[u8],
+        third: &[u8],
+    ) -> Result<Name, NoMemory>
+        ensures { IfOk result (λ name. name ≡ first.now ++ (second.now ++ third.now)) }
+    {
+        let mut whole = Text::new(alloc);
+        whole.put(first)?;
+        whole.put(second)?;
+        whole.put(third)?;
+        Name::of(alloc, whole.bytes())
     }
 
     // The name with no bytes.

@@ -1,6 +1,6 @@
 // Places in a text, kinds of refusal, and refusals.
 ghost use Rattle.std.specs.Prelude.{◌≡◌, ◌+◌, ◌<◌, ◌^◌, length};
-ghost use Rattle.text_core.specs.Places.{next_place, after, Reaches};
+ghost use Rattle.text_core.specs.Places.{next_place, after, along, Reaches};
 
 /// A place in a text, in bytes: line and column count from 1, the offset from 0. A line ends after byte 10.
 #[derive(Clone, Copy, Debug, PartialEq, Eq)]
@@ -35,6 +35,19 @@ impl Place {
                 column: self.column + 1,
                 offset: self.offset + 1,
             }
+        }
+    }
+
+    /// The place so many bytes along the same line.
+    pub fn along(self, count: usize) -> Place
+        requires { Reaches self count }
+        ensures { result ≡ along self count }
+    {
+        let count = count as u32;
+        Place {
+            line: self.line,
+            column: self.column + count,
+            offset: self.offset + count,
         }
     }
 

@@ -17,8 +17,8 @@ put_call-returns-clause-text t c =
     let some : 0 < length ts = grind (arith, c.is_empty.ensures, c.if-is_empty.false) in
     let name : List ℕ = printed_atom (Symbol c.args.name.now false) in
     let parts : List ℕ = parts_text (32 ∷ []) (shown_terms s vars bounds (trees_of (map plain ts))) in
-    let two = onto c.args.out.now _ _ (40 ∷ []) name c.in_ok-put.ensures.ok c.in_ok-put_symbol.ensures in
+    let two = onto c.args.out.now _ _ (40 ∷ []) name c.in_ok-put_byte.ensures.ok c.in_ok-put_symbol.ensures in
     let three = onto c.args.out.now _ _ (40 ∷ name) parts two c.in_ok-put_trees.ensures.text in
-    ok_same c.put-2.result _ _ _
+    ok_same c.put_byte-2.result _ _ _
     (ap (λ x. x ++ 41 ∷ []) three ∙ append_assoc c.args.out.now (40 ∷ (name ++ parts)) (41 ∷ []) ∙ ap (λ x. c.args.out.now ++ x) (sym (call_text s vars bounds c.args.name.now ts some)))
-    c.put-2.ensures.ok
+    c.put_byte-2.ensures.ok

@@ -1,7 +1,7 @@
 use Rattle.std.proofs.Common.{◌≡◌, IfOk, sym, subst}
 use Rattle.moxi_lines.specs.Lines.{with_free}
 use Rattle.moxi_to_btor.specs.Putting.{CanPutFree}
-use Rattle.moxi_to_btor.proofs.Joining.{placed}
+use Rattle.text_core.proofs.Joining.{placed}
 use Rattle.moxi_to_btor.proofs.lines.put_free_short.Goals as goal
 
 pub put_free-requires : goal.put_free-requires
