@@ -1,8 +1,7 @@
 -- The items of one instance among those of all.
-use Rattle.std.proofs.Common.{◌≡◌, ℕ, ◌+◌, ◌-◌, ◌<◌, ◌≤◌, List, ◌∷◌, ◌++◌, take, drop, length, map, refl, sym, ap, ◌∙◌, append_assoc, arith}
+use Rattle.std.proofs.Common.{◌≡◌, ℕ, ◌+◌, ◌-◌, ◌<◌, ◌≤◌, List, ◌∷◌, ◌++◌, take, drop, length, map, sym, ap, ◌∙◌, append_assoc, arith}
 use Rattle.std.specs.Prelude.{slice_index_or}
 use Rattle.std.proofs.lemmas.List.{take_all, drop-drop, length-drop, length-map, length-take-le}
-use Rattle.smv_meaning.specs.Instances.{Instance}
 use Rattle.smv_meaning.specs.Phases.{over_instances}
 use Rattle.smv_meaning.specs.laws.Lists.{front_is}
 use Rattle.smv_instances.specs.declared.instances.Instance.{Instance as PartOf}

@@ -4,8 +4,8 @@ ghost use Rattle.smv_text.specs.View.{plain_assignment, plain_element};
 ghost use Rattle.smv_meaning.specs.Phases.{in_assignment};
 ghost use Rattle.smv_instances.specs.View.{instance_plain};
 ghost use Rattle.smv_types.specs.View.{position_seen};
-ghost use Rattle.smv_items.specs.FlatItems.{origins_of, symbols_of, items_here};
-ghost use Rattle.smv_items.specs.FlatOrigins.{origin_plain, content_plain, leaf_plain, AreNumbers};
+ghost use Rattle.smv_items.specs.FlatItems.{origins_of, symbols_of, items_here, leaf_in};
+ghost use Rattle.smv_items.specs.FlatOrigins.{origin_plain, content_plain, AreNumbers};
 ghost use Rattle.smv_flat.specs.FlatForms.{content_form, body_forms, number_or_first, assignment_form, element_forms, forms_here, forms_of};
 ghost use Rattle.smv_flat.specs.FlatFormulas.{form_plain, form_of};
 
@@ -13,8 +13,9 @@ use crate::context::Context;
 use crate::flat::flat;
 use crate::forms::{FlatFormula, Role, SourceFormula};
 use crate::naming::Naming;
+use crate::targets::{Numbered, number_behind};
 use smv_instances::{Instance, Table};
-use smv_items::{Content, ItemNumbers, Leaf, Origin, Symbols, own_count};
+use smv_items::{Content, ItemNumbers, Origin, Symbols, own_count};
 use smv_text::{Assignment, Assignments, Element, Elements, Expr, When};
 use smv_types::{Position, Standing};
 use std::alloc::Global;
@@ -141,16 +142,6 @@ fn add_bodies<'s, 'a, 'n, N: Naming>(
     Ok(())
 }
 
-fn target(leaf: Leaf) -> u32
-    ensures { result ≡ number_or_first (leaf_plain leaf) }
-{
-    match leaf {
-        Leaf::Item(k) => k,
-        Leaf::Symbol(_) => 0,
-        Leaf::Nothing => 0,
-    }
-}
-
 fn behind(when: When) -> Position
     ensures { position_seen result ≡ in_assignment when }
 {
@@ -161,18 +152,20 @@ fn behind(when: When) -> Position
     }
 }
 
+// Adds an assignment, given the number of its target.
 fn add_assignment<'s, 'a, 'n, N: Naming>(
     alloc: Global,
     context: &Context<'s, 'a, 'n, N>,
     forms: &mut Vec<FlatFormula>,
     i: usize,
     assignment: &'a Assignment,
+    number: u32,
 ) -> Result<(), NoMemory>
     requires model { N.instances context.now.naming.now ≡ map instance_plain context.now.table.now }
+    requires number { number ≡ number_or_first (leaf_in (map instance_plain context.now.table.now) i assignment.now.target) }
     ensures { OnOk result (map form_plain forms.new.items ≡ map form_plain forms.old.items ++ assignment_form (map instance_plain context.now.table.now) i (plain_assignment assignment.now) ∷ []) }
 {
-    let leaf = context.leaf(alloc, i, &assignment.target)?;
-    let role = Role::Assign(assignment.when, target(leaf));
+    let role = Role::Assign(assignment.when, number);
     let position = behind(assignment.when);
     let source = read_here(i, role, &assignment.body, position);
     add(alloc, context, forms, source)
@@ -188,8 +181,12 @@ fn add_assignments<'s, 'a, 'n, N: Naming>(
     requires model { N.instances context.now.naming.now ≡ map instance_plain context.now.table.now }
     ensures { OnOk result (map form_plain forms.new.items ≡ map form_plain forms.old.items ++ map (assignment_form (map instance_plain context.now.table.now) i) (map plain_assignment assignments.now)) }
 {
+    let mut last: Option<Numbered<'a>> = None;
     for assignment in assignments {
-        add_assignment(alloc, context, forms, i, assignment)?;
+        let path = &assignment.target;
+        let number = number_behind(alloc, context, i, path, last)?;
+        add_assignment(alloc, context, forms, i, assignment, number)?;
+        last = Some(Numbered { path, number });
     }
     Ok(())
 }

@@ -9,6 +9,7 @@ mod formulas;
 mod naming;
 mod node_types;
 mod nodes;
+mod targets;
 
 pub use expressions::{
     FlatBranch, FlatBranches, FlatExpr, FlatExprs, FlatLink, FlatLinks, FlatShape,

@@ -1,21 +1,22 @@
 -- Steps of a walk over leads.
 use Rattle.std.proofs.Common.{◌≡◌, ℕ, zero, suc, ◌+◌, ◌<◌, ◌≤◌, nat_lt, Bool, true, false, ◌&&◌, ◌||◌, ◌==◌, if◌then◌else◌, List, [], ◌∷◌, ◌++◌, take, length, Option, Some, None, bytes_eq, refl, sym, ap, ◌∙◌, subst, arith}
 use mathlib.Core.Logic.{⊎_elim}
-use Rattle.std.specs.Prelude.{slice_index_or}
+use Rattle.std.specs.Prelude.{slice_index_or, position, IfSome}
 use Rattle.std.specs.List.{list_any}
 use Rattle.std.proofs.Math.Numerals.{add-one}
 use Rattle.std.proofs.Math.Seq.{take-suc}
 use Rattle.smv_instances.specs.declared.instance_rows.InstanceRows.{InstanceRows}
-use Rattle.std.proofs.lemmas.Bool.{ltb-true, cases_lt, eqb-true}
+use Rattle.std.proofs.lemmas.Bool.{ltb-true, cases_lt, eqb-true, eq-eqb, false≢true}
+use Rattle.std.proofs.lemmas.Option.{none-some}
 use Rattle.std.proofs.lemmas.Slice.Eq.{bytes_eq-Decides}
 use Rattle.smv_text.specs.declared.tree.Path.{Path}
 use Rattle.smv_instances.specs.declared.leads.Lead.{Lead}
 use Rattle.smv_instances.specs.declared.leads.Key.{Key}
 use Rattle.smv_meaning.specs.Instances.{Instance}
 use Rattle.smv_meaning.specs.Bodies.{instance_within}
-use Rattle.smv_meaning.specs.Names.{Local, alias, local, Found, variable_at, body_at, instance_at, symbol_of, cyclic, none, at_child, landed, look, steps_of, onward, walk, single, resolved}
+use Rattle.smv_meaning.specs.Names.{Local, alias, inner, is_child, local, Found, variable_at, body_at, instance_at, symbol_of, cyclic, none, at_child, landed, look, steps_of, onward, walk, single, through, found_in, resolved}
 use Rattle.smv_instances.specs.Rows.{row_in}
-use Rattle.smv_instances.specs.Leads.{until, LeadsTo, NameLeads, Right, IsOpen, IsWaiting, AllWait, IsClosed, is_key, WalkOf, KeyWalk}
+use Rattle.smv_instances.specs.Leads.{until, LeadsTo, NameLeads, Right, IsOpen, StaysClosed, IsWaiting, AllWait, IsClosed, is_key, WalkOf, KeyWalk}
 use Rattle.smv_instances.specs.declared.leads.Walk.{Walk}
 use Rattle.smv_instances.specs.declared.leads.Walk.TheVariants.{Ends, Waits}
 use Rattle.smv_instances.specs.View.{found_plain}
@@ -136,3 +137,58 @@ single_is t i x l k m e r h w = sym (looked_once t i x l m (e ∙ r) h) ∙ sym 
 
 pub one_ends : (t : List Instance) (i : ℕ) (x : List ℕ) (lead : Lead) → LeadsTo t (λ n. look t n i x) lead → LeadsTo t (λ n. walk (look t n) i (x ∷ [])) lead
 one_ends t i x lead h n = one_walked (look t n) i x ∙ h n
+
+-- an instance is reached in one step
+pub child_reached : (t : List Instance) (i : ℕ) (x : List ℕ) (c : Option ℕ) → inner ≡ local t i x → c ≡ position (is_child i x) t → IfSome c (λ k. (n : ℕ) → look t n i x ≡ until 1 n (instance_at k))
+child_reached t i x None e h = record {}
+child_reached t i x (Some k) e h = look_one t i x inner (instance_at k) e (λ f. ap at_child (sym h))
+
+-- names of one each that are the same
+pub single_names : (xs ys : List (List ℕ)) (x y : List ℕ) → length xs ≡ 1 → length ys ≡ 1 → x ≡ slice_index_or xs 0 x → y ≡ slice_index_or ys 0 y → x ≡ y → xs ≡ ys
+single_names [] ys x y h k e f s = absurd (omega (arith, h))
+single_names (a ∷ b ∷ xs) ys x y h k e f s = absurd (omega (arith, h))
+single_names (a ∷ []) [] x y h k e f s = absurd (omega (arith, k))
+single_names (a ∷ []) (b ∷ c ∷ ys) x y h k e f s = absurd (omega (arith, k))
+single_names (a ∷ []) (b ∷ []) x y h k e f s = ap (λ z. z ∷ []) (sym e ∙ s ∙ f)
+
+-- paths of the same names lead to the same
+pub found_same : (t : List Instance) (i : ℕ) (p q : Path) → p.from_self ≡ q.from_self → p.names ≡ q.names → found_in t i p ≡ found_in t i q
+found_same t i p q e f =
+    ap (λ b. if b then walk (look t (steps_of t)) i p.names else through t (look t (steps_of t)) i p.names) e
+    ∙ ap (λ ns. if q.from_self then walk (look t (steps_of t)) i ns else through t (look t (steps_of t)) i ns) f
+
+-- where one more lead is kept nothing opens
+pub stays_closed : (t : List Instance) (was now : InstanceRows Lead) (i : ℕ) (x : List ℕ) (lead : Lead)
+    → ((j : ℕ) (y : List ℕ) → row_in now j y ≡ (if i == j && bytes_eq x y then Some lead else row_in was j y)) → StaysClosed t was now
+stays_closed t was now i x lead k j y o = (o.0, by (i == j && bytes_eq x y) (row_in was j y) (sym (k j y) ∙ o.1))
+  where
+    by : (b : Bool) (m : Option Lead) → (if b then Some lead else m) ≡ None → m ≡ None
+    by true m e = absurd (none-some lead (sym e))
+    by false m e = e
+
+-- and what it is kept of is not open
+pub kept_closed : (t : List Instance) (was now : InstanceRows Lead) (i : ℕ) (x : List ℕ) (lead : Lead)
+    → ((j : ℕ) (y : List ℕ) → row_in now j y ≡ (if i == j && bytes_eq x y then Some lead else row_in was j y)) → ¬ IsOpen t now i x
+kept_closed t was now i x lead k o = some_none (i == i) (bytes_eq x x) (eq-eqb i i refl) ((bytes_eq-Decides x x).1 refl) (sym (k i x) ∙ o.1)
+  where
+    some_none : (b c : Bool) → b ≡ true → c ≡ true → ¬ ((if b && c then Some lead else row_in was i x) ≡ None)
+    some_none true true e f h = absurd (none-some lead (sym h))
+    some_none true false e f h = absurd (false≢true f)
+    some_none false c e f h = absurd (false≢true e)
+
+-- none of these parameters is open
+abbrev pub NoneOpen : List Instance → InstanceRows Lead → List Key → Type 0
+NoneOpen t m ks = (i : ℕ) (x : List ℕ) → list_any (is_key i x) ks ≡ true → ¬ IsOpen t m i x
+
+pub none_open : (t : List Instance) (m : InstanceRows Lead) (ks : List Key) → NoneOpen t m ks → AllWait t m ks
+none_open t m ks h i x a o = absurd (h i x a o)
+
+-- one parameter more is not open
+pub none_more : (t : List Instance) (was now : InstanceRows Lead) (ks : List Key) (k n : ℕ) (key : Key) → n ≡ length ks → k < n → key ≡ slice_index_or ks k key
+    → StaysClosed t was now → ¬ IsOpen t now key.instance key.name.now → NoneOpen t was (take k ks) → NoneOpen t now (take (k + 1) ks)
+none_more t was now ks k n key e h is stays own before i x a o =
+    let s : take (k + 1) ks ≡ take k ks ++ key ∷ [] = rw add-one (take-suc ks k key (omega (arith, e, h)) ∙ ap (λ y. take k ks ++ y ∷ []) (sym is)) in
+    let b : (list_any (is_key i x) (take k ks) || is_key i x key) ≡ true = sym (list_any_push (is_key i x) (take k ks) key) ∙ ap (list_any (is_key i x)) (sym s) ∙ a in
+    ⊎_elim (λ c. before i x c (stays i x o))
+    (λ c. let d = key_same i x key c in own (subst (λ y. IsOpen t now key.instance y) (sym d.1) (subst (λ j. IsOpen t now j x) (sym d.0) o)))
+    (or_true (list_any (is_key i x) (take k ks)) (is_key i x key) b)

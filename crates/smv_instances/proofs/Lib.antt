@@ -6,4 +6,3 @@ pub mod KnownLemmas
 pub mod ScanLemmas
 pub mod TableLemmas
 pub mod LastLemmas
-pub mod PathLemmas

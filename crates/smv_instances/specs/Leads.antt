@@ -34,6 +34,10 @@ Right t m = (i : ℕ) (x : List ℕ) → NameLeads t i x (row_in m i x)
 abbrev pub IsOpen : List Instance → InstanceRows Lead → ℕ → List ℕ → Type 0
 IsOpen t m i x = (is_alias (local t i x) ≡ true) × (row_in m i x ≡ None)
 
+-- what is open with more leads was open before
+abbrev pub StaysClosed : List Instance → InstanceRows Lead → InstanceRows Lead → Type 0
+StaysClosed t was now = (i : ℕ) (x : List ℕ) → IsOpen t now i x → IsOpen t was i x
+
 abbrev pub LeadAt : List Instance → InstanceRows Lead → ℕ → List ℕ → Option Lead → Type 0
 LeadAt t m i x None = IsOpen t m i x
 LeadAt t m i x (Some lead) = LeadsTo t (λ n. look t n i x) lead

@@ -1,6 +1,6 @@
 // The leads of all aliases.
-ghost use Rattle.std.specs.Prelude.{◌≡◌, ◌<◌, ◌+◌, Some, false, length, map, slice_index_or, IfOk, OnOk};
-ghost use Rattle.smv_instances.specs.Leads.{Right, KeyWalk, WaitsIfOpen, AllWait, IsClosed};
+ghost use Rattle.std.specs.Prelude.{◌≡◌, ◌<◌, ◌+◌, Some, true, false, length, map, slice_index_or, IfOk, OnOk};
+ghost use Rattle.smv_instances.specs.Leads.{Right, IsOpen, StaysClosed, KeyWalk, WaitsIfOpen, AllWait, IsClosed};
 ghost use Rattle.smv_instances.specs.View.{instance_plain};
 
 use crate::instance_map::{InstanceMap, nothing_in, put_in, value_in};
@@ -25,19 +25,27 @@ fn deeper<'a>(lead: Lead<'a>) -> Result<Lead<'a>, NoMemory>
     }
 }
 
-fn key_walk<'a>(parts: &Parts<'a>, leads: &Leads<'a>, key: Key<'a>) -> Option<Walk<'a>>
+// The walk of a parameter that is an alias, whether or not its lead is kept.
+fn alias_walk<'a>(parts: &Parts<'a>, leads: &Leads<'a>, key: Key<'a>) -> Option<Walk<'a>>
     requires right { Right (map instance_plain parts.now) leads.now }
     ensures { KeyWalk (map instance_plain parts.now) leads.now key.entry.instance key.entry.name.now result }
 {
-    if let Some(_) = row_value_in(leads, key.instance, key.name) {
-        return None;
-    }
     match parts.local(key.instance, key.name) {
         Known::Alias(j, path) => Some(path_walk(parts, leads, j, path)),
         Known::Body(_, _) => None,
         Known::Variable(_, _) => None,
         Known::Instance => None,
         Known::Nothing => None,
+    }
+}
+
+fn key_walk<'a>(parts: &Parts<'a>, leads: &Leads<'a>, key: Key<'a>) -> Option<Walk<'a>>
+    requires right { Right (map instance_plain parts.now) leads.now }
+    ensures { KeyWalk (map instance_plain parts.now) leads.now key.entry.instance key.entry.name.now result }
+{
+    match row_value_in(leads, key.instance, key.name) {
+        Some(_) => None,
+        None => alias_walk(parts, leads, key),
     }
 }
 
@@ -49,7 +57,9 @@ fn keep_deeper<'a>(
 ) -> Result<(), NoMemory>
     requires right { Right (map instance_plain parts.now) leads.old }
     requires leads { KeyWalk (map instance_plain parts.now) leads.old key.instance key.name.now (Some (Walk.Ends lead)) }
-    ensures { OnOk result (Right (map instance_plain parts.now) leads.new) }
+    ensures right { OnOk result (Right (map instance_plain parts.now) leads.new) }
+    ensures stays { OnOk result (StaysClosed (map instance_plain parts.now) leads.old leads.new) }
+    ensures closed { OnOk result (¬ IsOpen (map instance_plain parts.now) leads.new key.entry.instance key.entry.name.now) }
 {
     let deep = deeper(lead)?;
     add_row_in(leads, key.instance, key.name, deep)?;
@@ -107,7 +117,8 @@ fn searched<'a>(
     first: Key<'a>,
 ) -> Result<(), NoMemory>
     requires right { Right (map instance_plain parts.now) leads.old }
-    ensures { OnOk result (Right (map instance_plain parts.now) leads.new) }
+    ensures right { OnOk result (Right (map instance_plain parts.now) leads.new) }
+    ensures stays { OnOk result (StaysClosed (map instance_plain parts.now) leads.old leads.new) }
 {
     stack.push(first)?;
     for _ in 0..usize::MAX {
@@ -127,25 +138,59 @@ fn searched<'a>(
     Ok(())
 }
 
-// Follows each of these parameters that is an alias.
+// Follows a parameter that is an alias, unless it was followed on the way of another, and says whether it is surely not open then. Most
+// aliases lead through none that is open.
+fn first_searched<'a>(
+    parts: &Parts<'a>,
+    leads: &mut Leads<'a>,
+    opened: &mut InstanceMap<'a, bool>,
+    stack: &mut Vec<Key<'a>>,
+    key: Key<'a>,
+) -> Result<bool, NoMemory>
+    requires right { Right (map instance_plain parts.now) leads.old }
+    ensures right { OnOk result (Right (map instance_plain parts.now) leads.new) }
+    ensures stays { OnOk result (StaysClosed (map instance_plain parts.now) leads.old leads.new) }
+    ensures closed { IfOk result (λ b. b ≡ true → ¬ IsOpen (map instance_plain parts.now) leads.new key.entry.instance key.entry.name.now) }
+{
+    if value_in(opened, key.instance, key.name).is_some() {
+        return Ok(false);
+    }
+    match alias_walk(parts, leads, key) {
+        None => Ok(true),
+        Some(Walk::Ends(lead)) => {
+            keep_deeper(parts, leads, key, lead)?;
+            Ok(true)
+        }
+        Some(Walk::Waits(_)) => {
+            searched(parts, leads, opened, stack, key)?;
+            Ok(false)
+        }
+    }
+}
+
+// Follows each of these parameters that is an alias, and says whether surely none is open then.
 fn all_searched<'a>(
     alloc: Global,
     parts: &Parts<'a>,
     leads: &mut Leads<'a>,
     keys: &[Key<'a>],
-) -> Result<(), NoMemory>
+) -> Result<bool, NoMemory>
     requires right { Right (map instance_plain parts.now) leads.old }
-    ensures { OnOk result (Right (map instance_plain parts.now) leads.new) }
+    ensures right { OnOk result (Right (map instance_plain parts.now) leads.new) }
+    ensures waits { IfOk result (λ b. b ≡ true → AllWait (map instance_plain parts.now) leads.new keys.now) }
 {
     let mut opened = nothing_in(alloc);
     let mut stack = Vec::new(alloc);
-    for key in keys {
-        searched(parts, leads, &mut opened, &mut stack, *key)?;
+    let mut closed = true;
+    for k in 0..keys.len() {
+        let key = key_at(keys, k);
+        let kept = first_searched(parts, leads, &mut opened, &mut stack, key)?;
+        closed = kept && closed;
     }
-    Ok(())
+    Ok(closed)
 }
 
-/// The leads of all aliases but of those that lead into cycles. The search keeps them all; what is open then is tried until
+/// The leads of all aliases but of those that lead into cycles. The search keeps them all; what may be open then is tried until
 /// nothing more is kept, so that each open alias comes to an open one.
 pub fn leads_of<'a>(alloc: Global, parts: &Parts<'a>) -> Result<Leads<'a>, NoMemory>
     ensures right { IfOk result (Right (map instance_plain parts.now)) }
@@ -153,7 +198,9 @@ pub fn leads_of<'a>(alloc: Global, parts: &Parts<'a>) -> Result<Leads<'a>, NoMem
 {
     let keys = keys_of(alloc, parts)?;
     let mut leads = no_rows_in(alloc, keys.len())?;
-    all_searched(alloc, parts, &mut leads, keys.as_slice())?;
+    if all_searched(alloc, parts, &mut leads, keys.as_slice())? {
+        return Ok(leads);
+    }
     for _ in 0..usize::MAX {
         if !all_retried(parts, &mut leads, keys.as_slice())? {
             return Ok(leads);

@@ -78,43 +78,27 @@ fn last_value<'a, V: Copy>(rows: &[NamedValue<'a, V>], i: usize, name: &[u8]) ->
     None
 }
 
-#[inline(always)]
-fn row_value<'a, V: Copy>(row: &Option<NamedValue<'a, V>>, i: usize, name: &[u8]) -> Option<V>
-    ensures { result ≡ last_named (rows_of row.now []) i name.now }
-{
-    match row {
-        None => None,
-        Some(row) => if is_row_of(row, i, name) {
-            Some(row.value)
-        } else {
-            None
-        },
-    }
-}
-
-// The value among the rows that lie in the bucket itself.
-#[inline(always)]
-fn inner_value<'a, V: Copy>(bucket: &Bucket<'a, V>, i: usize, name: &[u8]) -> Option<V>
-    ensures { result ≡ last_named (rows_of bucket.now.first (rows_of bucket.now.second [])) i name.now }
-{
-    match row_value(&bucket.second, i, name) {
-        None => row_value(&bucket.first, i, name),
-        Some(value) => Some(value),
-    }
-}
-
 /// The value that a name of the numbered instance was given last in a bucket.
 #[inline(always)]
 pub fn held_value<'a, V: Copy>(bucket: &Bucket<'a, V>, i: usize, name: &[u8]) -> Option<V>
     ensures { result ≡ held_named bucket.now i name.now }
 {
-    if bucket.rest.is_empty() {
-        return inner_value(bucket, i, name);
+    if !bucket.rest.is_empty() {
+        if let Some(value) = last_value(bucket.rest.as_slice(), i, name) {
+            return Some(value);
+        }
     }
-    match last_value(bucket.rest.as_slice(), i, name) {
-        None => inner_value(bucket, i, name),
-        Some(value) => Some(value),
+    if let Some(row) = &bucket.second {
+        if is_row_of(row, i, name) {
+            return Some(row.value);
+        }
     }
+    if let Some(row) = &bucket.first {
+        if is_row_of(row, i, name) {
+            return Some(row.value);
+        }
+    }
+    None
 }
 
 fn empty_bucket<'a, V: Drop>(alloc: Global) -> Bucket<'a, V>

@@ -7,7 +7,7 @@ ghost use Rattle.smv_instances.specs.View.{instance_plain, instance_or_none};
 use crate::modules::ModuleTable;
 use smv_text::{Domain, Element, Expr, Item, Items, Module, Source};
 use std::alloc::Global;
-use text_core::{Name, NoMemory, Text};
+use text_core::{Name, NoMemory};
 
 /// An instance: the number of the instance in which it is declared and in whose scope its actuals are read, its name
 /// there, its dotted path, its module and its actuals.
@@ -20,44 +20,14 @@ pub struct Instance<'a> {
     pub actuals: &'a [Expr],
 }
 
-// How long a dotted path may be that is put together in place.
-const SHORT: usize = 22;
-
-// The dotted path of a name below a path, put together in place.
-fn short_path(alloc: Global, path: &[u8], name: &[u8]) -> Result<Name, NoMemory>
-    requires { length path.now + length name.now < 22 }
-    ensures { IfOk result (λ p. p ≡ path.now ++ 46 ∷ name.now) }
-{
-    // The dot between them is there already.
-    let mut room = [b'.'; SHORT];
-    let start = path.len() + 1;
-    let end = start + name.len();
-    room[..path.len()].copy_from_slice(path);
-    room[start..end].copy_from_slice(name);
-    Name::of(alloc, &room[..end])
-}
-
-// The dotted path of a name below a path, put together in memory of its own.
-fn long_path(alloc: Global, path: &[u8], name: &[u8]) -> Result<Name, NoMemory>
-    ensures { IfOk result (λ p. p ≡ path.now ++ 46 ∷ name.now) }
-{
-    let mut below = Text::new(alloc);
-    below.put(path)?;
-    below.put(b".")?;
-    below.put(name)?;
-    Name::of(alloc, below.bytes())
-}
-
 /// The dotted path of a name in the instance with this path.
 pub fn path_below(alloc: Global, path: &[u8], name: &[u8]) -> Result<Name, NoMemory>
     ensures { IfOk result (λ p. p ≡ dotted path.now name.now) }
 {
     if path.is_empty() {
         Name::of(alloc, name)
-    } else if path.len() < SHORT && name.len() < SHORT - path.len() {
-        short_path(alloc, path, name)
     } else {
-        long_path(alloc, path, name)
+        Name::dotted(alloc, path, name)
     }
 }
 

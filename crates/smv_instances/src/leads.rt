@@ -1,7 +1,7 @@
 // Where aliases lead, each found once.
-ghost use Rattle.std.specs.Prelude.{◌≡◌, ◌∷◌, [], map};
-ghost use Rattle.smv_meaning.specs.Names.{look, walk, resolved, local};
-ghost use Rattle.smv_instances.specs.Leads.{Right, LeadAt, WalkOf};
+ghost use Rattle.std.specs.Prelude.{◌≡◌, ◌∷◌, [], ℕ, map, IfSome};
+ghost use Rattle.smv_meaning.specs.Names.{instance_at, look, walk, resolved, local};
+ghost use Rattle.smv_instances.specs.Leads.{until, Right, LeadAt, WalkOf};
 ghost use Rattle.smv_instances.specs.View.{instance_plain, local_plain};
 
 use crate::instance_rows::{InstanceRows, row_value_in};
@@ -65,13 +65,18 @@ pub fn lead_of<'a>(
     }
 }
 
-/// Where a name leads, but for an open alias.
-pub fn lead_at<'a>(parts: &Parts<'a>, leads: &Leads<'a>, i: usize, x: &'a [u8]) -> Option<Lead<'a>>
-    requires right { Right (map instance_plain parts.now) leads.now }
-    ensures { LeadAt (map instance_plain parts.now) leads.now i x.now result }
+// The instance that a name is in its own instance.
+fn instance_named<'a>(parts: &Parts<'a>, i: usize, x: &'a [u8], known: Known<'a>) -> Option<usize>
+    requires known { local_plain known ≡ local (map instance_plain parts.now) i x.now }
+    ensures { IfSome result (λ c. (n : ℕ) → look (map instance_plain parts.now) n i x.now ≡ until 1 n (instance_at c)) }
 {
-    let known = parts.local(i, x);
-    lead_of(parts, leads, i, x, known)
+    match known {
+        Known::Instance => parts.child(i, x),
+        Known::Alias(_, _) => None,
+        Known::Body(_, _) => None,
+        Known::Variable(_, _) => None,
+        Known::Nothing => None,
+    }
 }
 
 // The walk along a path of one name.
@@ -103,7 +108,16 @@ fn names_walk<'a>(parts: &Parts<'a>, leads: &Leads<'a>, i: usize, names: &'a Nam
     let mut depth = 0;
     for k in 0..names.len() {
         let name = names.at(k).bytes();
-        let Some(lead) = lead_at(parts, leads, at, name) else {
+        let known = parts.local(at, name);
+        // Most names before the last are instances.
+        if let Some(c) = instance_named(parts, at, name, known) {
+            if depth < 1 {
+                depth = 1;
+            }
+            at = c;
+            continue;
+        }
+        let Some(lead) = lead_of(parts, leads, at, name, known) else {
             return Walk::Waits(Key { instance: at, name });
         };
         if lead.depth > depth {

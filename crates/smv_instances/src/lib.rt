@@ -27,4 +27,4 @@ pub use modules::ModuleTable;
 pub use name_map::{NameMap, no_names, put, value_under};
 pub use names::{Known, Target};
 pub use rows::{NameRows, add_row, no_rows, row_value};
-pub use table::Table;
+pub use table::{Table, is_same_name};

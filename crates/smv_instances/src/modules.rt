@@ -1,5 +1,5 @@
 // The modules of a model, found by their names.
-ghost use Rattle.std.specs.Prelude.{◌≡◌, length, map, IfOk};
+ghost use Rattle.std.specs.Prelude.{◌≡◌, ◌<◌, length, map, IfOk, IfSome};
 ghost use Rattle.smv_text.specs.View.{plain_module};
 ghost use Rattle.smv_meaning.specs.Instances.{module_named};
 ghost use Rattle.smv_instances.specs.NameMap.{module_at, FindsPlaces};
@@ -59,12 +59,15 @@ impl<'a> ModuleTable<'a> {
 
     /// The place of the first module with this name.
     pub fn place(&self, name: &[u8]) -> Option<usize>
-        ensures { module_at self.now result ≡ module_named (map plain_module self.now) name.now }
+        ensures module { module_at self.now result ≡ module_named (map plain_module self.now) name.now }
+        ensures within { IfSome result (λ k. k < length self.now) }
     {
         if self.list.len() <= FEW {
-            place_among(self.list, name)
-        } else {
-            row_value(&self.places, name)
+            return place_among(self.list, name);
+        }
+        match row_value(&self.places, name) {
+            None => None,
+            Some(k) => if k < self.list.len() { Some(k) } else { None },
         }
     }
 
@@ -74,11 +77,7 @@ impl<'a> ModuleTable<'a> {
     {
         match self.place(name) {
             None => None,
-            Some(k) => if k < self.list.len() {
-                Some(self.list.at(k))
-            } else {
-                None
-            },
+            Some(k) => Some(self.list.at(k)),
         }
     }
 }
@@ -86,7 +85,8 @@ impl<'a> ModuleTable<'a> {
 // The place of the first module with this name, found with no table.
 #[inline(always)]
 fn place_among(modules: &Modules, name: &[u8]) -> Option<usize>
-    ensures { module_at modules.now result ≡ module_named (map plain_module modules.now) name.now }
+    ensures module { module_at modules.now result ≡ module_named (map plain_module modules.now) name.now }
+    ensures within { IfSome result (λ k. k < length modules.now) }
 {
     for k in 0..modules.len() {
         if is_same(modules.at(k).name.bytes(), name) {

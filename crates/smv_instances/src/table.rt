@@ -1,5 +1,5 @@
 // The instances of a model in a table, with what their names mean.
-ghost use Rattle.std.specs.Prelude.{◌≡◌, ◌<◌, List, length, map, position, slice_index_or, IfOk};
+ghost use Rattle.std.specs.Prelude.{◌≡◌, ◌<◌, true, ℕ, List, length, map, position, slice_index_or, IfOk};
 ghost use Rattle.smv_text.specs.View.{plain_source};
 ghost use Rattle.smv_meaning.specs.Instances.{Instance as Specified, instances_of};
 ghost use Rattle.smv_meaning.specs.Bodies.{instance_within};
@@ -15,7 +15,7 @@ use crate::parts::Parts;
 use smv_text::{Path, Source};
 use std::alloc::Global;
 use std::marker::Model;
-use text_core::NoMemory;
+use text_core::{NoMemory, is_same};
 
 /// The instances of a model, numbered in preorder, with what their names mean (NuSMV 2.6 User Manual, 2.3).
 #[derive(Drop)]
@@ -42,6 +42,24 @@ impl<'a> Model for Table<'a> {
     ghost view = { λ t. t.parts };
 
     ghost invariant = { λ t. Right (map instance_plain t.parts) t.leads × IsClosed (map instance_plain t.parts) t.leads };
+}
+
+// Are both the same single name?
+fn is_same_single(one: &Path, other: &Path) -> bool
+    ensures from_self { result ≡ true → one.now.from_self ≡ other.now.from_self }
+    ensures names { result ≡ true → one.now.names ≡ other.now.names }
+{
+    if one.from_self || other.from_self || one.names.len() != 1 || other.names.len() != 1 {
+        return false;
+    }
+    is_same(one.names.at(0).bytes(), other.names.at(0).bytes())
+}
+
+/// Are both paths the same single name? Then they lead to the same in each instance.
+pub fn is_same_name(one: &Path, other: &Path) -> bool
+    ensures { result ≡ true → (t : List Specified) (i : ℕ) → found_in t i one.now ≡ found_in t i other.now }
+{
+    is_same_single(one, other)
 }
 
 // What is reached in so many steps.
@@ -129,8 +147,8 @@ impl<'a> Table<'a> {
         self.parts.has_symbol(x)
     }
 
-    // What an alias leads to.
-    fn target_of_alias(&self, i: usize, x: &'a [u8], known: Known<'a>) -> Target<'a>
+    /// What an alias leads to, which is known with no walk along its path, given what the name is in its own instance.
+    pub fn target_of_alias(&self, i: usize, x: &'a [u8], known: Known<'a>) -> Target<'a>
         requires known { local_plain known ≡ local (map instance_plain self.now) i x.now }
         ensures { found_plain (map instance_plain self.now) result ≡ look (map instance_plain self.now) (steps_of (map instance_plain self.now)) i x.now }
     {

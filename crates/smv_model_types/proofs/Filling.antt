@@ -17,7 +17,7 @@ use Rattle.smv_meaning.specs.Phases.{Body, body_same, body_here, from_instance, 
 use Rattle.smv_meaning.specs.Settled.{Acyclic, has_body, types_in, NamesSettle, TypesSettle}
 use Rattle.smv_meaning.specs.Bodies.{instance_within, IsBodyOrder}
 use Rattle.smv_meaning.specs.Orders.{numbered, is_listed, SameOn, TypesHangOnPaths, OrderIsWhole}
-use Rattle.smv_model_types.specs.Entries.{Entries, nameless, named_instance, or_unnamed, variable_or, entry_or, alias_or, entries_step, entries_walk, entries_single, entries_through, entries_names, HasEach, put_for, variable_put, or_else, Becomes, IsPut, Right, Has}
+use Rattle.smv_model_types.specs.Entries.{Entries, nameless, named_instance, or_unnamed, variable_or, entry_or, alias_or, entries_step, entries_walk, entries_single, entries_through, entries_names, HasEach, put_for, variable_put, or_else, Becomes, LeadsAs, IsPut, IsReady, Right, Has}
 
 -- ---- tests
 
@@ -212,6 +212,17 @@ put_right t entries ks w r i x (body_of j b) h n e =
 put_right t entries ks w r i x (variable_of kind d) h n e = cc
 put_right t entries ks w r i x inner h n e = cc
 put_right t entries ks w r i x nothing h n e = cc
+
+-- ready for an actual that is a path
+pub ready : (t : List Instance) (entries : Entries) (ks : List Body) → Acyclic t → NamesSettle → Holds t entries ks → (k : Body) → list_all (is_listed ks) (refers t k) ≡ true → IsReady t k entries
+ready t entries ks a names r k before = by (local t k.0 k.1) before ((names t a).1 k.0 k.1)
+  where
+    by : (l : Local) → list_all (is_listed ks) (referred t (looked t) l) ≡ true → looked t k.0 k.1 ≡ landed t (looked t) k.0 k.1 l → LeadsAs t entries k.0 k.1 l
+    by (alias j path) h s = names_right t entries ks (names t a).1 r j path h ∙ sym (ap (meaning t) s)
+    by (body_of j e) h s = tt
+    by (variable_of kind d) h s = tt
+    by inner h s = tt
+    by nothing h s = tt
 
 put_there : (t : List Instance) (entries : Entries) (l : Local) → has_body l ≡ true → is_some (put_for t entries l) ≡ true
 put_there t entries (alias j path) f = refl

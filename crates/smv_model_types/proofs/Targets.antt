@@ -1,11 +1,11 @@
 -- What a path is to the types, by what it leads to.
-use Rattle.std.proofs.Common.{◌≡◌, ℕ, zero, suc, ◌<◌, true, List, [], ◌∷◌, Option, Some, None, refl, sym, ap, ◌∙◌, subst, arith}
+use Rattle.std.proofs.Common.{◌≡◌, ℕ, zero, suc, ◌<◌, true, List, [], ◌∷◌, Some, refl, sym, ap, ◌∙◌, subst, arith}
 use Rattle.std.specs.List.{slice_get}
 use Rattle.smv_text.specs.declared.tree.Path.{Path}
 use Rattle.smv_text.specs.declared.tree.VarKind.{VarKind}
 use Rattle.smv_text.specs.Tree.{Tree, PlainDomain, boolean, members, between, bits, instance}
 use Rattle.smv_meaning.specs.Instances.{Instance}
-use Rattle.smv_meaning.specs.Names.{Local, alias, body_of, variable_of, inner, nothing, local, Found, variable_at, body_at, instance_at, symbol_of, cyclic, none, path_in, onward, walk, look, landed, found_in, steps_of}
+use Rattle.smv_meaning.specs.Names.{Local, alias, body_of, variable_of, inner, nothing, local, Found, variable_at, body_at, path_in, onward, walk, look, landed, found_in, steps_of}
 use Rattle.smv_meaning.specs.Checks.{Named}
 use Rattle.smv_meaning.specs.Naming.{named_found, naming}
 use Rattle.smv_meaning.specs.Settled.{types_in}
@@ -66,6 +66,14 @@ body_named t entries h i path j x k e f =
 
 -- ---- variables
 
+-- what leads to a variable is what its declaration says, whatever else is read
+pub declared_so : (read : ℕ → Path → Named) (y : List ℕ) (kind : VarKind) (d : PlainDomain) (n : Named) → n ≡ named_found true read (variable_at y kind d) → variable_or kind d (Some n) ≡ n
+declared_so read y kind (members ms) n e = refl
+declared_so read y kind boolean n e = sym e
+declared_so read y kind (between low high) n e = sym e
+declared_so read y kind (bits m) n e = sym e
+declared_so read y kind (instance m es) n e = sym e
+
 pub variable_named_is : (t : List Instance) (entries : Entries) → HasEach t entries → (i : ℕ) (path : Path) (y : List ℕ) (kind : VarKind) (d : PlainDomain) → variable_at y kind d ≡ found_in t i path
     → variable_or kind d (Some (entries_names t entries i path)) ≡ types_in true t i path
 variable_named_is t entries h i path y kind (members ms) f = h i path
@@ -73,3 +81,12 @@ variable_named_is t entries h i path y kind boolean f = found_named t i path (va
 variable_named_is t entries h i path y kind (between low high) f = found_named t i path (variable_at y kind (between low high)) (named_found true nameless (variable_at [] kind (between low high))) f (λ read. refl)
 variable_named_is t entries h i path y kind (bits n) f = found_named t i path (variable_at y kind (bits n)) (named_found true nameless (variable_at [] kind (bits n))) f (λ read. refl)
 variable_named_is t entries h i path y kind (instance m es) f = found_named t i path (variable_at y kind (instance m es)) (named_found true nameless (variable_at [] kind (instance m es))) f (λ read. refl)
+
+-- paths that lead to the same are the same to the types
+pub same_types : (t : List Instance) (i : ℕ) (p q : Path) → found_in t i p ≡ found_in t i q → types_in true t i p ≡ types_in true t i q
+unfolding naming
+same_types t i p q e = go (steps_of t)
+  where
+    go : (n : ℕ) → naming true (found_in t) n i p ≡ naming true (found_in t) n i q
+    go zero = refl
+    go (suc n) = ap (named_found true (naming true (found_in t) n)) e

@@ -101,6 +101,15 @@ or_else None other = other
 abbrev pub Becomes : Entries → Body → Option Named → Entries → Type 0
 Becomes old k o new = (j : ℕ) (y : List ℕ) → new j y ≡ (if body_same k (j, y) then or_else o (old j y) else old j y)
 
+-- the path of an alias is by the entries what the alias leads to
+abbrev pub LeadsAs : List Instance → Entries → ℕ → List ℕ → Local → Type 0
+LeadsAs t entries i x (alias j path) = entries_names t entries j path ≡ named_found true (types_in true t) (look t (steps_of t) i x)
+LeadsAs t entries i x l = Unit {0}
+
+-- the entries have what an actual needs that is a path
+abbrev pub IsReady : List Instance → Body → Entries → Type 0
+IsReady t k entries = LeadsAs t entries k.0 k.1 (local t k.0 k.1)
+
 -- the entries with what a definition or an actual is, where the name is one
 abbrev pub IsPut : List Instance → Body → (old new : Entries) → Type 0
 IsPut t k old new = Becomes old k (put_for t old (local t k.0 k.1)) new

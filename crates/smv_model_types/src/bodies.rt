@@ -10,9 +10,9 @@ ghost use Rattle.smv_instances.specs.View.{instance_plain};
 ghost use Rattle.smv_references.specs.View.{body_plain, path_seen, key_of};
 ghost use Rattle.smv_intervals.specs.View.{seen};
 ghost use Rattle.smv_types.specs.View.{named_seen};
-ghost use Rattle.smv_model_types.specs.Entries.{entries_seen, entries_names, IsPut, HasEach};
+ghost use Rattle.smv_model_types.specs.Entries.{entries_seen, entries_names, IsPut, IsReady, HasEach};
 
-use crate::names::{Entries, Reader, path_named};
+use crate::names::{Entries, Reader, alias_named, path_named};
 use crate::variables::variables_of;
 use smv_instances::{Known, Table, add_row_in};
 use smv_intervals::Ty;
@@ -88,11 +88,14 @@ fn put_body<'a>(
     entries: &mut Entries<'a>,
     body: &Body<'a>,
 ) -> Result<(), NoMemory>
+    requires { IsReady (map instance_plain table.now) (key_of body.now) (entries_seen entries.old) }
     ensures { OnOk result (IsPut (map instance_plain table.now) (key_of body.now) (entries_seen entries.old) (entries_seen entries.new)) }
 {
-    match table.local(body.instance, body.name) {
+    let known = table.local(body.instance, body.name);
+    match known {
         Known::Alias(j, path) => {
-            let named = path_named(table, entries, j, path);
+            let target = table.target_of_alias(body.instance, body.name, known);
+            let named = alias_named(table, entries, j, path, target);
             add_row_in(entries, body.instance, body.name, named)
         }
         Known::Body(j, e) => {

@@ -8,7 +8,7 @@ ghost use Rattle.smv_meaning.specs.Phases.{in_assignment, actual_typing, formula
 ghost use Rattle.smv_meaning.specs.Settled.{types_in};
 ghost use Rattle.smv_instances.specs.View.{instance_plain};
 ghost use Rattle.smv_intervals.specs.View.{seen};
-ghost use Rattle.smv_types.specs.View.{position_seen};
+ghost use Rattle.smv_types.specs.View.{named_seen, position_seen};
 ghost use Rattle.smv_names.specs.Outcome.{Settles};
 ghost use Rattle.smv_model_types.specs.Outcome.{AreTypesOf, is_path};
 
@@ -18,7 +18,7 @@ use smv_intervals::Ty;
 use smv_names::NamesEnd;
 use smv_references::place;
 use smv_text::{Assignment, Expr, Shape, When};
-use smv_types::Position;
+use smv_types::{Named, Position};
 use std::alloc::Global;
 use text_core::Refusal;
 use text_core::kinds::smv;
@@ -124,6 +124,7 @@ fn position_of(when: When) -> Position
     }
 }
 
+/// The checks of an assignment, given what its target is to the types.
 #[tactic(auto, using(crate::proofs::Composing::ends, crate::proofs::Composing::both_pass, crate::proofs::Composing::fails_behind))]
 pub(crate) fn assignment_checked<'a>(
     alloc: Global,
@@ -131,14 +132,15 @@ pub(crate) fn assignment_checked<'a>(
     types: &Types<'a>,
     i: usize,
     assignment: &Assignment,
+    target: Named,
 ) -> Result<(), NamesEnd>
-    requires { AreTypesOf (map instance_plain table.now) types.now }
+    requires types { AreTypesOf (map instance_plain table.now) types.now }
+    requires target { named_seen target ≡ types_in true (map instance_plain table.now) i assignment.now.target }
     ensures { Settles result (assigned_typing (types_in true (map instance_plain table.now) i) (plain_assignment assignment.now)) }
 {
     let position = position_of(assignment.when);
     let value = types.expression_checked(alloc, table, i, &assignment.body, position)?;
-    let target = types.named(table, i, &assignment.target).ty;
-    if are_same(target, value) {
+    if are_same(target.ty, value) {
         Ok(())
     } else {
         Err(NamesEnd::Bad(Refusal {

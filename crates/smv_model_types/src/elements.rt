@@ -5,16 +5,18 @@ ghost use Rattle.smv_text.specs.View.{plain, plain_item, plain_definition, plain
 ghost use Rattle.smv_meaning.specs.Phases.{actuals_typing, assigned_typing, element_typing, type_checks, names_in};
 ghost use Rattle.smv_meaning.specs.Settled.{types_in};
 ghost use Rattle.smv_instances.specs.View.{instance_plain};
+ghost use Rattle.smv_types.specs.View.{named_seen};
 ghost use Rattle.smv_names.specs.Outcome.{Settles};
 ghost use Rattle.smv_model_types.specs.Outcome.{AreTypesOf, item_typing, definition_typing};
+ghost use Rattle.smv_model_types.specs.Targets.{IsTyped};
 
 use crate::checks::{actual_checked, assignment_checked, body_checked, formula_checked};
 use crate::domains::domain_checked;
 use crate::types::Types;
-use smv_instances::{Instance, Table};
+use smv_instances::{Instance, Table, is_same_name};
 use smv_names::NamesEnd;
-use smv_text::{Assignments, Definitions, Element, Elements, Expr, Items};
-use smv_types::Position;
+use smv_text::{Assignments, Definitions, Element, Elements, Expr, Items, Path};
+use smv_types::{Named, Position};
 use std::alloc::Global;
 
 #[tactic(auto, using(crate::proofs::Lists::trees_on, crate::proofs::Composing::goes, crate::proofs::Composing::ends))]
@@ -64,22 +66,54 @@ fn definitions_checked<'a>(
     Ok(())
 }
 
+/// A path, and what it is to the types.
+#[derive(Clone, Copy)]
+pub(crate) struct TargetType<'a> {
+    pub(crate) path: &'a Path,
+    pub(crate) named: Named,
+}
+
+// What a target is to the types, given what the one before is: often the same, as in `init(v)` and `next(v)`.
+fn named_behind<'a>(
+    table: &Table<'a>,
+    types: &Types<'a>,
+    i: usize,
+    path: &'a Path,
+    before: Option<TargetType<'a>>,
+) -> Named
+    requires types { AreTypesOf (map instance_plain table.now) types.now }
+    requires before { IsTyped (map instance_plain table.now) i before }
+    ensures { named_seen result ≡ types_in true (map instance_plain table.now) i path.now }
+{
+    if let Some(before) = before {
+        if is_same_name(before.path, path) {
+            return before.named;
+        }
+    }
+    types.named(table, i, path)
+}
+
 #[tactic(auto, using(crate::proofs::Lists::front_is, crate::proofs::Lists::end_is, crate::proofs::Composing::goes, crate::proofs::Composing::ends))]
 fn assignments_checked<'a>(
     alloc: Global,
     table: &Table<'a>,
     types: &Types<'a>,
     i: usize,
-    assignments: &Assignments,
+    assignments: &'a Assignments,
 ) -> Result<(), NamesEnd>
     requires { AreTypesOf (map instance_plain table.now) types.now }
     ensures { Settles result (flat_map (assigned_typing (types_in true (map instance_plain table.now) i)) (map plain_assignment assignments.now)) }
 {
+    let mut last: Option<TargetType<'a>> = None;
     for k in 0..assignments.len() {
-        match assignment_checked(alloc, table, types, i, assignments.at(k)) {
+        let assignment = assignments.at(k);
+        let path = &assignment.target;
+        let named = named_behind(table, types, i, path, last);
+        match assignment_checked(alloc, table, types, i, assignment, named) {
             Ok(()) => {}
             Err(end) => return Err(end),
         }
+        last = Some(TargetType { path, named });
     }
     Ok(())
 }
@@ -89,7 +123,7 @@ fn element_checked<'a>(
     table: &Table<'a>,
     types: &Types<'a>,
     i: usize,
-    element: &Element,
+    element: &'a Element,
 ) -> Result<(), NamesEnd>
     requires { AreTypesOf (map instance_plain table.now) types.now }
     ensures { Settles result (element_typing (types_in true (map instance_plain table.now) i) (plain_element element.now)) }
@@ -116,7 +150,7 @@ fn elements_checked<'a>(
     table: &Table<'a>,
     types: &Types<'a>,
     i: usize,
-    elements: &Elements,
+    elements: &'a Elements,
 ) -> Result<(), NamesEnd>
     requires { AreTypesOf (map instance_plain table.now) types.now }
     ensures { Settles result (flat_map (element_typing (types_in true (map instance_plain table.now) i)) (map plain_element elements.now)) }

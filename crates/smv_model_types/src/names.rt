@@ -3,7 +3,7 @@ ghost use Rattle.std.specs.Prelude.{◌≡◌, ◌∷◌, [], true, map, Some};
 ghost use Rattle.smv_text.specs.View.{plain_domain};
 ghost use Rattle.smv_meaning.specs.Bodies.{instance_within};
 ghost use Rattle.smv_meaning.specs.Names.{local, look, steps_of, found_in};
-ghost use Rattle.smv_meaning.specs.Naming.{unnamed};
+ghost use Rattle.smv_meaning.specs.Naming.{unnamed, named_found};
 ghost use Rattle.smv_meaning.specs.Settled.{types_in};
 ghost use Rattle.smv_instances.specs.View.{instance_plain, local_plain, found_plain};
 ghost use Rattle.smv_types.specs.View.{named_seen};
@@ -224,6 +224,30 @@ pub(crate) fn target_named<'a>(
             variable_on_path(table, entries, i, path, kind, domain)
         }
         Target::Body(j, x, _, _) => entered(entries, j, x),
+        Target::Instance(_) => instance(),
+        Target::Symbol(_) => symbol(),
+        Target::Cyclic => unnamed(),
+        Target::Missing => unnamed(),
+    }
+}
+
+/// What an alias with this path is, by the entries, given what it leads to. Only a path to an enumeration, a definition or an actual is
+/// followed again.
+pub(crate) fn alias_named<'a>(
+    table: &Table<'a>,
+    entries: &Entries<'a>,
+    i: usize,
+    path: &Path,
+    target: Target,
+) -> Named
+    requires { entries_names (map instance_plain table.now) (entries_seen entries.now) i path.now ≡ named_found true (types_in true (map instance_plain table.now)) (found_plain (map instance_plain table.now) target) }
+    ensures { named_seen result ≡ entries_names (map instance_plain table.now) (entries_seen entries.now) i path.now }
+{
+    match target {
+        Target::Variable(_, _, kind, domain) => {
+            variable_on_path(table, entries, i, path, kind, domain)
+        }
+        Target::Body(_, _, _, _) => path_named(table, entries, i, path),
         Target::Instance(_) => instance(),
         Target::Symbol(_) => symbol(),
         Target::Cyclic => unnamed(),

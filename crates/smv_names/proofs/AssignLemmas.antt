@@ -1,7 +1,10 @@
 -- What is assigned so far, and one assignment more.
-use Rattle.std.proofs.Common.{◌≡◌, ℕ, zero, suc, arith, ◌<◌, Bool, true, false, not, ◌&&◌, ◌||◌, if◌then◌else◌, List, [], ◌∷◌, map, length, Option, Some, None, bytes_eq, refl, sym, ap, ◌∙◌}
+use Rattle.std.proofs.Common.{◌≡◌, ℕ, zero, suc, arith, ◌<◌, Bool, true, false, not, ◌&&◌, ◌||◌, if◌then◌else◌, ◌+◌, List, [], ◌∷◌, ◌++◌, take, map, length, Option, Some, None, bytes_eq, refl, sym, ap, ◌∙◌, subst}
 use Rattle.std.proofs.lemmas.Bool.{false≢true}
+use Rattle.std.proofs.lemmas.List.{length-take-le}
 use Rattle.std.proofs.lemmas.Slice.Eq.{bytes_eq-Decides}
+use Rattle.std.proofs.Math.Numerals.{add-one}
+use Rattle.std.proofs.Math.Seq.{take-suc}
 use Rattle.std.specs.List.{list_any}
 use Rattle.std.specs.Prelude.{slice_index_or}
 use Rattle.smv_text.specs.declared.tree.When.{When}
@@ -112,3 +115,26 @@ mapped f g (x ∷ xs) (suc k) d e lt = mapped f g xs k d e (omega (arith, lt))
 pub mapped_at : {X Y Z : Type 0} (f : Y → Z) (g : X → Y) (xs es : List X) (ys : List Z) (k : ℕ) (x d : X) (y e : Z) → es ≡ xs → ys ≡ map f (map g es) → k < length xs → x ≡ slice_index_or xs k d → y ≡ slice_index_or ys k e → y ≡ f (g x)
 mapped_at f g xs es ys k x d y e own same lt is there =
     there ∙ ap (λ l. slice_index_or l k e) (same ∙ ap (λ l. map f (map g l)) own) ∙ mapped f g xs k d e lt ∙ sym (ap (λ z. f (g z)) is)
+
+taken : {X : Type 0} (xs : List X) (k j : ℕ) (d : X) → j < k → slice_index_or (take k xs) j d ≡ slice_index_or xs j d
+taken [] zero j d h = refl
+taken [] (suc k) j d h = refl
+taken (x ∷ xs) zero j d h = absurd (omega (arith, h))
+taken (x ∷ xs) (suc k) zero d h = refl
+taken (x ∷ xs) (suc k) (suc j) d h = taken xs k j d (omega (arith, h))
+
+map_push : {X Y : Type 0} (f : X → Y) (xs : List X) (x : X) → map f (xs ++ x ∷ []) ≡ map f xs ++ f x ∷ []
+map_push f [] x = refl
+map_push f (y ∷ xs) x = ap (λ zs. f y ∷ zs) (map_push f xs x)
+
+-- one element more of a list that is mapped twice
+pub mapped_more : {X Y Z : Type 0} (f : Y → Z) (g : X → Y) (xs : List X) (ys : List Z) (k : ℕ) (x : X) (y : Z) → k < length xs → ys ≡ map f (map g (take k xs)) → x ≡ slice_index_or xs k x → y ≡ f (g x)
+    → ys ++ y ∷ [] ≡ map f (map g (take (k + 1) xs))
+mapped_more f g xs ys k x y h e is same =
+    ap (λ z. ys ++ z ∷ []) same ∙ ap (λ l. l ++ f (g x) ∷ []) e ∙ sym (map_push f (map g (take k xs)) (g x)) ∙ ap (map f) (sym (map_push g (take k xs) x))
+    ∙ ap (λ l. map f (map g l)) (sym (rw add-one (take-suc xs k x h ∙ ap (λ z. take k xs ++ z ∷ []) (sym is))))
+
+-- an element of the front of a list that is mapped twice
+pub mapped_front : {X Y Z : Type 0} (f : Y → Z) (g : X → Y) (xs : List X) (ys : List Z) (k j : ℕ) (x : X) (y : Z) → k < length xs → j < k → ys ≡ map f (map g (take k xs)) → x ≡ slice_index_or xs j x → y ≡ slice_index_or ys j y → y ≡ f (g x)
+mapped_front f g xs ys k j x y h lt e is there =
+    there ∙ ap (λ l. slice_index_or l j y) e ∙ mapped f g (take k xs) j x y (subst (λ n. j < n) (sym (length-take-le k xs (omega (arith, h)))) lt) ∙ ap (λ z. f (g z)) (taken xs k j x lt ∙ sym is)

@@ -1,18 +1,25 @@
 -- What has been assigned so far, by the dotted paths of variables.
-use Rattle.std.specs.Prelude.{ℕ, Bool, true, false, ◌||◌, List, [], map, Option, unwrap_or}
+use Rattle.std.specs.Prelude.{◌≡◌, ℕ, Bool, true, false, ◌||◌, List, [], map, Option, Some, None, unwrap_or}
 use Rattle.smv_text.specs.declared.tree.When.{When}
 use Rattle.smv_text.specs.declared.tree.When.TheVariants.{Always, First, Following}
 use Rattle.smv_instances.specs.declared.instances.Instance.{Instance as PartOf}
 use Rattle.smv_instances.specs.declared.rows.NameRows.{NameRows}
 use Rattle.smv_instances.specs.Rows.{row_named}
-use Rattle.smv_meaning.specs.Names.{Found, variable_at}
+use Rattle.smv_meaning.specs.Instances.{Instance}
+use Rattle.smv_meaning.specs.Names.{Found, variable_at, found_in}
 use Rattle.smv_meaning.specs.Phases.{Assigned}
 use Rattle.smv_instances.specs.View.{instance_plain, found_plain}
 use Rattle.smv_names.specs.declared.assignments.Assignment.{Assignment as Kept}
+use Rattle.smv_names.specs.declared.assignments.Followed.{Followed}
 use Rattle.smv_names.specs.declared.assignments.Kinds.{Kinds}
 
 abbrev pub assigned_plain : List PartOf → Kept → Assigned
 assigned_plain ts a = record { when = a.when; target = found_plain (map instance_plain ts) a.target; place = a.place }
+
+-- what was kept of a target in this instance, if anything, is what it leads to
+abbrev pub IsFollowed : List Instance → ℕ → Option Followed → Type 0
+IsFollowed t i None = Unit {0}
+IsFollowed t i (Some f) = found_plain t f.target ≡ found_in t i f.path.now
 
 -- the dotted path of what is a variable
 abbrev pub target_path : Found → List ℕ

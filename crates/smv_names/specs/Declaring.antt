@@ -1,5 +1,5 @@
 -- The first name that a module declares twice.
-use Rattle.std.specs.Prelude.{◌≡◌, ℕ, ◌+◌, ◌==◌, Bool, false, List, [], ◌∷◌, map, if◌then◌else◌, Option, Some, None, slice_get}
+use Rattle.std.specs.Prelude.{ℕ, ◌+◌, ◌==◌, Bool, false, List, [], ◌∷◌, if◌then◌else◌, Option, Some, None}
 use Rattle.smv_meaning.specs.Instances.{is_one_of}
 use Rattle.smv_meaning.specs.Phases.{Declared}
 

@@ -1,5 +1,6 @@
 // What is assigned: variables alone, and each once.
-ghost use Rattle.std.specs.Prelude.{◌≡◌, ◌++◌, List, map, flat_map, IfOk, OnOk};
+ghost use Rattle.std.specs.Prelude.{◌≡◌, ◌<◌, ◌+◌, ◌++◌, ◌∷◌, [], true, List, length, map, flat_map, take, IfOk, OnOk};
+ghost use Rattle.smv_meaning.specs.Instances.{Instance as Specified};
 ghost use Rattle.smv_instances.specs.declared.instances.Instance.{Instance as PartOf};
 ghost use Rattle.smv_text.specs.Tree.{assigns};
 ghost use Rattle.smv_text.specs.View.{plain_assignment, plain_element};
@@ -7,14 +8,14 @@ ghost use Rattle.smv_meaning.specs.Names.{found_in};
 ghost use Rattle.smv_meaning.specs.Phases.{element_assigns, assignment_checks, is_assignable, over_instances};
 ghost use Rattle.smv_instances.specs.View.{instance_plain, found_plain};
 ghost use Rattle.smv_names.specs.Outcome.{Settles};
-ghost use Rattle.smv_names.specs.Assigning.{assigned_plain, assigned_path, target_path, with_kind, kinds_or_none, kinds_clash};
+ghost use Rattle.smv_names.specs.Assigning.{assigned_plain, assigned_path, target_path, with_kind, kinds_or_none, kinds_clash, IsFollowed};
 
 use crate::ends::NamesEnd;
-use smv_instances::{Table, Target, add_row, no_rows, path_below, row_value};
-use smv_text::{Assignments, Element, Elements, VarKind, When};
+use smv_instances::{Table, Target, add_row, is_same_name, no_rows, path_below, row_value};
+use smv_text::{Assignments, Element, Elements, Path, VarKind, When};
 use std::alloc::Global;
 use text_core::kinds::smv;
-use text_core::{Name, NoMemory, Place, Refusal};
+use text_core::{Name, NoMemory, Place, Refusal, is_same};
 
 /// An assignment: when it holds, what its target leads to, and where the target stands.
 #[derive(Clone, Copy)]
@@ -96,6 +97,31 @@ fn clashes(kinds: Option<Kinds>, when: When) -> bool
     }
 }
 
+/// A path and what it leads to.
+#[derive(Clone, Copy)]
+pub struct Followed<'a> {
+    pub path: &'a Path,
+    pub target: Target<'a>,
+}
+
+// What a target leads to, given what the one before it does: often the same, as in `init(v)` and `next(v)`.
+fn target_behind<'a>(
+    table: &Table<'a>,
+    i: usize,
+    path: &'a Path,
+    before: Option<Followed<'a>>,
+) -> Target<'a>
+    requires { IsFollowed (map instance_plain table.now) i before }
+    ensures { found_plain (map instance_plain table.now) result ≡ found_in (map instance_plain table.now) i path.now }
+{
+    if let Some(before) = before {
+        if is_same_name(before.path, path) {
+            return before.target;
+        }
+    }
+    table.target(i, path)
+}
+
 fn add_assignments<'a>(
     list: &mut Vec<Assignment<'a>>,
     table: &Table<'a>,
@@ -104,12 +130,15 @@ fn add_assignments<'a>(
 ) -> Result<(), NoMemory>
     ensures { OnOk result (map (assigned_plain table.now) list.new.items ≡ map (assigned_plain table.now) list.old.items ++ element_assigns (found_in (map instance_plain table.now)) i (assigns (map plain_assignment assignments.now))) }
 {
+    let mut last = None;
     for assignment in assignments {
-        let target = &assignment.target;
+        let path = &assignment.target;
+        let target = target_behind(table, i, path, last);
+        last = Some(Followed { path, target });
         list.push(Assignment {
             when: assignment.when,
-            target: table.target(i, target),
-            place: target.place,
+            target,
+            place: path.place,
         })?;
     }
     Ok(())
@@ -162,12 +191,45 @@ fn path_of(alloc: Global, table: &Table, target: &Target) -> Result<Name, NoMemo
     }
 }
 
+// Are both the same variable of the same instance?
+fn is_same_variable(one: &Target, other: &Target) -> bool
+    ensures { (t : List Specified) → result ≡ true → target_path (found_plain t one.now) ≡ target_path (found_plain t other.now) }
+{
+    match one {
+        Target::Variable(i, x, _, _) => match other {
+            Target::Variable(j, y, _, _) => *i == *j && is_same(x, y),
+            _ => false,
+        },
+        _ => false,
+    }
+}
+
+// The dotted path of the target of the assignment k, given those before it: often that of the last one, as in `init(v)` and `next(v)`.
+fn path_behind(
+    alloc: Global,
+    table: &Table,
+    list: &[Assignment],
+    k: usize,
+    paths: &[Name],
+) -> Result<Name, NoMemory>
+    requires within { k < length list.now }
+    requires paths { paths.now ≡ map assigned_path (map (assigned_plain table.now) (take k list.now)) }
+    ensures { IfOk result (λ p. paths.now ++ p ∷ [] ≡ map assigned_path (map (assigned_plain table.now) (take (k + 1) list.now))) }
+{
+    let target = &list[k].target;
+    if k > 0 && k - 1 < paths.len() && is_same_variable(&list[k - 1].target, target) {
+        return paths[k - 1].duplicate(alloc);
+    }
+    path_of(alloc, table, target)
+}
+
 fn paths_of(alloc: Global, table: &Table, list: &[Assignment]) -> Result<Vec<Name>, NoMemory>
     ensures { IfOk result (λ ps. ps.items ≡ map assigned_path (map (assigned_plain table.now) list.now)) }
 {
-    let mut paths = Vec::new(alloc);
-    for assignment in list {
-        paths.push(path_of(alloc, table, &assignment.target)?)?;
+    let mut paths = Vec::with_capacity(alloc, list.len())?;
+    for k in 0..list.len() {
+        let path = path_behind(alloc, table, list, k, paths.as_slice())?;
+        paths.push(path)?;
     }
     Ok(paths)
 }

@@ -2,26 +2,27 @@
 ghost use Rattle.std.specs.Prelude.{◌≡◌, ◌++◌, ◌∷◌, [], List, ℕ, map, flat_map, OnOk, unwrap_or};
 ghost use Rattle.smv_text.specs.Tree.{trees_of};
 ghost use Rattle.smv_text.specs.View.{plain, plain_definition, plain_assignment, plain_element};
+ghost use Rattle.smv_meaning.specs.Instances.{Instance as Specified};
 ghost use Rattle.smv_meaning.specs.Names.{found_in, Found};
 ghost use Rattle.smv_meaning.specs.Expressions.{paths_of, tree_paths};
 ghost use Rattle.smv_meaning.specs.Phases.{is_something, path_check, path_checks, element_paths, over_instances};
 ghost use Rattle.smv_instances.specs.View.{instance_plain, found_plain};
 ghost use Rattle.smv_references.specs.View.{path_seen};
 ghost use Rattle.smv_names.specs.Outcome.{Settles};
-ghost use Rattle.smv_names.specs.Paths.{assignment_paths, definition_paths};
+ghost use Rattle.smv_names.specs.Paths.{assignment_paths, definition_paths, LedSomewhere};
 
 use crate::ends::NamesEnd;
-use smv_instances::{Instance, Table, Target};
+use smv_instances::{Instance, Table, Target, is_same_name};
 use smv_references::{put_all_paths, put_paths};
 use smv_text::{Assignments, Definitions, Element, Elements, Path};
 use std::alloc::Global;
 use text_core::kinds::smv;
 use text_core::{NoMemory, Refusal};
 
-fn leads_somewhere<'a>(table: &Table<'a>, i: usize, path: &'a Path) -> bool
-    ensures { result ≡ is_something (found_in (map instance_plain table.now) i path.now) }
+fn is_something(target: Target) -> bool
+    ensures { (t : List Specified) → result ≡ is_something (found_plain t target.entry) }
 {
-    match table.target(i, path) {
+    match target {
         Target::Variable(_, _, _, _) => true,
         Target::Body(_, _, _, _) => true,
         Target::Instance(_) => true,
@@ -31,17 +32,38 @@ fn leads_somewhere<'a>(table: &Table<'a>, i: usize, path: &'a Path) -> bool
     }
 }
 
+// Does a path lead to something, given one before it that does? Often both are the same, as the targets of `init(v)` and `next(v)`.
+fn leads_somewhere<'a>(
+    table: &Table<'a>,
+    i: usize,
+    path: &'a Path,
+    before: Option<&'a Path>,
+) -> bool
+    requires { LedSomewhere (map instance_plain table.now) i before }
+    ensures { result ≡ is_something (found_in (map instance_plain table.now) i path.now) }
+{
+    if let Some(before) = before {
+        if is_same_name(before, path) {
+            return true;
+        }
+    }
+    is_something(table.target(i, path))
+}
+
 // The paths, read in the numbered instance.
 fn all_checked<'a>(table: &Table<'a>, i: usize, paths: &[&'a Path]) -> Result<(), NamesEnd>
     ensures { Settles result (map (path_check (found_in (map instance_plain table.now)) i) (map path_seen paths.now)) }
 {
+    let mut last = None;
     for path in paths {
-        if !leads_somewhere(table, i, path) {
+        let path = *path;
+        if !leads_somewhere(table, i, path, last) {
             return Err(NamesEnd::Bad(Refusal {
                 kind: smv::UNKNOWN,
                 place: path.place,
             }));
         }
+        last = Some(path);
     }
     Ok(())
 }

@@ -43,7 +43,11 @@ fn item_visited<'a>(
         Domain::Instance(name, _) => match modules.named(name.bytes()) {
             None => Ok(met),
             Some(own) => {
-                let below = path_below(alloc, path, item.name.bytes())?;
+                let name = item.name.bytes();
+                if path.is_empty() {
+                    return visited(alloc, modules, deep, above, name, own, met);
+                }
+                let below = path_below(alloc, path, name)?;
                 visited(alloc, modules, deep, above, below.bytes(), own, met)
             }
         },

@@ -1,7 +1,10 @@
 use Rattle.std.proofs.Common.{map}
-use Rattle.smv_instances.specs.Leads.{Right}
+use Rattle.smv_instances.specs.Leads.{Right, StaysClosed}
 use Rattle.smv_instances.specs.View.{instance_plain}
 use Rattle.smv_instances.proofs.aliases.searched.Given as goal
 
 abbrev pub invariant-loop : goal.invariant-loop
-invariant-loop l = Right (map instance_plain l.parts) l.leads
+invariant-loop l = record {
+  right : Right (map instance_plain l.parts) l.leads;
+  stays : StaysClosed (map instance_plain l.parts) l.fn.leads l.leads;
+}

@@ -18,5 +18,5 @@ returns-else-are_same c =
     let target = (names c.args.assignment.now.target).type in
     let found = subst (λ (at : Position). Finds (Ok c.in_ok-value.value) (typing names at body)) c.position_of-position.ensures c.in_ok-value.ensures in
     misfit a.checks (place_of body) (on_types target a.type type_same) (check 16 c.place.result false).refusal found.0
-    (ap (λ t. on_types t a.type type_same) (sym (ap (λ (n : Named). n.type) c.named-target.ensures))
-    ∙ ap (λ t. on_types (option_map seen c.named-target.result.ty) t type_same) (sym found.1) ∙ sym c.are_same.ensures ∙ c.if-are_same.false) (ap (λ p. (check 16 p false).refusal) c.place.ensures)
+    (ap (λ t. on_types t a.type type_same) (sym (ap (λ (n : Named). n.type) c.requires.target))
+    ∙ ap (λ t. on_types (option_map seen c.args.target.ty) t type_same) (sym found.1) ∙ sym c.are_same.ensures ∙ c.if-are_same.false) (ap (λ p. (check 16 p false).refusal) c.place.ensures)

@@ -8,10 +8,12 @@ use Rattle.smv_model_types.proofs.elements.assignments_checked.Goals as goal
 
 pub returns-in-Err : goal.returns-in-Err
 returns-in-Err c =
-    rest_ends (assigned_typing (types_in true (map instance_plain c.args.table.now) c.args.i)) plain_assignment c.args.assignments.now c.loop-k.k c.len-k-end.result c.at.result.now c.in-Err.end _ c.len-k-end.ensures c.loop-k-test.true c.at.ensures
-    c.in-Err.ensures c.loop-k.invariant
+    rest_ends (assigned_typing (types_in true (map instance_plain c.args.table.now) c.args.i)) plain_assignment c.args.assignments.now c.loop-k.k c.len-k-end.result c.at-assignment.result.now c.in-Err.end _ c.len-k-end.ensures c.loop-k-test.true c.at-assignment.ensures
+    c.in-Err.ensures c.loop-k.invariant.0
 
 pub loop-k-preserved : goal.loop-k-preserved
-loop-k-preserved c =
-    rest_goes (assigned_typing (types_in true (map instance_plain c.args.table.now) c.args.i)) plain_assignment c.args.assignments.now c.loop-k.k c.len-k-end.result c.at.result.now _ c.len-k-end.ensures c.loop-k-test.true c.at.ensures
-    c.in-Ok.ensures c.loop-k.invariant
+loop-k-preserved c = (
+  rest_goes (assigned_typing (types_in true (map instance_plain c.args.table.now) c.args.i)) plain_assignment c.args.assignments.now c.loop-k.k c.len-k-end.result c.at-assignment.result.now _ c.len-k-end.ensures c.loop-k-test.true c.at-assignment.ensures
+      c.in-Ok.ensures c.loop-k.invariant.0,
+  c.named_behind-named.ensures,
+)

@@ -1,6 +1,6 @@
 use Rattle.std.proofs.Common.{map, sym, ap, refl, ◌∙◌}
 use Rattle.smv_text.specs.View.{plain, plain_domain}
-use Rattle.smv_meaning.specs.Names.{variable_at, body_at, instance_at, symbol_of, cyclic, none, dotted_at}
+use Rattle.smv_meaning.specs.Names.{instance_at, symbol_of, cyclic, none, dotted_at}
 use Rattle.smv_meaning.specs.Naming.{unnamed}
 use Rattle.smv_instances.specs.View.{instance_plain, found_plain}
 use Rattle.smv_model_types.specs.Entries.{entries_seen, named_instance, named_symbol}

@@ -1,7 +1,7 @@
 use Rattle.std.proofs.Common.{map}
 use Rattle.smv_instances.specs.View.{instance_plain}
 use Rattle.smv_instances.proofs.LeadLemmas.{walk_key}
-use Rattle.smv_instances.proofs.aliases.key_walk.Goals as goal
+use Rattle.smv_instances.proofs.aliases.alias_walk.Goals as goal
 
 pub returns-in-Alias : goal.returns-in-Alias
 returns-in-Alias c =

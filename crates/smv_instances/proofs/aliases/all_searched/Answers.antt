@@ -1,0 +1,17 @@
+use Rattle.std.proofs.Common.{map, length, refl, sym, ◌∙◌, arith}
+use Rattle.std.proofs.lemmas.Bool.{false≢true}
+use Rattle.smv_instances.specs.View.{instance_plain}
+use Rattle.smv_instances.proofs.LeadLemmas.{none_more}
+use Rattle.smv_instances.proofs.aliases.all_searched.Goals as goal
+use Rattle.smv_instances.proofs.aliases.all_searched.Goals.{then-kept, else-kept}
+
+pub loop-k-preserved : goal.loop-k-preserved
+loop-k-preserved c = record {
+  right = c.in_ok-kept.ensures.right;
+  closed = λ e. elim c.if-kept.branch [
+    | then-kept w ↦
+        none_more (map instance_plain c.args.parts.now) c.loop-k.leads c.first_searched.new.leads c.args.keys.now c.loop-k.k (length c.args.keys.now) c.key_at-key.result refl (omega arith) c.key_at-key.ensures
+        c.in_ok-kept.ensures.stays (c.in_ok-kept.ensures.closed w.if-kept.true) (c.loop-k.invariant.closed (sym w.closed-is ∙ e))
+    | else-kept w ↦ absurd (false≢true (sym w.if-kept.false ∙ sym w.closed-is ∙ e))
+  ];
+}
