@@ -1,5 +1,5 @@
 -- The links of chains in order.
-use Rattle.std.proofs.Common.{◌≡◌, ℕ, ◌+◌, ◌<◌, ◌≤◌, ◌&&◌, Bool, true, false, List, [], ◌∷◌, drop, length, map, refl, sym, ap, ◌∙◌, rules}
+use Rattle.std.proofs.Common.{◌≡◌, ℕ, ◌≤◌, ◌&&◌, Bool, true, false, List, ◌∷◌, drop, length, map, refl, sym, ap, ◌∙◌, rules}
 use Rattle.std.proofs.lemmas.List.{drop_all}
 use Rattle.smv_meaning.specs.Expressions.{is_implies}
 use Rattle.smv_meaning.specs.Types.{is_union}

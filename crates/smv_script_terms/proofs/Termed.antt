@@ -1,21 +1,19 @@
 -- The loops over the parts of expressions.
-use Rattle.std.proofs.Common.{◌≡◌, ℕ, ◌+◌, ◌≤◌, ◌++◌, Bool, true, false, List, [], ◌∷◌, drop, length, map, option_map, is_some, Option, Some, None, Vec, Box, Global, refl, sym, ap, ◌∙◌, rules}
+use Rattle.std.proofs.Common.{◌≡◌, ℕ, ◌+◌, ◌≤◌, ◌++◌, Bool, List, [], ◌∷◌, drop, length, map, option_map, is_some, Option, None, Vec, Box, Global, refl, sym, ap, ◌∙◌, rules}
 use Rattle.std.proofs.lemmas.List.{drop_all}
 use Rattle.smv_text.specs.declared.tree.Prefix.{Prefix}
 use Rattle.smv_text.specs.declared.tree.Function.{Function}
 use Rattle.smv_text.specs.declared.tree.Infix.{Infix}
 use Rattle.smv_intervals.specs.View.{seen}
-use Rattle.moxi_terms.specs.declared.term.Term.{Term}
-use Rattle.moxi_terms.specs.Tree.{Tree, tree, Trees, trees_of, list_of}
-use Rattle.moxi_terms.specs.View.{plain}
+use Rattle.moxi_terms.specs.Tree.{Tree, list_of}
 use Rattle.smv_flat.specs.declared.expressions.FlatExpr.{FlatExpr, the_lemmas}
 use Rattle.smv_flat.specs.declared.expressions.FlatShape.TheVariants as OfShape
 use Rattle.smv_flat.specs.declared.expressions.FlatLink.{FlatLink}
 use Rattle.smv_flat.specs.declared.expressions.FlatBranch.{FlatBranch}
-use Rattle.smv_flat.specs.FlatTree.{FlatTree, flat_prefix, flat_choice, flat_select, flat_call, flat_set, FlatLinks, flat_link, FlatBranches, no_flat_branches, flat_branch, FlatTrees, flat_tree_then, flat_links_of, flat_branches_of, flat_trees_of, flat_is_last}
+use Rattle.smv_flat.specs.FlatTree.{FlatTree, flat_prefix, flat_choice, flat_select, flat_call, flat_set, FlatLinks, flat_link, flat_links_of, flat_branches_of, flat_trees_of}
 use Rattle.smv_flat.specs.FlatView.{plain_flat, plain_flat_link, plain_flat_branch}
 use Rattle.smv_script.specs.Operators.{front_width, repeated, selected_term, sign_op}
-use Rattle.smv_script.specs.Terms.{Coding, Translation, translation, folded_term, chosen_translation, taken_translation, choice_translation, is_word, word_width, amount_of, value_translation}
+use Rattle.smv_script.specs.Terms.{Coding, translation, folded_term, chosen_translation, taken_translation, choice_translation, is_word, word_width, amount_of}
 use Rattle.smv_script_terms.specs.declared.coding.Question.{Question}
 use Rattle.smv_script_terms.specs.declared.coding.Subject.{Subject}
 use Rattle.smv_script_terms.specs.Questions.{answered, answered_value}

@@ -1,10 +1,10 @@
 -- What expressions answer, by their kinds.
-use Rattle.std.proofs.Common.{◌≡◌, ℕ, zero, suc, ◌+◌, ◌≤◌, ◌++◌, ◌&&◌, Bool, true, false, if◌then◌else◌, is_some, List, [], ◌∷◌, drop, length, map, Option, Some, None, Result, Ok, Err, IfOk, refl, sym, ap, ◌∙◌, subst}
+use Rattle.std.proofs.Common.{◌≡◌, ℕ, Bool, true, false, if◌then◌else◌, is_some, Option, Some, None, Result, Ok, Err, IfOk, refl, sym, ap, ◌∙◌}
 use Rattle.smv_text.specs.declared.tree.Infix.{Infix}
-use Rattle.smv_text.specs.declared.tree.Infix.TheVariants.{Implies, Iff, Or, Xor, Xnor, And, Equal, Unequal, Less, Greater, LessEq, GreaterEq, Member, Union, ShiftLeft, ShiftRight, Plus, Minus, Times, Divide, Mod, Concat}
+use Rattle.smv_text.specs.declared.tree.Infix.TheVariants.{Implies, Member, ShiftLeft, ShiftRight}
 use Rattle.smv_meaning.specs.Types.{ExprType}
 use Rattle.moxi_terms.specs.declared.data.TermOp.TheVariants as op
-use Rattle.moxi_terms.specs.Tree.{Tree, constant, apply, Trees, no_trees, tree, trees_of, list_of}
+use Rattle.moxi_terms.specs.Tree.{Tree, apply, Trees, no_trees, tree, trees_of, list_of}
 use Rattle.smv_flat.specs.FlatTree.{FlatTree, flat_truth, flat_number, flat_literal, flat_symbol, flat_item, flat_prefix, flat_chain, flat_choice, flat_cases, flat_select, flat_call, flat_set, flat_range, FlatLinks, no_flat_links, flat_link, FlatBranches, no_flat_branches, flat_branch, FlatTrees, no_flat_trees, flat_tree_then, flat_are_implies}
 use Rattle.smv_script.specs.Operators.{any_term, infix_term, joint_op, choice_term, front_width, link_term, among_term}
 use Rattle.smv_script.specs.Terms.{Coding, Translation, value_translation, translation, chain_translation, chosen_translation, choice_translation, implied_term, folded_term, link_terms, link_members, terms, members, is_name, is_word, word_width, amount_of, are_flat_unions, all_join_with}

@@ -1,9 +1,9 @@
 -- Lists of terms, and what is made of their ends.
-use Rattle.std.proofs.Common.{◌≡◌, ℕ, zero, suc, ◌+◌, ◌<◌, ◌++◌, length, Bool, true, false, List, [], ◌∷◌, map, reverse, Option, Some, None, Vec, Global, refl, sym, ap, ◌∙◌, arith, rules}
+use Rattle.std.proofs.Common.{◌≡◌, ℕ, suc, ◌+◌, ◌<◌, ◌++◌, length, Bool, false, List, [], ◌∷◌, map, reverse, None, Vec, Global, refl, sym, ap, ◌∙◌, arith}
 use Rattle.std.proofs.lemmas.List.{reverse-append}
 use Rattle.smv_text.specs.declared.tree.Infix.TheVariants.{Implies}
 use Rattle.moxi_terms.specs.declared.data.TermOp.{TermOp}
-use Rattle.moxi_terms.specs.declared.term.Term.{Term, Apply, Let}
+use Rattle.moxi_terms.specs.declared.term.Term.{Term, Apply}
 use Rattle.moxi_terms.specs.Operators.{nothing}
 use Rattle.word_core.specs.declared.kinds.Binary.TheVariants as OnWords
 use Rattle.moxi_terms.specs.declared.data.TermOp.TheVariants as op

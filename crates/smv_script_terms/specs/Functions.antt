@@ -1,5 +1,5 @@
 -- The terms of functions by how many arguments they look at.
-use Rattle.std.specs.Prelude.{ℕ, ◌+◌, ◌-◌, Bool, true, false, if◌then◌else◌, pos, Option, Some, None}
+use Rattle.std.specs.Prelude.{ℕ, ◌+◌, ◌-◌, Bool, true, false, pos, Option, Some, None}
 use Rattle.word_core.specs.declared.kinds.Unary.TheVariants as OnWord
 use Rattle.word_core.specs.declared.kinds.Binary.TheVariants as OnWords
 use Rattle.smv_text.specs.declared.tree.Function.{Function}

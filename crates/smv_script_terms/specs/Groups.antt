@@ -1,7 +1,7 @@
 -- The lists of variables, and the numbers of their items' variables.
-use Rattle.std.specs.Prelude.{ℕ, ◌+◌, List, [], ◌∷◌, length}
+use Rattle.std.specs.Prelude.{ℕ, ◌+◌, List, [], ◌∷◌}
 use Rattle.smv_items.specs.FlatItems.{PlainFlatItem}
-use Rattle.smv_script.specs.Script.{Group as Plain, inputs, outputs, locals, group_of, items_in, group_start}
+use Rattle.smv_script.specs.Script.{Group as Plain, inputs, outputs, locals, group_of, group_start}
 use Rattle.smv_script_terms.specs.declared.variables.Group.{Group}
 use Rattle.smv_script_terms.specs.declared.variables.Group.TheVariants as group
 use Rattle.smv_script_terms.specs.declared.variables.Counts.{Counts}

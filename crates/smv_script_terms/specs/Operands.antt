@@ -1,8 +1,8 @@
 -- The parts of expressions as the code collects them, and what they are put together to.
-use Rattle.std.specs.Prelude.{◌≡◌, ℕ, ◌+◌, Bool, true, false, if◌then◌else◌, is_some, Option, Some, None, List, [], ◌∷◌, map}
+use Rattle.std.specs.Prelude.{◌≡◌, ℕ, ◌+◌, Bool, if◌then◌else◌, is_some, Option, Some, None, List, [], ◌∷◌}
 use Rattle.word_core.specs.declared.kinds.Binary.TheVariants as OnWords
 use Rattle.smv_text.specs.declared.tree.Infix.{Infix}
-use Rattle.smv_text.specs.declared.tree.Infix.TheVariants.{Implies, Iff, Or, Xor, Xnor, And, Equal, Unequal, Less, Greater, LessEq, GreaterEq, Member, Union, ShiftLeft, ShiftRight, Plus, Minus, Times, Divide, Mod, Concat}
+use Rattle.smv_text.specs.declared.tree.Infix.TheVariants.{Implies, Equal, Less, Greater, LessEq, GreaterEq, Member, ShiftLeft, ShiftRight, Minus, Divide, Mod, Concat}
 use Rattle.moxi_terms.specs.declared.data.Datum.TheVariants as datum
 use Rattle.moxi_terms.specs.declared.data.TermOp.{TermOp}
 use Rattle.moxi_terms.specs.declared.data.TermOp.TheVariants as op
@@ -10,10 +10,9 @@ use Rattle.moxi_terms.specs.Tree.{Tree, constant, bound, apply, binding, Trees, 
 use Rattle.moxi_terms.specs.View.{plain}
 use Rattle.smv_flat.specs.FlatTree.{FlatTree, FlatLinks, no_flat_links, flat_link, FlatBranches, no_flat_branches, flat_branch, FlatTrees, no_flat_trees, flat_tree_then}
 use Rattle.smv_script.specs.Operators.{one, choice_term, joint_op, signed_op, infix_term, front_width, word_term, t_alone}
-use Rattle.smv_script.specs.Terms.{Coding, Translation, translation, is_word, word_width, amount_of, chain_translation, folded_term, terms, members, link_terms, link_members}
+use Rattle.smv_script.specs.Terms.{Coding, Translation, translation, is_word, word_width, amount_of, folded_term}
 use Rattle.smv_script_terms.specs.Questions.{answered, subject_tree}
 use Rattle.smv_script_terms.specs.declared.coding.Question.{Question}
-use Rattle.smv_script_terms.specs.declared.coding.Question.TheVariants.{Value, Permits}
 use Rattle.smv_script_terms.specs.declared.coding.Subject.{Subject}
 use Rattle.smv_script_terms.specs.declared.operands.Operand.{Operand}
 use Rattle.smv_script_terms.specs.declared.operands.Case.{Case}

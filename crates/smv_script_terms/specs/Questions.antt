@@ -1,5 +1,5 @@
 -- What the code keeps of codes, and what it asks of expressions.
-use Rattle.std.specs.Prelude.{ℕ, Bool, true, false, List, slice_index_or, Option, Some, None}
+use Rattle.std.specs.Prelude.{ℕ, List, slice_index_or}
 use Rattle.moxi_terms.specs.declared.data.Datum.TheVariants as datum
 use Rattle.moxi_terms.specs.Tree.{Tree, constant, variable, bound}
 use Rattle.smv_script.specs.Operators.{equal_term}

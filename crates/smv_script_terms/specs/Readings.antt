@@ -1,12 +1,12 @@
 -- How chains are read, and what expressions answer by their kinds.
-use Rattle.std.specs.Prelude.{ℕ, Bool, true, false, if◌then◌else◌, ℤ, Option, Some, None}
+use Rattle.std.specs.Prelude.{ℕ, false, if◌then◌else◌, ℤ, Option, Some, None}
 use Rattle.smv_text.specs.declared.tree.Function.{Function}
 use Rattle.moxi_terms.specs.declared.data.TermOp.TheVariants as op
 use Rattle.moxi_terms.specs.Operators.{nothing}
 use Rattle.moxi_terms.specs.Tree.{Tree, constant, tree}
 use Rattle.smv_flat.specs.FlatTree.{FlatTree, flat_item, flat_symbol, FlatLinks, no_flat_links, flat_link, FlatTrees, flat_are_implies}
 use Rattle.smv_script.specs.Operators.{between_term, function_term}
-use Rattle.smv_script.specs.Terms.{Coding, Translation, translation, chain_translation, terms, arguments_of, is_name, is_word, word_width, are_flat_unions, all_join_with}
+use Rattle.smv_script.specs.Terms.{Coding, translation, chain_translation, terms, arguments_of, is_name, is_word, word_width, are_flat_unions, all_join_with}
 use Rattle.smv_script_terms.specs.Questions.{answered, subject_tree}
 use Rattle.smv_script_terms.specs.Operands.{several, answers, link_answers, folded}
 use Rattle.smv_script_terms.specs.declared.coding.Question.{Question}

@@ -1,14 +1,14 @@
 // Applications of MoXI's operators.
-ghost use Rattle.std.specs.Prelude.{◌≡◌, IfOk, map};
-ghost use Rattle.moxi_terms.specs.Tree.{apply, constant, trees_of};
+ghost use Rattle.std.specs.Prelude.{◌≡◌, ◌<◌, ◌+◌, ◌++◌, ◌∷◌, [], IfOk, map, vec_len, vec_capacity};
+ghost use Rattle.moxi_terms.specs.Tree.{apply, constant, trees_of, variable};
 ghost use Rattle.moxi_terms.specs.Operators.{nothing};
 ghost use Rattle.moxi_terms.specs.View.{plain};
 ghost use Rattle.smv_script.specs.Operators.{one, two, three, not_term, equal_term, choice_term, infix_term, repeated, sign_op, logical_op, signed_op, joint_op};
-ghost use Rattle.smv_script_terms.specs.Questions.{answered_value};
+ghost use Rattle.smv_script_terms.specs.Questions.{answered_value, subject_tree};
 ghost use Rattle.smv_script_terms.specs.Operands.{several, plain_op};
 ghost use Rattle.smv_text.specs.declared.tree.Infix.TheVariants.{Implies, Iff, Xnor};
 
-use crate::coding::{Question, subject_term};
+use crate::coding::{Question, Subject, subject_term};
 use moxi_terms::{Datum, Term, TermOp, Terms};
 use smv_text::{Infix, Prefix};
 use std::alloc::Global;
@@ -26,7 +26,7 @@ pub(crate) fn apply_one(alloc: Global, op: TermOp, a: Term) -> Result<Term, NoMe
     ensures { IfOk result (λ t. plain t ≡ apply op (one (plain a))) }
 {
     let mut terms = Vec::with_capacity(alloc, 1)?;
-    terms.push(a)?;
+    terms.push_reserved(a);
     Ok(Term::Apply(op, terms))
 }
 
@@ -34,8 +34,8 @@ pub(crate) fn apply_two(alloc: Global, op: TermOp, a: Term, b: Term) -> Result<T
     ensures { IfOk result (λ t. plain t ≡ apply op (two (plain a) (plain b))) }
 {
     let mut terms = Vec::with_capacity(alloc, 2)?;
-    terms.push(a)?;
-    terms.push(b)?;
+    terms.push_reserved(a);
+    terms.push_reserved(b);
     Ok(Term::Apply(op, terms))
 }
 
@@ -43,9 +43,9 @@ pub(crate) fn choice(alloc: Global, c: Term, a: Term, b: Term) -> Result<Term, N
     ensures { IfOk result (λ t. plain t ≡ choice_term (plain c) (plain a) (plain b)) }
 {
     let mut terms = Vec::with_capacity(alloc, 3)?;
-    terms.push(c)?;
-    terms.push(a)?;
-    terms.push(b)?;
+    terms.push_reserved(c);
+    terms.push_reserved(a);
+    terms.push_reserved(b);
     Ok(Term::Apply(TermOp::Ite, terms))
 }
 
@@ -83,6 +83,67 @@ pub(crate) fn answer(alloc: Global, question: Question, value: Term) -> Result<T
     match question {
         Question::Value => Ok(value),
         Question::Permits(subject) => equal(alloc, subject_term(subject), value),
+    }
+}
+
+// Adds a term that is tested to a list with room for it.
+fn push_subject(terms: &mut Terms, subject: Subject)
+    requires { vec_len terms.old < vec_capacity terms.old }
+    ensures terms { map plain terms.new.items ≡ map plain terms.old.items ++ subject_tree subject ∷ [] }
+    ensures len { vec_len terms.new ≡ vec_len terms.old + 1 }
+    ensures capacity { vec_capacity terms.new ≡ vec_capacity terms.old }
+{
+    match subject {
+        Subject::Variable(v, primed) => terms.push_reserved(Term::Variable(v, primed)),
+        Subject::Symbol(s) => terms.push_reserved(Term::Constant(Datum::Constant(0, s))),
+        Subject::Bound(k) => terms.push_reserved(Term::Bound(k)),
+    }
+}
+
+// A term that is tested, with room for another one behind it: terms are large, so each is made where it stays.
+fn tested(alloc: Global, subject: Subject) -> Result<Terms, NoMemory>
+    ensures terms { IfOk result (λ ts. map plain ts.items ≡ subject_tree subject ∷ []) }
+    ensures room { IfOk result (λ ts. vec_len ts < vec_capacity ts) }
+{
+    let mut terms = Vec::with_capacity(alloc, 2)?;
+    push_subject(&mut terms, subject);
+    Ok(terms)
+}
+
+/// What an expression answers that is this variable.
+pub(crate) fn answer_variable(
+    alloc: Global,
+    question: Question,
+    v: u32,
+    primed: bool,
+) -> Result<Term, NoMemory>
+    ensures { IfOk result (λ t. plain t ≡ answered_value question (variable v primed)) }
+{
+    match question {
+        Question::Value => Ok(Term::Variable(v, primed)),
+        Question::Permits(subject) => {
+            let mut terms = tested(alloc, subject)?;
+            terms.push_reserved(Term::Variable(v, primed));
+            Ok(Term::Apply(TermOp::Equal, terms))
+        }
+    }
+}
+
+/// What an expression answers that is this constant.
+pub(crate) fn answer_constant(
+    alloc: Global,
+    question: Question,
+    datum: Datum,
+) -> Result<Term, NoMemory>
+    ensures { IfOk result (λ t. plain t ≡ answered_value question (constant datum)) }
+{
+    match question {
+        Question::Value => Ok(Term::Constant(datum)),
+        Question::Permits(subject) => {
+            let mut terms = tested(alloc, subject)?;
+            terms.push_reserved(Term::Constant(datum));
+            Ok(Term::Apply(TermOp::Equal, terms))
+        }
     }
 }
 

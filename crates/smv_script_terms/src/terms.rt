@@ -13,7 +13,10 @@ ghost use Rattle.smv_script_terms.specs.Readings.{called_term, chain_answered, f
 use crate::coding::{Coding, Question, Subject, integer_term};
 use crate::functions::{arguments_of, between, function_term, selected};
 use crate::operands::{Case, Operand, chosen, front_width, implied, is_word, joined, word_width};
-use crate::operators::{answer, joint_operator, nothing, repeated, several, sign_operator};
+use crate::operators::{
+    answer, answer_constant, answer_variable, joint_operator, nothing, repeated, several,
+    sign_operator,
+};
 use crate::readings::{Reading, reading_of};
 use moxi_terms::{Datum, Term, TermOp, Terms};
 use smv_flat::{FlatBranch, FlatExpr, FlatLink, FlatShape};
@@ -35,14 +38,12 @@ pub fn terms_of(
     ensures { IfOk result (λ t. plain t ≡ answered question (translation (codes_of coding.now) (plain_flat e.now)) k) }
 {
     match &e.shape {
-        FlatShape::True => answer(alloc, question, Term::Constant(Datum::Truth(true))),
-        FlatShape::False => answer(alloc, question, Term::Constant(Datum::Truth(false))),
+        FlatShape::True => answer_constant(alloc, question, Datum::Truth(true)),
+        FlatShape::False => answer_constant(alloc, question, Datum::Truth(false)),
         FlatShape::Number(n) => { answer(alloc, question, integer_term(coding.width, *n as i128)?) }
-        FlatShape::Literal(word) => answer(alloc, question, Term::Constant(Datum::Bits(*word))),
-        FlatShape::Symbol(s) => answer(alloc, question, Term::Constant(Datum::Constant(0, *s))),
-        FlatShape::Item(i, under) => {
-            answer(alloc, question, Term::Variable(coding.place(*i), *under))
-        }
+        FlatShape::Literal(word) => answer_constant(alloc, question, Datum::Bits(*word)),
+        FlatShape::Symbol(s) => answer_constant(alloc, question, Datum::Constant(0, *s)),
+        FlatShape::Item(i, under) => answer_variable(alloc, question, coding.place(*i), *under),
         FlatShape::Prefix(sign, count, operand) => {
             let value = prefixed(alloc, coding, k, *sign, *count, operand)?;
             answer(alloc, question, value)

@@ -76,25 +76,10 @@ fn sort_of(width: u32, ty: Ty) -> Sort
     }
 }
 
-// The name of these two pieces, which are joined in the room.
-fn name_of(alloc: Global, first: &[u8], second: &[u8], room: &mut Vec<u8>) -> Result<Name, NoMemory>
-    ensures { IfOk result (λ n. n ≡ first.now ++ second.now) }
-{
-    room.clear();
-    room.extend_from_slice(first)?;
-    room.extend_from_slice(second)?;
-    Name::of(alloc, room.as_slice())
-}
-
-fn variable_of(
-    alloc: Global,
-    width: u32,
-    item: &FlatItem,
-    room: &mut Vec<u8>,
-) -> Result<Variable, NoMemory>
+fn variable_of(alloc: Global, width: u32, item: &FlatItem) -> Result<Variable, NoMemory>
     ensures { IfOk result (λ v. v ≡ variable_of width (item_plain item.now)) }
 {
-    let name = name_of(alloc, letter(item.kind), item.name.bytes(), room)?;
+    let name = Name::joined(alloc, letter(item.kind), item.name.bytes())?;
     let sort = sort_of(width, item.ty);
     Ok(Variable { name, sort })
 }
@@ -109,10 +94,8 @@ pub fn variables_in(
     ensures { IfOk result (λ vs. vs ≡ variables_in width (group_plain group) (map item_plain items.now)) }
 {
     let mut all = Variables::new(alloc);
-    // Each name is joined in the same room.
-    let mut room = Vec::new(alloc);
     for item in items {
-        add_variable(alloc, width, group, item, &mut room, &mut all)?;
+        add_variable(alloc, width, group, item, &mut all)?;
     }
     Ok(all)
 }
@@ -123,13 +106,12 @@ fn add_variable(
     width: u32,
     group: Group,
     item: &FlatItem,
-    room: &mut Vec<u8>,
     all: &mut Variables,
 ) -> Result<(), NoMemory>
     ensures { OnOk result (all.new ≡ all.old ++ variables_in width (group_plain group) (item_plain item.now ∷ [])) }
 {
     if is_in(group, item.kind) {
-        all.push(variable_of(alloc, width, item, room)?)?;
+        all.push(variable_of(alloc, width, item)?)?;
     }
     Ok(())
 }

@@ -169,6 +169,12 @@ pub check_form_is : (flat : PlainFlat) (w : ℕ) → check_of flat w ≡ check_f
 unfolding check_form
 check_form_is flat w = refl
 
+-- the lists of the system's variables
+pub system_lists : (flat : PlainFlat) (w : ℕ) (s : PlainSystem) → s ≡ system_form flat w
+    → (s.inputs ≡ (system_of flat w).inputs) × (s.outputs ≡ (system_of flat w).outputs) × (s.locals ≡ (system_of flat w).locals)
+unfolding system_form
+system_lists flat w s e = (ap (λ (x : PlainSystem). x.inputs) e, ap (λ (x : PlainSystem). x.outputs) e, ap (λ (x : PlainSystem). x.locals) e)
+
 pub script_form_is : (flat : PlainFlat) (w : ℕ) → script_form flat w ≡ script_of flat w
 unfolding script_form
 script_form_is flat w = refl

@@ -15,7 +15,7 @@ ghost use Rattle.smv_to_moxi.specs.Assembling.{symbol_scope, check_form, is_inva
 ghost use Rattle.smv_to_moxi.specs.SingleView.{plain_single};
 
 use moxi_scripts::{Check, Formula, Formulas, Queries, Query, Script, Subsystems, System, Systems};
-use moxi_terms::Scope;
+use moxi_terms::{Scope, Variable, Variables};
 use name_set::NameSet;
 use smv_flat::{FlatFormula, Role};
 use smv_items::FlatItem;
@@ -37,22 +37,12 @@ pub struct SingleScript {
     pub check: Check,
 }
 
-// The name of these two pieces.
-fn name_of(alloc: Global, first: &[u8], second: &[u8]) -> Result<Name, NoMemory>
-    ensures { IfOk result (λ n. n ≡ first.now ++ second.now) }
-{
-    let mut text = Text::new(alloc);
-    text.put(first)?;
-    text.put(second)?;
-    Name::of(alloc, text.bytes())
-}
-
 fn constant_names(alloc: Global, symbols: &Names) -> Result<Names, NoMemory>
     ensures { IfOk result (λ ns. ns ≡ map (λ x. codes "c." ++ x) symbols.now) }
 {
     let mut all = Names::new(alloc);
     for i in 0..symbols.len() {
-        let name = name_of(alloc, b"c.", symbols.at(i).bytes())?;
+        let name = Name::joined(alloc, b"c.", symbols.at(i).bytes())?;
         all.push(name)?;
     }
     Ok(all)
@@ -210,14 +200,43 @@ fn queries_of(alloc: Global, formulas: &[FlatFormula]) -> Result<Queries, NoMemo
     Ok(all)
 }
 
-fn check_of<'f>(alloc: Global, coding: &Coding, flat: &FlatParts<'f>) -> Result<Check, NoMemory>
-    requires { codes_of coding.now ≡ coding_of (plain_parts flat.now) coding.now.width }
+// A variable once more.
+fn variable_again(alloc: Global, variable: &Variable) -> Result<Variable, NoMemory>
+    ensures { IfOk result (λ v. v ≡ variable.now) }
+{
+    let name = variable.name.duplicate(alloc)?;
+    Ok(Variable {
+        name,
+        sort: variable.sort,
+    })
+}
+
+// Variables once more.
+fn variables_again(alloc: Global, variables: &Variables) -> Result<Variables, NoMemory>
+    ensures { IfOk result (λ vs. vs ≡ variables.now) }
+{
+    let mut all = Variables::with_capacity(alloc, variables.len())?;
+    for i in 0..variables.len() {
+        let variable = variable_again(alloc, variables.at(i))?;
+        all.push(variable)?;
+    }
+    Ok(all)
+}
+
+// The check, which has the variables of the system.
+fn check_of<'f>(
+    alloc: Global,
+    coding: &Coding,
+    flat: &FlatParts<'f>,
+    system: &System,
+) -> Result<Check, NoMemory>
+    requires coding { codes_of coding.now ≡ coding_of (plain_parts flat.now) coding.now.width }
+    requires system { plain_system system.now ≡ system_form (plain_parts flat.now) coding.now.width }
     ensures { IfOk result (λ c. plain_check c ≡ check_form (plain_parts flat.now) coding.now.width) }
 {
-    let width = coding.width;
-    let inputs = variables_in(alloc, width, Group::Inputs, flat.items)?;
-    let outputs = variables_in(alloc, width, Group::Outputs, flat.items)?;
-    let locals = variables_in(alloc, width, Group::Locals, flat.items)?;
+    let inputs = variables_again(alloc, &system.inputs)?;
+    let outputs = variables_again(alloc, &system.outputs)?;
+    let locals = variables_again(alloc, &system.locals)?;
     let reachables = reachables_of(alloc, coding, flat.formulas)?;
     let queries = queries_of(alloc, flat.formulas)?;
     Ok(Check {
@@ -296,10 +315,11 @@ fn single_of_system<'f>(
     scope: &mut Scope,
     system: System,
 ) -> Result<SingleScript, NoMemory>
-    requires { codes_of coding.now ≡ coding_of (plain_parts flat.now) coding.now.width }
+    requires coding { codes_of coding.now ≡ coding_of (plain_parts flat.now) coding.now.width }
+    requires system { plain_system system ≡ system_form (plain_parts flat.now) coding.now.width }
     ensures { IfOk result (λ s. plain_single s ≡ script_with logic scope.old (plain_system system) (check_form (plain_parts flat.now) coding.now.width)) }
 {
-    match check_of(alloc, coding, flat) {
+    match check_of(alloc, coding, flat, &system) {
         Ok(check) => Ok(single_with(alloc, logic, scope, system, check)),
         Err(e) => {
             drop(logic);

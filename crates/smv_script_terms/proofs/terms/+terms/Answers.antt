@@ -1,19 +1,18 @@
-use Rattle.std.proofs.Common.{◌≡◌, ◌+◌, ◌∙◌, ◌∷◌, [], arith, refl, sym, ap, map}
+use Rattle.std.proofs.Common.{◌∙◌, ◌∷◌, [], arith, refl, sym, ap, map}
 use Rattle.smv_flat.specs.laws.FlatSteps.{drop_item}
-use Rattle.smv_flat.specs.FlatTree.{flat_links_of, flat_branches_of, flat_trees_of}
-use Rattle.smv_flat.specs.FlatView.{plain_flat, plain_flat_link, plain_flat_branch}
-use Rattle.moxi_terms.specs.Tree.{apply, tree, trees_of, list_of}
+use Rattle.smv_flat.specs.FlatTree.{flat_links_of, flat_trees_of}
+use Rattle.smv_flat.specs.FlatView.{plain_flat, plain_flat_link}
+use Rattle.moxi_terms.specs.Tree.{apply, tree, trees_of}
 use Rattle.moxi_terms.specs.View.{plain}
 use Rattle.moxi_terms.proofs.Plain.{plain-Apply}
-use Rattle.smv_script.specs.Operators.{function_term, joint_op, repeated, selected_term, sign_op}
-use Rattle.smv_script.specs.Terms.{translation, arguments_of, is_word, terms, word_width}
+use Rattle.smv_script.specs.Operators.{function_term, joint_op}
+use Rattle.smv_script.specs.Terms.{translation, arguments_of, is_word}
 use Rattle.smv_script_terms.specs.Questions.{answered, codes_of}
-use Rattle.smv_script_terms.specs.Operands.{answers, case_plain, chosen_cases, implied_parts, link_answers, operand_plain}
-use Rattle.smv_script_terms.specs.Readings.{called_term, gathered_answer}
+use Rattle.smv_script_terms.specs.Operands.{answers, case_plain, implied_parts, link_answers, operand_plain}
 use Rattle.smv_script_terms.proofs.Depths.{link_low, branch_low, tree_low, firsts_low}
 use Rattle.smv_script_terms.proofs.Steps.{step_on, steps_end, pushed}
-use Rattle.smv_script_terms.proofs.Translated.{ok_same, value_made, back, gathered_is, values_are, union_read, implied_read, joint_read, left_read}
-use Rattle.smv_script_terms.proofs.Termed.{choice_made, prefix_made, select_made, call_made, set_made, link_list, link_elements, link_alone, operand_list, operand_elements, operand_alone, case_list, case_elements, case_alone, part_list, part_elements, folded_on, folded_end, taken_cases}
+use Rattle.smv_script_terms.proofs.Translated.{ok_same, back, values_are, union_read, implied_read, joint_read, left_read}
+use Rattle.smv_script_terms.proofs.Termed.{choice_made, prefix_made, select_made, call_made, set_made, link_list, link_elements, link_alone, operand_list, operand_elements, operand_alone, case_list, case_elements, case_alone, part_list, folded_on, taken_cases}
 use Rattle.smv_script_terms.proofs.terms.+terms.Goals as goal
 
 -- ---- depths

@@ -1,6 +1,6 @@
 use Rattle.smv_flat.specs.laws.FlatSteps.{drop_item}
 use Rattle.smv_script_terms.specs.Groups.{group_plain}
-use Rattle.smv_script_terms.proofs.Numbered.{count_on, count_end}
+use Rattle.smv_script_terms.proofs.Numbered.{count_on}
 use Rattle.smv_script_terms.proofs.variables.count_in.Goals as goal
 
 pub loop-item-preserved : goal.loop-item-preserved

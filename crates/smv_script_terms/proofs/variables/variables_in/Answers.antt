@@ -2,7 +2,7 @@ use Rattle.std.proofs.Common.{refl}
 use Rattle.smv_flat.specs.laws.FlatSteps.{drop_item}
 use Rattle.smv_script_terms.specs.Groups.{group_plain}
 use Rattle.smv_script_terms.proofs.Numbered.{group_variables, variable_elements}
-use Rattle.smv_script_terms.proofs.Steps.{step_on, steps_end}
+use Rattle.smv_script_terms.proofs.Steps.{step_on}
 use Rattle.smv_script_terms.proofs.variables.variables_in.Goals as goal
 
 pub loop-item-preserved : goal.loop-item-preserved

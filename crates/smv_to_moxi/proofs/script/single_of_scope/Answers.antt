@@ -9,7 +9,7 @@ pub system_of-requires : goal.system_of-requires
 system_of-requires c = c.requires
 
 pub single_of_system-requires : goal.single_of_system-requires
-single_of_system-requires c = c.requires
+single_of_system-requires c = record { coding = c.requires; system = c.in-Ok.ensures }
 
 pub returns-in-Ok : goal.returns-in-Ok
 returns-in-Ok c =

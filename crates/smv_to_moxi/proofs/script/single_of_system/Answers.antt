@@ -6,7 +6,7 @@ use Rattle.smv_to_moxi.proofs.Scripts.{with_check}
 use Rattle.smv_to_moxi.proofs.script.single_of_system.Goals as goal
 
 pub check_of-requires : goal.check_of-requires
-check_of-requires c = c.requires
+check_of-requires c = record { coding = c.requires.coding; system = c.requires.system }
 
 pub returns-in-Ok : goal.returns-in-Ok
 returns-in-Ok c =
