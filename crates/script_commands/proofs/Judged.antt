@@ -22,8 +22,8 @@ use Rattle.command_answers.specs.declared.answer.Stop.{Stop}
 use Rattle.command_answers.specs.declared.answer.Stop.TheVariants as stops
 use Rattle.command_answers.specs.laws.Files.{gives, goes_once, on_read}
 use Rattle.script_commands.specs.Limits.{most_script_bytes, most_response_bytes}
-use Rattle.script_commands.specs.Scripts.{IsRefusal, IsScriptText, script_too_long}
-use Rattle.script_commands.specs.Judgement.{IsMoxiJudgement, IsOfBytes, IsOfNoResponse, IsOfResponse, IsOfScript, OfBytes, OfScript, OfText, of_response, response_too_long, stated_answer, verdict_answer}
+use Rattle.script_commands.specs.Scripts.{IsScriptText, script_too_long}
+use Rattle.script_commands.specs.Judgement.{IsMoxiJudgement, IsOfBytes, IsOfNoResponse, IsOfResponse, IsOfScript, OfBytes, OfScript, OfText, of_response, response_too_long, verdict_answer}
 use Rattle.script_commands.proofs.Refused.{not_refused, one_system_refusal, same_script}
 
 -- ---- one answer

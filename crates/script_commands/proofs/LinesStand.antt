@@ -1,16 +1,14 @@
 -- What is written for a script stands for it.
-use Rattle.std.proofs.Common.{◌≡◌, ◌↔◌, ℕ, zero, suc, [], ◌∷◌, ◌+◌, ◌*◌, ◌<◌, ◌≤◌, Bool, true, false, ◌||◌, List, length, Option, Some, None, slice_get, refl, sym, ap, ◌∙◌, subst, cond, arith}
+use Rattle.std.proofs.Common.{◌≡◌, ℕ, zero, suc, [], ◌∷◌, ◌<◌, ◌≤◌, Bool, true, false, ◌||◌, List, length, Some, None, slice_get, refl, sym, cond, arith}
 use Rattle.std.specs.Prelude.{◌^◌, nat_lt}
 use Rattle.word_core.specs.declared.word.TheConstants.{WIDEST}
-use Rattle.std.specs.List.{AllByRecursion}
 use Rattle.text_core.specs.declared.place.Kind.TheVariants.{M}
 use Rattle.text_core.specs.declared.place.Refusal.{Refusal}
 use Rattle.text_core.specs.Places.{start, after}
 use Rattle.btor_tree.specs.declared.lines.Line.{Line}
-use Rattle.btor_tree.specs.Fits.{IsWellFormed, greatest_id, operands, is_bad}
+use Rattle.btor_tree.specs.Fits.{IsWellFormed, greatest_id}
 use Rattle.btor_tree.specs.Printing.{printed}
 use Rattle.btor_tree.specs.Texts.{SpellsLines}
-use Rattle.moxi_scripts.specs.declared.script.Query.{Query}
 use Rattle.moxi_scripts.specs.Script.{PlainScript}
 use Rattle.moxi_scripts.specs.Spelling.{SpellsScript}
 use Rattle.moxi_sexpr.specs.Tree.{Trees}
@@ -18,15 +16,14 @@ use Rattle.text_core.specs.declared.place.Place.{Place}
 use Rattle.moxi_systems.specs.Whole.{IsWhole}
 use Rattle.moxi_sizes.specs.Systems.{script_height, script_nesting, script_size}
 use Rattle.moxi_flat.specs.declared.limits.TheConstants.{LARGEST, HIGHEST, DEEPEST}
-use Rattle.moxi_flat.specs.FlatMeeting.{MeetsFlat}
 use Rattle.moxi_flat.specs.FlatSorts.{IsSortedFlat}
 use Rattle.moxi_flat.specs.FlatSystem.{flat_of}
-use Rattle.moxi_flat.specs.Laws.{Extends, FlatSystemsAreSorted, IsMetFlat, TracesHaveFlatTraces}
+use Rattle.moxi_flat.specs.Laws.{FlatSystemsAreSorted, TracesHaveFlatTraces}
 use Rattle.moxi_flat.specs.Limits.{flat_refusal, has_name_twice, is_too_large}
 use Rattle.moxi_term_lines.specs.Laws.{HaveCodes}
 use Rattle.moxi_lines.specs.Lines.{lines_of}
-use Rattle.moxi_layout.specs.Laws.{BadsAreQueries, HasFrames, HasFlatTrace, IsLaidOut, TracesHaveFrames}
-use Rattle.moxi_line_counts.specs.Counts.{FlatSizesAreScriptSizes, LinesStayFew, flat_size}
+use Rattle.moxi_layout.specs.Laws.{BadsAreQueries, HasFrames, IsLaidOut, TracesHaveFrames}
+use Rattle.moxi_line_counts.specs.Counts.{FlatSizesAreScriptSizes, LinesStayFew}
 use Rattle.moxi_query_lines.specs.Laws.{LinesAreWellFormed, LinesLayOut}
 use Rattle.moxi_script_counts.specs.Laws.{CodesAreFew}
 use Rattle.script_commands.specs.Limits.{most_script_bytes}
@@ -84,8 +81,7 @@ laid_out s lay formed codes sorted room = record { sorted = sorted; codes = code
 stand : (s : PlainScript) (lines : List Line) → TracesHaveFrames → TracesHaveFlatTraces → BadsAreQueries → IsWhole s → IsLaidOut (flat_of s) lines → StandFor s lines
 stand s lines framed flattened bads whole laid = record {
   bads = bads (flat_of s) lines laid.lays;
-  sound = from_frames s lines framed flattened whole laid;
-  complete = from_trace s lines framed flattened whole laid;
+  frames = λ j k h. (from_trace s lines framed flattened whole laid j k h, from_frames s lines framed flattened whole laid j k h);
 }
 
 written : (s : PlainScript) → ((lines : List Line) → IsWellFormed lines → SpellsLines (printed lines) lines)

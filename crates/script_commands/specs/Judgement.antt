@@ -1,5 +1,5 @@
 -- What a judge of responses answers.
-use Rattle.std.specs.Prelude.{◌≡◌, ◌⊎◌, ◌≤◌, ℕ, ◌-◌, List, length, Option, Some, None, IfSome, Result, Ok, Err}
+use Rattle.std.specs.Prelude.{◌≡◌, ◌⊎◌, ◌≤◌, ℕ, ◌-◌, List, length, Option, Some, None, Result, Ok, Err}
 use Rattle.text_core.specs.declared.place.Kind.TheVariants.{Y}
 use Rattle.text_core.specs.declared.place.Refusal.{Refusal}
 use Rattle.text_core.specs.declared.verdict.Verdict.{Verdict}
@@ -19,9 +19,9 @@ use Rattle.moxi_responses.specs.Declaring.{declared_of}
 use Rattle.command_answers.specs.declared.answer.Answer.{Answer}
 use Rattle.command_answers.specs.declared.answer.Answer.TheVariants.{Refused, SecondRefused, No, Done}
 use Rattle.command_answers.specs.declared.answer.Output.TheVariants as output
-use Rattle.command_answers.specs.Reading.{GoesOn, Instead, SaysRead, file_within}
+use Rattle.command_answers.specs.Reading.{GoesOn, Instead, file_within}
 use Rattle.script_commands.specs.Limits.{most_script_bytes, most_response_bytes}
-use Rattle.script_commands.specs.Scripts.{IsRefusal, IsScriptText, IsSystemRefusal, script_too_long}
+use Rattle.script_commands.specs.Scripts.{IsRefusal, IsScriptText, script_too_long}
 
 -- what is answered to a response that is too long
 abbrev pub response_too_long : Answer

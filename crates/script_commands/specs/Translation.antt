@@ -1,5 +1,5 @@
 -- Which BTOR2 text is written for a script, and what it stands for (MoXI, SPIN 2024; BTOR2, CAV 2018).
-use Rattle.std.specs.Prelude.{◌≡◌, ℕ, ◌<◌, List, length, Option, Some, None, slice_get}
+use Rattle.std.specs.Prelude.{◌≡◌, ◌↔◌, ℕ, ◌<◌, List, length, Option, Some, None, slice_get}
 use Rattle.text_core.specs.declared.end.End.{End}
 use Rattle.text_core.specs.declared.end.End.TheVariants.{Bad, NoMemory}
 use Rattle.text_core.specs.Outside.{Files, file_at, grown}
@@ -55,11 +55,10 @@ pub record HasTrace (script : PlainScript) (j k : ℕ) : Type 0 where
   pub trace : Trace
   pub meets : MeetsQuery script query k trace
 
--- the lines stand for the script: as many bad lines as queries, and both directions for each query and each number of steps
+-- the lines stand for the script: as many bad lines as queries, and a trace that meets a query exactly where frames have its bad line true
 pub record StandFor (script : PlainScript) (lines : List Line) : Type 0 where
   pub bads : length (operands is_bad lines) ≡ length script.check.queries
-  pub sound : (j k : ℕ) → j < length script.check.queries → HasFrames lines j k → HasTrace script j k
-  pub complete : (j k : ℕ) → j < length script.check.queries → HasTrace script j k → HasFrames lines j k
+  pub frames : (j k : ℕ) → j < length script.check.queries → HasTrace script j k ↔ HasFrames lines j k
 
 -- the text spells one list of lines, which stand for the script
 pub record WritesLines (script : PlainScript) (text : List ℕ) : Type 0 where

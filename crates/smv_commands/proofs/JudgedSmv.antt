@@ -1,5 +1,5 @@
 -- What is answered to a trace is what is defined of it, and files define one such answer.
-use Rattle.std.proofs.Common.{◌≡◌, ◌≤◌, inl, inr, ℕ, List, [], ◌∷◌, Option, Some, None, Result, Ok, Err, refl, sym, ap, ◌∙◌, length, map, subst}
+use Rattle.std.proofs.Common.{◌≡◌, ◌≤◌, inl, inr, ℕ, List, [], ◌∷◌, Option, Some, None, Result, Ok, Err, sym, ap, ◌∙◌, length, map, subst}
 use Rattle.std.specs.Prelude.{IfErr, IfSome, IsErrAnd}
 use Rattle.text_core.specs.Outside.{Files, IsFile}
 use Rattle.text_core.specs.declared.place.Refusal.{Refusal}

@@ -1,5 +1,5 @@
 -- What is written for an accepted model is a script that stands for it.
-use Rattle.std.proofs.Common.{◌≡◌, ℕ, ◌+◌, ◌<◌, List, [], ◌∷◌, Option, Some, Result, Ok, Err, map, length, sym, ap, ◌∙◌, subst, arith}
+use Rattle.std.proofs.Common.{◌≡◌, ℕ, ◌<◌, List, Option, Some, Result, Ok, Err, sym, ap, ◌∙◌, subst}
 use Rattle.std.specs.Prelude.{IfOk, slice_get}
 use Rattle.text_core.specs.declared.place.Place.{Place}
 use Rattle.smv_text.specs.Tree.{PlainSource}
@@ -70,8 +70,7 @@ module _ (source : PlainSource) (p : Place) (has : HasQueries source)
   pub stands : StandsForModel source (with_place (script_for source) p)
   stands = record {
     queries = has.counted;
-    sound = has_run;
-    complete = has_trace;
+    runs = λ j k h. (has_trace j k h, has_run j k h);
   }
 
 -- ---- texts

@@ -1,5 +1,5 @@
 -- Which script is written for an SMV model, and what it stands for (MoXI, SPIN 2024).
-use Rattle.std.specs.Prelude.{◌≡◌, ℕ, ◌<◌, List, length, Option, Some, slice_get}
+use Rattle.std.specs.Prelude.{◌≡◌, ◌↔◌, ℕ, ◌<◌, List, length, Option, Some, slice_get}
 use Rattle.text_core.specs.declared.end.End.{End}
 use Rattle.text_core.specs.declared.end.End.TheVariants.{Bad, NoMemory}
 use Rattle.text_core.specs.declared.place.Place.{Place}
@@ -58,12 +58,10 @@ pub record HasTrace (script : PlainScript) (j k : ℕ) : Type 0 where
   pub trace : Trace
   pub meets : MeetsQuery script query k trace
 
--- the script stands for the model: as many queries as invariants, and both directions for each invariant and each number of
--- transitions
+-- the script stands for the model: as many queries as invariants, and a run that breaks an invariant exactly where a trace meets its query
 pub record StandsForModel (source : PlainSource) (script : PlainScript) : Type 0 where
   pub queries : length script.check.queries ≡ invariant_count source
-  pub sound : (j k : ℕ) → j < invariant_count source → HasTrace script j k → HasRun source j k
-  pub complete : (j k : ℕ) → j < invariant_count source → HasRun source j k → HasTrace script j k
+  pub runs : (j k : ℕ) → j < invariant_count source → HasRun source j k ↔ HasTrace script j k
 
 -- the text spells a script, and each script that it spells stands for the model
 pub record WritesScript (source : PlainSource) (text : List ℕ) : Type 0 where

@@ -1,4 +1,4 @@
-use Rattle.std.proofs.Common.{◌≡◌, ◌∙◌, ap}
+use Rattle.std.proofs.Common.{◌∙◌, ap}
 use Rattle.moxi_scripts.specs.declared.script.Query.{Query}
 use Rattle.moxi_systems.specs.Asking.{no_query}
 use Rattle.moxi_trace.specs.Texts.{symbol_text}
