@@ -1,4 +1,4 @@
-// Kinds of refusal of a BTOR2 text, by their names in notes.
+// Kinds of refusal of a BTOR2 text, with their names in notes.
 use crate::place::Kind;
 
 /// `B1 Line`
@@ -19,3 +19,16 @@ pub const TWICE: Kind = Kind::B(7);
 pub const INIT_LATE: Kind = Kind::B(8);
 /// `B9 TooLong`
 pub const TOO_LONG: Kind = Kind::B(9);
+
+// The names of these kinds, from 1 on.
+pub(super) const NAMES: [&[u8]; 9] = [
+    b"Line",
+    b"IdOrder",
+    b"NoSuchNode",
+    b"SortClash",
+    b"NotSupported",
+    b"Width",
+    b"Twice",
+    b"InitLate",
+    b"TooLong",
+];

@@ -10,86 +10,6 @@ pub mod witness;
 
 use crate::place::Kind;
 
-// The names of the kinds of an SMV model, from 1 on.
-const SMV: [&[u8]; 28] = [
-    b"TooLong",
-    b"BadByte",
-    b"BadNumber",
-    b"TooNested",
-    b"Dead",
-    b"NotSupported",
-    b"TooTall",
-    b"NoMain",
-    b"ModuleTwice",
-    b"NameTwice",
-    b"NoSuchModule",
-    b"ModuleCycle",
-    b"ArgCount",
-    b"Unknown",
-    b"DefineCycle",
-    b"TypeClash",
-    b"IntTooWide",
-    b"InputHere",
-    b"NextHere",
-    b"SetHere",
-    b"AssignedTwice",
-    b"NotAssignable",
-    b"BadDivisor",
-    b"BadShift",
-    b"BadSelect",
-    b"EmptyRange",
-    b"NoInvarspec",
-    b"TooLarge",
-];
-
-// The names of the kinds of a MoXI script, from 1 on.
-const MOXI: [&[u8]; 16] = [
-    b"BadByte",
-    b"Unclosed",
-    b"TooNested",
-    b"Unknown",
-    b"SortClash",
-    b"NotSupported",
-    b"PrimeHere",
-    b"Width",
-    b"NameTwice",
-    b"NoSuchSystem",
-    b"SystemCycle",
-    b"Arity",
-    b"CheckCount",
-    b"QueryForm",
-    b"TooLarge",
-    b"TooLong",
-];
-
-// The names of the kinds of a BTOR2 text, from 1 on.
-const BTOR: [&[u8]; 9] = [
-    b"Line",
-    b"IdOrder",
-    b"NoSuchNode",
-    b"SortClash",
-    b"NotSupported",
-    b"Width",
-    b"Twice",
-    b"InitLate",
-    b"TooLong",
-];
-
-// The names of the kinds of a witness, from 1 on.
-const WITNESS: [&[u8]; 8] = [
-    b"Line",
-    b"NoBad",
-    b"FrameOrder",
-    b"Index",
-    b"Width",
-    b"Unended",
-    b"Justice",
-    b"TooLong",
-];
-
-// The names of the kinds of a trace or a response, from 1 on.
-const TRACE: [&[u8]; 5] = [b"Line", b"Unknown", b"Value", b"Missing", b"TooLong"];
-
 impl Kind {
     /// The name that stands behind the kind in a note, as `NoInvarspec` behind `S27`; empty where there is no such kind.
     pub fn name(self) -> &'static [u8]
@@ -108,31 +28,31 @@ impl Kind {
 fn smv_name(n: u8) -> &'static [u8]
     ensures { result.now ≡ name_at n smv_names }
 {
-    name_at(n, &SMV)
+    name_at(n, &smv::NAMES)
 }
 
 fn moxi_name(n: u8) -> &'static [u8]
     ensures { result.now ≡ name_at n moxi_names }
 {
-    name_at(n, &MOXI)
+    name_at(n, &moxi::NAMES)
 }
 
 fn btor_name(n: u8) -> &'static [u8]
     ensures { result.now ≡ name_at n btor_names }
 {
-    name_at(n, &BTOR)
+    name_at(n, &btor::NAMES)
 }
 
 fn witness_name(n: u8) -> &'static [u8]
     ensures { result.now ≡ name_at n witness_names }
 {
-    name_at(n, &WITNESS)
+    name_at(n, &witness::NAMES)
 }
 
 fn trace_name(n: u8) -> &'static [u8]
     ensures { result.now ≡ name_at n trace_names }
 {
-    name_at(n, &TRACE)
+    name_at(n, &trace::NAMES)
 }
 
 // The name of a number, counted from 1.

@@ -1,4 +1,4 @@
-// Kinds of refusal of a MoXI script, by their names in notes.
+// Kinds of refusal of a MoXI script, with their names in notes.
 use crate::place::Kind;
 
 /// `M1 BadByte`
@@ -33,3 +33,23 @@ pub const QUERY_FORM: Kind = Kind::M(14);
 pub const TOO_LARGE: Kind = Kind::M(15);
 /// `M16 TooLong`
 pub const TOO_LONG: Kind = Kind::M(16);
+
+// The names of these kinds, from 1 on.
+pub(super) const NAMES: [&[u8]; 16] = [
+    b"BadByte",
+    b"Unclosed",
+    b"TooNested",
+    b"Unknown",
+    b"SortClash",
+    b"NotSupported",
+    b"PrimeHere",
+    b"Width",
+    b"NameTwice",
+    b"NoSuchSystem",
+    b"SystemCycle",
+    b"Arity",
+    b"CheckCount",
+    b"QueryForm",
+    b"TooLarge",
+    b"TooLong",
+];

@@ -1,4 +1,4 @@
-// Kinds of refusal of an SMV model, by their names in notes.
+// Kinds of refusal of an SMV model, with their names in notes.
 use crate::place::Kind;
 
 /// `S1 TooLong`
@@ -57,3 +57,35 @@ pub const EMPTY_RANGE: Kind = Kind::S(26);
 pub const NO_INVARSPEC: Kind = Kind::S(27);
 /// `S28 TooLarge`
 pub const TOO_LARGE: Kind = Kind::S(28);
+
+// The names of these kinds, from 1 on.
+pub(super) const NAMES: [&[u8]; 28] = [
+    b"TooLong",
+    b"BadByte",
+    b"BadNumber",
+    b"TooNested",
+    b"Dead",
+    b"NotSupported",
+    b"TooTall",
+    b"NoMain",
+    b"ModuleTwice",
+    b"NameTwice",
+    b"NoSuchModule",
+    b"ModuleCycle",
+    b"ArgCount",
+    b"Unknown",
+    b"DefineCycle",
+    b"TypeClash",
+    b"IntTooWide",
+    b"InputHere",
+    b"NextHere",
+    b"SetHere",
+    b"AssignedTwice",
+    b"NotAssignable",
+    b"BadDivisor",
+    b"BadShift",
+    b"BadSelect",
+    b"EmptyRange",
+    b"NoInvarspec",
+    b"TooLarge",
+];

@@ -1,4 +1,4 @@
-// Kinds of refusal of a trace or a response, by their names in notes.
+// Kinds of refusal of a trace or a response, with their names in notes.
 use crate::place::Kind;
 
 /// `Y1 Line`
@@ -11,3 +11,6 @@ pub const VALUE: Kind = Kind::Y(3);
 pub const MISSING: Kind = Kind::Y(4);
 /// `Y5 TooLong`
 pub const TOO_LONG: Kind = Kind::Y(5);
+
+// The names of these kinds, from 1 on.
+pub(super) const NAMES: [&[u8]; 5] = [b"Line", b"Unknown", b"Value", b"Missing", b"TooLong"];

@@ -1,4 +1,4 @@
-// Kinds of refusal of a witness, by their names in notes.
+// Kinds of refusal of a witness, with their names in notes.
 use crate::place::Kind;
 
 /// `X1 Line`
@@ -17,3 +17,15 @@ pub const UNENDED: Kind = Kind::X(6);
 pub const JUSTICE: Kind = Kind::X(7);
 /// `X8 TooLong`
 pub const TOO_LONG: Kind = Kind::X(8);
+
+// The names of these kinds, from 1 on.
+pub(super) const NAMES: [&[u8]; 8] = [
+    b"Line",
+    b"NoBad",
+    b"FrameOrder",
+    b"Index",
+    b"Width",
+    b"Unended",
+    b"Justice",
+    b"TooLong",
+];
