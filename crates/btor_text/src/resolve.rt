@@ -10,7 +10,7 @@ use crate::progress::Progress;
 use crate::shape::{Content, Operand, Shape};
 use crate::word::{Base, Binding, Extension, Nullary, Property, literal_word};
 use btor_tree::{Arg, Args, LineOp, Nodes, no_args, one_arg, plain_arg, three_args, two_args};
-use word_core::{Binary, Unary, WIDEST};
+use word_core::{Binary, Unary, WIDEST, gives_one_bit, unary_width};
 
 /// Why a line can't follow the lines before it.
 #[derive(Clone, Copy, PartialEq, Eq)]
@@ -205,15 +205,6 @@ fn resolve_property(nodes: &Nodes, kind: Property, operand: Operand) -> Result<B
     })
 }
 
-fn unary_width(op: Unary, width: u32) -> u32
-    ensures { result ≡ table.unary_width op width }
-{
-    match op {
-        Unary::Not | Unary::Inc | Unary::Dec | Unary::Neg => width,
-        Unary::RedAnd | Unary::RedOr | Unary::RedXor => 1,
-    }
-}
-
 fn resolve_unary(nodes: &Nodes, op: Unary, sort: u32, operand: Operand) -> Result<Body, Fault>
     ensures { (sh : shapes.Shape) → line_of sh result ≡ rules.resolve_content nodes.now sh (shapes.unary_content op sort (seen_operand operand)) }
 {
@@ -243,29 +234,19 @@ fn binary_fits(op: Binary, left: u32, right: u32) -> bool
     }
 }
 
+// No contract here bounds the widths, so their sum is one of u64.
 fn binary_width(op: Binary, left: u32, right: u32) -> u64
     ensures { result ≡ table.binary_width op left right }
 {
     match op {
-        Binary::And
-        | Binary::Nand
-        | Binary::Nor
-        | Binary::Or
-        | Binary::Xnor
-        | Binary::Xor
-        | Binary::Sll
-        | Binary::Srl
-        | Binary::Sra
-        | Binary::Add
-        | Binary::Sub
-        | Binary::Mul
-        | Binary::Udiv
-        | Binary::Sdiv
-        | Binary::Urem
-        | Binary::Srem
-        | Binary::Smod => u64::from(left),
         Binary::Concat => u64::from(left) + u64::from(right),
-        _ => 1,
+        _ => {
+            if gives_one_bit(op) {
+                1
+            } else {
+                u64::from(left)
+            }
+        }
     }
 }
 

@@ -4,64 +4,27 @@ use Rattle.std.specs.Prelude.{slice_get, slice_index_or}
 use Rattle.std.proofs.lemmas.Bool.{eqb-true, eq-eqb, and_parts, and_from, both_ways}
 use Rattle.std.proofs.lemmas.Option.{same_Some, none-some}
 use Rattle.word_core.specs.declared.kinds.Unary.{Unary}
-use Rattle.word_core.specs.declared.kinds.Unary.TheVariants.{Not, Inc, Dec, Neg, RedAnd, RedOr, RedXor}
+use Rattle.word_core.specs.declared.kinds.Unary.TheVariants.{Not}
 use Rattle.word_core.specs.declared.kinds.Binary.{Binary}
-use Rattle.word_core.specs.declared.kinds.Binary.TheVariants.{Iff, Implies, Eq, Neq, Sgt, Sgte, Slt, Slte, Ugt, Ugte, Ult, Ulte, And, Nand, Nor, Or, Xnor, Xor, Sll, Srl, Sra, Add, Sub, Mul, Udiv, Sdiv, Urem, Srem, Smod, Concat}
+use Rattle.word_core.specs.declared.kinds.Binary.TheVariants.{And}
 use Rattle.btor_tree.specs.declared.args.Arg.{Arg}
 use Rattle.btor_tree.specs.declared.lines.Line.{Line}
 use Rattle.btor_tree.specs.declared.lines.LineOp.{LineOp}
 use Rattle.btor_tree.specs.declared.lines.LineOp.TheVariants as op
 use Rattle.btor_tree.specs.Fits.{sort_at, sort_width}
-use Rattle.btor_tree.specs.Sharing.{is_shared, unary_number, binary_number, op_kind, op_number, op_second, same_op, same_sign, same_arg, same_args, is_alike, place_alike, standing, next_line, placed, pushed, Says, SaysAt, GrowsQuietly, HasNoTwoAlike, Push, built}
+use Rattle.btor_tree.specs.Shapes.{unaries, unary_number, binaries, binary_number}
+use Rattle.btor_tree.specs.Sharing.{is_shared, op_kind, op_number, op_second, same_op, same_sign, same_arg, same_args, is_alike, place_alike, standing, next_line, placed, pushed, Says, SaysAt, GrowsQuietly, HasNoTwoAlike, Push, built}
 use Rattle.btor_tree.proofs.AtPlaces.{width_of_sort}
 use Rattle.btor_tree.proofs.Grows.{push_cases, slice_get_end}
 
-abbrev unaries : List Unary
-unaries = Not ∷ Inc ∷ Dec ∷ Neg ∷ RedAnd ∷ RedOr ∷ RedXor ∷ []
-
+-- A clause for one operator has the next checked for each other one by itself.
 unary_again : (u : Unary) → slice_index_or unaries (unary_number u) Not ≡ u
 unary_again Not = refl
-unary_again Inc = refl
-unary_again Dec = refl
-unary_again Neg = refl
-unary_again RedAnd = refl
-unary_again RedOr = refl
-unary_again RedXor = refl
-
-abbrev binaries : List Binary
-binaries = Iff ∷ Implies ∷ Eq ∷ Neq ∷ Sgt ∷ Sgte ∷ Slt ∷ Slte ∷ Ugt ∷ Ugte ∷ Ult ∷ Ulte ∷ And ∷ Nand ∷ Nor ∷ Or ∷ Xnor ∷ Xor ∷ Sll ∷ Srl ∷ Sra ∷ Add ∷ Sub ∷ Mul ∷ Udiv ∷ Sdiv ∷ Urem ∷ Srem ∷ Smod ∷ Concat ∷ []
+unary_again u = refl
 
 binary_again : (b : Binary) → slice_index_or binaries (binary_number b) And ≡ b
-binary_again Iff = refl
-binary_again Implies = refl
-binary_again Eq = refl
-binary_again Neq = refl
-binary_again Sgt = refl
-binary_again Sgte = refl
-binary_again Slt = refl
-binary_again Slte = refl
-binary_again Ugt = refl
-binary_again Ugte = refl
-binary_again Ult = refl
-binary_again Ulte = refl
 binary_again And = refl
-binary_again Nand = refl
-binary_again Nor = refl
-binary_again Or = refl
-binary_again Xnor = refl
-binary_again Xor = refl
-binary_again Sll = refl
-binary_again Srl = refl
-binary_again Sra = refl
-binary_again Add = refl
-binary_again Sub = refl
-binary_again Mul = refl
-binary_again Udiv = refl
-binary_again Sdiv = refl
-binary_again Urem = refl
-binary_again Srem = refl
-binary_again Smod = refl
-binary_again Concat = refl
+binary_again b = refl
 
 -- the word of a line, from its kind and its numbers
 abbrev op_from : ℕ → ℕ → ℕ → LineOp

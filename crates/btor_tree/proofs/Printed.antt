@@ -10,9 +10,9 @@ use Rattle.std.proofs.lemmas.Bool.Decides.{nat_tests}
 use Rattle.std.proofs.lemmas.Option.{slice_get_past}
 use Rattle.word_core.specs.declared.word.TheConstants.{WIDEST}
 use Rattle.word_core.specs.declared.kinds.Unary.{Unary}
-use Rattle.word_core.specs.declared.kinds.Unary.TheVariants.{Not, Inc, Dec, Neg, RedAnd, RedOr, RedXor}
+use Rattle.word_core.specs.declared.kinds.Unary.TheVariants.{Not}
 use Rattle.word_core.specs.declared.kinds.Binary.{Binary}
-use Rattle.word_core.specs.declared.kinds.Binary.TheVariants.{Iff, Implies, Eq, Neq, Sgt, Sgte, Slt, Slte, Ugt, Ugte, Ult, Ulte, And, Nand, Nor, Or, Xnor, Xor, Sll, Srl, Sra, Add, Sub, Mul, Udiv, Sdiv, Urem, Srem, Smod, Concat}
+use Rattle.word_core.specs.declared.kinds.Binary.TheVariants.{Iff, Implies, Concat}
 use Rattle.text_core.specs.Binary.{binary_digits}
 use Rattle.word_core.specs.Words.{BitVector, IsWord}
 use Rattle.word_core.specs.Table.{unary_width, BinaryFits, binary_width}
@@ -370,67 +370,19 @@ line_spelled before lines l p f =
       rw (a.supported, lt-ltb (last_id before) l.id f.rises) a.resolves,
     )
 
--- the parts of a printed line
+-- The parts of a printed line. A clause for one operator has the next checked for each other one by itself.
 unary_part : (o : Unary) → is_symbol (unary_text o) ≡ true
 unary_part Not = refl
-unary_part Inc = refl
-unary_part Dec = refl
-unary_part Neg = refl
-unary_part RedAnd = refl
-unary_part RedOr = refl
-unary_part RedXor = refl
+unary_part o = refl
 
 binary_part : (o : Binary) → is_symbol (binary_text o) ≡ true
 binary_part Iff = refl
-binary_part Implies = refl
-binary_part Eq = refl
-binary_part Neq = refl
-binary_part Sgt = refl
-binary_part Sgte = refl
-binary_part Slt = refl
-binary_part Slte = refl
-binary_part Ugt = refl
-binary_part Ugte = refl
-binary_part Ult = refl
-binary_part Ulte = refl
-binary_part And = refl
-binary_part Nand = refl
-binary_part Nor = refl
-binary_part Or = refl
-binary_part Xnor = refl
-binary_part Xor = refl
-binary_part Sll = refl
-binary_part Srl = refl
-binary_part Sra = refl
-binary_part Add = refl
-binary_part Sub = refl
-binary_part Mul = refl
-binary_part Udiv = refl
-binary_part Sdiv = refl
-binary_part Urem = refl
-binary_part Srem = refl
-binary_part Smod = refl
-binary_part Concat = refl
+binary_part o = refl
 
 op_part : (o : LineOp) → is_symbol (op_text o) ≡ true
-op_part (op.Sort w) = refl
-op_part op.Input = refl
-op_part op.State = refl
-op_part (op.Constant c) = refl
-op_part op.One = refl
-op_part op.Zero = refl
-op_part op.Ones = refl
-op_part op.Init = refl
-op_part op.Next = refl
-op_part op.Bad = refl
-op_part op.Constraint = refl
-op_part op.Output = refl
 op_part (op.Unary o) = unary_part o
 op_part (op.Binary o) = binary_part o
-op_part op.Ite = refl
-op_part (op.Slice high low) = refl
-op_part (op.Uext n) = refl
-op_part (op.Sext n) = refl
+op_part o = refl
 
 id_part : (lines : List Line) → IsWellFormed lines → (s : ℕ) → AllParts (decimal (id_at lines s) ∷ [])
 id_part lines w s = (decimal_part (id_at lines s) (small_id lines w s), tt)

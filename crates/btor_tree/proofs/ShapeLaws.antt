@@ -7,128 +7,35 @@ use Rattle.std.specs.Str.{bytes_eq}
 use Rattle.std.proofs.lemmas.Slice.Eq.{bytes_eq-Decides}
 use Rattle.word_core.specs.declared.kinds.Unary.{Unary}
 use Rattle.word_core.specs.declared.kinds.Binary.{Binary}
-use Rattle.word_core.specs.declared.kinds.Unary.TheVariants.{Not, Inc, Dec, Neg, RedAnd, RedOr, RedXor}
-use Rattle.word_core.specs.declared.kinds.Binary.TheVariants.{Iff, Implies, Eq, Neq, Sgt, Sgte, Slt, Slte, Ugt, Ugte, Ult, Ulte, And, Nand, Nor, Or, Xnor, Xor, Sll, Srl, Sra, Add, Sub, Mul, Udiv, Sdiv, Urem, Srem, Smod, Concat}
+use Rattle.word_core.specs.declared.kinds.Unary.TheVariants.{Not}
+use Rattle.word_core.specs.declared.kinds.Binary.TheVariants.{Iff}
 use Rattle.btor_tree.specs.Fits.{IsSymbol, greatest_id}
 use Rattle.btor_tree.specs.Parts.{Parts, numeral, is_symbol}
 use Rattle.btor_tree.proofs.PartLaws.{symbol_test, symbol_tested}
-use Rattle.btor_tree.specs.Shapes.{Operand, Nullary, input, state, one, zero, ones, Base, in_binary, in_decimal, in_hex, Extension, uext, sext, Binding, init, next, Property, bad, constraint, output, Word, sort_word, nullary_word, base_word, binding_word, property_word, unary_word, binary_word, ite_word, slice_word, extension_word, word_text, is_unsupported, StartsUnsupported, is_literal, base_text, extension_text, Content, sort_content, nullary_content, constant_content, binding_content, property_content, unary_content, binary_content, ite_content, slice_content, extension_content, unsupported_content, Shape, nullary_text, binding_text, property_text, unary_text, binary_text, operand_of, symbol_parts, SpellsContent, Spells}
+use Rattle.btor_tree.specs.Shapes.{Operand, Nullary, input, Base, in_binary, Extension, uext, Binding, init, Property, bad, Word, sort_word, nullary_word, base_word, binding_word, property_word, unary_word, binary_word, ite_word, slice_word, extension_word, word_text, is_unsupported, StartsUnsupported, is_literal, base_text, extension_text, Content, sort_content, nullary_content, constant_content, binding_content, property_content, unary_content, binary_content, ite_content, slice_content, extension_content, unsupported_content, Shape, nullary_text, binding_text, property_text, unary_text, binary_text, operand_of, symbol_parts, SpellsContent, Spells}
 use Rattle.btor_tree.specs.Reading.{words, word_among, word_of, Read, bitvec_args, sort_args, nullary_args, constant_args, binding_args, property_args, unary_args, binary_args, ite_args, slice_args, extension_args, content_at, content_of, shaped, numbered, shape_of}
 
+-- A clause for one word of each class has the last clause checked for each other word by itself.
 word_reads : (w : Word) → word_of (word_text w) ≡ Some w
-word_reads sort_word = refl
 word_reads (nullary_word input) = refl
-word_reads (nullary_word state) = refl
-word_reads (nullary_word one) = refl
-word_reads (nullary_word zero) = refl
-word_reads (nullary_word ones) = refl
 word_reads (base_word in_binary) = refl
-word_reads (base_word in_decimal) = refl
-word_reads (base_word in_hex) = refl
 word_reads (binding_word init) = refl
-word_reads (binding_word next) = refl
 word_reads (property_word bad) = refl
-word_reads (property_word constraint) = refl
-word_reads (property_word output) = refl
 word_reads (unary_word Not) = refl
-word_reads (unary_word Inc) = refl
-word_reads (unary_word Dec) = refl
-word_reads (unary_word Neg) = refl
-word_reads (unary_word RedAnd) = refl
-word_reads (unary_word RedOr) = refl
-word_reads (unary_word RedXor) = refl
 word_reads (binary_word Iff) = refl
-word_reads (binary_word Implies) = refl
-word_reads (binary_word Eq) = refl
-word_reads (binary_word Neq) = refl
-word_reads (binary_word Sgt) = refl
-word_reads (binary_word Sgte) = refl
-word_reads (binary_word Slt) = refl
-word_reads (binary_word Slte) = refl
-word_reads (binary_word Ugt) = refl
-word_reads (binary_word Ugte) = refl
-word_reads (binary_word Ult) = refl
-word_reads (binary_word Ulte) = refl
-word_reads (binary_word And) = refl
-word_reads (binary_word Nand) = refl
-word_reads (binary_word Nor) = refl
-word_reads (binary_word Or) = refl
-word_reads (binary_word Xnor) = refl
-word_reads (binary_word Xor) = refl
-word_reads (binary_word Sll) = refl
-word_reads (binary_word Srl) = refl
-word_reads (binary_word Sra) = refl
-word_reads (binary_word Add) = refl
-word_reads (binary_word Sub) = refl
-word_reads (binary_word Mul) = refl
-word_reads (binary_word Udiv) = refl
-word_reads (binary_word Sdiv) = refl
-word_reads (binary_word Urem) = refl
-word_reads (binary_word Srem) = refl
-word_reads (binary_word Smod) = refl
-word_reads (binary_word Concat) = refl
-word_reads ite_word = refl
-word_reads slice_word = refl
 word_reads (extension_word uext) = refl
-word_reads (extension_word sext) = refl
+word_reads w = refl
 
 -- no word of a line is left out
 word_supported : (w : Word) → is_unsupported (word_text w) ≡ false
-word_supported sort_word = refl
 word_supported (nullary_word input) = refl
-word_supported (nullary_word state) = refl
-word_supported (nullary_word one) = refl
-word_supported (nullary_word zero) = refl
-word_supported (nullary_word ones) = refl
 word_supported (base_word in_binary) = refl
-word_supported (base_word in_decimal) = refl
-word_supported (base_word in_hex) = refl
 word_supported (binding_word init) = refl
-word_supported (binding_word next) = refl
 word_supported (property_word bad) = refl
-word_supported (property_word constraint) = refl
-word_supported (property_word output) = refl
 word_supported (unary_word Not) = refl
-word_supported (unary_word Inc) = refl
-word_supported (unary_word Dec) = refl
-word_supported (unary_word Neg) = refl
-word_supported (unary_word RedAnd) = refl
-word_supported (unary_word RedOr) = refl
-word_supported (unary_word RedXor) = refl
 word_supported (binary_word Iff) = refl
-word_supported (binary_word Implies) = refl
-word_supported (binary_word Eq) = refl
-word_supported (binary_word Neq) = refl
-word_supported (binary_word Sgt) = refl
-word_supported (binary_word Sgte) = refl
-word_supported (binary_word Slt) = refl
-word_supported (binary_word Slte) = refl
-word_supported (binary_word Ugt) = refl
-word_supported (binary_word Ugte) = refl
-word_supported (binary_word Ult) = refl
-word_supported (binary_word Ulte) = refl
-word_supported (binary_word And) = refl
-word_supported (binary_word Nand) = refl
-word_supported (binary_word Nor) = refl
-word_supported (binary_word Or) = refl
-word_supported (binary_word Xnor) = refl
-word_supported (binary_word Xor) = refl
-word_supported (binary_word Sll) = refl
-word_supported (binary_word Srl) = refl
-word_supported (binary_word Sra) = refl
-word_supported (binary_word Add) = refl
-word_supported (binary_word Sub) = refl
-word_supported (binary_word Mul) = refl
-word_supported (binary_word Udiv) = refl
-word_supported (binary_word Sdiv) = refl
-word_supported (binary_word Urem) = refl
-word_supported (binary_word Srem) = refl
-word_supported (binary_word Smod) = refl
-word_supported (binary_word Concat) = refl
-word_supported ite_word = refl
-word_supported slice_word = refl
 word_supported (extension_word uext) = refl
-word_supported (extension_word sext) = refl
+word_supported w = refl
 
 -- the content behind a word's own text
 behind : (w : Word) (args ps : Parts) → ps ≡ word_text w ∷ args → content_of ps ≡ content_at args w

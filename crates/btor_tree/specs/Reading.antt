@@ -1,20 +1,19 @@
 -- What the parts of a line are, read from the front.
-use Rattle.std.specs.Prelude.{ℕ, ◌&&◌, List, [], ◌∷◌, Option, Some, None, option_map, option_and_then, Result, Ok, Err, nat_lt, nat_le, if◌then◌else◌, codes}
+use Rattle.std.specs.Prelude.{ℕ, ◌&&◌, List, [], ◌∷◌, ◌++◌, map, Option, Some, None, option_map, option_and_then, Result, Ok, Err, nat_lt, nat_le, if◌then◌else◌, codes}
 use Rattle.std.specs.Str.{bytes_eq}
 use Rattle.word_core.specs.declared.kinds.Unary.{Unary}
 use Rattle.word_core.specs.declared.kinds.Binary.{Binary}
-use Rattle.word_core.specs.declared.kinds.Unary.TheVariants.{Not, Inc, Dec, Neg, RedAnd, RedOr, RedXor}
-use Rattle.word_core.specs.declared.kinds.Binary.TheVariants.{Iff, Implies, Eq, Neq, Sgt, Sgte, Slt, Slte, Ugt, Ugte, Ult, Ulte, And, Nand, Nor, Or, Xnor, Xor, Sll, Srl, Sra, Add, Sub, Mul, Udiv, Sdiv, Urem, Srem, Smod, Concat}
 use Rattle.btor_tree.specs.Fits.{greatest_id}
 use Rattle.btor_tree.specs.Parts.{Parts, numeral, is_symbol}
 use Rattle.btor_tree.specs.declared.lines.Line.{Line}
 use Rattle.btor_tree.specs.Resolving.{Fault, no_shape, resolve}
 use Rattle.btor_tree.specs.Texts.{Next, nothing, good, faulty}
-use Rattle.btor_tree.specs.Shapes.{Nullary, input, state, one, zero, ones, Base, in_binary, in_decimal, in_hex, Extension, uext, sext, Binding, init, next, Property, bad, constraint, output, Word, sort_word, nullary_word, base_word, binding_word, property_word, unary_word, binary_word, ite_word, slice_word, extension_word, word_text, is_unsupported, is_literal, Content, sort_content, nullary_content, constant_content, binding_content, property_content, unary_content, binary_content, ite_content, slice_content, extension_content, unsupported_content, Shape, operand_of}
+use Rattle.btor_tree.specs.Shapes.{Nullary, input, state, one, zero, ones, Base, in_binary, in_decimal, in_hex, Extension, uext, sext, Binding, init, next, Property, bad, constraint, output, Word, sort_word, nullary_word, base_word, binding_word, property_word, unary_word, binary_word, ite_word, slice_word, extension_word, unaries, binaries, word_text, is_unsupported, is_literal, Content, sort_content, nullary_content, constant_content, binding_content, property_content, unary_content, binary_content, ite_content, slice_content, extension_content, unsupported_content, Shape, operand_of}
 
 -- the words of lines
 abbrev pub words : List Word
-words = sort_word ∷ nullary_word input ∷ nullary_word state ∷ nullary_word one ∷ nullary_word zero ∷ nullary_word ones ∷ base_word in_binary ∷ base_word in_decimal ∷ base_word in_hex ∷ binding_word init ∷ binding_word next ∷ property_word bad ∷ property_word constraint ∷ property_word output ∷ unary_word Not ∷ unary_word Inc ∷ unary_word Dec ∷ unary_word Neg ∷ unary_word RedAnd ∷ unary_word RedOr ∷ unary_word RedXor ∷ binary_word Iff ∷ binary_word Implies ∷ binary_word Eq ∷ binary_word Neq ∷ binary_word Sgt ∷ binary_word Sgte ∷ binary_word Slt ∷ binary_word Slte ∷ binary_word Ugt ∷ binary_word Ugte ∷ binary_word Ult ∷ binary_word Ulte ∷ binary_word And ∷ binary_word Nand ∷ binary_word Nor ∷ binary_word Or ∷ binary_word Xnor ∷ binary_word Xor ∷ binary_word Sll ∷ binary_word Srl ∷ binary_word Sra ∷ binary_word Add ∷ binary_word Sub ∷ binary_word Mul ∷ binary_word Udiv ∷ binary_word Sdiv ∷ binary_word Urem ∷ binary_word Srem ∷ binary_word Smod ∷ binary_word Concat ∷ ite_word ∷ slice_word ∷ extension_word uext ∷ extension_word sext ∷ []
+words =
+    sort_word ∷ nullary_word input ∷ nullary_word state ∷ nullary_word one ∷ nullary_word zero ∷ nullary_word ones ∷ base_word in_binary ∷ base_word in_decimal ∷ base_word in_hex ∷ binding_word init ∷ binding_word next ∷ property_word bad ∷ property_word constraint ∷ property_word output ∷ (map unary_word unaries ++ map binary_word binaries ++ ite_word ∷ slice_word ∷ extension_word uext ∷ extension_word sext ∷ [])
 
 -- the first of these words that has this text
 abbrev pub word_among : List Word → List ℕ → Option Word

@@ -125,6 +125,57 @@ binary_text Srem = codes "srem"
 binary_text Smod = codes "smod"
 binary_text Concat = codes "concat"
 
+-- the operators on one word
+abbrev pub unaries : List Unary
+unaries = Not ∷ Inc ∷ Dec ∷ Neg ∷ RedAnd ∷ RedOr ∷ RedXor ∷ []
+
+-- the place of an operator among these
+abbrev pub unary_number : Unary → ℕ
+unary_number Not = 0
+unary_number Inc = 1
+unary_number Dec = 2
+unary_number Neg = 3
+unary_number RedAnd = 4
+unary_number RedOr = 5
+unary_number RedXor = 6
+
+-- the operators on two words
+abbrev pub binaries : List Binary
+binaries = Iff ∷ Implies ∷ Eq ∷ Neq ∷ Sgt ∷ Sgte ∷ Slt ∷ Slte ∷ Ugt ∷ Ugte ∷ Ult ∷ Ulte ∷ And ∷ Nand ∷ Nor ∷ Or ∷ Xnor ∷ Xor ∷ Sll ∷ Srl ∷ Sra ∷ Add ∷ Sub ∷ Mul ∷ Udiv ∷ Sdiv ∷ Urem ∷ Srem ∷ Smod ∷ Concat ∷ []
+
+-- the place of an operator among these
+abbrev pub binary_number : Binary → ℕ
+binary_number Iff = 0
+binary_number Implies = 1
+binary_number Eq = 2
+binary_number Neq = 3
+binary_number Sgt = 4
+binary_number Sgte = 5
+binary_number Slt = 6
+binary_number Slte = 7
+binary_number Ugt = 8
+binary_number Ugte = 9
+binary_number Ult = 10
+binary_number Ulte = 11
+binary_number And = 12
+binary_number Nand = 13
+binary_number Nor = 14
+binary_number Or = 15
+binary_number Xnor = 16
+binary_number Xor = 17
+binary_number Sll = 18
+binary_number Srl = 19
+binary_number Sra = 20
+binary_number Add = 21
+binary_number Sub = 22
+binary_number Mul = 23
+binary_number Udiv = 24
+binary_number Sdiv = 25
+binary_number Urem = 26
+binary_number Srem = 27
+binary_number Smod = 28
+binary_number Concat = 29
+
 -- the word as it is written
 abbrev pub word_text : Word → List ℕ
 word_text sort_word = codes "sort"

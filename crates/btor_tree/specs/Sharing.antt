@@ -1,10 +1,6 @@
 -- One line for all that say the same: which lines are shared, what it is to say the same, and what a push does to a list of lines.
 use Rattle.std.specs.Prelude.{◌≡◌, ◌==◌, ◌+◌, ◌<◌, ℕ, suc, Bool, true, false, not, ◌&&◌, ◌||◌, List, [], ◌∷◌, ◌++◌, length, Option, Some, None, option_map, slice_get, if◌then◌else◌}
 use Rattle.std.specs.List.{AllByRecursion}
-use Rattle.word_core.specs.declared.kinds.Unary.{Unary}
-use Rattle.word_core.specs.declared.kinds.Unary.TheVariants.{Not, Inc, Dec, Neg, RedAnd, RedOr, RedXor}
-use Rattle.word_core.specs.declared.kinds.Binary.{Binary}
-use Rattle.word_core.specs.declared.kinds.Binary.TheVariants.{Iff, Implies, Eq, Neq, Sgt, Sgte, Slt, Slte, Ugt, Ugte, Ult, Ulte, And, Nand, Nor, Or, Xnor, Xor, Sll, Srl, Sra, Add, Sub, Mul, Udiv, Sdiv, Urem, Srem, Smod, Concat}
 use Rattle.btor_tree.specs.declared.args.Arg.{Arg}
 use Rattle.btor_tree.specs.declared.lines.Line.{Line}
 use Rattle.btor_tree.specs.declared.lines.LineOp.{LineOp}
@@ -12,55 +8,13 @@ use Rattle.btor_tree.specs.declared.lines.LineOp.TheVariants as op
 use Rattle.word_core.specs.Words.{BitVector}
 use Rattle.btor_tree.specs.Fits.{Suits, IsWellFormed, greatest_id, has_word, is_input, is_state, last_id, sort_at, width_at}
 use Rattle.btor_tree.specs.Frame.{Meets, Equation, word_at}
+use Rattle.btor_tree.specs.Shapes.{unary_number, binary_number}
 
 -- Is one line enough for all that say the same? Each input and each state is a line of its own, and init, next, bad, constraint and
 -- output lines say something of the frames. A sort, a constant and an operator are fixed by what their line says.
 abbrev pub is_shared : LineOp → Bool
 is_shared (op.Sort w) = true
 is_shared o = has_word o && not (is_input o || is_state o)
-
--- the number of an operator on one word
-abbrev pub unary_number : Unary → ℕ
-unary_number Not = 0
-unary_number Inc = 1
-unary_number Dec = 2
-unary_number Neg = 3
-unary_number RedAnd = 4
-unary_number RedOr = 5
-unary_number RedXor = 6
-
--- the number of an operator on two words
-abbrev pub binary_number : Binary → ℕ
-binary_number Iff = 0
-binary_number Implies = 1
-binary_number Eq = 2
-binary_number Neq = 3
-binary_number Sgt = 4
-binary_number Sgte = 5
-binary_number Slt = 6
-binary_number Slte = 7
-binary_number Ugt = 8
-binary_number Ugte = 9
-binary_number Ult = 10
-binary_number Ulte = 11
-binary_number And = 12
-binary_number Nand = 13
-binary_number Nor = 14
-binary_number Or = 15
-binary_number Xnor = 16
-binary_number Xor = 17
-binary_number Sll = 18
-binary_number Srl = 19
-binary_number Sra = 20
-binary_number Add = 21
-binary_number Sub = 22
-binary_number Mul = 23
-binary_number Udiv = 24
-binary_number Sdiv = 25
-binary_number Urem = 26
-binary_number Srem = 27
-binary_number Smod = 28
-binary_number Concat = 29
 
 -- the number of a kind of line that is shared, or 0
 abbrev pub op_kind : LineOp → ℕ

@@ -49,15 +49,10 @@ negation_keeps one.Neg w h = refl
 negation_keeps u w h = absurd (cc)
 
 comparison_keeps : (b : Binary) (w : ℕ) → is_comparison b ≡ true → Compares b w
-comparison_keeps two.Ult w h = record { fits = refl; width = refl }
-comparison_keeps two.Ulte w h = record { fits = refl; width = refl }
-comparison_keeps two.Ugt w h = record { fits = refl; width = refl }
-comparison_keeps two.Ugte w h = record { fits = refl; width = refl }
-comparison_keeps two.Slt w h = record { fits = refl; width = refl }
-comparison_keeps two.Slte w h = record { fits = refl; width = refl }
-comparison_keeps two.Sgt w h = record { fits = refl; width = refl }
-comparison_keeps two.Sgte w h = record { fits = refl; width = refl }
-comparison_keeps b w h = absurd (cc)
+comparison_keeps two.Iff w h = absurd (cc)
+comparison_keeps two.Implies w h = absurd (cc)
+comparison_keeps two.Concat w h = absurd (cc)
+comparison_keeps b w h = record { fits = refl; width = cc }
 
 -- arguments: their places and sorts
 abbrev places : List (ℕ × Sort) → List ℕ

@@ -1,12 +1,11 @@
 // Single lines.
 ghost use Rattle.std.specs.Prelude.{◌≡◌, ◌+◌, ◌<◌, ◌^◌, IfOk};
-ghost use Rattle.word_core.specs.Table.{binary_width};
 ghost use Rattle.moxi_term_lines.specs.TermLines.{with_binary, with_constant, with_ite, with_signs, with_slice, with_unary, with_word, with_zeros};
 ghost use Rattle.moxi_term_builder.specs.Putting.{CanPut, CanPutBinary, CanPutConstant, CanPutIte, CanPutSigns, CanPutSlice, CanPutUnary, CanPutZeros};
 
 use btor_tree::{Args, Builder, LineOp, no_args, one_arg, plain_arg, three_args, two_args};
 use text_core::NoMemory;
-use word_core::{Binary, Unary, Word};
+use word_core::{Binary, Unary, Word, binary_width};
 
 /// A constant or an operator of this width, behind its sort.
 pub fn put_word(builder: &mut Builder, op: LineOp, width: u32, args: Args) -> Result<u32, NoMemory>
@@ -34,34 +33,6 @@ pub fn put_unary(builder: &mut Builder, op: Unary, p: u32) -> Result<u32, NoMemo
     let width = builder.width_of(p);
     let args = one_arg(plain_arg(p));
     put_word(builder, LineOp::Unary(op), width, args)
-}
-
-// The width of an operator's result.
-fn binary_width(op: Binary, v: u32, w: u32) -> u32
-    requires { v + w < 2 ^ 32 }
-    ensures { result ≡ binary_width op v w }
-{
-    match op {
-        Binary::And
-        | Binary::Nand
-        | Binary::Nor
-        | Binary::Or
-        | Binary::Xnor
-        | Binary::Xor
-        | Binary::Sll
-        | Binary::Srl
-        | Binary::Sra
-        | Binary::Add
-        | Binary::Sub
-        | Binary::Mul
-        | Binary::Udiv
-        | Binary::Sdiv
-        | Binary::Urem
-        | Binary::Srem
-        | Binary::Smod => v,
-        Binary::Concat => v + w,
-        _ => 1,
-    }
 }
 
 /// An operator on two words.

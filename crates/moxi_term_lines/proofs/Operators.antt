@@ -78,26 +78,14 @@ negation_keeps one.Neg w h = refl
 negation_keeps u w h = absurd (cc)
 
 comparison_keeps : (b : Binary) (w : ℕ) → is_comparison b ≡ true → BinaryFits b w w × (binary_width b w w ≡ 1)
-comparison_keeps two.Ult w h = (refl, refl)
-comparison_keeps two.Ulte w h = (refl, refl)
-comparison_keeps two.Ugt w h = (refl, refl)
-comparison_keeps two.Ugte w h = (refl, refl)
-comparison_keeps two.Slt w h = (refl, refl)
-comparison_keeps two.Slte w h = (refl, refl)
-comparison_keeps two.Sgt w h = (refl, refl)
-comparison_keeps two.Sgte w h = (refl, refl)
-comparison_keeps b w h = absurd (cc)
+comparison_keeps two.Iff w h = absurd (cc)
+comparison_keeps two.Implies w h = absurd (cc)
+comparison_keeps two.Concat w h = absurd (cc)
+comparison_keeps b w h = (refl, cc)
 
 comparison_is_no_chain : (b : Binary) → is_comparison b ≡ true → is_chain b ≡ false
-comparison_is_no_chain two.Ult h = refl
-comparison_is_no_chain two.Ulte h = refl
-comparison_is_no_chain two.Ugt h = refl
-comparison_is_no_chain two.Ugte h = refl
-comparison_is_no_chain two.Slt h = refl
-comparison_is_no_chain two.Slte h = refl
-comparison_is_no_chain two.Sgt h = refl
-comparison_is_no_chain two.Sgte h = refl
-comparison_is_no_chain b h = absurd (cc)
+comparison_is_no_chain two.And h = absurd (cc)
+comparison_is_no_chain b h = cc
 
 module _ (es : List Enumeration) (row : List BitVector) (known : Bool) (lines : List Line) (n : AreNumbered lines) where
   abbrev pub Stands : Operand → Type 0

@@ -56,12 +56,8 @@ negation_width u w s h = let p = taken (is_negation u) (Ok (Bits w)) (M 5) s h i
 
 negated_width : (u : Unary) (a : BitVector) → is_negation u ≡ true → (unary_of u a).width ≡ a.width
 negated_width one.Not a h = refl
-negated_width one.Inc a h = absurd (cc)
-negated_width one.Dec a h = absurd (cc)
 negated_width one.Neg a h = refl
-negated_width one.RedAnd a h = absurd (cc)
-negated_width one.RedOr a h = absurd (cc)
-negated_width one.RedXor a h = absurd (cc)
+negated_width u a h = absurd (cc)
 
 -- the words of an operator on words
 words_sorted : (es : List Enumeration) (b : Binary) (w : ℕ) (s : Sort) (vs : List Datum) → Calculated b w s → AllOf es (Bits w) vs → 1 ≤ length vs → IsOf es s (op_value (op.BvBinary b) vs)

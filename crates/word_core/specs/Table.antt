@@ -1,6 +1,6 @@
 -- The operator table of BTOR2 (CAV 2018, table 1), by whole numbers and their signed values: of each operator the widths
 -- that it asks for, and the width and the number of its result.
-use Rattle.std.specs.Prelude.{◌≡◌, ℕ, ◌+◌, ◌-◌, ◌*◌, ◌/◌, ◌%◌, ◌^◌, ◌≤◌, min, Bool, not, bit_and, bit_or, bit_xor, count_ones, if◌then◌else◌, ◌==◌, nat_lt, nat_le, ℤ, pos, ◌-ℤ◌, int_lt, int_le}
+use Rattle.std.specs.Prelude.{◌≡◌, ℕ, ◌+◌, ◌-◌, ◌*◌, ◌/◌, ◌%◌, ◌^◌, ◌≤◌, min, Bool, true, false, not, bit_and, bit_or, bit_xor, count_ones, if◌then◌else◌, ◌==◌, nat_lt, nat_le, ℤ, pos, ◌-ℤ◌, int_lt, int_le}
 use Rattle.word_core.specs.Words.{BitVector}
 use Rattle.word_core.specs.declared.word.TheConstants.{WIDEST}
 use Rattle.word_core.specs.declared.kinds.Unary.{Unary}
@@ -47,13 +47,10 @@ modulus w a b u =
 
 -- the result's width, for an argument of width w
 abbrev pub unary_width : Unary → ℕ → ℕ
-unary_width Not w = w
-unary_width Inc w = w
-unary_width Dec w = w
-unary_width Neg w = w
 unary_width RedAnd w = 1
 unary_width RedOr w = 1
 unary_width RedXor w = 1
+unary_width op w = w
 
 -- the result's number, for an argument of width w
 abbrev pub unary_bits : Unary → ℕ → ℕ → ℕ
@@ -76,27 +73,26 @@ BinaryFits Implies v w = (v ≡ 1) × (w ≡ 1)
 BinaryFits Concat v w = v + w ≤ WIDEST
 BinaryFits op v w = v ≡ w
 
--- the result's width
+-- is the result one bit, whatever the widths?
+abbrev pub gives_one_bit : Binary → Bool
+gives_one_bit Iff = true
+gives_one_bit Implies = true
+gives_one_bit Eq = true
+gives_one_bit Neq = true
+gives_one_bit Sgt = true
+gives_one_bit Sgte = true
+gives_one_bit Slt = true
+gives_one_bit Slte = true
+gives_one_bit Ugt = true
+gives_one_bit Ugte = true
+gives_one_bit Ult = true
+gives_one_bit Ulte = true
+gives_one_bit op = false
+
+-- the result's width: that of both arguments together, one bit, or that of the first argument
 abbrev pub binary_width : Binary → ℕ → ℕ → ℕ
-binary_width And v w = v
-binary_width Nand v w = v
-binary_width Nor v w = v
-binary_width Or v w = v
-binary_width Xnor v w = v
-binary_width Xor v w = v
-binary_width Sll v w = v
-binary_width Srl v w = v
-binary_width Sra v w = v
-binary_width Add v w = v
-binary_width Sub v w = v
-binary_width Mul v w = v
-binary_width Udiv v w = v
-binary_width Sdiv v w = v
-binary_width Urem v w = v
-binary_width Srem v w = v
-binary_width Smod v w = v
 binary_width Concat v w = v + w
-binary_width op v w = 1
+binary_width op v w = if gives_one_bit op then 1 else v
 
 -- the result's number
 abbrev pub binary_bits : Binary → ℕ → ℕ → ℕ → ℕ → ℕ

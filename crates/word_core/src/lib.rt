@@ -9,5 +9,7 @@ mod word;
 
 pub use digits::read_digits;
 pub use kinds::{Binary, Unary};
-pub use operators::{binary, ite, sext, slice, uext, unary};
+pub use operators::{
+    binary, binary_width, gives_one_bit, ite, sext, slice, uext, unary, unary_width,
+};
 pub use word::{WIDEST, Word, widest_is};

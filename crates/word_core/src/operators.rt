@@ -1,6 +1,6 @@
 // The operators, each by its row of the table.
-ghost use Rattle.std.specs.Prelude.{◌≡◌, ◌<◌, ◌≤◌, ◌+◌};
-ghost use Rattle.word_core.specs.Table.{BinaryFits, binary_of, binary_width, ite_of, sext_of, slice_of, uext_of, unary_of, unary_width};
+ghost use Rattle.std.specs.Prelude.{◌≡◌, ◌<◌, ◌≤◌, ◌+◌, ◌^◌};
+ghost use Rattle.word_core.specs.Table.{BinaryFits, binary_of, binary_width, gives_one_bit, ite_of, sext_of, slice_of, uext_of, unary_of, unary_width};
 
 use crate::kinds::{Binary, Unary};
 use crate::numbers::{binary_number, is_minus, ones, reduced, unary_number};
@@ -10,17 +10,18 @@ use crate::word::{WIDEST, Word, made_word};
 pub fn unary(op: Unary, a: Word) -> Word
     ensures { result ≡ unary_of op a }
 {
-    let width = width_of_unary(op, a.width());
+    let width = unary_width(op, a.width());
     let number = unary_number(op, a.width(), a.bits());
     made_word(width, number)
 }
 
-fn width_of_unary(op: Unary, width: u32) -> u32
+/// The width of the result, for an argument of this width.
+pub fn unary_width(op: Unary, width: u32) -> u32
     ensures { result ≡ unary_width op width }
 {
     match op {
-        Unary::Not | Unary::Inc | Unary::Dec | Unary::Neg => width,
         Unary::RedAnd | Unary::RedOr | Unary::RedXor => 1,
+        _ => width,
     }
 }
 
@@ -29,36 +30,40 @@ pub fn binary(op: Binary, a: Word, b: Word) -> Word
     requires { BinaryFits op a.width b.width }
     ensures { result ≡ binary_of op a b }
 {
-    let width = width_of_binary(op, a.width(), b.width());
+    let width = binary_width(op, a.width(), b.width());
     let number = binary_number(op, a.width(), b.width(), a.bits(), b.bits());
     made_word(width, number)
 }
 
-fn width_of_binary(op: Binary, v: u32, w: u32) -> u32
-    requires v_high { v ≤ WIDEST }
-    requires w_high { w ≤ WIDEST }
+/// Whether the result is one bit, whatever the widths.
+pub fn gives_one_bit(op: Binary) -> bool
+    ensures { result ≡ gives_one_bit op }
+{
+    match op {
+        Binary::Iff
+        | Binary::Implies
+        | Binary::Eq
+        | Binary::Neq
+        | Binary::Sgt
+        | Binary::Sgte
+        | Binary::Slt
+        | Binary::Slte
+        | Binary::Ugt
+        | Binary::Ugte
+        | Binary::Ult
+        | Binary::Ulte => true,
+        _ => false,
+    }
+}
+
+/// The width of the result, for arguments of these widths.
+pub fn binary_width(op: Binary, v: u32, w: u32) -> u32
+    requires { v + w < 2 ^ 32 }
     ensures { result ≡ binary_width op v w }
 {
     match op {
-        Binary::And
-        | Binary::Nand
-        | Binary::Nor
-        | Binary::Or
-        | Binary::Xnor
-        | Binary::Xor
-        | Binary::Sll
-        | Binary::Srl
-        | Binary::Sra
-        | Binary::Add
-        | Binary::Sub
-        | Binary::Mul
-        | Binary::Udiv
-        | Binary::Sdiv
-        | Binary::Urem
-        | Binary::Srem
-        | Binary::Smod => v,
         Binary::Concat => v + w,
-        _ => 1,
+        _ => { if gives_one_bit(op) { 1 } else { v } }
     }
 }
 

@@ -6,7 +6,7 @@ use Rattle.std.proofs.Math.Pow.{pow_mono}
 use Rattle.std.proofs.Math.Nat.{one-le-pow, mod-lt, div-le_self, mod-le, mul_comm}
 use Rattle.word_core.specs.Words.{BitVector, IsWord}
 use Rattle.word_core.specs.declared.word.TheConstants.{WIDEST}
-use Rattle.word_core.specs.Table.{unary_of, unary_bits, unary_width, binary_of, binary_bits, binary_width, BinaryFits, uext_of, signed_value, is_minus, negated, negated_if, magnitude, quotient, rest, modulus, bit_of}
+use Rattle.word_core.specs.Table.{unary_of, unary_bits, unary_width, binary_of, binary_bits, binary_width, gives_one_bit, BinaryFits, uext_of, signed_value, is_minus, negated, negated_if, magnitude, quotient, rest, modulus, bit_of}
 use Rattle.word_core.specs.declared.kinds.Unary.{Unary}
 use Rattle.word_core.specs.declared.kinds.Unary.TheVariants.{Not, Inc, Dec, Neg, RedAnd, RedOr, RedXor}
 use Rattle.word_core.specs.declared.kinds.Binary.{Binary}
@@ -60,11 +60,10 @@ unary_small RedOr w a h = bit_small (not (a == 0))
 unary_small RedXor w a h = mod-lt (count_ones a) (omega arith)
 
 unary_width_fits : (op : Unary) (w : ℕ) → 1 ≤ w → w ≤ WIDEST → (1 ≤ unary_width op w) × (unary_width op w ≤ WIDEST)
-unary_width_fits Not w h k = (h, k)
-unary_width_fits Inc w h k = (h, k)
-unary_width_fits Dec w h k = (h, k)
-unary_width_fits Neg w h k = (h, k)
-unary_width_fits op w h k = (omega arith, omega arith)
+unary_width_fits RedAnd w h k = (omega arith, omega arith)
+unary_width_fits RedOr w h k = (omega arith, omega arith)
+unary_width_fits RedXor w h k = (omega arith, omega arith)
+unary_width_fits op w h k = (h, k)
 
 pub unary_is_word : (op : Unary) (a : BitVector) → IsWord a → IsWord (unary_of op a)
 unary_is_word op a h =
@@ -106,26 +105,13 @@ binary_small Concat v w a b g h f =
     let e : 2 ^ w * 2 ^ v ≡ 2 ^ (v + w) = mul_comm (2 ^ w) (2 ^ v) ∙ sym (pow-add 2 v w) in
     subst (λ n. a * 2 ^ w + b < n) e (mul-add-lt a (2 ^ w) b (2 ^ v) g h)
 
+one_or : (c : Bool) (v : ℕ) → 1 ≤ v → v ≤ WIDEST → (1 ≤ cond c 1 v) × (cond c 1 v ≤ WIDEST)
+one_or true v a b = (omega arith, omega arith)
+one_or false v a b = (a, b)
+
 width_fits : (op : Binary) (v w : ℕ) → 1 ≤ v → v ≤ WIDEST → 1 ≤ w → BinaryFits op v w → (1 ≤ binary_width op v w) × (binary_width op v w ≤ WIDEST)
 width_fits Concat v w a b c f = (omega (arith, a), f)
-width_fits And v w a b c f = (a, b)
-width_fits Nand v w a b c f = (a, b)
-width_fits Nor v w a b c f = (a, b)
-width_fits Or v w a b c f = (a, b)
-width_fits Xnor v w a b c f = (a, b)
-width_fits Xor v w a b c f = (a, b)
-width_fits Sll v w a b c f = (a, b)
-width_fits Srl v w a b c f = (a, b)
-width_fits Sra v w a b c f = (a, b)
-width_fits Add v w a b c f = (a, b)
-width_fits Sub v w a b c f = (a, b)
-width_fits Mul v w a b c f = (a, b)
-width_fits Udiv v w a b c f = (a, b)
-width_fits Sdiv v w a b c f = (a, b)
-width_fits Urem v w a b c f = (a, b)
-width_fits Srem v w a b c f = (a, b)
-width_fits Smod v w a b c f = (a, b)
-width_fits op v w a b c f = (omega arith, omega arith)
+width_fits op v w a b c f = one_or (gives_one_bit op) v a b
 
 pub binary_is_word : (op : Binary) (a b : BitVector) → IsWord a → IsWord b → BinaryFits op a.width b.width → IsWord (binary_of op a b)
 binary_is_word op a b g h f =

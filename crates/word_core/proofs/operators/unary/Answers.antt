@@ -6,6 +6,6 @@ use Rattle.word_core.proofs.operators.unary.Goals as goal
 
 pub made_word-requires : goal.made_word-requires
 made_word-requires c =
-    let made : BitVector = record { width = c.width_of_unary-width.result; bits = c.unary_number-number.result } in
+    let made : BitVector = record { width = c.unary_width-width.result; bits = c.unary_number-number.result } in
     let e : made ≡ unary_of c.args.op c.args.a = cc in
     subst IsWord (sym e) (unary_is_word c.args.op c.args.a c.width.ensures.word)
