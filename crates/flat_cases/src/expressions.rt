@@ -2,8 +2,8 @@
 // chain or a choice.
 use case_text::Answer;
 use smv_flat::{FlatBranch, FlatExpr, FlatLink, FlatShape};
-use smv_text::Prefix;
-use smv_text_cases::{function_word, infix_sign, prefix_sign, put_literal};
+use smv_text::{Prefix, function_word, infix_bytes, word_bytes};
+use smv_text_cases::{prefix_sign, put_literal};
 use text_core::Names;
 
 /// An expression with no brackets around it.
@@ -38,7 +38,7 @@ pub(crate) fn put_expression(out: &mut Answer, symbols: &Names, e: &FlatExpr) {
             out.put(b"]");
         }
         FlatShape::Call(function, arguments) => {
-            out.put(function_word(*function).as_bytes());
+            out.put(word_bytes(function_word(*function)));
             put_list(out, symbols, arguments, b"(");
             out.put(b")");
         }
@@ -68,7 +68,7 @@ fn put_operand(out: &mut Answer, symbols: &Names, e: &FlatExpr) {
 fn put_links(out: &mut Answer, symbols: &Names, links: &[FlatLink]) {
     for link in links {
         out.put(b" ");
-        out.put(infix_sign(link.op).as_bytes());
+        out.put(infix_bytes(link.op));
         out.put(b" ");
         put_operand(out, symbols, &link.operand);
     }

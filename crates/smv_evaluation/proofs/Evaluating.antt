@@ -3,8 +3,8 @@ use Rattle.std.proofs.Common.{◌≡◌, ℕ, ◌+◌, ◌≤◌, max, Bool, tru
 use Rattle.text_core.specs.declared.place.Place.{Place}
 use Rattle.smv_text.specs.declared.tree.Path.{Path}
 use Rattle.smv_text.specs.declared.tree.Branch.{Branch}
-use Rattle.smv_text.specs.declared.tree.Infix.{Infix}
-use Rattle.smv_text.specs.declared.tree.Infix.TheVariants.{Member, Union}
+use Rattle.smv_text.specs.declared.operators.Infix.{Infix}
+use Rattle.smv_text.specs.declared.operators.Infix.TheVariants.{Member, Union}
 use Rattle.smv_text.specs.Tree.{Tree, chain, Links, no_links, link, links_of, branches_of}
 use Rattle.std.proofs.Common.{Vec, Box, Global}
 use Rattle.smv_text.specs.declared.tree.Expr.{Expr}

@@ -5,7 +5,7 @@ use Rattle.std.specs.List.{list_all}
 use Rattle.smv_text.specs.declared.tree.Expr.{Expr}
 use Rattle.smv_text.specs.declared.tree.Link.{Link}
 use Rattle.smv_text.specs.declared.tree.Branch.{Branch}
-use Rattle.smv_text.specs.declared.tree.Infix.{Infix}
+use Rattle.smv_text.specs.declared.operators.Infix.{Infix}
 use Rattle.smv_text.specs.Tree.{Tree, Trees, no_trees, tree, links_of, branches_of, trees_of, PlainElement}
 use Rattle.smv_text.specs.Heights.{list_of}
 use Rattle.smv_text.specs.View.{plain, plain_link, plain_branch}

@@ -2,7 +2,7 @@
 use Rattle.std.proofs.Common.{◌≡◌, ℕ, suc, ◌+◌, ◌≤◌, max, Bool, true, false, if◌then◌else◌, leb, List, [], ◌∷◌, ◌++◌, map, length, refl, ap, ◌∙◌, arith}
 use Rattle.std.proofs.lemmas.Bool.{leb-true, leb-false}
 use Rattle.text_core.specs.declared.place.Place.{Place}
-use Rattle.smv_text.specs.declared.tree.Infix.{Infix}
+use Rattle.smv_text.specs.declared.operators.Infix.{Infix}
 use Rattle.smv_text.specs.Tree.{Tree, truth, links_of, branches_of, trees_of}
 use Rattle.smv_text.specs.Heights.{height, highest, folded, folded_right, chain_height, branches_height, is_joined, is_implied, link_heights, branch_heights, heights, place_of}
 use Rattle.smv_grammar.specs.Kept.{Read, cap, capped, keep_at}

@@ -4,8 +4,8 @@ use Rattle.std.proofs.lemmas.List.{map-append, length-map}
 use Rattle.text_core.specs.declared.place.Place.{Place}
 use Rattle.word_core.specs.Words.{BitVector}
 use Rattle.smv_text.specs.declared.tree.Path.{Path}
-use Rattle.smv_text.specs.declared.tree.Infix.{Infix}
-use Rattle.smv_text.specs.declared.tree.Function.{Function}
+use Rattle.smv_text.specs.declared.operators.Infix.{Infix}
+use Rattle.smv_text.specs.declared.operators.Function.{Function}
 use Rattle.smv_text.specs.declared.tree.Expr.{Expr}
 use Rattle.smv_text.specs.declared.tree.Link.{Link, roll-Link}
 use Rattle.smv_text.specs.declared.tree.Branch.{Branch, roll-Branch}

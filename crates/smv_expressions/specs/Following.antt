@@ -5,7 +5,7 @@ use Rattle.smv_text.specs.declared.token.Sign.{Sign}
 use Rattle.smv_text.specs.declared.token.Token.{Token}
 use Rattle.smv_text.specs.Levels.{all_levels}
 use Rattle.smv_text.specs.declared.level.OperatorClass.{OperatorClass}
-use Rattle.smv_text.specs.declared.tree.Infix.{Infix}
+use Rattle.smv_text.specs.declared.operators.Infix.{Infix}
 use Rattle.smv_text.specs.Tree.{Tree, select, branches_of}
 use Rattle.smv_text.specs.declared.token.Sign.TheVariants as sign
 use Rattle.smv_grammar.specs.declared.levels.Leader.{Leader}

@@ -1,7 +1,7 @@
 -- What the parts that were read so far are kept as, and what is kept of a chain's and of branches' heights.
 use Rattle.std.specs.Prelude.{◌≡◌, ℕ, suc, ◌+◌, max, false, List, [], ◌∷◌, map, length}
 use Rattle.text_core.specs.declared.place.Place.{Place}
-use Rattle.smv_text.specs.declared.tree.Infix.{Infix}
+use Rattle.smv_text.specs.declared.operators.Infix.{Infix}
 use Rattle.smv_text.specs.declared.tree.Expr.{roll-Expr}
 use Rattle.smv_text.specs.declared.tree.Shape.{Shape}
 use Rattle.smv_text.specs.Tree.{Tree, name, links_of}

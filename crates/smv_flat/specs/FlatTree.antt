@@ -3,9 +3,9 @@
 use Rattle.std.specs.Prelude.{ℕ, ℤ, pos, Bool, true, false, ◌&&◌, ◌||◌, if◌then◌else◌, List, [], ◌∷◌, Option, None}
 use Rattle.word_core.specs.Words.{BitVector}
 use Rattle.smv_text.specs.declared.tree.Path.{Path}
-use Rattle.smv_text.specs.declared.tree.Prefix.{Prefix}
-use Rattle.smv_text.specs.declared.tree.Infix.{Infix}
-use Rattle.smv_text.specs.declared.tree.Function.{Function}
+use Rattle.smv_text.specs.declared.operators.Prefix.{Prefix}
+use Rattle.smv_text.specs.declared.operators.Infix.{Infix}
+use Rattle.smv_text.specs.declared.operators.Function.{Function}
 use Rattle.smv_text.specs.Tree.{Tree, truth, number, literal, name, prefix, chain, choice, cases, select, call, next, set, range, Links, no_links, link, Branches, no_branches, branch, Trees, no_trees, tree}
 use Rattle.smv_meaning.specs.declared.value.Value.{Value}
 use Rattle.smv_meaning.specs.declared.value.Value.TheVariants.{Truth, Integer, Bits}

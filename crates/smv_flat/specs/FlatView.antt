@@ -1,10 +1,10 @@
 -- What flat expressions of the code stand for, and what its nodes are.
 use Rattle.std.specs.Prelude.{◌≡◌, ℕ, Bool, true, false, ◌||◌, if◌then◌else◌, List, [], ◌∷◌, ◌++◌, map, Option, option_map, Result, IfOk}
 use Rattle.text_core.specs.declared.place.Place.{Place}
-use Rattle.smv_text.specs.declared.tree.Infix.{Infix}
+use Rattle.smv_text.specs.declared.operators.Infix.{Infix}
 use Rattle.smv_text.specs.declared.tree.Path.{Path}
-use Rattle.smv_text.specs.declared.tree.Prefix.{Prefix}
-use Rattle.smv_text.specs.declared.tree.Function.{Function}
+use Rattle.smv_text.specs.declared.operators.Prefix.{Prefix}
+use Rattle.smv_text.specs.declared.operators.Function.{Function}
 use Rattle.smv_text.specs.Tree.{Tree, Links, no_links, link, Branches, Trees}
 use Rattle.smv_meaning.specs.Expressions.{is_from_right}
 use Rattle.smv_meaning.specs.Types.{ExprType}

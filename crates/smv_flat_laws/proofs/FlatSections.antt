@@ -65,8 +65,8 @@ modules_plain (module_then x identifier a b f es rest) = two_true _ _ (elements_
 
 -- ---- each instance is one of a module
 
-abbrev pub AllPlans : (PlainModule → Bool) → List Instance → Type 0
-AllPlans test t = list_all (λ (at : Instance). test at.module) t ≡ true
+abbrev pub AllModules : (PlainModule → Bool) → List Instance → Type 0
+AllModules test t = list_all (λ (at : Instance). test at.module) t ≡ true
 
 abbrev IsGood : (PlainModule → Bool) → Option Instance → Type 0
 IsGood test None = Unit {0}
@@ -74,7 +74,7 @@ IsGood test (Some at) = test at.module ≡ true
 
 -- it keeps a list good
 abbrev Keeps : (PlainModule → Bool) → (Instance → List Instance → List Instance) → Type 0
-Keeps test g = (at : Instance) (t : List Instance) → test at.module ≡ true → AllPlans test t → AllPlans test (g at t)
+Keeps test g = (at : Instance) (t : List Instance) → test at.module ≡ true → AllModules test t → AllModules test (g at t)
 
 module_good : (test : PlainModule → Bool) (i : ℕ) (path x : List ℕ) (actuals : Trees) (m : List ℕ) (ms : List PlainModule) → list_all test ms ≡ true → IsGood test (placed i path x actuals (module_named ms m))
 module_good test i path x actuals m [] h = tt
@@ -93,18 +93,18 @@ child_good test ms h i path x (members xs) = tt
 child_good test ms h i path x (between low high) = tt
 child_good test ms h i path x (bits n) = tt
 
-with_good : (test : PlainModule → Bool) (g : Instance → List Instance → List Instance) → Keeps test g → (o : Option Instance) (t : List Instance) → IsGood test o → AllPlans test t → AllPlans test (with_child g o t)
+with_good : (test : PlainModule → Bool) (g : Instance → List Instance → List Instance) → Keeps test g → (o : Option Instance) (t : List Instance) → IsGood test o → AllModules test t → AllModules test (with_child g o t)
 with_good test g k None t o h = h
 with_good test g k (Some at) t o h = k at t o h
 
 items_good : (test : PlainModule → Bool) (g : Instance → List Instance → List Instance) → Keeps test g → (ms : List PlainModule) → list_all test ms ≡ true → (i : ℕ) (path : List ℕ) (items : List PlainItem) (t : List Instance)
-    → AllPlans test t → AllPlans test (grow_items g ms i path items t)
+    → AllModules test t → AllModules test (grow_items g ms i path items t)
 items_good test g k ms p i path [] t h = h
 items_good test g k ms p i path (v ∷ items) t h =
     items_good test g k ms p i path items (with_child g (child_of ms i path v) t) (with_good test g k (child_of ms i path v) t (child_good test ms p i path v.name v.domain) h)
 
 elements_good : (test : PlainModule → Bool) (g : Instance → List Instance → List Instance) → Keeps test g → (ms : List PlainModule) → list_all test ms ≡ true → (i : ℕ) (path : List ℕ) (es : List PlainElement) (t : List Instance)
-    → AllPlans test t → AllPlans test (grow_elements g ms i path es t)
+    → AllModules test t → AllModules test (grow_elements g ms i path es t)
 elements_good test g k ms p i path [] t h = h
 elements_good test g k ms p i path (vars kind items ∷ es) t h = elements_good test g k ms p i path es (grow_items g ms i path items t) (items_good test g k ms p i path items t h)
 elements_good test g k ms p i path (defines ds ∷ es) t h = elements_good test g k ms p i path es t h
@@ -122,7 +122,7 @@ grow_good test ms p (suc n) at t e h =
     elements_good test (grow n ms) (grow_good test ms p n) ms p (length t) at.path at.module.elements (t ++ at ∷ [])
     (list_all-append (λ (a : Instance). test a.module) t (at ∷ []) ∙ two_true _ _ h (two_true _ _ e refl))
 
-pub named_good : (test : PlainModule → Bool) (ms : List PlainModule) (m : List ℕ) → list_all test ms ≡ true → (o : Option PlainModule) → o ≡ module_named ms m → AllPlans test (grown_from ms o)
+pub named_good : (test : PlainModule → Bool) (ms : List PlainModule) (m : List ℕ) → list_all test ms ≡ true → (o : Option PlainModule) → o ≡ module_named ms m → AllModules test (grown_from ms o)
 named_good test ms m p None e = refl
 named_good test ms m p (Some q) e = grow_good test ms p (length ms) (main_instance q) [] (there ms p (sym e)) refl
   where
@@ -134,5 +134,5 @@ named_good test ms m p (Some q) e = grow_good test ms p (length ms) (main_instan
         pick a ih true g = let s : n ≡ q = cc in ap test (sym s) ∙ a
         pick a ih false g = ih g
 
-pub instances_plain : (source : PlainSource) → list_all module_is_plain source.modules ≡ true → AllPlans module_is_plain (instances_of source)
+pub instances_plain : (source : PlainSource) → list_all module_is_plain source.modules ≡ true → AllModules module_is_plain (instances_of source)
 instances_plain source h = named_good module_is_plain source.modules main_name h (module_named source.modules main_name) refl

@@ -27,7 +27,7 @@ use Rattle.smv_flat.specs.FlatForms.{Form, content_form, body_forms, assignment_
 use Rattle.smv_flat_laws.specs.FlatTruth.{Row, form_denotes, kind_stays, items_stay, role_invariant, forms_invariants, is_false_in}
 use Rattle.smv_flat_laws.proofs.FlatRows.{AllFrom, all_of, HasContent, HasItems}
 use Rattle.smv_flat_laws.proofs.FlatTruths.{Agrees}
-use Rattle.smv_flat_laws.proofs.FlatSections.{no_instance, section_is_plain, module_is_plain, AllPlans}
+use Rattle.smv_flat_laws.proofs.FlatSections.{no_instance, section_is_plain, module_is_plain, AllModules}
 use Rattle.smv_text.specs.declared.tree.When.TheVariants.{First}
 
 -- ---- frozen variables
@@ -164,7 +164,7 @@ rest_more t i at rest h n = let s : (i + 1) + n ≡ i + suc n = omega arith in a
 rest_path : (t : List Instance) (i : ℕ) (at : Instance) (rest : List Instance) → IsRest t i (at ∷ rest) → (x : List ℕ) → dotted_at t i x ≡ dotted at.path x
 rest_path t i at rest h x = let s : i ≡ i + 0 = omega arith in ap (λ (o : Option Instance). dotted (path_in o) x) (ap (slice_get t) s ∙ h 0)
 
-instances_stay : (t : List Instance) (state following : Valuation) (i : ℕ) (rest : List Instance) → IsRest t i rest → AllPlans module_is_plain rest
+instances_stay : (t : List Instance) (state following : Valuation) (i : ℕ) (rest : List Instance) → IsRest t i rest → AllModules module_is_plain rest
     → list_all (origin_stays t state following) (over_instances items_here i rest) ≡ frozen_stay rest state following
 instances_stay t state following i [] r h = refl
 instances_stay t state following i (at ∷ rest) r h =
@@ -176,7 +176,7 @@ instances_stay t state following i (at ∷ rest) r h =
     (instances_stay t state following (i + 1) rest (rest_more t i at rest r) s.1)
 
 pub stays_same : (t : List Instance) (state label following other : Valuation) (read more : ℕ → Path → Value) (now later : Row) → HasItems t state label read now → HasItems t following other more later
-    → AllPlans module_is_plain t → items_stay now later 0 (map (flat_item_of t) (origins_of t)) ≡ frozen_stay t state following
+    → AllModules module_is_plain t → items_stay now later 0 (map (flat_item_of t) (origins_of t)) ≡ frozen_stay t state following
 stays_same t state label following other read more now later h g p =
     items_as t state following now later 0 (origins_of t)
     (all_of (StaysSo t state following now later) (origins_of t) 0

@@ -78,36 +78,7 @@ begins_lettered (b ∷ bs) = is_letter b
 
 sign_unlettered : (s : Sign) → begins_lettered (sign_bytes s) ≡ false
 sign_unlettered sign.Open = refl
-sign_unlettered sign.Close = refl
-sign_unlettered sign.OpenBrace = refl
-sign_unlettered sign.CloseBrace = refl
-sign_unlettered sign.OpenBracket = refl
-sign_unlettered sign.CloseBracket = refl
-sign_unlettered sign.Comma = refl
-sign_unlettered sign.Semicolon = refl
-sign_unlettered sign.Colon = refl
-sign_unlettered sign.Dot = refl
-sign_unlettered sign.Range = refl
-sign_unlettered sign.Assign = refl
-sign_unlettered sign.Equal = refl
-sign_unlettered sign.Unequal = refl
-sign_unlettered sign.Less = refl
-sign_unlettered sign.Greater = refl
-sign_unlettered sign.LessEqual = refl
-sign_unlettered sign.GreaterEqual = refl
-sign_unlettered sign.Not = refl
-sign_unlettered sign.And = refl
-sign_unlettered sign.Or = refl
-sign_unlettered sign.Plus = refl
-sign_unlettered sign.Minus = refl
-sign_unlettered sign.Times = refl
-sign_unlettered sign.Divide = refl
-sign_unlettered sign.ShiftLeft = refl
-sign_unlettered sign.ShiftRight = refl
-sign_unlettered sign.Concat = refl
-sign_unlettered sign.Question = refl
-sign_unlettered sign.Implies = refl
-sign_unlettered sign.Iff = refl
+sign_unlettered s = refl
 
 digit_unlettered : (b : ℕ) → is_digit b ≡ true → is_letter b ≡ true → ⊥
 digit_unlettered b d l = grind (arith, nat_tests)

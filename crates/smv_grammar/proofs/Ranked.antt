@@ -6,12 +6,11 @@ use Rattle.smv_text.specs.declared.token.Sign.TheVariants as sign
 use Rattle.smv_text.specs.declared.token.Token.{Token}
 use Rattle.smv_text.specs.declared.token.TokenKind.{TokenKind}
 use Rattle.smv_text.specs.declared.token.TokenKind.TheVariants as kind
-use Rattle.smv_text.specs.declared.tree.Infix.{Infix}
+use Rattle.smv_text.specs.declared.operators.Infix.{Infix}
 use Rattle.smv_text.specs.declared.level.OperatorClass.{OperatorClass}
 use Rattle.smv_text.specs.declared.level.Level.{Level}
 use Rattle.smv_text.specs.declared.level.TheConstants.{LEVELS}
-use Rattle.smv_text.specs.Levels.{infix_of}
-use Rattle.smv_text.specs.Operators.{infix_at, of_class, class_of, class_number}
+use Rattle.smv_text.specs.Levels.{infix_of, infix_at, of_class, class_of, class_number}
 use Rattle.smv_text.specs.laws.Operators.{infix_is, same_class}
 use Rattle.smv_grammar.specs.Marks.{is_sign}
 use Rattle.smv_grammar.specs.Ranks.{level_at, class_rank, level_rank, rank_by, rank_of, first_rank}

@@ -8,17 +8,12 @@ use Rattle.smv_text.specs.declared.token.Sign.TheVariants as sign
 use Rattle.smv_text.specs.declared.token.Token.{Token}
 use Rattle.smv_text.specs.declared.token.TokenKind.{TokenKind}
 use Rattle.smv_text.specs.declared.token.TokenKind.TheVariants as kind
-use Rattle.smv_grammar.specs.Marks.{is_sign, is_word, sign_number, word_number}
+use Rattle.smv_text.specs.Signs.{all_signs, sign_number}
+use Rattle.smv_text.specs.Keywords.{all_reserved, word_number}
+use Rattle.smv_grammar.specs.Marks.{is_sign, is_word}
 use Rattle.smv_grammar.specs.Reading.{after}
 
-all_signs : List Sign
-all_signs =
-    sign.Open ∷ sign.Close ∷ sign.OpenBrace ∷ sign.CloseBrace ∷ sign.OpenBracket ∷ sign.CloseBracket ∷ sign.Comma ∷ sign.Semicolon ∷ sign.Colon ∷ sign.Dot
-    ∷ sign.Range ∷ sign.Assign ∷ sign.Equal ∷ sign.Unequal ∷ sign.Less ∷ sign.Greater ∷ sign.LessEqual ∷ sign.GreaterEqual ∷ sign.Not ∷ sign.And ∷ sign.Or
-    ∷ sign.Plus ∷ sign.Minus ∷ sign.Times ∷ sign.Divide ∷ sign.ShiftLeft ∷ sign.ShiftRight ∷ sign.Concat ∷ sign.Question ∷ sign.Implies ∷ sign.Iff ∷ []
-
 numbered : (s : Sign) → get_or all_signs (sign_number s) sign.Not ≡ s
-unfolding all_signs
 numbered sign.Open = refl
 numbered _ = refl
 
@@ -27,20 +22,12 @@ sign_is (kind.Sign z) s e = ap kind.Sign (sym (numbered z) ∙ ap (λ n. get_or 
 sign_is (kind.Number n) s e = cc
 sign_is _ s e = cc
 
-all_words : List Reserved
-all_words =
-    word.Module ∷ word.Var ∷ word.Ivar ∷ word.Frozenvar ∷ word.Define ∷ word.Constants ∷ word.Assign ∷ word.Init ∷ word.Trans ∷ word.Invar ∷ word.Invarspec
-    ∷ word.Name ∷ word.True ∷ word.False ∷ word.Boolean ∷ word.Word ∷ word.Unsigned ∷ word.Case ∷ word.Esac ∷ word.Next ∷ word.Initial ∷ word.Itself ∷ word.Mod
-    ∷ word.Union ∷ word.In ∷ word.Xor ∷ word.Xnor ∷ word.Bool ∷ word.Word1 ∷ word.Toint ∷ word.Uwconst ∷ word.Extend ∷ word.Resize ∷ word.Count ∷ word.Max
-    ∷ word.Min ∷ word.Abs ∷ []
-
-word_numbered : (w : Reserved) → get_or all_words (word_number w) word.Name ≡ w
-unfolding all_words
+word_numbered : (w : Reserved) → get_or all_reserved (word_number w) word.Name ≡ w
 word_numbered word.Module = refl
 word_numbered _ = refl
 
 pub word_is : (x : TokenKind) (w : Reserved) → is_word w x ≡ true → x ≡ kind.Reserved w
-word_is (kind.Reserved z) w e = ap kind.Reserved (sym (word_numbered z) ∙ ap (λ n. get_or all_words n word.Name) (eqb-true (word_number z) (word_number w) e) ∙ word_numbered w)
+word_is (kind.Reserved z) w e = ap kind.Reserved (sym (word_numbered z) ∙ ap (λ n. get_or all_reserved n word.Name) (eqb-true (word_number z) (word_number w) e) ∙ word_numbered w)
 word_is (kind.Number n) w e = cc
 word_is _ w e = cc
 

@@ -8,15 +8,14 @@ use Rattle.smv_text.specs.declared.token.TokenKind.{TokenKind}
 use Rattle.smv_text.specs.declared.token.TokenKind.TheVariants as kind
 use Rattle.smv_text.specs.declared.token.Token.{Token}
 use Rattle.smv_text.specs.declared.tree.Path.{Path}
-use Rattle.smv_text.specs.declared.tree.Prefix.{Prefix}
-use Rattle.smv_text.specs.declared.tree.Prefix.TheVariants as prefixes
-use Rattle.smv_text.specs.declared.tree.Infix.{Infix}
-use Rattle.smv_text.specs.declared.tree.Function.{Function}
+use Rattle.smv_text.specs.declared.operators.Prefix.{Prefix}
+use Rattle.smv_text.specs.declared.operators.Prefix.TheVariants as prefixes
+use Rattle.smv_text.specs.declared.operators.Infix.{Infix}
+use Rattle.smv_text.specs.declared.operators.Function.{Function}
 use Rattle.smv_text.specs.declared.level.OperatorClass.{OperatorClass}
 use Rattle.smv_text.specs.declared.level.Level.{Level}
 use Rattle.smv_text.specs.declared.level.Level.TheVariants.{Chain, Choice, Range, Before, Selection}
-use Rattle.smv_text.specs.Levels.{all_levels, infix_of, function_at}
-use Rattle.smv_text.specs.Operators.{infix_at}
+use Rattle.smv_text.specs.Levels.{all_levels, infix_of, function_at, infix_at}
 use Rattle.smv_text.specs.Tree.{Tree, truth, number, literal, name, prefix, chain, choice, cases, select, call, next as next_value, set, range, Links, no_links, link, Branches, no_branches, branch, links_of, branches_of, trees_of}
 use Rattle.smv_grammar.specs.declared.listing.Listing.{Listing}
 use Rattle.smv_grammar.specs.declared.listing.Listing.TheVariants.{Arguments, Elements}

@@ -1,13 +1,15 @@
 // The levels of the grammar, and the tokens that go on with an expression or begin one.
 
 ghost use Rattle.std.specs.Prelude.{◌≡◌, ◌<◌, option_map, IfSome, suc, length};
-ghost use Rattle.smv_text.specs.Levels.{infix_of, function_at};
-ghost use Rattle.smv_text.specs.Operators.{infix_at, class_of, class_number};
+ghost use Rattle.smv_text.specs.Levels.{infix_of, function_at, class_number};
 ghost use Rattle.smv_grammar.specs.Machine.{calling, leader_of};
 ghost use Rattle.smv_grammar.specs.Ranks.{class_rank, rank_of, first_rank, level_at};
 ghost use Rattle.smv_grammar.specs.Reading.{operator_after};
 
-use smv_text::{Function, Infix, LEVELS, Level, OperatorClass, Reserved, Sign, Token, TokenKind};
+use smv_text::{
+    Function, Infix, LEVELS, Level, OperatorClass, Reserved, Sign, Token, TokenKind, class_of,
+    function_at, infix_at,
+};
 use word_core::Word;
 
 /// What a token begins, below all levels.
@@ -65,94 +67,6 @@ fn called(kind: &TokenKind) -> Leader
     match function_at(kind) {
         Some(function) => Leader::Call(function),
         None => Leader::Nothing,
-    }
-}
-
-fn function_at(kind: &TokenKind) -> Option<Function>
-    ensures { result ≡ function_at kind.now }
-{
-    match kind {
-        TokenKind::Reserved(word) => match word {
-            Reserved::Bool => Some(Function::Bool),
-            Reserved::Word1 => Some(Function::Word1),
-            Reserved::Toint => Some(Function::Toint),
-            Reserved::Uwconst => Some(Function::Uwconst),
-            Reserved::Extend => Some(Function::Extend),
-            Reserved::Resize => Some(Function::Resize),
-            Reserved::Count => Some(Function::Count),
-            Reserved::Max => Some(Function::Max),
-            Reserved::Min => Some(Function::Min),
-            Reserved::Abs => Some(Function::Abs),
-            _ => None,
-        },
-        _ => None,
-    }
-}
-
-#[inline(always)]
-fn infix_at(kind: &TokenKind) -> Option<Infix>
-    ensures { result ≡ infix_at kind.now }
-{
-    match kind {
-        TokenKind::Sign(sign) => match sign {
-            Sign::Implies => Some(Infix::Implies),
-            Sign::Iff => Some(Infix::Iff),
-            Sign::Or => Some(Infix::Or),
-            Sign::And => Some(Infix::And),
-            Sign::Equal => Some(Infix::Equal),
-            Sign::Unequal => Some(Infix::Unequal),
-            Sign::Less => Some(Infix::Less),
-            Sign::Greater => Some(Infix::Greater),
-            Sign::LessEqual => Some(Infix::LessEq),
-            Sign::GreaterEqual => Some(Infix::GreaterEq),
-            Sign::ShiftLeft => Some(Infix::ShiftLeft),
-            Sign::ShiftRight => Some(Infix::ShiftRight),
-            Sign::Plus => Some(Infix::Plus),
-            Sign::Minus => Some(Infix::Minus),
-            Sign::Times => Some(Infix::Times),
-            Sign::Divide => Some(Infix::Divide),
-            Sign::Concat => Some(Infix::Concat),
-            _ => None,
-        },
-        TokenKind::Reserved(word) => match word {
-            Reserved::Xor => Some(Infix::Xor),
-            Reserved::Xnor => Some(Infix::Xnor),
-            Reserved::In => Some(Infix::Member),
-            Reserved::Union => Some(Infix::Union),
-            Reserved::Mod => Some(Infix::Mod),
-            _ => None,
-        },
-        _ => None,
-    }
-}
-
-#[inline(always)]
-fn class_of(op: Infix) -> OperatorClass
-    ensures { result ≡ class_of op }
-{
-    match op {
-        Infix::Implies => OperatorClass::Implications,
-        Infix::Iff => OperatorClass::Equivalences,
-        Infix::Or => OperatorClass::Disjunctions,
-        Infix::Xor => OperatorClass::Disjunctions,
-        Infix::Xnor => OperatorClass::Disjunctions,
-        Infix::And => OperatorClass::Conjunctions,
-        Infix::Equal => OperatorClass::Comparisons,
-        Infix::Unequal => OperatorClass::Comparisons,
-        Infix::Less => OperatorClass::Comparisons,
-        Infix::Greater => OperatorClass::Comparisons,
-        Infix::LessEq => OperatorClass::Comparisons,
-        Infix::GreaterEq => OperatorClass::Comparisons,
-        Infix::Member => OperatorClass::Memberships,
-        Infix::Union => OperatorClass::Unions,
-        Infix::ShiftLeft => OperatorClass::Shifts,
-        Infix::ShiftRight => OperatorClass::Shifts,
-        Infix::Plus => OperatorClass::Sums,
-        Infix::Minus => OperatorClass::Sums,
-        Infix::Times => OperatorClass::Products,
-        Infix::Divide => OperatorClass::Products,
-        Infix::Mod => OperatorClass::Products,
-        Infix::Concat => OperatorClass::Concatenations,
     }
 }
 

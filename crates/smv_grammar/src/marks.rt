@@ -1,7 +1,9 @@
 // Which sign or reserved word a token is.
 
 ghost use Rattle.std.specs.Prelude.{◌≡◌, is_some, option_map, IfSome, suc, length};
-ghost use Rattle.smv_grammar.specs.Marks.{is_sign, is_word, sign_number, word_number};
+ghost use Rattle.smv_text.specs.Signs.{sign_number};
+ghost use Rattle.smv_text.specs.Keywords.{word_number};
+ghost use Rattle.smv_grammar.specs.Marks.{is_sign, is_word};
 ghost use Rattle.smv_grammar.specs.Reading.{after, after_word};
 
 use smv_text::{Reserved, Sign, Token, TokenKind};

@@ -17,7 +17,7 @@ use Rattle.smv_meaning.specs.Owed.{HasType}
 use Rattle.smv_meaning.specs.laws.Booleans.{both_true, two_true, absurd_bool}
 use Rattle.smv_model_laws.proofs.Typable.{split}
 use Rattle.smv_items.specs.FlatItems.{Content, variable, definition, actual, Origin, with_content, actual_content, actual_items, domain_content, variable_item, definition_item, element_items, items_here, origins_of}
-use Rattle.smv_flat_laws.proofs.FlatSections.{AllPlans, named_good}
+use Rattle.smv_flat_laws.proofs.FlatSections.{AllModules, named_good}
 
 abbrev pub is_stated : PlainDomain → Bool
 is_stated (members []) = false
@@ -64,7 +64,7 @@ modules_stated : {ms : List PlainModule} {xs : List Token} → SpellsModules ms 
 modules_stated no_modules = refl
 modules_stated (module_then x identifier a b f es rest) = two_true _ _ (elements_stated es) (modules_stated rest)
 
-instances_stated : (source : PlainSource) (end : Place) (xs : List Token) → SpellsSource source end xs → AllPlans module_stated (instances_of source)
+instances_stated : (source : PlainSource) (end : Place) (xs : List Token) → SpellsSource source end xs → AllModules module_stated (instances_of source)
 instances_stated source end xs spelled = named_good module_stated source.modules main_name (modules_stated spelled.0) (module_named source.modules main_name) refl
 
 -- ---- what is declared
@@ -153,7 +153,7 @@ elements_declared names i (el ∷ es) s h =
     let c = both_true (items_stated el) (list_all items_stated es) s in
     declared_on (element_items i el) (flat_map (element_items i) es) (element_declared names i el c.0 b.0) (elements_declared names i es c.1 b.1)
 
-instances_declared : (names : ℕ → Path → Named) (i : ℕ) (rest : List Instance) → AllPlans module_stated rest → passes (over_instances (type_checks names) i rest) ≡ true
+instances_declared : (names : ℕ → Path → Named) (i : ℕ) (rest : List Instance) → AllModules module_stated rest → passes (over_instances (type_checks names) i rest) ≡ true
     → AllDeclared (over_instances items_here i rest)
 instances_declared names i [] s h = tt
 instances_declared names i (at ∷ rest) s h =

@@ -57,36 +57,7 @@ all_inner p (b ∷ bs) rest f a = rw (inner_by b (λ c. p c (bs ++ rest)) (f (bs
 
 sign_inner : (s : Sign) → IsInLine (sign_bytes s)
 sign_inner sign.Open = refl
-sign_inner sign.Close = refl
-sign_inner sign.OpenBrace = refl
-sign_inner sign.CloseBrace = refl
-sign_inner sign.OpenBracket = refl
-sign_inner sign.CloseBracket = refl
-sign_inner sign.Comma = refl
-sign_inner sign.Semicolon = refl
-sign_inner sign.Colon = refl
-sign_inner sign.Dot = refl
-sign_inner sign.Range = refl
-sign_inner sign.Assign = refl
-sign_inner sign.Equal = refl
-sign_inner sign.Unequal = refl
-sign_inner sign.Less = refl
-sign_inner sign.Greater = refl
-sign_inner sign.LessEqual = refl
-sign_inner sign.GreaterEqual = refl
-sign_inner sign.Not = refl
-sign_inner sign.And = refl
-sign_inner sign.Or = refl
-sign_inner sign.Plus = refl
-sign_inner sign.Minus = refl
-sign_inner sign.Times = refl
-sign_inner sign.Divide = refl
-sign_inner sign.ShiftLeft = refl
-sign_inner sign.ShiftRight = refl
-sign_inner sign.Concat = refl
-sign_inner sign.Question = refl
-sign_inner sign.Implies = refl
-sign_inner sign.Iff = refl
+sign_inner _ = refl
 
 lexeme_inner : (f rest : List ℕ) → IsLexeme f rest → IsInLine f
 lexeme_inner [] rest a = absurd a

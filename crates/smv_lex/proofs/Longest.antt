@@ -218,73 +218,21 @@ sign_front text s (rest, same, h) = ap (take (length (sign_bytes s))) same ∙ t
 -- every sign has a byte
 pub some_bytes : (s : Sign) → 1 ≤ length (sign_bytes s)
 some_bytes sign.Open = omega arith
-some_bytes sign.Close = omega arith
-some_bytes sign.OpenBrace = omega arith
-some_bytes sign.CloseBrace = omega arith
-some_bytes sign.OpenBracket = omega arith
-some_bytes sign.CloseBracket = omega arith
-some_bytes sign.Comma = omega arith
-some_bytes sign.Semicolon = omega arith
-some_bytes sign.Colon = omega arith
-some_bytes sign.Dot = omega arith
-some_bytes sign.Range = omega arith
-some_bytes sign.Assign = omega arith
-some_bytes sign.Equal = omega arith
-some_bytes sign.Unequal = omega arith
-some_bytes sign.Less = omega arith
-some_bytes sign.Greater = omega arith
-some_bytes sign.LessEqual = omega arith
-some_bytes sign.GreaterEqual = omega arith
-some_bytes sign.Not = omega arith
-some_bytes sign.And = omega arith
-some_bytes sign.Or = omega arith
-some_bytes sign.Plus = omega arith
-some_bytes sign.Minus = omega arith
-some_bytes sign.Times = omega arith
-some_bytes sign.Divide = omega arith
-some_bytes sign.ShiftLeft = omega arith
-some_bytes sign.ShiftRight = omega arith
-some_bytes sign.Concat = omega arith
-some_bytes sign.Question = omega arith
-some_bytes sign.Implies = omega arith
-some_bytes sign.Iff = omega arith
+some_bytes _ = omega arith
 
 not_true : (b : Bool) → not b ≡ true → b ≡ false
 not_true true e = cc
 not_true false e = refl
 
 pub sign_longest : (s : Sign) (r : List ℕ) → IsTrue (may_stand s r) → length (sign_bytes s) ≤ lexeme_length (sign_bytes s ++ r)
-sign_longest sign.Open r h = omega arith
-sign_longest sign.Close r h = omega arith
-sign_longest sign.OpenBrace r h = omega arith
-sign_longest sign.CloseBrace r h = omega arith
-sign_longest sign.OpenBracket r h = omega arith
-sign_longest sign.CloseBracket r h = omega arith
-sign_longest sign.Comma r h = omega arith
-sign_longest sign.Semicolon r h = omega arith
 sign_longest sign.Colon r h = some_bytes (colon_sign r)
 sign_longest sign.Dot r h = some_bytes (dot_sign r)
-sign_longest sign.Range r h = omega arith
-sign_longest sign.Assign r h = omega arith
-sign_longest sign.Equal r h = omega arith
-sign_longest sign.Unequal r h = omega arith
 sign_longest sign.Less r h = some_bytes (less_sign r)
 sign_longest sign.Greater r h = some_bytes (greater_sign r)
-sign_longest sign.LessEqual r h = omega arith
-sign_longest sign.GreaterEqual r h = omega arith
 sign_longest sign.Not r h = some_bytes (bang_sign r)
-sign_longest sign.And r h = omega arith
-sign_longest sign.Or r h = omega arith
-sign_longest sign.Plus r h = omega arith
 sign_longest sign.Minus r h = some_bytes (dash_sign r)
-sign_longest sign.Times r h = omega arith
 sign_longest sign.Divide r h = rw (not_true (begins_comment r) h) (omega arith)
-sign_longest sign.ShiftLeft r h = omega arith
-sign_longest sign.ShiftRight r h = omega arith
-sign_longest sign.Concat r h = omega arith
-sign_longest sign.Question r h = omega arith
-sign_longest sign.Implies r h = omega arith
-sign_longest sign.Iff r h = omega arith
+sign_longest _ r h = omega arith
 
 pub digit_no_letter : (b : ℕ) → is_digit b ≡ true → is_letter b ≡ false
 digit_no_letter b e = grind (arith, nat_tests)
@@ -300,36 +248,7 @@ sized text n = (n ≤ length text) × (0 < n → IsLexeme (take n text) (drop n 
 
 sign_lexeme : (s : Sign) (r : List ℕ) → IsTrue (may_stand s r) → IsLexeme (sign_bytes s) r
 sign_lexeme sign.Open r h = inr (inr (sign.Open, refl, h))
-sign_lexeme sign.Close r h = inr (inr (sign.Close, refl, h))
-sign_lexeme sign.OpenBrace r h = inr (inr (sign.OpenBrace, refl, h))
-sign_lexeme sign.CloseBrace r h = inr (inr (sign.CloseBrace, refl, h))
-sign_lexeme sign.OpenBracket r h = inr (inr (sign.OpenBracket, refl, h))
-sign_lexeme sign.CloseBracket r h = inr (inr (sign.CloseBracket, refl, h))
-sign_lexeme sign.Comma r h = inr (inr (sign.Comma, refl, h))
-sign_lexeme sign.Semicolon r h = inr (inr (sign.Semicolon, refl, h))
-sign_lexeme sign.Colon r h = inr (inr (sign.Colon, refl, h))
-sign_lexeme sign.Dot r h = inr (inr (sign.Dot, refl, h))
-sign_lexeme sign.Range r h = inr (inr (sign.Range, refl, h))
-sign_lexeme sign.Assign r h = inr (inr (sign.Assign, refl, h))
-sign_lexeme sign.Equal r h = inr (inr (sign.Equal, refl, h))
-sign_lexeme sign.Unequal r h = inr (inr (sign.Unequal, refl, h))
-sign_lexeme sign.Less r h = inr (inr (sign.Less, refl, h))
-sign_lexeme sign.Greater r h = inr (inr (sign.Greater, refl, h))
-sign_lexeme sign.LessEqual r h = inr (inr (sign.LessEqual, refl, h))
-sign_lexeme sign.GreaterEqual r h = inr (inr (sign.GreaterEqual, refl, h))
-sign_lexeme sign.Not r h = inr (inr (sign.Not, refl, h))
-sign_lexeme sign.And r h = inr (inr (sign.And, refl, h))
-sign_lexeme sign.Or r h = inr (inr (sign.Or, refl, h))
-sign_lexeme sign.Plus r h = inr (inr (sign.Plus, refl, h))
-sign_lexeme sign.Minus r h = inr (inr (sign.Minus, refl, h))
-sign_lexeme sign.Times r h = inr (inr (sign.Times, refl, h))
-sign_lexeme sign.Divide r h = inr (inr (sign.Divide, refl, h))
-sign_lexeme sign.ShiftLeft r h = inr (inr (sign.ShiftLeft, refl, h))
-sign_lexeme sign.ShiftRight r h = inr (inr (sign.ShiftRight, refl, h))
-sign_lexeme sign.Concat r h = inr (inr (sign.Concat, refl, h))
-sign_lexeme sign.Question r h = inr (inr (sign.Question, refl, h))
-sign_lexeme sign.Implies r h = inr (inr (sign.Implies, refl, h))
-sign_lexeme sign.Iff r h = inr (inr (sign.Iff, refl, h))
+sign_lexeme s r h = inr (inr (s, refl, h))
 
 sized_sign : (s : Sign) (r : List ℕ) → IsTrue (may_stand s r) → sized (sign_bytes s ++ r) (length (sign_bytes s))
 sized_sign s r h = (

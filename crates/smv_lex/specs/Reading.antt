@@ -1,5 +1,5 @@
 -- What the scanning functions compute.
-use Rattle.std.specs.Prelude.{option_and_then, ◌==◌, ◌+◌, ℕ, suc, Bool, true, false, not, ◌&&◌, ◌||◌, if◌then◌else◌, nat_le, Option, Some, None, List, [], ◌∷◌, length, take, drop}
+use Rattle.std.specs.Prelude.{option_and_then, ◌==◌, ℕ, suc, Bool, true, false, not, ◌&&◌, ◌||◌, if◌then◌else◌, nat_le, Option, Some, None, List, [], ◌∷◌, length, take, drop}
 use Rattle.std.specs.Borrow.{Bor}
 use Rattle.word_core.specs.Words.{BitVector}
 use Rattle.word_core.specs.Digits.{digits_value, read_word}

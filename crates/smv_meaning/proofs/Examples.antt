@@ -5,9 +5,9 @@ use Rattle.std.specs.Prelude.{codes, replicate}
 use Rattle.text_core.specs.declared.place.Place.{Place}
 use Rattle.text_core.specs.declared.place.Kind.TheVariants.{S}
 use Rattle.text_core.specs.declared.place.Refusal.{Refusal}
-use Rattle.smv_text.specs.declared.tree.Infix.TheVariants as I
-use Rattle.smv_text.specs.declared.tree.Function.TheVariants as G
-use Rattle.smv_text.specs.declared.tree.Prefix.TheVariants as F
+use Rattle.smv_text.specs.declared.operators.Infix.TheVariants as I
+use Rattle.smv_text.specs.declared.operators.Function.TheVariants as G
+use Rattle.smv_text.specs.declared.operators.Prefix.TheVariants as F
 use Rattle.smv_text.specs.declared.tree.VarKind.TheVariants as K
 use Rattle.smv_text.specs.declared.tree.When.TheVariants as W
 use Rattle.smv_text.specs.declared.tree.Member.TheVariants as M

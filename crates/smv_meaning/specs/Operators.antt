@@ -8,12 +8,12 @@ use Rattle.word_core.specs.declared.word.TheConstants.{WIDEST}
 use Rattle.word_core.specs.declared.kinds.Unary.TheVariants as OnWord
 use Rattle.word_core.specs.declared.kinds.Binary.{Binary}
 use Rattle.word_core.specs.declared.kinds.Binary.TheVariants as OnWords
-use Rattle.smv_text.specs.declared.tree.Prefix.{Prefix}
-use Rattle.smv_text.specs.declared.tree.Prefix.TheVariants as OfPrefix
-use Rattle.smv_text.specs.declared.tree.Infix.{Infix}
-use Rattle.smv_text.specs.declared.tree.Infix.TheVariants.{Implies, Iff, Or, Xor, Xnor, And, Equal, Unequal, Less, Greater, LessEq, GreaterEq, Member, Union, ShiftLeft, ShiftRight, Plus, Minus, Times, Divide, Mod, Concat}
-use Rattle.smv_text.specs.declared.tree.Function.{Function}
-use Rattle.smv_text.specs.declared.tree.Function.TheVariants as OfFunction
+use Rattle.smv_text.specs.declared.operators.Prefix.{Prefix}
+use Rattle.smv_text.specs.declared.operators.Prefix.TheVariants as OfPrefix
+use Rattle.smv_text.specs.declared.operators.Infix.{Infix}
+use Rattle.smv_text.specs.declared.operators.Infix.TheVariants.{Implies, Iff, Or, Xor, Xnor, And, Equal, Unequal, Less, Greater, LessEq, GreaterEq, Member, Union, ShiftLeft, ShiftRight, Plus, Minus, Times, Divide, Mod, Concat}
+use Rattle.smv_text.specs.declared.operators.Function.{Function}
+use Rattle.smv_text.specs.declared.operators.Function.TheVariants as OfFunction
 use Rattle.smv_meaning.specs.declared.value.Value.{Value}
 use Rattle.smv_meaning.specs.declared.value.Value.TheVariants.{Truth, Integer, Bits}
 use Rattle.smv_meaning.specs.Values.{no_value, is_true, bool_eq, value_same}

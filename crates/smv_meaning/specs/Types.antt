@@ -3,12 +3,12 @@
 use Rattle.std.specs.Prelude.{ℕ, ◌+◌, ◌-◌, ◌%◌, ◌^◌, Bool, true, false, not, ◌&&◌, ◌||◌, ◌==◌, nat_lt, nat_le, if◌then◌else◌, ℤ, pos, ◌+ℤ◌, ◌-ℤ◌, ◌*ℤ◌, neg_ℤ, int_lt, int_le, int_div, nat_abs, List, [], ◌∷◌, map, length, drop, Option, Some, None}
 use Rattle.std.specs.Int.{int_min, int_max}
 use Rattle.std.specs.List.{list_all}
-use Rattle.smv_text.specs.declared.tree.Prefix.{Prefix}
-use Rattle.smv_text.specs.declared.tree.Prefix.TheVariants as OfPrefix
-use Rattle.smv_text.specs.declared.tree.Infix.{Infix}
-use Rattle.smv_text.specs.declared.tree.Infix.TheVariants.{Implies, Iff, Or, Xor, Xnor, And, Equal, Unequal, Less, Greater, LessEq, GreaterEq, Member, Union, ShiftLeft, ShiftRight, Plus, Minus, Times, Divide, Mod, Concat}
-use Rattle.smv_text.specs.declared.tree.Function.{Function}
-use Rattle.smv_text.specs.declared.tree.Function.TheVariants as OfFunction
+use Rattle.smv_text.specs.declared.operators.Prefix.{Prefix}
+use Rattle.smv_text.specs.declared.operators.Prefix.TheVariants as OfPrefix
+use Rattle.smv_text.specs.declared.operators.Infix.{Infix}
+use Rattle.smv_text.specs.declared.operators.Infix.TheVariants.{Equal, Unequal, Less, Greater, LessEq, GreaterEq, Member, Union, ShiftLeft, ShiftRight, Plus, Minus, Times, Divide, Mod, Concat}
+use Rattle.smv_text.specs.declared.operators.Function.{Function}
+use Rattle.smv_text.specs.declared.operators.Function.TheVariants as OfFunction
 use Rattle.smv_text.specs.declared.tree.Member.{Member as EnumMember}
 use Rattle.smv_text.specs.declared.tree.Member.TheVariants as OfMember
 use Rattle.smv_text.specs.Tree.{Tree, number, literal, prefix, Trees, no_trees, tree, PlainDomain, boolean, members, between, bits, instance}
@@ -121,41 +121,48 @@ logical_fits t u = (is_truth_type t && is_truth_type u) || widths_same t u
 abbrev pub number_fits : ExprType → ExprType → Bool
 number_fits t u = (is_integer_type t && is_integer_type u) || widths_same t u
 
--- the operands' types fit the operator; the last line is for comparisons by order and for sums, products and quotients
+-- the operands' types fit the operator; the last line is for logical operators
 abbrev pub infix_fits : Infix → ExprType → ExprType → Bool
-infix_fits Implies t u = logical_fits t u
-infix_fits Iff t u = logical_fits t u
-infix_fits Or t u = logical_fits t u
-infix_fits Xor t u = logical_fits t u
-infix_fits Xnor t u = logical_fits t u
-infix_fits And t u = logical_fits t u
 infix_fits Equal t u = type_same t u
 infix_fits Unequal t u = type_same t u
+infix_fits Less t u = number_fits t u
+infix_fits Greater t u = number_fits t u
+infix_fits LessEq t u = number_fits t u
+infix_fits GreaterEq t u = number_fits t u
 infix_fits Member t u = type_same t u
 infix_fits Union t u = type_same t u
 infix_fits ShiftLeft t u = is_word_type t
 infix_fits ShiftRight t u = is_word_type t
+infix_fits Plus t u = number_fits t u
+infix_fits Minus t u = number_fits t u
+infix_fits Times t u = number_fits t u
+infix_fits Divide t u = number_fits t u
+infix_fits Mod t u = number_fits t u
 infix_fits Concat t u = is_word_type t && is_word_type u
-infix_fits op t u = number_fits t u
+infix_fits op t u = logical_fits t u
 
--- the type of the whole, where the operands fit; the right operand's text is read for a divisor; the last line is
--- for logical operators and shifts
+-- the type of the whole, where the operands fit, given the number that the right one is where it is a divisor; the last line is for
+-- logical operators and shifts
+abbrev pub infix_type_by : Infix → ExprType → ExprType → Option ℤ → ExprType
+infix_type_by Equal t u d = truth_type
+infix_type_by Unequal t u d = truth_type
+infix_type_by Less t u d = truth_type
+infix_type_by Greater t u d = truth_type
+infix_type_by LessEq t u d = truth_type
+infix_type_by GreaterEq t u d = truth_type
+infix_type_by Member t u d = truth_type
+infix_type_by Union t u d = hull t u
+infix_type_by Plus t u d = over_both_ends (λ a b. a +ℤ b) t u
+infix_type_by Minus t u d = over_both_ends (λ a b. a -ℤ b) t u
+infix_type_by Times t u d = over_both_ends (λ a b. a *ℤ b) t u
+infix_type_by Divide t u d = quotient_type t d
+infix_type_by Mod t u d = rest_type t d
+infix_type_by Concat t u d = word_type (type_width t + type_width u)
+infix_type_by op t u d = t
+
+-- the same, where the right operand's text is read for a divisor
 abbrev pub infix_type : Infix → ExprType → ExprType → Tree → ExprType
-infix_type Equal t u e = truth_type
-infix_type Unequal t u e = truth_type
-infix_type Less t u e = truth_type
-infix_type Greater t u e = truth_type
-infix_type LessEq t u e = truth_type
-infix_type GreaterEq t u e = truth_type
-infix_type Member t u e = truth_type
-infix_type Union t u e = hull t u
-infix_type Plus t u e = over_both_ends (λ a b. a +ℤ b) t u
-infix_type Minus t u e = over_both_ends (λ a b. a -ℤ b) t u
-infix_type Times t u e = over_both_ends (λ a b. a *ℤ b) t u
-infix_type Divide t u e = quotient_type t (divisor_of e)
-infix_type Mod t u e = rest_type t (divisor_of e)
-infix_type Concat t u e = word_type (type_width t + type_width u)
-infix_type op t u e = t
+infix_type op t u e = infix_type_by op t u (divisor_of e)
 
 abbrev pub is_shift_amount : Option ℕ → ExprType → Bool
 is_shift_amount None t = false

@@ -5,7 +5,7 @@ use mathlib.Core.Logic.{inl}
 use Rattle.text_core.specs.declared.place.Place.{Place}
 use Rattle.word_core.specs.Words.{BitVector}
 use Rattle.smv_text.specs.declared.tree.Path.{Path}
-use Rattle.smv_text.specs.declared.tree.Infix.{Infix}
+use Rattle.smv_text.specs.declared.operators.Infix.{Infix}
 use Rattle.smv_text.specs.Tree.{Tree, truth, number, literal, name, prefix, chain, choice, cases, select, call, next, set, range, Links, no_links, link, Branches, no_branches, branch, Trees, no_trees, tree}
 use Rattle.smv_meaning.specs.Expressions.{is_from_right, paths_of, link_paths, branch_paths, tree_paths}
 use Rattle.smv_meaning.specs.Types.{ExprType, word_type, hull_of, first_type, prefix_type}

@@ -9,20 +9,19 @@ use Rattle.smv_text.specs.declared.token.Sign.TheVariants as sign
 use Rattle.smv_text.specs.declared.token.TokenKind.{TokenKind}
 use Rattle.smv_text.specs.declared.token.TokenKind.TheVariants as kind
 use Rattle.smv_text.specs.declared.tree.Path.{Path}
-use Rattle.smv_text.specs.declared.tree.Prefix.{Prefix}
-use Rattle.smv_text.specs.declared.tree.Infix.{Infix}
-use Rattle.smv_text.specs.declared.tree.Function.{Function}
+use Rattle.smv_text.specs.declared.operators.Prefix.{Prefix}
+use Rattle.smv_text.specs.declared.operators.Infix.{Infix}
+use Rattle.smv_text.specs.declared.operators.Function.{Function}
 use Rattle.smv_text.specs.declared.level.OperatorClass.{OperatorClass}
 use Rattle.smv_text.specs.declared.level.Level.{Level}
 use Rattle.smv_text.specs.declared.level.Level.TheVariants.{Chain, Range, Before, Selection}
 use Rattle.smv_text.specs.Lexing.{kinds}
-use Rattle.smv_text.specs.Levels.{all_levels, infix_of, prefix_kind, function_at}
-use Rattle.smv_text.specs.Operators.{class_of}
+use Rattle.smv_text.specs.Levels.{all_levels, infix_of, prefix_kind, function_at, class_of, infix_kind, function_word}
 use Rattle.smv_text.specs.laws.Operators.{class_is}
 use Rattle.smv_text.specs.Tree.{Tree, truth, number, literal, name, prefix, chain, choice, cases, select, call, next, set, range, Links, no_links, link, Branches, no_branches, branch, Trees, no_trees, tree}
 use Rattle.smv_text.specs.Grammar.{start, IsSign, Signs, no_signs, sign_then, SpellsInteger, unsigned, negative, SpellsSteps, no_steps, step, SpellsPath, from_name, from_itself, Spells, pass, chains, chooses, ranges, prefixes, selects, is_true, is_false, numbers, literals, names, brackets, nexts, calls, sets, switches, SpellsLinks, no_more, one_more, SpellsBranches, otherwise, picks, SpellsListed, last_one, one_before, SpellsCases, last_case, case_before}
 use Rattle.smv_print.specs.Ranks.{rank, tree_rank}
-use Rattle.smv_print.specs.Printing.{infix_kind, function_word, repeated, parted, ident, in_brackets, int_kinds, path_kinds, standing, tree_kinds, link_kinds, choice_kinds, case_kinds, argument_kinds}
+use Rattle.smv_print.specs.Printing.{repeated, parted, ident, in_brackets, int_kinds, path_kinds, standing, tree_kinds, link_kinds, choice_kinds, case_kinds, argument_kinds}
 use Rattle.smv_print.specs.Unplaced.{nowhere, unplaced_path, unplaced, unplaced_links, unplaced_branches, unplaced_trees, SpellsSame}
 use Rattle.smv_print.proofs.Parting.{headed, nothing}
 use Rattle.smv_print.proofs.Parting.{parted as cut}

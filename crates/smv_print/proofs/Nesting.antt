@@ -10,23 +10,22 @@ use Rattle.smv_text.specs.declared.token.Sign.TheVariants as sign
 use Rattle.smv_text.specs.declared.token.TokenKind.{TokenKind}
 use Rattle.smv_text.specs.declared.token.TokenKind.TheVariants as kind
 use Rattle.smv_text.specs.declared.tree.Path.{Path}
-use Rattle.smv_text.specs.declared.tree.Prefix.{Prefix}
-use Rattle.smv_text.specs.declared.tree.Prefix.TheVariants as pre_
-use Rattle.smv_text.specs.declared.tree.Infix.{Infix}
-use Rattle.smv_text.specs.declared.tree.Infix.TheVariants as op
-use Rattle.smv_text.specs.declared.tree.Function.{Function}
-use Rattle.smv_text.specs.declared.tree.Function.TheVariants as function
+use Rattle.smv_text.specs.declared.operators.Prefix.{Prefix}
+use Rattle.smv_text.specs.declared.operators.Prefix.TheVariants as pre_
+use Rattle.smv_text.specs.declared.operators.Infix.{Infix}
+use Rattle.smv_text.specs.declared.operators.Infix.TheVariants as op
+use Rattle.smv_text.specs.declared.operators.Function.{Function}
+use Rattle.smv_text.specs.declared.operators.Function.TheVariants as function
 use Rattle.smv_text.specs.declared.level.OperatorClass.{OperatorClass}
 use Rattle.smv_text.specs.declared.level.Level.{Level}
 use Rattle.smv_text.specs.declared.level.Level.TheVariants.{Chain, Choice, Range, Before, Selection}
 use Rattle.smv_text.specs.Lexing.{kinds, opened_by, most_brackets}
-use Rattle.smv_text.specs.Levels.{all_levels, infix_of, prefix_kind, function_at}
-use Rattle.smv_text.specs.Operators.{class_of, infix_at, of_class}
+use Rattle.smv_text.specs.Levels.{all_levels, infix_of, prefix_kind, function_at, class_of, infix_at, of_class, infix_kind, function_word}
 use Rattle.smv_text.specs.laws.Operators.{class_is, infix_is}
 use Rattle.smv_text.specs.Tree.{Tree, truth, number, literal, name, prefix, chain, choice, cases, select, call, next, set, range, Links, link, Branches, no_branches, branch, Trees, tree}
 use Rattle.smv_text.specs.Grammar.{Signs, no_signs, sign_then, SpellsInteger, unsigned, negative, SpellsSteps, no_steps, step, SpellsPath, from_name, from_itself, Spells, pass, chains, chooses, ranges, prefixes, selects, is_true, is_false, numbers, literals, names, brackets, nexts, calls, sets, switches, SpellsLinks, no_more, one_more, SpellsBranches, otherwise, picks, SpellsListed, last_one, one_before, SpellsCases, last_case, case_before}
 use Rattle.smv_print.specs.Ranks.{rank, tree_rank, tightest}
-use Rattle.smv_print.specs.Printing.{infix_kind, function_word, repeated, parted, ident, in_brackets, int_kinds, path_kinds, standing, tree_kinds, link_kinds, choice_kinds, case_kinds, argument_kinds}
+use Rattle.smv_print.specs.Printing.{repeated, parted, ident, in_brackets, int_kinds, path_kinds, standing, tree_kinds, link_kinds, choice_kinds, case_kinds, argument_kinds}
 use Rattle.smv_lex.specs.Printable.{IsPrintable, ArePrintable, CanBePrinted, CanAllBePrinted}
 
 -- how many brackets stand open behind tokens of these kinds
@@ -190,63 +189,15 @@ function_plain (kind.Sign s) f e m = cc
 
 pub printed_infix_plain : (o : Infix) (m : ℕ) → opened_by m (infix_kind o) ≡ m
 printed_infix_plain op.Implies m = refl
-printed_infix_plain op.Iff m = refl
-printed_infix_plain op.Or m = refl
-printed_infix_plain op.Xor m = refl
-printed_infix_plain op.Xnor m = refl
-printed_infix_plain op.And m = refl
-printed_infix_plain op.Equal m = refl
-printed_infix_plain op.Unequal m = refl
-printed_infix_plain op.Less m = refl
-printed_infix_plain op.Greater m = refl
-printed_infix_plain op.LessEq m = refl
-printed_infix_plain op.GreaterEq m = refl
-printed_infix_plain op.Member m = refl
-printed_infix_plain op.Union m = refl
-printed_infix_plain op.ShiftLeft m = refl
-printed_infix_plain op.ShiftRight m = refl
-printed_infix_plain op.Plus m = refl
-printed_infix_plain op.Minus m = refl
-printed_infix_plain op.Times m = refl
-printed_infix_plain op.Divide m = refl
-printed_infix_plain op.Mod m = refl
-printed_infix_plain op.Concat m = refl
+printed_infix_plain _ m = refl
 
 pub printed_infix_fits : (o : Infix) → IsPrintable (infix_kind o)
 printed_infix_fits op.Implies = tt
-printed_infix_fits op.Iff = tt
-printed_infix_fits op.Or = tt
-printed_infix_fits op.Xor = tt
-printed_infix_fits op.Xnor = tt
-printed_infix_fits op.And = tt
-printed_infix_fits op.Equal = tt
-printed_infix_fits op.Unequal = tt
-printed_infix_fits op.Less = tt
-printed_infix_fits op.Greater = tt
-printed_infix_fits op.LessEq = tt
-printed_infix_fits op.GreaterEq = tt
-printed_infix_fits op.Member = tt
-printed_infix_fits op.Union = tt
-printed_infix_fits op.ShiftLeft = tt
-printed_infix_fits op.ShiftRight = tt
-printed_infix_fits op.Plus = tt
-printed_infix_fits op.Minus = tt
-printed_infix_fits op.Times = tt
-printed_infix_fits op.Divide = tt
-printed_infix_fits op.Mod = tt
-printed_infix_fits op.Concat = tt
+printed_infix_fits _ = tt
 
 pub printed_function_plain : (f : Function) (m : ℕ) → opened_by m (kind.Reserved (function_word f)) ≡ m
 printed_function_plain function.Bool m = refl
-printed_function_plain function.Word1 m = refl
-printed_function_plain function.Toint m = refl
-printed_function_plain function.Uwconst m = refl
-printed_function_plain function.Extend m = refl
-printed_function_plain function.Resize m = refl
-printed_function_plain function.Count m = refl
-printed_function_plain function.Max m = refl
-printed_function_plain function.Min m = refl
-printed_function_plain function.Abs m = refl
+printed_function_plain _ m = refl
 
 -- the level at a place among all levels
 Ranked : ℕ → List Level → Type 0

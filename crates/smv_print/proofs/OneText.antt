@@ -10,12 +10,12 @@ use Rattle.smv_text.specs.declared.tree.When.{When}
 use Rattle.smv_text.specs.declared.tree.When.TheVariants.{Always, First, Following}
 use Rattle.smv_text.specs.declared.tree.Parameter.{Parameter}
 use Rattle.smv_text.specs.declared.level.Level.TheVariants.{Chain, Before}
-use Rattle.smv_text.specs.Levels.{prefix_kind}
+use Rattle.smv_text.specs.Levels.{prefix_kind, infix_kind, function_word}
 use Rattle.smv_text.specs.Tree.{Tree, truth, number, literal, name, prefix, chain, choice, cases, select, call, next, set, range, Links, no_links, link, Branches, no_branches, branch, Trees, no_trees, tree, PlainDomain, boolean, members, between, bits, instance, PlainItem, PlainDefinition, PlainAssignment, PlainElement, vars, defines, constants, assigns, init, trans, invar, spec, PlainModule, PlainSource}
 use Rattle.smv_text.specs.Sources.{section_word}
 use Rattle.smv_print.specs.Ranks.{rank, chain_class, tree_rank}
 use Rattle.smv_lex.specs.Spelling.{joined}
-use Rattle.smv_print.specs.Printing.{function_word, infix_kind, wanted, repeated, parted, ident, in_brackets, path_kinds, standing, tree_kinds, link_kinds, choice_kinds, case_kinds, argument_kinds, actual_kinds, domain_kinds, item_kinds, body_kinds, definition_kinds, target_kinds, assignment_kinds, spec_name_kinds, formula_kinds, element_kinds, parameter_name, parameter_kinds, module_kinds, printed}
+use Rattle.smv_print.specs.Printing.{wanted, repeated, parted, ident, in_brackets, path_kinds, standing, tree_kinds, link_kinds, choice_kinds, case_kinds, argument_kinds, actual_kinds, domain_kinds, item_kinds, body_kinds, definition_kinds, target_kinds, assignment_kinds, spec_name_kinds, formula_kinds, element_kinds, parameter_name, parameter_kinds, module_kinds, printed}
 use Rattle.smv_print.specs.Unplaced.{unplaced_path, unplaced, unplaced_links, unplaced_branches, unplaced_trees, unplaced_domain, unplaced_item, unplaced_definition, unplaced_assignment, unplaced_element, unplaced_parameter, unplaced_module, unplaced_source}
 
 class_same : (ls : Links) → chain_class (unplaced_links ls) ≡ chain_class ls

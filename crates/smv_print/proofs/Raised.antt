@@ -3,23 +3,21 @@ use Rattle.std.proofs.Common.{◌≡◌, ◌≤◌, ℕ, zero, suc, Some, List, 
 use Rattle.smv_text.specs.declared.token.Token.{Token}
 use Rattle.smv_text.specs.declared.token.TokenKind.{TokenKind}
 use Rattle.smv_text.specs.declared.token.TokenKind.TheVariants as kind
-use Rattle.smv_text.specs.declared.tree.Infix.{Infix}
-use Rattle.smv_text.specs.declared.tree.Infix.TheVariants as op
-use Rattle.smv_text.specs.declared.tree.Prefix.TheVariants as prefixes
-use Rattle.smv_text.specs.declared.tree.Function.{Function}
-use Rattle.smv_text.specs.declared.tree.Function.TheVariants as function
+use Rattle.smv_text.specs.declared.operators.Infix.{Infix}
+use Rattle.smv_text.specs.declared.operators.Infix.TheVariants as op
+use Rattle.smv_text.specs.declared.operators.Prefix.TheVariants as prefixes
+use Rattle.smv_text.specs.declared.operators.Function.{Function}
+use Rattle.smv_text.specs.declared.operators.Function.TheVariants as function
 use Rattle.smv_text.specs.declared.level.OperatorClass.{OperatorClass}
 use Rattle.smv_text.specs.declared.level.OperatorClass.TheVariants as classes
 use Rattle.smv_text.specs.declared.level.Level.{Level}
 use Rattle.smv_text.specs.declared.level.Level.TheVariants.{Chain, Choice, Range, Before, Selection}
-use Rattle.smv_text.specs.Levels.{all_levels, infix_of, function_at}
-use Rattle.smv_text.specs.Operators.{class_of}
+use Rattle.smv_text.specs.Levels.{all_levels, infix_of, function_at, class_of, infix_kind, function_word}
 use Rattle.smv_text.specs.laws.Operators.{class_is}
 use Rattle.text_core.specs.declared.place.Place.{Place}
 use Rattle.smv_text.specs.Tree.{Tree, chain, Links, link}
 use Rattle.smv_text.specs.Grammar.{Spells, pass}
 use Rattle.smv_print.specs.Ranks.{rank, tree_rank}
-use Rattle.smv_print.specs.Printing.{infix_kind, function_word}
 
 pub from_below : {t : Tree} {xs : List Token} (ls : List Level) → Spells [] t xs → Spells ls t xs
 from_below [] s = s
@@ -38,16 +36,7 @@ raised (suc n) (suc m) (l ∷ ls) h s = raised n m ls (omega arith) s
 
 pub level_first : (l : Level) → drop (rank l) all_levels ≡ l ∷ drop (suc (rank l)) all_levels
 level_first (Chain classes.Implications) = refl
-level_first (Chain classes.Equivalences) = refl
-level_first (Chain classes.Disjunctions) = refl
-level_first (Chain classes.Conjunctions) = refl
-level_first (Chain classes.Comparisons) = refl
-level_first (Chain classes.Memberships) = refl
-level_first (Chain classes.Unions) = refl
-level_first (Chain classes.Shifts) = refl
-level_first (Chain classes.Sums) = refl
-level_first (Chain classes.Products) = refl
-level_first (Chain classes.Concatenations) = refl
+level_first (Chain _) = refl
 level_first Choice = refl
 level_first Range = refl
 level_first (Before prefixes.Minus) = refl
@@ -57,39 +46,11 @@ level_first Selection = refl
 -- the token of an operator is that operator
 pub infix_again : (o : Infix) → infix_of (class_of o) (infix_kind o) ≡ Some o
 infix_again op.Implies = refl
-infix_again op.Iff = refl
-infix_again op.Or = refl
-infix_again op.Xor = refl
-infix_again op.Xnor = refl
-infix_again op.And = refl
-infix_again op.Equal = refl
-infix_again op.Unequal = refl
-infix_again op.Less = refl
-infix_again op.Greater = refl
-infix_again op.LessEq = refl
-infix_again op.GreaterEq = refl
-infix_again op.Member = refl
-infix_again op.Union = refl
-infix_again op.ShiftLeft = refl
-infix_again op.ShiftRight = refl
-infix_again op.Plus = refl
-infix_again op.Minus = refl
-infix_again op.Times = refl
-infix_again op.Divide = refl
-infix_again op.Mod = refl
-infix_again op.Concat = refl
+infix_again _ = refl
 
 pub function_again : (f : Function) → function_at (kind.Reserved (function_word f)) ≡ Some f
 function_again function.Bool = refl
-function_again function.Word1 = refl
-function_again function.Toint = refl
-function_again function.Uwconst = refl
-function_again function.Extend = refl
-function_again function.Resize = refl
-function_again function.Count = refl
-function_again function.Max = refl
-function_again function.Min = refl
-function_again function.Abs = refl
+function_again _ = refl
 
 -- A chain has the rank of the class of its operators.
 pub chain_rank : (c : OperatorClass) (k : TokenKind) (o : Infix) (p : Place) (t u : Tree) (ls : Links) → infix_of c k ≡ Some o → tree_rank (chain p t (link o u ls)) ≡ rank (Chain c)

@@ -9,59 +9,17 @@ use Rattle.smv_text.specs.declared.token.Sign.TheVariants as sign
 use Rattle.smv_text.specs.declared.token.TokenKind.{TokenKind}
 use Rattle.smv_text.specs.declared.token.TokenKind.TheVariants as kind
 use Rattle.smv_text.specs.declared.tree.Path.{Path}
-use Rattle.smv_text.specs.declared.tree.Infix.{Infix}
-use Rattle.smv_text.specs.declared.tree.Infix.TheVariants as op
-use Rattle.smv_text.specs.declared.tree.Function.{Function}
-use Rattle.smv_text.specs.declared.tree.Function.TheVariants as function
 use Rattle.smv_text.specs.declared.tree.Member.{Member}
 use Rattle.smv_text.specs.declared.tree.Member.TheVariants.{Symbol, Integer}
 use Rattle.smv_text.specs.declared.tree.When.{When}
 use Rattle.smv_text.specs.declared.tree.When.TheVariants.{Always, First, Following}
 use Rattle.smv_text.specs.declared.tree.Parameter.{Parameter}
 use Rattle.smv_text.specs.declared.level.Level.TheVariants as level
-use Rattle.smv_text.specs.Levels.{prefix_kind}
+use Rattle.smv_text.specs.Levels.{infix_kind, prefix_kind, function_word}
 use Rattle.smv_print.specs.Ranks.{rank, chain_class, tree_rank}
 use Rattle.smv_text.specs.Sources.{section_word}
 use Rattle.smv_lex.specs.Spelling.{joined}
 use Rattle.smv_text.specs.Tree.{Tree, truth, number, literal, name, prefix, chain, choice, cases, select, call, next, set, range, Links, no_links, link, Branches, no_branches, branch, Trees, no_trees, tree, PlainDomain, boolean, members, between, bits, instance, PlainItem, PlainDefinition, PlainAssignment, PlainElement, vars, defines, constants, assigns, init, trans, invar, spec, PlainModule, PlainSource}
-
--- the token of an operator
-abbrev pub infix_kind : Infix → TokenKind
-infix_kind op.Implies = kind.Sign sign.Implies
-infix_kind op.Iff = kind.Sign sign.Iff
-infix_kind op.Or = kind.Sign sign.Or
-infix_kind op.Xor = kind.Reserved word.Xor
-infix_kind op.Xnor = kind.Reserved word.Xnor
-infix_kind op.And = kind.Sign sign.And
-infix_kind op.Equal = kind.Sign sign.Equal
-infix_kind op.Unequal = kind.Sign sign.Unequal
-infix_kind op.Less = kind.Sign sign.Less
-infix_kind op.Greater = kind.Sign sign.Greater
-infix_kind op.LessEq = kind.Sign sign.LessEqual
-infix_kind op.GreaterEq = kind.Sign sign.GreaterEqual
-infix_kind op.Member = kind.Reserved word.In
-infix_kind op.Union = kind.Reserved word.Union
-infix_kind op.ShiftLeft = kind.Sign sign.ShiftLeft
-infix_kind op.ShiftRight = kind.Sign sign.ShiftRight
-infix_kind op.Plus = kind.Sign sign.Plus
-infix_kind op.Minus = kind.Sign sign.Minus
-infix_kind op.Times = kind.Sign sign.Times
-infix_kind op.Divide = kind.Sign sign.Divide
-infix_kind op.Mod = kind.Reserved word.Mod
-infix_kind op.Concat = kind.Sign sign.Concat
-
--- the word of a function
-abbrev pub function_word : Function → Reserved
-function_word function.Bool = word.Bool
-function_word function.Word1 = word.Word1
-function_word function.Toint = word.Toint
-function_word function.Uwconst = word.Uwconst
-function_word function.Extend = word.Extend
-function_word function.Resize = word.Resize
-function_word function.Count = word.Count
-function_word function.Max = word.Max
-function_word function.Min = word.Min
-function_word function.Abs = word.Abs
 
 -- a sign, where one is wanted
 abbrev pub wanted : Bool → Sign → List TokenKind

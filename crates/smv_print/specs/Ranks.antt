@@ -1,11 +1,11 @@
 -- The place of each level among all levels, and of an expression's own level.
 use Rattle.std.specs.Prelude.{ℕ}
-use Rattle.smv_text.specs.declared.tree.Prefix.TheVariants as prefixes
+use Rattle.smv_text.specs.declared.operators.Prefix.TheVariants as prefixes
 use Rattle.smv_text.specs.declared.level.OperatorClass.{OperatorClass}
 use Rattle.smv_text.specs.declared.level.OperatorClass.TheVariants as classes
 use Rattle.smv_text.specs.declared.level.Level.{Level}
 use Rattle.smv_text.specs.declared.level.Level.TheVariants.{Chain, Choice, Range, Before, Selection}
-use Rattle.smv_text.specs.Operators.{class_of}
+use Rattle.smv_text.specs.Levels.{class_of}
 use Rattle.smv_text.specs.Tree.{Tree, prefix, chain, choice, select, range, Links, no_links, link}
 
 -- the place among all levels, from the loosest at 0

@@ -5,4 +5,3 @@ mod printing;
 mod spelling;
 
 pub use printing::{print, printed_is_read, printed_spells, ranks_are_levels};
-pub use spelling::{sign_bytes, word_bytes};

@@ -3,8 +3,7 @@ ghost use Rattle.std.specs.Prelude.{◌≡◌, ◌++◌, ℕ, List, [], ◌∷�
 ghost use Rattle.std.specs.List.{flat_map};
 ghost use Rattle.smv_text.specs.Tree.{Tree, chain, Links, link, PlainSource, trees_of, links_of, branches_of};
 ghost use Rattle.smv_text.specs.View.{plain, plain_link, plain_branch, plain_domain, plain_item, plain_definition, plain_assignment, plain_element, plain_module, plain_source};
-ghost use Rattle.smv_text.specs.Levels.{all_levels, infix_of, prefix_kind};
-ghost use Rattle.smv_text.specs.Operators.{class_of};
+ghost use Rattle.smv_text.specs.Levels.{all_levels, infix_of, prefix_kind, class_of, infix_kind};
 ghost use Rattle.smv_print.specs.Ranks.{rank, chain_class, tree_rank};
 ghost use Rattle.smv_text.specs.Sources.{section_word, SpellsSource};
 ghost use Rattle.smv_text.specs.Lexing.{kinds, Lexes};
@@ -12,24 +11,24 @@ ghost use Rattle.smv_text.specs.Grammar.{Spells};
 ghost use Rattle.smv_print.specs.Unplaced.{unplaced_source, SpellsSame, SpellsSameSource, IsReadAgain};
 ghost use Rattle.smv_text.specs.declared.token.Token.{Token};
 ghost use Rattle.smv_text.specs.declared.token.TokenKind.{TokenKind};
-ghost use Rattle.smv_text.specs.declared.tree.Infix.{Infix};
+ghost use Rattle.smv_text.specs.declared.operators.Infix.{Infix};
 ghost use Rattle.smv_text.specs.declared.level.OperatorClass.{OperatorClass};
 ghost use Rattle.smv_text.specs.declared.level.Level.{Level};
 ghost use Rattle.text_core.specs.declared.place.Place.{Place};
 ghost use Rattle.smv_lex.specs.Spelling.{spaced, written};
-ghost use Rattle.smv_print.specs.Printing.{infix_kind, repeated, parted, ident, path_kinds, standing, tree_kinds, link_kinds, choice_kinds, case_kinds, argument_kinds, in_brackets};
+ghost use Rattle.smv_print.specs.Printing.{repeated, parted, ident, path_kinds, standing, tree_kinds, link_kinds, choice_kinds, case_kinds, argument_kinds, in_brackets};
 ghost use Rattle.smv_print.specs.Printing.{member_kinds, actual_kinds, domain_kinds, item_kinds, body_kinds, definition_kinds};
 ghost use Rattle.smv_print.specs.Printing.{target_kinds, assignment_kinds, spec_name_kinds, formula_kinds, element_kinds, parameter_name, parameter_kinds, rest_kinds, module_kinds, source_kinds, printed};
 
 use crate::spelling::{
-    put_first, put_function, put_ident, put_infix, put_int, put_literal, put_number, put_prefixes,
-    put_range, put_sign, put_wanted, put_word,
+    put_first, put_ident, put_infix, put_int, put_literal, put_number, put_prefixes, put_range,
+    put_sign, put_wanted, put_word,
 };
 use smv_lex::printed_is_lexed;
 use smv_text::{
     Assignment, Assignments, Branch, Definition, Definitions, Domain, Element, Elements, Expr,
-    Infix, Item, Items, Level, Link, Member, Members, Module, OperatorClass, Parameters, Path,
-    Prefix, Reserved, Shape, Sign, Source, TokenKind, VarKind, When,
+    Item, Items, Level, Link, Member, Members, Module, OperatorClass, Parameters, Path, Prefix,
+    Reserved, Shape, Sign, Source, TokenKind, VarKind, When, class_of, function_word,
 };
 use std::alloc::Global;
 use text_core::{Name, Names, NoMemory, Text};
@@ -90,29 +89,6 @@ fn class_rank(class: OperatorClass) -> u8
         OperatorClass::Sums => 10,
         OperatorClass::Products => 11,
         OperatorClass::Concatenations => 13,
-    }
-}
-
-fn class_of(op: Infix) -> OperatorClass
-    ensures { result ≡ class_of op }
-{
-    match op {
-        Infix::Implies => OperatorClass::Implications,
-        Infix::Iff => OperatorClass::Equivalences,
-        Infix::Or | Infix::Xor | Infix::Xnor => OperatorClass::Disjunctions,
-        Infix::And => OperatorClass::Conjunctions,
-        Infix::Equal
-        | Infix::Unequal
-        | Infix::Less
-        | Infix::Greater
-        | Infix::LessEq
-        | Infix::GreaterEq => OperatorClass::Comparisons,
-        Infix::Member => OperatorClass::Memberships,
-        Infix::Union => OperatorClass::Unions,
-        Infix::ShiftLeft | Infix::ShiftRight => OperatorClass::Shifts,
-        Infix::Plus | Infix::Minus => OperatorClass::Sums,
-        Infix::Times | Infix::Divide | Infix::Mod => OperatorClass::Products,
-        Infix::Concat => OperatorClass::Concatenations,
     }
 }
 
@@ -180,7 +156,7 @@ fn put_expr(out: &mut Text, expr: &Expr) -> Result<(), NoMemory>
             put_ends(out, *high, *low)
         }
         Shape::Call(function, arguments) => {
-            put_function(out, *function)?;
+            put_word(out, function_word(*function))?;
             put_enclosed(out, Sign::Open, arguments, Sign::Close)
         }
         Shape::Next(operand) => put_next(out, operand),

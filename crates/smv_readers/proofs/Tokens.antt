@@ -1,6 +1,5 @@
 -- Signs, words, names and numbers as readers.
-use Rattle.std.proofs.Common.{◌≡◌, ℕ, Bool, true, false, Some, List, [], ◌∷◌, ◌++◌, get_or, refl, sym, ap, ◌∙◌}
-use Rattle.std.proofs.lemmas.Bool.{eqb-true}
+use Rattle.std.proofs.Common.{◌≡◌, ℕ, Bool, true, false, Some, List, [], ◌∷◌, ◌++◌, refl, ap, ◌∙◌}
 use Rattle.text_core.specs.declared.place.Place.{Place}
 use Rattle.smv_text.specs.declared.token.Reserved.{Reserved}
 use Rattle.smv_text.specs.declared.token.Reserved.TheVariants as words
@@ -10,32 +9,13 @@ use Rattle.smv_text.specs.declared.token.TokenKind.{TokenKind}
 use Rattle.smv_text.specs.declared.token.TokenKind.TheVariants as kind
 use Rattle.smv_text.specs.declared.token.Token.{Token}
 use Rattle.smv_text.specs.Tree.{Tree}
-use Rattle.smv_grammar.specs.Marks.{is_sign, is_word, sign_number, word_number}
+use Rattle.smv_grammar.specs.Marks.{is_sign, is_word}
+use Rattle.smv_grammar.proofs.Signs as marks
 use Rattle.smv_readers.specs.Readers.{Reader, mapped}
 use Rattle.smv_readers.specs.Rules.{mark, sign, word, name, number, name_of, number_of}
 use Rattle.smv_readers.proofs.Lawful.{Lawful}
 use Rattle.smv_readers.proofs.Choices.{Free, of_none, One, lawful_one}
 use Rattle.smv_readers.proofs.Mapped.{lawful_mapped}
-
-abbrev all_signs : List Sign
-all_signs =
-    signs.Open ∷ signs.Close ∷ signs.OpenBrace ∷ signs.CloseBrace ∷ signs.OpenBracket ∷ signs.CloseBracket ∷ signs.Comma ∷ signs.Semicolon ∷ signs.Colon ∷ signs.Dot ∷ signs.Range
-    ∷ signs.Assign ∷ signs.Equal ∷ signs.Unequal ∷ signs.Less ∷ signs.Greater ∷ signs.LessEqual ∷ signs.GreaterEqual ∷ signs.Not ∷ signs.And ∷ signs.Or ∷ signs.Plus ∷ signs.Minus
-    ∷ signs.Times ∷ signs.Divide ∷ signs.ShiftLeft ∷ signs.ShiftRight ∷ signs.Concat ∷ signs.Question ∷ signs.Implies ∷ signs.Iff ∷ []
-
-numbered_sign : (s : Sign) → get_or all_signs (sign_number s) signs.Open ≡ s
-numbered_sign signs.Open = refl
-numbered_sign _ = refl
-
-abbrev all_words : List Reserved
-all_words =
-    words.Module ∷ words.Var ∷ words.Ivar ∷ words.Frozenvar ∷ words.Define ∷ words.Constants ∷ words.Assign ∷ words.Init ∷ words.Trans ∷ words.Invar ∷ words.Invarspec ∷ words.Name
-    ∷ words.True ∷ words.False ∷ words.Boolean ∷ words.Word ∷ words.Unsigned ∷ words.Case ∷ words.Esac ∷ words.Next ∷ words.Initial ∷ words.Itself ∷ words.Mod ∷ words.Union ∷ words.In
-    ∷ words.Xor ∷ words.Xnor ∷ words.Bool ∷ words.Word1 ∷ words.Toint ∷ words.Uwconst ∷ words.Extend ∷ words.Resize ∷ words.Count ∷ words.Max ∷ words.Min ∷ words.Abs ∷ []
-
-numbered_word : (w : Reserved) → get_or all_words (word_number w) words.Module ≡ w
-numbered_word words.Module = refl
-numbered_word _ = refl
 
 pub sign_itself : (s : Sign) → is_sign s (kind.Sign s) ≡ true
 sign_itself signs.Open = refl
@@ -46,12 +26,10 @@ word_itself words.Module = refl
 word_itself _ = refl
 
 pub sign_is : (s : Sign) (k : TokenKind) → is_sign s k ≡ true → k ≡ kind.Sign s
-sign_is s (kind.Sign o) e = ap kind.Sign (sym (numbered_sign o) ∙ ap (λ n. get_or all_signs n signs.Open) (eqb-true (sign_number o) (sign_number s) e) ∙ numbered_sign s)
-sign_is s _ e = cc
+sign_is s k e = marks.sign_is k s e
 
 pub word_is : (w : Reserved) (k : TokenKind) → is_word w k ≡ true → k ≡ kind.Reserved w
-word_is w (kind.Reserved o) e = ap kind.Reserved (sym (numbered_word o) ∙ ap (λ n. get_or all_words n words.Module) (eqb-true (word_number o) (word_number w) e) ∙ numbered_word w)
-word_is w _ e = cc
+word_is w k e = marks.word_is k w e
 
 pub name_is : (k : TokenKind) (n : List ℕ) → name_of k ≡ Some n → k ≡ kind.Ident n
 name_is (kind.Ident m) n e = let f : m ≡ n = cc in ap kind.Ident f

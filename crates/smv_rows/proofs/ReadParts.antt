@@ -1,7 +1,7 @@
 -- The items that an expression's parts read.
 use Rattle.std.proofs.Common.{◌≡◌, ℕ, Bool, ◌&&◌, List, [], ◌∷◌, map, option_map, refl, sym, ap, ◌∙◌, rules, Vec, Box, Global}
 use Rattle.std.specs.List.{list_all}
-use Rattle.smv_text.specs.declared.tree.Function.{Function}
+use Rattle.smv_text.specs.declared.operators.Function.{Function}
 use Rattle.smv_intervals.specs.View.{seen}
 use Rattle.smv_flat.specs.declared.expressions.FlatExpr.{FlatExpr, the_lemmas as expr_lemmas}
 use Rattle.smv_flat.specs.declared.expressions.FlatShape.{Chain, Choice, Case, Call, Set, the_lemmas as shape_lemmas}

@@ -4,12 +4,12 @@ use Rattle.std.specs.Prelude.{ℕ, zero, suc, ◌+◌, ◌-◌, ◌==◌, nat_lt
 use Rattle.word_core.specs.declared.kinds.Unary.TheVariants as OnWord
 use Rattle.word_core.specs.declared.kinds.Binary.{Binary}
 use Rattle.word_core.specs.declared.kinds.Binary.TheVariants as OnWords
-use Rattle.smv_text.specs.declared.tree.Prefix.{Prefix}
-use Rattle.smv_text.specs.declared.tree.Prefix.TheVariants as OfPrefix
-use Rattle.smv_text.specs.declared.tree.Infix.{Infix}
-use Rattle.smv_text.specs.declared.tree.Infix.TheVariants.{Implies, Iff, Or, Xor, Xnor, And, Equal, Unequal, Less, Greater, LessEq, GreaterEq, Member, Union, ShiftLeft, ShiftRight, Plus, Minus, Times, Divide, Mod, Concat}
-use Rattle.smv_text.specs.declared.tree.Function.{Function}
-use Rattle.smv_text.specs.declared.tree.Function.TheVariants as OfFunction
+use Rattle.smv_text.specs.declared.operators.Prefix.{Prefix}
+use Rattle.smv_text.specs.declared.operators.Prefix.TheVariants as OfPrefix
+use Rattle.smv_text.specs.declared.operators.Infix.{Infix}
+use Rattle.smv_text.specs.declared.operators.Infix.TheVariants.{Implies, Iff, Or, Xor, Xnor, And, Equal, Unequal, Less, Greater, LessEq, GreaterEq, Member, Union, ShiftLeft, ShiftRight, Plus, Minus, Times, Divide, Mod, Concat}
+use Rattle.smv_text.specs.declared.operators.Function.{Function}
+use Rattle.smv_text.specs.declared.operators.Function.TheVariants as OfFunction
 use Rattle.smv_meaning.specs.Operators.{word}
 use Rattle.moxi_terms.specs.declared.data.Datum.TheVariants as datum
 use Rattle.moxi_terms.specs.declared.data.TermOp.{TermOp}
@@ -75,14 +75,26 @@ logical_op words o b = if words then op.BvBinary b else o
 abbrev pub signed_op : Bool → Binary → Binary → TermOp
 signed_op words o b = op.BvBinary (if words then b else o)
 
--- the operators of which a chain of one sign is one application
-abbrev pub joint_op : Infix → Bool → TermOp
-joint_op And words = logical_op words op.And OnWords.And
-joint_op Or words = logical_op words op.Or OnWords.Or
-joint_op Xor words = logical_op words op.Xor OnWords.Xor
-joint_op Plus words = op.BvBinary OnWords.Add
-joint_op Times words = op.BvBinary OnWords.Mul
-joint_op o words = op.And
+-- the operator of one application to both operands, and of a chain of one sign that is one application; the last line is for those
+-- that are no single application
+abbrev pub infix_op : Infix → Bool → TermOp
+infix_op And words = logical_op words op.And OnWords.And
+infix_op Or words = logical_op words op.Or OnWords.Or
+infix_op Xor words = logical_op words op.Xor OnWords.Xor
+infix_op Equal words = op.Equal
+infix_op Less words = signed_op words OnWords.Slt OnWords.Ult
+infix_op Greater words = signed_op words OnWords.Sgt OnWords.Ugt
+infix_op LessEq words = signed_op words OnWords.Slte OnWords.Ulte
+infix_op GreaterEq words = signed_op words OnWords.Sgte OnWords.Ugte
+infix_op Plus words = op.BvBinary OnWords.Add
+infix_op Minus words = op.BvBinary OnWords.Sub
+infix_op Times words = op.BvBinary OnWords.Mul
+infix_op Divide words = signed_op words OnWords.Sdiv OnWords.Udiv
+infix_op Mod words = signed_op words OnWords.Srem OnWords.Urem
+infix_op Concat words = op.Concat
+infix_op ShiftLeft words = op.BvBinary OnWords.Sll
+infix_op ShiftRight words = op.BvBinary OnWords.Srl
+infix_op o words = op.And
 
 abbrev pub joins_with : Infix → Infix → Bool
 joins_with And And = true
@@ -92,26 +104,16 @@ joins_with Plus Plus = true
 joins_with Times Times = true
 joins_with o p = false
 
--- given whether the operands are words
+-- An operator between two terms, given whether the operands are words; the last line is for those that are one application. `in` and
+-- `union` stand for nothing here.
 abbrev pub infix_term : Infix → Bool → Tree → Tree → Tree
 infix_term Implies words a b = if words then words_term OnWords.Or (apply (op.BvUnary OnWord.Not) (one a)) b else apply op.Implies (two a b)
 infix_term Iff words a b = if words then apply (op.BvUnary OnWord.Not) (one (words_term OnWords.Xor a b)) else equal_term a b
 infix_term Xnor words a b = if words then apply (op.BvUnary OnWord.Not) (one (words_term OnWords.Xor a b)) else not_term (apply op.Xor (two a b))
-infix_term Equal words a b = equal_term a b
 infix_term Unequal words a b = not_term (equal_term a b)
-infix_term Less words a b = apply (signed_op words OnWords.Slt OnWords.Ult) (two a b)
-infix_term Greater words a b = apply (signed_op words OnWords.Sgt OnWords.Ugt) (two a b)
-infix_term LessEq words a b = apply (signed_op words OnWords.Slte OnWords.Ulte) (two a b)
-infix_term GreaterEq words a b = apply (signed_op words OnWords.Sgte OnWords.Ugte) (two a b)
-infix_term Minus words a b = words_term OnWords.Sub a b
-infix_term Divide words a b = apply (signed_op words OnWords.Sdiv OnWords.Udiv) (two a b)
-infix_term Mod words a b = apply (signed_op words OnWords.Srem OnWords.Urem) (two a b)
-infix_term Concat words a b = apply op.Concat (two a b)
 infix_term Member words a b = constant nothing
 infix_term Union words a b = constant nothing
-infix_term ShiftLeft words a b = words_term OnWords.Sll a b
-infix_term ShiftRight words a b = words_term OnWords.Srl a b
-infix_term o words a b = apply (joint_op o words) (two a b)
+infix_term o words a b = apply (infix_op o words) (two a b)
 
 -- the width of a word that ends with an operand, given those of what stands before and of the operand
 abbrev pub front_width : Infix → ℕ → ℕ → ℕ

@@ -1,8 +1,8 @@
 -- The terms of MoXI that stand for flat expressions (MoXI, SPIN 2024; SMT-LIB 2.6, section 3.6). Which stand for which is this
 -- translator's own.
 use Rattle.std.specs.Prelude.{ℕ, Bool, true, false, ◌&&◌, if◌then◌else◌, pos, Option, Some, None}
-use Rattle.smv_text.specs.declared.tree.Infix.{Infix}
-use Rattle.smv_text.specs.declared.tree.Infix.TheVariants.{Implies}
+use Rattle.smv_text.specs.declared.operators.Infix.{Infix}
+use Rattle.smv_text.specs.declared.operators.Infix.TheVariants.{Implies}
 use Rattle.smv_meaning.specs.Expressions.{is_implies}
 use Rattle.smv_meaning.specs.Types.{ExprType, is_word_type, is_union, type_width}
 use Rattle.smv_flat.specs.FlatTree.{FlatTree, flat_truth, flat_number, flat_literal, flat_symbol, flat_item, flat_prefix, flat_chain, flat_choice, flat_cases, flat_select, flat_call, flat_set, flat_range, FlatLinks, no_flat_links, flat_link, FlatBranches, no_flat_branches, flat_branch, FlatTrees, no_flat_trees, flat_tree_then, flat_are_implies, flat_is_last}
@@ -11,7 +11,7 @@ use Rattle.moxi_terms.specs.declared.data.Datum.TheVariants as datum
 use Rattle.moxi_terms.specs.Operators.{nothing}
 use Rattle.moxi_terms.specs.Tree.{Tree, constant, variable, apply, Trees, no_trees, tree}
 use Rattle.smv_script.specs.Codes.{number_or_zero}
-use Rattle.smv_script.specs.Operators.{integer_term, equal_term, choice_term, any_term, sign_op, repeated, joint_op, joins_with, infix_term, front_width, link_term, selected_term, Arguments, function_term, between_term, among_term}
+use Rattle.smv_script.specs.Operators.{integer_term, equal_term, choice_term, any_term, sign_op, repeated, infix_op, joins_with, infix_term, front_width, link_term, selected_term, Arguments, function_term, between_term, among_term}
 
 -- ---- operands
 
@@ -103,7 +103,7 @@ abbrev mutual
   chain_translation c named m d (flat_link o e ls) =
       if is_union o && are_flat_unions ls then set_translation (λ k x. any_term (tree (d.member k x) (tree ((translation c e).member k x) (link_members c k x ls))))
       else (if is_implies o && flat_are_implies ls then value_translation (λ k. infix_term Implies (is_word e) (d.term k) (implied_term c k ((translation c e).term k) ls))
-      else (if joins_with o o && all_join_with o ls then value_translation (λ k. apply (joint_op o (is_word e)) (tree (d.term k) (tree ((translation c e).term k) (link_terms c k ls))))
+      else (if joins_with o o && all_join_with o ls then value_translation (λ k. apply (infix_op o (is_word e)) (tree (d.term k) (tree ((translation c e).term k) (link_terms c k ls))))
       else value_translation (λ k. folded_term c k (front_width o m (word_width e))
       (link_term o (is_word e) m (amount_of e) (d.term k) ((translation c e).term k) (among_term named k (d.term k) (translation c e).member)) ls)))
 

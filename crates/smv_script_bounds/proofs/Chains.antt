@@ -4,11 +4,11 @@ use Rattle.std.specs.List.{list_all}
 use mathlib.Core.Logic.{⊎_elim}
 use Rattle.text_core.specs.declared.place.Place.{Place}
 use Rattle.smv_text.specs.declared.tree.Path.{Path}
-use Rattle.smv_text.specs.declared.tree.Infix.{Infix}
-use Rattle.smv_text.specs.declared.tree.Infix.TheVariants.{Implies}
+use Rattle.smv_text.specs.declared.operators.Infix.{Infix}
+use Rattle.smv_text.specs.declared.operators.Infix.TheVariants.{Implies}
 use Rattle.smv_text.specs.declared.level.OperatorClass.{OperatorClass}
 use Rattle.smv_text.specs.declared.level.OperatorClass.TheVariants.{Implications}
-use Rattle.smv_text.specs.Operators.{class_of}
+use Rattle.smv_text.specs.Levels.{class_of}
 use Rattle.smv_text.specs.Tree.{Tree as Expression, chain, Links, no_links, link, Branches, no_branches, branch, Trees as Expressions, no_trees as no_expressions, tree as expression}
 use Rattle.smv_text.specs.Heights.{height, link_heights, branch_heights, heights, joined_number, is_joined, highest, folded, folded_right, chain_height, branches_height}
 use Rattle.smv_meaning.specs.Expressions.{is_implies}
@@ -19,11 +19,11 @@ use Rattle.smv_items.specs.FlatItems.{Leaf}
 use Rattle.smv_flat.specs.FlatTree.{FlatTree, flat_truth, flat_number, flat_literal, flat_symbol, flat_item, flat_prefix, flat_chain, flat_choice, flat_cases, flat_select, flat_call, flat_set, flat_range, flat_tree, flat_links, flat_branches, flat_trees, flat_are_implies}
 use Rattle.moxi_terms.specs.Operators.{nothing}
 use Rattle.moxi_terms.specs.Tree.{Tree, constant, tree}
-use Rattle.smv_script.specs.Operators.{joint_op, joins_with, front_width, among_term}
+use Rattle.smv_script.specs.Operators.{infix_op, joins_with, front_width, among_term}
 use Rattle.smv_script.specs.Terms.{is_word, word_width, is_name, amount_of, Translation, value_translation, set_translation, choice_translation, are_flat_unions, all_join_with, Coding, translation, implied_term, folded_term, link_terms, link_members, chosen_translation, taken_translation, terms, members}
 use Rattle.smv_script_bounds.proofs.Measures.{fewest, fewest_links, fewest_branches, fewest_parts, IsLeaf, Within, Inside, Together, Fits, AllWithin, none_within, one_within, within_more, inside_more, fits_more, fits_if}
-use Rattle.smv_script_bounds.proofs.Rows.{constant_leaf, variable_leaf, leaf_within, three_chosen, inside_chosen, equal_inside, joined_within, any_inside, joint_counts, infix_within, link_within, among_within}
-use Rattle.smv_script_bounds.proofs.ChainHeights.{tallest, below_chain, right_chain, implies_class, class_implies, same_operator, joint_kind, left_chain}
+use Rattle.smv_script_bounds.proofs.Rows.{constant_leaf, variable_leaf, leaf_within, three_chosen, inside_chosen, equal_inside, joined_within, any_inside, op_counts, infix_within, link_within, among_within}
+use Rattle.smv_script_bounds.proofs.ChainHeights.{tallest, below_chain, right_chain, implies_class, class_implies, same_operator, joined_kind, left_chain}
 
 -- an expression's term and membership are bounded by its least number of tokens and its height, whatever its names are and become
 abbrev pub Sized : Expression → Type 0
@@ -140,7 +140,7 @@ unjoined : (o : Infix) (h : ℕ) (ls : Links) (names : Path → Named) (leaf : P
 unjoined o h ls names leaf at under p q e =
     let b = both_true (nat_lt 0 (joined_number o)) _ e in
     ⊎_elim (λ u. not_true _ p (two_true (is_union o) _ u (all_united o ls b.0 b.1 u names leaf at under)))
-    (λ u. not_true _ q (two_true (joins_with o o) _ u (all_joint o ls b.0 b.1 u names leaf at under))) (joint_kind o b.0)
+    (λ u. not_true _ q (two_true (joins_with o o) _ u (all_joint o ls b.0 b.1 u names leaf at under))) (joined_kind o b.0)
 
 -- ---- chains
 
@@ -175,7 +175,7 @@ chain_sized {o = o} {e = e} {ls = ls} p t s (one_linked same v rest) c names lea
     let m = w.term k in
     let n = x.term k in
     let r = linked_terms rest c names leaf place under k in
-    within_more _ (joined_within (joint_op o (is_word g)) {n = operands} {h = top} (tree (d.term k) (tree ((translation c g).term k) (link_terms c k gs))) (joint_counts o (is_word g) _)
+    within_more _ (joined_within (infix_op o (is_word g)) {n = operands} {h = top} (tree (d.term k) (tree ((translation c g).term k) (link_terms c k gs))) (op_counts o (is_word g) _ (both_true (joins_with o o) _ q).0)
     (record { size = omega (arith, m.size, n.size, r.size); height = omega (arith, m.height, n.height, r.height); brackets = omega (arith, m.brackets, n.brackets, r.brackets) })
     (omega (arith, m.brackets)))
     (omega arith) (omega (arith, low))))

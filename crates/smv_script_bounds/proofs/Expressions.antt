@@ -4,8 +4,8 @@ use Rattle.text_core.specs.declared.place.Place.{Place}
 use Rattle.smv_text.specs.declared.token.Token.{Token}
 use Rattle.smv_text.specs.declared.token.Sign.{Sign}
 use Rattle.smv_text.specs.declared.tree.Path.{Path}
-use Rattle.smv_text.specs.declared.tree.Prefix.{Prefix}
-use Rattle.smv_text.specs.declared.tree.Function.{Function}
+use Rattle.smv_text.specs.declared.operators.Prefix.{Prefix}
+use Rattle.smv_text.specs.declared.operators.Function.{Function}
 use Rattle.smv_text.specs.declared.level.OperatorClass.{OperatorClass}
 use Rattle.smv_text.specs.declared.level.Level.{Level}
 use Rattle.smv_text.specs.laws.Operators.{class_is}

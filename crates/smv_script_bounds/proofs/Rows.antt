@@ -3,18 +3,18 @@ use Rattle.std.proofs.Common.{◌≡◌, ℕ, zero, suc, ◌+◌, ◌-◌, ◌�
 use Rattle.word_core.specs.declared.kinds.Binary.{Binary}
 use Rattle.word_core.specs.declared.kinds.Binary.TheVariants as OnWords
 use Rattle.word_core.specs.declared.kinds.Unary.TheVariants as OnWord
-use Rattle.smv_text.specs.declared.tree.Prefix.{Prefix}
-use Rattle.smv_text.specs.declared.tree.Prefix.TheVariants as OfPrefix
-use Rattle.smv_text.specs.declared.tree.Infix.{Infix}
-use Rattle.smv_text.specs.declared.tree.Infix.TheVariants.{Implies, Iff, Or, Xor, Xnor, And, Equal, Unequal, Less, Greater, LessEq, GreaterEq, Member, Union, ShiftLeft, ShiftRight, Plus, Minus, Times, Divide, Mod, Concat}
-use Rattle.smv_text.specs.declared.tree.Function.{Function}
-use Rattle.smv_text.specs.declared.tree.Function.TheVariants as OfFunction
+use Rattle.smv_text.specs.declared.operators.Prefix.{Prefix}
+use Rattle.smv_text.specs.declared.operators.Prefix.TheVariants as OfPrefix
+use Rattle.smv_text.specs.declared.operators.Infix.{Infix}
+use Rattle.smv_text.specs.declared.operators.Infix.TheVariants.{Implies, Iff, Or, Xor, Xnor, And, Unequal, Member, Union, ShiftLeft, ShiftRight, Plus, Times}
+use Rattle.smv_text.specs.declared.operators.Function.{Function}
+use Rattle.smv_text.specs.declared.operators.Function.TheVariants as OfFunction
 use Rattle.moxi_terms.specs.declared.data.Datum.{Datum}
 use Rattle.moxi_terms.specs.declared.data.TermOp.{TermOp}
 use Rattle.moxi_terms.specs.declared.data.TermOp.TheVariants as op
 use Rattle.moxi_terms.specs.Tree.{Tree, constant, variable, bound, apply, binding, Trees, no_trees, tree, list_of}
 use Rattle.moxi_sizes.specs.Terms.{operator_size}
-use Rattle.smv_script.specs.Operators.{one, two, word_term, equal_term, choice_term, any_term, sign_op, repeated, logical_op, signed_op, joint_op, infix_term, link_term, extended_term, selected_term, resized_term, counted_terms, sum_term, t_and_u, is_below, Arguments, function_term, between_term, among_term}
+use Rattle.smv_script.specs.Operators.{one, two, word_term, equal_term, choice_term, any_term, sign_op, repeated, logical_op, infix_op, joins_with, infix_term, link_term, extended_term, selected_term, resized_term, counted_terms, sum_term, t_and_u, is_below, Arguments, function_term, between_term, among_term}
 use Rattle.smv_script_bounds.proofs.Measures.{IsLeaf, Within, Inside, Together, AllWithin, none_within, one_within, within_more, within_if}
 
 pub constant_leaf : (d : Datum) → IsLeaf (constant d)
@@ -134,29 +134,20 @@ logical_counts : (words : Bool) (o : TermOp) (b : Binary) (n : ℕ) → operator
 logical_counts true o b n p = refl
 logical_counts false o b n p = p
 
-pub joint_counts : (o : Infix) (words : Bool) (n : ℕ) → operator_size (joint_op o words) n ≡ 1
-joint_counts And words n = logical_counts words op.And OnWords.And n refl
-joint_counts Or words n = logical_counts words op.Or OnWords.Or n refl
-joint_counts Xor words n = logical_counts words op.Xor OnWords.Xor n refl
-joint_counts Plus words n = refl
-joint_counts Times words n = refl
-joint_counts Implies words n = refl
-joint_counts Iff words n = refl
-joint_counts Xnor words n = refl
-joint_counts Equal words n = refl
-joint_counts Unequal words n = refl
-joint_counts Less words n = refl
-joint_counts Greater words n = refl
-joint_counts LessEq words n = refl
-joint_counts GreaterEq words n = refl
-joint_counts Member words n = refl
-joint_counts Union words n = refl
-joint_counts ShiftLeft words n = refl
-joint_counts ShiftRight words n = refl
-joint_counts Minus words n = refl
-joint_counts Divide words n = refl
-joint_counts Mod words n = refl
-joint_counts Concat words n = refl
+-- of operators of which a chain is one application, for any number of operands
+pub op_counts : (o : Infix) (words : Bool) (n : ℕ) → joins_with o o ≡ true → operator_size (infix_op o words) n ≡ 1
+op_counts And words n j = logical_counts words op.And OnWords.And n refl
+op_counts Or words n j = logical_counts words op.Or OnWords.Or n refl
+op_counts Xor words n j = logical_counts words op.Xor OnWords.Xor n refl
+op_counts Plus words n j = refl
+op_counts Times words n j = refl
+op_counts o words n j = cc
+
+two_counts : (o : Infix) (words : Bool) → operator_size (infix_op o words) 2 ≡ 1
+two_counts And words = logical_counts words op.And OnWords.And 2 refl
+two_counts Or words = logical_counts words op.Or OnWords.Or 2 refl
+two_counts Xor words = logical_counts words op.Xor OnWords.Xor 2 refl
+two_counts o words = refl
 
 one_more : {n h : ℕ} (t : Tree) → Within n h t → Within (suc n) h t
 one_more t w = record { size = omega (arith, w.size); height = w.height; brackets = w.brackets }
@@ -171,25 +162,10 @@ infix_within Iff true a b v w = one_of_two (op.BvUnary OnWord.Not) (op.BvBinary 
 infix_within Iff false a b v w = one_more _ (two_applied op.Equal refl a b v w)
 infix_within Xnor true a b v w = one_of_two (op.BvUnary OnWord.Not) (op.BvBinary OnWords.Xor) refl refl a b v w
 infix_within Xnor false a b v w = one_of_two op.Not op.Xor refl refl a b v w
-infix_within Equal words a b v w = one_more _ (two_applied op.Equal refl a b v w)
 infix_within Unequal words a b v w = one_of_two op.Not op.Equal refl refl a b v w
-infix_within Less words a b v w = one_more _ (two_applied (signed_op words OnWords.Slt OnWords.Ult) refl a b v w)
-infix_within Greater words a b v w = one_more _ (two_applied (signed_op words OnWords.Sgt OnWords.Ugt) refl a b v w)
-infix_within LessEq words a b v w = one_more _ (two_applied (signed_op words OnWords.Slte OnWords.Ulte) refl a b v w)
-infix_within GreaterEq words a b v w = one_more _ (two_applied (signed_op words OnWords.Sgte OnWords.Ugte) refl a b v w)
-infix_within Minus words a b v w = one_more _ (two_applied (op.BvBinary OnWords.Sub) refl a b v w)
-infix_within Divide words a b v w = one_more _ (two_applied (signed_op words OnWords.Sdiv OnWords.Udiv) refl a b v w)
-infix_within Mod words a b v w = one_more _ (two_applied (signed_op words OnWords.Srem OnWords.Urem) refl a b v w)
-infix_within Concat words a b v w = one_more _ (two_applied op.Concat refl a b v w)
 infix_within Member words a b v w = nothing_within _ _ _
 infix_within Union words a b v w = nothing_within _ _ _
-infix_within ShiftLeft words a b v w = one_more _ (two_applied (op.BvBinary OnWords.Sll) refl a b v w)
-infix_within ShiftRight words a b v w = one_more _ (two_applied (op.BvBinary OnWords.Srl) refl a b v w)
-infix_within And words a b v w = one_more _ (two_applied (joint_op And words) (joint_counts And words 2) a b v w)
-infix_within Or words a b v w = one_more _ (two_applied (joint_op Or words) (joint_counts Or words 2) a b v w)
-infix_within Xor words a b v w = one_more _ (two_applied (joint_op Xor words) (joint_counts Xor words 2) a b v w)
-infix_within Plus words a b v w = one_more _ (two_applied (joint_op Plus words) refl a b v w)
-infix_within Times words a b v w = one_more _ (two_applied (joint_op Times words) refl a b v w)
+infix_within o words a b v w = one_more _ (two_applied (infix_op o words) (two_counts o words) a b v w)
 
 -- a word term in place of the operand
 word_within : {m i : ℕ} (width bits : ℕ) (b : Tree) → Within m i b → Within m i (word_term width bits)
@@ -200,25 +176,7 @@ pub link_within : (o : Infix) (words : Bool) (m amount : ℕ) {n p h i : ℕ} (a
 link_within Member words m amount a b among v w x = x
 link_within ShiftLeft words m amount a b among v w x = infix_within ShiftLeft words a (word_term m amount) v (word_within m amount b w)
 link_within ShiftRight words m amount a b among v w x = infix_within ShiftRight words a (word_term m amount) v (word_within m amount b w)
-link_within Implies words m amount a b among v w x = infix_within Implies words a b v w
-link_within Iff words m amount a b among v w x = infix_within Iff words a b v w
-link_within Or words m amount a b among v w x = infix_within Or words a b v w
-link_within Xor words m amount a b among v w x = infix_within Xor words a b v w
-link_within Xnor words m amount a b among v w x = infix_within Xnor words a b v w
-link_within And words m amount a b among v w x = infix_within And words a b v w
-link_within Equal words m amount a b among v w x = infix_within Equal words a b v w
-link_within Unequal words m amount a b among v w x = infix_within Unequal words a b v w
-link_within Less words m amount a b among v w x = infix_within Less words a b v w
-link_within Greater words m amount a b among v w x = infix_within Greater words a b v w
-link_within LessEq words m amount a b among v w x = infix_within LessEq words a b v w
-link_within GreaterEq words m amount a b among v w x = infix_within GreaterEq words a b v w
-link_within Union words m amount a b among v w x = infix_within Union words a b v w
-link_within Plus words m amount a b among v w x = infix_within Plus words a b v w
-link_within Minus words m amount a b among v w x = infix_within Minus words a b v w
-link_within Times words m amount a b among v w x = infix_within Times words a b v w
-link_within Divide words m amount a b among v w x = infix_within Divide words a b v w
-link_within Mod words m amount a b among v w x = infix_within Mod words a b v w
-link_within Concat words m amount a b among v w x = infix_within Concat words a b v w
+link_within o words m amount a b among v w x = infix_within o words a b v w
 
 -- a name is tested as it is, anything else is bound first
 pub among_within : (named : Bool) (k : ℕ) {n m h i : ℕ} (a : Tree) (member : ℕ → Tree → Tree) → (named ≡ true → IsLeaf a) → Within n h a

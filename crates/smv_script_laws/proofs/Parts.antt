@@ -6,9 +6,9 @@ use Rattle.std.proofs.Math.Pow.{pow_mono}
 use Rattle.std.specs.List.{list_all, list_any}
 use Rattle.word_core.specs.declared.kinds.Binary.TheVariants as OnWords
 use Rattle.smv_text.specs.declared.tree.Path.{Path}
-use Rattle.smv_text.specs.declared.tree.Infix.{Infix}
-use Rattle.smv_text.specs.declared.tree.Infix.TheVariants.{Or, Xor, And, Equal, Unequal, Less, Greater, LessEq, GreaterEq, Member, Union, Plus, Minus, Times, Divide, Mod, Concat}
-use Rattle.smv_text.specs.declared.tree.Function.TheVariants as OfFunction
+use Rattle.smv_text.specs.declared.operators.Infix.{Infix}
+use Rattle.smv_text.specs.declared.operators.Infix.TheVariants.{Or, Xor, And, Equal, Unequal, Less, Greater, LessEq, GreaterEq, Member, Union, Plus, Minus, Times, Divide, Mod, Concat}
+use Rattle.smv_text.specs.declared.operators.Function.TheVariants as OfFunction
 use Rattle.smv_text.specs.Tree.{Tree as Expression, number, Links, no_links, link, Trees as Expressions, no_trees as no_expressions, tree as expression}
 use Rattle.smv_meaning.specs.declared.value.Value.{Value}
 use Rattle.smv_meaning.specs.declared.value.Value.TheVariants.{Truth, Integer, Symbol, Bits}
@@ -32,7 +32,7 @@ use Rattle.moxi_terms.specs.Operators.{truth_of, op_value}
 use Rattle.moxi_terms.specs.Tree.{Tree, Trees, no_trees, tree}
 use Rattle.moxi_terms.specs.Value.{Calls, Values, term_value, term_values}
 use Rattle.smv_script.specs.Codes.{datum_of}
-use Rattle.smv_script.specs.Operators.{any_term, joint_op, joins_with, front_width}
+use Rattle.smv_script.specs.Operators.{any_term, infix_op, joins_with, front_width}
 use Rattle.smv_script.specs.Terms.{amount_of, Translation}
 use Rattle.smv_script_laws.specs.Kinds.{IsKnown, IsOfKind}
 use Rattle.smv_script_laws.proofs.Integers.{bits_sum, bits_product}
@@ -219,96 +219,96 @@ wide_kept o t u e m h w = w
 
 -- ---- chains of one sign
 
-pub joint_step : (width : ℕ) (symbols : List (List ℕ)) (some : 1 ≤ width) (o : Infix) (t u : ExprType) (v w : Value) (ds : List Datum) → joins_with o o ≡ true → infix_fits o t u ≡ true
+pub joined_step : (width : ℕ) (symbols : List (List ℕ)) (some : 1 ≤ width) (o : Infix) (t u : ExprType) (v w : Value) (ds : List Datum) → joins_with o o ≡ true → infix_fits o t u ≡ true
     → IsOfKind width symbols t v → IsOfKind width symbols u w
-    → op_value (joint_op o (is_word_type t)) (datum_of width symbols v ∷ datum_of width symbols w ∷ ds) ≡ op_value (joint_op o (is_word_type t)) (datum_of width symbols (applied o v w) ∷ ds)
-joint_step width symbols some And truth_type truth_type (Truth true) (Truth true) ds j fits h k = refl
-joint_step width symbols some And truth_type truth_type (Truth true) (Truth false) ds j fits h k = refl
-joint_step width symbols some And truth_type truth_type (Truth false) (Truth true) ds j fits h k = refl
-joint_step width symbols some And truth_type truth_type (Truth false) (Truth false) ds j fits h k = refl
-joint_step width symbols some And truth_type truth_type (Truth p) w ds j fits h k = absurd k
-joint_step width symbols some And truth_type truth_type v w ds j fits h k = absurd h
-joint_step width symbols some And truth_type u v w ds j fits h k = cc
-joint_step width symbols some And (word_type m) (word_type n) (Bits x) (Bits y) ds j fits h k = ap (λ d. op_value (op.BvBinary OnWords.And) (d ∷ ds)) (words_are width symbols some OnWords.And m x y h.0 (k.0 ∙ sym (eqb-true m n fits)))
-joint_step width symbols some And (word_type m) (word_type n) (Bits x) w ds j fits h k = absurd k
-joint_step width symbols some And (word_type m) (word_type n) v w ds j fits h k = absurd h
-joint_step width symbols some And (word_type m) u v w ds j fits h k = cc
-joint_step width symbols some And t u v w ds j fits h k = cc
-joint_step width symbols some Or truth_type truth_type (Truth true) (Truth true) ds j fits h k = refl
-joint_step width symbols some Or truth_type truth_type (Truth true) (Truth false) ds j fits h k = refl
-joint_step width symbols some Or truth_type truth_type (Truth false) (Truth true) ds j fits h k = refl
-joint_step width symbols some Or truth_type truth_type (Truth false) (Truth false) ds j fits h k = refl
-joint_step width symbols some Or truth_type truth_type (Truth p) w ds j fits h k = absurd k
-joint_step width symbols some Or truth_type truth_type v w ds j fits h k = absurd h
-joint_step width symbols some Or truth_type u v w ds j fits h k = cc
-joint_step width symbols some Or (word_type m) (word_type n) (Bits x) (Bits y) ds j fits h k = ap (λ d. op_value (op.BvBinary OnWords.Or) (d ∷ ds)) (words_are width symbols some OnWords.Or m x y h.0 (k.0 ∙ sym (eqb-true m n fits)))
-joint_step width symbols some Or (word_type m) (word_type n) (Bits x) w ds j fits h k = absurd k
-joint_step width symbols some Or (word_type m) (word_type n) v w ds j fits h k = absurd h
-joint_step width symbols some Or (word_type m) u v w ds j fits h k = cc
-joint_step width symbols some Or t u v w ds j fits h k = cc
-joint_step width symbols some Xor truth_type truth_type (Truth true) (Truth true) ds j fits h k = refl
-joint_step width symbols some Xor truth_type truth_type (Truth true) (Truth false) ds j fits h k = refl
-joint_step width symbols some Xor truth_type truth_type (Truth false) (Truth true) ds j fits h k = refl
-joint_step width symbols some Xor truth_type truth_type (Truth false) (Truth false) ds j fits h k = refl
-joint_step width symbols some Xor truth_type truth_type (Truth p) w ds j fits h k = absurd k
-joint_step width symbols some Xor truth_type truth_type v w ds j fits h k = absurd h
-joint_step width symbols some Xor truth_type u v w ds j fits h k = cc
-joint_step width symbols some Xor (word_type m) (word_type n) (Bits x) (Bits y) ds j fits h k = ap (λ d. op_value (op.BvBinary OnWords.Xor) (d ∷ ds)) (words_are width symbols some OnWords.Xor m x y h.0 (k.0 ∙ sym (eqb-true m n fits)))
-joint_step width symbols some Xor (word_type m) (word_type n) (Bits x) w ds j fits h k = absurd k
-joint_step width symbols some Xor (word_type m) (word_type n) v w ds j fits h k = absurd h
-joint_step width symbols some Xor (word_type m) u v w ds j fits h k = cc
-joint_step width symbols some Xor t u v w ds j fits h k = cc
-joint_step width symbols some Plus (integer_type low high) (integer_type less more) (Integer x) (Integer y) ds j fits h k = ap (λ b. op_value (op.BvBinary OnWords.Add) (datum.Bits (word width b) ∷ ds)) (bits_sum width x y)
-joint_step width symbols some Plus (integer_type low high) (integer_type less more) (Integer x) w ds j fits h k = absurd k
-joint_step width symbols some Plus (integer_type low high) (integer_type less more) v w ds j fits h k = absurd h
-joint_step width symbols some Plus (integer_type low high) u v w ds j fits h k = cc
-joint_step width symbols some Plus (word_type m) (word_type n) (Bits x) (Bits y) ds j fits h k = ap (λ d. op_value (op.BvBinary OnWords.Add) (d ∷ ds)) (words_are width symbols some OnWords.Add m x y h.0 (k.0 ∙ sym (eqb-true m n fits)))
-joint_step width symbols some Plus (word_type m) (word_type n) (Bits x) w ds j fits h k = absurd k
-joint_step width symbols some Plus (word_type m) (word_type n) v w ds j fits h k = absurd h
-joint_step width symbols some Plus (word_type m) u v w ds j fits h k = cc
-joint_step width symbols some Plus t u v w ds j fits h k = cc
-joint_step width symbols some Times (integer_type low high) (integer_type less more) (Integer x) (Integer y) ds j fits h k = ap (λ b. op_value (op.BvBinary OnWords.Mul) (datum.Bits (word width b) ∷ ds)) (bits_product width x y)
-joint_step width symbols some Times (integer_type low high) (integer_type less more) (Integer x) w ds j fits h k = absurd k
-joint_step width symbols some Times (integer_type low high) (integer_type less more) v w ds j fits h k = absurd h
-joint_step width symbols some Times (integer_type low high) u v w ds j fits h k = cc
-joint_step width symbols some Times (word_type m) (word_type n) (Bits x) (Bits y) ds j fits h k = ap (λ d. op_value (op.BvBinary OnWords.Mul) (d ∷ ds)) (words_are width symbols some OnWords.Mul m x y h.0 (k.0 ∙ sym (eqb-true m n fits)))
-joint_step width symbols some Times (word_type m) (word_type n) (Bits x) w ds j fits h k = absurd k
-joint_step width symbols some Times (word_type m) (word_type n) v w ds j fits h k = absurd h
-joint_step width symbols some Times (word_type m) u v w ds j fits h k = cc
-joint_step width symbols some Times t u v w ds j fits h k = cc
-joint_step width symbols some o t u v w ds j fits h k = absurd_bool j
+    → op_value (infix_op o (is_word_type t)) (datum_of width symbols v ∷ datum_of width symbols w ∷ ds) ≡ op_value (infix_op o (is_word_type t)) (datum_of width symbols (applied o v w) ∷ ds)
+joined_step width symbols some And truth_type truth_type (Truth true) (Truth true) ds j fits h k = refl
+joined_step width symbols some And truth_type truth_type (Truth true) (Truth false) ds j fits h k = refl
+joined_step width symbols some And truth_type truth_type (Truth false) (Truth true) ds j fits h k = refl
+joined_step width symbols some And truth_type truth_type (Truth false) (Truth false) ds j fits h k = refl
+joined_step width symbols some And truth_type truth_type (Truth p) w ds j fits h k = absurd k
+joined_step width symbols some And truth_type truth_type v w ds j fits h k = absurd h
+joined_step width symbols some And truth_type u v w ds j fits h k = cc
+joined_step width symbols some And (word_type m) (word_type n) (Bits x) (Bits y) ds j fits h k = ap (λ d. op_value (op.BvBinary OnWords.And) (d ∷ ds)) (words_are width symbols some OnWords.And m x y h.0 (k.0 ∙ sym (eqb-true m n fits)))
+joined_step width symbols some And (word_type m) (word_type n) (Bits x) w ds j fits h k = absurd k
+joined_step width symbols some And (word_type m) (word_type n) v w ds j fits h k = absurd h
+joined_step width symbols some And (word_type m) u v w ds j fits h k = cc
+joined_step width symbols some And t u v w ds j fits h k = cc
+joined_step width symbols some Or truth_type truth_type (Truth true) (Truth true) ds j fits h k = refl
+joined_step width symbols some Or truth_type truth_type (Truth true) (Truth false) ds j fits h k = refl
+joined_step width symbols some Or truth_type truth_type (Truth false) (Truth true) ds j fits h k = refl
+joined_step width symbols some Or truth_type truth_type (Truth false) (Truth false) ds j fits h k = refl
+joined_step width symbols some Or truth_type truth_type (Truth p) w ds j fits h k = absurd k
+joined_step width symbols some Or truth_type truth_type v w ds j fits h k = absurd h
+joined_step width symbols some Or truth_type u v w ds j fits h k = cc
+joined_step width symbols some Or (word_type m) (word_type n) (Bits x) (Bits y) ds j fits h k = ap (λ d. op_value (op.BvBinary OnWords.Or) (d ∷ ds)) (words_are width symbols some OnWords.Or m x y h.0 (k.0 ∙ sym (eqb-true m n fits)))
+joined_step width symbols some Or (word_type m) (word_type n) (Bits x) w ds j fits h k = absurd k
+joined_step width symbols some Or (word_type m) (word_type n) v w ds j fits h k = absurd h
+joined_step width symbols some Or (word_type m) u v w ds j fits h k = cc
+joined_step width symbols some Or t u v w ds j fits h k = cc
+joined_step width symbols some Xor truth_type truth_type (Truth true) (Truth true) ds j fits h k = refl
+joined_step width symbols some Xor truth_type truth_type (Truth true) (Truth false) ds j fits h k = refl
+joined_step width symbols some Xor truth_type truth_type (Truth false) (Truth true) ds j fits h k = refl
+joined_step width symbols some Xor truth_type truth_type (Truth false) (Truth false) ds j fits h k = refl
+joined_step width symbols some Xor truth_type truth_type (Truth p) w ds j fits h k = absurd k
+joined_step width symbols some Xor truth_type truth_type v w ds j fits h k = absurd h
+joined_step width symbols some Xor truth_type u v w ds j fits h k = cc
+joined_step width symbols some Xor (word_type m) (word_type n) (Bits x) (Bits y) ds j fits h k = ap (λ d. op_value (op.BvBinary OnWords.Xor) (d ∷ ds)) (words_are width symbols some OnWords.Xor m x y h.0 (k.0 ∙ sym (eqb-true m n fits)))
+joined_step width symbols some Xor (word_type m) (word_type n) (Bits x) w ds j fits h k = absurd k
+joined_step width symbols some Xor (word_type m) (word_type n) v w ds j fits h k = absurd h
+joined_step width symbols some Xor (word_type m) u v w ds j fits h k = cc
+joined_step width symbols some Xor t u v w ds j fits h k = cc
+joined_step width symbols some Plus (integer_type low high) (integer_type less more) (Integer x) (Integer y) ds j fits h k = ap (λ b. op_value (op.BvBinary OnWords.Add) (datum.Bits (word width b) ∷ ds)) (bits_sum width x y)
+joined_step width symbols some Plus (integer_type low high) (integer_type less more) (Integer x) w ds j fits h k = absurd k
+joined_step width symbols some Plus (integer_type low high) (integer_type less more) v w ds j fits h k = absurd h
+joined_step width symbols some Plus (integer_type low high) u v w ds j fits h k = cc
+joined_step width symbols some Plus (word_type m) (word_type n) (Bits x) (Bits y) ds j fits h k = ap (λ d. op_value (op.BvBinary OnWords.Add) (d ∷ ds)) (words_are width symbols some OnWords.Add m x y h.0 (k.0 ∙ sym (eqb-true m n fits)))
+joined_step width symbols some Plus (word_type m) (word_type n) (Bits x) w ds j fits h k = absurd k
+joined_step width symbols some Plus (word_type m) (word_type n) v w ds j fits h k = absurd h
+joined_step width symbols some Plus (word_type m) u v w ds j fits h k = cc
+joined_step width symbols some Plus t u v w ds j fits h k = cc
+joined_step width symbols some Times (integer_type low high) (integer_type less more) (Integer x) (Integer y) ds j fits h k = ap (λ b. op_value (op.BvBinary OnWords.Mul) (datum.Bits (word width b) ∷ ds)) (bits_product width x y)
+joined_step width symbols some Times (integer_type low high) (integer_type less more) (Integer x) w ds j fits h k = absurd k
+joined_step width symbols some Times (integer_type low high) (integer_type less more) v w ds j fits h k = absurd h
+joined_step width symbols some Times (integer_type low high) u v w ds j fits h k = cc
+joined_step width symbols some Times (word_type m) (word_type n) (Bits x) (Bits y) ds j fits h k = ap (λ d. op_value (op.BvBinary OnWords.Mul) (d ∷ ds)) (words_are width symbols some OnWords.Mul m x y h.0 (k.0 ∙ sym (eqb-true m n fits)))
+joined_step width symbols some Times (word_type m) (word_type n) (Bits x) w ds j fits h k = absurd k
+joined_step width symbols some Times (word_type m) (word_type n) v w ds j fits h k = absurd h
+joined_step width symbols some Times (word_type m) u v w ds j fits h k = cc
+joined_step width symbols some Times t u v w ds j fits h k = cc
+joined_step width symbols some o t u v w ds j fits h k = absurd_bool j
 
-pub joint_end : (width : ℕ) (symbols : List (List ℕ)) (o : Infix) (t u : ExprType) (v : Value) → joins_with o o ≡ true → infix_fits o t u ≡ true → IsOfKind width symbols t v
-    → op_value (joint_op o (is_word_type t)) (datum_of width symbols v ∷ []) ≡ datum_of width symbols v
-joint_end width symbols And truth_type u (Truth true) j fits h = refl
-joint_end width symbols And truth_type u (Truth false) j fits h = refl
-joint_end width symbols And truth_type u v j fits h = absurd h
-joint_end width symbols And (word_type m) u (Bits x) j fits h = refl
-joint_end width symbols And (word_type m) u v j fits h = absurd h
-joint_end width symbols And t u v j fits h = cc
-joint_end width symbols Or truth_type u (Truth true) j fits h = refl
-joint_end width symbols Or truth_type u (Truth false) j fits h = refl
-joint_end width symbols Or truth_type u v j fits h = absurd h
-joint_end width symbols Or (word_type m) u (Bits x) j fits h = refl
-joint_end width symbols Or (word_type m) u v j fits h = absurd h
-joint_end width symbols Or t u v j fits h = cc
-joint_end width symbols Xor truth_type u (Truth true) j fits h = refl
-joint_end width symbols Xor truth_type u (Truth false) j fits h = refl
-joint_end width symbols Xor truth_type u v j fits h = absurd h
-joint_end width symbols Xor (word_type m) u (Bits x) j fits h = refl
-joint_end width symbols Xor (word_type m) u v j fits h = absurd h
-joint_end width symbols Xor t u v j fits h = cc
-joint_end width symbols Plus (integer_type low high) u (Integer z) j fits h = refl
-joint_end width symbols Plus (integer_type low high) u v j fits h = absurd h
-joint_end width symbols Plus (word_type m) u (Bits x) j fits h = refl
-joint_end width symbols Plus (word_type m) u v j fits h = absurd h
-joint_end width symbols Plus t u v j fits h = cc
-joint_end width symbols Times (integer_type low high) u (Integer z) j fits h = refl
-joint_end width symbols Times (integer_type low high) u v j fits h = absurd h
-joint_end width symbols Times (word_type m) u (Bits x) j fits h = refl
-joint_end width symbols Times (word_type m) u v j fits h = absurd h
-joint_end width symbols Times t u v j fits h = cc
-joint_end width symbols o t u v j fits h = absurd_bool j
+pub joined_end : (width : ℕ) (symbols : List (List ℕ)) (o : Infix) (t u : ExprType) (v : Value) → joins_with o o ≡ true → infix_fits o t u ≡ true → IsOfKind width symbols t v
+    → op_value (infix_op o (is_word_type t)) (datum_of width symbols v ∷ []) ≡ datum_of width symbols v
+joined_end width symbols And truth_type u (Truth true) j fits h = refl
+joined_end width symbols And truth_type u (Truth false) j fits h = refl
+joined_end width symbols And truth_type u v j fits h = absurd h
+joined_end width symbols And (word_type m) u (Bits x) j fits h = refl
+joined_end width symbols And (word_type m) u v j fits h = absurd h
+joined_end width symbols And t u v j fits h = cc
+joined_end width symbols Or truth_type u (Truth true) j fits h = refl
+joined_end width symbols Or truth_type u (Truth false) j fits h = refl
+joined_end width symbols Or truth_type u v j fits h = absurd h
+joined_end width symbols Or (word_type m) u (Bits x) j fits h = refl
+joined_end width symbols Or (word_type m) u v j fits h = absurd h
+joined_end width symbols Or t u v j fits h = cc
+joined_end width symbols Xor truth_type u (Truth true) j fits h = refl
+joined_end width symbols Xor truth_type u (Truth false) j fits h = refl
+joined_end width symbols Xor truth_type u v j fits h = absurd h
+joined_end width symbols Xor (word_type m) u (Bits x) j fits h = refl
+joined_end width symbols Xor (word_type m) u v j fits h = absurd h
+joined_end width symbols Xor t u v j fits h = cc
+joined_end width symbols Plus (integer_type low high) u (Integer z) j fits h = refl
+joined_end width symbols Plus (integer_type low high) u v j fits h = absurd h
+joined_end width symbols Plus (word_type m) u (Bits x) j fits h = refl
+joined_end width symbols Plus (word_type m) u v j fits h = absurd h
+joined_end width symbols Plus t u v j fits h = cc
+joined_end width symbols Times (integer_type low high) u (Integer z) j fits h = refl
+joined_end width symbols Times (integer_type low high) u v j fits h = absurd h
+joined_end width symbols Times (word_type m) u (Bits x) j fits h = refl
+joined_end width symbols Times (word_type m) u v j fits h = absurd h
+joined_end width symbols Times t u v j fits h = cc
+joined_end width symbols o t u v j fits h = absurd_bool j
 
 pub calculated_same : (f : ℤ → ℤ → ℤ) (t u s : ExprType) → number_fits t u ≡ true → (number_fits (over_both_ends f t u) u ≡ true) × (is_word_type (over_both_ends f t u) ≡ is_word_type t)
 calculated_same f (integer_type low high) (integer_type less more) s h = (refl, refl)
@@ -317,13 +317,13 @@ calculated_same f (word_type m) u s h = (h, refl)
 calculated_same f t u s h = cc
 
 -- the front behind an operator that joins is of the same kind, and fits it as well
-pub joint_kept : (o : Infix) (t u : ExprType) (e : Expression) → joins_with o o ≡ true → infix_fits o t u ≡ true → (infix_fits o (infix_type o t u e) u ≡ true) × (is_word_type (infix_type o t u e) ≡ is_word_type t)
-joint_kept And t u e j h = (h, refl)
-joint_kept Or t u e j h = (h, refl)
-joint_kept Xor t u e j h = (h, refl)
-joint_kept Plus t u e j h = calculated_same (λ a b. a +ℤ b) t u t h
-joint_kept Times t u e j h = calculated_same (λ a b. a *ℤ b) t u t h
-joint_kept o t u e j h = absurd_bool j
+pub joined_kept : (o : Infix) (t u : ExprType) (e : Expression) → joins_with o o ≡ true → infix_fits o t u ≡ true → (infix_fits o (infix_type o t u e) u ≡ true) × (is_word_type (infix_type o t u e) ≡ is_word_type t)
+joined_kept And t u e j h = (h, refl)
+joined_kept Or t u e j h = (h, refl)
+joined_kept Xor t u e j h = (h, refl)
+joined_kept Plus t u e j h = calculated_same (λ a b. a +ℤ b) t u t h
+joined_kept Times t u e j h = calculated_same (λ a b. a *ℤ b) t u t h
+joined_kept o t u e j h = absurd_bool j
 
 pub joins_same : (o p : Infix) → joins_with o p ≡ true → o ≡ p
 joins_same And And h = refl
@@ -355,13 +355,13 @@ number_word (word_type m) (word_type n) h = refl
 number_word (word_type m) u h = cc
 number_word t u h = cc
 
-pub joint_word : (o : Infix) (t u : ExprType) → joins_with o o ≡ true → infix_fits o t u ≡ true → is_word_type u ≡ is_word_type t
-joint_word And t u j h = word_fits t u h
-joint_word Or t u j h = word_fits t u h
-joint_word Xor t u j h = word_fits t u h
-joint_word Plus t u j h = number_word t u h
-joint_word Times t u j h = number_word t u h
-joint_word o t u j h = absurd_bool j
+pub joined_word : (o : Infix) (t u : ExprType) → joins_with o o ≡ true → infix_fits o t u ≡ true → is_word_type u ≡ is_word_type t
+joined_word And t u j h = word_fits t u h
+joined_word Or t u j h = word_fits t u h
+joined_word Xor t u j h = word_fits t u h
+joined_word Plus t u j h = number_word t u h
+joined_word Times t u j h = number_word t u h
+joined_word o t u j h = absurd_bool j
 
 -- a value of an implication's type is of its kind
 pub implied_kind : (width : ℕ) (symbols : List (List ℕ)) (t u : ExprType) (v w : Value) → logical_fits t u ≡ true → IsOfKind width symbols t v → IsOfKind width symbols u w → IsOfKind width symbols t (implied v w)

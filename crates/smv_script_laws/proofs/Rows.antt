@@ -11,10 +11,10 @@ use Rattle.word_core.specs.declared.word.TheConstants.{WIDEST}
 use Rattle.word_core.specs.declared.kinds.Unary.TheVariants as OnWord
 use Rattle.word_core.specs.declared.kinds.Binary.{Binary}
 use Rattle.word_core.specs.declared.kinds.Binary.TheVariants as OnWords
-use Rattle.smv_text.specs.declared.tree.Prefix.{Prefix}
-use Rattle.smv_text.specs.declared.tree.Prefix.TheVariants as OfPrefix
-use Rattle.smv_text.specs.declared.tree.Infix.{Infix}
-use Rattle.smv_text.specs.declared.tree.Infix.TheVariants.{Implies, Iff, Or, Xor, Xnor, And, Equal, Unequal, Less, Greater, LessEq, GreaterEq, Member, Union, ShiftLeft, ShiftRight, Plus, Minus, Times, Divide, Mod, Concat}
+use Rattle.smv_text.specs.declared.operators.Prefix.{Prefix}
+use Rattle.smv_text.specs.declared.operators.Prefix.TheVariants as OfPrefix
+use Rattle.smv_text.specs.declared.operators.Infix.{Infix}
+use Rattle.smv_text.specs.declared.operators.Infix.TheVariants.{Implies, Iff, Or, Xor, Xnor, And, Equal, Unequal, Less, Greater, LessEq, GreaterEq, Member, Union, ShiftLeft, ShiftRight, Plus, Minus, Times, Divide, Mod, Concat}
 use Rattle.smv_meaning.specs.declared.value.Value.{Value}
 use Rattle.smv_meaning.specs.declared.value.Value.TheVariants.{Truth, Integer, Symbol, Bits}
 use Rattle.smv_meaning.specs.Values.{no_value, bool_eq, value_same}
@@ -32,7 +32,7 @@ use Rattle.moxi_terms.specs.Tree.{Tree, constant}
 use Rattle.moxi_terms.specs.Value.{Calls, Values, term_value}
 use Rattle.smv_width.specs.FlatWidth.{Holds}
 use Rattle.smv_script.specs.Codes.{integer_bits, integer_word, number_or_zero, datum_of}
-use Rattle.smv_script.specs.Operators.{sign_op, repeated, signed_op, joint_op, infix_term}
+use Rattle.smv_script.specs.Operators.{sign_op, repeated, signed_op, infix_op, infix_term}
 use Rattle.smv_script_laws.specs.Kinds.{IsOfKind}
 use Rattle.smv_script_laws.proofs.Integers.{bits_below, bits_sum, bits_difference, bits_product, bits_negated, negated_twice, signed_back, same_integers, bits_quotient, bits_rest}
 
@@ -328,12 +328,12 @@ module _ (width : ℕ) (symbols : List (List ℕ)) (some : 1 ≤ width) (calls :
   infix_row Implies t u v w plain fits wide n h k = implies_row t u v w fits h k
   infix_row Iff t u v w plain fits wide n h k = same_row Iff bool_eq iff_truths (λ x y. refl) t u v w fits h k
   infix_row Or t u v w plain fits wide n h k =
-      logical_row width symbols some (λ p q. p || q) (λ b. joint_op Or b) OnWords.Or (λ p q. ap (λ b. datum.Truth (p || b)) (or_false q)) (λ x y. refl) t u v w fits h k
+      logical_row width symbols some (λ p q. p || q) (λ b. infix_op Or b) OnWords.Or (λ p q. ap (λ b. datum.Truth (p || b)) (or_false q)) (λ x y. refl) t u v w fits h k
   infix_row Xor t u v w plain fits wide n h k =
-      logical_row width symbols some (λ p q. not (bool_eq p q)) (λ b. joint_op Xor b) OnWords.Xor xor_truths (λ x y. refl) t u v w fits h k
+      logical_row width symbols some (λ p q. not (bool_eq p q)) (λ b. infix_op Xor b) OnWords.Xor xor_truths (λ x y. refl) t u v w fits h k
   infix_row Xnor t u v w plain fits wide n h k = same_row Xnor bool_eq xnor_truths (λ x y. refl) t u v w fits h k
   infix_row And t u v w plain fits wide n h k =
-      logical_row width symbols some (λ p q. p && q) (λ b. joint_op And b) OnWords.And (λ p q. ap (λ b. datum.Truth (p && b)) (and_true q)) (λ x y. refl) t u v w fits h k
+      logical_row width symbols some (λ p q. p && q) (λ b. infix_op And b) OnWords.And (λ p q. ap (λ b. datum.Truth (p && b)) (and_true q)) (λ x y. refl) t u v w fits h k
   infix_row Equal t u v w plain fits wide n h k = equal_row t u v w fits h k ∙ ap datum.Truth (turned t u v w fits h k)
   infix_row Unequal t u v w plain fits wide n h k = ap (λ d. op_value op.Not (d ∷ [])) (equal_row t u v w fits h k ∙ ap datum.Truth (turned t u v w fits h k))
   infix_row Less t u v w plain fits wide n h k = compared_row width symbols some int_lt (λ b. signed_op b OnWords.Slt OnWords.Ult) OnWords.Ult

@@ -7,10 +7,10 @@ use Rattle.word_core.specs.Table.{bit_of, signed_value}
 use Rattle.word_core.specs.declared.kinds.Binary.{Binary}
 use Rattle.word_core.specs.declared.kinds.Binary.TheVariants as OnWords
 use Rattle.smv_text.specs.declared.tree.Path.{Path}
-use Rattle.smv_text.specs.declared.tree.Infix.{Infix}
-use Rattle.smv_text.specs.declared.tree.Infix.TheVariants.{Implies, Member, Union, ShiftLeft, ShiftRight, Divide, Mod}
-use Rattle.smv_text.specs.declared.tree.Function.{Function}
-use Rattle.smv_text.specs.declared.tree.Function.TheVariants as OfFunction
+use Rattle.smv_text.specs.declared.operators.Infix.{Infix}
+use Rattle.smv_text.specs.declared.operators.Infix.TheVariants.{Implies, Member, Union, ShiftLeft, ShiftRight, Divide, Mod}
+use Rattle.smv_text.specs.declared.operators.Function.{Function}
+use Rattle.smv_text.specs.declared.operators.Function.TheVariants as OfFunction
 use Rattle.smv_text.specs.Tree.{Tree as Expression, truth, number, literal, name, prefix, chain, choice, cases, select, call, next, set, range, Links, no_links, link, Branches, no_branches, branch, Trees as Expressions, no_trees as no_expressions, tree as expression}
 use Rattle.smv_meaning.specs.declared.value.Value.{Value}
 use Rattle.smv_meaning.specs.declared.value.Value.TheVariants.{Truth, Integer, Bits}
@@ -36,7 +36,7 @@ use Rattle.moxi_terms.specs.Operators.{truth_of, same, op_value}
 use Rattle.moxi_terms.specs.Tree.{Tree, constant, variable, bound, apply, tree}
 use Rattle.moxi_terms.specs.Value.{Calls, Values, term_value, term_values}
 use Rattle.smv_script.specs.Codes.{integer_bits, integer_word, datum_of}
-use Rattle.smv_script.specs.Operators.{integer_term, choice_term, any_term, sign_op, repeated, joint_op, joins_with, infix_term, front_width, link_term, selected_term, resized_term, function_term, between_term, among_term}
+use Rattle.smv_script.specs.Operators.{integer_term, choice_term, any_term, sign_op, repeated, infix_op, joins_with, infix_term, front_width, link_term, selected_term, resized_term, function_term, between_term, among_term}
 use Rattle.smv_script.specs.Terms.{is_word_in, is_word, width_in, word_width, amount_of, is_name, arguments_of, Translation, value_translation, set_translation, choice_translation, are_flat_unions, all_join_with, Coding, translation, implied_term, folded_term, link_terms, link_members, chosen_translation, taken_translation, terms, members}
 use Rattle.smv_script_laws.specs.Kinds.{IsOfKind}
 use Rattle.smv_script_laws.specs.Meanings.{Says}
@@ -45,7 +45,7 @@ use Rattle.smv_script_laws.proofs.Rows.{pick_true, same_codes, is_divided, IsNon
 use Rattle.smv_script_laws.proofs.Functions.{at_front, AreOfKinds, AreCoded, select_row, bool_row, word1_row, toint_row, extend_one, resize_one, count_row, max_row, min_row, abs_row}
 use Rattle.smv_script_laws.proofs.Typings.{branches_typed, call_typed, front_no_union, front_typed, implies_flat, implies_typed, linked_typed, node_typed, not_true, or_first, pick_false, prefix_typed, range_typed, right_no_union, select_typed, set_typed, some_same, type_kept, unions_flat}
 use Rattle.smv_script_laws.proofs.Known.{known_applied, known_value}
-use Rattle.smv_script_laws.proofs.Parts.{Front, IsAsWide, IsOfAll, LeafStands, SaysAll, amount_is, and_true, any_value, divisor_nonzero, extend_fits, extend_second, held_wider, hull_kind, hull_of_kind, implied_kind, joined_cons, joins_plain, joins_same, joint_end, joint_kept, joint_step, joint_word, known_kind, link_permits, logical_all, number_kept, number_value, or_false, permit_list, permits_any, pick_three, resize_fits, resize_second, toint_held, truth_code, unions_permit, wide_kept, wide_of, wide_word}
+use Rattle.smv_script_laws.proofs.Parts.{Front, IsAsWide, IsOfAll, LeafStands, SaysAll, amount_is, and_true, any_value, divisor_nonzero, extend_fits, extend_second, held_wider, hull_kind, hull_of_kind, implied_kind, joined_cons, joins_plain, joins_same, joined_end, joined_kept, joined_step, joined_word, known_kind, link_permits, logical_all, number_kept, number_value, or_false, permit_list, permits_any, pick_three, resize_fits, resize_second, toint_held, truth_code, unions_permit, wide_kept, wide_of, wide_word}
 
 -- ---- operators that aren't `in`, `union` or shifts
 
@@ -336,12 +336,12 @@ module _ (c : Coding) (symbols : List (List ℕ)) (some : 1 ≤ c.width) (calls 
       fold q s p fr r.0 r.1 (joined i (denote f g e) (denote f g x)) (omega (arith, wl)) t h vals (front_width i (word_width (flat_tree names leaf q under e)) (word_width (flat_tree names leaf (behind i q) under x))) _
       (front_says under f hf kf q s p a y.left y.left_is (denote f g e) i x ox hx (omega (arith, wl)) r.0 r.1 fits vals (is_name (flat_tree names leaf q under e)) (word_width (flat_tree names leaf q under e)) ((translation c (flat_tree names leaf q under e)).term (length vals)) b)
 
-  one_sign_says : (under : Bool) (f : Path → Value) → NamesLie names f → ((x : Path) → LeafStands c.width symbols c.place (if under then later else now) (leaf x) (f x)) → (at q : Position) → q.sets ≡ false → (p : Place) (e : Expression) (i : Infix) (x : Expression) (ls : Links) → has_operators e ≡ true → has_operators x ≡ true → ((q : Position) → expression_width names q e ≤ c.width → (t : ExprType) → (typing names q e).type ≡ Some t → Says c.width symbols calls now later t (denote f g e) q.sets (translation c (flat_tree names leaf q under e))) → ((q : Position) → q.sets ≡ false → (p : Place) (a : Typing) (ta : ExprType) → a.type ≡ Some ta → (d : Denotation) (j : Infix) → joins_with j j ≡ true → fronts_width names q p a (link i x ls) ≤ c.width → (t : ExprType) → (linked names q p a (link i x ls)).type ≡ Some t → all_join_with j (flat_links names leaf q under (link i x ls)) ≡ true → (us : ExprType) → infix_fits j ta us ≡ true → LiesIn ta d.value → IsOfKind c.width symbols ta d.value → (vals : List Datum) → op_value (joint_op j (is_word_type ta)) (datum_of c.width symbols d.value ∷ term_values calls now later vals (link_terms c (length vals) (flat_links names leaf q under (link i x ls)))) ≡ datum_of c.width symbols (linked_values f g d (link i x ls)).value)
+  one_sign_says : (under : Bool) (f : Path → Value) → NamesLie names f → ((x : Path) → LeafStands c.width symbols c.place (if under then later else now) (leaf x) (f x)) → (at q : Position) → q.sets ≡ false → (p : Place) (e : Expression) (i : Infix) (x : Expression) (ls : Links) → has_operators e ≡ true → has_operators x ≡ true → ((q : Position) → expression_width names q e ≤ c.width → (t : ExprType) → (typing names q e).type ≡ Some t → Says c.width symbols calls now later t (denote f g e) q.sets (translation c (flat_tree names leaf q under e))) → ((q : Position) → q.sets ≡ false → (p : Place) (a : Typing) (ta : ExprType) → a.type ≡ Some ta → (d : Denotation) (j : Infix) → joins_with j j ≡ true → fronts_width names q p a (link i x ls) ≤ c.width → (t : ExprType) → (linked names q p a (link i x ls)).type ≡ Some t → all_join_with j (flat_links names leaf q under (link i x ls)) ≡ true → (us : ExprType) → infix_fits j ta us ≡ true → LiesIn ta d.value → IsOfKind c.width symbols ta d.value → (vals : List Datum) → op_value (infix_op j (is_word_type ta)) (datum_of c.width symbols d.value ∷ term_values calls now later vals (link_terms c (length vals) (flat_links names leaf q under (link i x ls)))) ≡ datum_of c.width symbols (linked_values f g d (link i x ls)).value)
       → expression_width names q e ≤ c.width → fronts_width names q p (typing names q e) (link i x ls) ≤ c.width → (t : ExprType) → (linked names q p (typing names q e) (link i x ls)).type ≡ Some t
       → joins_with i i ≡ true → all_join_with i (flat_links names leaf q under ls) ≡ true → (vals : List Datum)
-      → term_value calls now later vals (apply (joint_op i (is_word (flat_tree names leaf (behind i q) under x))) (tree ((translation c (flat_tree names leaf q under e)).term (length vals)) (tree ((translation c (flat_tree names leaf (behind i q) under x)).term (length vals)) (link_terms c (length vals) (flat_links names leaf q under ls)))))
+      → term_value calls now later vals (apply (infix_op i (is_word (flat_tree names leaf (behind i q) under x))) (tree ((translation c (flat_tree names leaf q under e)).term (length vals)) (tree ((translation c (flat_tree names leaf (behind i q) under x)).term (length vals)) (link_terms c (length vals) (flat_links names leaf q under ls)))))
       ≡ datum_of c.width symbols (linked_values f g (denote f g e) (link i x ls)).value
-  one_sign_says under f hf kf at q s p e i x ls oe ox he joint we wl t h j n vals =
+  one_sign_says under f hf kf at q s p e i x ls oe ox he one_sign we wl t h j n vals =
       let a = typing names q e in
       let fr = front i q p a (typing names (behind i q) x) x in
       let r = linked_typed names q p fr ls t h in
@@ -349,9 +349,9 @@ module _ (c : Coding) (symbols : List (List ℕ)) (some : 1 ≤ c.width) (calls 
       let z = he q we y.left y.left_is in
       let free = plain_sets i q (joins_plain i j).0 in
       let ds = term_values calls now later vals (link_terms c (length vals) (flat_links names leaf q under (link i x ls))) in
-      ap (λ m. op_value (joint_op i m) (term_value calls now later vals ((translation c (flat_tree names leaf q under e)).term (length vals)) ∷ ds)) (ap is_word_in (type_kept names leaf (behind i q) under x ox free y.right y.right_is) ∙ joint_word i y.left y.right j y.fits)
-      ∙ ap (λ m. op_value (joint_op i (is_word_type y.left)) (m ∷ ds)) (z.value s vals)
-      ∙ joint q s p a y.left y.left_is (denote f g e) i j wl t h (two_true (joins_with i i) (all_join_with i (flat_links names leaf q under ls)) j n)
+      ap (λ m. op_value (infix_op i m) (term_value calls now later vals ((translation c (flat_tree names leaf q under e)).term (length vals)) ∷ ds)) (ap is_word_in (type_kept names leaf (behind i q) under x ox free y.right y.right_is) ∙ joined_word i y.left y.right j y.fits)
+      ∙ ap (λ m. op_value (infix_op i (is_word_type y.left)) (m ∷ ds)) (z.value s vals)
+      ∙ one_sign q s p a y.left y.left_is (denote f g e) i j wl t h (two_true (joins_with i i) (all_join_with i (flat_links names leaf q under ls)) j n)
       y.right y.fits (lies_as f hf q s e y.left y.left_is) (z.kind s) vals
 
   -- a set of operands
@@ -391,9 +391,9 @@ module _ (c : Coding) (symbols : List (List ℕ)) (some : 1 ≤ c.width) (calls 
             (implied at k.0 k.1 v (omega (arith, w)) k.3 fits r (z.kind refl) [] ((translation c (flat_tree names leaf (single at) under e)).term 0) (z.value refl [])).1,
       )
 
-  chain_says : (under : Bool) (f : Path → Value) → NamesLie names f → ((x : Path) → LeafStands c.width symbols c.place (if under then later else now) (leaf x) (f x)) → (at : Position) (p : Place) (e : Expression) (i : Infix) (x : Expression) (ls : Links) → has_operators (chain p e (link i x ls)) ≡ true → ((q : Position) → expression_width names q e ≤ c.width → (t : ExprType) → (typing names q e).type ≡ Some t → Says c.width symbols calls now later t (denote f g e) q.sets (translation c (flat_tree names leaf q under e))) → ((q : Position) → expression_width names q x ≤ c.width → (t : ExprType) → (typing names q x).type ≡ Some t → Says c.width symbols calls now later t (denote f g x) q.sets (translation c (flat_tree names leaf q under x))) → ((q : Position) → q.sets ≡ false → (p : Place) (a : Typing) (ta : ExprType) → a.type ≡ Some ta → (d : Denotation) → fronts_width names q p a ls ≤ c.width → (t : ExprType) → (linked names q p a ls).type ≡ Some t → (vals : List Datum) (m : ℕ) (acc : Tree) → Front c.width symbols calls now later vals ta d.value m acc → term_value calls now later vals (folded_term c (length vals) m acc (flat_links names leaf q under ls)) ≡ datum_of c.width symbols (linked_values f g d ls).value) → ((q : Position) → q.sets ≡ false → (p : Place) (a : Typing) (ta : ExprType) → a.type ≡ Some ta → (d : Denotation) (j : Infix) → joins_with j j ≡ true → fronts_width names q p a (link i x ls) ≤ c.width → (t : ExprType) → (linked names q p a (link i x ls)).type ≡ Some t → all_join_with j (flat_links names leaf q under (link i x ls)) ≡ true → (us : ExprType) → infix_fits j ta us ≡ true → LiesIn ta d.value → IsOfKind c.width symbols ta d.value → (vals : List Datum) → op_value (joint_op j (is_word_type ta)) (datum_of c.width symbols d.value ∷ term_values calls now later vals (link_terms c (length vals) (flat_links names leaf q under (link i x ls)))) ≡ datum_of c.width symbols (linked_values f g d (link i x ls)).value) → ((q : Position) (p : Place) (a : Typing) (ta : ExprType) → a.type ≡ Some ta → fronts_width names q p a (link i x ls) ≤ c.width → are_unions (link i x ls) ≡ true → (t : ExprType) → (linked names q p a (link i x ls)).type ≡ Some t → (vals : List Datum) (y : Tree) (v : Value) → IsOfKind c.width symbols t v → term_value calls now later vals y ≡ datum_of c.width symbols v → IsOfKind c.width symbols ta v × (term_values calls now later vals (link_members c (length vals) y (flat_links names leaf q under (link i x ls))) ≡ map (λ b. datum.Truth b) (link_permits f g (link i x ls) v))) → ((at : Position) (u : ExprType) (us : List ExprType) (v : Value) → implied_width names (single at) (link i x ls) ≤ c.width → all_types (link_types names (single at) (link i x ls)) ≡ Some us → list_all (logical_fits u) us ≡ true → are_implies (link i x ls) ≡ true → IsOfKind c.width symbols u v → (vals : List Datum) (a : Tree) → term_value calls now later vals a ≡ datum_of c.width symbols v → (term_value calls now later vals (implied_term c (length vals) a (flat_links names leaf (single at) under (link i x ls))) ≡ datum_of c.width symbols (implications f g v (link i x ls))) × IsOfKind c.width symbols u (implications f g v (link i x ls))) → expression_width names at (chain p e (link i x ls)) ≤ c.width
+  chain_says : (under : Bool) (f : Path → Value) → NamesLie names f → ((x : Path) → LeafStands c.width symbols c.place (if under then later else now) (leaf x) (f x)) → (at : Position) (p : Place) (e : Expression) (i : Infix) (x : Expression) (ls : Links) → has_operators (chain p e (link i x ls)) ≡ true → ((q : Position) → expression_width names q e ≤ c.width → (t : ExprType) → (typing names q e).type ≡ Some t → Says c.width symbols calls now later t (denote f g e) q.sets (translation c (flat_tree names leaf q under e))) → ((q : Position) → expression_width names q x ≤ c.width → (t : ExprType) → (typing names q x).type ≡ Some t → Says c.width symbols calls now later t (denote f g x) q.sets (translation c (flat_tree names leaf q under x))) → ((q : Position) → q.sets ≡ false → (p : Place) (a : Typing) (ta : ExprType) → a.type ≡ Some ta → (d : Denotation) → fronts_width names q p a ls ≤ c.width → (t : ExprType) → (linked names q p a ls).type ≡ Some t → (vals : List Datum) (m : ℕ) (acc : Tree) → Front c.width symbols calls now later vals ta d.value m acc → term_value calls now later vals (folded_term c (length vals) m acc (flat_links names leaf q under ls)) ≡ datum_of c.width symbols (linked_values f g d ls).value) → ((q : Position) → q.sets ≡ false → (p : Place) (a : Typing) (ta : ExprType) → a.type ≡ Some ta → (d : Denotation) (j : Infix) → joins_with j j ≡ true → fronts_width names q p a (link i x ls) ≤ c.width → (t : ExprType) → (linked names q p a (link i x ls)).type ≡ Some t → all_join_with j (flat_links names leaf q under (link i x ls)) ≡ true → (us : ExprType) → infix_fits j ta us ≡ true → LiesIn ta d.value → IsOfKind c.width symbols ta d.value → (vals : List Datum) → op_value (infix_op j (is_word_type ta)) (datum_of c.width symbols d.value ∷ term_values calls now later vals (link_terms c (length vals) (flat_links names leaf q under (link i x ls)))) ≡ datum_of c.width symbols (linked_values f g d (link i x ls)).value) → ((q : Position) (p : Place) (a : Typing) (ta : ExprType) → a.type ≡ Some ta → fronts_width names q p a (link i x ls) ≤ c.width → are_unions (link i x ls) ≡ true → (t : ExprType) → (linked names q p a (link i x ls)).type ≡ Some t → (vals : List Datum) (y : Tree) (v : Value) → IsOfKind c.width symbols t v → term_value calls now later vals y ≡ datum_of c.width symbols v → IsOfKind c.width symbols ta v × (term_values calls now later vals (link_members c (length vals) y (flat_links names leaf q under (link i x ls))) ≡ map (λ b. datum.Truth b) (link_permits f g (link i x ls) v))) → ((at : Position) (u : ExprType) (us : List ExprType) (v : Value) → implied_width names (single at) (link i x ls) ≤ c.width → all_types (link_types names (single at) (link i x ls)) ≡ Some us → list_all (logical_fits u) us ≡ true → are_implies (link i x ls) ≡ true → IsOfKind c.width symbols u v → (vals : List Datum) (a : Tree) → term_value calls now later vals a ≡ datum_of c.width symbols v → (term_value calls now later vals (implied_term c (length vals) a (flat_links names leaf (single at) under (link i x ls))) ≡ datum_of c.width symbols (implications f g v (link i x ls))) × IsOfKind c.width symbols u (implications f g v (link i x ls))) → expression_width names at (chain p e (link i x ls)) ≤ c.width
       → (t : ExprType) → (typing names at (chain p e (link i x ls))).type ≡ Some t → Says c.width symbols calls now later t (denote f g (chain p e (link i x ls))) at.sets (translation c (flat_tree names leaf at under (chain p e (link i x ls))))
-  chain_says under f hf kf at p e i x ls o he hx fold joint unions implied l t h = by_cases (is_from_right (link i x ls))
+  chain_says under f hf kf at p e i x ls o he hx fold one_sign unions implied l t h = by_cases (is_from_right (link i x ls))
       (λ r.
       let b = both_true (has_operators e) (link_operators (link i x ls)) o in
       let nu : are_unions (link i x ls) ≡ false = right_no_union (link i x ls) r in
@@ -429,8 +429,8 @@ module _ (c : Coding) (symbols : List (List ℕ)) (some : 1 ≤ c.width) (calls 
       let s : (across (link i x ls) at).sets ≡ false = ap (λ (y : Bool). (if y then at else single at).sets) nu in
       let js = both_true (joins_with i i) (all_join_with i (flat_links names leaf (across (link i x ls) at) under ls)) j in
       as_denoted t (alone d.value) d at.sets _ (sym (linked_alone names (across (link i x ls) at) s p (typing names (across (link i x ls) at) e) f g (denote f g e) i x ls t ht))
-      (value_says t d.value at.sets (λ n. apply (joint_op i (is_word (flat_tree names leaf (behind i (across (link i x ls) at)) under x))) (tree ((translation c (flat_tree names leaf (across (link i x ls) at) under e)).term n) (tree ((translation c (flat_tree names leaf (behind i (across (link i x ls) at)) under x)).term n) (link_terms c n (flat_links names leaf (across (link i x ls) at) under ls))))) (chain_kind under f hf kf at p e (link i x ls) l t h r nu)
-      (λ vals. one_sign_says under f hf kf at (across (link i x ls) at) s p e i x ls b.0 b'.0 he joint we wl t ht js.0 js.1 vals)))
+      (value_says t d.value at.sets (λ n. apply (infix_op i (is_word (flat_tree names leaf (behind i (across (link i x ls) at)) under x))) (tree ((translation c (flat_tree names leaf (across (link i x ls) at) under e)).term n) (tree ((translation c (flat_tree names leaf (behind i (across (link i x ls) at)) under x)).term n) (link_terms c n (flat_links names leaf (across (link i x ls) at) under ls))))) (chain_kind under f hf kf at p e (link i x ls) l t h r nu)
+      (λ vals. one_sign_says under f hf kf at (across (link i x ls) at) s p e i x ls b.0 b'.0 he one_sign we wl t ht js.0 js.1 vals)))
       (λ u y j.
       let nu : are_unions (link i x ls) ≡ false = sym (ap (λ y. is_union i && y) (unions_flat names leaf (across (link i x ls) at) under ls)) ∙ u in
       let s : (across (link i x ls) at).sets ≡ false = ap (λ (y : Bool). (if y then at else single at).sets) nu in
@@ -501,7 +501,7 @@ module _ (c : Coding) (symbols : List (List ℕ)) (some : 1 ≤ c.width) (calls 
         let b' = both_true (has_operators x) (link_operators ls) b.1 in
         chain_says under f hf kf at p e i x ls o (λ q w u k. says under f hf kf q e b.0 w u k) (λ q w u k. says under f hf kf q x b'.0 w u k)
         (λ q s p a ta z d w u k vals m acc y. folded_says under f hf kf q s p a ta z d ls b'.1 w u k vals m acc y)
-        (λ q s p a ta z d j m w u k n us fits lies kind vals. joint_says under f hf kf q s p a ta z d j m (link i x ls) b.1 w u k n us fits lies kind vals)
+        (λ q s p a ta z d j m w u k n us fits lies kind vals. joined_says under f hf kf q s p a ta z d j m (link i x ls) b.1 w u k n us fits lies kind vals)
         (λ q p a ta z w n u k vals y v m j. unions_say under f hf kf q p a ta z (link i x ls) b.1 w n u k vals y v m j)
         (λ q u us v w k n m z vals a y. implied_says under f hf kf q u us v (link i x ls) b.1 w k n m z vals a y) l t h
     says under f hf kf at (choice p bs e) o l t h =
@@ -630,12 +630,12 @@ module _ (c : Coding) (symbols : List (List ℕ)) (some : 1 ≤ c.width) (calls 
         folded_says under f hf kf q s p fr r.0 r.1 (joined i d (denote f g x)) ls k.1 (omega (arith, l)) t h vals (front_width i m (word_width (flat_tree names leaf (behind i q) under x))) _
         (front_says under f hf kf q s p a ta e d i x k.0 (λ z w u y. says under f hf kf z x k.0 w u y) (omega (arith, l)) r.0 r.1 fits vals false m acc b)
 
-    joint_says : (under : Bool) (f : Path → Value) → NamesLie names f → ((x : Path) → LeafStands c.width symbols c.place (if under then later else now) (leaf x) (f x)) → (q : Position) → q.sets ≡ false → (p : Place) (a : Typing) (ta : ExprType) → a.type ≡ Some ta → (d : Denotation) (i : Infix) → joins_with i i ≡ true → (ls : Links)
+    joined_says : (under : Bool) (f : Path → Value) → NamesLie names f → ((x : Path) → LeafStands c.width symbols c.place (if under then later else now) (leaf x) (f x)) → (q : Position) → q.sets ≡ false → (p : Place) (a : Typing) (ta : ExprType) → a.type ≡ Some ta → (d : Denotation) (i : Infix) → joins_with i i ≡ true → (ls : Links)
         → link_operators ls ≡ true → fronts_width names q p a ls ≤ c.width → (t : ExprType) → (linked names q p a ls).type ≡ Some t → all_join_with i (flat_links names leaf q under ls) ≡ true
         → (us : ExprType) → infix_fits i ta us ≡ true → LiesIn ta d.value → IsOfKind c.width symbols ta d.value → (vals : List Datum)
-        → op_value (joint_op i (is_word_type ta)) (datum_of c.width symbols d.value ∷ term_values calls now later vals (link_terms c (length vals) (flat_links names leaf q under ls))) ≡ datum_of c.width symbols (linked_values f g d ls).value
-    joint_says under f hf kf q s p a ta e d i j no_links o l t h n us fits lies kind vals = joint_end c.width symbols i ta us d.value j fits kind
-    joint_says under f hf kf q s p a ta e d i j (link i' x ls) o l t h n us fits lies kind vals =
+        → op_value (infix_op i (is_word_type ta)) (datum_of c.width symbols d.value ∷ term_values calls now later vals (link_terms c (length vals) (flat_links names leaf q under ls))) ≡ datum_of c.width symbols (linked_values f g d ls).value
+    joined_says under f hf kf q s p a ta e d i j no_links o l t h n us fits lies kind vals = joined_end c.width symbols i ta us d.value j fits kind
+    joined_says under f hf kf q s p a ta e d i j (link i' x ls) o l t h n us fits lies kind vals =
         let k = both_true (has_operators x) (link_operators ls) o in
         let n' = both_true (joins_with i i') (all_join_with i (flat_links names leaf q under ls)) n in
         let e' : i ≡ i' = joins_same i i' n'.0 in
@@ -649,21 +649,21 @@ module _ (c : Coding) (symbols : List (List ℕ)) (some : 1 ≤ c.width) (calls 
         let w = (denote f g x).value in
         let v : IsOfKind c.width symbols y.left d.value = subst (λ z. IsOfKind c.width symbols z d.value) same kind in
         let z' = says under f hf kf (behind i' q) x k.0 (subst (λ n. n ≤ c.width) (plain_width i' (expression_width names (behind i' q) x) plain) (omega (arith, l))) y.right y.right_is in
-        let kept = joint_kept i' y.left y.right x j' y.fits in
+        let kept = joined_kept i' y.left y.right x j' y.fits in
         let new : LiesIn r.0 (applied i' d.value w) = subst (λ z. LiesIn z (applied i' d.value w)) y.whole
         (infix_lies i' y.left y.right x d.value w (plain_no_union i' plain) y.fits y.divided y.shifted y.joined (divisor_is f g x) (number_is f g x)
         (subst (λ z. LiesIn z d.value) same lies) (lies_as f hf (behind i' q) free x y.right y.right_is)) in
         let meant : (joined i' d (denote f g x)).value ≡ applied i' d.value w = ap (λ (z : Denotation). z.value) (plain_joined i' d (denote f g x) plain) in
         let ds = term_values calls now later vals (link_terms c (length vals) (flat_links names leaf q under ls)) in
         let fits' : integers_width r.0 ≤ c.width = subst (λ z. node_width z ≤ c.width) r.1 (omega (arith, l)) in
-        ap (λ z. op_value (joint_op i (is_word_type ta)) (datum_of c.width symbols d.value ∷ z ∷ ds)) (z'.value free vals)
-        ∙ ap (λ z. op_value (joint_op z (is_word_type ta)) (datum_of c.width symbols d.value ∷ datum_of c.width symbols w ∷ ds)) e'
-        ∙ ap (λ z. op_value (joint_op i' (is_word_type z)) (datum_of c.width symbols d.value ∷ datum_of c.width symbols w ∷ ds)) same
-        ∙ joint_step c.width symbols some i' y.left y.right d.value w ds j' y.fits v (z'.kind free)
-        ∙ ap (λ z. op_value (joint_op i' z) (datum_of c.width symbols (applied i' d.value w) ∷ ds)) (sym kept.1 ∙ ap is_word_type y.whole)
-        ∙ ap (λ z. op_value (joint_op z (is_word_type r.0)) (datum_of c.width symbols (applied i' d.value w) ∷ ds)) (sym e')
-        ∙ ap (λ z. op_value (joint_op i (is_word_type r.0)) (datum_of c.width symbols z ∷ ds)) (sym meant)
-        ∙ joint_says under f hf kf q s p fr r.0 r.1 (joined i' d (denote f g x)) i j ls k.1 (omega (arith, l)) t h n'.1 y.right (subst (λ z. infix_fits z r.0 y.right ≡ true) (sym e') (subst (λ z. infix_fits i' z y.right ≡ true) y.whole kept.0))
+        ap (λ z. op_value (infix_op i (is_word_type ta)) (datum_of c.width symbols d.value ∷ z ∷ ds)) (z'.value free vals)
+        ∙ ap (λ z. op_value (infix_op z (is_word_type ta)) (datum_of c.width symbols d.value ∷ datum_of c.width symbols w ∷ ds)) e'
+        ∙ ap (λ z. op_value (infix_op i' (is_word_type z)) (datum_of c.width symbols d.value ∷ datum_of c.width symbols w ∷ ds)) same
+        ∙ joined_step c.width symbols some i' y.left y.right d.value w ds j' y.fits v (z'.kind free)
+        ∙ ap (λ z. op_value (infix_op i' z) (datum_of c.width symbols (applied i' d.value w) ∷ ds)) (sym kept.1 ∙ ap is_word_type y.whole)
+        ∙ ap (λ z. op_value (infix_op z (is_word_type r.0)) (datum_of c.width symbols (applied i' d.value w) ∷ ds)) (sym e')
+        ∙ ap (λ z. op_value (infix_op i (is_word_type r.0)) (datum_of c.width symbols z ∷ ds)) (sym meant)
+        ∙ joined_says under f hf kf q s p fr r.0 r.1 (joined i' d (denote f g x)) i j ls k.1 (omega (arith, l)) t h n'.1 y.right (subst (λ z. infix_fits z r.0 y.right ≡ true) (sym e') (subst (λ z. infix_fits i' z y.right ≡ true) y.whole kept.0))
         (subst (λ z. LiesIn r.0 z) (sym meant) new) (subst (λ z. IsOfKind c.width symbols r.0 z) (sym meant) (known_kind c.width symbols r.0 (applied i' d.value w) fits' new (known_applied symbols i' d.value w))) vals
 
     -- a chain that is no set, read from the left or joined; its operands stand where no set may

@@ -3,10 +3,10 @@ use Rattle.std.proofs.Common.{◌≡◌, ℕ, ◌+◌, ◌-◌, Bool, true, fals
 use Rattle.std.specs.List.{list_all}
 use Rattle.text_core.specs.declared.place.Place.{Place}
 use Rattle.smv_text.specs.declared.tree.Path.{Path}
-use Rattle.smv_text.specs.declared.tree.Prefix.{Prefix}
-use Rattle.smv_text.specs.declared.tree.Infix.{Infix}
-use Rattle.smv_text.specs.declared.tree.Infix.TheVariants.{Implies}
-use Rattle.smv_text.specs.declared.tree.Function.{Function}
+use Rattle.smv_text.specs.declared.operators.Prefix.{Prefix}
+use Rattle.smv_text.specs.declared.operators.Infix.{Infix}
+use Rattle.smv_text.specs.declared.operators.Infix.TheVariants.{Implies}
+use Rattle.smv_text.specs.declared.operators.Function.{Function}
 use Rattle.smv_text.specs.Tree.{Tree as Expression, truth, number, literal, name, prefix, chain, choice, cases, select, call, next, set, range, Links, no_links, link, Branches, no_branches, branch}
 use Rattle.smv_meaning.specs.Expressions.{is_implies, are_implies, is_from_right}
 use Rattle.smv_meaning.specs.Types.{ExprType, truth_type, integer_type, word_type, is_truth_type, is_word_type, in_limit, hull_of, logical_fits, infix_fits, infix_type, divides, shifts, joins, is_union, prefix_fits, prefix_type, is_select, function_fits, arguments_fit, function_type, are_same, implies_fits, first_type}

@@ -77,14 +77,14 @@ items_give : (kind : VarKind) (vs : List PlainItem) (x : List ℕ) (other : Loca
 items_give kind [] x other k d h = inr h
 items_give kind (v ∷ vs) x other k d h = by (λ g. items_give kind vs x other k d g) (bytes_eq v.name x) refl h
   where
-    further : ((w : PlainItem) × In w vs × (w.name ≡ x) × (w.domain ≡ d) × (kind ≡ k)) ⊎ (other ≡ variable_of k d) → ((w : PlainItem) × In w (v ∷ vs) × (w.name ≡ x) × (w.domain ≡ d) × (kind ≡ k)) ⊎ (other ≡ variable_of k d)
-    further (inl a) = inl (a.0, inr a.1, a.2, a.3, a.4)
-    further (inr a) = inr a
+    or_later : ((w : PlainItem) × In w vs × (w.name ≡ x) × (w.domain ≡ d) × (kind ≡ k)) ⊎ (other ≡ variable_of k d) → ((w : PlainItem) × In w (v ∷ vs) × (w.name ≡ x) × (w.domain ≡ d) × (kind ≡ k)) ⊎ (other ≡ variable_of k d)
+    or_later (inl a) = inl (a.0, inr a.1, a.2, a.3, a.4)
+    or_later (inr a) = inr a
 
     by : (among_items kind vs x other ≡ variable_of k d → ((w : PlainItem) × In w vs × (w.name ≡ x) × (w.domain ≡ d) × (kind ≡ k)) ⊎ (other ≡ variable_of k d)) → (b : Bool) → bytes_eq v.name x ≡ b
         → (if b then of_domain kind v.domain else among_items kind vs x other) ≡ variable_of k d → ((w : PlainItem) × In w (v ∷ vs) × (w.name ≡ x) × (w.domain ≡ d) × (kind ≡ k)) ⊎ (other ≡ variable_of k d)
     by ih true s g = let e = domain_is kind k v.domain d g in inl (v, inl refl, bytes_is v.name x s, e.1, e.0)
-    by ih false s g = further (ih g)
+    by ih false s g = or_later (ih g)
 
 later : (e : PlainElement) (es : List PlainElement) (x : List ℕ) (kind : VarKind) (d : PlainDomain) → IsDeclared es x kind d → IsDeclared (e ∷ es) x kind d
 later e es x kind d h = record { items = h.items; element = inr h.element; item = h.item; there = h.there; named = h.named; domain = h.domain }

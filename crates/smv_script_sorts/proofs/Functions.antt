@@ -8,8 +8,8 @@ use Rattle.std.specs.List.{list_all}
 use Rattle.word_core.specs.declared.word.TheConstants.{WIDEST}
 use Rattle.word_core.specs.declared.kinds.Unary.TheVariants as OnWord
 use Rattle.word_core.specs.declared.kinds.Binary.TheVariants as OnWords
-use Rattle.smv_text.specs.declared.tree.Function.{Function}
-use Rattle.smv_text.specs.declared.tree.Function.TheVariants as OfFunction
+use Rattle.smv_text.specs.declared.operators.Function.{Function}
+use Rattle.smv_text.specs.declared.operators.Function.TheVariants as OfFunction
 use Rattle.smv_meaning.specs.Types.{ExprType, integer_type, is_truth_type, is_integer_type, is_word_type, type_width, over_both_ends, function_fits, first_type}
 use Rattle.smv_meaning.specs.laws.Booleans.{both_true, absurd_bool}
 use Rattle.smv_width.specs.FlatWidth.{Holds}

@@ -7,10 +7,10 @@ use Rattle.word_core.specs.declared.word.TheConstants.{WIDEST}
 use Rattle.word_core.specs.declared.kinds.Unary.TheVariants as OnWord
 use Rattle.word_core.specs.declared.kinds.Binary.{Binary}
 use Rattle.word_core.specs.declared.kinds.Binary.TheVariants as OnWords
-use Rattle.smv_text.specs.declared.tree.Prefix.{Prefix}
-use Rattle.smv_text.specs.declared.tree.Prefix.TheVariants as OfPrefix
-use Rattle.smv_text.specs.declared.tree.Infix.{Infix}
-use Rattle.smv_text.specs.declared.tree.Infix.TheVariants.{Implies, Iff, Or, Xor, Xnor, And, Equal, Unequal, Less, Greater, LessEq, GreaterEq, Member, Union, ShiftLeft, ShiftRight, Plus, Minus, Times, Divide, Mod, Concat}
+use Rattle.smv_text.specs.declared.operators.Prefix.{Prefix}
+use Rattle.smv_text.specs.declared.operators.Prefix.TheVariants as OfPrefix
+use Rattle.smv_text.specs.declared.operators.Infix.{Infix}
+use Rattle.smv_text.specs.declared.operators.Infix.TheVariants.{Implies, Iff, Or, Xor, Xnor, And, Equal, Unequal, Less, Greater, LessEq, GreaterEq, Member, Union, ShiftLeft, ShiftRight, Plus, Minus, Times, Divide, Mod, Concat}
 use Rattle.smv_text.specs.Tree.{Tree as Expression}
 use Rattle.smv_meaning.specs.Types.{ExprType, truth_type, integer_type, symbol_type, word_type, is_truth_type, is_integer_type, is_word_type, type_width, type_same, logical_fits, number_fits, hull, hull_with, hull_of, over_ends, over_both_ends, quotient_type, rest_type, divisor_of, infix_fits, infix_type, joins, prefix_fits, prefix_type, are_same}
 use Rattle.smv_meaning.specs.laws.Booleans.{both_true, absurd_bool}
@@ -26,7 +26,7 @@ use Rattle.moxi_terms.specs.Tree.{Tree, apply, Trees, tree}
 use Rattle.moxi_sorts.specs.declared.locals.Local.{Local}
 use Rattle.moxi_print.specs.Standing.{Stands, StandEach}
 use Rattle.smv_script.specs.Codes.{sort_of}
-use Rattle.smv_script.specs.Operators.{one, two, words_term, equal_term, sign_op, repeated, joint_op, joins_with, infix_term}
+use Rattle.smv_script.specs.Operators.{one, two, words_term, equal_term, sign_op, repeated, infix_op, joins_with, infix_term}
 use Rattle.smv_script_laws.proofs.Rows.{is_plain}
 use Rattle.smv_script_sorts.proofs.Applied.{ctx, copies, one_stand, two_stand, words_stand, equal_stands, not_stands, many_stand, repeated_stands, is_written, is_known}
 
@@ -107,12 +107,6 @@ rest_fits symbol_type o h = tt
 rest_fits (word_type n) o h = h
 
 pub infix_kept : (o : Infix) (l r : ExprType) (x : Expression) → infix_fits o l r ≡ true → joins o l r ≡ true → TypeFits l → TypeFits (infix_type o l r x)
-infix_kept Implies l r x h j k = k
-infix_kept Iff l r x h j k = k
-infix_kept Or l r x h j k = k
-infix_kept Xor l r x h j k = k
-infix_kept Xnor l r x h j k = k
-infix_kept And l r x h j k = k
 infix_kept Equal l r x h j k = tt
 infix_kept Unequal l r x h j k = tt
 infix_kept Less l r x h j k = tt
@@ -121,14 +115,13 @@ infix_kept LessEq l r x h j k = tt
 infix_kept GreaterEq l r x h j k = tt
 infix_kept Member l r x h j k = tt
 infix_kept Union l r x h j k = hull_fits l r k
-infix_kept ShiftLeft l r x h j k = k
-infix_kept ShiftRight l r x h j k = k
 infix_kept Plus l r x h j k = calculated_fits ◌+ℤ◌ l r h k
 infix_kept Minus l r x h j k = calculated_fits ◌-ℤ◌ l r h k
 infix_kept Times l r x h j k = calculated_fits ◌*ℤ◌ l r h k
 infix_kept Divide l r x h j k = quotient_fits l (divisor_of x) k
 infix_kept Mod l r x h j k = rest_fits l (divisor_of x) k
 infix_kept Concat l r x h j k = width_of (type_width l + type_width r) j
+infix_kept o l r x h j k = k
 
 -- ---- sorts of types
 
@@ -208,24 +201,24 @@ module _ (w : ℕ) where
 
   -- ---- operands of one sign
 
-  pub joint_sort : (o : Infix) (l r : ExprType) → joins_with o o ≡ true → infix_fits o l r ≡ true → sort_of w r ≡ sort_of w l
-  joint_sort And l r j h = logical_sort l r h
-  joint_sort Or l r j h = logical_sort l r h
-  joint_sort Xor l r j h = logical_sort l r h
-  joint_sort Plus l r j h = number_sort l r h
-  joint_sort Times l r j h = number_sort l r h
-  joint_sort o l r j h = absurd_bool j
+  pub joined_sort : (o : Infix) (l r : ExprType) → joins_with o o ≡ true → infix_fits o l r ≡ true → sort_of w r ≡ sort_of w l
+  joined_sort And l r j h = logical_sort l r h
+  joined_sort Or l r j h = logical_sort l r h
+  joined_sort Xor l r j h = logical_sort l r h
+  joined_sort Plus l r j h = number_sort l r h
+  joined_sort Times l r j h = number_sort l r h
+  joined_sort o l r j h = absurd_bool j
 
   calculated_sort : (f : ℤ → ℤ → ℤ) (l r : ExprType) → number_fits l r ≡ true → sort_of w (over_both_ends f l r) ≡ sort_of w l
   calculated_sort f l r h = number_cases (λ l r. sort_of w (over_both_ends f l r) ≡ sort_of w l) (λ a b c d. refl) (λ m. refl) l r h
 
-  pub joint_type : (o : Infix) (l r : ExprType) (x : Expression) → joins_with o o ≡ true → infix_fits o l r ≡ true → sort_of w (infix_type o l r x) ≡ sort_of w l
-  joint_type And l r x j h = refl
-  joint_type Or l r x j h = refl
-  joint_type Xor l r x j h = refl
-  joint_type Plus l r x j h = calculated_sort ◌+ℤ◌ l r h
-  joint_type Times l r x j h = calculated_sort ◌*ℤ◌ l r h
-  joint_type o l r x j h = absurd_bool j
+  pub joined_type : (o : Infix) (l r : ExprType) (x : Expression) → joins_with o o ≡ true → infix_fits o l r ≡ true → sort_of w (infix_type o l r x) ≡ sort_of w l
+  joined_type And l r x j h = refl
+  joined_type Or l r x j h = refl
+  joined_type Xor l r x j h = refl
+  joined_type Plus l r x j h = calculated_sort ◌+ℤ◌ l r h
+  joined_type Times l r x j h = calculated_sort ◌*ℤ◌ l r h
+  joined_type o l r x j h = absurd_bool j
 
   module _ (es : List Enumeration) (vars : List Local) (primes : Primes) (bounds : List Local) where
     abbrev Has : Tree → ExprType → Type 0
@@ -254,6 +247,11 @@ module _ (w : ℕ) where
     on_integers : (o : Binary) (z : Sort) (a b : Tree) → is_written o ≡ true → calculated o (Some (Bits w)) ≡ Ok z → Stands (ctx es vars primes) bounds a (Bits w) → Stands (ctx es vars primes) bounds b (Bits w) → Stands (ctx es vars primes) bounds (words_term o a b) z
     on_integers o z a b h e i j = words_stand es vars primes bounds o w z a b h e i j
 
+    -- the operator on words that an operator of terms is
+    abbrev word_op : TermOp → Binary
+    word_op (op.BvBinary b) = b
+    word_op o = OnWords.And
+
     turned : (m : ℕ) (a : Tree) → Has a (word_type m) → Has (apply (op.BvUnary OnWord.Not) (one a)) (word_type m)
     turned m a i = one_stand es vars primes bounds (op.BvUnary OnWord.Not) (Bits m) (Bits m) a refl refl i
 
@@ -261,9 +259,6 @@ module _ (w : ℕ) where
     infix_stands Implies l r x p h k = logical_cases (Row Implies x) (λ a b i j. truths op.Implies a b refl refl i j) (λ m a b i j. on_words OnWords.Or m (Bits m) (apply (op.BvUnary OnWord.Not) (one a)) b refl refl (turned m a i) j) l r h
     infix_stands Iff l r x p h k = logical_cases (Row Iff x) (λ a b i j. equal_stands es vars primes bounds Truth a b i j) (λ m a b i j. turned m (words_term OnWords.Xor a b) (on_words OnWords.Xor m (Bits m) a b refl refl i j)) l r h
     infix_stands Xnor l r x p h k = logical_cases (Row Xnor x) (λ a b i j. not_stands es vars primes bounds (apply op.Xor (two a b)) (truths op.Xor a b refl refl i j)) (λ m a b i j. turned m (words_term OnWords.Xor a b) (on_words OnWords.Xor m (Bits m) a b refl refl i j)) l r h
-    infix_stands Or l r x p h k = logical_cases (Row Or x) (λ a b i j. truths op.Or a b refl refl i j) (λ m a b i j. on_words OnWords.Or m (Bits m) a b refl refl i j) l r h
-    infix_stands Xor l r x p h k = logical_cases (Row Xor x) (λ a b i j. truths op.Xor a b refl refl i j) (λ m a b i j. on_words OnWords.Xor m (Bits m) a b refl refl i j) l r h
-    infix_stands And l r x p h k = logical_cases (Row And x) (λ a b i j. truths op.And a b refl refl i j) (λ m a b i j. on_words OnWords.And m (Bits m) a b refl refl i j) l r h
     infix_stands Equal l r x p h k = λ a b i j. equal_stands es vars primes bounds (sort_of w l) a b i (subst (Stands (ctx es vars primes) bounds b) (same_sort_of l r h) j)
     infix_stands Unequal l r x p h k = λ a b i j. not_stands es vars primes bounds (equal_term a b) (equal_stands es vars primes bounds (sort_of w l) a b i (subst (Stands (ctx es vars primes) bounds b) (same_sort_of l r h) j))
     infix_stands Less l r x p h k = number_cases (Row Less x) (λ c d e f a b i j. on_integers OnWords.Slt Truth a b refl refl i j) (λ m a b i j. on_words OnWords.Ult m Truth a b refl refl i j) l r h
@@ -286,10 +281,11 @@ module _ (w : ℕ) where
     infix_stands Union l r x p h k = absurd_bool p
     infix_stands ShiftLeft l r x p h k = absurd_bool p
     infix_stands ShiftRight l r x p h k = absurd_bool p
+    infix_stands o l r x p h k = logical_cases (Row o x) (λ a b i j. truths (infix_op o false) a b refl refl i j) (λ m a b i j. on_words (word_op (infix_op o true)) m (Bits m) a b refl refl i j) l r h
 
     -- a chain of one sign, of two or more operands
     abbrev Many : Infix → ExprType → ExprType → Type 0
-    Many o l r = (t s : Tree) (ts : Trees) → StandEach (ctx es vars primes) bounds (tree t (tree s ts)) (copies (sort_of w l) (tree t (tree s ts))) → Has (apply (joint_op o (is_word_type r)) (tree t (tree s ts))) l
+    Many o l r = (t s : Tree) (ts : Trees) → StandEach (ctx es vars primes) bounds (tree t (tree s ts)) (copies (sort_of w l) (tree t (tree s ts))) → Has (apply (infix_op o (is_word_type r)) (tree t (tree s ts))) l
 
     many : (o : TermOp) (z : Sort) (t s : Tree) (ts : Trees) → is_known o ≡ true → ((n : ℕ) → 2 ≤ n → count_fits o n ≡ true) → (common (z ∷ copies z (tree s ts)) ≡ Some z → fitting o (copies z (tree t (tree s ts))) ≡ Ok z)
         → StandEach (ctx es vars primes) bounds (tree t (tree s ts)) (copies z (tree t (tree s ts))) → Stands (ctx es vars primes) bounds (apply o (tree t (tree s ts))) z
@@ -301,10 +297,10 @@ module _ (w : ℕ) where
     one_most : (n : ℕ) → 2 ≤ n → nat_le 1 n ≡ true
     one_most n h = le-leb 1 n (omega (arith, h))
 
-    pub joint_stands : (o : Infix) (l r : ExprType) → joins_with o o ≡ true → infix_fits o l r ≡ true → Many o l r
-    joint_stands And l r j h = logical_cases (Many And) (λ t s ts i. many op.And Truth t s ts refl one_most (λ e. ap logical e) i) (λ m t s ts i. many (op.BvBinary OnWords.And) (Bits m) t s ts refl two_most (λ e. ap (calculated OnWords.And) e) i) l r h
-    joint_stands Or l r j h = logical_cases (Many Or) (λ t s ts i. many op.Or Truth t s ts refl one_most (λ e. ap logical e) i) (λ m t s ts i. many (op.BvBinary OnWords.Or) (Bits m) t s ts refl two_most (λ e. ap (calculated OnWords.Or) e) i) l r h
-    joint_stands Xor l r j h = logical_cases (Many Xor) (λ t s ts i. many op.Xor Truth t s ts refl two_most (λ e. ap logical e) i) (λ m t s ts i. many (op.BvBinary OnWords.Xor) (Bits m) t s ts refl two_most (λ e. ap (calculated OnWords.Xor) e) i) l r h
-    joint_stands Plus l r j h = number_cases (Many Plus) (λ a b c d t s ts i. many (op.BvBinary OnWords.Add) (Bits w) t s ts refl two_most (λ e. ap (calculated OnWords.Add) e) i) (λ m t s ts i. many (op.BvBinary OnWords.Add) (Bits m) t s ts refl two_most (λ e. ap (calculated OnWords.Add) e) i) l r h
-    joint_stands Times l r j h = number_cases (Many Times) (λ a b c d t s ts i. many (op.BvBinary OnWords.Mul) (Bits w) t s ts refl two_most (λ e. ap (calculated OnWords.Mul) e) i) (λ m t s ts i. many (op.BvBinary OnWords.Mul) (Bits m) t s ts refl two_most (λ e. ap (calculated OnWords.Mul) e) i) l r h
-    joint_stands o l r j h = absurd_bool j
+    pub joined_stands : (o : Infix) (l r : ExprType) → joins_with o o ≡ true → infix_fits o l r ≡ true → Many o l r
+    joined_stands And l r j h = logical_cases (Many And) (λ t s ts i. many op.And Truth t s ts refl one_most (λ e. ap logical e) i) (λ m t s ts i. many (op.BvBinary OnWords.And) (Bits m) t s ts refl two_most (λ e. ap (calculated OnWords.And) e) i) l r h
+    joined_stands Or l r j h = logical_cases (Many Or) (λ t s ts i. many op.Or Truth t s ts refl one_most (λ e. ap logical e) i) (λ m t s ts i. many (op.BvBinary OnWords.Or) (Bits m) t s ts refl two_most (λ e. ap (calculated OnWords.Or) e) i) l r h
+    joined_stands Xor l r j h = logical_cases (Many Xor) (λ t s ts i. many op.Xor Truth t s ts refl two_most (λ e. ap logical e) i) (λ m t s ts i. many (op.BvBinary OnWords.Xor) (Bits m) t s ts refl two_most (λ e. ap (calculated OnWords.Xor) e) i) l r h
+    joined_stands Plus l r j h = number_cases (Many Plus) (λ a b c d t s ts i. many (op.BvBinary OnWords.Add) (Bits w) t s ts refl two_most (λ e. ap (calculated OnWords.Add) e) i) (λ m t s ts i. many (op.BvBinary OnWords.Add) (Bits m) t s ts refl two_most (λ e. ap (calculated OnWords.Add) e) i) l r h
+    joined_stands Times l r j h = number_cases (Many Times) (λ a b c d t s ts i. many (op.BvBinary OnWords.Mul) (Bits w) t s ts refl two_most (λ e. ap (calculated OnWords.Mul) e) i) (λ m t s ts i. many (op.BvBinary OnWords.Mul) (Bits m) t s ts refl two_most (λ e. ap (calculated OnWords.Mul) e) i) l r h
+    joined_stands o l r j h = absurd_bool j

@@ -8,10 +8,10 @@ use Rattle.word_core.specs.declared.word.TheConstants.{WIDEST}
 use Rattle.word_core.specs.declared.kinds.Binary.{Binary}
 use Rattle.word_core.specs.declared.kinds.Binary.TheVariants as OnWords
 use Rattle.smv_text.specs.declared.tree.Path.{Path}
-use Rattle.smv_text.specs.declared.tree.Infix.{Infix}
-use Rattle.smv_text.specs.declared.tree.Infix.TheVariants.{Implies, Member, Union, ShiftLeft, ShiftRight}
-use Rattle.smv_text.specs.declared.tree.Function.{Function}
-use Rattle.smv_text.specs.declared.tree.Function.TheVariants as OfFunction
+use Rattle.smv_text.specs.declared.operators.Infix.{Infix}
+use Rattle.smv_text.specs.declared.operators.Infix.TheVariants.{Implies, Member, Union, ShiftLeft, ShiftRight}
+use Rattle.smv_text.specs.declared.operators.Function.{Function}
+use Rattle.smv_text.specs.declared.operators.Function.TheVariants as OfFunction
 use Rattle.smv_text.specs.Tree.{Tree as Expression, truth, number, literal, name, prefix, chain, choice, cases, select, call, next, set, range, Links, no_links, link, Branches, no_branches, branch, Trees as Expressions, no_trees as no_expressions, tree as expression}
 use Rattle.smv_meaning.specs.declared.value.Value.{Value}
 use Rattle.smv_meaning.specs.Operators.{int_abs, is_width}
@@ -37,7 +37,7 @@ use Rattle.moxi_terms.specs.Tree.{Tree, constant, variable, bound, apply, tree}
 use Rattle.moxi_sorts.specs.declared.locals.Local.{Local}
 use Rattle.moxi_print.specs.Standing.{Stands, StandEach, StandsPrime}
 use Rattle.smv_script.specs.Codes.{sort_of}
-use Rattle.smv_script.specs.Operators.{word_term, integer_term, words_term, extended_term, any_term, sign_op, repeated, joint_op, joins_with, infix_term, front_width, link_term, selected_term, resized_term, function_term, among_term}
+use Rattle.smv_script.specs.Operators.{word_term, integer_term, words_term, extended_term, any_term, sign_op, repeated, infix_op, joins_with, infix_term, front_width, link_term, selected_term, resized_term, function_term, among_term}
 use Rattle.smv_script.specs.Terms.{is_word_in, is_word, width_in, word_width, amount_of, is_name, arguments_of, Translation, value_translation, set_translation, choice_translation, are_flat_unions, all_join_with, Coding, translation, implied_term, folded_term, link_terms, link_members, chosen_translation, taken_translation, terms, members}
 use Rattle.smv_script_laws.proofs.Rows.{is_plain}
 use Rattle.smv_script_laws.proofs.Typings.{call_typed, front_no_union, front_typed, implies_flat, implies_typed, linked_typed, node_typed, range_typed, right_no_union, set_typed, some_same, type_kept, unions_flat}
@@ -46,7 +46,7 @@ use Rattle.smv_script_sorts.specs.LetNames.{AreLetNames}
 use Rattle.smv_script_sorts.specs.Standing.{CanStand}
 use Rattle.smv_script_sorts.proofs.Applied.{ctx, copies, equal_stands, choice_stands, words_stand, word_stands, integer_stands, extended_stands, selected_stands, resized_stands, any_stands, between_stands, is_written}
 use Rattle.smv_script_sorts.proofs.Bounds.{one_bound, one_let, one_long, one_stands}
-use Rattle.smv_script_sorts.proofs.Rows.{TypeFits, infix_kept, word_cases, truth_case, same_sort_of, hull_sort, hull_of_sorts, prefix_sort, joint_sort, joint_type, sign_stands, infix_stands, joint_stands}
+use Rattle.smv_script_sorts.proofs.Rows.{TypeFits, infix_kept, word_cases, truth_case, same_sort_of, hull_sort, hull_of_sorts, prefix_sort, joined_sort, joined_type, sign_stands, infix_stands, joined_stands}
 use Rattle.smv_script_sorts.proofs.Functions.{bool_stands, word1_stands, toint_stands, count_stands, max_stands, min_stands, abs_stands}
 use Rattle.smv_script_sorts.proofs.Typed.{prefix_whole, select_whole, branches_whole, literal_whole, select_bounds, behind_nexts, across_nexts, never_primed, type_fits}
 
@@ -285,19 +285,19 @@ module _ (c : Coding) (enums : List Enumeration) (vars : List Local) (primes : P
     one_sign_can : (q : Position) → StandsPrime primes q.nexts → q.sets ≡ false → (p : Place) (e : Expression) (i : Infix) (x : Expression) (ls : Links) → has_operators x ≡ true → Each under e → Joins (link i x ls)
         → expression_width names q e ≤ c.width → fronts_width names q p (typing names q e) (link i x ls) ≤ c.width → (t : ExprType) → (linked names q p (typing names q e) (link i x ls)).type ≡ Some t
         → joins_with i i ≡ true → all_join_with i (flat_links names leaf q under ls) ≡ true → (bounds : List Local) → AreLetNames bounds
-        → Has bounds (apply (joint_op i (is_word (flat_tree names leaf (behind i q) under x))) (tree ((translation c (flat_tree names leaf q under e)).term (length bounds)) (tree ((translation c (flat_tree names leaf (behind i q) under x)).term (length bounds)) (link_terms c (length bounds) (flat_links names leaf q under ls))))) t
-    one_sign_can q n s p e i x ls ox he joint we wl t h j all bounds lets =
+        → Has bounds (apply (infix_op i (is_word (flat_tree names leaf (behind i q) under x))) (tree ((translation c (flat_tree names leaf q under e)).term (length bounds)) (tree ((translation c (flat_tree names leaf (behind i q) under x)).term (length bounds)) (link_terms c (length bounds) (flat_links names leaf q under ls))))) t
+    one_sign_can q n s p e i x ls ox he one_sign we wl t h j all bounds lets =
         let a = typing names q e in
         let fr = front i q p a (typing names (behind i q) x) x in
         let r = linked_typed names q p fr ls t h in
         let y = front_typed i q p a.type (typing names (behind i q) x).type x r.0 r.1 in
         let z = he q n we y.left y.left_is in
         let free = plain_sets i q (joins_plain i j).0 in
-        let k = joint q n s p a y.left y.left_is i j wl t h (two_true (joins_with i i) (all_join_with i (flat_links names leaf q under ls)) j all) in
+        let k = one_sign q n s p a y.left y.left_is i j wl t h (two_true (joins_with i i) (all_join_with i (flat_links names leaf q under ls)) j all) in
         let ts = tree ((translation c (flat_tree names leaf q under e)).term (length bounds)) (tree ((translation c (flat_tree names leaf (behind i q) under x)).term (length bounds)) (link_terms c (length bounds) (flat_links names leaf q under ls))) in
-        subst (λ w. Has bounds (apply (joint_op i w) ts) t) (sym (ap is_word_in (type_kept names leaf (behind i q) under x ox free y.right y.right_is)))
-        (subst (Stands (ctx enums vars primes) bounds (apply (joint_op i (is_word_type y.right)) ts)) (sym k.0)
-        (joint_stands c.width enums vars primes bounds i y.left y.right j y.fits _ _ _ (z.value s bounds lets, k.1 bounds lets)))
+        subst (λ w. Has bounds (apply (infix_op i w) ts) t) (sym (ap is_word_in (type_kept names leaf (behind i q) under x ox free y.right y.right_is)))
+        (subst (Stands (ctx enums vars primes) bounds (apply (infix_op i (is_word_type y.right)) ts)) (sym k.0)
+        (joined_stands c.width enums vars primes bounds i y.left y.right j y.fits _ _ _ (z.value s bounds lets, k.1 bounds lets)))
 
     union_can : (at : Position) → StandsPrime primes at.nexts → (p : Place) (e : Expression) (i : Infix) (x : Expression) (ls : Links) → Each under e → Unions (link i x ls)
         → expression_width names at e ≤ c.width → fronts_width names at p (typing names at e) (link i x ls) ≤ c.width → (t : ExprType) → (linked names at p (typing names at e) (link i x ls)).type ≡ Some t
@@ -331,7 +331,7 @@ module _ (c : Coding) (enums : List Enumeration) (vars : List Local) (primes : P
     chain_can : (at : Position) → StandsPrime primes at.nexts → (p : Place) (e : Expression) (i : Infix) (x : Expression) (ls : Links) → has_operators (chain p e (link i x ls)) ≡ true → Each under e → Each under x → Folds ls → Joins (link i x ls) → Unions (link i x ls) → Implications (link i x ls)
         → expression_width names at (chain p e (link i x ls)) ≤ c.width
         → (t : ExprType) → (typing names at (chain p e (link i x ls))).type ≡ Some t → Can t at.sets (translation c (flat_tree names leaf at under (chain p e (link i x ls))))
-    chain_can at n p e i x ls o he hx fold joint unions implied l t h =
+    chain_can at n p e i x ls o he hx fold one_sign unions implied l t h =
         let q = across (link i x ls) at in
         let nq : StandsPrime primes q.nexts = subst (StandsPrime primes) (sym (across_nexts (link i x ls) at)) n in
         let fls = flat_links names leaf q under ls in
@@ -365,8 +365,8 @@ module _ (c : Coding) (enums : List Enumeration) (vars : List Local) (primes : P
         let nu : are_unions (link i x ls) ≡ false = sym (ap (λ y. is_union i && y) (unions_flat names leaf q under ls)) ∙ u in
         let s : q.sets ≡ false = ap (λ (y : Bool). (if y then at else single at).sets) nu in
         let js = both_true (joins_with i i) (all_join_with i fls) j in
-        value_can (sort_of c.width t) at.sets (λ n. apply (joint_op i (is_word (flat_tree names leaf (behind i q) under x))) (tree ((translation c (flat_tree names leaf q under e)).term n) (tree ((translation c (flat_tree names leaf (behind i q) under x)).term n) (link_terms c n fls))))
-        (λ bounds lets. one_sign_can q nq s p e i x ls b'.0 he joint we wl t ht js.0 js.1 bounds lets))
+        value_can (sort_of c.width t) at.sets (λ n. apply (infix_op i (is_word (flat_tree names leaf (behind i q) under x))) (tree ((translation c (flat_tree names leaf q under e)).term n) (tree ((translation c (flat_tree names leaf (behind i q) under x)).term n) (link_terms c n fls))))
+        (λ bounds lets. one_sign_can q nq s p e i x ls b'.0 he one_sign we wl t ht js.0 js.1 bounds lets))
         (λ u y j.
         let nu : are_unions (link i x ls) ≡ false = sym (ap (λ y. is_union i && y) (unions_flat names leaf q under ls)) ∙ u in
         let s : q.sets ≡ false = ap (λ (y : Bool). (if y then at else single at).sets) nu in
@@ -466,7 +466,7 @@ module _ (c : Coding) (enums : List Enumeration) (vars : List Local) (primes : P
         let b' = both_true (has_operators x) (link_operators ls) b.1 in
         chain_can under at n p e i x ls o (λ q m w u k. can under up q m e b.0 w u k) (λ q m w u k. can under up q m x b'.0 w u k)
         (λ q m s p a ta z w u k bounds lets d acc y. folded_can under up q m s p a ta z ls b'.1 w u k bounds lets d acc y)
-        (λ q m s p a ta z j d w u k all. joint_can under up q m s p a ta z j d (link i x ls) b.1 w u k all)
+        (λ q m s p a ta z j d w u k all. joined_can under up q m s p a ta z j d (link i x ls) b.1 w u k all)
         (λ q m p a ta z w d u k. unions_can under up q m p a ta z (link i x ls) b.1 w d u k)
         (λ q m u us w k d z bounds lets a y. implied_can under up q m u us (link i x ls) b.1 w k d z bounds lets a y) l t h
     can under up at n (choice p bs e) o l t h =
@@ -593,11 +593,11 @@ module _ (c : Coding) (enums : List Enumeration) (vars : List Local) (primes : P
         folded_can under up q n s p fr r.0 r.1 ls k.1 (omega (arith, l)) t h bounds lets (front_width i m (word_width (flat_tree names leaf (behind i q) under x))) _
         (front_can under q n s p a ta e i x k.0 (λ z y w u d. can under up z y x k.0 w u d) (omega (arith, l)) r.0 r.1 bounds lets false m acc b)
 
-    joint_can : (under : Bool) → StandsPrime primes under → (q : Position) → StandsPrime primes q.nexts → q.sets ≡ false → (p : Place) (a : Typing) (ta : ExprType) → a.type ≡ Some ta → (j : Infix) → joins_with j j ≡ true → (ls : Links)
+    joined_can : (under : Bool) → StandsPrime primes under → (q : Position) → StandsPrime primes q.nexts → q.sets ≡ false → (p : Place) (a : Typing) (ta : ExprType) → a.type ≡ Some ta → (j : Infix) → joins_with j j ≡ true → (ls : Links)
         → link_operators ls ≡ true → fronts_width names q p a ls ≤ c.width → (t : ExprType) → (linked names q p a ls).type ≡ Some t → all_join_with j (flat_links names leaf q under ls) ≡ true
         → (sort_of c.width t ≡ sort_of c.width ta) × ((bounds : List Local) → AreLetNames bounds → StandEach (ctx enums vars primes) bounds (link_terms c (length bounds) (flat_links names leaf q under ls)) (copies (sort_of c.width ta) (link_terms c (length bounds) (flat_links names leaf q under ls))))
-    joint_can under up q n s p a ta e j d no_links o l t h all = (ap (sort_of c.width) (some_same t ta (sym h ∙ e)), (λ bounds lets. tt))
-    joint_can under up q n s p a ta e j d (link i x ls) o l t h all =
+    joined_can under up q n s p a ta e j d no_links o l t h all = (ap (sort_of c.width) (some_same t ta (sym h ∙ e)), (λ bounds lets. tt))
+    joined_can under up q n s p a ta e j d (link i x ls) o l t h all =
         let k = both_true (has_operators x) (link_operators ls) o in
         let all' = both_true (joins_with j i) (all_join_with j (flat_links names leaf q under ls)) all in
         let d' : joins_with i i ≡ true = subst (λ z. joins_with z z ≡ true) (joins_same j i all'.0) d in
@@ -608,9 +608,9 @@ module _ (c : Coding) (enums : List Enumeration) (vars : List Local) (primes : P
         let y = front_typed i q p a.type (typing names (behind i q) x).type x r.0 r.1 in
         let same : ta ≡ y.left = some_same ta y.left (sym e ∙ y.left_is) in
         let z = can under up (behind i q) (subst (StandsPrime primes) (sym (behind_nexts i q)) n) x k.0 (subst (λ m. m ≤ c.width) (plain_width i (expression_width names (behind i q) x) plain) (omega (arith, l))) y.right y.right_is in
-        let front_sort : sort_of c.width r.0 ≡ sort_of c.width ta = ap (sort_of c.width) (sym y.whole) ∙ joint_type c.width i y.left y.right x d' y.fits ∙ ap (sort_of c.width) (sym same) in
-        let one_sort : sort_of c.width y.right ≡ sort_of c.width ta = joint_sort c.width i y.left y.right d' y.fits ∙ ap (sort_of c.width) (sym same) in
-        let w = joint_can under up q n s p fr r.0 r.1 j d ls k.1 (omega (arith, l)) t h all'.1 in (
+        let front_sort : sort_of c.width r.0 ≡ sort_of c.width ta = ap (sort_of c.width) (sym y.whole) ∙ joined_type c.width i y.left y.right x d' y.fits ∙ ap (sort_of c.width) (sym same) in
+        let one_sort : sort_of c.width y.right ≡ sort_of c.width ta = joined_sort c.width i y.left y.right d' y.fits ∙ ap (sort_of c.width) (sym same) in
+        let w = joined_can under up q n s p fr r.0 r.1 j d ls k.1 (omega (arith, l)) t h all'.1 in (
           w.0 ∙ front_sort,
           (λ bounds lets. (
             subst (Stands (ctx enums vars primes) bounds ((translation c (flat_tree names leaf (behind i q) under x)).term (length bounds))) one_sort (z.value free bounds lets),

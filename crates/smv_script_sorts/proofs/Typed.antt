@@ -6,9 +6,9 @@ use Rattle.text_core.specs.declared.place.Place.{Place}
 use Rattle.word_core.specs.Words.{BitVector, IsWord}
 use Rattle.word_core.specs.declared.word.TheConstants.{WIDEST}
 use Rattle.smv_text.specs.declared.tree.Path.{Path}
-use Rattle.smv_text.specs.declared.tree.Prefix.{Prefix}
-use Rattle.smv_text.specs.declared.tree.Infix.{Infix}
-use Rattle.smv_text.specs.declared.tree.Infix.TheVariants.{Member}
+use Rattle.smv_text.specs.declared.operators.Prefix.{Prefix}
+use Rattle.smv_text.specs.declared.operators.Infix.{Infix}
+use Rattle.smv_text.specs.declared.operators.Infix.TheVariants.{Member}
 use Rattle.smv_text.specs.Tree.{Tree as Expression, Links}
 use Rattle.smv_meaning.specs.declared.value.Value.{Value}
 use Rattle.smv_meaning.specs.declared.value.Value.TheVariants.{Bits}

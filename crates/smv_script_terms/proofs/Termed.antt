@@ -1,9 +1,9 @@
 -- The loops over the parts of expressions.
 use Rattle.std.proofs.Common.{◌≡◌, ℕ, ◌+◌, ◌≤◌, ◌++◌, Bool, List, [], ◌∷◌, drop, length, map, option_map, is_some, Option, None, Vec, Box, Global, refl, sym, ap, ◌∙◌, rules}
 use Rattle.std.proofs.lemmas.List.{drop_all}
-use Rattle.smv_text.specs.declared.tree.Prefix.{Prefix}
-use Rattle.smv_text.specs.declared.tree.Function.{Function}
-use Rattle.smv_text.specs.declared.tree.Infix.{Infix}
+use Rattle.smv_text.specs.declared.operators.Prefix.{Prefix}
+use Rattle.smv_text.specs.declared.operators.Function.{Function}
+use Rattle.smv_text.specs.declared.operators.Infix.{Infix}
 use Rattle.smv_intervals.specs.View.{seen}
 use Rattle.moxi_terms.specs.Tree.{Tree, list_of}
 use Rattle.smv_flat.specs.declared.expressions.FlatExpr.{FlatExpr, the_lemmas}

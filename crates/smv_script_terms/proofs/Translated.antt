@@ -1,12 +1,12 @@
 -- What expressions answer, by their kinds.
 use Rattle.std.proofs.Common.{◌≡◌, ℕ, Bool, true, false, if◌then◌else◌, is_some, Option, Some, None, Result, Ok, Err, IfOk, refl, sym, ap, ◌∙◌}
-use Rattle.smv_text.specs.declared.tree.Infix.{Infix}
-use Rattle.smv_text.specs.declared.tree.Infix.TheVariants.{Implies, Member, ShiftLeft, ShiftRight}
+use Rattle.smv_text.specs.declared.operators.Infix.{Infix}
+use Rattle.smv_text.specs.declared.operators.Infix.TheVariants.{Implies, Member, ShiftLeft, ShiftRight}
 use Rattle.smv_meaning.specs.Types.{ExprType}
 use Rattle.moxi_terms.specs.declared.data.TermOp.TheVariants as op
 use Rattle.moxi_terms.specs.Tree.{Tree, apply, Trees, no_trees, tree, trees_of, list_of}
 use Rattle.smv_flat.specs.FlatTree.{FlatTree, flat_truth, flat_number, flat_literal, flat_symbol, flat_item, flat_prefix, flat_chain, flat_choice, flat_cases, flat_select, flat_call, flat_set, flat_range, FlatLinks, no_flat_links, flat_link, FlatBranches, no_flat_branches, flat_branch, FlatTrees, no_flat_trees, flat_tree_then, flat_are_implies}
-use Rattle.smv_script.specs.Operators.{any_term, infix_term, joint_op, choice_term, front_width, link_term, among_term}
+use Rattle.smv_script.specs.Operators.{any_term, infix_term, infix_op, choice_term, front_width, link_term, among_term}
 use Rattle.smv_script.specs.Terms.{Coding, Translation, value_translation, translation, chain_translation, chosen_translation, choice_translation, implied_term, folded_term, link_terms, link_members, terms, members, is_name, is_word, word_width, amount_of, are_flat_unions, all_join_with}
 use Rattle.smv_script_terms.specs.declared.coding.Question.{Question}
 use Rattle.smv_script_terms.specs.declared.coding.Question.TheVariants.{Value, Permits}
@@ -156,11 +156,11 @@ record IsJoint (o p : Infix) (w x : Bool) (d u : Translation) : Type 0 where
   pub words : w ≡ x
   pub picked : d ≡ u
 
-joint_flag : (a b d : Bool) (o p : Infix) (w x : Bool) (s t u v : Translation) → flags a b d o w ≡ by.OneOperator p x → IsJoint o p w x (picked a b d s t u v) u
-joint_flag true b d o p w x s t u v h = cc
-joint_flag false true d o p w x s t u v h = cc
-joint_flag false false true o p w x s t u v h = record { sign = cc; words = cc; picked = refl }
-joint_flag false false false o p w x s t u v h = cc
+joined_flag : (a b d : Bool) (o p : Infix) (w x : Bool) (s t u v : Translation) → flags a b d o w ≡ by.OneOperator p x → IsJoint o p w x (picked a b d s t u v) u
+joined_flag true b d o p w x s t u v h = cc
+joined_flag false true d o p w x s t u v h = cc
+joined_flag false false true o p w x s t u v h = record { sign = cc; words = cc; picked = refl }
+joined_flag false false false o p w x s t u v h = cc
 
 abbrev of_chain : Coding → FlatTree → FlatLinks → Translation
 of_chain c e ls = chain_translation c (is_name e) (word_width e) (translation c e) ls
@@ -185,15 +185,15 @@ implied_read q c k e (flat_link o f ls) v h g =
     (implied_flag (are_flat_unions (flat_link o f ls)) (flat_are_implies (flat_link o f ls)) (all_join_with o (flat_link o f ls)) o (is_word f) _ _ _ _ h)
     (g ∙ implied_are c k ((translation c e).term k) (flat_link o f ls))
 
-pub joint_read : (q : Question) (c : Coding) (k : ℕ) (e : FlatTree) (ls : FlatLinks) (p : Infix) (words : Bool) (v : Tree) → reading ls ≡ by.OneOperator p words
-    → v ≡ apply (joint_op p words) (tree ((translation c e).term k) (link_answers Value c k ls)) → answered_value q v ≡ chain_answered q c k e ls
-joint_read q c k e no_flat_links p words v h g = cc
-joint_read q c k e (flat_link o f ls) p words v h g =
-    let j = joint_flag (are_flat_unions (flat_link o f ls)) (flat_are_implies (flat_link o f ls)) (all_join_with o (flat_link o f ls)) o p (is_word f) words _ _ _ _ h in
-    by_value q k (of_chain c e (flat_link o f ls)) (λ i. apply (joint_op o (is_word f)) (tree ((translation c e).term i) (link_terms c i (flat_link o f ls)))) v j.picked
-    (g ∙ ap (λ ts. apply (joint_op p words) (tree ((translation c e).term k) ts)) (link_values c k (flat_link o f ls))
-    ∙ ap (λ r. apply (joint_op r words) (tree ((translation c e).term k) (link_terms c k (flat_link o f ls)))) (sym j.sign)
-    ∙ ap (λ r. apply (joint_op o r) (tree ((translation c e).term k) (link_terms c k (flat_link o f ls)))) (sym j.words))
+pub joined_read : (q : Question) (c : Coding) (k : ℕ) (e : FlatTree) (ls : FlatLinks) (p : Infix) (words : Bool) (v : Tree) → reading ls ≡ by.OneOperator p words
+    → v ≡ apply (infix_op p words) (tree ((translation c e).term k) (link_answers Value c k ls)) → answered_value q v ≡ chain_answered q c k e ls
+joined_read q c k e no_flat_links p words v h g = cc
+joined_read q c k e (flat_link o f ls) p words v h g =
+    let j = joined_flag (are_flat_unions (flat_link o f ls)) (flat_are_implies (flat_link o f ls)) (all_join_with o (flat_link o f ls)) o p (is_word f) words _ _ _ _ h in
+    by_value q k (of_chain c e (flat_link o f ls)) (λ i. apply (infix_op o (is_word f)) (tree ((translation c e).term i) (link_terms c i (flat_link o f ls)))) v j.picked
+    (g ∙ ap (λ ts. apply (infix_op p words) (tree ((translation c e).term k) ts)) (link_values c k (flat_link o f ls))
+    ∙ ap (λ r. apply (infix_op r words) (tree ((translation c e).term k) (link_terms c k (flat_link o f ls)))) (sym j.sign)
+    ∙ ap (λ r. apply (infix_op o r) (tree ((translation c e).term k) (link_terms c k (flat_link o f ls)))) (sym j.words))
 
 first_link : (c : Coding) (k : ℕ) (e : FlatTree) (o : Infix) (f : FlatTree) (m : ℕ)
     → joined_term o (is_some (named_subject c e)) (is_word f) m (amount_of f) ((translation c e).term k) (behind_term o k (named_subject c e) (translation c f))

@@ -1,7 +1,7 @@
 -- Lists of terms, and what is made of their ends.
 use Rattle.std.proofs.Common.{◌≡◌, ℕ, suc, ◌+◌, ◌<◌, ◌++◌, length, Bool, false, List, [], ◌∷◌, map, reverse, None, Vec, Global, refl, sym, ap, ◌∙◌, arith}
 use Rattle.std.proofs.lemmas.List.{reverse-append}
-use Rattle.smv_text.specs.declared.tree.Infix.TheVariants.{Implies}
+use Rattle.smv_text.specs.declared.operators.Infix.TheVariants.{Implies}
 use Rattle.moxi_terms.specs.declared.data.TermOp.{TermOp}
 use Rattle.moxi_terms.specs.declared.term.Term.{Term, Apply}
 use Rattle.moxi_terms.specs.Operators.{nothing}

@@ -1,15 +1,14 @@
 -- The parts of expressions as the code collects them, and what they are put together to.
 use Rattle.std.specs.Prelude.{◌≡◌, ℕ, ◌+◌, Bool, if◌then◌else◌, is_some, Option, Some, None, List, [], ◌∷◌}
-use Rattle.word_core.specs.declared.kinds.Binary.TheVariants as OnWords
-use Rattle.smv_text.specs.declared.tree.Infix.{Infix}
-use Rattle.smv_text.specs.declared.tree.Infix.TheVariants.{Implies, Equal, Less, Greater, LessEq, GreaterEq, Member, ShiftLeft, ShiftRight, Minus, Divide, Mod, Concat}
+use Rattle.smv_text.specs.declared.operators.Infix.{Infix}
+use Rattle.smv_text.specs.declared.operators.Infix.TheVariants.{Implies, Member, ShiftLeft, ShiftRight}
 use Rattle.moxi_terms.specs.declared.data.Datum.TheVariants as datum
 use Rattle.moxi_terms.specs.declared.data.TermOp.{TermOp}
 use Rattle.moxi_terms.specs.declared.data.TermOp.TheVariants as op
 use Rattle.moxi_terms.specs.Tree.{Tree, constant, bound, apply, binding, Trees, no_trees, tree}
 use Rattle.moxi_terms.specs.View.{plain}
 use Rattle.smv_flat.specs.FlatTree.{FlatTree, FlatLinks, no_flat_links, flat_link, FlatBranches, no_flat_branches, flat_branch, FlatTrees, no_flat_trees, flat_tree_then}
-use Rattle.smv_script.specs.Operators.{one, choice_term, joint_op, signed_op, infix_term, front_width, word_term, t_alone}
+use Rattle.smv_script.specs.Operators.{one, choice_term, infix_term, front_width, word_term, t_alone}
 use Rattle.smv_script.specs.Terms.{Coding, Translation, translation, is_word, word_width, amount_of, folded_term}
 use Rattle.smv_script_terms.specs.Questions.{answered, subject_tree}
 use Rattle.smv_script_terms.specs.declared.coding.Question.{Question}
@@ -22,21 +21,6 @@ abbrev pub several : TermOp → Bool → Trees → Tree
 several o empty no_trees = constant (datum.Truth empty)
 several o empty (tree a no_trees) = a
 several o empty (tree a (tree b more)) = apply o (tree a (tree b more))
-
--- the operator of an application to two terms alone
-abbrev pub plain_op : Infix → Bool → TermOp
-plain_op Equal words = op.Equal
-plain_op Less words = signed_op words OnWords.Slt OnWords.Ult
-plain_op Greater words = signed_op words OnWords.Sgt OnWords.Ugt
-plain_op LessEq words = signed_op words OnWords.Slte OnWords.Ulte
-plain_op GreaterEq words = signed_op words OnWords.Sgte OnWords.Ugte
-plain_op Minus words = op.BvBinary OnWords.Sub
-plain_op Divide words = signed_op words OnWords.Sdiv OnWords.Udiv
-plain_op Mod words = signed_op words OnWords.Srem OnWords.Urem
-plain_op Concat words = op.Concat
-plain_op ShiftLeft words = op.BvBinary OnWords.Sll
-plain_op ShiftRight words = op.BvBinary OnWords.Srl
-plain_op o words = joint_op o words
 
 -- ---- chains that are read from the right
 

@@ -1,6 +1,6 @@
 -- How chains are read, and what expressions answer by their kinds.
 use Rattle.std.specs.Prelude.{ℕ, false, if◌then◌else◌, ℤ, Option, Some, None}
-use Rattle.smv_text.specs.declared.tree.Function.{Function}
+use Rattle.smv_text.specs.declared.operators.Function.{Function}
 use Rattle.moxi_terms.specs.declared.data.TermOp.TheVariants as op
 use Rattle.moxi_terms.specs.Operators.{nothing}
 use Rattle.moxi_terms.specs.Tree.{Tree, constant, tree}

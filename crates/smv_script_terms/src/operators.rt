@@ -3,10 +3,10 @@ ghost use Rattle.std.specs.Prelude.{◌≡◌, ◌<◌, ◌+◌, ◌++◌, ◌�
 ghost use Rattle.moxi_terms.specs.Tree.{apply, constant, trees_of, variable};
 ghost use Rattle.moxi_terms.specs.Operators.{nothing};
 ghost use Rattle.moxi_terms.specs.View.{plain};
-ghost use Rattle.smv_script.specs.Operators.{one, two, three, not_term, equal_term, choice_term, infix_term, repeated, sign_op, logical_op, signed_op, joint_op};
+ghost use Rattle.smv_script.specs.Operators.{one, two, three, not_term, equal_term, choice_term, infix_term, repeated, sign_op, logical_op, signed_op, infix_op};
 ghost use Rattle.smv_script_terms.specs.Questions.{answered_value, subject_tree};
-ghost use Rattle.smv_script_terms.specs.Operands.{several, plain_op};
-ghost use Rattle.smv_text.specs.declared.tree.Infix.TheVariants.{Implies, Iff, Xnor};
+ghost use Rattle.smv_script_terms.specs.Operands.{several};
+ghost use Rattle.smv_text.specs.declared.operators.Infix.TheVariants.{Implies, Iff, Xnor};
 
 use crate::coding::{Question, Subject, subject_term};
 use moxi_terms::{Datum, Term, TermOp, Terms};
@@ -190,39 +190,27 @@ fn signed(words: bool, signed: Binary, unsigned: Binary) -> TermOp
     TermOp::BvBinary(if words { unsigned } else { signed })
 }
 
-/// The operators of which a chain of one sign is one application, given whether its operands are words.
-pub(crate) fn joint_operator(op: Infix, words: bool) -> TermOp
-    ensures { result ≡ joint_op op words }
+/// The operator of one application to both operands, and of a chain of one sign, given whether the operands are words.
+pub(crate) fn infix_operator(op: Infix, words: bool) -> TermOp
+    ensures { result ≡ infix_op op words }
 {
     match op {
         Infix::And => logical(words, TermOp::And, Binary::And),
         Infix::Or => logical(words, TermOp::Or, Binary::Or),
         Infix::Xor => logical(words, TermOp::Xor, Binary::Xor),
-        Infix::Plus => TermOp::BvBinary(Binary::Add),
-        Infix::Times => TermOp::BvBinary(Binary::Mul),
-        _ => TermOp::And,
-    }
-}
-
-// The operators that stand alone between two terms, and those of a joined chain.
-fn plain_operator(op: Infix, words: bool) -> TermOp
-    ensures { result ≡ plain_op op words }
-{
-    match op {
         Infix::Equal => TermOp::Equal,
         Infix::Less => signed(words, Binary::Slt, Binary::Ult),
         Infix::Greater => signed(words, Binary::Sgt, Binary::Ugt),
         Infix::LessEq => signed(words, Binary::Slte, Binary::Ulte),
         Infix::GreaterEq => signed(words, Binary::Sgte, Binary::Ugte),
+        Infix::Plus => TermOp::BvBinary(Binary::Add),
         Infix::Minus => TermOp::BvBinary(Binary::Sub),
+        Infix::Times => TermOp::BvBinary(Binary::Mul),
         Infix::Divide => signed(words, Binary::Sdiv, Binary::Udiv),
         Infix::Mod => signed(words, Binary::Srem, Binary::Urem),
         Infix::Concat => TermOp::Concat,
         Infix::ShiftLeft => TermOp::BvBinary(Binary::Sll),
         Infix::ShiftRight => TermOp::BvBinary(Binary::Srl),
-        Infix::And | Infix::Or | Infix::Xor | Infix::Plus | Infix::Times => {
-            joint_operator(op, words)
-        }
         Infix::Implies | Infix::Iff | Infix::Xnor | Infix::Unequal | Infix::Member | Infix::Union =>
             TermOp::And,
     }
@@ -296,7 +284,7 @@ pub(crate) fn infix(
         | Infix::Minus
         | Infix::Times
         | Infix::Divide
-        | Infix::Mod => apply_two(alloc, plain_operator(op, words), a, b),
+        | Infix::Mod => apply_two(alloc, infix_operator(op, words), a, b),
         Infix::Concat => apply_two(alloc, TermOp::Concat, a, b),
     }
 }

@@ -14,7 +14,7 @@ use crate::coding::{Coding, Question, Subject, integer_term};
 use crate::functions::{arguments_of, between, function_term, selected};
 use crate::operands::{Case, Operand, chosen, front_width, implied, is_word, joined, word_width};
 use crate::operators::{
-    answer, answer_constant, answer_variable, joint_operator, nothing, repeated, several,
+    answer, answer_constant, answer_variable, infix_operator, nothing, repeated, several,
     sign_operator,
 };
 use crate::readings::{Reading, reading_of};
@@ -109,7 +109,7 @@ fn chained(
         }
         Reading::OneOperator(op, words) => {
             let terms = link_terms(alloc, coding, k, Question::Value, first, links)?;
-            let value = Term::Apply(joint_operator(op, words), terms);
+            let value = Term::Apply(infix_operator(op, words), terms);
             answer(alloc, question, value)
         }
         Reading::Left => {

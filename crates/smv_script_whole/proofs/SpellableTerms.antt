@@ -1,9 +1,9 @@
 -- The names that the terms of a script bind can be spelled: they are `t` and `u`.
 use Rattle.std.proofs.Common.{ℕ, zero, suc, ◌+◌, ◌-◌, Bool, true, false, ◌&&◌, ◌==◌, nat_lt, if◌then◌else◌, refl}
-use Rattle.smv_text.specs.declared.tree.Infix.{Infix}
-use Rattle.smv_text.specs.declared.tree.Infix.TheVariants.{Implies, Iff, Or, Xor, Xnor, And, Equal, Unequal, Less, Greater, LessEq, GreaterEq, Member, Union, ShiftLeft, ShiftRight, Plus, Minus, Times, Divide, Mod, Concat}
-use Rattle.smv_text.specs.declared.tree.Function.{Function}
-use Rattle.smv_text.specs.declared.tree.Function.TheVariants as OfFunction
+use Rattle.smv_text.specs.declared.operators.Infix.{Infix}
+use Rattle.smv_text.specs.declared.operators.Infix.TheVariants.{Implies, Iff, Xnor, Unequal, Member, Union, ShiftLeft, ShiftRight}
+use Rattle.smv_text.specs.declared.operators.Function.{Function}
+use Rattle.smv_text.specs.declared.operators.Function.TheVariants as OfFunction
 use Rattle.smv_meaning.specs.Expressions.{is_implies}
 use Rattle.smv_meaning.specs.Types.{is_union}
 use Rattle.smv_flat.specs.FlatTree.{FlatTree, flat_truth, flat_number, flat_literal, flat_symbol, flat_item, flat_prefix, flat_chain, flat_choice, flat_cases, flat_select, flat_call, flat_set, flat_range, FlatLinks, no_flat_links, flat_link, FlatBranches, no_flat_branches, flat_branch, FlatTrees, no_flat_trees, flat_tree_then, flat_are_implies, flat_is_last}
@@ -40,49 +40,16 @@ infix_named Iff true a b h k = ((h, (k, tt)), tt)
 infix_named Iff false a b h k = (h, (k, tt))
 infix_named Xnor true a b h k = ((h, (k, tt)), tt)
 infix_named Xnor false a b h k = ((h, (k, tt)), tt)
-infix_named Equal w a b h k = (h, (k, tt))
 infix_named Unequal w a b h k = ((h, (k, tt)), tt)
-infix_named Less w a b h k = (h, (k, tt))
-infix_named Greater w a b h k = (h, (k, tt))
-infix_named LessEq w a b h k = (h, (k, tt))
-infix_named GreaterEq w a b h k = (h, (k, tt))
-infix_named Minus w a b h k = (h, (k, tt))
-infix_named Divide w a b h k = (h, (k, tt))
-infix_named Mod w a b h k = (h, (k, tt))
-infix_named Concat w a b h k = (h, (k, tt))
 infix_named Member w a b h k = tt
 infix_named Union w a b h k = tt
-infix_named ShiftLeft w a b h k = (h, (k, tt))
-infix_named ShiftRight w a b h k = (h, (k, tt))
-infix_named Or w a b h k = (h, (k, tt))
-infix_named Xor w a b h k = (h, (k, tt))
-infix_named And w a b h k = (h, (k, tt))
-infix_named Plus w a b h k = (h, (k, tt))
-infix_named Times w a b h k = (h, (k, tt))
+infix_named o w a b h k = (h, (k, tt))
 
 link_named : (o : Infix) (w : Bool) (m n : ℕ) (a b among : Tree) → NamesAreSpellable a → NamesAreSpellable b → NamesAreSpellable among → NamesAreSpellable (link_term o w m n a b among)
 link_named Member w m n a b among h k l = l
 link_named ShiftLeft w m n a b among h k l = (h, (tt, tt))
 link_named ShiftRight w m n a b among h k l = (h, (tt, tt))
-link_named Implies w m n a b among h k l = infix_named Implies w a b h k
-link_named Iff w m n a b among h k l = infix_named Iff w a b h k
-link_named Or w m n a b among h k l = infix_named Or w a b h k
-link_named Xor w m n a b among h k l = infix_named Xor w a b h k
-link_named Xnor w m n a b among h k l = infix_named Xnor w a b h k
-link_named And w m n a b among h k l = infix_named And w a b h k
-link_named Equal w m n a b among h k l = infix_named Equal w a b h k
-link_named Unequal w m n a b among h k l = infix_named Unequal w a b h k
-link_named Less w m n a b among h k l = infix_named Less w a b h k
-link_named Greater w m n a b among h k l = infix_named Greater w a b h k
-link_named LessEq w m n a b among h k l = infix_named LessEq w a b h k
-link_named GreaterEq w m n a b among h k l = infix_named GreaterEq w a b h k
-link_named Union w m n a b among h k l = infix_named Union w a b h k
-link_named Plus w m n a b among h k l = infix_named Plus w a b h k
-link_named Minus w m n a b among h k l = infix_named Minus w a b h k
-link_named Times w m n a b among h k l = infix_named Times w a b h k
-link_named Divide w m n a b among h k l = infix_named Divide w a b h k
-link_named Mod w m n a b among h k l = infix_named Mod w a b h k
-link_named Concat w m n a b among h k l = infix_named Concat w a b h k
+link_named o w m n a b among h k l = infix_named o w a b h k
 
 extended_named : (n : ℕ) (a : Tree) → NamesAreSpellable a → NamesAreSpellable (extended_term n a)
 extended_named n a h = pick NamesAreSpellable (n == 0) a (apply (op.ZeroExtend n) (tree a no_trees)) h (h, tt)
@@ -161,7 +128,7 @@ mutual
   chain_named c named m d (flat_link o e ls) h =
       let n = translation_named c e in
       let right = λ (k : ℕ). infix_named Implies (is_word e) (d.term k) (implied_term c k ((translation c e).term k) ls) (h.term k) (implied_named c k ((translation c e).term k) ls (n.term k)) in
-      let joint = λ (k : ℕ). let x : AllNamesAreSpellable (tree (d.term k) (tree ((translation c e).term k) (link_terms c k ls))) = (h.term k, (n.term k, links_named c k ls)) in x in
+      let one_sign = λ (k : ℕ). let x : AllNamesAreSpellable (tree (d.term k) (tree ((translation c e).term k) (link_terms c k ls))) = (h.term k, (n.term k, links_named c k ls)) in x in
       let left = λ (k : ℕ). folded_named c k (front_width o m (word_width e))
       (link_term o (is_word e) m (amount_of e) (d.term k) ((translation c e).term k) (among_term named k (d.term k) (translation c e).member)) ls
       (link_named o (is_word e) m (amount_of e) (d.term k) ((translation c e).term k) (among_term named k (d.term k) (translation c e).member) (h.term k) (n.term k) (among_named named k (d.term k) (translation c e) (h.term k) n)) in
@@ -170,7 +137,7 @@ mutual
       (pick IsNamed (is_implies o && flat_are_implies ls) _ _
       (record { term = right; member = λ k y g. (g, (right k, tt)) })
       (pick IsNamed (joins_with o o && all_join_with o ls) _ _
-      (record { term = joint; member = λ k y g. (g, (joint k, tt)) })
+      (record { term = one_sign; member = λ k y g. (g, (one_sign k, tt)) })
       (record { term = left; member = λ k y g. (g, (left k, tt)) })))
 
   implied_named : (c : Coding) (k : ℕ) (a : Tree) (ls : FlatLinks) → NamesAreSpellable a → NamesAreSpellable (implied_term c k a ls)

@@ -5,12 +5,12 @@ use Rattle.std.specs.Int.{int_min, int_max}
 use Rattle.std.specs.List.{AllByRecursion}
 use Rattle.text_core.specs.declared.place.Place.{Place}
 use Rattle.smv_text.specs.declared.tree.Path.{Path}
-use Rattle.smv_text.specs.declared.tree.Prefix.{Prefix}
-use Rattle.smv_text.specs.declared.tree.Prefix.TheVariants as OfPrefix
-use Rattle.smv_text.specs.declared.tree.Infix.{Infix}
-use Rattle.smv_text.specs.declared.tree.Infix.TheVariants.{Implies, Iff, Or, Xor, Xnor, And, Equal, Unequal, Less, Greater, LessEq, GreaterEq, Member, Union, ShiftLeft, ShiftRight, Plus, Minus, Times, Divide, Mod, Concat}
-use Rattle.smv_text.specs.declared.tree.Function.{Function}
-use Rattle.smv_text.specs.declared.tree.Function.TheVariants as OfFunction
+use Rattle.smv_text.specs.declared.operators.Prefix.{Prefix}
+use Rattle.smv_text.specs.declared.operators.Prefix.TheVariants as OfPrefix
+use Rattle.smv_text.specs.declared.operators.Infix.{Infix}
+use Rattle.smv_text.specs.declared.operators.Infix.TheVariants.{Union, Plus, Minus, Times, Divide, Mod}
+use Rattle.smv_text.specs.declared.operators.Function.{Function}
+use Rattle.smv_text.specs.declared.operators.Function.TheVariants as OfFunction
 use Rattle.smv_text.specs.declared.tree.Member.{Member as EnumMember}
 use Rattle.smv_text.specs.declared.tree.Member.TheVariants as OfMember
 use Rattle.smv_text.specs.Tree.{Tree, truth, number, literal, name, prefix, chain, choice, cases, select, call, next, set, range, Links, no_links, link, Branches, no_branches, branch, Trees, no_trees, tree, PlainDomain, boolean, members, between, bits, instance}
@@ -114,28 +114,13 @@ rest_by t (set p es) d h = absurd_bool d
 rest_by t (range p low high) d h = absurd_bool d
 
 infix_ordered : (o : Infix) (t u : ExprType) (e : Tree) → divides o e ≡ true → IsOrdered t → IsOrdered u → IsOrdered (infix_type o t u e)
-infix_ordered Implies t u e d h k = h
-infix_ordered Iff t u e d h k = h
-infix_ordered Or t u e d h k = h
-infix_ordered Xor t u e d h k = h
-infix_ordered Xnor t u e d h k = h
-infix_ordered And t u e d h k = h
-infix_ordered Equal t u e d h k = tt
-infix_ordered Unequal t u e d h k = tt
-infix_ordered Less t u e d h k = tt
-infix_ordered Greater t u e d h k = tt
-infix_ordered LessEq t u e d h k = tt
-infix_ordered GreaterEq t u e d h k = tt
-infix_ordered Member t u e d h k = tt
 infix_ordered Union t u e d h k = hull_ordered t u h
-infix_ordered ShiftLeft t u e d h k = h
-infix_ordered ShiftRight t u e d h k = h
 infix_ordered Plus t u e d h k = both_ordered ◌+ℤ◌ t u h k
 infix_ordered Minus t u e d h k = both_ordered ◌-ℤ◌ t u h k
 infix_ordered Times t u e d h k = both_ordered ◌*ℤ◌ t u h k
 infix_ordered Divide t u e d h k = quotient_ordered t (divisor_of e) h
 infix_ordered Mod t u e d h k = rest_by t e d h
-infix_ordered Concat t u e d h k = tt
+infix_ordered o t u e d h k = assumption
 
 prefix_ordered : (sign : Prefix) (n : ℕ) (t : ExprType) → IsOrdered t → IsOrdered (prefix_type sign n t)
 prefix_ordered OfPrefix.Not n t h = h

@@ -51,6 +51,46 @@ all_reserved =
     ∷ word.Mod ∷ word.Union ∷ word.In ∷ word.Xor ∷ word.Xnor ∷ word.Bool ∷ word.Word1 ∷ word.Toint ∷ word.Uwconst ∷ word.Extend ∷ word.Resize
     ∷ word.Count ∷ word.Max ∷ word.Min ∷ word.Abs ∷ []
 
+-- a reserved word by its number, by which words are told apart
+abbrev pub word_number : Reserved → ℕ
+word_number word.Module = 0
+word_number word.Var = 1
+word_number word.Ivar = 2
+word_number word.Frozenvar = 3
+word_number word.Define = 4
+word_number word.Constants = 5
+word_number word.Assign = 6
+word_number word.Init = 7
+word_number word.Trans = 8
+word_number word.Invar = 9
+word_number word.Invarspec = 10
+word_number word.Name = 11
+word_number word.True = 12
+word_number word.False = 13
+word_number word.Boolean = 14
+word_number word.Word = 15
+word_number word.Unsigned = 16
+word_number word.Case = 17
+word_number word.Esac = 18
+word_number word.Next = 19
+word_number word.Initial = 20
+word_number word.Itself = 21
+word_number word.Mod = 22
+word_number word.Union = 23
+word_number word.In = 24
+word_number word.Xor = 25
+word_number word.Xnor = 26
+word_number word.Bool = 27
+word_number word.Word1 = 28
+word_number word.Toint = 29
+word_number word.Uwconst = 30
+word_number word.Extend = 31
+word_number word.Resize = 32
+word_number word.Count = 33
+word_number word.Max = 34
+word_number word.Min = 35
+word_number word.Abs = 36
+
 -- this byte before the first of these words
 abbrev pub in_first : ℕ → List (List ℕ) → List (List ℕ)
 in_first b [] = (b ∷ []) ∷ []

@@ -7,7 +7,6 @@ pub mod Lexing
 pub mod Tree
 pub mod View
 pub mod Levels
-pub mod Operators
 pub mod Grammar
 pub mod Heights
 pub mod Sources

@@ -38,13 +38,49 @@ sign_bytes sign.Question = codes "?"
 sign_bytes sign.Implies = codes "->"
 sign_bytes sign.Iff = codes "<->"
 
+abbrev pub all_signs : List Sign
+all_signs =
+    sign.Open ∷ sign.Close ∷ sign.OpenBrace ∷ sign.CloseBrace ∷ sign.OpenBracket ∷ sign.CloseBracket ∷ sign.Comma ∷ sign.Semicolon ∷ sign.Colon ∷ sign.Dot
+    ∷ sign.Range ∷ sign.Assign ∷ sign.Equal ∷ sign.Unequal ∷ sign.Less ∷ sign.Greater ∷ sign.LessEqual ∷ sign.GreaterEqual ∷ sign.Not ∷ sign.And ∷ sign.Or
+    ∷ sign.Plus ∷ sign.Minus ∷ sign.Times ∷ sign.Divide ∷ sign.ShiftLeft ∷ sign.ShiftRight ∷ sign.Concat ∷ sign.Question ∷ sign.Implies ∷ sign.Iff ∷ []
+
 -- all signs, by their spellings
 unfoldable pub signs : List (List ℕ × Sign)
-signs =
-    map (λ s. (sign_bytes s, s))
-    (sign.Open ∷ sign.Close ∷ sign.OpenBrace ∷ sign.CloseBrace ∷ sign.OpenBracket ∷ sign.CloseBracket ∷ sign.Comma ∷ sign.Semicolon ∷ sign.Colon ∷ sign.Dot
-    ∷ sign.Range ∷ sign.Assign ∷ sign.Equal ∷ sign.Unequal ∷ sign.Less ∷ sign.Greater ∷ sign.LessEqual ∷ sign.GreaterEqual ∷ sign.Not ∷ sign.And ∷ sign.Or
-    ∷ sign.Plus ∷ sign.Minus ∷ sign.Times ∷ sign.Divide ∷ sign.ShiftLeft ∷ sign.ShiftRight ∷ sign.Concat ∷ sign.Question ∷ sign.Implies ∷ sign.Iff ∷ [])
+signs = map (λ s. (sign_bytes s, s)) all_signs
+
+-- a sign by its number, by which signs are told apart
+abbrev pub sign_number : Sign → ℕ
+sign_number sign.Open = 0
+sign_number sign.Close = 1
+sign_number sign.OpenBrace = 2
+sign_number sign.CloseBrace = 3
+sign_number sign.OpenBracket = 4
+sign_number sign.CloseBracket = 5
+sign_number sign.Comma = 6
+sign_number sign.Semicolon = 7
+sign_number sign.Colon = 8
+sign_number sign.Dot = 9
+sign_number sign.Range = 10
+sign_number sign.Assign = 11
+sign_number sign.Equal = 12
+sign_number sign.Unequal = 13
+sign_number sign.Less = 14
+sign_number sign.Greater = 15
+sign_number sign.LessEqual = 16
+sign_number sign.GreaterEqual = 17
+sign_number sign.Not = 18
+sign_number sign.And = 19
+sign_number sign.Or = 20
+sign_number sign.Plus = 21
+sign_number sign.Minus = 22
+sign_number sign.Times = 23
+sign_number sign.Divide = 24
+sign_number sign.ShiftLeft = 25
+sign_number sign.ShiftRight = 26
+sign_number sign.Concat = 27
+sign_number sign.Question = 28
+sign_number sign.Implies = 29
+sign_number sign.Iff = 30
 
 -- A sign may stand before this text. A division doesn't stand directly before a comment: `/--` is kept for the comments of
 -- several lines that NuSMV has, which aren't read. This rule is our own.

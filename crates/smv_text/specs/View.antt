@@ -1,7 +1,7 @@
 -- The plain form that a model of the code stands for.
 use Rattle.std.specs.Prelude.{true, false, map}
 use Rattle.text_core.specs.declared.place.Place.{Place}
-use Rattle.smv_text.specs.declared.tree.Infix.{Infix}
+use Rattle.smv_text.specs.declared.operators.Infix.{Infix}
 use Rattle.smv_text.specs.declared.tree.Expr.{Expr, Expr-F, fold-Expr}
 use Rattle.smv_text.specs.declared.tree.Branch.{Branch, Branch-F, fold-Branch}
 use Rattle.smv_text.specs.declared.tree.Link.{Link, Link-F, fold-Link}

@@ -1,6 +1,6 @@
 // The levels of the grammar of expressions, from the loosest to the tightest.
 
-use crate::tree::Prefix;
+use crate::operators::Prefix;
 
 /// Which operators join the operands of a chain.
 #[derive(Clone, Copy, PartialEq, Eq)]

@@ -1,5 +1,7 @@
 // Tokens, their kinds, and lists of them.
 ghost use Rattle.std.specs.Prelude.{◌≡◌, ◌<◌, length, slice_index_or};
+ghost use Rattle.smv_text.specs.Keywords.{word_bytes};
+ghost use Rattle.smv_text.specs.Signs.{sign_bytes};
 
 use std::marker::Model;
 use text_core::{Name, Place};
@@ -84,6 +86,51 @@ pub enum Reserved {
     Abs,
 }
 
+/// The spelling of a reserved word.
+pub fn word_bytes(word: Reserved) -> &'static [u8]
+    ensures { result.now ≡ word_bytes word }
+{
+    match word {
+        Reserved::Module => b"MODULE",
+        Reserved::Var => b"VAR",
+        Reserved::Ivar => b"IVAR",
+        Reserved::Frozenvar => b"FROZENVAR",
+        Reserved::Define => b"DEFINE",
+        Reserved::Constants => b"CONSTANTS",
+        Reserved::Assign => b"ASSIGN",
+        Reserved::Init => b"INIT",
+        Reserved::Trans => b"TRANS",
+        Reserved::Invar => b"INVAR",
+        Reserved::Invarspec => b"INVARSPEC",
+        Reserved::Name => b"NAME",
+        Reserved::True => b"TRUE",
+        Reserved::False => b"FALSE",
+        Reserved::Boolean => b"boolean",
+        Reserved::Word => b"word",
+        Reserved::Unsigned => b"unsigned",
+        Reserved::Case => b"case",
+        Reserved::Esac => b"esac",
+        Reserved::Next => b"next",
+        Reserved::Initial => b"init",
+        Reserved::Itself => b"self",
+        Reserved::Mod => b"mod",
+        Reserved::Union => b"union",
+        Reserved::In => b"in",
+        Reserved::Xor => b"xor",
+        Reserved::Xnor => b"xnor",
+        Reserved::Bool => b"bool",
+        Reserved::Word1 => b"word1",
+        Reserved::Toint => b"toint",
+        Reserved::Uwconst => b"uwconst",
+        Reserved::Extend => b"extend",
+        Reserved::Resize => b"resize",
+        Reserved::Count => b"count",
+        Reserved::Max => b"max",
+        Reserved::Min => b"min",
+        Reserved::Abs => b"abs",
+    }
+}
+
 /// A sign: a bracket, a separator or an operator (NuSMV 2.6 User Manual, sections 2.2 and 2.3).
 #[derive(Clone, Copy, PartialEq, Eq)]
 pub enum Sign {
@@ -149,6 +196,45 @@ pub enum Sign {
     Implies,
     /// `<->`
     Iff,
+}
+
+/// The spelling of a sign.
+pub fn sign_bytes(sign: Sign) -> &'static [u8]
+    ensures { result.now ≡ sign_bytes sign }
+{
+    match sign {
+        Sign::Open => b"(",
+        Sign::Close => b")",
+        Sign::OpenBrace => b"{",
+        Sign::CloseBrace => b"}",
+        Sign::OpenBracket => b"[",
+        Sign::CloseBracket => b"]",
+        Sign::Comma => b",",
+        Sign::Semicolon => b";",
+        Sign::Colon => b":",
+        Sign::Dot => b".",
+        Sign::Range => b"..",
+        Sign::Assign => b":=",
+        Sign::Equal => b"=",
+        Sign::Unequal => b"!=",
+        Sign::Less => b"<",
+        Sign::Greater => b">",
+        Sign::LessEqual => b"<=",
+        Sign::GreaterEqual => b">=",
+        Sign::Not => b"!",
+        Sign::And => b"&",
+        Sign::Or => b"|",
+        Sign::Plus => b"+",
+        Sign::Minus => b"-",
+        Sign::Times => b"*",
+        Sign::Divide => b"/",
+        Sign::ShiftLeft => b"<<",
+        Sign::ShiftRight => b">>",
+        Sign::Concat => b"::",
+        Sign::Question => b"?",
+        Sign::Implies => b"->",
+        Sign::Iff => b"<->",
+    }
 }
 
 /// What a token is.

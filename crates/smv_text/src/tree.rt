@@ -1,5 +1,6 @@
 // Trees of a model: expressions, types, declarations, elements, modules (NuSMV 2.6 User Manual, chapter 2).
 
+use crate::operators::{Function, Infix, Prefix};
 use text_core::{List, Name, Names, Place};
 use word_core::Word;
 
@@ -11,89 +12,6 @@ pub struct Path {
     /// Its identifiers, in order.
     pub names: Names,
     pub place: Place,
-}
-
-/// A sign before an operand.
-#[derive(Clone, Copy, PartialEq, Eq)]
-pub enum Prefix {
-    /// `!`
-    Not,
-    /// `-`
-    Minus,
-}
-
-/// An operator between two operands (manual, 2.2).
-#[derive(Clone, Copy, PartialEq, Eq)]
-pub enum Infix {
-    /// `->`
-    Implies,
-    /// `<->`
-    Iff,
-    /// `|`
-    Or,
-    /// `xor`
-    Xor,
-    /// `xnor`
-    Xnor,
-    /// `&`
-    And,
-    /// `=`
-    Equal,
-    /// `!=`
-    Unequal,
-    /// `<`
-    Less,
-    /// `>`
-    Greater,
-    /// `<=`
-    LessEq,
-    /// `>=`
-    GreaterEq,
-    /// `in`
-    Member,
-    /// `union`
-    Union,
-    /// `<<`
-    ShiftLeft,
-    /// `>>`
-    ShiftRight,
-    /// `+`
-    Plus,
-    /// `-`
-    Minus,
-    /// `*`
-    Times,
-    /// `/`
-    Divide,
-    /// `mod`
-    Mod,
-    /// `::`
-    Concat,
-}
-
-/// A named function (manual, 2.2).
-#[derive(Clone, Copy, PartialEq, Eq)]
-pub enum Function {
-    /// `bool`
-    Bool,
-    /// `word1`
-    Word1,
-    /// `toint`
-    Toint,
-    /// `uwconst`
-    Uwconst,
-    /// `extend`
-    Extend,
-    /// `resize`
-    Resize,
-    /// `count`
-    Count,
-    /// `max`
-    Max,
-    /// `min`
-    Min,
-    /// `abs`
-    Abs,
 }
 
 /// An expression, and the place of its first token. Round brackets around the whole don't belong to it.

@@ -12,4 +12,4 @@ mod trees;
 
 pub use calls::put_answer;
 pub use reading::{expression_of, expression_source, source_of, stop_in_expression};
-pub use spellings::{function_word, infix_sign, prefix_sign, put_dotted, put_literal, put_type};
+pub use spellings::{prefix_sign, put_dotted, put_literal, put_type};

@@ -1,7 +1,7 @@
-// How operators, functions, words, paths and types are spelled.
+// How signs before operands, words, paths and types are spelled.
 use case_text::Answer;
 use smv_intervals::Ty;
-use smv_text::{Function, Infix, Prefix};
+use smv_text::Prefix;
 use text_core::Names;
 use word_core::Word;
 
@@ -10,50 +10,6 @@ pub fn prefix_sign(sign: Prefix) -> &'static str {
     match sign {
         Prefix::Not => "!",
         Prefix::Minus => "-",
-    }
-}
-
-/// The operator between two operands, without the blanks around it.
-pub fn infix_sign(op: Infix) -> &'static str {
-    match op {
-        Infix::Implies => "->",
-        Infix::Iff => "<->",
-        Infix::Or => "|",
-        Infix::Xor => "xor",
-        Infix::Xnor => "xnor",
-        Infix::And => "&",
-        Infix::Equal => "=",
-        Infix::Unequal => "!=",
-        Infix::Less => "<",
-        Infix::Greater => ">",
-        Infix::LessEq => "<=",
-        Infix::GreaterEq => ">=",
-        Infix::Member => "in",
-        Infix::Union => "union",
-        Infix::ShiftLeft => "<<",
-        Infix::ShiftRight => ">>",
-        Infix::Plus => "+",
-        Infix::Minus => "-",
-        Infix::Times => "*",
-        Infix::Divide => "/",
-        Infix::Mod => "mod",
-        Infix::Concat => "::",
-    }
-}
-
-/// The name of a function.
-pub fn function_word(name: Function) -> &'static str {
-    match name {
-        Function::Bool => "bool",
-        Function::Word1 => "word1",
-        Function::Toint => "toint",
-        Function::Uwconst => "uwconst",
-        Function::Extend => "extend",
-        Function::Resize => "resize",
-        Function::Count => "count",
-        Function::Max => "max",
-        Function::Min => "min",
-        Function::Abs => "abs",
     }
 }
 

@@ -2,8 +2,7 @@
 use crate::reading::tokens_of;
 use crate::spellings::put_literal;
 use case_text::{Answer, Stop};
-use smv_print::{sign_bytes, word_bytes};
-use smv_text::{Token, TokenKind};
+use smv_text::{Token, TokenKind, sign_bytes, word_bytes};
 use std::alloc::Global;
 use text_core::Place;
 

@@ -1,7 +1,7 @@
 // Trees of expressions, with brackets around each operation.
-use crate::spellings::{function_word, infix_sign, prefix_sign, put_dotted, put_literal};
+use crate::spellings::{prefix_sign, put_dotted, put_literal};
 use case_text::Answer;
-use smv_text::{Branch, Expr, Link, Path, Prefix, Shape};
+use smv_text::{Branch, Expr, Link, Path, Prefix, Shape, function_word, infix_bytes, word_bytes};
 
 /// Appends the tree of an expression: each operation in brackets, a chain of one level as one operation. Where places are
 /// wanted, each node has the column of its first token behind `@`.
@@ -53,7 +53,7 @@ fn put_shape(out: &mut Answer, shape: &Shape, placed: bool) {
             put_bits(out, *high, *low);
         }
         Shape::Call(name, arguments) => {
-            out.put(function_word(*name).as_bytes());
+            out.put(word_bytes(function_word(*name)));
             out.put(b"(");
             put_trees(out, arguments.as_slice(), placed);
             out.put(b")");
@@ -76,7 +76,7 @@ fn put_shape(out: &mut Answer, shape: &Shape, placed: bool) {
 fn put_links(out: &mut Answer, links: &[Link], placed: bool) {
     for link in links {
         out.put(b" ");
-        out.put(infix_sign(link.op).as_bytes());
+        out.put(infix_bytes(link.op));
         out.put(b" ");
         put_tree(out, &link.operand, placed);
     }

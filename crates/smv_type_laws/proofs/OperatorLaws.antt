@@ -1,5 +1,5 @@
 -- What an operator gives lies in its type, where the operands lie in theirs and fit.
-use Rattle.std.proofs.Common.{◌≡◌, ℕ, ◌+◌, ◌-◌, ◌/◌, ◌%◌, ◌^◌, ◌<◌, ◌≤◌, Bool, true, false, not, ◌&&◌, ◌||◌, ◌==◌, nat_lt, nat_le, if◌then◌else◌, ℤ, pos, neg_ℤ, nat_abs, ◌+ℤ◌, ◌-ℤ◌, ◌*ℤ◌, ◌≤ℤ◌, int_lt, int_le, int_div, List, [], ◌∷◌, length, Option, Some, None, refl, sym, ap, ◌∙◌, subst, arith}
+use Rattle.std.proofs.Common.{◌≡◌, ℕ, ◌+◌, ◌-◌, ◌/◌, ◌%◌, ◌^◌, ◌<◌, ◌≤◌, Bool, true, false, ◌&&◌, ◌||◌, ◌==◌, nat_lt, nat_le, if◌then◌else◌, ℤ, pos, neg_ℤ, nat_abs, ◌+ℤ◌, ◌-ℤ◌, ◌*ℤ◌, ◌≤ℤ◌, int_lt, int_div, List, [], ◌∷◌, length, Option, Some, None, refl, sym, ap, ◌∙◌, subst, arith}
 use Rattle.std.proofs.lemmas.Int.{ints, clamps}
 use Rattle.std.proofs.lemmas.Bool.{eqb-true, eq-eqb, leb-true, le-leb, ltb-true, lt-ltb, ltb-false}
 use mathlib.Core.Logic.{◌⊎◌, ⊎_elim}
@@ -15,16 +15,16 @@ use Rattle.word_core.specs.declared.kinds.Unary.TheVariants as OnWord
 use Rattle.word_core.specs.declared.kinds.Binary.{Binary}
 use Rattle.word_core.specs.declared.kinds.Binary.TheVariants as OnWords
 use Rattle.word_core.specs.laws.Rows.{unary_is_word, binary_is_word, uext_is_word}
-use Rattle.smv_text.specs.declared.tree.Prefix.{Prefix}
-use Rattle.smv_text.specs.declared.tree.Prefix.TheVariants as OfPrefix
-use Rattle.smv_text.specs.declared.tree.Infix.{Infix}
-use Rattle.smv_text.specs.declared.tree.Infix.TheVariants.{Implies, Iff, Or, Xor, Xnor, And, Equal, Unequal, Less, Greater, LessEq, GreaterEq, Member, Union, ShiftLeft, ShiftRight, Plus, Minus, Times, Divide, Mod, Concat}
-use Rattle.smv_text.specs.declared.tree.Function.{Function}
-use Rattle.smv_text.specs.declared.tree.Function.TheVariants as OfFunction
+use Rattle.smv_text.specs.declared.operators.Prefix.{Prefix}
+use Rattle.smv_text.specs.declared.operators.Prefix.TheVariants as OfPrefix
+use Rattle.smv_text.specs.declared.operators.Infix.{Infix}
+use Rattle.smv_text.specs.declared.operators.Infix.TheVariants.{Implies, Union, ShiftLeft, ShiftRight, Plus, Minus, Times, Divide, Mod, Concat}
+use Rattle.smv_text.specs.declared.operators.Function.{Function}
+use Rattle.smv_text.specs.declared.operators.Function.TheVariants as OfFunction
 use Rattle.smv_text.specs.Tree.{Tree}
 use Rattle.smv_meaning.specs.declared.value.Value.{Value}
 use Rattle.smv_meaning.specs.declared.value.Value.TheVariants.{Truth, Integer, Bits}
-use Rattle.smv_meaning.specs.Values.{no_value, bool_eq, is_true}
+use Rattle.smv_meaning.specs.Values.{no_value, is_true}
 use Rattle.smv_meaning.specs.Operators.{Operands, truths, integers, words, mixed, operands_of, compared_of, word, words_by, words_compared, logical, compared, calculated, shifted, concatenated, negation, minus, implied, int_mod, applied, signed, selected, resized, int_abs, is_width, called, trues}
 use Rattle.smv_meaning.specs.Types.{ExprType, truth_type, integer_type, symbol_type, word_type, is_integer_type, is_word_type, type_width, type_same, hull, over_ends, over_both_ends, abs_type, quotient_type, rest_type, divisor_of, number_of, logical_fits, number_fits, infix_fits, infix_type, divides, shifts, joins, prefix_fits, prefix_type, is_select, is_divisor, is_shift_amount, is_union, function_fits, arguments_fit, function_type, second_number, first_type, are_same, hull_with, hull_of}
 use Rattle.smv_meaning.specs.Typed.{LiesIn}
@@ -210,18 +210,6 @@ pub infix_lies : (op : Infix) (t u : ExprType) (e : Tree) (v w : Value) → is_u
     → joins op t u ≡ true → (is_divisor e ≡ true → DivisorIs (divisor_of e) w) → NumberIs (number_of e) w → LiesIn t v → LiesIn u w
     → LiesIn (infix_type op t u e) (applied op v w)
 infix_lies Implies t u e v w o fits d s j dw nw h k = implied_lies t u v w fits h k
-infix_lies Iff t u e v w o fits d s j dw nw h k = logical_lies bool_eq OnWords.Xnor (λ i j e. (e, refl)) t u v w fits h k
-infix_lies Or t u e v w o fits d s j dw nw h k = logical_lies (λ p q. p || q) OnWords.Or (λ i j e. (e, refl)) t u v w fits h k
-infix_lies Xor t u e v w o fits d s j dw nw h k = logical_lies (λ p q. not (bool_eq p q)) OnWords.Xor (λ i j e. (e, refl)) t u v w fits h k
-infix_lies Xnor t u e v w o fits d s j dw nw h k = logical_lies bool_eq OnWords.Xnor (λ i j e. (e, refl)) t u v w fits h k
-infix_lies And t u e v w o fits d s j dw nw h k = logical_lies (λ p q. p && q) OnWords.And (λ i j e. (e, refl)) t u v w fits h k
-infix_lies Equal t u e v w o fits d s j dw nw h k = tt
-infix_lies Unequal t u e v w o fits d s j dw nw h k = tt
-infix_lies Less t u e v w o fits d s j dw nw h k = compared_lies int_lt OnWords.Ult v w
-infix_lies Greater t u e v w o fits d s j dw nw h k = compared_lies (λ x y. int_lt y x) OnWords.Ugt v w
-infix_lies LessEq t u e v w o fits d s j dw nw h k = compared_lies int_le OnWords.Ulte v w
-infix_lies GreaterEq t u e v w o fits d s j dw nw h k = compared_lies (λ x y. int_le y x) OnWords.Ugte v w
-infix_lies Member t u e v w o fits d s j dw nw h k = tt
 infix_lies Union t u e v w o fits d s j dw nw h k = cc
 infix_lies ShiftLeft t u e v w o fits d s j dw nw h k = shift_lies OnWords.Sll (λ i j e. (e, refl)) (number_of e) t v w fits s nw h
 infix_lies ShiftRight t u e v w o fits d s j dw nw h k = shift_lies OnWords.Srl (λ i j e. (e, refl)) (number_of e) t v w fits s nw h
@@ -231,6 +219,7 @@ infix_lies Times t u e v w o fits d s j dw nw h k = calculated_lies (λ x y. x *
 infix_lies Divide t u e v w o fits d s j dw nw h k = quotient_lies (divisor_of e) t u v w fits (dw d) h k
 infix_lies Mod t u e v w o fits d s j dw nw h k = rest_lies (divisor_of e) t u v w fits (dw d) h k
 infix_lies Concat t u e v w o fits d s j dw nw h k = concat_lies t u v w fits j h k
+infix_lies op t u e v w o fits d s j dw nw h k = search (logical_lies, compared_lies)
 
 -- ---- signs, selections, functions
 

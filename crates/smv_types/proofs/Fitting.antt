@@ -4,8 +4,8 @@ use Rattle.std.proofs.Math.Pow.{pow_mono}
 use Rattle.std.proofs.lemmas.Bool.Decides.{nat_tests}
 use Rattle.text_core.specs.declared.place.Place.{Place}
 use Rattle.smv_text.specs.declared.tree.Expr.{Expr}
-use Rattle.smv_text.specs.declared.tree.Function.{Function}
-use Rattle.smv_text.specs.declared.tree.Function.TheVariants as OfFunction
+use Rattle.smv_text.specs.declared.operators.Function.{Function}
+use Rattle.smv_text.specs.declared.operators.Function.TheVariants as OfFunction
 use Rattle.smv_text.specs.Tree.{trees_of}
 use Rattle.smv_text.specs.View.{plain}
 use Rattle.smv_meaning.specs.Types.{ExprType, is_word_type, integer_type, in_limit, function_fits, function_type, arguments_fit, numbers_of}

@@ -2,10 +2,10 @@
 -- and the order of checks are this translator's own).
 use Rattle.std.specs.Prelude.{ℕ, ℤ, pos, int_le, ◌+◌, ◌-◌, Bool, true, false, not, ◌||◌, List, [], ◌∷◌, ◌++◌, Option, Some, option_map}
 use Rattle.text_core.specs.declared.place.Place.{Place}
-use Rattle.smv_text.specs.declared.tree.Prefix.{Prefix}
-use Rattle.smv_text.specs.declared.tree.Infix.{Infix}
-use Rattle.smv_text.specs.declared.tree.Infix.TheVariants.{Concat}
-use Rattle.smv_text.specs.declared.tree.Function.{Function}
+use Rattle.smv_text.specs.declared.operators.Prefix.{Prefix}
+use Rattle.smv_text.specs.declared.operators.Infix.{Infix}
+use Rattle.smv_text.specs.declared.operators.Infix.TheVariants.{Concat}
+use Rattle.smv_text.specs.declared.operators.Function.{Function}
 use Rattle.smv_text.specs.Tree.{Tree}
 use Rattle.smv_meaning.specs.Types.{ExprType, integer_type, word_type, is_word_type, in_limit, prefix_fits, prefix_type, is_select, function_fits, arguments_fit, function_type, are_same, hull_of, implies_fits, first_type}
 use Rattle.smv_meaning.specs.Checks.{Check, check, Position, Named, Typing, node, on_type, on_all, all_types, front, branches_fit, branches_type}

@@ -2,7 +2,7 @@
 ghost use Rattle.std.specs.Prelude.{◌≡◌, ◌≤◌, ◌-◌, ◌^◌, true, pos, [], map, Some, None, is_some, nat_lt, option_map, MatchResult};
 ghost use Rattle.smv_text.specs.Tree.{trees_of};
 ghost use Rattle.smv_text.specs.View.{plain};
-ghost use Rattle.smv_text.specs.declared.tree.Function.TheVariants as OfFunction;
+ghost use Rattle.smv_text.specs.declared.operators.Function.TheVariants as OfFunction;
 ghost use Rattle.smv_meaning.specs.Types.{integer_type, numbers_of};
 ghost use Rattle.smv_meaning.specs.Checks.{all_types};
 ghost use Rattle.smv_meaning.specs.Operators.{is_width};

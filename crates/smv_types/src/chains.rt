@@ -2,21 +2,18 @@
 ghost use Rattle.std.specs.Prelude.{◌≡◌, false, map, None, Some, option_map};
 ghost use Rattle.smv_text.specs.Tree.{links_of};
 ghost use Rattle.smv_text.specs.View.{plain, plain_link};
-ghost use Rattle.smv_meaning.specs.Types.{infix_fits, infix_type, is_shift_amount, divides, shifts, joins, is_union, logical_fits, number_fits};
+ghost use Rattle.smv_meaning.specs.Types.{infix_fits, is_shift_amount, divides, shifts, joins, is_union, logical_fits, number_fits};
 ghost use Rattle.smv_meaning.specs.Checks.{across, behind, are_unions};
 ghost use Rattle.smv_meaning.specs.Expressions.{is_implies, are_implies, is_from_right};
 ghost use Rattle.smv_intervals.specs.View.{seen};
 ghost use Rattle.smv_types.specs.View.{standing_seen};
-ghost use Rattle.smv_intervals.specs.Limits.{Kept};
 ghost use Rattle.smv_types.specs.Outcome.{Answers};
 ghost use Rattle.smv_types.specs.Steps.{front_step, is_concat};
 
 use crate::arguments::{divisor_of, is_divisor, number_of};
 use crate::ends::{check, refusal};
 use crate::positions::Standing;
-use smv_intervals::{
-    Ty, difference_type, hull, product_type, quotient_type, rest_type, sum_type, type_within_limit,
-};
+use smv_intervals::{Ty, infix_type};
 use smv_text::{Expr, Infix, Link};
 use text_core::kinds::smv;
 use text_core::{Place, Refusal};
@@ -39,9 +36,6 @@ fn infix_fits(op: Infix, t: Ty, u: Ty) -> bool
     ensures { result ≡ infix_fits op (seen t) (seen u) }
 {
     match op {
-        Infix::Implies | Infix::Iff | Infix::Or | Infix::Xor | Infix::Xnor | Infix::And => {
-            logical_fits(t, u)
-        }
         Infix::Equal | Infix::Unequal | Infix::Member | Infix::Union => t.is_same(u),
         Infix::Less
         | Infix::Greater
@@ -54,37 +48,8 @@ fn infix_fits(op: Infix, t: Ty, u: Ty) -> bool
         | Infix::Mod => number_fits(t, u),
         Infix::ShiftLeft | Infix::ShiftRight => t.is_word(),
         Infix::Concat => t.is_word() && u.is_word(),
-    }
-}
-
-// The type of the whole, where its interval is within the limit.
-fn infix_type(op: Infix, t: Ty, u: Ty, operand: &Expr) -> Option<Ty>
-    requires { is_concat op ≡ false }
-    ensures { Kept result (infix_type op (seen t) (seen u) (plain operand.now)) }
-{
-    match op {
-        Infix::Implies
-        | Infix::Iff
-        | Infix::Or
-        | Infix::Xor
-        | Infix::Xnor
-        | Infix::And
-        | Infix::ShiftLeft
-        | Infix::ShiftRight => type_within_limit(t),
-        Infix::Equal
-        | Infix::Unequal
-        | Infix::Less
-        | Infix::Greater
-        | Infix::LessEq
-        | Infix::GreaterEq
-        | Infix::Member => Some(Ty::Truth),
-        Infix::Union => type_within_limit(hull(t, u)),
-        Infix::Plus => sum_type(t, u),
-        Infix::Minus => difference_type(t, u),
-        Infix::Times => product_type(t, u),
-        Infix::Divide => quotient_type(t, divisor_of(operand)),
-        Infix::Mod => rest_type(t, divisor_of(operand)),
-        Infix::Concat => unreachable!(),
+        // Logical operators.
+        _ => logical_fits(t, u),
     }
 }
 
@@ -151,7 +116,7 @@ fn combined(
     ensures { Answers result (front_step op (standing_seen at) place (Some (seen t)) (Some (seen u)) (plain operand.now)) }
 {
     check(smv::TYPE_CLASH, place, infix_fits(op, t, u))?;
-    match infix_type(op, t, u, operand) {
+    match infix_type(op, t, u, divisor_of(operand)) {
         None => Err(refusal(smv::INT_TOO_WIDE, place)),
         Some(whole) => {
             check(smv::SET_HERE, place, !is_union(op) || at.sets)?;

@@ -4,19 +4,19 @@ use Rattle.std.specs.Int.{int_min, int_max}
 use Rattle.std.specs.Prelude.{int_lt, int_le}
 use Rattle.text_core.specs.declared.place.Place.{Place}
 use Rattle.smv_text.specs.declared.tree.Path.{Path}
-use Rattle.smv_text.specs.declared.tree.Prefix.TheVariants as OfPrefix
-use Rattle.smv_text.specs.declared.tree.Infix.{Infix}
-use Rattle.smv_text.specs.declared.tree.Infix.TheVariants.{Implies, Iff, Or, Xor, Xnor, And, Equal, Unequal, Less, Greater, LessEq, GreaterEq, Member, Union, ShiftLeft, ShiftRight, Plus, Minus, Times, Divide, Mod, Concat}
+use Rattle.smv_text.specs.declared.operators.Prefix.TheVariants as OfPrefix
+use Rattle.smv_text.specs.declared.operators.Infix.{Infix}
+use Rattle.smv_text.specs.declared.operators.Infix.TheVariants.{Implies, Member, Union, Plus, Minus, Times, Divide, Mod}
 use Rattle.smv_text.specs.Tree.{Tree, truth, number, literal, name, prefix, chain, choice, cases, select, call, next, set, range, Links, no_links, link, Branches, no_branches, branch, Trees, no_trees, tree}
 use Rattle.smv_meaning.specs.Expressions.{are_implies, is_from_right}
-use Rattle.smv_meaning.specs.Types.{ExprType, truth_type, integer_type, symbol_type, word_type, is_integer_type, in_limit, hull, hull_with, hull_of, over_both_ends, quotient_type, rest_type, infix_type, divisor_of, is_divisor, is_union, are_same, infix_fits, divides, shifts, joins}
+use Rattle.smv_meaning.specs.Types.{ExprType, truth_type, integer_type, symbol_type, word_type, is_integer_type, in_limit, hull, hull_with, hull_of, over_both_ends, quotient_type, rest_type, infix_type, infix_type_by, divisor_of, is_divisor, is_union, are_same, infix_fits, divides, shifts, joins}
 use Rattle.smv_meaning.specs.Checks.{Check, check, on_all, branches_fit, Position, Named, Typing, single, under_next, across, behind, are_unions, front, front_checks, on_types, both_types, all_types, branches_type, node, passes, typing, linked, link_checks, value_types, condition_types, branch_checks, tree_types, tree_checks}
 use Rattle.smv_meaning.specs.laws.Booleans.{both_true}
 use Rattle.smv_meaning.specs.laws.Booleans.{absurd_bool}
 use Rattle.smv_model_laws.proofs.Typable.{split}
 use Rattle.smv_items.specs.FlatItems.{Leaf, of_item, of_symbol, of_nothing}
 use Rattle.smv_flat.specs.FlatTree.{leaf_tree, FlatTree, flat_truth, flat_number, flat_literal, flat_symbol, flat_item, flat_prefix, flat_chain, flat_choice, flat_cases, flat_select, flat_call, flat_set, flat_range, flat_tree, flat_links, flat_branches, flat_trees, is_set, has_set, unless_set}
-use Rattle.smv_width.specs.FlatWidth.{integer_width, interval_width, integers_width, node_width, integer_within, infix_type_by, front_by, flat_divisor, flat_type, operand_width, arguments_width, tree_width, links_width, branches_width, trees_width, first_width}
+use Rattle.smv_width.specs.FlatWidth.{integer_width, interval_width, integers_width, node_width, integer_within, front_by, flat_divisor, flat_type, operand_width, arguments_width, tree_width, links_width, branches_width, trees_width, first_width}
 use Rattle.smv_width.specs.SourceWidth.{expression_width, implied_width, fronts_width, branch_width, part_width, front_width, has_link, has_operators, link_operators, branch_operators, part_operators, SameWidth}
 use Rattle.smv_width.proofs.WidthLaw.{node_some}
 
@@ -298,6 +298,12 @@ only_integer None low high h = cc
 within_integer : (low high : ℤ) → in_limit (integer_type low high) ≡ true → only (integer_within (integer_type low high)) ≡ Some (integer_type low high)
 within_integer low high h = ap (λ b. only (if b then Some (integer_type low high) else None)) h
 
+within_same : (t : ExprType) → in_limit t ≡ true → only (integer_within t) ≡ only (Some t)
+within_same (integer_type low high) h = within_integer low high h
+within_same truth_type h = refl
+within_same symbol_type h = refl
+within_same (word_type n) h = refl
+
 within_other : (t : ExprType) → is_integer_type t ≡ false → integer_within t ≡ None
 within_other (integer_type low high) h = absurd_bool (sym h)
 within_other truth_type h = refl
@@ -339,53 +345,13 @@ rest_other symbol_type d h = refl
 rest_other (word_type n) d h = refl
 
 infix_other : (op : Infix) (t u : ExprType) (d : Option ℤ) → is_integer_type t ≡ false → is_integer_type (infix_type_by op t u d) ≡ false
-infix_other Implies t u d h = h
-infix_other Iff t u d h = h
-infix_other Or t u d h = h
-infix_other Xor t u d h = h
-infix_other Xnor t u d h = h
-infix_other And t u d h = h
-infix_other Equal t u d h = refl
-infix_other Unequal t u d h = refl
-infix_other Less t u d h = refl
-infix_other Greater t u d h = refl
-infix_other LessEq t u d h = refl
-infix_other GreaterEq t u d h = refl
-infix_other Member t u d h = refl
 infix_other Union t u d h = hull_other t u h
-infix_other ShiftLeft t u d h = h
-infix_other ShiftRight t u d h = h
 infix_other Plus t u d h = both_other (λ x y. x +ℤ y) t u h
 infix_other Minus t u d h = both_other (λ x y. x -ℤ y) t u h
 infix_other Times t u d h = both_other (λ x y. x *ℤ y) t u h
 infix_other Divide t u d h = quotient_other t d h
 infix_other Mod t u d h = rest_other t d h
-infix_other Concat t u d h = refl
-
--- with the divisor that the operand's text is, it is the type of the operands
-pub infix_by : (op : Infix) (t u : ExprType) (e : Tree) → infix_type op t u e ≡ infix_type_by op t u (divisor_of e)
-infix_by Implies t u e = refl
-infix_by Iff t u e = refl
-infix_by Or t u e = refl
-infix_by Xor t u e = refl
-infix_by Xnor t u e = refl
-infix_by And t u e = refl
-infix_by Equal t u e = refl
-infix_by Unequal t u e = refl
-infix_by Less t u e = refl
-infix_by Greater t u e = refl
-infix_by LessEq t u e = refl
-infix_by GreaterEq t u e = refl
-infix_by Member t u e = refl
-infix_by Union t u e = refl
-infix_by ShiftLeft t u e = refl
-infix_by ShiftRight t u e = refl
-infix_by Plus t u e = refl
-infix_by Minus t u e = refl
-infix_by Times t u e = refl
-infix_by Divide t u e = refl
-infix_by Mod t u e = refl
-infix_by Concat t u e = refl
+infix_other op t u d h = assumption
 
 abbrev is_member : Infix → Bool
 is_member Member = true
@@ -402,7 +368,7 @@ flat_silent op (Some (word_type n)) (Some u) d h = ap only (within_other (infix_
 
 source_silent : (op : Infix) (t : ExprType) (u : Option ExprType) (e : Tree) → is_integer_type t ≡ false → only (both_types (λ x y. infix_type op x y e) (Some t) u) ≡ None
 source_silent op t None e h = refl
-source_silent op t (Some u) e h = ap (λ x. only (Some x)) (infix_by op t u e) ∙ only_other (infix_type_by op t u (divisor_of e)) (infix_other op t u (divisor_of e) h)
+source_silent op t (Some u) e h = only_other (infix_type op t u e) (infix_other op t u (divisor_of e) h)
 
 member_same : (low high : ℤ) (u b : Option ExprType) (e : Tree) (d : Option ℤ)
     → only (front_by Member (Some (integer_type low high)) u d) ≡ only (both_types (λ x y. infix_type Member x y e) (Some (integer_type low high)) b)
@@ -411,52 +377,16 @@ member_same low high None (Some b) e d = refl
 member_same low high (Some u) None e d = refl
 member_same low high (Some u) (Some b) e d = refl
 
-quotient_same : (low high : ℤ) (d : Option ℤ) → in_limit (quotient_type (integer_type low high) d) ≡ true
-    → only (integer_within (quotient_type (integer_type low high) d)) ≡ only (Some (quotient_type (integer_type low high) d))
-quotient_same low high None h = within_integer _ _ h
-quotient_same low high (Some b) h = within_integer _ _ h
-
-rest_same : (low high : ℤ) (d : Option ℤ) → in_limit (rest_type (integer_type low high) d) ≡ true
-    → only (integer_within (rest_type (integer_type low high) d)) ≡ only (Some (rest_type (integer_type low high) d))
-rest_same low high None h = within_integer _ _ h
-rest_same low high (Some b) h = within_integer _ _ h
-
-both_same : (f : ℤ → ℤ → ℤ) (low high : ℤ) (u : ExprType) → (is_integer_type u || false) ≡ true → in_limit (over_both_ends f (integer_type low high) u) ≡ true
-    → only (integer_within (over_both_ends f (integer_type low high) u)) ≡ only (Some (over_both_ends f (integer_type low high) u))
-both_same f low high (integer_type less more) k h = within_integer _ _ h
-both_same f low high truth_type k h = absurd_bool k
-both_same f low high symbol_type k h = absurd_bool k
-both_same f low high (word_type n) k h = absurd_bool k
-
-integer_same : (op : Infix) (at : Position) (p : Place) (low high : ℤ) (u : ExprType) (e : Tree) (d : Option ℤ) → is_member op ≡ false → is_union op ≡ false
+integer_same : (op : Infix) (at : Position) (p : Place) (low high : ℤ) (u : ExprType) (e : Tree) (d : Option ℤ)
     → passes (front_checks op at p (Some (integer_type low high)) (Some u) e) ≡ true → (is_divisor e ≡ true → d ≡ divisor_of e)
     → only (front_by op (Some (integer_type low high)) (Some u) d) ≡ only (Some (infix_type op (integer_type low high) u e))
-integer_same Implies at p low high u e d m n h k = absurd_bool (checked Implies at p (Some (integer_type low high)) (Some u) e h).0
-integer_same Iff at p low high u e d m n h k = absurd_bool (checked Iff at p (Some (integer_type low high)) (Some u) e h).0
-integer_same Or at p low high u e d m n h k = absurd_bool (checked Or at p (Some (integer_type low high)) (Some u) e h).0
-integer_same Xor at p low high u e d m n h k = absurd_bool (checked Xor at p (Some (integer_type low high)) (Some u) e h).0
-integer_same Xnor at p low high u e d m n h k = absurd_bool (checked Xnor at p (Some (integer_type low high)) (Some u) e h).0
-integer_same And at p low high u e d m n h k = absurd_bool (checked And at p (Some (integer_type low high)) (Some u) e h).0
-integer_same Equal at p low high u e d m n h k = refl
-integer_same Unequal at p low high u e d m n h k = refl
-integer_same Less at p low high u e d m n h k = refl
-integer_same Greater at p low high u e d m n h k = refl
-integer_same LessEq at p low high u e d m n h k = refl
-integer_same GreaterEq at p low high u e d m n h k = refl
-integer_same Member at p low high u e d m n h k = absurd_bool (sym m)
-integer_same Union at p low high u e d m n h k = absurd_bool (sym n)
-integer_same ShiftLeft at p low high u e d m n h k = absurd_bool (checked ShiftLeft at p (Some (integer_type low high)) (Some u) e h).0
-integer_same ShiftRight at p low high u e d m n h k = absurd_bool (checked ShiftRight at p (Some (integer_type low high)) (Some u) e h).0
-integer_same Plus at p low high u e d m n h k = let c = checked Plus at p (Some (integer_type low high)) (Some u) e h in both_same (λ x y. x +ℤ y) low high u c.0 c.1
-integer_same Minus at p low high u e d m n h k = let c = checked Minus at p (Some (integer_type low high)) (Some u) e h in both_same (λ x y. x -ℤ y) low high u c.0 c.1
-integer_same Times at p low high u e d m n h k = let c = checked Times at p (Some (integer_type low high)) (Some u) e h in both_same (λ x y. x *ℤ y) low high u c.0 c.1
-integer_same Divide at p low high u e d m n h k =
+integer_same Divide at p low high u e d h k =
     let c = checked Divide at p (Some (integer_type low high)) (Some u) e h in
-    ap (λ b. only (integer_within (quotient_type (integer_type low high) b))) (k c.3) ∙ quotient_same low high (divisor_of e) c.1
-integer_same Mod at p low high u e d m n h k =
+    ap (λ b. only (integer_within (quotient_type (integer_type low high) b))) (k c.3) ∙ within_same (quotient_type (integer_type low high) (divisor_of e)) c.1
+integer_same Mod at p low high u e d h k =
     let c = checked Mod at p (Some (integer_type low high)) (Some u) e h in
-    ap (λ b. only (integer_within (rest_type (integer_type low high) b))) (k c.3) ∙ rest_same low high (divisor_of e) c.1
-integer_same Concat at p low high u e d m n h k = absurd_bool (checked Concat at p (Some (integer_type low high)) (Some u) e h).0
+    ap (λ b. only (integer_within (rest_type (integer_type low high) b))) (k c.3) ∙ within_same (rest_type (integer_type low high) (divisor_of e)) c.1
+integer_same op at p low high u e d h k = within_same (infix_type op (integer_type low high) u e) (checked op at p (Some (integer_type low high)) (Some u) e h).1
 
 integer_front : (op : Infix) (b : Bool) (at : Position) (p : Place) (low high : ℤ) (y u : Option ExprType) (e : Tree) (d : Option ℤ) → is_member op ≡ b → is_union op ≡ false
     → passes (front_checks op at p (Some (integer_type low high)) y e) ≡ true → (is_member op ≡ false → u ≡ y) → (is_divisor e ≡ true → d ≡ divisor_of e)
@@ -465,7 +395,7 @@ integer_front Member true at p low high y u e d m n h q k = member_same low high
 integer_front op true at p low high y u e d m n h q k = absurd_bool m
 integer_front op false at p low high None u e d m n h q k = ap (λ z. only (front_by op (Some (integer_type low high)) z d)) (q m)
 integer_front op false at p low high (Some y) u e d m n h q k =
-    ap (λ z. only (front_by op (Some (integer_type low high)) z d)) (q m) ∙ integer_same op at p low high y e d m n h k
+    ap (λ z. only (front_by op (Some (integer_type low high)) z d)) (q m) ∙ integer_same op at p low high y e d h k
 
 types_same : (op : Infix) (at : Position) (p : Place) (x y g u : Option ExprType) (e : Tree) (d : Option ℤ) → is_union op ≡ false
     → passes (front_checks op at p x y e) ≡ true → only g ≡ only x → (is_member op ≡ false → u ≡ y) → (is_divisor e ≡ true → d ≡ divisor_of e)

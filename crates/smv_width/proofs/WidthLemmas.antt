@@ -3,7 +3,7 @@ use Rattle.std.proofs.Common.{◌≡◌, ℕ, zero, suc, ◌+◌, ◌-◌, ◌*�
 use Rattle.std.proofs.Math.Pow.{pow_mono}
 use Rattle.std.proofs.Math.Nat.{pow-suc, lt_of_not-le}
 use Rattle.std.specs.Int.Count.{count_leading_zeros, leading_unique}
-use Rattle.smv_text.specs.declared.tree.Infix.{Infix}
+use Rattle.smv_text.specs.declared.operators.Infix.{Infix}
 use Rattle.smv_meaning.specs.Types.{ExprType}
 use Rattle.smv_intervals.specs.View.{seen}
 use Rattle.smv_flat.specs.declared.expressions.FlatExpr.{FlatExpr, the_lemmas}

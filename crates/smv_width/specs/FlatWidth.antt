@@ -1,13 +1,13 @@
 -- The width of the integers of a flat form: the least in which two's complement holds the interval of every integer expression and
 -- type. Shift amounts and arguments that are numbers, which are no values of the model, don't count (NuSMV 2.6 User Manual, 2.2; that
 -- one width serves all integers is this translator's own).
-use Rattle.std.specs.Prelude.{ℕ, zero, suc, ◌+◌, ◌-◌, ◌/◌, ◌^◌, ◌≤◌, max, ◌==◌, if◌then◌else◌, ℤ, pos, negsuc, neg_ℤ, ◌+ℤ◌, ◌-ℤ◌, ◌*ℤ◌, ◌≤ℤ◌, ◌<ℤ◌, List, [], ◌∷◌, Option, Some, None}
-use Rattle.smv_text.specs.declared.tree.Prefix.TheVariants as OfPrefix
-use Rattle.smv_text.specs.declared.tree.Infix.{Infix}
-use Rattle.smv_text.specs.declared.tree.Infix.TheVariants.{Implies, Iff, Or, Xor, Xnor, And, Equal, Unequal, Less, Greater, LessEq, GreaterEq, Member, Union, ShiftLeft, ShiftRight, Plus, Minus, Times, Divide, Mod, Concat}
-use Rattle.smv_text.specs.declared.tree.Function.{Function}
-use Rattle.smv_text.specs.declared.tree.Function.TheVariants as OfFunction
-use Rattle.smv_meaning.specs.Types.{ExprType, truth_type, integer_type, word_type, type_width, in_limit, hull, over_both_ends, quotient_type, rest_type}
+use Rattle.std.specs.Prelude.{ℕ, zero, suc, ◌+◌, ◌-◌, ◌/◌, ◌^◌, ◌≤◌, max, ◌==◌, if◌then◌else◌, ℤ, pos, negsuc, neg_ℤ, ◌≤ℤ◌, ◌<ℤ◌, List, [], ◌∷◌, Option, Some, None}
+use Rattle.smv_text.specs.declared.operators.Prefix.TheVariants as OfPrefix
+use Rattle.smv_text.specs.declared.operators.Infix.{Infix}
+use Rattle.smv_text.specs.declared.operators.Infix.TheVariants.{ShiftLeft, ShiftRight}
+use Rattle.smv_text.specs.declared.operators.Function.{Function}
+use Rattle.smv_text.specs.declared.operators.Function.TheVariants as OfFunction
+use Rattle.smv_meaning.specs.Types.{ExprType, integer_type, in_limit, infix_type_by}
 use Rattle.smv_flat.specs.FlatTree.{FlatTree, flat_truth, flat_number, flat_literal, flat_symbol, flat_item, flat_prefix, flat_chain, flat_choice, flat_cases, flat_select, flat_call, flat_set, flat_range, FlatLinks, no_flat_links, flat_link, FlatBranches, no_flat_branches, flat_branch, FlatTrees, no_flat_trees, flat_tree_then}
 use Rattle.smv_items.specs.FlatItems.{PlainFlatItem}
 use Rattle.smv_flat.specs.FlatForms.{Form, PlainFlat}
@@ -57,31 +57,6 @@ abbrev pub IntervalWidthIsLeast : Type 0
 IntervalWidthIsLeast = (low high : ℤ) → low ≤ℤ high → IsLeastWidth low high (interval_width low high)
 
 -- ---- the fronts of a chain that is read from the left
-
--- the type of two operands, given the number that the right one is where it is a divisor
-abbrev pub infix_type_by : Infix → ExprType → ExprType → Option ℤ → ExprType
-infix_type_by Implies t u b = t
-infix_type_by Iff t u b = t
-infix_type_by Or t u b = t
-infix_type_by Xor t u b = t
-infix_type_by Xnor t u b = t
-infix_type_by And t u b = t
-infix_type_by Equal t u b = truth_type
-infix_type_by Unequal t u b = truth_type
-infix_type_by Less t u b = truth_type
-infix_type_by Greater t u b = truth_type
-infix_type_by LessEq t u b = truth_type
-infix_type_by GreaterEq t u b = truth_type
-infix_type_by Member t u b = truth_type
-infix_type_by Union t u b = hull t u
-infix_type_by ShiftLeft t u b = t
-infix_type_by ShiftRight t u b = t
-infix_type_by Plus t u b = over_both_ends (λ x y. x +ℤ y) t u
-infix_type_by Minus t u b = over_both_ends (λ x y. x -ℤ y) t u
-infix_type_by Times t u b = over_both_ends (λ x y. x *ℤ y) t u
-infix_type_by Divide t u b = quotient_type t b
-infix_type_by Mod t u b = rest_type t b
-infix_type_by Concat t u b = word_type (type_width t + type_width u)
 
 -- an integer's type, where its interval is within the limit, as each is in an accepted model
 abbrev pub integer_within : ExprType → Option ExprType

@@ -1,15 +1,13 @@
 // The intervals of the fronts of a chain that is read from the left; one that leaves the limit of integers counts nothing.
 ghost use Rattle.std.specs.Prelude.{◌≡◌, option_map};
-ghost use Rattle.smv_meaning.specs.Types.{ExprType};
+ghost use Rattle.smv_meaning.specs.Types.{ExprType, infix_type_by};
 ghost use Rattle.smv_intervals.specs.View.{seen};
 ghost use Rattle.smv_intervals.specs.Limits.{Kept};
 ghost use Rattle.smv_flat.specs.FlatView.{plain_flat};
-ghost use Rattle.smv_width.specs.FlatWidth.{infix_type_by, integer_within, front_by, flat_number_of, flat_divisor};
+ghost use Rattle.smv_width.specs.FlatWidth.{integer_within, front_by, flat_number_of, flat_divisor};
 
 use smv_flat::{FlatExpr, FlatShape};
-use smv_intervals::{
-    Ty, difference_type, hull, product_type, quotient_type, rest_type, sum_type, type_within_limit,
-};
+use smv_intervals::{Ty, infix_type};
 use smv_text::{Infix, Prefix};
 
 // The type, where it is an integer's.
@@ -26,28 +24,9 @@ fn joined(op: Infix, t: Ty, u: Ty, divisor: Option<i128>) -> Option<Ty>
     ensures { option_map seen result ≡ integer_within (infix_type_by op (seen t) (seen u) divisor) }
 {
     match op {
-        Infix::Implies
-        | Infix::Iff
-        | Infix::Or
-        | Infix::Xor
-        | Infix::Xnor
-        | Infix::And
-        | Infix::ShiftLeft
-        | Infix::ShiftRight => integer(type_within_limit(t)),
-        Infix::Equal
-        | Infix::Unequal
-        | Infix::Less
-        | Infix::Greater
-        | Infix::LessEq
-        | Infix::GreaterEq
-        | Infix::Member
-        | Infix::Concat => None,
-        Infix::Union => integer(type_within_limit(hull(t, u))),
-        Infix::Plus => integer(sum_type(t, u)),
-        Infix::Minus => integer(difference_type(t, u)),
-        Infix::Times => integer(product_type(t, u)),
-        Infix::Divide => integer(quotient_type(t, divisor)),
-        Infix::Mod => integer(rest_type(t, divisor)),
+        // Words, which may be too wide here.
+        Infix::Concat => None,
+        _ => integer(infix_type(op, t, u, divisor)),
     }
 }
 

@@ -6,7 +6,7 @@ use Rattle.text_core.specs.declared.end.End.{End}
 use Rattle.text_core.specs.declared.end.End.TheVariants.{Bad, NoMemory}
 use Rattle.text_core.specs.declared.place.Place.{Place}
 use Rattle.text_core.specs.declared.place.Refusal.{Refusal}
-use Rattle.smv_text.specs.declared.tree.Infix.{Infix}
+use Rattle.smv_text.specs.declared.operators.Infix.{Infix}
 use Rattle.smv_text.specs.declared.tree.Link.{Link}
 use Rattle.smv_text.specs.Tree.{Tree, Links, no_links, link, links_of}
 use Rattle.smv_text.specs.View.{plain, plain_link}

@@ -5,11 +5,10 @@ use Rattle.smv_text.specs.declared.token.Reserved.TheVariants as word
 use Rattle.smv_text.specs.declared.token.Sign.TheVariants as sign
 use Rattle.smv_text.specs.declared.token.TokenKind.{TokenKind}
 use Rattle.smv_text.specs.declared.token.TokenKind.TheVariants as kind
-use Rattle.smv_text.specs.declared.tree.Infix.{Infix}
+use Rattle.smv_text.specs.declared.operators.Infix.{Infix}
 use Rattle.smv_text.specs.declared.level.OperatorClass.{OperatorClass}
 use Rattle.smv_text.specs.declared.level.OperatorClass.TheVariants as classes
-use Rattle.smv_text.specs.Levels.{infix_of}
-use Rattle.smv_text.specs.Operators.{infix_at, class_of, class_number, of_class}
+use Rattle.smv_text.specs.Levels.{infix_of, infix_at, class_of, class_number, of_class}
 
 pub infix_is : (c : OperatorClass) (k : TokenKind) → infix_of c k ≡ of_class c (infix_at k)
 infix_is classes.Implications (kind.Sign sign.Open) = refl

@@ -1,7 +1,7 @@
 use Rattle.std.proofs.Common.{◌≡◌, false, is_some, suc, ◌-◌, Some, None, List, [], ◌∷◌, ◌++◌, refl, sym, ap, ◌∙◌, subst, arith, add-one}
 use Rattle.std.proofs.lemmas.Result.{err_from_is_err_and}
 use Rattle.smv_text.specs.declared.token.Sign.TheVariants as sign
-use Rattle.smv_text.specs.declared.tree.Prefix.TheVariants as prefixes
+use Rattle.smv_text.specs.declared.operators.Prefix.TheVariants as prefixes
 use Rattle.smv_text.specs.Levels.{all_levels}
 use Rattle.smv_text.specs.Tree.{prefix, cases, next, branches_of}
 use Rattle.smv_text.specs.Grammar.{start}

@@ -5,13 +5,13 @@ use Rattle.smv_flat.specs.FlatView.{plain_flat, plain_flat_link}
 use Rattle.moxi_terms.specs.Tree.{apply, tree, trees_of}
 use Rattle.moxi_terms.specs.View.{plain}
 use Rattle.moxi_terms.proofs.Plain.{plain-Apply}
-use Rattle.smv_script.specs.Operators.{function_term, joint_op}
+use Rattle.smv_script.specs.Operators.{function_term, infix_op}
 use Rattle.smv_script.specs.Terms.{translation, arguments_of, is_word}
 use Rattle.smv_script_terms.specs.Questions.{answered, codes_of}
 use Rattle.smv_script_terms.specs.Operands.{answers, case_plain, implied_parts, link_answers, operand_plain}
 use Rattle.smv_script_terms.proofs.Depths.{link_low, branch_low, tree_low, firsts_low}
 use Rattle.smv_script_terms.proofs.Steps.{step_on, steps_end, pushed}
-use Rattle.smv_script_terms.proofs.Translated.{ok_same, back, values_are, union_read, implied_read, joint_read, left_read}
+use Rattle.smv_script_terms.proofs.Translated.{ok_same, back, values_are, union_read, implied_read, joined_read, left_read}
 use Rattle.smv_script_terms.proofs.Termed.{choice_made, prefix_made, select_made, call_made, set_made, link_list, link_elements, link_alone, operand_list, operand_elements, operand_alone, case_list, case_elements, case_alone, part_list, folded_on, taken_cases}
 use Rattle.smv_script_terms.proofs.terms.+terms.Goals as goal
 
@@ -114,9 +114,9 @@ chained-returns-in_ok-value-in-Implied t c = ok_same plain c.answer.result _ _
 
 pub chained-returns-in_ok-terms-in-OneOperator : goal.chained-returns-in_ok-terms-in-OneOperator
 chained-returns-in_ok-terms-in-OneOperator t c = ok_same plain c.answer-in-OneOperator.result _ _
-    (joint_read c.args.question (codes_of c.args.coding.now) c.args.k (plain_flat c.args.first.now) (flat_links_of (map plain_flat_link c.args.links.now)) c.in-OneOperator.op c.in-OneOperator.words _
+    (joined_read c.args.question (codes_of c.args.coding.now) c.args.k (plain_flat c.args.first.now) (flat_links_of (map plain_flat_link c.args.links.now)) c.in-OneOperator.op c.in-OneOperator.words _
     (sym c.reading_of.ensures ∙ c.in-OneOperator.is)
-    (plain-Apply c.joint_operator.result c.in_ok-terms-in-OneOperator.terms ∙ ap (λ o. apply o (trees_of (map plain c.in_ok-terms-in-OneOperator.terms.items))) c.joint_operator.ensures ∙ ap (apply (joint_op c.in-OneOperator.op c.in-OneOperator.words)) c.in_ok-terms-in-OneOperator.ensures))
+    (plain-Apply c.infix_operator.result c.in_ok-terms-in-OneOperator.terms ∙ ap (λ o. apply o (trees_of (map plain c.in_ok-terms-in-OneOperator.terms.items))) c.infix_operator.ensures ∙ ap (apply (infix_op c.in-OneOperator.op c.in-OneOperator.words)) c.in_ok-terms-in-OneOperator.ensures))
     c.answer-in-OneOperator.ensures
 
 pub chained-returns-in_ok-value-in-Left : goal.chained-returns-in_ok-value-in-Left
