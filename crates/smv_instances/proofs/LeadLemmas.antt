@@ -1,5 +1,5 @@
 -- Steps of a walk over leads.
-use Rattle.std.proofs.Common.{◌≡◌, ℕ, zero, suc, ◌+◌, ◌<◌, ◌≤◌, nat_lt, Bool, true, false, ◌&&◌, ◌||◌, ◌==◌, if◌then◌else◌, List, [], ◌∷◌, ◌++◌, take, length, Option, Some, None, bytes_eq, refl, sym, ap, ◌∙◌, subst, arith}
+use Rattle.std.proofs.Common.{◌≡◌, ℕ, zero, suc, ◌+◌, ◌<◌, ◌≤◌, nat_lt, Bool, true, false, not, ◌&&◌, ◌||◌, ◌==◌, if◌then◌else◌, List, [], ◌∷◌, ◌++◌, take, length, Option, Some, None, bytes_eq, refl, sym, ap, ◌∙◌, subst, arith}
 use mathlib.Core.Logic.{⊎_elim}
 use Rattle.std.specs.Prelude.{slice_index_or, position, IfSome}
 use Rattle.std.specs.List.{list_any}
@@ -16,7 +16,7 @@ use Rattle.smv_meaning.specs.Instances.{Instance}
 use Rattle.smv_meaning.specs.Bodies.{instance_within}
 use Rattle.smv_meaning.specs.Names.{Local, alias, inner, is_child, local, Found, variable_at, body_at, instance_at, symbol_of, cyclic, none, at_child, landed, look, steps_of, onward, walk, single, through, found_in, resolved}
 use Rattle.smv_instances.specs.Rows.{row_in}
-use Rattle.smv_instances.specs.Leads.{until, LeadsTo, NameLeads, Right, IsOpen, StaysClosed, IsWaiting, AllWait, IsClosed, is_key, WalkOf, KeyWalk}
+use Rattle.smv_instances.specs.Leads.{until, LeadsTo, NameLeads, Right, IsOpen, StaysClosed, IsWaiting, AllWait, IsClosed, is_key, WalkOf, KeyWalk, are_same_single, are_one_name}
 use Rattle.smv_instances.specs.declared.leads.Walk.{Walk}
 use Rattle.smv_instances.specs.declared.leads.Walk.TheVariants.{Ends, Waits}
 use Rattle.smv_instances.specs.View.{found_plain}
@@ -143,19 +143,30 @@ pub child_reached : (t : List Instance) (i : ℕ) (x : List ℕ) (c : Option ℕ
 child_reached t i x None e h = record {}
 child_reached t i x (Some k) e h = look_one t i x inner (instance_at k) e (λ f. ap at_child (sym h))
 
--- names of one each that are the same
-pub single_names : (xs ys : List (List ℕ)) (x y : List ℕ) → length xs ≡ 1 → length ys ≡ 1 → x ≡ slice_index_or xs 0 x → y ≡ slice_index_or ys 0 y → x ≡ y → xs ≡ ys
-single_names [] ys x y h k e f s = absurd (omega (arith, h))
-single_names (a ∷ b ∷ xs) ys x y h k e f s = absurd (omega (arith, h))
-single_names (a ∷ []) [] x y h k e f s = absurd (omega (arith, k))
-single_names (a ∷ []) (b ∷ c ∷ ys) x y h k e f s = absurd (omega (arith, k))
-single_names (a ∷ []) (b ∷ []) x y h k e f s = ap (λ z. z ∷ []) (sym e ∙ s ∙ f)
+-- single names that are one are the same lists
+same_single_names : (xs ys : List (List ℕ)) → are_same_single xs ys ≡ true → xs ≡ ys
+same_single_names [] ys h = absurd (false≢true h)
+same_single_names (x ∷ y ∷ xs) ys h = absurd (false≢true h)
+same_single_names (x ∷ []) [] h = absurd (false≢true h)
+same_single_names (x ∷ []) (y ∷ z ∷ ys) h = absurd (false≢true h)
+same_single_names (x ∷ []) (y ∷ []) h = ap (λ n. n ∷ []) ((bytes_eq-Decides x y).0 h)
+
+neither : (a b c : Bool) → (not a && (not b && c)) ≡ true → (a ≡ b) × (c ≡ true)
+neither true b c h = absurd (false≢true h)
+neither false true c h = absurd (false≢true h)
+neither false false c h = (refl, h)
 
 -- paths of the same names lead to the same
-pub found_same : (t : List Instance) (i : ℕ) (p q : Path) → p.from_self ≡ q.from_self → p.names ≡ q.names → found_in t i p ≡ found_in t i q
+found_same : (t : List Instance) (i : ℕ) (p q : Path) → p.from_self ≡ q.from_self → p.names ≡ q.names → found_in t i p ≡ found_in t i q
 found_same t i p q e f =
     ap (λ b. if b then walk (look t (steps_of t)) i p.names else through t (look t (steps_of t)) i p.names) e
     ∙ ap (λ ns. if q.from_self then walk (look t (steps_of t)) i ns else through t (look t (steps_of t)) i ns) f
+
+-- paths that are the same one name lead to the same
+pub one_name_leads : (p q : Path) → are_one_name p q ≡ true → (t : List Instance) (i : ℕ) → found_in t i p ≡ found_in t i q
+one_name_leads p q h t i =
+    let b = neither p.from_self q.from_self (are_same_single p.names q.names) h in
+    found_same t i p q b.0 (same_single_names p.names q.names b.1)
 
 -- where one more lead is kept nothing opens
 pub stays_closed : (t : List Instance) (was now : InstanceRows Lead) (i : ℕ) (x : List ℕ) (lead : Lead)

@@ -1,6 +1,7 @@
 -- Where aliases lead, each found once: how deep the aliases on its way lead into one another, and what stands at the end.
-use Rattle.std.specs.Prelude.{◌≡◌, ℕ, suc, ◌+◌, ◌==◌, ◌&&◌, nat_lt, Bool, true, false, List, if◌then◌else◌, Option, Some, None, bytes_eq}
+use Rattle.std.specs.Prelude.{◌≡◌, ℕ, suc, ◌+◌, ◌==◌, ◌&&◌, nat_lt, Bool, true, false, not, List, [], ◌∷◌, if◌then◌else◌, Option, Some, None, bytes_eq}
 use Rattle.std.specs.List.{list_any}
+use Rattle.smv_text.specs.declared.tree.Path.{Path}
 use Rattle.smv_instances.specs.declared.instance_rows.InstanceRows.{InstanceRows}
 use Rattle.smv_instances.specs.declared.leads.Lead.{Lead}
 use Rattle.smv_instances.specs.declared.leads.Key.{Key}
@@ -75,3 +76,12 @@ KeyWalk t m i x (Some (Waits key)) = IsOpen t m key.instance key.name.now × ((n
 -- each of these parameters that is open comes to an open alias
 abbrev pub AllWait : List Instance → InstanceRows Lead → List Key → Type 0
 AllWait t m ks = (i : ℕ) (x : List ℕ) → list_any (is_key i x) ks ≡ true → WaitsIfOpen t m i x
+
+-- are both lists the same one name
+abbrev pub are_same_single : List (List ℕ) → List (List ℕ) → Bool
+are_same_single (n ∷ []) (m ∷ []) = bytes_eq n m
+are_same_single ns ms = false
+
+-- are both paths the same one name, without `self`
+abbrev pub are_one_name : Path → Path → Bool
+are_one_name p q = not p.from_self && (not q.from_self && are_same_single p.names q.names)

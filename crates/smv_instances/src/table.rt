@@ -4,7 +4,7 @@ ghost use Rattle.smv_text.specs.View.{plain_source};
 ghost use Rattle.smv_meaning.specs.Instances.{Instance as Specified, instances_of};
 ghost use Rattle.smv_meaning.specs.Bodies.{instance_within};
 ghost use Rattle.smv_meaning.specs.Names.{steps_of, local, is_child, has_symbol, found_in, look, single};
-ghost use Rattle.smv_instances.specs.Leads.{until};
+ghost use Rattle.smv_instances.specs.Leads.{until, are_one_name};
 ghost use Rattle.smv_instances.specs.View.{instance_plain, local_plain, found_plain};
 
 use crate::aliases::leads_of;
@@ -46,8 +46,7 @@ impl<'a> Model for Table<'a> {
 
 // Are both the same single name?
 fn is_same_single(one: &Path, other: &Path) -> bool
-    ensures from_self { result ≡ true → one.now.from_self ≡ other.now.from_self }
-    ensures names { result ≡ true → one.now.names ≡ other.now.names }
+    ensures { result ≡ are_one_name one.now other.now }
 {
     if one.from_self || other.from_self || one.names.len() != 1 || other.names.len() != 1 {
         return false;
@@ -57,7 +56,8 @@ fn is_same_single(one: &Path, other: &Path) -> bool
 
 /// Are both paths the same single name? Then they lead to the same in each instance.
 pub fn is_same_name(one: &Path, other: &Path) -> bool
-    ensures { result ≡ true → (t : List Specified) (i : ℕ) → found_in t i one.now ≡ found_in t i other.now }
+    ensures exact { result ≡ are_one_name one.now other.now }
+    ensures leads { result ≡ true → (t : List Specified) (i : ℕ) → found_in t i one.now ≡ found_in t i other.now }
 {
     is_same_single(one, other)
 }
