@@ -307,12 +307,10 @@ served_by laws None fs b before now h s w = let e : status.Usage ≡ status.Done
 served_by laws (Some (SmvToBtor model)) fs b before now h s w = translations.served laws.texts fs model b before now h s w
 served_by laws (Some (SmvToMoxi model)) fs b before now h s w = scripts.served laws.scripts fs model b before now h s w
 served_by laws (Some (MoxiToBtor model)) fs b before now h s w = lines.served laws.lines fs model b before now h s w
-served_by laws (Some (JudgeBtor model second)) fs b before now h s w = tt
-served_by laws (Some (JudgeSmv model second j)) fs b before now h s w = tt
-served_by laws (Some (JudgeMoxi model second)) fs b before now h s w = tt
 served_by laws (Some (LiftSmv model second)) fs b before now h s w = traces.served laws.traces fs model second b before now h s w
 served_by laws (Some (LiftMoxi model second)) fs b before now h s w = responses.served laws.responses fs model second b before now h s w
 served_by laws (Some (Generate n)) fs b before now h s w = generated.summarized n b before now h s w
+served_by laws (Some command) fs b before now h s w = tt
 
 pub run_served : (laws : Laws) (files : Option Files) (command : Option Command) (before now : Option (List ℕ)) → IfSome files (λ fs. (b : Answer) × Answers command fs b × (status_of b ≡ status.Done) × (now ≡ grown before (text_of b))) → IfSome files (λ fs. Serves command fs before now)
 run_served laws None command before now h = tt

@@ -2,19 +2,11 @@
 use Rattle.std.proofs.Common.{inr, ℕ, List, Option, Some, None, refl}
 use Rattle.text_core.specs.Outside.{Files}
 use Rattle.moxi_commands.specs.declared.words.Command.{Command}
-use Rattle.moxi_commands.specs.declared.words.Command.TheVariants.{SmvToBtor, SmvToMoxi, MoxiToBtor, JudgeBtor, JudgeSmv, JudgeMoxi, LiftSmv, LiftMoxi, Generate}
+use Rattle.moxi_commands.specs.declared.words.Command.TheVariants.{JudgeBtor}
 use Rattle.moxi_commands.specs.Words.{BeginsNoSecond}
 
 -- where nothing is begun, no second file is
 pub begins_nothing : (files : Option Files) (before : Option (List ℕ)) (command : Option Command) → BeginsNoSecond files before before command
-begins_nothing files before None = tt
-begins_nothing files before (Some (SmvToBtor model)) = tt
-begins_nothing files before (Some (SmvToMoxi model)) = tt
-begins_nothing files before (Some (MoxiToBtor model)) = tt
-begins_nothing files before (Some (JudgeSmv model second j)) = tt
-begins_nothing files before (Some (JudgeMoxi model second)) = tt
-begins_nothing files before (Some (LiftSmv model second)) = tt
-begins_nothing files before (Some (LiftMoxi model second)) = tt
-begins_nothing files before (Some (Generate n)) = tt
 begins_nothing None before (Some (JudgeBtor model second)) = tt
 begins_nothing (Some fs) before (Some (JudgeBtor model second)) = inr refl
+begins_nothing files before command = tt

@@ -108,28 +108,18 @@ Answers (Some (LiftSmv model second)) files answer = IsSmvLift files model secon
 Answers (Some (LiftMoxi model second)) files answer = IsMoxiLift files model second answer
 Answers (Some (Generate n)) files answer = IsGenerated n answer
 
--- what was written for a command stands for its model
+-- what was written for a command stands for its model; a verdict stands for nothing else
 abbrev pub Serves : Option Command → Files → Option (List ℕ) → Option (List ℕ) → Type 0
 Serves None files before now = ⊥
 Serves (Some (SmvToBtor model)) files before now = IsServed files model before now
 Serves (Some (SmvToMoxi model)) files before now = IsServedScript files model before now
 Serves (Some (MoxiToBtor model)) files before now = IsServedLines files model before now
-Serves (Some (JudgeBtor model second)) files before now = Unit {0}
-Serves (Some (JudgeSmv model second j)) files before now = Unit {0}
-Serves (Some (JudgeMoxi model second)) files before now = Unit {0}
 Serves (Some (LiftSmv model second)) files before now = IsLiftedTrace files model second before now
 Serves (Some (LiftMoxi model second)) files before now = IsLiftedResponse files model second before now
 Serves (Some (Generate n)) files before now = IsSummarized n before now
+Serves (Some command) files before now = Unit {0}
 
 -- no second file was begun by a judge of witnesses; other commands may want memory for theirs
 abbrev pub BeginsNoSecond : Option Files → Option (List ℕ) → Option (List ℕ) → Option Command → Type 0
-BeginsNoSecond files before now None = Unit {0}
-BeginsNoSecond files before now (Some (SmvToBtor model)) = Unit {0}
-BeginsNoSecond files before now (Some (SmvToMoxi model)) = Unit {0}
-BeginsNoSecond files before now (Some (MoxiToBtor model)) = Unit {0}
 BeginsNoSecond files before now (Some (JudgeBtor model second)) = BeginsOnly files before now model
-BeginsNoSecond files before now (Some (JudgeSmv model second j)) = Unit {0}
-BeginsNoSecond files before now (Some (JudgeMoxi model second)) = Unit {0}
-BeginsNoSecond files before now (Some (LiftSmv model second)) = Unit {0}
-BeginsNoSecond files before now (Some (LiftMoxi model second)) = Unit {0}
-BeginsNoSecond files before now (Some (Generate n)) = Unit {0}
+BeginsNoSecond files before now command = Unit {0}

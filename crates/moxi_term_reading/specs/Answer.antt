@@ -1,5 +1,5 @@
 -- What the calls answer.
-use Rattle.std.specs.Prelude.{◌≡◌, Some, None, Option, Bool, true, false, Result, Ok, Err, List, [], ◌∷◌, ◌++◌, map}
+use Rattle.std.specs.Prelude.{◌≡◌, ℕ, Some, None, Option, Bool, true, false, Result, Ok, Err, List, [], ◌∷◌, ◌++◌, map}
 use Rattle.text_core.specs.declared.end.End.{End}
 use Rattle.text_core.specs.declared.end.End.TheVariants.{Bad, NoMemory}
 use Rattle.text_core.specs.declared.place.Refusal.{Refusal}
@@ -11,9 +11,10 @@ use Rattle.moxi_term_reading.specs.declared.outcome.ReadTerm.{ReadTerm}
 use Rattle.moxi_term_reading.specs.declared.outcome.Setting.{Setting}
 use Rattle.moxi_term_reading.specs.declared.applications.ReadArguments.{ReadArguments}
 use Rattle.moxi_term_reading.specs.declared.lets.ReadBindings.{ReadBindings}
+use Rattle.moxi_terms.specs.Tree.{variable}
 use Rattle.moxi_terms.specs.View.{plain}
 use Rattle.moxi_sorts.specs.Failures.{least, IsLeast}
-use Rattle.moxi_term_reading.specs.Reading.{Reading, Arguments, Bindings, Context, names_of}
+use Rattle.moxi_term_reading.specs.Reading.{Reading, Arguments, Bindings, Context, argument, both_arguments, names_of}
 
 -- the term, its sort, and of the failing tests the least one
 pub record IsRead (x : Reading) (r : ReadTerm) : Type 0 where
@@ -47,6 +48,16 @@ pub record AreStacked (x : Arguments) (r : ReadArguments) (before all : List Sor
   pub own : List Sort
   pub stack : all ≡ before ++ own
   pub read : AreRead x r own
+
+-- whatever arguments were read before, with their sorts on the stack, this reading's is read behind them
+abbrev pub IsAdded : Reading → ReadArguments → List Sort → ReadArguments → List Sort → Type 0
+IsAdded y old stack new after = (x : Arguments) (before : List Sort) → AreStacked x old before stack → AreStacked (both_arguments x (argument y)) new before after
+
+-- the same of each reading of a variable with this sort and this failing test
+abbrev pub IsVariableAdded : ℕ → Bool → Option Sort → Option Refusal → ReadArguments → List Sort → ReadArguments → List Sort → Type 0
+IsVariableAdded v primed sort failure old stack new after =
+    (x : Arguments) (y : Reading) (before : List Sort) → AreStacked x old before stack → y.term ≡ variable v primed → sort ≡ y.sort → failure ≡ least y.failures
+    → AreStacked (both_arguments x (argument y)) new before after
 
 pub record AreBound (x : Bindings) (r : ReadBindings) : Type 0 where
   pub names : r.names ≡ names_of x.locals

@@ -319,3 +319,7 @@ abbrev mutual
   read_binding c bounds q (form.list p (form.tree x (form.tree t form.no_trees))) = binding_of p x (symbol_of x) (read c bounds t)
   read_binding c bounds q (form.list p ts) = misshapen p
   read_binding c bounds q (form.atom p a) = misshapen q
+
+-- the reading of an application at p of what a form says to the arguments that these spell
+abbrev pub applied_reading : Context → List Local → Place → form.Tree → form.Trees → Reading
+applied_reading c bounds p head ts = application c.scope.functions p (head_primes head) (head_of c.scope p head) (read_all c bounds ts)

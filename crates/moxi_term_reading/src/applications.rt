@@ -1,7 +1,7 @@
 // Applications of operators and functions.
 ghost use Rattle.std.specs.Prelude.{◌≡◌, ◌++◌, ◌∷◌, [], Ok, None, List, length, map, is_some, ◌&&◌, IfOk, OnOk};
 ghost use Rattle.text_core.specs.declared.place.Refusal.{Refusal};
-ghost use Rattle.moxi_term_reading.specs.Answer.{AreRead, AreStacked, IsRead, kept, sorts_in, unless_some};
+ghost use Rattle.moxi_term_reading.specs.Answer.{AreRead, AreStacked, IsRead, IsVariableAdded, kept, sorts_in, unless_some};
 ghost use Rattle.moxi_sorts.specs.Failures.{least};
 ghost use Rattle.moxi_term_reading.specs.Reading.{Arguments, Reading, application, applied_sort, argument, argument_tests, both_arguments, headed, no_term};
 ghost use Rattle.moxi_terms.specs.declared.data.Sort.{Sort};
@@ -45,7 +45,7 @@ pub fn add_variable(
     args: &mut ReadArguments,
     sorts: &mut Vec<Sort>,
 ) -> Result<(), NoMemory>
-    ensures { OnOk result ((x : Arguments) (y : Reading) (before : List Sort) → AreStacked x args.old before sorts.old.items → y.term ≡ variable v primed → sort ≡ y.sort → failure ≡ least y.failures → AreStacked (both_arguments x (argument y)) args.new before sorts.new.items) }
+    ensures { OnOk result (IsVariableAdded v primed sort failure args.old sorts.old.items args.new sorts.new.items) }
 {
     args.terms.push(Term::Variable(v, primed))?;
     args.whole = add_sort(sorts, args.whole, sort)?;

@@ -3,11 +3,11 @@ ghost use Rattle.std.specs.Prelude.{◌≡◌, ◌*◌, List, length, OnOk};
 ghost use Rattle.text_core.specs.declared.place.Refusal.{Refusal};
 ghost use Rattle.word_core.specs.Digits.{read_word};
 ghost use Rattle.moxi_sexpr.specs.Tree.{plain_forms};
-ghost use Rattle.moxi_term_reading.specs.Answer.{AreStacked, IsRead, context_of};
+ghost use Rattle.moxi_term_reading.specs.Answer.{IsAdded, IsRead, context_of};
 ghost use Rattle.moxi_sorts.specs.Failures.{least};
 ghost use Rattle.moxi_sorts.specs.Finding.{found, last_of};
 ghost use Rattle.moxi_sorts.specs.Forms.{digits_now};
-ghost use Rattle.moxi_term_reading.specs.Reading.{Arguments, argument, both_arguments, atom_reading, literal_digits, literal_named, literal_reading, meaning_of, named_reading, underscore_reading, variable_primes, word_reading};
+ghost use Rattle.moxi_term_reading.specs.Reading.{argument, atom_reading, literal_digits, literal_named, literal_reading, meaning_of, named_reading, underscore_reading, variable_primes, word_reading};
 
 use crate::applications::{ReadArguments, add_argument, add_variable};
 use crate::heads::{literal_digits, prime};
@@ -154,7 +154,7 @@ pub fn add_atom(
     args: &mut ReadArguments,
     sorts: &mut Vec<Sort>,
 ) -> Result<(), NoMemory>
-    ensures { OnOk result ((x : Arguments) (before : List Sort) → AreStacked x args.old before sorts.old.items → AreStacked (both_arguments x (argument (atom_reading (context_of setting.entry) bounds.now p a.now))) args.new before sorts.new.items) }
+    ensures { OnOk result (IsAdded (atom_reading (context_of setting.entry) bounds.now p a.now) args.old sorts.old.items args.new sorts.new.items) }
 {
     match symbol_atom(a) {
         Some((name, primed)) => add_name(alloc, setting, bounds, p, name, primed, args, sorts),
@@ -173,7 +173,7 @@ fn add_name(
     args: &mut ReadArguments,
     sorts: &mut Vec<Sort>,
 ) -> Result<(), NoMemory>
-    ensures { OnOk result ((x : Arguments) (before : List Sort) → AreStacked x args.old before sorts.old.items → AreStacked (both_arguments x (argument (named_reading setting.entry.primes p primed (meaning_of (context_of setting.entry) bounds.now name.now)))) args.new before sorts.new.items) }
+    ensures { OnOk result (IsAdded (named_reading setting.entry.primes p primed (meaning_of (context_of setting.entry) bounds.now name.now)) args.old sorts.old.items args.new sorts.new.items) }
 {
     // Most names are variables: their terms are added with no copy.
     match bound_named(bounds, name) {
@@ -216,7 +216,7 @@ fn add_meaning(
     args: &mut ReadArguments,
     sorts: &mut Vec<Sort>,
 ) -> Result<(), NoMemory>
-    ensures { OnOk result ((x : Arguments) (before : List Sort) → AreStacked x args.old before sorts.old.items → AreStacked (both_arguments x (argument (named_reading primes p primed meaning))) args.new before sorts.new.items) }
+    ensures { OnOk result (IsAdded (named_reading primes p primed meaning) args.old sorts.old.items args.new sorts.new.items) }
 {
     add_argument(named(alloc, primes, p, primed, meaning), args, sorts)
 }

@@ -6,11 +6,11 @@ ghost use Rattle.moxi_terms.specs.Tree.{sorts_of};
 ghost use Rattle.moxi_terms.specs.View.{plain};
 ghost use Rattle.text_core.specs.declared.place.Refusal.{Refusal};
 ghost use Rattle.moxi_sexpr.specs.Tree.{Tree, list as list_form, plain as plain_form, plain_forms};
-ghost use Rattle.moxi_term_reading.specs.Answer.{Answers, AreBound, AreStacked, IsRead, context_of, locals_of};
+ghost use Rattle.moxi_term_reading.specs.Answer.{Answers, AreBound, AreStacked, IsAdded, IsRead, context_of, locals_of};
 ghost use Rattle.moxi_sorts.specs.Failures.{least};
 ghost use Rattle.moxi_terms.specs.declared.data.Sort.{Sort};
 ghost use Rattle.moxi_term_reading.specs.WellSorted.{HaveKnownSorts, IsSortedTerm, IsTerm, IsWellSorted};
-ghost use Rattle.moxi_term_reading.specs.Reading.{Arguments, Bindings, Context, application, argument, both_arguments, both_bindings, head_of, head_primes, let_reading, read, read_all, read_binding, read_bindings, read_let};
+ghost use Rattle.moxi_term_reading.specs.Reading.{Bindings, Context, applied_reading, both_bindings, head_of, let_reading, read, read_all, read_binding, read_bindings, read_let};
 
 use crate::applications::{ReadArguments, add_argument, application};
 use crate::atoms::{add_atom, read_atom, underscored};
@@ -87,7 +87,7 @@ fn read_application(
     head: &Form,
     rest: &[Form],
 ) -> Result<ReadTerm, NoMemory>
-    ensures read { IfOk result (IsRead (application setting.entry.scope.now.functions p (head_primes (plain_form head.now)) (head_of setting.entry.scope.now p (plain_form head.now)) (read_all (context_of setting.entry) bounds.old (plain_forms rest.now)))) }
+    ensures read { IfOk result (IsRead (applied_reading (context_of setting.entry) bounds.old p (plain_form head.now) (plain_forms rest.now))) }
     ensures kept { OnOk result (bounds.new ≡ bounds.old) }
     ensures stack { OnOk result (sorts.new.items ≡ sorts.old.items) }
 {
@@ -138,7 +138,7 @@ fn read_argument(
     form: &Form,
     args: &mut ReadArguments,
 ) -> Result<(), NoMemory>
-    ensures read { OnOk result ((x : Arguments) (before : List Sort) → AreStacked x args.old before sorts.old.items → AreStacked (both_arguments x (argument (read (context_of setting.entry) bounds.old (plain_form form.now)))) args.new before sorts.new.items) }
+    ensures read { OnOk result (IsAdded (read (context_of setting.entry) bounds.old (plain_form form.now)) args.old sorts.old.items args.new sorts.new.items) }
     ensures kept { OnOk result (bounds.new ≡ bounds.old) }
 {
     match &form.shape {
