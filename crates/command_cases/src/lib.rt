@@ -1,6 +1,7 @@
 //! Cases of whole commands: what a run is given, over files and streams in memory, and what it must answer.
 #![tactic(auto)]
 
+mod family;
 mod running;
 mod setting;
 mod short;

@@ -1,8 +1,9 @@
 // What a run is given.
+use crate::family::fails_each;
 use case_report::Files;
 use case_text::{Case, Entry, Fault, number};
 use std::alloc::Global;
-use text_core::{FilePairs, MemorySink, Numbers, Shelf};
+use text_core::{FilePair, FilePairs, MemorySink, Numbers, Shelf};
 
 // The room of a sink where the case states none.
 const ROOM: u64 = 1_048_576;
@@ -34,15 +35,15 @@ impl Limits {
         }
     }
 
-    // Takes a line that states a limit, or answers that it states none.
-    fn take(&mut self, alloc: Global, says: &str) -> Result<bool, Fault> {
-        match says.split_once(' ') {
-            Some(("fails", rest)) => self.fails = numbers(alloc, rest)?,
+    // Takes a line, if it states a limit.
+    fn take(&mut self, alloc: Global, entry: &Entry, run: u64) -> Result<(), Fault> {
+        match entry.says.split_once(' ') {
+            Some(("fails", _)) => self.fails = failing(alloc, entry, run)?,
             Some(("most", rest)) => self.most = number(rest)?,
             Some(("room", rest)) => self.room = number(rest)?,
-            _ => return Ok(false),
+            _ => {}
         }
-        Ok(true)
+        Ok(())
     }
 
     /// The sink with these limits.
@@ -57,11 +58,12 @@ impl Limits {
 }
 
 impl Setting {
-    /// The setting that a case states.
+    /// The setting that a case states. `run` is the number of the run in its family; elsewhere nothing depends on it.
     pub fn of<F: Shelf + Drop>(
         alloc: Global,
         files: &mut Files<F>,
         case: &Case,
+        run: u64,
     ) -> Result<Setting, Fault> {
         let mut setting = Setting {
             words: Vec::new(alloc),
@@ -70,7 +72,7 @@ impl Setting {
             out: Limits::new(alloc),
             notes: Limits::new(alloc),
         };
-        setting.take_all(alloc, files, case)?;
+        setting.take_all(alloc, files, case, run)?;
         Ok(setting)
     }
 
@@ -79,9 +81,10 @@ impl Setting {
         alloc: Global,
         files: &mut Files<F>,
         case: &Case,
+        run: u64,
     ) -> Result<(), Fault> {
         for entry in &case.entries {
-            self.take(alloc, files, entry)?;
+            self.take(alloc, files, entry, run)?;
         }
         Ok(())
     }
@@ -92,25 +95,48 @@ impl Setting {
         alloc: Global,
         files: &mut Files<F>,
         entry: &Entry,
+        run: u64,
     ) -> Result<(), Fault> {
         match entry.key {
             "run" | "sure" => self.words = strings(alloc, entry.says)?,
             "file" => self.files.push(files.pair(alloc, entry)?)?,
+            "fronts" => self.files.push(front(files.pair(alloc, entry)?, run))?,
             "shelf" => {
-                if let Some(("fails", rest)) = entry.says.split_once(' ') {
-                    self.shelf_fails = numbers(alloc, rest)?;
+                if let Some(("fails", _)) = entry.says.split_once(' ') {
+                    self.shelf_fails = failing(alloc, entry, run)?;
                 }
             }
-            "out" => {
-                self.out.take(alloc, entry.says)?;
-            }
-            "notes" => {
-                self.notes.take(alloc, entry.says)?;
-            }
+            "out" => self.out.take(alloc, entry, run)?,
+            "notes" => self.notes.take(alloc, entry, run)?,
             _ => {}
         }
         Ok(())
     }
+}
+
+// The file, cut to its first bytes.
+fn front(mut file: FilePair, count: u64) -> FilePair {
+    file.bytes
+        .truncate(usize::try_from(count).unwrap_or(usize::MAX));
+    file
+}
+
+// The numbers of the calls that fail: the run's own for `fails each`, else those that the line states.
+fn failing(alloc: Global, entry: &Entry, run: u64) -> Result<Numbers, Fault> {
+    if fails_each(entry) {
+        one(alloc, run)
+    } else {
+        match entry.says.split_once(' ') {
+            Some((_, rest)) => numbers(alloc, rest),
+            None => Ok(Numbers::new(alloc)),
+        }
+    }
+}
+
+fn one(alloc: Global, n: u64) -> Result<Numbers, Fault> {
+    let mut numbers = Numbers::new(alloc);
+    numbers.push(n)?;
+    Ok(numbers)
 }
 
 /// The most bytes that a call reads of a file, for each of the runs that a case states: 0, which is no limit, where it states

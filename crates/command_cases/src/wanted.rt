@@ -1,6 +1,9 @@
 // What a case wants of a run.
+use crate::family::fails_each;
+use case_report::Files;
 use case_text::{Case, Entry, Fault, number};
 use std::alloc::Global;
+use text_core::Shelf;
 
 const USAGE: &[u8] = b"usage: moxi_cli COMMAND MODEL [SECOND] [--property J]\n";
 
@@ -13,47 +16,98 @@ pub struct Wanted {
 }
 
 impl Wanted {
-    /// What a case wants. A line that is a note of the program implies the status and that nothing is written beside it.
-    pub fn of(alloc: Global, case: &Case) -> Result<Wanted, Fault> {
-        let mut wanted = Wanted {
+    // Status 0, with nothing written.
+    fn new(alloc: Global) -> Wanted {
+        Wanted {
             status: 0,
             out: Vec::new(alloc),
             notes: Vec::new(alloc),
-        };
-        wanted.take_all(alloc, case)?;
+        }
+    }
+
+    /// What a case wants. A line that is a note of the program implies the status and that nothing is written beside it.
+    pub fn of<F: Shelf + Drop>(
+        alloc: Global,
+        files: &mut Files<F>,
+        case: &Case,
+    ) -> Result<Wanted, Fault> {
+        let mut wanted = Wanted::new(alloc);
+        check_stated(wanted.take_all(alloc, files, case)?)?;
         Ok(wanted)
     }
 
-    // Takes the lines of a case, one of which has to state a status.
-    fn take_all(&mut self, alloc: Global, case: &Case) -> Result<(), Fault> {
+    /// What a numbered line wants of its runs: what the case states for all runs, with the line's own status, note and output.
+    pub fn of_numbered<F: Shelf + Drop>(
+        alloc: Global,
+        files: &mut Files<F>,
+        case: &Case,
+        entry: &Entry,
+    ) -> Result<Wanted, Fault> {
+        let mut wanted = Wanted::new(alloc);
+        let _for_all = wanted.take_all(alloc, files, case)?;
+        wanted.take_numbered(alloc, files, case, entry)?;
+        Ok(wanted)
+    }
+
+    // Takes the lines of a case, and returns whether one of them states a status.
+    fn take_all<F: Shelf + Drop>(
+        &mut self,
+        alloc: Global,
+        files: &mut Files<F>,
+        case: &Case,
+    ) -> Result<bool, Fault> {
         let mut stated = false;
         for entry in &case.entries {
-            if self.take(alloc, entry)? {
+            if self.take(alloc, files, entry)? {
                 stated = true;
             }
         }
-        if stated {
-            Ok(())
-        } else {
-            Err(Fault::Unreadable("a run with no wanted status"))
+        Ok(stated)
+    }
+
+    // Takes a numbered line, which must state a status.
+    fn take_numbered<F: Shelf + Drop>(
+        &mut self,
+        alloc: Global,
+        files: &mut Files<F>,
+        case: &Case,
+        entry: &Entry,
+    ) -> Result<(), Fault> {
+        let (line, taken) = line_and_taken(entry.says)?;
+        if let Some(count) = taken {
+            self.cut(case, count)?;
         }
+        check_stated(self.take(alloc, files, &line_of(alloc, line, entry)?)?)
     }
 
     // Takes a line, and answers whether it states a status.
-    fn take(&mut self, alloc: Global, entry: &Entry) -> Result<bool, Fault> {
+    fn take<F: Shelf + Drop>(
+        &mut self,
+        alloc: Global,
+        files: &mut Files<F>,
+        entry: &Entry,
+    ) -> Result<bool, Fault> {
         match entry.key {
             "status" => self.status = number(entry.says)?,
-            "done" => self.out = entry.bytes.as_slice().to_vec(alloc)?,
+            "done" => {
+                if !entry.says.is_empty() || !entry.bytes.is_empty() {
+                    self.out = text_of(alloc, files, entry)?;
+                }
+            }
             "usage" => {
                 self.status = 3;
                 self.notes = USAGE.to_vec(alloc)?;
             }
             "out" => {
-                self.out = stated_bytes(alloc, self.out.as_slice(), entry)?;
+                if states_text(entry) {
+                    self.out = text_of(alloc, files, entry)?;
+                }
                 return Ok(false);
             }
             "notes" => {
-                self.notes = stated_bytes(alloc, self.notes.as_slice(), entry)?;
+                if states_text(entry) {
+                    self.notes = text_of(alloc, files, entry)?;
+                }
                 return Ok(false);
             }
             _ => match status_of_note(entry) {
@@ -66,14 +120,81 @@ impl Wanted {
         }
         Ok(true)
     }
+
+    // Keeps the first bytes of the stream whose calls fail.
+    fn cut(&mut self, case: &Case, count: usize) -> Result<(), Fault> {
+        if has_failing(case, "out") {
+            cut_text(&mut self.out, count)
+        } else if has_failing(case, "notes") {
+            cut_text(&mut self.notes, count)
+        } else {
+            Err(Fault::Unreadable("bytes before a call that fails"))
+        }
+    }
 }
 
-// The bytes below a line that states what a stream took; a line that states what fails leaves them as they were.
-fn stated_bytes(alloc: Global, before: &[u8], entry: &Entry) -> Result<Vec<u8>, Fault> {
+fn check_stated(stated: bool) -> Result<(), Fault> {
+    if stated {
+        Ok(())
+    } else {
+        Err(Fault::Unreadable("a run with no wanted status"))
+    }
+}
+
+// Does each call of this stream fail in a run of its own?
+fn has_failing(case: &Case, stream: &str) -> bool {
+    case.entries
+        .iter()
+        .any(|e| e.key == stream && fails_each(e))
+}
+
+fn cut_text(bytes: &mut Vec<u8>, count: usize) -> Result<(), Fault> {
+    if count > bytes.len() {
+        return Err(Fault::Unreadable("more bytes than the text has"));
+    }
+    bytes.truncate(count);
+    Ok(())
+}
+
+// Splits `after N bytes` off the end of what a numbered line says.
+fn line_and_taken<'a>(says: &'a str) -> Result<(&'a str, Option<usize>), Fault> {
+    match says.rsplit_once(" after ") {
+        Some((line, end)) => match end.split_once(' ') {
+            Some((count, "byte" | "bytes")) => Ok((line, Some(byte_count(count)?))),
+            _ => Ok((says, None)),
+        },
+        None => Ok((says, None)),
+    }
+}
+
+fn byte_count(word: &str) -> Result<usize, Fault> {
+    Ok(usize::try_from(number(word)?).unwrap_or(usize::MAX))
+}
+
+// What a numbered line says, as a line of its own with the bytes below it.
+fn line_of<'a>(alloc: Global, line: &'a str, entry: &Entry) -> Result<Entry<'a>, Fault> {
+    let (key, says) = line.split_once(' ').unwrap_or((line, ""));
+    let bytes = entry.bytes.as_slice().to_vec(alloc)?;
+    Ok(Entry { key, says, bytes })
+}
+
+// Does a line of a stream state what the stream takes, and not its limits?
+fn states_text(entry: &Entry) -> bool {
     match entry.says {
-        "" => Ok(entry.bytes.as_slice().to_vec(alloc)?),
-        "nothing" => Ok(Vec::new(alloc)),
-        _ => Ok(before.to_vec(alloc)?),
+        "" | "nothing" => true,
+        says => matches!(says.split_once(' '), Some(("from", _))),
+    }
+}
+
+// The bytes below a line, or those of the file that it names.
+fn text_of<F: Shelf + Drop>(
+    alloc: Global,
+    files: &mut Files<F>,
+    entry: &Entry,
+) -> Result<Vec<u8>, Fault> {
+    match entry.says.split_once(' ') {
+        Some(("from", name)) => files.read(alloc, name),
+        _ => Ok(entry.bytes.as_slice().to_vec(alloc)?),
     }
 }
 

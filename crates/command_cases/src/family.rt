@@ -1,0 +1,92 @@
+// Families: a case that states many runs, each with a number. In run N a file has its first N bytes, or call N fails.
+use case_report::Files;
+use case_text::{Case, Entry, Fault, number};
+use std::alloc::Global;
+use text_core::Shelf;
+
+/// The runs that a numbered line describes, from the first to the last.
+#[derive(Clone, Copy)]
+pub struct Range {
+    pub first: u64,
+    pub last: u64,
+}
+
+/// Does the case state a family of runs?
+pub fn is_family(case: &Case) -> bool {
+    case.entries
+        .iter()
+        .any(|e| e.key == "fronts" || fails_each(e))
+}
+
+/// Does the line state that call N fails in run N?
+pub fn fails_each(entry: &Entry) -> bool {
+    entry.says == "fails each"
+}
+
+/// The runs that a line describes, if it begins with their numbers, as `7` or `0-6`.
+pub fn range_of(entry: &Entry) -> Result<Option<Range>, Fault> {
+    match entry.key.as_bytes() {
+        [b'0'..=b'9', ..] => Ok(Some(range_in(entry.key)?)),
+        _ => Ok(None),
+    }
+}
+
+fn range_in(key: &str) -> Result<Range, Fault> {
+    let (first, last) = key.split_once('-').unwrap_or((key, key));
+    Ok(Range {
+        first: number(first)?,
+        last: number(last)?,
+    })
+}
+
+/// Checks that no two lines describe the same run, and that each front of a file has a line.
+pub fn check_ranges<F: Shelf + Drop>(
+    alloc: Global,
+    files: &mut Files<F>,
+    case: &Case,
+) -> Result<(), Fault> {
+    let count = front_count(alloc, files, case)?;
+    let next = range_end(case, count.is_some())?;
+    if next == 0 {
+        Err(Fault::Unreadable("a family with no runs"))
+    } else if count.is_some_and(|count| count != next) {
+        Err(Fault::Unreadable("a line for each front of the file"))
+    } else {
+        Ok(())
+    }
+}
+
+// The number of fronts of the file after `fronts`, if the case has such a line.
+fn front_count<F: Shelf + Drop>(
+    alloc: Global,
+    files: &mut Files<F>,
+    case: &Case,
+) -> Result<Option<u64>, Fault> {
+    for entry in &case.entries {
+        if entry.key == "fronts" {
+            let length = files.pair(alloc, entry)?.bytes.len() as u64;
+            return Ok(Some(length.saturating_add(1)));
+        }
+    }
+    Ok(None)
+}
+
+// The number after the family's last. In a dense family no number may be missing.
+fn range_end(case: &Case, dense: bool) -> Result<u64, Fault> {
+    let mut next = 0;
+    for entry in &case.entries {
+        if let Some(range) = range_of(entry)? {
+            next = end_after(next, range, dense)?;
+        }
+    }
+    Ok(next)
+}
+
+// The number after a range, where `next` is the number after the range before it.
+fn end_after(next: u64, range: Range, dense: bool) -> Result<u64, Fault> {
+    let Range { first, last } = range;
+    if first < next || last < first || (dense && first != next) {
+        return Err(Fault::Unreadable("numbers of runs in order, each once"));
+    }
+    Ok(last.saturating_add(1))
+}
