@@ -2,7 +2,7 @@
 ghost use Rattle.std.specs.Prelude.{◌≡◌, IfOk};
 ghost use Rattle.btor_tree.specs.Fits.{sort_at, width_at};
 
-use btor_print::print_btor;
+use btor_text::print_btor;
 use btor_tree::{GREATEST_ID, LineOp, Nodes, NumberedLines, has_word};
 use case_text::{Answer, Fault, Stop, small_number};
 use std::alloc::Global;

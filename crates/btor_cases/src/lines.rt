@@ -1,6 +1,5 @@
 // Texts of BTOR2 lines, read and printed.
-use btor_print::print_btor;
-use btor_text::read_btor;
+use btor_text::{print_btor, read_btor};
 use btor_tree::Nodes;
 use case_text::{Answer, Stop};
 use std::alloc::Global;

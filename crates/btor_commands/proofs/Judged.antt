@@ -11,15 +11,15 @@ use Rattle.btor_judge.specs.Judging.{Answers, Stands, StandsFor}
 use Rattle.btor_judge.specs.declared.judge.Judge.{Judge}
 use Rattle.btor_judge.specs.declared.judge.JudgeEnd.{JudgeEnd}
 use Rattle.btor_judge.specs.declared.judge.JudgeEnd.TheVariants.{Judged, Bad}
-use Rattle.command_answers.specs.declared.answer.Answer.{Answer}
-use Rattle.command_answers.specs.declared.answer.Answer.TheVariants.{Done}
-use Rattle.command_answers.specs.declared.answer.Output.TheVariants as output
+use Rattle.command_core.specs.declared.answer.Answer.{Answer}
+use Rattle.command_core.specs.declared.answer.Answer.TheVariants.{Done}
+use Rattle.command_core.specs.declared.answer.Output.TheVariants as output
 use Rattle.btor_commands.specs.Judgement.{IsJudgement, OfText, OfBytes, btor_too_long, verdict_answer, witness_too_long}
 use Rattle.btor_commands.specs.Limits.{most_btor_bytes, most_witness_bytes}
-use Rattle.command_answers.specs.Giving.{MayGive}
-use Rattle.command_answers.specs.Reading.{SaysRead}
+use Rattle.command_core.specs.Giving.{MayGive}
+use Rattle.command_core.specs.Reading.{SaysRead}
 use Rattle.btor_commands.specs.Pieces.{HoldsFile, IsOfFile, judge_answer}
-use Rattle.command_answers.specs.laws.Files.{gives, on_read}
+use Rattle.command_core.specs.laws.Files.{gives, on_read}
 
 of_text : (lines : List Line) (text : List ℕ) (end : JudgeEnd) → Answers lines text end → OfText lines text (judge_answer end)
 of_text lines text (Judged bad last Yes) a =

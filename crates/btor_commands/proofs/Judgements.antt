@@ -10,12 +10,12 @@ use Rattle.btor_text.specs.laws.Refusals as refusals
 use Rattle.btor_witness.specs.declared.witness.Witness.{Witness}
 use Rattle.btor_witness.specs.laws.Verdicts.{one_verdict}
 use Rattle.btor_witness.specs.laws.Laws.{same_refusal, one_witness, not_both}
-use Rattle.command_answers.specs.declared.answer.Answer.{Answer}
-use Rattle.command_answers.specs.declared.answer.Answer.TheVariants.{Refused, SecondRefused}
+use Rattle.command_core.specs.declared.answer.Answer.{Answer}
+use Rattle.command_core.specs.declared.answer.Answer.TheVariants.{Refused, SecondRefused}
 use Rattle.btor_commands.specs.Judgement.{IsJudgement, IsVerdict, OfBytes, OfLines, OfText, btor_too_long, verdict_answer, witness_too_long}
 use Rattle.btor_commands.specs.Limits.{most_btor_bytes, most_witness_bytes}
-use Rattle.command_answers.specs.Reading.{file_within}
-use Rattle.command_answers.specs.laws.Files.{goes_once}
+use Rattle.command_core.specs.Reading.{file_within}
+use Rattle.command_core.specs.laws.Files.{goes_once}
 
 one_verdict_answer : (lines : List Line) → IsWellFormed lines → (w : Witness) (a b : Answer) → IsVerdict lines w a → IsVerdict lines w b → a ≡ b
 one_verdict_answer lines well w a b h k =

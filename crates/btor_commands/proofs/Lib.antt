@@ -1,3 +1,5 @@
 pub mod Judgements
 pub mod Fronts
 pub mod Judged
+pub mod Seconds
+pub mod Lifted

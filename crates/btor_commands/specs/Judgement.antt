@@ -14,11 +14,11 @@ use Rattle.btor_witness.specs.Answer as witness
 use Rattle.btor_witness.specs.declared.witness.Witness.{Witness}
 use Rattle.btor_witness.specs.Judging.{judged_btor}
 use Rattle.btor_witness.specs.Texts.{SpellsWitness}
-use Rattle.command_answers.specs.declared.answer.Answer.{Answer}
-use Rattle.command_answers.specs.declared.answer.Answer.TheVariants.{Refused, SecondRefused, No, Done}
-use Rattle.command_answers.specs.declared.answer.Output.TheVariants.{Yes}
+use Rattle.command_core.specs.declared.answer.Answer.{Answer}
+use Rattle.command_core.specs.declared.answer.Answer.TheVariants.{Refused, SecondRefused, No, Done}
+use Rattle.command_core.specs.declared.answer.Output.TheVariants.{Yes}
 use Rattle.btor_commands.specs.Limits.{most_btor_bytes, most_witness_bytes}
-use Rattle.command_answers.specs.Reading.{GoesOn, file_within}
+use Rattle.command_core.specs.Reading.{GoesOn, file_within}
 
 -- what is answered to a BTOR2 text that is too long, and to such a witness
 abbrev pub btor_too_long : Answer

@@ -1,3 +1,4 @@
 pub mod Limits
 pub mod Judgement
 pub mod Pieces
+pub mod Lifting

@@ -7,9 +7,9 @@ use Rattle.btor_judge.specs.declared.judge.Judge.{Judge}
 use Rattle.btor_judge.specs.declared.judge.JudgeEnd.{JudgeEnd}
 use Rattle.btor_judge.specs.declared.judge.JudgeEnd.TheVariants.{Judged, Bad}
 use Rattle.btor_judge.specs.Judging.{StandsFor}
-use Rattle.command_answers.specs.declared.answer.Answer.{Answer}
-use Rattle.command_answers.specs.declared.answer.Answer.TheVariants as answer
-use Rattle.command_answers.specs.declared.answer.Output.TheVariants as output
+use Rattle.command_core.specs.declared.answer.Answer.{Answer}
+use Rattle.command_core.specs.declared.answer.Answer.TheVariants as answer
+use Rattle.command_core.specs.declared.answer.Output.TheVariants as output
 use Rattle.btor_commands.specs.Judgement.{OfText}
 use Rattle.btor_commands.specs.Limits.{most_witness_bytes}
 

@@ -3,17 +3,17 @@ ghost use Rattle.std.specs.Prelude.{◌≡◌, ◌<◌, ◌≤◌, [], ◌∷◌
 ghost use Rattle.text_core.specs.Outside.{BeginsOnly, Rose};
 ghost use Rattle.btor_tree.specs.Texts.{SpellsLines};
 ghost use Rattle.btor_judge.specs.Judging.{StandsFor, has_ended};
-ghost use Rattle.command_answers.specs.Giving.{BeginsAmong, MayGive};
+ghost use Rattle.command_core.specs.Giving.{BeginsAmong, MayGive};
 ghost use Rattle.btor_commands.specs.Judgement.{IsJudgement, IsLinesRefusal, witness_too_long};
 ghost use Rattle.btor_commands.specs.Limits.{most_btor_bytes, most_witness_bytes};
 ghost use Rattle.btor_commands.specs.Pieces.{IsOfFile, judge_answer};
-ghost use Rattle.command_answers.specs.Reading.{Instead, OnNoMemory, StopsUnread, StopsWith};
+ghost use Rattle.command_core.specs.Reading.{Instead, OnNoMemory, StopsUnread, StopsWith};
 
 use crate::pieces::{PIECE, PieceEnd, feed_file};
 use btor_judge::{Judge, JudgeEnd};
 use btor_text::read_btor;
 use btor_tree::Nodes;
-use command_answers::{Answer, Output, Stop, read_file, refusal};
+use command_core::{Answer, Output, Stop, read_file, refusal};
 use std::alloc::Global;
 use text_core::kinds::{btor, witness};
 use text_core::{End, Name, Shelf, Verdict};
@@ -22,7 +22,7 @@ use text_core::{End, Name, Shelf, Verdict};
 const BTOR_LIMIT: usize = 134_217_728;
 
 /// Reads a BTOR2 text and a witness for it, and judges the witness.
-#[tactic(auto, using(crate::proofs::Judged::may_judge, command_answers::specs::laws::Stops::always))]
+#[tactic(auto, using(crate::proofs::Judged::may_judge, command_core::specs::laws::Stops::always))]
 pub fn judge_files<F: Shelf>(
     alloc: Global,
     model: &Name,
@@ -58,7 +58,7 @@ fn lines_of(alloc: Global, bytes: &[u8]) -> Result<Nodes, Stop>
 }
 
 // The verdict on the witness in the second file. What takes memory is made before the file is begun.
-#[tactic(auto, using(command_answers::specs::laws::Stops::never))]
+#[tactic(auto, using(command_core::specs::laws::Stops::never))]
 fn second_answer<F: Shelf>(
     alloc: Global,
     nodes: &Nodes,

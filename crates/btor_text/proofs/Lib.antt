@@ -1,3 +1,4 @@
 mod Search
 mod MarkLaws
 mod Laws
+pub mod Digits

@@ -1,8 +1,9 @@
-//! BTOR2 texts: what a text spells is read.
+//! BTOR2 texts: reads the lines that a text spells, and prints lines.
 #![tactic(auto)]
 
 mod bytes;
 mod place;
+mod print;
 mod progress;
 mod read;
 mod refusals;
@@ -10,5 +11,6 @@ mod resolve;
 mod shape;
 mod word;
 
+pub use print::print_btor;
 pub use read::{BtorEnd, read_btor};
 pub use refusals::{not_both, one_refusal};

@@ -1,6 +1,5 @@
 // Families: a case that states many runs, each with a number. In run N a file has its first N bytes, or call N fails.
-use case_report::Files;
-use case_text::{Case, Entry, Fault, number};
+use case_text::{Case, Entry, Fault, Files, number};
 use std::alloc::Global;
 use text_core::Shelf;
 

@@ -1,17 +1,16 @@
 // Runs of the program over files and streams in memory.
 ghost use Rattle.std.specs.Prelude.{◌≡◌, ◌≢◌, Some, map, string_bytes};
-ghost use Rattle.moxi_commands.specs.Words.{command_of};
-ghost use Rattle.moxi_commands.specs.Outcome.{IsAbsent};
+ghost use Rattle.top_call.specs.Words.{command_of};
+ghost use Rattle.top_call.specs.Outcome.{IsAbsent};
 
 use crate::family::{Range, check_ranges, is_family, range_of};
 use crate::setting::{Setting, reads_of};
 use crate::short::ShortShelf;
 use crate::wanted::Wanted;
-use case_report::{Files, Tally, put_difference, put_number_difference};
-use case_text::{Answer, Case, Entry, Fault};
-use moxi_commands::{Status, run};
+use case_text::{Answer, Case, Entry, Fault, Files, Tally, put_difference, put_number_difference};
 use std::alloc::Global;
 use text_core::{DropSink, MemoryShelf, Shelf, SureShelf};
+use top_call::{Status, run};
 
 /// Runs the program as the case states, and counts the case, or each run of a family.
 pub fn put_run<F: Shelf + Drop>(

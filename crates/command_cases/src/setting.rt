@@ -1,7 +1,6 @@
 // What a run is given.
 use crate::family::fails_each;
-use case_report::Files;
-use case_text::{Case, Entry, Fault, number};
+use case_text::{Case, Entry, Fault, Files, number};
 use std::alloc::Global;
 use text_core::{FilePair, FilePairs, MemorySink, Numbers, Shelf};
 

@@ -1,7 +1,6 @@
 // What a case wants of a run.
 use crate::family::fails_each;
-use case_report::Files;
-use case_text::{Case, Entry, Fault, number};
+use case_text::{Case, Entry, Fault, Files, number};
 use std::alloc::Global;
 use text_core::Shelf;
 

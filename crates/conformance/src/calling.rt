@@ -1,6 +1,8 @@
 // Calls of the libraries.
-use case_report::{Files, Tally, put_difference, put_unreadable};
-use case_text::{Answer, Case, Entry, Fault, Piece, Stop, answer_or_refusal, words};
+use case_text::{
+    Answer, Case, Entry, Fault, Files, Piece, Stop, Tally, answer_or_refusal, put_difference,
+    put_unreadable, words,
+};
 use std::alloc::Global;
 use text_core::{Shelf, Text};
 

@@ -6,7 +6,7 @@
 mod calling;
 mod report;
 
-use case_report::Files;
+use case_text::Files;
 use report::write_report;
 use std::env;
 use std::process::ExitCode;

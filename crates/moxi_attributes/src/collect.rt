@@ -1,12 +1,11 @@
 // The least of the tests that fail.
 ghost use Rattle.std.specs.Prelude.{◌≡◌, ◌∷◌, [], List, is_none};
 ghost use Rattle.text_core.specs.declared.place.Refusal.{Refusal};
-ghost use Rattle.moxi_sorts.specs.Failures.{least};
+ghost use Rattle.moxi_term_reading.specs.Failures.{least};
 ghost use Rattle.moxi_term_reading.specs.Reading.{prime_failures};
 ghost use Rattle.moxi_scripts.specs.Collecting.{also, fails_with};
 
-use moxi_sorts::minimum;
-use moxi_term_reading::prime;
+use moxi_term_reading::{minimum, prime};
 use text_core::{Kind, Place, Refusal};
 
 /// Tests of which the least failing one is this.

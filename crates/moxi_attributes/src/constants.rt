@@ -1,16 +1,16 @@
 // The constants of enumerations.
 ghost use Rattle.std.specs.Prelude.{◌≡◌, ◌++◌, ◌&&◌, IfOk, OnOk, is_some};
 ghost use Rattle.moxi_sexpr.specs.Tree.{plain, plain_forms};
-ghost use Rattle.moxi_sorts.specs.Forms.{place_in, symbol_of};
+ghost use Rattle.moxi_term_reading.specs.Forms.{place_in, symbol_of};
 ghost use Rattle.moxi_scripts.specs.Collecting.{also};
 ghost use Rattle.moxi_scripts.specs.Declarations.{are_symbols, constant_tests, constants_failures, symbol_name, symbols_in, term_name_tests, with_constant, with_constants, with_term_name};
 
 use crate::collect::{fail, fail_primed};
 use crate::shapes::place_of;
 use moxi_sexpr::Form;
-use moxi_sorts::symbol_of;
+use moxi_term_reading::symbol_of;
 use moxi_terms::Scope;
-use name_set::NameSet;
+use name_maps::NameSet;
 use std::alloc::Global;
 use text_core::kinds::moxi;
 use text_core::{Name, Names, NoMemory, Place, Refusal};

@@ -17,7 +17,7 @@ use crate::shapes::{parts_of, place_of};
 use moxi_scripts::{Command, DeclaredList, Entries, Key, Lists, Turn};
 use moxi_sexpr::Form;
 use moxi_terms::Scope;
-use name_set::NameSet;
+use name_maps::NameSet;
 use std::alloc::Global;
 use text_core::{NoMemory, Refusal};
 

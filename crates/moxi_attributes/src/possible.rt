@@ -1,7 +1,7 @@
 // Names that a list without its shape could declare.
 ghost use Rattle.std.specs.Prelude.{◌≡◌, ◌++◌, IfOk, OnOk, is_none};
 ghost use Rattle.moxi_sexpr.specs.Tree.{plain, plain_forms};
-ghost use Rattle.moxi_sorts.specs.Forms.{place_in, symbol_of};
+ghost use Rattle.moxi_term_reading.specs.Forms.{place_in, symbol_of};
 ghost use Rattle.moxi_scripts.specs.Entries.{locals_among, locals_found};
 ghost use Rattle.moxi_scripts.specs.Lists.{is_free, possible_among, possible_entries, possible_in, possible_symbol};
 
@@ -9,7 +9,7 @@ use crate::entries::{locals_among, locals_found};
 use crate::shapes::place_of;
 use moxi_scripts::{Declared, Entries};
 use moxi_sexpr::{Form, FormShape};
-use moxi_sorts::{Locals, symbol_of};
+use moxi_term_reading::{Locals, symbol_of};
 use moxi_terms::{Meaning, Scope};
 use std::alloc::Global;
 use std::mem::drop;

@@ -1,8 +1,8 @@
 // Subsystems as they are written: the systems that they name, and their actuals.
 ghost use Rattle.std.specs.Prelude.{◌≡◌, ◌++◌, [], IfOk, OnOk, is_none, is_some, if◌then◌else◌};
 ghost use Rattle.moxi_sexpr.specs.Tree.{plain, plain_forms};
-ghost use Rattle.moxi_sorts.specs.Finding.{found as found_now, first_of};
-ghost use Rattle.moxi_sorts.specs.Forms.{place_in, symbol_of};
+ghost use Rattle.moxi_term_reading.specs.Finding.{found as found_now, first_of};
+ghost use Rattle.moxi_term_reading.specs.Forms.{place_in, symbol_of};
 ghost use Rattle.moxi_scripts.specs.declared.parts.Key.TheVariants as keys;
 ghost use Rattle.moxi_scripts.specs.declared.parts.Turn.TheVariants as turns;
 ghost use Rattle.moxi_scripts.specs.declared.parts.Command.TheVariants as commands;
@@ -18,9 +18,9 @@ use crate::constants::both;
 use crate::shapes::{Headed, Named, headed_forms, named_form, parts_of, place_of, shape_refusal};
 use moxi_scripts::{Actual, Command, Key, Turn, Use};
 use moxi_sexpr::Form;
-use moxi_sorts::{Locals, symbol_of};
+use moxi_term_reading::{Locals, symbol_of};
 use moxi_terms::Sort;
-use name_set::NameSet;
+use name_maps::NameSet;
 use std::alloc::Global;
 use text_core::kinds::moxi;
 use text_core::{List, Name, NoMemory, Place, Refusal};

@@ -2,17 +2,17 @@
 ghost use Rattle.std.specs.Prelude.{◌<◌, length, IfOk, OnOk};
 ghost use Rattle.moxi_terms.specs.Sorts.{Fit};
 ghost use Rattle.moxi_scripts.specs.ScriptView.{plain_script};
-ghost use Rattle.moxi_systems.specs.Asking.{check_sorts};
-ghost use Rattle.moxi_term_cases.specs.Added.{Adds};
+ghost use Rattle.moxi_scripts.specs.Asking.{check_sorts};
+ghost use Rattle.moxi_cases.specs.Added.{Adds};
 
+use crate::forms::forms_of;
 use crate::scripts::{given_script, query_named};
+use crate::values::push_values;
 use case_text::{Answer, Piece, Stop, piece_bytes};
 use moxi_attributes::parts_of;
-use moxi_scripts::{Formulas, Queries, Script};
+use moxi_scripts::{Formulas, Queries, Script, query_failing};
 use moxi_sexpr::{Atom, Form, FormShape};
-use moxi_sorts::symbol_of;
-use moxi_systems::query_failing;
-use moxi_term_cases::{forms_of, push_values};
+use moxi_term_reading::symbol_of;
 use moxi_terms::Env;
 use std::alloc::Global;
 use text_core::Clause;

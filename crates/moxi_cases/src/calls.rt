@@ -1,9 +1,11 @@
 // What the calls of MoXI answer.
 use crate::asking::put_failing;
+use crate::forms::put_forms;
 use crate::scripts::{put_given_check, put_given_systems, put_printed_script, put_script};
+use crate::terms::{put_entry_sort, put_term_sort};
 use crate::traces::put_trace;
+use crate::values::put_term_value;
 use case_text::{Answer, Piece, Stop, value_beside};
-use moxi_term_cases::{put_entry_sort, put_forms, put_term_sort, put_term_value};
 use moxi_terms::Primes;
 use std::alloc::Global;
 

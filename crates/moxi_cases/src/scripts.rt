@@ -1,12 +1,13 @@
 // Scripts, and how they are printed.
 ghost use Rattle.std.specs.Prelude.{◌<◌, length, IfOk};
 
+use crate::forms::forms_of;
+use crate::shown::put_name;
 use case_text::{Answer, Piece, Stop, piece_bytes, subject};
-use moxi_printing::print_script;
 use moxi_reading::read_script;
+use moxi_script_print::print_script;
 use moxi_scripts::{Check, Queries, Query, Script, Subsystem, System, Systems};
 use moxi_sexpr::end_of;
-use moxi_term_cases::{forms_of, put_name};
 use std::alloc::Global;
 use text_core::{Numbers, Text};
 

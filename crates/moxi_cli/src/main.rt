@@ -1,11 +1,11 @@
 //! Translates SMV models to BTOR2 texts, and judges witnesses for these.
 #![tactic(auto)]
 
-use moxi_commands::{Status, run};
 use std::process::ExitCode;
 use std::rt::Env;
 use std::{env, io};
 use text_core::{FileShelf, NoMemory, Sink, StreamSink, write_whole};
+use top_call::{Status, run};
 
 fn main(rt: HostRuntime) -> ExitCode {
     let mut shelf = FileShelf::new(&rt);

@@ -1,4 +1,7 @@
-pub mod OutcomeLemmas
-pub mod Stops
-pub mod TwoRoutes
-pub mod Summaries
+pub mod Refused
+pub mod Judged
+pub mod Stated
+pub mod LinesStand
+pub mod Translated
+pub mod Moxi
+pub mod LiftedTraces

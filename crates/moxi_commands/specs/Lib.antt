@@ -1,4 +1,5 @@
-pub mod Summaries
-pub mod Words
-pub mod Outcome
-pub mod Routes
+pub mod Limits
+pub mod Scripts
+pub mod Judgement
+pub mod Translation
+pub mod MoxiLift

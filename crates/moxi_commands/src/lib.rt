@@ -1,11 +1,12 @@
-//! What the program does: it reads words as a command, does what they say, and writes what is answered.
+//! The commands on MoXI scripts: `moxi2btor`, `judge-moxi` and `lift-moxi`.
 #![tactic(auto)]
 
-mod command;
-mod routes;
-mod words;
+mod judge;
+mod responses;
+mod scripts;
+mod translate;
 
-pub use command::run;
-pub use command_answers::{Answer, Output, Status};
-pub use routes::routes_meet;
-pub use words::Command;
+pub use judge::judge_moxi_files;
+pub use responses::{lift_moxi_files, traces_are_lifted};
+pub use scripts::{SCRIPT_LIMIT, script_of};
+pub use translate::{lines_stand, moxi_to_btor, script_lines_are_laid_out};

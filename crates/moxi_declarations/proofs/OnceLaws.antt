@@ -5,13 +5,13 @@ use Rattle.std.specs.Str.{bytes_eq}
 use Rattle.std.proofs.lemmas.List.{length-map, length_push}
 use Rattle.std.proofs.lemmas.Slice.Eq.{bytes_eq-Decides}
 use Rattle.text_core.specs.declared.place.Refusal.{Refusal}
-use Rattle.name_set.specs.Names.{place_of}
-use Rattle.name_set.specs.laws.Places.{placed}
+use Rattle.name_maps.specs.Names.{place_of}
+use Rattle.name_maps.specs.laws.Places.{placed}
 use Rattle.moxi_sexpr.specs.Tree.{Trees}
 use Rattle.moxi_terms.specs.View.{ScopeState}
 use Rattle.moxi_terms.specs.declared.data.Sort.{Sort}
-use Rattle.moxi_sorts.specs.declared.locals.Local.{Local}
-use Rattle.moxi_sorts.specs.Finding.{first_of}
+use Rattle.moxi_term_reading.specs.declared.locals.Local.{Local}
+use Rattle.moxi_term_reading.specs.Finding.{first_of}
 use Rattle.moxi_scripts.specs.declared.parts.Command.{Command}
 use Rattle.moxi_scripts.specs.declared.parts.Declared.{Declared}
 use Rattle.moxi_scripts.specs.declared.parts.Lists.{Lists}

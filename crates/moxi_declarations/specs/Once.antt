@@ -2,7 +2,7 @@
 use Rattle.std.specs.Prelude.{List, ◌++◌}
 use Rattle.moxi_sexpr.specs.Tree.{Trees}
 use Rattle.moxi_terms.specs.View.{ScopeState}
-use Rattle.moxi_sorts.specs.declared.locals.Local.{Local}
+use Rattle.moxi_term_reading.specs.declared.locals.Local.{Local}
 use Rattle.moxi_scripts.specs.declared.parts.Command.{Command}
 use Rattle.moxi_scripts.specs.declared.parts.Lists.{Lists}
 use Rattle.moxi_scripts.specs.declared.parts.Turn.TheVariants.{AtKeyword}

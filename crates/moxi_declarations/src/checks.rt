@@ -23,7 +23,7 @@ use moxi_attributes::{
 };
 use moxi_scripts::{Command, Entries, Key, ListPlaces, Lists, Queries};
 use moxi_sexpr::Form;
-use moxi_sorts::Locals;
+use moxi_term_reading::Locals;
 use moxi_terms::Scope;
 use std::alloc::Global;
 use std::mem::drop;

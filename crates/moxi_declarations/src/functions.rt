@@ -20,10 +20,11 @@ use moxi_attributes::{
 };
 use moxi_scripts::Entries;
 use moxi_sexpr::Form;
-use moxi_sorts::{read_sorts_are_of_the_scope, sort_of};
-use moxi_term_reading::{ReadTerm, read_term, read_terms_have_sorts};
+use moxi_term_reading::{
+    ReadTerm, read_sorts_are_of_the_scope, read_term, read_terms_have_sorts, sort_of,
+};
 use moxi_terms::{Function, Primes, Scope, Sort, Term};
-use name_set::NameSet;
+use name_maps::NameSet;
 use std::alloc::Global;
 use text_core::kinds::moxi;
 use text_core::{Name, NoMemory, Place, Refusal};

@@ -12,9 +12,9 @@ use moxi_attributes::{
 };
 use moxi_scripts::{Command, Declared, Lists};
 use moxi_sexpr::Form;
-use moxi_sorts::Locals;
+use moxi_term_reading::Locals;
 use moxi_terms::Scope;
-use name_set::NameSet;
+use name_maps::NameSet;
 use std::alloc::Global;
 use text_core::{Name, NoMemory, Refusal};
 

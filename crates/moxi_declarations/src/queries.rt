@@ -2,7 +2,7 @@
 ghost use Rattle.std.specs.Prelude.{◌≡◌, ◌++◌, ◌∷◌, [], IfOk, OnOk, if◌then◌else◌, is_some, not};
 ghost use Rattle.digraph.specs.Graph.{are_distinct, is_in};
 ghost use Rattle.moxi_sexpr.specs.Tree.{no_trees, plain, plain_forms, tree};
-ghost use Rattle.moxi_sorts.specs.Forms.{place_in, symbol_of};
+ghost use Rattle.moxi_term_reading.specs.Forms.{place_in, symbol_of};
 ghost use Rattle.moxi_scripts.specs.declared.parts.Turn.TheVariants as turns;
 ghost use Rattle.moxi_scripts.specs.Collecting.{also};
 ghost use Rattle.moxi_scripts.specs.Declarations.{are_symbols};
@@ -21,8 +21,8 @@ use moxi_attributes::{
 };
 use moxi_scripts::{Command, Key, Queries, Query, QueryNames, Turn};
 use moxi_sexpr::Form;
-use moxi_sorts::symbol_of;
-use name_set::NameSet;
+use moxi_term_reading::symbol_of;
+use name_maps::NameSet;
 use std::alloc::Global;
 use text_core::kinds::moxi;
 use text_core::{Name, NoMemory, Numbers, Place, Refusal};

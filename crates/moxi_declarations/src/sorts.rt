@@ -18,9 +18,9 @@ use moxi_attributes::{
     misshapen_place, named_in, note_sort, parts_of, place_of, read_constants,
 };
 use moxi_sexpr::Form;
-use moxi_sorts::{pair, read_sorts_are_of_the_scope, sort_of};
+use moxi_term_reading::{pair, read_sorts_are_of_the_scope, sort_of};
 use moxi_terms::{Scope, Sort};
-use name_set::NameSet;
+use name_maps::NameSet;
 use std::alloc::Global;
 use text_core::kinds::moxi;
 use text_core::{Name, Names, NoMemory, Place, Refusal};

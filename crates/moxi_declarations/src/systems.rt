@@ -26,9 +26,9 @@ use moxi_attributes::{
 };
 use moxi_scripts::{Command, DeclaredList, Entries, Key, Lists, Use};
 use moxi_sexpr::Form;
-use moxi_sorts::Locals;
+use moxi_term_reading::Locals;
 use moxi_terms::{Primes, Scope, Term};
-use name_set::NameSet;
+use name_maps::NameSet;
 use std::alloc::Global;
 use std::mem::drop;
 use text_core::kinds::moxi;

@@ -7,11 +7,11 @@ use Rattle.std.proofs.lemmas.List.Sums.{sum_by-cons}
 use Rattle.moxi_terms.specs.declared.term.Variable.{Variable}
 use Rattle.moxi_scripts.specs.declared.script.Subsystem.{Subsystem}
 use Rattle.moxi_scripts.specs.Script.{PlainSystem, system_at}
-use Rattle.moxi_systems.specs.Behaviour.{Trace}
-use Rattle.moxi_systems.specs.Meeting.{Hiddens, hidden, more_hidden}
-use Rattle.moxi_systems.specs.laws.WholeParts.{all_of}
-use Rattle.moxi_sizes.specs.Terms.{term_height, term_size}
-use Rattle.moxi_sizes.specs.Systems.{greatest_by, instance_height, instance_size, nesting_upto}
+use Rattle.moxi_scripts.specs.Behaviour.{Trace}
+use Rattle.moxi_scripts.specs.Meeting.{Hiddens, hidden, more_hidden}
+use Rattle.moxi_scripts.specs.laws.WholeParts.{all_of}
+use Rattle.moxi_flat.specs.Terms.{term_height, term_size}
+use Rattle.moxi_flat.specs.Systems.{greatest_by, instance_height, instance_size, nesting_upto}
 use Rattle.moxi_flat.specs.FlatMeeting.{hiddens_each, hiddens_upto}
 use Rattle.moxi_flat.specs.FlatSystem.{PlainPart, count_upto, locals_each, locals_upto, named_inside, part_of, parts_each, parts_upto, path_inside, place_inside}
 use Rattle.moxi_flat.specs.Instantiating.{IsEnough, LocalsAreCounted, NestingFalls, SystemsBoundNesting}

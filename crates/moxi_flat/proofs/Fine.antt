@@ -9,7 +9,7 @@ use Rattle.moxi_terms.specs.declared.term.Variable.{Variable}
 use Rattle.moxi_terms.specs.Tree.{sorts_of}
 use Rattle.moxi_scripts.specs.declared.script.Subsystem.{Subsystem}
 use Rattle.moxi_scripts.specs.Script.{PlainSystem, system_at, variables_in}
-use Rattle.moxi_systems.specs.laws.WholeParts.{map_append}
+use Rattle.moxi_scripts.specs.laws.WholeParts.{map_append}
 use Rattle.moxi_flat.specs.Renumbering.{IsOver}
 use Rattle.moxi_flat.specs.FlatSystem.{named_inside, path_inside, locals_each, locals_upto, count_upto}
 use Rattle.moxi_flat.proofs.Values.{ActualsFit}

@@ -13,16 +13,16 @@ use Rattle.moxi_terms.specs.Tree.{Tree}
 use Rattle.moxi_terms.specs.Value.{term_value}
 use Rattle.moxi_scripts.specs.declared.script.Query.{Query}
 use Rattle.moxi_scripts.specs.Script.{PlainScript, calls_in, system_at}
-use Rattle.moxi_systems.specs.Asking.{query_tests, system_tests}
-use Rattle.moxi_systems.specs.Behaviour.{Holds, Trace}
-use Rattle.moxi_systems.specs.Meeting.{Hiddens, all_hold, each_holds, first_failing, is_reached_before, is_true, judged_from, judged_moxi, step_tests, verdict_or}
-use Rattle.moxi_systems.specs.Whole.{IsWhole}
-use Rattle.moxi_systems.specs.laws.WholeNames.{and_both}
-use Rattle.moxi_systems.proofs.AskingLaws.{first_part}
-use Rattle.moxi_systems.proofs.MeetingLaws.{asks, meets}
+use Rattle.moxi_scripts.specs.Asking.{query_tests, system_tests}
+use Rattle.moxi_scripts.specs.Behaviour.{Holds, Trace}
+use Rattle.moxi_scripts.specs.Meeting.{Hiddens, all_hold, each_holds, first_failing, is_reached_before, is_true, judged_from, judged_moxi, step_tests, verdict_or}
+use Rattle.moxi_scripts.specs.Whole.{IsWhole}
+use Rattle.moxi_scripts.specs.laws.WholeNames.{and_both}
+use Rattle.moxi_scripts.proofs.AskingLaws.{first_part}
+use Rattle.moxi_scripts.proofs.MeetingLaws.{asks, meets}
 use Rattle.moxi_flat.specs.FlatSystem.{PlainPart, flat_of}
 use Rattle.moxi_flat.specs.FlatMeeting.{IsFlatTrace, MeetsFlat, PartHolds}
-use Rattle.moxi_flat.specs.Laws.{AreTested, FlatTracesAreJudged, SuitsFlat, WritesOut}
+use Rattle.moxi_flat.specs.FlatLaws.{AreTested, FlatTracesAreJudged, SuitsFlat, WritesOut}
 use Rattle.moxi_flat.proofs.Scripts.{carried_flat, flat_behaves, flat_meets}
 use Rattle.moxi_flat.proofs.Tested.{parts_are_tested_law}
 

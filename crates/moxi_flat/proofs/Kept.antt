@@ -8,9 +8,9 @@ use Rattle.moxi_terms.specs.declared.term.Variable.{Variable}
 use Rattle.moxi_terms.specs.Sorted.{HasSort, HaveSorts, IsUnprimed, AreUnprimed}
 use Rattle.moxi_terms.specs.Tree.{Tree, constant, variable, bound, apply, binding, call, Trees, no_trees, tree, PlainFunction, sorts_of}
 use Rattle.moxi_terms.specs.View.{ScopeState}
-use Rattle.moxi_sorts.specs.declared.locals.Local.{Local}
-use Rattle.moxi_print.specs.Standing.{StandEach, Stands, bound_locals}
-use Rattle.moxi_systems.specs.Whole.{over}
+use Rattle.moxi_term_reading.specs.declared.locals.Local.{Local}
+use Rattle.moxi_term_print.specs.Standing.{StandEach, Stands, bound_locals}
+use Rattle.moxi_scripts.specs.Whole.{over}
 use Rattle.moxi_flat.specs.Renumbering.{renumbered, all_renumbered}
 
 -- the variables have their sorts at these places

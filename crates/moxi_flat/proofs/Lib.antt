@@ -1,3 +1,5 @@
+pub mod Measured
+pub mod Unfolding
 pub mod Renumbered
 pub mod Values
 pub mod Nesting

@@ -14,16 +14,16 @@ use Rattle.moxi_term_reading.specs.laws.SortedParts.{known_variables}
 use Rattle.moxi_scripts.specs.declared.script.Query.{Query}
 use Rattle.moxi_scripts.specs.declared.script.Subsystem.{Subsystem}
 use Rattle.moxi_scripts.specs.Script.{PlainFormula, PlainScript, PlainSystem, calls_in, formula_at, no_system, system_at, variables_in}
-use Rattle.moxi_systems.specs.Behaviour.{Behaves, Holds, Suits, Trace}
-use Rattle.moxi_systems.specs.Meeting.{MeetsQuery}
-use Rattle.moxi_systems.specs.Whole.{AreFormulas, IsFormula, IsWhole, IsWholeSubsystem, IsWholeSystem, check_variables, over}
-use Rattle.moxi_systems.specs.laws.WholeParts.{all_at, all_of, get_there, index_get, map_append}
-use Rattle.moxi_systems.proofs.AskingStands.{stands_sorted}
-use Rattle.moxi_systems.proofs.WholeRanks.{whole_has_ranks}
+use Rattle.moxi_scripts.specs.Behaviour.{Behaves, Holds, Suits, Trace}
+use Rattle.moxi_scripts.specs.Meeting.{MeetsQuery}
+use Rattle.moxi_scripts.specs.Whole.{AreFormulas, IsFormula, IsWhole, IsWholeSubsystem, IsWholeSystem, check_variables, over}
+use Rattle.moxi_scripts.specs.laws.WholeParts.{all_at, all_of, get_there, index_get, map_append}
+use Rattle.moxi_scripts.proofs.AskingStands.{stands_sorted}
+use Rattle.moxi_scripts.proofs.WholeRanks.{whole_has_ranks}
 use Rattle.moxi_flat.specs.Renumbering.{IsOver}
 use Rattle.moxi_flat.specs.FlatSystem.{flat_of, locals_upto}
 use Rattle.moxi_flat.specs.FlatMeeting.{IsFlatTrace, MeetsFlat}
-use Rattle.moxi_flat.specs.Laws.{Extends, IsMetFlat, TracesHaveFlatTraces}
+use Rattle.moxi_flat.specs.FlatLaws.{Extends, IsMetFlat, TracesHaveFlatTraces}
 use Rattle.moxi_flat.proofs.Renumbered.{sorted_over, value_local}
 use Rattle.moxi_flat.proofs.Values.{ActualsFit, actuals_fit, beside, beside_front, beside_back, suits_front, suits_back, suits_same, suits_beside}
 use Rattle.moxi_flat.proofs.Nesting.{Nests, nests}

@@ -8,8 +8,8 @@ use Rattle.moxi_terms.specs.Sorts.{IsOf}
 use Rattle.moxi_terms.specs.Value.{Calls}
 use Rattle.moxi_scripts.specs.declared.script.Subsystem.{Subsystem}
 use Rattle.moxi_scripts.specs.Script.{PlainSystem, system_at}
-use Rattle.moxi_systems.specs.Behaviour.{Trace, Suits, FormulasHold, Behaves, behaves, EachBehaves, no_subsystems, subsystem}
-use Rattle.moxi_systems.specs.laws.WholeParts.{all_parts}
+use Rattle.moxi_scripts.specs.Behaviour.{Trace, Suits, FormulasHold, Behaves, behaves, EachBehaves, no_subsystems, subsystem}
+use Rattle.moxi_scripts.specs.laws.WholeParts.{all_parts}
 use Rattle.moxi_flat.specs.FlatSystem.{place_inside, part_of, parts_each, parts_upto, count_upto}
 use Rattle.moxi_flat.specs.FlatMeeting.{PartHolds}
 use Rattle.moxi_flat.proofs.Renumbered.{value_renumbered}

@@ -1,13 +1,13 @@
 -- A checked system without subsystems is its own flat system.
 use Rattle.std.proofs.Common.{◌≡◌, ℕ, zero, suc, ◌<◌, not, List, [], ◌∷◌, ◌++◌, length, refl, ap, ◌∙◌, arith}
 use Rattle.std.proofs.lemmas.List.{append-nil}
-use Rattle.name_set.specs.Names.{are_fresh}
-use Rattle.moxi_print.specs.Terms.{variable_names}
+use Rattle.name_maps.specs.Names.{are_fresh}
+use Rattle.moxi_term_print.specs.Terms.{variable_names}
 use Rattle.moxi_terms.specs.declared.term.Variable.{Variable}
 use Rattle.moxi_scripts.specs.Script.{PlainSystem, system_at}
-use Rattle.moxi_systems.specs.Whole.{check_variables}
+use Rattle.moxi_scripts.specs.Whole.{check_variables}
 use Rattle.moxi_flat.specs.FlatSystem.{PlainPart, count_upto, locals_each, locals_upto, part_of, parts_each, parts_upto}
-use Rattle.moxi_flat.specs.Laws.{SingleSystemsAreFlat, own_part}
+use Rattle.moxi_flat.specs.FlatLaws.{SingleSystemsAreFlat, own_part}
 use Rattle.moxi_flat.proofs.Renumbered.{renumbered_same}
 
 no_locals : (ss : List PlainSystem) (n i : ℕ) → (system_at ss i).subsystems ≡ [] → locals_upto ss n [] i ≡ []

@@ -8,11 +8,11 @@ use Rattle.moxi_terms.specs.declared.term.Variable.{Variable}
 use Rattle.moxi_terms.specs.Tree.{sorts_of}
 use Rattle.moxi_scripts.specs.declared.script.Subsystem.{Subsystem}
 use Rattle.moxi_scripts.specs.Script.{PlainSystem, system_at}
-use Rattle.moxi_systems.specs.Whole.{check_variables}
-use Rattle.moxi_sizes.specs.Terms.{call_sizes, term_size}
-use Rattle.moxi_sizes.specs.Systems.{check_size, instance_size, script_size}
+use Rattle.moxi_scripts.specs.Whole.{check_variables}
+use Rattle.moxi_flat.specs.Terms.{call_sizes, term_size}
+use Rattle.moxi_flat.specs.Systems.{check_size, instance_size, script_size}
 use Rattle.moxi_flat.specs.FlatSystem.{count_upto, flat_of, locals_upto, parts_each, parts_upto, place_inside}
-use Rattle.moxi_flat.specs.Laws.{FlatSystemsAreSmall}
+use Rattle.moxi_flat.specs.FlatLaws.{FlatSystemsAreSmall}
 use Rattle.moxi_flat.proofs.Nesting.{Nests}
 use Rattle.moxi_flat.proofs.Fine.{count_is, sort_of, sorts_are}
 use Rattle.moxi_flat.proofs.Scripts.{nests_checked}

@@ -13,13 +13,13 @@ use Rattle.moxi_terms.specs.Tree.{Tree, sorts_of}
 use Rattle.moxi_term_reading.specs.laws.SortedParts.{known_variables}
 use Rattle.moxi_scripts.specs.declared.script.Subsystem.{Subsystem}
 use Rattle.moxi_scripts.specs.Script.{PlainFormula, PlainScript, PlainSystem, no_system, system_at, variables_in}
-use Rattle.moxi_systems.specs.Whole.{AreFormulas, IsFormula, IsWhole, IsWholeSystem, check_variables, over}
-use Rattle.moxi_systems.specs.laws.WholeParts.{all_append, all_of, all_parts, get_there, index_get}
-use Rattle.moxi_systems.proofs.AskingStands.{stands_sorted}
+use Rattle.moxi_scripts.specs.Whole.{AreFormulas, IsFormula, IsWhole, IsWholeSystem, check_variables, over}
+use Rattle.moxi_scripts.specs.laws.WholeParts.{all_append, all_of, all_parts, get_there, index_get}
+use Rattle.moxi_scripts.proofs.AskingStands.{stands_sorted}
 use Rattle.moxi_flat.specs.Renumbering.{renumbered}
 use Rattle.moxi_flat.specs.FlatSystem.{count_upto, flat_of, part_of, parts_each, parts_upto, place_inside}
 use Rattle.moxi_flat.specs.FlatSorts.{AreFlatTruths, IsFlatTruth, PartIsSorted}
-use Rattle.moxi_flat.specs.Laws.{FlatSystemsAreSorted}
+use Rattle.moxi_flat.specs.FlatLaws.{FlatSystemsAreSorted}
 use Rattle.moxi_flat.proofs.Renumbered.{renumbered_same}
 use Rattle.moxi_flat.proofs.Values.{ActualsFit, actual_at, actuals_long, get_back, get_cases, get_front, inside_back, inside_front}
 use Rattle.moxi_flat.proofs.Nesting.{Nests}

@@ -10,14 +10,14 @@ use Rattle.moxi_terms.specs.Tree.{Tree}
 use Rattle.moxi_terms.specs.Value.{Values}
 use Rattle.moxi_scripts.specs.declared.script.Subsystem.{Subsystem}
 use Rattle.moxi_scripts.specs.Script.{PlainScript, PlainSystem, calls_in, system_at}
-use Rattle.moxi_systems.specs.Behaviour.{Trace}
-use Rattle.moxi_systems.specs.Meeting.{Hiddens, hidden, no_hidden, more_hidden, each_holds, is_true, within}
-use Rattle.moxi_systems.specs.Whole.{check_variables}
-use Rattle.moxi_systems.specs.laws.WholeParts.{get_there, index_get}
+use Rattle.moxi_scripts.specs.Behaviour.{Trace}
+use Rattle.moxi_scripts.specs.Meeting.{Hiddens, hidden, no_hidden, more_hidden, each_holds, is_true, within}
+use Rattle.moxi_scripts.specs.Whole.{check_variables}
+use Rattle.moxi_scripts.specs.laws.WholeParts.{get_there, index_get}
 use Rattle.moxi_flat.specs.Renumbering.{renumbered, IsOver}
 use Rattle.moxi_flat.specs.FlatSystem.{PlainPart, place_inside, part_of, parts_each, parts_upto, count_upto}
 use Rattle.moxi_flat.specs.FlatMeeting.{HasEach, HasUpto, hiddens_each, hiddens_upto}
-use Rattle.moxi_flat.specs.Laws.{HiddenValuesAreWritten, PartsAreTested}
+use Rattle.moxi_flat.specs.FlatLaws.{HiddenValuesAreWritten, PartsAreTested}
 use Rattle.moxi_flat.proofs.Renumbered.{value_renumbered}
 use Rattle.moxi_flat.proofs.Values.{ActualsFit, actual_there, actuals_long}
 use Rattle.moxi_flat.proofs.Nesting.{Nests}

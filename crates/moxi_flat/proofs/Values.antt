@@ -7,8 +7,8 @@ use Rattle.moxi_terms.specs.declared.data.Sort.{Sort}
 use Rattle.moxi_terms.specs.declared.term.Enumeration.{Enumeration}
 use Rattle.moxi_terms.specs.Sorts.{IsOf}
 use Rattle.moxi_terms.specs.Value.{Values}
-use Rattle.moxi_systems.specs.Behaviour.{Suits}
-use Rattle.moxi_systems.specs.laws.WholeParts.{index_get}
+use Rattle.moxi_scripts.specs.Behaviour.{Suits}
+use Rattle.moxi_scripts.specs.laws.WholeParts.{index_get}
 use Rattle.moxi_flat.specs.FlatSystem.{place_inside}
 
 -- an element of two lists

@@ -8,8 +8,8 @@ use Rattle.moxi_terms.specs.declared.term.Enumeration.{Enumeration}
 use Rattle.moxi_terms.specs.Value.{Calls}
 use Rattle.moxi_scripts.specs.declared.script.Subsystem.{Subsystem}
 use Rattle.moxi_scripts.specs.Script.{PlainSystem, system_at}
-use Rattle.moxi_systems.specs.Behaviour.{Trace, Suits, Shares, Behaves, behaves, EachBehaves, subsystem}
-use Rattle.moxi_systems.specs.laws.WholeParts.{all_append, get_there}
+use Rattle.moxi_scripts.specs.Behaviour.{Trace, Suits, Shares, Behaves, behaves, EachBehaves, subsystem}
+use Rattle.moxi_scripts.specs.laws.WholeParts.{all_append, get_there}
 use Rattle.moxi_flat.specs.FlatSystem.{PlainPart, place_inside, parts_each, parts_upto, count_upto}
 use Rattle.moxi_flat.specs.FlatMeeting.{PartHolds}
 use Rattle.moxi_flat.proofs.Values.{ActualsFit, actuals_long, actual_there, inside_front, inside_back, suits_back, beside, beside_front, beside_back, suits_beside}

@@ -6,9 +6,9 @@ use Rattle.moxi_terms.specs.Value.{Calls}
 use Rattle.moxi_scripts.specs.declared.script.Query.{Query}
 use Rattle.moxi_scripts.specs.declared.script.Subsystem.{Subsystem}
 use Rattle.moxi_scripts.specs.Script.{PlainScript, PlainSystem, calls_in, formula_at, system_at}
-use Rattle.moxi_systems.specs.Behaviour.{Holds, Suits, Trace}
-use Rattle.moxi_systems.specs.Meeting.{Hiddens, hidden, no_hidden, more_hidden}
-use Rattle.moxi_systems.specs.Whole.{check_variables}
+use Rattle.moxi_scripts.specs.Behaviour.{Holds, Suits, Trace}
+use Rattle.moxi_scripts.specs.Meeting.{Hiddens, hidden, no_hidden, more_hidden}
+use Rattle.moxi_scripts.specs.Whole.{check_variables}
 use Rattle.moxi_flat.specs.FlatSystem.{PlainFlatSystem, PlainPart, count_upto}
 
 -- the formulas of a part on a trace of so many steps

@@ -1,9 +1,9 @@
 -- The size and the height of a flat system are those of the system that the script's check instantiates.
 use Rattle.std.specs.Prelude.{◌≡◌, ℕ, ◌+◌, max, length, sum_by}
 use Rattle.moxi_scripts.specs.Script.{PlainScript}
-use Rattle.moxi_systems.specs.Whole.{IsWhole}
-use Rattle.moxi_sizes.specs.Terms.{call_heights, call_sizes, term_height, term_size}
-use Rattle.moxi_sizes.specs.Systems.{check_height, check_size, greatest_by, script_height, script_size}
+use Rattle.moxi_scripts.specs.Whole.{IsWhole}
+use Rattle.moxi_flat.specs.Terms.{call_heights, call_sizes, term_height, term_size}
+use Rattle.moxi_flat.specs.Systems.{check_height, check_size, greatest_by, script_height, script_size}
 use Rattle.moxi_flat.specs.FlatSystem.{PlainPart, flat_of}
 
 -- a part counts once, with its three formulas

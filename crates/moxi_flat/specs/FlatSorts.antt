@@ -5,7 +5,7 @@ use Rattle.moxi_terms.specs.declared.data.Sort.TheVariants.{Truth}
 use Rattle.moxi_terms.specs.Sorted.{AreSorts, HasSort, IsScope, IsUnprimed}
 use Rattle.moxi_terms.specs.Tree.{Tree, sorts_of}
 use Rattle.moxi_scripts.specs.Script.{PlainFormula}
-use Rattle.moxi_systems.specs.Whole.{IsWholeQuery}
+use Rattle.moxi_scripts.specs.Whole.{IsWholeQuery}
 use Rattle.moxi_flat.specs.FlatSystem.{PlainFlatSystem, PlainPart}
 
 -- a term of truth values over the system's variables

@@ -4,10 +4,10 @@ use Rattle.std.specs.List.{AllByRecursion}
 use Rattle.moxi_terms.specs.Tree.{Tree}
 use Rattle.moxi_scripts.specs.declared.script.Subsystem.{Subsystem}
 use Rattle.moxi_scripts.specs.Script.{PlainScript, PlainSystem, system_at, variables_in}
-use Rattle.moxi_systems.specs.Behaviour.{Trace}
-use Rattle.moxi_systems.specs.Whole.{IsWhole}
-use Rattle.moxi_sizes.specs.Terms.{term_height, term_size}
-use Rattle.moxi_sizes.specs.Systems.{instance_height, instance_size, nesting_upto}
+use Rattle.moxi_scripts.specs.Behaviour.{Trace}
+use Rattle.moxi_scripts.specs.Whole.{IsWhole}
+use Rattle.moxi_flat.specs.Terms.{term_height, term_size}
+use Rattle.moxi_flat.specs.Systems.{instance_height, instance_size, nesting_upto}
 use Rattle.moxi_flat.specs.FlatMeeting.{hiddens_upto}
 use Rattle.moxi_flat.specs.FlatSystem.{count_upto, locals_upto, parts_upto}
 use Rattle.moxi_flat.specs.Renumbering.{IsOver, renumbered}

@@ -1,3 +1,6 @@
+pub mod Terms
+pub mod Systems
+pub mod SizeLaws
 pub mod Renumbering
 pub mod FlatSystem
 pub mod Limits
@@ -5,4 +8,4 @@ pub mod FlatMeeting
 pub mod FlatSorts
 pub mod FlatSizes
 pub mod Instantiating
-pub mod Laws
+pub mod FlatLaws

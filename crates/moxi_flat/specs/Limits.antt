@@ -2,10 +2,10 @@
 use Rattle.std.specs.Prelude.{nat_lt, Bool, not, ◌||◌, if◌then◌else◌, Option, None, Some, []}
 use Rattle.text_core.specs.declared.place.Kind.TheVariants.{M}
 use Rattle.text_core.specs.declared.place.Refusal.{Refusal}
-use Rattle.name_set.specs.Names.{are_fresh}
-use Rattle.moxi_print.specs.Terms.{variable_names}
+use Rattle.name_maps.specs.Names.{are_fresh}
+use Rattle.moxi_term_print.specs.Terms.{variable_names}
 use Rattle.moxi_scripts.specs.Script.{PlainScript}
-use Rattle.moxi_sizes.specs.Systems.{script_size, script_height, script_nesting}
+use Rattle.moxi_flat.specs.Systems.{script_size, script_height, script_nesting}
 use Rattle.moxi_flat.specs.declared.limits.TheConstants.{LARGEST, HIGHEST, DEEPEST}
 use Rattle.moxi_flat.specs.FlatSystem.{flat_of}
 

@@ -4,19 +4,19 @@ use Rattle.std.proofs.Math.Bool.{Bool-set}
 use Rattle.std.proofs.Math.Logic.{∥∥₁_elim, ∥∥₁_map}
 use Rattle.text_core.specs.declared.place.Kind.TheVariants.{M}
 use Rattle.text_core.specs.declared.place.Refusal.{Refusal}
-use Rattle.name_set.specs.Names.{are_fresh}
-use Rattle.moxi_print.specs.Terms.{variable_names}
+use Rattle.name_maps.specs.Names.{are_fresh}
+use Rattle.moxi_term_print.specs.Terms.{variable_names}
 use Rattle.moxi_terms.specs.declared.term.Variable.{Variable}
 use Rattle.moxi_terms.specs.View.{ScopeState}
 use Rattle.moxi_scripts.specs.declared.script.Check.{Check}
 use Rattle.moxi_scripts.specs.declared.script.System.{System}
 use Rattle.moxi_scripts.specs.Invariant.{script_of}
 use Rattle.moxi_scripts.specs.Script.{PlainScript, plain_formula}
-use Rattle.moxi_systems.specs.Whole.{IsWhole}
+use Rattle.moxi_scripts.specs.Whole.{IsWhole}
 use Rattle.moxi_flat.specs.FlatSizes.{FlatSystemsHaveSizes}
 use Rattle.moxi_flat.specs.FlatSorts.{IsSortedFlat}
 use Rattle.moxi_flat.specs.FlatSystem.{PlainFlatSystem, PlainPart, flat_of}
-use Rattle.moxi_flat.specs.Laws.{FlatSystemsAreSmall, FlatSystemsAreSorted}
+use Rattle.moxi_flat.specs.FlatLaws.{FlatSystemsAreSmall, FlatSystemsAreSorted}
 use Rattle.moxi_flat.specs.Limits.{flat_refusal, has_name_twice, is_too_large}
 use Rattle.moxi_flat.specs.declared.limits.TheConstants.{LARGEST, HIGHEST}
 use Rattle.moxi_instantiate.specs.Instances.{IsInstance, flat_form, flat_height, flat_size}

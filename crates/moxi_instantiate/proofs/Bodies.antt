@@ -7,7 +7,7 @@ use Rattle.moxi_terms.specs.Tree.{Tree}
 use Rattle.moxi_terms.specs.Value.{body_at}
 use Rattle.moxi_terms.specs.View.{plain, plain_function}
 use Rattle.moxi_terms.specs.declared.term.Function.{Function}
-use Rattle.moxi_sizes.specs.Terms.{measured_upto}
+use Rattle.moxi_flat.specs.Terms.{measured_upto}
 use Rattle.moxi_instantiate.specs.Counting.{AreCounted, capped, known}
 use Rattle.moxi_instantiate.proofs.Capping.{capped_twice}
 

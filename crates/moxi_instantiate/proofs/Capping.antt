@@ -7,7 +7,7 @@ use Rattle.moxi_terms.specs.declared.data.TermOp.{TermOp}
 use Rattle.moxi_terms.specs.declared.term.Term.{Term, Apply, the_lemmas}
 use Rattle.moxi_terms.specs.Tree.{Tree, constant, variable, bound, apply, binding, call, Trees, no_trees, tree, trees_of, list_of}
 use Rattle.moxi_terms.specs.View.{plain}
-use Rattle.moxi_sizes.specs.Terms.{operator_size, term_height, term_size, terms_height, terms_size}
+use Rattle.moxi_flat.specs.Terms.{operator_size, term_height, term_size, terms_height, terms_size}
 use Rattle.moxi_instantiate.specs.declared.counts.TheConstants.{MOST}
 use Rattle.moxi_instantiate.specs.Counting.{capped, known}
 

@@ -8,8 +8,8 @@ use Rattle.moxi_scripts.specs.declared.script.Check.{Check}
 use Rattle.moxi_scripts.specs.declared.script.Formula.{Formula}
 use Rattle.moxi_scripts.specs.declared.script.Query.{Query}
 use Rattle.moxi_scripts.specs.Script.{PlainFormula, formula_at, plain_check, plain_formula}
-use Rattle.moxi_sizes.specs.Terms.{term_height, term_size}
-use Rattle.moxi_sizes.specs.Systems.{check_height, check_size, formulas_height, named_size, query_size, unnamed_size}
+use Rattle.moxi_flat.specs.Terms.{term_height, term_size}
+use Rattle.moxi_flat.specs.Systems.{check_height, check_size, formulas_height, named_size, query_size, unnamed_size}
 use Rattle.moxi_instantiate.specs.declared.checks.FormulaKind.{FormulaKind}
 use Rattle.moxi_instantiate.specs.declared.checks.FormulaKind.TheVariants.{Assumption, Current, Reachable}
 use Rattle.moxi_instantiate.specs.CheckCounts.{all_numbers, named_sum, numbers_of, queries_sum, size_at, unnamed_sum}

@@ -12,8 +12,8 @@ use Rattle.digraph.specs.Graph.{NodeLists, next_of, is_in, falls_from, IsSorted}
 use Rattle.moxi_scripts.specs.declared.script.Subsystem.{Subsystem}
 use Rattle.moxi_scripts.specs.declared.script.System.{System}
 use Rattle.moxi_scripts.specs.Script.{PlainSystem, plain_system, system_at}
-use Rattle.moxi_sizes.specs.Terms.{term_height, term_size}
-use Rattle.moxi_sizes.specs.Systems.{greatest_by, instance_height, instance_size, nesting_upto}
+use Rattle.moxi_flat.specs.Terms.{term_height, term_size}
+use Rattle.moxi_flat.specs.Systems.{greatest_by, instance_height, instance_size, nesting_upto}
 use Rattle.moxi_flat.specs.Instantiating.{IsEnough}
 use Rattle.moxi_instantiate.specs.declared.systems.Measure.{Measure}
 use Rattle.moxi_instantiate.specs.declared.systems.Measure.TheVariants.{Size, Height, Nesting}

@@ -6,7 +6,7 @@ use Rattle.std.proofs.Math.Logic.{∥∥₁_map}
 use Rattle.moxi_terms.specs.declared.term.Variable.{Variable}
 use Rattle.moxi_scripts.specs.declared.script.Subsystem.{Subsystem}
 use Rattle.moxi_scripts.specs.Script.{PlainSystem, system_at}
-use Rattle.moxi_sizes.specs.Systems.{nesting_upto}
+use Rattle.moxi_flat.specs.Systems.{nesting_upto}
 use Rattle.moxi_flat.specs.FlatSystem.{locals_each, locals_upto, named_inside, path_inside}
 use Rattle.moxi_flat.proofs.Enough.{is_enough}
 use Rattle.moxi_flat.proofs.Nesting.{nests}

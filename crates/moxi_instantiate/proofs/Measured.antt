@@ -11,9 +11,9 @@ use Rattle.moxi_terms.specs.View.{plain_function}
 use Rattle.moxi_terms.specs.declared.term.Function.{Function}
 use Rattle.moxi_scripts.specs.declared.script.Subsystem.{Subsystem}
 use Rattle.moxi_scripts.specs.Script.{PlainScript, PlainSystem, system_at}
-use Rattle.moxi_sizes.specs.Terms.{call_heights, call_sizes, measured_upto}
-use Rattle.moxi_sizes.specs.Systems.{check_height, check_size, instance_height, instance_size, script_height, script_nesting, script_size}
-use Rattle.moxi_systems.specs.Whole.{IsWhole}
+use Rattle.moxi_flat.specs.Terms.{call_heights, call_sizes, measured_upto}
+use Rattle.moxi_flat.specs.Systems.{check_height, check_size, instance_height, instance_size, script_height, script_nesting, script_size}
+use Rattle.moxi_scripts.specs.Whole.{IsWhole}
 use Rattle.moxi_flat.specs.declared.limits.TheConstants.{LARGEST, HIGHEST, DEEPEST}
 use Rattle.moxi_flat.specs.Instantiating.{HasActuals, NestingFalls, SystemsAreOverVariables, SystemsBoundNesting}
 use Rattle.moxi_flat.specs.Limits.{is_too_large}

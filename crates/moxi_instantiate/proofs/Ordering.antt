@@ -9,7 +9,7 @@ use Rattle.std.proofs.Math.Logic.{∥∥₁_elim}
 use Rattle.digraph.specs.Graph.{NodeLists, next_of, is_graph, leads, IsFirstReturn}
 use Rattle.moxi_scripts.specs.declared.script.Subsystem.{Subsystem}
 use Rattle.moxi_scripts.specs.Script.{PlainSystem, system_at}
-use Rattle.moxi_sizes.specs.Systems.{nesting_upto}
+use Rattle.moxi_flat.specs.Systems.{nesting_upto}
 use Rattle.moxi_instantiate.specs.Amounts.{AreRanked, links_of, systems_inside}
 use Rattle.moxi_instantiate.proofs.Filling.{next_is}
 

@@ -13,9 +13,9 @@ use Rattle.moxi_scripts.specs.declared.script.Check.{Check}
 use Rattle.moxi_scripts.specs.declared.script.Subsystem.{Subsystem}
 use Rattle.moxi_scripts.specs.declared.script.System.{System}
 use Rattle.moxi_scripts.specs.Script.{PlainScript, PlainSystem, plain_check, plain_system, system_at}
-use Rattle.moxi_systems.specs.Whole.{IsWhole, check_variables}
+use Rattle.moxi_scripts.specs.Whole.{IsWhole, check_variables}
 use Rattle.moxi_flat.specs.FlatSystem.{PlainFlatSystem, flat_of}
-use Rattle.moxi_flat.specs.Laws.{SingleSystemsAreFlat, own_part}
+use Rattle.moxi_flat.specs.FlatLaws.{SingleSystemsAreFlat, own_part}
 use Rattle.moxi_flat.specs.Limits.{has_name_twice}
 use Rattle.moxi_instantiate.specs.declared.parts.Part.{Part}
 use Rattle.moxi_instantiate.specs.Instances.{IsInstance, IsSingle, flat_form, single_script}

@@ -7,11 +7,11 @@ use Rattle.std.proofs.Math.Logic.{∥∥₁_elim, ∥∥₁_map}
 use Rattle.moxi_terms.specs.Tree.{Tree, constant, variable, bound, apply, binding, call, Trees, no_trees, tree}
 use Rattle.moxi_scripts.specs.declared.script.Subsystem.{Subsystem}
 use Rattle.moxi_scripts.specs.Script.{PlainCheck, PlainScript, PlainSystem, system_at, variables_in}
-use Rattle.moxi_systems.specs.Whole.{FitsSystem, IsWhole, check_variables}
-use Rattle.moxi_sizes.specs.Systems.{script_height, script_nesting, script_size}
+use Rattle.moxi_scripts.specs.Whole.{FitsSystem, IsWhole, check_variables}
+use Rattle.moxi_flat.specs.Systems.{script_height, script_nesting, script_size}
 use Rattle.moxi_flat.specs.FlatSystem.{count_upto, flat_of, locals_upto}
 use Rattle.moxi_flat.specs.Instantiating.{HasActuals, IsOverVariables, LocalsAreCounted, SystemsAreOverVariables}
-use Rattle.moxi_flat.specs.Laws.{FlatSystemsAreSmall}
+use Rattle.moxi_flat.specs.FlatLaws.{FlatSystemsAreSmall}
 use Rattle.moxi_flat.specs.Limits.{is_too_large}
 use Rattle.moxi_flat.specs.declared.limits.TheConstants.{LARGEST, HIGHEST, DEEPEST}
 use Rattle.moxi_flat.specs.Renumbering.{AreOver, IsOver}

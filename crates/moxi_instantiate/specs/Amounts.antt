@@ -4,8 +4,8 @@ use Rattle.std.specs.List.{AllByRecursion}
 use Rattle.digraph.specs.Graph.{NodeLists}
 use Rattle.moxi_scripts.specs.declared.script.Subsystem.{Subsystem}
 use Rattle.moxi_scripts.specs.Script.{PlainSystem, system_at}
-use Rattle.moxi_sizes.specs.Terms.{term_height, term_size}
-use Rattle.moxi_sizes.specs.Systems.{instance_height, instance_size, nesting_upto}
+use Rattle.moxi_flat.specs.Terms.{term_height, term_size}
+use Rattle.moxi_flat.specs.Systems.{instance_height, instance_size, nesting_upto}
 use Rattle.moxi_flat.specs.Instantiating.{IsEnough}
 use Rattle.moxi_instantiate.specs.declared.systems.Measure.{Measure}
 use Rattle.moxi_instantiate.specs.declared.systems.Measure.TheVariants.{Size, Height, Nesting}

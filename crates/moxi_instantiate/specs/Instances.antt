@@ -8,9 +8,9 @@ use Rattle.moxi_terms.specs.View.{ScopeState}
 use Rattle.moxi_scripts.specs.declared.script.Check.{Check}
 use Rattle.moxi_scripts.specs.declared.script.Subsystem.{Subsystem}
 use Rattle.moxi_scripts.specs.Script.{PlainCheck, PlainScript, PlainSystem, plain_formula, system_at}
-use Rattle.moxi_systems.specs.Whole.{IsWhole}
-use Rattle.moxi_sizes.specs.Terms.{call_heights, call_sizes}
-use Rattle.moxi_sizes.specs.Systems.{check_height, check_size, greatest_by}
+use Rattle.moxi_scripts.specs.Whole.{IsWhole}
+use Rattle.moxi_flat.specs.Terms.{call_heights, call_sizes}
+use Rattle.moxi_flat.specs.Systems.{check_height, check_size, greatest_by}
 use Rattle.moxi_flat.specs.FlatSizes.{part_height, part_size}
 use Rattle.moxi_flat.specs.FlatSystem.{PlainFlatSystem, PlainPart, count_upto, flat_of, parts_upto, place_inside}
 use Rattle.moxi_flat.specs.Instantiating.{IsOverVariables}

@@ -1,7 +1,7 @@
 // Sizes and heights of the bodies of functions, each of which calls those before it alone.
 ghost use Rattle.std.specs.Prelude.{◌≡◌, ◌++◌, ◌∷◌, [], length, map, IfOk, OnOk};
 ghost use Rattle.moxi_terms.specs.View.{plain_function};
-ghost use Rattle.moxi_sizes.specs.Terms.{measured_upto, term_height, term_size};
+ghost use Rattle.moxi_flat.specs.Terms.{measured_upto, term_height, term_size};
 ghost use Rattle.moxi_instantiate.specs.Counting.{AreCounted};
 
 use crate::terms::{term_height, term_size};

@@ -2,7 +2,7 @@
 ghost use Rattle.std.specs.Prelude.{◌≡◌, ◌<◌, ◌+◌, ◌++◌, ◌∷◌, [], ◌^◌, ℕ, false, map, length, IfOk, OnOk};
 ghost use Rattle.moxi_scripts.specs.Script.{plain_system, system_at, variables_in};
 ghost use Rattle.moxi_scripts.specs.ScriptView.{plain_script};
-ghost use Rattle.moxi_systems.specs.Whole.{IsWhole, check_variables};
+ghost use Rattle.moxi_scripts.specs.Whole.{IsWhole, check_variables};
 ghost use Rattle.moxi_flat.specs.FlatSystem.{count_upto, flat_of, part_of, parts_upto};
 ghost use Rattle.moxi_flat.specs.Limits.{is_too_large};
 ghost use Rattle.moxi_instantiate.specs.Amounts.{AreRanked};

@@ -3,8 +3,8 @@ ghost use Rattle.std.specs.Prelude.{◌≡◌, ◌<◌, ◌≤◌, ◌||◌, nat
 ghost use Rattle.moxi_flat.specs.declared.limits.TheConstants as limits;
 ghost use Rattle.digraph.specs.Graph.{IsSorted};
 ghost use Rattle.moxi_scripts.specs.ScriptView.{plain_script};
-ghost use Rattle.moxi_systems.specs.Whole.{IsWhole};
-ghost use Rattle.moxi_sizes.specs.Systems.{script_height, script_nesting, script_size};
+ghost use Rattle.moxi_scripts.specs.Whole.{IsWhole};
+ghost use Rattle.moxi_flat.specs.Systems.{script_height, script_nesting, script_size};
 ghost use Rattle.moxi_flat.specs.Limits.{is_too_large};
 ghost use Rattle.moxi_instantiate.specs.Amounts.{AreRanked, amount_upto, links_of};
 ghost use Rattle.moxi_instantiate.specs.Counting.{capped, known};
@@ -16,8 +16,7 @@ use crate::systems::{Measure, amounts, order_of};
 use moxi_flat::{
     DEEPEST, HIGHEST, LARGEST, nesting_falls, systems_are_over_variables, systems_bound_nesting,
 };
-use moxi_scripts::Script;
-use moxi_systems::spelled_scripts_are_whole;
+use moxi_scripts::{Script, spelled_scripts_are_whole};
 use std::alloc::Global;
 use text_core::{List, NoMemory};
 

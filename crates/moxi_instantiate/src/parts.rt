@@ -2,7 +2,7 @@
 ghost use Rattle.std.specs.Prelude.{◌≡◌, ◌<◌, ◌+◌, ◌++◌, ◌∷◌, [], ◌^◌, ℕ, map, length, IfOk, OnOk};
 ghost use Rattle.moxi_scripts.specs.Script.{plain_system};
 ghost use Rattle.moxi_flat.specs.FlatSystem.{part_of, place_inside};
-ghost use Rattle.moxi_flat.specs.Laws.{own_part};
+ghost use Rattle.moxi_flat.specs.FlatLaws.{own_part};
 ghost use Rattle.moxi_instantiate.specs.Copying.{number_in};
 ghost use Rattle.moxi_instantiate.specs.PlainParts.{plain_part};
 

@@ -2,8 +2,8 @@
 ghost use Rattle.std.specs.Prelude.{◌≡◌, [], not, nat_eq, None, true, false, length, IfOk, IfErr};
 ghost use Rattle.text_core.specs.declared.end.End.TheVariants.{Bad};
 ghost use Rattle.text_core.specs.declared.place.Kind.TheVariants.{M};
-ghost use Rattle.name_set.specs.Names.{are_fresh};
-ghost use Rattle.moxi_print.specs.Terms.{variable_names};
+ghost use Rattle.name_maps.specs.Names.{are_fresh};
+ghost use Rattle.moxi_term_print.specs.Terms.{variable_names};
 ghost use Rattle.moxi_scripts.specs.Script.{system_at};
 ghost use Rattle.moxi_scripts.specs.ScriptView.{plain_script};
 ghost use Rattle.moxi_flat.specs.FlatSystem.{flat_of};
@@ -15,7 +15,7 @@ use crate::variables::{add_locals, own_variables};
 use moxi_flat::single_systems_are_flat;
 use moxi_scripts::Script;
 use moxi_terms::Variables;
-use name_set::NameSet;
+use name_maps::NameSet;
 use std::alloc::Global;
 use text_core::{End, Kind, NoMemory, Refusal};
 

@@ -1,7 +1,7 @@
 // The flat system of a script.
 ghost use Rattle.std.specs.Prelude.{◌≡◌, ◌≤◌, ◌+◌, [], None, true, length, map, IfOk, IfErr};
-ghost use Rattle.name_set.specs.Names.{are_fresh};
-ghost use Rattle.moxi_print.specs.Terms.{variable_names};
+ghost use Rattle.name_maps.specs.Names.{are_fresh};
+ghost use Rattle.moxi_term_print.specs.Terms.{variable_names};
 ghost use Rattle.moxi_scripts.specs.Script.{plain_check, plain_formula, plain_system};
 ghost use Rattle.moxi_scripts.specs.ScriptView.{plain_script};
 ghost use Rattle.moxi_flat.specs.declared.limits.TheConstants as limits;

@@ -2,7 +2,7 @@
 ghost use Rattle.std.specs.Prelude.{◌≡◌, ◌≤◌, map};
 ghost use Rattle.moxi_terms.specs.Tree.{trees_of};
 ghost use Rattle.moxi_terms.specs.View.{plain};
-ghost use Rattle.moxi_sizes.specs.Terms.{operator_size, term_height, term_size, terms_height, terms_size};
+ghost use Rattle.moxi_flat.specs.Terms.{operator_size, term_height, term_size, terms_height, terms_size};
 ghost use Rattle.moxi_instantiate.specs.Counting.{capped, known};
 
 use crate::counts::{MOST, greater, known, neighbours, pairs, sum};

@@ -7,8 +7,8 @@ use Rattle.moxi_terms.specs.Sorted.{IsUnprimed}
 use Rattle.moxi_terms.specs.Tree.{Tree, sorts_of}
 use Rattle.moxi_scripts.specs.declared.script.Query.{Query}
 use Rattle.moxi_scripts.specs.Script.{PlainFormula}
-use Rattle.moxi_systems.specs.Whole.{IsWholeQuery}
-use Rattle.moxi_systems.proofs.AskingSorts.{lt_held, sorted_held}
+use Rattle.moxi_scripts.specs.Whole.{IsWholeQuery}
+use Rattle.moxi_scripts.proofs.AskingSorts.{lt_held, sorted_held}
 use Rattle.moxi_flat.specs.FlatSorts.{AreFlatTruths, IsFlatTruth, IsSortedFlat, PartIsSorted}
 use Rattle.moxi_flat.specs.FlatSystem.{PlainFlatSystem, PlainPart}
 use Rattle.moxi_judge.specs.declared.parts.PartFormula.TheVariants.{Init, Trans, Inv}

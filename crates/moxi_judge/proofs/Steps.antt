@@ -12,9 +12,9 @@ use Rattle.moxi_terms.specs.Value.{Values, at}
 use Rattle.moxi_scripts.specs.declared.script.Query.{Query}
 use Rattle.moxi_scripts.specs.Script.{PlainScript}
 use Rattle.moxi_scripts.proofs.Forms.{items_step}
-use Rattle.moxi_systems.specs.Asking.{query_tests}
-use Rattle.moxi_systems.specs.Behaviour.{Trace}
-use Rattle.moxi_systems.specs.Meeting.{all_reached, ends_reached, first_failing, is_reached_before, reaches, verdict_or}
+use Rattle.moxi_scripts.specs.Asking.{query_tests}
+use Rattle.moxi_scripts.specs.Behaviour.{Trace}
+use Rattle.moxi_scripts.specs.Meeting.{all_reached, ends_reached, first_failing, is_reached_before, reaches, verdict_or}
 use Rattle.moxi_flat.specs.FlatSystem.{PlainFlatSystem}
 use Rattle.moxi_judge.specs.FlatTests.{Remember, free_script, failing_at, judged_by_parts, later_tests, part_tests}
 use Rattle.moxi_judge.specs.Judging.{trace_of}

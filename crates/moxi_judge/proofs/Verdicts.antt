@@ -20,14 +20,14 @@ use Rattle.moxi_terms.specs.Tree.{Tree, sorts_of}
 use Rattle.moxi_terms.specs.Value.{at, term_value}
 use Rattle.moxi_scripts.specs.declared.script.Query.{Query}
 use Rattle.moxi_scripts.specs.Script.{PlainScript, calls_in}
-use Rattle.moxi_systems.specs.Asking.{NothingFails, query_tests, system_tests}
-use Rattle.moxi_systems.specs.Behaviour.{Behaves, Holds, Suits, Trace, behaves, no_subsystems}
-use Rattle.moxi_systems.specs.Meeting.{Hiddens, MeetsQuery, all_hold, first_failing, is_reached_before, is_true, step_tests, verdict_or}
-use Rattle.moxi_systems.specs.Meeting.{judged_from as judged_by_systems}
-use Rattle.moxi_systems.specs.Whole.{IsWhole}
+use Rattle.moxi_scripts.specs.Asking.{NothingFails, query_tests, system_tests}
+use Rattle.moxi_scripts.specs.Behaviour.{Behaves, Holds, Suits, Trace, behaves, no_subsystems}
+use Rattle.moxi_scripts.specs.Meeting.{Hiddens, MeetsQuery, all_hold, first_failing, is_reached_before, is_true, step_tests, verdict_or}
+use Rattle.moxi_scripts.specs.Meeting.{judged_from as judged_by_systems}
+use Rattle.moxi_scripts.specs.Whole.{IsWhole}
 use Rattle.moxi_flat.specs.FlatSystem.{PlainFlatSystem, PlainPart, flat_of}
 use Rattle.moxi_flat.specs.FlatMeeting.{IsFlatTrace, MeetsFlat, PartHolds, hidden_values}
-use Rattle.moxi_flat.specs.Laws.{AreTested, HiddenValuesAreWritten, PartsAreTested}
+use Rattle.moxi_flat.specs.FlatLaws.{AreTested, HiddenValuesAreWritten, PartsAreTested}
 use Rattle.moxi_judge.specs.FlatTests.{Fits, free_script, failing_at, judged_by_parts, part_tests}
 use Rattle.moxi_judge.specs.Judging.{IsStatedTrace, trace_of}
 use Rattle.moxi_judge.proofs.Elements.{all_at}

@@ -13,9 +13,9 @@ use Rattle.moxi_terms.specs.Tree.{Tree, constant, sorts_of}
 use Rattle.moxi_terms.specs.Value.{Values}
 use Rattle.moxi_scripts.specs.declared.script.Query.{Query}
 use Rattle.moxi_scripts.specs.Script.{PlainFormula, PlainScript, PlainSystem}
-use Rattle.moxi_systems.specs.Asking.{query_tests}
-use Rattle.moxi_systems.specs.Behaviour.{Trace}
-use Rattle.moxi_systems.specs.Meeting.{first_failing, is_reached_before, is_true, verdict_or}
+use Rattle.moxi_scripts.specs.Asking.{query_tests}
+use Rattle.moxi_scripts.specs.Behaviour.{Trace}
+use Rattle.moxi_scripts.specs.Meeting.{first_failing, is_reached_before, is_true, verdict_or}
 use Rattle.moxi_flat.specs.FlatSorts.{IsFlatTruth}
 use Rattle.moxi_flat.specs.FlatSystem.{PlainFlatSystem, PlainPart}
 use Rattle.moxi_instantiate.specs.Instances.{check_of}

@@ -3,7 +3,7 @@ use Rattle.std.specs.Prelude.{◌≤◌, List, [], length, slice_index_or}
 use Rattle.std.specs.List.{AllByRecursion}
 use Rattle.moxi_terms.specs.declared.data.Datum.{Datum}
 use Rattle.moxi_terms.specs.Value.{at}
-use Rattle.moxi_systems.specs.Behaviour.{Trace}
+use Rattle.moxi_scripts.specs.Behaviour.{Trace}
 use Rattle.moxi_flat.specs.FlatSystem.{PlainFlatSystem}
 use Rattle.moxi_judge.specs.FlatTests.{Fits}
 

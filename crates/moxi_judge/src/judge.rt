@@ -2,8 +2,8 @@
 ghost use Rattle.std.specs.Prelude.{◌≡◌, ◌↔◌, ◌<◌, ◌-◌, ◌^◌, length, IfOk};
 ghost use Rattle.std.specs.List.{AllByRecursion};
 ghost use Rattle.moxi_scripts.specs.ScriptView.{plain_script};
-ghost use Rattle.moxi_systems.specs.Asking.{query_at};
-ghost use Rattle.moxi_systems.specs.Meeting.{is_reached_before, judged_moxi};
+ghost use Rattle.moxi_scripts.specs.Asking.{query_at};
+ghost use Rattle.moxi_scripts.specs.Meeting.{is_reached_before, judged_moxi};
 ghost use Rattle.moxi_flat.specs.FlatMeeting.{MeetsFlat, hidden_values};
 ghost use Rattle.moxi_flat.specs.FlatSystem.{flat_of};
 ghost use Rattle.moxi_judge.specs.FlatTests.{CanJudge, Fits, IsQueryOf, Remember, free_script, failing_at, judged_by_parts};
@@ -13,9 +13,8 @@ use crate::parts::parts_failing;
 use crate::queries::{mark_reached, query_failing};
 use moxi_flat::{hidden_values_are_written, parts_are_tested};
 use moxi_instantiate::FlatSystem;
-use moxi_scripts::{Query, Script};
-use moxi_systems::{
-    MoxiTrace, queries_are_met_where_nothing_fails, spelled_scripts_are_whole,
+use moxi_scripts::{
+    MoxiTrace, Query, Script, queries_are_met_where_nothing_fails, spelled_scripts_are_whole,
     steps_are_tested_by_system_and_query,
 };
 use moxi_terms::Env;

@@ -3,7 +3,7 @@ ghost use Rattle.std.specs.Prelude.{◌≡◌, ◌<◌, length, map, IfOk};
 ghost use Rattle.std.specs.List.{AllByRecursion, list_all};
 ghost use Rattle.moxi_terms.specs.Value.{at};
 ghost use Rattle.moxi_terms.specs.View.{plain};
-ghost use Rattle.moxi_systems.specs.Meeting.{first_failing, is_true};
+ghost use Rattle.moxi_scripts.specs.Meeting.{first_failing, is_true};
 ghost use Rattle.moxi_flat.specs.FlatSystem.{PlainPart};
 ghost use Rattle.moxi_instantiate.specs.PlainParts.{plain_part};
 ghost use Rattle.moxi_judge.specs.FlatTests.{Fits, IsPartOf, free_script, formula_of, later_tests, part_tests, parts_hold, start_tests};

@@ -3,8 +3,8 @@ ghost use Rattle.std.specs.Prelude.{◌≡◌, ◌==◌, ◌<◌, ◌&&◌, ◌|
 ghost use Rattle.std.specs.List.{AllByRecursion, list_all, list_any};
 ghost use Rattle.moxi_terms.specs.Value.{at};
 ghost use Rattle.moxi_scripts.specs.Script.{formula_at, plain_formula};
-ghost use Rattle.moxi_systems.specs.Asking.{query_tests};
-ghost use Rattle.moxi_systems.specs.Meeting.{assumptions_hold, currents_hold, ends_reached, first_failing, is_true, reaches};
+ghost use Rattle.moxi_scripts.specs.Asking.{query_tests};
+ghost use Rattle.moxi_scripts.specs.Meeting.{assumptions_hold, currents_hold, ends_reached, first_failing, is_true, reaches};
 ghost use Rattle.moxi_judge.specs.FlatTests.{AreMarks, AreTruths, CanJudge, Fits, IsQueryOf, Remember, free_script};
 
 use crate::terms::is_true_at;

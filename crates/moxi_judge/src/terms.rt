@@ -3,7 +3,7 @@ ghost use Rattle.std.specs.Prelude.{◌≡◌, ◌<◌, length, map, IfOk};
 ghost use Rattle.moxi_terms.specs.Value.{at};
 ghost use Rattle.moxi_terms.specs.View.{plain};
 ghost use Rattle.moxi_scripts.specs.Script.{formula_at, plain_formula};
-ghost use Rattle.moxi_systems.specs.Meeting.{is_true};
+ghost use Rattle.moxi_scripts.specs.Meeting.{is_true};
 ghost use Rattle.moxi_flat.specs.FlatSorts.{IsFlatTruth};
 ghost use Rattle.moxi_judge.specs.FlatTests.{AreTruths, Fits, free_script};
 

@@ -16,7 +16,7 @@ use Rattle.moxi_scripts.specs.declared.script.Query.{Query}
 use Rattle.moxi_flat.specs.FlatSystem.{PlainFlatSystem, PlainPart}
 use Rattle.moxi_lines.specs.Lines.{symbol_of}
 use Rattle.moxi_layout.specs.Skeleton.{Entry, constraint_if, entry, formula_entries, has_gap, latch_entries, latch_names, part_entries, query_entries, skeleton_of, variable_entries}
-use Rattle.moxi_layout.specs.Laws.{AreBadFrames, AtLast}
+use Rattle.moxi_layout.specs.LayoutLaws.{AreBadFrames, AtLast}
 use Rattle.moxi_layout.specs.Witnesses.{AcceptedFramesAreTraces, WitnessesNameQueries}
 use Rattle.moxi_layout.proofs.Both.{frames_are_traces_law}
 use Rattle.moxi_layout.proofs.Entries.{entries_long, flat_none, none, of_append, of_flat, of_kind, singles_long}

@@ -2,9 +2,9 @@
 use Rattle.std.proofs.Common.{ℕ, ◌≤◌, length, arith}
 use Rattle.btor_tree.specs.Frame.{ConstraintsHold, IsBad}
 use Rattle.moxi_terms.specs.Tree.{sorts_of}
-use Rattle.moxi_systems.specs.Whole.{IsWholeQuery}
+use Rattle.moxi_scripts.specs.Whole.{IsWholeQuery}
 use Rattle.moxi_flat.specs.FlatMeeting.{MeetsFlat}
-use Rattle.moxi_layout.specs.Laws.{FramesAreTraces, TracesAreFrames, TracesHaveFrames, decoded_trace}
+use Rattle.moxi_layout.specs.LayoutLaws.{FramesAreTraces, TracesAreFrames, TracesHaveFrames, decoded_trace}
 use Rattle.moxi_layout.proofs.Frames.{frames_meet, meet_frames}
 use Rattle.moxi_layout.proofs.Free.{trace_path}
 use Rattle.moxi_layout.proofs.Lists.{all_get}

@@ -11,8 +11,8 @@ use Rattle.moxi_terms.specs.declared.data.Sort.TheVariants.{Truth, Bits, Choice}
 use Rattle.moxi_terms.specs.declared.term.Enumeration.{Enumeration}
 use Rattle.moxi_terms.specs.declared.term.Variable.{Variable}
 use Rattle.moxi_terms.specs.Tree.{sorts_of}
-use Rattle.moxi_term_lines.specs.Codes.{choice_width, constant_count, sort_bits}
-use Rattle.moxi_term_lines.specs.TermLines.{place_in}
+use Rattle.moxi_lines.specs.Codes.{choice_width, constant_count, sort_bits}
+use Rattle.moxi_lines.specs.TermLines.{place_in}
 use Rattle.moxi_lines.specs.Decoding.{PlacesInside}
 use Rattle.moxi_lines.specs.Variables.{IsInside}
 use Rattle.moxi_layout.specs.Skeleton.{has_gap}

@@ -17,7 +17,7 @@ use Rattle.moxi_terms.specs.Tree.{sorts_of}
 use Rattle.moxi_terms.proofs.ValueLaws.{read_at}
 use Rattle.moxi_scripts.specs.declared.script.Query.{Query}
 use Rattle.moxi_flat.specs.FlatSystem.{PlainFlatSystem, PlainPart}
-use Rattle.moxi_term_lines.specs.Codes.{sort_bits}
+use Rattle.moxi_lines.specs.Codes.{sort_bits}
 use Rattle.moxi_lines.specs.Lines.{symbol_of}
 use Rattle.btor_witness.specs.Room.{places_of}
 use Rattle.moxi_layout.specs.Skeleton.{Entry, constraint_if, entries_in, entry, entry_of, entry_width, formula_entries, has_gap, is_ordered, latch_entries, latch_names, part_entries, query_entries, skeleton, skeleton_of, variable_entries}

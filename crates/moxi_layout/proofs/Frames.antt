@@ -16,14 +16,14 @@ use Rattle.std.specs.Prelude.{slice_index_or}
 use Rattle.moxi_terms.specs.Value.{Values}
 use Rattle.moxi_scripts.specs.declared.script.Query.{Query}
 use Rattle.moxi_scripts.specs.Script.{calls_in}
-use Rattle.moxi_systems.specs.Behaviour.{Holds, Trace}
+use Rattle.moxi_scripts.specs.Behaviour.{Holds, Trace}
 use Rattle.moxi_flat.specs.FlatMeeting.{IsFlatTrace, MeetsFlat, PartHolds}
 use Rattle.moxi_flat.specs.FlatSorts.{PartIsSorted}
 use Rattle.moxi_flat.specs.FlatSystem.{PlainFlatSystem, PlainPart}
 use Rattle.moxi_lines.specs.Decoding.{PlacesInside, decoded_datum}
 use Rattle.moxi_lines.specs.Variables.{IsInside}
 use Rattle.moxi_layout.specs.Layout.{IsInRange, IsQueryLaid, before_values, first_at, input_at, is_met, is_set, latch_inits, latch_nexts, latches_in, now_values, prior_at, truth_word}
-use Rattle.moxi_layout.specs.Laws.{IsLaidOut}
+use Rattle.moxi_layout.specs.LayoutLaws.{IsLaidOut}
 use Rattle.moxi_layout.proofs.Entries.{sorts_long}
 use Rattle.moxi_layout.proofs.Latches.{given_next, query_at, set_first, set_next, sets_first, sets_next}
 use Rattle.moxi_layout.proofs.Lists.{all_steps, all_with, steps_all}

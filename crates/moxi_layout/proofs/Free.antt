@@ -13,12 +13,12 @@ use Rattle.btor_tree.proofs.Paths.{Reads, path, width_is}
 use Rattle.btor_tree.proofs.Widths.{width_small}
 use Rattle.moxi_terms.specs.Tree.{sorts_of}
 use Rattle.moxi_terms.specs.Value.{Values}
-use Rattle.moxi_systems.specs.Behaviour.{Suits, Trace}
+use Rattle.moxi_scripts.specs.Behaviour.{Suits, Trace}
 use Rattle.moxi_flat.specs.FlatSystem.{PlainFlatSystem}
-use Rattle.moxi_term_lines.specs.Codes.{code_of}
-use Rattle.moxi_term_lines.proofs.CodeLaws.{code_is_word}
+use Rattle.moxi_lines.specs.Codes.{code_of}
+use Rattle.moxi_lines.proofs.CodeLaws.{code_is_word}
 use Rattle.moxi_layout.specs.Layout.{input_at}
-use Rattle.moxi_layout.specs.Laws.{IsLaidOut}
+use Rattle.moxi_layout.specs.LayoutLaws.{IsLaidOut}
 use Rattle.moxi_layout.proofs.Entries.{input_line, input_there}
 use Rattle.moxi_layout.proofs.Rows.{all_steps_from, from_step, row_at, zip_get, zip_long}
 use Rattle.moxi_layout.proofs.Values.{ReadsValues}

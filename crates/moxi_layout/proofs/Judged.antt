@@ -19,7 +19,7 @@ use Rattle.btor_witness.specs.Sizes.{Sizes, sizes_of, widths_of}
 use Rattle.moxi_flat.specs.FlatSystem.{PlainFlatSystem}
 use Rattle.moxi_lines.specs.Variables.{IsInside}
 use Rattle.moxi_layout.specs.Layout.{IsInRange, first_at, given, input_at, prior_at}
-use Rattle.moxi_layout.specs.Laws.{IsLaidOut}
+use Rattle.moxi_layout.specs.LayoutLaws.{IsLaidOut}
 use Rattle.moxi_layout.specs.Witnesses.{LayoutsAreJudgedAlike}
 use Rattle.moxi_layout.proofs.Latches.{given_next, map_some, set_first}
 use Rattle.moxi_layout.proofs.Pairs.{AreAlike, WereInside, alike_back, all_nexts_same, bads_same, constraints_same, inits_same, range_same, same_inputs, same_states, state_of, variable_below}

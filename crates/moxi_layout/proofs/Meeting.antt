@@ -6,7 +6,7 @@ use Rattle.std.proofs.lemmas.Bool.{and_parts, and_from}
 use Rattle.moxi_scripts.specs.declared.script.Query.{Query}
 use Rattle.moxi_scripts.specs.Script.{calls_in, formula_at}
 use Rattle.moxi_terms.specs.Value.{Values}
-use Rattle.moxi_systems.specs.Behaviour.{Holds, Trace}
+use Rattle.moxi_scripts.specs.Behaviour.{Holds, Trace}
 use Rattle.moxi_flat.specs.FlatMeeting.{ReachesFlat}
 use Rattle.moxi_flat.specs.FlatSystem.{PlainFlatSystem}
 use Rattle.moxi_lines.specs.Lines.{has_conditions}

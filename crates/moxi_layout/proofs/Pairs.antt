@@ -17,15 +17,15 @@ use Rattle.moxi_terms.specs.declared.data.Sort.{Sort}
 use Rattle.moxi_terms.specs.declared.data.Sort.TheVariants.{Truth}
 use Rattle.moxi_terms.specs.Tree.{sorts_of}
 use Rattle.moxi_scripts.specs.declared.script.Query.{Query}
-use Rattle.moxi_systems.specs.Whole.{IsWholeQuery}
+use Rattle.moxi_scripts.specs.Whole.{IsWholeQuery}
 use Rattle.moxi_flat.specs.FlatSorts.{PartIsSorted}
 use Rattle.moxi_flat.specs.FlatSystem.{PlainFlatSystem, PlainPart}
-use Rattle.moxi_term_lines.specs.TermLines.{place_in}
+use Rattle.moxi_lines.specs.TermLines.{place_in}
 use Rattle.moxi_lines.specs.Decoding.{PlacesInside, decoded_datum}
 use Rattle.moxi_lines.specs.Variables.{IsInside}
 use Rattle.moxi_layout.specs.Skeleton.{latch_names}
 use Rattle.moxi_layout.specs.Layout.{AreQueriesLaid, IsInRange, before_values, first_at, given, input_at, is_met, is_set, latch_nexts, latches_in, now_values, prior_at, truth_word}
-use Rattle.moxi_layout.specs.Laws.{IsLaidOut}
+use Rattle.moxi_layout.specs.LayoutLaws.{IsLaidOut}
 use Rattle.moxi_layout.proofs.Entries.{input_count, sorts_long}
 use Rattle.moxi_layout.proofs.Lists.{all_with, nil_not, not_nil, same_head, same_rest}
 use Rattle.moxi_layout.proofs.Parts.{PartAt}

@@ -6,7 +6,7 @@ use Rattle.moxi_terms.specs.Tree.{Tree, apply, binding, bound, call, constant, v
 use Rattle.moxi_terms.specs.Value.{Values}
 use Rattle.moxi_terms.specs.View.{ScopeState}
 use Rattle.moxi_scripts.specs.Script.{calls_in}
-use Rattle.moxi_systems.specs.Behaviour.{Holds}
+use Rattle.moxi_scripts.specs.Behaviour.{Holds}
 use Rattle.moxi_flat.specs.FlatSystem.{PlainPart}
 use Rattle.moxi_lines.specs.Lines.{is_true_term}
 use Rattle.moxi_lines.specs.Constraints.{is_true}

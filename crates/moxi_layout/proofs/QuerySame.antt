@@ -6,7 +6,7 @@ use Rattle.moxi_terms.specs.Tree.{sorts_of}
 use Rattle.moxi_terms.specs.Value.{Values}
 use Rattle.moxi_scripts.specs.declared.script.Query.{Query}
 use Rattle.moxi_scripts.specs.Script.{PlainFormula, calls_in, formula_at}
-use Rattle.moxi_systems.specs.Whole.{IsWholeQuery}
+use Rattle.moxi_scripts.specs.Whole.{IsWholeQuery}
 use Rattle.moxi_flat.specs.FlatSorts.{AreFlatTruths, IsSortedFlat}
 use Rattle.moxi_flat.specs.FlatSystem.{PlainFlatSystem}
 use Rattle.moxi_lines.specs.Lines.{has_conditions}

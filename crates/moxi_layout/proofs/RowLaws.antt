@@ -11,7 +11,7 @@ use Rattle.btor_witness.proofs.Places.{length_places}
 use Rattle.moxi_flat.specs.FlatSystem.{PlainFlatSystem}
 use Rattle.moxi_lines.specs.Decoding.{PlacesInside}
 use Rattle.moxi_layout.specs.Layout.{IsInRange, before_values, codes_inside, first_at, formula_values, input_at, is_set, now_values, truth_word}
-use Rattle.moxi_layout.specs.Laws.{IsLaidOut}
+use Rattle.moxi_layout.specs.LayoutLaws.{IsLaidOut}
 use Rattle.moxi_layout.proofs.Codes.{AreSet, codes_set, set_codes}
 use Rattle.moxi_layout.proofs.Entries.{input_count}
 use Rattle.moxi_layout.proofs.Lists.{all_both, all_first, all_second, maps_all}

@@ -5,7 +5,7 @@ use Rattle.std.specs.List.{AllByRecursion, AllZip}
 use Rattle.word_core.specs.Words.{BitVector}
 use Rattle.btor_tree.specs.declared.lines.Line.{Line}
 use Rattle.btor_tree.specs.Frame.{Follow, InitsHold, IsFrame, IsPath, NextsHold}
-use Rattle.moxi_layout.specs.Laws.{AtLast}
+use Rattle.moxi_layout.specs.LayoutLaws.{AtLast}
 
 abbrev pub row_at : List (List BitVector) → ℕ → List BitVector
 row_at rows j = slice_index_or rows j []

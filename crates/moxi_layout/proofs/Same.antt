@@ -6,8 +6,8 @@ use Rattle.moxi_terms.specs.Sorts.{IsOf}
 use Rattle.moxi_terms.specs.Tree.{sorts_of}
 use Rattle.moxi_scripts.specs.declared.script.Query.{Query}
 use Rattle.moxi_scripts.specs.Script.{PlainFormula, calls_in, formula_at}
-use Rattle.moxi_systems.specs.Behaviour.{Holds, Trace}
-use Rattle.moxi_systems.specs.Whole.{IsWholeQuery}
+use Rattle.moxi_scripts.specs.Behaviour.{Holds, Trace}
+use Rattle.moxi_scripts.specs.Whole.{IsWholeQuery}
 use Rattle.moxi_flat.specs.FlatMeeting.{MeetsFlat, PartHolds, ReachesFlat}
 use Rattle.moxi_flat.specs.FlatSorts.{AreFlatTruths, IsSortedFlat, PartIsSorted}
 use Rattle.moxi_flat.specs.FlatSystem.{PlainFlatSystem, PlainPart}

@@ -18,12 +18,12 @@ use Rattle.moxi_terms.specs.declared.term.Enumeration.{Enumeration}
 use Rattle.moxi_terms.specs.declared.term.Variable.{Variable}
 use Rattle.moxi_terms.proofs.ValueLaws.{read_at}
 use Rattle.moxi_flat.specs.FlatSystem.{PlainFlatSystem}
-use Rattle.moxi_term_lines.specs.Codes.{sort_bits}
-use Rattle.moxi_term_lines.specs.TermLines.{place_in}
+use Rattle.moxi_lines.specs.Codes.{sort_bits}
+use Rattle.moxi_lines.specs.TermLines.{place_in}
 use Rattle.moxi_lines.specs.Lines.{symbol_of}
 use Rattle.std.specs.Prelude.{codes}
 use Rattle.moxi_layout.specs.Skeleton.{Entry, constraint_if, entries_in, entry, entry_of, entry_width, has_gap, is_ordered, part_entries, query_entries, skeleton, skeleton_of, variable_entries}
-use Rattle.moxi_layout.specs.Laws.{IsLaidOut}
+use Rattle.moxi_layout.specs.LayoutLaws.{IsLaidOut}
 use Rattle.moxi_layout.specs.Witnesses.{LayoutsAreReadAlike}
 use Rattle.moxi_layout.proofs.Entries.{entries_cons, entries_long, input_is, input_ordered, of_append, of_flat, of_kind, singles_long}
 

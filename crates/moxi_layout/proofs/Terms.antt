@@ -11,7 +11,7 @@ use Rattle.moxi_terms.specs.Tree.{PlainFunction, Tree, Trees, apply, binding, bo
 use Rattle.moxi_terms.specs.Value.{Calls, Values, term_value, term_values}
 use Rattle.moxi_terms.specs.View.{ScopeState}
 use Rattle.moxi_scripts.specs.Script.{PlainFormula, calls_in, formula_at}
-use Rattle.moxi_systems.specs.Behaviour.{Holds}
+use Rattle.moxi_scripts.specs.Behaviour.{Holds}
 use Rattle.moxi_flat.specs.FlatSorts.{AreFlatTruths, IsFlatTruth}
 use Rattle.moxi_flat.specs.FlatSystem.{PlainFlatSystem}
 use Rattle.moxi_lines.specs.Constraints.{is_true}

@@ -18,15 +18,15 @@ use Rattle.moxi_terms.specs.Sorts.{IsOf, IsSort}
 use Rattle.moxi_terms.specs.Tree.{sorts_of}
 use Rattle.moxi_terms.specs.Value.{Values}
 use Rattle.moxi_terms.proofs.ValueLaws.{read_at}
-use Rattle.moxi_systems.specs.Behaviour.{Suits}
+use Rattle.moxi_scripts.specs.Behaviour.{Suits}
 use Rattle.moxi_flat.specs.FlatSystem.{PlainFlatSystem}
-use Rattle.moxi_term_lines.specs.Codes.{code_of, constant_count, sort_bits}
-use Rattle.moxi_term_lines.proofs.CodeLaws.{comes_back, count_is}
+use Rattle.moxi_lines.specs.Codes.{code_of, constant_count, sort_bits}
+use Rattle.moxi_lines.proofs.CodeLaws.{comes_back, count_is}
 use Rattle.moxi_lines.specs.Decoding.{PlacesInside, decoded_datum}
 use Rattle.moxi_lines.specs.Variables.{IsInside}
 use Rattle.moxi_lines.proofs.VariableLaws.{sort_wide}
 use Rattle.moxi_layout.specs.Layout.{input_at, now_values}
-use Rattle.moxi_layout.specs.Laws.{IsLaidOut}
+use Rattle.moxi_layout.specs.LayoutLaws.{IsLaidOut}
 use Rattle.moxi_layout.proofs.Entries.{input_there}
 use Rattle.moxi_layout.proofs.Terms.{Agree}
 

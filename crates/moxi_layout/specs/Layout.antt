@@ -20,8 +20,8 @@ use Rattle.moxi_terms.specs.View.{ScopeState}
 use Rattle.moxi_scripts.specs.declared.script.Query.{Query}
 use Rattle.moxi_scripts.specs.Script.{formula_at}
 use Rattle.moxi_flat.specs.FlatSystem.{PlainFlatSystem, PlainPart}
-use Rattle.moxi_term_lines.specs.Codes.{constant_count}
-use Rattle.moxi_term_lines.specs.TermLines.{place_in}
+use Rattle.moxi_lines.specs.Codes.{constant_count}
+use Rattle.moxi_lines.specs.TermLines.{place_in}
 use Rattle.moxi_lines.specs.Lines.{has_conditions, is_true_term}
 use Rattle.moxi_lines.specs.Constraints.{is_true}
 use Rattle.moxi_lines.specs.Decoding.{PlacesInside, decoded}

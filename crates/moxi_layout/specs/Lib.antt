@@ -1,4 +1,7 @@
 pub mod Skeleton
 pub mod Layout
-pub mod Laws
+pub mod LayoutLaws
 pub mod Witnesses
+pub mod LineLaws
+pub mod Counts
+pub mod ConstantLaws

@@ -12,7 +12,7 @@ use Rattle.moxi_terms.specs.declared.term.Variable.{Variable}
 use Rattle.moxi_terms.specs.Tree.{Tree}
 use Rattle.moxi_scripts.specs.declared.script.Query.{Query}
 use Rattle.moxi_flat.specs.FlatSystem.{PlainFlatSystem, PlainPart}
-use Rattle.moxi_term_lines.specs.Codes.{choice_width, constant_count, sort_bits}
+use Rattle.moxi_lines.specs.Codes.{choice_width, constant_count, sort_bits}
 use Rattle.moxi_lines.specs.Lines.{formula_name, has_conditions, is_true_term, symbol_of}
 
 -- ---- of lines

@@ -13,7 +13,7 @@ use Rattle.btor_witness.specs.Texts.{RefusesWitness, SpellsWitness}
 use Rattle.moxi_scripts.specs.declared.script.Query.{Query}
 use Rattle.moxi_flat.specs.FlatMeeting.{MeetsFlat}
 use Rattle.moxi_flat.specs.FlatSystem.{PlainFlatSystem}
-use Rattle.moxi_layout.specs.Laws.{IsLaidOut, decoded_trace}
+use Rattle.moxi_layout.specs.LayoutLaws.{IsLaidOut, decoded_trace}
 
 -- a text spells the same witness for both, or has the same refusal
 pub record ReadAlike (lines other : List Line) : Type 0 where

@@ -1,9 +1,18 @@
-//! Which lists of BTOR2 lines lay a flat MoXI system out, and the laws that the frames of such lines are the system's traces.
+//! Which BTOR2 lines lay a flat MoXI system out, with the laws that the frames of such lines are the system's traces, that the lines
+//! of a system lay it out, and how many there are.
 #![tactic(auto)]
 
-mod laws;
+mod constant_laws;
+mod count_laws;
+mod layout_laws;
+mod line_laws;
 
-pub use laws::{
+pub use constant_laws::{codes_are_few, constants_are_few};
+pub use count_laws::{
+    flat_sizes_are_script_sizes, lines_are_counted, lines_stay_few, no_two_lines_alike,
+};
+pub use layout_laws::{
     accepted_frames_are_traces, bads_are_queries, frames_are_traces, layouts_are_judged_alike,
     layouts_are_read_alike, traces_are_frames, traces_have_frames, witnesses_name_queries,
 };
+pub use line_laws::lines_lay_out;

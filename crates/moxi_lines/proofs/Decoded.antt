@@ -18,10 +18,10 @@ use Rattle.moxi_terms.specs.Sorted.{AreSorts}
 use Rattle.moxi_terms.specs.Sorts.{IsOf, IsSort}
 use Rattle.moxi_terms.specs.Tree.{sorts_of}
 use Rattle.moxi_terms.proofs.ValueLaws.{read_at}
-use Rattle.moxi_term_lines.specs.Codes.{code_of, constant_count, sort_bits}
-use Rattle.moxi_term_lines.specs.TermLines.{place_in}
-use Rattle.moxi_term_lines.specs.Laws.{AreNumbered, HaveCodes, VariablesStand}
-use Rattle.moxi_term_lines.proofs.CodeLaws.{count_is, goes_back}
+use Rattle.moxi_lines.specs.Codes.{code_of, constant_count, sort_bits}
+use Rattle.moxi_lines.specs.TermLines.{place_in}
+use Rattle.moxi_lines.specs.TermLaws.{AreNumbered, HaveCodes, VariablesStand}
+use Rattle.moxi_lines.proofs.CodeLaws.{count_is, goes_back}
 use Rattle.moxi_lines.specs.Lines.{input_place, state_place}
 use Rattle.moxi_lines.specs.Variables.{AreVariablesAt, IsInside}
 use Rattle.moxi_lines.specs.Decoding.{Decodes, PlacesInside, decoded, decoded_datum}

@@ -18,10 +18,10 @@ use Rattle.moxi_terms.specs.declared.data.Sort.{Sort}
 use Rattle.moxi_terms.specs.declared.data.Datum.{Datum}
 use Rattle.moxi_terms.specs.declared.term.Enumeration.{Enumeration}
 use Rattle.moxi_terms.specs.Value.{Values}
-use Rattle.moxi_term_lines.specs.Codes.{sort_bits}
-use Rattle.moxi_term_lines.specs.TermLines.{Made}
-use Rattle.moxi_term_lines.specs.Laws.{AreNumbered, StandsFor, VariablesStand}
-use Rattle.moxi_term_lines.proofs.Growing.{wide_inside}
+use Rattle.moxi_lines.specs.Codes.{sort_bits}
+use Rattle.moxi_lines.specs.TermLines.{Made}
+use Rattle.moxi_lines.specs.TermLaws.{AreNumbered, StandsFor, VariablesStand}
+use Rattle.moxi_lines.proofs.Growing.{wide_inside}
 use Rattle.moxi_lines.specs.Lines.{with_constraint}
 
 pub record Extends (old new : List Line) : Type 0 where

@@ -12,7 +12,7 @@ use Rattle.moxi_terms.specs.Sorted.{AreSorts}
 use Rattle.moxi_terms.specs.Tree.{sorts_of}
 use Rattle.moxi_flat.specs.FlatSorts.{IsSortedFlat}
 use Rattle.moxi_flat.specs.FlatSystem.{PlainFlatSystem}
-use Rattle.moxi_term_lines.specs.Laws.{HaveCodes}
+use Rattle.moxi_lines.specs.TermLaws.{HaveCodes}
 use Rattle.moxi_lines.specs.Lines.{first_place, head_lines, lines_of, variable_lines, with_parts, one_place, zero_place}
 use Rattle.moxi_lines.specs.Variables.{AreVariablesAt}
 use Rattle.moxi_lines.specs.System.{IsFramed}

@@ -11,7 +11,7 @@ use Rattle.moxi_terms.specs.declared.term.Enumeration.{Enumeration}
 use Rattle.moxi_terms.specs.declared.term.Variable.{Variable}
 use Rattle.moxi_terms.specs.Sorted.{AreSorts}
 use Rattle.moxi_terms.specs.Tree.{sorts_of}
-use Rattle.moxi_term_lines.specs.Laws.{AreNumbered, HaveCodes}
+use Rattle.moxi_lines.specs.TermLaws.{AreNumbered, HaveCodes}
 use Rattle.moxi_lines.specs.Lines.{head_lines, with_variables}
 use Rattle.moxi_lines.specs.Variables.{AreInside, AreVariableLines, AreVariablesAt}
 use Rattle.moxi_lines.proofs.VariableLines.{symbol_is}

@@ -1,3 +1,10 @@
+pub mod Growing
+pub mod Steps
+pub mod Chains
+pub mod Words
+pub mod CodeLaws
+pub mod Operators
+pub mod Terms
 pub mod Examples
 pub mod Extending
 pub mod Parts

@@ -19,14 +19,14 @@ use Rattle.moxi_terms.specs.Value.{Values, calls_upto, term_value}
 use Rattle.moxi_terms.proofs.ValueLaws.{all_suit, value_sorted}
 use Rattle.moxi_flat.specs.FlatSorts.{IsFlatTruth, PartIsSorted}
 use Rattle.moxi_flat.specs.FlatSystem.{PlainFlatSystem, PlainPart}
-use Rattle.moxi_term_lines.specs.Codes.{code_of}
-use Rattle.moxi_term_lines.specs.TermLines.{Made, with_binary}
-use Rattle.moxi_term_lines.specs.Laws.{AreNumbered, HaveCodes, Makes, VariablesStand}
-use Rattle.moxi_term_lines.proofs.Growing.{grown_long, grown_meets, grown_then}
-use Rattle.moxi_term_lines.proofs.Steps.{WordAt, binary_step}
-use Rattle.moxi_term_lines.proofs.Chains.{binary_grows}
-use Rattle.moxi_term_lines.proofs.Words.{bit, code_truth}
-use Rattle.moxi_term_lines.proofs.Terms.{calls_grow, term_grows, whole_made}
+use Rattle.moxi_lines.specs.Codes.{code_of}
+use Rattle.moxi_lines.specs.TermLines.{Made, with_binary}
+use Rattle.moxi_lines.specs.TermLaws.{AreNumbered, HaveCodes, Makes, VariablesStand}
+use Rattle.moxi_lines.proofs.Growing.{grown_long, grown_meets, grown_then}
+use Rattle.moxi_lines.proofs.Steps.{WordAt, binary_step}
+use Rattle.moxi_lines.proofs.Chains.{binary_grows}
+use Rattle.moxi_lines.proofs.Words.{bit, code_truth}
+use Rattle.moxi_lines.proofs.Terms.{calls_grow, term_grows, whole_made}
 use Rattle.moxi_lines.specs.Lines.{first_place, input_place, is_true_term, state_place, with_constraint, with_formula, with_init, with_inv, with_part, with_parts, with_step, with_trans}
 use Rattle.moxi_lines.specs.Constraints.{Constrains, VariablesAreThere, is_true, part_holds, parts_hold}
 use Rattle.moxi_lines.proofs.Extending.{Extends, Pushed, constraint_push, extends_long, extends_meets, extends_none, extends_then, extends_variables, extends_width, quietly}

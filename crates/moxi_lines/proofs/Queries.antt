@@ -13,9 +13,9 @@ use Rattle.moxi_terms.specs.Tree.{Tree}
 use Rattle.moxi_scripts.specs.declared.script.Query.{Query}
 use Rattle.moxi_scripts.specs.Script.{formula_at}
 use Rattle.moxi_flat.specs.FlatSystem.{PlainFlatSystem}
-use Rattle.moxi_term_lines.specs.TermLines.{AllMade, Made, chain_lines, folded_lines, with_binary}
-use Rattle.moxi_term_lines.proofs.Chains.{binary_grows, chain_grows, folded_grows}
-use Rattle.moxi_term_lines.proofs.Terms.{calls_grow, term_grows}
+use Rattle.moxi_lines.specs.TermLines.{AllMade, Made, chain_lines, folded_lines, with_binary}
+use Rattle.moxi_lines.proofs.Chains.{binary_grows, chain_grows, folded_grows}
+use Rattle.moxi_lines.proofs.Terms.{calls_grow, term_grows}
 use Rattle.moxi_lines.specs.Lines.{Reaching, first_place, formula_name, has_conditions, input_place, one_place, with_all_met, with_assumptions, with_bad, with_conditions, with_currents, with_formula, with_free, with_given, with_goal, with_latch, with_one_met, with_queries, with_query, with_reachable, with_reachables, zero_place}
 use Rattle.moxi_lines.proofs.Extending.{Extends, extends_none, extends_then, quiet_constraints, quietly}
 

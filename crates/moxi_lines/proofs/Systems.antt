@@ -15,8 +15,8 @@ use Rattle.moxi_terms.specs.declared.term.Variable.{Variable}
 use Rattle.moxi_terms.specs.Tree.{sorts_of}
 use Rattle.moxi_flat.specs.FlatSorts.{IsSortedFlat}
 use Rattle.moxi_flat.specs.FlatSystem.{PlainFlatSystem}
-use Rattle.moxi_term_lines.specs.TermLines.{place_in}
-use Rattle.moxi_term_lines.specs.Laws.{HaveCodes}
+use Rattle.moxi_lines.specs.TermLines.{place_in}
+use Rattle.moxi_lines.specs.TermLaws.{HaveCodes}
 use Rattle.moxi_lines.specs.Lines.{first_place, head_lines, input_place, lines_of, state_place, variable_lines, with_parts}
 use Rattle.moxi_lines.specs.Variables.{AreInside, IsInside}
 use Rattle.moxi_lines.specs.Decoding.{PlacesInside, decoded}

@@ -28,13 +28,13 @@ use Rattle.moxi_terms.specs.declared.term.Variable.{Variable}
 use Rattle.moxi_terms.specs.Sorted.{AreSorts}
 use Rattle.moxi_terms.specs.Sorts.{IsSort}
 use Rattle.moxi_terms.specs.Tree.{sorts_of}
-use Rattle.moxi_term_lines.specs.Codes.{choice_width, constant_count, sort_bits}
-use Rattle.moxi_term_lines.specs.TermLines.{AllMade, Made, with_binary, with_constant}
-use Rattle.moxi_term_lines.specs.Laws.{AreNumbered, HaveCodes}
-use Rattle.moxi_term_lines.proofs.CodeLaws.{choice_high, choice_holds, count_is, width_low}
-use Rattle.moxi_term_lines.proofs.Growing.{grown_long, grown_then, grown_width, wide_inside}
-use Rattle.moxi_term_lines.proofs.Steps.{WordAt, binary_step, constant_step, later_word, word_grows}
-use Rattle.moxi_term_lines.proofs.Chains.{binary_grows}
+use Rattle.moxi_lines.specs.Codes.{choice_width, constant_count, sort_bits}
+use Rattle.moxi_lines.specs.TermLines.{AllMade, Made, with_binary, with_constant}
+use Rattle.moxi_lines.specs.TermLaws.{AreNumbered, HaveCodes}
+use Rattle.moxi_lines.proofs.CodeLaws.{choice_high, choice_holds, count_is, width_low}
+use Rattle.moxi_lines.proofs.Growing.{grown_long, grown_then, grown_width, wide_inside}
+use Rattle.moxi_lines.proofs.Steps.{WordAt, binary_step, constant_step, later_word, word_grows}
+use Rattle.moxi_lines.proofs.Chains.{binary_grows}
 use Rattle.moxi_lines.specs.Lines.{with_code, with_constraint, with_free, with_given, with_variable, with_variables}
 use Rattle.moxi_lines.specs.Variables.{AreInside, AreVariablesAt, IsInside, IsVariableAt}
 use Rattle.moxi_lines.proofs.Extending.{Extends, constraint_push, extends_long, extends_meets, extends_none, extends_then, extends_width, quiet_constraints, quietly}

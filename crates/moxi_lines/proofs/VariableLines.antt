@@ -17,9 +17,9 @@ use Rattle.btor_tree.proofs.Grows.{slice_get_end, slice_get_front}
 use Rattle.btor_tree.proofs.Equations.{pushed_fit, pushed_wide}
 use Rattle.btor_tree.proofs.Paths.{fresh, operands_append, state_value_append}
 use Rattle.btor_tree.proofs.Widths.{option_cases}
-use Rattle.moxi_term_lines.specs.TermLines.{Made}
-use Rattle.moxi_term_lines.specs.Laws.{AreNumbered}
-use Rattle.moxi_term_lines.proofs.Growing.{grown_long}
+use Rattle.moxi_lines.specs.TermLines.{Made}
+use Rattle.moxi_lines.specs.TermLaws.{AreNumbered}
+use Rattle.moxi_lines.proofs.Growing.{grown_long}
 use Rattle.moxi_lines.specs.Lines.{symbol_byte, symbol_of, with_free}
 use Rattle.moxi_lines.proofs.Extending.{Extends, extends_then, quiet_constraints, quietly}
 

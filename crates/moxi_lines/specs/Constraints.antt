@@ -14,7 +14,7 @@ use Rattle.moxi_terms.specs.View.{ScopeState}
 use Rattle.moxi_scripts.specs.Script.{calls_in}
 use Rattle.moxi_flat.specs.FlatSorts.{PartIsSorted}
 use Rattle.moxi_flat.specs.FlatSystem.{PlainFlatSystem, PlainPart}
-use Rattle.moxi_term_lines.specs.Laws.{AreNumbered, HaveCodes, VariablesStand}
+use Rattle.moxi_lines.specs.TermLaws.{AreNumbered, HaveCodes, VariablesStand}
 use Rattle.moxi_lines.specs.Lines.{first_place, input_place, state_place, with_parts}
 
 -- a formula is true of the values before and now

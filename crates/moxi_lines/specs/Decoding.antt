@@ -13,8 +13,8 @@ use Rattle.moxi_terms.specs.declared.term.Variable.{Variable}
 use Rattle.moxi_terms.specs.Sorted.{AreSorts}
 use Rattle.moxi_terms.specs.Tree.{sorts_of}
 use Rattle.moxi_terms.specs.Value.{Values}
-use Rattle.moxi_term_lines.specs.Codes.{constant_count, datum_of}
-use Rattle.moxi_term_lines.specs.Laws.{AreNumbered, HaveCodes, VariablesStand}
+use Rattle.moxi_lines.specs.Codes.{constant_count, datum_of}
+use Rattle.moxi_lines.specs.TermLaws.{AreNumbered, HaveCodes, VariablesStand}
 use Rattle.moxi_lines.specs.Lines.{input_place, state_place}
 use Rattle.moxi_lines.specs.Variables.{AreVariablesAt, IsInside}
 

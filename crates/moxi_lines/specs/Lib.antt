@@ -1,3 +1,6 @@
+pub mod Codes
+pub mod TermLines
+pub mod TermLaws
 pub mod Lines
 pub mod Constraints
 pub mod Variables

@@ -17,8 +17,8 @@ use Rattle.moxi_terms.specs.View.{ScopeState}
 use Rattle.moxi_scripts.specs.declared.script.Query.{Query}
 use Rattle.moxi_scripts.specs.Script.{PlainFormula, formula_at}
 use Rattle.moxi_flat.specs.FlatSystem.{PlainFlatSystem, PlainPart}
-use Rattle.moxi_term_lines.specs.Codes.{choice_width, constant_count, sort_bits}
-use Rattle.moxi_term_lines.specs.TermLines.{AllMade, Made, call_lines, chain_lines, folded_lines, place_in, with_binary, with_constant, with_term}
+use Rattle.moxi_lines.specs.Codes.{choice_width, constant_count, sort_bits}
+use Rattle.moxi_lines.specs.TermLines.{AllMade, Made, call_lines, chain_lines, folded_lines, place_in, with_binary, with_constant, with_term}
 
 -- ---- symbols
 

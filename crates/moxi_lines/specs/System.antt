@@ -7,7 +7,7 @@ use Rattle.btor_tree.specs.Fits.{greatest_id, is_init, is_next, plain_arg, state
 use Rattle.btor_tree.specs.Frame.{ConstraintsHold, Meets, word_at}
 use Rattle.moxi_flat.specs.FlatSorts.{IsSortedFlat}
 use Rattle.moxi_flat.specs.FlatSystem.{PlainFlatSystem}
-use Rattle.moxi_term_lines.specs.Laws.{HaveCodes}
+use Rattle.moxi_lines.specs.TermLaws.{HaveCodes}
 use Rattle.moxi_lines.specs.Lines.{first_place, input_place, lines_of, one_place, state_place, variable_lines, with_parts, zero_place}
 use Rattle.moxi_lines.specs.Variables.{AreInside, AreVariablesAt}
 use Rattle.moxi_lines.specs.Decoding.{PlacesInside, decoded}

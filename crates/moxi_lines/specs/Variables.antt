@@ -10,8 +10,8 @@ use Rattle.moxi_terms.specs.declared.term.Enumeration.{Enumeration}
 use Rattle.moxi_terms.specs.declared.term.Variable.{Variable}
 use Rattle.moxi_terms.specs.Sorted.{AreSorts}
 use Rattle.moxi_terms.specs.Tree.{sorts_of}
-use Rattle.moxi_term_lines.specs.Codes.{constant_count, sort_bits}
-use Rattle.moxi_term_lines.specs.Laws.{AreNumbered, HaveCodes}
+use Rattle.moxi_lines.specs.Codes.{constant_count, sort_bits}
+use Rattle.moxi_lines.specs.TermLaws.{AreNumbered, HaveCodes}
 use Rattle.moxi_lines.specs.Lines.{head_lines, with_variables}
 
 -- an input, and behind it a state of its width whose next value it is

@@ -1,9 +1,15 @@
-//! The BTOR2 lines of a flat MoXI system, and when the constraints among them hold.
+//! The BTOR2 lines of MoXI terms and of flat systems: codes of values as words, the lines of each operator, and the laws that a
+//! term's line has the word of its value and when the constraints hold.
 #![tactic(auto)]
 
-mod laws;
+mod system_laws;
+mod term_laws;
 
-pub use laws::{
+pub use system_laws::{
     parts_are_constrained, systems_are_constrained, systems_are_framed, variables_have_lines,
     words_are_decoded,
+};
+pub use term_laws::{
+    choice_widths_are_least, codes_are_words, codes_come_back, terms_grow_quietly,
+    terms_have_their_words, words_come_back,
 };

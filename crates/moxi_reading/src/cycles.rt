@@ -14,7 +14,7 @@ use moxi_attributes::fail_if;
 use moxi_declarations::{Draft, ReadSystem, read_commands};
 use moxi_scripts::Use;
 use moxi_sexpr::Form;
-use name_set::NameSet;
+use name_maps::NameSet;
 use std::alloc::Global;
 use text_core::kinds::moxi;
 use text_core::{List, NoMemory, Place, Refusal};

@@ -14,7 +14,7 @@ use moxi_attributes::{fail, fail_if, test_clash};
 use moxi_declarations::{Draft, ReadCheck, ReadSystem};
 use moxi_scripts::{Actual, DeclaredList, Entries, ListPlaces, Lists, Use};
 use moxi_terms::{Scope, Sort};
-use name_set::NameSet;
+use name_maps::NameSet;
 use text_core::kinds::moxi;
 use text_core::{List, Place, Refusal};
 
@@ -52,7 +52,7 @@ fn lists_at<'a>(systems: &'a [ReadSystem], j: usize) -> Option<&'a Lists>
 }
 
 // The sort of an input or an output.
-#[tactic(auto, using(moxi_scripts::proofs::ListLaws::get_left, moxi_scripts::proofs::ListLaws::get_right, moxi_scripts::proofs::ListLaws::get_at))]
+#[tactic(auto, using(moxi_scripts::specs::laws::ListLaws::get_left, moxi_scripts::specs::laws::ListLaws::get_right, moxi_scripts::specs::laws::ListLaws::get_at))]
 fn sort_at(l: &Lists, i: usize) -> Option<Sort>
     ensures { result ≡ sort_at l.now i }
 {

@@ -10,7 +10,7 @@ use Rattle.moxi_scripts.specs.Invariant.{IsSpelled}
 use Rattle.moxi_scripts.specs.Script.{PlainScript, plain_system, system_at}
 use Rattle.moxi_scripts.specs.ScriptView.{plain_script}
 use Rattle.moxi_scripts.specs.Spelling.{SpellsScript}
-use Rattle.moxi_systems.specs.Whole.{IsWhole}
+use Rattle.moxi_scripts.specs.Whole.{IsWhole}
 use Rattle.moxi_scripts.proofs.Forms.{items_step}
 use Rattle.moxi_instantiate.proofs.Measured.{lt_held}
 

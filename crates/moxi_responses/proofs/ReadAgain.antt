@@ -8,7 +8,7 @@ use Rattle.std.proofs.lemmas.List.{length-append}
 use Rattle.std.proofs.lemmas.Option.{none-some, same_Some}
 use Rattle.text_core.specs.declared.place.Kind.TheVariants.{M}
 use Rattle.text_core.specs.declared.place.Refusal.{Refusal}
-use Rattle.name_set.specs.Names.{are_fresh, place_of}
+use Rattle.name_maps.specs.Names.{are_fresh, place_of}
 use Rattle.moxi_terms.specs.declared.data.Sort.TheVariants.{Choice}
 use Rattle.moxi_terms.specs.declared.data.Datum.{Datum}
 use Rattle.moxi_terms.specs.declared.data.Datum.TheVariants.{Constant}
@@ -18,15 +18,15 @@ use Rattle.moxi_terms.specs.Names.{all_constants, constant_numbers, function_nam
 use Rattle.moxi_terms.specs.Sorts.{IsConstant, same_sort}
 use Rattle.moxi_terms.specs.View.{ScopeState}
 use Rattle.moxi_terms.specs.Words.{is_operator}
-use Rattle.moxi_print.specs.StandingNames.{AreSpellable, IsSpellable}
-use Rattle.moxi_print.specs.Terms.{variable_names}
-use Rattle.moxi_print.specs.laws.StandingPlaces.{fresh_place}
+use Rattle.moxi_term_print.specs.StandingNames.{AreSpellable, IsSpellable}
+use Rattle.moxi_term_print.specs.Terms.{variable_names}
+use Rattle.moxi_term_print.specs.laws.StandingPlaces.{fresh_place}
 use Rattle.moxi_scripts.specs.declared.script.Query.{Query}
 use Rattle.moxi_scripts.specs.Script.{PlainScript}
-use Rattle.moxi_shown_scripts.specs.NamesOfScripts.{HasSpellableNames}
-use Rattle.moxi_systems.specs.Whole.{AreNames, IsWhole, check_variables, is_fixed_term, query_names}
-use Rattle.moxi_systems.specs.laws.WholeNames.{fresh_split, or_parts}
-use Rattle.moxi_systems.specs.laws.WholeParts.{all_append, all_at, all_map, all_parts, get_below, get_map, get_there, index_get, not_false}
+use Rattle.moxi_script_print.specs.NamesOfScripts.{HasSpellableNames}
+use Rattle.moxi_scripts.specs.Whole.{AreNames, IsWhole, check_variables, is_fixed_term, query_names}
+use Rattle.moxi_scripts.specs.laws.WholeNames.{fresh_split, or_parts}
+use Rattle.moxi_scripts.specs.laws.WholeParts.{all_append, all_at, all_map, all_parts, get_below, get_map, get_there, index_get, not_false}
 use Rattle.moxi_flat.specs.FlatSystem.{flat_of, locals_upto}
 use Rattle.moxi_flat.specs.Limits.{flat_refusal, has_name_twice, is_too_large}
 use Rattle.moxi_trace.specs.ReadBack.{CanBeReadBack, CanBeSpelled}

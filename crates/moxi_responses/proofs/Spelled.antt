@@ -8,12 +8,12 @@ use Rattle.moxi_sexpr.specs.Atoms.{is_simple, may_stand, starts_simple}
 use Rattle.moxi_sexpr.specs.Bytes.{is_symbol_byte, is_barred_byte}
 use Rattle.moxi_sexpr.specs.Printing.{is_among, reserved_words}
 use Rattle.moxi_terms.specs.declared.term.Variable.{Variable}
-use Rattle.moxi_print.specs.StandingNames.{IsSpellable}
+use Rattle.moxi_term_print.specs.StandingNames.{IsSpellable}
 use Rattle.moxi_scripts.specs.declared.script.Subsystem.{Subsystem}
 use Rattle.moxi_scripts.specs.Script.{PlainSystem, system_at}
-use Rattle.moxi_shown_scripts.specs.NamesOfScripts.{IsSpellableSystem, VariablesAreSpellable}
-use Rattle.moxi_systems.specs.laws.WholeNames.{and_both}
-use Rattle.moxi_systems.specs.laws.WholeParts.{all_append, all_of}
+use Rattle.moxi_script_print.specs.NamesOfScripts.{IsSpellableSystem, VariablesAreSpellable}
+use Rattle.moxi_scripts.specs.laws.WholeNames.{and_both}
+use Rattle.moxi_scripts.specs.laws.WholeParts.{all_append, all_of}
 use Rattle.moxi_flat.specs.FlatSystem.{locals_each, locals_upto, named_inside, path_inside}
 use Rattle.moxi_trace.specs.ReadBack.{CanBeSpelled}
 

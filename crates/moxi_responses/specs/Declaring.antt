@@ -1,6 +1,6 @@
 -- What the responses of a script's check are printed and read against: its flat system's variables, hidden ones too.
 use Rattle.moxi_scripts.specs.Script.{PlainScript, system_at}
-use Rattle.moxi_systems.specs.Whole.{query_names}
+use Rattle.moxi_scripts.specs.Whole.{query_names}
 use Rattle.moxi_flat.specs.FlatSystem.{flat_of}
 use Rattle.moxi_trace.specs.Traces.{Declared}
 

@@ -2,10 +2,9 @@
 ghost use Rattle.std.specs.Prelude.{◌≡◌, IfOk, map};
 ghost use Rattle.moxi_scripts.specs.Script.{system_at};
 ghost use Rattle.moxi_scripts.specs.ScriptView.{plain_script};
-ghost use Rattle.moxi_systems.specs.Whole.{query_names};
+ghost use Rattle.moxi_scripts.specs.Whole.{query_names};
 
-use moxi_scripts::{Queries, Script};
-use moxi_systems::spelled_scripts_are_whole;
+use moxi_scripts::{Queries, Script, spelled_scripts_are_whole};
 use std::alloc::Global;
 use text_core::{Name, Names, NoMemory};
 

@@ -6,8 +6,8 @@ ghost use Rattle.moxi_flat.specs.Limits.{flat_refusal};
 ghost use Rattle.moxi_trace.specs.ReadBack.{CanBeReadBack};
 ghost use Rattle.moxi_responses.specs.Declaring.{declared_of};
 
-use moxi_shown_scripts::printable_forms_give_spellable_names;
-use moxi_systems::spelled_scripts_are_whole;
+use moxi_script_print::printable_forms_give_spellable_names;
+use moxi_scripts::spelled_scripts_are_whole;
 
 /// What the check of a script declares can be printed and read back, where printable forms spell the script and it isn't refused.
 pub fn responses_are_read_back()

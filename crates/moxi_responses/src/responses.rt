@@ -11,8 +11,7 @@ ghost use Rattle.moxi_responses.specs.Declaring.{declared_of};
 
 use crate::declared::{checked_name, names_of};
 use moxi_instantiate::FlatSystem;
-use moxi_scripts::Script;
-use moxi_systems::MoxiTrace;
+use moxi_scripts::{MoxiTrace, Script};
 use moxi_trace::{Answered, Declarations, ResponseEnd};
 use std::alloc::Global;
 use text_core::{NoMemory, Text};

@@ -5,7 +5,7 @@ use Rattle.std.proofs.lemmas.Bool.Decides.{nat_tests}
 use Rattle.std.proofs.lemmas.List.{length-append}
 use Rattle.digraph.specs.Graph.{NodeLists, NeverReturns, is_graph, leads}
 use Rattle.digraph.specs.Visiting.{Returning}
-use Rattle.name_set.specs.Names.{place_of}
+use Rattle.name_maps.specs.Names.{place_of}
 use Rattle.moxi_scripts.specs.declared.parts.Use.{Use}
 use Rattle.moxi_scripts.specs.Collecting.{fails_if}
 use Rattle.moxi_scripts.specs.Cycles.{all_cycles, all_use_rows, count_uses, ends_at, nodes_from, system_rows, use_cycles, use_graph, use_rows}

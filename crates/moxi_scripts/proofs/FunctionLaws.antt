@@ -8,10 +8,10 @@ use Rattle.moxi_sexpr.specs.Tree as form
 use Rattle.moxi_terms.specs.declared.data.Sort.{Sort}
 use Rattle.moxi_terms.specs.declared.data.Sort.TheVariants.{Truth, Bits, Choice}
 use Rattle.moxi_terms.specs.declared.data.Primes.TheVariants.{Refused}
-use Rattle.moxi_sorts.specs.Failures.{least, minimum}
-use Rattle.moxi_sorts.specs.Forms.{place_in}
+use Rattle.moxi_term_reading.specs.Failures.{least, minimum}
+use Rattle.moxi_term_reading.specs.Forms.{place_in}
 use Rattle.moxi_term_reading.specs.Reading.{Context, read, prime_failures}
-use Rattle.moxi_sorts.specs.SortReading.{sort_reading}
+use Rattle.moxi_term_reading.specs.SortReading.{sort_reading}
 use Rattle.moxi_terms.specs.Sorts.{IsSort, same_sort}
 use Rattle.moxi_terms.specs.Sorted.{AreSorts, HasSort, IsFunction}
 use Rattle.moxi_terms.specs.Tree.{sorts_of}

@@ -20,15 +20,15 @@ use Rattle.moxi_terms.specs.declared.data.Primes.{Primes}
 use Rattle.moxi_terms.specs.declared.data.Primes.TheVariants.{Allowed, Refused}
 use Rattle.moxi_terms.specs.declared.names.Head.{Head}
 use Rattle.moxi_terms.specs.declared.names.Head.TheVariants as heads
-use Rattle.moxi_sorts.specs.declared.locals.Local.{Local}
+use Rattle.moxi_term_reading.specs.declared.locals.Local.{Local}
 use Rattle.moxi_terms.specs.declared.names.Meaning.{Meaning}
 use Rattle.moxi_terms.specs.declared.names.Meaning.TheVariants as meaning
-use Rattle.moxi_sorts.specs.Forms.{place_in, symbol_atom, symbol_of, numeral_of, pair_of, is_word, is_primed}
+use Rattle.moxi_term_reading.specs.Forms.{place_in, symbol_atom, symbol_of, numeral_of, pair_of, is_word, is_primed}
 use Rattle.moxi_terms.specs.Names.{sort_named}
 use Rattle.moxi_terms.specs.Operators.{is_comparison}
 use Rattle.moxi_term_reading.specs.Reading.{Arguments, Bindings, Context, Reading, application, application_tests, argument_tests, atom_head, atom_reading, binding_of, bindings_tests, extended_head, extracted_head, head_of, head_primes, indexed_head, known_head, let_reading, listed_head, literal_digits, literal_named, literal_reading, meaning_of, named_reading, paired_head, prime_failures, read, read_all, read_binding, read_bindings, read_let, sort_failures, sorts_tested, symbol_head, symbol_primes, symbol_underscored, underscore_reading, variable_primes, word_reading}
-use Rattle.moxi_sorts.specs.SortReading.{atom_sort, index_of, indexed_sort, is_width, listed_sort, only_numeral, sort_reading, symbol_indexed, symbol_sort, unknown, unknown_indexed, vector_sort, width_sort}
-use Rattle.moxi_sorts.specs.Typing.{call_sort, head_sort, head_count_fits}
+use Rattle.moxi_term_reading.specs.SortReading.{atom_sort, index_of, indexed_sort, is_width, listed_sort, only_numeral, sort_reading, symbol_indexed, symbol_sort, unknown, unknown_indexed, vector_sort, width_sort}
+use Rattle.moxi_term_reading.specs.Typing.{call_sort, head_sort, head_count_fits}
 use Rattle.moxi_terms.specs.Meanings.{head_named}
 use Rattle.moxi_terms.specs.Sorts.{calculated, chosen, common, compared, count_fits, fitting, is_arithmetic, is_negation, logical, same_sorts, widened}
 use Rattle.moxi_terms.specs.Tree.{PlainFunction, sorts_of}

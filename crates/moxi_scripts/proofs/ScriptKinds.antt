@@ -9,13 +9,13 @@ use Rattle.moxi_terms.specs.declared.data.Primes.{Primes}
 use Rattle.moxi_terms.specs.declared.data.Primes.TheVariants.{Allowed, Refused}
 use Rattle.moxi_terms.specs.declared.data.Sort.{Sort}
 use Rattle.moxi_terms.specs.declared.data.Sort.TheVariants.{Truth}
-use Rattle.moxi_sorts.specs.declared.locals.Local.{Local}
-use Rattle.moxi_sorts.specs.Forms.{only_of, pair_of, place_in, symbol_of}
+use Rattle.moxi_term_reading.specs.declared.locals.Local.{Local}
+use Rattle.moxi_term_reading.specs.Forms.{only_of, pair_of, place_in, symbol_of}
 use Rattle.moxi_terms.specs.Names.{is_sort_name}
-use Rattle.name_set.specs.Names.{place_of}
-use Rattle.moxi_sorts.specs.Finding.{first_of}
+use Rattle.name_maps.specs.Names.{place_of}
+use Rattle.moxi_term_reading.specs.Finding.{first_of}
 use Rattle.moxi_term_reading.specs.Reading.{prime_failures}
-use Rattle.moxi_sorts.specs.SortReading.{sort_reading}
+use Rattle.moxi_term_reading.specs.SortReading.{sort_reading}
 use Rattle.moxi_terms.specs.Sorts.{same_sort}
 use Rattle.moxi_terms.specs.View.{ScopeState}
 use Rattle.moxi_scripts.specs.declared.parts.Command.{Command}

@@ -6,7 +6,7 @@ use Rattle.text_core.specs.declared.place.Place.{Place}
 use Rattle.moxi_sexpr.specs.declared.form.Atom.{Atom}
 use Rattle.moxi_sexpr.specs.declared.form.Atom.TheVariants.{Symbol, Keyword, Numeral, Binary, Hex, Quote}
 use Rattle.moxi_sexpr.specs.Tree.{Tree, atom, list, Trees, no_trees, tree}
-use Rattle.moxi_sorts.specs.Forms.{place_in}
+use Rattle.moxi_term_reading.specs.Forms.{place_in}
 use Rattle.moxi_terms.specs.Names.{or_else}
 use Rattle.moxi_scripts.specs.declared.parts.Key.{Key}
 use Rattle.moxi_scripts.specs.declared.parts.Key.TheVariants.{Input, Output, Local, Init, Trans, Inv, Subsystem, Assumption, Current, Reachable, Query, Queries}

@@ -4,7 +4,7 @@ use Rattle.text_core.specs.declared.place.Place.{Place}
 use Rattle.text_core.specs.declared.place.Kind.{Kind}
 use Rattle.text_core.specs.declared.place.Kind.TheVariants.{M}
 use Rattle.text_core.specs.declared.place.Refusal.{Refusal}
-use Rattle.moxi_sorts.specs.Failures.{least, minimum}
+use Rattle.moxi_term_reading.specs.Failures.{least, minimum}
 
 -- what was found, and what these tests find
 unfoldable pub also : Option Refusal → List Refusal → Option Refusal

@@ -6,11 +6,11 @@ use Rattle.moxi_sexpr.specs.Lexing.{refusal}
 use Rattle.moxi_sexpr.specs.Tree.{Tree, atom, list, Trees, no_trees, tree}
 use Rattle.moxi_terms.specs.declared.data.Sort.{Sort}
 use Rattle.moxi_terms.specs.declared.data.Primes.TheVariants.{Refused}
-use Rattle.moxi_sorts.specs.Forms.{place_in, symbol_of, pair_of}
+use Rattle.moxi_term_reading.specs.Forms.{place_in, symbol_of, pair_of}
 use Rattle.moxi_terms.specs.Names.{is_sort_name, is_term_name, may_be_enumeration, with_enumeration, with_function, with_sort}
-use Rattle.name_set.specs.Names.{place_of}
+use Rattle.name_maps.specs.Names.{place_of}
 use Rattle.moxi_term_reading.specs.Reading.{Reading, prime_failures, read}
-use Rattle.moxi_sorts.specs.SortReading.{sort_reading}
+use Rattle.moxi_term_reading.specs.SortReading.{sort_reading}
 use Rattle.moxi_terms.specs.Sorts.{same_sort}
 use Rattle.moxi_terms.specs.Tree.{PlainFunction, Tree as TermTree}
 use Rattle.moxi_terms.specs.View.{ScopeState}

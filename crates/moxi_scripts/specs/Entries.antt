@@ -4,13 +4,13 @@ use Rattle.text_core.specs.declared.place.Place.{Place}
 use Rattle.text_core.specs.declared.place.Refusal.{Refusal}
 use Rattle.moxi_sexpr.specs.Tree.{Tree, Trees, no_trees, tree}
 use Rattle.moxi_terms.specs.declared.data.Sort.{Sort}
-use Rattle.moxi_sorts.specs.declared.locals.Local.{Local}
+use Rattle.moxi_term_reading.specs.declared.locals.Local.{Local}
 use Rattle.moxi_terms.specs.declared.term.Variable.{Variable}
-use Rattle.moxi_sorts.specs.Forms.{place_in}
-use Rattle.moxi_sorts.specs.Finding.{Found, first_of}
-use Rattle.name_set.specs.Names.{place_of}
+use Rattle.moxi_term_reading.specs.Forms.{place_in}
+use Rattle.moxi_term_reading.specs.Finding.{Found, first_of}
+use Rattle.name_maps.specs.Names.{place_of}
 use Rattle.moxi_term_reading.specs.Reading.{prime_failures}
-use Rattle.moxi_sorts.specs.SortReading.{sort_reading}
+use Rattle.moxi_term_reading.specs.SortReading.{sort_reading}
 use Rattle.moxi_terms.specs.View.{ScopeState}
 use Rattle.moxi_scripts.specs.declared.parts.Declared.{Declared}
 use Rattle.moxi_scripts.specs.Collecting.{fails_if}

@@ -5,8 +5,8 @@ use Rattle.moxi_sexpr.specs.Tree as form
 use Rattle.moxi_terms.specs.declared.data.Datum.TheVariants as datum
 use Rattle.moxi_terms.specs.declared.data.Primes.{Primes}
 use Rattle.moxi_terms.specs.declared.data.Sort.TheVariants.{Truth}
-use Rattle.moxi_sorts.specs.declared.locals.Local.{Local}
-use Rattle.moxi_sorts.specs.Forms.{place_in}
+use Rattle.moxi_term_reading.specs.declared.locals.Local.{Local}
+use Rattle.moxi_term_reading.specs.Forms.{place_in}
 use Rattle.moxi_term_reading.specs.Reading.{Reading, read}
 use Rattle.moxi_terms.specs.Tree.{Tree, constant}
 use Rattle.moxi_terms.specs.View.{ScopeState}

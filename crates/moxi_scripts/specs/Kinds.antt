@@ -4,7 +4,7 @@ use Rattle.std.specs.List.{AllByRecursion}
 use Rattle.text_core.specs.declared.place.Kind.{Kind}
 use Rattle.text_core.specs.declared.place.Kind.TheVariants.{S, M, B, X, Y}
 use Rattle.text_core.specs.declared.place.Refusal.{Refusal}
-use Rattle.moxi_sorts.specs.Failures.{IsIn, number_of}
+use Rattle.moxi_term_reading.specs.Failures.{IsIn, number_of}
 
 -- M4 to M14, the kinds of the tests of scripts
 abbrev pub is_script_kind : Kind → Bool

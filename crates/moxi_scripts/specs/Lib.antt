@@ -18,3 +18,8 @@ pub mod Spelling
 pub mod Kinds
 pub mod Invariant
 pub mod ScriptView
+pub mod Behaviour
+pub mod Meeting
+pub mod Whole
+pub mod Asking
+pub mod laws

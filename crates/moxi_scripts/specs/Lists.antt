@@ -3,10 +3,10 @@ use Rattle.std.specs.Prelude.{ℕ, Bool, true, ◌&&◌, is_none, if◌then◌el
 use Rattle.text_core.specs.declared.place.Place.{Place}
 use Rattle.text_core.specs.declared.place.Refusal.{Refusal}
 use Rattle.moxi_sexpr.specs.Tree.{Tree, atom, list, Trees, no_trees, tree}
-use Rattle.moxi_sorts.specs.Forms.{place_in, symbol_atom}
+use Rattle.moxi_term_reading.specs.Forms.{place_in, symbol_atom}
 use Rattle.moxi_terms.specs.Meanings.{bare_call, call_of, value_named}
 use Rattle.moxi_terms.specs.Names.{function_names, or_else}
-use Rattle.name_set.specs.Names.{place_of}
+use Rattle.name_maps.specs.Names.{place_of}
 use Rattle.moxi_terms.specs.View.{ScopeState}
 use Rattle.moxi_scripts.specs.declared.parts.Command.{Command}
 use Rattle.moxi_scripts.specs.declared.parts.Key.{Key}

@@ -5,8 +5,8 @@ use Rattle.text_core.specs.declared.place.Place.{Place}
 use Rattle.text_core.specs.declared.place.Refusal.{Refusal}
 use Rattle.moxi_sexpr.specs.Lexing.{refusal}
 use Rattle.moxi_sexpr.specs.Tree.{Tree, Trees, no_trees, tree}
-use Rattle.moxi_sorts.specs.Forms.{place_in, symbol_of}
-use Rattle.name_set.specs.Names.{place_of}
+use Rattle.moxi_term_reading.specs.Forms.{place_in, symbol_of}
+use Rattle.name_maps.specs.Names.{place_of}
 use Rattle.moxi_term_reading.specs.Reading.{prime_failures}
 use Rattle.moxi_scripts.specs.declared.parts.Command.TheVariants.{Check}
 use Rattle.moxi_scripts.specs.declared.parts.Key.TheVariants as keys

@@ -4,7 +4,7 @@ use Rattle.text_core.specs.declared.place.Place.{Place}
 use Rattle.text_core.specs.declared.place.Refusal.{Refusal}
 use Rattle.moxi_sexpr.specs.Lexing.{refusal}
 use Rattle.moxi_sexpr.specs.Tree.{Tree, atom, list, Trees, no_trees, tree}
-use Rattle.moxi_sorts.specs.Forms.{place_in, symbol_of, only_of, pair_of}
+use Rattle.moxi_term_reading.specs.Forms.{place_in, symbol_of, only_of, pair_of}
 
 -- a symbol, and what stands behind it
 pub record HeadedForms : Type 0 where

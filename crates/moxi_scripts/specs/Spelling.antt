@@ -4,7 +4,7 @@ use Rattle.std.specs.Prelude.{◌≡◌, ℕ, Option, None, Some, List, [], ◌+
 use Rattle.text_core.specs.declared.place.Place.{Place}
 use Rattle.text_core.specs.declared.place.Refusal.{Refusal}
 use Rattle.moxi_sexpr.specs.Tree.{Trees}
-use Rattle.name_set.specs.Names.{place_of}
+use Rattle.name_maps.specs.Names.{place_of}
 use Rattle.moxi_scripts.specs.declared.script.Subsystem.{Subsystem}
 use Rattle.moxi_scripts.specs.declared.parts.Actual.{Actual}
 use Rattle.moxi_scripts.specs.declared.parts.Use.{Use}

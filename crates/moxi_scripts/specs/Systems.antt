@@ -5,8 +5,8 @@ use Rattle.text_core.specs.declared.place.Refusal.{Refusal}
 use Rattle.moxi_sexpr.specs.Lexing.{refusal}
 use Rattle.moxi_sexpr.specs.Tree.{Trees}
 use Rattle.moxi_terms.specs.declared.data.Primes.TheVariants.{Allowed, Refused}
-use Rattle.moxi_sorts.specs.declared.locals.Local.{Local}
-use Rattle.name_set.specs.Names.{place_of}
+use Rattle.moxi_term_reading.specs.declared.locals.Local.{Local}
+use Rattle.name_maps.specs.Names.{place_of}
 use Rattle.moxi_term_reading.specs.Reading.{prime_failures}
 use Rattle.moxi_terms.specs.Tree.{Tree}
 use Rattle.moxi_terms.specs.View.{ScopeState}

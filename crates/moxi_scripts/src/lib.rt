@@ -1,10 +1,18 @@
-//! Scripts of MoXI as values, which forms spell one, and the laws of failing tests.
+//! MoXI scripts as values: which forms spell one, which tests fail, what a script means (traces, queries, verdicts), and which scripts are
+//! well formed.
 #![tactic(auto)]
 
+mod asking;
 mod laws;
 mod parts;
 mod script;
+mod trace;
+mod whole_laws;
 
+pub use asking::{
+    queries_are_met_where_nothing_fails, queries_can_be_asked, query_failing,
+    steps_are_tested_by_system_and_query,
+};
 pub use laws::{failures_have_kinds, least_is_least, one_script};
 pub use parts::{
     Actual, Command, CommandName, Declared, DeclaredList, Entries, Key, ListPlaces, Lists,
@@ -13,3 +21,5 @@ pub use parts::{
 pub use script::{
     Check, Formula, Formulas, Queries, Query, Script, Subsystem, Subsystems, System, Systems,
 };
+pub use trace::MoxiTrace;
+pub use whole_laws::{spelled_scripts_are_whole, whole_systems_have_ranks};

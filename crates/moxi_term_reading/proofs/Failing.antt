@@ -20,9 +20,9 @@ use Rattle.moxi_terms.specs.declared.names.Meaning.{Meaning}
 use Rattle.moxi_terms.specs.declared.names.Meaning.TheVariants as meaning
 use Rattle.moxi_terms.specs.declared.names.Head.{Head}
 use Rattle.moxi_terms.specs.Tree.{Tree, constant, variable, bound, call, no_trees, PlainFunction}
-use Rattle.moxi_sorts.specs.declared.locals.Local.{Local}
-use Rattle.moxi_sorts.specs.Forms.{place_in, symbol_of, is_word, is_primed}
-use Rattle.moxi_sorts.specs.SortReading.{index_of, only_numeral}
+use Rattle.moxi_term_reading.specs.declared.locals.Local.{Local}
+use Rattle.moxi_term_reading.specs.Forms.{place_in, symbol_of, is_word, is_primed}
+use Rattle.moxi_term_reading.specs.SortReading.{index_of, only_numeral}
 use Rattle.moxi_term_reading.specs.Reading as reading
 use Rattle.moxi_term_reading.specs.Reading.{Arguments, Bindings, Context, Reading}
 

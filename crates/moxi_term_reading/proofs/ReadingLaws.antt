@@ -10,17 +10,17 @@ use Rattle.moxi_sexpr.specs.declared.form.FormShape.{List as Listed, the_lemmas}
 use Rattle.moxi_sexpr.specs.Lexing.{refusal}
 use Rattle.moxi_sexpr.specs.Tree as form
 use Rattle.moxi_terms.specs.declared.data.Sort.{Sort}
-use Rattle.moxi_sorts.specs.declared.locals.Local.{Local}
+use Rattle.moxi_term_reading.specs.declared.locals.Local.{Local}
 use Rattle.moxi_terms.specs.declared.term.Term.{Term}
 use Rattle.moxi_terms.specs.View.{plain}
-use Rattle.moxi_sorts.specs.Failures.{minimum, least}
+use Rattle.moxi_term_reading.specs.Failures.{minimum, least}
 use Rattle.moxi_term_reading.specs.Reading.{Arguments, joined, no_arguments, both_arguments, names_of, unless_failed, bindings_tests}
 use Rattle.std.proofs.lemmas.Option.{same_Some, none-some}
-use Rattle.moxi_sorts.specs.Finding.{last_of}
-use Rattle.moxi_sorts.specs.Forms.{pair_of}
+use Rattle.moxi_term_reading.specs.Finding.{last_of}
+use Rattle.moxi_term_reading.specs.Forms.{pair_of}
 use Rattle.moxi_terms.specs.declared.term.Variable.{Variable}
 use Rattle.moxi_term_reading.specs.Answer.{unless_some, locals_of, kept, sorts_in}
-use Rattle.moxi_sorts.specs.laws.Least.{least_append}
+use Rattle.moxi_term_reading.specs.laws.Least.{least_append}
 
 -- tests one after another
 pub tests_both : (f g : Option Refusal) (xs ys : List Refusal) → f ≡ least xs → g ≡ least ys → minimum f g ≡ least (xs ++ ys)

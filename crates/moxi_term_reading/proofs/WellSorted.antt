@@ -21,24 +21,24 @@ use Rattle.moxi_terms.specs.declared.names.Meaning.{Meaning}
 use Rattle.moxi_terms.specs.declared.names.Meaning.TheVariants as meaning
 use Rattle.moxi_terms.specs.declared.names.Head.{Head}
 use Rattle.moxi_terms.specs.declared.names.Head.TheVariants as heads
-use Rattle.moxi_sorts.specs.declared.locals.Local.{Local}
+use Rattle.moxi_term_reading.specs.declared.locals.Local.{Local}
 use Rattle.moxi_terms.specs.Tree.{Tree, constant, variable, bound, call, no_trees, trees_of, PlainFunction, sorts_of}
 use Rattle.moxi_terms.specs.Names.{or_else, function_names, constant_named, constant_numbers, all_constants}
-use Rattle.name_set.specs.Names.{place_of}
-use Rattle.moxi_sorts.specs.Forms.{place_in, symbol_of, is_word, is_primed}
+use Rattle.name_maps.specs.Names.{place_of}
+use Rattle.moxi_term_reading.specs.Forms.{place_in, symbol_of, is_word, is_primed}
 use Rattle.moxi_terms.specs.Sorts.{IsOf}
 use Rattle.moxi_terms.specs.Sorted.{HasSort, HaveSorts, IsUnprimed, AreUnprimed}
 use Rattle.moxi_term_reading.specs.Reading as reading
 use Rattle.moxi_terms.specs.Meanings as meanings
-use Rattle.moxi_sorts.specs.Finding as finding
-use Rattle.moxi_sorts.specs.Typing as typing
-use Rattle.moxi_sorts.specs.SortReading as sort_reading
+use Rattle.moxi_term_reading.specs.Finding as finding
+use Rattle.moxi_term_reading.specs.Typing as typing
+use Rattle.moxi_term_reading.specs.SortReading as sort_reading
 use Rattle.moxi_term_reading.specs.Reading.{Context, Reading, Arguments, Bindings}
-use Rattle.moxi_sorts.specs.Finding.{Found}
+use Rattle.moxi_term_reading.specs.Finding.{Found}
 use Rattle.moxi_term_reading.specs.declared.outcome.ReadTerm.{ReadTerm}
 use Rattle.moxi_term_reading.specs.Answer.{IsRead}
 use Rattle.moxi_term_reading.specs.WellSorted.{HaveKnownSorts, IsTerm, IsWellSorted, IsSortedTerm}
-use Rattle.moxi_sorts.specs.laws.Least.{least_none}
+use Rattle.moxi_term_reading.specs.laws.Least.{least_none}
 use Rattle.moxi_term_reading.specs.laws.SortedParts.{some_fails, none_in, stays, FoundIn, first_found, last_found, known_append, all_have_sorts, names_long, constant_is, read_is_word, tests_hold, call_fits}
 
 module _ (c : Context) (vars : List Sort) (of_vars : HaveKnownSorts c.variables vars) where

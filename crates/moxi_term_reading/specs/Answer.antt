@@ -6,14 +6,14 @@ use Rattle.text_core.specs.declared.place.Refusal.{Refusal}
 use Rattle.moxi_terms.specs.declared.data.Sort.{Sort}
 use Rattle.moxi_terms.specs.declared.term.Term.{Term}
 use Rattle.moxi_terms.specs.declared.term.Variable.{Variable}
-use Rattle.moxi_sorts.specs.declared.locals.Local.{Local}
+use Rattle.moxi_term_reading.specs.declared.locals.Local.{Local}
 use Rattle.moxi_term_reading.specs.declared.outcome.ReadTerm.{ReadTerm}
 use Rattle.moxi_term_reading.specs.declared.outcome.Setting.{Setting}
 use Rattle.moxi_term_reading.specs.declared.applications.ReadArguments.{ReadArguments}
 use Rattle.moxi_term_reading.specs.declared.lets.ReadBindings.{ReadBindings}
 use Rattle.moxi_terms.specs.Tree.{variable}
 use Rattle.moxi_terms.specs.View.{plain}
-use Rattle.moxi_sorts.specs.Failures.{least, IsLeast}
+use Rattle.moxi_term_reading.specs.Failures.{least, IsLeast}
 use Rattle.moxi_term_reading.specs.Reading.{Reading, Arguments, Bindings, Context, argument, both_arguments, names_of}
 
 -- the term, its sort, and of the failing tests the least one

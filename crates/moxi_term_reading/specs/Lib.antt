@@ -1,4 +1,9 @@
+pub mod Failures
+pub mod Forms
+pub mod Finding
+pub mod SortReading
+pub mod Typing
+pub mod laws
 pub mod Reading
 pub mod Answer
 pub mod WellSorted
-pub mod laws

@@ -24,18 +24,18 @@ use Rattle.moxi_terms.specs.declared.names.Meaning.{Meaning}
 use Rattle.moxi_terms.specs.declared.names.Meaning.TheVariants as meaning
 use Rattle.moxi_terms.specs.declared.names.Head.{Head}
 use Rattle.moxi_terms.specs.declared.names.Head.TheVariants as heads
-use Rattle.moxi_sorts.specs.declared.locals.Local.{Local}
+use Rattle.moxi_term_reading.specs.declared.locals.Local.{Local}
 use Rattle.moxi_terms.specs.Tree.{Tree, constant, variable, bound, apply, binding, call, Trees, no_trees, trees_of, PlainFunction}
 use Rattle.moxi_terms.specs.View.{ScopeState}
 use Rattle.moxi_terms.specs.Words.{is_one_of, left_out_operators, indexed_operators}
 use Rattle.moxi_terms.specs.Names.{or_else, function_names}
-use Rattle.name_set.specs.Names.{place_of}
+use Rattle.name_maps.specs.Names.{place_of}
 use Rattle.moxi_terms.specs.Operators.{nothing}
-use Rattle.moxi_sorts.specs.Forms.{place_in, symbol_atom, symbol_of, numeral_of, pair_of, is_word, is_primed}
-use Rattle.moxi_sorts.specs.SortReading.{index_of, unknown, only_numeral}
-use Rattle.moxi_sorts.specs.Finding.{Found, first_of, last_of}
+use Rattle.moxi_term_reading.specs.Forms.{place_in, symbol_atom, symbol_of, numeral_of, pair_of, is_word, is_primed}
+use Rattle.moxi_term_reading.specs.SortReading.{index_of, unknown, only_numeral}
+use Rattle.moxi_term_reading.specs.Finding.{Found, first_of, last_of}
 use Rattle.moxi_terms.specs.Meanings.{value_named, bare_call, call_of, head_named}
-use Rattle.moxi_sorts.specs.Typing.{head_sort, head_count_fits}
+use Rattle.moxi_term_reading.specs.Typing.{head_sort, head_count_fits}
 
 -- a test of primes: it fails at a primed symbol
 abbrev pub prime_failures : Bool → Place → List Refusal

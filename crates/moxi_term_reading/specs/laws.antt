@@ -1,2 +1,4 @@
 -- Laws that crates above cite.
+pub mod Least
+pub mod AllLaws
 pub mod SortedParts

@@ -2,14 +2,16 @@
 ghost use Rattle.std.specs.Prelude.{◌≡◌, ◌++◌, ◌∷◌, [], Ok, None, List, length, map, is_some, ◌&&◌, IfOk, OnOk};
 ghost use Rattle.text_core.specs.declared.place.Refusal.{Refusal};
 ghost use Rattle.moxi_term_reading.specs.Answer.{AreRead, AreStacked, IsRead, IsVariableAdded, kept, sorts_in, unless_some};
-ghost use Rattle.moxi_sorts.specs.Failures.{least};
+ghost use Rattle.moxi_term_reading.specs.Failures.{least};
 ghost use Rattle.moxi_term_reading.specs.Reading.{Arguments, Reading, application, applied_sort, argument, argument_tests, both_arguments, headed, no_term};
 ghost use Rattle.moxi_terms.specs.declared.data.Sort.{Sort};
 ghost use Rattle.moxi_terms.specs.Tree.{trees_of, variable};
 ghost use Rattle.moxi_terms.specs.View.{plain};
 
+use crate::failures::minimum;
 use crate::outcome::{ReadTerm, no_term, unless_failed};
-use moxi_sorts::{head_count_fits, head_sort, minimum, refusal};
+use crate::sorts::refusal;
+use crate::typing::{head_count_fits, head_sort};
 use moxi_terms::{Head, Scope, Sort, Term, Terms};
 use text_core::kinds::moxi;
 use text_core::{NoMemory, Place, Refusal};

@@ -4,19 +4,19 @@ ghost use Rattle.text_core.specs.declared.place.Refusal.{Refusal};
 ghost use Rattle.word_core.specs.Digits.{read_word};
 ghost use Rattle.moxi_sexpr.specs.Tree.{plain_forms};
 ghost use Rattle.moxi_term_reading.specs.Answer.{IsAdded, IsRead, context_of};
-ghost use Rattle.moxi_sorts.specs.Failures.{least};
-ghost use Rattle.moxi_sorts.specs.Finding.{found, last_of};
-ghost use Rattle.moxi_sorts.specs.Forms.{digits_now};
+ghost use Rattle.moxi_term_reading.specs.Failures.{least};
+ghost use Rattle.moxi_term_reading.specs.Finding.{found, last_of};
+ghost use Rattle.moxi_term_reading.specs.Forms.{digits_now};
 ghost use Rattle.moxi_term_reading.specs.Reading.{argument, atom_reading, literal_digits, literal_named, literal_reading, meaning_of, named_reading, underscore_reading, variable_primes, word_reading};
 
 use crate::applications::{ReadArguments, add_argument, add_variable};
+use crate::failures::minimum;
+use crate::forms::{only_numeral, place_in, symbol_atom, symbol_of};
 use crate::heads::{literal_digits, prime};
+use crate::locals::Bounds;
 use crate::outcome::{ReadTerm, Setting, checked_term, failed, unless_failed};
+use crate::sorts::{index_of, refusal, unknown_refusal};
 use moxi_sexpr::{Atom, Form};
-use moxi_sorts::{
-    Bounds, index_of, minimum, only_numeral, place_in, refusal, symbol_atom, symbol_of,
-    unknown_refusal,
-};
 use moxi_terms::{Datum, Meaning, Primes, Sort, Term, is_left_out};
 use std::alloc::Global;
 use text_core::kinds::moxi;

@@ -3,15 +3,14 @@ ghost use Rattle.std.specs.Prelude.{◌≡◌, Some, None};
 ghost use Rattle.std.specs.List.{list_all};
 ghost use Rattle.text_core.specs.Bytes.{is_digit};
 ghost use Rattle.moxi_sexpr.specs.Tree.{plain, plain_forms};
-ghost use Rattle.moxi_sorts.specs.Failures.{least};
-ghost use Rattle.moxi_sorts.specs.Forms.{digits_now, is_named, pair_now, symbol_now};
+ghost use Rattle.moxi_term_reading.specs.Failures.{least};
+ghost use Rattle.moxi_term_reading.specs.Forms.{digits_now, is_named, pair_now, symbol_now};
 ghost use Rattle.moxi_term_reading.specs.Reading.{atom_head, decimal_digits, extended_head, extracted_head, head_of, head_primes, indexed_head, listed_head, literal_digits, paired_head, prime_failures, symbol_primes};
 
+use crate::failures::minimum;
+use crate::forms::{is_primed, is_word, numeral_of, only_numeral, pair, symbol_atom, symbol_of};
+use crate::sorts::{index_of, refusal, unknown_refusal};
 use moxi_sexpr::{Form, FormShape};
-use moxi_sorts::{
-    index_of, is_primed, is_word, minimum, numeral_of, only_numeral, pair, refusal, symbol_atom,
-    symbol_of, unknown_refusal,
-};
 use moxi_terms::{Head, Scope, TermOp, is_indexed, is_left_out};
 use text_core::kinds::moxi;
 use text_core::{Place, Refusal, is_digit, is_same};

@@ -4,13 +4,15 @@ ghost use Rattle.std.specs.List.{list_all};
 ghost use Rattle.text_core.specs.declared.place.Refusal.{Refusal};
 ghost use Rattle.moxi_sexpr.specs.Tree.{plain_forms};
 ghost use Rattle.moxi_term_reading.specs.Answer.{AreBound, IsRead};
-ghost use Rattle.moxi_sorts.specs.Failures.{least};
+ghost use Rattle.moxi_term_reading.specs.Failures.{least};
 ghost use Rattle.moxi_term_reading.specs.Reading.{Bindings, Reading, bindings_tests, both_bindings, bound_to, has_sort, let_reading, let_sort, misshapen};
 
 use crate::applications::put;
+use crate::failures::minimum;
+use crate::locals::Local;
 use crate::outcome::{ReadTerm, unless_failed};
+use crate::sorts::refusal;
 use moxi_sexpr::Form;
-use moxi_sorts::{Local, minimum, refusal};
 use moxi_terms::{Sort, Term, Terms};
 use std::alloc::Global;
 use text_core::kinds::moxi;

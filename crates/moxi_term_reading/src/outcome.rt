@@ -2,11 +2,11 @@
 ghost use Rattle.std.specs.Prelude.{◌≡◌, List};
 ghost use Rattle.text_core.specs.declared.place.Refusal.{Refusal};
 ghost use Rattle.moxi_term_reading.specs.Answer.{IsRead, unless_some};
-ghost use Rattle.moxi_sorts.specs.Failures.{least};
+ghost use Rattle.moxi_term_reading.specs.Failures.{least};
 ghost use Rattle.moxi_term_reading.specs.Reading.{failed, no_term, checked_term};
 ghost use Rattle.moxi_terms.specs.View.{plain};
 
-use moxi_sorts::Locals;
+use crate::locals::Locals;
 use moxi_terms::{Datum, Primes, Scope, Sort, Term};
 use text_core::Refusal;
 

@@ -1,24 +1,27 @@
 // The term that a form spells.
 ghost use Rattle.std.specs.Prelude.{◌≡◌, ◌<◌, ◌^◌, ◌++◌, [], List, None, Some, length, IfOk, OnOk};
-ghost use Rattle.moxi_sorts.specs.declared.locals.Local.{Local};
+ghost use Rattle.moxi_term_reading.specs.declared.locals.Local.{Local};
 ghost use Rattle.moxi_term_reading.specs.declared.outcome.ReadTerm.{ReadTerm};
 ghost use Rattle.moxi_terms.specs.Tree.{sorts_of};
 ghost use Rattle.moxi_terms.specs.View.{plain};
 ghost use Rattle.text_core.specs.declared.place.Refusal.{Refusal};
 ghost use Rattle.moxi_sexpr.specs.Tree.{Tree, list as list_form, plain as plain_form, plain_forms};
 ghost use Rattle.moxi_term_reading.specs.Answer.{Answers, AreBound, AreStacked, IsAdded, IsRead, context_of, locals_of};
-ghost use Rattle.moxi_sorts.specs.Failures.{least};
+ghost use Rattle.moxi_term_reading.specs.Failures.{least};
 ghost use Rattle.moxi_terms.specs.declared.data.Sort.{Sort};
 ghost use Rattle.moxi_term_reading.specs.WellSorted.{HaveKnownSorts, IsSortedTerm, IsTerm, IsWellSorted};
 ghost use Rattle.moxi_term_reading.specs.Reading.{Bindings, Context, applied_reading, both_bindings, head_of, let_reading, read, read_all, read_binding, read_bindings, read_let};
 
 use crate::applications::{ReadArguments, add_argument, application};
 use crate::atoms::{add_atom, read_atom, underscored};
+use crate::failures::minimum;
+use crate::forms::{is_primed, pair, place_in, symbol_of};
 use crate::heads::{head_of, head_prime, is_named, prime};
 use crate::lets::{ReadBindings, bind_to, let_term, misshapen, some_binding};
+use crate::locals::{Bounds, Locals};
 use crate::outcome::{ReadTerm, Setting, failed};
+use crate::sorts::refusal;
 use moxi_sexpr::{Form, FormShape};
-use moxi_sorts::{Bounds, Locals, is_primed, minimum, pair, place_in, refusal, symbol_of};
 use moxi_terms::{Primes, Scope, Sort, Term, Variables};
 use std::alloc::Global;
 use text_core::kinds::moxi;

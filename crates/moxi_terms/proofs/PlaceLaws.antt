@@ -7,7 +7,7 @@ use Rattle.std.proofs.lemmas.Bool.{cases_Bool}
 use Rattle.std.proofs.lemmas.Slice.Eq.{bytes_eq-Decides}
 use Rattle.std.proofs.lemmas.Option.{same_Some, none-some, slice_get_within}
 use Rattle.moxi_terms.specs.Names.{or_else}
-use Rattle.name_set.specs.Names.{place_of}
+use Rattle.name_maps.specs.Names.{place_of}
 
 -- the place of the first name equal to these bytes, counted from n
 abbrev pub place_from : ℕ → List (List ℕ) → List ℕ → Option ℕ

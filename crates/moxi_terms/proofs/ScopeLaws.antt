@@ -15,7 +15,7 @@ use Rattle.moxi_terms.specs.View.{ScopeState}
 use Rattle.moxi_terms.specs.Sorts.{IsSort, IsConstant, IsOf}
 use Rattle.moxi_terms.specs.Sorted.{HasSort, HaveSorts, IsFunction, AreFunctions}
 use Rattle.moxi_terms.specs.Names.{enumeration_names, sort_names, function_names, all_constants, numbered, constant_numbers, with_enumeration, with_function, is_among, is_term_name, is_sort_name, constant_named}
-use Rattle.name_set.specs.Names.{place_of}
+use Rattle.name_maps.specs.Names.{place_of}
 use Rattle.moxi_terms.specs.Words.{is_operator}
 use Rattle.std.specs.Str.{bytes_eq}
 use Rattle.moxi_terms.specs.Scopes.{IsKept}

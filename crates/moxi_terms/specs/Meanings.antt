@@ -12,7 +12,7 @@ use Rattle.moxi_terms.specs.Tree.{PlainFunction}
 use Rattle.moxi_terms.specs.View.{ScopeState}
 use Rattle.moxi_terms.specs.Words.{operator_named}
 use Rattle.moxi_terms.specs.Names.{or_else, constant_named, function_names}
-use Rattle.name_set.specs.Names.{place_of}
+use Rattle.name_maps.specs.Names.{place_of}
 
 -- `true`, `false` and the constants of enumerations
 abbrev pub value_named : ScopeState → List ℕ → Option Meaning

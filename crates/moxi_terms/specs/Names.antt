@@ -10,7 +10,7 @@ use Rattle.moxi_terms.specs.declared.term.NamedSort.{NamedSort}
 use Rattle.moxi_terms.specs.Tree.{PlainFunction}
 use Rattle.moxi_terms.specs.View.{ScopeState}
 use Rattle.moxi_terms.specs.Words.{is_operator}
-use Rattle.name_set.specs.Names.{place_of, are_fresh}
+use Rattle.name_maps.specs.Names.{place_of, are_fresh}
 
 abbrev pub is_among : List (List ℕ) → List ℕ → Bool
 is_among names name = is_some (place_of names name)

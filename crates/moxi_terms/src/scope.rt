@@ -3,7 +3,7 @@ ghost use Rattle.std.specs.Prelude.{◌≡◌, ◌<◌, ◌≤◌, ◌^◌, ◌-
 ghost use Rattle.std.specs.List.{list_any};
 ghost use Rattle.std.specs.Option.{option_map};
 ghost use Rattle.moxi_terms.specs.Names.{all_constants, constant_named, has_room, is_sort_name, is_term_name, may_be_enumeration, no_scope, numbered, or_else, function_names, sort_named, with_enumeration, with_function, with_sort};
-ghost use Rattle.name_set.specs.Names.{place_of};
+ghost use Rattle.name_maps.specs.Names.{place_of};
 ghost use Rattle.moxi_terms.specs.Meanings.{bare_call, call_of, head_named, value_named};
 ghost use Rattle.moxi_terms.specs.Scopes.{enumeration_now, constants_now, named_sort_now, function_now};
 ghost use Rattle.moxi_terms.specs.Sorted.{IsFunction, IsScope};
@@ -14,7 +14,7 @@ use crate::data::{Datum, Sort};
 use crate::names::{Head, Meaning};
 use crate::term::{Enumeration, Function, NamedSort};
 use crate::words::{is_operator, operator_named};
-use name_set::NameSet;
+use name_maps::NameSet;
 use std::alloc::Global;
 use std::marker::Model;
 use text_core::{List, Name, Names, NoMemory, is_same};

@@ -14,12 +14,12 @@ use Rattle.moxi_scripts.specs.declared.script.Formula.{Formula}
 use Rattle.moxi_scripts.specs.declared.script.Query.{Query}
 use Rattle.moxi_scripts.specs.Script.{PlainFormula, formula_at, plain_formula}
 use Rattle.moxi_flat.specs.FlatSystem.{PlainFlatSystem}
-use Rattle.moxi_term_lines.specs.TermLines.{AllMade, Made, folded_lines}
-use Rattle.moxi_term_lines.proofs.Growing.{grown_long, grown_none, grown_then, wide_inside}
-use Rattle.moxi_term_lines.proofs.Chains.{binary_grows, folded_grows}
-use Rattle.moxi_term_builder.specs.Putting.{CanFold, CanPutBinary}
-use Rattle.moxi_term_builder.proofs.Widths.{IsWide, later_wide}
-use Rattle.moxi_term_builder.proofs.ChainWidths.{AreWide, Keeps, folded_can, folded_wide}
+use Rattle.moxi_lines.specs.TermLines.{AllMade, Made, folded_lines}
+use Rattle.moxi_lines.proofs.Growing.{grown_long, grown_none, grown_then, wide_inside}
+use Rattle.moxi_lines.proofs.Chains.{binary_grows, folded_grows}
+use Rattle.moxi_to_btor.specs.TermPutting.{CanFold, CanPutBinary}
+use Rattle.moxi_to_btor.proofs.Widths.{IsWide, later_wide}
+use Rattle.moxi_to_btor.proofs.ChainWidths.{AreWide, Keeps, folded_can, folded_wide}
 use Rattle.moxi_lines.specs.Lines.{first_place, one_place, with_assumptions, with_conditions, with_currents, with_formula, with_free, with_given, with_latch}
 use Rattle.moxi_lines.proofs.Extending.{Extends, extends_long, extends_then, extends_width, quietly}
 use Rattle.moxi_to_btor.specs.Putting.{CanPutFree, CanPutGiven, IsOpen, IsTruthOver}

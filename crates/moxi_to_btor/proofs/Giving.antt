@@ -15,9 +15,9 @@ use Rattle.btor_tree.proofs.Alike.{pushed_quiet, pushed_sort}
 use Rattle.btor_tree.proofs.Grows.{slice_get_end}
 use Rattle.btor_tree.proofs.Paths.{fresh, kind_front, state_value_append}
 use Rattle.btor_tree.proofs.Widths.{sort_front, width_front}
-use Rattle.moxi_term_lines.proofs.Growing.{grown_long, grown_width, wide_inside}
+use Rattle.moxi_lines.proofs.Growing.{grown_long, grown_width, wide_inside}
 use Rattle.moxi_lines.specs.Lines.{symbol_byte, symbol_of, with_free, with_given}
-use Rattle.moxi_term_lines.specs.TermLines.{Made}
+use Rattle.moxi_lines.specs.TermLines.{Made}
 use Rattle.moxi_lines.proofs.VariableLines.{symbol_is}
 use Rattle.moxi_lines.proofs.Extending.{Extends, extends_then, quietly}
 use Rattle.moxi_to_btor.specs.Putting.{CanPutFree, CanPutGiven, CanPutTruth, IsOpen}

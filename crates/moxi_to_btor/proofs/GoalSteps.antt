@@ -12,12 +12,12 @@ use Rattle.moxi_scripts.specs.declared.script.Query.{Query}
 use Rattle.moxi_scripts.specs.Script.{formula_at}
 use Rattle.moxi_scripts.specs.QueryReading.{some_distinct}
 use Rattle.moxi_flat.specs.FlatSystem.{PlainFlatSystem}
-use Rattle.moxi_term_lines.specs.TermLines.{Made, chain_lines, with_binary}
-use Rattle.moxi_term_lines.proofs.Growing.{grown_long, grown_none, grown_then}
-use Rattle.moxi_term_lines.proofs.Chains.{binary_grows, chain_grows}
-use Rattle.moxi_term_builder.specs.Putting.{CanChain, CanPutBinary}
-use Rattle.moxi_term_builder.proofs.Widths.{IsWide, binary_can, binary_wide, later_wide}
-use Rattle.moxi_term_builder.proofs.ChainWidths.{chain_can, chain_wide}
+use Rattle.moxi_lines.specs.TermLines.{Made, chain_lines, with_binary}
+use Rattle.moxi_lines.proofs.Growing.{grown_long, grown_none, grown_then}
+use Rattle.moxi_lines.proofs.Chains.{binary_grows, chain_grows}
+use Rattle.moxi_to_btor.specs.TermPutting.{CanChain, CanPutBinary}
+use Rattle.moxi_to_btor.proofs.Widths.{IsWide, binary_can, binary_wide, later_wide}
+use Rattle.moxi_to_btor.proofs.ChainWidths.{chain_can, chain_wide}
 use Rattle.moxi_lines.specs.Lines.{Reaching, has_conditions, with_all_met, with_conditions, with_formula, with_goal, with_one_met, with_queries, with_query, with_reachables}
 use Rattle.moxi_lines.proofs.Extending.{Extends, extends_long, extends_none, extends_then, quietly}
 use Rattle.moxi_to_btor.specs.Putting.{CanPutTruth}

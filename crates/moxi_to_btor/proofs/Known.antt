@@ -13,15 +13,15 @@ use Rattle.moxi_terms.specs.Tree.{Tree, sorts_of}
 use Rattle.moxi_scripts.specs.declared.script.Query.{Query}
 use Rattle.moxi_scripts.specs.Script.{PlainFormula}
 use Rattle.moxi_scripts.specs.QueryReading.{some_distinct}
-use Rattle.moxi_systems.proofs.AskingSorts.{lt_held, sorted_held}
+use Rattle.moxi_scripts.proofs.AskingSorts.{lt_held, sorted_held}
 use Rattle.moxi_flat.specs.declared.limits.TheConstants as limits
 use Rattle.moxi_flat.specs.FlatSorts.{AreFlatTruths, IsSortedFlat, PartIsSorted}
 use Rattle.moxi_flat.specs.FlatSystem.{PlainFlatSystem, PlainPart}
 use Rattle.moxi_instantiate.specs.Instances as instances
-use Rattle.moxi_line_counts.specs.Counts as counts
-use Rattle.moxi_line_counts.proofs.Whole.{lines_are_counted_law, lines_stay_few_law}
+use Rattle.moxi_layout.specs.Counts as counts
+use Rattle.moxi_layout.proofs.Whole.{lines_are_counted_law, lines_stay_few_law}
 use Rattle.moxi_lines.specs.Lines.{lines_of}
-use Rattle.moxi_term_lines.specs.Laws.{HaveCodes}
+use Rattle.moxi_lines.specs.TermLaws.{HaveCodes}
 use Rattle.moxi_to_btor.specs.Putting.{IsPartOver, IsTruthOver}
 use Rattle.moxi_to_btor.specs.Queries.{AreTruthsOver, IsQueryOf}
 use Rattle.moxi_to_btor.specs.Systems.{AreFew, IsKnown}

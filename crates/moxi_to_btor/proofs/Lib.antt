@@ -1,3 +1,11 @@
+pub mod Folding
+pub mod Choices
+pub mod Widths
+pub mod ChainWidths
+pub mod Operating
+pub mod TermWidths
+pub mod Stepping
+pub mod Plain
 pub mod Giving
 pub mod VariableSteps
 pub mod PartSteps

@@ -16,17 +16,17 @@ use Rattle.moxi_terms.specs.Sorted.{HasSort}
 use Rattle.moxi_terms.specs.Tree.{Tree, sorts_of}
 use Rattle.moxi_terms.specs.View.{ScopeState}
 use Rattle.moxi_flat.specs.FlatSystem.{PlainPart}
-use Rattle.moxi_term_lines.specs.Codes.{sort_bits}
-use Rattle.moxi_term_lines.specs.TermLines.{Made, call_lines, with_binary}
-use Rattle.moxi_term_lines.proofs.Growing.{grown_long, grown_then}
-use Rattle.moxi_term_lines.proofs.Chains.{binary_grows}
-use Rattle.moxi_term_lines.proofs.Terms.{calls_grow, term_grows}
-use Rattle.moxi_term_builder.specs.declared.terms.Places.TheVariants.{At, Behind}
-use Rattle.moxi_term_builder.specs.Putting.{CanPutBinary}
-use Rattle.moxi_term_builder.specs.Standing.{IsAsWide, VariablesAreAsWide}
-use Rattle.moxi_term_builder.specs.Terms.{CanPutWhole, place_by}
-use Rattle.moxi_term_builder.proofs.Widths.{IsWide, binary_can, binary_wide, later_wide}
-use Rattle.moxi_term_builder.proofs.TermWidths.{one_term_wide}
+use Rattle.moxi_lines.specs.Codes.{sort_bits}
+use Rattle.moxi_lines.specs.TermLines.{Made, call_lines, with_binary}
+use Rattle.moxi_lines.proofs.Growing.{grown_long, grown_then}
+use Rattle.moxi_lines.proofs.Chains.{binary_grows}
+use Rattle.moxi_lines.proofs.Terms.{calls_grow, term_grows}
+use Rattle.moxi_to_btor.specs.declared.terms.Places.TheVariants.{At, Behind}
+use Rattle.moxi_to_btor.specs.TermPutting.{CanPutBinary}
+use Rattle.moxi_to_btor.specs.Standing.{IsAsWide, VariablesAreAsWide}
+use Rattle.moxi_to_btor.specs.Terms.{CanPutWhole, place_by}
+use Rattle.moxi_to_btor.proofs.Widths.{IsWide, binary_can, binary_wide, later_wide}
+use Rattle.moxi_to_btor.proofs.TermWidths.{one_term_wide}
 use Rattle.moxi_lines.specs.Lines.{first_place, input_place, is_true_term, state_place, with_constraint, with_formula, with_init, with_inv, with_part, with_parts, with_step, with_trans}
 use Rattle.moxi_lines.proofs.Extending.{Extends, extends_long, extends_none, extends_then, extends_width, quietly}
 use Rattle.moxi_to_btor.specs.Putting.{CanPutFormula, CanPutInit, CanPutInv, CanPutPart, CanPutParts, CanPutStep, CanPutTrans, CanPutTruth, IsSetUp, IsTruthOver}

@@ -10,12 +10,12 @@ use Rattle.btor_tree.specs.Sharing.{GrowsQuietly}
 use Rattle.moxi_scripts.specs.declared.script.Formula.{Formula}
 use Rattle.moxi_scripts.specs.Script.{formula_at, plain_formula}
 use Rattle.moxi_flat.specs.FlatSystem.{PlainFlatSystem}
-use Rattle.moxi_term_lines.specs.TermLines.{Made, with_binary}
-use Rattle.moxi_term_lines.proofs.Growing.{grown_long, grown_then}
-use Rattle.moxi_term_lines.proofs.Chains.{binary_grows}
-use Rattle.moxi_term_builder.specs.Putting.{CanPutBinary}
-use Rattle.moxi_term_builder.proofs.Widths.{IsWide, binary_can, binary_wide, later_wide}
-use Rattle.moxi_term_builder.proofs.ChainWidths.{AreWide, Keeps}
+use Rattle.moxi_lines.specs.TermLines.{Made, with_binary}
+use Rattle.moxi_lines.proofs.Growing.{grown_long, grown_then}
+use Rattle.moxi_lines.proofs.Chains.{binary_grows}
+use Rattle.moxi_to_btor.specs.TermPutting.{CanPutBinary}
+use Rattle.moxi_to_btor.proofs.Widths.{IsWide, binary_can, binary_wide, later_wide}
+use Rattle.moxi_to_btor.proofs.ChainWidths.{AreWide, Keeps}
 use Rattle.moxi_lines.specs.Lines.{Reaching, formula_name, with_formula, with_given, with_latch, with_reachable, with_reachables, zero_place}
 use Rattle.moxi_lines.proofs.Extending.{Extends, extends_long, extends_none, extends_then, extends_width, quietly}
 use Rattle.moxi_to_btor.specs.Putting.{CanPutGiven, IsOpen}

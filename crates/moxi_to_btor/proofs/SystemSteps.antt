@@ -11,9 +11,9 @@ use Rattle.moxi_terms.specs.declared.term.Variable.{Variable}
 use Rattle.moxi_terms.specs.Sorted.{AreSorts, IsScope}
 use Rattle.moxi_terms.specs.Tree.{sorts_of}
 use Rattle.moxi_flat.specs.FlatSystem.{PlainFlatSystem}
-use Rattle.moxi_term_lines.specs.Laws.{HaveCodes}
-use Rattle.moxi_term_lines.specs.TermLines.{AllMade, Made, place_in}
-use Rattle.moxi_term_builder.specs.Standing.{IsAsWide}
+use Rattle.moxi_lines.specs.TermLaws.{HaveCodes}
+use Rattle.moxi_lines.specs.TermLines.{AllMade, Made, place_in}
+use Rattle.moxi_to_btor.specs.Standing.{IsAsWide}
 use Rattle.moxi_lines.specs.Lines.{head_lines, lines_of, variable_lines, with_free, with_given, with_parts, with_queries, with_variables}
 use Rattle.moxi_lines.specs.Variables.{AreVariablesAt}
 use Rattle.moxi_lines.proofs.Extending.{Extends, extends_long, extends_width}

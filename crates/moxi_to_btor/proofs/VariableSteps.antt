@@ -12,15 +12,15 @@ use Rattle.moxi_terms.specs.declared.data.Sort.{Sort}
 use Rattle.moxi_terms.specs.declared.data.Sort.TheVariants.{Truth, Bits, Choice}
 use Rattle.moxi_terms.specs.declared.term.Enumeration.{Enumeration}
 use Rattle.moxi_terms.specs.declared.term.Variable.{Variable}
-use Rattle.moxi_term_lines.specs.Codes.{choice_width, constant_count, sort_bits}
-use Rattle.moxi_term_lines.specs.Laws.{HaveCodes}
-use Rattle.moxi_term_lines.specs.TermLines.{AllMade, Made, with_binary, with_constant}
-use Rattle.moxi_term_lines.proofs.CodeLaws.{choice_holds, width_low}
-use Rattle.moxi_term_lines.proofs.Growing.{grown_long, grown_width}
-use Rattle.moxi_term_lines.proofs.Steps.{word_grows}
-use Rattle.moxi_term_lines.proofs.Chains.{binary_grows}
-use Rattle.moxi_term_builder.specs.Putting.{CanPutBinary, CanPutConstant}
-use Rattle.moxi_term_builder.proofs.Widths.{IsWide, binary_can, binary_wide, constant_can, word_wide}
+use Rattle.moxi_lines.specs.Codes.{choice_width, constant_count, sort_bits}
+use Rattle.moxi_lines.specs.TermLaws.{HaveCodes}
+use Rattle.moxi_lines.specs.TermLines.{AllMade, Made, with_binary, with_constant}
+use Rattle.moxi_lines.proofs.CodeLaws.{choice_holds, width_low}
+use Rattle.moxi_lines.proofs.Growing.{grown_long, grown_width}
+use Rattle.moxi_lines.proofs.Steps.{word_grows}
+use Rattle.moxi_lines.proofs.Chains.{binary_grows}
+use Rattle.moxi_to_btor.specs.TermPutting.{CanPutBinary, CanPutConstant}
+use Rattle.moxi_to_btor.proofs.Widths.{IsWide, binary_can, binary_wide, constant_can, word_wide}
 use Rattle.moxi_lines.specs.Lines.{with_code, with_constraint, with_free, with_given, with_variable, with_variables}
 use Rattle.moxi_lines.proofs.Extending.{Extends, extends_long, extends_none, extends_then, extends_width, quietly}
 use Rattle.moxi_lines.proofs.VariableLaws.{all_extend, sort_wide}

@@ -17,10 +17,10 @@ use Rattle.moxi_terms.specs.Sorts.{IsSort}
 use Rattle.moxi_terms.specs.Tree.{Tree, sorts_of}
 use Rattle.moxi_terms.specs.View.{ScopeState}
 use Rattle.moxi_flat.specs.FlatSystem.{PlainPart}
-use Rattle.moxi_term_lines.specs.Codes.{sort_bits}
-use Rattle.moxi_term_lines.specs.Laws.{HaveCodes}
-use Rattle.moxi_term_lines.specs.TermLines.{AllMade, with_binary, with_constant}
-use Rattle.moxi_term_builder.specs.Standing.{VariablesAreAsWide}
+use Rattle.moxi_lines.specs.Codes.{sort_bits}
+use Rattle.moxi_lines.specs.TermLaws.{HaveCodes}
+use Rattle.moxi_lines.specs.TermLines.{AllMade, with_binary, with_constant}
+use Rattle.moxi_to_btor.specs.Standing.{VariablesAreAsWide}
 use Rattle.moxi_lines.specs.Lines.{first_place, input_place, one_place, state_place, with_code, with_constraint, with_formula, with_free, with_given, with_init, with_inv, with_part, with_parts, with_step, with_trans, with_variable, with_variables, zero_place}
 
 -- ---- single lines

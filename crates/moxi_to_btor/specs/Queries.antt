@@ -8,9 +8,9 @@ use Rattle.moxi_terms.specs.declared.term.Variable.{Variable}
 use Rattle.moxi_terms.specs.View.{ScopeState}
 use Rattle.moxi_scripts.specs.declared.script.Query.{Query}
 use Rattle.moxi_scripts.specs.Script.{PlainFormula, formula_at}
-use Rattle.moxi_systems.specs.Whole.{IsWholeQuery}
+use Rattle.moxi_scripts.specs.Whole.{IsWholeQuery}
 use Rattle.moxi_flat.specs.FlatSystem.{PlainFlatSystem}
-use Rattle.moxi_term_lines.specs.TermLines.{AllMade, Made, with_binary}
+use Rattle.moxi_lines.specs.TermLines.{AllMade, Made, with_binary}
 use Rattle.moxi_lines.specs.Lines.{Reaching, first_place, has_conditions, with_all_met, with_assumptions, with_conditions, with_currents, with_formula, with_goal, with_latch, with_one_met, with_queries, with_query, with_reachable, with_reachables}
 use Rattle.moxi_to_btor.specs.Putting.{CanPutFormula, IsSetUp, IsTruthOver}
 

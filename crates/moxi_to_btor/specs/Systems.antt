@@ -8,7 +8,7 @@ use Rattle.btor_tree.specs.Sharing.{pushed, with_sort}
 use Rattle.moxi_terms.specs.Sorted.{AreSorts}
 use Rattle.moxi_terms.specs.Tree.{sorts_of}
 use Rattle.moxi_flat.specs.FlatSystem.{PlainFlatSystem}
-use Rattle.moxi_line_counts.specs.Counts.{NamesOneFormula, flat_size}
+use Rattle.moxi_layout.specs.Counts.{NamesOneFormula, flat_size}
 use Rattle.moxi_lines.specs.Lines.{lines_of}
 use Rattle.moxi_to_btor.specs.Putting.{IsPartOver}
 use Rattle.moxi_to_btor.specs.Queries.{AreTruthsOver, IsQueryOf}

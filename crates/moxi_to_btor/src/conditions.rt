@@ -6,12 +6,13 @@ ghost use Rattle.moxi_lines.specs.Lines.{with_assumptions, with_conditions, with
 ghost use Rattle.moxi_to_btor.specs.Putting.{IsOpen};
 ghost use Rattle.moxi_to_btor.specs.Queries.{CanPutAssumptions, CanPutConditions, CanPutCurrent, CanPutCurrents, CanPutLatch, CanPutNumbered, current_lines};
 
+use crate::chains::put_folded;
 use crate::lines::{joined, put_free, put_given, put_place};
 use crate::parts::{FIRST, put_formula};
+use crate::words::put_binary;
 use btor_tree::{Builder, LineOp};
 use moxi_instantiate::FlatSystem;
 use moxi_scripts::{Formulas, Query};
-use moxi_term_builder::{put_binary, put_folded};
 use moxi_terms::Scope;
 use std::alloc::Global;
 use text_core::NoMemory;

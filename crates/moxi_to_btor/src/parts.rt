@@ -6,9 +6,10 @@ ghost use Rattle.moxi_lines.specs.Lines.{first_place, is_true_term, with_formula
 ghost use Rattle.moxi_to_btor.specs.Putting.{CanPutFormula, CanPutInit, CanPutInv, CanPutPart, CanPutParts, CanPutStep, CanPutTrans};
 
 use crate::lines::put_constraint;
+use crate::terms::{Places, put_term};
+use crate::words::put_binary;
 use btor_tree::Builder;
 use moxi_instantiate::Part;
-use moxi_term_builder::{Places, put_binary, put_term};
 use moxi_terms::{Datum, Scope, Term};
 use std::alloc::Global;
 use text_core::NoMemory;

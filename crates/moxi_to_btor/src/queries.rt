@@ -3,12 +3,13 @@ ghost use Rattle.std.specs.Prelude.{◌≡◌, ◌++◌, codes, IfOk, OnOk};
 ghost use Rattle.moxi_lines.specs.Lines.{has_conditions, with_all_met, with_goal, with_one_met, with_queries, with_query, with_reachable, with_reachables};
 ghost use Rattle.moxi_to_btor.specs.Queries.{CanPutAllMet, CanPutGoal, CanPutOneMet, CanPutQueries, CanPutQuery, CanPutReachable, CanPutReachables, CanPutSeveral, reaching, several_lines, whole_goal};
 
+use crate::chains::put_chain;
 use crate::conditions::{ZERO, put_conditions, put_latch, put_numbered};
 use crate::lines::{joined, put_bad, put_given, put_place};
+use crate::words::put_binary;
 use btor_tree::{Builder, LineOp};
 use moxi_instantiate::FlatSystem;
 use moxi_scripts::{Queries, Query};
-use moxi_term_builder::{put_binary, put_chain};
 use std::alloc::Global;
 use text_core::NoMemory;
 use word_core::Binary;

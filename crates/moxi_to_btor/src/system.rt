@@ -1,7 +1,7 @@
 // The lines of a flat system.
 ghost use Rattle.std.specs.Prelude.{◌≡◌, ◌+◌, ◌-◌, ◌*◌, ◌^◌, min, [], length, IfOk, OnOk};
 ghost use Rattle.btor_tree.specs.Sharing.{HasNoTwoAlike};
-ghost use Rattle.moxi_term_lines.specs.Laws.{HaveCodes};
+ghost use Rattle.moxi_lines.specs.TermLaws.{HaveCodes};
 ghost use Rattle.moxi_lines.specs.Lines.{head_lines, lines_of};
 ghost use Rattle.moxi_to_btor.specs.Systems.{AreFew, IsKnown, constant_lines};
 

@@ -2,13 +2,14 @@
 ghost use Rattle.std.specs.Prelude.{◌≡◌, [], IfOk, OnOk};
 ghost use Rattle.moxi_terms.specs.declared.data.Sort.TheVariants as sort;
 ghost use Rattle.moxi_terms.specs.Sorts.{IsSort};
-ghost use Rattle.moxi_term_lines.specs.Codes.{sort_bits};
+ghost use Rattle.moxi_lines.specs.Codes.{sort_bits};
 ghost use Rattle.moxi_lines.specs.Lines.{with_code, with_variable, with_variables};
 ghost use Rattle.moxi_to_btor.specs.Putting.{CanPutBelow, CanPutCode, CanPutVariable, CanPutVariables, below_lines};
 
 use crate::lines::{put_constraint, put_free, put_free_behind, put_given, put_place};
+use crate::operators::choice_width;
+use crate::words::{put_binary, put_constant};
 use btor_tree::{Builder, LineOp};
-use moxi_term_builder::{choice_width, put_binary, put_constant};
 use moxi_terms::{Enumeration, Sort, Variable, Variables};
 use std::alloc::Global;
 use text_core::{List, NoMemory};

@@ -9,7 +9,7 @@ use Rattle.std.proofs.lemmas.List.{append_assoc, length-append, append-nil}
 use Rattle.std.proofs.Math.Seq.{set-append_seam, get_or-append_seam}
 use Rattle.text_core.specs.Bytes.{is_digit}
 use Rattle.moxi_sexpr.specs.Atoms.{is_run}
-use Rattle.moxi_print.proofs.StandingNumbers.{decimal_run}
+use Rattle.moxi_term_print.proofs.StandingNumbers.{decimal_run}
 use Rattle.moxi_terms.specs.declared.data.Datum.{Datum}
 use Rattle.moxi_terms.specs.declared.term.Variable.{Variable}
 use Rattle.moxi_terms.specs.Sorts.{IsOf, Fit}

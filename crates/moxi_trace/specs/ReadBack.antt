@@ -1,7 +1,7 @@
 -- What a check declares so that its responses can be printed and read back.
 use Rattle.std.specs.Prelude.{◌≡◌, ◌<◌, ℕ, true, Some, List, length, slice_get}
 use Rattle.std.specs.List.{list_all}
-use Rattle.name_set.specs.Names.{place_of}
+use Rattle.name_maps.specs.Names.{place_of}
 use Rattle.moxi_sexpr.specs.Bytes.{is_barred_byte}
 use Rattle.moxi_terms.specs.declared.data.Sort.TheVariants.{Choice}
 use Rattle.moxi_terms.specs.declared.data.Datum.TheVariants.{Constant}

@@ -2,7 +2,7 @@
 use Rattle.std.specs.Prelude.{◌==◌, ℕ, true, false, if◌then◌else◌, Option, Some, None, option_map, option_and_then, List, length, slice_get, codes}
 use Rattle.std.specs.Str.{bytes_eq}
 use Rattle.word_core.specs.Digits.{read_word}
-use Rattle.name_set.specs.Names.{place_of}
+use Rattle.name_maps.specs.Names.{place_of}
 use Rattle.moxi_terms.specs.declared.data.Sort.{Sort}
 use Rattle.moxi_terms.specs.declared.data.Sort.TheVariants.{Truth, Bits, Choice}
 use Rattle.moxi_terms.specs.declared.data.Datum.{Datum}

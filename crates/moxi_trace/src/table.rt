@@ -1,6 +1,6 @@
 // What a response is read against, with its names found without a scan.
 ghost use Rattle.std.specs.Prelude.{◌≡◌, ◌<◌, ◌≤◌, ◌^◌, ◌+◌, ◌++◌, Some, None, map, length, IfOk, IfSome, option_and_then, slice_get};
-ghost use Rattle.name_set.specs.Names.{place_of};
+ghost use Rattle.name_maps.specs.Names.{place_of};
 ghost use Rattle.moxi_trace.specs.Traces.{names_of, is_within};
 ghost use Rattle.moxi_trace.specs.Values.{value_of};
 ghost use Rattle.moxi_trace.specs.Reading.{value_at};
@@ -9,8 +9,7 @@ use crate::declarations::Declarations;
 use crate::tokens::Shape;
 use crate::values::value_of;
 use moxi_terms::{Datum, Variables};
-use name_lookup::{NameTable, Successors};
-use name_set::NameSet;
+use name_maps::{NameSet, NameTable, Successors};
 use std::alloc::Global;
 use std::marker::Model;
 use text_core::NoMemory;

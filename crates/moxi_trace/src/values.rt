@@ -2,7 +2,7 @@
 ghost use Rattle.std.specs.Prelude.{◌≡◌, option_map, length};
 ghost use Rattle.moxi_terms.specs.Names.{or_else, function_names};
 ghost use Rattle.moxi_terms.specs.Meanings.{value_named, bare_call, call_of};
-ghost use Rattle.name_set.specs.Names.{place_of};
+ghost use Rattle.name_maps.specs.Names.{place_of};
 ghost use Rattle.moxi_terms.specs.Sorts.{same_sort};
 ghost use Rattle.moxi_terms.specs.declared.data.Datum.TheVariants as datum;
 ghost use Rattle.moxi_terms.specs.declared.data.Sort.TheVariants as sort;

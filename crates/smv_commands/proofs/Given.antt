@@ -2,14 +2,14 @@
 use Rattle.std.proofs.Common.{◌≡◌, ◌≤◌, ℕ, List, [], ◌∷◌, Option, Some, Result, Ok, Err, refl, sym, subst, length}
 use Rattle.std.specs.Prelude.{IfOk}
 use Rattle.text_core.specs.Outside.{Files, IsFile, file_at, grown}
-use Rattle.command_answers.specs.declared.answer.Answer.{Answer}
-use Rattle.command_answers.specs.declared.answer.Answer.TheVariants.{Refused, Done}
-use Rattle.command_answers.specs.declared.answer.Output.TheVariants.{Text}
-use Rattle.command_answers.specs.declared.status.Status.TheVariants as status
-use Rattle.command_answers.specs.Answers.{status_of, text_of}
-use Rattle.command_answers.specs.Giving.{MayGive}
-use Rattle.command_answers.specs.Reading.{SaysRead}
-use Rattle.command_answers.specs.laws.Files.{done_from, gives, whatever_told}
+use Rattle.command_core.specs.declared.answer.Answer.{Answer}
+use Rattle.command_core.specs.declared.answer.Answer.TheVariants.{Refused, Done}
+use Rattle.command_core.specs.declared.answer.Output.TheVariants.{Text}
+use Rattle.command_core.specs.declared.status.Status.TheVariants as status
+use Rattle.command_core.specs.Answers.{status_of, text_of}
+use Rattle.command_core.specs.Giving.{MayGive}
+use Rattle.command_core.specs.Reading.{SaysRead}
+use Rattle.command_core.specs.laws.Files.{done_from, gives, whatever_told}
 use Rattle.smv_commands.specs.Limits.{most_smv_bytes}
 use Rattle.smv_commands.specs.Models.{smv_too_long}
 use Rattle.smv_commands.specs.Scripts.{IsScript, IsServed, OfBytes, ScriptsStand, WritesScript}

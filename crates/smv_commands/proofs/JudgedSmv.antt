@@ -11,16 +11,16 @@ use Rattle.smv_meaning.specs.Values.{given}
 use Rattle.smv_meaning.specs.Phases.{IsAccepted}
 use Rattle.smv_meaning.specs.Runs.{judged_smv}
 use Rattle.smv_trace.specs.Texts.{trace_of}
-use Rattle.command_answers.specs.declared.answer.Answer.{Answer}
-use Rattle.command_answers.specs.declared.answer.Answer.TheVariants as answer
-use Rattle.command_answers.specs.declared.answer.Stop.{Stop}
-use Rattle.command_answers.specs.declared.answer.Stop.TheVariants.{Answered, NoMemory}
+use Rattle.command_core.specs.declared.answer.Answer.{Answer}
+use Rattle.command_core.specs.declared.answer.Answer.TheVariants as answer
+use Rattle.command_core.specs.declared.answer.Stop.{Stop}
+use Rattle.command_core.specs.declared.answer.Stop.TheVariants.{Answered, NoMemory}
 use Rattle.smv_commands.specs.Limits.{most_smv_bytes, most_trace_bytes}
 use Rattle.smv_commands.specs.Models.{IsModel, IsRefusal, smv_too_long}
-use Rattle.command_answers.specs.Giving.{MayGive}
-use Rattle.command_answers.specs.Reading.{SaysRead, StopsWith, file_within}
+use Rattle.command_core.specs.Giving.{MayGive}
+use Rattle.command_core.specs.Reading.{SaysRead, StopsWith, file_within}
 use Rattle.smv_commands.specs.SmvJudgement.{IsOfTrace, IsSmvJudgement, OfBytes, OfModel, OfText, declared_by, of_trace, trace_too_long, verdict_answer}
-use Rattle.command_answers.specs.laws.Files.{gives, goes_once, on_read}
+use Rattle.command_core.specs.laws.Files.{gives, goes_once, on_read}
 use Rattle.smv_commands.proofs.Checked.{not_checked, one_check_refusal}
 use Rattle.smv_commands.proofs.Sources.{same_model}
 

@@ -3,3 +3,8 @@ pub mod Checked
 pub mod Given
 pub mod JudgedSmv
 pub mod ScriptStands
+pub mod LinesGiven
+pub mod Texts
+pub mod Inputs
+pub mod Smv
+pub mod LiftedRuns

@@ -6,22 +6,22 @@ use Rattle.smv_text.specs.Tree.{PlainSource}
 use Rattle.smv_flat.specs.FlatForms.{PlainFlat, flat_smv}
 use Rattle.smv_width.specs.FlatWidth.{width_of}
 use Rattle.smv_script.specs.Script.{query_of, script_of}
-use Rattle.moxi_print.specs.Shown.{lines_text}
-use Rattle.moxi_shown_scripts.specs.Printing.{shown_script}
-use Rattle.smv_script_runs.specs.Laws.{HasRun, HasQueries, invariant_count}
+use Rattle.moxi_term_print.specs.Shown.{lines_text}
+use Rattle.moxi_script_print.specs.Printing.{shown_script}
+use Rattle.smv_script_laws.specs.RunLaws.{HasRun, HasQueries, invariant_count}
 use Rattle.smv_script.specs.Script.{script_for}
 use Rattle.moxi_scripts.specs.declared.script.Query.{Query}
 use Rattle.moxi_scripts.specs.Script.{PlainScript}
-use Rattle.moxi_systems.specs.Behaviour.{Trace}
-use Rattle.moxi_systems.specs.Meeting.{MeetsQuery}
-use Rattle.moxi_read_back.specs.Again.{with_place}
-use Rattle.command_answers.specs.declared.answer.Answer.{Answer}
-use Rattle.command_answers.specs.declared.answer.Answer.TheVariants.{Refused, Done}
-use Rattle.command_answers.specs.declared.answer.Output.TheVariants.{Text}
+use Rattle.moxi_scripts.specs.Behaviour.{Trace}
+use Rattle.moxi_scripts.specs.Meeting.{MeetsQuery}
+use Rattle.moxi_script_print.specs.Again.{with_place}
+use Rattle.command_core.specs.declared.answer.Answer.{Answer}
+use Rattle.command_core.specs.declared.answer.Answer.TheVariants.{Refused, Done}
+use Rattle.command_core.specs.declared.answer.Output.TheVariants.{Text}
 use Rattle.smv_commands.specs.Scripts.{HasTrace, IsScript, OfBytes, StandsForModel, moxi_text}
 use Rattle.text_core.specs.Outside.{Files}
-use Rattle.command_answers.specs.Reading.{file_within}
-use Rattle.command_answers.specs.laws.Files.{goes_once}
+use Rattle.command_core.specs.Reading.{file_within}
+use Rattle.command_core.specs.laws.Files.{goes_once}
 use Rattle.smv_commands.specs.Limits.{most_smv_bytes}
 use Rattle.smv_commands.specs.Models.{smv_too_long}
 use Rattle.smv_commands.proofs.Checked.{not_checked, one_check_refusal}

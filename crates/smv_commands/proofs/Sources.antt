@@ -10,7 +10,7 @@ use Rattle.smv_text.specs.Sources.{SpellsSource}
 use Rattle.smv_lex.proofs.Laws.{one_lexing}
 use Rattle.smv_meaning.specs.Checks.{Check, passes, first_failing}
 use Rattle.smv_parse.specs.Parsing.{IsRefused}
-use Rattle.smv_readers.proofs.Models.{one_list as one_model}
+use Rattle.smv_grammar.proofs.Models.{one_list as one_model}
 use Rattle.smv_parse.specs.laws.Refusals.{refused_not_low}
 use Rattle.smv_commands.specs.Models.{IsModel}
 

@@ -2,3 +2,5 @@ pub mod Limits
 pub mod Models
 pub mod Scripts
 pub mod SmvJudgement
+pub mod Translation
+pub mod SmvLift

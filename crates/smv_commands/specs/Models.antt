@@ -12,8 +12,8 @@ use Rattle.smv_text.specs.Lexing.{Lexes, IsLexRefusal}
 use Rattle.smv_text.specs.Sources.{SpellsSource}
 use Rattle.smv_parse.specs.Parsing.{IsRefused}
 use Rattle.smv_meaning.specs.Phases.{IsAccepted, first_refusal}
-use Rattle.command_answers.specs.declared.answer.Answer.{Answer}
-use Rattle.command_answers.specs.declared.answer.Answer.TheVariants.{Refused}
+use Rattle.command_core.specs.declared.answer.Answer.{Answer}
+use Rattle.command_core.specs.declared.answer.Answer.TheVariants.{Refused}
 use Rattle.smv_commands.specs.Limits.{most_smv_bytes}
 
 -- the bytes, within the limit, spell this model, and none of its expressions is too high

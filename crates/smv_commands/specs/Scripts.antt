@@ -8,19 +8,19 @@ use Rattle.smv_text.specs.Tree.{PlainSource}
 use Rattle.smv_script.specs.Script.{script_for}
 use Rattle.moxi_sexpr.specs.Tree.{Trees}
 use Rattle.moxi_sexpr.specs.Grammar.{SpellsForms}
-use Rattle.moxi_print.specs.Shown.{lines_text}
+use Rattle.moxi_term_print.specs.Shown.{lines_text}
 use Rattle.moxi_scripts.specs.declared.script.Query.{Query}
 use Rattle.moxi_scripts.specs.Script.{PlainScript}
 use Rattle.moxi_scripts.specs.Spelling.{SpellsScript}
-use Rattle.moxi_systems.specs.Behaviour.{Trace}
-use Rattle.moxi_systems.specs.Meeting.{MeetsQuery}
-use Rattle.moxi_shown_scripts.specs.Printing.{shown_script}
-use Rattle.command_answers.specs.declared.answer.Answer.{Answer}
-use Rattle.command_answers.specs.declared.answer.Answer.TheVariants.{Refused, Done}
-use Rattle.command_answers.specs.declared.answer.Output.TheVariants.{Text}
+use Rattle.moxi_scripts.specs.Behaviour.{Trace}
+use Rattle.moxi_scripts.specs.Meeting.{MeetsQuery}
+use Rattle.moxi_script_print.specs.Printing.{shown_script}
+use Rattle.command_core.specs.declared.answer.Answer.{Answer}
+use Rattle.command_core.specs.declared.answer.Answer.TheVariants.{Refused, Done}
+use Rattle.command_core.specs.declared.answer.Output.TheVariants.{Text}
 use Rattle.smv_commands.specs.Limits.{most_smv_bytes}
-use Rattle.command_answers.specs.Reading.{GoesOn, file_within}
-use Rattle.smv_script_runs.specs.Laws.{HasRun, invariant_count}
+use Rattle.command_core.specs.Reading.{GoesOn, file_within}
+use Rattle.smv_script_laws.specs.RunLaws.{HasRun, invariant_count}
 use Rattle.smv_commands.specs.Models.{IsAcceptedModel, IsCheckRefusal, smv_too_long}
 
 -- the printed script that stands for a model

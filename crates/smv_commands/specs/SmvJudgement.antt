@@ -13,12 +13,12 @@ use Rattle.smv_meaning.specs.Runs.{judged_smv}
 use Rattle.smv_flat.specs.FlatForms.{flat_smv}
 use Rattle.smv_trace.specs.Runs.{Declarations}
 use Rattle.smv_trace.specs.Texts.{trace_of}
-use Rattle.command_answers.specs.declared.answer.Answer.{Answer}
-use Rattle.command_answers.specs.declared.answer.Answer.TheVariants.{No, SecondRefused, Done}
-use Rattle.command_answers.specs.declared.answer.Output.TheVariants as output
+use Rattle.command_core.specs.declared.answer.Answer.{Answer}
+use Rattle.command_core.specs.declared.answer.Answer.TheVariants.{No, SecondRefused, Done}
+use Rattle.command_core.specs.declared.answer.Output.TheVariants as output
 use Rattle.smv_commands.specs.Limits.{most_smv_bytes, most_trace_bytes}
 use Rattle.smv_commands.specs.Models.{IsAcceptedModel, IsRefusal, smv_too_long}
-use Rattle.command_answers.specs.Reading.{GoesOn, file_within}
+use Rattle.command_core.specs.Reading.{GoesOn, file_within}
 
 -- what is answered to a trace that is too long
 abbrev pub trace_too_long : Answer

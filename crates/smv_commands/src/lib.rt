@@ -1,10 +1,14 @@
-//! The commands of SMV: the MoXI script of a model, and the verdict on a trace of one.
+//! The commands on SMV models: `smv2moxi`, `smv2btor`, `judge-smv` and `lift-smv`.
 #![tactic(auto)]
 
 mod judge_smv;
 mod models;
 mod script;
+mod traces;
+mod translate;
 
 pub use judge_smv::judge_smv_files;
 pub use models::{SMV_LIMIT, flat_of, model_of};
 pub use script::{scripts_stand, smv_to_moxi};
+pub use traces::{lift_smv_files, runs_are_lifted};
+pub use translate::{smv_to_btor, translations_stand};

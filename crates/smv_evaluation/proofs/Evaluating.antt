@@ -11,7 +11,7 @@ use Rattle.smv_text.specs.declared.tree.Expr.{Expr}
 use Rattle.smv_text.specs.declared.tree.Link.{Link}
 use Rattle.smv_text.specs.declared.tree.Shape.{Chain}
 use Rattle.smv_text.specs.View.{plain, plain_branch, plain_link}
-use Rattle.smv_type_laws.proofs.SafeLaws.{front_value_is}
+use Rattle.smv_laws.proofs.SafeLaws.{front_value_is}
 use Rattle.smv_meaning.specs.laws.Plain.{plain_branch-at, plain_link-at, plain-chain}
 use Rattle.smv_meaning.specs.declared.value.Value.{Value}
 use Rattle.smv_meaning.specs.Values.{is_true}

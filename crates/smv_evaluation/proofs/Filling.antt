@@ -12,7 +12,7 @@ use Rattle.smv_instances.specs.declared.instances.Instance.{Instance as PartOf}
 use Rattle.smv_meaning.specs.Expressions.{denote, paths_of}
 use Rattle.smv_meaning.specs.Names.{Local, alias, body_of, variable_of, inner, nothing, local, Found, variable_at, body_at, instance_at, symbol_of, cyclic, none, found_in}
 use Rattle.smv_meaning.specs.Phases.{Body}
-use Rattle.smv_instances.specs.NameMap.{named_in}
+use Rattle.name_maps.specs.Maps.{named_in}
 use Rattle.smv_meaning.specs.Settled.{has_body, values_in}
 use Rattle.smv_meaning.specs.Bodies.{IsBodyOrder}
 use Rattle.smv_evaluation.specs.Rows.{AreGiven, kept_value, row_values, FoundKept, IsKept, is_marked, MarksClosed, is_written, LocalReady, local_value, LocalSafe, MarkedSafe, MarkedKept, KeepsMarked}
@@ -20,10 +20,10 @@ use Rattle.smv_meaning.specs.Reached.{is_body_of, local_leads_to}
 use Rattle.smv_instances.specs.View.{instance_plain}
 use Rattle.smv_evaluation.specs.View.{stated}
 use Rattle.smv_meaning.specs.laws.Booleans.{both_true, absurd_bool}
-use Rattle.smv_model_laws.proofs.Cycles.{In, in_any, same_is, same_self}
-use Rattle.smv_model_laws.proofs.Ranked.{key, in_keys}
-use Rattle.smv_model_laws.proofs.OrderLaws.{number, bool_cases}
-use Rattle.smv_model_laws.proofs.Settling.{Under}
+use Rattle.smv_laws.proofs.Cycles.{In, in_any, same_is, same_self}
+use Rattle.smv_laws.proofs.Ranked.{key, in_keys}
+use Rattle.smv_laws.proofs.OrderLaws.{number, bool_cases}
+use Rattle.smv_laws.proofs.Settling.{Under}
 use Rattle.smv_evaluation.proofs.Positions.{upto_positive, order_rank, at_place, rank_low, rank_at, body_before}
 use Rattle.smv_evaluation.proofs.RowReads.{kept, safely_kept, denoted_kept}
 

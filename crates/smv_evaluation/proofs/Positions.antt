@@ -17,11 +17,11 @@ use Rattle.smv_meaning.specs.Settled.{rank_of}
 use Rattle.smv_meaning.specs.Bodies.{bodies_of, number_or, reference_graph, placed_bodies, IsBodyOrder}
 use Rattle.smv_references.specs.View.{key_of, body_plain}
 use Rattle.smv_meaning.specs.laws.Booleans.{both_true, or_true, absurd_bool}
-use Rattle.smv_model_laws.proofs.Cycles.{In, in_all}
-use Rattle.smv_model_laws.proofs.Ranked.{key, keys_of, within_keys}
-use Rattle.smv_model_laws.proofs.OrderLaws.{number, nobody, bool_cases, place_within, place_is, number_to, graph_length, row_at, bodies_are}
+use Rattle.smv_laws.proofs.Cycles.{In, in_all}
+use Rattle.smv_laws.proofs.Ranked.{key, keys_of, within_keys}
+use Rattle.smv_laws.proofs.OrderLaws.{number, nobody, bool_cases, place_within, place_is, number_to, graph_length, row_at, bodies_are}
 use Rattle.smv_references.specs.laws.NumberLemmas.{keys_are}
-use Rattle.smv_model_laws.proofs.Settling.{Under, Falls, Descent, found_under, path_refers, ranking, look_settles}
+use Rattle.smv_laws.proofs.Settling.{Under, Falls, Descent, found_under, path_refers, ranking, look_settles}
 
 -- ---- places in a list
 

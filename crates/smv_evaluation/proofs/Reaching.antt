@@ -9,15 +9,15 @@ use Rattle.smv_meaning.specs.Expressions.{paths_of}
 use Rattle.smv_meaning.specs.Instances.{Instance}
 use Rattle.smv_meaning.specs.Names.{Local, alias, body_of, variable_of, inner, nothing, local, Found, variable_at, body_at, instance_at, symbol_of, cyclic, none, found_in}
 use Rattle.smv_meaning.specs.Phases.{Body}
-use Rattle.smv_instances.specs.NameMap.{named_in}
+use Rattle.name_maps.specs.Maps.{named_in}
 use Rattle.smv_meaning.specs.Settled.{has_body}
 use Rattle.smv_meaning.specs.Bodies.{IsBodyOrder}
 use Rattle.smv_evaluation.specs.Rows.{is_marked, MarkedOn, MarksStart, MarksLeast}
 use Rattle.smv_meaning.specs.Reached.{is_body_of, leads_to, local_leads_to}
 use Rattle.smv_meaning.specs.laws.Booleans.{both_true, or_true, absurd_bool}
-use Rattle.smv_model_laws.proofs.Cycles.{In, any_in, same_is}
-use Rattle.smv_model_laws.proofs.Ranked.{key, keys_of, in_keys}
-use Rattle.smv_model_laws.proofs.Settling.{Under}
+use Rattle.smv_laws.proofs.Cycles.{In, any_in, same_is}
+use Rattle.smv_laws.proofs.Ranked.{key, keys_of, in_keys}
+use Rattle.smv_laws.proofs.Settling.{Under}
 use Rattle.smv_evaluation.proofs.Positions.{order_rank, at_place, rank_low, rank_at, body_before}
 
 -- definitions and actuals that are marked

@@ -16,9 +16,9 @@ use Rattle.smv_meaning.specs.Settled.{Acyclic}
 use Rattle.smv_evaluation.specs.Rows.{AreGiven, row_values, row_reads, FoundKept, IsKept}
 use Rattle.smv_instances.specs.View.{instance_plain, found_here}
 use Rattle.smv_evaluation.specs.View.{stated}
-use Rattle.smv_model_laws.proofs.Cycles.{In}
-use Rattle.smv_model_laws.proofs.Agreeing.{more_paths, more_branches}
-use Rattle.smv_model_laws.proofs.Settling.{values_settle_law}
+use Rattle.smv_laws.proofs.Cycles.{In}
+use Rattle.smv_laws.proofs.Agreeing.{more_paths, more_branches}
+use Rattle.smv_laws.proofs.Settling.{values_settle_law}
 
 -- ---- what is owed of names may be another thing
 

@@ -28,11 +28,11 @@ use Rattle.smv_meaning.specs.Parts.{StandsIn}
 use Rattle.smv_meaning.specs.Checked.{IsChecked, all_trees, reaches_an_input}
 use Rattle.smv_evaluation.specs.Rows.{AreGiven, row_reads, FoundKept, IsKept, is_marked, MarksStart, MarksLeast, LocalSafe, MarkedSafe, MarkedKept}
 use Rattle.smv_meaning.specs.Reached.{is_body_of}
-use Rattle.smv_model_laws.proofs.Cycles.{In, in_any, same_self}
-use Rattle.smv_model_laws.proofs.Ranked.{key}
-use Rattle.smv_model_laws.proofs.Settling.{Under, all_under, ranking}
-use Rattle.smv_model_laws.proofs.SafeExpressions.{acyclic, expressions_are_safe_law, local_reaches, body_is_safe, leads_clear, local_clear}
-use Rattle.smv_model_laws.proofs.FoundLaws.{gives_found}
+use Rattle.smv_laws.proofs.Cycles.{In, in_any, same_self}
+use Rattle.smv_laws.proofs.Ranked.{key}
+use Rattle.smv_laws.proofs.Settling.{Under, all_under, ranking}
+use Rattle.smv_laws.proofs.SafeExpressions.{acyclic, expressions_are_safe_law, local_reaches, body_is_safe, leads_clear, local_clear}
+use Rattle.smv_laws.proofs.FoundLaws.{gives_found}
 use Rattle.smv_evaluation.proofs.RowReads.{safe_holds, kept, safely_kept, denoted_kept}
 
 abbrev pub States : Type 0

@@ -18,7 +18,7 @@ use Rattle.smv_meaning.specs.Instances.{Instance, dotted}
 use Rattle.smv_evaluation.specs.Dotting.{dotted_name}
 use Rattle.smv_meaning.specs.Names.{Local, body_of, local, Found, body_at}
 use Rattle.smv_meaning.specs.Meaning.{value_found}
-use Rattle.smv_instances.specs.NameMap.{named_in}
+use Rattle.name_maps.specs.Maps.{named_in}
 use Rattle.smv_meaning.specs.Reached.{leads_to, local_leads_to}
 use Rattle.smv_meaning.specs.Safety.{Safe, SafeLinks, SafeBranches}
 use Rattle.smv_meaning.specs.Settled.{values_in}

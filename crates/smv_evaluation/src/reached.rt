@@ -11,7 +11,8 @@ ghost use Rattle.smv_meaning.specs.Reached.{is_body_of, leads_to, local_leads_to
 ghost use Rattle.smv_instances.specs.View.{instance_plain};
 ghost use Rattle.smv_references.specs.View.{body_plain, path_seen};
 
-use smv_instances::{InstanceMap, Known, Table, Target, nothing_in, put_in, value_in};
+use name_maps::{InstanceMap, nothing_in, put_in, value_in};
+use smv_instances::{Known, Table, Target};
 use smv_references::{Body, Ordering, bodies_in, body_order, paths_in};
 use smv_text::{Expr, Path};
 use std::alloc::Global;

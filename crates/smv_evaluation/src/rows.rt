@@ -4,14 +4,15 @@ ghost use Rattle.smv_meaning.specs.Values.{given};
 ghost use Rattle.smv_meaning.specs.Names.{dotted_at};
 ghost use Rattle.smv_meaning.specs.Meaning.{is_input};
 ghost use Rattle.smv_meaning.specs.Instances.{dotted};
-ghost use Rattle.smv_instances.specs.NameMap.{named_in};
+ghost use Rattle.name_maps.specs.Maps.{named_in};
 ghost use Rattle.smv_evaluation.specs.Rows.{found_value, at_dotted, AreGiven, kept_value, row_reads, IsKept};
 ghost use Rattle.smv_instances.specs.View.{instance_plain};
 ghost use Rattle.smv_operators.specs.View.{seen_value};
 ghost use Rattle.smv_evaluation.specs.View.{stated};
 
 use crate::dotted::Dotted;
-use smv_instances::{InstanceMap, Table, Target};
+use name_maps::InstanceMap;
+use smv_instances::{Table, Target};
 use smv_meaning::{State, Value};
 use smv_operators::{Seen, borrow_value, copy_value, no_seen};
 use smv_text::{Path, VarKind};

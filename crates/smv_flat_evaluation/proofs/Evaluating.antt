@@ -2,7 +2,7 @@
 use Rattle.std.proofs.Common.{◌≡◌, ℕ, ◌≤◌, max, Bool, true, false, ◌&&◌, ◌||◌, if◌then◌else◌, List, [], ◌∷◌, ◌++◌, map, Option, option_map, refl, sym, ap, ◌∙◌, subst, arith, rules, Vec, Box, Global}
 use Rattle.smv_text.specs.declared.operators.Infix.{Infix}
 use Rattle.smv_text.specs.declared.operators.Infix.TheVariants.{Member, Union}
-use Rattle.smv_type_laws.proofs.SafeLaws.{front_value_is}
+use Rattle.smv_laws.proofs.SafeLaws.{front_value_is}
 use Rattle.smv_meaning.specs.declared.value.Value.{Value}
 use Rattle.smv_meaning.specs.Values.{is_true}
 use Rattle.smv_meaning.specs.Expressions.{Denotation, alone, joined, is_implies}

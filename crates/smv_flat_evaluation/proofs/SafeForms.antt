@@ -20,10 +20,10 @@ use Rattle.smv_meaning.specs.Literals.{words_fit}
 use Rattle.smv_meaning.specs.Parts.{IsPart, InTrees, InOne, expressions_in, InElements, InActuals, StandsIn}
 use Rattle.smv_meaning.specs.Settled.{values_in, types_in}
 use Rattle.smv_meaning.specs.Checked.{IsChecked, all_trees}
-use Rattle.smv_type_laws.proofs.SafeLaws.{safe}
-use Rattle.smv_model_laws.proofs.Ranked.{cycles_are_checked_law}
-use Rattle.smv_model_laws.proofs.SafeExpressions.{accepted_is_checked_law, expressions_have_types_law}
-use Rattle.smv_model_laws.proofs.ValueLaws.{paths_lie_law}
+use Rattle.smv_laws.proofs.SafeLaws.{safe}
+use Rattle.smv_laws.proofs.Ranked.{cycles_are_checked_law}
+use Rattle.smv_laws.proofs.SafeExpressions.{accepted_is_checked_law, expressions_have_types_law}
+use Rattle.smv_laws.proofs.ValueLaws.{paths_lie_law}
 use Rattle.smv_items.specs.FlatItems.{Content, variable, definition, actual, Origin, with_content, actual_content, actual_items, domain_content, variable_item, definition_item, element_items, items_here, symbols_of, leaf_in}
 use Rattle.smv_flat.specs.FlatForms.{Form, flat_in, content_form, body_forms, assignment_form, element_forms, forms_here, forms_from, flat_of}
 use Rattle.smv_flat_laws.specs.FlatTruth.{Row, symbol_value, IsRow}

@@ -19,9 +19,9 @@ use Rattle.smv_meaning.specs.Checks.{Position, single, under_next, Named, Typing
 use Rattle.smv_meaning.specs.Naming.{named_found, naming}
 use Rattle.smv_meaning.specs.laws.Booleans.{both_true}
 use Rattle.smv_meaning.specs.laws.Booleans.{absurd_bool}
-use Rattle.smv_model_laws.proofs.Cycles.{In}
-use Rattle.smv_model_laws.proofs.Agreeing.{denote_same}
-use Rattle.smv_model_laws.proofs.Typable.{split, Holds, linked_front, front_parts}
+use Rattle.smv_laws.proofs.Cycles.{In}
+use Rattle.smv_laws.proofs.Agreeing.{denote_same}
+use Rattle.smv_laws.proofs.Typable.{split, Holds, linked_front, front_parts}
 
 -- the paths that may be read have the same values
 abbrev pub SameWhere : (Path → Named) → Bool → (f h : Path → Value) → Type 0

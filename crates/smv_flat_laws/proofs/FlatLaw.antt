@@ -8,9 +8,9 @@ use Rattle.smv_meaning.specs.Phases.{module_checks, declaration_checks, size_che
 use Rattle.smv_meaning.specs.Settled.{cycle_checks_of}
 use Rattle.smv_meaning.specs.Checked.{path_checks_of, type_checks_of}
 use Rattle.smv_meaning.specs.laws.Booleans.{both_true, two_true}
-use Rattle.smv_model_laws.proofs.Ranked.{cycles_are_checked_law}
-use Rattle.smv_model_laws.proofs.Typable.{split}
-use Rattle.smv_model_laws.proofs.SafeExpressions.{accepted_is_checked_law}
+use Rattle.smv_laws.proofs.Ranked.{cycles_are_checked_law}
+use Rattle.smv_laws.proofs.Typable.{split}
+use Rattle.smv_laws.proofs.SafeExpressions.{accepted_is_checked_law}
 use Rattle.smv_text.specs.declared.tree.When.TheVariants.{Always, First, Following}
 use Rattle.smv_meaning.specs.Meaning.{denoted, reading}
 use Rattle.smv_meaning.specs.Names.{steps_of}

@@ -18,8 +18,8 @@ use Rattle.smv_meaning.specs.Meaning.{is_input, value_found}
 use Rattle.smv_meaning.specs.Naming.{in_body}
 use Rattle.smv_meaning.specs.Phases.{over_instances}
 use Rattle.smv_meaning.specs.Settled.{Acyclic, values_in, types_in}
-use Rattle.smv_model_laws.proofs.Agreeing.{denote_same}
-use Rattle.smv_model_laws.proofs.Settling.{values_settle_law, values_are_one_law}
+use Rattle.smv_laws.proofs.Agreeing.{denote_same}
+use Rattle.smv_laws.proofs.Settling.{values_settle_law, values_are_one_law}
 use Rattle.smv_items.specs.FlatItems.{Leaf, Content, variable, definition, actual, Origin, items_here, origins_of, symbols_of, is_variable_as, path_of, item_leaf, symbol_leaf, leaf_found, leaf_in, kind_of, flat_item_of}
 use Rattle.smv_flat.specs.FlatForms.{Form, flat_in, content_form, body_forms, assignment_form, element_forms, forms_here, forms_from, PlainFlat, flat_of}
 use Rattle.smv_flat_laws.specs.FlatTruth.{Row, symbol_or_none, symbol_value, form_denotes, GivesKind, GivesItem, MeetsForms, IsRow}

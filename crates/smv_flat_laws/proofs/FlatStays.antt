@@ -20,7 +20,7 @@ use Rattle.smv_meaning.specs.Runs.{no_values, is_frozen, element_stays, frozen_s
 use Rattle.smv_meaning.specs.Settled.{types_in}
 use Rattle.smv_meaning.specs.laws.Booleans.{both_true}
 use Rattle.smv_meaning.specs.laws.Booleans.{absurd_bool}
-use Rattle.smv_model_laws.proofs.Typable.{split, Holds}
+use Rattle.smv_laws.proofs.Typable.{split, Holds}
 use Rattle.smv_flat.specs.FlatTree.{FlatTree}
 use Rattle.smv_items.specs.FlatItems.{Content, variable, definition, actual, Origin, with_content, actual_content, actual_items, domain_content, variable_item, definition_item, element_items, items_here, origins_of, path_of, kind_of, flat_item_of}
 use Rattle.smv_flat.specs.FlatForms.{Form, content_form, body_forms, assignment_form, element_forms, forms_here, forms_from, flat_of}

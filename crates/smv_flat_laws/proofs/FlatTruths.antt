@@ -20,9 +20,9 @@ use Rattle.smv_meaning.specs.Runs.{no_values, assignment_holds, element_holds, o
 use Rattle.smv_meaning.specs.Settled.{Acyclic, values_in, types_in}
 use Rattle.smv_meaning.specs.laws.Booleans.{both_true}
 use Rattle.smv_meaning.specs.laws.Booleans.{absurd_bool}
-use Rattle.smv_model_laws.proofs.Agreeing.{denote_same}
-use Rattle.smv_model_laws.proofs.Settling.{types_settle_law}
-use Rattle.smv_model_laws.proofs.Typable.{split, Holds}
+use Rattle.smv_laws.proofs.Agreeing.{denote_same}
+use Rattle.smv_laws.proofs.Settling.{types_settle_law}
+use Rattle.smv_laws.proofs.Typable.{split, Holds}
 use Rattle.smv_items.specs.FlatItems.{Leaf, of_item, Content, variable, definition, actual, Origin, items_here, symbols_of, item_leaf, leaf_found, leaf_in}
 use Rattle.smv_flat.specs.FlatForms.{Form, flat_in, content_form, body_forms, number_or_first, assignment_form, element_forms, forms_here, forms_from, flat_of}
 use Rattle.smv_flat_laws.specs.FlatTruth.{Row, symbol_value, form_denotes, IsRow, role_holds}

@@ -18,7 +18,7 @@ use Rattle.smv_meaning.specs.Phases.{in_state, in_step, in_assignment, over_inst
 use Rattle.smv_meaning.specs.Checked.{path_checks_of, type_checks_of}
 use Rattle.smv_meaning.specs.Settled.{types_in, cycle_checks_of}
 use Rattle.smv_meaning.specs.laws.Booleans.{two_true}
-use Rattle.smv_model_laws.proofs.Typable.{split}
+use Rattle.smv_laws.proofs.Typable.{split}
 use Rattle.smv_items.specs.FlatItems.{Leaf, of_item, of_symbol, of_nothing, Content, variable, definition, actual, Origin, is_item, item_leaf, symbol_leaf, items_here, origins_of, symbols_of, leaf_found, leaf_in, flat_item_of}
 use Rattle.smv_flat.specs.FlatTree.{leaf_tree, flat_tree, flat_links, flat_branches, flat_trees}
 use Rattle.smv_flat.specs.FlatForms.{Form, content_form, body_forms, number_or_first, assignment_form, element_forms, forms_here, forms_from, forms_of, flat_in}

@@ -13,7 +13,7 @@ ghost use Rattle.smv_items.specs.FlatOrigins.{content_plain};
 use smv_instances::Table;
 use smv_intervals::Ty;
 use smv_items::Content;
-use smv_model_laws::refused_have_no_type;
+use smv_laws::refused_have_no_type;
 use smv_model_types::{Types, variable_type};
 use smv_text::Expr;
 use smv_types::Position;

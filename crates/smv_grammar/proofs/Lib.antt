@@ -8,3 +8,14 @@ pub mod Complete
 pub mod Sound
 pub mod Closes
 pub mod Expressions
+pub mod Lawful
+pub mod Mapped
+pub mod Choices
+pub mod Loops
+pub mod Asked
+pub mod Tokens
+pub mod Lists
+pub mod Types
+pub mod Sections
+pub mod Modules
+pub mod Models

@@ -4,3 +4,5 @@ pub mod Ranks
 pub mod Machine
 pub mod Reading
 pub mod Taken
+pub mod Readers
+pub mod Rules

@@ -1,12 +1,15 @@
-//! The machine that reads expressions of SMV token by token, and the laws that it reads what the grammar spells.
+//! The grammar of SMV as readers of tokens: a machine for expressions and combinators for models, and the laws that both read exactly
+//! what the grammar spells.
 #![tactic(auto)]
 
-mod laws;
+mod expression_laws;
 mod levels;
 mod listing;
 mod marks;
+mod model_laws;
 
-pub use laws::{machine_is_exact, one_tree};
+pub use expression_laws::{machine_is_exact, one_tree};
 pub use levels::{Leader, first_rank, leader_of, level_at, operator_after};
 pub use listing::Listing;
 pub use marks::{after_word, is_first, is_sign, tokens_after};
+pub use model_laws::{one_source, readers_are_exact};

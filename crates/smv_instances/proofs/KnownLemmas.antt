@@ -16,7 +16,7 @@ use Rattle.smv_instances.specs.laws.NameLemmas.{parameters_end}
 use Rattle.smv_instances.specs.declared.instances.Instance.{Instance as PartOf}
 use Rattle.smv_instances.specs.declared.names.Known.{Known}
 use Rattle.smv_meaning.specs.Names.{Local, nothing, among_parameters}
-use Rattle.smv_instances.specs.declared.instance_rows.InstanceRows.{InstanceRows}
+use Rattle.name_maps.specs.declared.instance_rows.InstanceRows.{InstanceRows}
 use Rattle.smv_instances.specs.NameMap.{known_at, kept_in, kept}
 use Rattle.smv_instances.specs.View.{instance_plain}
 

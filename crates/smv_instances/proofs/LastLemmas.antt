@@ -16,10 +16,10 @@ use Rattle.smv_text.specs.View.{plain, plain_module, plain_element, plain_domain
 use Rattle.smv_meaning.specs.Instances.{module_named}
 use Rattle.smv_meaning.specs.Names.{Local, nothing, body_of, of_actual, of_domain, among_items, among_definitions, among_elements, among_parameters}
 use Rattle.smv_instances.specs.declared.names.Known.{Known}
-use Rattle.smv_instances.specs.declared.rows.NameRows.{NameRows}
-use Rattle.smv_instances.specs.declared.instance_rows.InstanceRows.{InstanceRows}
+use Rattle.name_maps.specs.declared.rows.NameRows.{NameRows}
+use Rattle.name_maps.specs.declared.instance_rows.InstanceRows.{InstanceRows}
 use Rattle.smv_instances.specs.NameMap.{module_at, FindsPlaces, known_at}
-use Rattle.smv_instances.specs.Rows.{row_in, row_named}
+use Rattle.name_maps.specs.Rows.{row_in, row_named}
 use Rattle.smv_instances.specs.View.{local_plain, or_local}
 
 from_last : {X : Type 0} (xs : List X) (k : ℕ) (x : X) → 0 < k → k ≤ length xs → x ≡ slice_index_or xs (k - 1) x → drop (k - 1) xs ≡ x ∷ drop k xs

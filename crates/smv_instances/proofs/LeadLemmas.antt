@@ -5,7 +5,7 @@ use Rattle.std.specs.Prelude.{slice_index_or, position, IfSome}
 use Rattle.std.specs.List.{list_any}
 use Rattle.std.proofs.Math.Numerals.{add-one}
 use Rattle.std.proofs.Math.Seq.{take-suc}
-use Rattle.smv_instances.specs.declared.instance_rows.InstanceRows.{InstanceRows}
+use Rattle.name_maps.specs.declared.instance_rows.InstanceRows.{InstanceRows}
 use Rattle.std.proofs.lemmas.Bool.{ltb-true, cases_lt, eqb-true, eq-eqb, false≢true}
 use Rattle.std.proofs.lemmas.Option.{none-some}
 use Rattle.std.proofs.lemmas.Slice.Eq.{bytes_eq-Decides}
@@ -15,7 +15,7 @@ use Rattle.smv_instances.specs.declared.leads.Key.{Key}
 use Rattle.smv_meaning.specs.Instances.{Instance}
 use Rattle.smv_meaning.specs.Bodies.{instance_within}
 use Rattle.smv_meaning.specs.Names.{Local, alias, inner, is_child, local, Found, variable_at, body_at, instance_at, symbol_of, cyclic, none, at_child, landed, look, steps_of, onward, walk, single, through, found_in, resolved}
-use Rattle.smv_instances.specs.Rows.{row_in}
+use Rattle.name_maps.specs.Rows.{row_in}
 use Rattle.smv_instances.specs.Leads.{until, LeadsTo, NameLeads, Right, IsOpen, StaysClosed, IsWaiting, AllWait, IsClosed, is_key, WalkOf, KeyWalk, are_same_single, are_one_name}
 use Rattle.smv_instances.specs.declared.leads.Walk.{Walk}
 use Rattle.smv_instances.specs.declared.leads.Walk.TheVariants.{Ends, Waits}

@@ -1,5 +1,4 @@
 pub mod Grow
-pub mod RowLemmas
 pub mod KeyLemmas
 pub mod LeadLemmas
 pub mod KnownLemmas

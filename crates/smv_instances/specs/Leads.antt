@@ -2,14 +2,14 @@
 use Rattle.std.specs.Prelude.{◌≡◌, ℕ, suc, ◌+◌, ◌==◌, ◌&&◌, nat_lt, Bool, true, false, not, List, [], ◌∷◌, if◌then◌else◌, Option, Some, None, bytes_eq}
 use Rattle.std.specs.List.{list_any}
 use Rattle.smv_text.specs.declared.tree.Path.{Path}
-use Rattle.smv_instances.specs.declared.instance_rows.InstanceRows.{InstanceRows}
+use Rattle.name_maps.specs.declared.instance_rows.InstanceRows.{InstanceRows}
 use Rattle.smv_instances.specs.declared.leads.Lead.{Lead}
 use Rattle.smv_instances.specs.declared.leads.Key.{Key}
 use Rattle.smv_instances.specs.declared.leads.Walk.{Walk}
 use Rattle.smv_instances.specs.declared.leads.Walk.TheVariants.{Ends, Waits}
 use Rattle.smv_meaning.specs.Instances.{Instance}
 use Rattle.smv_meaning.specs.Names.{Local, alias, local, Found, cyclic, look}
-use Rattle.smv_instances.specs.Rows.{row_in}
+use Rattle.name_maps.specs.Rows.{row_in}
 use Rattle.smv_instances.specs.View.{found_plain}
 
 -- cyclic where fewer steps are taken

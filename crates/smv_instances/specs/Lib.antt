@@ -1,5 +1,4 @@
 pub mod View
-pub mod Rows
 pub mod NameCounts
 pub mod NameMap
 pub mod Leads

@@ -1,8 +1,8 @@
 -- Values by the bytes of a name.
-use Rattle.std.specs.Prelude.{◌≡◌, ℕ, ◌==◌, Bool, ◌&&◌, nat_le, if◌then◌else◌, List, map, length, slice_get, position, Option, Some, None, is_some, bytes_eq}
+use Rattle.std.specs.Prelude.{◌≡◌, ℕ, Bool, ◌&&◌, nat_le, if◌then◌else◌, List, map, length, slice_get, position, Option, Some, None, is_some}
 use Rattle.std.specs.Option.{option_map}
 use Rattle.std.specs.Borrow.{Bor}
-use Rattle.std.specs.HashMap.{HashMap, get_by}
+use Rattle.std.specs.HashMap.{HashMap}
 use Rattle.smv_text.specs.declared.tree.Module.{Module}
 use Rattle.smv_text.specs.Tree.{PlainModule}
 use Rattle.smv_text.specs.View.{plain_module}
@@ -10,18 +10,11 @@ use Rattle.smv_meaning.specs.Instances.{Instance, module_named}
 use Rattle.smv_instances.specs.declared.instances.Instance.{Instance as PartOf}
 use Rattle.smv_instances.specs.declared.names.Known.{Known}
 use Rattle.smv_meaning.specs.Names.{Local, nothing, local_in, is_child, has_symbol}
-use Rattle.smv_instances.specs.declared.rows.NameRows.{NameRows}
-use Rattle.smv_instances.specs.declared.instance_rows.InstanceRows.{InstanceRows}
-use Rattle.smv_instances.specs.Rows.{row_named, row_in}
+use Rattle.name_maps.specs.declared.rows.NameRows.{NameRows}
+use Rattle.name_maps.specs.declared.instance_rows.InstanceRows.{InstanceRows}
+use Rattle.name_maps.specs.Rows.{row_named, row_in}
+use Rattle.name_maps.specs.Maps.{named}
 use Rattle.smv_instances.specs.View.{instance_plain, or_local}
-
--- the value of a name
-abbrev pub named : {X S : Type 0} → HashMap (Bor (List ℕ)) X S → List ℕ → Option X
-named m x = get_by (λ k. bytes_eq x k.now) m
-
--- the value of a name in the numbered instance
-abbrev pub named_in : {X S : Type 0} → HashMap (ℕ × Bor (List ℕ)) X S → ℕ → List ℕ → Option X
-named_in m i x = get_by (λ k. i == k.0 && bytes_eq x k.1.now) m
 
 -- the module at the place, where there is one
 abbrev pub module_at : List Module → Option ℕ → Option PlainModule

@@ -3,12 +3,11 @@ ghost use Rattle.std.specs.Prelude.{◌≡◌, ◌<◌, ◌+◌, Some, true, fal
 ghost use Rattle.smv_instances.specs.Leads.{Right, IsOpen, StaysClosed, KeyWalk, WaitsIfOpen, AllWait, IsClosed};
 ghost use Rattle.smv_instances.specs.View.{instance_plain};
 
-use crate::instance_map::{InstanceMap, nothing_in, put_in, value_in};
-use crate::instance_rows::{add_row_in, no_rows_in, row_value_in};
 use crate::keys::keys_of;
 use crate::leads::{Key, Lead, Leads, Walk, path_walk};
 use crate::names::Known;
 use crate::parts::Parts;
+use name_maps::{InstanceMap, add_row_in, no_rows_in, nothing_in, put_in, row_value_in, value_in};
 use std::alloc::Global;
 use text_core::NoMemory;
 

@@ -1,11 +1,11 @@
 // Which instance a name is in an instance, found with no scan.
 ghost use Rattle.std.specs.Prelude.{◌≡◌, List, ℕ, Some, is_none, map, position, IfOk, OnOk, ◌&&◌, if◌then◌else◌};
 ghost use Rattle.smv_meaning.specs.Names.{is_child};
-ghost use Rattle.smv_instances.specs.Rows.{row_in};
+ghost use Rattle.name_maps.specs.Rows.{row_in};
 ghost use Rattle.smv_instances.specs.View.{instance_plain};
 
-use crate::instance_rows::{InstanceRows, add_first_in, no_rows_in};
 use crate::instances::Instance;
+use name_maps::{InstanceRows, add_first_in, no_rows_in};
 use std::alloc::Global;
 use text_core::NoMemory;
 

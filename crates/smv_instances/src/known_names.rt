@@ -7,16 +7,31 @@ ghost use Rattle.smv_instances.specs.NameCounts.{names_of, kept_names_of};
 ghost use Rattle.smv_instances.specs.NameMap.{Knows, known_at, kept_in};
 ghost use Rattle.smv_instances.specs.View.{instance_plain};
 
-use crate::instance_rows::{InstanceRows, add_row_in, names_in, no_rows_in};
 use crate::instances::Instance;
 use crate::names::{Known, actual, domain};
 use crate::scanning::is_small;
+use name_maps::{InstanceRows, add_row_in, no_rows_in};
 use smv_text::{Definitions, Element, Elements, Expr, Items, Module, Parameters, VarKind};
 use std::alloc::Global;
 use text_core::NoMemory;
 
 /// What names are in the instances.
 pub type KnownNames<'a> = InstanceRows<'a, Known<'a>>;
+
+// How many names a module declares, as far as a number can tell it.
+fn names_in(module: &Module) -> usize
+    ensures { result ≡ min (names_of (plain_module «module».now)) (2 ^ 64 - 1) }
+{
+    let mut count = module.parameters.len();
+    for element in &module.elements {
+        match element {
+            Element::Vars(_, items) => count = count.saturating_add(items.len()),
+            Element::Defines(definitions) => count = count.saturating_add(definitions.len()),
+            _ => {}
+        }
+    }
+    count
+}
 
 // From the last on, so that the first one of a name counts.
 fn put_items<'a>(

@@ -4,9 +4,9 @@ ghost use Rattle.smv_meaning.specs.Names.{instance_at, look, walk, resolved, loc
 ghost use Rattle.smv_instances.specs.Leads.{until, Right, LeadAt, WalkOf};
 ghost use Rattle.smv_instances.specs.View.{instance_plain, local_plain};
 
-use crate::instance_rows::{InstanceRows, row_value_in};
 use crate::names::{Known, Target, last};
 use crate::parts::Parts;
+use name_maps::{InstanceRows, row_value_in};
 use smv_text::Path;
 use text_core::Names;
 

@@ -5,7 +5,7 @@ ghost use Rattle.smv_meaning.specs.Instances.{module_named};
 ghost use Rattle.smv_instances.specs.NameMap.{module_at, FindsPlaces};
 ghost use Rattle.smv_instances.specs.View.{module_or_none};
 
-use crate::rows::{NameRows, add_row, no_rows, row_value};
+use name_maps::{NameRows, add_row, no_rows, row_value};
 use smv_text::{Module, Modules};
 use std::alloc::Global;
 use std::marker::Model;

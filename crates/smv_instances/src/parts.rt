@@ -5,13 +5,12 @@ ghost use Rattle.smv_meaning.specs.Names.{definitions_in, bodies_in, steps_of, l
 ghost use Rattle.smv_instances.specs.View.{instance_plain, local_plain};
 
 use crate::children::{Children, children_of};
-use crate::instance_rows::row_value_in;
 use crate::instances::Instance;
 use crate::known_names::{KnownNames, known_in_all};
-use crate::name_map::value_under;
 use crate::names::Known;
 use crate::scanning::{is_small, scanned};
 use crate::symbols::{SymbolNames, symbols_of};
+use name_maps::{row_value_in, value_under};
 use smv_text::{Element, Elements};
 use std::alloc::Global;
 use std::marker::Model;

@@ -4,11 +4,11 @@ ghost use Rattle.std.specs.List.{list_any};
 ghost use Rattle.smv_text.specs.View.{plain_item, plain_element};
 ghost use Rattle.smv_meaning.specs.Instances.{is_one_of};
 ghost use Rattle.smv_meaning.specs.Names.{is_symbol, domain_has, item_has, element_has, has_symbol};
-ghost use Rattle.smv_instances.specs.NameMap.{named};
+ghost use Rattle.name_maps.specs.Maps.{named};
 ghost use Rattle.smv_instances.specs.View.{instance_plain};
 
 use crate::instances::Instance;
-use crate::name_map::{NameMap, no_names, put};
+use name_maps::{NameMap, no_names, put};
 use smv_text::{Domain, Element, Elements, Items, Member, Members};
 use std::alloc::Global;
 use text_core::{Names, NoMemory};

@@ -14,9 +14,9 @@ use Rattle.smv_meaning.specs.Instances.{Instance}
 use Rattle.smv_meaning.specs.Names.{Found, variable_at, body_at, dotted_at}
 use Rattle.smv_meaning.specs.laws.Booleans.{both_true}
 use Rattle.smv_meaning.specs.Meaning.{is_input}
-use Rattle.smv_instances.specs.declared.instance_rows.InstanceRows.{InstanceRows}
-use Rattle.smv_instances.specs.declared.rows.NameRows.{NameRows}
-use Rattle.smv_instances.specs.Rows.{row_named, row_in}
+use Rattle.name_maps.specs.declared.instance_rows.InstanceRows.{InstanceRows}
+use Rattle.name_maps.specs.declared.rows.NameRows.{NameRows}
+use Rattle.name_maps.specs.Rows.{row_named, row_in}
 use Rattle.smv_instances.specs.laws.ChildLemmas.{position_push}
 use Rattle.smv_items.specs.declared.origins.Origin.{Origin as KeptOrigin}
 use Rattle.smv_items.specs.declared.numbers.ItemNumbers.{ItemNumbers}

@@ -3,8 +3,8 @@ use Rattle.std.proofs.Common.{◌≡◌, ℕ, ◌||◌, Bool, true, false, not, 
 use Rattle.std.proofs.lemmas.Slice.Eq.{bytes_eq-Decides}
 use Rattle.std.specs.List.{list_any}
 use Rattle.std.specs.Str.{bytes_eq}
-use Rattle.name_set.specs.Names.{place_of}
-use Rattle.name_set.specs.laws.Places.{placed}
+use Rattle.name_maps.specs.Names.{place_of}
+use Rattle.name_maps.specs.laws.Places.{placed}
 use Rattle.smv_meaning.specs.Instances.{is_one_of}
 use Rattle.smv_items.specs.FlatItems.{gathered}
 

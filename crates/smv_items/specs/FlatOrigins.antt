@@ -9,9 +9,9 @@ use Rattle.smv_items.specs.declared.origins.Content.TheVariants as OfContent
 use Rattle.smv_items.specs.declared.origins.Origin.{Origin as KeptOrigin}
 use Rattle.smv_text.specs.declared.tree.VarKind.{VarKind}
 use Rattle.smv_text.specs.declared.tree.VarKind.TheVariants as OfVarKind
-use Rattle.smv_instances.specs.declared.rows.NameRows.{NameRows}
-use Rattle.smv_instances.specs.declared.instance_rows.InstanceRows.{InstanceRows}
-use Rattle.smv_instances.specs.Rows.{row_named, row_in}
+use Rattle.name_maps.specs.declared.rows.NameRows.{NameRows}
+use Rattle.name_maps.specs.declared.instance_rows.InstanceRows.{InstanceRows}
+use Rattle.name_maps.specs.Rows.{row_named, row_in}
 use Rattle.smv_items.specs.declared.numbers.Leaf.{Leaf as KeptLeaf}
 use Rattle.smv_items.specs.declared.numbers.Leaf.TheVariants as OfLeaf
 use Rattle.smv_items.specs.declared.numbers.PathNumbers.{PathNumbers}

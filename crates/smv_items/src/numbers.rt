@@ -4,17 +4,18 @@ ghost use Rattle.smv_text.specs.declared.tree.VarKind.TheVariants as OfVarKind;
 ghost use Rattle.smv_meaning.specs.Instances.{Instance as Specified};
 ghost use Rattle.smv_meaning.specs.Meaning.{is_input};
 ghost use Rattle.smv_meaning.specs.Names.{dotted_at};
-ghost use Rattle.smv_instances.specs.Rows.{row_named};
+ghost use Rattle.name_maps.specs.Rows.{row_named};
 ghost use Rattle.smv_instances.specs.View.{instance_plain, found_plain};
 ghost use Rattle.smv_items.specs.FlatItems.{is_variable_as, path_of, leaf_found, item_leaf, symbol_leaf, origins_of, symbols_of};
 ghost use Rattle.smv_items.specs.FlatOrigins.{origin_plain, content_plain, input_count, leaf_plain, number_kept, number_as, path_number, AreInstanceNumbers, AreNumbers, IsNoted, ArePathsNoted, IsItemNoted};
 
 use crate::origins::{Content, Origin, dotted_path};
 use crate::symbols::Symbols;
-use smv_instances::{
-    InstanceRows, NameRows, Table, Target, add_first_in, add_row, add_row_in, no_rows, no_rows_in,
-    row_value, row_value_in,
+use name_maps::{
+    InstanceRows, NameRows, add_first_in, add_row, add_row_in, no_rows, no_rows_in, row_value,
+    row_value_in,
 };
+use smv_instances::{Table, Target};
 use smv_text::VarKind;
 use std::alloc::Global;
 use text_core::{Name, NoMemory};

@@ -1,11 +1,11 @@
 // The symbols of a model, each at its first place.
 ghost use Rattle.std.specs.Prelude.{◌≡◌, ◌++◌, ◌∷◌, [], is_none, if◌then◌else◌, map, flat_map, position, bytes_eq, OnOk, IfOk};
 ghost use Rattle.smv_text.specs.View.{plain_item, plain_element, plain_domain};
-ghost use Rattle.name_set.specs.Names.{place_of};
+ghost use Rattle.name_maps.specs.Names.{place_of};
 ghost use Rattle.smv_instances.specs.View.{instance_plain};
 ghost use Rattle.smv_items.specs.FlatItems.{gathered, member_symbols, domain_symbols, element_symbols, symbols_of};
 
-use name_set::NameSet;
+use name_maps::NameSet;
 use smv_instances::Table;
 use smv_text::{Domain, Element, Elements, Items, Member, Members};
 use std::alloc::Global;

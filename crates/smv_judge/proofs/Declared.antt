@@ -15,7 +15,7 @@ use Rattle.smv_meaning.specs.Checks.{Named, on_type, passes, domain_checks, vari
 use Rattle.smv_meaning.specs.Phases.{over_instances, actuals_typing, element_typing, type_checks}
 use Rattle.smv_meaning.specs.Owed.{HasType}
 use Rattle.smv_meaning.specs.laws.Booleans.{both_true, two_true, absurd_bool}
-use Rattle.smv_model_laws.proofs.Typable.{split}
+use Rattle.smv_laws.proofs.Typable.{split}
 use Rattle.smv_items.specs.FlatItems.{Content, variable, definition, actual, Origin, with_content, actual_content, actual_items, domain_content, variable_item, definition_item, element_items, items_here, origins_of}
 use Rattle.smv_flat_laws.proofs.FlatSections.{AllModules, named_good}
 

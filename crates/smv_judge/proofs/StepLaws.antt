@@ -18,9 +18,9 @@ use Rattle.smv_meaning.specs.Phases.{names_in}
 use Rattle.smv_meaning.specs.Checked.{all_trees}
 use Rattle.smv_meaning.specs.Runs.{state_fits, label_fits, unless_fails, is_broken, judged_after, judged_smv}
 use Rattle.smv_meaning.specs.laws.Booleans.{both_true, absurd_bool}
-use Rattle.smv_model_laws.proofs.SafeExpressions.{accepted_is_checked_law}
-use Rattle.smv_spelled_words.proofs.Literals.{words_fit_law}
-use Rattle.smv_flat_names.proofs.ItemNames.{names_stand_once_law}
+use Rattle.smv_laws.proofs.SafeExpressions.{accepted_is_checked_law}
+use Rattle.smv_accepted.proofs.Literals.{words_fit_law}
+use Rattle.smv_accepted.proofs.ItemNames.{names_stand_once_law}
 use Rattle.smv_items.specs.FlatItems.{PlainFlatItem, origins_of}
 use Rattle.smv_items.specs.FlatItemView.{item_plain}
 use Rattle.smv_flat.specs.FlatForms.{PlainFlat, flat_smv}

@@ -10,7 +10,7 @@ use Rattle.smv_meaning.specs.Checks.{Named}
 use Rattle.smv_meaning.specs.Naming.{named_found, naming}
 use Rattle.smv_meaning.specs.Settled.{types_in}
 use Rattle.smv_meaning.specs.Bodies.{instance_within}
-use Rattle.smv_model_laws.proofs.FoundLaws.{Closed, LocalGood, found_good}
+use Rattle.smv_laws.proofs.FoundLaws.{Closed, LocalGood, found_good}
 use Rattle.smv_model_types.specs.Entries.{Entries, nameless, or_unnamed, variable_or, entry_or, entries_step, entries_walk, entries_names, HasEach}
 
 naming_found : (found : ℕ → Path → Found) (i : ℕ) (path : Path) (m : Found) (w : Named) → found i path ≡ m → ((read : ℕ → Path → Named) → named_found true read m ≡ w) → (n : ℕ) → 0 < n → naming true found n i path ≡ w

@@ -11,8 +11,8 @@ use Rattle.smv_meaning.specs.Naming.{unnamed, named_found}
 use Rattle.smv_meaning.specs.Phases.{Body, body_same}
 use Rattle.smv_meaning.specs.Settled.{has_body, types_in}
 use Rattle.smv_meaning.specs.Bodies.{instance_within}
-use Rattle.smv_instances.specs.declared.instance_rows.InstanceRows.{InstanceRows}
-use Rattle.smv_instances.specs.Rows.{row_in}
+use Rattle.name_maps.specs.declared.instance_rows.InstanceRows.{InstanceRows}
+use Rattle.name_maps.specs.Rows.{row_in}
 use Rattle.smv_meaning.specs.Orders.{is_listed}
 use Rattle.smv_types.specs.declared.names.Named.{Named as Kept}
 use Rattle.smv_types.specs.View.{named_seen}

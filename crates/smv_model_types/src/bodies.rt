@@ -14,9 +14,10 @@ ghost use Rattle.smv_model_types.specs.Entries.{entries_seen, entries_names, IsP
 
 use crate::names::{Entries, Reader, alias_named, path_named};
 use crate::variables::variables_of;
-use smv_instances::{Known, Table, add_row_in};
+use name_maps::add_row_in;
+use smv_instances::{Known, Table};
 use smv_intervals::Ty;
-use smv_model_laws::{
+use smv_laws::{
     names_settle, order_is_whole, references_stand_before, refused_have_no_type,
     types_hang_on_paths, types_settle,
 };

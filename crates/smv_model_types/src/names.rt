@@ -10,7 +10,8 @@ ghost use Rattle.smv_types.specs.View.{named_seen};
 ghost use Rattle.smv_model_types.specs.Entries.{entries_seen, alias_or, entry_or, or_unnamed, variable_or, named_instance, named_symbol, entries_single, entries_walk, entries_names, HasEach};
 
 use crate::domains::variable_named;
-use smv_instances::{InstanceRows, Known, Table, Target, row_value_in};
+use name_maps::{InstanceRows, row_value_in};
+use smv_instances::{Known, Table, Target};
 use smv_intervals::Ty;
 use smv_text::{Domain, Path, VarKind};
 use smv_types::{Named, Scope};

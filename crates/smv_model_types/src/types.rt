@@ -17,7 +17,7 @@ use crate::elements::instance_checked;
 use crate::names::{Entries, Reader, path_named, target_named};
 use smv_instances::{Table, Target};
 use smv_intervals::Ty;
-use smv_model_laws::types_hang_on_paths;
+use smv_laws::types_hang_on_paths;
 use smv_names::NamesEnd;
 use smv_references::Body;
 use smv_text::{Expr, Path};

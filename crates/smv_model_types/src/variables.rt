@@ -7,8 +7,9 @@ ghost use Rattle.smv_model_types.specs.Entries.{entries_seen, variable_put, Beco
 
 use crate::domains::variable_named;
 use crate::names::Entries;
-use smv_instances::{Known, Table, add_row_in, names_in_all, no_rows_in};
-use smv_model_laws::names_settle;
+use name_maps::{add_row_in, no_rows_in};
+use smv_instances::{Known, Table, names_in_all};
+use smv_laws::names_settle;
 use smv_text::{Domain, Element, Elements, Item, Items};
 use std::alloc::Global;
 use text_core::NoMemory;

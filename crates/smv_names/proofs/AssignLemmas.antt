@@ -9,8 +9,8 @@ use Rattle.std.specs.List.{list_any}
 use Rattle.std.specs.Prelude.{slice_index_or}
 use Rattle.smv_text.specs.declared.tree.When.{When}
 use Rattle.smv_text.specs.declared.tree.When.TheVariants.{Always, First, Following}
-use Rattle.smv_instances.specs.declared.rows.NameRows.{NameRows}
-use Rattle.smv_instances.specs.Rows.{row_named}
+use Rattle.name_maps.specs.declared.rows.NameRows.{NameRows}
+use Rattle.name_maps.specs.Rows.{row_named}
 use Rattle.smv_meaning.specs.Names.{Found, variable_at, body_at, instance_at, symbol_of, cyclic, none}
 use Rattle.smv_meaning.specs.Phases.{Assigned, when_same, is_assignable, variable_same, clashes, assigned_checks}
 use Rattle.smv_meaning.specs.Checks.{check, first_failing}

@@ -3,8 +3,8 @@ use Rattle.std.specs.Prelude.{◌≡◌, ℕ, Bool, true, false, ◌||◌, List,
 use Rattle.smv_text.specs.declared.tree.When.{When}
 use Rattle.smv_text.specs.declared.tree.When.TheVariants.{Always, First, Following}
 use Rattle.smv_instances.specs.declared.instances.Instance.{Instance as PartOf}
-use Rattle.smv_instances.specs.declared.rows.NameRows.{NameRows}
-use Rattle.smv_instances.specs.Rows.{row_named}
+use Rattle.name_maps.specs.declared.rows.NameRows.{NameRows}
+use Rattle.name_maps.specs.Rows.{row_named}
 use Rattle.smv_meaning.specs.Instances.{Instance}
 use Rattle.smv_meaning.specs.Names.{Found, variable_at, found_in}
 use Rattle.smv_meaning.specs.Phases.{Assigned}

@@ -11,7 +11,8 @@ ghost use Rattle.smv_names.specs.Outcome.{Settles};
 ghost use Rattle.smv_names.specs.Assigning.{assigned_plain, assigned_path, target_path, with_kind, kinds_or_none, kinds_clash, IsFollowed};
 
 use crate::ends::NamesEnd;
-use smv_instances::{Table, Target, add_row, is_same_name, no_rows, path_below, row_value};
+use name_maps::{add_row, no_rows, row_value};
+use smv_instances::{Table, Target, is_same_name, path_below};
 use smv_text::{Assignments, Element, Elements, Path, VarKind, When};
 use std::alloc::Global;
 use text_core::kinds::smv;

@@ -8,7 +8,8 @@ ghost use Rattle.smv_names.specs.View.{declared_plain};
 ghost use Rattle.smv_names.specs.Declaring.{first_twice};
 
 use crate::declared::{Declaration, Declarations, declared_of};
-use smv_instances::{ModuleTable, add_row, no_rows, row_value};
+use name_maps::{add_row, no_rows, row_value};
+use smv_instances::ModuleTable;
 use smv_text::{Module, Modules};
 use std::alloc::Global;
 use std::marker::Model;

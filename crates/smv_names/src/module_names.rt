@@ -7,7 +7,8 @@ ghost use Rattle.smv_meaning.specs.Phases.{name_checks, main_check, module_check
 ghost use Rattle.smv_names.specs.Outcome.{Settles};
 
 use crate::ends::NamesEnd;
-use smv_instances::{ModuleTable, no_names, put, value_under};
+use name_maps::{no_names, put, value_under};
+use smv_instances::ModuleTable;
 use smv_text::{Modules, Source};
 use std::alloc::Global;
 use text_core::kinds::smv;

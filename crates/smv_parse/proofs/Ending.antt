@@ -3,8 +3,8 @@ use Rattle.std.proofs.Common.{◌≡◌, ℕ, ◌≤◌, Option, Some, List, [],
 use Rattle.text_core.specs.declared.place.Place.{Place}
 use Rattle.smv_text.specs.declared.token.Token.{Token}
 use Rattle.smv_text.specs.Tree.{PlainModule}
-use Rattle.smv_readers.specs.Readers.{Reading, found, died, expression}
-use Rattle.smv_readers.specs.Rules.{model}
+use Rattle.smv_grammar.specs.Readers.{Reading, found, died, expression}
+use Rattle.smv_grammar.specs.Rules.{model}
 use Rattle.text_core.specs.declared.place.Refusal.{Refusal}
 use Rattle.smv_text.specs.Lexing.{TokenList}
 use Rattle.smv_expressions.specs.declared.stop.Stop.{Stop}
@@ -15,8 +15,8 @@ use Rattle.std.specs.Borrow.{Bor}
 use Rattle.smv_expressions.specs.declared.kept.Kept.{Kept}
 use Rattle.smv_expressions.specs.Following.{Takes}
 use Rattle.smv_expressions.specs.Gathered.{read_of}
-use Rattle.smv_readers.proofs.Asked.{expression_dies}
-use Rattle.smv_readers.proofs.Models.{dead_at, found_high, model_within, reading}
+use Rattle.smv_grammar.proofs.Asked.{expression_dies}
+use Rattle.smv_grammar.proofs.Models.{dead_at, found_high, model_within, reading}
 
 pub expression_loses : (h : Option Place) (xs : List Token) (e : Stop) → Takes {Y = Kept × Bor (List Token)} (λ x. (read_of x.0, x.1.now)) xs (Err e) → Loses (expression h xs) e
 expression_loses h xs (Dead n) f = expression_dies h xs n f

@@ -16,16 +16,16 @@ use Rattle.smv_expressions.specs.declared.stop.Stop.{Stop}
 use Rattle.smv_expressions.specs.declared.stop.Stop.TheVariants.{Dead, NoMemory}
 use Rattle.smv_parse.specs.Answers.{Loses, Gives, first_is}
 use Rattle.smv_grammar.specs.Marks.{is_sign, is_word}
-use Rattle.smv_readers.specs.Readers.{Reading, found, died, Reader, and_then, fail, both, mapped, Pick, either, with_first, loop, many}
+use Rattle.smv_grammar.specs.Readers.{Reading, found, died, Reader, and_then, fail, both, mapped, Pick, either, with_first, loop, many}
 use Rattle.smv_grammar.specs.Reading.{after, after_word, first_name, name_at, first_number, number_at}
 use Rattle.smv_expressions.specs.Following.{Finds, Misses}
 use Rattle.smv_grammar.specs.Reading as reading
-use Rattle.smv_readers.specs.Rules.{sign, word, number, number_of, name, name_of, mark, behind, listed}
-use Rattle.smv_readers.proofs.Choices.{PickLaw, Unpicked, one_reads, one_dies, one_ends, either_picks}
-use Rattle.smv_readers.proofs.Lawful.{Lawful, then_reads, then_dies, both_dies_first}
-use Rattle.smv_readers.proofs.Loops.{loop_ends, loop_steps}
-use Rattle.smv_readers.proofs.Mapped.{mapped_dies}
-use Rattle.smv_readers.proofs.Tokens.{sign_is, word_is}
+use Rattle.smv_grammar.specs.Rules.{sign, word, number, number_of, name, name_of, mark, behind, listed}
+use Rattle.smv_grammar.proofs.Choices.{PickLaw, Unpicked, one_reads, one_dies, one_ends, either_picks}
+use Rattle.smv_grammar.proofs.Lawful.{Lawful, then_reads, then_dies, both_dies_first}
+use Rattle.smv_grammar.proofs.Loops.{loop_ends, loop_steps}
+use Rattle.smv_grammar.proofs.Mapped.{mapped_dies}
+use Rattle.smv_grammar.proofs.Tokens.{sign_is, word_is}
 
 -- where a part dies, the whole does
 loses_through : {A B : Type 0} (o : Reading A) (part : Reading B) → ((n : ℕ) → part ≡ died n → o ≡ died n) → (e : Stop) → Loses part e → Loses o e

@@ -14,18 +14,18 @@ use Rattle.smv_expressions.specs.declared.stop.Stop.TheVariants.{Dead, NoMemory}
 use Rattle.smv_parse.specs.Answers.{Loses}
 use Rattle.smv_grammar.specs.Machine.{path_head, longer}
 use Rattle.smv_grammar.specs.Marks.{is_sign}
-use Rattle.smv_readers.specs.Readers.{Reading, found, died, Reader, fail, mapped, with_first, many, either, nothing}
+use Rattle.smv_grammar.specs.Readers.{Reading, found, died, Reader, fail, mapped, with_first, many, either, nothing}
 use Rattle.smv_grammar.specs.Reading.{Found, first_number, first_integer, integer_at, negated, first_path, path_at, path_on, path_step, with_name}
 use Rattle.smv_expressions.specs.Following.{Finds}
 use Rattle.smv_grammar.specs.Reading as reading
-use Rattle.smv_readers.specs.Rules.{name, name_of, number, symbol, behind, integer, integer_pick, steps, path, path_pick}
-use Rattle.smv_readers.proofs.Choices.{Free, of_none, either_picks, either_passes, one_reads, one_dies, one_ends}
-use Rattle.smv_readers.proofs.Lawful.{Lawful}
+use Rattle.smv_grammar.specs.Rules.{name, name_of, number, symbol, behind, integer, integer_pick, steps, path, path_pick}
+use Rattle.smv_grammar.proofs.Choices.{Free, of_none, either_picks, either_passes, one_reads, one_dies, one_ends}
+use Rattle.smv_grammar.proofs.Lawful.{Lawful}
 use Rattle.smv_parse.proofs.Leads.{law_shrinks, Shrinks, many_steps, many_dies, many_ends, number_found, number_lost}
-use Rattle.smv_readers.proofs.Lists.{Behind, behind_law}
-use Rattle.smv_readers.proofs.Mapped.{mapped_reads, mapped_dies}
-use Rattle.smv_readers.proofs.Sections.{StepAt, lawful_symbol, lawful_path, NotDot}
-use Rattle.smv_readers.proofs.Types.{lawful_integer}
+use Rattle.smv_grammar.proofs.Lists.{Behind, behind_law}
+use Rattle.smv_grammar.proofs.Mapped.{mapped_reads, mapped_dies}
+use Rattle.smv_grammar.proofs.Sections.{StepAt, lawful_symbol, lawful_path, NotDot}
+use Rattle.smv_grammar.proofs.Types.{lawful_integer}
 use Rattle.smv_text.specs.Grammar.{SpellsInteger, SpellsPath}
 
 -- what is found, wherever it is found

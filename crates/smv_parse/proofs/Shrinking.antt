@@ -12,17 +12,17 @@ use Rattle.smv_text.specs.Levels.{all_levels}
 use Rattle.smv_text.specs.Sources.{SpellsMember}
 use Rattle.smv_grammar.specs.Machine.{Ends}
 use Rattle.smv_grammar.specs.Marks.{is_word}
-use Rattle.smv_readers.specs.Readers.{found, died, expression}
+use Rattle.smv_grammar.specs.Readers.{found, died, expression}
 use Rattle.smv_grammar.specs.Reading.{after_word}
-use Rattle.smv_readers.specs.Rules.{behind, name, symbol, parameter, member, item_pick, definition_pick, assignment_pick, element_pick, module_pick}
-use Rattle.smv_readers.proofs.Asked.{alone, lawful_expression}
-use Rattle.smv_readers.proofs.Choices.{Free, of_none, Unpicked}
+use Rattle.smv_grammar.specs.Rules.{behind, name, symbol, parameter, member, item_pick, definition_pick, assignment_pick, element_pick, module_pick}
+use Rattle.smv_grammar.proofs.Asked.{alone, lawful_expression}
+use Rattle.smv_grammar.proofs.Choices.{Free, of_none, Unpicked}
 use Rattle.smv_parse.proofs.Leads.{Shrinks, law_shrinks, behind_shrinks, lawful_shorter, not_first_word}
-use Rattle.smv_readers.proofs.Mapped.{mapped_reads, mapped_dies}
-use Rattle.smv_readers.proofs.Modules.{ElementAt, of_module, ModuleAt, Closed, Outside, element_law, module_law}
+use Rattle.smv_grammar.proofs.Mapped.{mapped_reads, mapped_dies}
+use Rattle.smv_grammar.proofs.Modules.{ElementAt, of_module, ModuleAt, Closed, Outside, element_law, module_law}
 use Rattle.smv_text.specs.Heights.{of_element}
-use Rattle.smv_readers.proofs.Sections.{Named, ItemAt, of_item, item_law, DefinitionAt, of_definition, definition_law, AssignmentAt, of_assignment, assignment_law, StepAt, lawful_symbol}
-use Rattle.smv_readers.proofs.Types.{ParameterAt, lawful_parameter, lawful_member}
+use Rattle.smv_grammar.proofs.Sections.{Named, ItemAt, of_item, item_law, DefinitionAt, of_definition, definition_law, AssignmentAt, of_assignment, assignment_law, StepAt, lawful_symbol}
+use Rattle.smv_grammar.proofs.Types.{ParameterAt, lawful_parameter, lawful_member}
 
 pub parameter_shrinks : Shrinks (behind signs.Comma parameter)
 parameter_shrinks = behind_shrinks signs.Comma parameter (lawful_shorter parameter ParameterAt of_none Free lawful_parameter)

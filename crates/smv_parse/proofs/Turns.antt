@@ -18,13 +18,13 @@ use Rattle.smv_text.specs.Tree.{PlainDomain, PlainAssignment, PlainElement}
 use Rattle.smv_text.specs.Tree.{Tree}
 use Rattle.smv_parse.specs.Answers.{first_is, is_name, begins_target, begins_section}
 use Rattle.smv_grammar.specs.Marks.{is_word}
-use Rattle.smv_readers.specs.Readers.{Reading, found, died, Reader, nothing, fail, both, mapped, Pick, picked, either}
+use Rattle.smv_grammar.specs.Readers.{Reading, found, died, Reader, nothing, fail, both, mapped, Pick, picked, either}
 use Rattle.smv_grammar.specs.Reading.{after, after_word}
-use Rattle.smv_readers.specs.Rules.{name, name_of, behind, listed, bracketed, member, symbol_pick, integer, integer_pick, interval, domain, domain_pick, item_pick, definition_pick, body, path, path_pick, target_pick, assigned, assignment_pick, optional, label_pick, label, element_pick}
-use Rattle.smv_readers.proofs.Choices.{Unpicked, either_picks, either_passes, one_reads, one_dies, one_ends}
-use Rattle.smv_readers.proofs.Lawful.{found_same, not_both, died_count, both_reads, both_dies, both_dies_first}
+use Rattle.smv_grammar.specs.Rules.{name, name_of, behind, listed, bracketed, member, symbol_pick, integer, integer_pick, interval, domain, domain_pick, item_pick, definition_pick, body, path, path_pick, target_pick, assigned, assignment_pick, optional, label_pick, label, element_pick}
+use Rattle.smv_grammar.proofs.Choices.{Unpicked, either_picks, either_passes, one_reads, one_dies, one_ends}
+use Rattle.smv_grammar.proofs.Lawful.{found_same, not_both, died_count, both_reads, both_dies, both_dies_first}
 use Rattle.smv_parse.proofs.Leads.{after_found, word_found, not_first, not_first_word}
-use Rattle.smv_readers.proofs.Mapped.{mapped_reads, mapped_dies}
+use Rattle.smv_grammar.proofs.Mapped.{mapped_reads, mapped_dies}
 
 -- by a name
 pub name_ends : (h : Option Place) → name h [] ≡ died 0

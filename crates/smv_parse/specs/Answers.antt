@@ -7,7 +7,7 @@ use Rattle.smv_text.specs.declared.token.TokenKind.{TokenKind}
 use Rattle.smv_text.specs.declared.token.TokenKind.TheVariants as kind
 use Rattle.smv_expressions.specs.declared.stop.Stop.{Stop}
 use Rattle.smv_expressions.specs.declared.stop.Stop.TheVariants.{Dead, NoMemory}
-use Rattle.smv_readers.specs.Readers.{Reading, found, died}
+use Rattle.smv_grammar.specs.Readers.{Reading, found, died}
 
 -- the reader dies where the function does
 abbrev pub Loses : {A : Type 0} → Reading A → Stop → Type 0

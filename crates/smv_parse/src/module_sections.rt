@@ -7,8 +7,8 @@ ghost use Rattle.smv_text.specs.declared.tree.When.{When};
 ghost use Rattle.smv_text.specs.Tree.{vars, spec};
 ghost use Rattle.smv_text.specs.View.{plain, plain_item, plain_definition, plain_assignment, plain_element, plain_module};
 ghost use Rattle.smv_parse.specs.Answers.{Gives, first_is, begins_target, begins_section};
-ghost use Rattle.smv_readers.specs.Readers.{both, mapped, either, fail, picked, died, many};
-ghost use Rattle.smv_readers.specs.Rules.{item_pick, body, definition_pick, enclosed, target_pick, assignment_pick, constraint, label, element_pick, module_rest, module_pick};
+ghost use Rattle.smv_grammar.specs.Readers.{both, mapped, either, fail, picked, died, many};
+ghost use Rattle.smv_grammar.specs.Rules.{item_pick, body, definition_pick, enclosed, target_pick, assignment_pick, constraint, label, element_pick, module_rest, module_pick};
 
 use crate::module_types::{domain, first_is_name, formals, kept_expression, placed_name, symbols};
 use smv_expressions::{Stop, expect, path, start};

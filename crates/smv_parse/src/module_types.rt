@@ -9,8 +9,8 @@ ghost use Rattle.smv_text.specs.Grammar.{start};
 ghost use Rattle.smv_text.specs.Heights.{place_of};
 ghost use Rattle.smv_text.specs.View.{plain, plain_domain};
 ghost use Rattle.smv_parse.specs.Answers.{Gives, first_is, is_name};
-ghost use Rattle.smv_readers.specs.Readers.{expression, high_or, picked, died};
-ghost use Rattle.smv_readers.specs.Rules.{name, parameter, symbol, listed, bracketed, member, width, interval, domain, domain_pick, instance_pick};
+ghost use Rattle.smv_grammar.specs.Readers.{expression, high_or, picked, died};
+ghost use Rattle.smv_grammar.specs.Rules.{name, parameter, symbol, listed, bracketed, member, width, interval, domain, domain_pick, instance_pick};
 
 use smv_expressions::{MOST, Stop, expect, expression, integer, leaf, name, number, start};
 use smv_grammar::{after_word, tokens_after};

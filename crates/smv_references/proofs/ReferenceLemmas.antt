@@ -10,7 +10,7 @@ use Rattle.smv_meaning.specs.Names.{Found, variable_at, body_at, instance_at, sy
 use Rattle.smv_meaning.specs.Phases.{Body, body_here, from_instance, path_bodies, referred}
 use Rattle.smv_meaning.specs.Bodies.{bodies_of, number_or, path_numbers, all_path_numbers, instance_within, references_of}
 use Rattle.smv_meaning.specs.Settled.{has_body}
-use Rattle.smv_model_laws.proofs.Ranked.{no_reference}
+use Rattle.smv_laws.proofs.Ranked.{no_reference}
 use Rattle.smv_references.proofs.BodyLemmas.{append_none}
 
 abbrev pub here_numbers : List Instance → ℕ → List ℕ → List ℕ

@@ -7,14 +7,15 @@ ghost use Rattle.smv_meaning.specs.Bodies.{placed_bodies, bodies_of, number_in, 
 ghost use Rattle.smv_references.specs.BodyOrders.{IsOrdering};
 ghost use Rattle.smv_text.specs.View.{plain};
 ghost use Rattle.smv_meaning.specs.Expressions.{paths_of};
-ghost use Rattle.smv_instances.specs.Rows.{row_in};
+ghost use Rattle.name_maps.specs.Rows.{row_in};
 ghost use Rattle.smv_instances.specs.View.{instance_plain, local_plain};
 ghost use Rattle.smv_references.specs.View.{body_plain, path_seen, key_of};
 
 use crate::bodies::Body;
 use crate::paths::paths_in;
 use digraph::{Graph, Order, sort};
-use smv_instances::{InstanceRows, Known, Table, add_first_in, no_rows_in, row_value_in};
+use name_maps::{InstanceRows, add_first_in, no_rows_in, row_value_in};
+use smv_instances::{Known, Table};
 use smv_text::{Expr, Path};
 use std::alloc::Global;
 use text_core::{List, Names, NoMemory};

@@ -19,11 +19,11 @@ use Rattle.smv_meaning.specs.Naming.{in_body}
 use Rattle.smv_meaning.specs.Phases.{over_instances}
 use Rattle.smv_meaning.specs.Settled.{Acyclic, rank_of, types_in}
 use Rattle.smv_meaning.specs.laws.Booleans.{two_true}
-use Rattle.smv_model_laws.proofs.Cycles.{In}
-use Rattle.smv_model_laws.proofs.Ranked.{key, cycles_are_checked_law}
-use Rattle.smv_model_laws.proofs.Agreeing.{more_paths, more_branches}
-use Rattle.smv_model_laws.proofs.Settling.{ranking, descent, Under, all_under, body_under}
-use Rattle.smv_model_laws.proofs.SafeExpressions.{accepted_is_checked_law}
+use Rattle.smv_laws.proofs.Cycles.{In}
+use Rattle.smv_laws.proofs.Ranked.{key, cycles_are_checked_law}
+use Rattle.smv_laws.proofs.Agreeing.{more_paths, more_branches}
+use Rattle.smv_laws.proofs.Settling.{ranking, descent, Under, all_under, body_under}
+use Rattle.smv_laws.proofs.SafeExpressions.{accepted_is_checked_law}
 use Rattle.smv_items.specs.declared.items.ItemKind.{ItemKind}
 use Rattle.smv_items.specs.FlatItems.{Leaf, of_item, of_symbol, of_nothing, Content, variable, definition, actual, Origin, is_variable_as, is_body, item_leaf, symbol_leaf, items_here, origins_of, symbols_of, leaf_found, leaf_in, kind_of, PlainFlatItem, flat_item_of}
 use Rattle.smv_flat.specs.declared.forms.Role.{Role}

@@ -3,7 +3,7 @@ use Rattle.std.proofs.Common.{◌≡◌, ℕ, suc, Bool, true, false, ◌||◌, 
 use Rattle.std.specs.List.{list_any, list_all}
 use Rattle.std.proofs.lemmas.List.Folds.{list_any-append}
 use Rattle.std.proofs.lemmas.Slice.Eq.{bytes_eq-Decides}
-use Rattle.name_set.specs.Names.{place_of}
+use Rattle.name_maps.specs.Names.{place_of}
 use Rattle.smv_meaning.specs.laws.Booleans.{two_true}
 use Rattle.smv_items.specs.declared.items.FlatItem.{FlatItem}
 use Rattle.smv_flat_laws.proofs.FlatPlaces.{position_cons}

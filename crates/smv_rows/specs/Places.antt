@@ -1,7 +1,7 @@
 -- Names of items by their places, and the values that states and labels give.
 use Rattle.std.specs.Prelude.{◌≡◌, ℕ, Bool, true, List, map, length, Option, Some, option_map, is_some, slice_get}
 use Rattle.std.specs.List.{list_all}
-use Rattle.name_set.specs.Names.{place_of}
+use Rattle.name_maps.specs.Names.{place_of}
 use Rattle.smv_meaning.specs.declared.value.Value.{Value}
 use Rattle.smv_meaning.specs.Values.{Valuation, no_value}
 use Rattle.smv_operators.specs.declared.seen.Seen.{Seen}

@@ -7,7 +7,7 @@ use crate::bodies::bodies_of;
 use crate::parts::FlatParts;
 use crate::places::{ItemPlace, name_all, places_of};
 use crate::references::order_of;
-use name_lookup::NameTable;
+use name_maps::NameTable;
 use smv_flat::FlatExpr;
 use std::alloc::Global;
 use text_core::{List, NoMemory};

@@ -2,7 +2,7 @@
 ghost use Rattle.std.specs.Prelude.{IfOk, OnOk};
 ghost use Rattle.smv_rows.specs.Places.{HavePlaces, AreNamed};
 
-use name_lookup::NameTable;
+use name_maps::NameTable;
 use smv_items::{FlatItem, ItemKind};
 use std::alloc::Global;
 use text_core::NoMemory;

@@ -12,7 +12,7 @@ ghost use Rattle.smv_rows.specs.Truths.{Gives, CanFill, Fills};
 use crate::order::RowOrder;
 use crate::parts::FlatParts;
 use crate::variables::{give_names, give_variables};
-use name_lookup::Successors;
+use name_maps::Successors;
 use smv_flat::FlatExpr;
 use smv_flat_evaluation::evaluate;
 use smv_meaning::State;

@@ -1,13 +1,13 @@
 // The values that a state and a label give the variables of a flat form.
 ghost use Rattle.std.specs.Prelude.{◌≡◌, ℕ, List, Some, length, map, if◌then◌else◌, bytes_eq, OnOk};
-ghost use Rattle.name_set.specs.Names.{place_of};
+ghost use Rattle.name_maps.specs.Names.{place_of};
 ghost use Rattle.smv_meaning.specs.Values.{no_value, given};
 ghost use Rattle.smv_operators.specs.View.{seen_value};
 ghost use Rattle.smv_flat_evaluation.specs.RowValues.{row_values};
 ghost use Rattle.smv_rows.specs.Places.{NamesHave, given_value};
 
 use crate::places::ItemPlace;
-use name_lookup::{NameTable, Successors};
+use name_maps::{NameTable, Successors};
 use smv_flat_evaluation::item_at;
 use smv_items::ItemKind;
 use smv_meaning::{State, Value};

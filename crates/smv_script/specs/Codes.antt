@@ -1,7 +1,7 @@
 -- The datum of MoXI that stands for a value of SMV, the value for which a datum stands, and the sorts of types. These codes are this
 -- translator's own.
 use Rattle.std.specs.Prelude.{ℕ, ◌-◌, ◌%◌, ◌^◌, ℤ, pos, negsuc, List, Option, Some, None}
-use Rattle.name_set.specs.Names.{place_of}
+use Rattle.name_maps.specs.Names.{place_of}
 use Rattle.word_core.specs.Words.{BitVector}
 use Rattle.word_core.specs.Table.{signed_value}
 use Rattle.smv_meaning.specs.declared.value.Value.{Value}

@@ -20,7 +20,7 @@ use Rattle.smv_meaning.specs.Values.{no_value, is_true}
 use Rattle.smv_meaning.specs.Operators.{word, selected, resized, trues, is_width, called}
 use Rattle.smv_meaning.specs.Types.{ExprType, truth_type, integer_type, word_type, is_truth_type, is_word_type, type_width, is_select, function_fits, first_type}
 use Rattle.smv_meaning.specs.laws.Booleans.{both_true, two_true}
-use Rattle.smv_type_laws.proofs.OperatorLaws.{width_of}
+use Rattle.smv_laws.proofs.OperatorLaws.{width_of}
 use Rattle.moxi_terms.specs.declared.data.Datum.{Datum}
 use Rattle.moxi_terms.specs.declared.data.Datum.TheVariants as datum
 use Rattle.moxi_terms.specs.declared.data.TermOp.TheVariants as op

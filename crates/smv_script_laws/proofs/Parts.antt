@@ -19,8 +19,8 @@ use Rattle.smv_meaning.specs.Types.{ExprType, truth_type, integer_type, symbol_t
 use Rattle.smv_meaning.specs.Checks.{Position, Named, all_types, are_unions}
 use Rattle.smv_meaning.specs.Typed.{LiesIn}
 use Rattle.smv_meaning.specs.laws.Booleans.{both_true, two_true, absurd_bool}
-use Rattle.smv_type_laws.proofs.OperatorLaws.{NumberIs, implied_lies, DivisorIs}
-use Rattle.smv_type_laws.proofs.TypeLaws.{all_cons, number_is}
+use Rattle.smv_laws.proofs.OperatorLaws.{NumberIs, implied_lies, DivisorIs}
+use Rattle.smv_laws.proofs.TypeLaws.{all_cons, number_is}
 use Rattle.smv_items.specs.FlatItems.{Leaf, of_item, of_symbol, of_nothing}
 use Rattle.smv_flat.specs.FlatTree.{flat_tree}
 use Rattle.smv_width.specs.FlatWidth.{Holds, interval_width, integers_width}

@@ -21,8 +21,8 @@ use Rattle.smv_meaning.specs.Values.{no_value, bool_eq, value_same}
 use Rattle.smv_meaning.specs.Operators.{word, words_by, logical, compared, calculated, shifted, concatenated, negation, minus, implied, int_mod, applied, signed}
 use Rattle.smv_meaning.specs.Types.{ExprType, truth_type, integer_type, symbol_type, word_type, is_word_type, type_width, type_same, logical_fits, number_fits, infix_fits, joins, prefix_fits}
 use Rattle.smv_meaning.specs.laws.Booleans.{both_true, two_true}
-use Rattle.smv_type_laws.proofs.OperatorLaws.{width_of}
-use Rattle.name_set.specs.Names.{place_of}
+use Rattle.smv_laws.proofs.OperatorLaws.{width_of}
+use Rattle.name_maps.specs.Names.{place_of}
 use Rattle.moxi_terms.specs.declared.data.Datum.{Datum}
 use Rattle.moxi_terms.specs.declared.data.Datum.TheVariants as datum
 use Rattle.moxi_terms.specs.declared.data.TermOp.{TermOp}

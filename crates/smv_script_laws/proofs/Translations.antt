@@ -21,8 +21,8 @@ use Rattle.smv_meaning.specs.Types.{ExprType, truth_type, integer_type, is_word_
 use Rattle.smv_meaning.specs.Checks.{check, passes, Position, single, under_next, Named, Typing, all_types, on_all, front, are_unions, across, behind, with_sets, typing, link_types, linked, condition_types, value_types, tree_types}
 use Rattle.smv_meaning.specs.Typed.{LiesIn, Lies}
 use Rattle.smv_meaning.specs.laws.Booleans.{both_true, two_true, absurd_bool}
-use Rattle.smv_type_laws.proofs.OperatorLaws.{infix_lies}
-use Rattle.smv_type_laws.proofs.TypeLaws.{NamesLie, fine, all_cons, divisor_is, number_is, false_true}
+use Rattle.smv_laws.proofs.OperatorLaws.{infix_lies}
+use Rattle.smv_laws.proofs.TypeLaws.{NamesLie, fine, all_cons, divisor_is, number_is, false_true}
 use Rattle.smv_items.specs.FlatItems.{Leaf, of_item, of_symbol, of_nothing}
 use Rattle.smv_flat.specs.FlatTree.{leaf_tree, flat_tree, flat_links, flat_branches, flat_trees, flat_are_implies}
 use Rattle.smv_width.specs.FlatWidth.{Holds, interval_width, integers_width, node_width, operand_width, arguments_width}

@@ -12,7 +12,7 @@ use Rattle.smv_meaning.specs.Expressions.{is_implies, are_implies, is_from_right
 use Rattle.smv_meaning.specs.Types.{ExprType, truth_type, integer_type, word_type, is_truth_type, is_word_type, in_limit, hull_of, logical_fits, infix_fits, infix_type, divides, shifts, joins, is_union, prefix_fits, prefix_type, is_select, function_fits, arguments_fit, function_type, are_same, implies_fits, first_type}
 use Rattle.smv_meaning.specs.Checks.{check, passes, Position, single, under_next, Named, Typing, on_type, all_types, on_all, both_types, front_checks, front, are_unions, across, behind, branches_fit, branches_type, typing, linked, condition_types, value_types, tree_types}
 use Rattle.smv_meaning.specs.laws.Booleans.{both_true, absurd_bool}
-use Rattle.smv_type_laws.proofs.TypeLaws.{all_cons, six_true, two_tests, three_tests, false_true}
+use Rattle.smv_laws.proofs.TypeLaws.{all_cons, six_true, two_tests, three_tests, false_true}
 use Rattle.smv_items.specs.FlatItems.{Leaf, of_item, of_symbol, of_nothing}
 use Rattle.smv_flat.specs.FlatTree.{leaf_tree, unless_set, is_set, has_set, flat_tree, flat_links, flat_are_implies}
 use Rattle.smv_width.specs.FlatWidth.{flat_type}

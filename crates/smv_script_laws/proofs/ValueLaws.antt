@@ -17,21 +17,21 @@ use Rattle.smv_meaning.specs.Instances.{Instance}
 use Rattle.smv_meaning.specs.Names.{Found, variable_at, body_at, instance_at, symbol_of, cyclic, none, found_in}
 use Rattle.smv_meaning.specs.Types.{truth_type, integer_type, symbol_type, word_type}
 use Rattle.smv_meaning.specs.Settled.{Acyclic, types_in, values_in}
-use Rattle.smv_type_laws.proofs.TypeLaws.{NamesLie}
-use Rattle.smv_model_laws.proofs.ValueLaws.{paths_lie_law}
+use Rattle.smv_laws.proofs.TypeLaws.{NamesLie}
+use Rattle.smv_laws.proofs.ValueLaws.{paths_lie_law}
 use Rattle.smv_items.specs.FlatItems.{Leaf, of_item, of_symbol, of_nothing, origins_of, symbols_of, is_item, item_leaf, symbol_leaf, leaf_found, leaf_in}
 use Rattle.smv_flat.specs.FlatForms.{flat_in, flat_of}
 use Rattle.smv_flat_laws.specs.FlatTruth.{Row, symbol_or_none, symbol_value}
 use Rattle.smv_flat_laws.proofs.FlatSame.{leaf_value}
 use Rattle.smv_flat_laws.proofs.FlatRows.{row_values}
 use Rattle.smv_flat_laws.proofs.FlatTruths.{flat_value}
-use Rattle.name_set.specs.Names.{place_of}
+use Rattle.name_maps.specs.Names.{place_of}
 use Rattle.moxi_terms.specs.declared.data.Datum.TheVariants as datum
 use Rattle.moxi_terms.specs.Value.{Values}
 use Rattle.smv_script.specs.Codes.{integer_bits, number_or_zero, datum_of}
 use Rattle.smv_script.specs.Terms.{Coding, translation}
 use Rattle.smv_script_laws.specs.Meanings.{Says}
-use Rattle.smv_script_laws.specs.Laws.{HasRow, TermsHaveValues, ValuesComeBack, DataComeBack}
+use Rattle.smv_script_laws.specs.TermLaws.{HasRow, TermsHaveValues, ValuesComeBack, DataComeBack}
 use Rattle.smv_script_laws.proofs.Integers.{same_code, signed_back}
 use Rattle.smv_script_laws.proofs.Parts.{LeafStands}
 use Rattle.smv_script_laws.proofs.Translations.{says}

@@ -1,3 +1,14 @@
 pub mod Kinds
 pub mod Meanings
-pub mod Laws
+pub mod TermLaws
+pub mod PlaceLaws
+pub mod Parts
+pub mod FormulaLaws
+pub mod Decoding
+pub mod EnvironmentLaws
+pub mod RunLaws
+pub mod BoundLaws
+pub mod LetNames
+pub mod Standing
+pub mod StandingLaws
+pub mod WholeLaws

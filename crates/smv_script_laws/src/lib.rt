@@ -1,6 +1,24 @@
-//! The terms of a script have the values of the model's expressions, and the codes of values tell them apart.
+//! Laws of a model's script: its terms have the values of the model's expressions, its traces that meet a query are the model's runs
+//! that break an invariant, it is well formed and can be printed and read, and its size is bounded by the model's weight.
 #![tactic(auto)]
 
-mod laws;
+mod bound_laws;
+mod environment_laws;
+mod formula_laws;
+mod place_laws;
+mod run_laws;
+mod sort_laws;
+mod term_laws;
+mod whole_laws;
 
-pub use laws::{data_come_back, terms_have_values, values_come_back};
+pub use bound_laws::{
+    brackets_are_few, counts_are_weighed, heights_are_low, scripts_are_small, scripts_nest_once,
+    sizes_are_weighed,
+};
+pub use environment_laws::{environments_are_rows, rows_have_environments};
+pub use formula_laws::{forms_say, formula_splits, items_say};
+pub use place_laws::{item_has_place, place_is_of_item, places_differ};
+pub use run_laws::runs_are_traces;
+pub use sort_laws::terms_stand;
+pub use term_laws::{data_come_back, terms_have_values, values_come_back};
+pub use whole_laws::{names_are_spellable, scripts_are_spelled, scripts_are_whole};

@@ -14,7 +14,7 @@ use crate::coding::Coding;
 use crate::operators::several;
 use crate::parts::{add_form, add_invar_item, add_trans_item, body_chains};
 use moxi_terms::{Term, TermOp, Terms};
-use name_set::NameSet;
+use name_maps::NameSet;
 use smv_flat::FlatFormula;
 use smv_items::FlatItem;
 use smv_text::When;

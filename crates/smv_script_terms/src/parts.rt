@@ -21,7 +21,7 @@ use crate::functions::between;
 use crate::operators::{equal, several};
 use crate::terms::terms_of;
 use moxi_terms::{Datum, Term, TermOp, Terms};
-use name_set::NameSet;
+use name_maps::NameSet;
 use smv_flat::{FlatExpr, FlatFormula, Role};
 use smv_intervals::Ty;
 use smv_items::{FlatItem, ItemKind};

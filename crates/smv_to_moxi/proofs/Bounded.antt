@@ -6,14 +6,14 @@ use Rattle.text_core.specs.declared.errors.NoMemory.{NoMemory}
 use Rattle.moxi_scripts.specs.declared.script.Script.{Script}
 use Rattle.moxi_scripts.specs.Script.{PlainScript, system_at, variables_in}
 use Rattle.moxi_scripts.specs.ScriptView.{plain_script}
-use Rattle.moxi_print.specs.Shown.{shown_depths}
-use Rattle.moxi_shown_scripts.specs.Printing.{shown_script}
-use Rattle.moxi_sizes.specs.Systems.{script_height, script_size}
+use Rattle.moxi_term_print.specs.Shown.{shown_depths}
+use Rattle.moxi_script_print.specs.Printing.{shown_script}
+use Rattle.moxi_flat.specs.Systems.{script_height, script_size}
 use Rattle.smv_meaning.specs.Instances.{weight_of}
 use Rattle.smv_flat.specs.FlatForms.{PlainFlat, flat_smv}
 use Rattle.smv_flatten.specs.FlatModel.{FlatModel, IsOfModel, flat_plain}
 use Rattle.smv_script.specs.Script.{script_of}
-use Rattle.smv_script_bounds.specs.Laws.{SizesByWeight, CountsByWeight, HeightsAreLow, BracketsAreFew}
+use Rattle.smv_script_laws.specs.BoundLaws.{SizesByWeight, CountsByWeight, HeightsAreLow, BracketsAreFew}
 use Rattle.smv_to_moxi.specs.Bounds.{IsBounded}
 
 -- what is known of the model's weight and script is known of the flat form's

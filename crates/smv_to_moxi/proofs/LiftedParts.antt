@@ -22,9 +22,9 @@ use Rattle.moxi_terms.specs.Tree.{sorts_of}
 use Rattle.moxi_terms.specs.Value.{at, Values}
 use Rattle.smv_script.specs.Codes.{sort_of}
 use Rattle.smv_script.specs.Script.{group_of, same_group, group_start, items_in, place_among, place_of_item, symbol_sort}
-use Rattle.smv_script_places.specs.Laws.{all_variables}
-use Rattle.smv_script_places.proofs.Places.{has_place_law}
-use Rattle.smv_script_environments.specs.Decoding.{decoded_from}
+use Rattle.smv_script_laws.specs.PlaceLaws.{all_variables}
+use Rattle.smv_script_laws.proofs.Places.{has_place_law}
+use Rattle.smv_script_laws.specs.Decoding.{decoded_from}
 use Rattle.smv_to_moxi.specs.declared.lift.Part.{Part}
 use Rattle.smv_to_moxi.specs.declared.lift.Part.TheVariants.{State, Label}
 use Rattle.smv_to_moxi.specs.Lifting.{IsStepOf, picks, group_in, given_here}

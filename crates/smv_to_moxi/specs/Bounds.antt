@@ -1,9 +1,9 @@
 -- How large the script is that stands for a model, by the model's weight.
 use Rattle.std.specs.Prelude.{ℕ, ◌+◌, ◌*◌, ◌≤◌, length}
 use Rattle.moxi_scripts.specs.Script.{PlainScript, system_at, variables_in}
-use Rattle.moxi_print.specs.Shown.{shown_depths}
-use Rattle.moxi_shown_scripts.specs.Printing.{shown_script}
-use Rattle.moxi_sizes.specs.Systems.{script_height, script_size}
+use Rattle.moxi_term_print.specs.Shown.{shown_depths}
+use Rattle.moxi_script_print.specs.Printing.{shown_script}
+use Rattle.moxi_flat.specs.Systems.{script_height, script_size}
 
 -- The size of the instantiated system, its variables and queries together, the height of its highest term, and how many brackets of
 -- the printed script stand open at most.

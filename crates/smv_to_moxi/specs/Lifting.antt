@@ -12,10 +12,10 @@ use Rattle.moxi_terms.specs.Sorts.{Fit}
 use Rattle.moxi_terms.specs.Tree.{sorts_of}
 use Rattle.moxi_terms.specs.Value.{at}
 use Rattle.moxi_scripts.specs.Script.{variables_in}
-use Rattle.moxi_systems.specs.Behaviour.{Trace}
+use Rattle.moxi_scripts.specs.Behaviour.{Trace}
 use Rattle.smv_script.specs.Codes.{value_of}
 use Rattle.smv_script.specs.Script.{Group, inputs, outputs, items_in, coding_of, symbol_sort, system_of}
-use Rattle.smv_script_environments.specs.Decoding.{is_of_state, is_of_label, decoded_from}
+use Rattle.smv_script_laws.specs.Decoding.{is_of_state, is_of_label, decoded_from}
 use Rattle.smv_to_moxi.specs.declared.lift.Part.{Part}
 use Rattle.smv_to_moxi.specs.declared.lift.Part.TheVariants.{State, Label}
 

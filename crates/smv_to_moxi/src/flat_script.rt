@@ -10,8 +10,9 @@ use crate::script::{SingleScript, assembled, single_in};
 use moxi_scripts::Script;
 use moxi_terms::Scope;
 use smv_flatten::Flat;
-use smv_script_bounds::{brackets_are_few, counts_are_weighed, heights_are_low, sizes_are_weighed};
-use smv_script_whole::scripts_are_spelled;
+use smv_script_laws::{
+    brackets_are_few, counts_are_weighed, heights_are_low, scripts_are_spelled, sizes_are_weighed,
+};
 use std::alloc::Global;
 use text_core::NoMemory;
 

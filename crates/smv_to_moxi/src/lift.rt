@@ -8,10 +8,10 @@ ghost use Rattle.smv_flatten.specs.FlatModel.{flat_plain};
 ghost use Rattle.moxi_terms.specs.Sorts.{IsOf};
 ghost use Rattle.smv_script.specs.Codes.{sort_of, value_of};
 ghost use Rattle.smv_script.specs.Script.{coding_of, group_start, symbol_sort};
-ghost use Rattle.smv_script_environments.specs.Decoding.{run_of};
+ghost use Rattle.smv_script_laws.specs.Decoding.{run_of};
 ghost use Rattle.smv_to_moxi.specs.Lifting.{IsStepOf, IsTraceOf, trace_of, picks, group_in, inputs_in, read_of, given_here};
 
-use moxi_systems::MoxiTrace;
+use moxi_scripts::MoxiTrace;
 use moxi_terms::{Datum, Env};
 use smv_flatten::{Flat, FlatItem, ItemKind};
 use smv_intervals::Ty;

@@ -16,7 +16,7 @@ ghost use Rattle.smv_to_moxi.specs.SingleView.{plain_single};
 
 use moxi_scripts::{Check, Formula, Formulas, Queries, Query, Script, Subsystems, System, Systems};
 use moxi_terms::{Scope, Variable, Variables};
-use name_set::NameSet;
+use name_maps::NameSet;
 use smv_flat::{FlatFormula, Role};
 use smv_items::FlatItem;
 use smv_script_terms::{

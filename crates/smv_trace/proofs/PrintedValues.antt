@@ -18,8 +18,8 @@ use Rattle.smv_lex.specs.Spelling.{literal_bytes}
 use Rattle.smv_meaning.specs.declared.value.Value.{Value}
 use Rattle.smv_meaning.specs.declared.value.Value.TheVariants.{Truth, Integer, Symbol, Bits}
 use Rattle.smv_meaning.specs.Types.{ExprType, truth_type, integer_type, symbol_type, word_type}
-use Rattle.name_set.specs.Names.{place_of}
-use Rattle.name_set.specs.laws.Places.{placed}
+use Rattle.name_maps.specs.Names.{place_of}
+use Rattle.name_maps.specs.laws.Places.{placed}
 use Rattle.smv_trace_text.specs.Texts.{value_text}
 use Rattle.smv_trace.specs.Runs.{can_be_stated, is_word_of}
 use Rattle.smv_trace.specs.Values.{truth_of, negative_of, integer_of, symbol_at, word_as, value_of}

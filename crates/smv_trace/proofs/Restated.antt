@@ -6,8 +6,8 @@ use Rattle.std.specs.Str.{bytes_eq}
 use Rattle.std.proofs.lemmas.Bool.{and_parts, lt-ltb}
 use Rattle.std.proofs.lemmas.List.{length-append}
 use Rattle.std.proofs.lemmas.Slice.Eq.{bytes_eq-Decides}
-use Rattle.name_set.specs.Names.{place_of, are_fresh}
-use Rattle.name_set.specs.laws.Places.{placed}
+use Rattle.name_maps.specs.Names.{place_of, are_fresh}
+use Rattle.name_maps.specs.laws.Places.{placed}
 use Rattle.smv_meaning.specs.declared.value.Value.{Value}
 use Rattle.smv_meaning.specs.declared.value.Given.{Given}
 use Rattle.smv_items.specs.declared.items.ItemKind.{ItemKind}

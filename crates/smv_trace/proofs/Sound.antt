@@ -18,7 +18,7 @@ use Rattle.smv_meaning.specs.declared.value.Given.{Given}
 use Rattle.smv_meaning.specs.declared.value.Run.{Run}
 use Rattle.smv_meaning.specs.Types.{ExprType, truth_type, integer_type, symbol_type, word_type}
 use Rattle.smv_items.specs.FlatItems.{PlainFlatItem}
-use Rattle.name_set.specs.Names.{place_of}
+use Rattle.name_maps.specs.Names.{place_of}
 use Rattle.smv_trace.specs.declared.heading.Heading.{Heading}
 use Rattle.smv_trace.specs.declared.heading.Heading.TheVariants.{State, Input}
 use Rattle.smv_trace.specs.Runs.{Declarations, picks, can_be_stated, names_each, names_variables, IsStatedRun}

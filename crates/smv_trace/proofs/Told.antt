@@ -7,7 +7,7 @@ use Rattle.std.proofs.Math.Logic.{∥∥₁_elim}
 use Rattle.std.proofs.lemmas.Bool.{and_parts, and_from}
 use Rattle.std.proofs.lemmas.Bool.Decides.{nat_tests}
 use Rattle.std.proofs.lemmas.Simd.{map-map}
-use Rattle.name_set.specs.Names.{are_fresh}
+use Rattle.name_maps.specs.Names.{are_fresh}
 use Rattle.text_core.specs.declared.place.Place.{Place}
 use Rattle.smv_text.specs.Bytes.{is_letter, is_blank}
 use Rattle.smv_text.specs.declared.token.Token.{Token}
@@ -20,9 +20,9 @@ use Rattle.smv_meaning.specs.Phases.{IsAccepted}
 use Rattle.smv_items.specs.FlatItems.{origins_of, symbols_of, flat_item_of, PlainFlatItem}
 use Rattle.smv_flat.specs.FlatForms.{flat_smv}
 use Rattle.smv_flatten.specs.FlatModel.{FlatModel, IsOfModel}
-use Rattle.smv_flat_names.specs.Names.{is_name_byte, is_dotted_byte, IsIdentifier, IsDottedName}
-use Rattle.smv_flat_names.specs.Laws.{item_names}
-use Rattle.smv_flat_names.proofs.ItemNames.{names_differ_law, names_are_words_law, symbols_are_words_law}
+use Rattle.smv_accepted.specs.Names.{is_name_byte, is_dotted_byte, IsIdentifier, IsDottedName}
+use Rattle.smv_accepted.specs.NameLaws.{item_names}
+use Rattle.smv_accepted.proofs.ItemNames.{names_differ_law, names_are_words_law, symbols_are_words_law}
 use Rattle.smv_trace_text.specs.Texts.{trace_text}
 use Rattle.smv_trace.specs.Runs.{Declarations}
 use Rattle.smv_trace.specs.ReadBack.{ReadsBack, declared_by, PrintedReadsBack}

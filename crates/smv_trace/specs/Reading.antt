@@ -11,7 +11,7 @@ use Rattle.smv_meaning.specs.declared.value.Run.{Run}
 use Rattle.smv_items.specs.declared.items.ItemKind.{ItemKind}
 use Rattle.smv_items.specs.declared.items.ItemKind.TheVariants as kind
 use Rattle.smv_items.specs.FlatItems.{PlainFlatItem}
-use Rattle.name_set.specs.Names.{place_of}
+use Rattle.name_maps.specs.Names.{place_of}
 use Rattle.text_core.specs.Places.{start}
 use Rattle.smv_trace.specs.declared.heading.Heading.{Heading}
 use Rattle.smv_trace.specs.declared.heading.Heading.TheVariants.{State, Input}

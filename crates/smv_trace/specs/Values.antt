@@ -7,7 +7,7 @@ use Rattle.smv_text.specs.Numbers.{number_of, literal_of}
 use Rattle.smv_meaning.specs.declared.value.Value.{Value}
 use Rattle.smv_meaning.specs.declared.value.Value.TheVariants.{Truth, Integer, Symbol, Bits}
 use Rattle.smv_meaning.specs.Types.{ExprType, truth_type, integer_type, symbol_type, word_type}
-use Rattle.name_set.specs.Names.{place_of}
+use Rattle.name_maps.specs.Names.{place_of}
 
 abbrev pub truth_of : List ℕ → Option Bool
 truth_of text = if bytes_eq text (codes "TRUE") then Some true else (if bytes_eq text (codes "FALSE") then Some false else None)

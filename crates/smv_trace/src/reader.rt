@@ -15,7 +15,7 @@ use crate::heading::Heading;
 use crate::table::Table;
 use crate::values::value_of;
 use itoa::Buffer;
-use name_lookup::Successors;
+use name_maps::Successors;
 use smv_flatten::{FlatItem, ItemKind};
 use smv_meaning::{Given, Run, State, States, Value};
 use smv_trace_text::{begins_with_dash, heading_numbers, is_passed, value_parts};

@@ -1,13 +1,12 @@
 // What a trace is read against, with its names found without a scan.
 ghost use Rattle.std.specs.Prelude.{◌≡◌, ◌<◌, ◌++◌, Some, map, length, is_some, IfOk, IfSome, slice_get};
-ghost use Rattle.name_set.specs.Names.{place_of};
+ghost use Rattle.name_maps.specs.Names.{place_of};
 ghost use Rattle.smv_items.specs.FlatItemView.{item_plain};
 ghost use Rattle.smv_trace.specs.Reading.{is_variable, variables_of};
 ghost use Rattle.smv_trace.specs.Answer.{declarations_of};
 
 use crate::heading::Heading;
-use name_lookup::{NameTable, Successors};
-use name_set::NameSet;
+use name_maps::{NameSet, NameTable, Successors};
 use smv_flatten::{Flat, FlatItem, FlatItems};
 use std::alloc::Global;
 use std::marker::Model;

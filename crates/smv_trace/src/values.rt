@@ -1,6 +1,6 @@
 // Values of a trace.
 ghost use Rattle.std.specs.Prelude.{◌≡◌, pos, option_map, option_and_then, IfOk};
-ghost use Rattle.name_set.specs.Names.{place_of};
+ghost use Rattle.name_maps.specs.Names.{place_of};
 ghost use Rattle.smv_intervals.specs.View.{seen};
 ghost use Rattle.smv_text.specs.Numbers.{number_of, literal_of};
 ghost use Rattle.smv_trace.specs.Values.{truth_of, negative_of, integer_of, symbol_at, value_of, word_as};

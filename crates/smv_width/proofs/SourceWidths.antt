@@ -13,7 +13,7 @@ use Rattle.smv_meaning.specs.Types.{ExprType, truth_type, integer_type, symbol_t
 use Rattle.smv_meaning.specs.Checks.{Check, check, on_all, branches_fit, Position, Named, Typing, single, under_next, across, behind, are_unions, front, front_checks, on_types, both_types, all_types, branches_type, node, passes, typing, linked, link_checks, value_types, condition_types, branch_checks, tree_types, tree_checks}
 use Rattle.smv_meaning.specs.laws.Booleans.{both_true}
 use Rattle.smv_meaning.specs.laws.Booleans.{absurd_bool}
-use Rattle.smv_model_laws.proofs.Typable.{split}
+use Rattle.smv_laws.proofs.Typable.{split}
 use Rattle.smv_items.specs.FlatItems.{Leaf, of_item, of_symbol, of_nothing}
 use Rattle.smv_flat.specs.FlatTree.{leaf_tree, FlatTree, flat_truth, flat_number, flat_literal, flat_symbol, flat_item, flat_prefix, flat_chain, flat_choice, flat_cases, flat_select, flat_call, flat_set, flat_range, flat_tree, flat_links, flat_branches, flat_trees, is_set, has_set, unless_set}
 use Rattle.smv_width.specs.FlatWidth.{integer_width, interval_width, integers_width, node_width, integer_within, front_by, flat_divisor, flat_type, operand_width, arguments_width, tree_width, links_width, branches_width, trees_width, first_width}

@@ -12,16 +12,16 @@ use Rattle.smv_flat.specs.FlatForms.{PlainFlat, flat_smv}
 use Rattle.smv_width.specs.FlatWidth.{width_of}
 use Rattle.smv_flatten.specs.FlatModel.{FlatModel, IsRead, flat_plain}
 use Rattle.smv_script.specs.Script.{coding_of, query_of, script_for, script_of}
-use Rattle.smv_script_environments.specs.Decoding.{run_of}
-use Rattle.smv_script_runs.specs.Laws.{HasQueries, TracesAreRuns, decoded_run}
-use Rattle.smv_script_whole.specs.Laws.{ScriptsAreWhole}
+use Rattle.smv_script_laws.specs.Decoding.{run_of}
+use Rattle.smv_script_laws.specs.RunLaws.{HasQueries, TracesAreRuns, decoded_run}
+use Rattle.smv_script_laws.specs.WholeLaws.{ScriptsAreWhole}
 use Rattle.moxi_terms.specs.declared.data.Datum.{Datum}
 use Rattle.moxi_scripts.specs.declared.script.Query.{Query}
 use Rattle.moxi_flat.specs.FlatMeeting.{MeetsFlat}
 use Rattle.moxi_flat.specs.FlatSystem.{flat_of}
-use Rattle.moxi_flat.specs.Laws.{TracesHaveFlatTraces}
-use Rattle.moxi_frame_lift.specs.Laws.{MeetsQueryOf, trace_of}
-use Rattle.moxi_frame_lift.specs.Lifted.{lifted, lifted_step}
+use Rattle.moxi_flat.specs.FlatLaws.{TracesHaveFlatTraces}
+use Rattle.moxi_lift.specs.Laws.{MeetsQueryOf, trace_of}
+use Rattle.moxi_lift.specs.Lifted.{lifted, lifted_step}
 use Rattle.witness_lift.specs.Breaking.{BreaksIn, BreaksLast, IsFormOf, TracesBreakInvariants}
 use Rattle.witness_lift.specs.Lifting.{IsLifted, lifted_run, run_in, system_in}
 

@@ -1,2 +1,5 @@
+pub mod Symbols
+pub mod Models
+pub mod Frames
 pub mod Lifts
 pub mod Breaks

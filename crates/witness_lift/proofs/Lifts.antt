@@ -12,21 +12,21 @@ use Rattle.smv_meaning.specs.declared.value.Run.{Run}
 use Rattle.smv_flat.specs.FlatForms.{PlainFlat, flat_smv}
 use Rattle.smv_flatten.specs.FlatModel.{FlatModel, IsOfModel, flat_plain}
 use Rattle.smv_script.specs.Script.{script_for, script_of, symbol_sort, system_of}
-use Rattle.smv_script_whole.specs.Laws.{ScriptsAreWhole}
+use Rattle.smv_script_laws.specs.WholeLaws.{ScriptsAreWhole}
 use Rattle.smv_to_moxi.specs.Assembling.{script_with}
 use Rattle.smv_to_moxi.specs.Lifting.{IsTraceOf}
-use Rattle.smv_model_lines.specs.Laws.{ModelsHaveFlatSystems}
+use Rattle.witness_lift.specs.LineLaws.{ModelsHaveFlatSystems}
 use Rattle.moxi_terms.specs.declared.data.Datum.{Datum}
 use Rattle.moxi_terms.specs.declared.term.Variable.{Variable}
 use Rattle.moxi_terms.specs.Sorts.{Fit}
 use Rattle.moxi_terms.specs.Tree.{sorts_of}
 use Rattle.moxi_terms.specs.View.{ScopeState}
 use Rattle.moxi_scripts.specs.Script.{PlainCheck, PlainScript, PlainSystem, variables_in}
-use Rattle.moxi_systems.specs.Whole.{IsWhole}
+use Rattle.moxi_scripts.specs.Whole.{IsWhole}
 use Rattle.moxi_flat.specs.Limits.{flat_refusal}
 use Rattle.moxi_instantiate.specs.Instances.{IsSingle, single_script}
-use Rattle.moxi_chain.specs.Ends.{IsLiftEnd}
-use Rattle.moxi_chain.specs.declared.lift.LiftEnd.{LiftEnd}
+use Rattle.moxi_lift.specs.Ends.{IsLiftEnd}
+use Rattle.moxi_lift.specs.declared.chain_lift.LiftEnd.{LiftEnd}
 use Rattle.witness_lift.specs.Lifting.{IsLifted, lifted_run, lines_in, run_in, system_in}
 
 -- ---- scripts

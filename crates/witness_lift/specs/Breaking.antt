@@ -9,10 +9,10 @@ use Rattle.smv_flat.specs.FlatForms.{flat_smv}
 use Rattle.smv_width.specs.FlatWidth.{width_of}
 use Rattle.smv_flatten.specs.FlatModel.{FlatModel, IsRead, flat_plain}
 use Rattle.smv_script.specs.Script.{script_for}
-use Rattle.smv_script_runs.specs.Laws.{BreaksAt, decoded_run}
+use Rattle.smv_script_laws.specs.RunLaws.{BreaksAt, decoded_run}
 use Rattle.moxi_terms.specs.declared.data.Datum.{Datum}
 use Rattle.moxi_flat.specs.FlatSystem.{flat_of}
-use Rattle.moxi_frame_lift.specs.Laws.{MeetsQueryOf, trace_of}
+use Rattle.moxi_lift.specs.Laws.{MeetsQueryOf, trace_of}
 
 -- it is the flat form of a model that a text spells and whose checks hold
 pub record IsFormOf (source : PlainSource) (f : FlatModel) : Type 0 where

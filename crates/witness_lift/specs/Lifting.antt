@@ -8,14 +8,14 @@ use Rattle.btor_witness.specs.Judging.{judged_btor}
 use Rattle.smv_meaning.specs.declared.value.Run.{Run}
 use Rattle.smv_flatten.specs.FlatModel.{FlatModel, flat_plain}
 use Rattle.smv_script.specs.Script.{coding_of, script_of}
-use Rattle.smv_script_environments.specs.Decoding.{run_of}
+use Rattle.smv_script_laws.specs.Decoding.{run_of}
 use Rattle.moxi_terms.specs.declared.data.Datum.{Datum}
 use Rattle.moxi_terms.specs.Sorts.{Fit}
 use Rattle.moxi_terms.specs.Tree.{sorts_of}
 use Rattle.moxi_flat.specs.FlatSystem.{PlainFlatSystem, flat_of}
 use Rattle.moxi_lines.specs.Lines.{lines_of}
-use Rattle.moxi_frame_lift.specs.Laws.{MeetsQueryOf, trace_of}
-use Rattle.moxi_frame_lift.specs.Lifted.{lifted}
+use Rattle.moxi_lift.specs.Laws.{MeetsQueryOf, trace_of}
+use Rattle.moxi_lift.specs.Lifted.{lifted}
 
 -- the flat system of a flat form's script
 abbrev pub system_in : FlatModel → PlainFlatSystem

@@ -15,14 +15,14 @@ ghost use Rattle.moxi_instantiate.specs.Instances.{IsSingle, single_script};
 ghost use Rattle.moxi_lines.specs.Lines.{lines_of};
 ghost use Rattle.witness_lift.specs.Lifting.{lines_in};
 
+use crate::line_laws::models_have_flat_systems;
 use btor_tree::Nodes;
 use moxi_instantiate::flat_of_single;
 use moxi_scripts::{Check, System};
 use moxi_terms::Scope;
 use moxi_to_btor::to_btor;
 use smv_flatten::{Flat, FlatEnd, flatten};
-use smv_model_lines::models_have_flat_systems;
-use smv_script_whole::scripts_are_whole;
+use smv_script_laws::scripts_are_whole;
 use smv_text::Source;
 use smv_to_moxi::{SingleScript, to_single};
 use std::alloc::Global;

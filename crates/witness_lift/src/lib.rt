@@ -1,11 +1,17 @@
-//! Models and scripts with their BTOR2 lines, and what a witness of these lines is lifted to: a trace of the script, a run of the model.
+//! A model with its flat form and BTOR2 lines, and the run to which a witness of these lines is lifted; the law that the frames of
+//! an accepted model's lines are its runs.
 #![tactic(auto)]
 
 mod chain;
-mod laws;
 mod lift;
+mod lift_laws;
+mod line_laws;
 
 pub use chain::SmvChain;
-pub use laws::traces_break_invariants;
 pub use lift::lift_smv;
-pub use moxi_chain::{LiftEnd, MoxiChain, MoxiEnd, lift_moxi};
+pub use lift_laws::traces_break_invariants;
+pub use line_laws::{
+    model_lines_are_counted, model_lines_are_laid_out, model_lines_are_shared,
+    model_lines_are_spelled, models_have_flat_systems, models_have_frames, symbols_are_weighed,
+};
+pub use moxi_lift::{LiftEnd, MoxiChain, MoxiEnd, lift_moxi};

@@ -3,7 +3,7 @@ use Rattle.std.proofs.Common.{◌≡◌, ◌<◌, ◌≤◌, Bool, ◌&&◌, inl
 use Rattle.std.proofs.lemmas.Bool.{cases_lt}
 use Rattle.std.proofs.lemmas.Bool.Decides.{nat_tests}
 use Rattle.text_core.specs.declared.place.Refusal.{Refusal}
-use Rattle.moxi_sorts.specs.Failures.{key, pick, minimum, least}
+use Rattle.moxi_term_reading.specs.Failures.{key, pick, minimum, least}
 use Rattle.moxi_scripts.specs.Collecting.{also}
 
 pick_other : (a b : Refusal) → key b < key a → pick a b ≡ b

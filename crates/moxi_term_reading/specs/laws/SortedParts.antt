@@ -16,19 +16,19 @@ use Rattle.word_core.specs.declared.word.TheConstants.{WIDEST}
 use Rattle.moxi_sexpr.specs.Lexing.{refusal}
 use Rattle.moxi_terms.specs.declared.data.Sort.{Sort}
 use Rattle.moxi_terms.specs.declared.names.Head.{Head}
-use Rattle.moxi_sorts.specs.declared.locals.Local.{Local}
+use Rattle.moxi_term_reading.specs.declared.locals.Local.{Local}
 use Rattle.moxi_terms.specs.declared.term.Enumeration.{Enumeration}
 use Rattle.moxi_terms.specs.declared.term.Variable.{Variable}
 use Rattle.moxi_terms.specs.Tree.{PlainFunction, sorts_of}
 use Rattle.moxi_terms.specs.Names.{or_else, numbered, constant_numbers}
 use Rattle.moxi_terms.specs.Sorts.{IsConstant, same_sort, same_sorts}
 use Rattle.moxi_term_reading.specs.Reading as reading
-use Rattle.moxi_sorts.specs.Typing as typing
-use Rattle.moxi_sorts.specs.Finding.{Found, first_of, last_of}
+use Rattle.moxi_term_reading.specs.Typing as typing
+use Rattle.moxi_term_reading.specs.Finding.{Found, first_of, last_of}
 use Rattle.moxi_term_reading.specs.Answer.{locals_of}
 use Rattle.moxi_term_reading.specs.WellSorted.{HaveKnownSorts}
 use Rattle.moxi_terms.proofs.SortLaws.{same_sorts_are, same_ok}
-use Rattle.moxi_sorts.specs.laws.AllLaws.{all_append, all_of, all_at}
+use Rattle.moxi_term_reading.specs.laws.AllLaws.{all_append, all_of, all_at}
 
 -- TESTS THAT HOLD
 

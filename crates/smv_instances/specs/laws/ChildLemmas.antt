@@ -1,9 +1,7 @@
 -- The first instance of a name in an instance.
-use Rattle.std.proofs.Common.{◌≡◌, ℕ, ◌+◌, ◌<◌, ◌≤◌, Bool, true, false, ◌&&◌, ◌==◌, nat_lt, not, cond, if◌then◌else◌, List, [], ◌∷◌, ◌++◌, map, take, length, position, Option, Some, None, is_none, bytes_eq, Result, Ok, Err, OnOk, refl, sym, ap, ◌∙◌, arith}
+use Rattle.std.proofs.Common.{◌≡◌, ℕ, ◌+◌, ◌<◌, ◌≤◌, Bool, false, ◌&&◌, ◌==◌, nat_lt, not, cond, if◌then◌else◌, List, [], ◌∷◌, ◌++◌, map, take, length, position, Option, Some, None, is_none, bytes_eq, refl, sym, ap, ◌∙◌, arith}
 use Rattle.std.specs.Prelude.{slice_index_or}
 use Rattle.std.specs.List.{position_or_len}
-use Rattle.std.proofs.lemmas.Bool.{eqb-true}
-use Rattle.std.proofs.lemmas.Slice.Eq.{bytes_eq-Decides}
 use Rattle.std.proofs.lemmas.Bool.Decides.{nat_tests}
 use Rattle.std.proofs.lemmas.List.{length-map, map-append, length_push, length-take-le, take_all}
 use Rattle.std.proofs.lemmas.List.Sums.{prefix_len-le-length}
@@ -13,44 +11,6 @@ use Rattle.std.proofs.Math.Seq.{take-suc}
 use Rattle.smv_instances.specs.declared.instances.Instance.{Instance as PartOf}
 use Rattle.smv_meaning.specs.Names.{is_parent, is_child}
 use Rattle.smv_instances.specs.View.{instance_plain}
-use Rattle.smv_meaning.specs.laws.Booleans.{both_true}
-
--- what an equal key has
-same_key : (f : ℕ → List ℕ → Option ℕ) (i j : ℕ) (x y : List ℕ) → (i == j && bytes_eq x y) ≡ true → f j y ≡ f i x
-same_key f i j x y h =
-    let b = both_true (i == j) (bytes_eq x y) h in
-    let e : i ≡ j = eqb-true i j b.0 in
-    let d : x ≡ y = (bytes_eq-Decides x y).0 b.1 in
-    cc
-
-pub stays : (f : ℕ → List ℕ → Option ℕ) (i : ℕ) (x : List ℕ) (c j : ℕ) (y : List ℕ) (n : ℕ) → f i x ≡ Some n → f j y ≡ (if is_none (f j y) && (i == j && bytes_eq x y) then Some c else f j y)
-stays f i x c j y n e = by (i == j && bytes_eq x y) refl
-  where
-    by : (b : Bool) → (i == j && bytes_eq x y) ≡ b → f j y ≡ (if is_none (f j y) && b then Some c else f j y)
-    by true h = let s : f j y ≡ Some n = same_key f i j x y h ∙ e in ap (λ o. if is_none o && true then Some c else f j y) (sym s)
-    by false h = over (f j y)
-      where
-        over : (o : Option ℕ) → o ≡ (if is_none o && false then Some c else o)
-        over None = refl
-        over (Some m) = refl
-
-pub is_put : (f : ℕ → List ℕ → Option ℕ) (i : ℕ) (x : List ℕ) (c j : ℕ) (y : List ℕ) (o : Option ℕ) → f i x ≡ None → o ≡ (if i == j && bytes_eq x y then Some c else f j y)
-    → o ≡ (if is_none (f j y) && (i == j && bytes_eq x y) then Some c else f j y)
-is_put f i x c j y o e k = k ∙ by (i == j && bytes_eq x y) refl
-  where
-    by : (b : Bool) → (i == j && bytes_eq x y) ≡ b → (if b then Some c else f j y) ≡ (if is_none (f j y) && b then Some c else f j y)
-    by true h = let s : f j y ≡ None = same_key f i j x y h ∙ e in ap (λ p. if is_none p && true then Some c else f j y) (sym s)
-    by false h = over (f j y)
-      where
-        over : (p : Option ℕ) → p ≡ (if is_none p && false then Some c else p)
-        over None = refl
-        over (Some m) = refl
-
-pub on_put : {X E : Type 0} (r : Result X E) (f g : ℕ → List ℕ → Option ℕ) (i : ℕ) (x : List ℕ) (c : ℕ) → f i x ≡ None
-    → OnOk r ((j : ℕ) (y : List ℕ) → g j y ≡ (if i == j && bytes_eq x y then Some c else f j y))
-    → OnOk r ((j : ℕ) (y : List ℕ) → g j y ≡ (if is_none (f j y) && (i == j && bytes_eq x y) then Some c else f j y))
-on_put (Ok u) f g i x c e h = λ j y. is_put f i x c j y (g j y) e (h j y)
-on_put (Err u) f g i x c e h = tt
 
 place_pushed : (q n o m : ℕ) (b : Bool) → q ≤ n → o ≡ cond (q == n) (n + cond b 0 1) q → m ≡ n + 1
     → cond (nat_lt o m) (Some o) None ≡ (if is_none (cond (nat_lt q n) (Some q) None) && b then Some n else cond (nat_lt q n) (Some q) None)

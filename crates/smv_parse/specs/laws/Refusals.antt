@@ -11,7 +11,7 @@ use Rattle.smv_text.specs.Tree.{PlainModule}
 use Rattle.smv_text.specs.Heights.{first_high, of_modules}
 use Rattle.smv_text.specs.Sources.{SpellsModules, IsDeadAt}
 use Rattle.smv_parse.specs.Parsing.{refusal, dead_refusal, IsTooHigh, HasDead, IsRefused, too_high, dead}
-use Rattle.smv_readers.proofs.Models.{one_list}
+use Rattle.smv_grammar.proofs.Models.{one_list}
 
 -- no dead token stands before another
 none_before : (xs : List Token) (i j : ℕ) → IsDeadAt xs i → IsDeadAt xs j → i < j → ⊥

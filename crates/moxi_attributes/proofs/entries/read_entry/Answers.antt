@@ -1,7 +1,7 @@
 use Rattle.std.proofs.Common.{◌++◌, ap, sym, ◌∙◌}
 use Rattle.moxi_sexpr.specs.Tree.{plain}
 use Rattle.moxi_term_reading.specs.Reading.{prime_failures}
-use Rattle.moxi_sorts.specs.SortReading.{sort_reading}
+use Rattle.moxi_term_reading.specs.SortReading.{sort_reading}
 use Rattle.moxi_scripts.specs.Collecting.{also}
 use Rattle.moxi_scripts.specs.Entries.{entry_tests, sort_failures}
 use Rattle.moxi_attributes.specs.Views.{named_now}

@@ -1,4 +1,4 @@
-use Rattle.moxi_term_cases.specs.laws.Fitting.{adds_fit}
+use Rattle.moxi_cases.specs.laws.Fitting.{adds_fit}
 use Rattle.moxi_cases.proofs.asking.check_values.Goals as goal
 
 pub returns : goal.returns

@@ -1,7 +1,7 @@
 use Rattle.std.proofs.Common.{◌≡◌, ◌+◌, ◌++◌, ◌∷◌, [], true, drop, length, is_none, refl, sym, ap, ◌∙◌, subst, arith, append-nil}
 use Rattle.std.proofs.lemmas.List.{length_push}
-use Rattle.moxi_sorts.specs.declared.locals.Local.{Local}
-use Rattle.moxi_sorts.specs.Finding.{first_of}
+use Rattle.moxi_term_reading.specs.declared.locals.Local.{Local}
+use Rattle.moxi_term_reading.specs.Finding.{first_of}
 use Rattle.moxi_scripts.specs.Entries.{locals_among}
 use Rattle.moxi_scripts.proofs.Forms.{items_end, items_step}
 use Rattle.moxi_attributes.specs.laws.Collecting.{list_step}

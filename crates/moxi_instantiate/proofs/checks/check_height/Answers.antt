@@ -1,7 +1,7 @@
 use Rattle.std.proofs.Common.{◌∙◌, List, map, ap}
 use Rattle.moxi_scripts.specs.declared.script.Formula.{Formula}
 use Rattle.moxi_scripts.specs.Script.{plain_formula}
-use Rattle.moxi_sizes.specs.Systems.{formulas_height}
+use Rattle.moxi_flat.specs.Systems.{formulas_height}
 use Rattle.moxi_instantiate.specs.Counting.{capped, known}
 use Rattle.moxi_instantiate.proofs.CheckLaws.{check_heights}
 use Rattle.moxi_instantiate.proofs.checks.check_height.Goals as goal

@@ -1,7 +1,7 @@
 use Rattle.std.proofs.Common.{◌∙◌, map, ap}
 use Rattle.moxi_terms.specs.View.{plain}
 use Rattle.moxi_scripts.specs.declared.script.Formula.{Formula}
-use Rattle.moxi_sizes.specs.Terms.{term_size}
+use Rattle.moxi_flat.specs.Terms.{term_size}
 use Rattle.moxi_instantiate.specs.declared.checks.FormulaKind.TheVariants.{Assumption, Current, Reachable}
 use Rattle.moxi_instantiate.specs.CheckCounts.{all_numbers, queries_sum, unnamed_sum}
 use Rattle.moxi_instantiate.specs.Counting.{capped, known}

@@ -1,6 +1,6 @@
 use Rattle.std.proofs.Common.{◌≡◌, ◌≤◌, max, map, drop}
 use Rattle.moxi_scripts.specs.Script.{plain_formula}
-use Rattle.moxi_sizes.specs.Systems.{formulas_height}
+use Rattle.moxi_flat.specs.Systems.{formulas_height}
 use Rattle.moxi_instantiate.specs.declared.counts.TheConstants.{MOST}
 use Rattle.moxi_instantiate.specs.Counting.{capped, known}
 use Rattle.moxi_instantiate.proofs.checks.formulas_height.Given as goal

@@ -1,6 +1,6 @@
 use Rattle.std.proofs.Common.{◌≡◌, length, map}
 use Rattle.moxi_terms.specs.View.{plain_function}
-use Rattle.moxi_sizes.specs.Terms.{measured_upto, term_height}
+use Rattle.moxi_flat.specs.Terms.{measured_upto, term_height}
 use Rattle.moxi_instantiate.specs.Counting.{AreCounted}
 use Rattle.moxi_instantiate.proofs.functions.body_heights.Given as goal
 

@@ -1,6 +1,6 @@
 use Rattle.std.proofs.Common.{◌≡◌, ◌<◌, ◌∷◌, [], ◌++◌, length, map, ap, ◌∙◌, subst, arith}
 use Rattle.moxi_terms.specs.View.{plain, plain_function}
-use Rattle.moxi_sizes.specs.Terms.{measured_upto, term_size}
+use Rattle.moxi_flat.specs.Terms.{measured_upto, term_size}
 use Rattle.moxi_instantiate.specs.Counting.{AreCounted, capped, known}
 use Rattle.moxi_instantiate.proofs.Bodies.{one_longer, one_more}
 use Rattle.moxi_instantiate.proofs.Capping.{sizes_agree}

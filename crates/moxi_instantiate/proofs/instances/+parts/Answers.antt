@@ -4,7 +4,7 @@ use Rattle.std.specs.List.{AllByRecursion}
 use Rattle.std.proofs.lemmas.List.{length-map}
 use Rattle.moxi_scripts.specs.declared.script.Subsystem.{Subsystem}
 use Rattle.moxi_scripts.specs.Script.{plain_system, system_at, variables_in}
-use Rattle.moxi_sizes.specs.Systems.{nesting_upto}
+use Rattle.moxi_flat.specs.Systems.{nesting_upto}
 use Rattle.moxi_flat.specs.FlatSystem.{count_upto, part_of, parts_each, parts_upto}
 use Rattle.moxi_flat.specs.Instantiating.{HasActuals}
 use Rattle.moxi_instantiate.specs.Copying.{number_in}

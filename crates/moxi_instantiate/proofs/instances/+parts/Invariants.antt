@@ -1,7 +1,7 @@
 use Rattle.std.proofs.Common.{◌≡◌, ◌++◌, ◌∷◌, ◌+◌, ◌*◌, drop, length, map}
 use Rattle.std.specs.Prelude.{sum_by}
 use Rattle.moxi_scripts.specs.Script.{plain_system, system_at}
-use Rattle.moxi_sizes.specs.Systems.{nesting_upto}
+use Rattle.moxi_flat.specs.Systems.{nesting_upto}
 use Rattle.moxi_flat.specs.FlatSystem.{count_upto, part_of, parts_each, parts_upto}
 use Rattle.moxi_instantiate.specs.Copying.{number_in}
 use Rattle.moxi_instantiate.specs.Instances.{count_inside}

@@ -1,7 +1,7 @@
 use Rattle.std.proofs.Common.{◌≡◌, ◌∙◌, ◌++◌, ◌+◌, length, map, ap}
 use Rattle.moxi_scripts.specs.Script.{plain_system}
 use Rattle.moxi_scripts.specs.ScriptView.{plain_script}
-use Rattle.moxi_systems.specs.Whole.{check_variables}
+use Rattle.moxi_scripts.specs.Whole.{check_variables}
 use Rattle.moxi_flat.specs.FlatSystem.{parts_upto}
 use Rattle.moxi_instantiate.specs.Copying.{number_in}
 use Rattle.moxi_instantiate.specs.PlainParts.{plain_part}

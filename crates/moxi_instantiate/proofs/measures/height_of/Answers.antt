@@ -1,6 +1,6 @@
 use Rattle.std.proofs.Common.{◌∙◌, length, ap, subst, sym}
 use Rattle.moxi_scripts.specs.ScriptView.{plain_script}
-use Rattle.moxi_sizes.specs.Terms.{call_heights, term_height}
+use Rattle.moxi_flat.specs.Terms.{call_heights, term_height}
 use Rattle.moxi_instantiate.specs.declared.systems.Measure.TheVariants.{Height}
 use Rattle.moxi_instantiate.specs.Amounts.{amount_upto}
 use Rattle.moxi_instantiate.specs.Counting.{AreCounted, capped, known}

@@ -1,6 +1,6 @@
 use Rattle.std.proofs.Common.{◌≡◌, [], drop}
-use Rattle.name_set.specs.Names.{are_fresh}
-use Rattle.moxi_print.specs.Terms.{variable_names}
+use Rattle.name_maps.specs.Names.{are_fresh}
+use Rattle.moxi_term_print.specs.Terms.{variable_names}
 use Rattle.moxi_instantiate.proofs.refusals.has_name_twice.Given as goal
 
 abbrev pub invariant-loop-k : goal.invariant-loop-k

@@ -1,7 +1,7 @@
 use Rattle.std.proofs.Common.{◌≡◌, ◌≤◌, ◌+◌, drop, map}
 use Rattle.moxi_terms.specs.Tree.{trees_of}
 use Rattle.moxi_terms.specs.View.{plain}
-use Rattle.moxi_sizes.specs.Terms.{terms_size}
+use Rattle.moxi_flat.specs.Terms.{terms_size}
 use Rattle.moxi_instantiate.specs.declared.counts.TheConstants.{MOST}
 use Rattle.moxi_instantiate.specs.Counting.{capped, known}
 use Rattle.moxi_instantiate.proofs.terms.+size.Given as goal

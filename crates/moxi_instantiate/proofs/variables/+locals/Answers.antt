@@ -3,7 +3,7 @@ use Rattle.std.specs.List.{AllByRecursion}
 use Rattle.std.proofs.lemmas.List.{length-map}
 use Rattle.moxi_scripts.specs.declared.script.Subsystem.{Subsystem}
 use Rattle.moxi_scripts.specs.Script.{plain_system, system_at}
-use Rattle.moxi_sizes.specs.Systems.{nesting_upto}
+use Rattle.moxi_flat.specs.Systems.{nesting_upto}
 use Rattle.moxi_flat.specs.FlatSystem.{locals_each, locals_upto}
 use Rattle.moxi_instantiate.proofs.Filling.{system_read}
 use Rattle.moxi_instantiate.proofs.Held.{locals_end, locals_whole, ranked_held, sub_at}

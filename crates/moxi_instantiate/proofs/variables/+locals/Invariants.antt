@@ -1,6 +1,6 @@
 use Rattle.std.proofs.Common.{◌≡◌, ◌++◌, ◌+◌, ◌*◌, drop, length, map}
 use Rattle.moxi_scripts.specs.Script.{plain_system, system_at}
-use Rattle.moxi_sizes.specs.Systems.{nesting_upto}
+use Rattle.moxi_flat.specs.Systems.{nesting_upto}
 use Rattle.moxi_flat.specs.FlatSystem.{locals_each, locals_upto}
 use Rattle.moxi_instantiate.proofs.variables.+locals.Given as goal
 

@@ -5,7 +5,7 @@ use Rattle.std.proofs.Math.Logic.{∥∥₁_map}
 use Rattle.text_core.specs.declared.verdict.Verdict.TheVariants.{Yes}
 use Rattle.moxi_scripts.specs.Invariant.{IsSpelled}
 use Rattle.moxi_scripts.specs.ScriptView.{plain_script}
-use Rattle.moxi_systems.specs.Asking.{no_query, query_at}
+use Rattle.moxi_scripts.specs.Asking.{no_query, query_at}
 use Rattle.moxi_flat.specs.FlatMeeting.{MeetsFlat}
 use Rattle.moxi_flat.specs.FlatSystem.{flat_of}
 use Rattle.moxi_judge.specs.FlatTests.{IsQueryOf, judged_by_parts}

@@ -1,5 +1,5 @@
 use Rattle.std.proofs.Common.{◌≡◌, ℕ, ◌+◌, ◌-◌, length, subst, arith}
-use Rattle.moxi_systems.specs.Meeting.{is_reached_before}
+use Rattle.moxi_scripts.specs.Meeting.{is_reached_before}
 use Rattle.moxi_judge.specs.FlatTests.{free_script, judged_by_parts}
 use Rattle.moxi_judge.specs.Judging.{trace_of}
 use Rattle.moxi_judge.proofs.Steps.{ends_here, fails_here, goes_on, marks_go_on}

@@ -1,5 +1,5 @@
 use Rattle.std.proofs.Common.{◌≡◌, ℕ, ◌+◌, ◌-◌, length}
-use Rattle.moxi_systems.specs.Meeting.{is_reached_before}
+use Rattle.moxi_scripts.specs.Meeting.{is_reached_before}
 use Rattle.moxi_judge.specs.FlatTests.{Remember, free_script, judged_by_parts}
 use Rattle.moxi_judge.specs.Judging.{trace_of}
 use Rattle.moxi_judge.proofs.judge.judge_steps.Given as goal

@@ -1,5 +1,5 @@
 use Rattle.std.proofs.Common.{◌≡◌, ◌-◌, IfOk, length, subst}
-use Rattle.moxi_systems.specs.Meeting.{is_reached_before}
+use Rattle.moxi_scripts.specs.Meeting.{is_reached_before}
 use Rattle.moxi_judge.specs.FlatTests.{free_script}
 use Rattle.moxi_judge.specs.Judging.{trace_of}
 use Rattle.moxi_judge.proofs.Steps.{behind_parts}

@@ -1,7 +1,7 @@
 use Rattle.std.proofs.Common.{◌≡◌, Bool, drop, map}
 use Rattle.std.specs.List.{list_all}
 use Rattle.moxi_terms.specs.Value.{at}
-use Rattle.moxi_systems.specs.Meeting.{is_true}
+use Rattle.moxi_scripts.specs.Meeting.{is_true}
 use Rattle.moxi_flat.specs.FlatSystem.{PlainPart}
 use Rattle.moxi_instantiate.specs.PlainParts.{plain_part}
 use Rattle.moxi_judge.specs.FlatTests.{free_script, formula_of}

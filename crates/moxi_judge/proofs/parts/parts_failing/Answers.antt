@@ -1,5 +1,5 @@
 use Rattle.std.proofs.Common.{◌≡◌, IfOk, subst}
-use Rattle.moxi_systems.specs.Meeting.{first_failing}
+use Rattle.moxi_scripts.specs.Meeting.{first_failing}
 use Rattle.moxi_judge.proofs.Steps.{later_is}
 use Rattle.moxi_judge.proofs.parts.parts_failing.Goals as goal
 

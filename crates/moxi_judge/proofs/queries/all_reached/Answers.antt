@@ -1,6 +1,6 @@
 use Rattle.std.proofs.Common.{◌≡◌, IfOk, subst}
 use Rattle.moxi_terms.specs.Value.{at}
-use Rattle.moxi_systems.specs.Meeting.{reaches}
+use Rattle.moxi_scripts.specs.Meeting.{reaches}
 use Rattle.moxi_judge.specs.FlatTests.{free_script}
 use Rattle.moxi_judge.proofs.Steps.{one_reached}
 use Rattle.moxi_judge.proofs.queries.all_reached.Goals as goal

@@ -2,7 +2,7 @@ use Rattle.std.proofs.Common.{◌≡◌, ℕ, Bool, drop, map}
 use Rattle.std.specs.List.{list_all}
 use Rattle.moxi_terms.specs.Value.{at}
 use Rattle.moxi_scripts.specs.Script.{formula_at, plain_formula}
-use Rattle.moxi_systems.specs.Meeting.{is_true}
+use Rattle.moxi_scripts.specs.Meeting.{is_true}
 use Rattle.moxi_judge.specs.FlatTests.{free_script}
 use Rattle.moxi_judge.proofs.queries.all_true.Given as goal
 

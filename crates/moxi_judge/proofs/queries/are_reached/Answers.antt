@@ -1,6 +1,6 @@
 use Rattle.std.proofs.Common.{◌≡◌, ◌||◌, [], drop, length, refl}
 use Rattle.moxi_terms.specs.Value.{at}
-use Rattle.moxi_systems.specs.Meeting.{reaches}
+use Rattle.moxi_scripts.specs.Meeting.{reaches}
 use Rattle.moxi_scripts.proofs.Forms.{items_end}
 use Rattle.moxi_judge.specs.FlatTests.{free_script}
 use Rattle.moxi_judge.proofs.Steps.{reached_end}

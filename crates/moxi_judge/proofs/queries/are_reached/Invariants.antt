@@ -1,7 +1,7 @@
 use Rattle.std.proofs.Common.{◌≡◌, ℕ, ◌||◌, Bool, drop}
 use Rattle.std.specs.List.{list_all, list_any}
 use Rattle.moxi_terms.specs.Value.{at}
-use Rattle.moxi_systems.specs.Meeting.{reaches}
+use Rattle.moxi_scripts.specs.Meeting.{reaches}
 use Rattle.moxi_judge.specs.FlatTests.{AreMarks, free_script}
 use Rattle.moxi_judge.proofs.queries.are_reached.Given as goal
 

@@ -1,7 +1,7 @@
 use Rattle.std.proofs.Common.{◌≡◌, ℕ, ◌&&◌, ◌||◌, Bool, IfOk, List, subst}
 use Rattle.std.specs.List.{list_all, list_any}
 use Rattle.moxi_terms.specs.Value.{at}
-use Rattle.moxi_systems.specs.Meeting.{reaches}
+use Rattle.moxi_scripts.specs.Meeting.{reaches}
 use Rattle.moxi_judge.specs.FlatTests.{Remember, free_script}
 use Rattle.moxi_judge.proofs.Steps.{asked_last}
 use Rattle.moxi_judge.proofs.queries.ends_reached.Goals as goal

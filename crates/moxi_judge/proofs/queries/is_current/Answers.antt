@@ -2,7 +2,7 @@ use Rattle.std.proofs.Common.{◌≡◌, ℕ, Bool, true, cond, IfOk, List, sym,
 use Rattle.std.specs.List.{list_all}
 use Rattle.moxi_terms.specs.Value.{at}
 use Rattle.moxi_scripts.specs.Script.{PlainFormula, formula_at}
-use Rattle.moxi_systems.specs.Meeting.{currents_hold, is_true}
+use Rattle.moxi_scripts.specs.Meeting.{currents_hold, is_true}
 use Rattle.moxi_judge.specs.FlatTests.{free_script}
 use Rattle.moxi_judge.proofs.Steps.{same_number}
 use Rattle.moxi_judge.proofs.queries.is_current.Goals as goal

@@ -1,7 +1,7 @@
 use Rattle.std.proofs.Common.{◌≡◌, ℕ, ◌<◌, ◌≤◌, ◌||◌, Bool, false, length}
 use Rattle.std.specs.Prelude.{slice_index_or}
 use Rattle.moxi_terms.specs.Value.{at}
-use Rattle.moxi_systems.specs.Meeting.{reaches}
+use Rattle.moxi_scripts.specs.Meeting.{reaches}
 use Rattle.moxi_judge.specs.FlatTests.{AreMarks, free_script}
 use Rattle.moxi_judge.proofs.queries.mark_all.Given as goal
 

@@ -1,7 +1,7 @@
 use Rattle.std.proofs.Common.{ℕ, ◌<◌, ◌||◌, Bool, List, length, subst}
 use Rattle.std.specs.Prelude.{OnOk}
 use Rattle.moxi_terms.specs.Value.{at}
-use Rattle.moxi_systems.specs.Meeting.{reaches}
+use Rattle.moxi_scripts.specs.Meeting.{reaches}
 use Rattle.moxi_judge.specs.FlatTests.{AreMarks, Remember, free_script}
 use Rattle.moxi_judge.proofs.Steps.{on_ok_more}
 use Rattle.moxi_judge.proofs.queries.mark_reached.Goals as goal

@@ -1,5 +1,5 @@
 use Rattle.std.proofs.Common.{◌++◌, ◌∷◌, [], ap, ◌∙◌}
-use Rattle.name_set.specs.Names.{place_of}
+use Rattle.name_maps.specs.Names.{place_of}
 use Rattle.moxi_scripts.specs.Cycles.{ends_at, use_rows}
 use Rattle.moxi_attributes.specs.laws.Collecting.{list_step}
 use Rattle.moxi_scripts.proofs.Forms.{items_step}

@@ -5,7 +5,7 @@ use Rattle.text_core.specs.declared.end.End.TheVariants.{Bad, NoMemory}
 use Rattle.text_core.specs.declared.place.Place.{Place}
 use Rattle.text_core.specs.declared.place.Refusal.{Refusal}
 use Rattle.moxi_sexpr.specs.Tree.{Trees, plain_forms}
-use Rattle.moxi_sorts.specs.Failures.{least}
+use Rattle.moxi_term_reading.specs.Failures.{least}
 use Rattle.moxi_scripts.specs.declared.script.Script.{Script}
 use Rattle.moxi_scripts.specs.Kinds.{HasScriptKind}
 use Rattle.moxi_reading.specs.Answer.{IsFirstFailure, IsFirstOf, IsRefusal, IsScript}

@@ -2,7 +2,7 @@ use Rattle.std.proofs.Common.{◌≡◌, ◌++◌, length, sym, ap, ◌∙◌}
 use Rattle.std.proofs.lemmas.List.{length-map}
 use Rattle.moxi_terms.specs.Tree.{trees_of}
 use Rattle.moxi_terms.specs.View.{plain}
-use Rattle.moxi_sorts.specs.Failures.{least}
+use Rattle.moxi_term_reading.specs.Failures.{least}
 use Rattle.moxi_term_reading.specs.Reading.{headed, applied_sort, argument_tests}
 use Rattle.moxi_term_reading.specs.Answer.{kept, unless_some}
 use Rattle.moxi_term_reading.proofs.ReadingLaws.{tests_both, unless_both, unless_least}

@@ -3,8 +3,8 @@ use Rattle.std.proofs.lemmas.Option.{same_Some}
 use Rattle.text_core.specs.declared.place.Place.{Place}
 use Rattle.moxi_sexpr.specs.declared.form.Atom.{Atom}
 use Rattle.moxi_sexpr.specs.declared.form.Atom.TheVariants.{Symbol}
-use Rattle.moxi_sorts.specs.declared.locals.Local.{Local}
-use Rattle.moxi_sorts.specs.Forms.{symbol_atom}
+use Rattle.moxi_term_reading.specs.declared.locals.Local.{Local}
+use Rattle.moxi_term_reading.specs.Forms.{symbol_atom}
 use Rattle.moxi_term_reading.specs.Answer.{IsAdded, context_of}
 use Rattle.moxi_term_reading.specs.Reading.{Context, Reading, atom_reading, meaning_of, named_reading}
 use Rattle.moxi_term_reading.proofs.atoms.add_atom.Goals as goal

@@ -1,6 +1,6 @@
 use Rattle.std.proofs.Common.{◌≡◌, Some, sym, ap, ◌∙◌, subst}
 use Rattle.moxi_term_reading.specs.Reading.{literal_named, literal_reading, literal_digits}
-use Rattle.moxi_sorts.specs.Forms.{digits_now}
+use Rattle.moxi_term_reading.specs.Forms.{digits_now}
 use Rattle.moxi_term_reading.specs.Answer.{IsRead}
 use Rattle.moxi_sexpr.specs.Tree.{plain_forms}
 use Rattle.moxi_term_reading.proofs.atoms.named_literal.Goals as goal

@@ -1,7 +1,7 @@
 use Rattle.std.proofs.Common.{◌≡◌, ◌++◌, Some, sym, ap, ◌∙◌, subst}
 use Rattle.moxi_term_reading.specs.Reading.{symbol_underscored, underscore_reading, prime_failures}
-use Rattle.moxi_sorts.specs.Forms.{symbol_now, symbol_of, place_in}
-use Rattle.moxi_sorts.specs.Failures.{least}
+use Rattle.moxi_term_reading.specs.Forms.{symbol_now, symbol_of, place_in}
+use Rattle.moxi_term_reading.specs.Failures.{least}
 use Rattle.moxi_term_reading.specs.Answer.{IsRead}
 use Rattle.moxi_sexpr.specs.Tree.{plain, plain_forms}
 use Rattle.moxi_term_reading.proofs.ReadingLaws.{tests_both}

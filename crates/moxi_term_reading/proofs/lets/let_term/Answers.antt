@@ -1,7 +1,7 @@
 use Rattle.std.proofs.Common.{◌++◌, map, ap, ◌∙◌, append_assoc}
 use Rattle.moxi_terms.specs.Tree.{binding, trees_of}
 use Rattle.moxi_terms.specs.View.{plain}
-use Rattle.moxi_sorts.specs.Failures.{least}
+use Rattle.moxi_term_reading.specs.Failures.{least}
 use Rattle.moxi_term_reading.specs.Reading.{names_of, unless_failed, let_sort}
 use Rattle.moxi_terms.proofs.Plain.{plain-Let}
 use Rattle.moxi_term_reading.proofs.ReadingLaws.{tests_both, unless_least}

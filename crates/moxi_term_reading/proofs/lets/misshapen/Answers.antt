@@ -1,6 +1,6 @@
 use Rattle.std.proofs.Common.{◌∷◌, [], Some, refl, sym, ap, ◌∙◌, append-nil}
 use Rattle.moxi_sexpr.specs.Lexing.{refusal}
-use Rattle.moxi_sorts.specs.Failures.{minimum, least}
+use Rattle.moxi_term_reading.specs.Failures.{minimum, least}
 use Rattle.moxi_term_reading.specs.Reading.{names_of}
 use Rattle.moxi_term_reading.proofs.ReadingLaws.{tests_both}
 use Rattle.moxi_term_reading.proofs.lets.misshapen.Goals as goal

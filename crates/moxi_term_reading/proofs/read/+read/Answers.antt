@@ -4,8 +4,8 @@ use Rattle.std.specs.Prelude.{codes}
 use Rattle.moxi_sexpr.specs.declared.form.Form.{out-Form}
 use Rattle.moxi_sexpr.specs.Tree as form
 use Rattle.moxi_terms.specs.View.{plain}
-use Rattle.moxi_sorts.specs.Failures.{least}
-use Rattle.moxi_sorts.specs.Forms.{sizes, is_named, is_word, pair_now, symbol_of, symbol_now, place_in, is_primed}
+use Rattle.moxi_term_reading.specs.Failures.{least}
+use Rattle.moxi_term_reading.specs.Forms.{sizes, is_named, is_word, pair_now, symbol_of, symbol_now, place_in, is_primed}
 use Rattle.moxi_term_reading.specs.Reading.{no_arguments, argument, both_arguments, no_bindings, both_bindings, bound_to, binding_of, bindings_tests, prime_failures, let_reading, application, underscore_reading, head_primes, head_of, read, read_all, read_let, read_binding, read_bindings}
 use Rattle.moxi_term_reading.specs.Answer.{IsRead, AreStacked, AreBound, context_of}
 use Rattle.moxi_term_reading.proofs.ReadingLaws.{tests_both, arguments_assoc, arguments_front, arguments_back, forms_step, plain_list, pair_is, if_ok_map, on_ok_map}

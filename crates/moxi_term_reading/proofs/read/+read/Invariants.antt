@@ -1,7 +1,7 @@
 use Rattle.std.proofs.Common.{◌≡◌, ◌≤◌, ◌+◌, drop}
 use Rattle.moxi_sexpr.specs.Tree.{plain, plain_forms}
 use Rattle.moxi_term_reading.specs.Answer.{AreStacked, AreBound, context_of}
-use Rattle.moxi_sorts.specs.Forms.{size, sizes}
+use Rattle.moxi_term_reading.specs.Forms.{size, sizes}
 use Rattle.moxi_term_reading.specs.Reading.{Arguments, Bindings, both_arguments, both_bindings, read_all, read_bindings}
 use Rattle.moxi_term_reading.proofs.read.+read.Given as goal
 

@@ -6,7 +6,7 @@ use Rattle.moxi_term_reading.specs.Reading.{Context, read}
 use Rattle.moxi_terms.specs.Tree.{sorts_of}
 use Rattle.moxi_terms.specs.View.{plain}
 use Rattle.moxi_term_reading.specs.WellSorted.{IsTerm, IsSortedTerm}
-use Rattle.moxi_sorts.specs.laws.Least.{is_least, least_none}
+use Rattle.moxi_term_reading.specs.laws.Least.{is_least, least_none}
 use Rattle.moxi_term_reading.specs.laws.SortedParts.{known_variables}
 use Rattle.moxi_term_reading.proofs.WellSorted.{term_sorted}
 use Rattle.moxi_term_reading.proofs.read.term_of.Goals as goal

@@ -1,6 +1,6 @@
 use Rattle.std.specs.Prelude.{codes}
 use Rattle.std.proofs.Common.{◌∙◌, ◌++◌, [], ap, subst, sym}
-use Rattle.moxi_term_lines.specs.TermLines.{Made}
+use Rattle.moxi_lines.specs.TermLines.{Made}
 use Rattle.moxi_lines.specs.Lines.{with_assumptions, with_currents}
 use Rattle.moxi_to_btor.specs.Queries.{CanPutAssumptions, CanPutCurrents}
 use Rattle.moxi_to_btor.proofs.ConditionSteps.{chain_same, conditions_are, conditions_assumptions, conditions_currents, conditions_fold, conditions_latch, conditions_next, latch_same}

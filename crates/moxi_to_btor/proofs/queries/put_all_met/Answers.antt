@@ -1,7 +1,7 @@
 use Rattle.std.proofs.Common.{◌∙◌, ap}
 use Rattle.word_core.specs.declared.kinds.Binary.TheVariants as two
-use Rattle.moxi_term_lines.specs.TermLines.{Made, chain_lines}
-use Rattle.moxi_term_builder.proofs.Stepping.{made_same}
+use Rattle.moxi_lines.specs.TermLines.{Made, chain_lines}
+use Rattle.moxi_to_btor.proofs.Stepping.{made_same}
 use Rattle.moxi_to_btor.specs.Queries.{reaching}
 use Rattle.moxi_to_btor.proofs.GoalSteps.{both_can, both_is, met_chain, some_chain}
 use Rattle.moxi_to_btor.proofs.VariableSteps.{made}

@@ -1,7 +1,7 @@
 use Rattle.std.specs.Prelude.{codes}
 use Rattle.std.proofs.Common.{◌∙◌, ◌++◌, ◌<◌, length, map, ap, subst, sym}
 use Rattle.moxi_scripts.specs.Script.{formula_at, plain_formula}
-use Rattle.moxi_term_lines.specs.TermLines.{Made}
+use Rattle.moxi_lines.specs.TermLines.{Made}
 use Rattle.moxi_lines.specs.Lines.{formula_name, with_formula}
 use Rattle.moxi_to_btor.specs.Queries.{CanPutNumbered, reaching}
 use Rattle.moxi_to_btor.proofs.QuerySteps.{latch_here, met_here, name_is, reached_same, reachable_is, reachable_latch, reachable_met, reachable_next, reachable_numbered}

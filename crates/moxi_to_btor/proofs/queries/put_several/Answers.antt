@@ -1,5 +1,5 @@
 use Rattle.std.proofs.Common.{◌∙◌, [], ap}
-use Rattle.moxi_term_builder.proofs.Stepping.{made_same}
+use Rattle.moxi_to_btor.proofs.Stepping.{made_same}
 use Rattle.moxi_lines.specs.Lines.{with_all_met}
 use Rattle.moxi_to_btor.specs.Queries.{reaching}
 use Rattle.moxi_to_btor.proofs.GoalSteps.{several_all_met, several_end, several_start}

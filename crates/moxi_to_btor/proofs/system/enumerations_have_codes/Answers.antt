@@ -1,6 +1,6 @@
 use Rattle.std.proofs.Common.{subst, sym}
 use Rattle.std.proofs.lemmas.List.{drop_all}
-use Rattle.moxi_term_lines.specs.Laws.{HaveCodes}
+use Rattle.moxi_lines.specs.TermLaws.{HaveCodes}
 use Rattle.moxi_to_btor.proofs.SystemSteps.{codes_more}
 use Rattle.moxi_to_btor.proofs.VariableSteps.{next_item}
 use Rattle.moxi_to_btor.proofs.system.enumerations_have_codes.Goals as goal

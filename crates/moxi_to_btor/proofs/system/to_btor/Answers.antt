@@ -1,7 +1,7 @@
 use Rattle.std.proofs.Common.{◌∙◌, map, ap, subst, sym}
 use Rattle.moxi_terms.specs.Sorted.{IsScope}
 use Rattle.moxi_terms.specs.View.{ScopeState}
-use Rattle.moxi_term_lines.specs.Laws.{HaveCodes}
+use Rattle.moxi_lines.specs.TermLaws.{HaveCodes}
 use Rattle.moxi_instantiate.specs.PlainParts.{plain_part}
 use Rattle.moxi_lines.specs.Lines.{with_parts}
 use Rattle.moxi_to_btor.specs.Putting.{CanPutParts}

@@ -1,5 +1,5 @@
 use Rattle.std.proofs.Common.{◌∙◌, ◌+◌, drop, subst, sym, ap}
-use Rattle.moxi_term_lines.specs.TermLines.{AllMade}
+use Rattle.moxi_lines.specs.TermLines.{AllMade}
 use Rattle.moxi_lines.specs.Lines.{with_variables}
 use Rattle.moxi_to_btor.specs.Putting.{CanPutVariables}
 use Rattle.moxi_to_btor.proofs.VariableSteps.{first_variable, next_item, one_is, rest_variables}

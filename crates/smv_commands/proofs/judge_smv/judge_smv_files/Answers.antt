@@ -2,8 +2,8 @@ use Rattle.std.proofs.Common.{◌≤◌, [], ◌∷◌, length, ap, sym, subst, 
 use Rattle.text_core.specs.Outside.{IsFile, Rose}
 use Rattle.smv_commands.specs.Limits.{most_smv_bytes}
 use Rattle.smv_commands.specs.SmvJudgement.{IsSmvJudgement}
-use Rattle.command_answers.specs.Giving.{MayGive}
-use Rattle.command_answers.specs.Reading.{StopsWith}
+use Rattle.command_core.specs.Giving.{MayGive}
+use Rattle.command_core.specs.Reading.{StopsWith}
 use Rattle.smv_commands.proofs.JudgedSmv.{refused, stops_so}
 use Rattle.smv_commands.proofs.judge_smv.judge_smv_files.Goals as goal
 

@@ -1,8 +1,8 @@
 use Rattle.std.proofs.Common.{ap}
-use Rattle.moxi_print.specs.Shown.{lines_text}
+use Rattle.moxi_term_print.specs.Shown.{lines_text}
 use Rattle.moxi_scripts.specs.Script.{PlainScript}
 use Rattle.moxi_scripts.specs.ScriptView.{plain_script}
-use Rattle.moxi_shown_scripts.specs.Printing.{shown_script}
+use Rattle.moxi_script_print.specs.Printing.{shown_script}
 use Rattle.smv_flatten.specs.FlatModel.{flat_plain}
 use Rattle.smv_script.specs.Script.{script_of}
 use Rattle.smv_commands.proofs.ScriptStands.{ok_same}

@@ -6,7 +6,7 @@ use Rattle.smv_meaning.specs.Bodies.{placed_bodies}
 use Rattle.smv_instances.specs.View.{instance_plain}
 use Rattle.smv_references.specs.View.{body_plain}
 use Rattle.smv_evaluation.specs.View.{stated}
-use Rattle.smv_model_laws.proofs.Ranked.{key}
+use Rattle.smv_laws.proofs.Ranked.{key}
 use Rattle.smv_references.specs.laws.NumberLemmas.{read}
 use Rattle.smv_evaluation.proofs.Positions.{at_place, kept_low, kept_at}
 use Rattle.smv_evaluation.proofs.Filling.{ready, kept_on, kept_end, kept_none}

@@ -8,8 +8,8 @@ use Rattle.smv_meaning.specs.Checked.{all_trees}
 use Rattle.smv_evaluation.specs.Rows.{MarkedSafe}
 use Rattle.smv_instances.specs.View.{instance_plain}
 use Rattle.smv_evaluation.specs.View.{stated}
-use Rattle.smv_model_laws.proofs.OrderLaws.{acyclic_passes}
-use Rattle.smv_model_laws.proofs.SafeExpressions.{acyclic}
+use Rattle.smv_laws.proofs.OrderLaws.{acyclic_passes}
+use Rattle.smv_laws.proofs.SafeExpressions.{acyclic}
 use Rattle.smv_evaluation.proofs.ValueAt.{States, Asked, asked_at, gives_now, gives_later, marked_safe, IsRow, safe_at, value_is, other_value}
 use Rattle.smv_evaluation.proofs.model_value.value_at.Goals as goal
 

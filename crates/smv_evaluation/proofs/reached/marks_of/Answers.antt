@@ -2,8 +2,8 @@ use Rattle.std.proofs.Common.{◌≡◌, ◌+◌, ◌-◌, ◌<◌, map, length,
 use Rattle.std.proofs.lemmas.List.{get_or_default}
 use Rattle.smv_text.specs.View.{plain}
 use Rattle.smv_instances.specs.View.{instance_plain}
-use Rattle.smv_model_laws.proofs.Ranked.{key}
-use Rattle.smv_model_laws.proofs.OrderLaws.{number}
+use Rattle.smv_laws.proofs.Ranked.{key}
+use Rattle.smv_laws.proofs.OrderLaws.{number}
 use Rattle.smv_references.specs.laws.NumberLemmas.{read}
 use Rattle.smv_evaluation.proofs.Positions.{at_place, upto_positive, kept_low, kept_at}
 use Rattle.smv_evaluation.proofs.Reaching.{start_on, least_on, ClosedBehind, closed_on, closed_end, first_starts, first_least}

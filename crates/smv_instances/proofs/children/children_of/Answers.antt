@@ -1,5 +1,5 @@
 use Rattle.std.proofs.Common.{length, refl, arith}
-use Rattle.smv_instances.specs.Rows.{row_in}
+use Rattle.name_maps.specs.Rows.{row_in}
 use Rattle.smv_instances.specs.laws.ChildLemmas.{with_part}
 use Rattle.smv_instances.proofs.children.children_of.Goals as goal
 

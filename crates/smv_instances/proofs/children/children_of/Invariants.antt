@@ -1,6 +1,6 @@
 use Rattle.std.proofs.Common.{◌≡◌, ℕ, List, take, map, position}
 use Rattle.smv_meaning.specs.Names.{is_child}
-use Rattle.smv_instances.specs.Rows.{row_in}
+use Rattle.name_maps.specs.Rows.{row_in}
 use Rattle.smv_instances.specs.View.{instance_plain}
 use Rattle.smv_instances.proofs.children.children_of.Given as goal
 

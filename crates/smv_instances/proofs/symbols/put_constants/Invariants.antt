@@ -1,7 +1,7 @@
 use Rattle.std.proofs.Common.{◌≡◌, ◌||◌, ℕ, List, is_some}
 use Rattle.std.specs.Slice.Iter.{iter_rest}
 use Rattle.smv_meaning.specs.Instances.{is_one_of}
-use Rattle.smv_instances.specs.NameMap.{named}
+use Rattle.name_maps.specs.Maps.{named}
 use Rattle.smv_instances.proofs.symbols.put_constants.Given as goal
 
 abbrev pub invariant-loop-name : goal.invariant-loop-name

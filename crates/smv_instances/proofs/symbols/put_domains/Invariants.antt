@@ -3,7 +3,7 @@ use Rattle.std.specs.List.{list_any}
 use Rattle.std.specs.Slice.Iter.{iter_rest}
 use Rattle.smv_text.specs.View.{plain_item}
 use Rattle.smv_meaning.specs.Names.{item_has}
-use Rattle.smv_instances.specs.NameMap.{named}
+use Rattle.name_maps.specs.Maps.{named}
 use Rattle.smv_instances.proofs.symbols.put_domains.Given as goal
 
 abbrev pub invariant-loop-item : goal.invariant-loop-item

@@ -2,7 +2,7 @@ use Rattle.std.proofs.Common.{◌≡◌, ◌||◌, ℕ, List, is_some}
 use Rattle.std.specs.List.{list_any}
 use Rattle.std.specs.Slice.Iter.{iter_rest}
 use Rattle.smv_meaning.specs.Names.{is_symbol}
-use Rattle.smv_instances.specs.NameMap.{named}
+use Rattle.name_maps.specs.Maps.{named}
 use Rattle.smv_instances.proofs.symbols.put_members.Given as goal
 
 abbrev pub invariant-loop-member : goal.invariant-loop-member

@@ -1,7 +1,7 @@
 use Rattle.std.proofs.Common.{◌≡◌, ◌||◌, ℕ, List, drop, map, is_some}
 use Rattle.smv_meaning.specs.Names.{has_symbol}
 use Rattle.smv_instances.specs.View.{instance_plain}
-use Rattle.smv_instances.specs.NameMap.{named}
+use Rattle.name_maps.specs.Maps.{named}
 use Rattle.smv_instances.proofs.symbols.symbols_of.Given as goal
 
 abbrev pub invariant-loop-part : goal.invariant-loop-part

@@ -1,6 +1,6 @@
 use Rattle.std.proofs.Common.{rules, ◌≡◌, ◌∷◌, ◌+◌, [], true, false, if◌then◌else◌, Some, drop, map, bytes_eq, refl, sym, ap, ◌∙◌, arith}
 use Rattle.std.specs.List.{list_any}
-use Rattle.smv_instances.specs.Rows.{row_named}
+use Rattle.name_maps.specs.Rows.{row_named}
 use Rattle.smv_meaning.specs.Checks.{first_failing}
 use Rattle.smv_meaning.specs.Phases.{assigned_checks, clashes, is_assignable}
 use Rattle.smv_names.specs.Assigning.{assigned_plain, assigned_path, target_path, kinds_clash, kinds_or_none, with_kind}

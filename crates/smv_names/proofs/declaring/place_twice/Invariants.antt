@@ -1,6 +1,6 @@
 use Rattle.std.proofs.Common.{◌≡◌, ℕ, List, [], drop, map, is_some}
 use Rattle.smv_meaning.specs.Instances.{is_one_of}
-use Rattle.smv_instances.specs.Rows.{row_named}
+use Rattle.name_maps.specs.Rows.{row_named}
 use Rattle.smv_names.specs.View.{declared_plain}
 use Rattle.smv_names.specs.Declaring.{first_twice}
 use Rattle.smv_names.proofs.declaring.place_twice.Given as goal

@@ -1,7 +1,7 @@
 use Rattle.std.proofs.Common.{◌≡◌, ℕ, List, [], drop, map, is_some}
 use Rattle.smv_text.specs.View.{plain_module}
 use Rattle.smv_meaning.specs.Instances.{is_one_of}
-use Rattle.smv_instances.specs.NameMap.{named}
+use Rattle.name_maps.specs.Maps.{named}
 use Rattle.smv_meaning.specs.Checks.{first_failing}
 use Rattle.smv_meaning.specs.Phases.{name_checks}
 use Rattle.smv_names.proofs.module_names.names_checked.Given as goal

@@ -1,6 +1,6 @@
 use Rattle.std.proofs.lemmas.Result.{err_from_is_err_and}
-use Rattle.smv_readers.specs.Readers.{fail, either}
-use Rattle.smv_readers.specs.Rules.{body, target_pick, assignment_pick}
+use Rattle.smv_grammar.specs.Readers.{fail, either}
+use Rattle.smv_grammar.specs.Rules.{body, target_pick, assignment_pick}
 use Rattle.smv_parse.proofs.Leads.{gives_exit}
 use Rattle.smv_parse.proofs.Turns.{assignment_reads, assignment_dies, assignment_dies_later}
 use Rattle.smv_parse.proofs.module_sections.assignment.Goals as goal

@@ -1,9 +1,9 @@
 use Rattle.std.proofs.Common.{sym}
 use Rattle.std.proofs.lemmas.Result.{err_from_is_err_and}
-use Rattle.smv_readers.specs.Readers.{expression}
-use Rattle.smv_readers.specs.Rules.{constraint}
-use Rattle.smv_readers.proofs.Lawful.{both_reads, both_dies_first}
-use Rattle.smv_readers.proofs.Mapped.{mapped_reads, mapped_dies}
+use Rattle.smv_grammar.specs.Readers.{expression}
+use Rattle.smv_grammar.specs.Rules.{constraint}
+use Rattle.smv_grammar.proofs.Lawful.{both_reads, both_dies_first}
+use Rattle.smv_grammar.proofs.Mapped.{mapped_reads, mapped_dies}
 use Rattle.smv_parse.proofs.Leads.{gives_exit}
 use Rattle.smv_parse.proofs.Turns.{optional_taken, optional_passed}
 use Rattle.smv_parse.proofs.module_sections.constraint.Goals as goal

@@ -1,8 +1,8 @@
 use Rattle.std.proofs.Common.{refl, ◌∙◌}
 use Rattle.std.proofs.lemmas.Result.{err_from_is_err_and}
-use Rattle.smv_readers.specs.Readers.{fail, either}
-use Rattle.smv_readers.specs.Rules.{name, body, definition_pick}
-use Rattle.smv_readers.proofs.Mapped.{mapped_reads, mapped_dies}
+use Rattle.smv_grammar.specs.Readers.{fail, either}
+use Rattle.smv_grammar.specs.Rules.{name, body, definition_pick}
+use Rattle.smv_grammar.proofs.Mapped.{mapped_reads, mapped_dies}
 use Rattle.smv_parse.proofs.Leads.{gives_exit}
 use Rattle.smv_parse.proofs.Turns.{name_goes, name_fails, definition_nameless}
 use Rattle.smv_parse.proofs.module_sections.definition.Goals as goal

@@ -1,8 +1,8 @@
 use Rattle.std.proofs.Common.{suc, [], ◌∷◌, length, sym, ap, ◌∙◌}
 use Rattle.smv_text.specs.declared.token.TokenKind.TheVariants as kind
-use Rattle.smv_readers.specs.Readers.{died, fail, picked, either}
-use Rattle.smv_readers.specs.Rules.{element_pick}
-use Rattle.smv_readers.proofs.Choices.{either_passes}
+use Rattle.smv_grammar.specs.Readers.{died, fail, picked, either}
+use Rattle.smv_grammar.specs.Rules.{element_pick}
+use Rattle.smv_grammar.proofs.Choices.{either_passes}
 use Rattle.smv_parse.proofs.Leads.{gives_same, none_left}
 use Rattle.smv_parse.proofs.Turns.{no_word, element_at}
 use Rattle.smv_parse.proofs.module_sections.element.Goals as goal

@@ -3,10 +3,10 @@ use Rattle.std.proofs.lemmas.Result.{err_from_is_err_and}
 use Rattle.smv_text.specs.declared.token.Sign.TheVariants as signs
 use Rattle.smv_text.specs.Grammar.{start}
 use Rattle.smv_text.specs.View.{plain_domain}
-use Rattle.smv_readers.specs.Readers.{found, fail, either, placed}
-use Rattle.smv_readers.specs.Rules.{sign, name, domain, item, item_pick}
-use Rattle.smv_readers.proofs.Lawful.{both_reads, both_dies, both_dies_first}
-use Rattle.smv_readers.proofs.Mapped.{mapped_reads, mapped_dies, told_reads, told_dies}
+use Rattle.smv_grammar.specs.Readers.{found, fail, either, placed}
+use Rattle.smv_grammar.specs.Rules.{sign, name, domain, item, item_pick}
+use Rattle.smv_grammar.proofs.Lawful.{both_reads, both_dies, both_dies_first}
+use Rattle.smv_grammar.proofs.Mapped.{mapped_reads, mapped_dies, told_reads, told_dies}
 use Rattle.smv_parse.proofs.Leads.{gives_exit, sign_after, misses_loses, after_shorter}
 use Rattle.smv_parse.proofs.Turns.{name_goes, name_fails, item_nameless}
 use Rattle.smv_parse.proofs.module_sections.item.Goals as goal

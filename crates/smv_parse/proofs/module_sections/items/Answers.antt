@@ -2,8 +2,8 @@ use Rattle.std.proofs.Common.{◌≡◌, [], ◌∷◌, ◌++◌, map, sym, ap, 
 use Rattle.std.proofs.lemmas.Result.{err_from_is_err_and}
 use Rattle.smv_text.specs.View.{plain_item}
 use Rattle.smv_parse.specs.Answers.{is_name}
-use Rattle.smv_readers.specs.Readers.{found, fail, either, many}
-use Rattle.smv_readers.specs.Rules.{item_pick}
+use Rattle.smv_grammar.specs.Readers.{found, fail, either, many}
+use Rattle.smv_grammar.specs.Rules.{item_pick}
 use Rattle.smv_parse.proofs.Leads.{gives_exit, onto, onto_first, map_push, many_ends, part_steps, part_dies, test_fails}
 use Rattle.smv_parse.proofs.Turns.{item_agrees}
 use Rattle.std.proofs.lemmas.List.{append-nil}

@@ -1,7 +1,7 @@
 use Rattle.std.proofs.Common.{◌≡◌, ◌≤◌, map, length}
 use Rattle.smv_text.specs.View.{plain_item}
-use Rattle.smv_readers.specs.Readers.{many}
-use Rattle.smv_readers.specs.Rules.{item_pick}
+use Rattle.smv_grammar.specs.Readers.{many}
+use Rattle.smv_grammar.specs.Rules.{item_pick}
 use Rattle.smv_parse.proofs.Leads.{onto}
 use Rattle.smv_parse.proofs.module_sections.items.Given as goal
 

@@ -1,9 +1,9 @@
 use Rattle.std.proofs.Common.{length}
 use Rattle.std.proofs.lemmas.Result.{err_from_is_err_and}
-use Rattle.smv_readers.specs.Readers.{many, counted}
-use Rattle.smv_readers.specs.Rules.{name, bracketed, parameter, element_pick, module_rest}
-use Rattle.smv_readers.proofs.Lawful.{both_reads, both_dies, both_dies_first}
-use Rattle.smv_readers.proofs.Mapped.{mapped_reads, mapped_dies, told_reads, told_dies}
+use Rattle.smv_grammar.specs.Readers.{many, counted}
+use Rattle.smv_grammar.specs.Rules.{name, bracketed, parameter, element_pick, module_rest}
+use Rattle.smv_grammar.proofs.Lawful.{both_reads, both_dies, both_dies_first}
+use Rattle.smv_grammar.proofs.Mapped.{mapped_reads, mapped_dies, told_reads, told_dies}
 use Rattle.smv_parse.proofs.Leads.{gives_exit}
 use Rattle.std.proofs.Common.{◌-◌}
 use Rattle.smv_parse.proofs.module_sections.module_rest.Goals as goal

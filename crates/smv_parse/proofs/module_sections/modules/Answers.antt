@@ -2,8 +2,8 @@ use Rattle.std.proofs.Common.{◌≡◌, [], ◌∷◌, ◌++◌, map, sym, ap, 
 use Rattle.std.proofs.lemmas.Result.{err_from_is_err_and}
 use Rattle.smv_text.specs.declared.token.Reserved.TheVariants as words
 use Rattle.smv_text.specs.View.{plain_module}
-use Rattle.smv_readers.specs.Readers.{found, many}
-use Rattle.smv_readers.specs.Rules.{module_rest, module_pick}
+use Rattle.smv_grammar.specs.Readers.{found, many}
+use Rattle.smv_grammar.specs.Rules.{module_rest, module_pick}
 use Rattle.smv_parse.proofs.Leads.{gives_exit, word_found, onto, onto_first, map_push, many_steps, many_dies, many_ends}
 use Rattle.std.proofs.lemmas.List.{append-nil}
 use Rattle.smv_parse.proofs.Shrinking.{module_shrinks, no_module}

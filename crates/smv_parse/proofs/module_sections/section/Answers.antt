@@ -4,9 +4,9 @@ use Rattle.smv_text.specs.declared.token.Sign.TheVariants as signs
 use Rattle.smv_text.specs.declared.token.TokenKind.TheVariants as kind
 use Rattle.smv_text.specs.declared.tree.VarKind.TheVariants.{State, Input, Frozen}
 use Rattle.smv_text.specs.Tree.{vars, spec}
-use Rattle.smv_readers.specs.Readers.{died, both, mapped, picked, many}
-use Rattle.smv_readers.specs.Rules.{symbol, listed, item_pick, definition_pick, assignment_pick, constraint, label, element_pick}
-use Rattle.smv_readers.proofs.Mapped.{mapped_reads, mapped_dies}
+use Rattle.smv_grammar.specs.Readers.{died, both, mapped, picked, many}
+use Rattle.smv_grammar.specs.Rules.{symbol, listed, item_pick, definition_pick, assignment_pick, constraint, label, element_pick}
+use Rattle.smv_grammar.proofs.Mapped.{mapped_reads, mapped_dies}
 use Rattle.smv_parse.proofs.Leads.{gives_exit, gives_same}
 use Rattle.smv_parse.proofs.Turns.{no_section}
 use Rattle.std.proofs.Common.{◌+◌}

@@ -2,9 +2,9 @@ use Rattle.std.proofs.Common.{refl, sym, ◌∙◌}
 use Rattle.std.proofs.lemmas.Result.{err_from_is_err_and}
 use Rattle.smv_text.specs.declared.token.Reserved.TheVariants as words
 use Rattle.smv_text.specs.declared.tree.When.TheVariants.{First, Following}
-use Rattle.smv_readers.specs.Readers.{fail, either}
-use Rattle.smv_readers.specs.Rules.{path, enclosed, target_pick}
-use Rattle.smv_readers.proofs.Mapped.{mapped_reads, mapped_dies}
+use Rattle.smv_grammar.specs.Readers.{fail, either}
+use Rattle.smv_grammar.specs.Rules.{path, enclosed, target_pick}
+use Rattle.smv_grammar.proofs.Mapped.{mapped_reads, mapped_dies}
 use Rattle.smv_parse.proofs.Leads.{gives_exit}
 use Rattle.smv_parse.proofs.Numerals.{path_found, path_loses}
 use Rattle.smv_parse.proofs.Turns.{always_of, target_first, target_path}

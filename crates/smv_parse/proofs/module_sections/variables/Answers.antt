@@ -1,8 +1,8 @@
 use Rattle.std.proofs.lemmas.Result.{err_from_is_err_and}
 use Rattle.smv_text.specs.Tree.{vars}
-use Rattle.smv_readers.specs.Readers.{mapped, many}
-use Rattle.smv_readers.specs.Rules.{item_pick}
-use Rattle.smv_readers.proofs.Mapped.{mapped_reads, mapped_dies}
+use Rattle.smv_grammar.specs.Readers.{mapped, many}
+use Rattle.smv_grammar.specs.Rules.{item_pick}
+use Rattle.smv_grammar.proofs.Mapped.{mapped_reads, mapped_dies}
 use Rattle.smv_parse.proofs.Leads.{gives_exit}
 use Rattle.smv_parse.proofs.module_sections.variables.Goals as goal
 

@@ -1,8 +1,8 @@
 use Rattle.std.proofs.Common.{map, sym, ap, ◌∙◌}
 use Rattle.smv_text.specs.declared.token.Sign.TheVariants as signs
 use Rattle.smv_text.specs.View.{plain}
-use Rattle.smv_readers.specs.Readers.{found, expression}
-use Rattle.smv_readers.specs.Rules.{listed, bracketed}
+use Rattle.smv_grammar.specs.Readers.{found, expression}
+use Rattle.smv_grammar.specs.Rules.{listed, bracketed}
 use Rattle.smv_parse.proofs.Leads.{gives_same}
 use Rattle.smv_parse.proofs.Turns.{bracketed_none, bracketed_empty, bracketed_some}
 use Rattle.smv_parse.proofs.module_types.actuals.Goals as goal

@@ -2,8 +2,8 @@ use Rattle.std.proofs.Common.{◌≡◌, [], ◌∷◌, ◌++◌, map, sym, ap, 
 use Rattle.std.proofs.lemmas.Result.{err_from_is_err_and}
 use Rattle.smv_text.specs.declared.token.Sign.TheVariants as signs
 use Rattle.smv_text.specs.View.{plain}
-use Rattle.smv_readers.specs.Readers.{many, expression}
-use Rattle.smv_readers.specs.Rules.{sign, behind, listed}
+use Rattle.smv_grammar.specs.Readers.{many, expression}
+use Rattle.smv_grammar.specs.Rules.{sign, behind, listed}
 use Rattle.smv_parse.proofs.Leads.{gives_exit, misses_loses, onto, closed_by, listed_goes, listed_dies, onto_first, map_push, comma_steps, comma_dies, comma_ends, list_closes, list_dies}
 use Rattle.smv_parse.proofs.Shrinking.{expression_shrinks}
 use Rattle.smv_parse.proofs.module_types.arguments.Goals as goal

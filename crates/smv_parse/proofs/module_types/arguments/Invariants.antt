@@ -1,8 +1,8 @@
 use Rattle.std.proofs.Common.{◌≡◌, ◌≤◌, map, length}
 use Rattle.smv_text.specs.declared.token.Sign.TheVariants as signs
 use Rattle.smv_text.specs.View.{plain}
-use Rattle.smv_readers.specs.Readers.{many, expression}
-use Rattle.smv_readers.specs.Rules.{behind, listed}
+use Rattle.smv_grammar.specs.Readers.{many, expression}
+use Rattle.smv_grammar.specs.Rules.{behind, listed}
 use Rattle.smv_parse.proofs.Leads.{closed_by, onto}
 use Rattle.smv_parse.proofs.module_types.arguments.Given as goal
 

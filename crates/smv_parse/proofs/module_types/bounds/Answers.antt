@@ -1,5 +1,5 @@
 use Rattle.std.proofs.lemmas.Result.{err_from_is_err_and}
-use Rattle.smv_readers.specs.Rules.{interval}
+use Rattle.smv_grammar.specs.Rules.{interval}
 use Rattle.smv_parse.proofs.Leads.{gives_exit}
 use Rattle.smv_parse.proofs.module_types.bounds.Goals as goal
 

@@ -2,9 +2,9 @@ use Rattle.std.proofs.Common.{suc, ◌∷◌, length, refl, sym, ap, ◌∙◌, 
 use Rattle.std.proofs.lemmas.Result.{err_from_is_err_and}
 use Rattle.smv_text.specs.declared.token.Sign.TheVariants as signs
 use Rattle.smv_text.specs.declared.token.TokenKind.TheVariants as kind
-use Rattle.smv_readers.specs.Readers.{died, picked}
-use Rattle.smv_readers.specs.Rules.{listed, member, interval, instance_pick, domain_pick, domain}
-use Rattle.smv_readers.proofs.Mapped.{mapped_reads, mapped_dies}
+use Rattle.smv_grammar.specs.Readers.{died, picked}
+use Rattle.smv_grammar.specs.Rules.{listed, member, interval, instance_pick, domain_pick, domain}
+use Rattle.smv_grammar.proofs.Mapped.{mapped_reads, mapped_dies}
 use Rattle.smv_parse.proofs.Leads.{gives_exit, gives_same, none_left}
 use Rattle.smv_parse.proofs.Turns.{no_brace, no_domain, domain_ends, domain_passes, domain_at}
 use Rattle.smv_parse.proofs.module_types.domain.Goals as goal

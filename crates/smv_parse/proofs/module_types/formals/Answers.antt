@@ -1,7 +1,7 @@
 use Rattle.std.proofs.Common.{sym, ap, ◌∙◌}
 use Rattle.smv_text.specs.declared.token.Sign.TheVariants as signs
-use Rattle.smv_readers.specs.Readers.{found}
-use Rattle.smv_readers.specs.Rules.{listed, bracketed, parameter}
+use Rattle.smv_grammar.specs.Readers.{found}
+use Rattle.smv_grammar.specs.Rules.{listed, bracketed, parameter}
 use Rattle.smv_parse.proofs.Leads.{gives_same}
 use Rattle.smv_parse.proofs.Turns.{bracketed_none, bracketed_empty, bracketed_some}
 use Rattle.smv_parse.proofs.module_types.formals.Goals as goal

@@ -2,9 +2,9 @@ use Rattle.std.proofs.Common.{suc, map, length, sym, ap, ◌∙◌}
 use Rattle.std.proofs.lemmas.Result.{err_from_is_err_and}
 use Rattle.smv_text.specs.Tree.{trees_of, instance}
 use Rattle.smv_text.specs.View.{plain}
-use Rattle.smv_readers.specs.Readers.{found, died, picked, expression}
-use Rattle.smv_readers.specs.Rules.{bracketed, instance_pick}
-use Rattle.smv_readers.proofs.Mapped.{mapped_reads, mapped_dies}
+use Rattle.smv_grammar.specs.Readers.{found, died, picked, expression}
+use Rattle.smv_grammar.specs.Rules.{bracketed, instance_pick}
+use Rattle.smv_grammar.proofs.Mapped.{mapped_reads, mapped_dies}
 use Rattle.smv_parse.proofs.Leads.{gives_exit}
 use Rattle.smv_text.specs.declared.tree.VarKind.{VarKind}
 use Rattle.smv_parse.proofs.module_types.instance.Goals as goal

@@ -1,11 +1,11 @@
 use Rattle.std.proofs.Common.{sym, ap, ◌∙◌}
 use Rattle.std.proofs.lemmas.Result.{err_from_is_err_and}
 use Rattle.smv_text.specs.View.{plain}
-use Rattle.smv_readers.specs.Readers.{found, expression}
+use Rattle.smv_grammar.specs.Readers.{found, expression}
 use Rattle.smv_parse.proofs.Leads.{gives_exit}
-use Rattle.smv_readers.specs.Readers.{high_or}
+use Rattle.smv_grammar.specs.Readers.{high_or}
 use Rattle.smv_expressions.specs.Gathered.{read_of}
-use Rattle.smv_readers.proofs.Asked.{expression_reads}
+use Rattle.smv_grammar.proofs.Asked.{expression_reads}
 use Rattle.smv_parse.proofs.Ending.{expression_loses}
 use Rattle.smv_parse.proofs.module_types.kept_expression.Goals as goal
 

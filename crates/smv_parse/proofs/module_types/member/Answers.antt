@@ -1,9 +1,9 @@
 use Rattle.std.proofs.Common.{◌≡◌, sym, ap, ◌∙◌, rules}
 use Rattle.std.proofs.lemmas.Result.{err_from_is_err_and}
 use Rattle.smv_text.specs.declared.tree.Member.TheVariants.{Integer}
-use Rattle.smv_readers.specs.Readers.{found}
-use Rattle.smv_readers.specs.Rules.{name, integer, member}
-use Rattle.smv_readers.proofs.Mapped.{mapped_reads, mapped_dies}
+use Rattle.smv_grammar.specs.Readers.{found}
+use Rattle.smv_grammar.specs.Rules.{name, integer, member}
+use Rattle.smv_grammar.proofs.Mapped.{mapped_reads, mapped_dies}
 use Rattle.smv_parse.proofs.Leads.{gives_exit}
 use Rattle.smv_parse.proofs.Numerals.{integer_found, integer_loses}
 use Rattle.smv_parse.proofs.Turns.{member_name, named_lives, member_other}

@@ -1,8 +1,8 @@
 use Rattle.std.proofs.Common.{sym, ap, ◌∙◌}
 use Rattle.std.proofs.lemmas.Result.{err_from_is_err_and}
 use Rattle.text_core.specs.declared.place.Place.{Place}
-use Rattle.smv_readers.specs.Readers.{found}
-use Rattle.smv_readers.specs.Rules.{name}
+use Rattle.smv_grammar.specs.Readers.{found}
+use Rattle.smv_grammar.specs.Rules.{name}
 use Rattle.smv_parse.proofs.Leads.{gives_exit}
 use Rattle.smv_parse.proofs.Leads.{name_found, name_loses}
 use Rattle.smv_parse.proofs.module_types.placed_name.Goals as goal

@@ -1,8 +1,8 @@
 use Rattle.std.proofs.Common.{◌≡◌, [], ◌∷◌, ◌++◌, sym, ap, ◌∙◌, rules}
 use Rattle.std.proofs.lemmas.Result.{err_from_is_err_and}
 use Rattle.smv_text.specs.declared.token.Sign.TheVariants as signs
-use Rattle.smv_readers.specs.Readers.{many}
-use Rattle.smv_readers.specs.Rules.{sign, name, behind, symbol, listed}
+use Rattle.smv_grammar.specs.Readers.{many}
+use Rattle.smv_grammar.specs.Rules.{sign, name, behind, symbol, listed}
 use Rattle.smv_parse.proofs.Leads.{gives_exit, misses_loses, onto, closed_by, listed_goes, listed_dies, onto_first, comma_steps, comma_dies, comma_ends, list_closes, list_dies}
 use Rattle.smv_parse.proofs.Shrinking.{symbol_shrinks, symbol_name, symbol_nameless}
 use Rattle.smv_parse.proofs.module_types.symbols.Goals as goal

@@ -1,8 +1,8 @@
 use Rattle.std.proofs.Common.{◌≡◌, ◌≤◌, Option, length}
 use Rattle.text_core.specs.declared.place.Place.{Place}
 use Rattle.smv_text.specs.declared.token.Sign.TheVariants as signs
-use Rattle.smv_readers.specs.Readers.{many}
-use Rattle.smv_readers.specs.Rules.{behind, listed, symbol}
+use Rattle.smv_grammar.specs.Readers.{many}
+use Rattle.smv_grammar.specs.Rules.{behind, listed, symbol}
 use Rattle.smv_parse.proofs.Leads.{closed_by, onto}
 use Rattle.smv_parse.proofs.module_types.symbols.Given as goal
 

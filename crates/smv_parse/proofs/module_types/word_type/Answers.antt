@@ -2,10 +2,10 @@ use Rattle.std.proofs.Common.{suc, length, sym, ap, ◌∙◌}
 use Rattle.std.proofs.lemmas.Result.{err_from_is_err_and}
 use Rattle.smv_text.specs.declared.token.Reserved.TheVariants as words
 use Rattle.smv_text.specs.declared.token.TokenKind.TheVariants as kind
-use Rattle.smv_readers.specs.Readers.{died, picked}
-use Rattle.smv_readers.specs.Rules.{width, domain_pick}
-use Rattle.smv_readers.proofs.Lawful.{both_reads, both_dies, both_dies_first}
-use Rattle.smv_readers.proofs.Mapped.{mapped_reads, mapped_dies}
+use Rattle.smv_grammar.specs.Readers.{died, picked}
+use Rattle.smv_grammar.specs.Rules.{width, domain_pick}
+use Rattle.smv_grammar.proofs.Lawful.{both_reads, both_dies, both_dies_first}
+use Rattle.smv_grammar.proofs.Mapped.{mapped_reads, mapped_dies}
 use Rattle.smv_parse.proofs.Leads.{gives_exit, word_after, word_missing}
 use Rattle.smv_text.specs.declared.token.Reserved.{Reserved}
 use Rattle.smv_parse.proofs.module_types.word_type.Goals as goal

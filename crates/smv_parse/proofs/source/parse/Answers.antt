@@ -2,7 +2,7 @@ use Rattle.std.proofs.Common.{◌≡◌, ◌<◌, Some, None, map, length, refl,
 use Rattle.smv_text.specs.View.{plain_module}
 use Rattle.std.proofs.Common.{◌-◌, drop}
 use Rattle.smv_parse.specs.Parsing.{refusal, dead_refusal, too_high, dead, no_memory}
-use Rattle.smv_readers.proofs.Models.{reading, found_spelled, model_spelled, model_within, rest_dies, left_dies, rest_is, all_read, exact_none, exact_high}
+use Rattle.smv_grammar.proofs.Models.{reading, found_spelled, model_spelled, model_within, rest_dies, left_dies, rest_is, all_read, exact_none, exact_high}
 use Rattle.smv_parse.proofs.Ending.{is_too_high, has_dead, lost}
 use Rattle.smv_parse.proofs.source.parse.Goals as goal
 

@@ -2,7 +2,7 @@ use Rattle.std.proofs.Common.{map, subst, ap, ◌∙◌}
 use Rattle.digraph.specs.Graph.{NodeLists, is_graph}
 use Rattle.digraph.specs.Ordering.{IsOrder}
 use Rattle.smv_instances.specs.View.{instance_plain}
-use Rattle.smv_model_laws.proofs.OrderLaws.{graph_within}
+use Rattle.smv_laws.proofs.OrderLaws.{graph_within}
 use Rattle.smv_references.proofs.references.body_order.Goals as goal
 
 pub sort-requires : goal.sort-requires

@@ -1,6 +1,6 @@
 use Rattle.std.proofs.Common.{length, refl}
 use Rattle.std.proofs.lemmas.List.{get_or_default}
-use Rattle.smv_instances.specs.Rows.{row_in}
+use Rattle.name_maps.specs.Rows.{row_in}
 use Rattle.smv_references.specs.laws.NumberLemmas.{with_body, read}
 use Rattle.smv_references.proofs.references.numbers_of.Goals as goal
 

@@ -1,5 +1,5 @@
 use Rattle.std.proofs.Common.{◌≡◌, ℕ, List, take, map}
-use Rattle.smv_instances.specs.Rows.{row_in}
+use Rattle.name_maps.specs.Rows.{row_in}
 use Rattle.smv_meaning.specs.Bodies.{number_in}
 use Rattle.smv_references.specs.View.{key_of}
 use Rattle.smv_references.proofs.references.numbers_of.Given as goal

@@ -2,8 +2,8 @@ use Rattle.std.proofs.Common.{subst}
 use Rattle.digraph.specs.declared.order.Order.{Order}
 use Rattle.digraph.specs.Ordering.{IsOrder}
 use Rattle.smv_meaning.specs.Bodies.{reference_graph}
-use Rattle.smv_model_laws.proofs.OrderLaws.{never_is_acyclic, acyclic_passes}
-use Rattle.smv_model_laws.proofs.FirstCycle.{first_is_first}
+use Rattle.smv_laws.proofs.OrderLaws.{never_is_acyclic, acyclic_passes}
+use Rattle.smv_laws.proofs.FirstCycle.{first_is_first}
 use Rattle.smv_references.proofs.references.ordering_of.Goals as goal
 
 pub returns-in-Sorted : goal.returns-in-Sorted

@@ -1,5 +1,5 @@
 use Rattle.std.proofs.Common.{◌<◌, ◌∙◌, sym, subst}
-use Rattle.name_set.specs.laws.Places.{place_below}
+use Rattle.name_maps.specs.laws.Places.{place_below}
 use Rattle.smv_rows.proofs.VariableRows.{one_given}
 use Rattle.smv_rows.proofs.variables.give_name.Goals as goal
 

@@ -6,7 +6,7 @@ use Rattle.moxi_scripts.specs.Script.{PlainScript}
 use Rattle.moxi_flat.specs.FlatSystem.{flat_of}
 use Rattle.moxi_flat.specs.Limits.{flat_refusal}
 use Rattle.moxi_lines.specs.Lines.{lines_of}
-use Rattle.moxi_chain.specs.Ends.{IsLiftEnd}
+use Rattle.moxi_lift.specs.Ends.{IsLiftEnd}
 use Rattle.witness_lift.specs.Lifting.{IsLifted}
 use Rattle.witness_lift.proofs.lift.lift_flat.Goals as goal
 

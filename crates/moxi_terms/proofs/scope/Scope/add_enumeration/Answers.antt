@@ -2,7 +2,7 @@ use Rattle.std.proofs.Common.{◌≡◌, ◌++◌, ◌∷◌, ◌<◌, ◌≤◌
 use Rattle.moxi_terms.specs.declared.term.Enumeration.{Enumeration}
 use Rattle.moxi_terms.specs.View.{ScopeState, plain_function}
 use Rattle.moxi_terms.specs.Names.{is_sort_name, all_constants, numbered}
-use Rattle.name_set.specs.Names.{place_of}
+use Rattle.name_maps.specs.Names.{place_of}
 use Rattle.moxi_terms.specs.Scopes.{IsKept}
 use Rattle.moxi_terms.proofs.ScopeLaws.{kept_enumeration, no_enumeration, with_new, numbers_within}
 use Rattle.moxi_terms.proofs.scope.Scope.add_enumeration.Goals as goal

@@ -1,7 +1,7 @@
 use Rattle.std.proofs.Common.{◌≡◌, ◌++◌, ◌∷◌, ◌<◌, ◌-◌, ◌^◌, [], false, None, length, map, sym, ap, ◌∙◌, subst}
 use Rattle.moxi_terms.specs.View.{ScopeState, plain_function}
 use Rattle.moxi_terms.specs.Names.{is_term_name}
-use Rattle.name_set.specs.Names.{place_of}
+use Rattle.name_maps.specs.Names.{place_of}
 use Rattle.moxi_terms.specs.Sorted.{IsFunction}
 use Rattle.moxi_terms.specs.Scopes.{IsKept}
 use Rattle.moxi_terms.proofs.ScopeLaws.{kept_function, map_end, no_function, with_new}

@@ -1,0 +1,10 @@
+pub mod Statuses
+pub mod Notes
+pub mod Answers
+pub mod Reading
+pub mod Giving
+pub mod Sinks
+pub mod laws
+pub mod Numbers
+pub mod Words
+pub mod Clap

@@ -1,0 +1,5 @@
+pub mod TextLengths
+pub mod Accepting
+pub mod Answering
+pub mod Forms
+pub mod OneAnswer

@@ -1,0 +1,4 @@
+pub mod Made
+pub mod Verdicts
+pub mod Generating
+pub mod Laws

@@ -1,0 +1,114 @@
+// What is answered for a model with its lines.
+ghost use Rattle.std.specs.Prelude.{◌≡◌, ◌≤◌, length, IfOk, IfErr};
+ghost use Rattle.text_core.specs.declared.verdict.Verdict.TheVariants.{Yes};
+ghost use Rattle.btor_witness.specs.Answer.{IsRefused};
+ghost use Rattle.btor_witness.specs.Judging.{judged_btor};
+ghost use Rattle.btor_witness.specs.Printing.{IsWitness};
+ghost use Rattle.btor_witness.specs.Sizes.{most_frames, sizes_of};
+ghost use Rattle.btor_witness.specs.Texts.{SpellsWitness};
+ghost use Rattle.smv_text.specs.View.{plain_source};
+ghost use Rattle.smv_meaning.specs.Instances.{weight_of};
+ghost use Rattle.witness_lift.specs.Breaking.{BreaksLast, IsFormOf};
+ghost use Rattle.witness_lift.specs.Lifting.{lifted_run, lines_in};
+ghost use Rattle.generate.specs.Made.{made_witness};
+ghost use Rattle.command_core.specs.declared.answer.Stop.TheVariants as Stop;
+ghost use Rattle.generate.specs.Generating.{IsSummary, OfLines, OfWitness};
+
+use crate::judged::says_yes;
+use crate::laws::inputs_are_variables;
+use crate::summary::summary_of;
+use crate::witness::made_witness;
+use btor_witness::{Witness, read_witness};
+use command_core::{Answer, Output, Stop};
+use smv_laws::yes_is_run;
+use smv_meaning::Run;
+use smv_text::Source;
+use std::alloc::Global;
+use text_core::{End, NoMemory, Text};
+use witness_lift::{LiftEnd, SmvChain, lift_smv};
+
+// The made witness of n cells, read for the chain's lines. Its text is gone when it is there.
+fn witness_of(alloc: Global, n: u32, chain: &SmvChain<'_>) -> Result<Witness, End>
+    requires some { 1 ≤ n }
+    requires most { n ≤ 1000 }
+    ensures spelled { IfOk result (SpellsWitness (lines_in chain.now) (made_witness n)) }
+    ensures fits { IfOk result (IsWitness (sizes_of (lines_in chain.now))) }
+    ensures few { IfOk result (λ witness. length witness.frames ≤ most_frames) }
+    ensures refused { IfErr result (IsRefused (lines_in chain.now) (made_witness n)) }
+{
+    let text = made_witness(alloc, n)?;
+    read_witness(alloc, chain.nodes(), text.bytes())
+}
+
+// The summary of the run to which an accepted witness is lifted. The judge is asked about the run.
+fn summary_text(
+    alloc: Global,
+    n: u32,
+    source: &Source,
+    chain: &SmvChain<'_>,
+    witness: &Witness,
+    run: &Run,
+) -> Result<Text, NoMemory>
+    requires form { IsFormOf (plain_source source.now) chain.now }
+    requires weight { chain.now.weight ≡ weight_of (plain_source source.now) }
+    requires few { length witness.now.frames ≤ most_frames }
+    requires accepted { judged_btor (lines_in chain.now) witness.now Yes }
+    requires run { run.now ≡ lifted_run chain.now witness.now }
+    requires breaks { BreaksLast chain.now witness.now run.now }
+    ensures { IfOk result (IsSummary n (plain_source source.now) (lines_in chain.now) witness.now) }
+{
+    inputs_are_variables();
+    yes_is_run();
+    if says_yes(alloc, source, witness.bad, run)? {
+        let weight = chain.flat().weight();
+        summary_of(alloc, n, chain.nodes(), weight, witness.frames.len())
+    } else {
+        unreachable!()
+    }
+}
+
+// What is answered to a witness of the chain's lines.
+fn witness_answer(
+    alloc: Global,
+    n: u32,
+    source: &Source,
+    chain: &SmvChain<'_>,
+    witness: &Witness,
+) -> Result<Answer, Stop>
+    requires form { IsFormOf (plain_source source.now) chain.now }
+    requires weight { chain.now.weight ≡ weight_of (plain_source source.now) }
+    requires fits { IsWitness (sizes_of (lines_in chain.now)) witness.now }
+    requires few { length witness.now.frames ≤ most_frames }
+    ensures answer { IfOk result (OfWitness n (plain_source source.now) (lines_in chain.now) witness.now) }
+    ensures stop { IfErr result (λ stop. stop ≡ Stop.NoMemory) }
+{
+    match lift_smv(alloc, chain, witness) {
+        Ok(run) => {
+            let text = summary_text(alloc, n, source, chain, witness, &run)?;
+            Ok(Answer::Done(Output::Text(text)))
+        }
+        Err(LiftEnd::No(step, clause)) => Ok(Answer::No(step, clause)),
+        Err(LiftEnd::NoMemory) => Err(Stop::NoMemory),
+    }
+}
+
+/// What is answered to the made witness of n cells, for a model and its chain.
+pub(crate) fn chain_answer(
+    alloc: Global,
+    n: u32,
+    source: &Source,
+    chain: &SmvChain<'_>,
+) -> Result<Answer, Stop>
+    requires some { 1 ≤ n }
+    requires most { n ≤ 1000 }
+    requires form { IsFormOf (plain_source source.now) chain.now }
+    requires weight { chain.now.weight ≡ weight_of (plain_source source.now) }
+    ensures answer { IfOk result (OfLines n (made_witness n) (plain_source source.now) (lines_in chain.now)) }
+    ensures stop { IfErr result (λ stop. stop ≡ Stop.NoMemory) }
+{
+    match witness_of(alloc, n, chain) {
+        Ok(witness) => witness_answer(alloc, n, source, chain, &witness),
+        Err(End::Bad(refusal)) => Ok(Answer::SecondRefused(refusal)),
+        Err(End::NoMemory) => Err(Stop::NoMemory),
+    }
+}

@@ -1,4 +1,0 @@
-pub mod Accepting
-pub mod Answering
-pub mod Forms
-pub mod OneAnswer

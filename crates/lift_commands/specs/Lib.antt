@@ -1,3 +1,0 @@
-pub mod Lifting
-pub mod SmvLift
-pub mod MoxiLift

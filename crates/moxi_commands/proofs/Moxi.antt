@@ -1,0 +1,178 @@
+-- What is answered to a witness of a script's text is what is defined of it, and stands for a trace.
+use Rattle.std.proofs.Common.{◌≡◌, ◌≤◌, ◌<◌, ◌-◌, zero, suc, arith, inl, inr, ℕ, List, [], ◌∷◌, Option, Some, None, Result, Ok, Err, refl, sym, ap, ◌∙◌, length, subst}
+use Rattle.std.specs.Prelude.{IfOk, IfErr, IfSome, IsSomeAnd, slice_get}
+use Rattle.text_core.specs.Outside.{Files, IsFile, file_at, grown}
+use Rattle.text_core.specs.declared.verdict.Verdict.TheVariants.{Yes}
+use Rattle.btor_tree.specs.declared.lines.Line.{Line}
+use Rattle.btor_tree.specs.Printing.{printed}
+use Rattle.btor_tree.specs.Texts.{SpellsLines}
+use Rattle.btor_witness.specs.declared.witness.Witness.{Witness}
+use Rattle.btor_witness.specs.Judging.{judged_btor}
+use Rattle.btor_witness.specs.Texts.{SpellsWitness}
+use Rattle.moxi_scripts.specs.Script.{PlainScript}
+use Rattle.moxi_flat.specs.FlatSystem.{PlainFlatSystem, flat_of}
+use Rattle.moxi_flat.specs.Limits.{flat_refusal}
+use Rattle.moxi_lines.specs.Lines.{lines_of}
+use Rattle.std.specs.List.{AllByRecursion}
+use Rattle.std.proofs.Math.Logic.{∥∥₁_map}
+use Rattle.moxi_terms.specs.declared.data.Datum.{Datum}
+use Rattle.moxi_terms.specs.Sorts.{Fit}
+use Rattle.moxi_terms.specs.Tree.{sorts_of}
+use Rattle.moxi_flat.specs.FlatMeeting.{MeetsFlat}
+use Rattle.moxi_instantiate.proofs.Measured.{lt_held}
+use Rattle.moxi_judge.specs.Judging.{IsStatedTrace}
+use Rattle.moxi_lift.specs.Laws.{MeetsQueryOf, trace_of}
+use Rattle.moxi_lift.specs.Lifted.{lifted}
+use Rattle.moxi_trace.specs.Texts.{response_text}
+use Rattle.moxi_responses.specs.Declaring.{declared_of}
+use Rattle.command_core.specs.declared.answer.Answer.{Answer}
+use Rattle.command_core.specs.declared.answer.Answer.TheVariants as answer
+use Rattle.command_core.specs.declared.answer.Output.TheVariants.{Text}
+use Rattle.command_core.specs.declared.answer.Stop.{Stop}
+use Rattle.command_core.specs.declared.answer.Stop.TheVariants.{Answered, NoMemory}
+use Rattle.command_core.specs.declared.status.Status.TheVariants as status
+use Rattle.command_core.specs.Answers.{status_of, text_of}
+use Rattle.command_core.specs.Giving.{MayGive}
+use Rattle.command_core.specs.Reading.{SaysRead, StopsWith, file_within}
+use Rattle.command_core.specs.laws.Files.{done_from, gives, goes_once, on_read}
+use Rattle.btor_commands.specs.Judgement.{witness_too_long}
+use Rattle.btor_commands.specs.Limits.{most_witness_bytes}
+use Rattle.moxi_commands.specs.Limits.{most_script_bytes}
+use Rattle.moxi_commands.specs.Scripts.{IsRefusal, IsScriptText, script_too_long}
+use Rattle.moxi_commands.specs.Translation.{IsInstantiated, btor_text}
+use Rattle.moxi_commands.proofs.Refused.{not_refused, one_system_refusal, same_script}
+use Rattle.btor_commands.specs.Lifting.{IsLift, IsOfSecond, OfLines, OfText}
+use Rattle.moxi_commands.specs.MoxiLift.{IsLiftedResponse, IsMoxiLift, IsOfBytes, IsOfScript, OfBytes, TracesAreLifted, lifted_response}
+use Rattle.btor_commands.proofs.Lifted.{done_second, may_give, one_of_lines}
+
+-- ---- one answer
+
+one_of_bytes : (files : Files) (second bytes : List ℕ) (a b : Answer) → OfBytes files second bytes a → OfBytes files second bytes b → a ≡ b
+one_of_bytes files second bytes a b (inl x) (inl y) =
+    one_of_lines files second (btor_text y.0) (lifted_response y.0) a b (subst (λ s. OfLines files second (btor_text s) (lifted_response s) a) (same_script bytes x.0 y.0 x.1.is_script y.1.is_script) x.2) y.2
+one_of_bytes files second bytes a b (inl x) (inr r) = absurd (not_refused bytes r.0 x.0 r.1 x.1.is_script x.1.accepted)
+one_of_bytes files second bytes a b (inr r) (inl y) = absurd (not_refused bytes r.0 y.0 r.1 y.1.is_script y.1.accepted)
+one_of_bytes files second bytes a b (inr r) (inr q) = r.2 ∙ ap answer.Refused (one_system_refusal bytes r.0 q.0 r.1 q.1) ∙ sym q.2
+
+-- files define one lift of a witness to a response
+pub one_moxi_lift : (files : Files) (model second : List ℕ) (a b : Answer) → IsMoxiLift files model second a → IsMoxiLift files model second b → a ≡ b
+one_moxi_lift files model second a b h k =
+    goes_once (file_within files model most_script_bytes script_too_long) (OfBytes files second) (λ bytes a b h k. one_of_bytes files second bytes a b h k) a b h k
+
+-- ---- the answer that is made
+
+-- where the lines of a script's text are those that are named, what is answered for them is answered for the text
+of_text : (fs : Files) (second : List ℕ) (script : PlainScript) (a : Answer) → OfLines fs second (printed (lines_of (flat_of script))) (lifted_response script) a → OfLines fs second (btor_text script) (lifted_response script) a
+unfolding btor_text
+of_text fs second script a h = h
+
+refusal_defined : (files : Option Files) (second bytes : List ℕ) (a : Answer) → IsRefusal bytes a → IfSome files (λ fs. OfBytes fs second bytes a)
+refusal_defined None second bytes a h = tt
+refusal_defined (Some fs) second bytes a h = inr h
+
+refusal_given : (files : Option Files) (rose : Type 0) (model second bytes : List ℕ) (a : Answer) → IsFile files model bytes → length bytes ≤ most_script_bytes → IsRefusal bytes a → MayGive files (model ∷ second ∷ []) (λ fs. IsMoxiLift fs model second) rose a
+refusal_given files rose model second bytes a there within h =
+    gives files (model ∷ second ∷ []) rose model bytes most_script_bytes script_too_long (λ fs. OfBytes fs second) there within a (subst SaysRead (sym h.2) tt) (refusal_defined files second bytes a h)
+
+-- what is answered to the bytes of a script may be given
+pub may_lift : (files : Option Files) (rose more : Type 0) (model second bytes : List ℕ) → (rose → more) → IsFile files model bytes → length bytes ≤ most_script_bytes
+    → (a : Answer) → IsOfBytes files rose second bytes a → MayGive files (model ∷ second ∷ []) (λ fs. IsMoxiLift fs model second) more a
+may_lift files rose more model second bytes up there within a (inl x) =
+    may_give model second bytes most_script_bytes script_too_long (lines_of (flat_of x.0)) (lifted_response x.0) (λ fs. OfBytes fs second) rose more up within x.2.spelled (λ fs b h. inl (x.0, x.1, of_text fs second x.0 b h)) files a there x.2.stands
+may_lift files rose more model second bytes up there within a (inr r) = refusal_given files more model second bytes a there within r
+
+pub may_stop : (files : Option Files) (rose more : Type 0) (model second bytes : List ℕ) → (rose → more) → IsFile files model bytes → length bytes ≤ most_script_bytes
+    → (stop : Stop) → StopsWith (IsOfBytes files rose second bytes) stop → StopsWith (MayGive files (model ∷ second ∷ []) (λ fs. IsMoxiLift fs model second) more) stop
+may_stop files rose more model second bytes up there within (Answered a) h = may_lift files rose more model second bytes up there within a h
+may_stop files rose more model second bytes up there within NoMemory h = tt
+
+-- ---- the response
+
+there : {T : Type 0} (P : T → Type 0) (xs : List T) (j : ℕ) → IsSomeAnd (slice_get xs j) P → j < length xs
+there P [] j h = absurd h
+there P (x ∷ xs) zero h = omega arith
+there P (x ∷ xs) (suc j) h = let l = there P xs j h in omega (arith, l)
+
+-- the query that a trace meets is one of the script's
+pub query_there : (script : PlainScript) (f : PlainFlatSystem) (j : ℕ) (steps : List (List Datum)) → f ≡ flat_of script → ∥ MeetsQueryOf f j steps ∥₁ → j < length script.check.queries
+query_there script f j steps e h =
+    lt_held j (length script.check.queries) (∥∥₁_map h (λ m.
+    let n : j < length f.queries = there (λ q. MeetsFlat f q (length steps - 1) (trace_of steps)) f.queries j m in
+    subst (λ (x : PlainFlatSystem). j < length x.queries) e n))
+
+pub stated : (f g : PlainFlatSystem) (steps : List (List Datum)) → g ≡ f → 1 ≤ length steps → AllByRecursion (Fit f.scope.enumerations (sorts_of f.variables)) steps → IsStatedTrace g steps
+stated f g steps e some fit = subst (λ (x : PlainFlatSystem). IsStatedTrace x steps) (sym e) (record { some = some; fit = fit })
+
+-- the response of the trace to which an accepted witness is lifted
+pub answered : (script : PlainScript) (f : PlainFlatSystem) (w : Witness) (steps : List (List Datum)) (text : List ℕ) → f ≡ flat_of script → judged_btor (lines_of f) w Yes → steps ≡ lifted f w → text ≡ response_text (declared_of script) w.bad steps
+    → IsLift (lines_of f) (lifted_response script) w (answer.Done (Text text))
+unfolding lifted_response
+answered script f w steps text e judged exact written =
+    (Yes, judged, ap (λ t. answer.Done (Text t)) (written ∙ ap (response_text (declared_of script) w.bad) (exact ∙ ap (λ (x : PlainFlatSystem). lifted x w) e)))
+
+-- ---- what is answered for a chain is answered for its script
+
+of_chain : (files : Option Files) (rose : Type 0) (second : List ℕ) (script : PlainScript) (f : PlainFlatSystem) (a : Answer) → f ≡ flat_of script → flat_refusal script ≡ None
+    → IsOfSecond files rose second (lines_of f) (lifted_response script) a → IsOfScript files rose second script a
+of_chain files rose second script f a e accepted h = inl (accepted, subst (λ (x : PlainFlatSystem). IsOfSecond files rose second (lines_of x) (lifted_response script) a) e h)
+
+pub of_script : {E : Type 0} (files : Option Files) (rose : Type 0) (second : List ℕ) (script : PlainScript) (f : PlainFlatSystem) (result : Result Answer E) → f ≡ flat_of script → flat_refusal script ≡ None
+    → IfOk result (IsOfSecond files rose second (lines_of f) (lifted_response script)) → IfOk result (IsOfScript files rose second script)
+of_script files rose second script f (Ok a) e accepted h = of_chain files rose second script f a e accepted h
+of_script files rose second script f (Err stop) e accepted h = tt
+
+pub of_stop : {T : Type 0} (files : Option Files) (rose : Type 0) (second : List ℕ) (script : PlainScript) (f : PlainFlatSystem) (result : Result T Stop) → f ≡ flat_of script → flat_refusal script ≡ None
+    → IfErr result (StopsWith (IsOfSecond files rose second (lines_of f) (lifted_response script))) → IfErr result (StopsWith (IsOfScript files rose second script))
+of_stop files rose second script f (Ok x) e accepted h = tt
+of_stop files rose second script f (Err (Answered a)) e accepted h = of_chain files rose second script f a e accepted h
+of_stop files rose second script f (Err NoMemory) e accepted h = tt
+
+-- ---- what is answered to a script is answered to its bytes
+
+of_script_bytes : (files : Option Files) (rose : Type 0) (second bytes : List ℕ) (script : PlainScript) → IsScriptText bytes script → (a : Answer) → IsOfScript files rose second script a → IsOfBytes files rose second bytes a
+of_script_bytes files rose second bytes script is a (inl x) = inl (script, record { is_script = is; accepted = x.0 }, x.1)
+of_script_bytes files rose second bytes script is a (inr r) = inr (r.0, inr (script, is, r.1), r.2)
+
+pub of_bytes : {E : Type 0} (files : Option Files) (rose : Type 0) (second bytes : List ℕ) (script : PlainScript) (result : Result Answer E) → IsScriptText bytes script → IfOk result (IsOfScript files rose second script) → IfOk result (IsOfBytes files rose second bytes)
+of_bytes files rose second bytes script (Ok a) is h = of_script_bytes files rose second bytes script is a h
+of_bytes files rose second bytes script (Err e) is h = tt
+
+pub stops_so : {T : Type 0} (files : Option Files) (rose : Type 0) (second bytes : List ℕ) (script : PlainScript) (result : Result T Stop) → IsScriptText bytes script → IfErr result (StopsWith (IsOfScript files rose second script)) → IfErr result (StopsWith (IsOfBytes files rose second bytes))
+stops_so files rose second bytes script (Ok x) is h = tt
+stops_so files rose second bytes script (Err (Answered a)) is h = of_script_bytes files rose second bytes script is a h
+stops_so files rose second bytes script (Err NoMemory) is h = tt
+
+-- ---- what a response stands for
+
+served_bytes : (lifts : TracesAreLifted) (fs : Files) (model second bytes : List ℕ) (b : Answer) (before now : Option (List ℕ)) → file_at fs model ≡ Some bytes → OfBytes fs second bytes b → status_of b ≡ status.Done → now ≡ grown before (text_of b)
+    → IsLiftedResponse fs model second before now
+served_bytes lifts fs model second bytes b before now there (inl x) s w =
+    done_second fs second x.2.0 (lifted_response x.0) b x.2.2 s (λ text witness second_there spelled judged e. record {
+      bytes = bytes;
+      there = there;
+      script = x.0;
+      instantiated = x.1;
+      lines = x.2.0;
+      spelled = x.2.1;
+      text = text;
+      second_there = second_there;
+      witness = witness;
+      states = spelled;
+      judged = judged;
+      response = lifted_response x.0 witness;
+      written = w ∙ ap (λ a. grown before (text_of a)) e;
+      lifts = lifts bytes x.0 x.1 x.2.0 x.2.1 text witness spelled judged;
+    })
+served_bytes lifts fs model second bytes b before now there (inr r) s w = let e : status.Refused ≡ status.Done = sym (ap status_of r.2) ∙ s in absurd (cc)
+
+-- a response that was written whole is that to which the witness is lifted
+pub served : (lifts : TracesAreLifted) (fs : Files) (model second : List ℕ) (b : Answer) (before now : Option (List ℕ)) → IsMoxiLift fs model second b → status_of b ≡ status.Done → now ≡ grown before (text_of b) → IsLiftedResponse fs model second before now
+served lifts fs model second b before now h s w =
+    done_from fs model most_script_bytes script_too_long (OfBytes fs second) b refl h s (λ bytes there g. served_bytes lifts fs model second bytes b before now there g s w)
+
+-- the defined answer to a witness that the judge accepts
+pub accepted_answer : (fs : Files) (model second bytes text : List ℕ) (script : PlainScript) (lines : List Line) (w : Witness) → file_at fs model ≡ Some bytes → IsInstantiated bytes script → SpellsLines (btor_text script) lines
+    → file_at fs second ≡ Some text → SpellsWitness lines text w → judged_btor lines w Yes → IsMoxiLift fs model second (answer.Done (Text (lifted_response script w)))
+accepted_answer fs model second bytes text script lines w there a spelled second_there states judged =
+    on_read fs model bytes most_script_bytes script_too_long (OfBytes fs second) (answer.Done (Text (lifted_response script w))) there a.is_script.within
+    (inl (script, a, (lines, spelled, on_read fs second text most_witness_bytes witness_too_long (OfText lines (lifted_response script)) (answer.Done (Text (lifted_response script w))) second_there states.0 (inl (w, states, (Yes, judged, refl))))))

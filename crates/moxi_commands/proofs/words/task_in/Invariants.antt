@@ -1,6 +1,0 @@
-use Rattle.std.proofs.Common.{◌≡◌, drop, map}
-use Rattle.moxi_commands.specs.Words.{row, task_in}
-use Rattle.moxi_commands.proofs.words.task_in.Given as goal
-
-abbrev pub invariant-loop-written : goal.invariant-loop-written
-invariant-loop-written l = task_in (map row (drop l.written-index l.table)) l.word ≡ task_in (map row l.table) l.word

@@ -1,0 +1,86 @@
+-- Which BTOR2 text is written for a script, and what it stands for (MoXI, SPIN 2024; BTOR2, CAV 2018).
+use Rattle.std.specs.Prelude.{◌≡◌, ◌↔◌, ℕ, ◌<◌, List, length, Option, Some, None, slice_get}
+use Rattle.text_core.specs.declared.end.End.{End}
+use Rattle.text_core.specs.declared.end.End.TheVariants.{Bad, NoMemory}
+use Rattle.text_core.specs.Outside.{Files, file_at, grown}
+use Rattle.btor_tree.specs.declared.lines.Line.{Line}
+use Rattle.btor_tree.specs.Fits.{operands, is_bad}
+use Rattle.btor_tree.specs.Printing.{printed}
+use Rattle.btor_tree.specs.Texts.{SpellsLines}
+use Rattle.moxi_scripts.specs.declared.script.Query.{Query}
+use Rattle.moxi_scripts.specs.Script.{PlainScript}
+use Rattle.moxi_scripts.specs.Behaviour.{Trace}
+use Rattle.moxi_scripts.specs.Meeting.{MeetsQuery}
+use Rattle.moxi_flat.specs.FlatSystem.{flat_of}
+use Rattle.moxi_flat.specs.Limits.{flat_refusal}
+use Rattle.moxi_lines.specs.Lines.{lines_of}
+use Rattle.moxi_layout.specs.LayoutLaws.{HasFrames, IsLaidOut}
+use Rattle.command_core.specs.declared.answer.Answer.{Answer}
+use Rattle.command_core.specs.declared.answer.Answer.TheVariants.{Refused, Done}
+use Rattle.command_core.specs.declared.answer.Output.TheVariants.{Text}
+use Rattle.command_core.specs.Reading.{GoesOn, file_within}
+use Rattle.moxi_commands.specs.Limits.{most_script_bytes}
+use Rattle.moxi_commands.specs.Scripts.{IsScriptText, IsSystemRefusal, script_too_long}
+
+-- the printed lines of the system that the script's check instantiates
+unfoldable pub btor_text : PlainScript → List ℕ
+btor_text script = printed (lines_of (flat_of script))
+
+-- the bytes spell this script, whose check instantiates a system
+pub record IsInstantiated (bytes : List ℕ) (script : PlainScript) : Type 0 where
+  pub is_script : IsScriptText bytes script
+  pub accepted : flat_refusal script ≡ None
+
+-- why there is no text: the refusal of the bytes, or want of memory
+abbrev pub IsLinesEnd : List ℕ → End → Type 0
+IsLinesEnd bytes (Bad refusal) = IsSystemRefusal bytes refusal
+IsLinesEnd bytes NoMemory = Unit {0}
+
+-- the text of the script that the bytes spell, or their refusal
+abbrev pub OfBytes : List ℕ → Answer → Type 0
+OfBytes bytes (Refused refusal) = IsSystemRefusal bytes refusal
+OfBytes bytes (Done (Text text)) = (script : PlainScript) × IsInstantiated bytes script × (text ≡ btor_text script)
+OfBytes bytes other = ⊥
+
+-- the text of the script in the file of this name
+abbrev pub IsBtorText : Files → List ℕ → Answer → Type 0
+IsBtorText files model answer = GoesOn (file_within files model most_script_bytes script_too_long) OfBytes answer
+
+-- ---- what a text stands for
+
+-- some trace meets query j of the script at step k
+pub record HasTrace (script : PlainScript) (j k : ℕ) : Type 0 where
+  pub query : Query
+  pub there : slice_get script.check.queries j ≡ Some query
+  pub trace : Trace
+  pub meets : MeetsQuery script query k trace
+
+-- the lines stand for the script: as many bad lines as queries, and a trace that meets a query exactly where frames have its bad line true
+pub record StandFor (script : PlainScript) (lines : List Line) : Type 0 where
+  pub bads : length (operands is_bad lines) ≡ length script.check.queries
+  pub frames : (j k : ℕ) → j < length script.check.queries → HasTrace script j k ↔ HasFrames lines j k
+
+-- the text spells one list of lines, which stand for the script
+pub record WritesLines (script : PlainScript) (text : List ℕ) : Type 0 where
+  pub lines : List Line
+  pub spelled : SpellsLines text lines
+  pub only : (others : List Line) → SpellsLines text others → others ≡ lines
+  pub stand : StandFor script lines
+
+-- the lines of a script's flat system lay the system out
+abbrev pub ScriptLinesAreLaidOut : Type 0
+ScriptLinesAreLaidOut = (bytes : List ℕ) (script : PlainScript) → IsInstantiated bytes script → IsLaidOut (flat_of script) (lines_of (flat_of script))
+
+-- what is written for each script
+abbrev pub LinesStand : Type 0
+LinesStand = (bytes : List ℕ) (script : PlainScript) → IsInstantiated bytes script → WritesLines script (btor_text script)
+
+-- the text that was written stands for the script that the file of this name spells
+pub record IsServed (files : Files) (name : List ℕ) (before now : Option (List ℕ)) : Type 0 where
+  pub bytes : List ℕ
+  pub there : file_at files name ≡ Some bytes
+  pub script : PlainScript
+  pub instantiated : IsInstantiated bytes script
+  pub text : List ℕ
+  pub written : now ≡ grown before text
+  pub lines : WritesLines script text

@@ -1,0 +1,185 @@
+// The verdict on a response to a MoXI script.
+ghost use Rattle.std.specs.Prelude.{◌≡◌, ◌<◌, ◌≤◌, ◌^◌, ◌-◌, [], ◌∷◌, None, length, IfOk, IfErr, IsErrAnd};
+ghost use Rattle.text_core.specs.Outside.{BeginsOnly, Rose};
+ghost use Rattle.moxi_scripts.specs.ScriptView.{plain_script};
+ghost use Rattle.moxi_flat.specs.FlatSystem.{flat_of};
+ghost use Rattle.moxi_flat.specs.Limits.{flat_refusal};
+ghost use Rattle.moxi_judge.specs.Judging.{IsStatedTrace};
+ghost use Rattle.moxi_trace.specs.Texts.{symbol_text};
+ghost use Rattle.command_core.specs.declared.answer.Stop.TheVariants as Stop;
+ghost use Rattle.command_core.specs.Giving.{BeginsAmong, MayGive};
+ghost use Rattle.command_core.specs.Reading.{Instead, StopsUnread, StopsWith};
+ghost use Rattle.moxi_commands.specs.Limits.{most_script_bytes, most_response_bytes};
+ghost use Rattle.moxi_commands.specs.Judgement.{IsMoxiJudgement, IsOfBytes, IsOfNoResponse, IsOfResponse, IsOfScript, OfText, met_answer, response_too_long, stated_answer};
+
+use crate::scripts::{SCRIPT_LIMIT, script_of};
+use command_core::{Answer, Output, Stop, read_file, refusal};
+use moxi_instantiate::{FlatSystem, instantiate};
+use moxi_judge::judge_moxi;
+use moxi_responses::read_response;
+use moxi_scripts::Script;
+use moxi_sexpr::put_symbol;
+use moxi_trace::{Answered, MOST_BYTES};
+use std::alloc::Global;
+use std::mem::drop;
+use text_core::kinds::{moxi, trace};
+use text_core::{End, Name, NoMemory, Shelf, Text, Verdict};
+
+/// Reads a MoXI script and a response to it, and judges the response: does its trace meet its query at the last step?
+#[tactic(auto, using(crate::proofs::Judged::may_stop))]
+pub fn judge_moxi_files<F: Shelf>(
+    alloc: Global,
+    model: &Name,
+    second: &Name,
+    shelf: &mut F,
+) -> Result<Answer, Stop>
+    ensures answer { IfOk result (MayGive (F.files shelf.old) (model.now ∷ second.now ∷ []) (λ files. IsMoxiJudgement files model.now second.now) (Rose (F.faults shelf.old) (F.faults shelf.new))) }
+    ensures stop { IfErr result (StopsWith (MayGive (F.files shelf.old) (model.now ∷ second.now ∷ []) (λ files. IsMoxiJudgement files model.now second.now) (Rose (F.faults shelf.old) (F.faults shelf.new)))) }
+    ensures fault { F.faults shelf.old < F.faults shelf.new → IsErrAnd result (λ stop. StopsUnread stop) }
+    ensures later { F.faults shelf.old ≤ F.faults shelf.new }
+    ensures files { F.files shelf.new ≡ F.files shelf.old }
+    ensures begun { BeginsAmong (F.files shelf.old) (F.begun shelf.old) (F.begun shelf.new) (model.now ∷ second.now ∷ []) }
+{
+    let too_long = Answer::Refused(refusal(moxi::TOO_LONG));
+    let bytes = read_file(alloc, shelf, model, SCRIPT_LIMIT, too_long)?;
+    let text = bytes.as_slice();
+    let answer = bytes_answer(alloc, text, second, shelf)?;
+    Ok(answer)
+}
+
+// The verdict on the response in the second file, for the script that the bytes spell, or the bytes' refusal.
+#[tactic(auto, using(crate::proofs::Judged::of_bytes, crate::proofs::Judged::of_no_response))]
+fn bytes_answer<F: Shelf>(
+    alloc: Global,
+    bytes: &[u8],
+    second: &Name,
+    shelf: &mut F,
+) -> Result<Answer, Stop>
+    requires { length bytes.now ≤ most_script_bytes }
+    ensures answer { IfOk result (IsOfBytes (F.files shelf.old) second.now bytes.now) }
+    ensures stop { IfErr result (StopsWith (IsOfNoResponse (F.files shelf.old) (Rose (F.faults shelf.old) (F.faults shelf.new)) second.now bytes.now)) }
+    ensures fault { F.faults shelf.old < F.faults shelf.new → IsErrAnd result (λ stop. StopsUnread stop) }
+    ensures later { F.faults shelf.old ≤ F.faults shelf.new }
+    ensures files { F.files shelf.new ≡ F.files shelf.old }
+    ensures begun { BeginsOnly (F.files shelf.old) (F.begun shelf.old) (F.begun shelf.new) second.now }
+{
+    match script_of(alloc, bytes) {
+        Ok(script) => {
+            let answer = script_answer(alloc, &script, second, shelf);
+            drop(script);
+            answer
+        }
+        Err(End::Bad(refusal)) => Ok(Answer::Refused(refusal)),
+        Err(End::NoMemory) => Err(Stop::NoMemory),
+    }
+}
+
+// The verdict on the response in the second file, or the refusal of the system that the script's check instantiates.
+#[tactic(auto, using(crate::proofs::Judged::of_script))]
+fn script_answer<F: Shelf>(
+    alloc: Global,
+    script: &Script,
+    second: &Name,
+    shelf: &mut F,
+) -> Result<Answer, Stop>
+    ensures answer { IfOk result (IsOfScript (F.files shelf.old) second.now (plain_script script.now)) }
+    ensures accepted { IfErr result (StopsWith (λ answer. flat_refusal (plain_script script.now) ≡ None)) }
+    ensures stop { IfErr result (StopsWith (Instead (F.files shelf.old) (Rose (F.faults shelf.old) (F.faults shelf.new)) second.now most_response_bytes response_too_long)) }
+    ensures fault { F.faults shelf.old < F.faults shelf.new → IsErrAnd result (λ stop. StopsUnread stop) }
+    ensures later { F.faults shelf.old ≤ F.faults shelf.new }
+    ensures files { F.files shelf.new ≡ F.files shelf.old }
+    ensures begun { BeginsOnly (F.files shelf.old) (F.begun shelf.old) (F.begun shelf.new) second.now }
+{
+    match instantiate(alloc, script) {
+        Ok(system) => response_answer(alloc, script, &system, second, shelf),
+        Err(End::Bad(refusal)) => Ok(Answer::Refused(refusal)),
+        Err(End::NoMemory) => Err(Stop::NoMemory),
+    }
+}
+
+// The verdict on the response in the second file. The system is the script's.
+fn response_answer<F: Shelf>(
+    alloc: Global,
+    script: &Script,
+    system: &FlatSystem<'_>,
+    second: &Name,
+    shelf: &mut F,
+) -> Result<Answer, Stop>
+    requires system { system.now ≡ flat_of (plain_script script.now) }
+    ensures answer { IfOk result (IsOfResponse (F.files shelf.old) second.now (plain_script script.now)) }
+    ensures stop { IfErr result (StopsWith (Instead (F.files shelf.old) (Rose (F.faults shelf.old) (F.faults shelf.new)) second.now most_response_bytes response_too_long)) }
+    ensures fault { F.faults shelf.old < F.faults shelf.new → IsErrAnd result (λ stop. StopsUnread stop) }
+    ensures later { F.faults shelf.old ≤ F.faults shelf.new }
+    ensures files { F.files shelf.new ≡ F.files shelf.old }
+    ensures begun { BeginsOnly (F.files shelf.old) (F.begun shelf.old) (F.begun shelf.new) second.now }
+{
+    let too_long = Answer::SecondRefused(refusal(trace::TOO_LONG));
+    let text = read_file(alloc, shelf, second, MOST_BYTES, too_long)?;
+    text_answer(alloc, script, system, &text)
+}
+
+// The verdict on the trace that a response states, or the response's refusal. The system is the script's.
+fn text_answer(
+    alloc: Global,
+    script: &Script,
+    system: &FlatSystem<'_>,
+    text: &[u8],
+) -> Result<Answer, Stop>
+    requires system { system.now ≡ flat_of (plain_script script.now) }
+    ensures answer { IfOk result (OfText (plain_script script.now) text.now) }
+    ensures stop { IfErr result (λ stop. stop ≡ Stop.NoMemory) }
+{
+    match read_response(alloc, script, system, text) {
+        Ok(answered) => stated_answer(alloc, script, system, &answered),
+        Err(End::Bad(refusal)) => Ok(Answer::SecondRefused(refusal)),
+        Err(End::NoMemory) => Err(Stop::NoMemory),
+    }
+}
+
+// What is answered to the verdict on a stated trace. The system is the script's.
+fn stated_answer(
+    alloc: Global,
+    script: &Script,
+    system: &FlatSystem<'_>,
+    answered: &Answered,
+) -> Result<Answer, Stop>
+    requires system { system.now ≡ flat_of (plain_script script.now) }
+    requires query { answered.now.query < length script.now.check.queries }
+    requires trace { IsStatedTrace system.now answered.now.trace }
+    requires few { length answered.now.trace < 2 ^ 32 }
+    ensures answer { IfOk result (λ answer. answer ≡ stated_answer (plain_script script.now) answered.now) }
+    ensures stop { IfErr result (λ stop. stop ≡ Stop.NoMemory) }
+{
+    match judge_moxi(alloc, script, system, answered.query, &answered.trace)? {
+        Verdict::Yes => Ok(met_answer(alloc, script, answered)?),
+        Verdict::No(step, clause) => Ok(Answer::No(step, clause)),
+    }
+}
+
+// The answer that the stated trace meets its query.
+fn met_answer(alloc: Global, script: &Script, answered: &Answered) -> Result<Answer, NoMemory>
+    requires query { answered.now.query < length script.now.check.queries }
+    requires few { length answered.now.trace < 2 ^ 32 }
+    ensures { IfOk result (λ answer. answer ≡ met_answer (plain_script script.now) answered.now) }
+{
+    let query = script.check.queries.at(answered.query as usize);
+    let symbol = symbol_of(alloc, query.name.bytes())?;
+    Ok(Answer::Done(Output::Met(symbol, last_step(answered))))
+}
+
+// The number of the stated trace's last step.
+fn last_step(answered: &Answered) -> u32
+    requires { length answered.now.trace < 2 ^ 32 }
+    ensures { result ≡ length answered.now.trace - 1 }
+{
+    answered.trace.len().saturating_sub(1) as u32
+}
+
+// A name as a symbol is printed.
+fn symbol_of(alloc: Global, name: &[u8]) -> Result<Name, NoMemory>
+    ensures { IfOk result (λ symbol. symbol ≡ symbol_text name.now) }
+{
+    let mut text = Text::new(alloc);
+    put_symbol(&mut text, name, false)?;
+    Name::of(alloc, text.bytes())
+}

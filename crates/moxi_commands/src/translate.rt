@@ -1,0 +1,119 @@
+// The BTOR2 text of a script.
+ghost use Rattle.std.specs.Prelude.{◌≡◌, ◌<◌, ◌≤◌, [], ◌∷◌, None, List, ℕ, length, IfOk, IfErr, IsErrAnd};
+ghost use Rattle.text_core.specs.Outside.{Rose};
+ghost use Rattle.btor_tree.specs.Printing.{printed};
+ghost use Rattle.moxi_scripts.specs.Script.{PlainScript};
+ghost use Rattle.moxi_scripts.specs.ScriptView.{plain_script};
+ghost use Rattle.moxi_flat.specs.Limits.{flat_refusal};
+ghost use Rattle.moxi_instantiate.specs.Instances.{IsInstEnd};
+ghost use Rattle.moxi_lines.specs.Lines.{lines_of};
+ghost use Rattle.command_core.specs.declared.answer.Stop.TheVariants as Stop;
+ghost use Rattle.command_core.specs.Giving.{BeginsAmong, MayGive};
+ghost use Rattle.command_core.specs.Reading.{StopsUnread, StopsWith};
+ghost use Rattle.moxi_commands.specs.Limits.{most_script_bytes};
+ghost use Rattle.moxi_commands.specs.Translation.{IsBtorText, IsInstantiated, IsLinesEnd, LinesStand, OfBytes, ScriptLinesAreLaidOut, btor_text};
+
+use crate::scripts::{SCRIPT_LIMIT, script_of};
+use btor_text::print_btor;
+use btor_tree::{one_reading, printed_spells};
+use command_core::{Answer, Output, Stop, read_file, refusal};
+use moxi_flat::{flat_systems_are_sorted, traces_have_flat_traces};
+use moxi_instantiate::{FlatSystem, instantiate};
+use moxi_layout::{
+    bads_are_queries, codes_are_few, flat_sizes_are_script_sizes, lines_lay_out, lines_stay_few,
+    traces_have_frames,
+};
+use moxi_scripts::{Script, spelled_scripts_are_whole};
+use moxi_to_btor::to_btor;
+use std::alloc::Global;
+use std::mem::drop;
+use text_core::kinds::moxi;
+use text_core::{End, Name, NoMemory, Shelf, Text};
+
+/// Reads a MoXI script, and makes the BTOR2 text of the system that its check instantiates.
+pub fn moxi_to_btor<F: Shelf>(alloc: Global, model: &Name, shelf: &mut F) -> Result<Answer, Stop>
+    ensures answer { IfOk result (MayGive (F.files shelf.old) (model.now ∷ []) (λ files. IsBtorText files model.now) (Rose (F.faults shelf.old) (F.faults shelf.new))) }
+    ensures stop { IfErr result (StopsWith (MayGive (F.files shelf.old) (model.now ∷ []) (λ files. IsBtorText files model.now) (Rose (F.faults shelf.old) (F.faults shelf.new)))) }
+    ensures fault { F.faults shelf.old < F.faults shelf.new → IsErrAnd result (λ stop. StopsUnread stop) }
+    ensures later { F.faults shelf.old ≤ F.faults shelf.new }
+    ensures files { F.files shelf.new ≡ F.files shelf.old }
+    ensures begun { BeginsAmong (F.files shelf.old) (F.begun shelf.old) (F.begun shelf.new) (model.now ∷ []) }
+{
+    let too_long = Answer::Refused(refusal(moxi::TOO_LONG));
+    let bytes = read_file(alloc, shelf, model, SCRIPT_LIMIT, too_long)?;
+    lines_answer(alloc, &bytes)
+}
+
+// The BTOR2 text of the script that the bytes spell, or their refusal.
+fn lines_answer(alloc: Global, bytes: &[u8]) -> Result<Answer, Stop>
+    requires { length bytes.now ≤ most_script_bytes }
+    ensures answer { IfOk result (OfBytes bytes.now) }
+    ensures stop { IfErr result (λ stop. stop ≡ Stop.NoMemory) }
+{
+    match lines_text(alloc, bytes) {
+        Ok(text) => Ok(Answer::Done(Output::Text(text))),
+        Err(End::Bad(refusal)) => Ok(Answer::Refused(refusal)),
+        Err(End::NoMemory) => Err(Stop::NoMemory),
+    }
+}
+
+// The BTOR2 text of the script that the bytes spell, or why there is none.
+#[tactic(auto, using(crate::proofs::Translated::of_script, crate::proofs::Translated::no_script, crate::proofs::Translated::no_text))]
+fn lines_text(alloc: Global, bytes: &[u8]) -> Result<Text, End>
+    requires { length bytes.now ≤ most_script_bytes }
+    ensures text { IfOk result (λ text. (script : PlainScript) × IsInstantiated bytes.now script × (text ≡ btor_text script)) }
+    ensures refused { IfErr result (IsLinesEnd bytes.now) }
+{
+    match script_of(alloc, bytes) {
+        Ok(script) => {
+            let text = text_of_script(alloc, &script);
+            drop(script);
+            text
+        }
+        Err(end) => Err(end),
+    }
+}
+
+// The BTOR2 text of a script, or the refusal of the system that its check instantiates.
+fn text_of_script(alloc: Global, script: &Script) -> Result<Text, End>
+    ensures accepted { IfOk result (λ text. flat_refusal (plain_script script.now) ≡ None) }
+    ensures text { IfOk result (λ text. text ≡ btor_text (plain_script script.now)) }
+    ensures refused { IfErr result (IsInstEnd (plain_script script.now)) }
+{
+    let system = instantiate(alloc, script)?;
+    Ok(text_of_system(alloc, &system)?)
+}
+
+// The printed lines of a flat system.
+fn text_of_system(alloc: Global, system: &FlatSystem<'_>) -> Result<Text, NoMemory>
+    ensures { IfOk result (λ text. text ≡ printed (lines_of system.now)) }
+{
+    let nodes = to_btor(alloc, system)?;
+    print_btor(alloc, &nodes)
+}
+
+/// The lines of the flat system that a script's check instantiates lay the system out. This function does nothing.
+pub fn script_lines_are_laid_out()
+    ensures { ScriptLinesAreLaidOut }
+{
+    spelled_scripts_are_whole();
+    codes_are_few();
+    flat_systems_are_sorted();
+    flat_sizes_are_script_sizes();
+    lines_stay_few();
+    lines_lay_out();
+}
+
+/// What is written for a script spells one list of lines, which have frames 0 to k with every constraint true and the bad line of
+/// number j true in the last one exactly where some trace meets the query of number j at step k. This function does nothing.
+pub fn lines_stand()
+    ensures { LinesStand }
+{
+    spelled_scripts_are_whole();
+    script_lines_are_laid_out();
+    bads_are_queries();
+    traces_have_frames();
+    traces_have_flat_traces();
+    printed_spells();
+    one_reading();
+}

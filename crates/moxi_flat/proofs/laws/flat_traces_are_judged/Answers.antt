@@ -1,5 +1,0 @@
-use Rattle.moxi_flat.proofs.Judged.{flat_traces_are_judged_law}
-use Rattle.moxi_flat.proofs.laws.flat_traces_are_judged.Goals as goal
-
-pub returns : goal.returns
-returns c = flat_traces_are_judged_law

@@ -1,5 +1,0 @@
-use Rattle.moxi_flat.proofs.Single.{single_systems_are_flat_law}
-use Rattle.moxi_flat.proofs.laws.single_systems_are_flat.Goals as goal
-
-pub returns : goal.returns
-returns c = single_systems_are_flat_law

@@ -1,0 +1,35 @@
+-- What the witnesses of lines that lay a flat system out are lifted to.
+use Rattle.std.specs.Prelude.{◌≡◌, ℕ, ◌-◌, List, [], length, slice_get, slice_index_or, IsSomeAnd}
+use Rattle.text_core.specs.declared.verdict.Verdict.TheVariants.{Yes}
+use Rattle.word_core.specs.Words.{BitVector}
+use Rattle.btor_tree.specs.declared.lines.Line.{Line}
+use Rattle.btor_witness.specs.declared.witness.Witness.{Witness}
+use Rattle.btor_witness.specs.Judging.{judged_btor, stated_frames}
+use Rattle.btor_witness.specs.Printing.{IsWitness}
+use Rattle.btor_witness.specs.Sizes.{sizes_of}
+use Rattle.moxi_terms.specs.declared.data.Datum.{Datum}
+use Rattle.moxi_terms.specs.Value.{at}
+use Rattle.moxi_scripts.specs.Behaviour.{Trace}
+use Rattle.moxi_flat.specs.FlatMeeting.{MeetsFlat}
+use Rattle.moxi_flat.specs.FlatSystem.{PlainFlatSystem}
+use Rattle.moxi_layout.specs.LayoutLaws.{IsLaidOut}
+use Rattle.moxi_layout.specs.Layout.{LaysOut}
+use Rattle.moxi_lift.specs.Lifted.{decoded_frames, lifted}
+
+-- what the variables have at each step
+abbrev pub trace_of : List (List Datum) → Trace
+trace_of envs j = at (slice_index_or envs j [])
+
+-- the trace meets the query of this number at its last step
+abbrev pub MeetsQueryOf : PlainFlatSystem → ℕ → List (List Datum) → Type 0
+MeetsQueryOf f j envs = IsSomeAnd (slice_get f.queries j) (λ q. MeetsFlat f q (length envs - 1) (trace_of envs))
+
+-- ---- laws
+
+-- a witness is lifted to what the frames that it states are decoded to
+abbrev pub LiftsAreDecoded : Type 0
+LiftsAreDecoded = (f : PlainFlatSystem) (lines : List Line) → LaysOut f lines → (w : Witness) (rows : List (List BitVector)) → stated_frames lines w rows → lifted f w ≡ decoded_frames f lines rows
+
+-- a witness that the judge accepts is lifted to a trace that meets the query of its bad line
+abbrev pub LiftsMeetQueries : Type 0
+LiftsMeetQueries = (f : PlainFlatSystem) (lines : List Line) → IsLaidOut f lines → (w : Witness) → IsWitness (sizes_of lines) w → judged_btor lines w Yes → MeetsQueryOf f w.bad (lifted f w)

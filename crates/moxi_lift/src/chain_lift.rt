@@ -1,0 +1,90 @@
+// The trace for which a witness of a flat system's lines stands.
+ghost use Rattle.std.specs.Prelude.{◌≡◌, ◌≤◌, List, length, IfOk, IfErr};
+ghost use Rattle.std.specs.List.{AllByRecursion};
+ghost use Rattle.text_core.specs.declared.verdict.Verdict.TheVariants.{Yes};
+ghost use Rattle.word_core.specs.Words.{BitVector};
+ghost use Rattle.btor_witness.specs.Judging.{judged_btor, stated_frames};
+ghost use Rattle.btor_witness.specs.Printing.{IsWitness};
+ghost use Rattle.btor_witness.specs.Sizes.{sizes_of};
+ghost use Rattle.moxi_terms.specs.Sorts.{Fit};
+ghost use Rattle.moxi_terms.specs.Tree.{sorts_of};
+ghost use Rattle.moxi_lines.specs.Lines.{lines_of};
+ghost use Rattle.moxi_lift.specs.Laws.{MeetsQueryOf};
+ghost use Rattle.moxi_lift.specs.Lifted.{decoded_frames, lifted};
+ghost use Rattle.moxi_lift.specs.Ends.{IsLiftEnd};
+
+use crate::chain::MoxiChain;
+use crate::frame_lift::lift_frames;
+use crate::layout::are_laid_out;
+use btor_tree::Nodes;
+use btor_witness::{Witness, judge_btor};
+use moxi_instantiate::FlatSystem;
+use moxi_scripts::MoxiTrace;
+use std::alloc::Global;
+use text_core::{Clause, NoMemory, Verdict};
+
+/// Why a witness is not lifted.
+#[derive(Clone, Copy, Debug, PartialEq, Eq)]
+pub enum LiftEnd {
+    /// The judge says No: the earliest step whose frame fails, and the first clause that it fails.
+    No(u32, Clause),
+    /// Want of memory.
+    NoMemory,
+}
+
+impl From<NoMemory> for LiftEnd {
+    ghost use Rattle.std.specs.Prelude.{◌≡◌};
+    ghost use Rattle.moxi_lift.specs.declared.chain_lift.LiftEnd.TheVariants as Of;
+
+    ghost from_gives = { λ _ e. e ≡ Of.NoMemory };
+
+    fn from(_: NoMemory) -> LiftEnd {
+        LiftEnd::NoMemory
+    }
+}
+
+/// The trace for which a witness of a flat system's lines stands. Where the judge says No of the witness, that is the answer; else
+/// the witness is lifted: it is a trace that meets the query of the witness's bad line. The caller owes the system's lines, and a
+/// witness for them.
+pub fn lift_lines(
+    alloc: Global,
+    system: &FlatSystem<'_>,
+    nodes: &Nodes,
+    witness: &Witness,
+) -> Result<MoxiTrace, LiftEnd>
+    requires lines { nodes.now ≡ lines_of system.now }
+    requires witness { IsWitness (sizes_of (lines_of system.now)) witness.now }
+    ensures accepted { IfOk result (λ _. judged_btor (lines_of system.now) witness.now Yes) }
+    ensures exact { IfOk result (λ trace. trace ≡ lifted system.now witness.now) }
+    ensures frames { IfOk result (λ trace. (rows : List (List BitVector)) → stated_frames (lines_of system.now) witness.now rows → trace ≡ decoded_frames system.now (lines_of system.now) rows) }
+    ensures some { IfOk result (λ trace. 1 ≤ length trace) }
+    ensures fits { IfOk result (AllByRecursion (Fit system.now.scope.enumerations (sorts_of system.now.variables))) }
+    ensures meets { IfOk result (λ trace. ∥ MeetsQueryOf system.now witness.now.bad trace ∥₁) }
+    ensures refused { IfErr result (IsLiftEnd (lines_of system.now) witness.now) }
+{
+    are_laid_out(system);
+    match judge_btor(alloc, nodes, witness)? {
+        Verdict::Yes => Ok(lift_frames(alloc, system, nodes, witness)?),
+        Verdict::No(step, clause) => Err(LiftEnd::No(step, clause)),
+    }
+}
+
+/// The trace of a script's flat system for which a witness of the chain's lines stands (MoXI, SPIN 2024; BTOR2, CAV 2018). Where the
+/// judge says No of the witness, that is the answer, with the step and the clause; each witness that it accepts is lifted. The caller
+/// owes a witness for the lines.
+pub fn lift_moxi(
+    alloc: Global,
+    chain: &MoxiChain<'_>,
+    witness: &Witness,
+) -> Result<MoxiTrace, LiftEnd>
+    requires { IsWitness (sizes_of (lines_of chain.now)) witness.now }
+    ensures accepted { IfOk result (λ _. judged_btor (lines_of chain.now) witness.now Yes) }
+    ensures exact { IfOk result (λ trace. trace ≡ lifted chain.now witness.now) }
+    ensures frames { IfOk result (λ trace. (rows : List (List BitVector)) → stated_frames (lines_of chain.now) witness.now rows → trace ≡ decoded_frames chain.now (lines_of chain.now) rows) }
+    ensures some { IfOk result (λ trace. 1 ≤ length trace) }
+    ensures fits { IfOk result (AllByRecursion (Fit chain.now.scope.enumerations (sorts_of chain.now.variables))) }
+    ensures meets { IfOk result (λ trace. ∥ MeetsQueryOf chain.now witness.now.bad trace ∥₁) }
+    ensures refused { IfErr result (IsLiftEnd (lines_of chain.now) witness.now) }
+{
+    lift_lines(alloc, chain.system(), chain.nodes(), witness)
+}

@@ -1,0 +1,32 @@
+// The lines of a flat system lay it out.
+ghost use Rattle.moxi_lines.specs.TermLaws.{HaveCodes};
+ghost use Rattle.moxi_lines.specs.Lines.{lines_of};
+ghost use Rattle.moxi_layout.specs.Layout.{LaysOut};
+
+use moxi_instantiate::FlatSystem;
+use moxi_layout::{flat_sizes_are_script_sizes, lines_lay_out, lines_stay_few};
+use moxi_terms::Scope;
+
+// The places of each enumeration's constants have words, since there are no more of them than a list can hold. To know the counts is
+// all that this function does.
+fn have_codes(scope: &Scope)
+    ensures { HaveCodes scope.now.enumerations }
+{
+    let enumerations = scope.enumerations();
+    for i in 0..enumerations.len() {
+        let _count = enumerations.at(i).constants.len();
+    }
+}
+
+/// The lines of a flat system lay it out; this function does nothing but know the counts of constants.
+pub fn are_laid_out(system: &FlatSystem<'_>)
+    ensures { ∥ LaysOut system.now (lines_of system.now) ∥₁ }
+{
+    system.is_instance();
+    system.is_sorted();
+    flat_sizes_are_script_sizes();
+    lines_stay_few();
+    lines_lay_out();
+    let scope = system.scope();
+    have_codes(scope);
+}

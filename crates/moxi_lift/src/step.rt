@@ -1,0 +1,103 @@
+// The step for which a frame of a witness stands.
+ghost use Rattle.std.specs.Prelude.{◌≡◌, ◌==◌, nat_lt, if◌then◌else◌, ℕ, List, length, None, IfOk};
+ghost use Rattle.std.specs.List.{AllByRecursion};
+ghost use Rattle.moxi_terms.specs.declared.data.Datum.TheVariants as datum;
+ghost use Rattle.moxi_terms.specs.Sorted.{AreSorts};
+ghost use Rattle.moxi_terms.specs.Sorts.{IsSort};
+ghost use Rattle.moxi_terms.specs.Tree.{sorts_of};
+ghost use Rattle.moxi_lines.specs.Codes.{constant_count, sort_bits};
+ghost use Rattle.moxi_lines.specs.Decoding.{decoded_datum};
+ghost use Rattle.btor_frames.specs.Judged.{stated_or};
+ghost use Rattle.btor_witness.specs.Printing.{IsBelow, TableOf};
+ghost use Rattle.moxi_lift.specs.Lifted.{lifted_step};
+
+use btor_witness::{Stateds, zero_of};
+use moxi_terms::{Datum, Env, Scope, Sort, Variables};
+use std::alloc::Global;
+use text_core::NoMemory;
+use word_core::Word;
+
+// The word that is stated for each number.
+fn table_of(alloc: Global, stated: &Stateds, count: usize) -> Result<Vec<Option<Word>>, NoMemory>
+    requires { AllByRecursion (IsBelow count) stated.now }
+    ensures { IfOk result (λ table. TableOf stated.now count table.items) }
+{
+    let mut table = vec![in alloc; None; count]?;
+    for i in 0..stated.len() {
+        let stated = stated.at(i);
+        table[stated.index as usize] = Some(stated.value);
+    }
+    Ok(table)
+}
+
+// The number that the stated word spells, or zero.
+fn bits_of(stated: Option<Word>) -> u128
+    ensures { (width : ℕ) → result ≡ (stated_or stated width).bits }
+{
+    match stated {
+        Some(word) => word.bits(),
+        None => 0,
+    }
+}
+
+// How many constants the enumeration has.
+fn constant_count(scope: &Scope, n: u32) -> usize
+    ensures { result ≡ constant_count scope.now.enumerations n }
+{
+    match scope.constants(n) {
+        Some(constants) => constants.len(),
+        None => 0,
+    }
+}
+
+// The constant of this place, or the first one where there is none. A place past the numbers of 32 bits, which no constant has,
+// is answered as want of memory.
+fn constant_at(scope: &Scope, n: u32, place: u128) -> Result<Datum, NoMemory>
+    ensures { IfOk result (λ value. value ≡ (if nat_lt place (constant_count scope.now.enumerations n) then datum.Constant n place else datum.Constant n 0)) }
+{
+    if place >= constant_count(scope, n) as u128 {
+        return Ok(Datum::Constant(n, 0));
+    }
+    match u32::try_from(place) {
+        Ok(place) => Ok(Datum::Constant(n, place)),
+        Err(_) => Err(NoMemory),
+    }
+}
+
+// The value of the sort for which the stated word stands, or the word 0 where none is stated.
+fn value_of(scope: &Scope, sort: Sort, stated: Option<Word>) -> Result<Datum, NoMemory>
+    requires { IsSort scope.now.enumerations sort }
+    ensures { IfOk result (λ value. value ≡ decoded_datum scope.now.enumerations sort (stated_or stated (sort_bits scope.now.enumerations sort))) }
+{
+    match sort {
+        Sort::Truth => Ok(Datum::Truth(bits_of(stated) == 1)),
+        Sort::Bits(width) => {
+            let word = match stated {
+                Some(word) => word,
+                None => zero_of(width),
+            };
+            Ok(Datum::Bits(word))
+        }
+        Sort::Choice(n) => constant_at(scope, n, bits_of(stated)),
+    }
+}
+
+/// The values of the variables in a frame: variable v has the one for which the word of input v stands.
+pub fn lifted_step(
+    alloc: Global,
+    scope: &Scope,
+    variables: &Variables,
+    stated: &Stateds,
+) -> Result<Env, NoMemory>
+    requires sorts { AreSorts scope.now.enumerations (sorts_of variables.now) }
+    requires inputs { AllByRecursion (IsBelow (length variables.now)) stated.now }
+    ensures { IfOk result (λ env. env ≡ lifted_step scope.now.enumerations variables.now stated.now) }
+{
+    let table = table_of(alloc, stated, variables.len())?;
+    let mut env = Env::with_capacity(alloc, variables.len())?;
+    for v in 0..variables.len() {
+        let datum = value_of(scope, variables.at(v).sort, table[v])?;
+        env.push(datum)?;
+    }
+    Ok(env)
+}

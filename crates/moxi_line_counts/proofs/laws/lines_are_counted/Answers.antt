@@ -1,5 +1,0 @@
-use Rattle.moxi_line_counts.proofs.Whole.{lines_are_counted_law}
-use Rattle.moxi_line_counts.proofs.laws.lines_are_counted.Goals as goal
-
-pub returns : goal.returns
-returns c = lines_are_counted_law

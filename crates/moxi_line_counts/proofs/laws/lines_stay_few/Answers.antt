@@ -1,5 +1,0 @@
-use Rattle.moxi_line_counts.proofs.Whole.{lines_stay_few_law}
-use Rattle.moxi_line_counts.proofs.laws.lines_stay_few.Goals as goal
-
-pub returns : goal.returns
-returns c = lines_stay_few_law

@@ -1,5 +1,0 @@
-use Rattle.moxi_lines.proofs.Framed.{systems_are_framed_law}
-use Rattle.moxi_lines.proofs.laws.systems_are_framed.Goals as goal
-
-pub returns : goal.returns
-returns c = systems_are_framed_law

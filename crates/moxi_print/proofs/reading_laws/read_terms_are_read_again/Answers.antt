@@ -1,5 +1,0 @@
-use Rattle.moxi_print.proofs.StandingAgain.{read_again}
-use Rattle.moxi_print.proofs.reading_laws.read_terms_are_read_again.Goals as goal
-
-pub returns : goal.returns
-returns c = read_again

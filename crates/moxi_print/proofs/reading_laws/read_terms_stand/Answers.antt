@@ -1,5 +1,0 @@
-use Rattle.moxi_print.proofs.StandingStand.{read_stands}
-use Rattle.moxi_print.proofs.reading_laws.read_terms_stand.Goals as goal
-
-pub returns : goal.returns
-returns c ctx bounds vars ss f known within holds = read_stands ctx vars known bounds ss f within holds

@@ -1,5 +1,0 @@
-use Rattle.moxi_print.proofs.StandingRead.{term_read}
-use Rattle.moxi_print.proofs.reading_laws.shown_terms_are_read.Goals as goal
-
-pub returns : goal.returns
-returns c = term_read

@@ -1,7 +1,0 @@
-use Rattle.std.proofs.Common.{◌≡◌, ◌++◌, drop}
-use Rattle.moxi_print.specs.Shown.{lines_text}
-use Rattle.moxi_shown_scripts.specs.Printing.{shown_sorts}
-use Rattle.moxi_printing.proofs.print.put_sorts.Given as goal
-
-abbrev pub invariant-loop-i : goal.invariant-loop-i
-invariant-loop-i l = l.out ++ lines_text (shown_sorts l.scope (drop l.i l.sorts)) ≡ l.fn.out ++ lines_text (shown_sorts l.scope l.sorts)

@@ -1,3 +1,0 @@
-pub mod Atoms
-pub mod Constants
-pub mod Counts

@@ -1,0 +1,9 @@
+use Rattle.std.proofs.Common.{◌≡◌, ◌++◌, ◌∷◌, [], drop, map}
+use Rattle.moxi_sexpr.specs.Printing.{bytes_behind}
+use Rattle.moxi_term_print.specs.Shown.{parts_text}
+use Rattle.moxi_scripts.specs.Script.{plain_formula}
+use Rattle.moxi_script_print.specs.Printing.{shown_labels}
+use Rattle.moxi_script_print.proofs.print_checks.put_labels.Given as goal
+
+abbrev pub invariant-loop-i : goal.invariant-loop-i
+invariant-loop-i l = l.out ++ parts_text (32 ∷ []) (shown_labels l.scope (map bytes_behind l.variables) l.keyword (map plain_formula (drop l.i l.formulas))) ≡ l.fn.out ++ parts_text (32 ∷ []) (shown_labels l.scope (map bytes_behind l.variables) l.keyword (map plain_formula l.formulas))

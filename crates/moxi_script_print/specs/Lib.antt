@@ -1,0 +1,5 @@
+pub mod Printing
+pub mod NamesOfScripts
+pub mod laws
+pub mod Again
+pub mod ReadBack

@@ -1,0 +1,18 @@
+// What is printed of a whole script is read again; the function does nothing.
+ghost use Rattle.text_core.specs.declared.place.Place.{Place};
+ghost use Rattle.moxi_sexpr.specs.Tree.{Trees};
+ghost use Rattle.moxi_term_print.specs.Shown.{ShowEach};
+ghost use Rattle.moxi_script_print.specs.Again.{ReadsAs};
+ghost use Rattle.moxi_script_print.specs.Printing.{shown_script};
+ghost use Rattle.moxi_scripts.specs.Script.{PlainScript};
+ghost use Rattle.moxi_scripts.specs.Whole.{IsWhole};
+
+use moxi_term_print::{shown_sorts_are_read, shown_terms_are_read};
+
+/// Forms that show a whole script spell it, but for the place of its check, which stands where its form does (MoXI, SPIN 2024).
+pub fn printed_scripts_are_spelled()
+    ensures { (s : PlainScript) (ts : Trees) (end : Place) → IsWhole s → ShowEach ts (shown_script s) → ReadsAs ts end s }
+{
+    shown_sorts_are_read();
+    shown_terms_are_read();
+}

@@ -1,0 +1,32 @@
+// Laws of the names of scripts; these functions do nothing.
+ghost use Rattle.text_core.specs.declared.place.Place.{Place};
+ghost use Rattle.moxi_sexpr.specs.Printing.{ArePrintable};
+ghost use Rattle.moxi_sexpr.specs.Tree.{Trees};
+ghost use Rattle.moxi_term_print.specs.Shown.{AllCanBeShown};
+ghost use Rattle.moxi_script_print.specs.NamesOfScripts.{HasSpellableNames};
+ghost use Rattle.moxi_script_print.specs.Printing.{shown_script};
+ghost use Rattle.moxi_scripts.specs.Script.{PlainScript};
+ghost use Rattle.moxi_scripts.specs.Spelling.{SpellsScript};
+ghost use Rattle.moxi_scripts.specs.Whole.{IsWhole};
+
+use moxi_term_print::{
+    read_names_are_spellable, scopes_stay_spellable, shown_sorts_are_read,
+    standing_terms_can_be_shown, terms_stand_on,
+};
+
+/// Each name of a script that printable forms spell can be spelled (SMT-LIB 2.6, section 3.1).
+pub fn printable_forms_give_spellable_names()
+    ensures { (ts : Trees) (end : Place) (s : PlainScript) → ArePrintable ts → SpellsScript ts end s → HasSpellableNames s }
+{
+    read_names_are_spellable();
+    scopes_stay_spellable();
+}
+
+/// What is shown of a whole script can be shown, where its names can be spelled.
+pub fn whole_scripts_can_be_shown()
+    ensures { (s : PlainScript) → IsWhole s → HasSpellableNames s → AllCanBeShown (shown_script s) }
+{
+    shown_sorts_are_read();
+    standing_terms_can_be_shown();
+    terms_stand_on();
+}

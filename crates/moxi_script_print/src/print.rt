@@ -1,0 +1,119 @@
+// Scripts as a text.
+ghost use Rattle.std.specs.Prelude.{◌≡◌, ◌≤◌, ◌++◌, ◌∷◌, [], map, IfOk, OnOk};
+ghost use Rattle.moxi_sexpr.specs.Lexing.{limit};
+ghost use Rattle.moxi_sexpr.specs.Printing.{bytes_behind};
+ghost use Rattle.moxi_term_print.specs.Shown.{lines_text, shown_depths};
+ghost use Rattle.moxi_script_print.specs.Printing.{shown_enumerations, shown_functions, shown_logic, shown_script, shown_sorts, shown_systems, system_names};
+ghost use Rattle.moxi_script_print.specs.ReadBack.{ReadsBackScript};
+ghost use Rattle.moxi_scripts.specs.Script.{plain_system};
+ghost use Rattle.moxi_scripts.specs.ScriptView.{plain_script};
+
+use crate::print_checks::put_check;
+use crate::print_parts::{push, put_head};
+use crate::print_systems::put_system;
+use crate::read_back_laws::printed_scripts_are_read_back;
+use moxi_scripts::{Script, Systems};
+use moxi_term_print::{put_enumeration, put_function, put_named_sort};
+use moxi_terms::Scope;
+use std::alloc::Global;
+use text_core::{Name, NoMemory, Text};
+
+fn put_logic(out: &mut Text, logic: &Option<Name>) -> Result<(), NoMemory>
+    ensures { OnOk result (out.new ≡ out.old ++ lines_text (shown_logic logic.now)) }
+{
+    match logic {
+        None => Ok(()),
+        Some(name) => {
+            put_head(out, b"set-logic", name.bytes())?;
+            out.put(b")\n")
+        }
+    }
+}
+
+fn put_enumerations(out: &mut Text, scope: &Scope) -> Result<(), NoMemory>
+    ensures { OnOk result (out.new ≡ out.old ++ lines_text (shown_enumerations scope.now.enumerations)) }
+{
+    let enumerations = scope.enumerations();
+    for i in 0..enumerations.len() {
+        put_enumeration(out, enumerations.at(i))?;
+        out.put(b"\n")?;
+    }
+    Ok(())
+}
+
+fn put_sorts(out: &mut Text, scope: &Scope) -> Result<(), NoMemory>
+    ensures { OnOk result (out.new ≡ out.old ++ lines_text (shown_sorts scope.now scope.now.sorts)) }
+{
+    let sorts = scope.sorts();
+    for i in 0..sorts.len() {
+        put_named_sort(out, scope, sorts.at(i))?;
+        out.put(b"\n")?;
+    }
+    Ok(())
+}
+
+fn put_functions(alloc: Global, out: &mut Text, scope: &Scope) -> Result<(), NoMemory>
+    ensures { OnOk result (out.new ≡ out.old ++ lines_text (shown_functions scope.now scope.now.functions)) }
+{
+    let functions = scope.functions();
+    for i in 0..functions.len() {
+        put_function(alloc, out, scope, functions.at(i))?;
+        out.put(b"\n")?;
+    }
+    Ok(())
+}
+
+fn put_systems(
+    alloc: Global,
+    out: &mut Text,
+    scope: &Scope,
+    names: &[&[u8]],
+    systems: &Systems,
+) -> Result<(), NoMemory>
+    ensures { OnOk result (out.new ≡ out.old ++ lines_text (shown_systems scope.now (map bytes_behind names.now) (map plain_system systems.now))) }
+{
+    for i in 0..systems.len() {
+        put_system(alloc, out, scope, names, systems.at(i))?;
+        out.put(b"\n")?;
+    }
+    Ok(())
+}
+
+// The names of systems.
+fn system_names<'a>(alloc: Global, systems: &'a Systems) -> Result<Vec<&'a [u8]>, NoMemory>
+    ensures { IfOk result (λ names. map bytes_behind names.items ≡ system_names (map plain_system systems.now)) }
+{
+    let mut names = Vec::new(alloc);
+    for i in 0..systems.len() {
+        push(&mut names, systems.at(i).name.bytes())?;
+    }
+    Ok(names)
+}
+
+#[tactic(auto, using(crate::proofs::Pieces::pieces))]
+fn put_script(alloc: Global, out: &mut Text, script: &Script) -> Result<(), NoMemory>
+    ensures { OnOk result (out.new ≡ out.old ++ lines_text (shown_script (plain_script script.now))) }
+{
+    let names = system_names(alloc, &script.systems)?;
+    put_logic(out, &script.logic)?;
+    put_enumerations(out, &script.scope)?;
+    put_sorts(out, &script.scope)?;
+    put_functions(alloc, out, &script.scope)?;
+    put_systems(alloc, out, &script.scope, &names, &script.systems)?;
+    put_check(alloc, out, &script.scope, &names, &script.check)?;
+    out.put(b"\n")
+}
+
+/// Writes each command of a script on a line of its own: the logic where there is one, the enumerations, the defined sorts,
+/// the functions, the systems and the check (MoXI, SPIN 2024). A system's lists and formulas stand always, and a query names
+/// its assumptions, its current conditions and then its reachable formulas.
+pub fn print_script(alloc: Global, script: &Script) -> Result<Text, NoMemory>
+    ensures printed { IfOk result (λ text. text ≡ lines_text (shown_script (plain_script script.now))) }
+    // What is printed is read again as the script, where no more brackets stand open than may be read.
+    ensures reads_back { shown_depths (shown_script (plain_script script.now)) ≤ limit → IfOk result (λ text. ∥ ReadsBackScript text (plain_script script.now) ∥₁) }
+{
+    printed_scripts_are_read_back();
+    let mut out = Text::new(alloc);
+    put_script(alloc, &mut out, script)?;
+    Ok(out)
+}

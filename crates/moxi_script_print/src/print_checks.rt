@@ -1,0 +1,190 @@
+// A check as a text.
+ghost use Rattle.std.specs.Prelude.{◌≡◌, ◌++◌, ◌∷◌, [], map, codes, OnOk, IfOk};
+ghost use Rattle.moxi_sexpr.specs.Printing.{bytes_behind};
+ghost use Rattle.moxi_term_print.specs.Shown.{parts_text, text_of};
+ghost use Rattle.moxi_script_print.specs.Printing.{all_queries, attribute, formula_names, query_names, shown_query, shown_check, shown_conditions, shown_label, shown_labels, shown_names, shown_queries};
+ghost use Rattle.moxi_scripts.specs.Script.{plain_check, plain_formula};
+
+use crate::print_parts::{
+    name_in, push, push_names_of, put_head, put_keyword, put_lists, put_names, variables_of,
+};
+use moxi_scripts::{Check, Formula, Formulas, Queries, Query};
+use moxi_sexpr::put_symbol;
+use moxi_term_print::put_term_over;
+use moxi_terms::Scope;
+use std::alloc::Global;
+use text_core::{NoMemory, Text};
+
+// `(name term)`.
+fn put_pair(
+    alloc: Global,
+    out: &mut Text,
+    scope: &Scope,
+    variables: &[&[u8]],
+    formula: &Formula,
+) -> Result<(), NoMemory>
+    ensures { OnOk result (out.new ≡ out.old ++ text_of (shown_label scope.now (map bytes_behind variables.now) (plain_formula formula.now))) }
+{
+    out.put(b"(")?;
+    put_symbol(out, formula.name.bytes(), false)?;
+    out.put(b" ")?;
+    put_term_over(alloc, out, scope, variables, &formula.term)?;
+    out.put(b")")
+}
+
+#[tactic(auto, using(crate::proofs::Pieces::pieces))]
+fn put_label(
+    alloc: Global,
+    out: &mut Text,
+    scope: &Scope,
+    variables: &[&[u8]],
+    keyword: &[u8],
+    formula: &Formula,
+) -> Result<(), NoMemory>
+    ensures { OnOk result (out.new ≡ out.old ++ parts_text (32 ∷ []) (attribute keyword.now (shown_label scope.now (map bytes_behind variables.now) (plain_formula formula.now)))) }
+{
+    put_keyword(out, keyword)?;
+    put_pair(alloc, out, scope, variables, formula)
+}
+
+// Formulas of one kind, each behind the keyword.
+#[tactic(auto, using(crate::proofs::Pieces::pieces))]
+fn put_labels(
+    alloc: Global,
+    out: &mut Text,
+    scope: &Scope,
+    variables: &[&[u8]],
+    keyword: &[u8],
+    formulas: &Formulas,
+) -> Result<(), NoMemory>
+    ensures { OnOk result (out.new ≡ out.old ++ parts_text (32 ∷ []) (shown_labels scope.now (map bytes_behind variables.now) keyword.now (map plain_formula formulas.now))) }
+{
+    for i in 0..formulas.len() {
+        put_label(alloc, out, scope, variables, keyword, formulas.at(i))?;
+    }
+    Ok(())
+}
+
+// The names of formulas.
+fn formula_names<'a>(alloc: Global, formulas: &'a Formulas) -> Result<Vec<&'a [u8]>, NoMemory>
+    ensures { IfOk result (λ names. map bytes_behind names.items ≡ formula_names (map plain_formula formulas.now)) }
+{
+    let mut names = Vec::new(alloc);
+    for i in 0..formulas.len() {
+        push(&mut names, formulas.at(i).name.bytes())?;
+    }
+    Ok(names)
+}
+
+// The names of a query, given those of all formulas.
+fn query_names<'a>(
+    alloc: Global,
+    assumptions: &[&'a [u8]],
+    currents: &[&'a [u8]],
+    reachables: &[&'a [u8]],
+    query: &Query,
+) -> Result<Vec<&'a [u8]>, NoMemory>
+    ensures { IfOk result (λ names. map bytes_behind names.items ≡ query_names (map bytes_behind assumptions.now) (map bytes_behind currents.now) (map bytes_behind reachables.now) query.now) }
+{
+    let mut names = Vec::new(alloc);
+    push_names_of(&mut names, assumptions, &query.assumptions)?;
+    push_names_of(&mut names, currents, &query.currents)?;
+    push_names_of(&mut names, reachables, &query.reachables)?;
+    Ok(names)
+}
+
+fn put_query(
+    alloc: Global,
+    out: &mut Text,
+    assumptions: &[&[u8]],
+    currents: &[&[u8]],
+    reachables: &[&[u8]],
+    query: &Query,
+) -> Result<(), NoMemory>
+    ensures { OnOk result (out.new ≡ out.old ++ parts_text (32 ∷ []) (shown_query (map bytes_behind assumptions.now) (map bytes_behind currents.now) (map bytes_behind reachables.now) query.now)) }
+{
+    let names = query_names(alloc, assumptions, currents, reachables, query)?;
+    put_names(out, b"query", query.name.bytes(), &names)
+}
+
+#[tactic(auto, using(crate::proofs::Pieces::pieces))]
+fn put_queries(
+    alloc: Global,
+    out: &mut Text,
+    assumptions: &[&[u8]],
+    currents: &[&[u8]],
+    reachables: &[&[u8]],
+    queries: &Queries,
+) -> Result<(), NoMemory>
+    ensures { OnOk result (out.new ≡ out.old ++ parts_text (32 ∷ []) (shown_queries (map bytes_behind assumptions.now) (map bytes_behind currents.now) (map bytes_behind reachables.now) queries.now)) }
+{
+    for i in 0..queries.len() {
+        put_query(alloc, out, assumptions, currents, reachables, queries.at(i))?;
+    }
+    Ok(())
+}
+
+fn put_all_queries(alloc: Global, out: &mut Text, check: &Check) -> Result<(), NoMemory>
+    ensures { OnOk result (out.new ≡ out.old ++ parts_text (32 ∷ []) (all_queries (plain_check check.now))) }
+{
+    let assumptions = formula_names(alloc, &check.assumptions)?;
+    let currents = formula_names(alloc, &check.currents)?;
+    let reachables = formula_names(alloc, &check.reachables)?;
+    put_queries(
+        alloc,
+        out,
+        &assumptions,
+        &currents,
+        &reachables,
+        &check.queries,
+    )
+}
+
+#[tactic(auto, using(crate::proofs::Pieces::pieces), unfolding(crate::specs::Printing::shown_conditions))]
+fn put_conditions(
+    alloc: Global,
+    out: &mut Text,
+    scope: &Scope,
+    variables: &[&[u8]],
+    check: &Check,
+) -> Result<(), NoMemory>
+    ensures { OnOk result (out.new ≡ out.old ++ parts_text (32 ∷ []) (shown_conditions scope.now (map bytes_behind variables.now) (plain_check check.now))) }
+{
+    put_labels(
+        alloc,
+        out,
+        scope,
+        variables,
+        b"assumption",
+        &check.assumptions,
+    )?;
+    put_labels(alloc, out, scope, variables, b"current", &check.currents)?;
+    put_labels(
+        alloc,
+        out,
+        scope,
+        variables,
+        b"reachable",
+        &check.reachables,
+    )?;
+    put_all_queries(alloc, out, check)
+}
+
+/// Appends `(check-system S ..)`, given the names of all systems. Its lists stand always, and each query is an attribute of
+/// its own, with its names in the order assumptions, currents, reachable formulas.
+#[tactic(auto, using(crate::proofs::Pieces::pieces))]
+pub fn put_check(
+    alloc: Global,
+    out: &mut Text,
+    scope: &Scope,
+    systems: &[&[u8]],
+    check: &Check,
+) -> Result<(), NoMemory>
+    ensures { OnOk result (out.new ≡ out.old ++ text_of (shown_check scope.now (map bytes_behind systems.now) (plain_check check.now))) }
+{
+    let variables = variables_of(alloc, &check.inputs, &check.outputs, &check.locals)?;
+    put_head(out, b"check-system", name_in(systems, check.system as u64))?;
+    put_lists(out, scope, &check.inputs, &check.outputs, &check.locals)?;
+    put_conditions(alloc, out, scope, &variables, check)?;
+    out.put(b")")
+}

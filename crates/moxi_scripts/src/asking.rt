@@ -1,0 +1,284 @@
+// What a query asks of a step.
+ghost use Rattle.std.specs.Prelude.{◌≡◌, ◌<◌, ◌==◌, ◌++◌, ◌||◌, ◌+◌, ℕ, length, map, true, if◌then◌else◌, IfOk};
+ghost use Rattle.std.specs.List.{AllByRecursion, list_all, list_any};
+ghost use Rattle.moxi_terms.specs.Names.{or_else};
+ghost use Rattle.moxi_terms.specs.Sorts.{Fit};
+ghost use Rattle.moxi_terms.specs.Value.{at};
+ghost use Rattle.moxi_terms.specs.View.{plain};
+ghost use Rattle.moxi_scripts.specs.declared.script.Query.{Query};
+ghost use Rattle.moxi_scripts.specs.Asking.{AreTruths, CanAsk, IsTruth, NothingFails, check_sorts, is_marked, query_at, query_tests, system_tests};
+ghost use Rattle.moxi_scripts.specs.Behaviour.{Behaves, Trace};
+ghost use Rattle.moxi_scripts.specs.Invariant.{IsSpelled};
+ghost use Rattle.moxi_scripts.specs.Meeting.{Hiddens, MeetsQuery, all_reached, assumptions_hold, currents_hold, ends_reached, first_failing, is_reached_before, is_true, reaches, step_tests};
+ghost use Rattle.moxi_scripts.specs.Script.{PlainScript, calls_in, formula_at, plain_formula};
+ghost use Rattle.moxi_scripts.specs.ScriptView.{plain_script};
+
+use crate::script::{Formulas, Query, Script};
+use crate::whole_laws::spelled_scripts_are_whole;
+use moxi_terms::{Datum, Env, Term, eval};
+use std::alloc::Global;
+use text_core::{Clause, NoMemory, Numbers};
+
+/// The tests of a step are those of the system, and then those of the query: the first clause that fails is the system's, or else
+/// the query's. This function does nothing.
+pub fn steps_are_tested_by_system_and_query()
+    ensures tests { (s : PlainScript) (q : Query) (last : ℕ) (trace : Trace) (hs : Hiddens) (j : ℕ) → step_tests s q last trace hs j ≡ system_tests s trace hs j ++ query_tests s q last (is_reached_before s trace j) j (trace j) }
+    ensures first { (s : PlainScript) (q : Query) (last : ℕ) (trace : Trace) (hs : Hiddens) (j : ℕ)
+        → first_failing (step_tests s q last trace hs j) ≡ or_else (first_failing (system_tests s trace hs j)) (first_failing (query_tests s q last (is_reached_before s trace j) j (trace j))) }
+{}
+
+/// A trace on which the checked system behaves meets a query exactly where nothing fails of what the query asks of its steps.
+/// This function does nothing.
+pub fn queries_are_met_where_nothing_fails()
+    ensures meets { (s : PlainScript) (q : Query) (k : ℕ) (trace : Trace)
+        → Behaves s.scope.enumerations (calls_in s.scope) s.systems (k + 1) s.check.system trace → NothingFails s q k trace → MeetsQuery s q k trace }
+    ensures asks { (s : PlainScript) (q : Query) (k : ℕ) (trace : Trace) → MeetsQuery s q k trace → NothingFails s q k trace }
+{}
+
+/// In a script that printable forms spell the formulas that a query names are there, and are of truth values over the variables
+/// of the check. This function does nothing.
+pub fn queries_can_be_asked()
+    ensures { (s : PlainScript) → ∥ IsSpelled s ∥₁ → AllByRecursion (CanAsk s) s.check.queries }
+{
+    spelled_scripts_are_whole();
+}
+
+// Is the term true, where the check's variables have these values?
+fn holds(alloc: Global, script: &Script, term: &Term, now: &Env) -> Result<bool, NoMemory>
+    requires truth { IsTruth (plain_script script.now) (plain term.now) }
+    requires fit { Fit script.now.scope.enumerations (check_sorts (plain_script script.now)) now.now }
+    ensures { IfOk result (λ holds. holds ≡ is_true (plain_script script.now) (at now.now) (at now.now) (plain term.now)) }
+{
+    match eval(alloc, &script.scope, term, now, Some(now))? {
+        Datum::Truth(b) => Ok(b),
+        _ => Ok(false),
+    }
+}
+
+// Is the formula of this number true?
+fn holds_at(
+    alloc: Global,
+    script: &Script,
+    formulas: &Formulas,
+    number: u64,
+    now: &Env,
+) -> Result<bool, NoMemory>
+    requires there { number < length formulas.now }
+    requires truths { AreTruths (plain_script script.now) (map plain_formula formulas.now) }
+    requires fit { Fit script.now.scope.enumerations (check_sorts (plain_script script.now)) now.now }
+    ensures { IfOk result (λ holds. holds ≡ is_true (plain_script script.now) (at now.now) (at now.now) (formula_at (map plain_formula formulas.now) number)) }
+{
+    holds(alloc, script, &formulas.at(number as usize).term, now)
+}
+
+// Are all formulas of these numbers true?
+fn all_hold(
+    alloc: Global,
+    script: &Script,
+    formulas: &Formulas,
+    numbers: &Numbers,
+    now: &Env,
+) -> Result<bool, NoMemory>
+    requires there { AllByRecursion (λ (i : ℕ). i < length formulas.now) numbers.now }
+    requires truths { AreTruths (plain_script script.now) (map plain_formula formulas.now) }
+    requires fit { Fit script.now.scope.enumerations (check_sorts (plain_script script.now)) now.now }
+    ensures { IfOk result (λ hold. hold ≡ list_all (λ i. is_true (plain_script script.now) (at now.now) (at now.now) (formula_at (map plain_formula formulas.now) i)) numbers.now) }
+{
+    for i in 0..numbers.len() {
+        if !holds_at(alloc, script, formulas, *numbers.at(i), now)? {
+            return Ok(false);
+        }
+    }
+    Ok(true)
+}
+
+fn is_assumed(alloc: Global, script: &Script, query: &Query, now: &Env) -> Result<bool, NoMemory>
+    requires asks { CanAsk (plain_script script.now) query.now }
+    requires fit { Fit script.now.scope.enumerations (check_sorts (plain_script script.now)) now.now }
+    ensures { IfOk result (λ holds. holds ≡ assumptions_hold (plain_script script.now) query.now (at now.now)) }
+{
+    all_hold(
+        alloc,
+        script,
+        &script.check.assumptions,
+        &query.assumptions,
+        now,
+    )
+}
+
+// Current conditions are asked at step 0 alone.
+fn is_current(
+    alloc: Global,
+    script: &Script,
+    query: &Query,
+    step: u32,
+    now: &Env,
+) -> Result<bool, NoMemory>
+    requires asks { CanAsk (plain_script script.now) query.now }
+    requires fit { Fit script.now.scope.enumerations (check_sorts (plain_script script.now)) now.now }
+    ensures { IfOk result (λ holds. holds ≡ (if step == 0 then currents_hold (plain_script script.now) query.now (at now.now) else true)) }
+{
+    if step == 0 {
+        all_hold(alloc, script, &script.check.currents, &query.currents, now)
+    } else {
+        Ok(true)
+    }
+}
+
+fn is_marked(marks: &[bool], number: u64) -> bool
+    ensures { result ≡ is_marked marks.now number }
+{
+    match marks.get(number as usize) {
+        Some(mark) => *mark,
+        None => false,
+    }
+}
+
+// Is the reachable formula of this number reached now, or was it before?
+fn is_reached(
+    alloc: Global,
+    script: &Script,
+    number: u64,
+    before: &[bool],
+    now: &Env,
+) -> Result<bool, NoMemory>
+    requires there { number < length script.now.check.reachables }
+    requires truths { AreTruths (plain_script script.now) (map plain_formula script.now.check.reachables) }
+    requires fit { Fit script.now.scope.enumerations (check_sorts (plain_script script.now)) now.now }
+    ensures { IfOk result (λ reached. reached ≡ (is_marked before.now number || reaches (plain_script script.now) (at now.now) number)) }
+{
+    if is_marked(before, number) {
+        return Ok(true);
+    }
+    let reached = holds_at(alloc, script, &script.check.reachables, number, now)?;
+    Ok(reached)
+}
+
+// Is each of these reachable formulas reached now, or was it before?
+fn each_reached(
+    alloc: Global,
+    script: &Script,
+    numbers: &Numbers,
+    before: &[bool],
+    now: &Env,
+) -> Result<bool, NoMemory>
+    requires there { AllByRecursion (λ (r : ℕ). r < length script.now.check.reachables) numbers.now }
+    requires truths { AreTruths (plain_script script.now) (map plain_formula script.now.check.reachables) }
+    requires fit { Fit script.now.scope.enumerations (check_sorts (plain_script script.now)) now.now }
+    ensures { IfOk result (λ each. each ≡ list_all (λ r. is_marked before.now r || reaches (plain_script script.now) (at now.now) r) numbers.now) }
+{
+    for i in 0..numbers.len() {
+        if !is_reached(alloc, script, *numbers.at(i), before, now)? {
+            return Ok(false);
+        }
+    }
+    Ok(true)
+}
+
+// Is one of these reachable formulas reached now?
+fn some_reached(
+    alloc: Global,
+    script: &Script,
+    numbers: &Numbers,
+    now: &Env,
+) -> Result<bool, NoMemory>
+    requires there { AllByRecursion (λ (r : ℕ). r < length script.now.check.reachables) numbers.now }
+    requires truths { AreTruths (plain_script script.now) (map plain_formula script.now.check.reachables) }
+    requires fit { Fit script.now.scope.enumerations (check_sorts (plain_script script.now)) now.now }
+    ensures { IfOk result (λ some. some ≡ list_any (reaches (plain_script script.now) (at now.now)) numbers.now) }
+{
+    for i in 0..numbers.len() {
+        if holds_at(alloc, script, &script.check.reachables, *numbers.at(i), now)? {
+            return Ok(true);
+        }
+    }
+    Ok(false)
+}
+
+fn all_reached(
+    alloc: Global,
+    script: &Script,
+    query: &Query,
+    before: &[bool],
+    now: &Env,
+) -> Result<bool, NoMemory>
+    requires asks { CanAsk (plain_script script.now) query.now }
+    requires fit { Fit script.now.scope.enumerations (check_sorts (plain_script script.now)) now.now }
+    ensures { IfOk result (λ all. all ≡ all_reached (plain_script script.now) query.now (is_marked before.now) (at now.now)) }
+{
+    if !each_reached(alloc, script, &query.reachables, before, now)? {
+        return Ok(false);
+    }
+    let some = some_reached(alloc, script, &query.reachables, now)?;
+    Ok(some)
+}
+
+// Reachable formulas are asked at the last step alone.
+fn ends_reached(
+    alloc: Global,
+    script: &Script,
+    query: &Query,
+    step: u32,
+    last: u32,
+    before: &[bool],
+    now: &Env,
+) -> Result<bool, NoMemory>
+    requires asks { CanAsk (plain_script script.now) query.now }
+    requires fit { Fit script.now.scope.enumerations (check_sorts (plain_script script.now)) now.now }
+    ensures { IfOk result (λ reached. reached ≡ ends_reached (plain_script script.now) query.now last (is_marked before.now) step (at now.now)) }
+{
+    if last == step {
+        all_reached(alloc, script, query, before, now)
+    } else {
+        Ok(true)
+    }
+}
+
+// Of what the query asks the first that fails.
+fn first_failing(
+    alloc: Global,
+    script: &Script,
+    query: &Query,
+    step: u32,
+    last: u32,
+    before: &[bool],
+    now: &Env,
+) -> Result<Option<Clause>, NoMemory>
+    requires asks { CanAsk (plain_script script.now) query.now }
+    requires fit { Fit script.now.scope.enumerations (check_sorts (plain_script script.now)) now.now }
+    ensures { IfOk result (λ failing. failing ≡ first_failing (query_tests (plain_script script.now) query.now last (is_marked before.now) step (at now.now))) }
+{
+    if !is_assumed(alloc, script, query, now)? {
+        return Ok(Some(Clause::AssumptionFails));
+    }
+    if !is_current(alloc, script, query, step, now)? {
+        return Ok(Some(Clause::CurrentFails));
+    }
+    if !ends_reached(alloc, script, query, step, last, before, now)? {
+        return Ok(Some(Clause::NotBroken));
+    }
+    Ok(None)
+}
+
+/// Of what the query number q of the script's check asks of a step, the first that fails, where the check's variables, its inputs,
+/// outputs and locals, have these values: `AssumptionFails` where one of its assumptions is false, `CurrentFails` where at step 0
+/// one of its current conditions is false, `NotBroken` where at the last step none of its reachable formulas is true, or one of
+/// them neither is true nor was at a step before (MoXI, SPIN 2024). The marks tell by their numbers which reachable formulas of
+/// the check were true at a step before; one without a mark was not.
+pub fn query_failing(
+    alloc: Global,
+    script: &Script,
+    q: u32,
+    step: u32,
+    last: u32,
+    before: &[bool],
+    now: &Env,
+) -> Result<Option<Clause>, NoMemory>
+    requires there { q < length script.now.check.queries }
+    requires fit { Fit script.now.scope.enumerations (check_sorts (plain_script script.now)) now.now }
+    ensures { IfOk result (λ failing. failing ≡ first_failing (query_tests (plain_script script.now) (query_at script.now.check.queries q) last (is_marked before.now) step (at now.now))) }
+{
+    queries_can_be_asked();
+    let query = script.check.queries.at(q as usize);
+    first_failing(alloc, script, query, step, last, before, now)
+}

@@ -1,5 +1,0 @@
-use Rattle.moxi_shown_scripts.proofs.NamesLawsScript.{script_spellable}
-use Rattle.moxi_shown_scripts.proofs.name_laws.printable_forms_give_spellable_names.Goals as goal
-
-pub returns : goal.returns
-returns c = script_spellable c.read_names_are_spellable.ensures c.scopes_stay_spellable.ensures.enumeration c.scopes_stay_spellable.ensures.sort c.scopes_stay_spellable.ensures.function

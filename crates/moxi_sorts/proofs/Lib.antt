@@ -1,5 +1,0 @@
-pub mod FormLaws
-pub mod FindingLaws
-pub mod StackLaws
-pub mod TypingLaws
-pub mod ReadSorts

@@ -1,3 +1,0 @@
--- Laws that crates above cite.
-pub mod Least
-pub mod AllLaws

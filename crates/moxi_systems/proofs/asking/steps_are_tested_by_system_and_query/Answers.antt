@@ -1,8 +1,0 @@
-use Rattle.moxi_systems.proofs.AskingLaws.{first_part, two_parts}
-use Rattle.moxi_systems.proofs.asking.steps_are_tested_by_system_and_query.Goals as goal
-
-pub returns-clause-tests : goal.returns-clause-tests
-returns-clause-tests c = two_parts
-
-pub returns-clause-first : goal.returns-clause-first
-returns-clause-first c = first_part

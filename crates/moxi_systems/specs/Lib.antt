@@ -1,5 +1,0 @@
-pub mod Behaviour
-pub mod Meeting
-pub mod Whole
-pub mod Asking
-pub mod laws

@@ -1,8 +1,0 @@
-pub mod Folding
-pub mod Choices
-pub mod Widths
-pub mod ChainWidths
-pub mod Operating
-pub mod TermWidths
-pub mod Stepping
-pub mod Plain

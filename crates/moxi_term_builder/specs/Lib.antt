@@ -1,3 +1,0 @@
-pub mod Putting
-pub mod Standing
-pub mod Terms

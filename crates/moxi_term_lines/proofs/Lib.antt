@@ -1,7 +1,0 @@
-pub mod Growing
-pub mod Steps
-pub mod Chains
-pub mod Words
-pub mod CodeLaws
-pub mod Operators
-pub mod Terms

@@ -1,5 +1,0 @@
-use Rattle.moxi_term_lines.proofs.CodeLaws.{goes_back}
-use Rattle.moxi_term_lines.proofs.laws.words_come_back.Goals as goal
-
-pub returns : goal.returns
-returns c = goes_back

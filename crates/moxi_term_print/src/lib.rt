@@ -1,0 +1,21 @@
+//! Prints MoXI terms, and says which printed terms are read again.
+#![tactic(auto)]
+
+mod declarations;
+mod laws;
+mod named;
+mod operators;
+mod reading_laws;
+mod sorts;
+mod terms;
+mod values;
+
+pub use declarations::{put_enumeration, put_function, put_named_sort, put_symbols};
+pub use laws::shown_is_read_back;
+pub use reading_laws::{
+    read_names_are_spellable, read_terms_are_read_again, read_terms_stand, scopes_grow,
+    scopes_stay_spellable, shown_sorts_are_read, shown_terms_are_read, sort_names_differ,
+    standing_terms_can_be_shown, terms_stand_on,
+};
+pub use sorts::{put_sort, put_variables};
+pub use terms::{push_variable_names, put_term, put_term_over};

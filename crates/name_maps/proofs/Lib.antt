@@ -1,0 +1,3 @@
+pub mod KeyLaws
+mod Places
+pub mod RowLemmas

@@ -1,0 +1,170 @@
+// Values of names in instances, found by a number made of an instance's number and a name's bytes.
+ghost use Rattle.std.specs.Prelude.{◌≡◌, ◌<◌, ◌+◌, ◌*◌, ◌%◌, ◌&&◌, ◌==◌, [], List, ℕ, Some, None, length, OnOk, IfOk, bytes_eq, if◌then◌else◌};
+ghost use Rattle.name_maps.specs.Rows.{number_on, is_row_of, last_named, rows_of, held_named, buckets_named};
+
+use std::alloc::Global;
+use text_core::{NoMemory, is_same};
+
+/// A name in the numbered instance, and its value.
+#[derive(Drop)]
+pub struct NamedValue<'a, V> {
+    pub instance: usize,
+    pub name: &'a [u8],
+    pub value: V,
+}
+
+/// Rows in the order in which they came. Most buckets have one row or two, which lie in the bucket itself.
+#[derive(Drop)]
+pub struct Bucket<'a, V> {
+    pub first: Option<NamedValue<'a, V>>,
+    pub second: Option<NamedValue<'a, V>>,
+    pub rest: Vec<NamedValue<'a, V>>,
+}
+
+/// Rows by their numbers.
+pub type Buckets<'a, V> = Vec<Bucket<'a, V>>;
+
+// The multiplier is a prime greater than there are names, so that no number of buckets has all names in a few of them.
+#[inline(always)]
+fn next_number(h: usize, b: u8) -> usize
+    requires { h < 4294967296 }
+    ensures bound { result < 4294967296 }
+    ensures next { result ≡ (h * 16777619 + b) % 4294967296 }
+{
+    (h * 16777619 + b as usize) % 4294967296
+}
+
+#[inline(always)]
+fn number_of(i: usize, name: &[u8]) -> usize
+    ensures { result ≡ number_on (i % 4294967296) name.now }
+{
+    let mut h = i % 4294967296;
+    for b in name {
+        h = next_number(h, *b);
+    }
+    h
+}
+
+// The bucket in which a name of the numbered instance stands.
+#[inline(always)]
+fn bucket_of(i: usize, name: &[u8], count: usize) -> usize
+    requires { 0 < count }
+    ensures bound { result < count }
+    ensures number { result ≡ number_on (i % 4294967296) name.now % count }
+{
+    number_of(i, name) % count
+}
+
+#[inline(always)]
+fn is_row_of<'a, V>(row: &NamedValue<'a, V>, i: usize, name: &[u8]) -> bool
+    ensures { result ≡ is_row_of row.now i name.now }
+{
+    row.instance == i && is_same(row.name, name)
+}
+
+// The value that a name was given last.
+#[inline(never)]
+fn last_value<'a, V: Copy>(rows: &[NamedValue<'a, V>], i: usize, name: &[u8]) -> Option<V>
+    ensures { result ≡ last_named rows.now i name.now }
+{
+    let mut k = rows.len();
+    while k > 0 {
+        k -= 1;
+        let row = &rows[k];
+        if is_row_of(row, i, name) {
+            return Some(row.value);
+        }
+    }
+    None
+}
+
+/// The value that a name of the numbered instance was given last in a bucket.
+#[inline(always)]
+pub fn held_value<'a, V: Copy>(bucket: &Bucket<'a, V>, i: usize, name: &[u8]) -> Option<V>
+    ensures { result ≡ held_named bucket.now i name.now }
+{
+    if !bucket.rest.is_empty() {
+        if let Some(value) = last_value(bucket.rest.as_slice(), i, name) {
+            return Some(value);
+        }
+    }
+    if let Some(row) = &bucket.second {
+        if is_row_of(row, i, name) {
+            return Some(row.value);
+        }
+    }
+    if let Some(row) = &bucket.first {
+        if is_row_of(row, i, name) {
+            return Some(row.value);
+        }
+    }
+    None
+}
+
+fn empty_bucket<'a, V: Drop>(alloc: Global) -> Bucket<'a, V>
+    ensures { rows_of result.first (rows_of result.second result.rest.items) ≡ [] }
+{
+    Bucket {
+        first: None,
+        second: None,
+        rest: Vec::new(alloc),
+    }
+}
+
+fn add_to<'a, V: Drop>(bucket: &mut Bucket<'a, V>, row: NamedValue<'a, V>) -> Result<(), NoMemory>
+    ensures { OnOk result ((j : ℕ) (y : List ℕ) → held_named bucket.new j y ≡ (if is_row_of row.entry j y then Some row.entry.value else held_named bucket.old j y)) }
+{
+    if bucket.rest.is_empty() && bucket.second.is_none() {
+        if bucket.first.is_none() {
+            bucket.first = Some(row);
+        } else {
+            bucket.second = Some(row);
+        }
+    } else {
+        bucket.rest.push(row)?;
+    }
+    Ok(())
+}
+
+/// Gives the name in the numbered instance this value, whatever it had before.
+pub fn add_to_buckets<'a, V: Drop>(
+    buckets: &mut Buckets<'a, V>,
+    i: usize,
+    name: &'a [u8],
+    value: V,
+) -> Result<(), NoMemory>
+    requires { 0 < length buckets.old.items }
+    ensures { OnOk result ((j : ℕ) (y : List ℕ) → buckets_named buckets.new.items j y ≡ (if i == j && bytes_eq name.now y then Some value else buckets_named buckets.old.items j y)) }
+{
+    let k = bucket_of(i, name, buckets.len());
+    let row = NamedValue {
+        instance: i,
+        name,
+        value,
+    };
+    add_to(&mut buckets[k], row)?;
+    Ok(())
+}
+
+/// The value of the name in the numbered instance.
+#[inline(always)]
+pub fn value_in_buckets<'a, V: Copy>(buckets: &[Bucket<'a, V>], i: usize, name: &[u8]) -> Option<V>
+    ensures { result ≡ buckets_named buckets.now i name.now }
+{
+    if buckets.is_empty() {
+        return None;
+    }
+    let k = bucket_of(i, name, buckets.len());
+    held_value(&buckets[k], i, name)
+}
+
+/// So many empty buckets.
+pub fn empty_buckets<'a, V: Drop>(alloc: Global, count: usize) -> Result<Buckets<'a, V>, NoMemory>
+    ensures { IfOk result (λ bs. (j : ℕ) (y : List ℕ) → buckets_named bs.items j y ≡ None) }
+{
+    let mut buckets = Vec::with_capacity(alloc, count)?;
+    for _ in 0..count {
+        buckets.push(empty_bucket(alloc))?;
+    }
+    Ok(buckets)
+}

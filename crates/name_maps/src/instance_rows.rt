@@ -1,0 +1,66 @@
+// Values of names in instances, found with no scan.
+ghost use Rattle.std.specs.Prelude.{◌≡◌, List, ℕ, Some, None, is_none, IfOk, OnOk, bytes_eq, ◌&&◌, ◌==◌, if◌then◌else◌};
+ghost use Rattle.name_maps.specs.Rows.{row_in};
+
+use crate::buckets::{Buckets, add_to_buckets, empty_buckets, value_in_buckets};
+use std::alloc::Global;
+use text_core::NoMemory;
+
+/// Values by the number of an instance and the bytes of a name there, in as many buckets as names are expected.
+#[derive(Drop)]
+pub struct InstanceRows<'a, V> {
+    pub buckets: Buckets<'a, V>,
+}
+
+/// No names in any instance. They are found with no scan as long as not many more come than are expected.
+#[tactic(auto, unfolding(crate::specs::Rows::row_in))]
+pub fn no_rows_in<'a, V: Drop>(
+    alloc: Global,
+    expected: usize,
+) -> Result<InstanceRows<'a, V>, NoMemory>
+    ensures { IfOk result (λ m. (i : ℕ) (x : List ℕ) → row_in m i x ≡ None) }
+{
+    let buckets = empty_buckets(alloc, expected.max(1))?;
+    Ok(InstanceRows { buckets })
+}
+
+/// Gives the name in the numbered instance this value, whatever it had before.
+#[tactic(auto, unfolding(crate::specs::Rows::row_in))]
+pub fn add_row_in<'a, V: Drop>(
+    map: &mut InstanceRows<'a, V>,
+    i: usize,
+    x: &'a [u8],
+    value: V,
+) -> Result<(), NoMemory>
+    ensures { OnOk result ((j : ℕ) (y : List ℕ) → row_in map.new j y ≡ (if i == j && bytes_eq x.now y then Some value else row_in map.old j y)) }
+{
+    // There is a bucket at least, since no rows have one.
+    if map.buckets.is_empty() {
+        return Err(NoMemory);
+    }
+    add_to_buckets(&mut map.buckets, i, x, value)?;
+    Ok(())
+}
+
+/// Gives the name in the numbered instance this number, unless it has one: the first number of a name counts.
+pub fn add_first_in<'a>(
+    numbers: &mut InstanceRows<'a, usize>,
+    i: usize,
+    x: &'a [u8],
+    n: usize,
+) -> Result<(), NoMemory>
+    ensures { OnOk result ((j : ℕ) (y : List ℕ) → row_in numbers.new j y ≡ (if is_none (row_in numbers.old j y) && (i == j && bytes_eq x.now y) then Some n else row_in numbers.old j y)) }
+{
+    match row_value_in(numbers, i, x) {
+        Some(_) => Ok(()),
+        None => add_row_in(numbers, i, x, n),
+    }
+}
+
+/// The value of the name in the numbered instance.
+#[tactic(auto, unfolding(crate::specs::Rows::row_in))]
+pub fn row_value_in<'a, V: Copy>(map: &InstanceRows<'a, V>, i: usize, x: &[u8]) -> Option<V>
+    ensures { result ≡ row_in map.now i x.now }
+{
+    value_in_buckets(map.buckets.as_slice(), i, x)
+}

@@ -1,0 +1,125 @@
+// Names in the order in which they were declared, found with no scan.
+ghost use Rattle.std.specs.Prelude.{◌≡◌, true, is_none, ◌++◌, ◌∷◌, [], length, take, IfOk, OnErr, if◌then◌else◌};
+ghost use Rattle.name_maps.specs.Names.{are_fresh, place_of};
+
+use crate::key::{Key, Wanted};
+use indexmap::IndexSet;
+use std::alloc::Global;
+use std::marker::Model;
+use text_core::{Name, Names, NoMemory};
+
+/// Names, each once, in the order in which they were declared, seen as their list. They are found with no scan.
+#[derive(Drop)]
+pub struct NameSet {
+    names: IndexSet<Key>,
+}
+
+impl Model for NameSet {
+    ghost use Rattle.std.specs.Prelude.{List, ℕ, map};
+
+    ghost Value = { List (List ℕ) };
+
+    ghost view = { λ d. map (λ key. key.name) d.names.keys };
+}
+
+impl NameSet {
+    /// No names.
+    pub fn new(alloc: Global) -> NameSet
+        ensures { result ≡ [] }
+    {
+        NameSet {
+            names: IndexSet::new(alloc),
+        }
+    }
+
+    pub fn len(&self) -> usize
+        ensures { result ≡ length self.now }
+    {
+        self.names.len()
+    }
+
+    /// The place of this name.
+    pub fn place(&self, name: &[u8]) -> Option<usize>
+        ensures { result ≡ place_of self.now name.now }
+    {
+        // Most lookups in a set of no names need no hash.
+        if self.names.len() == 0 {
+            return None;
+        }
+        self.names.get_index_of(Wanted { bytes: name })
+    }
+
+    /// The names as a list.
+    #[tactic(auto, using(crate::proofs::KeyLaws::keys_behind, crate::proofs::KeyLaws::keys_end, crate::proofs::KeyLaws::joined_on))]
+    pub fn names(&self, alloc: Global) -> Result<Names, NoMemory>
+        ensures { IfOk result (λ names. names ≡ self.now) }
+    {
+        let keys = &self.names;
+        let mut names = Names::new(alloc);
+        for k in 0..keys.len() {
+            match keys.get_index(k) {
+                Some(key) => names.push(key.name.duplicate(alloc)?)?,
+                None => {}
+            }
+        }
+        Ok(names)
+    }
+
+    /// Declares a name, and says whether it is new. Nothing changes where it isn't, nor where memory is refused.
+    pub fn declare(&mut self, alloc: Global, name: &[u8]) -> Result<bool, NoMemory>
+        ensures fresh { IfOk result (λ fresh. fresh ≡ is_none (place_of self.old name.now)) }
+        ensures names { IfOk result (λ fresh. self.new ≡ (if fresh then self.old ++ name.now ∷ [] else self.old)) }
+        ensures err { OnErr result (self.new ≡ self.old) }
+    {
+        let name = Name::of(alloc, name)?;
+        self.insert(Key { name })
+    }
+
+    // Declares the name of a key, and says whether it is new.
+    fn insert(&mut self, key: Key) -> Result<bool, NoMemory>
+        ensures fresh { IfOk result (λ fresh. fresh ≡ is_none (place_of self.old key.name)) }
+        ensures names { IfOk result (λ fresh. self.new ≡ (if fresh then self.old ++ key.name ∷ [] else self.old)) }
+        ensures err { OnErr result (self.new ≡ self.old) }
+    {
+        match self.names.insert_full(key) {
+            Ok((_, fresh)) => Ok(fresh),
+            Err(_) => Err(NoMemory),
+        }
+    }
+
+    /// Keeps the first names.
+    pub fn keep(&mut self, count: usize)
+        ensures { self.new ≡ take count self.old }
+    {
+        self.names.truncate(count);
+    }
+
+    /// Declares all of these names, where each is new; else nothing changes, nor where memory is refused.
+    pub fn declare_all(&mut self, alloc: Global, names: &Names) -> Result<bool, NoMemory>
+        ensures fresh { IfOk result (λ fresh. fresh ≡ are_fresh self.old names.now) }
+        ensures names { IfOk result (λ fresh. self.new ≡ (if fresh then self.old ++ names.now else self.old)) }
+        ensures err { OnErr result (self.new ≡ self.old) }
+    {
+        let before = self.len();
+        let result = self.declare_each(alloc, names);
+        match result {
+            Ok(true) => {}
+            Ok(false) | Err(_) => self.keep(before),
+        }
+        result
+    }
+
+    // Declares these names up to the first that isn't new.
+    fn declare_each(&mut self, alloc: Global, names: &Names) -> Result<bool, NoMemory>
+        ensures fresh { IfOk result (λ fresh. fresh ≡ are_fresh self.old names.now) }
+        ensures all { IfOk result (λ fresh. fresh ≡ true → self.new ≡ self.old ++ names.now) }
+        ensures begun { take (length self.old) self.new ≡ self.old }
+    {
+        for i in 0..names.len() {
+            if !self.declare(alloc, names.at(i).bytes())? {
+                return Ok(false);
+            }
+        }
+        Ok(true)
+    }
+}

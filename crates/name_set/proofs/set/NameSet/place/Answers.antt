@@ -1,7 +1,0 @@
-use Rattle.std.proofs.Common.{◌∙◌, ap}
-use Rattle.name_set.specs.Names.{place_of}
-use Rattle.name_set.proofs.KeyLaws.{place_in}
-use Rattle.name_set.proofs.set.NameSet.place.Goals as goal
-
-pub returns : goal.returns
-returns c = c.get_index_of.ensures.index ∙ place_in c.args.name.now _ ∙ ap (λ names. place_of names c.args.name.now) c.self.view_is

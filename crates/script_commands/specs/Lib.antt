@@ -1,4 +1,0 @@
-pub mod Limits
-pub mod Scripts
-pub mod Judgement
-pub mod Translation

@@ -1,0 +1,125 @@
+-- Lists of which no two elements are the same.
+use Rattle.std.proofs.Common.{◌≡◌, ◌≢◌, ℕ, Bool, true, false, not, ◌||◌, ◌&&◌, List, [], ◌∷◌, ◌++◌, map, refl, sym, ap, ◌∙◌}
+use Rattle.std.specs.List.{AllByRecursion, list_any}
+use Rattle.std.specs.Str.{bytes_eq}
+use Rattle.std.proofs.lemmas.Slice.Eq.{bytes_eq-Decides}
+use Rattle.name_maps.specs.Names.{are_fresh}
+use Rattle.name_maps.specs.laws.Places.{placed}
+
+-- ---- what holds of all elements
+
+pub all_weaker : {X : Type 0} (P Q : X → Type 0) → ((x : X) → P x → Q x) → (xs : List X) → AllByRecursion P xs → AllByRecursion Q xs
+all_weaker P Q f [] h = tt
+all_weaker P Q f (x ∷ xs) h = (f x h.0, all_weaker P Q f xs h.1)
+
+pub all_made : {X : Type 0} (P : X → Type 0) → ((x : X) → P x) → (xs : List X) → AllByRecursion P xs
+all_made P f [] = tt
+all_made P f (x ∷ xs) = (f x, all_made P f xs)
+
+pub all_joined : {X : Type 0} (P : X → Type 0) (xs ys : List X) → AllByRecursion P xs → AllByRecursion P ys → AllByRecursion P (xs ++ ys)
+all_joined P [] ys h k = k
+all_joined P (x ∷ xs) ys h k = (h.0, all_joined P xs ys h.1 k)
+
+pub all_front : {X : Type 0} (P : X → Type 0) (xs ys : List X) → AllByRecursion P (xs ++ ys) → AllByRecursion P xs
+all_front P [] ys h = tt
+all_front P (x ∷ xs) ys h = (h.0, all_front P xs ys h.1)
+
+pub all_back : {X : Type 0} (P : X → Type 0) (xs ys : List X) → AllByRecursion P (xs ++ ys) → AllByRecursion P ys
+all_back P [] ys h = h
+all_back P (x ∷ xs) ys h = all_back P xs ys h.1
+
+pub all_mapped : {X Y : Type 0} (P : Y → Type 0) (f : X → Y) (xs : List X) → AllByRecursion (λ x. P (f x)) xs → AllByRecursion P (map f xs)
+all_mapped P f [] h = tt
+all_mapped P f (x ∷ xs) h = (h.0, all_mapped P f xs h.1)
+
+pub all_unmapped : {X Y : Type 0} (P : Y → Type 0) (f : X → Y) (xs : List X) → AllByRecursion P (map f xs) → AllByRecursion (λ x. P (f x)) xs
+all_unmapped P f [] h = tt
+all_unmapped P f (x ∷ xs) h = (h.0, all_unmapped P f xs h.1)
+
+-- ---- elements that differ
+
+abbrev pub Lacks : {X : Type 0} → List X → X → Type 0
+Lacks xs x = AllByRecursion (λ y. y ≢ x) xs
+
+abbrev pub AllDiffer : {X : Type 0} → List X → Type 0
+AllDiffer [] = Unit {0}
+AllDiffer (x ∷ xs) = Lacks xs x × AllDiffer xs
+
+pub differ_joined : {X : Type 0} (xs ys : List X) → AllDiffer xs → AllDiffer ys → AllByRecursion (λ x. Lacks ys x) xs → AllDiffer (xs ++ ys)
+differ_joined [] ys h k l = k
+differ_joined (x ∷ xs) ys h k l = (all_joined (λ y. y ≢ x) xs ys h.0 l.0, differ_joined xs ys h.1 k l.1)
+
+pub differ_front : {X : Type 0} (xs ys : List X) → AllDiffer (xs ++ ys) → AllDiffer xs
+differ_front [] ys h = tt
+differ_front (x ∷ xs) ys h = (all_front (λ y. y ≢ x) xs ys h.0, differ_front xs ys h.1)
+
+pub differ_back : {X : Type 0} (xs ys : List X) → AllDiffer (xs ++ ys) → AllDiffer ys
+differ_back [] ys h = h
+differ_back (x ∷ xs) ys h = differ_back xs ys h.1
+
+-- where what is made of elements tells them apart
+lacks_mapped : {X Y : Type 0} (P : X → Type 0) (f : X → Y) → ((x y : X) → P x → P y → f x ≡ f y → x ≡ y) → (x : X) (xs : List X) → P x → AllByRecursion P xs → Lacks xs x → Lacks (map f xs) (f x)
+lacks_mapped P f once x [] p h k = tt
+lacks_mapped P f once x (y ∷ ys) p h k = ((λ e. k.0 (once y x h.0 p e)), lacks_mapped P f once x ys p h.1 k.1)
+
+pub differ_mapped : {X Y : Type 0} (P : X → Type 0) (f : X → Y) → ((x y : X) → P x → P y → f x ≡ f y → x ≡ y) → (xs : List X) → AllByRecursion P xs → AllDiffer xs → AllDiffer (map f xs)
+differ_mapped P f once [] h k = tt
+differ_mapped P f once (x ∷ xs) h k = (lacks_mapped P f once x xs h.0 h.1 k.0, differ_mapped P f once xs h.1 k.1)
+
+-- ---- lists within others, in their order
+
+pub data Within {X : Type 0} : List X → List X → Type 0 where
+  none_left : Within [] []
+  kept : (x : X) (xs ys : List X) → Within xs ys → Within (x ∷ xs) (x ∷ ys)
+  passed : (y : X) (xs ys : List X) → Within xs ys → Within xs (y ∷ ys)
+
+pub within_itself : {X : Type 0} (xs : List X) → Within xs xs
+within_itself [] = none_left
+within_itself (x ∷ xs) = kept x xs xs (within_itself xs)
+
+pub none_within : {X : Type 0} (ys : List X) → Within [] ys
+none_within [] = none_left
+none_within (y ∷ ys) = passed y [] ys (none_within ys)
+
+pub within_joined : {X : Type 0} {xs ys us vs : List X} → Within xs ys → Within us vs → Within (xs ++ us) (ys ++ vs)
+within_joined none_left w = w
+within_joined {us = us} {vs = vs} (kept x xs ys v) w = kept x (xs ++ us) (ys ++ vs) (within_joined v w)
+within_joined {us = us} {vs = vs} (passed y xs ys v) w = passed y (xs ++ us) (ys ++ vs) (within_joined v w)
+
+pub all_within : {X : Type 0} (P : X → Type 0) {xs ys : List X} → Within xs ys → AllByRecursion P ys → AllByRecursion P xs
+all_within P none_left h = tt
+all_within P (kept x xs ys v) h = (h.0, all_within P v h.1)
+all_within P (passed y xs ys v) h = all_within P v h.1
+
+pub differ_within : {X : Type 0} {xs ys : List X} → Within xs ys → AllDiffer ys → AllDiffer xs
+differ_within none_left h = tt
+differ_within (kept x xs ys v) h = (all_within (λ y. y ≢ x) v h.0, differ_within v h.1)
+differ_within (passed y xs ys v) h = differ_within v h.1
+
+-- ---- by tests
+
+pub tells_apart : (x y : List ℕ) → x ≢ y → bytes_eq x y ≡ false
+tells_apart x y n = by (bytes_eq x y) refl
+  where
+    by : (b : Bool) → bytes_eq x y ≡ b → b ≡ false
+    by true e = absurd (n ((bytes_eq-Decides x y).0 e))
+    by false e = refl
+
+pub apart_told : (x y : List ℕ) → bytes_eq x y ≡ false → x ≢ y
+apart_told x y h e = let t = (bytes_eq-Decides x y).1 e in absurd (cc)
+
+lacks_any : (xs : List (List ℕ)) (x : List ℕ) → Lacks xs x → list_any (bytes_eq x) xs ≡ false
+lacks_any [] x h = refl
+lacks_any (y ∷ ys) x h = ap (λ b. b || list_any (bytes_eq x) ys) (tells_apart x y (λ e. h.0 (sym e))) ∙ lacks_any ys x h.1
+
+turned : {X : Type 0} (before xs : List X) (x : X) → AllByRecursion (λ y. Lacks before y) xs → Lacks xs x → AllByRecursion (λ y. Lacks (before ++ x ∷ []) y) xs
+turned before [] x h k = tt
+turned before (y ∷ ys) x h k = (all_joined (λ z. z ≢ y) before (x ∷ []) h.0 ((λ e. k.0 (sym e)), tt), turned before ys x h.1 k.1)
+
+pub fresh_behind : (before xs : List (List ℕ)) → AllByRecursion (λ x. Lacks before x) xs → AllDiffer xs → are_fresh before xs ≡ true
+fresh_behind before [] h k = refl
+fresh_behind before (x ∷ xs) h k =
+    ap (λ b. b && are_fresh (before ++ x ∷ []) xs) (placed before x ∙ ap not (lacks_any before x h.0)) ∙ fresh_behind (before ++ x ∷ []) xs (turned before xs x h.1 k.0) k.1
+
+pub all_fresh : (xs : List (List ℕ)) → AllDiffer xs → are_fresh [] xs ≡ true
+all_fresh xs k = fresh_behind [] xs (all_made (λ (x : List ℕ). Lacks [] x) (λ x. tt) xs) k

@@ -1,0 +1,4 @@
+pub mod WordLaws
+pub mod Names
+pub mod NameLaws
+pub mod WidthLaws

@@ -1,0 +1,14 @@
+//! Laws of accepted models: their names are words and differ, their word literals are words, and their integers have at most 64
+//! bits.
+#![tactic(auto)]
+
+mod name_laws;
+mod width_laws;
+mod word_laws;
+
+pub use name_laws::{
+    names_are_words, names_differ, names_stand_once, symbols_are_words, symbols_differ,
+    symbols_stand_once,
+};
+pub use width_laws::width_is_small;
+pub use word_laws::words_fit;

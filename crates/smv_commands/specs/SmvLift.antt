@@ -1,0 +1,122 @@
+-- To which trace a witness of an SMV model's BTOR2 text is lifted, and what it stands for (NuSMV 2.6 User Manual; BTOR2, CAV 2018).
+use Rattle.std.specs.Prelude.{◌≡◌, ◌⊎◌, ◌++◌, ◌-◌, ◌≤◌, ℕ, Bool, true, false, List, length, map, Option, Some}
+use Rattle.std.specs.List.{list_any}
+use Rattle.text_core.specs.Outside.{Files, file_at, grown}
+use Rattle.text_core.specs.declared.place.Refusal.{Refusal}
+use Rattle.text_core.specs.declared.verdict.Verdict.TheVariants.{Yes}
+use Rattle.smv_text.specs.declared.tree.VarKind.TheVariants.{Input}
+use Rattle.smv_text.specs.Tree.{PlainDomain, instance, PlainElement, vars, PlainSource}
+use Rattle.smv_meaning.specs.declared.value.Run.{Run}
+use Rattle.smv_meaning.specs.Values.{given}
+use Rattle.smv_meaning.specs.Instances.{instances_of}
+use Rattle.smv_meaning.specs.Phases.{IsAccepted, first_refusal}
+use Rattle.smv_items.specs.FlatItemView.{item_plain}
+use Rattle.smv_flatten.specs.FlatModel.{FlatModel}
+use Rattle.smv_trace_text.specs.Texts.{claim_back, claim_front, has_inputs, steps_text}
+use Rattle.smv_script_laws.specs.RunLaws.{BreaksAt, decoded_run}
+use Rattle.btor_tree.specs.declared.lines.Line.{Line}
+use Rattle.btor_tree.specs.Texts.{SpellsLines}
+use Rattle.btor_witness.specs.declared.witness.Witness.{Witness}
+use Rattle.btor_witness.specs.Judging.{judged_btor}
+use Rattle.btor_witness.specs.Texts.{SpellsWitness}
+use Rattle.moxi_terms.specs.declared.data.Datum.{Datum}
+use Rattle.moxi_lift.specs.Laws.{trace_of}
+use Rattle.moxi_lift.specs.Lifted.{lifted}
+use Rattle.witness_lift.specs.LineLaws.{model_lines, model_system}
+use Rattle.witness_lift.specs.Lifting.{lifted_run as run_lifted_to}
+use Rattle.command_core.specs.declared.answer.Answer.{Answer}
+use Rattle.command_core.specs.declared.answer.Answer.TheVariants.{Refused}
+use Rattle.command_core.specs.Reading.{GoesOn, file_within}
+use Rattle.smv_commands.specs.Limits.{most_smv_bytes}
+use Rattle.smv_commands.specs.Models.{IsAcceptedModel, IsRefusal, smv_too_long}
+use Rattle.smv_commands.specs.Translation.{Accepts, btor_text}
+use Rattle.btor_commands.specs.Lifting.{IsOfSecond, OfLines}
+
+-- the run for which steps of the model's script stand, all of them but for the inputs of the last
+abbrev pub run_for : PlainSource → List (List Datum) → Run
+run_for source steps = decoded_run source (trace_of steps) (length steps - 1)
+
+-- the run for which the steps stand to which a witness is lifted, a state for each frame
+abbrev pub lifted_run : PlainSource → Witness → Run
+lifted_run source w = run_for source (lifted (model_system source) w)
+
+-- ---- whether a model has inputs
+
+-- a variable, and no instance
+abbrev pub is_variable : PlainDomain → Bool
+is_variable (instance name actuals) = false
+is_variable d = true
+
+abbrev pub declares_inputs : PlainElement → Bool
+declares_inputs (vars Input variables) = list_any (λ v. is_variable v.domain) variables
+declares_inputs e = false
+
+-- an input is declared in some instance
+abbrev pub model_has_inputs : PlainSource → Bool
+model_has_inputs source = list_any (λ at. list_any declares_inputs at.module.elements) (instances_of source)
+
+-- ---- the trace
+
+-- the trace of a run that breaks the invariant of this number, as it is printed; with inputs where the model has some
+unfoldable pub run_text : Bool → ℕ → Run → List ℕ
+run_text inputs j run = claim_front j ++ (claim_back (length run.states) ++ steps_text inputs run.states run.labels)
+
+-- the trace of the run to which a witness is lifted
+unfoldable pub lifted_trace : PlainSource → Witness → List ℕ
+lifted_trace source w = run_text (model_has_inputs source) w.bad (lifted_run source w)
+
+-- what is answered to the witness in the second file, for the model that the bytes spell, or the bytes' refusal
+abbrev pub OfBytes : Files → List ℕ → List ℕ → Answer → Type 0
+OfBytes files second bytes answer =
+    ((source : PlainSource) × IsAcceptedModel bytes 0 source × OfLines files second (btor_text source) (lifted_trace source) answer) ⊎ IsRefusal bytes 0 answer
+
+-- what is answered to the witness in the second file, for the model in the first
+abbrev pub IsSmvLift : Files → List ℕ → List ℕ → Answer → Type 0
+IsSmvLift files model second answer = GoesOn (file_within files model most_smv_bytes smv_too_long) (OfBytes files second) answer
+
+-- ---- what a step answers where the files may not be told
+
+-- the text of a flat form's run for which a witness stands
+abbrev pub trace_in : FlatModel → Witness → List ℕ
+trace_in f w = run_text (has_inputs (map item_plain f.items)) w.bad (run_lifted_to f w)
+
+-- this is answered to the second file for the model, or the model's refusal
+abbrev pub IsOfModel : Option Files → Type 0 → List ℕ → PlainSource → Answer → Type 0
+IsOfModel files rose second source answer =
+    (IsAccepted source 0 × IsOfSecond files rose second (model_lines source) (lifted_trace source) answer) ⊎ ((refusal : Refusal) × (first_refusal source 0 ≡ Some refusal) × (answer ≡ Refused refusal))
+
+-- this is answered to the second file for the model that the bytes spell, or the bytes' refusal
+abbrev pub IsOfBytes : Option Files → Type 0 → List ℕ → List ℕ → Answer → Type 0
+IsOfBytes files rose second bytes answer =
+    ((source : PlainSource) × IsAcceptedModel bytes 0 source × IsOfSecond files rose second (model_lines source) (lifted_trace source) answer) ⊎ IsRefusal bytes 0 answer
+
+-- ---- what a trace stands for
+
+-- the text is the trace of a run of the model with a state for each frame, whose last state breaks the invariant of the bad line
+pub record LiftsBack (source : PlainSource) (w : Witness) (text : List ℕ) : Type 0 where
+  pub run : Run
+  pub written : text ≡ run_text (model_has_inputs source) w.bad run
+  pub each_frame : length run.states ≡ length w.frames
+  pub breaks : BreaksAt source w.bad (length w.frames - 1) (map given run.states) (map given run.labels)
+
+-- what a witness of an accepted model's text is lifted to, where the judge says Yes of it
+abbrev pub RunsAreLifted : Type 0
+RunsAreLifted = (bytes : List ℕ) (source : PlainSource) → Accepts bytes source → (lines : List Line) → SpellsLines (btor_text source) lines → (text : List ℕ) (w : Witness) → SpellsWitness lines text w → judged_btor lines w Yes
+    → LiftsBack source w (lifted_trace source w)
+
+-- the text that was written is the trace to which the witness in the second file is lifted, for the model in the first
+pub record IsLiftedTrace (files : Files) (model second : List ℕ) (before now : Option (List ℕ)) : Type 0 where
+  pub bytes : List ℕ
+  pub there : file_at files model ≡ Some bytes
+  pub source : PlainSource
+  pub accepted : Accepts bytes source
+  pub lines : List Line
+  pub spelled : SpellsLines (btor_text source) lines
+  pub text : List ℕ
+  pub second_there : file_at files second ≡ Some text
+  pub witness : Witness
+  pub states : SpellsWitness lines text witness
+  pub judged : judged_btor lines witness Yes
+  pub trace : List ℕ
+  pub written : now ≡ grown before trace
+  pub lifts : LiftsBack source witness trace

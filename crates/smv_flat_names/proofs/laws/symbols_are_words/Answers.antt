@@ -1,5 +1,0 @@
-use Rattle.smv_flat_names.proofs.ItemNames.{symbols_are_words_law}
-use Rattle.smv_flat_names.proofs.laws.symbols_are_words.Goals as goal
-
-pub returns : goal.returns
-returns c = symbols_are_words_law

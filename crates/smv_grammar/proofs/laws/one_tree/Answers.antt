@@ -1,5 +1,0 @@
-use Rattle.smv_grammar.proofs.Expressions as expressions
-use Rattle.smv_grammar.proofs.laws.one_tree.Goals as goal
-
-pub returns : goal.returns
-returns c = expressions.one_tree

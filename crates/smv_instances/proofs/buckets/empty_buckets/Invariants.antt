@@ -1,6 +1,0 @@
-use Rattle.std.proofs.Common.{◌≡◌, ℕ, List, None, slice_get}
-use Rattle.smv_instances.specs.Rows.{bucket_named}
-use Rattle.smv_instances.proofs.buckets.empty_buckets.Given as goal
-
-abbrev pub invariant-loop : goal.invariant-loop
-invariant-loop g l = (k i : ℕ) (x : List ℕ) → bucket_named (slice_get l.buckets.items k) i x ≡ None

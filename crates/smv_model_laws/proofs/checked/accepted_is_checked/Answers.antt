@@ -1,5 +1,0 @@
-use Rattle.smv_model_laws.proofs.SafeExpressions.{accepted_is_checked_law}
-use Rattle.smv_model_laws.proofs.checked.accepted_is_checked.Goals as goal
-
-pub returns : goal.returns
-returns c = accepted_is_checked_law

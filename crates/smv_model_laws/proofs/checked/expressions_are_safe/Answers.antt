@@ -1,5 +1,0 @@
-use Rattle.smv_model_laws.proofs.SafeExpressions.{expressions_are_safe_law}
-use Rattle.smv_model_laws.proofs.checked.expressions_are_safe.Goals as goal
-
-pub returns : goal.returns
-returns c = expressions_are_safe_law

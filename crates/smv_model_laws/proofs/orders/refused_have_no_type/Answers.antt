@@ -1,5 +1,0 @@
-use Rattle.smv_model_laws.proofs.Passing.{refused_have_no_type_law}
-use Rattle.smv_model_laws.proofs.orders.refused_have_no_type.Goals as goal
-
-pub returns : goal.returns
-returns c = refused_have_no_type_law

@@ -1,5 +1,0 @@
-use Rattle.smv_model_laws.proofs.Ranked.{acyclic_is_ranked_law}
-use Rattle.smv_model_laws.proofs.settled.acyclic_is_ranked.Goals as goal
-
-pub returns : goal.returns
-returns c = acyclic_is_ranked_law

@@ -1,5 +1,0 @@
-use Rattle.smv_model_laws.proofs.Settling.{types_settle_law}
-use Rattle.smv_model_laws.proofs.settled.types_settle.Goals as goal
-
-pub returns : goal.returns
-returns c = types_settle_law

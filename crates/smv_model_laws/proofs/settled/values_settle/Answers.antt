@@ -1,5 +1,0 @@
-use Rattle.smv_model_laws.proofs.Settling.{values_settle_law}
-use Rattle.smv_model_laws.proofs.settled.values_settle.Goals as goal
-
-pub returns : goal.returns
-returns c = values_settle_law

@@ -1,5 +1,0 @@
-use Rattle.smv_model_laws.proofs.ValueLaws.{declared_lie_law}
-use Rattle.smv_model_laws.proofs.values.declared_lie.Goals as goal
-
-pub returns : goal.returns
-returns c = declared_lie_law

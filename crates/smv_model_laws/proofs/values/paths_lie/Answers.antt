@@ -1,5 +1,0 @@
-use Rattle.smv_model_laws.proofs.ValueLaws.{paths_lie_law}
-use Rattle.smv_model_laws.proofs.values.paths_lie.Goals as goal
-
-pub returns : goal.returns
-returns c = paths_lie_law

@@ -1,5 +1,0 @@
-use Rattle.smv_model_laws.proofs.ValueLaws.{states_give_law}
-use Rattle.smv_model_laws.proofs.values.states_give.Goals as goal
-
-pub returns : goal.returns
-returns c = states_give_law

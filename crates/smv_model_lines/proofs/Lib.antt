@@ -1,3 +1,0 @@
-pub mod Symbols
-pub mod Models
-pub mod Frames

@@ -1,5 +1,0 @@
-use Rattle.smv_script_bounds.proofs.Lows.{heights_are_low}
-use Rattle.smv_script_bounds.proofs.laws.heights_are_low.Goals as goal
-
-pub returns : goal.returns
-returns c = heights_are_low

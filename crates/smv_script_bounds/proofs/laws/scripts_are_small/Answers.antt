@@ -1,5 +1,0 @@
-use Rattle.smv_script_bounds.proofs.Limits.{scripts_are_small}
-use Rattle.smv_script_bounds.proofs.laws.scripts_are_small.Goals as goal
-
-pub returns : goal.returns
-returns c = scripts_are_small

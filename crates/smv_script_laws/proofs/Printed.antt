@@ -1,0 +1,179 @@
+-- How many brackets of the printed script stand open at most.
+use Rattle.std.proofs.Common.{◌≡◌, ℕ, ◌+◌, ◌≤◌, max, List, [], ◌∷◌, ◌++◌, map, refl, arith}
+use Rattle.std.specs.Prelude.{codes}
+use Rattle.smv_text.specs.declared.tree.When.TheVariants.{Always, First, Following}
+use Rattle.smv_meaning.specs.Instances.{instances_of}
+use Rattle.smv_flat.specs.FlatForms.{PlainFlat, flat_of}
+use Rattle.moxi_terms.specs.declared.data.Sort.{Sort}
+use Rattle.moxi_terms.specs.declared.data.Sort.TheVariants as sort
+use Rattle.moxi_terms.specs.declared.data.Datum.{Datum}
+use Rattle.moxi_terms.specs.declared.data.Datum.TheVariants as datum
+use Rattle.moxi_terms.specs.declared.data.TermOp.{TermOp}
+use Rattle.moxi_terms.specs.declared.data.TermOp.TheVariants as op
+use Rattle.moxi_terms.specs.declared.term.Variable.{Variable}
+use Rattle.moxi_terms.specs.Names.{function_names}
+use Rattle.moxi_terms.specs.Tree.{Tree, constant, variable, bound, apply, binding, call, Trees, no_trees, tree}
+use Rattle.moxi_terms.specs.View.{ScopeState}
+use Rattle.moxi_term_print.specs.Shown.{Showns, no_showns, shown, joined, shown_depth, shown_depths}
+use Rattle.moxi_term_print.specs.Terms.{name_at, shown_sort, shown_operator, shown_call, shown_term, shown_terms, shown_bindings, shown_variables, variable_names}
+use Rattle.moxi_term_print.specs.Declarations.{shown_symbols}
+use Rattle.moxi_scripts.specs.declared.script.Query.{Query}
+use Rattle.moxi_scripts.specs.Script.{PlainFormula, variables_in}
+use Rattle.moxi_script_print.specs.Printing.{attribute, query_names, shown_lists, shown_formulas, shown_labels, shown_queries, shown_conditions, shown_system, check_variables, shown_check, shown_enumerations, system_names, formula_names}
+use Rattle.smv_script.specs.Script.{coding_of, symbol_sort, system_of, check_of, script_of}
+use Rattle.smv_script_laws.specs.BoundLaws.{BracketsAreFew}
+use Rattle.smv_script_laws.proofs.Measures.{open_brackets, all_brackets}
+use Rattle.smv_script_laws.proofs.Lows.{FormsFit, FormulasLow, formula_low, all_reachables_low, source_forms_fit}
+
+joined_depths : (xs ys : Showns) → shown_depths (joined xs ys) ≡ max (shown_depths xs) (shown_depths ys)
+joined_depths no_showns ys = omega arith
+joined_depths (shown x xs) ys = let i = joined_depths xs ys in omega (arith, i)
+
+-- ---- terms
+
+value_depth : (s : ScopeState) (d : Datum) → shown_depth (shown_term s [] [] (constant d)) ≡ 0
+value_depth s (datum.Truth b) = refl
+value_depth s (datum.Bits w) = refl
+value_depth s (datum.Constant n i) = refl
+
+operator_depth : (o : TermOp) → shown_depth (shown_operator o) ≤ 1
+operator_depth (op.Extract high low) = omega arith
+operator_depth (op.ZeroExtend n) = omega arith
+operator_depth (op.SignExtend n) = omega arith
+operator_depth op.Not = omega arith
+operator_depth op.And = omega arith
+operator_depth op.Or = omega arith
+operator_depth op.Xor = omega arith
+operator_depth op.Implies = omega arith
+operator_depth op.Equal = omega arith
+operator_depth op.Distinct = omega arith
+operator_depth op.Ite = omega arith
+operator_depth op.Concat = omega arith
+operator_depth (op.BvUnary u) = omega arith
+operator_depth (op.BvBinary b) = omega arith
+
+call_depth : (name : List ℕ) (xs : Showns) → shown_depth (shown_call name xs) ≤ 1 + shown_depths xs
+call_depth name no_showns = omega arith
+call_depth name (shown x xs) = omega arith
+
+mutual
+  term_depth : (s : ScopeState) (vars bounds : List (List ℕ)) (t : Tree) → shown_depth (shown_term s vars bounds t) ≤ open_brackets t
+  term_depth s vars bounds (constant d) = let a = value_depth s d in omega (arith, a)
+  term_depth s vars bounds (variable v primed) = omega arith
+  term_depth s vars bounds (bound i) = omega arith
+  term_depth s vars bounds (apply o ts) = let a = operator_depth o in let r = terms_depth s vars bounds ts in omega (arith, a, r)
+  term_depth s vars bounds (binding names ts t) =
+      let a = bindings_depth s vars bounds names ts in
+      let r = term_depth s vars (bounds ++ names) t in
+      omega (arith, a, r)
+  term_depth s vars bounds (call n ts) =
+      let a = call_depth (name_at (function_names s) n) (shown_terms s vars bounds ts) in
+      let r = terms_depth s vars bounds ts in
+      omega (arith, a, r)
+
+  terms_depth : (s : ScopeState) (vars bounds : List (List ℕ)) (ts : Trees) → shown_depths (shown_terms s vars bounds ts) ≤ all_brackets ts
+  terms_depth s vars bounds no_trees = omega arith
+  terms_depth s vars bounds (tree t ts) = let a = term_depth s vars bounds t in let r = terms_depth s vars bounds ts in omega (arith, a, r)
+
+  bindings_depth : (s : ScopeState) (vars bounds names : List (List ℕ)) (ts : Trees) → shown_depths (shown_bindings s vars bounds names ts) ≤ 1 + all_brackets ts
+  bindings_depth s vars bounds names no_trees = omega arith
+  bindings_depth s vars bounds [] (tree t ts) = omega arith
+  bindings_depth s vars bounds (name ∷ names) (tree t ts) = let a = term_depth s vars bounds t in let r = bindings_depth s vars bounds names ts in omega (arith, a, r)
+
+-- ---- lists of variables and names
+
+sort_depth : (s : ScopeState) (x : Sort) → shown_depth (shown_sort s x) ≤ 1
+sort_depth s sort.Truth = omega arith
+sort_depth s (sort.Bits n) = omega arith
+sort_depth s (sort.Choice n) = omega arith
+
+variables_depth : (s : ScopeState) (vs : List Variable) → shown_depths (shown_variables s vs) ≤ 2
+variables_depth s [] = omega arith
+variables_depth s (v ∷ vs) = let a = sort_depth s v.sort in let r = variables_depth s vs in omega (arith, a, r)
+
+symbols_depth : (names : List (List ℕ)) → shown_depths (shown_symbols names) ≡ 0
+symbols_depth [] = refl
+symbols_depth (name ∷ names) = let r = symbols_depth names in omega (arith, r)
+
+lists_depth : (s : ScopeState) (x y z : List Variable) → shown_depths (shown_lists s x y z) ≤ 3
+unfolding shown_lists attribute
+lists_depth s x y z =
+    let a = variables_depth s x in
+    let b = variables_depth s y in
+    let c = variables_depth s z in
+    omega (arith, a, b, c)
+
+-- ---- systems
+
+formulas_depth : (s : ScopeState) (vars : List (List ℕ)) (x y z : Tree) → open_brackets x ≤ 1141 → open_brackets y ≤ 1141 → open_brackets z ≤ 1141 → shown_depths (shown_formulas s vars x y z) ≤ 1141
+unfolding shown_formulas attribute
+formulas_depth s vars x y z h i j =
+    let a = term_depth s vars [] x in
+    let b = term_depth s vars [] y in
+    let c = term_depth s vars [] z in
+    omega (arith, a, b, c, h, i, j)
+
+system_depth : (s : ScopeState) (names : List (List ℕ)) (flat : PlainFlat) (w : ℕ) → FormsFit (coding_of flat w) flat.forms → shown_depth (shown_system s names (system_of flat w)) ≤ 1142
+system_depth s names flat w h =
+    let x = system_of flat w in
+    let c = coding_of flat w in
+    let vars = variable_names (variables_in x) in
+    let l = lists_depth s x.inputs x.outputs x.locals in
+    let f = formulas_depth s vars x.init x.trans x.inv (formula_low flat c First h).brackets (formula_low flat c Following h).brackets (formula_low flat c Always h).brackets in
+    let a = joined_depths (shown_lists s x.inputs x.outputs x.locals) (joined (shown_formulas s vars x.init x.trans x.inv) no_showns) in
+    let b = joined_depths (shown_formulas s vars x.init x.trans x.inv) no_showns in
+    omega (arith, l, f, a, b)
+
+-- ---- the check
+
+labels_depth : (s : ScopeState) (vars : List (List ℕ)) (name : List ℕ) (fs : List PlainFormula) → FormulasLow fs → shown_depths (shown_labels s vars name fs) ≤ 1142
+unfolding attribute
+labels_depth s vars name [] h = omega arith
+labels_depth s vars name (f ∷ fs) h =
+    let a = term_depth s vars [] f.term in
+    let b = h.0.brackets in
+    let r = labels_depth s vars name fs h.1 in
+    omega (arith, a, b, r)
+
+queries_depth : (x y z : List (List ℕ)) (qs : List Query) → shown_depths (shown_queries x y z qs) ≤ 2
+unfolding attribute
+queries_depth x y z [] = omega arith
+queries_depth x y z (q ∷ qs) =
+    let a = symbols_depth (query_names x y z q) in
+    let r = queries_depth x y z qs in
+    omega (arith, a, r)
+
+conditions_depth : (s : ScopeState) (vars : List (List ℕ)) (flat : PlainFlat) (w : ℕ) → FormsFit (coding_of flat w) flat.forms → shown_depths (shown_conditions s vars (check_of flat w)) ≤ 1142
+unfolding shown_conditions
+conditions_depth s vars flat w h =
+    let c = check_of flat w in
+    let a = labels_depth s vars (codes "reachable") c.reachables (all_reachables_low flat (coding_of flat w) h) in
+    let q = queries_depth [] [] (formula_names c.reachables) c.queries in
+    let j = joined_depths (shown_labels s vars (codes "reachable") c.reachables) (shown_queries [] [] (formula_names c.reachables) c.queries) in
+    omega (arith, a, q, j)
+
+check_depth : (s : ScopeState) (names : List (List ℕ)) (flat : PlainFlat) (w : ℕ) → FormsFit (coding_of flat w) flat.forms → shown_depth (shown_check s names (check_of flat w)) ≤ 1143
+check_depth s names flat w h =
+    let c = check_of flat w in
+    let l = lists_depth s c.inputs c.outputs c.locals in
+    let a = conditions_depth s (variable_names (check_variables c)) flat w h in
+    let j = joined_depths (shown_lists s c.inputs c.outputs c.locals) (shown_conditions s (variable_names (check_variables c)) c) in
+    omega (arith, l, a, j)
+
+-- ---- the script
+
+enumerations_depth : (symbols : List (List ℕ)) → shown_depths (shown_enumerations (symbol_sort symbols)) ≤ 2
+enumerations_depth [] = omega arith
+enumerations_depth (x ∷ xs) = let a = symbols_depth (map (λ n. codes "c." ++ n) (x ∷ xs)) in omega (arith, a)
+
+pub brackets_are_few : BracketsAreFew
+brackets_are_few source end xs s l w =
+    let flat = flat_of (instances_of source) in
+    let p = script_of flat w in
+    let names = system_names p.systems in
+    let h = source_forms_fit source end xs s l (coding_of flat w) in
+    let x = system_depth p.scope names flat w h in
+    let c = check_depth p.scope names flat w h in
+    let e = enumerations_depth flat.symbols in
+    let j = joined_depths (shown_enumerations p.scope.enumerations) (shown (shown_system p.scope names (system_of flat w)) (shown (shown_check p.scope names p.check) no_showns)) in
+    omega (arith, x, c, e, j)

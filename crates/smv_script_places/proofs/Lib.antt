@@ -1,2 +1,0 @@
-pub mod Filtered
-pub mod Places

@@ -1,3 +1,0 @@
-pub mod LetNames
-pub mod Standing
-pub mod Laws

@@ -1,5 +1,0 @@
-use Rattle.smv_script_whole.proofs.SpellableNames.{names_are_spellable_law}
-use Rattle.smv_script_whole.proofs.laws.names_are_spellable.Goals as goal
-
-pub returns : goal.returns
-returns c = names_are_spellable_law

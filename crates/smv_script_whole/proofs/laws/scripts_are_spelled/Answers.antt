@@ -1,5 +1,0 @@
-use Rattle.smv_script_whole.proofs.SpelledScripts.{spelled_from}
-use Rattle.smv_script_whole.proofs.laws.scripts_are_spelled.Goals as goal
-
-pub returns : goal.returns
-returns c = spelled_from c.whole_scripts_can_be_shown.ensures c.printed_scripts_are_spelled.ensures

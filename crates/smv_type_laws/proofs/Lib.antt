@@ -1,4 +1,0 @@
-pub mod Intervals
-pub mod OperatorLaws
-pub mod TypeLaws
-pub mod SafeLaws

@@ -1,5 +1,0 @@
-use Rattle.smv_type_laws.proofs.SafeLaws.{typed_is_safe_law}
-use Rattle.smv_type_laws.proofs.laws.typed_is_safe.Goals as goal
-
-pub returns : goal.returns
-returns c = typed_is_safe_law

@@ -1,0 +1,4 @@
+pub mod OutcomeLemmas
+pub mod Stops
+pub mod TwoRoutes
+pub mod Summaries

@@ -1,0 +1,4 @@
+pub mod Summaries
+pub mod Words
+pub mod Outcome
+pub mod Routes

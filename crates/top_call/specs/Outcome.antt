@@ -1,0 +1,54 @@
+-- The answer that words and files define, and when a call may give an answer.
+use Rattle.std.specs.Prelude.{◌≡◌, ◌≢◌, ℕ, true, false, List, [], Option, Some, None, IfSome}
+use Rattle.text_core.specs.Outside.{Files}
+use Rattle.text_core.specs.declared.place.Refusal.{Refusal}
+use Rattle.text_core.specs.declared.verdict.Clause.{Clause}
+use Rattle.command_core.specs.declared.status.Status.{Status}
+use Rattle.command_core.specs.declared.status.Status.TheVariants as status
+use Rattle.command_core.specs.declared.answer.Answer.{Answer}
+use Rattle.command_core.specs.declared.answer.Answer.TheVariants.{Usage, Unread, Refused, SecondRefused, No}
+use Rattle.command_core.specs.Giving.{BeginsAmong, IsTold, MayGive}
+use Rattle.top_call.specs.declared.words.Command.{Command}
+use Rattle.top_call.specs.Words.{Answers, command_of, files_of, named_files}
+use Rattle.command_core.specs.Notes.{denied_line, no_memory_line, refused_line, refused_words, unread_line, usage_line, write_fault_line}
+use Rattle.command_core.specs.Sinks.{IsPart}
+
+-- the answer that words and files define
+abbrev pub outcome_of : List (List ℕ) → Files → Answer → Type 0
+outcome_of words files answer = Answers (command_of words) files answer
+
+-- the files are told, and the defined answer is that a file isn't there: the model's, or where the model is accepted the second
+abbrev pub IsAbsent : Option Files → Option Command → Type 0
+IsAbsent files command = IsTold files (λ fs. (name : List ℕ) × Answers command fs (Unread name))
+
+-- When an answer may be given to words. Where they are no command, that is said, whatever the shelf tells. The answer to a
+-- command is the defined one, where the files are told. That a file of it was not read may also be said where the count rose.
+abbrev pub MayAnswer : Option Files → Option Command → Type 0 → Answer → Type 0
+MayAnswer files None rose answer = answer ≡ Usage
+MayAnswer files (Some command) rose answer = MayGive files (files_of command) (λ fs given. Answers (Some command) fs given) rose answer
+
+-- where the files are told, a file of the command was begun last, or else what was begun before
+abbrev pub BeginsFor : Option Files → Option (List ℕ) → Option (List ℕ) → Option Command → Type 0
+BeginsFor files before now command = BeginsAmong files before now (named_files command)
+
+-- The line that a run with this status notes. What it says of the model, the second file or the stated run is as defined, where
+-- the files are told.
+abbrev pub IsLineOf : Option Files → Option Command → Type 0 → Status → List ℕ → Type 0
+IsLineOf files command rose status.Done line = line ≡ []
+IsLineOf files command rose status.No line = (step : ℕ) × (clause : Clause) × IfSome files (λ fs. Answers command fs (No step clause)) × (line ≡ denied_line step clause)
+IsLineOf files command rose status.Refused line = (refusal : Refusal) × IfSome files (λ fs. Answers command fs (Refused refusal)) × (line ≡ refused_line (refused_words false) refusal)
+IsLineOf files command rose status.Usage line = (command ≡ None) × (line ≡ usage_line)
+IsLineOf files command rose status.ReadFault line = (name : List ℕ) × MayAnswer files command rose (Unread name) × (line ≡ unread_line name)
+IsLineOf files command rose status.WriteFault line = line ≡ write_fault_line
+IsLineOf files command rose status.NoMemory line = line ≡ no_memory_line
+IsLineOf files command rose status.SecondRefused line =
+    (refusal : Refusal) × IfSome files (λ fs. Answers command fs (SecondRefused refusal)) × (line ≡ refused_line (refused_words true) refusal)
+
+-- a front was noted of the line of a status that has one, but the one for a fault of a sink
+pub record IsCutLine (files : Option Files) (command : Option Command) (rose : Type 0) (before now : Option (List ℕ)) : Type 0 where
+  pub ending : Status
+  pub notes : ending ≢ status.Done
+  pub differs : ending ≢ status.WriteFault
+  pub line : List ℕ
+  pub stands : IsLineOf files command rose ending line
+  pub front : IsPart before now line

@@ -1,0 +1,194 @@
+// The top call: reads the words, does what they say, and writes.
+ghost use Rattle.std.specs.Prelude.{◌≡◌, ◌≢◌, ◌⊎◌, ◌<◌, ◌≤◌, length, map, string_bytes, None, Some, IfOk, IfSome, OnErr, List, ℕ};
+ghost use Rattle.text_core.specs.Outside.{file_at, grown, Rose};
+ghost use Rattle.text_core.specs.declared.place.Refusal.{Refusal};
+ghost use Rattle.text_core.specs.declared.verdict.Clause.{Clause};
+ghost use Rattle.smv_text.specs.Tree.{PlainSource};
+ghost use Rattle.command_core.specs.declared.answer.Answer.{Answer};
+ghost use Rattle.top_call.specs.declared.words.Command.TheVariants as Command;
+ghost use Rattle.command_core.specs.Answers.{line_of, status_of, text_of};
+ghost use Rattle.command_core.specs.Notes.{write_fault_line};
+ghost use Rattle.top_call.specs.Outcome.{BeginsFor, IsAbsent, IsCutLine, IsLineOf, MayAnswer, outcome_of};
+ghost use Rattle.command_core.specs.Reading.{SaysUnread};
+ghost use Rattle.command_core.specs.Sinks.{IsPart, Took};
+ghost use Rattle.smv_commands.specs.Translation.{Accepts, TranslatesTo, btor_text};
+ghost use Rattle.text_core.specs.declared.verdict.Verdict.TheVariants.{Yes};
+ghost use Rattle.btor_tree.specs.declared.lines.Line.{Line};
+ghost use Rattle.btor_tree.specs.Texts.{SpellsLines};
+ghost use Rattle.btor_witness.specs.declared.witness.Witness.{Witness};
+ghost use Rattle.btor_witness.specs.Judging.{judged_btor};
+ghost use Rattle.btor_witness.specs.Texts.{SpellsWitness};
+ghost use Rattle.smv_commands.specs.Scripts.{moxi_text};
+ghost use Rattle.moxi_commands.specs.Limits.{most_script_bytes};
+ghost use Rattle.smv_commands.specs.SmvLift.{LiftsBack};
+ghost use Rattle.generate.specs.Generating.{IsGenerated};
+ghost use Rattle.top_call.specs.Words.{BeginsNoSecond, IsInRange, Serves, command_of};
+
+use crate::routes::routes_meet;
+use crate::words::{Command, answer_command, read_command};
+use command_core::{Answer, Status, Stop, deliver, note};
+use generate::one_generated;
+use moxi_commands::{lines_stand, traces_are_lifted};
+use smv_commands::{runs_are_lifted, scripts_stand, translations_stand};
+use std::alloc::Global;
+use text_core::{NoMemory, Shelf, Sink};
+
+/// Does what the words say. `words` are the command words without the program's name.
+pub fn run<F: Shelf, K: Sink, N: Sink>(
+    alloc: Global,
+    words: &Vec<String>,
+    shelf: &mut F,
+    out: &mut K,
+    notes: &mut N,
+) -> Status
+    // For every accepted model that the file spells, where nothing fails: the text that was written spells one list of
+    // lines, and for each invariant j and each number k the model has a run of k transitions whose last state breaks the
+    // invariant exactly where the lines have frames 0 to k with every constraint true and bad line j true in frame k. Runs
+    // and what they break are those of the whole language.
+    ensures translates { IfSome (F.files shelf.old) (λ files. (model bytes : List ℕ) (source : PlainSource)
+        → command_of (map string_bytes words.now.items) ≡ Some (Command.SmvToBtor model) → file_at files model ≡ Some bytes → Accepts bytes source
+        → ¬ Rose (F.faults shelf.old) (F.faults shelf.new) → ¬ Rose (K.faults out.old) (K.faults out.new) → ¬ Rose (N.faults notes.old) (N.faults notes.new)
+        → result ≢ Status.NoMemory
+        → (result ≡ Status.Done) × ((text : List ℕ) × (K.taken out.new ≡ grown (K.taken out.old) text) × TranslatesTo source text)) }
+
+    // For every accepted model that the first file spells, where nothing fails: a witness in the second file for the lines of the
+    // model's text, of which the judge says Yes, is written back as the trace of a run of the model with a state for each frame,
+    // whose last state breaks the invariant of the witness's bad line.
+    ensures lifts { IfSome (F.files shelf.old) (λ files. (model second bytes text : List ℕ) (source : PlainSource) (lines : List Line) (witness : Witness)
+        → command_of (map string_bytes words.now.items) ≡ Some (Command.LiftSmv model second) → file_at files model ≡ Some bytes → Accepts bytes source
+        → SpellsLines (btor_text source) lines → file_at files second ≡ Some text → SpellsWitness lines text witness → judged_btor lines witness Yes
+        → ¬ Rose (F.faults shelf.old) (F.faults shelf.new) → ¬ Rose (K.faults out.old) (K.faults out.new) → ¬ Rose (N.faults notes.old) (N.faults notes.new)
+        → result ≢ Status.NoMemory
+        → (result ≡ Status.Done) × ((trace : List ℕ) × (K.taken out.new ≡ grown (K.taken out.old) trace) × LiftsBack source witness trace)) }
+
+    // For every accepted model, where nothing fails: the BTOR2 text of the script that is written for the model is the one that is
+    // written for the model itself, where the script isn't too long.
+    ensures routes { IfSome (F.files shelf.old) (λ files. (model bytes : List ℕ) (source : PlainSource)
+        → command_of (map string_bytes words.now.items) ≡ Some (Command.MoxiToBtor model) → Accepts bytes source → file_at files model ≡ Some (moxi_text source) → length (moxi_text source) ≤ most_script_bytes
+        → ¬ Rose (F.faults shelf.old) (F.faults shelf.new) → ¬ Rose (K.faults out.old) (K.faults out.new) → ¬ Rose (N.faults notes.old) (N.faults notes.new)
+        → result ≢ Status.NoMemory
+        → (result ≡ Status.Done) × (K.taken out.new ≡ grown (K.taken out.old) (btor_text source))) }
+
+    // For a number of cells, whatever the shelf tells: the answer is the one that is defined of the model and the witness that are
+    // made of so many cells.
+    ensures generated { (n : ℕ) → command_of (map string_bytes words.now.items) ≡ Some (Command.Generate n)
+        → (result ≡ Status.NoMemory) ⊎ ((result ≡ Status.WriteFault) ⊎ ((answer : Answer) × IsGenerated n answer × (result ≡ status_of answer)
+        × (K.taken out.new ≡ grown (K.taken out.old) (text_of answer)) × (N.taken notes.new ≡ grown (N.taken notes.old) (line_of answer)))) }
+
+    // What is written stands for the model, of every text that was written whole.
+    ensures served { result ≡ Status.Done → IfSome (F.files shelf.old) (λ files. Serves (command_of (map string_bytes words.now.items)) files (K.taken out.old) (K.taken out.new)) }
+
+    // The whole defined text was taken.
+    ensures done { result ≡ Status.Done → IfSome (F.files shelf.old) (λ files. (answer : Answer)
+        × outcome_of (map string_bytes words.now.items) files answer × (status_of answer ≡ Status.Done) × (K.taken out.new ≡ grown (K.taken out.old) (text_of answer))) }
+
+    // The judge denies the stated run as it is defined.
+    ensures no { result ≡ Status.No → IfSome (F.files shelf.old) (λ files. (step : ℕ) × (clause : Clause)
+        × outcome_of (map string_bytes words.now.items) files (Answer.No step clause)) }
+
+    // The model is refused as it is defined.
+    ensures refused { result ≡ Status.Refused → IfSome (F.files shelf.old) (λ files. (refusal : Refusal)
+        × outcome_of (map string_bytes words.now.items) files (Answer.Refused refusal)) }
+    ensures second_refused { result ≡ Status.SecondRefused → IfSome (F.files shelf.old) (λ files. (refusal : Refusal)
+        × outcome_of (map string_bytes words.now.items) files (Answer.SecondRefused refusal)) }
+
+    // The words are no command, whatever the shelf tells.
+    ensures usage { result ≡ Status.Usage → command_of (map string_bytes words.now.items) ≡ None }
+    ensures no_command { command_of (map string_bytes words.now.items) ≡ None → (result ≡ Status.Usage) ⊎ (result ≡ Status.WriteFault) ⊎ (result ≡ Status.NoMemory) }
+
+    // Each fault has its cause.
+    ensures read_fault { result ≡ Status.ReadFault → Rose (F.faults shelf.old) (F.faults shelf.new) ⊎ IsAbsent (F.files shelf.old) (command_of (map string_bytes words.now.items)) }
+    ensures write_fault { result ≡ Status.WriteFault → Rose (K.faults out.old) (K.faults out.new) ⊎ Rose (N.faults notes.old) (N.faults notes.new) }
+
+    // `notes` took the line of the status, and nothing where all is done.
+    ensures noted { result ≢ Status.WriteFault → (line : List ℕ)
+        × IsLineOf (F.files shelf.old) (command_of (map string_bytes words.now.items)) (Rose (F.faults shelf.old) (F.faults shelf.new)) result line
+        × (N.taken notes.new ≡ grown (N.taken notes.old) line) }
+    ensures silent { result ≡ Status.Done → N.taken notes.new ≡ N.taken notes.old }
+
+    // Either `out` failed, and `notes` took the line that says so, or failed too and took a front of it. Or `notes` failed, and
+    // took a front of the line of another status; then `out` is as it was.
+    ensures fault_noted { result ≡ Status.WriteFault
+        → (Rose (K.faults out.old) (K.faults out.new) × Took (N.taken notes.old) (N.taken notes.new) (N.faults notes.old) (N.faults notes.new) write_fault_line)
+        ⊎ (Rose (N.faults notes.old) (N.faults notes.new) × (K.taken out.new ≡ K.taken out.old)
+        × IsCutLine (F.files shelf.old) (command_of (map string_bytes words.now.items)) (Rose (F.faults shelf.old) (F.faults shelf.new)) (N.taken notes.old) (N.taken notes.new)) }
+
+    // `out` took nothing, or a front of the defined text.
+    ensures untouched { result ≢ Status.Done → result ≢ Status.WriteFault → K.taken out.new ≡ K.taken out.old }
+    ensures prefix { result ≡ Status.WriteFault → IfSome (F.files shelf.old) (λ files. (answer : Answer)
+        → outcome_of (map string_bytes words.now.items) files answer → IsPart (K.taken out.old) (K.taken out.new) (text_of answer)) }
+
+    // No fault is passed over.
+    ensures shelf_rose { F.faults shelf.old < F.faults shelf.new → (result ≡ Status.ReadFault) ⊎ (result ≡ Status.WriteFault) ⊎ (result ≡ Status.NoMemory) }
+    ensures absent { IsAbsent (F.files shelf.old) (command_of (map string_bytes words.now.items)) → (result ≡ Status.ReadFault) ⊎ (result ≡ Status.WriteFault) ⊎ (result ≡ Status.NoMemory) }
+    ensures out_rose { K.faults out.old < K.faults out.new → result ≡ Status.WriteFault }
+    ensures notes_rose { N.faults notes.old < N.faults notes.new → result ≡ Status.WriteFault }
+
+    // Where no count rose, the status, the text and the line are those of the defined answer, but for want of memory.
+    ensures complete { IfSome (F.files shelf.old) (λ files.
+        ¬ Rose (F.faults shelf.old) (F.faults shelf.new) → ¬ Rose (K.faults out.old) (K.faults out.new) → ¬ Rose (N.faults notes.old) (N.faults notes.new)
+        → (answer : Answer) → outcome_of (map string_bytes words.now.items) files answer
+        → ((result ≡ status_of answer) × (K.taken out.new ≡ grown (K.taken out.old) (text_of answer)) × (N.taken notes.new ≡ grown (N.taken notes.old) (line_of answer)))
+        ⊎ (result ≡ Status.NoMemory)) }
+
+    // Once `judge-btor` has begun its second file, memory is never wanting.
+    ensures memory { result ≡ Status.NoMemory → BeginsNoSecond (F.files shelf.old) (F.begun shelf.old) (F.begun shelf.new) (command_of (map string_bytes words.now.items)) }
+
+    // Only files that the words name are begun, and the shelf's files stay.
+    ensures begun { BeginsFor (F.files shelf.old) (F.begun shelf.old) (F.begun shelf.new) (command_of (map string_bytes words.now.items)) }
+    ensures files { F.files shelf.new ≡ F.files shelf.old }
+{
+    translations_stand();
+    scripts_stand();
+    lines_stand();
+    runs_are_lifted();
+    traces_are_lifted();
+    routes_meet();
+    one_generated();
+    match answer_words(alloc, words, shelf) {
+        Ok(answer) => deliver(&answer, out, notes),
+        Err(NoMemory) => note(notes, &[b"no memory\n"], Status::NoMemory),
+    }
+}
+
+// Reads the words and the files that they name.
+#[tactic(auto, using(crate::proofs::Stops::begins_nothing, crate::proofs::Summaries::in_range, crate::proofs::Summaries::same_count))]
+fn answer_words<F: Shelf>(
+    alloc: Global,
+    words: &Vec<String>,
+    shelf: &mut F,
+) -> Result<Answer, NoMemory>
+    ensures answer { IfOk result (MayAnswer (F.files shelf.old) (command_of (map string_bytes words.now.items)) (Rose (F.faults shelf.old) (F.faults shelf.new))) }
+    ensures generated { (n : ℕ) → command_of (map string_bytes words.now.items) ≡ Some (Command.Generate n) → IfOk result (IsGenerated n) }
+    ensures fault { F.faults shelf.old < F.faults shelf.new → IfOk result SaysUnread }
+    ensures begun { BeginsFor (F.files shelf.old) (F.begun shelf.old) (F.begun shelf.new) (command_of (map string_bytes words.now.items)) }
+    ensures memory { OnErr result (BeginsNoSecond (F.files shelf.old) (F.begun shelf.old) (F.begun shelf.new) (command_of (map string_bytes words.now.items))) }
+    ensures files { F.files shelf.new ≡ F.files shelf.old }
+{
+    match read_command(alloc, words)? {
+        Some(command) => answer_read(alloc, &command, shelf),
+        None => Ok(Answer::Usage),
+    }
+}
+
+// The answer to a command, or want of memory.
+#[tactic(auto, using(crate::proofs::Summaries::generated_stop))]
+fn answer_read<F: Shelf>(
+    alloc: Global,
+    command: &Command,
+    shelf: &mut F,
+) -> Result<Answer, NoMemory>
+    requires { IsInRange command.now }
+    ensures answer { IfOk result (MayAnswer (F.files shelf.old) (Some command.now) (Rose (F.faults shelf.old) (F.faults shelf.new))) }
+    ensures generated { (n : ℕ) → command.now ≡ Command.Generate n → IfOk result (IsGenerated n) }
+    ensures fault { F.faults shelf.old < F.faults shelf.new → IfOk result SaysUnread }
+    ensures begun { BeginsFor (F.files shelf.old) (F.begun shelf.old) (F.begun shelf.new) (Some command.now) }
+    ensures memory { OnErr result (BeginsNoSecond (F.files shelf.old) (F.begun shelf.old) (F.begun shelf.new) (Some command.now)) }
+    ensures files { F.files shelf.new ≡ F.files shelf.old }
+{
+    match answer_command(alloc, command, shelf) {
+        Ok(answer) => Ok(answer),
+        Err(Stop::Answered(answer)) => Ok(answer),
+        Err(Stop::NoMemory) => Err(NoMemory),
+    }
+}

@@ -1,0 +1,210 @@
+// The commands: how words are read as one, and what each does.
+ghost use Rattle.std.specs.Prelude.{◌≡◌, ◌<◌, ℕ, map, option_map, string_bytes, IfOk, IfErr, IsErrAnd, Some};
+ghost use Rattle.text_core.specs.Outside.{Rose};
+ghost use Rattle.top_call.specs.Outcome.{BeginsFor, MayAnswer};
+ghost use Rattle.command_core.specs.Reading.{OnNoMemory, StopsUnread, StopsWith};
+ghost use Rattle.generate.specs.Generating.{IsGenerated};
+ghost use Rattle.command_core.specs.declared.answer.Stop.TheVariants as Stop;
+ghost use Rattle.top_call.specs.declared.words.Command.TheVariants as Command;
+ghost use Rattle.top_call.specs.Words.{BeginsNoSecond, IsInRange, command_by, command_of, command_with, on_one, on_two, row, task_in};
+
+use btor_commands::judge_files;
+use command_core::{Answer, Stop, cell_count, read_words};
+use generate::generate;
+use moxi_commands::{judge_moxi_files, lift_moxi_files, moxi_to_btor};
+use smv_commands::{judge_smv_files, lift_smv_files, smv_to_btor, smv_to_moxi};
+use std::alloc::Global;
+use text_core::{Name, NoMemory, Shelf};
+
+/// What the command words ask for.
+#[derive(Drop)]
+pub enum Command {
+    /// The BTOR2 text of an SMV model.
+    SmvToBtor(Name),
+    /// The MoXI script of an SMV model.
+    SmvToMoxi(Name),
+    /// The BTOR2 text of a MoXI script.
+    MoxiToBtor(Name),
+    /// The verdict on a witness for a BTOR2 text: the text's file, and the witness's.
+    JudgeBtor(Name, Name),
+    /// The verdict on a trace of an SMV model and the invariant of a number: the model's file, the trace's, and the number.
+    JudgeSmv(Name, Name, u32),
+    /// The verdict on a response to a MoXI script: the script's file, and the response's.
+    JudgeMoxi(Name, Name),
+    /// The trace of an SMV model for which a witness of its BTOR2 text stands: the model's file, and the witness's.
+    LiftSmv(Name, Name),
+    /// The response to a MoXI script for which a witness of its BTOR2 text stands: the script's file, and the witness's.
+    LiftMoxi(Name, Name),
+    /// The summary of a model that is made of so many cells, with a witness that is made for it.
+    Generate(u32),
+}
+
+/// What a command does with the words behind it.
+#[derive(Clone, Copy)]
+pub enum Task {
+    SmvToBtor,
+    SmvToMoxi,
+    MoxiToBtor,
+    JudgeBtor,
+    JudgeSmv,
+    JudgeMoxi,
+    LiftSmv,
+    LiftMoxi,
+    Generate,
+}
+
+// The first words of the commands.
+const COMMANDS: [(&[u8], Task); 9] = [
+    (b"smv2btor", Task::SmvToBtor),
+    (b"smv2moxi", Task::SmvToMoxi),
+    (b"moxi2btor", Task::MoxiToBtor),
+    (b"judge-btor", Task::JudgeBtor),
+    (b"judge-smv", Task::JudgeSmv),
+    (b"judge-moxi", Task::JudgeMoxi),
+    (b"lift-smv", Task::LiftSmv),
+    (b"lift-moxi", Task::LiftMoxi),
+    (b"generate", Task::Generate),
+];
+
+/// Reads the command words, without the program's name.
+pub fn read_command(alloc: Global, words: &Vec<String>) -> Result<Option<Command>, NoMemory>
+    ensures { IfOk result (λ command. command ≡ command_of (map string_bytes words.now.items)) }
+{
+    match read_words(alloc, words.as_slice())? {
+        Some(given) => command_by(alloc, given.positionals.as_slice(), given.property),
+        None => Ok(None),
+    }
+}
+
+// The command that words are which stand by themselves, with an invariant's number where one is given.
+fn command_by(
+    alloc: Global,
+    words: &[&str],
+    property: Option<u32>,
+) -> Result<Option<Command>, NoMemory>
+    ensures { IfOk result (λ command. command ≡ command_by (map (λ word. word.now) words.now) property) }
+{
+    let Some((word, places)) = words.split_first() else {
+        return Ok(None);
+    };
+    match task_in(&COMMANDS, word.as_bytes()) {
+        Some(task) => command_with(alloc, task, places, property),
+        None => Ok(None),
+    }
+}
+
+/// Does what the command says.
+#[tactic(auto, using(command_core::specs::laws::Stops::held, crate::proofs::Summaries::generated_ok))]
+pub fn answer_command<F: Shelf>(
+    alloc: Global,
+    command: &Command,
+    shelf: &mut F,
+) -> Result<Answer, Stop>
+    requires range { IsInRange command.now }
+    ensures answer { IfOk result (MayAnswer (F.files shelf.old) (Some command.now) (Rose (F.faults shelf.old) (F.faults shelf.new))) }
+    ensures stop { IfErr result (StopsWith (MayAnswer (F.files shelf.old) (Some command.now) (Rose (F.faults shelf.old) (F.faults shelf.new)))) }
+    // What is made of nothing is defined, whatever the shelf tells.
+    ensures generated { (n : ℕ) → command.now ≡ Command.Generate n → IfOk result (IsGenerated n) }
+    ensures ungenerated { (n : ℕ) → command.now ≡ Command.Generate n → IfErr result (λ stop. stop ≡ Stop.NoMemory) }
+    ensures fault { F.faults shelf.old < F.faults shelf.new → IsErrAnd result (λ stop. StopsUnread stop) }
+    ensures begun { BeginsFor (F.files shelf.old) (F.begun shelf.old) (F.begun shelf.new) (Some command.now) }
+    ensures memory { IfErr result (OnNoMemory (BeginsNoSecond (F.files shelf.old) (F.begun shelf.old) (F.begun shelf.new) (Some command.now))) }
+    ensures files { F.files shelf.new ≡ F.files shelf.old }
+{
+    match command {
+        Command::SmvToBtor(model) => smv_to_btor(alloc, model, shelf),
+        Command::SmvToMoxi(model) => smv_to_moxi(alloc, model, shelf),
+        Command::MoxiToBtor(model) => moxi_to_btor(alloc, model, shelf),
+        Command::JudgeBtor(model, second) => judge_files(alloc, model, second, shelf),
+        Command::JudgeSmv(model, second, j) => judge_smv_files(alloc, model, second, *j, shelf),
+        Command::JudgeMoxi(model, second) => judge_moxi_files(alloc, model, second, shelf),
+        Command::LiftSmv(model, second) => lift_smv_files(alloc, model, second, shelf),
+        Command::LiftMoxi(model, second) => lift_moxi_files(alloc, model, second, shelf),
+        Command::Generate(n) => generate(alloc, *n),
+    }
+}
+
+// The task of the first row with this word.
+fn task_in(table: &[(&[u8], Task)], word: &[u8]) -> Option<Task>
+    ensures { result ≡ task_in (map row table.now) word.now }
+{
+    for (written, task) in table {
+        if word == *written {
+            return Some(*task);
+        }
+    }
+    None
+}
+
+// The task with what it is done on, where the words are as many as it takes.
+fn command_with(
+    alloc: Global,
+    task: Task,
+    places: &[&str],
+    property: Option<u32>,
+) -> Result<Option<Command>, NoMemory>
+    ensures { IfOk result (λ command. command ≡ command_with task (map (λ place. place.now) places.now) property) }
+{
+    match (places, property) {
+        ([word], None) => command_on_one(alloc, task, word),
+        ([model, second], _) => command_on_two(alloc, task, model, second, property),
+        _ => Ok(None),
+    }
+}
+
+// The task on one file, or on a number of cells.
+fn command_on_one(alloc: Global, task: Task, word: &str) -> Result<Option<Command>, NoMemory>
+    ensures { IfOk result (λ command. command ≡ on_one task word.now) }
+{
+    match task {
+        Task::SmvToBtor => Ok(Some(Command::SmvToBtor(name_of(alloc, word)?))),
+        Task::SmvToMoxi => Ok(Some(Command::SmvToMoxi(name_of(alloc, word)?))),
+        Task::MoxiToBtor => Ok(Some(Command::MoxiToBtor(name_of(alloc, word)?))),
+        Task::Generate => Ok(made_of(cell_count(word.as_bytes()))),
+        _ => Ok(None),
+    }
+}
+
+fn made_of(count: Option<u32>) -> Option<Command>
+    ensures { result ≡ option_map Command.Generate count }
+{
+    match count {
+        Some(n) => Some(Command::Generate(n)),
+        None => None,
+    }
+}
+
+// The task on two files; the judge of traces alone takes an invariant's number, which is 0 where none is given.
+fn command_on_two(
+    alloc: Global,
+    task: Task,
+    model: &str,
+    second: &str,
+    property: Option<u32>,
+) -> Result<Option<Command>, NoMemory>
+    ensures { IfOk result (λ command. command ≡ on_two task model.now second.now property) }
+{
+    let model = name_of(alloc, model)?;
+    let second = name_of(alloc, second)?;
+    Ok(on_two(task, model, second, property))
+}
+
+fn on_two(task: Task, model: Name, second: Name, property: Option<u32>) -> Option<Command>
+    ensures { result ≡ on_two task model second property }
+{
+    match (task, property) {
+        (Task::JudgeBtor, None) => Some(Command::JudgeBtor(model, second)),
+        (Task::JudgeSmv, None) => Some(Command::JudgeSmv(model, second, 0)),
+        (Task::JudgeSmv, Some(j)) => Some(Command::JudgeSmv(model, second, j)),
+        (Task::JudgeMoxi, None) => Some(Command::JudgeMoxi(model, second)),
+        (Task::LiftSmv, None) => Some(Command::LiftSmv(model, second)),
+        (Task::LiftMoxi, None) => Some(Command::LiftMoxi(model, second)),
+        _ => None,
+    }
+}
+
+fn name_of(alloc: Global, word: &str) -> Result<Name, NoMemory>
+    ensures { IfOk result (λ name. name ≡ word.now) }
+{
+    Name::of(alloc, word.as_bytes())
+}
