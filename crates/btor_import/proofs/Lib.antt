@@ -1,0 +1,10 @@
+pub mod Lists
+pub mod Steps
+pub mod Numbering
+pub mod Scripts
+pub mod LineVariables
+pub mod Applied
+pub mod Standing
+pub mod Whole
+pub mod Spelled
+pub mod SpellableNames

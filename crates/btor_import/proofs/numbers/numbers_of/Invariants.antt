@@ -1,0 +1,11 @@
+use Rattle.std.proofs.Common.{◌≡◌, ℕ, ◌<◌, get_or, length}
+use Rattle.btor_import.specs.Assembling.{counts_at}
+use Rattle.btor_import.specs.Script.{number_of}
+use Rattle.btor_import.proofs.numbers.numbers_of.Given as goal
+
+abbrev pub invariant-loop-i : goal.invariant-loop-i
+invariant-loop-i l = record {
+  counts : l.counts ≡ counts_at l.nodes l.i;
+  sized : length l.all.items ≡ l.i;
+  each : (k : ℕ) → k < l.i → get_or l.all.items k 0 ≡ number_of l.nodes k;
+}

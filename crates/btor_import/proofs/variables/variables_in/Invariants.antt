@@ -1,0 +1,7 @@
+use Rattle.std.proofs.Common.{◌≡◌, ◌++◌, drop}
+use Rattle.btor_import.specs.Assembling.{group_kind, group_letter, variables_for}
+use Rattle.btor_import.specs.Script.{variables_in}
+use Rattle.btor_import.proofs.variables.variables_in.Given as goal
+
+abbrev pub invariant-loop-i : goal.invariant-loop-i
+invariant-loop-i l = l.all ++ variables_for l.nodes (group_letter l.group) (group_kind l.group) (drop l.i l.nodes) ≡ variables_in (group_letter l.group) (group_kind l.group) l.nodes

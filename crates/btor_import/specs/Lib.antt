@@ -1,0 +1,4 @@
+pub mod Operators
+pub mod Script
+pub mod Assembling
+pub mod Laws

@@ -1,0 +1,13 @@
+//! The script of MoXI that stands for BTOR2 lines.
+#![tactic(auto)]
+
+mod laws;
+mod numbers;
+mod operators;
+mod parts;
+mod script;
+mod terms;
+mod variables;
+
+pub use laws::{names_are_spellable, scripts_are_spelled, scripts_are_whole};
+pub use script::import_btor;
