@@ -3,3 +3,4 @@ pub mod Fronts
 pub mod Judged
 pub mod Seconds
 pub mod Lifted
+pub mod Imported

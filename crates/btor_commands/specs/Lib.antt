@@ -2,3 +2,5 @@ pub mod Limits
 pub mod Judgement
 pub mod Pieces
 pub mod Lifting
+pub mod Traces
+pub mod Importing

@@ -18,8 +18,8 @@ use std::alloc::Global;
 use text_core::kinds::{btor, witness};
 use text_core::{End, Name, Shelf, Verdict};
 
-// The most bytes that a BTOR2 text may have.
-const BTOR_LIMIT: usize = 134_217_728;
+/// The most bytes that a BTOR2 text may have.
+pub const BTOR_LIMIT: usize = 134_217_728;
 
 /// Reads a BTOR2 text and a witness for it, and judges the witness.
 #[tactic(auto, using(crate::proofs::Judged::may_judge, command_core::specs::laws::Stops::always))]

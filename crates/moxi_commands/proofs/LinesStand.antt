@@ -27,7 +27,8 @@ use Rattle.moxi_layout.specs.Counts.{FlatSizesAreScriptSizes, LinesStayFew}
 use Rattle.moxi_layout.specs.LineLaws.{LinesAreWellFormed, LinesLayOut}
 use Rattle.moxi_layout.specs.ConstantLaws.{CodesAreFew}
 use Rattle.moxi_commands.specs.Limits.{most_script_bytes}
-use Rattle.moxi_commands.specs.Translation.{HasTrace, IsInstantiated, ScriptLinesAreLaidOut, StandFor, WritesLines, btor_text}
+use Rattle.btor_commands.specs.Traces.{HasTrace}
+use Rattle.moxi_commands.specs.Translation.{IsInstantiated, ScriptLinesAreLaidOut, StandFor, WritesLines, btor_text}
 
 -- ---- sizes
 

@@ -1,5 +1,5 @@
 -- Which BTOR2 text is written for a script, and what it stands for (MoXI, SPIN 2024; BTOR2, CAV 2018).
-use Rattle.std.specs.Prelude.{◌≡◌, ◌↔◌, ℕ, ◌<◌, List, length, Option, Some, None, slice_get}
+use Rattle.std.specs.Prelude.{◌≡◌, ◌↔◌, ℕ, ◌<◌, List, length, Option, Some, None}
 use Rattle.text_core.specs.declared.end.End.{End}
 use Rattle.text_core.specs.declared.end.End.TheVariants.{Bad, NoMemory}
 use Rattle.text_core.specs.Outside.{Files, file_at, grown}
@@ -7,10 +7,7 @@ use Rattle.btor_tree.specs.declared.lines.Line.{Line}
 use Rattle.btor_tree.specs.Fits.{operands, is_bad}
 use Rattle.btor_tree.specs.Printing.{printed}
 use Rattle.btor_tree.specs.Texts.{SpellsLines}
-use Rattle.moxi_scripts.specs.declared.script.Query.{Query}
 use Rattle.moxi_scripts.specs.Script.{PlainScript}
-use Rattle.moxi_scripts.specs.Behaviour.{Trace}
-use Rattle.moxi_scripts.specs.Meeting.{MeetsQuery}
 use Rattle.moxi_flat.specs.FlatSystem.{flat_of}
 use Rattle.moxi_flat.specs.Limits.{flat_refusal}
 use Rattle.moxi_lines.specs.Lines.{lines_of}
@@ -19,6 +16,7 @@ use Rattle.command_core.specs.declared.answer.Answer.{Answer}
 use Rattle.command_core.specs.declared.answer.Answer.TheVariants.{Refused, Done}
 use Rattle.command_core.specs.declared.answer.Output.TheVariants.{Text}
 use Rattle.command_core.specs.Reading.{GoesOn, file_within}
+use Rattle.btor_commands.specs.Traces.{HasTrace}
 use Rattle.moxi_commands.specs.Limits.{most_script_bytes}
 use Rattle.moxi_commands.specs.Scripts.{IsScriptText, IsSystemRefusal, script_too_long}
 
@@ -47,13 +45,6 @@ abbrev pub IsBtorText : Files → List ℕ → Answer → Type 0
 IsBtorText files model answer = GoesOn (file_within files model most_script_bytes script_too_long) OfBytes answer
 
 -- ---- what a text stands for
-
--- some trace meets query j of the script at step k
-pub record HasTrace (script : PlainScript) (j k : ℕ) : Type 0 where
-  pub query : Query
-  pub there : slice_get script.check.queries j ≡ Some query
-  pub trace : Trace
-  pub meets : MeetsQuery script query k trace
 
 -- the lines stand for the script: as many bad lines as queries, and a trace that meets a query exactly where frames have its bad line true
 pub record StandFor (script : PlainScript) (lines : List Line) : Type 0 where

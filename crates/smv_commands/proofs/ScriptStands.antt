@@ -18,7 +18,8 @@ use Rattle.moxi_script_print.specs.Again.{with_place}
 use Rattle.command_core.specs.declared.answer.Answer.{Answer}
 use Rattle.command_core.specs.declared.answer.Answer.TheVariants.{Refused, Done}
 use Rattle.command_core.specs.declared.answer.Output.TheVariants.{Text}
-use Rattle.smv_commands.specs.Scripts.{HasTrace, IsScript, OfBytes, StandsForModel, moxi_text}
+use Rattle.btor_commands.specs.Traces.{HasTrace}
+use Rattle.smv_commands.specs.Scripts.{IsScript, OfBytes, StandsForModel, moxi_text}
 use Rattle.text_core.specs.Outside.{Files}
 use Rattle.command_core.specs.Reading.{file_within}
 use Rattle.command_core.specs.laws.Files.{goes_once}

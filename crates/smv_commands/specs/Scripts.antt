@@ -1,23 +1,17 @@
 -- Which script is written for an SMV model, and what it stands for (MoXI, SPIN 2024).
-use Rattle.std.specs.Prelude.{◌≡◌, ◌↔◌, ℕ, ◌<◌, List, length, Option, Some, slice_get}
+use Rattle.std.specs.Prelude.{◌≡◌, ◌↔◌, ℕ, ◌<◌, List, length, Option, Some}
 use Rattle.text_core.specs.declared.end.End.{End}
 use Rattle.text_core.specs.declared.end.End.TheVariants.{Bad, NoMemory}
-use Rattle.text_core.specs.declared.place.Place.{Place}
 use Rattle.text_core.specs.Outside.{Files, file_at, grown}
 use Rattle.smv_text.specs.Tree.{PlainSource}
 use Rattle.smv_script.specs.Script.{script_for}
-use Rattle.moxi_sexpr.specs.Tree.{Trees}
-use Rattle.moxi_sexpr.specs.Grammar.{SpellsForms}
 use Rattle.moxi_term_print.specs.Shown.{lines_text}
-use Rattle.moxi_scripts.specs.declared.script.Query.{Query}
 use Rattle.moxi_scripts.specs.Script.{PlainScript}
-use Rattle.moxi_scripts.specs.Spelling.{SpellsScript}
-use Rattle.moxi_scripts.specs.Behaviour.{Trace}
-use Rattle.moxi_scripts.specs.Meeting.{MeetsQuery}
 use Rattle.moxi_script_print.specs.Printing.{shown_script}
 use Rattle.command_core.specs.declared.answer.Answer.{Answer}
 use Rattle.command_core.specs.declared.answer.Answer.TheVariants.{Refused, Done}
 use Rattle.command_core.specs.declared.answer.Output.TheVariants.{Text}
+use Rattle.btor_commands.specs.Traces.{HasTrace, SpellsText}
 use Rattle.smv_commands.specs.Limits.{most_smv_bytes}
 use Rattle.command_core.specs.Reading.{GoesOn, file_within}
 use Rattle.smv_script_laws.specs.RunLaws.{HasRun, invariant_count}
@@ -43,20 +37,6 @@ abbrev pub IsScript : Files → List ℕ → Answer → Type 0
 IsScript files model answer = GoesOn (file_within files model most_smv_bytes smv_too_long) OfBytes answer
 
 -- ---- what a script stands for
-
--- the bytes spell this script
-pub record SpellsText (bytes : List ℕ) (script : PlainScript) : Type 0 where
-  pub forms : Trees
-  pub formed : SpellsForms bytes forms
-  pub end : Place
-  pub spelled : SpellsScript forms end script
-
--- some trace meets query j of the script at step k
-pub record HasTrace (script : PlainScript) (j k : ℕ) : Type 0 where
-  pub query : Query
-  pub there : slice_get script.check.queries j ≡ Some query
-  pub trace : Trace
-  pub meets : MeetsQuery script query k trace
 
 -- the script stands for the model: as many queries as invariants, and a run that breaks an invariant exactly where a trace meets its query
 pub record StandsForModel (source : PlainSource) (script : PlainScript) : Type 0 where

@@ -2,3 +2,4 @@ pub mod OutcomeLemmas
 pub mod Stops
 pub mod TwoRoutes
 pub mod Summaries
+pub mod Returns

@@ -12,7 +12,7 @@ use Rattle.command_core.specs.declared.answer.Answer.{Answer}
 use Rattle.command_core.specs.declared.answer.Answer.TheVariants.{Usage, Unread, Refused, SecondRefused, No, Done}
 use Rattle.command_core.specs.declared.answer.Output.TheVariants.{Text}
 use Rattle.top_call.specs.declared.words.Command.{Command}
-use Rattle.top_call.specs.declared.words.Command.TheVariants.{SmvToBtor, SmvToMoxi, MoxiToBtor, JudgeBtor, JudgeSmv, JudgeMoxi, LiftSmv, LiftMoxi, Generate}
+use Rattle.top_call.specs.declared.words.Command.TheVariants.{SmvToBtor, SmvToMoxi, MoxiToBtor, BtorToMoxi, JudgeBtor, JudgeSmv, JudgeMoxi, LiftSmv, LiftMoxi, Generate}
 use Rattle.command_core.specs.Answers.{status_of, text_of, line_of}
 use Rattle.command_core.specs.Notes.{no_memory_line}
 use Rattle.top_call.specs.Outcome.{IsAbsent, IsCutLine, IsLineOf, MayAnswer, outcome_of}
@@ -21,14 +21,19 @@ use Rattle.top_call.specs.Words.{Answers, Serves}
 use Rattle.smv_commands.specs.Scripts.{ScriptsStand, moxi_text}
 use Rattle.command_core.specs.Sinks.{IsPart, Noted}
 use Rattle.smv_commands.specs.Translation.{Accepts, TranslatesTo, TranslationsStand, btor_text}
+use Rattle.btor_commands.specs.Importing.{ScriptsStand as ImportsStand, script_text}
+use Rattle.btor_commands.proofs.Imported as imports
+use Rattle.btor_commands.proofs.Imported.{one_import}
 use Rattle.btor_commands.proofs.Judgements.{one_judgement}
 use Rattle.smv_commands.proofs.JudgedSmv.{one_smv_judgement}
 use Rattle.smv_commands.proofs.ScriptStands.{one_script}
 use Rattle.smv_commands.proofs.Given as scripts
-use Rattle.moxi_commands.specs.Translation.{LinesStand, OfBytes as OfScriptBytes}
+use Rattle.moxi_scripts.specs.Script.{PlainScript}
+use Rattle.moxi_commands.specs.Translation.{IsInstantiated, LinesStand, OfBytes as OfScriptBytes, btor_text as script_lines}
 use Rattle.moxi_commands.specs.Limits.{most_script_bytes}
 use Rattle.moxi_commands.specs.Scripts.{script_too_long}
-use Rattle.top_call.specs.Routes.{RoutesMeet}
+use Rattle.top_call.specs.Routes.{KeepsFrames, RoutesMeet}
+use Rattle.top_call.proofs.Returns.{keeps}
 use Rattle.command_core.specs.laws.Files.{on_read}
 use Rattle.moxi_commands.proofs.Judged.{one_moxi_judgement}
 use Rattle.moxi_commands.proofs.Translated.{one_text}
@@ -57,6 +62,7 @@ one_answer once None fs a b h k = h ∙ sym k
 one_answer once (Some (SmvToBtor model)) fs a b h k = one_translation fs model a b h k
 one_answer once (Some (SmvToMoxi model)) fs a b h k = one_script fs model a b h k
 one_answer once (Some (MoxiToBtor model)) fs a b h k = one_text fs model a b h k
+one_answer once (Some (BtorToMoxi model)) fs a b h k = one_import fs model a b h k
 one_answer once (Some (JudgeBtor model second)) fs a b h k = one_judgement fs model second a b h k
 one_answer once (Some (JudgeSmv model second j)) fs a b h k = one_smv_judgement fs model second j a b h k
 one_answer once (Some (JudgeMoxi model second)) fs a b h k = one_moxi_judgement fs model second a b h k
@@ -299,6 +305,7 @@ pub record Laws : Type 0 where
   pub texts : TranslationsStand
   pub scripts : ScriptsStand
   pub lines : LinesStand
+  pub imports : ImportsStand
   pub traces : RunsAreLifted
   pub responses : TracesAreLifted
 
@@ -307,6 +314,7 @@ served_by laws None fs b before now h s w = let e : status.Usage ≡ status.Done
 served_by laws (Some (SmvToBtor model)) fs b before now h s w = translations.served laws.texts fs model b before now h s w
 served_by laws (Some (SmvToMoxi model)) fs b before now h s w = scripts.served laws.scripts fs model b before now h s w
 served_by laws (Some (MoxiToBtor model)) fs b before now h s w = lines.served laws.lines fs model b before now h s w
+served_by laws (Some (BtorToMoxi model)) fs b before now h s w = imports.served laws.imports fs model b before now h s w
 served_by laws (Some (LiftSmv model second)) fs b before now h s w = traces.served laws.traces fs model second b before now h s w
 served_by laws (Some (LiftMoxi model second)) fs b before now h s w = responses.served laws.responses fs model second b before now h s w
 served_by laws (Some (Generate n)) fs b before now h s w = generated.summarized n b before now h s w
@@ -351,6 +359,20 @@ run_routes once meet (Some fs) command shelf out notes a s before now m ends tak
     let whole : s ≢ status.WriteFault = λ f. elim (w f) [ inl r ↦ o r | inr r ↦ n r ] in
     elim ends [
       | inl e ↦ (e ∙ ap status_of same, taken whole ∙ ap (λ x. grown before (text_of x)) same)
+      | inr f ↦ absurd (whole f)
+    ]
+
+pub run_returns : (once : OneGenerated) → (made : ImportsStand) → (stand : LinesStand) (files : Option Files) (command : Option Command) (shelf out notes : Type 0) (a : Answer) (s : Status) (before now : Option (List ℕ)) → MayAnswer files command shelf a → Ends s a → (s ≢ status.WriteFault → now ≡ grown before (text_of a)) → (s ≡ status.WriteFault → out ⊎ notes)
+    → IfSome files (λ fs. (model bytes : List ℕ) (lines : List Line) (script : PlainScript) → command ≡ Some (MoxiToBtor model) → SpellsLines bytes lines → file_at fs model ≡ Some (script_text lines) → IsInstantiated (script_text lines) script → (shelf → ⊥) → (out → ⊥) → (notes → ⊥) → s ≢ status.NoMemory
+    → (s ≡ status.Done) × ((text : List ℕ) × (now ≡ grown before text) × KeepsFrames lines text))
+run_returns once made stand None command shelf out notes a s before now m ends taken w = tt
+run_returns once made stand (Some fs) command shelf out notes a s before now m ends taken w = λ model bytes lines script is spelled there instantiated sh o n memory.
+    let answer = Done (Text (script_lines script)) in
+    let made_here = on_read fs model (script_text lines) most_script_bytes script_too_long OfScriptBytes answer there instantiated.is_script.within (script, instantiated, refl) in
+    let same = one_answer once command fs a answer (defined fs command shelf a m sh) (subst (λ c. Answers c fs answer) (sym is) made_here) in
+    let whole : s ≢ status.WriteFault = λ f. elim (w f) [ inl r ↦ o r | inr r ↦ n r ] in
+    elim ends [
+      | inl e ↦ (e ∙ ap status_of same, (script_lines script, taken whole ∙ ap (λ x. grown before (text_of x)) same, keeps made stand bytes lines script spelled instantiated))
       | inr f ↦ absurd (whole f)
     ]
 

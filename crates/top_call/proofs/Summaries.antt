@@ -41,6 +41,7 @@ one_in_range : (t : Task) (word : List ℕ) → IfSome (on_one t word) IsInRange
 one_in_range task.SmvToBtor word = tt
 one_in_range task.SmvToMoxi word = tt
 one_in_range task.MoxiToBtor word = tt
+one_in_range task.BtorToMoxi word = tt
 one_in_range task.JudgeBtor word = tt
 one_in_range task.JudgeSmv word = tt
 one_in_range task.JudgeMoxi word = tt
@@ -52,6 +53,7 @@ two_in_range : (t : Task) (model second : List ℕ) (property : Option ℕ) → 
 two_in_range task.SmvToBtor model second property = tt
 two_in_range task.SmvToMoxi model second property = tt
 two_in_range task.MoxiToBtor model second property = tt
+two_in_range task.BtorToMoxi model second property = tt
 two_in_range task.JudgeBtor model second None = tt
 two_in_range task.JudgeBtor model second (Some j) = tt
 two_in_range task.JudgeSmv model second None = tt

@@ -19,6 +19,10 @@ ghost use Rattle.btor_witness.specs.declared.witness.Witness.{Witness};
 ghost use Rattle.btor_witness.specs.Judging.{judged_btor};
 ghost use Rattle.btor_witness.specs.Texts.{SpellsWitness};
 ghost use Rattle.smv_commands.specs.Scripts.{moxi_text};
+ghost use Rattle.moxi_scripts.specs.Script.{PlainScript};
+ghost use Rattle.btor_commands.specs.Importing.{script_text};
+ghost use Rattle.moxi_commands.specs.Translation.{IsInstantiated};
+ghost use Rattle.top_call.specs.Routes.{KeepsFrames};
 ghost use Rattle.moxi_commands.specs.Limits.{most_script_bytes};
 ghost use Rattle.smv_commands.specs.SmvLift.{LiftsBack};
 ghost use Rattle.generate.specs.Generating.{IsGenerated};
@@ -26,6 +30,7 @@ ghost use Rattle.top_call.specs.Words.{BeginsNoSecond, IsInRange, Serves, comman
 
 use crate::routes::routes_meet;
 use crate::words::{Command, answer_command, read_command};
+use btor_commands::imports_stand;
 use command_core::{Answer, Status, Stop, deliver, note};
 use generate::one_generated;
 use moxi_commands::{lines_stand, traces_are_lifted};
@@ -68,6 +73,14 @@ pub fn run<F: Shelf, K: Sink, N: Sink>(
         → ¬ Rose (F.faults shelf.old) (F.faults shelf.new) → ¬ Rose (K.faults out.old) (K.faults out.new) → ¬ Rose (N.faults notes.old) (N.faults notes.new)
         → result ≢ Status.NoMemory
         → (result ≡ Status.Done) × (K.taken out.new ≡ grown (K.taken out.old) (btor_text source))) }
+
+    // For every BTOR2 text, where nothing fails: the script that is written for its lines, where it is within the limits of scripts,
+    // has a BTOR2 text that spells lines in which each bad line is true in the last of frames 0 to k for the same numbers k.
+    ensures returns { IfSome (F.files shelf.old) (λ files. (model bytes : List ℕ) (lines : List Line) (script : PlainScript)
+        → command_of (map string_bytes words.now.items) ≡ Some (Command.MoxiToBtor model) → SpellsLines bytes lines → file_at files model ≡ Some (script_text lines) → IsInstantiated (script_text lines) script
+        → ¬ Rose (F.faults shelf.old) (F.faults shelf.new) → ¬ Rose (K.faults out.old) (K.faults out.new) → ¬ Rose (N.faults notes.old) (N.faults notes.new)
+        → result ≢ Status.NoMemory
+        → (result ≡ Status.Done) × ((text : List ℕ) × (K.taken out.new ≡ grown (K.taken out.old) text) × KeepsFrames lines text)) }
 
     // For a number of cells, whatever the shelf tells: the answer is the one that is defined of the model and the witness that are
     // made of so many cells.
@@ -144,6 +157,7 @@ pub fn run<F: Shelf, K: Sink, N: Sink>(
     runs_are_lifted();
     traces_are_lifted();
     routes_meet();
+    imports_stand();
     one_generated();
     match answer_words(alloc, words, shelf) {
         Ok(answer) => deliver(&answer, out, notes),

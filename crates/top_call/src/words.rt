@@ -8,7 +8,7 @@ ghost use Rattle.command_core.specs.declared.answer.Stop.TheVariants as Stop;
 ghost use Rattle.top_call.specs.declared.words.Command.TheVariants as Command;
 ghost use Rattle.top_call.specs.Words.{BeginsNoSecond, IsInRange, command_by, command_of, command_with, on_one, on_two, row, task_in};
 
-use btor_commands::judge_files;
+use btor_commands::{btor_to_moxi, judge_files};
 use command_core::{Answer, Stop, cell_count, read_words};
 use generate::generate;
 use moxi_commands::{judge_moxi_files, lift_moxi_files, moxi_to_btor};
@@ -25,6 +25,8 @@ pub enum Command {
     SmvToMoxi(Name),
     /// The BTOR2 text of a MoXI script.
     MoxiToBtor(Name),
+    /// The MoXI script of a BTOR2 text.
+    BtorToMoxi(Name),
     /// The verdict on a witness for a BTOR2 text: the text's file, and the witness's.
     JudgeBtor(Name, Name),
     /// The verdict on a trace of an SMV model and the invariant of a number: the model's file, the trace's, and the number.
@@ -45,6 +47,7 @@ pub enum Task {
     SmvToBtor,
     SmvToMoxi,
     MoxiToBtor,
+    BtorToMoxi,
     JudgeBtor,
     JudgeSmv,
     JudgeMoxi,
@@ -54,10 +57,11 @@ pub enum Task {
 }
 
 // The first words of the commands.
-const COMMANDS: [(&[u8], Task); 9] = [
+const COMMANDS: [(&[u8], Task); 10] = [
     (b"smv2btor", Task::SmvToBtor),
     (b"smv2moxi", Task::SmvToMoxi),
     (b"moxi2btor", Task::MoxiToBtor),
+    (b"btor2moxi", Task::BtorToMoxi),
     (b"judge-btor", Task::JudgeBtor),
     (b"judge-smv", Task::JudgeSmv),
     (b"judge-moxi", Task::JudgeMoxi),
@@ -115,6 +119,7 @@ pub fn answer_command<F: Shelf>(
         Command::SmvToBtor(model) => smv_to_btor(alloc, model, shelf),
         Command::SmvToMoxi(model) => smv_to_moxi(alloc, model, shelf),
         Command::MoxiToBtor(model) => moxi_to_btor(alloc, model, shelf),
+        Command::BtorToMoxi(model) => btor_to_moxi(alloc, model, shelf),
         Command::JudgeBtor(model, second) => judge_files(alloc, model, second, shelf),
         Command::JudgeSmv(model, second, j) => judge_smv_files(alloc, model, second, *j, shelf),
         Command::JudgeMoxi(model, second) => judge_moxi_files(alloc, model, second, shelf),
@@ -160,6 +165,7 @@ fn command_on_one(alloc: Global, task: Task, word: &str) -> Result<Option<Comman
         Task::SmvToBtor => Ok(Some(Command::SmvToBtor(name_of(alloc, word)?))),
         Task::SmvToMoxi => Ok(Some(Command::SmvToMoxi(name_of(alloc, word)?))),
         Task::MoxiToBtor => Ok(Some(Command::MoxiToBtor(name_of(alloc, word)?))),
+        Task::BtorToMoxi => Ok(Some(Command::BtorToMoxi(name_of(alloc, word)?))),
         Task::Generate => Ok(made_of(cell_count(word.as_bytes()))),
         _ => Ok(None),
     }

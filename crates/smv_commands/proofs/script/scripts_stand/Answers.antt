@@ -16,7 +16,8 @@ use Rattle.moxi_scripts.specs.Script.{PlainScript}
 use Rattle.moxi_scripts.specs.Spelling.{SpellsScript}
 use Rattle.moxi_script_print.specs.Printing.{shown_script}
 use Rattle.moxi_script_print.specs.Again.{ReadsAs, with_place}
-use Rattle.smv_commands.specs.Scripts.{SpellsText, StandsForModel, moxi_text}
+use Rattle.btor_commands.specs.Traces.{SpellsText}
+use Rattle.smv_commands.specs.Scripts.{StandsForModel, moxi_text}
 use Rattle.smv_script.specs.Script.{script_for}
 use Rattle.smv_commands.proofs.ScriptStands.{stands}
 use Rattle.smv_commands.proofs.script.scripts_stand.Goals as goal
