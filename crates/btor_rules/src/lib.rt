@@ -1,0 +1,10 @@
+//! Rules by which an operator line of BTOR2 becomes a constant or one of its arguments.
+#![tactic(auto)]
+
+mod laws;
+mod operand;
+mod rules;
+
+pub use laws::{rules_fit, rules_hold};
+pub use operand::{Operand, Operands, Outcome, other_sign};
+pub use rules::outcome;

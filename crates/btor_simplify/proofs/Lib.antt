@@ -1,0 +1,16 @@
+pub mod Keys
+pub mod Sharing
+pub mod Steps
+pub mod Extents
+pub mod Pushes
+pub mod Marking
+pub mod Ordering
+pub mod Constants
+pub mod Writing
+pub mod Whole
+pub mod Values
+pub mod Images
+pub mod Runs
+pub mod Distinct
+pub mod Renaming
+pub mod Unfit

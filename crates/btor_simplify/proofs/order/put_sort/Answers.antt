@@ -1,0 +1,15 @@
+use Rattle.std.proofs.Common.{arith, ap, sym, ◌∙◌, get_or, None}
+use Rattle.btor_simplify.proofs.Ordering.{places_few, order_sort, sort_there, ok_both}
+use Rattle.btor_simplify.proofs.order.put_sort.Goals as goal
+
+pub put-requires-clause-few : goal.put-requires-clause-few
+put-requires-clause-few c =
+    omega (arith, places_few c.args.nodes.now c.args.fates.now c.args.n c.args.order.now.places.items c.args.order.now.moved.items c.requires.known c.requires.order)
+
+pub returns-in-None-clause-order : goal.returns-in-None-clause-order
+returns-in-None-clause-order c =
+    ok_both c.put.result _ _ _ (λ p m. order_sort c.args.nodes.now c.args.fates.now c.args.n c.args.order.now.places.items c.put.new.order.places.items c.args.order.now.moved.items c.put.new.order.moved.items c.args.s c.requires.known c.requires.order c.requires.sort (ap (λ xs. get_or xs c.args.s None) (sym c.deref.ensures.value) ∙ sym c.new_place.ensures ∙ c.in-None.is) p m) c.put.ensures.places c.put.ensures.moved
+
+pub returns-in-None-clause-there : goal.returns-in-None-clause-there
+returns-in-None-clause-there c =
+    ok_both c.put.result _ _ _ (λ p m. sort_there c.args.nodes.now c.args.fates.now c.args.n c.args.order.now.places.items c.args.order.now.moved.items c.put.new.order.moved.items c.args.s c.requires.order c.requires.sort (ap (λ xs. get_or xs c.args.s None) (sym c.deref.ensures.value) ∙ sym c.new_place.ensures ∙ c.in-None.is) m) c.put.ensures.places c.put.ensures.moved

@@ -1,0 +1,169 @@
+// The order of the lines that stay, with each sort line before the first line that has it.
+ghost use Rattle.std.specs.Prelude.{◌≡◌, ◌<◌, ◌+◌, ◌^◌, ◌++◌, ◌∷◌, ℕ, [], true, false, length, Some, None, slice_get, slice_set, get_or, IfOk, OnOk};
+ghost use Rattle.btor_simplify.specs.Fates as fates_spec;
+ghost use Rattle.btor_simplify.specs.Marks.{AreKnown, AreMarks};
+ghost use Rattle.btor_simplify.specs.Order as spec;
+
+use crate::fates::sort_for;
+use btor_rules::Outcome;
+use btor_tree::{Line, LineOp, Nodes};
+use std::alloc::Global;
+use text_core::NoMemory;
+
+/// The old place of each new line, and the new place of each old line that stays.
+#[derive(Drop)]
+pub struct Order {
+    pub places: Vec<u32>,
+    pub moved: Vec<Option<u32>>,
+}
+
+/// Tests whether a line of this kind has a sort.
+pub fn has_sort(op: &LineOp) -> bool
+    ensures { result ≡ spec.has_sort op.now }
+{
+    match op {
+        LineOp::Sort(_) | LineOp::Bad | LineOp::Constraint | LineOp::Output => false,
+        _ => true,
+    }
+}
+
+/// Returns the new place of the line at an old place, where it has one.
+pub fn new_place(moved: &[Option<u32>], i: u32) -> Option<u32>
+    ensures { result ≡ get_or moved.now i None }
+{
+    match moved.get(i as usize) {
+        Some(place) => *place,
+        None => None,
+    }
+}
+
+// Puts a line at the end.
+fn put(order: &mut Order, i: u32) -> Result<(), NoMemory>
+    requires inside { i < length order.old.moved.items }
+    requires few { length order.old.places.items < 2 ^ 31 }
+    ensures places { OnOk result (order.new.places.items ≡ order.old.places.items ++ i ∷ []) }
+    ensures moved { OnOk result (order.new.moved.items ≡ slice_set order.old.moved.items i (Some (length order.old.places.items))) }
+{
+    let place = order.places.len() as u32;
+    order.places.push(i)?;
+    order.moved[i as usize] = Some(place);
+    Ok(())
+}
+
+// Puts the sort line at a place, where it does not stand yet.
+fn put_sort(
+    nodes: &Nodes,
+    fates: &[Outcome],
+    order: &mut Order,
+    n: usize,
+    s: u32,
+) -> Result<(), NoMemory>
+    requires known { AreKnown nodes.now fates.now }
+    requires sort { spec.IsLiveSort nodes.now fates.now s }
+    requires order { spec.IsOrder nodes.now fates.now n order.old.places.items order.old.moved.items }
+    ensures order { OnOk result (spec.IsOrder nodes.now fates.now n order.new.places.items order.new.moved.items) }
+    ensures keeps { OnOk result (spec.KeepsPlaces order.old.moved.items order.new.moved.items) }
+    ensures there { OnOk result (spec.HasPlace order.new.moved.items s) }
+{
+    match new_place(&order.moved, s) {
+        Some(_) => Ok(()),
+        None => put(order, s),
+    }
+}
+
+// Puts the sort line of a line, where it has one that does not stand yet.
+fn put_sort_of(
+    nodes: &Nodes,
+    fates: &[Outcome],
+    order: &mut Order,
+    line: &Line,
+    i: usize,
+) -> Result<(), NoMemory>
+    requires known { AreKnown nodes.now fates.now }
+    requires at { slice_get nodes.now i ≡ Some line.now }
+    requires order { spec.IsOrder nodes.now fates.now i order.old.places.items order.old.moved.items }
+    ensures order { OnOk result (spec.IsOrder nodes.now fates.now i order.new.places.items order.new.moved.items) }
+    ensures keeps { OnOk result (spec.KeepsPlaces order.old.moved.items order.new.moved.items) }
+    ensures there { OnOk result (spec.has_sort line.now.op ≡ true → spec.HasPlace order.new.moved.items (fates_spec.sort_for fates.now line.now.sort)) }
+{
+    if has_sort(&line.op) {
+        put_sort(nodes, fates, order, i, sort_for(fates, line.sort))
+    } else {
+        Ok(())
+    }
+}
+
+// Puts a line that is marked at the end, behind its sort line.
+fn put_line(
+    nodes: &Nodes,
+    fates: &[Outcome],
+    marks: &[bool],
+    order: &mut Order,
+    i: usize,
+) -> Result<(), NoMemory>
+    requires known { AreKnown nodes.now fates.now }
+    requires marks { AreMarks nodes.now fates.now 0 marks.now }
+    requires inside { i < length nodes.now }
+    requires marked { get_or marks.now i false ≡ true }
+    requires order { spec.IsOrder nodes.now fates.now i order.old.places.items order.old.moved.items }
+    requires moved { spec.HaveMarkedMoved marks.now i order.old.moved.items }
+    ensures order { OnOk result (spec.IsOrder nodes.now fates.now (i + 1) order.new.places.items order.new.moved.items) }
+    ensures moved { OnOk result (spec.HaveMarkedMoved marks.now (i + 1) order.new.moved.items) }
+{
+    put_sort_of(nodes, fates, order, nodes.at(i), i)?;
+    put(order, i as u32)
+}
+
+// Puts a line at the end where it is marked.
+fn put_marked(
+    nodes: &Nodes,
+    fates: &[Outcome],
+    marks: &[bool],
+    order: &mut Order,
+    i: usize,
+) -> Result<(), NoMemory>
+    requires known { AreKnown nodes.now fates.now }
+    requires marks { AreMarks nodes.now fates.now 0 marks.now }
+    requires inside { i < length nodes.now }
+    requires order { spec.IsOrder nodes.now fates.now i order.old.places.items order.old.moved.items }
+    requires moved { spec.HaveMarkedMoved marks.now i order.old.moved.items }
+    ensures order { OnOk result (spec.IsOrder nodes.now fates.now (i + 1) order.new.places.items order.new.moved.items) }
+    ensures moved { OnOk result (spec.HaveMarkedMoved marks.now (i + 1) order.new.moved.items) }
+{
+    if marks[i] {
+        put_line(nodes, fates, marks, order, i)
+    } else {
+        Ok(())
+    }
+}
+
+/// Returns the order of the lines that are marked.
+pub fn order_of(
+    alloc: Global,
+    nodes: &Nodes,
+    fates: &[Outcome],
+    marks: &[bool],
+) -> Result<Order, NoMemory>
+    requires known { AreKnown nodes.now fates.now }
+    requires marks { AreMarks nodes.now fates.now 0 marks.now }
+    ensures order { IfOk result (λ order. spec.IsOrder nodes.now fates.now (length nodes.now) order.places.items order.moved.items) }
+    ensures moved { IfOk result (λ order. spec.HaveMarkedMoved marks.now (length nodes.now) order.moved.items) }
+{
+    let mut order = no_order(alloc, nodes, fates)?;
+    for i in 0..nodes.len() {
+        put_marked(nodes, fates, marks, &mut order, i)?;
+    }
+    Ok(order)
+}
+
+// Returns the order of no lines.
+fn no_order(alloc: Global, nodes: &Nodes, fates: &[Outcome]) -> Result<Order, NoMemory>
+    ensures { IfOk result (λ order. spec.IsOrder nodes.now fates.now 0 order.places.items order.moved.items) }
+{
+    let mut moved = Vec::new(alloc);
+    moved.resize(nodes.len(), None)?;
+    Ok(Order {
+        places: Vec::new(alloc),
+        moved,
+    })
+}
