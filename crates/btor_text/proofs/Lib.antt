@@ -1,3 +1,4 @@
+mod Words
 mod Search
 mod MarkLaws
 mod Laws

@@ -5,6 +5,7 @@ use Rattle.std.specs.Str.{bytes_eq}
 use Rattle.btor_tree.specs.declared.lines.Line.{Line}
 use Rattle.btor_tree.specs.Parts.{Parts, parts}
 use Rattle.btor_tree.specs.Shapes as shapes
+use Rattle.btor_tree.specs.Reading.{words}
 use Rattle.btor_tree.specs.Resolving as faults
 use Rattle.btor_text.specs.declared.word.Nullary.{Nullary}
 use Rattle.btor_text.specs.declared.word.Nullary.TheVariants as nullary
@@ -72,6 +73,15 @@ abbrev pub look_up : List ℕ → List (List ℕ × shapes.Word) → Option shap
 look_up text [] = None
 look_up text (row ∷ rows) = if bytes_eq text row.0 then Some row.1 else look_up text rows
 
+-- the words of lines with their texts
+abbrev pub rows : List (List ℕ × shapes.Word)
+rows = map (λ w. (shapes.word_text w, w)) words
+
+-- the first byte, or 0 where there is none
+abbrev pub first_of : List ℕ → ℕ
+first_of [] = 0
+first_of (b ∷ bs) = b
+
 abbrev pub texts : List (Bor (List ℕ)) → Parts
 texts = map (λ p. p.now)
 
@@ -94,6 +104,10 @@ seen_content content.Unsupported = shapes.unsupported_content
 -- a content, and the parts of what is left
 abbrev pub seen_read : Content × Bor (List ℕ) → shapes.Content × Parts
 seen_read x = (seen_content x.0, parts x.1.now)
+
+-- what a line says whose word isn't among those that are read
+abbrev pub unknown_content : List ℕ → Option (shapes.Content × Parts)
+unknown_content text = if shapes.is_unsupported text then Some (shapes.unsupported_content, []) else None
 
 abbrev pub seen_symbol : Option (Bor (List ℕ)) → Option (List ℕ)
 seen_symbol = option_map (λ s. s.now)

@@ -5,8 +5,8 @@ ghost use Rattle.btor_tree.specs.Resolving.{line_ids, place_in, sort_of_id, stat
 
 use btor_tree::{LineOp, Nodes, has_word, sort_width};
 
-// The place of the line of an id.
-fn place_of(nodes: &Nodes, id: u32) -> Option<u32>
+// The place of the line of an id, found by halving the lines.
+fn searched(nodes: &Nodes, id: u32) -> Option<u32>
     ensures { result ≡ place_in id (line_ids nodes.now) }
 {
     let mut low = 0;
@@ -24,6 +24,20 @@ fn place_of(nodes: &Nodes, id: u32) -> Option<u32>
         }
     }
     None
+}
+
+// The place of the line of an id. In most texts ids count up from 1, so its line is looked for there first.
+fn place_of(nodes: &Nodes, id: u32) -> Option<u32>
+    ensures { result ≡ place_in id (line_ids nodes.now) }
+{
+    let count = nodes.len();
+    if id > 0 && id as usize <= count {
+        let place = id - 1;
+        if nodes.at(place as usize).id == id {
+            return Some(place);
+        }
+    }
+    searched(nodes, id)
 }
 
 /// The width of the sort line at a place, or 0.

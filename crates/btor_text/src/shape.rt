@@ -3,7 +3,7 @@ ghost use Rattle.std.specs.Prelude.{◌≡◌, option_map};
 ghost use Rattle.btor_tree.specs.Parts.{parts};
 ghost use Rattle.btor_tree.specs.Shapes.{operand_of};
 ghost use Rattle.btor_tree.specs.Reading.{sort_args, nullary_args, constant_args, binding_args, property_args, unary_args, binary_args, ite_args, slice_args, extension_args, content_at, content_of, shaped, shape_of};
-ghost use Rattle.btor_text.specs.Seen.{seen_base, seen_binding, seen_content, seen_extension, seen_operand, seen_property, seen_read, seen_shape, seen_nullary, seen_word};
+ghost use Rattle.btor_text.specs.Seen.{seen_base, seen_binding, seen_content, seen_extension, seen_operand, seen_property, seen_read, seen_shape, seen_nullary, seen_word, unknown_content};
 
 use crate::bytes::is_symbol;
 use crate::word::{
@@ -191,16 +191,26 @@ fn content_at<'a>(word: LineWord, rest: &'a [u8]) -> Option<(Content<'a>, &'a [u
     }
 }
 
+// What a line says whose word isn't among those that are read.
+fn unknown_content<'a>(text: &[u8]) -> Option<(Content<'a>, &'a [u8])>
+    ensures { option_map seen_read result ≡ unknown_content text.now }
+{
+    if is_unsupported(text) {
+        Some((Content::Unsupported, b""))
+    } else {
+        None
+    }
+}
+
 /// What stands behind the id, and the bytes that are left.
 fn content_of<'a>(rest: &'a [u8]) -> Option<(Content<'a>, &'a [u8])>
     ensures { option_map seen_read result ≡ content_of (parts rest.now) }
 {
     let (text, rest) = first_part(rest)?;
-    if is_unsupported(text) {
-        return Some((Content::Unsupported, b""));
+    match word_of(text) {
+        Some(word) => content_at(word, rest),
+        None => unknown_content(text),
     }
-    let word = word_of(text)?;
-    content_at(word, rest)
 }
 
 // With the symbol, if there is one, and nothing behind it.

@@ -1,14 +1,15 @@
 // The words of lines, and the digits of constants.
-ghost use Rattle.std.specs.Prelude.{◌≡◌, map, option_map};
-ghost use Rattle.std.specs.List.{list_any};
+ghost use Rattle.std.specs.Prelude.{◌≡◌, ◌==◌, map, option_map};
+ghost use Rattle.std.specs.List.{filter, list_any};
 ghost use Rattle.std.specs.Str.{bytes_eq};
 ghost use Rattle.word_core.specs.Digits.{digit_number};
 ghost use Rattle.btor_tree.specs.Bytes.{are_digits};
 ghost use Rattle.btor_tree.specs.Shapes.{is_literal, is_negative, is_unsupported, magnitude_of};
 ghost use Rattle.btor_tree.specs.Reading.{word_of};
 ghost use Rattle.btor_tree.specs.Resolving.{literal_word, minus_word};
-ghost use Rattle.btor_text.specs.Seen.{entry, look_up, seen_base, seen_word, texts};
+ghost use Rattle.btor_text.specs.Seen.{entry, first_of, look_up, rows, seen_base, seen_word, texts};
 
+use text_core::is_same;
 use word_core::{Binary, Unary, Word, read_digits, unary};
 
 /// A line that has a sort and no arguments.
@@ -66,64 +67,95 @@ pub enum LineWord {
     Extension(Extension),
 }
 
-// The words and how they are written.
-const WORDS: [(&[u8], LineWord); 55] = [
-    (b"sort", LineWord::Sort),
-    (b"input", LineWord::Nullary(Nullary::Input)),
-    (b"state", LineWord::Nullary(Nullary::State)),
-    (b"one", LineWord::Nullary(Nullary::One)),
-    (b"zero", LineWord::Nullary(Nullary::Zero)),
-    (b"ones", LineWord::Nullary(Nullary::Ones)),
+/// A word of lines and how it is written.
+type Row = (&'static [u8], LineWord);
+
+const WORDS_A: [Row; 2] = [
+    (b"and", LineWord::Binary(Binary::And)),
+    (b"add", LineWord::Binary(Binary::Add)),
+];
+
+const WORDS_B: [Row; 1] = [(b"bad", LineWord::Property(Property::Bad))];
+
+const WORDS_C: [Row; 5] = [
     (b"const", LineWord::Base(Base::Binary)),
     (b"constd", LineWord::Base(Base::Decimal)),
     (b"consth", LineWord::Base(Base::Hex)),
-    (b"init", LineWord::Binding(Binding::Init)),
-    (b"next", LineWord::Binding(Binding::Next)),
-    (b"bad", LineWord::Property(Property::Bad)),
     (b"constraint", LineWord::Property(Property::Constraint)),
-    (b"output", LineWord::Property(Property::Output)),
-    (b"not", LineWord::Unary(Unary::Not)),
+    (b"concat", LineWord::Binary(Binary::Concat)),
+];
+
+const WORDS_D: [Row; 1] = [(b"dec", LineWord::Unary(Unary::Dec))];
+
+const WORDS_E: [Row; 1] = [(b"eq", LineWord::Binary(Binary::Eq))];
+
+const WORDS_I: [Row; 6] = [
+    (b"input", LineWord::Nullary(Nullary::Input)),
+    (b"init", LineWord::Binding(Binding::Init)),
     (b"inc", LineWord::Unary(Unary::Inc)),
-    (b"dec", LineWord::Unary(Unary::Dec)),
+    (b"iff", LineWord::Binary(Binary::Iff)),
+    (b"implies", LineWord::Binary(Binary::Implies)),
+    (b"ite", LineWord::Ite),
+];
+
+const WORDS_M: [Row; 1] = [(b"mul", LineWord::Binary(Binary::Mul))];
+
+const WORDS_N: [Row; 6] = [
+    (b"next", LineWord::Binding(Binding::Next)),
+    (b"not", LineWord::Unary(Unary::Not)),
     (b"neg", LineWord::Unary(Unary::Neg)),
+    (b"neq", LineWord::Binary(Binary::Neq)),
+    (b"nand", LineWord::Binary(Binary::Nand)),
+    (b"nor", LineWord::Binary(Binary::Nor)),
+];
+
+const WORDS_O: [Row; 4] = [
+    (b"one", LineWord::Nullary(Nullary::One)),
+    (b"ones", LineWord::Nullary(Nullary::Ones)),
+    (b"output", LineWord::Property(Property::Output)),
+    (b"or", LineWord::Binary(Binary::Or)),
+];
+
+const WORDS_R: [Row; 3] = [
     (b"redand", LineWord::Unary(Unary::RedAnd)),
     (b"redor", LineWord::Unary(Unary::RedOr)),
     (b"redxor", LineWord::Unary(Unary::RedXor)),
-    (b"iff", LineWord::Binary(Binary::Iff)),
-    (b"implies", LineWord::Binary(Binary::Implies)),
-    (b"eq", LineWord::Binary(Binary::Eq)),
-    (b"neq", LineWord::Binary(Binary::Neq)),
+];
+
+const WORDS_S: [Row; 15] = [
+    (b"sort", LineWord::Sort),
+    (b"state", LineWord::Nullary(Nullary::State)),
     (b"sgt", LineWord::Binary(Binary::Sgt)),
     (b"sgte", LineWord::Binary(Binary::Sgte)),
     (b"slt", LineWord::Binary(Binary::Slt)),
     (b"slte", LineWord::Binary(Binary::Slte)),
+    (b"sll", LineWord::Binary(Binary::Sll)),
+    (b"srl", LineWord::Binary(Binary::Srl)),
+    (b"sra", LineWord::Binary(Binary::Sra)),
+    (b"sub", LineWord::Binary(Binary::Sub)),
+    (b"sdiv", LineWord::Binary(Binary::Sdiv)),
+    (b"srem", LineWord::Binary(Binary::Srem)),
+    (b"smod", LineWord::Binary(Binary::Smod)),
+    (b"slice", LineWord::Slice),
+    (b"sext", LineWord::Extension(Extension::Sext)),
+];
+
+const WORDS_U: [Row; 7] = [
     (b"ugt", LineWord::Binary(Binary::Ugt)),
     (b"ugte", LineWord::Binary(Binary::Ugte)),
     (b"ult", LineWord::Binary(Binary::Ult)),
     (b"ulte", LineWord::Binary(Binary::Ulte)),
-    (b"and", LineWord::Binary(Binary::And)),
-    (b"nand", LineWord::Binary(Binary::Nand)),
-    (b"nor", LineWord::Binary(Binary::Nor)),
-    (b"or", LineWord::Binary(Binary::Or)),
+    (b"udiv", LineWord::Binary(Binary::Udiv)),
+    (b"urem", LineWord::Binary(Binary::Urem)),
+    (b"uext", LineWord::Extension(Extension::Uext)),
+];
+
+const WORDS_X: [Row; 2] = [
     (b"xnor", LineWord::Binary(Binary::Xnor)),
     (b"xor", LineWord::Binary(Binary::Xor)),
-    (b"sll", LineWord::Binary(Binary::Sll)),
-    (b"srl", LineWord::Binary(Binary::Srl)),
-    (b"sra", LineWord::Binary(Binary::Sra)),
-    (b"add", LineWord::Binary(Binary::Add)),
-    (b"sub", LineWord::Binary(Binary::Sub)),
-    (b"mul", LineWord::Binary(Binary::Mul)),
-    (b"udiv", LineWord::Binary(Binary::Udiv)),
-    (b"sdiv", LineWord::Binary(Binary::Sdiv)),
-    (b"urem", LineWord::Binary(Binary::Urem)),
-    (b"srem", LineWord::Binary(Binary::Srem)),
-    (b"smod", LineWord::Binary(Binary::Smod)),
-    (b"concat", LineWord::Binary(Binary::Concat)),
-    (b"ite", LineWord::Ite),
-    (b"slice", LineWord::Slice),
-    (b"uext", LineWord::Extension(Extension::Uext)),
-    (b"sext", LineWord::Extension(Extension::Sext)),
 ];
+
+const WORDS_Z: [Row; 1] = [(b"zero", LineWord::Nullary(Nullary::Zero))];
 
 // The words that are left out.
 const UNSUPPORTED: [&[u8]; 13] = [
@@ -131,29 +163,62 @@ const UNSUPPORTED: [&[u8]; 13] = [
     b"ssubo", b"usubo", b"sdivo",
 ];
 
-fn look_up(text: &[u8], table: &[(&[u8], LineWord)]) -> Option<LineWord>
+// The words of lines that begin with this byte.
+fn words_from(first: u8) -> &'static [Row]
+    ensures { map entry result.now ≡ filter (λ w. first == first_of w.0) rows }
+{
+    match first {
+        b'a' => &WORDS_A,
+        b'b' => &WORDS_B,
+        b'c' => &WORDS_C,
+        b'd' => &WORDS_D,
+        b'e' => &WORDS_E,
+        b'i' => &WORDS_I,
+        b'm' => &WORDS_M,
+        b'n' => &WORDS_N,
+        b'o' => &WORDS_O,
+        b'r' => &WORDS_R,
+        b's' => &WORDS_S,
+        b'u' => &WORDS_U,
+        b'x' => &WORDS_X,
+        b'z' => &WORDS_Z,
+        _ => &[],
+    }
+}
+
+fn look_up(text: &[u8], table: &[Row]) -> Option<LineWord>
     ensures { option_map seen_word result ≡ look_up text.now (map entry table.now) }
 {
     for (bytes, word) in table {
-        if text == *bytes {
+        if is_same(text, bytes) {
             return Some(*word);
         }
     }
     None
 }
 
-/// The word that is written so.
+// The first byte of a text, or 0 where it has none.
+fn first_of(text: &[u8]) -> u8
+    ensures { result ≡ first_of text.now }
+{
+    match text.split_first() {
+        Some((b, _)) => *b,
+        None => 0,
+    }
+}
+
+/// The word that is written so. It is compared with those that begin as it does alone.
 pub fn word_of(text: &[u8]) -> Option<LineWord>
     ensures { option_map seen_word result ≡ word_of text.now }
 {
-    look_up(text, &WORDS)
+    look_up(text, words_from(first_of(text)))
 }
 
 fn is_among(text: &[u8], table: &[&[u8]]) -> bool
     ensures { result ≡ list_any (λ w. bytes_eq text.now w) (texts table.now) }
 {
     for bytes in table {
-        if text == *bytes {
+        if is_same(text, bytes) {
             return true;
         }
     }

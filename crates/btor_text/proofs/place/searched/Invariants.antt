@@ -1,6 +1,6 @@
 use Rattle.std.proofs.Common.{◌-◌, ◌≤◌, length}
 use Rattle.btor_text.proofs.Search.{Between}
-use Rattle.btor_text.proofs.place.place_of.Given as goal
+use Rattle.btor_text.proofs.place.searched.Given as goal
 
 abbrev pub invariant-search : goal.invariant-search
 invariant-search l = record {
