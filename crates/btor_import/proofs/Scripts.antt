@@ -41,6 +41,13 @@ pub check_form_is : (lines : List Line) → check_of lines ≡ check_form lines
 unfolding check_form
 check_form_is lines = refl
 
+-- the lists of a system of lines
+pub system_lists : (lines : List Line) (s : PlainSystem) → s ≡ system_form lines
+    → (s.inputs ≡ (system_of lines).inputs) × (s.outputs ≡ (system_of lines).outputs) × (s.locals ≡ (system_of lines).locals)
+system_lists lines s e =
+    let f : s ≡ system_of lines = e ∙ sym (system_form_is lines) in
+    (ap (λ (x : PlainSystem). x.inputs) f, ap (λ (x : PlainSystem). x.outputs) f, ap (λ (x : PlainSystem). x.locals) f)
+
 forms_are : (lines : List Line) → script_with (codes "QF_BV") (system_form lines) (check_form lines) ≡ import_of lines
 unfolding system_form check_form
 forms_are lines = refl

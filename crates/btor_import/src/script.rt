@@ -93,14 +93,43 @@ fn queries_of(alloc: Global, nodes: &Nodes) -> Result<Queries, NoMemory>
     Ok(all)
 }
 
+// A variable once more.
+fn variable_again(alloc: Global, variable: &Variable) -> Result<Variable, NoMemory>
+    ensures { IfOk result (λ v. v ≡ variable.now) }
+{
+    let name = variable.name.duplicate(alloc)?;
+    Ok(Variable {
+        name,
+        sort: variable.sort,
+    })
+}
+
+// Variables once more.
+fn variables_again(alloc: Global, variables: &Variables) -> Result<Variables, NoMemory>
+    ensures { IfOk result (λ vs. vs ≡ variables.now) }
+{
+    let mut all = Variables::with_capacity(alloc, variables.len())?;
+    for i in 0..variables.len() {
+        let variable = variable_again(alloc, variables.at(i))?;
+        all.push(variable)?;
+    }
+    Ok(all)
+}
+
 // The check, which has the variables of the system.
-fn check_of(alloc: Global, nodes: &Nodes, numbers: &[u32]) -> Result<Check, NoMemory>
-    requires { number_at numbers.now ≡ number_of nodes.now }
+fn check_of(
+    alloc: Global,
+    nodes: &Nodes,
+    numbers: &[u32],
+    system: &System,
+) -> Result<Check, NoMemory>
+    requires numbers { number_at numbers.now ≡ number_of nodes.now }
+    requires system { plain_system system.now ≡ system_form nodes.now }
     ensures { IfOk result (λ c. plain_check c ≡ check_form nodes.now) }
 {
-    let inputs = variables_in(alloc, nodes, Group::Inputs)?;
-    let outputs = variables_in(alloc, nodes, Group::Outputs)?;
-    let locals = variables_in(alloc, nodes, Group::Locals)?;
+    let inputs = variables_again(alloc, &system.inputs)?;
+    let outputs = variables_again(alloc, &system.outputs)?;
+    let locals = variables_again(alloc, &system.locals)?;
     let reachables = reachables_of(alloc, nodes, numbers)?;
     let queries = queries_of(alloc, nodes)?;
     Ok(Check {
@@ -148,6 +177,6 @@ pub fn import_btor(alloc: Global, nodes: &Nodes) -> Result<Script, NoMemory>
     let numbers = numbers_of(alloc, nodes)?;
     let logic = logic_of(alloc)?;
     let system = system_of(alloc, nodes, &numbers)?;
-    let check = check_of(alloc, nodes, &numbers)?;
+    let check = check_of(alloc, nodes, &numbers, &system)?;
     assembled(alloc, logic, system, check)
 }

@@ -5,9 +5,10 @@ ghost use Rattle.btor_import.specs.Script.{variable_of, variables_in};
 
 use crate::numbers::{is_input, is_local, is_state, sort_at};
 use btor_tree::{Line, LineOp, Nodes};
+use itoa::Buffer;
 use moxi_terms::{Sort, Variable, Variables};
 use std::alloc::Global;
-use text_core::{Name, NoMemory, Text};
+use text_core::{Name, NoMemory};
 
 /// The list of variables in which a line's variable stands (MoXI, SPIN 2024).
 #[derive(Clone, Copy)]
@@ -24,10 +25,9 @@ pub(crate) enum Group {
 pub(crate) fn numbered(alloc: Global, letter: &[u8], number: usize) -> Result<Name, NoMemory>
     ensures { IfOk result (λ n. n ≡ letter.now ++ decimal number) }
 {
-    let mut text = Text::new(alloc);
-    text.put(letter)?;
-    text.put_unsigned(number as u128)?;
-    Name::of(alloc, text.bytes())
+    let mut buffer = Buffer::new();
+    let digits = buffer.format(number);
+    Name::joined(alloc, letter, digits.as_bytes())
 }
 
 fn is_in(group: Group, op: &LineOp) -> bool

@@ -67,7 +67,7 @@ pub enum LineWord {
     Extension(Extension),
 }
 
-/// A word of lines and how it is written.
+// A word of lines and how it is written.
 type Row = (&'static [u8], LineWord);
 
 const WORDS_A: [Row; 2] = [

@@ -1,4 +1,4 @@
-use Rattle.std.proofs.Common.{sym, ◌∙◌}
+use Rattle.std.proofs.Common.{◌∙◌}
 use Rattle.btor_tree.specs.Parts.{parts}
 use Rattle.btor_text.specs.Seen.{seen_word}
 use Rattle.btor_text.proofs.Words.{content_there}
