@@ -30,7 +30,7 @@ use Rattle.btor_simplify.proofs.Steps.{worded_line, shared_word, sort_inside}
 use Rattle.btor_simplify.proofs.Marking.{source}
 use Rattle.btor_simplify.proofs.Ordering.{differ, sort_of_line, HasSort}
 use Rattle.btor_simplify.proofs.Writing.{line_there, new_sort_is, stays, word_sort}
-use Rattle.btor_simplify.proofs.Whole.{Simplified}
+use Rattle.btor_simplify.specs.Simplified.{IsSimplified}
 
 -- two lines that stay and say the same are one
 module _ (lines : List Line) (fates : List Outcome) (k : AreKnown lines fates) where
@@ -131,7 +131,7 @@ module _ (places : List ℕ) (moved : List (Option ℕ)) (back : (i q : ℕ) →
       let sign : x.negated ≡ y.negated = ap (λ (a : Arg). a.negated) heads in
       ap (λ n. record { line = n; negated = x.negated } ∷ xs) line ∙ ap (λ b. record { line = y.line; negated = b } ∷ xs) sign ∙ ap (λ zs. y ∷ zs) (same_moved xs ys p q h.1 g.1 tails)
 
-module _ (old new : List Line) (s : Simplified old new) where
+module _ (old new : List Line) (s : IsSimplified old new) where
   -- the old line of a new one
   pub record Origin (q : ℕ) (m : Line) : Type 0 where
     pub from : ℕ

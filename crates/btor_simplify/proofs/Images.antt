@@ -24,7 +24,8 @@ use Rattle.btor_simplify.proofs.Steps.{sort_before}
 use Rattle.btor_simplify.proofs.Ordering.{sorted, HasSort, sort_of_line}
 use Rattle.btor_simplify.proofs.Values.{Holds, holds, arg_holds}
 use Rattle.btor_simplify.proofs.Writing.{before_at, new_sort_is, line_there, stays, map_twice}
-use Rattle.btor_simplify.proofs.Whole.{Simplified, has_place, same_lines, line_new}
+use Rattle.btor_simplify.specs.Simplified.{IsSimplified}
+use Rattle.btor_simplify.proofs.Whole.{has_place, same_lines, line_new}
 
 -- the words at places
 abbrev pub images : List BitVector → List ℕ → List BitVector
@@ -77,7 +78,7 @@ map_same f g move [] h = refl
 map_same f g move (a ∷ more) h =
     ap (λ x. x ∷ map f (map move more)) (h zero a refl) ∙ ap (λ xs. g a ∷ xs) (map_same f g move more (λ j b e. h (suc j) b e))
 
-module _ (old new : List Line) (s : Simplified old new) (row : List BitVector) (frame : IsFrame old row) where
+module _ (old new : List Line) (s : IsSimplified old new) (row : List BitVector) (frame : IsFrame old row) where
   pub word_moved : (i q : ℕ) → IsMoved s.moved i q → word_at (images row s.places) (place_in s.moved i) ≡ word_at row i
   word_moved i q h = ap (word_at (images row s.places)) (ap place_or_first h) ∙ image_at row s.places q i (s.order.back i q h)
 
@@ -149,5 +150,5 @@ module _ (old new : List Line) (s : Simplified old new) (row : List BitVector) (
         args = args_kept;
       }
 
-pub keeps_words : (old new : List Line) → Simplified old new → KeepsWords old new
+pub keeps_words : (old new : List Line) → IsSimplified old new → KeepsWords old new
 keeps_words old new s = (λ i. place_in s.moved i, same_lines old new s, λ row frame. (images row s.places, same_words old new s row frame))

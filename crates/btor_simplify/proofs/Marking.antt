@@ -16,7 +16,7 @@ use Rattle.btor_tree.proofs.Grows.{slice_get_inside, inside_get}
 use Rattle.btor_rules.specs.declared.operand.Outcome.{Outcome}
 use Rattle.btor_rules.specs.declared.operand.Outcome.TheVariants.{Stays, Constant, Argument}
 use Rattle.btor_simplify.specs.Fates.{fate_at, replaced, Lives, AreFates}
-use Rattle.btor_simplify.specs.Marks.{args_by, is_marked, AreMarkedLines, MarksUpto, CanMark, AreMarks, AreKnown}
+use Rattle.btor_simplify.specs.Marks.{args_by, is_marked, AreMarkedLines, MarksUpto, CanMark, IsReached, starts, reads, AreMarks, AreKnown}
 use Rattle.btor_simplify.proofs.Steps.{none_all, worded, moved_arg, width_before}
 
 set_marked : (marks : List Bool) (p i : ℕ) → is_marked marks i ≡ true → p < length marks → is_marked (set marks p true) i ≡ true
@@ -113,6 +113,11 @@ marked_more : (old new : List Bool) → ((i : ℕ) → is_marked old i ≡ true 
 marked_more old new h [] m = tt
 marked_more old new h (a ∷ more) m = (h a.line m.0, marked_more old new h more m.1)
 
+pub map_here : (fates : List Outcome) (args : List Arg) (j : ℕ) (a : Arg) → slice_get args j ≡ Some a → slice_get (map (replaced fates) args) j ≡ Some (replaced fates a)
+map_here fates [] j a e = absurd (none-some a e)
+map_here fates (x ∷ more) zero a e = ap Some (ap (replaced fates) (same_Some x a e))
+map_here fates (x ∷ more) (suc j) a e = map_here fates more j a e
+
 -- one line more is done
 module _ (lines : List Line) (fates : List Outcome) (i : ℕ) (l : Line) (k : AreKnown lines fates) (at : slice_get lines i ≡ Some l) (old : List Bool) (h : AreMarks lines fates (i + 1) old) where
   here_lives : (is_shared l.op ≡ false) ⊎ (is_marked old i ≡ true) → Lives (fate_at fates i)
@@ -139,7 +144,10 @@ module _ (lines : List Line) (fates : List Outcome) (i : ℕ) (l : Line) (k : Ar
       differ : true ≡ false → ⊥
       differ e = absurd (cc)
 
-  module _ (s : (is_shared l.op ≡ false) ⊎ (is_marked old i ≡ true)) (new : List Bool) (sized : length new ≡ length old) (stays : (j : ℕ) → is_marked (set old i true) j ≡ true → is_marked new j ≡ true) (only : (j : ℕ) → is_marked new j ≡ true → (is_marked (set old i true) j ≡ true) ⊎ ((j < i) × Lives (fate_at fates j) × (1 ≤ width_at lines j))) (here : AreMarkedLines new (args_by fates (fate_at fates i) l.args)) where
+  here_reached : (is_shared l.op ≡ false) ⊎ (is_marked old i ≡ true) → IsReached lines fates i
+  here_reached s = elim s [ inl o ↦ starts i l at o | inr m ↦ h.reached i m ]
+
+  module _ (s : (is_shared l.op ≡ false) ⊎ (is_marked old i ≡ true)) (new : List Bool) (sized : length new ≡ length old) (stays : (j : ℕ) → is_marked (set old i true) j ≡ true → is_marked new j ≡ true) (only : (j : ℕ) → is_marked new j ≡ true → (is_marked (set old i true) j ≡ true) ⊎ ((j < i) × Lives (fate_at fates j) × (1 ≤ width_at lines j) × IsReached lines fates j)) (here : AreMarkedLines new (args_by fates (fate_at fates i) l.args)) where
     inside_marks : i < length old
     inside_marks = omega (arith, h.sized, slice_get_inside lines i l at)
 
@@ -157,6 +165,10 @@ module _ (lines : List Line) (fates : List Outcome) (i : ℕ) (l : Line) (k : Ar
           words = λ j m e g t. elim (only j t) [
             | inl o ↦ elim (set_only old i j o) [ inl x ↦ h.words j m e g x | inr q ↦ subst (λ n. 1 ≤ width_at lines n) (sym q) (here_word s m (ap (slice_get lines) (sym q) ∙ e) g) ]
             | inr o ↦ o.2
+          ];
+          reached = λ j m. elim (only j m) [
+            | inl o ↦ elim (set_only old i j o) [ inl x ↦ h.reached j x | inr e ↦ subst (IsReached lines fates) (sym e) (here_reached s) ]
+            | inr o ↦ o.3
           ];
           kept = λ j m le e g. elim (cases_lt i j) [
             | inl lt ↦ keeps j (h.kept j m (omega (arith, lt)) e g)
@@ -191,12 +203,17 @@ module _ (lines : List Line) (fates : List Outcome) (i : ℕ) (l : Line) (k : Ar
   args_by_marked new (Constant c) m = tt
   args_by_marked new (Argument b) m = m
 
-  pub operator_marked : (is_shared l.op ≡ false) ⊎ (is_marked old i ≡ true) → (new : List Bool) → MarksUpto fates l.args (length l.args) (set old i true) new → AreMarks lines fates i new
-  operator_marked s new m =
+  read_arg : (f : Outcome) → ((c : BitVector) → f ≡ Constant c → ⊥) → (j : ℕ) (a : Arg) → slice_get l.args j ≡ Some a → slice_get (args_by fates f l.args) j ≡ Some (replaced fates a)
+  read_arg Stays n j a e = map_here fates l.args j a e
+  read_arg (Constant c) n j a e = absurd (n c refl)
+  read_arg (Argument b) n j a e = map_here fates l.args j a e
+
+  pub operator_marked : (is_shared l.op ≡ false) ⊎ (is_marked old i ≡ true) → ((c : BitVector) → fate_at fates i ≡ Constant c → ⊥) → (new : List Bool) → MarksUpto fates l.args (length l.args) (set old i true) new → AreMarks lines fates i new
+  operator_marked s n new m =
       line_marked s new (m.sized ∙ length-set old i true) m.stays
       (λ j t. elim (m.only j t) [
         | inl o ↦ inl o
-        | inr o ↦ let g = source lines fates i l o.0 o.1 k at o.2 in inr (omega (arith, g.earlier, o.3), subst (λ n. Lives (fate_at fates n)) (sym o.3) g.lives, subst (λ n. 1 ≤ width_at lines n) (sym o.3) g.wide)
+        | inr o ↦ let g = source lines fates i l o.0 o.1 k at o.2 in inr (omega (arith, g.earlier, o.3), subst (λ n. Lives (fate_at fates n)) (sym o.3) g.lives, subst (λ n. 1 ≤ width_at lines n) (sym o.3) g.wide, reads i o.0 j l (replaced fates o.1) (here_reached s) at (read_arg (fate_at fates i) n o.0 o.1 o.2) (sym o.3))
       ])
       (args_by_marked new (fate_at fates i) (args_marked new l.args 0 (λ j a e. m.marked j a (slice_get_inside l.args j a e) e)))
 
@@ -206,6 +223,7 @@ module _ (lines : List Line) (fates : List Outcome) (i : ℕ) (l : Line) (k : Ar
         sized = h.sized;
         lives = h.lives;
         words = h.words;
+        reached = h.reached;
         kept = λ j m le e o. elim (cases_lt i j) [
           | inl lt ↦ h.kept j m (omega (arith, lt)) e o
           | inr ge ↦ let same : i ≡ j = omega (arith, le, ge) in absurd (differ (sym g ∙ ap (λ (x : Line). is_shared x.op) (same_Some l m (sym at ∙ ap (slice_get lines) same ∙ e)) ∙ o))
@@ -226,6 +244,7 @@ no_marks lines fates marks e none =
       sized = e;
       lives = λ i m. absurd (differ (sym m ∙ none i));
       words = λ i l at g m. absurd (differ (sym m ∙ none i));
+      reached = λ i m. absurd (differ (sym m ∙ none i));
       kept = λ i l le at g. absurd (omega (arith, le, slice_get_inside lines i l at));
       closed = λ i l le at m. absurd (omega (arith, le, slice_get_inside lines i l at));
     }

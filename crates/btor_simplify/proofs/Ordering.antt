@@ -1,10 +1,10 @@
 -- One line more in the order.
-use Rattle.std.proofs.Common.{◌≡◌, ◌≢◌, ℕ, zero, suc, ◌+◌, ◌-◌, ◌<◌, ◌≤◌, Bool, true, false, cond, List, [], ◌∷◌, ◌++◌, length, take, set, get_or, map, replicate, Option, Some, None, refl, sym, ap, subst, ◌∙◌, arith, inl, inr, ◌⊎◌}
+use Rattle.std.proofs.Common.{◌≡◌, ◌≢◌, ℕ, zero, suc, ◌+◌, ◌-◌, ◌<◌, ◌≤◌, Bool, true, false, cond, List, [], ◌∷◌, ◌++◌, ◌||◌, eqb, length, take, set, get_or, map, replicate, Option, Some, None, refl, sym, ap, subst, ◌∙◌, arith, inl, inr, ◌⊎◌}
 use Rattle.std.specs.Prelude.{slice_get, OnOk}
 use Rattle.std.specs.declared.result.Result.{Result}
 use Rattle.std.specs.declared.result.Result.TheVariants.{Ok, Err}
 use Rattle.std.specs.List.{AllByRecursion}
-use Rattle.std.proofs.lemmas.Bool.{cases_lt, cases_eq, cases_Bool}
+use Rattle.std.proofs.lemmas.Bool.{cases_lt, cases_eq, cases_Bool, eq-eqb, ne_eqb}
 use Rattle.std.proofs.lemmas.List.{get_or-set_same, get_or-set_other, length-set, length_push, length-replicate}
 use Rattle.std.proofs.lemmas.Option.{same_Some, none-some}
 use Rattle.btor_tree.specs.declared.args.Arg.{Arg}
@@ -19,7 +19,7 @@ use Rattle.btor_rules.specs.declared.operand.Outcome.{Outcome}
 use Rattle.btor_rules.specs.declared.operand.Outcome.TheVariants.{Stays, Constant, Argument}
 use Rattle.btor_simplify.specs.Fates.{fate_at, replaced, place_by, sort_for, Lives, AreFates, is_sort}
 use Rattle.btor_simplify.specs.Marks.{args_by, is_marked, AreMarkedLines, AreMarks, AreKnown}
-use Rattle.btor_simplify.specs.Order.{has_sort, IsMoved, IsBefore, AreBefore, IsReadyAt, moved_count, IsOrder, KeepsPlaces, HaveMarkedMoved, HasPlace, IsLiveSort}
+use Rattle.btor_simplify.specs.Order.{has_sort, IsMoved, IsBefore, AreBefore, IsReadyAt, moved_count, IsOrder, KeepsPlaces, HaveMarkedMoved, HasPlace, IsLiveSort, is_in, with_place}
 use Rattle.btor_simplify.proofs.Steps.{Moved, moved_to, sort_line_at, sort_before, sort_inside}
 use Rattle.btor_simplify.proofs.Marking.{source}
 
@@ -338,3 +338,32 @@ order_line lines fates marks i l places newp moved newm k m at marked o have sor
 pub ok_one_so : {A E : Type 0} (r : Result A E) (P S : Type 0) → (P → S) → OnOk r P → OnOk r S
 ok_one_so (Ok x) P S f p = f p
 ok_one_so (Err e) P S f p = tt
+
+-- places in a list
+pub found_in : (places : List ℕ) (q s : ℕ) → slice_get places q ≡ Some s → is_in places s ≡ true
+found_in [] q s h = absurd (none-some s h)
+found_in (p ∷ more) zero s h = ap (λ b. b || is_in more s) (eq-eqb p s (same_Some p s h))
+found_in (p ∷ more) (suc q) s h = elim (cases_Bool (eqb p s)) [
+  | inl e ↦ ap (λ b. b || is_in more s) e
+  | inr n ↦ ap (λ b. b || is_in more s) n ∙ found_in more q s h
+]
+
+pub place_of : (places : List ℕ) (s : ℕ) → is_in places s ≡ true → (q : ℕ) × (slice_get places q ≡ Some s)
+place_of [] s h = absurd (differ (sym h))
+place_of (p ∷ more) s h = elim (cases_eq p s) [
+  | inl e ↦ (0, ap Some e)
+  | inr n ↦ let r = place_of more s (ap (λ b. b || is_in more s) (sym (ne_eqb p s n)) ∙ h) in (suc r.0, r.1)
+]
+
+pub not_in : (places : List ℕ) (moved : List (Option ℕ)) (s : ℕ) → ((q i : ℕ) → slice_get places q ≡ Some i → IsMoved moved i q) → get_or moved s None ≡ None → is_in places s ≡ false
+not_in places moved s forward free =
+    elim (cases_Bool (is_in places s)) [
+      | inl t ↦ let p = place_of places s t in absurd (none-some p.0 (sym free ∙ forward p.0 s p.1))
+      | inr n ↦ n
+    ]
+
+pub place_put : (places newp : List ℕ) (s : ℕ) → is_in places s ≡ false → newp ≡ places ++ s ∷ [] → newp ≡ with_place places s
+place_put places newp s n e = e ∙ sym (ap (λ b. cond b places (places ++ s ∷ [])) n)
+
+pub place_known : (places : List ℕ) (s : ℕ) → is_in places s ≡ true → places ≡ with_place places s
+place_known places s n = sym (ap (λ b. cond b places (places ++ s ∷ [])) n)

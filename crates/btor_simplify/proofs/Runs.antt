@@ -20,7 +20,8 @@ use Rattle.btor_simplify.specs.Fates.{fate_at, replaced}
 use Rattle.btor_simplify.specs.Written.{op_by, place_or_first, place_in, moved_arg, new_args, new_line}
 use Rattle.btor_simplify.specs.Words.{HasSameWords, HaveSameWords, KeepsRuns}
 use Rattle.btor_simplify.proofs.Writing.{stays, same_state, two_args, value_args, init_two, next_two, init_other, next_other, kind_line, take_line, unshared_of, head_same}
-use Rattle.btor_simplify.proofs.Whole.{Simplified, from_new, has_place, line_new, same_lines}
+use Rattle.btor_simplify.specs.Simplified.{IsSimplified}
+use Rattle.btor_simplify.proofs.Whole.{from_new, has_place, line_new, same_lines}
 use Rattle.btor_simplify.proofs.Images.{images, word_moved, arg_moved, same_words}
 
 -- the line that gives a value
@@ -55,7 +56,7 @@ value_is kind ls i l x v at k e none =
 second_same : (a b c d : Arg) → a ∷ b ∷ [] ≡ c ∷ d ∷ [] → b ≡ d
 second_same a b c d e = same_Some b d (ap (λ zs. slice_get zs 1) e)
 
-module _ (old new : List Line) (s : Simplified old new) where
+module _ (old new : List Line) (s : IsSimplified old new) where
   module _ (kind : LineOp → Bool) (other : (f : Outcome) (x : LineOp) → kind (op_by f x) ≡ true → (kind x ≡ true) × (is_shared x ≡ false)) (two : (ls : List Line) (t : ℕ) (x : LineOp) (args : List Arg) → kind x ≡ true → OpFits ls t x args → OnTwo args (λ x v. GivesValue kind ls t x v)) (row next : List BitVector) (frame : IsFrame old row) (after : IsFrame old next) (holds : (x : ℕ) (v : Arg) → state_value kind old x ≡ Some v → word_at next x ≡ operand row v) where
     values_hold : (t : ℕ) (a : Arg) → state_value kind new t ≡ Some a → word_at (images next s.places) t ≡ operand (images row s.places) a
     values_hold t a h =

@@ -27,7 +27,7 @@ use Rattle.btor_simplify.specs.Written.{op_by, place_or_first, place_in, moved_a
 use Rattle.btor_simplify.specs.Normal.{FitsNoRule}
 use Rattle.btor_simplify.proofs.Marking.{source}
 use Rattle.btor_simplify.proofs.Writing.{before_at, new_sort_is, width_moves, word_sort, stays}
-use Rattle.btor_simplify.proofs.Whole.{Simplified}
+use Rattle.btor_simplify.specs.Simplified.{IsSimplified}
 use Rattle.btor_simplify.proofs.Distinct.{Origin, origin, old_shared, same_place, op_of}
 use Rattle.btor_simplify.proofs.Renaming.{renamed, TellsApart, all_renamed, AreToldApart, outcome_stays, argument_stays, constant_stays}
 
@@ -38,7 +38,7 @@ same_test p q i j f g =
 nothing_fits : (o : LineOp) (lines : List Line) (args : List Arg) → args ≡ [] → outcome o (operands_of lines [] args) ≡ Stays
 nothing_fits o lines args e = ap (λ zs. outcome o (operands_of lines [] zs)) e
 
-module _ (old new : List Line) (s : Simplified old new) (q : ℕ) (m : Line) (x : Origin old new s q m) (e : fate_at s.fates x.from ≡ Stays) where
+module _ (old new : List Line) (s : IsSimplified old new) (q : ℕ) (m : Line) (x : Origin old new s q m) (e : fate_at s.fates x.from ≡ Stays) where
   reads : AreBefore s.moved (map (replaced s.fates) x.line.args) q
   reads = subst (λ f. AreBefore s.moved (args_by s.fates f x.line.args) q) e (s.order.ready q x.from x.line x.placed x.at).args
 
@@ -124,7 +124,7 @@ module _ (old new : List Line) (s : Simplified old new) (q : ℕ) (m : Line) (x 
       ap (λ zs. outcome m.op (operands_of new [] zs)) args ∙ ap (outcome m.op) (shapes x.line.args operand_moves) ∙ ap (λ o. outcome o (all_renamed (moved_arg s.moved) (operands_of old (take x.from s.fates) x.line.args))) (op_of old new s q m x Stays e)
       ∙ outcome_stays (moved_arg s.moved) x.line.op (operands_of old (take x.from s.fates) x.line.args) (told x.line.args tells) was
 
-module _ (old new : List Line) (s : Simplified old new) where
+module _ (old new : List Line) (s : IsSimplified old new) where
   by_fate : (q : ℕ) (m : Line) (x : Origin old new s q m) (f : Outcome) → fate_at s.fates x.from ≡ f → is_shared m.op ≡ true → outcome m.op (operands_of new [] m.args) ≡ Stays
   by_fate q m x Stays e h = stays_fits old new s q m x e h
   by_fate q m x (Argument b) e h = absurd (subst Lives e x.lives)

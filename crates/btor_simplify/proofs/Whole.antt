@@ -16,6 +16,7 @@ use Rattle.btor_simplify.specs.Fates.{fate_at, replaced, Lives, AreFates, is_sor
 use Rattle.btor_simplify.specs.Marks.{AreKnown, AreMarks}
 use Rattle.btor_simplify.specs.Order.{IsMoved, IsOrder, HaveMarkedMoved}
 use Rattle.btor_simplify.specs.Written.{op_by, place_or_first, place_in, moved_arg, new_args, new_symbol, new_line, IsWritten}
+use Rattle.btor_simplify.specs.Simplified.{IsSimplified}
 use Rattle.btor_simplify.specs.Kept.{AreSameLines, KeepsLines}
 use Rattle.btor_simplify.proofs.Ordering.{count_most}
 use Rattle.btor_simplify.proofs.Writing.{stays, same_state, line_there, width_moves, no_sort_kind, init_two, next_two, two_args}
@@ -23,23 +24,10 @@ use Rattle.btor_simplify.proofs.Writing.{stays, same_state, line_there, width_mo
 pub known : (lines : List Line) (fates : List Outcome) → IsWellFormed lines → AreFates lines fates → length fates ≡ length lines → AreKnown lines fates
 known lines fates w k e = record { well_formed = w; known = k; sized = e }
 
--- what the steps made
-pub record Simplified (old new : List Line) : Type 0 where
-  pub fates : List Outcome
-  pub marks : List Bool
-  pub places : List ℕ
-  pub moved : List (Option ℕ)
-  pub known : AreKnown old fates
-  pub marked : AreMarks old fates 0 marks
-  pub order : IsOrder old fates (length old) places moved
-  pub kept : HaveMarkedMoved marks (length old) moved
-  pub written : IsWritten old fates places moved (length places) new
-  pub well_formed : IsWellFormed new
-
-pub fewer : (old new : List Line) → Simplified old new → length new ≤ length old
+pub fewer : (old new : List Line) → IsSimplified old new → length new ≤ length old
 fewer old new s = omega (arith, s.written.sized, s.order.count, count_most s.moved, s.order.sized)
 
-pub numbered : (old new : List Line) → Simplified old new → last_id new ≡ length new
+pub numbered : (old new : List Line) → IsSimplified old new → last_id new ≡ length new
 numbered old new s = s.written.numbered ∙ sym s.written.sized
 
 same_symbol : (o : LineOp) (symbol : Option (List ℕ)) → is_shared o ≡ false → new_symbol o symbol ≡ symbol
@@ -59,7 +47,7 @@ valued y h = absurd (cc)
 two_same : (args : List Arg) (x v : Arg) (P : Arg → Arg → Type 0) → args ≡ x ∷ v ∷ [] → OnTwo args P → P x v
 two_same args x v P e h = subst (λ zs. OnTwo zs P) e h
 
-module _ (old new : List Line) (s : Simplified old new) where
+module _ (old new : List Line) (s : IsSimplified old new) where
   pub has_place : (i : ℕ) (l : Line) → slice_get old i ≡ Some l → is_shared l.op ≡ false → (q : ℕ) × IsMoved s.moved i q
   has_place i l at h =
       let lt = slice_get_inside old i l at in

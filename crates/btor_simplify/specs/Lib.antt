@@ -3,6 +3,7 @@ pub mod Fates
 pub mod Marks
 pub mod Order
 pub mod Written
+pub mod Simplified
 pub mod Kept
 pub mod Words
 pub mod Normal

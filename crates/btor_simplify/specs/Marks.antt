@@ -33,12 +33,19 @@ abbrev pub CanMark : List Outcome → List Arg → List Bool → Type 0
 CanMark fates args marks =
     (j : ℕ) (a : Arg) → slice_get args j ≡ Some a → (a.line < length fates) × ((replaced fates a).line < length marks)
 
--- what is marked stays and is no sort, from a place on each line is marked that is no sort, constant or operator, and what
+-- a line that is no sort, constant or operator is reached, and so is each line that a reached line reads, after what became of
+-- its arguments
+pub data IsReached (lines : List Line) (fates : List Outcome) : ℕ → Type 0 where
+  starts : (i : ℕ) (l : Line) → slice_get lines i ≡ Some l → is_shared l.op ≡ false → IsReached lines fates i
+  reads : (i j p : ℕ) (l : Line) (b : Arg) → IsReached lines fates i → slice_get lines i ≡ Some l → slice_get (args_by fates (fate_at fates i) l.args) j ≡ Some b → b.line ≡ p → IsReached lines fates p
+
+-- what is marked stays, is reached and is no sort, from a place on each line is marked that is no sort, constant or operator, and what
 -- stands for the arguments of a marked line is marked
 pub record AreMarks (lines : List Line) (fates : List Outcome) (n : ℕ) (marks : List Bool) : Type 0 where
   pub sized : length marks ≡ length lines
   pub lives : (i : ℕ) → is_marked marks i ≡ true → Lives (fate_at fates i)
   pub words : (i : ℕ) (l : Line) → slice_get lines i ≡ Some l → is_shared l.op ≡ true → is_marked marks i ≡ true → 1 ≤ width_at lines i
+  pub reached : (i : ℕ) → is_marked marks i ≡ true → IsReached lines fates i
   pub kept : (i : ℕ) (l : Line) → n ≤ i → slice_get lines i ≡ Some l → is_shared l.op ≡ false → is_marked marks i ≡ true
   pub closed : (i : ℕ) (l : Line) → n ≤ i → slice_get lines i ≡ Some l → is_marked marks i ≡ true → AreMarkedLines marks (args_by fates (fate_at fates i) l.args)
 

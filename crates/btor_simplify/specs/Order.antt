@@ -1,13 +1,13 @@
 -- The order of the lines that stay.
-use Rattle.std.specs.Prelude.{◌≡◌, ◌≤◌, ◌<◌, ◌+◌, ℕ, Bool, true, false, List, [], ◌∷◌, length, Option, Some, None, slice_get, get_or}
-use Rattle.std.specs.List.{AllByRecursion}
+use Rattle.std.specs.Prelude.{◌≡◌, ◌≤◌, ◌<◌, ◌+◌, ℕ, Bool, true, false, List, [], ◌∷◌, length, Option, Some, None, slice_get, zero, suc, ◌++◌, ◌==◌, get_or, if◌then◌else◌}
+use Rattle.std.specs.List.{AllByRecursion, list_any}
 use Rattle.btor_tree.specs.declared.args.Arg.{Arg}
 use Rattle.btor_tree.specs.declared.lines.Line.{Line}
 use Rattle.btor_tree.specs.declared.lines.LineOp.{LineOp}
 use Rattle.btor_tree.specs.declared.lines.LineOp.TheVariants as op
 use Rattle.btor_rules.specs.declared.operand.Outcome.{Outcome}
 use Rattle.btor_simplify.specs.Fates.{fate_at, sort_for, Lives, is_sort}
-use Rattle.btor_simplify.specs.Marks.{args_by}
+use Rattle.btor_simplify.specs.Marks.{args_by, is_marked}
 
 -- has a line of this kind a sort?
 abbrev pub has_sort : LineOp → Bool
@@ -67,3 +67,30 @@ pub record IsLiveSort (lines : List Line) (fates : List Outcome) (s : ℕ) : Typ
   pub at : slice_get lines s ≡ Some line
   pub sort : is_sort line.op ≡ true
   pub lives : Lives (fate_at fates s)
+
+-- is the place in the list?
+abbrev pub is_in : List ℕ → ℕ → Bool
+is_in places s = list_any (λ p. p == s) places
+
+-- the place comes at the end where the list does not have it yet
+abbrev pub with_place : List ℕ → ℕ → List ℕ
+with_place places s = if is_in places s then places else places ++ s ∷ []
+
+-- the sort line of a line comes at the end where the list does not have it yet
+abbrev pub with_sort_of : List Outcome → Line → List ℕ → List ℕ
+with_sort_of fates l places = if has_sort l.op then with_place places (sort_for fates l.sort) else places
+
+-- a line comes at the end, behind its sort line
+abbrev pub with_line : List Outcome → ℕ → Option Line → List ℕ → List ℕ
+with_line fates i None places = places
+with_line fates i (Some l) places = with_sort_of fates l places ++ i ∷ []
+
+-- a line comes at the end where it is marked
+abbrev pub with_marked : List Line → List Outcome → List Bool → ℕ → List ℕ → List ℕ
+with_marked lines fates marks i places = if is_marked marks i then with_line fates i (slice_get lines i) places else places
+
+-- the old places of the lines that the first n lines make, in their order: those that are marked, and each sort line directly
+-- before the first of them that has it
+abbrev pub order_upto : List Line → List Outcome → List Bool → ℕ → List ℕ
+order_upto lines fates marks zero = []
+order_upto lines fates marks (suc n) = with_marked lines fates marks n (order_upto lines fates marks n)

@@ -64,6 +64,7 @@ fn put_sort(
     ensures order { OnOk result (spec.IsOrder nodes.now fates.now n order.new.places.items order.new.moved.items) }
     ensures keeps { OnOk result (spec.KeepsPlaces order.old.moved.items order.new.moved.items) }
     ensures there { OnOk result (spec.HasPlace order.new.moved.items s) }
+    ensures placed { OnOk result (order.new.places.items ≡ spec.with_place order.old.places.items s) }
 {
     match new_place(&order.moved, s) {
         Some(_) => Ok(()),
@@ -85,6 +86,7 @@ fn put_sort_of(
     ensures order { OnOk result (spec.IsOrder nodes.now fates.now i order.new.places.items order.new.moved.items) }
     ensures keeps { OnOk result (spec.KeepsPlaces order.old.moved.items order.new.moved.items) }
     ensures there { OnOk result (spec.has_sort line.now.op ≡ true → spec.HasPlace order.new.moved.items (fates_spec.sort_for fates.now line.now.sort)) }
+    ensures placed { OnOk result (order.new.places.items ≡ spec.with_sort_of fates.now line.now order.old.places.items) }
 {
     if has_sort(&line.op) {
         put_sort(nodes, fates, order, i, sort_for(fates, line.sort))
@@ -109,6 +111,7 @@ fn put_line(
     requires moved { spec.HaveMarkedMoved marks.now i order.old.moved.items }
     ensures order { OnOk result (spec.IsOrder nodes.now fates.now (i + 1) order.new.places.items order.new.moved.items) }
     ensures moved { OnOk result (spec.HaveMarkedMoved marks.now (i + 1) order.new.moved.items) }
+    ensures placed { OnOk result (order.new.places.items ≡ spec.with_line fates.now i (slice_get nodes.now i) order.old.places.items) }
 {
     put_sort_of(nodes, fates, order, nodes.at(i), i)?;
     put(order, i as u32)
@@ -129,6 +132,7 @@ fn put_marked(
     requires moved { spec.HaveMarkedMoved marks.now i order.old.moved.items }
     ensures order { OnOk result (spec.IsOrder nodes.now fates.now (i + 1) order.new.places.items order.new.moved.items) }
     ensures moved { OnOk result (spec.HaveMarkedMoved marks.now (i + 1) order.new.moved.items) }
+    ensures placed { OnOk result (order.new.places.items ≡ spec.with_marked nodes.now fates.now marks.now i order.old.places.items) }
 {
     if marks[i] {
         put_line(nodes, fates, marks, order, i)
@@ -148,6 +152,7 @@ pub fn order_of(
     requires marks { AreMarks nodes.now fates.now 0 marks.now }
     ensures order { IfOk result (λ order. spec.IsOrder nodes.now fates.now (length nodes.now) order.places.items order.moved.items) }
     ensures moved { IfOk result (λ order. spec.HaveMarkedMoved marks.now (length nodes.now) order.moved.items) }
+    ensures placed { IfOk result (λ order. order.places.items ≡ spec.order_upto nodes.now fates.now marks.now (length nodes.now)) }
 {
     let mut order = no_order(alloc, nodes, fates)?;
     for i in 0..nodes.len() {
@@ -158,7 +163,8 @@ pub fn order_of(
 
 // Returns the order of no lines.
 fn no_order(alloc: Global, nodes: &Nodes, fates: &[Outcome]) -> Result<Order, NoMemory>
-    ensures { IfOk result (λ order. spec.IsOrder nodes.now fates.now 0 order.places.items order.moved.items) }
+    ensures order { IfOk result (λ order. spec.IsOrder nodes.now fates.now 0 order.places.items order.moved.items) }
+    ensures empty { IfOk result (λ order. order.places.items ≡ []) }
 {
     let mut moved = Vec::new(alloc);
     moved.resize(nodes.len(), None)?;

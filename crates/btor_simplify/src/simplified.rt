@@ -3,6 +3,7 @@ ghost use Rattle.std.specs.Prelude.{◌≡◌, ◌≤◌, length, IfOk};
 ghost use Rattle.btor_tree.specs.Fits.{last_id};
 ghost use Rattle.btor_simplify.specs.Kept.{KeepsLines};
 ghost use Rattle.btor_simplify.specs.Normal.{FitsNoRule, HasNoTwoSame};
+ghost use Rattle.btor_simplify.specs.Simplified.{IsSimplified};
 ghost use Rattle.btor_simplify.specs.Words.{KeepsRuns, KeepsWords};
 
 use crate::fates::fates_of;
@@ -32,6 +33,8 @@ pub fn simplify(alloc: Global, nodes: &Nodes) -> Result<Nodes, NoMemory>
     ensures distinct { IfOk result HasNoTwoSame }
     // No rule fits any line.
     ensures unfit { IfOk result FitsNoRule }
+    // This list and no other.
+    ensures simplified { IfOk result (λ new. IsSimplified nodes.now new) }
 {
     // This call's contract says that the lines fit one another.
     let _count = nodes.len();

@@ -20,7 +20,9 @@ returns-in-Constant c =
 pub returns-in_default : goal.returns-in_default
 returns-in_default c =
     let s = left_cases c.at-line.result.now.op _ (sym c.is_left_out.ensures ∙ c.if-is_left_out.false) in
-    operator_marked c.args.nodes.now c.args.fates.now c.args.i c.at-line.result.now c.requires.known c.at-line.ensures c.args.marks.now c.requires.marked s c.mark_args.new.marks c.mark_args.ensures
+    let lt : c.args.i < length c.args.fates.now = omega (arith, c.requires.inside, c.requires.known.sized) in
+    let fate = fate_read c.args.fates.now c.args.i c.index-fates-i.result lt c.index-fates-i.is in
+    operator_marked c.args.nodes.now c.args.fates.now c.args.i c.at-line.result.now c.requires.known c.at-line.ensures c.args.marks.now c.requires.marked s (λ w e. c.in_default.not-Constant w (sym fate ∙ e)) c.mark_args.new.marks c.mark_args.ensures
 
 pub mark_args-requires : goal.mark_args-requires
 mark_args-requires c =

@@ -1,6 +1,7 @@
-use Rattle.std.proofs.Common.{arith}
+use Rattle.std.proofs.Common.{arith, ◌++◌, ◌∷◌, [], sym, ap, ◌∙◌}
+use Rattle.btor_simplify.specs.Order.{with_line}
 use Rattle.btor_tree.proofs.Grows.{lines_short}
-use Rattle.btor_simplify.proofs.Ordering.{order_line, ok_both, places_few}
+use Rattle.btor_simplify.proofs.Ordering.{order_line, ok_both, ok_one_so, places_few}
 use Rattle.btor_simplify.proofs.order.put_line.Goals as goal
 
 pub returns-clause-order : goal.returns-clause-order
@@ -19,3 +20,8 @@ put-requires-clause-few c =
 
 pub overflow_cast-i : goal.overflow_cast-i
 overflow_cast-i c = omega (arith, lines_short c.args.nodes.now c.requires.known.well_formed, c.requires.inside)
+
+pub returns-clause-placed : goal.returns-clause-placed
+returns-clause-placed c =
+    let places = c.args.order.now.places.items in
+    ok_one_so c.put.result _ _ (λ p. p ∙ ap (λ xs. xs ++ c.args.i ∷ []) c.in_ok-put_sort_of.ensures.placed ∙ sym (ap (λ o. with_line c.args.fates.now c.args.i o places) c.at.ensures)) c.put.ensures.places

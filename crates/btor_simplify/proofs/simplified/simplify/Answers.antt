@@ -4,17 +4,18 @@ use Rattle.btor_tree.specs.Fits.{IsWellFormed}
 use Rattle.btor_rules.specs.declared.operand.Outcome.{Outcome}
 use Rattle.btor_simplify.specs.Fates.{AreFates}
 use Rattle.btor_simplify.specs.Marks.{AreKnown, AreMarks}
-use Rattle.btor_simplify.specs.Order.{IsOrder, HaveMarkedMoved}
+use Rattle.btor_simplify.specs.Order.{IsOrder, HaveMarkedMoved, order_upto}
 use Rattle.btor_simplify.specs.Written.{IsWritten}
 use Rattle.btor_simplify.proofs.Extents.{ok_two}
 use Rattle.btor_simplify.proofs.Images.{keeps_words}
 use Rattle.btor_simplify.proofs.Distinct.{no_two_same}
 use Rattle.btor_simplify.proofs.Unfit.{no_rule}
 use Rattle.btor_simplify.proofs.Runs.{keeps_runs}
-use Rattle.btor_simplify.proofs.Whole.{Simplified, known, fewer, numbered, keeps_lines}
+use Rattle.btor_simplify.specs.Simplified.{IsSimplified}
+use Rattle.btor_simplify.proofs.Whole.{known, fewer, numbered, keeps_lines}
 use Rattle.btor_simplify.proofs.simplified.simplify.Goals as goal
 
-whole : (c : goal.After-drop-fates-2) (new : List Line) → IsWritten c.args.nodes.now c.deref-4.result.now c.in_ok-order.order.places.items c.in_ok-order.order.moved.items (length c.in_ok-order.order.places.items) new → IsWellFormed new → Simplified c.args.nodes.now new
+whole : (c : goal.After-drop-fates-2) (new : List Line) → IsWritten c.args.nodes.now c.deref-4.result.now c.in_ok-order.order.places.items c.in_ok-order.order.moved.items (length c.in_ok-order.order.places.items) new → IsWellFormed new → IsSimplified c.args.nodes.now new
 whole c new w fits =
     let lines = c.args.nodes.now in
     let n = length lines in
@@ -27,6 +28,7 @@ whole c new w fits =
       known = known lines c.in_ok-fates.fates.items c.len-count.ensures.well_formed c.in_ok-fates.ensures.fates c.in_ok-fates.ensures.sized;
       marked = subst (λ fs. AreMarks lines fs 0 c.in_ok-marks.marks.items) c.deref.ensures.value c.in_ok-marks.ensures;
       order = subst (λ fs. IsOrder lines fs n order.places.items order.moved.items) c.deref-2.ensures.value c.in_ok-order.ensures.order;
+      placed = c.in_ok-order.ensures.placed ∙ ap (λ fs. order_upto lines fs c.deref-3.result.now n) c.deref-2.ensures.value ∙ ap (λ ms. order_upto lines c.in_ok-fates.fates.items ms n) c.deref-3.ensures.value;
       kept = subst (λ ms. HaveMarkedMoved ms n order.moved.items) c.deref-3.ensures.value c.in_ok-order.ensures.moved;
       written = subst (λ fs. IsWritten lines fs order.places.items order.moved.items (length order.places.items) new) c.deref-4.ensures.value w;
       well_formed = fits;
@@ -52,3 +54,6 @@ returns-clause-distinct c = ok_two c.lines_of.result _ _ _ (λ new w f. no_two_s
 
 pub returns-clause-unfit : goal.returns-clause-unfit
 returns-clause-unfit c = ok_two c.lines_of.result _ _ _ (λ new w f. no_rule c.args.nodes.now new (whole c new w f)) c.lines_of.ensures.written c.lines_of.ensures.well_formed
+
+pub returns-clause-simplified : goal.returns-clause-simplified
+returns-clause-simplified c = ok_two c.lines_of.result _ _ _ (λ new w f. whole c new w f) c.lines_of.ensures.written c.lines_of.ensures.well_formed
