@@ -14,3 +14,4 @@ pub mod Runs
 pub mod Distinct
 pub mod Renaming
 pub mod Unfit
+pub mod Single
