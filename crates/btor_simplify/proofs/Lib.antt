@@ -15,3 +15,5 @@ pub mod Distinct
 pub mod Renaming
 pub mod Unfit
 pub mod Single
+pub mod Placing
+pub mod Normality

@@ -199,7 +199,7 @@ reads_before marks i moved count have few (b ∷ more) below m =
     let g = have b.line (below zero b refl) m.0 in
     ((g.0, g.1, few b.line g.0 g.1), reads_before marks i moved count have few more (λ j c e. below (suc j) c e) m.1)
 
-map_at : (fates : List Outcome) (args : List Arg) (j : ℕ) (b : Arg) → slice_get (map (replaced fates) args) j ≡ Some b → (a : Arg) × (slice_get args j ≡ Some a) × (b ≡ replaced fates a)
+pub map_at : (fates : List Outcome) (args : List Arg) (j : ℕ) (b : Arg) → slice_get (map (replaced fates) args) j ≡ Some b → (a : Arg) × (slice_get args j ≡ Some a) × (b ≡ replaced fates a)
 map_at fates [] j b e = absurd (none-some b e)
 map_at fates (a ∷ more) zero b e = (a, refl, sym (same_Some (replaced fates a) b e))
 map_at fates (a ∷ more) (suc j) b e = map_at fates more j b e
