@@ -17,3 +17,4 @@ pub mod Unfit
 pub mod Single
 pub mod Placing
 pub mod Normality
+pub mod Standing

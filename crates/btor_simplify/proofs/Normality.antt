@@ -41,11 +41,11 @@ reader_root before s op.Constraint args j b h f e = refl
 reader_root before s op.Output args j b h f e = refl
 reader_root before s o args j b h f e = absurd (cc)
 
-sort_alone : (before : List Line) (s : ℕ) (o : LineOp) (args : List Arg) → is_sort o ≡ true → OpFits before s o args → (s ≡ 0) × (args ≡ [])
+pub sort_alone : (before : List Line) (s : ℕ) (o : LineOp) (args : List Arg) → is_sort o ≡ true → OpFits before s o args → (s ≡ 0) × (args ≡ [])
 sort_alone before s (op.Sort w) args h f = (f.2, f.3)
 sort_alone before s o args h f = absurd (cc)
 
-sort_shared : (o : LineOp) → is_sort o ≡ true → is_shared o ≡ true
+pub sort_shared : (o : LineOp) → is_sort o ≡ true → is_shared o ≡ true
 sort_shared (op.Sort w) h = refl
 sort_shared o h = absurd (cc)
 
