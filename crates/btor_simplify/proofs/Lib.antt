@@ -18,3 +18,4 @@ pub mod Single
 pub mod Placing
 pub mod Normality
 pub mod Standing
+pub mod Unchanged

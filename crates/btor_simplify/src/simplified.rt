@@ -2,7 +2,7 @@
 ghost use Rattle.std.specs.Prelude.{◌≡◌, ◌≤◌, length, IfOk};
 ghost use Rattle.btor_tree.specs.Fits.{last_id};
 ghost use Rattle.btor_simplify.specs.Kept.{KeepsLines};
-ghost use Rattle.btor_simplify.specs.Normal.{FitsNoRule, HasNoTwoSame};
+ghost use Rattle.btor_simplify.specs.Normal.{FitsNoRule, HasNoTwoSame, IsNormal};
 ghost use Rattle.btor_simplify.specs.Simplified.{IsSimplified};
 ghost use Rattle.btor_simplify.specs.Words.{KeepsRuns, KeepsWords};
 
@@ -16,7 +16,7 @@ use text_core::NoMemory;
 
 /// Returns a smaller list of lines with the same inputs, states, bad, constraint and output lines. Operator lines are replaced by
 /// what rules make of them, lines that say the same are one, and constants and operators that nothing reads are left out. Ids
-/// are 1, 2, 3 and so on, and a sort line stands directly before the first line that has it.
+/// are 1, 2, 3 and so on, and a sort line stands directly before the first line that has it. Simplifying again changes nothing.
 #[tactic(auto, using(crate::proofs::Whole::known))]
 pub fn simplify(alloc: Global, nodes: &Nodes) -> Result<Nodes, NoMemory>
     ensures fewer { IfOk result (λ new. length new ≤ length nodes.now) }
@@ -33,7 +33,10 @@ pub fn simplify(alloc: Global, nodes: &Nodes) -> Result<Nodes, NoMemory>
     ensures distinct { IfOk result HasNoTwoSame }
     // No rule fits any line.
     ensures unfit { IfOk result FitsNoRule }
-    // This list and no other.
+    // The list is in normal form, and a list in normal form is its own smaller list.
+    ensures normal { IfOk result IsNormal }
+    ensures unchanged { IsNormal nodes.now → IfOk result (λ new. new ≡ nodes.now) }
+    // No other list is the smaller one.
     ensures simplified { IfOk result (λ new. IsSimplified nodes.now new) }
 {
     // This call's contract says that the lines fit one another.

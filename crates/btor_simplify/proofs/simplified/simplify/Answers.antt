@@ -11,6 +11,8 @@ use Rattle.btor_simplify.proofs.Images.{keeps_words}
 use Rattle.btor_simplify.proofs.Distinct.{no_two_same}
 use Rattle.btor_simplify.proofs.Unfit.{no_rule}
 use Rattle.btor_simplify.proofs.Runs.{keeps_runs}
+use Rattle.btor_simplify.proofs.Normality.{normal}
+use Rattle.btor_simplify.proofs.Unchanged.{unchanged}
 use Rattle.btor_simplify.specs.Simplified.{IsSimplified}
 use Rattle.btor_simplify.proofs.Whole.{known, fewer, numbered, keeps_lines}
 use Rattle.btor_simplify.proofs.simplified.simplify.Goals as goal
@@ -57,3 +59,9 @@ returns-clause-unfit c = ok_two c.lines_of.result _ _ _ (λ new w f. no_rule c.a
 
 pub returns-clause-simplified : goal.returns-clause-simplified
 returns-clause-simplified c = ok_two c.lines_of.result _ _ _ (λ new w f. whole c new w f) c.lines_of.ensures.written c.lines_of.ensures.well_formed
+
+pub returns-clause-normal : goal.returns-clause-normal
+returns-clause-normal c = ok_two c.lines_of.result _ _ _ (λ new w f. normal c.args.nodes.now new (whole c new w f)) c.lines_of.ensures.written c.lines_of.ensures.well_formed
+
+pub returns-clause-unchanged : goal.returns-clause-unchanged
+returns-clause-unchanged c = λ h. ok_two c.lines_of.result _ _ _ (λ new w f. unchanged c.args.nodes.now new (whole c new w f) h) c.lines_of.ensures.written c.lines_of.ensures.well_formed
