@@ -1,20 +1,20 @@
 -- What stands for a constant line is a constant.
-use Rattle.std.proofs.Common.{◌≡◌, ℕ, ◌<◌, Bool, true, false, cond, List, [], ◌∷◌, length, take, get_or, Option, Some, None, refl, sym, ap, subst, ◌∙◌, arith, inl, inr, ◌⊎◌}
+use Rattle.std.proofs.Common.{◌≡◌, ℕ, ◌<◌, true, List, [], take, Some, refl, sym, ap, subst, ◌∙◌, arith, inl, inr}
 use Rattle.std.specs.Prelude.{slice_get}
-use Rattle.std.proofs.lemmas.Option.{same_Some, none-some, slice_get-get_or}
+use Rattle.std.proofs.lemmas.Option.{same_Some, slice_get-get_or}
 use Rattle.std.proofs.lemmas.List.{length-take, get_or-take}
 use Rattle.btor_tree.specs.declared.args.Arg.{Arg}
 use Rattle.btor_tree.specs.declared.lines.Line.{Line}
 use Rattle.btor_tree.specs.declared.lines.LineOp.{LineOp}
 use Rattle.btor_tree.specs.declared.lines.LineOp.TheVariants as op
-use Rattle.btor_tree.specs.Fits.{OpFits, is_constant, sort_at}
+use Rattle.btor_tree.specs.Fits.{OpFits, is_constant}
 use Rattle.btor_tree.specs.Sharing.{is_shared}
 use Rattle.btor_tree.proofs.Grows.{slice_get_inside, inside_get}
 use Rattle.btor_rules.specs.declared.operand.Outcome.{Outcome}
 use Rattle.btor_rules.specs.declared.operand.Outcome.TheVariants.{Stays, Constant, Argument}
 use Rattle.btor_rules.specs.Rules.{outcome}
 use Rattle.btor_simplify.specs.declared.contents.Content.{Content}
-use Rattle.btor_simplify.specs.Fates.{fate_at, replaced, place_by, Lives, operands_of, content_as_it_is, content_by, Says, IsSharedFate, IsFateBy, AreFates}
+use Rattle.btor_simplify.specs.Fates.{fate_at, replaced, place_by, Lives, operands_of, content_as_it_is, content_by, IsSharedFate, IsFateBy}
 use Rattle.btor_simplify.specs.Marks.{AreKnown}
 use Rattle.btor_simplify.specs.Written.{op_by}
 use Rattle.btor_simplify.proofs.Steps.{replaced_line}

@@ -1,5 +1,5 @@
 -- No two new lines say the same.
-use Rattle.std.proofs.Common.{◌≡◌, ℕ, zero, suc, ◌<◌, ◌≤◌, Bool, true, false, cond, List, [], ◌∷◌, length, take, drop, map, get_or, Option, Some, None, refl, sym, ap, subst, ◌∙◌, arith, inl, inr, ◌⊎◌}
+use Rattle.std.proofs.Common.{◌≡◌, ℕ, zero, suc, ◌<◌, ◌≤◌, true, false, cond, List, [], ◌∷◌, length, take, drop, map, get_or, Option, Some, None, refl, sym, ap, subst, ◌∙◌, arith, inl, inr, ◌⊎◌}
 use Rattle.std.specs.Prelude.{slice_get}
 use Rattle.std.proofs.lemmas.Bool.{cases_lt, cases_Bool}
 use Rattle.std.proofs.lemmas.List.{length-take, get_or-take, take-take}
@@ -17,13 +17,12 @@ use Rattle.btor_tree.proofs.Grows.{slice_get_inside, inside_get}
 use Rattle.btor_tree.proofs.Widths.{line_at}
 use Rattle.btor_rules.specs.declared.operand.Outcome.{Outcome}
 use Rattle.btor_rules.specs.declared.operand.Outcome.TheVariants.{Stays, Constant, Argument}
-use Rattle.btor_rules.specs.Rules.{outcome}
 use Rattle.btor_simplify.specs.declared.contents.Content.{Content}
 use Rattle.btor_simplify.specs.Contents.{content_of}
 use Rattle.btor_simplify.specs.Fates.{fate_at, replaced, replaced_by, place_by, sort_for, Lives, constant_of, operands_of, content_of_word, content_or, content_as_it_is, content_by, IsSharedFate, IsFateBy, AreFates, is_sort}
 use Rattle.btor_simplify.specs.Fates as fates_spec
 use Rattle.btor_simplify.specs.Marks.{AreKnown, args_by}
-use Rattle.btor_simplify.specs.Order.{has_sort, IsMoved, IsBefore, AreBefore, IsOrder}
+use Rattle.btor_simplify.specs.Order.{has_sort, IsMoved, AreBefore}
 use Rattle.btor_simplify.specs.Written.{op_by, place_or_first, place_in, moved_arg, new_args, new_sort, new_line}
 use Rattle.btor_simplify.specs.Normal.{AreSameConstants, HasNoTwoSame}
 use Rattle.btor_simplify.proofs.Steps.{worded_line, shared_word, sort_inside}

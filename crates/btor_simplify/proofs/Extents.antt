@@ -1,11 +1,11 @@
 -- Lines that say the same have the same width, and what becomes of a line keeps its width.
-use Rattle.std.proofs.Common.{◌≡◌, ℕ, zero, suc, ◌+◌, ◌-◌, ◌<◌, ◌≤◌, Bool, true, false, cond, List, [], ◌∷◌, ◌++◌, length, take, drop, Option, Some, None, refl, sym, ap, subst, ◌∙◌, arith, inl, inr, ◌⊎◌}
+use Rattle.std.proofs.Common.{◌≡◌, ℕ, ◌<◌, ◌≤◌, true, false, cond, List, [], ◌∷◌, ◌++◌, length, take, Option, Some, refl, sym, ap, subst, ◌∙◌, arith, inl, inr, ◌⊎◌}
 use Rattle.std.specs.Prelude.{slice_get, IfOk}
 use Rattle.std.specs.declared.result.Result.{Result}
 use Rattle.std.specs.declared.result.Result.TheVariants.{Ok, Err}
 use Rattle.std.proofs.lemmas.List.{get_or-take}
 use Rattle.std.proofs.lemmas.Bool.{cases_Bool}
-use Rattle.word_core.specs.Words.{BitVector, IsWord}
+use Rattle.word_core.specs.Words.{BitVector}
 use Rattle.btor_tree.specs.declared.args.Arg.{Arg}
 use Rattle.btor_tree.specs.declared.lines.Line.{Line}
 use Rattle.btor_tree.specs.declared.lines.LineOp.{LineOp}
@@ -23,8 +23,8 @@ use Rattle.btor_tree.specs.LineKeys.{EntersKey}
 use Rattle.btor_simplify.specs.declared.contents.Content.{Content}
 use Rattle.btor_simplify.specs.Contents.{content_cmp, IsSharedBy}
 use Rattle.btor_simplify.proofs.Sharing.{fate_is, has_next}
-use Rattle.btor_simplify.specs.Fates.{fate_at, replaced, place_by, sort_for, Lives, operands_of, content_as_it_is, content_by, Says, IsSharedFate, IsFateBy, IsFate, KeepsWidth, AreFates, HasContents, IsNextLine, is_sort}
-use Rattle.btor_simplify.proofs.Steps.{Worded, worded_line, shared_word, no_sort_at, Moved, moved_to, moved_arg, arg_of, fits, earlier, inside, outcome_fits, words, width_before, width_in_lines}
+use Rattle.btor_simplify.specs.Fates.{fate_at, place_by, sort_for, Lives, operands_of, content_as_it_is, content_by, Says, IsSharedFate, IsFateBy, IsFate, KeepsWidth, AreFates, HasContents, IsNextLine, is_sort}
+use Rattle.btor_simplify.proofs.Steps.{Worded, worded_line, shared_word, no_sort_at, moved_to, moved_arg, arg_of, fits, earlier, outcome_fits, words, width_in_lines}
 
 pub ok_two : {A E : Type 0} (r : Result A E) (P Q S : A → Type 0) → ((x : A) → P x → Q x → S x) → IfOk r P → IfOk r Q → IfOk r S
 ok_two (Ok x) P Q S f p q = f x p q

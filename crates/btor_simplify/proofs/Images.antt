@@ -1,27 +1,26 @@
 -- The frame of the new lines that has the words of a frame of the old ones.
-use Rattle.std.proofs.Common.{◌≡◌, ℕ, zero, suc, ◌<◌, ◌≤◌, Bool, true, false, cond, List, [], ◌∷◌, length, take, drop, map, Option, Some, None, refl, sym, ap, subst, ◌∙◌, arith, inl, inr, ◌⊎◌}
-use Rattle.std.specs.Prelude.{slice_get, slice_index_or}
+use Rattle.std.proofs.Common.{◌≡◌, ℕ, zero, suc, ◌<◌, ◌≤◌, true, false, List, [], ◌∷◌, length, take, map, Some, refl, sym, ap, subst, ◌∙◌, arith}
+use Rattle.std.specs.Prelude.{slice_get}
 use Rattle.std.proofs.lemmas.Option.{same_Some, none-some}
-use Rattle.word_core.specs.Words.{BitVector, IsWord}
+use Rattle.word_core.specs.Words.{BitVector}
 use Rattle.word_core.specs.Table.{unary_of, binary_of, ite_of, slice_of, uext_of, sext_of}
 use Rattle.btor_tree.specs.declared.args.Arg.{Arg}
 use Rattle.btor_tree.specs.declared.lines.Line.{Line}
 use Rattle.btor_tree.specs.declared.lines.LineOp.{LineOp}
 use Rattle.btor_tree.specs.declared.lines.LineOp.TheVariants as op
-use Rattle.btor_tree.specs.Fits.{IsWellFormed, sort_at}
-use Rattle.btor_tree.specs.Frame.{nothing, word_at, signed_word, operand, constant_word, Equation, Meets, IsFrame}
+use Rattle.btor_tree.specs.Fits.{sort_at}
+use Rattle.btor_tree.specs.Frame.{word_at, signed_word, operand, constant_word, Equation, Meets, IsFrame}
 use Rattle.btor_tree.specs.Sharing.{is_shared}
 use Rattle.btor_tree.proofs.Grows.{slice_get_inside, inside_get}
 use Rattle.btor_rules.specs.declared.operand.Outcome.{Outcome}
 use Rattle.btor_rules.specs.declared.operand.Outcome.TheVariants.{Stays, Constant, Argument}
 use Rattle.btor_simplify.specs.Fates.{fate_at, replaced, Lives}
 use Rattle.btor_simplify.specs.Marks.{args_by}
-use Rattle.btor_simplify.specs.Order.{has_sort, IsMoved, IsBefore, AreBefore}
+use Rattle.btor_simplify.specs.Order.{has_sort, IsMoved, AreBefore}
 use Rattle.btor_simplify.specs.Written.{op_by, place_or_first, place_in, moved_arg, new_args, new_sort, new_line}
-use Rattle.btor_simplify.specs.Kept.{AreSameLines}
 use Rattle.btor_simplify.specs.Words.{HasSameWords, KeepsWords}
 use Rattle.btor_simplify.proofs.Steps.{sort_before}
-use Rattle.btor_simplify.proofs.Ordering.{sorted, HasSort, sort_of_line}
+use Rattle.btor_simplify.proofs.Ordering.{sorted, sort_of_line}
 use Rattle.btor_simplify.proofs.Values.{Holds, holds, arg_holds}
 use Rattle.btor_simplify.proofs.Writing.{before_at, new_sort_is, line_there, stays, map_twice}
 use Rattle.btor_simplify.specs.Simplified.{IsSimplified}

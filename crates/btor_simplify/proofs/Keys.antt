@@ -1,5 +1,5 @@
 -- What two lines say is told apart by its order.
-use Rattle.std.proofs.Common.{◌≡◌, ℕ, zero, suc, ◌<◌, ◌≤◌, Bool, true, false, List, [], ◌∷◌, length, refl, sym, ap, ◌∙◌, arith}
+use Rattle.std.proofs.Common.{◌≡◌, ℕ, zero, suc, ◌<◌, true, false, List, [], ◌∷◌, length, refl, ap, ◌∙◌, arith}
 use Rattle.std.specs.Prelude.{slice_index_or}
 use Rattle.std.specs.declared.cmp.Ordering.{Ordering}
 use Rattle.std.specs.declared.cmp.Ordering.TheVariants.{Less, Equal, Greater}
@@ -12,7 +12,7 @@ use Rattle.btor_tree.specs.declared.args.Arg.{Arg}
 use Rattle.btor_tree.specs.declared.lines.LineOp.{LineOp}
 use Rattle.btor_tree.specs.Fits.{plain_arg}
 use Rattle.btor_tree.specs.LineKeys.{IsShort, arg_cmp}
-use Rattle.btor_tree.specs.Sharing.{is_shared, op_kind, op_number, op_second}
+use Rattle.btor_tree.specs.Sharing.{is_shared}
 use Rattle.btor_tree.proofs.Alike.{op_told}
 use Rattle.btor_simplify.specs.declared.contents.Content.{Content}
 use Rattle.btor_simplify.specs.Contents.{content_of, content_cmp}

@@ -1,5 +1,5 @@
 -- Marks of lines.
-use Rattle.std.proofs.Common.{◌≡◌, ◌≢◌, ℕ, zero, suc, ◌+◌, ◌-◌, ◌<◌, ◌≤◌, Bool, true, false, not, ◌&&◌, cond, List, [], ◌∷◌, ◌++◌, length, take, drop, set, get_or, map, replicate, Option, Some, None, refl, sym, ap, subst, ◌∙◌, arith, inl, inr, ◌⊎◌}
+use Rattle.std.proofs.Common.{◌≡◌, ℕ, zero, suc, ◌+◌, ◌-◌, ◌<◌, ◌≤◌, Bool, true, false, not, ◌&&◌, List, [], ◌∷◌, ◌++◌, length, take, set, get_or, map, replicate, Some, refl, sym, ap, subst, ◌∙◌, arith, inl, inr, ◌⊎◌}
 use Rattle.std.specs.Prelude.{slice_get}
 use Rattle.std.specs.List.{AllByRecursion}
 use Rattle.std.proofs.lemmas.Bool.{cases_lt, cases_eq, cases_Bool, and_cases, and_parts}
@@ -10,12 +10,12 @@ use Rattle.btor_tree.specs.declared.args.Arg.{Arg}
 use Rattle.btor_tree.specs.declared.lines.Line.{Line}
 use Rattle.btor_tree.specs.declared.lines.LineOp.{LineOp}
 use Rattle.btor_tree.specs.declared.lines.LineOp.TheVariants as op
-use Rattle.btor_tree.specs.Fits.{AreEarlier, OpFits, IsWellFormed, width_at}
+use Rattle.btor_tree.specs.Fits.{AreEarlier, OpFits, width_at}
 use Rattle.btor_tree.specs.Sharing.{is_shared}
 use Rattle.btor_tree.proofs.Grows.{slice_get_inside, inside_get}
 use Rattle.btor_rules.specs.declared.operand.Outcome.{Outcome}
 use Rattle.btor_rules.specs.declared.operand.Outcome.TheVariants.{Stays, Constant, Argument}
-use Rattle.btor_simplify.specs.Fates.{fate_at, replaced, Lives, AreFates}
+use Rattle.btor_simplify.specs.Fates.{fate_at, replaced, Lives}
 use Rattle.btor_simplify.specs.Marks.{args_by, is_marked, AreMarkedLines, MarksUpto, CanMark, IsReached, starts, reads, AreMarks, AreKnown}
 use Rattle.btor_simplify.proofs.Steps.{none_all, worded, moved_arg, width_before}
 

@@ -1,5 +1,5 @@
 -- The smaller list is in normal form.
-use Rattle.std.proofs.Common.{◌≡◌, ℕ, zero, suc, ◌+◌, ◌<◌, ◌≤◌, Bool, true, false, cond, List, [], ◌∷◌, length, take, map, Option, Some, None, option_map, refl, sym, ap, subst, ◌∙◌, arith, inl, inr, ◌⊎◌}
+use Rattle.std.proofs.Common.{◌≡◌, ℕ, ◌+◌, ◌<◌, true, false, cond, List, [], length, take, Option, Some, None, option_map, refl, sym, ap, subst, ◌∙◌, arith, inl, inr}
 use Rattle.std.specs.Prelude.{slice_get}
 use Rattle.std.proofs.lemmas.Bool.{cases_Bool}
 use Rattle.std.proofs.lemmas.Option.{same_Some, none-some, slice_get-map}
@@ -7,16 +7,16 @@ use Rattle.btor_tree.specs.declared.args.Arg.{Arg}
 use Rattle.btor_tree.specs.declared.lines.Line.{Line}
 use Rattle.btor_tree.specs.declared.lines.LineOp.{LineOp}
 use Rattle.btor_tree.specs.declared.lines.LineOp.TheVariants as op
-use Rattle.btor_tree.specs.Fits.{IsWellFormed, OpFits, has_word, sort_at, width_at}
+use Rattle.btor_tree.specs.Fits.{OpFits, has_word, sort_at, width_at}
 use Rattle.btor_tree.specs.Sharing.{is_shared}
 use Rattle.btor_tree.proofs.AtPlaces.{width_of_line}
 use Rattle.btor_tree.proofs.Grows.{slice_get_inside}
 use Rattle.btor_rules.specs.declared.operand.Outcome.{Outcome}
 use Rattle.btor_rules.specs.declared.operand.Outcome.TheVariants.{Stays, Constant, Argument}
-use Rattle.btor_simplify.specs.Fates.{fate_at, replaced, sort_for, Lives, is_sort, KeepsWidth}
+use Rattle.btor_simplify.specs.Fates.{fate_at, sort_for, is_sort, KeepsWidth}
 use Rattle.btor_simplify.specs.Marks.{args_by, is_marked, IsReached, starts, reads, AreKnown}
 use Rattle.btor_simplify.specs.Order.{has_sort, IsMoved}
-use Rattle.btor_simplify.specs.Written.{op_by, place_or_first, place_in, moved_arg, new_args, new_symbol, new_line}
+use Rattle.btor_simplify.specs.Written.{op_by, place_or_first, place_in, moved_arg, new_symbol, new_line}
 use Rattle.btor_simplify.specs.Simplified.{IsSimplified}
 use Rattle.btor_simplify.specs.Normal.{is_root, IsUsed, root, argument, IsSortInPlace, IsNormal}
 use Rattle.btor_simplify.proofs.Steps.{sort_inside}
@@ -25,7 +25,7 @@ use Rattle.btor_simplify.proofs.Writing.{stays}
 use Rattle.btor_simplify.proofs.Distinct.{Origin, origin, old_shared, no_two_same}
 use Rattle.btor_simplify.proofs.Unfit.{no_rule}
 use Rattle.btor_simplify.proofs.Single.{reached_marked}
-use Rattle.btor_simplify.proofs.Placing.{HasSortAt, AreSortsPlaced, sorts_placed, AreAll, IsMarkedOrSort, all_marked}
+use Rattle.btor_simplify.proofs.Placing.{AreSortsPlaced, sorts_placed, AreAll, IsMarkedOrSort, all_marked}
 
 none_there : (args : List Arg) (j : ℕ) (b : Arg) → args ≡ [] → slice_get args j ≡ Some b → ⊥
 none_there args j b e h = none-some b (ap (λ xs. slice_get xs j) (sym e) ∙ h)

@@ -1,9 +1,8 @@
 -- One line more in the order.
-use Rattle.std.proofs.Common.{◌≡◌, ◌≢◌, ℕ, zero, suc, ◌+◌, ◌-◌, ◌<◌, ◌≤◌, Bool, true, false, cond, List, [], ◌∷◌, ◌++◌, ◌||◌, eqb, length, take, set, get_or, map, replicate, Option, Some, None, refl, sym, ap, subst, ◌∙◌, arith, inl, inr, ◌⊎◌}
+use Rattle.std.proofs.Common.{◌≡◌, ℕ, zero, suc, ◌+◌, ◌-◌, ◌<◌, ◌≤◌, Bool, true, false, cond, List, [], ◌∷◌, ◌++◌, ◌||◌, eqb, length, take, set, get_or, map, replicate, Option, Some, None, refl, sym, ap, subst, ◌∙◌, arith, inl, inr}
 use Rattle.std.specs.Prelude.{slice_get, OnOk}
 use Rattle.std.specs.declared.result.Result.{Result}
 use Rattle.std.specs.declared.result.Result.TheVariants.{Ok, Err}
-use Rattle.std.specs.List.{AllByRecursion}
 use Rattle.std.proofs.lemmas.Bool.{cases_lt, cases_eq, cases_Bool, eq-eqb, ne_eqb}
 use Rattle.std.proofs.lemmas.List.{get_or-set_same, get_or-set_other, length-set, length_push, length-replicate}
 use Rattle.std.proofs.lemmas.Option.{same_Some, none-some}
@@ -17,10 +16,10 @@ use Rattle.btor_tree.proofs.Grows.{push_cases, slice_get_front, slice_get_end, s
 use Rattle.btor_tree.proofs.AtPlaces.{width_of_sort, width_of_line}
 use Rattle.btor_rules.specs.declared.operand.Outcome.{Outcome}
 use Rattle.btor_rules.specs.declared.operand.Outcome.TheVariants.{Stays, Constant, Argument}
-use Rattle.btor_simplify.specs.Fates.{fate_at, replaced, place_by, sort_for, Lives, AreFates, is_sort}
+use Rattle.btor_simplify.specs.Fates.{fate_at, replaced, sort_for, is_sort}
 use Rattle.btor_simplify.specs.Marks.{args_by, is_marked, AreMarkedLines, AreMarks, AreKnown}
-use Rattle.btor_simplify.specs.Order.{has_sort, IsMoved, IsBefore, AreBefore, IsReadyAt, moved_count, IsOrder, KeepsPlaces, HaveMarkedMoved, HasPlace, IsLiveSort, is_in, with_place}
-use Rattle.btor_simplify.proofs.Steps.{Moved, moved_to, sort_line_at, sort_before, sort_inside}
+use Rattle.btor_simplify.specs.Order.{has_sort, IsMoved, AreBefore, IsReadyAt, moved_count, IsOrder, KeepsPlaces, HaveMarkedMoved, HasPlace, IsLiveSort, is_in, with_place}
+use Rattle.btor_simplify.proofs.Steps.{moved_to, sort_line_at, sort_before, sort_inside}
 use Rattle.btor_simplify.proofs.Marking.{source}
 
 -- counts of known places

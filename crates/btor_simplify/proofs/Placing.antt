@@ -1,5 +1,5 @@
 -- Each sort line of the order stands directly before a line that has it.
-use Rattle.std.proofs.Common.{◌≡◌, ℕ, zero, suc, ◌+◌, ◌<◌, ◌≤◌, Bool, true, false, cond, List, [], ◌∷◌, ◌++◌, length, Option, Some, None, refl, sym, ap, subst, ◌∙◌, arith, inl, inr, ◌⊎◌}
+use Rattle.std.proofs.Common.{◌≡◌, ℕ, zero, suc, ◌+◌, Bool, true, false, cond, List, [], ◌∷◌, ◌++◌, length, Option, Some, None, refl, sym, ap, subst, ◌∙◌, arith, inl, inr, ◌⊎◌}
 use Rattle.std.specs.Prelude.{slice_get}
 use Rattle.std.proofs.lemmas.Bool.{cases_Bool}
 use Rattle.std.proofs.lemmas.List.{length_push}
@@ -9,7 +9,7 @@ use Rattle.btor_tree.proofs.Grows.{push_cases, slice_get_front, slice_get_end}
 use Rattle.btor_rules.specs.declared.operand.Outcome.{Outcome}
 use Rattle.btor_simplify.specs.Fates.{sort_for, is_sort}
 use Rattle.btor_simplify.specs.Marks.{is_marked, AreMarks, AreKnown}
-use Rattle.btor_simplify.specs.Order.{has_sort, IsLiveSort, is_in, with_place, with_sort_of, with_line, with_marked, order_upto}
+use Rattle.btor_simplify.specs.Order.{has_sort, IsLiveSort, is_in, with_place, with_sort_of, with_line, order_upto}
 use Rattle.btor_simplify.proofs.Ordering.{differ, not_sort, sort_of_line}
 
 -- a line that has this sort stands at a place of the order

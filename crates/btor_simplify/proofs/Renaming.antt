@@ -1,5 +1,5 @@
 -- Where no rule fits a line, none fits it under other names of its arguments.
-use Rattle.std.proofs.Common.{◌≡◌, ℕ, Bool, true, false, not, cond, ◌||◌, Option, Some, None, refl, sym, ap, subst, ◌∙◌}
+use Rattle.std.proofs.Common.{◌≡◌, Bool, true, false, not, cond, ◌||◌, Option, Some, None, refl, sym, ap, subst, ◌∙◌}
 use Rattle.word_core.specs.Words.{BitVector}
 use Rattle.word_core.specs.declared.kinds.Unary.{Unary}
 use Rattle.word_core.specs.declared.kinds.Unary.TheVariants.{Not}
@@ -8,7 +8,6 @@ use Rattle.word_core.specs.declared.kinds.Binary.TheVariants.{Iff, Implies, Eq, 
 use Rattle.btor_tree.specs.declared.args.Arg.{Arg}
 use Rattle.btor_tree.specs.declared.lines.LineOp.{LineOp}
 use Rattle.btor_tree.specs.declared.lines.LineOp.TheVariants as op
-use Rattle.btor_tree.specs.Sharing.{same_arg}
 use Rattle.btor_rules.specs.declared.operand.Operand.{Operand}
 use Rattle.btor_rules.specs.declared.operand.Operands.{Operands}
 use Rattle.btor_rules.specs.declared.operand.Operands.TheVariants.{Empty, Single, Pair, Triple}

@@ -1,5 +1,5 @@
 -- Runs of frames of the new lines.
-use Rattle.std.proofs.Common.{◌≡◌, ℕ, zero, suc, ◌<◌, ◌≤◌, Bool, true, false, cond, eqb, List, [], ◌∷◌, ◌++◌, length, take, drop, map, Option, Some, None, refl, sym, ap, subst, ◌∙◌, arith, inl, inr, ◌⊎◌}
+use Rattle.std.proofs.Common.{◌≡◌, ℕ, zero, suc, Bool, true, false, cond, List, [], ◌∷◌, take, drop, map, Option, Some, None, refl, sym, ap, ◌∙◌, inl, inr, ◌⊎◌}
 use Rattle.std.specs.Prelude.{slice_get}
 use Rattle.std.specs.Option.{option_or}
 use Rattle.std.proofs.lemmas.Bool.{eq-eqb}
@@ -9,16 +9,15 @@ use Rattle.word_core.specs.Words.{BitVector}
 use Rattle.btor_tree.specs.declared.args.Arg.{Arg}
 use Rattle.btor_tree.specs.declared.lines.Line.{Line}
 use Rattle.btor_tree.specs.declared.lines.LineOp.{LineOp}
-use Rattle.btor_tree.specs.Fits.{OpFits, OnTwo, GivesValue, is_init, is_next, is_state, kind_at, state_value, value_for, value_in}
+use Rattle.btor_tree.specs.Fits.{OpFits, OnTwo, GivesValue, is_init, is_next, is_state, state_value, value_for, value_in}
 use Rattle.btor_tree.specs.Frame.{word_at, operand, IsFrame, InitsHold, NextsHold, Follow, IsPath}
 use Rattle.btor_tree.specs.Sharing.{is_shared}
-use Rattle.btor_tree.proofs.Grows.{slice_get_inside}
 use Rattle.btor_tree.proofs.Paths.{state_value_append}
 use Rattle.btor_rules.specs.declared.operand.Outcome.{Outcome}
 use Rattle.btor_rules.specs.declared.operand.Outcome.TheVariants.{Stays}
-use Rattle.btor_simplify.specs.Fates.{fate_at, replaced}
-use Rattle.btor_simplify.specs.Written.{op_by, place_or_first, place_in, moved_arg, new_args, new_line}
-use Rattle.btor_simplify.specs.Words.{HasSameWords, HaveSameWords, KeepsRuns}
+use Rattle.btor_simplify.specs.Fates.{replaced}
+use Rattle.btor_simplify.specs.Written.{op_by, place_in, moved_arg, new_args, new_line}
+use Rattle.btor_simplify.specs.Words.{HaveSameWords, KeepsRuns}
 use Rattle.btor_simplify.proofs.Writing.{stays, same_state, two_args, value_args, init_two, next_two, init_other, next_other, kind_line, take_line, unshared_of, head_same}
 use Rattle.btor_simplify.specs.Simplified.{IsSimplified}
 use Rattle.btor_simplify.proofs.Whole.{from_new, has_place, line_new, same_lines}

@@ -1,18 +1,16 @@
 -- Lines that stay and what they say, where one more fate is known.
-use Rattle.std.proofs.Common.{◌≡◌, ℕ, zero, suc, ◌+◌, ◌<◌, ◌≤◌, Bool, true, false, cond, List, [], ◌∷◌, ◌++◌, length, take, Option, Some, None, refl, sym, ap, subst, ◌∙◌, arith, inl, inr, ◌⊎◌}
-use Rattle.std.specs.Prelude.{slice_get, slice_index_or}
+use Rattle.std.proofs.Common.{◌≡◌, ℕ, ◌<◌, ◌≤◌, true, false, cond, List, [], ◌∷◌, ◌++◌, length, take, Option, Some, None, refl, sym, ap, subst, ◌∙◌, arith, inl, inr, ◌⊎◌}
+use Rattle.std.specs.Prelude.{slice_get}
 use Rattle.std.specs.BTreeMap.{BTreeMap, IsUnchanged, get, is_at}
 use Rattle.std.specs.Map.{lookup}
 use Rattle.std.proofs.lemmas.Bool.{cases_Bool, cases_lt}
 use Rattle.std.proofs.lemmas.List.{length_push, get_or_append_left, get_or_push, take-append-le, take_all}
 use Rattle.std.proofs.lemmas.Option.{same_Some, none-some}
 use Rattle.btor_tree.specs.declared.lines.Line.{Line}
-use Rattle.btor_tree.specs.Fits.{plain_arg}
 use Rattle.btor_tree.specs.LineKeys.{EntersKey}
 use Rattle.btor_tree.specs.Sharing.{is_shared}
-use Rattle.btor_tree.proofs.Grows.{slice_get_inside}
 use Rattle.btor_rules.specs.declared.operand.Outcome.{Outcome}
-use Rattle.btor_rules.specs.declared.operand.Outcome.TheVariants.{Stays, Constant, Argument}
+use Rattle.btor_rules.specs.declared.operand.Outcome.TheVariants.{Stays}
 use Rattle.btor_simplify.specs.declared.contents.Content.{Content}
 use Rattle.btor_simplify.specs.Contents.{content_cmp, IsSharedBy}
 use Rattle.btor_simplify.specs.Fates.{fate_at, Lives, content_by, Says, IsSharedFate, HasContents}

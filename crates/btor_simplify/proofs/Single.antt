@@ -1,5 +1,5 @@
 -- The old list determines the smaller one.
-use Rattle.std.proofs.Common.{◌≡◌, ℕ, zero, suc, ◌<◌, ◌≤◌, Bool, true, false, List, [], ◌∷◌, ◌++◌, length, take, get_or, Option, Some, None, refl, sym, ap, subst, ◌∙◌, arith, inl, inr, ◌⊎◌}
+use Rattle.std.proofs.Common.{◌≡◌, ℕ, zero, suc, ◌<◌, ◌≤◌, Bool, true, false, List, [], ◌∷◌, ◌++◌, length, take, get_or, Option, Some, None, refl, sym, ap, subst, ◌∙◌, arith, inl, inr}
 use Rattle.std.specs.Prelude.{slice_get}
 use Rattle.std.proofs.lemmas.Bool.{cases_Bool}
 use Rattle.std.proofs.lemmas.List.{length-take, get_or-take, take-take, take_all, ext_get_or}
@@ -15,7 +15,7 @@ use Rattle.btor_rules.specs.Rules.{outcome}
 use Rattle.btor_simplify.specs.declared.contents.Content.{Content}
 use Rattle.btor_simplify.specs.Fates.{fate_at, Lives, operands_of, content_by, Says, IsSharedFate, IsFateBy, IsFate}
 use Rattle.btor_simplify.specs.Marks.{args_by, is_marked, AreMarkedLines, IsReached, starts, reads, AreMarks, AreKnown}
-use Rattle.btor_simplify.specs.Order.{IsMoved, IsOrder, order_upto}
+use Rattle.btor_simplify.specs.Order.{IsOrder, order_upto}
 use Rattle.btor_simplify.specs.Written.{new_line}
 use Rattle.btor_simplify.specs.Simplified.{IsSimplified}
 use Rattle.btor_simplify.proofs.Distinct.{live_once, origin}
@@ -138,7 +138,7 @@ module _ (old a b : List Line) (s : IsSimplified old a) (t : IsSimplified old b)
   one_simplified =
       same_by_get a b (s.written.sized ∙ ap length same_places ∙ sym t.written.sized)
       (λ q m am.
-          let x = origin old a s q m am in
-          let placed = ap (λ p. slice_get p q) (sym same_places) ∙ x.placed in
-          let line : new_line s.fates s.moved q x.from x.line ≡ new_line t.fates t.moved q x.from x.line = ap (λ f. new_line f s.moved q x.from x.line) same_fates ∙ ap (λ v. new_line t.fates v q x.from x.line) same_moved in
-          t.written.by_place q x.from x.line (slice_get_inside t.places q x.from placed) placed x.at ∙ ap Some (sym (x.is ∙ line)))
+      let x = origin old a s q m am in
+      let placed = ap (λ p. slice_get p q) (sym same_places) ∙ x.placed in
+      let line : new_line s.fates s.moved q x.from x.line ≡ new_line t.fates t.moved q x.from x.line = ap (λ f. new_line f s.moved q x.from x.line) same_fates ∙ ap (λ v. new_line t.fates v q x.from x.line) same_moved in
+      t.written.by_place q x.from x.line (slice_get_inside t.places q x.from placed) placed x.at ∙ ap Some (sym (x.is ∙ line)))

@@ -1,5 +1,5 @@
 -- In a list where no rule fits and no two lines say the same, each line stays.
-use Rattle.std.proofs.Common.{◌≡◌, ℕ, zero, suc, ◌+◌, ◌<◌, ◌≤◌, Bool, true, false, cond, List, [], ◌∷◌, length, take, map, get_or, Option, Some, None, option_map, refl, sym, ap, subst, ◌∙◌, arith, inl, inr, ◌⊎◌}
+use Rattle.std.proofs.Common.{◌≡◌, ℕ, zero, suc, ◌<◌, ◌≤◌, true, false, cond, List, [], ◌∷◌, length, take, map, Some, None, option_map, refl, sym, ap, ◌∙◌, arith, inl, inr, ◌⊎◌}
 use Rattle.std.specs.Prelude.{slice_get}
 use Rattle.std.proofs.lemmas.Bool.{cases_lt, cases_Bool}
 use Rattle.std.proofs.lemmas.List.{length-take, get_or-take, get_or_past}
@@ -15,7 +15,6 @@ use Rattle.btor_tree.specs.LineKeys.{IsShort}
 use Rattle.btor_tree.specs.Sharing.{is_shared, Says}
 use Rattle.btor_tree.proofs.Grows.{slice_get_inside, inside_get}
 use Rattle.btor_tree.proofs.Keyed.{fits_short}
-use Rattle.btor_rules.specs.declared.operand.Operands.{Operands}
 use Rattle.btor_rules.specs.declared.operand.Operands.TheVariants.{Single, Pair, Triple}
 use Rattle.btor_rules.specs.declared.operand.Outcome.{Outcome}
 use Rattle.btor_rules.specs.declared.operand.Outcome.TheVariants.{Stays, Constant, Argument}
@@ -26,9 +25,9 @@ use Rattle.btor_simplify.specs.Fates.{fate_at, replaced, replaced_by, place_by, 
 use Rattle.btor_simplify.specs.Fates as fates_spec
 use Rattle.btor_simplify.specs.Marks.{AreKnown}
 use Rattle.btor_simplify.specs.Normal.{AreSameConstants, HasNoTwoSame, FitsNoRule}
-use Rattle.btor_simplify.proofs.Keys.{IsSame, content_same}
+use Rattle.btor_simplify.proofs.Keys.{content_same}
 use Rattle.btor_simplify.proofs.Ordering.{differ}
-use Rattle.btor_simplify.proofs.Normality.{sort_shared, sort_alone}
+use Rattle.btor_simplify.proofs.Normality.{sort_alone}
 
 -- each line stays
 abbrev pub AllStay : List Outcome → Type 0

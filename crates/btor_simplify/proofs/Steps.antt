@@ -1,35 +1,32 @@
 -- What is known of the line that comes next.
-use Rattle.std.proofs.Common.{◌≡◌, ℕ, zero, suc, ◌+◌, ◌-◌, ◌^◌, ◌<◌, ◌≤◌, Bool, true, false, cond, List, [], ◌∷◌, ◌++◌, length, take, drop, Option, Some, None, option_map, refl, sym, ap, subst, ◌∙◌, arith, inl, inr, ◌⊎◌}
+use Rattle.std.proofs.Common.{◌≡◌, ℕ, ◌^◌, ◌<◌, ◌≤◌, Bool, true, false, cond, List, [], ◌∷◌, ◌++◌, length, take, drop, Option, Some, None, option_map, refl, sym, ap, subst, ◌∙◌, arith, inl, inr, ◌⊎◌}
 use Rattle.std.specs.Prelude.{slice_get, IfSome}
 use Rattle.std.specs.List.{AllByRecursion}
-use Rattle.std.proofs.lemmas.List.{take-append-drop, get_or-take, length-take}
+use Rattle.std.proofs.lemmas.List.{take-append-drop, length-take}
 use Rattle.std.proofs.lemmas.Bool.{cases_Bool}
-use Rattle.std.proofs.lemmas.Option.{same_Some, none-some}
 use Rattle.std.proofs.Math.Nat.{one-le-pow}
-use Rattle.word_core.specs.Words.{BitVector, IsWord}
+use Rattle.word_core.specs.Words.{BitVector}
 use Rattle.word_core.specs.declared.word.TheConstants.{WIDEST}
 use Rattle.word_core.specs.Table.{BinaryFits, unary_width, binary_width}
 use Rattle.btor_tree.specs.declared.args.Arg.{Arg}
 use Rattle.btor_tree.specs.declared.lines.Line.{Line}
 use Rattle.btor_tree.specs.declared.lines.LineOp.{LineOp}
 use Rattle.btor_tree.specs.declared.lines.LineOp.TheVariants as op
-use Rattle.btor_tree.specs.Fits.{AreEarlier, OpFits, Fits, IsWellFormed, has_word, is_constant, sort_at, sort_width, width_at, greatest_id}
-use Rattle.btor_tree.specs.Frame.{constant_word, signed_word}
-use Rattle.btor_tree.specs.Sharing.{is_shared, op_kind}
+use Rattle.btor_tree.specs.Fits.{AreEarlier, OpFits, Fits, IsWellFormed, has_word, is_constant, sort_at, sort_width, width_at}
+use Rattle.btor_tree.specs.Frame.{signed_word}
+use Rattle.btor_tree.specs.Sharing.{is_shared}
 use Rattle.btor_tree.specs.LineKeys.{IsShort}
 use Rattle.btor_tree.proofs.Grows.{slice_get_inside, lines_short, well_formed_front}
 use Rattle.btor_tree.proofs.AtPlaces.{width_of_sort, width_of_line}
 use Rattle.btor_tree.proofs.Keyed.{fits_short}
 use Rattle.btor_tree.proofs.Widths.{IsOfWidth, line_at, one_lt, signed_is, sort_front, sort_small, sort_there, width_front, width_small}
 use Rattle.btor_rules.specs.declared.operand.Operand.{Operand}
-use Rattle.btor_rules.specs.declared.operand.Operands.{Operands}
-use Rattle.btor_rules.specs.declared.operand.Operands.TheVariants.{Empty, Single, Pair, Triple}
 use Rattle.btor_rules.specs.declared.operand.Outcome.{Outcome}
 use Rattle.btor_rules.specs.declared.operand.Outcome.TheVariants.{Stays, Constant, Argument}
 use Rattle.btor_rules.specs.Rules.{OperandFits, OperandsFit, outcome}
 use Rattle.btor_rules.specs.Words.{GivesWidth, OutcomeFits, HasOperand}
 use Rattle.btor_rules.proofs.Widths.{rules_fit}
-use Rattle.btor_simplify.specs.Fates.{fate_at, with_sign, replaced_by, replaced, place_by, sort_for, Lives, constant_of, constant_of_line, constant_by, constant_at, operand_of, operands_of, AreThere, IsReady, AreReady, KeepsWidth, AreFates, CanSay, IsNextLine, is_sort}
+use Rattle.btor_simplify.specs.Fates.{fate_at, with_sign, replaced_by, replaced, place_by, Lives, constant_of, constant_of_line, constant_by, constant_at, operand_of, operands_of, AreThere, IsReady, AreReady, KeepsWidth, AreFates, CanSay, IsNextLine, is_sort}
 
 -- lists of arguments
 pub none_all : (P : Arg → Type 0) (args : List Arg) → args ≡ [] → AllByRecursion P args

@@ -1,21 +1,20 @@
 -- A list in normal form is its own smaller list.
 use Rattle.std.proofs.Common.{◌≡◌, ℕ, zero, suc, ◌+◌, ◌<◌, ◌≤◌, Bool, true, false, cond, List, [], ◌∷◌, ◌++◌, length, take, map, Option, Some, None, refl, sym, ap, subst, ◌∙◌, arith, inl, inr, ◌⊎◌}
 use Rattle.std.specs.Prelude.{slice_get}
-use Rattle.std.proofs.lemmas.Bool.{cases_lt, cases_Bool}
+use Rattle.std.proofs.lemmas.Bool.{cases_Bool}
 use Rattle.std.proofs.lemmas.List.{length_push}
 use Rattle.std.proofs.lemmas.Option.{same_Some, none-some}
 use Rattle.btor_tree.specs.declared.args.Arg.{Arg}
 use Rattle.btor_tree.specs.declared.lines.Line.{Line}
 use Rattle.btor_tree.specs.declared.lines.LineOp.{LineOp}
 use Rattle.btor_tree.specs.declared.lines.LineOp.TheVariants as op
-use Rattle.btor_tree.specs.Fits.{OpFits, IsWellFormed}
+use Rattle.btor_tree.specs.Fits.{OpFits}
 use Rattle.btor_tree.specs.Sharing.{is_shared}
 use Rattle.btor_tree.proofs.Grows.{slice_get_inside, inside_get, push_cases}
 use Rattle.btor_rules.specs.declared.operand.Outcome.{Outcome}
-use Rattle.btor_rules.specs.declared.operand.Outcome.TheVariants.{Stays}
-use Rattle.btor_simplify.specs.Fates.{fate_at, replaced, sort_for, is_sort}
+use Rattle.btor_simplify.specs.Fates.{fate_at, sort_for, is_sort}
 use Rattle.btor_simplify.specs.Marks.{args_by, is_marked, AreMarkedLines, AreMarks, AreKnown}
-use Rattle.btor_simplify.specs.Order.{has_sort, IsMoved, is_in, with_place, with_sort_of, with_line, with_marked, order_upto}
+use Rattle.btor_simplify.specs.Order.{has_sort, is_in, with_place, with_sort_of, with_line, with_marked, order_upto}
 use Rattle.btor_simplify.specs.Written.{op_by, place_or_first, place_in, moved_arg, new_args, new_sort, new_symbol, new_line}
 use Rattle.btor_simplify.specs.Simplified.{IsSimplified}
 use Rattle.btor_simplify.specs.Normal.{is_root, IsUsed, root, argument, IsNormal}
@@ -23,7 +22,7 @@ use Rattle.btor_simplify.proofs.Steps.{sort_inside}
 use Rattle.btor_simplify.proofs.Marking.{source}
 use Rattle.btor_simplify.proofs.Ordering.{differ, found_in, place_of, not_sort, sorted}
 use Rattle.btor_simplify.proofs.Single.{marked_at, same_by_get}
-use Rattle.btor_simplify.proofs.Standing.{AllStay, same_arg, same_args, same_sort, all_stay}
+use Rattle.btor_simplify.proofs.Standing.{AllStay, same_args, same_sort, all_stay}
 
 root_kept : (o : LineOp) → is_root o ≡ true → is_shared o ≡ false
 root_kept op.Init h = refl
@@ -219,5 +218,5 @@ module _ (old new : List Line) (s : IsSimplified old new) (normal : IsNormal old
   unchanged =
       sym (same_by_get old new (sym long ∙ sym s.written.sized)
       (λ q l at.
-          let here = placed q (slice_get_inside old q l at) in
-          s.written.by_place q q l (slice_get_inside s.places q q here) here at ∙ ap Some (line_kept q l at)))
+      let here = placed q (slice_get_inside old q l at) in
+      s.written.by_place q q l (slice_get_inside s.places q q here) here at ∙ ap Some (line_kept q l at)))

@@ -1,32 +1,28 @@
 -- No rule fits a new line.
-use Rattle.std.proofs.Common.{◌≡◌, ℕ, zero, suc, ◌<◌, ◌≤◌, Bool, true, false, not, ◌&&◌, cond, eqb, List, [], ◌∷◌, length, take, map, Option, Some, None, option_map, refl, sym, ap, subst, ◌∙◌, arith, inl, inr, ◌⊎◌}
+use Rattle.std.proofs.Common.{◌≡◌, ℕ, ◌<◌, ◌≤◌, true, not, ◌&&◌, eqb, List, [], ◌∷◌, length, take, map, Some, option_map, refl, sym, ap, subst, ◌∙◌, arith, inl, inr}
 use Rattle.std.specs.Prelude.{slice_get}
-use Rattle.std.proofs.lemmas.Bool.{cases_eq, cases_Bool, eq-eqb, ne_eqb}
+use Rattle.std.proofs.lemmas.Bool.{cases_eq, eq-eqb, ne_eqb}
 use Rattle.std.proofs.lemmas.List.{get_or-take}
-use Rattle.std.proofs.lemmas.Option.{same_Some, none-some, slice_get-get_or}
-use Rattle.word_core.specs.Words.{BitVector}
+use Rattle.std.proofs.lemmas.Option.{same_Some, slice_get-get_or}
 use Rattle.btor_tree.specs.declared.args.Arg.{Arg}
 use Rattle.btor_tree.specs.declared.lines.Line.{Line}
 use Rattle.btor_tree.specs.declared.lines.LineOp.{LineOp}
-use Rattle.btor_tree.specs.declared.lines.LineOp.TheVariants as op
 use Rattle.btor_tree.specs.Fits.{has_word, sort_at, width_at}
 use Rattle.btor_tree.specs.Frame.{signed_word}
-use Rattle.btor_tree.specs.Sharing.{is_shared, same_arg, same_sign}
+use Rattle.btor_tree.specs.Sharing.{is_shared, same_sign}
 use Rattle.btor_tree.proofs.Grows.{slice_get_inside, inside_get}
 use Rattle.btor_tree.proofs.Widths.{line_at}
-use Rattle.btor_rules.specs.declared.operand.Operand.{Operand}
-use Rattle.btor_rules.specs.declared.operand.Operands.{Operands}
-use Rattle.btor_rules.specs.declared.operand.Operands.TheVariants.{Empty, Single, Pair, Triple}
+use Rattle.btor_rules.specs.declared.operand.Operands.TheVariants.{Single, Pair, Triple}
 use Rattle.btor_rules.specs.declared.operand.Outcome.{Outcome}
 use Rattle.btor_rules.specs.declared.operand.Outcome.TheVariants.{Stays, Constant, Argument}
 use Rattle.btor_rules.specs.Rules.{outcome}
 use Rattle.btor_simplify.specs.Fates.{fate_at, replaced, replaced_by, Lives, constant_of, constant_of_line, constant_by, constant_at, operand_as, operand_of, operands_of, IsFateBy}
 use Rattle.btor_simplify.specs.Marks.{args_by}
 use Rattle.btor_simplify.specs.Order.{IsMoved, AreBefore, IsBefore}
-use Rattle.btor_simplify.specs.Written.{op_by, place_or_first, place_in, moved_arg, new_args, new_sort, new_line}
+use Rattle.btor_simplify.specs.Written.{op_by, place_or_first, place_in, moved_arg, new_args, new_sort}
 use Rattle.btor_simplify.specs.Normal.{FitsNoRule}
 use Rattle.btor_simplify.proofs.Marking.{source}
-use Rattle.btor_simplify.proofs.Writing.{before_at, new_sort_is, width_moves, word_sort, stays}
+use Rattle.btor_simplify.proofs.Writing.{before_at, new_sort_is, width_moves, word_sort}
 use Rattle.btor_simplify.specs.Simplified.{IsSimplified}
 use Rattle.btor_simplify.proofs.Distinct.{Origin, origin, old_shared, same_place, op_of}
 use Rattle.btor_simplify.proofs.Renaming.{renamed, TellsApart, all_renamed, AreToldApart, outcome_stays, argument_stays, constant_stays}

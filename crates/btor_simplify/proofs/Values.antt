@@ -1,9 +1,9 @@
 -- In each frame, what becomes of a line has the word of the line.
-use Rattle.std.proofs.Common.{◌≡◌, ◌≢◌, ℕ, zero, suc, ◌+◌, ◌-◌, ◌^◌, ◌<◌, ◌≤◌, Bool, true, false, not, cond, List, [], ◌∷◌, ◌++◌, length, take, drop, get_or, map, Option, Some, None, option_map, refl, sym, ap, subst, ◌∙◌, arith, inl, inr, ◌⊎◌}
+use Rattle.std.proofs.Common.{◌≡◌, ℕ, zero, suc, ◌<◌, ◌≤◌, Bool, true, false, not, List, [], ◌∷◌, length, take, drop, map, Option, Some, None, option_map, refl, sym, ap, subst, ◌∙◌, arith, inl, inr, ◌⊎◌}
 use Rattle.std.specs.Prelude.{slice_get, IfSome}
 use Rattle.std.proofs.lemmas.Bool.{cases_lt, cases_eq, cases_Bool}
 use Rattle.std.proofs.lemmas.List.{length-take, get_or-take, take-take, take-append-drop}
-use Rattle.std.proofs.lemmas.Option.{same_Some, none-some, slice_get-get_or}
+use Rattle.std.proofs.lemmas.Option.{same_Some, slice_get-get_or}
 use Rattle.word_core.specs.Words.{BitVector, IsWord}
 use Rattle.word_core.specs.Table.{unary_of, binary_of, ite_of, slice_of, uext_of, sext_of}
 use Rattle.word_core.specs.declared.kinds.Unary.TheVariants.{Not}
@@ -11,28 +11,26 @@ use Rattle.btor_tree.specs.declared.args.Arg.{Arg}
 use Rattle.btor_tree.specs.declared.lines.Line.{Line}
 use Rattle.btor_tree.specs.declared.lines.LineOp.{LineOp}
 use Rattle.btor_tree.specs.declared.lines.LineOp.TheVariants as op
-use Rattle.btor_tree.specs.Fits.{IsWellFormed, has_word, is_constant, plain_arg, sort_at, width_at}
+use Rattle.btor_tree.specs.Fits.{is_constant, sort_at, width_at}
 use Rattle.btor_tree.specs.Frame.{word_at, signed_word, operand, constant_word, Equation, Meets}
 use Rattle.btor_tree.specs.LineKeys.{IsShort}
 use Rattle.btor_tree.specs.Sharing.{is_shared}
 use Rattle.btor_tree.proofs.Grows.{slice_get_inside, slice_get_front, inside_get}
 use Rattle.btor_tree.proofs.Keyed.{fits_short}
 use Rattle.btor_tree.proofs.Widths.{line_at, wide}
-use Rattle.btor_tree.proofs.Words.{computed, one_solution}
-use Rattle.btor_rules.specs.declared.operand.Operand.{Operand}
 use Rattle.btor_rules.specs.declared.operand.Outcome.{Outcome}
 use Rattle.btor_rules.specs.declared.operand.Outcome.TheVariants.{Stays, Constant, Argument}
-use Rattle.btor_rules.specs.Rules.{other_sign, outcome, args_of}
+use Rattle.btor_rules.specs.Rules.{outcome, args_of}
 use Rattle.btor_rules.specs.Words.{IsRead, AreRead, Gives}
 use Rattle.btor_rules.proofs.WordLaws.{vector_is, not_not}
 use Rattle.btor_rules.proofs.Holds.{rules_hold}
 use Rattle.btor_simplify.specs.declared.contents.Content.{Content}
 use Rattle.btor_simplify.specs.Contents.{content_of}
-use Rattle.btor_simplify.specs.Fates.{fate_at, with_sign, replaced_by, replaced, sort_for, Lives, constant_of, constant_of_line, constant_by, constant_at, operand_as, operand_of, operands_of, content_of_word, content_or, content_as_it_is, content_by, Says, IsSharedFate, IsFateBy, IsFate, KeepsWidth, AreFates, IsNextLine, is_sort}
+use Rattle.btor_simplify.specs.Fates.{fate_at, with_sign, replaced_by, replaced, sort_for, Lives, constant_of, constant_of_line, constant_by, constant_at, operand_as, operand_of, operands_of, content_of_word, content_as_it_is, content_by, Says, IsFateBy, IsFate, KeepsWidth, AreFates, IsNextLine, is_sort}
 use Rattle.btor_simplify.specs.Marks.{AreKnown}
-use Rattle.btor_simplify.proofs.Keys.{IsSame, content_same}
+use Rattle.btor_simplify.proofs.Keys.{content_same}
 use Rattle.btor_simplify.proofs.Steps.{worded_line, operands_fit, shared_word}
-use Rattle.btor_simplify.proofs.Marking.{IsSource, source}
+use Rattle.btor_simplify.proofs.Marking.{source}
 
 map_long : (f : Arg → Arg) (xs : List Arg) → length (map f xs) ≡ length xs
 map_long f [] = refl

@@ -1,25 +1,25 @@
 -- The whole smaller list.
-use Rattle.std.proofs.Common.{◌≡◌, ℕ, ◌<◌, ◌≤◌, Bool, true, false, ◌||◌, List, [], ◌∷◌, length, take, map, get_or, Option, Some, None, refl, sym, ap, subst, ◌∙◌, arith, inl, inr, ◌⊎◌}
+use Rattle.std.proofs.Common.{◌≡◌, ℕ, ◌<◌, ◌≤◌, true, false, ◌||◌, List, [], ◌∷◌, length, take, map, Option, Some, refl, sym, ap, subst, ◌∙◌, arith, inl, inr, ◌⊎◌}
 use Rattle.std.specs.Prelude.{slice_get}
-use Rattle.std.proofs.lemmas.Bool.{cases_lt, cases_Bool}
-use Rattle.std.proofs.lemmas.Option.{same_Some, none-some}
+use Rattle.std.proofs.lemmas.Bool.{cases_lt}
+use Rattle.std.proofs.lemmas.Option.{same_Some}
 use Rattle.btor_tree.specs.declared.args.Arg.{Arg}
 use Rattle.btor_tree.specs.declared.lines.Line.{Line}
 use Rattle.btor_tree.specs.declared.lines.LineOp.{LineOp}
 use Rattle.btor_tree.specs.declared.lines.LineOp.TheVariants as op
-use Rattle.btor_tree.specs.Fits.{IsWellFormed, OpFits, OnTwo, GivesValue, is_init, is_next, last_id, plain_arg, width_at}
+use Rattle.btor_tree.specs.Fits.{IsWellFormed, OnTwo, is_init, is_next, last_id, plain_arg, width_at}
 use Rattle.btor_tree.specs.Sharing.{is_shared}
 use Rattle.btor_tree.proofs.Grows.{slice_get_inside, inside_get}
 use Rattle.btor_rules.specs.declared.operand.Outcome.{Outcome}
 use Rattle.btor_rules.specs.declared.operand.Outcome.TheVariants.{Stays, Constant, Argument}
-use Rattle.btor_simplify.specs.Fates.{fate_at, replaced, Lives, AreFates, is_sort}
-use Rattle.btor_simplify.specs.Marks.{AreKnown, AreMarks}
-use Rattle.btor_simplify.specs.Order.{IsMoved, IsOrder, HaveMarkedMoved}
-use Rattle.btor_simplify.specs.Written.{op_by, place_or_first, place_in, moved_arg, new_args, new_symbol, new_line, IsWritten}
+use Rattle.btor_simplify.specs.Fates.{fate_at, replaced, Lives, AreFates}
+use Rattle.btor_simplify.specs.Marks.{AreKnown}
+use Rattle.btor_simplify.specs.Order.{IsMoved}
+use Rattle.btor_simplify.specs.Written.{op_by, place_or_first, place_in, moved_arg, new_args, new_symbol, new_line}
 use Rattle.btor_simplify.specs.Simplified.{IsSimplified}
 use Rattle.btor_simplify.specs.Kept.{AreSameLines, KeepsLines}
 use Rattle.btor_simplify.proofs.Ordering.{count_most}
-use Rattle.btor_simplify.proofs.Writing.{stays, same_state, line_there, width_moves, no_sort_kind, init_two, next_two, two_args}
+use Rattle.btor_simplify.proofs.Writing.{stays, same_state, line_there, width_moves, no_sort_kind, init_two, next_two}
 
 pub known : (lines : List Line) (fates : List Outcome) → IsWellFormed lines → AreFates lines fates → length fates ≡ length lines → AreKnown lines fates
 known lines fates w k e = record { well_formed = w; known = k; sized = e }

@@ -1,34 +1,33 @@
 -- Each new line fits the ones before it.
-use Rattle.std.proofs.Common.{◌≡◌, ◌≢◌, ℕ, zero, suc, ◌+◌, ◌-◌, ◌<◌, ◌≤◌, Bool, true, false, cond, eqb, List, [], ◌∷◌, ◌++◌, length, take, drop, get_or, map, Option, Some, None, refl, sym, ap, subst, ◌∙◌, arith, inl, inr, ◌⊎◌}
+use Rattle.std.proofs.Common.{◌≡◌, ℕ, zero, suc, ◌+◌, ◌<◌, ◌≤◌, Bool, true, false, cond, eqb, List, [], ◌∷◌, ◌++◌, length, take, drop, get_or, map, Option, Some, None, refl, sym, ap, subst, ◌∙◌, arith, inl, inr, ◌⊎◌}
 use Rattle.std.specs.Prelude.{slice_get, slice_index_or, IfSome}
 use Rattle.std.specs.Option.{option_or}
-use Rattle.std.specs.List.{AllByRecursion}
-use Rattle.std.proofs.lemmas.Bool.{cases_lt, cases_eq, cases_Bool, eqb-true, eq-eqb}
-use Rattle.std.proofs.lemmas.List.{length-take, length_push, get_or-take, take-append-drop}
+use Rattle.std.proofs.lemmas.Bool.{cases_lt, cases_Bool, eqb-true, eq-eqb}
+use Rattle.std.proofs.lemmas.List.{length-take, length_push, take-append-drop}
 use Rattle.std.proofs.lemmas.Option.{same_Some, none-some, slice_get-get_or}
-use Rattle.word_core.specs.Words.{BitVector, IsWord}
+use Rattle.word_core.specs.Words.{BitVector}
 use Rattle.word_core.specs.Table.{BinaryFits, unary_width, binary_width}
 use Rattle.btor_tree.specs.declared.args.Arg.{Arg}
 use Rattle.btor_tree.specs.declared.lines.Line.{Line}
 use Rattle.btor_tree.specs.declared.lines.LineOp.{LineOp}
 use Rattle.btor_tree.specs.declared.lines.LineOp.TheVariants as op
-use Rattle.btor_tree.specs.Fits.{AreEarlier, OpFits, OnOne, OnTwo, OnThree, Fits, Suits, GivesValue, InitRule, IsSymbol, IsWellFormed, has_word, is_constant, is_init, is_next, is_state, kind_at, sort_at, sort_width, state_value, value_for, value_in, width_at, last_id, greatest_id}
+use Rattle.btor_tree.specs.Fits.{AreEarlier, OpFits, OnTwo, Fits, GivesValue, InitRule, IsSymbol, has_word, is_constant, is_init, is_next, is_state, kind_at, sort_at, sort_width, state_value, value_for, value_in, width_at}
 use Rattle.btor_tree.specs.Sharing.{is_shared}
 use Rattle.btor_tree.proofs.AtPlaces.{is_kind, width_of_sort, width_of_line}
-use Rattle.btor_tree.proofs.Grows.{slice_get_inside, inside_get, last_push, push_cases, slice_get_front, slice_get_end}
+use Rattle.btor_tree.proofs.Grows.{slice_get_inside, inside_get, last_push, slice_get_front, slice_get_end}
 use Rattle.btor_tree.proofs.Keyed.{fits_short}
 use Rattle.btor_tree.proofs.Rows.{slice_get_take}
 use Rattle.btor_tree.proofs.Widths.{line_at}
 use Rattle.btor_rules.specs.declared.operand.Outcome.{Outcome}
 use Rattle.btor_rules.specs.declared.operand.Outcome.TheVariants.{Stays, Constant, Argument}
-use Rattle.btor_simplify.specs.Fates.{fate_at, replaced, replaced_by, place_by, sort_for, Lives, AreFates, KeepsWidth, AreThere, is_sort}
+use Rattle.btor_simplify.specs.Fates.{fate_at, replaced, replaced_by, sort_for, Lives, KeepsWidth, AreThere, is_sort}
 use Rattle.btor_simplify.specs.Marks.{args_by, AreKnown}
-use Rattle.btor_simplify.specs.Order.{has_sort, IsMoved, IsBefore, AreBefore, IsReadyAt, IsOrder, IsLiveSort}
+use Rattle.btor_simplify.specs.Order.{has_sort, IsMoved, IsBefore, AreBefore, IsReadyAt, IsOrder}
 use Rattle.btor_simplify.specs.Written.{op_by, place_or_first, place_in, moved_arg, new_args, new_sort, new_symbol, new_line, CanWrite, IsWritten}
-use Rattle.btor_simplify.proofs.Steps.{no_sort_at, replaced_line, sort_before}
+use Rattle.btor_simplify.proofs.Steps.{no_sort_at, sort_before}
 use Rattle.btor_simplify.proofs.Steps.{moved_arg as moved_arg_to}
-use Rattle.btor_simplify.proofs.Marking.{IsSource, source, fate_read}
-use Rattle.btor_simplify.proofs.Ordering.{HasSort, sort_of_line, differ, places_few}
+use Rattle.btor_simplify.proofs.Marking.{source}
+use Rattle.btor_simplify.proofs.Ordering.{sort_of_line, differ, places_few}
 use Rattle.btor_simplify.proofs.Constants.{constant_moves}
 
 pub word_sort : (o : LineOp) → has_word o ≡ true → has_sort o ≡ true

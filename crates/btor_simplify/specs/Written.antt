@@ -1,5 +1,5 @@
 -- The lines of the smaller list.
-use Rattle.std.specs.Prelude.{◌≡◌, ◌<◌, ◌+◌, ℕ, true, List, [], ◌∷◌, length, map, Option, Some, None, slice_get, get_or, if◌then◌else◌}
+use Rattle.std.specs.Prelude.{◌≡◌, ◌<◌, ◌+◌, ℕ, true, List, length, map, Option, Some, None, slice_get, get_or, if◌then◌else◌}
 use Rattle.btor_tree.specs.declared.args.Arg.{Arg}
 use Rattle.btor_tree.specs.declared.lines.Line.{Line}
 use Rattle.btor_tree.specs.declared.lines.LineOp.{LineOp}
@@ -8,7 +8,7 @@ use Rattle.btor_tree.specs.Fits.{last_id}
 use Rattle.btor_tree.specs.LineKeys.{IsShort}
 use Rattle.btor_rules.specs.declared.operand.Outcome.{Outcome}
 use Rattle.btor_rules.specs.declared.operand.Outcome.TheVariants.{Constant}
-use Rattle.btor_simplify.specs.Fates.{fate_at, replaced, sort_for, AreThere}
+use Rattle.btor_simplify.specs.Fates.{fate_at, sort_for, AreThere}
 use Rattle.btor_simplify.specs.Marks.{args_by}
 use Rattle.btor_simplify.specs.Order.{has_sort}
 

@@ -1,5 +1,6 @@
 // The smaller list.
-ghost use Rattle.std.specs.Prelude.{◌≡◌, ◌≤◌, length, IfOk};
+ghost use Rattle.std.specs.Prelude.{◌≡◌, ◌≤◌, List, length, IfOk};
+ghost use Rattle.btor_tree.specs.declared.lines.Line.{Line};
 ghost use Rattle.btor_tree.specs.Fits.{last_id};
 ghost use Rattle.btor_simplify.specs.Kept.{KeepsLines};
 ghost use Rattle.btor_simplify.specs.Normal.{FitsNoRule, HasNoTwoSame, IsNormal};
@@ -36,8 +37,9 @@ pub fn simplify(alloc: Global, nodes: &Nodes) -> Result<Nodes, NoMemory>
     // The list is in normal form, and a list in normal form is its own smaller list.
     ensures normal { IfOk result IsNormal }
     ensures unchanged { IsNormal nodes.now → IfOk result (λ new. new ≡ nodes.now) }
-    // No other list is the smaller one.
+    // It is the smaller list, and no other list is.
     ensures simplified { IfOk result (λ new. IsSimplified nodes.now new) }
+    ensures only { IfOk result (λ new. (other : List Line) → IsSimplified nodes.now other → other ≡ new) }
 {
     // This call's contract says that the lines fit one another.
     let _count = nodes.len();

@@ -1,10 +1,7 @@
-use Rattle.std.proofs.Common.{◌≡◌, sym, ap, ◌∙◌, length}
-use Rattle.std.specs.BTreeMap.{get}
-use Rattle.btor_tree.specs.LineKeys.{EntersKey}
+use Rattle.std.proofs.Common.{◌≡◌, sym, ap, ◌∙◌}
 use Rattle.btor_rules.specs.declared.operand.Outcome.TheVariants.{Stays, Constant, Argument}
 use Rattle.btor_rules.specs.Rules.{outcome}
-use Rattle.btor_simplify.specs.Contents.{content_cmp, IsSharedBy}
-use Rattle.btor_simplify.specs.Fates.{operands_of, content_by, content_of_word}
+use Rattle.btor_simplify.specs.Fates.{operands_of, content_of_word}
 use Rattle.btor_simplify.proofs.Steps.{can_say}
 use Rattle.btor_simplify.proofs.Sharing.{has_same}
 use Rattle.btor_simplify.proofs.Extents.{fate_ok, width_ok, has_ok, sort_known, constant_keeps, argument_keeps}

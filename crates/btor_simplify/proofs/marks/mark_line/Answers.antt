@@ -1,7 +1,4 @@
-use Rattle.std.proofs.Common.{◌≡◌, ◌<◌, sym, subst, ap, ◌∙◌, arith, length, length-set}
-use Rattle.std.proofs.lemmas.Option.{slice_get_read}
-use Rattle.btor_rules.specs.declared.operand.Outcome.TheVariants.{Stays, Constant}
-use Rattle.btor_simplify.specs.Fates.{fate_at}
+use Rattle.std.proofs.Common.{◌<◌, sym, ◌∙◌, arith, length, length-set}
 use Rattle.btor_simplify.proofs.Marking.{can_mark, constant_marked, operator_marked, skipped, left_cases, left_out, fate_read}
 use Rattle.btor_simplify.proofs.marks.mark_line.Goals as goal
 

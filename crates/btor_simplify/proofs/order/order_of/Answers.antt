@@ -1,4 +1,4 @@
-use Rattle.std.proofs.Common.{◌≡◌, ◌+◌, suc, length, ap, ◌∙◌, arith}
+use Rattle.std.proofs.Common.{◌≡◌, ◌+◌, suc, ap, ◌∙◌, arith}
 use Rattle.btor_simplify.specs.Order.{order_upto, with_marked}
 use Rattle.btor_simplify.proofs.order.order_of.Goals as goal
 

@@ -1,9 +1,7 @@
-use Rattle.std.proofs.Common.{◌≡◌, List, length, subst, sym, ◌∙◌, ap}
+use Rattle.std.proofs.Common.{List, length, subst, ◌∙◌, ap}
 use Rattle.btor_tree.specs.declared.lines.Line.{Line}
 use Rattle.btor_tree.specs.Fits.{IsWellFormed}
-use Rattle.btor_rules.specs.declared.operand.Outcome.{Outcome}
-use Rattle.btor_simplify.specs.Fates.{AreFates}
-use Rattle.btor_simplify.specs.Marks.{AreKnown, AreMarks}
+use Rattle.btor_simplify.specs.Marks.{AreMarks}
 use Rattle.btor_simplify.specs.Order.{IsOrder, HaveMarkedMoved, order_upto}
 use Rattle.btor_simplify.specs.Written.{IsWritten}
 use Rattle.btor_simplify.proofs.Extents.{ok_two}
@@ -13,6 +11,7 @@ use Rattle.btor_simplify.proofs.Unfit.{no_rule}
 use Rattle.btor_simplify.proofs.Runs.{keeps_runs}
 use Rattle.btor_simplify.proofs.Normality.{normal}
 use Rattle.btor_simplify.proofs.Unchanged.{unchanged}
+use Rattle.btor_simplify.proofs.Single.{one_simplified}
 use Rattle.btor_simplify.specs.Simplified.{IsSimplified}
 use Rattle.btor_simplify.proofs.Whole.{known, fewer, numbered, keeps_lines}
 use Rattle.btor_simplify.proofs.simplified.simplify.Goals as goal
@@ -65,3 +64,7 @@ returns-clause-normal c = ok_two c.lines_of.result _ _ _ (λ new w f. normal c.a
 
 pub returns-clause-unchanged : goal.returns-clause-unchanged
 returns-clause-unchanged c = λ h. ok_two c.lines_of.result _ _ _ (λ new w f. unchanged c.args.nodes.now new (whole c new w f) h) c.lines_of.ensures.written c.lines_of.ensures.well_formed
+
+pub returns-clause-only : goal.returns-clause-only
+returns-clause-only c =
+    ok_two c.lines_of.result _ _ _ (λ new w f. λ other h. one_simplified c.args.nodes.now other new h (whole c new w f)) c.lines_of.ensures.written c.lines_of.ensures.well_formed
