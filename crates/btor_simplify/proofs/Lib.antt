@@ -11,6 +11,9 @@ pub mod Whole
 pub mod Values
 pub mod Images
 pub mod Runs
+pub mod WitnessesPlaces
+pub mod WitnessesFrames
+pub mod Witnesses
 pub mod Distinct
 pub mod Renaming
 pub mod Unfit

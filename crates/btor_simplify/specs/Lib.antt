@@ -6,4 +6,5 @@ pub mod Written
 pub mod Simplified
 pub mod Kept
 pub mod Words
+pub mod Witnesses
 pub mod Normal

@@ -6,6 +6,7 @@ ghost use Rattle.btor_simplify.specs.Kept.{KeepsLines};
 ghost use Rattle.btor_simplify.specs.Normal.{FitsNoRule, HasNoTwoSame, IsNormal};
 ghost use Rattle.btor_simplify.specs.Simplified.{IsSimplified};
 ghost use Rattle.btor_simplify.specs.Words.{KeepsRuns, KeepsWords};
+ghost use Rattle.btor_simplify.specs.Witnesses.{KeepsWitnesses};
 
 use crate::fates::fates_of;
 use crate::marks::marks_of;
@@ -30,6 +31,8 @@ pub fn simplify(alloc: Global, nodes: &Nodes) -> Result<Nodes, NoMemory>
     ensures words { IfOk result (λ new. KeepsWords nodes.now new) }
     // And each run of frames is one of the new lines, frame by frame.
     ensures runs { IfOk result (λ new. KeepsRuns nodes.now new) }
+    // Each text spells the same witness or gets the same refusal for both lists, and each witness has the same verdict.
+    ensures witnesses { IfOk result (λ new. KeepsWitnesses nodes.now new) }
     // No two sorts, constants or operators are alike, and no two constants have one width and value.
     ensures distinct { IfOk result HasNoTwoSame }
     // No rule fits any line.

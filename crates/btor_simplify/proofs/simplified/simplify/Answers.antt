@@ -6,6 +6,7 @@ use Rattle.btor_simplify.specs.Order.{IsOrder, HaveMarkedMoved, order_upto}
 use Rattle.btor_simplify.specs.Written.{IsWritten}
 use Rattle.btor_simplify.proofs.Extents.{ok_two}
 use Rattle.btor_simplify.proofs.Images.{keeps_words}
+use Rattle.btor_simplify.proofs.Witnesses.{keeps_witnesses}
 use Rattle.btor_simplify.proofs.Distinct.{no_two_same}
 use Rattle.btor_simplify.proofs.Unfit.{no_rule}
 use Rattle.btor_simplify.proofs.Runs.{keeps_runs}
@@ -49,6 +50,10 @@ returns-clause-words c = ok_two c.lines_of.result _ _ _ (λ new w f. keeps_words
 
 pub returns-clause-runs : goal.returns-clause-runs
 returns-clause-runs c = ok_two c.lines_of.result _ _ _ (λ new w f. keeps_runs c.args.nodes.now new (whole c new w f)) c.lines_of.ensures.written c.lines_of.ensures.well_formed
+
+pub returns-clause-witnesses : goal.returns-clause-witnesses
+returns-clause-witnesses c =
+    ok_two c.lines_of.result _ _ _ (λ new w f. keeps_witnesses c.args.nodes.now new c.len-count.ensures.well_formed f (keeps_words c.args.nodes.now new (whole c new w f))) c.lines_of.ensures.written c.lines_of.ensures.well_formed
 
 pub returns-clause-distinct : goal.returns-clause-distinct
 returns-clause-distinct c = ok_two c.lines_of.result _ _ _ (λ new w f. no_two_same c.args.nodes.now new (whole c new w f)) c.lines_of.ensures.written c.lines_of.ensures.well_formed
