@@ -10,8 +10,9 @@ pub mod Writing
 pub mod Whole
 pub mod Values
 pub mod Images
-pub mod Runs
 pub mod WitnessesPlaces
+pub mod GivenValues
+pub mod Runs
 pub mod WitnessesFrames
 pub mod Witnesses
 pub mod Distinct

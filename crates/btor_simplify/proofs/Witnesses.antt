@@ -18,7 +18,8 @@ use Rattle.btor_witness.specs.Texts.{ReadsText, RefusesText, SpellsWitness}
 use Rattle.btor_simplify.specs.Words.{KeepsWords}
 use Rattle.btor_simplify.specs.Witnesses.{KeepsWitnesses}
 use Rattle.btor_simplify.proofs.WitnessesPlaces.{sizes_same}
-use Rattle.btor_simplify.proofs.WitnessesFrames.{AreLast, PassAlike, AreAlike, carry_to, carry_from, alike}
+use Rattle.btor_simplify.proofs.GivenValues.{AreLast, AreAlike}
+use Rattle.btor_simplify.proofs.WitnessesFrames.{PassAlike, carry_to, carry_from, alike}
 
 -- where the frames of one list have frames of the other that pass alike, what is judged of the one is judged of the other
 module _ (lines others : List Line) (j : ℕ) (R : List BitVector → List BitVector → Type 0) (carry : (begun : Bool) (last before : List BitVector) (stated : Statement) (row : List BitVector) → AreLast R begun last before → IsStatedFrame lines begun last stated row → (image : List BitVector) × IsStatedFrame others begun before stated image × R row image) (same : (begun : Bool) (stated : Statement) (row image : List BitVector) → R row image → PassAlike lines others j begun stated row image) where
@@ -62,7 +63,7 @@ pub keeps_witnesses : (old new : List Line) → IsWellFormed old → IsWellForme
 keeps_witnesses old new wo wn k =
     let place = k.0 in
     let sizes = sizes_same old new place k.1 in
-    let R = AreAlike old new place k.1 wo wn in
+    let R = AreAlike old new place in
     record {
       spelled = λ text w. (λ h. (h.0, subst (λ z. ReadsText z text w) (sym sizes) h.1), λ h. (h.0, subst (λ z. ReadsText z text w) sizes h.1));
       refused = λ text r. (λ h. subst (RefusesBy text r) (sym sizes) h, λ h. subst (RefusesBy text r) sizes h);

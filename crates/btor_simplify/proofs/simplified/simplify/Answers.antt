@@ -49,7 +49,8 @@ pub returns-clause-words : goal.returns-clause-words
 returns-clause-words c = ok_two c.lines_of.result _ _ _ (λ new w f. keeps_words c.args.nodes.now new (whole c new w f)) c.lines_of.ensures.written c.lines_of.ensures.well_formed
 
 pub returns-clause-runs : goal.returns-clause-runs
-returns-clause-runs c = ok_two c.lines_of.result _ _ _ (λ new w f. keeps_runs c.args.nodes.now new (whole c new w f)) c.lines_of.ensures.written c.lines_of.ensures.well_formed
+returns-clause-runs c =
+    ok_two c.lines_of.result _ _ _ (λ new w f. keeps_runs c.args.nodes.now new c.len-count.ensures.well_formed f (keeps_words c.args.nodes.now new (whole c new w f))) c.lines_of.ensures.written c.lines_of.ensures.well_formed
 
 pub returns-clause-witnesses : goal.returns-clause-witnesses
 returns-clause-witnesses c =
