@@ -23,3 +23,4 @@ pub mod Placing
 pub mod Normality
 pub mod Standing
 pub mod Unchanged
+pub mod Keeping

@@ -8,3 +8,4 @@ pub mod Kept
 pub mod Words
 pub mod Witnesses
 pub mod Normal
+pub mod Keeping

@@ -4,9 +4,11 @@
 
 mod contents;
 mod fates;
+mod laws;
 mod marks;
 mod order;
 mod simplified;
 mod write;
 
+pub use laws::lists_get_smaller;
 pub use simplified::simplify;
