@@ -44,6 +44,7 @@ back s whole flattened w met =
     let count : length steps ≡ length w.frames = length-map w.frames _ in
     found (λ (q : Query). MeetsFlat (flat_of s) q (length steps - 1) (trace_of steps)) (slice_get s.check.queries w.bad) met (λ q there m. record {
       steps = steps;
+      exact = refl;
       written = refl;
       each_frame = count;
       query = q;

@@ -8,6 +8,7 @@ use Rattle.text_core.specs.Places.{start, after}
 use Rattle.btor_tree.specs.declared.lines.Line.{Line}
 use Rattle.btor_tree.specs.Fits.{IsWellFormed, greatest_id}
 use Rattle.btor_tree.specs.Printing.{printed}
+use Rattle.btor_tree.specs.Sharing.{HasNoTwoAlike}
 use Rattle.btor_tree.specs.Texts.{SpellsLines}
 use Rattle.moxi_scripts.specs.Script.{PlainScript}
 use Rattle.moxi_scripts.specs.Spelling.{SpellsScript}
@@ -23,7 +24,7 @@ use Rattle.moxi_flat.specs.Limits.{flat_refusal, has_name_twice, is_too_large}
 use Rattle.moxi_lines.specs.TermLaws.{HaveCodes}
 use Rattle.moxi_lines.specs.Lines.{lines_of}
 use Rattle.moxi_layout.specs.LayoutLaws.{BadsAreQueries, HasFrames, IsLaidOut, TracesHaveFrames}
-use Rattle.moxi_layout.specs.Counts.{FlatSizesAreScriptSizes, LinesStayFew}
+use Rattle.moxi_layout.specs.Counts.{FlatSizesAreScriptSizes, LinesStayFew, NoTwoLinesAlike}
 use Rattle.moxi_layout.specs.LineLaws.{LinesAreWellFormed, LinesLayOut}
 use Rattle.moxi_layout.specs.ConstantLaws.{CodesAreFew}
 use Rattle.moxi_commands.specs.Limits.{most_script_bytes}
@@ -87,11 +88,11 @@ stand s lines framed flattened bads whole laid = record {
 
 written : (s : PlainScript) → ((lines : List Line) → IsWellFormed lines → SpellsLines (printed lines) lines)
     → ((text : List ℕ) (lines others : List Line) → SpellsLines text lines → SpellsLines text others → lines ≡ others)
-    → IsLaidOut (flat_of s) (lines_of (flat_of s)) → StandFor s (lines_of (flat_of s)) → WritesLines s (btor_text s)
+    → IsLaidOut (flat_of s) (lines_of (flat_of s)) → StandFor s (lines_of (flat_of s)) → HasNoTwoAlike (lines_of (flat_of s)) → WritesLines s (btor_text s)
 unfolding btor_text
-written s spells one laid stands =
+written s spells one laid stands alike =
     let spelled = spells (lines_of (flat_of s)) laid.well_formed in
-    record { lines = lines_of (flat_of s); spelled = spelled; only = λ others h. sym (one (printed (lines_of (flat_of s))) (lines_of (flat_of s)) others spelled h); stand = stands }
+    record { lines = lines_of (flat_of s); spelled = spelled; only = λ others h. sym (one (printed (lines_of (flat_of s))) (lines_of (flat_of s)) others spelled h); stand = stands; distinct = alike }
 
 -- so many bytes are fewer than the words of the greatest width
 fits : (bytes : List ℕ) → length bytes ≤ most_script_bytes → length bytes ≤ 2 ^ WIDEST
@@ -105,11 +106,11 @@ laid_lines wholes coded sorts sizes counted lay formed bytes s h =
     let codes = coded bytes x.forms (after start bytes) s (fits bytes x.within) x.formed x.spelled in
     laid_out s lay formed codes sorted (few s counted sizes whole sorted h.accepted)
 
-pub lines_stand : ((ts : Trees) (end : Place) (s : PlainScript) → SpellsScript ts end s → IsWhole s) → ScriptLinesAreLaidOut → BadsAreQueries → TracesHaveFrames → TracesHaveFlatTraces
+pub lines_stand : ((ts : Trees) (end : Place) (s : PlainScript) → SpellsScript ts end s → IsWhole s) → ScriptLinesAreLaidOut → BadsAreQueries → NoTwoLinesAlike → TracesHaveFrames → TracesHaveFlatTraces
     → ((lines : List Line) → IsWellFormed lines → SpellsLines (printed lines) lines) → ((text : List ℕ) (lines others : List Line) → SpellsLines text lines → SpellsLines text others → lines ≡ others)
     → (bytes : List ℕ) (s : PlainScript) → IsInstantiated bytes s → WritesLines s (btor_text s)
-lines_stand wholes laid bads framed flattened spells one bytes s h =
+lines_stand wholes laid bads distinct framed flattened spells one bytes s h =
     let x = h.is_script in
     let whole = wholes x.forms (after start bytes) s x.spelled in
     let lay = laid bytes s h in
-    written s spells one lay (stand s (lines_of (flat_of s)) framed flattened bads whole lay)
+    written s spells one lay (stand s (lines_of (flat_of s)) framed flattened bads whole lay) (distinct (flat_of s) lay.sorted)

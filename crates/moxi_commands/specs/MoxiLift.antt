@@ -55,9 +55,11 @@ IsOfBytes files rose second bytes answer =
 
 -- ---- what a response stands for
 
--- the text is the response of a trace with a step for each frame, which meets the query of the bad line at its last step
+-- The text is the response of a trace with a step for each frame, which meets the query of the bad line at its last step. It is the
+-- trace to which the words of the witness's inputs are decoded, and no other.
 pub record LiftsBack (script : PlainScript) (w : Witness) (text : List ℕ) : Type 0 where
   pub steps : List (List Datum)
+  pub exact : steps ≡ lifted (flat_of script) w
   pub written : text ≡ response_text (declared_of script) w.bad steps
   pub each_frame : length steps ≡ length w.frames
   pub query : Query

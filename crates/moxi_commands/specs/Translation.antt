@@ -6,6 +6,7 @@ use Rattle.text_core.specs.Outside.{Files, file_at, grown}
 use Rattle.btor_tree.specs.declared.lines.Line.{Line}
 use Rattle.btor_tree.specs.Fits.{operands, is_bad}
 use Rattle.btor_tree.specs.Printing.{printed}
+use Rattle.btor_tree.specs.Sharing.{HasNoTwoAlike}
 use Rattle.btor_tree.specs.Texts.{SpellsLines}
 use Rattle.moxi_scripts.specs.Script.{PlainScript}
 use Rattle.moxi_flat.specs.FlatSystem.{flat_of}
@@ -51,12 +52,13 @@ pub record StandFor (script : PlainScript) (lines : List Line) : Type 0 where
   pub bads : length (operands is_bad lines) ≡ length script.check.queries
   pub frames : (j k : ℕ) → j < length script.check.queries → HasTrace script j k ↔ HasFrames lines j k
 
--- the text spells one list of lines, which stand for the script
+-- the text spells one list of lines, which stand for the script; no two sorts, constants or operators of them are alike
 pub record WritesLines (script : PlainScript) (text : List ℕ) : Type 0 where
   pub lines : List Line
   pub spelled : SpellsLines text lines
   pub only : (others : List Line) → SpellsLines text others → others ≡ lines
   pub stand : StandFor script lines
+  pub distinct : HasNoTwoAlike lines
 
 -- the lines of a script's flat system lay the system out
 abbrev pub ScriptLinesAreLaidOut : Type 0

@@ -21,7 +21,7 @@ use moxi_flat::{flat_systems_are_sorted, traces_have_flat_traces};
 use moxi_instantiate::{FlatSystem, instantiate};
 use moxi_layout::{
     bads_are_queries, codes_are_few, flat_sizes_are_script_sizes, lines_lay_out, lines_stay_few,
-    traces_have_frames,
+    no_two_lines_alike, traces_have_frames,
 };
 use moxi_scripts::{Script, spelled_scripts_are_whole};
 use moxi_to_btor::to_btor;
@@ -105,13 +105,15 @@ pub fn script_lines_are_laid_out()
 }
 
 /// What is written for a script spells one list of lines, which have frames 0 to k with every constraint true and the bad line of
-/// number j true in the last one exactly where some trace meets the query of number j at step k. This function does nothing.
+/// number j true in the last one exactly where some trace meets the query of number j at step k; no two of them are alike. This function
+/// does nothing.
 pub fn lines_stand()
     ensures { LinesStand }
 {
     spelled_scripts_are_whole();
     script_lines_are_laid_out();
     bads_are_queries();
+    no_two_lines_alike();
     traces_have_frames();
     traces_have_flat_traces();
     printed_spells();

@@ -49,6 +49,7 @@ back source w some b =
     let count : length steps ≡ length w.frames = length-map w.frames _ in
     record {
       run = lifted_run source w;
+      exact = refl;
       written = refl;
       each_frame = steps_count (decoded_state (flat_smv source) (coding_of (flat_smv source) (width_of (flat_smv source)))) (trace_of steps) 0 (length steps - 1 + 1) ∙ ap (λ n. n - 1 + 1) count ∙ again w.frames some;
       breaks = subst (λ (n : ℕ). BreaksIn source w.bad (n - 1) (lifted_run source w)) count b;

@@ -92,9 +92,11 @@ IsOfBytes files rose second bytes answer =
 
 -- ---- what a trace stands for
 
--- the text is the trace of a run of the model with a state for each frame, whose last state breaks the invariant of the bad line
+-- The text is the trace of a run of the model with a state for each frame, whose last state breaks the invariant of the bad line. It is
+-- the run to which the words of the witness's inputs are decoded, and no other.
 pub record LiftsBack (source : PlainSource) (w : Witness) (text : List ℕ) : Type 0 where
   pub run : Run
+  pub exact : run ≡ lifted_run source w
   pub written : text ≡ run_text (model_has_inputs source) w.bad run
   pub each_frame : length run.states ≡ length w.frames
   pub breaks : BreaksAt source w.bad (length w.frames - 1) (map given run.states) (map given run.labels)
