@@ -4,3 +4,4 @@ pub mod Judged
 pub mod Seconds
 pub mod Lifted
 pub mod Imported
+pub mod Smaller

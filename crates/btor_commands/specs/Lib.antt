@@ -4,3 +4,4 @@ pub mod Pieces
 pub mod Lifting
 pub mod Traces
 pub mod Importing
+pub mod Simplifying

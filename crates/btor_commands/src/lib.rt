@@ -1,11 +1,13 @@
-//! The commands on BTOR2 texts, `judge-btor` and `btor2moxi`, and how a second file is read as a witness.
+//! The commands on BTOR2 texts, `judge-btor`, `btor2moxi` and `simplify`, and how a second file is read as a witness.
 #![tactic(auto)]
 
 mod import;
 mod judge;
 mod pieces;
 mod second;
+mod simplify;
 
 pub use import::{btor_to_moxi, imports_stand};
 pub use judge::judge_files;
 pub use second::witness_of;
+pub use simplify::{simplify_btor, smaller_texts_stand};

@@ -1,5 +1,5 @@
 -- Words and files define one answer, and what that says of a run.
-use Rattle.std.proofs.Common.{◌≡◌, ◌≢◌, ◌⊎◌, inl, inr, List, [], ℕ, Option, Some, None, ◌≤◌, length, refl, sym, ap, ◌∙◌, subst, take, arith}
+use Rattle.std.proofs.Common.{zero, suc, ◌≡◌, ◌≢◌, ◌⊎◌, inl, inr, List, [], ℕ, Option, Some, None, ◌≤◌, length, refl, sym, ap, ◌∙◌, subst, take, arith}
 use Rattle.std.proofs.lemmas.List.{append-nil}
 use Rattle.std.specs.Prelude.{IfSome}
 use Rattle.text_core.specs.Outside.{Files, file_at, grown, Rose}
@@ -12,7 +12,7 @@ use Rattle.command_core.specs.declared.answer.Answer.{Answer}
 use Rattle.command_core.specs.declared.answer.Answer.TheVariants.{Usage, Unread, Refused, SecondRefused, No, Done}
 use Rattle.command_core.specs.declared.answer.Output.TheVariants.{Text}
 use Rattle.top_call.specs.declared.words.Command.{Command}
-use Rattle.top_call.specs.declared.words.Command.TheVariants.{SmvToBtor, SmvToMoxi, MoxiToBtor, BtorToMoxi, JudgeBtor, JudgeSmv, JudgeMoxi, LiftSmv, LiftMoxi, Generate}
+use Rattle.top_call.specs.declared.words.Command.TheVariants.{SmvToBtor, SmvToMoxi, MoxiToBtor, BtorToMoxi, Simplify, JudgeBtor, JudgeSmv, JudgeMoxi, LiftSmv, LiftMoxi, Generate}
 use Rattle.command_core.specs.Answers.{status_of, text_of, line_of}
 use Rattle.command_core.specs.Notes.{no_memory_line}
 use Rattle.top_call.specs.Outcome.{IsAbsent, IsCutLine, IsLineOf, MayAnswer, outcome_of}
@@ -24,6 +24,9 @@ use Rattle.smv_commands.specs.Translation.{Accepts, TranslatesTo, TranslationsSt
 use Rattle.btor_commands.specs.Importing.{ScriptsStand as ImportsStand, script_text}
 use Rattle.btor_commands.proofs.Imported as imports
 use Rattle.btor_commands.proofs.Imported.{one_import}
+use Rattle.btor_commands.specs.Simplifying.{IsSmallerText, SmallerTextsStand}
+use Rattle.btor_commands.proofs.Smaller as smaller
+use Rattle.btor_commands.proofs.Smaller.{accepted_before, one_simplification}
 use Rattle.btor_commands.proofs.Judgements.{one_judgement}
 use Rattle.smv_commands.proofs.JudgedSmv.{one_smv_judgement}
 use Rattle.smv_commands.proofs.ScriptStands.{one_script}
@@ -47,7 +50,7 @@ use Rattle.btor_witness.specs.declared.witness.Witness.{Witness}
 use Rattle.btor_witness.specs.Judging.{judged_btor}
 use Rattle.btor_witness.specs.Texts.{SpellsWitness}
 use Rattle.smv_commands.specs.SmvLift.{LiftsBack, RunsAreLifted, lifted_trace}
-use Rattle.moxi_commands.specs.MoxiLift.{TracesAreLifted}
+use Rattle.moxi_commands.specs.MoxiLift.{LiftsBack as RespondsBack, TracesAreLifted, lifted_response}
 use Rattle.smv_commands.proofs.Smv as traces
 use Rattle.smv_commands.proofs.Smv.{one_smv_lift}
 use Rattle.moxi_commands.proofs.Moxi as responses
@@ -63,6 +66,7 @@ one_answer once (Some (SmvToBtor model)) fs a b h k = one_translation fs model a
 one_answer once (Some (SmvToMoxi model)) fs a b h k = one_script fs model a b h k
 one_answer once (Some (MoxiToBtor model)) fs a b h k = one_text fs model a b h k
 one_answer once (Some (BtorToMoxi model)) fs a b h k = one_import fs model a b h k
+one_answer once (Some (Simplify model)) fs a b h k = one_simplification fs model a b h k
 one_answer once (Some (JudgeBtor model second)) fs a b h k = one_judgement fs model second a b h k
 one_answer once (Some (JudgeSmv model second j)) fs a b h k = one_smv_judgement fs model second j a b h k
 one_answer once (Some (JudgeMoxi model second)) fs a b h k = one_moxi_judgement fs model second a b h k
@@ -306,6 +310,7 @@ pub record Laws : Type 0 where
   pub scripts : ScriptsStand
   pub lines : LinesStand
   pub imports : ImportsStand
+  pub smaller : SmallerTextsStand
   pub traces : RunsAreLifted
   pub responses : TracesAreLifted
 
@@ -315,6 +320,7 @@ served_by laws (Some (SmvToBtor model)) fs b before now h s w = translations.ser
 served_by laws (Some (SmvToMoxi model)) fs b before now h s w = scripts.served laws.scripts fs model b before now h s w
 served_by laws (Some (MoxiToBtor model)) fs b before now h s w = lines.served laws.lines fs model b before now h s w
 served_by laws (Some (BtorToMoxi model)) fs b before now h s w = imports.served laws.imports fs model b before now h s w
+served_by laws (Some (Simplify model)) fs b before now h s w = smaller.served laws.smaller fs model b before now h s w
 served_by laws (Some (LiftSmv model second)) fs b before now h s w = traces.served laws.traces fs model second b before now h s w
 served_by laws (Some (LiftMoxi model second)) fs b before now h s w = responses.served laws.responses fs model second b before now h s w
 served_by laws (Some (Generate n)) fs b before now h s w = generated.summarized n b before now h s w
@@ -348,6 +354,30 @@ run_lifts once lifted (Some fs) command shelf out notes a s before now m ends ta
       | inr f ↦ absurd (whole f)
     ]
 
+-- a witness for the smaller text of a model's text is lifted like one for the text itself
+pub run_lifts_smaller : (once : OneGenerated) → (lifted : RunsAreLifted) (stand : SmallerTextsStand) (files : Option Files) (command : Option Command) (shelf out notes : Type 0) (a : Answer) (s : Status) (before now : Option (List ℕ)) → MayAnswer files command shelf a → Ends s a → (s ≢ status.WriteFault → now ≡ grown before (text_of a)) → (s ≡ status.WriteFault → out ⊎ notes)
+    → IfSome files (λ fs. (model second bytes shorter text : List ℕ) (source : PlainSource) (lines : List Line) (w : Witness) → command ≡ Some (LiftSmv model second) → file_at fs model ≡ Some bytes → Accepts bytes source → IsSmallerText (btor_text source) shorter → SpellsLines shorter lines
+    → file_at fs second ≡ Some text → SpellsWitness lines text w → judged_btor lines w Yes → (shelf → ⊥) → (out → ⊥) → (notes → ⊥) → s ≢ status.NoMemory → (s ≡ status.Done) × ((trace : List ℕ) × (now ≡ grown before trace) × LiftsBack source w trace))
+run_lifts_smaller once lifted stand None command shelf out notes a s before now m ends taken w = tt
+run_lifts_smaller once lifted stand (Some fs) command shelf out notes a s before now m ends taken w = λ model second bytes shorter text source lines v is there acc smaller_text spelled second_there states judged sh o n memory.
+    let own = accepted_before stand (btor_text source) shorter lines smaller_text spelled text v states judged in
+    run_lifts once lifted (Some fs) command shelf out notes a s before now m ends taken w model second bytes text source own.0 v is there acc own.1 second_there own.2 own.3 sh o n memory
+
+-- and so is one for the smaller text of a script's text
+pub run_responds : (once : OneGenerated) → (lifted : TracesAreLifted) (stand : SmallerTextsStand) (files : Option Files) (command : Option Command) (shelf out notes : Type 0) (a : Answer) (s : Status) (before now : Option (List ℕ)) → MayAnswer files command shelf a → Ends s a → (s ≢ status.WriteFault → now ≡ grown before (text_of a)) → (s ≡ status.WriteFault → out ⊎ notes)
+    → IfSome files (λ fs. (model second bytes shorter text : List ℕ) (script : PlainScript) (lines : List Line) (w : Witness) → command ≡ Some (LiftMoxi model second) → file_at fs model ≡ Some bytes → IsInstantiated bytes script → IsSmallerText (script_lines script) shorter → SpellsLines shorter lines
+    → file_at fs second ≡ Some text → SpellsWitness lines text w → judged_btor lines w Yes → (shelf → ⊥) → (out → ⊥) → (notes → ⊥) → s ≢ status.NoMemory → (s ≡ status.Done) × ((response : List ℕ) × (now ≡ grown before response) × RespondsBack script w response))
+run_responds once lifted stand None command shelf out notes a s before now m ends taken w = tt
+run_responds once lifted stand (Some fs) command shelf out notes a s before now m ends taken w = λ model second bytes shorter text script lines v is there instantiated smaller_text spelled second_there states judged sh o n memory.
+    let own = accepted_before stand (script_lines script) shorter lines smaller_text spelled text v states judged in
+    let answer = Done (Text (lifted_response script v)) in
+    let same = one_answer once command fs a answer (defined fs command shelf a m sh) (subst (λ c. Answers c fs answer) (sym is) (responses.accepted_answer fs model second bytes text script own.0 v there instantiated own.1 second_there own.2 own.3)) in
+    let whole : s ≢ status.WriteFault = λ f. elim (w f) [ inl r ↦ o r | inr r ↦ n r ] in
+    elim ends [
+      | inl e ↦ (e ∙ ap status_of same, (lifted_response script v, taken whole ∙ ap (λ x. grown before (text_of x)) same, lifted bytes script instantiated own.0 own.1 text v own.2 own.3))
+      | inr f ↦ absurd (whole f)
+    ]
+
 pub run_routes : (once : OneGenerated) → (meet : RoutesMeet) (files : Option Files) (command : Option Command) (shelf out notes : Type 0) (a : Answer) (s : Status) (before now : Option (List ℕ)) → MayAnswer files command shelf a → Ends s a → (s ≢ status.WriteFault → now ≡ grown before (text_of a)) → (s ≡ status.WriteFault → out ⊎ notes)
     → IfSome files (λ fs. (model bytes : List ℕ) (source : PlainSource) → command ≡ Some (MoxiToBtor model) → Accepts bytes source → file_at fs model ≡ Some (moxi_text source) → length (moxi_text source) ≤ most_script_bytes → (shelf → ⊥) → (out → ⊥) → (notes → ⊥) → s ≢ status.NoMemory
     → (s ≡ status.Done) × (now ≡ grown before (btor_text source)))
@@ -376,15 +406,31 @@ run_returns once made stand (Some fs) command shelf out notes a s before now m e
       | inr f ↦ absurd (whole f)
     ]
 
-pub run_generated : (n : ℕ) (a : Answer) (s : Status) (before now was is : Option (List ℕ)) → IsGenerated n a → Ends s a → (s ≢ status.WriteFault → now ≡ grown before (text_of a)) → (s ≢ status.WriteFault → is ≡ grown was (line_of a))
-    → (s ≡ status.NoMemory) ⊎ ((s ≡ status.WriteFault) ⊎ ((b : Answer) × IsGenerated n b × (s ≡ status_of b) × (now ≡ grown before (text_of b)) × (is ≡ grown was (line_of b))))
-run_generated n a s before now was is made ends taken noted =
+-- a front of nothing is nothing
+nothing_taken : (n : ℕ) (before : Option (List ℕ)) → grown before (take n []) ≡ before
+nothing_taken zero before = grown_nothing before
+nothing_taken (suc n) before = grown_nothing before
+
+pub run_generated : (once : OneGenerated) → (n : ℕ) (a : Answer) (s : Status) (before now was is : Option (List ℕ)) → IsGenerated n a → Ends s a → IsPart before now (text_of a) → (s ≢ status.WriteFault → now ≡ grown before (text_of a)) → (s ≢ status.WriteFault → is ≡ grown was (line_of a))
+    → (s ≡ status.NoMemory) ⊎ (((s ≡ status.WriteFault) × ((b : Answer) → IsGenerated n b → IsPart before now (text_of b))) ⊎ ((b : Answer) × IsGenerated n b × (s ≡ status_of b) × (now ≡ grown before (text_of b)) × (is ≡ grown was (line_of b))))
+run_generated once n a s before now was is made ends part taken noted =
     elim ends [
       | inl e ↦
           let whole : s ≢ status.WriteFault = λ f. no_fault a (sym e ∙ f) in
           inr (inr (a, made, e, taken whole, noted whole))
-      | inr f ↦ inr (inl f)
+      | inr f ↦ inr (inl (f, λ b other. subst (λ (x : Answer). IsPart before now (text_of x)) (once n a b made other) part))
     ]
 
-pub no_memory_generated : {T : Type 0} (s : Status) (before now : Option (List ℕ)) (count later : ℕ) → Noted before now count later no_memory_line status.NoMemory s → (s ≡ status.NoMemory) ⊎ ((s ≡ status.WriteFault) ⊎ T)
-no_memory_generated s before now count later n = elim n [ inl whole ↦ inl whole.0 | inr cut ↦ inr (inl cut.0) ]
+pub no_memory_generated : {T : Type 0} (n : ℕ) (s : Status) (taken before now : Option (List ℕ)) (count later : ℕ) → Noted before now count later no_memory_line status.NoMemory s
+    → (s ≡ status.NoMemory) ⊎ (((s ≡ status.WriteFault) × ((b : Answer) → IsGenerated n b → IsPart taken taken (text_of b))) ⊎ T)
+no_memory_generated n s taken before now count later noted =
+    elim noted [
+      | inl whole ↦ inl whole.0
+      | inr cut ↦ inr (inl (cut.0, λ b made. record { count = 0; within = omega arith; taken = sym (grown_nothing taken) }))
+    ]
+
+-- nothing is written where the words are no command
+pub run_no_text : (files : Option Files) (command : Option Command) (rose : Type 0) (a : Answer) (before now : Option (List ℕ)) → MayAnswer files command rose a → IsPart before now (text_of a) → command ≡ None → now ≡ before
+run_no_text files None rose a before now m part is =
+    part.taken ∙ ap (λ bytes. grown before (take part.count bytes)) (ap text_of m) ∙ nothing_taken part.count before
+run_no_text files (Some command) rose a before now m part is = absurd (cc)

@@ -12,9 +12,10 @@ use Rattle.top_call.specs.Summaries.{IsSummarized}
 use Rattle.top_call.specs.declared.words.Task.{Task}
 use Rattle.top_call.specs.declared.words.Task.TheVariants as task
 use Rattle.top_call.specs.declared.words.Command.{Command}
-use Rattle.top_call.specs.declared.words.Command.TheVariants.{SmvToBtor, SmvToMoxi, MoxiToBtor, BtorToMoxi, JudgeBtor, JudgeSmv, JudgeMoxi, LiftSmv, LiftMoxi, Generate}
+use Rattle.top_call.specs.declared.words.Command.TheVariants.{SmvToBtor, SmvToMoxi, MoxiToBtor, BtorToMoxi, Simplify, JudgeBtor, JudgeSmv, JudgeMoxi, LiftSmv, LiftMoxi, Generate}
 use Rattle.smv_commands.specs.Translation.{IsServed, IsTranslation}
 use Rattle.btor_commands.specs.Importing.{IsImport, IsServed as IsServedImport}
+use Rattle.btor_commands.specs.Simplifying.{IsSimplification, IsServed as IsServedSmaller}
 use Rattle.btor_commands.specs.Judgement.{IsJudgement}
 use Rattle.smv_commands.specs.SmvJudgement.{IsSmvJudgement}
 use Rattle.smv_commands.specs.Scripts.{IsScript, IsServed as IsServedScript}
@@ -27,7 +28,7 @@ use Rattle.moxi_commands.specs.MoxiLift.{IsLiftedResponse, IsMoxiLift}
 abbrev pub commands : List (List ℕ × Task)
 commands =
     (codes "smv2btor", task.SmvToBtor) ∷ (codes "smv2moxi", task.SmvToMoxi) ∷ (codes "moxi2btor", task.MoxiToBtor)
-    ∷ (codes "btor2moxi", task.BtorToMoxi) ∷ (codes "judge-btor", task.JudgeBtor) ∷ (codes "judge-smv", task.JudgeSmv) ∷ (codes "judge-moxi", task.JudgeMoxi)
+    ∷ (codes "btor2moxi", task.BtorToMoxi) ∷ (codes "simplify", task.Simplify) ∷ (codes "judge-btor", task.JudgeBtor) ∷ (codes "judge-smv", task.JudgeSmv) ∷ (codes "judge-moxi", task.JudgeMoxi)
     ∷ (codes "lift-smv", task.LiftSmv) ∷ (codes "lift-moxi", task.LiftMoxi) ∷ (codes "generate", task.Generate) ∷ []
 
 -- the task of the first row with this word
@@ -45,6 +46,7 @@ on_one task.SmvToBtor model = Some (SmvToBtor model)
 on_one task.SmvToMoxi model = Some (SmvToMoxi model)
 on_one task.MoxiToBtor model = Some (MoxiToBtor model)
 on_one task.BtorToMoxi model = Some (BtorToMoxi model)
+on_one task.Simplify model = Some (Simplify model)
 on_one task.Generate count = option_map Generate (cell_count count)
 on_one task word = None
 
@@ -86,6 +88,7 @@ files_of (SmvToBtor model) = model ∷ []
 files_of (SmvToMoxi model) = model ∷ []
 files_of (MoxiToBtor model) = model ∷ []
 files_of (BtorToMoxi model) = model ∷ []
+files_of (Simplify model) = model ∷ []
 files_of (JudgeBtor model second) = model ∷ second ∷ []
 files_of (JudgeSmv model second j) = model ∷ second ∷ []
 files_of (JudgeMoxi model second) = model ∷ second ∷ []
@@ -105,6 +108,7 @@ Answers (Some (SmvToBtor model)) files answer = IsTranslation files model answer
 Answers (Some (SmvToMoxi model)) files answer = IsScript files model answer
 Answers (Some (MoxiToBtor model)) files answer = IsBtorText files model answer
 Answers (Some (BtorToMoxi model)) files answer = IsImport files model answer
+Answers (Some (Simplify model)) files answer = IsSimplification files model answer
 Answers (Some (JudgeBtor model second)) files answer = IsJudgement files model second answer
 Answers (Some (JudgeSmv model second j)) files answer = IsSmvJudgement files model second j answer
 Answers (Some (JudgeMoxi model second)) files answer = IsMoxiJudgement files model second answer
@@ -119,6 +123,7 @@ Serves (Some (SmvToBtor model)) files before now = IsServed files model before n
 Serves (Some (SmvToMoxi model)) files before now = IsServedScript files model before now
 Serves (Some (MoxiToBtor model)) files before now = IsServedLines files model before now
 Serves (Some (BtorToMoxi model)) files before now = IsServedImport files model before now
+Serves (Some (Simplify model)) files before now = IsServedSmaller files model before now
 Serves (Some (LiftSmv model second)) files before now = IsLiftedTrace files model second before now
 Serves (Some (LiftMoxi model second)) files before now = IsLiftedResponse files model second before now
 Serves (Some (Generate n)) files before now = IsSummarized n before now

@@ -21,7 +21,9 @@ ghost use Rattle.btor_witness.specs.Texts.{SpellsWitness};
 ghost use Rattle.smv_commands.specs.Scripts.{moxi_text};
 ghost use Rattle.moxi_scripts.specs.Script.{PlainScript};
 ghost use Rattle.btor_commands.specs.Importing.{script_text};
-ghost use Rattle.moxi_commands.specs.Translation.{IsInstantiated};
+ghost use Rattle.btor_commands.specs.Simplifying.{IsSmallerText};
+ghost use Rattle.moxi_commands.specs.Translation.{IsInstantiated, btor_text as script_lines};
+ghost use Rattle.moxi_commands.specs.MoxiLift.{LiftsBack as RespondsBack};
 ghost use Rattle.top_call.specs.Routes.{KeepsFrames};
 ghost use Rattle.moxi_commands.specs.Limits.{most_script_bytes};
 ghost use Rattle.smv_commands.specs.SmvLift.{LiftsBack};
@@ -30,7 +32,7 @@ ghost use Rattle.top_call.specs.Words.{BeginsNoSecond, IsInRange, Serves, comman
 
 use crate::routes::routes_meet;
 use crate::words::{Command, answer_command, read_command};
-use btor_commands::imports_stand;
+use btor_commands::{imports_stand, smaller_texts_stand};
 use command_core::{Answer, Status, Stop, deliver, note};
 use generate::one_generated;
 use moxi_commands::{lines_stand, traces_are_lifted};
@@ -66,6 +68,23 @@ pub fn run<F: Shelf, K: Sink, N: Sink>(
         → result ≢ Status.NoMemory
         → (result ≡ Status.Done) × ((trace : List ℕ) × (K.taken out.new ≡ grown (K.taken out.old) trace) × LiftsBack source witness trace)) }
 
+    // For every accepted model that the first file spells, where nothing fails: a witness in the second file for the lines of the
+    // smaller text that `simplify` writes for the model's text, of which the judge says Yes, is written back in the same way.
+    ensures lifts_smaller { IfSome (F.files shelf.old) (λ files. (model second bytes shorter text : List ℕ) (source : PlainSource) (lines : List Line) (witness : Witness)
+        → command_of (map string_bytes words.now.items) ≡ Some (Command.LiftSmv model second) → file_at files model ≡ Some bytes → Accepts bytes source
+        → IsSmallerText (btor_text source) shorter → SpellsLines shorter lines → file_at files second ≡ Some text → SpellsWitness lines text witness → judged_btor lines witness Yes
+        → ¬ Rose (F.faults shelf.old) (F.faults shelf.new) → ¬ Rose (K.faults out.old) (K.faults out.new) → ¬ Rose (N.faults notes.old) (N.faults notes.new)
+        → result ≢ Status.NoMemory
+        → (result ≡ Status.Done) × ((trace : List ℕ) × (K.taken out.new ≡ grown (K.taken out.old) trace) × LiftsBack source witness trace)) }
+
+    // And so for every script that has a BTOR2 text: the response is written to a witness for the lines of the smaller text.
+    ensures responds { IfSome (F.files shelf.old) (λ files. (model second bytes shorter text : List ℕ) (script : PlainScript) (lines : List Line) (witness : Witness)
+        → command_of (map string_bytes words.now.items) ≡ Some (Command.LiftMoxi model second) → file_at files model ≡ Some bytes → IsInstantiated bytes script
+        → IsSmallerText (script_lines script) shorter → SpellsLines shorter lines → file_at files second ≡ Some text → SpellsWitness lines text witness → judged_btor lines witness Yes
+        → ¬ Rose (F.faults shelf.old) (F.faults shelf.new) → ¬ Rose (K.faults out.old) (K.faults out.new) → ¬ Rose (N.faults notes.old) (N.faults notes.new)
+        → result ≢ Status.NoMemory
+        → (result ≡ Status.Done) × ((response : List ℕ) × (K.taken out.new ≡ grown (K.taken out.old) response) × RespondsBack script witness response)) }
+
     // For every accepted model, where nothing fails: the BTOR2 text of the script that is written for the model is the one that is
     // written for the model itself, where the script isn't too long.
     ensures routes { IfSome (F.files shelf.old) (λ files. (model bytes : List ℕ) (source : PlainSource)
@@ -83,9 +102,10 @@ pub fn run<F: Shelf, K: Sink, N: Sink>(
         → (result ≡ Status.Done) × ((text : List ℕ) × (K.taken out.new ≡ grown (K.taken out.old) text) × KeepsFrames lines text)) }
 
     // For a number of cells, whatever the shelf tells: the answer is the one that is defined of the model and the witness that are
-    // made of so many cells.
+    // made of so many cells, or `out` holds a front of its text.
     ensures generated { (n : ℕ) → command_of (map string_bytes words.now.items) ≡ Some (Command.Generate n)
-        → (result ≡ Status.NoMemory) ⊎ ((result ≡ Status.WriteFault) ⊎ ((answer : Answer) × IsGenerated n answer × (result ≡ status_of answer)
+        → (result ≡ Status.NoMemory) ⊎ (((result ≡ Status.WriteFault) × ((answer : Answer) → IsGenerated n answer → IsPart (K.taken out.old) (K.taken out.new) (text_of answer)))
+        ⊎ ((answer : Answer) × IsGenerated n answer × (result ≡ status_of answer)
         × (K.taken out.new ≡ grown (K.taken out.old) (text_of answer)) × (N.taken notes.new ≡ grown (N.taken notes.old) (line_of answer)))) }
 
     // What is written stands for the model, of every text that was written whole.
@@ -108,6 +128,7 @@ pub fn run<F: Shelf, K: Sink, N: Sink>(
     // The words are no command, whatever the shelf tells.
     ensures usage { result ≡ Status.Usage → command_of (map string_bytes words.now.items) ≡ None }
     ensures no_command { command_of (map string_bytes words.now.items) ≡ None → (result ≡ Status.Usage) ⊎ (result ≡ Status.WriteFault) ⊎ (result ≡ Status.NoMemory) }
+    ensures no_text { command_of (map string_bytes words.now.items) ≡ None → K.taken out.new ≡ K.taken out.old }
 
     // Each fault has its cause.
     ensures read_fault { result ≡ Status.ReadFault → Rose (F.faults shelf.old) (F.faults shelf.new) ⊎ IsAbsent (F.files shelf.old) (command_of (map string_bytes words.now.items)) }
@@ -158,6 +179,7 @@ pub fn run<F: Shelf, K: Sink, N: Sink>(
     traces_are_lifted();
     routes_meet();
     imports_stand();
+    smaller_texts_stand();
     one_generated();
     match answer_words(alloc, words, shelf) {
         Ok(answer) => deliver(&answer, out, notes),

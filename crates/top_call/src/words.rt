@@ -8,7 +8,7 @@ ghost use Rattle.command_core.specs.declared.answer.Stop.TheVariants as Stop;
 ghost use Rattle.top_call.specs.declared.words.Command.TheVariants as Command;
 ghost use Rattle.top_call.specs.Words.{BeginsNoSecond, IsInRange, command_by, command_of, command_with, on_one, on_two, row, task_in};
 
-use btor_commands::{btor_to_moxi, judge_files};
+use btor_commands::{btor_to_moxi, judge_files, simplify_btor};
 use command_core::{Answer, Stop, cell_count, read_words};
 use generate::generate;
 use moxi_commands::{judge_moxi_files, lift_moxi_files, moxi_to_btor};
@@ -27,6 +27,8 @@ pub enum Command {
     MoxiToBtor(Name),
     /// The MoXI script of a BTOR2 text.
     BtorToMoxi(Name),
+    /// A smaller BTOR2 text with the witnesses of a BTOR2 text.
+    Simplify(Name),
     /// The verdict on a witness for a BTOR2 text: the text's file, and the witness's.
     JudgeBtor(Name, Name),
     /// The verdict on a trace of an SMV model and the invariant of a number: the model's file, the trace's, and the number.
@@ -48,6 +50,7 @@ pub enum Task {
     SmvToMoxi,
     MoxiToBtor,
     BtorToMoxi,
+    Simplify,
     JudgeBtor,
     JudgeSmv,
     JudgeMoxi,
@@ -57,11 +60,12 @@ pub enum Task {
 }
 
 // The first words of the commands.
-const COMMANDS: [(&[u8], Task); 10] = [
+const COMMANDS: [(&[u8], Task); 11] = [
     (b"smv2btor", Task::SmvToBtor),
     (b"smv2moxi", Task::SmvToMoxi),
     (b"moxi2btor", Task::MoxiToBtor),
     (b"btor2moxi", Task::BtorToMoxi),
+    (b"simplify", Task::Simplify),
     (b"judge-btor", Task::JudgeBtor),
     (b"judge-smv", Task::JudgeSmv),
     (b"judge-moxi", Task::JudgeMoxi),
@@ -120,6 +124,7 @@ pub fn answer_command<F: Shelf>(
         Command::SmvToMoxi(model) => smv_to_moxi(alloc, model, shelf),
         Command::MoxiToBtor(model) => moxi_to_btor(alloc, model, shelf),
         Command::BtorToMoxi(model) => btor_to_moxi(alloc, model, shelf),
+        Command::Simplify(model) => simplify_btor(alloc, model, shelf),
         Command::JudgeBtor(model, second) => judge_files(alloc, model, second, shelf),
         Command::JudgeSmv(model, second, j) => judge_smv_files(alloc, model, second, *j, shelf),
         Command::JudgeMoxi(model, second) => judge_moxi_files(alloc, model, second, shelf),
@@ -166,6 +171,7 @@ fn command_on_one(alloc: Global, task: Task, word: &str) -> Result<Option<Comman
         Task::SmvToMoxi => Ok(Some(Command::SmvToMoxi(name_of(alloc, word)?))),
         Task::MoxiToBtor => Ok(Some(Command::MoxiToBtor(name_of(alloc, word)?))),
         Task::BtorToMoxi => Ok(Some(Command::BtorToMoxi(name_of(alloc, word)?))),
+        Task::Simplify => Ok(Some(Command::Simplify(name_of(alloc, word)?))),
         Task::Generate => Ok(made_of(cell_count(word.as_bytes()))),
         _ => Ok(None),
     }
