@@ -1,0 +1,5 @@
+pub mod Codes
+pub mod Back
+pub mod Witnesses
+pub mod Accepted
+pub mod Steps

@@ -1,0 +1,8 @@
+//! Lowers traces of flat MoXI systems to witnesses of the BTOR2 lines that lay the systems out.
+#![tactic(auto)]
+
+mod laws;
+mod lower;
+
+pub use laws::{lowered_are_judged, lowered_are_lifted, lowered_are_witnesses};
+pub use lower::lower_trace;
