@@ -6,11 +6,11 @@ use Rattle.name_maps.specs.Names.{are_fresh}
 use Rattle.moxi_term_print.specs.Terms.{variable_names}
 use Rattle.moxi_scripts.specs.Script.{PlainScript}
 use Rattle.moxi_flat.specs.Systems.{script_size, script_height, script_nesting}
-use Rattle.moxi_flat.specs.declared.limits.TheConstants.{LARGEST, HIGHEST, DEEPEST}
 use Rattle.moxi_flat.specs.FlatSystem.{flat_of}
 
+-- The limits are numerals, so that no constant of the code can move them.
 abbrev pub is_too_large : PlainScript → Bool
-is_too_large s = nat_lt LARGEST (script_size s) || (nat_lt HIGHEST (script_height s) || nat_lt DEEPEST (script_nesting s))
+is_too_large s = nat_lt 2000000 (script_size s) || (nat_lt 4000 (script_height s) || nat_lt 1000 (script_nesting s))
 
 -- two variables have one name
 abbrev pub has_name_twice : PlainScript → Bool
