@@ -1,2 +1,4 @@
 pub mod LinkLaws
 pub mod Building
+pub mod RankLaws
+pub mod FoundLaws

@@ -1,2 +1,4 @@
 pub mod Views
 pub mod Answer
+pub mod Components
+pub mod Ranks

@@ -1,23 +1,25 @@
 // Subsystems that contain the system in which they stand.
-ghost use Rattle.std.specs.Prelude.{◌≡◌, ◌+◌, ◌<◌, ◌≤◌, ◌^◌, ◌++◌, IfOk, OnOk, length, map, true};
+ghost use Rattle.std.specs.Prelude.{◌≡◌, ◌+◌, ◌<◌, ◌≤◌, ◌^◌, ◌++◌, Bool, IfOk, OnOk, length, map, true};
 ghost use Rattle.digraph.specs.Graph.{is_graph};
 ghost use Rattle.moxi_sexpr.specs.Tree.{plain_forms};
-ghost use Rattle.moxi_scripts.specs.Collecting.{also};
+ghost use Rattle.moxi_scripts.specs.Collecting.{also, fails_with};
 ghost use Rattle.moxi_scripts.specs.Commands.{nothing_read};
 ghost use Rattle.moxi_declarations.specs.Views.{plain_draft, plain_reading};
+ghost use Rattle.moxi_reading.specs.Ranks.{IsRanking};
 ghost use Rattle.moxi_scripts.specs.Cycles.{all_cycles, all_use_rows, count_uses, cycle_failures, ends_at, nodes_from, system_rows, use_cycles, use_graph, use_rows, use_tests};
 ghost use Rattle.moxi_scripts.specs.Spelling.{reading_of, script_failures};
 
 use crate::links::test_links;
-use digraph::{Graph, Order, leads_back, sort};
-use moxi_attributes::fail_if;
+use crate::ranks::Ranks;
+use digraph::{Graph, leads_back};
+use moxi_attributes::{fail, fail_if};
 use moxi_declarations::{Draft, ReadSystem, read_commands};
 use moxi_scripts::Use;
 use moxi_sexpr::Form;
 use name_maps::NameSet;
 use std::alloc::Global;
 use text_core::kinds::moxi;
-use text_core::{List, NoMemory, Place, Refusal};
+use text_core::{Kind, List, NoMemory, Place, Refusal};
 
 // How many subsystems there are.
 fn count_uses(systems: &[ReadSystem]) -> Result<usize, NoMemory>
@@ -136,18 +138,37 @@ fn use_graph(alloc: Global, names: &NameSet, systems: &[ReadSystem]) -> Result<G
     Ok(graph)
 }
 
-// The test of a subsystem, which is this node.
+// Was something found that a test which fails so doesn't precede?
+#[tactic(auto, using(crate::proofs::FoundLaws::comes_later))]
+fn comes_later(found: &Option<Refusal>, kind: Kind, place: Place) -> bool
+    ensures { result ≡ true → (b : Bool) → also found.now (fails_with b kind place) ≡ found.now }
+{
+    let mut first = *found;
+    fail(&mut first, kind, place);
+    first == *found
+}
+
+// The test of a subsystem, which is this node. It searches only where the ranks leave open whether the node leads to itself and
+// where the answer counts. Subsystems are tested in the order of their places, so the first search that finds a cycle is the last.
 fn test_use(
     alloc: Global,
     graph: &Graph,
+    ranks: &Ranks,
     node: usize,
     u: &Use,
     found: &mut Option<Refusal>,
 ) -> Result<(), NoMemory>
     requires graph { is_graph graph.now ≡ true }
+    requires ranks { IsRanking graph.now ranks.now }
     requires there { node < length graph.now }
     ensures { OnOk result (found.new ≡ also found.old (use_tests graph.now node u.now)) }
 {
+    if comes_later(found, moxi::SYSTEM_CYCLE, u.place) {
+        return Ok(());
+    }
+    if !ranks.may_return(graph, node) {
+        return Ok(());
+    }
     let leads = leads_back(alloc, graph, node)?;
     fail_if(found, leads, moxi::SYSTEM_CYCLE, u.place);
     Ok(())
@@ -157,17 +178,19 @@ fn test_use(
 fn test_uses(
     alloc: Global,
     graph: &Graph,
+    ranks: &Ranks,
     node: usize,
     uses: &List<Use>,
     found: &mut Option<Refusal>,
 ) -> Result<(), NoMemory>
     requires graph { is_graph graph.now ≡ true }
+    requires ranks { IsRanking graph.now ranks.now }
     requires few { length graph.now < 2 ^ 64 }
     requires there { node + length uses.now ≤ length graph.now }
     ensures { OnOk result (found.new ≡ also found.old (use_cycles graph.now node uses.now)) }
 {
     for i in 0..uses.len() {
-        test_use(alloc, graph, node + i, uses.at(i), found)?;
+        test_use(alloc, graph, ranks, node + i, uses.at(i), found)?;
     }
     Ok(())
 }
@@ -176,17 +199,19 @@ fn test_uses(
 fn test_all_uses(
     alloc: Global,
     graph: &Graph,
+    ranks: &Ranks,
     systems: &[ReadSystem],
     found: &mut Option<Refusal>,
 ) -> Result<(), NoMemory>
     requires graph { is_graph graph.now ≡ true }
+    requires ranks { IsRanking graph.now ranks.now }
     requires few { length graph.now < 2 ^ 64 }
     requires there { count_uses (map plain_reading systems.now) ≤ length graph.now }
     ensures { OnOk result (found.new ≡ also found.old (all_cycles graph.now 0 (map plain_reading systems.now))) }
 {
     let mut node = 0usize;
     for r in systems {
-        test_uses(alloc, graph, node, &r.uses, found)?;
+        test_uses(alloc, graph, ranks, node, &r.uses, found)?;
         node += r.uses.len();
     }
     Ok(())
@@ -202,14 +227,9 @@ pub fn test_cycles(
     ensures { OnOk result (found.new ≡ also found.old (cycle_failures (map plain_reading systems.now) names.now)) }
 {
     let graph = use_graph(alloc, names, systems)?;
-    let order = sort(alloc, &graph)?;
-    match order {
-        Order::Sorted(_) => Ok(()),
-        Order::Returns(_) => {
-            test_all_uses(alloc, &graph, systems, found)?;
-            Ok(())
-        }
-    }
+    let ranks = Ranks::of(alloc, &graph)?;
+    test_all_uses(alloc, &graph, &ranks, systems, found)?;
+    Ok(())
 }
 
 /// Reads the commands of a script whose text ends at `end`, and makes all of its tests: of those that fail, the one with the

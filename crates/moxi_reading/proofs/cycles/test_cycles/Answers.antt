@@ -1,24 +1,14 @@
-use Rattle.std.proofs.Common.{length, map, arith, ap, sym, subst, ◌∙◌}
+use Rattle.std.proofs.Common.{length, map, arith, ap, ◌∙◌}
 use Rattle.std.proofs.lemmas.List.{length-map}
-use Rattle.digraph.specs.Graph.{NeverReturns, is_graph}
-use Rattle.digraph.specs.Ordering.{IsOrder}
+use Rattle.digraph.specs.Graph.{is_graph}
 use Rattle.moxi_scripts.specs.Collecting.{also}
-use Rattle.moxi_scripts.specs.Cycles.{all_cycles, use_graph}
+use Rattle.moxi_scripts.specs.Cycles.{all_cycles}
 use Rattle.moxi_declarations.specs.Views.{plain_reading}
-use Rattle.moxi_attributes.specs.laws.Collecting.{also_none}
-use Rattle.moxi_scripts.proofs.CycleLaws.{all_never, graph_is, graph_long}
+use Rattle.moxi_scripts.proofs.CycleLaws.{graph_is, graph_long}
 use Rattle.moxi_reading.proofs.cycles.test_cycles.Goals as goal
 
-pub sort-requires : goal.sort-requires
-sort-requires c = ap is_graph c.in_ok-graph.ensures.graph ∙ graph_is (map plain_reading c.args.systems.now) c.args.names.now
-
-pub returns-in-Sorted : goal.returns-in-Sorted
-returns-in-Sorted c =
-    let a = c.args in
-    let rs = map plain_reading a.systems.now in
-    let is = subst (IsOrder c.in_ok-graph.graph) c.in-Sorted.is c.in_ok-order.ensures in
-    let never : NeverReturns (use_graph rs a.names.now) = subst NeverReturns c.in_ok-graph.ensures.graph is.1 in
-    sym (also_none a.found.now) ∙ ap (also a.found.now) (sym (all_never (use_graph rs a.names.now) 0 rs never))
+pub of-requires : goal.of-requires
+of-requires c = ap is_graph c.in_ok-graph.ensures.graph ∙ graph_is (map plain_reading c.args.systems.now) c.args.names.now
 
 pub test_all_uses-requires-clause-graph : goal.test_all_uses-requires-clause-graph
 test_all_uses-requires-clause-graph c = ap is_graph c.in_ok-graph.ensures.graph ∙ graph_is (map plain_reading c.args.systems.now) c.args.names.now
@@ -36,4 +26,4 @@ test_all_uses-requires-clause-there c =
 pub returns : goal.returns
 returns c =
     let rs = map plain_reading c.args.systems.now in
-    c.in_ok-test_all_uses-in-Returns.ensures ∙ ap (λ g. also c.args.found.now (all_cycles g 0 rs)) c.in_ok-graph.ensures.graph
+    c.in_ok-test_all_uses.ensures ∙ ap (λ g. also c.args.found.now (all_cycles g 0 rs)) c.in_ok-graph.ensures.graph

@@ -1,0 +1,10 @@
+use Rattle.std.proofs.Common.{◌≡◌, ◌≤◌, length}
+use Rattle.moxi_reading.specs.Components.{IsSearch}
+use Rattle.moxi_reading.proofs.components.component_ranks.Given as goal
+
+abbrev pub invariant-loop-rank : goal.invariant-loop-rank
+invariant-loop-rank l = record {
+  search : IsSearch l.search;
+  long : length l.search.nodes.items ≡ length l.graph;
+  low : l.root ≤ length l.graph;
+}
