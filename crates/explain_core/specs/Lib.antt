@@ -1,0 +1,4 @@
+pub mod Notes
+pub mod Lines
+pub mod Messages
+pub mod Explaining

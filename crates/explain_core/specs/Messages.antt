@@ -1,0 +1,45 @@
+-- The text of an explanation.
+use Rattle.std.specs.Prelude.{◌==◌, ◌-◌, ℕ, List, [], ◌++◌, length, map, take, drop, min, replicate, codes, decimal, if◌then◌else◌}
+use Rattle.explain_core.specs.Lines.{window_start, window_end}
+
+-- words, where the piece behind them has bytes
+abbrev pub before_some : List ℕ → List ℕ → List ℕ
+before_some words piece = if length piece == 0 then [] else words
+
+-- the line that editors know: the file, the place, the kind and its name, the token, and the cause
+abbrev pub header_text : List ℕ → List ℕ → List ℕ → List ℕ → List ℕ → List ℕ
+header_text file place label token cause =
+    file ++ (before_some (codes ":") place ++ (place ++ (codes ": error: " ++ (label ++ (codes ": "
+    ++ (before_some (codes "`") token ++ (token ++ (before_some (codes "`: ") token ++ (cause ++ codes "\n")))))))))
+
+-- a tab for a tab, and a blank for any other byte
+abbrev pub blank_of : ℕ → ℕ
+blank_of b = if b == 9 then 9 else 32
+
+-- a part of a line, with dots where the line begins before it or ends behind it
+abbrev pub shown_text : List ℕ → ℕ → ℕ → List ℕ
+shown_text line start end =
+    (if start == 0 then codes "    " else codes "... ") ++ (take (end - start) (drop start line) ++ ((if end == length line then [] else codes " ...") ++ codes "\n"))
+
+-- the line below it: a blank or a tab for each byte before the place, the caret, and what is marked further
+abbrev pub caret_text : List ℕ → ℕ → List ℕ
+caret_text front more = codes "    " ++ (map blank_of front ++ (codes "^" ++ (replicate more 126 ++ codes "\n")))
+
+-- how many of the token's bytes are marked behind the caret
+abbrev pub marks_of : ℕ → ℕ → ℕ → ℕ
+marks_of length at marked = min (min (marked - 1) (window_end length at - at)) 120
+
+-- the excerpt of a place: the part of its line around it, and the caret below, where so many bytes are marked
+abbrev pub excerpt_text : List ℕ → ℕ → ℕ → List ℕ
+excerpt_text line at marked =
+    shown_text line (window_start (length line) at) (window_end (length line) at)
+    ++ (if marked == 0 then [] else caret_text (take (at - window_start (length line) at) (drop (window_start (length line) at) line)) (marks_of (length line) at marked))
+
+-- a token near the place
+abbrev pub near_text : List ℕ → List ℕ → ℕ → ℕ → List ℕ
+near_text words token line column =
+    codes "note: " ++ (words ++ (codes "`" ++ (token ++ (codes "` at " ++ (decimal line ++ (codes ":" ++ (decimal column ++ codes ".\n")))))))
+
+-- the mend
+abbrev pub help_text : List ℕ → List ℕ
+help_text mend = codes "help: " ++ (mend ++ codes "\n")
