@@ -15,5 +15,6 @@ mod tokens;
 pub use command::explain;
 pub use ending::Ending;
 pub use lines::{Window, line_at, window_at};
+pub use messages::put_excerpt;
 pub use notes::{Note, Refused, read_note};
-pub use session::{Source, Stop, explain_notes};
+pub use session::{Source, Stop, explain_line, explain_notes, put_refusal};

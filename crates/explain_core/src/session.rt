@@ -59,8 +59,9 @@ pub fn explain_notes<K: Sink>(
     Ok(explained)
 }
 
-// Writes one line, which may have a line end.
-fn explain_line<K: Sink>(
+/// Writes one line, which may have a line end: explained where `moxi_cli` notes such a line, and else as it is. Returns whether
+/// it was explained.
+pub fn explain_line<K: Sink>(
     alloc: Global,
     piece: &[u8],
     model: &Source<'_>,
@@ -126,8 +127,8 @@ fn put_plain<K: Sink>(
     put_help(advice.mend, out)
 }
 
-// Writes a refusal, with the line of its place where the file has it.
-fn put_refusal<K: Sink>(
+/// Writes a refusal that the line `note` has, with the line of its place where the file has it.
+pub fn put_refusal<K: Sink>(
     refused: Refused,
     note: &[u8],
     source: &Source<'_>,

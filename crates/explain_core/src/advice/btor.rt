@@ -9,13 +9,13 @@ pub(super) const ADVICE: [Advice; 9] = [
     },
     // B2 IdOrder
     Advice {
-        cause: b"The number of this line does not rise.",
-        mend: b"Number the lines upward, each number once.",
+        cause: b"The id of this line is not above that of the line before.",
+        mend: b"Give the lines rising ids, each id once.",
     },
     // B3 NoSuchNode
     Advice {
-        cause: b"No earlier line of the needed sort has this number.",
-        mend: b"Declare the sort, the state or the operand on an earlier line.",
+        cause: b"An id on this line is that of no earlier line of the needed kind.",
+        mend: b"Put the line of the sort, the state or the operand before this one.",
     },
     // B4 SortClash
     Advice {

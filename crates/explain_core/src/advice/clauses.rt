@@ -82,8 +82,8 @@ const CONSTRAINT_FAILS: Advice = Advice {
 };
 
 const NOT_BROKEN: Advice = Advice {
-    cause: b"The run is one of the model, but its last step breaks no invariant and reaches no bad line or query.",
-    mend: b"Give a run to such a step; where it breaks another invariant, name it by `--property`.",
+    cause: b"The run is one of the model, but its last step keeps the invariant, or misses the bad line or the query.",
+    mend: b"Give a run whose last step does so; where it breaks another invariant, name that one by `--property`.",
 };
 
 /// Returns the sentences for a clause that a stated run fails.

@@ -24,7 +24,7 @@ pub(super) const ADVICE: [Advice; 28] = [
     },
     // S5 Dead
     Advice {
-        cause: b"No model goes on with this token here.",
+        cause: b"No model can continue with this token here.",
         mend: b"Look at what stands before it: a `;`, an operator or a bracket may be missing there.",
     },
     // S6 NotSupported
@@ -75,16 +75,16 @@ pub(super) const ADVICE: [Advice; 28] = [
     // S15 DefineCycle
     Advice {
         cause: b"This definition or argument depends on itself.",
-        mend: b"Take one name out of the circle; a value of the step before is kept by a variable and `next`.",
+        mend: b"Break the cycle; keep a value of the step before in a variable, by `next(x) :=`.",
     },
     // S16 TypeClash
     Advice {
-        cause: b"Types do not fit in the expression that begins here.",
+        cause: b"The types do not fit in the expression that begins here.",
         mend: b"Give both sides one type; of a boolean x say `x` or `!x` and not `x = 1`; convert by `bool`, `word1`, `toint` or `uwconst`.",
     },
     // S17 IntTooWide
     Advice {
-        cause: b"An integer of this expression may pass the limits of 62 bits and a sign.",
+        cause: b"An integer of this expression may lie outside -2^62 to 2^62 - 1.",
         mend: b"Declare narrower ranges, or use a word such as `unsigned word[64]`.",
     },
     // S18 InputHere

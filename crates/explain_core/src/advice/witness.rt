@@ -20,7 +20,7 @@ pub(super) const ADVICE: [Advice; 8] = [
     // X4 Index
     Advice {
         cause: b"There is no state or input of this number, or it is stated twice in this part.",
-        mend: b"Give the witness with the text that it was made for; numbers count from 0, apart for states and inputs.",
+        mend: b"Give the witness with the text that it was made for; states and inputs are each numbered from 0.",
     },
     // X5 Width
     Advice {
