@@ -1,13 +1,12 @@
 -- What is written one after another.
-use Rattle.std.proofs.Common.{◌≡◌, ◌≤◌, ◌-◌, ℕ, Bool, false, cond, List, [], ◌++◌, length, take, drop, Option, Some, None, Result, Ok, Err, refl, sym, ap, ◌∙◌, inl, inr, subst, ◌+◌, ap₂, arith, map}
+use Rattle.std.proofs.Common.{◌≡◌, ◌≤◌, ◌-◌, ℕ, false, cond, List, [], ◌++◌, length, take, drop, Option, Result, Ok, Err, refl, sym, ap, ◌∙◌, inl, inr, subst, ◌+◌, ap₂, map}
 use Rattle.std.specs.Prelude.{OnOk, min, nat_eq, codes, replicate}
 use Rattle.std.proofs.lemmas.List.{take-replicate}
 use Rattle.text_core.specs.Outside.{grown}
-use Rattle.text_core.specs.declared.place.Refusal.{Refusal}
 use Rattle.explain_core.specs.declared.notes.Refused.{Refused}
 use Rattle.explain_core.specs.Lines.{window_start, window_end}
 use Rattle.explain_core.specs.Messages.{blank_of, caret_text, excerpt_text, header_text, help_text, marks_of, shown_text}
-use Rattle.explain_core.specs.Explaining.{Adds, Anything, ExplainsRefusal, HasLine, Shows, ShowsPlace}
+use Rattle.explain_core.specs.Explaining.{Adds, Anything, ExplainsRefusal, HasLine, ShowsPlace}
 use Rattle.explain_core.proofs.Grown.{then_grown}
 
 -- the pieces of the caret's line

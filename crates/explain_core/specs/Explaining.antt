@@ -1,5 +1,5 @@
 -- What is written of a line.
-use Rattle.std.specs.Prelude.{◌≡◌, ◌-◌, ◌+◌, ◌⊎◌, ℕ, List, ◌++◌, length, take, drop, Option, Some, None}
+use Rattle.std.specs.Prelude.{◌≡◌, ◌-◌, ◌+◌, ◌⊎◌, ℕ, List, ◌++◌, take, drop, Option, Some, None}
 use Rattle.text_core.specs.Outside.{grown}
 use Rattle.text_core.specs.declared.place.Refusal.{Refusal}
 use Rattle.explain_core.specs.declared.notes.Refused.{Refused}

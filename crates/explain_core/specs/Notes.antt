@@ -1,5 +1,5 @@
 -- What a line says that `run` notes.
-use Rattle.std.specs.Prelude.{◌≡◌, ◌-◌, ◌+◌, ◌≤◌, ℕ, List, [], ◌∷◌, ◌++◌, length, take, drop, codes, true, nat_eq}
+use Rattle.std.specs.Prelude.{◌≡◌, ◌+◌, ◌≤◌, ℕ, List, [], ◌∷◌, ◌++◌, length, take, drop, codes, true, nat_eq}
 use Rattle.std.specs.List.{starts_with}
 use Rattle.command_core.specs.Notes.{refused_words, refused_line, denied_line, usage_line, write_fault_line}
 use Rattle.explain_core.specs.declared.notes.Refused.{Refused as TheRefused}
