@@ -101,7 +101,9 @@ fn judge_parts<'a>(
     }
 }
 
-fn judge_flat(alloc: Global, flat: &Flat, j: u32, run: &Run) -> Result<Verdict, NoMemory>
+/// Returns the verdict on a stated run over a flat form and the invariant of number j, counted from 0, whichever accepted model the
+/// form is of. The run has fewer than 2^32 states. Where a model has no invariant j, the verdict is No.
+pub fn judge_flat(alloc: Global, flat: &Flat, j: u32, run: &Run) -> Result<Verdict, NoMemory>
     requires model { (source : PlainSource) × IsFlatOf source (flat_plain flat.now) }
     requires few { length run.now.states < 2 ^ 32 }
     ensures { IfOk result (λ v. (source : PlainSource) → IsFlatOf source (flat_plain flat.now) → v ≡ judged_smv source j (map given run.now.states) (map given run.now.labels)) }

@@ -6,4 +6,5 @@ mod judge;
 mod labels;
 mod steps;
 
-pub use judge::judge_smv;
+pub use judge::{judge_flat, judge_smv};
+pub use labels::first_label;
