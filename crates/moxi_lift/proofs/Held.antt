@@ -10,6 +10,7 @@ use Rattle.moxi_terms.specs.declared.data.Sort.TheVariants.{Truth, Bits, Choice}
 use Rattle.moxi_terms.specs.declared.term.Enumeration.{Enumeration}
 use Rattle.moxi_terms.specs.Sorted.{AreSorts}
 use Rattle.moxi_terms.specs.Sorts.{IsSort}
+use Rattle.moxi_lines.specs.TermLaws.{HaveCodes}
 
 pub equal_held : (a b : ℕ) → ∥ a ≡ b ∥₁ → a ≡ b
 equal_held a b h = let e : nat_eq a b ≡ true = ∥∥₁_elim h (Bool-set (nat_eq a b) true) (λ l. grind (arith, nat_tests)) in grind (arith, nat_tests)
@@ -38,3 +39,7 @@ sorts_held es (s ∷ ss) h = (sort_held es s (∥∥₁_map h (λ p. p.0)), sort
 pub full_held : (es : List Enumeration) → ∥ AllByRecursion (λ (e : Enumeration). 0 < length e.constants) es ∥₁ → AllByRecursion (λ (e : Enumeration). 0 < length e.constants) es
 full_held [] h = tt
 full_held (e ∷ es) h = (less_held 0 _ (∥∥₁_map h (λ p. p.0)), full_held es (∥∥₁_map h (λ p. p.1)))
+
+pub codes_held : (es : List Enumeration) → ∥ HaveCodes es ∥₁ → HaveCodes es
+codes_held [] h = tt
+codes_held (e ∷ es) h = (most_held (length e.constants) _ (∥∥₁_map h (λ p. p.0)), codes_held es (∥∥₁_map h (λ p. p.1)))

@@ -8,8 +8,9 @@ ghost use Rattle.btor_witness.specs.Printing.{IsWitness};
 ghost use Rattle.btor_witness.specs.Sizes.{sizes_of};
 ghost use Rattle.moxi_terms.specs.Sorts.{Fit};
 ghost use Rattle.moxi_terms.specs.Tree.{sorts_of};
+ghost use Rattle.moxi_flat.specs.FlatSystem.{PlainFlatSystem};
 ghost use Rattle.moxi_lines.specs.Lines.{lines_of};
-ghost use Rattle.moxi_lift.specs.Laws.{MeetsQueryOf};
+ghost use Rattle.moxi_lift.specs.Laws.{AreOfSystem, IsLiftedTrace, MeetsQueryOf};
 ghost use Rattle.moxi_lift.specs.Lifted.{decoded_frames, lifted};
 ghost use Rattle.moxi_lift.specs.Ends.{IsLiftEnd};
 
@@ -18,8 +19,8 @@ use crate::frame_lift::lift_frames;
 use crate::layout::are_laid_out;
 use btor_tree::Nodes;
 use btor_witness::{Witness, judge_btor};
-use moxi_instantiate::FlatSystem;
 use moxi_scripts::MoxiTrace;
+use moxi_terms::{Scope, Variables};
 use std::alloc::Global;
 use text_core::{Clause, NoMemory, Verdict};
 
@@ -44,27 +45,22 @@ impl From<NoMemory> for LiftEnd {
 }
 
 /// The trace for which a witness of a flat system's lines stands. Where the judge says No of the witness, that is the answer; else
-/// the witness is lifted: it is a trace that meets the query of the witness's bad line. The caller owes the system's lines, and a
-/// witness for them.
+/// the witness is lifted: it is a trace that meets the query of the witness's bad line. The caller owes the scope and the variables of
+/// a system, lines that lay it out, and a witness for them.
 pub fn lift_lines(
     alloc: Global,
-    system: &FlatSystem<'_>,
+    scope: &Scope,
+    variables: &Variables,
     nodes: &Nodes,
     witness: &Witness,
 ) -> Result<MoxiTrace, LiftEnd>
-    requires lines { nodes.now ≡ lines_of system.now }
-    requires witness { IsWitness (sizes_of (lines_of system.now)) witness.now }
-    ensures accepted { IfOk result (λ _. judged_btor (lines_of system.now) witness.now Yes) }
-    ensures exact { IfOk result (λ trace. trace ≡ lifted system.now witness.now) }
-    ensures frames { IfOk result (λ trace. (rows : List (List BitVector)) → stated_frames (lines_of system.now) witness.now rows → trace ≡ decoded_frames system.now (lines_of system.now) rows) }
-    ensures some { IfOk result (λ trace. 1 ≤ length trace) }
-    ensures fits { IfOk result (AllByRecursion (Fit system.now.scope.enumerations (sorts_of system.now.variables))) }
-    ensures meets { IfOk result (λ trace. ∥ MeetsQueryOf system.now witness.now.bad trace ∥₁) }
-    ensures refused { IfErr result (IsLiftEnd (lines_of system.now) witness.now) }
+    requires system { (f : PlainFlatSystem) × AreOfSystem f scope.now variables.now nodes.now }
+    requires witness { IsWitness (sizes_of nodes.now) witness.now }
+    ensures lifted { IfOk result (λ trace. (f : PlainFlatSystem) → AreOfSystem f scope.now variables.now nodes.now → IsLiftedTrace f nodes.now witness.now trace) }
+    ensures refused { IfErr result (IsLiftEnd nodes.now witness.now) }
 {
-    are_laid_out(system);
     match judge_btor(alloc, nodes, witness)? {
-        Verdict::Yes => Ok(lift_frames(alloc, system, nodes, witness)?),
+        Verdict::Yes => Ok(lift_frames(alloc, scope, variables, nodes, witness)?),
         Verdict::No(step, clause) => Err(LiftEnd::No(step, clause)),
     }
 }
@@ -86,5 +82,10 @@ pub fn lift_moxi(
     ensures meets { IfOk result (λ trace. ∥ MeetsQueryOf chain.now witness.now.bad trace ∥₁) }
     ensures refused { IfErr result (IsLiftEnd (lines_of chain.now) witness.now) }
 {
-    lift_lines(alloc, chain.system(), chain.nodes(), witness)
+    let system = chain.system();
+    let nodes = chain.nodes();
+    let scope = system.scope();
+    let variables = system.variables();
+    are_laid_out(system);
+    lift_lines(alloc, scope, variables, nodes, witness)
 }

@@ -1,7 +1,7 @@
 // The lines of a flat system lay it out.
 ghost use Rattle.moxi_lines.specs.TermLaws.{HaveCodes};
 ghost use Rattle.moxi_lines.specs.Lines.{lines_of};
-ghost use Rattle.moxi_layout.specs.Layout.{LaysOut};
+ghost use Rattle.moxi_layout.specs.LayoutLaws.{IsLaidOut};
 
 use moxi_instantiate::FlatSystem;
 use moxi_layout::{flat_sizes_are_script_sizes, lines_lay_out, lines_stay_few};
@@ -18,9 +18,9 @@ fn have_codes(scope: &Scope)
     }
 }
 
-/// The lines of a flat system lay it out; this function does nothing but know the counts of constants.
+/// The lines of a flat system lay it out, and are well formed; this function does nothing but know the counts of constants.
 pub fn are_laid_out(system: &FlatSystem<'_>)
-    ensures { ∥ LaysOut system.now (lines_of system.now) ∥₁ }
+    ensures { ∥ IsLaidOut system.now (lines_of system.now) ∥₁ }
 {
     system.is_instance();
     system.is_sorted();
