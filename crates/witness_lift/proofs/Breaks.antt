@@ -1,16 +1,13 @@
 -- The run to which a witness is lifted breaks the invariant of the witness's bad line.
-use Rattle.std.proofs.Common.{◌≡◌, ℕ, zero, suc, ◌-◌, ◌<◌, List, [], ◌∷◌, length, map, Option, Some, None, Result, Ok, Err, refl, sym, ap, ◌∙◌, subst, arith}
-use Rattle.std.specs.Prelude.{IfOk, IsSomeAnd, slice_get}
+use Rattle.std.proofs.Common.{◌≡◌, ℕ, zero, suc, ◌-◌, ◌<◌, List, [], ◌∷◌, length, Option, Some, refl, sym, ap, ◌∙◌, subst, arith}
+use Rattle.std.specs.Prelude.{IsSomeAnd, slice_get}
 use Rattle.std.proofs.Math.Logic.{∥∥₁_map}
 use Rattle.std.proofs.lemmas.List.{length-map}
-use Rattle.btor_witness.specs.declared.witness.Frame.{Frame}
 use Rattle.btor_witness.specs.declared.witness.Witness.{Witness}
 use Rattle.smv_text.specs.Tree.{PlainSource}
 use Rattle.smv_meaning.specs.declared.value.Run.{Run}
-use Rattle.smv_meaning.specs.Phases.{IsAccepted}
 use Rattle.smv_flat.specs.FlatForms.{PlainFlat, flat_smv}
-use Rattle.smv_width.specs.FlatWidth.{width_of}
-use Rattle.smv_flatten.specs.FlatModel.{FlatModel, IsRead, flat_plain}
+use Rattle.smv_flatten.specs.FlatModel.{FlatModel}
 use Rattle.smv_script.specs.Script.{coding_of, query_of, script_for, script_of}
 use Rattle.smv_script_laws.specs.Decoding.{run_of}
 use Rattle.smv_script_laws.specs.RunLaws.{HasQueries, TracesAreRuns, decoded_run}
@@ -21,9 +18,9 @@ use Rattle.moxi_flat.specs.FlatMeeting.{MeetsFlat}
 use Rattle.moxi_flat.specs.FlatSystem.{flat_of}
 use Rattle.moxi_flat.specs.FlatLaws.{TracesHaveFlatTraces}
 use Rattle.moxi_lift.specs.Laws.{MeetsQueryOf, trace_of}
-use Rattle.moxi_lift.specs.Lifted.{lifted, lifted_step}
 use Rattle.witness_lift.specs.Breaking.{BreaksIn, BreaksLast, IsFormOf, TracesBreakInvariants}
-use Rattle.witness_lift.specs.Lifting.{IsLifted, lifted_run, run_in, system_in}
+use Rattle.witness_lift.specs.Lifting.{run_in, system_in}
+use Rattle.witness_lift.proofs.Lifts.{IsLiftedIn}
 
 -- ---- the law
 
@@ -58,7 +55,7 @@ system_is source f m =
     ap (λ (x : PlainFlat). flat_of (script_of x f.width)) m.form
     ∙ ap (λ (n : ℕ). flat_of (script_of (flat_smv source) n)) m.width
 
-pub breaks_last : TracesBreakInvariants → (f : FlatModel) (w : Witness) (envs : List (List Datum)) → IsLifted (system_in f) w envs → BreaksLast f w (run_in f envs)
+breaks_last : TracesBreakInvariants → (f : FlatModel) (w : Witness) (envs : List (List Datum)) → IsLiftedIn f w envs → BreaksLast f w (run_in f envs)
 breaks_last law f w envs l source m =
     let count : length envs - 1 ≡ length w.frames - 1 = ap (λ n. n - 1) (ap length l.exact ∙ length-map w.frames _) in
     ∥∥₁_map l.meets (λ h.
@@ -66,5 +63,5 @@ breaks_last law f w envs l source m =
     (subst (λ (run : Run). BreaksIn source w.bad (length envs - 1) run) (sym (run_is source f m envs))
     (law source m.needed m.read m.accepted w.bad envs (subst (λ g. MeetsQueryOf g w.bad envs) (system_is source f m) h))))
 
-pub breaks_answered : TracesBreakInvariants → (f g : FlatModel) → f ≡ g → (w : Witness) (envs : List (List Datum)) (run : Run) → IsLifted (system_in f) w envs → run ≡ run_in f envs → BreaksLast g w run
-breaks_answered law f g e w envs run l r = subst (λ (x : FlatModel). BreaksLast x w run) e (subst (BreaksLast f w) (sym r) (breaks_last law f w envs l))
+pub breaks_answered : TracesBreakInvariants → (f g : FlatModel) → f ≡ g → (w : Witness) (envs : List (List Datum)) (run : Run) → IsLiftedIn g w envs → run ≡ run_in f envs → BreaksLast g w run
+breaks_answered law f g e w envs run l r = subst (BreaksLast g w) (sym (r ∙ ap (λ (x : FlatModel). run_in x envs) e)) (breaks_last law g w envs l)

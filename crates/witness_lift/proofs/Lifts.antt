@@ -1,13 +1,11 @@
 -- What is known of a model's script and of the trace to which a witness is lifted.
-use Rattle.std.proofs.Common.{◌≡◌, ℕ, List, Option, Some, None, Result, Ok, Err, refl, sym, ap, ◌∙◌, subst}
-use Rattle.std.specs.Prelude.{IfErr, IsErrAnd}
+use Rattle.std.proofs.Common.{◌≡◌, ℕ, List, None, Result, Ok, Err, refl, sym, ap, ◌∙◌, subst}
+use Rattle.std.specs.Prelude.{IfErr, IfOk, IsErrAnd}
 use Rattle.std.specs.List.{AllByRecursion}
-use Rattle.std.proofs.Math.Logic.{∥∥₁_elim, ∥∥₁_map}
+use Rattle.std.proofs.Math.Logic.{∥∥₁_map}
 use Rattle.std.proofs.lemmas.List.{append-nil}
-use Rattle.text_core.specs.declared.place.Refusal.{Refusal}
-use Rattle.text_core.specs.declared.verdict.Verdict.TheVariants.{Yes}
+use Rattle.btor_tree.specs.declared.lines.Line.{Line}
 use Rattle.btor_witness.specs.declared.witness.Witness.{Witness}
-use Rattle.btor_witness.specs.Judging.{judged_btor}
 use Rattle.smv_meaning.specs.declared.value.Run.{Run}
 use Rattle.smv_flat.specs.FlatForms.{PlainFlat, flat_smv}
 use Rattle.smv_flatten.specs.FlatModel.{FlatModel, IsOfModel, flat_plain}
@@ -15,7 +13,6 @@ use Rattle.smv_script.specs.Script.{script_for, script_of, symbol_sort, system_o
 use Rattle.smv_script_laws.specs.WholeLaws.{ScriptsAreWhole}
 use Rattle.smv_to_moxi.specs.Assembling.{script_with}
 use Rattle.smv_to_moxi.specs.Lifting.{IsTraceOf}
-use Rattle.witness_lift.specs.LineLaws.{ModelsHaveFlatSystems}
 use Rattle.moxi_terms.specs.declared.data.Datum.{Datum}
 use Rattle.moxi_terms.specs.declared.term.Variable.{Variable}
 use Rattle.moxi_terms.specs.Sorts.{Fit}
@@ -23,11 +20,16 @@ use Rattle.moxi_terms.specs.Tree.{sorts_of}
 use Rattle.moxi_terms.specs.View.{ScopeState}
 use Rattle.moxi_scripts.specs.Script.{PlainCheck, PlainScript, PlainSystem, variables_in}
 use Rattle.moxi_scripts.specs.Whole.{IsWhole}
+use Rattle.moxi_flat.specs.FlatSystem.{PlainFlatSystem, flat_of}
 use Rattle.moxi_flat.specs.Limits.{flat_refusal}
 use Rattle.moxi_instantiate.specs.Instances.{IsSingle, single_script}
+use Rattle.moxi_lines.specs.Lines.{lines_of}
+use Rattle.moxi_layout.specs.LayoutLaws.{IsLaidOut}
 use Rattle.moxi_lift.specs.Ends.{IsLiftEnd}
+use Rattle.moxi_lift.specs.Laws.{AreOfSystem, IsLiftedTrace}
 use Rattle.moxi_lift.specs.declared.chain_lift.LiftEnd.{LiftEnd}
-use Rattle.witness_lift.specs.Lifting.{IsLifted, lifted_run, lines_in, run_in, system_in}
+use Rattle.witness_lift.specs.LineLaws.{ModelLinesAreLaidOut, ModelsHaveFlatSystems}
+use Rattle.witness_lift.specs.Lifting.{AreOfFlat, lifted_run, lines_in, run_in, system_in}
 
 -- ---- scripts
 
@@ -38,9 +40,6 @@ of_model P f m h =
 
 not_refused_of : (f : FlatModel) → ModelsHaveFlatSystems → IsOfModel f → flat_refusal (script_of (flat_plain f) f.width) ≡ None
 not_refused_of f law m = of_model (λ s. flat_refusal s ≡ None) f m (law m.source m.read.end m.read.text m.read.tokens m.read.lexed m.read.spelled m.needed m.accepted m.read.low)
-
-pub has_system : (f : FlatModel) → ModelsHaveFlatSystems → ∥ IsOfModel f ∥₁ → ∥ flat_refusal (script_of (flat_plain f) f.width) ≡ None ∥₁
-has_system f law model = ∥∥₁_map model (not_refused_of f law)
 
 pub single_of : (f : FlatModel) → ScriptsAreWhole → ModelsHaveFlatSystems → ∥ IsOfModel f ∥₁ → ∥ IsSingle (script_of (flat_plain f) f.width) ∥₁
 single_of f whole law model = ∥∥₁_map model (λ m. record {
@@ -57,35 +56,57 @@ single_parts logic scope system check w = ∥∥₁_map w (λ i. record {
   alone = i.alone;
 })
 
-both : (o : Option Refusal) (why : Refusal) → o ≡ Some why → o ≡ None → ⊥
-both o why e f = absurd (cc)
+-- what is kept of the script without its logic is what is kept of the flat form's
+pub kept_of : (f : FlatModel) (script : PlainScript) → script ≡ script_of (flat_plain f) f.width → (s : ScopeState) (vs : List Variable) (lines : List Line)
+    → s ≡ (flat_of script).scope → vs ≡ (flat_of script).variables → lines ≡ lines_of (flat_of script) → AreOfFlat f s vs lines
+kept_of f script e s vs lines a b c = record {
+  scope = a ∙ ap (λ (x : PlainScript). (flat_of x).scope) e;
+  variables = b ∙ ap (λ (x : PlainScript). (flat_of x).variables) e;
+  lines = c ∙ ap (λ (x : PlainScript). lines_of (flat_of x)) e;
+}
 
-pub not_refused : (s : PlainScript) (why : Refusal) → ∥ flat_refusal s ≡ None ∥₁ → flat_refusal s ≡ Some why → ⊥
-not_refused s why h e = ∥∥₁_elim h (λ x y. absurd x) (λ f. both (flat_refusal s) why e f)
+-- ---- lines
+
+-- the lines of a flat form's script lay its flat system out
+pub laid_of : (f : FlatModel) → ModelLinesAreLaidOut → ∥ IsOfModel f ∥₁ → ∥ IsLaidOut (system_in f) (lines_in f) ∥₁
+laid_of f law model = ∥∥₁_map model (λ m.
+    of_model (λ s. IsLaidOut (flat_of s) (lines_of (flat_of s))) f m (law m.source m.read.end m.read.text m.read.tokens m.read.lexed m.read.spelled m.needed m.accepted m.read.low).laid)
+
+of_flat : (f : FlatModel) (s : ScopeState) (vs : List Variable) (lines : List Line) → s ≡ (system_in f).scope → vs ≡ (system_in f).variables → lines ≡ lines_in f
+    → ∥ IsLaidOut (system_in f) (lines_in f) ∥₁ → AreOfSystem (system_in f) s vs lines
+of_flat f s vs lines a b e laid = record { scope = a; variables = b; laid = subst (λ (ls : List Line). ∥ IsLaidOut (system_in f) ls ∥₁) (sym e) laid }
+
+pub some_system : (f : FlatModel) (s : ScopeState) (vs : List Variable) (lines : List Line) → s ≡ (system_in f).scope → vs ≡ (system_in f).variables → lines ≡ lines_in f
+    → ∥ IsLaidOut (system_in f) (lines_in f) ∥₁ → (g : PlainFlatSystem) × AreOfSystem g s vs lines
+some_system f s vs lines a b e laid = (system_in f, of_flat f s vs lines a b e laid)
 
 -- ---- traces
 
 own_variables : (f : FlatModel) → (system_in f).variables ≡ variables_in (system_of (flat_plain f) f.width)
 own_variables f = append-nil (variables_in (system_of (flat_plain f) f.width))
 
-pub is_trace : (f : FlatModel) (w : Witness) (envs : List (List Datum)) → IsLifted (system_in f) w envs → IsTraceOf f envs
-is_trace f w envs l = record {
+-- the trace to which a witness of the flat form's lines is lifted
+abbrev pub IsLiftedIn : FlatModel → Witness → List (List Datum) → Type 0
+IsLiftedIn f w envs = IsLiftedTrace (system_in f) (lines_in f) w envs
+
+pub lifted_answered : {E : Type 0} (f : FlatModel) (s : ScopeState) (vs : List Variable) (lines : List Line) → s ≡ (system_in f).scope → vs ≡ (system_in f).variables → lines ≡ lines_in f
+    → ∥ IsLaidOut (system_in f) (lines_in f) ∥₁ → (w : Witness) (r : Result (List (List Datum)) E) → IfOk r (λ envs. (g : PlainFlatSystem) → AreOfSystem g s vs lines → IsLiftedTrace g lines w envs)
+    → IfOk r (IsLiftedIn f w)
+lifted_answered f s vs lines a b e laid w (Ok envs) l = subst (λ (ls : List Line). IsLiftedTrace (system_in f) ls w envs) e (l (system_in f) (of_flat f s vs lines a b e laid))
+lifted_answered f s vs lines a b e laid w (Err x) l = tt
+
+pub is_trace : (f g : FlatModel) → f ≡ g → (w : Witness) (envs : List (List Datum)) → IsLiftedIn g w envs → IsTraceOf f envs
+is_trace f g e w envs l = subst (λ (x : FlatModel). IsTraceOf x envs) (sym e) (record {
   some = l.some;
-  steps = subst (λ (vs : List Variable). AllByRecursion (Fit (symbol_sort f.symbols) (sorts_of vs)) envs) (own_variables f) l.fits;
-}
+  steps = subst (λ (vs : List Variable). AllByRecursion (Fit (symbol_sort g.symbols) (sorts_of vs)) envs) (own_variables g) l.fits;
+})
 
-run_lifted : (f : FlatModel) (w : Witness) (envs : List (List Datum)) → IsLifted (system_in f) w envs → run_in f envs ≡ lifted_run f w
-run_lifted f w envs l = ap (run_in f) l.exact
-
-pub accepted_answered : (f g : FlatModel) → f ≡ g → (w : Witness) (envs : List (List Datum)) → IsLifted (system_in f) w envs → judged_btor (lines_in g) w Yes
-accepted_answered f g e w envs l = subst (λ (x : FlatModel). judged_btor (lines_in x) w Yes) e l.accepted
-
-pub run_answered : (f g : FlatModel) → f ≡ g → (w : Witness) (envs : List (List Datum)) (run : Run) → IsLifted (system_in f) w envs → run ≡ run_in f envs → run ≡ lifted_run g w
-run_answered f g e w envs run l r = r ∙ run_lifted f w envs l ∙ ap (λ (x : FlatModel). lifted_run x w) e
+pub run_answered : (f g : FlatModel) → f ≡ g → (w : Witness) (envs : List (List Datum)) (run : Run) → IsLiftedIn g w envs → run ≡ run_in f envs → run ≡ lifted_run g w
+run_answered f g e w envs run l r = r ∙ ap (λ (x : FlatModel). run_in x envs) e ∙ ap (run_in g) l.exact
 
 refused_so : {T : Type 0} (P : LiftEnd → Type 0) (result : Result T LiftEnd) (why : LiftEnd) → IsErrAnd result (λ e. e ≡ why) → P why → IfErr result P
 refused_so P (Ok x) why h p = tt
 refused_so P (Err e) why h p = subst P (sym h) p
 
-pub refused_answered : {T : Type 0} (f g : FlatModel) → f ≡ g → (w : Witness) (result : Result T LiftEnd) (why : LiftEnd) → IsErrAnd result (λ e. e ≡ why) → IsLiftEnd (lines_in f) w why → IfErr result (IsLiftEnd (lines_in g) w)
-refused_answered f g e w result why h p = subst (λ (x : FlatModel). IfErr result (IsLiftEnd (lines_in x) w)) e (refused_so (IsLiftEnd (lines_in f) w) result why h p)
+pub refused_answered : {T : Type 0} (f : FlatModel) (w : Witness) (result : Result T LiftEnd) (why : LiftEnd) → IsErrAnd result (λ e. e ≡ why) → IsLiftEnd (lines_in f) w why → IfErr result (IsLiftEnd (lines_in f) w)
+refused_answered f w result why h p = refused_so (IsLiftEnd (lines_in f) w) result why h p

@@ -1,5 +1,5 @@
 -- The run to which a witness is lifted breaks the invariant of the witness's bad line.
-use Rattle.std.specs.Prelude.{◌≡◌, ℕ, ◌-◌, ◌≤◌, List, length, map}
+use Rattle.std.specs.Prelude.{◌≡◌, ℕ, ◌-◌, List, length, map}
 use Rattle.btor_witness.specs.declared.witness.Witness.{Witness}
 use Rattle.smv_text.specs.Tree.{PlainSource}
 use Rattle.smv_meaning.specs.declared.value.Run.{Run}

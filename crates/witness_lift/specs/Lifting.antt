@@ -1,20 +1,17 @@
 -- What a witness of a model's lines is lifted to.
-use Rattle.std.specs.Prelude.{◌≡◌, ◌-◌, ◌≤◌, List, length}
-use Rattle.std.specs.List.{AllByRecursion}
-use Rattle.text_core.specs.declared.verdict.Verdict.TheVariants.{Yes}
+use Rattle.std.specs.Prelude.{◌≡◌, ◌-◌, List, length}
 use Rattle.btor_tree.specs.declared.lines.Line.{Line}
 use Rattle.btor_witness.specs.declared.witness.Witness.{Witness}
-use Rattle.btor_witness.specs.Judging.{judged_btor}
 use Rattle.smv_meaning.specs.declared.value.Run.{Run}
 use Rattle.smv_flatten.specs.FlatModel.{FlatModel, flat_plain}
 use Rattle.smv_script.specs.Script.{coding_of, script_of}
 use Rattle.smv_script_laws.specs.Decoding.{run_of}
 use Rattle.moxi_terms.specs.declared.data.Datum.{Datum}
-use Rattle.moxi_terms.specs.Sorts.{Fit}
-use Rattle.moxi_terms.specs.Tree.{sorts_of}
+use Rattle.moxi_terms.specs.declared.term.Variable.{Variable}
+use Rattle.moxi_terms.specs.View.{ScopeState}
 use Rattle.moxi_flat.specs.FlatSystem.{PlainFlatSystem, flat_of}
 use Rattle.moxi_lines.specs.Lines.{lines_of}
-use Rattle.moxi_lift.specs.Laws.{MeetsQueryOf, trace_of}
+use Rattle.moxi_lift.specs.Laws.{trace_of}
 use Rattle.moxi_lift.specs.Lifted.{lifted}
 
 -- the flat system of a flat form's script
@@ -33,10 +30,8 @@ run_in f envs = run_of (flat_plain f) (coding_of (flat_plain f) f.width) (trace_
 abbrev pub lifted_run : FlatModel → Witness → Run
 lifted_run f w = run_in f (lifted (system_in f) w)
 
--- the trace to which an accepted witness is lifted: one or more steps of the variables' sorts, which meet the query of its bad line
-pub record IsLifted (f : PlainFlatSystem) (w : Witness) (envs : List (List Datum)) : Type 0 where
-  pub accepted : judged_btor (lines_of f) w Yes
-  pub exact : envs ≡ lifted f w
-  pub some : 1 ≤ length envs
-  pub fits : AllByRecursion (Fit f.scope.enumerations (sorts_of f.variables)) envs
-  pub meets : ∥ MeetsQueryOf f w.bad envs ∥₁
+-- the scope, the variables and the lines of the flat system of a flat form's script
+pub record AreOfFlat (f : FlatModel) (s : ScopeState) (vs : List Variable) (ls : List Line) : Type 0 where
+  pub scope : s ≡ (system_in f).scope
+  pub variables : vs ≡ (system_in f).variables
+  pub lines : ls ≡ lines_in f

@@ -6,6 +6,7 @@ mod chain;
 mod lift;
 mod lift_laws;
 mod line_laws;
+mod system_lines;
 
 pub use chain::SmvChain;
 pub use lift::lift_smv;

@@ -1,5 +1,5 @@
 use Rattle.witness_lift.proofs.Lifts.{single_of}
-use Rattle.witness_lift.proofs.chain.is_single.Goals as goal
+use Rattle.witness_lift.proofs.system_lines.is_single.Goals as goal
 
 pub returns : goal.returns
 returns c = single_of c.args.flat.now c.scripts_are_whole.ensures c.models_have_flat_systems.ensures c.is_of_model.ensures
