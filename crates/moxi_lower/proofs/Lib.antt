@@ -3,3 +3,4 @@ pub mod Back
 pub mod Witnesses
 pub mod Accepted
 pub mod Steps
+pub mod Printed

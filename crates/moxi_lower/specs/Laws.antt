@@ -1,11 +1,12 @@
--- What the judge says of the witness of a trace, and that the trace comes back from it.
+-- What the judge says of the witness of a trace, and that the trace comes back from it, also from its text.
 use Rattle.std.specs.Prelude.{◌≡◌, ◌↔◌, ℕ, ◌<◌, ◌≤◌, List, length}
 use Rattle.std.specs.List.{AllByRecursion}
 use Rattle.text_core.specs.declared.verdict.Verdict.TheVariants.{Yes}
 use Rattle.btor_tree.specs.declared.lines.Line.{Line}
 use Rattle.btor_witness.specs.Judging.{judged_btor}
-use Rattle.btor_witness.specs.Printing.{IsWitness}
+use Rattle.btor_witness.specs.Printing.{IsWithinLimits, IsWitness, printed}
 use Rattle.btor_witness.specs.Sizes.{sizes_of}
+use Rattle.btor_witness.specs.Texts.{SpellsWitness}
 use Rattle.moxi_terms.specs.declared.data.Datum.{Datum}
 use Rattle.moxi_terms.specs.Sorts.{Fit}
 use Rattle.moxi_terms.specs.Tree.{sorts_of}
@@ -36,3 +37,7 @@ LoweredAreWitnesses = (f : PlainFlatSystem) (lines : List Line) → IsLaidOut f 
 -- the judge accepts it exactly where the trace meets the query of the bad line
 abbrev pub LoweredAreJudged : Type 0
 LoweredAreJudged = (f : PlainFlatSystem) (lines : List Line) → IsLaidOut f lines → OfTraces f (λ j envs. judged_btor lines (lowered f j envs) Yes ↔ MeetsQueryOf f j envs)
+
+-- its printed text, where it is within the limits of a witness, spells it again
+abbrev pub LoweredAreRead : Type 0
+LoweredAreRead = (f : PlainFlatSystem) (lines : List Line) → IsLaidOut f lines → OfTraces f (λ j envs. IsWithinLimits lines (lowered f j envs) → SpellsWitness lines (printed lines (lowered f j envs)) (lowered f j envs))

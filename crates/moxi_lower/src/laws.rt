@@ -1,7 +1,7 @@
 // Laws of lowered traces; these functions do nothing of their own.
-ghost use Rattle.moxi_lower.specs.Laws.{LoweredAreJudged, LoweredAreLifted, LoweredAreWitnesses};
+ghost use Rattle.moxi_lower.specs.Laws.{LoweredAreJudged, LoweredAreLifted, LoweredAreRead, LoweredAreWitnesses};
 
-use btor_witness::yes_where_accepted;
+use btor_witness::{printed_is_read, yes_where_accepted};
 use moxi_layout::witnesses_name_queries;
 use moxi_lift::lifts_meet_queries;
 
@@ -26,4 +26,12 @@ pub fn lowered_are_judged()
     lowered_are_witnesses();
     lifts_meet_queries();
     yes_where_accepted();
+}
+
+/// The printed text of the witness of a trace is read as the same witness, where it is within the limits of witnesses.
+pub fn lowered_are_read()
+    ensures { LoweredAreRead }
+{
+    lowered_are_witnesses();
+    printed_is_read();
 }

@@ -4,5 +4,5 @@
 mod laws;
 mod lower;
 
-pub use laws::{lowered_are_judged, lowered_are_lifted, lowered_are_witnesses};
+pub use laws::{lowered_are_judged, lowered_are_lifted, lowered_are_read, lowered_are_witnesses};
 pub use lower::lower_trace;
