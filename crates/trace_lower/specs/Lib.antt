@@ -1,0 +1,4 @@
+pub mod Lowered
+pub mod Stating
+pub mod Ends
+pub mod Laws
