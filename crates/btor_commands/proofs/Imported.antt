@@ -1,11 +1,12 @@
 -- What is answered to a text's bytes is what is defined of them, and what was written for them stands for its lines.
-use Rattle.std.proofs.Common.{◌≡◌, ◌≤◌, ◌<◌, ◌∙◌, ℕ, zero, suc, List, [], ◌∷◌, Option, Some, Result, Ok, Err, refl, sym, ap, length, subst, slice_get, arith}
-use Rattle.std.specs.Prelude.{IfOk}
+use Rattle.std.proofs.Common.{◌≡◌, ◌<◌, ◌∙◌, ℕ, zero, suc, List, [], ◌∷◌, Option, Some, refl, sym, ap, length, subst, slice_get, arith}
 use Rattle.text_core.specs.declared.place.Place.{Place}
-use Rattle.text_core.specs.Outside.{Files, IsFile, file_at, grown}
+use Rattle.text_core.specs.Outside.{Files, file_at, grown}
 use Rattle.btor_tree.specs.declared.lines.Line.{Line}
 use Rattle.btor_tree.specs.Fits.{IsWellFormed, is_bad, operands}
 use Rattle.btor_tree.proofs.Readings.{one_list}
+use Rattle.text_core.specs.declared.end.End.TheVariants.{Bad}
+use Rattle.btor_text.specs.Answer.{IsRefused}
 use Rattle.btor_text.specs.laws.Refusals.{not_both, one_refusal}
 use Rattle.btor_import.specs.Script.{check_of, import_of}
 use Rattle.btor_import_laws.specs.Laws.{TracesHaveFrames}
@@ -16,53 +17,35 @@ use Rattle.moxi_scripts.specs.Behaviour.{Trace}
 use Rattle.moxi_scripts.specs.Meeting.{MeetsQuery}
 use Rattle.moxi_script_print.specs.Again.{with_place}
 use Rattle.command_core.specs.declared.answer.Answer.{Answer}
-use Rattle.command_core.specs.declared.answer.Answer.TheVariants.{Refused, Done}
-use Rattle.command_core.specs.declared.answer.Output.TheVariants.{Text}
 use Rattle.command_core.specs.declared.status.Status.TheVariants as status
 use Rattle.command_core.specs.Answers.{status_of, text_of}
-use Rattle.command_core.specs.Giving.{MayGive}
-use Rattle.command_core.specs.Reading.{SaysRead, file_within}
-use Rattle.command_core.specs.laws.Files.{done_from, gives, goes_once, whatever_told}
-use Rattle.btor_commands.specs.Importing.{IsImport, IsServed, OfBytes, ScriptsStand, StandsForLines, WritesScript, script_text}
+use Rattle.command_core.specs.Reading.{file_within}
+use Rattle.command_core.specs.laws.Files.{done_from, goes_once}
+use Rattle.command_core.specs.laws.Texts.{done_text, one_answer}
+use Rattle.btor_commands.specs.Importing.{IsImport, IsScriptText, IsServed, OfBytes, ScriptsStand, StandsForLines, WritesScript, script_text}
 use Rattle.btor_commands.specs.Judgement.{btor_too_long}
 use Rattle.btor_commands.specs.Limits.{most_btor_bytes}
 use Rattle.btor_commands.specs.Traces.{HasTrace}
 
 -- ---- one answer
 
+one_script_text : (bytes x y : List ℕ) → IsScriptText bytes x → IsScriptText bytes y → x ≡ y
+one_script_text bytes x y h k = h.2 ∙ ap script_text (one_list h.1 k.1 refl) ∙ sym k.2
+
 one_of_bytes : (bytes : List ℕ) (a b : Answer) → OfBytes bytes a → OfBytes bytes b → a ≡ b
-one_of_bytes bytes (Refused r) (Refused q) h k = ap Refused (one_refusal bytes r q h k)
-one_of_bytes bytes (Refused r) (Done (Text text)) h k = absurd (not_both bytes k.0 r k.1 h)
-one_of_bytes bytes (Refused r) b h k = absurd k
-one_of_bytes bytes (Done (Text text)) (Refused q) h k = absurd (not_both bytes h.0 q h.1 k)
-one_of_bytes bytes (Done (Text text)) (Done (Text other)) h k =
-    ap (λ t. Done (Text t)) (h.2 ∙ ap script_text (one_list h.1 k.1 refl) ∙ sym k.2)
-one_of_bytes bytes (Done (Text text)) b h k = absurd k
-one_of_bytes bytes a b h k = absurd h
+one_of_bytes bytes a b h k =
+    one_answer (IsScriptText bytes) (λ r. IsRefused bytes (Bad r)) (one_script_text bytes) (one_refusal bytes) (λ text r h k. not_both bytes h.0 r h.1 k) a b h k
 
 -- files define one script
 pub one_import : (fs : Files) (model : List ℕ) (a b : Answer) → IsImport fs model a → IsImport fs model b → a ≡ b
 one_import fs model a b h k = goes_once (file_within fs model most_btor_bytes btor_too_long) OfBytes one_of_bytes a b h k
 
--- ---- what may be given, and what was written
-
-says : (bytes : List ℕ) (a : Answer) → OfBytes bytes a → SaysRead a
-says bytes (Refused refusal) h = tt
-says bytes (Done (Text text)) h = tt
-says bytes a h = absurd h
-
--- what follows from a text's bytes may be given
-pub written : {E : Type 0} (files : Option Files) (rose : Type 0) (model bytes : List ℕ) (result : Result Answer E) → IsFile files model bytes → length bytes ≤ most_btor_bytes
-    → IfOk result (OfBytes bytes) → IfOk result (MayGive files (model ∷ []) (λ fs. IsImport fs model) rose)
-written files rose model bytes (Ok a) there within h =
-    gives files (model ∷ []) rose model bytes most_btor_bytes btor_too_long (λ fs. OfBytes) there within a (says bytes a h) (whatever_told files h)
-written files rose model bytes (Err e) there within h = tt
+-- ---- what was written
 
 served_bytes : (stands : ScriptsStand) (fs : Files) (model bytes : List ℕ) (b : Answer) (before now : Option (List ℕ)) → file_at fs model ≡ Some bytes → OfBytes bytes b → status_of b ≡ status.Done → now ≡ grown before (text_of b) → IsServed fs model before now
-served_bytes stands fs model bytes (Done (Text text)) before now there h s w =
-    record { bytes = bytes; there = there; lines = h.0; spelled = h.1; text = text; written = w; script = subst (WritesScript h.0) (sym h.2) (stands bytes h.0 h.1) }
-served_bytes stands fs model bytes (Refused r) before now there h s w = absurd (cc)
-served_bytes stands fs model bytes b before now there h s w = absurd h
+served_bytes stands fs model bytes b before now there h s w =
+    let t = done_text (IsScriptText bytes) (λ r. IsRefused bytes (Bad r)) b h s in
+    record { bytes = bytes; there = there; lines = t.0; spelled = t.1; text = text_of b; written = w; script = subst (WritesScript t.0) (sym t.2) (stands bytes t.0 t.1) }
 
 -- a script that was written whole stands for the lines
 pub served : (stands : ScriptsStand) (fs : Files) (model : List ℕ) (b : Answer) (before now : Option (List ℕ)) → IsImport fs model b → status_of b ≡ status.Done → now ≡ grown before (text_of b) → IsServed fs model before now

@@ -1,7 +1,6 @@
 pub mod Judgements
 pub mod Fronts
 pub mod Judged
-pub mod Seconds
 pub mod Lifted
 pub mod Imported
 pub mod Smaller

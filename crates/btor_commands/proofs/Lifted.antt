@@ -1,13 +1,11 @@
 -- What may be given of two files whose second states a witness, and that files define one such answer.
-use Rattle.std.proofs.Common.{◌≡◌, ◌⊎◌, ◌≤◌, ◌<◌, inl, inr, ℕ, Bool, true, false, List, [], ◌∷◌, Option, Some, None, Result, Ok, Err, refl, sym, ap, ◌∙◌, length, subst, cond, arith}
-use Rattle.std.specs.Prelude.{IfSome, nat_lt}
-use Rattle.text_core.specs.Outside.{Files, IsFile, file_at}
+use Rattle.std.proofs.Common.{◌≡◌, inl, inr, ℕ, Bool, true, false, List, Option, Some, None, Ok, Err, refl, sym, ap, ◌∙◌, subst, cond, length}
+use Rattle.std.specs.Prelude.{nat_lt}
+use Rattle.text_core.specs.Outside.{Files, file_at}
 use Rattle.text_core.specs.declared.verdict.Verdict.{Verdict}
 use Rattle.text_core.specs.declared.verdict.Verdict.TheVariants.{Yes, No}
 use Rattle.btor_tree.specs.declared.lines.Line.{Line}
 use Rattle.btor_tree.specs.Fits.{IsWellFormed}
-use Rattle.btor_tree.specs.Printing.{printed}
-use Rattle.btor_tree.specs.Texts.{SpellsLines}
 use Rattle.btor_tree.proofs.Grows.{empty_well_formed}
 use Rattle.btor_tree.proofs.Readings.{one_list}
 use Rattle.btor_tree.proofs.Resolved.{reads_well_formed}
@@ -24,12 +22,11 @@ use Rattle.command_core.specs.declared.answer.Answer.TheVariants as answer
 use Rattle.command_core.specs.declared.answer.Output.TheVariants.{Text}
 use Rattle.command_core.specs.declared.status.Status.TheVariants as status
 use Rattle.command_core.specs.Answers.{status_of}
-use Rattle.command_core.specs.Giving.{MayGive}
-use Rattle.command_core.specs.Reading.{GoesOn, Instead, SaysRead, file_within, within_limit}
-use Rattle.command_core.specs.laws.Files.{gives, goes_once, on_read}
-use Rattle.btor_commands.specs.Judgement.{IsWitnessRefusal, witness_too_long}
+use Rattle.command_core.specs.Reading.{GoesOn, file_within, within_limit}
+use Rattle.command_core.specs.laws.Files.{goes_once}
+use Rattle.btor_commands.specs.Judgement.{witness_too_long}
 use Rattle.btor_commands.specs.Limits.{most_witness_bytes}
-use Rattle.btor_commands.specs.Lifting.{IsLift, IsOfSecond, IsOfWitness, OfLines, OfText, lift_answer}
+use Rattle.btor_commands.specs.Lifting.{IsLift, OfLines, OfText, lift_answer}
 
 -- a witness that a text spells for lines fits them
 pub spelled_fits : (lines : List Line) (text : List ℕ) (w : Witness) → SpellsWitness lines text w → IsWitness (sizes_of lines) w
@@ -52,66 +49,6 @@ one_of_lines files second btor lifted a b x y =
     let e : x.0 ≡ y.0 = one_list x.1 y.1 refl in
     goes_once (file_within files second most_witness_bytes witness_too_long) (OfText y.0 lifted) (λ text a b h k. one_text y.0 lifted (reads_well_formed y.1 empty_well_formed) text a b h k) a b
     (subst (λ ls. GoesOn (file_within files second most_witness_bytes witness_too_long) (OfText ls lifted) a) e x.2) y.2
-
--- ---- the answer that is made
-
--- a lift says neither that the words are no command nor that a file was not read
-lift_says : (lifted : Witness → List ℕ) (w : Witness) (v : Verdict) → SaysRead (lift_answer lifted w v)
-lift_says lifted w Yes = tt
-lift_says lifted w (No step clause) = tt
-
-says : (lines : List Line) (lifted : Witness → List ℕ) (text : List ℕ) (a : Answer) → OfText lines lifted text a → SaysRead a
-says lines lifted text a (inl x) = subst SaysRead (sym x.2.2) (lift_says lifted x.0 x.2.0)
-says lines lifted text a (inr r) = subst SaysRead (sym r.2) tt
-
-within_nothing : (content : Option (List ℕ)) (second : List ℕ) → content ≡ None → within_limit content second most_witness_bytes witness_too_long ≡ Err (answer.Unread second)
-within_nothing content second e = ap (λ c. within_limit c second most_witness_bytes witness_too_long) e
-
-within_more : (content : Option (List ℕ)) (second text : List ℕ) → content ≡ Some text → most_witness_bytes < length text → within_limit content second most_witness_bytes witness_too_long ≡ Err witness_too_long
-within_more content second text e h =
-    let long : nat_lt most_witness_bytes (length text) ≡ true = grind (arith, h) in
-    ap (λ c. within_limit c second most_witness_bytes witness_too_long) e ∙ ap (λ b. cond b (Err witness_too_long) (Ok text)) long
-
-goes_so : (step : Result (List ℕ) Answer) (next : List ℕ → Answer → Type 0) (a : Answer) → step ≡ Err a → GoesOn step next a
-goes_so step next a e = subst (λ x. GoesOn x next a) (sym e) refl
-
--- what files define of a first file within its limit, and of the lines of its BTOR2 text
-module _ (model second bytes : List ℕ) (limit : ℕ) (longer : Answer) (lines : List Line) (lifted : Witness → List ℕ) (next : Files → List ℕ → Answer → Type 0) (rose more : Type 0)
-    (up : rose → more) (within : length bytes ≤ limit) (spelled : SpellsLines (printed lines) lines) (goes : (fs : Files) (a : Answer) → OfLines fs second (printed lines) lifted a → next fs bytes a) where
-  abbrev Defined : Files → Answer → Type 0
-  Defined fs a = GoesOn (file_within fs model limit longer) (next fs) a
-
-  of_second : (fs : Files) (a : Answer) → GoesOn (file_within fs second most_witness_bytes witness_too_long) (OfText lines lifted) a → next fs bytes a
-  of_second fs a h = goes fs a (lines, spelled, h)
-
-  defined : (files : Option Files) (a : Answer) → IsOfWitness files second lines lifted a → IfSome files (λ fs. next fs bytes a)
-  defined None a h = tt
-  defined (Some fs) a h = of_second fs a (on_read fs second h.text most_witness_bytes witness_too_long (OfText lines lifted) a h.there h.within h.answers)
-
-  of_instead : (fs : Files) (a : Answer) → file_at fs model ≡ Some bytes → file_within fs second most_witness_bytes witness_too_long ≡ Err a → Defined fs a
-  of_instead fs a there e = on_read fs model bytes limit longer (next fs) a there within (of_second fs a (goes_so (file_within fs second most_witness_bytes witness_too_long) (OfText lines lifted) a e))
-
-  gives_instead : (files : Option Files) (a : Answer) → IsFile files model bytes → Instead files rose second most_witness_bytes witness_too_long a → MayGive files (model ∷ second ∷ []) Defined more a
-  gives_instead None a there h =
-      elim h [
-        | inl u ↦ subst (MayGive None (model ∷ second ∷ []) Defined more) (sym u.0) (inr refl, elim u.1 [ inl r ↦ inl (up r) | inr m ↦ absurd m ])
-        | inr l ↦ subst (MayGive None (model ∷ second ∷ []) Defined more) (sym l.0) tt
-      ]
-  gives_instead (Some fs) a there h =
-      elim h [
-        | inl u ↦ subst (MayGive (Some fs) (model ∷ second ∷ []) Defined more) (sym u.0)
-            (inr refl, elim u.1 [ inl r ↦ inl (up r) | inr m ↦ inr (of_instead fs (answer.Unread second) there (within_nothing (file_at fs second) second m)) ])
-        | inr l ↦ subst (MayGive (Some fs) (model ∷ second ∷ []) Defined more) (sym l.0)
-            (of_instead fs witness_too_long there (within_more (file_at fs second) second l.1.0 l.1.1 l.1.2))
-      ]
-
-  -- what is answered to the second file, or in its place, may be given
-  pub second_given : (files : Option Files) (a : Answer) → IsFile files model bytes → IsOfWitness files second lines lifted a → MayGive files (model ∷ second ∷ []) Defined more a
-  second_given files a there h = gives files (model ∷ second ∷ []) more model bytes limit longer next there within a (says lines lifted h.text a h.answers) (defined files a h)
-
-  pub may_give : (files : Option Files) (a : Answer) → IsFile files model bytes → IsOfWitness files second lines lifted a ⊎ Instead files rose second most_witness_bytes witness_too_long a → MayGive files (model ∷ second ∷ []) Defined more a
-  may_give files a there (inl h) = second_given files a there h
-  may_give files a there (inr h) = gives_instead files a there h
 
 -- ---- what was lifted
 

@@ -1,7 +1,7 @@
 -- What is answered to a text's bytes is what is defined of them, and what was written for them keeps what its lines have.
-use Rattle.std.proofs.Common.{◌≡◌, ◌≤◌, ◌∙◌, ℕ, List, [], ◌∷◌, Option, Some, Result, Ok, Err, refl, sym, ap, length, subst}
+use Rattle.std.proofs.Common.{◌≡◌, ◌∙◌, ℕ, List, Option, Some, Result, Ok, Err, refl, sym, ap, subst}
 use Rattle.std.specs.Prelude.{IfOk}
-use Rattle.text_core.specs.Outside.{Files, IsFile, file_at, grown}
+use Rattle.text_core.specs.Outside.{Files, file_at, grown}
 use Rattle.btor_tree.specs.declared.lines.Line.{Line}
 use Rattle.btor_tree.specs.Printing.{printed}
 use Rattle.btor_tree.specs.Texts.{SpellsLines}
@@ -13,18 +13,18 @@ use Rattle.text_core.specs.declared.verdict.Verdict.TheVariants.{Yes}
 use Rattle.btor_witness.specs.declared.witness.Witness.{Witness}
 use Rattle.btor_witness.specs.Judging.{judged_btor}
 use Rattle.btor_witness.specs.Texts.{SpellsWitness}
+use Rattle.text_core.specs.declared.end.End.TheVariants.{Bad}
+use Rattle.btor_text.specs.Answer.{IsRefused}
 use Rattle.btor_text.specs.laws.Refusals.{not_both, one_refusal}
 use Rattle.btor_simplify.specs.Keeping.{IsSmallerList, ListsGetSmaller}
 use Rattle.btor_simplify.specs.Simplified.{IsSimplified}
 use Rattle.btor_simplify.proofs.Single.{one_simplified}
 use Rattle.command_core.specs.declared.answer.Answer.{Answer}
-use Rattle.command_core.specs.declared.answer.Answer.TheVariants.{Refused, Done}
-use Rattle.command_core.specs.declared.answer.Output.TheVariants.{Text}
 use Rattle.command_core.specs.declared.status.Status.TheVariants as status
 use Rattle.command_core.specs.Answers.{status_of, text_of}
-use Rattle.command_core.specs.Giving.{MayGive}
-use Rattle.command_core.specs.Reading.{SaysRead, file_within}
-use Rattle.command_core.specs.laws.Files.{done_from, gives, goes_once, whatever_told}
+use Rattle.command_core.specs.Reading.{file_within}
+use Rattle.command_core.specs.laws.Files.{done_from, goes_once}
+use Rattle.command_core.specs.laws.Texts.{done_text, one_answer}
 use Rattle.btor_commands.specs.Judgement.{btor_too_long}
 use Rattle.btor_commands.specs.Limits.{most_btor_bytes}
 use Rattle.btor_commands.specs.Simplifying.{IsServed, IsSimplification, IsSmallerText, OfBytes, SmallerTextsStand, WritesSmaller}
@@ -38,13 +38,8 @@ one_smaller_text bytes a b h k =
     h.printed_text ∙ ap printed (one_simplified h.lines h.smaller k.smaller h.simplified other) ∙ sym k.printed_text
 
 one_of_bytes : (bytes : List ℕ) (a b : Answer) → OfBytes bytes a → OfBytes bytes b → a ≡ b
-one_of_bytes bytes (Refused r) (Refused q) h k = ap Refused (one_refusal bytes r q h k)
-one_of_bytes bytes (Refused r) (Done (Text text)) h k = absurd (not_both bytes k.lines r k.spelled h)
-one_of_bytes bytes (Refused r) b h k = absurd k
-one_of_bytes bytes (Done (Text text)) (Refused q) h k = absurd (not_both bytes h.lines q h.spelled k)
-one_of_bytes bytes (Done (Text text)) (Done (Text other)) h k = ap (λ t. Done (Text t)) (one_smaller_text bytes text other h k)
-one_of_bytes bytes (Done (Text text)) b h k = absurd k
-one_of_bytes bytes a b h k = absurd h
+one_of_bytes bytes a b h k =
+    one_answer (IsSmallerText bytes) (λ r. IsRefused bytes (Bad r)) (one_smaller_text bytes) (one_refusal bytes) (λ text r h k. not_both bytes h.lines r h.spelled k) a b h k
 
 -- files define one smaller text
 pub one_simplification : (fs : Files) (model : List ℕ) (a b : Answer) → IsSimplification fs model a → IsSimplification fs model b → a ≡ b
@@ -58,23 +53,10 @@ pub printed_smaller : {E : Type 0} (result : Result (List ℕ) E) (old new : Lis
 printed_smaller (Ok text) old new s h = (new, s, h)
 printed_smaller (Err e) old new s h = tt
 
-says : (bytes : List ℕ) (a : Answer) → OfBytes bytes a → SaysRead a
-says bytes (Refused refusal) h = tt
-says bytes (Done (Text text)) h = tt
-says bytes a h = absurd h
-
--- what follows from a text's bytes may be given
-pub written : {E : Type 0} (files : Option Files) (rose : Type 0) (model bytes : List ℕ) (result : Result Answer E) → IsFile files model bytes → length bytes ≤ most_btor_bytes
-    → IfOk result (OfBytes bytes) → IfOk result (MayGive files (model ∷ []) (λ fs. IsSimplification fs model) rose)
-written files rose model bytes (Ok a) there within h =
-    gives files (model ∷ []) rose model bytes most_btor_bytes btor_too_long (λ fs. OfBytes) there within a (says bytes a h) (whatever_told files h)
-written files rose model bytes (Err e) there within h = tt
-
 served_bytes : (stands : SmallerTextsStand) (fs : Files) (model bytes : List ℕ) (b : Answer) (before now : Option (List ℕ)) → file_at fs model ≡ Some bytes → OfBytes bytes b → status_of b ≡ status.Done → now ≡ grown before (text_of b) → IsServed fs model before now
-served_bytes stands fs model bytes (Done (Text text)) before now there h s w =
-    record { bytes = bytes; there = there; lines = h.lines; spelled = h.spelled; text = text; written = w; smaller = subst (WritesSmaller h.lines) (sym h.printed_text) (stands bytes h.lines h.smaller h.spelled h.simplified) }
-served_bytes stands fs model bytes (Refused r) before now there h s w = absurd (cc)
-served_bytes stands fs model bytes b before now there h s w = absurd h
+served_bytes stands fs model bytes b before now there h s w =
+    let t = done_text (IsSmallerText bytes) (λ r. IsRefused bytes (Bad r)) b h s in
+    record { bytes = bytes; there = there; lines = t.lines; spelled = t.spelled; text = text_of b; written = w; smaller = subst (WritesSmaller t.lines) (sym t.printed_text) (stands bytes t.lines t.smaller t.spelled t.simplified) }
 
 -- a smaller text that was written whole keeps what the lines have
 pub served : (stands : SmallerTextsStand) (fs : Files) (model : List ℕ) (b : Answer) (before now : Option (List ℕ)) → IsSimplification fs model b → status_of b ≡ status.Done → now ≡ grown before (text_of b) → IsServed fs model before now

@@ -12,9 +12,8 @@ use Rattle.moxi_term_print.specs.Shown.{lines_text}
 use Rattle.moxi_scripts.specs.Script.{PlainScript}
 use Rattle.moxi_script_print.specs.Printing.{shown_script}
 use Rattle.command_core.specs.declared.answer.Answer.{Answer}
-use Rattle.command_core.specs.declared.answer.Answer.TheVariants.{Refused, Done}
-use Rattle.command_core.specs.declared.answer.Output.TheVariants.{Text}
 use Rattle.command_core.specs.Reading.{GoesOn, file_within}
+use Rattle.command_core.specs.Texts.{IsTextOr}
 use Rattle.btor_commands.specs.Judgement.{btor_too_long}
 use Rattle.btor_commands.specs.Limits.{most_btor_bytes}
 use Rattle.btor_commands.specs.Traces.{HasTrace, SpellsText}
@@ -23,11 +22,13 @@ use Rattle.btor_commands.specs.Traces.{HasTrace, SpellsText}
 unfoldable pub script_text : List Line → List ℕ
 script_text lines = lines_text (shown_script (import_of lines))
 
+-- the text is the script of the lines that the bytes spell
+abbrev pub IsScriptText : List ℕ → List ℕ → Type 0
+IsScriptText bytes text = (lines : List Line) × SpellsLines bytes lines × (text ≡ script_text lines)
+
 -- the script of the lines that the bytes spell, or their refusal
 abbrev pub OfBytes : List ℕ → Answer → Type 0
-OfBytes bytes (Refused refusal) = IsRefused bytes (Bad refusal)
-OfBytes bytes (Done (Text text)) = (lines : List Line) × SpellsLines bytes lines × (text ≡ script_text lines)
-OfBytes bytes other = ⊥
+OfBytes bytes answer = IsTextOr (IsScriptText bytes) (λ refusal. IsRefused bytes (Bad refusal)) answer
 
 -- the script of the lines in the file of this name
 abbrev pub IsImport : Files → List ℕ → Answer → Type 0

@@ -5,3 +5,4 @@ pub mod Lifting
 pub mod Traces
 pub mod Importing
 pub mod Simplifying
+pub mod laws

@@ -1,10 +1,9 @@
 -- What a command answers that lifts a witness of a model's BTOR2 text.
-use Rattle.std.specs.Prelude.{◌≡◌, ◌⊎◌, ◌≤◌, ℕ, List, length, Option}
-use Rattle.text_core.specs.Outside.{Files, IsFile}
+use Rattle.std.specs.Prelude.{◌≡◌, ◌⊎◌, ℕ, List}
+use Rattle.text_core.specs.Outside.{Files}
 use Rattle.text_core.specs.declared.verdict.Verdict.{Verdict}
 use Rattle.text_core.specs.declared.verdict.Verdict.TheVariants as verdict
 use Rattle.btor_tree.specs.declared.lines.Line.{Line}
-use Rattle.btor_tree.specs.Printing.{printed}
 use Rattle.btor_tree.specs.Texts.{SpellsLines}
 use Rattle.btor_witness.specs.declared.witness.Witness.{Witness}
 use Rattle.btor_witness.specs.Judging.{judged_btor}
@@ -12,7 +11,7 @@ use Rattle.btor_witness.specs.Texts.{SpellsWitness}
 use Rattle.command_core.specs.declared.answer.Answer.{Answer}
 use Rattle.command_core.specs.declared.answer.Answer.TheVariants.{No, Done}
 use Rattle.command_core.specs.declared.answer.Output.TheVariants.{Text}
-use Rattle.command_core.specs.Reading.{GoesOn, Instead, file_within}
+use Rattle.command_core.specs.Reading.{GoesOn, file_within}
 use Rattle.btor_commands.specs.Judgement.{IsWitnessRefusal, witness_too_long}
 use Rattle.btor_commands.specs.Limits.{most_witness_bytes}
 
@@ -32,28 +31,3 @@ OfText lines lifted text answer = ((w : Witness) × SpellsWitness lines text w �
 abbrev pub OfLines : Files → List ℕ → List ℕ → (Witness → List ℕ) → Answer → Type 0
 OfLines files second btor lifted answer =
     (lines : List Line) × SpellsLines btor lines × GoesOn (file_within files second most_witness_bytes witness_too_long) (OfText lines lifted) answer
-
--- ---- what a step answers where the files may not be told
-
--- a text within the limit, which is the second file's where the files are told, spells this witness
-pub record IsOfFile (files : Option Files) (second : List ℕ) (lines : List Line) (w : Witness) : Type 0 where
-  pub text : List ℕ
-  pub there : IsFile files second text
-  pub within : length text ≤ most_witness_bytes
-  pub spelled : SpellsWitness lines text w
-
--- this is answered to such a text
-pub record IsOfWitness (files : Option Files) (second : List ℕ) (lines : List Line) (lifted : Witness → List ℕ) (answer : Answer) : Type 0 where
-  pub text : List ℕ
-  pub there : IsFile files second text
-  pub within : length text ≤ most_witness_bytes
-  pub answers : OfText lines lifted text answer
-
--- this is answered to the second file, or in its place; the printed lines spell these lines
-pub record IsOfSecond (files : Option Files) (rose : Type 0) (second : List ℕ) (lines : List Line) (lifted : Witness → List ℕ) (answer : Answer) : Type 0 where
-  pub spelled : SpellsLines (printed lines) lines
-  pub stands : IsOfWitness files second lines lifted answer ⊎ Instead files rose second most_witness_bytes witness_too_long answer
-
--- this is answered in place of a witness, whatever it would be lifted to
-abbrev pub IsOfNone : Option Files → Type 0 → List ℕ → List Line → Answer → Type 0
-IsOfNone files rose second lines answer = (lifted : Witness → List ℕ) → IsOfWitness files second lines lifted answer ⊎ Instead files rose second most_witness_bytes witness_too_long answer

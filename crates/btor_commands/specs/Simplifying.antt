@@ -9,9 +9,8 @@ use Rattle.btor_text.specs.Answer.{IsRefused}
 use Rattle.btor_simplify.specs.Keeping.{IsSmallerList}
 use Rattle.btor_simplify.specs.Simplified.{IsSimplified}
 use Rattle.command_core.specs.declared.answer.Answer.{Answer}
-use Rattle.command_core.specs.declared.answer.Answer.TheVariants.{Refused, Done}
-use Rattle.command_core.specs.declared.answer.Output.TheVariants.{Text}
 use Rattle.command_core.specs.Reading.{GoesOn, file_within}
+use Rattle.command_core.specs.Texts.{IsTextOr}
 use Rattle.btor_commands.specs.Judgement.{btor_too_long}
 use Rattle.btor_commands.specs.Limits.{most_btor_bytes}
 
@@ -25,9 +24,7 @@ pub record IsSmallerText (bytes text : List ℕ) : Type 0 where
 
 -- the smaller text of the lines that the bytes spell, or their refusal
 abbrev pub OfBytes : List ℕ → Answer → Type 0
-OfBytes bytes (Refused refusal) = IsRefused bytes (Bad refusal)
-OfBytes bytes (Done (Text text)) = IsSmallerText bytes text
-OfBytes bytes other = ⊥
+OfBytes bytes answer = IsTextOr (IsSmallerText bytes) (λ refusal. IsRefused bytes (Bad refusal)) answer
 
 -- the smaller text of the lines in the file of this name
 abbrev pub IsSimplification : Files → List ℕ → Answer → Type 0

@@ -1,13 +1,14 @@
 // The MoXI script of a BTOR2 text.
-ghost use Rattle.std.specs.Prelude.{◌≡◌, ◌<◌, ◌≤◌, [], ◌∷◌, List, length, IfOk, IfErr, IsErrAnd};
+ghost use Rattle.std.specs.Prelude.{◌≡◌, ◌≤◌, [], ◌∷◌, length, IfOk, IfErr, IsErrAnd};
 ghost use Rattle.text_core.specs.Outside.{Rose};
-ghost use Rattle.btor_tree.specs.declared.lines.Line.{Line};
-ghost use Rattle.btor_tree.specs.Texts.{SpellsLines};
+ghost use Rattle.text_core.specs.declared.end.End.TheVariants.{Bad};
 ghost use Rattle.btor_text.specs.Answer.{IsRefused};
-ghost use Rattle.command_core.specs.declared.answer.Stop.TheVariants as Stop;
-ghost use Rattle.command_core.specs.Giving.{BeginsAmong, MayGive};
+ghost use Rattle.command_core.specs.Giving.{MayGive};
+ghost use Rattle.command_core.specs.Keeping.{KeepsShelf};
 ghost use Rattle.command_core.specs.Reading.{StopsUnread, StopsWith};
-ghost use Rattle.btor_commands.specs.Importing.{IsImport, OfBytes, ScriptsStand, script_text};
+ghost use Rattle.command_core.specs.laws.Texts.{text_says};
+ghost use Rattle.btor_commands.specs.Importing.{IsImport, IsScriptText, OfBytes, ScriptsStand, script_text};
+ghost use Rattle.btor_commands.specs.Judgement.{btor_too_long};
 ghost use Rattle.btor_commands.specs.Limits.{most_btor_bytes};
 
 use crate::judge::BTOR_LIMIT;
@@ -15,7 +16,7 @@ use btor_import::{import_btor, names_are_spellable, scripts_are_whole};
 use btor_import_laws::{brackets_are_few, queries_are_bads, traces_have_frames};
 use btor_text::read_btor;
 use btor_tree::Nodes;
-use command_core::{Answer, Output, Stop, read_file, refusal};
+use command_core::{Answer, LastFile, Stop, answer_file, refusal, text_answer};
 use moxi_script_print::{print_script, printed_scripts_are_spelled, whole_scripts_can_be_shown};
 use moxi_scripts::one_script;
 use moxi_sexpr::readings_are_one;
@@ -28,33 +29,45 @@ use text_core::{End, Name, NoMemory, Shelf, Text};
 pub fn btor_to_moxi<F: Shelf>(alloc: Global, model: &Name, shelf: &mut F) -> Result<Answer, Stop>
     ensures answer { IfOk result (MayGive (F.files shelf.old) (model.now ∷ []) (λ files. IsImport files model.now) (Rose (F.faults shelf.old) (F.faults shelf.new))) }
     ensures stop { IfErr result (StopsWith (MayGive (F.files shelf.old) (model.now ∷ []) (λ files. IsImport files model.now) (Rose (F.faults shelf.old) (F.faults shelf.new)))) }
-    ensures fault { F.faults shelf.old < F.faults shelf.new → IsErrAnd result (λ stop. StopsUnread stop) }
-    ensures later { F.faults shelf.old ≤ F.faults shelf.new }
-    ensures files { F.files shelf.new ≡ F.files shelf.old }
-    ensures begun { BeginsAmong (F.files shelf.old) (F.begun shelf.old) (F.begun shelf.new) (model.now ∷ []) }
+    ensures shelf { KeepsShelf (F.files shelf.old) (F.files shelf.new) (F.faults shelf.old) (F.faults shelf.new) (F.begun shelf.old) (F.begun shelf.new) (model.now ∷ []) (IsErrAnd result StopsUnread) }
 {
-    let too_long = Answer::Refused(refusal(btor::TOO_LONG));
-    let bytes = read_file(alloc, shelf, model, BTOR_LIMIT, too_long)?;
-    script_answer(alloc, &bytes)
+    answer_file(alloc, model, &BtorToMoxi, shelf)
 }
 
-// The script of the lines that the bytes spell, or their refusal.
-fn script_answer(alloc: Global, bytes: &[u8]) -> Result<Answer, Stop>
-    requires { length bytes.now ≤ most_btor_bytes }
-    ensures answer { IfOk result (OfBytes bytes.now) }
-    ensures stop { IfErr result (λ stop. stop ≡ Stop.NoMemory) }
-{
-    match script_text(alloc, bytes) {
-        Ok(text) => Ok(Answer::Done(Output::Text(text))),
-        Err(End::Bad(refusal)) => Ok(Answer::Refused(refusal)),
-        Err(End::NoMemory) => Err(Stop::NoMemory),
+// The script of the lines that a text spells.
+struct BtorToMoxi;
+
+impl LastFile for BtorToMoxi {
+    ghost most = { most_btor_bytes };
+
+    ghost longer = { btor_too_long };
+
+    ghost defines = { λ _. OfBytes };
+
+    ghost fits = { λ _. Unit {0} };
+
+    fn limit(&self) -> usize {
+        BTOR_LIMIT
     }
+
+    fn too_long(&self) -> Answer {
+        Answer::Refused(refusal(btor::TOO_LONG))
+    }
+
+    #[tactic(auto, using(command_core::specs::laws::Texts::text_ok, command_core::specs::laws::Texts::text_stop))]
+    fn answer(&self, alloc: Global, bytes: &[u8]) -> Result<Answer, Stop> {
+        text_answer(script_text(alloc, bytes))
+    }
+
+    ghost longer_says = { tt };
+
+    ghost says = { λ _ bytes a h. text_says (IsScriptText bytes) (λ refusal. IsRefused bytes (Bad refusal)) a h };
 }
 
 // The printed script of the lines that the bytes spell, or their refusal.
 fn script_text(alloc: Global, bytes: &[u8]) -> Result<Text, End>
     requires { length bytes.now ≤ most_btor_bytes }
-    ensures text { IfOk result (λ text. (lines : List Line) × SpellsLines bytes.now lines × (text ≡ script_text lines)) }
+    ensures text { IfOk result (IsScriptText bytes.now) }
     ensures refused { IfErr result (IsRefused bytes.now) }
 {
     let nodes = read_btor(alloc, bytes)?;

@@ -1,9 +1,10 @@
 // The verdict on a witness for a BTOR2 text.
-ghost use Rattle.std.specs.Prelude.{◌≡◌, ◌<◌, ◌≤◌, [], ◌∷◌, length, false, IfOk, IfErr, IsErrAnd};
+ghost use Rattle.std.specs.Prelude.{◌≡◌, ◌≤◌, [], ◌∷◌, length, false, IfOk, IfErr, IsErrAnd};
 ghost use Rattle.text_core.specs.Outside.{BeginsOnly, Rose};
 ghost use Rattle.btor_tree.specs.Texts.{SpellsLines};
 ghost use Rattle.btor_judge.specs.Judging.{StandsFor, has_ended};
-ghost use Rattle.command_core.specs.Giving.{BeginsAmong, MayGive};
+ghost use Rattle.command_core.specs.Giving.{MayGive};
+ghost use Rattle.command_core.specs.Keeping.{KeepsShelf};
 ghost use Rattle.btor_commands.specs.Judgement.{IsJudgement, IsLinesRefusal, witness_too_long};
 ghost use Rattle.btor_commands.specs.Limits.{most_btor_bytes, most_witness_bytes};
 ghost use Rattle.btor_commands.specs.Pieces.{IsOfFile, judge_answer};
@@ -31,10 +32,7 @@ pub fn judge_files<F: Shelf>(
 ) -> Result<Answer, Stop>
     ensures answer { IfOk result (MayGive (F.files shelf.old) (model.now ∷ second.now ∷ []) (λ files. IsJudgement files model.now second.now) (Rose (F.faults shelf.old) (F.faults shelf.new))) }
     ensures stop { IfErr result (StopsWith (MayGive (F.files shelf.old) (model.now ∷ second.now ∷ []) (λ files. IsJudgement files model.now second.now) (Rose (F.faults shelf.old) (F.faults shelf.new)))) }
-    ensures fault { F.faults shelf.old < F.faults shelf.new → IsErrAnd result (λ stop. StopsUnread stop) }
-    ensures later { F.faults shelf.old ≤ F.faults shelf.new }
-    ensures files { F.files shelf.new ≡ F.files shelf.old }
-    ensures begun { BeginsAmong (F.files shelf.old) (F.begun shelf.old) (F.begun shelf.new) (model.now ∷ second.now ∷ []) }
+    ensures shelf { KeepsShelf (F.files shelf.old) (F.files shelf.new) (F.faults shelf.old) (F.faults shelf.new) (F.begun shelf.old) (F.begun shelf.new) (model.now ∷ second.now ∷ []) (IsErrAnd result StopsUnread) }
     ensures memory { IfErr result (OnNoMemory (BeginsOnly (F.files shelf.old) (F.begun shelf.old) (F.begun shelf.new) model.now)) }
 {
     let too_long = Answer::Refused(refusal(btor::TOO_LONG));
@@ -67,10 +65,7 @@ fn second_answer<F: Shelf>(
 ) -> Result<Answer, Stop>
     ensures answer { IfOk result (IsOfFile (F.files shelf.old) second.now nodes.now) }
     ensures stop { IfErr result (StopsWith (Instead (F.files shelf.old) (Rose (F.faults shelf.old) (F.faults shelf.new)) second.now most_witness_bytes witness_too_long)) }
-    ensures fault { F.faults shelf.old < F.faults shelf.new → IsErrAnd result (λ stop. StopsUnread stop) }
-    ensures later { F.faults shelf.old ≤ F.faults shelf.new }
-    ensures files { F.files shelf.new ≡ F.files shelf.old }
-    ensures begun { BeginsOnly (F.files shelf.old) (F.begun shelf.old) (F.begun shelf.new) second.now }
+    ensures shelf { KeepsShelf (F.files shelf.old) (F.files shelf.new) (F.faults shelf.old) (F.faults shelf.new) (F.begun shelf.old) (F.begun shelf.new) (second.now ∷ []) (IsErrAnd result StopsUnread) }
     ensures memory { IfErr result (OnNoMemory (F.begun shelf.new ≡ F.begun shelf.old)) }
 {
     let mut judge = Judge::new(alloc, nodes)?;
@@ -94,10 +89,7 @@ fn fed_answer<F: Shelf>(
     ensures answer { IfOk result (IsOfFile (F.files shelf.old) second.now nodes.now) }
     ensures stop { IfErr result (StopsWith (Instead (F.files shelf.old) (Rose (F.faults shelf.old) (F.faults shelf.new)) second.now most_witness_bytes witness_too_long)) }
     ensures memory { IfErr result (OnNoMemory ⊥) }
-    ensures fault { F.faults shelf.old < F.faults shelf.new → IsErrAnd result (λ stop. StopsUnread stop) }
-    ensures later { F.faults shelf.old ≤ F.faults shelf.new }
-    ensures files { F.files shelf.new ≡ F.files shelf.old }
-    ensures begun { BeginsOnly (F.files shelf.old) (F.begun shelf.old) (F.begun shelf.new) second.now }
+    ensures shelf { KeepsShelf (F.files shelf.old) (F.files shelf.new) (F.faults shelf.old) (F.faults shelf.new) (F.begun shelf.old) (F.begun shelf.new) (second.now ∷ []) (IsErrAnd result StopsUnread) }
 {
     let mut buffer = [0u8; PIECE];
     match feed_file(shelf, second, &mut buffer, nodes, judge) {

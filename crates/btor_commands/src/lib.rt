@@ -9,5 +9,5 @@ mod simplify;
 
 pub use import::{btor_to_moxi, imports_stand};
 pub use judge::judge_files;
-pub use second::witness_of;
+pub use second::{lines_are_spelled, witness_in};
 pub use simplify::{simplify_btor, smaller_texts_stand};

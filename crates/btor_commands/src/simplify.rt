@@ -1,13 +1,16 @@
 // The smaller text of a BTOR2 text.
-ghost use Rattle.std.specs.Prelude.{◌≡◌, ◌<◌, ◌≤◌, [], ◌∷◌, List, length, IfOk, IfErr, IsErrAnd};
+ghost use Rattle.std.specs.Prelude.{◌≡◌, ◌≤◌, [], ◌∷◌, List, length, IfOk, IfErr, IsErrAnd};
 ghost use Rattle.text_core.specs.Outside.{Rose};
+ghost use Rattle.text_core.specs.declared.end.End.TheVariants.{Bad};
 ghost use Rattle.btor_tree.specs.Printing.{printed};
 ghost use Rattle.btor_tree.specs.declared.lines.Line.{Line};
 ghost use Rattle.btor_simplify.specs.Simplified.{IsSimplified};
 ghost use Rattle.btor_text.specs.Answer.{IsRefused};
-ghost use Rattle.command_core.specs.declared.answer.Stop.TheVariants as Stop;
-ghost use Rattle.command_core.specs.Giving.{BeginsAmong, MayGive};
+ghost use Rattle.command_core.specs.Giving.{MayGive};
+ghost use Rattle.command_core.specs.Keeping.{KeepsShelf};
 ghost use Rattle.command_core.specs.Reading.{StopsUnread, StopsWith};
+ghost use Rattle.command_core.specs.laws.Texts.{text_says};
+ghost use Rattle.btor_commands.specs.Judgement.{btor_too_long};
 ghost use Rattle.btor_commands.specs.Limits.{most_btor_bytes};
 ghost use Rattle.btor_commands.specs.Simplifying.{IsSimplification, IsSmallerText, OfBytes, SmallerTextsStand};
 
@@ -15,7 +18,7 @@ use crate::judge::BTOR_LIMIT;
 use btor_simplify::{lists_get_smaller, simplify};
 use btor_text::{print_btor, read_btor};
 use btor_tree::Nodes;
-use command_core::{Answer, Output, Stop, read_file, refusal};
+use command_core::{Answer, LastFile, Stop, answer_file, refusal, text_answer};
 use std::alloc::Global;
 use std::mem::drop;
 use text_core::kinds::btor;
@@ -25,27 +28,39 @@ use text_core::{End, Name, NoMemory, Shelf, Text};
 pub fn simplify_btor<F: Shelf>(alloc: Global, model: &Name, shelf: &mut F) -> Result<Answer, Stop>
     ensures answer { IfOk result (MayGive (F.files shelf.old) (model.now ∷ []) (λ files. IsSimplification files model.now) (Rose (F.faults shelf.old) (F.faults shelf.new))) }
     ensures stop { IfErr result (StopsWith (MayGive (F.files shelf.old) (model.now ∷ []) (λ files. IsSimplification files model.now) (Rose (F.faults shelf.old) (F.faults shelf.new)))) }
-    ensures fault { F.faults shelf.old < F.faults shelf.new → IsErrAnd result (λ stop. StopsUnread stop) }
-    ensures later { F.faults shelf.old ≤ F.faults shelf.new }
-    ensures files { F.files shelf.new ≡ F.files shelf.old }
-    ensures begun { BeginsAmong (F.files shelf.old) (F.begun shelf.old) (F.begun shelf.new) (model.now ∷ []) }
+    ensures shelf { KeepsShelf (F.files shelf.old) (F.files shelf.new) (F.faults shelf.old) (F.faults shelf.new) (F.begun shelf.old) (F.begun shelf.new) (model.now ∷ []) (IsErrAnd result StopsUnread) }
 {
-    let too_long = Answer::Refused(refusal(btor::TOO_LONG));
-    let bytes = read_file(alloc, shelf, model, BTOR_LIMIT, too_long)?;
-    smaller_answer(alloc, &bytes)
+    answer_file(alloc, model, &SimplifyBtor, shelf)
 }
 
-// The smaller text of the lines that the bytes spell, or their refusal.
-fn smaller_answer(alloc: Global, bytes: &[u8]) -> Result<Answer, Stop>
-    requires { length bytes.now ≤ most_btor_bytes }
-    ensures answer { IfOk result (OfBytes bytes.now) }
-    ensures stop { IfErr result (λ stop. stop ≡ Stop.NoMemory) }
-{
-    match smaller_text(alloc, bytes) {
-        Ok(text) => Ok(Answer::Done(Output::Text(text))),
-        Err(End::Bad(refusal)) => Ok(Answer::Refused(refusal)),
-        Err(End::NoMemory) => Err(Stop::NoMemory),
+// The smaller text of the lines that a text spells.
+struct SimplifyBtor;
+
+impl LastFile for SimplifyBtor {
+    ghost most = { most_btor_bytes };
+
+    ghost longer = { btor_too_long };
+
+    ghost defines = { λ _. OfBytes };
+
+    ghost fits = { λ _. Unit {0} };
+
+    fn limit(&self) -> usize {
+        BTOR_LIMIT
     }
+
+    fn too_long(&self) -> Answer {
+        Answer::Refused(refusal(btor::TOO_LONG))
+    }
+
+    #[tactic(auto, using(command_core::specs::laws::Texts::text_ok, command_core::specs::laws::Texts::text_stop))]
+    fn answer(&self, alloc: Global, bytes: &[u8]) -> Result<Answer, Stop> {
+        text_answer(smaller_text(alloc, bytes))
+    }
+
+    ghost longer_says = { tt };
+
+    ghost says = { λ _ bytes a h. text_says (IsSmallerText bytes) (λ refusal. IsRefused bytes (Bad refusal)) a h };
 }
 
 // The printed smaller list of the lines that the bytes spell, or their refusal.

@@ -3,6 +3,8 @@ pub mod Notes
 pub mod Answers
 pub mod Reading
 pub mod Giving
+pub mod Keeping
+pub mod Texts
 pub mod Sinks
 pub mod laws
 pub mod Numbers

@@ -1,3 +1,5 @@
 -- Laws that crates above cite.
 pub mod Files
 pub mod Stops
+pub mod Given
+pub mod Texts

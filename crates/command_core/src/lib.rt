@@ -2,6 +2,7 @@
 #![tactic(auto)]
 
 mod answer;
+mod commands;
 mod files;
 mod notes;
 mod numbers;
@@ -9,6 +10,7 @@ mod status;
 mod words;
 
 pub use answer::{Answer, Output, Stop, refusal, unread_stop};
+pub use commands::{FirstFile, LastFile, answer_file, answer_files, text_answer};
 pub use files::read_file;
 pub use notes::{deliver, note};
 pub use numbers::{cell_count, invariant_number};

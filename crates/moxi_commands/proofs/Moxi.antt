@@ -1,7 +1,7 @@
 -- What is answered to a witness of a script's text is what is defined of it, and stands for a trace.
-use Rattle.std.proofs.Common.{◌≡◌, ◌≤◌, ◌<◌, ◌-◌, zero, suc, arith, inl, inr, ℕ, List, [], ◌∷◌, Option, Some, None, Result, Ok, Err, refl, sym, ap, ◌∙◌, length, subst}
-use Rattle.std.specs.Prelude.{IfOk, IfErr, IfSome, IsSomeAnd, slice_get}
-use Rattle.text_core.specs.Outside.{Files, IsFile, file_at, grown}
+use Rattle.std.proofs.Common.{◌≡◌, ◌≤◌, ◌<◌, ◌-◌, zero, suc, arith, inl, inr, ℕ, List, [], ◌∷◌, Option, Some, None, Result, refl, sym, ap, ◌∙◌, length, subst}
+use Rattle.std.specs.Prelude.{IfOk, IfErr, IsSomeAnd, slice_get}
+use Rattle.text_core.specs.Outside.{Files, file_at, grown}
 use Rattle.text_core.specs.declared.verdict.Verdict.TheVariants.{Yes}
 use Rattle.btor_tree.specs.declared.lines.Line.{Line}
 use Rattle.btor_tree.specs.Printing.{printed}
@@ -29,21 +29,21 @@ use Rattle.command_core.specs.declared.answer.Answer.{Answer}
 use Rattle.command_core.specs.declared.answer.Answer.TheVariants as answer
 use Rattle.command_core.specs.declared.answer.Output.TheVariants.{Text}
 use Rattle.command_core.specs.declared.answer.Stop.{Stop}
-use Rattle.command_core.specs.declared.answer.Stop.TheVariants.{Answered, NoMemory}
 use Rattle.command_core.specs.declared.status.Status.TheVariants as status
 use Rattle.command_core.specs.Answers.{status_of, text_of}
 use Rattle.command_core.specs.Giving.{MayGive}
-use Rattle.command_core.specs.Reading.{SaysRead, StopsWith, file_within}
-use Rattle.command_core.specs.laws.Files.{done_from, gives, goes_once, on_read}
+use Rattle.command_core.specs.Reading.{GoesOn, StopsWith, file_within}
+use Rattle.command_core.specs.laws.Files.{done_from, goes_once, on_read}
+use Rattle.command_core.specs.laws.Given.{follows_ok, follows_stop}
 use Rattle.btor_commands.specs.Judgement.{witness_too_long}
 use Rattle.btor_commands.specs.Limits.{most_witness_bytes}
 use Rattle.moxi_commands.specs.Limits.{most_script_bytes}
-use Rattle.moxi_commands.specs.Scripts.{IsRefusal, IsScriptText, script_too_long}
+use Rattle.moxi_commands.specs.Scripts.{IsScriptText, script_too_long}
 use Rattle.moxi_commands.specs.Translation.{IsInstantiated, btor_text}
 use Rattle.moxi_commands.proofs.Refused.{not_refused, one_system_refusal, same_script}
-use Rattle.btor_commands.specs.Lifting.{IsLift, IsOfSecond, OfLines, OfText}
-use Rattle.moxi_commands.specs.MoxiLift.{IsLiftedResponse, IsMoxiLift, IsOfBytes, IsOfScript, OfBytes, TracesAreLifted, lifted_response}
-use Rattle.btor_commands.proofs.Lifted.{done_second, may_give, one_of_lines}
+use Rattle.btor_commands.specs.Lifting.{IsLift, OfLines, OfText}
+use Rattle.moxi_commands.specs.MoxiLift.{IsLiftedResponse, IsMoxiLift, OfBytes, OfChecks, TracesAreLifted, lifted_response}
+use Rattle.btor_commands.proofs.Lifted.{done_second, one_of_lines}
 
 -- ---- one answer
 
@@ -58,33 +58,6 @@ one_of_bytes files second bytes a b (inr r) (inr q) = r.2 ∙ ap answer.Refused 
 pub one_moxi_lift : (files : Files) (model second : List ℕ) (a b : Answer) → IsMoxiLift files model second a → IsMoxiLift files model second b → a ≡ b
 one_moxi_lift files model second a b h k =
     goes_once (file_within files model most_script_bytes script_too_long) (OfBytes files second) (λ bytes a b h k. one_of_bytes files second bytes a b h k) a b h k
-
--- ---- the answer that is made
-
--- where the lines of a script's text are those that are named, what is answered for them is answered for the text
-of_text : (fs : Files) (second : List ℕ) (script : PlainScript) (a : Answer) → OfLines fs second (printed (lines_of (flat_of script))) (lifted_response script) a → OfLines fs second (btor_text script) (lifted_response script) a
-unfolding btor_text
-of_text fs second script a h = h
-
-refusal_defined : (files : Option Files) (second bytes : List ℕ) (a : Answer) → IsRefusal bytes a → IfSome files (λ fs. OfBytes fs second bytes a)
-refusal_defined None second bytes a h = tt
-refusal_defined (Some fs) second bytes a h = inr h
-
-refusal_given : (files : Option Files) (rose : Type 0) (model second bytes : List ℕ) (a : Answer) → IsFile files model bytes → length bytes ≤ most_script_bytes → IsRefusal bytes a → MayGive files (model ∷ second ∷ []) (λ fs. IsMoxiLift fs model second) rose a
-refusal_given files rose model second bytes a there within h =
-    gives files (model ∷ second ∷ []) rose model bytes most_script_bytes script_too_long (λ fs. OfBytes fs second) there within a (subst SaysRead (sym h.2) tt) (refusal_defined files second bytes a h)
-
--- what is answered to the bytes of a script may be given
-pub may_lift : (files : Option Files) (rose more : Type 0) (model second bytes : List ℕ) → (rose → more) → IsFile files model bytes → length bytes ≤ most_script_bytes
-    → (a : Answer) → IsOfBytes files rose second bytes a → MayGive files (model ∷ second ∷ []) (λ fs. IsMoxiLift fs model second) more a
-may_lift files rose more model second bytes up there within a (inl x) =
-    may_give model second bytes most_script_bytes script_too_long (lines_of (flat_of x.0)) (lifted_response x.0) (λ fs. OfBytes fs second) rose more up within x.2.spelled (λ fs b h. inl (x.0, x.1, of_text fs second x.0 b h)) files a there x.2.stands
-may_lift files rose more model second bytes up there within a (inr r) = refusal_given files more model second bytes a there within r
-
-pub may_stop : (files : Option Files) (rose more : Type 0) (model second bytes : List ℕ) → (rose → more) → IsFile files model bytes → length bytes ≤ most_script_bytes
-    → (stop : Stop) → StopsWith (IsOfBytes files rose second bytes) stop → StopsWith (MayGive files (model ∷ second ∷ []) (λ fs. IsMoxiLift fs model second) more) stop
-may_stop files rose more model second bytes up there within (Answered a) h = may_lift files rose more model second bytes up there within a h
-may_stop files rose more model second bytes up there within NoMemory h = tt
 
 -- ---- the response
 
@@ -110,37 +83,42 @@ unfolding lifted_response
 answered script f w steps text e judged exact written =
     (Yes, judged, ap (λ t. answer.Done (Text t)) (written ∙ ap (response_text (declared_of script) w.bad) (exact ∙ ap (λ (x : PlainFlatSystem). lifted x w) e)))
 
--- ---- what is answered for a chain is answered for its script
+-- ---- what is answered for a chain is answered for its script, and for the script's bytes
 
-of_chain : (files : Option Files) (rose : Type 0) (second : List ℕ) (script : PlainScript) (f : PlainFlatSystem) (a : Answer) → f ≡ flat_of script → flat_refusal script ≡ None
-    → IsOfSecond files rose second (lines_of f) (lifted_response script) a → IsOfScript files rose second script a
-of_chain files rose second script f a e accepted h = inl (accepted, subst (λ (x : PlainFlatSystem). IsOfSecond files rose second (lines_of x) (lifted_response script) a) e h)
+own_lines : (script : PlainScript) (f : PlainFlatSystem) → f ≡ flat_of script → SpellsLines (printed (lines_of f)) (lines_of f) → SpellsLines (btor_text script) (lines_of f)
+unfolding btor_text
+own_lines script f e h = subst (λ (x : PlainFlatSystem). SpellsLines (printed (lines_of x)) (lines_of f)) e h
 
-pub of_script : {E : Type 0} (files : Option Files) (rose : Type 0) (second : List ℕ) (script : PlainScript) (f : PlainFlatSystem) (result : Result Answer E) → f ≡ flat_of script → flat_refusal script ≡ None
-    → IfOk result (IsOfSecond files rose second (lines_of f) (lifted_response script)) → IfOk result (IsOfScript files rose second script)
-of_script files rose second script f (Ok a) e accepted h = of_chain files rose second script f a e accepted h
-of_script files rose second script f (Err stop) e accepted h = tt
+module _ (files : Option Files) (names : List (List ℕ)) (rose : Type 0) (second : List ℕ) (script : PlainScript) where
+  abbrev ForScript : Files → Answer → Type 0
+  ForScript fs a = OfLines fs second (btor_text script) (lifted_response script) a
 
-pub of_stop : {T : Type 0} (files : Option Files) (rose : Type 0) (second : List ℕ) (script : PlainScript) (f : PlainFlatSystem) (result : Result T Stop) → f ≡ flat_of script → flat_refusal script ≡ None
-    → IfErr result (StopsWith (IsOfSecond files rose second (lines_of f) (lifted_response script))) → IfErr result (StopsWith (IsOfScript files rose second script))
-of_stop files rose second script f (Ok x) e accepted h = tt
-of_stop files rose second script f (Err (Answered a)) e accepted h = of_chain files rose second script f a e accepted h
-of_stop files rose second script f (Err NoMemory) e accepted h = tt
+  abbrev ForLines : PlainFlatSystem → Files → Answer → Type 0
+  ForLines f fs a = GoesOn (file_within fs second most_witness_bytes witness_too_long) (OfText (lines_of f) (lifted_response script)) a
 
--- ---- what is answered to a script is answered to its bytes
+  pub lines_ok : {E : Type 0} (f : PlainFlatSystem) (result : Result Answer E) → f ≡ flat_of script → SpellsLines (printed (lines_of f)) (lines_of f) → IfOk result (MayGive files names (ForLines f) rose) → IfOk result (MayGive files names ForScript rose)
+  lines_ok f result e spelled h = follows_ok files names rose (ForLines f) ForScript result (λ fs a k. (lines_of f, own_lines script f e spelled, k)) h
 
-of_script_bytes : (files : Option Files) (rose : Type 0) (second bytes : List ℕ) (script : PlainScript) → IsScriptText bytes script → (a : Answer) → IsOfScript files rose second script a → IsOfBytes files rose second bytes a
-of_script_bytes files rose second bytes script is a (inl x) = inl (script, record { is_script = is; accepted = x.0 }, x.1)
-of_script_bytes files rose second bytes script is a (inr r) = inr (r.0, inr (script, is, r.1), r.2)
+  pub lines_stop : {T : Type 0} (f : PlainFlatSystem) (result : Result T Stop) → f ≡ flat_of script → SpellsLines (printed (lines_of f)) (lines_of f) → IfErr result (StopsWith (MayGive files names (ForLines f) rose))
+      → IfErr result (StopsWith (MayGive files names ForScript rose))
+  lines_stop f result e spelled h = follows_stop files names rose (ForLines f) ForScript result (λ fs a k. (lines_of f, own_lines script f e spelled, k)) h
 
-pub of_bytes : {E : Type 0} (files : Option Files) (rose : Type 0) (second bytes : List ℕ) (script : PlainScript) (result : Result Answer E) → IsScriptText bytes script → IfOk result (IsOfScript files rose second script) → IfOk result (IsOfBytes files rose second bytes)
-of_bytes files rose second bytes script (Ok a) is h = of_script_bytes files rose second bytes script is a h
-of_bytes files rose second bytes script (Err e) is h = tt
+  pub checks_ok : {E : Type 0} (result : Result Answer E) → flat_refusal script ≡ None → IfOk result (MayGive files names ForScript rose) → IfOk result (MayGive files names (λ fs. OfChecks fs second script) rose)
+  checks_ok result accepted h = follows_ok files names rose ForScript (λ fs. OfChecks fs second script) result (λ fs a k. inl (accepted, k)) h
 
-pub stops_so : {T : Type 0} (files : Option Files) (rose : Type 0) (second bytes : List ℕ) (script : PlainScript) (result : Result T Stop) → IsScriptText bytes script → IfErr result (StopsWith (IsOfScript files rose second script)) → IfErr result (StopsWith (IsOfBytes files rose second bytes))
-stops_so files rose second bytes script (Ok x) is h = tt
-stops_so files rose second bytes script (Err (Answered a)) is h = of_script_bytes files rose second bytes script is a h
-stops_so files rose second bytes script (Err NoMemory) is h = tt
+  pub checks_stop : {T : Type 0} (result : Result T Stop) → flat_refusal script ≡ None → IfErr result (StopsWith (MayGive files names ForScript rose)) → IfErr result (StopsWith (MayGive files names (λ fs. OfChecks fs second script) rose))
+  checks_stop result accepted h = follows_stop files names rose ForScript (λ fs. OfChecks fs second script) result (λ fs a k. inl (accepted, k)) h
+
+  of_bytes : (bytes : List ℕ) → IsScriptText bytes script → (fs : Files) (a : Answer) → OfChecks fs second script a → OfBytes fs second bytes a
+  of_bytes bytes is fs a (inl x) = inl (script, record { is_script = is; accepted = x.0 }, x.1)
+  of_bytes bytes is fs a (inr r) = inr (r.0, inr (script, is, r.1), r.2)
+
+  pub bytes_ok : {E : Type 0} (bytes : List ℕ) (result : Result Answer E) → IsScriptText bytes script → IfOk result (MayGive files names (λ fs. OfChecks fs second script) rose) → IfOk result (MayGive files names (λ fs. OfBytes fs second bytes) rose)
+  bytes_ok bytes result is h = follows_ok files names rose (λ fs. OfChecks fs second script) (λ fs. OfBytes fs second bytes) result (of_bytes bytes is) h
+
+  pub bytes_stop : {T : Type 0} (bytes : List ℕ) (result : Result T Stop) → IsScriptText bytes script → IfErr result (StopsWith (MayGive files names (λ fs. OfChecks fs second script) rose))
+      → IfErr result (StopsWith (MayGive files names (λ fs. OfBytes fs second bytes) rose))
+  bytes_stop bytes result is h = follows_stop files names rose (λ fs. OfChecks fs second script) (λ fs. OfBytes fs second bytes) result (of_bytes bytes is) h
 
 -- ---- what a response stands for
 

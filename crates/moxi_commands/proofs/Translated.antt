@@ -1,9 +1,9 @@
 -- What is answered to a script's bytes is what is defined of them, and what was written for them stands for the script.
-use Rattle.std.proofs.Common.{◌≡◌, ◌≤◌, inl, inr, ℕ, List, [], ◌∷◌, Option, Some, None, Result, Ok, Err, refl, sym, ap, ◌∙◌, length, subst}
+use Rattle.std.proofs.Common.{◌≡◌, inl, inr, ℕ, List, Option, Some, None, Result, Ok, Err, refl, sym, ap, ◌∙◌, subst}
 use Rattle.std.specs.Prelude.{IfOk}
 use Rattle.text_core.specs.declared.end.End.{End}
 use Rattle.text_core.specs.declared.end.End.TheVariants.{Bad, NoMemory}
-use Rattle.text_core.specs.Outside.{Files, IsFile, file_at, grown}
+use Rattle.text_core.specs.Outside.{Files, file_at, grown}
 use Rattle.btor_tree.specs.Printing.{printed}
 use Rattle.moxi_scripts.specs.Script.{PlainScript}
 use Rattle.moxi_flat.specs.FlatSystem.{PlainFlatSystem, flat_of}
@@ -11,29 +11,24 @@ use Rattle.moxi_flat.specs.Limits.{flat_refusal}
 use Rattle.moxi_instantiate.specs.Instances.{IsInstEnd}
 use Rattle.moxi_lines.specs.Lines.{lines_of}
 use Rattle.command_core.specs.declared.answer.Answer.{Answer}
-use Rattle.command_core.specs.declared.answer.Answer.TheVariants.{Refused, Done}
-use Rattle.command_core.specs.declared.answer.Output.TheVariants.{Text}
 use Rattle.command_core.specs.declared.status.Status.TheVariants as status
 use Rattle.command_core.specs.Answers.{status_of, text_of}
-use Rattle.command_core.specs.Giving.{MayGive}
-use Rattle.command_core.specs.Reading.{SaysRead, file_within}
-use Rattle.command_core.specs.laws.Files.{done_from, gives, goes_once, whatever_told}
+use Rattle.command_core.specs.Reading.{file_within}
+use Rattle.command_core.specs.laws.Files.{done_from, goes_once}
+use Rattle.command_core.specs.laws.Texts.{done_text, one_answer}
 use Rattle.moxi_commands.specs.Limits.{most_script_bytes}
-use Rattle.moxi_commands.specs.Scripts.{IsScriptText, IsTextEnd, script_too_long}
-use Rattle.moxi_commands.specs.Translation.{IsBtorText, IsInstantiated, IsLinesEnd, IsServed, LinesStand, OfBytes, WritesLines, btor_text}
+use Rattle.moxi_commands.specs.Scripts.{IsScriptText, IsSystemRefusal, IsTextEnd, script_too_long}
+use Rattle.moxi_commands.specs.Translation.{IsBtorText, IsInstantiated, IsLinesEnd, IsLinesText, IsServed, LinesStand, OfBytes, WritesLines, btor_text}
 use Rattle.moxi_commands.proofs.Refused.{not_refused, one_system_refusal, same_script}
 
 -- ---- one answer
 
+one_lines_text : (bytes x y : List ℕ) → IsLinesText bytes x → IsLinesText bytes y → x ≡ y
+one_lines_text bytes x y h k = h.2 ∙ ap btor_text (same_script bytes h.0 k.0 h.1.is_script k.1.is_script) ∙ sym k.2
+
 one_of_bytes : (bytes : List ℕ) (a b : Answer) → OfBytes bytes a → OfBytes bytes b → a ≡ b
-one_of_bytes bytes (Refused r) (Refused q) h k = ap Refused (one_system_refusal bytes r q h k)
-one_of_bytes bytes (Refused r) (Done (Text text)) h k = absurd (not_refused bytes r k.0 h k.1.is_script k.1.accepted)
-one_of_bytes bytes (Refused r) b h k = absurd k
-one_of_bytes bytes (Done (Text text)) (Refused q) h k = absurd (not_refused bytes q h.0 k h.1.is_script h.1.accepted)
-one_of_bytes bytes (Done (Text text)) (Done (Text other)) h k =
-    ap (λ t. Done (Text t)) (h.2 ∙ ap btor_text (same_script bytes h.0 k.0 h.1.is_script k.1.is_script) ∙ sym k.2)
-one_of_bytes bytes (Done (Text text)) b h k = absurd k
-one_of_bytes bytes a b h k = absurd h
+one_of_bytes bytes a b h k =
+    one_answer (IsLinesText bytes) (IsSystemRefusal bytes) (one_lines_text bytes) (one_system_refusal bytes) (λ text r h k. not_refused bytes r h.0 k h.1.is_script h.1.accepted) a b h k
 
 -- files define one text
 pub one_text : (fs : Files) (model : List ℕ) (a b : Answer) → IsBtorText fs model a → IsBtorText fs model b → a ≡ b
@@ -58,25 +53,12 @@ pub no_text : (bytes : List ℕ) (end : End) → IsTextEnd bytes end → IsLines
 no_text bytes (Bad why) h = inl h
 no_text bytes NoMemory h = tt
 
--- ---- what may be given, and what was written
-
-says : (bytes : List ℕ) (a : Answer) → OfBytes bytes a → SaysRead a
-says bytes (Refused refusal) h = tt
-says bytes (Done (Text text)) h = tt
-says bytes a h = absurd h
-
--- what follows from a script's bytes may be given
-pub written : {E : Type 0} (files : Option Files) (rose : Type 0) (model bytes : List ℕ) (result : Result Answer E) → IsFile files model bytes → length bytes ≤ most_script_bytes
-    → IfOk result (OfBytes bytes) → IfOk result (MayGive files (model ∷ []) (λ fs. IsBtorText fs model) rose)
-written files rose model bytes (Ok a) there within h =
-    gives files (model ∷ []) rose model bytes most_script_bytes script_too_long (λ fs. OfBytes) there within a (says bytes a h) (whatever_told files h)
-written files rose model bytes (Err e) there within h = tt
+-- ---- what was written
 
 served_bytes : (stands : LinesStand) (fs : Files) (model bytes : List ℕ) (b : Answer) (before now : Option (List ℕ)) → file_at fs model ≡ Some bytes → OfBytes bytes b → status_of b ≡ status.Done → now ≡ grown before (text_of b) → IsServed fs model before now
-served_bytes stands fs model bytes (Done (Text text)) before now there h s w =
-    record { bytes = bytes; there = there; script = h.0; instantiated = h.1; text = text; written = w; lines = subst (WritesLines h.0) (sym h.2) (stands bytes h.0 h.1) }
-served_bytes stands fs model bytes (Refused r) before now there h s w = absurd (cc)
-served_bytes stands fs model bytes b before now there h s w = absurd h
+served_bytes stands fs model bytes b before now there h s w =
+    let t = done_text (IsLinesText bytes) (IsSystemRefusal bytes) b h s in
+    record { bytes = bytes; there = there; script = t.0; instantiated = t.1; text = text_of b; written = w; lines = subst (WritesLines t.0) (sym t.2) (stands bytes t.0 t.1) }
 
 -- a text that was written whole stands for its script
 pub served : (stands : LinesStand) (fs : Files) (model : List ℕ) (b : Answer) (before now : Option (List ℕ)) → IsBtorText fs model b → status_of b ≡ status.Done → now ≡ grown before (text_of b) → IsServed fs model before now

@@ -1,10 +1,10 @@
 -- What a judge of responses answers.
-use Rattle.std.specs.Prelude.{◌≡◌, ◌⊎◌, ◌≤◌, ℕ, ◌-◌, List, length, Option, Some, None, Result, Ok, Err}
+use Rattle.std.specs.Prelude.{◌≡◌, ◌⊎◌, ℕ, ◌-◌, List, length, Some, None, Result, Ok, Err}
 use Rattle.text_core.specs.declared.place.Kind.TheVariants.{Y}
 use Rattle.text_core.specs.declared.place.Refusal.{Refusal}
 use Rattle.text_core.specs.declared.verdict.Verdict.{Verdict}
 use Rattle.text_core.specs.declared.verdict.Verdict.TheVariants as verdict
-use Rattle.text_core.specs.Outside.{Files, IsFile}
+use Rattle.text_core.specs.Outside.{Files}
 use Rattle.text_core.specs.Places.{start}
 use Rattle.moxi_scripts.specs.Script.{PlainScript}
 use Rattle.moxi_scripts.specs.Asking.{query_at}
@@ -19,7 +19,7 @@ use Rattle.moxi_responses.specs.Declaring.{declared_of}
 use Rattle.command_core.specs.declared.answer.Answer.{Answer}
 use Rattle.command_core.specs.declared.answer.Answer.TheVariants.{Refused, SecondRefused, No, Done}
 use Rattle.command_core.specs.declared.answer.Output.TheVariants as output
-use Rattle.command_core.specs.Reading.{GoesOn, Instead, file_within}
+use Rattle.command_core.specs.Reading.{GoesOn, file_within}
 use Rattle.moxi_commands.specs.Limits.{most_script_bytes, most_response_bytes}
 use Rattle.moxi_commands.specs.Scripts.{IsRefusal, IsScriptText, script_too_long}
 
@@ -61,26 +61,6 @@ OfBytes files second bytes answer = ((s : PlainScript) × IsScriptText bytes s �
 abbrev pub IsMoxiJudgement : Files → List ℕ → List ℕ → Answer → Type 0
 IsMoxiJudgement files model second answer = GoesOn (file_within files model most_script_bytes script_too_long) (OfBytes files second) answer
 
--- ---- what a step answers where the files may not be told
-
--- this is answered to a response within the limit, which is the file's where the files are told
-pub record IsOfResponse (files : Option Files) (name : List ℕ) (s : PlainScript) (answer : Answer) : Type 0 where
-  pub text : List ℕ
-  pub there : IsFile files name text
-  pub within : length text ≤ most_response_bytes
-  pub answers : OfText s text answer
-
--- this is answered to a response, or to a script whose check instantiates no system
-abbrev pub IsOfScript : Option Files → List ℕ → PlainScript → Answer → Type 0
-IsOfScript files name s answer = ((flat_refusal s ≡ None) × IsOfResponse files name s answer) ⊎ ((refusal : Refusal) × (flat_refusal s ≡ Some refusal) × (answer ≡ Refused refusal))
-
--- this is answered to a response, or to bytes that are refused
-abbrev pub IsOfBytes : Option Files → List ℕ → List ℕ → Answer → Type 0
-IsOfBytes files name bytes answer = ((s : PlainScript) × IsScriptText bytes s × (flat_refusal s ≡ None) × IsOfResponse files name s answer) ⊎ IsRefusal bytes answer
-
--- this is answered in place of a response, where the bytes spell a script whose check instantiates a system
-pub record IsOfNoResponse (files : Option Files) (rose : Type 0) (name bytes : List ℕ) (answer : Answer) : Type 0 where
-  pub script : PlainScript
-  pub is_script : IsScriptText bytes script
-  pub accepted : flat_refusal script ≡ None
-  pub stands : Instead files rose name most_response_bytes response_too_long answer
+-- the verdict on the response in the second file, for the script, or the refusal of the system that its check instantiates
+abbrev pub OfChecks : Files → List ℕ → PlainScript → Answer → Type 0
+OfChecks files second s answer = ((flat_refusal s ≡ None) × OfScript files second s answer) ⊎ ((refusal : Refusal) × (flat_refusal s ≡ Some refusal) × (answer ≡ Refused refusal))

@@ -3,3 +3,4 @@ pub mod Scripts
 pub mod Judgement
 pub mod Translation
 pub mod MoxiLift
+pub mod laws

@@ -14,7 +14,6 @@ use Rattle.moxi_scripts.specs.Script.{PlainScript}
 use Rattle.moxi_scripts.specs.Meeting.{MeetsQuery}
 use Rattle.moxi_flat.specs.FlatSystem.{flat_of}
 use Rattle.moxi_flat.specs.Limits.{flat_refusal}
-use Rattle.moxi_lines.specs.Lines.{lines_of}
 use Rattle.moxi_lift.specs.Laws.{trace_of}
 use Rattle.moxi_lift.specs.Lifted.{lifted}
 use Rattle.moxi_trace.specs.Texts.{response_text}
@@ -25,7 +24,7 @@ use Rattle.command_core.specs.Reading.{GoesOn, file_within}
 use Rattle.moxi_commands.specs.Limits.{most_script_bytes}
 use Rattle.moxi_commands.specs.Scripts.{IsRefusal, script_too_long}
 use Rattle.moxi_commands.specs.Translation.{IsInstantiated, btor_text}
-use Rattle.btor_commands.specs.Lifting.{IsOfSecond, OfLines}
+use Rattle.btor_commands.specs.Lifting.{OfLines}
 
 -- the text of the response that the trace to which a witness is lifted meets the query of its bad line
 unfoldable pub lifted_response : PlainScript → Witness → List ℕ
@@ -40,18 +39,10 @@ OfBytes files second bytes answer =
 abbrev pub IsMoxiLift : Files → List ℕ → List ℕ → Answer → Type 0
 IsMoxiLift files model second answer = GoesOn (file_within files model most_script_bytes script_too_long) (OfBytes files second) answer
 
--- ---- what a step answers where the files may not be told
-
--- this is answered to the second file for the script, or the refusal of the system that its check instantiates
-abbrev pub IsOfScript : Option Files → Type 0 → List ℕ → PlainScript → Answer → Type 0
-IsOfScript files rose second script answer =
-    ((flat_refusal script ≡ None) × IsOfSecond files rose second (lines_of (flat_of script)) (lifted_response script) answer)
-    ⊎ ((refusal : Refusal) × (flat_refusal script ≡ Some refusal) × (answer ≡ Refused refusal))
-
--- this is answered to the second file for the script that the bytes spell, or the bytes' refusal
-abbrev pub IsOfBytes : Option Files → Type 0 → List ℕ → List ℕ → Answer → Type 0
-IsOfBytes files rose second bytes answer =
-    ((script : PlainScript) × IsInstantiated bytes script × IsOfSecond files rose second (lines_of (flat_of script)) (lifted_response script) answer) ⊎ IsRefusal bytes answer
+-- what is answered to the witness in the second file, for the script, or the refusal of the system that its check instantiates
+abbrev pub OfChecks : Files → List ℕ → PlainScript → Answer → Type 0
+OfChecks files second script answer =
+    ((flat_refusal script ≡ None) × OfLines files second (btor_text script) (lifted_response script) answer) ⊎ ((refusal : Refusal) × (flat_refusal script ≡ Some refusal) × (answer ≡ Refused refusal))
 
 -- ---- what a response stands for
 

@@ -14,9 +14,8 @@ use Rattle.moxi_flat.specs.Limits.{flat_refusal}
 use Rattle.moxi_lines.specs.Lines.{lines_of}
 use Rattle.moxi_layout.specs.LayoutLaws.{HasFrames, IsLaidOut}
 use Rattle.command_core.specs.declared.answer.Answer.{Answer}
-use Rattle.command_core.specs.declared.answer.Answer.TheVariants.{Refused, Done}
-use Rattle.command_core.specs.declared.answer.Output.TheVariants.{Text}
 use Rattle.command_core.specs.Reading.{GoesOn, file_within}
+use Rattle.command_core.specs.Texts.{IsTextOr}
 use Rattle.btor_commands.specs.Traces.{HasTrace}
 use Rattle.moxi_commands.specs.Limits.{most_script_bytes}
 use Rattle.moxi_commands.specs.Scripts.{IsScriptText, IsSystemRefusal, script_too_long}
@@ -35,11 +34,13 @@ abbrev pub IsLinesEnd : List ℕ → End → Type 0
 IsLinesEnd bytes (Bad refusal) = IsSystemRefusal bytes refusal
 IsLinesEnd bytes NoMemory = Unit {0}
 
+-- the text is that of the script that the bytes spell
+abbrev pub IsLinesText : List ℕ → List ℕ → Type 0
+IsLinesText bytes text = (script : PlainScript) × IsInstantiated bytes script × (text ≡ btor_text script)
+
 -- the text of the script that the bytes spell, or their refusal
 abbrev pub OfBytes : List ℕ → Answer → Type 0
-OfBytes bytes (Refused refusal) = IsSystemRefusal bytes refusal
-OfBytes bytes (Done (Text text)) = (script : PlainScript) × IsInstantiated bytes script × (text ≡ btor_text script)
-OfBytes bytes other = ⊥
+OfBytes bytes answer = IsTextOr (IsLinesText bytes) (IsSystemRefusal bytes) answer
 
 -- the text of the script in the file of this name
 abbrev pub IsBtorText : Files → List ℕ → Answer → Type 0

@@ -1,19 +1,21 @@
 // The verdict on a response to a MoXI script.
-ghost use Rattle.std.specs.Prelude.{◌≡◌, ◌<◌, ◌≤◌, ◌^◌, ◌-◌, [], ◌∷◌, None, length, IfOk, IfErr, IsErrAnd};
-ghost use Rattle.text_core.specs.Outside.{BeginsOnly, Rose};
+ghost use Rattle.std.specs.Prelude.{◌≡◌, ◌<◌, ◌^◌, ◌-◌, [], ◌∷◌, length, IfOk, IfErr, IsErrAnd};
+ghost use Rattle.text_core.specs.Outside.{Rose};
 ghost use Rattle.moxi_scripts.specs.ScriptView.{plain_script};
 ghost use Rattle.moxi_flat.specs.FlatSystem.{flat_of};
-ghost use Rattle.moxi_flat.specs.Limits.{flat_refusal};
 ghost use Rattle.moxi_judge.specs.Judging.{IsStatedTrace};
 ghost use Rattle.moxi_trace.specs.Texts.{symbol_text};
 ghost use Rattle.command_core.specs.declared.answer.Stop.TheVariants as Stop;
-ghost use Rattle.command_core.specs.Giving.{BeginsAmong, MayGive};
-ghost use Rattle.command_core.specs.Reading.{Instead, StopsUnread, StopsWith};
+ghost use Rattle.command_core.specs.Giving.{MayGive};
+ghost use Rattle.command_core.specs.Keeping.{KeepsShelf};
+ghost use Rattle.command_core.specs.Reading.{StopsUnread, StopsWith};
 ghost use Rattle.moxi_commands.specs.Limits.{most_script_bytes, most_response_bytes};
-ghost use Rattle.moxi_commands.specs.Judgement.{IsMoxiJudgement, IsOfBytes, IsOfNoResponse, IsOfResponse, IsOfScript, OfText, met_answer, response_too_long, stated_answer};
+ghost use Rattle.moxi_commands.specs.Scripts.{script_too_long};
+ghost use Rattle.moxi_commands.specs.Judgement.{IsMoxiJudgement, OfBytes, OfChecks, OfText, met_answer, response_too_long, stated_answer};
+ghost use Rattle.moxi_commands.specs.laws.Verdicts.{verdict_says};
 
 use crate::scripts::{SCRIPT_LIMIT, script_of};
-use command_core::{Answer, Output, Stop, read_file, refusal};
+use command_core::{Answer, FirstFile, LastFile, Output, Stop, answer_file, answer_files, refusal};
 use moxi_instantiate::{FlatSystem, instantiate};
 use moxi_judge::judge_moxi;
 use moxi_responses::read_response;
@@ -26,7 +28,6 @@ use text_core::kinds::{moxi, trace};
 use text_core::{End, Name, NoMemory, Shelf, Text, Verdict};
 
 /// Reads a MoXI script and a response to it, and judges the response: does its trace meet its query at the last step?
-#[tactic(auto, using(crate::proofs::Judged::may_stop))]
 pub fn judge_moxi_files<F: Shelf>(
     alloc: Global,
     model: &Name,
@@ -35,91 +36,113 @@ pub fn judge_moxi_files<F: Shelf>(
 ) -> Result<Answer, Stop>
     ensures answer { IfOk result (MayGive (F.files shelf.old) (model.now ∷ second.now ∷ []) (λ files. IsMoxiJudgement files model.now second.now) (Rose (F.faults shelf.old) (F.faults shelf.new))) }
     ensures stop { IfErr result (StopsWith (MayGive (F.files shelf.old) (model.now ∷ second.now ∷ []) (λ files. IsMoxiJudgement files model.now second.now) (Rose (F.faults shelf.old) (F.faults shelf.new)))) }
-    ensures fault { F.faults shelf.old < F.faults shelf.new → IsErrAnd result (λ stop. StopsUnread stop) }
-    ensures later { F.faults shelf.old ≤ F.faults shelf.new }
-    ensures files { F.files shelf.new ≡ F.files shelf.old }
-    ensures begun { BeginsAmong (F.files shelf.old) (F.begun shelf.old) (F.begun shelf.new) (model.now ∷ second.now ∷ []) }
+    ensures shelf { KeepsShelf (F.files shelf.old) (F.files shelf.new) (F.faults shelf.old) (F.faults shelf.new) (F.begun shelf.old) (F.begun shelf.new) (model.now ∷ second.now ∷ []) (IsErrAnd result StopsUnread) }
 {
-    let too_long = Answer::Refused(refusal(moxi::TOO_LONG));
-    let bytes = read_file(alloc, shelf, model, SCRIPT_LIMIT, too_long)?;
-    let text = bytes.as_slice();
-    let answer = bytes_answer(alloc, text, second, shelf)?;
-    Ok(answer)
+    answer_files(alloc, model, second, &JudgeMoxi, shelf)
 }
 
-// The verdict on the response in the second file, for the script that the bytes spell, or the bytes' refusal.
-#[tactic(auto, using(crate::proofs::Judged::of_bytes, crate::proofs::Judged::of_no_response))]
-fn bytes_answer<F: Shelf>(
-    alloc: Global,
-    bytes: &[u8],
-    second: &Name,
-    shelf: &mut F,
-) -> Result<Answer, Stop>
-    requires { length bytes.now ≤ most_script_bytes }
-    ensures answer { IfOk result (IsOfBytes (F.files shelf.old) second.now bytes.now) }
-    ensures stop { IfErr result (StopsWith (IsOfNoResponse (F.files shelf.old) (Rose (F.faults shelf.old) (F.faults shelf.new)) second.now bytes.now)) }
-    ensures fault { F.faults shelf.old < F.faults shelf.new → IsErrAnd result (λ stop. StopsUnread stop) }
-    ensures later { F.faults shelf.old ≤ F.faults shelf.new }
-    ensures files { F.files shelf.new ≡ F.files shelf.old }
-    ensures begun { BeginsOnly (F.files shelf.old) (F.begun shelf.old) (F.begun shelf.new) second.now }
-{
-    match script_of(alloc, bytes) {
-        Ok(script) => {
-            let answer = script_answer(alloc, &script, second, shelf);
-            drop(script);
-            answer
-        }
-        Err(End::Bad(refusal)) => Ok(Answer::Refused(refusal)),
-        Err(End::NoMemory) => Err(Stop::NoMemory),
+// The verdict on a response to the script that a text spells.
+struct JudgeMoxi;
+
+impl FirstFile for JudgeMoxi {
+    ghost most = { most_script_bytes };
+
+    ghost longer = { script_too_long };
+
+    ghost defines = { λ _ files second. OfBytes files second };
+
+    fn limit(&self) -> usize {
+        SCRIPT_LIMIT
     }
+
+    fn too_long(&self) -> Answer {
+        Answer::Refused(refusal(moxi::TOO_LONG))
+    }
+
+    #[tactic(auto, using(crate::proofs::Judged::bytes_ok, crate::proofs::Judged::bytes_stop, command_core::specs::laws::Given::of_each))]
+    fn answer<F: Shelf>(
+        &self,
+        alloc: Global,
+        bytes: &[u8],
+        second: &Name,
+        shelf: &mut F,
+    ) -> Result<Answer, Stop> {
+        match script_of(alloc, bytes) {
+            Ok(script) => {
+                let answer = script_answer(alloc, &script, second, shelf);
+                drop(script);
+                answer
+            }
+            Err(End::Bad(refusal)) => Ok(Answer::Refused(refusal)),
+            Err(End::NoMemory) => Err(Stop::NoMemory),
+        }
+    }
+
+    ghost longer_says = { tt };
 }
 
 // The verdict on the response in the second file, or the refusal of the system that the script's check instantiates.
-#[tactic(auto, using(crate::proofs::Judged::of_script))]
+#[tactic(auto, using(crate::proofs::Judged::checks_ok, crate::proofs::Judged::checks_stop, command_core::specs::laws::Given::of_each))]
 fn script_answer<F: Shelf>(
     alloc: Global,
     script: &Script,
     second: &Name,
     shelf: &mut F,
 ) -> Result<Answer, Stop>
-    ensures answer { IfOk result (IsOfScript (F.files shelf.old) second.now (plain_script script.now)) }
-    ensures accepted { IfErr result (StopsWith (λ answer. flat_refusal (plain_script script.now) ≡ None)) }
-    ensures stop { IfErr result (StopsWith (Instead (F.files shelf.old) (Rose (F.faults shelf.old) (F.faults shelf.new)) second.now most_response_bytes response_too_long)) }
-    ensures fault { F.faults shelf.old < F.faults shelf.new → IsErrAnd result (λ stop. StopsUnread stop) }
-    ensures later { F.faults shelf.old ≤ F.faults shelf.new }
-    ensures files { F.files shelf.new ≡ F.files shelf.old }
-    ensures begun { BeginsOnly (F.files shelf.old) (F.begun shelf.old) (F.begun shelf.new) second.now }
+    ensures answer { IfOk result (MayGive (F.files shelf.old) (second.now ∷ []) (λ files. OfChecks files second.now (plain_script script.now)) (Rose (F.faults shelf.old) (F.faults shelf.new))) }
+    ensures stop { IfErr result (StopsWith (MayGive (F.files shelf.old) (second.now ∷ []) (λ files. OfChecks files second.now (plain_script script.now)) (Rose (F.faults shelf.old) (F.faults shelf.new)))) }
+    ensures shelf { KeepsShelf (F.files shelf.old) (F.files shelf.new) (F.faults shelf.old) (F.faults shelf.new) (F.begun shelf.old) (F.begun shelf.new) (second.now ∷ []) (IsErrAnd result StopsUnread) }
 {
     match instantiate(alloc, script) {
-        Ok(system) => response_answer(alloc, script, &system, second, shelf),
+        Ok(system) => answer_file(
+            alloc,
+            second,
+            &ResponseFile {
+                script,
+                system: &system,
+            },
+            shelf,
+        ),
         Err(End::Bad(refusal)) => Ok(Answer::Refused(refusal)),
         Err(End::NoMemory) => Err(Stop::NoMemory),
     }
 }
 
-// The verdict on the response in the second file. The system is the script's.
-fn response_answer<F: Shelf>(
-    alloc: Global,
-    script: &Script,
-    system: &FlatSystem<'_>,
-    second: &Name,
-    shelf: &mut F,
-) -> Result<Answer, Stop>
-    requires system { system.now ≡ flat_of (plain_script script.now) }
-    ensures answer { IfOk result (IsOfResponse (F.files shelf.old) second.now (plain_script script.now)) }
-    ensures stop { IfErr result (StopsWith (Instead (F.files shelf.old) (Rose (F.faults shelf.old) (F.faults shelf.new)) second.now most_response_bytes response_too_long)) }
-    ensures fault { F.faults shelf.old < F.faults shelf.new → IsErrAnd result (λ stop. StopsUnread stop) }
-    ensures later { F.faults shelf.old ≤ F.faults shelf.new }
-    ensures files { F.files shelf.new ≡ F.files shelf.old }
-    ensures begun { BeginsOnly (F.files shelf.old) (F.begun shelf.old) (F.begun shelf.new) second.now }
-{
-    let too_long = Answer::SecondRefused(refusal(trace::TOO_LONG));
-    let text = read_file(alloc, shelf, second, MOST_BYTES, too_long)?;
-    text_answer(alloc, script, system, &text)
+// The verdict on the response that a text states, for a script and its system.
+#[derive(Drop)]
+struct ResponseFile<'a, 's> {
+    script: &'a Script,
+    system: &'a FlatSystem<'s>,
+}
+
+impl<'a, 's> LastFile for ResponseFile<'a, 's> {
+    ghost most = { most_response_bytes };
+
+    ghost longer = { response_too_long };
+
+    ghost defines = { λ file. OfText (plain_script file.script.now) };
+
+    ghost fits = { λ file. file.system.now ≡ flat_of (plain_script file.script.now) };
+
+    fn limit(&self) -> usize {
+        MOST_BYTES
+    }
+
+    fn too_long(&self) -> Answer {
+        Answer::SecondRefused(refusal(trace::TOO_LONG))
+    }
+
+    fn answer(&self, alloc: Global, bytes: &[u8]) -> Result<Answer, Stop> {
+        response_answer(alloc, self.script, self.system, bytes)
+    }
+
+    ghost longer_says = { tt };
+
+    ghost says = { λ file text a h. verdict_says (plain_script file.script.now) text a h };
 }
 
 // The verdict on the trace that a response states, or the response's refusal. The system is the script's.
-fn text_answer(
+fn response_answer(
     alloc: Global,
     script: &Script,
     system: &FlatSystem<'_>,

@@ -1,31 +1,37 @@
 // The response to a MoXI script for which a witness of its BTOR2 text stands.
-ghost use Rattle.std.specs.Prelude.{◌≡◌, ◌<◌, ◌≤◌, [], ◌∷◌, length, IfOk, IfErr, IsErrAnd};
-ghost use Rattle.text_core.specs.Outside.{BeginsOnly, Rose};
+ghost use Rattle.std.specs.Prelude.{◌≡◌, [], ◌∷◌, IfOk, IfErr, IsErrAnd};
+ghost use Rattle.text_core.specs.Outside.{Rose};
 ghost use Rattle.btor_witness.specs.Printing.{IsWitness};
 ghost use Rattle.btor_witness.specs.Sizes.{sizes_of};
 ghost use Rattle.moxi_scripts.specs.ScriptView.{plain_script};
 ghost use Rattle.moxi_flat.specs.FlatSystem.{flat_of};
 ghost use Rattle.moxi_lines.specs.Lines.{lines_of};
 ghost use Rattle.command_core.specs.declared.answer.Stop.TheVariants as Stop;
-ghost use Rattle.command_core.specs.Giving.{BeginsAmong, MayGive};
+ghost use Rattle.command_core.specs.Giving.{MayGive};
+ghost use Rattle.command_core.specs.Keeping.{KeepsShelf};
 ghost use Rattle.command_core.specs.Reading.{StopsUnread, StopsWith};
+ghost use Rattle.btor_commands.specs.Judgement.{witness_too_long};
+ghost use Rattle.btor_commands.specs.Lifting.{IsLift, OfLines, OfText};
+ghost use Rattle.btor_commands.specs.Limits.{most_witness_bytes};
+ghost use Rattle.btor_commands.specs.laws.Lifts.{says as lift_says};
 ghost use Rattle.moxi_commands.specs.Limits.{most_script_bytes};
-ghost use Rattle.btor_commands.specs.Lifting.{IsLift, IsOfSecond};
-ghost use Rattle.moxi_commands.specs.MoxiLift.{IsMoxiLift, IsOfBytes, IsOfScript, TracesAreLifted, lifted_response};
+ghost use Rattle.moxi_commands.specs.Scripts.{script_too_long};
+ghost use Rattle.moxi_commands.specs.Translation.{btor_text};
+ghost use Rattle.moxi_commands.specs.MoxiLift.{IsMoxiLift, OfBytes, OfChecks, TracesAreLifted, lifted_response};
 
 use crate::scripts::{SCRIPT_LIMIT, script_of};
 use crate::translate::script_lines_are_laid_out;
-use btor_commands::witness_of;
+use btor_commands::{lines_are_spelled, witness_in};
 use btor_tree::{one_reading, printed_spells};
-use btor_witness::Witness;
-use command_core::{Answer, Output, Stop, read_file, refusal};
+use btor_witness::{MOST_BYTES, Witness};
+use command_core::{Answer, FirstFile, LastFile, Output, Stop, answer_file, answer_files, refusal};
 use moxi_flat::traces_have_flat_traces;
 use moxi_lift::{LiftEnd, MoxiChain, lift_moxi, lifts_meet_queries};
 use moxi_responses::print_response;
 use moxi_scripts::{Script, spelled_scripts_are_whole};
 use std::alloc::Global;
 use std::mem::drop;
-use text_core::kinds::moxi;
+use text_core::kinds::{moxi, witness};
 use text_core::{End, Name, Shelf};
 
 /// Reads a MoXI script and a witness of its BTOR2 text, and makes the response of the trace for which the witness stands.
@@ -37,59 +43,62 @@ pub fn lift_moxi_files<F: Shelf>(
 ) -> Result<Answer, Stop>
     ensures answer { IfOk result (MayGive (F.files shelf.old) (model.now ∷ second.now ∷ []) (λ files. IsMoxiLift files model.now second.now) (Rose (F.faults shelf.old) (F.faults shelf.new))) }
     ensures stop { IfErr result (StopsWith (MayGive (F.files shelf.old) (model.now ∷ second.now ∷ []) (λ files. IsMoxiLift files model.now second.now) (Rose (F.faults shelf.old) (F.faults shelf.new)))) }
-    ensures fault { F.faults shelf.old < F.faults shelf.new → IsErrAnd result (λ stop. StopsUnread stop) }
-    ensures later { F.faults shelf.old ≤ F.faults shelf.new }
-    ensures files { F.files shelf.new ≡ F.files shelf.old }
-    ensures begun { BeginsAmong (F.files shelf.old) (F.begun shelf.old) (F.begun shelf.new) (model.now ∷ second.now ∷ []) }
+    ensures shelf { KeepsShelf (F.files shelf.old) (F.files shelf.new) (F.faults shelf.old) (F.faults shelf.new) (F.begun shelf.old) (F.begun shelf.new) (model.now ∷ second.now ∷ []) (IsErrAnd result StopsUnread) }
 {
-    let too_long = Answer::Refused(refusal(moxi::TOO_LONG));
-    let bytes = read_file(alloc, shelf, model, SCRIPT_LIMIT, too_long)?;
-    let text = bytes.as_slice();
-    let answer = bytes_answer(alloc, text, second, shelf)?;
-    Ok(answer)
+    answer_files(alloc, model, second, &LiftMoxi, shelf)
 }
 
-// The response for the witness in the second file, to the script that the bytes spell, or the bytes' refusal.
-#[tactic(auto, using(crate::proofs::Moxi::of_bytes, crate::proofs::Moxi::stops_so))]
-fn bytes_answer<F: Shelf>(
-    alloc: Global,
-    bytes: &[u8],
-    second: &Name,
-    shelf: &mut F,
-) -> Result<Answer, Stop>
-    requires { length bytes.now ≤ most_script_bytes }
-    ensures answer { IfOk result (IsOfBytes (F.files shelf.old) (Rose (F.faults shelf.old) (F.faults shelf.new)) second.now bytes.now) }
-    ensures stop { IfErr result (StopsWith (IsOfBytes (F.files shelf.old) (Rose (F.faults shelf.old) (F.faults shelf.new)) second.now bytes.now)) }
-    ensures fault { F.faults shelf.old < F.faults shelf.new → IsErrAnd result (λ stop. StopsUnread stop) }
-    ensures later { F.faults shelf.old ≤ F.faults shelf.new }
-    ensures files { F.files shelf.new ≡ F.files shelf.old }
-    ensures begun { BeginsOnly (F.files shelf.old) (F.begun shelf.old) (F.begun shelf.new) second.now }
-{
-    match script_of(alloc, bytes) {
-        Ok(script) => {
-            let answer = script_answer(alloc, &script, second, shelf);
-            drop(script);
-            answer
-        }
-        Err(End::Bad(refusal)) => Ok(Answer::Refused(refusal)),
-        Err(End::NoMemory) => Err(Stop::NoMemory),
+// The response for a witness of the script that a text spells.
+struct LiftMoxi;
+
+impl FirstFile for LiftMoxi {
+    ghost most = { most_script_bytes };
+
+    ghost longer = { script_too_long };
+
+    ghost defines = { λ _ files second. OfBytes files second };
+
+    fn limit(&self) -> usize {
+        SCRIPT_LIMIT
     }
+
+    fn too_long(&self) -> Answer {
+        Answer::Refused(refusal(moxi::TOO_LONG))
+    }
+
+    #[tactic(auto, using(crate::proofs::Moxi::bytes_ok, crate::proofs::Moxi::bytes_stop, command_core::specs::laws::Given::of_each))]
+    fn answer<F: Shelf>(
+        &self,
+        alloc: Global,
+        bytes: &[u8],
+        second: &Name,
+        shelf: &mut F,
+    ) -> Result<Answer, Stop> {
+        match script_of(alloc, bytes) {
+            Ok(script) => {
+                let answer = script_answer(alloc, &script, second, shelf);
+                drop(script);
+                answer
+            }
+            Err(End::Bad(refusal)) => Ok(Answer::Refused(refusal)),
+            Err(End::NoMemory) => Err(Stop::NoMemory),
+        }
+    }
+
+    ghost longer_says = { tt };
 }
 
-// The response for the witness in the second file, to the script, or the refusal of the system that the script's check instantiates.
-#[tactic(auto, using(crate::proofs::Moxi::of_script, crate::proofs::Moxi::of_stop))]
+// The response for the witness in the second file, or the refusal of the system that the script's check instantiates.
+#[tactic(auto, using(crate::proofs::Moxi::checks_ok, crate::proofs::Moxi::checks_stop, command_core::specs::laws::Given::of_each))]
 fn script_answer<F: Shelf>(
     alloc: Global,
     script: &Script,
     second: &Name,
     shelf: &mut F,
 ) -> Result<Answer, Stop>
-    ensures answer { IfOk result (IsOfScript (F.files shelf.old) (Rose (F.faults shelf.old) (F.faults shelf.new)) second.now (plain_script script.now)) }
-    ensures stop { IfErr result (StopsWith (IsOfScript (F.files shelf.old) (Rose (F.faults shelf.old) (F.faults shelf.new)) second.now (plain_script script.now))) }
-    ensures fault { F.faults shelf.old < F.faults shelf.new → IsErrAnd result (λ stop. StopsUnread stop) }
-    ensures later { F.faults shelf.old ≤ F.faults shelf.new }
-    ensures files { F.files shelf.new ≡ F.files shelf.old }
-    ensures begun { BeginsOnly (F.files shelf.old) (F.begun shelf.old) (F.begun shelf.new) second.now }
+    ensures answer { IfOk result (MayGive (F.files shelf.old) (second.now ∷ []) (λ files. OfChecks files second.now (plain_script script.now)) (Rose (F.faults shelf.old) (F.faults shelf.new))) }
+    ensures stop { IfErr result (StopsWith (MayGive (F.files shelf.old) (second.now ∷ []) (λ files. OfChecks files second.now (plain_script script.now)) (Rose (F.faults shelf.old) (F.faults shelf.new)))) }
+    ensures shelf { KeepsShelf (F.files shelf.old) (F.files shelf.new) (F.faults shelf.old) (F.faults shelf.new) (F.begun shelf.old) (F.begun shelf.new) (second.now ∷ []) (IsErrAnd result StopsUnread) }
 {
     match MoxiChain::of(alloc, script) {
         Ok(chain) => chain_answer(alloc, script, &chain, second, shelf),
@@ -99,7 +108,7 @@ fn script_answer<F: Shelf>(
 }
 
 // The response for the witness in the second file. The chain is the script's.
-#[tactic(auto, using(btor_commands::proofs::Seconds::lifted, btor_commands::proofs::Seconds::stopped, btor_commands::proofs::Seconds::no_answer))]
+#[tactic(auto, using(crate::proofs::Moxi::lines_ok, crate::proofs::Moxi::lines_stop))]
 fn chain_answer<F: Shelf>(
     alloc: Global,
     script: &Script,
@@ -108,20 +117,50 @@ fn chain_answer<F: Shelf>(
     shelf: &mut F,
 ) -> Result<Answer, Stop>
     requires chain { chain.now ≡ flat_of (plain_script script.now) }
-    ensures answer { IfOk result (IsOfSecond (F.files shelf.old) (Rose (F.faults shelf.old) (F.faults shelf.new)) second.now (lines_of chain.now) (lifted_response (plain_script script.now))) }
-    ensures stop { IfErr result (StopsWith (IsOfSecond (F.files shelf.old) (Rose (F.faults shelf.old) (F.faults shelf.new)) second.now (lines_of chain.now) (lifted_response (plain_script script.now)))) }
-    ensures fault { F.faults shelf.old < F.faults shelf.new → IsErrAnd result (λ stop. StopsUnread stop) }
-    ensures later { F.faults shelf.old ≤ F.faults shelf.new }
-    ensures files { F.files shelf.new ≡ F.files shelf.old }
-    ensures begun { BeginsOnly (F.files shelf.old) (F.begun shelf.old) (F.begun shelf.new) second.now }
+    ensures answer { IfOk result (MayGive (F.files shelf.old) (second.now ∷ []) (λ files. OfLines files second.now (btor_text (plain_script script.now)) (lifted_response (plain_script script.now))) (Rose (F.faults shelf.old) (F.faults shelf.new))) }
+    ensures stop { IfErr result (StopsWith (MayGive (F.files shelf.old) (second.now ∷ []) (λ files. OfLines files second.now (btor_text (plain_script script.now)) (lifted_response (plain_script script.now))) (Rose (F.faults shelf.old) (F.faults shelf.new)))) }
+    ensures shelf { KeepsShelf (F.files shelf.old) (F.files shelf.new) (F.faults shelf.old) (F.faults shelf.new) (F.begun shelf.old) (F.begun shelf.new) (second.now ∷ []) (IsErrAnd result StopsUnread) }
 {
-    let nodes = chain.nodes();
-    let witness = witness_of(alloc, nodes, second, shelf)?;
-    lifted_answer(alloc, script, chain, &witness)
+    lines_are_spelled(chain.nodes());
+    answer_file(alloc, second, &WitnessFile { script, chain }, shelf)
+}
+
+// The response for the witness that a text spells, of a script and its chain.
+#[derive(Drop)]
+struct WitnessFile<'a, 's> {
+    script: &'a Script,
+    chain: &'a MoxiChain<'s>,
+}
+
+impl<'a, 's> LastFile for WitnessFile<'a, 's> {
+    ghost most = { most_witness_bytes };
+
+    ghost longer = { witness_too_long };
+
+    ghost defines = { λ file. OfText (lines_of file.chain.now) (lifted_response (plain_script file.script.now)) };
+
+    ghost fits = { λ file. file.chain.now ≡ flat_of (plain_script file.script.now) };
+
+    fn limit(&self) -> usize {
+        MOST_BYTES
+    }
+
+    fn too_long(&self) -> Answer {
+        Answer::SecondRefused(refusal(witness::TOO_LONG))
+    }
+
+    fn answer(&self, alloc: Global, bytes: &[u8]) -> Result<Answer, Stop> {
+        let witness = witness_in(alloc, self.chain.nodes(), bytes)?;
+        lifted_answer(alloc, self.script, self.chain, &witness)
+    }
+
+    ghost longer_says = { tt };
+
+    ghost says = { λ file text a h. lift_says (lines_of file.chain.now) (lifted_response (plain_script file.script.now)) text a h };
 }
 
 // The response of the trace for which a witness stands, or what the judge says against it. The chain is the script's.
-#[tactic(auto, using(btor_commands::proofs::Seconds::denied))]
+#[tactic(auto, using(btor_commands::specs::laws::Lifts::denied))]
 fn lifted_answer(
     alloc: Global,
     script: &Script,

@@ -1,22 +1,23 @@
 // The BTOR2 text of a script.
-ghost use Rattle.std.specs.Prelude.{◌≡◌, ◌<◌, ◌≤◌, [], ◌∷◌, None, List, ℕ, length, IfOk, IfErr, IsErrAnd};
+ghost use Rattle.std.specs.Prelude.{◌≡◌, ◌≤◌, [], ◌∷◌, None, length, IfOk, IfErr, IsErrAnd};
 ghost use Rattle.text_core.specs.Outside.{Rose};
 ghost use Rattle.btor_tree.specs.Printing.{printed};
-ghost use Rattle.moxi_scripts.specs.Script.{PlainScript};
 ghost use Rattle.moxi_scripts.specs.ScriptView.{plain_script};
 ghost use Rattle.moxi_flat.specs.Limits.{flat_refusal};
 ghost use Rattle.moxi_instantiate.specs.Instances.{IsInstEnd};
 ghost use Rattle.moxi_lines.specs.Lines.{lines_of};
-ghost use Rattle.command_core.specs.declared.answer.Stop.TheVariants as Stop;
-ghost use Rattle.command_core.specs.Giving.{BeginsAmong, MayGive};
+ghost use Rattle.command_core.specs.Giving.{MayGive};
+ghost use Rattle.command_core.specs.Keeping.{KeepsShelf};
 ghost use Rattle.command_core.specs.Reading.{StopsUnread, StopsWith};
+ghost use Rattle.command_core.specs.laws.Texts.{text_says};
 ghost use Rattle.moxi_commands.specs.Limits.{most_script_bytes};
-ghost use Rattle.moxi_commands.specs.Translation.{IsBtorText, IsInstantiated, IsLinesEnd, LinesStand, OfBytes, ScriptLinesAreLaidOut, btor_text};
+ghost use Rattle.moxi_commands.specs.Scripts.{IsSystemRefusal, script_too_long};
+ghost use Rattle.moxi_commands.specs.Translation.{IsBtorText, IsLinesEnd, IsLinesText, LinesStand, OfBytes, ScriptLinesAreLaidOut, btor_text};
 
 use crate::scripts::{SCRIPT_LIMIT, script_of};
 use btor_text::print_btor;
 use btor_tree::{one_reading, printed_spells};
-use command_core::{Answer, Output, Stop, read_file, refusal};
+use command_core::{Answer, LastFile, Stop, answer_file, refusal, text_answer};
 use moxi_flat::{flat_systems_are_sorted, traces_have_flat_traces};
 use moxi_instantiate::{FlatSystem, instantiate};
 use moxi_layout::{
@@ -34,34 +35,46 @@ use text_core::{End, Name, NoMemory, Shelf, Text};
 pub fn moxi_to_btor<F: Shelf>(alloc: Global, model: &Name, shelf: &mut F) -> Result<Answer, Stop>
     ensures answer { IfOk result (MayGive (F.files shelf.old) (model.now ∷ []) (λ files. IsBtorText files model.now) (Rose (F.faults shelf.old) (F.faults shelf.new))) }
     ensures stop { IfErr result (StopsWith (MayGive (F.files shelf.old) (model.now ∷ []) (λ files. IsBtorText files model.now) (Rose (F.faults shelf.old) (F.faults shelf.new)))) }
-    ensures fault { F.faults shelf.old < F.faults shelf.new → IsErrAnd result (λ stop. StopsUnread stop) }
-    ensures later { F.faults shelf.old ≤ F.faults shelf.new }
-    ensures files { F.files shelf.new ≡ F.files shelf.old }
-    ensures begun { BeginsAmong (F.files shelf.old) (F.begun shelf.old) (F.begun shelf.new) (model.now ∷ []) }
+    ensures shelf { KeepsShelf (F.files shelf.old) (F.files shelf.new) (F.faults shelf.old) (F.faults shelf.new) (F.begun shelf.old) (F.begun shelf.new) (model.now ∷ []) (IsErrAnd result StopsUnread) }
 {
-    let too_long = Answer::Refused(refusal(moxi::TOO_LONG));
-    let bytes = read_file(alloc, shelf, model, SCRIPT_LIMIT, too_long)?;
-    lines_answer(alloc, &bytes)
+    answer_file(alloc, model, &MoxiToBtor, shelf)
 }
 
-// The BTOR2 text of the script that the bytes spell, or their refusal.
-fn lines_answer(alloc: Global, bytes: &[u8]) -> Result<Answer, Stop>
-    requires { length bytes.now ≤ most_script_bytes }
-    ensures answer { IfOk result (OfBytes bytes.now) }
-    ensures stop { IfErr result (λ stop. stop ≡ Stop.NoMemory) }
-{
-    match lines_text(alloc, bytes) {
-        Ok(text) => Ok(Answer::Done(Output::Text(text))),
-        Err(End::Bad(refusal)) => Ok(Answer::Refused(refusal)),
-        Err(End::NoMemory) => Err(Stop::NoMemory),
+// The BTOR2 text of the script that a text spells.
+struct MoxiToBtor;
+
+impl LastFile for MoxiToBtor {
+    ghost most = { most_script_bytes };
+
+    ghost longer = { script_too_long };
+
+    ghost defines = { λ _. OfBytes };
+
+    ghost fits = { λ _. Unit {0} };
+
+    fn limit(&self) -> usize {
+        SCRIPT_LIMIT
     }
+
+    fn too_long(&self) -> Answer {
+        Answer::Refused(refusal(moxi::TOO_LONG))
+    }
+
+    #[tactic(auto, using(command_core::specs::laws::Texts::text_ok, command_core::specs::laws::Texts::text_stop))]
+    fn answer(&self, alloc: Global, bytes: &[u8]) -> Result<Answer, Stop> {
+        text_answer(lines_text(alloc, bytes))
+    }
+
+    ghost longer_says = { tt };
+
+    ghost says = { λ _ bytes a h. text_says (IsLinesText bytes) (IsSystemRefusal bytes) a h };
 }
 
 // The BTOR2 text of the script that the bytes spell, or why there is none.
 #[tactic(auto, using(crate::proofs::Translated::of_script, crate::proofs::Translated::no_script, crate::proofs::Translated::no_text))]
 fn lines_text(alloc: Global, bytes: &[u8]) -> Result<Text, End>
     requires { length bytes.now ≤ most_script_bytes }
-    ensures text { IfOk result (λ text. (script : PlainScript) × IsInstantiated bytes.now script × (text ≡ btor_text script)) }
+    ensures text { IfOk result (IsLinesText bytes.now) }
     ensures refused { IfErr result (IsLinesEnd bytes.now) }
 {
     match script_of(alloc, bytes) {

@@ -1,0 +1,2 @@
+-- Laws that implementations cite.
+pub mod Verdicts
