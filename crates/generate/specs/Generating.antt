@@ -1,6 +1,6 @@
 -- What is answered for the made model of n cells and the made witness: what is answered to a lift of this witness for this model, with a
 -- summary in place of the trace.
-use Rattle.std.specs.Prelude.{◌≡◌, ◌⊎◌, ◌-◌, ℕ, List, [], ◌∷◌, ◌++◌, length, map, Some, codes, decimal}
+use Rattle.std.specs.Prelude.{◌≡◌, ◌⊎◌, ◌-◌, ℕ, List, [], ◌∷◌, ◌++◌, length, map, codes, decimal}
 use Rattle.text_core.specs.declared.end.End.TheVariants.{Bad}
 use Rattle.text_core.specs.declared.place.Refusal.{Refusal}
 use Rattle.text_core.specs.declared.verdict.Verdict.{Verdict}
@@ -13,15 +13,16 @@ use Rattle.btor_witness.specs.Texts.{SpellsWitness}
 use Rattle.smv_text.specs.Tree.{PlainSource}
 use Rattle.smv_meaning.specs.declared.value.Run.{Run}
 use Rattle.smv_meaning.specs.Instances.{weight_of}
-use Rattle.smv_meaning.specs.Phases.{IsAccepted, first_refusal}
 use Rattle.smv_meaning.specs.Runs.{judged_smv}
 use Rattle.smv_meaning.specs.Values.{given}
 use Rattle.smv_script_laws.specs.RunLaws.{decoded_run}
+use Rattle.smv_flatten.specs.FlatModel.{FlatModel}
+use Rattle.witness_lift.specs.Breaking.{IsFormOf}
 use Rattle.witness_lift.specs.LineLaws.{model_lines, model_system}
 use Rattle.moxi_lift.specs.Laws.{trace_of}
 use Rattle.moxi_lift.specs.Lifted.{lifted}
 use Rattle.command_core.specs.declared.answer.Answer.{Answer}
-use Rattle.command_core.specs.declared.answer.Answer.TheVariants.{Refused, SecondRefused, No, Done}
+use Rattle.command_core.specs.declared.answer.Answer.TheVariants.{SecondRefused, No, Done}
 use Rattle.command_core.specs.declared.answer.Output.TheVariants.{Text}
 use Rattle.smv_commands.specs.Models.{IsAcceptedModel, IsRefusal}
 use Rattle.generate.specs.Made.{lines_text, made_model, made_witness}
@@ -76,12 +77,17 @@ IsWitnessRefusal lines text answer = (refusal : Refusal) × IsRefused lines text
 abbrev pub OfLines : ℕ → List ℕ → PlainSource → List Line → Answer → Type 0
 OfLines n second source lines answer = ((w : Witness) × SpellsWitness lines second w × OfWitness n source lines w answer) ⊎ IsWitnessRefusal lines second answer
 
--- ---- the answer, of texts
+-- ---- the answer, for a flat form
 
--- what is answered to a witness's text where the model's checks hold, or the first check that fails
-abbrev pub OfChecks : ℕ → List ℕ → PlainSource → Answer → Type 0
-OfChecks n second source answer =
-    (IsAccepted source 0 × OfLines n second source (model_lines source) answer) ⊎ ((refusal : Refusal) × (first_refusal source 0 ≡ Some refusal) × (answer ≡ Refused refusal))
+-- something of each model that has this flat form and this weight
+abbrev pub OfModels : FlatModel → (PlainSource → Type 0) → Type 0
+OfModels f P = (source : PlainSource) → IsFormOf source f → f.weight ≡ weight_of source → P source
+
+-- some model has this flat form
+abbrev pub HasForm : FlatModel → Type 0
+HasForm f = (source : PlainSource) × IsFormOf source f
+
+-- ---- the answer, of texts
 
 -- what is answered to a model's text and a witness's text
 abbrev pub OfTexts : ℕ → List ℕ → List ℕ → Answer → Type 0

@@ -6,13 +6,11 @@ ghost use Rattle.btor_witness.specs.Judging.{judged_btor};
 ghost use Rattle.btor_witness.specs.Printing.{IsWitness};
 ghost use Rattle.btor_witness.specs.Sizes.{most_frames, sizes_of};
 ghost use Rattle.btor_witness.specs.Texts.{SpellsWitness};
-ghost use Rattle.smv_text.specs.View.{plain_source};
-ghost use Rattle.smv_meaning.specs.Instances.{weight_of};
-ghost use Rattle.witness_lift.specs.Breaking.{BreaksLast, IsFormOf};
+ghost use Rattle.witness_lift.specs.Breaking.{BreaksLast};
 ghost use Rattle.witness_lift.specs.Lifting.{lifted_run, lines_in};
 ghost use Rattle.generate.specs.Made.{made_witness};
 ghost use Rattle.command_core.specs.declared.answer.Stop.TheVariants as Stop;
-ghost use Rattle.generate.specs.Generating.{IsSummary, OfLines, OfWitness};
+ghost use Rattle.generate.specs.Generating.{HasForm, IsSummary, OfLines, OfModels, OfWitness};
 
 use crate::judged::says_yes;
 use crate::laws::inputs_are_variables;
@@ -22,13 +20,12 @@ use btor_witness::{Witness, read_witness};
 use command_core::{Answer, Output, Stop};
 use smv_laws::yes_is_run;
 use smv_meaning::Run;
-use smv_text::Source;
 use std::alloc::Global;
 use text_core::{End, NoMemory, Text};
 use witness_lift::{LiftEnd, SmvChain, lift_smv};
 
 // The made witness of n cells, read for the chain's lines. Its text is gone when it is there.
-fn witness_of(alloc: Global, n: u32, chain: &SmvChain<'_>) -> Result<Witness, End>
+fn witness_of(alloc: Global, n: u32, chain: &SmvChain) -> Result<Witness, End>
     requires some { 1 ≤ n }
     requires most { n ≤ 1000 }
     ensures spelled { IfOk result (SpellsWitness (lines_in chain.now) (made_witness n)) }
@@ -44,22 +41,20 @@ fn witness_of(alloc: Global, n: u32, chain: &SmvChain<'_>) -> Result<Witness, En
 fn summary_text(
     alloc: Global,
     n: u32,
-    source: &Source,
-    chain: &SmvChain<'_>,
+    chain: &SmvChain,
     witness: &Witness,
     run: &Run,
 ) -> Result<Text, NoMemory>
-    requires form { IsFormOf (plain_source source.now) chain.now }
-    requires weight { chain.now.weight ≡ weight_of (plain_source source.now) }
+    requires form { HasForm chain.now }
     requires few { length witness.now.frames ≤ most_frames }
     requires accepted { judged_btor (lines_in chain.now) witness.now Yes }
     requires run { run.now ≡ lifted_run chain.now witness.now }
     requires breaks { BreaksLast chain.now witness.now run.now }
-    ensures { IfOk result (IsSummary n (plain_source source.now) (lines_in chain.now) witness.now) }
+    ensures { IfOk result (λ text. OfModels chain.now (λ source. IsSummary n source (lines_in chain.now) witness.now text)) }
 {
     inputs_are_variables();
     yes_is_run();
-    if says_yes(alloc, source, witness.bad, run)? {
+    if says_yes(alloc, chain.flat(), witness.bad, run)? {
         let weight = chain.flat().weight();
         summary_of(alloc, n, chain.nodes(), weight, witness.frames.len())
     } else {
@@ -68,23 +63,22 @@ fn summary_text(
 }
 
 // What is answered to a witness of the chain's lines.
+#[tactic(auto, using(crate::proofs::Answering::denied))]
 fn witness_answer(
     alloc: Global,
     n: u32,
-    source: &Source,
-    chain: &SmvChain<'_>,
+    chain: &SmvChain,
     witness: &Witness,
 ) -> Result<Answer, Stop>
-    requires form { IsFormOf (plain_source source.now) chain.now }
-    requires weight { chain.now.weight ≡ weight_of (plain_source source.now) }
+    requires form { HasForm chain.now }
     requires fits { IsWitness (sizes_of (lines_in chain.now)) witness.now }
     requires few { length witness.now.frames ≤ most_frames }
-    ensures answer { IfOk result (OfWitness n (plain_source source.now) (lines_in chain.now) witness.now) }
+    ensures answer { IfOk result (λ a. OfModels chain.now (λ source. OfWitness n source (lines_in chain.now) witness.now a)) }
     ensures stop { IfErr result (λ stop. stop ≡ Stop.NoMemory) }
 {
     match lift_smv(alloc, chain, witness) {
         Ok(run) => {
-            let text = summary_text(alloc, n, source, chain, witness, &run)?;
+            let text = summary_text(alloc, n, chain, witness, &run)?;
             Ok(Answer::Done(Output::Text(text)))
         }
         Err(LiftEnd::No(step, clause)) => Ok(Answer::No(step, clause)),
@@ -92,22 +86,17 @@ fn witness_answer(
     }
 }
 
-/// What is answered to the made witness of n cells, for a model and its chain.
-pub(crate) fn chain_answer(
-    alloc: Global,
-    n: u32,
-    source: &Source,
-    chain: &SmvChain<'_>,
-) -> Result<Answer, Stop>
+/// What is answered to the made witness of n cells, for a model's chain.
+#[tactic(auto, using(crate::proofs::Answering::of_witness, crate::proofs::Answering::refused))]
+pub(crate) fn chain_answer(alloc: Global, n: u32, chain: &SmvChain) -> Result<Answer, Stop>
     requires some { 1 ≤ n }
     requires most { n ≤ 1000 }
-    requires form { IsFormOf (plain_source source.now) chain.now }
-    requires weight { chain.now.weight ≡ weight_of (plain_source source.now) }
-    ensures answer { IfOk result (OfLines n (made_witness n) (plain_source source.now) (lines_in chain.now)) }
+    requires form { HasForm chain.now }
+    ensures answer { IfOk result (λ a. OfModels chain.now (λ source. OfLines n (made_witness n) source (lines_in chain.now) a)) }
     ensures stop { IfErr result (λ stop. stop ≡ Stop.NoMemory) }
 {
     match witness_of(alloc, n, chain) {
-        Ok(witness) => witness_answer(alloc, n, source, chain, &witness),
+        Ok(witness) => witness_answer(alloc, n, chain, &witness),
         Err(End::Bad(refusal)) => Ok(Answer::SecondRefused(refusal)),
         Err(End::NoMemory) => Err(Stop::NoMemory),
     }

@@ -1,36 +1,28 @@
--- What may be given of a model's bytes, and what was written of them stands for the model.
-use Rattle.std.proofs.Common.{◌≡◌, ◌≤◌, ℕ, List, [], ◌∷◌, Option, Some, Result, Ok, Err, refl, sym, subst, length}
-use Rattle.std.specs.Prelude.{IfOk}
-use Rattle.text_core.specs.Outside.{Files, IsFile, file_at, grown}
+-- A script that was written of a model's bytes stands for the model.
+use Rattle.std.proofs.Common.{◌≡◌, ℕ, List, Option, Some, refl, sym, ◌∙◌, subst}
+use Rattle.text_core.specs.Outside.{Files, file_at, grown}
 use Rattle.command_core.specs.declared.answer.Answer.{Answer}
-use Rattle.command_core.specs.declared.answer.Answer.TheVariants.{Refused, Done}
-use Rattle.command_core.specs.declared.answer.Output.TheVariants.{Text}
 use Rattle.command_core.specs.declared.status.Status.TheVariants as status
 use Rattle.command_core.specs.Answers.{status_of, text_of}
-use Rattle.command_core.specs.Giving.{MayGive}
-use Rattle.command_core.specs.Reading.{SaysRead}
-use Rattle.command_core.specs.laws.Files.{done_from, gives, whatever_told}
+use Rattle.command_core.specs.laws.Files.{done_from}
+use Rattle.command_core.specs.laws.Texts.{done_text}
+use Rattle.smv_flatten.specs.FlatModel.{FlatModel, flat_plain}
+use Rattle.smv_script.specs.Script.{script_of}
+use Rattle.moxi_term_print.specs.Shown.{lines_text}
+use Rattle.moxi_script_print.specs.Printing.{shown_script}
 use Rattle.smv_commands.specs.Limits.{most_smv_bytes}
-use Rattle.smv_commands.specs.Models.{smv_too_long}
-use Rattle.smv_commands.specs.Scripts.{IsScript, IsServed, OfBytes, ScriptsStand, WritesScript}
-
-says : (bytes : List ℕ) (a : Answer) → OfBytes bytes a → SaysRead a
-says bytes (Refused refusal) h = tt
-says bytes (Done (Text text)) h = tt
-says bytes a h = absurd h
-
--- what follows from a model's bytes may be given
-pub written : {E : Type 0} (files : Option Files) (rose : Type 0) (model bytes : List ℕ) (result : Result Answer E) → IsFile files model bytes → length bytes ≤ most_smv_bytes
-    → IfOk result (OfBytes bytes) → IfOk result (MayGive files (model ∷ []) (λ fs. IsScript fs model) rose)
-written files rose model bytes (Ok a) there within h =
-    gives files (model ∷ []) rose model bytes most_smv_bytes smv_too_long (λ fs. OfBytes) there within a (says bytes a h) (whatever_told files h)
-written files rose model bytes (Err e) there within h = tt
+use Rattle.smv_commands.specs.Models.{IsCheckRefusal, IsFormIn, smv_too_long}
+use Rattle.smv_commands.specs.Scripts.{IsScript, IsScriptText, IsServed, OfBytes, ScriptsStand, WritesScript}
+use Rattle.smv_commands.proofs.ScriptStands.{made_text}
 
 served_bytes : (stands : ScriptsStand) (fs : Files) (model bytes : List ℕ) (b : Answer) (before now : Option (List ℕ)) → file_at fs model ≡ Some bytes → OfBytes bytes b → status_of b ≡ status.Done → now ≡ grown before (text_of b) → IsServed fs model before now
-served_bytes stands fs model bytes (Done (Text text)) before now there h s w =
-    record { bytes = bytes; there = there; source = h.0; accepted = h.1; text = text; written = w; script = subst (WritesScript h.0) (sym h.2) (stands bytes h.0 h.1) }
-served_bytes stands fs model bytes (Refused r) before now there h s w = absurd (cc)
-served_bytes stands fs model bytes b before now there h s w = absurd h
+served_bytes stands fs model bytes b before now there h s w =
+    let t = done_text (IsScriptText bytes) (IsCheckRefusal bytes 0) b h s in
+    record { bytes = bytes; there = there; source = t.0; accepted = t.1; text = text_of b; written = w; script = subst (WritesScript t.0) (sym t.2) (stands bytes t.0 t.1) }
+
+-- the text of a flat form's script is that of the model that the bytes spell
+pub made_of_bytes : (bytes : List ℕ) (f : FlatModel) (text : List ℕ) → IsFormIn bytes 0 f → text ≡ lines_text (shown_script (script_of (flat_plain f) f.width)) → IsScriptText bytes text
+made_of_bytes bytes f text form h = (form.source, form.accepted, h ∙ made_text form.source (flat_plain f) f.width form.form.form form.form.width)
 
 -- a script that was written whole stands for its model
 pub served : (stands : ScriptsStand) (fs : Files) (model : List ℕ) (b : Answer) (before now : Option (List ℕ)) → IsScript fs model b → status_of b ≡ status.Done → now ≡ grown before (text_of b) → IsServed fs model before now

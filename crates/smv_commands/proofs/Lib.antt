@@ -1,10 +1,12 @@
 pub mod Sources
 pub mod Checked
+pub mod Forms
 pub mod Given
-pub mod JudgedSmv
 pub mod ScriptStands
 pub mod LinesGiven
 pub mod Texts
 pub mod Inputs
+pub mod TraceAnswers
 pub mod Smv
 pub mod LiftedRuns
+pub mod LoweredRuns

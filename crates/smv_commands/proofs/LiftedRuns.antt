@@ -37,7 +37,7 @@ again [] h = absurd (h refl)
 again (x ∷ xs) h = omega arith
 
 -- the text's lines are the model's
-own_lines : (source : PlainSource) → SpellsOnly (printed (model_lines source)) (model_lines source) → (lines : List Line) → SpellsLines (btor_text source) lines → lines ≡ model_lines source
+pub own_lines : (source : PlainSource) → SpellsOnly (printed (model_lines source)) (model_lines source) → (lines : List Line) → SpellsLines (btor_text source) lines → lines ≡ model_lines source
 unfolding btor_text
 own_lines source only lines spelled = only.one lines spelled
 

@@ -16,29 +16,24 @@ use Rattle.moxi_scripts.specs.Behaviour.{Trace}
 use Rattle.moxi_scripts.specs.Meeting.{MeetsQuery}
 use Rattle.moxi_script_print.specs.Again.{with_place}
 use Rattle.command_core.specs.declared.answer.Answer.{Answer}
-use Rattle.command_core.specs.declared.answer.Answer.TheVariants.{Refused, Done}
-use Rattle.command_core.specs.declared.answer.Output.TheVariants.{Text}
+use Rattle.command_core.specs.laws.Texts.{one_answer}
 use Rattle.btor_commands.specs.Traces.{HasTrace}
-use Rattle.smv_commands.specs.Scripts.{IsScript, OfBytes, StandsForModel, moxi_text}
+use Rattle.smv_commands.specs.Scripts.{IsScript, IsScriptText, OfBytes, StandsForModel, moxi_text}
 use Rattle.text_core.specs.Outside.{Files}
 use Rattle.command_core.specs.Reading.{file_within}
 use Rattle.command_core.specs.laws.Files.{goes_once}
 use Rattle.smv_commands.specs.Limits.{most_smv_bytes}
-use Rattle.smv_commands.specs.Models.{smv_too_long}
+use Rattle.smv_commands.specs.Models.{IsCheckRefusal, smv_too_long}
 use Rattle.smv_commands.proofs.Checked.{not_checked, one_check_refusal}
 use Rattle.smv_commands.proofs.Sources.{same_model}
 
 -- ---- one answer
 
+one_script_text : (bytes x y : List ℕ) → IsScriptText bytes x → IsScriptText bytes y → x ≡ y
+one_script_text bytes x y h k = h.2 ∙ ap moxi_text (same_model bytes h.0 k.0 h.1.is_model k.1.is_model) ∙ sym k.2
+
 one_of_bytes : (bytes : List ℕ) (a b : Answer) → OfBytes bytes a → OfBytes bytes b → a ≡ b
-one_of_bytes bytes (Refused r) (Refused q) h k = ap Refused (one_check_refusal bytes 0 r q h k)
-one_of_bytes bytes (Refused r) (Done (Text text)) h k = absurd (not_checked bytes 0 r k.0 h k.1)
-one_of_bytes bytes (Refused r) b h k = absurd k
-one_of_bytes bytes (Done (Text text)) (Refused q) h k = absurd (not_checked bytes 0 q h.0 k h.1)
-one_of_bytes bytes (Done (Text text)) (Done (Text other)) h k =
-    ap (λ t. Done (Text t)) (h.2 ∙ ap moxi_text (same_model bytes h.0 k.0 h.1.is_model k.1.is_model) ∙ sym k.2)
-one_of_bytes bytes (Done (Text text)) b h k = absurd k
-one_of_bytes bytes a b h k = absurd h
+one_of_bytes bytes a b h k = one_answer (IsScriptText bytes) (IsCheckRefusal bytes 0) (one_script_text bytes) (one_check_refusal bytes 0) (λ x r h k. not_checked bytes 0 r h.0 k h.1) a b h k
 
 -- files define one script
 pub one_script : (fs : Files) (model : List ℕ) (a b : Answer) → IsScript fs model a → IsScript fs model b → a ≡ b

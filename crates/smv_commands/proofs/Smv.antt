@@ -1,14 +1,15 @@
 -- What is answered to a witness of a model's text is what is defined of it, and stands for a run.
-use Rattle.std.proofs.Common.{◌≡◌, ◌≤◌, ◌-◌, inl, inr, ℕ, Bool, List, [], ◌∷◌, Option, Some, None, Result, Ok, Err, refl, sym, ap, ◌∙◌, length, subst}
+use Rattle.std.proofs.Common.{◌≡◌, ◌-◌, inl, inr, ℕ, Bool, List, [], ◌∷◌, Option, Some, Result, refl, sym, ap, ◌∙◌, length, subst}
 use Rattle.std.specs.Prelude.{IfOk, IfErr, IfSome}
-use Rattle.text_core.specs.Outside.{Files, IsFile, file_at, grown}
+use Rattle.text_core.specs.Outside.{Files, file_at, grown}
+use Rattle.text_core.specs.Places.{start, after}
+use Rattle.text_core.specs.declared.place.Refusal.{Refusal}
 use Rattle.text_core.specs.declared.verdict.Verdict.TheVariants.{Yes}
 use Rattle.smv_text.specs.Tree.{PlainSource}
-use Rattle.smv_meaning.specs.Phases.{IsAccepted}
 use Rattle.smv_meaning.specs.declared.value.Run.{Run}
 use Rattle.smv_flat.specs.FlatForms.{PlainFlat, flat_smv}
 use Rattle.smv_width.specs.FlatWidth.{width_of}
-use Rattle.smv_flatten.specs.FlatModel.{FlatModel, flat_plain}
+use Rattle.smv_flatten.specs.FlatModel.{FlatModel}
 use Rattle.smv_trace_text.specs.Texts.{has_inputs}
 use Rattle.smv_script.specs.Script.{coding_of, script_of}
 use Rattle.smv_script_laws.specs.Decoding.{run_of}
@@ -28,24 +29,26 @@ use Rattle.command_core.specs.declared.answer.Answer.{Answer}
 use Rattle.command_core.specs.declared.answer.Answer.TheVariants as answer
 use Rattle.command_core.specs.declared.answer.Output.TheVariants.{Text}
 use Rattle.command_core.specs.declared.answer.Stop.{Stop}
-use Rattle.command_core.specs.declared.answer.Stop.TheVariants.{Answered, NoMemory}
 use Rattle.command_core.specs.declared.status.Status.TheVariants as status
 use Rattle.command_core.specs.Answers.{status_of, text_of}
 use Rattle.command_core.specs.Giving.{MayGive}
-use Rattle.command_core.specs.Reading.{SaysRead, StopsWith, file_within}
-use Rattle.command_core.specs.laws.Files.{done_from, gives, goes_once, on_read}
+use Rattle.command_core.specs.Reading.{GoesOn, StopsWith, file_within}
+use Rattle.command_core.specs.laws.Files.{done_from, goes_once, on_read}
+use Rattle.command_core.specs.laws.Given.{also_ok, also_stop, of_each}
 use Rattle.btor_commands.specs.Judgement.{witness_too_long}
 use Rattle.btor_commands.specs.Limits.{most_witness_bytes}
 use Rattle.smv_commands.specs.Limits.{most_smv_bytes}
-use Rattle.smv_commands.specs.Models.{IsAcceptedModel, IsModel, IsRefusal, smv_too_long}
+use Rattle.smv_commands.specs.Models.{IsCheckRefusal, IsFormIn, smv_too_long}
 use Rattle.smv_commands.proofs.Checked.{not_checked, one_check_refusal}
 use Rattle.smv_commands.proofs.Sources.{same_model}
 use Rattle.smv_commands.specs.Translation.{Accepts, btor_text}
-use Rattle.witness_lift.specs.LineLaws.{model_lines}
-use Rattle.btor_commands.specs.Lifting.{IsOfSecond, OfLines, OfText}
-use Rattle.smv_commands.specs.SmvLift.{IsLiftedTrace, IsOfBytes, IsOfModel, IsSmvLift, OfBytes, RunsAreLifted, lifted_run, lifted_trace, run_text, trace_in}
+use Rattle.witness_lift.specs.Breaking.{IsFormOf}
+use Rattle.witness_lift.specs.LineLaws.{ModelLinesAreSpelled, model_lines}
+use Rattle.btor_commands.specs.Lifting.{OfLines, OfText}
+use Rattle.smv_commands.specs.SmvLift.{IsLiftedTrace, IsSmvLift, OfBytes, RunsAreLifted, lifted_run, lifted_trace, run_text, trace_in}
 use Rattle.smv_commands.proofs.Inputs.{items_have_inputs}
-use Rattle.btor_commands.proofs.Lifted.{done_second, may_give, one_of_lines}
+use Rattle.btor_commands.proofs.Lifted.{done_second, one_of_lines}
+use Rattle.smv_commands.proofs.TraceAnswers.{goes_also}
 
 -- ---- one answer
 
@@ -61,34 +64,12 @@ pub one_smv_lift : (files : Files) (model second : List ℕ) (a b : Answer) → 
 one_smv_lift files model second a b h k =
     goes_once (file_within files model most_smv_bytes smv_too_long) (OfBytes files second) (λ bytes a b h k. one_of_bytes files second bytes a b h k) a b h k
 
--- ---- the answer that is made
+-- ---- what is answered for a flat form is answered for its model
 
 -- where the lines of a model's text are those that are named, what is answered for them is answered for the text
 of_text : (fs : Files) (second : List ℕ) (source : PlainSource) (a : Answer) → OfLines fs second (printed (model_lines source)) (lifted_trace source) a → OfLines fs second (btor_text source) (lifted_trace source) a
 unfolding btor_text
 of_text fs second source a h = h
-
-refusal_defined : (files : Option Files) (second bytes : List ℕ) (a : Answer) → IsRefusal bytes 0 a → IfSome files (λ fs. OfBytes fs second bytes a)
-refusal_defined None second bytes a h = tt
-refusal_defined (Some fs) second bytes a h = inr h
-
-refusal_given : (files : Option Files) (rose : Type 0) (model second bytes : List ℕ) (a : Answer) → IsFile files model bytes → length bytes ≤ most_smv_bytes → IsRefusal bytes 0 a → MayGive files (model ∷ second ∷ []) (λ fs. IsSmvLift fs model second) rose a
-refusal_given files rose model second bytes a there within h =
-    gives files (model ∷ second ∷ []) rose model bytes most_smv_bytes smv_too_long (λ fs. OfBytes fs second) there within a (subst SaysRead (sym h.2) tt) (refusal_defined files second bytes a h)
-
--- what is answered to the bytes of a model may be given
-pub may_lift : (files : Option Files) (rose more : Type 0) (model second bytes : List ℕ) → (rose → more) → IsFile files model bytes → length bytes ≤ most_smv_bytes
-    → (a : Answer) → IsOfBytes files rose second bytes a → MayGive files (model ∷ second ∷ []) (λ fs. IsSmvLift fs model second) more a
-may_lift files rose more model second bytes up there within a (inl x) =
-    may_give model second bytes most_smv_bytes smv_too_long (model_lines x.0) (lifted_trace x.0) (λ fs. OfBytes fs second) rose more up within x.2.spelled (λ fs b h. inl (x.0, x.1, of_text fs second x.0 b h)) files a there x.2.stands
-may_lift files rose more model second bytes up there within a (inr r) = refusal_given files more model second bytes a there within r
-
-pub may_stop : (files : Option Files) (rose more : Type 0) (model second bytes : List ℕ) → (rose → more) → IsFile files model bytes → length bytes ≤ most_smv_bytes
-    → (stop : Stop) → StopsWith (IsOfBytes files rose second bytes) stop → StopsWith (MayGive files (model ∷ second ∷ []) (λ fs. IsSmvLift fs model second) more) stop
-may_stop files rose more model second bytes up there within (Answered a) h = may_lift files rose more model second bytes up there within a h
-may_stop files rose more model second bytes up there within NoMemory h = tt
-
--- ---- what is answered for a chain is answered for its model
 
 abbrev lines_for : PlainFlat → ℕ → List Line
 lines_for flat width = lines_of (flat_of (script_of flat width))
@@ -99,48 +80,46 @@ run_with flat width steps = run_of flat (coding_of flat width) (trace_of steps) 
 abbrev trace_with : PlainFlat → ℕ → Witness → List ℕ
 trace_with flat width w = run_text (has_inputs flat.items) w.bad (run_with flat width (lifted (flat_of (script_of flat width)) w))
 
-abbrev IsWith : Option Files → Type 0 → List ℕ → PlainFlat → ℕ → Answer → Type 0
-IsWith files rose second flat width a = IsOfSecond files rose second (lines_for flat width) (trace_with flat width) a
+abbrev IsWith : List ℕ → PlainFlat → ℕ → Answer → Type 0
+IsWith text flat width a = OfText (lines_for flat width) (trace_with flat width) text a
 
-chain_model : (files : Option Files) (rose : Type 0) (second : List ℕ) (source : PlainSource) (a : Answer) → IsWith files rose second (flat_smv source) (width_of (flat_smv source)) a → IsOfSecond files rose second (model_lines source) (lifted_trace source) a
+form_model : (source : PlainSource) (text : List ℕ) (a : Answer) → IsWith text (flat_smv source) (width_of (flat_smv source)) a → OfText (model_lines source) (lifted_trace source) text a
 unfolding lifted_trace
-chain_model files rose second source a h =
-    subst (λ (inputs : Bool). IsOfSecond files rose second (model_lines source) (λ (w : Witness). run_text inputs w.bad (lifted_run source w)) a) (items_have_inputs source) h
+form_model source text a h =
+    subst (λ (inputs : Bool). OfText (model_lines source) (λ (w : Witness). run_text inputs w.bad (lifted_run source w)) text a) (items_have_inputs source) h
 
-of_chain : (files : Option Files) (rose : Type 0) (second : List ℕ) (source : PlainSource) (f : FlatModel) (a : Answer) → flat_plain f ≡ flat_smv source → f.width ≡ width_of (flat_smv source) → IsAccepted source 0
-    → IsOfSecond files rose second (lines_in f) (trace_in f) a → IsOfModel files rose second source a
-of_chain files rose second source f a e w accepted h =
-    inl (
-      accepted,
-      chain_model files rose second source a
-          (subst (λ (n : ℕ). IsWith files rose second (flat_smv source) n a) w (subst (λ (x : PlainFlat). IsWith files rose second x f.width a) e h)),
-    )
+of_form : (source : PlainSource) (f : FlatModel) (text : List ℕ) (a : Answer) → IsFormOf source f → OfText (lines_in f) (trace_in f) text a → OfText (model_lines source) (lifted_trace source) text a
+of_form source f text a form h =
+    form_model source text a (subst (λ (n : ℕ). IsWith text (flat_smv source) n a) form.width (subst (λ (x : PlainFlat). IsWith text x f.width a) form.form h))
 
-pub of_model : {E : Type 0} (files : Option Files) (rose : Type 0) (second : List ℕ) (source : PlainSource) (f : FlatModel) (result : Result Answer E) → flat_plain f ≡ flat_smv source → f.width ≡ width_of (flat_smv source) → IsAccepted source 0
-    → IfOk result (IsOfSecond files rose second (lines_in f) (trace_in f)) → IfOk result (IsOfModel files rose second source)
-of_model files rose second source f (Ok a) e w accepted h = of_chain files rose second source f a e w accepted h
-of_model files rose second source f (Err stop) e w accepted h = tt
+-- the lines of the model that bytes spell are spelled by its text
+pub spelled_in : ModelLinesAreSpelled → (bytes : List ℕ) (f : FlatModel) (form : IsFormIn bytes 0 f) → SpellsLines (printed (model_lines form.source)) (model_lines form.source)
+spelled_in law bytes f form =
+    let m = form.accepted.is_model in
+    (law form.source (after start bytes) bytes m.tokens m.lexed m.spelled 0 form.accepted.accepted m.low).there
 
-pub of_stop : {T : Type 0} (files : Option Files) (rose : Type 0) (second : List ℕ) (source : PlainSource) (f : FlatModel) (result : Result T Stop) → flat_plain f ≡ flat_smv source → f.width ≡ width_of (flat_smv source) → IsAccepted source 0
-    → IfErr result (StopsWith (IsOfSecond files rose second (lines_in f) (trace_in f))) → IfErr result (StopsWith (IsOfModel files rose second source))
-of_stop files rose second source f (Ok x) e w accepted h = tt
-of_stop files rose second source f (Err (Answered a)) e w accepted h = of_chain files rose second source f a e w accepted h
-of_stop files rose second source f (Err NoMemory) e w accepted h = tt
+-- ---- what may be given
 
--- ---- what is answered to a model is answered to its bytes
+module _ (files : Option Files) (rose : Type 0) (second bytes : List ℕ) (f : FlatModel) (law : ModelLinesAreSpelled) (form : IsFormIn bytes 0 f) where
+  abbrev Read : Files → Answer → Type 0
+  Read fs a = GoesOn (file_within fs second most_witness_bytes witness_too_long) (OfText (lines_in f) (trace_in f)) a
 
-of_model_bytes : (files : Option Files) (rose : Type 0) (second bytes : List ℕ) (source : PlainSource) → IsModel bytes source → (a : Answer) → IsOfModel files rose second source a → IsOfBytes files rose second bytes a
-of_model_bytes files rose second bytes source is a (inl x) = inl (source, record { is_model = is; accepted = x.0 }, x.1)
-of_model_bytes files rose second bytes source is a (inr r) = inr (r.0, inr (source, is, r.1), r.2)
+  for_model : (fs : Files) (a : Answer) → Read fs a → OfBytes fs second bytes a
+  for_model fs a h =
+      let source = form.source in
+      let read = goes_also (file_within fs second most_witness_bytes witness_too_long) (OfText (lines_in f) (trace_in f)) (OfText (model_lines source) (lifted_trace source)) (λ text b g. of_form source f text b form.form g) a h in
+      inl (source, form.accepted, of_text fs second source a (model_lines source, spelled_in law bytes f form, read))
 
-pub of_bytes : {E : Type 0} (files : Option Files) (rose : Type 0) (second bytes : List ℕ) (source : PlainSource) (result : Result Answer E) → IsModel bytes source → IfOk result (IsOfModel files rose second source) → IfOk result (IsOfBytes files rose second bytes)
-of_bytes files rose second bytes source (Ok a) is h = of_model_bytes files rose second bytes source is a h
-of_bytes files rose second bytes source (Err e) is h = tt
+  -- what may be given to the second file of a flat form may be given for its model's bytes
+  pub witness_given : {E : Type 0} (result : Result Answer E) → IfOk result (MayGive files (second ∷ []) Read rose) → IfOk result (MayGive files (second ∷ []) (λ fs. OfBytes fs second bytes) rose)
+  witness_given result h = also_ok files (second ∷ []) (second ∷ []) rose rose Read (λ fs. OfBytes fs second bytes) (λ name among. among) (λ r. r) (of_each files for_model) result h
 
-pub stops_so : {T : Type 0} (files : Option Files) (rose : Type 0) (second bytes : List ℕ) (source : PlainSource) (result : Result T Stop) → IsModel bytes source → IfErr result (StopsWith (IsOfModel files rose second source)) → IfErr result (StopsWith (IsOfBytes files rose second bytes))
-stops_so files rose second bytes source (Ok x) is h = tt
-stops_so files rose second bytes source (Err (Answered a)) is h = of_model_bytes files rose second bytes source is a h
-stops_so files rose second bytes source (Err NoMemory) is h = tt
+  pub witness_stops : {T : Type 0} (result : Result T Stop) → IfErr result (StopsWith (MayGive files (second ∷ []) Read rose)) → IfErr result (StopsWith (MayGive files (second ∷ []) (λ fs. OfBytes fs second bytes) rose))
+  witness_stops result h = also_stop files (second ∷ []) (second ∷ []) rose rose Read (λ fs. OfBytes fs second bytes) (λ name among. among) (λ r. r) (of_each files for_model) result h
+
+-- the refusal of a model may be given
+pub refusal_given : (files : Option Files) (second bytes : List ℕ) (refusal : Refusal) → IsCheckRefusal bytes 0 refusal → IfSome files (λ fs. OfBytes fs second bytes (answer.Refused refusal))
+refusal_given files second bytes refusal h = of_each files (λ fs. inr (refusal, h, refl))
 
 -- ---- what a trace stands for
 

@@ -1,6 +1,8 @@
 pub mod Limits
 pub mod Models
 pub mod Scripts
+pub mod Traces
 pub mod SmvJudgement
 pub mod Translation
 pub mod SmvLift
+pub mod Lowering

@@ -11,7 +11,10 @@ use Rattle.smv_text.specs.Heights.{first_high, of_modules}
 use Rattle.smv_text.specs.Lexing.{Lexes, IsLexRefusal}
 use Rattle.smv_text.specs.Sources.{SpellsSource}
 use Rattle.smv_parse.specs.Parsing.{IsRefused}
+use Rattle.smv_meaning.specs.Instances.{weight_of}
 use Rattle.smv_meaning.specs.Phases.{IsAccepted, first_refusal}
+use Rattle.smv_flatten.specs.FlatModel.{FlatModel}
+use Rattle.witness_lift.specs.Breaking.{IsFormOf}
 use Rattle.command_core.specs.declared.answer.Answer.{Answer}
 use Rattle.command_core.specs.declared.answer.Answer.TheVariants.{Refused}
 use Rattle.smv_commands.specs.Limits.{most_smv_bytes}
@@ -33,6 +36,13 @@ pub record IsAcceptedModel (bytes : List ℕ) (needed : ℕ) (source : PlainSour
   pub is_model : IsModel bytes source
   pub accepted : IsAccepted source needed
 
+-- this is the flat form of the model that the bytes spell, whose checks hold, with the model's weight
+pub record IsFormIn (bytes : List ℕ) (needed : ℕ) (f : FlatModel) : Type 0 where
+  pub source : PlainSource
+  pub accepted : IsAcceptedModel bytes needed source
+  pub form : IsFormOf source f
+  pub weight : f.weight ≡ weight_of source
+
 -- the refusal of a text that spells no model: that of its words, or else of its grammar
 abbrev pub IsTextRefusal : List ℕ → Refusal → Type 0
 IsTextRefusal bytes refusal =
@@ -42,15 +52,15 @@ IsTextRefusal bytes refusal =
 abbrev pub IsCheckRefusal : List ℕ → ℕ → Refusal → Type 0
 IsCheckRefusal bytes needed refusal = IsTextRefusal bytes refusal ⊎ ((model : PlainSource) × IsModel bytes model × (first_refusal model needed ≡ Some refusal))
 
--- why bytes spell no model: their refusal, or want of memory
+-- why bytes spell no model: their refusal, or out of memory
 abbrev pub IsTextEnd : List ℕ → End → Type 0
 IsTextEnd bytes (Bad refusal) = IsTextRefusal bytes refusal
 IsTextEnd bytes NoMemory = Unit {0}
 
--- why a model has no flat form: the first check that fails, or want of memory
-abbrev pub IsFlatEnd : PlainSource → ℕ → End → Type 0
-IsFlatEnd source needed (Bad refusal) = first_refusal source needed ≡ Some refusal
-IsFlatEnd source needed NoMemory = Unit {0}
+-- why bytes have no flat form: their refusal, or out of memory
+abbrev pub IsModelEnd : List ℕ → ℕ → End → Type 0
+IsModelEnd bytes needed (Bad refusal) = IsCheckRefusal bytes needed refusal
+IsModelEnd bytes needed NoMemory = Unit {0}
 
 -- the answer that the model is refused so
 abbrev pub IsRefusal : List ℕ → ℕ → Answer → Type 0

@@ -1,7 +1,5 @@
 -- Which script is written for an SMV model, and what it stands for (MoXI, SPIN 2024).
 use Rattle.std.specs.Prelude.{◌≡◌, ◌↔◌, ℕ, ◌<◌, List, length, Option, Some}
-use Rattle.text_core.specs.declared.end.End.{End}
-use Rattle.text_core.specs.declared.end.End.TheVariants.{Bad, NoMemory}
 use Rattle.text_core.specs.Outside.{Files, file_at, grown}
 use Rattle.smv_text.specs.Tree.{PlainSource}
 use Rattle.smv_script.specs.Script.{script_for}
@@ -9,11 +7,10 @@ use Rattle.moxi_term_print.specs.Shown.{lines_text}
 use Rattle.moxi_scripts.specs.Script.{PlainScript}
 use Rattle.moxi_script_print.specs.Printing.{shown_script}
 use Rattle.command_core.specs.declared.answer.Answer.{Answer}
-use Rattle.command_core.specs.declared.answer.Answer.TheVariants.{Refused, Done}
-use Rattle.command_core.specs.declared.answer.Output.TheVariants.{Text}
 use Rattle.btor_commands.specs.Traces.{HasTrace, SpellsText}
 use Rattle.smv_commands.specs.Limits.{most_smv_bytes}
 use Rattle.command_core.specs.Reading.{GoesOn, file_within}
+use Rattle.command_core.specs.Texts.{IsTextOr}
 use Rattle.smv_script_laws.specs.RunLaws.{HasRun, invariant_count}
 use Rattle.smv_commands.specs.Models.{IsAcceptedModel, IsCheckRefusal, smv_too_long}
 
@@ -21,16 +18,13 @@ use Rattle.smv_commands.specs.Models.{IsAcceptedModel, IsCheckRefusal, smv_too_l
 unfoldable pub moxi_text : PlainSource → List ℕ
 moxi_text source = lines_text (shown_script (script_for source))
 
--- why there is no text: the refusal of the bytes, or want of memory
-abbrev pub IsScriptEnd : List ℕ → End → Type 0
-IsScriptEnd bytes (Bad refusal) = IsCheckRefusal bytes 0 refusal
-IsScriptEnd bytes NoMemory = Unit {0}
+-- the printed script of the model that the bytes spell
+abbrev pub IsScriptText : List ℕ → List ℕ → Type 0
+IsScriptText bytes text = (source : PlainSource) × IsAcceptedModel bytes 0 source × (text ≡ moxi_text source)
 
--- the script of the model that the bytes spell, or their refusal
+-- this text, or the refusal of the bytes
 abbrev pub OfBytes : List ℕ → Answer → Type 0
-OfBytes bytes (Refused refusal) = IsCheckRefusal bytes 0 refusal
-OfBytes bytes (Done (Text text)) = (source : PlainSource) × IsAcceptedModel bytes 0 source × (text ≡ moxi_text source)
-OfBytes bytes other = ⊥
+OfBytes bytes answer = IsTextOr (IsScriptText bytes) (IsCheckRefusal bytes 0) answer
 
 -- the script of the model in the file of this name
 abbrev pub IsScript : Files → List ℕ → Answer → Type 0

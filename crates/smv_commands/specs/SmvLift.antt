@@ -1,15 +1,13 @@
 -- To which trace a witness of an SMV model's BTOR2 text is lifted, and what it stands for (NuSMV 2.6 User Manual; BTOR2, CAV 2018).
-use Rattle.std.specs.Prelude.{◌≡◌, ◌⊎◌, ◌++◌, ◌-◌, ◌≤◌, ℕ, Bool, true, false, List, length, map, Option, Some}
+use Rattle.std.specs.Prelude.{◌≡◌, ◌⊎◌, ◌++◌, ◌-◌, ℕ, Bool, true, false, List, length, map, Option, Some}
 use Rattle.std.specs.List.{list_any}
 use Rattle.text_core.specs.Outside.{Files, file_at, grown}
-use Rattle.text_core.specs.declared.place.Refusal.{Refusal}
 use Rattle.text_core.specs.declared.verdict.Verdict.TheVariants.{Yes}
 use Rattle.smv_text.specs.declared.tree.VarKind.TheVariants.{Input}
 use Rattle.smv_text.specs.Tree.{PlainDomain, instance, PlainElement, vars, PlainSource}
 use Rattle.smv_meaning.specs.declared.value.Run.{Run}
 use Rattle.smv_meaning.specs.Values.{given}
 use Rattle.smv_meaning.specs.Instances.{instances_of}
-use Rattle.smv_meaning.specs.Phases.{IsAccepted, first_refusal}
 use Rattle.smv_items.specs.FlatItemView.{item_plain}
 use Rattle.smv_flatten.specs.FlatModel.{FlatModel}
 use Rattle.smv_trace_text.specs.Texts.{claim_back, claim_front, has_inputs, steps_text}
@@ -22,15 +20,14 @@ use Rattle.btor_witness.specs.Texts.{SpellsWitness}
 use Rattle.moxi_terms.specs.declared.data.Datum.{Datum}
 use Rattle.moxi_lift.specs.Laws.{trace_of}
 use Rattle.moxi_lift.specs.Lifted.{lifted}
-use Rattle.witness_lift.specs.LineLaws.{model_lines, model_system}
+use Rattle.witness_lift.specs.LineLaws.{model_system}
 use Rattle.witness_lift.specs.Lifting.{lifted_run as run_lifted_to}
 use Rattle.command_core.specs.declared.answer.Answer.{Answer}
-use Rattle.command_core.specs.declared.answer.Answer.TheVariants.{Refused}
 use Rattle.command_core.specs.Reading.{GoesOn, file_within}
 use Rattle.smv_commands.specs.Limits.{most_smv_bytes}
 use Rattle.smv_commands.specs.Models.{IsAcceptedModel, IsRefusal, smv_too_long}
 use Rattle.smv_commands.specs.Translation.{Accepts, btor_text}
-use Rattle.btor_commands.specs.Lifting.{IsOfSecond, OfLines}
+use Rattle.btor_commands.specs.Lifting.{OfLines}
 
 -- the run for which steps of the model's script stand, all of them but for the inputs of the last
 abbrev pub run_for : PlainSource → List (List Datum) → Run
@@ -74,21 +71,11 @@ OfBytes files second bytes answer =
 abbrev pub IsSmvLift : Files → List ℕ → List ℕ → Answer → Type 0
 IsSmvLift files model second answer = GoesOn (file_within files model most_smv_bytes smv_too_long) (OfBytes files second) answer
 
--- ---- what a step answers where the files may not be told
+-- ---- what is answered for a flat form
 
--- the text of a flat form's run for which a witness stands
+-- the text of a flat form's run to which a witness is lifted
 abbrev pub trace_in : FlatModel → Witness → List ℕ
 trace_in f w = run_text (has_inputs (map item_plain f.items)) w.bad (run_lifted_to f w)
-
--- this is answered to the second file for the model, or the model's refusal
-abbrev pub IsOfModel : Option Files → Type 0 → List ℕ → PlainSource → Answer → Type 0
-IsOfModel files rose second source answer =
-    (IsAccepted source 0 × IsOfSecond files rose second (model_lines source) (lifted_trace source) answer) ⊎ ((refusal : Refusal) × (first_refusal source 0 ≡ Some refusal) × (answer ≡ Refused refusal))
-
--- this is answered to the second file for the model that the bytes spell, or the bytes' refusal
-abbrev pub IsOfBytes : Option Files → Type 0 → List ℕ → List ℕ → Answer → Type 0
-IsOfBytes files rose second bytes answer =
-    ((source : PlainSource) × IsAcceptedModel bytes 0 source × IsOfSecond files rose second (model_lines source) (lifted_trace source) answer) ⊎ IsRefusal bytes 0 answer
 
 -- ---- what a trace stands for
 

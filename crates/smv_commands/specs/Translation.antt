@@ -1,7 +1,5 @@
 -- Which BTOR2 text is written for an SMV model, and what it stands for (BTOR2, CAV 2018; the bound on its lines is this translator's own).
 use Rattle.std.specs.Prelude.{◌≡◌, ℕ, ◌+◌, ◌*◌, ◌≤◌, List, length, Option, Some}
-use Rattle.text_core.specs.declared.end.End.{End}
-use Rattle.text_core.specs.declared.end.End.TheVariants.{Bad, NoMemory}
 use Rattle.text_core.specs.Outside.{Files, file_at, grown}
 use Rattle.smv_text.specs.Tree.{PlainSource}
 use Rattle.smv_meaning.specs.Instances.{weight_of}
@@ -10,9 +8,8 @@ use Rattle.btor_tree.specs.Printing.{printed}
 use Rattle.btor_tree.specs.Sharing.{HasNoTwoAlike}
 use Rattle.btor_tree.specs.Texts.{SpellsLines}
 use Rattle.command_core.specs.declared.answer.Answer.{Answer}
-use Rattle.command_core.specs.declared.answer.Answer.TheVariants.{Refused, Done}
-use Rattle.command_core.specs.declared.answer.Output.TheVariants.{Text}
 use Rattle.command_core.specs.Reading.{GoesOn, file_within}
+use Rattle.command_core.specs.Texts.{IsTextOr}
 use Rattle.smv_commands.specs.Limits.{most_smv_bytes}
 use Rattle.smv_commands.specs.Models.{IsAcceptedModel, IsCheckRefusal, smv_too_long}
 use Rattle.witness_lift.specs.LineLaws.{Translates, model_lines}
@@ -25,16 +22,13 @@ btor_text source = printed (model_lines source)
 abbrev pub Accepts : List ℕ → PlainSource → Type 0
 Accepts bytes source = IsAcceptedModel bytes 0 source
 
--- why there is no text: the refusal of the bytes, or want of memory
-abbrev pub IsTranslationEnd : List ℕ → End → Type 0
-IsTranslationEnd bytes (Bad refusal) = IsCheckRefusal bytes 0 refusal
-IsTranslationEnd bytes NoMemory = Unit {0}
+-- the BTOR2 text of the model that the bytes spell
+abbrev pub IsBtorText : List ℕ → List ℕ → Type 0
+IsBtorText bytes text = (source : PlainSource) × IsAcceptedModel bytes 0 source × (text ≡ btor_text source)
 
--- the BTOR2 text of the model that the bytes spell, or their refusal
+-- this text, or the refusal of the bytes
 abbrev pub OfBytes : List ℕ → Answer → Type 0
-OfBytes bytes (Refused refusal) = IsCheckRefusal bytes 0 refusal
-OfBytes bytes (Done (Text text)) = (source : PlainSource) × IsAcceptedModel bytes 0 source × (text ≡ btor_text source)
-OfBytes bytes other = ⊥
+OfBytes bytes answer = IsTextOr (IsBtorText bytes) (IsCheckRefusal bytes 0) answer
 
 -- the BTOR2 text of the model in the file of this name
 abbrev pub IsTranslation : Files → List ℕ → Answer → Type 0

@@ -1,14 +1,16 @@
-//! The commands on SMV models: `smv2moxi`, `smv2btor`, `judge-smv` and `lift-smv`.
+//! The commands on SMV models: `smv2moxi`, `smv2btor`, `judge-smv`, `lift-smv` and `lower`.
 #![tactic(auto)]
 
 mod judge_smv;
+mod lower;
 mod models;
 mod script;
 mod traces;
 mod translate;
 
 pub use judge_smv::judge_smv_files;
-pub use models::{SMV_LIMIT, flat_of, model_of};
+pub use lower::{lower_smv_files, runs_are_lowered};
+pub use models::{SMV_LIMIT, chain_in, flat_in, model_of};
 pub use script::{scripts_stand, smv_to_moxi};
 pub use traces::{lift_smv_files, runs_are_lifted};
 pub use translate::{smv_to_btor, translations_stand};

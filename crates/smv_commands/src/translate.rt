@@ -1,21 +1,20 @@
 // From an SMV model to its BTOR2 text.
-ghost use Rattle.std.specs.Prelude.{◌≡◌, ◌<◌, ◌≤◌, [], ◌∷◌, length, IfOk, IfErr, IsErrAnd};
+ghost use Rattle.std.specs.Prelude.{◌≡◌, ◌≤◌, [], ◌∷◌, length, IfOk, IfErr, IsErrAnd};
 ghost use Rattle.text_core.specs.Outside.{Rose};
-ghost use Rattle.command_core.specs.declared.answer.Stop.TheVariants as Stop;
-ghost use Rattle.command_core.specs.Giving.{BeginsAmong, MayGive};
+ghost use Rattle.text_core.specs.declared.end.End.TheVariants as End;
+ghost use Rattle.command_core.specs.Giving.{MayGive};
+ghost use Rattle.command_core.specs.Keeping.{KeepsShelf};
+ghost use Rattle.command_core.specs.laws.Texts.{text_says};
 ghost use Rattle.command_core.specs.Reading.{StopsUnread, StopsWith};
 ghost use Rattle.smv_text.specs.Tree.{PlainSource};
-ghost use Rattle.smv_text.specs.View.{plain_source};
-ghost use Rattle.smv_meaning.specs.Phases.{IsAccepted};
-ghost use Rattle.smv_flatten.specs.FlatModel.{IsRead};
+ghost use Rattle.witness_lift.specs.Breaking.{IsFormOf};
 ghost use Rattle.smv_commands.specs.Limits.{most_smv_bytes};
-ghost use Rattle.smv_commands.specs.Models.{IsAcceptedModel, IsFlatEnd};
-ghost use Rattle.smv_commands.specs.Translation.{IsTranslation, IsTranslationEnd, OfBytes, TranslationsStand, btor_text};
+ghost use Rattle.smv_commands.specs.Models.{IsCheckRefusal, IsModelEnd, smv_too_long};
+ghost use Rattle.smv_commands.specs.Translation.{IsBtorText, IsTranslation, OfBytes, TranslationsStand, btor_text};
 
-use crate::models::{SMV_LIMIT, model_of};
+use crate::models::{SMV_LIMIT, chain_in};
 use btor_text::print_btor;
-use command_core::{Answer, Output, Stop, read_file, refusal};
-use smv_text::Source;
+use command_core::{Answer, LastFile, Stop, answer_file, refusal, text_answer};
 use std::alloc::Global;
 use text_core::kinds::smv;
 use text_core::{End, Name, Shelf, Text};
@@ -24,53 +23,64 @@ use witness_lift::{
     models_have_frames,
 };
 
-/// Reads an SMV model, and makes its BTOR2 text.
-pub fn smv_to_btor<F: Shelf>(alloc: Global, model: &Name, shelf: &mut F) -> Result<Answer, Stop>
-    ensures answer { IfOk result (MayGive (F.files shelf.old) (model.now ∷ []) (λ files. IsTranslation files model.now) (Rose (F.faults shelf.old) (F.faults shelf.new))) }
-    ensures stop { IfErr result (StopsWith (MayGive (F.files shelf.old) (model.now ∷ []) (λ files. IsTranslation files model.now) (Rose (F.faults shelf.old) (F.faults shelf.new)))) }
-    ensures fault { F.faults shelf.old < F.faults shelf.new → IsErrAnd result (λ stop. StopsUnread stop) }
-    ensures later { F.faults shelf.old ≤ F.faults shelf.new }
-    ensures files { F.files shelf.new ≡ F.files shelf.old }
-    ensures begun { BeginsAmong (F.files shelf.old) (F.begun shelf.old) (F.begun shelf.new) (model.now ∷ []) }
-{
-    let too_long = Answer::Refused(refusal(smv::TOO_LONG));
-    let bytes = read_file(alloc, shelf, model, SMV_LIMIT, too_long)?;
-    translation(alloc, &bytes)
-}
+// Answers a model with its BTOR2 text.
+#[derive(Drop)]
+struct SmvToBtor;
 
-// The BTOR2 text of a model, or its refusal.
-fn translation(alloc: Global, bytes: &[u8]) -> Result<Answer, Stop>
-    requires { length bytes.now ≤ most_smv_bytes }
-    ensures answer { IfOk result (OfBytes bytes.now) }
-    ensures stop { IfErr result (λ stop. stop ≡ Stop.NoMemory) }
-{
-    match translate(alloc, bytes) {
-        Ok(text) => Ok(Answer::Done(Output::Text(text))),
-        Err(End::Bad(refusal)) => Ok(Answer::Refused(refusal)),
-        Err(End::NoMemory) => Err(Stop::NoMemory),
+impl LastFile for SmvToBtor {
+    ghost most = { most_smv_bytes };
+
+    ghost longer = { smv_too_long };
+
+    ghost defines = { λ command. OfBytes };
+
+    ghost fits = { λ command. Unit {0} };
+
+    ghost longer_says = { tt };
+
+    ghost says = { λ command bytes a h. text_says (IsBtorText bytes) (IsCheckRefusal bytes 0) a h };
+
+    fn limit(&self) -> usize {
+        SMV_LIMIT
+    }
+
+    fn too_long(&self) -> Answer {
+        Answer::Refused(refusal(smv::TOO_LONG))
+    }
+
+    #[tactic(auto, using(command_core::specs::laws::Texts::text_ok, command_core::specs::laws::Texts::text_stop))]
+    fn answer(&self, alloc: Global, bytes: &[u8]) -> Result<Answer, Stop> {
+        text_answer(translate(alloc, bytes))
     }
 }
 
-// The BTOR2 text of the model that the bytes spell, or their refusal.
-fn translate(alloc: Global, bytes: &[u8]) -> Result<Text, End>
-    requires { length bytes.now ≤ most_smv_bytes }
-    ensures text { IfOk result (λ text. (source : PlainSource) × IsAcceptedModel bytes.now 0 source × (text ≡ btor_text source)) }
-    ensures refused { IfErr result (IsTranslationEnd bytes.now) }
+/// Reads an SMV model, and returns its BTOR2 text.
+pub fn smv_to_btor<F: Shelf>(alloc: Global, model: &Name, shelf: &mut F) -> Result<Answer, Stop>
+    ensures answer { IfOk result (MayGive (F.files shelf.old) (model.now ∷ []) (λ files. IsTranslation files model.now) (Rose (F.faults shelf.old) (F.faults shelf.new))) }
+    ensures stop { IfErr result (StopsWith (MayGive (F.files shelf.old) (model.now ∷ []) (λ files. IsTranslation files model.now) (Rose (F.faults shelf.old) (F.faults shelf.new)))) }
+    ensures shelf { KeepsShelf (F.files shelf.old) (F.files shelf.new) (F.faults shelf.old) (F.faults shelf.new) (F.begun shelf.old) (F.begun shelf.new) (model.now ∷ []) (IsErrAnd result StopsUnread) }
 {
-    let model = model_of(alloc, bytes)?;
-    let text = text_of_model(alloc, &model);
-    drop(model);
-    text
+    answer_file(alloc, model, &SmvToBtor, shelf)
 }
 
-// The BTOR2 text of a model, or the first check that fails.
-fn text_of_model(alloc: Global, model: &Source) -> Result<Text, End>
-    requires { IsRead (plain_source model.now) }
-    ensures accepted { IfOk result (λ text. IsAccepted (plain_source model.now) 0) }
-    ensures text { IfOk result (λ text. text ≡ btor_text (plain_source model.now)) }
-    ensures refused { IfErr result (IsFlatEnd (plain_source model.now) 0) }
+// The BTOR2 text of the model that the bytes spell, or their refusal.
+#[tactic(auto, using(crate::proofs::LinesGiven::made_of_bytes, crate::proofs::Forms::memory_ends))]
+fn translate(alloc: Global, bytes: &[u8]) -> Result<Text, End>
+    requires { length bytes.now ≤ most_smv_bytes }
+    ensures text { IfOk result (IsBtorText bytes.now) }
+    ensures refused { IfErr result (IsModelEnd bytes.now 0) }
 {
-    let chain = SmvChain::of(alloc, model, 0)?;
+    match chain_in(alloc, bytes, 0) {
+        Ok(chain) => chain_text(alloc, &chain),
+        Err(end) => Err(end),
+    }
+}
+
+// The text of a chain's lines.
+fn chain_text(alloc: Global, chain: &SmvChain) -> Result<Text, End>
+    ensures text { IfOk result (λ text. (source : PlainSource) → IsFormOf source chain.now → text ≡ btor_text source) }
+    ensures stop { IfErr result (λ end. end ≡ End.NoMemory) }
+{
     Ok(print_btor(alloc, chain.nodes())?)
 }
 

@@ -1,5 +1,5 @@
 -- Words and files define one answer, and what that says of a run.
-use Rattle.std.proofs.Common.{zero, suc, ◌≡◌, ◌≢◌, ◌⊎◌, inl, inr, List, [], ℕ, Option, Some, None, ◌≤◌, length, refl, sym, ap, ◌∙◌, subst, take, arith}
+use Rattle.std.proofs.Common.{zero, suc, ◌≡◌, ◌≢◌, ◌⊎◌, inl, inr, List, [], ℕ, Option, Some, None, Ok, ◌≤◌, length, refl, sym, ap, ◌∙◌, subst, take, arith}
 use Rattle.std.proofs.lemmas.List.{append-nil}
 use Rattle.std.specs.Prelude.{IfSome}
 use Rattle.text_core.specs.Outside.{Files, file_at, grown, Rose}
@@ -12,7 +12,7 @@ use Rattle.command_core.specs.declared.answer.Answer.{Answer}
 use Rattle.command_core.specs.declared.answer.Answer.TheVariants.{Usage, Unread, Refused, SecondRefused, No, Done}
 use Rattle.command_core.specs.declared.answer.Output.TheVariants.{Text}
 use Rattle.top_call.specs.declared.words.Command.{Command}
-use Rattle.top_call.specs.declared.words.Command.TheVariants.{SmvToBtor, SmvToMoxi, MoxiToBtor, BtorToMoxi, Simplify, JudgeBtor, JudgeSmv, JudgeMoxi, LiftSmv, LiftMoxi, Generate}
+use Rattle.top_call.specs.declared.words.Command.TheVariants.{SmvToBtor, SmvToMoxi, MoxiToBtor, BtorToMoxi, Simplify, JudgeBtor, JudgeSmv, JudgeMoxi, LiftSmv, LiftMoxi, Lower, Generate}
 use Rattle.command_core.specs.Answers.{status_of, text_of, line_of}
 use Rattle.command_core.specs.Notes.{no_memory_line}
 use Rattle.top_call.specs.Outcome.{IsAbsent, IsCutLine, IsLineOf, MayAnswer, outcome_of}
@@ -28,7 +28,14 @@ use Rattle.btor_commands.specs.Simplifying.{IsSmallerText, SmallerTextsStand}
 use Rattle.btor_commands.proofs.Smaller as smaller
 use Rattle.btor_commands.proofs.Smaller.{accepted_before, one_simplification}
 use Rattle.btor_commands.proofs.Judgements.{one_judgement}
-use Rattle.smv_commands.proofs.JudgedSmv.{one_smv_judgement}
+use Rattle.smv_commands.proofs.TraceAnswers.{one_smv_judgement}
+use Rattle.smv_commands.proofs.LoweredRuns as lowerings
+use Rattle.smv_commands.proofs.LoweredRuns.{one_lowering}
+use Rattle.smv_commands.specs.Lowering.{RunsAreLowered, StatesRun, lowered_text}
+use Rattle.smv_commands.specs.Models.{IsAcceptedModel}
+use Rattle.smv_commands.specs.Traces.{declared_by, verdict_on}
+use Rattle.smv_meaning.specs.declared.value.Run.{Run}
+use Rattle.smv_trace.specs.Texts.{trace_of}
 use Rattle.smv_commands.proofs.ScriptStands.{one_script}
 use Rattle.smv_commands.proofs.Given as scripts
 use Rattle.moxi_scripts.specs.Script.{PlainScript}
@@ -72,6 +79,7 @@ one_answer once (Some (JudgeSmv model second j)) fs a b h k = one_smv_judgement 
 one_answer once (Some (JudgeMoxi model second)) fs a b h k = one_moxi_judgement fs model second a b h k
 one_answer once (Some (LiftSmv model second)) fs a b h k = one_smv_lift fs model second a b h k
 one_answer once (Some (LiftMoxi model second)) fs a b h k = one_moxi_lift fs model second a b h k
+one_answer once (Some (Lower model second j)) fs a b h k = one_lowering fs model second j a b h k
 one_answer once (Some (Generate n)) fs a b h k = once n a b h k
 
 -- where the shelf's count did not rise, an answer that may be given is the defined one
@@ -312,6 +320,7 @@ pub record Laws : Type 0 where
   pub imports : ImportsStand
   pub smaller : SmallerTextsStand
   pub traces : RunsAreLifted
+  pub witnesses : RunsAreLowered
   pub responses : TracesAreLifted
 
 served_by : (laws : Laws) (command : Option Command) (fs : Files) (b : Answer) (before now : Option (List ℕ)) → Answers command fs b → status_of b ≡ status.Done → now ≡ grown before (text_of b) → Serves command fs before now
@@ -323,6 +332,7 @@ served_by laws (Some (BtorToMoxi model)) fs b before now h s w = imports.served 
 served_by laws (Some (Simplify model)) fs b before now h s w = smaller.served laws.smaller fs model b before now h s w
 served_by laws (Some (LiftSmv model second)) fs b before now h s w = traces.served laws.traces fs model second b before now h s w
 served_by laws (Some (LiftMoxi model second)) fs b before now h s w = responses.served laws.responses fs model second b before now h s w
+served_by laws (Some (Lower model second j)) fs b before now h s w = lowerings.served laws.witnesses fs model second j b before now h s w
 served_by laws (Some (Generate n)) fs b before now h s w = generated.summarized n b before now h s w
 served_by laws (Some command) fs b before now h s w = tt
 
@@ -351,6 +361,20 @@ run_lifts once lifted (Some fs) command shelf out notes a s before now m ends ta
     let whole : s ≢ status.WriteFault = λ f. elim (w f) [ inl r ↦ o r | inr r ↦ n r ] in
     elim ends [
       | inl e ↦ (e ∙ ap status_of same, (lifted_trace source v, taken whole ∙ ap (λ x. grown before (text_of x)) same, lifted bytes source acc lines spelled text v states judged))
+      | inr f ↦ absurd (whole f)
+    ]
+
+-- a trace of an accepted model of which the judge says Yes is written as the witness that states its run
+pub run_lowers : (once : OneGenerated) → (lowered : RunsAreLowered) (files : Option Files) (command : Option Command) (shelf out notes : Type 0) (a : Answer) (s : Status) (before now : Option (List ℕ)) → MayAnswer files command shelf a → Ends s a → (s ≢ status.WriteFault → now ≡ grown before (text_of a)) → (s ≡ status.WriteFault → out ⊎ notes)
+    → IfSome files (λ fs. (model second bytes trace : List ℕ) (j : ℕ) (source : PlainSource) (run : Run) → command ≡ Some (Lower model second j) → file_at fs model ≡ Some bytes → IsAcceptedModel bytes j source → file_at fs second ≡ Some trace → trace_of (declared_by source) trace ≡ Ok run
+    → verdict_on source j run ≡ Yes → (shelf → ⊥) → (out → ⊥) → (notes → ⊥) → s ≢ status.NoMemory → (s ≡ status.Done) × ((text : List ℕ) × (now ≡ grown before text) × StatesRun source j run text))
+run_lowers once lowered None command shelf out notes a s before now m ends taken w = tt
+run_lowers once lowered (Some fs) command shelf out notes a s before now m ends taken w = λ model second bytes trace j source run is there acc second_there states judged sh o n memory.
+    let answer = Done (Text (lowered_text source j run)) in
+    let same = one_answer once command fs a answer (defined fs command shelf a m sh) (subst (λ c. Answers c fs answer) (sym is) (lowerings.accepted_answer fs model second bytes trace j source run there acc second_there states judged)) in
+    let whole : s ≢ status.WriteFault = λ f. elim (w f) [ inl r ↦ o r | inr r ↦ n r ] in
+    elim ends [
+      | inl e ↦ (e ∙ ap status_of same, (lowered_text source j run, taken whole ∙ ap (λ x. grown before (text_of x)) same, lowered bytes j source acc trace run states judged))
       | inr f ↦ absurd (whole f)
     ]
 

@@ -1,14 +1,11 @@
 -- The lines of a BTOR2 text, and those of the text of their script, have each bad line true for the same numbers of steps.
-use Rattle.std.proofs.Common.{◌≡◌, ◌<◌, ℕ, List, length, ◌∙◌, sym, arith}
-use Rattle.std.specs.Prelude.{◌↔◌}
+use Rattle.std.proofs.Common.{◌<◌, ℕ, List, length, arith}
 use Rattle.text_core.specs.Places.{start, after}
 use Rattle.btor_tree.specs.declared.lines.Line.{Line}
 use Rattle.btor_tree.specs.Fits.{is_bad, operands}
 use Rattle.btor_tree.specs.Texts.{SpellsLines}
-use Rattle.moxi_layout.specs.LayoutLaws.{HasFrames}
 use Rattle.moxi_scripts.specs.Script.{PlainScript}
 use Rattle.btor_commands.specs.Importing.{ScriptsStand, StandsForLines, script_text}
-use Rattle.btor_commands.specs.Traces.{HasTrace}
 use Rattle.moxi_commands.specs.Translation.{IsInstantiated, LinesStand, WritesLines, btor_text}
 use Rattle.top_call.specs.Routes.{KeepsFrames}
 

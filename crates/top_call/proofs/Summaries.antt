@@ -1,22 +1,19 @@
 -- What is answered of the made texts of a number of cells.
-use Rattle.std.proofs.Common.{◌≡◌, ◌≢◌, ◌&&◌, ◌≤◌, refl, inl, inr, ℕ, Bool, true, false, List, [], ◌∷◌, Option, Some, None, Result, Ok, Err, sym, ap, ◌∙◌, subst, arith}
+use Rattle.std.proofs.Common.{◌≡◌, ◌≢◌, ◌&&◌, refl, inl, inr, ℕ, Bool, true, false, List, [], ◌∷◌, Option, Some, None, Result, Ok, Err, sym, ap, ◌∙◌, subst, arith}
 use Rattle.std.proofs.lemmas.Option.{same_Some}
-use Rattle.std.specs.Prelude.{IfOk, IfErr, IfSome, nat_le, option_and_then, option_map, if◌then◌else◌}
+use Rattle.std.specs.Prelude.{IfOk, IfSome, nat_le, option_and_then, option_map, if◌then◌else◌}
 use Rattle.text_core.specs.Outside.{Files, grown}
 use Rattle.command_core.specs.declared.answer.Answer.{Answer}
 use Rattle.command_core.specs.declared.answer.Answer.TheVariants.{Usage, Unread, Refused, SecondRefused, No, Done}
-use Rattle.command_core.specs.declared.answer.Output.{Output}
 use Rattle.command_core.specs.declared.answer.Output.TheVariants.{Text, Yes, Broken, Met}
-use Rattle.command_core.specs.declared.answer.Stop.{Stop}
 use Rattle.command_core.specs.declared.answer.Stop.TheVariants as stop
 use Rattle.command_core.specs.declared.status.Status.TheVariants as status
 use Rattle.command_core.specs.Answers.{status_of, text_of}
-use Rattle.command_core.specs.Giving.{MayGive}
-use Rattle.command_core.specs.Reading.{SaysRead, StopsWith}
+use Rattle.command_core.specs.Reading.{SaysRead}
 use Rattle.command_core.specs.laws.Files.{whatever_told}
-use Rattle.command_core.specs.Numbers.{cell_count, countable, decimal_number}
+use Rattle.command_core.specs.Numbers.{countable, decimal_number}
 use Rattle.command_core.specs.Words.{PlainWords, words_of}
-use Rattle.generate.specs.Generating.{IsGenerated, OfLines}
+use Rattle.generate.specs.Generating.{IsGenerated}
 use Rattle.generate.proofs.OneAnswer.{generated_says}
 use Rattle.top_call.specs.declared.words.Command.{Command}
 use Rattle.top_call.specs.declared.words.Command.TheVariants.{Generate}
@@ -48,6 +45,7 @@ one_in_range task.JudgeSmv word = tt
 one_in_range task.JudgeMoxi word = tt
 one_in_range task.LiftSmv word = tt
 one_in_range task.LiftMoxi word = tt
+one_in_range task.Lower word = tt
 one_in_range task.Generate word = counted (decimal_number 4 word)
 
 two_in_range : (t : Task) (model second : List ℕ) (property : Option ℕ) → IfSome (on_two t model second property) IsInRange
@@ -66,6 +64,8 @@ two_in_range task.LiftSmv model second None = tt
 two_in_range task.LiftSmv model second (Some j) = tt
 two_in_range task.LiftMoxi model second None = tt
 two_in_range task.LiftMoxi model second (Some j) = tt
+two_in_range task.Lower model second None = tt
+two_in_range task.Lower model second (Some j) = tt
 two_in_range task.Generate model second property = tt
 
 with_in_range : (t : Task) (places : List (List ℕ)) (property : Option ℕ) → IfSome (command_with t places property) IsInRange

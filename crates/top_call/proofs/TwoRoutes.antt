@@ -1,5 +1,5 @@
 -- The text of a model's script is the model's.
-use Rattle.std.proofs.Common.{◌≡◌, ◌≤◌, ℕ, Bool, true, false, List, length, Option, Some, None, refl, cond}
+use Rattle.std.proofs.Common.{◌≡◌, ◌≤◌, Bool, true, false, length, Some, None, refl, cond}
 use Rattle.text_core.specs.declared.place.Kind.TheVariants.{M}
 use Rattle.text_core.specs.declared.place.Place.{Place}
 use Rattle.text_core.specs.declared.place.Refusal.{Refusal}
@@ -8,7 +8,6 @@ use Rattle.smv_text.specs.Tree.{PlainSource}
 use Rattle.smv_script.specs.Script.{script_for}
 use Rattle.moxi_term_print.specs.Shown.{SpellsShown, lines_text}
 use Rattle.moxi_scripts.specs.Script.{PlainScript}
-use Rattle.moxi_scripts.specs.Spelling.{SpellsScript}
 use Rattle.moxi_script_print.specs.Printing.{shown_script}
 use Rattle.moxi_script_print.specs.Again.{ReadsAs, with_place}
 use Rattle.moxi_flat.specs.Limits.{flat_refusal, has_name_twice, is_too_large}

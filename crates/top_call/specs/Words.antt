@@ -12,7 +12,7 @@ use Rattle.top_call.specs.Summaries.{IsSummarized}
 use Rattle.top_call.specs.declared.words.Task.{Task}
 use Rattle.top_call.specs.declared.words.Task.TheVariants as task
 use Rattle.top_call.specs.declared.words.Command.{Command}
-use Rattle.top_call.specs.declared.words.Command.TheVariants.{SmvToBtor, SmvToMoxi, MoxiToBtor, BtorToMoxi, Simplify, JudgeBtor, JudgeSmv, JudgeMoxi, LiftSmv, LiftMoxi, Generate}
+use Rattle.top_call.specs.declared.words.Command.TheVariants.{SmvToBtor, SmvToMoxi, MoxiToBtor, BtorToMoxi, Simplify, JudgeBtor, JudgeSmv, JudgeMoxi, LiftSmv, LiftMoxi, Lower, Generate}
 use Rattle.smv_commands.specs.Translation.{IsServed, IsTranslation}
 use Rattle.btor_commands.specs.Importing.{IsImport, IsServed as IsServedImport}
 use Rattle.btor_commands.specs.Simplifying.{IsSimplification, IsServed as IsServedSmaller}
@@ -22,6 +22,7 @@ use Rattle.smv_commands.specs.Scripts.{IsScript, IsServed as IsServedScript}
 use Rattle.moxi_commands.specs.Judgement.{IsMoxiJudgement}
 use Rattle.moxi_commands.specs.Translation.{IsBtorText, IsServed as IsServedLines}
 use Rattle.smv_commands.specs.SmvLift.{IsLiftedTrace, IsSmvLift}
+use Rattle.smv_commands.specs.Lowering.{IsLoweredTrace, IsLowering}
 use Rattle.moxi_commands.specs.MoxiLift.{IsLiftedResponse, IsMoxiLift}
 
 -- the first words of the commands
@@ -29,7 +30,7 @@ abbrev pub commands : List (List ℕ × Task)
 commands =
     (codes "smv2btor", task.SmvToBtor) ∷ (codes "smv2moxi", task.SmvToMoxi) ∷ (codes "moxi2btor", task.MoxiToBtor)
     ∷ (codes "btor2moxi", task.BtorToMoxi) ∷ (codes "simplify", task.Simplify) ∷ (codes "judge-btor", task.JudgeBtor) ∷ (codes "judge-smv", task.JudgeSmv) ∷ (codes "judge-moxi", task.JudgeMoxi)
-    ∷ (codes "lift-smv", task.LiftSmv) ∷ (codes "lift-moxi", task.LiftMoxi) ∷ (codes "generate", task.Generate) ∷ []
+    ∷ (codes "lift-smv", task.LiftSmv) ∷ (codes "lift-moxi", task.LiftMoxi) ∷ (codes "lower", task.Lower) ∷ (codes "generate", task.Generate) ∷ []
 
 -- the task of the first row with this word
 abbrev pub task_in : List (List ℕ × Task) → List ℕ → Option Task
@@ -50,7 +51,7 @@ on_one task.Simplify model = Some (Simplify model)
 on_one task.Generate count = option_map Generate (cell_count count)
 on_one task word = None
 
--- the task on two files; the judge of traces alone takes an invariant's number, which is 0 where none is given
+-- the task on two files; those on a trace alone take an invariant's number, which is 0 where none is given
 abbrev pub on_two : Task → List ℕ → List ℕ → Option ℕ → Option Command
 on_two task.JudgeBtor model second None = Some (JudgeBtor model second)
 on_two task.JudgeSmv model second None = Some (JudgeSmv model second 0)
@@ -58,6 +59,8 @@ on_two task.JudgeSmv model second (Some j) = Some (JudgeSmv model second j)
 on_two task.JudgeMoxi model second None = Some (JudgeMoxi model second)
 on_two task.LiftSmv model second None = Some (LiftSmv model second)
 on_two task.LiftMoxi model second None = Some (LiftMoxi model second)
+on_two task.Lower model second None = Some (Lower model second 0)
+on_two task.Lower model second (Some j) = Some (Lower model second j)
 on_two task model second property = None
 
 abbrev pub command_with : Task → List (List ℕ) → Option ℕ → Option Command
@@ -94,6 +97,7 @@ files_of (JudgeSmv model second j) = model ∷ second ∷ []
 files_of (JudgeMoxi model second) = model ∷ second ∷ []
 files_of (LiftSmv model second) = model ∷ second ∷ []
 files_of (LiftMoxi model second) = model ∷ second ∷ []
+files_of (Lower model second j) = model ∷ second ∷ []
 files_of (Generate n) = []
 
 -- the files that words name, none where they are no command
@@ -114,6 +118,7 @@ Answers (Some (JudgeSmv model second j)) files answer = IsSmvJudgement files mod
 Answers (Some (JudgeMoxi model second)) files answer = IsMoxiJudgement files model second answer
 Answers (Some (LiftSmv model second)) files answer = IsSmvLift files model second answer
 Answers (Some (LiftMoxi model second)) files answer = IsMoxiLift files model second answer
+Answers (Some (Lower model second j)) files answer = IsLowering files model second j answer
 Answers (Some (Generate n)) files answer = IsGenerated n answer
 
 -- what was written for a command stands for its model; a verdict stands for nothing else
@@ -126,6 +131,7 @@ Serves (Some (BtorToMoxi model)) files before now = IsServedImport files model b
 Serves (Some (Simplify model)) files before now = IsServedSmaller files model before now
 Serves (Some (LiftSmv model second)) files before now = IsLiftedTrace files model second before now
 Serves (Some (LiftMoxi model second)) files before now = IsLiftedResponse files model second before now
+Serves (Some (Lower model second j)) files before now = IsLoweredTrace files model second j before now
 Serves (Some (Generate n)) files before now = IsSummarized n before now
 Serves (Some command) files before now = Unit {0}
 

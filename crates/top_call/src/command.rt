@@ -1,5 +1,5 @@
 // The top call: reads the words, does what they say, and writes.
-ghost use Rattle.std.specs.Prelude.{◌≡◌, ◌≢◌, ◌⊎◌, ◌<◌, ◌≤◌, length, map, string_bytes, None, Some, IfOk, IfSome, OnErr, List, ℕ};
+ghost use Rattle.std.specs.Prelude.{◌≡◌, ◌≢◌, ◌⊎◌, ◌<◌, ◌≤◌, length, map, string_bytes, None, Some, Ok, IfOk, IfSome, OnErr, List, ℕ};
 ghost use Rattle.text_core.specs.Outside.{file_at, grown, Rose};
 ghost use Rattle.text_core.specs.declared.place.Refusal.{Refusal};
 ghost use Rattle.text_core.specs.declared.verdict.Clause.{Clause};
@@ -27,6 +27,11 @@ ghost use Rattle.moxi_commands.specs.MoxiLift.{LiftsBack as RespondsBack};
 ghost use Rattle.top_call.specs.Routes.{KeepsFrames};
 ghost use Rattle.moxi_commands.specs.Limits.{most_script_bytes};
 ghost use Rattle.smv_commands.specs.SmvLift.{LiftsBack};
+ghost use Rattle.smv_commands.specs.Lowering.{StatesRun};
+ghost use Rattle.smv_commands.specs.Models.{IsAcceptedModel};
+ghost use Rattle.smv_commands.specs.Traces.{declared_by, verdict_on};
+ghost use Rattle.smv_meaning.specs.declared.value.Run.{Run};
+ghost use Rattle.smv_trace.specs.Texts.{trace_of};
 ghost use Rattle.generate.specs.Generating.{IsGenerated};
 ghost use Rattle.top_call.specs.Words.{BeginsNoSecond, IsInRange, Serves, command_of};
 
@@ -36,7 +41,7 @@ use btor_commands::{imports_stand, smaller_texts_stand};
 use command_core::{Answer, Status, Stop, deliver, note};
 use generate::one_generated;
 use moxi_commands::{lines_stand, traces_are_lifted};
-use smv_commands::{runs_are_lifted, scripts_stand, translations_stand};
+use smv_commands::{runs_are_lifted, runs_are_lowered, scripts_stand, translations_stand};
 use std::alloc::Global;
 use text_core::{NoMemory, Shelf, Sink};
 
@@ -67,6 +72,16 @@ pub fn run<F: Shelf, K: Sink, N: Sink>(
         → ¬ Rose (F.faults shelf.old) (F.faults shelf.new) → ¬ Rose (K.faults out.old) (K.faults out.new) → ¬ Rose (N.faults notes.old) (N.faults notes.new)
         → result ≢ Status.NoMemory
         → (result ≡ Status.Done) × ((trace : List ℕ) × (K.taken out.new ≡ grown (K.taken out.old) trace) × LiftsBack source witness trace)) }
+
+    // For every accepted model that the first file spells, where nothing fails: a trace in the second file whose run the judge says Yes
+    // of, for the invariant of number j, is written as a witness that states the run. The judge of witnesses says Yes of it for the
+    // lines of the model's text, and by the clause before it is lifted to the trace of the same run.
+    ensures lowers { IfSome (F.files shelf.old) (λ files. (model second bytes trace : List ℕ) (j : ℕ) (source : PlainSource) (run : Run)
+        → command_of (map string_bytes words.now.items) ≡ Some (Command.Lower model second j) → file_at files model ≡ Some bytes → IsAcceptedModel bytes j source
+        → file_at files second ≡ Some trace → trace_of (declared_by source) trace ≡ Ok run → verdict_on source j run ≡ Yes
+        → ¬ Rose (F.faults shelf.old) (F.faults shelf.new) → ¬ Rose (K.faults out.old) (K.faults out.new) → ¬ Rose (N.faults notes.old) (N.faults notes.new)
+        → result ≢ Status.NoMemory
+        → (result ≡ Status.Done) × ((text : List ℕ) × (K.taken out.new ≡ grown (K.taken out.old) text) × StatesRun source j run text)) }
 
     // For every accepted model that the first file spells, where nothing fails: a witness in the second file for the lines of the
     // smaller text that `simplify` writes for the model's text, of which the judge says Yes, is written back in the same way.
@@ -176,6 +191,7 @@ pub fn run<F: Shelf, K: Sink, N: Sink>(
     scripts_stand();
     lines_stand();
     runs_are_lifted();
+    runs_are_lowered();
     traces_are_lifted();
     routes_meet();
     imports_stand();

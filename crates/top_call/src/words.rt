@@ -12,7 +12,7 @@ use btor_commands::{btor_to_moxi, judge_files, simplify_btor};
 use command_core::{Answer, Stop, cell_count, read_words};
 use generate::generate;
 use moxi_commands::{judge_moxi_files, lift_moxi_files, moxi_to_btor};
-use smv_commands::{judge_smv_files, lift_smv_files, smv_to_btor, smv_to_moxi};
+use smv_commands::{judge_smv_files, lift_smv_files, lower_smv_files, smv_to_btor, smv_to_moxi};
 use std::alloc::Global;
 use text_core::{Name, NoMemory, Shelf};
 
@@ -37,6 +37,9 @@ pub enum Command {
     JudgeMoxi(Name, Name),
     /// The trace of an SMV model for which a witness of its BTOR2 text stands: the model's file, and the witness's.
     LiftSmv(Name, Name),
+    /// The witness that states a trace of an SMV model up to the bad line of an invariant: the model's file, the trace's, and the
+    /// invariant's number.
+    Lower(Name, Name, u32),
     /// The response to a MoXI script for which a witness of its BTOR2 text stands: the script's file, and the witness's.
     LiftMoxi(Name, Name),
     /// The summary of a model that is made of so many cells, with a witness that is made for it.
@@ -56,11 +59,12 @@ pub enum Task {
     JudgeMoxi,
     LiftSmv,
     LiftMoxi,
+    Lower,
     Generate,
 }
 
 // The first words of the commands.
-const COMMANDS: [(&[u8], Task); 11] = [
+const COMMANDS: [(&[u8], Task); 12] = [
     (b"smv2btor", Task::SmvToBtor),
     (b"smv2moxi", Task::SmvToMoxi),
     (b"moxi2btor", Task::MoxiToBtor),
@@ -71,6 +75,7 @@ const COMMANDS: [(&[u8], Task); 11] = [
     (b"judge-moxi", Task::JudgeMoxi),
     (b"lift-smv", Task::LiftSmv),
     (b"lift-moxi", Task::LiftMoxi),
+    (b"lower", Task::Lower),
     (b"generate", Task::Generate),
 ];
 
@@ -130,6 +135,7 @@ pub fn answer_command<F: Shelf>(
         Command::JudgeMoxi(model, second) => judge_moxi_files(alloc, model, second, shelf),
         Command::LiftSmv(model, second) => lift_smv_files(alloc, model, second, shelf),
         Command::LiftMoxi(model, second) => lift_moxi_files(alloc, model, second, shelf),
+        Command::Lower(model, second, j) => lower_smv_files(alloc, model, second, *j, shelf),
         Command::Generate(n) => generate(alloc, *n),
     }
 }
@@ -186,7 +192,7 @@ fn made_of(count: Option<u32>) -> Option<Command>
     }
 }
 
-// The task on two files; the judge of traces alone takes an invariant's number, which is 0 where none is given.
+// The task on two files. Those on a trace alone take an invariant's number, which is 0 where none is given.
 fn command_on_two(
     alloc: Global,
     task: Task,
@@ -211,6 +217,8 @@ fn on_two(task: Task, model: Name, second: Name, property: Option<u32>) -> Optio
         (Task::JudgeMoxi, None) => Some(Command::JudgeMoxi(model, second)),
         (Task::LiftSmv, None) => Some(Command::LiftSmv(model, second)),
         (Task::LiftMoxi, None) => Some(Command::LiftMoxi(model, second)),
+        (Task::Lower, None) => Some(Command::Lower(model, second, 0)),
+        (Task::Lower, Some(j)) => Some(Command::Lower(model, second, j)),
         _ => None,
     }
 }

@@ -1,4 +1,3 @@
-use Rattle.std.proofs.Common.{◌≡◌}
 use Rattle.text_core.specs.Places.{start, after}
 use Rattle.witness_lift.specs.LineLaws.{model_lines}
 use Rattle.smv_commands.specs.Translation.{btor_text}

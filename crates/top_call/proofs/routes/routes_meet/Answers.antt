@@ -1,4 +1,4 @@
-use Rattle.std.proofs.Common.{◌≡◌, arith}
+use Rattle.std.proofs.Common.{arith}
 use Rattle.std.specs.Prelude.{◌≤◌}
 use Rattle.text_core.specs.declared.place.Place.{Place}
 use Rattle.text_core.specs.Places.{start, after}

@@ -1,0 +1,70 @@
+-- Which witness is written for a trace of an SMV model that the judge accepts, and what it stands for (BTOR2, CAV 2018, witness format).
+use Rattle.std.specs.Prelude.{◌≡◌, ℕ, List, Option, Some, Ok}
+use Rattle.text_core.specs.declared.verdict.Verdict.{Verdict}
+use Rattle.text_core.specs.declared.verdict.Verdict.TheVariants as verdict
+use Rattle.text_core.specs.Outside.{Files, file_at, grown}
+use Rattle.smv_text.specs.Tree.{PlainSource}
+use Rattle.smv_meaning.specs.declared.value.Run.{Run}
+use Rattle.smv_trace.specs.Texts.{trace_of}
+use Rattle.btor_tree.specs.declared.lines.Line.{Line}
+use Rattle.btor_tree.specs.Texts.{SpellsLines}
+use Rattle.btor_witness.specs.declared.witness.Witness.{Witness}
+use Rattle.btor_witness.specs.Judging.{judged_btor}
+use Rattle.btor_witness.specs.Printing.{IsWithinLimits, printed}
+use Rattle.btor_witness.specs.Texts.{SpellsWitness}
+use Rattle.trace_lower.specs.Lowered.{lowered}
+use Rattle.witness_lift.specs.LineLaws.{model_lines}
+use Rattle.command_core.specs.declared.answer.Answer.{Answer}
+use Rattle.command_core.specs.declared.answer.Answer.TheVariants.{No, Done}
+use Rattle.command_core.specs.declared.answer.Output.TheVariants.{Text}
+use Rattle.smv_commands.specs.Models.{IsAcceptedModel}
+use Rattle.smv_commands.specs.SmvLift.{lifted_run}
+use Rattle.smv_commands.specs.Traces.{IsAnswerToTrace, declared_by, verdict_on}
+use Rattle.smv_commands.specs.Translation.{btor_text}
+
+-- the printed witness that states the run
+unfoldable pub lowered_text : PlainSource → ℕ → Run → List ℕ
+lowered_text source j run = printed (model_lines source) (lowered source j run)
+
+-- what is answered to a verdict: the witness, or the step and the clause that fails
+abbrev pub lowered_answer : PlainSource → ℕ → Run → Verdict → Answer
+lowered_answer source j run verdict.Yes = Done (Text (lowered_text source j run))
+lowered_answer source j run (verdict.No step clause) = No step clause
+
+-- the witness for the trace in the second file, for the model in the first
+abbrev pub IsLowering : Files → List ℕ → List ℕ → ℕ → Answer → Type 0
+IsLowering files model second j answer = IsAnswerToTrace lowered_answer files model second j answer
+
+-- ---- what a witness stands for
+
+-- The text is the printed witness that states the run, up to the bad line of invariant j. The judge of witnesses says Yes of it for
+-- all lines that the model's BTOR2 text spells, the text is read as this witness where it is within the limits of witnesses, and it is
+-- lifted to the run again.
+pub record StatesRun (source : PlainSource) (j : ℕ) (run : Run) (text : List ℕ) : Type 0 where
+  pub witness : Witness
+  pub exact : witness ≡ lowered source j run
+  pub bad : witness.bad ≡ j
+  pub written : text ≡ printed (model_lines source) witness
+  pub accepted : (lines : List Line) → SpellsLines (btor_text source) lines → judged_btor lines witness verdict.Yes
+  pub read : (lines : List Line) → SpellsLines (btor_text source) lines → IsWithinLimits lines witness → SpellsWitness lines text witness
+  pub lifted : lifted_run source witness ≡ run
+
+-- what is written for each trace of an accepted model of which the judge says Yes
+abbrev pub RunsAreLowered : Type 0
+RunsAreLowered = (bytes : List ℕ) (j : ℕ) (source : PlainSource) → IsAcceptedModel bytes j source → (trace : List ℕ) (run : Run) → trace_of (declared_by source) trace ≡ Ok run → verdict_on source j run ≡ verdict.Yes
+    → StatesRun source j run (lowered_text source j run)
+
+-- the text that was written is the witness of the run that the trace in the second file states, for the model in the first
+pub record IsLoweredTrace (files : Files) (model second : List ℕ) (j : ℕ) (before now : Option (List ℕ)) : Type 0 where
+  pub bytes : List ℕ
+  pub there : file_at files model ≡ Some bytes
+  pub source : PlainSource
+  pub accepted : IsAcceptedModel bytes j source
+  pub trace : List ℕ
+  pub second_there : file_at files second ≡ Some trace
+  pub run : Run
+  pub states : trace_of (declared_by source) trace ≡ Ok run
+  pub judged : verdict_on source j run ≡ verdict.Yes
+  pub text : List ℕ
+  pub written : now ≡ grown before text
+  pub stands : StatesRun source j run text

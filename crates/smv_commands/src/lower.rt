@@ -1,0 +1,154 @@
+// The witness that states a trace of an SMV model.
+ghost use Rattle.std.specs.Prelude.{◌≡◌, ◌<◌, ◌^◌, [], ◌∷◌, length, IfOk, IfErr, IsErrAnd};
+ghost use Rattle.text_core.specs.Outside.{Rose};
+ghost use Rattle.command_core.specs.Giving.{MayGive};
+ghost use Rattle.command_core.specs.Keeping.{KeepsShelf};
+ghost use Rattle.command_core.specs.Reading.{StopsUnread, StopsWith};
+ghost use Rattle.smv_text.specs.Tree.{PlainSource};
+ghost use Rattle.witness_lift.specs.Breaking.{IsFormOf};
+ghost use Rattle.command_core.specs.declared.answer.Stop.TheVariants as Stop;
+ghost use Rattle.smv_commands.specs.Lowering.{IsLowering, RunsAreLowered, lowered_answer};
+ghost use Rattle.smv_commands.specs.Traces.{IsRunAnswer, OfForm, trace_too_long, OfBytes};
+ghost use Rattle.smv_commands.specs.Limits.{most_trace_bytes, most_smv_bytes};
+ghost use Rattle.smv_commands.specs.Models.{smv_too_long};
+
+use crate::models::{SMV_LIMIT, chain_in};
+use btor_witness::{print_witness, printed_is_read};
+use command_core::{Answer, FirstFile, LastFile, Output, Stop, answer_file, answer_files, refusal};
+use smv_meaning::Run;
+use smv_trace::{MOST_BYTES, read_trace};
+use std::alloc::Global;
+use text_core::kinds::{smv, trace};
+use text_core::{End, Name, Shelf};
+use trace_lower::{LowerEnd, lower_flat, lowered_are_accepted, lowered_come_back};
+use witness_lift::{SmvChain, model_lines_are_laid_out, model_lines_are_spelled};
+
+// Answers a trace with the witness that states its run, for the chain's model and the invariant of number j.
+#[derive(Drop)]
+struct LowerTrace<'a> {
+    chain: &'a SmvChain,
+    j: u32,
+}
+
+impl<'a> LastFile for LowerTrace<'a> {
+    ghost most = { most_trace_bytes };
+
+    ghost longer = { trace_too_long };
+
+    ghost defines = { λ command. OfForm lowered_answer command.chain.now command.j };
+
+    ghost fits = { λ command. (source : PlainSource) × IsFormOf source command.chain.now };
+
+    ghost longer_says = { tt };
+
+    ghost says = { λ command bytes a h. h.0 };
+
+    fn limit(&self) -> usize {
+        MOST_BYTES
+    }
+
+    fn too_long(&self) -> Answer {
+        Answer::SecondRefused(refusal(trace::TOO_LONG))
+    }
+
+    #[tactic(auto, using(crate::proofs::TraceAnswers::run_answered, crate::proofs::TraceAnswers::trace_refused))]
+    fn answer(&self, alloc: Global, bytes: &[u8]) -> Result<Answer, Stop> {
+        match read_trace(alloc, self.chain.flat(), bytes) {
+            Ok(run) => run_answer(alloc, self.chain, self.j, &run),
+            Err(End::Bad(refusal)) => Ok(Answer::SecondRefused(refusal)),
+            Err(End::NoMemory) => Err(Stop::NoMemory),
+        }
+    }
+}
+
+// The printed witness that states a run, or what the judge says against the run.
+fn run_answer(alloc: Global, chain: &SmvChain, j: u32, run: &Run) -> Result<Answer, Stop>
+    requires model { (source : PlainSource) × IsFormOf source chain.now }
+    requires few { length run.now.states < 2 ^ 32 }
+    ensures answer { IfOk result (IsRunAnswer lowered_answer chain.now j run.now) }
+    ensures stop { IfErr result (λ stop. stop ≡ Stop.NoMemory) }
+{
+    lowered_are_accepted();
+    model_lines_are_laid_out();
+    match lower_flat(alloc, chain.flat(), j, run) {
+        Ok(witness) => {
+            let text = print_witness(alloc, chain.nodes(), &witness)?;
+            Ok(Answer::Done(Output::Text(text)))
+        }
+        Err(LowerEnd::No(step, clause)) => Ok(Answer::No(step, clause)),
+        Err(LowerEnd::NoMemory) => Err(Stop::NoMemory),
+    }
+}
+
+// Answers a model, and a trace of it.
+#[derive(Drop)]
+struct LowerSmv {
+    j: u32,
+}
+
+impl FirstFile for LowerSmv {
+    ghost most = { most_smv_bytes };
+
+    ghost longer = { smv_too_long };
+
+    ghost defines = { λ command files second bytes. OfBytes lowered_answer files second command.j bytes };
+
+    ghost longer_says = { tt };
+
+    fn limit(&self) -> usize {
+        SMV_LIMIT
+    }
+
+    fn too_long(&self) -> Answer {
+        Answer::Refused(refusal(smv::TOO_LONG))
+    }
+
+    #[tactic(auto, using(crate::proofs::TraceAnswers::has_form, crate::proofs::TraceAnswers::refusal_given))]
+    fn answer<F: Shelf>(
+        &self,
+        alloc: Global,
+        bytes: &[u8],
+        second: &Name,
+        shelf: &mut F,
+    ) -> Result<Answer, Stop> {
+        match chain_in(alloc, bytes, self.j) {
+            Ok(chain) => {
+                let trace = LowerTrace {
+                    chain: &chain,
+                    j: self.j,
+                };
+                answer_file(alloc, second, &trace, shelf)
+            }
+            Err(End::Bad(refusal)) => Ok(Answer::Refused(refusal)),
+            Err(End::NoMemory) => Err(Stop::NoMemory),
+        }
+    }
+}
+
+/// Reads an SMV model and a trace of it, and returns the witness that states the trace, where the judge says that it is a run whose
+/// last state breaks the invariant of number j.
+pub fn lower_smv_files<F: Shelf>(
+    alloc: Global,
+    model: &Name,
+    second: &Name,
+    j: u32,
+    shelf: &mut F,
+) -> Result<Answer, Stop>
+    ensures answer { IfOk result (MayGive (F.files shelf.old) (model.now ∷ second.now ∷ []) (λ files. IsLowering files model.now second.now j) (Rose (F.faults shelf.old) (F.faults shelf.new))) }
+    ensures stop { IfErr result (StopsWith (MayGive (F.files shelf.old) (model.now ∷ second.now ∷ []) (λ files. IsLowering files model.now second.now j) (Rose (F.faults shelf.old) (F.faults shelf.new)))) }
+    ensures shelf { KeepsShelf (F.files shelf.old) (F.files shelf.new) (F.faults shelf.old) (F.faults shelf.new) (F.begun shelf.old) (F.begun shelf.new) (model.now ∷ second.now ∷ []) (IsErrAnd result StopsUnread) }
+{
+    answer_files(alloc, model, second, &LowerSmv { j }, shelf)
+}
+
+/// What is written for a trace of an accepted model of which the judge says Yes states the trace's run: the judge of witnesses says Yes
+/// of it, and it is lifted to the run again. This function does nothing.
+pub fn runs_are_lowered()
+    ensures { RunsAreLowered }
+{
+    model_lines_are_laid_out();
+    model_lines_are_spelled();
+    lowered_are_accepted();
+    lowered_come_back();
+    printed_is_read();
+}
