@@ -1,4 +1,8 @@
-pub mod Notes
+pub mod Kinds
+pub mod Tokens
 pub mod Lines
+pub mod Near
+pub mod Advice
+pub mod Notes
 pub mod Messages
 pub mod Explaining

@@ -3,9 +3,13 @@ use Rattle.std.specs.Prelude.{◌≡◌, ◌==◌, ◌≤◌, ◌+◌, ◌-◌, 
 use Rattle.std.specs.List.{slice_split}
 use Rattle.explain_core.specs.declared.lines.Window.{Window}
 
--- the line of a number, counted from 1, without its line end; a line ends at byte 10
-abbrev pub line_of_number : List ℕ → ℕ → Option (List ℕ)
-line_of_number text number = slice_get (slice_split (λ b. b == 10) text) (number - 1)
+-- the lines of a text, each without its line end; a line ends at byte 10
+abbrev pub lines_of : List ℕ → List (List ℕ)
+lines_of text = slice_split (λ b. b == 10) text
+
+-- the line of a number, counted from 1
+abbrev pub line_of_number : List (List ℕ) → ℕ → Option (List ℕ)
+line_of_number lines number = slice_get lines (number - 1)
 
 -- the ends of the part of a line of this length that is shown around a byte: 60 bytes before it and as many from it on
 abbrev pub window_start : ℕ → ℕ → ℕ

@@ -1,13 +1,33 @@
 // A whole run: the words, the files that they name, and the notes.
 use crate::ending::Ending;
+use crate::lines::lines_of;
 use crate::messages::put;
-use crate::session::{Source, Stop, explain_notes};
+use crate::session::{Source, explain_notes};
 use crate::table::put_table;
 use std::alloc::Global;
-use text_core::{Name, NoMemory, ReadEnd, Shelf, Sink, read_whole};
+use text_core::{Name, NoMemory, ReadEnd, Shelf, Sink, SinkFault, read_whole};
 
 // The most bytes that a command reads of a file.
 const LONGEST: usize = 134_217_728;
+
+// Why notes were not explained to their end.
+#[derive(Clone, Copy)]
+enum Stop {
+    WriteFault,
+    NoMemory,
+}
+
+impl From<NoMemory> for Stop {
+    fn from(_: NoMemory) -> Stop {
+        Stop::NoMemory
+    }
+}
+
+impl From<SinkFault> for Stop {
+    fn from(_: SinkFault) -> Stop {
+        Stop::WriteFault
+    }
+}
 
 /// Runs `explain` on its command words, without the program's name, and on the bytes of standard input.
 pub fn explain<F: Shelf, K: Sink>(
@@ -58,9 +78,73 @@ fn explain_files<F: Shelf, K: Sink>(
 ) -> Result<bool, Stop> {
     let model = text_of(alloc, names.first(), shelf)?;
     let second = text_of(alloc, names.get(1), shelf)?;
-    let model = source(names.first(), b"model", &model);
-    let second = source(names.get(1), b"second", &second);
-    explain_notes(alloc, notes, &model, &second, out)
+    explain_texts(alloc, names, notes, &model, &second, out)
+}
+
+// Explains the notes by these texts. The notes and each text are cut into lines once.
+fn explain_texts<K: Sink>(
+    alloc: Global,
+    names: &[String],
+    notes: &[u8],
+    model: &Option<Vec<u8>>,
+    second: &Option<Vec<u8>>,
+    out: &mut K,
+) -> Result<bool, Stop> {
+    let notes = lines_of(alloc, notes)?;
+    explain_model(alloc, names, notes.as_slice(), model, second, out)
+}
+
+fn explain_model<K: Sink>(
+    alloc: Global,
+    names: &[String],
+    notes: &[&[u8]],
+    model: &Option<Vec<u8>>,
+    second: &Option<Vec<u8>>,
+    out: &mut K,
+) -> Result<bool, Stop> {
+    let model = lines_in(alloc, model)?;
+    explain_second(alloc, names, notes, &model, second, out)
+}
+
+fn explain_second<K: Sink>(
+    alloc: Global,
+    names: &[String],
+    notes: &[&[u8]],
+    model: &Option<Vec<&[u8]>>,
+    second: &Option<Vec<u8>>,
+    out: &mut K,
+) -> Result<bool, Stop> {
+    let second = lines_in(alloc, second)?;
+    Ok(explain_by(names, notes, model, &second, out)?)
+}
+
+// Explains the notes by these lines.
+fn explain_by<K: Sink>(
+    names: &[String],
+    notes: &[&[u8]],
+    model: &Option<Vec<&[u8]>>,
+    second: &Option<Vec<&[u8]>>,
+    out: &mut K,
+) -> Result<bool, SinkFault> {
+    let model = source(name_in(names, 0, b"model"), model);
+    let second = source(name_in(names, 1, b"second"), second);
+    explain_notes(notes, &model, &second, out)
+}
+
+// The name of this number, or this word where there is none.
+fn name_in<'a>(names: &'a [String], number: usize, word: &'static [u8]) -> &'a [u8] {
+    match names.get(number) {
+        Some(name) => name.as_bytes(),
+        None => word,
+    }
+}
+
+// The lines of the text, where there is one.
+fn lines_in(alloc: Global, text: &Option<Vec<u8>>) -> Result<Option<Vec<&[u8]>>, NoMemory> {
+    match text {
+        Some(text) => Ok(Some(lines_of(alloc, text.as_slice())?)),
+        None => Ok(None),
+    }
 }
 
 // The bytes of the file of this name, where there is a name and the file is read.
@@ -80,19 +164,12 @@ fn text_of<F: Shelf>(
     }
 }
 
-// The file of a name, or of this word where there is none.
-fn source<'a>(
-    name: Option<&'a String>,
-    word: &'static [u8],
-    text: &'a Option<Vec<u8>>,
-) -> Source<'a> {
+// The file of a name, and its lines where it was read.
+fn source<'a, 'b>(name: &'a [u8], lines: &'b Option<Vec<&'b [u8]>>) -> Source<'a, 'b> {
     Source {
-        name: match name {
-            Some(name) => name.as_bytes(),
-            None => word,
-        },
-        text: match text {
-            Some(text) => Some(text.as_slice()),
+        name,
+        lines: match lines {
+            Some(lines) => Some(lines.as_slice()),
             None => None,
         },
     }

@@ -3,10 +3,10 @@
 
 mod advice;
 mod command;
-mod details;
 mod ending;
 mod lines;
 mod messages;
+mod near;
 mod notes;
 mod session;
 mod table;
@@ -14,7 +14,7 @@ mod tokens;
 
 pub use command::explain;
 pub use ending::Ending;
-pub use lines::{Window, line_at, window_at};
+pub use lines::{Window, line_at, lines_of, window_at};
 pub use messages::put_excerpt;
-pub use notes::{Note, Refused, read_note};
-pub use session::{Source, Stop, explain_line, explain_notes, put_refusal};
+pub use notes::{Note, read_note};
+pub use session::{Source, explain_line, explain_notes, put_refusal};

@@ -1,13 +1,29 @@
-// The line of a place, and the part of it that is shown.
-ghost use Rattle.std.specs.Prelude.{◌≡◌, ◌+◌, ◌≤◌, ◌-◌, length, option_map};
+// The lines of a text, and the part of a line that is shown.
+ghost use Rattle.std.specs.Prelude.{◌≡◌, ◌==◌, ◌+◌, ◌≤◌, ◌-◌, length, map, option_map, IfOk};
+ghost use Rattle.std.specs.List.{slice_split};
 ghost use Rattle.explain_core.specs.Lines.{line_of_number, IsWindow, window_end, window_start};
 
-/// Returns the line of a number, counted from 1, without its line end; `None` where the text has fewer lines. 0 counts as 1.
-pub fn line_at(text: &[u8], number: u32) -> Option<&[u8]>
-    ensures { option_map (λ line. line.now) result ≡ line_of_number text.now number }
+use std::alloc::Global;
+use text_core::NoMemory;
+
+/// Returns the lines of a text, each without its line end. They are cut once, and then found by their numbers.
+pub fn lines_of(alloc: Global, text: &[u8]) -> Result<Vec<&[u8]>, NoMemory>
+    ensures { IfOk result (λ lines. map (λ line. line.now) lines.items ≡ slice_split (λ b. b == 10) text.now) }
 {
-    text.split(|b| *b == b'\n')
-        .nth((number as usize).saturating_sub(1))
+    match text.split(|b| *b == b'\n').collect(alloc) {
+        Ok(lines) => Ok(lines),
+        Err(_) => Err(NoMemory),
+    }
+}
+
+/// Returns the line of a number, counted from 1; `None` where there are fewer lines. 0 counts as 1.
+pub fn line_at<'a>(lines: &[&'a [u8]], number: usize) -> Option<&'a [u8]>
+    ensures { option_map (λ line. line.now) result ≡ line_of_number (map (λ line. line.now) lines.now) number }
+{
+    match lines.get(number.saturating_sub(1)) {
+        Some(line) => Some(*line),
+        None => None,
+    }
 }
 
 /// The part of a line that is shown, from the byte `start` to before the byte `end`.

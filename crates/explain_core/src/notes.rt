@@ -1,20 +1,20 @@
 // The lines that `moxi_cli` notes, read again.
-ghost use Rattle.std.specs.Prelude.{◌≡◌, ◌≤◌, ◌++◌, ◌∷◌, [], length, true, IfOk, IfSome};
-ghost use Rattle.command_core.specs.Answers.{line_of};
-ghost use Rattle.explain_core.specs.Notes.{IsNoted, IsCutAt};
+ghost use Rattle.std.specs.Prelude.{◌≡◌, ◌++◌, ◌<◌, length, drop, option_map, IfSome};
+ghost use Rattle.std.specs.Str.{bytes_eq};
+ghost use Rattle.command_core.specs.Notes.{clause_name, colon_text, column_text, joined, kind_letter, kind_number};
+ghost use Rattle.explain_core.specs.Notes.{behind, clause_named, counted, denial_in, denial_words, IsNoted, kind_in, kind_of, named, note_of, noted_denial, noted_refusal, place_in, place_of_byte, plain_note, refusal_at, refusal_in, refusal_words};
 
-use crate::tokens::place_of_byte;
-use command_core::{Answer, Status, deliver, invariant_number};
-use std::alloc::Global;
-use text_core::{
-    Clause, DropSink, FIRST_PLACE, Kind, MemorySink, NoMemory, Numbers, Place, Refusal,
-};
+use command_core::invariant_number;
+use itoa::Buffer;
+use text_core::{Clause, FIRST_PLACE, Kind, Place, Refusal, is_same};
 
 /// A line that `moxi_cli` notes.
 #[derive(Clone, Copy)]
 pub enum Note {
-    /// A file is refused.
-    Refused(Refused),
+    /// The model is refused. The offset of the place is 0, since no note has one.
+    Refused(Refusal),
+    /// The second file is refused.
+    SecondRefused(Refusal),
     /// A stated run fails this clause first, at this step.
     No(u32, Clause),
     /// The words are no command.
@@ -27,218 +27,312 @@ pub enum Note {
     NoMemory,
 }
 
-/// A refusal as it is noted: whether it is the second file's, the refusal, and where in its line the kind with its name
-/// stands: from the byte `start` to before the byte `end`. The offset of its place is 0, since no note has one.
-#[derive(Clone, Copy)]
-pub struct Refused {
-    pub second: bool,
-    pub refusal: Refusal,
-    pub start: usize,
-    pub end: usize,
+/// Reads a line, without its line end, as one that `moxi_cli` notes; `None` for any other line.
+#[tactic(auto, using(crate::proofs::Reading::refused_is, crate::proofs::Reading::denied_is), unfolding(crate::specs::Notes::note_of))]
+pub fn read_note(line: &[u8]) -> Option<Note>
+    ensures value { result ≡ note_of line.now }
+    ensures noted { IfSome result (λ note. IsNoted note line.now) }
+{
+    if let Some(rest) = behind(b"refused: ", line) {
+        return Some(Note::Refused(refusal_in(rest)?));
+    }
+    if let Some(rest) = behind(b"second refused: ", line) {
+        return Some(Note::SecondRefused(refusal_in(rest)?));
+    }
+    if let Some(rest) = behind(b"no: step ", line) {
+        let (step, clause) = denial_in(rest)?;
+        return Some(Note::No(step, clause));
+    }
+    plain_note(line)
 }
 
-const AT: &[u8] = b" at ";
-
-/// Reads a line, without its line end, as one that `moxi_cli` notes; `None` for any other line.
-pub fn read_note(alloc: Global, line: &[u8]) -> Result<Option<Note>, NoMemory>
-    ensures { IfOk result (λ note. IfSome note (λ n. IsNoted n line.now)) }
+// What stands behind the words, where the text begins with them.
+#[tactic(auto, using(crate::proofs::Joining::begins))]
+fn behind<'a>(words: &[u8], text: &'a [u8]) -> Option<&'a [u8]>
+    ensures value { option_map (λ rest. rest.now) result ≡ behind words.now text.now }
+    ensures whole { IfSome result (λ rest. text.now ≡ words.now ++ rest.now) }
 {
-    if line.starts_with(b"refused: ") {
-        return refused_note(alloc, false, 9, line);
+    if text.starts_with(words) {
+        Some(&text[words.len()..])
+    } else {
+        None
     }
-    if line.starts_with(b"second refused: ") {
-        return refused_note(alloc, true, 16, line);
-    }
-    if line.starts_with(b"no: step ") {
-        return denied_note(alloc, line);
-    }
-    if is_noted(alloc, &Answer::Usage, line)? {
-        return Ok(Some(Note::Usage));
-    }
-    Ok(plain_note(line))
 }
 
 // A note without a number.
 fn plain_note(line: &[u8]) -> Option<Note>
-    ensures { IfSome result (λ n. IsNoted n line.now) }
+    ensures { result ≡ plain_note line.now }
 {
-    if line.starts_with(b"read fault: ") {
+    if is_same(
+        line,
+        b"usage: moxi_cli COMMAND MODEL [SECOND] [--property J]",
+    ) {
+        Some(Note::Usage)
+    } else if line.starts_with(b"read fault: ") {
         Some(Note::Unread)
-    } else if line == b"write fault".as_slice() {
+    } else if is_same(line, b"write fault") {
         Some(Note::WriteFault)
-    } else if line == b"no memory".as_slice() {
+    } else if is_same(line, b"no memory") {
         Some(Note::NoMemory)
     } else {
         None
     }
 }
 
-// The note of a refusal whose kind begins at this byte, where the line is that of one.
-fn refused_note(
-    alloc: Global,
-    second: bool,
-    start: usize,
-    line: &[u8],
-) -> Result<Option<Note>, NoMemory>
-    requires { start ≤ length line.now }
-    ensures { IfOk result (λ note. IfSome note (λ n. IsNoted n line.now)) }
+// The refusal with this kind, this name and this place, where it is written so.
+fn refusal_in(rest: &[u8]) -> Option<Refusal>
+    ensures value { result ≡ refusal_in rest.now }
+    ensures noted { IfSome result (λ refusal. rest.now ≡ refusal_words refusal) }
 {
-    let Some(end) = label_end(line) else {
-        return Ok(None);
-    };
-    if end < start {
-        return Ok(None);
-    }
-    let Some(refusal) = refusal_in(&line[start..end], &line[end + 4..]) else {
-        return Ok(None);
-    };
-    let answer = if second {
-        Answer::SecondRefused(refusal)
+    let end = place_of_byte(rest, b' ')?;
+    let kind = kind_in(&rest[..end])?;
+    refusal_at(kind, end, rest)
+}
+
+// The refusal of the kind, whose number ends at this byte.
+fn refusal_at(kind: Kind, end: usize, rest: &[u8]) -> Option<Refusal>
+    requires { end < length rest.now }
+    ensures value { result ≡ refusal_at kind end rest.now }
+    ensures noted { IfSome result (λ refusal. rest.now ≡ refusal_words refusal) }
+{
+    let place = place_in(from_byte(&rest[end..], kind.name().len() + 5))?;
+    noted_refusal(Refusal { kind, place }, rest)
+}
+
+// The refusal, where it is written so.
+fn noted_refusal(refusal: Refusal, rest: &[u8]) -> Option<Refusal>
+    ensures value { result ≡ noted_refusal refusal rest.now }
+    ensures noted { IfSome result (λ refusal. rest.now ≡ refusal_words refusal) }
+{
+    let mut number = Buffer::new();
+    let mut line = Buffer::new();
+    let mut column = Buffer::new();
+    let pieces = [
+        letter_of(refusal.kind),
+        number.format(number_of(refusal.kind)).as_bytes(),
+        b" ",
+        refusal.kind.name(),
+        b" at ",
+        line.format(refusal.place.line).as_bytes(),
+        colon_of(refusal.kind),
+        column_of(refusal.kind, column.format(refusal.place.column).as_bytes()),
+    ];
+    if is_joined(&pieces, rest) {
+        Some(refusal)
     } else {
-        Answer::Refused(refusal)
-    };
-    if is_noted(alloc, &answer, line)? {
-        Ok(Some(Note::Refused(Refused {
-            second,
-            refusal,
-            start,
-            end,
-        })))
-    } else {
-        Ok(None)
+        None
     }
 }
 
-// Where the last ` at ` of a line begins, if its last blank ends one.
-fn label_end(line: &[u8]) -> Option<usize>
-    ensures { IfSome result (λ end. IsCutAt end line.now) }
+// Are these pieces, one after another, the text?
+#[tactic(auto, using(crate::proofs::Joining::joined_on, crate::proofs::Joining::joined_off))]
+fn is_joined(pieces: &[&[u8]], text: &[u8]) -> bool
+    ensures { result ≡ bytes_eq text.now (joined pieces.now) }
 {
-    let blank = line.iter().rposition(|b| *b == b' ')?;
-    if blank < 3 || &line[blank - 3..blank + 1] != AT {
+    match pieces.split_first() {
+        Some((piece, more)) => { text.starts_with(piece) && is_joined(more, &text[piece.len()..]) }
+        None => text.is_empty(),
+    }
+}
+
+// What stands from the byte on.
+fn from_byte(text: &[u8], at: usize) -> &[u8]
+    ensures { result.now ≡ drop at text.now }
+{
+    if at < text.len() { &text[at..] } else { b"" }
+}
+
+// Where a byte stands first.
+fn place_of_byte(text: &[u8], wanted: u8) -> Option<usize>
+    ensures value { result ≡ place_of_byte wanted text.now }
+    ensures within { IfSome result (λ at. at < length text.now) }
+{
+    let mut rest = text;
+    let mut count = 0;
+    while let Some((b, more)) = rest.split_first() {
+        if *b == wanted {
+            return Some(count);
+        }
+        count += 1;
+        rest = more;
+    }
+    None
+}
+
+// The kind of a letter with a number behind it, where there is such a kind.
+fn kind_in(word: &[u8]) -> Option<Kind>
+    ensures { result ≡ kind_in word.now }
+{
+    let (letter, digits) = word.split_first()?;
+    let number = invariant_number(digits)?;
+    if number > 255 {
         return None;
     }
-    Some(blank - 3)
-}
-
-// The refusal of a kind with its name and a place.
-fn refusal_in(label: &[u8], place: &[u8]) -> Option<Refusal> {
-    let kind = kind_in(label)?;
-    let place = place_in(place)?;
-    Some(Refusal { kind, place })
-}
-
-// The kind at the front, a letter and a number, where there is such a kind.
-fn kind_in(label: &[u8]) -> Option<Kind> {
-    let end = place_of_byte(label, b' ')?;
-    let (letter, digits) = label[..end].split_first()?;
-    let number = u8::try_from(invariant_number(digits)?).ok()?;
-    kind_of(*letter, number)
+    kind_of(*letter, number as u8)
 }
 
 /// Returns the kind of a letter and a number, where there is such a kind.
-pub fn kind_of(letter: u8, number: u8) -> Option<Kind> {
-    let kind = match letter {
-        b'S' => Kind::S(number),
-        b'M' => Kind::M(number),
-        b'B' => Kind::B(number),
-        b'X' => Kind::X(number),
-        b'Y' => Kind::Y(number),
-        _ => return None,
-    };
-    if kind.name().is_empty() {
+pub fn kind_of(letter: u8, number: u8) -> Option<Kind>
+    ensures { result ≡ kind_of letter number }
+{
+    match letter {
+        b'S' => named(Kind::S(number)),
+        b'M' => named(Kind::M(number)),
+        b'B' => named(Kind::B(number)),
+        b'X' => named(Kind::X(number)),
+        b'Y' => named(Kind::Y(number)),
+        _ => None,
+    }
+}
+
+// The kind, where it has a name.
+fn named(kind: Kind) -> Option<Kind>
+    ensures { result ≡ named kind }
+{
+    if kind.name().len() == 0 {
         None
     } else {
         Some(kind)
     }
 }
 
+/// The letter of a kind.
+pub fn letter_of(kind: Kind) -> &'static [u8]
+    ensures { result.now ≡ kind_letter kind }
+{
+    match kind {
+        Kind::S(_) => b"S",
+        Kind::M(_) => b"M",
+        Kind::B(_) => b"B",
+        Kind::X(_) => b"X",
+        Kind::Y(_) => b"Y",
+    }
+}
+
+/// The number of a kind.
+pub fn number_of(kind: Kind) -> u8
+    ensures { result ≡ kind_number kind }
+{
+    match kind {
+        Kind::S(n) | Kind::M(n) | Kind::B(n) | Kind::X(n) | Kind::Y(n) => n,
+    }
+}
+
+/// What stands between a line and a column, where places of the kind have both.
+pub fn colon_of(kind: Kind) -> &'static [u8]
+    ensures { result.now ≡ colon_text kind }
+{
+    match kind {
+        Kind::S(_) | Kind::M(_) => b":",
+        Kind::B(_) | Kind::X(_) | Kind::Y(_) => b"",
+    }
+}
+
+/// The column's digits, where places of the kind have a column.
+pub fn column_of(kind: Kind, digits: &[u8]) -> &[u8]
+    ensures { result.now ≡ column_text kind digits.now }
+{
+    match kind {
+        Kind::S(_) | Kind::M(_) => digits,
+        Kind::B(_) | Kind::X(_) | Kind::Y(_) => b"",
+    }
+}
+
 // The place that is written as a line, or as a line and a column.
-fn place_in(words: &[u8]) -> Option<Place> {
+fn place_in(words: &[u8]) -> Option<Place>
+    ensures { result ≡ place_in words.now }
+{
     match place_of_byte(words, b':') {
-        Some(end) => Some(Place {
-            line: counted(&words[..end])?,
-            column: counted(&words[end + 1..])?,
-            ..FIRST_PLACE
-        }),
-        None => Some(Place {
-            line: counted(words)?,
-            ..FIRST_PLACE
-        }),
+        Some(end) => {
+            let line = counted(&words[..end])?;
+            let column = counted(&words[end + 1..])?;
+            Some(Place {
+                line,
+                column,
+                offset: 0,
+            })
+        }
+        None => {
+            let line = counted(words)?;
+            Some(Place {
+                line,
+                ..FIRST_PLACE
+            })
+        }
     }
 }
 
 // A number that counts from 1.
-fn counted(digits: &[u8]) -> Option<u32> {
-    match invariant_number(digits) {
-        Some(0) => None,
-        number => number,
-    }
-}
-
-// The note of a step and a clause that fails there.
-fn denied_note(alloc: Global, line: &[u8]) -> Result<Option<Note>, NoMemory>
-    ensures { IfOk result (λ note. IfSome note (λ n. IsNoted n line.now)) }
+fn counted(digits: &[u8]) -> Option<u32>
+    ensures { result ≡ counted digits.now }
 {
-    let Some((step, clause)) = denial_in(line) else {
-        return Ok(None);
-    };
-    if is_noted(alloc, &Answer::No(step, clause), line)? {
-        Ok(Some(Note::No(step, clause)))
-    } else {
-        Ok(None)
+    match invariant_number(digits) {
+        Some(number) if number > 0 => Some(number),
+        _ => None,
     }
 }
 
-// The step and the clause that a line names.
-fn denial_in(line: &[u8]) -> Option<(u32, Clause)> {
-    let words = line.strip_prefix(b"no: step ")?;
-    let end = place_of_byte(words, b':')?;
-    let step = invariant_number(&words[..end])?;
-    let name = words[end..].strip_prefix(b": ")?;
-    for (word, clause) in &CLAUSES {
-        if *word == name {
-            return Some((step, *clause));
+// The step and the clause, where they are written so.
+fn denial_in(rest: &[u8]) -> Option<(u32, Clause)>
+    ensures value { result ≡ denial_in rest.now }
+    ensures noted { IfSome result (λ denial. rest.now ≡ denial_words denial.0 denial.1) }
+{
+    let end = place_of_byte(rest, b':')?;
+    let step = invariant_number(&rest[..end])?;
+    let clause = clause_named(behind(b": ", &rest[end..])?, &CLAUSES)?;
+    noted_denial(step, clause, rest)
+}
+
+// This step and this clause, where they are written so.
+fn noted_denial(step: u32, clause: Clause, rest: &[u8]) -> Option<(u32, Clause)>
+    ensures value { result ≡ noted_denial step clause rest.now }
+    ensures noted { IfSome result (λ denial. rest.now ≡ denial_words denial.0 denial.1) }
+{
+    let mut digits = Buffer::new();
+    let pieces = [digits.format(step).as_bytes(), b": ", name_of(clause)];
+    if is_joined(&pieces, rest) {
+        Some((step, clause))
+    } else {
+        None
+    }
+}
+
+// The clause of a name.
+fn clause_named(name: &[u8], clauses: &[Clause]) -> Option<Clause>
+    ensures { result ≡ clause_named name.now clauses.now }
+{
+    for clause in clauses {
+        if is_same(name, name_of(*clause)) {
+            return Some(*clause);
         }
     }
     None
 }
 
-// The clauses by their names.
-const CLAUSES: [(&[u8], Clause); 9] = [
-    (b"ValueOutside", Clause::ValueOutside),
-    (b"InitFails", Clause::InitFails),
-    (b"TransFails", Clause::TransFails),
-    (b"InvarFails", Clause::InvarFails),
-    (b"AssumptionFails", Clause::AssumptionFails),
-    (b"CurrentFails", Clause::CurrentFails),
-    (b"StateDiffers", Clause::StateDiffers),
-    (b"ConstraintFails", Clause::ConstraintFails),
-    (b"NotBroken", Clause::NotBroken),
+fn name_of(clause: Clause) -> &'static [u8]
+    ensures { result.now ≡ clause_name clause }
+{
+    match clause {
+        Clause::ValueOutside => b"ValueOutside",
+        Clause::InitFails => b"InitFails",
+        Clause::TransFails => b"TransFails",
+        Clause::InvarFails => b"InvarFails",
+        Clause::AssumptionFails => b"AssumptionFails",
+        Clause::CurrentFails => b"CurrentFails",
+        Clause::StateDiffers => b"StateDiffers",
+        Clause::ConstraintFails => b"ConstraintFails",
+        Clause::NotBroken => b"NotBroken",
+    }
+}
+
+const CLAUSES: [Clause; 9] = [
+    Clause::ValueOutside,
+    Clause::InitFails,
+    Clause::TransFails,
+    Clause::InvarFails,
+    Clause::AssumptionFails,
+    Clause::CurrentFails,
+    Clause::StateDiffers,
+    Clause::ConstraintFails,
+    Clause::NotBroken,
 ];
-
-// Is this the line that is noted for the answer? The answer is delivered once more, into memory.
-fn is_noted(alloc: Global, answer: &Answer, line: &[u8]) -> Result<bool, NoMemory>
-    ensures { IfOk result (λ yes. yes ≡ true → line_of answer.now ≡ line.now ++ 10 ∷ []) }
-{
-    let mut out = DropSink::new();
-    let mut notes = MemorySink::new(
-        alloc,
-        line.len().saturating_add(1),
-        usize::MAX,
-        Numbers::new(alloc),
-    )?;
-    match deliver(answer, &mut out, &mut notes) {
-        Status::WriteFault => Ok(false),
-        _ => Ok(is_ended(notes.bytes(), line)),
-    }
-}
-
-// Is this the line with a line end behind it?
-fn is_ended(taken: &[u8], line: &[u8]) -> bool
-    ensures { result ≡ true → taken.now ≡ line.now ++ 10 ∷ [] }
-{
-    match taken.split_last() {
-        Some((last, front)) => *last == b'\n' && front == line,
-        None => false,
-    }
-}

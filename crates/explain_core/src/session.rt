@@ -1,198 +1,287 @@
 // The notes of runs, each explained or passed through.
-ghost use Rattle.std.specs.Prelude.{◌≡◌, ◌≤◌, ◌-◌, length, option_map, false, IfOk, IfSome, OnOk};
-ghost use Rattle.text_core.specs.Outside.{grown};
-ghost use Rattle.explain_core.specs.Notes.{IsCut, IsNoted};
-ghost use Rattle.explain_core.specs.Explaining.{Adds, ExplainsRefusal, HasLine, ShowsPlace};
+ghost use Rattle.std.specs.Prelude.{◌≡◌, ◌<◌, ◌≤◌, ◌+◌, ◌-◌, [], length, map, take, drop, get_or, is_some, option_map, IfOk, IfSome};
+ghost use Rattle.command_core.specs.Sinks.{Puts};
+ghost use Rattle.explain_core.specs.Advice.{plain_advice};
+ghost use Rattle.explain_core.specs.Messages.{plain_text};
+ghost use Rattle.explain_core.specs.Near.{plain_near};
+ghost use Rattle.explain_core.specs.Notes.{note_of};
+ghost use Rattle.explain_core.specs.Explaining.{below_text, end_before, explained_line, explained_lines, file_of, found_text, is_explained, line_at_text, marked, mend_of, note_text, refusal_text, rest_of, rest_text, shown_line, token_of, usage_text};
 
 use crate::advice::{
     Advice, COMMANDS, NO_MEMORY, READ_FAULT, USAGE, WRITE_FAULT, advice_of, clause_advice, hint_for,
 };
-use crate::details::put_details;
 use crate::lines::line_at;
-use crate::messages::{put, put_excerpt, put_header, put_help};
-use crate::notes::{Note, Refused, read_note};
+use crate::messages::{put, put_excerpt, put_header, put_help, put_near, put_plain};
+use crate::near::{NEAREST, Near, near_of};
+use crate::notes::{Note, read_note};
 use crate::tokens::token_length;
-use std::alloc::Global;
-use text_core::{Kind, NoMemory, Place, Refusal, Sink, SinkFault};
+use text_core::{Kind, Refusal, Sink, SinkFault};
 
-/// A file of the run whose note is explained: its name, and its bytes where it was read.
+/// A file of the run whose note is explained: its name, and its lines where it was read.
 #[derive(Clone, Copy)]
-pub struct Source<'a> {
+pub struct Source<'a, 'b> {
     pub name: &'a [u8],
-    pub text: Option<&'a [u8]>,
+    pub lines: Option<&'b [&'b [u8]]>,
 }
 
-/// Why notes were not explained to their end.
-#[derive(Clone, Copy)]
-pub enum Stop {
-    WriteFault,
-    NoMemory,
-}
-
-impl From<NoMemory> for Stop {
-    fn from(_: NoMemory) -> Stop {
-        Stop::NoMemory
-    }
-}
-
-impl From<SinkFault> for Stop {
-    fn from(_: SinkFault) -> Stop {
-        Stop::WriteFault
-    }
-}
-
-/// Writes each line of `notes` to `out`: explained where `moxi_cli` notes such a line, and else as it is. Returns whether one
-/// was explained.
+/// Writes each of these lines of notes to `out`: explained where `moxi_cli` notes such a line, and else as it is. Returns
+/// whether one was explained.
 pub fn explain_notes<K: Sink>(
-    alloc: Global,
-    notes: &[u8],
-    model: &Source<'_>,
-    second: &Source<'_>,
+    notes: &[&[u8]],
+    model: &Source<'_, '_>,
+    second: &Source<'_, '_>,
     out: &mut K,
-) -> Result<bool, Stop> {
+) -> Result<bool, SinkFault>
+    ensures written { Puts (K.taken out.old) (K.taken out.new) (K.faults out.old) (K.faults out.new) (explained_lines (file_of model.now) (file_of second.now) (map (λ note. note.now) notes.now)) result }
+    ensures explained { IfOk result (λ explained. explained ≡ is_explained (map (λ note. note.now) notes.now)) }
+{
     let mut explained = false;
-    for piece in notes.split_inclusive(|b| *b == b'\n') {
-        if explain_line(alloc, piece, model, second, out)? {
+    for i in 0..notes.len() {
+        if explain_at(notes, i, model, second, out)? {
             explained = true;
         }
     }
     Ok(explained)
 }
 
-/// Writes one line, which may have a line end: explained where `moxi_cli` notes such a line, and else as it is. Returns whether
-/// it was explained.
-pub fn explain_line<K: Sink>(
-    alloc: Global,
-    piece: &[u8],
-    model: &Source<'_>,
-    second: &Source<'_>,
+// Writes the line of this number, counted from 0.
+fn explain_at<K: Sink>(
+    notes: &[&[u8]],
+    number: usize,
+    model: &Source<'_, '_>,
+    second: &Source<'_, '_>,
     out: &mut K,
-) -> Result<bool, Stop>
-    // A line that is no note is written as it is.
-    ensures { IfOk result (λ explained. explained ≡ false → K.taken out.new ≡ grown (K.taken out.old) piece.now) }
+) -> Result<bool, SinkFault>
+    requires { number < length notes.now }
+    ensures written { Puts (K.taken out.old) (K.taken out.new) (K.faults out.old) (K.faults out.new) (line_at_text (file_of model.now) (file_of second.now) (map (λ note. note.now) notes.now) number) result }
+    ensures explained { IfOk result (λ explained. explained ≡ is_some (note_of (get_or (map (λ note. note.now) notes.now) number []))) }
 {
-    let line = match piece.strip_suffix(b"\n") {
-        Some(line) => line,
-        None => piece,
-    };
-    match read_note(alloc, line)? {
+    let line = notes[number];
+    explain_line(line, end_of(notes, number), model, second, out)
+}
+
+// The line end of the line of this number.
+#[tactic(auto, using(crate::proofs::Noting::end_some, crate::proofs::Noting::end_none))]
+fn end_of(notes: &[&[u8]], number: usize) -> &'static [u8]
+    requires { number < length notes.now }
+    ensures { result.now ≡ end_before (drop (number + 1) (map (λ note. note.now) notes.now)) }
+{
+    if number + 1 < notes.len() { b"\n" } else { b"" }
+}
+
+/// Writes one line with this line end: explained where `moxi_cli` notes such a line, and else as it is. Returns whether it
+/// was explained.
+#[tactic(auto, using(crate::proofs::Putting::puts_next, crate::proofs::Putting::part_front), unfolding(crate::specs::Explaining::explained_line))]
+pub fn explain_line<K: Sink>(
+    line: &[u8],
+    end: &[u8],
+    model: &Source<'_, '_>,
+    second: &Source<'_, '_>,
+    out: &mut K,
+) -> Result<bool, SinkFault>
+    ensures written { Puts (K.taken out.old) (K.taken out.new) (K.faults out.old) (K.faults out.new) (explained_line (file_of model.now) (file_of second.now) line.now end.now) result }
+    ensures explained { IfOk result (λ explained. explained ≡ is_some (note_of line.now)) }
+{
+    match read_note(line) {
         Some(note) => {
             put_note(note, line, model, second, out)?;
             Ok(true)
         }
         None => {
-            put(out, &[piece])?;
+            put(out, &[line, end])?;
             Ok(false)
         }
     }
 }
 
 // Writes what is said of a note.
+#[tactic(auto, using(crate::proofs::Putting::puts_next, crate::proofs::Putting::part_front))]
 fn put_note<K: Sink>(
     note: Note,
     line: &[u8],
-    model: &Source<'_>,
-    second: &Source<'_>,
+    model: &Source<'_, '_>,
+    second: &Source<'_, '_>,
     out: &mut K,
 ) -> Result<(), SinkFault>
-    requires { IsNoted note line.now }
+    ensures { Puts (K.taken out.old) (K.taken out.new) (K.faults out.old) (K.faults out.new) (note_text note line.now (file_of model.now) (file_of second.now)) result }
 {
     match note {
-        Note::Refused(refused) => {
-            if refused.second {
-                put_refusal(refused, line, second, out)
-            } else {
-                put_refusal(refused, line, model, out)
-            }
-        }
-        Note::No(_, clause) => put_plain(second.name, line, clause_advice(clause), out),
-        Note::Usage => {
-            put_plain(b"moxi_cli", line, &USAGE, out)?;
-            put(out, &COMMANDS)
-        }
-        Note::Unread => put_plain(b"moxi_cli", line, &READ_FAULT, out),
-        Note::WriteFault => put_plain(b"moxi_cli", line, &WRITE_FAULT, out),
-        Note::NoMemory => put_plain(b"moxi_cli", line, &NO_MEMORY, out),
+        Note::Refused(refusal) => put_refusal(refusal, model, out),
+        Note::SecondRefused(refusal) => put_refusal(refusal, second, out),
+        Note::No(_, clause) => put_advice(second.name, line, clause_advice(clause), out),
+        Note::Usage => put_usage(line, out),
+        Note::Unread => put_advice(b"moxi_cli", line, READ_FAULT, out),
+        Note::WriteFault => put_advice(b"moxi_cli", line, WRITE_FAULT, out),
+        Note::NoMemory => put_advice(b"moxi_cli", line, NO_MEMORY, out),
     }
 }
 
-// Writes a note without a place.
-fn put_plain<K: Sink>(
+// Writes what is said of words that are no command, and the commands.
+#[tactic(auto, using(crate::proofs::Putting::puts_next, crate::proofs::Putting::part_front))]
+fn put_usage<K: Sink>(line: &[u8], out: &mut K) -> Result<(), SinkFault>
+    ensures { Puts (K.taken out.old) (K.taken out.new) (K.faults out.old) (K.faults out.new) (usage_text line.now) result }
+{
+    put_advice(b"moxi_cli", line, USAGE, out)?;
+    put(out, &COMMANDS)
+}
+
+// Writes what is said of a note without a place.
+fn put_advice<K: Sink>(
     file: &[u8],
     line: &[u8],
-    advice: &'static Advice,
-    out: &mut K,
-) -> Result<(), SinkFault> {
-    put_header(file, b"", line, b"", advice.cause, out)?;
-    put_help(advice.mend, out)
-}
-
-/// Writes a refusal that the line `note` has, with the line of its place where the file has it.
-pub fn put_refusal<K: Sink>(
-    refused: Refused,
-    note: &[u8],
-    source: &Source<'_>,
+    advice: Advice,
     out: &mut K,
 ) -> Result<(), SinkFault>
-    requires { IsCut refused note.now }
-    ensures { OnOk result (Adds (K.taken out.old) (K.taken out.new) (ExplainsRefusal source.now.name.now (option_map (λ text. text.now) source.now.text) refused note.now)) }
+    ensures { Puts (K.taken out.old) (K.taken out.new) (K.faults out.old) (K.faults out.new) (plain_text file.now line.now (plain_advice advice.entry)) result }
 {
-    let refusal = refused.refusal;
-    let cause = advice_of(refusal.kind).cause;
-    let label = &note[refused.start..refused.end];
-    let place = &note[refused.end + 4..];
-    match line_of(source.text, refusal.place) {
-        Some(line) => {
-            let at = (refusal.place.column as usize).saturating_sub(1);
-            let count = token_length(&line[at..], refusal.kind);
-            put_header(source.name, place, label, &line[at..at + count], cause, out)?;
-            put_found(refusal, source.text, line, at, out)
-        }
-        None => {
-            put_header(source.name, place, label, b"", cause, out)?;
-            put_help(advice_of(refusal.kind).mend, out)
-        }
-    }
+    let (cause, mend) = advice;
+    put_plain(file, line, cause, mend, out)
 }
 
-// The line of a place, where the text is known and has the line and the column.
-fn line_of(text: Option<&[u8]>, place: Place) -> Option<&[u8]>
-    ensures there { IfSome result (λ line. HasLine (option_map (λ bytes. bytes.now) text.entry) place.line line.now) }
-    ensures fits { IfSome result (λ line. place.column - 1 ≤ length line.now) }
+/// Writes a refusal, with the line of its place where the file has it.
+#[tactic(auto, using(crate::proofs::Putting::puts_next, crate::proofs::Putting::part_front), unfolding(crate::specs::Explaining::refusal_text))]
+pub fn put_refusal<K: Sink>(
+    refusal: Refusal,
+    source: &Source<'_, '_>,
+    out: &mut K,
+) -> Result<(), SinkFault>
+    ensures { Puts (K.taken out.old) (K.taken out.new) (K.faults out.old) (K.faults out.new) (refusal_text (file_of source.now) refusal) result }
 {
-    let line = line_at(text?, place.line)?;
-    if (place.column as usize).saturating_sub(1) <= line.len() {
+    let (cause, mend) = advice_of(refusal.kind);
+    if let Some(lines) = source.lines {
+        if let Some(line) = line_of(lines, refusal) {
+            return put_found(refusal, source.name, lines, line, out);
+        }
+    }
+    put_header(source.name, refusal, b"", cause, out)?;
+    put_help(mend, out)
+}
+
+// The line of a place, where it has the column.
+fn line_of<'a>(lines: &[&'a [u8]], refusal: Refusal) -> Option<&'a [u8]>
+    ensures there { option_map (λ line. line.now) result ≡ shown_line (map (λ line. line.now) lines.now) refusal.place }
+    ensures fits { IfSome result (λ line. refusal.place.column - 1 ≤ length line.now) }
+{
+    let line = line_at(lines, refusal.place.line as usize)?;
+    if (refusal.place.column as usize).saturating_sub(1) <= line.len() {
         Some(line)
     } else {
         None
     }
 }
 
-// Writes the line of a place, what stands near it, and the mend.
+// Writes a refusal whose place stands on this line.
+#[tactic(auto, using(crate::proofs::Putting::puts_next, crate::proofs::Putting::part_front))]
 fn put_found<K: Sink>(
     refusal: Refusal,
-    text: Option<&[u8]>,
+    file: &[u8],
+    lines: &[&[u8]],
     line: &[u8],
-    at: usize,
     out: &mut K,
 ) -> Result<(), SinkFault>
-    requires { at ≤ length line.now }
-    ensures { OnOk result (Adds (K.taken out.old) (K.taken out.new) (ShowsPlace line.now at)) }
+    requires { refusal.place.column - 1 ≤ length line.now }
+    ensures { Puts (K.taken out.old) (K.taken out.new) (K.faults out.old) (K.faults out.new) (found_text file.now (map (λ line. line.now) lines.now) line.now refusal) result }
 {
-    let kind = refusal.kind;
-    let rest = &line[at..];
-    let token = &rest[..token_length(rest, kind)];
-    put_excerpt(line, at, marked(kind, token.len()), out)?;
-    let before = put_details(kind, text.unwrap_or(line), refusal.place, rest, out)?;
-    let mend = match hint_for(kind, token) {
-        Some(mend) => mend,
-        None => before.unwrap_or(advice_of(kind).mend),
-    };
+    let token = token_of(refusal.kind, rest_of(line, refusal));
+    let (cause, _) = advice_of(refusal.kind);
+    put_header(file, refusal, token, cause, out)?;
+    put_below(refusal, lines, line, out)
+}
+
+// Writes the excerpt of a place on this line, and what stands below it.
+#[tactic(auto, using(crate::proofs::Putting::puts_next, crate::proofs::Putting::part_front))]
+fn put_below<K: Sink>(
+    refusal: Refusal,
+    lines: &[&[u8]],
+    line: &[u8],
+    out: &mut K,
+) -> Result<(), SinkFault>
+    requires { refusal.place.column - 1 ≤ length line.now }
+    ensures { Puts (K.taken out.old) (K.taken out.new) (K.faults out.old) (K.faults out.new) (below_text (map (λ line. line.now) lines.now) line.now refusal) result }
+{
+    let at = (refusal.place.column as usize).saturating_sub(1);
+    let rest = rest_of(line, refusal);
+    let token = token_of(refusal.kind, rest);
+    put_excerpt(line, at, marked(refusal.kind, token.len()), out)?;
+    put_rest(
+        refusal.kind,
+        token,
+        near_of(refusal.kind, lines, refusal.place, rest),
+        out,
+    )
+}
+
+// What stands from the place on, as far as it is looked at.
+fn rest_of(line: &[u8], refusal: Refusal) -> &[u8]
+    requires { refusal.place.column - 1 ≤ length line.now }
+    ensures value { result.now ≡ rest_of line.now refusal }
+    ensures few { length result.now ≤ NEAREST }
+{
+    front_of(
+        &line[(refusal.place.column as usize).saturating_sub(1)..],
+        NEAREST,
+    )
+}
+
+// The front of a text, of at most so many bytes.
+fn front_of(text: &[u8], most: usize) -> &[u8]
+    ensures value { result.now ≡ take most text.now }
+    ensures few { length result.now ≤ most }
+{
+    if text.len() > most {
+        &text[..most]
+    } else {
+        text
+    }
+}
+
+// The token with which a text begins.
+fn token_of(kind: Kind, rest: &[u8]) -> &[u8]
+    ensures { result.now ≡ token_of kind rest.now }
+{
+    &rest[..token_length(kind, rest)]
+}
+
+// Writes what stands near a place, and the mend for its token.
+#[tactic(auto, using(crate::proofs::Putting::puts_next, crate::proofs::Putting::part_front))]
+fn put_rest<K: Sink>(
+    kind: Kind,
+    token: &[u8],
+    near: Option<Near<'_>>,
+    out: &mut K,
+) -> Result<(), SinkFault>
+    ensures { Puts (K.taken out.old) (K.taken out.new) (K.faults out.old) (K.faults out.new) (rest_text kind token.now (option_map plain_near near.entry)) result }
+{
+    let mend = mend_of(kind, token, near);
+    put_near(near, out)?;
     put_help(mend, out)
 }
 
+// The mend for a token, or else for what stands near it, or else for the kind.
+fn mend_of(kind: Kind, token: &[u8], near: Option<Near<'_>>) -> &'static [u8]
+    ensures { result.now ≡ mend_of kind token.now (option_map plain_near near.entry) }
+{
+    if let Some(mend) = hint_for(kind, token) {
+        return mend;
+    }
+    match near {
+        Some(
+            Near {
+                mend: Some(mend),
+                ..
+            },
+        ) => mend,
+        _ => {
+            let (_, mend) = advice_of(kind);
+            mend
+        }
+    }
+}
+
 // How many bytes the caret marks of a token: at least one, where places of the kind have a column.
-fn marked(kind: Kind, count: usize) -> usize {
+fn marked(kind: Kind, count: usize) -> usize
+    ensures { result ≡ marked kind count }
+{
     match kind {
         Kind::S(_) | Kind::M(_) => count.max(1),
         Kind::B(_) | Kind::X(_) | Kind::Y(_) => 0,

@@ -21,7 +21,7 @@ fn put_row<K: Sink>(letter: u8, number: u8, out: &mut K) -> Result<(), SinkFault
     let Some(kind) = kind_of(letter, number) else {
         return Ok(());
     };
-    let advice = advice_of(kind);
+    let (cause, mend) = advice_of(kind);
     let name = [letter];
     let mut digits = Buffer::new();
     let pieces = [
@@ -31,9 +31,9 @@ fn put_row<K: Sink>(letter: u8, number: u8, out: &mut K) -> Result<(), SinkFault
         b" ",
         kind.name(),
         b" | ",
-        advice.cause,
+        cause,
         b" | ",
-        advice.mend,
+        mend,
         b" |\n",
     ];
     put(out, &pieces)

@@ -1,7 +1,8 @@
 // How long the token is that stands at the front of some bytes. What is no token counts as one byte.
-ghost use Rattle.std.specs.Prelude.{◌<◌, ◌≤◌, length, IfSome};
+ghost use Rattle.std.specs.Prelude.{◌≡◌, ◌<◌, ◌≤◌, length, map};
+ghost use Rattle.explain_core.specs.Tokens.{ends_symbol, goes_on, is_letter, is_word_byte, moxi_token_length, sign_length, smv_token_length, symbol_length, token_length, word_length};
 
-use text_core::Kind;
+use text_core::{Kind, is_digit};
 
 // The signs of SMV of more than one byte, longer ones first.
 const SIGNS: [&[u8]; 10] = [
@@ -9,8 +10,9 @@ const SIGNS: [&[u8]; 10] = [
 ];
 
 /// Returns how many bytes the token at the front has, by the language of the kind; 0 where places have no column.
-pub fn token_length(rest: &[u8], kind: Kind) -> usize
-    ensures { result ≤ length rest.now }
+pub fn token_length(kind: Kind, rest: &[u8]) -> usize
+    ensures value { result ≡ token_length kind rest.now }
+    ensures within { result ≤ length rest.now }
 {
     match kind {
         Kind::S(_) => smv_token_length(rest),
@@ -21,54 +23,67 @@ pub fn token_length(rest: &[u8], kind: Kind) -> usize
 
 /// Returns how many bytes the token of SMV at the front has; a path counts as one token.
 pub fn smv_token_length(rest: &[u8]) -> usize
+    ensures value { result ≡ smv_token_length rest.now }
     ensures within { result ≤ length rest.now }
     ensures some { 0 < length rest.now → 0 < result }
 {
-    let Some(first) = rest.first() else {
+    let Some((first, _)) = rest.split_first() else {
         return 0;
     };
     let count = if is_word_byte(*first) {
         word_length(rest)
     } else {
-        sign_length(rest)
+        sign_length(rest, &SIGNS)
     };
     count.max(1).min(rest.len())
 }
 
-/// Returns where a byte stands first.
-pub fn place_of_byte(bytes: &[u8], wanted: u8) -> Option<usize>
-    ensures { IfSome result (λ at. at < length bytes.now) }
+fn is_letter(b: u8) -> bool
+    ensures { result ≡ is_letter b }
 {
-    bytes.iter().position(|b| *b == wanted)
+    (b >= b'A' && b <= b'Z') || (b >= b'a' && b <= b'z')
 }
 
 /// Can the byte begin a name or a number?
-pub fn is_word_byte(b: u8) -> bool {
-    b == b'_' || b.is_ascii_alphanumeric()
+pub fn is_word_byte(b: u8) -> bool
+    ensures { result ≡ is_word_byte b }
+{
+    is_letter(b) || is_digit(b) || b == b'_'
 }
 
 // The bytes of a name, a number or a path.
-fn word_length(rest: &[u8]) -> usize {
-    for (i, b) in rest.iter().enumerate() {
-        if !goes_on(*b, rest.get(i + 1)) {
-            return i;
+fn word_length(text: &[u8]) -> usize
+    ensures value { result ≡ word_length text.now }
+    ensures within { result ≤ length text.now }
+{
+    let mut rest = text;
+    let mut count = 0;
+    while let Some((b, more)) = rest.split_first() {
+        if !goes_on(*b, more) {
+            return count;
         }
+        count += 1;
+        rest = more;
     }
-    rest.len()
+    count
 }
 
-// Does a word go on with this byte before that one?
-fn goes_on(b: u8, next: Option<&u8>) -> bool {
-    match (b, next) {
-        (b'-', Some(next)) => *next != b'>',
-        (b'.', Some(next)) => next.is_ascii_alphabetic(),
-        (b'$' | b'#', _) => true,
-        _ => is_word_byte(b),
+// Does a word go on with this byte before those?
+fn goes_on(b: u8, rest: &[u8]) -> bool
+    ensures { result ≡ goes_on b rest.now }
+{
+    match rest.split_first() {
+        Some((next, _)) if b == b'-' => *next != b'>',
+        Some((next, _)) if b == b'.' => is_letter(*next),
+        _ => is_word_byte(b) || b == b'$' || b == b'#',
     }
 }
 
-fn sign_length(rest: &[u8]) -> usize {
-    for sign in &SIGNS {
+// The bytes of the first such sign, or one.
+fn sign_length(rest: &[u8], signs: &[&'static [u8]]) -> usize
+    ensures { result ≡ sign_length (map (λ sign. sign.now) signs.now) rest.now }
+{
+    for sign in signs {
         if rest.starts_with(sign) {
             return sign.len();
         }
@@ -78,7 +93,8 @@ fn sign_length(rest: &[u8]) -> usize {
 
 // The first byte, which may be a bracket, counts with the symbol behind it.
 fn moxi_token_length(rest: &[u8]) -> usize
-    ensures { result ≤ length rest.now }
+    ensures value { result ≡ moxi_token_length rest.now }
+    ensures within { result ≤ length rest.now }
 {
     match rest.split_first() {
         Some((_, more)) => 1 + symbol_length(more),
@@ -86,15 +102,24 @@ fn moxi_token_length(rest: &[u8]) -> usize
     }
 }
 
-fn symbol_length(rest: &[u8]) -> usize
-    ensures { result ≤ length rest.now }
+fn symbol_length(text: &[u8]) -> usize
+    ensures value { result ≡ symbol_length text.now }
+    ensures within { result ≤ length text.now }
 {
-    match rest.iter().position(|b| ends_symbol(*b)) {
-        Some(count) => count,
-        None => rest.len(),
+    let mut rest = text;
+    let mut count = 0;
+    while let Some((b, more)) = rest.split_first() {
+        if ends_symbol(*b) {
+            return count;
+        }
+        count += 1;
+        rest = more;
     }
+    count
 }
 
-fn ends_symbol(b: u8) -> bool {
-    b <= b' ' || b"()\";|".contains(&b)
+fn ends_symbol(b: u8) -> bool
+    ensures { result ≡ ends_symbol b }
+{
+    b <= b' ' || b == b'(' || b == b')' || b == b'"' || b == b';' || b == b'|'
 }

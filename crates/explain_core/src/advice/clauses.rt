@@ -1,33 +1,36 @@
 // What is said of each clause that a stated run fails, and of the notes without a place.
+ghost use Rattle.std.specs.Prelude.{◌≡◌};
+ghost use Rattle.explain_core.specs.Advice.{clause_advice, plain_advice};
+
 use crate::advice::Advice;
 use text_core::Clause;
 
 /// What is said where the words are no command; `COMMANDS` follows.
-pub const USAGE: Advice = Advice {
-    cause: b"These words are no command.",
-    mend: b"Use one of these commands.",
-};
+pub const USAGE: Advice = (
+    b"These words are no command.",
+    b"Use one of these commands.",
+);
 
 /// What is said where a file was not read.
-pub const READ_FAULT: Advice = Advice {
-    cause: b"This file could not be opened or read.",
-    mend: b"Check its name and its folder, and that you may read it.",
-};
+pub const READ_FAULT: Advice = (
+    b"This file could not be opened or read.",
+    b"Check its name and its folder, and that you may read it.",
+);
 
 /// What is said where the output was not written.
-pub const WRITE_FAULT: Advice = Advice {
-    cause: b"The output could not be written.",
-    mend: b"Check that there is room, and that the program that reads the output still runs.",
-};
+pub const WRITE_FAULT: Advice = (
+    b"The output could not be written.",
+    b"Check that there is room, and that the program that reads the output still runs.",
+);
 
 /// What is said where there was no memory.
-pub const NO_MEMORY: Advice = Advice {
-    cause: b"There was no memory for this run.",
-    mend: b"Free memory, or give a smaller model.",
-};
+pub const NO_MEMORY: Advice = (
+    b"There was no memory for this run.",
+    b"Free memory, or give a smaller model.",
+);
 
 /// The commands, one on a line.
-pub const COMMANDS: [&[u8]; 11] = [
+pub const COMMANDS: [&[u8]; 12] = [
     b"    smv2btor MODEL           write an SMV model as BTOR2\n",
     b"    smv2moxi MODEL           write an SMV model as MoXI\n",
     b"    moxi2btor MODEL          write a MoXI script as BTOR2\n",
@@ -38,65 +41,68 @@ pub const COMMANDS: [&[u8]; 11] = [
     b"    judge-btor MODEL SECOND  judge a witness for a BTOR2 text\n",
     b"    lift-smv MODEL SECOND    write a witness as a trace of the SMV model\n",
     b"    lift-moxi MODEL SECOND   write a witness as a response to the MoXI script\n",
+    b"    lower MODEL SECOND       write a trace of the SMV model as a witness; --property J names the invariant\n",
     b"    generate NUMBER          make a model of 1 to 1000 cells and its witness, and go the whole way\n",
 ];
 
-const VALUE_OUTSIDE: Advice = Advice {
-    cause: b"A value of this step is none of its variable's type.",
-    mend: b"State values of the declared ranges and enumerations.",
-};
+const VALUE_OUTSIDE: Advice = (
+    b"A value of this step is none of its variable's type.",
+    b"State values of the declared ranges and enumerations.",
+);
 
-const INIT_FAILS: Advice = Advice {
-    cause: b"The first state breaks INIT, an `init(x) :=` or `:init`.",
-    mend: b"Compare the values of step 0 with these formulas.",
-};
+const INIT_FAILS: Advice = (
+    b"The first state breaks INIT, an `init(x) :=` or `:init`.",
+    b"Compare the values of step 0 with these formulas.",
+);
 
-const TRANS_FAILS: Advice = Advice {
-    cause: b"The step to this state breaks TRANS, a `next(x) :=` or `:trans`, or changes a frozen variable.",
-    mend: b"Compare this state and the one before it with these formulas.",
-};
+const TRANS_FAILS: Advice = (
+    b"The step to this state breaks TRANS, a `next(x) :=` or `:trans`, or changes a frozen variable.",
+    b"Compare this state and the one before it with these formulas.",
+);
 
-const INVAR_FAILS: Advice = Advice {
-    cause: b"This state breaks INVAR, an `x :=` or `:inv`.",
-    mend: b"Compare the values of this step with these formulas.",
-};
+const INVAR_FAILS: Advice = (
+    b"This state breaks INVAR, an `x :=` or `:inv`.",
+    b"Compare the values of this step with these formulas.",
+);
 
-const ASSUMPTION_FAILS: Advice = Advice {
-    cause: b"An `:assumption` of the query is false in this step.",
-    mend: b"Give a run that keeps the assumptions, or leave them out of the query.",
-};
+const ASSUMPTION_FAILS: Advice = (
+    b"An `:assumption` of the query is false in this step.",
+    b"Give a run that keeps the assumptions, or leave them out of the query.",
+);
 
-const CURRENT_FAILS: Advice = Advice {
-    cause: b"A `:current` formula of the query is false in step 0.",
-    mend: b"Give a run that begins in such a state, or leave the formula out of the query.",
-};
+const CURRENT_FAILS: Advice = (
+    b"A `:current` formula of the query is false in step 0.",
+    b"Give a run that begins in such a state, or leave the formula out of the query.",
+);
 
-const STATE_DIFFERS: Advice = Advice {
-    cause: b"A state that the witness gives differs from what its init or next says.",
-    mend: b"Give the witness with the text that it was made for.",
-};
+const STATE_DIFFERS: Advice = (
+    b"A state that the witness gives differs from what its init or next says.",
+    b"Give the witness with the text that it was made for.",
+);
 
-const CONSTRAINT_FAILS: Advice = Advice {
-    cause: b"A constraint line is false in this frame.",
-    mend: b"Give the witness with the text that it was made for.",
-};
+const CONSTRAINT_FAILS: Advice = (
+    b"A constraint line is false in this frame.",
+    b"Give the witness with the text that it was made for.",
+);
 
-const NOT_BROKEN: Advice = Advice {
-    cause: b"The run is one of the model, but its last step keeps the invariant, or misses the bad line or the query.",
-    mend: b"Give a run whose last step does so; where it breaks another invariant, name that one by `--property`.",
-};
+const NOT_BROKEN: Advice = (
+    b"The run is one of the model, but its last step keeps the invariant, or misses the bad line or the query.",
+    b"Give a run whose last step does so; where it breaks another invariant, name that one by `--property`.",
+);
 
 /// Returns the sentences for a clause that a stated run fails.
-pub fn clause_advice(clause: Clause) -> &'static Advice {
+pub fn clause_advice(clause: Clause) -> Advice
+    ensures { plain_advice result ≡ clause_advice clause }
+{
     match clause {
-        Clause::ValueOutside => &VALUE_OUTSIDE,
-        Clause::InitFails => &INIT_FAILS,
-        Clause::TransFails => &TRANS_FAILS,
-        Clause::InvarFails => &INVAR_FAILS,
-        Clause::AssumptionFails => &ASSUMPTION_FAILS,
-        Clause::CurrentFails => &CURRENT_FAILS,
-        Clause::StateDiffers => &STATE_DIFFERS,
-        Clause::ConstraintFails => &CONSTRAINT_FAILS,
-        Clause::NotBroken => &NOT_BROKEN,
+        Clause::ValueOutside => VALUE_OUTSIDE,
+        Clause::InitFails => INIT_FAILS,
+        Clause::TransFails => TRANS_FAILS,
+        Clause::InvarFails => INVAR_FAILS,
+        Clause::AssumptionFails => ASSUMPTION_FAILS,
+        Clause::CurrentFails => CURRENT_FAILS,
+        Clause::StateDiffers => STATE_DIFFERS,
+        Clause::ConstraintFails => CONSTRAINT_FAILS,
+        Clause::NotBroken => NOT_BROKEN,
     }
 }

@@ -1,6 +1,11 @@
 // Mends for one word of a kind: they show the form that the profile has.
-use text_core::Kind;
+ghost use Rattle.std.specs.Prelude.{◌≡◌, map, option_map};
+ghost use Rattle.explain_core.specs.Advice.{hint_for, hint_in, plain_advice};
+ghost use Rattle.explain_core.specs.Kinds.{is_among};
+
+use crate::near::is_kind;
 use text_core::kinds::{moxi, smv};
+use text_core::{Kind, is_same};
 
 const INVARIANT: &[u8] =
     b"Write a safety property as `INVARSPEC expression;`: temporal logic is left out.";
@@ -136,29 +141,32 @@ const SCRIPT_WORDS: [(&[u8], &[u8]); 12] = [
 ];
 
 /// Returns the mend for a token of a kind of refusal, where there is one of its own.
-pub fn hint_for(kind: Kind, token: &[u8]) -> Option<&'static [u8]> {
-    if kind == smv::NOT_SUPPORTED {
+pub fn hint_for(kind: Kind, token: &[u8]) -> Option<&'static [u8]>
+    ensures { option_map (λ mend. mend.now) result ≡ hint_for kind token.now }
+{
+    if is_kind(kind, smv::NOT_SUPPORTED) {
         if is_among(&TEMPORAL, token) {
-            return Some(RENAME);
+            Some(RENAME)
+        } else {
+            hint_in(&SMV_WORDS, token)
         }
-        return hint_in(&SMV_WORDS, token);
+    } else if is_kind(kind, smv::DEAD) {
+        hint_in(&DEAD_TOKENS, token)
+    } else if is_kind(kind, smv::TYPE_CLASH) {
+        hint_in(&CLASHES, token)
+    } else if is_kind(kind, moxi::NOT_SUPPORTED) {
+        hint_in(&SCRIPT_WORDS, token)
+    } else {
+        None
     }
-    if kind == smv::DEAD {
-        return hint_in(&DEAD_TOKENS, token);
-    }
-    if kind == smv::TYPE_CLASH {
-        return hint_in(&CLASHES, token);
-    }
-    if kind == moxi::NOT_SUPPORTED {
-        return hint_in(&SCRIPT_WORDS, token);
-    }
-    None
 }
 
 /// Is the token one of these words?
-pub fn is_among(words: &[&'static [u8]], token: &[u8]) -> bool {
+pub fn is_among(words: &[&'static [u8]], token: &[u8]) -> bool
+    ensures { result ≡ is_among (map (λ word. word.now) words.now) token.now }
+{
     for word in words {
-        if *word == token {
+        if is_same(word, token) {
             return true;
         }
     }
@@ -166,10 +174,12 @@ pub fn is_among(words: &[&'static [u8]], token: &[u8]) -> bool {
 }
 
 // The mend that stands beside a word.
-fn hint_in(hints: &[(&'static [u8], &'static [u8])], token: &[u8]) -> Option<&'static [u8]> {
+fn hint_in(hints: &[(&'static [u8], &'static [u8])], token: &[u8]) -> Option<&'static [u8]>
+    ensures { option_map (λ mend. mend.now) result ≡ hint_in (map plain_advice hints.now) token.now }
+{
     for (word, mend) in hints {
-        if *word == token {
-            return Some(mend);
+        if is_same(word, token) {
+            return Some(*mend);
         }
     }
     None

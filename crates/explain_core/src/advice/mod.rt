@@ -1,4 +1,7 @@
 // What is said of each kind of refusal and of each clause: one sentence on the cause, one on the mend.
+ghost use Rattle.std.specs.Prelude.{◌≡◌, map};
+ghost use Rattle.explain_core.specs.Advice.{advice_at, advice_of, plain_advice};
+
 mod btor;
 mod clauses;
 mod hints;
@@ -12,34 +15,30 @@ pub use hints::{hint_for, is_among};
 use text_core::Kind;
 
 /// A sentence on the cause of a note, and one on the mend.
-pub struct Advice {
-    pub cause: &'static [u8],
-    pub mend: &'static [u8],
-}
+pub type Advice = (&'static [u8], &'static [u8]);
 
 /// Returns the sentences for a kind of refusal, or empty ones where there is no such kind.
-pub fn advice_of(kind: Kind) -> &'static Advice {
+pub fn advice_of(kind: Kind) -> Advice
+    ensures { plain_advice result ≡ advice_of kind }
+{
     match kind {
-        Kind::S(n) => at(n, &smv::ADVICE),
-        Kind::M(n) => at(n, &moxi::ADVICE),
-        Kind::B(n) => at(n, &btor::ADVICE),
-        Kind::X(n) => at(n, &witness::ADVICE),
-        Kind::Y(n) => at(n, &trace::ADVICE),
+        Kind::S(n) => advice_at(n, &smv::ADVICE),
+        Kind::M(n) => advice_at(n, &moxi::ADVICE),
+        Kind::B(n) => advice_at(n, &btor::ADVICE),
+        Kind::X(n) => advice_at(n, &witness::ADVICE),
+        Kind::Y(n) => advice_at(n, &trace::ADVICE),
     }
 }
 
-const NOTHING: Advice = Advice {
-    cause: b"",
-    mend: b"",
-};
-
 // The row of a number, counted from 1.
-fn at(n: u8, rows: &'static [Advice]) -> &'static Advice {
+fn advice_at(n: u8, rows: &[Advice]) -> Advice
+    ensures { plain_advice result ≡ advice_at n (map plain_advice rows.now) }
+{
     if n == 0 {
-        return &NOTHING;
+        return (b"", b"");
     }
     match rows.get(n as usize - 1) {
-        Some(advice) => advice,
-        None => &NOTHING,
+        Some(advice) => *advice,
+        None => (b"", b""),
     }
 }
