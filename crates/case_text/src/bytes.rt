@@ -2,6 +2,27 @@
 use crate::fault::Fault;
 use crate::piece::number;
 use itoa::Buffer;
+use std::alloc::Global;
+
+/// The bytes of a text in which `\n` stands for a line end.
+pub fn lines_of(alloc: Global, text: &str) -> Result<Vec<u8>, Fault> {
+    let mut bytes = Vec::new(alloc);
+    put_lines(&mut bytes, text)?;
+    Ok(bytes)
+}
+
+/// Adds the bytes of a text in which `\n` stands for a line end.
+pub fn put_lines(bytes: &mut Vec<u8>, text: &str) -> Result<(), Fault> {
+    let mut parts = text.split("\\n");
+    if let Some(front) = parts.next() {
+        bytes.extend_from_slice(front.as_bytes())?;
+    }
+    for part in parts {
+        bytes.push(b'\n')?;
+        bytes.extend_from_slice(part.as_bytes())?;
+    }
+    Ok(())
+}
 
 /// Adds what a marked line states: after `|` the text and a line end, after `~` the text, after `*` a count and a text that is
 /// repeated, after `%` two numbers and a text for each number between them, after `@` the same with a line end behind each, after

@@ -1,6 +1,6 @@
 // Why a case has no answer.
 use std::alloc::{AllocError, AllocFailed};
-use text_core::NoMemory;
+use text_core::{End, NoMemory};
 
 /// Why a case has no answer.
 #[derive(Clone, Copy)]
@@ -14,6 +14,15 @@ pub enum Fault {
 impl From<NoMemory> for Fault {
     fn from(_end: NoMemory) -> Fault {
         Fault::NoMemory
+    }
+}
+
+impl From<End> for Fault {
+    fn from(end: End) -> Fault {
+        match end {
+            End::Bad(_) => Fault::Unreadable("a text that is refused"),
+            End::NoMemory => Fault::NoMemory,
+        }
     }
 }
 

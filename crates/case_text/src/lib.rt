@@ -10,16 +10,13 @@ mod fault;
 mod files;
 mod piece;
 mod reading;
-mod stop;
 mod tally;
 
 pub use answer::Answer;
+pub use bytes::{lines_of, put_lines};
 pub use differences::{put_difference, put_number_difference, put_unreadable};
 pub use fault::{Fault, Unread};
 pub use files::Files;
-pub use piece::{
-    Piece, has_piece, number, piece_bytes, small_number, subject, utf8, value_beside, words,
-};
+pub use piece::{Piece, has_piece, number, piece_bytes, utf8};
 pub use reading::{Case, Entry, read_cases};
-pub use stop::{Stop, answer_or_refusal};
 pub use tally::Tally;

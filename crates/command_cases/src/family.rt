@@ -1,4 +1,5 @@
-// Families: a case that states many runs, each with a number. In run N a file has its first N bytes, or call N fails.
+// Families: a case that states many runs. In run N a file has its first N bytes, or call N fails. In the run of a row the files
+// have the row's text.
 use case_text::{Case, Entry, Fault, Files, number};
 use std::alloc::Global;
 use text_core::Shelf;
@@ -10,11 +11,51 @@ pub struct Range {
     pub last: u64,
 }
 
-/// Does the case state a family of runs?
+/// A run of a family: its number, or its row. Elsewhere nothing depends on it.
+#[derive(Clone, Copy)]
+pub struct Member<'a> {
+    pub number: u64,
+    pub row: Option<&'a str>,
+}
+
+impl<'a> Member<'a> {
+    /// The only run of a case.
+    pub fn only() -> Member<'a> {
+        Member::numbered(0)
+    }
+
+    /// The run of this number.
+    pub fn numbered(number: u64) -> Member<'a> {
+        Member { number, row: None }
+    }
+
+    /// The run of a row with this text.
+    pub fn of_row(row: &'a str) -> Member<'a> {
+        Member {
+            number: 0,
+            row: Some(row),
+        }
+    }
+}
+
+/// Does the case state a numbered family of runs?
 pub fn is_family(case: &Case) -> bool {
     case.entries
         .iter()
         .any(|e| e.key == "fronts" || fails_each(e))
+}
+
+/// Does the case state a run for each row of a table?
+pub fn is_table(case: &Case) -> bool {
+    case.entries.iter().any(|e| e.key == "row")
+}
+
+/// The text of a row, and the line behind it that states what its run must come to, if there is one.
+pub fn row_and_line<'a>(entry: &Entry<'a>) -> (&'a str, Option<&'a str>) {
+    match entry.says.rsplit_once(" => ") {
+        Some((row, line)) => (row, Some(line)),
+        None => (entry.says, None),
+    }
 }
 
 /// Does the line state that call N fails in run N?

@@ -2,6 +2,7 @@
 #![tactic(auto)]
 
 mod family;
+mod rows;
 mod running;
 mod setting;
 mod short;

@@ -3,7 +3,7 @@ ghost use Rattle.std.specs.Prelude.{◌≡◌, ◌≢◌, Some, map, string_byte
 ghost use Rattle.top_call.specs.Words.{command_of};
 ghost use Rattle.top_call.specs.Outcome.{IsAbsent};
 
-use crate::family::{Range, check_ranges, is_family, range_of};
+use crate::family::{Member, Range, check_ranges, is_family, is_table, range_of, row_and_line};
 use crate::setting::{Setting, reads_of};
 use crate::short::ShortShelf;
 use crate::wanted::Wanted;
@@ -21,9 +21,19 @@ pub fn put_run<F: Shelf + Drop>(
 ) -> Result<(), Fault> {
     if is_family(case) {
         put_family(alloc, files, case, tally)
+    } else if is_table(case) {
+        put_table(alloc, files, case, tally)
     } else {
         let wanted = Wanted::of(alloc, files, case)?;
-        count_runs(alloc, files, case, 0, &wanted, case.title, tally)
+        count_runs(
+            alloc,
+            files,
+            case,
+            Member::only(),
+            &wanted,
+            case.title,
+            tally,
+        )
     }
 }
 
@@ -50,53 +60,104 @@ fn put_range<F: Shelf + Drop>(
     range: Range,
     tally: &mut Tally,
 ) -> Result<(), Fault> {
-    let wanted = Wanted::of_numbered(alloc, files, case, entry)?;
-    for run in range.first..=range.last {
-        put_member(alloc, files, case, run, &wanted, tally)?;
+    for number in range.first..=range.last {
+        put_numbered(alloc, files, case, entry, number, tally)?;
     }
     Ok(())
 }
 
-// A run of a family. The report shows its number behind the title.
-fn put_member<F: Shelf + Drop>(
+// A numbered run. The report shows its number behind the title.
+fn put_numbered<F: Shelf + Drop>(
     alloc: Global,
     files: &mut Files<F>,
     case: &Case,
-    run: u64,
-    wanted: &Wanted,
+    entry: &Entry,
+    number: u64,
     tally: &mut Tally,
 ) -> Result<(), Fault> {
-    let title = format!(in alloc; "{}: {}", case.title, run)?;
-    count_runs(alloc, files, case, run, wanted, title.as_str(), tally)
+    let wanted = Wanted::of_line(alloc, files, case, entry, entry.says, number)?;
+    let title = format!(in alloc; "{}: {}", case.title, number)?;
+    let member = Member::numbered(number);
+    count_runs(alloc, files, case, member, &wanted, title.as_str(), tally)
+}
+
+fn put_table<F: Shelf + Drop>(
+    alloc: Global,
+    files: &mut Files<F>,
+    case: &Case,
+    tally: &mut Tally,
+) -> Result<(), Fault> {
+    for entry in &case.entries {
+        if entry.key == "row" {
+            put_row(alloc, files, case, entry, tally)?;
+        }
+    }
+    Ok(())
+}
+
+// The run of a row. The report shows its text behind the title.
+fn put_row<F: Shelf + Drop>(
+    alloc: Global,
+    files: &mut Files<F>,
+    case: &Case,
+    entry: &Entry,
+    tally: &mut Tally,
+) -> Result<(), Fault> {
+    let (row, line) = row_and_line(entry);
+    let wanted = match line {
+        Some(line) => Wanted::of_line(alloc, files, case, entry, line, 0)?,
+        None => Wanted::of(alloc, files, case)?,
+    };
+    let title = format!(in alloc; "{}: {}", case.title, row)?;
+    let member = Member::of_row(row);
+    count_runs(alloc, files, case, member, &wanted, title.as_str(), tally)
 }
 
 fn count_runs<F: Shelf + Drop>(
     alloc: Global,
     files: &mut Files<F>,
     case: &Case,
-    run: u64,
+    member: Member,
     wanted: &Wanted,
     title: &str,
     tally: &mut Tally,
 ) -> Result<(), Fault> {
     let mut differences = Answer::new(alloc);
-    put_runs(alloc, files, case, run, wanted, &mut differences)?;
+    put_runs(alloc, files, case, member, wanted, &mut differences)?;
     tally.count(title, differences);
     Ok(())
 }
 
-// A run for each number that `shelf most` states, which is the most bytes that a call reads.
+// Runs each command that the case states.
 fn put_runs<F: Shelf + Drop>(
     alloc: Global,
     files: &mut Files<F>,
     case: &Case,
-    run: u64,
+    member: Member,
+    wanted: &Wanted,
+    differences: &mut Answer,
+) -> Result<(), Fault> {
+    for entry in &case.entries {
+        if entry.key == "run" {
+            put_command(alloc, files, case, entry.says, member, wanted, differences)?;
+        }
+    }
+    Ok(())
+}
+
+// A run for each number that `shelf most` states, which is the most bytes that a call reads.
+fn put_command<F: Shelf + Drop>(
+    alloc: Global,
+    files: &mut Files<F>,
+    case: &Case,
+    words: &str,
+    member: Member,
     wanted: &Wanted,
     differences: &mut Answer,
 ) -> Result<(), Fault> {
     let reads = reads_of(alloc, case)?;
     for most in reads.iter() {
-        let setting = Setting::of(alloc, files, case, run)?;
+        let setting = Setting::of(alloc, files, case, words, member)?;
         put_set_run(alloc, setting, *most, wanted, differences)?;
     }
     Ok(())
@@ -133,7 +194,11 @@ pub fn put_sure_run<F: Shelf + Drop>(
     tally: &mut Tally,
 ) -> Result<(), Fault> {
     let wanted = Wanted::of(alloc, files, case)?;
-    let setting = Setting::of(alloc, files, case, 0)?;
+    let words = match case.entries.first() {
+        Some(entry) => entry.says,
+        None => "",
+    };
+    let setting = Setting::of(alloc, files, case, words, Member::only())?;
     let mut shelf = SureShelf::new(setting.files);
     let status = sure_run(alloc, &setting.words, &mut shelf);
     let mut differences = Answer::new(alloc);

@@ -1,5 +1,6 @@
 // What a run is given.
-use crate::family::fails_each;
+use crate::family::{Member, fails_each};
+use crate::rows::with_row;
 use case_text::{Case, Entry, Fault, Files, number};
 use std::alloc::Global;
 use text_core::{FilePair, FilePairs, MemorySink, Numbers, Shelf};
@@ -35,11 +36,11 @@ impl Limits {
     }
 
     // Takes a line, if it states a limit.
-    fn take(&mut self, alloc: Global, entry: &Entry, run: u64) -> Result<(), Fault> {
+    fn take(&mut self, alloc: Global, entry: &Entry, number: u64) -> Result<(), Fault> {
         match entry.says.split_once(' ') {
-            Some(("fails", _)) => self.fails = failing(alloc, entry, run)?,
-            Some(("most", rest)) => self.most = number(rest)?,
-            Some(("room", rest)) => self.room = number(rest)?,
+            Some(("fails", _)) => self.fails = failing(alloc, entry, number)?,
+            Some(("most", rest)) => self.most = case_text::number(rest)?,
+            Some(("room", rest)) => self.room = case_text::number(rest)?,
             _ => {}
         }
         Ok(())
@@ -57,21 +58,22 @@ impl Limits {
 }
 
 impl Setting {
-    /// The setting that a case states. `run` is the number of the run in its family; elsewhere nothing depends on it.
+    /// The setting that a case states for a run of these words.
     pub fn of<F: Shelf + Drop>(
         alloc: Global,
         files: &mut Files<F>,
         case: &Case,
-        run: u64,
+        words: &str,
+        member: Member,
     ) -> Result<Setting, Fault> {
         let mut setting = Setting {
-            words: Vec::new(alloc),
+            words: strings(alloc, words)?,
             files: FilePairs::new(alloc),
             shelf_fails: Numbers::new(alloc),
             out: Limits::new(alloc),
             notes: Limits::new(alloc),
         };
-        setting.take_all(alloc, files, case, run)?;
+        setting.take_all(alloc, files, case, member)?;
         Ok(setting)
     }
 
@@ -80,10 +82,10 @@ impl Setting {
         alloc: Global,
         files: &mut Files<F>,
         case: &Case,
-        run: u64,
+        member: Member,
     ) -> Result<(), Fault> {
         for entry in &case.entries {
-            self.take(alloc, files, entry, run)?;
+            self.take(alloc, files, entry, member)?;
         }
         Ok(())
     }
@@ -94,19 +96,22 @@ impl Setting {
         alloc: Global,
         files: &mut Files<F>,
         entry: &Entry,
-        run: u64,
+        member: Member,
     ) -> Result<(), Fault> {
         match entry.key {
-            "run" | "sure" => self.words = strings(alloc, entry.says)?,
-            "file" => self.files.push(files.pair(alloc, entry)?)?,
-            "fronts" => self.files.push(front(files.pair(alloc, entry)?, run))?,
+            "file" => self
+                .files
+                .push(with_row(alloc, files.pair(alloc, entry)?, member.row)?)?,
+            "fronts" => self
+                .files
+                .push(front(files.pair(alloc, entry)?, member.number))?,
             "shelf" => {
                 if let Some(("fails", _)) = entry.says.split_once(' ') {
-                    self.shelf_fails = failing(alloc, entry, run)?;
+                    self.shelf_fails = failing(alloc, entry, member.number)?;
                 }
             }
-            "out" => self.out.take(alloc, entry, run)?,
-            "notes" => self.notes.take(alloc, entry, run)?,
+            "out" => self.out.take(alloc, entry, member.number)?,
+            "notes" => self.notes.take(alloc, entry, member.number)?,
             _ => {}
         }
         Ok(())

@@ -35,16 +35,18 @@ impl Wanted {
         Ok(wanted)
     }
 
-    /// What a numbered line wants of its runs: what the case states for all runs, with the line's own status, note and output.
-    pub fn of_numbered<F: Shelf + Drop>(
+    /// What a line of a family wants of a run: what the case states for all runs, with the line's own status, note and output.
+    pub fn of_line<F: Shelf + Drop>(
         alloc: Global,
         files: &mut Files<F>,
         case: &Case,
         entry: &Entry,
+        line: &str,
+        number: u64,
     ) -> Result<Wanted, Fault> {
         let mut wanted = Wanted::new(alloc);
         let _for_all = wanted.take_all(alloc, files, case)?;
-        wanted.take_numbered(alloc, files, case, entry)?;
+        wanted.take_line(alloc, files, case, entry, line, number)?;
         Ok(wanted)
     }
 
@@ -64,19 +66,30 @@ impl Wanted {
         Ok(stated)
     }
 
-    // Takes a numbered line, which must state a status.
-    fn take_numbered<F: Shelf + Drop>(
+    // Takes a line of a family, which must state a status.
+    fn take_line<F: Shelf + Drop>(
         &mut self,
         alloc: Global,
         files: &mut Files<F>,
         case: &Case,
         entry: &Entry,
+        line: &str,
+        number: u64,
     ) -> Result<(), Fault> {
-        let (line, taken) = line_and_taken(entry.says)?;
-        if let Some(count) = taken {
-            self.cut(case, count)?;
+        let (line, taken) = line_and_taken(line, number)?;
+        let line = line_of(alloc, line, entry)?;
+        match taken {
+            Some(count) => self.cut(case, count)?,
+            None => self.drop_output(&line),
         }
-        check_stated(self.take(alloc, files, &line_of(alloc, line, entry)?)?)
+        check_stated(self.take(alloc, files, &line)?)
+    }
+
+    // A note alone implies that nothing else is written.
+    fn drop_output(&mut self, line: &Entry) {
+        if status_of_note(line).is_some() {
+            self.out.clear();
+        }
     }
 
     // Takes a line, and answers whether it states a status.
@@ -155,19 +168,28 @@ fn cut_text(bytes: &mut Vec<u8>, count: usize) -> Result<(), Fault> {
     Ok(())
 }
 
-// Splits `after N bytes` off the end of what a numbered line says.
-fn line_and_taken<'a>(says: &'a str) -> Result<(&'a str, Option<usize>), Fault> {
+// Splits `after N bytes` or `after N bytes a call` off the end of what a numbered line says. In run K call K fails.
+fn line_and_taken<'a>(says: &'a str, number: u64) -> Result<(&'a str, Option<usize>), Fault> {
     match says.rsplit_once(" after ") {
-        Some((line, end)) => match end.split_once(' ') {
-            Some((count, "byte" | "bytes")) => Ok((line, Some(byte_count(count)?))),
-            _ => Ok((says, None)),
+        Some((line, end)) => match taken_in(end, number)? {
+            Some(count) => Ok((line, Some(count))),
+            None => Ok((says, None)),
         },
         None => Ok((says, None)),
     }
 }
 
-fn byte_count(word: &str) -> Result<usize, Fault> {
-    Ok(usize::try_from(number(word)?).unwrap_or(usize::MAX))
+fn taken_in(end: &str, calls: u64) -> Result<Option<usize>, Fault> {
+    match end.split_once(' ') {
+        Some((count, "byte" | "bytes")) => Ok(Some(byte_count(count, 1)?)),
+        Some((count, "byte a call" | "bytes a call")) => Ok(Some(byte_count(count, calls)?)),
+        _ => Ok(None),
+    }
+}
+
+fn byte_count(word: &str, times: u64) -> Result<usize, Fault> {
+    let count = number(word)?.saturating_mul(times);
+    Ok(usize::try_from(count).unwrap_or(usize::MAX))
 }
 
 // What a numbered line says, as a line of its own with the bytes below it.

@@ -3,7 +3,6 @@
 //! what was wanted and what came.
 #![tactic(auto)]
 
-mod calling;
 mod report;
 
 use case_text::Files;

@@ -1,7 +1,7 @@
 // The report of one file of cases.
-use crate::calling::put_calls;
 use case_text::{Answer, Case, Fault, Files, Tally, Unread, put_unreadable, read_cases, utf8};
 use command_cases::{put_run, put_sure_run};
+use library_cases::put_calls;
 use std::alloc::Global;
 use text_core::{NoMemory, Shelf, Sink, Text, write_whole};
 

@@ -1,0 +1,4 @@
+pub mod Fitting
+pub mod Last
+pub mod Lists
+pub mod Read

@@ -1,6 +1,0 @@
-pub mod Asking
-pub mod Entries
-pub mod Last
-pub mod Lists
-pub mod Passing
-pub mod Words
