@@ -2,3 +2,4 @@ pub mod Lists
 pub mod Laws
 pub mod Visits
 pub mod Sorting
+pub mod RankLaws

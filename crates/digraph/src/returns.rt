@@ -5,6 +5,7 @@ ghost use Rattle.digraph.specs.Searching.{SomeReturns};
 ghost use Rattle.digraph.specs.Visiting.{Visited, IsVisit, Spreads, Returning, added};
 
 use crate::order::Graph;
+use crate::ranks::Ranks;
 use std::alloc::Global;
 use std::marker::Model;
 use text_core::NoMemory;
@@ -101,14 +102,15 @@ pub fn leads_back(alloc: Global, graph: &Graph, start: usize) -> Result<bool, No
     Ok(false)
 }
 
-/// The first node that leads to itself.
+/// Returns the first node that leads to itself. It searches only from nodes whose ranks leave a cycle open, so it takes linear time.
 pub fn first_return(alloc: Global, graph: &Graph) -> Result<usize, NoMemory>
     requires graph { is_graph graph.now ≡ true }
     requires some { SomeReturns graph.now }
     ensures { IfOk result (IsFirstReturn graph.now) }
 {
+    let ranks = Ranks::of(alloc, graph)?;
     for k in 0..graph.len() {
-        if leads_back(alloc, graph, k)? {
+        if ranks.may_return(graph, k) && leads_back(alloc, graph, k)? {
             return Ok(k);
         }
     }

@@ -1,4 +1,3 @@
 pub mod LinkLaws
 pub mod Building
-pub mod RankLaws
 pub mod FoundLaws

@@ -1,4 +1,2 @@
 pub mod Views
 pub mod Answer
-pub mod Components
-pub mod Ranks

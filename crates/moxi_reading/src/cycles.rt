@@ -5,13 +5,12 @@ ghost use Rattle.moxi_sexpr.specs.Tree.{plain_forms};
 ghost use Rattle.moxi_scripts.specs.Collecting.{also, fails_with};
 ghost use Rattle.moxi_scripts.specs.Commands.{nothing_read};
 ghost use Rattle.moxi_declarations.specs.Views.{plain_draft, plain_reading};
-ghost use Rattle.moxi_reading.specs.Ranks.{IsRanking};
+ghost use Rattle.digraph.specs.Ranks.{IsRanking};
 ghost use Rattle.moxi_scripts.specs.Cycles.{all_cycles, all_use_rows, count_uses, cycle_failures, ends_at, nodes_from, system_rows, use_cycles, use_graph, use_rows, use_tests};
 ghost use Rattle.moxi_scripts.specs.Spelling.{reading_of, script_failures};
 
 use crate::links::test_links;
-use crate::ranks::Ranks;
-use digraph::{Graph, leads_back};
+use digraph::{Graph, Ranks, leads_back};
 use moxi_attributes::{fail, fail_if};
 use moxi_declarations::{Draft, ReadSystem, read_commands};
 use moxi_scripts::Use;

@@ -1,11 +1,9 @@
 //! The script that forms of MoXI spell, or its first failing test.
 #![tactic(auto)]
 
-mod components;
 mod cycles;
 mod links;
 mod outcome;
-mod ranks;
 mod read;
 
 pub use cycles::{read_whole_script, test_cycles};

@@ -1,4 +1,4 @@
-use Rattle.std.proofs.Common.{◌+◌, ◌-◌, ◌<◌, Bool, true, false, length, subst, arith}
+use Rattle.std.proofs.Common.{◌+◌, ◌-◌, ◌<◌, Bool, length, subst, arith}
 use Rattle.digraph.specs.Visiting.{Spreads}
 use Rattle.digraph.proofs.Visits.{near_start, near_met, returns_start, returns_met, first_stays, done_stays, never_back, queue_short}
 use Rattle.digraph.proofs.returns.leads_back.Goals as goal

@@ -1,4 +1,4 @@
-use Rattle.std.proofs.Common.{◌≡◌, length, true, false, sym, subst, ap, ◌∙◌}
+use Rattle.std.proofs.Common.{◌≡◌, length, sym, subst, ap, ◌∙◌}
 use Rattle.digraph.specs.Graph.{next_of}
 use Rattle.digraph.specs.Searching.{State, IsStep}
 use Rattle.digraph.specs.declared.search.Step.TheVariants.{Went}

@@ -1,6 +1,6 @@
 use Rattle.std.proofs.Common.{rules}
-use Rattle.moxi_reading.proofs.RankLaws.{may_not}
-use Rattle.moxi_reading.proofs.ranks.Ranks.may_return.Goals as goal
+use Rattle.digraph.proofs.RankLaws.{may_not}
+use Rattle.digraph.proofs.ranks.Ranks.may_return.Goals as goal
 
 pub returns-else-not-self : goal.returns-else-not-self
 returns-else-not-self c = λ n over.

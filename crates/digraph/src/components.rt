@@ -2,9 +2,9 @@
 ghost use Rattle.std.specs.Prelude.{◌≡◌, ◌<◌, IfOk, OnOk, length, true, nat_lt};
 ghost use Rattle.std.specs.List.{list_all};
 ghost use Rattle.digraph.specs.Graph.{is_graph};
-ghost use Rattle.moxi_reading.specs.Components.{IsSearch, Keeps};
+ghost use Rattle.digraph.specs.Components.{IsSearch, Keeps};
 
-use digraph::Graph;
+use crate::order::Graph;
 use std::alloc::Global;
 use text_core::NoMemory;
 

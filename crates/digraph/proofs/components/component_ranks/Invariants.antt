@@ -1,6 +1,6 @@
 use Rattle.std.proofs.Common.{◌≡◌, ◌≤◌, length}
-use Rattle.moxi_reading.specs.Components.{IsSearch}
-use Rattle.moxi_reading.proofs.components.component_ranks.Given as goal
+use Rattle.digraph.specs.Components.{IsSearch}
+use Rattle.digraph.proofs.components.component_ranks.Given as goal
 
 abbrev pub invariant-loop-rank : goal.invariant-loop-rank
 invariant-loop-rank l = record {

@@ -2,10 +2,10 @@
 ghost use Rattle.std.specs.Prelude.{◌≡◌, ℕ, ◌≤◌, ◌<◌, IfOk, length, nat_lt, true, false};
 ghost use Rattle.std.specs.List.{list_all};
 ghost use Rattle.digraph.specs.Graph.{is_graph, is_in, next_of, leads};
-ghost use Rattle.moxi_reading.specs.Ranks.{Falls, IsRanking, rank_of};
+ghost use Rattle.digraph.specs.Ranks.{Falls, IsRanking, rank_of};
 
 use crate::components::component_ranks;
-use digraph::Graph;
+use crate::order::Graph;
 use std::alloc::Global;
 use text_core::{List, NoMemory};
 

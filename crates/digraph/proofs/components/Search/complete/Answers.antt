@@ -1,7 +1,7 @@
 use Rattle.std.proofs.Common.{length, nat_lt, refl, ap, ◌∙◌}
 use Rattle.std.specs.List.{list_all}
-use Rattle.moxi_reading.proofs.RankLaws.{all_taken}
-use Rattle.moxi_reading.proofs.components.Search.complete.Goals as goal
+use Rattle.digraph.proofs.RankLaws.{all_taken}
+use Rattle.digraph.proofs.components.Search.complete.Goals as goal
 
 pub rank_component-requires : goal.rank_component-requires
 rank_component-requires c =

@@ -1,7 +1,7 @@
 -- Ranks of the nodes of a graph.
 use Rattle.std.specs.Prelude.{◌≡◌, ℕ, ◌≤◌, true, List, length, slice_index_or}
 use Rattle.digraph.specs.Graph.{NodeLists, is_in, next_of}
-use Rattle.moxi_reading.specs.declared.ranks.Ranks.{Ranks}
+use Rattle.digraph.specs.declared.ranks.Ranks.{Ranks}
 
 abbrev pub rank_of : List ℕ → ℕ → ℕ
 rank_of ranks k = slice_index_or ranks k 0

@@ -1,7 +1,7 @@
 -- The search for components: each number that it keeps is that of a node.
 use Rattle.std.specs.Prelude.{◌≡◌, true, nat_lt, length}
 use Rattle.std.specs.List.{list_all}
-use Rattle.moxi_reading.specs.declared.components.Search.{Search}
+use Rattle.digraph.specs.declared.components.Search.{Search}
 
 pub record IsSearch (s : Search) : Type 0 where
   pub ranked : length s.ranks.items ≡ length s.nodes.items
