@@ -12,3 +12,4 @@ mod words;
 
 pub use brackets::{MOST_BRACKETS, opened_by};
 pub use lexing::{LexEnd, lex, one_lexing, printed_is_lexed, spellings_are_read};
+pub use numbers::literal_of;

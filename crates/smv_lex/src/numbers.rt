@@ -116,8 +116,9 @@ fn based_word(alloc: Global, text: &[u8]) -> Result<Option<Word>, NoMemory>
     }
 }
 
-/// The word that a run spells as a literal.
-fn literal_of(alloc: Global, run: &[u8]) -> Result<Option<Word>, NoMemory>
+/// Returns the word that a literal such as `0ud8_255` spells, or None where the bytes are no literal of a word (NuSMV 2.6 User Manual,
+/// "Word constants").
+pub fn literal_of(alloc: Global, run: &[u8]) -> Result<Option<Word>, NoMemory>
     ensures { IfOk result (λ word. word ≡ literal_of run.now) }
 {
     match run.split_first() {

@@ -8,8 +8,8 @@ ghost use Rattle.smv_meaning.specs.declared.value.Value.TheVariants.{Truth, Inte
 
 use crate::table::Table;
 use smv_intervals::Ty;
+use smv_lex::literal_of;
 use smv_meaning::Value;
-use smv_trace_text::literal_of;
 use std::alloc::Global;
 use text_core::{Name, NoMemory};
 use word_core::{Word, read_digits};

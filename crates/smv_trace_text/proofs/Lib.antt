@@ -1,4 +1,3 @@
 pub mod FirstBytes
 pub mod LineEnds
-pub mod Lists
 pub mod Margins

@@ -2,9 +2,7 @@
 #![tactic(auto)]
 
 mod lines;
-mod literal;
 mod print;
 
 pub use lines::{begins_with_dash, heading_numbers, is_passed, line_length, trim, value_parts};
-pub use literal::literal_of;
 pub use print::print_trace;
