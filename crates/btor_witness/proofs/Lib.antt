@@ -3,6 +3,7 @@ pub mod Marks
 pub mod Widths
 pub mod Tables
 pub mod Statements
+pub mod Order
 pub mod Places
 pub mod Judgement
 pub mod Plain

@@ -1,5 +1,5 @@
 -- A line that has a shape isn't passed over.
-use Rattle.std.proofs.Common.{◌≡◌, ℕ, true, false, List, [], ◌∷◌, Option, Some, None, refl, ap, ◌∙◌, sym, inl, inr}
+use Rattle.std.proofs.Common.{◌≡◌, ℕ, false, List, [], ◌∷◌, Some, None, refl, ap, ◌∙◌, inl, inr}
 use Rattle.std.proofs.lemmas.Bool.{cond-false, cases_Bool}
 use Rattle.btor_tree.specs.Parts.{Parts, numeral}
 use Rattle.btor_tree.proofs.Numerals.{all_digits, numeral_is}

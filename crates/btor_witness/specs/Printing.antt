@@ -1,5 +1,5 @@
 -- The one printed form of a witness.
-use Rattle.std.specs.Prelude.{◌≡◌, ◌≢◌, ◌==◌, ℕ, zero, suc, ◌<◌, ◌≤◌, true, false, List, [], ◌∷◌, ◌++◌, length, map, get_or, Option, Some, None, slice_get, if◌then◌else◌, codes, decimal}
+use Rattle.std.specs.Prelude.{◌≡◌, ◌≢◌, ◌==◌, ℕ, zero, suc, ◌<◌, ◌≤◌, Bool, true, false, ◌&&◌, nat_le, List, [], ◌∷◌, ◌++◌, length, map, get_or, Option, Some, None, slice_get, if◌then◌else◌, codes, decimal}
 use Rattle.std.specs.Option.{option_or}
 use Rattle.std.specs.List.{flat_map, AllByRecursion}
 use Rattle.word_core.specs.Words.{BitVector, IsWord}
@@ -44,6 +44,11 @@ one_statement i (Some word) = record { index = i; value = word } ∷ []
 abbrev pub rising : List Stated → ℕ → List Stated
 rising stated zero = []
 rising stated (suc n) = rising stated n ++ one_statement n (value_of stated n)
+
+-- does each statement have a greater number than the one before it, from this number on?
+abbrev pub rises_from : ℕ → List Stated → Bool
+rises_from low [] = true
+rises_from low (s ∷ ss) = nat_le low s.index && rises_from (suc s.index) ss
 
 abbrev pub rising_frame : Sizes → Frame → Frame
 rising_frame sizes f =

@@ -1,10 +1,12 @@
 // The printer.
-ghost use Rattle.std.specs.Prelude.{◌≡◌, ◌<◌, ◌≤◌, ◌++◌, ◌∷◌, [], ◌^◌, length, map, replicate, None, decimal, codes, OnOk, IfOk};
+ghost use Rattle.std.specs.Prelude.{◌≡◌, ◌<◌, ◌≤◌, ◌+◌, ◌++◌, ◌∷◌, [], ◌^◌, length, map, replicate, None, decimal, codes, OnOk, IfOk};
 ghost use Rattle.std.specs.List.{flat_map, AllByRecursion};
 ghost use Rattle.btor_tree.specs.Fits.{is_state, is_input};
 ghost use Rattle.btor_witness.specs.Sizes.{sizes_of, widths_of};
-ghost use Rattle.btor_witness.specs.Printing.{IsBelow, IsPart, IsWitness, TableOf, rising, rising_frame, number_line, statement_line, states_text, inputs_text, frame_text, frames_text, printed};
+ghost use Rattle.btor_witness.specs.Printing.{IsBelow, IsPart, IsWitness, IsWithinLimits, TableOf, rises_from, rising, rising_frame, rising_witness, number_line, statement_line, states_text, inputs_text, frame_text, frames_text, printed};
+ghost use Rattle.btor_witness.specs.Texts.{SpellsWitness};
 
+use crate::unique::printed_is_read;
 use crate::witness::{Frame, Stated, Stateds, Witness};
 use btor_tree::Nodes;
 use std::alloc::Global;
@@ -85,6 +87,27 @@ fn put_frame(out: &mut Text, number: usize, frame: &Frame) -> Result<(), NoMemor
     put_statements(out, &frame.inputs)
 }
 
+// The least number behind this one.
+fn one_more(number: u32) -> u64
+    ensures { result ≡ number + 1 }
+{
+    u64::from(number) + 1
+}
+
+// Do the statements stand in rising order?
+fn rises(stated: &Stateds) -> bool
+    ensures { result ≡ rises_from 0 stated.now }
+{
+    let mut least = 0;
+    for statement in stated {
+        if u64::from(statement.index) < least {
+            return false;
+        }
+        least = one_more(statement.index);
+    }
+    true
+}
+
 fn rising_frame(alloc: Global, nodes: &Nodes, frame: &Frame) -> Result<Frame, NoMemory>
     requires states { IsPart (widths_of is_state nodes.now) frame.now.states }
     requires inputs { IsPart (widths_of is_input nodes.now) frame.now.inputs }
@@ -96,19 +119,43 @@ fn rising_frame(alloc: Global, nodes: &Nodes, frame: &Frame) -> Result<Frame, No
     })
 }
 
+// A frame in rising order. One that rises is printed as it is.
+fn put_rising_frame(
+    alloc: Global,
+    out: &mut Text,
+    nodes: &Nodes,
+    number: usize,
+    frame: &Frame,
+) -> Result<(), NoMemory>
+    requires states { IsPart (widths_of is_state nodes.now) frame.now.states }
+    requires inputs { IsPart (widths_of is_input nodes.now) frame.now.inputs }
+    ensures { OnOk result (out.new ≡ out.old ++ frame_text number (rising_frame (sizes_of nodes.now) frame.now)) }
+{
+    if rises(&frame.states) && rises(&frame.inputs) {
+        return put_frame(out, number, frame);
+    }
+    let frame = rising_frame(alloc, nodes, frame)?;
+    put_frame(out, number, &frame)
+}
+
 /// The printed form of a witness: of each frame the states behind `#` where there are any, and the inputs behind `@`,
 /// each part in rising order and without symbols. The caller owes a witness for the lines: a bad line, one or more
 /// frames, and in each part words of the right widths, of which each is stated once.
 pub fn print_witness(alloc: Global, nodes: &Nodes, witness: &Witness) -> Result<Text, NoMemory>
     requires { IsWitness (sizes_of nodes.now) witness.now }
-    ensures { IfOk result (λ text. text ≡ printed nodes.now witness.now) }
+    // What is printed.
+    ensures printed { IfOk result (λ text. text ≡ printed nodes.now witness.now) }
+    // Within the limits of the reader it spells the same witness, with its statements in rising order.
+    ensures read { IsWithinLimits nodes.now witness.now → IfOk result (λ text. SpellsWitness nodes.now text (rising_witness (sizes_of nodes.now) witness.now)) }
 {
+    // This call's contract says that the lines fit one another.
+    let _count = nodes.len();
+    printed_is_read();
     let mut out = Text::new(alloc);
     out.put(b"sat\n")?;
     put_number_line(&mut out, b'b', witness.bad as usize)?;
     for number in 0..witness.frames.len() {
-        let frame = rising_frame(alloc, nodes, witness.frames.at(number))?;
-        put_frame(&mut out, number, &frame)?;
+        put_rising_frame(alloc, &mut out, nodes, number, witness.frames.at(number))?;
     }
     out.put(b".\n")?;
     Ok(out)

@@ -18,13 +18,11 @@ loop-number-preserved c =
     let lt : i < length frames = omega (arith, c.loop-number-test.true, c.len-number-end.ensures) in
     let le : i ≤ length frames = omega arith in
     let size : 0 + length done ≡ i = omega (arith, length-map (take i frames) f, length-take-le i frames le) in
-    let same : c.in_ok-frame.frame ≡ f c.at.result.now = c.in_ok-frame.ensures in
     let more : map f (take (i + 1) frames) ≡ done ++ f c.at.result.now ∷ [] =
     map_more f frames i c.at.result.now lt ∙ ap (λ x. done ++ f x ∷ []) (sym c.at.ensures) in
     let texts : frames_text 0 (map f (take (i + 1) frames)) ≡ frames_text 0 done ++ frame_text i (f c.at.result.now) =
     ap (frames_text 0) more ∙ frames_more 0 done (f c.at.result.now) ∙ ap (λ n. frames_text 0 done ++ frame_text n (f c.at.result.now)) size in
-    c.in_ok-put_frame.ensures ∙ ap (λ x. x ++ frame_text i c.in_ok-frame.frame) c.loop-number.invariant
-    ∙ ap (λ x. (codes "sat" ++ 10 ∷ (head ++ frames_text 0 done)) ++ frame_text i x) same
+    c.in_ok-put_rising_frame.ensures ∙ ap (λ x. x ++ frame_text i (f c.at.result.now)) c.loop-number.invariant
     ∙ append_assoc (codes "sat" ++ 10 ∷ []) (head ++ frames_text 0 done) (frame_text i (f c.at.result.now))
     ∙ ap (λ x. codes "sat" ++ 10 ∷ x) (append_assoc head (frames_text 0 done) (frame_text i (f c.at.result.now)))
     ∙ ap (λ x. codes "sat" ++ 10 ∷ (head ++ x)) (sym texts)

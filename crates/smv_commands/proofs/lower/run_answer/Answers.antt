@@ -16,7 +16,7 @@ pub returns-in_ok-text-in-Ok-clause-answer : goal.returns-in_ok-text-in-Ok-claus
 returns-in_ok-text-in-Ok-clause-answer c =
     let exact : OfForms c.args.chain.now (λ source. c.in-Ok.witness ≡ lowered source c.args.j c.args.run.now) = λ source form. c.in-Ok.ensures.lowered source (subst (IsFormOf source) (sym c.flat.ensures) form) in
     let judged : OfForms c.args.chain.now (λ source. verdict_on source c.args.j c.args.run.now ≡ Yes) = λ source form. c.in-Ok.ensures.judged source (subst (IsFormOf source) (sym c.flat.ensures) form) in
-    said_lowered c.args.chain.now c.args.j c.args.run.now c.in-Ok.witness c.nodes.result.now c.in_ok-text-in-Ok.text exact judged c.nodes.ensures c.in_ok-text-in-Ok.ensures
+    said_lowered c.args.chain.now c.args.j c.args.run.now c.in-Ok.witness c.nodes.result.now c.in_ok-text-in-Ok.text exact judged c.nodes.ensures c.in_ok-text-in-Ok.ensures.printed
 
 pub returns-in-Err-No-clause-answer : goal.returns-in-Err-No-clause-answer
 returns-in-Err-No-clause-answer c =
