@@ -1,5 +1,5 @@
 -- Each test of scripts that fails is of a kind of scripts.
-use Rattle.std.proofs.Common.{◌≡◌, ℕ, ◌+◌, nat_le, nat_lt, length, is_some, Bool, true, false, cond, ◌&&◌, IfErr, Result, Ok, Err, Option, None, Some, List, [], ◌∷◌, ◌++◌, codes, bytes_eq, refl}
+use Rattle.std.proofs.Common.{◌≡◌, ℕ, ◌+◌, eqb, nat_le, nat_lt, length, is_some, Bool, true, false, cond, ◌&&◌, IfErr, Result, Ok, Err, Option, None, Some, List, [], ◌∷◌, ◌++◌, codes, bytes_eq, refl}
 use Rattle.std.specs.List.{AllByRecursion}
 use Rattle.std.specs.Prelude.{slice_get}
 use Rattle.text_core.specs.declared.place.Kind.{Kind}
@@ -20,13 +20,15 @@ use Rattle.moxi_terms.specs.declared.data.Primes.{Primes}
 use Rattle.moxi_terms.specs.declared.data.Primes.TheVariants.{Allowed, Refused}
 use Rattle.moxi_terms.specs.declared.names.Head.{Head}
 use Rattle.moxi_terms.specs.declared.names.Head.TheVariants as heads
+use Rattle.moxi_term_reading.specs.declared.heads.HeadFailure.{HeadFailure}
+use Rattle.moxi_term_reading.specs.declared.heads.HeadFailure.TheVariants.{Unknown, Misshapen}
 use Rattle.moxi_term_reading.specs.declared.locals.Local.{Local}
 use Rattle.moxi_terms.specs.declared.names.Meaning.{Meaning}
 use Rattle.moxi_terms.specs.declared.names.Meaning.TheVariants as meaning
 use Rattle.moxi_term_reading.specs.Forms.{place_in, symbol_atom, symbol_of, numeral_of, pair_of, is_word, is_primed}
 use Rattle.moxi_terms.specs.Names.{sort_named}
 use Rattle.moxi_terms.specs.Operators.{is_comparison}
-use Rattle.moxi_term_reading.specs.Reading.{Arguments, Bindings, Context, Reading, application, application_tests, argument_tests, atom_head, atom_reading, binding_of, bindings_tests, extended_head, extracted_head, head_of, head_primes, indexed_head, known_head, let_reading, listed_head, literal_digits, literal_named, literal_reading, meaning_of, named_reading, paired_head, prime_failures, read, read_all, read_binding, read_bindings, read_let, sort_failures, sorts_tested, symbol_head, symbol_primes, symbol_underscored, underscore_reading, variable_primes, word_reading}
+use Rattle.moxi_term_reading.specs.Reading.{Arguments, Bindings, Context, Reading, application, application_tests, argument_tests, atom_head, atom_reading, binding_of, bindings_tests, extended_head, extracted_head, head_of, head_primes, head_tests, indexed_head, known_head, let_reading, listed_head, literal_digits, literal_named, literal_reading, meaning_of, named_reading, paired_head, prime_failures, read, read_all, read_binding, read_bindings, read_let, sort_failures, sorts_tested, symbol_head, symbol_primes, symbol_underscored, underscore_reading, variable_primes, word_reading}
 use Rattle.moxi_term_reading.specs.SortReading.{atom_sort, index_of, indexed_sort, is_width, listed_sort, only_numeral, sort_reading, symbol_indexed, symbol_sort, unknown, unknown_indexed, vector_sort, width_sort}
 use Rattle.moxi_term_reading.specs.Typing.{call_sort, head_sort, head_count_fits}
 use Rattle.moxi_terms.specs.Meanings.{head_named}
@@ -163,44 +165,56 @@ underscored : (p q : Place) (first : Bool) (ts : form.Trees) → Fine (underscor
 underscored p q first form.no_trees = (refl, tt)
 underscored p q first (form.tree t ts) = symbols_underscored p q first (place_in t) (symbol_of t) ts
 
-extended : (q : Place) (name : List ℕ) (o : Option (List ℕ)) → FineEnd (extended_head q name o)
-extended q name None = refl
-extended q name (Some count) = either_end (bytes_eq name (codes "zero_extend")) (Ok _) (Ok _) tt tt
+-- where it has a refusal of its own, that is of a kind of scripts
+abbrev FineFailure : HeadFailure → Type 0
+FineFailure (Unknown f) = HasScriptKind f
+FineFailure (Misshapen q) = Unit {0}
 
-extracted : (q : Place) (o l : Option (List ℕ)) → FineEnd (extracted_head q o l)
+abbrev FineHead : Result Head HeadFailure → Type 0
+FineHead r = IfErr r FineFailure
+
+either_head : (b : Bool) (x y : Result Head HeadFailure) → FineHead x → FineHead y → FineHead (cond b x y)
+either_head true x y f g = f
+either_head false x y f g = g
+
+extended : (q : Place) (name : List ℕ) (o : Option (List ℕ)) → FineHead (extended_head q name o)
+extended q name None = tt
+extended q name (Some count) = either_head (bytes_eq name (codes "zero_extend")) (Ok _) (Ok _) tt tt
+
+extracted : (q : Place) (o l : Option (List ℕ)) → FineHead (extracted_head q o l)
 extracted q (Some high) (Some low) = tt
-extracted q (Some high) None = refl
-extracted q None low = refl
+extracted q (Some high) None = tt
+extracted q None low = tt
 
-paired : (q : Place) (o : Option (form.Tree × form.Tree)) → FineEnd (paired_head q o)
-paired q None = refl
+paired : (q : Place) (o : Option (form.Tree × form.Tree)) → FineHead (paired_head q o)
+paired q None = tt
 paired q (Some x) = extracted q (numeral_of x.0) (numeral_of x.1)
 
-indexed : (q : Place) (name : List ℕ) (ts : form.Trees) → FineEnd (indexed_head q name ts)
+indexed : (q : Place) (name : List ℕ) (ts : form.Trees) → FineHead (indexed_head q name ts)
 indexed q name ts =
-    either_end (bytes_eq name (codes "extract")) (paired_head q (pair_of ts)) (extended_head q name (only_numeral ts)) (paired q (pair_of ts)) (extended q name (only_numeral ts))
+    either_head (bytes_eq name (codes "extract")) (paired_head q (pair_of ts)) (extended_head q name (only_numeral ts)) (paired q (pair_of ts)) (extended q name (only_numeral ts))
 
-symbol_heads : (p q : Place) (o : Option (List ℕ × Bool)) (ts : form.Trees) → FineEnd (symbol_head p q o ts)
+symbol_heads : (p q : Place) (o : Option (List ℕ × Bool)) (ts : form.Trees) → FineHead (symbol_head p q o ts)
 symbol_heads p q None ts = refl
 symbol_heads p q (Some x) ts =
-    either_end (is_one_of indexed_operators x.0) (indexed_head q x.0 ts) (Err (unknown (is_one_of left_out_operators x.0) p q)) (indexed q x.0 ts) (is_unknown (is_one_of left_out_operators x.0) p q)
+    either_head (is_one_of indexed_operators x.0) (indexed_head q x.0 ts) (Err (Unknown (unknown (is_one_of left_out_operators x.0) p q))) (indexed q x.0 ts) (is_unknown (is_one_of left_out_operators x.0) p q)
 
-listed_heads : (p q : Place) (ts : form.Trees) → FineEnd (listed_head p q ts)
+listed_heads : (p q : Place) (ts : form.Trees) → FineHead (listed_head p q ts)
 listed_heads p q form.no_trees = refl
 listed_heads p q (form.tree t ts) = symbol_heads p q (symbol_of t) ts
 
-known_heads : (o : Option Head) (f : Refusal) → HasScriptKind f → FineEnd (known_head o f)
+known_heads : (o : Option Head) (f : Refusal) → HasScriptKind f → FineHead (known_head o f)
 known_heads (Some h) f k = tt
 known_heads None f k = k
 
-atom_heads : (s : ScopeState) (p q : Place) (o : Option (List ℕ × Bool)) → FineEnd (atom_head s p q o)
+atom_heads : (s : ScopeState) (p q : Place) (o : Option (List ℕ × Bool)) → FineHead (atom_head s p q o)
 atom_heads s p q None = refl
 atom_heads s p q (Some x) = known_heads (head_named s x.0) (unknown (is_one_of left_out_operators x.0) p q) (is_unknown (is_one_of left_out_operators x.0) p q)
 
-heads_of : (s : ScopeState) (p : Place) (t : form.Tree) → FineEnd (head_of s p t)
+heads_of : (s : ScopeState) (p : Place) (t : form.Tree) → FineHead (head_of s p t)
 heads_of s p (form.atom q a) = atom_heads s p q (symbol_atom a)
 heads_of s p (form.list q form.no_trees) = refl
-heads_of s p (form.list q (form.tree t ts)) = either_end (is_word (codes "_") t) (listed_head p q ts) (Err (refusal 4 q)) (listed_heads p q ts) refl
+heads_of s p (form.list q (form.tree t ts)) = either_head (is_word (codes "_") t) (listed_head p q ts) (Err (Unknown (refusal 4 q))) (listed_heads p q ts) refl
 
 symbols_primed : (t : form.Tree) → Fine (symbol_primes t)
 symbols_primed t = primes (is_primed t) (place_in t)
@@ -324,8 +338,12 @@ are_tested fs p h (Some ss) = kinds_tested p (head_sort fs h ss) (head_sorts fs 
 arguments : (fs : List PlainFunction) (p : Place) (h : Head) (n : ℕ) (o : Option (List Sort)) → Fine (argument_tests fs p h n o)
 arguments fs p h n o = either (head_count_fits fs h n) (sorts_tested fs p h o) (refusal 12 p ∷ []) (are_tested fs p h o) (refl, tt)
 
-applications : (fs : List PlainFunction) (p : Place) (tests : List Refusal) (r : Result Head Refusal) (rs : Arguments) → Fine tests → FineEnd r → Fine rs.failures → Fine (application fs p tests r rs).failures
-applications fs p tests (Err f) rs a b c = join rs.failures (f ∷ []) c (b, tt)
+heads_tested : (p : Place) (f : HeadFailure) (n : ℕ) → FineFailure f → Fine (head_tests p f n)
+heads_tested p (Unknown f) n h = (h, tt)
+heads_tested p (Misshapen q) n h = (refl, either (eqb n 1) [] (refusal 12 p ∷ []) tt (refl, tt))
+
+applications : (fs : List PlainFunction) (p : Place) (tests : List Refusal) (r : Result Head HeadFailure) (rs : Arguments) → Fine tests → FineHead r → Fine rs.failures → Fine (application fs p tests r rs).failures
+applications fs p tests (Err f) rs a b c = join rs.failures (head_tests p f (length rs.terms)) c (heads_tested p f (length rs.terms) b)
 applications fs p tests (Ok h) rs a b c =
     join rs.failures (tests ++ application_tests fs p h rs) c (join tests (application_tests fs p h rs) a (arguments fs p h (length rs.terms) rs.sorts))
 

@@ -15,6 +15,7 @@ use Rattle.moxi_terms.specs.declared.names.Meaning.{Meaning}
 use Rattle.moxi_terms.specs.declared.names.Meaning.TheVariants as meaning
 use Rattle.moxi_terms.specs.declared.names.Head.{Head}
 use Rattle.moxi_terms.specs.declared.names.Head.TheVariants as heads
+use Rattle.moxi_term_reading.specs.declared.heads.HeadFailure.{HeadFailure}
 use Rattle.moxi_term_reading.specs.declared.locals.Local.{Local}
 use Rattle.moxi_terms.specs.declared.data.Primes.{Primes}
 use Rattle.moxi_terms.specs.Tree.{Tree, Trees, trees_of, PlainFunction}
@@ -73,7 +74,7 @@ headed_spelled : (h : Head) (ts : Trees) → AllNamesAreSpellable ts → NamesAr
 headed_spelled (heads.Operator o) ts h = h
 headed_spelled (heads.Function n) ts h = h
 
-application_spelled : (fs : List PlainFunction) (p : Place) (primes : List Refusal) (h : Result Head Refusal) (x : Arguments) → AllNamesAreSpellable (trees_of x.terms)
+application_spelled : (fs : List PlainFunction) (p : Place) (primes : List Refusal) (h : Result Head HeadFailure) (x : Arguments) → AllNamesAreSpellable (trees_of x.terms)
     → NamesAreSpellable (reading.application fs p primes h x).term
 application_spelled fs p primes (Err f) x g = tt
 application_spelled fs p primes (Ok h) x g = headed_spelled h (trees_of x.terms) g

@@ -29,6 +29,8 @@ use Rattle.moxi_terms.specs.declared.names.Meaning.{Meaning}
 use Rattle.moxi_terms.specs.declared.names.Meaning.TheVariants as meaning
 use Rattle.moxi_terms.specs.declared.names.Head.{Head}
 use Rattle.moxi_terms.specs.declared.names.Head.TheVariants as heads
+use Rattle.moxi_term_reading.specs.declared.heads.HeadFailure.{HeadFailure}
+use Rattle.moxi_term_reading.specs.declared.heads.HeadFailure.TheVariants.{Unknown}
 use Rattle.moxi_term_reading.specs.declared.locals.Local.{Local}
 use Rattle.moxi_terms.specs.declared.term.Enumeration.{Enumeration}
 use Rattle.moxi_terms.specs.declared.term.Variable.{Variable}
@@ -48,7 +50,7 @@ use Rattle.moxi_term_reading.specs.Finding.{Found}
 use Rattle.moxi_terms.specs.Meanings.{head_named}
 use Rattle.moxi_term_reading.specs.WellSorted.{HaveKnownSorts}
 use Rattle.moxi_terms.proofs.PlaceLaws.{place_there, index_read}
-use Rattle.moxi_term_reading.specs.laws.SortedParts.{some_fails, none_in, stays, FoundIn, first_found, last_found, known_append, all_have_sorts, names_long, read_is_word, tests_hold, call_fits}
+use Rattle.moxi_term_reading.specs.laws.SortedParts.{some_fails, none_in, stays, FoundIn, first_found, last_found, known_append, all_have_sorts, names_long, read_is_word, tests_hold, call_fits, head_fails}
 use Rattle.moxi_term_print.specs.Terms.{name_at, constants_or_none, constant_name, operator_word, truth_word}
 use Rattle.moxi_term_print.specs.Standing.{bound_locals, StandsPrime, StandsOperator, StandsCall, Stands, StandEach}
 use Rattle.moxi_term_print.specs.StandingReads.{IsStanding}
@@ -405,7 +407,7 @@ module _ (c : Context) (vars : List Sort) (of_vars : HaveKnownSorts c.variables 
   extended_stands q name None = tt
   extended_stands q name (Some count) = by_word (bytes_eq name (codes "zero_extend"))
     where
-      by_word : (b : Bool) → IfOk (let r : Result Head Refusal = cond b (Ok (heads.Operator (op.ZeroExtend (sort_reading.index_of count)))) (Ok (heads.Operator (op.SignExtend (sort_reading.index_of count)))) in r) HeadStands
+      by_word : (b : Bool) → IfOk (let r : Result Head HeadFailure = cond b (Ok (heads.Operator (op.ZeroExtend (sort_reading.index_of count)))) (Ok (heads.Operator (op.SignExtend (sort_reading.index_of count)))) in r) HeadStands
       by_word true = index_small count
       by_word false = index_small count
 
@@ -413,7 +415,7 @@ module _ (c : Context) (vars : List Sort) (of_vars : HaveKnownSorts c.variables 
   indexed_stands p q None ts = tt
   indexed_stands p q (Some x) ts = by_word (is_one_of indexed_operators x.0) (bytes_eq x.0 (codes "extract"))
     where
-      by_word : (a b : Bool) → IfOk (cond a (cond b (reading.paired_head q (pair_of ts)) (reading.extended_head q x.0 (sort_reading.only_numeral ts))) (Err (sort_reading.unknown (is_one_of left_out_operators x.0) p q))) HeadStands
+      by_word : (a b : Bool) → IfOk (cond a (cond b (reading.paired_head q (pair_of ts)) (reading.extended_head q x.0 (sort_reading.only_numeral ts))) (Err (Unknown (sort_reading.unknown (is_one_of left_out_operators x.0) p q)))) HeadStands
       by_word true true = paired_stands q (pair_of ts)
       by_word true false = extended_stands q x.0 (sort_reading.only_numeral ts)
       by_word false b = tt
@@ -427,7 +429,7 @@ module _ (c : Context) (vars : List Sort) (of_vars : HaveKnownSorts c.variables 
   head_stands p (form.list q form.no_trees) x y = tt
   head_stands p (form.list q (form.tree t ts)) x y = by_word (is_word (codes "_") t)
     where
-      by_word : (b : Bool) → IfOk (cond b (reading.listed_head p q ts) (Err (refusal 4 q))) HeadStands
+      by_word : (b : Bool) → IfOk (cond b (reading.listed_head p q ts) (Err (Unknown (refusal 4 q)))) HeadStands
       by_word true = listed_stands p q ts
       by_word false = tt
 
@@ -463,9 +465,9 @@ module _ (c : Context) (vars : List Sort) (of_vars : HaveKnownSorts c.variables 
         call_stands ls n h.0 h.0.parameters h.2 h.3 h.4 h.5,
       )
 
-  application_stands : (ls : List Local) (p : Place) (primes : List Refusal) (h : Result Head Refusal) (x : Arguments) → IfOk h HeadStands → (x.failures ≡ [] → AreStanding ls x)
+  application_stands : (ls : List Local) (p : Place) (primes : List Refusal) (h : Result Head HeadFailure) (x : Arguments) → IfOk h HeadStands → (x.failures ≡ [] → AreStanding ls x)
       → (reading.application c.scope.functions p primes h x).failures ≡ [] → IsStanding c ls (reading.application c.scope.functions p primes h x)
-  application_stands ls p primes (Err f) x i g e = let e1 = none_in x.failures (f ∷ []) e in never ls f [] _ e1.1
+  application_stands ls p primes (Err f) x i g e = absurd (head_fails p f (length x.terms) (none_in x.failures (reading.head_tests p f (length x.terms)) e).1)
   application_stands ls p primes (Ok h) x i g e =
       let e1 = none_in x.failures _ e in
       let e2 = none_in primes _ e1.1 in

@@ -20,6 +20,7 @@ use Rattle.moxi_terms.specs.declared.names.Meaning.{Meaning}
 use Rattle.moxi_terms.specs.declared.names.Meaning.TheVariants as meaning
 use Rattle.moxi_terms.specs.declared.names.Head.{Head}
 use Rattle.moxi_terms.specs.Tree.{Tree, constant, variable, bound, call, no_trees, PlainFunction}
+use Rattle.moxi_term_reading.specs.declared.heads.HeadFailure.{HeadFailure}
 use Rattle.moxi_term_reading.specs.declared.locals.Local.{Local}
 use Rattle.moxi_term_reading.specs.Forms.{place_in, symbol_of, is_word, is_primed}
 use Rattle.moxi_term_reading.specs.SortReading.{index_of, only_numeral}
@@ -99,7 +100,7 @@ applied_parts : (fs : List PlainFunction) (h : Head) (o : Option (List Sort)) (s
 applied_parts fs h None s e = absurd (none-some s e)
 applied_parts fs h (Some ss) s e = (ss, refl)
 
-applications : (fs : List PlainFunction) (p : Place) (primes : List Refusal) (h : Result Head Refusal) (x : Arguments) → AllPass x → Passes (reading.application fs p primes h x)
+applications : (fs : List PlainFunction) (p : Place) (primes : List Refusal) (h : Result Head HeadFailure) (x : Arguments) → AllPass x → Passes (reading.application fs p primes h x)
 applications fs p primes (Err f) x g s e = absurd (none-some s e)
 applications fs p primes (Ok h) x g s e =
     let tests = primes ++ reading.application_tests fs p h x in

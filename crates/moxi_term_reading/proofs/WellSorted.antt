@@ -21,6 +21,7 @@ use Rattle.moxi_terms.specs.declared.names.Meaning.{Meaning}
 use Rattle.moxi_terms.specs.declared.names.Meaning.TheVariants as meaning
 use Rattle.moxi_terms.specs.declared.names.Head.{Head}
 use Rattle.moxi_terms.specs.declared.names.Head.TheVariants as heads
+use Rattle.moxi_term_reading.specs.declared.heads.HeadFailure.{HeadFailure}
 use Rattle.moxi_term_reading.specs.declared.locals.Local.{Local}
 use Rattle.moxi_terms.specs.Tree.{Tree, constant, variable, bound, call, no_trees, trees_of, PlainFunction, sorts_of}
 use Rattle.moxi_terms.specs.Names.{or_else, function_names, constant_named, constant_numbers, all_constants}
@@ -39,7 +40,7 @@ use Rattle.moxi_term_reading.specs.declared.outcome.ReadTerm.{ReadTerm}
 use Rattle.moxi_term_reading.specs.Answer.{IsRead}
 use Rattle.moxi_term_reading.specs.WellSorted.{HaveKnownSorts, IsTerm, IsWellSorted, IsSortedTerm}
 use Rattle.moxi_term_reading.specs.laws.Least.{least_none}
-use Rattle.moxi_term_reading.specs.laws.SortedParts.{some_fails, none_in, stays, FoundIn, first_found, last_found, known_append, all_have_sorts, names_long, constant_is, read_is_word, tests_hold, call_fits}
+use Rattle.moxi_term_reading.specs.laws.SortedParts.{some_fails, none_in, stays, FoundIn, first_found, last_found, known_append, all_have_sorts, names_long, constant_is, read_is_word, tests_hold, call_fits, head_fails}
 
 module _ (c : Context) (vars : List Sort) (of_vars : HaveKnownSorts c.variables vars) where
   checked_sorted : (ss : List Sort) (t : Tree) (s : Option Sort) (fs : List Refusal) (sort : Sort) → fs ≡ [] → s ≡ Some sort
@@ -182,9 +183,9 @@ module _ (c : Context) (vars : List Sort) (of_vars : HaveKnownSorts c.variables 
   headed_unprimed (heads.Operator o) x u = u
   headed_unprimed (heads.Function n) x u = u
 
-  application_sorted : (ss : List Sort) (p : Place) (primes : List Refusal) (h : Result Head Refusal) (x : Arguments) → (x.failures ≡ [] → AreWellSorted ss x)
+  application_sorted : (ss : List Sort) (p : Place) (primes : List Refusal) (h : Result Head HeadFailure) (x : Arguments) → (x.failures ≡ [] → AreWellSorted ss x)
       → (reading.application c.scope.functions p primes h x).failures ≡ [] → IsWellSorted c vars ss (reading.application c.scope.functions p primes h x)
-  application_sorted ss p primes (Err f) x g e = let e1 = none_in x.failures (f ∷ []) e in never ss f [] _ e1.1
+  application_sorted ss p primes (Err f) x g e = absurd (head_fails p f (length x.terms) (none_in x.failures (reading.head_tests p f (length x.terms)) e).1)
   application_sorted ss p primes (Ok h) x g e =
       let e1 = none_in x.failures _ e in
       let e2 = none_in primes _ e1.1 in

@@ -24,6 +24,8 @@ use Rattle.moxi_terms.specs.declared.names.Meaning.{Meaning}
 use Rattle.moxi_terms.specs.declared.names.Meaning.TheVariants as meaning
 use Rattle.moxi_terms.specs.declared.names.Head.{Head}
 use Rattle.moxi_terms.specs.declared.names.Head.TheVariants as heads
+use Rattle.moxi_term_reading.specs.declared.heads.HeadFailure.{HeadFailure}
+use Rattle.moxi_term_reading.specs.declared.heads.HeadFailure.TheVariants.{Unknown, Misshapen}
 use Rattle.moxi_term_reading.specs.declared.locals.Local.{Local}
 use Rattle.moxi_terms.specs.Tree.{Tree, constant, variable, bound, apply, binding, call, Trees, no_trees, trees_of, PlainFunction}
 use Rattle.moxi_terms.specs.View.{ScopeState}
@@ -129,49 +131,49 @@ abbrev pub underscore_reading : Place → Place → Bool → form.Trees → Read
 underscore_reading p q first form.no_trees = failed (refusal 4 q)
 underscore_reading p q first (form.tree t ts) = symbol_underscored p q first (place_in t) (symbol_of t) ts
 
-abbrev pub known_head : Option Head → Refusal → Result Head Refusal
+abbrev pub known_head : Option Head → Refusal → Result Head HeadFailure
 known_head (Some h) f = Ok h
-known_head None f = Err f
+known_head None f = Err (Unknown f)
 
 -- an operator with one index
-abbrev pub extended_head : Place → List ℕ → Option (List ℕ) → Result Head Refusal
-extended_head q name None = Err (refusal 12 q)
+abbrev pub extended_head : Place → List ℕ → Option (List ℕ) → Result Head HeadFailure
+extended_head q name None = Err (Misshapen q)
 extended_head q name (Some count) =
     if bytes_eq name (codes "zero_extend") then Ok (heads.Operator (op.ZeroExtend (index_of count))) else Ok (heads.Operator (op.SignExtend (index_of count)))
 
-abbrev pub extracted_head : Place → Option (List ℕ) → Option (List ℕ) → Result Head Refusal
+abbrev pub extracted_head : Place → Option (List ℕ) → Option (List ℕ) → Result Head HeadFailure
 extracted_head q (Some high) (Some low) = Ok (heads.Operator (op.Extract (index_of high) (index_of low)))
-extracted_head q (Some high) None = Err (refusal 12 q)
-extracted_head q None low = Err (refusal 12 q)
+extracted_head q (Some high) None = Err (Misshapen q)
+extracted_head q None low = Err (Misshapen q)
 
 -- an operator with two indices
-abbrev pub paired_head : Place → Option (form.Tree × form.Tree) → Result Head Refusal
-paired_head q None = Err (refusal 12 q)
+abbrev pub paired_head : Place → Option (form.Tree × form.Tree) → Result Head HeadFailure
+paired_head q None = Err (Misshapen q)
 paired_head q (Some x) = extracted_head q (numeral_of x.0) (numeral_of x.1)
 
 -- the operator with indices at the head at q
-abbrev pub indexed_head : Place → List ℕ → form.Trees → Result Head Refusal
+abbrev pub indexed_head : Place → List ℕ → form.Trees → Result Head HeadFailure
 indexed_head q name ts = if bytes_eq name (codes "extract") then paired_head q (pair_of ts) else extended_head q name (only_numeral ts)
 
 -- behind the `_` of a head at q, in a term at p, the symbol, and what stands behind it
-abbrev pub symbol_head : Place → Place → Option (List ℕ × Bool) → form.Trees → Result Head Refusal
-symbol_head p q None ts = Err (refusal 4 q)
-symbol_head p q (Some x) ts = if is_one_of indexed_operators x.0 then indexed_head q x.0 ts else Err (unknown (is_one_of left_out_operators x.0) p q)
+abbrev pub symbol_head : Place → Place → Option (List ℕ × Bool) → form.Trees → Result Head HeadFailure
+symbol_head p q None ts = Err (Unknown (refusal 4 q))
+symbol_head p q (Some x) ts = if is_one_of indexed_operators x.0 then indexed_head q x.0 ts else Err (Unknown (unknown (is_one_of left_out_operators x.0) p q))
 
 -- what stands behind the first form of a head at q
-abbrev pub listed_head : Place → Place → form.Trees → Result Head Refusal
-listed_head p q form.no_trees = Err (refusal 4 q)
+abbrev pub listed_head : Place → Place → form.Trees → Result Head HeadFailure
+listed_head p q form.no_trees = Err (Unknown (refusal 4 q))
 listed_head p q (form.tree t ts) = symbol_head p q (symbol_of t) ts
 
-abbrev pub atom_head : ScopeState → Place → Place → Option (List ℕ × Bool) → Result Head Refusal
-atom_head s p q None = Err (refusal 4 q)
+abbrev pub atom_head : ScopeState → Place → Place → Option (List ℕ × Bool) → Result Head HeadFailure
+atom_head s p q None = Err (Unknown (refusal 4 q))
 atom_head s p q (Some x) = known_head (head_named s x.0) (unknown (is_one_of left_out_operators x.0) p q)
 
--- what the head of a term at p stands for, or its failing test
-abbrev pub head_of : ScopeState → Place → form.Tree → Result Head Refusal
+-- what the head of a term at p stands for, or why it stands for nothing
+abbrev pub head_of : ScopeState → Place → form.Tree → Result Head HeadFailure
 head_of s p (form.atom q a) = atom_head s p q (symbol_atom a)
-head_of s p (form.list q form.no_trees) = Err (refusal 4 q)
-head_of s p (form.list q (form.tree t ts)) = if is_word (codes "_") t then listed_head p q ts else Err (refusal 4 q)
+head_of s p (form.list q form.no_trees) = Err (Unknown (refusal 4 q))
+head_of s p (form.list q (form.tree t ts)) = if is_word (codes "_") t then listed_head p q ts else Err (Unknown (refusal 4 q))
 
 -- the test of the prime of a symbol
 abbrev pub symbol_primes : form.Tree → List Refusal
@@ -232,9 +234,15 @@ argument_tests fs p h n ss = if head_count_fits fs h n then sorts_tested fs p h 
 abbrev pub application_tests : List PlainFunction → Place → Head → Arguments → List Refusal
 application_tests fs p h rs = argument_tests fs p h (length rs.terms) rs.sorts
 
+-- The failing tests of an application at p to n arguments, whose head stands for nothing. Each operator with indices takes one
+-- argument, also where its list hasn't its shape.
+abbrev pub head_tests : Place → HeadFailure → ℕ → List Refusal
+head_tests p (Unknown f) n = f ∷ []
+head_tests p (Misshapen q) n = refusal 12 q ∷ (if n == 1 then [] else refusal 12 p ∷ [])
+
 -- an application at p of a head whose primes fail like this
-abbrev pub application : List PlainFunction → Place → List Refusal → Result Head Refusal → Arguments → Reading
-application fs p primes (Err f) rs = record { term = no_term; sort = None; failures = rs.failures ++ f ∷ [] }
+abbrev pub application : List PlainFunction → Place → List Refusal → Result Head HeadFailure → Arguments → Reading
+application fs p primes (Err f) rs = record { term = no_term; sort = None; failures = rs.failures ++ head_tests p f (length rs.terms) }
 application fs p primes (Ok h) rs = record {
   term = headed h (trees_of rs.terms);
   sort = unless_failed (primes ++ application_tests fs p h rs) (applied_sort fs h rs.sorts);

@@ -10,7 +10,6 @@ use Rattle.moxi_sexpr.specs.Lexing.{refusal}
 use Rattle.moxi_sexpr.specs.Tree as form
 use Rattle.moxi_terms.specs.declared.data.Sort.{Sort}
 use Rattle.moxi_terms.specs.declared.data.Sort.TheVariants.{Bits}
-use Rattle.moxi_terms.specs.Tree.{Tree, Trees, no_trees}
 use Rattle.moxi_terms.specs.View.{ScopeState}
 use Rattle.moxi_terms.specs.Words.{is_one_of, left_out_sorts}
 use Rattle.moxi_terms.specs.Names.{sort_named}

@@ -3,12 +3,13 @@ ghost use Rattle.std.specs.Prelude.{◌≡◌, ◌++◌, ◌∷◌, [], Ok, None
 ghost use Rattle.text_core.specs.declared.place.Refusal.{Refusal};
 ghost use Rattle.moxi_term_reading.specs.Answer.{AreRead, AreStacked, IsRead, IsVariableAdded, kept, sorts_in, unless_some};
 ghost use Rattle.moxi_term_reading.specs.Failures.{least};
-ghost use Rattle.moxi_term_reading.specs.Reading.{Arguments, Reading, application, applied_sort, argument, argument_tests, both_arguments, headed, no_term};
+ghost use Rattle.moxi_term_reading.specs.Reading.{Arguments, Reading, application, applied_sort, argument, argument_tests, both_arguments, head_tests, headed, no_term};
 ghost use Rattle.moxi_terms.specs.declared.data.Sort.{Sort};
 ghost use Rattle.moxi_terms.specs.Tree.{trees_of, variable};
 ghost use Rattle.moxi_terms.specs.View.{plain};
 
 use crate::failures::minimum;
+use crate::heads::{HeadFailure, head_test};
 use crate::outcome::{ReadTerm, no_term, unless_failed};
 use crate::sorts::refusal;
 use crate::typing::{head_count_fits, head_sort};
@@ -90,26 +91,26 @@ pub fn application(
     scope: &Scope,
     p: Place,
     primes: Option<Refusal>,
-    head: Result<Head, Refusal>,
+    head: Result<Head, HeadFailure>,
     args: ReadArguments,
     sorts: &[Sort],
 ) -> ReadTerm
     ensures { (x : Arguments) (fs : List Refusal) → AreRead x args sorts.now → primes ≡ least fs → IsRead (application scope.now.functions p fs head x) result }
 {
     match head {
-        Err(f) => unheaded(f, args.failure),
+        Err(f) => unheaded(p, f, args),
         Ok(h) => headed(scope, p, primes, h, args, sorts),
     }
 }
 
-// An application whose head fails a test.
-fn unheaded(f: Refusal, failure: Option<Refusal>) -> ReadTerm
-    ensures { (fs : List Refusal) → failure ≡ least fs → IsRead (record { term = no_term; sort = None; failures = fs ++ f ∷ [] }) result }
+// An application at p whose head stands for nothing.
+fn unheaded(p: Place, f: HeadFailure, args: ReadArguments) -> ReadTerm
+    ensures { (x : Arguments) (own : List Sort) → AreRead x args own → IsRead (record { term = no_term; sort = None; failures = x.failures ++ head_tests p f (length x.terms) }) result }
 {
     ReadTerm {
         term: no_term(),
         sort: None,
-        failure: minimum(failure, Some(f)),
+        failure: minimum(args.failure, head_test(p, f, count(&args.terms))),
     }
 }
 

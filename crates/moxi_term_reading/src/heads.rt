@@ -1,11 +1,13 @@
 // Heads of applications, and the names of literals with an `_`.
-ghost use Rattle.std.specs.Prelude.{◌≡◌, Some, None};
+ghost use Rattle.std.specs.Prelude.{◌≡◌, ◌==◌, Some, None, if◌then◌else◌};
 ghost use Rattle.std.specs.List.{list_all};
 ghost use Rattle.text_core.specs.Bytes.{is_digit};
+ghost use Rattle.moxi_sexpr.specs.Lexing.{refusal};
 ghost use Rattle.moxi_sexpr.specs.Tree.{plain, plain_forms};
 ghost use Rattle.moxi_term_reading.specs.Failures.{least};
+ghost use Rattle.moxi_term_reading.specs.declared.heads.HeadFailure.TheVariants.{Unknown};
 ghost use Rattle.moxi_term_reading.specs.Forms.{digits_now, is_named, pair_now, symbol_now};
-ghost use Rattle.moxi_term_reading.specs.Reading.{atom_head, decimal_digits, extended_head, extracted_head, head_of, head_primes, indexed_head, listed_head, literal_digits, paired_head, prime_failures, symbol_primes};
+ghost use Rattle.moxi_term_reading.specs.Reading.{atom_head, decimal_digits, extended_head, extracted_head, head_of, head_primes, head_tests, indexed_head, listed_head, literal_digits, paired_head, prime_failures, symbol_primes};
 
 use crate::failures::minimum;
 use crate::forms::{is_primed, is_word, numeral_of, only_numeral, pair, symbol_atom, symbol_of};
@@ -74,19 +76,57 @@ fn are_digits(bytes: &[u8]) -> bool
     true
 }
 
-fn extracted_head(q: Place, high: Option<&[u8]>, low: Option<&[u8]>) -> Result<Head, Refusal>
+/// Why a head stands for nothing.
+#[derive(Clone, Copy)]
+pub enum HeadFailure {
+    /// No operator and no function has its name: the failing test.
+    Unknown(Refusal),
+    /// It is the list of an operator with indices, and hasn't its shape: the place of the list.
+    Misshapen(Place),
+}
+
+// No head stands at q.
+fn unknown_head(q: Place) -> HeadFailure
+    ensures { result ≡ Unknown (refusal 4 q) }
+{
+    HeadFailure::Unknown(refusal(moxi::UNKNOWN, q))
+}
+
+// The failing test of the number of arguments where one is taken, at p.
+fn one_argument(p: Place, count: usize) -> Option<Refusal>
+    ensures { result ≡ (if count == 1 then None else Some (refusal 12 p)) }
+{
+    if count == 1 {
+        None
+    } else {
+        Some(refusal(moxi::ARITY, p))
+    }
+}
+
+/// The least failing test of an application at p to so many arguments, whose head stands for nothing. The operators with
+/// indices take one argument each, so their number is tested also where the operator's list hasn't its shape.
+pub fn head_test(p: Place, f: HeadFailure, count: usize) -> Option<Refusal>
+    ensures { result ≡ least (head_tests p f count) }
+{
+    match f {
+        HeadFailure::Unknown(f) => Some(f),
+        HeadFailure::Misshapen(q) => minimum(Some(refusal(moxi::ARITY, q)), one_argument(p, count)),
+    }
+}
+
+fn extracted_head(q: Place, high: Option<&[u8]>, low: Option<&[u8]>) -> Result<Head, HeadFailure>
     ensures { result ≡ extracted_head q (digits_now high.entry) (digits_now low.entry) }
 {
     match high {
         Some(h) => match low {
             Some(l) => Ok(Head::Operator(TermOp::Extract(index_of(h), index_of(l)))),
-            None => Err(refusal(moxi::ARITY, q)),
+            None => Err(HeadFailure::Misshapen(q)),
         },
-        None => Err(refusal(moxi::ARITY, q)),
+        None => Err(HeadFailure::Misshapen(q)),
     }
 }
 
-fn extended_head(q: Place, name: &[u8], count: Option<&[u8]>) -> Result<Head, Refusal>
+fn extended_head(q: Place, name: &[u8], count: Option<&[u8]>) -> Result<Head, HeadFailure>
     ensures { result ≡ extended_head q name.now (digits_now count.entry) }
 {
     match count {
@@ -95,18 +135,18 @@ fn extended_head(q: Place, name: &[u8], count: Option<&[u8]>) -> Result<Head, Re
         } else {
             Ok(Head::Operator(TermOp::SignExtend(index_of(n))))
         },
-        None => Err(refusal(moxi::ARITY, q)),
+        None => Err(HeadFailure::Misshapen(q)),
     }
 }
 
 // The operator with indices at the head at q.
-fn indexed_head(q: Place, name: &[u8], indices: &[Form]) -> Result<Head, Refusal>
+fn indexed_head(q: Place, name: &[u8], indices: &[Form]) -> Result<Head, HeadFailure>
     ensures { result ≡ indexed_head q name.now (plain_forms indices.now) }
 {
     if is_same(name, b"extract") {
         match pair(indices) {
             Some((high, low)) => extracted_head(q, numeral_of(high), numeral_of(low)),
-            None => Err(refusal(moxi::ARITY, q)),
+            None => Err(HeadFailure::Misshapen(q)),
         }
     } else {
         extended_head(q, name, only_numeral(indices))
@@ -114,7 +154,7 @@ fn indexed_head(q: Place, name: &[u8], indices: &[Form]) -> Result<Head, Refusal
 }
 
 // What stands behind the `_` of a head at q, in a term at p.
-fn listed_head(p: Place, q: Place, rest: &[Form]) -> Result<Head, Refusal>
+fn listed_head(p: Place, q: Place, rest: &[Form]) -> Result<Head, HeadFailure>
     ensures { result ≡ listed_head p q (plain_forms rest.now) }
 {
     match rest.split_first() {
@@ -122,11 +162,11 @@ fn listed_head(p: Place, q: Place, rest: &[Form]) -> Result<Head, Refusal>
             Some((name, _)) => if is_indexed(name) {
                 indexed_head(q, name, indices)
             } else {
-                Err(unknown_refusal(is_left_out(name), p, q))
+                Err(HeadFailure::Unknown(unknown_refusal(is_left_out(name), p, q)))
             },
-            None => Err(refusal(moxi::UNKNOWN, q)),
+            None => Err(unknown_head(q)),
         },
-        None => Err(refusal(moxi::UNKNOWN, q)),
+        None => Err(unknown_head(q)),
     }
 }
 
@@ -135,20 +175,20 @@ fn atom_head(
     p: Place,
     q: Place,
     symbol: Option<(&[u8], bool)>,
-) -> Result<Head, Refusal>
+) -> Result<Head, HeadFailure>
     ensures { result ≡ atom_head scope.now p q (symbol_now symbol.entry) }
 {
     match symbol {
         Some((name, _)) => match scope.head(name) {
             Some(h) => Ok(h),
-            None => Err(unknown_refusal(is_left_out(name), p, q)),
+            None => Err(HeadFailure::Unknown(unknown_refusal(is_left_out(name), p, q))),
         },
-        None => Err(refusal(moxi::UNKNOWN, q)),
+        None => Err(unknown_head(q)),
     }
 }
 
-/// What the head of a term at p stands for, or its failing test.
-pub fn head_of(scope: &Scope, p: Place, head: &Form) -> Result<Head, Refusal>
+/// What the head of a term at p stands for, or why it stands for nothing.
+pub fn head_of(scope: &Scope, p: Place, head: &Form) -> Result<Head, HeadFailure>
     ensures { result ≡ head_of scope.now p (plain head.now) }
 {
     let q = head.place;
@@ -158,9 +198,9 @@ pub fn head_of(scope: &Scope, p: Place, head: &Form) -> Result<Head, Refusal>
             Some((first, rest)) => if is_word(b"_", first) {
                 listed_head(p, q, rest)
             } else {
-                Err(refusal(moxi::UNKNOWN, q))
+                Err(unknown_head(q))
             },
-            None => Err(refusal(moxi::UNKNOWN, q)),
+            None => Err(unknown_head(q)),
         },
     }
 }

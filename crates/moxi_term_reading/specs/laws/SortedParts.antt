@@ -16,6 +16,8 @@ use Rattle.word_core.specs.declared.word.TheConstants.{WIDEST}
 use Rattle.moxi_sexpr.specs.Lexing.{refusal}
 use Rattle.moxi_terms.specs.declared.data.Sort.{Sort}
 use Rattle.moxi_terms.specs.declared.names.Head.{Head}
+use Rattle.moxi_term_reading.specs.declared.heads.HeadFailure.{HeadFailure}
+use Rattle.moxi_term_reading.specs.declared.heads.HeadFailure.TheVariants.{Unknown, Misshapen}
 use Rattle.moxi_term_reading.specs.declared.locals.Local.{Local}
 use Rattle.moxi_terms.specs.declared.term.Enumeration.{Enumeration}
 use Rattle.moxi_terms.specs.declared.term.Variable.{Variable}
@@ -38,6 +40,11 @@ some_fails x xs h = cc
 pub none_in : {X : Type 0} (xs ys : List X) → xs ++ ys ≡ [] → (xs ≡ []) × (ys ≡ [])
 none_in [] ys h = (refl, h)
 none_in (x ∷ xs) ys h = absurd (some_fails x (xs ++ ys) h)
+
+-- a head that stands for nothing fails a test
+pub head_fails : (p : Place) (f : HeadFailure) (n : ℕ) → reading.head_tests p f n ≡ [] → ⊥
+head_fails p (Unknown f) n h = some_fails f [] h
+head_fails p (Misshapen q) n h = some_fails (refusal 12 q) _ h
 
 pub stays : (fs : List Refusal) (s : Option Sort) → fs ≡ [] → reading.unless_failed fs s ≡ s
 stays [] s h = refl
