@@ -42,7 +42,7 @@ buckets_named bs i x = bucket_named (slice_get bs (number_on (i % 4294967296) x 
 
 -- the value of a name in the numbered instance
 unfoldable pub row_in : {V : Type 0} → InstanceRows V → ℕ → List ℕ → Option V
-row_in m i x = buckets_named m.buckets.items i x
+row_in m i x = buckets_named m.buckets i x
 
 -- the value of a name
 abbrev pub row_named : {V : Type 0} → NameRows V → List ℕ → Option V

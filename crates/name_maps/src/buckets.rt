@@ -3,6 +3,7 @@ ghost use Rattle.std.specs.Prelude.{◌≡◌, ◌<◌, ◌+◌, ◌*◌, ◌%�
 ghost use Rattle.name_maps.specs.Rows.{number_on, is_row_of, last_named, rows_of, held_named, buckets_named};
 
 use std::alloc::Global;
+use std::marker::Model;
 use text_core::{NoMemory, is_same};
 
 /// A name in the numbered instance, and its value.
@@ -21,8 +22,22 @@ pub struct Bucket<'a, V> {
     pub rest: Vec<NamedValue<'a, V>>,
 }
 
-/// Rows by their numbers.
-pub type Buckets<'a, V> = Vec<Bucket<'a, V>>;
+/// Rows by their numbers: buckets, of which there is one at least, seen as their list.
+#[derive(Drop)]
+pub struct Buckets<'a, V> {
+    list: Vec<Bucket<'a, V>>,
+}
+
+impl<'a, V> Model for Buckets<'a, V> {
+    ghost use Rattle.std.specs.Prelude.{◌<◌, List, length};
+    ghost use Rattle.name_maps.specs.declared.buckets.Bucket.{Bucket as BucketOf};
+
+    ghost Value = { List (BucketOf V) };
+
+    ghost view = { λ bs. bs.list.items };
+
+    ghost invariant = { λ bs. 0 < length bs.list.items };
+}
 
 // The multiplier is a prime greater than there are names, so that no number of buckets has all names in a few of them.
 #[inline(always)]
@@ -133,38 +148,35 @@ pub fn add_to_buckets<'a, V: Drop>(
     name: &'a [u8],
     value: V,
 ) -> Result<(), NoMemory>
-    requires { 0 < length buckets.old.items }
-    ensures { OnOk result ((j : ℕ) (y : List ℕ) → buckets_named buckets.new.items j y ≡ (if i == j && bytes_eq name.now y then Some value else buckets_named buckets.old.items j y)) }
+    ensures { OnOk result ((j : ℕ) (y : List ℕ) → buckets_named buckets.new j y ≡ (if i == j && bytes_eq name.now y then Some value else buckets_named buckets.old j y)) }
 {
-    let k = bucket_of(i, name, buckets.len());
+    let k = bucket_of(i, name, buckets.list.len());
     let row = NamedValue {
         instance: i,
         name,
         value,
     };
-    add_to(&mut buckets[k], row)?;
+    add_to(&mut buckets.list[k], row)?;
     Ok(())
 }
 
 /// The value of the name in the numbered instance.
 #[inline(always)]
-pub fn value_in_buckets<'a, V: Copy>(buckets: &[Bucket<'a, V>], i: usize, name: &[u8]) -> Option<V>
+pub fn value_in_buckets<'a, V: Copy>(buckets: &Buckets<'a, V>, i: usize, name: &[u8]) -> Option<V>
     ensures { result ≡ buckets_named buckets.now i name.now }
 {
-    if buckets.is_empty() {
-        return None;
-    }
-    let k = bucket_of(i, name, buckets.len());
-    held_value(&buckets[k], i, name)
+    let k = bucket_of(i, name, buckets.list.len());
+    held_value(&buckets.list[k], i, name)
 }
 
-/// So many empty buckets.
+/// So many empty buckets, one at least.
 pub fn empty_buckets<'a, V: Drop>(alloc: Global, count: usize) -> Result<Buckets<'a, V>, NoMemory>
-    ensures { IfOk result (λ bs. (j : ℕ) (y : List ℕ) → buckets_named bs.items j y ≡ None) }
+    ensures { IfOk result (λ bs. (j : ℕ) (y : List ℕ) → buckets_named bs j y ≡ None) }
 {
-    let mut buckets = Vec::with_capacity(alloc, count)?;
+    let count = count.max(1);
+    let mut list = Vec::with_capacity(alloc, count)?;
     for _ in 0..count {
-        buckets.push(empty_bucket(alloc))?;
+        list.push(empty_bucket(alloc))?;
     }
-    Ok(buckets)
+    Ok(Buckets { list })
 }

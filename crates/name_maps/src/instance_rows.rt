@@ -20,7 +20,7 @@ pub fn no_rows_in<'a, V: Drop>(
 ) -> Result<InstanceRows<'a, V>, NoMemory>
     ensures { IfOk result (λ m. (i : ℕ) (x : List ℕ) → row_in m i x ≡ None) }
 {
-    let buckets = empty_buckets(alloc, expected.max(1))?;
+    let buckets = empty_buckets(alloc, expected)?;
     Ok(InstanceRows { buckets })
 }
 
@@ -34,10 +34,6 @@ pub fn add_row_in<'a, V: Drop>(
 ) -> Result<(), NoMemory>
     ensures { OnOk result ((j : ℕ) (y : List ℕ) → row_in map.new j y ≡ (if i == j && bytes_eq x.now y then Some value else row_in map.old j y)) }
 {
-    // There is a bucket at least, since no rows have one.
-    if map.buckets.is_empty() {
-        return Err(NoMemory);
-    }
     add_to_buckets(&mut map.buckets, i, x, value)?;
     Ok(())
 }
@@ -62,5 +58,5 @@ pub fn add_first_in<'a>(
 pub fn row_value_in<'a, V: Copy>(map: &InstanceRows<'a, V>, i: usize, x: &[u8]) -> Option<V>
     ensures { result ≡ row_in map.now i x.now }
 {
-    value_in_buckets(map.buckets.as_slice(), i, x)
+    value_in_buckets(&map.buckets, i, x)
 }
