@@ -16,7 +16,7 @@ use Rattle.smv_meaning.specs.Instances.{Instance}
 use Rattle.smv_meaning.specs.Bodies.{instance_within}
 use Rattle.smv_meaning.specs.Names.{Local, alias, inner, is_child, local, Found, variable_at, body_at, instance_at, symbol_of, cyclic, none, at_child, landed, look, steps_of, onward, walk, single, through, found_in, resolved}
 use Rattle.name_maps.specs.Rows.{row_in}
-use Rattle.smv_instances.specs.Leads.{until, LeadsTo, NameLeads, Right, IsOpen, StaysClosed, IsWaiting, AllWait, IsClosed, is_key, WalkOf, KeyWalk, are_same_single, are_one_name}
+use Rattle.smv_instances.specs.Leads.{until, is_alias, LeadsTo, NameLeads, Right, IsOpen, StaysClosed, IsWaiting, AllWait, IsClosed, is_key, WalkOf, KeyWalk, are_same_single, are_one_name}
 use Rattle.smv_instances.specs.declared.leads.Walk.{Walk}
 use Rattle.smv_instances.specs.declared.leads.Walk.TheVariants.{Ends, Waits}
 use Rattle.smv_instances.specs.View.{found_plain}
@@ -85,7 +85,7 @@ pub deeper_leads : (t : List Instance) (i : ℕ) (x : List ℕ) (lead new : Lead
     → LeadsTo t (λ n. look t n i x) new
 deeper_leads t i x lead new d e h n = h n ∙ ap (λ r. until r n (found_plain t lead.target)) (sym d) ∙ ap (λ g. until new.depth n (found_plain t g)) (sym e)
 
-key_same : (i : ℕ) (x : List ℕ) (key : Key) → is_key i x key ≡ true → (key.instance ≡ i) × (key.name.now ≡ x)
+pub key_same : (i : ℕ) (x : List ℕ) (key : Key) → is_key i x key ≡ true → (key.instance ≡ i) × (key.name.now ≡ x)
 key_same i x key h = let b = both_true (key.instance == i) (bytes_eq key.name.now x) h in (eqb-true key.instance i b.0, (bytes_eq-Decides key.name.now x).0 b.1)
 
 or_moved : (b c d e : Bool) → e ≡ (c || d) → (b || e) ≡ ((b || c) || d)
@@ -114,9 +114,9 @@ wait_more t was now ks k n key e h is same own before = subst (λ m. AllWait t m
         subst (λ y. IsWaiting t was i y) d.1 (subst (λ j. IsWaiting t was j key.name.now) d.0 (own (subst (λ y. IsOpen t was key.instance y) (sym d.1) (subst (λ j. IsOpen t was j x) (sym d.0) o)))))
         (or_true (list_any (is_key i x) (take k ks)) (is_key i x key) b)
 
-pub walk_key : (t : List Instance) (m : InstanceRows Lead) (i : ℕ) (x : List ℕ) (j : ℕ) (p : Path) (w : Walk) → alias j p ≡ local t i x → WalkOf t m (λ n. resolved t (look t n) j p) w → KeyWalk t m i x (Some w)
-walk_key t m i x j p (Ends lead) e h = alias_leads t i x j p lead.depth (found_plain t lead.target) e h
-walk_key t m i x j p (Waits key) e h = (h.0, λ n c. alias_waits t i x j p n e (h.1 n c))
+pub walk_key : (t : List Instance) (m : InstanceRows Lead) (i : ℕ) (x : List ℕ) (j : ℕ) (p : Path) (w : Walk) → alias j p ≡ local t i x → row_in m i x ≡ None → WalkOf t m (λ n. resolved t (look t n) j p) w → KeyWalk t m i x (Some w)
+walk_key t m i x j p (Ends lead) e o h = (alias_leads t i x j p lead.depth (found_plain t lead.target) e h.0, (ap is_alias (sym e), o), h.1)
+walk_key t m i x j p (Waits key) e o h = (h.0, λ n c. alias_waits t i x j p n e (h.1 n c))
 
 one_onward : (m : Found) → onward m true (λ c. instance_at c) ≡ m
 one_onward (variable_at x kind d) = refl

@@ -5,3 +5,4 @@ pub mod KnownLemmas
 pub mod ScanLemmas
 pub mod TableLemmas
 pub mod LastLemmas
+pub mod DepthLemmas

@@ -1,5 +1,5 @@
 -- Where aliases lead, each found once: how deep the aliases on its way lead into one another, and what stands at the end.
-use Rattle.std.specs.Prelude.{◌≡◌, ℕ, suc, ◌+◌, ◌==◌, ◌&&◌, nat_lt, Bool, true, false, not, List, [], ◌∷◌, if◌then◌else◌, Option, Some, None, bytes_eq}
+use Rattle.std.specs.Prelude.{◌≡◌, ◌≤◌, ℕ, suc, ◌+◌, ◌==◌, ◌&&◌, nat_lt, Bool, true, false, not, List, [], ◌∷◌, if◌then◌else◌, Option, Some, None, is_some, bytes_eq}
 use Rattle.std.specs.List.{list_any}
 use Rattle.smv_text.specs.declared.tree.Path.{Path}
 use Rattle.name_maps.specs.declared.instance_rows.InstanceRows.{InstanceRows}
@@ -39,13 +39,25 @@ IsOpen t m i x = (is_alias (local t i x) ≡ true) × (row_in m i x ≡ None)
 abbrev pub StaysClosed : List Instance → InstanceRows Lead → InstanceRows Lead → Type 0
 StaysClosed t was now = (i : ℕ) (x : List ℕ) → IsOpen t now i x → IsOpen t was i x
 
+-- a lead is at most one deeper than this
+abbrev pub IsShallow : ℕ → Option Lead → Type 0
+IsShallow n None = Unit {0}
+IsShallow n (Some lead) = lead.depth ≤ n + 1
+
+abbrev pub AreShallow : InstanceRows Lead → ℕ → Type 0
+AreShallow m n = (i : ℕ) (x : List ℕ) → IsShallow n (row_in m i x)
+
+-- as deep as one of the leads that are kept, or as one step
+abbrev pub IsWithin : InstanceRows Lead → ℕ → Type 0
+IsWithin m depth = (n : ℕ) → AreShallow m n → depth ≤ n + 1
+
 abbrev pub LeadAt : List Instance → InstanceRows Lead → ℕ → List ℕ → Option Lead → Type 0
 LeadAt t m i x None = IsOpen t m i x
-LeadAt t m i x (Some lead) = LeadsTo t (λ n. look t n i x) lead
+LeadAt t m i x (Some lead) = LeadsTo t (λ n. look t n i x) lead × IsWithin m lead.depth
 
 -- a walk ends, or comes to an open alias
 abbrev pub WalkOf : List Instance → InstanceRows Lead → (ℕ → Found) → Walk → Type 0
-WalkOf t m g (Ends lead) = LeadsTo t g lead
+WalkOf t m g (Ends lead) = LeadsTo t g lead × IsWithin m lead.depth
 WalkOf t m g (Waits key) = IsOpen t m key.instance key.name.now × ((n : ℕ) → look t n key.instance key.name.now ≡ cyclic → g n ≡ cyclic)
 
 -- an open alias comes to an open alias
@@ -67,10 +79,19 @@ is_key i x key = key.instance == i && bytes_eq key.name.now x
 abbrev pub AreAll : List Instance → List Key → Type 0
 AreAll t ks = (i : ℕ) (x : List ℕ) → is_alias (local t i x) ≡ true → list_any (is_key i x) ks ≡ true
 
+-- how many of the parameters have a lead that is kept
+abbrev pub led : InstanceRows Lead → List Key → ℕ
+led m [] = 0
+led m (key ∷ keys) = (if is_some (row_in m key.instance key.name.now) then 1 else 0) + led m keys
+
+-- each lead that is kept is at most one deeper than the parameters that have one are many
+abbrev pub AreCounted : InstanceRows Lead → List Key → Type 0
+AreCounted m ks = AreShallow m (led m ks)
+
 -- the walk of a parameter that is an open alias
 abbrev pub KeyWalk : List Instance → InstanceRows Lead → ℕ → List ℕ → Option Walk → Type 0
 KeyWalk t m i x None = ¬ IsOpen t m i x
-KeyWalk t m i x (Some (Ends lead)) = (n : ℕ) → look t n i x ≡ until (lead.depth + 1) n (found_plain t lead.target)
+KeyWalk t m i x (Some (Ends lead)) = ((n : ℕ) → look t n i x ≡ until (lead.depth + 1) n (found_plain t lead.target)) × IsOpen t m i x × IsWithin m lead.depth
 KeyWalk t m i x (Some (Waits key)) = IsOpen t m key.instance key.name.now × ((n : ℕ) → look t n key.instance key.name.now ≡ cyclic → look t (suc n) i x ≡ cyclic)
 
 -- each of these parameters that is open comes to an open alias

@@ -1,6 +1,7 @@
 // The leads of all aliases.
-ghost use Rattle.std.specs.Prelude.{◌≡◌, ◌<◌, ◌+◌, Some, true, false, length, map, slice_index_or, IfOk, OnOk};
-ghost use Rattle.smv_instances.specs.Leads.{Right, IsOpen, StaysClosed, KeyWalk, WaitsIfOpen, AllWait, IsClosed};
+ghost use Rattle.std.specs.Prelude.{◌≡◌, ◌<◌, ◌+◌, ◌-◌, ◌^◌, Some, None, true, false, length, map, slice_index_or, IfOk, OnOk};
+ghost use Rattle.name_maps.specs.Rows.{row_in};
+ghost use Rattle.smv_instances.specs.Leads.{Right, IsOpen, StaysClosed, KeyWalk, WaitsIfOpen, AllWait, IsClosed, AreAll, AreCounted, led};
 ghost use Rattle.smv_instances.specs.View.{instance_plain};
 
 use crate::keys::keys_of;
@@ -11,22 +12,22 @@ use name_maps::{InstanceMap, add_row_in, no_rows_in, nothing_in, put_in, row_val
 use std::alloc::Global;
 use text_core::NoMemory;
 
-fn deeper<'a>(lead: Lead<'a>) -> Result<Lead<'a>, NoMemory>
-    ensures depth { IfOk result (λ d. d.depth ≡ lead.entry.depth + 1) }
-    ensures target { IfOk result (λ d. d.target ≡ lead.entry.target) }
+// There are fewer leads than parameters when one more is kept, so the depth stays within a number.
+fn deeper<'a>(lead: Lead<'a>) -> Lead<'a>
+    requires { lead.depth < 2 ^ 64 - 1 }
+    ensures depth { result.depth ≡ lead.entry.depth + 1 }
+    ensures target { result.target ≡ lead.entry.target }
 {
-    match lead.depth.checked_add(1) {
-        None => Err(NoMemory),
-        Some(depth) => Ok(Lead {
-            depth,
-            target: lead.target,
-        }),
+    Lead {
+        depth: lead.depth + 1,
+        target: lead.target,
     }
 }
 
-// The walk of a parameter that is an alias, whether or not its lead is kept.
+// The walk of a parameter that is an alias of which no lead is kept.
 fn alias_walk<'a>(parts: &Parts<'a>, leads: &Leads<'a>, key: Key<'a>) -> Option<Walk<'a>>
     requires right { Right (map instance_plain parts.now) leads.now }
+    requires new { row_in leads.now key.instance key.name.now ≡ None }
     ensures { KeyWalk (map instance_plain parts.now) leads.now key.entry.instance key.entry.name.now result }
 {
     match parts.local(key.instance, key.name) {
@@ -48,33 +49,48 @@ fn key_walk<'a>(parts: &Parts<'a>, leads: &Leads<'a>, key: Key<'a>) -> Option<Wa
     }
 }
 
+// Keeps the lead of a parameter, which is one of `keys`.
 fn keep_deeper<'a>(
     parts: &Parts<'a>,
     leads: &mut Leads<'a>,
+    keys: &[Key<'a>],
     key: Key<'a>,
     lead: Lead<'a>,
 ) -> Result<(), NoMemory>
+    requires all { AreAll (map instance_plain parts.now) keys.now }
     requires right { Right (map instance_plain parts.now) leads.old }
+    requires counted { AreCounted leads.old keys.now }
     requires leads { KeyWalk (map instance_plain parts.now) leads.old key.instance key.name.now (Some (Walk.Ends lead)) }
     ensures right { OnOk result (Right (map instance_plain parts.now) leads.new) }
+    ensures counted { OnOk result (AreCounted leads.new keys.now) }
+    ensures more { OnOk result (led leads.old keys.now < led leads.new keys.now) }
     ensures stays { OnOk result (StaysClosed (map instance_plain parts.now) leads.old leads.new) }
     ensures closed { OnOk result (¬ IsOpen (map instance_plain parts.now) leads.new key.entry.instance key.entry.name.now) }
 {
-    let deep = deeper(lead)?;
+    let deep = deeper(lead);
     add_row_in(leads, key.instance, key.name, deep)?;
     Ok(())
 }
 
 // Keeps the lead of a parameter that is an open alias, where its walk ends, and says whether it does.
-fn retried<'a>(parts: &Parts<'a>, leads: &mut Leads<'a>, key: &Key<'a>) -> Result<bool, NoMemory>
+fn retried<'a>(
+    parts: &Parts<'a>,
+    leads: &mut Leads<'a>,
+    keys: &[Key<'a>],
+    key: &Key<'a>,
+) -> Result<bool, NoMemory>
+    requires all { AreAll (map instance_plain parts.now) keys.now }
     requires right { Right (map instance_plain parts.now) leads.old }
+    requires counted { AreCounted leads.old keys.now }
     ensures right { OnOk result (Right (map instance_plain parts.now) leads.new) }
+    ensures counted { OnOk result (AreCounted leads.new keys.now) }
+    ensures more { IfOk result (λ b. b ≡ true → led leads.old keys.now < led leads.new keys.now) }
     ensures waits { IfOk result (λ b. b ≡ false → (leads.new ≡ leads.old) × WaitsIfOpen (map instance_plain parts.now) leads.old key.now.instance key.now.name.now) }
 {
     match key_walk(parts, leads, *key) {
         None => Ok(false),
         Some(Walk::Ends(lead)) => {
-            keep_deeper(parts, leads, *key, lead)?;
+            keep_deeper(parts, leads, keys, *key, lead)?;
             Ok(true)
         }
         Some(Walk::Waits(_)) => Ok(false),
@@ -94,14 +110,18 @@ fn all_retried<'a>(
     leads: &mut Leads<'a>,
     keys: &[Key<'a>],
 ) -> Result<bool, NoMemory>
+    requires all { AreAll (map instance_plain parts.now) keys.now }
     requires right { Right (map instance_plain parts.now) leads.old }
+    requires counted { AreCounted leads.old keys.now }
     ensures right { OnOk result (Right (map instance_plain parts.now) leads.new) }
+    ensures counted { OnOk result (AreCounted leads.new keys.now) }
+    ensures more { IfOk result (λ b. b ≡ true → led leads.old keys.now < led leads.new keys.now) }
     ensures waits { IfOk result (λ b. b ≡ false → AllWait (map instance_plain parts.now) leads.new keys.now) }
 {
     let mut changed = false;
     for k in 0..keys.len() {
         let key = key_at(keys, k);
-        let kept = retried(parts, leads, &key)?;
+        let kept = retried(parts, leads, keys, &key)?;
         changed = kept || changed;
     }
     Ok(changed)
@@ -113,10 +133,14 @@ fn searched<'a>(
     leads: &mut Leads<'a>,
     opened: &mut InstanceMap<'a, bool>,
     stack: &mut Vec<Key<'a>>,
+    keys: &[Key<'a>],
     first: Key<'a>,
 ) -> Result<(), NoMemory>
+    requires all { AreAll (map instance_plain parts.now) keys.now }
     requires right { Right (map instance_plain parts.now) leads.old }
+    requires counted { AreCounted leads.old keys.now }
     ensures right { OnOk result (Right (map instance_plain parts.now) leads.new) }
+    ensures counted { OnOk result (AreCounted leads.new keys.now) }
     ensures stays { OnOk result (StaysClosed (map instance_plain parts.now) leads.old leads.new) }
 {
     stack.push(first)?;
@@ -126,7 +150,7 @@ fn searched<'a>(
         };
         match key_walk(parts, leads, key) {
             None => {}
-            Some(Walk::Ends(lead)) => keep_deeper(parts, leads, key, lead)?,
+            Some(Walk::Ends(lead)) => keep_deeper(parts, leads, keys, key, lead)?,
             Some(Walk::Waits(next)) => if value_in(opened, next.instance, next.name).is_none() {
                 put_in(opened, next.instance, next.name, true)?;
                 stack.push(key)?;
@@ -144,24 +168,28 @@ fn first_searched<'a>(
     leads: &mut Leads<'a>,
     opened: &mut InstanceMap<'a, bool>,
     stack: &mut Vec<Key<'a>>,
+    keys: &[Key<'a>],
     key: Key<'a>,
 ) -> Result<bool, NoMemory>
+    requires all { AreAll (map instance_plain parts.now) keys.now }
     requires right { Right (map instance_plain parts.now) leads.old }
+    requires counted { AreCounted leads.old keys.now }
     ensures right { OnOk result (Right (map instance_plain parts.now) leads.new) }
+    ensures counted { OnOk result (AreCounted leads.new keys.now) }
     ensures stays { OnOk result (StaysClosed (map instance_plain parts.now) leads.old leads.new) }
     ensures closed { IfOk result (λ b. b ≡ true → ¬ IsOpen (map instance_plain parts.now) leads.new key.entry.instance key.entry.name.now) }
 {
     if value_in(opened, key.instance, key.name).is_some() {
         return Ok(false);
     }
-    match alias_walk(parts, leads, key) {
+    match key_walk(parts, leads, key) {
         None => Ok(true),
         Some(Walk::Ends(lead)) => {
-            keep_deeper(parts, leads, key, lead)?;
+            keep_deeper(parts, leads, keys, key, lead)?;
             Ok(true)
         }
         Some(Walk::Waits(_)) => {
-            searched(parts, leads, opened, stack, key)?;
+            searched(parts, leads, opened, stack, keys, key)?;
             Ok(false)
         }
     }
@@ -174,8 +202,11 @@ fn all_searched<'a>(
     leads: &mut Leads<'a>,
     keys: &[Key<'a>],
 ) -> Result<bool, NoMemory>
+    requires all { AreAll (map instance_plain parts.now) keys.now }
     requires right { Right (map instance_plain parts.now) leads.old }
+    requires counted { AreCounted leads.old keys.now }
     ensures right { OnOk result (Right (map instance_plain parts.now) leads.new) }
+    ensures counted { OnOk result (AreCounted leads.new keys.now) }
     ensures waits { IfOk result (λ b. b ≡ true → AllWait (map instance_plain parts.now) leads.new keys.now) }
 {
     let mut opened = nothing_in(alloc);
@@ -183,7 +214,7 @@ fn all_searched<'a>(
     let mut closed = true;
     for k in 0..keys.len() {
         let key = key_at(keys, k);
-        let kept = first_searched(parts, leads, &mut opened, &mut stack, key)?;
+        let kept = first_searched(parts, leads, &mut opened, &mut stack, keys, key)?;
         closed = kept && closed;
     }
     Ok(closed)
@@ -200,10 +231,7 @@ pub fn leads_of<'a>(alloc: Global, parts: &Parts<'a>) -> Result<Leads<'a>, NoMem
     if all_searched(alloc, parts, &mut leads, keys.as_slice())? {
         return Ok(leads);
     }
-    for _ in 0..usize::MAX {
-        if !all_retried(parts, &mut leads, keys.as_slice())? {
-            return Ok(leads);
-        }
-    }
-    Err(NoMemory)
+    // Each round but the last keeps a lead.
+    while all_retried(parts, &mut leads, keys.as_slice())? {}
+    Ok(leads)
 }

@@ -1,5 +1,5 @@
 // The instances of a model, with what single names are in them.
-ghost use Rattle.std.specs.Prelude.{◌≡◌, ◌<◌, length, map, position, slice_index_or, sum_by, IfOk, IfSome};
+ghost use Rattle.std.specs.Prelude.{◌≡◌, ◌<◌, ◌-◌, ◌^◌, min, length, map, position, slice_index_or, sum_by, IfOk};
 ghost use Rattle.smv_text.specs.View.{plain_element};
 ghost use Rattle.smv_meaning.specs.Names.{definitions_in, bodies_in, steps_of, local, is_child, has_symbol};
 ghost use Rattle.smv_instances.specs.View.{instance_plain, local_plain};
@@ -37,7 +37,7 @@ impl<'a> Model for Parts<'a> {
 
     ghost coded = { Prim.hlevel (codes, expr.the_row.coded, shape.the_row.coded) };
 
-    ghost use Rattle.std.specs.Prelude.{◌≡◌, map};
+    ghost use Rattle.std.specs.Prelude.{◌≡◌, ◌-◌, ◌^◌, min, map};
     ghost use Rattle.smv_meaning.specs.Names.{steps_of};
     ghost use Rattle.smv_instances.specs.View.{instance_plain};
 
@@ -45,7 +45,7 @@ impl<'a> Model for Parts<'a> {
 
     ghost use Rattle.smv_instances.specs.NameMap.{Knows, Bears, Holds};
 
-    ghost invariant = { λ t. (t.steps ≡ steps_of (map instance_plain t.parts.items)) × Knows t.parts.items t.known × Bears t.parts.items t.children × Holds t.parts.items t.symbols };
+    ghost invariant = { λ t. (t.steps ≡ min (steps_of (map instance_plain t.parts.items)) (2 ^ 64 - 1)) × Knows t.parts.items t.known × Bears t.parts.items t.children × Holds t.parts.items t.symbols };
 }
 
 impl<'a> Parts<'a> {
@@ -53,9 +53,7 @@ impl<'a> Parts<'a> {
     pub fn over(alloc: Global, parts: Vec<Instance<'a>>) -> Result<Parts<'a>, NoMemory>
         ensures { IfOk result (λ t. t ≡ parts.entry.items) }
     {
-        let Some(steps) = counted(parts.as_slice()) else {
-            return Err(NoMemory);
-        };
+        let steps = counted(parts.as_slice());
         let known = known_in_all(alloc, parts.as_slice())?;
         let children = children_of(alloc, parts.as_slice())?;
         let symbols = symbols_of(alloc, parts.as_slice())?;
@@ -118,35 +116,36 @@ impl<'a> Parts<'a> {
         value_under(&self.symbols, x).is_some()
     }
 
-    /// How many definitions and actuals there are, and one more: no more of them lead into one another without a cycle.
+    /// How many definitions and actuals there are, and one more, as far as a number can tell it: no more of them lead into one
+    /// another without a cycle.
     pub fn steps(&self) -> usize
-        ensures { result ≡ steps_of (map instance_plain self.now) }
+        ensures { result ≡ min (steps_of (map instance_plain self.now)) (2 ^ 64 - 1) }
     {
         self.steps
     }
 }
 
-// How many definitions and actuals there are, and one more, where a number can tell it.
+// How many definitions and actuals there are, and one more, as far as a number can tell it.
 #[tactic(auto, using(crate::proofs::TableLemmas::steps_on))]
-fn counted<'a>(table: &[Instance<'a>]) -> Option<usize>
-    ensures { IfSome result (λ n. n ≡ steps_of (map instance_plain table.now)) }
+fn counted<'a>(table: &[Instance<'a>]) -> usize
+    ensures { result ≡ min (steps_of (map instance_plain table.now)) (2 ^ 64 - 1) }
 {
     let mut count: usize = 1;
     for part in table {
-        count = count.checked_add(definitions(&part.module.elements)?)?;
-        count = count.checked_add(part.actuals.len())?;
+        count = count.saturating_add(definitions(&part.module.elements));
+        count = count.saturating_add(part.actuals.len());
     }
-    Some(count)
+    count
 }
 
-fn definitions(elements: &Elements) -> Option<usize>
-    ensures { IfSome result (λ n. n ≡ sum_by definitions_in (map plain_element elements.now)) }
+fn definitions(elements: &Elements) -> usize
+    ensures { result ≡ min (sum_by definitions_in (map plain_element elements.now)) (2 ^ 64 - 1) }
 {
     let mut count: usize = 0;
     for element in elements {
         if let Element::Defines(list) = element {
-            count = count.checked_add(list.len())?;
+            count = count.saturating_add(list.len());
         }
     }
-    Some(count)
+    count
 }

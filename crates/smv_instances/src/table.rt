@@ -62,11 +62,11 @@ pub fn is_same_name(one: &Path, other: &Path) -> bool
     is_same_single(one, other)
 }
 
-// What is reached in so many steps.
-fn reached<'a>(steps: usize, lead: Lead<'a>) -> Target<'a>
-    ensures { (t : List Specified) → found_plain t result ≡ until lead.entry.depth steps (found_plain t lead.entry.target) }
+// What is reached in as many steps as the instances allow.
+fn reached<'a>(parts: &Parts<'a>, lead: Lead<'a>) -> Target<'a>
+    ensures { (t : List Specified) → found_plain t result ≡ until lead.entry.depth (steps_of (map instance_plain parts.now)) (found_plain t lead.entry.target) }
 {
-    if steps < lead.depth {
+    if parts.steps() < lead.depth {
         Target::Cyclic
     } else {
         lead.target
@@ -153,7 +153,7 @@ impl<'a> Table<'a> {
         ensures { found_plain (map instance_plain self.now) result ≡ look (map instance_plain self.now) (steps_of (map instance_plain self.now)) i x.now }
     {
         match lead_of(&self.parts, &self.leads, i, x, known) {
-            Some(lead) => reached(self.parts.steps(), lead),
+            Some(lead) => reached(&self.parts, lead),
             None => Target::Cyclic,
         }
     }
@@ -188,7 +188,7 @@ impl<'a> Table<'a> {
             return self.target_of_single(i, x, self.local(i, x));
         }
         match path_walk(&self.parts, &self.leads, i, path) {
-            Walk::Ends(lead) => reached(self.parts.steps(), lead),
+            Walk::Ends(lead) => reached(&self.parts, lead),
             Walk::Waits(_) => Target::Cyclic,
         }
     }
@@ -205,12 +205,5 @@ impl<'a> Table<'a> {
             Known::Instance => self.child(i, x),
             Known::Nothing => None,
         }
-    }
-
-    /// How many definitions and actuals there are, and one more: no more of them lead into one another without a cycle.
-    pub fn steps(&self) -> usize
-        ensures { result ≡ steps_of (map instance_plain self.now) }
-    {
-        self.parts.steps()
     }
 }

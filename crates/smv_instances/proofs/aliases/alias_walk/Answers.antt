@@ -5,4 +5,4 @@ use Rattle.smv_instances.proofs.aliases.alias_walk.Goals as goal
 
 pub returns-in-Alias : goal.returns-in-Alias
 returns-in-Alias c =
-    walk_key (map instance_plain c.args.parts.now) c.args.leads.now c.args.key.instance c.args.key.name.now c.in-Alias.j c.in-Alias.path.now c.path_walk.result c.in-Alias.ensures c.path_walk.ensures
+    walk_key (map instance_plain c.args.parts.now) c.args.leads.now c.args.key.instance c.args.key.name.now c.in-Alias.j c.in-Alias.path.now c.path_walk.result c.in-Alias.ensures c.requires.new c.path_walk.ensures

@@ -8,6 +8,7 @@ use Rattle.smv_instances.proofs.aliases.all_searched.Goals.{then-kept, else-kept
 pub loop-k-preserved : goal.loop-k-preserved
 loop-k-preserved c = record {
   right = c.in_ok-kept.ensures.right;
+  counted = c.in_ok-kept.ensures.counted;
   closed = λ e. elim c.if-kept.branch [
     | then-kept w ↦
         none_more (map instance_plain c.args.parts.now) c.loop-k.leads c.first_searched.new.leads c.args.keys.now c.loop-k.k (length c.args.keys.now) c.key_at-key.result refl (omega arith) c.key_at-key.ensures
