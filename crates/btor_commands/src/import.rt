@@ -1,4 +1,4 @@
-// The MoXI script of a BTOR2 text.
+// The command `btor2moxi`.
 ghost use Rattle.std.specs.Prelude.{◌≡◌, ◌≤◌, [], ◌∷◌, length, IfOk, IfErr, IsErrAnd};
 ghost use Rattle.text_core.specs.Outside.{Rose};
 ghost use Rattle.text_core.specs.declared.end.End.TheVariants.{Bad};
@@ -25,7 +25,7 @@ use std::alloc::Global;
 use text_core::kinds::btor;
 use text_core::{End, Name, NoMemory, Shelf, Text};
 
-/// Reads a BTOR2 text, and prints the MoXI script of its lines.
+/// Reads a BTOR2 text, and returns its translation to MoXI.
 pub fn btor_to_moxi<F: Shelf>(alloc: Global, model: &Name, shelf: &mut F) -> Result<Answer, Stop>
     ensures answer { IfOk result (MayGive (F.files shelf.old) (model.now ∷ []) (λ files. IsImport files model.now) (Rose (F.faults shelf.old) (F.faults shelf.new))) }
     ensures stop { IfErr result (StopsWith (MayGive (F.files shelf.old) (model.now ∷ []) (λ files. IsImport files model.now) (Rose (F.faults shelf.old) (F.faults shelf.new)))) }
@@ -34,7 +34,7 @@ pub fn btor_to_moxi<F: Shelf>(alloc: Global, model: &Name, shelf: &mut F) -> Res
     answer_file(alloc, model, &BtorToMoxi, shelf)
 }
 
-// The script of the lines that a text spells.
+// The translation of the lines that a text parses to.
 struct BtorToMoxi;
 
 impl LastFile for BtorToMoxi {
@@ -64,7 +64,7 @@ impl LastFile for BtorToMoxi {
     ghost says = { λ _ bytes a h. text_says (IsScriptText bytes) (λ refusal. IsRefused bytes (Bad refusal)) a h };
 }
 
-// The printed script of the lines that the bytes spell, or their refusal.
+// The printed script of the lines that the bytes parse to, or their refusal.
 fn script_text(alloc: Global, bytes: &[u8]) -> Result<Text, End>
     requires { length bytes.now ≤ most_btor_bytes }
     ensures text { IfOk result (IsScriptText bytes.now) }
@@ -82,8 +82,10 @@ fn text_of_lines(alloc: Global, nodes: &Nodes) -> Result<Text, NoMemory>
     print_script(alloc, &script)
 }
 
-/// States that what is written for a text spells one script but for the place of its check, in which some trace meets query j at
-/// step k exactly where the lines have frames 0 to k with every constraint true and bad line j true in frame k.
+/// Proves that the text written for a BTOR2 text parses to one script, except for the place of its check.
+///
+/// In this script, some trace meets query j at step k exactly where the lines have suitable frames 0 to k. In these
+/// frames every constraint is true, and bad line j is true in frame k.
 pub fn imports_stand()
     ensures { ScriptsStand }
 {

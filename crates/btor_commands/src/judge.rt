@@ -1,4 +1,4 @@
-// The verdict on a witness for a BTOR2 text.
+// The command `judge-btor`.
 ghost use Rattle.std.specs.Prelude.{◌≡◌, ◌≤◌, [], ◌∷◌, length, false, IfOk, IfErr, IsErrAnd};
 ghost use Rattle.text_core.specs.Outside.{BeginsOnly, Rose};
 ghost use Rattle.btor_tree.specs.Texts.{SpellsLines};
@@ -19,10 +19,12 @@ use std::alloc::Global;
 use text_core::kinds::{btor, witness};
 use text_core::{End, Name, Shelf, Verdict};
 
-/// The most bytes that a BTOR2 text may have.
+/// The most bytes of a BTOR2 text.
 pub const BTOR_LIMIT: usize = 134_217_728;
 
 /// Reads a BTOR2 text and a witness for it, and judges the witness.
+///
+/// It never runs out of memory once it has opened the second file.
 #[tactic(auto, using(crate::proofs::Judged::may_judge, command_core::specs::laws::Stops::always))]
 pub fn judge_files<F: Shelf>(
     alloc: Global,
@@ -42,7 +44,7 @@ pub fn judge_files<F: Shelf>(
     Ok(answer)
 }
 
-// The lines that the bytes spell.
+// The lines that the bytes parse to.
 fn lines_of(alloc: Global, bytes: &[u8]) -> Result<Nodes, Stop>
     requires { length bytes.now ≤ most_btor_bytes }
     ensures lines { IfOk result (SpellsLines bytes.now) }
@@ -55,7 +57,7 @@ fn lines_of(alloc: Global, bytes: &[u8]) -> Result<Nodes, Stop>
     }
 }
 
-// The verdict on the witness in the second file. What takes memory is made before the file is begun.
+// The verdict on the witness in the second file. All memory is allocated before the file is opened.
 #[tactic(auto, using(command_core::specs::laws::Stops::never))]
 fn second_answer<F: Shelf>(
     alloc: Global,
@@ -73,8 +75,8 @@ fn second_answer<F: Shelf>(
     fed_answer(second, spare, nodes, &mut judge, shelf)
 }
 
-// The verdict on the witness in the second file, by a judge that nothing was fed to, with one more name for the note. This takes no
-// memory.
+// The verdict on the witness in the second file, by a judge that has read nothing, with a spare copy of the name
+// for the note. It allocates nothing.
 #[tactic(auto, using(crate::proofs::Judged::of_file, crate::proofs::Judged::stands_for_some))]
 fn fed_answer<F: Shelf>(
     second: &Name,
@@ -102,7 +104,7 @@ fn fed_answer<F: Shelf>(
     }
 }
 
-// What is answered to what the judge says.
+// The answer for the result of the judge.
 fn judge_answer(end: JudgeEnd) -> Answer
     ensures { result ≡ judge_answer end }
 {

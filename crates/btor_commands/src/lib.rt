@@ -1,4 +1,5 @@
-//! The commands on BTOR2 texts, `judge-btor`, `btor2moxi` and `simplify`, and how a second file is read as a witness.
+//! The commands on BTOR2 texts: `judge-btor`, `btor2moxi` and `simplify`. Also the reading of a second file as a
+//! witness.
 #![tactic(auto)]
 
 mod import;

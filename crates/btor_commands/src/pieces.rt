@@ -1,4 +1,4 @@
-// A file that is read piece by piece and fed to a judge of witnesses. Nothing here takes memory.
+// Feeds a file piece by piece to a judge of witnesses. Nothing here allocates.
 ghost use Rattle.std.specs.Prelude.{◌≡◌, ◌⊎◌, ◌<◌, ◌≤◌, ◌+◌, [], List, ℕ, Option, length, false, IfOk, OnOk, IsErrOf};
 ghost use Rattle.text_core.specs.Outside.{IsMissing, IsLonger, IsAtEnd, BeginsOnly, Rose};
 ghost use Rattle.text_core.specs.Reading.{IsPast};
@@ -11,19 +11,19 @@ use btor_tree::Nodes;
 use btor_witness::MOST_BYTES;
 use text_core::{Name, Shelf};
 
-/// The bytes that a buffer holds.
+/// The number of bytes in a buffer.
 pub const PIECE: usize = 4096;
 
-/// Why a file isn't fed to its end.
+/// The reason why a file was not fed to its end.
 #[derive(Clone, Copy)]
 pub enum PieceEnd {
-    /// It was not read.
+    /// The file could not be read.
     Fault,
-    /// It has more bytes than a witness may have.
+    /// The file has more bytes than a witness may have.
     TooLong,
 }
 
-/// Begins a file and feeds it to a judge up to its end.
+/// Opens a file and feeds it to a judge up to its end.
 pub fn feed_file<F: Shelf>(
     shelf: &mut F,
     name: &Name,
@@ -36,7 +36,7 @@ pub fn feed_file<F: Shelf>(
     requires going { has_ended judge.old ≡ false }
     ensures fed { OnOk result (HoldsFile (F.files shelf.old) name.now nodes.now judge.new) }
 
-    // It doesn't give up by itself.
+    // A fault is returned only where one was counted or the file is missing.
     ensures cause { IsErrOf result PieceEnd.Fault → Rose (F.faults shelf.old) (F.faults shelf.new) ⊎ IsMissing (F.files shelf.old) name.now }
     ensures fault { F.faults shelf.old < F.faults shelf.new → IsErrOf result PieceEnd.Fault }
     ensures too_long { IsErrOf result PieceEnd.TooLong → IsLonger (F.files shelf.old) name.now most_witness_bytes }
@@ -59,7 +59,7 @@ pub fn feed_file<F: Shelf>(
     }
 }
 
-// Feeds one piece behind so many bytes: its length, which is 0 at the end.
+// Feeds one piece after `count` bytes, and returns its length, which is 0 at the end.
 fn feed_piece<F: Shelf>(
     shelf: &mut F,
     buffer: &mut [u8],

@@ -15,7 +15,9 @@ use command_core::{Answer, Stop};
 use std::alloc::Global;
 use text_core::End;
 
-/// Returns the witness that the second file's text spells for the lines, or stops with the text's refusal.
+/// Parses the second file's text to a witness for the lines.
+///
+/// The text's refusal is the answer where it does not parse.
 pub fn witness_in(alloc: Global, nodes: &Nodes, text: &[u8]) -> Result<Witness, Stop>
     requires { length text.now ≤ most_witness_bytes }
     ensures witness { IfOk result (SpellsWitness nodes.now text.now) }
@@ -29,7 +31,7 @@ pub fn witness_in(alloc: Global, nodes: &Nodes, text: &[u8]) -> Result<Witness, 
     }
 }
 
-/// States that the printed text of lines spells these lines. This function does nothing.
+/// Proves that the printed text of lines parses to these lines.
 pub fn lines_are_spelled(nodes: &Nodes)
     ensures { SpellsLines (printed nodes.now) nodes.now }
 {

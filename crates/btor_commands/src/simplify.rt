@@ -1,4 +1,4 @@
-// The smaller text of a BTOR2 text.
+// The command `simplify`.
 ghost use Rattle.std.specs.Prelude.{◌≡◌, ◌≤◌, [], ◌∷◌, List, length, IfOk, IfErr, IsErrAnd};
 ghost use Rattle.text_core.specs.Outside.{Rose};
 ghost use Rattle.text_core.specs.declared.end.End.TheVariants.{Bad};
@@ -24,7 +24,7 @@ use std::mem::drop;
 use text_core::kinds::btor;
 use text_core::{End, Name, NoMemory, Shelf, Text};
 
-/// Reads a BTOR2 text, and prints a smaller list of lines with the same witnesses.
+/// Reads a BTOR2 text, and prints a simplified list of lines with the same witnesses.
 pub fn simplify_btor<F: Shelf>(alloc: Global, model: &Name, shelf: &mut F) -> Result<Answer, Stop>
     ensures answer { IfOk result (MayGive (F.files shelf.old) (model.now ∷ []) (λ files. IsSimplification files model.now) (Rose (F.faults shelf.old) (F.faults shelf.new))) }
     ensures stop { IfErr result (StopsWith (MayGive (F.files shelf.old) (model.now ∷ []) (λ files. IsSimplification files model.now) (Rose (F.faults shelf.old) (F.faults shelf.new)))) }
@@ -33,7 +33,7 @@ pub fn simplify_btor<F: Shelf>(alloc: Global, model: &Name, shelf: &mut F) -> Re
     answer_file(alloc, model, &SimplifyBtor, shelf)
 }
 
-// The smaller text of the lines that a text spells.
+// The simplified text of the lines that a text parses to.
 struct SimplifyBtor;
 
 impl LastFile for SimplifyBtor {
@@ -63,7 +63,7 @@ impl LastFile for SimplifyBtor {
     ghost says = { λ _ bytes a h. text_says (IsSmallerText bytes) (λ refusal. IsRefused bytes (Bad refusal)) a h };
 }
 
-// The printed smaller list of the lines that the bytes spell, or their refusal.
+// The printed simplified list of the lines that the bytes parse to, or their refusal.
 fn smaller_text(alloc: Global, bytes: &[u8]) -> Result<Text, End>
     requires { length bytes.now ≤ most_btor_bytes }
     ensures text { IfOk result (IsSmallerText bytes.now) }
@@ -73,7 +73,7 @@ fn smaller_text(alloc: Global, bytes: &[u8]) -> Result<Text, End>
     Ok(text_of_smaller(alloc, nodes)?)
 }
 
-// The printed smaller list of lines. The lines themselves are dropped before it is printed.
+// The printed simplified list of lines. The lines themselves are dropped before it is printed.
 fn text_of_smaller(alloc: Global, nodes: Nodes) -> Result<Text, NoMemory>
     ensures { IfOk result (λ text. (smaller : List Line) × IsSimplified nodes smaller × (text ≡ printed smaller)) }
 {
@@ -82,8 +82,10 @@ fn text_of_smaller(alloc: Global, nodes: Nodes) -> Result<Text, NoMemory>
     print_btor(alloc, &smaller)
 }
 
-/// States that what is written for a text spells one list of lines, which is in normal form, is no longer, and keeps the words and
-/// the witnesses of the text's lines. This function does nothing.
+/// Proves that the text written for a BTOR2 text parses to one list of lines, which is in normal form and no
+/// longer.
+///
+/// This list keeps the words and the witnesses of the text's lines.
 pub fn smaller_texts_stand()
     ensures { SmallerTextsStand }
 {

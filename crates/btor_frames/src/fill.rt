@@ -1,4 +1,4 @@
-// One row of words, filled in order of the lines.
+// Fills one row of words, in the order of the lines.
 ghost use Rattle.std.specs.Prelude.{◌≡◌, ◌<◌, ◌≤◌, ◌+◌, ◌^◌, ℕ, Bool, true, false, if◌then◌else◌, List, length, take, Some, None, slice_get, slice_set, IfSome, IsTrue};
 ghost use Rattle.word_core.specs.Words.{BitVector, IsWord};
 ghost use Rattle.word_core.specs.Table.{unary_of, binary_of, ite_of, slice_of, uext_of, sext_of, BinaryFits};
@@ -62,7 +62,7 @@ fn constant_word(nodes: &Nodes, i: usize) -> Word
     }
 }
 
-// The word of an init's value: a constant's, which may stand later, or an earlier word.
+// The word of an init's value: a constant's, which may stand on a later line, or an earlier word.
 fn init_operand(nodes: &Nodes, row: &Words, a: &Arg) -> Word
     requires well_formed { IsWellFormed nodes.now }
     requires long { length row.now ≡ length nodes.now }
@@ -78,7 +78,7 @@ fn init_operand(nodes: &Nodes, row: &Words, a: &Arg) -> Word
     signed_word(word, a.negated)
 }
 
-// The word of a state's value.
+// The word of a state's init or next.
 #[inline(always)]
 fn value_word(nodes: &Nodes, begun: bool, last: &Words, row: &Words, a: &Arg) -> Word
     requires well_formed { IsWellFormed nodes.now }
@@ -94,7 +94,7 @@ fn value_word(nodes: &Nodes, begun: bool, last: &Words, row: &Words, a: &Arg) ->
     }
 }
 
-// The word that a state takes: its value where it has one, and else the one that is handed in.
+// The word of a state: its init or next where it has one, else the word given by the caller.
 #[inline(always)]
 fn state_word(
     nodes: &Nodes,
@@ -123,7 +123,7 @@ fn state_word(
     }
 }
 
-// The word that an input or a state takes; at other lines it is not read.
+// The word of an input or a state. It is not read at other lines.
 #[inline(always)]
 fn given_word(
     nodes: &Nodes,
@@ -165,7 +165,7 @@ fn unary_word(op: Unary, args: &Args, row: &Words) -> Word
     unary(op, operand(row, args.at(0)))
 }
 
-// Both words' ones.
+// The bitwise and of two words of one width.
 fn and_word(a: Word, b: Word) -> Word
     requires { BinaryFits Binary.And a.width b.width }
     ensures { result ≡ binary_of Binary.And a b }
@@ -173,7 +173,7 @@ fn and_word(a: Word, b: Word) -> Word
     word_of(a.width(), a.bits() & b.bits())
 }
 
-// The ones of one word or the other.
+// The bitwise or of two words of one width.
 fn or_word(a: Word, b: Word) -> Word
     requires { BinaryFits Binary.Or a.width b.width }
     ensures { result ≡ binary_of Binary.Or a b }
@@ -181,14 +181,14 @@ fn or_word(a: Word, b: Word) -> Word
     word_of(a.width(), a.bits() | b.bits())
 }
 
-// Is it one number?
+// One bit: whether the two words are the same number.
 fn eq_word(a: Word, b: Word) -> Word
     ensures { result ≡ binary_of Binary.Eq a b }
 {
     word_of(1, u128::from(a.bits() == b.bits()))
 }
 
-// Puts the word that the operator's row gives.
+// Sets the result of the operator.
 fn put_joined(op: Binary, args: &Args, i: usize, row: &mut Words)
     requires inside { i < length row.old }
     requires fits { OnTwo args.now (λ a b. (a.line < length row.old) × (b.line < length row.old)
@@ -201,8 +201,8 @@ fn put_joined(op: Binary, args: &Args, i: usize, row: &mut Words)
     );
 }
 
-// Puts the word of an operator line on two arguments. The operators of which most lines are stand here, since a call for each line is
-// dear, and each reads its own words, since a word that a call may read is kept in memory.
+// Sets the word of an operator line on two arguments. The most frequent operators are handled here, since a call
+// for each line is costly. Each reads its own words, since a word that a call may read is kept in memory.
 fn put_binary(op: Binary, args: &Args, i: usize, row: &mut Words)
     requires inside { i < length row.old }
     requires fits { OnTwo args.now (λ a b. (a.line < length row.old) × (b.line < length row.old)
@@ -226,7 +226,7 @@ fn put_binary(op: Binary, args: &Args, i: usize, row: &mut Words)
     }
 }
 
-// The word of a choice: the second argument's where the first's is one, else the third's.
+// The word of an if-then-else: the second argument's where the first's is one, else the third's.
 #[inline(always)]
 fn ite_word(args: &Args, row: &Words) -> Word
     requires { OnThree args.now (λ c a b. (c.line < length row.now) × (a.line < length row.now) × (b.line < length row.now)
@@ -248,7 +248,7 @@ fn slice_word(high: u32, low: u32, args: &Args, row: &Words) -> Word
     slice(operand(row, args.at(0)), high, low)
 }
 
-// The argument's word with zeros in front.
+// The argument's word with zeros at the high end.
 fn uext_word(count: u32, args: &Args, row: &Words) -> Word
     requires { OnOne args.now (λ a. (a.line < length row.now) × ((operand row.now a).width + count ≤ WIDEST)) }
     ensures { OnOne args.now (λ a. result ≡ uext_of (operand row.now a) count) }
@@ -256,7 +256,7 @@ fn uext_word(count: u32, args: &Args, row: &Words) -> Word
     uext(operand(row, args.at(0)), count)
 }
 
-// The argument's word with its sign in front.
+// The argument's word with copies of its sign bit at the high end.
 fn sext_word(count: u32, args: &Args, row: &Words) -> Word
     requires { OnOne args.now (λ a. (a.line < length row.now) × ((operand row.now a).width + count ≤ WIDEST)) }
     ensures { OnOne args.now (λ a. result ≡ sext_of (operand row.now a) count) }
@@ -264,8 +264,8 @@ fn sext_word(count: u32, args: &Args, row: &Words) -> Word
     sext(operand(row, args.at(0)), count)
 }
 
-// Puts the word of a line that is computed from the words of the lines before it. Each kind of line puts its own word, so that
-// no word is handed from function to function.
+// Sets the word of a line that is computed from the words of earlier lines. Each kind of line sets its own word, so
+// that no word is passed between functions.
 #[inline(always)]
 fn put_computed(nodes: &Nodes, i: usize, spare: &mut Words)
     requires inside { i < length nodes.now }
@@ -300,15 +300,15 @@ fn put_computed(nodes: &Nodes, i: usize, spare: &mut Words)
     }
 }
 
-// Does a line of this kind take a given word?
+// Whether a line of this kind takes a given word.
 fn is_given(op: &LineOp) -> bool
     ensures { result ≡ is_given op.now }
 {
     matches!(op, LineOp::Input | LineOp::State)
 }
 
-// Puts the word of the line at a place, and counts on where it is an input or a state. What is given is looked up only where it is
-// taken.
+// Sets the word of the line at index i, and counts inputs and states. A given word is looked up only where it is
+// needed.
 #[inline(always)]
 fn put_word(
     nodes: &Nodes,
@@ -351,7 +351,7 @@ fn put_word(
     }
 }
 
-/// Fills a row: the frame after `last` where one has begun, and else frame 0.
+/// Fills a row of words: the frame after `last` where `begun` is true, else frame 0.
 pub fn fill(
     nodes: &Nodes,
     tables: &Tables,

@@ -17,8 +17,9 @@ use std::mem;
 use text_core::NoMemory;
 use word_core::Word;
 
-/// The words of the current frame of a list of lines, and room for the next. The list stays with the caller, who hands
-/// the same one to each call.
+/// The words of the current frame of a list of lines, with a buffer for the next frame.
+///
+/// The list stays with the caller, who passes the same one to each call.
 #[derive(Drop)]
 pub struct Frames {
     row: Words,
@@ -39,7 +40,7 @@ impl Model for Frames {
 }
 
 impl Frames {
-    /// No frame yet, and room for the frames of these lines.
+    /// Returns the state before the first frame, with room for the frames of these lines.
     pub fn new(alloc: Global, nodes: &Nodes) -> Result<Frames, NoMemory>
         ensures fits { IfOk result (λ f. FramesFit nodes.now f) }
         ensures none { IfOk result (λ f. f.begun ≡ false) }
@@ -55,9 +56,11 @@ impl Frames {
         })
     }
 
-    /// Goes to the next frame: to frame 0 where there is none yet. `inputs` has a word for each input line and `free`
-    /// one for each state line, in order and of their widths. A word of `free` is read for a state without an init in
-    /// frame 0, and for a state without a next in every later frame. It takes no memory.
+    /// Moves to the next frame, or to frame 0 where there is none yet.
+    ///
+    /// `inputs` has a word for each input line and `free` one for each state line, in order and of their widths. In
+    /// frame 0, the words of `free` are read for states without an init, and later for states without a next. It
+    /// allocates nothing.
     pub fn step(&mut self, nodes: &Nodes, inputs: &Words, free: &Words)
         requires fits { FramesFit nodes.now self.old }
         requires handed { HandedFit nodes.now inputs.now free.now }
@@ -67,7 +70,7 @@ impl Frames {
         ensures only { (row : List BitVector) → IsStep nodes.now self.old.begun self.old.row inputs.now free.now row
             → row ≡ self.new.row }
     {
-        // This call's contract says that the lines fit one another.
+        // This call's contract says that the lines are well-formed.
         let _count = nodes.len();
         fill(
             nodes,
@@ -82,13 +85,15 @@ impl Frames {
         self.begun = true;
     }
 
-    /// Is every constraint true in the current frame? The caller owes a frame.
+    /// Returns whether every constraint is true in the current frame.
+    ///
+    /// The caller ensures that there is a frame.
     pub fn constraints_hold(&self, nodes: &Nodes) -> bool
         requires fits { FramesFit nodes.now self.now }
         requires begun { self.now.begun ≡ true }
         ensures { IsTrue result ↔ ConstraintsHold nodes.now self.now.row }
     {
-        // This call's contract says that the lines fit one another.
+        // This call's contract says that the lines are well-formed.
         let _count = nodes.len();
         let constraints = self.tables.constraints();
         for i in 0..constraints.len() {
@@ -99,20 +104,23 @@ impl Frames {
         true
     }
 
-    /// Is bad line number j, counted from 0, true in the current frame? The caller owes a frame, and a number below
-    /// that of the bad lines.
+    /// Returns whether bad line `j`, counted from 0, is true in the current frame.
+    ///
+    /// The caller ensures that there is a frame, and that `j` is less than the number of bad lines.
     pub fn bad(&self, nodes: &Nodes, j: u32) -> bool
         requires fits { FramesFit nodes.now self.now }
         requires begun { self.now.begun ≡ true }
         requires there { j < count_of is_bad nodes.now }
         ensures { IsTrue result ↔ IsBad nodes.now self.now.row j }
     {
-        // This call's contract says that the lines fit one another.
+        // This call's contract says that the lines are well-formed.
         let _count = nodes.len();
         is_true(&self.row, self.tables.bads().at(j as usize))
     }
 
-    /// The word of the line at a place in the current frame. The caller owes a frame, and a line that has a word.
+    /// Returns the word of the line at index `line` in the current frame.
+    ///
+    /// The caller ensures that there is a frame, and that the line has a word.
     pub fn value(&self, line: u32) -> Word
         requires { line < length self.now.row }
         ensures { result ≡ word_at self.now.row line }
@@ -121,7 +129,7 @@ impl Frames {
     }
 }
 
-// Is the argument's word the 1 of one bit?
+// Whether the argument's word is one bit with the value 1.
 fn is_true(row: &Words, a: &Arg) -> bool
     requires { a.now.line < length row.now }
     ensures { IsTrue result ↔ (operand row.now a.now ≡ true_word) }
@@ -130,7 +138,7 @@ fn is_true(row: &Words, a: &Arg) -> bool
     word.width() == 1 && word.bits() == 1
 }
 
-// A list of zeros.
+// A list of n zeros of one bit.
 fn zeros(alloc: Global, n: usize) -> Result<Words, NoMemory>
     ensures { IfOk result (λ words. length words ≡ n) }
 {

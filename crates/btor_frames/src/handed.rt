@@ -1,4 +1,4 @@
-// The words that are handed in for inputs and for states without a value.
+// The words that the caller gives for inputs, and for states without an init or next.
 ghost use Rattle.std.specs.Prelude.{◌≡◌, ◌<◌, ◌+◌, ◌^◌, ◌↔◌, ℕ, Bool, true, false, if◌then◌else◌, List, length, take, Some, slice_get, IfSome, IsTrue};
 ghost use Rattle.word_core.specs.Words.{IsWord};
 ghost use Rattle.btor_tree.specs.Fits.{IsWellFormed, count_of, is_input, is_state};
@@ -17,7 +17,7 @@ pub fn word_of(width: u32, bits: u128) -> Word
     Word::of(width, bits).unwrap()
 }
 
-// The word at a place, or a zero where there is none.
+// The word at an index, or a zero where there is none.
 #[inline(always)]
 pub fn word_or(words: &Words, i: usize) -> Word
     ensures { result ≡ word_at words.now i }
@@ -29,7 +29,7 @@ pub fn word_or(words: &Words, i: usize) -> Word
     }
 }
 
-// The word that is handed in for a line, after so many inputs and states.
+// The word that the caller gives for a line after `input` inputs and `state` states.
 #[inline(always)]
 pub fn handed_word(
     nodes: &Nodes,
@@ -51,7 +51,7 @@ pub fn handed_word(
     }
 }
 
-// One more, at an input line.
+// The count, with one more at an input line.
 pub fn with_input(line: &Line, n: usize) -> usize
     requires { n < 2 ^ 63 }
     ensures { result ≡ n + (if is_input line.now.op then 1 else 0) }
@@ -62,7 +62,7 @@ pub fn with_input(line: &Line, n: usize) -> usize
     }
 }
 
-// One more, at a state line.
+// The count, with one more at a state line.
 pub fn with_state(line: &Line, n: usize) -> usize
     requires { n < 2 ^ 63 }
     ensures { result ≡ n + (if is_state line.now.op then 1 else 0) }
@@ -73,7 +73,7 @@ pub fn with_state(line: &Line, n: usize) -> usize
     }
 }
 
-// Does the word fit the line, where it is an input or a state?
+// Whether the word fits the line, where that is an input or a state.
 fn line_fits(nodes: &Nodes, i: usize, word: Word) -> bool
     requires inside { i < length nodes.now }
     requires well_formed { IsWellFormed nodes.now }
@@ -85,8 +85,9 @@ fn line_fits(nodes: &Nodes, i: usize, word: Word) -> bool
     }
 }
 
-/// Is there one word for each input line and one for each state line, in order and of their widths? `Frames::step`
-/// asks for such words.
+/// Returns whether there is one word for each input line and for each state line, in order and of their widths.
+///
+/// `Frames::step` requires such words.
 pub fn words_fit(nodes: &Nodes, inputs: &Words, free: &Words) -> bool
     ensures { IsTrue result ↔ HandedFit nodes.now inputs.now free.now }
 {

@@ -1,4 +1,4 @@
-//! Frames of BTOR2 lines: a row of words filled line by line, and what it says of constraint and bad lines.
+//! Frames of BTOR2 lines: rows of words, computed line by line, and the values of constraint and bad lines in them.
 #![tactic(auto)]
 
 mod fill;

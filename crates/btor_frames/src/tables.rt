@@ -1,4 +1,4 @@
-// What lines give to states, and the arguments of bad and constraint lines, found once for all frames.
+// The init and next of each state, and the arguments of bad and constraint lines, found once for all frames.
 ghost use Rattle.std.specs.Prelude.{◌≡◌, ◌<◌, ◌++◌, Bool, true, false, List, length, get_or, None, IfOk, OnOk, if◌then◌else◌};
 ghost use Rattle.btor_tree.specs.Fits.{AreEarlier, IsWellFormed, operands};
 ghost use Rattle.btor_frames.specs.Tables.{has_role, HoldsNone, HoldsValues, IsFoundIn, values_of, line_operands, noted};
@@ -8,7 +8,7 @@ use std::alloc::Global;
 use std::marker::Model;
 use text_core::{List, NoMemory};
 
-// The kinds of line whose arguments are kept.
+// The kinds of line whose arguments are kept in tables.
 #[derive(Clone, Copy)]
 pub enum Role {
     Init,
@@ -17,8 +17,7 @@ pub enum Role {
     Constraint,
 }
 
-/// The value of each state in frame 0 and in later frames, by the state's place, and the arguments of bad and
-/// constraint lines in order.
+/// The init and next of each state, by the state's index, and the arguments of bad and constraint lines in order.
 #[derive(Drop)]
 pub struct Tables {
     inits: Vec<Option<Arg>>,
@@ -36,7 +35,7 @@ impl Model for Tables {
 }
 
 impl Tables {
-    /// What is found in these lines.
+    /// Returns the tables of these lines.
     pub fn of(alloc: Global, nodes: &Nodes) -> Result<Tables, NoMemory>
         ensures { IfOk result (λ tables. IsFoundIn nodes.now tables) }
     {
@@ -48,7 +47,9 @@ impl Tables {
         })
     }
 
-    /// What gives the state at a place its word: in a later frame, or else in frame 0.
+    /// Returns the value of the state's next where `begun` is true, else the value of its init.
+    ///
+    /// Returns None where the state at index `s` has no such line.
     pub fn value(&self, begun: bool, s: usize) -> Option<Arg>
         requires { s < length (values_of begun self.now) }
         ensures { result ≡ get_or (values_of begun self.now) s None }
@@ -56,14 +57,14 @@ impl Tables {
         if begun { self.nexts[s] } else { self.inits[s] }
     }
 
-    /// The arguments of the bad lines.
+    /// Returns the arguments of the bad lines.
     pub fn bads(&self) -> &List<Arg>
         ensures { result.now ≡ self.now.bads }
     {
         &self.bads
     }
 
-    /// The arguments of the constraint lines.
+    /// Returns the arguments of the constraint lines.
     pub fn constraints(&self) -> &List<Arg>
         ensures { result.now ≡ self.now.constraints }
     {
@@ -71,7 +72,7 @@ impl Tables {
     }
 }
 
-// Is the line of this role?
+// Whether the line has this role.
 fn has_role(role: Role, op: &LineOp) -> bool
     ensures { result ≡ has_role role op.now }
 {
@@ -83,7 +84,7 @@ fn has_role(role: Role, op: &LineOp) -> bool
     }
 }
 
-// What the lines of a role give to each state, by the state's place.
+// The value that the lines of a role give to each state, by the state's index.
 fn values(alloc: Global, nodes: &Nodes, role: Role) -> Result<Vec<Option<Arg>>, NoMemory>
     ensures { IfOk result (λ values. HoldsValues (has_role role) nodes.now values.items) }
 {
@@ -94,7 +95,7 @@ fn values(alloc: Global, nodes: &Nodes, role: Role) -> Result<Vec<Option<Arg>>, 
     Ok(values)
 }
 
-// A list of no values.
+// A list of n empty entries.
 fn no_values(alloc: Global, n: usize) -> Result<Vec<Option<Arg>>, NoMemory>
     ensures { IfOk result (λ values. HoldsNone n values.items) }
 {
@@ -105,7 +106,7 @@ fn no_values(alloc: Global, n: usize) -> Result<Vec<Option<Arg>>, NoMemory>
     Ok(values)
 }
 
-// Enters what a line gives to a state, where it is of the role and the state has no value yet.
+// Enters the value that a line gives to a state, where the line has the role and the state has no value yet.
 fn note_value(values: &mut Vec<Option<Arg>>, role: Role, line: &Line)
     requires { AreEarlier (length values.old.items) line.now.args }
     ensures { values.new.items ≡ (if has_role role line.now.op then noted values.old.items line.now.args else values.old.items) }
@@ -117,7 +118,7 @@ fn note_value(values: &mut Vec<Option<Arg>>, role: Role, line: &Line)
     }
 }
 
-// The arguments of the lines of a role, in order.
+// The arguments of the lines with a role, in order.
 fn role_operands(alloc: Global, nodes: &Nodes, role: Role) -> Result<List<Arg>, NoMemory>
     ensures { IfOk result (λ args. args ≡ operands (has_role role) nodes.now) }
 {
@@ -128,7 +129,7 @@ fn role_operands(alloc: Global, nodes: &Nodes, role: Role) -> Result<List<Arg>, 
     Ok(args)
 }
 
-// Adds the arguments of a line, where it is of the role.
+// Appends the arguments of a line, where it has the role.
 fn add_operands(args: &mut List<Arg>, role: Role, line: &Line) -> Result<(), NoMemory>
     ensures { OnOk result (args.new ≡ args.old ++ line_operands (has_role role) line.now) }
 {
@@ -138,7 +139,7 @@ fn add_operands(args: &mut List<Arg>, role: Role, line: &Line) -> Result<(), NoM
     Ok(())
 }
 
-// Adds arguments at the end.
+// Appends arguments.
 fn add_all(args: &mut List<Arg>, more: &Args) -> Result<(), NoMemory>
     ensures { OnOk result (args.new ≡ args.old ++ more.now) }
 {

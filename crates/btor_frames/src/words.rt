@@ -22,7 +22,9 @@ impl Model for Words {
 }
 
 impl Words {
-    /// No words. It takes no memory.
+    /// Returns the empty list.
+    ///
+    /// It allocates nothing.
     pub fn new(alloc: Global) -> Words
         ensures { result ≡ [] }
     {
@@ -31,7 +33,9 @@ impl Words {
         }
     }
 
-    /// Adds a word at the end, and leaves the list unchanged where it is refused.
+    /// Appends a word.
+    ///
+    /// The list stays unchanged when out of memory.
     pub fn push(&mut self, x: Word) -> Result<(), NoMemory>
         ensures ok { OnOk result (self.new ≡ self.old ++ x ∷ []) }
         ensures err { OnErr result (self.new ≡ self.old) }
@@ -39,14 +43,14 @@ impl Words {
         Ok(self.items.push(x)?)
     }
 
-    /// How many words there are.
+    /// Returns the number of words.
     pub fn len(&self) -> usize
         ensures { result ≡ length self.now }
     {
         self.items.len()
     }
 
-    /// The word at a place, counted from 0.
+    /// Returns the word at index `i`, counted from 0.
     pub fn at(&self, i: usize) -> Word
         requires { i < length self.now }
         ensures { slice_get self.now i ≡ Some result }
@@ -54,7 +58,9 @@ impl Words {
         self.items[i]
     }
 
-    /// Puts a word in place of the one at a place. It takes no memory.
+    /// Replaces the word at index `i`.
+    ///
+    /// It allocates nothing.
     pub fn set(&mut self, i: usize, x: Word)
         requires { i < length self.old }
         ensures { self.new ≡ slice_set self.old i x }

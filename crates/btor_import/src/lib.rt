@@ -1,4 +1,4 @@
-//! The script of MoXI that stands for BTOR2 lines.
+//! The translation of BTOR2 lines to a MoXI script.
 #![tactic(auto)]
 
 mod laws;

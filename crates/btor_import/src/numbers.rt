@@ -1,4 +1,4 @@
-// What is known of a line by its place: the number of its variable, and the width of its word.
+// Facts about a line by its index: the number of its variable, and the width of its word.
 ghost use Rattle.std.specs.Prelude.{◌≡◌, ◌+◌, ◌<◌, ◌^◌, IfOk};
 ghost use Rattle.btor_tree.specs.Fits.{IsWellFormed, is_input, is_state, sort_at, width_at};
 ghost use Rattle.btor_import.specs.Assembling.{counted_on, number_at, number_in};
@@ -8,21 +8,21 @@ use btor_tree::{LineOp, Nodes, has_word, sort_width};
 use std::alloc::Global;
 use text_core::NoMemory;
 
-/// Tells whether the line is an input.
+/// Returns whether the line is an input.
 pub(crate) fn is_input(op: &LineOp) -> bool
     ensures { result ≡ is_input op.now }
 {
     matches!(op, LineOp::Input)
 }
 
-/// Tells whether the line is a state.
+/// Returns whether the line is a state.
 pub(crate) fn is_state(op: &LineOp) -> bool
     ensures { result ≡ is_state op.now }
 {
     matches!(op, LineOp::State)
 }
 
-/// Tells whether the line is a constant or an operator.
+/// Returns whether the line is a constant or an operator.
 pub(crate) fn is_local(op: &LineOp) -> bool
     ensures { result ≡ is_local op.now }
 {
@@ -32,7 +32,7 @@ pub(crate) fn is_local(op: &LineOp) -> bool
     }
 }
 
-/// Returns the number at a place of a table, and 0 behind its end.
+/// Returns the number at an index of a table, or 0 past its end.
 pub(crate) fn number_at(numbers: &[u32], place: usize) -> u32
     ensures { result ≡ number_at numbers.now place }
 {
@@ -43,7 +43,7 @@ pub(crate) fn number_at(numbers: &[u32], place: usize) -> u32
     }
 }
 
-/// Returns the width of the sort line at a place, and 0 where there is none.
+/// Returns the width of the sort line at an index, or 0 where there is none.
 pub(crate) fn sort_at(nodes: &Nodes, place: usize) -> u32
     ensures { result ≡ sort_at nodes.now place }
 {
@@ -54,7 +54,7 @@ pub(crate) fn sort_at(nodes: &Nodes, place: usize) -> u32
     }
 }
 
-/// Returns the width of the word of the line at a place, and 0 where it has none.
+/// Returns the width of the word of the line at an index, or 0 where it has none.
 pub(crate) fn width_at(nodes: &Nodes, place: usize) -> u32
     ensures { result ≡ width_at nodes.now place }
 {

@@ -54,7 +54,8 @@ pub(crate) fn equal(alloc: Global, a: Term, b: Term) -> Result<Term, NoMemory>
     apply_two(alloc, TermOp::Equal, a, b)
 }
 
-// Returns the word of this width and number. Each width and number that a line asks for has one, so this fails on none of them.
+// Returns the word of this width and number. Well-formed lines need only words that exist, so this fails for none
+// of them.
 fn word(width: u32, bits: u128) -> Result<Word, NoMemory>
     ensures { IfOk result (λ w. w ≡ record { width = width; bits = bits }) }
 {

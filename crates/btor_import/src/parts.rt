@@ -1,4 +1,4 @@
-// The formulas of a system, by the parts that lines give.
+// The formulas of a system, with the parts that lines give to them.
 ghost use Rattle.std.specs.Prelude.{◌≡◌, ◌++◌, ◌∷◌, [], IfOk, OnOk, map};
 ghost use Rattle.moxi_terms.specs.View.{plain};
 ghost use Rattle.btor_tree.specs.Fits.{is_bad, is_constraint, is_init, is_next};
@@ -17,11 +17,11 @@ use text_core::NoMemory;
 /// A formula of a system (MoXI, SPIN 2024).
 #[derive(Clone, Copy)]
 pub(crate) enum Part {
-    /// Of the first step.
+    /// The formula of the first step.
     Init,
-    /// Between two steps.
+    /// The formula of two consecutive steps.
     Trans,
-    /// Of every step.
+    /// The formula of every step.
     Inv,
 }
 
@@ -43,7 +43,7 @@ fn is_constraint(op: &LineOp) -> bool
     matches!(op, LineOp::Constraint)
 }
 
-/// Tells whether the line is a bad line.
+/// Returns whether the line is a bad line.
 pub(crate) fn is_bad(op: &LineOp) -> bool
     ensures { result ≡ is_bad op.now }
 {
@@ -58,7 +58,7 @@ pub(crate) fn is_true(alloc: Global, numbers: &[u32], args: &Args) -> Result<Ter
     is_one(alloc, a)
 }
 
-// That a state, which may be primed, has a value.
+// The formula that a state, which may be primed, equals a value.
 fn value_part(alloc: Global, numbers: &[u32], primed: bool, args: &Args) -> Result<Term, NoMemory>
     ensures { IfOk result (λ t. plain t ≡ value_part (number_at numbers.now) primed args.now) }
 {
@@ -71,7 +71,7 @@ fn value_part(alloc: Global, numbers: &[u32], primed: bool, args: &Args) -> Resu
     )
 }
 
-// That the variable of the line at a place has the line's value.
+// The formula that the variable of the line at an index equals the line's value.
 fn equation(
     alloc: Global,
     nodes: &Nodes,
@@ -89,7 +89,7 @@ fn equation(
     )
 }
 
-// Adds what an init or next line gives.
+// Appends the part of an init or next line.
 fn add_value(
     alloc: Global,
     numbers: &[u32],
@@ -103,7 +103,7 @@ fn add_value(
     Ok(all.push(t)?)
 }
 
-// Adds what a constant, an operator or a constraint gives.
+// Appends the part of a constant, an operator or a constraint.
 fn add_inv(
     alloc: Global,
     nodes: &Nodes,
@@ -157,7 +157,7 @@ fn add_trans(
     }
 }
 
-// Adds what the line at a place gives.
+// Appends the part of the line at an index.
 fn add_part(
     alloc: Global,
     part: Part,
@@ -176,7 +176,7 @@ fn add_part(
     }
 }
 
-// What all lines give.
+// The parts of all lines.
 fn parts_of(alloc: Global, part: Part, nodes: &Nodes, numbers: &[u32]) -> Result<Terms, NoMemory>
     ensures { IfOk result (λ ts. map plain ts.items ≡ parts_from (part_of part (number_at numbers.now) nodes.now) 0 nodes.now) }
 {

@@ -1,4 +1,4 @@
-// The script that stands for lines.
+// The translation of lines to a script.
 ghost use Rattle.std.specs.Prelude.{◌≡◌, ◌++◌, [], IfOk, codes, map};
 ghost use Rattle.btor_tree.specs.Fits.{is_bad};
 ghost use Rattle.moxi_scripts.specs.Invariant.{IsSpelled};
@@ -93,7 +93,7 @@ fn queries_of(alloc: Global, nodes: &Nodes) -> Result<Queries, NoMemory>
     Ok(all)
 }
 
-// A variable once more.
+// A copy of a variable.
 fn variable_again(alloc: Global, variable: &Variable) -> Result<Variable, NoMemory>
     ensures { IfOk result (λ v. v ≡ variable.now) }
 {
@@ -104,7 +104,7 @@ fn variable_again(alloc: Global, variable: &Variable) -> Result<Variable, NoMemo
     })
 }
 
-// Variables once more.
+// A copy of variables.
 fn variables_again(alloc: Global, variables: &Variables) -> Result<Variables, NoMemory>
     ensures { IfOk result (λ vs. vs ≡ variables.now) }
 {
@@ -145,7 +145,7 @@ fn check_of(
     })
 }
 
-// The script of these parts.
+// The script with these parts.
 fn assembled(alloc: Global, logic: Name, system: System, check: Check) -> Result<Script, NoMemory>
     requires { ∥ IsSpelled (script_with logic (plain_system system) (plain_check check)) ∥₁ }
     ensures { IfOk result (λ s. plain_script s ≡ script_with logic (plain_system system) (plain_check check)) }
@@ -160,16 +160,18 @@ fn assembled(alloc: Global, logic: Name, system: System, check: Check) -> Result
     })
 }
 
-// The logic of words.
+// The name of the logic of bit vectors.
 fn logic_of(alloc: Global) -> Result<Name, NoMemory>
     ensures { IfOk result (λ n. n ≡ codes "QF_BV") }
 {
     Name::of(alloc, b"QF_BV")
 }
 
-/// Returns the script of MoXI that stands for lines (MoXI, SPIN 2024; BTOR2, CAV 2018). Its one system has an input for each input
-/// line, an output for each state line, and a local for each constant and operator line. Its traces are the runs of frames, and
-/// it has a query for each bad line. It fails only when out of memory.
+/// Returns the translation of lines to a MoXI script (MoXI, SPIN 2024; BTOR2, CAV 2018).
+///
+/// Its one system has an input for each input line, an output for each state line, and a local for each constant
+/// and operator line. Its traces are the runs of frames, and it has a query for each bad line. It fails only when
+/// out of memory.
 pub fn import_btor(alloc: Global, nodes: &Nodes) -> Result<Script, NoMemory>
     ensures { IfOk result (λ s. plain_script s ≡ import_of nodes.now) }
 {

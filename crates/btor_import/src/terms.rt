@@ -1,4 +1,4 @@
-// The terms that stand for the words of lines.
+// The terms for the words of lines.
 ghost use Rattle.std.specs.Prelude.{◌≡◌, ◌-◌, ◌^◌, IfOk, map};
 ghost use Rattle.moxi_terms.specs.Tree.{apply, constant};
 ghost use Rattle.moxi_terms.specs.View.{plain};
@@ -18,7 +18,7 @@ use std::alloc::Global;
 use text_core::NoMemory;
 use word_core::{Binary, Unary};
 
-/// Returns the argument at a place.
+/// Returns the argument at index `i`, or the first line where there is none.
 pub(crate) fn argument(args: &Args, i: usize) -> Arg
     ensures { result ≡ argument args.now i }
 {
@@ -74,7 +74,7 @@ fn with_word(alloc: Global, op: Binary, a: Term, width: u32, bits: u128) -> Resu
     apply_two(alloc, TermOp::BvBinary(op), a, b)
 }
 
-// One bit that says whether all bits of a term of this width are 1.
+// One bit: whether all bits of a term of this width are 1.
 fn all_ones(alloc: Global, a: Term, width: u32) -> Result<Term, NoMemory>
     ensures { IfOk result (λ t. plain t ≡ truth_term (equal_term (plain a) (word_term width (2 ^ width - 1)))) }
 {
@@ -83,7 +83,7 @@ fn all_ones(alloc: Global, a: Term, width: u32) -> Result<Term, NoMemory>
     truth_term(alloc, q)
 }
 
-// One bit that says whether some bit of a term of this width is 1.
+// One bit: whether some bit of a term of this width is 1.
 fn some_one(alloc: Global, a: Term, width: u32) -> Result<Term, NoMemory>
     ensures { IfOk result (λ t. plain t ≡ falsity_term (equal_term (plain a) (word_term width 0))) }
 {
@@ -114,7 +114,7 @@ fn unary_term(
     }
 }
 
-// One bit that says whether a comparison of two terms is true.
+// One bit: whether a comparison of two terms is true.
 fn compared(alloc: Global, op: Binary, a: Term, b: Term) -> Result<Term, NoMemory>
     ensures { IfOk result (λ t. plain t ≡ truth_term (words_term op (plain a) (plain b))) }
 {
@@ -137,7 +137,7 @@ fn implied(alloc: Global, a: Term, b: Term) -> Result<Term, NoMemory>
     apply_two(alloc, TermOp::BvBinary(Binary::Or), not_a, b)
 }
 
-// One bit that says whether two terms are equal, or whether they differ.
+// One bit: whether two terms are equal.
 fn equal_bit(alloc: Global, a: Term, b: Term) -> Result<Term, NoMemory>
     ensures { IfOk result (λ t. plain t ≡ truth_term (equal_term (plain a) (plain b))) }
 {

@@ -10,7 +10,7 @@ use moxi_terms::{Sort, Variable, Variables};
 use std::alloc::Global;
 use text_core::{Name, NoMemory};
 
-/// The list of variables in which a line's variable stands (MoXI, SPIN 2024).
+/// The list of a system's variables to which a line's variable belongs (MoXI, SPIN 2024).
 #[derive(Clone, Copy)]
 pub(crate) enum Group {
     /// The input lines.
@@ -21,7 +21,7 @@ pub(crate) enum Group {
     Locals,
 }
 
-/// Builds a name of a letter with a dot and a number.
+/// Builds a name from a prefix, which is a letter and a dot, and a number.
 pub(crate) fn numbered(alloc: Global, letter: &[u8], number: usize) -> Result<Name, NoMemory>
     ensures { IfOk result (λ n. n ≡ letter.now ++ decimal number) }
 {
@@ -63,7 +63,7 @@ fn variable_of(
     Ok(Variable { name, sort })
 }
 
-// Adds the variable of a line that is in the group.
+// Appends the variable of a line that is in the group.
 fn add_variable(
     alloc: Global,
     nodes: &Nodes,

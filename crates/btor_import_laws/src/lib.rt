@@ -1,4 +1,4 @@
-//! The frames of BTOR2 lines are the traces of the script that stands for them.
+//! Laws: the frames of BTOR2 lines are the traces of their translation to MoXI.
 #![tactic(auto)]
 
 mod laws;

@@ -1,11 +1,13 @@
-// The second part of a line, byte by byte.
+// The second part of a line, read byte by byte.
 ghost use Rattle.std.specs.Prelude.{◌≡◌};
 ghost use Rattle.btor_judge.specs.Digit.{digits_next, SpellsDigits};
 
 use word_core::{WIDEST, Word};
 
-/// What the bytes of a line's second part are so far: so many binary digits and the number that they spell, more of them
-/// than a word has, or something else.
+/// The state of reading a line's second part.
+///
+/// The bytes so far are some binary digits with the number that they spell, more digits than the widest word has,
+/// or something else.
 #[derive(Clone, Copy)]
 pub enum Digits {
     Bits(u32, u128),
@@ -14,7 +16,7 @@ pub enum Digits {
 }
 
 impl Digits {
-    /// With one byte more.
+    /// Returns the state after one more byte.
     pub fn next(self, b: u8) -> Digits
         ensures { result ≡ digits_next self b }
     {
@@ -37,7 +39,10 @@ impl Digits {
         }
     }
 
-    /// The word that one or more binary digits spell: `None` is another part, and `Some(None)` more digits than a word has.
+    /// Returns the word that one or more binary digits spell.
+    ///
+    /// None means that the part is not binary digits, and `Some(None)` that there are more digits than the widest
+    /// word has.
     pub fn word(self) -> Option<Option<Word>>
         ensures { SpellsDigits self result }
     {

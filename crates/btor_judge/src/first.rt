@@ -1,4 +1,4 @@
-// The first part of a line, byte by byte.
+// The first part of a line, read byte by byte.
 ghost use Rattle.std.specs.Prelude.{◌≡◌, ◌+◌, ◌-◌, ◌*◌, ◌≤◌, min};
 ghost use Rattle.btor_tree.specs.Parts.{cap};
 ghost use Rattle.btor_judge.specs.Firsts.{first_byte, first_next, first_shape, first_number, is_comment, marked_next};
@@ -6,8 +6,10 @@ ghost use Rattle.btor_judge.specs.Firsts.{first_byte, first_next, first_shape, f
 use btor_witness::{Shape, marked_shape};
 use text_core::is_digit;
 
-/// What the bytes of a line's first part are so far: a beginning of `sat` or the whole word, a dot, a comment, a mark (`b`,
-/// `j`, `#` or `@`) alone or with a number behind it, a number, or none of these. Numbers stop at 2^31.
+/// The state of reading a line's first part.
+///
+/// The bytes so far are a prefix of `sat`, a dot, a comment, a mark, a mark with a number after it, a number, or
+/// none of these. The marks are `b`, `j`, `#` and `@`. Numbers saturate at 2^31.
 #[derive(Clone, Copy)]
 pub enum First {
     Empty,
@@ -22,7 +24,7 @@ pub enum First {
     Other,
 }
 
-// A number with one digit more.
+// The number with one more digit.
 fn with_digit(number: u32, digit: u8) -> u32
     requires low { 48 ≤ digit }
     requires high { digit ≤ 57 }
@@ -51,7 +53,7 @@ fn first_byte(b: u8) -> First
 }
 
 impl First {
-    /// With one byte more.
+    /// Returns the state after one more byte.
     pub fn next(self, b: u8) -> First
         ensures { result ≡ first_next self b }
     {
@@ -73,7 +75,7 @@ impl First {
         }
     }
 
-    /// Is it a comment?
+    /// Returns whether the part begins a comment.
     pub fn is_comment(self) -> bool
         ensures { result ≡ is_comment self }
     {
@@ -83,7 +85,7 @@ impl First {
         }
     }
 
-    /// The shape of a line that has no other part.
+    /// Returns the shape of a line that has only this part, or None where it has none.
     pub fn shape(self) -> Option<Shape>
         ensures { result ≡ first_shape self }
     {
@@ -95,7 +97,7 @@ impl First {
         }
     }
 
-    /// The number that the part spells.
+    /// Returns the number that the part spells, or None where it is not a number.
     pub fn number(self) -> Option<u32>
         ensures { result ≡ first_number self }
     {
@@ -106,7 +108,7 @@ impl First {
     }
 }
 
-// A mark and the number behind it, with one byte more.
+// A mark and the number after it, with one more byte.
 fn marked_next(mark: u8, number: u32, b: u8) -> First
     ensures { result ≡ marked_next mark number b }
 {

@@ -12,15 +12,17 @@ use std::alloc::Global;
 use text_core::kinds::witness;
 use text_core::{FIRST_PLACE, NoMemory, Place, Refusal, Verdict};
 
-/// What a judge answers: the number of the bad line, the number of the last step and the verdict, or the text's refusal.
+/// The result of a judge: the bad line, the last step and the verdict, or the text's refusal.
 #[derive(Clone, Copy, Debug, PartialEq, Eq)]
 pub enum JudgeEnd {
     Judged(u32, u32, Verdict),
     Bad(Refusal),
 }
 
-/// A judge of a witness whose text comes in pieces. All its memory is taken by `new`, and is independent of the text's
-/// length. The lines stay with the caller, who hands the same ones to each call.
+/// A judge of a witness whose text comes in pieces.
+///
+/// `new` allocates all its memory, and the amount is independent of the text's length. The lines stay with the
+/// caller, who passes the same ones to each call.
 #[derive(Drop)]
 pub struct Judge {
     reader: Reader,
@@ -33,7 +35,7 @@ pub struct Judge {
 }
 
 impl Judge {
-    /// A judge that stands for the empty text.
+    /// Returns a judge that has read the empty text.
     pub fn new(alloc: Global, nodes: &Nodes) -> Result<Judge, NoMemory>
         ensures stands { IfOk result (λ judge. StandsFor nodes.now judge []) }
         ensures unended { IfOk result (λ judge. has_ended judge ≡ false) }
@@ -50,7 +52,9 @@ impl Judge {
         })
     }
 
-    /// Takes the next piece of the text. It takes no memory. Once the judge has ended, nothing changes.
+    /// Reads the next piece of the text.
+    ///
+    /// It allocates nothing. Once the judge has ended, nothing changes.
     pub fn feed(&mut self, nodes: &Nodes, piece: &[u8])
         requires { Stands nodes.now self.old }
         ensures stands { (text : List ℕ) → has_ended self.old ≡ false → StandsFor nodes.now self.old text → StandsFor nodes.now self.new (text ++ piece.now) }
@@ -66,7 +70,7 @@ impl Judge {
         }
     }
 
-    // Takes one byte.
+    // Reads one byte.
     fn take(&mut self, nodes: &Nodes, b: u8)
         requires some { Stands nodes.now self.old }
         requires unended { has_ended self.old ≡ false }
@@ -86,7 +90,7 @@ impl Judge {
         }
     }
 
-    // Reads one byte, which is counted behind it.
+    // Reads one byte, which the caller then counts.
     fn read(&mut self, nodes: &Nodes, b: u8)
         requires { (text : List ℕ) × IsReading nodes.now self.old text × (length text < most_bytes) }
         ensures stands { (text : List ℕ) → IsReading nodes.now self.old text → length text < most_bytes → StandsFor nodes.now (counted self.new) (text ++ b ∷ []) }
@@ -117,8 +121,10 @@ impl Judge {
         }
     }
 
-    /// What is answered of the text that came: the first refusal, in the order in which `read_witness` has them, or else
-    /// what `judge_btor` says. It takes no memory. From then on the judge has ended, and a further call answers the same.
+    /// Ends the text and returns the result: the first refusal, as `read_witness` reports it, or else the verdict
+    /// of `judge_btor`.
+    ///
+    /// It allocates nothing. Further calls return the same result.
     pub fn end(&mut self, nodes: &Nodes) -> JudgeEnd
         requires { Stands nodes.now self.old }
         ensures answers { (text : List ℕ) → StandsFor nodes.now self.old text → Answers nodes.now text result }
@@ -128,7 +134,7 @@ impl Judge {
         ensures ended { has_ended self.new ≡ true }
         ensures same { has_ended self.old ≡ true → self.new ≡ self.old }
     {
-        // This call's contract says that the lines fit one another.
+        // This call's contract says that the lines are well-formed.
         let _count = nodes.len();
         if self.ended {
             return self.answer();
@@ -137,7 +143,7 @@ impl Judge {
         self.answer()
     }
 
-    // The text has no more bytes.
+    // Ends the text.
     fn close(&mut self, nodes: &Nodes)
         requires some { Stands nodes.now self.old }
         requires unended { has_ended self.old ≡ false }
@@ -153,7 +159,7 @@ impl Judge {
         }
     }
 
-    // The last line may lack its end; a text that ends before the witness does is refused there.
+    // Ends the last line, which may lack its line feed. A text that ends before the witness does is refused there.
     fn close_line(&mut self, nodes: &Nodes)
         requires { (text : List ℕ) × IsReading nodes.now self.old text }
         ensures { (text : List ℕ) → IsReading nodes.now self.old text → StandsFor nodes.now (closed self.new) text }

@@ -1,5 +1,5 @@
-//! A judge of witnesses whose text comes in pieces. It reads and judges in one pass, and takes all its memory before the
-//! first byte.
+//! A judge of witnesses whose text comes in pieces. It reads and judges in one pass, and allocates all its memory
+//! before the first byte.
 #![tactic(auto)]
 
 mod digits;

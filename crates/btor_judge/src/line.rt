@@ -1,4 +1,4 @@
-// A line without the CR at its end, byte by byte.
+// A line without a trailing carriage return, read byte by byte.
 ghost use Rattle.std.specs.Prelude.{◌≡◌, ℕ, List, []};
 ghost use Rattle.btor_witness.specs.Bytes.{line_parts};
 ghost use Rattle.btor_witness.specs.Shapes.{is_passed, shape_of};
@@ -7,7 +7,9 @@ ghost use Rattle.btor_judge.specs.Scanning.{line_of, line_next};
 use crate::scan::Scan;
 use btor_witness::Shape;
 
-/// What the bytes of a line are so far. A CR waits for the byte behind it, since at the line's end it is passed over.
+/// The state of reading a line.
+///
+/// A carriage return is held back until the next byte, since it is skipped at the line's end.
 #[derive(Clone, Copy)]
 pub struct Line {
     scan: Scan,
@@ -15,7 +17,7 @@ pub struct Line {
 }
 
 impl Line {
-    /// A line of which nothing has come.
+    /// Returns the state of an empty line.
     pub fn new() -> Line
         ensures { result ≡ line_of [] }
     {
@@ -25,7 +27,7 @@ impl Line {
         }
     }
 
-    /// One byte more.
+    /// Reads one more byte.
     pub fn put(&mut self, b: u8)
         ensures { self.new ≡ line_next self.old b }
     {
@@ -38,14 +40,14 @@ impl Line {
         }
     }
 
-    /// Is the line passed over?
+    /// Returns whether the line is skipped.
     pub fn is_passed(&self) -> bool
         ensures { (raw : List ℕ) → self.now ≡ line_of raw → result ≡ is_passed (line_parts raw) }
     {
         self.scan.is_passed()
     }
 
-    /// The shape of the line, where one fits.
+    /// Returns the shape of the line, or None where it has none.
     pub fn shape(&self) -> Option<Shape>
         ensures { (raw : List ℕ) → self.now ≡ line_of raw → result ≡ shape_of (line_parts raw) }
     {

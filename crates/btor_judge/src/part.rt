@@ -1,4 +1,4 @@
-// The stated words of one part of a frame.
+// The stated words in one part of a frame.
 ghost use Rattle.std.specs.Prelude.{◌≡◌, ◌<◌, ◌+◌, [], List, ℕ, false, length, get_or, IfOk};
 ghost use Rattle.btor_witness.specs.declared.witness.Stated.{Stated};
 ghost use Rattle.btor_witness.specs.Parts.{stating};
@@ -13,7 +13,7 @@ use text_core::kinds::witness;
 use text_core::{Kind, List, NoMemory};
 use word_core::Word;
 
-/// The widths of the states or of the inputs, and for each whether it is stated, and the stated word or zero.
+/// The widths of the states or of the inputs, a mark for each that is stated, and the stated words, else zeros.
 #[derive(Drop)]
 pub struct Part {
     widths: List<u32>,
@@ -33,7 +33,7 @@ impl Model for Part {
 }
 
 impl Part {
-    /// Nothing is stated yet.
+    /// Returns the part with no statement yet, for lines of these widths.
     pub fn new(alloc: Global, widths: List<u32>) -> Result<Part, NoMemory>
         requires { AreWidths widths }
         ensures widths { IfOk result (λ part. part.widths ≡ widths) }
@@ -48,21 +48,21 @@ impl Part {
         })
     }
 
-    /// How many lines may be stated.
+    /// Returns the number of lines that may be stated.
     pub fn len(&self) -> usize
         ensures { result ≡ length self.now.widths }
     {
         self.widths.len()
     }
 
-    /// For each line the stated word, or zero.
+    /// Returns for each line the stated word, or zero.
     pub fn words(&self) -> &Words
         ensures { result.now ≡ self.now.words }
     {
         &self.words
     }
 
-    /// Is a line stated?
+    /// Returns whether the line at index `place` is stated.
     pub fn is_marked(&self, place: usize) -> bool
         requires { place < length self.now.widths }
         ensures { result ≡ get_or self.now.marks place false }
@@ -70,7 +70,10 @@ impl Part {
         self.marks[place]
     }
 
-    /// States one word more.
+    /// Adds a statement: the word of the line with this index.
+    ///
+    /// Returns the kind of refusal where there is no such line, it is stated already, or the word does not have the
+    /// line's width. `None` is a word wider than any line.
     pub fn state(&mut self, index: u32, word: Option<Word>) -> Result<(), Kind>
         ensures widths { self.new.widths ≡ self.old.widths }
         ensures stated { (stated : List Stated) → Holds self.old stated → IsStating (stating self.old.widths stated index word) self.new result }
@@ -90,7 +93,7 @@ impl Part {
         Ok(())
     }
 
-    /// Nothing is stated again.
+    /// Removes all statements.
     pub fn clear(&mut self)
         ensures widths { self.new.widths ≡ self.old.widths }
         ensures none { (stated : List Stated) → Holds self.old stated → Holds self.new [] }
@@ -99,7 +102,7 @@ impl Part {
     }
 }
 
-// Takes away all marks, and puts zero in place of the marked words.
+// Removes all marks, and writes zeros in place of the marked words.
 fn clear(widths: &List<u32>, marks: &mut [bool], words: &mut Words)
     requires marked { length marks.old ≡ length widths.now }
     requires worded { length words.old ≡ length widths.now }
@@ -113,7 +116,7 @@ fn clear(widths: &List<u32>, marks: &mut [bool], words: &mut Words)
     }
 }
 
-// The same of one place.
+// The same for one line.
 fn clear_at(widths: &List<u32>, marks: &mut [bool], words: &mut Words, place: usize)
     requires inside { place < length widths.now }
     requires marked { length marks.old ≡ length widths.now }

@@ -1,4 +1,4 @@
-// Where the reading of a witness stands, and what is judged so far.
+// The progress of the reading of a witness, and the verdict so far.
 ghost use Rattle.std.specs.Prelude.{◌≡◌, ◌⊎◌, ◌+◌, ◌<◌, ◌^◌, ◌↔◌, ℕ, true, false, List, length, IfOk, IfSome, IfNone, IsTrue};
 ghost use Rattle.std.specs.List.{AllByRecursion};
 ghost use Rattle.btor_tree.specs.declared.lines.Line.{Line as TreeLine};
@@ -27,8 +27,10 @@ use text_core::kinds::witness;
 use text_core::{Clause, Kind, List, NoMemory, Verdict};
 use word_core::Word;
 
-/// How far the reading of a text is: it goes on, it is past the witness's end, the current line is refused, or the text is
-/// longer than a witness may be.
+/// The stage of the reading of a text.
+///
+/// The reading goes on, is past the witness's end, or has refused the current line, or the text is longer than a
+/// witness may be.
 #[derive(Clone, Copy)]
 pub enum Stage {
     Going,
@@ -37,8 +39,10 @@ pub enum Stage {
     TooLong,
 }
 
-/// What is read of a witness: what comes next, the bad line, the number of the frames before the last one with the verdict
-/// on them, and what the last frame states so far; and the current frame of the lines, with the places of the states.
+/// The state of reading and judging a witness.
+///
+/// It has what comes next, the bad line, the number of frames before the last one, and the verdict on them. It also
+/// has the statements of the last frame so far, the current frame of the lines, and the indices of the states.
 #[derive(Drop)]
 pub struct Reader {
     bads: u32,
@@ -53,11 +57,11 @@ pub struct Reader {
 }
 
 impl Reader {
-    /// A reader that has read nothing.
+    /// Returns a reader before the first line.
     pub fn new(alloc: Global, nodes: &Nodes) -> Result<Reader, NoMemory>
         ensures { IfOk result (λ reader. IsAt nodes.now reader begin) }
     {
-        // This call's contract says that the lines fit one another.
+        // This call's contract says that the lines are well-formed.
         let _count = nodes.len();
         let states = state_widths(alloc, nodes)?;
         let inputs = input_widths(alloc, nodes)?;
@@ -74,7 +78,7 @@ impl Reader {
         })
     }
 
-    /// Reads one line.
+    /// Reads one line, and returns the stage after it.
     pub fn take_line(&mut self, nodes: &Nodes, line: &Line) -> Stage
         requires { IsSomewhere nodes.now self.old }
         ensures { (r : Reading) (raw : List ℕ) → StandsIn nodes.now self.old r → line.now ≡ line_of raw → Does nodes.now r (next_of (sizes_of nodes.now) r (line_parts raw)) self.new result }
@@ -169,7 +173,7 @@ impl Reader {
         }
     }
 
-    // Begins a frame with this part, once the one before it is judged.
+    // Begins a frame with this part, after the frame before it is judged.
     fn new_frame(&mut self, nodes: &Nodes, part: Phase, number: u32) -> Stage
         requires somewhere { IsSomewhere nodes.now self.old }
         requires part { (part ≡ phase.States) ⊎ (part ≡ phase.Inputs) }
@@ -188,7 +192,7 @@ impl Reader {
         Stage::Going
     }
 
-    // How many frames have begun.
+    // The number of frames that have begun.
     fn frame_count(&self) -> u32
         requires { self.now.count < 2 ^ 31 }
         ensures { (r : Reading) → self.now.phase ≡ r.phase → self.now.count ≡ length r.frames → result ≡ length (frames_of r) }
@@ -200,7 +204,7 @@ impl Reader {
         }
     }
 
-    // May one frame more follow so many?
+    // Whether one more frame may follow `count` frames.
     fn may_follow(&self, count: u32) -> bool
         ensures { (lines : List TreeLine) → ReaderFits lines self.now → result ≡ is_within (sizes_of lines) (count + 1) }
     {
@@ -209,7 +213,7 @@ impl Reader {
         frames <= MOST_FRAMES && u128::from(frames) * lines <= u128::from(MOST_WORDS)
     }
 
-    // Judges the last frame, where there is one, which another one follows.
+    // Judges the last frame, if there is one, as a frame that another one follows.
     fn close_frame(&mut self, nodes: &Nodes)
         requires { IsSomewhere nodes.now self.old }
         ensures { (r : Reading) → StandsIn nodes.now self.old r → HasClosed nodes.now self.new r }
@@ -239,7 +243,7 @@ impl Reader {
         ensures fits { FramesFit nodes.now self.new.frames }
         ensures judged { JudgesHeld nodes.now last self.old self.new }
     {
-        // This call's contract says that the lines fit one another.
+        // This call's contract says that the lines are well-formed.
         let _count = nodes.len();
         match self.verdict {
             Verdict::Yes => {
@@ -272,7 +276,7 @@ impl Reader {
         None
     }
 
-    // Are the stated words of states those of the current frame?
+    // Whether the stated words of states are those of the current frame.
     fn agrees(&self, nodes: &Nodes) -> bool
         requires { (f : Frame) × HasFrame nodes.now self.now f }
         ensures { (f : Frame) → HasFrame nodes.now self.now f → IsTrue result ↔ AllByRecursion (IsWordThere (places_of is_state nodes.now) self.now.frames.row) f.states }
@@ -285,13 +289,13 @@ impl Reader {
         true
     }
 
-    // Is the word of one state that of the current frame, where it is stated?
+    // Whether the word of one state is that of the current frame, where it is stated.
     fn agrees_at(&self, nodes: &Nodes, k: usize) -> bool
         requires frame { (f : Frame) × HasFrame nodes.now self.now f }
         requires inside { k < length self.now.places }
         ensures { IsTrue result ↔ AgreesAt (places_of is_state nodes.now) self.now.frames.row self.now.states k }
     {
-        // This call's contract says that the lines fit one another.
+        // This call's contract says that the lines are well-formed.
         let _count = nodes.len();
         if !self.states.is_marked(k) {
             return true;
@@ -327,21 +331,21 @@ impl Reader {
         }
     }
 
-    /// The number of the bad line.
+    /// Returns the number of the bad line.
     pub fn bad(&self) -> u32
         ensures { result ≡ self.now.bad }
     {
         self.bad
     }
 
-    /// The last step.
+    /// Returns the number of the last step.
     pub fn count(&self) -> u32
         ensures { result ≡ self.now.count }
     {
         self.count
     }
 
-    /// The verdict.
+    /// Returns the verdict.
     pub fn verdict(&self) -> Verdict
         ensures { result ≡ self.now.verdict }
     {
@@ -349,7 +353,7 @@ impl Reader {
     }
 }
 
-// The reading goes on behind a statement, unless it is refused.
+// The stage after a statement: the reading goes on, unless the statement is refused.
 fn stage_of(stated: Result<(), Kind>) -> Stage
     ensures { IsStageOf stated result }
 {

@@ -1,4 +1,4 @@
-// The parts of a line, byte by byte.
+// The parts of a line, read byte by byte.
 ghost use Rattle.std.specs.Prelude.{◌≡◌, ℕ, List, []};
 ghost use Rattle.btor_tree.specs.Parts.{is_blank, parts, numeral};
 ghost use Rattle.btor_witness.specs.Shapes.{is_passed, shape_of, assignment_shape};
@@ -11,8 +11,10 @@ use crate::first::First;
 use btor_witness::Shape;
 use word_core::Word;
 
-/// What the bytes of a line are so far: how many parts have begun, up to four, whether the last byte is one of a part, and
-/// what the first part and the second one are.
+/// The state of reading the parts of a line.
+///
+/// It has the number of parts that have begun, up to four, and whether the last byte belongs to a part. It also has
+/// the states of the first and the second part.
 #[derive(Clone, Copy)]
 pub struct Scan {
     count: u8,
@@ -28,7 +30,7 @@ fn is_blank(b: u8) -> bool
 }
 
 impl Scan {
-    /// Of a line of which nothing has come.
+    /// Returns the state of an empty line.
     pub fn new() -> Scan
         ensures { result ≡ scan_of [] }
     {
@@ -40,7 +42,7 @@ impl Scan {
         }
     }
 
-    /// One byte more.
+    /// Reads one more byte.
     pub fn put(&mut self, b: u8)
         ensures { self.new ≡ scan_next self.old b }
     {
@@ -52,7 +54,7 @@ impl Scan {
         }
     }
 
-    // A part begins, where none has.
+    // Begins a part, where none is open.
     fn enter(&mut self)
         ensures { self.new ≡ entered self.old }
     {
@@ -62,7 +64,7 @@ impl Scan {
         self.inside = true;
     }
 
-    // One byte more of the current part.
+    // Adds one byte to the current part.
     fn keep(&mut self, b: u8)
         ensures { self.new ≡ kept self.old b }
     {
@@ -73,7 +75,7 @@ impl Scan {
         }
     }
 
-    /// Is the line passed over?
+    /// Returns whether the line is skipped.
     pub fn is_passed(&self) -> bool
         ensures { (bs : List ℕ) → self.now ≡ scan_of bs → result ≡ is_passed (parts bs) }
     {
@@ -84,7 +86,7 @@ impl Scan {
         }
     }
 
-    /// The shape of the line, where one fits.
+    /// Returns the shape of the line, or None where it has none.
     pub fn shape(&self) -> Option<Shape>
         ensures { (bs : List ℕ) → self.now ≡ scan_of bs → result ≡ shape_of (parts bs) }
     {

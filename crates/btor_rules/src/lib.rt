@@ -1,4 +1,4 @@
-//! Rules by which an operator line of BTOR2 becomes a constant or one of its arguments.
+//! Rules that replace an operator line of BTOR2 by a constant or by one of its arguments.
 #![tactic(auto)]
 
 mod laws;

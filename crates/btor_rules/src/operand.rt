@@ -1,4 +1,4 @@
-// The arguments of an operator line, and what a rule makes of the line.
+// The operands of an operator line, and the outcome of a rule.
 ghost use Rattle.std.specs.Prelude.{◌≡◌, ◌≤◌, ◌-◌, ◌^◌};
 ghost use Rattle.word_core.specs.declared.word.TheConstants.{WIDEST};
 ghost use Rattle.btor_tree.specs.Sharing.{same_arg};
@@ -7,7 +7,9 @@ ghost use Rattle.btor_rules.specs.Rules as spec;
 use btor_tree::Arg;
 use word_core::{Unary, Word, unary};
 
-/// An argument, the width of its word, and the word where it is a constant's, with the argument's sign.
+/// An argument with the width of its word.
+///
+/// `constant` has the word where the argument is a constant, with the argument's sign applied.
 #[derive(Drop)]
 pub struct Operand {
     pub arg: Arg,
@@ -15,7 +17,7 @@ pub struct Operand {
     pub constant: Option<Word>,
 }
 
-/// The arguments of a line.
+/// The operands of a line.
 #[derive(Drop)]
 pub enum Operands {
     Empty,
@@ -24,7 +26,7 @@ pub enum Operands {
     Triple(Operand, Operand, Operand),
 }
 
-/// What becomes of an operator line: it stays, it is a constant, or it is one of its arguments with a sign.
+/// The outcome of the rules for an operator line: the line stays, is a constant, or is an argument with a sign.
 #[derive(Drop)]
 pub enum Outcome {
     Stays,

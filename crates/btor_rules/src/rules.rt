@@ -196,7 +196,7 @@ fn rule(op: &LineOp, operands: &Operands) -> Outcome
     }
 }
 
-// Returns the word of an operator on one constant.
+// Returns the result of an operator on one constant.
 fn folded_single(op: &LineOp, word: Word) -> Option<Word>
     requires { spec.TakesWidth op.now word.width }
     ensures { result ≡ spec.folded_single op.now word }
@@ -210,7 +210,7 @@ fn folded_single(op: &LineOp, word: Word) -> Option<Word>
     }
 }
 
-// Returns the word of an operator on two constants.
+// Returns the result of an operator on two constants.
 fn folded_pair(o: Binary, x: &Operand, y: &Operand) -> Option<Word>
     requires { spec.OperandsFit (op.Binary o) (Pair x.now y.now) }
     ensures { result ≡ spec.both (binary_of o) x.now.constant y.now.constant }
@@ -224,7 +224,7 @@ fn folded_pair(o: Binary, x: &Operand, y: &Operand) -> Option<Word>
     }
 }
 
-// Returns the word of a choice between constants.
+// Returns the result of an if-then-else on constants.
 fn folded_triple(c: &Operand, x: &Operand, y: &Operand) -> Option<Word>
     requires { spec.OperandsFit op.Ite (Triple c.now x.now y.now) }
     ensures { result ≡ spec.all_three ite_of c.now.constant x.now.constant y.now.constant }
@@ -241,7 +241,7 @@ fn folded_triple(c: &Operand, x: &Operand, y: &Operand) -> Option<Word>
     }
 }
 
-// Returns the word of an operator whose operands are all constants.
+// Returns the result of an operator whose operands are all constants.
 fn folded(op: &LineOp, operands: &Operands) -> Option<Word>
     requires { spec.OperandsFit op.now operands.now }
     ensures { result ≡ spec.folded op.now operands.now }
@@ -263,7 +263,9 @@ fn folded(op: &LineOp, operands: &Operands) -> Option<Word>
     }
 }
 
-/// Returns what becomes of an operator line with these operands, by the first rule that fits. A line of another kind stays.
+/// Returns the outcome for an operator line with these operands, by the first rule that applies.
+///
+/// A line of another kind stays.
 pub fn outcome(op: &LineOp, operands: &Operands) -> Outcome
     requires { spec.OperandsFit op.now operands.now }
     ensures { result ≡ spec.outcome op.now operands.now }

@@ -1,4 +1,4 @@
-// What a line says, as a key of an ordered map.
+// The content of a line, as a key of an ordered map.
 ghost use Rattle.std.specs.Prelude.{◌≡◌, ◌≤◌, ℕ, length, slice_index_or, IfOk, OnErr};
 ghost use Rattle.std.specs.BTreeMap.{IsUnchanged, get};
 ghost use Rattle.btor_tree.specs.Fits.{plain_arg};
@@ -12,7 +12,7 @@ use std::collections::BTreeMap;
 use std::collections::btree_map::Entry;
 use text_core::NoMemory;
 
-/// What a line says: the number of its kind and its numbers, the place of its sort, and its arguments.
+/// The content of a line: its kind with its own numbers, the index of its sort, and its arguments.
 #[derive(Clone, Copy, PartialEq, Eq, PartialOrd, Ord)]
 pub struct Content {
     first: Arg,
@@ -25,7 +25,7 @@ pub struct Content {
     count: u8,
 }
 
-/// Returns what a line of this kind with this sort and these arguments says.
+/// Returns the content of a line of this kind, with this sort and these arguments.
 pub fn content_of(op: &LineOp, sort: u32, args: &Args) -> Content
     requires { IsShort args.now }
     ensures { result ≡ spec.content_of op.now sort args.now }
@@ -42,7 +42,7 @@ pub fn content_of(op: &LineOp, sort: u32, args: &Args) -> Content
     }
 }
 
-// Returns the argument at a place, or the first line where there is none.
+// Returns the argument at an index, or the first line where there is none.
 fn arg_at(args: &Args, i: usize) -> Arg
     ensures { result ≡ slice_index_or args.now i (plain_arg 0) }
 {
@@ -53,7 +53,7 @@ fn arg_at(args: &Args, i: usize) -> Arg
     }
 }
 
-// Returns the number of a kind of line.
+// Returns a number for each kind of line.
 fn op_kind(op: &LineOp) -> u8
     ensures { result ≡ op_kind op.now }
 {
@@ -73,7 +73,7 @@ fn op_kind(op: &LineOp) -> u8
     }
 }
 
-// Returns the first number that the line has.
+// Returns the first number of the line itself.
 fn op_number(op: &LineOp) -> u128
     ensures { result ≡ op_number op.now }
 {
@@ -89,7 +89,7 @@ fn op_number(op: &LineOp) -> u128
     }
 }
 
-// Returns the second number that the line has.
+// Returns the second number of the line itself.
 fn op_second(op: &LineOp) -> u32
     ensures { result ≡ op_second op.now }
 {
@@ -100,8 +100,10 @@ fn op_second(op: &LineOp) -> u32
     }
 }
 
-/// Returns the place that the map has for a key, or none, and then it takes this place for it. It stays as it is where it has
-/// one, or where it is refused.
+/// Returns the map's value for the key.
+///
+/// Where there is none, inserts `place` for the key and returns None. The map stays unchanged where the key has a
+/// value, and when out of memory.
 pub fn enter<K: Ord + Drop>(
     places: &mut BTreeMap<K, u32>,
     key: K,

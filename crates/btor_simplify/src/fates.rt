@@ -1,4 +1,4 @@
-// What becomes of each line: it stays, it is a constant, or an argument stands for it.
+// The fate of each line: it stays, it is a constant, or it is replaced by an argument.
 ghost use Rattle.std.specs.Prelude.{◌≡◌, ◌≤◌, ◌<◌, true, ◌++◌, ◌∷◌, [], length, Some, slice_get, map, IfOk};
 ghost use Rattle.std.specs.BTreeMap.{get};
 ghost use Rattle.btor_tree.specs.Fits.{IsWellFormed, sort_at, width_at};
@@ -25,7 +25,7 @@ fn with_sign(negated: bool, a: &Arg) -> Arg
     if negated { other_sign(a) } else { *a }
 }
 
-/// Returns what stands for an argument.
+/// Returns the replacement of an argument.
 pub fn replaced(fates: &[Outcome], a: &Arg) -> Arg
     requires { a.now.line < length fates.now }
     ensures { result ≡ spec.replaced fates.now a.now }
@@ -36,7 +36,7 @@ pub fn replaced(fates: &[Outcome], a: &Arg) -> Arg
     }
 }
 
-/// Returns the place of the sort line that stands for a sort line.
+/// Returns the index of the sort line that replaces a sort line.
 pub fn sort_for(fates: &[Outcome], sort: u32) -> u32
     requires { sort < length fates.now }
     ensures { result ≡ spec.sort_for fates.now sort }
@@ -47,7 +47,7 @@ pub fn sort_for(fates: &[Outcome], sort: u32) -> u32
     }
 }
 
-/// Returns what stands for each argument.
+/// Returns the replacement of each argument.
 pub fn replaced_args(fates: &[Outcome], args: &Args) -> Args
     requires short { IsShort args.now }
     requires there { spec.AreThere fates.now args.now }
@@ -87,7 +87,7 @@ fn constant_word(op: &LineOp, width: u32) -> Option<Word>
     }
 }
 
-// Returns the word of the line at a place where it is a constant.
+// Returns the word of the line at an index where it is a constant.
 fn constant_at(nodes: &Nodes, fates: &[Outcome], place: u32) -> Option<Word>
     requires there { place < length fates.now }
     requires short { length fates.now ≤ length nodes.now }
@@ -101,7 +101,7 @@ fn constant_at(nodes: &Nodes, fates: &[Outcome], place: u32) -> Option<Word>
     }
 }
 
-// Returns what stands for an argument, as an operand.
+// Returns the replacement of an argument, as an operand.
 fn operand_of(nodes: &Nodes, fates: &[Outcome], a: &Arg) -> Operand
     requires short { length fates.now ≤ length nodes.now }
     requires well_formed { IsWellFormed nodes.now }
@@ -147,7 +147,7 @@ fn operands_of(nodes: &Nodes, fates: &[Outcome], args: &Args) -> Operands
     }
 }
 
-/// Tests whether one line of this kind is enough for all that say the same.
+/// Returns whether lines of this kind are shared: one line is enough for all with the same content.
 pub fn is_shared(op: &LineOp) -> bool
     ensures { result ≡ is_shared op.now }
 {
@@ -163,7 +163,7 @@ pub fn is_shared(op: &LineOp) -> bool
     }
 }
 
-// Returns what a line says that stays as it is. All constants of one word say the same.
+// Returns the content of a line that stays. All constants with one word have the same content.
 fn content_as_it_is(nodes: &Nodes, fates: &[Outcome], line: &Line) -> Content
     requires { spec.CanSay nodes.now fates.now line.now }
     ensures { result ≡ spec.content_as_it_is nodes.now fates.now line.now.op line.now.sort line.now.args }
@@ -178,7 +178,7 @@ fn content_as_it_is(nodes: &Nodes, fates: &[Outcome], line: &Line) -> Content
     }
 }
 
-// Returns the width of the sort line at a place.
+// Returns the width of the sort line at an index.
 fn sort_width_at(nodes: &Nodes, sort: u32) -> u32
     requires { sort < length nodes.now }
     ensures { result ≡ sort_at nodes.now sort }
@@ -186,14 +186,14 @@ fn sort_width_at(nodes: &Nodes, sort: u32) -> u32
     sort_width(&nodes.at(sort as usize).op)
 }
 
-// Returns what the constant line of a word says.
+// Returns the content of the constant line of a word.
 fn content_of_word(word: Word, sort: u32) -> Content
     ensures { result ≡ spec.content_of_word word sort }
 {
     content_of(&LineOp::Constant(word), sort, &no_args())
 }
 
-// Returns the earlier line that says this, or else what becomes of the line by itself, and then its place is kept.
+// Returns the earlier line with this content. Where there is none, enters this line and returns its own fate.
 fn shared_or(
     contents: &mut BTreeMap<Content, u32>,
     content: Content,
@@ -209,7 +209,7 @@ fn shared_or(
     }
 }
 
-// Returns what becomes of a line that one line is enough for.
+// Returns the fate of a line of a kind that is shared.
 #[tactic(auto, using(crate::proofs::Steps::ready, crate::proofs::Steps::operands_fit, crate::proofs::Steps::can_say, crate::proofs::Steps::few, crate::proofs::Steps::short))]
 fn shared_fate(
     nodes: &Nodes,
@@ -239,7 +239,7 @@ fn shared_fate(
     }
 }
 
-// Returns what becomes of a line, given what became of the lines before it.
+// Returns the fate of a line, given the fates of the lines before it.
 fn fate_of(
     nodes: &Nodes,
     fates: &[Outcome],
@@ -259,7 +259,7 @@ fn fate_of(
     }
 }
 
-/// Returns what becomes of each line.
+/// Returns the fate of each line.
 pub fn fates_of(alloc: Global, nodes: &Nodes) -> Result<Vec<Outcome>, NoMemory>
     ensures fates { IfOk result (λ fates. spec.AreFates nodes.now fates.items) }
     ensures sized { IfOk result (λ fates. length fates.items ≡ length nodes.now) }

@@ -1,8 +1,9 @@
-// What a smaller list keeps.
+// The properties that a smaller list keeps.
 ghost use Rattle.btor_simplify.specs.Keeping.{ListsGetSmaller};
 
-/// States that each list that is made of lines is in normal form, is no longer than they are, and keeps their words, their witnesses
-/// and what the judge says of each. This function does nothing.
+/// Proves that each simplified list of lines is in normal form and no longer than the lines.
+///
+/// It keeps the words of the lines, their witnesses, and the judge's verdict on each witness.
 pub fn lists_get_smaller()
     ensures { ListsGetSmaller }
 {}

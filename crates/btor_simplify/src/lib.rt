@@ -1,5 +1,5 @@
-//! Smaller lists of BTOR2 lines: operator lines are replaced by what rules make of them, equal lines are shared, lines that nothing
-//! reads are left out, and ids and sort lines stand in one normal form.
+//! Simplifies lists of BTOR2 lines. Rules replace operator lines, equal lines are shared, unused lines are dropped,
+//! and ids and sort lines get a normal form.
 #![tactic(auto)]
 
 mod contents;

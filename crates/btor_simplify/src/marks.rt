@@ -1,4 +1,4 @@
-// Which lines stay in the list.
+// The marks of the lines that stay in the list.
 ghost use Rattle.std.specs.Prelude.{◌≡◌, ◌<◌, ◌+◌, ◌&&◌, not, length, IfOk};
 ghost use Rattle.btor_tree.specs.Sharing.{is_shared};
 ghost use Rattle.btor_simplify.specs.Marks as spec;
@@ -9,7 +9,7 @@ use btor_tree::{Args, LineOp, Nodes};
 use std::alloc::Global;
 use text_core::NoMemory;
 
-// Marks what stands for each argument.
+// Marks the replacement of each argument.
 fn mark_args(fates: &[Outcome], marks: &mut [bool], args: &Args)
     requires { spec.CanMark fates.now args.now marks.old }
     ensures { spec.MarksUpto fates.now args.now (length args.now) marks.old marks.new }
@@ -20,14 +20,14 @@ fn mark_args(fates: &[Outcome], marks: &mut [bool], args: &Args)
     }
 }
 
-// Tests whether nothing that stays reads a sort, a constant or an operator.
+// Returns whether the line is a sort, a constant or an operator that no line in the new list uses.
 fn is_left_out(op: &LineOp, marked: bool) -> bool
     ensures { result ≡ (is_shared op.now && not marked) }
 {
     is_shared(op) && !marked
 }
 
-// Marks what a line reads, where the line stays.
+// Marks the lines that a line uses, where the line stays.
 fn mark_line(nodes: &Nodes, fates: &[Outcome], marks: &mut [bool], i: usize)
     requires known { spec.AreKnown nodes.now fates.now }
     requires inside { i < length nodes.now }
@@ -45,8 +45,10 @@ fn mark_line(nodes: &Nodes, fates: &[Outcome], marks: &mut [bool], i: usize)
     }
 }
 
-/// Returns which lines stay: all but sorts, constants and operators, and those constants and operators that are read from them.
-/// Sort lines are not marked.
+/// Returns a mark for each line that stays.
+///
+/// These are all lines but sorts, constants and operators, and those constants and operators that they use,
+/// directly or indirectly. Sort lines are not marked.
 pub fn marks_of(alloc: Global, nodes: &Nodes, fates: &[Outcome]) -> Result<Vec<bool>, NoMemory>
     requires { spec.AreKnown nodes.now fates.now }
     ensures { IfOk result (λ marks. spec.AreMarks nodes.now fates.now 0 marks.items) }

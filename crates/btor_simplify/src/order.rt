@@ -1,4 +1,4 @@
-// The order of the lines that stay, with each sort line before the first line that has it.
+// The order of the lines that stay, with each sort line before the first line that uses it.
 ghost use Rattle.std.specs.Prelude.{◌≡◌, ◌<◌, ◌+◌, ◌^◌, ◌++◌, ◌∷◌, ℕ, [], true, false, length, Some, None, slice_get, slice_set, get_or, IfOk, OnOk};
 ghost use Rattle.btor_simplify.specs.Fates as fates_spec;
 ghost use Rattle.btor_simplify.specs.Marks.{AreKnown, AreMarks};
@@ -10,14 +10,14 @@ use btor_tree::{Line, LineOp, Nodes};
 use std::alloc::Global;
 use text_core::NoMemory;
 
-/// The old place of each new line, and the new place of each old line that stays.
+/// The old index of each new line, and the new index of each old line that stays.
 #[derive(Drop)]
 pub struct Order {
     pub places: Vec<u32>,
     pub moved: Vec<Option<u32>>,
 }
 
-/// Tests whether a line of this kind has a sort.
+/// Returns whether a line of this kind has a sort.
 pub fn has_sort(op: &LineOp) -> bool
     ensures { result ≡ spec.has_sort op.now }
 {
@@ -27,7 +27,7 @@ pub fn has_sort(op: &LineOp) -> bool
     }
 }
 
-/// Returns the new place of the line at an old place, where it has one.
+/// Returns the new index of the line at old index `i`, or None where it has none.
 pub fn new_place(moved: &[Option<u32>], i: u32) -> Option<u32>
     ensures { result ≡ get_or moved.now i None }
 {
@@ -37,7 +37,7 @@ pub fn new_place(moved: &[Option<u32>], i: u32) -> Option<u32>
     }
 }
 
-// Puts a line at the end.
+// Appends a line.
 fn put(order: &mut Order, i: u32) -> Result<(), NoMemory>
     requires inside { i < length order.old.moved.items }
     requires few { length order.old.places.items < 2 ^ 31 }
@@ -50,7 +50,7 @@ fn put(order: &mut Order, i: u32) -> Result<(), NoMemory>
     Ok(())
 }
 
-// Puts the sort line at a place, where it does not stand yet.
+// Appends the sort line at an index, unless it is in the order already.
 fn put_sort(
     nodes: &Nodes,
     fates: &[Outcome],
@@ -72,7 +72,7 @@ fn put_sort(
     }
 }
 
-// Puts the sort line of a line, where it has one that does not stand yet.
+// Appends the sort line of a line, unless the line has none or it is in the order already.
 fn put_sort_of(
     nodes: &Nodes,
     fates: &[Outcome],
@@ -95,7 +95,7 @@ fn put_sort_of(
     }
 }
 
-// Puts a line that is marked at the end, behind its sort line.
+// Appends a marked line, after its sort line.
 fn put_line(
     nodes: &Nodes,
     fates: &[Outcome],
@@ -117,7 +117,7 @@ fn put_line(
     put(order, i as u32)
 }
 
-// Puts a line at the end where it is marked.
+// Appends a line where it is marked.
 fn put_marked(
     nodes: &Nodes,
     fates: &[Outcome],
@@ -141,7 +141,7 @@ fn put_marked(
     }
 }
 
-/// Returns the order of the lines that are marked.
+/// Returns the order of the marked lines.
 pub fn order_of(
     alloc: Global,
     nodes: &Nodes,
@@ -161,7 +161,7 @@ pub fn order_of(
     Ok(order)
 }
 
-// Returns the order of no lines.
+// Returns the empty order.
 fn no_order(alloc: Global, nodes: &Nodes, fates: &[Outcome]) -> Result<Order, NoMemory>
     ensures order { IfOk result (λ order. spec.IsOrder nodes.now fates.now 0 order.places.items order.moved.items) }
     ensures empty { IfOk result (λ order. order.places.items ≡ []) }

@@ -1,4 +1,4 @@
-// The smaller list.
+// The simplified list.
 ghost use Rattle.std.specs.Prelude.{◌≡◌, ◌≤◌, List, length, IfOk};
 ghost use Rattle.btor_tree.specs.declared.lines.Line.{Line};
 ghost use Rattle.btor_tree.specs.Fits.{last_id};
@@ -16,35 +16,38 @@ use btor_tree::Nodes;
 use std::alloc::Global;
 use text_core::NoMemory;
 
-/// Returns a smaller list of lines with the same inputs, states, bad, constraint and output lines. Operator lines are replaced by
-/// what rules make of them, lines that say the same are one, and constants and operators that nothing reads are left out. Ids
-/// are 1, 2, 3 and so on, and a sort line stands directly before the first line that has it. Simplifying again changes nothing.
+/// Returns a simplified list of lines with the same inputs, states, bad, constraint and output lines.
+///
+/// Rules replace operator lines, lines with the same content are shared, and constants and operators that no line
+/// uses are dropped. Ids are 1, 2, 3 and so on, and a sort line stands directly before the first line that uses it.
+/// Simplifying again changes nothing.
 #[tactic(auto, using(crate::proofs::Whole::known))]
 pub fn simplify(alloc: Global, nodes: &Nodes) -> Result<Nodes, NoMemory>
     ensures fewer { IfOk result (λ new. length new ≤ length nodes.now) }
     // Ids are 1, 2, 3 and so on.
     ensures numbered { IfOk result (λ new. last_id new ≡ length new) }
-    // Inputs, states, init, next, bad, constraint and output lines are the same in number, order, width and symbol.
+    // Input, state, init, next, bad, constraint and output lines are the same in number, order, width and symbol.
     ensures lines { IfOk result (λ new. KeepsLines nodes.now new) }
-    // Each frame of the lines is one of the new lines, where inputs and states have the words that they had, and so has each
-    // argument of an init, next, bad, constraint and output line.
+    // Each frame of the lines gives a frame of the new lines with the same words for inputs, states, and the
+    // arguments of init, next, bad, constraint and output lines.
     ensures words { IfOk result (λ new. KeepsWords nodes.now new) }
-    // And each run of frames is one of the new lines, frame by frame.
+    // Each run of frames gives a run of the new lines in the same way, frame by frame.
     ensures runs { IfOk result (λ new. KeepsRuns nodes.now new) }
-    // Each text spells the same witness or gets the same refusal for both lists, and each witness has the same verdict.
+    // For both lists, each text parses to the same witness or gets the same refusal, and each witness has the same
+    // verdict.
     ensures witnesses { IfOk result (λ new. KeepsWitnesses nodes.now new) }
-    // No two sorts, constants or operators are alike, and no two constants have one width and value.
+    // No two sorts, constants or operators are equal, and no two constants have the same width and value.
     ensures distinct { IfOk result HasNoTwoSame }
-    // No rule fits any line.
+    // No rule applies to any line.
     ensures unfit { IfOk result FitsNoRule }
-    // The list is in normal form, and a list in normal form is its own smaller list.
+    // The list is in normal form, and simplifying a list in normal form changes nothing.
     ensures normal { IfOk result IsNormal }
     ensures unchanged { IsNormal nodes.now → IfOk result (λ new. new ≡ nodes.now) }
-    // It is the smaller list, and no other list is.
+    // It is the simplified list, and no other list is.
     ensures simplified { IfOk result (λ new. IsSimplified nodes.now new) }
     ensures only { IfOk result (λ new. (other : List Line) → IsSimplified nodes.now other → other ≡ new) }
 {
-    // This call's contract says that the lines fit one another.
+    // This call's contract says that the lines are well-formed.
     let _count = nodes.len();
     let fates = fates_of(alloc, nodes)?;
     let marks = marks_of(alloc, nodes, &fates)?;

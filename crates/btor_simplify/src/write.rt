@@ -1,4 +1,4 @@
-// The lines of the smaller list.
+// The lines of the simplified list.
 ghost use Rattle.std.specs.Prelude.{◌≡◌, ◌<◌, ◌+◌, ◌^◌, true, length, map, IfOk, OnOk};
 ghost use Rattle.btor_tree.specs.Fits.{IsWellFormed};
 ghost use Rattle.btor_tree.specs.LineKeys.{IsShort};
@@ -14,7 +14,7 @@ use btor_tree::{Arg, Args, Line, LineOp, Nodes, no_args, one_arg, three_args, tw
 use std::alloc::Global;
 use text_core::{Name, NoMemory};
 
-// Returns the new place of an old line that stays.
+// Returns the new index of an old line that stays.
 fn place_in(order: &Order, place: u32) -> u32
     ensures { result ≡ spec.place_in order.now.moved.items place }
 {
@@ -57,7 +57,7 @@ fn moved_args(fates: &[Outcome], order: &Order, args: &Args) -> Args
     }
 }
 
-// Returns the arguments of the new line, by what becomes of the old one.
+// Returns the arguments of the new line, by the fate of the old one.
 fn args_by(fates: &[Outcome], order: &Order, fate: &Outcome, args: &Args) -> Args
     requires short { IsShort args.now }
     requires there { AreThere fates.now args.now }
@@ -69,7 +69,7 @@ fn args_by(fates: &[Outcome], order: &Order, fate: &Outcome, args: &Args) -> Arg
     }
 }
 
-// Returns the place of the sort line of the new line.
+// Returns the index of the sort line of the new line.
 fn new_sort(fates: &[Outcome], order: &Order, op: &LineOp, sort: u32) -> u32
     requires { has_sort op.now ≡ true → sort < length fates.now }
     ensures { result ≡ spec.new_sort fates.now order.now.moved.items op.now sort }
@@ -81,7 +81,7 @@ fn new_sort(fates: &[Outcome], order: &Order, op: &LineOp, sort: u32) -> u32
     }
 }
 
-// Returns what the line does.
+// Returns a copy of the line's kind.
 fn same_op(op: &LineOp) -> LineOp
     ensures { result ≡ op.now }
 {
@@ -107,7 +107,7 @@ fn same_op(op: &LineOp) -> LineOp
     }
 }
 
-// Returns what the new line does, by what becomes of the old one.
+// Returns the kind of the new line, by the fate of the old one.
 fn op_by(fate: &Outcome, op: &LineOp) -> LineOp
     ensures { result ≡ spec.op_by fate.now op.now }
 {
@@ -137,7 +137,7 @@ fn new_symbol(alloc: Global, line: &Line) -> Result<Option<Name>, NoMemory>
     }
 }
 
-// Returns the new line at a place for the old line at a place.
+// Returns the new line at index q for the old line at index i.
 fn new_line(
     alloc: Global,
     fates: &[Outcome],
@@ -162,7 +162,7 @@ fn new_line(
     })
 }
 
-/// Returns the lines in their order.
+/// Returns the new lines, in the given order.
 pub fn lines_of(
     alloc: Global,
     nodes: &Nodes,
@@ -178,12 +178,12 @@ pub fn lines_of(
     for q in 0..order.places.len() {
         put_line(alloc, nodes, fates, order, &mut lines, q)?;
     }
-    // This call's contract says that the lines fit one another.
+    // This call's contract says that the lines are well-formed.
     let _count = lines.len();
     Ok(lines)
 }
 
-// Puts the next new line.
+// Appends the next new line.
 fn put_line(
     alloc: Global,
     nodes: &Nodes,

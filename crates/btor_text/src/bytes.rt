@@ -4,7 +4,7 @@ ghost use Rattle.btor_tree.specs.Parts.{clean, is_symbol_byte, is_symbol};
 
 use text_core::NoMemory;
 
-/// Makes the buffer hold the line without its comment and without bytes 13.
+/// Fills the buffer with the line, without its comment and without carriage returns.
 pub fn clean(buffer: &mut Vec<u8>, line: &[u8]) -> Result<(), NoMemory>
     ensures { OnOk result (buffer.new.items ≡ clean line.now) }
 {
@@ -26,7 +26,7 @@ fn is_symbol_byte(b: u8) -> bool
     !(b == 9 || b == b'\n' || b == b'\r' || b == b' ' || b == b';')
 }
 
-/// Whether these bytes may be a symbol.
+/// Returns whether the bytes are a symbol: at least one byte, and none a blank, a line end or `;`.
 pub fn is_symbol(bytes: &[u8]) -> bool
     ensures { result ≡ is_symbol bytes.now }
 {

@@ -1,4 +1,4 @@
-//! BTOR2 texts: reads the lines that a text spells, and prints lines.
+//! BTOR2 texts: parses a text to lines, and prints lines.
 #![tactic(auto)]
 
 mod bytes;

@@ -1,11 +1,11 @@
-// Earlier lines by their ids.
+// Lookups of earlier lines by their ids.
 ghost use Rattle.std.specs.Prelude.{◌≡◌};
 ghost use Rattle.btor_tree.specs.Fits.{is_constant, is_state, kind_at, sort_at, width_at};
 ghost use Rattle.btor_tree.specs.Resolving.{line_ids, place_in, sort_of_id, state_of_id, word_of_id};
 
 use btor_tree::{LineOp, Nodes, has_word, sort_width};
 
-// The place of the line of an id, found by halving the lines.
+// The index of the line with this id, by binary search.
 fn searched(nodes: &Nodes, id: u32) -> Option<u32>
     ensures { result ≡ place_in id (line_ids nodes.now) }
 {
@@ -26,7 +26,7 @@ fn searched(nodes: &Nodes, id: u32) -> Option<u32>
     None
 }
 
-// The place of the line of an id. In most texts ids count up from 1, so its line is looked for there first.
+// The index of the line with this id. In most texts ids count up from 1, so the line is looked for there first.
 fn place_of(nodes: &Nodes, id: u32) -> Option<u32>
     ensures { result ≡ place_in id (line_ids nodes.now) }
 {
@@ -40,7 +40,7 @@ fn place_of(nodes: &Nodes, id: u32) -> Option<u32>
     searched(nodes, id)
 }
 
-/// The width of the sort line at a place, or 0.
+/// Returns the width of the sort line at index `place`, or 0 for another line.
 pub fn sort_at(nodes: &Nodes, place: u32) -> u32
     ensures { result ≡ sort_at nodes.now place }
 {
@@ -51,7 +51,7 @@ pub fn sort_at(nodes: &Nodes, place: u32) -> u32
     }
 }
 
-/// The width of the word of the line at a place, or 0.
+/// Returns the width of the word of the line at index `place`, or 0 where it has none.
 pub fn width_at(nodes: &Nodes, place: u32) -> u32
     ensures { result ≡ width_at nodes.now place }
 {
@@ -78,7 +78,7 @@ fn is_state_at(nodes: &Nodes, place: u32) -> bool
     }
 }
 
-/// Whether the line at a place is a constant.
+/// Returns whether the line at index `place` is a constant.
 pub fn is_constant_at(nodes: &Nodes, place: u32) -> bool
     ensures { result ≡ kind_at is_constant nodes.now place }
 {
@@ -91,7 +91,7 @@ pub fn is_constant_at(nodes: &Nodes, place: u32) -> bool
     }
 }
 
-/// The place of the sort line of an id.
+/// Returns the index of the sort line with this id, or None where there is none.
 pub fn sort_of_id(nodes: &Nodes, id: u32) -> Option<u32>
     ensures { result ≡ sort_of_id nodes.now id }
 {
@@ -103,7 +103,7 @@ pub fn sort_of_id(nodes: &Nodes, id: u32) -> Option<u32>
     }
 }
 
-/// The place of the state line of an id.
+/// Returns the index of the state line with this id, or None where there is none.
 pub fn state_of_id(nodes: &Nodes, id: u32) -> Option<u32>
     ensures { result ≡ state_of_id nodes.now id }
 {
@@ -115,7 +115,7 @@ pub fn state_of_id(nodes: &Nodes, id: u32) -> Option<u32>
     }
 }
 
-/// The place of the line of an id that has a word.
+/// Returns the index of the line with this id that has a word, or None where there is none.
 pub fn word_of_id(nodes: &Nodes, id: u32) -> Option<u32>
     ensures { result ≡ word_of_id nodes.now id }
 {

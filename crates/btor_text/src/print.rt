@@ -1,4 +1,4 @@
-// The printed form of lines, and what it spells.
+// The printed form of lines.
 
 ghost use Rattle.std.specs.Prelude.{◌≡◌, ◌≤◌, ◌++◌, [], ◌∷◌, ◌+◌, map, drop, length, decimal, OnOk, IfOk};
 ghost use Rattle.btor_tree.specs.Shapes.{unary_text, binary_text, symbol_parts};
@@ -10,10 +10,11 @@ use std::alloc::Global;
 use text_core::{Name, NoMemory, Text};
 use word_core::{Binary, Unary};
 
-// Room for four numbers of ten digits, of which two may have a sign, a word, the blanks between them, and a line end.
+// Room for four numbers of ten digits, of which two may have a sign, an operator's name, the blanks between them,
+// and a line feed.
 const ROOM: usize = 64;
 
-// The bytes behind a single blank.
+// Appends the bytes after a single blank.
 fn put_part(out: &mut Text, part: &[u8]) -> Result<(), NoMemory>
     ensures { OnOk result (out.new ≡ out.old ++ spaced (part.now ∷ [])) }
 {
@@ -22,7 +23,7 @@ fn put_part(out: &mut Text, part: &[u8]) -> Result<(), NoMemory>
     Ok(())
 }
 
-// Puts the digits of a number before the bytes that stand from `end` on, and says where they start.
+// Writes the digits of a number before position `end`, and returns their start.
 fn digits_before(bytes: &mut [u8; ROOM], end: usize, n: u32) -> usize
     requires room { 12 ≤ end }
     requires within { end ≤ ROOM }
@@ -42,7 +43,7 @@ fn digits_before(bytes: &mut [u8; ROOM], end: usize, n: u32) -> usize
     start
 }
 
-// Puts a byte before those that stand from `end` on.
+// Writes a byte before position `end`, and returns its position.
 #[tactic(auto, using(crate::proofs::Digits::before))]
 fn byte_before(bytes: &mut [u8; ROOM], end: usize, byte: u8) -> usize
     requires room { 1 ≤ end }
@@ -54,7 +55,7 @@ fn byte_before(bytes: &mut [u8; ROOM], end: usize, byte: u8) -> usize
     end - 1
 }
 
-// Puts a word before the bytes that stand from `end` on.
+// Writes a word before position `end`, and returns its start.
 fn word_before(bytes: &mut [u8; ROOM], end: usize, word: &[u8]) -> usize
     requires room { length word.now ≤ end }
     requires within { end ≤ ROOM }
@@ -66,7 +67,7 @@ fn word_before(bytes: &mut [u8; ROOM], end: usize, word: &[u8]) -> usize
     start
 }
 
-// Puts an operand behind a blank before the bytes that stand from `end` on.
+// Writes a blank and an operand before position `end`, and returns their start.
 fn operand_before(bytes: &mut [u8; ROOM], end: usize, nodes: &Nodes, arg: Arg) -> usize
     requires room { 12 ≤ end }
     requires within { end ≤ ROOM }
@@ -89,7 +90,7 @@ fn put_id(out: &mut Text, id: u32) -> Result<(), NoMemory>
     out.put(&bytes[start..])
 }
 
-// The digits behind a single blank.
+// Appends the digits after a single blank.
 fn put_count(out: &mut Text, n: u32) -> Result<(), NoMemory>
     ensures { OnOk result (out.new ≡ out.old ++ spaced (decimal n ∷ [])) }
 {
@@ -109,7 +110,7 @@ fn id_at(nodes: &Nodes, place: u32) -> u32
     }
 }
 
-// The word of an operator on one word, behind a blank.
+// The name of an operator on one word, after a blank.
 fn unary_text(op: Unary) -> &'static [u8]
     ensures text { result.now ≡ 32 ∷ unary_text op }
     ensures short { length result.now ≤ 11 }
@@ -125,7 +126,7 @@ fn unary_text(op: Unary) -> &'static [u8]
     }
 }
 
-// The word of an operator on two words, behind a blank.
+// The name of an operator on two words, after a blank.
 fn binary_text(op: Binary) -> &'static [u8]
     ensures text { result.now ≡ 32 ∷ binary_text op }
     ensures short { length result.now ≤ 11 }
@@ -164,7 +165,7 @@ fn binary_text(op: Binary) -> &'static [u8]
     }
 }
 
-// The word of a line, behind a blank.
+// The name of a line's kind, after a blank.
 fn op_text(op: &LineOp) -> &'static [u8]
     ensures text { result.now ≡ 32 ∷ op_text op.now }
     ensures short { length result.now ≤ 11 }
@@ -219,7 +220,7 @@ fn put_arg(out: &mut Text, nodes: &Nodes, arg: Arg) -> Result<(), NoMemory>
     out.put(&bytes[start..])
 }
 
-// Puts a line that ends behind its two operands.
+// Appends a line that ends after its two operands.
 fn put_pair(out: &mut Text, nodes: &Nodes, line: &Line, a: Arg, b: Arg) -> Result<(), NoMemory>
     ensures { OnOk result (out.new ≡ out.old ++ (decimal line.now.id ++ (32 ∷ op_text line.now.op ++ (32 ∷ decimal (id_at nodes.now line.now.sort) ++ (32 ∷ operand_text nodes.now a ++ (32 ∷ operand_text nodes.now b ++ 10 ∷ [])))))) }
 {
@@ -272,7 +273,7 @@ fn put_tail(out: &mut Text, line: &Line) -> Result<(), NoMemory>
     put_symbol(out, &line.symbol)
 }
 
-// The rest of a line behind its word.
+// Appends the rest of a line after its name.
 fn put_rest(out: &mut Text, nodes: &Nodes, line: &Line) -> Result<(), NoMemory>
     ensures { OnOk result (out.new ≡ out.old ++ (spaced (sort_parts nodes.now line.now.op line.now.sort ++ (map (operand_text nodes.now) line.now.args ++ (number_parts line.now.op ++ symbol_parts line.now.symbol))) ++ 10 ∷ [])) }
 {
@@ -291,7 +292,7 @@ fn put_any(out: &mut Text, nodes: &Nodes, line: &Line) -> Result<(), NoMemory>
     put_rest(out, nodes, line)
 }
 
-// Most lines have two operands and end behind them.
+// Appends a line. Most lines end after two operands.
 fn put_line(out: &mut Text, nodes: &Nodes, line: &Line) -> Result<(), NoMemory>
     ensures { OnOk result (out.new ≡ out.old ++ line_text nodes.now line.now) }
 {
@@ -303,9 +304,10 @@ fn put_line(out: &mut Text, nodes: &Nodes, line: &Line) -> Result<(), NoMemory>
     }
 }
 
-/// The lines as a text: each as `id word arguments [symbol]`, with single blanks and a line end. No line has a comment, and
-/// constants are printed as `const` with a binary digit for each bit. What is printed spells the lines, so it reads back to
-/// them.
+/// Prints the lines as a text, each as `id word arguments [symbol]`, with single blanks and a line feed.
+///
+/// No line has a comment, and constants are printed as `const` with a binary digit for each bit. The text parses to
+/// the lines.
 pub fn print_btor(alloc: Global, nodes: &Nodes) -> Result<Text, NoMemory>
     ensures printed { IfOk result (λ text. text ≡ printed nodes.now) }
     ensures spells { IfOk result (λ text. SpellsLines text nodes.now) }

@@ -8,7 +8,7 @@ use std::alloc::Global;
 use std::marker::Model;
 use text_core::NoMemory;
 
-/// Whether a line is a state that has an init, and one that has a next.
+/// Whether a line is a state with an init, and whether it is a state with a next.
 #[derive(Clone, Copy, PartialEq, Eq)]
 pub struct Mark {
     pub init: bool,
@@ -37,7 +37,7 @@ impl Model for Progress {
 }
 
 impl Progress {
-    /// No lines.
+    /// Returns the progress before the first line.
     pub fn new(alloc: Global) -> Progress
         ensures { result ≡ [] }
     {
@@ -48,7 +48,7 @@ impl Progress {
         }
     }
 
-    /// One more line.
+    /// Appends a line.
     pub fn add(self, line: Line) -> Result<Progress, NoMemory>
         requires { Fits self line }
         ensures { IfOk result (λ p. p ≡ self ++ line ∷ []) }
@@ -69,6 +69,7 @@ impl Progress {
         Ok(Progress { nodes, last, marks })
     }
 
+    /// Returns the lines read so far.
     pub fn nodes(&self) -> &Nodes
         ensures lines { result.now ≡ self.now }
         ensures well_formed { IsWellFormed self.now }
@@ -76,28 +77,28 @@ impl Progress {
         &self.nodes
     }
 
-    /// The last id, or 0.
+    /// Returns the last id, or 0 where there is no line.
     pub fn last_id(&self) -> u32
         ensures { result ≡ last_id self.now }
     {
         self.last
     }
 
-    /// Whether a line gives the state its first value.
+    /// Returns whether a line gives the state its first value.
     pub fn has_init(&self, state: u32) -> bool
         ensures { result ≡ not (is_none (state_value is_init self.now state)) }
     {
         mark_at(&self.marks, state).init
     }
 
-    /// Whether a line gives the state its next value.
+    /// Returns whether a line gives the state its next value.
     pub fn has_next(&self, state: u32) -> bool
         ensures { result ≡ not (is_none (state_value is_next self.now state)) }
     {
         mark_at(&self.marks, state).next
     }
 
-    /// All lines.
+    /// Returns all lines.
     pub fn done(self) -> Nodes
         ensures { result ≡ self }
     {
@@ -117,7 +118,7 @@ fn mark_at(marks: &[Mark], line: u32) -> Mark
     }
 }
 
-// Enters what a line says of a state.
+// Marks the state that an init or next line gives a value.
 fn note(marks: &mut Vec<Mark>, op: &LineOp, args: &Args)
     ensures { marks.new.items ≡ noted op.now args.now marks.old.items }
 {

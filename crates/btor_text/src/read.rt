@@ -18,11 +18,12 @@ use std::alloc::Global;
 use text_core::kinds::btor;
 use text_core::{End, Kind, Name, NoMemory, Place, Refusal};
 
-/// Why a text has no lines: the first line that can't follow the lines before it, or want of memory. The place of a
-/// refusal is the beginning of that line.
+/// The reason why a text parses to no lines: a refusal of the first line that does not fit, or out of memory.
+///
+/// The place of a refusal is the start of that line.
 pub type BtorEnd = End;
 
-/// Why a line isn't taken.
+/// The reason why a line is not accepted.
 #[derive(Drop)]
 pub enum LineEnd {
     Bad(Fault),
@@ -52,7 +53,7 @@ fn symbol_of(alloc: Global, symbol: Option<&[u8]>) -> Result<Option<Name>, NoMem
     }
 }
 
-// The line of a shape, with what was found for it.
+// The line of a shape, with the resolved sort and arguments.
 fn built(alloc: Global, shape: &Shape<'_>, body: Body) -> Result<Line, NoMemory>
     ensures { IfOk result (λ line. line ≡ rules.filled (seen_shape shape.now) body.op body.sort body.args) }
 {
@@ -67,7 +68,7 @@ fn built(alloc: Global, shape: &Shape<'_>, body: Body) -> Result<Line, NoMemory>
     })
 }
 
-// What a shape is behind the lines so far.
+// The line of a shape after the lines so far.
 fn shaped_line(alloc: Global, progress: &Progress, shape: &Shape<'_>) -> Result<Line, LineEnd>
     ensures { IsResolved result (rules.resolve progress.now (seen_shape shape.now)) }
 {
@@ -80,7 +81,7 @@ fn shaped_line(alloc: Global, progress: &Progress, shape: &Shape<'_>) -> Result<
     }
 }
 
-// What the parts of a line are behind the lines so far.
+// The line that the parts of a text line give after the lines so far. None for a blank line.
 fn next_line(alloc: Global, progress: &Progress, line: &[u8]) -> Result<Option<Line>, LineEnd>
     ensures next { Answers result (next_of progress.now (parts line.now)) }
     ensures fits { IfOk result (λ o. IfSome o (λ l. Fits progress.now l)) }
@@ -95,7 +96,7 @@ fn next_line(alloc: Global, progress: &Progress, line: &[u8]) -> Result<Option<L
     Ok(Some(line))
 }
 
-// Takes one line of a text, with a buffer that is free for it.
+// Reads one line of a text, with a reusable buffer.
 fn take_line(
     alloc: Global,
     progress: Progress,
@@ -130,7 +131,7 @@ fn kind_of(fault: Fault) -> Kind
     }
 }
 
-// The refusal of the line with this number that begins at the offset.
+// The refusal of the line with this number, which begins at the offset.
 fn refusal(fault: Fault, line: u32, offset: u32) -> Refusal
     ensures { result ≡ record { kind = kind_of (seen_fault fault); place = record { line = line; column = 1; offset = offset } } }
 {
@@ -144,7 +145,7 @@ fn refusal(fault: Fault, line: u32, offset: u32) -> Refusal
     }
 }
 
-// The lines of a text, or the first that can't follow.
+// The lines of a text, or the refusal of the first line that does not fit.
 fn nodes_of(alloc: Global, text: &[u8]) -> Result<Nodes, BtorEnd>
     requires { length text.now ≤ 2 ^ 31 }
     ensures spelled { IfOk result (λ nodes. SpellsLines text.now nodes) }
@@ -172,16 +173,19 @@ fn nodes_of(alloc: Global, text: &[u8]) -> Result<Nodes, BtorEnd>
     }
 }
 
-/// The lines that a BTOR2 text spells, or its first refusal, at the place of the line that can't follow the lines before it.
+/// Parses a BTOR2 text to its lines.
+///
+/// The error is the first refusal, at the start of the line that does not fit the lines before it, or out of
+/// memory.
 pub fn read_btor(alloc: Global, text: &[u8]) -> Result<Nodes, BtorEnd>
     requires { length text.now ≤ 2 ^ 31 }
-    // The text spells the lines.
+    // The text parses to the lines.
     ensures spelled { IfOk result (λ nodes. SpellsLines text.now nodes) }
-    // What it spells is read, unless memory runs out.
+    // The lines that the text parses to are returned, unless out of memory.
     ensures exact { (lines : List node.Line) → SpellsLines text.now lines → Gives lines result }
-    // The text is refused at the place of this line.
+    // The text is refused at the start of this line.
     ensures refused { IfErr result (IsRefused text.now) }
-    // As it is refused, so it is answered, unless memory runs out.
+    // A refusal of the text is returned, unless out of memory.
     ensures stops { (fault : rules.Fault) (at : ℕ) → RefusesText text.now fault at → Stops text.now fault at result }
 {
     nodes_of(alloc, text)

@@ -6,12 +6,12 @@ ghost use Rattle.btor_tree.specs.declared.lines.Line.{Line};
 ghost use Rattle.btor_tree.specs.Texts.{SpellsLines};
 ghost use Rattle.btor_text.specs.Answer.{IsRefused};
 
-/// A text has one refusal at most, of one kind at one place.
+/// Proves that a text has at most one refusal, of one kind at one place.
 pub fn one_refusal()
     ensures { (text : List ℕ) (r s : Refusal) → IsRefused text (Bad r) → IsRefused text (Bad s) → r ≡ s }
 {}
 
-/// No text that spells lines is refused.
+/// Proves that no text that parses to lines is refused.
 pub fn not_both()
     ensures { (text : List ℕ) (lines : List Line) (r : Refusal) → SpellsLines text lines → IsRefused text (Bad r) → ⊥ }
 {}

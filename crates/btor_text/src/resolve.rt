@@ -1,4 +1,4 @@
-// What a line is behind the lines before it.
+// Resolves the ids of a line against the lines before it.
 ghost use Rattle.std.specs.Prelude.{◌≡◌};
 ghost use Rattle.word_core.specs.Table as table;
 ghost use Rattle.btor_tree.specs.Shapes as shapes;
@@ -12,7 +12,7 @@ use crate::word::{Base, Binding, Extension, Nullary, Property, literal_word};
 use btor_tree::{Arg, Args, LineOp, Nodes, no_args, one_arg, plain_arg, three_args, two_args};
 use word_core::{Binary, Unary, WIDEST, gives_one_bit, unary_width};
 
-/// Why a line can't follow the lines before it.
+/// The reason why a line does not fit the lines before it.
 #[derive(Clone, Copy, PartialEq, Eq)]
 pub enum Fault {
     NoShape,
@@ -25,7 +25,7 @@ pub enum Fault {
     InitLate,
 }
 
-/// What a line does, with places for its sort and its arguments.
+/// A resolved line: its kind, and indices for its sort and its arguments.
 #[derive(Drop)]
 pub struct Body {
     pub op: LineOp,
@@ -124,7 +124,7 @@ fn resolve_constant(nodes: &Nodes, kind: Base, sort: u32, digits: &[u8]) -> Resu
     })
 }
 
-// Whether no line gives the state a value of this kind so far.
+// Whether no line has given the state a value of this kind yet.
 fn is_first(progress: &Progress, kind: Binding, state: u32) -> bool
     ensures { result ≡ rules.is_first (seen_binding kind) progress.now state }
 {
@@ -234,7 +234,7 @@ fn binary_fits(op: Binary, left: u32, right: u32) -> bool
     }
 }
 
-// No contract here bounds the widths, so their sum is one of u64.
+// The width of the result. No contract here bounds the widths, so the sum is a u64.
 fn binary_width(op: Binary, left: u32, right: u32) -> u64
     ensures { result ≡ table.binary_width op left right }
 {
@@ -394,7 +394,9 @@ fn resolve_content(progress: &Progress, content: &Content<'_>) -> Result<Body, F
     }
 }
 
-/// What a shape is behind the lines so far.
+/// Resolves the ids of a line against the lines so far.
+///
+/// Returns the fault where the line does not fit them.
 pub fn resolve(progress: &Progress, shape: &Shape<'_>) -> Result<Body, Fault>
     ensures { line_of (seen_shape shape.now) result ≡ rules.resolve progress.now (seen_shape shape.now) }
 {

@@ -1,4 +1,4 @@
-// What one line says by itself.
+// The shape of one line by itself.
 ghost use Rattle.std.specs.Prelude.{◌≡◌, option_map};
 ghost use Rattle.btor_tree.specs.Parts.{parts};
 ghost use Rattle.btor_tree.specs.Shapes.{operand_of};
@@ -12,14 +12,14 @@ use crate::word::{
 use btor_tree::{GREATEST_ID, first_part, numeral};
 use word_core::{Binary, Unary};
 
-/// A line by its id, or the bitwise not of its word.
+/// An operand: a line by its id, or the bitwise not of its word.
 #[derive(Clone, Copy, PartialEq, Eq)]
 pub struct Operand {
     pub id: u32,
     pub negated: bool,
 }
 
-/// What a line says behind its id, with ids for its sort and its operands.
+/// The content of a line after its id, with ids for its sort and its operands.
 #[derive(Clone, Copy)]
 pub enum Content<'a> {
     Sort(u32),
@@ -35,7 +35,7 @@ pub enum Content<'a> {
     Unsupported,
 }
 
-/// A line with ids.
+/// The shape of a line, with ids in place of indices.
 #[derive(Clone, Copy)]
 pub struct Shape<'a> {
     pub id: u32,
@@ -43,7 +43,7 @@ pub struct Shape<'a> {
     pub symbol: Option<&'a [u8]>,
 }
 
-/// An id, behind `-` where the word is negated.
+/// Parses an id, after `-` where the word is negated.
 fn operand_of(part: &[u8]) -> Option<Operand>
     ensures { option_map seen_operand result ≡ operand_of part.now }
 {
@@ -191,7 +191,7 @@ fn content_at<'a>(word: LineWord, rest: &'a [u8]) -> Option<(Content<'a>, &'a [u
     }
 }
 
-// What a line says whose word isn't among those that are read.
+// The content of a line whose name is none that is read.
 fn unknown_content<'a>(text: &[u8]) -> Option<(Content<'a>, &'a [u8])>
     ensures { option_map seen_read result ≡ unknown_content text.now }
 {
@@ -202,7 +202,7 @@ fn unknown_content<'a>(text: &[u8]) -> Option<(Content<'a>, &'a [u8])>
     }
 }
 
-/// What stands behind the id, and the bytes that are left.
+/// Returns the content after the id, and the bytes after it.
 fn content_of<'a>(rest: &'a [u8]) -> Option<(Content<'a>, &'a [u8])>
     ensures { option_map seen_read result ≡ content_of (parts rest.now) }
 {
@@ -213,7 +213,7 @@ fn content_of<'a>(rest: &'a [u8]) -> Option<(Content<'a>, &'a [u8])>
     }
 }
 
-// With the symbol, if there is one, and nothing behind it.
+// The shape with its symbol, if there is one, and nothing after it.
 fn shaped<'a>(id: u32, content: Content<'a>, tail: &'a [u8]) -> Option<Shape<'a>>
     ensures { option_map seen_shape result ≡ shaped id (seen_content content.entry, parts tail.now) }
 {
@@ -236,7 +236,7 @@ fn shaped<'a>(id: u32, content: Content<'a>, tail: &'a [u8]) -> Option<Shape<'a>
     }
 }
 
-/// The shape that the parts of a line spell.
+/// Parses one line to its shape, or returns None where the line has none.
 pub fn shape_of<'a>(line: &'a [u8]) -> Option<Shape<'a>>
     ensures { option_map seen_shape result ≡ shape_of (parts line.now) }
 {

@@ -1,4 +1,4 @@
-// The words of lines, and the digits of constants.
+// The names of lines' kinds, and the digits of constants.
 ghost use Rattle.std.specs.Prelude.{◌≡◌, ◌==◌, map, option_map};
 ghost use Rattle.std.specs.List.{filter, list_any};
 ghost use Rattle.std.specs.Str.{bytes_eq};
@@ -12,7 +12,7 @@ ghost use Rattle.btor_text.specs.Seen.{entry, first_of, look_up, rows, seen_base
 use text_core::is_same;
 use word_core::{Binary, Unary, Word, read_digits, unary};
 
-/// A line that has a sort and no arguments.
+/// A kind of line that has a sort and no arguments.
 #[derive(Clone, Copy, PartialEq, Eq)]
 pub enum Nullary {
     Input,
@@ -22,7 +22,7 @@ pub enum Nullary {
     Ones,
 }
 
-/// A constant by the base of its digits.
+/// A kind of constant, by the base of its digits.
 #[derive(Clone, Copy, PartialEq, Eq)]
 pub enum Base {
     Binary,
@@ -30,14 +30,14 @@ pub enum Base {
     Hex,
 }
 
-/// A line that gives a state its value.
+/// A kind of line that gives a state its value.
 #[derive(Clone, Copy, PartialEq, Eq)]
 pub enum Binding {
     Init,
     Next,
 }
 
-/// A line that has one operand and no sort.
+/// A kind of line that has one operand and no sort.
 #[derive(Clone, Copy, PartialEq, Eq)]
 pub enum Property {
     Bad,
@@ -45,14 +45,14 @@ pub enum Property {
     Output,
 }
 
-/// A line that has one operand and a number of new bits.
+/// A kind of line that has one operand and a number of added bits.
 #[derive(Clone, Copy, PartialEq, Eq)]
 pub enum Extension {
     Uext,
     Sext,
 }
 
-/// The word of a line, its second part.
+/// The second part of a line, which names the line's kind.
 #[derive(Clone, Copy, PartialEq, Eq)]
 pub enum LineWord {
     Sort,
@@ -67,7 +67,7 @@ pub enum LineWord {
     Extension(Extension),
 }
 
-// A word of lines and how it is written.
+// A kind of line and its name.
 type Row = (&'static [u8], LineWord);
 
 const WORDS_A: [Row; 2] = [
@@ -157,13 +157,13 @@ const WORDS_X: [Row; 2] = [
 
 const WORDS_Z: [Row; 1] = [(b"zero", LineWord::Nullary(Nullary::Zero))];
 
-// The words that are left out.
+// The names that are not supported.
 const UNSUPPORTED: [&[u8]; 13] = [
     b"fair", b"justice", b"rol", b"ror", b"read", b"write", b"saddo", b"uaddo", b"smulo", b"umulo",
     b"ssubo", b"usubo", b"sdivo",
 ];
 
-// The words of lines that begin with this byte.
+// The names that begin with this byte.
 fn words_from(first: u8) -> &'static [Row]
     ensures { map entry result.now ≡ filter (λ w. first == first_of w.0) rows }
 {
@@ -207,7 +207,9 @@ fn first_of(text: &[u8]) -> u8
     }
 }
 
-/// The word that is written so. It is compared with those that begin as it does alone.
+/// Returns the kind with this name, or None for another word.
+///
+/// The word is compared only with the names that begin with the same byte.
 pub fn word_of(text: &[u8]) -> Option<LineWord>
     ensures { option_map seen_word result ≡ word_of text.now }
 {
@@ -225,7 +227,7 @@ fn is_among(text: &[u8], table: &[&[u8]]) -> bool
     false
 }
 
-/// Whether the word is left out.
+/// Returns whether the word is the name of an unsupported kind of line.
 pub fn is_unsupported(text: &[u8]) -> bool
     ensures { result ≡ is_unsupported text.now }
 {
@@ -275,7 +277,7 @@ fn is_negative(text: &[u8]) -> bool
     }
 }
 
-/// Whether these are digits of a constant of this kind.
+/// Returns whether these are digits of a constant of this kind.
 #[tactic(auto, using(btor_tree::proofs::Literals::digits_tested))]
 pub fn is_literal(kind: Base, text: &[u8]) -> bool
     ensures { result ≡ is_literal (seen_base kind) text.now }
@@ -297,7 +299,7 @@ fn minus_word(word: Word) -> Option<Word>
     }
 }
 
-/// The word of this width that the digits of a constant spell.
+/// Returns the word of this width that the digits of a constant spell, or None where they do not fit it.
 pub fn literal_word(kind: Base, width: u32, text: &[u8]) -> Option<Word>
     ensures { result ≡ literal_word (seen_base kind) width text.now }
 {

@@ -4,14 +4,16 @@ ghost use Rattle.btor_tree.specs.Sharing.{same_arg, same_args};
 
 use std::marker::Model;
 
-/// An earlier line by its place, counted from 0, or the bitwise not of its word.
+/// An argument of a line: the index of an earlier line, counted from 0, or the bitwise not of its word.
 #[derive(Clone, Copy, PartialEq, Eq, PartialOrd, Ord)]
 pub struct Arg {
     pub line: u32,
     pub negated: bool,
 }
 
-/// The arguments of a line, three at most, seen as their list. They lie in the line itself, since there are so many lines.
+/// The arguments of a line, three at most, which contracts see as a list.
+///
+/// They are stored in the line itself, since there are so many lines.
 #[derive(Drop)]
 pub struct Args {
     count: u8,
@@ -32,7 +34,7 @@ impl Model for Args {
     ghost invariant = { λ a. a.count ≤ 3 };
 }
 
-/// The word of the line at a place, as it is.
+/// Returns the argument that is the word of line `line`, not negated.
 pub fn plain_arg(line: u32) -> Arg
     ensures { result ≡ record { line = line; negated = false } }
 {
@@ -48,7 +50,7 @@ fn is_same_arg(a: &Arg, b: &Arg) -> bool
     a.line == b.line && a.negated == b.negated
 }
 
-/// No argument.
+/// Returns the empty list of arguments.
 pub fn no_args() -> Args
     ensures { result ≡ [] }
 {
@@ -61,7 +63,7 @@ pub fn no_args() -> Args
     }
 }
 
-/// One argument.
+/// Returns the list with one argument.
 pub fn one_arg(a: Arg) -> Args
     ensures { result ≡ a ∷ [] }
 {
@@ -74,7 +76,7 @@ pub fn one_arg(a: Arg) -> Args
     }
 }
 
-/// Two arguments.
+/// Returns the list with two arguments.
 pub fn two_args(a: Arg, b: Arg) -> Args
     ensures { result ≡ a ∷ b ∷ [] }
 {
@@ -86,7 +88,7 @@ pub fn two_args(a: Arg, b: Arg) -> Args
     }
 }
 
-/// Three arguments.
+/// Returns the list with three arguments.
 pub fn three_args(a: Arg, b: Arg, c: Arg) -> Args
     ensures { result ≡ a ∷ b ∷ c ∷ [] }
 {
@@ -100,13 +102,14 @@ pub fn three_args(a: Arg, b: Arg, c: Arg) -> Args
 
 impl Args {
     #[tactic(auto, using(crate::proofs::Slots::as_many))]
+    /// Returns the number of arguments.
     pub fn len(&self) -> usize
         ensures { result ≡ length self.now }
     {
         self.count as usize
     }
 
-    /// The argument at a place, counted from 0.
+    /// Returns the argument at index `i`, counted from 0.
     #[tactic(auto, using(crate::proofs::Slots::first_at, crate::proofs::Slots::second_at, crate::proofs::Slots::third_at))]
     pub fn at(&self, i: usize) -> &Arg
         requires { i < length self.now }
@@ -121,7 +124,7 @@ impl Args {
         }
     }
 
-    /// Are these the same arguments?
+    /// Returns whether these are the same arguments.
     #[tactic(auto, using(crate::proofs::Slots::not_as_many))]
     pub(crate) fn is_same(&self, other: &Args) -> bool
         ensures { result ≡ same_args self.now other.now }
@@ -143,7 +146,7 @@ impl Args {
         }
     }
 
-    /// The same arguments once more.
+    /// Returns a copy of the arguments.
     pub fn duplicate(&self) -> Args
         ensures { result ≡ self.now }
     {
@@ -155,7 +158,7 @@ impl Args {
         }
     }
 
-    /// Both arguments, where there are two.
+    /// Returns both arguments, or None where there are not exactly two.
     #[tactic(auto, using(crate::proofs::Slots::two_there, crate::proofs::Slots::not_two))]
     pub fn pair(&self) -> Option<(Arg, Arg)>
         ensures there { IfSome result (λ both. self.now ≡ both.0 ∷ both.1 ∷ []) }

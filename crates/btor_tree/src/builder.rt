@@ -1,4 +1,4 @@
-// A list of lines that numbers them 1, 2, 3 and so on, with one line for all that say the same.
+// A builder of a list of lines, which numbers them 1, 2, 3 and so on, and shares lines with the same content.
 ghost use Rattle.std.specs.Prelude.{◌≡◌, ◌<◌, ◌≤◌, [], ◌^◌, length, Some, IfOk, OnErr};
 ghost use Rattle.btor_tree.specs.Fits.{Suits, IsWellFormed, last_id, sort_at, sort_of, width_at};
 ghost use Rattle.btor_tree.specs.LineKeys.{HasPlaces, IsShort};
@@ -16,11 +16,13 @@ use std::marker::Model;
 use text_core::{Name, NoMemory};
 use word_core::WIDEST;
 
-// How many widths there are.
+// The number of widths.
 const WIDTHS: usize = WIDEST as usize;
 
-/// Lines with the ids 1, 2, 3 and so on, seen as the list of those made so far. No two sorts, constants or operators in it
-/// say the same: a line says its word with its numbers, its sort and its arguments, whatever its symbol is.
+/// A builder of lines with the ids 1, 2, 3 and so on, which contracts see as the list of lines so far.
+///
+/// No two sorts, constants or operators in it have the same content. The content of a line is its operator with its
+/// numbers, its sort and its arguments, whatever its symbol.
 #[derive(Drop)]
 pub struct Builder {
     lines: Vec<Line>,
@@ -44,7 +46,9 @@ impl Model for Builder {
 }
 
 impl Builder {
-    /// No lines. It takes no memory.
+    /// Returns the empty builder.
+    ///
+    /// It allocates nothing.
     pub fn new(alloc: Global) -> Builder
         ensures { result ≡ [] }
     {
@@ -55,7 +59,9 @@ impl Builder {
         }
     }
 
-    /// Makes room for so many more lines, which are then put with no more memory for the list. The lines stay as they are.
+    /// Makes room for `count` more lines, so that the list doesn't grow when they are pushed.
+    ///
+    /// The lines stay unchanged.
     pub fn reserve(&mut self, count: usize) -> Result<(), NoMemory>
         ensures { self.new ≡ self.old }
     {
@@ -63,8 +69,11 @@ impl Builder {
         make_room(&mut self.places, count)
     }
 
-    /// The place of the sort, constant or operator line that says this already, or else of a new line at the end, whose id is
-    /// one more than the number of lines so far. The lines stay as they are where it is refused.
+    /// Returns the index of the sort, constant or operator line with this content, or else of a new line at the
+    /// end.
+    ///
+    /// The id of a new line is one more than the number of lines so far. The lines stay unchanged when out of
+    /// memory.
     pub fn push(
         &mut self,
         op: LineOp,
@@ -91,8 +100,9 @@ impl Builder {
         put_line(&mut self.lines, &mut self.places, line)
     }
 
-    /// The place of the sort line of this width, which is made at the first need. The lines stay as they are where it is
-    /// refused.
+    /// Returns the index of the sort line of this width, which is added where there is none.
+    ///
+    /// The lines stay unchanged when out of memory.
     pub fn sort(&mut self, width: u32) -> Result<u32, NoMemory>
         requires room { length self.old < GREATEST_ID }
         requires least { 1 ≤ width }
@@ -104,7 +114,7 @@ impl Builder {
         ensures numbered { last_id self.new ≡ length self.new }
         ensures distinct { HasNoTwoAlike self.new }
     {
-        // A width that was asked before needs no key.
+        // A width that was asked for before needs no key.
         if let Some(place) = self.sorts[width as usize - 1] {
             return Ok(place);
         }
@@ -113,7 +123,7 @@ impl Builder {
         Ok(place)
     }
 
-    // Keeps the place of the sort line of a width.
+    // Caches the index of the sort line of a width.
     fn remember(&mut self, width: u32, place: u32)
         requires least { 1 ≤ width }
         requires most { width ≤ WIDEST }
@@ -123,7 +133,9 @@ impl Builder {
         self.sorts[width as usize - 1] = Some(place);
     }
 
-    /// The place of the sort line of the line at a place. The caller owes a line that has a word.
+    /// Returns the index of the sort line of the line at index `line`.
+    ///
+    /// The caller ensures that the line has a word.
     pub fn sort_of(&self, line: u32) -> u32
         requires { 1 ≤ width_at self.now line }
         ensures place { result ≡ sort_of self.now line }
@@ -132,7 +144,7 @@ impl Builder {
         self.lines[line as usize].sort
     }
 
-    /// How many lines there are so far.
+    /// Returns the number of lines so far.
     pub fn len(&self) -> usize
         ensures value { result ≡ length self.now }
         ensures well_formed { IsWellFormed self.now }
@@ -140,7 +152,9 @@ impl Builder {
         self.lines.len()
     }
 
-    /// The width of the word of the line at a place. The caller owes a line of a kind that has a word.
+    /// Returns the width of the word of the line at index `line`.
+    ///
+    /// The caller ensures that the line is of a kind that has a word.
     pub fn width_of(&self, line: u32) -> u32
         requires { 1 ≤ width_at self.now line }
         ensures { result ≡ width_at self.now line }
@@ -149,7 +163,7 @@ impl Builder {
         sort_width(&self.lines[sort as usize].op)
     }
 
-    /// The lines made so far.
+    /// Returns the lines built so far.
     pub fn done(self) -> Nodes
         ensures lines { result ≡ self }
         ensures well_formed { IsWellFormed self }
@@ -159,8 +173,8 @@ impl Builder {
     }
 }
 
-// The place of the line that says this already, where such lines are shared, or none, and then the place behind the lines is
-// kept for this line where it is shared.
+// Returns the index of the line with this content, where such lines are shared. Else returns None; a shared line's
+// content is then entered with the index that the line gets.
 fn enter_line(places: &mut LinePlaces, lines: &[Line], line: &Line) -> Result<Option<u32>, NoMemory>
     requires few { length lines.now < 2 ^ 32 }
     requires short { IsShort line.now.args }
@@ -176,8 +190,8 @@ fn enter_line(places: &mut LinePlaces, lines: &[Line], line: &Line) -> Result<Op
     }
 }
 
-// The place of the line that says this already, or else of this line, added at the end. The lines stay as they are where it is
-// refused.
+// Returns the index of the line with this content, or else of this line, appended. The lines stay unchanged when
+// out of memory.
 fn put_line(lines: &mut Vec<Line>, places: &mut LinePlaces, line: Line) -> Result<u32, NoMemory>
     requires few { length lines.old.items < 2 ^ 32 }
     requires short { IsShort line.args }
@@ -186,7 +200,7 @@ fn put_line(lines: &mut Vec<Line>, places: &mut LinePlaces, line: Line) -> Resul
     ensures refused { OnErr result (lines.new.items ≡ lines.old.items) }
     ensures has { HasPlaces lines.new.items places.new }
 {
-    // First the list makes its room, so that it takes the line without growing once its place is kept.
+    // The list grows first, so that it takes the line without growing once the line's index is entered.
     if lines.len() == lines.capacity() {
         lines.reserve(1)?;
     }

@@ -25,7 +25,9 @@ fn number(digits: &[u8]) -> Option<u32>
     Some(number)
 }
 
-/// The number that decimal digits spell, or 2^31 where it is larger.
+/// Returns the number that decimal digits spell, or 2^31 where it is larger.
+///
+/// Returns None where there is no digit, or a byte that is not a digit.
 pub fn numeral(digits: &[u8]) -> Option<u32>
     ensures { result ≡ numeral digits.now }
 {
@@ -50,7 +52,9 @@ fn part_length(text: &[u8]) -> usize
     count
 }
 
-/// The first part of a line, and the bytes behind it.
+/// Returns the first part of a line, and the bytes after it.
+///
+/// Parts are separated by spaces and tabs. Returns None where the line has no part.
 pub fn first_part(line: &[u8]) -> Option<(&[u8], &[u8])>
     ensures { IsFirstPart result (parts line.now) }
 {
@@ -64,7 +68,7 @@ pub fn first_part(line: &[u8]) -> Option<(&[u8], &[u8])>
     None
 }
 
-/// The length of the first line of a text.
+/// Returns the length of the first line of a text, without its line feed.
 pub fn line_length(text: &[u8]) -> usize
     ensures value { result ≡ line_length text.now }
     ensures within { result ≤ length text.now }

@@ -1,4 +1,4 @@
-// Laws of what texts spell.
+// Laws of texts and the lines that they parse to.
 
 ghost use Rattle.std.specs.Prelude.{◌≡◌, List, ℕ, Option, [], ◌++◌, true};
 ghost use Rattle.btor_tree.specs.declared.lines.Line.{Line};
@@ -12,64 +12,67 @@ ghost use Rattle.btor_tree.specs.Resolving.{Fault};
 ghost use Rattle.btor_tree.specs.Texts.{SpellsLines, RefusesText};
 ghost use Rattle.btor_tree.specs.Printing.{printed};
 
-/// The printed form of well-formed lines spells these lines.
+/// Proves that the printed form of well-formed lines parses to these lines.
 pub fn printed_spells()
     ensures { (lines : List Line) → IsWellFormed lines → SpellsLines (printed lines) lines }
 {}
 
-/// A text whose first fault is known spells no lines.
+/// Proves that a text with a first fault parses to no lines.
 pub fn no_reading()
     ensures { (text : List ℕ) (lines : List Line) (fault : Fault) (at : ℕ) → SpellsLines text lines → RefusesText text fault at → ⊥ }
 {}
 
-/// A text has one first fault at most, at one line.
+/// Proves that a text has at most one first fault, at one line.
 pub fn one_fault()
     ensures { (text : List ℕ) (fault other : Fault) (at to : ℕ) → RefusesText text fault at → RefusesText text other to → (fault ≡ other) × (at ≡ to) }
 {}
 
-/// What a text spells is well-formed.
+/// Proves that the lines that a text parses to are well-formed.
 pub fn spelled_fits()
     ensures { (text : List ℕ) (lines : List Line) → SpellsLines text lines → IsWellFormed lines }
 {}
 
-/// A text spells one list of lines at most.
+/// Proves that a text parses to at most one list of lines.
 pub fn one_reading()
     ensures { (text : List ℕ) (lines others : List Line) → SpellsLines text lines → SpellsLines text others → lines ≡ others }
 {}
 
-/// The place that a push answers has a line that says what was pushed.
+/// Proves that the line at the index that a push returns has the content that was pushed.
 pub fn says_what_was_pushed()
     ensures { (lines : List Line) (op : LineOp) (sort : ℕ) (args : List Arg) (symbol : Option (List ℕ)) → SaysAt (pushed lines op sort args symbol).0 (pushed lines op sort args symbol).1 op sort args }
 {}
 
-/// A push of a sort, a constant or an operator adds no line of another kind.
+/// Proves that a push of a sort, a constant or an operator adds no line of another kind.
 pub fn grows_quietly()
     ensures { (lines : List Line) (op : LineOp) (sort : ℕ) (args : List Arg) (symbol : Option (List ℕ)) → is_shared op ≡ true → GrowsQuietly lines (pushed lines op sort args symbol).0 }
 {}
 
-/// In what pushes make of no lines, no two lines that are shared say the same; and a push keeps that.
+/// Proves that in lines built from scratch by pushes, no two shared lines have the same content.
+///
+/// A push keeps this property.
 pub fn no_two_alike()
     ensures built { (pushes : List Push) → HasNoTwoAlike (built [] pushes) }
     ensures kept { (lines : List Line) (op : LineOp) (sort : ℕ) (args : List Arg) (symbol : Option (List ℕ)) → HasNoTwoAlike lines → HasNoTwoAlike (pushed lines op sort args symbol).0 }
 {}
 
-/// What a push makes of lines with the ids 1, 2, 3 and so on is well formed and has such ids again.
+/// Proves that a push to lines with the ids 1, 2, 3 and so on gives well-formed lines with such ids.
 pub fn pushed_fits()
     ensures { (lines : List Line) (op : LineOp) (sort : ℕ) (args : List Arg) (symbol : Option (List ℕ)) → PushFits lines op sort args symbol }
 {}
 
-/// Words that meet the equations of lines meet those of the first ones.
+/// Proves that words that meet the equations of lines meet the equations of any first part of these lines.
 pub fn fewer_are_met()
     ensures { (lines more : List Line) (row : List BitVector) → Meets (lines ++ more) row → Meets lines row }
 {}
 
-/// Words that meet the equations of the lines behind a push meet those of the lines before it, and at the place that it
-/// answers stands the word of what was pushed.
+/// Proves that words that meet the equations of the lines after a push meet those of the lines before it.
+///
+/// At the index that the push returns, they have the word of what was pushed.
 pub fn pushed_is_met()
     ensures { (lines : List Line) (op : LineOp) (sort : ℕ) (args : List Arg) (symbol : Option (List ℕ)) (row : List BitVector) → PushIsMet lines op sort args symbol row }
 {}
 
-/// The word at the place that a push answers has the width of the sort that was pushed.
+/// Proves that the word at the index that a push returns has the width of the sort that was pushed.
 pub fn pushed_width()
     ensures { (lines : List Line) (op : LineOp) (sort : ℕ) (args : List Arg) (symbol : Option (List ℕ)) → PushHasWidth lines op sort args symbol }
 {}

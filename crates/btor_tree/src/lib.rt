@@ -1,5 +1,5 @@
-//! BTOR2 lines: a list whose lines fit one another, a builder that shares equal lines, what frames of them are, the texts that
-//! spell them, and the parts and numbers that such texts and those of witnesses are read by.
+//! BTOR2 lines: well-formed lists of lines, a builder that shares equal lines, the frames of lines, and the texts
+//! that parse to lines. Also the parts and numbers that the parsers of lines and witnesses share.
 #![tactic(auto)]
 
 mod args;

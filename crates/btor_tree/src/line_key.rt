@@ -1,4 +1,4 @@
-// What a line says, as a key of an ordered map.
+// The content of a line, as a key of an ordered map.
 ghost use Rattle.std.specs.Prelude.{◌≡◌, ◌<◌, ◌+◌, ◌*◌, ◌^◌, slice_index_or};
 ghost use Rattle.btor_tree.specs.Fits.{plain_arg};
 ghost use Rattle.btor_tree.specs.Sharing.{is_alike, is_shared, op_kind, op_number, op_second, same_op};
@@ -8,9 +8,11 @@ use crate::args::{Arg, Args, plain_arg};
 use crate::lines::{Line, LineOp};
 use std::cmp::Reverse;
 
-/// What a line says that is shared: its first three arguments and how many there are, the number of its kind and its numbers,
-/// and its sort. Keys are ordered by what tells most lines apart first, with the latest lines in front, since most pushes
-/// have such arguments.
+/// The content of a shared line, as a key.
+///
+/// It has the first three arguments and their number, the number of the line's kind, the line's own numbers, and
+/// its sort. Keys compare the most distinctive fields first. Later lines come first, since most pushes have late
+/// lines as arguments.
 #[derive(Clone, Copy, PartialEq, Eq, PartialOrd, Ord)]
 pub struct LineKey {
     first: Reverse<Arg>,
@@ -23,7 +25,7 @@ pub struct LineKey {
     count: u8,
 }
 
-/// What a line says.
+/// Returns the key of a line's content.
 pub fn line_key(op: &LineOp, sort: u32, args: &Args) -> LineKey
     requires { spec.IsShort args.now }
     ensures { result ≡ spec.key_of op.now sort args.now }
@@ -40,7 +42,9 @@ pub fn line_key(op: &LineOp, sort: u32, args: &Args) -> LineKey
     }
 }
 
-/// A number that tells most arguments apart: twice the line of the first, and the line of the second.
+/// Returns a hash of the arguments: twice the line of the first, plus the line of the second.
+///
+/// It is different for most lists of arguments.
 pub fn slot_of(args: &Args) -> usize
     ensures value { result ≡ 2 * (slice_index_or args.now 0 (plain_arg 0)).line + (slice_index_or args.now 1 (plain_arg 0)).line }
     ensures small { result < 2 ^ 63 }
@@ -48,7 +52,7 @@ pub fn slot_of(args: &Args) -> usize
     2 * arg_at(args, 0).line as usize + arg_at(args, 1).line as usize
 }
 
-/// Do the lines say the same?
+/// Returns whether the lines have the same content.
 pub fn is_alike(line: &Line, other: &Line) -> bool
     ensures { result ≡ is_alike line.now.op line.now.sort line.now.args other.now }
 {
@@ -63,7 +67,7 @@ fn is_same_op(op: &LineOp, other: &LineOp) -> bool
         && op_second(op) == op_second(other)
 }
 
-// The argument at a place, or the first line where there is none.
+// The argument at an index, or the first line where there is none.
 fn arg_at(args: &Args, i: usize) -> Arg
     ensures { result ≡ slice_index_or args.now i (plain_arg 0) }
 {
@@ -74,7 +78,7 @@ fn arg_at(args: &Args, i: usize) -> Arg
     }
 }
 
-/// Is one line of this kind enough for all that say the same?
+/// Returns whether lines of this kind are shared: one line is enough for all with the same content.
 pub fn is_shared(op: &LineOp) -> bool
     ensures { result ≡ is_shared op.now }
 {
@@ -90,7 +94,7 @@ pub fn is_shared(op: &LineOp) -> bool
     }
 }
 
-// The number of a kind of line that is shared.
+// A number for each kind of line that is shared.
 fn op_kind(op: &LineOp) -> u8
     ensures { result ≡ op_kind op.now }
 {
@@ -110,7 +114,7 @@ fn op_kind(op: &LineOp) -> u8
     }
 }
 
-// The first number that the line has.
+// The first number of the line itself.
 fn op_number(op: &LineOp) -> u128
     ensures { result ≡ op_number op.now }
 {
@@ -126,7 +130,7 @@ fn op_number(op: &LineOp) -> u128
     }
 }
 
-// The second number that the line has.
+// The second number of the line itself.
 fn op_second(op: &LineOp) -> u32
     ensures { result ≡ op_second op.now }
 {

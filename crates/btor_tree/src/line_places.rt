@@ -1,4 +1,5 @@
-// The places of what lines say: found in a table by the lines of the first two arguments, and else in an ordered map.
+// The index of each line's content, found in a table by the lines of the first two arguments, and else in an
+// ordered map.
 ghost use Rattle.std.specs.Prelude.{◌≡◌, ◌==◌, ◌<◌, ◌≤◌, ◌^◌, ℕ, [], true, length, get_or, Some, None, IfOk, OnOk, OnErr, if◌then◌else◌};
 ghost use Rattle.std.specs.BTreeMap.{IsUnchanged, get};
 ghost use Rattle.btor_tree.specs.LineKeys.{EntersKey, HasPlaces, IsShort};
@@ -13,18 +14,22 @@ use std::collections::BTreeMap;
 use std::collections::btree_map::Entry;
 use text_core::NoMemory;
 
-// How many free slots are added at once.
+// The number of free slots that are added at once.
 const MORE: usize = 64;
 
-/// The places of what lines say. A slot has the place of the first line that came to it, and what that line says is read where
-/// it stands. Most lines have a slot of their own, so that they need no map.
+/// A map from the content of lines to their indices.
+///
+/// A slot has the index of the first line that took it, whose content is read from the list itself. Most lines have
+/// a slot of their own, so that they need no entry in the ordered map.
 #[derive(Drop)]
 pub struct LinePlaces {
     slots: Vec<Option<u32>>,
     others: BTreeMap<LineKey, u32>,
 }
 
-/// No places. It takes no memory.
+/// Returns the empty map.
+///
+/// It allocates nothing.
 #[tactic(auto, using(crate::proofs::TwoLevels::none_placed))]
 pub fn no_places(alloc: Global) -> LinePlaces
     ensures { HasPlaces [] result }
@@ -35,8 +40,9 @@ pub fn no_places(alloc: Global) -> LinePlaces
     }
 }
 
-/// Makes room for the slots of so many more lines: the lines of two arguments tell the slot, which is at most three times the place
-/// of the later one.
+/// Makes room for the slots of `count` more lines.
+///
+/// The lines of two arguments give the slot, which is at most three times the index of the later one.
 pub fn make_room(places: &mut LinePlaces, count: usize) -> Result<(), NoMemory>
     ensures slots { places.new.slots.items ≡ places.old.slots.items }
     ensures others { places.new.others ≡ places.old.others }
@@ -45,8 +51,8 @@ pub fn make_room(places: &mut LinePlaces, count: usize) -> Result<(), NoMemory>
     Ok(())
 }
 
-// The value that the map has for a key, or none, and then it takes the new value for it. It stays as it is where it has one, or
-// where it is refused.
+// Returns the map's value for the key. Where there is none, inserts the new value and returns None. The map stays
+// unchanged where the key has a value, and when out of memory.
 fn enter_key<K: Ord + Drop>(
     places: &mut BTreeMap<K, u32>,
     key: K,
@@ -75,7 +81,7 @@ fn at_slot(slots: &[Option<u32>], slot: usize) -> Option<u32>
     }
 }
 
-// Adds free slots up to this one, and some more, so that it is seldom done.
+// Adds free slots up to this one, and some more, so that this is rarely needed.
 fn add_slots(slots: &mut Vec<Option<u32>>, slot: usize) -> Result<(), NoMemory>
     requires missing { length slots.old.items ≤ slot }
     requires small { slot < 2 ^ 63 }
@@ -99,7 +105,9 @@ fn take_slot(slots: &mut Vec<Option<u32>>, slot: usize, place: u32) -> Result<()
     Ok(())
 }
 
-/// The place of the line that says this already, or none, and then the place behind the lines is kept for this line.
+/// Returns the index of the line with this content.
+///
+/// Where there is none, enters this line with the index `lines.len()` and returns None.
 pub fn enter(places: &mut LinePlaces, lines: &[Line], line: &Line) -> Result<Option<u32>, NoMemory>
     requires few { length lines.now < 2 ^ 32 }
     requires short { IsShort line.now.args }

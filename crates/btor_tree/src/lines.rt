@@ -9,8 +9,10 @@ use word_core::{Binary, Unary, Word};
 /// The greatest id of a line, 2^31 - 1.
 pub const GREATEST_ID: u32 = 2147483647;
 
-/// What a line does. `Sort` has the width of a bit vector, `Slice` the highest and the lowest bit that it keeps, `Uext` and
-/// `Sext` the number of new bits.
+/// The kind of a line, with its own numbers.
+///
+/// `Sort` has the width of a bit vector, and `Slice` the highest and the lowest bit that it keeps. `Uext` and
+/// `Sext` have the number of added bits.
 #[derive(Drop)]
 pub enum LineOp {
     Sort(u32),
@@ -33,8 +35,10 @@ pub enum LineOp {
     Sext(u32),
 }
 
-/// A line: its id, what it does, the place of its sort line (0 where its kind has no sort), its arguments, and its
-/// symbol where it ends in one.
+/// A line of a BTOR2 text.
+///
+/// `sort` is the index of its sort line, or 0 where its kind has no sort. `symbol` is the symbol in which the line
+/// ends, if there is one.
 #[derive(Drop)]
 pub struct Line {
     pub id: u32,
@@ -44,7 +48,7 @@ pub struct Line {
     pub symbol: Option<Name>,
 }
 
-/// Does a line of this kind have a word?
+/// Returns whether a line of this kind has a word.
 pub fn has_word(op: &LineOp) -> bool
     ensures { result ≡ fits.has_word op.now }
 {
@@ -59,7 +63,7 @@ pub fn has_word(op: &LineOp) -> bool
     }
 }
 
-/// The width that a sort line gives, or 0 at other lines.
+/// Returns the width of a sort line, or 0 for other lines.
 pub fn sort_width(op: &LineOp) -> u32
     ensures { result ≡ fits.sort_width op.now }
 {

@@ -1,4 +1,4 @@
-// A list of lines each of which fits the ones before it.
+// A list of lines, each of which fits the ones before it.
 ghost use Rattle.std.specs.Prelude.{◌≡◌, ◌<◌, ◌≤◌, [], ◌∷◌, ◌++◌, length, Some, slice_get, OnOk, OnErr, if◌then◌else◌};
 ghost use Rattle.btor_tree.specs.Fits.{Fits, IsWellFormed, width_at, count_of, is_input, is_state, is_bad};
 
@@ -7,7 +7,7 @@ use std::alloc::Global;
 use std::marker::Model;
 use text_core::NoMemory;
 
-/// The lines in order of their ids.
+/// A well-formed list of lines, in order of their ids.
 #[derive(Drop)]
 pub struct Nodes {
     items: Vec<Line>,
@@ -30,7 +30,9 @@ impl Model for Nodes {
 }
 
 impl Nodes {
-    /// No lines. It takes no memory.
+    /// Returns the empty list.
+    ///
+    /// It allocates nothing.
     pub fn new(alloc: Global) -> Nodes
         ensures { result ≡ [] }
     {
@@ -42,7 +44,7 @@ impl Nodes {
         }
     }
 
-    /// The list of these lines.
+    /// Returns the list of these lines.
     pub(crate) fn of_lines(lines: Vec<Line>) -> Nodes
         requires { IsWellFormed lines.items }
         ensures { result ≡ lines.items }
@@ -63,7 +65,9 @@ impl Nodes {
         }
     }
 
-    /// Adds a line at the end, and leaves the list unchanged where it is refused.
+    /// Appends a line.
+    ///
+    /// The list stays unchanged when out of memory.
     #[tactic(auto, using(crate::proofs::Grows::well_formed_push, crate::proofs::Grows::count_push, crate::proofs::Grows::counts_small))]
     pub fn add(&mut self, line: Line) -> Result<(), NoMemory>
         requires { Fits self.old line }
@@ -81,7 +85,7 @@ impl Nodes {
         Ok(())
     }
 
-    /// How many lines there are.
+    /// Returns the number of lines.
     pub fn len(&self) -> usize
         ensures value { result ≡ length self.now }
         ensures well_formed { IsWellFormed self.now }
@@ -89,7 +93,7 @@ impl Nodes {
         self.items.len()
     }
 
-    /// The line at a place, counted from 0.
+    /// Returns the line at index `i`, counted from 0.
     pub fn at(&self, i: usize) -> &Line
         requires { i < length self.now }
         ensures { slice_get self.now i ≡ Some result.now }
@@ -97,28 +101,30 @@ impl Nodes {
         &self.items[i]
     }
 
-    /// How many of the lines are inputs.
+    /// Returns the number of input lines.
     pub fn inputs(&self) -> u32
         ensures { result ≡ count_of is_input self.now }
     {
         self.inputs
     }
 
-    /// How many of the lines are states.
+    /// Returns the number of state lines.
     pub fn states(&self) -> u32
         ensures { result ≡ count_of is_state self.now }
     {
         self.states
     }
 
-    /// How many of the lines are bad lines.
+    /// Returns the number of bad lines.
     pub fn bads(&self) -> u32
         ensures { result ≡ count_of is_bad self.now }
     {
         self.bads
     }
 
-    /// The width of the word of the line at a place. The caller owes a line of a kind that has a word.
+    /// Returns the width of the word of the line at index `line`.
+    ///
+    /// The caller ensures that the line is of a kind that has a word.
     pub fn width_of(&self, line: u32) -> u32
         requires { 1 ≤ width_at self.now line }
         ensures { result ≡ width_at self.now line }
@@ -146,7 +152,7 @@ fn is_bad(op: &LineOp) -> bool
     matches!(op, LineOp::Bad)
 }
 
-// One where it is so, else nothing.
+// One where it holds, else zero.
 fn one_where(holds: bool) -> u32
     ensures { result ≡ if holds then 1 else 0 }
 {

@@ -1,4 +1,4 @@
-// A list of lines that numbers them 1, 2, 3 and so on, with one sort line for each width.
+// A list of lines, which numbers them 1, 2, 3 and so on, with one sort line for each width.
 ghost use Rattle.std.specs.Prelude.{◌≡◌, ◌+◌, ◌<◌, ◌≤◌, [], ◌∷◌, ◌++◌, length, IfOk, OnErr};
 ghost use Rattle.btor_tree.specs.Fits.{Suits, IsWellFormed, SortIsAt, sort_at, sort_of, sort_place, width_at};
 ghost use Rattle.btor_tree.specs.Held.{noted};
@@ -11,10 +11,10 @@ use std::marker::Model;
 use text_core::{Name, NoMemory};
 use word_core::WIDEST;
 
-// How many widths there are.
+// The number of widths.
 const WIDTHS: usize = WIDEST as usize;
 
-/// Lines with the ids 1, 2, 3 and so on, seen as the list of those made so far.
+/// A list of lines with the ids 1, 2, 3 and so on, which contracts see as the list of lines so far.
 #[derive(Drop)]
 pub struct NumberedLines {
     nodes: Nodes,
@@ -35,7 +35,9 @@ impl Model for NumberedLines {
 }
 
 impl NumberedLines {
-    /// No lines. It takes no memory.
+    /// Returns the empty list.
+    ///
+    /// It allocates nothing.
     pub fn new(alloc: Global) -> NumberedLines
         ensures { result ≡ [] }
     {
@@ -45,8 +47,9 @@ impl NumberedLines {
         }
     }
 
-    /// Adds a line whose id is one more than the number of lines so far, and answers its place. The lines stay as they
-    /// are where it is refused.
+    /// Appends a line and returns its index.
+    ///
+    /// The id of the line is one more than the number of lines so far. The lines stay unchanged when out of memory.
     pub fn push(
         &mut self,
         op: LineOp,
@@ -73,8 +76,9 @@ impl NumberedLines {
         Ok(place)
     }
 
-    /// The place of the first sort line of this width, which is added where there is none. The lines stay as they are
-    /// where it is refused.
+    /// Returns the index of the first sort line of this width, which is added where there is none.
+    ///
+    /// The lines stay unchanged when out of memory.
     pub fn sort(&mut self, width: u32) -> Result<u32, NoMemory>
         requires room { length self.old < GREATEST_ID }
         requires least { 1 ≤ width }
@@ -90,7 +94,9 @@ impl NumberedLines {
         }
     }
 
-    /// The place of the sort line of the line at a place. The caller owes a line that has a word.
+    /// Returns the index of the sort line of the line at index `line`.
+    ///
+    /// The caller ensures that the line has a word.
     pub fn sort_of(&self, line: u32) -> u32
         requires { 1 ≤ width_at self.now line }
         ensures place { result ≡ sort_of self.now line }
@@ -99,7 +105,7 @@ impl NumberedLines {
         self.nodes.at(line as usize).sort
     }
 
-    /// How many lines there are so far.
+    /// Returns the number of lines so far.
     pub fn len(&self) -> usize
         ensures value { result ≡ length self.now }
         ensures well_formed { IsWellFormed self.now }
@@ -107,7 +113,9 @@ impl NumberedLines {
         self.nodes.len()
     }
 
-    /// The width of the word of the line at a place. The caller owes a line of a kind that has a word.
+    /// Returns the width of the word of the line at index `line`.
+    ///
+    /// The caller ensures that the line is of a kind that has a word.
     pub fn width_of(&self, line: u32) -> u32
         requires { 1 ≤ width_at self.now line }
         ensures { result ≡ width_at self.now line }
@@ -115,7 +123,7 @@ impl NumberedLines {
         self.nodes.width_of(line)
     }
 
-    /// The lines made so far.
+    /// Returns the lines built so far.
     pub fn done(self) -> Nodes
         ensures lines { result ≡ self }
         ensures well_formed { IsWellFormed self }
@@ -124,7 +132,8 @@ impl NumberedLines {
     }
 }
 
-// Enters the place of a sort line of this width, where the table has none. A width of 0 is of no sort line.
+// Enters the index of a sort line of this width, where the table has none. A width of 0 means that the line is not
+// a sort line.
 fn note_sort(sorts: &mut [Option<u32>; WIDTHS], width: u32, place: u32)
     requires { width ≤ WIDEST }
     ensures { sorts.new ≡ noted sorts.old width place }

@@ -1,11 +1,11 @@
-// Binary digits, and the end of a line.
+// Binary digits, and the carriage return at the end of a line.
 ghost use Rattle.std.specs.Prelude.{◌≡◌, ◌<◌, ◌≤◌, ◌^◌, length, true};
 ghost use Rattle.word_core.specs.declared.word.TheConstants.{WIDEST};
 ghost use Rattle.btor_witness.specs.Bytes.{all_binary, bits_after, word_of, without_return};
 
 use word_core::{WIDEST, Word};
 
-/// Are all bytes binary digits?
+/// Returns whether all bytes are binary digits.
 pub fn all_binary(digits: &[u8]) -> bool
     ensures { result ≡ all_binary digits.now }
 {
@@ -30,7 +30,7 @@ fn bits(digits: &[u8]) -> u128
     bits
 }
 
-/// The word that binary digits spell, where there are no more than a word has.
+/// Returns the word that binary digits spell, or None where there are more than `WIDEST` digits.
 pub fn word_of(digits: &[u8]) -> Option<Word>
     requires some { 1 ≤ length digits.now }
     requires binary { all_binary digits.now ≡ true }
@@ -42,7 +42,7 @@ pub fn word_of(digits: &[u8]) -> Option<Word>
     Word::of(digits.len() as u32, bits(digits))
 }
 
-/// A line without the CR at its end.
+/// Returns the line without a trailing carriage return.
 pub fn without_return(line: &[u8]) -> &[u8]
     ensures { result.now ≡ without_return line.now }
 {

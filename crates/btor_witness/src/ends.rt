@@ -1,8 +1,8 @@
-// Why a line of a witness isn't taken.
+// The reason why a line of a witness is not accepted.
 
 use text_core::{Kind, NoMemory};
 
-/// Why a line is not taken.
+/// The reason why a line is not accepted: a refusal of this kind, or out of memory.
 #[derive(Drop)]
 pub enum LineEnd {
     Bad(Kind),

@@ -13,11 +13,13 @@ use btor_tree::Nodes;
 use std::alloc::Global;
 use text_core::{Clause, NoMemory, Verdict};
 
-/// Judges a witness: yes, or the earliest step whose frame fails and the first clause that it fails. The stated words of
-/// states with an init in frame 0, or with a next later, are compared with the states' own (`StateDiffers`); then every
-/// constraint has to hold (`ConstraintFails`); then, in the last frame alone, the bad line (`NotBroken`). A word that is
-/// not stated is zero. The caller owes a witness for the lines: a bad line, one or more frames, and in each part words of
-/// the right widths, of which each is stated once. A step past the numbers of 32 bits is answered as want of memory.
+/// Judges a witness: `Yes`, or the earliest step whose frame fails and the first clause that it fails.
+///
+/// First, the stated words of determined states are compared with the states' own (`StateDiffers`). A state is
+/// determined in frame 0 where it has an init, and later where it has a next. Then every constraint has to hold
+/// (`ConstraintFails`), and in the last frame alone the bad line (`NotBroken`). A word that is not stated is zero.
+/// The caller ensures that this is a witness for the lines: its bad line exists, it has one or more frames, and each
+/// part states words of the right widths, each at most once. A step beyond 32 bits is reported as out of memory.
 pub fn judge_btor(alloc: Global, nodes: &Nodes, witness: &Witness) -> Result<Verdict, NoMemory>
     requires { IsWitness (sizes_of nodes.now) witness.now }
     ensures { IfOk result (λ verdict. judged_btor nodes.now witness.now verdict) }

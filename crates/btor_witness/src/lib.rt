@@ -1,4 +1,4 @@
-//! Witnesses of BTOR2 lines: read against the lines, printed and judged.
+//! Witnesses for BTOR2 lines: a reader, a printer and a judge.
 #![tactic(auto)]
 
 mod bytes;

@@ -1,4 +1,4 @@
-// The statements of one part of a frame.
+// The statements in one part of a frame.
 ghost use Rattle.std.specs.Prelude.{◌≡◌, ◌<◌, ◌≤◌, [], List, ℕ, length, IfOk, MatchResult, Ok, false};
 ghost use Rattle.btor_witness.specs.Parts.{PartState, stating, is_stated};
 ghost use Rattle.btor_witness.specs.Held.{IsCleared, AreStatedAt, AreMarked};
@@ -13,7 +13,7 @@ use text_core::kinds::witness;
 use text_core::{List, NoMemory};
 use word_core::Word;
 
-/// The widths that a part is stated over, which of them are stated, and what is stated so far.
+/// The statements so far in one part of a frame, with the widths of its lines and a mark for each stated line.
 #[derive(Drop)]
 pub struct Part {
     widths: List<u32>,
@@ -33,7 +33,7 @@ impl Model for Part {
 }
 
 impl Part {
-    /// Nothing is stated yet.
+    /// Returns the part with no statement yet, for lines of these widths.
     pub fn new(alloc: Global, widths: List<u32>) -> Result<Part, NoMemory>
         ensures { IfOk result (λ p. p ≡ record { widths = widths; stated = [] }) }
     {
@@ -45,14 +45,17 @@ impl Part {
         })
     }
 
-    /// How many lines may be stated.
+    /// Returns the number of lines that may be stated.
     pub fn len(&self) -> usize
         ensures { result ≡ length self.now.widths }
     {
         self.widths.len()
     }
 
-    /// States one word more.
+    /// Adds a statement: the word of the line with this index.
+    ///
+    /// Returns `Bad` where there is no such line, it is stated already, or the word does not have the line's width.
+    /// `None` is a word wider than any line.
     pub fn state(&mut self, index: u32, word: Option<Word>) -> Result<(), LineEnd>
         ensures widths { self.new.widths ≡ self.old.widths }
         ensures added { Added (stating self.old.widths self.old.stated index word) self.new.stated result }
@@ -72,7 +75,7 @@ impl Part {
         Ok(())
     }
 
-    /// What is stated so far. Then nothing is stated.
+    /// Takes the statements so far, and leaves none.
     pub fn take(&mut self, alloc: Global) -> Stateds
         ensures stated { result ≡ self.old.stated }
         ensures new { self.new ≡ record { widths = self.old.widths; stated = [] } }
@@ -82,7 +85,7 @@ impl Part {
     }
 }
 
-// Takes away the marks of what is stated.
+// Removes the marks of the stated lines.
 fn clear(marks: &mut [bool], stated: &Stateds)
     requires { AreStatedAt marks.old stated.now }
     ensures size { length marks.new ≡ length marks.old }

@@ -1,6 +1,7 @@
-// Where the reading of a witness stands.
+// The progress of the reader of a witness.
 
-/// What comes next: the line `sat`, the property, the first heading, or what may follow a heading `#i` or `@i`.
+/// What the reader expects next: the line `sat`, the property, the first heading, or what may follow a heading `#i`
+/// or `@i`.
 #[derive(Clone, Copy, PartialEq, Eq)]
 pub enum Phase {
     Start,

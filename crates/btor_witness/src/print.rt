@@ -13,7 +13,7 @@ use std::alloc::Global;
 use text_core::{NoMemory, Text};
 use word_core::Word;
 
-// The word that is stated for each number.
+// The stated word for each index.
 fn table_of(alloc: Global, stated: &Stateds, count: u32) -> Result<Vec<Option<Word>>, NoMemory>
     requires { AllByRecursion (IsBelow count) stated.now }
     ensures { IfOk result (λ table. TableOf stated.now count table.items) }

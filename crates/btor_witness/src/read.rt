@@ -33,7 +33,7 @@ fn refused(kind: Kind, line: u32, offset: u32) -> WitnessEnd
     })
 }
 
-// The witness that the lines of a text spell.
+// The witness that the lines of a text parse to.
 fn read_lines(alloc: Global, nodes: &Nodes, text: &[u8]) -> Result<Witness, WitnessEnd>
     requires { length text.now ≤ MOST_BYTES }
     ensures spelled { IfOk result (ReadsText (sizes_of nodes.now) text.now) }
@@ -64,22 +64,23 @@ fn read_lines(alloc: Global, nodes: &Nodes, text: &[u8]) -> Result<Witness, Witn
     }
 }
 
-/// The witness that a text spells for the lines: the line `sat`, the property `b` and a number, frames from 0 on, each
-/// with its states behind `#` and the frame's number and its inputs behind `@` and that number, and the line `.`, behind
-/// which nothing is read. A refusal is at the first line that is none of these here; a text that is too long is refused
-/// at line 1.
+/// Parses a text as a witness for the lines.
+///
+/// A witness has the line `sat`, the property `b` with a number, frames from 0 on, and the line `.`, after which
+/// nothing is read. Each frame has its states after `#` with the frame's number, and its inputs after `@` with that
+/// number. A refusal is at the first line that doesn't fit there. A text that is too long is refused at line 1.
 pub fn read_witness(alloc: Global, nodes: &Nodes, text: &[u8]) -> Result<Witness, WitnessEnd>
     requires { length text.now ≤ 2 ^ 31 }
-    // The text spells the witness.
+    // The text parses to the witness.
     ensures spelled { IfOk result (SpellsWitness nodes.now text.now) }
-    // What it spells is read, unless memory runs out.
+    // A witness that the text parses to is returned, unless out of memory.
     ensures exact { (w : Witness) → SpellsWitness nodes.now text.now w → Gives w result }
     // It is a witness for the lines, within the limits.
     ensures fits { IfOk result (IsWitness (sizes_of nodes.now)) }
     ensures within { IfOk result (λ w. is_within (sizes_of nodes.now) (length w.frames) ≡ true) }
     // The text is refused at this line.
     ensures refused { IfErr result (IsRefused nodes.now text.now) }
-    // As it is refused, so it is answered, unless memory runs out.
+    // A refusal of the text is returned, unless out of memory.
     ensures stops { (kind : Kind) (at : ℕ) → RefusesWitness nodes.now text.now kind at → Stops text.now kind at result }
 {
     if text.len() > MOST_BYTES {

@@ -23,10 +23,10 @@ use word_core::Word;
 
 /// The most frames of a witness.
 pub const MOST_FRAMES: u64 = 100000;
-/// The most that the frames of a witness times the states and inputs may be.
+/// The most that the number of frames times the number of states and inputs may be.
 pub const MOST_WORDS: u64 = 4000000;
 
-/// Where the reading of a witness stands.
+/// The progress of the reading of a witness.
 #[derive(Drop)]
 pub struct Reader {
     bads: u32,
@@ -46,7 +46,7 @@ impl Model for Reader {
 }
 
 impl Reader {
-    /// A reader that has read nothing.
+    /// Returns a reader before the first line.
     pub fn new(alloc: Global, nodes: &Nodes) -> Result<Reader, NoMemory>
         ensures { IfOk result (λ r. r ≡ record { sizes = sizes_of nodes.now; reading = begin }) }
     {
@@ -62,13 +62,13 @@ impl Reader {
         })
     }
 
-    /// Reads one line. `true` says that it ends the witness.
+    /// Reads one line, and returns whether it ends the witness.
     pub fn take_line(&mut self, alloc: Global, raw: &[u8]) -> Result<bool, LineEnd>
         ensures sizes { self.new.sizes ≡ self.old.sizes }
         ensures next { Takes (next_of self.old.sizes self.old.reading (line_parts raw.now)) self.old.reading self.new.reading result }
     {
         let line = without_return(raw);
-        // A line that has a shape isn't passed over, and nearly all lines have one.
+        // A line that has a shape is not skipped, and nearly all lines have one.
         match shape_of(line) {
             Some(shape) => self.step(alloc, shape),
             None => {
@@ -81,7 +81,7 @@ impl Reader {
         }
     }
 
-    /// The witness that was read.
+    /// Returns the witness that was read.
     pub fn witness(self) -> Witness
         ensures { result ≡ record { bad = self.reading.bad; frames = self.reading.frames } }
     {
@@ -190,7 +190,7 @@ impl Reader {
         Ok(false)
     }
 
-    // Adds the last frame to the frames, where there is one.
+    // Appends the last frame to the frames, where there is one.
     fn close(&mut self, alloc: Global) -> Result<(), NoMemory>
         ensures sizes { self.new.sizes ≡ self.old.sizes }
         ensures closed { OnOk result (self.new.reading ≡ record { phase = self.old.reading.phase; bad = self.old.reading.bad; frames = frames_of self.old.reading; states = []; inputs = [] }) }
@@ -258,7 +258,7 @@ fn is_input(op: &LineOp) -> bool
     matches!(op, LineOp::Input)
 }
 
-/// The widths of the states, in order.
+/// Returns the widths of the states, in order.
 #[tactic(auto, using(btor_tree::proofs::Grows::lines_short))]
 pub fn state_widths(alloc: Global, nodes: &Nodes) -> Result<List<u32>, NoMemory>
     ensures { IfOk result (λ widths. widths ≡ widths_of fits.is_state nodes.now) }
@@ -272,7 +272,7 @@ pub fn state_widths(alloc: Global, nodes: &Nodes) -> Result<List<u32>, NoMemory>
     Ok(widths)
 }
 
-/// The widths of the inputs, in order.
+/// Returns the widths of the inputs, in order.
 #[tactic(auto, using(btor_tree::proofs::Grows::lines_short))]
 pub fn input_widths(alloc: Global, nodes: &Nodes) -> Result<List<u32>, NoMemory>
     ensures { IfOk result (λ widths. widths ≡ widths_of fits.is_input nodes.now) }

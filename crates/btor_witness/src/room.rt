@@ -1,4 +1,4 @@
-// What a judge holds from frame to frame.
+// The state of a judge between frames.
 ghost use Rattle.std.specs.Prelude.{◌≡◌, ◌<◌, ◌≤◌, ◌↔◌, ℕ, [], map, length, false, true, IfOk, IfSome, IfNone, IsTrue, slice_get, Some};
 ghost use Rattle.std.specs.List.{AllByRecursion};
 ghost use Rattle.word_core.specs.Words.{IsWord};
@@ -20,8 +20,10 @@ use std::alloc::Global;
 use text_core::{Clause, List, NoMemory};
 use word_core::Word;
 
-/// The current frame, a word for each input and each state that is zero between two steps, and the places of the state
-/// lines.
+/// The state of a judge: the current frame, buffers for the words of inputs and states, and the indices of the
+/// state lines.
+///
+/// The buffers are all zero between two steps.
 #[derive(Drop)]
 pub struct Room {
     frames: Frames,
@@ -31,7 +33,7 @@ pub struct Room {
 }
 
 impl Room {
-    /// No frame yet.
+    /// Returns the state before the first frame.
     pub fn new(alloc: Global, nodes: &Nodes) -> Result<Room, NoMemory>
         ensures fits { IfOk result (λ room. RoomFits nodes.now room) }
         ensures none { IfOk result (λ room. room.frames.begun ≡ false) }
@@ -47,7 +49,9 @@ impl Room {
         })
     }
 
-    /// Goes to the next frame, the one that the statements mean. It takes no memory.
+    /// Moves to the next frame, with the words that the frame of the witness states.
+    ///
+    /// It allocates nothing.
     pub fn step(&mut self, nodes: &Nodes, frame: &Frame)
         requires fits { RoomFits nodes.now self.old }
         requires states { IsPart (widths_of fits.is_state nodes.now) frame.now.states }
@@ -64,8 +68,9 @@ impl Room {
         put_zeros(&mut self.free, &frame.states);
     }
 
-    /// Are the stated words those of the current frame? A state that is not determined has its stated word, so that only
-    /// those of determined states can differ.
+    /// Returns whether the stated words are those of the current frame.
+    ///
+    /// A state that is not determined has its stated word, so only the words of determined states can differ.
     pub fn agrees(&self, nodes: &Nodes, stated: &Stateds) -> bool
         requires fits { RoomFits nodes.now self.now }
         requires below { AllByRecursion (IsBelow (fits.count_of fits.is_state nodes.now)) stated.now }
@@ -81,7 +86,7 @@ impl Room {
         true
     }
 
-    /// Is every constraint true in the current frame?
+    /// Returns whether every constraint is true in the current frame.
     pub fn constraints_hold(&self, nodes: &Nodes) -> bool
         requires fits { RoomFits nodes.now self.now }
         requires begun { self.now.frames.begun ≡ true }
@@ -90,7 +95,7 @@ impl Room {
         self.frames.constraints_hold(nodes)
     }
 
-    /// Is bad line number j true in the current frame?
+    /// Returns whether bad line `j` is true in the current frame.
     pub fn bad(&self, nodes: &Nodes, j: u32) -> bool
         requires fits { RoomFits nodes.now self.now }
         requires begun { self.now.frames.begun ≡ true }
@@ -101,14 +106,14 @@ impl Room {
     }
 }
 
-/// Are two words the same?
+/// Returns whether two words are the same.
 pub fn is_same(x: Word, y: Word) -> bool
     ensures { IsTrue result ↔ (x ≡ y) }
 {
     x.width() == y.width() && x.bits() == y.bits()
 }
 
-/// The word 0 of a width.
+/// Returns the word 0 of a width.
 pub fn zero_of(width: u32) -> Word
     requires some { 1 ≤ width }
     requires small { width ≤ WIDEST }
@@ -117,7 +122,7 @@ pub fn zero_of(width: u32) -> Word
     Word::of(width, 0).unwrap()
 }
 
-/// The word 0 for each width.
+/// Returns the word 0 for each width.
 pub fn zeros(alloc: Global, widths: &List<u32>) -> Result<Words, NoMemory>
     requires { AreWidths widths.now }
     ensures { IfOk result (λ words. HoldsStated widths.now [] words) }
@@ -129,7 +134,7 @@ pub fn zeros(alloc: Global, widths: &List<u32>) -> Result<Words, NoMemory>
     Ok(words)
 }
 
-/// The places of the state lines, in order.
+/// Returns the indices of the state lines, in order.
 #[tactic(auto, using(btor_tree::proofs::Grows::lines_short))]
 pub fn state_places(alloc: Global, nodes: &Nodes) -> Result<List<u32>, NoMemory>
     ensures { IfOk result (λ places. places ≡ places_of fits.is_state nodes.now) }
@@ -143,7 +148,7 @@ pub fn state_places(alloc: Global, nodes: &Nodes) -> Result<List<u32>, NoMemory>
     Ok(places)
 }
 
-// Puts the stated words in their places.
+// Writes the stated words at their indices.
 fn put_stated(words: &mut Words, stated: &Stateds)
     requires { AllByRecursion (IsBelow (length words.old)) stated.now }
     ensures { ArePut stated.now words.old words.new }
@@ -154,7 +159,7 @@ fn put_stated(words: &mut Words, stated: &Stateds)
     }
 }
 
-// Puts zeros in the places of the stated words.
+// Writes zeros at the indices of the stated words.
 fn put_zeros(words: &mut Words, stated: &Stateds)
     requires below { AllByRecursion (IsBelow (length words.old)) stated.now }
     requires words { AllByRecursion (λ s. IsWord s.value) stated.now }

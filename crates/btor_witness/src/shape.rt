@@ -1,4 +1,4 @@
-// What one line of a witness says by itself.
+// The shape of one line of a witness by itself.
 ghost use Rattle.std.specs.Prelude.{◌≡◌};
 ghost use Rattle.btor_tree.specs.Parts.{parts};
 ghost use Rattle.btor_tree.specs.Parts as spec;
@@ -8,8 +8,10 @@ use crate::bytes::{all_binary, word_of};
 use btor_tree::{first_part, numeral};
 use word_core::Word;
 
-/// A line by its shape: `sat`, `b` and a number, `j` and a number, `#` and a number, `@` and a number, `.`, or a number
-/// and binary digits. A word of more digits than a word has is none.
+/// The shape of a line of a witness.
+///
+/// A line is `sat`, `.`, one of `b`, `j`, `#` and `@` with a number, or a number and binary digits. The word of an
+/// assignment is None where there are more digits than the widest word has.
 #[derive(Drop)]
 pub enum Shape {
     Sat,
@@ -21,7 +23,7 @@ pub enum Shape {
     Assignment(u32, Option<Word>),
 }
 
-/// The shape of a line that is a mark and a number.
+/// Returns the shape of a line that is a mark and a number, or None for an unknown mark.
 pub fn marked_shape(mark: u8, number: u32) -> Option<Shape>
     ensures { result ≡ marked mark number }
 {
@@ -64,7 +66,7 @@ fn assignment_shape(index: &[u8], digits: &[u8]) -> Option<Shape>
     Some(Shape::Assignment(index, word_of(digits)))
 }
 
-/// The shape of a line, where one fits.
+/// Returns the shape of a line, or None where it has none.
 pub fn shape_of(line: &[u8]) -> Option<Shape>
     ensures { result ≡ shape_of (parts line.now) }
 {
@@ -81,7 +83,7 @@ pub fn shape_of(line: &[u8]) -> Option<Shape>
     assignment_shape(first, second)
 }
 
-/// Is a line passed over? Blank lines are, and those that begin with `;`.
+/// Returns whether a line is skipped: blank lines, and lines that begin with `;`.
 pub fn is_passed(line: &[u8]) -> bool
     ensures { result ≡ is_passed (parts line.now) }
 {

@@ -1,10 +1,11 @@
-// What a witness says.
+// The content of a witness.
 
 use text_core::{End, List};
 use word_core::Word;
 
-/// A word that a frame states: of the state line or input line of this number, counted from 0 among the lines of its
-/// kind.
+/// A stated word of a state line or an input line.
+///
+/// `index` counts from 0 among the lines of this kind.
 #[derive(Drop)]
 pub struct Stated {
     pub index: u32,
@@ -14,7 +15,7 @@ pub struct Stated {
 /// A list of stated words.
 pub type Stateds = List<Stated>;
 
-/// What one frame states of its states and of its inputs.
+/// The words that one frame states for its states and inputs.
 #[derive(Drop)]
 pub struct Frame {
     pub states: Stateds,
@@ -31,5 +32,5 @@ pub struct Witness {
     pub frames: FrameList,
 }
 
-/// Why a text is not read as a witness.
+/// The reason why a text does not parse to a witness.
 pub type WitnessEnd = End;

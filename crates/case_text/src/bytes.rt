@@ -1,17 +1,17 @@
-// The bytes that marked lines state.
+// The bytes that marked lines give.
 use crate::fault::Fault;
 use crate::piece::number;
 use itoa::Buffer;
 use std::alloc::Global;
 
-/// The bytes of a text in which `\n` stands for a line end.
+/// Returns the bytes of a text, with a line feed for each `\n` in it.
 pub fn lines_of(alloc: Global, text: &str) -> Result<Vec<u8>, Fault> {
     let mut bytes = Vec::new(alloc);
     put_lines(&mut bytes, text)?;
     Ok(bytes)
 }
 
-/// Adds the bytes of a text in which `\n` stands for a line end.
+/// Appends the bytes of a text, with a line feed for each `\n` in it.
 pub fn put_lines(bytes: &mut Vec<u8>, text: &str) -> Result<(), Fault> {
     let mut parts = text.split("\\n");
     if let Some(front) = parts.next() {
@@ -24,9 +24,11 @@ pub fn put_lines(bytes: &mut Vec<u8>, text: &str) -> Result<(), Fault> {
     Ok(())
 }
 
-/// Adds what a marked line states: after `|` the text and a line end, after `~` the text, after `*` a count and a text that is
-/// repeated, after `%` two numbers and a text for each number between them, after `@` the same with a line end behind each, after
-/// `$` bytes in hexadecimal.
+/// Appends the bytes that a marked line gives.
+///
+/// After `|` comes a text that is ended with a line feed, and after `~` a text without one. After `*` come a count
+/// and a text to repeat. After `%` come two numbers and a text for each number between them, and after `@` the same
+/// with a line feed after each. After `$` come bytes in hexadecimal.
 pub(crate) fn put_marked(bytes: &mut Vec<u8>, mark: u8, text: &str) -> Result<(), Fault> {
     match mark {
         b'|' => put_line(bytes, text),
@@ -43,7 +45,7 @@ fn put_line(bytes: &mut Vec<u8>, text: &str) -> Result<(), Fault> {
     Ok(bytes.push(b'\n')?)
 }
 
-// The parts before and behind the first blank.
+// The parts before and after the first blank.
 fn parts<'a>(text: &'a str, wanted: &'static str) -> Result<(&'a str, &'a str), Fault> {
     match text.split_once(' ') {
         Some(parts) => Ok(parts),
@@ -65,7 +67,7 @@ fn put_numbered(bytes: &mut Vec<u8>, text: &str, end: &[u8]) -> Result<(), Fault
     put_each(bytes, number(first)?, number(last)?, piece, end)
 }
 
-// The text and the end for each number from the first to the last.
+// Appends the text and the end for each number from the first to the last.
 fn put_each(
     bytes: &mut Vec<u8>,
     first: u64,
@@ -80,7 +82,7 @@ fn put_each(
     Ok(())
 }
 
-// The text with the number in place of `{i}`, and its neighbours in place of `{i-1}` and `{i+1}`.
+// Appends the text with the number in place of `{i}`, and its neighbours in place of `{i-1}` and `{i+1}`.
 fn put_with(bytes: &mut Vec<u8>, text: &str, i: u64) -> Result<(), Fault> {
     let mut parts = text.split("{i");
     if let Some(front) = parts.next() {
@@ -92,7 +94,7 @@ fn put_with(bytes: &mut Vec<u8>, text: &str, i: u64) -> Result<(), Fault> {
     Ok(())
 }
 
-// What stands behind `{i`: the end of the number's mark, and the text after it.
+// Appends what follows `{i`: the end of the number's mark, and the text after it.
 fn put_shifted(bytes: &mut Vec<u8>, part: &str, i: u64) -> Result<(), Fault> {
     let (shift, rest) = part.split_once('}').ok_or("an end of {i}")?;
     put_digits(bytes, shifted(shift, i)?)?;

@@ -1,8 +1,8 @@
-// How what came is compared with what was wanted.
+// Comparisons of results with expected values.
 use crate::answer::Answer;
 use crate::fault::Fault;
 
-/// Puts both numbers where they differ.
+/// Writes both numbers where they differ.
 pub fn put_number_difference(out: &mut Answer, what: &str, wanted: u64, came: u64) {
     if wanted != came {
         out.put(b"    ");
@@ -15,7 +15,7 @@ pub fn put_number_difference(out: &mut Answer, what: &str, wanted: u64, came: u6
     }
 }
 
-/// Puts both texts where they differ.
+/// Writes both texts where they differ.
 pub fn put_difference(out: &mut Answer, what: &str, wanted: &[u8], came: &[u8]) {
     if wanted != came {
         put_titled(out, what, b" wanted", wanted);
@@ -41,7 +41,7 @@ fn put_titled(out: &mut Answer, what: &str, which: &[u8], bytes: &[u8]) {
     out.put(if starts { b"\n" } else { b"~\n" });
 }
 
-/// Puts why a case is not understood.
+/// Writes the reason why a case is not understood.
 pub fn put_unreadable(out: &mut Answer, fault: Fault) {
     out.put(b"    not understood: ");
     out.put_fault(fault);

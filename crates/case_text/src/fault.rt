@@ -1,13 +1,13 @@
-// Why a case has no answer.
+// The reason why a case has no answer.
 use std::alloc::{AllocError, AllocFailed};
 use text_core::{End, NoMemory};
 
-/// Why a case has no answer.
+/// The reason why a case has no answer.
 #[derive(Clone, Copy)]
 pub enum Fault {
-    /// Want of memory.
+    /// Out of memory.
     NoMemory,
-    /// What the case states can't be used, and why.
+    /// The case can't be used, for this reason.
     Unreadable(&'static str),
 }
 
@@ -44,7 +44,7 @@ impl From<&'static str> for Fault {
     }
 }
 
-/// A line of cases that can't be read, numbered from 1, and why.
+/// A line of cases that can't be parsed, numbered from 1, and the reason.
 #[derive(Clone, Copy)]
 pub struct Unread {
     pub line: usize,

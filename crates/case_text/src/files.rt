@@ -5,22 +5,22 @@ use crate::reading::Entry;
 use std::alloc::Global;
 use text_core::{FilePair, Name, ReadEnd, Shelf, read_whole};
 
-// No file of cases has more bytes.
+// The most bytes of a file that a case names.
 const LIMIT: usize = 1 << 26;
 
-/// The files of a shelf, read whole.
+/// The files of a shelf, each read as a whole.
 #[derive(Drop)]
 pub struct Files<F: Shelf + Drop> {
     shelf: F,
 }
 
 impl<F: Shelf + Drop> Files<F> {
-    /// The files of this shelf.
+    /// Returns the files of this shelf.
     pub fn new(shelf: F) -> Files<F> {
         Files { shelf }
     }
 
-    /// The bytes of a file.
+    /// Reads a file and returns its bytes.
     pub fn read(&mut self, alloc: Global, name: &str) -> Result<Vec<u8>, Fault> {
         let name = Name::of(alloc, name.as_bytes())?;
         match read_whole(alloc, &mut self.shelf, &name, LIMIT) {
@@ -31,7 +31,7 @@ impl<F: Shelf + Drop> Files<F> {
         }
     }
 
-    // The name that a line states, and its bytes: those below the line, or those of another file.
+    // The name on a line, with the bytes below the line, or with those of another file.
     fn named<'a>(&mut self, alloc: Global, entry: &Entry<'a>) -> Result<(&'a str, Vec<u8>), Fault> {
         match entry.says.split_once(" from ") {
             Some((name, file)) => Ok((name, self.read(alloc, file)?)),
@@ -39,14 +39,14 @@ impl<F: Shelf + Drop> Files<F> {
         }
     }
 
-    /// The piece that a line gives to a call.
+    /// Returns the piece that a line gives to a call.
     pub fn piece(&mut self, alloc: Global, entry: &Entry) -> Result<Piece, Fault> {
         let (name, bytes) = self.named(alloc, entry)?;
         let name = String::from_str(alloc, name)?;
         Ok(Piece { name, bytes })
     }
 
-    /// The file that a line puts on the shelf of a run.
+    /// Returns the file that a line puts on the shelf of a run.
     pub fn pair(&mut self, alloc: Global, entry: &Entry) -> Result<FilePair, Fault> {
         let (name, bytes) = self.named(alloc, entry)?;
         let name = Name::of(alloc, name.as_bytes())?;

@@ -1,6 +1,6 @@
-//! Cases written as text: what a call is given and what it must answer. One case is a line `case TITLE` with lines of a key
-//! and what it says below; lines that begin with a mark are the bytes of the line above them. Files that cases name, differences and
-//! the tally of passed cases stand here, too.
+//! Test cases written as text: the arguments of a call and its expected answer. A case is a line `case TITLE`,
+//! followed by lines with a key and a value. Lines that begin with a mark are the bytes of the line above them. The
+//! crate also reads the files that cases name, reports differences, and counts the cases that passed.
 #![tactic(auto)]
 
 mod answer;

@@ -1,19 +1,19 @@
-// What a call is given, piece by piece.
+// The arguments of a call, piece by piece.
 use crate::fault::Fault;
 
-/// A named piece of what a case states, such as a model, a state or a row of a table.
+/// A named piece of a case, such as a model, a state or a row of a table.
 #[derive(Drop)]
 pub struct Piece {
     pub name: String,
     pub bytes: Vec<u8>,
 }
 
-/// Is there a piece with this name?
+/// Returns whether there is a piece with this name.
 pub fn has_piece(pieces: &[Piece], name: &str) -> bool {
     pieces.iter().any(|p| p.name.as_str() == name)
 }
 
-/// The bytes of the first piece with this name.
+/// Returns the bytes of the first piece with this name.
 pub fn piece_bytes<'a>(pieces: &'a [Piece], name: &str) -> Result<&'a [u8], Fault> {
     for piece in pieces {
         if piece.name.as_str() == name {
@@ -23,7 +23,7 @@ pub fn piece_bytes<'a>(pieces: &'a [Piece], name: &str) -> Result<&'a [u8], Faul
     Err(Fault::Unreadable("a piece is missing"))
 }
 
-/// The text that the bytes are.
+/// Returns the bytes as a text, where they are UTF-8.
 pub fn utf8<'a>(bytes: &'a [u8]) -> Result<&'a str, Fault> {
     match std::str::from_utf8(bytes) {
         Ok(text) => Ok(text),
@@ -31,7 +31,7 @@ pub fn utf8<'a>(bytes: &'a [u8]) -> Result<&'a str, Fault> {
     }
 }
 
-/// The number of these decimal digits.
+/// Parses decimal digits to a number.
 pub fn number(word: &str) -> Result<u64, Fault> {
     match word.parse::<u64>() {
         Ok(n) => Ok(n),

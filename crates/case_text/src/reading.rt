@@ -1,9 +1,9 @@
-// Cases, read from a text.
+// Parses cases from a text.
 use crate::bytes::put_marked;
 use crate::fault::{Fault, Unread};
 use std::alloc::Global;
 
-/// A line of a case: its key, what it says, and the bytes that stand below it.
+/// A line of a case: its key, its value, and the bytes on the marked lines below it.
 #[derive(Drop)]
 pub struct Entry<'a> {
     pub key: &'a str,
@@ -11,14 +11,16 @@ pub struct Entry<'a> {
     pub bytes: Vec<u8>,
 }
 
-/// A case: what it shows, and its lines.
+/// A case: its title, which says what it shows, and its lines.
 #[derive(Drop)]
 pub struct Case<'a> {
     pub title: &'a str,
     pub entries: Vec<Entry<'a>>,
 }
 
-/// Reads the cases of a text. Empty lines and lines that begin with `#` say nothing.
+/// Parses the cases of a text.
+///
+/// Empty lines and lines that begin with `#` are skipped.
 pub fn read_cases<'a>(alloc: Global, text: &'a str) -> Result<Vec<Case<'a>>, Unread> {
     let mut cases = Vec::new(alloc);
     take_lines(alloc, &mut cases, text)?;
@@ -48,7 +50,7 @@ fn take_line<'a>(alloc: Global, cases: &mut Vec<Case<'a>>, line: &'a str) -> Res
     }
 }
 
-// What stands behind a line's mark and one blank.
+// The text after a line's mark and one blank.
 fn marked_text(line: &str) -> &str {
     match line.split_once(' ') {
         Some((_, text)) => text,

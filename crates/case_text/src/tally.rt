@@ -1,8 +1,8 @@
-// How many cases passed, and what the others differ in.
+// The number of cases that passed, and the differences of the others.
 use crate::answer::Answer;
 use std::alloc::Global;
 
-/// The cases of one file: how many passed, how many differ, and in what.
+/// The results of one file of cases: how many passed, how many differ, and the differences.
 #[derive(Drop)]
 pub struct Tally {
     passed: u64,
@@ -11,7 +11,7 @@ pub struct Tally {
 }
 
 impl Tally {
-    /// No cases.
+    /// Returns the tally before the first case.
     pub fn new(alloc: Global) -> Tally {
         Tally {
             passed: 0,
@@ -20,7 +20,9 @@ impl Tally {
         }
     }
 
-    /// Counts a case with its differences: it passed where there are none. Want of memory shows in the report's end.
+    /// Counts a case with its differences.
+    ///
+    /// The case passed where there are none. Out of memory is recorded in the report.
     pub fn count(&mut self, title: &str, differences: Answer) {
         match differences.done() {
             Ok(differences) => self.count_text(title, differences.bytes()),
@@ -37,12 +39,12 @@ impl Tally {
         }
     }
 
-    /// Is there no case that differs, and one that passed?
+    /// Returns whether no case differs and at least one passed.
     pub fn all_passed(&self) -> bool {
         self.differ == 0 && self.passed > 0
     }
 
-    /// Puts the line of a file, and what differs.
+    /// Writes the line of a file, and the differences.
     pub fn put_into(self, out: &mut Answer, file: &str) {
         put_counts(out, file, self.passed, self.differ);
         out.put_text(self.text.done());

@@ -1,17 +1,19 @@
-// Families: a case that states many runs. In run N a file has its first N bytes, or call N fails. In the run of a row the files
-// have the row's text.
+// Families: a case that states many runs. In run N a file has its first N bytes, or call N fails. In the run of a
+// row, the files contain the row's text.
 use case_text::{Case, Entry, Fault, Files, number};
 use std::alloc::Global;
 use text_core::Shelf;
 
-/// The runs that a numbered line describes, from the first to the last.
+/// The runs to which a numbered line applies, from the first to the last.
 #[derive(Clone, Copy)]
 pub struct Range {
     pub first: u64,
     pub last: u64,
 }
 
-/// A run of a family: its number, or its row. Elsewhere nothing depends on it.
+/// One run of a family: its number, or its row.
+///
+/// For other cases nothing depends on it.
 #[derive(Clone, Copy)]
 pub struct Member<'a> {
     pub number: u64,
@@ -19,17 +21,17 @@ pub struct Member<'a> {
 }
 
 impl<'a> Member<'a> {
-    /// The only run of a case.
+    /// Returns the only run of a case.
     pub fn only() -> Member<'a> {
         Member::numbered(0)
     }
 
-    /// The run of this number.
+    /// Returns the run with this number.
     pub fn numbered(number: u64) -> Member<'a> {
         Member { number, row: None }
     }
 
-    /// The run of a row with this text.
+    /// Returns the run of a row with this text.
     pub fn of_row(row: &'a str) -> Member<'a> {
         Member {
             number: 0,
@@ -38,19 +40,19 @@ impl<'a> Member<'a> {
     }
 }
 
-/// Does the case state a numbered family of runs?
+/// Returns whether the case states a numbered family of runs.
 pub fn is_family(case: &Case) -> bool {
     case.entries
         .iter()
         .any(|e| e.key == "fronts" || fails_each(e))
 }
 
-/// Does the case state a run for each row of a table?
+/// Returns whether the case states a run for each row of a table.
 pub fn is_table(case: &Case) -> bool {
     case.entries.iter().any(|e| e.key == "row")
 }
 
-/// The text of a row, and the line behind it that states what its run must come to, if there is one.
+/// Returns the text of a row, and the line after it with the expected result of its run, if there is one.
 pub fn row_and_line<'a>(entry: &Entry<'a>) -> (&'a str, Option<&'a str>) {
     match entry.says.rsplit_once(" => ") {
         Some((row, line)) => (row, Some(line)),
@@ -58,12 +60,14 @@ pub fn row_and_line<'a>(entry: &Entry<'a>) -> (&'a str, Option<&'a str>) {
     }
 }
 
-/// Does the line state that call N fails in run N?
+/// Returns whether the line states that call N fails in run N.
 pub fn fails_each(entry: &Entry) -> bool {
     entry.says == "fails each"
 }
 
-/// The runs that a line describes, if it begins with their numbers, as `7` or `0-6`.
+/// Returns the runs to which a line applies, where it begins with their numbers, as `7` or `0-6`.
+///
+/// Returns `Ok(None)` for any other line.
 pub fn range_of(entry: &Entry) -> Result<Option<Range>, Fault> {
     match entry.key.as_bytes() {
         [b'0'..=b'9', ..] => Ok(Some(range_in(entry.key)?)),
@@ -79,7 +83,9 @@ fn range_in(key: &str) -> Result<Range, Fault> {
     })
 }
 
-/// Checks that no two lines describe the same run, and that each front of a file has a line.
+/// Checks that no two lines apply to the same run, and that there is a line for each prefix of a file.
+///
+/// Returns an error for a family with no runs.
 pub fn check_ranges<F: Shelf + Drop>(
     alloc: Global,
     files: &mut Files<F>,
@@ -96,7 +102,7 @@ pub fn check_ranges<F: Shelf + Drop>(
     }
 }
 
-// The number of fronts of the file after `fronts`, if the case has such a line.
+// The number of prefixes of the file after `fronts`, if the case has such a line.
 fn front_count<F: Shelf + Drop>(
     alloc: Global,
     files: &mut Files<F>,

@@ -1,4 +1,4 @@
-//! Cases of whole commands: what a run is given, over files and streams in memory, and what it must answer.
+//! Cases of whole commands: the words, files and streams of a run, in memory, and its expected result.
 #![tactic(auto)]
 
 mod family;

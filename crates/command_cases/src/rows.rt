@@ -3,7 +3,7 @@ use case_text::{Fault, put_lines, utf8};
 use std::alloc::Global;
 use text_core::FilePair;
 
-/// The file with the row's text in it, if the run is that of a row.
+/// Returns the file with the row's text filled in, if the run is that of a row.
 pub fn with_row(alloc: Global, file: FilePair, row: Option<&str>) -> Result<FilePair, Fault> {
     match row {
         Some(row) => {
@@ -17,7 +17,8 @@ pub fn with_row(alloc: Global, file: FilePair, row: Option<&str>) -> Result<File
     }
 }
 
-// The bytes with the row's text in place of `{row}`, and its first word, its second and so on in place of `{1}`, `{2}` and so on.
+// The bytes with the row's text in place of `{row}`, and its first word, its second and so on in place of `{1}`,
+// `{2}` and so on.
 fn filled(alloc: Global, bytes: &[u8], row: &str) -> Result<Vec<u8>, Fault> {
     let text = utf8(bytes)?;
     let mut filled = Vec::new(alloc);
@@ -36,7 +37,7 @@ fn put_filled(filled: &mut Vec<u8>, text: &str, row: &str) -> Result<(), Fault> 
     Ok(())
 }
 
-// A part of the text from behind a `{` on.
+// Appends a part of the text, which begins after a `{`.
 fn put_part(filled: &mut Vec<u8>, part: &str, row: &str) -> Result<(), Fault> {
     let (place, rest) = part.split_once('}').unwrap_or(("", ""));
     match put_at(filled, place, row)? {
@@ -48,7 +49,7 @@ fn put_part(filled: &mut Vec<u8>, part: &str, row: &str) -> Result<(), Fault> {
     }
 }
 
-// Adds what stands for a place, and returns whether it is one.
+// Appends the text for a placeholder, and returns whether it is one.
 fn put_at(filled: &mut Vec<u8>, place: &str, row: &str) -> Result<bool, Fault> {
     match place.as_bytes() {
         b"row" => put_lines(filled, row)?,

@@ -66,7 +66,7 @@ fn put_range<F: Shelf + Drop>(
     Ok(())
 }
 
-// A numbered run. The report shows its number behind the title.
+// Makes a numbered run. The report shows its number after the title.
 fn put_numbered<F: Shelf + Drop>(
     alloc: Global,
     files: &mut Files<F>,
@@ -95,7 +95,7 @@ fn put_table<F: Shelf + Drop>(
     Ok(())
 }
 
-// The run of a row. The report shows its text behind the title.
+// Makes the run of a row. The report shows the row's text after the title.
 fn put_row<F: Shelf + Drop>(
     alloc: Global,
     files: &mut Files<F>,
@@ -145,7 +145,7 @@ fn put_runs<F: Shelf + Drop>(
     Ok(())
 }
 
-// A run for each number that `shelf most` states, which is the most bytes that a call reads.
+// Makes a run for each number that `shelf most` states: the most bytes of one read.
 fn put_command<F: Shelf + Drop>(
     alloc: Global,
     files: &mut Files<F>,
@@ -186,7 +186,7 @@ fn put_set_run(
     Ok(())
 }
 
-/// Runs the program over files and streams that never fail, and counts whether the status is the wanted one.
+/// Runs the program over files and streams that never fail, and compares only the status.
 pub fn put_sure_run<F: Shelf + Drop>(
     alloc: Global,
     files: &mut Files<F>,
@@ -212,7 +212,7 @@ pub fn put_sure_run<F: Shelf + Drop>(
     Ok(())
 }
 
-// Over these only a missing file is a fault.
+// With these files and streams, only a missing file is a fault.
 fn sure_run(alloc: Global, words: &Vec<String>, shelf: &mut SureShelf) -> Status
     ensures writes { result ≢ Status.WriteFault }
     ensures reads { result ≡ Status.ReadFault → IsAbsent (Some shelf.old.files) (command_of (map string_bytes words.now.items)) }

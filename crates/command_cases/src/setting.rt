@@ -1,4 +1,4 @@
-// What a run is given.
+// The setting of a run.
 use crate::family::{Member, fails_each};
 use crate::rows::with_row;
 use case_text::{Case, Entry, Fault, Files, number};
@@ -8,7 +8,7 @@ use text_core::{FilePair, FilePairs, MemorySink, Numbers, Shelf};
 // The room of a sink where the case states none.
 const ROOM: u64 = 1_048_576;
 
-/// What a run is given: its words, its files, and what fails.
+/// The setting of a run: its words, its files, the limits of its sinks, and the calls that fail.
 #[derive(Drop)]
 pub struct Setting {
     pub words: Vec<String>,
@@ -18,7 +18,7 @@ pub struct Setting {
     pub notes: Limits,
 }
 
-/// What a sink takes: its room, the most of a call, and the numbers of the calls that fail.
+/// The limits of a sink: its room, the most bytes of a call, and the numbers of the calls that fail.
 #[derive(Drop)]
 pub struct Limits {
     room: u64,
@@ -35,7 +35,7 @@ impl Limits {
         }
     }
 
-    // Takes a line, if it states a limit.
+    // Applies a line, if it states a limit.
     fn take(&mut self, alloc: Global, entry: &Entry, number: u64) -> Result<(), Fault> {
         match entry.says.split_once(' ') {
             Some(("fails", _)) => self.fails = failing(alloc, entry, number)?,
@@ -46,7 +46,7 @@ impl Limits {
         Ok(())
     }
 
-    /// The sink with these limits.
+    /// Returns the sink with these limits.
     pub fn sink(self, alloc: Global) -> Result<MemorySink, Fault> {
         let most = usize::try_from(self.most).unwrap_or(usize::MAX);
         let room = usize::try_from(self.room).unwrap_or(usize::MAX);
@@ -58,7 +58,7 @@ impl Limits {
 }
 
 impl Setting {
-    /// The setting that a case states for a run of these words.
+    /// Returns the setting that a case states for a run with these words.
     pub fn of<F: Shelf + Drop>(
         alloc: Global,
         files: &mut Files<F>,
@@ -90,7 +90,7 @@ impl Setting {
         Ok(())
     }
 
-    // Takes a line, if it states something of the setting.
+    // Applies a line, if it states part of the setting.
     fn take<F: Shelf + Drop>(
         &mut self,
         alloc: Global,
@@ -143,8 +143,9 @@ fn one(alloc: Global, n: u64) -> Result<Numbers, Fault> {
     Ok(numbers)
 }
 
-/// The most bytes that a call reads of a file, for each of the runs that a case states: 0, which is no limit, where it states
-/// none.
+/// Returns the most bytes of one read, for each of the runs that a case states.
+///
+/// The value 0 means no limit, and is the default.
 pub fn reads_of(alloc: Global, case: &Case) -> Result<Numbers, Fault> {
     for entry in &case.entries {
         if let Some(says) = reads_in(entry) {

@@ -2,7 +2,9 @@
 use std::cmp::min;
 use text_core::{Name, Shelf, ShelfFault};
 
-/// Files of which a call reads so many bytes at most; 0 sets no limit.
+/// A shelf of files of which one call reads at most `most` bytes.
+///
+/// The value 0 means no limit.
 #[derive(Drop)]
 pub struct ShortShelf<F: Shelf + Drop> {
     files: F,
@@ -10,7 +12,7 @@ pub struct ShortShelf<F: Shelf + Drop> {
 }
 
 impl<F: Shelf + Drop> ShortShelf<F> {
-    /// The files of a shelf, and the most bytes of a call.
+    /// Returns a shelf with these files, of which one call reads at most `most` bytes.
     pub fn new(files: F, most: usize) -> ShortShelf<F> {
         ShortShelf { files, most }
     }

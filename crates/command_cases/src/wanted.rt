@@ -1,4 +1,4 @@
-// What a case wants of a run.
+// The expected result of a run.
 use crate::family::fails_each;
 use case_text::{Case, Entry, Fault, Files, number};
 use std::alloc::Global;
@@ -6,7 +6,7 @@ use text_core::Shelf;
 
 const USAGE: &[u8] = b"usage: moxi_cli COMMAND MODEL [SECOND] [--property J]\n";
 
-/// The status and the bytes that a case wants.
+/// The expected status, and the expected bytes of both streams.
 #[derive(Drop)]
 pub struct Wanted {
     pub status: u64,
@@ -24,7 +24,9 @@ impl Wanted {
         }
     }
 
-    /// What a case wants. A line that is a note of the program implies the status and that nothing is written beside it.
+    /// Returns the expected result that a case states.
+    ///
+    /// A line that is a note of the program implies its status, and that nothing else is written.
     pub fn of<F: Shelf + Drop>(
         alloc: Global,
         files: &mut Files<F>,
@@ -35,7 +37,8 @@ impl Wanted {
         Ok(wanted)
     }
 
-    /// What a line of a family wants of a run: what the case states for all runs, with the line's own status, note and output.
+    /// Returns the expected result of one run of a family: that of the case, with the line's own status, note and
+    /// output.
     pub fn of_line<F: Shelf + Drop>(
         alloc: Global,
         files: &mut Files<F>,
@@ -50,7 +53,7 @@ impl Wanted {
         Ok(wanted)
     }
 
-    // Takes the lines of a case, and returns whether one of them states a status.
+    // Applies the lines of a case, and returns whether one of them states a status.
     fn take_all<F: Shelf + Drop>(
         &mut self,
         alloc: Global,
@@ -66,7 +69,7 @@ impl Wanted {
         Ok(stated)
     }
 
-    // Takes a line of a family, which must state a status.
+    // Applies a line of a family, which must state a status.
     fn take_line<F: Shelf + Drop>(
         &mut self,
         alloc: Global,
@@ -92,7 +95,7 @@ impl Wanted {
         }
     }
 
-    // Takes a line, and answers whether it states a status.
+    // Applies a line, and returns whether it states a status.
     fn take<F: Shelf + Drop>(
         &mut self,
         alloc: Global,
@@ -153,7 +156,7 @@ fn check_stated(stated: bool) -> Result<(), Fault> {
     }
 }
 
-// Does each call of this stream fail in a run of its own?
+// Whether each call of this stream fails in a run of its own.
 fn has_failing(case: &Case, stream: &str) -> bool {
     case.entries
         .iter()
@@ -168,7 +171,7 @@ fn cut_text(bytes: &mut Vec<u8>, count: usize) -> Result<(), Fault> {
     Ok(())
 }
 
-// Splits `after N bytes` or `after N bytes a call` off the end of what a numbered line says. In run K call K fails.
+// Splits `after N bytes` or `after N bytes a call` off the end of a numbered line. In run K call K fails.
 fn line_and_taken<'a>(says: &'a str, number: u64) -> Result<(&'a str, Option<usize>), Fault> {
     match says.rsplit_once(" after ") {
         Some((line, end)) => match taken_in(end, number)? {
@@ -192,14 +195,14 @@ fn byte_count(word: &str, times: u64) -> Result<usize, Fault> {
     Ok(usize::try_from(count).unwrap_or(usize::MAX))
 }
 
-// What a numbered line says, as a line of its own with the bytes below it.
+// The text of a numbered line, as a line of its own with the bytes below it.
 fn line_of<'a>(alloc: Global, line: &'a str, entry: &Entry) -> Result<Entry<'a>, Fault> {
     let (key, says) = line.split_once(' ').unwrap_or((line, ""));
     let bytes = entry.bytes.as_slice().to_vec(alloc)?;
     Ok(Entry { key, says, bytes })
 }
 
-// Does a line of a stream state what the stream takes, and not its limits?
+// Whether a line of a stream states its content, and not its limits.
 fn states_text(entry: &Entry) -> bool {
     match entry.says {
         "" | "nothing" => true,
@@ -219,7 +222,7 @@ fn text_of<F: Shelf + Drop>(
     }
 }
 
-// The status of the note that the line is, if it is one.
+// The status of the note on a line, if the line is one.
 fn status_of_note(entry: &Entry) -> Option<u64> {
     match (entry.key, entry.says) {
         ("no:", _) => Some(1),

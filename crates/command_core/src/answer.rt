@@ -1,4 +1,4 @@
-// What a run is to answer.
+// The answer of a run.
 ghost use Rattle.std.specs.Prelude.{◌≡◌, ◌⊎◌};
 ghost use Rattle.command_core.specs.Answers.{status_of};
 
@@ -6,12 +6,12 @@ use crate::status::Status;
 use std::alloc::Global;
 use text_core::{Clause, FIRST_PLACE, Kind, Name, NoMemory, Refusal, Text};
 
-/// What a run is to answer.
+/// The answer of a run.
 #[derive(Drop)]
 pub enum Answer {
     /// The words are no command.
     Usage,
-    /// The file of this name was not read.
+    /// The file with this name could not be read.
     Unread(Name),
     /// The model is refused.
     Refused(Refusal),
@@ -19,24 +19,26 @@ pub enum Answer {
     SecondRefused(Refusal),
     /// The stated run fails this clause first, at this step.
     No(u32, Clause),
-    /// This is to be written.
+    /// The run has this output.
     Done(Output),
 }
 
-/// What is to be written: a text, or what is put together while it is written and so takes no memory then.
+/// The output of a run.
+///
+/// It is a text, or the parts of a line that is put together while it is written, which allocates nothing.
 #[derive(Drop)]
 pub enum Output {
-    /// A text that is whole.
+    /// A complete text.
     Text(Text),
-    /// The line of an accepted witness: the bad line's number, and the last step.
+    /// The line for an accepted witness: the bad line's number, and the last step.
     Yes(u32, u32),
-    /// The line of an accepted trace: the invariant's number, and the last step.
+    /// The line for an accepted trace: the invariant's number, and the last step.
     Broken(u32, u32),
-    /// The line of an accepted response: the query's name as a symbol is printed, and the last step.
+    /// The line for an accepted response: the query's name, printed as a symbol, and the last step.
     Met(Name, u32),
 }
 
-/// Why a step does not go on: an answer that stands, or want of memory.
+/// The reason why a command stops early: its answer is already known, or it is out of memory.
 #[derive(Drop)]
 pub enum Stop {
     Answered(Answer),
@@ -55,7 +57,7 @@ impl From<NoMemory> for Stop {
 }
 
 impl Answer {
-    /// The status that it has.
+    /// Returns the status of the answer.
     pub fn status(&self) -> Status
         ensures { result ≡ status_of self.now }
     {
@@ -70,7 +72,7 @@ impl Answer {
     }
 }
 
-/// A refusal at a text's first byte.
+/// Returns a refusal of this kind at the first byte of a text.
 pub fn refusal(kind: Kind) -> Refusal
     ensures { result ≡ record { kind = kind; place = record { line = 1; column = 1; offset = 0 } } }
 {
@@ -80,7 +82,7 @@ pub fn refusal(kind: Kind) -> Refusal
     }
 }
 
-/// The answer that the file was not read.
+/// Returns the stop with the answer that the file was not read, or out of memory.
 pub fn unread_stop(alloc: Global, name: &Name) -> Stop
     ensures { (result ≡ Stop.Answered (Answer.Unread name.now)) ⊎ (result ≡ Stop.NoMemory) }
 {

@@ -1,4 +1,4 @@
-// The skeleton of a command: files are read within their limits, and their bytes are answered.
+// The skeleton of a command: it reads files within their limits and computes the answer from their bytes.
 ghost use Rattle.std.specs.Prelude.{◌≡◌, ◌≤◌, [], ◌∷◌, ℕ, List, length, IfOk, IfErr, IsErrAnd};
 ghost use Rattle.text_core.specs.Outside.{Files, Rose};
 ghost use Rattle.command_core.specs.declared.answer.Answer.{Answer};
@@ -12,7 +12,7 @@ use crate::files::read_file;
 use std::alloc::Global;
 use text_core::{End, Name, Shelf, Text};
 
-/// Answers the bytes of the file that a command reads last.
+/// A computation of the answer from the file that a command reads last.
 pub trait LastFile {
     /// The most bytes that the file may have.
     ghost most: { ℕ };
@@ -20,10 +20,10 @@ pub trait LastFile {
     /// The answer to a longer file.
     ghost longer: { Answer };
 
-    /// This is an answer to the file's bytes.
+    /// The relation between the file's bytes and an answer to them.
     ghost defines: { Self → List ℕ → Answer → Type 0 };
 
-    /// What is known of the value when it is asked.
+    /// The invariant of the command's own value, which the caller of `answer` ensures.
     ghost fits: { Self → Type 0 };
 
     /// Returns the most bytes that the file may have.
@@ -41,14 +41,14 @@ pub trait LastFile {
         ensures answer { IfOk result (defines self.now bytes.now) }
         ensures stop { IfErr result (StopsWith (defines self.now bytes.now)) };
 
-    /// The answer to a longer file says that it was read.
+    /// The answer to a longer file implies that the file was read.
     ghost longer_says: { SaysRead longer };
 
-    /// An answer to the file's bytes says that they were read.
+    /// An answer to the file's bytes implies that the file was read.
     ghost says: { (command : Self) (bytes : List ℕ) (a : Answer) → defines command bytes a → SaysRead a };
 }
 
-/// Answers the bytes of the first of two files.
+/// A computation of the answer from the first of two files.
 pub trait FirstFile {
     /// The most bytes that the first file may have.
     ghost most: { ℕ };
@@ -56,7 +56,7 @@ pub trait FirstFile {
     /// The answer to a longer file.
     ghost longer: { Answer };
 
-    /// This is an answer, among these files with this name of the second, to the first file's bytes.
+    /// The relation between the shelf's files, the second file's name, the first file's bytes, and an answer.
     ghost defines: { Self → Files → List ℕ → List ℕ → Answer → Type 0 };
 
     /// Returns the most bytes that the file may have.
@@ -67,7 +67,9 @@ pub trait FirstFile {
     fn too_long(&self) -> Answer
         ensures { result ≡ longer };
 
-    /// Returns the answer to the first file's bytes. Where it goes on to the second file, it calls `answer_file`.
+    /// Returns the answer to the first file's bytes.
+    ///
+    /// An implementation that goes on to the second file calls `answer_file`.
     fn answer<F: Shelf>(
         &self,
         alloc: Global,
@@ -80,11 +82,11 @@ pub trait FirstFile {
         ensures stop { IfErr result (StopsWith (MayGive (F.files shelf.old) (second.now ∷ []) (λ files. defines self.now files second.now bytes.now) (Rose (F.faults shelf.old) (F.faults shelf.new)))) }
         ensures shelf { KeepsShelf (F.files shelf.old) (F.files shelf.new) (F.faults shelf.old) (F.faults shelf.new) (F.begun shelf.old) (F.begun shelf.new) (second.now ∷ []) (IsErrAnd result StopsUnread) };
 
-    /// The answer to a longer file says that it was read.
+    /// The answer to a longer file implies that the file was read.
     ghost longer_says: { SaysRead longer };
 }
 
-/// Reads a file within its limit, and answers its bytes.
+/// Reads a file within its limit, and returns the answer to its bytes.
 pub fn answer_file<F: Shelf, T: LastFile>(
     alloc: Global,
     name: &Name,
@@ -100,7 +102,7 @@ pub fn answer_file<F: Shelf, T: LastFile>(
     command.answer(alloc, &bytes)
 }
 
-/// Reads the first file within its limit, and answers its bytes and those of the second file.
+/// Reads the first file within its limit, and returns the answer to its bytes and those of the second file.
 pub fn answer_files<F: Shelf, T: FirstFile>(
     alloc: Global,
     model: &Name,
@@ -116,7 +118,7 @@ pub fn answer_files<F: Shelf, T: FirstFile>(
     command.answer(alloc, &bytes, second, shelf)
 }
 
-/// Returns the answer that is a text, or the refusal in its place.
+/// Returns the answer with this text, or the refusal in place of the text.
 pub fn text_answer(text: Result<Text, End>) -> Result<Answer, Stop>
     ensures { result ≡ text_answer text }
 {

@@ -1,4 +1,4 @@
-// Reading of the files that a command names.
+// Reads of the files that a command names.
 ghost use Rattle.std.specs.Prelude.{◌≡◌, ◌<◌, ◌≤◌, IfOk, IfErr, IsErrAnd, vec_len};
 ghost use Rattle.text_core.specs.Outside.{BeginsOnly, IsFile, Rose};
 ghost use Rattle.command_core.specs.Reading.{Instead, StopsUnread, StopsWith};
@@ -7,7 +7,9 @@ use crate::answer::{Answer, Stop, unread_stop};
 use std::alloc::Global;
 use text_core::{Name, ReadEnd, Shelf, read_whole};
 
-/// Reads a file of at most so many bytes. `longer` is what is answered to a longer one.
+/// Reads a file of at most `limit` bytes.
+///
+/// The answer to a longer file is `longer`.
 pub fn read_file<F: Shelf>(
     alloc: Global,
     shelf: &mut F,

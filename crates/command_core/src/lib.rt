@@ -1,4 +1,4 @@
-//! What every command shares: the words of the command line, how files are read, and the answer with its status, text and note.
+//! What all commands share: the words of the command line, reads of files, and answers with status, text and note.
 #![tactic(auto)]
 
 mod answer;

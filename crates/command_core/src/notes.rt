@@ -1,4 +1,4 @@
-// Writing the output, and the line that says how a run ended. None of it takes memory.
+// Writes the output, and the line that says how a run ended. None of it allocates.
 ghost use Rattle.std.specs.Prelude.{◌≡◌, ◌≢◌, ◌⊎◌, ◌<◌, OnErr, decimal};
 ghost use Rattle.text_core.specs.Outside.{grown, Rose};
 ghost use Rattle.command_core.specs.Answers.{line_of, output_text, status_of, text_of};
@@ -11,13 +11,15 @@ use itoa::Buffer;
 use text_core::{Clause, Kind, Name, Refusal, Sink, SinkFault, write_whole};
 
 /// Writes the answer's text to `out`, and then its line to `notes`.
+///
+/// Returns the answer's status, or `WriteFault` where either stream failed.
 pub fn deliver<K: Sink, N: Sink>(answer: &Answer, out: &mut K, notes: &mut N) -> Status
     ensures status { (result ≡ status_of answer.now) ⊎ (result ≡ Status.WriteFault) }
     ensures text { result ≢ Status.WriteFault → K.taken out.new ≡ grown (K.taken out.old) (text_of answer.now) }
     ensures part { IsPart (K.taken out.old) (K.taken out.new) (text_of answer.now) }
     ensures line { result ≢ Status.WriteFault → N.taken notes.new ≡ grown (N.taken notes.old) (line_of answer.now) }
-    // Either `out` failed, and `notes` took the line that says so, or a front of it where it failed too; or `notes` failed,
-    // and `out` is as it was.
+    // Either `out` failed, and `notes` took the line that says so, or a prefix of it where it failed too; or
+    // `notes` failed, and `out` is unchanged.
     ensures write_fault { result ≡ Status.WriteFault
         → (Rose (K.faults out.old) (K.faults out.new) × Took (N.taken notes.old) (N.taken notes.new) (N.faults notes.old) (N.faults notes.new) write_fault_line)
         ⊎ ((K.taken out.new ≡ K.taken out.old) × (status_of answer.now ≢ Status.Done) × IsPart (N.taken notes.old) (N.taken notes.new) (line_of answer.now) × Rose (N.faults notes.old) (N.faults notes.new)) }
@@ -30,7 +32,7 @@ pub fn deliver<K: Sink, N: Sink>(answer: &Answer, out: &mut K, notes: &mut N) ->
     }
 }
 
-// The status, where the line was put.
+// The status where the line was written, else a write fault.
 fn ended(put: Result<(), SinkFault>, status: Status) -> Status
     ensures { result ≡ ended put status }
 {
@@ -40,7 +42,7 @@ fn ended(put: Result<(), SinkFault>, status: Status) -> Status
     }
 }
 
-// Puts the answer's text.
+// Writes the answer's text.
 fn put_text<K: Sink>(answer: &Answer, out: &mut K) -> Result<(), SinkFault>
     ensures { Puts (K.taken out.old) (K.taken out.new) (K.faults out.old) (K.faults out.new) (text_of answer.now) result }
 {
@@ -65,7 +67,7 @@ fn put_output<K: Sink>(output: &Output, out: &mut K) -> Result<(), SinkFault>
     }
 }
 
-// Puts the line of an accepted witness or trace, behind these words.
+// Writes the line of an accepted witness or trace, after these words.
 fn put_accepted<K: Sink>(words: &[u8], number: u32, step: u32, out: &mut K) -> Result<(), SinkFault>
     ensures { Puts (K.taken out.old) (K.taken out.new) (K.faults out.old) (K.faults out.new) (accepted_line words.now (decimal number) step) result }
 {
@@ -73,7 +75,7 @@ fn put_accepted<K: Sink>(words: &[u8], number: u32, step: u32, out: &mut K) -> R
     put_last_step(words, digits.format(number).as_bytes(), step, out)
 }
 
-// Puts the line of what is accepted, with what it is of and its last step.
+// Writes the line of an accepted run: the words, the name or number of what it breaks or meets, and its last step.
 fn put_last_step<K: Sink>(
     words: &[u8],
     name: &[u8],
@@ -87,7 +89,7 @@ fn put_last_step<K: Sink>(
     put_pieces(out, &pieces)
 }
 
-// Puts the answer's line.
+// Writes the answer's line.
 fn put_line<N: Sink>(answer: &Answer, notes: &mut N) -> Result<(), SinkFault>
     ensures put { Puts (N.taken notes.old) (N.taken notes.new) (N.faults notes.old) (N.faults notes.new) (line_of answer.now) result }
     ensures none { OnErr result (status_of answer.now ≢ Status.Done) }
@@ -105,7 +107,7 @@ fn put_line<N: Sink>(answer: &Answer, notes: &mut N) -> Result<(), SinkFault>
     }
 }
 
-// Puts the name of a file that was not read.
+// Writes the line with the name of a file that was not read.
 fn put_unread<N: Sink>(name: &Name, notes: &mut N) -> Result<(), SinkFault>
     ensures { Puts (N.taken notes.old) (N.taken notes.new) (N.faults notes.old) (N.faults notes.new) (unread_line name.now) result }
 {
@@ -113,7 +115,7 @@ fn put_unread<N: Sink>(name: &Name, notes: &mut N) -> Result<(), SinkFault>
     put_pieces(notes, &pieces)
 }
 
-// What stands before a refusal of the model, or of the second file.
+// The words before a refusal of the model, or of the second file.
 fn refused_words(second: bool) -> &'static [u8]
     ensures { result.now ≡ refused_words second }
 {
@@ -124,7 +126,7 @@ fn refused_words(second: bool) -> &'static [u8]
     }
 }
 
-// Puts the kind and the place of a refusal.
+// Writes the line with the kind and the place of a refusal.
 fn put_refusal<N: Sink>(second: bool, refusal: Refusal, notes: &mut N) -> Result<(), SinkFault>
     ensures { Puts (N.taken notes.old) (N.taken notes.new) (N.faults notes.old) (N.faults notes.new) (refused_line (refused_words second) refusal) result }
 {
@@ -146,7 +148,7 @@ fn put_refusal<N: Sink>(second: bool, refusal: Refusal, notes: &mut N) -> Result
     put_pieces(notes, &pieces)
 }
 
-// What stands between a line and a column, where the kind's texts have places within a line.
+// The colon between line and column, where texts of this kind have places within a line.
 fn colon_of(kind: Kind) -> &'static [u8]
     ensures { result.now ≡ colon_text kind }
 {
@@ -156,7 +158,7 @@ fn colon_of(kind: Kind) -> &'static [u8]
     }
 }
 
-// The column's digits, where the kind's texts have places within a line.
+// The column's digits, where texts of this kind have places within a line.
 fn column_of(kind: Kind, digits: &[u8]) -> &[u8]
     ensures { result.now ≡ column_text kind digits.now }
 {
@@ -166,7 +168,7 @@ fn column_of(kind: Kind, digits: &[u8]) -> &[u8]
     }
 }
 
-// Puts the step and the clause that fails.
+// Writes the line with the step and the clause that fails.
 fn put_clause<N: Sink>(step: u32, clause: Clause, notes: &mut N) -> Result<(), SinkFault>
     ensures { Puts (N.taken notes.old) (N.taken notes.new) (N.faults notes.old) (N.faults notes.new) (denied_line step clause) result }
 {
@@ -217,14 +219,16 @@ fn number_of(kind: Kind) -> u8
     }
 }
 
-/// Writes the pieces of a line to `notes`, and passes the status on.
+/// Writes the pieces of a line to `notes`, and returns the status.
+///
+/// Returns `WriteFault` instead where `notes` failed.
 pub fn note<N: Sink>(notes: &mut N, pieces: &[&[u8]], status: Status) -> Status
     ensures { Noted (N.taken notes.old) (N.taken notes.new) (N.faults notes.old) (N.faults notes.new) (joined pieces.now) status result }
 {
     ended(put_pieces(notes, pieces), status)
 }
 
-// Puts the pieces in order.
+// Writes the pieces in order.
 fn put_pieces<N: Sink>(notes: &mut N, pieces: &[&[u8]]) -> Result<(), SinkFault>
     ensures { Puts (N.taken notes.old) (N.taken notes.new) (N.faults notes.old) (N.faults notes.new) (joined pieces.now) result }
 {

@@ -4,14 +4,18 @@ ghost use Rattle.command_core.specs.Numbers.{cell_count, decimal_number, invaria
 
 use text_core::is_digit;
 
-/// The number of an invariant: one to nine decimal digits.
+/// Parses the number of an invariant: one to nine decimal digits.
+///
+/// Returns None for any other text.
 pub fn invariant_number(text: &[u8]) -> Option<u32>
     ensures { result ≡ invariant_number text.now }
 {
     decimal_number(9, text)
 }
 
-/// The number of cells: one to four decimal digits, with a value from 1 to 1,000.
+/// Parses the number of cells: one to four decimal digits, with a value from 1 to 1,000.
+///
+/// Returns None for any other text.
 pub fn cell_count(text: &[u8]) -> Option<u32>
     ensures { result ≡ cell_count text.now }
 {
@@ -21,7 +25,7 @@ pub fn cell_count(text: &[u8]) -> Option<u32>
     }
 }
 
-// The number that one or more decimal digits write, which are at most so many.
+// The number that one to `most` decimal digits spell.
 fn decimal_number(most: usize, text: &[u8]) -> Option<u32>
     requires { most ≤ 9 }
     ensures { result ≡ decimal_number most text.now }

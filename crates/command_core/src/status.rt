@@ -2,14 +2,14 @@
 ghost use Rattle.std.specs.Prelude.{◌≡◌};
 ghost use Rattle.command_core.specs.Statuses.{number_of};
 
-/// How a run ends.
+/// The way in which a run ends.
 #[derive(Clone, Copy, Debug, PartialEq, Eq)]
 pub enum Status {
     /// The whole output was written.
     Done,
-    /// A judge refuses the stated run.
+    /// A judge rejects the stated run.
     No,
-    /// The model is not spelled, not accepted, or passes a limit.
+    /// The model does not parse, is not accepted, or exceeds a limit.
     Refused,
     /// The words are no command.
     Usage,
@@ -17,14 +17,14 @@ pub enum Status {
     ReadFault,
     /// The output or the note could not be written.
     WriteFault,
-    /// There was no memory.
+    /// Out of memory.
     NoMemory,
-    /// The second file is not spelled, or passes a limit.
+    /// The second file does not parse, or exceeds a limit.
     SecondRefused,
 }
 
 impl Status {
-    /// The number with which the program ends, from 0 to 7.
+    /// Returns the exit status of the program, from 0 to 7.
     pub fn number(self) -> u8
         ensures { result ≡ number_of self }
     {

@@ -1,4 +1,4 @@
-// The reading of a command's words.
+// Parses a command's words.
 ghost use Rattle.std.specs.Prelude.{◌≡◌, ◌++◌, [], IfOk, OnOk, map, option_map, string_bytes};
 ghost use Rattle.std.specs.List.{cons_option};
 ghost use Rattle.clap.specs.Words.{app_of, first_value, found_of};
@@ -11,19 +11,21 @@ use clap::{Arg, ArgAction, ArgMatches, Command};
 use std::alloc::{AllocError, Global};
 use text_core::NoMemory;
 
-/// What the words of a command give.
+/// The parsed words of a command.
 #[derive(Drop)]
 pub struct GivenWords<'a> {
-    /// The words that stand by themselves, at most three, in order.
+    /// The positional words, at most three, in order.
     pub positionals: Vec<&'a str>,
-    /// The number of an invariant, which `--property` gives.
+    /// The number of an invariant, from `--property`.
     pub property: Option<u32>,
 }
 
-/// Reads the words of a command, without the program's name, from left to right. `--property J` or `--property=J` gives
-/// the number of an invariant, at most once. `--` ends the options, and `-` stands by itself. There is no answer where
-/// another word before `--` begins with `-`, where the value of `--property` is missing or is no number of an invariant,
-/// and where more than three words stand by themselves.
+/// Parses the words of a command, without the program's name, from left to right.
+///
+/// `--property J` or `--property=J` gives the number of an invariant, at most once. `--` ends the options, and `-`
+/// is a positional word. Returns None for more than three positional words, and where another word before `--`
+/// begins with `-`. It also returns None where the value of `--property` is missing or is no number of an
+/// invariant.
 pub fn read_words<'a>(
     alloc: Global,
     words: &'a [String],
@@ -43,7 +45,7 @@ pub fn read_words<'a>(
     }
 }
 
-// One simple command: three positional words and one option with a value.
+// A parser of one simple command: three positional words and one option with a value.
 fn word_command<'a>(alloc: Global) -> Result<Command<'a>, AllocError>
     ensures { IfOk result (λ command. app_of command ≡ word_app) }
 {
@@ -59,7 +61,7 @@ fn word_command<'a>(alloc: Global) -> Result<Command<'a>, AllocError>
         .arg(property)
 }
 
-// What the matches say, where the value of `--property` is a number.
+// The words from the parser's matches. None where the value of `--property` is not a number.
 fn given_words<'a>(
     alloc: Global,
     matches: &ArgMatches<'a>,
@@ -79,7 +81,7 @@ fn given_words<'a>(
     }))
 }
 
-// The number of an invariant as a value, where there is a value.
+// The number of an invariant, where there is a value. The outer None means that the value is not a number.
 fn number_in(text: Option<&str>) -> Option<Option<u32>>
     ensures { result ≡ number_in (option_map (λ text. text.now) text.entry) }
 {
@@ -89,7 +91,7 @@ fn number_in(text: Option<&str>) -> Option<Option<u32>>
     }
 }
 
-// Adds the word, if there is one.
+// Appends the word, if there is one.
 fn add<'a>(words: &mut Vec<&'a str>, word: Option<&'a str>) -> Result<(), NoMemory>
     ensures { OnOk result (words.new.items ≡ words.old.items ++ cons_option word.entry []) }
 {

@@ -1,6 +1,6 @@
-//! Runs the cases of the files that its arguments name: each call of the program and of the libraries is made as the case
-//! states, and what comes is compared with what the case wants. It prints a line for each file, and for each case that differs
-//! what was wanted and what came.
+//! Runs the cases of the files that its arguments name. It makes each call as the case states, and compares the
+//! result with the expected one. It prints a line for each file, and for each case that differs the expected and
+//! the actual result.
 #![tactic(auto)]
 
 mod report;

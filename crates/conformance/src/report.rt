@@ -5,7 +5,9 @@ use library_cases::put_calls;
 use std::alloc::Global;
 use text_core::{NoMemory, Shelf, Sink, Text, write_whole};
 
-/// Writes the report of a file of cases, and answers whether all of them passed; `None` where it can't be made or written.
+/// Writes the report of a file of cases, and returns whether all of them passed.
+///
+/// Returns None where the report could not be built or written.
 pub fn write_report<F: Shelf + Drop, K: Sink>(
     alloc: Global,
     files: &mut Files<F>,
@@ -116,7 +118,8 @@ fn kind_of<'a>(case: &Case<'a>) -> &'a str {
     }
 }
 
-// Says that a file of cases can't be read, and from which line on, where one is known. So not all of its cases passed.
+// Reports that a file of cases can't be parsed, and from which line on, where that is known. So not all of its
+// cases passed.
 fn put_unread(out: &mut Answer, name: &str, line: usize, fault: Fault) -> bool {
     out.put(name.as_bytes());
     if line > 0 {

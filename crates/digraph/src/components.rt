@@ -8,7 +8,7 @@ use crate::order::Graph;
 use std::alloc::Global;
 use text_core::NoMemory;
 
-// What the search knows of a node.
+// What the search knows about a node.
 #[derive(Clone, Copy)]
 struct Node {
     met: bool,
@@ -20,18 +20,18 @@ struct Node {
     low: usize,
 }
 
-// The search. It stands at the last node of its path.
+// The search, which stands at the last node of its path.
 #[derive(Drop)]
 struct Search {
     nodes: Vec<Node>,
     // The rank of each node, 0 while its component isn't complete.
     ranks: Vec<usize>,
     path: Vec<usize>,
-    // The nodes that were met and whose components aren't complete, in the order of their meeting.
+    // The visited nodes whose components aren't complete, in the order of their first visit.
     stack: Vec<usize>,
 }
 
-// Gives this rank to the nodes of the stack from this place on.
+// Assigns this rank to the nodes of the stack from this place on.
 #[tactic(auto, using(crate::proofs::RankLaws::node_there))]
 fn rank_component(ranks: &mut Vec<usize>, stack: &[usize], place: usize, rank: usize)
     requires { list_all (λ k. nat_lt k (length ranks.old.items)) stack.now ≡ true }
@@ -61,7 +61,7 @@ impl Search {
         })
     }
 
-    // Adds a node to the path, unless it was met before.
+    // Adds a node to the path, unless it was visited before.
     fn meet(&mut self, node: usize) -> Result<(), NoMemory>
         requires search { IsSearch self.old }
         requires there { node < length self.old.nodes.items }
@@ -82,7 +82,7 @@ impl Search {
         Ok(())
     }
 
-    // Notes that this place of the stack is reachable from a node.
+    // Records that this place of the stack is reachable from a node.
     fn lower(&mut self, node: usize, place: usize)
         requires search { IsSearch self.old }
         requires there { node < length self.old.nodes.items }
@@ -110,7 +110,7 @@ impl Search {
         Ok(())
     }
 
-    // Takes a complete component off the stack. Its first node stands at this place.
+    // Removes a complete component from the stack. Its first node stands at this place.
     fn complete(&mut self, place: usize, rank: usize)
         requires { IsSearch self.old }
         ensures { Keeps self.old self.new }
@@ -127,7 +127,8 @@ impl Search {
         let _ = self.path.pop();
     }
 
-    // Leaves the last node of the path, all of whose edges were followed. Its component gets this rank, where it is complete.
+    // Leaves the last node of the path, all of whose edges were followed. Assigns this rank to its component where
+    // it is complete.
     fn leave(&mut self, node: usize, rank: usize)
         requires search { IsSearch self.old }
         requires there { node < length self.old.nodes.items }
@@ -145,7 +146,7 @@ impl Search {
         self.lower(parent, low);
     }
 
-    // Takes one step from the last node of the path. False where the path is empty.
+    // Takes one step from the last node of the path. Returns false where the path is empty.
     fn step(&mut self, graph: &Graph, rank: usize) -> Result<bool, NoMemory>
         requires graph { is_graph graph.now ≡ true }
         requires long { length self.old.nodes.items ≡ length graph.now }
@@ -168,8 +169,10 @@ impl Search {
     }
 }
 
-/// Ranks the nodes of a graph by their components: the nodes of one component have one rank, and an edge to another component
-/// leads to a lower rank. The contract leaves the ranks open, so callers test what they rely on.
+/// Ranks the nodes of a graph by their strongly connected components, in linear time.
+///
+/// The nodes of one component have one rank, and an edge to another component leads to a lower rank. The contract
+/// leaves the ranks open, so callers test what they rely on.
 pub fn component_ranks(alloc: Global, graph: &Graph) -> Result<Vec<usize>, NoMemory>
     requires { is_graph graph.now ≡ true }
     ensures { IfOk result (λ ranks. length ranks.items ≡ length graph.now) }

@@ -1,4 +1,4 @@
-//! Directed graphs: an order in which each node stands after those to which it leads, or the first node that leads to itself.
+//! Directed graphs: an order in which each node follows its successors, or the first node on a cycle.
 #![tactic(auto)]
 
 mod components;

@@ -1,4 +1,4 @@
-// An order of the nodes of a graph, or the first node that leads to itself.
+// An order of the nodes of a graph, each after its successors, or the first node on a cycle.
 ghost use Rattle.std.specs.Prelude.{◌≡◌, IfOk, true};
 ghost use Rattle.digraph.specs.Graph.{is_graph};
 ghost use Rattle.digraph.specs.Ordering.{IsOrder};
@@ -8,20 +8,23 @@ use crate::search::Search;
 use std::alloc::Global;
 use text_core::{List, NoMemory};
 
-/// A directed graph, seen as the list of its nodes' lists: the nodes to which each node has an edge. Nodes are numbered from 0.
+/// A directed graph, as a list with the successors of each node.
+///
+/// Nodes are numbered from 0.
 pub type Graph = List<List<usize>>;
 
-/// How the nodes of a graph stand to one another.
+/// The result of sorting a graph.
 #[derive(Drop)]
 pub enum Order {
-    /// No node leads to itself, and in this order each stands after those to which it leads.
+    /// An order in which each node follows all its successors. No node lies on a cycle.
     Sorted(List<usize>),
-    /// The first node that leads to itself, by one or more edges.
+    /// The first node on a cycle: it leads to itself by one or more edges.
     Returns(usize),
 }
 
-/// An order of the nodes in which each stands once, after those to which it leads, where there is one, else the first node that
-/// leads to itself. Each edge ends at a node.
+/// Returns an order of the nodes in which each follows its successors, or the first node on a cycle.
+///
+/// Each edge must end at a node of the graph.
 pub fn sort(alloc: Global, graph: &Graph) -> Result<Order, NoMemory>
     requires { is_graph graph.now ≡ true }
     ensures { IfOk result (IsOrder graph.now) }

@@ -1,4 +1,4 @@
-// Nodes that can't lead to themselves, as ranks show.
+// Ranks, which show that nodes lie on no cycle.
 ghost use Rattle.std.specs.Prelude.{◌≡◌, ℕ, ◌≤◌, ◌<◌, IfOk, length, nat_lt, true, false};
 ghost use Rattle.std.specs.List.{list_all};
 ghost use Rattle.digraph.specs.Graph.{is_graph, is_in, next_of, leads};
@@ -13,11 +13,12 @@ use text_core::{List, NoMemory};
 #[derive(Drop)]
 pub struct Ranks {
     ranks: Vec<usize>,
-    // No edge leads to a higher rank. Ranks by components pass this test; the contracts rest on it, and not on how they were found.
+    // Whether no edge leads to a higher rank. Ranks by components pass this test. The contracts rest on it, and not
+    // on how the ranks were found.
     falls: bool,
 }
 
-// The highest rank of these nodes, 0 where there are none.
+// The highest rank of these nodes, or 0 where there are none.
 fn highest(row: &List<usize>, ranks: &[usize]) -> usize
     requires { list_all (λ k. nat_lt k (length ranks.now)) row.now ≡ true }
     ensures { (m : ℕ) → is_in row.now m ≡ true → rank_of ranks.now m ≤ result }
@@ -32,7 +33,7 @@ fn highest(row: &List<usize>, ranks: &[usize]) -> usize
     rank
 }
 
-// Does no edge lead to a higher rank?
+// Whether no edge leads to a higher rank.
 fn falls(graph: &Graph, ranks: &[usize]) -> bool
     requires graph { is_graph graph.now ≡ true }
     requires long { length ranks.now ≡ length graph.now }
@@ -57,7 +58,9 @@ impl Ranks {
         Ok(Ranks { ranks, falls })
     }
 
-    /// Says whether a node may lead to itself. This is true exactly for the nodes on cycles; the contract covers only the others.
+    /// Returns whether a node may lie on a cycle.
+    ///
+    /// This is true exactly for the nodes on cycles, but the contract covers only the others.
     pub fn may_return(&self, graph: &Graph, node: usize) -> bool
         requires graph { is_graph graph.now ≡ true }
         requires ranks { IsRanking graph.now self.now }

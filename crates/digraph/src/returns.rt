@@ -1,4 +1,4 @@
-// Nodes that lead to themselves.
+// Nodes that lie on a cycle.
 ghost use Rattle.std.specs.Prelude.{◌≡◌, ℕ, ◌+◌, ◌<◌, [], IfOk, OnOk, length, true, slice_index_or};
 ghost use Rattle.digraph.specs.Graph.{NodeLists, is_graph, next_of, is_in, leads, IsFirstReturn};
 ghost use Rattle.digraph.specs.Searching.{SomeReturns};
@@ -10,7 +10,7 @@ use std::alloc::Global;
 use std::marker::Model;
 use text_core::NoMemory;
 
-// Which nodes were met, and these in the order of their meeting.
+// The visited nodes, as flags and in the order of their first visit.
 #[derive(Drop)]
 struct Visit {
     met: Vec<bool>,
@@ -49,7 +49,7 @@ impl Visit {
         self.queue[p]
     }
 
-    // Notes a node, once.
+    // Visits a node. Nothing changes where it was visited before.
     fn add(&mut self, node: usize) -> Result<(), NoMemory>
         requires { node < length self.old.met }
         ensures { OnOk result (self.new ≡ added self.old node) }
@@ -62,7 +62,7 @@ impl Visit {
         Ok(())
     }
 
-    // Notes all to which a node leads by an edge, up to the start; is the start among them?
+    // Visits the successors of a node, up to the start. Returns whether the start is among them.
     fn spread(&mut self, graph: &Graph, node: usize, start: usize) -> Result<bool, NoMemory>
         requires graph { is_graph graph.now ≡ true }
         requires there { node < length graph.now }
@@ -82,7 +82,7 @@ impl Visit {
     }
 }
 
-/// Does the node lead to itself?
+/// Returns whether the node lies on a cycle.
 pub fn leads_back(alloc: Global, graph: &Graph, start: usize) -> Result<bool, NoMemory>
     requires graph { is_graph graph.now ≡ true }
     requires there { start < length graph.now }
@@ -102,7 +102,9 @@ pub fn leads_back(alloc: Global, graph: &Graph, start: usize) -> Result<bool, No
     Ok(false)
 }
 
-/// Returns the first node that leads to itself. It searches only from nodes whose ranks leave a cycle open, so it takes linear time.
+/// Returns the first node on a cycle.
+///
+/// It searches only from nodes whose ranks leave a cycle open, so it takes linear time.
 pub fn first_return(alloc: Global, graph: &Graph) -> Result<usize, NoMemory>
     requires graph { is_graph graph.now ≡ true }
     requires some { SomeReturns graph.now }

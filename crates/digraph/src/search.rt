@@ -1,4 +1,4 @@
-// A search along edges, as deep as it can: nodes are put in order as they are left.
+// A depth-first search. Nodes are put in order as they are left.
 ghost use Rattle.std.specs.Prelude.{◌≡◌, ◌<◌, ◌≤◌, ◌++◌, [], ◌∷◌, IfOk, OnOk, length, true, false, nat_lt, take, slice_index_or, Ok};
 ghost use Rattle.std.specs.List.{list_all};
 ghost use Rattle.digraph.specs.Graph.{is_graph, NodeLists};
@@ -10,7 +10,8 @@ use std::alloc::Global;
 use std::marker::Model;
 use text_core::{List, NoMemory};
 
-/// The marks, how many edges of each node were gone, the path from the root on, and the nodes that are done, in order.
+/// A depth-first search: the marks, how many edges of each node were followed, the path from the root, and the
+/// finished nodes in order.
 #[derive(Drop)]
 pub struct Search {
     marks: Vec<Mark>,
@@ -27,7 +28,7 @@ impl Model for Search {
     ghost view = { λ s. record { marks = s.marks.items; gone = s.gone.items; path = s.path.items; order = s.order } };
 }
 
-// The number of the first edge from this one on that leads to a node that isn't done, else that of edges.
+// The index of the first edge at or after `from` to a node that isn't done, or the number of edges.
 fn front(row: &List<usize>, from: usize, marks: &[Mark]) -> usize
     requires within { list_all (λ k. nat_lt k (length marks.now)) row.now ≡ true }
     requires low { from ≤ length row.now }
@@ -46,25 +47,25 @@ fn front(row: &List<usize>, from: usize, marks: &[Mark]) -> usize
     to
 }
 
-// The end of the path, and the number of one of its edges.
+// The end of the path, and the index of one of its edges.
 #[derive(Clone, Copy)]
 struct End {
     node: usize,
     edge: usize,
 }
 
-/// What a step of a search came to.
+/// The outcome of one step of a search.
 pub enum Step {
     /// The path is empty.
     Ended,
-    /// A node was met or left.
+    /// A node was entered or left.
     Went,
-    /// An edge leads to a node of the path.
+    /// An edge leads back to a node of the path.
     Returned,
 }
 
 impl Search {
-    /// The search that has met no node of so many.
+    /// Returns a search over `nodes` nodes that has visited none of them.
     pub fn of(alloc: Global, nodes: usize) -> Result<Search, NoMemory>
         ensures { (g : NodeLists) → length g ≡ nodes → IfOk result (λ s. IsSearch g s × (s.path ≡ [])) }
     {
@@ -100,7 +101,7 @@ impl Search {
         Ok(())
     }
 
-    // Leaves a node that was taken off the path.
+    // Marks a node that was taken off the path as done.
     fn close(&mut self, node: usize) -> Result<(), NoMemory>
         requires { node < length self.old.marks }
         ensures { OnOk result (self.new ≡ closed self.old node) }
@@ -110,7 +111,7 @@ impl Search {
         Ok(())
     }
 
-    // Puts a node back on the path, and the node there to which its next edge leads.
+    // Puts a node back on the path, followed by the node to which its next edge leads.
     fn turn(&mut self, node: usize, next: usize) -> Result<(), NoMemory>
         requires { next < length self.old.marks }
         ensures { OnOk result (self.new ≡ turned self.old node next) }
@@ -119,7 +120,8 @@ impl Search {
         self.open(next)
     }
 
-    // Takes the end of the path off, with the number of its first edge to a node that isn't done, or of all its edges.
+    // Takes the end off the path, with the index of its first edge to a node that isn't done, or the number of its
+    // edges.
     fn take_end(&mut self, graph: &Graph) -> Option<End>
         requires graph { is_graph graph.now ≡ true }
         requires search { IsSearch graph.now self.old }
@@ -134,7 +136,7 @@ impl Search {
         Some(End { node, edge })
     }
 
-    // Goes on from the end of the path.
+    // Takes one step from the end of the path.
     fn step(&mut self, graph: &Graph) -> Result<Step, NoMemory>
         requires graph { is_graph graph.now ≡ true }
         requires search { IsSearch graph.now self.old }
@@ -157,7 +159,9 @@ impl Search {
         Ok(Step::Went)
     }
 
-    /// Goes on until the path is empty. False where an edge leads to a node of the path.
+    /// Searches from the root until the path is empty.
+    ///
+    /// Returns false where an edge leads back to a node of the path.
     pub fn finish(&mut self, graph: &Graph, root: usize) -> Result<bool, NoMemory>
         requires graph { is_graph graph.now ≡ true }
         requires search { IsSearch graph.now self.old }
@@ -178,7 +182,7 @@ impl Search {
         }
     }
 
-    /// The nodes that are done, in order.
+    /// Returns the finished nodes, in order.
     pub fn sorted(self) -> List<usize>
         ensures { result ≡ self.order }
     {

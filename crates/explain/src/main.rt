@@ -1,4 +1,4 @@
-//! Explains the notes of `moxi_cli` that stand on standard input: `explain [--table] [MODEL [SECOND]]`.
+//! The program `explain [--table] [MODEL [SECOND]]`: explains the notes of `moxi_cli` on standard input.
 #![tactic(auto)]
 
 use explain_core::{Ending, explain};
@@ -24,7 +24,7 @@ fn main(rt: HostRuntime) -> ExitCode {
     };
     ExitCode::from(ending.number())
 }
-// The command words without the program's name. Where the system doesn't give them as text, there are none.
+// The command words without the program's name. There are none where the system's words are not text.
 fn command_words<R: Env + AllocGlobal>(rt: &R) -> Result<Vec<String>, NoMemory> {
     match env::args(rt) {
         Ok(args) => Ok(args.skip(1).collect(rt.alloc())?),

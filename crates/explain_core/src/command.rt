@@ -1,4 +1,4 @@
-// A whole run: the words, the files that they name, and the notes.
+// A whole run of `explain`: the words, the files that they name, and the notes.
 use crate::ending::Ending;
 use crate::lines::lines_of;
 use crate::messages::put;
@@ -7,10 +7,10 @@ use crate::table::put_table;
 use std::alloc::Global;
 use text_core::{Name, NoMemory, ReadEnd, Shelf, Sink, SinkFault, read_whole};
 
-// The most bytes that a command reads of a file.
+// The most bytes of a file that a command reads.
 const LONGEST: usize = 134_217_728;
 
-// Why notes were not explained to their end.
+// The reason why a run stops before the last note.
 #[derive(Clone, Copy)]
 enum Stop {
     WriteFault,
@@ -30,6 +30,8 @@ impl From<SinkFault> for Stop {
 }
 
 /// Runs `explain` on its command words, without the program's name, and on the bytes of standard input.
+///
+/// A file that can't be read counts as not given.
 pub fn explain<F: Shelf, K: Sink>(
     alloc: Global,
     words: &Vec<String>,
@@ -60,7 +62,7 @@ pub fn explain<F: Shelf, K: Sink>(
     }
 }
 
-// Says which words are wanted.
+// Writes the usage line.
 fn refused_words<K: Sink>(out: &mut K) -> Ending {
     match put(out, &[b"usage: explain [--table] [MODEL [SECOND]]\n"]) {
         Ok(()) => Ending::Usage,
@@ -68,7 +70,7 @@ fn refused_words<K: Sink>(out: &mut K) -> Ending {
     }
 }
 
-// Explains the notes by the files of these names.
+// Explains the notes with the files of these names.
 fn explain_files<F: Shelf, K: Sink>(
     alloc: Global,
     names: &[String],
@@ -81,7 +83,7 @@ fn explain_files<F: Shelf, K: Sink>(
     explain_texts(alloc, names, notes, &model, &second, out)
 }
 
-// Explains the notes by these texts. The notes and each text are cut into lines once.
+// Explains the notes with these texts. The notes and each text are split into lines once.
 fn explain_texts<K: Sink>(
     alloc: Global,
     names: &[String],
@@ -118,7 +120,7 @@ fn explain_second<K: Sink>(
     Ok(explain_by(names, notes, model, &second, out)?)
 }
 
-// Explains the notes by these lines.
+// Explains the notes with these lines.
 fn explain_by<K: Sink>(
     names: &[String],
     notes: &[&[u8]],
@@ -131,7 +133,7 @@ fn explain_by<K: Sink>(
     explain_notes(notes, &model, &second, out)
 }
 
-// The name of this number, or this word where there is none.
+// The name at this index, or the default word where there is none.
 fn name_in<'a>(names: &'a [String], number: usize, word: &'static [u8]) -> &'a [u8] {
     match names.get(number) {
         Some(name) => name.as_bytes(),
@@ -139,7 +141,7 @@ fn name_in<'a>(names: &'a [String], number: usize, word: &'static [u8]) -> &'a [
     }
 }
 
-// The lines of the text, where there is one.
+// The lines of the text, if there is one.
 fn lines_in(alloc: Global, text: &Option<Vec<u8>>) -> Result<Option<Vec<&[u8]>>, NoMemory> {
     match text {
         Some(text) => Ok(Some(lines_of(alloc, text.as_slice())?)),
@@ -147,7 +149,7 @@ fn lines_in(alloc: Global, text: &Option<Vec<u8>>) -> Result<Option<Vec<&[u8]>>,
     }
 }
 
-// The bytes of the file of this name, where there is a name and the file is read.
+// The bytes of the file with this name. None where no name is given or the file can't be read.
 fn text_of<F: Shelf>(
     alloc: Global,
     name: Option<&String>,
@@ -164,7 +166,7 @@ fn text_of<F: Shelf>(
     }
 }
 
-// The file of a name, and its lines where it was read.
+// A file's name, and its lines where it was read.
 fn source<'a, 'b>(name: &'a [u8], lines: &'b Option<Vec<&'b [u8]>>) -> Source<'a, 'b> {
     Source {
         name,

@@ -1,24 +1,24 @@
 // How a run of `explain` ends.
 
-/// How a run of `explain` ends.
+/// The way in which a run of `explain` ends.
 #[derive(Clone, Copy)]
 pub enum Ending {
     /// A note was explained, or the table was written.
     Explained,
     /// Every line passed through unchanged.
     Passed,
-    /// There are too many words, or an option that is none.
+    /// There are too many words, or an unknown option.
     Usage,
     /// Standard input could not be read.
     ReadFault,
     /// The output could not be written.
     WriteFault,
-    /// There was no memory.
+    /// Out of memory.
     NoMemory,
 }
 
 impl Ending {
-    /// The number with which the program ends, from 0 to 6.
+    /// Returns the exit status of the program, from 0 to 6.
     pub fn number(self) -> u8 {
         match self {
             Ending::Explained => 0,

@@ -1,4 +1,4 @@
-//! Explains the lines that `moxi_cli` notes: where in a file, why, and how to mend it.
+//! Explains the notes of `moxi_cli`: the place in a file, the cause, and a fix.
 #![tactic(auto)]
 
 mod advice;

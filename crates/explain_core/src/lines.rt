@@ -6,7 +6,9 @@ ghost use Rattle.explain_core.specs.Lines.{line_of_number, IsWindow, window_end,
 use std::alloc::Global;
 use text_core::NoMemory;
 
-/// Returns the lines of a text, each without its line end. They are cut once, and then found by their numbers.
+/// Splits a text into lines, each without its line feed.
+///
+/// A text is split once, and its lines are then found by their numbers.
 pub fn lines_of(alloc: Global, text: &[u8]) -> Result<Vec<&[u8]>, NoMemory>
     ensures { IfOk result (λ lines. map (λ line. line.now) lines.items ≡ slice_split (λ b. b == 10) text.now) }
 {
@@ -16,7 +18,9 @@ pub fn lines_of(alloc: Global, text: &[u8]) -> Result<Vec<&[u8]>, NoMemory>
     }
 }
 
-/// Returns the line of a number, counted from 1; `None` where there are fewer lines. 0 counts as 1.
+/// Returns the line with this number, counted from 1, or None where there are fewer lines.
+///
+/// The number 0 counts as 1.
 pub fn line_at<'a>(lines: &[&'a [u8]], number: usize) -> Option<&'a [u8]>
     ensures { option_map (λ line. line.now) result ≡ line_of_number (map (λ line. line.now) lines.now) number }
 {
@@ -26,7 +30,7 @@ pub fn line_at<'a>(lines: &[&'a [u8]], number: usize) -> Option<&'a [u8]>
     }
 }
 
-/// The part of a line that is shown, from the byte `start` to before the byte `end`.
+/// The part of a line that is shown, from byte `start` to before byte `end`.
 #[derive(Clone, Copy)]
 pub struct Window {
     pub start: usize,
@@ -36,7 +40,7 @@ pub struct Window {
 /// The most bytes of a line that are shown.
 pub const WIDTH: usize = 120;
 
-/// Returns the part of a line of this length that is shown around the byte `at`, which may stand behind the last.
+/// Returns the part of a line of this length that is shown around byte `at`, which may be the line's end.
 pub fn window_at(length: usize, at: usize) -> Window
     requires { at ≤ length }
     ensures around { IsWindow length at result }

@@ -14,7 +14,9 @@ use text_core::{Refusal, Sink, SinkFault};
 
 const MARKS: [u8; WIDTH] = [b'~'; WIDTH];
 
-/// Writes the line with the file, the place, the kind with its name, the token and the cause. An empty token is left out.
+/// Writes the line with the file, the place, the kind with its name, the token and the cause.
+///
+/// An empty token is left out.
 #[tactic(auto, using(crate::proofs::Putting::puts_next))]
 pub fn put_header<K: Sink>(
     file: &[u8],
@@ -74,7 +76,7 @@ fn put_cause<'a, K: Sink>(token: &'a [u8], cause: &'a [u8], out: &mut K) -> Resu
     put(out, &pieces)
 }
 
-/// Writes what is said of a note without a place.
+/// Writes the explanation of a note without a place.
 pub fn put_plain<'a, K: Sink>(
     file: &'a [u8],
     line: &'a [u8],
@@ -97,14 +99,16 @@ pub fn put_plain<'a, K: Sink>(
     put(out, &pieces)
 }
 
-// The words, where the piece has bytes.
+// The words, where the piece is not empty.
 fn before_some<'a>(words: &'a [u8], piece: &[u8]) -> &'a [u8]
     ensures { result.now ≡ before_some words.now piece.now }
 {
     if piece.len() == 0 { b"" } else { words }
 }
 
-/// Writes the part of a line around the byte `at`, and below it the caret, where it marks some bytes.
+/// Writes the part of a line around byte `at`, and below it a caret for the marked bytes.
+///
+/// There is no caret where `marked` is 0.
 #[tactic(auto, using(crate::proofs::Putting::excerpt_front))]
 pub fn put_excerpt<K: Sink>(
     line: &[u8],
@@ -135,7 +139,7 @@ fn put_shown<K: Sink>(line: &[u8], start: usize, end: usize, out: &mut K) -> Res
     put(out, &[margin, &line[start..end], rest, b"\n"])
 }
 
-// Writes the line of the caret below these bytes and the place behind them.
+// Writes the line with the caret, which stands below the byte after these bytes.
 fn put_caret<K: Sink>(front: &[u8], more: usize, out: &mut K) -> Result<(), SinkFault>
     requires front { length front.now ≤ 120 }
     requires more { more ≤ 120 }
@@ -166,7 +170,7 @@ fn blank_of(b: u8) -> u8
     if b == b'\t' { b'\t' } else { b' ' }
 }
 
-/// Writes what stands near the place, where there is something.
+/// Writes the line about the token near the place, if there is one.
 pub fn put_near<K: Sink>(near: Option<Near<'_>>, out: &mut K) -> Result<(), SinkFault>
     ensures { Puts (K.taken out.old) (K.taken out.new) (K.faults out.old) (K.faults out.new) (near_text (option_map plain_near near.entry)) result }
 {
@@ -176,7 +180,7 @@ pub fn put_near<K: Sink>(near: Option<Near<'_>>, out: &mut K) -> Result<(), Sink
     }
 }
 
-// Writes words on a token with its place.
+// Writes words about a token and its place.
 fn put_token<K: Sink>(
     words: &[u8],
     token: &[u8],
@@ -202,7 +206,7 @@ fn put_token<K: Sink>(
     put(out, &pieces)
 }
 
-/// Writes the mend.
+/// Writes the line with the fix.
 pub fn put_help<K: Sink>(mend: &[u8], out: &mut K) -> Result<(), SinkFault>
     ensures { Puts (K.taken out.old) (K.taken out.new) (K.faults out.old) (K.faults out.new) (help_text mend.now) result }
 {

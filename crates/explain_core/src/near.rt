@@ -1,4 +1,4 @@
-// What the source tells near a place: the token before it, or the operator of the expression that begins there.
+// Hints from the source near a place: the token before it, or the operator of the expression that begins there.
 ghost use Rattle.std.specs.Prelude.{◌≡◌, ◌<◌, ◌≤◌, length, map, option_map, IfSome};
 ghost use Rattle.explain_core.specs.Kinds.{is_among, is_kind};
 ghost use Rattle.explain_core.specs.Near.{begins_operand, closes, ends_operand, found_in, gap_before, gap_near, is_capitals, last_token, near_of, opens, operator_in, operators_of, plain_found, plain_near, token_above, token_before};
@@ -9,7 +9,9 @@ use crate::tokens::{is_word_byte, smv_token_length};
 use text_core::kinds::smv;
 use text_core::{Kind, Place, is_same};
 
-/// What stands near a place: words on a token, the token with its place, and a mend that fits better than that of the kind.
+/// A hint near a place: words about a token, the token and its place, and a fix.
+///
+/// `mend` is a fix that fits better than that of the kind.
 #[derive(Clone, Copy)]
 pub struct Near<'a> {
     pub words: &'static [u8],
@@ -48,13 +50,15 @@ const NOTHING_BETWEEN: &[u8] = b"no `;` and no operator stands between this toke
 
 const FILL_GAP: &[u8] = b"Write what is missing there: a `;`, an operator or a bracket.";
 
-/// The most bytes that are looked at, from a place on and on each line before it.
+/// The most bytes that are searched, from a place on and on each line before it.
 pub const NEAREST: usize = 4096;
 
-// The most lines above a place that are looked through for a token.
+// The most lines above a place that are searched for a token.
 const LINES_ABOVE: usize = 100;
 
-/// Returns what stands near the place of a refusal. `rest` is what stands from the place on, on its line.
+/// Returns the hint near the place of a refusal, or None where there is none.
+///
+/// `rest` is the line's text from the place on.
 pub fn near_of<'a>(kind: Kind, lines: &[&'a [u8]], place: Place, rest: &'a [u8]) -> Option<Near<'a>>
     requires { length rest.now ≤ NEAREST }
     ensures { option_map plain_near result ≡ near_of kind (map (λ line. line.now) lines.now) place rest.now }
@@ -72,7 +76,7 @@ pub fn near_of<'a>(kind: Kind, lines: &[&'a [u8]], place: Place, rest: &'a [u8])
     })
 }
 
-/// Are the kinds the same?
+/// Returns whether the kinds are the same.
 pub fn is_kind(kind: Kind, other: Kind) -> bool
     ensures { result ≡ is_kind kind other }
 {
@@ -103,7 +107,7 @@ fn operators_of(kind: Kind) -> &'static [&'static [u8]]
     }
 }
 
-// The ends of the first such operator outside brackets, behind the first byte.
+// The ends of the first such operator outside brackets, after the first byte.
 #[tactic(auto, using(crate::proofs::Skipping::operator_skip))]
 fn operator_in(wanted: &[&'static [u8]], rest: &[u8]) -> Option<(usize, usize)>
     ensures value { result ≡ operator_in (map (λ word. word.now) wanted.now) 0 0 0 rest.now }
@@ -142,14 +146,14 @@ fn closes(b: u8) -> bool
     b == b')' || b == b']' || b == b'}' || b == b';'
 }
 
-// The token before the place, where something is missing between the two.
+// The hint on the token before the place, where something is missing between the two.
 fn gap_before<'a>(lines: &[&'a [u8]], place: Place, rest: &[u8]) -> Option<Near<'a>>
     ensures { option_map plain_near result ≡ gap_before (map (λ line. line.now) lines.now) place rest.now }
 {
     gap_near(token_before(lines, place)?, rest)
 }
 
-// What is missing behind the token, before this text.
+// The hint on what is missing after the token, before this text.
 fn gap_near<'a>(found: Found<'a>, rest: &[u8]) -> Option<Near<'a>>
     ensures { option_map plain_near result ≡ gap_near (plain_found found.entry) rest.now }
 {
@@ -178,7 +182,8 @@ fn begins_operand(rest: &[u8]) -> bool
     }
 }
 
-// Can an expression, a type or a name end with the token? Reserved words in capitals can't, but for two.
+// Whether an expression, a type or a name can end with the token. Reserved words in capitals can't, except `TRUE`
+// and `FALSE`.
 fn ends_operand(token: &[u8]) -> bool
     ensures { result ≡ ends_operand token.now }
 {
@@ -191,7 +196,7 @@ fn ends_operand(token: &[u8]) -> bool
     }
 }
 
-// Are all bytes capital letters?
+// Whether all bytes are capital letters.
 fn is_capitals(token: &[u8]) -> bool
     ensures { result ≡ is_capitals token.now }
 {
@@ -215,7 +220,7 @@ fn token_before<'a>(lines: &[&'a [u8]], place: Place) -> Option<Found<'a>>
     }
 }
 
-// The last token of the lines above that of the number, of which at most so many are looked through.
+// The last token on the lines above this line. At most `most` lines are searched.
 #[tactic(auto, using(crate::proofs::Above::above_step), unfolding(crate::specs::Near::token_above))]
 fn token_above<'a>(lines: &[&'a [u8]], number: usize, most: usize) -> Option<Found<'a>>
     ensures { option_map plain_found result ≡ token_above (map (λ line. line.now) lines.now) number most }
@@ -236,7 +241,7 @@ fn token_above<'a>(lines: &[&'a [u8]], number: usize, most: usize) -> Option<Fou
     None
 }
 
-// The last token of a line of this number, or of its front, where that is short enough.
+// The last token of a line, or of its front, where that is short enough.
 fn found_in<'a>(front: &'a [u8], number: usize) -> Option<Found<'a>>
     ensures { option_map plain_found result ≡ found_in front.now number }
 {
@@ -251,7 +256,7 @@ fn found_in<'a>(front: &'a [u8], number: usize) -> Option<Found<'a>>
     })
 }
 
-// The ends of the last token before a comment, where there is one.
+// The ends of the last token before a comment.
 fn last_token(front: &[u8]) -> Option<(usize, usize)>
     ensures value { result ≡ last_token 0 0 None front.now }
     ensures before { IfSome result (λ r. r.0 ≤ r.1) }

@@ -1,4 +1,4 @@
-// The lines that `moxi_cli` notes, read again.
+// Parses the notes of `moxi_cli`.
 ghost use Rattle.std.specs.Prelude.{◌≡◌, ◌++◌, ◌<◌, length, drop, option_map, IfSome};
 ghost use Rattle.std.specs.Str.{bytes_eq};
 ghost use Rattle.command_core.specs.Notes.{clause_name, colon_text, column_text, joined, kind_letter, kind_number};
@@ -8,10 +8,10 @@ use command_core::invariant_number;
 use itoa::Buffer;
 use text_core::{Clause, FIRST_PLACE, Kind, Place, Refusal, is_same};
 
-/// A line that `moxi_cli` notes.
+/// A note: a line that `moxi_cli` writes to standard error.
 #[derive(Clone, Copy)]
 pub enum Note {
-    /// The model is refused. The offset of the place is 0, since no note has one.
+    /// The model is refused. The offset of the place is 0, since notes don't have one.
     Refused(Refusal),
     /// The second file is refused.
     SecondRefused(Refusal),
@@ -19,15 +19,15 @@ pub enum Note {
     No(u32, Clause),
     /// The words are no command.
     Usage,
-    /// A file was not read.
+    /// A file could not be read.
     Unread,
-    /// The output was not written.
+    /// The output could not be written.
     WriteFault,
-    /// There was no memory.
+    /// Out of memory.
     NoMemory,
 }
 
-/// Reads a line, without its line end, as one that `moxi_cli` notes; `None` for any other line.
+/// Parses a line, without its line feed, as a note, or returns None for any other line.
 #[tactic(auto, using(crate::proofs::Reading::refused_is, crate::proofs::Reading::denied_is), unfolding(crate::specs::Notes::note_of))]
 pub fn read_note(line: &[u8]) -> Option<Note>
     ensures value { result ≡ note_of line.now }
@@ -46,7 +46,7 @@ pub fn read_note(line: &[u8]) -> Option<Note>
     plain_note(line)
 }
 
-// What stands behind the words, where the text begins with them.
+// The rest of the text after the words, where it begins with them.
 #[tactic(auto, using(crate::proofs::Joining::begins))]
 fn behind<'a>(words: &[u8], text: &'a [u8]) -> Option<&'a [u8]>
     ensures value { option_map (λ rest. rest.now) result ≡ behind words.now text.now }
@@ -79,7 +79,7 @@ fn plain_note(line: &[u8]) -> Option<Note>
     }
 }
 
-// The refusal with this kind, this name and this place, where it is written so.
+// The refusal with its kind, name and place, where the text is exactly its note.
 fn refusal_in(rest: &[u8]) -> Option<Refusal>
     ensures value { result ≡ refusal_in rest.now }
     ensures noted { IfSome result (λ refusal. rest.now ≡ refusal_words refusal) }
@@ -89,7 +89,7 @@ fn refusal_in(rest: &[u8]) -> Option<Refusal>
     refusal_at(kind, end, rest)
 }
 
-// The refusal of the kind, whose number ends at this byte.
+// The refusal of this kind, whose number ends at this byte.
 fn refusal_at(kind: Kind, end: usize, rest: &[u8]) -> Option<Refusal>
     requires { end < length rest.now }
     ensures value { result ≡ refusal_at kind end rest.now }
@@ -99,7 +99,7 @@ fn refusal_at(kind: Kind, end: usize, rest: &[u8]) -> Option<Refusal>
     noted_refusal(Refusal { kind, place }, rest)
 }
 
-// The refusal, where it is written so.
+// The refusal, where the text is exactly its note.
 fn noted_refusal(refusal: Refusal, rest: &[u8]) -> Option<Refusal>
     ensures value { result ≡ noted_refusal refusal rest.now }
     ensures noted { IfSome result (λ refusal. rest.now ≡ refusal_words refusal) }
@@ -124,7 +124,7 @@ fn noted_refusal(refusal: Refusal, rest: &[u8]) -> Option<Refusal>
     }
 }
 
-// Are these pieces, one after another, the text?
+// Whether the text is the concatenation of these pieces.
 #[tactic(auto, using(crate::proofs::Joining::joined_on, crate::proofs::Joining::joined_off))]
 fn is_joined(pieces: &[&[u8]], text: &[u8]) -> bool
     ensures { result ≡ bytes_eq text.now (joined pieces.now) }
@@ -135,14 +135,14 @@ fn is_joined(pieces: &[&[u8]], text: &[u8]) -> bool
     }
 }
 
-// What stands from the byte on.
+// The text from this byte on.
 fn from_byte(text: &[u8], at: usize) -> &[u8]
     ensures { result.now ≡ drop at text.now }
 {
     if at < text.len() { &text[at..] } else { b"" }
 }
 
-// Where a byte stands first.
+// The index of the first such byte.
 fn place_of_byte(text: &[u8], wanted: u8) -> Option<usize>
     ensures value { result ≡ place_of_byte wanted text.now }
     ensures within { IfSome result (λ at. at < length text.now) }
@@ -159,7 +159,7 @@ fn place_of_byte(text: &[u8], wanted: u8) -> Option<usize>
     None
 }
 
-// The kind of a letter with a number behind it, where there is such a kind.
+// The kind with this letter and number, where there is such a kind.
 fn kind_in(word: &[u8]) -> Option<Kind>
     ensures { result ≡ kind_in word.now }
 {
@@ -171,7 +171,7 @@ fn kind_in(word: &[u8]) -> Option<Kind>
     kind_of(*letter, number as u8)
 }
 
-/// Returns the kind of a letter and a number, where there is such a kind.
+/// Returns the kind with this letter and number, or None where there is no such kind.
 pub fn kind_of(letter: u8, number: u8) -> Option<Kind>
     ensures { result ≡ kind_of letter number }
 {
@@ -196,7 +196,7 @@ fn named(kind: Kind) -> Option<Kind>
     }
 }
 
-/// The letter of a kind.
+/// Returns the letter of a kind.
 pub fn letter_of(kind: Kind) -> &'static [u8]
     ensures { result.now ≡ kind_letter kind }
 {
@@ -209,7 +209,7 @@ pub fn letter_of(kind: Kind) -> &'static [u8]
     }
 }
 
-/// The number of a kind.
+/// Returns the number of a kind.
 pub fn number_of(kind: Kind) -> u8
     ensures { result ≡ kind_number kind }
 {
@@ -218,7 +218,7 @@ pub fn number_of(kind: Kind) -> u8
     }
 }
 
-/// What stands between a line and a column, where places of the kind have both.
+/// Returns the colon between line and column, or nothing where places of the kind have no column.
 pub fn colon_of(kind: Kind) -> &'static [u8]
     ensures { result.now ≡ colon_text kind }
 {
@@ -228,7 +228,7 @@ pub fn colon_of(kind: Kind) -> &'static [u8]
     }
 }
 
-/// The column's digits, where places of the kind have a column.
+/// Returns the column's digits, or nothing where places of the kind have no column.
 pub fn column_of(kind: Kind, digits: &[u8]) -> &[u8]
     ensures { result.now ≡ column_text kind digits.now }
 {
@@ -238,7 +238,7 @@ pub fn column_of(kind: Kind, digits: &[u8]) -> &[u8]
     }
 }
 
-// The place that is written as a line, or as a line and a column.
+// The place from a line, or from a line and a column.
 fn place_in(words: &[u8]) -> Option<Place>
     ensures { result ≡ place_in words.now }
 {
@@ -272,7 +272,7 @@ fn counted(digits: &[u8]) -> Option<u32>
     }
 }
 
-// The step and the clause, where they are written so.
+// The step and the clause, where the text is exactly their note.
 fn denial_in(rest: &[u8]) -> Option<(u32, Clause)>
     ensures value { result ≡ denial_in rest.now }
     ensures noted { IfSome result (λ denial. rest.now ≡ denial_words denial.0 denial.1) }
@@ -283,7 +283,7 @@ fn denial_in(rest: &[u8]) -> Option<(u32, Clause)>
     noted_denial(step, clause, rest)
 }
 
-// This step and this clause, where they are written so.
+// This step and this clause, where the text is exactly their note.
 fn noted_denial(step: u32, clause: Clause, rest: &[u8]) -> Option<(u32, Clause)>
     ensures value { result ≡ noted_denial step clause rest.now }
     ensures noted { IfSome result (λ denial. rest.now ≡ denial_words denial.0 denial.1) }
@@ -297,7 +297,7 @@ fn noted_denial(step: u32, clause: Clause, rest: &[u8]) -> Option<(u32, Clause)>
     }
 }
 
-// The clause of a name.
+// The clause with this name.
 fn clause_named(name: &[u8], clauses: &[Clause]) -> Option<Clause>
     ensures { result ≡ clause_named name.now clauses.now }
 {

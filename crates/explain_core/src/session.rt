@@ -17,15 +17,16 @@ use crate::notes::{Note, read_note};
 use crate::tokens::token_length;
 use text_core::{Kind, Refusal, Sink, SinkFault};
 
-/// A file of the run whose note is explained: its name, and its lines where it was read.
+/// A file of the run that wrote the notes: its name, and its lines where it was read.
 #[derive(Clone, Copy)]
 pub struct Source<'a, 'b> {
     pub name: &'a [u8],
     pub lines: Option<&'b [&'b [u8]]>,
 }
 
-/// Writes each of these lines of notes to `out`: explained where `moxi_cli` notes such a line, and else as it is. Returns
-/// whether one was explained.
+/// Writes each of these lines to `out`: the explanation of a note, and any other line unchanged.
+///
+/// Returns whether at least one note was explained.
 pub fn explain_notes<K: Sink>(
     notes: &[&[u8]],
     model: &Source<'_, '_>,
@@ -44,7 +45,7 @@ pub fn explain_notes<K: Sink>(
     Ok(explained)
 }
 
-// Writes the line of this number, counted from 0.
+// Writes the line at this index, counted from 0.
 fn explain_at<K: Sink>(
     notes: &[&[u8]],
     number: usize,
@@ -60,7 +61,7 @@ fn explain_at<K: Sink>(
     explain_line(line, end_of(notes, number), model, second, out)
 }
 
-// The line end of the line of this number.
+// The line feed after the line at this index, if it has one.
 #[tactic(auto, using(crate::proofs::Noting::end_some, crate::proofs::Noting::end_none))]
 fn end_of(notes: &[&[u8]], number: usize) -> &'static [u8]
     requires { number < length notes.now }
@@ -69,8 +70,9 @@ fn end_of(notes: &[&[u8]], number: usize) -> &'static [u8]
     if number + 1 < notes.len() { b"\n" } else { b"" }
 }
 
-/// Writes one line with this line end: explained where `moxi_cli` notes such a line, and else as it is. Returns whether it
-/// was explained.
+/// Writes one line with this line end: the explanation of a note, and any other line unchanged.
+///
+/// Returns whether the line is a note.
 #[tactic(auto, using(crate::proofs::Putting::puts_next, crate::proofs::Putting::part_front), unfolding(crate::specs::Explaining::explained_line))]
 pub fn explain_line<K: Sink>(
     line: &[u8],
@@ -94,7 +96,7 @@ pub fn explain_line<K: Sink>(
     }
 }
 
-// Writes what is said of a note.
+// Writes the explanation of a note.
 #[tactic(auto, using(crate::proofs::Putting::puts_next, crate::proofs::Putting::part_front))]
 fn put_note<K: Sink>(
     note: Note,
@@ -116,7 +118,7 @@ fn put_note<K: Sink>(
     }
 }
 
-// Writes what is said of words that are no command, and the commands.
+// Writes the advice for words that are no command, and the commands.
 #[tactic(auto, using(crate::proofs::Putting::puts_next, crate::proofs::Putting::part_front))]
 fn put_usage<K: Sink>(line: &[u8], out: &mut K) -> Result<(), SinkFault>
     ensures { Puts (K.taken out.old) (K.taken out.new) (K.faults out.old) (K.faults out.new) (usage_text line.now) result }
@@ -125,7 +127,7 @@ fn put_usage<K: Sink>(line: &[u8], out: &mut K) -> Result<(), SinkFault>
     put(out, &COMMANDS)
 }
 
-// Writes what is said of a note without a place.
+// Writes the advice for a note without a place.
 fn put_advice<K: Sink>(
     file: &[u8],
     line: &[u8],
@@ -138,7 +140,7 @@ fn put_advice<K: Sink>(
     put_plain(file, line, cause, mend, out)
 }
 
-/// Writes a refusal, with the line of its place where the file has it.
+/// Writes the explanation of a refusal, with the line of its place where the file has it.
 #[tactic(auto, using(crate::proofs::Putting::puts_next, crate::proofs::Putting::part_front), unfolding(crate::specs::Explaining::refusal_text))]
 pub fn put_refusal<K: Sink>(
     refusal: Refusal,
@@ -157,7 +159,7 @@ pub fn put_refusal<K: Sink>(
     put_help(mend, out)
 }
 
-// The line of a place, where it has the column.
+// The line of a place, where the line is long enough for the column.
 fn line_of<'a>(lines: &[&'a [u8]], refusal: Refusal) -> Option<&'a [u8]>
     ensures there { option_map (λ line. line.now) result ≡ shown_line (map (λ line. line.now) lines.now) refusal.place }
     ensures fits { IfSome result (λ line. refusal.place.column - 1 ≤ length line.now) }
@@ -170,7 +172,7 @@ fn line_of<'a>(lines: &[&'a [u8]], refusal: Refusal) -> Option<&'a [u8]>
     }
 }
 
-// Writes a refusal whose place stands on this line.
+// Writes the explanation of a refusal whose place is on this line.
 #[tactic(auto, using(crate::proofs::Putting::puts_next, crate::proofs::Putting::part_front))]
 fn put_found<K: Sink>(
     refusal: Refusal,
@@ -188,7 +190,7 @@ fn put_found<K: Sink>(
     put_below(refusal, lines, line, out)
 }
 
-// Writes the excerpt of a place on this line, and what stands below it.
+// Writes the excerpt around a place on this line, and the lines below it.
 #[tactic(auto, using(crate::proofs::Putting::puts_next, crate::proofs::Putting::part_front))]
 fn put_below<K: Sink>(
     refusal: Refusal,
@@ -211,7 +213,7 @@ fn put_below<K: Sink>(
     )
 }
 
-// What stands from the place on, as far as it is looked at.
+// The text from the place on, up to the most bytes that are searched.
 fn rest_of(line: &[u8], refusal: Refusal) -> &[u8]
     requires { refusal.place.column - 1 ≤ length line.now }
     ensures value { result.now ≡ rest_of line.now refusal }
@@ -223,7 +225,7 @@ fn rest_of(line: &[u8], refusal: Refusal) -> &[u8]
     )
 }
 
-// The front of a text, of at most so many bytes.
+// The first bytes of a text, at most `most`.
 fn front_of(text: &[u8], most: usize) -> &[u8]
     ensures value { result.now ≡ take most text.now }
     ensures few { length result.now ≤ most }
@@ -235,14 +237,14 @@ fn front_of(text: &[u8], most: usize) -> &[u8]
     }
 }
 
-// The token with which a text begins.
+// The token at the front of a text.
 fn token_of(kind: Kind, rest: &[u8]) -> &[u8]
     ensures { result.now ≡ token_of kind rest.now }
 {
     &rest[..token_length(kind, rest)]
 }
 
-// Writes what stands near a place, and the mend for its token.
+// Writes the hint near a place, and the fix for its token.
 #[tactic(auto, using(crate::proofs::Putting::puts_next, crate::proofs::Putting::part_front))]
 fn put_rest<K: Sink>(
     kind: Kind,
@@ -257,7 +259,7 @@ fn put_rest<K: Sink>(
     put_help(mend, out)
 }
 
-// The mend for a token, or else for what stands near it, or else for the kind.
+// The fix for a token, or else the fix of the hint near it, or else the fix for the kind.
 fn mend_of(kind: Kind, token: &[u8], near: Option<Near<'_>>) -> &'static [u8]
     ensures { result.now ≡ mend_of kind token.now (option_map plain_near near.entry) }
 {
@@ -278,7 +280,7 @@ fn mend_of(kind: Kind, token: &[u8], near: Option<Near<'_>>) -> &'static [u8]
     }
 }
 
-// How many bytes the caret marks of a token: at least one, where places of the kind have a column.
+// The number of bytes of a token that the caret marks: at least one, where places of the kind have a column.
 fn marked(kind: Kind, count: usize) -> usize
     ensures { result ≡ marked kind count }
 {

@@ -5,7 +5,7 @@ use crate::notes::kind_of;
 use itoa::Buffer;
 use text_core::{Sink, SinkFault};
 
-/// Writes the table of the kinds, each with its cause and its mend, as lines of Markdown.
+/// Writes the table of all kinds of refusal, each with its cause and its fix, in Markdown.
 pub fn put_table<K: Sink>(out: &mut K) -> Result<(), SinkFault> {
     put(out, &[b"| Kind | Cause | Mend |\n|---|---|---|\n"])?;
     for letter in b"SMBXY" {
@@ -16,7 +16,7 @@ pub fn put_table<K: Sink>(out: &mut K) -> Result<(), SinkFault> {
     Ok(())
 }
 
-// Writes the row of a kind, where there is one.
+// Writes the row of a kind, if there is such a kind.
 fn put_row<K: Sink>(letter: u8, number: u8, out: &mut K) -> Result<(), SinkFault> {
     let Some(kind) = kind_of(letter, number) else {
         return Ok(());

@@ -1,15 +1,17 @@
-// How long the token is that stands at the front of some bytes. What is no token counts as one byte.
+// The length of the token at the front of some bytes. A byte that begins no token counts alone.
 ghost use Rattle.std.specs.Prelude.{◌≡◌, ◌<◌, ◌≤◌, length, map};
 ghost use Rattle.explain_core.specs.Tokens.{ends_symbol, goes_on, is_letter, is_word_byte, moxi_token_length, sign_length, smv_token_length, symbol_length, token_length, word_length};
 
 use text_core::{Kind, is_digit};
 
-// The signs of SMV of more than one byte, longer ones first.
+// The signs of SMV with more than one byte, longer ones first.
 const SIGNS: [&[u8]; 10] = [
     b"<->", b":=", b"!=", b"<=", b">=", b"<<", b">>", b"::", b"->", b"..",
 ];
 
-/// Returns how many bytes the token at the front has, by the language of the kind; 0 where places have no column.
+/// Returns the length of the token at the front in bytes, by the language of the kind.
+///
+/// Returns 0 for kinds whose places have no column.
 pub fn token_length(kind: Kind, rest: &[u8]) -> usize
     ensures value { result ≡ token_length kind rest.now }
     ensures within { result ≤ length rest.now }
@@ -21,7 +23,9 @@ pub fn token_length(kind: Kind, rest: &[u8]) -> usize
     }
 }
 
-/// Returns how many bytes the token of SMV at the front has; a path counts as one token.
+/// Returns the length of the SMV token at the front in bytes.
+///
+/// A path counts as one token.
 pub fn smv_token_length(rest: &[u8]) -> usize
     ensures value { result ≡ smv_token_length rest.now }
     ensures within { result ≤ length rest.now }
@@ -44,14 +48,14 @@ fn is_letter(b: u8) -> bool
     (b >= b'A' && b <= b'Z') || (b >= b'a' && b <= b'z')
 }
 
-/// Can the byte begin a name or a number?
+/// Returns whether the byte can begin a name or a number.
 pub fn is_word_byte(b: u8) -> bool
     ensures { result ≡ is_word_byte b }
 {
     is_letter(b) || is_digit(b) || b == b'_'
 }
 
-// The bytes of a name, a number or a path.
+// The length of a name, a number or a path.
 fn word_length(text: &[u8]) -> usize
     ensures value { result ≡ word_length text.now }
     ensures within { result ≤ length text.now }
@@ -68,7 +72,7 @@ fn word_length(text: &[u8]) -> usize
     count
 }
 
-// Does a word go on with this byte before those?
+// Whether a word continues with this byte, given the bytes after it.
 fn goes_on(b: u8, rest: &[u8]) -> bool
     ensures { result ≡ goes_on b rest.now }
 {
@@ -79,7 +83,7 @@ fn goes_on(b: u8, rest: &[u8]) -> bool
     }
 }
 
-// The bytes of the first such sign, or one.
+// The length of the first sign that the text begins with, or one.
 fn sign_length(rest: &[u8], signs: &[&'static [u8]]) -> usize
     ensures { result ≡ sign_length (map (λ sign. sign.now) signs.now) rest.now }
 {
@@ -91,7 +95,7 @@ fn sign_length(rest: &[u8], signs: &[&'static [u8]]) -> usize
     1
 }
 
-// The first byte, which may be a bracket, counts with the symbol behind it.
+// The length of the first byte, which may be a bracket, together with the symbol after it.
 fn moxi_token_length(rest: &[u8]) -> usize
     ensures value { result ≡ moxi_token_length rest.now }
     ensures within { result ≤ length rest.now }

@@ -1,4 +1,4 @@
-// What is answered for a model with its lines.
+// The answer for a model with its lines.
 ghost use Rattle.std.specs.Prelude.{◌≡◌, ◌≤◌, length, IfOk, IfErr};
 ghost use Rattle.text_core.specs.declared.verdict.Verdict.TheVariants.{Yes};
 ghost use Rattle.btor_witness.specs.Answer.{IsRefused};
@@ -24,7 +24,7 @@ use std::alloc::Global;
 use text_core::{End, NoMemory, Text};
 use witness_lift::{LiftEnd, SmvChain, lift_smv};
 
-// The made witness of n cells, read for the chain's lines. Its text is gone when it is there.
+// The generated witness of n cells, read for the chain's lines. The witness's text is freed before the return.
 fn witness_of(alloc: Global, n: u32, chain: &SmvChain) -> Result<Witness, End>
     requires some { 1 ≤ n }
     requires most { n ≤ 1000 }
@@ -37,7 +37,7 @@ fn witness_of(alloc: Global, n: u32, chain: &SmvChain) -> Result<Witness, End>
     read_witness(alloc, chain.nodes(), text.bytes())
 }
 
-// The summary of the run to which an accepted witness is lifted. The judge is asked about the run.
+// The summary of the run to which an accepted witness is lifted. The run is judged first.
 fn summary_text(
     alloc: Global,
     n: u32,
@@ -62,7 +62,7 @@ fn summary_text(
     }
 }
 
-// What is answered to a witness of the chain's lines.
+// The answer to a witness for the chain's lines.
 #[tactic(auto, using(crate::proofs::Answering::denied))]
 fn witness_answer(
     alloc: Global,
@@ -86,7 +86,7 @@ fn witness_answer(
     }
 }
 
-/// What is answered to the made witness of n cells, for a model's chain.
+/// Returns the answer to the generated witness of n cells, for a model's chain.
 #[tactic(auto, using(crate::proofs::Answering::of_witness, crate::proofs::Answering::refused))]
 pub(crate) fn chain_answer(alloc: Global, n: u32, chain: &SmvChain) -> Result<Answer, Stop>
     requires some { 1 ≤ n }

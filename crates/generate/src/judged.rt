@@ -13,7 +13,7 @@ use smv_meaning::Run;
 use std::alloc::Global;
 use text_core::{NoMemory, Verdict};
 
-/// Does the judge say yes of a run and the invariant of number j, for each model of which this is the flat form?
+/// Returns whether the judge accepts a run for invariant `j`, for each model with this flat form.
 pub(crate) fn says_yes(alloc: Global, flat: &Flat, j: u32, run: &Run) -> Result<bool, NoMemory>
     requires model { (source : PlainSource) × IsFlatOf source (flat_plain flat.now) }
     requires few { length run.now.states < 2 ^ 32 }

@@ -1,4 +1,4 @@
-//! The command `generate`: a made model of any number of cells and its witness, translated, judged, lifted and judged again.
+//! The command `generate`: a generated model of any number of cells and its witness, translated, lifted and judged.
 #![tactic(auto)]
 
 mod chain;

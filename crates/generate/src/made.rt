@@ -1,4 +1,4 @@
-// The made model and the made witness, taken the whole way.
+// The generated model and the generated witness, taken through all steps.
 ghost use Rattle.std.specs.Prelude.{◌≡◌, ◌≤◌, IfOk, IfErr};
 ghost use Rattle.smv_commands.specs.Models.{IsFormIn, IsModelEnd};
 ghost use Rattle.generate.specs.Made.{made_model};
@@ -13,7 +13,7 @@ use std::alloc::Global;
 use text_core::End;
 use witness_lift::SmvChain;
 
-// The chain of the made model of n cells. The model's text is gone when it is there.
+// The chain of the generated model of n cells. The model's text is freed before the return.
 fn chain_of(alloc: Global, n: u32) -> Result<SmvChain, End>
     requires some { 1 ≤ n }
     requires most { n ≤ 1000 }
@@ -24,10 +24,12 @@ fn chain_of(alloc: Global, n: u32) -> Result<SmvChain, End>
     chain_in(alloc, text.bytes(), 0)
 }
 
-/// Makes the model of n cells and its witness, n from 1 to 1,000, and takes them the whole way: the model is translated to BTOR2 lines,
-/// the witness is read for these lines, judged and lifted, and the lifted run is judged against the model. The answer is that of a lift
-/// of the witness for the model, with six lines in place of the trace: the cells, the variables of the flat system, the model's weight,
-/// the lines, the frames, and the verdict.
+/// Generates the model of `n` cells and its witness, `n` from 1 to 1,000, and takes them through all steps.
+///
+/// The model is translated to BTOR2 lines. The witness is read for these lines, judged and lifted, and the lifted
+/// run is judged against the model. The answer is that of a lift of the witness for the model, with six lines in
+/// place of the trace. These lines are the cells, the variables of the flat system, the model's weight, the lines,
+/// the frames, and the verdict.
 #[tactic(auto, using(crate::proofs::Answering::has_form, crate::proofs::Answering::model_refused))]
 pub fn generate(alloc: Global, n: u32) -> Result<Answer, Stop>
     requires some { 1 ≤ n }

@@ -1,4 +1,4 @@
-// The made model.
+// The generated model.
 ghost use Rattle.std.specs.Prelude.{◌≡◌, ◌<◌, ◌≤◌, ◌++◌, length, IfOk, OnOk};
 ghost use Rattle.generate.specs.Made.{cell_line, ended, invariant_line, made_model};
 
@@ -6,7 +6,7 @@ use itoa::Buffer;
 use std::alloc::Global;
 use text_core::{NoMemory, Text};
 
-// Appends the line of the cell behind cell i.
+// Appends the line of the cell after cell i.
 fn put_cell(text: &mut Text, i: u32) -> Result<(), NoMemory>
     requires { i < 1000 }
     ensures { OnOk result (text.new ≡ text.old ++ ended (cell_line i)) }
@@ -32,8 +32,10 @@ fn put_invariant(text: &mut Text, i: u32) -> Result<(), NoMemory>
     Ok(())
 }
 
-/// A model of n cells in a row (NuSMV 2.6 User Manual, 2.3): a cell is false at first and then takes the value of the one before it,
-/// the first cell that of TRUE. Its invariant, that the last cell is false, breaks first at step n.
+/// Returns the text of a model of `n` cells in a row (NuSMV 2.6 User Manual, 2.3).
+///
+/// A cell is false at first and then takes the value of the cell before it. The first cell takes the value TRUE.
+/// The invariant says that the last cell is false, and breaks first at step `n`.
 pub fn made_model(alloc: Global, n: u32) -> Result<Text, NoMemory>
     requires some { 1 ≤ n }
     requires most { n ≤ 1000 }

@@ -8,7 +8,7 @@ use btor_tree::Nodes;
 use std::alloc::Global;
 use text_core::{NoMemory, Text};
 
-// Appends a line of a word and a number.
+// Appends a line with a word and a number.
 fn put_count(text: &mut Text, word: &[u8], count: usize) -> Result<(), NoMemory>
     ensures { OnOk result (text.new ≡ text.old ++ ended (count_line word.now count)) }
 {
@@ -18,7 +18,8 @@ fn put_count(text: &mut Text, word: &[u8], count: usize) -> Result<(), NoMemory>
     Ok(())
 }
 
-/// The summary of lines, a model's weight and a witness's frames.
+/// Returns the summary: the cells, the variables, the model's weight, the lines, the witness's frames, and the
+/// verdict.
 pub(crate) fn summary_of(
     alloc: Global,
     cells: u32,

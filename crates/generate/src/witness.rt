@@ -1,4 +1,4 @@
-// The made witness.
+// The generated witness.
 ghost use Rattle.std.specs.Prelude.{◌≡◌, ◌≤◌, ◌++◌, length, map, IfOk, OnOk};
 ghost use Rattle.generate.specs.Made.{below, ended, frame_lines, lines_text, made_witness, true_line};
 
@@ -29,8 +29,10 @@ fn put_frame(text: &mut Text, n: u32, i: u32, cells: &[u8]) -> Result<(), NoMemo
     put_true(text, n)
 }
 
-/// A witness of the made model's BTOR2 lines (BTOR2, CAV 2018, witness format): n + 1 frames, in each of which the cells before the
-/// frame's number are true, and the first cell's parameter, which is input n.
+/// Returns a witness for the generated model's BTOR2 lines (BTOR2, CAV 2018, witness format).
+///
+/// It has `n` + 1 frames. In each, the cells before the frame's number are true, and so is the first cell's
+/// parameter, which is input `n`.
 pub fn made_witness(alloc: Global, n: u32) -> Result<Text, NoMemory>
     requires some { 1 ≤ n }
     requires most { n ≤ 1000 }

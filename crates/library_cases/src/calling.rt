@@ -12,18 +12,19 @@ use case_text::{
 use std::alloc::Global;
 use text_core::{Shelf, Text};
 
-/// Makes the calls that the case states, and counts each:
+/// Makes the calls that the case states, and counts each.
+///
 /// - `smv print`: the printed form of the model in `text`;
-/// - `smv type`: the type of the expression in `text`, which names nothing;
-/// - `smv value PATH`: the value of the expression in `text`, read in the instance of this path, which `main` has for a path of its
-///   own, in the model `model`, of which no variable is more than an instance;
+/// - `smv type`: the type of the expression in `text`, which uses no names;
+/// - `smv value PATH`: the value of the expression in `text`, in the instance with this path (`main` for the main
+///   module) of the model `model`, in which each variable is an instance;
 /// - `moxi forms`: the printed forms of `text`;
 /// - `moxi script`: the printed form of the script in `text`;
-/// - `moxi value`: the value of the term in `text` over what the commands in `scope` declare, which stand on lines of their own;
+/// - `moxi value`: the value of the term in `text`, with the declarations in `scope`, which are whole lines;
 /// - `btor witness`: the printed form of the witness in `text` for the lines in `lines`;
-/// - `explain WORDS`: what `explain` writes, given these words and the piece `notes`; each piece is a file, too.
+/// - `explain WORDS`: the output of `explain`, given these words and the piece `notes`; each piece is also a file.
 ///
-/// A row stands for the piece `text`. In it and in its answer `\n` stands for a line end.
+/// A row gives the piece `text`. In a row and its answer, `\n` is a line feed.
 pub fn put_calls<F: Shelf + Drop>(
     alloc: Global,
     files: &mut Files<F>,
@@ -54,7 +55,7 @@ fn put_entries<F: Shelf + Drop>(
     Ok(())
 }
 
-// The call, which must answer what stands below the line, or in the file that it names.
+// Makes the call, whose expected answer is below the line or in the file that it names.
 fn put_answered<F: Shelf + Drop>(
     alloc: Global,
     files: &mut Files<F>,
@@ -74,7 +75,7 @@ fn put_answered<F: Shelf + Drop>(
     Ok(())
 }
 
-// The call on one more piece, the row's.
+// Makes the call with one more piece, the row's text.
 fn put_row(
     alloc: Global,
     case: &Case,
@@ -135,7 +136,7 @@ fn put_answer(alloc: Global, out: &mut Answer, call: &str, pieces: &[Piece]) -> 
     }
 }
 
-// The answer to a call with words of its own.
+// Appends the answer to a call that has words of its own.
 fn put_worded(alloc: Global, out: &mut Answer, call: &str, pieces: &[Piece]) -> Result<(), Fault> {
     if let Some(("smv", path)) = call.split_once(" value ") {
         return put_value_of(alloc, out, path, pieces);

@@ -1,14 +1,15 @@
-// What `explain` writes.
+// The output of `explain`.
 use case_text::{Answer, Fault, Piece, piece_bytes};
 use explain_core::explain;
 use std::alloc::Global;
 use text_core::{FilePair, FilePairs, MemorySink, Name, Numbers, SureShelf};
 
-// The most bytes that an explanation of a case has.
+// The most bytes of the output of `explain` in a case.
 const ROOM: usize = 1 << 20;
 
-/// Appends what `explain` writes, given these words, and the status with which it ends, where that isn't 0. The piece `notes` is its
-/// standard input, and each piece is a file.
+/// Appends the output of `explain` for these words, and its exit status where that isn't 0.
+///
+/// The piece `notes` is its standard input, and each piece is a file.
 pub(crate) fn put_explanation(
     alloc: Global,
     out: &mut Answer,
@@ -29,7 +30,7 @@ pub(crate) fn put_explanation(
     Ok(())
 }
 
-// The words, which stand one blank apart.
+// The words, separated by single blanks.
 fn owned(alloc: Global, words: &str) -> Result<Vec<String>, Fault> {
     let mut owned = Vec::new(alloc);
     for word in words.split(' ') {

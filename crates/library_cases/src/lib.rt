@@ -1,5 +1,5 @@
-//! Cases of what no command shows: the printed form of models, forms, scripts and witnesses, the types and values of single
-//! expressions, and what `explain` writes. A case states a call, what it is given and what it must answer; a table states one call for each row.
+//! Cases for results that no command shows: printed forms, types and values of single expressions, and the output
+//! of `explain`. A case states a call, its pieces and the expected answer; a table states one call for each row.
 #![tactic(auto)]
 
 mod calling;

@@ -1,4 +1,4 @@
-// Models that texts spell.
+// Models from texts.
 ghost use Rattle.std.specs.Prelude.{◌<◌, ◌^◌, length, IfOk};
 ghost use Rattle.smv_text.specs.Lexing.{Lexes};
 ghost use Rattle.smv_text.specs.View.{plain_source};
@@ -24,7 +24,7 @@ fn tokens_of(alloc: Global, text: &[u8]) -> Result<Tokens, Fault>
     Ok(lex(alloc, text)?)
 }
 
-/// The model that a text spells.
+/// Parses a text to a model.
 pub fn source_of(alloc: Global, text: &[u8]) -> Result<Source, Fault>
     ensures { IfOk result (λ s. IsSpelled text.now (plain_source s)) }
 {
@@ -39,7 +39,7 @@ pub fn put_model(alloc: Global, out: &mut Answer, pieces: &[Piece]) -> Result<()
     Ok(())
 }
 
-/// The model whose one invariant is this expression.
+/// Returns the model that has this expression as its only invariant.
 pub fn expression_source(alloc: Global, text: &[u8]) -> Result<Source, Fault> {
     let whole = model_around(alloc, text)?;
     source_of(alloc, whole.bytes())
@@ -52,7 +52,7 @@ fn model_around(alloc: Global, expression: &[u8]) -> Result<Text, NoMemory> {
     out.done()
 }
 
-/// The expression that is the one invariant of a model.
+/// Returns the expression that is the only invariant of a model.
 pub fn expression_of(source: &Source) -> Result<&Expr, Fault> {
     if source.modules.len() != 1 || source.modules.at(0).elements.len() != 1 {
         return Err(Fault::Unreadable("more than an expression"));

@@ -1,4 +1,4 @@
-// Forms and scripts, printed.
+// Printed forms and scripts.
 ghost use Rattle.std.specs.Prelude.{◌≤◌, ◌^◌, length, IfOk, OnOk};
 ghost use Rattle.moxi_sexpr.specs.Printing.{ArePrintable};
 ghost use Rattle.moxi_sexpr.specs.Tree.{plain_forms};
@@ -10,7 +10,7 @@ use moxi_scripts::Script;
 use moxi_sexpr::{Forms, end_of, print_forms, read_forms, readings_are_one};
 use std::alloc::Global;
 
-/// The forms of a text.
+/// Parses a text to forms.
 pub fn forms_of(alloc: Global, text: &[u8]) -> Result<Forms, Fault>
     ensures printable { IfOk result (λ forms. ArePrintable (plain_forms forms.items)) }
     ensures short { OnOk result (length text.now ≤ 2 ^ 31) }
@@ -22,14 +22,14 @@ pub fn forms_of(alloc: Global, text: &[u8]) -> Result<Forms, Fault>
     Ok(read_forms(alloc, text)?)
 }
 
-/// Appends the printed forms, each on a line.
+/// Appends the printed forms, one per line.
 pub fn put_forms(alloc: Global, out: &mut Answer, pieces: &[Piece]) -> Result<(), Fault> {
     let forms = forms_of(alloc, piece_bytes(pieces, "text")?)?;
     out.put_text(print_forms(alloc, &forms));
     Ok(())
 }
 
-/// The script of a text.
+/// Parses a text to a script.
 pub fn script_of(alloc: Global, text: &[u8]) -> Result<Script, Fault> {
     let forms = forms_of(alloc, text)?;
     Ok(read_script(alloc, &forms, end_of(text))?)

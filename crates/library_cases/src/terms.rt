@@ -22,7 +22,7 @@ pub fn put_term_value(alloc: Global, out: &mut Answer, pieces: &[Piece]) -> Resu
     done
 }
 
-// The commands, and behind them a system and its check, without which they are no script.
+// The commands, followed by a system and its check, without which they are not a script.
 fn whole_script(alloc: Global, commands: &[u8]) -> Result<Text, NoMemory> {
     let mut out = Answer::new(alloc);
     out.put(commands);

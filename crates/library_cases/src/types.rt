@@ -1,4 +1,4 @@
-// Types of expressions that name nothing.
+// Types of expressions that use no names.
 use crate::models::{expression_of, expression_source};
 use case_text::{Answer, Fault, Piece, piece_bytes};
 use smv_intervals::Ty;
@@ -26,7 +26,7 @@ impl Scope for NoNames {
     }
 }
 
-/// Appends the type of the expression where it stands behind `next(x) :=`, as it is declared.
+/// Appends the type of the expression where it stands after `next(x) :=`, as a declaration writes it.
 pub fn put_type_of(alloc: Global, out: &mut Answer, pieces: &[Piece]) -> Result<(), Fault> {
     let source = expression_source(alloc, piece_bytes(pieces, "text")?)?;
     match type_in(alloc, expression_of(&source)?)? {

@@ -1,4 +1,4 @@
-// Values of expressions over definitions and actuals.
+// Values of expressions with definitions and actual parameters.
 ghost use Rattle.std.specs.Prelude.{◌≡◌, map, flat_map, position, bytes_eq, true, IfOk, IfSome};
 ghost use Rattle.std.specs.List.{list_all};
 ghost use Rattle.smv_text.specs.View.{plain, plain_module, plain_domain, plain_item, plain_element, plain_source};
@@ -21,7 +21,7 @@ use smv_text::{Domain, Element, Elements, Expr, Items, Module, Shape, Source};
 use std::alloc::Global;
 use text_core::{Name, NoMemory, Text};
 
-// The model with the expression at its end, where any type fits: on both sides of an equation in a TRANS.
+// The model with the expression at its end, where any type fits: on both sides of an equation under TRANS.
 fn asking(alloc: Global, model: &[u8], expression: &[u8]) -> Result<Text, NoMemory> {
     let mut out = Answer::new(alloc);
     out.put(model);
@@ -33,8 +33,9 @@ fn asking(alloc: Global, model: &[u8], expression: &[u8]) -> Result<Text, NoMemo
     out.done()
 }
 
-/// Appends the value of the expression, read at the end of the model's last module, in the instance with this path: `main`, or a
-/// dotted one.
+/// Appends the value of the expression in the instance with this path: `main`, or a dotted path.
+///
+/// The expression is parsed at the end of the model's last module.
 pub fn put_value_of(
     alloc: Global,
     out: &mut Answer,
@@ -64,7 +65,7 @@ fn value_in_source(alloc: Global, source: &Source, name: &Name) -> Result<Value,
     value_among(alloc, source, parts.as_slice(), name)
 }
 
-// Makes all checks of the model.
+// Makes all checks on the model.
 fn checked(alloc: Global, source: &Source) -> Result<(), Fault>
     requires { IsRead (plain_source source.now) }
     ensures { IfOk result (λ u. IsChecked (instances_of (plain_source source.now))) }
@@ -75,7 +76,7 @@ fn checked(alloc: Global, source: &Source) -> Result<(), Fault>
     Ok(())
 }
 
-// The value in the model's instance of this path.
+// The value in the model's instance with this path.
 #[tactic(auto, using(crate::proofs::Fitting::now_fits, crate::proofs::Fitting::inputs_fit, crate::proofs::Fitting::stands))]
 fn value_among<'a>(
     alloc: Global,
@@ -151,7 +152,7 @@ fn elements_are_free(elements: &Elements) -> bool
     true
 }
 
-// Is each variable an instance?
+// Whether each variable is an instance.
 #[tactic(auto, using(crate::proofs::Lists::front_is, crate::proofs::Lists::end_is))]
 fn are_free<'a>(parts: &[Instance<'a>]) -> bool
     ensures { result ≡ are_free (map instance_plain parts.now) }
@@ -181,7 +182,7 @@ fn number_of<'a>(parts: &[Instance<'a>], path: &[u8]) -> usize
     }
 }
 
-// What stands before the first operator of the module's last section, a TRANS.
+// The expression before the first operator of the module's last section, which must be a TRANS.
 fn asked_of(declared: &Module) -> Option<&Expr>
     ensures { IfSome result (λ e. InOne (plain e.now) (flat_map expressions_in (plain_module declared.now).elements)) }
 {
@@ -198,7 +199,7 @@ fn asked_of(declared: &Module) -> Option<&Expr>
     }
 }
 
-// What stands before the first operator of the last section, a TRANS, of the numbered instance's module.
+// The same for the module of the instance with number i.
 fn asked_in<'a>(parts: &[Instance<'a>], i: usize) -> Option<&'a Expr>
     ensures { IfSome result (λ e. StandsIn (map instance_plain parts.now) i (plain e.now)) }
 {

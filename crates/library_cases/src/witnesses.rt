@@ -1,4 +1,4 @@
-// Witnesses, printed.
+// Printed witnesses.
 use btor_text::read_btor;
 use btor_tree::Nodes;
 use btor_witness::{print_witness, read_witness};

@@ -1,4 +1,5 @@
-//! Translates SMV models to BTOR2 texts, and judges witnesses for these.
+//! The program `moxi_cli`: translates models between SMV, MoXI and BTOR2, and judges, lifts and lowers
+//! counterexamples.
 #![tactic(auto)]
 
 use std::process::ExitCode;
@@ -18,7 +19,7 @@ fn main(rt: HostRuntime) -> ExitCode {
     ExitCode::from(status.number())
 }
 
-// Says that there was no memory for the command words.
+// Reports that the command words ran out of memory.
 fn no_memory<N: Sink>(notes: &mut N) -> Status {
     match write_whole(notes, b"no memory\n") {
         Ok(()) => Status::NoMemory,
@@ -26,7 +27,7 @@ fn no_memory<N: Sink>(notes: &mut N) -> Status {
     }
 }
 
-// The command words without the program's name. Where the system doesn't give them as text, there are none.
+// The command words without the program's name. There are none where the system's words are not text.
 fn command_words<R: Env + AllocGlobal>(rt: &R) -> Result<Vec<String>, NoMemory> {
     match env::args(rt) {
         Ok(args) => Ok(args.skip(1).collect(rt.alloc())?),

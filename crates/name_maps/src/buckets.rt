@@ -1,4 +1,4 @@
-// Values of names in instances, found by a number made of an instance's number and a name's bytes.
+// Values of names in instances, found by a hash of an instance's number and a name's bytes.
 ghost use Rattle.std.specs.Prelude.{◌≡◌, ◌<◌, ◌+◌, ◌*◌, ◌%◌, ◌&&◌, ◌==◌, [], List, ℕ, Some, None, length, OnOk, IfOk, bytes_eq, if◌then◌else◌};
 ghost use Rattle.name_maps.specs.Rows.{number_on, is_row_of, last_named, rows_of, held_named, buckets_named};
 
@@ -6,7 +6,7 @@ use std::alloc::Global;
 use std::marker::Model;
 use text_core::{NoMemory, is_same};
 
-/// A name in the numbered instance, and its value.
+/// A name in the instance with this number, and its value.
 #[derive(Drop)]
 pub struct NamedValue<'a, V> {
     pub instance: usize,
@@ -14,7 +14,9 @@ pub struct NamedValue<'a, V> {
     pub value: V,
 }
 
-/// Rows in the order in which they came. Most buckets have one row or two, which lie in the bucket itself.
+/// Entries with one hash, in the order in which they were added.
+///
+/// Most buckets have one entry or two, which are stored inline.
 #[derive(Drop)]
 pub struct Bucket<'a, V> {
     pub first: Option<NamedValue<'a, V>>,
@@ -39,7 +41,8 @@ impl<'a, V> Model for Buckets<'a, V> {
     ghost invariant = { λ bs. 0 < length bs.list.items };
 }
 
-// The multiplier is a prime greater than there are names, so that no number of buckets has all names in a few of them.
+// The multiplier is a prime greater than the number of names. So no count of buckets puts all names into a few of
+// them.
 #[inline(always)]
 fn next_number(h: usize, b: u8) -> usize
     requires { h < 4294967296 }
@@ -60,7 +63,7 @@ fn number_of(i: usize, name: &[u8]) -> usize
     h
 }
 
-// The bucket in which a name of the numbered instance stands.
+// The bucket of a name in the instance with this number.
 #[inline(always)]
 fn bucket_of(i: usize, name: &[u8], count: usize) -> usize
     requires { 0 < count }
@@ -77,7 +80,7 @@ fn is_row_of<'a, V>(row: &NamedValue<'a, V>, i: usize, name: &[u8]) -> bool
     row.instance == i && is_same(row.name, name)
 }
 
-// The value that a name was given last.
+// The value that was set last for a name.
 #[inline(never)]
 fn last_value<'a, V: Copy>(rows: &[NamedValue<'a, V>], i: usize, name: &[u8]) -> Option<V>
     ensures { result ≡ last_named rows.now i name.now }
@@ -93,7 +96,7 @@ fn last_value<'a, V: Copy>(rows: &[NamedValue<'a, V>], i: usize, name: &[u8]) ->
     None
 }
 
-/// The value that a name of the numbered instance was given last in a bucket.
+/// Returns the value that was set last for this name of instance `i` in a bucket, or None.
 #[inline(always)]
 pub fn held_value<'a, V: Copy>(bucket: &Bucket<'a, V>, i: usize, name: &[u8]) -> Option<V>
     ensures { result ≡ held_named bucket.now i name.now }
@@ -141,7 +144,9 @@ fn add_to<'a, V: Drop>(bucket: &mut Bucket<'a, V>, row: NamedValue<'a, V>) -> Re
     Ok(())
 }
 
-/// Gives the name in the numbered instance this value, whatever it had before.
+/// Sets the value of this name in instance `i`.
+///
+/// It replaces any earlier value.
 pub fn add_to_buckets<'a, V: Drop>(
     buckets: &mut Buckets<'a, V>,
     i: usize,
@@ -160,7 +165,7 @@ pub fn add_to_buckets<'a, V: Drop>(
     Ok(())
 }
 
-/// The value of the name in the numbered instance.
+/// Returns the value of this name in instance `i`, or None.
 #[inline(always)]
 pub fn value_in_buckets<'a, V: Copy>(buckets: &Buckets<'a, V>, i: usize, name: &[u8]) -> Option<V>
     ensures { result ≡ buckets_named buckets.now i name.now }

@@ -1,4 +1,4 @@
-// What names stand for in their instances, found with no scan.
+// Values of names in their instances, found without a scan.
 ghost use Rattle.std.specs.Prelude.{◌≡◌, List, ℕ, Some, None, OnOk, bytes_eq, ◌&&◌, ◌==◌, if◌then◌else◌};
 ghost use Rattle.name_maps.specs.Maps.{named_in};
 
@@ -6,17 +6,19 @@ use std::alloc::Global;
 use std::collections::HashMap;
 use text_core::NoMemory;
 
-/// Values by the number of an instance and the bytes of a name there.
+/// A map from an instance's number and a name's bytes to a value.
 pub type InstanceMap<'a, V> = HashMap<(usize, &'a [u8]), V>;
 
-/// No names in any instance.
+/// Returns the empty map.
 pub fn nothing_in<'a, V>(alloc: Global) -> InstanceMap<'a, V>
     ensures { (i : ℕ) (x : List ℕ) → named_in result i x ≡ None }
 {
     HashMap::new(alloc)
 }
 
-/// Gives the name in the numbered instance this value, whatever it had before.
+/// Sets the value of this name in instance `i`.
+///
+/// It replaces any earlier value.
 pub fn put_in<'a, V: Drop>(
     map: &mut InstanceMap<'a, V>,
     i: usize,
@@ -29,7 +31,7 @@ pub fn put_in<'a, V: Drop>(
     Ok(())
 }
 
-/// The value of the name in the numbered instance.
+/// Returns the value of this name in instance `i`, or None.
 pub fn value_in<'a, V: Copy>(map: &InstanceMap<'a, V>, i: usize, x: &[u8]) -> Option<V>
     ensures { result ≡ named_in map.now i x.now }
 {

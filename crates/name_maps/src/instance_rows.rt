@@ -1,4 +1,4 @@
-// Values of names in instances, found with no scan.
+// Values of names in instances, found without a scan.
 ghost use Rattle.std.specs.Prelude.{◌≡◌, List, ℕ, Some, None, is_none, IfOk, OnOk, bytes_eq, ◌&&◌, ◌==◌, if◌then◌else◌};
 ghost use Rattle.name_maps.specs.Rows.{row_in};
 
@@ -6,13 +6,15 @@ use crate::buckets::{Buckets, add_to_buckets, empty_buckets, value_in_buckets};
 use std::alloc::Global;
 use text_core::NoMemory;
 
-/// Values by the number of an instance and the bytes of a name there, in as many buckets as names are expected.
+/// A map from an instance's number and a name's bytes to a value, with one bucket for each expected name.
 #[derive(Drop)]
 pub struct InstanceRows<'a, V> {
     pub buckets: Buckets<'a, V>,
 }
 
-/// No names in any instance. They are found with no scan as long as not many more come than are expected.
+/// Returns the empty map, with buckets for `expected` names.
+///
+/// Lookups need no scan as long as there are not many more names than expected.
 #[tactic(auto, unfolding(crate::specs::Rows::row_in))]
 pub fn no_rows_in<'a, V: Drop>(
     alloc: Global,
@@ -24,7 +26,9 @@ pub fn no_rows_in<'a, V: Drop>(
     Ok(InstanceRows { buckets })
 }
 
-/// Gives the name in the numbered instance this value, whatever it had before.
+/// Sets the value of this name in instance `i`.
+///
+/// It replaces any earlier value.
 #[tactic(auto, unfolding(crate::specs::Rows::row_in))]
 pub fn add_row_in<'a, V: Drop>(
     map: &mut InstanceRows<'a, V>,
@@ -38,7 +42,7 @@ pub fn add_row_in<'a, V: Drop>(
     Ok(())
 }
 
-/// Gives the name in the numbered instance this number, unless it has one: the first number of a name counts.
+/// Sets the number of this name in instance `i`, unless it has one.
 pub fn add_first_in<'a>(
     numbers: &mut InstanceRows<'a, usize>,
     i: usize,
@@ -53,7 +57,7 @@ pub fn add_first_in<'a>(
     }
 }
 
-/// The value of the name in the numbered instance.
+/// Returns the value of this name in instance `i`, or None.
 #[tactic(auto, unfolding(crate::specs::Rows::row_in))]
 pub fn row_value_in<'a, V: Copy>(map: &InstanceRows<'a, V>, i: usize, x: &[u8]) -> Option<V>
     ensures { result ≡ row_in map.now i x.now }

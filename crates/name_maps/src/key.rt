@@ -9,7 +9,9 @@ use indexmap::Equivalent;
 use std::hash::{Hash, Hasher};
 use text_core::{Name, is_same};
 
-/// A name as a key. A short one lies in the set itself.
+/// A name as a key.
+///
+/// A short name is stored in the set itself.
 #[derive(Drop)]
 pub struct Key {
     pub name: Name,
@@ -39,7 +41,7 @@ impl Hash for Key {
     }
 }
 
-/// The bytes of a name that is looked up.
+/// The bytes of a name to look up.
 #[derive(Clone, Copy)]
 pub struct Wanted<'a> {
     pub bytes: &'a [u8],

@@ -1,4 +1,4 @@
-//! Maps from names: names in the order in which they are declared, each once, and values by the bytes of a name, found without a scan.
+//! Sets of names in declaration order, and maps from names to values, both without scans.
 #![tactic(auto)]
 
 mod buckets;

@@ -1,4 +1,4 @@
-// Values of names, found with no scan.
+// Values of names, found without a scan.
 ghost use Rattle.std.specs.Prelude.{◌≡◌, List, ℕ, Some, None, OnOk, IfOk, bytes_eq, if◌then◌else◌};
 ghost use Rattle.name_maps.specs.Rows.{row_named};
 
@@ -6,13 +6,15 @@ use crate::instance_rows::{InstanceRows, add_row_in, no_rows_in, row_value_in};
 use std::alloc::Global;
 use text_core::NoMemory;
 
-/// Values by the bytes of a name: rows of one instance.
+/// A map from a name's bytes to a value, as the rows of one instance.
 #[derive(Drop)]
 pub struct NameRows<'a, V> {
     pub rows: InstanceRows<'a, V>,
 }
 
-/// No names yet. They are found with no scan as long as not many more come than are expected.
+/// Returns the empty map, with buckets for `expected` names.
+///
+/// Lookups need no scan as long as there are not many more names than expected.
 pub fn no_rows<'a, V: Drop>(alloc: Global, expected: usize) -> Result<NameRows<'a, V>, NoMemory>
     ensures { IfOk result (λ m. (x : List ℕ) → row_named m x ≡ None) }
 {
@@ -20,7 +22,9 @@ pub fn no_rows<'a, V: Drop>(alloc: Global, expected: usize) -> Result<NameRows<'
     Ok(NameRows { rows })
 }
 
-/// Gives the name this value, whatever it had before.
+/// Sets the value of the name.
+///
+/// It replaces any earlier value.
 pub fn add_row<'a, V: Drop>(
     map: &mut NameRows<'a, V>,
     name: &'a [u8],
@@ -32,7 +36,7 @@ pub fn add_row<'a, V: Drop>(
     Ok(())
 }
 
-/// The value of the name.
+/// Returns the value of the name, or None.
 pub fn row_value<'a, V: Copy>(map: &NameRows<'a, V>, name: &[u8]) -> Option<V>
     ensures { result ≡ row_named map.now name.now }
 {

@@ -1,4 +1,4 @@
-// Names in the order in which they were declared, found with no scan.
+// Names in declaration order, found without a scan.
 ghost use Rattle.std.specs.Prelude.{◌≡◌, true, is_none, ◌++◌, ◌∷◌, [], length, take, IfOk, OnErr, if◌then◌else◌};
 ghost use Rattle.name_maps.specs.Names.{are_fresh, place_of};
 
@@ -8,7 +8,9 @@ use std::alloc::Global;
 use std::marker::Model;
 use text_core::{Name, Names, NoMemory};
 
-/// Names, each once, in the order in which they were declared, seen as their list. They are found with no scan.
+/// A set of names in declaration order, which contracts see as the list of names.
+///
+/// Lookups need no scan.
 #[derive(Drop)]
 pub struct NameSet {
     names: IndexSet<Key>,
@@ -23,7 +25,7 @@ impl Model for NameSet {
 }
 
 impl NameSet {
-    /// No names.
+    /// Returns the empty set.
     pub fn new(alloc: Global) -> NameSet
         ensures { result ≡ [] }
     {
@@ -32,24 +34,25 @@ impl NameSet {
         }
     }
 
+    /// Returns the number of names.
     pub fn len(&self) -> usize
         ensures { result ≡ length self.now }
     {
         self.names.len()
     }
 
-    /// The place of this name.
+    /// Returns the index of this name, or None where it is not declared.
     pub fn place(&self, name: &[u8]) -> Option<usize>
         ensures { result ≡ place_of self.now name.now }
     {
-        // Most lookups in a set of no names need no hash.
+        // Most lookups in an empty set need no hash.
         if self.names.len() == 0 {
             return None;
         }
         self.names.get_index_of(Wanted { bytes: name })
     }
 
-    /// The names as a list.
+    /// Returns the names as a list.
     #[tactic(auto, using(crate::proofs::KeyLaws::keys_behind, crate::proofs::KeyLaws::keys_end, crate::proofs::KeyLaws::joined_on))]
     pub fn names(&self, alloc: Global) -> Result<Names, NoMemory>
         ensures { IfOk result (λ names. names ≡ self.now) }
@@ -65,7 +68,9 @@ impl NameSet {
         Ok(names)
     }
 
-    /// Declares a name, and says whether it is new. Nothing changes where it isn't, nor where memory is refused.
+    /// Declares a name and returns whether it is new.
+    ///
+    /// Nothing changes where it is not new, nor when out of memory.
     pub fn declare(&mut self, alloc: Global, name: &[u8]) -> Result<bool, NoMemory>
         ensures fresh { IfOk result (λ fresh. fresh ≡ is_none (place_of self.old name.now)) }
         ensures names { IfOk result (λ fresh. self.new ≡ (if fresh then self.old ++ name.now ∷ [] else self.old)) }
@@ -75,7 +80,7 @@ impl NameSet {
         self.insert(Key { name })
     }
 
-    // Declares the name of a key, and says whether it is new.
+    // Declares the name of a key and returns whether it is new.
     fn insert(&mut self, key: Key) -> Result<bool, NoMemory>
         ensures fresh { IfOk result (λ fresh. fresh ≡ is_none (place_of self.old key.name)) }
         ensures names { IfOk result (λ fresh. self.new ≡ (if fresh then self.old ++ key.name ∷ [] else self.old)) }
@@ -87,14 +92,16 @@ impl NameSet {
         }
     }
 
-    /// Keeps the first names.
+    /// Keeps the first `count` names and drops the others.
     pub fn keep(&mut self, count: usize)
         ensures { self.new ≡ take count self.old }
     {
         self.names.truncate(count);
     }
 
-    /// Declares all of these names, where each is new; else nothing changes, nor where memory is refused.
+    /// Declares all of these names and returns whether each was new.
+    ///
+    /// Nothing changes where one is not new, nor when out of memory.
     pub fn declare_all(&mut self, alloc: Global, names: &Names) -> Result<bool, NoMemory>
         ensures fresh { IfOk result (λ fresh. fresh ≡ are_fresh self.old names.now) }
         ensures names { IfOk result (λ fresh. self.new ≡ (if fresh then self.old ++ names.now else self.old)) }

@@ -1,4 +1,4 @@
-// Which name was looked up after which.
+// For each name, the name that was looked up after it.
 ghost use Rattle.std.specs.Prelude.{◌≡◌};
 ghost use Rattle.name_maps.specs.Names.{place_of};
 
@@ -6,8 +6,9 @@ use crate::table::NameTable;
 use std::alloc::Global;
 use text_core::NoMemory;
 
-/// For each name of a table the one that was looked up after it the last time. A name that comes where it is expected is found by one
-/// comparison.
+/// A lookup cache: for each name of a table, the name that was looked up after it the last time.
+///
+/// A name that comes in the expected place is found with one comparison.
 #[derive(Drop)]
 pub struct Successors {
     next: Vec<usize>,
@@ -15,7 +16,7 @@ pub struct Successors {
 }
 
 impl Successors {
-    /// Nothing was looked up yet.
+    /// Returns the cache before the first lookup.
     pub fn new(alloc: Global) -> Successors {
         Successors {
             next: Vec::new(alloc),
@@ -23,7 +24,9 @@ impl Successors {
         }
     }
 
-    /// Makes room for each name of the table. At first each name is expected behind the one before it.
+    /// Makes room for each name of the table.
+    ///
+    /// At first each name is expected after the one before it.
     pub fn cover(&mut self, table: &NameTable) -> Result<(), NoMemory> {
         while self.next.len() < table.len() {
             let place = self.next.len();
@@ -34,7 +37,7 @@ impl Successors {
         Ok(())
     }
 
-    /// The place of this name in the table.
+    /// Returns the index of this name in the table, or None where it is not declared.
     pub fn place(&mut self, table: &NameTable, name: &[u8]) -> Option<usize>
         ensures { result ≡ place_of table.now name.now }
     {
@@ -48,7 +51,7 @@ impl Successors {
         Some(place)
     }
 
-    // The place that is expected.
+    // The expected index.
     fn expected(&self) -> usize {
         match self.next.as_slice().get(self.last) {
             Some(place) => *place,
@@ -56,7 +59,7 @@ impl Successors {
         }
     }
 
-    // Notes the place that was looked up.
+    // Records the index that was looked up.
     fn note(&mut self, place: usize) {
         if self.last < self.next.len() {
             self.next[self.last] = place;

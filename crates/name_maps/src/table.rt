@@ -1,4 +1,4 @@
-// Names with their places.
+// Names with their indices.
 ghost use Rattle.std.specs.Prelude.{◌≡◌, ◌++◌, ◌∷◌, [], true, length, is_none, Some, IfOk, OnErr, if◌then◌else◌};
 ghost use Rattle.name_maps.specs.Names.{place_of};
 
@@ -7,7 +7,7 @@ use std::alloc::Global;
 use std::marker::Model;
 use text_core::{Name, Names, NoMemory};
 
-/// Names, each once, in the order in which they were declared, seen as their list.
+/// A set of names in declaration order with access by index, which contracts see as the list of names.
 #[derive(Drop)]
 pub struct NameTable {
     set: NameSet,
@@ -26,7 +26,7 @@ impl Model for NameTable {
 }
 
 impl NameTable {
-    /// No names.
+    /// Returns the empty table.
     pub fn new(alloc: Global) -> NameTable
         ensures { result ≡ [] }
     {
@@ -36,20 +36,23 @@ impl NameTable {
         }
     }
 
+    /// Returns the number of names.
     pub fn len(&self) -> usize
         ensures { result ≡ length self.now }
     {
         self.names.len()
     }
 
-    /// The place of this name.
+    /// Returns the index of this name, or None where it is not declared.
     pub fn place(&self, name: &[u8]) -> Option<usize>
         ensures { result ≡ place_of self.now name.now }
     {
         self.set.place(name)
     }
 
-    /// Does this name stand at this place? It is no error to ask past the last.
+    /// Returns whether this name stands at this index.
+    ///
+    /// An index past the last name is allowed.
     pub fn is_at(&self, place: usize, name: &[u8]) -> bool
         ensures { result ≡ true → place_of self.now name.now ≡ Some place }
     {
@@ -59,7 +62,9 @@ impl NameTable {
         }
     }
 
-    /// Declares a name, and says whether it is new. Nothing changes where it isn't, nor where memory is refused.
+    /// Declares a name and returns whether it is new.
+    ///
+    /// Nothing changes where it is not new, nor when out of memory.
     pub fn declare(&mut self, alloc: Global, name: &[u8]) -> Result<bool, NoMemory>
         ensures fresh { IfOk result (λ fresh. fresh ≡ is_none (place_of self.old name.now)) }
         ensures names { IfOk result (λ fresh. self.new ≡ (if fresh then self.old ++ name.now ∷ [] else self.old)) }

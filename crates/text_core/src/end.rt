@@ -1,14 +1,14 @@
-// Why a text has no reading: the one end of all readers and checks.
+// The one error type of all readers and checks: why a text has no reading.
 use crate::errors::NoMemory;
 use crate::place::Refusal;
 use std::alloc::{AllocError, AllocFailed};
 
-/// Why a reader or a check has no result.
+/// The reason why a reader or a check has no result.
 #[derive(Clone, Copy, Debug, PartialEq, Eq)]
 pub enum End {
-    /// The text is refused.
+    /// The refusal of the text.
     Bad(Refusal),
-    /// Want of memory.
+    /// Out of memory.
     NoMemory,
 }
 

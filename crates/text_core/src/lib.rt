@@ -1,4 +1,4 @@
-//! Names, texts and lists, and what the outside is: files that are read and streams that are written.
+//! Names, texts and lists, and the interfaces to the outside: shelves of files to read and sinks to write to.
 #![tactic(auto)]
 
 mod bytes;

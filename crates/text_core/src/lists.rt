@@ -1,4 +1,4 @@
-// One list type for all elements: it is seen as the list of its elements.
+// One list type for all elements. Contracts see it as the list of its elements.
 ghost use Rattle.std.specs.Prelude.{◌≡◌, ◌==◌, ◌<◌, ◌^◌, ◌++◌, [], ◌∷◌, length, None, IfSome, IfNone, IfOk, OnOk, OnErr, slice_index_or};
 ghost use Rattle.std.specs.List.{list_any};
 ghost use Rattle.std.specs.Iterator.Adapters.{IterYieldsInOrder, IterYieldsInReverse};
@@ -13,7 +13,7 @@ use std::alloc::Global;
 use std::marker::Model;
 use std::slice::Iter;
 
-/// A list, seen as the list of its elements.
+/// A growable list, which contracts see as the list of its elements.
 #[derive(Drop)]
 pub struct List<T> {
     items: Vec<T>,
@@ -28,7 +28,9 @@ impl<T> Model for List<T> {
 }
 
 impl<T: Drop> List<T> {
-    /// The empty list. It takes no memory.
+    /// Returns the empty list.
+    ///
+    /// It allocates nothing.
     pub fn new(alloc: Global) -> List<T>
         ensures { result ≡ [] }
     {
@@ -37,7 +39,7 @@ impl<T: Drop> List<T> {
         }
     }
 
-    /// The empty list, with room for this many elements.
+    /// Returns the empty list, with room for `count` elements.
     pub fn with_capacity(alloc: Global, count: usize) -> Result<List<T>, NoMemory>
         ensures { IfOk result (λ list. list ≡ []) }
     {
@@ -47,7 +49,9 @@ impl<T: Drop> List<T> {
         }
     }
 
-    /// Adds x at the end, and leaves the list unchanged where it is refused.
+    /// Appends `x`.
+    ///
+    /// The list stays unchanged when out of memory.
     pub fn push(&mut self, x: T) -> Result<(), NoMemory>
         ensures ok { OnOk result (self.new ≡ self.old ++ x ∷ []) }
         ensures err { OnErr result (self.new ≡ self.old) }
@@ -58,12 +62,14 @@ impl<T: Drop> List<T> {
         }
     }
 
+    /// Returns the number of elements.
     pub fn len(&self) -> usize
         ensures { result ≡ length self.now }
     {
         self.items.len()
     }
 
+    /// Returns the element at index `i`.
     pub fn at(&self, i: usize) -> &T
         requires { i < length self.now }
         ensures { result.now ≡ slice_index_or self.now i result.now }
@@ -71,14 +77,14 @@ impl<T: Drop> List<T> {
         &self.items[i]
     }
 
-    /// The elements in order.
+    /// Returns the elements in order.
     pub fn as_slice(&self) -> &[T]
         ensures { result.now ≡ self.now }
     {
         self.items.as_slice()
     }
 
-    /// The elements in order, or from the back.
+    /// Iterates the elements in order, from either end.
     pub fn iter(&self) -> Iter<'_, T>
         ensures rest { iter_rest result ≡ self.now }
         ensures len { length (iter_rest result) ≡ length self.now }
@@ -106,7 +112,7 @@ impl<'a, T: Drop> IntoIterator for &'a List<T> {
 pub type Numbers = List<u64>;
 
 impl List<u64> {
-    /// Is x in the list?
+    /// Returns whether `x` is in the list.
     pub fn contains(&self, x: u64) -> bool
         ensures { result ≡ list_any (λ y. y == x) self.now }
     {
@@ -114,7 +120,7 @@ impl List<u64> {
     }
 }
 
-/// A file's name and its bytes, seen as that pair.
+/// A file's name and content, which contracts see as a pair.
 #[derive(Drop)]
 pub struct FilePair {
     pub name: Name,
@@ -130,12 +136,14 @@ impl Model for FilePair {
 }
 
 impl FilePair {
+    /// Returns the file's name.
     pub fn name(&self) -> &Name
         ensures { result.now ≡ self.now.0 }
     {
         &self.name
     }
 
+    /// Returns the file's content.
     pub fn bytes(&self) -> &[u8]
         ensures { result.now ≡ self.now.1 }
     {
@@ -143,11 +151,11 @@ impl FilePair {
     }
 }
 
-/// A list of files, seen as pairs of a name and its bytes.
+/// A list of files, which contracts see as pairs of a name and its bytes.
 pub type FilePairs = List<FilePair>;
 
 impl List<FilePair> {
-    /// The place of the first file with this name.
+    /// Returns the index of the first file with this name, or None where there is none.
     pub fn place_of(&self, name: &Name) -> Option<usize>
         ensures found { IfSome result (IsPlaceOf self.now name.now) }
         ensures missing { IfNone result (file_at self.now name.now ≡ None) }

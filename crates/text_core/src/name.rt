@@ -1,4 +1,4 @@
-// A name: few bytes that don't change.
+// A name: a few bytes that don't change.
 ghost use Rattle.std.specs.Prelude.{◌≡◌, ◌<◌, ◌≤◌, ◌+◌, ◌++◌, ◌∷◌, [], IfOk, length};
 
 use crate::errors::NoMemory;
@@ -6,19 +6,21 @@ use crate::text::Text;
 use std::alloc::Global;
 use std::marker::Model;
 
-// The most bytes that lie in place: with them a name is as small as a list of bytes.
+// The most bytes stored inline: with this limit a name is as small as a list of bytes.
 const SHORT: usize = 22;
 
-/// A name, seen as its bytes. A short one lies in place, since most names are short and there are many of them.
+/// A name, which contracts see as its bytes.
+///
+/// Short names are stored inline, since most names are short and there are many of them.
 #[derive(Drop)]
 pub struct Name {
     content: Content,
 }
 
-// The bytes of a name. A long one has a box, so that it is no larger than a short one.
+// The bytes of a name. A long name is boxed, so that it is no larger than a short one.
 #[derive(Drop)]
 enum Content {
-    // How many bytes there are, and room with them at its front.
+    // The number of bytes, and a buffer with the bytes at its front.
     Short(u8, [u8; SHORT]),
     Long(Box<Vec<u8>>),
 }
@@ -35,7 +37,7 @@ impl Model for Name {
 }
 
 impl Name {
-    /// The name with exactly these bytes.
+    /// Returns the name with exactly these bytes.
     pub fn of(alloc: Global, bytes: &[u8]) -> Result<Name, NoMemory>
         ensures { IfOk result (λ name. name ≡ bytes.now) }
     {
@@ -46,7 +48,7 @@ impl Name {
         }
     }
 
-    /// The name of these pieces, one behind the other.
+    /// Returns the concatenation of the two pieces as a name.
     pub fn joined(alloc: Global, first: &[u8], second: &[u8]) -> Result<Name, NoMemory>
         ensures { IfOk result (λ name. name ≡ first.now ++ second.now) }
     {
@@ -57,7 +59,7 @@ impl Name {
         }
     }
 
-    /// The dotted name of a name below a path.
+    /// Returns the dotted name `path.name`.
     pub fn dotted(alloc: Global, path: &[u8], name: &[u8]) -> Result<Name, NoMemory>
         ensures { IfOk result (λ dotted. dotted ≡ path.now ++ 46 ∷ name.now) }
     {
@@ -68,7 +70,7 @@ impl Name {
         }
     }
 
-    // The name of these pieces, put together in place.
+    // The concatenation of the two pieces, stored inline.
     fn short_joined(first: &[u8], second: &[u8]) -> Name
         requires { length first.now + length second.now ≤ 22 }
         ensures { result ≡ first.now ++ second.now }
@@ -83,12 +85,12 @@ impl Name {
         }
     }
 
-    // The dotted name, put together in place.
+    // The dotted name, stored inline.
     fn short_dotted(path: &[u8], name: &[u8]) -> Name
         requires { length path.now + length name.now < 22 }
         ensures { result ≡ path.now ++ 46 ∷ name.now }
     {
-        // The dot between them is there already.
+        // The buffer already has the dot between them.
         let mut room = [b'.'; SHORT];
         let start = path.len() + 1;
         let end = start + name.len();
@@ -99,7 +101,7 @@ impl Name {
         }
     }
 
-    // The name of these pieces, in memory of its own.
+    // The concatenation of the pieces, built in a separate buffer.
     #[cold]
     #[inline(never)]
     fn long_joined(
@@ -117,7 +119,7 @@ impl Name {
         Name::of(alloc, whole.bytes())
     }
 
-    // The name with no bytes.
+    // The empty name.
     pub(crate) fn empty() -> Name
         ensures { result ≡ [] }
     {
@@ -126,7 +128,7 @@ impl Name {
         }
     }
 
-    // The name with these bytes, in place.
+    // The name with these bytes, stored inline.
     fn short(bytes: &[u8]) -> Name
         requires { length bytes.now ≤ 22 }
         ensures { result ≡ bytes.now }
@@ -138,7 +140,7 @@ impl Name {
         }
     }
 
-    // The name with these bytes, in memory of its own.
+    // The name with these bytes, in a box of its own.
     #[cold]
     #[inline(never)]
     fn long(alloc: Global, bytes: &[u8]) -> Result<Name, NoMemory>
@@ -155,7 +157,7 @@ impl Name {
         }
     }
 
-    /// The same name once more.
+    /// Returns a copy of the name.
     pub fn duplicate(&self, alloc: Global) -> Result<Name, NoMemory>
         ensures { IfOk result (λ name. name ≡ self.now) }
     {
@@ -167,6 +169,7 @@ impl Name {
         }
     }
 
+    /// Returns the name's bytes.
     pub fn bytes(&self) -> &[u8]
         ensures { result.now ≡ self.now }
     {

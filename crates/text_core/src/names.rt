@@ -1,4 +1,4 @@
-// A list of names: a single one lies in place, since most paths are a single name.
+// A list of names. A single name is stored inline, since most paths are a single name.
 ghost use Rattle.std.specs.Prelude.{◌≡◌, ◌<◌, ◌^◌, ◌++◌, [], ◌∷◌, length, IfOk, OnOk, OnErr, slice_index_or};
 ghost use Rattle.std.specs.Iterator.Runs.{EveryRun, ItemsMapTo};
 ghost use Rattle.std.specs.Slice.Iter.{iter_rest, iter_steps};
@@ -10,7 +10,7 @@ use std::marker::Model;
 use std::mem;
 use std::slice::{self, Iter};
 
-/// A list of names, seen as a list of their bytes.
+/// A list of names, which contracts see as the list of their bytes.
 #[derive(Drop)]
 pub struct Names {
     held: Held,
@@ -33,7 +33,9 @@ impl Model for Names {
 }
 
 impl Names {
-    /// The empty list. It takes no memory.
+    /// Returns the empty list.
+    ///
+    /// It allocates nothing.
     pub fn new(alloc: Global) -> Names
         ensures { result ≡ [] }
     {
@@ -43,7 +45,7 @@ impl Names {
         }
     }
 
-    /// The list of this name alone.
+    /// Returns the list with this name alone.
     pub fn one(alloc: Global, name: Name) -> Names
         ensures { result ≡ name ∷ [] }
     {
@@ -53,7 +55,9 @@ impl Names {
         }
     }
 
-    /// Adds x at the end, and leaves the list unchanged where it is refused.
+    /// Appends `x`.
+    ///
+    /// The list stays unchanged when out of memory.
     pub fn push(&mut self, x: Name) -> Result<(), NoMemory>
         ensures ok { OnOk result (self.new ≡ self.old ++ x ∷ []) }
         ensures err { OnErr result (self.new ≡ self.old) }
@@ -77,6 +81,7 @@ impl Names {
         }
     }
 
+    /// Returns the number of names.
     pub fn len(&self) -> usize
         ensures { result ≡ length self.now }
     {
@@ -86,6 +91,7 @@ impl Names {
         }
     }
 
+    /// Returns the name at index `i`.
     pub fn at(&self, i: usize) -> &Name
         requires { i < length self.now }
         ensures { result.now ≡ slice_index_or self.now i result.now }
@@ -96,7 +102,7 @@ impl Names {
         }
     }
 
-    /// The names in order.
+    /// Returns the names in order.
     pub fn as_slice(&self) -> &[Name]
         ensures { result.now ≡ self.now }
     {
@@ -121,7 +127,7 @@ impl<'a> IntoIterator for &'a Names {
     }
 }
 
-// Adds x at the end, and leaves the names unchanged where it is refused.
+// Appends x. The names stay unchanged when out of memory.
 fn add(names: &mut Vec<Name>, x: Name) -> Result<(), NoMemory>
     ensures ok { OnOk result (names.new.items ≡ names.old.items ++ x ∷ []) }
     ensures err { OnErr result (names.new.items ≡ names.old.items) }
@@ -132,7 +138,7 @@ fn add(names: &mut Vec<Name>, x: Name) -> Result<(), NoMemory>
     }
 }
 
-// Takes the first name into a list with x behind it, and leaves it where it is refused.
+// Moves the first name into a new list and appends x. The first name stays where it is when out of memory.
 fn two(alloc: Global, first: &mut Name, x: Name) -> Result<Vec<Name>, NoMemory>
     ensures ok { IfOk result (λ names. names.items ≡ first.old ∷ x ∷ []) }
     ensures err { OnErr result (first.new ≡ first.old) }

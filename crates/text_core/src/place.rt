@@ -2,7 +2,9 @@
 ghost use Rattle.std.specs.Prelude.{◌≡◌, ◌+◌, ◌<◌, ◌^◌, length};
 ghost use Rattle.text_core.specs.Places.{next_place, after, along, Reaches};
 
-/// A place in a text, in bytes: line and column count from 1, the offset from 0. A line ends after byte 10.
+/// A place in a text, in bytes: line and column count from 1, the offset from 0.
+///
+/// A line ends after byte 10.
 #[derive(Clone, Copy, Debug, PartialEq, Eq)]
 pub struct Place {
     pub line: u32,
@@ -18,7 +20,7 @@ pub const FIRST_PLACE: Place = Place {
 };
 
 impl Place {
-    /// The place behind one byte.
+    /// Returns the place after the byte `b`.
     pub fn next(self, b: u8) -> Place
         requires { Reaches self 1 }
         ensures { result ≡ next_place self b }
@@ -38,7 +40,7 @@ impl Place {
         }
     }
 
-    /// The place so many bytes along the same line.
+    /// Returns the place `count` bytes further along the same line.
     pub fn along(self, count: usize) -> Place
         requires { Reaches self count }
         ensures { result ≡ along self count }
@@ -51,7 +53,7 @@ impl Place {
         }
     }
 
-    /// The place behind these bytes.
+    /// Returns the place after these bytes.
     pub fn after(self, bytes: &[u8]) -> Place
         requires line { self.line + length bytes.now < 2 ^ 32 }
         requires column { self.column + length bytes.now + 1 < 2 ^ 32 }
@@ -72,8 +74,9 @@ impl Place {
     }
 }
 
-/// The kind of a refusal: the letter of what was read (S an SMV model, M a MoXI script, B a BTOR2 text, X a witness, Y a
-/// trace or a response) and its number.
+/// The kind of a refusal: a letter for the language of the text, and a number.
+///
+/// S is an SMV model, M a MoXI script, B a BTOR2 text, X a witness, and Y a trace or a response.
 #[derive(Clone, Copy, Debug, PartialEq, Eq)]
 pub enum Kind {
     S(u8),
@@ -83,7 +86,7 @@ pub enum Kind {
     Y(u8),
 }
 
-/// Why a text is refused, and where.
+/// The reason why a text is refused, and the place.
 #[derive(Clone, Copy, Debug, PartialEq, Eq)]
 pub struct Refusal {
     pub kind: Kind,

@@ -1,4 +1,4 @@
-// The top call: reads the words, does what they say, and writes.
+// The top call: reads the words as a command, runs it, and writes its answer.
 ghost use Rattle.std.specs.Prelude.{◌≡◌, ◌≢◌, ◌⊎◌, ◌<◌, ◌≤◌, length, map, string_bytes, None, Some, Ok, IfOk, IfSome, OnErr, List, ℕ};
 ghost use Rattle.text_core.specs.Outside.{file_at, grown, Rose};
 ghost use Rattle.text_core.specs.declared.place.Refusal.{Refusal};
@@ -45,7 +45,10 @@ use smv_commands::{runs_are_lifted, runs_are_lowered, scripts_stand, translation
 use std::alloc::Global;
 use text_core::{NoMemory, Shelf, Sink};
 
-/// Does what the words say. `words` are the command words without the program's name.
+/// Runs the command that the words give, and writes its answer.
+///
+/// `words` are the command words without the program's name. The answer's text goes to `out`. Where the status is
+/// not `Done`, `notes` takes the line of the status.
 pub fn run<F: Shelf, K: Sink, N: Sink>(
     alloc: Global,
     words: &Vec<String>,
@@ -53,19 +56,20 @@ pub fn run<F: Shelf, K: Sink, N: Sink>(
     out: &mut K,
     notes: &mut N,
 ) -> Status
-    // For every accepted model that the file spells, where nothing fails: the text that was written spells one list of
-    // lines, and for each invariant j and each number k the model has a run of k transitions whose last state breaks the
-    // invariant exactly where the lines have frames 0 to k with every constraint true and bad line j true in frame k. Runs
-    // and what they break are those of the whole language.
+    // Translation. The file parses to an accepted model. Then, where nothing fails, the written text parses to one
+    // list of lines. For each invariant j and each number k, the model has a run of k transitions whose last state
+    // breaks invariant j exactly where the lines have frames 0 to k with every constraint true and bad line j true
+    // in frame k. Runs and invariants are those of the whole language.
     ensures translates { IfSome (F.files shelf.old) (λ files. (model bytes : List ℕ) (source : PlainSource)
         → command_of (map string_bytes words.now.items) ≡ Some (Command.SmvToBtor model) → file_at files model ≡ Some bytes → Accepts bytes source
         → ¬ Rose (F.faults shelf.old) (F.faults shelf.new) → ¬ Rose (K.faults out.old) (K.faults out.new) → ¬ Rose (N.faults notes.old) (N.faults notes.new)
         → result ≢ Status.NoMemory
         → (result ≡ Status.Done) × ((text : List ℕ) × (K.taken out.new ≡ grown (K.taken out.old) text) × TranslatesTo source text)) }
 
-    // For every accepted model that the first file spells, where nothing fails: a witness in the second file for the lines of the
-    // model's text, of which the judge says Yes, is written back as the trace of a run of the model with a state for each frame,
-    // whose last state breaks the invariant of the witness's bad line.
+    // Lifting. The first file parses to an accepted model, the second one to a witness for the lines of its
+    // translation, and the judge accepts the witness. Then, where nothing fails, the written text is the trace of a
+    // run of the model. The run has a state for each frame, and its last state breaks the invariant of the
+    // witness's bad line.
     ensures lifts { IfSome (F.files shelf.old) (λ files. (model second bytes text : List ℕ) (source : PlainSource) (lines : List Line) (witness : Witness)
         → command_of (map string_bytes words.now.items) ≡ Some (Command.LiftSmv model second) → file_at files model ≡ Some bytes → Accepts bytes source
         → SpellsLines (btor_text source) lines → file_at files second ≡ Some text → SpellsWitness lines text witness → judged_btor lines witness Yes
@@ -73,9 +77,10 @@ pub fn run<F: Shelf, K: Sink, N: Sink>(
         → result ≢ Status.NoMemory
         → (result ≡ Status.Done) × ((trace : List ℕ) × (K.taken out.new ≡ grown (K.taken out.old) trace) × LiftsBack source witness trace)) }
 
-    // For every accepted model that the first file spells, where nothing fails: a trace in the second file whose run the judge says Yes
-    // of, for the invariant of number j, is written as a witness that states the run. The judge of witnesses says Yes of it for the
-    // lines of the model's text, and by the clause before it is lifted to the trace of the same run.
+    // Lowering. The first file parses to an accepted model, the second one to a trace of a run, and the judge
+    // accepts the run for invariant j. Then, where nothing fails, the written text is a witness that states the
+    // run. The judge of witnesses accepts it for the lines of the model's translation, and by the clause before it
+    // is lifted to the trace of the same run.
     ensures lowers { IfSome (F.files shelf.old) (λ files. (model second bytes trace : List ℕ) (j : ℕ) (source : PlainSource) (run : Run)
         → command_of (map string_bytes words.now.items) ≡ Some (Command.Lower model second j) → file_at files model ≡ Some bytes → IsAcceptedModel bytes j source
         → file_at files second ≡ Some trace → trace_of (declared_by source) trace ≡ Ok run → verdict_on source j run ≡ Yes
@@ -83,8 +88,9 @@ pub fn run<F: Shelf, K: Sink, N: Sink>(
         → result ≢ Status.NoMemory
         → (result ≡ Status.Done) × ((text : List ℕ) × (K.taken out.new ≡ grown (K.taken out.old) text) × StatesRun source j run text)) }
 
-    // For every accepted model that the first file spells, where nothing fails: a witness in the second file for the lines of the
-    // smaller text that `simplify` writes for the model's text, of which the judge says Yes, is written back in the same way.
+    // Lifting after `simplify`. The first file parses to an accepted model. The second one parses to a witness for
+    // the lines of the smaller text that `simplify` writes for its translation, and the judge accepts the witness.
+    // Then, where nothing fails, the witness is lifted in the same way.
     ensures lifts_smaller { IfSome (F.files shelf.old) (λ files. (model second bytes shorter text : List ℕ) (source : PlainSource) (lines : List Line) (witness : Witness)
         → command_of (map string_bytes words.now.items) ≡ Some (Command.LiftSmv model second) → file_at files model ≡ Some bytes → Accepts bytes source
         → IsSmallerText (btor_text source) shorter → SpellsLines shorter lines → file_at files second ≡ Some text → SpellsWitness lines text witness → judged_btor lines witness Yes
@@ -92,7 +98,8 @@ pub fn run<F: Shelf, K: Sink, N: Sink>(
         → result ≢ Status.NoMemory
         → (result ≡ Status.Done) × ((trace : List ℕ) × (K.taken out.new ≡ grown (K.taken out.old) trace) × LiftsBack source witness trace)) }
 
-    // And so for every script that has a BTOR2 text: the response is written to a witness for the lines of the smaller text.
+    // The same for every script that has a BTOR2 text: the witness for the lines of the smaller text is lifted to a
+    // response.
     ensures responds { IfSome (F.files shelf.old) (λ files. (model second bytes shorter text : List ℕ) (script : PlainScript) (lines : List Line) (witness : Witness)
         → command_of (map string_bytes words.now.items) ≡ Some (Command.LiftMoxi model second) → file_at files model ≡ Some bytes → IsInstantiated bytes script
         → IsSmallerText (script_lines script) shorter → SpellsLines shorter lines → file_at files second ≡ Some text → SpellsWitness lines text witness → judged_btor lines witness Yes
@@ -100,47 +107,48 @@ pub fn run<F: Shelf, K: Sink, N: Sink>(
         → result ≢ Status.NoMemory
         → (result ≡ Status.Done) × ((response : List ℕ) × (K.taken out.new ≡ grown (K.taken out.old) response) × RespondsBack script witness response)) }
 
-    // For every accepted model, where nothing fails: the BTOR2 text of the script that is written for the model is the one that is
-    // written for the model itself, where the script isn't too long.
+    // For every accepted model, where nothing fails: the translation of the model's script to BTOR2 is the direct
+    // translation of the model, unless the script is too long.
     ensures routes { IfSome (F.files shelf.old) (λ files. (model bytes : List ℕ) (source : PlainSource)
         → command_of (map string_bytes words.now.items) ≡ Some (Command.MoxiToBtor model) → Accepts bytes source → file_at files model ≡ Some (moxi_text source) → length (moxi_text source) ≤ most_script_bytes
         → ¬ Rose (F.faults shelf.old) (F.faults shelf.new) → ¬ Rose (K.faults out.old) (K.faults out.new) → ¬ Rose (N.faults notes.old) (N.faults notes.new)
         → result ≢ Status.NoMemory
         → (result ≡ Status.Done) × (K.taken out.new ≡ grown (K.taken out.old) (btor_text source))) }
 
-    // For every BTOR2 text, where nothing fails: the script that is written for its lines, where it is within the limits of scripts,
-    // has a BTOR2 text that spells lines in which each bad line is true in the last of frames 0 to k for the same numbers k.
+    // For every BTOR2 text, where nothing fails: the script that is written for its lines has a BTOR2 text, where
+    // the script is within the limits. That text parses to lines in which each bad line is true in the last of
+    // frames 0 to k for the same numbers k.
     ensures returns { IfSome (F.files shelf.old) (λ files. (model bytes : List ℕ) (lines : List Line) (script : PlainScript)
         → command_of (map string_bytes words.now.items) ≡ Some (Command.MoxiToBtor model) → SpellsLines bytes lines → file_at files model ≡ Some (script_text lines) → IsInstantiated (script_text lines) script
         → ¬ Rose (F.faults shelf.old) (F.faults shelf.new) → ¬ Rose (K.faults out.old) (K.faults out.new) → ¬ Rose (N.faults notes.old) (N.faults notes.new)
         → result ≢ Status.NoMemory
         → (result ≡ Status.Done) × ((text : List ℕ) × (K.taken out.new ≡ grown (K.taken out.old) text) × KeepsFrames lines text)) }
 
-    // For a number of cells, whatever the shelf tells: the answer is the one that is defined of the model and the witness that are
-    // made of so many cells, or `out` holds a front of its text.
+    // For a number of cells, whatever the shelf exposes: the answer is the one defined for the generated model and
+    // witness with this many cells, or `out` holds a prefix of its text, or the run is out of memory.
     ensures generated { (n : ℕ) → command_of (map string_bytes words.now.items) ≡ Some (Command.Generate n)
         → (result ≡ Status.NoMemory) ⊎ (((result ≡ Status.WriteFault) × ((answer : Answer) → IsGenerated n answer → IsPart (K.taken out.old) (K.taken out.new) (text_of answer)))
         ⊎ ((answer : Answer) × IsGenerated n answer × (result ≡ status_of answer)
         × (K.taken out.new ≡ grown (K.taken out.old) (text_of answer)) × (N.taken notes.new ≡ grown (N.taken notes.old) (line_of answer)))) }
 
-    // What is written stands for the model, of every text that was written whole.
+    // Each text that was written as a whole has the properties that its command promises.
     ensures served { result ≡ Status.Done → IfSome (F.files shelf.old) (λ files. Serves (command_of (map string_bytes words.now.items)) files (K.taken out.old) (K.taken out.new)) }
 
-    // The whole defined text was taken.
+    // The whole defined text was written.
     ensures done { result ≡ Status.Done → IfSome (F.files shelf.old) (λ files. (answer : Answer)
         × outcome_of (map string_bytes words.now.items) files answer × (status_of answer ≡ Status.Done) × (K.taken out.new ≡ grown (K.taken out.old) (text_of answer))) }
 
-    // The judge denies the stated run as it is defined.
+    // The defined answer is that the judge rejects the stated run.
     ensures no { result ≡ Status.No → IfSome (F.files shelf.old) (λ files. (step : ℕ) × (clause : Clause)
         × outcome_of (map string_bytes words.now.items) files (Answer.No step clause)) }
 
-    // The model is refused as it is defined.
+    // The defined answer is that the model, or the second file, is refused.
     ensures refused { result ≡ Status.Refused → IfSome (F.files shelf.old) (λ files. (refusal : Refusal)
         × outcome_of (map string_bytes words.now.items) files (Answer.Refused refusal)) }
     ensures second_refused { result ≡ Status.SecondRefused → IfSome (F.files shelf.old) (λ files. (refusal : Refusal)
         × outcome_of (map string_bytes words.now.items) files (Answer.SecondRefused refusal)) }
 
-    // The words are no command, whatever the shelf tells.
+    // The words are no command, whatever the shelf exposes.
     ensures usage { result ≡ Status.Usage → command_of (map string_bytes words.now.items) ≡ None }
     ensures no_command { command_of (map string_bytes words.now.items) ≡ None → (result ≡ Status.Usage) ⊎ (result ≡ Status.WriteFault) ⊎ (result ≡ Status.NoMemory) }
     ensures no_text { command_of (map string_bytes words.now.items) ≡ None → K.taken out.new ≡ K.taken out.old }
@@ -149,41 +157,42 @@ pub fn run<F: Shelf, K: Sink, N: Sink>(
     ensures read_fault { result ≡ Status.ReadFault → Rose (F.faults shelf.old) (F.faults shelf.new) ⊎ IsAbsent (F.files shelf.old) (command_of (map string_bytes words.now.items)) }
     ensures write_fault { result ≡ Status.WriteFault → Rose (K.faults out.old) (K.faults out.new) ⊎ Rose (N.faults notes.old) (N.faults notes.new) }
 
-    // `notes` took the line of the status, and nothing where all is done.
+    // `notes` took the line of the status, and nothing where the status is `Done`.
     ensures noted { result ≢ Status.WriteFault → (line : List ℕ)
         × IsLineOf (F.files shelf.old) (command_of (map string_bytes words.now.items)) (Rose (F.faults shelf.old) (F.faults shelf.new)) result line
         × (N.taken notes.new ≡ grown (N.taken notes.old) line) }
     ensures silent { result ≡ Status.Done → N.taken notes.new ≡ N.taken notes.old }
 
-    // Either `out` failed, and `notes` took the line that says so, or failed too and took a front of it. Or `notes` failed, and
-    // took a front of the line of another status; then `out` is as it was.
+    // Either `out` failed, and `notes` took the line that says so, or failed too and took a prefix of that line. Or
+    // `notes` failed and took a prefix of the line of another status, and `out` is unchanged.
     ensures fault_noted { result ≡ Status.WriteFault
         → (Rose (K.faults out.old) (K.faults out.new) × Took (N.taken notes.old) (N.taken notes.new) (N.faults notes.old) (N.faults notes.new) write_fault_line)
         ⊎ (Rose (N.faults notes.old) (N.faults notes.new) × (K.taken out.new ≡ K.taken out.old)
         × IsCutLine (F.files shelf.old) (command_of (map string_bytes words.now.items)) (Rose (F.faults shelf.old) (F.faults shelf.new)) (N.taken notes.old) (N.taken notes.new)) }
 
-    // `out` took nothing, or a front of the defined text.
+    // `out` took nothing, or a prefix of the defined text.
     ensures untouched { result ≢ Status.Done → result ≢ Status.WriteFault → K.taken out.new ≡ K.taken out.old }
     ensures prefix { result ≡ Status.WriteFault → IfSome (F.files shelf.old) (λ files. (answer : Answer)
         → outcome_of (map string_bytes words.now.items) files answer → IsPart (K.taken out.old) (K.taken out.new) (text_of answer)) }
 
-    // No fault is passed over.
+    // No fault is ignored.
     ensures shelf_rose { F.faults shelf.old < F.faults shelf.new → (result ≡ Status.ReadFault) ⊎ (result ≡ Status.WriteFault) ⊎ (result ≡ Status.NoMemory) }
     ensures absent { IsAbsent (F.files shelf.old) (command_of (map string_bytes words.now.items)) → (result ≡ Status.ReadFault) ⊎ (result ≡ Status.WriteFault) ⊎ (result ≡ Status.NoMemory) }
     ensures out_rose { K.faults out.old < K.faults out.new → result ≡ Status.WriteFault }
     ensures notes_rose { N.faults notes.old < N.faults notes.new → result ≡ Status.WriteFault }
 
-    // Where no count rose, the status, the text and the line are those of the defined answer, but for want of memory.
+    // Where no fault was counted, the status, the text and the line are those of the defined answer, unless out of
+    // memory.
     ensures complete { IfSome (F.files shelf.old) (λ files.
         ¬ Rose (F.faults shelf.old) (F.faults shelf.new) → ¬ Rose (K.faults out.old) (K.faults out.new) → ¬ Rose (N.faults notes.old) (N.faults notes.new)
         → (answer : Answer) → outcome_of (map string_bytes words.now.items) files answer
         → ((result ≡ status_of answer) × (K.taken out.new ≡ grown (K.taken out.old) (text_of answer)) × (N.taken notes.new ≡ grown (N.taken notes.old) (line_of answer)))
         ⊎ (result ≡ Status.NoMemory)) }
 
-    // Once `judge-btor` has begun its second file, memory is never wanting.
+    // Once `judge-btor` has opened its second file, it never runs out of memory.
     ensures memory { result ≡ Status.NoMemory → BeginsNoSecond (F.files shelf.old) (F.begun shelf.old) (F.begun shelf.new) (command_of (map string_bytes words.now.items)) }
 
-    // Only files that the words name are begun, and the shelf's files stay.
+    // Only files that the words name are opened, and the shelf's files don't change.
     ensures begun { BeginsFor (F.files shelf.old) (F.begun shelf.old) (F.begun shelf.new) (command_of (map string_bytes words.now.items)) }
     ensures files { F.files shelf.new ≡ F.files shelf.old }
 {
@@ -223,7 +232,7 @@ fn answer_words<F: Shelf>(
     }
 }
 
-// The answer to a command, or want of memory.
+// Returns the answer to a command. The only error is out of memory.
 #[tactic(auto, using(crate::proofs::Summaries::generated_stop))]
 fn answer_read<F: Shelf>(
     alloc: Global,

@@ -1,4 +1,4 @@
-// Two ways from a model to its BTOR2 text; this function does nothing but cite what it follows from.
+// Two routes from a model to its BTOR2 text. The function only cites the laws that it follows from.
 ghost use Rattle.top_call.specs.Routes.{RoutesMeet};
 
 use moxi_script_print::{printed_scripts_are_spelled, whole_scripts_can_be_shown};
@@ -6,8 +6,10 @@ use moxi_term_print::shown_is_read_back;
 use smv_script_laws::{brackets_are_few, names_are_spellable, scripts_are_whole};
 use witness_lift::models_have_flat_systems;
 
-/// The script that is written for an accepted model, where it isn't too long for a script, has the BTOR2 text that is written for the
-/// model.
+/// Proves that both routes from an accepted model to BTOR2 give the same text.
+///
+/// One route translates the model directly. The other translates the model's MoXI script, where that is not too
+/// long for a script.
 pub fn routes_meet()
     ensures { RoutesMeet }
 {

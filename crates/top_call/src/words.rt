@@ -1,4 +1,4 @@
-// The commands: how words are read as one, and what each does.
+// The commands: how words are parsed to a command, and what each command does.
 ghost use Rattle.std.specs.Prelude.{◌≡◌, ◌<◌, ℕ, map, option_map, string_bytes, IfOk, IfErr, IsErrAnd, Some};
 ghost use Rattle.text_core.specs.Outside.{Rose};
 ghost use Rattle.top_call.specs.Outcome.{BeginsFor, MayAnswer};
@@ -16,37 +16,38 @@ use smv_commands::{judge_smv_files, lift_smv_files, lower_smv_files, smv_to_btor
 use std::alloc::Global;
 use text_core::{Name, NoMemory, Shelf};
 
-/// What the command words ask for.
+/// A command with its operands.
 #[derive(Drop)]
 pub enum Command {
-    /// The BTOR2 text of an SMV model.
+    /// The translation of an SMV model to BTOR2.
     SmvToBtor(Name),
-    /// The MoXI script of an SMV model.
+    /// The translation of an SMV model to MoXI.
     SmvToMoxi(Name),
-    /// The BTOR2 text of a MoXI script.
+    /// The translation of a MoXI script to BTOR2.
     MoxiToBtor(Name),
-    /// The MoXI script of a BTOR2 text.
+    /// The translation of a BTOR2 text to MoXI.
     BtorToMoxi(Name),
-    /// A smaller BTOR2 text with the witnesses of a BTOR2 text.
+    /// A smaller BTOR2 text with the same witnesses.
     Simplify(Name),
-    /// The verdict on a witness for a BTOR2 text: the text's file, and the witness's.
+    /// The verdict on a witness for a BTOR2 text: the text's file and the witness's file.
     JudgeBtor(Name, Name),
-    /// The verdict on a trace of an SMV model and the invariant of a number: the model's file, the trace's, and the number.
+    /// The verdict on a trace of an SMV model: the model's file, the trace's file, and the invariant's number.
     JudgeSmv(Name, Name, u32),
-    /// The verdict on a response to a MoXI script: the script's file, and the response's.
+    /// The verdict on a response to a MoXI script: the script's file and the response's file.
     JudgeMoxi(Name, Name),
-    /// The trace of an SMV model for which a witness of its BTOR2 text stands: the model's file, and the witness's.
+    /// The trace for a witness of an SMV model's translation: the model's file and the witness's file.
     LiftSmv(Name, Name),
-    /// The witness that states a trace of an SMV model up to the bad line of an invariant: the model's file, the trace's, and the
-    /// invariant's number.
+    /// The witness for a trace of an SMV model: the model's file, the trace's file, and the invariant's number.
+    ///
+    /// The witness states the trace up to the bad line of the invariant.
     Lower(Name, Name, u32),
-    /// The response to a MoXI script for which a witness of its BTOR2 text stands: the script's file, and the witness's.
+    /// The response for a witness of a MoXI script's translation: the script's file and the witness's file.
     LiftMoxi(Name, Name),
-    /// The summary of a model that is made of so many cells, with a witness that is made for it.
+    /// The summary of a generated model with this many cells, and of its generated witness.
     Generate(u32),
 }
 
-/// What a command does with the words behind it.
+/// A command without its operands.
 #[derive(Clone, Copy)]
 pub enum Task {
     SmvToBtor,
@@ -79,7 +80,9 @@ const COMMANDS: [(&[u8], Task); 12] = [
     (b"generate", Task::Generate),
 ];
 
-/// Reads the command words, without the program's name.
+/// Parses the command words, without the program's name.
+///
+/// Returns None where the words are no command.
 pub fn read_command(alloc: Global, words: &Vec<String>) -> Result<Option<Command>, NoMemory>
     ensures { IfOk result (λ command. command ≡ command_of (map string_bytes words.now.items)) }
 {
@@ -89,7 +92,7 @@ pub fn read_command(alloc: Global, words: &Vec<String>) -> Result<Option<Command
     }
 }
 
-// The command that words are which stand by themselves, with an invariant's number where one is given.
+// The command given by the positional words and the invariant's number, if there is one.
 fn command_by(
     alloc: Global,
     words: &[&str],
@@ -106,7 +109,7 @@ fn command_by(
     }
 }
 
-/// Does what the command says.
+/// Runs the command and returns its answer.
 #[tactic(auto, using(command_core::specs::laws::Stops::held, crate::proofs::Summaries::generated_ok))]
 pub fn answer_command<F: Shelf>(
     alloc: Global,
@@ -116,7 +119,7 @@ pub fn answer_command<F: Shelf>(
     requires range { IsInRange command.now }
     ensures answer { IfOk result (MayAnswer (F.files shelf.old) (Some command.now) (Rose (F.faults shelf.old) (F.faults shelf.new))) }
     ensures stop { IfErr result (StopsWith (MayAnswer (F.files shelf.old) (Some command.now) (Rose (F.faults shelf.old) (F.faults shelf.new)))) }
-    // What is made of nothing is defined, whatever the shelf tells.
+    // A generated model's answer is defined whatever the shelf exposes.
     ensures generated { (n : ℕ) → command.now ≡ Command.Generate n → IfOk result (IsGenerated n) }
     ensures ungenerated { (n : ℕ) → command.now ≡ Command.Generate n → IfErr result (λ stop. stop ≡ Stop.NoMemory) }
     ensures fault { F.faults shelf.old < F.faults shelf.new → IsErrAnd result (λ stop. StopsUnread stop) }
@@ -152,7 +155,7 @@ fn task_in(table: &[(&[u8], Task)], word: &[u8]) -> Option<Task>
     None
 }
 
-// The task with what it is done on, where the words are as many as it takes.
+// The task with its operands, or None where the number of operands doesn't fit.
 fn command_with(
     alloc: Global,
     task: Task,
@@ -192,7 +195,7 @@ fn made_of(count: Option<u32>) -> Option<Command>
     }
 }
 
-// The task on two files. Those on a trace alone take an invariant's number, which is 0 where none is given.
+// The task on two files. Only the tasks on a trace take an invariant's number, which is 0 by default.
 fn command_on_two(
     alloc: Global,
     task: Task,

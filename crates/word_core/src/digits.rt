@@ -5,8 +5,10 @@ ghost use Rattle.word_core.specs.Digits.{below, digit_number, fitted, number_aft
 use crate::numbers::ones;
 use crate::word::{WIDEST, Word};
 
-/// The word of this width whose digits of base 2, 8, 10 or 16 these are, the highest first, with letters in either case,
-/// if there is one: one or more digits of the base, a value below two to the width, and a width from 1 to `WIDEST`.
+/// Returns the word of this width that the digits spell in base 2, 8, 10 or 16, or None where there is none.
+///
+/// The highest digit comes first, and letters may be in either case. There must be at least one digit, each a digit
+/// of the base. The value must be below two to the width, and the width between 1 and `WIDEST`.
 pub fn read_digits(width: u32, base: u32, digits: &[u8]) -> Option<Word>
     requires { (base ≡ 2) ⊎ ((base ≡ 8) ⊎ ((base ≡ 10) ⊎ (base ≡ 16))) }
     ensures { result ≡ read_word width base digits.now }
@@ -18,7 +20,7 @@ pub fn read_digits(width: u32, base: u32, digits: &[u8]) -> Option<Word>
     Word::of(width, number)
 }
 
-// The number that the digits stand for, if it is below two to the width.
+// The number that the digits stand for, or None where it is not below two to the width.
 fn number_below(width: u32, base: u128, digits: &[u8]) -> Option<u128>
     requires base { base ≤ 16 }
     requires base_low { 2 ≤ base }
@@ -38,7 +40,7 @@ fn number_below(width: u32, base: u128, digits: &[u8]) -> Option<u128>
     Some(number)
 }
 
-// The number with one more digit, if it is at most this.
+// The number with one more digit, or None where it is greater than `most`.
 fn with_digit(most: u128, base: u128, number: u128, digit: u128) -> Option<u128>
     ensures { result ≡ below (most + 1) (number * base + digit) }
 {

@@ -1,6 +1,8 @@
 // The kinds of operator, named as in BTOR2.
 
-/// An operator on one word. `RedAnd`, `RedOr` and `RedXor` join all its bits into one.
+/// An operator on one word.
+///
+/// `RedAnd`, `RedOr` and `RedXor` reduce all bits of the word to one.
 #[derive(Clone, Copy, PartialEq, Eq, Debug)]
 pub enum Unary {
     Not,

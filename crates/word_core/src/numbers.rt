@@ -1,11 +1,11 @@
-// The numbers of the operators' results.
+// The operators on plain numbers.
 ghost use Rattle.std.specs.Prelude.{◌≡◌, ◌<◌, ◌≤◌, ◌+◌, ◌-◌, ◌*◌, ◌/◌, ◌%◌, ◌^◌, int_lt, int_le};
 ghost use Rattle.word_core.specs.Table.{BinaryFits, binary_bits, is_minus, magnitude, modulus, negated, negated_if, quotient, rest, signed_value, unary_bits};
 
 use crate::kinds::{Binary, Unary};
 use crate::word::WIDEST;
 
-// Ones for all bits of the width. Two to the greatest width itself is no u128.
+// All bits of the width set. Two to the greatest width itself is not a u128.
 pub fn ones(width: u32) -> u128
     requires low { 1 ≤ width }
     requires high { width ≤ WIDEST }
@@ -24,7 +24,7 @@ pub fn reduced(width: u32, n: u128) -> u128
     n & ones(width)
 }
 
-// The sum modulo two to the width. What wraps at 128 bits has the same low bits.
+// The sum modulo two to the width. Wrapping at 128 bits leaves the low bits the same.
 fn sum(width: u32, a: u128, b: u128) -> u128
     requires low { 1 ≤ width }
     requires high { width ≤ WIDEST }
@@ -54,7 +54,7 @@ fn product(width: u32, a: u128, b: u128) -> u128
     reduced(width, a.wrapping_mul(b))
 }
 
-// The quotient, rounded down. Where both numbers have 64 bits, their division is much the faster one.
+// The quotient, rounded down. Where both numbers have at most 64 bits, a 64-bit division is much faster.
 fn divided(a: u128, b: u128) -> u128
     requires { 1 ≤ b }
     ensures { result ≡ a / b }
@@ -65,7 +65,7 @@ fn divided(a: u128, b: u128) -> u128
     }
 }
 
-// What the division leaves over.
+// The remainder of the division.
 fn left_over(a: u128, b: u128) -> u128
     requires { 1 ≤ b }
     ensures { result ≡ a % b }
@@ -85,7 +85,7 @@ pub fn is_minus(width: u32, a: u128) -> bool
     a >= 1u128 << (width - 1)
 }
 
-// Is the first signed value less than the second?
+// Whether the first signed value is less than the second.
 fn is_less(width: u32, a: u128, b: u128) -> bool
     requires low { 1 ≤ width }
     requires high { width ≤ WIDEST }
@@ -101,7 +101,7 @@ fn is_less(width: u32, a: u128, b: u128) -> bool
     }
 }
 
-// Is the first signed value at most the second?
+// Whether the first signed value is at most the second.
 fn is_at_most(width: u32, a: u128, b: u128) -> bool
     requires low { 1 ≤ width }
     requires high { width ≤ WIDEST }
@@ -166,7 +166,7 @@ fn rest(width: u32, a: u128, b: u128) -> u128
     if b == 0 { a } else { left_over(a, b) }
 }
 
-// The rest of magnitudes, given the divisor's sign.
+// The signed modulus from the remainder `u` of the magnitudes: it has the divisor's sign.
 fn modulus(width: u32, a: u128, b: u128, u: u128) -> u128
     requires low { 1 ≤ width }
     requires high { width ≤ WIDEST }
@@ -209,7 +209,7 @@ fn shifted_right(width: u32, a: u128, b: u128) -> u128
     if b < u128::from(width) { a >> b } else { 0 }
 }
 
-// A shift to the right that keeps the sign.
+// A right shift that keeps the sign.
 fn shifted_signed(width: u32, a: u128, b: u128) -> u128
     requires low { 1 ≤ width }
     requires high { width ≤ WIDEST }
@@ -262,7 +262,7 @@ fn signed_modulus(width: u32, a: u128, b: u128) -> u128
     modulus(width, a, b, left)
 }
 
-// The bits of a in front of those of b.
+// The concatenation: the bits of a, then those of b.
 fn joined(v: u32, w: u32, a: u128, b: u128) -> u128
     requires low { 1 ≤ v }
     requires high { v + w ≤ WIDEST }
@@ -273,7 +273,7 @@ fn joined(v: u32, w: u32, a: u128, b: u128) -> u128
     (a << w) + b
 }
 
-/// The number that the operator's row gives.
+/// Returns the result of the operator on a word of this width, as a number.
 pub fn unary_number(op: Unary, width: u32, a: u128) -> u128
     requires low { 1 ≤ width }
     requires high { width ≤ WIDEST }
@@ -291,7 +291,9 @@ pub fn unary_number(op: Unary, width: u32, a: u128) -> u128
     }
 }
 
-/// The number that the operator's row gives.
+/// Returns the result of the operator on words of widths `v` and `w`, as a number.
+///
+/// The caller ensures that the widths are those that the operator takes.
 #[tactic(auto, using(std::proofs::lemmas::Nat::or_lt, std::proofs::lemmas::Nat::xor_lt))]
 pub fn binary_number(op: Binary, v: u32, w: u32, a: u128, b: u128) -> u128
     requires v_low { 1 ≤ v }

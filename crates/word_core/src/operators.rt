@@ -1,4 +1,4 @@
-// The operators, each by its row of the table.
+// The operators on words.
 ghost use Rattle.std.specs.Prelude.{◌≡◌, ◌<◌, ◌≤◌, ◌+◌, ◌^◌};
 ghost use Rattle.word_core.specs.Table.{BinaryFits, binary_of, binary_width, gives_one_bit, ite_of, sext_of, slice_of, uext_of, unary_of, unary_width};
 
@@ -6,7 +6,7 @@ use crate::kinds::{Binary, Unary};
 use crate::numbers::{binary_number, is_minus, ones, reduced, unary_number};
 use crate::word::{WIDEST, Word, made_word};
 
-/// The word that the operator's row gives.
+/// Returns the result of the operator, by its row in the table of operators.
 pub fn unary(op: Unary, a: Word) -> Word
     ensures { result ≡ unary_of op a }
 {
@@ -15,7 +15,7 @@ pub fn unary(op: Unary, a: Word) -> Word
     made_word(width, number)
 }
 
-/// The width of the result, for an argument of this width.
+/// Returns the width of the operator's result, for an argument of this width.
 pub fn unary_width(op: Unary, width: u32) -> u32
     ensures { result ≡ unary_width op width }
 {
@@ -25,7 +25,9 @@ pub fn unary_width(op: Unary, width: u32) -> u32
     }
 }
 
-/// The word that the operator's row gives. The caller owes the widths that the row asks for.
+/// Returns the result of the operator, by its row in the table of operators.
+///
+/// The caller ensures that the widths are those that the operator takes.
 pub fn binary(op: Binary, a: Word, b: Word) -> Word
     requires { BinaryFits op a.width b.width }
     ensures { result ≡ binary_of op a b }
@@ -35,7 +37,7 @@ pub fn binary(op: Binary, a: Word, b: Word) -> Word
     made_word(width, number)
 }
 
-/// Whether the result is one bit, whatever the widths.
+/// Returns whether the operator's result is one bit, whatever the widths of its arguments.
 pub fn gives_one_bit(op: Binary) -> bool
     ensures { result ≡ gives_one_bit op }
 {
@@ -56,7 +58,7 @@ pub fn gives_one_bit(op: Binary) -> bool
     }
 }
 
-/// The width of the result, for arguments of these widths.
+/// Returns the width of the operator's result, for arguments of these widths.
 pub fn binary_width(op: Binary, v: u32, w: u32) -> u32
     requires { v + w < 2 ^ 32 }
     ensures { result ≡ binary_width op v w }
@@ -67,7 +69,9 @@ pub fn binary_width(op: Binary, v: u32, w: u32) -> u32
     }
 }
 
-/// The word a where the condition, a word of one bit, is one, else b. The caller owes equal widths.
+/// Returns `a` where the one-bit condition `c` is 1, else `b`.
+///
+/// The caller ensures that `a` and `b` have the same width.
 pub fn ite(c: Word, a: Word, b: Word) -> Word
     requires condition { c.width ≡ 1 }
     requires widths { a.width ≡ b.width }
@@ -76,7 +80,7 @@ pub fn ite(c: Word, a: Word, b: Word) -> Word
     if c.bits() == 1 { a } else { b }
 }
 
-/// The bits from high down to low.
+/// Returns the bits of the word from bit `high` down to bit `low`.
 pub fn slice(a: Word, high: u32, low: u32) -> Word
     requires order { low ≤ high }
     requires within { high < a.width }
@@ -87,7 +91,7 @@ pub fn slice(a: Word, high: u32, low: u32) -> Word
     made_word(width, reduced(width, a.bits() >> low))
 }
 
-/// The word with this many zeros in front.
+/// Returns the word extended by `count` zeros at the high end.
 pub fn uext(a: Word, count: u32) -> Word
     requires { a.width + count ≤ WIDEST }
     ensures { result ≡ uext_of a count }
@@ -95,7 +99,7 @@ pub fn uext(a: Word, count: u32) -> Word
     made_word(a.width() + count, a.bits())
 }
 
-/// The word with its sign this many times in front.
+/// Returns the word extended by `count` copies of its sign bit at the high end.
 pub fn sext(a: Word, count: u32) -> Word
     requires { a.width + count ≤ WIDEST }
     ensures { result ≡ sext_of a count }

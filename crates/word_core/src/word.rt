@@ -8,15 +8,17 @@ use std::marker::Model;
 /// The greatest width of a word.
 pub const WIDEST: u32 = 128;
 
-/// The greatest width is 128.
+/// Proves that the greatest width is 128.
 pub fn widest_is()
     ensures { WIDEST ≡ 128 }
 {}
 
-// Two to the number of bits of each half of a word.
+// Two to the number of bits in each half of a word.
 const HALF: u128 = 1 << 64;
 
-/// A width from 1 to `WIDEST`, and bits below two to that width. They are kept as two halves, so that a word takes 24 bytes.
+/// A word of 1 to `WIDEST` bits: its width, and a number below two to the width.
+///
+/// The number is stored as two halves, so that a word takes 24 bytes.
 #[derive(Clone, Copy, Debug)]
 pub struct Word {
     low: u64,
@@ -38,7 +40,9 @@ impl Model for Word {
 }
 
 impl Word {
-    /// The word of this width and these bits, where there is one.
+    /// Returns the word of this width and these bits.
+    ///
+    /// None where the width is not from 1 to `WIDEST` or the bits don't fit it.
     pub fn of(width: u32, bits: u128) -> Option<Word>
         ensures there { IsSome result ↔ IsWord (record { width = width; bits = bits }) }
         ensures value { IfSome result (λ w. w ≡ record { width = width; bits = bits }) }
@@ -50,7 +54,7 @@ impl Word {
         }
     }
 
-    /// The number of bits, from 1 to `WIDEST`.
+    /// Returns the number of bits, from 1 to `WIDEST`.
     pub fn width(&self) -> u32
         ensures value { result ≡ self.now.width }
         ensures word { IsWord self.now }
@@ -58,7 +62,7 @@ impl Word {
         self.width
     }
 
-    /// The number that the bits spell, below two to the width.
+    /// Returns the bits as an unsigned number, below two to the width.
     pub fn bits(&self) -> u128
         ensures value { result ≡ self.now.bits }
         ensures word { IsWord self.now }
@@ -66,7 +70,7 @@ impl Word {
         (u128::from(self.high) << 64) + u128::from(self.low)
     }
 
-    /// Bit number i, counted from the low end.
+    /// Returns bit `i`, where bit 0 is the lowest.
     pub fn bit(&self, i: u32) -> bool
         requires { i < self.now.width }
         ensures { IsTrue result ↔ ((self.now.bits / 2 ^ i) % 2 ≡ 1) }
@@ -75,7 +79,7 @@ impl Word {
     }
 }
 
-/// The word of a width and bits that fit.
+/// Returns the word of this width and these bits, which must fit.
 pub fn made_word(width: u32, bits: u128) -> Word
     requires { IsWord (record { width = width; bits = bits }) }
     ensures { result ≡ record { width = width; bits = bits } }

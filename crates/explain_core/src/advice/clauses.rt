@@ -1,35 +1,35 @@
-// What is said of each clause that a stated run fails, and of the notes without a place.
+// The advice for each clause that a stated run fails, and for the notes without a place.
 ghost use Rattle.std.specs.Prelude.{◌≡◌};
 ghost use Rattle.explain_core.specs.Advice.{clause_advice, plain_advice};
 
 use crate::advice::Advice;
 use text_core::Clause;
 
-/// What is said where the words are no command; `COMMANDS` follows.
+/// The advice where the words are no command, which `COMMANDS` follows.
 pub const USAGE: Advice = (
     b"These words are no command.",
     b"Use one of these commands.",
 );
 
-/// What is said where a file was not read.
+/// The advice where a file could not be read.
 pub const READ_FAULT: Advice = (
     b"This file could not be opened or read.",
     b"Check its name and its folder, and that you may read it.",
 );
 
-/// What is said where the output was not written.
+/// The advice where the output could not be written.
 pub const WRITE_FAULT: Advice = (
     b"The output could not be written.",
     b"Check that there is room, and that the program that reads the output still runs.",
 );
 
-/// What is said where there was no memory.
+/// The advice where the run was out of memory.
 pub const NO_MEMORY: Advice = (
     b"There was no memory for this run.",
     b"Free memory, or give a smaller model.",
 );
 
-/// The commands, one on a line.
+/// The help on the commands, one command per line.
 pub const COMMANDS: [&[u8]; 12] = [
     b"    smv2btor MODEL           write an SMV model as BTOR2\n",
     b"    smv2moxi MODEL           write an SMV model as MoXI\n",
@@ -90,7 +90,7 @@ const NOT_BROKEN: Advice = (
     b"Give a run whose last step does so; where it breaks another invariant, name that one by `--property`.",
 );
 
-/// Returns the sentences for a clause that a stated run fails.
+/// Returns the advice for a clause that a stated run fails.
 pub fn clause_advice(clause: Clause) -> Advice
     ensures { plain_advice result ≡ clause_advice clause }
 {

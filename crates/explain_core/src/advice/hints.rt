@@ -1,4 +1,4 @@
-// Mends for one word of a kind: they show the form that the profile has.
+// Fixes for single words of a kind of refusal. They show the form that the profile supports.
 ghost use Rattle.std.specs.Prelude.{◌≡◌, map, option_map};
 ghost use Rattle.explain_core.specs.Advice.{hint_for, hint_in, plain_advice};
 ghost use Rattle.explain_core.specs.Kinds.{is_among};
@@ -23,7 +23,7 @@ const DECLARE_IN_SYSTEM: &[u8] =
 
 const BIT_VECTOR: &[u8] = b"Write a sort such as `(_ BitVec 32)`.";
 
-// The mends for unsupported words of SMV.
+// The fixes for unsupported words of SMV.
 const SMV_WORDS: [(&[u8], &[u8]); 26] = [
     (b"LTLSPEC", INVARIANT),
     (b"CTLSPEC", INVARIANT),
@@ -77,7 +77,7 @@ const TEMPORAL: [&[u8]; 23] = [
     b"AX", b"EF", b"EG", b"EX", b"ABF", b"ABG", b"EBF", b"EBG",
 ];
 
-// The mends for a token at which no model goes on.
+// The fixes for a token with which no model can continue.
 const DEAD_TOKENS: [(&[u8], &[u8]); 7] = [
     (
         b"=",
@@ -100,7 +100,7 @@ const DEAD_TOKENS: [(&[u8], &[u8]); 7] = [
     (b"mod", b"Write `a mod b`, with an operand on each side."),
 ];
 
-// The mends for the first word of an expression whose types don't fit.
+// The fixes for the first word of an expression whose types don't fit.
 const CLASHES: [(&[u8], &[u8]); 2] = [
     (
         b"case",
@@ -112,7 +112,7 @@ const CLASHES: [(&[u8], &[u8]); 2] = [
     ),
 ];
 
-// The mends for what is left out of a script.
+// The fixes for the unsupported words of a script.
 const SCRIPT_WORDS: [(&[u8], &[u8]); 12] = [
     (b"(declare-const", DECLARE_IN_SYSTEM),
     (b"(declare-fun", DECLARE_IN_SYSTEM),
@@ -140,7 +140,9 @@ const SCRIPT_WORDS: [(&[u8], &[u8]); 12] = [
     (b":fairness", NO_FAIRNESS),
 ];
 
-/// Returns the mend for a token of a kind of refusal, where there is one of its own.
+/// Returns the fix for this token in a refusal of this kind.
+///
+/// Returns None where only the general fix of the kind applies.
 pub fn hint_for(kind: Kind, token: &[u8]) -> Option<&'static [u8]>
     ensures { option_map (λ mend. mend.now) result ≡ hint_for kind token.now }
 {
@@ -161,7 +163,7 @@ pub fn hint_for(kind: Kind, token: &[u8]) -> Option<&'static [u8]>
     }
 }
 
-/// Is the token one of these words?
+/// Returns whether the token is one of these words.
 pub fn is_among(words: &[&'static [u8]], token: &[u8]) -> bool
     ensures { result ≡ is_among (map (λ word. word.now) words.now) token.now }
 {
@@ -173,7 +175,7 @@ pub fn is_among(words: &[&'static [u8]], token: &[u8]) -> bool
     false
 }
 
-// The mend that stands beside a word.
+// The fix listed for a word.
 fn hint_in(hints: &[(&'static [u8], &'static [u8])], token: &[u8]) -> Option<&'static [u8]>
     ensures { option_map (λ mend. mend.now) result ≡ hint_in (map plain_advice hints.now) token.now }
 {

@@ -1,4 +1,4 @@
-// What is said of each kind of refusal and of each clause: one sentence on the cause, one on the mend.
+// The advice for each kind of refusal and each clause: a sentence on the cause and one on the fix.
 ghost use Rattle.std.specs.Prelude.{◌≡◌, map};
 ghost use Rattle.explain_core.specs.Advice.{advice_at, advice_of, plain_advice};
 
@@ -14,10 +14,10 @@ pub use clauses::{COMMANDS, NO_MEMORY, READ_FAULT, USAGE, WRITE_FAULT, clause_ad
 pub use hints::{hint_for, is_among};
 use text_core::Kind;
 
-/// A sentence on the cause of a note, and one on the mend.
+/// A sentence on the cause of a note, and one on the fix.
 pub type Advice = (&'static [u8], &'static [u8]);
 
-/// Returns the sentences for a kind of refusal, or empty ones where there is no such kind.
+/// Returns the advice for a kind of refusal, or empty sentences where there is no such kind.
 pub fn advice_of(kind: Kind) -> Advice
     ensures { plain_advice result ≡ advice_of kind }
 {
@@ -30,7 +30,7 @@ pub fn advice_of(kind: Kind) -> Advice
     }
 }
 
-// The row of a number, counted from 1.
+// The row with this number, counted from 1.
 fn advice_at(n: u8, rows: &[Advice]) -> Advice
     ensures { plain_advice result ≡ advice_at n (map plain_advice rows.now) }
 {

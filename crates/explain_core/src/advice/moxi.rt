@@ -1,4 +1,4 @@
-// What is said of the kinds of refusal of a MoXI script, from 1 on.
+// The advice for the kinds of refusal of a MoXI script, from 1 on.
 use crate::advice::Advice;
 
 pub(super) const ADVICE: [Advice; 16] = [

@@ -11,7 +11,9 @@ pub mod witness;
 use crate::place::Kind;
 
 impl Kind {
-    /// The name that stands behind the kind in a note, as `NoInvarspec` behind `S27`; empty where there is no such kind.
+    /// Returns the name that follows the kind in a note, as `NoInvarspec` after `S27`.
+    ///
+    /// The name is empty where there is no such kind.
     pub fn name(self) -> &'static [u8]
         ensures { result.now ≡ kind_name self }
     {
