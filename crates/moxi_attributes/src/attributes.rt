@@ -35,6 +35,7 @@ fn key_number(k: Key) -> u8
     }
 }
 
+/// Returns whether two keys are the same.
 pub fn same_key(a: Key, b: Key) -> bool
     ensures { result ≡ same_key a b }
 {
@@ -89,7 +90,7 @@ fn check_key(name: &[u8]) -> Option<Key>
     }
 }
 
-/// The key of this name in such a command.
+/// Returns the key with this name in such a command.
 fn key_named(command: Command, name: &[u8]) -> Option<Key>
     ensures { result ≡ key_named command name.now }
 {
@@ -115,7 +116,7 @@ fn keyword_atom<'a>(a: &'a Atom) -> Option<&'a [u8]>
     }
 }
 
-// The name of the form, where it is a keyword.
+// The name of the form if it is a keyword.
 fn keyword_of<'a>(form: &'a Form) -> Option<&'a [u8]>
     ensures { keyword_now result ≡ keyword_of (plain form.now) }
 {
@@ -134,7 +135,7 @@ fn is_list_form(form: &Form) -> bool
     }
 }
 
-// What stands behind a keyword.
+// The turn after a keyword.
 fn keyword_turn(command: Command, keyword: Option<&[u8]>, other: Turn) -> Turn
     ensures { result ≡ keyword_turn command (keyword_now keyword.entry) other }
 {
@@ -147,7 +148,7 @@ fn keyword_turn(command: Command, keyword: Option<&[u8]>, other: Turn) -> Turn
     }
 }
 
-/// What stands behind a form.
+/// Returns the turn after a form.
 pub fn turn_after(command: Command, turn: Turn, form: &Form) -> Turn
     ensures { result ≡ turn_after command turn (plain form.now) }
 {
@@ -177,7 +178,7 @@ fn takes_term(k: Key) -> bool
     }
 }
 
-// May the form stand there?
+// Whether the form may occur at this turn.
 fn turns_start(turn: Turn, form: &Form) -> bool
     ensures { result ≡ turns_start turn (plain form.now) }
 {
@@ -188,6 +189,7 @@ fn turns_start(turn: Turn, form: &Form) -> bool
     }
 }
 
+/// Returns whether the next form is the value of this key.
 pub fn is_behind(k: Key, turn: Turn) -> bool
     ensures { result ≡ is_behind k turn }
 {
@@ -198,7 +200,7 @@ pub fn is_behind(k: Key, turn: Turn) -> bool
     }
 }
 
-// Where a key's value may stand next, its name is known.
+// Tests that the keyword is known, where the next form may be the value of a key.
 #[tactic(auto, using(crate::specs::laws::Collecting::also_none))]
 fn test_keyword(command: Command, keyword: Option<&[u8]>, p: Place, found: &mut Option<Refusal>)
     ensures { found.new ≡ also found.old (unknown_keyword command (keyword_now keyword.entry) p) }
@@ -223,7 +225,7 @@ fn test_unknown(command: Command, turn: Turn, form: &Form, found: &mut Option<Re
     }
 }
 
-/// The tests of keywords.
+/// Tests that the keywords are known.
 pub fn test_keywords(command: Command, forms: &[Form], found: &mut Option<Refusal>)
     ensures { found.new ≡ also found.old (unknown_failures command turns.AtKeyword (plain_forms forms.now)) }
 {
@@ -278,7 +280,7 @@ fn count_of(command: Command, k: Key, forms: &[Form]) -> usize
     count
 }
 
-/// The first value of a key.
+/// Returns the first value of a key.
 #[tactic(auto, using(moxi_scripts::proofs::Forms::forms_step, moxi_scripts::proofs::Forms::forms_end))]
 pub fn value_of<'a>(command: Command, k: Key, forms: &'a [Form]) -> Option<&'a Form>
     ensures { value_now result ≡ value_of command k turns.AtKeyword (plain_forms forms.now) }
@@ -293,7 +295,7 @@ pub fn value_of<'a>(command: Command, k: Key, forms: &'a [Form]) -> Option<&'a F
     None
 }
 
-/// Have the attributes their shape, and does none that stands once stand twice?
+/// Returns whether the attributes have their shape, and none that may occur at most once occurs twice.
 pub fn shape_holds(command: Command, forms: &[Form]) -> bool
     ensures { result ≡ shape_holds command (plain_forms forms.now) }
 {

@@ -1,4 +1,4 @@
-// The least of the tests that fail.
+// The least failing test, which the tests record in `found`.
 ghost use Rattle.std.specs.Prelude.{◌≡◌, ◌∷◌, [], List, is_none};
 ghost use Rattle.text_core.specs.declared.place.Refusal.{Refusal};
 ghost use Rattle.moxi_term_reading.specs.Failures.{least};
@@ -8,7 +8,7 @@ ghost use Rattle.moxi_scripts.specs.Collecting.{also, fails_with};
 use moxi_term_reading::{minimum, prime};
 use text_core::{Kind, Place, Refusal};
 
-/// Tests of which the least failing one is this.
+/// Records tests, given their least failing test.
 #[tactic(auto, using(crate::specs::laws::Collecting::also_least), unfolding(moxi_scripts::specs::Collecting::also))]
 pub fn note(found: &mut Option<Refusal>, failure: Option<Refusal>)
     ensures { (fs : List Refusal) → failure ≡ least fs → found.new ≡ also found.old fs }
@@ -16,28 +16,28 @@ pub fn note(found: &mut Option<Refusal>, failure: Option<Refusal>)
     *found = minimum(*found, failure);
 }
 
-/// The test of a prime where none may stand.
+/// Tests that there is no prime where none is allowed.
 pub fn fail_primed(found: &mut Option<Refusal>, primed: bool, place: Place)
     ensures { found.new ≡ also found.old (prime_failures primed place) }
 {
     note(found, prime(primed, place));
 }
 
-/// A test that fails so.
+/// Records this failing test.
 pub fn refuse(found: &mut Option<Refusal>, failure: Refusal)
     ensures { found.new ≡ also found.old (failure ∷ []) }
 {
     note(found, Some(failure));
 }
 
-/// A test that fails with this kind.
+/// Records a failing test of this kind.
 pub fn fail(found: &mut Option<Refusal>, kind: Kind, place: Place)
     ensures { found.new ≡ also found.old (record { kind = kind; place = place } ∷ []) }
 {
     refuse(found, Refusal { kind, place });
 }
 
-/// A test, which fails with this kind where `fails` holds.
+/// Records a test that fails with this kind if `fails` is true.
 #[tactic(auto, using(crate::specs::laws::Collecting::also_none))]
 pub fn fail_if(found: &mut Option<Refusal>, fails: bool, kind: Kind, place: Place)
     ensures { found.new ≡ also found.old (fails_with fails kind place) }
@@ -47,7 +47,7 @@ pub fn fail_if(found: &mut Option<Refusal>, fails: bool, kind: Kind, place: Plac
     }
 }
 
-/// Does no test fail?
+/// Returns whether no test fails.
 pub fn is_nothing(found: Option<Refusal>) -> bool
     ensures { result ≡ is_none found }
 {

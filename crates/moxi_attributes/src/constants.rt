@@ -15,7 +15,7 @@ use std::alloc::Global;
 use text_core::kinds::moxi;
 use text_core::{Name, Names, NoMemory, Place, Refusal};
 
-/// A name of a constant or a function, which fails where it is taken.
+/// Declares the name of a constant or a function, and tests that it is not yet in use.
 #[tactic(auto, using(crate::specs::laws::Collecting::also_none))]
 pub fn declare_term_name(
     alloc: Global,
@@ -38,7 +38,7 @@ pub fn declare_term_name(
     Ok(())
 }
 
-// A constant.
+// Reads a constant, and returns whether it is a symbol.
 #[tactic(auto, using(crate::specs::laws::Collecting::also_none, crate::specs::laws::Collecting::also_append))]
 fn read_constant(
     alloc: Global,
@@ -65,7 +65,7 @@ fn read_constant(
     }
 }
 
-/// The constants of a list, and whether each of its forms is one.
+/// Appends the constants of a list, and returns whether each of its forms is one.
 pub fn read_constants(
     alloc: Global,
     scope: &Scope,
@@ -87,7 +87,7 @@ pub fn read_constants(
     Ok(symbols)
 }
 
-/// Both.
+/// Returns whether both are true.
 pub fn both(a: bool, b: bool) -> bool
     ensures { result ≡ (a && b) }
 {

@@ -20,7 +20,7 @@ use std::alloc::Global;
 use text_core::kinds::moxi;
 use text_core::{List, Name, NoMemory, Place, Refusal};
 
-/// The test of a sort.
+/// Records the test of a sort.
 #[tactic(auto, using(crate::specs::laws::Collecting::also_none))]
 pub fn note_sort(found: &mut Option<Refusal>, sort: Result<Sort, Refusal>)
     ensures { found.new ≡ also found.old (sort_failures sort) }
@@ -31,7 +31,7 @@ pub fn note_sort(found: &mut Option<Refusal>, sort: Result<Sort, Refusal>)
     }
 }
 
-/// The sort, where it is known.
+/// Returns the sort if it is known.
 pub fn known_sort(sort: Result<Sort, Refusal>) -> Option<Sort>
     ensures { result ≡ known_sort sort }
 {
@@ -41,7 +41,7 @@ pub fn known_sort(sort: Result<Sort, Refusal>) -> Option<Sort>
     }
 }
 
-// An entry of a list at `around`, and whether it has its shape.
+// Reads an entry of a list at `around`, and returns whether it has its shape.
 #[tactic(auto, using(crate::specs::laws::Collecting::also_append))]
 fn read_entry(
     alloc: Global,
@@ -74,7 +74,7 @@ fn read_entry(
     }
 }
 
-/// The variables of a list at `around`, and whether each of its forms is `(x S)`.
+/// Appends the variables of a list at `around`, and returns whether each of its forms is `(x S)`.
 pub fn read_entries(
     alloc: Global,
     scope: &Scope,
@@ -95,7 +95,7 @@ pub fn read_entries(
     Ok(shaped)
 }
 
-// One more name of its list; a name that stands among those before fails.
+// Declares one more name of its list, and tests that it was not declared before.
 #[tactic(auto, using(crate::specs::laws::Collecting::also_none))]
 fn test_twice_one(
     alloc: Global,
@@ -112,7 +112,7 @@ fn test_twice_one(
     Ok(())
 }
 
-/// The tests of names that are declared twice: among these names, or in the list itself.
+/// Tests that no name is declared twice: in the list, or once there and once in `names`.
 pub fn test_twice(
     alloc: Global,
     names: &mut NameSet,
@@ -128,7 +128,9 @@ pub fn test_twice(
     Ok(())
 }
 
-/// The variables, found by their names.
+/// Returns the variables as an index by name.
+///
+/// The result is `NoMemory` where they can't be numbered with 32 bits.
 pub fn locals_among(alloc: Global, entries: &Entries) -> Result<Locals, NoMemory>
     ensures { IfOk result (λ l. l ≡ locals_among entries.now) }
 {
@@ -143,7 +145,7 @@ pub fn locals_among(alloc: Global, entries: &Entries) -> Result<Locals, NoMemory
     Ok(locals)
 }
 
-// The sort that a name has among variables.
+// The sort of a name among variables.
 fn sort_among(locals: &Locals, name: &[u8]) -> Option<Sort>
     ensures { result ≡ sort_among locals.now name.now }
 {
@@ -153,7 +155,9 @@ fn sort_among(locals: &Locals, name: &[u8]) -> Option<Sort>
     }
 }
 
-/// The variables, found by their names, each with the sort that its name has among those in the order of the text.
+/// Returns the variables as an index by name, each with the sort that its name has in `text`.
+///
+/// There the variables are in the order of the text. The result is `NoMemory` where they can't be numbered with 32 bits.
 pub fn locals_found(alloc: Global, text: &Locals, entries: &Entries) -> Result<Locals, NoMemory>
     ensures { IfOk result (λ l. l ≡ locals_found text.now entries.now) }
 {
@@ -169,7 +173,7 @@ pub fn locals_found(alloc: Global, text: &Locals, entries: &Entries) -> Result<L
     Ok(locals)
 }
 
-/// The variables that have a sort.
+/// Returns the variables that have a sort.
 pub fn variables_of(alloc: Global, entries: &Entries) -> Result<Variables, NoMemory>
     ensures { IfOk result (λ vs. vs ≡ variables_of entries.now) }
 {
@@ -201,7 +205,7 @@ fn add_variable(
     }
 }
 
-/// Adds entries at the end.
+/// Appends entries.
 pub fn append(alloc: Global, all: &mut Entries, more: &Entries) -> Result<(), NoMemory>
     ensures { OnOk result (all.new ≡ all.old ++ more.now) }
 {
@@ -216,7 +220,9 @@ pub fn append(alloc: Global, all: &mut Entries, more: &Entries) -> Result<(), No
     Ok(())
 }
 
-/// The test of two sorts at p, where both are known.
+/// Tests that two sorts are equal, if both are known.
+///
+/// The test fails at `p`.
 #[tactic(auto, using(crate::specs::laws::Collecting::also_none))]
 pub fn test_clash(found: &mut Option<Refusal>, a: Option<Sort>, b: Option<Sort>, p: Place)
     ensures { found.new ≡ also found.old (clash_failures a b p) }

@@ -15,14 +15,14 @@ use moxi_terms::{Datum, Primes, Scope, Sort, Term};
 use std::alloc::Global;
 use text_core::{NoMemory, Refusal};
 
-/// What stands where a formula is missing.
+/// Returns the term `true`, which is the default of a missing formula.
 pub fn true_term() -> Term
     ensures { plain result ≡ true_term }
 {
     Term::Constant(Datum::Truth(true))
 }
 
-/// A formula, which has the sort of truth values.
+/// Reads a formula, and tests that it is a truth value.
 pub fn read_truth(
     alloc: Global,
     scope: &Scope,
@@ -40,7 +40,7 @@ pub fn read_truth(
     Ok(r.term)
 }
 
-/// A formula that may be missing.
+/// Reads a formula that may be missing.
 #[tactic(auto, using(crate::specs::laws::Collecting::also_none))]
 pub fn read_formula(
     alloc: Global,

@@ -46,7 +46,7 @@ fn no_list(alloc: Global) -> Labelled
     }
 }
 
-/// No formulas.
+/// Returns empty lists of formulas.
 pub fn no_labels(alloc: Global) -> Labels
     ensures { plain_labels result ≡ no_labels }
 {
@@ -75,7 +75,7 @@ fn is_label(ls: &Labels, name: &[u8]) -> bool
         || has_name(&ls.reachables, name)
 }
 
-// One more formula, whose name is new.
+// Adds a formula with a new name.
 #[tactic(auto, using(moxi_scripts::proofs::Forms::map_end))]
 fn add_one(alloc: Global, l: &mut Labelled, name: &[u8], term: Term) -> Result<(), NoMemory>
     requires { has_name (plain_list l.old) name.now ≡ false }
@@ -108,7 +108,7 @@ fn is_formula_key(k: Key) -> bool
     }
 }
 
-// One more formula of this kind, whose name is new.
+// Adds a formula of this kind with a new name.
 fn add_formula(
     alloc: Global,
     k: Key,
@@ -144,7 +144,7 @@ fn add_formula(
     }
 }
 
-// `(a t)`, a formula of this kind.
+// Reads `(a t)`, a formula of this kind.
 #[tactic(auto, using(crate::specs::laws::Collecting::also_append))]
 fn read_label(
     alloc: Global,
@@ -178,7 +178,7 @@ fn read_label(
     }
 }
 
-// A form among attributes.
+// Reads a form among the attributes.
 #[tactic(auto, using(crate::specs::laws::Collecting::also_none))]
 fn read_label_at(
     alloc: Global,
@@ -205,7 +205,7 @@ fn read_label_at(
     }
 }
 
-/// The formulas among the attributes of a check.
+/// Reads the formulas among the attributes of a check.
 pub fn read_labels(
     alloc: Global,
     scope: &Scope,

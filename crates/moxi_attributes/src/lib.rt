@@ -1,4 +1,4 @@
-//! The parts of commands of MoXI: attributes, lists of variables, constants, formulas, labels and uses of systems.
+//! The parts of MoXI commands: attributes, lists of variables, constants, formulas, labels and uses of systems.
 #![tactic(auto)]
 
 mod attributes;

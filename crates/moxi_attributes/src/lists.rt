@@ -21,7 +21,7 @@ use name_maps::NameSet;
 use std::alloc::Global;
 use text_core::{NoMemory, Refusal};
 
-// The entries of a list, where it is there, and whether it has its shape.
+// Appends the entries of a list that may be missing, and returns whether it has its shape.
 #[tactic(auto, using(crate::specs::laws::Collecting::also_none, crate::specs::laws::Collecting::nothing_more))]
 fn read_entries_of(
     alloc: Global,
@@ -46,7 +46,7 @@ fn read_entries_of(
     }
 }
 
-// No list declares more variables than it has forms.
+// The most variables that a list can declare: the number of its forms.
 fn most_entries(value: Option<&Form>) -> usize {
     match value {
         None => 0,
@@ -57,7 +57,7 @@ fn most_entries(value: Option<&Form>) -> usize {
     }
 }
 
-// The list that is the value of a key.
+// Reads the list that is the value of a key.
 fn read_list(
     alloc: Global,
     scope: &Scope,
@@ -81,7 +81,7 @@ fn read_list(
     })
 }
 
-/// Adds the variables of all lists: inputs, outputs, locals.
+/// Appends the variables of all lists: inputs, then outputs, then locals.
 #[tactic(auto, using(crate::specs::laws::Collecting::list_joined))]
 pub fn append_lists(alloc: Global, all: &mut Entries, lists: &Lists) -> Result<(), NoMemory>
     ensures { OnOk result (all.new ≡ all.old ++ all_entries lists.now) }
@@ -91,7 +91,7 @@ pub fn append_lists(alloc: Global, all: &mut Entries, lists: &Lists) -> Result<(
     append(alloc, all, &lists.locals.entries)
 }
 
-/// The variables of all lists: inputs, outputs, locals.
+/// Returns the variables of all lists: inputs, then outputs, then locals.
 pub fn all_entries(alloc: Global, lists: &Lists) -> Result<Entries, NoMemory>
     ensures { IfOk result (λ all. all ≡ all_entries lists.now) }
 {
@@ -100,14 +100,14 @@ pub fn all_entries(alloc: Global, lists: &Lists) -> Result<Entries, NoMemory>
     Ok(all)
 }
 
-/// Has each list its shape?
+/// Returns whether each list has its shape.
 pub fn are_shaped(lists: &Lists) -> bool
     ensures { result ≡ are_shaped lists.now }
 {
     lists.inputs.shaped && lists.outputs.shaped && lists.locals.shaped
 }
 
-// The variables of the list of a key.
+// Appends the variables of the list of a key.
 #[tactic(auto, using(crate::specs::laws::Collecting::nothing_more))]
 fn append_list(alloc: Global, lists: &Lists, k: Key, text: &mut Entries) -> Result<(), NoMemory>
     ensures { OnOk result (text.new ≡ text.old ++ entries_at lists.now k) }
@@ -144,7 +144,7 @@ fn append_behind(
     }
 }
 
-/// The variables of all lists in the order of the text.
+/// Returns the variables of all lists in the order of the text.
 pub fn text_entries(
     alloc: Global,
     lists: &Lists,
@@ -162,7 +162,9 @@ pub fn text_entries(
     Ok(text)
 }
 
-/// The lists of a system or a check; of two variables with one name the second fails.
+/// Reads the lists of a system or a check.
+///
+/// It does not test for names declared twice.
 #[tactic(auto, using(crate::specs::laws::Collecting::also_append))]
 pub fn read_lists(
     alloc: Global,

@@ -1,4 +1,4 @@
-// Whether the lists of variables stand in the text in the order of their numbers.
+// Whether the lists of variables appear in the text in the order of their numbers.
 ghost use Rattle.std.specs.Prelude.{◌≡◌, ◌++◌, [], true, IfSome};
 ghost use Rattle.moxi_sexpr.specs.Tree.{plain_forms};
 ghost use Rattle.moxi_scripts.specs.declared.parts.Turn.TheVariants as turns;
@@ -54,14 +54,14 @@ fn pass_locals(lists: &Lists, next: Next) -> Next
     }
 }
 
-// The first of them that holds a variable.
+// The first remaining list that holds a variable.
 fn pass_empty(lists: &Lists, next: Next) -> Next
     ensures { entries_from lists.now result ≡ entries_from lists.now next }
 {
     pass_locals(lists, pass_outputs(lists, pass_inputs(lists, next)))
 }
 
-// What is to come behind a list that isn't the next one. Only an empty one changes nothing.
+// The lists to come after a list that is not the next one. Only an empty list changes nothing.
 #[tactic(auto, using(crate::proofs::OrderLaws::nothing_before))]
 fn behind_other(lists: &Lists, entries: &Entries, next: Next) -> Option<Next>
     ensures { IfSome result (λ then. entries_from lists.now next ≡ entries.now ++ entries_from lists.now then) }
@@ -72,7 +72,7 @@ fn behind_other(lists: &Lists, entries: &Entries, next: Next) -> Option<Next>
     None
 }
 
-// What is to come behind the list of a key.
+// The lists to come after the list of a key.
 #[tactic(auto, using(crate::proofs::OrderLaws::inputs_first, crate::proofs::OrderLaws::locals_last))]
 fn behind_list(lists: &Lists, k: Key, next: Next) -> Option<Next>
     ensures { IfSome result (λ then. entries_from lists.now next ≡ entries_at lists.now k ++ entries_from lists.now then) }
@@ -102,7 +102,7 @@ fn behind_list(lists: &Lists, k: Key, next: Next) -> Option<Next>
     }
 }
 
-// What is to come behind a form.
+// The lists to come after a form.
 fn behind_form(lists: &Lists, turn: Turn, next: Next) -> Option<Next>
     ensures { IfSome result (λ then. entries_from lists.now next ≡ entries_behind lists.now turn ++ entries_from lists.now then) }
 {
@@ -124,7 +124,9 @@ fn is_over(lists: &Lists, next: Next) -> bool
     }
 }
 
-/// Is the order of the text the order of the numbers?
+/// Returns whether the variables appear in the text in the order of their numbers.
+///
+/// The contract covers only the result true.
 pub fn is_in_order(lists: &Lists, command: Command, forms: &[Form]) -> bool
     ensures { result ≡ true → text_entries lists.now command turns.AtKeyword (plain_forms forms.now) ≡ all_entries lists.now }
 {

@@ -1,4 +1,4 @@
-// Names that a list without its shape could declare.
+// Names that a misshapen list could declare.
 ghost use Rattle.std.specs.Prelude.{◌≡◌, ◌++◌, IfOk, OnOk, is_none};
 ghost use Rattle.moxi_sexpr.specs.Tree.{plain, plain_forms};
 ghost use Rattle.moxi_term_reading.specs.Forms.{place_in, symbol_of};
@@ -24,14 +24,14 @@ fn is_nothing(meaning: Option<Meaning>) -> bool
     }
 }
 
-// Is the name none of a constant or of a function without parameters?
+// Whether the name is neither a constant nor a parameterless function.
 fn is_free(scope: &Scope, name: &[u8]) -> bool
     ensures { result ≡ is_free scope.now name.now }
 {
     is_nothing(scope.constant_or_function(name))
 }
 
-// A symbol at p, where it stands for nothing else.
+// Adds a symbol unless it has another meaning.
 #[tactic(auto, using(crate::specs::laws::Collecting::nothing_more))]
 fn add_symbol(
     alloc: Global,
@@ -57,7 +57,7 @@ fn add_symbol(
     }
 }
 
-// Each symbol of a form that stands for nothing else.
+// Adds each symbol of a form that has no other meaning.
 #[cycle(possible)]
 #[inline(never)]
 fn add_form(
@@ -90,7 +90,7 @@ fn add_forms(
     Ok(())
 }
 
-// Where a list hasn't its shape, each symbol of these forms that stands for nothing else.
+// Adds each symbol of these forms that has no other meaning, if a list is misshapen.
 #[tactic(auto, using(crate::specs::laws::Collecting::nothing_more))]
 fn add_possible(
     alloc: Global,
@@ -107,8 +107,10 @@ fn add_possible(
     add_forms(alloc, scope, forms, entries)
 }
 
-/// The variables among which names are found, given those in the order of the text and those in the order of their numbers. Where
-/// `shaped` doesn't hold, each symbol of the forms that stands for nothing else is one, without a sort.
+/// Returns the variables among which names are looked up, given those in the order of the text and those in the order of
+/// their numbers.
+///
+/// If `shaped` is false, each symbol of the forms that has no other meaning counts as a variable without a sort.
 pub fn possible_locals(
     alloc: Global,
     scope: &Scope,

@@ -11,7 +11,7 @@ use moxi_term_reading::{only_form, pair, refusal, symbol_of};
 use text_core::kinds::moxi;
 use text_core::{Place, Refusal};
 
-/// A symbol, and the forms behind it.
+/// A symbol, and the forms after it.
 #[derive(Clone, Copy)]
 pub struct Headed<'a> {
     pub name: &'a [u8],
@@ -20,7 +20,7 @@ pub struct Headed<'a> {
     pub rest: &'a [Form],
 }
 
-/// A symbol, and the one form behind it.
+/// A symbol, and the only form after it.
 #[derive(Clone, Copy)]
 pub struct Named<'a> {
     pub name: &'a [u8],
@@ -29,7 +29,7 @@ pub struct Named<'a> {
     pub form: &'a Form,
 }
 
-/// Forms that begin with a symbol.
+/// Returns the forms as a symbol and the forms after it, or None where they don't begin with a symbol.
 pub fn headed_forms<'a>(forms: &'a [Form]) -> Option<Headed<'a>>
     ensures { headed_now result ≡ headed (plain_forms forms.now) }
 {
@@ -47,7 +47,7 @@ pub fn headed_forms<'a>(forms: &'a [Form]) -> Option<Headed<'a>>
     }
 }
 
-/// A list of a symbol and a form.
+/// Returns a list as a symbol and a form, or None where it has another shape.
 pub fn named_form<'a>(form: &'a Form) -> Option<Named<'a>>
     ensures { named_now result ≡ named (plain form.now) }
 {
@@ -57,7 +57,7 @@ pub fn named_form<'a>(form: &'a Form) -> Option<Named<'a>>
     }
 }
 
-/// The forms of a list.
+/// Returns the forms of a list, or None for an atom.
 pub fn parts_of<'a>(form: &'a Form) -> Option<&'a [Form]>
     ensures { parts_now result ≡ parts_of (plain form.now) }
 {
@@ -67,7 +67,7 @@ pub fn parts_of<'a>(form: &'a Form) -> Option<&'a [Form]>
     }
 }
 
-/// The three forms, where there are three.
+/// Returns the three forms, or None where there are not exactly three.
 pub fn triple_of<'a>(forms: &'a [Form]) -> Option<(&'a Form, &'a Form, &'a Form)>
     ensures { triple_now result ≡ triple_of (plain_forms forms.now) }
 {
@@ -80,14 +80,16 @@ pub fn triple_of<'a>(forms: &'a [Form]) -> Option<(&'a Form, &'a Form, &'a Form)
     }
 }
 
-/// The place of the form.
+/// Returns the place of the form.
 pub fn place_of(form: &Form) -> Place
     ensures { result ≡ place_in (plain form.now) }
 {
     form.place
 }
 
-/// The list whose own elements don't fit, where a form in a list at `around` hasn't its shape.
+/// Returns the place of the list whose own elements don't fit, for a misshapen form in a list at `around`.
+///
+/// That is the form if it is a list, otherwise the list around it.
 pub fn misshapen_place(around: Place, form: &Form) -> Place
     ensures { result ≡ misshapen_place around (plain form.now) }
 {
@@ -97,14 +99,14 @@ pub fn misshapen_place(around: Place, form: &Form) -> Place
     }
 }
 
-/// A form in a list at `around` that hasn't its shape.
+/// Returns the refusal of a misshapen form in a list at `around`.
 pub fn shape_refusal(around: Place, form: &Form) -> Refusal
     ensures { result ≡ misshapen around (plain form.now) }
 {
     refusal(moxi::ARITY, misshapen_place(around, form))
 }
 
-/// The symbol, and the one form behind it, where forms are these.
+/// Returns the forms as a symbol and one form after it, or None where they have another shape.
 pub fn named_in<'a>(forms: &'a [Form]) -> Option<Named<'a>>
     ensures { named_now result ≡ named_in (headed (plain_forms forms.now)) }
 {
@@ -122,7 +124,7 @@ pub fn named_in<'a>(forms: &'a [Form]) -> Option<Named<'a>>
     }
 }
 
-/// Is the form an empty list?
+/// Returns whether the form is an empty list.
 pub fn is_empty_list(form: &Form) -> bool
     ensures { result ≡ is_empty_list (plain form.now) }
 {

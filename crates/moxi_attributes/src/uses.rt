@@ -1,4 +1,4 @@
-// Subsystems as they are written: the systems that they name, and their actuals.
+// Subsystems as written: the systems that they name, and their actuals.
 ghost use Rattle.std.specs.Prelude.{◌≡◌, ◌++◌, [], IfOk, OnOk, is_none, is_some, if◌then◌else◌};
 ghost use Rattle.moxi_sexpr.specs.Tree.{plain, plain_forms};
 ghost use Rattle.moxi_term_reading.specs.Finding.{found as found_now, first_of};
@@ -42,7 +42,7 @@ fn actual_at(found: Option<(u32, Option<Sort>)>, place: Place) -> Actual
     }
 }
 
-// One actual, a variable.
+// Reads one actual, which is a variable, and returns whether it is a symbol.
 #[tactic(auto, using(crate::specs::laws::Collecting::also_append, crate::specs::laws::Collecting::also_none, crate::specs::laws::Collecting::nothing_more))]
 fn read_actual(
     locals: &Locals,
@@ -76,7 +76,7 @@ fn is_missing(variable: Option<(u32, Option<Sort>)>) -> bool
     }
 }
 
-// Actuals, and whether each form is a symbol.
+// Reads actuals, and returns whether each form is a symbol.
 fn read_actuals(
     locals: &Locals,
     forms: &[Form],
@@ -95,7 +95,7 @@ fn read_actuals(
     Ok(symbols)
 }
 
-// A subsystem of a name, with `(S x ..)` at q.
+// Reads the use `(S x ..)` at `q` for the subsystem with this name.
 #[tactic(auto, using(crate::specs::laws::Collecting::also_append, crate::specs::laws::Collecting::nothing_more))]
 fn read_target(
     alloc: Global,
@@ -126,7 +126,7 @@ fn read_target(
     Ok(())
 }
 
-// The list of a subsystem's system and its actuals.
+// Reads the list with a subsystem's system and its actuals.
 fn read_target_list(
     alloc: Global,
     locals: &Locals,
@@ -156,7 +156,7 @@ fn read_target_list(
     }
 }
 
-// `(n (S x ..))`.
+// Reads `(n (S x ..))`.
 #[tactic(auto, using(crate::specs::laws::Collecting::also_append, crate::specs::laws::Collecting::nothing_more))]
 fn read_use(
     alloc: Global,
@@ -186,7 +186,7 @@ fn read_use(
     }
 }
 
-// A value among attributes.
+// Reads a value among the attributes.
 #[tactic(auto, using(crate::specs::laws::Collecting::also_none, crate::specs::laws::Collecting::nothing_more))]
 fn read_use_at(
     alloc: Global,
@@ -208,7 +208,7 @@ fn read_use_at(
     Ok(())
 }
 
-/// The subsystems among the attributes of a system.
+/// Reads the subsystems among the attributes of a system.
 pub fn read_uses(
     alloc: Global,
     locals: &Locals,

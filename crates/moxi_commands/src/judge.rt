@@ -1,4 +1,4 @@
-// The verdict on a response to a MoXI script.
+// The command that judges a response to a MoXI script.
 ghost use Rattle.std.specs.Prelude.{◌≡◌, ◌<◌, ◌^◌, ◌-◌, [], ◌∷◌, length, IfOk, IfErr, IsErrAnd};
 ghost use Rattle.text_core.specs.Outside.{Rose};
 ghost use Rattle.moxi_scripts.specs.ScriptView.{plain_script};
@@ -27,7 +27,7 @@ use std::mem::drop;
 use text_core::kinds::{moxi, trace};
 use text_core::{End, Name, NoMemory, Shelf, Text, Verdict};
 
-/// Reads a MoXI script and a response to it, and judges the response: does its trace meet its query at the last step?
+/// Reads a MoXI script and a response to it, and judges whether the response's trace meets its query at the last step.
 pub fn judge_moxi_files<F: Shelf>(
     alloc: Global,
     model: &Name,
@@ -41,7 +41,7 @@ pub fn judge_moxi_files<F: Shelf>(
     answer_files(alloc, model, second, &JudgeMoxi, shelf)
 }
 
-// The verdict on a response to the script that a text spells.
+// The answer of `judge-moxi`, computed from the text of the script.
 struct JudgeMoxi;
 
 impl FirstFile for JudgeMoxi {
@@ -108,7 +108,7 @@ fn script_answer<F: Shelf>(
     }
 }
 
-// The verdict on the response that a text states, for a script and its system.
+// The answer of `judge-moxi`, computed from the text of the response, for a script and its system.
 #[derive(Drop)]
 struct ResponseFile<'a, 's> {
     script: &'a Script,
@@ -159,7 +159,7 @@ fn response_answer(
     }
 }
 
-// What is answered to the verdict on a stated trace. The system is the script's.
+// The answer for the verdict on a stated trace. The system is the script's.
 fn stated_answer(
     alloc: Global,
     script: &Script,
@@ -198,7 +198,7 @@ fn last_step(answered: &Answered) -> u32
     answered.trace.len().saturating_sub(1) as u32
 }
 
-// A name as a symbol is printed.
+// A name printed as a symbol.
 fn symbol_of(alloc: Global, name: &[u8]) -> Result<Name, NoMemory>
     ensures { IfOk result (λ symbol. symbol ≡ symbol_text name.now) }
 {

@@ -1,4 +1,4 @@
-// The response to a MoXI script for which a witness of its BTOR2 text stands.
+// The command that lifts a witness of a MoXI script's BTOR2 text to a response.
 ghost use Rattle.std.specs.Prelude.{◌≡◌, [], ◌∷◌, IfOk, IfErr, IsErrAnd};
 ghost use Rattle.text_core.specs.Outside.{Rose};
 ghost use Rattle.btor_witness.specs.Printing.{IsWitness};
@@ -34,7 +34,7 @@ use std::mem::drop;
 use text_core::kinds::{moxi, witness};
 use text_core::{End, Name, Shelf};
 
-/// Reads a MoXI script and a witness of its BTOR2 text, and makes the response of the trace for which the witness stands.
+/// Reads a MoXI script and a witness of its BTOR2 text, and lifts the witness to a response.
 pub fn lift_moxi_files<F: Shelf>(
     alloc: Global,
     model: &Name,
@@ -48,7 +48,7 @@ pub fn lift_moxi_files<F: Shelf>(
     answer_files(alloc, model, second, &LiftMoxi, shelf)
 }
 
-// The response for a witness of the script that a text spells.
+// The answer of `lift-moxi`, computed from the text of the script.
 struct LiftMoxi;
 
 impl FirstFile for LiftMoxi {
@@ -88,7 +88,7 @@ impl FirstFile for LiftMoxi {
     ghost longer_says = { tt };
 }
 
-// The response for the witness in the second file, or the refusal of the system that the script's check instantiates.
+// The response of the witness in the second file, or the refusal of the system that the script's check instantiates.
 #[tactic(auto, using(crate::proofs::Moxi::checks_ok, crate::proofs::Moxi::checks_stop, command_core::specs::laws::Given::of_each))]
 fn script_answer<F: Shelf>(
     alloc: Global,
@@ -107,7 +107,7 @@ fn script_answer<F: Shelf>(
     }
 }
 
-// The response for the witness in the second file. The chain is the script's.
+// The response of the witness in the second file. The chain is the script's.
 #[tactic(auto, using(crate::proofs::Moxi::lines_ok, crate::proofs::Moxi::lines_stop))]
 fn chain_answer<F: Shelf>(
     alloc: Global,
@@ -125,7 +125,7 @@ fn chain_answer<F: Shelf>(
     answer_file(alloc, second, &WitnessFile { script, chain }, shelf)
 }
 
-// The response for the witness that a text spells, of a script and its chain.
+// The answer of `lift-moxi`, computed from the text of the witness, for a script and its chain.
 #[derive(Drop)]
 struct WitnessFile<'a, 's> {
     script: &'a Script,
@@ -159,7 +159,7 @@ impl<'a, 's> LastFile for WitnessFile<'a, 's> {
     ghost says = { λ file text a h. lift_says (lines_of file.chain.now) (lifted_response (plain_script file.script.now)) text a h };
 }
 
-// The response of the trace for which a witness stands, or what the judge says against it. The chain is the script's.
+// The response of a witness's trace, or the judge's rejection of the witness. The chain is the script's.
 #[tactic(auto, using(btor_commands::specs::laws::Lifts::denied))]
 fn lifted_answer(
     alloc: Global,
@@ -183,8 +183,9 @@ fn lifted_answer(
     }
 }
 
-/// The response to which a witness of a script's BTOR2 text is lifted, where the judge says Yes of it, is that of a trace with a step for
-/// each frame, which meets the query of the bad line at its last step. This function does nothing.
+/// Proves that an accepted witness of a script's BTOR2 text is lifted to the response of a trace.
+///
+/// The trace has a step for each frame, and meets the query of the bad line at its last step.
 pub fn traces_are_lifted()
     ensures { TracesAreLifted }
 {

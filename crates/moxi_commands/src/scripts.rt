@@ -1,4 +1,4 @@
-// MoXI scripts, from their bytes.
+// Parsing of MoXI scripts.
 ghost use Rattle.std.specs.Prelude.{◌≤◌, length, IfOk, IfErr};
 ghost use Rattle.moxi_scripts.specs.ScriptView.{plain_script};
 ghost use Rattle.moxi_commands.specs.Limits.{most_script_bytes};
@@ -10,10 +10,12 @@ use moxi_sexpr::{end_of, read_forms, readings_are_one};
 use std::alloc::Global;
 use text_core::End;
 
-/// The most bytes that a MoXI script may have.
+/// The most bytes of a MoXI script.
 pub const SCRIPT_LIMIT: usize = 16_777_216;
 
-/// The script that the bytes spell, or the first refusal of their forms or of the script. The forms are gone when it is there.
+/// Parses bytes to a script, or returns the first refusal of their forms or of the script.
+///
+/// The forms are freed before it returns.
 pub fn script_of(alloc: Global, bytes: &[u8]) -> Result<Script, End>
     requires { length bytes.now ≤ most_script_bytes }
     ensures script { IfOk result (λ script. IsScriptText bytes.now (plain_script script)) }

@@ -1,4 +1,4 @@
-// The BTOR2 text of a script.
+// The command that translates a MoXI script to BTOR2.
 ghost use Rattle.std.specs.Prelude.{◌≡◌, ◌≤◌, [], ◌∷◌, None, length, IfOk, IfErr, IsErrAnd};
 ghost use Rattle.text_core.specs.Outside.{Rose};
 ghost use Rattle.btor_tree.specs.Printing.{printed};
@@ -31,7 +31,7 @@ use std::mem::drop;
 use text_core::kinds::moxi;
 use text_core::{End, Name, NoMemory, Shelf, Text};
 
-/// Reads a MoXI script, and makes the BTOR2 text of the system that its check instantiates.
+/// Reads a MoXI script, and returns the BTOR2 text of the system that its check instantiates.
 pub fn moxi_to_btor<F: Shelf>(alloc: Global, model: &Name, shelf: &mut F) -> Result<Answer, Stop>
     ensures answer { IfOk result (MayGive (F.files shelf.old) (model.now ∷ []) (λ files. IsBtorText files model.now) (Rose (F.faults shelf.old) (F.faults shelf.new))) }
     ensures stop { IfErr result (StopsWith (MayGive (F.files shelf.old) (model.now ∷ []) (λ files. IsBtorText files model.now) (Rose (F.faults shelf.old) (F.faults shelf.new)))) }
@@ -40,7 +40,7 @@ pub fn moxi_to_btor<F: Shelf>(alloc: Global, model: &Name, shelf: &mut F) -> Res
     answer_file(alloc, model, &MoxiToBtor, shelf)
 }
 
-// The BTOR2 text of the script that a text spells.
+// The answer of `moxi2btor`, computed from the text of the script.
 struct MoxiToBtor;
 
 impl LastFile for MoxiToBtor {
@@ -70,7 +70,7 @@ impl LastFile for MoxiToBtor {
     ghost says = { λ _ bytes a h. text_says (IsLinesText bytes) (IsSystemRefusal bytes) a h };
 }
 
-// The BTOR2 text of the script that the bytes spell, or why there is none.
+// The BTOR2 text of the script that the bytes spell, or the reason why there is none.
 #[tactic(auto, using(crate::proofs::Translated::of_script, crate::proofs::Translated::no_script, crate::proofs::Translated::no_text))]
 fn lines_text(alloc: Global, bytes: &[u8]) -> Result<Text, End>
     requires { length bytes.now ≤ most_script_bytes }
@@ -105,7 +105,7 @@ fn text_of_system(alloc: Global, system: &FlatSystem<'_>) -> Result<Text, NoMemo
     print_btor(alloc, &nodes)
 }
 
-/// The lines of the flat system that a script's check instantiates lay the system out. This function does nothing.
+/// Proves that the lines of the flat system that a script's check instantiates lay the system out.
 pub fn script_lines_are_laid_out()
     ensures { ScriptLinesAreLaidOut }
 {
@@ -117,9 +117,10 @@ pub fn script_lines_are_laid_out()
     lines_lay_out();
 }
 
-/// What is written for a script spells one list of lines, which have frames 0 to k with every constraint true and the bad line of
-/// number j true in the last one exactly where some trace meets the query of number j at step k; no two of them are alike. This function
-/// does nothing.
+/// Proves that the BTOR2 text of a script spells one list of lines, no two of which are alike.
+///
+/// A trace meets query j at step k exactly where the lines have frames 0 to k. In these frames every constraint is true,
+/// and bad line j is true in the last one.
 pub fn lines_stand()
     ensures { LinesStand }
 {

@@ -1,4 +1,4 @@
-// The check of a script as it is read.
+// The check of a script, as read before its system is looked up.
 ghost use Rattle.std.specs.Prelude.{◌≡◌, ◌++◌, [], Some, IfOk, OnOk};
 ghost use Rattle.std.specs.Option.{option_map};
 ghost use Rattle.moxi_sexpr.specs.Tree.{plain, plain_forms};
@@ -30,7 +30,7 @@ use std::mem::drop;
 use text_core::kinds::moxi;
 use text_core::{Name, NoMemory, Place, Refusal};
 
-/// A check whose system isn't yet found.
+/// A check whose system is not yet looked up.
 #[derive(Drop)]
 pub struct ReadCheck {
     pub place: Place,
@@ -61,7 +61,7 @@ fn places_in(p: Place, forms: &[Form]) -> ListPlaces
     }
 }
 
-// The formulas and the queries of a check whose variables are read.
+// Reads the formulas and the queries of a check, given its variables.
 fn read_named(
     alloc: Global,
     scope: &Scope,
@@ -82,7 +82,7 @@ fn read_named(
     Ok(())
 }
 
-// The lists, the formulas and the queries of a check of which the attributes have their shape.
+// Reads the lists, the formulas and the queries of a check with well-shaped attributes.
 fn read_parts(
     alloc: Global,
     scope: &Scope,
@@ -113,7 +113,7 @@ fn read_parts(
     }
 }
 
-// A check of which the attributes have their shape.
+// Reads a check with well-shaped attributes.
 fn read_content(
     alloc: Global,
     scope: &Scope,
@@ -156,7 +156,7 @@ fn read_content(
     }
 }
 
-// A check whose shape is tested.
+// Tests the shape of a check's attributes, and reads the check.
 #[tactic(auto, using(moxi_attributes::specs::laws::Collecting::also_append, moxi_attributes::specs::laws::Collecting::nothing_more))]
 fn read_shaped(
     alloc: Global,
@@ -179,7 +179,9 @@ fn read_shaped(
     Ok(None)
 }
 
-/// `(check-system S ..)` at p, of which these are the forms behind its head.
+/// Reads `(check-system S ..)` at `p`, given the forms after its head.
+///
+/// Returns None where its shape is wrong.
 #[tactic(auto, using(moxi_attributes::specs::laws::Collecting::nothing_more))]
 pub fn read_check(
     alloc: Global,

@@ -27,7 +27,9 @@ use std::mem::{self, drop};
 use text_core::kinds::moxi;
 use text_core::{Name, NoMemory, Place, Refusal, is_same};
 
-/// What the commands so far declare. A system whose name is taken is one of `repeated`.
+/// The declarations of the commands so far.
+///
+/// A system whose name is already in use is in `repeated`.
 #[derive(Drop)]
 pub struct Draft {
     pub logic: Option<Name>,
@@ -41,7 +43,7 @@ pub struct Draft {
     pub check: Option<ReadCheck>,
 }
 
-/// Nothing is declared.
+/// Returns a draft without declarations.
 pub fn nothing_read(alloc: Global) -> Draft
     ensures { plain_draft result ≡ nothing_read }
 {
@@ -104,7 +106,7 @@ fn system_name(n: &[u8]) -> Option<CommandName>
     }
 }
 
-/// The command of this name.
+/// Returns the command with this name.
 fn command_named(n: &[u8]) -> Option<CommandName>
     ensures { result ≡ command_named n.now }
 {
@@ -117,7 +119,7 @@ fn command_named(n: &[u8]) -> Option<CommandName>
     }
 }
 
-// `(set-logic L)` at p.
+// Reads `(set-logic L)` at `p`.
 #[tactic(auto, using(moxi_attributes::specs::laws::Collecting::also_none))]
 fn read_logic(
     alloc: Global,
@@ -138,7 +140,7 @@ fn read_logic(
     }
 }
 
-// The symbol at q of a `set-logic` at p.
+// Reads the symbol at `q` of a `set-logic` at `p`.
 fn read_logic_name(
     alloc: Global,
     logic: &mut Option<Name>,
@@ -163,7 +165,7 @@ fn read_logic_name(
     }
 }
 
-// A check; a second one fails.
+// Reads a check. A second one fails.
 #[tactic(auto, using(moxi_attributes::specs::laws::Collecting::also_append))]
 fn add_check(
     alloc: Global,
@@ -186,7 +188,7 @@ fn add_check(
     Ok(())
 }
 
-// A command at p, with the forms behind its head.
+// Reads a command at `p`, given the forms after its head.
 #[tactic(auto, using(moxi_attributes::specs::laws::Collecting::also_none, moxi_attributes::specs::laws::Collecting::nothing_more))]
 fn read_command(
     alloc: Global,
@@ -253,7 +255,7 @@ fn read_command(
     }
 }
 
-// A list at p that begins with a symbol.
+// Reads a list at `p` that begins with a symbol.
 #[tactic(auto, using(moxi_attributes::specs::laws::Collecting::also_append))]
 fn read_headed(
     alloc: Global,
@@ -278,7 +280,7 @@ fn read_headed(
     }
 }
 
-// A form of a script.
+// Reads a form of a script.
 fn read_form(
     alloc: Global,
     draft: &mut Draft,
@@ -306,7 +308,7 @@ fn read_form(
     }
 }
 
-/// The commands of a script, and of their tests that fail the one with the least place and number.
+/// Reads the commands of a script, and records their failing test with the least place and number.
 pub fn read_commands(
     alloc: Global,
     forms: &[Form],

@@ -39,7 +39,7 @@ pub struct FunctionParts<'a> {
     pub body: &'a Form,
 }
 
-/// The parts of a function's definition, where it has its shape.
+/// Returns the parts of a function's definition, or None where it has another shape.
 pub fn function_parts<'a>(forms: &'a [Form]) -> Option<FunctionParts<'a>>
     ensures { function_now result ≡ function_forms (plain_forms forms.now) }
 {
@@ -61,7 +61,7 @@ pub fn function_parts<'a>(forms: &'a [Form]) -> Option<FunctionParts<'a>>
     }
 }
 
-// The tests of the names of a function and of its parameters.
+// Tests the names of a function and of its parameters.
 #[tactic(auto, using(moxi_attributes::specs::laws::Collecting::also_append))]
 fn test_names(
     alloc: Global,
@@ -81,7 +81,7 @@ fn test_names(
     Ok(())
 }
 
-// The body, read over the parameters.
+// Reads the body over the parameters.
 fn read_body(
     alloc: Global,
     scope: &Scope,
@@ -94,7 +94,7 @@ fn read_body(
     read_term(alloc, scope, &locals, body, Primes::Refused)
 }
 
-// The tests of the parts of a function's definition at p, with its parameters, its result's sort and its body.
+// Reads and tests the parts of a function's definition at `p`. Returns the sort of its result and its body.
 fn read_parts(
     alloc: Global,
     scope: &Scope,
@@ -119,7 +119,7 @@ fn read_parts(
     Ok((result, body.term))
 }
 
-// A function, where its name isn't taken.
+// Adds a function unless its name is already in use.
 fn add_function(
     alloc: Global,
     scope: &mut Scope,
@@ -148,7 +148,7 @@ fn add_function(
     }
 }
 
-/// `(define-fun f ((x S) ..) S t)` at p, of which these are the forms behind its head.
+/// Reads `(define-fun f ((x S) ..) S t)` at `p`, given the forms after its head.
 pub fn read_function(
     alloc: Global,
     scope: &mut Scope,
@@ -175,7 +175,7 @@ pub fn read_function(
     }
 }
 
-// A function with its parts.
+// Reads a function, given its parts.
 fn define_function(
     alloc: Global,
     scope: &mut Scope,
@@ -204,7 +204,7 @@ fn define_function(
     Ok(())
 }
 
-// A function of which no part fails a test.
+// Adds a function if none of its parts fails a test.
 fn add_whole(
     alloc: Global,
     scope: &mut Scope,

@@ -1,4 +1,4 @@
-//! The commands of MoXI, read one after another: sorts, functions, systems and checks.
+//! Reads the commands of a MoXI script in order: sorts, functions, systems and checks.
 #![tactic(auto)]
 
 mod checks;

@@ -1,4 +1,4 @@
-// The variables of a system or a check, found by their names.
+// The variables of a system or a check, as an index by name.
 ghost use Rattle.std.specs.Prelude.{◌≡◌, [], length, IfOk, IfSome, OnOk};
 ghost use Rattle.moxi_sexpr.specs.Tree.{plain_forms};
 ghost use Rattle.moxi_scripts.specs.Collecting.{also};
@@ -18,7 +18,7 @@ use name_maps::NameSet;
 use std::alloc::Global;
 use text_core::{Name, NoMemory, Refusal};
 
-// The variables of a list in which no name stands twice.
+// The variables of a list as an index by name, or None where a name occurs twice.
 fn locals_once(alloc: Global, entries: &[Declared]) -> Result<Option<Locals>, NoMemory>
     ensures locals { IfOk result (λ o. IfSome o (λ l. l ≡ locals_among entries.now)) }
     ensures once { IfOk result (λ o. IfSome o (λ l. length (names_after [] entries.now) ≡ length entries.now)) }
@@ -54,7 +54,9 @@ fn mixed_locals(
     possible_locals(alloc, scope, are_shaped(lists), forms, &mut text, &mut all)
 }
 
-/// The variables of the lists, which are `all` in the order of their numbers; of two with one name the second fails.
+/// Returns the variables of the lists as an index by name, and tests that no name is declared twice.
+///
+/// `all` holds the variables in the order of their numbers. Of two variables with the same name, the second fails.
 pub fn read_locals(
     alloc: Global,
     scope: &Scope,
@@ -68,7 +70,7 @@ pub fn read_locals(
     ensures locals { IfOk result (λ l. l ≡ locals_listed scope.now lists.now command (plain_forms forms.now)) }
     ensures finds { OnOk result (found.new ≡ also found.old (twice_failures [] (text_entries lists.now command turns.AtKeyword (plain_forms forms.now)))) }
 {
-    // Most texts have the order of the numbers, and their variables need not be copied in each order.
+    // Most texts declare variables in the order of their numbers. Then one list serves for both orders.
     if are_shaped(lists) && is_in_order(lists, command, forms) {
         if let Some(locals) = locals_once(alloc, all)? {
             return Ok(locals);

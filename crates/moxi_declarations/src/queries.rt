@@ -39,7 +39,7 @@ fn no_names(alloc: Global) -> QueryNames
     }
 }
 
-// A name that has these numbers.
+// Adds the numbers of a name.
 fn add_number(
     q: &mut QueryNames,
     assumption: Option<usize>,
@@ -78,7 +78,7 @@ fn add_prime(q: &mut QueryNames, primed: bool)
     q.primed = q.primed || primed;
 }
 
-// A name of a query.
+// Reads a name in a query, and returns whether it is a symbol.
 #[tactic(auto, using(moxi_attributes::specs::laws::Collecting::also_none))]
 fn read_name(
     ls: &Labels,
@@ -106,7 +106,7 @@ fn read_name(
     }
 }
 
-// The names of a query, and whether each form is one.
+// Reads the names in a query, and returns whether each form is a symbol.
 fn read_names(
     ls: &Labels,
     forms: &[Form],
@@ -125,7 +125,7 @@ fn read_names(
     Ok(symbols)
 }
 
-// Puts a number to others, and says whether it is new.
+// Adds a number, and returns whether it is new.
 fn put_number(numbers: &mut IndexSet<u64>, number: u64) -> Result<bool, NoMemory>
     ensures fresh { IfOk result (λ fresh. fresh ≡ not (is_in numbers.old.keys number)) }
     ensures keys { IfOk result (λ fresh. numbers.new.keys ≡ (if fresh then numbers.old.keys ++ number ∷ [] else numbers.old.keys)) }
@@ -136,7 +136,7 @@ fn put_number(numbers: &mut IndexSet<u64>, number: u64) -> Result<bool, NoMemory
     }
 }
 
-// Does no number stand twice? From the last on, so that each is compared with those behind it.
+// Whether all numbers are distinct. The loop runs backwards, so that each number is compared with those after it.
 fn are_distinct(alloc: Global, numbers: &Numbers) -> Result<bool, NoMemory>
     ensures { IfOk result (λ distinct. distinct ≡ are_distinct numbers.now) }
 {
@@ -151,7 +151,7 @@ fn are_distinct(alloc: Global, numbers: &Numbers) -> Result<bool, NoMemory>
     Ok(true)
 }
 
-// Most queries name one reachable formula, and take no memory here.
+// Whether there are numbers and all are distinct. Most queries name one reachable formula, and nothing is allocated here.
 #[tactic(auto, using(crate::proofs::NumberLaws::few_distinct, crate::proofs::NumberLaws::many_distinct))]
 fn are_some_distinct(alloc: Global, numbers: &Numbers) -> Result<bool, NoMemory>
     ensures { IfOk result (λ some. some ≡ some_distinct numbers.now) }
@@ -175,7 +175,7 @@ fn is_bad_query(alloc: Global, ls: &Labels, q: &QueryNames) -> Result<bool, NoMe
     Ok(!named)
 }
 
-// The names of a query in a list at q.
+// Reads the names of a query in a list at `q`.
 #[tactic(auto, using(moxi_attributes::specs::laws::Collecting::also_append))]
 fn read_query_list(
     alloc: Global,
@@ -222,7 +222,7 @@ fn add_query(
     Ok(())
 }
 
-// A query in a list at `around`.
+// Reads a query in a list at `around`.
 #[tactic(auto, using(moxi_attributes::specs::laws::Collecting::also_append, moxi_attributes::specs::laws::Collecting::nothing_more))]
 fn read_query(
     alloc: Global,
@@ -252,7 +252,7 @@ fn read_query(
     }
 }
 
-// Queries of a list at `around`.
+// Reads the queries of a list at `around`.
 fn read_queries_of(
     alloc: Global,
     ls: &Labels,
@@ -272,7 +272,7 @@ fn read_queries_of(
     Ok(())
 }
 
-// A form among attributes.
+// Reads a form among the attributes.
 #[tactic(auto, using(moxi_attributes::specs::laws::Collecting::also_none, moxi_attributes::specs::laws::Collecting::nothing_more))]
 fn read_queries_at(
     alloc: Global,
@@ -297,7 +297,7 @@ fn read_queries_at(
     Ok(())
 }
 
-// The queries of a list.
+// Reads the queries of a list.
 #[tactic(auto, using(moxi_attributes::specs::laws::Collecting::also_none, moxi_attributes::specs::laws::Collecting::nothing_more))]
 fn read_listed(
     alloc: Global,
@@ -320,7 +320,7 @@ fn read_listed(
     }
 }
 
-/// The queries among the attributes of a check.
+/// Reads the queries among the attributes of a check.
 pub fn read_queries(
     alloc: Global,
     ls: &Labels,

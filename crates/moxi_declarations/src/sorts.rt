@@ -25,7 +25,7 @@ use std::alloc::Global;
 use text_core::kinds::moxi;
 use text_core::{Name, Names, NoMemory, Place, Refusal};
 
-// The tests of a sort's own name.
+// Tests the name of a new sort.
 #[tactic(auto, using(moxi_attributes::specs::laws::Collecting::also_append))]
 fn test_sort_name(
     scope: &Scope,
@@ -40,7 +40,7 @@ fn test_sort_name(
     fail_if(found, scope.is_sort_name(name), moxi::NAME_TWICE, place);
 }
 
-/// `(declare-enum-sort N (c ..))` at p, of which these are the forms behind its head.
+/// Reads `(declare-enum-sort N (c ..))` at `p`, given the forms after its head.
 pub fn read_enumeration(
     alloc: Global,
     scope: &mut Scope,
@@ -62,7 +62,7 @@ pub fn read_enumeration(
     }
 }
 
-// The enumeration of a name.
+// Reads an enumeration, given its name and its list.
 #[tactic(auto, using(moxi_attributes::specs::laws::Collecting::also_append))]
 fn read_listed(
     alloc: Global,
@@ -89,7 +89,7 @@ fn read_listed(
     }
 }
 
-// The enumeration of a name that stands before the list of its constants at q.
+// Reads the constants of an enumeration with this name, whose list is at `q`.
 #[tactic(auto, using(moxi_attributes::specs::laws::Collecting::also_append))]
 fn add_constants(
     alloc: Global,
@@ -115,7 +115,7 @@ fn add_constants(
     Ok(())
 }
 
-// An enumeration, where its names aren't taken.
+// Adds an enumeration unless one of its names is already in use.
 fn add_enumeration(
     alloc: Global,
     scope: &mut Scope,
@@ -132,7 +132,7 @@ fn add_enumeration(
     Ok(())
 }
 
-/// `(define-sort N () S)` at p, of which these are the forms behind its head.
+/// Reads `(define-sort N () S)` at `p`, given the forms after its head.
 pub fn read_sort(
     alloc: Global,
     scope: &mut Scope,
@@ -161,7 +161,7 @@ pub fn read_sort(
     }
 }
 
-// A name for the sort that a form spells.
+// Defines a name for the sort that a form spells.
 #[tactic(auto, using(moxi_attributes::specs::laws::Collecting::also_append))]
 fn define_sort(
     alloc: Global,
@@ -190,7 +190,7 @@ fn define_sort(
     Ok(())
 }
 
-// A defined sort, where there is one and its name isn't taken.
+// Adds a defined sort, if there is one, unless its name is already in use.
 fn add_sort(
     alloc: Global,
     scope: &mut Scope,

@@ -1,4 +1,4 @@
-// Systems as they are read.
+// Systems, as read before their subsystems' systems are looked up.
 ghost use Rattle.std.specs.Prelude.{◌≡◌, ◌++◌, ◌∷◌, [], Some, IfOk, OnOk, map};
 ghost use Rattle.moxi_sexpr.specs.Tree.{plain_forms};
 ghost use Rattle.moxi_terms.specs.View.{plain};
@@ -34,7 +34,7 @@ use std::mem::drop;
 use text_core::kinds::moxi;
 use text_core::{List, Name, NoMemory, Place, Refusal};
 
-/// A system whose subsystems aren't yet found.
+/// A system whose subsystems' systems are not yet looked up.
 #[derive(Drop)]
 pub struct ReadSystem {
     pub name: Name,
@@ -60,7 +60,7 @@ pub struct SystemFormulas {
     pub inv: Term,
 }
 
-/// The variables of a system or a check, and the tests of its keywords.
+/// Reads the variables of a system or a check, and tests its keywords.
 #[tactic(auto, using(moxi_attributes::specs::laws::Collecting::also_append))]
 pub fn read_variables(
     alloc: Global,
@@ -84,7 +84,7 @@ pub fn read_variables(
     Ok(ReadVariables { lists, locals })
 }
 
-// The formulas of a system.
+// Reads the formulas of a system.
 #[tactic(auto, using(moxi_attributes::specs::laws::Collecting::also_append))]
 fn read_formulas(
     alloc: Global,
@@ -125,7 +125,7 @@ fn read_formulas(
     Ok(SystemFormulas { init, trans, inv })
 }
 
-// The formulas and the subsystems of a system whose variables are read.
+// Reads the formulas and the subsystems of a system, given its variables.
 fn read_parts(
     alloc: Global,
     scope: &Scope,
@@ -151,7 +151,7 @@ fn read_parts(
     }
 }
 
-// A system with this name and these lists, whose variables they declare.
+// Reads a system with this name and these lists, given the variables that they declare.
 fn read_over(
     alloc: Global,
     scope: &Scope,
@@ -185,7 +185,7 @@ fn read_over(
     }
 }
 
-// A system of which the attributes have their shape.
+// Reads a system with well-shaped attributes.
 fn read_content(
     alloc: Global,
     scope: &Scope,
@@ -223,7 +223,7 @@ fn no_list(alloc: Global) -> DeclaredList
     }
 }
 
-// A system with a name but without its shape.
+// A system with only a name, for one without its shape.
 fn bare_system(alloc: Global, name: &[u8]) -> Result<ReadSystem, NoMemory>
     ensures { IfOk result (λ r. plain_reading r ≡ bare_system name.now) }
 {
@@ -241,7 +241,7 @@ fn bare_system(alloc: Global, name: &[u8]) -> Result<ReadSystem, NoMemory>
     })
 }
 
-// A system at p of this name.
+// Reads the system at `p` with this name.
 #[tactic(auto, using(moxi_attributes::specs::laws::Collecting::nothing_more))]
 fn read_shaped(
     alloc: Global,
@@ -264,7 +264,7 @@ fn read_shaped(
     Ok(r)
 }
 
-/// Adds an element at the end.
+/// Appends an element.
 pub fn put<T>(all: &mut Vec<T>, x: T) -> Result<(), NoMemory>
 where
     T: Drop,
@@ -273,7 +273,7 @@ where
     Ok(all.push(x)?)
 }
 
-// Adds a system to those with new names or to those whose names are taken.
+// Appends a system to those with new names, or to those whose names are already in use.
 #[tactic(auto, using(moxi_scripts::proofs::Forms::map_end))]
 fn add_system(
     new: bool,
@@ -290,7 +290,7 @@ fn add_system(
     put(repeated, r)
 }
 
-// A system at p, whose name is tested.
+// Reads a system at `p`, and tests its name.
 #[tactic(auto, using(moxi_attributes::specs::laws::Collecting::also_append))]
 fn define_system(
     alloc: Global,
@@ -317,8 +317,9 @@ fn define_system(
     Ok(())
 }
 
-/// `(define-system S ..)` at p, of which these are the forms behind its head. A system whose name is taken is read like any other,
-/// and is put to `repeated`.
+/// Reads `(define-system S ..)` at `p`, given the forms after its head.
+///
+/// A system whose name is already in use is read like any other, and appended to `repeated`.
 #[tactic(auto, using(moxi_attributes::specs::laws::Collecting::nothing_more))]
 pub fn read_system(
     alloc: Global,

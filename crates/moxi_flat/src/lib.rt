@@ -1,5 +1,6 @@
-//! The flat system of a MoXI script: what its check instantiates, as one list of variables with the formulas of all instances, and
-//! how large it is.
+//! The flat system of a MoXI script, and its size.
+//!
+//! It is what the check instantiates, as one list of variables with the formulas of all instances.
 #![tactic(auto)]
 
 mod flat_laws;

@@ -1,10 +1,10 @@
-// How large an instantiated system may be.
+// The limits of an instantiated system.
 
 /// The largest size.
 pub const LARGEST: u64 = 2_000_000;
 
-/// The greatest height of a term whose calls are written out.
+/// The greatest height of a term with its calls expanded.
 pub const HIGHEST: u64 = 4_000;
 
-/// How many systems may stand inside one another.
+/// The greatest nesting of systems.
 pub const DEEPEST: u64 = 1_000;

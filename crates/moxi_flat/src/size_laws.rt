@@ -1,27 +1,27 @@
-// Laws of the definitions; these functions do nothing.
+// Laws about the measures.
 ghost use Rattle.moxi_flat.specs.SizeLaws.{BodiesAreMeasured, HeightsUnfold, NestingUnfolds, NothingIsMeasuredBeyond, SizesUnfold};
 
-/// What is measured of a function is that of its body, under what was measured of the functions before it.
+/// Proves that the measure of a function is that of its body, given the measures of the functions before it.
 pub fn bodies_are_measured()
     ensures { BodiesAreMeasured }
 {}
 
-/// Of functions that aren't measured yet nothing is measured.
+/// Proves that functions that are not measured yet have the measure 0.
 pub fn nothing_is_measured_beyond()
     ensures { NothingIsMeasuredBeyond }
 {}
 
-/// Where systems have ranks, the size of an instance is one step from the sizes of the instances inside.
+/// Proves that the size of an instance is given by the sizes of its inner instances in one step, if systems have ranks.
 pub fn sizes_unfold()
     ensures { SizesUnfold }
 {}
 
-/// Where systems have ranks, the height of an instance is one step from the heights of the instances inside.
+/// Proves that the height of an instance is given by the heights of its inner instances in one step, if systems have ranks.
 pub fn heights_unfold()
     ensures { HeightsUnfold }
 {}
 
-/// Where systems have ranks, the nesting of a system is one step from those of its subsystems' systems.
+/// Proves that the nesting of a system is given by that of its subsystems' systems in one step, if systems have ranks.
 pub fn nesting_unfolds()
     ensures { NestingUnfolds }
 {}

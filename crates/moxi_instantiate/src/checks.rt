@@ -1,4 +1,4 @@
-// The size and the height of a check. The size of each formula is counted once, however many queries name it.
+// The size and the height of a check. The size of each formula is counted once, even if several queries name it.
 ghost use Rattle.std.specs.Prelude.{◌≡◌, ◌<◌, ◌≤◌, ◌++◌, ◌∷◌, [], List, ℕ, map, length, IfOk, slice_index_or, false, if◌then◌else◌};
 ghost use Rattle.moxi_terms.specs.View.{plain};
 ghost use Rattle.moxi_scripts.specs.Script.{PlainFormula, plain_check, plain_formula};
@@ -107,7 +107,7 @@ fn mark_all(marks: &mut Vec<bool>, numbers: &[u64])
     }
 }
 
-// Which of so many formulas of a kind some query names.
+// For each formula of a kind, whether some query names it.
 fn marks_of(
     alloc: Global,
     kind: FormulaKind,
@@ -153,7 +153,7 @@ fn unmarked_size(counts: &[u64], marks: &[bool]) -> u64
     total
 }
 
-// Of the formulas of a kind that no query names.
+// The size of the formulas of a kind that no query names.
 fn unnamed_size(
     alloc: Global,
     kind: FormulaKind,
@@ -167,7 +167,9 @@ fn unnamed_size(
     Ok(unmarked_size(counts, &marks))
 }
 
-/// The size of a check, given the sizes of the functions' bodies.
+/// Returns the size of a check, given the sizes of the functions' bodies.
+///
+/// It is `MOST` where the size is greater.
 pub fn check_size(alloc: Global, sizes: &[u64], check: &Check) -> Result<u64, NoMemory>
     ensures value { (calls : ℕ → ℕ) → AreCounted calls sizes.now → IfOk result (λ size. size ≡ capped (check_size calls (plain_check check.now))) }
     ensures bound { IfOk result (λ size. size ≤ MOST) }
@@ -194,7 +196,9 @@ fn formulas_height(heights: &[u64], formulas: &[Formula]) -> u64
     most
 }
 
-/// The height of a check, given the heights of the functions' bodies.
+/// Returns the height of a check, given the heights of the functions' bodies.
+///
+/// It is `MOST` where the height is greater.
 pub fn check_height(heights: &[u64], check: &Check) -> u64
     ensures value { (calls : ℕ → ℕ) → AreCounted calls heights.now → result ≡ capped (check_height calls (plain_check check.now)) }
     ensures bound { result ≤ MOST }

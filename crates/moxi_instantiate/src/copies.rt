@@ -1,4 +1,4 @@
-// Copies of terms over other numbers of their variables.
+// Copies of terms with renumbered variables.
 ghost use Rattle.std.specs.Prelude.{◌≡◌, map, IfOk, OnOk, ◌++◌, ◌∷◌, []};
 ghost use Rattle.moxi_terms.specs.View.{plain};
 ghost use Rattle.moxi_flat.specs.Renumbering.{renumbered};
@@ -34,7 +34,7 @@ fn put_term(terms: &mut Terms, term: Term) -> Result<(), NoMemory>
     Ok(terms.push(term)?)
 }
 
-/// A term in which each variable has the number at its place.
+/// Returns a copy of a term in which variable v has the number `places[v]`.
 #[inline(never)]
 #[cycle(copy)]
 pub fn renumber(alloc: Global, places: &[u32], term: &Term) -> Result<Term, NoMemory>

@@ -1,8 +1,9 @@
-// Counts that stop just above every limit, since what is counted may be exponential in the script.
+// Counts that stop just above every limit, since the counted system may be exponential in the
+// script.
 ghost use Rattle.std.specs.Prelude.{◌≡◌, ◌+◌, ◌-◌, ◌*◌, ◌/◌, ◌≤◌, length, max};
 ghost use Rattle.moxi_instantiate.specs.Counting.{capped, known};
 
-/// Where counting stops: one above the largest size that a flat system may have.
+/// The number at which counting stops: one above the largest size that a flat system may have.
 pub const MOST: u64 = 2_000_001;
 
 #[tactic(auto, using(crate::proofs::Capping::capped_low, crate::proofs::Capping::capped_high))]
@@ -31,7 +32,7 @@ pub(crate) fn greater(a: u64, b: u64) -> u64
     a.max(b)
 }
 
-// How many neighbours so many elements have.
+// The number of neighbouring pairs among this many elements.
 pub(crate) fn neighbours(n: usize) -> u64
     ensures value { result ≡ capped (n - 1) }
     ensures bound { result ≤ MOST }
@@ -39,7 +40,7 @@ pub(crate) fn neighbours(n: usize) -> u64
     if n == 0 { cap(0) } else { cap(n as u64 - 1) }
 }
 
-// How many pairs so many elements have.
+// The number of pairs among this many elements.
 pub(crate) fn pairs(n: usize) -> u64
     ensures value { result ≡ capped (n * (n - 1) / 2) }
     ensures bound { result ≤ MOST }
@@ -54,7 +55,7 @@ pub(crate) fn pairs(n: usize) -> u64
     }
 }
 
-// What was counted for this number, and nothing beyond what was counted.
+// The count for this number, or 0 beyond the counted numbers.
 pub(crate) fn known(counts: &[u64], n: u32) -> u64
     ensures value { result ≡ capped (known counts.now n) }
     ensures bound { result ≤ MOST }

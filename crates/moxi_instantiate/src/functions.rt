@@ -1,4 +1,4 @@
-// Sizes and heights of the bodies of functions, each of which calls those before it alone.
+// Sizes and heights of the bodies of functions, each of which calls only earlier functions.
 ghost use Rattle.std.specs.Prelude.{◌≡◌, ◌++◌, ◌∷◌, [], length, map, IfOk, OnOk};
 ghost use Rattle.moxi_terms.specs.View.{plain_function};
 ghost use Rattle.moxi_flat.specs.Terms.{measured_upto, term_height, term_size};
@@ -15,7 +15,7 @@ pub(crate) fn put(counts: &mut Vec<u64>, count: u64) -> Result<(), NoMemory>
     Ok(counts.push(count)?)
 }
 
-/// The sizes of the functions' bodies.
+/// Returns the sizes of the functions' bodies.
 pub fn body_sizes(alloc: Global, functions: &List<Function>) -> Result<Vec<u64>, NoMemory>
     ensures { IfOk result (λ sizes. AreCounted (measured_upto term_size (map plain_function functions.now) (length functions.now)) sizes.items) }
 {
@@ -27,7 +27,7 @@ pub fn body_sizes(alloc: Global, functions: &List<Function>) -> Result<Vec<u64>,
     Ok(sizes)
 }
 
-/// The heights of the functions' bodies.
+/// Returns the heights of the functions' bodies.
 pub fn body_heights(alloc: Global, functions: &List<Function>) -> Result<Vec<u64>, NoMemory>
     ensures { IfOk result (λ heights. AreCounted (measured_upto term_height (map plain_function functions.now) (length functions.now)) heights.items) }
 {

@@ -31,8 +31,8 @@ fn add_part(
     parts.push(part)
 }
 
-// Adds the parts of the system of this number, whose variables have the numbers at their places, and of all instances inside
-// it, whose locals begin at `fresh`. It answers the number behind the last of these locals.
+// Adds the parts of system i and of all instances inside it. Variable v of the system has the number `places[v]`, and the
+// locals of the inner instances begin at `fresh`. Returns the number after the last of these locals.
 #[inline(never)]
 #[cycle(parts)]
 fn add_parts(
@@ -59,7 +59,8 @@ fn add_parts(
     Ok(next)
 }
 
-// Adds the parts of a subsystem and of all instances inside it. The subsystem's locals begin at `fresh`.
+// Adds the parts of a subsystem and of all instances inside it. The subsystem's locals begin at `fresh`. Returns the number
+// after the last of these locals.
 #[inline(never)]
 #[cycle(parts)]
 fn add_inside(
@@ -86,8 +87,8 @@ fn add_inside(
     add_parts(alloc, systems, &inside, subsystem.system, next, parts)
 }
 
-// The checked system has as many variables as the check, its formulas and those of all systems are over their variables, and the
-// numbers of all variables are below 2^32 where the system isn't too large. This function does nothing.
+// Proves that the checked system has as many variables as the check, and that the formulas of all systems are over their
+// variables. If the system is not too large, all variables have numbers below 2^32.
 fn script_is_over_variables(script: &Script)
     requires small { is_too_large (plain_script script.now) ≡ false }
     ensures whole { ∥ IsWhole (plain_script script.now) ∥₁ }
@@ -102,7 +103,7 @@ fn script_is_over_variables(script: &Script)
     flat_systems_are_small();
 }
 
-// The parts of the flat system of a script that isn't too large.
+// The parts of the flat system of a script that is not too large.
 pub(crate) fn flat_parts(alloc: Global, script: &Script) -> Result<Parts, NoMemory>
     requires small { is_too_large (plain_script script.now) ≡ false }
     ensures { IfOk result (λ parts. map plain_part parts ≡ (flat_of (plain_script script.now)).parts) }

@@ -1,4 +1,6 @@
-//! The flat system of a script: its size, height and nesting, counted without writing anything out.
+//! Builds the flat system of a script.
+//!
+//! Its size, height and nesting are counted first, without building anything.
 #![tactic(auto)]
 
 mod checks;

@@ -1,4 +1,4 @@
-// How large the system is that a script's check instantiates, and whether it is too large.
+// The measures of the system that a script's check instantiates, and whether it is too large.
 ghost use Rattle.std.specs.Prelude.{◌≡◌, ◌<◌, ◌≤◌, ◌||◌, nat_lt, length, IfOk};
 ghost use Rattle.moxi_flat.specs.declared.limits.TheConstants as limits;
 ghost use Rattle.digraph.specs.Graph.{IsSorted};
@@ -20,7 +20,9 @@ use moxi_scripts::{Script, spelled_scripts_are_whole};
 use std::alloc::Global;
 use text_core::{List, NoMemory};
 
-/// The size, the height and the nesting of the system that a script's check instantiates; `MOST` stands for whatever is greater.
+/// The size, the height and the nesting of the system that a script's check instantiates.
+///
+/// A greater number is given as `MOST`.
 #[derive(Clone, Copy)]
 pub struct Measures {
     pub size: u64,
@@ -28,14 +30,14 @@ pub struct Measures {
     pub nesting: u64,
 }
 
-// Forms spell the script, so that it is whole. This function does nothing.
+// Proves that the script is whole, since forms spell it.
 pub(crate) fn script_is_whole(script: &Script)
     ensures { ∥ IsWhole (plain_script script.now) ∥₁ }
 {
     spelled_scripts_are_whole();
 }
 
-// The systems of a script have an order, and the checked one is among them. This function does nothing.
+// Proves that the systems of a script have ranks, and that the checked system is one of them.
 pub(crate) fn script_is_ranked(script: &Script)
     ensures ranked { ∥ AreRanked (plain_script script.now).systems ∥₁ }
     ensures there { script.now.check.system < length (plain_script script.now).systems }
@@ -46,7 +48,7 @@ pub(crate) fn script_is_ranked(script: &Script)
     systems_are_over_variables();
 }
 
-// What is counted of the checked system.
+// The count of the checked system.
 fn amount_of(
     alloc: Global,
     measure: Measure,
@@ -105,7 +107,9 @@ fn nesting_of(alloc: Global, script: &Script, order: &List<usize>) -> Result<u64
     Ok(nesting)
 }
 
-/// The measures of the system that the script's check instantiates. Nothing is written out, so that the time is linear in the script.
+/// Returns the measures of the system that the script's check instantiates.
+///
+/// The system is not built, so the time is linear in the script.
 pub fn measures_of(alloc: Global, script: &Script) -> Result<Measures, NoMemory>
     ensures size { IfOk result (λ m. m.size ≡ capped (script_size (plain_script script.now))) }
     ensures height { IfOk result (λ m. m.height ≡ capped (script_height (plain_script script.now))) }
@@ -129,7 +133,7 @@ fn passes(measures: Measures) -> bool
     measures.size > LARGEST || measures.height > HIGHEST || measures.nesting > DEEPEST
 }
 
-/// Is the system that the script's check instantiates larger, higher or deeper than the limits?
+/// Returns whether the system that the script's check instantiates is above a limit of size, height or nesting.
 pub fn is_too_large(alloc: Global, script: &Script) -> Result<bool, NoMemory>
     ensures { IfOk result (λ large. large ≡ is_too_large (plain_script script.now)) }
 {

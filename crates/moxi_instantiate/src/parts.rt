@@ -23,7 +23,7 @@ pub struct Part {
 /// The formulas of all instances, in preorder.
 pub type Parts = List<Part>;
 
-/// The formulas of an instance of a system, whose variables have the numbers at their places.
+/// Returns the formulas of an instance of a system, in which variable v has the number `places[v]`.
 pub fn part_of(alloc: Global, places: &[u32], system: &System) -> Result<Part, NoMemory>
     ensures { IfOk result (λ part. plain_part part ≡ part_of (number_in places.now) (plain_system system.now)) }
 {
@@ -50,7 +50,7 @@ fn own_part(system: System) -> Part
     Part { init, trans, inv }
 }
 
-// The one part of a system in which no other stands; its formulas aren't copied.
+// The only part of a system without subsystems. Its formulas are moved, not copied.
 pub(crate) fn own_parts(alloc: Global, system: System) -> Result<Parts, NoMemory>
     ensures { IfOk result (λ parts. map plain_part parts ≡ own_part (plain_system system) ∷ []) }
 {
@@ -65,7 +65,9 @@ fn put_place(places: &mut Vec<u32>, place: u32) -> Result<(), NoMemory>
     Ok(places.push(place)?)
 }
 
-/// The places of the variables of an instance: inputs and outputs have those of their actuals, and so many locals begin at `fresh`.
+/// Returns the numbers of the variables of an instance.
+///
+/// Inputs and outputs have those of their actuals. This many locals have numbers from `fresh` on.
 pub fn places_inside(
     alloc: Global,
     places: &[u32],

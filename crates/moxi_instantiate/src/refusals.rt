@@ -19,7 +19,8 @@ use name_maps::NameSet;
 use std::alloc::Global;
 use text_core::{End, Kind, NoMemory, Refusal};
 
-/// The variables of the flat system: the check's under the check's names, and the locals of all instances under dotted names.
+/// Returns the variables of the flat system: the check's under the check's names, then the locals of all instances under
+/// dotted names.
 pub fn flat_variables(alloc: Global, script: &Script) -> Result<Variables, NoMemory>
     ensures { IfOk result (λ variables. variables ≡ (flat_of (plain_script script.now)).variables) }
 {
@@ -41,8 +42,8 @@ fn has_name_twice(alloc: Global, variables: &Variables) -> Result<bool, NoMemory
     Ok(false)
 }
 
-// Does no system stand inside the checked one? The variables of the flat system are then the check's, and no two of these have one
-// name in a script.
+// Whether the checked system has no subsystems. The variables of the flat system are then the check's, whose names are
+// distinct in a script.
 fn is_single_system(script: &Script) -> bool
     ensures single { result ≡ nat_eq (length (system_at (plain_script script.now).systems script.now.check.system).subsystems) 0 }
     ensures names { result ≡ true → has_name_twice (plain_script script.now) ≡ false }
@@ -54,7 +55,7 @@ fn is_single_system(script: &Script) -> bool
     checked.subsystems.len() == 0
 }
 
-// Have two variables of the flat system, which these are, one name? They are looked through only where instances bring some of them.
+// Whether two of the flat system's variables have the same name. They are compared only where instances add some of them.
 fn script_has_name_twice(
     alloc: Global,
     script: &Script,
@@ -78,8 +79,9 @@ fn refused(kind: u8, script: &Script) -> End
     })
 }
 
-/// The variables of the flat system, where a script has one. It is refused at the check: with `M15` where it is too large, before
-/// anything of it is written out, and else with `M9` where two variables have one name.
+/// Returns the variables of the flat system, or the refusal of the script at its check.
+///
+/// `M15`: the flat system is too large, which is tested before any of it is built. `M9`: two variables have the same name.
 pub fn accepted_variables(alloc: Global, script: &Script) -> Result<Variables, End>
     ensures variables { IfOk result (λ variables. variables ≡ (flat_of (plain_script script.now)).variables) }
     ensures accepted { IfOk result (λ _. flat_refusal (plain_script script.now) ≡ None) }

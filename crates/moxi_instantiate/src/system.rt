@@ -26,11 +26,12 @@ use std::alloc::Global;
 use std::marker::Model;
 use text_core::{End, NoMemory};
 
-/// Why a script has no flat system.
+/// The reason why a script has no flat system.
 pub type InstEnd = End;
 
-/// The flat system of a script: its variables, one part for each system instance, and the check's formulas and queries. Formulas
-/// are over the numbers of the variables and call the functions of the scope.
+/// The flat system of a script: its variables, one part for each system instance, and the check's formulas and queries.
+///
+/// Formulas refer to variables by number, and call the functions of the scope.
 #[derive(Drop)]
 pub struct FlatSystem<'a> {
     scope: &'a Scope,
@@ -55,14 +56,16 @@ impl<'a> Model for FlatSystem<'a> {
 }
 
 impl<'a> FlatSystem<'a> {
-    /// What the script declares.
+    /// Returns the declarations of the script.
     pub fn scope(&self) -> &Scope
         ensures { result.now ≡ self.now.scope }
     {
         self.scope
     }
 
-    /// The variables: the check's inputs, outputs and locals under the check's names, and then the locals of all instances in
+    /// Returns the variables.
+    ///
+    /// First come the check's inputs, outputs and locals under the check's names, then the locals of all instances in
     /// preorder under dotted names.
     pub fn variables(&self) -> &Variables
         ensures { result.now ≡ self.now.variables }
@@ -70,50 +73,50 @@ impl<'a> FlatSystem<'a> {
         &self.variables
     }
 
-    /// The formulas of each instance, in preorder.
+    /// Returns the formulas of each instance, in preorder.
     pub fn parts(&self) -> &Parts
         ensures { map plain_part result.now ≡ self.now.parts }
     {
         &self.parts
     }
 
-    /// The assumptions of the check.
+    /// Returns the assumptions of the check.
     pub fn assumptions(&self) -> &Formulas
         ensures { map plain_formula result.now ≡ self.now.assumptions }
     {
         &self.check.assumptions
     }
 
-    /// The current conditions of the check.
+    /// Returns the current conditions of the check.
     pub fn currents(&self) -> &Formulas
         ensures { map plain_formula result.now ≡ self.now.currents }
     {
         &self.check.currents
     }
 
-    /// The reachable formulas of the check.
+    /// Returns the reachable formulas of the check.
     pub fn reachables(&self) -> &Formulas
         ensures { map plain_formula result.now ≡ self.now.reachables }
     {
         &self.check.reachables
     }
 
-    /// The queries of the check.
+    /// Returns the queries of the check.
     pub fn queries(&self) -> &Queries
         ensures { result.now ≡ self.now.queries }
     {
         &self.check.queries
     }
 
-    /// It is the flat system of a whole script that isn't refused; this function does nothing.
+    /// Proves that this is the flat system of a whole script that is not refused.
     pub fn is_instance(&self)
         ensures { ∥ IsInstance self.now ∥₁ }
     {
-        // This use of a field brings the invariant.
+        // Reading a field brings the invariant into scope.
         let _ = &self.parts;
     }
 
-    /// Its variables have sorts of the scope, and its formulas are of truth values over them; this function does nothing.
+    /// Proves that the variables have sorts of the scope, and that the formulas are truth values over them.
     pub fn is_sorted(&self)
         ensures { ∥ IsSortedFlat self.now ∥₁ }
     {
@@ -121,8 +124,10 @@ impl<'a> FlatSystem<'a> {
         flat_systems_are_sorted();
     }
 
-    /// Its size and its height are within the limits, variables and parts together are no more than its size may be, and its
-    /// variables have names of their own; this function does nothing.
+    /// Proves that the flat system is within the limits.
+    ///
+    /// Its size and its height are, and variables and parts together are at most as many as the greatest size. The names of
+    /// its variables are distinct.
     pub fn is_within_limits(&self)
         ensures size { flat_size self.now ≤ limits.LARGEST }
         ensures height { flat_height self.now ≤ limits.HIGHEST }
@@ -135,9 +140,10 @@ impl<'a> FlatSystem<'a> {
     }
 }
 
-/// The flat system of a script, in time and memory linear in its size. Refused at the check: with `M15` where the size is above
-/// 2,000,000, the height above 4,000 or the nesting above 1,000, before anything is written out, and else with `M9` where two
-/// variables have one name.
+/// Builds the flat system of a script, in time and memory linear in its size.
+///
+/// A script is refused at its check. `M15`: the size is above 2,000,000, the height above 4,000 or the nesting above 1,000,
+/// which is tested before anything is built. `M9`: two variables have the same name.
 pub fn instantiate<'a>(alloc: Global, script: &'a Script) -> Result<FlatSystem<'a>, InstEnd>
     ensures flat { IfOk result (λ f. f ≡ flat_of (plain_script script.now)) }
     ensures accepted { IfOk result (λ _. flat_refusal (plain_script script.now) ≡ None) }
@@ -154,8 +160,10 @@ pub fn instantiate<'a>(alloc: Global, script: &'a Script) -> Result<FlatSystem<'
     })
 }
 
-/// The flat system of the script of this scope, this system and this check, of which is known that it has one and that no system
-/// stands in this one: nothing is counted, and the system's formulas become those of the one part as they are.
+/// Builds the flat system of a script with this scope, this only system and this check.
+///
+/// The script is known to have a flat system, and the system has no subsystems. So nothing is counted, and the system's
+/// formulas are moved into the only part.
 pub fn flat_of_single<'a>(
     alloc: Global,
     scope: &'a Scope,

@@ -12,7 +12,7 @@ use moxi_scripts::{Subsystem, System, Systems};
 use std::alloc::Global;
 use text_core::{List, NoMemory};
 
-/// What is counted of a system.
+/// A measure of a system.
 #[derive(Clone, Copy)]
 pub enum Measure {
     Size,
@@ -108,7 +108,7 @@ fn graph_of(alloc: Global, systems: &Systems) -> Result<Graph, NoMemory>
     Ok(graph)
 }
 
-/// An order of the systems in which each stands after those of its subsystems.
+/// Returns an order of the systems in which each system follows the systems of its subsystems.
 pub fn order_of(alloc: Global, systems: &Systems) -> Result<List<usize>, NoMemory>
     requires { ∥ AreRanked (map plain_system systems.now) ∥₁ }
     ensures { IfOk result (IsSorted (links_of (map plain_system systems.now))) }
@@ -120,7 +120,9 @@ pub fn order_of(alloc: Global, systems: &Systems) -> Result<List<usize>, NoMemor
     }
 }
 
-/// What is counted of each system, given the sizes or heights of the functions' bodies.
+/// Returns the measure of each system, given the sizes or heights of the functions' bodies.
+///
+/// A greater number than `MOST` is given as `MOST`.
 pub fn amounts(
     alloc: Global,
     measure: Measure,

@@ -30,7 +30,9 @@ fn operator_size(op: TermOp, n: usize) -> u64
     }
 }
 
-/// The size of a term whose calls are written out, given the sizes of the functions' bodies; `MOST` where it is greater.
+/// Returns the size of a term with its calls expanded, given the sizes of the functions' bodies.
+///
+/// It is `MOST` where the size is greater.
 #[cycle(size)]
 #[tactic(auto, using(crate::proofs::Capping::cap_sum))]
 pub fn term_size(sizes: &[u64], term: &Term) -> u64
@@ -57,7 +59,9 @@ fn terms_size(sizes: &[u64], terms: &[Term]) -> u64
     size
 }
 
-/// The height of a term whose calls are written out, given the heights of the functions' bodies; `MOST` where it is greater.
+/// Returns the height of a term with its calls expanded, given the heights of the functions' bodies.
+///
+/// It is `MOST` where the height is greater.
 #[cycle(height)]
 #[tactic(auto, using(crate::proofs::Capping::cap_max))]
 pub fn term_height(heights: &[u64], term: &Term) -> u64

@@ -19,7 +19,7 @@ fn append(bytes: &mut Vec<u8>, more: &[u8]) -> Result<(), NoMemory>
 fn joined(alloc: Global, path: &[u8], name: &[u8]) -> Result<Name, NoMemory>
     ensures { IfOk result (λ joined. joined ≡ path.now ++ name.now) }
 {
-    // The names of the check itself stand behind no path.
+    // The names of the check itself have no path.
     if path.is_empty() {
         return Name::of(alloc, name);
     }
@@ -69,7 +69,9 @@ pub(crate) fn own_variables(alloc: Global, check: &Check) -> Result<Variables, N
     Ok(all)
 }
 
-/// Adds the locals of all instances inside the system of this number.
+/// Appends the locals of all instances inside the system with this number.
+///
+/// Their names are dotted, after the given path.
 #[inline(never)]
 #[cycle(locals)]
 pub fn add_locals(
@@ -90,7 +92,7 @@ pub fn add_locals(
     Ok(())
 }
 
-// Adds the locals of a subsystem and of all instances inside it.
+// Appends the locals of a subsystem and of all instances inside it.
 #[inline(never)]
 #[cycle(locals)]
 fn add_subsystem(

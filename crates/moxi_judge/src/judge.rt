@@ -51,7 +51,7 @@ fn step_failing(
     )
 }
 
-// The verdict on the steps, one after another.
+// The verdict on the steps, in order.
 fn judge_steps(
     alloc: Global,
     system: &FlatSystem<'_>,
@@ -65,7 +65,7 @@ fn judge_steps(
     ensures { IfOk result (λ v. v ≡ judged_by_parts system.now query.now (length trace.now - 1) (trace_of trace.now) 0 (length trace.now)) }
 {
     let last = trace.len() - 1;
-    // Which of the query's reachable formulas were true at a step before, where it has several.
+    // For each of the query's reachable formulas, if it has several, whether it was true at an earlier step.
     let mut marks = vec![in alloc; false; query.reachables.len()]?;
     for step in 0..last {
         if let Some(clause) = step_failing(alloc, system, query, trace, step, &marks)? {
@@ -79,11 +79,15 @@ fn judge_steps(
     }
 }
 
-/// The verdict on a trace and the query number q of the script's check, counted from 0: Yes exactly where the trace meets the query
-/// at its last step (MoXI, SPIN 2024), else the earliest step with its first failing clause of `InitFails`, `TransFails`,
-/// `InvarFails`, `AssumptionFails`, `CurrentFails` and `NotBroken`. A transition belongs to the step to which it leads. The system is
-/// the one that `instantiate` gave for the script. The trace has a value of each of its variables: the hidden ones, those of the
-/// locals of subsystems, stand behind the check's. No formula of a part is evaluated twice at a step.
+/// Judges a trace against query q of the script's check, counted from 0.
+///
+/// The verdict is Yes exactly where the trace meets the query at its last step (MoXI, SPIN 2024). Otherwise it is the
+/// earliest failing step with its first failing clause. The clauses are tested in the order `InitFails`, `TransFails`,
+/// `InvarFails`, `AssumptionFails`, `CurrentFails`, `NotBroken`. A transition belongs to the step that it leads to.
+///
+/// The system is the one that `instantiate` returned for the script. The trace has a value of each of its variables. The
+/// hidden variables, which are the locals of subsystems, come after the check's. No formula of a part is evaluated twice at
+/// a step.
 pub fn judge_moxi(
     alloc: Global,
     script: &Script,

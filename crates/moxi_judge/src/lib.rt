@@ -1,4 +1,4 @@
-//! The judge of traces of MoXI scripts.
+//! Judges traces of MoXI scripts.
 #![tactic(auto)]
 
 mod judge;

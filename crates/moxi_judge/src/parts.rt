@@ -1,4 +1,4 @@
-// What the parts of a flat system ask of a step.
+// The tests of the parts of a flat system at a step.
 ghost use Rattle.std.specs.Prelude.{◌≡◌, ◌<◌, length, map, IfOk};
 ghost use Rattle.std.specs.List.{AllByRecursion, list_all};
 ghost use Rattle.moxi_terms.specs.Value.{at};
@@ -15,7 +15,7 @@ use moxi_terms::{Env, Term};
 use std::alloc::Global;
 use text_core::{Clause, NoMemory};
 
-/// Which formula of a part.
+/// A formula of a part.
 #[derive(Clone, Copy)]
 pub(crate) enum PartFormula {
     Init,
@@ -35,7 +35,7 @@ impl PartFormula {
     }
 }
 
-// Is this formula of each of the parts true?
+// Whether this formula is true for each of the parts.
 fn all_true(
     alloc: Global,
     system: &FlatSystem<'_>,
@@ -98,7 +98,7 @@ fn start_failing(
     Ok(None)
 }
 
-// The first clause of the parts that fails at a step behind another.
+// The first clause of the parts that fails at a step after another.
 fn later_failing(
     alloc: Global,
     system: &FlatSystem<'_>,
@@ -119,7 +119,7 @@ fn later_failing(
     Ok(None)
 }
 
-/// The first clause of the parts that fails at this step of a trace.
+/// Returns the first clause of the parts that fails at this step of a trace.
 pub(crate) fn parts_failing(
     alloc: Global,
     system: &FlatSystem<'_>,

@@ -1,4 +1,4 @@
-// What a query of a flat system asks of a step.
+// The tests of a query of a flat system at a step.
 ghost use Rattle.std.specs.Prelude.{◌≡◌, ◌==◌, ◌<◌, ◌&&◌, ◌||◌, ℕ, Bool, length, map, true, if◌then◌else◌, IfOk, OnOk};
 ghost use Rattle.std.specs.List.{AllByRecursion, list_all, list_any};
 ghost use Rattle.moxi_terms.specs.Value.{at};
@@ -14,7 +14,7 @@ use moxi_terms::Env;
 use std::alloc::Global;
 use text_core::{Clause, NoMemory};
 
-// Are all formulas of these numbers true?
+// Whether all formulas with these numbers are true.
 fn all_true(
     alloc: Global,
     system: &FlatSystem<'_>,
@@ -55,7 +55,7 @@ fn is_assumed(
     )
 }
 
-// Current conditions are asked at step 0 alone.
+// Current conditions are tested at step 0 only.
 fn is_current(
     alloc: Global,
     system: &FlatSystem<'_>,
@@ -81,7 +81,7 @@ fn is_current(
     }
 }
 
-// Is the reachable formula of this number true now, or was it before?
+// Whether the reachable formula with this number is true now or was before.
 fn is_reached(
     alloc: Global,
     system: &FlatSystem<'_>,
@@ -101,7 +101,7 @@ fn is_reached(
     Ok(reached)
 }
 
-// Marks also those of these reachable formulas that are true now.
+// Marks those of these reachable formulas that are true now. Earlier marks stay.
 fn mark_all(
     alloc: Global,
     system: &FlatSystem<'_>,
@@ -121,7 +121,9 @@ fn mark_all(
     Ok(())
 }
 
-/// Marks also those of the query's reachable formulas that are true now, where it has several.
+/// Marks those of the query's reachable formulas that are true now, if it has several.
+///
+/// Earlier marks stay.
 pub(crate) fn mark_reached(
     alloc: Global,
     system: &FlatSystem<'_>,
@@ -144,7 +146,7 @@ pub(crate) fn mark_reached(
     }
 }
 
-// Is each of several reachable formulas true now or marked, and one or more of them true now?
+// Whether each of several reachable formulas is true now or marked, and at least one of them is true now.
 fn are_reached(
     alloc: Global,
     system: &FlatSystem<'_>,
@@ -170,7 +172,7 @@ fn are_reached(
     Ok(some)
 }
 
-// Is one of these reachable formulas true now?
+// Whether one of these reachable formulas is true now.
 fn some_reached(
     alloc: Global,
     system: &FlatSystem<'_>,
@@ -190,7 +192,8 @@ fn some_reached(
     Ok(false)
 }
 
-// Is each of these reachable formulas true now or was it before, and one or more of them true now? Marks are kept of several alone.
+// Whether each of these reachable formulas is true now or was before, and at least one of them is true now. There are marks
+// only if there are several.
 fn all_reached(
     alloc: Global,
     system: &FlatSystem<'_>,
@@ -212,7 +215,7 @@ fn all_reached(
     }
 }
 
-// Reachable formulas are asked at the last step alone.
+// Reachable formulas are tested at the last step only.
 fn ends_reached(
     alloc: Global,
     system: &FlatSystem<'_>,
@@ -236,7 +239,7 @@ fn ends_reached(
     }
 }
 
-/// Of what the query asks of a step the first clause that fails.
+/// Returns the first clause of the query that fails at a step.
 pub(crate) fn query_failing(
     alloc: Global,
     system: &FlatSystem<'_>,

@@ -1,4 +1,4 @@
-// Whether formulas are true.
+// The truth of formulas.
 ghost use Rattle.std.specs.Prelude.{◌≡◌, ◌<◌, length, map, IfOk};
 ghost use Rattle.moxi_terms.specs.Value.{at};
 ghost use Rattle.moxi_terms.specs.View.{plain};
@@ -13,7 +13,7 @@ use moxi_terms::{Datum, Env, Term, eval};
 use std::alloc::Global;
 use text_core::NoMemory;
 
-/// Is the term true, where the system's variables have these values now and later?
+/// Returns whether the term is true when the system's variables have these values now and later.
 pub(crate) fn is_true(
     alloc: Global,
     system: &FlatSystem<'_>,
@@ -32,7 +32,7 @@ pub(crate) fn is_true(
     }
 }
 
-/// Is the formula of this number true?
+/// Returns whether the formula with this number is true.
 pub(crate) fn is_true_at(
     alloc: Global,
     system: &FlatSystem<'_>,

@@ -1,5 +1,7 @@
-//! Which BTOR2 lines lay a flat MoXI system out, with the laws that the frames of such lines are the system's traces, that the lines
-//! of a system lay it out, and how many there are.
+//! Layouts: the BTOR2 lines that lay out a flat MoXI system.
+//!
+//! The laws say that the frames of such lines are the system's traces, that a system's lines lay it out, and how many
+//! there are.
 #![tactic(auto)]
 
 mod constant_laws;

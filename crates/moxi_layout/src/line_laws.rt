@@ -1,8 +1,9 @@
-// The law of the lines of a flat system; this function does nothing.
+// The law about the lines of a flat system.
 ghost use Rattle.moxi_layout.specs.LineLaws.{LinesAreWellFormed, LinesLayOut};
 
-/// The lines of a flat system lay it out: they stand in its order, and the words of their constraints, latches and bad lines are
-/// those of its formulas. They are well formed.
+/// Proves that the lines of a flat system lay it out, and are well formed.
+///
+/// They have the system's order, and the words of their constraints, latches and bad lines are those of its formulas.
 pub fn lines_lay_out()
     ensures well_formed { LinesAreWellFormed }
     ensures laid { LinesLayOut }

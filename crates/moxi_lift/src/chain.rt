@@ -13,11 +13,12 @@ use moxi_to_btor::to_btor;
 use std::alloc::Global;
 use std::marker::Model;
 
-/// Why a script has no chain: the same as why it has no flat system.
+/// The reason why a script has no chain, which is why it has no flat system.
 pub type MoxiEnd = InstEnd;
 
-/// A script with its flat system and the BTOR2 lines of that system (MoXI, SPIN 2024; BTOR2, CAV 2018). It is seen as the flat
-/// system, which the lines follow.
+/// A script with its flat system and the BTOR2 lines of that system (MoXI, SPIN 2024; BTOR2, CAV 2018).
+///
+/// Contracts see it as the flat system, which determines the lines.
 #[derive(Drop)]
 pub struct MoxiChain<'a> {
     system: FlatSystem<'a>,
@@ -41,7 +42,9 @@ impl<'a> Model for MoxiChain<'a> {
 }
 
 impl<'a> MoxiChain<'a> {
-    /// The chain of a script. It is refused exactly as the script's flat system is: with `M15` or `M9` at the check.
+    /// Builds the chain of a script.
+    ///
+    /// It has the same refusals as the script's flat system: `M15` or `M9` at the check.
     pub fn of(alloc: Global, script: &'a Script) -> Result<MoxiChain<'a>, MoxiEnd>
         ensures flat { IfOk result (λ c. c ≡ flat_of (plain_script script.now)) }
         ensures accepted { IfOk result (λ _. flat_refusal (plain_script script.now) ≡ None) }
@@ -52,14 +55,14 @@ impl<'a> MoxiChain<'a> {
         Ok(MoxiChain { system, nodes })
     }
 
-    /// The flat system of the script.
+    /// Returns the flat system of the script.
     pub fn system(&self) -> &FlatSystem<'a>
         ensures { result.now ≡ self.now }
     {
         &self.system
     }
 
-    /// The lines of the flat system.
+    /// Returns the lines of the flat system.
     pub fn nodes(&self) -> &Nodes
         ensures { result.now ≡ lines_of self.now }
     {

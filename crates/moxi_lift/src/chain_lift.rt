@@ -1,4 +1,4 @@
-// The trace for which a witness of a flat system's lines stands.
+// The trace of a witness of a flat system's lines.
 ghost use Rattle.std.specs.Prelude.{◌≡◌, ◌≤◌, List, length, IfOk, IfErr};
 ghost use Rattle.std.specs.List.{AllByRecursion};
 ghost use Rattle.text_core.specs.declared.verdict.Verdict.TheVariants.{Yes};
@@ -24,12 +24,12 @@ use moxi_terms::{Scope, Variables};
 use std::alloc::Global;
 use text_core::{Clause, NoMemory, Verdict};
 
-/// Why a witness is not lifted.
+/// The reason why a witness is not lifted.
 #[derive(Clone, Copy, Debug, PartialEq, Eq)]
 pub enum LiftEnd {
-    /// The judge says No: the earliest step whose frame fails, and the first clause that it fails.
+    /// The judge rejects the witness: the earliest step whose frame fails, and the first clause that fails there.
     No(u32, Clause),
-    /// Want of memory.
+    /// Out of memory.
     NoMemory,
 }
 
@@ -44,9 +44,10 @@ impl From<NoMemory> for LiftEnd {
     }
 }
 
-/// The trace for which a witness of a flat system's lines stands. Where the judge says No of the witness, that is the answer; else
-/// the witness is lifted: it is a trace that meets the query of the witness's bad line. The caller owes the scope and the variables of
-/// a system, lines that lay it out, and a witness for them.
+/// Lifts a witness of a flat system's lines to a trace, or returns the judge's rejection of the witness.
+///
+/// The trace meets the query of the witness's bad line. The caller must pass the scope and the variables of a system, lines
+/// that lay it out, and a witness for them.
 pub fn lift_lines(
     alloc: Global,
     scope: &Scope,
@@ -65,9 +66,10 @@ pub fn lift_lines(
     }
 }
 
-/// The trace of a script's flat system for which a witness of the chain's lines stands (MoXI, SPIN 2024; BTOR2, CAV 2018). Where the
-/// judge says No of the witness, that is the answer, with the step and the clause; each witness that it accepts is lifted. The caller
-/// owes a witness for the lines.
+/// Lifts a witness of the chain's lines to a trace of the script's flat system (MoXI, SPIN 2024; BTOR2, CAV 2018).
+///
+/// If the judge rejects the witness, it returns the step and the clause. Each witness that the judge accepts is lifted. The
+/// caller must pass a witness for the lines.
 pub fn lift_moxi(
     alloc: Global,
     chain: &MoxiChain<'_>,

@@ -1,4 +1,4 @@
-// The trace for which a witness stands.
+// The trace of an accepted witness.
 ghost use Rattle.std.specs.Prelude.{◌≡◌, length, map, IfOk};
 ghost use Rattle.std.specs.List.{AllByRecursion};
 ghost use Rattle.text_core.specs.declared.verdict.Verdict.TheVariants.{Yes};
@@ -21,7 +21,7 @@ use moxi_terms::{Scope, Variables};
 use std::alloc::Global;
 use text_core::NoMemory;
 
-// A step for each frame.
+// One step for each frame.
 fn lifted_steps(
     alloc: Global,
     scope: &Scope,
@@ -40,10 +40,11 @@ fn lifted_steps(
     Ok(trace)
 }
 
-/// The trace of a flat system for which a witness of its lines stands (MoXI, SPIN 2024; BTOR2, CAV 2018): a step for each frame, in
-/// which each variable has the value for which the word of its input stands, as it is stated or zero. The caller owes the scope and
-/// the variables of a system, lines that lay it out, and a witness for them that the judge accepts. In time and memory linear in the
-/// frames times the variables.
+/// Lifts an accepted witness of a flat system's lines to a trace (MoXI, SPIN 2024; BTOR2, CAV 2018).
+///
+/// There is one step for each frame. Each variable has the value that the word of its input encodes, and an input that is
+/// not stated is zero. The caller must pass the scope and the variables of a system, lines that lay it out, and an accepted
+/// witness for them. Time and memory are linear in the frames times the variables.
 pub fn lift_frames(
     alloc: Global,
     scope: &Scope,

@@ -1,15 +1,16 @@
-// Laws of lifts; these functions do nothing of their own.
+// Laws about lifted witnesses.
 ghost use Rattle.moxi_lift.specs.Laws.{LiftsAreDecoded, LiftsMeetQueries};
 
 use btor_witness::yes_where_accepted;
 use moxi_layout::{bads_are_queries, frames_are_traces};
 
-/// A witness is lifted to what the frames that it states are decoded to.
+/// Proves that a witness is lifted to the trace that its stated frames decode to.
 pub fn lifts_are_decoded()
     ensures { LiftsAreDecoded }
 {}
 
-/// A witness that the judge accepts is lifted to a trace that meets the query of its bad line at its last step.
+/// Proves that a witness that the judge accepts is lifted to a trace that meets the query of its bad line at
+/// the last step.
 pub fn lifts_meet_queries()
     ensures { LiftsMeetQueries }
 {

@@ -7,8 +7,8 @@ use moxi_instantiate::FlatSystem;
 use moxi_layout::{flat_sizes_are_script_sizes, lines_lay_out, lines_stay_few};
 use moxi_terms::Scope;
 
-// The places of each enumeration's constants have words, since there are no more of them than a list can hold. To know the counts is
-// all that this function does.
+// Proves that the indices of each enumeration's constants have words, since a list can't hold more of them. The function
+// only reads the lengths of the lists.
 fn have_codes(scope: &Scope)
     ensures { HaveCodes scope.now.enumerations }
 {
@@ -18,7 +18,9 @@ fn have_codes(scope: &Scope)
     }
 }
 
-/// The lines of a flat system lay it out, and are well formed; this function does nothing but know the counts of constants.
+/// Proves that the lines of a flat system lay it out, and are well formed.
+///
+/// The function only reads the numbers of constants.
 pub fn are_laid_out(system: &FlatSystem<'_>)
     ensures { ∥ IsLaidOut system.now (lines_of system.now) ∥₁ }
 {

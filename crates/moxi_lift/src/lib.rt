@@ -1,5 +1,6 @@
-//! Lifts witnesses of BTOR2 lines to traces of the flat MoXI system that the lines lay out. A chain keeps a script with its flat system
-//! and lines.
+//! Lifts witnesses of BTOR2 lines to traces of the flat MoXI system that the lines lay out.
+//!
+//! A chain holds a script's flat system with its lines.
 #![tactic(auto)]
 
 mod chain;

@@ -1,4 +1,4 @@
-// The step for which a frame of a witness stands.
+// The step of a frame of a witness.
 ghost use Rattle.std.specs.Prelude.{◌≡◌, ◌==◌, nat_lt, if◌then◌else◌, ℕ, List, length, None, IfOk};
 ghost use Rattle.std.specs.List.{AllByRecursion};
 ghost use Rattle.moxi_terms.specs.declared.data.Datum.TheVariants as datum;
@@ -17,7 +17,7 @@ use std::alloc::Global;
 use text_core::NoMemory;
 use word_core::Word;
 
-// The word that is stated for each number.
+// The stated word for each number.
 fn table_of(alloc: Global, stated: &Stateds, count: usize) -> Result<Vec<Option<Word>>, NoMemory>
     requires { AllByRecursion (IsBelow count) stated.now }
     ensures { IfOk result (λ table. TableOf stated.now count table.items) }
@@ -40,7 +40,7 @@ fn bits_of(stated: Option<Word>) -> u128
     }
 }
 
-// How many constants the enumeration has.
+// The number of constants of the enumeration.
 fn constant_count(scope: &Scope, n: u32) -> usize
     ensures { result ≡ constant_count scope.now.enumerations n }
 {
@@ -50,8 +50,8 @@ fn constant_count(scope: &Scope, n: u32) -> usize
     }
 }
 
-// The constant of this place, or the first one where there is none. A place past the numbers of 32 bits, which no constant has,
-// is answered as want of memory.
+// The constant with this index, or the first one where there is none. An index of more than 32 bits, which no constant has,
+// counts as out of memory.
 fn constant_at(scope: &Scope, n: u32, place: u128) -> Result<Datum, NoMemory>
     ensures { IfOk result (λ value. value ≡ (if nat_lt place (constant_count scope.now.enumerations n) then datum.Constant n place else datum.Constant n 0)) }
 {
@@ -64,7 +64,7 @@ fn constant_at(scope: &Scope, n: u32, place: u128) -> Result<Datum, NoMemory>
     }
 }
 
-// The value of the sort for which the stated word stands, or the word 0 where none is stated.
+// The value of the sort that the stated word encodes, or that the zero word encodes where none is stated.
 fn value_of(scope: &Scope, sort: Sort, stated: Option<Word>) -> Result<Datum, NoMemory>
     requires { IsSort scope.now.enumerations sort }
     ensures { IfOk result (λ value. value ≡ decoded_datum scope.now.enumerations sort (stated_or stated (sort_bits scope.now.enumerations sort))) }
@@ -82,7 +82,7 @@ fn value_of(scope: &Scope, sort: Sort, stated: Option<Word>) -> Result<Datum, No
     }
 }
 
-/// The values of the variables in a frame: variable v has the one for which the word of input v stands.
+/// Returns the values of the variables in a frame: variable v has the value that the word of input v encodes.
 pub fn lifted_step(
     alloc: Global,
     scope: &Scope,

@@ -1,5 +1,7 @@
-//! The BTOR2 lines of MoXI terms and of flat systems: codes of values as words, the lines of each operator, and the laws that a
-//! term's line has the word of its value and when the constraints hold.
+//! The BTOR2 lines of MoXI terms and of flat systems.
+//!
+//! The crate defines the codes of values as words, and the lines of each operator. The laws say that a term's line has the
+//! word of its value, and when the constraints hold.
 #![tactic(auto)]
 
 mod system_laws;

@@ -1,32 +1,32 @@
-// Laws of the words of values and of the lines of terms; these functions do nothing.
+// Laws about the words of values and about the lines of terms.
 ghost use Rattle.moxi_lines.specs.TermLaws.{ChoiceWidthsAreLeast, CodesAreWords, CodesComeBack, TermsGrowQuietly, TermsHaveTheirWords, WordsComeBack};
 
-/// The width of an enumeration's words is the least one of at least 1 that holds all places.
+/// Proves that the width of an enumeration's words is the least one, at least 1, that can number all its constants.
 pub fn choice_widths_are_least()
     ensures { ChoiceWidthsAreLeast }
 {}
 
-/// The word of a value of a sort is a word of the sort's width.
+/// Proves that the word of a value of a sort is a word of the sort's width.
 pub fn codes_are_words()
     ensures { CodesAreWords }
 {}
 
-/// A value of a sort comes back from its word.
+/// Proves that decoding the word of a value of a sort returns the value.
 pub fn codes_come_back()
     ensures { CodesComeBack }
 {}
 
-/// A word of a sort's width comes back from the value that it stands for.
+/// Proves that encoding the value of a word of a sort's width returns the word.
 pub fn words_come_back()
     ensures { WordsComeBack }
 {}
 
-/// A term's lines are sorts, constants and operators alone.
+/// Proves that a term's lines are only sorts, constants and operators.
 pub fn terms_grow_quietly()
     ensures { TermsGrowQuietly }
 {}
 
-/// A term's line has the word of the term's value, in each row of words that meets the lines.
+/// Proves that a term's line has the word of the term's value, in each row of words that satisfies the lines.
 pub fn terms_have_their_words()
     ensures { TermsHaveTheirWords }
 {}

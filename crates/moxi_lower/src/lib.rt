@@ -1,4 +1,4 @@
-//! Lowers traces of flat MoXI systems to witnesses of the BTOR2 lines that lay the systems out.
+//! Lowers traces of flat MoXI systems to witnesses of the BTOR2 lines that lay out the systems.
 #![tactic(auto)]
 
 mod laws;

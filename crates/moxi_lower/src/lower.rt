@@ -1,4 +1,4 @@
-// The witness that states a trace.
+// The witness of a trace.
 ghost use Rattle.std.specs.Prelude.{◌≡◌, ◌<◌, ◌^◌, length, map, None, IfOk};
 ghost use Rattle.std.specs.List.{AllByRecursion};
 ghost use Rattle.moxi_terms.specs.Sorts.{Fit};
@@ -16,7 +16,7 @@ use std::alloc::Global;
 use text_core::NoMemory;
 use word_core::Word;
 
-// How many constants the enumeration has.
+// The number of constants of the enumeration.
 fn constant_count(scope: &Scope, n: u32) -> usize
     ensures { result ≡ constant_count scope.now.enumerations n }
 {
@@ -26,7 +26,7 @@ fn constant_count(scope: &Scope, n: u32) -> usize
     }
 }
 
-// The place of a constant as a word, where its enumeration has so many.
+// The word of a constant's index, in an enumeration with this many constants.
 fn choice_code(count: usize, i: u32) -> Word
     requires { i < count }
     ensures { result ≡ record { width = choice_width count; bits = i } }
@@ -72,7 +72,7 @@ fn lowered_step(
     })
 }
 
-// A frame for each step.
+// One frame for each step.
 fn lowered_steps(
     alloc: Global,
     scope: &Scope,
@@ -91,10 +91,12 @@ fn lowered_steps(
     Ok(frames)
 }
 
-/// The witness that states a trace of a flat system, up to the bad line number j (MoXI, SPIN 2024; BTOR2, CAV 2018): a frame for each
-/// step, with the word of each variable's value as that of its input, and with no state. The laws of this crate say what it is worth:
-/// it is lifted to the trace again, and the judge accepts it exactly where the trace meets query j at its last step. The caller owes
-/// steps that have a value of its sort for each variable. In time and memory linear in the steps times the variables.
+/// Lowers a trace of a flat system to a witness for bad line j (MoXI, SPIN 2024; BTOR2, CAV 2018).
+///
+/// There is one frame for each step, in which the word of each variable's value is the word of its input. No state is
+/// stated. The laws of this crate prove that the witness is lifted to the same trace. They also prove that the judge
+/// accepts it exactly where the trace meets query j at its last step. The caller must pass steps with a value of its sort
+/// for each variable. Time and memory are linear in the steps times the variables.
 pub fn lower_trace(
     alloc: Global,
     system: &FlatSystem<'_>,

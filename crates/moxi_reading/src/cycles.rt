@@ -1,4 +1,4 @@
-// Subsystems that contain the system in which they stand.
+// Subsystems whose system contains the system that they are part of.
 ghost use Rattle.std.specs.Prelude.{◌≡◌, ◌+◌, ◌<◌, ◌≤◌, ◌^◌, ◌++◌, Bool, IfOk, OnOk, length, map, true};
 ghost use Rattle.digraph.specs.Graph.{is_graph};
 ghost use Rattle.moxi_sexpr.specs.Tree.{plain_forms};
@@ -20,7 +20,7 @@ use std::alloc::Global;
 use text_core::kinds::moxi;
 use text_core::{Kind, List, NoMemory, Place, Refusal};
 
-// How many subsystems there are.
+// The number of subsystems.
 fn count_uses(systems: &[ReadSystem]) -> Result<usize, NoMemory>
     ensures { IfOk result (λ n. n ≡ count_uses (map plain_reading systems.now)) }
 {
@@ -34,7 +34,7 @@ fn count_uses(systems: &[ReadSystem]) -> Result<usize, NoMemory>
     Ok(count)
 }
 
-// The node of a system, where it is there.
+// The node of a system, if it exists.
 fn ends_at(
     alloc: Global,
     uses: usize,
@@ -57,7 +57,7 @@ fn ends_at(
     }
 }
 
-// To which nodes the subsystems of a system lead.
+// Adds the edges of the nodes of a system's subsystems.
 fn add_use_rows(
     alloc: Global,
     names: &NameSet,
@@ -93,7 +93,7 @@ fn add_all_use_rows(
     Ok(())
 }
 
-// So many nodes from this one on.
+// This many nodes, starting with this one.
 #[tactic(auto, using(moxi_scripts::proofs::CycleLaws::nodes_step, moxi_scripts::proofs::CycleLaws::nodes_end))]
 fn nodes_from(alloc: Global, start: usize, count: usize) -> Result<List<usize>, NoMemory>
     requires { start + count < 2 ^ 64 }
@@ -106,7 +106,7 @@ fn nodes_from(alloc: Global, start: usize, count: usize) -> Result<List<usize>, 
     Ok(nodes)
 }
 
-// To which nodes the systems lead.
+// Adds the edges of the nodes of systems.
 fn add_system_rows(alloc: Global, systems: &[ReadSystem], graph: &mut Graph) -> Result<(), NoMemory>
     requires { count_uses (map plain_reading systems.now) < 2 ^ 64 }
     ensures { OnOk result (graph.new ≡ graph.old ++ system_rows 0 (map plain_reading systems.now)) }
@@ -121,7 +121,7 @@ fn add_system_rows(alloc: Global, systems: &[ReadSystem], graph: &mut Graph) -> 
     Ok(())
 }
 
-// Subsystems and systems as a graph.
+// The graph of subsystems and systems.
 fn use_graph(alloc: Global, names: &NameSet, systems: &[ReadSystem]) -> Result<Graph, NoMemory>
     ensures graph { IfOk result (λ g. g ≡ use_graph (map plain_reading systems.now) names.now) }
     ensures few { OnOk result (count_uses (map plain_reading systems.now) + length systems.now < 2 ^ 64) }
@@ -137,7 +137,7 @@ fn use_graph(alloc: Global, names: &NameSet, systems: &[ReadSystem]) -> Result<G
     Ok(graph)
 }
 
-// Was something found that a test which fails so doesn't precede?
+// Whether a test of this kind at this place would not precede the failing test found so far.
 #[tactic(auto, using(crate::proofs::FoundLaws::comes_later))]
 fn comes_later(found: &Option<Refusal>, kind: Kind, place: Place) -> bool
     ensures { result ≡ true → (b : Bool) → also found.now (fails_with b kind place) ≡ found.now }
@@ -147,8 +147,8 @@ fn comes_later(found: &Option<Refusal>, kind: Kind, place: Place) -> bool
     first == *found
 }
 
-// The test of a subsystem, which is this node. It searches only where the ranks leave open whether the node leads to itself and
-// where the answer counts. Subsystems are tested in the order of their places, so the first search that finds a cycle is the last.
+// Tests a subsystem, which is this node. It searches only if the result matters, and the ranks leave open whether the node
+// leads to itself. Subsystems are tested in the order of their places, so the first search that finds a cycle is the last.
 fn test_use(
     alloc: Global,
     graph: &Graph,
@@ -173,7 +173,7 @@ fn test_use(
     Ok(())
 }
 
-// The tests of the subsystems of a system, which are nodes from this one on.
+// Tests the subsystems of a system, whose nodes start with this one.
 fn test_uses(
     alloc: Global,
     graph: &Graph,
@@ -194,7 +194,7 @@ fn test_uses(
     Ok(())
 }
 
-// The tests of all subsystems.
+// Tests all subsystems.
 fn test_all_uses(
     alloc: Global,
     graph: &Graph,
@@ -216,7 +216,7 @@ fn test_all_uses(
     Ok(())
 }
 
-/// The tests of subsystems that contain the system in which they stand.
+/// Tests that no subsystem's system contains the system that the subsystem is part of.
 pub fn test_cycles(
     alloc: Global,
     names: &NameSet,
@@ -231,8 +231,9 @@ pub fn test_cycles(
     Ok(())
 }
 
-/// Reads the commands of a script whose text ends at `end`, and makes all of its tests: of those that fail, the one with the
-/// least place is found, and at one place the one with the least number.
+/// Reads the commands of a script whose text ends at `end`, and performs all of its tests.
+///
+/// It records the failing test with the least place, and at one place the one with the least number.
 pub fn read_whole_script(
     alloc: Global,
     forms: &[Form],

@@ -1,4 +1,4 @@
-//! The script that forms of MoXI spell, or its first failing test.
+//! Reads the script that MoXI forms spell, or returns its first failing test.
 #![tactic(auto)]
 
 mod cycles;

@@ -1,4 +1,4 @@
-// The tests that rest on the whole script.
+// The tests that need the whole script.
 ghost use Rattle.std.specs.Prelude.{◌≡◌, ◌==◌, ◌+◌, Some, length, map};
 ghost use Rattle.std.specs.Option.{option_map};
 ghost use Rattle.moxi_declarations.specs.Views.{plain_check_reading, plain_draft, plain_reading};
@@ -24,7 +24,7 @@ fn is_taken(scope: &Scope, names: &NameSet, name: &[u8]) -> bool
     scope.is_term_name(name) || names.place(name).is_some()
 }
 
-// The tests of variables that have the name of a constant or a function.
+// Tests that no variable has the name of a constant or a function.
 fn test_taken(scope: &Scope, names: &NameSet, variables: &Entries, found: &mut Option<Refusal>)
     ensures { found.new ≡ also found.old (taken_failures scope.now names.now variables.now) }
 {
@@ -39,7 +39,7 @@ fn test_taken(scope: &Scope, names: &NameSet, variables: &Entries, found: &mut O
     }
 }
 
-// The lists of the system of this number.
+// The lists of the system with this number.
 #[tactic(auto, using(crate::proofs::LinkLaws::lists_there, crate::proofs::LinkLaws::lists_missing))]
 fn lists_at<'a>(systems: &'a [ReadSystem], j: usize) -> Option<&'a Lists>
     ensures { lists_now result ≡ lists_at (map plain_reading systems.now) j }
@@ -66,7 +66,7 @@ fn sort_at(l: &Lists, i: usize) -> Option<Sort>
     None
 }
 
-// The tests of the sorts of actuals.
+// Tests the sorts of actuals.
 fn test_actuals(lists: &Lists, actuals: &List<Actual>, found: &mut Option<Refusal>)
     ensures { found.new ≡ also found.old (actuals_clash lists.now 0 actuals.now) }
 {
@@ -83,7 +83,7 @@ fn count_fits(l: &Lists, count: usize) -> bool
     inputs <= count && count - inputs == l.outputs.entries.len()
 }
 
-// The tests of what is handed to a subsystem.
+// Tests the actuals of a subsystem.
 #[tactic(auto, using(moxi_attributes::specs::laws::Collecting::also_none))]
 fn test_fit(u: &Use, lists: Option<&Lists>, found: &mut Option<Refusal>)
     ensures { found.new ≡ also found.old (actuals_failures u.now (lists_now lists.entry)) }
@@ -103,7 +103,7 @@ fn test_fit(u: &Use, lists: Option<&Lists>, found: &mut Option<Refusal>)
     }
 }
 
-// The tests of a subsystem.
+// Tests a subsystem.
 fn test_use(systems: &[ReadSystem], names: &NameSet, u: &Use, found: &mut Option<Refusal>)
     ensures { found.new ≡ also found.old (use_failures (map plain_reading systems.now) names.now u.now) }
 {
@@ -113,7 +113,7 @@ fn test_use(systems: &[ReadSystem], names: &NameSet, u: &Use, found: &mut Option
     }
 }
 
-// The tests of the subsystems of a system.
+// Tests the subsystems of a system.
 fn test_uses(systems: &[ReadSystem], names: &NameSet, uses: &List<Use>, found: &mut Option<Refusal>)
     ensures { found.new ≡ also found.old (uses_failures (map plain_reading systems.now) names.now uses.now) }
 {
@@ -122,7 +122,7 @@ fn test_uses(systems: &[ReadSystem], names: &NameSet, uses: &List<Use>, found: &
     }
 }
 
-// The tests of the subsystems of these among all systems.
+// Tests the subsystems of these systems, among all systems.
 fn test_systems(
     systems: &[ReadSystem],
     names: &NameSet,
@@ -136,7 +136,7 @@ fn test_systems(
     }
 }
 
-// The tests of the subsystems of all systems, also of those whose names are taken.
+// Tests the subsystems of all systems, including those whose names were already in use.
 #[tactic(auto, using(moxi_attributes::specs::laws::Collecting::also_append))]
 fn test_all_systems(draft: &Draft, found: &mut Option<Refusal>)
     ensures { found.new ≡ also found.old (all_systems_failures (plain_draft draft.now)) }
@@ -157,7 +157,7 @@ fn same_known(a: Option<Sort>, b: Option<Sort>) -> bool
     }
 }
 
-// As many entries, each of the same sort?
+// Whether there are as many entries in both, with the same sorts.
 #[tactic(auto, using(crate::proofs::LinkLaws::fit_lengths, crate::proofs::LinkLaws::fit_end, crate::proofs::LinkLaws::fit_step))]
 fn entries_fit(a: &Entries, b: &Entries) -> bool
     ensures { result ≡ entries_fit a.now b.now }
@@ -173,7 +173,7 @@ fn entries_fit(a: &Entries, b: &Entries) -> bool
     true
 }
 
-// The test of a list of a check.
+// Tests a list of a check.
 fn test_list(a: &DeclaredList, b: &DeclaredList, p: Place, found: &mut Option<Refusal>)
     ensures { found.new ≡ also found.old (list_failures a.now b.now p) }
 {
@@ -181,7 +181,7 @@ fn test_list(a: &DeclaredList, b: &DeclaredList, p: Place, found: &mut Option<Re
     fail_if(found, clash, moxi::CHECK_COUNT, p);
 }
 
-// The tests of the lists of a check.
+// Tests the lists of a check.
 #[tactic(auto, using(moxi_attributes::specs::laws::Collecting::also_append, moxi_attributes::specs::laws::Collecting::also_none))]
 fn test_lists(lists: Option<&Lists>, c: &Lists, p: ListPlaces, found: &mut Option<Refusal>)
     ensures { found.new ≡ also found.old (lists_failures (lists_now lists.entry) c.now p) }
@@ -196,7 +196,7 @@ fn test_lists(lists: Option<&Lists>, c: &Lists, p: ListPlaces, found: &mut Optio
     }
 }
 
-// The tests of a check.
+// Tests a check.
 fn test_check(systems: &[ReadSystem], names: &NameSet, c: &ReadCheck, found: &mut Option<Refusal>)
     ensures { found.new ≡ also found.old (check_failures (map plain_reading systems.now) names.now (Some (plain_check_reading c.now))) }
 {
@@ -221,8 +221,9 @@ fn test_check_of(
     }
 }
 
-/// The tests of what is read that rest on the whole script, whose text ends at `end`: all but those of subsystems that stand
-/// on a cycle.
+/// Performs the tests that need the whole script, whose text ends at `end`.
+///
+/// The tests of cycles of subsystems are not among them.
 #[tactic(auto, using(moxi_attributes::specs::laws::Collecting::also_append))]
 pub fn test_links(draft: &Draft, end: Place, found: &mut Option<Refusal>)
     ensures { found.new ≡ also found.old (links_failures (plain_draft draft.now) end) }

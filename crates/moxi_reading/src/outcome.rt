@@ -1,6 +1,6 @@
-// Why forms spell no script.
+// The reason why forms spell no script.
 
 use text_core::End;
 
-/// Why forms spell no script: a test fails, or memory runs out.
+/// The reason why forms spell no script: a test fails, or memory runs out.
 pub type ScriptEnd = End;

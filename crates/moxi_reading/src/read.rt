@@ -28,7 +28,7 @@ use std::alloc::Global;
 use std::mem::{self, drop};
 use text_core::{List, Name, NoMemory, Numbers, Place};
 
-// The number of the system of this name.
+// The number of the system with this name.
 fn number_of(names: &NameSet, name: &[u8]) -> Result<u32, NoMemory>
     ensures { IfOk result (λ n. n ≡ number_or_none (place_of names.now name.now)) }
 {
@@ -53,7 +53,7 @@ fn actual_numbers(alloc: Global, actuals: &List<Actual>) -> Result<Numbers, NoMe
     Ok(numbers)
 }
 
-// A subsystem, whose system has one of these names.
+// A subsystem, given the names of the systems.
 fn subsystem_of(alloc: Global, names: &NameSet, u: &Use) -> Result<Subsystem, NoMemory>
     ensures { IfOk result (λ s. s ≡ subsystem_of names.now u.now) }
 {
@@ -99,7 +99,7 @@ fn list_variables(alloc: Global, lists: &Lists) -> Result<ListVariables, NoMemor
     })
 }
 
-// A system with these variables and subsystems. Its terms are moved out.
+// A system with these variables and subsystems. Its terms are moved.
 fn system_with(r: ReadSystem, v: ListVariables, subsystems: Subsystems) -> System
     ensures { plain_system result ≡ record { name = r.name; inputs = v.inputs; outputs = v.outputs; locals = v.locals; init = plain r.init; trans = plain r.trans; inv = plain r.inv; subsystems = subsystems } }
 {
@@ -115,7 +115,7 @@ fn system_with(r: ReadSystem, v: ListVariables, subsystems: Subsystems) -> Syste
     }
 }
 
-// A system, whose subsystems' systems have these names.
+// A system, given the names of the systems.
 fn system_of(alloc: Global, names: &NameSet, r: ReadSystem) -> Result<System, NoMemory>
     ensures { IfOk result (λ s. plain_system s ≡ system_of names.now (plain_reading r)) }
 {
@@ -128,7 +128,7 @@ fn system_of(alloc: Global, names: &NameSet, r: ReadSystem) -> Result<System, No
     }
 }
 
-// The variables and the subsystems of a system, where these have systems of these names.
+// The variables and the subsystems of a system, given the names of the systems.
 fn system_parts(
     alloc: Global,
     names: &NameSet,
@@ -149,7 +149,7 @@ fn system_parts(
     }
 }
 
-// All systems. Their terms are moved out.
+// All systems. Their terms are moved.
 fn systems_of(
     alloc: Global,
     names: &NameSet,
@@ -174,7 +174,7 @@ fn formulas_of(l: Labelled) -> Formulas
     formulas
 }
 
-// The number of the system of a check, which has one of these names, and its variables.
+// The number of a check's system, and the check's variables, given the names of the systems.
 fn check_parts(
     alloc: Global,
     names: &NameSet,
@@ -190,7 +190,7 @@ fn check_parts(
     Ok((system, v))
 }
 
-// A check of this system with these variables. Its formulas are moved out.
+// A check of this system with these variables. Its formulas are moved.
 fn check_with(c: ReadCheck, system: u32, v: ListVariables) -> Check
     ensures place { result.place ≡ c.place }
     ensures system { result.system ≡ system }
@@ -218,7 +218,7 @@ fn check_with(c: ReadCheck, system: u32, v: ListVariables) -> Check
     }
 }
 
-// A check, whose system has one of these names.
+// A check, given the names of the systems.
 fn check_of(alloc: Global, names: &NameSet, c: ReadCheck) -> Result<Check, NoMemory>
     ensures { IfOk result (λ x. plain_check x ≡ check_of names.now (plain_check_reading c)) }
 {
@@ -231,7 +231,7 @@ fn check_of(alloc: Global, names: &NameSet, c: ReadCheck) -> Result<Check, NoMem
     }
 }
 
-// Reads into a draft of nothing, and takes the script out of it.
+// Reads into an empty draft, and takes the script out of it.
 fn script_in(
     alloc: Global,
     forms: &Forms,
@@ -269,20 +269,21 @@ fn script_in(
     }
 }
 
-/// Reads the script that forms spell, whose text ends at `end`. Where tests fail, of which M4 to M14 are the kinds, it is
-/// refused by the one with the least place, and of those at one place by the one with the least number; a script without a
-/// check fails at `end`.
+/// Reads the script that forms spell, given the end of their text.
+///
+/// If tests fail, the refusal is the one with the least place, and at one place the one with the least number. The kinds
+/// are M4 to M14. A script without a check fails at `end`.
 pub fn read_script(alloc: Global, forms: &Forms, end: Place) -> Result<Script, ScriptEnd>
     requires { ArePrintable (plain_forms forms.now.items) }
-    // What is read is the script that the forms spell: no test fails.
+    // The forms spell the script that is returned: no test fails.
     ensures spelled { IfOk result (λ s. SpellsScript (plain_forms forms.now.items) end (plain_script s)) }
-    // The script that the forms spell is read, unless memory runs out.
+    // The script that the forms spell is returned, unless memory runs out.
     ensures read { (s : PlainScript) → SpellsScript (plain_forms forms.now.items) end s → IsScript s result }
     // A refusal is the least of the failing tests.
     ensures refused { IfErr result (IsFirstFailure (plain_forms forms.now.items) end) }
-    // It is M4 to M14, at the least place where a test fails, and has the least number there.
+    // It is one of M4 to M14, at the least place of a failing test, with the least number there.
     ensures first { IfErr result (IsFirstOf (plain_forms forms.now.items) end) }
-    // The least of the failing tests is answered, unless memory runs out.
+    // The least of the failing tests is returned, unless memory runs out.
     ensures answered { (r : Refusal) → least (script_failures (plain_forms forms.now.items) end) ≡ Some r → IsRefusal r result }
 {
     let mut draft = nothing_read(alloc);

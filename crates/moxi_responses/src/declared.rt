@@ -1,4 +1,4 @@
-// What the responses of a script's check are printed and read against.
+// The declarations that the responses of a script's check are printed and read against.
 ghost use Rattle.std.specs.Prelude.{◌≡◌, IfOk, map};
 ghost use Rattle.moxi_scripts.specs.Script.{system_at};
 ghost use Rattle.moxi_scripts.specs.ScriptView.{plain_script};
@@ -8,7 +8,7 @@ use moxi_scripts::{Queries, Script, spelled_scripts_are_whole};
 use std::alloc::Global;
 use text_core::{Name, Names, NoMemory};
 
-/// The names of queries, in order.
+/// Returns the names of queries, in order.
 pub(crate) fn names_of(alloc: Global, queries: &Queries) -> Result<Names, NoMemory>
     ensures { IfOk result (λ names. names ≡ query_names queries.now) }
 {
@@ -21,7 +21,7 @@ pub(crate) fn names_of(alloc: Global, queries: &Queries) -> Result<Names, NoMemo
     Ok(names)
 }
 
-/// The name of the checked system.
+/// Returns the name of the checked system.
 pub(crate) fn checked_name(script: &Script) -> &Name
     ensures { result.now ≡ (system_at (plain_script script.now).systems script.now.check.system).name }
 {

@@ -1,4 +1,4 @@
-// Responses of a script's check can be read back.
+// Responses of a script's check read back.
 ghost use Rattle.std.specs.Prelude.{◌≡◌, None};
 ghost use Rattle.moxi_scripts.specs.Invariant.{IsSpelled};
 ghost use Rattle.moxi_scripts.specs.Script.{PlainScript};
@@ -9,7 +9,9 @@ ghost use Rattle.moxi_responses.specs.Declaring.{declared_of};
 use moxi_script_print::printable_forms_give_spellable_names;
 use moxi_scripts::spelled_scripts_are_whole;
 
-/// What the check of a script declares can be printed and read back, where printable forms spell the script and it isn't refused.
+/// Proves that responses to a script's check can be printed and read back.
+///
+/// Printable forms must spell the script, and it must have a flat system.
 pub fn responses_are_read_back()
     ensures { (s : PlainScript) → IsSpelled s → flat_refusal s ≡ None → CanBeReadBack (declared_of s) }
 {

@@ -1,4 +1,4 @@
-//! Responses of a script's check: printed, and read against its flat system.
+//! Responses of a script's check: a printer, and a reader against the script's flat system.
 #![tactic(auto)]
 
 mod declared;

@@ -16,9 +16,10 @@ use moxi_trace::{Answered, Declarations, ResponseEnd};
 use std::alloc::Global;
 use text_core::{NoMemory, Text};
 
-/// The printed form of the response that a trace meets the query number q of the script's check, counted from 0. The system is the
-/// one that `instantiate` gave for the script, and the trace has a value of each of its variables. Within the limits of responses
-/// what is printed is read again.
+/// Returns the text of the response that a trace meets query q of the script's check, counted from 0.
+///
+/// The system is the one that `instantiate` returned for the script. The trace has a value of each of its variables. Within
+/// the limits of responses, the text reads back to the same response.
 pub fn print_response(
     alloc: Global,
     script: &Script,
@@ -41,8 +42,9 @@ pub fn print_response(
     moxi_trace::print_response(alloc, &declarations, q, trace)
 }
 
-/// The query and the trace that a response's text states, or its first refusal, of `Y1` to `Y5`. The system is the one that
-/// `instantiate` gave for the script.
+/// Parses the text of a response to the query and the trace that it states.
+///
+/// An error is its first refusal, from `Y1` to `Y5`. The system is the one that `instantiate` returned for the script.
 pub fn read_response(
     alloc: Global,
     script: &Script,

@@ -1,4 +1,4 @@
-// What is printed of a whole script is read again; the function does nothing.
+// A printed whole script reads back.
 ghost use Rattle.text_core.specs.declared.place.Place.{Place};
 ghost use Rattle.moxi_sexpr.specs.Tree.{Trees};
 ghost use Rattle.moxi_term_print.specs.Shown.{ShowEach};
@@ -9,7 +9,9 @@ ghost use Rattle.moxi_scripts.specs.Whole.{IsWhole};
 
 use moxi_term_print::{shown_sorts_are_read, shown_terms_are_read};
 
-/// Forms that show a whole script spell it, but for the place of its check, which stands where its form does (MoXI, SPIN 2024).
+/// Proves that forms that show a whole script spell it (MoXI, SPIN 2024).
+///
+/// The place of its check is the place of its form in the new text.
 pub fn printed_scripts_are_spelled()
     ensures { (s : PlainScript) (ts : Trees) (end : Place) → IsWhole s → ShowEach ts (shown_script s) → ReadsAs ts end s }
 {

@@ -1,4 +1,4 @@
-//! Prints MoXI scripts, with the laws that a printed script is read again as the same script.
+//! Prints MoXI scripts, and proves that a printed script reads back to the same script.
 #![tactic(auto)]
 
 mod again_laws;

@@ -1,4 +1,4 @@
-// Laws of the names of scripts; these functions do nothing.
+// Laws about the names of scripts.
 ghost use Rattle.text_core.specs.declared.place.Place.{Place};
 ghost use Rattle.moxi_sexpr.specs.Printing.{ArePrintable};
 ghost use Rattle.moxi_sexpr.specs.Tree.{Trees};
@@ -14,7 +14,7 @@ use moxi_term_print::{
     standing_terms_can_be_shown, terms_stand_on,
 };
 
-/// Each name of a script that printable forms spell can be spelled (SMT-LIB 2.6, section 3.1).
+/// Proves that the names of a script that printable forms spell can be spelled (SMT-LIB 2.6, section 3.1).
 pub fn printable_forms_give_spellable_names()
     ensures { (ts : Trees) (end : Place) (s : PlainScript) → ArePrintable ts → SpellsScript ts end s → HasSpellableNames s }
 {
@@ -22,7 +22,7 @@ pub fn printable_forms_give_spellable_names()
     scopes_stay_spellable();
 }
 
-/// What is shown of a whole script can be shown, where its names can be spelled.
+/// Proves that a whole script can be shown if its names can be spelled.
 pub fn whole_scripts_can_be_shown()
     ensures { (s : PlainScript) → IsWhole s → HasSpellableNames s → AllCanBeShown (shown_script s) }
 {

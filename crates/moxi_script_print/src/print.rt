@@ -1,4 +1,4 @@
-// Scripts as a text.
+// Printing of scripts.
 ghost use Rattle.std.specs.Prelude.{◌≡◌, ◌≤◌, ◌++◌, ◌∷◌, [], map, IfOk, OnOk};
 ghost use Rattle.moxi_sexpr.specs.Lexing.{limit};
 ghost use Rattle.moxi_sexpr.specs.Printing.{bytes_behind};
@@ -104,12 +104,14 @@ fn put_script(alloc: Global, out: &mut Text, script: &Script) -> Result<(), NoMe
     out.put(b"\n")
 }
 
-/// Writes each command of a script on a line of its own: the logic where there is one, the enumerations, the defined sorts,
-/// the functions, the systems and the check (MoXI, SPIN 2024). A system's lists and formulas stand always, and a query names
-/// its assumptions, its current conditions and then its reachable formulas.
+/// Returns the text of a script, with each command on its own line (MoXI, SPIN 2024).
+///
+/// The order is: the logic if there is one, the enumerations, the defined sorts, the functions, the systems, and the check.
+/// The lists and formulas of a system are always written. A query names its assumptions, then its current conditions, then
+/// its reachable formulas.
 pub fn print_script(alloc: Global, script: &Script) -> Result<Text, NoMemory>
     ensures printed { IfOk result (λ text. text ≡ lines_text (shown_script (plain_script script.now))) }
-    // What is printed is read again as the script, where no more brackets stand open than may be read.
+    // The text reads back to the script, if brackets nest no deeper than the reader allows.
     ensures reads_back { shown_depths (shown_script (plain_script script.now)) ≤ limit → IfOk result (λ text. ∥ ReadsBackScript text (plain_script script.now) ∥₁) }
 {
     printed_scripts_are_read_back();

@@ -1,4 +1,4 @@
-// A check as a text.
+// Printing of checks.
 ghost use Rattle.std.specs.Prelude.{◌≡◌, ◌++◌, ◌∷◌, [], map, codes, OnOk, IfOk};
 ghost use Rattle.moxi_sexpr.specs.Printing.{bytes_behind};
 ghost use Rattle.moxi_term_print.specs.Shown.{parts_text, text_of};
@@ -15,7 +15,7 @@ use moxi_terms::Scope;
 use std::alloc::Global;
 use text_core::{NoMemory, Text};
 
-// `(name term)`.
+// Appends `(name term)`.
 fn put_pair(
     alloc: Global,
     out: &mut Text,
@@ -47,7 +47,7 @@ fn put_label(
     put_pair(alloc, out, scope, variables, formula)
 }
 
-// Formulas of one kind, each behind the keyword.
+// Appends formulas of one kind, each after the keyword.
 #[tactic(auto, using(crate::proofs::Pieces::pieces))]
 fn put_labels(
     alloc: Global,
@@ -76,7 +76,7 @@ fn formula_names<'a>(alloc: Global, formulas: &'a Formulas) -> Result<Vec<&'a [u
     Ok(names)
 }
 
-// The names of a query, given those of all formulas.
+// The names in a query, given those of all formulas.
 fn query_names<'a>(
     alloc: Global,
     assumptions: &[&'a [u8]],
@@ -170,8 +170,10 @@ fn put_conditions(
     put_all_queries(alloc, out, check)
 }
 
-/// Appends `(check-system S ..)`, given the names of all systems. Its lists stand always, and each query is an attribute of
-/// its own, with its names in the order assumptions, currents, reachable formulas.
+/// Appends `(check-system S ..)`, given the names of all systems.
+///
+/// Its lists are always written. Each query is a separate attribute, with its names in the order assumptions, current
+/// conditions, reachable formulas.
 #[tactic(auto, using(crate::proofs::Pieces::pieces))]
 pub fn put_check(
     alloc: Global,

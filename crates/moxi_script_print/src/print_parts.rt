@@ -1,4 +1,4 @@
-// Parts of printed commands: keywords, lists of variables, names by their numbers.
+// Parts of printed commands: keywords, lists of variables, names by number.
 ghost use Rattle.std.specs.Prelude.{◌≡◌, ◌++◌, ◌∷◌, [], map, OnOk, IfOk};
 ghost use Rattle.moxi_sexpr.specs.Printing.{bytes_behind};
 ghost use Rattle.moxi_terms.specs.View.{plain};
@@ -12,7 +12,7 @@ use moxi_terms::{Scope, Term, Variables};
 use std::alloc::Global;
 use text_core::{NoMemory, Numbers, Text};
 
-/// The start of a command, `(word name`.
+/// Appends the start of a command, `(word name`.
 pub fn put_head(out: &mut Text, word: &[u8], name: &[u8]) -> Result<(), NoMemory>
     ensures { OnOk result (out.new ≡ out.old ++ 40 ∷ (word.now ++ 32 ∷ text_of (symbol name.now))) }
 {
@@ -22,7 +22,7 @@ pub fn put_head(out: &mut Text, word: &[u8], name: &[u8]) -> Result<(), NoMemory
     put_symbol(out, name, false)
 }
 
-/// A keyword between blanks.
+/// Appends a keyword between blanks.
 pub fn put_keyword(out: &mut Text, keyword: &[u8]) -> Result<(), NoMemory>
     ensures { OnOk result (out.new ≡ out.old ++ 32 ∷ (58 ∷ (keyword.now ++ 32 ∷ []))) }
 {
@@ -44,7 +44,7 @@ fn put_list(
     put_variables(out, scope, variables)
 }
 
-/// The three lists of variables, as attributes.
+/// Appends the three lists of variables, as attributes.
 #[tactic(auto, using(crate::proofs::Pieces::pieces), unfolding(crate::specs::Printing::shown_lists))]
 pub fn put_lists(
     out: &mut Text,
@@ -60,7 +60,7 @@ pub fn put_lists(
     put_list(out, scope, b"local", locals)
 }
 
-/// The names of the variables, in this order.
+/// Returns the names of the inputs, then the outputs, then the locals.
 pub fn variables_of<'a>(
     alloc: Global,
     inputs: &'a Variables,
@@ -76,7 +76,7 @@ pub fn variables_of<'a>(
     Ok(names)
 }
 
-/// A term behind a keyword.
+/// Appends a keyword and a term.
 #[tactic(auto, using(crate::proofs::Pieces::pieces))]
 pub fn put_formula(
     alloc: Global,
@@ -92,7 +92,7 @@ pub fn put_formula(
     put_term_over(alloc, out, scope, variables, term)
 }
 
-/// The name of this number: none where the number names nothing.
+/// Returns name number i, or the empty name where there is none.
 pub fn name_in<'a>(names: &[&'a [u8]], i: u64) -> &'a [u8]
     ensures { result.now ≡ name_at (map bytes_behind names.now) i }
 {
@@ -102,14 +102,14 @@ pub fn name_in<'a>(names: &[&'a [u8]], i: u64) -> &'a [u8]
     }
 }
 
-/// Adds a name.
+/// Appends a name.
 pub fn push<'a>(names: &mut Vec<&'a [u8]>, name: &'a [u8]) -> Result<(), NoMemory>
     ensures { OnOk result (names.new.items ≡ names.old.items ++ name.entry ∷ []) }
 {
     Ok(names.push(name)?)
 }
 
-/// Adds the names of these numbers.
+/// Appends the names with these numbers.
 pub fn push_names_of<'a>(
     names: &mut Vec<&'a [u8]>,
     all: &[&'a [u8]],
@@ -123,7 +123,7 @@ pub fn push_names_of<'a>(
     Ok(())
 }
 
-// Names in a list behind a name, `(name (n ..))`.
+// Appends a name and a list of names, `(name (n ..))`.
 fn put_named(out: &mut Text, name: &[u8], names: &[&[u8]]) -> Result<(), NoMemory>
     ensures { OnOk result (out.new ≡ out.old ++ text_of (shown_names name.now (map bytes_behind names.now))) }
 {
@@ -134,7 +134,7 @@ fn put_named(out: &mut Text, name: &[u8], names: &[&[u8]]) -> Result<(), NoMemor
     out.put(b"))")
 }
 
-/// Names in a list behind a name, `(name (n ..))`, behind a keyword.
+/// Appends a keyword, then a name and a list of names, `(name (n ..))`.
 #[tactic(auto, using(crate::proofs::Pieces::pieces))]
 pub fn put_names(
     out: &mut Text,

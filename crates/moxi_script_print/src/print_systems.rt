@@ -1,4 +1,4 @@
-// Systems as a text.
+// Printing of systems.
 ghost use Rattle.std.specs.Prelude.{◌≡◌, ◌++◌, ◌∷◌, [], map, codes, OnOk, IfOk};
 ghost use Rattle.moxi_sexpr.specs.Printing.{bytes_behind};
 ghost use Rattle.moxi_terms.specs.View.{plain};
@@ -15,7 +15,7 @@ use moxi_terms::Scope;
 use std::alloc::Global;
 use text_core::{NoMemory, Text};
 
-// The name of a subsystem's system, and those of the actuals.
+// The name of a subsystem's system, then those of the actuals.
 fn subsystem_names<'a>(
     alloc: Global,
     systems: &[&'a [u8]],
@@ -74,7 +74,9 @@ fn put_formulas(
     put_formula(alloc, out, scope, variables, b"inv", &system.inv)
 }
 
-/// Appends `(define-system S ..)`, given the names of all systems. Its lists and formulas stand always.
+/// Appends `(define-system S ..)`, given the names of all systems.
+///
+/// Its lists and formulas are always written.
 #[tactic(auto, using(crate::proofs::Pieces::pieces))]
 pub fn put_system(
     alloc: Global,

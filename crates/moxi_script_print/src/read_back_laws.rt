@@ -1,4 +1,4 @@
-// A script that is printed is read again; this function does nothing.
+// A printed script reads back.
 ghost use Rattle.std.specs.Prelude.{◌≤◌};
 ghost use Rattle.moxi_sexpr.specs.Lexing.{limit};
 ghost use Rattle.moxi_term_print.specs.Shown.{lines_text, shown_depths};
@@ -13,8 +13,9 @@ use moxi_scripts::spelled_scripts_are_whole;
 use moxi_sexpr::readings_are_one;
 use moxi_term_print::shown_is_read_back;
 
-/// What is printed of a script that printable forms spell is read again as this script, where no more brackets stand open than
-/// may be read (MoXI, SPIN 2024).
+/// Proves that the printed text of a script that printable forms spell reads back to this script (MoXI, SPIN 2024).
+///
+/// Brackets must nest no deeper than the reader allows.
 pub fn printed_scripts_are_read_back()
     ensures { (s : PlainScript) → ∥ IsSpelled s ∥₁ → shown_depths (shown_script s) ≤ limit → ∥ ReadsBackScript (lines_text (shown_script s)) s ∥₁ }
 {

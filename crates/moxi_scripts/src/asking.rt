@@ -1,4 +1,4 @@
-// What a query asks of a step.
+// The tests of a query at each step.
 ghost use Rattle.std.specs.Prelude.{◌≡◌, ◌<◌, ◌==◌, ◌++◌, ◌||◌, ◌+◌, ℕ, length, map, true, if◌then◌else◌, IfOk};
 ghost use Rattle.std.specs.List.{AllByRecursion, list_all, list_any};
 ghost use Rattle.moxi_terms.specs.Names.{or_else};
@@ -19,31 +19,32 @@ use moxi_terms::{Datum, Env, Term, eval};
 use std::alloc::Global;
 use text_core::{Clause, NoMemory, Numbers};
 
-/// The tests of a step are those of the system, and then those of the query: the first clause that fails is the system's, or else
-/// the query's. This function does nothing.
+/// Proves that the tests of a step are those of the system followed by those of the query.
+///
+/// So the first failing clause is the system's, or else the query's.
 pub fn steps_are_tested_by_system_and_query()
     ensures tests { (s : PlainScript) (q : Query) (last : ℕ) (trace : Trace) (hs : Hiddens) (j : ℕ) → step_tests s q last trace hs j ≡ system_tests s trace hs j ++ query_tests s q last (is_reached_before s trace j) j (trace j) }
     ensures first { (s : PlainScript) (q : Query) (last : ℕ) (trace : Trace) (hs : Hiddens) (j : ℕ)
         → first_failing (step_tests s q last trace hs j) ≡ or_else (first_failing (system_tests s trace hs j)) (first_failing (query_tests s q last (is_reached_before s trace j) j (trace j))) }
 {}
 
-/// A trace on which the checked system behaves meets a query exactly where nothing fails of what the query asks of its steps.
-/// This function does nothing.
+/// Proves that a trace of the checked system meets a query exactly where none of the query's tests fails at any step.
 pub fn queries_are_met_where_nothing_fails()
     ensures meets { (s : PlainScript) (q : Query) (k : ℕ) (trace : Trace)
         → Behaves s.scope.enumerations (calls_in s.scope) s.systems (k + 1) s.check.system trace → NothingFails s q k trace → MeetsQuery s q k trace }
     ensures asks { (s : PlainScript) (q : Query) (k : ℕ) (trace : Trace) → MeetsQuery s q k trace → NothingFails s q k trace }
 {}
 
-/// In a script that printable forms spell the formulas that a query names are there, and are of truth values over the variables
-/// of the check. This function does nothing.
+/// Proves that each query of a script that forms spell can be asked.
+///
+/// The formulas that it names exist, and they are truth values over the check's variables.
 pub fn queries_can_be_asked()
     ensures { (s : PlainScript) → ∥ IsSpelled s ∥₁ → AllByRecursion (CanAsk s) s.check.queries }
 {
     spelled_scripts_are_whole();
 }
 
-// Is the term true, where the check's variables have these values?
+// Whether the term is true when the check's variables have these values.
 fn holds(alloc: Global, script: &Script, term: &Term, now: &Env) -> Result<bool, NoMemory>
     requires truth { IsTruth (plain_script script.now) (plain term.now) }
     requires fit { Fit script.now.scope.enumerations (check_sorts (plain_script script.now)) now.now }
@@ -55,7 +56,7 @@ fn holds(alloc: Global, script: &Script, term: &Term, now: &Env) -> Result<bool,
     }
 }
 
-// Is the formula of this number true?
+// Whether the formula with this number is true.
 fn holds_at(
     alloc: Global,
     script: &Script,
@@ -71,7 +72,7 @@ fn holds_at(
     holds(alloc, script, &formulas.at(number as usize).term, now)
 }
 
-// Are all formulas of these numbers true?
+// Whether all formulas with these numbers are true.
 fn all_hold(
     alloc: Global,
     script: &Script,
@@ -106,7 +107,7 @@ fn is_assumed(alloc: Global, script: &Script, query: &Query, now: &Env) -> Resul
     )
 }
 
-// Current conditions are asked at step 0 alone.
+// Current conditions are tested at step 0 only.
 fn is_current(
     alloc: Global,
     script: &Script,
@@ -134,7 +135,7 @@ fn is_marked(marks: &[bool], number: u64) -> bool
     }
 }
 
-// Is the reachable formula of this number reached now, or was it before?
+// Whether the reachable formula with this number is true now or was before.
 fn is_reached(
     alloc: Global,
     script: &Script,
@@ -154,7 +155,7 @@ fn is_reached(
     Ok(reached)
 }
 
-// Is each of these reachable formulas reached now, or was it before?
+// Whether each of these reachable formulas is true now or was before.
 fn each_reached(
     alloc: Global,
     script: &Script,
@@ -175,7 +176,7 @@ fn each_reached(
     Ok(true)
 }
 
-// Is one of these reachable formulas reached now?
+// Whether one of these reachable formulas is true now.
 fn some_reached(
     alloc: Global,
     script: &Script,
@@ -213,7 +214,7 @@ fn all_reached(
     Ok(some)
 }
 
-// Reachable formulas are asked at the last step alone.
+// Reachable formulas are tested at the last step only.
 fn ends_reached(
     alloc: Global,
     script: &Script,
@@ -234,7 +235,7 @@ fn ends_reached(
     }
 }
 
-// Of what the query asks the first that fails.
+// The first clause of the query that fails.
 fn first_failing(
     alloc: Global,
     script: &Script,
@@ -260,11 +261,14 @@ fn first_failing(
     Ok(None)
 }
 
-/// Of what the query number q of the script's check asks of a step, the first that fails, where the check's variables, its inputs,
-/// outputs and locals, have these values: `AssumptionFails` where one of its assumptions is false, `CurrentFails` where at step 0
-/// one of its current conditions is false, `NotBroken` where at the last step none of its reachable formulas is true, or one of
-/// them neither is true nor was at a step before (MoXI, SPIN 2024). The marks tell by their numbers which reachable formulas of
-/// the check were true at a step before; one without a mark was not.
+/// Returns the first clause of query q that fails at a step, or None where all hold (MoXI, SPIN 2024).
+///
+/// The check's inputs, outputs and locals have the values `now`.
+///
+/// `AssumptionFails`: one of the query's assumptions is false. `CurrentFails`: one of its current conditions is false at
+/// step 0. `NotBroken`: at the last step, none of its reachable formulas is true, or one of them is false then and at each
+/// step before. Mark i of `before` says whether reachable formula i of the check was true at an earlier step. A formula
+/// without a mark was not.
 pub fn query_failing(
     alloc: Global,
     script: &Script,

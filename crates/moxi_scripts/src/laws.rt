@@ -1,4 +1,4 @@
-// Laws of scripts.
+// Laws about scripts.
 ghost use Rattle.std.specs.Prelude.{◌≡◌, [], List, None, Some};
 ghost use Rattle.std.specs.List.{AllByRecursion};
 ghost use Rattle.text_core.specs.declared.place.Place.{Place};
@@ -9,19 +9,21 @@ ghost use Rattle.moxi_scripts.specs.Kinds.{HasByte, HasScriptKind, IsFirst};
 ghost use Rattle.moxi_scripts.specs.Script.{PlainScript};
 ghost use Rattle.moxi_scripts.specs.Spelling.{SpellsScript, script_failures};
 
-/// Of failing tests the least one is the one with the least place, and of those at one place the one with the least number.
-/// There is none only where no test fails.
+/// Proves that `least` returns the failing test with the least place, and of those at one place the one with the least
+/// number.
+///
+/// It returns None only where no test fails.
 pub fn least_is_least()
     ensures first { (fs : List Refusal) (r : Refusal) → AllByRecursion HasByte fs → least fs ≡ Some r → IsFirst r fs }
     ensures none { (fs : List Refusal) → least fs ≡ None → fs ≡ [] }
 {}
 
-/// The failing tests of a script are of the kinds M4 to M14.
+/// Proves that the failing tests of a script are of the kinds M4 to M14.
 pub fn failures_have_kinds()
     ensures { (ts : Trees) (end : Place) → AllByRecursion HasScriptKind (script_failures ts end) }
 {}
 
-/// Forms spell at most one script.
+/// Proves that forms spell at most one script.
 pub fn one_script()
     ensures { (ts : Trees) (end : Place) (a b : PlainScript) → SpellsScript ts end a → SpellsScript ts end b → a ≡ b }
 {}

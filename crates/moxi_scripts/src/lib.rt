@@ -1,5 +1,7 @@
-//! MoXI scripts as values: which forms spell one, which tests fail, what a script means (traces, queries, verdicts), and which scripts are
-//! well formed.
+//! MoXI scripts as values.
+//!
+//! The crate defines which forms spell a script, which tests fail, what a script means (traces, queries, verdicts), and which
+//! scripts are well formed.
 #![tactic(auto)]
 
 mod asking;

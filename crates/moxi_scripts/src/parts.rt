@@ -1,9 +1,9 @@
-// What is read of commands: attributes, lists of variables, uses of systems, queries.
+// The parts of commands: attributes, lists of variables, uses of systems, queries.
 
 use moxi_terms::Sort;
 use text_core::{List, Name, Numbers, Place};
 
-/// What an attribute is for.
+/// The purpose of an attribute.
 #[derive(Clone, Copy)]
 pub enum Key {
     Input,
@@ -20,14 +20,14 @@ pub enum Key {
     Queries,
 }
 
-/// The command in which attributes stand.
+/// The command that contains the attributes.
 #[derive(Clone, Copy)]
 pub enum Command {
     System,
     Check,
 }
 
-/// What may stand next among attributes: a keyword, the value of one, or forms of an unknown one up to the next keyword.
+/// The next part of an attribute list: a keyword, the value of one, or the forms that are skipped after an unknown keyword.
 #[derive(Clone, Copy)]
 pub enum Turn {
     AtKeyword,
@@ -35,7 +35,7 @@ pub enum Turn {
     Passing,
 }
 
-/// A command.
+/// The name of a command.
 #[derive(Clone, Copy)]
 pub enum CommandName {
     Logic,
@@ -47,7 +47,9 @@ pub enum CommandName {
     Check,
 }
 
-/// A variable or a parameter that a list declares, where its name stands, and its sort; without one, where that fails a test.
+/// A declared variable or parameter, the place of its name, and its sort.
+///
+/// The sort is None where it fails a test.
 #[derive(Drop)]
 pub struct Declared {
     pub name: Name,
@@ -58,7 +60,7 @@ pub struct Declared {
 /// Variables that lists declare.
 pub type Entries = List<Declared>;
 
-/// What a list declares; whether each of its forms is `(x S)`, and whether none of its tests fails.
+/// The entries of a declared list, whether each of its forms is `(x S)`, and whether none of its tests fails.
 #[derive(Drop)]
 pub struct DeclaredList {
     pub entries: Entries,
@@ -74,7 +76,9 @@ pub struct Lists {
     pub locals: DeclaredList,
 }
 
-/// Where the lists of a check stand, or the check where one is missing.
+/// The places of the lists of a check.
+///
+/// A missing list has the place of the check.
 #[derive(Clone, Copy)]
 pub struct ListPlaces {
     pub inputs: Place,
@@ -90,7 +94,7 @@ pub struct Actual {
     pub place: Place,
 }
 
-/// A subsystem as it is written: its name, the name of its system and where that stands, and at `list` its actuals.
+/// A subsystem as written: its name, the name of its system with its place, and the actuals with the place of their list.
 #[derive(Drop)]
 pub struct Use {
     pub name: Name,
@@ -100,7 +104,7 @@ pub struct Use {
     pub actuals: List<Actual>,
 }
 
-/// What the names of a query stand for, whether each is known, and whether one is primed.
+/// The numbers of the formulas that a query names, whether each is known, and whether one is primed.
 #[derive(Drop)]
 pub struct QueryNames {
     pub assumptions: Numbers,

@@ -1,11 +1,13 @@
-// Scripts: systems, and what is checked of one.
+// Scripts: systems, and the check of one of them.
 ghost use Rattle.moxi_scripts.specs.Invariant.{IsSpelled, script_of};
 
 use moxi_terms::{Scope, Term, Variables};
 use text_core::{List, Name, Numbers, Place};
 
-/// A subsystem: its name, the number of its system, and for the inputs and then the outputs of that system the numbers of
-/// variables of the system in which it stands.
+/// A subsystem: its name, the number of its system, and its actuals.
+///
+/// The actuals are numbers of variables of the containing system, for the inputs and then the outputs of the subsystem's
+/// system.
 #[derive(Drop)]
 pub struct Subsystem {
     pub name: Name,
@@ -13,10 +15,12 @@ pub struct Subsystem {
     pub actuals: Numbers,
 }
 
-/// Subsystems, in the order in which they stand.
+/// Subsystems, in the order of the text.
 pub type Subsystems = List<Subsystem>;
 
-/// A system. Its variables are numbered from 0: inputs, outputs, locals.
+/// A system.
+///
+/// Its variables are numbered from 0: inputs, then outputs, then locals.
 #[derive(Drop)]
 pub struct System {
     pub name: Name,
@@ -29,7 +33,7 @@ pub struct System {
     pub subsystems: Subsystems,
 }
 
-/// Systems, in the order in which they are defined.
+/// Systems, in the order of their definition.
 pub type Systems = List<System>;
 
 /// An assumption, a current condition or a reachable formula.
@@ -39,11 +43,13 @@ pub struct Formula {
     pub term: Term,
 }
 
-/// Formulas of one kind, in the order in which they stand.
+/// Formulas of one kind, in the order of the text.
 pub type Formulas = List<Formula>;
 
-/// A query: the numbers of its assumptions, of its current conditions and of its reachable formulas, each in the order in which
-/// the query names them. It has one or more reachable formulas, each once.
+/// A query: the numbers of its assumptions, current conditions and reachable formulas, each in the order in which the query
+/// names them.
+///
+/// It has one or more reachable formulas, each named once.
 #[derive(Drop)]
 pub struct Query {
     pub name: Name,
@@ -52,10 +58,10 @@ pub struct Query {
     pub reachables: Numbers,
 }
 
-/// Queries, in the order in which they stand.
+/// Queries, in the order of the text.
 pub type Queries = List<Query>;
 
-/// What is checked of a system, with names of its own for the system's variables.
+/// The check of a system, with its own names for the system's variables.
 #[derive(Drop)]
 pub struct Check {
     pub place: Place,
@@ -69,8 +75,9 @@ pub struct Check {
     pub queries: Queries,
 }
 
-/// A script (MoXI, SPIN 2024): the last logic that is set, what is declared, the systems, and the one check. Some forms that
-/// can be printed spell it.
+/// A script: the last logic that is set, the declarations, the systems, and the only check (MoXI, SPIN 2024).
+///
+/// Some printable forms spell it.
 #[derive(Drop)]
 pub struct Script {
     pub logic: Option<Name>,

@@ -1,4 +1,4 @@
-// Bytes by what they may stand in.
+// Sets of bytes.
 
 ghost use Rattle.std.specs.Prelude.{◌≡◌, ◌≤◌, length};
 ghost use Rattle.std.specs.List.{list_all};
@@ -8,24 +8,24 @@ ghost use Rattle.moxi_sexpr.specs.Reading.{run_length};
 
 use text_core::is_digit;
 
-/// The bytes that one part of the lexical form allows.
+/// A set of bytes that one part of the lexical form allows.
 #[derive(Clone, Copy)]
 pub enum ByteSet {
-    /// Bytes of a simple symbol.
+    /// The bytes of a simple symbol.
     Symbol,
-    /// Decimal digits.
+    /// The decimal digits.
     Decimal,
-    /// Binary digits.
+    /// The binary digits.
     Binary,
-    /// Hexadecimal digits.
+    /// The hexadecimal digits.
     Hexadecimal,
-    /// Bytes between bars.
+    /// The bytes allowed between bars.
     Barred,
-    /// Bytes of a comment.
+    /// The bytes of a comment.
     Comment,
 }
 
-/// The bytes of a simple symbol, each at its own number, and `#` at all others.
+/// The bytes of a simple symbol, each at its own index, with `#` at every other index.
 const SYMBOL_BYTES: [u8; 256] = *b"\
     ################################\
     #!##$%&###*+#-./0123456789##<=>?\
@@ -42,13 +42,14 @@ fn is_symbol_byte(b: u8) -> bool
     SYMBOL_BYTES[b as usize] != b'#'
 }
 
+/// Returns whether a byte is a tab, a line feed, a carriage return or a space.
 pub fn is_blank(b: u8) -> bool
     ensures { result ≡ is_blank b }
 {
     b == b'\t' || b == b'\n' || b == b'\r' || b == b' '
 }
 
-/// Whether a comment ends before this byte.
+/// Returns whether a comment ends before this byte.
 fn ends_line(b: u8) -> bool
     ensures { result ≡ ends_line b }
 {
@@ -74,7 +75,7 @@ fn belongs(set: ByteSet, b: u8) -> bool
     }
 }
 
-/// How many bytes of the set a text begins with.
+/// Returns the number of leading bytes of the text that belong to the set.
 #[inline(always)]
 pub fn run_length(set: ByteSet, text: &[u8]) -> usize
     ensures value { result ≡ run_length (belongs set) text.now }
@@ -90,7 +91,7 @@ pub fn run_length(set: ByteSet, text: &[u8]) -> usize
     count
 }
 
-/// Whether a simple symbol stands at the front of the text.
+/// Returns whether the text begins with a simple symbol.
 #[inline(always)]
 pub fn starts_simple(text: &[u8]) -> bool
     ensures { result ≡ starts_simple text.now }
@@ -101,7 +102,7 @@ pub fn starts_simple(text: &[u8]) -> bool
     }
 }
 
-/// Whether each byte is one of the set.
+/// Returns whether each byte belongs to the set.
 fn all_belong(set: ByteSet, bytes: &[u8]) -> bool
     ensures { result ≡ list_all (belongs set) bytes.now }
 {
@@ -113,7 +114,7 @@ fn all_belong(set: ByteSet, bytes: &[u8]) -> bool
     true
 }
 
-/// Whether the bytes are a simple symbol.
+/// Returns whether the bytes are a simple symbol.
 pub fn is_simple(name: &[u8]) -> bool
     ensures { result ≡ is_simple name.now }
 {

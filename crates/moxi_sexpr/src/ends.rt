@@ -1,8 +1,10 @@
-// Where a text ends.
+// Line ends of a text, and its last line.
 ghost use Rattle.std.specs.Prelude.{◌≡◌, ◌≤◌, ◌^◌, length};
 ghost use Rattle.moxi_sexpr.specs.Reading.{line_ends, last_line};
 
-/// How many lines end in a text. The loop does one thing alone, so that it takes many bytes at once.
+/// Returns the number of line ends in the text.
+///
+/// The loop does nothing else, so that it can process many bytes at once.
 pub fn line_ends(text: &[u8]) -> u32
     requires { length text.now ≤ 2 ^ 31 }
     ensures value { result ≡ line_ends text.now }
@@ -17,7 +19,7 @@ pub fn line_ends(text: &[u8]) -> u32
     count
 }
 
-/// How many bytes stand behind the last end of a line.
+/// Returns the number of bytes after the last line end.
 pub fn last_line(text: &[u8]) -> usize
     ensures value { result ≡ last_line 0 text.now }
     ensures within { result ≤ length text.now }

@@ -2,9 +2,11 @@
 
 use text_core::{Name, Place};
 
-/// An atom. Its name holds no sign that the spelling adds: a symbol stands without bars and without its prime, a
-/// keyword without its colon, a binary and a hexadecimal literal without `#b` and `#x`, and a string without its quotes,
-/// with each doubled quote as one. The truth value of a symbol tells whether it is primed.
+/// An atom.
+///
+/// The name leaves out what the spelling adds: a symbol's bars and prime, a keyword's colon, the `#b` or `#x` of a
+/// literal, and a string's quotes. Each doubled quote in a string is stored as one. The truth value of a symbol is true
+/// where the symbol is primed.
 #[derive(Drop)]
 pub enum Atom {
     Symbol(Name, bool),
@@ -15,7 +17,7 @@ pub enum Atom {
     Quote(Name),
 }
 
-/// A form, and the place of its first byte.
+/// A form, with the place of its first byte.
 #[cycle(form)]
 #[derive(Drop)]
 pub struct Form {
@@ -31,5 +33,5 @@ pub enum FormShape {
     List(Forms),
 }
 
-/// Forms, one behind the other.
+/// A sequence of forms.
 pub type Forms = Vec<Form>;

@@ -1,4 +1,4 @@
-//! S-expressions: SMT-LIB's lexical form with primes, read from a text and printed.
+//! S-expressions in SMT-LIB's lexical form with primed symbols: a reader and a printer.
 #![tactic(auto)]
 
 mod bytes;

@@ -1,4 +1,4 @@
-// Forms as a text.
+// Printing of forms.
 
 ghost use Rattle.std.specs.Prelude.{◌≡◌, ◌≤◌, ◌++◌, ℕ, List, [], map, IfOk, OnOk};
 ghost use Rattle.moxi_sexpr.specs.Atoms.{doubled, spelled};
@@ -43,7 +43,7 @@ fn is_among(name: &[u8], words: &[&[u8]]) -> bool
     false
 }
 
-// Whether a name may be reserved, by its first byte: most names can't.
+// Whether a name may be reserved, judged by its first byte. Most names are ruled out.
 fn may_be_reserved(name: &[u8]) -> bool
     ensures { result ≡ may_be_reserved name.now }
 {
@@ -78,7 +78,7 @@ fn is_reserved(name: &[u8]) -> bool
     }
 }
 
-// Bytes between two signs.
+// Appends bytes between an opening and a closing delimiter.
 fn put_between(out: &mut Text, opening: &[u8], bytes: &[u8], closing: &[u8]) -> Result<(), NoMemory>
     ensures { OnOk result (out.new ≡ out.old ++ (opening.now ++ (bytes.now ++ closing.now))) }
 {
@@ -87,8 +87,9 @@ fn put_between(out: &mut Text, opening: &[u8], bytes: &[u8], closing: &[u8]) -> 
     out.put(closing)
 }
 
-/// Appends a symbol, in bars unless it is simple and no reserved word, and behind it the prime where it is primed (SMT-LIB
-/// 2.6, section 3.1).
+/// Appends a symbol, in bars unless it is a simple symbol that is not reserved (SMT-LIB 2.6, section 3.1).
+///
+/// A primed symbol ends with the prime.
 pub fn put_symbol(out: &mut Text, name: &[u8], primed: bool) -> Result<(), NoMemory>
     ensures { OnOk result (out.new ≡ out.old ++ printed_atom (atoms.Symbol name.now primed)) }
 {
@@ -100,7 +101,7 @@ pub fn put_symbol(out: &mut Text, name: &[u8], primed: bool) -> Result<(), NoMem
     if primed { out.put_byte(b'\'') } else { Ok(()) }
 }
 
-// Bytes with each quote doubled.
+// Appends bytes with each quote doubled.
 fn put_doubled(out: &mut Text, bytes: &[u8]) -> Result<(), NoMemory>
     ensures { OnOk result (out.new ≡ out.old ++ doubled bytes.now) }
 {
@@ -134,7 +135,7 @@ fn put_atom(out: &mut Text, atom: &Atom) -> Result<(), NoMemory>
     }
 }
 
-// A form.
+// Appends a form.
 #[cycle(put)]
 fn put_form(out: &mut Text, form: &Form) -> Result<(), NoMemory>
     ensures { OnOk result (out.new ≡ out.old ++ printed (plain form.now)) }
@@ -149,7 +150,7 @@ fn put_form(out: &mut Text, form: &Form) -> Result<(), NoMemory>
     }
 }
 
-// Forms with a blank between two.
+// Appends forms, separated by single blanks.
 #[cycle(put)]
 fn put_parts(out: &mut Text, forms: &[Form]) -> Result<(), NoMemory>
     ensures { OnOk result (out.new ≡ out.old ++ printed_parts [] (plain_forms forms.now)) }
@@ -174,19 +175,23 @@ fn text_of(alloc: Global, forms: &Forms) -> Result<Text, NoMemory>
     Ok(out)
 }
 
-/// Writes each form on a line of its own, with single blanks between the parts of a list and none inside a bracket. A
-/// symbol stands in bars unless it is simple and no reserved word. A form whose atoms can be spelled as their kinds ask
-/// is read again as the same form but for its places.
+/// Returns the text of forms, each on its own line.
+///
+/// The parts of a list are separated by single blanks, with none next to a bracket. A symbol is in bars unless it is a
+/// simple symbol that is not reserved. If each atom can be spelled as its kind requires, the text reads back to the same
+/// forms, except for their places.
 pub fn print_forms(alloc: Global, forms: &Forms) -> Result<Text, NoMemory>
     // The text is the printed form.
     ensures printed { IfOk result (λ text. text ≡ printed_forms (plain_forms forms.now.items)) }
-    // It reads back to the same forms but for places, where no more brackets stand open than may be read.
+    // It reads back to the same forms except for places, if brackets nest no deeper than the reader allows.
     ensures reads_back { ArePrintable (plain_forms forms.now.items) → depths (plain_forms forms.now.items) ≤ limit → IfOk result (λ text. ReadsBack text (plain_forms forms.now.items)) }
 {
     text_of(alloc, forms)
 }
 
-/// A text that writes forms so, each on a line, reads back to them but for places, in whatever spelling each atom stands.
+/// Proves that a text with one form on each line reads back to the same forms, except for places.
+///
+/// Each atom may have any of its spellings.
 pub fn written_forms_read_back()
     ensures { (text : List ℕ) (ts : Trees) → WritesLines ts text → depths ts ≤ limit → ReadsBack text ts }
 {}

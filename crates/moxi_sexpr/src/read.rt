@@ -1,4 +1,4 @@
-// Forms from a text.
+// Reading of forms.
 
 ghost use Rattle.std.specs.Prelude.{◌≡◌, ◌≤◌, ◌<◌, ◌+◌, ◌^◌, ◌⊎◌, ℕ, List, [], ◌∷◌, ◌++◌, length, take, drop, map, Some, IfOk, IfErr, OnOk, vec_len, vec_capacity};
 ghost use Rattle.text_core.specs.declared.place.Place.{Place};
@@ -25,15 +25,18 @@ use std::mem;
 use text_core::kinds::moxi;
 use text_core::{End, FIRST_PLACE, Kind, Name, NoMemory, Place, Refusal};
 
-/// Why a text gives no forms: it is refused, or memory runs out. M1 stands at a byte that starts nothing, a `)` that closes
-/// nothing, or a bar or quote that isn't closed; M2 at the end of the text, where a bracket stands open there; M3 at the
-/// 1,201st open bracket.
+/// The reason why reading failed: a refusal, or out of memory.
+///
+/// M1 is at a byte that starts no token, at a `)` without an open bracket, or at a bar or quote that is not closed. M2 is
+/// at the end of the text, where a bracket is still open. M3 is at the 1,201st open bracket.
 pub type FormEnd = End;
 
-/// How many brackets may stand open.
+/// The most brackets that may be open at once.
 const MOST_OPEN: usize = 1200;
 
-/// A bracket or an atom: what the contracts call a token. The reader takes each where it stands, and makes none of them.
+/// A bracket or an atom: a token in the contracts.
+///
+/// The reader handles each token in place and builds no value of this type.
 #[derive(Drop)]
 pub enum TokenKind {
     Open,
@@ -54,7 +57,7 @@ fn refusal(kind: Kind, place: Place) -> Refusal
     Refusal { kind, place }
 }
 
-/// The place and the text behind a comment, of which the text is what follows its first byte.
+/// Returns the place and the text after a comment. The given text starts after the comment's first byte.
 #[inline(never)]
 fn skip_comment(place: Place, text: &[u8]) -> (Place, &[u8])
     requires { Reaches place (length text.now + 1) }
@@ -66,7 +69,7 @@ fn skip_comment(place: Place, text: &[u8]) -> (Place, &[u8])
     (place.along(size + 1), rest)
 }
 
-/// The place behind the token at the front of a text. Only bars and quotes may hold the end of a line.
+/// Returns the place after the token at the front of a text. Only a token in bars or quotes may contain a line end.
 fn place_of_rest(place: Place, text: &[u8], rest: &[u8]) -> Place
     requires reaches { Reaches place (length text.now) }
     requires within { length rest.now ≤ length text.now }
@@ -81,7 +84,7 @@ fn place_of_rest(place: Place, text: &[u8], rest: &[u8]) -> Place
     }
 }
 
-/// Makes room for one more form where there is none.
+/// Makes room for one more form in a full vector.
 #[cold]
 #[inline(never)]
 fn grow(forms: &mut Forms) -> Result<(), NoMemory>
@@ -92,7 +95,7 @@ fn grow(forms: &mut Forms) -> Result<(), NoMemory>
     Ok(())
 }
 
-/// Makes room for one more form. A form is made when its room is there, so that it is written where it stays.
+/// Makes room for one more form. With the room reserved, a form is built where it stays.
 #[inline(always)]
 fn make_room(forms: &mut Forms) -> Result<(), NoMemory>
     ensures items { forms.new.items ≡ forms.old.items }
@@ -140,7 +143,7 @@ fn close_list(stack: &mut Vec<Opened>, done: &mut Forms, place: Place) -> Result
     }
 }
 
-/// Adds the simple symbol at the front of a text to the forms, and answers what stands behind it.
+/// Appends the simple symbol at the front of a text to the forms, and returns the text after it.
 fn take_symbol<'a>(
     alloc: Global,
     done: &mut Forms,
@@ -160,7 +163,7 @@ fn take_symbol<'a>(
     Ok(rest)
 }
 
-/// Adds the atom at the front of a text to the forms, and answers what stands behind it.
+/// Appends the atom at the front of a text to the forms, and returns the text after it.
 #[inline(never)]
 fn take_atom<'a>(
     alloc: Global,
@@ -182,7 +185,7 @@ fn take_atom<'a>(
     Ok(rest)
 }
 
-/// Takes the token at the front of a text, and answers what stands behind it. Most atoms are simple symbols.
+/// Processes the token at the front of a text, and returns the text after it. Most atoms are simple symbols.
 fn take_token<'a>(
     alloc: Global,
     stack: &mut Vec<Opened>,
@@ -209,7 +212,7 @@ fn take_token<'a>(
     take_atom(alloc, done, place, text)
 }
 
-/// The forms of a text, or its refusal.
+/// Reads the forms of a text, or returns its refusal.
 fn forms_of(alloc: Global, text: &[u8]) -> Result<Forms, FormEnd>
     requires { length text.now ≤ 2 ^ 31 }
     ensures spelled { IfOk result (λ forms. SpellsForms text.now (plain_forms forms.items)) }
@@ -241,23 +244,24 @@ fn forms_of(alloc: Global, text: &[u8]) -> Result<Forms, FormEnd>
     }
 }
 
-/// The forms that a text spells, where it spells some. A text is refused at its first byte, in the order of the text, at
-/// which no forms can go on.
+/// Parses a text to its forms.
+///
+/// A refused text is refused at the first byte at which no forms can go on.
 pub fn read_forms(alloc: Global, text: &[u8]) -> Result<Forms, FormEnd>
     requires { length text.now ≤ 2 ^ 31 }
-    // What is read is spelled by the whole text.
+    // The whole text spells the forms.
     ensures spelled { IfOk result (λ forms. SpellsForms text.now (plain_forms forms.items)) }
-    // The forms that the text spells are read, unless memory runs out.
+    // If the text spells forms, they are returned, unless memory runs out.
     ensures read { (ts : Trees) → SpellsForms text.now ts → Reads ts result }
-    // The text is refused so.
+    // A refusal is the text's refusal.
     ensures refused { IfErr result (IsRefused text.now) }
-    // As the text is refused, so it is answered, unless memory runs out.
+    // If the text is refused, that refusal is returned, unless memory runs out.
     ensures answered { (why : Refusal) → RefusesWith text.now why → IsAnswered why result }
 {
     forms_of(alloc, text)
 }
 
-/// The place of the end of a text, just past its last byte.
+/// Returns the place of the end of a text, just past its last byte.
 pub fn end_of(text: &[u8]) -> Place
     requires { length text.now ≤ 2 ^ 31 }
     ensures { result ≡ after start text.now }
@@ -269,8 +273,10 @@ pub fn end_of(text: &[u8]) -> Place
     }
 }
 
-/// Each text spells one list of forms or is refused in one way, and not both. A bracket that stands open is refused at
-/// the end of the text. What a text spells can be printed, and nests no deeper than may be read again.
+/// Proves that each text either spells exactly one list of forms or has exactly one refusal, never both.
+///
+/// An open bracket is refused at the end of the text. The forms of a text can be printed, and they nest no deeper than the
+/// reader allows.
 pub fn readings_are_one()
     ensures forms { (text : List ℕ) (ts us : Trees) → SpellsForms text ts → SpellsForms text us → ts ≡ us }
     ensures refusals { (text : List ℕ) (why other : Refusal) → RefusesWith text why → RefusesWith text other → why ≡ other }

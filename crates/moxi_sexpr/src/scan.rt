@@ -1,4 +1,4 @@
-// The atom at the front of a text.
+// Scanning of the atom at the front of a text.
 
 ghost use Rattle.std.specs.Prelude.{◌≡◌, ◌<◌, ◌≤◌, ◌∷◌, ◌++◌, ◌||◌, ℕ, List, false, length, take, drop, IfOk, IfSome};
 ghost use Rattle.moxi_sexpr.specs.Bytes.{belongs, is_symbol_byte, heads};
@@ -11,26 +11,26 @@ use crate::form::Atom;
 use std::alloc::Global;
 use text_core::{Name, NoMemory, is_digit};
 
-/// How an atom is spelled.
+/// The way an atom is spelled.
 #[derive(Clone, Copy)]
 pub enum Spelling {
     /// A simple symbol, primed or not.
     Bare(bool),
     /// A symbol in bars, primed or not.
     Barred(bool),
-    /// A simple symbol behind a colon.
+    /// A simple symbol after a colon.
     Keyword,
     /// Decimal digits.
     Numeral,
-    /// Binary digits behind `#b`.
+    /// Binary digits after `#b`.
     Binary,
-    /// Hexadecimal digits behind `#x`.
+    /// Hexadecimal digits after `#x`.
     Hex,
-    /// Bytes between quotes, each quote among them doubled.
+    /// Bytes between quotes, with each quote among them doubled.
     Quote,
 }
 
-/// A run of the set's bytes that isn't empty, and what stands behind it.
+/// Scans a non-empty run of the set's bytes, and returns it with the text after it.
 fn scan_run(how: Spelling, set: ByteSet, text: &[u8]) -> Option<(Spelling, &[u8], &[u8])>
     ensures { Scans result (run_of how (belongs set) text.now) }
 {
@@ -42,7 +42,7 @@ fn scan_run(how: Spelling, set: ByteSet, text: &[u8]) -> Option<(Spelling, &[u8]
     Some((how, content, rest))
 }
 
-/// A simple symbol, and what stands behind it.
+/// Scans a simple symbol, and returns it with the text after it.
 fn scan_simple(how: Spelling, text: &[u8]) -> Option<(Spelling, &[u8], &[u8])>
     ensures { Scans result (simple_of how text.now) }
 {
@@ -52,7 +52,7 @@ fn scan_simple(how: Spelling, text: &[u8]) -> Option<(Spelling, &[u8], &[u8])>
     scan_run(how, ByteSet::Symbol, text)
 }
 
-/// Whether a prime stands at the front of the text, and what stands behind it.
+/// Returns whether the text begins with a prime, and the text after it.
 fn split_prime(text: &[u8]) -> (bool, &[u8])
     ensures primed { result.0 ≡ has_prime text.now }
     ensures rest { result.1.now ≡ past_prime text.now }
@@ -69,8 +69,7 @@ fn split_prime(text: &[u8]) -> (bool, &[u8])
     }
 }
 
-/// The name of the symbol at the front of a text that begins with a simple symbol, whether it is primed, and what stands
-/// behind it.
+/// Splits off the simple symbol at the front of a text: its name, whether it is primed, and the text after it.
 pub fn split_symbol(text: &[u8]) -> (&[u8], bool, &[u8])
     ensures name { result.0.now ≡ take (run_length is_symbol_byte text.now) text.now }
     ensures primed { result.1 ≡ has_prime (drop (run_length is_symbol_byte text.now) text.now) }
@@ -81,7 +80,7 @@ pub fn split_symbol(text: &[u8]) -> (&[u8], bool, &[u8])
     (name, primed, rest)
 }
 
-/// A simple symbol with or without a prime, and what stands behind it.
+/// Scans a simple symbol, with or without a prime, and returns it with the text after it.
 fn scan_bare(text: &[u8]) -> Option<(Spelling, &[u8], &[u8])>
     ensures { Scans result (bare_of text.now) }
 {
@@ -92,7 +91,7 @@ fn scan_bare(text: &[u8]) -> Option<(Spelling, &[u8], &[u8])>
     Some((Spelling::Bare(primed), content, rest))
 }
 
-/// The rest of a symbol in bars, behind the first bar.
+/// Scans the rest of a symbol in bars, after the first bar.
 fn scan_barred(text: &[u8]) -> Option<(Spelling, &[u8], &[u8])>
     ensures { Scans result (barred_of text.now) }
 {
@@ -105,7 +104,7 @@ fn scan_barred(text: &[u8]) -> Option<(Spelling, &[u8], &[u8])>
     Some((Spelling::Barred(primed), content, rest))
 }
 
-/// How many bytes stand before the quote that closes a string, of which the text is what follows its first quote.
+/// Returns the number of bytes before the closing quote of a string. The text starts after the opening quote.
 fn quote_length(text: &[u8]) -> Option<usize>
     ensures value { result ≡ quote_length 0 false text.now }
     ensures within { IfSome result (λ n. n < length text.now) }
@@ -128,7 +127,7 @@ fn quote_length(text: &[u8]) -> Option<usize>
     if pending { Some(count) } else { None }
 }
 
-/// The rest of a string, behind its first quote.
+/// Scans the rest of a string, after its first quote.
 fn scan_quote(text: &[u8]) -> Option<(Spelling, &[u8], &[u8])>
     ensures { Scans result (quote_of text.now) }
 {
@@ -137,7 +136,7 @@ fn scan_quote(text: &[u8]) -> Option<(Spelling, &[u8], &[u8])>
     Some((Spelling::Quote, content, &closing[1..]))
 }
 
-/// Whether a bar or a quote stands at the front of the text.
+/// Returns whether the text begins with a bar or a quote.
 pub fn starts_quoted(text: &[u8]) -> bool
     ensures { result ≡ (heads 124 text.now || heads 34 text.now) }
 {
@@ -147,7 +146,7 @@ pub fn starts_quoted(text: &[u8]) -> bool
     }
 }
 
-/// The rest of a binary or hexadecimal literal, behind its `#`.
+/// Scans the rest of a binary or hexadecimal literal, after its `#`.
 fn scan_digits(text: &[u8]) -> Option<(Spelling, &[u8], &[u8])>
     ensures { Scans result (digits_of text.now) }
 {
@@ -159,8 +158,10 @@ fn scan_digits(text: &[u8]) -> Option<(Spelling, &[u8], &[u8])>
     }
 }
 
-/// The atom at the front of a text: how it is spelled, the bytes between the signs of its spelling, and what stands
-/// behind it.
+/// Scans the atom at the front of a text: its spelling, the bytes between the delimiters of that spelling, and the text
+/// after it.
+///
+/// Returns None where no atom can be scanned.
 pub fn scan(text: &[u8]) -> Option<(Spelling, &[u8], &[u8])>
     ensures { Scans result (scan_of text.now) }
 {
@@ -175,7 +176,7 @@ pub fn scan(text: &[u8]) -> Option<(Spelling, &[u8], &[u8])>
     }
 }
 
-/// Adds the byte unless it is to be skipped, and answers whether the next one is.
+/// Appends the byte unless it is to be skipped, and returns whether to skip the next one.
 fn put_unless(bytes: &mut Vec<u8>, skip: bool, b: u8) -> Result<bool, NoMemory>
     ensures { IfOk result (λ next. (rest : List ℕ) → bytes.new.items ++ undoubled next rest ≡ bytes.old.items ++ undoubled skip (b ∷ rest)) }
 {
@@ -186,7 +187,7 @@ fn put_unless(bytes: &mut Vec<u8>, skip: bool, b: u8) -> Result<bool, NoMemory>
     Ok(b == b'"')
 }
 
-/// The bytes of a string of which these stand between its quotes, with quotes among them.
+/// Returns the bytes of a string, given the bytes between its quotes, some of them doubled quotes.
 fn undoubled(alloc: Global, raw: &[u8]) -> Result<Name, NoMemory>
     ensures { IfOk result (λ name. name ≡ undoubled false raw.now) }
 {
@@ -198,7 +199,7 @@ fn undoubled(alloc: Global, raw: &[u8]) -> Result<Name, NoMemory>
     Name::of(alloc, &bytes)
 }
 
-/// The bytes of a string of which these stand between its quotes. Most strings hold no quote.
+/// Returns the bytes of a string, given the bytes between its quotes. Most strings contain no quote.
 fn unquoted(alloc: Global, raw: &[u8]) -> Result<Name, NoMemory>
     ensures { IfOk result (λ name. name ≡ undoubled false raw.now) }
 {
@@ -209,7 +210,7 @@ fn unquoted(alloc: Global, raw: &[u8]) -> Result<Name, NoMemory>
     }
 }
 
-/// The atom that is spelled so, by the bytes between the signs of its spelling.
+/// Builds the atom with this spelling, given the bytes between the delimiters of that spelling.
 pub fn make_atom(alloc: Global, how: Spelling, raw: &[u8]) -> Result<Atom, NoMemory>
     ensures { IfOk result (λ atom. atom ≡ atom_of how (value_of how raw.now)) }
 {

@@ -1,4 +1,4 @@
-// Declarations as a text.
+// Printing of declarations.
 ghost use Rattle.std.specs.Prelude.{◌≡◌, ◌++◌, ◌∷◌, [], map, OnOk};
 ghost use Rattle.moxi_sexpr.specs.Printing.{bytes_behind};
 ghost use Rattle.moxi_terms.specs.View.{plain_function};
@@ -12,7 +12,7 @@ use moxi_terms::{Enumeration, Function, NamedSort, Scope};
 use std::alloc::Global;
 use text_core::{Names, NoMemory, Text};
 
-/// Appends names as symbols, with a blank between two.
+/// Appends names as symbols, separated by single blanks.
 pub fn put_symbols(out: &mut Text, names: &[&[u8]]) -> Result<(), NoMemory>
     ensures { OnOk result (out.new ≡ out.old ++ parts_text [] (shown_symbols (map bytes_behind names.now))) }
 {

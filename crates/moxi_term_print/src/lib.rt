@@ -1,4 +1,4 @@
-//! Prints MoXI terms, and says which printed terms are read again.
+//! Prints MoXI terms, and proves which printed terms read back.
 #![tactic(auto)]
 
 mod declarations;

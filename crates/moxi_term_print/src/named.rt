@@ -1,4 +1,4 @@
-// Names by their numbers: none where a number names nothing.
+// Names by number. A number without a name has the empty name.
 ghost use Rattle.std.specs.Prelude.{◌≡◌};
 ghost use Rattle.moxi_terms.specs.Names.{enumeration_names, function_names};
 ghost use Rattle.moxi_term_print.specs.Terms.{constant_name, name_at};
@@ -6,7 +6,7 @@ ghost use Rattle.moxi_term_print.specs.Terms.{constant_name, name_at};
 use moxi_terms::Scope;
 use text_core::Names;
 
-/// The name of an enumeration.
+/// Returns the name of enumeration number n, or the empty name where there is none.
 pub fn enumeration_name(scope: &Scope, n: u32) -> &[u8]
     ensures { result.now ≡ name_at (enumeration_names scope.now) n }
 {
@@ -16,7 +16,7 @@ pub fn enumeration_name(scope: &Scope, n: u32) -> &[u8]
     }
 }
 
-/// The name of a function.
+/// Returns the name of function number n, or the empty name where there is none.
 pub fn function_name(scope: &Scope, n: u32) -> &[u8]
     ensures { result.now ≡ name_at (function_names scope.now) n }
 {
@@ -36,7 +36,7 @@ fn name_in(names: &Names, i: u32) -> &[u8]
     }
 }
 
-/// The name of a constant of an enumeration.
+/// Returns the name of constant i of enumeration n, or the empty name where there is none.
 pub fn constant_name(scope: &Scope, n: u32, i: u32) -> &[u8]
     ensures { result.now ≡ constant_name scope.now n i }
 {

@@ -1,4 +1,4 @@
-// Operators as a text.
+// Printing of operators.
 ghost use Rattle.std.specs.Prelude.{◌≡◌, ◌<◌, ◌++◌, ◌∷◌, if◌then◌else◌, [], drop, length, OnOk};
 ghost use Rattle.moxi_terms.specs.declared.data.TermOp.TheVariants as operators;
 ghost use Rattle.moxi_term_print.specs.Shown.{no_showns, shown, text_of};
@@ -8,7 +8,7 @@ use moxi_terms::TermOp;
 use text_core::{NoMemory, Text};
 use word_core::{Binary, Unary};
 
-// The words of operators stand behind a blank and a bracket: they are mostly printed so.
+// The word of an operator, after a blank and a bracket, since it is mostly printed so.
 fn unary_word(op: Unary) -> &'static [u8]
     ensures { result.now ≡ 32 ∷ (40 ∷ unary_word op) }
 {
@@ -89,14 +89,14 @@ fn put_extract(out: &mut Text, high: u32, low: u32) -> Result<(), NoMemory>
     out.put(b")")
 }
 
-// The opening bracket, behind a blank where it is asked for.
+// Appends the opening bracket, after a blank if `behind` is true.
 fn put_opening(out: &mut Text, behind: bool) -> Result<(), NoMemory>
     ensures { OnOk result (out.new ≡ out.old ++ ((if behind then 32 ∷ [] else []) ++ 40 ∷ [])) }
 {
     put_word(out, behind, b" (")
 }
 
-// A word without its first byte unless that is asked for.
+// Appends a word, without its first byte unless `behind` is true.
 fn put_word(out: &mut Text, behind: bool, word: &[u8]) -> Result<(), NoMemory>
     requires { 0 < length word.now }
     ensures { OnOk result (out.new ≡ out.old ++ (if behind then word.now else drop 1 word.now)) }
@@ -108,7 +108,7 @@ fn put_word(out: &mut Text, behind: bool, word: &[u8]) -> Result<(), NoMemory>
     }
 }
 
-/// Appends the opening bracket of an application and its operator, all behind a blank where it is asked for (SMT-LIB 2.6,
+/// Appends the opening bracket of an application and its operator, after a blank if `behind` is true (SMT-LIB 2.6,
 /// theories Core and FixedSizeBitVectors).
 pub fn put_head(out: &mut Text, behind: bool, op: TermOp) -> Result<(), NoMemory>
     ensures { OnOk result (out.new ≡ out.old ++ ((if behind then 32 ∷ [] else []) ++ 40 ∷ text_of (shown_operator op))) }

@@ -1,4 +1,4 @@
-// Sorts and lists of variables as a text.
+// Printing of sorts and of lists of variables.
 ghost use Rattle.std.specs.Prelude.{◌≡◌, ◌++◌, ◌∷◌, if◌then◌else◌, [], OnOk};
 ghost use Rattle.moxi_term_print.specs.Shown.{group, parts_text, text_of};
 ghost use Rattle.moxi_term_print.specs.Terms.{shown_sort, shown_variable, shown_variables};
@@ -20,7 +20,7 @@ pub fn put_sort(out: &mut Text, scope: &Scope, sort: Sort) -> Result<(), NoMemor
     }
 }
 
-// A sort behind a blank, and the closing bracket behind it.
+// Appends a blank, a sort and a closing bracket.
 fn put_last_sort(out: &mut Text, scope: &Scope, sort: Sort) -> Result<(), NoMemory>
     ensures { OnOk result (out.new ≡ out.old ++ 32 ∷ (text_of (shown_sort scope.now sort) ++ 41 ∷ [])) }
 {
@@ -34,7 +34,7 @@ fn put_last_sort(out: &mut Text, scope: &Scope, sort: Sort) -> Result<(), NoMemo
     }
 }
 
-// The opening bracket of a variable, behind a blank unless it is the first one.
+// Appends the opening bracket of a variable, after a blank unless it is the first one.
 fn put_opening(out: &mut Text, first: bool) -> Result<(), NoMemory>
     ensures { OnOk result (out.new ≡ out.old ++ ((if first then [] else 32 ∷ []) ++ 40 ∷ [])) }
 {

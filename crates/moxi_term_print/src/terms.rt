@@ -1,4 +1,4 @@
-// Terms as a text.
+// Printing of terms.
 ghost use Rattle.std.specs.Prelude.{◌≡◌, ◌++◌, ◌∷◌, if◌then◌else◌, [], map, take, length, OnOk};
 ghost use Rattle.moxi_sexpr.specs.Printing.{bytes_behind};
 ghost use Rattle.moxi_terms.specs.Names.{function_names};
@@ -16,15 +16,16 @@ use moxi_terms::{Scope, Term, Variables};
 use std::alloc::Global;
 use text_core::{Names, NoMemory, Text};
 
-// Where the names of a term are found, but for those that a `let` binds.
+// The names of a term, except those that a `let` binds.
 #[derive(Clone, Copy)]
 struct Scene<'a> {
     scope: &'a Scope,
     variables: &'a [&'a [u8]],
 }
 
-/// Appends a term over these variables (SMT-LIB 2.6, section 3.6). A name that a `let` binds stands bare wherever the term
-/// has its number.
+/// Appends a term over these variables (SMT-LIB 2.6, section 3.6).
+///
+/// A name that a `let` binds is printed bare wherever the term has its number.
 pub fn put_term(
     alloc: Global,
     out: &mut Text,
@@ -39,7 +40,9 @@ pub fn put_term(
     put_term_over(alloc, out, scope, &names, term)
 }
 
-/// Appends a term over variables of these names, as `put_term` does: for many terms over the same variables.
+/// Appends a term over variables with these names, like `put_term`.
+///
+/// It is meant for many terms over the same variables.
 pub fn put_term_over(
     alloc: Global,
     out: &mut Text,
@@ -54,7 +57,7 @@ pub fn put_term_over(
     put_tree(out, scene, &mut bound, false, term)
 }
 
-/// Adds the names of variables.
+/// Appends the names of variables.
 pub fn push_variable_names<'a>(
     names: &mut Vec<&'a [u8]>,
     variables: &'a Variables,
@@ -92,14 +95,14 @@ fn push_names<'a>(bound: &mut Vec<&'a [u8]>, names: &'a Names) -> Result<(), NoM
     Ok(())
 }
 
-// A blank where it is asked for.
+// Appends a blank if `behind` is true.
 fn put_blank(out: &mut Text, behind: bool) -> Result<(), NoMemory>
     ensures { OnOk result (out.new ≡ out.old ++ (if behind then 32 ∷ [] else [])) }
 {
     if behind { out.put_byte(b' ') } else { Ok(()) }
 }
 
-// A term, behind a blank where it is asked for.
+// Appends a term, after a blank if `behind` is true.
 #[cycle(put)]
 #[inline(never)]
 fn put_tree<'a>(
@@ -145,7 +148,7 @@ fn put_tree<'a>(
     }
 }
 
-// Terms, each behind a blank.
+// Appends terms, each after a blank.
 #[cycle(put)]
 #[inline(never)]
 fn put_trees<'a>(
@@ -163,7 +166,7 @@ fn put_trees<'a>(
     Ok(())
 }
 
-// A call of a function without parameters is its bare name.
+// Appends a call. A call of a parameterless function is its bare name.
 #[cycle(put)]
 fn put_call<'a>(
     out: &mut Text,
@@ -184,7 +187,7 @@ fn put_call<'a>(
     out.put_byte(b')')
 }
 
-// A term around which these names more are bound.
+// Appends a term with these additional names bound.
 #[cycle(put)]
 #[inline(never)]
 fn put_body<'a>(
@@ -204,7 +207,7 @@ fn put_body<'a>(
     Ok(())
 }
 
-// `(name term)`.
+// Appends `(name term)`.
 #[cycle(put)]
 #[inline(never)]
 fn put_binding<'a>(
@@ -224,7 +227,7 @@ fn put_binding<'a>(
     out.put_byte(b')')
 }
 
-// Names and terms, as many as there are of both.
+// Appends the bindings of these names to these terms. There are as many names as terms.
 #[cycle(put)]
 #[inline(never)]
 fn put_bindings<'a>(

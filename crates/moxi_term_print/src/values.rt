@@ -1,4 +1,4 @@
-// Values as a text.
+// Printing of values.
 ghost use Rattle.std.specs.Prelude.{◌≡◌, ◌++◌, OnOk};
 ghost use Rattle.text_core.specs.Binary.{binary_digits};
 ghost use Rattle.moxi_sexpr.specs.declared.form.Atom.TheVariants as atoms;

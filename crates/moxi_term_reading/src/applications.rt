@@ -17,7 +17,9 @@ use moxi_terms::{Head, Scope, Sort, Term, Terms};
 use text_core::kinds::moxi;
 use text_core::{NoMemory, Place, Refusal};
 
-/// Terms one behind the other. `whole` tells whether each of them has a sort; the sorts stand on a stack of their own.
+/// The arguments read so far.
+///
+/// `whole` is true where each of them has a sort. The sorts are on a separate stack.
 #[derive(Drop)]
 pub struct ReadArguments {
     pub terms: Terms,
@@ -25,7 +27,7 @@ pub struct ReadArguments {
     pub failure: Option<Refusal>,
 }
 
-/// One more argument. Its sort comes on top of the sorts.
+/// Adds an argument, and pushes its sort on the stack.
 pub fn add_argument(
     r: ReadTerm,
     args: &mut ReadArguments,
@@ -39,7 +41,7 @@ pub fn add_argument(
     Ok(())
 }
 
-/// One more argument, a variable with this sort and this failing test.
+/// Adds an argument that is a variable with this sort and this failing test.
 pub fn add_variable(
     v: u32,
     primed: bool,
@@ -56,7 +58,7 @@ pub fn add_variable(
     Ok(())
 }
 
-// One more sort, where there is one.
+// Pushes a sort, if there is one.
 fn add_sort(sorts: &mut Vec<Sort>, whole: bool, sort: Option<Sort>) -> Result<bool, NoMemory>
     ensures sorts { OnOk result (sorts.new.items ≡ sorts.old.items ++ sorts_in sort) }
     ensures whole { IfOk result (λ b. b ≡ (is_some sort && whole)) }
@@ -70,14 +72,14 @@ fn add_sort(sorts: &mut Vec<Sort>, whole: bool, sort: Option<Sort>) -> Result<bo
     }
 }
 
-// How many terms there are.
+// The number of terms.
 fn count(terms: &[Term]) -> usize
     ensures { result ≡ length terms.now }
 {
     terms.len()
 }
 
-/// Adds an element at the end.
+/// Appends an element.
 pub fn put<T>(all: &mut Vec<T>, x: T) -> Result<(), NoMemory>
 where
     T: Drop,
@@ -86,7 +88,9 @@ where
     Ok(all.push(x)?)
 }
 
-/// An application at p of a head whose primes fail so, to arguments with these sorts.
+/// Reads an application at `p` of a head to arguments with these sorts.
+///
+/// `primes` is the failing test of the head's primes.
 pub fn application(
     scope: &Scope,
     p: Place,
@@ -142,8 +146,8 @@ fn head_term(head: Head, terms: Terms) -> Term
     }
 }
 
-// The sort of an application, and the failing test of the number and the sorts of its arguments: the sort counts where none
-// fails.
+// The sort of an application, and the failing test of the number and the sorts of its arguments. The sort is meaningful
+// only if no test fails.
 fn applied(
     scope: &Scope,
     p: Place,

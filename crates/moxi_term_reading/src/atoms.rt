@@ -33,7 +33,7 @@ fn variable_prime(primes: Primes, primed: bool, p: Place) -> Option<Refusal>
     }
 }
 
-// What a `let` around the term binds under this name. Most terms stand in none.
+// The binding of this name by a surrounding `let`. Most terms are inside none.
 #[tactic(auto, using(crate::proofs::ReadingLaws::last_of_none))]
 fn bound_named(bounds: &Bounds, name: &[u8]) -> Option<(u32, Option<Sort>)>
     ensures { found result ≡ last_of 0 bounds.now name.now }
@@ -45,7 +45,7 @@ fn bound_named(bounds: &Bounds, name: &[u8]) -> Option<(u32, Option<Sort>)>
     }
 }
 
-// What a bare name stands for.
+// The meaning of a bare name.
 fn meaning_of(setting: Setting, bounds: &Bounds, name: &[u8]) -> Option<Meaning>
     ensures { result ≡ meaning_of (context_of setting.entry) bounds.now name.now }
 {
@@ -88,7 +88,7 @@ fn named(
     }
 }
 
-// A literal of a word, with the failing tests of its primes.
+// A word literal, with the failing test of its primes.
 fn word(p: Place, w: Option<Word>, failure: Option<Refusal>) -> ReadTerm
     ensures { (fs : List Refusal) → failure ≡ least fs → IsRead (word_reading p w fs) result }
 {
@@ -124,7 +124,7 @@ fn hex_word(digits: &[u8]) -> Option<Word>
     }
 }
 
-/// The term that an atom at p spells.
+/// Reads the term that an atom at `p` spells.
 pub fn read_atom(alloc: Global, setting: Setting, bounds: &Bounds, p: Place, a: &Atom) -> ReadTerm
     ensures { IsRead (atom_reading (context_of setting.entry) bounds.now p a.now) result }
 {
@@ -144,7 +144,7 @@ pub fn read_atom(alloc: Global, setting: Setting, bounds: &Bounds, p: Place, a: 
     }
 }
 
-/// One more argument, which the atom at p spells.
+/// Adds the argument that the atom at `p` spells.
 pub fn add_atom(
     alloc: Global,
     setting: Setting,
@@ -162,7 +162,7 @@ pub fn add_atom(
     }
 }
 
-// One more argument, which a name spells.
+// Adds the argument that a name spells.
 fn add_name(
     alloc: Global,
     setting: Setting,
@@ -175,7 +175,7 @@ fn add_name(
 ) -> Result<(), NoMemory>
     ensures { OnOk result (IsAdded (named_reading setting.entry.primes p primed (meaning_of (context_of setting.entry) bounds.now name.now)) args.old sorts.old.items args.new sorts.new.items) }
 {
-    // Most names are variables: their terms are added with no copy.
+    // Most names are variables: their terms are added without a copy.
     match bound_named(bounds, name) {
         None => match setting.locals.find(name) {
             Some((v, sort)) => {
@@ -206,7 +206,7 @@ fn add_name(
     }
 }
 
-// One more argument, which a name spells that stands for this.
+// Adds the argument that a name with this meaning spells.
 fn add_meaning(
     alloc: Global,
     primes: Primes,
@@ -221,7 +221,7 @@ fn add_meaning(
     add_argument(named(alloc, primes, p, primed, meaning), args, sorts)
 }
 
-// What stands behind `bvN`, whose digits are these: the numeral of the width.
+// A literal `bvN` with these digits, given the numeral of its width.
 fn literal(p: Place, digits: &[u8], failure: Option<Refusal>, width: Option<&[u8]>) -> ReadTerm
     ensures { (fs : List Refusal) → failure ≡ least fs → IsRead (literal_reading p digits.now fs (digits_now width.entry)) result }
 {
@@ -231,7 +231,7 @@ fn literal(p: Place, digits: &[u8], failure: Option<Refusal>, width: Option<&[u8
     }
 }
 
-// The literal of this name, of which the tests of the primes fail so.
+// The literal with this name, given the failing test of its primes.
 fn named_literal(
     p: Place,
     q: Place,
@@ -247,7 +247,7 @@ fn named_literal(
     }
 }
 
-/// The term at p behind whose `_` at q these forms stand.
+/// Reads the term at `p` that begins with an `_` at `q`, followed by these forms.
 pub fn underscored(p: Place, q: Place, first: bool, rest: &[Form]) -> ReadTerm
     ensures { IsRead (underscore_reading p q first (plain_forms rest.now)) result }
 {

@@ -22,7 +22,8 @@ fn key(r: Refusal) -> u64
     u64::from(r.place.offset) * 256 + u64::from(number_of(r.kind))
 }
 
-/// The one that comes first: the one with the lesser place, and at one place the one with the lesser number.
+/// Returns the first of two failing tests: the one with the lesser place, and at one place the one with the
+/// lesser number.
 pub fn minimum(a: Option<Refusal>, b: Option<Refusal>) -> Option<Refusal>
     ensures { result ≡ minimum a b }
 {

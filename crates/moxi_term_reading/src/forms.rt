@@ -7,7 +7,7 @@ ghost use Rattle.moxi_term_reading.specs.SortReading.{only_numeral};
 use moxi_sexpr::{Atom, Form, FormShape};
 use text_core::{Place, is_same};
 
-/// The name of a symbol, and whether it is primed.
+/// Returns the name of a symbol, and whether it is primed, or None for any other atom.
 pub fn symbol_atom<'a>(a: &'a Atom) -> Option<(&'a [u8], bool)>
     ensures { symbol_now result ≡ symbol_atom a.now }
 {
@@ -21,14 +21,14 @@ pub fn symbol_atom<'a>(a: &'a Atom) -> Option<(&'a [u8], bool)>
     }
 }
 
-/// The place of the form.
+/// Returns the place of the form.
 pub fn place_in(form: &Form) -> Place
     ensures { result ≡ place_in (plain form.now) }
 {
     form.place
 }
 
-/// The name of the form, where it is a symbol, and whether it is primed.
+/// Returns the name of the form, and whether it is primed, or None where the form is no symbol.
 pub fn symbol_of<'a>(form: &'a Form) -> Option<(&'a [u8], bool)>
     ensures { symbol_now result ≡ symbol_of (plain form.now) }
 {
@@ -51,7 +51,7 @@ fn numeral_atom<'a>(a: &'a Atom) -> Option<&'a [u8]>
     }
 }
 
-/// The digits of the form, where it is a numeral.
+/// Returns the digits of the form, or None where it is no numeral.
 pub fn numeral_of<'a>(form: &'a Form) -> Option<&'a [u8]>
     ensures { digits_now result ≡ numeral_of (plain form.now) }
 {
@@ -61,7 +61,7 @@ pub fn numeral_of<'a>(form: &'a Form) -> Option<&'a [u8]>
     }
 }
 
-/// The form, where it is the only one.
+/// Returns the form if it is the only one.
 #[tactic(auto, using(crate::proofs::FormLaws::only_none, crate::proofs::FormLaws::only_one))]
 pub fn only_form<'a>(forms: &'a [Form]) -> Option<&'a Form>
     ensures { only_now result ≡ only_of (plain_forms forms.now) }
@@ -75,7 +75,7 @@ pub fn only_form<'a>(forms: &'a [Form]) -> Option<&'a Form>
     }
 }
 
-/// The two forms, where there are two.
+/// Returns the two forms, or None where there are not exactly two.
 #[tactic(auto, using(crate::proofs::FormLaws::pair_none, crate::proofs::FormLaws::pair_rest))]
 pub fn pair<'a>(forms: &'a [Form]) -> Option<(&'a Form, &'a Form)>
     ensures { pair_now result ≡ pair_of (plain_forms forms.now) }
@@ -89,7 +89,7 @@ pub fn pair<'a>(forms: &'a [Form]) -> Option<(&'a Form, &'a Form)>
     }
 }
 
-/// The digits of the only form, where it is a numeral.
+/// Returns the digits of the only form, or None where there is not exactly one form, a numeral.
 pub fn only_numeral<'a>(forms: &'a [Form]) -> Option<&'a [u8]>
     ensures { digits_now result ≡ only_numeral (plain_forms forms.now) }
 {
@@ -99,7 +99,7 @@ pub fn only_numeral<'a>(forms: &'a [Form]) -> Option<&'a [u8]>
     }
 }
 
-/// Is the form this symbol, primed or not?
+/// Returns whether the form is this symbol, primed or not.
 pub fn is_word(word: &[u8], form: &Form) -> bool
     ensures { result ≡ is_word word.now (plain form.now) }
 {
@@ -109,7 +109,7 @@ pub fn is_word(word: &[u8], form: &Form) -> bool
     }
 }
 
-/// Is the form a primed symbol?
+/// Returns whether the form is a primed symbol.
 pub fn is_primed(form: &Form) -> bool
     ensures { result ≡ is_primed (plain form.now) }
 {

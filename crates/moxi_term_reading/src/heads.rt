@@ -17,7 +17,7 @@ use moxi_terms::{Head, Scope, TermOp, is_indexed, is_left_out};
 use text_core::kinds::moxi;
 use text_core::{Place, Refusal, is_digit, is_same};
 
-/// The failing test of a prime.
+/// Returns the failing test of a prime, or None where there is no prime.
 pub fn prime(primed: bool, p: Place) -> Option<Refusal>
     ensures { result ≡ least (prime_failures primed p) }
 {
@@ -28,7 +28,7 @@ pub fn prime(primed: bool, p: Place) -> Option<Refusal>
     }
 }
 
-/// Is the symbol this word, primed or not?
+/// Returns whether the symbol is this word, primed or not.
 pub fn is_named(word: &[u8], symbol: Option<(&[u8], bool)>) -> bool
     ensures { result ≡ is_named word.now (symbol_now symbol.entry) }
 {
@@ -38,7 +38,7 @@ pub fn is_named(word: &[u8], symbol: Option<(&[u8], bool)>) -> bool
     }
 }
 
-/// The digits of `bvN`.
+/// Returns the digits of `bvN`, or None where the name has another form.
 pub fn literal_digits<'a>(name: &'a [u8]) -> Option<&'a [u8]>
     ensures { digits_now result ≡ literal_digits name.now }
 {
@@ -52,7 +52,7 @@ pub fn literal_digits<'a>(name: &'a [u8]) -> Option<&'a [u8]>
     }
 }
 
-// The bytes, where they are one or more digits.
+// The bytes, if they are one or more digits.
 fn decimal_digits<'a>(bytes: &'a [u8]) -> Option<&'a [u8]>
     ensures { digits_now result ≡ decimal_digits bytes.now }
 {
@@ -212,7 +212,7 @@ fn symbol_prime(form: &Form) -> Option<Refusal>
     prime(is_primed(form), form.place)
 }
 
-/// The failing test of the primes of a head.
+/// Returns the failing test of the primes of a head.
 pub fn head_prime(head: &Form) -> Option<Refusal>
     ensures { result ≡ least (head_primes (plain head.now)) }
 {

@@ -1,4 +1,4 @@
-// What a `let` binds.
+// The bindings of a `let`.
 ghost use Rattle.std.specs.Prelude.{◌≡◌, List, Some, OnOk, IfOk};
 ghost use Rattle.std.specs.List.{list_all};
 ghost use Rattle.text_core.specs.declared.place.Refusal.{Refusal};
@@ -18,7 +18,7 @@ use std::alloc::Global;
 use text_core::kinds::moxi;
 use text_core::{List, Name, Names, NoMemory, Place, Refusal};
 
-/// What a `let` binds, with the failing tests of its form and of its terms.
+/// The bindings of a `let`, with the failing test of its form and the failing test of its terms.
 #[derive(Drop)]
 pub struct ReadBindings {
     pub names: Names,
@@ -28,7 +28,7 @@ pub struct ReadBindings {
     pub failure: Option<Refusal>,
 }
 
-/// One or more bindings stand in the list at q.
+/// Tests that the list at `q` has one or more bindings, and returns the failing test.
 #[tactic(auto, using(crate::proofs::ReadingLaws::empty_bindings))]
 pub fn some_binding(q: Place, bindings: &[Form]) -> Option<Refusal>
     ensures { result ≡ least (bindings_tests q (plain_forms bindings.now)) }
@@ -39,7 +39,7 @@ pub fn some_binding(q: Place, bindings: &[Form]) -> Option<Refusal>
     }
 }
 
-// Has each of the bound values a sort?
+// Whether each of the bound values has a sort.
 fn have_sorts(locals: &List<Local>) -> bool
     ensures { result ≡ list_all has_sort locals.now }
 {
@@ -51,15 +51,17 @@ fn have_sorts(locals: &List<Local>) -> bool
     true
 }
 
-// The sort of a `let`, whose body has this one.
+// The sort of a `let` whose body has this sort.
 fn let_sort(locals: &List<Local>, sort: Option<Sort>) -> Option<Sort>
     ensures { result ≡ let_sort locals.now sort }
 {
     if have_sorts(locals) { sort } else { None }
 }
 
-/// A `let` whose form fails this test, of these bindings and this body. It has a sort where its form passes, and each bound
-/// value and the body have one.
+/// Builds a `let` with these bindings and this body.
+///
+/// `failure` is the failing test of its form. The `let` has a sort if its form passes, and each bound value and the body
+/// have one.
 pub fn let_term(
     alloc: Global,
     failure: Option<Refusal>,
@@ -78,14 +80,14 @@ pub fn let_term(
     })
 }
 
-/// One more binding that hasn't its shape: it binds nothing.
+/// Adds a misshapen binding, which binds nothing.
 pub fn misshapen(p: Place, all: &mut ReadBindings)
     ensures { (x : Bindings) → AreBound x all.old → AreBound (both_bindings x (misshapen p)) all.new }
 {
     all.shape = minimum(all.shape, Some(refusal(moxi::ARITY, p)));
 }
 
-/// One more binding, of a name whose prime fails so.
+/// Adds the binding of a name, given the failing test of the name's prime.
 pub fn bind_to(
     alloc: Global,
     name: &[u8],

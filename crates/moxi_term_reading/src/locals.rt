@@ -1,4 +1,4 @@
-// The variables of a term, and the names that the `let`s around it bind, found with no scan.
+// The variables of a term, and the names that the surrounding `let`s bind, found without a scan.
 ghost use Rattle.std.specs.Prelude.{◌≡◌, ◌<◌, ◌^◌, ◌-◌, ◌≤◌, ◌+◌, ◌++◌, ◌∷◌, [], List, length, take, Some, None, is_none, IfOk, OnOk, OnErr};
 ghost use Rattle.moxi_term_reading.specs.Finding.{first_of, last_of, IsStacked, found, locals_in};
 ghost use Rattle.name_maps.specs.Names.{place_of};
@@ -10,14 +10,18 @@ use std::alloc::Global;
 use std::marker::Model;
 use text_core::{List, Name, NoMemory};
 
-/// A name that a variable or a `let` declares, and its sort, which is unknown where what it rests on fails a test.
+/// A name declared by a variable or a `let`, and its sort.
+///
+/// The sort is unknown where the declaration or the bound value fails a test.
 #[derive(Drop)]
 pub struct Local {
     pub name: Name,
     pub sort: Option<Sort>,
 }
 
-/// Variables, seen as their list. Of two with one name the first is found.
+/// Variables, seen by contracts as a list.
+///
+/// Among variables with the same name the first is found.
 #[derive(Drop)]
 pub struct Locals {
     alloc: Global,
@@ -39,7 +43,7 @@ impl Model for Locals {
 }
 
 impl Locals {
-    /// No variables. It takes no memory.
+    /// Returns an empty list, without allocating.
     pub fn new(alloc: Global) -> Locals
         ensures { result ≡ [] }
     {
@@ -51,8 +55,9 @@ impl Locals {
         }
     }
 
-    /// Adds a variable, without a sort where it has none, and says whether its name is new. Nothing changes where memory is
-    /// refused.
+    /// Adds a variable, with its sort if it has one, and returns whether its name is new.
+    ///
+    /// Out of memory leaves the list unchanged.
     pub fn add(&mut self, name: Name, sort: Option<Sort>) -> Result<bool, NoMemory>
         requires room { length self.old < 2 ^ 32 - 1 }
         ensures fresh { IfOk result (λ fresh. fresh ≡ is_none (first_of 0 self.old name)) }
@@ -73,7 +78,7 @@ impl Locals {
         }
     }
 
-    /// The number of the first variable of this name, and its sort.
+    /// Returns the number and the sort of the first variable with this name.
     pub fn find(&self, name: &[u8]) -> Option<(u32, Option<Sort>)>
         ensures { found result ≡ first_of 0 self.now name.now }
     {
@@ -87,8 +92,8 @@ impl Locals {
     }
 }
 
-/// A name that a `let` binds: its place among all names that any `let` bound, the number of the last name equal to it
-/// before, and its sort.
+/// A name that a `let` binds: its index among all names that any `let` bound, the number of the last equal name before it,
+/// and its sort.
 #[derive(Clone, Copy)]
 pub struct Binding {
     key: usize,
@@ -96,7 +101,9 @@ pub struct Binding {
     sort: Option<Sort>,
 }
 
-/// The names that the `let`s around a term bind, the outermost first, seen as their list. The last of a name is found.
+/// The names that the surrounding `let`s bind, outermost first, seen by contracts as a list.
+///
+/// Among equal names the last is found.
 #[derive(Drop)]
 pub struct Bounds {
     alloc: Global,
@@ -119,7 +126,7 @@ impl Model for Bounds {
 }
 
 impl Bounds {
-    /// No names. It takes no memory.
+    /// Returns an empty list, without allocating.
     pub fn new(alloc: Global) -> Bounds
         ensures { result ≡ [] }
     {
@@ -141,7 +148,7 @@ impl Bounds {
         Ok(())
     }
 
-    // Binds a name. There is no memory for more names than 32 bits number.
+    // Binds a name. There may be no more names than 32 bits can number.
     fn bind(&mut self, local: &Local) -> Result<(), NoMemory>
         ensures { OnOk result (self.new ≡ self.old ++ local.now ∷ []) }
     {
@@ -166,7 +173,7 @@ impl Bounds {
         Ok(())
     }
 
-    /// Unbinds the last names, so that this many are left.
+    /// Unbinds the last names, so that this many remain.
     pub fn keep(&mut self, count: usize)
         requires { count ≤ length self.old }
         ensures { self.new ≡ take count self.old }
@@ -186,13 +193,14 @@ impl Bounds {
         }
     }
 
+    /// Returns the number of names.
     pub fn len(&self) -> usize
         ensures { result ≡ length self.now }
     {
         self.bindings.len()
     }
 
-    /// The number of the last name equal to this one, and its sort.
+    /// Returns the number and the sort of the last name equal to this one.
     pub fn find(&self, name: &[u8]) -> Option<(u32, Option<Sort>)>
         ensures { found result ≡ last_of 0 self.now name.now }
     {
@@ -209,7 +217,7 @@ impl Bounds {
     }
 }
 
-// The place of this name, which is declared where it isn't yet.
+// The index of this name, which is declared if it is new.
 fn key_of(
     alloc: Global,
     names: &mut NameSet,

@@ -1,4 +1,4 @@
-// What a form spells.
+// The result of reading a form.
 ghost use Rattle.std.specs.Prelude.{◌≡◌, List};
 ghost use Rattle.text_core.specs.declared.place.Refusal.{Refusal};
 ghost use Rattle.moxi_term_reading.specs.Answer.{IsRead, unless_some};
@@ -10,8 +10,10 @@ use crate::locals::Locals;
 use moxi_terms::{Datum, Primes, Scope, Sort, Term};
 use text_core::Refusal;
 
-/// What a form spells: a term, its sort where it has one, and of the tests that fail the one with the least place and
-/// number. Where a test fails, the term means nothing.
+/// The result of reading a form: a term, its sort if it has one, and the failing test with the least place and
+/// number.
+///
+/// Where a test fails, the term is meaningless.
 #[derive(Drop)]
 pub struct ReadTerm {
     pub term: Term,
@@ -19,7 +21,7 @@ pub struct ReadTerm {
     pub failure: Option<Refusal>,
 }
 
-/// Where a term stands: the scope, the variables, and whether these may be primed.
+/// The context of a term: the scope, the variables, and whether they may be primed.
 #[derive(Clone, Copy)]
 pub struct Setting<'a> {
     pub scope: &'a Scope,
@@ -27,14 +29,14 @@ pub struct Setting<'a> {
     pub primes: Primes,
 }
 
-/// What stands where no term is spelled.
+/// Returns the placeholder where no term is spelled.
 pub fn no_term() -> Term
     ensures { plain result ≡ no_term }
 {
     Term::Constant(Datum::Truth(false))
 }
 
-/// A form that fails this test.
+/// Returns the result of a form that fails this test.
 pub fn failed(f: Refusal) -> ReadTerm
     ensures { IsRead (failed f) result }
 {
@@ -45,7 +47,7 @@ pub fn failed(f: Refusal) -> ReadTerm
     }
 }
 
-/// A sort that rests on tests.
+/// Returns the sort if no test failed.
 pub fn unless_failed(failure: Option<Refusal>, sort: Option<Sort>) -> Option<Sort>
     ensures { result ≡ unless_some failure sort }
 {
@@ -55,7 +57,7 @@ pub fn unless_failed(failure: Option<Refusal>, sort: Option<Sort>) -> Option<Sor
     }
 }
 
-/// A term, and the test of it that fails.
+/// Returns the result of a term, with its sort if no test fails.
 pub fn checked_term(term: Term, sort: Option<Sort>, failure: Option<Refusal>) -> ReadTerm
     ensures { (fs : List Refusal) → failure ≡ least fs → IsRead (checked_term (plain term) sort fs) result }
 {

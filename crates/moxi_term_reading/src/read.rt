@@ -27,10 +27,10 @@ use std::alloc::Global;
 use text_core::kinds::moxi;
 use text_core::{End, List, Name, Names, NoMemory, Place, Refusal};
 
-/// Why a form spells no term: a test fails, or memory runs out.
+/// The reason why a form spells no term: a test fails, or memory runs out.
 pub type TermEnd = End;
 
-// The stack of sorts holds those of the arguments that are read so far, for each application around the form.
+// Reads a form. The stack holds the sorts of the arguments read so far, for each application around the form.
 #[cycle(read)]
 #[inline(never)]
 fn read_form(
@@ -153,7 +153,7 @@ fn read_argument(
     }
 }
 
-// The forms behind the `let` of a term at p.
+// Reads the forms after the `let` of a term at `p`.
 #[cycle(read)]
 #[inline(never)]
 fn read_let(
@@ -182,7 +182,7 @@ fn read_let(
     }
 }
 
-// The body of a `let` whose form fails this test, under its bindings.
+// Reads the body of a `let` under its bindings. `failure` is the failing test of the form of the `let`.
 #[cycle(read)]
 #[inline(never)]
 fn read_body(
@@ -205,7 +205,7 @@ fn read_body(
     let_term(alloc, failure, bindings, r)
 }
 
-// The bindings of a list at q; the values are read outside the `let`.
+// Reads the bindings of a list at `q`. The values are outside the scope of the `let`.
 #[cycle(read)]
 #[inline(never)]
 fn read_bindings(
@@ -233,7 +233,7 @@ fn read_bindings(
     Ok(all)
 }
 
-// One binding of a list at q.
+// Reads one binding of a list at `q`.
 #[cycle(read)]
 #[inline(never)]
 fn read_binding(
@@ -273,8 +273,10 @@ fn read_binding(
     }
 }
 
-/// The term that a form spells over these variables, its sort, and the failing test with the least place of M4 to M8 and M12.
-/// A variable without a sort is one whose own declaration fails a test.
+/// Reads the term that a form spells over these variables, its sort, and its failing test.
+///
+/// That test is the one of M4 to M8 and M12 with the least place. A variable without a sort is one whose own declaration
+/// fails a test.
 pub fn read_term(
     alloc: Global,
     scope: &Scope,
@@ -294,7 +296,7 @@ pub fn read_term(
     read_form(alloc, setting, &mut bounds, &mut sorts, form)
 }
 
-// The variables, found by their names.
+// The variables as an index by name.
 fn by_name(alloc: Global, variables: &Variables) -> Result<Locals, NoMemory>
     requires { length variables.now < 2 ^ 32 }
     ensures { IfOk result (λ l. l ≡ locals_of variables.now) }
@@ -306,9 +308,10 @@ fn by_name(alloc: Global, variables: &Variables) -> Result<Locals, NoMemory>
     Ok(locals)
 }
 
-/// The term and the sort that a form spells over these variables, or the failing test of M4 to M8 and M12 with the least
-/// place, and at one place with the least number. The term is well sorted: it may be evaluated, and it may be the body of a
-/// function.
+/// Returns the term that a form spells over these variables, and its sort.
+///
+/// A refusal is the failing test of M4 to M8 and M12 with the least place, and at one place with the least number. The term
+/// is well sorted: it may be evaluated, and it may be the body of a function.
 pub fn term_of(
     alloc: Global,
     scope: &Scope,
@@ -329,9 +332,10 @@ pub fn term_of(
     }
 }
 
-/// A form of which no test fails, over variables that have sorts, spells a term that has the sort that is read for it; where
-/// primes are refused, no variable in it is primed. A form that has a sort fails no test, so a `let` whose bound value or body
-/// fails one has none.
+/// Proves that a form without failing tests, over variables that have sorts, spells a term of the sort that is read for it.
+///
+/// If primes are refused, no variable in the term is primed. A form that has a sort fails no test. So a `let` with a
+/// failing value or body has no sort.
 pub fn read_terms_have_sorts()
     ensures forms { (c : Context) (vars : List Sort) (t : Tree) → HaveKnownSorts c.variables vars → (read c [] t).failures ≡ [] → IsWellSorted c vars [] (read c [] t) }
     ensures terms { (c : Context) (vars : List Sort) (t : Tree) (r : ReadTerm) → HaveKnownSorts c.variables vars → IsRead (read c [] t) r → r.failure ≡ None → IsSortedTerm c vars r }

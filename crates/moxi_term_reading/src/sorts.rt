@@ -16,14 +16,14 @@ use text_core::kinds::moxi;
 use text_core::{Kind, Place, Refusal, is_same};
 use word_core::{WIDEST, read_digits};
 
-/// A refusal of this kind at this place.
+/// Returns a refusal of this kind at this place.
 pub fn refusal(kind: Kind, place: Place) -> Refusal
     ensures { result ≡ record { kind = kind; place = place } }
 {
     Refusal { kind, place }
 }
 
-/// The number that a numeral spells, or the greatest of 32 bits where it is greater.
+/// Returns the number that a numeral spells, or the greatest number of 32 bits where it is greater.
 pub fn index_of(digits: &[u8]) -> u32
     ensures { result ≡ index_of digits.now }
 {
@@ -33,7 +33,9 @@ pub fn index_of(digits: &[u8]) -> u32
     }
 }
 
-/// What a form at p is refused with, that has a name at q which stands for nothing.
+/// Returns the refusal of a form at `p` with an unknown name at `q`.
+///
+/// If the name is unsupported, the refusal is at `p`, otherwise at `q`.
 pub fn unknown_refusal(left_out: bool, p: Place, q: Place) -> Refusal
     ensures { result ≡ unknown left_out p q }
 {
@@ -78,7 +80,7 @@ fn width_sort(
     }
 }
 
-// What stands behind `BitVec`: the numeral of the width.
+// The sort after `BitVec`, given the numeral of its width.
 fn vector_sort(
     p: Place,
     q: Place,
@@ -95,7 +97,7 @@ fn vector_sort(
     }
 }
 
-// A name at r that stands for nothing, behind the `_` at q of a sort at p, which may be primed.
+// The refusal of a sort at `p` with an unknown name at `r` after the `_` at `q`. The name may be primed.
 fn unknown_indexed(left_out: bool, p: Place, q: Place, first: bool, r: Place) -> Refusal
     ensures { result ≡ unknown_indexed left_out p q first r }
 {
@@ -108,7 +110,7 @@ fn unknown_indexed(left_out: bool, p: Place, q: Place, first: bool, r: Place) ->
     }
 }
 
-// What stands behind the `_` at q of a sort at p.
+// The sort that follows the `_` at `q`, in a sort at `p`.
 fn indexed_sort(
     scope: &Scope,
     p: Place,
@@ -133,7 +135,7 @@ fn indexed_sort(
     }
 }
 
-// A list at p, that has this symbol at its head at q.
+// The sort that a list at `p` spells, with this symbol as its head at `q`.
 fn listed_sort(
     scope: &Scope,
     p: Place,
@@ -169,7 +171,8 @@ fn atom_sort(
     }
 }
 
-/// The sort that a form in a list at `around` spells, or the failing test with the least place (M4, M6, M7, M8, M12).
+/// Returns the sort that a form in a list at `around` spells, or the failing test with the least place (M4, M6, M7, M8,
+/// M12).
 pub fn sort_of(scope: &Scope, around: Place, form: &Form) -> Result<Sort, Refusal>
     ensures { result ≡ sort_reading scope.now around (plain form.now) }
 {
@@ -182,7 +185,7 @@ pub fn sort_of(scope: &Scope, around: Place, form: &Form) -> Result<Sort, Refusa
     }
 }
 
-/// A sort that a form spells is one of the scope.
+/// Proves that the sort that a form spells is one of the scope.
 pub fn read_sorts_are_of_the_scope()
     ensures { (s : ScopeState) (around : Place) (t : Tree) → IsScope s → IfOk (sort_reading s around t) (IsSort s.enumerations) }
 {}

@@ -33,7 +33,7 @@ fn same_sort(s: Sort, t: Sort) -> bool
     }
 }
 
-// Are the parameters of these sorts?
+// Whether the parameters have these sorts.
 #[tactic(auto, using(crate::proofs::TypingLaws::sorts_end, crate::proofs::TypingLaws::sorts_front, crate::proofs::TypingLaws::other_length))]
 fn same_sorts(parameters: &Variables, sorts: &[Sort]) -> bool
     ensures { result ≡ same_sorts (sorts_of parameters.now) sorts.now }
@@ -49,7 +49,7 @@ fn same_sorts(parameters: &Variables, sorts: &[Sort]) -> bool
     true
 }
 
-// Are all of them this sort?
+// Whether all of them are this sort.
 fn are_all(s: Sort, sorts: &[Sort]) -> bool
     ensures { result ≡ list_all (same_sort s) sorts.now }
 {
@@ -61,7 +61,7 @@ fn are_all(s: Sort, sorts: &[Sort]) -> bool
     true
 }
 
-// The one sort that all of them are.
+// The sort that all of them have in common.
 #[tactic(auto, using(crate::proofs::TypingLaws::common_none))]
 fn common(sorts: &[Sort]) -> Option<Sort>
     ensures { result ≡ common sorts.now }
@@ -170,7 +170,7 @@ fn calculated(op: Binary, sort: Option<Sort>) -> Result<Sort, Kind>
     }
 }
 
-// Words of the sum of these widths.
+// The sort of words whose width is the sum of these widths.
 fn widened(v: u32, w: u32) -> Result<Sort, Kind>
     ensures { result ≡ widened (v + w) }
 {
@@ -214,7 +214,7 @@ fn fitting(op: TermOp, sorts: &[Sort]) -> Result<Sort, Kind>
     }
 }
 
-// The bits from high down to low of words of this width.
+// The sort of the bits from `high` down to `low` of words of this width.
 fn extracted(high: u32, low: u32, w: u32) -> Result<Sort, Kind>
     ensures { result ≡ fitting (op.Extract high low) (sort.Bits w ∷ []) }
 {
@@ -248,7 +248,7 @@ fn call_sort(function: Option<&Function>, sorts: &[Sort]) -> Result<Sort, Kind>
     }
 }
 
-/// The sort of an application to arguments of these sorts, or the kind of the failing test.
+/// Returns the sort of an application to arguments with these sorts, or the kind of the failing test.
 pub fn head_sort(scope: &Scope, head: Head, sorts: &[Sort]) -> Result<Sort, Kind>
     ensures { result ≡ head_sort scope.now.functions head sorts.now }
 {
@@ -258,7 +258,7 @@ pub fn head_sort(scope: &Scope, head: Head, sorts: &[Sort]) -> Result<Sort, Kind
     }
 }
 
-/// May the head have so many arguments?
+/// Returns whether the head may have this many arguments.
 pub fn head_count_fits(scope: &Scope, head: Head, count: usize) -> bool
     ensures { result ≡ head_count_fits scope.now.functions head count }
 {

@@ -2,8 +2,8 @@
 
 use word_core::{Binary, Unary, Word};
 
-/// What a term stands for: a truth value, a bit vector of this width, from 1 to `WIDEST`, or a constant of the enumeration
-/// with this number (MoXI, SPIN 2024; SMT-LIB 2.6, section 3.5).
+/// The sort of a term: truth values, bit vectors of a width from 1 to `WIDEST`, or the enumeration with this number (MoXI,
+/// SPIN 2024; SMT-LIB 2.6, section 3.5).
 #[derive(Clone, Copy, PartialEq, Eq)]
 pub enum Sort {
     Truth,
@@ -11,7 +11,9 @@ pub enum Sort {
     Choice(u32),
 }
 
-/// A value. `Constant(n, i)` is the constant number i of the enumeration number n, both counted from 0.
+/// A value.
+///
+/// `Constant(n, i)` is constant number i of enumeration number n, both counted from 0.
 #[derive(Clone, Copy)]
 pub enum Datum {
     Truth(bool),
@@ -19,15 +21,17 @@ pub enum Datum {
     Constant(u32, u32),
 }
 
-/// May a variable be primed?
+/// Whether variables may be primed.
 #[derive(Clone, Copy, PartialEq, Eq)]
 pub enum Primes {
     Allowed,
     Refused,
 }
 
-/// An operator (SMT-LIB 2.6, theories Core and FixedSizeBitVectors). `Extract` has its high and its low index. `BvUnary` is
-/// used with `Not` and `Neg` alone, and `BvBinary` with the operators of the theory alone.
+/// An operator (SMT-LIB 2.6, theories Core and FixedSizeBitVectors).
+///
+/// `Extract` holds its high and its low index. `BvUnary` is used with `Not` and `Neg` only, and `BvBinary` with the
+/// theory's operators only.
 #[derive(Clone, Copy, PartialEq, Eq)]
 pub enum TermOp {
     Not,

@@ -15,7 +15,7 @@ use crate::term::{Env, Function, Term};
 use std::alloc::Global;
 use text_core::{List, NoMemory};
 
-/// Values of variables: those that the caller hands in, or the arguments of a call.
+/// The values of variables: given by the caller, or the arguments of a call.
 #[derive(Clone, Copy)]
 enum Valuation<'a> {
     Given(&'a Env),
@@ -45,7 +45,7 @@ fn bound_at(bound: &[Datum], i: u32) -> Datum
     }
 }
 
-// Where a term is evaluated: the first functions may be called.
+// The context of an evaluation: values now and later, and how many of the functions may be called.
 #[derive(Clone, Copy)]
 struct Scene<'a> {
     functions: &'a List<Function>,
@@ -54,8 +54,9 @@ struct Scene<'a> {
     later: Valuation<'a>,
 }
 
-/// The value of a term that is well sorted over the scope and some variables, where these have the values now and later. A
-/// body of a function is evaluated once for each call.
+/// Returns the value of a term, given the values of the variables now and later.
+///
+/// The term is well sorted over the scope and the variables. A function's body is evaluated once for each call.
 pub fn eval(
     alloc: Global,
     scope: &Scope,
@@ -116,7 +117,7 @@ fn value(alloc: Global, scene: Scene, bound: &mut Vec<Datum>, t: &Term) -> Resul
     }
 }
 
-// The value of a term around which these values more are bound.
+// The value of a term with these additional values bound.
 #[cycle(value)]
 #[inline(never)]
 fn inner_value(
@@ -143,7 +144,7 @@ fn append(all: &mut Vec<Datum>, more: &[Datum]) -> Result<(), NoMemory>
     Ok(all.extend_from_slice(more)?)
 }
 
-// What a function gives for these arguments, which are the values of its variables.
+// The value of a call of this function. The arguments are the values of its variables.
 #[cycle(value)]
 #[inline(never)]
 fn call(
@@ -194,7 +195,7 @@ fn put(all: &mut Vec<Datum>, d: Datum) -> Result<(), NoMemory>
     Ok(all.push(d)?)
 }
 
-/// A term that has a sort has a value of that sort.
+/// Proves that a term with a sort has a value of that sort.
 pub fn values_have_sorts()
     ensures { (s : ScopeState) (vars : List Sort) (now later : List Datum) (t : Tree) (sort : Sort) → IsScope s → Fit s.enumerations vars now → Fit s.enumerations vars later
         → HasSort s.enumerations s.functions vars [] t sort → IsOf s.enumerations sort (term_value (calls_upto s.functions (length s.functions)) (at now) (at later) [] t) }

@@ -1,4 +1,4 @@
-//! Sorts, terms and scopes of MoXI as values, and the value of a term.
+//! Sorts, terms and scopes of MoXI as values, and the evaluation of terms.
 #![tactic(auto)]
 
 mod data;

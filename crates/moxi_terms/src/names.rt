@@ -1,9 +1,9 @@
-// What names stand for.
+// Meanings of names.
 
 use crate::data::{Datum, Sort, TermOp};
 
-/// What a bare name stands for: the number of a bound name or of a variable, each with its sort where it is known, a
-/// constant, or the number of a function without parameters.
+/// The meaning of a bare name: a bound name or a variable by its number, with its sort if known; a constant; or a
+/// parameterless function by its number.
 #[derive(Clone, Copy)]
 pub enum Meaning {
     Bound(u32, Option<Sort>),
@@ -12,7 +12,7 @@ pub enum Meaning {
     Call(u32, Sort),
 }
 
-/// What the head of an application stands for: an operator, or the number of a function with parameters.
+/// The meaning of the head of an application: an operator, or the number of a function with parameters.
 #[derive(Clone, Copy)]
 pub enum Head {
     Operator(TermOp),

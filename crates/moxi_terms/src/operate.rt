@@ -1,4 +1,4 @@
-// What each operator gives.
+// Evaluation of operators.
 ghost use Rattle.std.specs.Prelude.{◌≡◌, false, ◌==◌, ◌<◌, ◌&&◌, ◌||◌, drop, not, Some, None, Ok, List, [], ◌∷◌, length};
 ghost use Rattle.std.specs.List.{list_all, list_any};
 ghost use Rattle.word_core.specs.Table.{BinaryFits};
@@ -9,7 +9,7 @@ ghost use Rattle.moxi_terms.specs.Applied.{AreWide, CanApply, IsBits};
 use crate::data::{Datum, TermOp};
 use word_core::{Binary, Word, binary, sext, slice, uext, unary};
 
-/// The truth value of a value.
+/// Returns the truth value of a value, which is false for any other kind of value.
 pub fn truth(d: &Datum) -> bool
     ensures { result ≡ truth_of d.now }
 {
@@ -19,7 +19,7 @@ pub fn truth(d: &Datum) -> bool
     }
 }
 
-// Are the values one?
+// Whether two values are the same.
 fn same(a: &Datum, b: &Datum) -> bool
     ensures { result ≡ same a.now b.now }
 {
@@ -71,7 +71,7 @@ fn parity(vs: &[Datum]) -> bool
     odd
 }
 
-// A chain of implications, read from the right: the first of them is this one.
+// A right-associative chain of implications, of which `first` is the first argument.
 fn implied(first: &Datum, rest: &[Datum]) -> bool
     ensures { result ≡ implied first.now rest.now }
 {
@@ -122,7 +122,7 @@ fn do_all_differ(vs: &[Datum]) -> bool
     true
 }
 
-// The operator on this word and the words of these values, from the left.
+// The operator folded from the left over this word and the words of these values.
 fn folded(op: Binary, first: Word, rest: &[Datum]) -> Word
     requires { AreWide op first rest.now }
     ensures { result ≡ folded op first rest.now }
@@ -136,6 +136,7 @@ fn folded(op: Binary, first: Word, rest: &[Datum]) -> Word
     word
 }
 
+/// Returns whether a binary operator compares two words.
 pub fn is_comparison(op: Binary) -> bool
     ensures { result ≡ is_comparison op }
 {
@@ -176,7 +177,9 @@ fn on_data(op: Binary, first: &Datum, rest: &[Datum]) -> Datum
     }
 }
 
-/// The value that an operator gives. It asks for values of sorts that the operator takes.
+/// Returns the value of an operator on these arguments.
+///
+/// The arguments must have sorts that the operator takes.
 pub fn operate(op: TermOp, args: &[Datum]) -> Datum
     requires { CanApply op args.now }
     ensures { result ≡ op_value op args.now }

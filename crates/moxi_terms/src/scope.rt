@@ -1,4 +1,4 @@
-// What a script declares: enumerations, sorts and functions.
+// Scopes: the enumerations, sorts and functions that a script declares.
 ghost use Rattle.std.specs.Prelude.{◌≡◌, ◌<◌, ◌≤◌, ◌^◌, ◌-◌, ◌+◌, ◌++◌, take, not, length, map, IfOk, OnOk, OnErr, Some, None, if◌then◌else◌, option_and_then, slice_get, IsTrue};
 ghost use Rattle.std.specs.List.{list_any};
 ghost use Rattle.std.specs.Option.{option_map};
@@ -19,8 +19,9 @@ use std::alloc::Global;
 use std::marker::Model;
 use text_core::{List, Name, Names, NoMemory, is_same};
 
-/// The enumerations, sorts and functions of a script, each kind numbered from 0 in the order of adding. It is seen as the
-/// lists of what was added; names are found with no scan.
+/// The enumerations, sorts and functions of a script, each kind numbered from 0 in the order in which they were added.
+///
+/// Contracts see it as the lists of what was added. Names are found without a scan.
 #[derive(Drop)]
 pub struct Scope {
     alloc: Global,
@@ -51,7 +52,7 @@ impl Model for Scope {
 }
 
 impl Scope {
-    /// Nothing is declared. It takes no memory.
+    /// Returns an empty scope, without allocating.
     pub fn new(alloc: Global) -> Scope
         ensures { result ≡ no_scope }
     {
@@ -68,8 +69,10 @@ impl Scope {
         }
     }
 
-    /// Adds an enumeration sort with one or more constants. It answers false, and changes nothing, where a sort has its
-    /// name, where a constant or a function has the name of one of its constants, or where two of these have one name.
+    /// Adds an enumeration sort with one or more constants, and returns whether it was added.
+    ///
+    /// It returns false, and changes nothing, where a sort already has its name. It does the same where one of its
+    /// constants has the name of a constant or a function, or of another of its constants.
     pub fn add_enumeration(&mut self, name: Name, constants: Names) -> Result<bool, NoMemory>
         requires some { 0 < length constants }
         requires room { length self.old.enumerations < 2 ^ 32 - 1 }
@@ -112,7 +115,7 @@ impl Scope {
         Ok(true)
     }
 
-    // Does a constant or a function have the name of one of these?
+    // Whether a constant or a function has one of these names.
     fn has_term_name(&self, names: &Names) -> bool
         ensures { result ≡ list_any (is_term_name self.now) names.now }
     {
@@ -124,7 +127,9 @@ impl Scope {
         false
     }
 
-    /// Adds a name for a sort of the scope. It answers false, and changes nothing, where a sort has that name.
+    /// Adds a name for a sort of the scope, and returns whether it was added.
+    ///
+    /// It returns false, and changes nothing, where a sort already has that name.
     pub fn add_sort(&mut self, name: Name, sort: Sort) -> Result<bool, NoMemory>
         requires sort { IsSort self.old.enumerations sort }
         requires room { length self.old.sorts < 2 ^ 32 - 1 }
@@ -146,8 +151,10 @@ impl Scope {
         }
     }
 
-    /// Adds a function over sorts of the scope, whose body has no primes, is well sorted over the scope and the parameters
-    /// and has the sort of the result. It answers false, and changes nothing, where a constant or a function has its name.
+    /// Adds a function over sorts of the scope, and returns whether it was added.
+    ///
+    /// Its body has no primes, is well sorted over the scope and the parameters, and has the sort of the result. It returns
+    /// false, and changes nothing, where a constant or a function already has its name.
     pub fn add_function(&mut self, function: Function) -> Result<bool, NoMemory>
         requires function { IsFunction self.old.enumerations self.old.functions (plain_function function) }
         requires room { length self.old.functions < 2 ^ 32 - 1 }
@@ -170,7 +177,7 @@ impl Scope {
         }
     }
 
-    /// The name of the enumeration sort number n.
+    /// Returns the name of enumeration sort number n.
     pub fn enumeration(&self, n: u32) -> Option<&Name>
         ensures { enumeration_now result ≡ option_map (λ e. e.name) (slice_get self.now.enumerations n) }
     {
@@ -181,7 +188,7 @@ impl Scope {
         }
     }
 
-    /// The constants of the enumeration sort number n.
+    /// Returns the constants of enumeration sort number n.
     pub fn constants(&self, n: u32) -> Option<&Names>
         ensures { constants_now result ≡ option_map (λ e. e.constants) (slice_get self.now.enumerations n) }
     {
@@ -192,7 +199,7 @@ impl Scope {
         }
     }
 
-    /// The defined sort number n.
+    /// Returns defined sort number n.
     pub fn sort(&self, n: u32) -> Option<&NamedSort>
         ensures { named_sort_now result ≡ slice_get self.now.sorts n }
     {
@@ -203,7 +210,7 @@ impl Scope {
         }
     }
 
-    /// The function number n.
+    /// Returns function number n.
     pub fn function(&self, n: u32) -> Option<&Function>
         ensures { function_now result ≡ slice_get self.now.functions n }
     {
@@ -214,7 +221,9 @@ impl Scope {
         }
     }
 
-    /// The functions. What is declared fits together.
+    /// Returns the functions.
+    ///
+    /// The contract also states that the scope's declarations are consistent.
     pub fn functions(&self) -> &List<Function>
         ensures functions { map plain_function result.now ≡ self.now.functions }
         ensures scope { IsScope self.now }
@@ -222,21 +231,21 @@ impl Scope {
         &self.functions
     }
 
-    /// The enumeration sorts.
+    /// Returns the enumeration sorts.
     pub fn enumerations(&self) -> &List<Enumeration>
         ensures { result.now ≡ self.now.enumerations }
     {
         &self.enumerations
     }
 
-    /// The defined sorts.
+    /// Returns the defined sorts.
     pub fn sorts(&self) -> &List<NamedSort>
         ensures { result.now ≡ self.now.sorts }
     {
         &self.sorts
     }
 
-    /// May so many constants more, and one more of each other kind, be numbered with 32 bits?
+    /// Returns whether this many more constants, and one more declaration of each other kind, can be numbered with 32 bits.
     pub fn has_room(&self, constants: usize) -> bool
         ensures { result ≡ has_room self.now constants }
     {
@@ -248,7 +257,9 @@ impl Scope {
             && self.constant_names.len() <= most - constants
     }
 
-    /// Does a sort have this name? `Bool` and `BitVec` count as declared.
+    /// Returns whether a sort has this name.
+    ///
+    /// `Bool` and `BitVec` count as declared.
     pub fn is_sort_name(&self, name: &[u8]) -> bool
         ensures { result ≡ is_sort_name self.now name.now }
     {
@@ -258,7 +269,9 @@ impl Scope {
             || self.sort_names.place(name).is_some()
     }
 
-    /// Does a constant or a function have this name? The operators, `true` and `false` count as declared.
+    /// Returns whether a constant or a function has this name.
+    ///
+    /// The operators, `true` and `false` count as declared.
     pub fn is_term_name(&self, name: &[u8]) -> bool
         ensures { result ≡ is_term_name self.now name.now }
     {
@@ -269,7 +282,7 @@ impl Scope {
             || self.function_names.place(name).is_some()
     }
 
-    /// The sort of this name.
+    /// Returns the sort with this name.
     pub fn sort_named(&self, name: &[u8]) -> Option<Sort>
         ensures { result ≡ sort_named self.now name.now }
     {
@@ -285,7 +298,7 @@ impl Scope {
         }
     }
 
-    // The constant of this name, `true` and `false` among them.
+    // The constant with this name, including `true` and `false`.
     fn value_named(&self, name: &[u8]) -> Option<Meaning>
         ensures { result ≡ value_named self.now name.now }
     {
@@ -304,7 +317,7 @@ impl Scope {
         }
     }
 
-    /// The constant, or else the function without parameters, of this name.
+    /// Returns the constant with this name, or else the parameterless function.
     pub fn constant_or_function(&self, name: &[u8]) -> Option<Meaning>
         ensures { result ≡ or_else (value_named self.now name.now) (call_of bare_call self.now.functions (place_of (function_names self.now) name.now)) }
     {
@@ -324,7 +337,7 @@ impl Scope {
         }
     }
 
-    /// The function with parameters, or else the operator, of this name.
+    /// Returns the function with parameters that has this name, or else the operator.
     pub fn head(&self, name: &[u8]) -> Option<Head>
         ensures { result ≡ head_named self.now name.now }
     {
@@ -338,7 +351,7 @@ impl Scope {
     }
 }
 
-// Puts the numbers of an enumeration's constants behind those of the constants before.
+// Appends the numbers of an enumeration's constants to the first `before` numbers.
 fn number_constants(
     numbers: &mut Vec<(u32, u32)>,
     before: usize,

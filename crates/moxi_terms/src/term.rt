@@ -1,10 +1,12 @@
-// Terms, and what is declared by name.
+// Terms and named declarations.
 
 use crate::data::{Datum, Sort, TermOp};
 use text_core::{List, Name, Names};
 
-/// A term. `Variable(v, primed)` is the variable number v, and `Bound(i)` the i-th name, from 0, that the `let`s around it
-/// bind, the outermost `let` first. A `Let` has as many names as values. `Call(n, ..)` calls the function number n.
+/// A term.
+///
+/// `Variable(v, primed)` is variable number v. `Bound(i)` is the i-th name, from 0, that the surrounding `let`s bind,
+/// outermost first. A `Let` has as many names as values. `Call(n, ..)` calls function number n.
 #[derive(Drop)]
 pub enum Term {
     Constant(Datum),
@@ -15,7 +17,7 @@ pub enum Term {
     Call(u32, Terms),
 }
 
-/// Terms, one behind the other.
+/// A sequence of terms.
 pub type Terms = Vec<Term>;
 
 /// A variable or a parameter.
@@ -42,7 +44,9 @@ pub struct NamedSort {
     pub sort: Sort,
 }
 
-/// A function. Its body is a term over its parameters as variables, and calls earlier functions alone.
+/// A function.
+///
+/// Its body is a term whose variables are the parameters, and calls only earlier functions.
 #[derive(Drop)]
 pub struct Function {
     pub name: Name,
@@ -51,5 +55,5 @@ pub struct Function {
     pub body: Term,
 }
 
-/// A value of each variable.
+/// The values of all variables, one for each.
 pub type Env = List<Datum>;

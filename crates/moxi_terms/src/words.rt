@@ -1,4 +1,4 @@
-// The names of operators, and the names that are left out.
+// The names of operators, and the names of unsupported operators and sorts.
 ghost use Rattle.std.specs.Prelude.{◌≡◌, ◌||◌, map};
 ghost use Rattle.moxi_terms.specs.Words.{begins_so, may_begin, indexed_operators, is_one_of, is_operator, left_out_operators, left_out_sorts, operator_named, row_named};
 ghost use Rattle.moxi_terms.specs.Rows.{bytes_behind, row};
@@ -97,21 +97,21 @@ fn look_up(rows: &[OperatorName], name: &[u8]) -> Option<TermOp>
     None
 }
 
-/// The operator of this name.
+/// Returns the operator with this name.
 pub fn operator_named(name: &[u8]) -> Option<TermOp>
     ensures { result ≡ operator_named name.now }
 {
     look_up(&OPERATORS, name)
 }
 
-/// Does an operator with indices have this name?
+/// Returns whether this is the name of an operator with indices.
 pub fn is_indexed(name: &[u8]) -> bool
     ensures { result ≡ is_one_of indexed_operators name.now }
 {
     is_one_of(name, &INDEXED)
 }
 
-// May the name of an operator begin with this byte?
+// Whether the name of an operator may begin with this byte.
 fn may_begin(byte: u8) -> bool
     ensures { result ≡ may_begin byte }
 {
@@ -129,7 +129,7 @@ fn may_begin(byte: u8) -> bool
         || byte == b'z'
 }
 
-// Does the name begin like that of an operator?
+// Whether the name begins like that of an operator.
 fn begins_so(name: &[u8]) -> bool
     ensures { result ≡ begins_so name.now }
 {
@@ -139,23 +139,23 @@ fn begins_so(name: &[u8]) -> bool
     }
 }
 
-/// Does an operator have this name?
+/// Returns whether this is the name of an operator.
 #[tactic(auto, using(crate::proofs::FirstBytes::no_operator))]
 pub fn is_operator(name: &[u8]) -> bool
     ensures { result ≡ is_operator name.now }
 {
-    // Most names begin like no operator, and then no row is read.
+    // Most names begin like no operator, and then the table is not searched.
     begins_so(name) && (operator_named(name).is_some() || is_indexed(name))
 }
 
-/// Does an operator that is left out have this name?
+/// Returns whether this is the name of an unsupported operator.
 pub fn is_left_out(name: &[u8]) -> bool
     ensures { result ≡ is_one_of left_out_operators name.now }
 {
     is_one_of(name, &LEFT_OUT)
 }
 
-/// Does a sort that is left out have this name?
+/// Returns whether this is the name of an unsupported sort.
 pub fn is_left_out_sort(name: &[u8]) -> bool
     ensures { result ≡ is_one_of left_out_sorts name.now }
 {

@@ -1,4 +1,4 @@
-// Lines of several words: chains from the left and from the right, and one line for each pair.
+// Lines over several words: chains from the left and from the right, and one line for each pair.
 ghost use Rattle.std.specs.Prelude.{◌≡◌, ◌∷◌, ◌++◌, [], map, IfOk, OnOk};
 ghost use Rattle.moxi_terms.specs.declared.data.TermOp.TheVariants as op;
 ghost use Rattle.moxi_lines.specs.TermLines.{chain_lines, compared_lines, folded_lines, neighbours, paired_lines, pairs_of, with_operator};
@@ -10,7 +10,8 @@ use std::alloc::Global;
 use text_core::NoMemory;
 use word_core::Binary;
 
-/// An operator on this word and the others, from the left.
+/// Adds the lines of an operator folded from the left over `first` and the other words, and returns the place of the
+/// result.
 pub fn put_folded(
     builder: &mut Builder,
     op: Binary,
@@ -27,7 +28,7 @@ pub fn put_folded(
     Ok(chain)
 }
 
-/// An operator on one or more words, from the left.
+/// Adds the lines of an operator folded from the left over one or more words, and returns the place of the result.
 pub fn put_chain(builder: &mut Builder, op: Binary, places: &[u32]) -> Result<u32, NoMemory>
     requires { CanChain op builder.old places.now }
     ensures { IfOk result (λ p. (builder.new, p) ≡ chain_lines op builder.old places.now) }
@@ -38,7 +39,7 @@ pub fn put_chain(builder: &mut Builder, op: Binary, places: &[u32]) -> Result<u3
     }
 }
 
-// An implication by each of these words, the last first, of what stands last.
+// The lines of implications from each of these words, the last one first, to the word at `last`.
 fn put_implied_onto(builder: &mut Builder, before: &[u32], last: u32) -> Result<u32, NoMemory>
     requires { CanImply before.now (builder.old, last) }
     ensures { IfOk result (λ p. (builder.new, p) ≡ implied_onto before.now (builder.old, last)) }
@@ -52,7 +53,7 @@ fn put_implied_onto(builder: &mut Builder, before: &[u32], last: u32) -> Result<
     Ok(chain)
 }
 
-/// Implications between one or more words, from the right.
+/// Adds the lines of a right-associative implication between one or more words, and returns the place of the result.
 #[tactic(auto, using(crate::proofs::Folding::implied_is))]
 pub fn put_implied(builder: &mut Builder, places: &[u32]) -> Result<u32, NoMemory>
     requires { CanImplyAll builder.old places.now }
@@ -64,7 +65,7 @@ pub fn put_implied(builder: &mut Builder, places: &[u32]) -> Result<u32, NoMemor
     }
 }
 
-/// Adds a place at the end.
+/// Appends a place.
 pub fn put_place(places: &mut Vec<u32>, place: u32) -> Result<(), NoMemory>
     ensures { OnOk result (places.new.items ≡ places.old.items ++ place ∷ []) }
 {
@@ -77,7 +78,7 @@ fn put_pair(pairs: &mut Vec<(u32, u32)>, p: u32, q: u32) -> Result<(), NoMemory>
     Ok(pairs.push((p, q))?)
 }
 
-// An operator on the words of each pair.
+// The lines of an operator on the words of each pair.
 fn put_pairs(
     alloc: Global,
     builder: &mut Builder,
@@ -95,7 +96,7 @@ fn put_pairs(
     Ok(places)
 }
 
-/// Do the words of all pairs meet a comparison?
+/// Adds the lines of whether a comparison holds for the words of all pairs, and returns the place of the result.
 pub fn put_compared(
     alloc: Global,
     builder: &mut Builder,
@@ -109,7 +110,7 @@ pub fn put_compared(
     put_chain(builder, Binary::And, &places)
 }
 
-/// Each place with the next one.
+/// Returns each place paired with the next one.
 pub fn neighbours(alloc: Global, first: u32, rest: &[u32]) -> Result<Vec<(u32, u32)>, NoMemory>
     ensures { IfOk result (λ pairs. pairs.items ≡ neighbours first rest.now) }
 {
@@ -122,7 +123,7 @@ pub fn neighbours(alloc: Global, first: u32, rest: &[u32]) -> Result<Vec<(u32, u
     Ok(pairs)
 }
 
-// One place with each of the others.
+// Appends one place paired with each of the others.
 fn put_with_each(pairs: &mut Vec<(u32, u32)>, p: u32, others: &[u32]) -> Result<(), NoMemory>
     ensures { OnOk result (pairs.new.items ≡ pairs.old.items ++ map (λ q. (p, q)) others.now) }
 {
@@ -132,7 +133,7 @@ fn put_with_each(pairs: &mut Vec<(u32, u32)>, p: u32, others: &[u32]) -> Result<
     Ok(())
 }
 
-/// Each place with each later one.
+/// Returns each place paired with each later one.
 pub fn pairs_of(alloc: Global, places: &[u32]) -> Result<Vec<(u32, u32)>, NoMemory>
     ensures { IfOk result (λ pairs. pairs.items ≡ pairs_of places.now) }
 {

@@ -1,4 +1,4 @@
-// Lines of a query's conditions.
+// The lines of a query's conditions.
 ghost use Rattle.std.specs.Prelude.{◌≡◌, map, IfOk, OnOk};
 ghost use Rattle.btor_tree.specs.Fits.{is_next};
 ghost use Rattle.moxi_scripts.specs.Script.{formula_at, plain_formula};
@@ -24,7 +24,9 @@ pub const ONE: u32 = 1;
 /// The place of the constant zero.
 pub const ZERO: u32 = 2;
 
-/// A state of a truth value that begins with the constant at a place.
+/// Adds a one-bit state that starts with the constant at a place, and returns the state's place.
+///
+/// Its next line is left to the caller.
 pub fn put_latch(
     alloc: Global,
     builder: &mut Builder,
@@ -35,14 +37,14 @@ pub fn put_latch(
     ensures lines { IfOk result (λ p. (builder.new, p) ≡ with_latch builder.old name.now value) }
     ensures next { IfOk result (λ p. IsOpen is_next builder.new p 1) }
 {
-    // The length brings that the lines are well formed.
+    // Asking for the length gives the fact that the lines are well formed.
     let _ = builder.len();
     let state = put_free(alloc, builder, LineOp::State, 1, name)?;
     put_given(builder, LineOp::Init, 1, state, value)?;
     Ok(state)
 }
 
-/// The lines of the formula of a number.
+/// Adds the lines of the formula with this number, and returns the place of its word.
 pub fn put_numbered(
     alloc: Global,
     builder: &mut Builder,
@@ -83,7 +85,7 @@ fn put_assumptions(
     Ok(())
 }
 
-// A current condition counts in frame 0.
+// The lines of a current condition, which counts in frame 0 only.
 fn put_current(
     alloc: Global,
     builder: &mut Builder,
@@ -124,7 +126,10 @@ fn put_currents(
     Ok(())
 }
 
-/// The chain of a query's assumptions and current conditions: a state that begins as one, and is one while they have held.
+/// Adds the lines of a query's assumptions and current conditions, and returns the place of their conjunction.
+///
+/// A state starts as one, and stays one while they have held. The conjunction also includes the conditions of the present
+/// frame.
 pub fn put_conditions(
     alloc: Global,
     builder: &mut Builder,

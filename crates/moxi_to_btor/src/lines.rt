@@ -1,4 +1,4 @@
-// Lines that say something of frames, and symbols.
+// Inputs, states, constraints and bad lines, and their symbols.
 ghost use Rattle.std.specs.Prelude.{◌≡◌, ◌≤◌, ◌+◌, ◌++◌, ◌∷◌, [], true, length, map, IfOk, OnOk};
 ghost use Rattle.moxi_lines.specs.Lines.{symbol_byte, symbol_of, with_bad, with_constraint, with_free, with_given};
 ghost use Rattle.moxi_to_btor.specs.Putting.{CanPutFree, CanPutGiven, CanPutTruth};
@@ -7,10 +7,10 @@ use btor_tree::{Builder, LineOp, no_args, one_arg, plain_arg, two_args};
 use std::alloc::Global;
 use text_core::{Name, NoMemory};
 
-// How long a name may be that is put together in place.
+// The most bytes of a name that is joined in place.
 const SHORT: usize = 64;
 
-// A byte of a symbol: itself where it is visible and begins no comment, else `_`.
+// The byte as written in a symbol: itself if it is visible and starts no comment, otherwise `_`.
 fn symbol_byte(byte: u8) -> u8
     ensures { result ≡ symbol_byte byte }
 {
@@ -27,7 +27,7 @@ fn symbol_bytes(alloc: Global, name: &[u8]) -> Result<Vec<u8>, NoMemory>
     Ok(name.iter().map(|byte| symbol_byte(*byte)).collect(alloc)?)
 }
 
-// Does each byte stand for itself?
+// Whether the bytes are unchanged in a symbol.
 fn is_plain(name: &[u8]) -> bool
     ensures { result ≡ true → map symbol_byte name.now ≡ name.now }
 {
@@ -41,7 +41,7 @@ fn is_plain(name: &[u8]) -> bool
     true
 }
 
-// The bytes of a symbol as a name. Most names have no byte that is changed.
+// The name as written in a symbol. Most names are unchanged.
 fn symbol_name(alloc: Global, name: &[u8]) -> Result<Name, NoMemory>
     ensures { IfOk result (λ symbol. symbol ≡ map symbol_byte name.now) }
 {
@@ -52,7 +52,7 @@ fn symbol_name(alloc: Global, name: &[u8]) -> Result<Name, NoMemory>
     Name::of(alloc, &bytes)
 }
 
-/// The symbol of a line. An empty name gives none.
+/// Returns the symbol of a line, or None for an empty name.
 #[tactic(auto, using(crate::proofs::Giving::symbol_some))]
 pub fn symbol_of(alloc: Global, name: &[u8]) -> Result<Option<Name>, NoMemory>
     ensures { IfOk result (λ symbol. symbol ≡ symbol_of name.now) }
@@ -63,7 +63,7 @@ pub fn symbol_of(alloc: Global, name: &[u8]) -> Result<Option<Name>, NoMemory>
     Ok(Some(symbol_name(alloc, name)?))
 }
 
-/// A name with another one behind it.
+/// Returns the concatenation of two names.
 pub fn joined(alloc: Global, name: &[u8], more: &[u8]) -> Result<Vec<u8>, NoMemory>
     ensures { IfOk result (λ all. all.items ≡ name.now ++ more.now) }
 {
@@ -72,14 +72,14 @@ pub fn joined(alloc: Global, name: &[u8], more: &[u8]) -> Result<Vec<u8>, NoMemo
     Ok(all)
 }
 
-/// Adds a place at the end.
+/// Appends a place.
 pub fn put_place(places: &mut Vec<u32>, place: u32) -> Result<(), NoMemory>
     ensures { OnOk result (places.new.items ≡ places.old.items ++ place ∷ []) }
 {
     Ok(places.push(place)?)
 }
 
-/// An input or a state of this width.
+/// Adds an input or a state of this width, and returns its place.
 pub fn put_free(
     alloc: Global,
     builder: &mut Builder,
@@ -95,7 +95,7 @@ pub fn put_free(
     builder.push(op, sort, no_args(), symbol)
 }
 
-// The same with a name that is put together in place.
+// Does the same for a name that is short enough to be joined in place.
 fn put_free_short(
     alloc: Global,
     builder: &mut Builder,
@@ -115,7 +115,9 @@ fn put_free_short(
     put_free(alloc, builder, op, width, &room[..end])
 }
 
-/// An input or a state of this width, whose name has this behind it.
+/// Adds an input or a state of this width, and returns its place.
+///
+/// Its name is `name` followed by `more`.
 pub fn put_free_behind(
     alloc: Global,
     builder: &mut Builder,
@@ -135,7 +137,7 @@ pub fn put_free_behind(
     }
 }
 
-/// The init or the next of a state of this width.
+/// Adds the init or the next line of a state of this width.
 pub fn put_given(
     builder: &mut Builder,
     op: LineOp,
@@ -152,7 +154,7 @@ pub fn put_given(
     Ok(())
 }
 
-/// A truth value is true in each frame.
+/// Adds a constraint: the truth value at this place is true in each frame.
 pub fn put_constraint(builder: &mut Builder, place: u32) -> Result<(), NoMemory>
     requires { CanPutTruth builder.old place }
     ensures { OnOk result (builder.new ≡ with_constraint (builder.old, place)) }
@@ -162,7 +164,7 @@ pub fn put_constraint(builder: &mut Builder, place: u32) -> Result<(), NoMemory>
     Ok(())
 }
 
-/// A truth value that is to be met.
+/// Adds a bad line for the truth value at this place.
 pub fn put_bad(
     alloc: Global,
     builder: &mut Builder,

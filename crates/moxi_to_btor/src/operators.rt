@@ -1,4 +1,4 @@
-// Lines of operators and of values.
+// The lines of operators and of values.
 ghost use Rattle.std.specs.Prelude.{◌≡◌, ◌<◌, length, IfOk};
 ghost use Rattle.word_core.specs.Words.{IsWord};
 ghost use Rattle.moxi_terms.specs.declared.data.Datum.TheVariants as datum;
@@ -16,7 +16,7 @@ use std::alloc::Global;
 use text_core::{List, NoMemory};
 use word_core::{Binary, Unary, Word};
 
-/// The least width of at least 1 that holds the places of so many constants.
+/// Returns the least width, at least 1, whose words can number this many constants.
 pub fn choice_width(count: usize) -> u32
     ensures { result ≡ choice_width count }
 {
@@ -29,7 +29,7 @@ pub fn choice_width(count: usize) -> u32
     width
 }
 
-// The place of a constant of an enumeration, as a word.
+// The constant line of an enumeration constant, which is the word of its index.
 fn put_choice(
     builder: &mut Builder,
     enumerations: &List<Enumeration>,
@@ -48,7 +48,9 @@ fn put_choice(
     }
 }
 
-/// The constant of a value: one or zero for a truth value, and for a constant of an enumeration its place.
+/// Adds the constant line of a value, and returns its place.
+///
+/// A truth value becomes one or zero, and an enumeration constant becomes its index.
 pub fn put_datum(
     builder: &mut Builder,
     enumerations: &List<Enumeration>,
@@ -65,7 +67,7 @@ pub fn put_datum(
     }
 }
 
-/// An operator on the words at these places.
+/// Adds the lines of an operator on the words at these places, and returns the place of the result.
 pub fn put_operator(
     alloc: Global,
     builder: &mut Builder,
@@ -85,7 +87,7 @@ pub fn put_operator(
         TermOp::Xor => put_chain(builder, Binary::Xor, places),
         TermOp::Implies => put_implied(builder, places),
         TermOp::Equal => match places.split_first() {
-            // Most equations are of two words.
+            // Most equations have two arguments.
             Some((first, [other])) => put_binary(builder, Binary::Eq, *first, *other),
             Some((first, rest)) => {
                 let pairs = neighbours(alloc, *first, rest)?;

@@ -1,4 +1,4 @@
-// Lines of formulas, and of the parts of a system.
+// The lines of formulas, and of the parts of a system.
 ghost use Rattle.std.specs.Prelude.{◌≡◌, map, IfOk, OnOk};
 ghost use Rattle.moxi_terms.specs.View.{plain};
 ghost use Rattle.moxi_instantiate.specs.PlainParts.{plain_part};
@@ -15,10 +15,12 @@ use std::alloc::Global;
 use text_core::NoMemory;
 use word_core::Binary;
 
-/// The place of the state that is one in frame 0 alone.
+/// The place of the state that is one in frame 0 only.
 pub const FIRST: u32 = 3;
 
-/// The lines of a formula of one step, over the inputs at these places.
+/// Adds the lines of a formula over one step, and returns the place of its word.
+///
+/// The variables are the inputs at these places.
 pub fn put_formula(
     alloc: Global,
     builder: &mut Builder,
@@ -33,7 +35,7 @@ pub fn put_formula(
     put_term(alloc, builder, scope, places, places, term)
 }
 
-// Those of a formula between the step before and this one.
+// The lines of a formula over the previous step and this one.
 fn put_step(
     alloc: Global,
     builder: &mut Builder,
@@ -48,7 +50,7 @@ fn put_step(
     put_term(alloc, builder, scope, before, Places::At(inputs), term)
 }
 
-// Is this the term `true`?
+// Whether the term is the constant `true`.
 fn is_true_term(term: &Term) -> bool
     ensures { result ≡ is_true_term (plain term.now) }
 {
@@ -111,7 +113,8 @@ fn put_inv(
     put_constraint(builder, place)
 }
 
-// The constraints of an instance: its init formula counts in frame 0, its trans formula in all others, its inv formula in each.
+// The constraints of an instance. Its init formula counts in frame 0, its trans formula in all other frames, its inv
+// formula in each frame.
 fn put_part(
     alloc: Global,
     builder: &mut Builder,
@@ -127,7 +130,7 @@ fn put_part(
     put_inv(alloc, builder, scope, inputs, &part.inv)
 }
 
-/// The constraints of all instances.
+/// Adds the constraints of all instances.
 pub fn put_parts(
     alloc: Global,
     builder: &mut Builder,

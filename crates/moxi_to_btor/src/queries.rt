@@ -1,4 +1,4 @@
-// Lines of queries.
+// The lines of queries.
 ghost use Rattle.std.specs.Prelude.{◌≡◌, ◌++◌, codes, IfOk, OnOk};
 ghost use Rattle.moxi_lines.specs.Lines.{has_conditions, with_all_met, with_goal, with_one_met, with_queries, with_query, with_reachable, with_reachables};
 ghost use Rattle.moxi_to_btor.specs.Queries.{CanPutAllMet, CanPutGoal, CanPutOneMet, CanPutQueries, CanPutQuery, CanPutReachable, CanPutReachables, CanPutSeveral, reaching, several_lines, whole_goal};
@@ -14,7 +14,7 @@ use std::alloc::Global;
 use text_core::NoMemory;
 use word_core::Binary;
 
-// The name of what tells whether a query's formula was met so far.
+// The name of the state that records whether a query's formula has been true so far.
 fn seen_name(alloc: Global, name: &[u8], formula: &[u8]) -> Result<Vec<u8>, NoMemory>
     ensures { IfOk result (λ all. all.items ≡ name.now ++ (codes "." ++ (formula.now ++ codes ".seen"))) }
 {
@@ -23,8 +23,8 @@ fn seen_name(alloc: Global, name: &[u8], formula: &[u8]) -> Result<Vec<u8>, NoMe
     joined(alloc, name, &dotted)
 }
 
-// One of several reachable formulas: a state that begins as zero, and is one once the formula was met. It adds the places of the
-// formula, and of what tells whether it was met so far.
+// The lines of one of several reachable formulas: a state that starts as zero, and is one after the formula was true.
+// Appends the place of the formula, and the place of whether it has been true up to this frame.
 fn put_reachable(
     alloc: Global,
     builder: &mut Builder,
@@ -77,7 +77,7 @@ fn joined_places(alloc: Global, places: &[u32], more: &[u32]) -> Result<Vec<u32>
     Ok(all)
 }
 
-// Each formula was met, and one or more of them are met now.
+// The lines of whether each formula has been true, and at least one of them is true now.
 fn put_all_met(
     alloc: Global,
     builder: &mut Builder,
@@ -94,7 +94,7 @@ fn put_all_met(
     put_binary(builder, Binary::And, all, some)
 }
 
-// The only formula is met, and the conditions have held, where there are any.
+// The lines of whether the only formula is true, and the conditions, if there are any, have held.
 fn put_one_met(builder: &mut Builder, place: u32, before: &[u32]) -> Result<u32, NoMemory>
     requires { CanPutOneMet builder.old place before.now }
     ensures { IfOk result (λ p. (builder.new, p) ≡ with_one_met (builder.old, place) before.now) }
@@ -105,7 +105,7 @@ fn put_one_met(builder: &mut Builder, place: u32, before: &[u32]) -> Result<u32,
     }
 }
 
-// The word of a query of several reachable formulas.
+// The lines of a query with several reachable formulas.
 fn put_several(
     alloc: Global,
     builder: &mut Builder,
@@ -132,7 +132,7 @@ fn put_several(
     put_all_met(alloc, builder, &formulas, &seen, before)
 }
 
-// The word of a query, where the conditions' chain stands at a place, or there is none.
+// The lines of a query, given the place of the chain of its conditions, if there is one.
 fn put_goal(
     alloc: Global,
     builder: &mut Builder,
@@ -160,14 +160,14 @@ fn put_goal(
     }
 }
 
-// Does a query have assumptions or current conditions?
+// Whether a query has assumptions or current conditions.
 fn has_conditions(query: &Query) -> bool
     ensures { result ≡ has_conditions query.now.assumptions query.now.currents }
 {
     query.assumptions.len() != 0 || query.currents.len() != 0
 }
 
-// The word of a query, behind its conditions where it has any.
+// The lines of a query, after those of its conditions if it has any.
 fn put_whole_goal(
     alloc: Global,
     builder: &mut Builder,
@@ -200,7 +200,7 @@ fn put_query(
     put_bad(alloc, builder, query.name.bytes(), place)
 }
 
-/// The lines of queries, each of which ends in its bad line.
+/// Adds the lines of queries, each of which ends with its bad line.
 pub fn put_queries(
     alloc: Global,
     builder: &mut Builder,

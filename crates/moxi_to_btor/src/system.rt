@@ -16,8 +16,8 @@ use moxi_terms::Enumeration;
 use std::alloc::Global;
 use text_core::{List, NoMemory};
 
-// No enumeration has more constants than words can tell apart, since a list is no longer than memory. This function only looks at
-// the lists.
+// Proves that each enumeration has few enough constants to be coded as words, since a list is no longer than memory. The
+// function only reads the lengths of the lists.
 fn enumerations_have_codes(enumerations: &List<Enumeration>)
     ensures { HaveCodes enumerations.now }
 {
@@ -26,8 +26,8 @@ fn enumerations_have_codes(enumerations: &List<Enumeration>)
     }
 }
 
-// Variables have sorts of the scope, formulas are of truth values, queries name formulas that are there, and there are fewer lines
-// than ids, and few where each query names one formula. This function does nothing.
+// Proves that variables have sorts of the scope, formulas are truth values, and queries name existing formulas. There are
+// fewer lines than ids, and few lines where each query names one formula.
 fn system_is_known(system: &FlatSystem)
     ensures known { IsKnown system.now }
     ensures few { HaveCodes system.now.scope.enumerations → AreFew system.now (lines_of system.now) }
@@ -47,7 +47,7 @@ fn put_constants(builder: &mut Builder) -> Result<(), NoMemory>
     Ok(())
 }
 
-// The state that is one in frame 0 alone.
+// The state that is one in frame 0 only.
 fn put_first(alloc: Global, builder: &mut Builder) -> Result<(), NoMemory>
     requires { builder.old ≡ constant_lines }
     ensures { OnOk result (builder.new ≡ head_lines) }
@@ -57,8 +57,8 @@ fn put_first(alloc: Global, builder: &mut Builder) -> Result<(), NoMemory>
     put_given(builder, LineOp::Next, 1, FIRST, ZERO)
 }
 
-// About how many lines there will be: three for each variable, two equations for most, each with the conjunction that joins it to the
-// others, and some in front and at the end.
+// An estimate of the number of lines: three for each variable, two equations for most variables, each with a conjunction
+// that joins it to the others, and a few more.
 fn room_for(system: &FlatSystem) -> usize
     ensures { result ≡ min (7 * length system.now.variables + 32) (2 ^ 64 - 1) }
 {
@@ -66,10 +66,12 @@ fn room_for(system: &FlatSystem) -> usize
     count.saturating_mul(7).saturating_add(32)
 }
 
-/// The BTOR2 lines of a flat system (BTOR2, CAV 2018): the head, the variables, the formulas of each part, and the queries, in time
-/// linear in its size but for the search for lines that stand already. No two sorts, constants or operators among them say the same.
-/// Where each query names one reachable formula and nothing else, there are at most two lines for each unit of the system's size, six
-/// for each variable and each query, and 150.
+/// Builds the BTOR2 lines of a flat system: the head, the variables, the formulas of each part, and the queries (BTOR2, CAV
+/// 2018).
+///
+/// It takes time linear in the system's size, except for the search for existing lines. No two sort, constant or operator
+/// lines are alike. The number of lines is bounded if each query names one reachable formula and nothing else. There are
+/// then at most 2 lines for each unit of the system's size, 6 for each variable and each query, and 150 more.
 pub fn to_btor(alloc: Global, system: &FlatSystem) -> Result<Nodes, NoMemory>
     ensures lines { IfOk result (λ nodes. nodes ≡ lines_of system.now) }
     ensures distinct { IfOk result (λ nodes. HasNoTwoAlike nodes) }

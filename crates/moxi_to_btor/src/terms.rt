@@ -1,4 +1,4 @@
-// Lines of terms.
+// The lines of terms.
 ghost use Rattle.std.specs.Prelude.{◌≡◌, ◌<◌, ◌++◌, ◌∷◌, ◌^◌, [], map, length, IfOk, OnOk};
 ghost use Rattle.moxi_terms.specs.Tree.{trees_of};
 ghost use Rattle.moxi_terms.specs.View.{plain};
@@ -12,7 +12,7 @@ use moxi_terms::{Enumeration, Function, Scope, Term};
 use std::alloc::Global;
 use text_core::{List, NoMemory};
 
-/// Where the words of variables stand: at the places that a list has for them, or at the places behind these.
+/// The places of the words of variables: the listed places, or the places one after them.
 #[derive(Clone, Copy)]
 pub enum Places<'a> {
     At(&'a [u32]),
@@ -38,7 +38,7 @@ fn variable_place(places: Places, v: u32) -> u32
     }
 }
 
-// Where a term stands: the first functions may be called.
+// The context of a term: how many of the functions may be called, and the places of the variables now and later.
 #[derive(Clone, Copy)]
 struct Scene<'a> {
     enumerations: &'a List<Enumeration>,
@@ -48,8 +48,10 @@ struct Scene<'a> {
     later: Places<'a>,
 }
 
-/// The lines of a term over the variables at these places, those of later values for the primed ones. What a `let` binds has its
-/// lines once, and the body of a function has its lines once for each call.
+/// Adds the lines of a term, and returns the place of its word.
+///
+/// Unprimed variables have the places `now`, and primed ones the places `later`. A value bound by a `let` has its lines
+/// once. The body of a function has its lines once for each call.
 pub fn put_term(
     alloc: Global,
     builder: &mut Builder,
@@ -109,7 +111,7 @@ fn put_tree(
     }
 }
 
-// The lines of a term around which these places more are bound.
+// The lines of a term with these additional places bound.
 #[cycle(put)]
 #[inline(never)]
 fn put_body(
@@ -137,7 +139,7 @@ fn append(all: &mut Vec<u32>, more: &[u32]) -> Result<(), NoMemory>
     Ok(all.extend_from_slice(more)?)
 }
 
-// The lines of a function's body, whose variables stand at the places of the arguments.
+// The lines of a function's body, whose variables have the places of the arguments.
 #[cycle(put)]
 #[inline(never)]
 fn put_call(

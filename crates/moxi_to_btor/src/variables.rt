@@ -1,4 +1,4 @@
-// Lines of variables.
+// The lines of variables.
 ghost use Rattle.std.specs.Prelude.{◌≡◌, [], IfOk, OnOk};
 ghost use Rattle.moxi_terms.specs.declared.data.Sort.TheVariants as sort;
 ghost use Rattle.moxi_terms.specs.Sorts.{IsSort};
@@ -27,8 +27,8 @@ fn sort_width(enumerations: &List<Enumeration>, sort: Sort) -> u32
     }
 }
 
-// The code of an enumeration is below its number of constants. Where these take all words, their number is no word of that width,
-// and no line says it.
+// The constraint that the code of an enumeration is below its number of constants. Where the constants use all words, their
+// number is no word of that width, and there is no such line.
 fn put_choice_code(
     builder: &mut Builder,
     enumerations: &List<Enumeration>,
@@ -45,7 +45,7 @@ fn put_choice_code(
     }
 }
 
-// The word at a place is below a constant.
+// The constraint that the word at a place is below a constant.
 fn put_below(builder: &mut Builder, limit: Word, place: u32) -> Result<(), NoMemory>
     requires { CanPutBelow limit builder.old place }
     ensures { OnOk result (builder.new ≡ below_lines limit builder.old place) }
@@ -70,7 +70,7 @@ fn put_code(
     }
 }
 
-// A variable: its input, and behind it the state that has the input of the frame before.
+// The lines of a variable: its input, and right after it the state that holds the input of the previous frame.
 fn put_variable(
     alloc: Global,
     builder: &mut Builder,
@@ -83,7 +83,7 @@ fn put_variable(
     let name = variable.name.bytes();
     let width = sort_width(enumerations, variable.sort);
     let input = put_free(alloc, builder, LineOp::Input, width, name)?;
-    // The length brings that the lines are well formed.
+    // Asking for the length gives the fact that the lines are well formed.
     let _ = builder.len();
     let state = put_free_behind(alloc, builder, LineOp::State, width, name, b".prev")?;
     put_given(builder, LineOp::Next, width, state, input)?;
@@ -91,7 +91,9 @@ fn put_variable(
     Ok(input)
 }
 
-/// The lines of variables, and the places of their inputs. Behind each input stands the state of the step before.
+/// Adds the lines of variables, and returns the places of their inputs.
+///
+/// Each input is followed by the state that holds its value of the previous step.
 pub fn put_variables(
     alloc: Global,
     builder: &mut Builder,

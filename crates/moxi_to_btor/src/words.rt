@@ -1,4 +1,4 @@
-// Single lines.
+// Single lines. An equal constant or operator line that exists is reused.
 ghost use Rattle.std.specs.Prelude.{◌≡◌, ◌+◌, ◌<◌, ◌^◌, IfOk};
 ghost use Rattle.moxi_lines.specs.TermLines.{with_binary, with_constant, with_ite, with_signs, with_slice, with_unary, with_word, with_zeros};
 ghost use Rattle.moxi_to_btor.specs.TermPutting.{CanPut, CanPutBinary, CanPutConstant, CanPutIte, CanPutSigns, CanPutSlice, CanPutUnary, CanPutZeros};
@@ -7,7 +7,7 @@ use btor_tree::{Args, Builder, LineOp, no_args, one_arg, plain_arg, three_args, 
 use text_core::NoMemory;
 use word_core::{Binary, Unary, Word, binary_width};
 
-/// A constant or an operator of this width, behind its sort.
+/// Adds a constant or an operator of this width, after its sort, and returns its place.
 pub fn put_word(builder: &mut Builder, op: LineOp, width: u32, args: Args) -> Result<u32, NoMemory>
     requires { CanPut builder.old op width args }
     ensures { IfOk result (λ p. (builder.new, p) ≡ with_word builder.old op width args) }
@@ -16,7 +16,7 @@ pub fn put_word(builder: &mut Builder, op: LineOp, width: u32, args: Args) -> Re
     builder.push(op, sort, args, None)
 }
 
-/// A word as it is.
+/// Adds a constant with this word, and returns its place.
 pub fn put_constant(builder: &mut Builder, word: Word) -> Result<u32, NoMemory>
     requires { CanPutConstant builder.old word }
     ensures { IfOk result (λ p. (builder.new, p) ≡ with_constant builder.old word) }
@@ -25,7 +25,7 @@ pub fn put_constant(builder: &mut Builder, word: Word) -> Result<u32, NoMemory>
     put_word(builder, LineOp::Constant(word), width, no_args())
 }
 
-/// An operator on one word that keeps its width.
+/// Adds a unary operator that keeps the width, and returns its place.
 pub fn put_unary(builder: &mut Builder, op: Unary, p: u32) -> Result<u32, NoMemory>
     requires { CanPutUnary op builder.old p }
     ensures { IfOk result (λ q. (builder.new, q) ≡ with_unary op builder.old p) }
@@ -35,7 +35,7 @@ pub fn put_unary(builder: &mut Builder, op: Unary, p: u32) -> Result<u32, NoMemo
     put_word(builder, LineOp::Unary(op), width, args)
 }
 
-/// An operator on two words.
+/// Adds a binary operator, and returns its place.
 pub fn put_binary(builder: &mut Builder, op: Binary, p: u32, q: u32) -> Result<u32, NoMemory>
     requires { CanPutBinary op builder.old p q }
     ensures { IfOk result (λ r. (builder.new, r) ≡ with_binary op builder.old p q) }
@@ -45,7 +45,7 @@ pub fn put_binary(builder: &mut Builder, op: Binary, p: u32, q: u32) -> Result<u
     put_word(builder, LineOp::Binary(op), width, args)
 }
 
-/// One of two words.
+/// Adds a choice between the words at `p` and `q` by the truth value at `c`, and returns its place.
 pub fn put_ite(builder: &mut Builder, c: u32, p: u32, q: u32) -> Result<u32, NoMemory>
     requires { CanPutIte builder.old c p q }
     ensures { IfOk result (λ r. (builder.new, r) ≡ with_ite builder.old c p q) }
@@ -55,7 +55,7 @@ pub fn put_ite(builder: &mut Builder, c: u32, p: u32, q: u32) -> Result<u32, NoM
     put_word(builder, LineOp::Ite, width, args)
 }
 
-/// The bits from `high` to `low` of a word.
+/// Adds the slice of a word from bit `high` to bit `low`, and returns its place.
 pub fn put_slice(builder: &mut Builder, high: u32, low: u32, p: u32) -> Result<u32, NoMemory>
     requires { CanPutSlice high low builder.old p }
     ensures { IfOk result (λ q. (builder.new, q) ≡ with_slice high low builder.old p) }
@@ -64,7 +64,9 @@ pub fn put_slice(builder: &mut Builder, high: u32, low: u32, p: u32) -> Result<u
     put_word(builder, LineOp::Slice(high, low), high - low + 1, args)
 }
 
-/// A word with so many zeros in front.
+/// Adds a word extended by this many leading zeros, and returns its place.
+///
+/// For a count of 0 that is the word itself.
 pub fn put_zeros(builder: &mut Builder, count: u32, p: u32) -> Result<u32, NoMemory>
     requires { CanPutZeros count builder.old p }
     ensures { IfOk result (λ q. (builder.new, q) ≡ with_zeros count builder.old p) }
@@ -77,7 +79,9 @@ pub fn put_zeros(builder: &mut Builder, count: u32, p: u32) -> Result<u32, NoMem
     put_word(builder, LineOp::Uext(count), width, args)
 }
 
-/// A word with its sign so many times in front.
+/// Adds a word extended by this many leading copies of its sign bit, and returns its place.
+///
+/// For a count of 0 that is the word itself.
 pub fn put_signs(builder: &mut Builder, count: u32, p: u32) -> Result<u32, NoMemory>
     requires { CanPutSigns count builder.old p }
     ensures { IfOk result (λ q. (builder.new, q) ≡ with_signs count builder.old p) }

@@ -1,11 +1,11 @@
-// What a response is read against.
+// The declarations that a response is read against.
 
 use moxi_terms::{Scope, Variables};
 use std::marker::Model;
 use text_core::{Name, Names};
 
-/// What a response is printed and read against: the name of the checked system, the scope with its enumeration sorts, the
-/// variables in order, hidden ones too, and the names of the queries.
+/// The declarations that a response is printed and read against: the name of the checked system, the scope with its
+/// enumeration sorts, the variables in order (hidden ones included), and the names of the queries.
 #[derive(Drop)]
 pub struct Declarations<'a> {
     pub system: &'a Name,

@@ -1,4 +1,4 @@
-//! Responses of MoXI: printed, and read against what a check declares.
+//! Responses of MoXI: a printer, and a reader against the declarations of a check.
 #![tactic(auto)]
 
 mod declarations;

@@ -1,9 +1,9 @@
-// Where the reading of a response stands, and what it comes to.
+// Positions of the reader in a response, and its result.
 
 use crate::print::Steps;
 use text_core::Place;
 
-/// What comes next in a response.
+/// The next part that a reader expects in a response.
 #[derive(Clone, Copy)]
 pub enum Point {
     /// The fixed token of the head with this number, from 0.
@@ -20,11 +20,11 @@ pub enum Point {
     Statements,
     /// The name of a variable.
     Variable,
-    /// The value of the variable of this number.
+    /// The value of the variable with this number.
     Value(usize),
-    /// The value of no variable.
+    /// The value of an unknown variable.
     AnyValue,
-    /// The end of the brackets around a value.
+    /// The closing bracket after a value.
     Stated,
     /// The end of the response.
     Last,
@@ -32,14 +32,14 @@ pub enum Point {
     Whole,
 }
 
-/// A test that fails: the number of its kind, and its place.
+/// A failing test: the number of its kind, and its place.
 #[derive(Clone, Copy)]
 pub struct Failing {
     pub number: u8,
     pub place: Place,
 }
 
-/// What a response states: the number of the query, and the trace that meets it.
+/// A response: the number of the query, and the trace that meets it.
 #[derive(Drop)]
 pub struct Answered {
     pub query: u32,

@@ -1,4 +1,4 @@
-// The printer.
+// The printer of responses.
 ghost use Rattle.std.specs.Prelude.{◌≡◌, ◌++◌, ◌<◌, ◌^◌, codes, length, map, OnOk, IfOk};
 ghost use Rattle.text_core.specs.Binary.{binary_digits};
 ghost use Rattle.moxi_trace.specs.Texts.{symbol_text, name_at, constants_of, constant_name, truth_text, value_text, front_text, fronted_text, step_text, steps_text, words_of_response, words_of_query, words_of_result, words_of_trace, head_text, response_text};
@@ -13,7 +13,7 @@ use word_core::Word;
 /// The steps of a trace, each with a value of each variable.
 pub type Steps = List<Env>;
 
-// What stands before the value of each variable.
+// For each variable, the bytes before its value.
 type Fronts = List<Name>;
 
 fn name_in(names: &Names, i: u32) -> &[u8]
@@ -48,7 +48,7 @@ fn closed_truth(truth: bool) -> &'static [u8]
     if truth { b"true)" } else { b"false)" }
 }
 
-// A value, and the bracket that closes its statement.
+// Appends a value, and the bracket that closes its statement.
 fn put_closed(out: &mut Text, scope: &Scope, value: &Datum) -> Result<(), NoMemory>
     ensures { OnOk result (out.new ≡ out.old ++ (value_text scope.now.enumerations value.now ++ codes ")")) }
 {
@@ -76,7 +76,7 @@ fn front_of(alloc: Global, variable: &Variable) -> Result<Name, NoMemory>
     Name::of(alloc, text.bytes())
 }
 
-// The bytes before each variable's value, which are the same in each step.
+// For each variable, the bytes before its value. They are the same in each step.
 fn fronts_of(alloc: Global, variables: &Variables) -> Result<Fronts, NoMemory>
     ensures { IfOk result (λ fronts. fronts ≡ map front_text variables.now) }
 {
@@ -188,8 +188,10 @@ fn put_head(out: &mut Text, system: &[u8], query: &[u8]) -> Result<(), NoMemory>
     put_words_of_trace(out)
 }
 
-/// The printed form of a response: that a query is met by a trace, with a line for each step and its values in the order of the
-/// variables. Steps are counted from 0. A name is printed as a symbol is, and a word as `#b` with as many digits as it is wide.
+/// Returns the text of a response, which states that a trace meets a query.
+///
+/// Each step has its own line, with its values in the order of the variables. Steps are counted from 0. A name is printed
+/// as a symbol, and a word as `#b` followed by as many digits as it is wide.
 pub fn print_response(
     alloc: Global,
     declarations: &Declarations,

@@ -17,10 +17,10 @@ use text_core::{End, FIRST_PLACE, Place};
 /// The most bytes of a response.
 pub const MOST_BYTES: usize = 67108864;
 
-/// Why a text is not read as a response.
+/// The reason why a text can't be read as a response.
 pub type ResponseEnd = End;
 
-// Reads the token that a text begins with, and answers how many bytes of it come behind its first.
+// Reads the token at the front of a text, and returns the number of its bytes after the first.
 fn read_token(
     alloc: Global,
     table: &Table,
@@ -40,7 +40,7 @@ fn read_token(
     }
 }
 
-// Reads the byte b that a text begins with, and answers how many bytes of its token come behind it.
+// Reads the first byte b of a text, and returns the number of bytes of its token that follow.
 fn read_byte(
     alloc: Global,
     table: &Table,
@@ -84,7 +84,7 @@ fn read_bytes(alloc: Global, table: &Table, text: &[u8], reader: &mut Reader) ->
     }
 }
 
-// The response of a text that is short enough, read against the table of what is declared.
+// The response of a text within the byte limit, read against a table of the declarations.
 fn read_against(alloc: Global, table: &Table, text: &[u8]) -> Result<Answered, ResponseEnd>
     requires { length text.now ≤ MOST_BYTES }
     ensures { Answers (response_of table.now text.now) result }
@@ -94,7 +94,7 @@ fn read_against(alloc: Global, table: &Table, text: &[u8]) -> Result<Answered, R
     Ok(reader.answer())
 }
 
-// The response of a text that is short enough.
+// The response of a text within the byte limit.
 fn read_text(
     alloc: Global,
     declarations: &Declarations,
@@ -107,21 +107,24 @@ fn read_text(
     read_against(alloc, &table, text)
 }
 
-/// The response that a text states for a check (the layout is this translator's own, modelled on MoXI's responses, SPIN 2024):
-/// `(check-system-response SYSTEM :query (QUERY :result sat :trace t) :trace (t :prefix p) :trail (p STEP ..))`, where each step is
-/// `(N (NAME VALUE) ..)`. Blanks are free. Steps are counted from 0, and each states every variable once, in any order. A
-/// refusal is at a line: `Y1` where no shape fits, a step has another number or a variable is stated again, `Y5` past a limit of
-/// steps, of steps times variables, or of bytes, `Y2` where the system is another or no query or variable has the name, `Y3`
-/// where the value isn't spelled as one of the variable's sort, and `Y4` at the bracket of a step that lacks a value. The first
-/// line decides, and in one line the kinds come in this order.
+/// Parses a response to a check.
+///
+/// The layout is this translator's own, modelled on MoXI's responses (SPIN 2024): `(check-system-response SYSTEM :query
+/// (QUERY :result sat :trace t) :trace (t :prefix p) :trail (p STEP ..))`, where each step is `(N (NAME VALUE) ..)`. Blanks
+/// are free. Steps are counted from 0, and each step states every variable once, in any order.
+///
+/// A refusal is at a line. `Y1`: a token doesn't fit, a step has a wrong number, or a variable is stated again. `Y5`: there
+/// are too many steps, too many steps times variables, or too many bytes. `Y2`: the system is another one, or no query or
+/// variable has the name. `Y3`: the value is not spelled as one of the variable's sort. `Y4`: a step lacks a value, refused
+/// at its bracket. The first line with a failing test decides, and within one line the kinds come in this order.
 pub fn read_response(
     alloc: Global,
     declarations: &Declarations,
     text: &[u8],
 ) -> Result<Answered, ResponseEnd>
-    // What the text states, or its first refusal.
+    // The response that the text states, or its first refusal.
     ensures exact { Answers (response_of declarations.now text.now) result }
-    // The query is there, and the trace names each variable with a value of its sort, within the limits.
+    // The query exists, and the trace gives each variable a value of its sort, within the limits.
     ensures stated { IfOk result (IsStatedResponse declarations.now) }
 {
     if text.len() > MOST_BYTES {

@@ -21,7 +21,7 @@ use std::alloc::Global;
 use std::marker::Model;
 use text_core::{End, FIRST_PLACE, Kind, NoMemory, Place, Refusal};
 
-/// Where the reading of a response stands.
+/// The state of reading a response.
 #[derive(Drop)]
 pub struct Reader {
     point: Point,
@@ -52,7 +52,7 @@ const MISSING: u8 = 4;
 
 const TOO_LONG: u8 = 5;
 
-// The refusal of the kind with this number, at this place.
+// The refusal of kind `Y` with this number, at this place.
 pub(crate) fn refused(number: u8, place: Place) -> End
     ensures { result ≡ end.Bad (record { kind = kind.Y number; place = place }) }
 {
@@ -154,7 +154,7 @@ fn without_zeros(digits: &[u8]) -> &[u8]
     rest
 }
 
-// Do the digits spell the number? Zeros may begin them.
+// Whether the digits spell the number. Leading zeros are allowed.
 fn is_number(number: u128, digits: &[u8]) -> bool
     ensures { result ≡ is_number number digits.now }
 {
@@ -186,7 +186,7 @@ fn is_whole(point: Point) -> bool
     matches!(point, Point::Whole)
 }
 
-// No value for each of so many variables.
+// A list of this many variables without values.
 fn nothing_stated(alloc: Global, count: usize) -> Result<Vec<Option<Datum>>, NoMemory>
     ensures { IfOk result (λ stated. stated.items ≡ replicate count None) }
 {
@@ -208,7 +208,7 @@ fn lacks(stated: &[Option<Datum>]) -> bool
     false
 }
 
-// The values that are stated.
+// The stated values.
 fn values_of(alloc: Global, stated: &[Option<Datum>]) -> Result<Env, NoMemory>
     ensures { IfOk result (λ values. values ≡ values_of stated.now) }
 {
@@ -222,7 +222,7 @@ fn values_of(alloc: Global, stated: &[Option<Datum>]) -> Result<Env, NoMemory>
 }
 
 impl Reader {
-    /// A reader that has read nothing.
+    /// Returns a reader that has read nothing yet.
     pub fn new(alloc: Global, table: &Table) -> Result<Reader, NoMemory>
         ensures { IfOk result (λ r. r ≡ begin table.now) }
     {
@@ -241,7 +241,7 @@ impl Reader {
         })
     }
 
-    /// What was read.
+    /// Returns the response that was read.
     pub fn answer(self) -> Answered
         ensures { result ≡ record { query = self.query; trace = self.steps } }
     {
@@ -266,7 +266,7 @@ impl Reader {
         }
     }
 
-    // A token or the end stands in this line.
+    // Moves to the line of a token or of the end. On a new line, a failing test of the lines before is refused.
     fn on_line(&mut self, line: u32) -> Result<(), End>
         ensures { Leaves (on_line line self.old) self.new result }
     {
@@ -349,7 +349,7 @@ impl Reader {
         }
     }
 
-    // The number of the step that comes next, from 0 on.
+    // The number of the next step, from 0.
     fn number(&self) -> u128
         ensures value { result ≡ length self.now.steps }
         ensures small { result < 2 ^ 64 }
@@ -574,7 +574,9 @@ impl Reader {
         }
     }
 
-    /// Refuses a byte at which no token begins.
+    /// Returns the refusal at a byte that begins no token.
+    ///
+    /// A failing test of an earlier line comes first.
     pub fn refuse(&mut self, at: Place) -> End
         ensures { Leaves {B = Unit {0}} (stray at self.old) self.new (Err result) }
     {

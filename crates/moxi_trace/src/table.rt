@@ -1,4 +1,4 @@
-// What a response is read against, with its names found without a scan.
+// The declarations that a response is read against, with an index of names.
 ghost use Rattle.std.specs.Prelude.{◌≡◌, ◌<◌, ◌≤◌, ◌^◌, ◌+◌, ◌++◌, Some, None, map, length, IfOk, IfSome, option_and_then, slice_get};
 ghost use Rattle.name_maps.specs.Names.{place_of};
 ghost use Rattle.moxi_trace.specs.Traces.{names_of, is_within};
@@ -16,10 +16,10 @@ use text_core::NoMemory;
 
 /// The most steps of a trace.
 pub const MOST_STEPS: u64 = 100000;
-/// The most that the steps of a trace times the variables may be.
+/// The most values of a trace: its steps times its variables.
 pub const MOST_VALUES: u64 = 4000000;
 
-/// What is declared, with the names of the variables and of the queries.
+/// The declarations, with an index of the names of variables and queries.
 #[derive(Drop)]
 pub struct Table<'a> {
     declarations: &'a Declarations<'a>,
@@ -38,7 +38,7 @@ impl<'a> Model for Table<'a> {
     ghost invariant = { λ t. (t.names ≡ names_of t.declarations.now.variables) × ((t.queries ≡ t.declarations.now.queries) × (length t.queries ≤ 2 ^ 32)) };
 }
 
-// The names of the variables, each of which a check has once.
+// The names of the variables, which are distinct.
 fn variable_names(alloc: Global, variables: &Variables) -> Result<NameTable, NoMemory>
     ensures { IfOk result (λ names. names ≡ names_of variables.now) }
 {
@@ -52,7 +52,9 @@ fn variable_names(alloc: Global, variables: &Variables) -> Result<NameTable, NoM
 }
 
 impl<'a> Table<'a> {
-    /// What is declared. Each of the variables and each of the queries has a name of its own.
+    /// Builds the table of these declarations.
+    ///
+    /// The names of the variables are distinct, and so are those of the queries.
     pub fn of(alloc: Global, declarations: &'a Declarations<'a>) -> Result<Table<'a>, NoMemory>
         ensures { IfOk result (λ table. table ≡ declarations.now) }
     {
@@ -70,7 +72,7 @@ impl<'a> Table<'a> {
         })
     }
 
-    /// The name of the system.
+    /// Returns the name of the system.
     pub fn system(&self) -> &[u8]
         ensures { result.now ≡ self.now.system }
     {
@@ -78,7 +80,7 @@ impl<'a> Table<'a> {
         declarations.system.bytes()
     }
 
-    /// How many variables there are.
+    /// Returns the number of variables.
     pub fn len(&self) -> usize
         ensures { result ≡ length self.now.variables }
     {
@@ -86,21 +88,21 @@ impl<'a> Table<'a> {
         declarations.variables.len()
     }
 
-    /// The names of the variables.
+    /// Returns the names of the variables.
     pub fn names(&self) -> &NameTable
         ensures { result.now ≡ names_of self.now.variables }
     {
         &self.names
     }
 
-    /// The number of the variable of this name.
+    /// Returns the number of the variable with this name.
     pub fn variable(&self, successors: &mut Successors, name: &[u8]) -> Option<usize>
         ensures { result ≡ place_of (names_of self.now.variables) name.now }
     {
         successors.place(&self.names, name)
     }
 
-    /// The number of the query of this name.
+    /// Returns the number of the query with this name.
     pub fn query(&self, name: &[u8]) -> Option<u32>
         ensures { result ≡ place_of self.now.queries name.now }
     {
@@ -108,7 +110,7 @@ impl<'a> Table<'a> {
         Some(place as u32)
     }
 
-    /// The value of the variable number k that a token spells.
+    /// Returns the value that a token spells for variable number k, or None where it spells none of that variable's sort.
     pub fn value(&self, k: usize, shape: Shape, bytes: &[u8]) -> Option<Datum>
         ensures { result ≡ value_at self.now k shape bytes.now }
     {
@@ -121,7 +123,7 @@ impl<'a> Table<'a> {
         }
     }
 
-    /// May a trace have so many steps?
+    /// Returns whether a trace may have this many steps.
     pub fn is_within(&self, steps: u128) -> bool
         requires { steps < 2 ^ 64 + 1 }
         ensures { result ≡ is_within self.now steps }

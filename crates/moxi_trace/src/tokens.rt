@@ -8,23 +8,25 @@ ghost use Rattle.moxi_trace.specs.Scans.{Scans};
 
 use text_core::is_digit;
 
-/// The bytes that one part of the lexical form allows.
+/// A class of bytes that one part of the lexical form allows.
 #[derive(Clone, Copy)]
 pub enum Class {
-    /// Bytes of a simple symbol.
+    /// The bytes of a simple symbol.
     Symbol,
-    /// Decimal digits.
+    /// The decimal digits.
     Decimal,
-    /// Binary digits.
+    /// The binary digits.
     Binary,
-    /// Hexadecimal digits.
+    /// The hexadecimal digits.
     Hexadecimal,
-    /// Bytes between bars.
+    /// The bytes allowed between bars.
     Barred,
 }
 
-/// What a token is. `Symbol` is a symbol without a prime, bare or in bars, and `Other` what stands nowhere in a response: a
-/// primed symbol, a hexadecimal literal, or a string.
+/// The shape of a token.
+///
+/// `Symbol` is a symbol without a prime, bare or in bars. `Other` is a token that occurs nowhere in a response: a primed
+/// symbol, a hexadecimal literal, or a string.
 #[derive(Clone, Copy)]
 pub enum Shape {
     Open,
@@ -36,10 +38,10 @@ pub enum Shape {
     Other,
 }
 
-/// A token's shape, its bytes without the signs around them, and what stands behind it.
+/// The shape of a token, its bytes without delimiters, and the text after it.
 pub type Scan<'t> = Option<(Shape, &'t [u8], &'t [u8])>;
 
-/// The bytes of a simple symbol, each at its own number, and `#` at all others.
+/// The bytes of a simple symbol, each at its own index, with `#` at every other index.
 const SYMBOL_BYTES: [u8; 256] = *b"\
     ################################\
     #!##$%&###*+#-./0123456789##<=>?\
@@ -56,7 +58,7 @@ fn is_symbol_byte(b: u8) -> bool
     SYMBOL_BYTES[b as usize] != b'#'
 }
 
-/// Tab, line feed, carriage return or space?
+/// Returns whether a byte is a tab, a line feed, a carriage return or a space.
 pub fn is_blank(b: u8) -> bool
     ensures { result ≡ is_blank b }
 {
@@ -81,7 +83,7 @@ fn belongs(class: Class, b: u8) -> bool
     }
 }
 
-// How many bytes of the class a text begins with.
+// The number of leading bytes of the text that belong to the class.
 fn run_length(class: Class, text: &[u8]) -> usize
     ensures value { result ≡ run_length (belongs class) text.now }
     ensures within { result ≤ length text.now }
@@ -96,7 +98,7 @@ fn run_length(class: Class, text: &[u8]) -> usize
     count
 }
 
-// A run of the class's bytes that isn't empty, and what stands behind it.
+// A non-empty run of the class's bytes, and the text after it.
 fn scan_run(shape: Shape, class: Class, text: &[u8]) -> Scan<'_>
     ensures { Scans result (run_of shape class text.now) }
 {
@@ -126,7 +128,7 @@ fn scan_keyword(text: &[u8]) -> Scan<'_>
     scan_run(Shape::Keyword, Class::Symbol, text)
 }
 
-// Whether a prime stands at the front of the text, and what stands behind it.
+// Whether the text begins with a prime, and the text after it.
 fn split_prime(text: &[u8]) -> (bool, &[u8])
     ensures primed { result.0 ≡ has_prime text.now }
     ensures rest { result.1.now ≡ past_prime text.now }
@@ -149,7 +151,7 @@ fn symbol_shape(primed: bool) -> Shape
     if primed { Shape::Other } else { Shape::Symbol }
 }
 
-// A symbol of these bytes, behind which a prime may stand.
+// A symbol with these bytes, and with a prime if one follows.
 fn scan_symbol<'t>(bytes: &'t [u8], behind: &'t [u8]) -> Scan<'t>
     ensures { Scans result (symbol_with bytes.now behind.now) }
 {
@@ -167,7 +169,7 @@ fn scan_bare(text: &[u8]) -> Scan<'_>
     scan_symbol(bytes, behind)
 }
 
-// The rest of a symbol in bars, behind the first bar.
+// The rest of a symbol in bars, after the first bar.
 fn scan_barred(text: &[u8]) -> Scan<'_>
     ensures { Scans result (barred_of text.now) }
 {
@@ -179,7 +181,7 @@ fn scan_barred(text: &[u8]) -> Scan<'_>
     scan_symbol(bytes, behind)
 }
 
-// How many bytes stand before the quote that closes a string, of which the text is what follows its first quote.
+// The number of bytes before the closing quote of a string. The text starts after the opening quote.
 fn quote_length(text: &[u8]) -> Option<usize>
     ensures value { result ≡ quote_length 0 false text.now }
     ensures within { IfSome result (λ n. n < length text.now) }
@@ -202,7 +204,7 @@ fn quote_length(text: &[u8]) -> Option<usize>
     if pending { Some(count) } else { None }
 }
 
-// The rest of a string, behind its first quote.
+// The rest of a string, after its first quote.
 fn scan_quote(text: &[u8]) -> Scan<'_>
     ensures { Scans result (quoted text.now (quote_length 0 false text.now)) }
 {
@@ -211,7 +213,7 @@ fn scan_quote(text: &[u8]) -> Scan<'_>
     Some((Shape::Other, bytes, &closing[1..]))
 }
 
-// The rest of a binary or hexadecimal literal, behind its `#`.
+// The rest of a binary or hexadecimal literal, after its `#`.
 fn scan_digits(text: &[u8]) -> Scan<'_>
     ensures { Scans result (digits_of text.now) }
 {
@@ -223,7 +225,7 @@ fn scan_digits(text: &[u8]) -> Scan<'_>
     }
 }
 
-// The atom at the front of a text, whose first byte is b.
+// The atom at the front of a text whose first byte is b.
 fn scan_atom<'t>(b: u8, rest: &'t [u8], text: &'t [u8]) -> Scan<'t>
     requires { text.now ≡ b ∷ rest.now }
     ensures { Scans result (atom_at b rest.now) }
@@ -238,7 +240,9 @@ fn scan_atom<'t>(b: u8, rest: &'t [u8], text: &'t [u8]) -> Scan<'t>
     }
 }
 
-/// The token that a text begins with (SMT-LIB 2.6, section 3.1, with MoXI's primes).
+/// Scans the token at the front of a text (SMT-LIB 2.6, section 3.1, with MoXI's primes).
+///
+/// Returns None where no token can be scanned.
 #[tactic(auto, unfolding(crate::specs::Tokens::token_of))]
 pub fn token(text: &[u8]) -> Scan<'_>
     ensures { Scans result (token_of text.now) }

@@ -1,4 +1,4 @@
-// Values of a response.
+// Values in a response.
 ghost use Rattle.std.specs.Prelude.{◌≡◌, option_map, length};
 ghost use Rattle.moxi_terms.specs.Names.{or_else, function_names};
 ghost use Rattle.moxi_terms.specs.Meanings.{value_named, bare_call, call_of};
@@ -46,7 +46,7 @@ fn meant_value(s: Sort, meaning: Option<Meaning>) -> Option<Datum>
     }
 }
 
-// The value of a name, `true` and `false` among them, where it is of the sort.
+// The value with this name if it is of the sort, including `true` and `false`.
 #[tactic(auto, using(crate::proofs::Symbols::bare_value))]
 fn symbol_value(scope: &Scope, s: Sort, name: &[u8]) -> Option<Datum>
     ensures { result ≡ symbol_value scope.now.enumerations s name.now }
@@ -74,8 +74,10 @@ fn word_value(s: Sort, digits: &[u8]) -> Option<Datum>
     }
 }
 
-/// The value of a sort that a token spells: `true` or `false`, `#b` and exactly as many digits as the width says, or the name of
-/// a constant.
+/// Returns the value of a sort that a token spells.
+///
+/// It is `true` or `false`, the name of a constant, or `#b` followed by exactly as many digits as the sort is wide. Returns
+/// None for any other token.
 pub fn value_of(scope: &Scope, s: Sort, shape: Shape, bytes: &[u8]) -> Option<Datum>
     ensures { result ≡ value_of scope.now.enumerations s shape bytes.now }
 {
