@@ -1,4 +1,6 @@
-//! Laws of accepted models: their names are words and differ, their word literals are words, and their integers have at most 64
+//! Laws of accepted models.
+//!
+//! Their names are identifiers and distinct, their word literals are valid words, and their integers have at most 64
 //! bits.
 #![tactic(auto)]
 

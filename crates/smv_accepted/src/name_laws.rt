@@ -1,32 +1,32 @@
-// Laws of the names of items and symbols; these functions do nothing.
+// Laws of the names of items and symbols. These functions do nothing.
 ghost use Rattle.smv_accepted.specs.NameLaws.{NamesAreWords, NamesDiffer, NamesStandOnce, SymbolsAreWords, SymbolsDiffer, SymbolsStandOnce};
 
-/// The dotted names of the items of an accepted model differ.
+/// Proves that the dotted names of the items of an accepted model are distinct.
 pub fn names_differ()
     ensures { NamesDiffer }
 {}
 
-/// Each stands once.
+/// Proves that each dotted name occurs once.
 pub fn names_stand_once()
     ensures { NamesStandOnce }
 {}
 
-/// Each is one or more identifiers with dots between.
+/// Proves that each dotted name is one or more identifiers with dots between them.
 pub fn names_are_words()
     ensures { NamesAreWords }
 {}
 
-/// The symbols of a spelled model are identifiers.
+/// Proves that the symbols of a parsed model are identifiers.
 pub fn symbols_are_words()
     ensures { SymbolsAreWords }
 {}
 
-/// The symbols of a model differ.
+/// Proves that the symbols of a model are distinct.
 pub fn symbols_differ()
     ensures { SymbolsDiffer }
 {}
 
-/// Each symbol stands once.
+/// Proves that each symbol occurs once.
 pub fn symbols_stand_once()
     ensures { SymbolsStandOnce }
 {}

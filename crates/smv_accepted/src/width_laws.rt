@@ -1,7 +1,7 @@
-// A law of widths; this function does nothing.
+// A law of widths. This function does nothing.
 ghost use Rattle.smv_accepted.specs.WidthLaws.{WidthIsSmall};
 
-/// The flat form of a spelled and accepted model has integers of at most 64 bits.
+/// Proves that the integers of the flat form of a parsed and accepted model have at most 64 bits.
 pub fn width_is_small()
     ensures { WidthIsSmall }
 {}

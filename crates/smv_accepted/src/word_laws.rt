@@ -1,7 +1,8 @@
-// A law of the definitions; this function does nothing.
+// A law of word literals. This function does nothing.
 ghost use Rattle.smv_accepted.specs.WordLaws.{WordsFit};
 
-/// Each word literal among the expressions of a spelled model's instances has a width that words have, and bits below two to it.
+/// Proves that each word literal in the expressions of a parsed model's instances has a valid width and a value below
+/// two to the power of it.
 pub fn words_fit()
     ensures { WordsFit }
 {}

@@ -22,7 +22,7 @@ use std::alloc::Global;
 use text_core::kinds::{smv, trace};
 use text_core::{End, Name, Shelf, Verdict};
 
-// Answers a trace with the verdict on its run, for a model of which this is the flat form, and the invariant of number j.
+// Judges a trace for a model of which this is the flat form, and invariant j.
 #[derive(Drop)]
 struct JudgeTrace<'a> {
     flat: &'a Flat,
@@ -60,7 +60,7 @@ impl<'a> LastFile for JudgeTrace<'a> {
     }
 }
 
-// What is answered to the verdict on a run.
+// The answer for the verdict on a run.
 #[tactic(auto, using(crate::proofs::TraceAnswers::has_flat, crate::proofs::TraceAnswers::said_yes, crate::proofs::TraceAnswers::said_no))]
 fn run_answer(alloc: Global, flat: &Flat, j: u32, run: &Run) -> Result<Answer, Stop>
     requires model { (source : PlainSource) × IsFormOf source flat.now }
@@ -74,7 +74,7 @@ fn run_answer(alloc: Global, flat: &Flat, j: u32, run: &Run) -> Result<Answer, S
     }
 }
 
-// The number of a run's last step.
+// The number of the last step of a run.
 fn last_step(run: &Run) -> u32
     requires { length run.now.states < 2 ^ 32 }
     ensures { result ≡ length run.now.states - 1 }
@@ -82,7 +82,7 @@ fn last_step(run: &Run) -> u32
     run.states.len().saturating_sub(1) as u32
 }
 
-// Answers a model, and a trace of it.
+// Judges a trace of a model, given both files.
 #[derive(Drop)]
 struct JudgeSmv {
     j: u32,
@@ -127,7 +127,8 @@ impl FirstFile for JudgeSmv {
     }
 }
 
-/// Reads an SMV model and a trace of it, and judges the trace: is it a run whose last state breaks the invariant of number j?
+/// Reads an SMV model and a trace of it, and returns the verdict whether the trace is a run whose last state breaks
+/// invariant j.
 pub fn judge_smv_files<F: Shelf>(
     alloc: Global,
     model: &Name,

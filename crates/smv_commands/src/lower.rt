@@ -23,7 +23,7 @@ use text_core::{End, Name, Shelf};
 use trace_lower::{LowerEnd, lower_flat, lowered_are_accepted, lowered_come_back};
 use witness_lift::{SmvChain, model_lines_are_laid_out, model_lines_are_spelled};
 
-// Answers a trace with the witness that states its run, for the chain's model and the invariant of number j.
+// Lowers a trace to the witness that states its run, for the chain's model and invariant j.
 #[derive(Drop)]
 struct LowerTrace<'a> {
     chain: &'a SmvChain,
@@ -61,7 +61,7 @@ impl<'a> LastFile for LowerTrace<'a> {
     }
 }
 
-// The printed witness that states a run, or what the judge says against the run.
+// The printed witness that states a run, or the judge's verdict No on the run.
 fn run_answer(alloc: Global, chain: &SmvChain, j: u32, run: &Run) -> Result<Answer, Stop>
     requires model { (source : PlainSource) × IsFormOf source chain.now }
     requires few { length run.now.states < 2 ^ 32 }
@@ -80,7 +80,7 @@ fn run_answer(alloc: Global, chain: &SmvChain, j: u32, run: &Run) -> Result<Answ
     }
 }
 
-// Answers a model, and a trace of it.
+// Lowers a trace of a model, given both files.
 #[derive(Drop)]
 struct LowerSmv {
     j: u32,
@@ -125,8 +125,9 @@ impl FirstFile for LowerSmv {
     }
 }
 
-/// Reads an SMV model and a trace of it, and returns the witness that states the trace, where the judge says that it is a run whose
-/// last state breaks the invariant of number j.
+/// Reads an SMV model and a trace of it, and returns the witness that states the trace.
+///
+/// The judge must say that the trace is a run whose last state breaks invariant j; otherwise the answer is its verdict.
 pub fn lower_smv_files<F: Shelf>(
     alloc: Global,
     model: &Name,
@@ -141,8 +142,10 @@ pub fn lower_smv_files<F: Shelf>(
     answer_files(alloc, model, second, &LowerSmv { j }, shelf)
 }
 
-/// What is written for a trace of an accepted model of which the judge says Yes states the trace's run: the judge of witnesses says Yes
-/// of it, and it is lifted to the run again. This function does nothing.
+/// Proves that the witness that is written for an accepted model and a trace states the trace's run.
+///
+/// If the judge says Yes to the trace, the judge of witnesses says Yes to the witness, and the witness is lifted to the
+/// same run.
 pub fn runs_are_lowered()
     ensures { RunsAreLowered }
 {

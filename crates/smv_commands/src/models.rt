@@ -1,4 +1,4 @@
-// SMV models, from their bytes.
+// SMV models, parsed from bytes.
 ghost use Rattle.std.specs.Prelude.{◌≡◌, ◌≤◌, length, IfOk, IfErr};
 ghost use Rattle.text_core.specs.Places.{start, after};
 ghost use Rattle.smv_text.specs.Lexing.{Lexes};
@@ -15,10 +15,12 @@ use std::mem::drop;
 use text_core::End;
 use witness_lift::SmvChain;
 
-/// The most bytes that an SMV model may have.
+/// The most bytes of an SMV model.
 pub const SMV_LIMIT: usize = 1_048_576;
 
-/// Returns the model that the bytes spell. Its tokens are dropped before.
+/// Parses the bytes to a model.
+///
+/// The tokens are dropped before it returns. `Err` is the first refusal of the lexer or the parser, or out of memory.
 pub fn model_of(alloc: Global, bytes: &[u8]) -> Result<Source, End>
     requires { length bytes.now ≤ most_smv_bytes }
     ensures model { IfOk result (λ model. IsModel bytes.now (plain_source model)) }
@@ -28,8 +30,10 @@ pub fn model_of(alloc: Global, bytes: &[u8]) -> Result<Source, End>
     parse(alloc, &tokens)
 }
 
-/// Returns the flat form of the model that the bytes spell, of which the invariant with this number is needed, 0 where any will do. The
-/// model is dropped before.
+/// Returns the flat form of the model to which the bytes parse.
+///
+/// `needed` is the number of the invariant that the model must have, 0 where any will do. The model is dropped before
+/// it returns. `Err` is the first refusal, or out of memory.
 #[tactic(auto, using(crate::proofs::Forms::read_of, crate::proofs::Forms::form_in, crate::proofs::Forms::flat_ends, crate::proofs::Forms::text_ends))]
 pub fn flat_in(alloc: Global, bytes: &[u8], needed: u32) -> Result<Flat, End>
     requires { length bytes.now ≤ most_smv_bytes }
@@ -42,7 +46,10 @@ pub fn flat_in(alloc: Global, bytes: &[u8], needed: u32) -> Result<Flat, End>
     flat
 }
 
-/// Returns the flat form of the model that the bytes spell, with its lines. The model is dropped before.
+/// Returns the flat form of the model to which the bytes parse, with its lines.
+///
+/// `needed` is the number of the invariant that the model must have, 0 where any will do. The model is dropped before
+/// it returns. `Err` is the first refusal, or out of memory.
 #[tactic(auto, using(crate::proofs::Forms::read_of, crate::proofs::Forms::form_in, crate::proofs::Forms::flat_ends, crate::proofs::Forms::text_ends))]
 pub fn chain_in(alloc: Global, bytes: &[u8], needed: u32) -> Result<SmvChain, End>
     requires { length bytes.now ≤ most_smv_bytes }

@@ -26,7 +26,7 @@ use std::alloc::Global;
 use text_core::kinds::smv;
 use text_core::{End, Name, NoMemory, Shelf, Text};
 
-// Answers a model with its MoXI script.
+// Translates a model to its MoXI script.
 #[derive(Drop)]
 struct SmvToMoxi;
 
@@ -66,7 +66,7 @@ pub fn smv_to_moxi<F: Shelf>(alloc: Global, model: &Name, shelf: &mut F) -> Resu
     answer_file(alloc, model, &SmvToMoxi, shelf)
 }
 
-// The script of the model that the bytes spell, or their refusal.
+// The text of the script of the model to which the bytes parse, or their refusal.
 fn script_text(alloc: Global, bytes: &[u8]) -> Result<Text, End>
     requires { length bytes.now ≤ most_smv_bytes }
     ensures text { IfOk result (IsScriptText bytes.now) }
@@ -84,8 +84,10 @@ fn text_of(alloc: Global, flat: &Flat) -> Result<Text, NoMemory>
     print_script(alloc, &script)
 }
 
-/// What is written for an accepted model spells one script, in which some trace meets the query of number j at step k exactly where
-/// the model has a run of k transitions whose last state breaks the invariant of number j.
+/// Proves that the text written for an accepted model spells one script, which has the model's behavior.
+///
+/// In the script, some trace meets query j at step k exactly where the model has a run of k transitions whose last
+/// state breaks invariant j.
 pub fn scripts_stand()
     ensures { ScriptsStand }
 {

@@ -30,7 +30,7 @@ use witness_lift::{
     traces_break_invariants,
 };
 
-// Answers a witness with the trace of the run to which it is lifted, for the chain's model.
+// Lifts a witness to the trace of a run, for the chain's model.
 #[derive(Drop)]
 struct LiftWitness<'a> {
     chain: &'a SmvChain,
@@ -63,7 +63,7 @@ impl<'a> LastFile for LiftWitness<'a> {
     }
 }
 
-// The trace of the chain's model to which a witness is lifted, or what the judge says against it.
+// The trace to which a witness of the chain's model is lifted, or the judge's verdict No on it.
 #[tactic(auto, using(btor_commands::specs::laws::Lifts::denied), unfolding(crate::specs::SmvLift::run_text))]
 fn lifted_answer(alloc: Global, chain: &SmvChain, witness: &Witness) -> Result<Answer, Stop>
     requires { IsWitness (sizes_of (lines_in chain.now)) witness.now }
@@ -80,7 +80,7 @@ fn lifted_answer(alloc: Global, chain: &SmvChain, witness: &Witness) -> Result<A
     }
 }
 
-// Answers a model, and a witness of its BTOR2 text.
+// Lifts a witness of a model's BTOR2 text, given both files.
 #[derive(Drop)]
 struct LiftSmv;
 
@@ -132,8 +132,9 @@ pub fn lift_smv_files<F: Shelf>(
     answer_files(alloc, model, second, &LiftSmv, shelf)
 }
 
-/// The trace to which a witness of an accepted model's BTOR2 text is lifted, where the judge says Yes of it, is that of a run of the
-/// model with a state for each frame, whose last state breaks the invariant of the bad line. This function does nothing.
+/// Proves that an accepted witness of an accepted model's BTOR2 text is lifted to the trace of a run of the model.
+///
+/// The run has a state for each frame, and its last state breaks the invariant of the bad line.
 pub fn runs_are_lifted()
     ensures { RunsAreLifted }
 {

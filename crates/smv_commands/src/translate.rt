@@ -23,7 +23,7 @@ use witness_lift::{
     models_have_frames,
 };
 
-// Answers a model with its BTOR2 text.
+// Translates a model to its BTOR2 text.
 #[derive(Drop)]
 struct SmvToBtor;
 
@@ -63,7 +63,7 @@ pub fn smv_to_btor<F: Shelf>(alloc: Global, model: &Name, shelf: &mut F) -> Resu
     answer_file(alloc, model, &SmvToBtor, shelf)
 }
 
-// The BTOR2 text of the model that the bytes spell, or their refusal.
+// The BTOR2 text of the model to which the bytes parse, or their refusal.
 #[tactic(auto, using(crate::proofs::LinesGiven::made_of_bytes, crate::proofs::Forms::memory_ends))]
 fn translate(alloc: Global, bytes: &[u8]) -> Result<Text, End>
     requires { length bytes.now ≤ most_smv_bytes }
@@ -84,9 +84,11 @@ fn chain_text(alloc: Global, chain: &SmvChain) -> Result<Text, End>
     Ok(print_btor(alloc, chain.nodes())?)
 }
 
-/// What is written for an accepted model spells one list of lines, in which frames 0 to k with every constraint true have the bad
-/// line of number j true in frame k exactly where the model has a run of k transitions whose last state breaks the invariant of
-/// number j. The lines are few, and no two sorts, constants or operators among them say the same.
+/// Proves that the text written for an accepted model spells one list of lines, which has the model's behavior.
+///
+/// Frames 0 to k with every constraint true have bad line j true in frame k exactly where the model has a run of k
+/// transitions whose last state breaks invariant j. The lines are few, and no two sorts, constants or operators among
+/// them are the same.
 pub fn translations_stand()
     ensures { TranslationsStand }
 {

@@ -1,4 +1,4 @@
-// Dotted names, compared and hashed with no copy of their bytes, however they are divided.
+// Dotted names, compared and hashed without a copy of their bytes, wherever they are divided.
 ghost use Rattle.std.specs.Prelude.{◌≡◌, ◌++◌, ◌∷◌, bytes_eq, flat_map, nat_eq};
 ghost use Rattle.std.specs.Hash as fed;
 ghost use Rattle.std.specs.Cmp.Lexicographic.{pointwise, nat_list_eq_equiv};
@@ -10,14 +10,16 @@ ghost use Rattle.smv_meaning.specs.Instances.{dotted};
 
 use std::hash::{Hash, Hasher};
 
-/// The name in the instance with this path. Two are one where their dotted names are.
+/// A name in the instance with this path.
+///
+/// Two are equal where their dotted names are.
 #[derive(Clone, Copy)]
 pub struct Dotted<'a> {
     pub path: &'a [u8],
     pub name: &'a [u8],
 }
 
-// Is the text the path, a dot and the name?
+// Whether the text is the path, a dot and the name.
 fn follows(text: &[u8], path: &[u8], name: &[u8]) -> bool
     ensures { result ≡ bytes_eq text.now (path.now ++ 46 ∷ name.now) }
 {
@@ -33,7 +35,7 @@ fn follows(text: &[u8], path: &[u8], name: &[u8]) -> bool
     }
 }
 
-// Is the text the name in the instance with this path?
+// Whether the text is the dotted name of this name in the instance with this path.
 fn is_dotted(text: &[u8], path: &[u8], name: &[u8]) -> bool
     ensures { result ≡ bytes_eq text.now (dotted path.now name.now) }
 {
@@ -44,7 +46,7 @@ fn is_dotted(text: &[u8], path: &[u8], name: &[u8]) -> bool
     }
 }
 
-// Are two names one, neither in main?
+// Whether two names are equal, neither of them in main.
 #[tactic(auto, using(crate::proofs::DottedLemmas::dot_first, crate::proofs::DottedLemmas::dot_second))]
 fn same_split(p: &[u8], x: &[u8], q: &[u8], y: &[u8]) -> bool
     ensures { result ≡ bytes_eq (p.now ++ 46 ∷ x.now) (q.now ++ 46 ∷ y.now) }
@@ -98,7 +100,7 @@ impl<'a> Hash for Dotted<'a> {
 
     ghost respects_eq = { λ d e h. ap (flat_map fed.u8) ((bytes_eq-Decides (dotted_name d) (dotted_name e)).0 h) };
 
-    // Byte by byte, since the bytes may be divided elsewhere.
+    // Byte by byte, since another spelling of the name may be divided elsewhere.
     fn hash<H: Hasher>(&self, state: &mut H) {
         if self.path.is_empty() {
             Hash::hash_slice(self.name, state);

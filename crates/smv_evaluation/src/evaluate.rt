@@ -1,4 +1,4 @@
-// The value of an expression in an instance, given what is kept of its names.
+// Evaluation of an expression in an instance, given the stored values of its names.
 ghost use Rattle.std.specs.Prelude.{◌≡◌, ◌≤◌, ◌<◌, ◌+◌, map, max, if◌then◌else◌, IfSome};
 ghost use Rattle.smv_text.specs.Tree.{links_of, branches_of, trees_of};
 ghost use Rattle.smv_text.specs.View.{plain, plain_branch, plain_link};
@@ -17,7 +17,9 @@ use smv_operators::{
 };
 use smv_text::{Branch, Expr, Function, Infix, Link, Shape};
 
-/// The value of an expression, its names read in the numbered instance.
+/// Returns the value of an expression, with its names read in the instance with this number.
+///
+/// `now` holds the values of this state, `label` those of the inputs, and `later` those of the following state.
 #[cycle(evaluate)]
 #[tactic(auto, using(crate::proofs::Evaluating::right_low))]
 pub fn evaluate<'a>(
@@ -93,7 +95,7 @@ pub fn evaluate<'a>(
     }
 }
 
-// A chain of `->` is read from the right.
+// A chain of `->` is right-associative.
 #[tactic(auto, using(crate::proofs::Evaluating::right_front))]
 fn is_from_right(links: &[Link]) -> bool
     ensures { result ≡ right_first (links_of (map plain_link links.now)) }
@@ -127,7 +129,7 @@ fn is_implication(op: Infix) -> bool
     }
 }
 
-// The value with the implications that follow it.
+// The value of the implications from the first operand on.
 #[cycle(evaluate)]
 fn rest_implied<'a>(
     table: &Table<'a>,
@@ -153,7 +155,7 @@ fn rest_implied<'a>(
     }
 }
 
-// The front of a chain with the links that follow it, from the left.
+// The value of a left-associative chain, given the value of its first operand.
 #[cycle(evaluate)]
 fn last_front<'a>(
     table: &Table<'a>,
@@ -189,7 +191,7 @@ fn last_front<'a>(
     front
 }
 
-// A front with the operand behind its last operator.
+// The value of a chain's prefix with the next operator and operand applied.
 #[cycle(evaluate)]
 fn next_front<'a>(
     table: &Table<'a>,
@@ -215,7 +217,7 @@ fn next_front<'a>(
     }
 }
 
-// The value of the first branch whose condition is true, else what stands behind the last colon.
+// The value of the first branch whose condition is true, or else the expression after the last colon.
 #[cycle(evaluate)]
 fn chosen_branch<'a>(
     table: &Table<'a>,
@@ -243,7 +245,7 @@ fn chosen_branch<'a>(
     last
 }
 
-// The value of the first branch whose condition is true, and that of the last branch if none is.
+// The value of the first branch whose condition is true, or else of the last branch.
 #[cycle(evaluate)]
 fn taken_branch<'a>(
     table: &Table<'a>,
@@ -272,7 +274,7 @@ fn taken_branch<'a>(
     }
 }
 
-// A function of its arguments.
+// The value of a function of its arguments.
 #[cycle(evaluate)]
 fn call_value<'a>(
     table: &Table<'a>,
@@ -317,7 +319,7 @@ fn call_value<'a>(
     }
 }
 
-/// Does the expression permit the value?
+/// Returns whether the expression permits the value.
 #[cycle(evaluate)]
 pub fn permits<'a>(
     table: &Table<'a>,
@@ -382,7 +384,7 @@ pub fn permits<'a>(
     }
 }
 
-// Does one of the expressions permit the value?
+// Whether one of the expressions permits the value.
 #[cycle(evaluate)]
 fn one_has<'a>(
     table: &Table<'a>,
@@ -406,7 +408,7 @@ fn one_has<'a>(
     false
 }
 
-// Does a chain permit the value, given the value of its first operand and whether that permits it?
+// Whether a chain permits the value, given the value of its first operand and whether that operand permits the value.
 #[cycle(evaluate)]
 fn last_has<'a>(
     table: &Table<'a>,

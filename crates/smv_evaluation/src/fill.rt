@@ -16,7 +16,7 @@ use smv_references::Body;
 use std::alloc::Global;
 use text_core::NoMemory;
 
-// Keeps the value of a name that is a definition or an actual with a body.
+// Stores the value of a name that is a definition or an actual with a body.
 fn keep_local<'a>(
     table: &Table<'a>,
     i: usize,
@@ -40,7 +40,7 @@ fn keep_local<'a>(
     }
 }
 
-// The body is evaluated by what is kept, which holds all to which it leads.
+// Evaluates the body from the stored values, which include all that it refers to.
 fn keep_marked<'a>(
     table: &Table<'a>,
     body: &Body<'a>,
@@ -59,7 +59,7 @@ fn keep_marked<'a>(
     }
 }
 
-// Evaluates what is marked, in an order in which each stands after those to which it refers.
+// Evaluates the marked bodies, in an order with each after those to which it refers.
 fn keep_all<'a>(
     table: &Table<'a>,
     reach: &Reach<'a>,
@@ -82,7 +82,9 @@ fn keep_all<'a>(
     Ok(())
 }
 
-/// The values of names in a state: what the state gives, and what the expression reaches, each evaluated once.
+/// Returns the values of names in a state: those of its variables, and those of the bodies that the expression reaches.
+///
+/// Each body is evaluated once.
 pub fn row_of<'a>(
     alloc: Global,
     table: &Table<'a>,

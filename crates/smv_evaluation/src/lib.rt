@@ -1,4 +1,4 @@
-//! The value of an expression of a model in a state.
+//! Evaluation of an expression of an SMV model in a state.
 #![tactic(auto)]
 
 mod dotted;

@@ -1,5 +1,5 @@
-// Each word literal of a model is a word. The type of words says so; going over the model once shows it to contracts, which
-// see the plain forms alone.
+// Each word literal of a model is a word. The type of words says so; this pass over the model shows it to contracts,
+// which see only plain forms.
 ghost use Rattle.std.specs.Prelude.{IsTrue, map};
 ghost use Rattle.std.specs.List.{list_all, flat_map};
 ghost use Rattle.smv_text.specs.Tree.{links_of, branches_of, trees_of};
@@ -135,7 +135,9 @@ fn in_instance(instance: &Instance)
     in_elements(&instance.module.elements);
 }
 
-/// Each word literal of these instances is a word.
+/// Proves that each word literal of these instances is a word.
+///
+/// It visits every expression and changes nothing.
 pub fn literals_are_words(table: &[Instance])
     ensures { IsTrue (all_trees words_fit (map instance_plain table.now)) }
 {

@@ -39,14 +39,20 @@ fn place_of<'a>(table: &[Instance<'a>], path: &[u8]) -> Option<usize>
     table.iter().position(|at| at.path.bytes() == path)
 }
 
-/// The value of an expression in the instance with this dotted path (empty for main): names of state and frozen variables
-/// are read in the state `now`, those of inputs in the label, and under `next` in the following state (NuSMV 2.6 User
-/// Manual, 2.2). The model's paths, cycles and types are checked. The expression is one of the instance's module, or part of
-/// one; a set has no value, and neither has the name of an instance. The states give each variable a value of its type, and a
-/// label is there where the expression reaches an input. Where no following state is given, `next` reads the state itself. Each
-/// definition and actual that the expression reaches is evaluated once for the state and once for the following state, each
-/// after those to which it refers, so that none is evaluated within another: it takes as much of the stack as one expression
-/// nests.
+/// Returns the value of an expression in the instance with this dotted path, empty for main (NuSMV 2.6 User Manual,
+/// 2.2).
+///
+/// Names of state and frozen variables are read in the state `now`, inputs in the label, and names under `next` in the
+/// following state. Without a following state, `next` reads the state itself.
+///
+/// The model's paths, cycles and types are checked. The expression is one of the instance's module, or part of one. A
+/// set has no value, and neither has the name of an instance.
+///
+/// The states give each variable a value of its type. A label is given where the expression reaches an input.
+///
+/// Each definition and actual that the expression reaches is evaluated once for the state and once for the following
+/// state, after those to which it refers. None is evaluated within another, so stack use is bounded by the nesting of a
+/// single expression.
 pub fn value_at<'a>(
     alloc: Global,
     source: &'a Source,

@@ -1,4 +1,4 @@
-// Which definitions and actuals an expression reaches.
+// The definitions and actuals that an expression reaches.
 ghost use Rattle.std.specs.Prelude.{◌≡◌, ◌||◌, List, ℕ, None, map, IfOk, OnOk};
 ghost use Rattle.std.specs.List.{list_any};
 ghost use Rattle.smv_text.specs.View.{plain};
@@ -18,10 +18,10 @@ use smv_text::{Expr, Path};
 use std::alloc::Global;
 use text_core::{List, NoMemory};
 
-/// Definitions and actuals by their instance and name.
+/// A set of definitions and actuals, by instance and name.
 pub type Marks<'a> = InstanceMap<'a, bool>;
 
-/// Is the definition or actual marked?
+/// Returns whether the definition or actual is marked.
 pub fn has_mark<'a>(marks: &Marks<'a>, i: usize, x: &[u8]) -> bool
     ensures { result ≡ is_marked marks.now i x.now }
 {
@@ -60,7 +60,7 @@ fn mark_all<'a>(
     Ok(())
 }
 
-// Marks what the paths of an expression lead to.
+// Marks the targets of an expression's paths.
 fn mark_body<'a>(
     alloc: Global,
     table: &Table<'a>,
@@ -92,7 +92,7 @@ fn mark_local<'a>(
     }
 }
 
-// Marks what the body of a marked definition or actual leads to.
+// Marks the targets of a body, if it is marked itself.
 fn mark_on<'a>(
     alloc: Global,
     table: &Table<'a>,
@@ -108,7 +108,7 @@ fn mark_on<'a>(
     }
 }
 
-// Against an order in which each stands after those to which it refers, so that each body is gone over once.
+// Walks the order backward, from each body to those to which it refers, so that each body is visited once.
 fn marks_of<'a>(
     alloc: Global,
     table: &Table<'a>,
@@ -134,7 +134,7 @@ fn marks_of<'a>(
     Ok(marks)
 }
 
-// The order, which is there where no check of a cycle fails.
+// The order, which exists since no check of a cycle fails.
 fn order_of<'a>(
     alloc: Global,
     table: &Table<'a>,
@@ -150,8 +150,8 @@ fn order_of<'a>(
     }
 }
 
-/// The definitions and actuals of a model, an order in which each stands after those to which it refers, and which of them an
-/// expression reaches.
+/// The definitions and actuals of a model, an order with each after those to which it refers, and marks on those that
+/// an expression reaches.
 #[derive(Drop)]
 pub struct Reach<'a> {
     pub bodies: Vec<Body<'a>>,
@@ -159,7 +159,8 @@ pub struct Reach<'a> {
     pub marks: Marks<'a>,
 }
 
-/// What an expression of the numbered instance reaches, in a model in which nothing reaches itself.
+/// Returns the definitions and actuals that an expression in the instance with this number reaches, in an acyclic
+/// model.
 pub fn reach_of<'a>(
     alloc: Global,
     table: &Table<'a>,

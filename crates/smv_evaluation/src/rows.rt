@@ -1,4 +1,4 @@
-// What is kept while an expression is evaluated, each value found by its instance and its name there with no scan.
+// Values stored during the evaluation of an expression, found by instance and name without a search.
 ghost use Rattle.std.specs.Prelude.{◌≡◌, ◌<◌, List, ℕ, Some, None, map, bytes_eq, if◌then◌else◌, IfOk, OnOk};
 ghost use Rattle.smv_meaning.specs.Values.{given};
 ghost use Rattle.smv_meaning.specs.Names.{dotted_at};
@@ -20,20 +20,20 @@ use std::alloc::Global;
 use std::collections::HashMap;
 use text_core::NoMemory;
 
-/// Values by the number of an instance and a name there.
+/// Values, by the number of an instance and a name in it.
 pub type Kept<'a> = InstanceMap<'a, Seen<'a>>;
 
-/// Values by the dotted names of variables.
+/// Values, by the dotted names of variables.
 pub type Named<'a> = HashMap<Dotted<'a>, &'a Value>;
 
-/// The values that a state or a label gives, found by dotted names with no search.
+/// The values of a state or a label, if given, found by dotted names without a search.
 #[derive(Drop)]
 pub struct Values<'a> {
     pub given: Option<&'a State>,
     pub named: Named<'a>,
 }
 
-/// The values of names in a state: of its variables, and of definitions and actuals that were evaluated.
+/// The values of names in a state: those of its variables, and those of evaluated definitions and actuals.
 #[derive(Drop)]
 pub struct Row<'a> {
     pub state: Values<'a>,
@@ -66,7 +66,7 @@ fn put_named<'a>(names: &mut Named<'a>, name: &'a [u8], value: &'a Value) -> Res
     }
 }
 
-// The values of a state; of two values of one name the first counts.
+// The values of a state. Where a name occurs twice, the first value counts.
 fn by_name<'a>(alloc: Global, state: &'a State) -> Result<Named<'a>, NoMemory>
     ensures { IfOk result (λ m. (p : List ℕ) (x : List ℕ) → found_value (at_dotted m p x) ≡ given state.now (dotted p x)) }
 {
@@ -89,7 +89,7 @@ fn value_named<'a>(names: &Named<'a>, path: &[u8], name: &[u8]) -> Seen<'a>
     }
 }
 
-/// The values that a state or a label gives, where there is one.
+/// Returns the values of a state or a label, or no values where none is given.
 pub fn values_of<'a>(alloc: Global, given: Option<&'a State>) -> Result<Values<'a>, NoMemory>
     ensures given { IfOk result (λ v. v.given ≡ given.entry) }
     ensures right { IfOk result AreGiven }
@@ -101,7 +101,7 @@ pub fn values_of<'a>(alloc: Global, given: Option<&'a State>) -> Result<Values<'
     Ok(Values { given, named })
 }
 
-// What a state or a label gives a variable.
+// The value of a variable in a state or a label.
 fn value_of_variable<'a>(table: &Table<'a>, values: &Values<'a>, i: usize, x: &[u8]) -> Seen<'a>
     requires { AreGiven values.now }
     ensures { seen_value result ≡ stated values.now.given (dotted_at (map instance_plain table.now) i x.now) }
@@ -113,7 +113,7 @@ fn value_of_variable<'a>(table: &Table<'a>, values: &Values<'a>, i: usize, x: &[
     }
 }
 
-// An input has its value in the label, any other variable in the state.
+// The value of a variable: an input is read in the label, any other variable in the state.
 fn value_of_kind<'a>(
     table: &Table<'a>,
     kind: VarKind,
@@ -144,7 +144,8 @@ fn value_of_body<'a>(row: &Row<'a>, i: usize, x: &[u8]) -> Seen<'a>
     }
 }
 
-/// The value of a path: of a variable in the state or the label, of a definition or an actual as it is kept.
+/// Returns the value of a path: of a variable in the state or the label, or the stored value of a definition or an
+/// actual.
 pub fn value_of_path<'a>(
     table: &Table<'a>,
     i: usize,

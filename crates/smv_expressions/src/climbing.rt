@@ -1,6 +1,6 @@
-// The parser of expressions: an operand, and then level by level what goes on with it.
-//
-// Its functions are kept apart, so that each has a small frame: a hundred brackets with all levels in each fit a usual stack.
+// The parser of expressions: it reads an operand, then level by level what continues it.
+// Its functions are separate so that each has a small frame: 100 nested brackets with all levels in each fit a usual
+// stack.
 
 ghost use Rattle.std.specs.Prelude.{◌≡◌, ◌<◌, ◌≤◌, ◌-◌, ◌^◌, List, ◌∷◌, [], true, length, IfOk};
 ghost use Rattle.smv_text.specs.Levels.{all_levels};
@@ -28,21 +28,23 @@ use smv_text::{Level, OperatorClass, Prefix, Reserved, Shape, Sign, Token, Token
 use std::alloc::Global;
 use text_core::{FIRST_PLACE, Place};
 
-/// The expression that comes first, and the tokens behind it. It goes on as long as it can.
+/// Parses the longest expression at the front of the tokens into `kept`, and returns the tokens after it.
+///
+/// `Err` is out of memory or the token at which no expression can continue.
 pub fn expression<'a>(
     alloc: Global,
     tokens: &'a [Token],
     kept: &mut Kept,
 ) -> Result<&'a [Token], Stop>
     requires { length tokens.now < 2 ^ 32 }
-    // It is what the machine comes to, with the tokens behind it.
+    // The result is that of the machine of the grammar, with the remaining tokens.
     ensures takes { Takes (λ r. (read_of kept.new, r.now)) tokens.now result }
     ensures shorter { IfOk result (λ r. length r.now < length tokens.now) }
 {
     read(alloc, 16, tokens, kept)
 }
 
-/// The place of the first token; a text's first byte where there is none.
+/// Returns the place of the first token, or of the first byte of a text where there is none.
 pub fn start(tokens: &[Token]) -> Place
     ensures { result ≡ start tokens.now }
 {
@@ -52,7 +54,7 @@ pub fn start(tokens: &[Token]) -> Place
     }
 }
 
-// An expression of so many levels.
+// An expression at the `levels` tightest levels.
 #[cycle(read)]
 fn read<'a>(
     alloc: Global,
@@ -82,7 +84,7 @@ fn read<'a>(
     climb(alloc, levels, start(tokens), level, rest, kept)
 }
 
-// Keeps the operand that the token is by itself, where it is a number or a truth value: is it one?
+// Stores the operand if the token alone is one, a number or a truth value, and returns whether it is.
 #[inline(never)]
 fn put_constant(token: &Token, rest: &[Token], kept: &mut Kept) -> bool
     ensures { OnTrue result (IsOperand token.now rest.now (read_of kept.new)) }
@@ -111,8 +113,8 @@ fn put_constant(token: &Token, rest: &[Token], kept: &mut Kept) -> bool
     }
 }
 
-// At how many levels the first operand of an expression of so many is read: a range at 8, signs at 4 or 2, all else below all
-// levels.
+// The number of levels at which the first operand is read: 8 for a range, 4 or 2 for a prefix operator, and 0 for all
+// else.
 fn first_level(levels: usize, tokens: &[Token]) -> usize
     ensures { result ≡ first_level levels tokens.now }
 {
@@ -127,7 +129,7 @@ fn first_level(levels: usize, tokens: &[Token]) -> usize
     }
 }
 
-// The first operand, which is read at so many levels.
+// The first operand, read at the `level` tightest levels.
 #[cycle(read)]
 #[inline(never)]
 fn begin<'a>(
@@ -171,8 +173,8 @@ fn range<'a>(place: Place, tokens: &'a [Token], kept: &mut Kept) -> Result<&'a [
     Ok(rest)
 }
 
-// What goes on with an operand that was read at so many of the levels: each time the level that the next token goes on with, as
-// long as it is one of those between.
+// Continues an operand that was read at `level` levels: each time at the level that the next token continues, as long
+// as it is one of those between.
 #[cycle(read)]
 #[inline(always)]
 fn climb<'a>(
@@ -195,7 +197,7 @@ fn climb<'a>(
     ascend(alloc, levels, place, level, tokens, kept)
 }
 
-// The same, where the next token may go on with one of the levels.
+// The same, where the next token may continue one of the levels.
 #[cycle(read)]
 #[inline(never)]
 fn ascend<'a>(
@@ -224,7 +226,7 @@ fn ascend<'a>(
     }
 }
 
-// What the level over so many others makes of its first operand.
+// Continues the first operand at the level above `below` others.
 #[cycle(read)]
 #[inline(always)]
 fn grown<'a>(
@@ -272,7 +274,7 @@ fn chain<'a>(
     Ok(rest)
 }
 
-// Gathers the operands of a chain behind the first, each read into the same place.
+// Gathers the operands of a chain after the first, each read into the same place.
 #[cycle(read)]
 #[inline(always)]
 fn gather_operands<'a>(
@@ -320,8 +322,8 @@ fn choice<'a>(
     Ok(rest)
 }
 
-// Gathers the branches of a choice. The condition that was read before comes first, and what is kept at the end stands behind the
-// last colon.
+// Gathers the branches of a choice. The condition that was read before comes first; the last expression stored is the
+// value after the last colon.
 #[cycle(read)]
 #[inline(always)]
 fn gather_choices<'a>(
@@ -367,7 +369,7 @@ fn selections<'a>(
     Ok(rest)
 }
 
-// The ends of a selection, behind its opening bracket.
+// The bounds of a selection, after its opening bracket.
 fn ends(tokens: &[Token]) -> Result<(u64, u64, &[Token]), Stop>
     ensures reads { Selects (λ x. (x.0, x.1, x.2.now)) tokens.now result }
     ensures shorter { IfOk result (λ x. length x.2.now < length tokens.now) }
@@ -379,7 +381,7 @@ fn ends(tokens: &[Token]) -> Result<(u64, u64, &[Token]), Stop>
     Ok((high, low, rest))
 }
 
-// An operand behind one sign of a prefix, and more of these signs.
+// An operand after one prefix operator, and after further repetitions of it.
 #[cycle(read)]
 #[inline(never)]
 fn prefixed<'a>(
@@ -445,7 +447,7 @@ fn primary<'a>(alloc: Global, tokens: &'a [Token], kept: &mut Kept) -> Result<&'
     }
 }
 
-// An expression that holds no other: a number, a word literal, a truth value or a name.
+// An expression without subexpressions: a number, a word literal, a truth value or a name.
 #[inline(never)]
 fn alone<'a>(
     alloc: Global,
@@ -492,7 +494,7 @@ fn alone<'a>(
     }
 }
 
-// The argument of `next`, from its bracket on.
+// The argument of `next`, from its opening bracket on.
 #[cycle(read)]
 #[inline(never)]
 fn following<'a>(
@@ -512,7 +514,7 @@ fn following<'a>(
     Ok(last)
 }
 
-// A list, behind its opening bracket.
+// A list, after its opening bracket.
 #[cycle(read)]
 #[inline(never)]
 fn listed<'a>(
@@ -532,7 +534,7 @@ fn listed<'a>(
     Ok(rest)
 }
 
-// Gathers the members of a list and takes its closing bracket.
+// Gathers the members of a list, and reads its closing bracket.
 #[cycle(read)]
 #[inline(always)]
 fn gather_members<'a>(
@@ -566,7 +568,7 @@ fn closing_of(what: Listing) -> Sign
     }
 }
 
-// The conditions of a case with their values, behind the word `case`.
+// The conditions of a case with their values, after the word `case`.
 #[cycle(read)]
 #[inline(never)]
 fn cases<'a>(
@@ -588,7 +590,7 @@ fn cases<'a>(
     Ok(rest)
 }
 
-// Gathers the conditions of a case with their values and takes the word `esac`.
+// Gathers the conditions of a case with their values, and reads the word `esac`.
 #[cycle(read)]
 #[inline(always)]
 fn gather_cases<'a>(

@@ -1,4 +1,4 @@
-// What is kept of the expressions that were read, and their heights.
+// Expressions that were read, with their heights.
 
 ghost use Rattle.std.specs.Prelude.{◌≡◌, ◌<◌, ◌+◌, ◌∷◌, ◌++◌, [], max, ℕ, List, IfOk, IfErr, OnOk};
 ghost use Rattle.smv_text.specs.Heights.{height, chain_height, is_implied, is_joined, joined_number};
@@ -16,18 +16,19 @@ use std::alloc::Global;
 use std::mem;
 use text_core::{Name, Names, Place};
 
-/// An expression that was read and its height. Where it is too high it is not kept: a leaf stands at its place, with a height
-/// over the limit.
+/// An expression that was read, and its height.
+///
+/// An expression above the limit is not stored. A leaf then takes its place, with a height above the limit.
 #[derive(Drop)]
 pub struct Kept {
     pub expr: Expr,
     pub height: u32,
 }
 
-/// The most that a height may be.
+/// The greatest allowed height of an expression.
 pub const MOST: u32 = 380;
 
-// A height, or where it is over the limit one more than that.
+// The height, or one more than the limit where it is above the limit.
 fn capped(height: u32) -> u32
     ensures { result ≡ capped height }
 {
@@ -40,14 +41,15 @@ fn higher(a: u32, b: u32) -> u32
     if a < b { b } else { a }
 }
 
-// The height of what stands so many levels under a node of its own.
+// The height of a node whose highest subexpression, of this height, is `depth` levels below it.
 fn under(depth: u32, height: u32) -> u32
     ensures { result ≡ capped (depth + height) }
 {
     capped(depth.saturating_add(height))
 }
 
-// Keeps an expression that has this height. Mostly a mere leaf was kept, which is told apart first: a drop takes much longer.
+// Stores an expression of this height. Mostly a leaf was stored before, which is tested first: a drop takes much
+// longer.
 #[inline(always)]
 fn put(kept: &mut Kept, place: Place, shape: Shape, height: u32)
     ensures { read_of kept.new ≡ record { tree = shaped place shape; height = height } }
@@ -69,7 +71,7 @@ fn put_over(kept: &mut Kept, place: Place, shape: Shape, height: u32)
     kept.height = height;
 }
 
-// Keeps an expression that has this height, or where that is over the limit a leaf.
+// Stores an expression of this height, or a leaf where the height is above the limit.
 #[inline(always)]
 fn keep(kept: &mut Kept, place: Place, shape: Shape, height: u32)
     ensures { read_of kept.new ≡ keep_at place (shaped place shape) height }
@@ -81,7 +83,8 @@ fn keep(kept: &mut Kept, place: Place, shape: Shape, height: u32)
     }
 }
 
-// Puts what is kept into a box, and leaves a leaf. The room comes first: behind the swap it is clear that what `keep` drops is a leaf.
+// Moves the stored expression into a box, and leaves a leaf. The room is reserved first: after the swap it is clear
+// that `keep` drops a leaf.
 #[inline(always)]
 fn boxed(alloc: Global, kept: &mut Kept) -> Result<Box<Expr>, Stop>
     ensures made { IfOk result (λ b. b.value ≡ kept.old.expr) }
@@ -97,7 +100,7 @@ fn boxed(alloc: Global, kept: &mut Kept) -> Result<Box<Expr>, Stop>
     Ok(room)
 }
 
-/// An expression with no parts.
+/// Returns an expression without subexpressions.
 pub fn leaf(place: Place, shape: Shape) -> Kept
     ensures { read_of result ≡ record { tree = shaped place shape; height = 1 } }
 {
@@ -107,7 +110,7 @@ pub fn leaf(place: Place, shape: Shape) -> Kept
     }
 }
 
-/// Keeps an expression with no parts.
+/// Stores an expression without subexpressions.
 #[inline(always)]
 pub(crate) fn put_leaf(kept: &mut Kept, place: Place, shape: Shape)
     ensures { read_of kept.new ≡ record { tree = shaped place shape; height = 1 } }
@@ -115,7 +118,7 @@ pub(crate) fn put_leaf(kept: &mut Kept, place: Place, shape: Shape)
     put(kept, place, shape, 1);
 }
 
-/// Keeps a single name, at its place.
+/// Stores a single name, at its place.
 #[inline(always)]
 pub(crate) fn name_leaf(
     alloc: Global,
@@ -135,7 +138,7 @@ pub(crate) fn name_leaf(
     Ok(())
 }
 
-/// Takes out what is kept, and leaves a leaf.
+/// Takes the stored expression, and leaves a leaf.
 pub(crate) fn taken(kept: &mut Kept) -> Kept
     ensures { result ≡ kept.old }
 {
@@ -143,11 +146,13 @@ pub(crate) fn taken(kept: &mut Kept) -> Kept
     mem::replace(kept, leaf(place, Shape::True))
 }
 
-/// Drops what was kept. The drop of a whole expression stands here alone, so that what reads one is small.
+/// Drops a stored expression.
+///
+/// This is a function of its own so that the functions that read expressions stay small.
 #[inline(never)]
 pub(crate) fn discard(_kept: Kept) {}
 
-/// Keeps a sign of a prefix, repeated so many times, before what is kept.
+/// Stores the repeated prefix operator applied to the stored expression.
 pub(crate) fn prefixed(
     alloc: Global,
     place: Place,
@@ -164,7 +169,7 @@ pub(crate) fn prefixed(
     Ok(())
 }
 
-/// Keeps a selection of bits of what is kept.
+/// Stores a selection of bits of the stored expression.
 pub(crate) fn selected(
     alloc: Global,
     place: Place,
@@ -181,7 +186,7 @@ pub(crate) fn selected(
     Ok(())
 }
 
-/// Keeps the value in the next state of what is kept.
+/// Stores `next` of the stored expression.
 pub(crate) fn next_value(alloc: Global, place: Place, kept: &mut Kept) -> Result<(), Stop>
     ensures made { (t : Tree) → read_of kept.old ≡ cap t → OnOk result (read_of kept.new ≡ cap (next place t)) }
     ensures free { IfErr result (λ e. e ≡ NoMemory) }
@@ -192,7 +197,7 @@ pub(crate) fn next_value(alloc: Global, place: Place, kept: &mut Kept) -> Result
     Ok(())
 }
 
-/// The expressions of a list so far, and the highest of their heights.
+/// The expressions of a list so far, and the greatest of their heights.
 #[derive(Drop)]
 pub(crate) struct Members {
     exprs: Exprs,
@@ -218,7 +223,7 @@ impl Members {
         Ok(())
     }
 
-    /// Keeps the list.
+    /// Stores the list.
     pub(crate) fn put(self, place: Place, what: Listing, kept: &mut Kept)
         ensures { (ts : List Tree) → AreMembers ts self → read_of kept.new ≡ cap (listed place what ts) }
     {
@@ -232,7 +237,7 @@ impl Members {
     }
 }
 
-/// The branches of a choice or a case so far, how many levels they stand over what follows, and their height so far.
+/// The branches of a choice or a case so far, their number of levels above what follows, and their height so far.
 #[derive(Drop)]
 pub(crate) struct Cases {
     branches: Branches,
@@ -266,7 +271,9 @@ impl Cases {
         Ok(())
     }
 
-    /// Keeps the choice, where what stands behind the last colon is kept; without a branch that alone.
+    /// Stores the choice with the stored expression as the value after the last colon.
+    ///
+    /// Without branches, leaves the stored expression unchanged.
     pub(crate) fn choice(self, alloc: Global, place: Place, kept: &mut Kept) -> Result<(), Stop>
         ensures made { (bs : List (Tree × Tree)) (t : Tree) → AreCases bs self → read_of kept.old ≡ cap t → OnOk result (read_of kept.new ≡ cap (choice_at place (branches_of bs) t)) }
         ensures free { IfErr result (λ e. e ≡ NoMemory) }
@@ -280,7 +287,7 @@ impl Cases {
         Ok(())
     }
 
-    /// Keeps the case.
+    /// Stores the case.
     pub(crate) fn case(self, place: Place, kept: &mut Kept)
         ensures { (bs : List (Tree × Tree)) → AreCases bs self → read_of kept.new ≡ cap (cases place (branches_of bs)) }
     {
@@ -289,29 +296,29 @@ impl Cases {
     }
 }
 
-/// The operands of a chain so far behind the first.
+/// The operands of a chain so far, after the first.
 #[derive(Drop)]
 pub(crate) struct Operands {
     links: Links,
     heights: Heights,
 }
 
-// The heights that a chain has so far, by each way to fold it.
+// The height of a chain so far, for each way to fold it.
 #[derive(Clone, Copy)]
 struct Heights {
-    // The first operator by its number among those of which a chain is one node, 0 for any other.
+    // The number of the first operator among those that form one node per chain, or 0 for any other.
     number: u8,
-    // All operators are that one.
+    // Whether all operators are that one.
     joined: bool,
-    // The operators are implications.
+    // Whether the operators are implications.
     implied: bool,
-    // How many operators there are.
+    // The number of operators.
     depth: u32,
-    // The highest operand.
+    // The height of the highest operand.
     highest: u32,
-    // The height where each operator joins what stands before it to the next operand.
+    // The height where each operator joins all before it to the next operand.
     folded: u32,
-    // The highest of the operands before the last, each under the operators up to it.
+    // The greatest height of the operands before the last, each below the operators up to it.
     before: u32,
     // The height of the last operand.
     last: u32,
@@ -333,7 +340,7 @@ impl Heights {
         }
     }
 
-    // With one more operator, and the operand behind it.
+    // The heights with one more operator and its operand.
     fn with(self, op: Infix, height: u32) -> Heights
         ensures { (n : ℕ) (ls : List (Infix × ℕ)) (m : ℕ) → AreHeights n ls self → height ≡ capped m → AreHeights n (ls ++ (op, m) ∷ []) result }
     {
@@ -438,7 +445,9 @@ impl Operands {
         Ok(())
     }
 
-    /// Keeps the chain, where its first operand is kept; where nothing was pushed that alone.
+    /// Stores the chain with the stored expression as its first operand.
+    ///
+    /// Without further operands, leaves the stored expression unchanged.
     pub(crate) fn chain(self, alloc: Global, place: Place, kept: &mut Kept) -> Result<(), Stop>
         ensures made { (t : Tree) (ls : List (Infix × Tree)) → AreOperands t ls self → read_of kept.old ≡ cap t → OnOk result (read_of kept.new ≡ cap (whole place (record { first = t; links = ls }))) }
         ensures free { IfErr result (λ e. e ≡ NoMemory) }

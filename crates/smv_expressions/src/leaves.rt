@@ -11,7 +11,7 @@ use smv_text::{Path, Reserved, Sign, Token, TokenKind};
 use std::alloc::Global;
 use text_core::{Name, Names};
 
-/// The tokens after this sign, which has to come.
+/// Returns the tokens after the given sign, which must come first.
 pub fn expect(tokens: &[Token], sign: Sign) -> Result<&[Token], Stop>
     ensures passes { Passes (λ r. r.now) result sign tokens.now }
     ensures shorter { IfOk result (λ r. length tokens.now ≡ suc (length r.now)) }
@@ -22,7 +22,7 @@ pub fn expect(tokens: &[Token], sign: Sign) -> Result<&[Token], Stop>
     }
 }
 
-/// A number that comes first, and the tokens after it.
+/// Parses a number, and returns it and the tokens after it.
 pub fn number(tokens: &[Token]) -> Result<(u64, &[Token]), Stop>
     ensures found { Finds (λ x. (x.0, x.1.now)) (first_number tokens.now) result }
     ensures shorter { IfOk result (λ x. length x.1.now < length tokens.now) }
@@ -36,7 +36,7 @@ pub fn number(tokens: &[Token]) -> Result<(u64, &[Token]), Stop>
     }
 }
 
-// The integer of a number. No text has a number of 2^62 or more, so that one for which there is no place in a tree comes never.
+// The number as an integer. No text has a number of 2^62 or more, so the error never happens.
 fn signed(number: u64) -> Result<i64, Stop>
     ensures ok { IfOk result (λ z. z ≡ pos number) }
     ensures small { OnOk result (number < 2 ^ 63) }
@@ -48,7 +48,7 @@ fn signed(number: u64) -> Result<i64, Stop>
     }
 }
 
-/// An integer that comes first, with or without a minus, and the tokens after it.
+/// Parses an integer with an optional minus, and returns it and the tokens after it.
 pub fn integer(tokens: &[Token]) -> Result<(i64, &[Token]), Stop>
     ensures found { Finds (λ x. (x.0, x.1.now)) (first_integer tokens.now) result }
     ensures shorter { IfOk result (λ x. length x.1.now < length tokens.now) }
@@ -65,7 +65,7 @@ pub fn integer(tokens: &[Token]) -> Result<(i64, &[Token]), Stop>
     }
 }
 
-/// Do the tokens begin with an integer and `..` behind it?
+/// Returns whether the tokens begin with an integer and `..`.
 pub(crate) fn starts_range(tokens: &[Token]) -> bool
     ensures { result ≡ starts_range tokens.now }
 {
@@ -103,7 +103,7 @@ fn starts_with_number_and_dots(tokens: &[Token]) -> bool
     }
 }
 
-/// A path that comes first, and the tokens after it.
+/// Parses a path, and returns it and the tokens after it.
 #[inline(always)]
 pub fn path(alloc: Global, tokens: &[Token]) -> Result<(Path, &[Token]), Stop>
     ensures found { Finds (λ x. (x.0, x.1.now)) (first_path tokens.now) result }
@@ -152,7 +152,7 @@ fn path_head(alloc: Global, tokens: &[Token]) -> Result<(Path, &[Token]), Stop>
     }
 }
 
-/// An identifier that comes first, and the tokens after it.
+/// Parses an identifier, and returns it and the tokens after it.
 #[inline(always)]
 pub fn name(alloc: Global, tokens: &[Token]) -> Result<(Name, &[Token]), Stop>
     ensures found { Finds (λ x. (x.0, x.1.now)) (first_name tokens.now) result }

@@ -1,11 +1,13 @@
-// Why nothing was read.
+// The failures of a parser.
 
 use std::alloc::{AllocError, AllocFailed};
 
-/// Why no expression was read.
+/// The reason why no expression was read.
 #[derive(Drop)]
 pub enum Stop {
-    /// No spelling goes on so: how many tokens are left, the first that doesn't fit among them.
+    /// No spelling continues with the next token.
+    ///
+    /// The number is that of the remaining tokens, from that token on.
     Dead(usize),
     /// Memory ran out.
     NoMemory,

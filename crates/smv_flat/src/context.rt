@@ -1,4 +1,4 @@
-// What the expressions of a model are read in.
+// The context in which the expressions of a model are read.
 ghost use Rattle.std.specs.Prelude.{◌≡◌, ℕ, List, Option, map, IfOk};
 ghost use Rattle.std.specs.Coded.{Coded, Coded-set, codes, Π_prop};
 ghost use Rattle.smv_text.specs.declared.tree.VarKind.TheVariants as OfVarKind;
@@ -12,7 +12,7 @@ use smv_text::Path;
 use std::alloc::Global;
 use text_core::NoMemory;
 
-/// A model's instances, the numbers of its items, its symbols, and what its names are to the types.
+/// A model's instances, the numbers of its items, its symbols, and the types of its names.
 #[derive(Drop)]
 pub(crate) struct Context<'s, 'a, 'n, N> {
     pub(crate) naming: &'s N,
@@ -27,14 +27,14 @@ pub(crate) struct Context<'s, 'a, 'n, N> {
 }
 
 impl<'s, 'a, 'n, N> Context<'s, 'a, 'n, N> {
-    /// What a path becomes that leads to this target.
+    /// Returns the translation of a path with this target.
     pub(crate) fn leaf_of(&self, alloc: Global, target: Target<'a>) -> Result<Leaf, NoMemory>
         ensures { IfOk result (λ l. leaf_plain l ≡ leaf_found (map instance_plain self.now.table.now) (found_plain (map instance_plain self.now.table.now) target.entry)) }
     {
         leaf_of(alloc, self.table, self.numbers, self.symbols, target)
     }
 
-    /// What a path in the numbered instance becomes.
+    /// Returns the translation of a path in the instance with this number.
     pub(crate) fn leaf(&self, alloc: Global, i: usize, path: &'a Path) -> Result<Leaf, NoMemory>
         ensures { IfOk result (λ l. leaf_plain l ≡ leaf_in (map instance_plain self.now.table.now) i path.now) }
     {

@@ -4,7 +4,9 @@ use smv_intervals::Ty;
 use smv_text::{Function, Infix, Prefix};
 use word_core::Word;
 
-/// An expression of a model with the number of an item or a symbol in place of each path, and its type: none for a set.
+/// A typed expression of a model, with the number of an item or a symbol in place of each path.
+///
+/// A set has no type.
 #[cycle(flat)]
 #[derive(Drop)]
 pub struct FlatExpr {
@@ -12,7 +14,9 @@ pub struct FlatExpr {
     pub shape: FlatShape,
 }
 
-/// What a flat expression is; `next(e)` is in the items below it.
+/// The shape of a flat expression.
+///
+/// It has no `next(e)`; instead the items in `e` are marked.
 #[cycle(flat)]
 #[derive(Drop)]
 pub enum FlatShape {
@@ -22,7 +26,7 @@ pub enum FlatShape {
     Literal(Word),
     /// The number of a symbol.
     Symbol(u32),
-    /// The number of an item, and whether it stands under `next`.
+    /// The number of an item, and whether it is under `next`.
     Item(u32, bool),
     Prefix(Prefix, u32, Box<FlatExpr>),
     Chain(Box<FlatExpr>, FlatLinks),
@@ -34,7 +38,7 @@ pub enum FlatShape {
     Range(i64, i64),
 }
 
-/// An operator of a chain, and the operand behind it.
+/// An operator of a chain, and its right operand.
 #[cycle(flat)]
 #[derive(Drop)]
 pub struct FlatLink {
@@ -42,7 +46,7 @@ pub struct FlatLink {
     pub operand: FlatExpr,
 }
 
-/// A condition, and what counts where it is true.
+/// A condition, and the value that applies where it is true.
 #[cycle(flat)]
 #[derive(Drop)]
 pub struct FlatBranch {
@@ -50,11 +54,11 @@ pub struct FlatBranch {
     pub value: FlatExpr,
 }
 
-/// Flat expressions, in order.
+/// A list of flat expressions, in order.
 pub type FlatExprs = Vec<FlatExpr>;
 
 /// The links of a chain, in order.
 pub type FlatLinks = Vec<FlatLink>;
 
-/// Branches, in order.
+/// A list of branches, in order.
 pub type FlatBranches = Vec<FlatBranch>;

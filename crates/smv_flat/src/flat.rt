@@ -1,4 +1,4 @@
-// Expressions over the numbers of items and symbols, each node with its type.
+// The flat form of expressions, with the type of each node.
 ghost use Rattle.std.specs.Prelude.{◌≡◌, Bool, Option, Some, None, false, true, map, IfOk};
 ghost use Rattle.smv_text.specs.Tree.{name, links_of, branches_of, trees_of};
 ghost use Rattle.smv_text.specs.View.{plain, plain_link, plain_branch};
@@ -84,7 +84,7 @@ fn name_node(place: Place, at: Standing, named: Named, leaf: Leaf, under: bool) 
     }
 }
 
-// The node of a path, which is followed once.
+// The node of a path, which is resolved once.
 fn path_node<'s, 'a, 'n, N: Naming>(
     alloc: Global,
     context: &Context<'s, 'a, 'n, N>,
@@ -115,7 +115,7 @@ fn range_node(place: Place, at: Standing, low: i64, high: i64) -> Typed
     }
 }
 
-// `next` is in the items below it.
+// `next` disappears: the items below it are marked.
 fn next_node(place: Place, at: Standing, operand: Typed) -> Typed
     ensures { (tree : FlatTree) (type : Option ExprType) (set : Bool) → IsNode operand tree type set → IsNode result tree (next_step place (standing_seen at) type).type set }
 {
@@ -127,7 +127,9 @@ fn next_node(place: Place, at: Standing, operand: Typed) -> Typed
     }
 }
 
-/// The flat form of an expression that stands at such a place in the numbered instance.
+/// Returns the flat form of an expression at this position in the instance with this number.
+///
+/// `under` says whether it is under `next`.
 #[cycle(flat_form)]
 pub(crate) fn flat<'s, 'a, 'n, N: Naming>(
     alloc: Global,

@@ -4,7 +4,7 @@ use crate::expressions::FlatExpr;
 use smv_text::{Expr, When};
 use smv_types::Position;
 
-/// What a formula is: the body of an item, an assignment to one, or the kind of its section.
+/// The role of a formula: the body of an item, an assignment to an item, or the kind of its section.
 #[derive(Clone, Copy, PartialEq, Eq)]
 pub enum Role {
     Body(u32),
@@ -15,8 +15,10 @@ pub enum Role {
     Invariant,
 }
 
-/// A formula: the number of the instance to which it belongs, what it is, and its expression. The body of an actual belongs
-/// to the instance whose parameter it is, an assignment to the instance in whose module it is written.
+/// A formula: the number of its instance, its role, and its expression.
+///
+/// The body of an actual belongs to the instance that has the parameter. An assignment belongs to the instance whose
+/// module contains it.
 #[derive(Drop)]
 pub struct FlatFormula {
     pub instance: u32,
@@ -24,8 +26,10 @@ pub struct FlatFormula {
     pub body: FlatExpr,
 }
 
-/// A formula as it stands in the model: the number of the instance to which it belongs, what it is, the instance in which its
-/// expression is read, and where the expression stands.
+/// A formula as written in the model.
+///
+/// It has the number of its instance, its role, the number of the instance in which its expression is read, the
+/// expression, and the position of the expression.
 #[derive(Clone, Copy)]
 pub struct SourceFormula<'a> {
     pub instance: usize,

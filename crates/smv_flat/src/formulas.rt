@@ -1,4 +1,4 @@
-// The formulas of a model over the numbers of its items.
+// The flat form of a model's formulas.
 ghost use Rattle.std.specs.Prelude.{◌≡◌, true, ◌+◌, ◌++◌, ◌∷◌, [], map, flat_map, OnOk, IfOk};
 ghost use Rattle.smv_text.specs.View.{plain_assignment, plain_element};
 ghost use Rattle.smv_meaning.specs.Phases.{in_assignment};
@@ -21,7 +21,7 @@ use smv_types::{Position, Standing};
 use std::alloc::Global;
 use text_core::NoMemory;
 
-// What 32 bits can't number stands in no model that is accepted.
+// No accepted model has a number of more than 32 bits here.
 fn small(n: usize) -> Result<u32, NoMemory>
     ensures { IfOk result (λ m. m ≡ n) }
 {
@@ -83,7 +83,7 @@ fn read_here<'a>(i: usize, role: Role, body: &'a Expr, position: Position) -> So
     }
 }
 
-// The body of a definition or an actual, which is the item of number k.
+// Adds the body of item k, if it is a definition or an actual.
 fn add_body<'s, 'a, 'n, N: Naming>(
     alloc: Global,
     context: &Context<'s, 'a, 'n, N>,
@@ -120,7 +120,7 @@ fn add_body<'s, 'a, 'n, N: Naming>(
     }
 }
 
-// The bodies of an instance's items, of which the first has this number.
+// Adds the bodies of an instance's items, the first of which has this number.
 fn add_bodies<'s, 'a, 'n, N: Naming>(
     alloc: Global,
     context: &Context<'s, 'a, 'n, N>,
@@ -241,7 +241,7 @@ fn add_elements<'s, 'a, 'n, N: Naming>(
     Ok(())
 }
 
-// The formulas of the instance i, whose first item has this number.
+// Adds the formulas of instance i, whose first item has this number.
 fn add_instance<'s, 'a, 'n, N: Naming>(
     alloc: Global,
     context: &Context<'s, 'a, 'n, N>,
@@ -260,7 +260,7 @@ fn add_instance<'s, 'a, 'n, N: Naming>(
     add_elements(alloc, context, forms, i, &module.elements)
 }
 
-// The formulas of all instances, of which these are the items.
+// The formulas of all instances, given their items.
 #[tactic(auto, using(smv_meaning::specs::laws::Lists::front_is, smv_meaning::specs::laws::Lists::end_is))]
 fn all_formulas<'s, 'a, 'n, N: Naming>(
     alloc: Global,
@@ -290,8 +290,10 @@ fn all_formulas<'s, 'a, 'n, N: Naming>(
     Ok(forms)
 }
 
-/// The formulas of a model, given where its items come from: instances in preorder, in each first the bodies of its items, then
-/// assignments and sections in the order of the text.
+/// Returns the formulas of a model, given the origins of its items.
+///
+/// Instances come in preorder. In each, the bodies of its items come first, then assignments and sections in the order
+/// of the text.
 pub fn formulas_in<'a, 'n, N: Naming>(
     alloc: Global,
     names: &N,

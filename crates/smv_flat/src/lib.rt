@@ -1,4 +1,4 @@
-//! The flat form of SMV models: formulas over the numbers of items and symbols, each node with its type.
+//! The flat form of SMV models: formulas over numbered items and symbols, with the type of each node.
 #![tactic(auto)]
 
 mod context;

@@ -1,4 +1,4 @@
-// What the names of a model are to the types.
+// The types of a model's names.
 ghost use Rattle.std.specs.Prelude.{◌≡◌, true, List};
 ghost use Rattle.smv_meaning.specs.Instances.{Instance};
 ghost use Rattle.smv_meaning.specs.Names.{found_in};
@@ -10,12 +10,12 @@ use smv_instances::Target;
 use smv_text::Path;
 use smv_types::Named;
 
-/// What gives the paths of each instance their types.
+/// A source of types for the paths in each instance of a model.
 pub trait Naming {
     /// The instances of the model.
     ghost instances: { Self → List Instance };
 
-    /// What a path in an instance is, given what it leads to.
+    /// Returns the properties of a path in an instance, given the path's target.
     fn named(&self, i: usize, path: &Path, target: Target) -> Named
         requires { found_plain (instances self.now) target ≡ found_in (instances self.now) i path.now }
         ensures { named_seen result ≡ types_in true (instances self.now) i path.now };

@@ -1,4 +1,4 @@
-// The types of nodes: those of smv_types, and none where a check fails.
+// The types of nodes by the checks of smv_types: None where a check fails.
 ghost use Rattle.std.specs.Prelude.{◌≡◌, List, Option, [], ◌∷◌, ◌++◌, map, option_map, IfOk};
 ghost use Rattle.smv_text.specs.Tree.{links_of, trees_of};
 ghost use Rattle.smv_text.specs.View.{plain, plain_link};
@@ -20,7 +20,7 @@ use smv_types::{CheckEnd, Named, Standing};
 use std::alloc::Global;
 use text_core::{NoMemory, Place, Refusal};
 
-// The type of a node, none where one of its own checks fails.
+// The type of a node, or None where one of its own checks fails.
 fn settled(answer: Result<Option<Ty>, Refusal>) -> Option<Ty>
     ensures { (own : List Check) (type : Option ExprType) → Answers answer (node [] own type) → option_map seen result ≡ (node [] own type).type }
 {
@@ -91,7 +91,7 @@ fn front_type(
     settled(check_front(op, at, place, left, right, operand))
 }
 
-// The type of a chain that is read from the left, front by front.
+// The type of a left-associative chain, prefix by prefix.
 #[tactic(auto, using(smv_meaning::specs::laws::Lists::front_is, smv_meaning::specs::laws::Lists::end_is))]
 pub(crate) fn fronts_type(
     at: Standing,

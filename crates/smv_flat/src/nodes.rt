@@ -24,7 +24,7 @@ use smv_types::lists::BranchTypes;
 use std::alloc::Global;
 use text_core::{NoMemory, Place};
 
-/// A flat expression, its type, which a set has too, and whether it is a set.
+/// A flat expression with its full type, which sets have too, and whether it is a set.
 #[derive(Drop)]
 pub struct Typed {
     pub expr: FlatExpr,
@@ -32,21 +32,21 @@ pub struct Typed {
     pub is_set: bool,
 }
 
-/// The operands behind the operators of a chain, and their types.
+/// The operands after the operators of a chain, and their types.
 #[derive(Drop)]
 pub struct Operands {
     pub links: FlatLinks,
     pub types: Vec<Option<Ty>>,
 }
 
-/// Arguments or elements, and their types.
+/// A list of arguments or elements, and their types.
 #[derive(Drop)]
 pub struct Parts {
     pub exprs: FlatExprs,
     pub types: Vec<Option<Ty>>,
 }
 
-/// Branches, their types, and whether a value is a set.
+/// A list of branches, their types, and whether a value is a set.
 #[derive(Drop)]
 pub struct Cases {
     pub branches: FlatBranches,
@@ -60,7 +60,7 @@ fn boxed(alloc: Global, expr: FlatExpr) -> Result<Box<FlatExpr>, NoMemory>
     Ok(Box::new(alloc, expr)?)
 }
 
-// What doesn't fit 32 bits stands in no accepted model.
+// No accepted model has a value of more than 32 bits here.
 fn small(n: u64) -> Result<u32, NoMemory>
     ensures { IfOk result (λ m. m ≡ n) }
 {
@@ -70,14 +70,14 @@ fn small(n: u64) -> Result<u32, NoMemory>
     }
 }
 
-// A set has no type of its own.
+// A flat set stores no type.
 fn type_unless_set(is_set: bool, ty: Option<Ty>) -> Option<Ty>
     ensures { option_map seen result ≡ unless_set is_set (option_map seen ty) }
 {
     if is_set { None } else { ty }
 }
 
-/// An operand behind a sign.
+/// Returns the node of an operand after a repeated prefix operator.
 pub fn prefixed(
     alloc: Global,
     place: Place,
@@ -97,7 +97,7 @@ pub fn prefixed(
     })
 }
 
-/// Bits of a word.
+/// Returns the node of a bit selection.
 pub fn selected(
     alloc: Global,
     place: Place,
@@ -135,7 +135,7 @@ fn chain_type(
     }
 }
 
-/// A chain, whose operands stand in this position or behind their operators.
+/// Returns the node of a chain, whose operands are at this position or after their operators.
 pub fn chained(
     alloc: Global,
     place: Place,
@@ -160,7 +160,7 @@ pub fn chained(
     })
 }
 
-// The type of a choice, given those of its branches and of what stands behind its last colon.
+// The type of a choice, given the types of its branches and of the value after its last colon.
 fn choice_type(
     alloc: Global,
     place: Place,
@@ -173,7 +173,9 @@ fn choice_type(
     branches_type(alloc, place, &types)
 }
 
-/// A choice, with what stands behind its last colon.
+/// Returns the node of a choice.
+///
+/// `last` is the value after its last colon.
 pub fn chosen(alloc: Global, place: Place, cases: Cases, last: Typed) -> Result<Typed, NoMemory>
     ensures { MakesChoice place cases last result }
 {
@@ -196,7 +198,7 @@ pub fn chosen(alloc: Global, place: Place, cases: Cases, last: Typed) -> Result<
     })
 }
 
-/// A case.
+/// Returns the node of a case.
 pub fn cased(alloc: Global, place: Place, cases: Cases) -> Result<Typed, NoMemory>
     ensures { (bs : PlainBranches) (cs vs : List (Option ExprType)) (some : Bool) → AreCases cases bs cs vs some → IfOk result (IsCasesNode place bs cs vs some) }
 {
@@ -213,7 +215,7 @@ pub fn cased(alloc: Global, place: Place, cases: Cases) -> Result<Typed, NoMemor
     })
 }
 
-/// A call of a function.
+/// Returns the node of a function call.
 pub fn called(
     alloc: Global,
     place: Place,
@@ -232,7 +234,7 @@ pub fn called(
     })
 }
 
-/// A set of elements.
+/// Returns the node of a set of elements.
 pub fn gathered(alloc: Global, place: Place, at: Standing, parts: Parts) -> Result<Typed, NoMemory>
     ensures { (es : PlainTrees) (ts : List (Option ExprType)) → AreParts parts es ts → IfOk result (λ x. IsNode x (flat_set None es) (set_step place (standing_seen at) (all_types ts)).type true) }
 {
@@ -245,7 +247,7 @@ pub fn gathered(alloc: Global, place: Place, at: Standing, parts: Parts) -> Resu
     })
 }
 
-/// Puts an operand behind an operator at the end.
+/// Appends an operator and its operand.
 pub fn add_link(operands: &mut Operands, op: Infix, operand: Typed) -> Result<(), NoMemory>
     ensures links { OnOk result (map plain_flat_link operands.new.links.items ≡ map plain_flat_link operands.old.links.items ++ (op, plain_flat operand.expr) ∷ []) }
     ensures types { OnOk result (map (option_map seen) operands.new.types.items ≡ map (option_map seen) operands.old.types.items ++ option_map seen operand.ty ∷ []) }
@@ -258,7 +260,7 @@ pub fn add_link(operands: &mut Operands, op: Infix, operand: Typed) -> Result<()
     Ok(operands.links.push(link)?)
 }
 
-/// Puts an argument or an element at the end.
+/// Appends an argument or an element.
 pub fn add_part(parts: &mut Parts, part: Typed) -> Result<(), NoMemory>
     ensures exprs { OnOk result (map plain_flat parts.new.exprs.items ≡ map plain_flat parts.old.exprs.items ++ plain_flat part.expr ∷ []) }
     ensures types { OnOk result (map (option_map seen) parts.new.types.items ≡ map (option_map seen) parts.old.types.items ++ option_map seen part.ty ∷ []) }
@@ -273,7 +275,7 @@ fn either(a: bool, b: bool) -> bool
     a || b
 }
 
-/// Puts a branch at the end.
+/// Appends a branch.
 pub fn add_branch(cases: &mut Cases, when: Typed, value: Typed) -> Result<(), NoMemory>
     ensures branches { OnOk result (map plain_flat_branch cases.new.branches.items ≡ map plain_flat_branch cases.old.branches.items ++ (plain_flat when.expr, plain_flat value.expr) ∷ []) }
     ensures conditions { OnOk result (map (option_map seen) cases.new.types.conditions.items ≡ map (option_map seen) cases.old.types.conditions.items ++ option_map seen when.ty ∷ []) }

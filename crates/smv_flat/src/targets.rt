@@ -30,8 +30,9 @@ fn number(leaf: Leaf) -> u32
     }
 }
 
-/// The number of the item that a target is in the numbered instance, given that of the one before: often the same, as in `init(v)` and
-/// `next(v)`.
+/// Returns the number of the item to which a target in the instance with this number leads.
+///
+/// `before` is the target of the previous assignment, often the same path, as in `init(v)` and `next(v)`.
 pub(crate) fn number_behind<'s, 'a, 'n, N>(
     alloc: Global,
     context: &Context<'s, 'a, 'n, N>,

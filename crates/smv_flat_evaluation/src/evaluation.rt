@@ -1,4 +1,4 @@
-// The value of a flat expression, given the values of items.
+// Evaluation of flat expressions, given the values of items.
 ghost use Rattle.std.specs.Prelude.{◌≡◌, [], ◌∷◌, map};
 ghost use Rattle.smv_meaning.specs.Operators.{called};
 ghost use Rattle.smv_meaning.specs.Values.{is_between};
@@ -20,7 +20,8 @@ use smv_operators::{
 use smv_text::{Function, Infix};
 use text_core::Names;
 
-/// The value of the item with this number in a row; what stands for a value where the row has none.
+/// Returns the value of the item with this number in a row, or the stand-in for a missing value where the row is too
+/// short.
 #[tactic(auto, unfolding(crate::specs::RowValues::row_values))]
 pub fn item_at<'a>(row: &[Seen<'a>], k: usize) -> Seen<'a>
     ensures { seen_value result ≡ row_values row.now k }
@@ -56,7 +57,7 @@ fn lies_between(low: i64, high: i64, value: &Seen) -> bool
 
 // ---- chains
 
-// A chain of `->` is read from the right.
+// A chain of `->` is right-associative.
 #[tactic(auto, using(crate::proofs::Evaluating::right_front))]
 fn is_from_right(links: &[FlatLink]) -> bool
     ensures { result ≡ flat_from_right (flat_links_of (map plain_flat_link links.now)) }
@@ -92,8 +93,10 @@ fn is_implication(op: Infix) -> bool
 
 // ---- expressions
 
-/// The value of an expression, given the names of symbols, and the values of items in this state and in the following one, which
-/// `next` reads.
+/// Returns the value of an expression.
+///
+/// `symbols` are the names of the symbols. `now` holds the values of items in this state, and `later` those in the
+/// following state, which `next` reads.
 #[cycle(evaluation)]
 pub fn evaluate<'a>(
     symbols: &'a Names,
@@ -101,7 +104,7 @@ pub fn evaluate<'a>(
     now: &[Seen<'a>],
     later: &[Seen<'a>],
 ) -> Seen<'a>
-    // Each integer on the way fits 64 bits.
+    // Each intermediate integer fits 64 bits.
     requires safe { RowSafe symbols.now now.now later.now (plain_flat e.now) }
     ensures { seen_value result ≡ (row_denote symbols.now now.now later.now (plain_flat e.now)).value }
 {
@@ -143,7 +146,7 @@ pub fn evaluate<'a>(
     }
 }
 
-// A chain, given the value of its first operand.
+// The value of a chain, given the value of its first operand.
 #[cycle(evaluation)]
 fn chained<'a>(
     symbols: &'a Names,
@@ -163,7 +166,7 @@ fn chained<'a>(
     }
 }
 
-// The value with the implications that follow it.
+// The value of the implications from the first operand on.
 #[cycle(evaluation)]
 fn rest_implied<'a>(
     symbols: &'a Names,
@@ -185,7 +188,7 @@ fn rest_implied<'a>(
     }
 }
 
-// The front of a chain with the links that follow it, from the left.
+// The value of a left-associative chain, given the value of its first operand.
 #[cycle(evaluation)]
 fn last_front<'a>(
     symbols: &'a Names,
@@ -206,7 +209,7 @@ fn last_front<'a>(
     front
 }
 
-// A front with the operand behind its last operator.
+// The value of a chain's prefix with the next operator and operand applied.
 #[cycle(evaluation)]
 fn next_front<'a>(
     symbols: &'a Names,
@@ -230,7 +233,7 @@ fn next_front<'a>(
     }
 }
 
-// The first branch whose condition is true, else what stands behind the last colon.
+// The value of the first branch whose condition is true, or else of the expression after the last colon.
 #[cycle(evaluation)]
 fn chosen<'a>(
     symbols: &'a Names,
@@ -254,7 +257,7 @@ fn chosen<'a>(
     evaluate(symbols, last, now, later)
 }
 
-// The first branch whose condition is true, and the last branch if none is.
+// The value of the first branch whose condition is true, or else of the last branch.
 #[cycle(evaluation)]
 fn taken<'a>(
     symbols: &'a Names,
@@ -271,7 +274,7 @@ fn taken<'a>(
     }
 }
 
-// A function of its arguments.
+// The value of a function of its arguments.
 #[cycle(evaluation)]
 fn call_value<'a>(
     symbols: &'a Names,
@@ -314,7 +317,7 @@ fn call_value<'a>(
     }
 }
 
-/// Does the expression permit the value?
+/// Returns whether the expression permits the value.
 #[cycle(evaluation)]
 pub fn permits<'a>(
     symbols: &'a Names,
@@ -323,7 +326,7 @@ pub fn permits<'a>(
     now: &[Seen<'a>],
     later: &[Seen<'a>],
 ) -> bool
-    // Each integer on the way fits 64 bits.
+    // Each intermediate integer fits 64 bits.
     requires safe { RowSafe symbols.now now.now later.now (plain_flat e.now) }
     ensures { result ≡ (row_denote symbols.now now.now later.now (plain_flat e.now)).permits (seen_value value.now) }
 {
@@ -353,7 +356,7 @@ pub fn permits<'a>(
     }
 }
 
-// Does one of the expressions permit the value?
+// Whether one of the expressions permits the value.
 #[cycle(evaluation)]
 fn one_permits<'a>(
     symbols: &'a Names,
@@ -375,7 +378,7 @@ fn one_permits<'a>(
     false
 }
 
-// Does a choice permit the value?
+// Whether a choice permits the value.
 #[cycle(evaluation)]
 fn chosen_permits<'a>(
     symbols: &'a Names,
@@ -400,7 +403,7 @@ fn chosen_permits<'a>(
     permits(symbols, last, value, now, later)
 }
 
-// Does a case permit the value?
+// Whether a case permits the value.
 #[cycle(evaluation)]
 fn taken_permits<'a>(
     symbols: &'a Names,
@@ -418,7 +421,7 @@ fn taken_permits<'a>(
     }
 }
 
-// Does a chain permit the value, given the value of its first operand and whether that permits it?
+// Whether a chain permits the value, given the value of its first operand and whether that operand permits the value.
 #[cycle(evaluation)]
 fn last_permits<'a>(
     symbols: &'a Names,

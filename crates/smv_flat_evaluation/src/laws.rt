@@ -1,8 +1,9 @@
-// A law of flat forms; this function does nothing.
+// A law of flat models. This function does nothing.
 ghost use Rattle.smv_flat_evaluation.specs.FlatSafety.{FormsAreSafe};
 
-/// In the rows of states and labels whose values are of the declared types, each integer to which the evaluation of an accepted
-/// model's formulas comes fits 64 bits.
+/// Proves that each intermediate integer in the evaluation of an accepted model's formulas fits 64 bits.
+///
+/// This holds in the rows of states and labels whose values have the declared types.
 pub fn forms_are_safe()
     ensures { FormsAreSafe }
 {}

@@ -1,4 +1,4 @@
-//! The values of flat expressions over rows of values, which stand in lists by the numbers of items.
+//! Evaluation of flat SMV expressions over rows of values, which are lists indexed by the numbers of items.
 #![tactic(auto)]
 
 mod evaluation;

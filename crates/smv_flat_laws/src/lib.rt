@@ -1,5 +1,7 @@
-//! What the flat form of SMV models says of rows of values: each state and label has one row, and its formulas are true there
-//! exactly where the model's are in the states.
+//! Laws of flat SMV models and rows of values.
+//!
+//! Each state and label has one row, and the flat formulas are true in rows exactly where the model's are in the
+//! states.
 #![tactic(auto)]
 
 mod laws;

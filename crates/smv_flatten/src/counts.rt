@@ -8,7 +8,7 @@ use smv_instances::Table;
 use smv_text::{Element, Elements};
 use text_core::NoMemory;
 
-// A sum that 32 bits can't hold belongs to no accepted model.
+// No accepted model has a sum that exceeds 32 bits.
 fn sum(a: u32, b: u32) -> Result<u32, NoMemory>
     ensures { IfOk result (λ n. n ≡ a + b) }
 {
@@ -18,7 +18,7 @@ fn sum(a: u32, b: u32) -> Result<u32, NoMemory>
     }
 }
 
-/// The tokens of the modules' bodies, summed over the instances.
+/// Returns the weight of a model: the tokens of the modules' bodies, summed over the instances.
 #[tactic(auto, using(crate::proofs::Lists::front_is, crate::proofs::Lists::end_is))]
 pub(crate) fn weight_in(table: &Table) -> Result<u32, NoMemory>
     ensures { IfOk result (λ n. n ≡ sum_by (λ at. at.module.tokens) (map instance_plain table.now)) }
@@ -30,7 +30,7 @@ pub(crate) fn weight_in(table: &Table) -> Result<u32, NoMemory>
     Ok(weight)
 }
 
-// One more behind an invariant.
+// The count, incremented if the element is an invariant.
 fn counted(count: u32, element: &Element) -> Result<u32, NoMemory>
     ensures { (i : ℕ) → IfOk result (λ n. n ≡ count + length (element_invariants i (plain_element element.now))) }
 {
@@ -46,7 +46,7 @@ fn counted(count: u32, element: &Element) -> Result<u32, NoMemory>
     }
 }
 
-// With the invariants among these elements.
+// The count with the invariants among these elements.
 #[tactic(auto, using(crate::proofs::Lists::front_is, crate::proofs::Lists::end_is))]
 fn counted_all(count: u32, elements: &Elements) -> Result<u32, NoMemory>
     ensures { (i : ℕ) → IfOk result (λ n. n ≡ count + length (flat_map (element_invariants i) (map plain_element elements.now))) }
@@ -58,7 +58,7 @@ fn counted_all(count: u32, elements: &Elements) -> Result<u32, NoMemory>
     Ok(all)
 }
 
-/// The number of a model's invariants, over all its instances.
+/// Returns the number of a model's invariants, over all its instances.
 #[tactic(auto, using(crate::proofs::Lists::front_is, crate::proofs::Lists::end_is))]
 pub(crate) fn invariant_count(table: &Table) -> Result<u32, NoMemory>
     ensures { IfOk result (λ n. n ≡ length (invariants_in (map instance_plain table.now))) }

@@ -1,5 +1,5 @@
-// Why a model has no flat form.
+// Failures of flattening.
 use text_core::End;
 
-/// Why a model has no flat form: a check fails, with the refusal of the first one that does (S8 to S28), or want of memory.
+/// The failure of flattening: the refusal of the first failing check (S8 to S28), or out of memory.
 pub type FlatEnd = End;

@@ -30,7 +30,7 @@ use smv_width::width_of;
 use std::alloc::Global;
 use text_core::{Name, NoMemory};
 
-// Where the items of a model come from, their dotted paths, and the symbols.
+// The origins of a model's items, their dotted paths, and the symbols.
 #[derive(Drop)]
 struct Sources<'a> {
     origins: Origins<'a>,
@@ -74,7 +74,7 @@ fn flat_formulas<'a>(
     formulas_in(alloc, &names, table, origins, &numbers, symbols)
 }
 
-// The items and the formulas of a model, and the width of their integers.
+// The items and formulas of a model, and the width of their integers.
 #[derive(Drop)]
 struct Contents {
     items: Vec<FlatItem>,
@@ -133,11 +133,13 @@ fn flattened<'a>(alloc: Global, table: &Table<'a>, types: &Types<'a>) -> Result<
     })
 }
 
-/// The flat form of a model, as the parser answers it, of which the invariant with this number is wanted, 0 where any will do; the
-/// refusal is that of the first check that fails.
+/// Returns the flat form of a parsed model, after all checks.
+///
+/// `needed` is the number of the invariant that the model must have, 0 where any will do. `Err` is the refusal of the
+/// first failing check, or out of memory.
 #[tactic(auto, using(crate::proofs::Models::are_of_model))]
 pub fn flatten(alloc: Global, source: &Source, needed: u32) -> Result<Flat, FlatEnd>
-    // A text spells the model, and none of its expressions is too high.
+    // A text parses to the model, and none of its expressions is too high.
     requires read { IsRead (plain_source source.now) }
     ensures checks { Decides result (checks_of (plain_source source.now) needed) }
     ensures passes { IfOk result (λ f. IsAccepted (plain_source source.now) needed) }

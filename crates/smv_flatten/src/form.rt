@@ -6,8 +6,10 @@ use crate::sequences::{FlatFormulas, FlatItems};
 use std::marker::Model;
 use text_core::Names;
 
-/// The flat form of an accepted model: its variables, definitions and actuals as numbered items, its symbols, and its formulas
-/// over their numbers. Instances stand in preorder.
+/// The flat form of an accepted model.
+///
+/// It has the model's variables, definitions and actuals as numbered items, its symbols, and its formulas over these
+/// numbers. Instances come in preorder.
 #[derive(Drop)]
 pub struct Flat {
     pub(crate) items: FlatItems,
@@ -36,29 +38,36 @@ impl Model for Flat {
 }
 
 impl Flat {
-    /// The variables, definitions and actuals: of each instance first the actuals that are no paths, then its own variables and
-    /// definitions in the order of the text.
+    /// Returns the variables, definitions and actuals.
+    ///
+    /// For each instance, the actuals that are not paths come first, then its own variables and definitions in the
+    /// order of the text.
     pub fn items(&self) -> &FlatItems
         ensures { result.now ≡ self.now.items }
     {
         &self.items
     }
 
-    /// The symbols of enumerations and CONSTANTS, each once, in the order in which they are met.
+    /// Returns the symbols of enumerations and CONSTANTS, each once, in the order of their first occurrence.
     pub fn symbols(&self) -> &Names
         ensures { result.now ≡ self.now.symbols }
     {
         &self.symbols
     }
 
-    /// The formulas: of each instance first the bodies of its items, then its assignments and sections in the order of the text.
+    /// Returns the formulas.
+    ///
+    /// For each instance, the bodies of its items come first, then its assignments and sections in the order of the
+    /// text.
     pub fn formulas(&self) -> &FlatFormulas
         ensures { result.now ≡ self.now.formulas }
     {
         &self.formulas
     }
 
-    /// The bits of an integer, from 1 to 64: 1 where no integer occurs.
+    /// Returns the bits of an integer, from 1 to 64.
+    ///
+    /// It is 1 where no integer occurs.
     pub fn width(&self) -> u32
         ensures value { result ≡ self.now.width }
         ensures some { 1 ≤ result }
@@ -67,25 +76,25 @@ impl Flat {
         self.width
     }
 
-    /// The tokens of the modules' bodies, summed over the instances.
+    /// Returns the weight: the tokens of the modules' bodies, summed over the instances.
     pub fn weight(&self) -> u32
         ensures { result ≡ self.now.weight }
     {
         self.weight
     }
 
-    /// The number of invariants, over all instances.
+    /// Returns the number of invariants, over all instances.
     pub fn invariants(&self) -> u32
         ensures { result ≡ self.now.invariants }
     {
         self.invariants
     }
 
-    /// A text spells the model of which this is the flat form, and the model's checks hold; this function does nothing.
+    /// Proves that a text parses to the model of which this is the flat form, and that the model's checks hold.
     pub fn is_of_model(&self)
         ensures { ∥ IsOfModel self.now ∥₁ }
     {
-        // This use of a field brings the invariant.
+        // This use of a field makes the invariant available.
         let _ = &self.items;
     }
 }

@@ -63,7 +63,7 @@ fn flat_item<'a>(
     })
 }
 
-/// The items of these origins, given their dotted paths.
+/// Returns the items of these origins, given their dotted paths.
 #[tactic(auto, using(crate::proofs::Lists::front_is, crate::proofs::Lists::end_is, crate::proofs::Lists::joined_on, crate::proofs::Lists::append_none))]
 pub(crate) fn flat_items<'a>(
     alloc: Global,

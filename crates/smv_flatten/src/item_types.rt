@@ -20,7 +20,7 @@ use smv_types::Position;
 use std::alloc::Global;
 use text_core::{End, NoMemory};
 
-// The type of a body that is read in the numbered instance: none where one of its checks fails.
+// The type of a body that is read in the instance with this number, or None where one of its checks fails.
 fn body_type<'a>(
     alloc: Global,
     table: &Table<'a>,
@@ -48,7 +48,7 @@ fn type_or_truth(t: Option<Ty>) -> Ty
     }
 }
 
-/// The type of an item: that of a variable's declaration or of a body, and truth values where there is none.
+/// Returns the type of an item: that of a variable's declaration or of a body, or `boolean` where there is none.
 pub(crate) fn item_type<'a>(
     alloc: Global,
     table: &Table<'a>,

@@ -1,4 +1,4 @@
-// The phases of checks, one after another.
+// The phases of checks, in order.
 ghost use Rattle.std.specs.Prelude.{◌≡◌, ◌++◌, ◌∷◌, [], List, length, map, nat_lt, IfOk};
 ghost use Rattle.smv_text.specs.View.{plain_source};
 ghost use Rattle.smv_meaning.specs.Instances.{Instance, instances_of};
@@ -20,7 +20,7 @@ use smv_text::Source;
 use std::alloc::Global;
 use text_core::{List, Place};
 
-// What is found of the definitions and actuals.
+// The results for the definitions and actuals.
 #[derive(Drop)]
 struct Found<'a> {
     bodies: Vec<Body<'a>>,
@@ -28,7 +28,7 @@ struct Found<'a> {
     types: Types<'a>,
 }
 
-// The first three phases, which answer the table of the instances.
+// The first three phases, which return the table of the instances.
 #[tactic(auto, using(crate::specs::laws::Composing::ends, crate::specs::laws::Composing::ends_behind, crate::specs::laws::Composing::both_pass))]
 fn sized<'a>(alloc: Global, source: &'a Source) -> Result<Table<'a>, NamesEnd>
     ensures checks { Settles result (early_checks (plain_source source.now)) }
@@ -78,7 +78,7 @@ fn kept<'a>(table: Table<'a>, found: Found<'a>) -> Accepted<'a>
     }
 }
 
-// The last phase, behind which all is kept.
+// The last phase, after which the results are returned.
 fn counted<'a>(
     table: Table<'a>,
     found: Found<'a>,
@@ -107,8 +107,10 @@ fn joined<'a>(alloc: Global, source: &'a Source, needed: u32) -> Result<Accepted
     }
 }
 
-/// Checks a model of which the invariant with this number is wanted: the refusal is that of the first check that fails, in
-/// the order of the phases.
+/// Checks a model, and returns what the checks found.
+///
+/// `needed` is the number of the invariant that the model must have. `Err` is the refusal of the first failing check in
+/// the order of the phases, or out of memory.
 pub fn check_model<'a>(
     alloc: Global,
     source: &'a Source,

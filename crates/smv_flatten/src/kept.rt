@@ -1,11 +1,13 @@
-// What is known of a model that passes its checks.
+// The results of the checks of an accepted model.
 use smv_instances::Table;
 use smv_model_types::Types;
 use smv_references::Body;
 use text_core::List;
 
-/// What the checks found of a model that passes them all: its instances, its definitions and actuals, an order of these in
-/// which each stands after those to which it refers, and their types.
+/// The results of the checks of an accepted model.
+///
+/// They are its instances, its definitions and actuals, an order of these with each after those to which it refers, and
+/// the types of its names.
 #[derive(Drop)]
 pub struct Accepted<'a> {
     pub table: Table<'a>,

@@ -1,4 +1,4 @@
-//! The flat form of an SMV model that passes all checks, which are made phase by phase in their order.
+//! The flat form of an SMV model, after all checks in the order of their phases.
 #![tactic(auto)]
 
 mod counts;

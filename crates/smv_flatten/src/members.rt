@@ -1,4 +1,4 @@
-// The members of an enumeration, copied.
+// Copies of the members of enumerations.
 ghost use Rattle.std.specs.Prelude.{◌≡◌, IfOk};
 ghost use Rattle.smv_text.specs.View.{plain_domain};
 ghost use Rattle.smv_items.specs.FlatItems.{domain_members, content_members};
@@ -44,7 +44,9 @@ fn domain_members(alloc: Global, domain: &Domain) -> Result<Members, NoMemory>
     }
 }
 
-/// The members of an enumeration in the order of the text: none of any other variable, and none of a body.
+/// Returns the members of an enumeration in the order of the text.
+///
+/// The list is empty for any other variable and for a body.
 pub(crate) fn members_of(alloc: Global, content: &Content) -> Result<Members, NoMemory>
     ensures { IfOk result (λ ms. ms ≡ content_members (content_plain content.now)) }
 {

@@ -1,11 +1,13 @@
-// The items and the formulas of a flat form, as lists that this crate alone makes.
+// The items and the formulas of a flat form, as lists that only this crate can create.
 ghost use Rattle.std.specs.Prelude.{◌≡◌, ◌<◌, length, slice_index_or};
 
 use smv_flat::FlatFormula;
 use smv_items::FlatItem;
 use std::marker::Model;
 
-/// The items of a flat form in their order, seen as their list.
+/// The items of a flat form, in order.
+///
+/// Contracts see it as their list.
 #[derive(Drop)]
 pub struct FlatItems {
     items: Vec<FlatItem>,
@@ -27,14 +29,14 @@ impl FlatItems {
         FlatItems { items }
     }
 
-    /// How many items there are.
+    /// Returns the number of items.
     pub fn len(&self) -> usize
         ensures { result ≡ length self.now }
     {
         self.items.len()
     }
 
-    /// The item with this number.
+    /// Returns the item with this number.
     pub fn at(&self, k: usize) -> &FlatItem
         requires { k < length self.now }
         ensures { result.now ≡ slice_index_or self.now k result.now }
@@ -42,7 +44,7 @@ impl FlatItems {
         &self.items[k]
     }
 
-    /// All of them.
+    /// Returns all items as a slice.
     pub fn as_slice(&self) -> &[FlatItem]
         ensures { result.now ≡ self.now }
     {
@@ -50,7 +52,9 @@ impl FlatItems {
     }
 }
 
-/// The formulas of a flat form in their order, seen as their list.
+/// The formulas of a flat form, in order.
+///
+/// Contracts see it as their list.
 #[derive(Drop)]
 pub struct FlatFormulas {
     formulas: Vec<FlatFormula>,
@@ -77,14 +81,14 @@ impl FlatFormulas {
         FlatFormulas { formulas }
     }
 
-    /// How many formulas there are.
+    /// Returns the number of formulas.
     pub fn len(&self) -> usize
         ensures { result ≡ length self.now }
     {
         self.formulas.len()
     }
 
-    /// The formula at this place.
+    /// Returns the formula at this position.
     pub fn at(&self, k: usize) -> &FlatFormula
         requires { k < length self.now }
         ensures { result.now ≡ slice_index_or self.now k result.now }
@@ -92,7 +96,7 @@ impl FlatFormulas {
         &self.formulas[k]
     }
 
-    /// All of them.
+    /// Returns all formulas as a slice.
     pub fn as_slice(&self) -> &[FlatFormula]
         ensures { result.now ≡ self.now }
     {

@@ -1,4 +1,4 @@
-// The types of a model's names, as the flat form asks for them.
+// The types of a model's names, in the form that flattening needs.
 ghost use Rattle.std.specs.Prelude.{map};
 ghost use Rattle.std.specs.Coded.{Coded, Coded-set, codes, Π_prop};
 ghost use Rattle.smv_meaning.specs.Checks.{Named as Meaning};

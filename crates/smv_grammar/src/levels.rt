@@ -1,4 +1,4 @@
-// The levels of the grammar, and the tokens that go on with an expression or begin one.
+// The precedence levels, and the tokens that begin or continue an expression.
 
 ghost use Rattle.std.specs.Prelude.{◌≡◌, ◌<◌, option_map, IfSome, suc, length};
 ghost use Rattle.smv_text.specs.Levels.{infix_of, function_at, class_number};
@@ -12,7 +12,7 @@ use smv_text::{
 };
 use word_core::Word;
 
-/// What a token begins, below all levels.
+/// The kind of expression that a token begins, below all precedence levels.
 pub enum Leader {
     /// A number.
     Number(u64),
@@ -20,7 +20,7 @@ pub enum Leader {
     Literal(Word),
     /// `TRUE` or `FALSE`.
     Truth(bool),
-    /// A name.
+    /// A path of names.
     Path,
     /// An expression in round brackets.
     Bracket,
@@ -30,13 +30,13 @@ pub enum Leader {
     Next,
     /// `case`
     Case,
-    /// A function.
+    /// A built-in function.
     Call(Function),
-    /// It begins no expression.
+    /// No expression.
     Nothing,
 }
 
-/// What a token begins.
+/// Returns the kind of expression that a token begins.
 pub fn leader_of(kind: &TokenKind) -> Leader
     ensures { result ≡ leader_of kind.now }
 {
@@ -96,7 +96,7 @@ fn class_rank(class: OperatorClass) -> usize
     }
 }
 
-/// The operator of this class that a token is.
+/// Returns the operator of this class that a token spells.
 #[inline(always)]
 #[tactic(auto, using(smv_text::specs::laws::Operators::infix_is))]
 fn infix_of(class: OperatorClass, kind: &TokenKind) -> Option<Infix>
@@ -114,7 +114,8 @@ fn infix_of(class: OperatorClass, kind: &TokenKind) -> Option<Infix>
     }
 }
 
-/// The operator of this class that comes first, and the tokens after it.
+/// Returns the operator of this class that comes first and the tokens after it, or None where no such operator comes
+/// first.
 #[inline(always)]
 pub fn operator_after(tokens: &[Token], class: OperatorClass) -> Option<(Infix, &[Token])>
     ensures found { option_map (λ r. (r.0, r.1.now)) result ≡ operator_after class tokens.now }
@@ -129,7 +130,7 @@ pub fn operator_after(tokens: &[Token], class: OperatorClass) -> Option<(Infix, 
     }
 }
 
-// The rank of the level that a token goes on with: 17 where it goes on with none, 0 where with a name or an integer.
+// The rank of the level that a token continues: 17 where it continues none, 0 where it continues a name or an integer.
 #[inline(always)]
 fn rank_of(kind: &TokenKind) -> usize
     ensures { result ≡ rank_of kind.now }
@@ -149,7 +150,7 @@ fn rank_of(kind: &TokenKind) -> usize
     }
 }
 
-/// The rank of the first token, 17 where there is none.
+/// Returns the rank of the level that the first token continues, or 17 where there is no token.
 #[inline(always)]
 pub fn first_rank(tokens: &[Token]) -> usize
     ensures { result ≡ first_rank tokens.now }
@@ -160,7 +161,7 @@ pub fn first_rank(tokens: &[Token]) -> usize
     }
 }
 
-/// The level over n others.
+/// Returns the level with rank n + 1, so that level 0 binds the tightest.
 pub fn level_at(n: usize) -> Level
     requires { n < 16 }
     ensures { result ≡ level_at n }

@@ -1,5 +1,6 @@
-//! The grammar of SMV as readers of tokens: a machine for expressions and combinators for models, and the laws that both read exactly
-//! what the grammar spells.
+//! Parsers for the SMV grammar: a state machine for expressions and parser combinators for models.
+//!
+//! Its laws prove that both accept exactly what the grammar spells.
 #![tactic(auto)]
 
 mod expression_laws;

@@ -2,7 +2,7 @@
 
 use smv_text::Function;
 
-/// What stands in a list.
+/// The kind of list that stands between brackets.
 #[derive(Clone, Copy)]
 pub enum Listing {
     /// The arguments of a function.

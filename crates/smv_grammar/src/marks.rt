@@ -1,4 +1,4 @@
-// Which sign or reserved word a token is.
+// Tests for a given sign or reserved word.
 
 ghost use Rattle.std.specs.Prelude.{◌≡◌, is_some, option_map, IfSome, suc, length};
 ghost use Rattle.smv_text.specs.Signs.{sign_number};
@@ -20,7 +20,7 @@ fn word_number(word: Reserved) -> u8
     word as u8
 }
 
-/// Is the token this sign?
+/// Returns whether the token is the given sign.
 pub fn is_sign(kind: &TokenKind, sign: Sign) -> bool
     ensures { result ≡ is_sign sign kind.now }
 {
@@ -34,7 +34,7 @@ pub fn is_sign(kind: &TokenKind, sign: Sign) -> bool
     }
 }
 
-/// Is the token this reserved word?
+/// Returns whether the token is the given reserved word.
 fn is_word(kind: &TokenKind, word: Reserved) -> bool
     ensures { result ≡ is_word word kind.now }
 {
@@ -48,7 +48,7 @@ fn is_word(kind: &TokenKind, word: Reserved) -> bool
     }
 }
 
-/// The tokens after this sign, where it comes first.
+/// Returns the tokens after the given sign, or None where it does not come first.
 pub fn tokens_after(tokens: &[Token], sign: Sign) -> Option<&[Token]>
     ensures found { option_map (λ r. r.now) result ≡ after sign tokens.now }
     ensures shorter { IfSome result (λ r. length tokens.now ≡ suc (length r.now)) }
@@ -65,7 +65,7 @@ pub fn tokens_after(tokens: &[Token], sign: Sign) -> Option<&[Token]>
     }
 }
 
-/// Does this sign come first?
+/// Returns whether the given sign comes first.
 pub fn is_first(tokens: &[Token], sign: Sign) -> bool
     ensures { result ≡ is_some (after sign tokens.now) }
 {
@@ -75,7 +75,7 @@ pub fn is_first(tokens: &[Token], sign: Sign) -> bool
     }
 }
 
-/// The tokens after this reserved word, where it comes first.
+/// Returns the tokens after the given reserved word, or None where it does not come first.
 pub fn after_word(tokens: &[Token], word: Reserved) -> Option<&[Token]>
     ensures found { option_map (λ r. r.now) result ≡ after_word word tokens.now }
     ensures shorter { IfSome result (λ r. length tokens.now ≡ suc (length r.now)) }

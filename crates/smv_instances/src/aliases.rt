@@ -104,7 +104,7 @@ fn key_at<'a>(keys: &[Key<'a>], k: usize) -> Key<'a>
     keys[k]
 }
 
-// Says whether the lead of one of the parameters was kept.
+// Returns whether the lead of at least one of these parameters was stored.
 fn all_retried<'a>(
     parts: &Parts<'a>,
     leads: &mut Leads<'a>,
@@ -127,7 +127,7 @@ fn all_retried<'a>(
     Ok(changed)
 }
 
-// Follows the alias, and before it each open alias that it comes to and that was not yet followed. The stack is empty again behind it.
+// Follows the alias, after every open alias on its way that was not yet followed. The stack is empty again at the end.
 fn searched<'a>(
     parts: &Parts<'a>,
     leads: &mut Leads<'a>,
@@ -161,8 +161,8 @@ fn searched<'a>(
     Ok(())
 }
 
-// Follows a parameter that is an alias, unless it was followed on the way of another, and says whether it is surely not open then. Most
-// aliases lead through none that is open.
+// Follows a parameter that is an alias, unless it was followed on the way of another. Returns whether it is certainly
+// not open afterwards. Most aliases lead through no open one.
 fn first_searched<'a>(
     parts: &Parts<'a>,
     leads: &mut Leads<'a>,
@@ -195,7 +195,7 @@ fn first_searched<'a>(
     }
 }
 
-// Follows each of these parameters that is an alias, and says whether surely none is open then.
+// Follows each of these parameters that is an alias, and returns whether certainly none is open afterwards.
 fn all_searched<'a>(
     alloc: Global,
     parts: &Parts<'a>,
@@ -220,8 +220,10 @@ fn all_searched<'a>(
     Ok(closed)
 }
 
-/// The leads of all aliases but of those that lead into cycles. The search keeps them all; what may be open then is tried until
-/// nothing more is kept, so that each open alias comes to an open one.
+/// Returns the leads of all aliases, except of those that lead into cycles.
+///
+/// The search normally stores them all. Aliases that may still be open are retried until nothing more is stored; then
+/// each open alias leads to an open one.
 pub fn leads_of<'a>(alloc: Global, parts: &Parts<'a>) -> Result<Leads<'a>, NoMemory>
     ensures right { IfOk result (Right (map instance_plain parts.now)) }
     ensures closed { IfOk result (IsClosed (map instance_plain parts.now)) }

@@ -1,4 +1,4 @@
-// Which instance a name is in an instance, found with no scan.
+// A lookup table from a name in an instance to the instance that it names.
 ghost use Rattle.std.specs.Prelude.{◌≡◌, List, ℕ, Some, is_none, map, position, IfOk, OnOk, ◌&&◌, if◌then◌else◌};
 ghost use Rattle.smv_meaning.specs.Names.{is_child};
 ghost use Rattle.name_maps.specs.Rows.{row_in};
@@ -9,7 +9,7 @@ use name_maps::{InstanceRows, add_first_in, no_rows_in};
 use std::alloc::Global;
 use text_core::NoMemory;
 
-/// Numbers of instances by the number of the instance that they stand in, and their name there.
+/// Instance numbers, by the number of the enclosing instance and the name in it.
 pub type Children<'a> = InstanceRows<'a, usize>;
 
 #[tactic(auto, using(crate::specs::laws::ChildLemmas::unchanged))]
@@ -22,7 +22,7 @@ fn put_part<'a>(children: &mut Children<'a>, c: usize, part: &Instance<'a>) -> R
     }
 }
 
-/// The first instance of each name in each instance.
+/// Returns, for each instance and name in it, the first instance with that name.
 #[tactic(auto, using(crate::specs::laws::ChildLemmas::with_part, crate::specs::laws::ChildLemmas::whole))]
 pub fn children_of<'a>(alloc: Global, table: &[Instance<'a>]) -> Result<Children<'a>, NoMemory>
     ensures { IfOk result (λ m. (i : ℕ) (x : List ℕ) → row_in m i x ≡ position (is_child i x) (map instance_plain table.now)) }

@@ -9,8 +9,10 @@ use smv_text::{Domain, Element, Expr, Item, Items, Module, Source};
 use std::alloc::Global;
 use text_core::{Name, NoMemory};
 
-/// An instance: the number of the instance in which it is declared and in whose scope its actuals are read, its name
-/// there, its dotted path, its module and its actuals.
+/// An instance of a module.
+///
+/// It has the number of its parent, its name there, its dotted path, its module and its actual parameters. The parent
+/// is the instance that declares it; the actuals are read in the parent's scope.
 #[derive(Drop)]
 pub struct Instance<'a> {
     pub parent: Option<usize>,
@@ -20,7 +22,7 @@ pub struct Instance<'a> {
     pub actuals: &'a [Expr],
 }
 
-/// The dotted path of a name in the instance with this path.
+/// Returns the dotted path of a name in the instance with this path.
 pub fn path_below(alloc: Global, path: &[u8], name: &[u8]) -> Result<Name, NoMemory>
     ensures { IfOk result (λ p. p ≡ dotted path.now name.now) }
 {
@@ -31,7 +33,7 @@ pub fn path_below(alloc: Global, path: &[u8], name: &[u8]) -> Result<Name, NoMem
     }
 }
 
-// The instance that a declaration in the instance i, which has this path, makes.
+// The instance that a declaration in instance i, which has this path, creates.
 fn child<'a>(
     alloc: Global,
     modules: &ModuleTable<'a>,
@@ -62,7 +64,7 @@ fn child<'a>(
     }
 }
 
-// Adds the instance and then all below it; modules nest at most as deep as the number tells.
+// Adds the instance and then all instances below it; modules nest at most `deep` levels.
 #[cycle(grow)]
 #[tactic(auto, using(crate::proofs::Grow::grow_none, crate::proofs::Grow::grow_begins))]
 fn extend<'a>(
@@ -99,7 +101,7 @@ fn extend<'a>(
     Ok(())
 }
 
-// Adds the instances that declarations in the instance i make, each with all below it.
+// Adds the instances that declarations in instance i create, each with all instances below it.
 #[cycle(grow)]
 #[tactic(auto, using(crate::proofs::Grow::grow_none, crate::proofs::Grow::grow_begins))]
 fn extend_items<'a>(
@@ -122,7 +124,9 @@ fn extend_items<'a>(
     Ok(())
 }
 
-/// The instances of a model: main and all below it, in preorder.
+/// Returns the instances of a model: main and all instances below it, in preorder.
+///
+/// Returns an empty list where there is no module main.
 pub fn instances<'a>(alloc: Global, source: &'a Source) -> Result<Vec<Instance<'a>>, NoMemory>
     ensures { IfOk result (λ t. map instance_plain t.items ≡ instances_of (plain_source source.now)) }
 {

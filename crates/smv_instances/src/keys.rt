@@ -30,7 +30,7 @@ fn add_keys<'a>(
     Ok(())
 }
 
-/// The parameters of all instances, all aliases among them.
+/// Returns the parameters of all instances, which include all aliases.
 #[tactic(auto, using(crate::proofs::KeyLemmas::more_keys, crate::proofs::KeyLemmas::all_keys))]
 pub fn keys_of<'a>(alloc: Global, parts: &Parts<'a>) -> Result<Vec<Key<'a>>, NoMemory>
     ensures { IfOk result (λ ks. AreAll (map instance_plain parts.now) ks.items) }

@@ -1,4 +1,4 @@
-// What the names of the instances are, but for those of small modules, found with no scan.
+// A lookup table of the names in the instances of large modules.
 ghost use Rattle.std.specs.Prelude.{◌≡◌, ◌==◌, ◌-◌, ◌^◌, min, if◌then◌else◌, List, ℕ, Some, map, sum_by, unwrap_or, IfOk, OnOk};
 ghost use Rattle.smv_text.specs.Tree.{trees_of};
 ghost use Rattle.smv_text.specs.View.{plain, plain_item, plain_definition, plain_element, plain_module};
@@ -15,10 +15,10 @@ use smv_text::{Definitions, Element, Elements, Expr, Items, Module, Parameters, 
 use std::alloc::Global;
 use text_core::NoMemory;
 
-/// What names are in the instances.
+/// The meaning of names in instances, by instance and name.
 pub type KnownNames<'a> = InstanceRows<'a, Known<'a>>;
 
-// How many names a module declares, as far as a number can tell it.
+// The number of names that a module declares, or the greatest number if it is exceeded.
 fn names_in(module: &Module) -> usize
     ensures { result ≡ min (names_of (plain_module «module».now)) (2 ^ 64 - 1) }
 {
@@ -33,7 +33,7 @@ fn names_in(module: &Module) -> usize
     count
 }
 
-// From the last on, so that the first one of a name counts.
+// Iterates from the last to the first, so that the first item with a name counts.
 fn put_items<'a>(
     known: &mut KnownNames<'a>,
     i: usize,
@@ -72,7 +72,7 @@ fn put_definitions<'a>(
     Ok(())
 }
 
-// The names of an instance of which none is known yet.
+// Adds the names of an instance of which none is known yet.
 fn put_elements<'a>(
     known: &mut KnownNames<'a>,
     i: usize,
@@ -115,7 +115,7 @@ fn put_parameters<'a>(
     Ok(())
 }
 
-// The names of the instance with this number, of which none is known yet. Those of a small module need no rows.
+// Adds the names of the instance with this number, of which none is known yet. Those of a small module need no rows.
 fn put_instance<'a>(
     known: &mut KnownNames<'a>,
     i: usize,
@@ -139,7 +139,7 @@ fn put_instance<'a>(
     Ok(())
 }
 
-/// How many names the instances have, as far as a number can tell it.
+/// Returns the number of names in all instances, or the greatest number if it is exceeded.
 #[tactic(auto, using(crate::proofs::TableLemmas::names_on))]
 pub fn names_in_all<'a>(table: &[Instance<'a>]) -> usize
     ensures { result ≡ min (sum_by (λ at. names_of at.«module») (map instance_plain table.now)) (2 ^ 64 - 1) }
@@ -151,7 +151,7 @@ pub fn names_in_all<'a>(table: &[Instance<'a>]) -> usize
     count
 }
 
-// How many names of a module have rows, as far as a number can tell it.
+// The number of names of a module that have rows, or the greatest number if it is exceeded.
 fn kept_names_in(module: &Module) -> usize
     ensures { result ≡ min (kept_names_of (plain_module «module».now)) (2 ^ 64 - 1) }
 {
@@ -162,7 +162,7 @@ fn kept_names_in(module: &Module) -> usize
     }
 }
 
-// How many names have rows, as far as a number can tell it.
+// The number of names that have rows, or the greatest number if it is exceeded.
 #[tactic(auto, using(crate::proofs::TableLemmas::kept_names_on))]
 fn kept_names_in_all<'a>(table: &[Instance<'a>]) -> usize
     ensures { result ≡ min (sum_by (λ at. kept_names_of at.«module») (map instance_plain table.now)) (2 ^ 64 - 1) }
@@ -174,7 +174,7 @@ fn kept_names_in_all<'a>(table: &[Instance<'a>]) -> usize
     count
 }
 
-/// What the names are of all instances, but for those of small modules.
+/// Returns the names of all instances, except of those of small modules.
 #[tactic(auto, using(crate::proofs::KnownLemmas::knows_all))]
 pub fn known_in_all<'a>(alloc: Global, table: &[Instance<'a>]) -> Result<KnownNames<'a>, NoMemory>
     ensures { IfOk result (Knows table.now) }

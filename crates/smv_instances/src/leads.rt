@@ -1,4 +1,4 @@
-// Where aliases lead, each found once.
+// The targets of aliases, each resolved once.
 ghost use Rattle.std.specs.Prelude.{◌≡◌, ◌∷◌, [], ℕ, map, IfSome};
 ghost use Rattle.smv_meaning.specs.Names.{instance_at, look, walk, resolved, local};
 ghost use Rattle.smv_instances.specs.Leads.{until, Right, LeadAt, WalkOf};
@@ -10,28 +10,28 @@ use name_maps::{InstanceRows, row_value_in};
 use smv_text::Path;
 use text_core::Names;
 
-/// What an alias leads to, and how deep the aliases on its way lead into one another, itself among them.
+/// The target of an alias, and the depth of the chain of aliases on its way, itself included.
 #[derive(Clone, Copy)]
 pub struct Lead<'a> {
     pub depth: usize,
     pub target: Target<'a>,
 }
 
-/// A parameter: its instance and its name there.
+/// A parameter: its instance, and its name there.
 #[derive(Clone, Copy)]
 pub struct Key<'a> {
     pub instance: usize,
     pub name: &'a [u8],
 }
 
-/// How a walk along a path ends: at what the path leads to, or before an alias of which no lead is kept.
+/// The end of a walk along a path: the path's target, or the first alias on it without a stored lead.
 #[derive(Clone, Copy)]
 pub enum Walk<'a> {
     Ends(Lead<'a>),
     Waits(Key<'a>),
 }
 
-/// Leads of aliases by their instance and name.
+/// The leads of aliases, by instance and name.
 pub type Leads<'a> = InstanceRows<'a, Lead<'a>>;
 
 fn one_deep<'a>(target: Target<'a>) -> Lead<'a>
@@ -41,7 +41,9 @@ fn one_deep<'a>(target: Target<'a>) -> Lead<'a>
     Lead { depth: 1, target }
 }
 
-/// Where a name leads of which is known what it is in its instance, but for an open alias.
+/// Returns the lead of a name in instance i, or None where the name is an alias without a stored lead.
+///
+/// `known` is the meaning of the name in its own instance.
 pub fn lead_of<'a>(
     parts: &Parts<'a>,
     leads: &Leads<'a>,
@@ -65,7 +67,7 @@ pub fn lead_of<'a>(
     }
 }
 
-// The instance that a name is in its own instance.
+// The instance that a name denotes in its own instance.
 fn instance_named<'a>(parts: &Parts<'a>, i: usize, x: &'a [u8], known: Known<'a>) -> Option<usize>
     requires known { local_plain known ≡ local (map instance_plain parts.now) i x.now }
     ensures { IfSome result (λ c. (n : ℕ) → look (map instance_plain parts.now) n i x.now ≡ until 1 n (instance_at c)) }
@@ -109,7 +111,7 @@ fn names_walk<'a>(parts: &Parts<'a>, leads: &Leads<'a>, i: usize, names: &'a Nam
     for k in 0..names.len() {
         let name = names.at(k).bytes();
         let known = parts.local(at, name);
-        // Most names before the last are instances.
+        // Most names before the last one are instances.
         if let Some(c) = instance_named(parts, at, name, known) {
             if depth < 1 {
                 depth = 1;
@@ -137,7 +139,7 @@ fn names_walk<'a>(parts: &Parts<'a>, leads: &Leads<'a>, i: usize, names: &'a Nam
     })
 }
 
-/// The walk along a path in the numbered instance.
+/// Returns the walk along a path in the instance with this number.
 pub fn path_walk<'a>(parts: &Parts<'a>, leads: &Leads<'a>, i: usize, path: &'a Path) -> Walk<'a>
     requires right { Right (map instance_plain parts.now) leads.now }
     ensures { WalkOf (map instance_plain parts.now) leads.now (λ n. resolved (map instance_plain parts.now) (look (map instance_plain parts.now) n) i path.now) result }

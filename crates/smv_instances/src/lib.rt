@@ -1,4 +1,4 @@
-//! The table of a model's instances, where names and paths are looked up.
+//! The table of a model's instances, which resolves names and paths.
 #![tactic(auto)]
 
 mod aliases;

@@ -1,4 +1,4 @@
-// The modules of a model, found by their names.
+// Lookup of a model's modules by name.
 ghost use Rattle.std.specs.Prelude.{◌≡◌, ◌<◌, length, map, IfOk, IfSome};
 ghost use Rattle.smv_text.specs.View.{plain_module};
 ghost use Rattle.smv_meaning.specs.Instances.{module_named};
@@ -11,10 +11,10 @@ use std::alloc::Global;
 use std::marker::Model;
 use text_core::{NoMemory, is_same};
 
-/// How many modules are gone through for a name.
+/// The most modules that are searched one by one for a name.
 const FEW: usize = 4;
 
-/// The modules of a model, seen as their list.
+/// The modules of a model, with their places by name. Contracts see it as the list of modules.
 #[derive(Drop)]
 pub struct ModuleTable<'a> {
     list: &'a Modules,
@@ -50,14 +50,14 @@ impl<'a> ModuleTable<'a> {
         })
     }
 
-    /// How many modules there are.
+    /// Returns the number of modules.
     pub fn len(&self) -> usize
         ensures { result ≡ length self.now }
     {
         self.list.len()
     }
 
-    /// The place of the first module with this name.
+    /// Returns the place of the first module with this name, or None where there is none.
     pub fn place(&self, name: &[u8]) -> Option<usize>
         ensures module { module_at self.now result ≡ module_named (map plain_module self.now) name.now }
         ensures within { IfSome result (λ k. k < length self.now) }
@@ -71,7 +71,7 @@ impl<'a> ModuleTable<'a> {
         }
     }
 
-    /// The first module with this name.
+    /// Returns the first module with this name, or None where there is none.
     pub fn named(&self, name: &[u8]) -> Option<&'a Module>
         ensures { module_or_none result ≡ module_named (map plain_module self.now) name.now }
     {
@@ -82,7 +82,7 @@ impl<'a> ModuleTable<'a> {
     }
 }
 
-// The place of the first module with this name, found with no table.
+// The place of the first module with this name, found by a search of the list.
 #[inline(always)]
 fn place_among(modules: &Modules, name: &[u8]) -> Option<usize>
     ensures module { module_at modules.now result ≡ module_named (map plain_module modules.now) name.now }
@@ -96,7 +96,7 @@ fn place_among(modules: &Modules, name: &[u8]) -> Option<usize>
     None
 }
 
-// From the last on, so that the first one of a name counts.
+// Iterates from the last to the first, so that the first module with a name counts.
 fn places_of<'a>(alloc: Global, modules: &'a Modules) -> Result<NameRows<'a, usize>, NoMemory>
     ensures { IfOk result (λ m. FindsPlaces modules.now modules.now m) }
 {

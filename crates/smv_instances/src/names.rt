@@ -1,4 +1,4 @@
-// What names are, and what paths lead to.
+// The meaning of names, and the targets of paths.
 ghost use Rattle.std.specs.Prelude.{◌≡◌, List};
 ghost use Rattle.smv_text.specs.View.{plain, plain_domain};
 ghost use Rattle.smv_meaning.specs.Instances.{Instance as Specified};
@@ -7,12 +7,12 @@ ghost use Rattle.smv_instances.specs.View.{local_plain, found_plain};
 
 use smv_text::{Domain, Expr, Path, Shape, VarKind};
 
-/// What one name is in its own instance.
+/// The meaning of a single name in its own instance.
 #[derive(Clone, Copy)]
 pub enum Known<'a> {
-    /// A parameter whose actual is a path, read in the numbered instance.
+    /// A parameter whose actual is a path, with the number of the instance in which the path is read.
     Alias(usize, &'a Path),
-    /// A definition, or a parameter with any other actual, read in the numbered instance.
+    /// A definition, or a parameter with any other actual, with the number of the instance in which it is read.
     Body(usize, &'a Expr),
     Variable(VarKind, &'a Domain),
     /// An instance.
@@ -20,21 +20,24 @@ pub enum Known<'a> {
     Nothing,
 }
 
-/// What a path leads to.
+/// The target of a path.
 #[derive(Clone, Copy)]
 pub enum Target<'a> {
-    /// A variable: its instance, its name there, its kind and its type.
+    /// A variable: the number of its instance, its name there, its kind and its type.
     Variable(usize, &'a [u8], VarKind, &'a Domain),
-    /// A definition or an actual: its instance, its name there, the instance in which its body is read, and the body.
+    /// A definition or an actual: the number of its instance, its name there, the number of the instance in which its
+    /// body is read, and the body.
     Body(usize, &'a [u8], usize, &'a Expr),
-    /// An instance.
+    /// An instance, by its number.
     Instance(usize),
     Symbol(&'a [u8]),
     Cyclic,
     Missing,
 }
 
-/// What a parameter is: an alias where its actual is a path.
+/// Returns the meaning of a parameter with this actual: an alias where the actual is a path.
+///
+/// `parent` is the number of the instance in which the actual is read.
 pub fn actual<'a>(parent: usize, e: &'a Expr) -> Known<'a>
     ensures { local_plain result ≡ of_actual parent (plain e.now) }
 {
@@ -44,7 +47,7 @@ pub fn actual<'a>(parent: usize, e: &'a Expr) -> Known<'a>
     }
 }
 
-/// What a declared name is: a variable or an instance.
+/// Returns the meaning of a declared name: a variable or an instance.
 pub fn domain<'a>(kind: VarKind, d: &'a Domain) -> Known<'a>
     ensures { local_plain result ≡ of_domain kind (plain_domain d.now) }
 {
@@ -57,7 +60,7 @@ pub fn domain<'a>(kind: VarKind, d: &'a Domain) -> Known<'a>
     }
 }
 
-/// What is no instance ends its path.
+/// Returns the target, or `Missing` where the path continues after something other than an instance.
 pub fn last<'a>(found: Target<'a>, at_end: bool) -> Target<'a>
     ensures { (t : List Specified) → found_plain t result ≡ ended (found_plain t found.entry) at_end }
 {

@@ -16,7 +16,7 @@ use std::alloc::Global;
 use std::marker::Model;
 use text_core::NoMemory;
 
-/// The instances of a model, numbered in preorder, with what single names are in them.
+/// The instances of a model, numbered in preorder, with the meaning of single names in them.
 #[derive(Drop)]
 pub struct Parts<'a> {
     parts: Vec<Instance<'a>>,
@@ -49,7 +49,7 @@ impl<'a> Model for Parts<'a> {
 }
 
 impl<'a> Parts<'a> {
-    /// The instances, which stand in preorder.
+    /// Creates the value from instances in preorder.
     pub fn over(alloc: Global, parts: Vec<Instance<'a>>) -> Result<Parts<'a>, NoMemory>
         ensures { IfOk result (λ t. t ≡ parts.entry.items) }
     {
@@ -66,21 +66,21 @@ impl<'a> Parts<'a> {
         })
     }
 
-    /// The number of instances.
+    /// Returns the number of instances.
     pub fn len(&self) -> usize
         ensures { result ≡ length self.now }
     {
         self.parts.len()
     }
 
-    /// The instances in their order.
+    /// Returns the instances in order.
     pub fn list(&self) -> &[Instance<'a>]
         ensures { result.now ≡ self.now }
     {
         self.parts.as_slice()
     }
 
-    /// The instance with this number.
+    /// Returns the instance with this number.
     pub fn at(&self, i: usize) -> &Instance<'a>
         requires { i < length self.now }
         ensures { result.now ≡ slice_index_or self.now i result.now }
@@ -88,7 +88,8 @@ impl<'a> Parts<'a> {
         &self.parts[i]
     }
 
-    /// What one name is in its own instance: a parameter, a variable, an instance, a definition, or nothing.
+    /// Returns the meaning of a single name in its own instance: a parameter, a variable, an instance, a definition, or
+    /// nothing.
     pub fn local(&self, i: usize, x: &[u8]) -> Known<'a>
         ensures { local_plain result ≡ local (map instance_plain self.now) i x.now }
     {
@@ -102,14 +103,14 @@ impl<'a> Parts<'a> {
         }
     }
 
-    /// The first instance with this name in the numbered one.
+    /// Returns the first instance with this name in the instance with this number, or None where there is none.
     pub fn child(&self, i: usize, x: &[u8]) -> Option<usize>
         ensures { result ≡ position (is_child i x.now) (map instance_plain self.now) }
     {
         row_value_in(&self.children, i, x)
     }
 
-    /// Is the name in an enumeration or CONSTANTS of an instantiated module?
+    /// Returns whether the name is in an enumeration or in CONSTANTS of an instantiated module.
     pub fn has_symbol(&self, x: &[u8]) -> bool
         ensures { result ≡ has_symbol (map instance_plain self.now) x.now }
     {

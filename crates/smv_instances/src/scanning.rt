@@ -1,4 +1,4 @@
-// What a name is in an instance of a small module, found in the module itself.
+// Lookup of a name in an instance of a small module, by a scan of the module.
 ghost use Rattle.std.specs.Prelude.{◌≡◌, List, ℕ, Some, map};
 ghost use Rattle.smv_text.specs.Tree.{trees_of};
 ghost use Rattle.smv_text.specs.View.{plain, plain_item, plain_definition, plain_element, plain_module};
@@ -16,7 +16,7 @@ const MOST_TOKENS: u32 = 40;
 /// The most parameters of a small module.
 const MOST_PARAMETERS: usize = 8;
 
-/// Is the module so small that its names are found by going through its declarations?
+/// Returns whether the module is so small that its names are found by a scan of its declarations.
 #[inline(always)]
 pub fn is_small(module: &Module) -> bool
     ensures { result ≡ is_small (plain_module «module».now) }
@@ -52,7 +52,7 @@ fn among_definitions<'a>(i: usize, definitions: &'a Definitions, x: &[u8]) -> Op
     None
 }
 
-// What the elements declare under this name.
+// The declaration of this name among the elements.
 #[inline(always)]
 fn among_elements<'a>(i: usize, elements: &'a Elements, x: &[u8]) -> Known<'a>
     ensures { local_plain result ≡ among_elements i (map plain_element elements.now) x.now }
@@ -97,7 +97,7 @@ fn among_parameters<'a>(
     None
 }
 
-/// What a name is in the instance with this number.
+/// Returns the meaning of a name in the instance with this number, found by a scan of its module.
 #[inline(always)]
 pub fn scanned<'a>(i: usize, part: &Instance<'a>, x: &[u8]) -> Known<'a>
     ensures { local_plain result ≡ local_in i x.now (Some (instance_plain part.now)) }

@@ -1,4 +1,4 @@
-// The symbols of a model, found with no scan.
+// A lookup table of a model's symbols.
 ghost use Rattle.std.specs.Prelude.{◌≡◌, ◌||◌, List, ℕ, is_some, map, IfOk, OnOk};
 ghost use Rattle.std.specs.List.{list_any};
 ghost use Rattle.smv_text.specs.View.{plain_item, plain_element};
@@ -13,7 +13,7 @@ use smv_text::{Domain, Element, Elements, Items, Member, Members};
 use std::alloc::Global;
 use text_core::{Names, NoMemory};
 
-/// The names that are symbols.
+/// The set of names that are symbols.
 pub type SymbolNames<'a> = NameMap<'a, ()>;
 
 fn put_members<'a>(symbols: &mut SymbolNames<'a>, members: &'a Members) -> Result<(), NoMemory>
@@ -65,7 +65,7 @@ fn put_elements<'a>(symbols: &mut SymbolNames<'a>, elements: &'a Elements) -> Re
     Ok(())
 }
 
-/// The symbols of the instantiated modules.
+/// Returns the symbols of the instantiated modules.
 pub fn symbols_of<'a>(alloc: Global, table: &[Instance<'a>]) -> Result<SymbolNames<'a>, NoMemory>
     ensures { IfOk result (λ m. (x : List ℕ) → is_some (named m x) ≡ has_symbol (map instance_plain table.now) x) }
 {

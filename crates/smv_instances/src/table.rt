@@ -1,4 +1,4 @@
-// The instances of a model in a table, with what their names mean.
+// The table of a model's instances, with the meaning of their names.
 ghost use Rattle.std.specs.Prelude.{◌≡◌, ◌<◌, true, ℕ, List, length, map, position, slice_index_or, IfOk};
 ghost use Rattle.smv_text.specs.View.{plain_source};
 ghost use Rattle.smv_meaning.specs.Instances.{Instance as Specified, instances_of};
@@ -17,7 +17,7 @@ use std::alloc::Global;
 use std::marker::Model;
 use text_core::{NoMemory, is_same};
 
-/// The instances of a model, numbered in preorder, with what their names mean (NuSMV 2.6 User Manual, 2.3).
+/// The instances of a model, numbered in preorder, with the meaning of their names (NuSMV 2.6 User Manual, 2.3).
 #[derive(Drop)]
 pub struct Table<'a> {
     parts: Parts<'a>,
@@ -44,7 +44,7 @@ impl<'a> Model for Table<'a> {
     ghost invariant = { λ t. Right (map instance_plain t.parts) t.leads × IsClosed (map instance_plain t.parts) t.leads };
 }
 
-// Are both the same single name?
+// Whether both paths are the same single name.
 fn is_same_single(one: &Path, other: &Path) -> bool
     ensures { result ≡ are_one_name one.now other.now }
 {
@@ -54,7 +54,9 @@ fn is_same_single(one: &Path, other: &Path) -> bool
     is_same(one.names.at(0).bytes(), other.names.at(0).bytes())
 }
 
-/// Are both paths the same single name? Then they lead to the same in each instance.
+/// Returns whether both paths are the same single name.
+///
+/// If so, they have the same target in each instance.
 pub fn is_same_name(one: &Path, other: &Path) -> bool
     ensures exact { result ≡ are_one_name one.now other.now }
     ensures leads { result ≡ true → (t : List Specified) (i : ℕ) → found_in t i one.now ≡ found_in t i other.now }
@@ -87,15 +89,17 @@ fn instance_in<'a>(target: Target<'a>) -> Option<usize>
 }
 
 impl<'a> Table<'a> {
-    /// The instances of a model. They are as many as the modules that instances name, one within another, so that a model of
-    /// which no more is known may have too many to be kept.
+    /// Creates the table of a model's instances.
+    ///
+    /// The number of instances can be exponential in the size of the model, so an unchecked model may have too many to
+    /// store.
     pub fn of(alloc: Global, source: &'a Source) -> Result<Table<'a>, NoMemory>
         ensures { IfOk result (λ t. map instance_plain t ≡ instances_of (plain_source source.now)) }
     {
         Table::over(alloc, instances(alloc, source)?)
     }
 
-    /// A table of instances, which stand in preorder.
+    /// Creates a table from instances in preorder.
     pub fn over(alloc: Global, list: Vec<Instance<'a>>) -> Result<Table<'a>, NoMemory>
         ensures { IfOk result (λ t. t ≡ list.entry.items) }
     {
@@ -104,21 +108,21 @@ impl<'a> Table<'a> {
         Ok(Table { parts, leads })
     }
 
-    /// The number of instances.
+    /// Returns the number of instances.
     pub fn len(&self) -> usize
         ensures { result ≡ length self.now }
     {
         self.parts.len()
     }
 
-    /// The instances in their order.
+    /// Returns the instances in order.
     pub fn list(&self) -> &[Instance<'a>]
         ensures { result.now ≡ self.now }
     {
         self.parts.list()
     }
 
-    /// The instance with this number.
+    /// Returns the instance with this number.
     pub fn at(&self, i: usize) -> &Instance<'a>
         requires { i < length self.now }
         ensures { result.now ≡ slice_index_or self.now i result.now }
@@ -126,28 +130,31 @@ impl<'a> Table<'a> {
         self.parts.at(i)
     }
 
-    /// What one name is in its own instance: a parameter, a variable, an instance, a definition, or nothing.
+    /// Returns the meaning of a single name in its own instance: a parameter, a variable, an instance, a definition, or
+    /// nothing.
     pub fn local(&self, i: usize, x: &[u8]) -> Known<'a>
         ensures { local_plain result ≡ local (map instance_plain self.now) i x.now }
     {
         self.parts.local(i, x)
     }
 
-    /// The first instance with this name in the numbered one.
+    /// Returns the first instance with this name in the instance with this number, or None where there is none.
     pub fn child(&self, i: usize, x: &[u8]) -> Option<usize>
         ensures { result ≡ position (is_child i x.now) (map instance_plain self.now) }
     {
         self.parts.child(i, x)
     }
 
-    /// Is the name in an enumeration or CONSTANTS of an instantiated module?
+    /// Returns whether the name is in an enumeration or in CONSTANTS of an instantiated module.
     pub fn has_symbol(&self, x: &[u8]) -> bool
         ensures { result ≡ has_symbol (map instance_plain self.now) x.now }
     {
         self.parts.has_symbol(x)
     }
 
-    /// What an alias leads to, which is known with no walk along its path, given what the name is in its own instance.
+    /// Returns the target of an alias, without a walk along its path.
+    ///
+    /// `known` is the meaning of the name in its own instance.
     pub fn target_of_alias(&self, i: usize, x: &'a [u8], known: Known<'a>) -> Target<'a>
         requires known { local_plain known ≡ local (map instance_plain self.now) i x.now }
         ensures { found_plain (map instance_plain self.now) result ≡ look (map instance_plain self.now) (steps_of (map instance_plain self.now)) i x.now }
@@ -158,7 +165,7 @@ impl<'a> Table<'a> {
         }
     }
 
-    // What a path of one name leads to, given what the name is in its own instance.
+    // The target of a path of one name, given the meaning of the name in its own instance.
     fn target_of_single(&self, i: usize, x: &'a [u8], known: Known<'a>) -> Target<'a>
         requires known { local_plain known ≡ local (map instance_plain self.now) i x.now }
         ensures { found_plain (map instance_plain self.now) result ≡ single (map instance_plain self.now) (look (map instance_plain self.now) (steps_of (map instance_plain self.now))) i x.now (local_plain known.entry) }
@@ -179,7 +186,7 @@ impl<'a> Table<'a> {
         }
     }
 
-    /// What a path leads to in the numbered instance.
+    /// Returns the target of a path in the instance with this number.
     pub fn target(&self, i: usize, path: &'a Path) -> Target<'a>
         ensures { found_plain (map instance_plain self.now) result ≡ found_in (map instance_plain self.now) i path.now }
     {
@@ -193,7 +200,9 @@ impl<'a> Table<'a> {
         }
     }
 
-    /// The instance to which a name leads, given what it is in its own instance: none where it leads to no instance.
+    /// Returns the instance to which a name leads, or None where it leads to no instance.
+    ///
+    /// `known` is the meaning of the name in its own instance.
     pub fn instance_of_name(&self, i: usize, x: &'a [u8], known: Known<'a>) -> Option<usize>
         requires known { local_plain known ≡ local (map instance_plain self.now) i x.now }
         ensures { result ≡ instance_within (look (map instance_plain self.now) (steps_of (map instance_plain self.now)) i x.now) }

@@ -1,4 +1,4 @@
-// Intervals of integers: each end is computed in 128 bits and tested against the limit before it is kept in 64.
+// Intervals of integers. Each bound is computed in 128 bits and tested against the limit before it is stored in 64.
 ghost use Rattle.std.specs.Prelude.{◌≡◌, ◌≤◌, ◌<◌, ◌≤ℤ◌, ◌^◌, ◌-◌, ◌+ℤ◌, ◌-ℤ◌, ◌*ℤ◌, neg_ℤ, int_div, nat_abs, unsigned_abs, pos, Option, None, Some, option_map};
 ghost use Rattle.std.specs.Int.{int_min, int_max};
 ghost use Rattle.smv_meaning.specs.Operators.{int_abs};
@@ -8,13 +8,13 @@ ghost use Rattle.smv_intervals.specs.Limits.{Kept};
 
 use crate::types::Ty;
 
-/// The least integer that an interval may reach.
+/// The least integer that an interval may contain, -2^62.
 const LEAST: i64 = -4_611_686_018_427_387_904;
 
-/// The greatest integer that an interval may reach.
+/// The greatest integer that an interval may contain, 2^62 - 1.
 const GREATEST: i64 = 4_611_686_018_427_387_903;
 
-/// The interval of these ends, where it is within the limit.
+/// Returns the integer type with these bounds, or None where they exceed the limit.
 pub fn interval_within_limit(low: i64, high: i64) -> Option<Ty>
     ensures { Kept result (integer_type low high) }
 {
@@ -25,7 +25,9 @@ pub fn interval_within_limit(low: i64, high: i64) -> Option<Ty>
     }
 }
 
-/// The interval of these ends, which are in order, where it is within the limit.
+/// Returns the integer type with these bounds, or None where they exceed the limit.
+///
+/// The bounds have 128 bits and must be in order.
 pub fn ordered_interval(low: i128, high: i128) -> Option<Ty>
     requires { low ≤ℤ high }
     ensures { Kept result (integer_type low high) }
@@ -37,7 +39,7 @@ pub fn ordered_interval(low: i128, high: i128) -> Option<Ty>
     }
 }
 
-// The interval from the least to the greatest of two results.
+// The interval from the lesser to the greater of two results.
 fn over_two(a: i128, b: i128) -> Option<Ty>
     ensures { Kept result (integer_type (int_min a b) (int_max a b)) }
 {
@@ -67,7 +69,7 @@ fn over_four(a: i128, b: i128, c: i128, d: i128) -> Option<Ty>
     ordered_interval(least(a, b, c, d), greatest(a, b, c, d))
 }
 
-/// The type, where its interval is within the limit.
+/// Returns the type unchanged, or None where its interval exceeds the limit.
 pub fn type_within_limit(t: Ty) -> Option<Ty>
     ensures { Kept result (seen t) }
 {
@@ -77,7 +79,9 @@ pub fn type_within_limit(t: Ty) -> Option<Ty>
     }
 }
 
-/// The type that holds both.
+/// Returns the smallest type that contains both types.
+///
+/// For types other than two integer types, returns the first.
 pub fn hull(t: Ty, u: Ty) -> Ty
     ensures { seen result ≡ hull (seen t) (seen u) }
 {
@@ -132,7 +136,7 @@ fn smaller(a: i64, b: i64) -> i128
     a.min(b) as i128
 }
 
-/// Of `+`.
+/// Returns the type of `+`, or None where its interval exceeds the limit.
 pub fn sum_type(t: Ty, u: Ty) -> Option<Ty>
     ensures { Kept result (over_both_ends (λ a b. a +ℤ b) (seen t) (seen u)) }
 {
@@ -150,7 +154,7 @@ pub fn sum_type(t: Ty, u: Ty) -> Option<Ty>
     }
 }
 
-/// Of `-` between two operands.
+/// Returns the type of binary `-`, or None where its interval exceeds the limit.
 pub fn difference_type(t: Ty, u: Ty) -> Option<Ty>
     ensures { Kept result (over_both_ends (λ a b. a -ℤ b) (seen t) (seen u)) }
 {
@@ -168,7 +172,7 @@ pub fn difference_type(t: Ty, u: Ty) -> Option<Ty>
     }
 }
 
-/// Of `*`.
+/// Returns the type of `*`, or None where its interval exceeds the limit.
 pub fn product_type(t: Ty, u: Ty) -> Option<Ty>
     ensures { Kept result (over_both_ends (λ a b. a *ℤ b) (seen t) (seen u)) }
 {
@@ -186,7 +190,7 @@ pub fn product_type(t: Ty, u: Ty) -> Option<Ty>
     }
 }
 
-/// Of `max`.
+/// Returns the type of `max`, or None where its interval exceeds the limit.
 pub fn max_type(t: Ty, u: Ty) -> Option<Ty>
     ensures { Kept result (over_both_ends int_max (seen t) (seen u)) }
 {
@@ -204,7 +208,7 @@ pub fn max_type(t: Ty, u: Ty) -> Option<Ty>
     }
 }
 
-/// Of `min`.
+/// Returns the type of `min`, or None where its interval exceeds the limit.
 pub fn min_type(t: Ty, u: Ty) -> Option<Ty>
     ensures { Kept result (over_both_ends int_min (seen t) (seen u)) }
 {
@@ -222,7 +226,7 @@ pub fn min_type(t: Ty, u: Ty) -> Option<Ty>
     }
 }
 
-/// Of `-` before an operand.
+/// Returns the type of unary `-`, or None where its interval exceeds the limit.
 pub fn negation_type(t: Ty) -> Option<Ty>
     ensures { Kept result (over_ends neg_ℤ (seen t)) }
 {
@@ -232,7 +236,9 @@ pub fn negation_type(t: Ty) -> Option<Ty>
     }
 }
 
-/// Of `abs`: of an interval with 0 inside, the least absolute value is 0.
+/// Returns the type of `abs`, or None where its interval exceeds the limit.
+///
+/// For an interval with 0 inside, the least absolute value is 0.
 pub fn abs_type(t: Ty) -> Option<Ty>
     ensures { Kept result (abs_type (seen t)) }
 {
@@ -248,14 +254,16 @@ pub fn abs_type(t: Ty) -> Option<Ty>
     }
 }
 
-// A quotient is cut toward zero; that by 0, which no check lets through, counts as 0.
+// Division truncates toward zero. Division by 0, which the checks exclude, returns 0.
 fn quotient(a: i64, b: i128) -> i128
     ensures { result ≡ int_div a b }
 {
     if b == 0 { 0 } else { a as i128 / b }
 }
 
-/// Of `/`, given the integer that the divisor stands for.
+/// Returns the type of `/`, or None where its interval exceeds the limit.
+///
+/// `divisor` is the integer value of the right operand.
 pub fn quotient_type(t: Ty, divisor: Option<i128>) -> Option<Ty>
     ensures { Kept result (quotient_type (seen t) divisor) }
 {
@@ -268,7 +276,8 @@ pub fn quotient_type(t: Ty, divisor: Option<i128>) -> Option<Ty>
     }
 }
 
-// The low end of a rest's interval: its sign is the dividend's, its size below the divisor's and at most the dividend's.
+// The low bound of a remainder: it has the dividend's sign, and its absolute value is less than the divisor's and at
+// most the dividend's.
 fn lowest_rest(low: i64, size: u128) -> i64
     ensures { result ≡ rest_low low size }
 {
@@ -281,7 +290,7 @@ fn lowest_rest(low: i64, size: u128) -> i64
     }
 }
 
-// The high end of a rest's interval.
+// The high bound of a remainder.
 fn highest_rest(high: i64, size: u128) -> i64
     ensures { result ≡ rest_high high size }
 {
@@ -294,7 +303,9 @@ fn highest_rest(high: i64, size: u128) -> i64
     }
 }
 
-/// Of `mod`, given the integer that the divisor stands for.
+/// Returns the type of `mod`, or None where its interval exceeds the limit.
+///
+/// `divisor` is the integer value of the right operand.
 pub fn rest_type(t: Ty, divisor: Option<i128>) -> Option<Ty>
     ensures { Kept result (rest_type (seen t) divisor) }
 {

@@ -1,4 +1,4 @@
-//! The types of SMV expressions, with the intervals of integers.
+//! Types of SMV expressions, with integer intervals.
 #![tactic(auto)]
 
 mod intervals;

@@ -1,4 +1,4 @@
-// The type of an operator's result.
+// Result types of binary operators.
 ghost use Rattle.std.specs.Prelude.{◌≡◌, true};
 ghost use Rattle.smv_meaning.specs.Types.{infix_type_by, joins};
 ghost use Rattle.smv_intervals.specs.View.{seen};
@@ -10,8 +10,10 @@ use crate::intervals::{
 use crate::types::Ty;
 use smv_text::Infix;
 
-/// The type of the whole, given those of operands that fit the operator, and the integer that the right one stands for where it is a
-/// divisor (NuSMV 2.6 User Manual, 2.2); none where its interval leaves the limit.
+/// Returns the result type of a binary operator, or None where its interval exceeds the limit (NuSMV 2.6 User Manual,
+/// 2.2).
+///
+/// The operand types must fit the operator. `divisor` is the integer value of the right operand where it is a divisor.
 #[inline(always)]
 pub fn infix_type(op: Infix, t: Ty, u: Ty, divisor: Option<i128>) -> Option<Ty>
     requires { joins op (seen t) (seen u) ≡ true }

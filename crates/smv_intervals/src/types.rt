@@ -3,21 +3,21 @@ ghost use Rattle.std.specs.Prelude.{◌≡◌};
 ghost use Rattle.smv_meaning.specs.Types.{is_truth_type, is_integer_type, is_word_type, type_width, type_same, widths_same, symbol_type};
 ghost use Rattle.smv_intervals.specs.View.{seen};
 
-/// The type of an expression (NuSMV 2.6 User Manual, 2.1); all symbols have one type.
+/// The type of an expression (NuSMV 2.6 User Manual, 2.1). All symbols share one type.
 #[derive(Clone, Copy, PartialEq, Eq)]
 pub enum Ty {
     /// `boolean`
     Truth,
-    /// An integer, with the least and the greatest value that it can have, both from -2^62 to 2^62 - 1.
+    /// An integer, with its least and its greatest possible value, both from -2^62 to 2^62 - 1.
     Integer(i64, i64),
     /// A symbol of an enumeration.
     Symbol,
-    /// `unsigned word[n]`: its width, from 1 to `WIDEST`.
+    /// `unsigned word[n]`, with its width from 1 to `WIDEST`.
     Bits(u32),
 }
 
 impl Ty {
-    /// Is it `boolean`?
+    /// Returns whether the type is `boolean`.
     pub fn is_truth(self) -> bool
         ensures { result ≡ is_truth_type (seen self) }
     {
@@ -27,7 +27,7 @@ impl Ty {
         }
     }
 
-    /// Is it an interval of integers?
+    /// Returns whether the type is an interval of integers.
     pub fn is_integer(self) -> bool
         ensures { result ≡ is_integer_type (seen self) }
     {
@@ -37,7 +37,7 @@ impl Ty {
         }
     }
 
-    /// Is it a word?
+    /// Returns whether the type is a word type.
     pub fn is_word(self) -> bool
         ensures { result ≡ is_word_type (seen self) }
     {
@@ -47,7 +47,7 @@ impl Ty {
         }
     }
 
-    /// The width of a word, 0 for any other type.
+    /// Returns the width of a word type, or 0 for any other type.
     pub fn width(self) -> u32
         ensures { result ≡ type_width (seen self) }
     {
@@ -57,14 +57,14 @@ impl Ty {
         }
     }
 
-    /// Are they both words of one width?
+    /// Returns whether both types are word types of the same width.
     pub fn is_as_wide(self, other: Ty) -> bool
         ensures { result ≡ widths_same (seen self) (seen other) }
     {
         self.is_word() && other.is_word() && self.width() == other.width()
     }
 
-    /// Are they one type, whatever the intervals are?
+    /// Returns whether both types are the same, regardless of intervals.
     pub fn is_same(self, other: Ty) -> bool
         ensures { result ≡ type_same (seen self) (seen other) }
     {

@@ -4,7 +4,7 @@ use smv_intervals::Ty;
 use smv_text::Members;
 use text_core::Name;
 
-/// What an item is.
+/// The kind of an item.
 #[derive(Clone, Copy, PartialEq, Eq)]
 pub enum ItemKind {
     /// A variable of `VAR`.
@@ -15,12 +15,14 @@ pub enum ItemKind {
     Input,
     /// A definition.
     Define,
-    /// An actual parameter that is no path.
+    /// An actual parameter that is not a path.
     Actual,
 }
 
-/// A variable, a definition or an actual: its dotted path, the number of its instance in preorder, its kind, its type, and
-/// the members of an enumeration in the order of the text, none for any other type.
+/// A variable, a definition or an actual, with its dotted path, the number of its instance in preorder, its kind and
+/// its type.
+///
+/// `members` holds the members of an enumeration in the order of the text, and is empty for any other type.
 #[derive(Drop)]
 pub struct FlatItem {
     pub name: Name,

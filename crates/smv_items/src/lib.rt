@@ -1,4 +1,4 @@
-//! The items and the symbols of SMV models, and their numbers.
+//! Items and symbols of SMV models, and their numbers.
 #![tactic(auto)]
 
 mod items;

@@ -1,4 +1,4 @@
-// The numbers of a model's items and symbols, and what paths become.
+// The numbers of a model's items and symbols, and the leaves that paths translate to.
 ghost use Rattle.std.specs.Prelude.{◌≡◌, true, length, [], List, Some, map, OnOk, IfOk};
 ghost use Rattle.smv_text.specs.declared.tree.VarKind.TheVariants as OfVarKind;
 ghost use Rattle.smv_meaning.specs.Instances.{Instance as Specified};
@@ -20,28 +20,29 @@ use smv_text::VarKind;
 use std::alloc::Global;
 use text_core::{Name, NoMemory};
 
-/// Numbers of bodies by their instances and names.
+/// The numbers of bodies, by instance and name.
 pub type Bodies<'a> = InstanceRows<'a, usize>;
 
-/// Numbers of variables by their dotted paths, inputs apart.
+/// The numbers of variables by dotted path, with inputs apart from other variables.
 #[derive(Drop)]
 pub struct PathNumbers<'n> {
     pub states: NameRows<'n, usize>,
     pub inputs: NameRows<'n, usize>,
 }
 
-/// The number of a variable that is no input, or of one that is.
+/// The number of a variable, tagged by whether it is an input.
 #[derive(Clone, Copy)]
 pub enum VariableNumber {
     State(usize),
     Input(usize),
 }
 
-/// Numbers of variables by their instances and names.
+/// The numbers of variables, by instance and name.
 pub type Variables<'a> = InstanceRows<'a, VariableNumber>;
 
-/// The numbers of items: bodies by instance and name, and variables by their dotted paths; those again by instance and name, so
-/// that no dotted path is made to look one up.
+/// The numbers of items: bodies by instance and name, and variables by dotted path.
+///
+/// Variables are also stored by instance and name, so that a lookup need not build a dotted path.
 #[derive(Drop)]
 pub struct ItemNumbers<'a, 'n> {
     pub bodies: Bodies<'a>,
@@ -49,7 +50,7 @@ pub struct ItemNumbers<'a, 'n> {
     pub variables: Variables<'a>,
 }
 
-// The number of a dotted path: the first that is noted counts.
+// The number of a dotted path: the first one stored counts.
 fn first_number<'n>(
     numbers: &mut NameRows<'n, usize>,
     path: &'n [u8],
@@ -67,7 +68,7 @@ fn first_number<'n>(
     }
 }
 
-// The number of a variable's dotted path, which is noted.
+// Stores the dotted path of a variable, and returns its number.
 fn note_path<'n>(
     paths: &mut PathNumbers<'n>,
     kind: VarKind,
@@ -102,7 +103,7 @@ fn number_as(kind: VarKind, k: usize) -> VariableNumber
     }
 }
 
-// The number that was kept, where it is that of a variable of these kinds.
+// The stored number, where it is that of a variable of these kinds.
 fn number_kept(number: Option<VariableNumber>, kind: VarKind) -> Option<usize>
     ensures { result ≡ number_kept (is_input kind) number }
 {
@@ -119,7 +120,7 @@ fn number_kept(number: Option<VariableNumber>, kind: VarKind) -> Option<usize>
     }
 }
 
-// Notes a variable's dotted path, and keeps the number that it has by the variable's instance and name.
+// Stores a variable's dotted path, and its number by the variable's instance and name.
 fn note_variable<'a, 'n>(
     paths: &mut PathNumbers<'n>,
     variables: &mut Variables<'a>,
@@ -135,7 +136,7 @@ fn note_variable<'a, 'n>(
     add_row_in(variables, origin.instance, origin.name, number_as(kind, n))
 }
 
-// Notes the item of the number k, which has this dotted path.
+// Stores item k, which has this dotted path.
 fn note_item<'a, 'n>(
     numbers: &mut ItemNumbers<'a, 'n>,
     origin: &Origin<'a>,
@@ -175,7 +176,7 @@ fn is_input(content: &Content) -> bool
     }
 }
 
-// How many inputs there are. Most models have few or none, which then have little room.
+// The number of inputs. Most models have few or none, and need little room for them.
 fn input_count(origins: &[Origin]) -> usize
     ensures { result ≡ input_count (map origin_plain origins.now) }
 {
@@ -188,7 +189,7 @@ fn input_count(origins: &[Origin]) -> usize
     count
 }
 
-// The numbers of no items yet, with room for those that come.
+// An empty table of numbers, with room for all items.
 fn no_numbers<'a, 'n>(
     alloc: Global,
     origins: &[Origin<'a>],
@@ -206,7 +207,7 @@ fn no_numbers<'a, 'n>(
     })
 }
 
-/// The dotted paths of the items.
+/// Returns the dotted paths of the items, in order.
 pub fn paths_of<'a>(
     alloc: Global,
     table: &Table<'a>,
@@ -222,7 +223,7 @@ pub fn paths_of<'a>(
     Ok(paths)
 }
 
-/// The numbers of all items, given their dotted paths.
+/// Returns the numbers of all items, given their dotted paths.
 pub fn numbers_of<'a, 'n>(
     alloc: Global,
     origins: &[Origin<'a>],
@@ -238,7 +239,7 @@ pub fn numbers_of<'a, 'n>(
     Ok(numbers)
 }
 
-/// What a path becomes: the number of an item or of a symbol.
+/// The translation of a path: the number of an item or of a symbol, or nothing.
 #[derive(Clone, Copy, PartialEq, Eq)]
 pub enum Leaf {
     Item(u32),
@@ -271,7 +272,7 @@ fn symbol(k: Option<usize>) -> Result<Leaf, NoMemory>
     }
 }
 
-// The number of a variable, which is kept by instance and name; only where none is kept does its dotted path have to be made.
+// The number of a variable, stored by instance and name. Its dotted path is built only where none is stored.
 fn variable_number<'a>(
     alloc: Global,
     table: &Table<'a>,
@@ -292,7 +293,7 @@ fn variable_number<'a>(
     }
 }
 
-/// What a path becomes that leads to this target.
+/// Returns the translation of a path with this target.
 pub fn leaf_of<'a, 'n>(
     alloc: Global,
     table: &Table<'a>,

@@ -1,4 +1,4 @@
-// Where the items of a model come from, in their order.
+// The declarations that the items of a model come from, in order.
 ghost use Rattle.std.specs.Prelude.{◌≡◌, ◌≤◌, ◌++◌, [], length, map, flat_map, OnOk, IfOk};
 ghost use Rattle.smv_text.specs.Tree.{trees_of};
 ghost use Rattle.smv_text.specs.View.{plain, plain_item, plain_definition, plain_element, plain_domain};
@@ -12,7 +12,7 @@ use smv_text::{Definitions, Domain, Element, Elements, Expr, Items, Parameters, 
 use std::alloc::Global;
 use text_core::{Name, NoMemory};
 
-/// A variable, or a body with the number of the instance in which it is read.
+/// The content of an item: a variable, or a body with the number of the instance in which it is read.
 #[derive(Clone, Copy)]
 pub enum Content<'a> {
     Variable(VarKind, &'a Domain),
@@ -20,7 +20,7 @@ pub enum Content<'a> {
     Actual(usize, &'a Expr),
 }
 
-/// An item by its instance and its name there.
+/// An item: its instance, its name there, and its content.
 #[derive(Clone, Copy)]
 pub struct Origin<'a> {
     pub instance: usize,
@@ -28,10 +28,10 @@ pub struct Origin<'a> {
     pub content: Content<'a>,
 }
 
-/// The origins of a model's items.
+/// The origins of a model's items, in order.
 pub type Origins<'a> = Vec<Origin<'a>>;
 
-// Adds an item, where there is one.
+// Adds an item, if there is one.
 fn add<'a>(
     origins: &mut Origins<'a>,
     instance: usize,
@@ -50,7 +50,7 @@ fn add<'a>(
     }
 }
 
-// An actual that is a path is no item.
+// An actual that is a path is not an item.
 fn actual<'a>(parent: usize, e: &'a Expr) -> Option<Content<'a>>
     ensures { content_or_none result ≡ actual_content parent (plain e.now) }
 {
@@ -160,7 +160,7 @@ fn add_elements<'a>(
     Ok(())
 }
 
-// Puts the items of the instance with this number behind others.
+// Appends the items of the instance with this number.
 fn put_origins<'a>(origins: &mut Origins<'a>, i: usize, at: &Instance<'a>) -> Result<(), NoMemory>
     ensures { OnOk result (map origin_plain origins.new.items ≡ map origin_plain origins.old.items ++ items_here i (instance_plain at.now)) }
 {
@@ -175,7 +175,7 @@ fn put_origins<'a>(origins: &mut Origins<'a>, i: usize, at: &Instance<'a>) -> Re
     add_elements(origins, i, &module.elements)
 }
 
-/// The items of a model in their order.
+/// Returns the origins of a model's items, in order.
 #[tactic(auto, using(smv_meaning::specs::laws::Lists::front_is, smv_meaning::specs::laws::Lists::end_is, crate::specs::laws::OriginLemmas::joined_on))]
 pub fn origins_in<'a>(alloc: Global, table: &Table<'a>) -> Result<Origins<'a>, NoMemory>
     ensures { IfOk result (λ os. map origin_plain os.items ≡ origins_of (map instance_plain table.now)) }
@@ -187,7 +187,7 @@ pub fn origins_in<'a>(alloc: Global, table: &Table<'a>) -> Result<Origins<'a>, N
     Ok(origins)
 }
 
-/// How many items at the front of these belong to the numbered instance.
+/// Returns the number of items at the front of the list that belong to the instance with this number.
 #[tactic(auto, using(smv_meaning::specs::laws::Lists::front_is, smv_meaning::specs::laws::Lists::end_is))]
 pub fn own_count(origins: &[Origin], i: usize) -> usize
     ensures bound { result ≤ length origins.now }
@@ -201,7 +201,7 @@ pub fn own_count(origins: &[Origin], i: usize) -> usize
     origins.len()
 }
 
-/// The dotted path of a name in the numbered instance.
+/// Returns the dotted path of a name in the instance with this number.
 pub fn dotted_path<'a>(
     alloc: Global,
     table: &Table<'a>,

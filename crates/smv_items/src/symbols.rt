@@ -12,7 +12,7 @@ use std::alloc::Global;
 use std::marker::Model;
 use text_core::{Names, NoMemory};
 
-/// Symbols, each once, seen as their list.
+/// A list of distinct symbols.
 #[derive(Drop)]
 pub struct Symbols {
     names: NameSet,
@@ -35,21 +35,21 @@ impl Symbols {
         }
     }
 
-    /// The number of this symbol.
+    /// Returns the number of this symbol, or None where it is not in the list.
     pub fn place(&self, name: &[u8]) -> Option<usize>
         ensures { result ≡ position (bytes_eq name.now) self.now }
     {
         self.names.place(name)
     }
 
-    /// The symbols as a list of names.
+    /// Returns the symbols as a list of names.
     pub fn names(&self, alloc: Global) -> Result<Names, NoMemory>
         ensures { IfOk result (λ names. names ≡ self.now) }
     {
         self.names.names(alloc)
     }
 
-    // Puts a symbol at the end, where it is new, and says whether it is.
+    // Appends a symbol if it is new, and returns whether it is.
     fn declare(&mut self, alloc: Global, name: &[u8]) -> Result<bool, NoMemory>
         ensures fresh { IfOk result (λ fresh. fresh ≡ is_none (place_of self.old name.now)) }
         ensures names { IfOk result (λ fresh. self.new ≡ (if fresh then self.old ++ name.now ∷ [] else self.old)) }
@@ -58,7 +58,7 @@ impl Symbols {
     }
 }
 
-// Adds a symbol that isn't there yet.
+// Adds a symbol if it is new.
 #[tactic(auto, using(crate::proofs::SymbolLemmas::noted))]
 fn note(alloc: Global, symbols: &mut Symbols, name: &[u8]) -> Result<(), NoMemory>
     ensures { OnOk result (symbols.new ≡ gathered symbols.old (name.now ∷ [])) }
@@ -136,7 +136,7 @@ fn note_elements(alloc: Global, symbols: &mut Symbols, elements: &Elements) -> R
     Ok(())
 }
 
-/// The symbols of a model: those of enumerations and CONSTANTS.
+/// Returns the symbols of a model: those of enumerations and of CONSTANTS.
 #[tactic(auto, using(smv_meaning::specs::laws::Lists::front_is, smv_meaning::specs::laws::Lists::end_is, crate::proofs::SymbolLemmas::gathered_joined))]
 pub fn symbols_in<'a>(alloc: Global, table: &Table<'a>) -> Result<Symbols, NoMemory>
     ensures { IfOk result (λ s. s ≡ symbols_of (map instance_plain table.now)) }

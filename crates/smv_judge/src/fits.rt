@@ -1,4 +1,4 @@
-// Whether the values of a row's variables are of the declared types.
+// The check that the values of a row's variables are of their declared types.
 ghost use Rattle.std.specs.Prelude.{◌≡◌, map, if◌then◌else◌};
 ghost use Rattle.smv_text.specs.declared.tree.Member.{Member};
 ghost use Rattle.smv_meaning.specs.Values.{value_same, member_value, is_among};
@@ -14,7 +14,7 @@ use smv_items::{FlatItem, ItemKind};
 use smv_operators::Seen;
 use smv_text::{Member, Members};
 
-// Is the value of the type?
+// Whether the value is of the type.
 fn is_of_type(ty: Ty, value: &Seen) -> bool
     ensures { result ≡ type_has (seen ty) (seen_value value.now) }
 {
@@ -60,7 +60,7 @@ fn is_member(member: &Member, value: &Seen) -> bool
     }
 }
 
-// Is the value one of the members?
+// Whether the value is one of the members.
 fn is_one_of(members: &[Member], value: &Seen) -> bool
     ensures { result ≡ is_among members.now (seen_value value.now) }
 {
@@ -74,7 +74,7 @@ fn is_one_of(members: &[Member], value: &Seen) -> bool
     false
 }
 
-// Is the value of the declared type, where the item is a variable?
+// Whether the value is of the declared type, if the item is a variable.
 fn item_fits(item: &FlatItem, value: &Seen) -> bool
     ensures { result ≡ fits_item (item_plain item.now) (seen_value value.now) }
 {
@@ -95,7 +95,7 @@ fn declared_fits(item: &FlatItem, value: &Seen) -> bool
     }
 }
 
-/// Is the value of each variable one of its declared type?
+/// Returns whether the value of each variable is of its declared type.
 pub(crate) fn items_fit(items: &[FlatItem], values: &[Seen]) -> bool
     ensures { result ≡ fit_items (row_values values.now) 0 (map item_plain items.now) }
 {

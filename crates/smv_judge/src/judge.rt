@@ -22,7 +22,7 @@ use std::alloc::Global;
 use std::mem;
 use text_core::{Clause, NoMemory, Verdict};
 
-// The verdict on what follows a state, of which the row is one.
+// The verdict on the states after a state whose values the row has.
 fn judge_steps<'a>(
     alloc: Global,
     flat: &FlatParts<'a>,
@@ -101,8 +101,10 @@ fn judge_parts<'a>(
     }
 }
 
-/// Returns the verdict on a stated run over a flat form and the invariant of number j, counted from 0, whichever accepted model the
-/// form is of. The run has fewer than 2^32 states. Where a model has no invariant j, the verdict is No.
+/// Returns the verdict on a stated run for a flat form and invariant j, counted from 0.
+///
+/// It is the verdict for every accepted model with this flat form. The run has fewer than 2^32 states. Where the model
+/// has no invariant j, the verdict is No.
 pub fn judge_flat(alloc: Global, flat: &Flat, j: u32, run: &Run) -> Result<Verdict, NoMemory>
     requires model { (source : PlainSource) × IsFlatOf source (flat_plain flat.now) }
     requires few { length run.now.states < 2 ^ 32 }
@@ -117,11 +119,13 @@ pub fn judge_flat(alloc: Global, flat: &Flat, j: u32, run: &Run) -> Result<Verdi
     judge_parts(alloc, &parts, &label, j, run)
 }
 
-/// The verdict on a stated run and the invariant of number j, counted from 0: Yes exactly where the states and labels are a run of the
-/// model (NuSMV 2.6 User Manual, 2.3 and 2.4) whose last state breaks the invariant, else the earliest step with its first failing
-/// clause. A label and a transition belong to the step to which they lead.
+/// Returns the verdict on a stated run for invariant j, counted from 0 (NuSMV 2.6 User Manual, 2.3 and 2.4).
+///
+/// It is Yes exactly where the states and labels are a run of the model whose last state breaks the invariant.
+/// Otherwise it is the earliest step with its first failing clause. A label and a transition belong to the step to
+/// which they lead.
 pub fn judge_smv(alloc: Global, source: &Source, j: u32, run: &Run) -> Result<Verdict, NoMemory>
-    // A text spells the model, its checks hold, and it has the invariant.
+    // A text parses to the model, its checks hold, and it has the invariant.
     requires read { IsRead (plain_source source.now) }
     requires accepted { IsAccepted (plain_source source.now) j }
     requires few { length run.now.states < 2 ^ 32 }

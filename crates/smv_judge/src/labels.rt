@@ -45,7 +45,7 @@ fn first_value(alloc: Global, item: &FlatItem) -> Result<Value, NoMemory>
     }
 }
 
-/// The label that gives each input the first value of its type.
+/// Returns the label in which each input has the first value of its type.
 pub fn first_label(alloc: Global, items: &[FlatItem]) -> Result<State, NoMemory>
     ensures { IfOk result (λ label. label ≡ label_of (map item_plain items.now)) }
 {

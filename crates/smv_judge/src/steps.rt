@@ -1,4 +1,4 @@
-// What fails at a step of a stated run.
+// Failures at a step of a stated run.
 ghost use Rattle.std.specs.Prelude.{◌≡◌, ◌&&◌, None, IfOk};
 ghost use Rattle.smv_text.specs.Tree.{PlainSource};
 ghost use Rattle.smv_meaning.specs.Values.{given};
@@ -16,7 +16,9 @@ use smv_meaning::State;
 use smv_rows::{FlatParts, Row, RowOrder, frozen_stay, init_holds, invar_holds, trans_holds};
 use text_core::{Clause, NoMemory};
 
-/// The first clause that fails at the first state. Where none does, the row is one of this state.
+/// Returns the first clause that fails at the first state, or None.
+///
+/// With None, `row` has the values of this state.
 pub(crate) fn first_failure<'a>(
     flat: &FlatParts<'a>,
     order: &RowOrder,
@@ -45,7 +47,7 @@ pub(crate) fn first_failure<'a>(
     Ok(None)
 }
 
-// Does the transition between the rows hold, and does each frozen variable keep its value?
+// Whether the transition between the rows holds and each frozen variable keeps its value.
 fn step_holds<'a>(flat: &FlatParts<'a>, now: &Row<'a>, later: &Row<'a>) -> bool
     requires { AllSafe flat.now now.now.values.items later.now.values.items }
     ensures { result ≡ (flat_trans (parts_plain flat.now) (row_values now.now.values.items) (row_values later.now.values.items) && flat_stay (parts_plain flat.now) (row_values now.now.values.items) (row_values later.now.values.items)) }
@@ -53,8 +55,9 @@ fn step_holds<'a>(flat: &FlatParts<'a>, now: &Row<'a>, later: &Row<'a>) -> bool
     trans_holds(flat, now, later) && frozen_stay(flat, now, later)
 }
 
-/// The first clause that fails at the step from a state, which the row before holds, under a label to the following state. Where none
-/// does, the row is one of the following state.
+/// Returns the first clause that fails at the step from a state under a label to the following state, or None.
+///
+/// `before` has the values of the state. With None, `row` has the values of the following state.
 pub(crate) fn step_failure<'a>(
     flat: &FlatParts<'a>,
     order: &RowOrder,

@@ -1,5 +1,7 @@
-//! Laws of SMV's meaning: typed expressions have values of their types, orders of definitions and cycles, models that pass their
-//! checks, and verdicts on runs.
+//! Laws of the meaning of SMV.
+//!
+//! They state that typed expressions have values of their types, and relate orders of definitions to cycles. Others
+//! concern models that pass their checks, and verdicts on runs.
 #![tactic(auto)]
 
 mod checked;

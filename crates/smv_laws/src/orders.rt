@@ -1,22 +1,22 @@
-// Laws for those who go along an order of definitions and actuals; these functions do nothing.
+// Laws for passes along an order of definitions and actuals. These functions do nothing.
 ghost use Rattle.smv_meaning.specs.Orders.{OrderIsWhole, ReferencesStandBefore, TypesHangOnPaths, RefusedHaveNoType};
 
-/// An order of definitions and actuals has each of them.
+/// Proves that an order of definitions and actuals contains each of them.
 pub fn order_is_whole()
     ensures { OrderIsWhole }
 {}
 
-/// In such an order those to which one refers stand before it.
+/// Proves that in such an order a definition or an actual comes after those to which it refers.
 pub fn references_stand_before()
     ensures { ReferencesStandBefore }
 {}
 
-/// The checks of an expression and its type hang on its own paths alone.
+/// Proves that the checks of an expression and its type depend only on the paths in it.
 pub fn types_hang_on_paths()
     ensures { TypesHangOnPaths }
 {}
 
-/// An expression one of whose checks fails has no type.
+/// Proves that an expression with a failing check has no type.
 pub fn refused_have_no_type()
     ensures { RefusedHaveNoType }
 {}

@@ -1,14 +1,16 @@
-// Laws of the definitions; these functions do nothing.
+// Laws of typed expressions. These functions do nothing.
 ghost use Rattle.smv_meaning.specs.Typed.{ValuesLie};
 ghost use Rattle.smv_meaning.specs.Owed.{TypedIsSafe};
 
-/// Each value that a typed expression permits lies in its type, and an integer in its interval, in all states of the
-/// declared types.
+/// Proves that each value that a typed expression permits lies in its type, and an integer in its interval.
+///
+/// This holds in all states of the declared types.
 pub fn values_lie()
     ensures { ValuesLie }
 {}
 
-/// Each integer that the evaluation of a typed expression comes to fits 64 bits, in all states of the declared types.
+/// Proves that each integer computed by the evaluation of a typed expression fits 64 bits, in all states of the
+/// declared types.
 pub fn typed_is_safe()
     ensures { TypedIsSafe }
 {}

@@ -1,5 +1,4 @@
-// Tokens that are added to those before them. Each kind goes from where it is known straight into the list, since a kind is
-// large and there are many tokens.
+// Appending tokens. Each kind is written straight into the list, since kinds are large and tokens are many.
 ghost use Rattle.std.specs.Prelude.{◌≡◌, ◌≢◌, ◌<◌, ◌≤◌, ◌^◌, [], ◌∷◌, ◌++◌, Some, false, length, take, vec_len, vec_capacity, OnOk, IfErr};
 ghost use Rattle.text_core.specs.Bytes.{is_digit};
 ghost use Rattle.text_core.specs.Places.{Reaches};
@@ -20,7 +19,7 @@ use std::alloc::Global;
 use text_core::kinds::smv;
 use text_core::{End, Kind, Name, Place, Refusal, is_digit};
 
-/// What a token that is added leaves: how many bytes long it is, and how many brackets stand open behind it.
+/// The result of adding a token: its length in bytes, and the number of open brackets after it.
 #[derive(Clone, Copy)]
 pub struct Added {
     pub size: usize,
@@ -33,7 +32,7 @@ fn refused(kind: Kind, place: Place) -> End
     End::Bad(Refusal { kind, place })
 }
 
-/// Makes room for one more token where there is none.
+/// Grows the list by room for at least one more token.
 #[cold]
 #[inline(never)]
 fn grow(tokens: &mut Vec<Token>) -> Result<(), End>
@@ -45,7 +44,7 @@ fn grow(tokens: &mut Vec<Token>) -> Result<(), End>
     Ok(())
 }
 
-/// Makes room for one more token. A token is made when its room is there, so that it is written where it stays.
+/// Ensures room for one more token, so that the token can be built in place.
 #[inline(always)]
 fn make_room(tokens: &mut Vec<Token>) -> Result<(), End>
     ensures items { tokens.new.items ≡ tokens.old.items }
@@ -59,7 +58,7 @@ fn make_room(tokens: &mut Vec<Token>) -> Result<(), End>
     }
 }
 
-/// Adds a token of this kind and size, behind which so many brackets stand open.
+/// Adds a token of this kind and size; `opened` brackets are open after it.
 #[inline(always)]
 fn put(tokens: &mut Vec<Token>, place: Place, opened: u32, kind: TokenKind, size: usize) -> Added
     requires room { vec_len tokens.old < vec_capacity tokens.old }
@@ -106,7 +105,7 @@ fn add_sign(
     ))
 }
 
-/// Adds the word that is no identifier, of this size, at the front of a text.
+/// Adds a reserved word or an unsupported word, of this size, at the front of a text.
 #[inline(always)]
 fn add_keyword(
     tokens: &mut Vec<Token>,
@@ -183,7 +182,9 @@ fn add_run(
     }
 }
 
-/// Adds the token at the front of a text that isn't empty, where so many brackets stand open.
+/// Adds the token at the front of a nonempty text, where `opened` brackets are open before it.
+///
+/// `Err` is out of memory or the refusal at this token.
 #[inline(always)]
 pub fn add_token(
     alloc: Global,

@@ -1,14 +1,14 @@
-// How many brackets stand open.
+// The number of open brackets.
 ghost use Rattle.std.specs.Prelude.{◌≡◌, ◌<◌, ◌-◌, ◌^◌};
 ghost use Rattle.smv_text.specs.declared.token.TokenKind.TheVariants as kind;
 ghost use Rattle.smv_text.specs.Lexing.{opened_by};
 
 use smv_text::{Reserved, Sign, TokenKind};
 
-/// The most brackets that stand open in a text.
+/// The most brackets that may be open at once in a text.
 pub const MOST_BRACKETS: u32 = 100;
 
-/// How many brackets stand open behind a sign, where so many stand open before it.
+/// Returns the number of open brackets after a sign, where `opened` are open before it.
 pub fn opened_by_sign(opened: u32, sign: Sign) -> u32
     requires { opened < 2 ^ 32 - 1 }
     ensures { result ≡ opened_by opened (kind.Sign sign) }
@@ -20,7 +20,7 @@ pub fn opened_by_sign(opened: u32, sign: Sign) -> u32
     }
 }
 
-/// How many brackets stand open behind a reserved word, where so many stand open before it.
+/// Returns the number of open brackets after a reserved word, where `opened` are open before it.
 pub fn opened_by_word(opened: u32, word: Reserved) -> u32
     requires { opened < 2 ^ 32 - 1 }
     ensures { result ≡ opened_by opened (kind.Reserved word) }
@@ -32,8 +32,10 @@ pub fn opened_by_word(opened: u32, word: Reserved) -> u32
     }
 }
 
-/// How many brackets stand open behind a token, where so many stand open before it. `case` opens one and `esac` closes one,
-/// and a closing one closes any where one stands open.
+/// Returns the number of open brackets after a token, where `opened` are open before it.
+///
+/// `case` opens one and `esac` closes one. A closing bracket closes an open bracket of any kind; without one it changes
+/// nothing.
 pub fn opened_by(opened: u32, kind: &TokenKind) -> u32
     requires { opened < 2 ^ 32 - 1 }
     ensures { result ≡ opened_by opened kind.now }

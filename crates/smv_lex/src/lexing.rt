@@ -21,10 +21,10 @@ use smv_text::Tokens;
 use std::alloc::Global;
 use text_core::{End, FIRST_PLACE};
 
-/// Why there are no tokens.
+/// The reason why lexing fails: a refusal, or out of memory.
 pub type LexEnd = End;
 
-/// The tokens of a text, or its refusal.
+/// Returns the tokens of a text, or its refusal.
 fn tokens_of(alloc: Global, text: &[u8]) -> Result<Tokens, LexEnd>
     requires { length text.now ≤ 2 ^ 31 }
     ensures lexed { IfOk result (λ tokens. Lexes text.now tokens.items) }
@@ -47,46 +47,49 @@ fn tokens_of(alloc: Global, text: &[u8]) -> Result<Tokens, LexEnd>
     }
 }
 
-/// The tokens of a text of at most 2^31 bytes, each with its kind, place and length (NuSMV 2.6 User Manual, chapter 2). Else its
-/// first refusal: `S2` at a byte at which no token starts, `S3` at the first byte of a run that begins with a digit and spells
-/// neither a number nor a word literal, or `S4` at a bracket too many.
+/// Returns the tokens of a text, each with its kind, place and length (NuSMV 2.6 User Manual, chapter 2).
+///
+/// The text has at most 2^31 bytes. `Err` is out of memory or the first refusal. `S2`: a byte at which no token starts.
+/// `S3`: the first byte of a run that begins with a digit and spells neither a number nor a word literal. `S4`: one
+/// bracket too many.
 pub fn lex(alloc: Global, text: &[u8]) -> Result<Tokens, LexEnd>
     requires { length text.now ≤ 2 ^ 31 }
     // The text lexes to the tokens.
     ensures lexed { IfOk result (λ tokens. Lexes text.now tokens.items) }
-    // Their list has the place of the text's end.
+    // The list has the place of the end of the text.
     ensures end { IfOk result (λ tokens. tokens.end ≡ after start text.now) }
     // There are no more tokens than bytes.
     ensures few { IfOk result (λ tokens. length tokens.items ≤ length text.now) }
-    // What it lexes to is read, unless memory runs out.
+    // The tokens that the text lexes to are returned, unless memory runs out.
     ensures exact { (ts : List Token) → Lexes text.now ts → Reads ts result }
     // The refusal is that of the text.
     ensures refused { IfErr result (IsRefused text.now) }
-    // What it is refused with is answered, unless memory runs out.
+    // The refusal of the text is returned, unless memory runs out.
     ensures stops { (why : Refusal) → lex_refusal text.now why → Stops why result }
 {
     tokens_of(alloc, text)
 }
 
-/// Each text lexes to one list of tokens, or has one refusal.
+/// Proves that each text either lexes to exactly one list of tokens or has exactly one refusal.
 pub fn one_lexing()
     // No text lexes to two lists of tokens.
     ensures tokens { (text : List ℕ) (ts us : List Token) → Lexes text ts → Lexes text us → ts ≡ us }
     // No text has two refusals.
     ensures refusal { (text : List ℕ) (why other : Refusal) → lex_refusal text why → lex_refusal text other → why ≡ other }
-    // None has both tokens and a refusal.
+    // No text has both tokens and a refusal.
     ensures apart { (text : List ℕ) (ts : List Token) (why : Refusal) → Lexes text ts → lex_refusal text why → ⊥ }
-    // Each has one or the other.
+    // Each text has one or the other.
     ensures total { (text : List ℕ) → IsAnswered text }
 {}
 
-/// The spellings of words and signs are read as what they spell.
+/// Proves that the lexer reads the spelling of each reserved word and of each sign as that word or sign.
 pub fn spellings_are_read()
     ensures signs { (s : Sign) → kind_of (sign_bytes s) ≡ Some (TokenKind.Sign s) }
     ensures words { (r : Reserved) → kind_of (word_bytes r) ≡ Some (TokenKind.Reserved r) }
 {}
 
-/// Tokens that are printed with single blanks between them are lexed again, and the tokens of a text can be printed.
+/// Proves that tokens printed with single blanks between them are lexed again, and that the tokens of a text can be
+/// printed.
 pub fn printed_is_lexed()
     ensures again { (ks : List TokenKind) → ArePrintable 0 ks → (ts : List Token) × Lexes (joined ks) ts × (kinds ts ≡ ks) }
     ensures printable { (text : List ℕ) (ts : List Token) → Lexes text ts → CanAllBePrinted 0 (kinds ts) }

@@ -1,4 +1,4 @@
-//! The lexer of SMV models: the tokens of a text, or its first refusal.
+//! The lexer of SMV models: from a text to its tokens, or to its first refusal.
 #![tactic(auto)]
 
 mod adding;

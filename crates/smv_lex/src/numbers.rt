@@ -19,7 +19,7 @@ fn number_of(run: &[u8]) -> Option<u64>
     Some(word.bits() as u64)
 }
 
-/// The base of its letter.
+/// The base that a letter stands for.
 fn base_of(b: u8) -> Option<u32>
     ensures { result ≡ base_of b }
 {
@@ -32,7 +32,7 @@ fn base_of(b: u8) -> Option<u32>
     }
 }
 
-/// What stands behind a `u`, if it comes first.
+/// The text after a leading `u`, or the whole text where there is none.
 fn past_sign(text: &[u8]) -> &[u8]
     ensures { result.now ≡ past_sign text.now }
 {
@@ -42,7 +42,7 @@ fn past_sign(text: &[u8]) -> &[u8]
     }
 }
 
-/// How many bytes stand before the first `_`.
+/// The number of bytes before the first `_`.
 fn width_length(text: &[u8]) -> usize
     ensures value { result ≡ front_length is_unmarked text.now }
     ensures within { result ≤ length text.now }
@@ -59,7 +59,7 @@ fn width_length(text: &[u8]) -> usize
     count
 }
 
-/// The digits without the `_` among them.
+/// The digits without the `_` between them.
 fn bare(alloc: Global, digits: &[u8]) -> Result<Vec<u8>, NoMemory>
     ensures { IfOk result (λ kept. kept.items ≡ bare digits.now) }
 {
@@ -72,7 +72,7 @@ fn bare(alloc: Global, digits: &[u8]) -> Result<Vec<u8>, NoMemory>
     Ok(kept)
 }
 
-/// The word of a width and of digits of a base. Each width that words have is below 256.
+/// The word of this width and these digits in this base. Every supported width is below 256.
 fn sized_word(
     alloc: Global,
     base: u32,
@@ -91,7 +91,7 @@ fn sized_word(
     }
 }
 
-/// The word whose width, `_` and digits stand behind the letter of its base.
+/// The word whose width, `_` and digits follow the letter of its base.
 fn parted_word(alloc: Global, text: &[u8], base: u32) -> Result<Option<Word>, NoMemory>
     requires { (base ≡ 2) ⊎ ((base ≡ 8) ⊎ ((base ≡ 10) ⊎ (base ≡ 16))) }
     ensures { IfOk result (λ word. word ≡ parted_word text.now base) }
@@ -103,7 +103,7 @@ fn parted_word(alloc: Global, text: &[u8], base: u32) -> Result<Option<Word>, No
     }
 }
 
-/// The word that stands behind the `0` and the `u` of a literal.
+/// The word that follows the `0` of a literal and its optional `u`.
 fn based_word(alloc: Global, text: &[u8]) -> Result<Option<Word>, NoMemory>
     ensures { IfOk result (λ word. word ≡ based_word text.now) }
 {
@@ -116,8 +116,8 @@ fn based_word(alloc: Global, text: &[u8]) -> Result<Option<Word>, NoMemory>
     }
 }
 
-/// Returns the word that a literal such as `0ud8_255` spells, or None where the bytes are no literal of a word (NuSMV 2.6 User Manual,
-/// "Word constants").
+/// Returns the word that a literal such as `0ud8_255` spells, or None where the bytes are no word literal (NuSMV 2.6
+/// User Manual, "Word constants").
 pub fn literal_of(alloc: Global, run: &[u8]) -> Result<Option<Word>, NoMemory>
     ensures { IfOk result (λ word. word ≡ literal_of run.now) }
 {
@@ -133,7 +133,7 @@ pub fn literal_of(alloc: Global, run: &[u8]) -> Result<Option<Word>, NoMemory>
     }
 }
 
-/// The kind of a run, or None where it spells nothing.
+/// Returns the token kind of a run that begins with a digit, or None where it is neither a number nor a word literal.
 pub fn run_kind(alloc: Global, run: &[u8]) -> Result<Option<TokenKind>, NoMemory>
     ensures { IfOk result (λ kind. kind ≡ run_kind run.now) }
 {

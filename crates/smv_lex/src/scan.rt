@@ -20,7 +20,7 @@ fn is_blank(b: u8) -> bool
     (b >= 9 && b <= 13) || b == b' '
 }
 
-/// Whether a byte goes on with a gap, and whether the gap is then inside a comment.
+/// Whether a byte continues a gap, and then whether the gap is inside a comment after it.
 fn gap_step(inside: bool, b: u8, rest: &[u8]) -> Option<bool>
     ensures { result ≡ gap_step inside b rest.now }
 {
@@ -35,7 +35,9 @@ fn gap_step(inside: bool, b: u8, rest: &[u8]) -> Option<bool>
     }
 }
 
-/// The place and the text behind the gap that a text begins with.
+/// Returns the place and the text after the gap at the front of a text.
+///
+/// A gap is blanks and comments, and may be empty.
 pub fn skip_gap(place: Place, text: &[u8]) -> (Place, &[u8])
     requires { Reaches place (length text.now) }
     ensures place { result.0 ≡ after place (take (gap_length false text.now) text.now) }
@@ -56,7 +58,7 @@ pub fn skip_gap(place: Place, text: &[u8]) -> (Place, &[u8])
     (at, rest)
 }
 
-/// The bytes that go on with a word wherever they stand, each at its own number, and `-` at all others.
+/// A table by byte: `-` for the bytes that do not continue a word in every context.
 const WORD_BYTES: [u8; 256] = *b"\
     --------------------------------\
     ---#$-----------0123456789------\
@@ -67,21 +69,21 @@ const WORD_BYTES: [u8; 256] = *b"\
     --------------------------------\
     --------------------------------";
 
-/// Whether a byte goes on with a word wherever it stands.
+/// Whether a byte continues a word in every context.
 fn is_word_byte(b: u8) -> bool
     ensures { result ≡ is_word_byte b }
 {
     WORD_BYTES[b as usize] != b'-'
 }
 
-/// Whether a byte goes on with a word.
+/// Whether a byte continues a word.
 fn in_word(b: u8, rest: &[u8]) -> bool
     ensures { result ≡ in_word b rest.now }
 {
     is_word_byte(b) || (b == b'-' && !heads(b'>', rest))
 }
 
-/// How many bytes go on with a word.
+/// Returns the number of leading bytes that continue a word.
 pub fn word_length(text: &[u8]) -> usize
     ensures value { result ≡ front_length in_word text.now }
     ensures within { result ≤ length text.now }
@@ -98,14 +100,14 @@ pub fn word_length(text: &[u8]) -> usize
     count
 }
 
-/// Whether a byte goes on with a run.
+/// Whether a byte continues a run.
 fn in_run(b: u8) -> bool
     ensures { result ≡ in_run b [] }
 {
     is_letter(b) || is_digit(b)
 }
 
-/// How many bytes go on with a run of letters and digits.
+/// Returns the length of the run of letters and digits at the front of a text.
 pub fn run_length(text: &[u8]) -> usize
     ensures value { result ≡ front_length in_run text.now }
     ensures within { result ≤ length text.now }

@@ -1,4 +1,4 @@
-// Signs: the longest one at a place.
+// Signs: the longest one at a position.
 ghost use Rattle.std.specs.Prelude.{◌≡◌, drop, length};
 ghost use Rattle.smv_text.specs.Bytes.{heads};
 ghost use Rattle.smv_lex.specs.Reading.{begins_comment, sign_at};
@@ -7,7 +7,7 @@ ghost use Rattle.smv_lex.specs.Reading as spec;
 
 use smv_text::Sign;
 
-/// Whether the text begins with this byte.
+/// Returns whether the text begins with this byte.
 pub fn heads(c: u8, text: &[u8]) -> bool
     ensures { result ≡ heads c text.now }
 {
@@ -24,7 +24,9 @@ fn begins_comment(text: &[u8]) -> bool
     heads(b'-', text) && heads(b'-', &text[1..])
 }
 
-/// The longest sign at a byte.
+/// Returns the longest sign that begins with this byte, or None where there is none.
+///
+/// `rest` is the text after the byte.
 pub fn sign_at(b: u8, rest: &[u8]) -> Option<Sign>
     ensures { result ≡ sign_at b rest.now }
 {
@@ -132,7 +134,7 @@ fn slash_sign(rest: &[u8]) -> Option<Sign>
     }
 }
 
-/// The length of a sign.
+/// Returns the length of the sign's spelling in bytes.
 pub fn sign_length(sign: Sign) -> usize
     ensures { result ≡ length (sign_bytes sign) }
 {

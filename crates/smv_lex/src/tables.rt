@@ -1,4 +1,4 @@
-// The words that are no identifiers, by their first byte: a word is compared with those that begin as it does.
+// Words that are not identifiers, by first byte. A word is compared only with those that share its first byte.
 ghost use Rattle.std.specs.Prelude.{◌≡◌, ◌==◌, map};
 ghost use Rattle.std.specs.List.{filter};
 ghost use Rattle.smv_text.specs.Keywords.{keywords};
@@ -6,7 +6,7 @@ ghost use Rattle.smv_lex.specs.Reading.{first_of, row};
 
 use smv_text::Reserved;
 
-/// A word that is no identifier, and which reserved one it is, if it is supported.
+/// A word that is not an identifier, and the reserved word that it is where it is supported.
 pub type Keyword = (&'static [u8], Option<Reserved>);
 
 const UPPER_A: [Keyword; 7] = [
@@ -165,7 +165,7 @@ const LOWER_X: [Keyword; 2] = [
     (b"xnor", Some(Reserved::Xnor)),
 ];
 
-/// The words with this first byte that are no identifiers.
+/// Returns the words with this first byte that are not identifiers.
 #[tactic(auto, unfolding(smv_text::specs::Keywords::keywords))]
 pub fn keywords_from(first: u8) -> &'static [Keyword]
     ensures { map row result.now ≡ filter (λ w. first == first_of w.0) keywords }

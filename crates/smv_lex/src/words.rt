@@ -1,4 +1,4 @@
-// The kinds of words: reserved ones, those of parts of the language that are not supported, and identifiers.
+// Kinds of words: reserved, unsupported, and identifiers.
 ghost use Rattle.std.specs.Prelude.{◌≡◌, [], Some, map};
 ghost use Rattle.std.specs.Str.{bytes_eq};
 ghost use Rattle.smv_text.specs.Bytes.{look_up};
@@ -40,14 +40,15 @@ fn last_of(word: &[u8]) -> u8
     }
 }
 
-/// Whether a word may be no identifier, by its last byte: many names end with a digit, and of the reserved words `word1` alone does.
+/// Whether a word may be reserved, judged by its last byte: many names end with a digit, but `word1` is the only such
+/// reserved word.
 fn may_be_keyword(word: &[u8]) -> bool
     ensures { result ≡ may_be_keyword word.now }
 {
     word.len() == 5 || !is_digit(last_of(word))
 }
 
-/// What a word is, if it is no identifier.
+/// Returns the reserved word, `Some(None)` for an unsupported word, or None for an identifier.
 pub fn keyword_of(word: &[u8]) -> Option<Option<Reserved>>
     ensures { result ≡ look_up word.now keywords }
 {

@@ -1,4 +1,4 @@
-//! The meaning of SMV models as definitions: values, instances, names, expressions, types, checks and runs.
+//! Definitions of the meaning of SMV models: values, instances, names, expressions, types, checks and runs.
 #![tactic(auto)]
 
 mod value;

@@ -12,20 +12,24 @@ pub enum Value {
     Bits(Word),
 }
 
-/// A variable's value: the variable is named by its dotted path.
+/// A variable's value. The variable is named by its dotted path.
 #[derive(Drop)]
 pub struct Given {
     pub name: Name,
     pub value: Value,
 }
 
-/// The values of variables, each named by its dotted path. Of two values of one name the first counts.
+/// The values of variables, each named by its dotted path.
+///
+/// Where a name occurs twice, the first value counts.
 pub type State = List<Given>;
 
-/// States, or labels, in order.
+/// A list of states, or of labels, in order.
 pub type States = List<State>;
 
-/// A run: one or more states, and between each two of them the label of the transition, which gives the inputs.
+/// A run: its states, at least one, and the label of the transition between each two successive states.
+///
+/// A label holds the values of the inputs.
 #[derive(Drop)]
 pub struct Run {
     pub states: States,

@@ -27,7 +27,7 @@ use smv_types::{CheckEnd, Named, Position, type_of};
 use std::alloc::Global;
 use text_core::{List, NoMemory};
 
-// Does one of the paths reach an input?
+// Whether one of the paths reaches an input.
 fn one_reaches<'a>(table: &Table<'a>, entries: &Entries<'a>, j: usize, paths: &[&Path]) -> bool
     ensures { result ≡ list_any (λ q. (entries_names (map instance_plain table.now) (entries_seen entries.now) j q).reaches_input) (map path_seen paths.now) }
 {
@@ -39,7 +39,7 @@ fn one_reaches<'a>(table: &Table<'a>, entries: &Entries<'a>, j: usize, paths: &[
     false
 }
 
-// The type of a body: none where one of its checks fails.
+// The type of a body, or None where one of its checks fails.
 #[tactic(auto, using(crate::proofs::Paths::always_known))]
 fn body_type<'a>(
     alloc: Global,
@@ -63,7 +63,7 @@ fn body_type<'a>(
     }
 }
 
-// What a body is.
+// The properties of a body.
 fn body_named<'a>(
     alloc: Global,
     table: &Table<'a>,
@@ -82,7 +82,7 @@ fn body_named<'a>(
     })
 }
 
-// Gives the entries what a definition or an actual is.
+// Adds the properties of a definition or an actual to the entries.
 fn put_body<'a>(
     alloc: Global,
     table: &Table<'a>,
@@ -116,7 +116,7 @@ fn numbered_body<'f, 'a>(bodies: &'f [Body<'a>], n: usize) -> &'f Body<'a>
     &bodies[n]
 }
 
-/// What each variable, definition and actual of the model is.
+/// Returns the properties of each variable, definition and actual of the model.
 pub(crate) fn entries_of<'a>(
     alloc: Global,
     table: &Table<'a>,

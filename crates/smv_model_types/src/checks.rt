@@ -1,4 +1,4 @@
-// The checks of expressions in their places.
+// Checks of expressions in their positions.
 ghost use Rattle.std.specs.Prelude.{◌≡◌, true, map, option_map};
 ghost use Rattle.smv_text.specs.View.{plain, plain_assignment};
 ghost use Rattle.smv_meaning.specs.Types.{is_truth_type, type_same};
@@ -23,7 +23,7 @@ use std::alloc::Global;
 use text_core::Refusal;
 use text_core::kinds::smv;
 
-/// The checks of a body of a definition or of an actual.
+/// Checks the body of a definition or of an actual.
 pub(crate) fn body_checked<'a>(
     alloc: Global,
     table: &Table<'a>,
@@ -49,7 +49,7 @@ fn is_path(e: &Expr) -> bool
     }
 }
 
-/// The checks of an actual: one that is a path may name anything.
+/// Checks an actual: one that is a path may name anything.
 #[tactic(auto, using(crate::proofs::BodyLemmas::path_actual, crate::proofs::BodyLemmas::other_actual))]
 pub(crate) fn actual_checked<'a>(
     alloc: Global,
@@ -68,7 +68,7 @@ pub(crate) fn actual_checked<'a>(
     }
 }
 
-// Is it a truth value, or has it no type?
+// Whether it is a truth value or has no type.
 fn is_truth(t: Option<Ty>) -> bool
     ensures { result ≡ on_type (option_map seen t) is_truth_type }
 {
@@ -78,7 +78,7 @@ fn is_truth(t: Option<Ty>) -> bool
     }
 }
 
-// Have they one type, or one of them none?
+// Whether both types are the same, or one is missing.
 fn are_same(t: Option<Ty>, u: Option<Ty>) -> bool
     ensures { result ≡ on_types (option_map seen t) (option_map seen u) type_same }
 {
@@ -124,7 +124,7 @@ fn position_of(when: When) -> Position
     }
 }
 
-/// The checks of an assignment, given what its target is to the types.
+/// Checks an assignment, given the properties of its target.
 #[tactic(auto, using(crate::proofs::Composing::ends, crate::proofs::Composing::both_pass, crate::proofs::Composing::fails_behind))]
 pub(crate) fn assignment_checked<'a>(
     alloc: Global,

@@ -28,7 +28,7 @@ fn member_type(member: &Member) -> Ty
     }
 }
 
-// Are there some, and have they one type?
+// Whether there is at least one member and all have the same type.
 #[tactic(auto, using(crate::proofs::Lists::front_is, crate::proofs::Lists::end_is))]
 fn are_same(members: &Members) -> bool
     ensures { result ≡ are_same (map member_type members.now) }
@@ -45,7 +45,7 @@ fn are_same(members: &Members) -> bool
     true
 }
 
-// The type that holds all.
+// The smallest type that contains all members.
 #[tactic(auto, using(crate::proofs::Lists::front_is, crate::proofs::Lists::end_is))]
 fn hull_of(members: &Members) -> Ty
     ensures { seen result ≡ hull_of (map member_type members.now) }
@@ -60,7 +60,7 @@ fn hull_of(members: &Members) -> Ty
     whole
 }
 
-// The type, or the kind of the first check that fails.
+// The type, or the kind of the first failing check.
 fn declared(domain: &Domain) -> Result<Option<Ty>, Kind>
     ensures { IsDeclared result (plain_domain domain.now) }
 {
@@ -92,7 +92,7 @@ fn declared(domain: &Domain) -> Result<Option<Ty>, Kind>
     }
 }
 
-/// The checks of a declared type.
+/// Checks a declared type.
 pub(crate) fn domain_checked(place: Place, domain: &Domain) -> Result<(), NamesEnd>
     ensures { Settles result (domain_checks place (plain_domain domain.now)) }
 {
@@ -102,7 +102,9 @@ pub(crate) fn domain_checked(place: Place, domain: &Domain) -> Result<(), NamesE
     }
 }
 
-/// The type of a variable with this declared type: none where a check of it fails, and none of an instance.
+/// Returns the type of a variable with this declared type.
+///
+/// None for an instance, or where a check of the declared type fails.
 #[tactic(auto, using(crate::proofs::DomainLemmas::typed, crate::proofs::DomainLemmas::untyped))]
 pub fn variable_type(domain: &Domain) -> Option<Ty>
     ensures { option_map seen result ≡ variable_type (plain_domain domain.now) }
@@ -123,7 +125,7 @@ fn is_input(kind: VarKind) -> bool
     }
 }
 
-/// What a variable is.
+/// Returns the properties of a variable.
 #[tactic(auto, using(crate::proofs::DomainLemmas::with_label))]
 pub(crate) fn variable_named(kind: VarKind, domain: &Domain) -> Named
     ensures { named_seen result ≡ named_found true (λ i path. unnamed) (variable_at [] kind (plain_domain domain.now)) }

@@ -66,14 +66,14 @@ fn definitions_checked<'a>(
     Ok(())
 }
 
-/// A path, and what it is to the types.
+/// A path, and its properties.
 #[derive(Clone, Copy)]
 pub(crate) struct TargetType<'a> {
     pub(crate) path: &'a Path,
     pub(crate) named: Named,
 }
 
-// What a target is to the types, given what the one before is: often the same, as in `init(v)` and `next(v)`.
+// The properties of a target, given those of the previous target: often the same path, as in `init(v)` and `next(v)`.
 fn named_behind<'a>(
     table: &Table<'a>,
     types: &Types<'a>,
@@ -161,7 +161,7 @@ fn elements_checked<'a>(
     Ok(())
 }
 
-/// The checks of an instance: its actuals, read in the instance that it stands in, and then its own elements.
+/// Checks an instance: first its actuals, which are read in its parent, then its own elements.
 #[tactic(auto, using(crate::proofs::Composing::both_pass, crate::proofs::Composing::ends, crate::proofs::Composing::ends_behind))]
 pub(crate) fn instance_checked<'a>(
     alloc: Global,

@@ -1,4 +1,5 @@
-//! The types of SMV models: the checks of types and positions over a whole model, in their order, and what each name is.
+//! The types of SMV models: the ordered checks of types and positions over a whole model, and the properties of its
+//! names.
 #![tactic(auto)]
 
 mod bodies;

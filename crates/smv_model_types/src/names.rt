@@ -1,4 +1,4 @@
-// What paths are to the types, as far as the entries have what they go through.
+// The properties of paths, as far as the entries know the names on them.
 ghost use Rattle.std.specs.Prelude.{◌≡◌, ◌∷◌, [], true, map, Some};
 ghost use Rattle.smv_text.specs.View.{plain_domain};
 ghost use Rattle.smv_meaning.specs.Bodies.{instance_within};
@@ -17,7 +17,7 @@ use smv_text::{Domain, Path, VarKind};
 use smv_types::{Named, Scope};
 use text_core::Names;
 
-/// What variables, definitions and actuals are to the types, by their instances and names.
+/// The properties of variables, definitions and actuals, by instance and name.
 pub(crate) type Entries<'a> = InstanceRows<'a, Named>;
 
 fn unnamed() -> Named
@@ -50,7 +50,7 @@ fn symbol() -> Named
     }
 }
 
-// What the entries have for a name that leads to no instance.
+// The entry of a name that leads to no instance.
 fn entered<'a>(entries: &Entries<'a>, i: usize, x: &[u8]) -> Named
     ensures { named_seen result ≡ or_unnamed (entries_seen entries.now i x.now) }
 {
@@ -60,7 +60,8 @@ fn entered<'a>(entries: &Entries<'a>, i: usize, x: &[u8]) -> Named
     }
 }
 
-// What a variable is. Only the type of an enumeration is not told by its declaration alone in a step or two.
+// The properties of a variable. Only the type of an enumeration takes more than a step or two to compute from its
+// declaration.
 fn variable<'a>(entries: &Entries<'a>, i: usize, x: &[u8], kind: VarKind, domain: &Domain) -> Named
     ensures { named_seen result ≡ variable_or kind (plain_domain domain.now) (entries_seen entries.now i x.now) }
 {
@@ -76,7 +77,7 @@ fn variable<'a>(entries: &Entries<'a>, i: usize, x: &[u8], kind: VarKind, domain
     }
 }
 
-// What a name is that leads to no instance, given what it is in its own instance.
+// The properties of a name that leads to no instance, given its meaning in its own instance.
 fn entry<'a>(entries: &Entries<'a>, i: usize, x: &[u8], known: Known<'a>) -> Named
     ensures { named_seen result ≡ entry_or (local_plain known.entry) (entries_seen entries.now i x.now) }
 {
@@ -89,7 +90,7 @@ fn entry<'a>(entries: &Entries<'a>, i: usize, x: &[u8], known: Known<'a>) -> Nam
     }
 }
 
-// What a name is that ends its path, given what it is in its own instance.
+// The properties of a name that ends its path, given its meaning in its own instance.
 fn ended<'a>(
     table: &Table<'a>,
     entries: &Entries<'a>,
@@ -106,7 +107,7 @@ fn ended<'a>(
     }
 }
 
-// What a parameter with a path is. Most have entries.
+// The properties of a parameter whose actual is a path. Most have entries.
 fn alias<'a>(
     table: &Table<'a>,
     entries: &Entries<'a>,
@@ -126,7 +127,7 @@ fn alias<'a>(
     }
 }
 
-// What a path of one name is, given what this name is in its own instance.
+// The properties of a path of one name, given the name's meaning in its own instance.
 fn single<'a>(
     table: &Table<'a>,
     entries: &Entries<'a>,
@@ -171,7 +172,7 @@ fn walked<'a>(table: &Table<'a>, entries: &Entries<'a>, i: usize, names: &Names)
     instance()
 }
 
-/// What a path is, by the entries.
+/// Returns the properties of a path, by the entries.
 #[tactic(auto, using(crate::proofs::Lists::front_is, crate::proofs::Lists::end_is))]
 pub(crate) fn path_named<'a>(
     table: &Table<'a>,
@@ -188,7 +189,8 @@ pub(crate) fn path_named<'a>(
     walked(table, entries, i, &path.names)
 }
 
-// What a variable is to which a path leads. Only that of an enumeration is not told by its declaration alone in a step or two.
+// The properties of a variable to which a path leads. Only the type of an enumeration takes more than a step or two to
+// compute from its declaration.
 fn variable_on_path<'a>(
     table: &Table<'a>,
     entries: &Entries<'a>,
@@ -208,7 +210,7 @@ fn variable_on_path<'a>(
     }
 }
 
-/// What a path is, by the entries, given what it leads to.
+/// Returns the properties of a path, by the entries, given its target.
 pub(crate) fn target_named<'a>(
     table: &Table<'a>,
     entries: &Entries<'a>,
@@ -232,8 +234,9 @@ pub(crate) fn target_named<'a>(
     }
 }
 
-/// What an alias with this path is, by the entries, given what it leads to. Only a path to an enumeration, a definition or an actual is
-/// followed again.
+/// Returns the properties of an alias with this path, by the entries, given its target.
+///
+/// Only a path to an enumeration, a definition or an actual is resolved again.
 pub(crate) fn alias_named<'a>(
     table: &Table<'a>,
     entries: &Entries<'a>,

@@ -1,4 +1,4 @@
-// The types of a model, and its checks of types.
+// The types of a model, and the checks of types.
 ghost use Rattle.std.specs.Prelude.{◌≡◌, true, map, IfOk};
 ghost use Rattle.smv_text.specs.View.{plain};
 ghost use Rattle.smv_meaning.specs.Names.{found_in};
@@ -46,8 +46,8 @@ impl<'a> Types<'a> {
         Ok(Types { entries })
     }
 
-    /// What a path is in the numbered instance: its type, where it has one, whether it is an instance, and whether it reaches an
-    /// input.
+    /// Returns the properties of a path in the instance with this number: its type if any, whether it is an instance,
+    /// and whether it reaches an input.
     pub fn named(&self, table: &Table<'a>, i: usize, path: &Path) -> Named
         requires { AreTypesOf (map instance_plain table.now) self.now }
         ensures { named_seen result ≡ types_in true (map instance_plain table.now) i path.now }
@@ -55,7 +55,9 @@ impl<'a> Types<'a> {
         path_named(table, &self.entries, i, path)
     }
 
-    /// The same, given what the path leads to, so that it isn't followed again; only one to an enumeration is.
+    /// Returns the properties of a path, given its target.
+    ///
+    /// Only a path to an enumeration is resolved again.
     pub fn named_at(&self, table: &Table<'a>, i: usize, path: &Path, target: Target) -> Named
         requires types { AreTypesOf (map instance_plain table.now) self.now }
         requires target { found_plain (map instance_plain table.now) target ≡ found_in (map instance_plain table.now) i path.now }
@@ -64,7 +66,9 @@ impl<'a> Types<'a> {
         target_named(table, &self.entries, i, path, target)
     }
 
-    /// The checks of an expression that stands in the numbered instance, and its type: none where it has none.
+    /// Checks an expression in the instance with this number, and returns its type, or None where it has none.
+    ///
+    /// `Err` is the refusal of the first failing check, or out of memory.
     #[tactic(auto, using(crate::proofs::Paths::always_known))]
     pub fn expression_checked(
         &self,
@@ -87,8 +91,10 @@ impl<'a> Types<'a> {
     }
 }
 
-/// The checks that types and positions fit: S16 to S20 and S23 to S26, at the first place where one fails; instances in preorder,
-/// in each its actuals first, then its elements in the order of the text. It answers what each path is.
+/// Checks all types and positions of a model, and returns the types of its names.
+///
+/// `Err` is out of memory or the first refusal, one of S16 to S20 and S23 to S26. Instances come in preorder. In each,
+/// its actuals come first, then its elements in the order of the text.
 #[tactic(auto, using(crate::proofs::Lists::front_is, crate::proofs::Lists::end_is, crate::proofs::Composing::goes, crate::proofs::Composing::ends))]
 pub fn types_checked<'a>(
     alloc: Global,

@@ -1,4 +1,4 @@
-// The variables of a model that have enumerations, each typed once.
+// The variables of a model that have enumeration types, each typed once.
 ghost use Rattle.std.specs.Prelude.{map, IfOk, OnOk};
 ghost use Rattle.smv_meaning.specs.Names.{local};
 ghost use Rattle.smv_meaning.specs.Settled.{Acyclic};
@@ -31,7 +31,7 @@ fn put_variable<'a>(
     }
 }
 
-// The type of an enumeration is found once; any other is told by the declaration in a step or two.
+// The type of an enumeration is computed once; any other takes only a step or two to compute from the declaration.
 fn put_item<'a>(
     table: &Table<'a>,
     entries: &mut Entries<'a>,
@@ -109,7 +109,7 @@ fn put_elements<'a>(
     Ok(())
 }
 
-/// The entries of the variables of all instances that have enumerations.
+/// Returns the entries of all variables with enumeration types, over all instances.
 pub(crate) fn variables_of<'a>(alloc: Global, table: &Table<'a>) -> Result<Entries<'a>, NoMemory>
     requires acyclic { Acyclic (map instance_plain table.now) }
     ensures { IfOk result (λ entries. Right (map instance_plain table.now) (entries_seen entries)) }

@@ -1,4 +1,4 @@
-// What is assigned: variables alone, and each once.
+// Checks of assignments: only variables are assigned, and each once.
 ghost use Rattle.std.specs.Prelude.{◌≡◌, ◌<◌, ◌+◌, ◌++◌, ◌∷◌, [], true, List, length, map, flat_map, take, IfOk, OnOk};
 ghost use Rattle.smv_meaning.specs.Instances.{Instance as Specified};
 ghost use Rattle.smv_instances.specs.declared.instances.Instance.{Instance as PartOf};
@@ -18,7 +18,7 @@ use std::alloc::Global;
 use text_core::kinds::smv;
 use text_core::{Name, NoMemory, Place, Refusal, is_same};
 
-/// An assignment: when it holds, what its target leads to, and where the target stands.
+/// An assignment: the states to which it applies, the target of its left side, and the place of its left side.
 #[derive(Clone, Copy)]
 pub struct Assignment<'a> {
     pub when: When,
@@ -34,7 +34,7 @@ pub struct Kinds {
     pub following: bool,
 }
 
-// A state variable is assigned at any time, a frozen one in the first state alone.
+// A state variable may be assigned in every state, a frozen one only in the first.
 fn is_assignable(when: When, target: &Target) -> bool
     ensures { (ts : List PartOf) → result ≡ is_assignable when (found_plain (map instance_plain ts) target.now) }
 {
@@ -84,7 +84,7 @@ fn with_kind(kinds: Option<Kinds>, when: When) -> Kinds
     }
 }
 
-// Two assignments of one kind clash, and one that holds always with each other.
+// Two assignments of the same kind clash, and one for every state clashes with each other one.
 fn clashes(kinds: Option<Kinds>, when: When) -> bool
     ensures { result ≡ kinds_clash (kinds_or_none kinds) when }
 {
@@ -98,14 +98,15 @@ fn clashes(kinds: Option<Kinds>, when: When) -> bool
     }
 }
 
-/// A path and what it leads to.
+/// A path and its target.
 #[derive(Clone, Copy)]
 pub struct Followed<'a> {
     pub path: &'a Path,
     pub target: Target<'a>,
 }
 
-// What a target leads to, given what the one before it does: often the same, as in `init(v)` and `next(v)`.
+// The target of an assignment's path, given that of the previous one: often the same path, as in `init(v)` and
+// `next(v)`.
 fn target_behind<'a>(
     table: &Table<'a>,
     i: usize,
@@ -162,7 +163,7 @@ fn add_elements<'a>(
     Ok(())
 }
 
-// The assignments of a model: instances in preorder, and in each in the order of the text.
+// The assignments of a model: instances in preorder, in each in the order of the text.
 #[tactic(auto, using(crate::proofs::Lists::front_is, crate::proofs::Lists::end_is, crate::proofs::PathLemmas::joined))]
 fn assignments_in<'a>(alloc: Global, table: &Table<'a>) -> Result<Vec<Assignment<'a>>, NoMemory>
     ensures { IfOk result (λ list. map (assigned_plain table.now) list.items ≡ over_instances (λ i at. flat_map (element_assigns (found_in (map instance_plain table.now)) i) at.module.elements) 0 (map instance_plain table.now)) }
@@ -192,7 +193,7 @@ fn path_of(alloc: Global, table: &Table, target: &Target) -> Result<Name, NoMemo
     }
 }
 
-// Are both the same variable of the same instance?
+// Whether both are the same variable of the same instance.
 fn is_same_variable(one: &Target, other: &Target) -> bool
     ensures { (t : List Specified) → result ≡ true → target_path (found_plain t one.now) ≡ target_path (found_plain t other.now) }
 {
@@ -205,7 +206,8 @@ fn is_same_variable(one: &Target, other: &Target) -> bool
     }
 }
 
-// The dotted path of the target of the assignment k, given those before it: often that of the last one, as in `init(v)` and `next(v)`.
+// The dotted path of the target of assignment k, given those before it: often that of the last one, as in `init(v)` and
+// `next(v)`.
 fn path_behind(
     alloc: Global,
     table: &Table,
@@ -235,8 +237,11 @@ fn paths_of(alloc: Global, table: &Table, list: &[Assignment]) -> Result<Vec<Nam
     Ok(paths)
 }
 
-/// The checks that state variables and frozen ones alone are assigned, these in the first state (S22), and none twice at
-/// one time (S21). Assignments are counted for a variable over all instances, whatever path leads to it.
+/// Checks the assignments of a model.
+///
+/// Only state variables and frozen variables are assigned, the latter only in the first state (S22). None is assigned
+/// twice for the same state (S21). Assignments to a variable are collected over all instances, whatever path leads to
+/// it.
 pub fn assignments_checked(alloc: Global, table: &Table) -> Result<(), NamesEnd>
     ensures { Settles result (assignment_checks (found_in (map instance_plain table.now)) (map instance_plain table.now)) }
 {

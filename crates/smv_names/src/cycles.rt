@@ -1,4 +1,4 @@
-// No definition and no actual reaches itself.
+// The check that definitions and actuals are acyclic.
 ghost use Rattle.std.specs.Prelude.{◌≡◌, map, IfOk};
 ghost use Rattle.smv_meaning.specs.Bodies.{IsBodyOrder, placed_bodies};
 ghost use Rattle.smv_meaning.specs.Settled.{cycle_checks_of};
@@ -13,8 +13,10 @@ use std::alloc::Global;
 use text_core::kinds::smv;
 use text_core::{List, Refusal};
 
-/// The checks that no definition and no actual reaches itself: S15, at the first that does. Else an order of their numbers in
-/// which each stands after those to which it refers.
+/// Checks that no definition and no actual reaches itself, and returns an order of their numbers.
+///
+/// In this order each comes after those to which it refers. `Err` is S15 at the first that reaches itself, or out of
+/// memory.
 pub fn cycles_checked<'a>(
     alloc: Global,
     table: &Table<'a>,

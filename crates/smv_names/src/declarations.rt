@@ -1,4 +1,4 @@
-// The checks of what an instance declares.
+// Checks of the declarations of an instance.
 ghost use Rattle.std.specs.Prelude.{◌≡◌, ◌≤◌, [], length, map, nat_le, Some};
 ghost use Rattle.smv_text.specs.View.{plain_item, plain_module, plain_source};
 ghost use Rattle.smv_meaning.specs.Instances.{dotted, is_one_of, instances_of};
@@ -20,7 +20,7 @@ use text_core::{Refusal, is_same};
 
 /// The most bytes of a dotted path.
 const LONGEST_PATH: usize = 1000;
-/// The most instances, main among them.
+/// The most instances of a model, including main.
 const MOST_INSTANCES: usize = 4096;
 
 fn is_among(names: &[&[u8]], name: &[u8]) -> bool
@@ -41,7 +41,7 @@ fn is_above(above: &[&[u8]], name: &[u8]) -> bool
     is_among(above, name)
 }
 
-// An instance is one of a module that is there, isn't inside itself, and takes that many actuals.
+// The module of an instance must exist, must not contain itself, and must take this number of actuals.
 #[tactic(auto, using(crate::specs::laws::Composing::trees_length))]
 fn item_failing(modules: &DeclaredModules, above: &[&[u8]], item: &Item) -> Option<Refusal>
     ensures { result ≡ first_failing (item_checks (map plain_module modules.now) (names_above above.now) (Some (plain_item item.now))) }
@@ -73,7 +73,7 @@ fn item_failing(modules: &DeclaredModules, above: &[&[u8]], item: &Item) -> Opti
     }
 }
 
-// Is the dotted path of the name no longer than it may be?
+// Whether the dotted path of the name is within the limit.
 fn is_short(path: &[u8], name: &[u8]) -> bool
     ensures { result ≡ nat_le (length (dotted path.now name.now)) longest_path }
 {
@@ -99,7 +99,7 @@ fn is_instance(declaration: &Declaration) -> bool
     }
 }
 
-// The checks of a declaration but for that of its name: given the modules above and how many instances are met.
+// The checks of a declaration except of its name, given the enclosing modules and the number of instances so far.
 fn declaration_failing(
     modules: &DeclaredModules,
     above: &[&[u8]],
@@ -134,8 +134,10 @@ fn stands_at(place: Option<usize>, k: usize) -> bool
     }
 }
 
-/// The checks of what an instance declares, given the modules above, its path and how many instances were met so far; it
-/// answers how many are met then.
+/// Checks the declarations of an instance, and returns the number of instances after them.
+///
+/// `above` are the names of the enclosing modules, `path` is the path of the instance, and `met` the number of
+/// instances before.
 #[tactic(auto, using(crate::proofs::Lists::front_is, crate::proofs::Lists::end_is))]
 pub(crate) fn declared_checked<'a>(
     modules: &DeclaredModules<'a>,
@@ -167,8 +169,10 @@ pub(crate) fn declared_checked<'a>(
     Ok(count)
 }
 
-/// The checks of the second phase, for a source that passes the first: over the instances in preorder, what each declares
-/// (S10 to S13, and S28 for paths and instances). No instance past the first that fails is looked at.
+/// Checks the declarations of a model that passes the first phase.
+///
+/// Instances are visited in preorder. The checks are S10 to S13, and S28 for paths and instances. No instance after the
+/// first failing check is visited.
 pub fn declarations_checked(alloc: Global, source: &Source) -> Result<(), NamesEnd>
     ensures { Settles result (declaration_checks (plain_source source.now).modules (instances_of (plain_source source.now)) 0 1 (instances_of (plain_source source.now))) }
 {

@@ -1,4 +1,4 @@
-// What a module declares, in the order of its checks.
+// The declarations of a module, in the order of their checks.
 ghost use Rattle.std.specs.Prelude.{◌≡◌, ◌++◌, ◌∷◌, [], map, flat_map, IfOk, OnOk};
 ghost use Rattle.smv_text.specs.View.{plain_item, plain_definition, plain_element, plain_module};
 ghost use Rattle.smv_meaning.specs.Phases.{element_declares, declared_in};
@@ -8,7 +8,9 @@ use smv_text::{Definitions, Element, Elements, Item, Items, Module, Parameters};
 use std::alloc::Global;
 use text_core::{NoMemory, Place};
 
-/// A declared name: a parameter, a variable or an instance, which has an item, or a definition.
+/// A declared name.
+///
+/// A parameter or a definition has no item; a variable or an instance has one.
 #[derive(Clone, Copy)]
 pub struct Declaration<'a> {
     pub name: &'a [u8],
@@ -16,7 +18,7 @@ pub struct Declaration<'a> {
     pub item: Option<&'a Item>,
 }
 
-/// Declarations, in order.
+/// A list of declarations, in order.
 pub type Declarations<'a> = Vec<Declaration<'a>>;
 
 fn add<'a>(list: &mut Declarations<'a>, declaration: Declaration<'a>) -> Result<(), NoMemory>
@@ -92,7 +94,7 @@ fn add_elements<'a>(list: &mut Declarations<'a>, elements: &'a Elements) -> Resu
     Ok(())
 }
 
-/// What a module declares: parameters first, then in the order of the text.
+/// Returns the declarations of a module: parameters first, then the others in the order of the text.
 pub fn declared_of<'a>(alloc: Global, module: &'a Module) -> Result<Declarations<'a>, NoMemory>
     ensures { IfOk result (λ ds. map declared_plain ds.items ≡ declared_in (plain_module module.now)) }
 {

@@ -1,4 +1,4 @@
-// What each module declares, found once for all its instances.
+// The declarations of each module, collected once for all its instances.
 ghost use Rattle.std.specs.Prelude.{◌≡◌, ◌++◌, ◌∷◌, [], length, map, IfOk, OnOk};
 ghost use Rattle.smv_text.specs.View.{plain_module};
 ghost use Rattle.smv_meaning.specs.Instances.{module_named};
@@ -15,7 +15,9 @@ use std::alloc::Global;
 use std::marker::Model;
 use text_core::NoMemory;
 
-/// A module with what it declares and the place of the first declaration whose name stands earlier, seen as the module.
+/// A module with its declarations and the place of the first one whose name was declared before.
+///
+/// Contracts see it as the module.
 #[derive(Drop)]
 pub(crate) struct DeclaredModule<'a> {
     module: &'a Module,
@@ -63,14 +65,14 @@ impl<'a> DeclaredModule<'a> {
         self.module
     }
 
-    /// What the module declares, in the order of its checks.
+    /// Returns the declarations of the module, in the order of their checks.
     pub(crate) fn declarations(&self) -> &[Declaration<'a>]
         ensures { map declared_plain result.now ≡ declared_in (plain_module self.now) }
     {
         self.list.as_slice()
     }
 
-    /// The place of the first declaration whose name stands earlier.
+    /// Returns the place of the first declaration whose name was declared before, or None where there is none.
     pub(crate) fn twice(&self) -> Option<usize>
         ensures { result ≡ first_twice 0 [] (declared_in (plain_module self.now)) }
     {
@@ -78,7 +80,7 @@ impl<'a> DeclaredModule<'a> {
     }
 }
 
-// The place of the first declaration whose name stands earlier.
+// The place of the first declaration whose name was declared before.
 #[tactic(auto, using(crate::proofs::Lists::front_is, crate::proofs::Lists::end_is))]
 fn place_twice(alloc: Global, list: &[Declaration]) -> Result<Option<usize>, NoMemory>
     ensures { IfOk result (λ place. place ≡ first_twice 0 [] (map declared_plain list.now)) }
@@ -94,7 +96,9 @@ fn place_twice(alloc: Global, list: &[Declaration]) -> Result<Option<usize>, NoM
     Ok(None)
 }
 
-/// The modules of a model with what each declares, seen as the list of the modules.
+/// The modules of a model with their declarations.
+///
+/// Contracts see it as the list of modules.
 #[derive(Drop)]
 pub(crate) struct DeclaredModules<'a> {
     list: Vec<DeclaredModule<'a>>,
@@ -126,14 +130,14 @@ impl<'a> DeclaredModules<'a> {
         Ok(DeclaredModules { list, table })
     }
 
-    /// How many modules there are.
+    /// Returns the number of modules.
     pub(crate) fn len(&self) -> usize
         ensures { result ≡ length self.now }
     {
         self.list.len()
     }
 
-    /// The first module with this name.
+    /// Returns the first module with this name, or None where there is none.
     pub(crate) fn named(&self, name: &[u8]) -> Option<&DeclaredModule<'a>>
         ensures { module_or_none result ≡ module_named (map plain_module self.now) name.now }
     {

@@ -1,5 +1,5 @@
-// Why the checks of a model end early.
+// Failures of the checks of a model.
 use text_core::End;
 
-/// Why the checks of a model end early: the refusal of the first that fails, or want of memory.
+/// The failure of a model's checks: the refusal of the first failing check, or out of memory.
 pub type NamesEnd = End;

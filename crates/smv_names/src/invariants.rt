@@ -1,4 +1,4 @@
-// The invariants of a model are counted.
+// The count of a model's invariants.
 ghost use Rattle.std.specs.Prelude.{◌≡◌, ◌-◌, ◌∷◌, [], ℕ, map, flat_map, length, nat_lt};
 ghost use Rattle.smv_text.specs.View.{plain_element};
 ghost use Rattle.smv_meaning.specs.Checks.{check};
@@ -12,7 +12,7 @@ use smv_text::{Element, Elements};
 use text_core::kinds::smv;
 use text_core::{Place, Refusal};
 
-// How many invariants are still missing behind an element.
+// The number of invariants that are still missing after an element.
 fn missing_after(missing: u64, element: &Element) -> u64
     ensures { (i : ℕ) → result ≡ missing - length (element_invariants i (plain_element element.now)) }
 {
@@ -28,7 +28,7 @@ fn missing_after(missing: u64, element: &Element) -> u64
     }
 }
 
-// How many are still missing behind these elements.
+// The number of invariants that are still missing after these elements.
 fn missing_behind(missing: u64, elements: &Elements) -> u64
     ensures { (i : ℕ) → result ≡ missing - length (flat_map (element_invariants i) (map plain_element elements.now)) }
 {
@@ -39,7 +39,9 @@ fn missing_behind(missing: u64, elements: &Elements) -> u64
     missing
 }
 
-/// The check that the model, over all its instances, has an invariant of this number: S27, at the end of the text.
+/// Checks that the model, over all its instances, has an invariant with this number.
+///
+/// Otherwise `Err` is S27 at the end of the text.
 pub fn invariants_checked(table: &Table, end: Place, needed: u32) -> Result<(), NamesEnd>
     ensures { Settles result (check 27 end (nat_lt needed (length (invariants_in (map instance_plain table.now)))) ∷ []) }
 {

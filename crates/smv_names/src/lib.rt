@@ -1,4 +1,4 @@
-//! The names of SMV models: the checks of modules, of what is declared, and of a model's size, phase by phase.
+//! The names of SMV models: checks of modules, declarations, paths, cycles, assignments and sizes, phase by phase.
 #![tactic(auto)]
 
 mod assignments;

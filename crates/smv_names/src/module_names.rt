@@ -14,7 +14,7 @@ use std::alloc::Global;
 use text_core::kinds::smv;
 use text_core::{Place, Refusal};
 
-// Each module has a name of its own.
+// Module names must be distinct.
 #[tactic(auto, using(crate::proofs::Lists::front_is, crate::proofs::Lists::end_is))]
 fn names_checked(alloc: Global, modules: &Modules) -> Result<(), NamesEnd>
     ensures { Settles result (name_checks [] (map plain_module modules.now)) }
@@ -53,8 +53,9 @@ fn main_failing(table: &ModuleTable, end: Place) -> Option<Refusal>
     }
 }
 
-/// The checks of the first phase: each module has a name of its own (S9), and there is a `main`, which has no parameters
-/// (S8).
+/// Checks the modules of a model, the first phase.
+///
+/// Module names are distinct (S9), and there is a module `main` without parameters (S8).
 #[tactic(auto, using(crate::specs::laws::Composing::ends, crate::specs::laws::Composing::both_pass, crate::specs::laws::Composing::fails_behind))]
 pub fn modules_checked(alloc: Global, source: &Source) -> Result<(), NamesEnd>
     ensures { Settles result (module_checks (plain_source source.now)) }

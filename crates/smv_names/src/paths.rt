@@ -1,4 +1,4 @@
-// Each path leads to something.
+// The check that each path has a target.
 ghost use Rattle.std.specs.Prelude.{◌≡◌, ◌++◌, ◌∷◌, [], List, ℕ, map, flat_map, OnOk, unwrap_or};
 ghost use Rattle.smv_text.specs.Tree.{trees_of};
 ghost use Rattle.smv_text.specs.View.{plain, plain_definition, plain_assignment, plain_element};
@@ -32,7 +32,8 @@ fn is_something(target: Target) -> bool
     }
 }
 
-// Does a path lead to something, given one before it that does? Often both are the same, as the targets of `init(v)` and `next(v)`.
+// Whether a path has a target, given one before it that has. Often both are the same, as the targets of `init(v)` and
+// `next(v)`.
 fn leads_somewhere<'a>(
     table: &Table<'a>,
     i: usize,
@@ -50,7 +51,7 @@ fn leads_somewhere<'a>(
     is_something(table.target(i, path))
 }
 
-// The paths, read in the numbered instance.
+// Checks the paths, read in the instance with this number.
 fn all_checked<'a>(table: &Table<'a>, i: usize, paths: &[&'a Path]) -> Result<(), NamesEnd>
     ensures { Settles result (map (path_check (found_in (map instance_plain table.now)) i) (map path_seen paths.now)) }
 {
@@ -121,7 +122,8 @@ fn put_elements_paths<'a>(paths: &mut Vec<&'a Path>, elements: &'a Elements) -> 
     Ok(())
 }
 
-// The paths of the actuals, read in the instance that it stands in, and then those of its own elements. The list is room for them.
+// Checks the paths of the actuals, read in the parent, then those of the instance's own elements. The list is reused
+// room for them.
 #[tactic(auto, using(crate::specs::laws::Composing::both_pass, crate::specs::laws::Composing::ends, crate::specs::laws::Composing::ends_behind))]
 fn instance_checked<'a>(
     table: &Table<'a>,
@@ -140,7 +142,9 @@ fn instance_checked<'a>(
     Ok(())
 }
 
-/// The checks that each path of an instantiated module leads to something: S14, at the first that doesn't.
+/// Checks that each path of an instantiated module has a target.
+///
+/// Otherwise `Err` is S14 at the first path that has none.
 #[tactic(auto, using(crate::proofs::Lists::front_is, crate::proofs::Lists::end_is, crate::specs::laws::Composing::goes, crate::specs::laws::Composing::ends))]
 pub fn paths_checked<'a>(alloc: Global, table: &Table<'a>) -> Result<(), NamesEnd>
     ensures { Settles result (over_instances (path_checks (found_in (map instance_plain table.now))) 0 (map instance_plain table.now)) }

@@ -20,7 +20,7 @@ use text_core::{FIRST_PLACE, NoMemory, Refusal};
 /// The most tokens of the modules' bodies, summed over the instances.
 const MOST_TOKENS: u64 = 200_000;
 
-// Is the weight no greater than it may be?
+// Whether the weight is within the limit.
 fn is_light(parts: &[Instance]) -> bool
     ensures { result ≡ nat_le (sum_by (λ at. at.module.tokens) (map instance_plain parts.now)) most_tokens }
 {
@@ -34,7 +34,7 @@ fn is_light(parts: &[Instance]) -> bool
     true
 }
 
-// No declared name is a symbol.
+// The refusal of the first declared name that is a symbol.
 fn symbol_failing(table: &Table, list: &[Declaration]) -> Option<Refusal>
     ensures { result ≡ first_failing (map (λ d. check 10 d.place (not (has_symbol (map instance_plain table.now) d.name))) (map declared_plain list.now)) }
 {
@@ -49,7 +49,7 @@ fn symbol_failing(table: &Table, list: &[Declaration]) -> Option<Refusal>
     None
 }
 
-// No name of main is a symbol.
+// The refusal of the first name of main that is a symbol.
 #[tactic(auto, using(crate::proofs::FirstPart::main_first, crate::proofs::FirstPart::no_main))]
 fn main_failing(alloc: Global, table: &Table) -> Result<Option<Refusal>, NoMemory>
     ensures { IfOk result (λ o. o ≡ first_failing (symbol_checks (map instance_plain table.now) (slice_get (map instance_plain table.now) 0))) }
@@ -61,8 +61,9 @@ fn main_failing(alloc: Global, table: &Table) -> Result<Option<Refusal>, NoMemor
     Ok(symbol_failing(table, list.as_slice()))
 }
 
-/// The checks of the third phase, for a source that passes the first two: the weight (S28), and no name of main is a symbol
-/// (S10). It answers the table of the instances.
+/// Checks the size of a model that passes the first two phases, and returns the table of its instances.
+///
+/// The weight is within the limit (S28), and no name of main is a symbol (S10).
 pub fn sizes_checked<'a>(alloc: Global, source: &'a Source) -> Result<Table<'a>, NamesEnd>
     ensures checks { Settles result (size_checks (plain_source source.now)) }
     ensures table { IfOk result (λ t. map instance_plain t ≡ instances_of (plain_source source.now)) }

@@ -1,4 +1,4 @@
-// A walk over the instances of a model in preorder, which ends at the first check that fails.
+// A walk over the instances of a model in preorder, up to the first failing check.
 ghost use Rattle.std.specs.Prelude.{◌≡◌, ◌++◌, ◌∷◌, [], map, OnOk};
 ghost use Rattle.smv_text.specs.View.{plain_module};
 ghost use Rattle.smv_names.specs.View.{item_or_none, names_above};
@@ -18,7 +18,7 @@ fn push<'a>(above: &mut Vec<&'a [u8]>, name: &'a [u8]) -> Result<(), NoMemory>
     Ok(above.push(name)?)
 }
 
-// The instance that an item makes, with all below it.
+// Visits the instance that an item creates, with all instances below it.
 #[cycle(visit)]
 fn item_visited<'a>(
     alloc: Global,
@@ -54,7 +54,7 @@ fn item_visited<'a>(
     }
 }
 
-/// The checks of an instance of the module and of all below it.
+/// Checks an instance of the module and all instances below it, and returns the number of instances after them.
 #[cycle(visit)]
 pub(crate) fn visited<'a>(
     alloc: Global,

@@ -1,4 +1,4 @@
-// The functions of one and of two arguments.
+// Functions of one and of two arguments.
 ghost use Rattle.std.specs.Prelude.{◌≡◌, ◌≤◌, ◌<◌, [], ◌∷◌, pos};
 ghost use Rattle.smv_meaning.specs.declared.value.Value.TheVariants as OfValue;
 ghost use Rattle.smv_text.specs.declared.operators.Function.TheVariants as OfFunction;
@@ -11,7 +11,9 @@ use crate::seen::{Seen, truth_of};
 use smv_text::Function;
 use word_core::{WIDEST, Word, slice, uext};
 
-/// A function of one argument.
+/// Returns the value of a function of one argument.
+///
+/// An integer result must fit 64 bits.
 pub fn call_one(f: Function, a: &Seen) -> Plain
     requires { Fits (called f (seen_value a.now ∷ [])) }
     ensures { plain_value result ≡ called f (seen_value a.now ∷ []) }
@@ -58,7 +60,7 @@ pub fn call_one(f: Function, a: &Seen) -> Plain
     }
 }
 
-// The word of one bit.
+// The truth value as a word of one bit.
 fn word_of_truth(b: bool) -> Plain
     ensures { plain_value result ≡ called OfFunction.Word1 (OfValue.Truth b ∷ []) }
 {
@@ -68,7 +70,9 @@ fn word_of_truth(b: bool) -> Plain
     }
 }
 
-/// A function of two arguments.
+/// Returns the value of a function of two arguments.
+///
+/// An integer result must fit 64 bits.
 pub fn call_two(f: Function, a: &Seen, b: &Seen) -> Plain
     requires { Fits (called f (seen_value a.now ∷ seen_value b.now ∷ [])) }
     ensures { plain_value result ≡ called f (seen_value a.now ∷ seen_value b.now ∷ []) }
@@ -101,7 +105,7 @@ pub fn call_two(f: Function, a: &Seen, b: &Seen) -> Plain
     }
 }
 
-// `uwconst`: the number as a word of the width.
+// `uwconst`: the number as a word of this width.
 fn constant(a: &Seen, b: &Seen) -> Plain
     ensures { plain_value result ≡ called OfFunction.Uwconst (seen_value a.now ∷ seen_value b.now ∷ []) }
 {
@@ -127,7 +131,7 @@ fn word_of_number(v: i64, n: i64) -> Plain
     }
 }
 
-// `extend`: the word with so many zeros in front.
+// `extend`: the word with this many leading zeros added.
 fn extended(a: &Seen, b: &Seen) -> Plain
     ensures { plain_value result ≡ called OfFunction.Extend (seen_value a.now ∷ seen_value b.now ∷ []) }
 {
@@ -154,7 +158,7 @@ fn longer(w: Word, n: i64) -> Plain
     }
 }
 
-// `resize`: the low part of the word, or the word with zeros in front.
+// `resize`: the low bits of the word, or the word with leading zeros.
 fn with_width(a: &Seen, b: &Seen) -> Plain
     ensures { plain_value result ≡ called OfFunction.Resize (seen_value a.now ∷ seen_value b.now ∷ []) }
 {

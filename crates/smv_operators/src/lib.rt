@@ -1,4 +1,4 @@
-//! Operators and functions on values, each by its definition.
+//! SMV operators and functions on values, each by its definition.
 #![tactic(auto)]
 
 mod functions;

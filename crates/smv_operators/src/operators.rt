@@ -1,4 +1,4 @@
-// The operators on values, each by its definition.
+// Operators on values, each by its definition.
 ghost use Rattle.std.specs.Prelude.{◌≡◌, ◌+ℤ◌, ◌-ℤ◌, ◌*ℤ◌, ◌%◌, ◌&&◌, ◌||◌, ◌≤◌, ◌<◌, ◌^◌, not, pos, int_div, int_lt, int_le, [], ◌∷◌, ℕ};
 ghost use Rattle.word_core.specs.Table.{BinaryFits};
 ghost use Rattle.word_core.specs.declared.kinds.Binary.TheVariants as OnWords;
@@ -12,7 +12,7 @@ use crate::seen::{Seen, are_same};
 use smv_text::{Infix, Prefix};
 use word_core::{Binary, Unary, WIDEST, Word, binary, slice, uext, unary};
 
-/// Two operands of one kind.
+/// Two operands of the same kind, or `Mixed` for any others.
 #[derive(Clone, Copy)]
 pub enum Pair {
     Truths(bool, bool),
@@ -21,7 +21,7 @@ pub enum Pair {
     Mixed,
 }
 
-/// What an operator gives: no symbol.
+/// The result of an operator: a value that is not a symbol.
 #[derive(Clone, Copy)]
 pub enum Plain {
     Truth(bool),
@@ -29,7 +29,7 @@ pub enum Plain {
     Bits(Word),
 }
 
-/// The value itself.
+/// Converts the value to one that may borrow a symbol.
 pub fn seen_of<'a>(value: Plain) -> Seen<'a>
     ensures { seen_value result ≡ plain_value value }
 {
@@ -40,7 +40,7 @@ pub fn seen_of<'a>(value: Plain) -> Seen<'a>
     }
 }
 
-/// Are two values one?
+/// Returns whether two values are equal.
 pub fn are_same_plain(a: &Plain, b: &Seen) -> bool
     ensures { result ≡ value_same (plain_value a.now) (seen_value b.now) }
 {
@@ -51,14 +51,14 @@ pub fn are_same_plain(a: &Plain, b: &Seen) -> bool
     }
 }
 
-/// What stands for the value where there is none.
+/// Returns the stand-in for a missing value.
 pub fn no_plain() -> Plain
     ensures { plain_value result ≡ no_value }
 {
     Plain::Truth(false)
 }
 
-/// The operands, where they are of one kind.
+/// Returns the operands as a pair, `Mixed` where they are of different kinds or symbols.
 pub fn pair_of(a: &Seen, b: &Seen) -> Pair
     ensures { pair_operands result ≡ operands_of (seen_value a.now) (seen_value b.now) }
 {
@@ -79,7 +79,7 @@ pub fn pair_of(a: &Seen, b: &Seen) -> Pair
     }
 }
 
-// An operator on two words of one width.
+// An operator on two words of the same width.
 fn on_words(op: Binary, v: Word, w: Word) -> Plain
     requires { (m n : ℕ) → m ≡ n → BinaryFits op m n }
     ensures { plain_value result ≡ words_by op v w }
@@ -91,7 +91,7 @@ fn on_words(op: Binary, v: Word, w: Word) -> Plain
     }
 }
 
-// A comparison of two words of one width.
+// A comparison of two words of the same width.
 fn compare_words(op: Binary, v: Word, w: Word) -> Plain
     requires { (m n : ℕ) → m ≡ n → BinaryFits op m n }
     ensures { plain_value result ≡ words_compared op v w }
@@ -115,7 +115,9 @@ pub fn negate(value: &Seen) -> Plain
     }
 }
 
-/// Unary `-`.
+/// Returns the value of unary `-`.
+///
+/// An integer result must fit 64 bits.
 pub fn minus_of(value: &Seen) -> Plain
     requires { Fits (minus (seen_value value.now)) }
     ensures { plain_value result ≡ minus (seen_value value.now) }
@@ -128,7 +130,9 @@ pub fn minus_of(value: &Seen) -> Plain
     }
 }
 
-/// A sign that stands an odd number of times.
+/// Returns the value of a prefix operator that is repeated an odd number of times.
+///
+/// An integer result must fit 64 bits.
 pub fn prefix_value(sign: Prefix, count: u32, value: &Seen) -> Plain
     requires odd { count % 2 ≡ 1 }
     requires fits { Fits (signed sign count (seen_value value.now)) }
@@ -298,7 +302,7 @@ fn rest(a: &Seen, b: &Seen) -> Plain
     }
 }
 
-// The rest of a division cut toward zero; nothing is left of a division by -1.
+// The remainder of a division that truncates toward zero; it is 0 for the divisor -1.
 fn rest_of(x: i64, y: i64) -> i64
     ensures { result ≡ int_mod x y }
 {
@@ -366,7 +370,9 @@ fn concatenation(a: &Seen, b: &Seen) -> Plain
     }
 }
 
-/// An operator between two values; sets are not values.
+/// Returns the value of a binary operator on two values; sets are not values.
+///
+/// An integer result must fit 64 bits.
 pub fn apply(op: Infix, a: &Seen, b: &Seen) -> Plain
     requires { Fits (applied op (seen_value a.now) (seen_value b.now)) }
     ensures { plain_value result ≡ applied op (seen_value a.now) (seen_value b.now) }
@@ -397,7 +403,7 @@ pub fn apply(op: Infix, a: &Seen, b: &Seen) -> Plain
     }
 }
 
-/// The bits from high to low.
+/// Returns the bits of a word from `high` down to `low`.
 pub fn selection(high: u64, low: u64, value: &Seen) -> Plain
     ensures { plain_value result ≡ selected high low (seen_value value.now) }
 {

@@ -1,4 +1,4 @@
-// Values whose symbols are borrowed, so that an evaluation copies no name.
+// Values that borrow their symbols, so that evaluation copies no names.
 ghost use Rattle.std.specs.Prelude.{◌≡◌, ◌^◌, ◌<◌, IfOk};
 ghost use Rattle.smv_meaning.specs.Values.{is_true, value_same, no_value};
 ghost use Rattle.smv_operators.specs.View.{seen_value};
@@ -8,7 +8,7 @@ use std::alloc::Global;
 use text_core::{Name, NoMemory};
 use word_core::Word;
 
-/// A value, its symbol borrowed.
+/// A value that borrows its symbol.
 #[derive(Drop)]
 pub enum Seen<'a> {
     Truth(bool),
@@ -17,14 +17,14 @@ pub enum Seen<'a> {
     Bits(Word),
 }
 
-/// What stands for the value where there is none.
+/// Returns the stand-in for a missing value.
 pub fn no_seen<'a>() -> Seen<'a>
     ensures { seen_value result ≡ no_value }
 {
     Seen::Truth(false)
 }
 
-/// The value itself.
+/// Borrows a value.
 pub fn borrow_value<'a>(value: &'a Value) -> Seen<'a>
     ensures { seen_value result ≡ value.now }
 {
@@ -36,7 +36,7 @@ pub fn borrow_value<'a>(value: &'a Value) -> Seen<'a>
     }
 }
 
-/// A copy, which borrows the same symbol.
+/// Copies a value; the copy borrows the same symbol.
 pub fn copy_value<'a>(value: &Seen<'a>) -> Seen<'a>
     ensures { result ≡ value.now }
 {
@@ -48,7 +48,7 @@ pub fn copy_value<'a>(value: &Seen<'a>) -> Seen<'a>
     }
 }
 
-/// The same value with a symbol of its own.
+/// Converts the value to one that owns its symbol.
 pub fn into_value(alloc: Global, value: Seen) -> Result<Value, NoMemory>
     ensures { IfOk result (λ v. v ≡ seen_value value.entry) }
 {
@@ -60,7 +60,7 @@ pub fn into_value(alloc: Global, value: Seen) -> Result<Value, NoMemory>
     }
 }
 
-/// Is it the truth value TRUE?
+/// Returns whether the value is TRUE.
 pub fn truth_of(value: &Seen) -> bool
     ensures { result ≡ is_true (seen_value value.now) }
 {
@@ -72,7 +72,7 @@ pub fn truth_of(value: &Seen) -> bool
     }
 }
 
-/// Are two values one?
+/// Returns whether two values are equal.
 pub fn are_same(a: &Seen, b: &Seen) -> bool
     ensures { result ≡ value_same (seen_value a.now) (seen_value b.now) }
 {

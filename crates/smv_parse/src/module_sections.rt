@@ -1,4 +1,4 @@
-// The sections of a module, and modules.
+// Sections of a module, and modules.
 
 ghost use Rattle.std.specs.Prelude.{◌≡◌, ◌<◌, ◌≤◌, ◌-◌, ◌^◌, Option, suc, length, map, IfOk};
 ghost use Rattle.text_core.specs.declared.place.Place.{Place};
@@ -48,7 +48,7 @@ fn item<'a>(
     ))
 }
 
-// Declarations, as long as a name comes.
+// Declarations, as long as a name comes next.
 fn items<'a>(
     alloc: Global,
     kind: VarKind,
@@ -71,7 +71,7 @@ fn items<'a>(
     Ok((all, high, rest))
 }
 
-// What is assigned, from `:=` to the semicolon.
+// The right side of an assignment, from `:=` to the semicolon.
 #[inline(always)]
 fn body<'a>(
     alloc: Global,
@@ -102,7 +102,7 @@ fn definition<'a>(
     Ok((Definition { name, place, body }, high, last))
 }
 
-// Definitions, as long as a name comes.
+// Definitions, as long as a name comes next.
 fn definitions<'a>(
     alloc: Global,
     high: Option<Place>,
@@ -168,7 +168,7 @@ fn assignment<'a>(
     Ok((Assignment { when, target, body }, high, last))
 }
 
-// Does the left side of an assignment begin here?
+// Whether the left side of an assignment begins here.
 fn first_is_target(tokens: &[Token]) -> bool
     ensures { result ≡ first_is begins_target tokens.now }
 {
@@ -187,7 +187,7 @@ fn first_is_target(tokens: &[Token]) -> bool
     }
 }
 
-// Assignments, as long as the left side of one comes.
+// Assignments, as long as the left side of one comes next.
 fn assignments<'a>(
     alloc: Global,
     high: Option<Place>,
@@ -209,7 +209,7 @@ fn assignments<'a>(
     Ok((all, high, rest))
 }
 
-// An expression, and a semicolon behind it or none.
+// An expression, and an optional semicolon after it.
 fn constraint<'a>(
     alloc: Global,
     high: Option<Place>,
@@ -226,7 +226,7 @@ fn constraint<'a>(
     }
 }
 
-// The name of an invariant, or none.
+// The optional name of an invariant.
 fn label<'a>(alloc: Global, tokens: &'a [Token]) -> Result<(Option<Name>, &'a [Token]), Stop>
     ensures reads { (h : Option Place) → Gives (λ y. (y.0, h, y.1.now)) (label h tokens.now) result }
     ensures within { IfOk result (λ y. length y.1.now ≤ length tokens.now) }
@@ -256,7 +256,7 @@ fn variables<'a>(
     Ok((Element::Vars(kind, all), high, rest))
 }
 
-// The rest of an invariant to be checked, with its name or none.
+// The rest of an `INVARSPEC`, with its optional name.
 fn specification<'a>(
     alloc: Global,
     high: Option<Place>,
@@ -271,7 +271,7 @@ fn specification<'a>(
     Ok((Element::Spec(name, value), high, last))
 }
 
-// The section that this word begins, behind the word.
+// The section that this word begins, after the word.
 fn section<'a>(
     alloc: Global,
     word: Reserved,
@@ -333,7 +333,7 @@ fn element<'a>(
     }
 }
 
-// Does a section begin here?
+// Whether a section begins here.
 fn first_is_section(tokens: &[Token]) -> bool
     ensures { result ≡ first_is begins_section tokens.now }
 {
@@ -358,7 +358,7 @@ fn first_is_section(tokens: &[Token]) -> bool
     }
 }
 
-// Sections, as long as the word of one comes.
+// Sections, as long as the word of one comes next.
 fn elements<'a>(
     alloc: Global,
     high: Option<Place>,
@@ -380,7 +380,7 @@ fn elements<'a>(
     Ok((all, high, rest))
 }
 
-// The rest of a module, behind its first word.
+// The rest of a module, after its first word.
 fn module_rest<'a>(
     alloc: Global,
     high: Option<Place>,
@@ -407,7 +407,9 @@ fn module_rest<'a>(
     ))
 }
 
-/// Modules, as long as the word of one comes, the place of the first expression that is too high, and the tokens behind.
+/// Parses modules as long as the word `MODULE` comes next.
+///
+/// Returns them, the place of the first expression that is too high so far, and the remaining tokens.
 pub(crate) fn modules<'a>(
     alloc: Global,
     high: Option<Place>,

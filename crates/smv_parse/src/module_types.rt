@@ -21,7 +21,7 @@ use smv_text::{
 use std::alloc::Global;
 use text_core::{Name, Names, Place};
 
-/// An identifier that comes first, its place and the tokens behind it.
+/// Parses an identifier, and returns it, its place and the tokens after it.
 #[inline(always)]
 pub(crate) fn placed_name<'a>(
     alloc: Global,
@@ -34,7 +34,7 @@ pub(crate) fn placed_name<'a>(
     Ok((name, start(tokens), rest))
 }
 
-/// Does an identifier come first?
+/// Returns whether an identifier comes first.
 pub(crate) fn first_is_name(tokens: &[Token]) -> bool
     ensures { result ≡ first_is is_name tokens.now }
 {
@@ -47,7 +47,8 @@ pub(crate) fn first_is_name(tokens: &[Token]) -> bool
     }
 }
 
-/// An expression that comes first, the tokens behind it, and the place of the first that is too high so far.
+/// Parses an expression, and returns it, the place of the first expression that is too high so far, and the tokens
+/// after it.
 #[inline(always)]
 pub(crate) fn kept_expression<'a>(
     alloc: Global,
@@ -64,7 +65,7 @@ pub(crate) fn kept_expression<'a>(
     Ok((kept.expr, high_now, rest))
 }
 
-// The first place that is too high, where an expression of this height stands here.
+// The place of the first expression that is too high, after an expression of this height at this place.
 fn high_after(high: Option<Place>, height: u32, place: Place) -> Option<Place>
     ensures { result ≡ high_or high height place }
 {
@@ -80,7 +81,7 @@ fn place_of(expr: &Expr) -> Place
     expr.place
 }
 
-/// The parameters of a module's head: none, or those in brackets.
+/// Parses the optional parameters of a module's head, in brackets.
 pub(crate) fn formals<'a>(
     alloc: Global,
     tokens: &'a [Token],
@@ -97,7 +98,7 @@ pub(crate) fn formals<'a>(
     }
 }
 
-// One or more parameters, and the bracket behind them.
+// One or more parameters, and the closing bracket.
 fn parameters<'a>(alloc: Global, tokens: &'a [Token]) -> Result<(Parameters, &'a [Token]), Stop>
     ensures reads { (h : Option Place) → Gives (λ y. (y.0, h, y.1.now)) (listed parameter sign.Close h tokens.now) result }
     ensures within { IfOk result (λ y. length y.1.now ≤ length tokens.now) }
@@ -122,7 +123,7 @@ fn parameter<'a>(alloc: Global, tokens: &'a [Token]) -> Result<(Parameter, &'a [
     Ok((Parameter { name, place }, rest))
 }
 
-/// A symbol or an integer.
+/// Parses a member of an enumeration: a symbol or an integer.
 fn member<'a>(alloc: Global, tokens: &'a [Token]) -> Result<(Member, &'a [Token]), Stop>
     ensures reads { (h : Option Place) → Gives (λ y. (y.0, h, y.1.now)) (member h tokens.now) result }
     ensures shorter { IfOk result (λ y. length y.1.now < length tokens.now) }
@@ -136,7 +137,7 @@ fn member<'a>(alloc: Global, tokens: &'a [Token]) -> Result<(Member, &'a [Token]
     }
 }
 
-// One or more members, and the brace behind them.
+// One or more members, and the closing brace.
 fn members<'a>(alloc: Global, tokens: &'a [Token]) -> Result<(Members, &'a [Token]), Stop>
     ensures reads { (h : Option Place) → Gives (λ y. (y.0, h, y.1.now)) (listed member sign.CloseBrace h tokens.now) result }
     ensures within { IfOk result (λ y. length y.1.now ≤ length tokens.now) }
@@ -153,7 +154,7 @@ fn members<'a>(alloc: Global, tokens: &'a [Token]) -> Result<(Members, &'a [Toke
     Ok((all, last))
 }
 
-/// One or more symbols, and the semicolon behind them.
+/// Parses one or more symbols, and the semicolon after them.
 pub(crate) fn symbols<'a>(alloc: Global, tokens: &'a [Token]) -> Result<(Names, &'a [Token]), Stop>
     ensures reads { (h : Option Place) → Gives (λ y. (y.0, h, y.1.now)) (listed symbol sign.Semicolon h tokens.now) result }
     ensures within { IfOk result (λ y. length y.1.now ≤ length tokens.now) }
@@ -170,7 +171,7 @@ pub(crate) fn symbols<'a>(alloc: Global, tokens: &'a [Token]) -> Result<(Names, 
     Ok((all, last))
 }
 
-/// The actual parameters of an instance: none, or those in brackets.
+/// Parses the optional actual parameters of an instance, in brackets.
 fn actuals<'a>(
     alloc: Global,
     high: Option<Place>,
@@ -189,7 +190,7 @@ fn actuals<'a>(
     }
 }
 
-// One or more expressions, and the bracket behind them.
+// One or more expressions, and the closing bracket.
 fn arguments<'a>(
     alloc: Global,
     high: Option<Place>,
@@ -234,7 +235,7 @@ fn interval(tokens: &[Token]) -> Result<(Domain, &[Token]), Stop>
     Ok((Domain::Between(low, high), last))
 }
 
-// A type that begins with this word, and the tokens behind the word.
+// A type that begins with this word, and the tokens after it.
 fn word_type(word: Reserved, tokens: &[Token]) -> Result<(Domain, &[Token]), Stop>
     ensures reads { (h : Option Place) → (k : VarKind) → (p : Place) → Gives (λ y. (plain_domain y.0, h, y.1.now)) (picked (domain_pick k (kind.Reserved word) p) h tokens.now (died (suc (length tokens.now)))) result }
     ensures within { IfOk result (λ y. length y.1.now ≤ length tokens.now) }
@@ -256,7 +257,7 @@ fn word_type(word: Reserved, tokens: &[Token]) -> Result<(Domain, &[Token]), Sto
     }
 }
 
-/// What a variable of this kind ranges over.
+/// Parses the type of a variable of this kind, or the module and actuals of an instance.
 pub(crate) fn domain<'a>(
     alloc: Global,
     kind: VarKind,
@@ -287,7 +288,7 @@ pub(crate) fn domain<'a>(
     }
 }
 
-// The rest of an instance, which stands for a variable of the state alone.
+// The rest of an instance, which is allowed only in `VAR`.
 fn instance<'a>(
     alloc: Global,
     kind: VarKind,
@@ -308,7 +309,7 @@ fn instance<'a>(
     }
 }
 
-// The same as an interval.
+// An interval of integers.
 fn bounds(high: Option<Place>, tokens: &[Token]) -> Result<(Domain, Option<Place>, &[Token]), Stop>
     ensures reads { Gives (λ y. (plain_domain y.0, y.1, y.2.now)) (interval high tokens.now) result }
     ensures within { IfOk result (λ y. length y.2.now ≤ length tokens.now) }

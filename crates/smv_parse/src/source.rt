@@ -16,19 +16,24 @@ use std::alloc::Global;
 use text_core::kinds::smv;
 use text_core::{End, Kind, Place, Refusal};
 
-/// Why tokens give no model. They are refused with S5 at the first token that no model's text goes on with, or at the end of
-/// the text where it only ends too early; with S6 there, where that token is a word of NuSMV that is not supported; with S7 at
-/// the first token of the first expression that is more than 380 levels high, where the tokens are a model's.
+/// The failure of the parser: a refusal, or out of memory.
+///
+/// `S5` is the first token at which no model can continue, or the end of the text where it ends too early. `S6` is the
+/// same where that token is a word of NuSMV that is not supported. `S7` is the first token of the first expression that
+/// is more than 380 levels high, where the tokens spell a model.
 pub type ParseEnd = End;
 
-/// The model that the tokens spell (NuSMV 2.6 User Manual, 2.3). Each module counts the tokens of its body.
+/// Parses the tokens to the model that they spell (NuSMV 2.6 User Manual, 2.3).
+///
+/// Each module stores the number of tokens of its body. `Err` is the first refusal, `S5`, `S6` or `S7`, or out of
+/// memory.
 pub fn parse(alloc: Global, tokens: &Tokens) -> Result<Source, ParseEnd>
     requires { length tokens.now.items < 2 ^ 32 }
     // The tokens spell the model, and no expression of it is too high.
     ensures spelled { IfOk result (λ s. SpellsSource (plain_source s) tokens.now.end tokens.now.items × (first_high (of_modules (plain_source s).modules) ≡ None)) }
-    // What they spell is read, unless an expression is too high or memory runs out.
+    // The model that they spell is returned, unless an expression is too high or memory runs out.
     ensures exact { (s : PlainSource) → SpellsSource s tokens.now.end tokens.now.items → ReadsOrHigh s result }
-    // A refusal has its cause: an expression that is too high, or the dead token.
+    // A refusal has its cause: an expression that is too high, or the token at which no model can continue.
     ensures refused { IfErr result (IsRefused tokens.now) }
 {
     let all = tokens.as_slice();
@@ -54,7 +59,7 @@ pub fn parse(alloc: Global, tokens: &Tokens) -> Result<Source, ParseEnd>
     }
 }
 
-// The refusal of the first token, which is dead, or of the end.
+// The refusal at the first token, at which no model can continue, or at the end.
 fn dead_refusal(end: Place, tokens: &[Token]) -> Refusal
     ensures { result ≡ dead_refusal end tokens.now }
 {
@@ -70,7 +75,7 @@ fn dead_refusal(end: Place, tokens: &[Token]) -> Refusal
     }
 }
 
-// The kind of the refusal of a dead token.
+// The kind of refusal for a token at which no model can continue.
 fn dead_kind(kind: &TokenKind) -> Kind
     ensures { result ≡ Kind.S (number_at kind.now) }
 {

@@ -1,4 +1,4 @@
-//! The printed form of a model's tree.
+//! The printer of SMV models.
 #![tactic(auto)]
 
 mod printing;

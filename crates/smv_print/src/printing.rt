@@ -33,10 +33,10 @@ use smv_text::{
 use std::alloc::Global;
 use text_core::{Name, Names, NoMemory, Text};
 
-// The place behind all levels.
+// The rank after all levels.
 const TIGHTEST: u8 = 16;
 
-// Names with the sign between two, and also before the first where it is wanted there.
+// Names with the sign between them, and also before the first where `first` is set.
 fn put_names(out: &mut Text, sign: Sign, first: bool, names: &Names) -> Result<(), NoMemory>
     ensures { OnOk result (out.new ≡ out.old ++ spaced (parted sign first (map ident names.now))) }
 {
@@ -60,7 +60,7 @@ fn put_path(out: &mut Text, path: &Path) -> Result<(), NoMemory>
     }
 }
 
-// The place among all levels, from the loosest at 0.
+// The rank of a level among all levels, from 0 for the loosest.
 fn rank(level: Level) -> u8
     ensures { result ≡ rank level }
 {
@@ -101,7 +101,7 @@ fn chain_class(links: &[Link]) -> OperatorClass
     }
 }
 
-// The place of an expression's level among all levels.
+// The rank of an expression's level.
 fn rank_of(expr: &Expr) -> u8
     ensures { result ≡ tree_rank (plain expr.now) }
 {
@@ -115,7 +115,8 @@ fn rank_of(expr: &Expr) -> u8
     }
 }
 
-// An expression where a level of this place is wanted: bare if its own level is that one or a tighter one, else in brackets.
+// An expression where a level of rank `floor` is required: bare if its own level has this rank or a tighter one, else
+// in brackets.
 #[cycle(put)]
 fn put_standing(out: &mut Text, floor: u8, expr: &Expr) -> Result<(), NoMemory>
     ensures { OnOk result (out.new ≡ out.old ++ spaced (standing floor (plain expr.now) (tree_kinds (plain expr.now)))) }
@@ -173,7 +174,7 @@ fn put_prefixed(out: &mut Text, prefix: Prefix, count: u32, operand: &Expr) -> R
     put_standing(out, rank(Level::Before(prefix)) + 1, operand)
 }
 
-// The ends of a bit selection, in their brackets.
+// The bounds of a bit selection, in brackets.
 fn put_ends(out: &mut Text, high: u64, low: u64) -> Result<(), NoMemory>
     ensures { OnOk result (out.new ≡ out.old ++ spaced (TokenKind.Sign Sign.OpenBracket ∷ TokenKind.Number high ∷ TokenKind.Sign Sign.Colon ∷ TokenKind.Number low ∷ TokenKind.Sign Sign.CloseBracket ∷ [])) }
 {
@@ -205,7 +206,7 @@ fn put_links(out: &mut Text, floor: u8, links: &[Link]) -> Result<(), NoMemory>
     Ok(())
 }
 
-// Conditions with their values, each behind its sign.
+// Conditions with their values, each followed by its sign.
 #[cycle(put)]
 fn put_choices(out: &mut Text, branches: &[Branch]) -> Result<(), NoMemory>
     ensures { OnOk result (out.new ≡ out.old ++ spaced (choice_kinds (branches_of (map plain_branch branches.now)))) }
@@ -346,7 +347,7 @@ fn put_items(out: &mut Text, items: &Items) -> Result<(), NoMemory>
     Ok(())
 }
 
-// What is assigned, behind its sign.
+// The right side of an assignment, after its sign.
 fn put_body(out: &mut Text, body: &Expr) -> Result<(), NoMemory>
     ensures { OnOk result (out.new ≡ out.old ++ spaced (body_kinds (plain body.now))) }
 {
@@ -354,7 +355,7 @@ fn put_body(out: &mut Text, body: &Expr) -> Result<(), NoMemory>
     put_formula(out, body)
 }
 
-// An expression, and the sign that ends it.
+// An expression, and the semicolon that ends it.
 fn put_formula(out: &mut Text, expr: &Expr) -> Result<(), NoMemory>
     ensures { OnOk result (out.new ≡ out.old ++ spaced (formula_kinds (plain expr.now))) }
 {
@@ -378,7 +379,7 @@ fn put_definitions(out: &mut Text, definitions: &Definitions) -> Result<(), NoMe
     Ok(())
 }
 
-// A path in brackets behind a word.
+// A path in brackets, after a word.
 fn put_moment(out: &mut Text, word: Reserved, path: &Path) -> Result<(), NoMemory>
     ensures { OnOk result (out.new ≡ out.old ++ spaced (TokenKind.Reserved word ∷ in_brackets (path_kinds path.now))) }
 {
@@ -432,7 +433,7 @@ fn put_constants(out: &mut Text, names: &Names) -> Result<(), NoMemory>
     put_sign(out, Sign::Semicolon)
 }
 
-// The name of an invariant, where it has one.
+// The name of an invariant, if it has one.
 fn put_spec_name(out: &mut Text, name: &Option<Name>) -> Result<(), NoMemory>
     ensures { OnOk result (out.new ≡ out.old ++ spaced (spec_name_kinds name.now)) }
 {
@@ -513,7 +514,7 @@ fn put_parameters(out: &mut Text, parameters: &Parameters) -> Result<(), NoMemor
     put_sign(out, Sign::Close)
 }
 
-// A module behind its first word.
+// A module after its first word.
 fn put_rest(out: &mut Text, declared: &Module) -> Result<(), NoMemory>
     ensures { OnOk result (out.new ≡ out.old ++ spaced (rest_kinds (plain_module declared.now))) }
 {
@@ -522,7 +523,7 @@ fn put_rest(out: &mut Text, declared: &Module) -> Result<(), NoMemory>
     put_elements(out, &declared.elements)
 }
 
-// A module, with a blank before it where it stands behind another.
+// A module, with a blank before it unless it is the first.
 fn put_module(out: &mut Text, behind: bool, declared: &Module) -> Result<(), NoMemory>
     ensures { OnOk result (out.new ≡ out.old ++ written behind (module_kinds (plain_module declared.now))) }
 {
@@ -530,9 +531,12 @@ fn put_module(out: &mut Text, behind: bool, declared: &Module) -> Result<(), NoM
     put_rest(out, declared)
 }
 
-/// Writes a model in one spelling: single blanks between the tokens and no line end, brackets only where the grammar needs
-/// them, every `;` that may stand, no brackets for an empty list of parameters, `word` without `unsigned`, and a word
-/// literal as `0ud`, its width, `_` and its decimal digits (NuSMV 2.6 User Manual, 2.2 and 2.3). The layout is our own.
+/// Returns the text of a model in a canonical spelling.
+///
+/// There are single blanks between the tokens and no line ends. Brackets appear only where the grammar needs them; a
+/// `;` wherever one is allowed. An empty list of parameters has no brackets, and `word` stands without `unsigned`. A
+/// word literal is `0ud`, its width, `_` and its decimal digits (NuSMV 2.6 User Manual, 2.2 and 2.3). The layout is our
+/// own.
 pub fn print(alloc: Global, source: &Source) -> Result<Text, NoMemory>
     ensures { IfOk result (λ text. text ≡ printed (plain_source source.now)) }
 {
@@ -545,26 +549,27 @@ pub fn print(alloc: Global, source: &Source) -> Result<Text, NoMemory>
     Ok(out)
 }
 
-/// Tokens of the kinds that are printed spell the same again. Where some tokens spell an expression, all tokens of the
-/// kinds that are printed for it spell one that differs from it in places alone; so do those of a model, which may also
-/// differ in its counts of tokens. Models that differ in nothing else have one printed form.
+/// Proves that the printed tokens spell the same tree again, except for places and counts of tokens.
+///
+/// For an expression that some tokens spell, the printed tokens spell one that differs only in places. A model may also
+/// differ in its counts of tokens. Models with no other difference have the same printed form.
 pub fn printed_spells()
     ensures expressions { (levels : List Level) (t : Tree) (xs ys : List Token) → Spells levels t xs → kinds ys ≡ tree_kinds t → SpellsSame all_levels t ys }
     ensures sources { (source : PlainSource) (end place : Place) (xs ys : List Token) → SpellsSource source end xs → kinds ys ≡ source_kinds source → SpellsSameSource source place ys }
     ensures one_text { (source model : PlainSource) → unplaced_source source ≡ unplaced_source model → printed source ≡ printed model }
 {}
 
-/// The levels by which brackets are printed are those of the grammar.
+/// Proves that the levels by which the printer sets brackets are those of the grammar.
 pub fn ranks_are_levels()
     // The rank of a level is its place among all levels.
     ensures ranks { (l : Level) → drop (rank l) all_levels ≡ l ∷ drop (suc (rank l)) all_levels }
-    // An operator is printed as the token that the grammar reads as it.
+    // An operator is printed as the token that the grammar reads as this operator.
     ensures operators { (o : Infix) → infix_of (class_of o) (infix_kind o) ≡ Some o }
     // A chain has the rank of the level whose operators join it in the grammar.
     ensures chains { (c : OperatorClass) (k : TokenKind) (o : Infix) (p : Place) (t u : Tree) (ls : Links) → infix_of c k ≡ Some o → tree_rank (chain p t (link o u ls)) ≡ rank (Level.Chain c) }
 {}
 
-/// What is printed for a model that a text spells is lexed and spelled again, as the same model but for its places and its
+/// Proves that the printed form of a parsed model is lexed and parsed to the same model again, except for places and
 /// counts of tokens.
 pub fn printed_is_read()
     ensures { (source : PlainSource) (end : Place) (text : List ℕ) (xs : List Token) → Lexes text xs → SpellsSource source end xs → IsReadAgain source (printed source) }

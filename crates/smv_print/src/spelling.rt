@@ -1,4 +1,4 @@
-// Tokens as they are printed, each behind a single blank.
+// Printed tokens, each after a single blank.
 #![tactic(auto, unfolding(smv_lex::specs::Spelling::spelled))]
 
 ghost use Rattle.std.specs.Prelude.{◌≡◌, ◌++◌, [], ◌∷◌, OnOk};
@@ -17,7 +17,7 @@ pub(crate) fn put_word(out: &mut Text, word: Reserved) -> Result<(), NoMemory>
     out.put(word_bytes(word))
 }
 
-// A word, with a blank before it where it stands behind others.
+// A word, with a blank before it if `behind` is set.
 pub(crate) fn put_first(out: &mut Text, behind: bool, word: Reserved) -> Result<(), NoMemory>
     ensures { OnOk result (out.new ≡ out.old ++ written behind (TokenKind.Reserved word ∷ [])) }
 {
@@ -58,7 +58,7 @@ pub(crate) fn put_literal(out: &mut Text, word: &Word) -> Result<(), NoMemory>
     out.put_unsigned(word.bits())
 }
 
-// A sign, where it is wanted.
+// The sign, if it is wanted.
 pub(crate) fn put_wanted(out: &mut Text, is_wanted: bool, sign: Sign) -> Result<(), NoMemory>
     ensures { OnOk result (out.new ≡ out.old ++ spaced (wanted is_wanted sign)) }
 {
@@ -95,7 +95,7 @@ fn put_prefix(out: &mut Text, prefix: Prefix) -> Result<(), NoMemory>
     }
 }
 
-// A prefix, so many times.
+// A prefix operator, repeated `count` times.
 pub(crate) fn put_prefixes(out: &mut Text, prefix: Prefix, count: u32) -> Result<(), NoMemory>
     ensures { OnOk result (out.new ≡ out.old ++ spaced (repeated count (prefix_kind prefix))) }
 {

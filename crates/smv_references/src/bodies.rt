@@ -12,7 +12,8 @@ use smv_text::{Definitions, Element, Elements, Expr, Parameters, Shape};
 use std::alloc::Global;
 use text_core::{NoMemory, Place};
 
-/// A definition, or an actual by the name of its parameter: its instance, its name there and where it stands.
+/// A definition, or an actual under the name of its parameter: the number of its instance, its name there, and its
+/// place.
 #[derive(Drop)]
 pub struct Body<'a> {
     pub instance: usize,
@@ -35,7 +36,7 @@ fn add<'a>(
     })?)
 }
 
-/// Where an expression stands.
+/// Returns the place of an expression.
 pub fn place(e: &Expr) -> Place
     ensures { result ≡ place_of (plain e.now) }
 {
@@ -105,8 +106,9 @@ fn add_elements<'a>(
     Ok(())
 }
 
-/// The definitions and actuals of the model: instances in preorder, in each its actuals and then its definitions in the order of
-/// the text.
+/// Returns the definitions and actuals of the model.
+///
+/// Instances come in preorder. In each, its actuals come first, then its definitions in the order of the text.
 pub fn bodies_in<'a>(alloc: Global, table: &Table<'a>) -> Result<Vec<Body<'a>>, NoMemory>
     ensures { IfOk result (λ fs. map body_plain fs.items ≡ placed_bodies (map instance_plain table.now)) }
 {

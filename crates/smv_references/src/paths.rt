@@ -1,4 +1,4 @@
-// The paths of expressions.
+// The paths in expressions.
 ghost use Rattle.std.specs.Prelude.{◌≡◌, ◌++◌, ◌∷◌, [], List, map, flat_map, IfOk, OnOk, length};
 ghost use Rattle.smv_text.specs.Tree.{links_of, branches_of, trees_of};
 ghost use Rattle.smv_text.specs.View.{plain, plain_link, plain_branch};
@@ -10,7 +10,7 @@ use smv_text::{Branch, Expr, Link, Path, Shape};
 use std::alloc::Global;
 use text_core::NoMemory;
 
-/// The paths of an expression, in the order of the text.
+/// Returns the paths of an expression, in the order of the text.
 #[tactic(auto, using(crate::proofs::BodyLemmas::append_none))]
 pub fn paths_in<'a>(alloc: Global, e: &'a Expr) -> Result<Vec<&'a Path>, NoMemory>
     ensures { IfOk result (λ ps. map path_seen ps.items ≡ paths_of (plain e.now) []) }
@@ -20,7 +20,7 @@ pub fn paths_in<'a>(alloc: Global, e: &'a Expr) -> Result<Vec<&'a Path>, NoMemor
     Ok(paths)
 }
 
-/// Adds the paths of an expression, in the order of the text.
+/// Appends the paths of an expression, in the order of the text.
 #[tactic(auto, using(crate::proofs::BodyLemmas::append_none))]
 pub fn put_paths<'a>(paths: &mut Vec<&'a Path>, e: &'a Expr) -> Result<(), NoMemory>
     ensures { OnOk result (map path_seen paths.new.items ≡ map path_seen paths.old.items ++ paths_of (plain e.now) []) }
@@ -29,7 +29,7 @@ pub fn put_paths<'a>(paths: &mut Vec<&'a Path>, e: &'a Expr) -> Result<(), NoMem
     Ok(())
 }
 
-/// Adds the paths of expressions, in the order of the text.
+/// Appends the paths of several expressions, in the order of the text.
 #[tactic(auto, using(crate::proofs::BodyLemmas::append_none))]
 pub fn put_all_paths<'a>(paths: &mut Vec<&'a Path>, trees: &'a [Expr]) -> Result<(), NoMemory>
     ensures { OnOk result (map path_seen paths.new.items ≡ map path_seen paths.old.items ++ tree_paths (trees_of (map plain trees.now)) []) }
@@ -38,7 +38,7 @@ pub fn put_all_paths<'a>(paths: &mut Vec<&'a Path>, trees: &'a [Expr]) -> Result
     Ok(())
 }
 
-// More at the end is a list of its own, so that the clause holds within longer ones.
+// `more` stands for any further list, so that the clause also applies within longer lists.
 #[cycle(paths)]
 fn add_paths<'a>(paths: &mut Vec<&'a Path>, e: &'a Expr) -> Result<(), NoMemory>
     ensures { (more : List PlainPath) → OnOk result (map path_seen paths.new.items ++ more ≡ map path_seen paths.old.items ++ paths_of (plain e.now) more) }

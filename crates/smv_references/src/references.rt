@@ -1,4 +1,4 @@
-// To which definitions and actuals each refers, and an order in which each stands after these.
+// References between definitions and actuals, and an order with each after those to which it refers.
 ghost use Rattle.std.specs.Prelude.{◌≡◌, ◌<◌, ◌++◌, [], List, ℕ, map, IfOk, OnOk, unwrap_or};
 ghost use Rattle.digraph.specs.Ordering.{IsOrder};
 ghost use Rattle.smv_meaning.specs.Instances.{Instance as Specified};
@@ -20,19 +20,19 @@ use smv_text::{Expr, Path};
 use std::alloc::Global;
 use text_core::{List, Names, NoMemory};
 
-/// How the definitions and actuals of a model refer to one another.
+/// The result of ordering the definitions and actuals of a model by their references.
 #[derive(Drop)]
 pub enum Ordering {
-    /// None reaches itself; in this order of their numbers each stands after those to which it refers.
+    /// None reaches itself. In this order of their numbers, each comes after those to which it refers.
     Ordered(List<usize>),
     /// The number of the first one that reaches itself.
     Cycle(usize),
 }
 
-/// Numbers of definitions and actuals by their instances and names.
+/// The numbers of definitions and actuals, by instance and name.
 pub type BodyNumbers<'a> = InstanceRows<'a, usize>;
 
-/// The number of each definition and actual: the place of the first one of its instance and name.
+/// Returns the number of each definition and actual: the place of the first one with its instance and name.
 pub fn numbers_of<'a>(alloc: Global, bodies: &[Body<'a>]) -> Result<BodyNumbers<'a>, NoMemory>
     ensures { IfOk result (λ m. (i : ℕ) (x : List ℕ) → row_in m i x ≡ number_in (map key_of bodies.now) (i, x)) }
 {
@@ -53,7 +53,7 @@ fn number<'a>(numbers: &BodyNumbers<'a>, i: usize, x: &[u8]) -> usize
     }
 }
 
-// Adds the number of a name that is a definition or an actual, given what it is in its instance.
+// Adds the number of a name that is a definition or an actual, given the meaning of the name in its instance.
 fn note<'a>(
     numbers: &BodyNumbers<'a>,
     i: usize,
@@ -73,7 +73,7 @@ fn note<'a>(
     Ok(())
 }
 
-// Adds the numbers of the definitions and actuals that a path goes through.
+// Adds the numbers of the definitions and actuals on a path.
 #[tactic(auto, using(smv_meaning::specs::laws::Lists::front_is, smv_meaning::specs::laws::Lists::end_is, crate::proofs::ReferenceLemmas::path_numbers_none, crate::proofs::ReferenceLemmas::path_numbers_last, crate::proofs::ReferenceLemmas::path_numbers_more))]
 fn add_path_numbers<'a>(
     table: &Table<'a>,
@@ -145,7 +145,7 @@ fn body_row<'a>(
     Ok(row)
 }
 
-// The numbers of the definitions and actuals to which one refers.
+// The numbers of the definitions and actuals to which the given one refers.
 #[tactic(auto, using(crate::proofs::ReferenceLemmas::alias_row, crate::proofs::ReferenceLemmas::body_row, crate::proofs::ReferenceLemmas::no_row))]
 fn row_of<'a>(
     alloc: Global,
@@ -186,8 +186,10 @@ fn ordering_of(order: Order) -> Ordering
     }
 }
 
-/// An order in which each definition and actual stands after those to which it refers, where none reaches itself, else the first
-/// one that does, in the order of their numbers.
+/// Returns an order with each definition and actual after those to which it refers, or the first one that reaches
+/// itself.
+///
+/// The first one is the one with the least number.
 pub fn body_order<'a>(
     alloc: Global,
     table: &Table<'a>,

@@ -1,4 +1,4 @@
-// The bodies of a flat form, by the numbers of their items.
+// The bodies of a flat form, by item number.
 ghost use Rattle.std.specs.Prelude.{◌≡◌, true, ℕ, None, length, map, IfOk};
 ghost use Rattle.std.specs.List.{AllByRecursion};
 ghost use Rattle.digraph.specs.Graph.{are_distinct};
@@ -13,7 +13,7 @@ use smv_items::FlatItem;
 use std::alloc::Global;
 use text_core::NoMemory;
 
-/// The body of each item that has one.
+/// Returns, for each item, its body or None.
 pub(crate) fn bodies_of<'f>(
     alloc: Global,
     items: &[FlatItem],
@@ -43,7 +43,7 @@ fn no_bodies<'f>(alloc: Global, items: &[FlatItem]) -> Result<Vec<Option<&'f Fla
     Ok(bodies)
 }
 
-// Adds the formula, where it is a body.
+// Adds the formula, if it is a body.
 fn add_formula<'f>(formula: &'f FlatFormula, bodies: &mut Vec<Option<&'f FlatExpr>>)
     requires { CanAdd bodies.old.items formula.now.role }
     ensures { Added bodies.old.items bodies.new.items formula.now.role (plain_flat formula.now.body) }
@@ -58,7 +58,7 @@ fn add_formula<'f>(formula: &'f FlatFormula, bodies: &mut Vec<Option<&'f FlatExp
     }
 }
 
-// Gives an item its body.
+// Sets the body of an item.
 fn add_body<'f>(k: u32, body: &'f FlatExpr, bodies: &mut Vec<Option<&'f FlatExpr>>)
     requires { CanAdd bodies.old.items (OfRole.Body k) }
     ensures { Added bodies.old.items bodies.new.items (OfRole.Body k) (plain_flat body.now) }

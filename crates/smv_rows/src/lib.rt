@@ -1,4 +1,4 @@
-//! Rows of values of a flat form's items, and what its formulas say of rows.
+//! Rows of values of a flat form's items, and the truth of its formulas in rows.
 #![tactic(auto)]
 
 mod bodies;

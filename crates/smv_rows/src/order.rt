@@ -1,4 +1,4 @@
-// How rows of a flat form are filled.
+// The data needed to fill rows of a flat form.
 ghost use Rattle.std.specs.Prelude.{IfOk};
 ghost use Rattle.smv_rows.specs.Parts.{parts_plain};
 ghost use Rattle.smv_rows.specs.RowOrders.{IsOrderly, IsRowOrder};
@@ -12,8 +12,10 @@ use smv_flat::FlatExpr;
 use std::alloc::Global;
 use text_core::{List, NoMemory};
 
-/// How rows of a flat form are filled: the bodies by the numbers of their items, the order in which they are evaluated, the names
-/// of the items, and the place of each item's name among them.
+/// The data needed to fill rows of a flat form.
+///
+/// `bodies` has the body of each item, by number, and `order` is the order in which bodies are evaluated. `names` are
+/// the names of the items, and `places` has each item's kind and the place of its name.
 #[derive(Drop)]
 pub struct RowOrder<'f> {
     pub bodies: Vec<Option<&'f FlatExpr>>,
@@ -22,7 +24,7 @@ pub struct RowOrder<'f> {
     pub places: Vec<ItemPlace>,
 }
 
-/// How rows of the flat form are filled.
+/// Returns the data needed to fill rows of the flat form.
 pub fn row_order<'f>(alloc: Global, flat: &FlatParts<'f>) -> Result<RowOrder<'f>, NoMemory>
     requires { IsOrderly (parts_plain flat.now) }
     ensures { IfOk result (IsRowOrder flat.now) }

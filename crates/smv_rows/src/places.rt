@@ -7,7 +7,7 @@ use smv_items::{FlatItem, ItemKind};
 use std::alloc::Global;
 use text_core::NoMemory;
 
-/// What an item is, and the place of its name.
+/// The kind of an item, and the place of its name.
 #[derive(Clone, Copy)]
 pub struct ItemPlace {
     pub kind: ItemKind,
@@ -30,7 +30,7 @@ pub(crate) fn name_all(
     Ok(())
 }
 
-/// The place of each item's name.
+/// Returns the kind of each item and the place of its name.
 pub(crate) fn places_of(
     alloc: Global,
     items: &[FlatItem],

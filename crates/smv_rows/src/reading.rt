@@ -7,7 +7,7 @@ ghost use Rattle.smv_rows.specs.Reading.{all_read, expr_reads, link_reads, branc
 use smv_flat::{FlatBranch, FlatExpr, FlatLink, FlatShape};
 use text_core::{List, NoMemory};
 
-/// Adds the number of each item that stands in the expression.
+/// Adds the number of each item that occurs in the expression.
 #[cycle(reading)]
 pub(crate) fn add_read(e: &FlatExpr, row: &mut List<usize>) -> Result<(), NoMemory>
     ensures { OnOk result ((test : ℕ → Bool) → list_all test row.new ≡ (list_all test row.old && all_read test (plain_flat e.now))) }

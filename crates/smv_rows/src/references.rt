@@ -35,7 +35,7 @@ fn graph_of(alloc: Global, bodies: &[Option<&FlatExpr>]) -> Result<Graph, NoMemo
     Ok(graph)
 }
 
-/// An order of the items in which each body stands after the items that it reads.
+/// Returns an order of the items with each body after the items that it reads.
 pub(crate) fn order_of(alloc: Global, bodies: &[Option<&FlatExpr>]) -> Result<List<usize>, NoMemory>
     requires { HaveRanks bodies.now }
     ensures { IfOk result (IsOrderOf bodies.now) }

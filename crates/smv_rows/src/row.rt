@@ -1,4 +1,4 @@
-// Rows of values, filled again for each state.
+// Rows of values, refilled for each state.
 ghost use Rattle.std.specs.Prelude.{◌≡◌, ◌<◌, true, length, nat_lt, OnOk};
 ghost use Rattle.std.specs.List.{list_all};
 ghost use Rattle.smv_meaning.specs.Values.{Valuation, given};
@@ -20,7 +20,9 @@ use smv_operators::Seen;
 use std::alloc::Global;
 use text_core::{Names, NoMemory};
 
-/// The value of each item of a flat form under a state and a label, by the items' numbers, with room to fill it again.
+/// The value of each item of a flat form in a state and under a label, by item number.
+///
+/// A row can be refilled without new memory.
 #[derive(Drop)]
 pub struct Row<'a> {
     pub values: Vec<Seen<'a>>,
@@ -30,7 +32,7 @@ pub struct Row<'a> {
 }
 
 impl<'a> Row<'a> {
-    /// A row with no values yet.
+    /// Creates a row without values.
     pub fn new(alloc: Global) -> Row<'a> {
         Row {
             values: Vec::new(alloc),
@@ -40,8 +42,9 @@ impl<'a> Row<'a> {
         }
     }
 
-    /// Gives each variable its value of the state, or as an input of the label; the other items have none yet. A row to which
-    /// values are given again takes no more memory.
+    /// Sets each state and frozen variable to its value in the state, and each input to its value in the label.
+    ///
+    /// The other items have no value yet. Refilling a row takes no more memory.
     pub fn give(
         &mut self,
         order: &RowOrder,
@@ -49,7 +52,7 @@ impl<'a> Row<'a> {
         label: &'a State,
     ) -> Result<(), NoMemory>
         ensures values { OnOk result (Gives order.now (given state.now) (given label.now) self.new.values.items) }
-        // The row holds the values of the state and of the label.
+        // The row stores the values of the state and of the label.
         ensures state { OnOk result (HoldsState order.now (given state.now) self.new) }
         ensures label { OnOk result (HoldsLabel order.now (given label.now) self.new) }
     {
@@ -65,10 +68,12 @@ impl<'a> Row<'a> {
         Ok(())
     }
 
-    /// Gives each definition and actual the value of its body, each evaluated once.
+    /// Sets each definition and actual to the value of its body.
+    ///
+    /// Each body is evaluated once.
     pub fn evaluate(&mut self, flat: &FlatParts<'a>, order: &RowOrder)
         requires order { IsRowOrder flat.now order.now }
-        // Each integer on the way fits 64 bits.
+        // Each intermediate integer fits 64 bits.
         requires safe { CanFill flat.now self.old.values.items }
         ensures values { Fills flat.now self.old.values.items self.new.values.items }
         ensures state { self.new.state ≡ self.old.state }
@@ -81,7 +86,7 @@ impl<'a> Row<'a> {
         );
     }
 
-    /// Gives each variable its value of the state that the row holds, or as an input of the label that the other row holds.
+    /// Sets each variable to its value in this row's state, and each input to its value in the other row's label.
     pub fn give_again(&mut self, order: &RowOrder, other: &Row<'a>) -> Result<(), NoMemory>
         ensures { OnOk result ((state label : Valuation) → HoldsState order.now state self.old → HoldsLabel order.now label other.now → Gives order.now state label self.new.values.items) }
     {
@@ -95,7 +100,7 @@ impl<'a> Row<'a> {
     }
 }
 
-// Evaluates the bodies in their order.
+// Evaluates the bodies in order.
 fn fill_bodies<'a>(
     symbols: &'a Names,
     bodies: &[Option<&FlatExpr>],
@@ -114,7 +119,7 @@ fn fill_bodies<'a>(
     }
 }
 
-// Gives an item the value of its body, where it has one.
+// Sets an item to the value of its body, if it has one.
 fn fill_body<'a>(symbols: &'a Names, body: Option<&FlatExpr>, k: usize, values: &mut Vec<Seen<'a>>)
     requires low { k < length values.old.items }
     requires safe { BodySafe (symbol_value symbols.now) (row_values values.old.items) (body_plain body) }

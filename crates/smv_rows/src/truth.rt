@@ -1,4 +1,4 @@
-// What the formulas of a flat form say of rows.
+// The truth of a flat form's formulas in rows.
 ghost use Rattle.std.specs.Prelude.{◌≡◌, ◌==◌, map, slice_get};
 ghost use Rattle.std.specs.List.{list_all};
 ghost use Rattle.smv_meaning.specs.Values.{is_true as truth};
@@ -22,7 +22,7 @@ use smv_operators::{Seen, are_same, truth_of};
 use smv_text::When;
 use text_core::Names;
 
-// Is the expression true?
+// Whether the expression is true.
 fn is_true<'a>(symbols: &'a Names, e: &FlatExpr, now: &[Seen<'a>], later: &[Seen<'a>]) -> bool
     requires { RowSafe symbols.now now.now later.now (plain_flat e.now) }
     ensures { result ≡ truth (row_denote symbols.now now.now later.now (plain_flat e.now)).value }
@@ -36,7 +36,7 @@ fn is_same(a: When, b: When) -> bool
     a == b
 }
 
-// Does the formula hold, if it speaks of this time? An assignment permits the value of its item in the target.
+// Whether the formula holds, if it applies at this time. An assignment must permit the value of its item in `target`.
 fn formula_holds<'a>(
     symbols: &'a Names,
     formula: &FlatFormula,
@@ -101,9 +101,9 @@ fn formulas_hold<'a>(
     true
 }
 
-/// Do INIT and `init(x) :=` hold in the row?
+/// Returns whether all INIT and `init(x) :=` hold in the row.
 pub fn init_holds<'a>(flat: &FlatParts<'a>, row: &Row<'a>) -> bool
-    // Each integer on the way fits 64 bits.
+    // Each intermediate integer fits 64 bits.
     requires { AllSafe flat.now row.now.values.items row.now.values.items }
     ensures { result ≡ flat_init (parts_plain flat.now) (row_values row.now.values.items) (row_values row.now.values.items) }
 {
@@ -111,9 +111,9 @@ pub fn init_holds<'a>(flat: &FlatParts<'a>, row: &Row<'a>) -> bool
     formulas_hold(flat, When::First, values, values, values)
 }
 
-/// Do INVAR and `x :=` hold in the row?
+/// Returns whether all INVAR and `x :=` hold in the row.
 pub fn invar_holds<'a>(flat: &FlatParts<'a>, row: &Row<'a>) -> bool
-    // Each integer on the way fits 64 bits.
+    // Each intermediate integer fits 64 bits.
     requires { AllSafe flat.now row.now.values.items row.now.values.items }
     ensures { result ≡ flat_invar (parts_plain flat.now) (row_values row.now.values.items) (row_values row.now.values.items) }
 {
@@ -121,9 +121,11 @@ pub fn invar_holds<'a>(flat: &FlatParts<'a>, row: &Row<'a>) -> bool
     formulas_hold(flat, When::Always, values, values, values)
 }
 
-/// Do TRANS and `next(x) :=` hold between the row of a state and its label and that of the following state?
+/// Returns whether all TRANS and `next(x) :=` hold between two rows.
+///
+/// `now` is the row of a state and its label, and `later` that of the following state.
 pub fn trans_holds<'a>(flat: &FlatParts<'a>, now: &Row<'a>, later: &Row<'a>) -> bool
-    // Each integer on the way fits 64 bits.
+    // Each intermediate integer fits 64 bits.
     requires { AllSafe flat.now now.now.values.items later.now.values.items }
     ensures { result ≡ flat_trans (parts_plain flat.now) (row_values now.now.values.items) (row_values later.now.values.items) }
 {
@@ -132,7 +134,7 @@ pub fn trans_holds<'a>(flat: &FlatParts<'a>, now: &Row<'a>, later: &Row<'a>) -> 
     formulas_hold(flat, When::Following, following, values, following)
 }
 
-// Is the value kept, where the item is a frozen variable?
+// Whether the value is unchanged, if the item is a frozen variable.
 fn kind_stays<'a>(kind: ItemKind, k: usize, now: &[Seen<'a>], later: &[Seen<'a>]) -> bool
     ensures { result ≡ kind_keeps (row_values now.now k) (row_values later.now k) kind }
 {
@@ -160,14 +162,14 @@ fn all_stay<'a>(items: &[FlatItem], now: &[Seen<'a>], later: &[Seen<'a>]) -> boo
     true
 }
 
-/// Does each frozen variable keep its value?
+/// Returns whether each frozen variable has the same value in both rows.
 pub fn frozen_stay<'a>(flat: &FlatParts<'a>, now: &Row<'a>, later: &Row<'a>) -> bool
     ensures { result ≡ flat_stay (parts_plain flat.now) (row_values now.now.values.items) (row_values later.now.values.items) }
 {
     all_stay(flat.items, now.values.as_slice(), later.values.as_slice())
 }
 
-// The invariant of this number, counted from 0.
+// The invariant with this number, counted from 0.
 fn invariant_at(formulas: &[FlatFormula], j: u32) -> Option<&FlatExpr>
     ensures { body_plain result ≡ slice_get (forms_invariants (map form_plain formulas.now)) j }
 {
@@ -185,9 +187,11 @@ fn invariant_at(formulas: &[FlatFormula], j: u32) -> Option<&FlatExpr>
     None
 }
 
-/// Is the invariant of this number, counted from 0, false in the row?
+/// Returns whether the invariant with this number, counted from 0, is false in the row.
+///
+/// Returns false where there is no such invariant.
 pub fn is_broken<'a>(flat: &FlatParts<'a>, j: u32, row: &Row<'a>) -> bool
-    // Each integer on the way fits 64 bits.
+    // Each intermediate integer fits 64 bits.
     requires { AllSafe flat.now row.now.values.items row.now.values.items }
     ensures { result ≡ flat_broken (parts_plain flat.now) j (row_values row.now.values.items) (row_values row.now.values.items) }
 {

@@ -1,4 +1,4 @@
-// The values that a state and a label give the variables of a flat form.
+// The values of a flat form's variables in a state and a label.
 ghost use Rattle.std.specs.Prelude.{◌≡◌, ℕ, List, Some, length, map, if◌then◌else◌, bytes_eq, OnOk};
 ghost use Rattle.name_maps.specs.Names.{place_of};
 ghost use Rattle.smv_meaning.specs.Values.{no_value, given};
@@ -14,7 +14,7 @@ use smv_meaning::{State, Value};
 use smv_operators::{Seen, borrow_value, no_seen};
 use text_core::NoMemory;
 
-// So many values that stand for none, in the room of the list.
+// Refills the list with `count` stand-ins for missing values, in the memory that it has.
 fn clear_values<'a>(count: usize, values: &mut Vec<Seen<'a>>) -> Result<(), NoMemory>
     ensures size { OnOk result (length values.new.items ≡ count) }
     ensures none { OnOk result ((p : ℕ) → row_values values.new.items p ≡ no_value) }
@@ -28,7 +28,9 @@ fn clear_values<'a>(count: usize, values: &mut Vec<Seen<'a>>) -> Result<(), NoMe
     Ok(())
 }
 
-/// Gives each name, at its place, what the state gives it; of two values of one name the first counts.
+/// Sets the value of each name, at its place, to its value in the state.
+///
+/// Where a name occurs twice in the state, the first value counts.
 pub(crate) fn give_names<'a>(
     names: &NameTable,
     state: &'a State,
@@ -51,7 +53,7 @@ pub(crate) fn give_names<'a>(
     Ok(())
 }
 
-// Gives a name its value at its place, where it is one of the names.
+// Sets the value of a name at its place, if it is one of the names.
 fn give_name<'a>(
     names: &NameTable,
     name: &[u8],
@@ -71,7 +73,7 @@ fn give_name<'a>(
     }
 }
 
-// What an item has of a state or, as an input, of a label; one that is no variable has nothing of them.
+// The value of an item in a state, or in a label for an input. An item that is not a variable has none.
 fn value_of<'a>(item: &ItemPlace, state: &[Seen<'a>], label: &[Seen<'a>]) -> Seen<'a>
     ensures { seen_value result ≡ given_value state.now label.now item.now }
 {
@@ -84,7 +86,9 @@ fn value_of<'a>(item: &ItemPlace, state: &[Seen<'a>], label: &[Seen<'a>]) -> See
     }
 }
 
-/// Gives each variable its value of the state, or as an input of the label; the other items have none yet.
+/// Sets each variable to its value in the state, and each input to its value in the label.
+///
+/// The other items have no value yet.
 pub(crate) fn give_variables<'a>(
     places: &[ItemPlace],
     state: &[Seen<'a>],

@@ -1,2 +1,2 @@
-//! The script of MoXI that stands for a model of SMV: its definition, and that of the codes of values.
+//! Definitions of the translation of an SMV model to a MoXI script, and of the codes of values.
 #![tactic(auto)]

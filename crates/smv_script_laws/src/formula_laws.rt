@@ -1,19 +1,23 @@
-// Laws of the definitions; these functions do nothing.
+// Laws of the formulas of scripts. These functions do nothing.
 ghost use Rattle.smv_script_laws.specs.FormulaLaws.{FormulaSplits, FormsSay, ItemsSay};
 
-/// A formula of a script holds exactly where each part of each item and of each formula of the flat form does.
+/// Proves that a formula of a script holds exactly where each part does: the parts of the items and of the formulas of
+/// the flat form.
 pub fn formula_splits()
     ensures { FormulaSplits }
 {}
 
-/// In the environments of the rows of two states the parts of the flat form's formulas hold exactly where the flat form holds in the
-/// rows, and a reachable formula exactly where its invariant is broken.
+/// Proves that the parts of the formulas hold in environments exactly where the flat form holds in the rows.
+///
+/// The environments are those of the rows of two states. A reachable formula holds exactly where its invariant is
+/// broken.
 pub fn forms_say()
     ensures { FormsSay }
 {}
 
-/// The parts of items hold in the environment of the row of each state of the declared types, and of a transition exactly where
-/// frozen variables keep their values.
+/// Proves that the parts of items hold in the environment of the row of each state of the declared types.
+///
+/// For a transition they hold exactly where frozen variables keep their values.
 pub fn items_say()
     ensures { ItemsSay }
 {}

@@ -1,5 +1,7 @@
-//! Laws of a model's script: its terms have the values of the model's expressions, its traces that meet a query are the model's runs
-//! that break an invariant, it is well formed and can be printed and read, and its size is bounded by the model's weight.
+//! Laws of the script of an SMV model.
+//!
+//! Its terms have the values of the model's expressions. Its traces that meet a query are the model's runs that break
+//! an invariant. It is well formed and can be printed and read. Its size is bounded by the model's weight.
 #![tactic(auto)]
 
 mod bound_laws;

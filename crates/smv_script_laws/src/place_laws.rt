@@ -1,17 +1,17 @@
-// Laws of the places of variables; these functions do nothing.
+// Laws of the places of variables. These functions do nothing.
 ghost use Rattle.smv_script_laws.specs.PlaceLaws.{HasPlace, IsPlaceOf, PlacesDiffer};
 
-/// At the place of an item stands its variable.
+/// Proves that the variable at the place of an item is the item's variable.
 pub fn item_has_place()
     ensures { HasPlace }
 {}
 
-/// Each variable stands at the place of an item.
+/// Proves that each variable is at the place of an item.
 pub fn place_is_of_item()
     ensures { IsPlaceOf }
 {}
 
-/// Two items have two places.
+/// Proves that two items have different places.
 pub fn places_differ()
     ensures { PlacesDiffer }
 {}

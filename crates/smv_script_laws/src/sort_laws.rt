@@ -1,9 +1,10 @@
-// A law of the definitions; this function does nothing.
+// A law of the sorts of terms. This function does nothing.
 ghost use Rattle.smv_script_laws.specs.StandingLaws.{TermsStand};
 
-/// In the script of a spelled and accepted model what stands for a typed expression can stand over the system's variables, whatever a
-/// translated expression around binds: its term with the sort of its type, and the term of membership of a term of this sort with that
-/// of truth values.
+/// Proves that the translation of a typed expression is well formed over the system's variables.
+///
+/// The model is parsed and accepted. The expression's term has the sort of its type. The term of membership of a term
+/// of this sort has the sort of truth values. This holds whatever variables an enclosing translation binds.
 pub fn terms_stand()
     ensures { TermsStand }
 {}

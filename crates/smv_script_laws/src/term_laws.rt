@@ -1,18 +1,23 @@
-// Laws of the definitions; these functions do nothing.
+// Laws of the values of terms. These functions do nothing.
 ghost use Rattle.smv_script_laws.specs.TermLaws.{TermsHaveValues, ValuesComeBack, DataComeBack};
 
-/// In the environments of the rows of two states, the term of each typed expression has the datum of its value, and the term of
-/// membership says of a value whether the expression permits it, also in branches that aren't taken.
+/// Proves that the term of each typed expression has the datum of the expression's value in the environments of the
+/// rows of two states.
+///
+/// The term of membership says of a value whether the expression permits it. Both hold also in branches that are not
+/// taken.
 pub fn terms_have_values()
     ensures { TermsHaveValues }
 {}
 
-/// A value of a type, whose integers the width holds and whose symbols are the model's, comes back from its datum.
+/// Proves that decoding the datum of a value returns the value.
+///
+/// The width represents the integers of the value's type, and its symbols are the model's.
 pub fn values_come_back()
     ensures { ValuesComeBack }
 {}
 
-/// A datum of a type's sort comes back from the value for which it stands.
+/// Proves that encoding the decoded value of a datum of a type's sort returns the datum.
 pub fn data_come_back()
     ensures { DataComeBack }
 {}

@@ -1,20 +1,22 @@
-// Laws of the scripts that stand for models; these functions do nothing.
+// Laws of well-formed scripts. These functions do nothing.
 ghost use Rattle.smv_script_laws.specs.WholeLaws.{NamesAreSpellable, ScriptsAreSpelled, ScriptsAreWhole};
 
 use moxi_script_print::{printed_scripts_are_spelled, whole_scripts_can_be_shown};
 
-/// The script that stands for a spelled and accepted model is whole: its names differ and mean one thing, its terms have their sorts
-/// and can stand in their places, numbers are in range, and its one system contains no other (MoXI, SPIN 2024).
+/// Proves that the script of a parsed and accepted model is well formed (MoXI, SPIN 2024).
+///
+/// Its names are distinct and unambiguous, its terms have their sorts and are allowed in their places, numbers are in
+/// range, and its one system contains no other.
 pub fn scripts_are_whole()
     ensures { ScriptsAreWhole }
 {}
 
-/// Each name of the script can be spelled (SMT-LIB 2.6, section 3.1).
+/// Proves that each name of the script can be spelled (SMT-LIB 2.6, section 3.1).
 pub fn names_are_spellable()
     ensures { NamesAreSpellable }
 {}
 
-/// Forms that can be printed spell the script; its check stands at the start of the text.
+/// Proves that printable forms spell the script, with its check at the start of the text.
 pub fn scripts_are_spelled()
     ensures { ScriptsAreSpelled }
 {

@@ -1,12 +1,13 @@
-// The places of a list by the numbers that stand there.
+// The positions of a list, grouped by the number at each position.
 ghost use Rattle.std.specs.Prelude.{◌≡◌, ◌<◌, IfOk, length, slice_index_or};
 ghost use Rattle.smv_script_terms.specs.Chains.{AreChains};
 
 use std::alloc::Global;
 use text_core::NoMemory;
 
-/// For each number its first place, and for each place the next one with the same number. Where there is none stands how many places
-/// there are.
+/// For each number its first position, and for each position the next one with the same number.
+///
+/// The length of the list stands for no position.
 #[derive(Drop)]
 pub(crate) struct Chains {
     firsts: Vec<usize>,
@@ -14,7 +15,7 @@ pub(crate) struct Chains {
 }
 
 impl Chains {
-    /// The first place of a number.
+    /// Returns the first position of a number, or the length of the list where there is none.
     pub(crate) fn first(&self, number: usize) -> usize
         requires { number < length self.now.firsts.items }
         ensures { result ≡ slice_index_or self.now.firsts.items number 0 }
@@ -22,7 +23,7 @@ impl Chains {
         self.firsts[number]
     }
 
-    /// The next place that has the number of this one.
+    /// Returns the next position with the same number as this one, or the length of the list where there is none.
     pub(crate) fn next(&self, place: usize) -> usize
         requires { place < length self.now.nexts.items }
         ensures { result ≡ slice_index_or self.now.nexts.items place 0 }
@@ -31,7 +32,7 @@ impl Chains {
     }
 }
 
-/// The chains of the numbers below the count, given the number at each place.
+/// Returns the chains of the numbers below `count`, given the number at each position.
 pub(crate) fn chains_of(
     alloc: Global,
     count: usize,

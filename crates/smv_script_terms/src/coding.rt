@@ -1,4 +1,4 @@
-// The codes of items and of values, and what is asked of an expression.
+// The codes of items and values, and the questions that terms answer about an expression.
 ghost use Rattle.std.specs.Prelude.{◌≡◌, ◌<◌, ◌≤◌, ◌^◌, IfOk};
 ghost use Rattle.moxi_terms.specs.View.{plain};
 ghost use Rattle.smv_script.specs.Codes.{integer_bits, integer_word};
@@ -9,17 +9,17 @@ use moxi_terms::{Datum, Term};
 use text_core::NoMemory;
 use word_core::Word;
 
-/// The bits of an integer, and the number of the variable of each item.
+/// The width of an integer in bits, and the number of each item's variable.
 #[derive(Drop)]
 pub struct Coding {
-    /// The bits of an integer.
+    /// The width of an integer in bits.
     pub width: u32,
     /// The number of the variable of each item.
     pub places: Vec<u32>,
 }
 
 impl Coding {
-    /// The number of the variable of the numbered item.
+    /// Returns the number of the variable of item k.
     pub(crate) fn place(&self, k: u32) -> u32
         ensures { result ≡ place_at self.now.places.items k }
     {
@@ -32,7 +32,7 @@ impl Coding {
     }
 }
 
-/// A term that is tested for membership.
+/// A term whose value is tested for membership.
 #[derive(Clone, Copy)]
 pub enum Subject {
     /// A variable, and whether it is primed.
@@ -43,12 +43,12 @@ pub enum Subject {
     Bound(u32),
 }
 
-/// What is asked of an expression: its value, or whether it permits that of a term.
+/// The question that the term of an expression answers: its value, or whether it permits the value of a term.
 #[derive(Clone, Copy)]
 pub enum Question {
-    /// The value.
+    /// The value of the expression.
     Value,
-    /// Whether it permits the value of this term.
+    /// Whether the expression permits the value of this term.
     Permits(Subject),
 }
 
@@ -62,7 +62,7 @@ pub(crate) fn subject_term(subject: Subject) -> Term
     }
 }
 
-// What no word holds stands in no accepted model.
+// No accepted model has a value that is not a word here.
 fn word(width: u32, bits: u128) -> Result<Word, NoMemory>
     ensures { IfOk result (λ w. w ≡ record { width = width; bits = bits }) }
 {
@@ -72,7 +72,7 @@ fn word(width: u32, bits: u128) -> Result<Word, NoMemory>
     }
 }
 
-/// A word of this width.
+/// Returns the constant term of a word of this width.
 pub(crate) fn word_term(width: u32, bits: u128) -> Result<Term, NoMemory>
     ensures { IfOk result (λ t. plain t ≡ word_term width bits) }
 {
@@ -80,7 +80,7 @@ pub(crate) fn word_term(width: u32, bits: u128) -> Result<Term, NoMemory>
     Ok(Term::Constant(Datum::Bits(w)))
 }
 
-// How many integers there are of so many bits.
+// The number of integers of this width.
 fn power(width: u32) -> u128
     requires { width ≤ 64 }
     ensures value { result ≡ 2 ^ width }
@@ -102,7 +102,7 @@ fn integer_bits(width: u32, z: i128) -> u128
     }
 }
 
-// An integer in two's complement of so many bits. No flat form has more than 64.
+// An integer as a word in two's complement. No flat form has a width above 64.
 fn integer_word(width: u32, z: i128) -> Result<Word, NoMemory>
     ensures { IfOk result (λ w. w ≡ integer_word width z) }
 {
@@ -112,7 +112,7 @@ fn integer_word(width: u32, z: i128) -> Result<Word, NoMemory>
     word(width, integer_bits(width, z))
 }
 
-/// An integer in so many bits.
+/// Returns the constant term of an integer in two's complement of this width.
 pub(crate) fn integer_term(width: u32, z: i128) -> Result<Term, NoMemory>
     ensures { IfOk result (λ t. plain t ≡ integer_term width z) }
 {

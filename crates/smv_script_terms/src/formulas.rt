@@ -21,18 +21,18 @@ use smv_text::When;
 use std::alloc::Global;
 use text_core::NoMemory;
 
-/// The items and the formulas of a flat form, and its symbols by their numbers.
+/// The items and the formulas of a flat form, and its symbols by number.
 #[derive(Clone, Copy)]
 pub struct FlatParts<'f> {
     /// The items.
     pub items: &'f [FlatItem],
-    /// The symbols by their numbers.
+    /// The symbols, by number.
     pub symbols: &'f NameSet,
     /// The formulas.
     pub formulas: &'f [FlatFormula],
 }
 
-/// The chains of items and of formulas by their instances, of bodies by their items, and how many instances there are.
+/// The chains of items and of formulas by instance, those of bodies by item, and the number of instances.
 #[derive(Drop)]
 pub struct FlatChains {
     count: usize,
@@ -41,7 +41,7 @@ pub struct FlatChains {
     bodies: Chains,
 }
 
-// One more than the greatest number of an instance.
+// One more than the greatest instance number.
 fn instances_of(items: &[FlatItem], formulas: &[FlatFormula]) -> usize
     ensures { result ≡ max (above_items (map item_plain items.now)) (above_forms (map form_plain formulas.now)) }
 {
@@ -88,7 +88,7 @@ fn form_chains(alloc: Global, count: usize, formulas: &[FlatFormula]) -> Result<
     chains_of(alloc, count, numbers)
 }
 
-/// The chains of a flat form, which are the same for all its formulas.
+/// Returns the chains of a flat form, which all its formulas share.
 pub fn flat_chains<'f>(alloc: Global, flat: &FlatParts<'f>) -> Result<FlatChains, NoMemory>
     ensures { IfOk result (AreFlatChains flat.now) }
 {
@@ -104,7 +104,7 @@ pub fn flat_chains<'f>(alloc: Global, flat: &FlatParts<'f>) -> Result<FlatChains
     })
 }
 
-// Adds what is asked of an item.
+// Adds the constraints on an item.
 fn add_item<'f>(
     alloc: Global,
     coding: &Coding,
@@ -126,7 +126,7 @@ fn add_item<'f>(
     }
 }
 
-// Adds what is asked of the items of an instance.
+// Adds the constraints on the items of an instance.
 fn add_items<'f>(
     alloc: Global,
     coding: &Coding,
@@ -149,7 +149,7 @@ fn add_items<'f>(
     Ok(())
 }
 
-// Adds what the formulas of an instance ask.
+// Adds the constraints from the formulas of an instance.
 fn add_forms<'f>(
     alloc: Global,
     coding: &Coding,
@@ -207,8 +207,9 @@ fn parts_of<'f>(
     Ok(all)
 }
 
-/// The formula of the first state, of each state or of each transition of a system (MoXI, SPIN 2024), given the chains of its flat
-/// form.
+/// Returns a system's formula for the first state, for each state or for each transition (MoXI, SPIN 2024).
+///
+/// `chains` are those of the flat form.
 pub fn formula_of<'f>(
     alloc: Global,
     coding: &Coding,

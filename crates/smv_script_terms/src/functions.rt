@@ -1,4 +1,4 @@
-// The terms of functions and of selected bits.
+// The terms of functions and of bit selections.
 ghost use Rattle.std.specs.Prelude.{◌≡◌, IfOk, map, option_map};
 ghost use Rattle.moxi_terms.specs.Tree.{binding, trees_of};
 ghost use Rattle.moxi_terms.specs.View.{plain};
@@ -19,7 +19,8 @@ use std::alloc::Global;
 use text_core::{Name, Names, NoMemory};
 use word_core::{Binary, Unary};
 
-/// What the arguments of a function say beside their terms: the width of the first, and the numbers that the first two are.
+/// The facts about a function's arguments that their terms do not have: the width of the first, and the first two as
+/// numbers.
 #[derive(Clone, Copy)]
 pub(crate) struct Arguments {
     width: u32,
@@ -53,7 +54,7 @@ pub(crate) fn arguments_of(arguments: &[FlatExpr]) -> Arguments
     }
 }
 
-// What 32 bits don't hold stands in no accepted model.
+// No accepted model has a value of more than 32 bits here.
 fn small(n: u64) -> Result<u32, NoMemory>
     ensures { IfOk result (λ m. m ≡ n) }
 {
@@ -63,7 +64,7 @@ fn small(n: u64) -> Result<u32, NoMemory>
     }
 }
 
-// So many zeros in front.
+// The word with n leading zeros added.
 fn extended(alloc: Global, n: u32, a: Term) -> Result<Term, NoMemory>
     ensures { IfOk result (λ t. plain t ≡ extended_term n (plain a)) }
 {
@@ -74,7 +75,7 @@ fn extended(alloc: Global, n: u32, a: Term) -> Result<Term, NoMemory>
     }
 }
 
-/// The bits from high to low of a word of this width.
+/// Returns the term of the bits from `high` down to `low` of a word of this width.
 pub(crate) fn selected(
     alloc: Global,
     width: u32,
@@ -91,7 +92,7 @@ pub(crate) fn selected(
     }
 }
 
-// A word of this width with another one.
+// The word of this width, resized to width n.
 fn resized(alloc: Global, width: u32, n: u32, a: Term) -> Result<Term, NoMemory>
     ensures { IfOk result (λ t. plain t ≡ resized_term width n (plain a)) }
 {
@@ -102,7 +103,7 @@ fn resized(alloc: Global, width: u32, n: u32, a: Term) -> Result<Term, NoMemory>
     }
 }
 
-// 1 where the term is true, else 0.
+// 1 where the term is true, or else 0.
 fn counted_term(alloc: Global, width: u32, a: Term) -> Result<Term, NoMemory>
     ensures { IfOk result (λ t. plain t ≡ counted_term width (plain a)) }
 {
@@ -131,7 +132,7 @@ fn counted(alloc: Global, width: u32, terms: Terms) -> Result<Term, NoMemory>
     Ok(several(TermOp::BvBinary(Binary::Add), false, all))
 }
 
-// The first term, where there is one.
+// The first term, if there is one.
 fn first_of(terms: Terms) -> Option<Term>
     ensures { option_map plain result ≡ first_tree (trees_of (map plain terms.items)) }
 {
@@ -140,7 +141,7 @@ fn first_of(terms: Terms) -> Option<Term>
     terms.pop()
 }
 
-// The only term, where there is one alone.
+// The only term, if there is exactly one.
 fn only_of(terms: Terms) -> Option<Term>
     ensures { option_map plain result ≡ only_tree (trees_of (map plain terms.items)) }
 {
@@ -148,7 +149,7 @@ fn only_of(terms: Terms) -> Option<Term>
     if terms.len() == 1 { terms.pop() } else { None }
 }
 
-// One operand of two bound ones: the first where it is the lesser, or else the greater.
+// The lesser or the greater of two operands, which are bound by a `let`.
 fn bound_pair(alloc: Global, k: u32, lesser: bool, terms: Terms) -> Result<Term, NoMemory>
     ensures { IfOk result (λ t. plain t ≡ binding t_and_u (trees_of (map plain terms.items)) (pair_body k lesser)) }
 {
@@ -186,7 +187,7 @@ fn bit_of(alloc: Global, a: Term) -> Result<Term, NoMemory>
     choice(alloc, a, one, zero)
 }
 
-// An integer without its sign.
+// The absolute value of an integer.
 fn magnitude(alloc: Global, width: u32, k: u32, a: Term) -> Result<Term, NoMemory>
     ensures { IfOk result (λ t. plain t ≡ binding t_alone (one (plain a)) (magnitude_term width k)) }
 {
@@ -206,7 +207,7 @@ fn constant(arguments: Arguments) -> Result<Term, NoMemory>
     word_term(width, arguments.first as u128)
 }
 
-// A function of one argument and no more, given that one's term.
+// A function of exactly one argument, given the argument's term.
 fn of_only(
     alloc: Global,
     width: u32,
@@ -226,7 +227,7 @@ fn of_only(
     }
 }
 
-// A function that looks at the term of its first argument alone.
+// A function that needs only the term of its first argument.
 fn of_first(
     alloc: Global,
     function: Function,
@@ -254,7 +255,9 @@ fn of_pair(alloc: Global, k: u32, lesser: bool, terms: Terms) -> Result<Term, No
     }
 }
 
-/// The term of a function, given the width of integers, how many names are bound around, and its arguments and their terms.
+/// Returns the term of a function.
+///
+/// `width` is that of integers, `k` is the number of enclosing bound names, and `terms` are the terms of the arguments.
 pub(crate) fn function_term(
     alloc: Global,
     width: u32,
@@ -283,7 +286,7 @@ pub(crate) fn function_term(
     }
 }
 
-/// Whether a term lies between two integers.
+/// Returns the term of the test that a term is between two integers, including both.
 pub(crate) fn between(
     alloc: Global,
     width: u32,

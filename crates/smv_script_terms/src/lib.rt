@@ -1,4 +1,4 @@
-//! The terms, variables and formulas of the script of MoXI that stands for a flat form, as code makes them.
+//! Computes the terms, variables and formulas of the MoXI script of a flat form.
 #![tactic(auto)]
 
 mod chains;

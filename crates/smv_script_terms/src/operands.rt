@@ -1,4 +1,4 @@
-// The parts of chains and of cases, and what they are put together to.
+// The parts of chains and cases, and the terms that combine them.
 ghost use Rattle.std.specs.Prelude.{◌≡◌, IfOk, map};
 ghost use Rattle.moxi_terms.specs.Tree.{binding};
 ghost use Rattle.moxi_terms.specs.View.{plain};
@@ -23,14 +23,14 @@ pub(crate) struct Operand {
     pub(crate) term: Term,
 }
 
-/// A condition, and what counts where it is true.
+/// A condition, and the term that applies where it is true.
 #[derive(Drop)]
 pub(crate) struct Case {
     pub(crate) when: Term,
     pub(crate) value: Term,
 }
 
-/// Is the expression a word?
+/// Returns whether the expression is a word.
 pub(crate) fn is_word(e: &FlatExpr) -> bool
     ensures { result ≡ is_word (plain_flat e.now) }
 {
@@ -40,7 +40,7 @@ pub(crate) fn is_word(e: &FlatExpr) -> bool
     }
 }
 
-/// The width of a word, and 0 of anything else.
+/// Returns the width of a word, or 0 for any other expression.
 pub(crate) fn word_width(e: &FlatExpr) -> u32
     ensures { result ≡ word_width (plain_flat e.now) }
 {
@@ -50,7 +50,7 @@ pub(crate) fn word_width(e: &FlatExpr) -> u32
     }
 }
 
-/// The number that an expression is, and 0 of anything else.
+/// Returns the value of a written number, or 0 for any other expression.
 pub(crate) fn amount_of(e: &FlatExpr) -> u64
     ensures { result ≡ amount_of (plain_flat e.now) }
 {
@@ -60,7 +60,7 @@ pub(crate) fn amount_of(e: &FlatExpr) -> u64
     }
 }
 
-/// A chain of `->`, which is read from the right.
+/// Returns the term of a chain of `->`, which is right-associative.
 pub(crate) fn implied(alloc: Global, first: Term, operands: Vec<Operand>) -> Result<Term, NoMemory>
     ensures { IfOk result (λ t. plain t ≡ implied_parts (plain first) (map operand_plain operands.items)) }
 {
@@ -77,7 +77,7 @@ pub(crate) fn implied(alloc: Global, first: Term, operands: Vec<Operand>) -> Res
     implication(alloc, words, first, whole)
 }
 
-/// The first case whose condition is true, else the last term.
+/// Returns the term of the first case whose condition is true, or else the last term.
 pub(crate) fn chosen(alloc: Global, cases: Vec<Case>, last: Term) -> Result<Term, NoMemory>
     ensures { IfOk result (λ t. plain t ≡ chosen_cases (map case_plain cases.items) (plain last)) }
 {
@@ -89,7 +89,8 @@ pub(crate) fn chosen(alloc: Global, cases: Vec<Case>, last: Term) -> Result<Term
     Ok(whole)
 }
 
-/// The width of a word that ends with an operand, given those of what stands before and of the operand.
+/// Returns the width of a word chain's prefix that ends with an operand, given the widths of the part before and of the
+/// operand.
 pub(crate) fn front_width(op: Infix, before: u32, operand: u32) -> Result<u32, NoMemory>
     ensures { IfOk result (λ n. n ≡ front_width op before operand) }
 {
@@ -102,7 +103,7 @@ pub(crate) fn front_width(op: Infix, before: u32, operand: u32) -> Result<u32, N
     }
 }
 
-/// A term under a `let` that binds another one.
+/// Returns the term of a `let` that binds `value` in `body`.
 pub(crate) fn bound_to(alloc: Global, value: Term, body: Term) -> Result<Term, NoMemory>
     ensures { IfOk result (λ t. plain t ≡ binding t_alone (one (plain value)) (plain body)) }
 {
@@ -127,7 +128,10 @@ fn shifted(
     infix(alloc, op, words, whole, count)
 }
 
-/// What stands before, of this width, with the next operand and its term; a name before `in` is in that term.
+/// Returns the term of a chain's prefix with the next operator and operand applied.
+///
+/// `whole` is the term of the prefix and `width` its width, and `term` is the operand's term. For `in` after a name,
+/// the operand's term already includes the name.
 pub(crate) fn joined(
     alloc: Global,
     op: Infix,

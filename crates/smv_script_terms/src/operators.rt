@@ -1,4 +1,4 @@
-// Applications of MoXI's operators.
+// Applications of MoXI operators.
 ghost use Rattle.std.specs.Prelude.{◌≡◌, ◌<◌, ◌+◌, ◌++◌, ◌∷◌, [], IfOk, map, vec_len, vec_capacity};
 ghost use Rattle.moxi_terms.specs.Tree.{apply, constant, trees_of, variable};
 ghost use Rattle.moxi_terms.specs.Operators.{nothing};
@@ -15,7 +15,7 @@ use std::alloc::Global;
 use text_core::NoMemory;
 use word_core::{Binary, Unary};
 
-/// What stands where no value is.
+/// Returns the stand-in for a missing value.
 pub(crate) fn nothing() -> Term
     ensures { plain result ≡ constant nothing }
 {
@@ -55,14 +55,16 @@ pub(crate) fn equal(alloc: Global, a: Term, b: Term) -> Result<Term, NoMemory>
     apply_two(alloc, TermOp::Equal, a, b)
 }
 
-/// The negation of a truth value.
+/// Returns the negation of a truth value.
 pub fn negate(alloc: Global, a: Term) -> Result<Term, NoMemory>
     ensures { IfOk result (λ t. plain t ≡ not_term (plain a)) }
 {
     apply_one(alloc, TermOp::Not, a)
 }
 
-/// One application of an operator: a truth value where there is no part, and a single part itself.
+/// Returns one application of the operator to all terms.
+///
+/// Without terms it is the truth value `empty`; a single term is returned itself.
 pub(crate) fn several(op: TermOp, empty: bool, terms: Terms) -> Term
     ensures { plain result ≡ several op empty (trees_of (map plain terms.items)) }
 {
@@ -76,7 +78,7 @@ pub(crate) fn several(op: TermOp, empty: bool, terms: Terms) -> Term
     }
 }
 
-/// What an expression answers that is no set and has this value.
+/// Returns the answer of an expression that is not a set, given the term of its value.
 pub(crate) fn answer(alloc: Global, question: Question, value: Term) -> Result<Term, NoMemory>
     ensures { IfOk result (λ t. plain t ≡ answered_value question (plain value)) }
 {
@@ -86,7 +88,7 @@ pub(crate) fn answer(alloc: Global, question: Question, value: Term) -> Result<T
     }
 }
 
-// Adds a term that is tested to a list with room for it.
+// Adds the tested term to a list that has room for it.
 fn push_subject(terms: &mut Terms, subject: Subject)
     requires { vec_len terms.old < vec_capacity terms.old }
     ensures terms { map plain terms.new.items ≡ map plain terms.old.items ++ subject_tree subject ∷ [] }
@@ -100,7 +102,7 @@ fn push_subject(terms: &mut Terms, subject: Subject)
     }
 }
 
-// A term that is tested, with room for another one behind it: terms are large, so each is made where it stays.
+// The tested term, with room for another one after it. Terms are large, so each is built in place.
 fn tested(alloc: Global, subject: Subject) -> Result<Terms, NoMemory>
     ensures terms { IfOk result (λ ts. map plain ts.items ≡ subject_tree subject ∷ []) }
     ensures room { IfOk result (λ ts. vec_len ts < vec_capacity ts) }
@@ -110,7 +112,7 @@ fn tested(alloc: Global, subject: Subject) -> Result<Terms, NoMemory>
     Ok(terms)
 }
 
-/// What an expression answers that is this variable.
+/// Returns the answer of an expression that is this variable.
 pub(crate) fn answer_variable(
     alloc: Global,
     question: Question,
@@ -129,7 +131,7 @@ pub(crate) fn answer_variable(
     }
 }
 
-/// What an expression answers that is this constant.
+/// Returns the answer of an expression that is this constant.
 pub(crate) fn answer_constant(
     alloc: Global,
     question: Question,
@@ -147,9 +149,11 @@ pub(crate) fn answer_constant(
     }
 }
 
-// ---- signs
+// ---- prefix operators
 
-/// The operator that stands for a sign, given whether its operand is a word.
+/// Returns the MoXI operator of a prefix operator.
+///
+/// `words` says whether the operand is a word.
 pub(crate) fn sign_operator(sign: Prefix, words: bool) -> TermOp
     ensures { result ≡ sign_op sign words }
 {
@@ -165,7 +169,7 @@ pub(crate) fn sign_operator(sign: Prefix, words: bool) -> TermOp
     }
 }
 
-/// An operator that stands so many times.
+/// Returns the term with an operator applied `count` times.
 pub(crate) fn repeated(alloc: Global, op: TermOp, count: u32, a: Term) -> Result<Term, NoMemory>
     ensures { IfOk result (λ t. plain t ≡ repeated op count (plain a)) }
 {
@@ -176,7 +180,7 @@ pub(crate) fn repeated(alloc: Global, op: TermOp, count: u32, a: Term) -> Result
     Ok(whole)
 }
 
-// ---- operators between two operands
+// ---- binary operators
 
 fn logical(words: bool, op: TermOp, binary: Binary) -> TermOp
     ensures { result ≡ logical_op words op binary }
@@ -190,7 +194,9 @@ fn signed(words: bool, signed: Binary, unsigned: Binary) -> TermOp
     TermOp::BvBinary(if words { unsigned } else { signed })
 }
 
-/// The operator of one application to both operands, and of a chain of one sign, given whether the operands are words.
+/// Returns the MoXI operator of a binary operator, which also joins a chain of one operator.
+///
+/// `words` says whether the operands are words.
 pub(crate) fn infix_operator(op: Infix, words: bool) -> TermOp
     ensures { result ≡ infix_op op words }
 {
@@ -250,7 +256,9 @@ fn exclusive_nor(alloc: Global, words: bool, a: Term, b: Term) -> Result<Term, N
     }
 }
 
-/// An operator between two terms, given whether the operands are words. `in` and `union` stand for nothing here.
+/// Returns the term of a binary operator.
+///
+/// `words` says whether the operands are words. `in` and `union` have no meaning here.
 pub(crate) fn infix(
     alloc: Global,
     op: Infix,

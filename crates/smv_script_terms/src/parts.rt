@@ -29,7 +29,7 @@ use smv_text::{Member, When};
 use std::alloc::Global;
 use text_core::NoMemory;
 
-// What 32 bits don't hold stands in no accepted model.
+// No accepted model has a value of more than 32 bits here.
 fn small(n: usize) -> Result<u32, NoMemory>
     ensures { IfOk result (λ m. m ≡ n) }
 {
@@ -39,7 +39,7 @@ fn small(n: usize) -> Result<u32, NoMemory>
     }
 }
 
-// The variable of an item, primed or not.
+// The variable of an item, primed or unprimed.
 fn variable(coding: &Coding, k: u32, primed: bool) -> Term
     ensures { plain result ≡ variable ((codes_of coding.now).place k) primed }
 {
@@ -56,7 +56,7 @@ fn symbol_term(symbols: &NameSet, name: &[u8]) -> Result<Term, NoMemory>
     Ok(Term::Constant(Datum::Constant(0, number)))
 }
 
-// That the variable of an item has the value of a member.
+// The test that an item's variable has the value of a member.
 fn member_term(
     alloc: Global,
     coding: &Coding,
@@ -90,7 +90,7 @@ fn member_terms(
     Ok(all)
 }
 
-// Adds that a variable of a range has a value of it.
+// Adds the test that a variable with a range has a value in the range.
 fn add_interval(
     alloc: Global,
     coding: &Coding,
@@ -110,7 +110,7 @@ fn add_interval(
     }
 }
 
-// Adds that a variable of an enumeration or of a range has a value of its type.
+// Adds the test that a variable with an enumeration or a range has a value of its type.
 fn add_domain(
     alloc: Global,
     coding: &Coding,
@@ -131,7 +131,7 @@ fn add_domain(
     }
 }
 
-// The number of the item of which a formula is the body; of another formula this number, which no item has.
+// The number of the item whose body the formula is, or `none`, which no item has, for any other formula.
 fn body_number(role: Role, none: usize) -> usize
     ensures { result ≡ body_number none role }
 {
@@ -155,7 +155,7 @@ fn body_numbers(
     Ok(numbers)
 }
 
-/// The chains of the bodies of each item.
+/// Returns the chains of the bodies of each item.
 pub(crate) fn body_chains<'f>(alloc: Global, flat: &FlatParts<'f>) -> Result<Chains, NoMemory>
     ensures { IfOk result (λ c. AreBodyChains flat.now c) }
 {
@@ -164,7 +164,7 @@ pub(crate) fn body_chains<'f>(alloc: Global, flat: &FlatParts<'f>) -> Result<Cha
     chains_of(alloc, count, numbers)
 }
 
-// Adds that a definition or an actual has the value of its body.
+// Adds the equation of a definition or an actual with its body.
 fn add_body(
     alloc: Global,
     coding: &Coding,
@@ -204,7 +204,7 @@ fn add_bodies<'f>(
     Ok(())
 }
 
-/// Adds what is asked of an item's value in each state, given the chains of the items' bodies.
+/// Adds the constraints on an item's value in each state, given the chains of the items' bodies.
 pub(crate) fn add_invar_item<'f>(
     alloc: Global,
     coding: &Coding,
@@ -232,7 +232,7 @@ pub(crate) fn add_invar_item<'f>(
     }
 }
 
-/// Adds that a frozen variable keeps its value.
+/// Adds the constraint that a frozen variable keeps its value.
 pub(crate) fn add_trans_item(
     alloc: Global,
     coding: &Coding,
@@ -272,7 +272,7 @@ fn is_following(when: When) -> bool
     }
 }
 
-// What an assignment asks: that its body permits the target's value.
+// The constraint of an assignment: its body permits the target's value.
 fn assigned(
     alloc: Global,
     coding: &Coding,
@@ -286,7 +286,7 @@ fn assigned(
     terms_of(alloc, coding, 0, Question::Permits(subject), body)
 }
 
-/// Adds what a formula asks in the first state, in each state or in each transition.
+/// Adds the constraints of a formula for the first state, for each state or for each transition.
 pub(crate) fn add_form(
     alloc: Global,
     coding: &Coding,

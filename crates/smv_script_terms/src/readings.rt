@@ -1,4 +1,4 @@
-// How a chain is read.
+// The ways to read a chain.
 ghost use Rattle.std.specs.Prelude.{◌≡◌, map};
 ghost use Rattle.smv_flat.specs.FlatTree.{flat_links_of, flat_are_implies};
 ghost use Rattle.smv_flat.specs.FlatView.{plain_flat, plain_flat_link};
@@ -12,8 +12,10 @@ use crate::operands::is_word;
 use smv_flat::FlatLink;
 use smv_text::Infix;
 
-/// How a chain is read: one operand alone, a set of unions, from the right, as one application of an operator on truth values or on
-/// words, or from the left.
+/// The way to read a chain.
+///
+/// It is a single operand, a set of unions, right-associative, one application of an operator (with whether it applies
+/// to words), or left-associative.
 #[derive(Clone, Copy)]
 pub(crate) enum Reading {
     Single,
@@ -87,7 +89,7 @@ fn all_join_with(op: Infix, links: &[FlatLink]) -> bool
     true
 }
 
-/// How these links are read behind a first operand.
+/// Returns the way to read a chain with these links after its first operand.
 pub(crate) fn reading_of(links: &[FlatLink]) -> Reading
     ensures { result ≡ reading (flat_links_of (map plain_flat_link links.now)) }
 {

@@ -24,8 +24,9 @@ use smv_text::{Function, Infix, Prefix};
 use std::alloc::Global;
 use text_core::NoMemory;
 
-/// The term of an expression, or the one that says whether the expression permits the value of another term, given how many names
-/// are bound around.
+/// Returns the term of an expression, or that of the test whether the expression permits the value of another term.
+///
+/// `k` is the number of enclosing bound names.
 #[inline(never)]
 #[cycle(terms)]
 pub fn terms_of(
@@ -85,7 +86,7 @@ fn prefixed(
     repeated(alloc, sign_operator(sign, is_word(operand)), count, a)
 }
 
-// A chain, whatever its operators.
+// A chain of any operators.
 #[inline(never)]
 #[cycle(terms)]
 fn chained(
@@ -163,7 +164,7 @@ fn link_terms(
     Ok(all)
 }
 
-// The operands of a chain of `->` behind the first.
+// The operands of a chain of `->` after the first.
 #[inline(never)]
 #[cycle(terms)]
 fn operands(
@@ -183,7 +184,7 @@ fn operands(
     Ok(all)
 }
 
-// A chain that is read from the left.
+// A left-associative chain.
 #[inline(never)]
 #[cycle(terms)]
 fn folded(
@@ -209,7 +210,7 @@ fn folded(
     Ok(whole)
 }
 
-// An operand behind an operator, where what stands before may be a name.
+// An operand after an operator, where the part before may be a name.
 #[inline(never)]
 #[cycle(terms)]
 fn behind(
@@ -237,7 +238,7 @@ fn behind(
     }
 }
 
-// A case, whose last condition is left out.
+// A case, whose last condition is omitted.
 #[inline(never)]
 #[cycle(terms)]
 fn taken(
@@ -259,7 +260,7 @@ fn taken(
     }
 }
 
-// The terms of conditions, and the answers of what counts where they are true.
+// The terms of the conditions, and the answers of their values.
 #[inline(never)]
 #[cycle(terms)]
 fn cases(
@@ -300,7 +301,7 @@ fn parts(
     Ok(all)
 }
 
-// A call of a function.
+// A function call.
 #[inline(never)]
 #[cycle(terms)]
 fn called(
@@ -360,7 +361,7 @@ fn ranged(
     }
 }
 
-// What stands for a name, also under `next`.
+// The term of a name, also under `next`.
 fn subject_of(coding: &Coding, e: &FlatExpr) -> Option<Subject>
     ensures { result ≡ named_subject (codes_of coding.now) (plain_flat e.now) }
 {

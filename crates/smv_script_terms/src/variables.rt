@@ -12,14 +12,14 @@ use smv_items::{FlatItem, ItemKind};
 use std::alloc::Global;
 use text_core::{Name, NoMemory};
 
-/// The list of variables in which an item's variable stands (MoXI, SPIN 2024).
+/// The list of variables that contains an item's variable (MoXI, SPIN 2024).
 #[derive(Clone, Copy)]
 pub enum Group {
     /// The input variables.
     Inputs,
     /// The state and frozen variables.
     Outputs,
-    /// The definitions and the actuals of parameters.
+    /// The definitions and the actual parameters.
     Locals,
 }
 
@@ -84,7 +84,7 @@ fn variable_of(alloc: Global, width: u32, item: &FlatItem) -> Result<Variable, N
     Ok(Variable { name, sort })
 }
 
-/// The variables of a group, in the order of their items.
+/// Returns the variables of a group, in the order of their items.
 pub fn variables_in(
     alloc: Global,
     width: u32,
@@ -100,7 +100,7 @@ pub fn variables_in(
     Ok(all)
 }
 
-// Adds the variable of an item that is in the group.
+// Adds the variable of an item if it is in the group.
 fn add_variable(
     alloc: Global,
     width: u32,
@@ -116,7 +116,7 @@ fn add_variable(
     Ok(())
 }
 
-// More than 32 bits number are in no accepted model.
+// No accepted model has more variables than 32 bits can number.
 fn one_more(n: u32) -> Result<u32, NoMemory>
     ensures { IfOk result (λ m. m ≡ n + 1) }
 {
@@ -135,7 +135,7 @@ fn sum(a: u32, b: u32) -> Result<u32, NoMemory>
     }
 }
 
-// How many items are in a group.
+// The number of items in a group.
 fn count_in(group: Group, items: &[FlatItem]) -> Result<u32, NoMemory>
     ensures { IfOk result (λ n. n ≡ length (items_in (group_plain group) (map item_plain items.now))) }
 {
@@ -192,7 +192,7 @@ fn counted_on(counts: Counts, group: Group) -> Result<Counts, NoMemory>
     Ok(next)
 }
 
-/// The number of the variable of each item.
+/// Returns the number of each item's variable.
 pub fn places_of(alloc: Global, items: &[FlatItem]) -> Result<Vec<u32>, NoMemory>
     ensures { IfOk result (λ ps. ps.items ≡ numbers_from (start_counts (map item_plain items.now)) (map item_plain items.now)) }
 {

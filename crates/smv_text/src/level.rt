@@ -2,7 +2,7 @@
 
 use crate::operators::Prefix;
 
-/// Which operators join the operands of a chain.
+/// The class of operators that join the operands of a chain.
 #[derive(Clone, Copy, PartialEq, Eq)]
 pub enum OperatorClass {
     /// `->`
@@ -29,8 +29,10 @@ pub enum OperatorClass {
     Concatenations,
 }
 
-/// A level of the grammar, over the levels below it. How tightly each binds is our own (an expression with brackets around
-/// each operation depends on none of them).
+/// A precedence level of the expression grammar.
+///
+/// The order of the levels is this profile's own choice. It does not matter for an expression with brackets around each
+/// operation.
 #[derive(Clone, Copy, PartialEq, Eq)]
 pub enum Level {
     /// A chain of operators.
@@ -39,13 +41,15 @@ pub enum Level {
     Choice,
     /// `l..h`
     Range,
-    /// A sign before an operand.
+    /// A prefix operator before an operand.
     Before(Prefix),
     /// `w[h:l]`
     Selection,
 }
 
-/// All levels. Below them stand names, constants, functions, cases, sets and brackets.
+/// All levels, from the loosest to the tightest.
+///
+/// Names, constants, functions, cases, sets and brackets stand below the last level.
 pub const LEVELS: [Level; 16] = [
     Level::Chain(OperatorClass::Implications),
     Level::Chain(OperatorClass::Equivalences),

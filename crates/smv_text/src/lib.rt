@@ -1,4 +1,4 @@
-//! The tokens and the trees of SMV models, and which tokens spell which trees.
+//! Tokens and syntax trees of SMV models, and the relation between the two.
 #![tactic(auto)]
 
 mod level;

@@ -5,7 +5,7 @@ ghost use Rattle.smv_text.specs.Levels.{infix_at, class_of, infix_kind, kind_byt
 use crate::level::OperatorClass;
 use crate::token::{Reserved, Sign, TokenKind, sign_bytes, word_bytes};
 
-/// A sign before an operand.
+/// A prefix operator.
 #[derive(Clone, Copy, PartialEq, Eq)]
 pub enum Prefix {
     /// `!`
@@ -14,7 +14,7 @@ pub enum Prefix {
     Minus,
 }
 
-/// An operator between two operands (manual, 2.2).
+/// A binary operator (NuSMV 2.6 User Manual, 2.2).
 #[derive(Clone, Copy, PartialEq, Eq)]
 pub enum Infix {
     /// `->`
@@ -63,7 +63,7 @@ pub enum Infix {
     Concat,
 }
 
-/// A named function (manual, 2.2).
+/// A built-in function (NuSMV 2.6 User Manual, 2.2).
 #[derive(Clone, Copy, PartialEq, Eq)]
 pub enum Function {
     /// `bool`
@@ -88,7 +88,7 @@ pub enum Function {
     Abs,
 }
 
-/// The operator between two operands that a token is.
+/// Returns the binary operator that a token spells, or None where it spells none.
 #[inline(always)]
 pub fn infix_at(kind: &TokenKind) -> Option<Infix>
     ensures { result ≡ infix_at kind.now }
@@ -126,7 +126,7 @@ pub fn infix_at(kind: &TokenKind) -> Option<Infix>
     }
 }
 
-/// The class of an operator, whose chains make one level.
+/// Returns the operator's class: the chains of one class form one precedence level.
 #[inline(always)]
 pub fn class_of(op: Infix) -> OperatorClass
     ensures { result ≡ class_of op }
@@ -157,7 +157,7 @@ pub fn class_of(op: Infix) -> OperatorClass
     }
 }
 
-/// The spelling of an operator.
+/// Returns the operator's spelling.
 pub fn infix_bytes(op: Infix) -> &'static [u8]
     ensures { result.now ≡ kind_bytes (infix_kind op) }
 {
@@ -187,7 +187,7 @@ pub fn infix_bytes(op: Infix) -> &'static [u8]
     }
 }
 
-/// The function that a token names.
+/// Returns the built-in function that a token names, or None where it names none.
 pub fn function_at(kind: &TokenKind) -> Option<Function>
     ensures { result ≡ function_at kind.now }
 {
@@ -209,7 +209,7 @@ pub fn function_at(kind: &TokenKind) -> Option<Function>
     }
 }
 
-/// The word of a function.
+/// Returns the reserved word of a built-in function.
 pub fn function_word(function: Function) -> Reserved
     ensures { result ≡ function_word function }
 {

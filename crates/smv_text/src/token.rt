@@ -7,7 +7,7 @@ use std::marker::Model;
 use text_core::{Name, Place};
 use word_core::Word;
 
-/// A reserved word (NuSMV 2.6 User Manual, chapter 2, before section 2.1, reserved keywords).
+/// A reserved word (NuSMV 2.6 User Manual, chapter 2, reserved keywords, before section 2.1).
 #[derive(Clone, Copy, PartialEq, Eq)]
 pub enum Reserved {
     /// `MODULE`
@@ -86,7 +86,7 @@ pub enum Reserved {
     Abs,
 }
 
-/// The spelling of a reserved word.
+/// Returns the reserved word's spelling.
 pub fn word_bytes(word: Reserved) -> &'static [u8]
     ensures { result.now ≡ word_bytes word }
 {
@@ -198,7 +198,7 @@ pub enum Sign {
     Iff,
 }
 
-/// The spelling of a sign.
+/// Returns the sign's spelling.
 pub fn sign_bytes(sign: Sign) -> &'static [u8]
     ensures { result.now ≡ sign_bytes sign }
 {
@@ -237,24 +237,24 @@ pub fn sign_bytes(sign: Sign) -> &'static [u8]
     }
 }
 
-/// What a token is.
+/// The kind of a token, with its value.
 #[derive(Drop)]
 pub enum TokenKind {
     /// A reserved word.
     Reserved(Reserved),
-    /// A word of a part of the language that is not supported.
+    /// A reserved word of a part of SMV that this profile does not support.
     Refused,
     /// An identifier, with its bytes.
     Ident(Name),
     /// A decimal number below 2^62.
     Number(u64),
-    /// A word literal: a width from 1 to `WIDEST`, and a value below two to that width.
+    /// A word literal: its width is from 1 to `WIDEST`, its value below two to the power of the width.
     Literal(Word),
     /// A sign.
     Sign(Sign),
 }
 
-/// A token: what it is, the place of its first byte, and how many bytes long it is.
+/// A token: its kind, the place of its first byte, and its length in bytes.
 #[derive(Drop)]
 pub struct Token {
     pub kind: TokenKind,
@@ -262,7 +262,7 @@ pub struct Token {
     pub length: u32,
 }
 
-/// The tokens of a text in order, and the place of the text's end.
+/// The tokens of a text in order, and the place of the end of the text.
 #[derive(Drop)]
 pub struct Tokens {
     tokens: Vec<Token>,
@@ -278,7 +278,7 @@ impl Model for Tokens {
 }
 
 impl Tokens {
-    /// The list of these tokens, with the place of their text's end.
+    /// Creates a token list from its tokens and the place of the end of the text.
     pub fn of(tokens: Vec<Token>, last: Place) -> Tokens
         ensures items { result.items ≡ tokens.items }
         ensures end { result.end ≡ last }
@@ -286,14 +286,14 @@ impl Tokens {
         Tokens { tokens, last }
     }
 
-    /// How many tokens there are.
+    /// Returns the number of tokens.
     pub fn len(&self) -> usize
         ensures { result ≡ length self.now.items }
     {
         self.tokens.len()
     }
 
-    /// The token at a position from 0.
+    /// Returns the token at a position, counted from 0.
     pub fn at(&self, i: usize) -> &Token
         requires { i < length self.now.items }
         ensures { result.now ≡ slice_index_or self.now.items i result.now }
@@ -301,14 +301,14 @@ impl Tokens {
         &self.tokens[i]
     }
 
-    /// All tokens, in the order of the text.
+    /// Returns all tokens as a slice, in the order of the text.
     pub fn as_slice(&self) -> &[Token]
         ensures { result.now ≡ self.now.items }
     {
         self.tokens.as_slice()
     }
 
-    /// The place behind the text's last byte.
+    /// Returns the place after the last byte of the text.
     pub fn end(&self) -> Place
         ensures { result ≡ self.now.end }
     {

@@ -1,20 +1,25 @@
-// Trees of a model: expressions, types, declarations, elements, modules (NuSMV 2.6 User Manual, chapter 2).
+// Syntax trees of a model: expressions, types, declarations, elements, modules (NuSMV 2.6 User Manual, chapter 2).
 
 use crate::operators::{Function, Infix, Prefix};
 use text_core::{List, Name, Names, Place};
 use word_core::Word;
 
-/// A name: `self` or an identifier, and the names that it steps into (manual, 2.3). Its place is that of its first token.
+/// A possibly qualified name: `self` or an identifier, then the identifiers that follow dots (NuSMV 2.6 User Manual,
+/// 2.3).
+///
+/// Its place is the place of its first token.
 #[derive(Drop)]
 pub struct Path {
-    /// Does it begin with `self`?
+    /// Whether the path begins with `self`.
     pub from_self: bool,
-    /// Its identifiers, in order.
+    /// The identifiers, in order.
     pub names: Names,
     pub place: Place,
 }
 
-/// An expression, and the place of its first token. Round brackets around the whole don't belong to it.
+/// An expression, and the place of its first token.
+///
+/// Round brackets around the whole expression are not part of it.
 #[cycle(tree)]
 #[derive(Drop)]
 pub struct Expr {
@@ -22,7 +27,7 @@ pub struct Expr {
     pub shape: Shape,
 }
 
-/// What an expression is (manual, 2.2).
+/// The shape of an expression (NuSMV 2.6 User Manual, 2.2).
 #[cycle(tree)]
 #[derive(Drop)]
 pub enum Shape {
@@ -34,29 +39,29 @@ pub enum Shape {
     Number(u64),
     /// A word literal.
     Literal(Word),
-    /// A variable, a definition, a parameter, an instance or a symbol.
+    /// The name of a variable, a definition, a parameter, an instance or a symbol.
     Name(Path),
-    /// A sign, how often it stands (once or more), and its operand.
+    /// A prefix operator, the number of its repetitions (at least one), and its operand.
     Prefix(Prefix, u32, Box<Expr>),
-    /// A chain of one level of operators: its first operand, and one or more links.
+    /// A chain of operators of one level: its first operand, and at least one link.
     Chain(Box<Expr>, Links),
-    /// `c ? v : w`: one or more conditions with their values, and what stands behind the last colon.
+    /// `c ? v : w`: at least one condition with its value, and the value after the last colon.
     Choice(Branches, Box<Expr>),
-    /// `case c : v; esac`: one or more conditions with their values.
+    /// `case c : v; esac`: at least one condition with its value.
     Case(Branches),
-    /// `w[h:l]`: the word, the high end, the low end.
+    /// `w[h:l]`: the word, the high bit, the low bit.
     Select(Box<Expr>, u64, u64),
-    /// A function with one or more arguments.
+    /// A built-in function with at least one argument.
     Call(Function, Exprs),
     /// `next(e)`
     Next(Box<Expr>),
-    /// `{a, b}`: one or more elements.
+    /// `{a, b}`: at least one element.
     Set(Exprs),
-    /// `l..h`: both ends lie above -2^62 and below 2^62.
+    /// `l..h`: both bounds are greater than -2^62 and less than 2^62.
     Range(i64, i64),
 }
 
-/// An operator of a chain, and the operand behind it.
+/// An operator of a chain, and its right operand.
 #[cycle(tree)]
 #[derive(Drop)]
 pub struct Link {
@@ -64,7 +69,7 @@ pub struct Link {
     pub operand: Expr,
 }
 
-/// A condition, and what counts where it is true.
+/// A condition, and the value that applies where it is true.
 #[cycle(tree)]
 #[derive(Drop)]
 pub struct Branch {
@@ -72,13 +77,13 @@ pub struct Branch {
     pub value: Expr,
 }
 
-/// Expressions, in order.
+/// A list of expressions, in order.
 pub type Exprs = Vec<Expr>;
 
 /// The links of a chain, in order.
 pub type Links = Vec<Link>;
 
-/// Branches, in order.
+/// A list of branches, in order.
 pub type Branches = Vec<Branch>;
 
 /// A member of an enumeration.
@@ -86,26 +91,26 @@ pub type Branches = Vec<Branch>;
 pub enum Member {
     /// A symbol.
     Symbol(Name),
-    /// An integer between -2^62 and 2^62.
+    /// An integer greater than -2^62 and less than 2^62.
     Integer(i64),
 }
 
-/// What a variable ranges over, or the module and the actuals of an instance (manual, 2.3).
+/// The type of a variable, or the module and the actual parameters of an instance (NuSMV 2.6 User Manual, 2.3).
 #[derive(Drop)]
 pub enum Domain {
     /// `boolean`
     Boolean,
-    /// `{a, b, 1}`: one or more members.
+    /// `{a, b, 1}`: at least one member.
     Members(Members),
     /// `l..h`
     Between(i64, i64),
-    /// `word[n]`: the width, as it is written.
+    /// `word[n]`: the width as written.
     Bits(u64),
     /// The module's name and the actual parameters.
     Instance(Name, Exprs),
 }
 
-/// A declared variable or instance: its name, what it ranges over, and where both stand.
+/// A declared variable or instance: its name, its type or module, and the places of both.
 #[derive(Drop)]
 pub struct Item {
     pub name: Name,
@@ -114,7 +119,7 @@ pub struct Item {
     pub domain_place: Place,
 }
 
-/// The kind of a variable (manual, 2.3).
+/// The kind of a variable (NuSMV 2.6 User Manual, 2.3).
 #[derive(Clone, Copy, PartialEq, Eq)]
 pub enum VarKind {
     /// `VAR`
@@ -125,7 +130,7 @@ pub enum VarKind {
     Frozen,
 }
 
-/// A name for an expression, and the name's place.
+/// A definition: its name, the name's place, and its body.
 #[derive(Drop)]
 pub struct Definition {
     pub name: Name,
@@ -133,14 +138,14 @@ pub struct Definition {
     pub body: Expr,
 }
 
-/// When an assignment holds (manual, 2.3).
+/// The states to which an assignment applies (NuSMV 2.6 User Manual, 2.3).
 #[derive(Clone, Copy, PartialEq, Eq)]
 pub enum When {
-    /// In each state: `x := e`.
+    /// Every state: `x := e`.
     Always,
-    /// In the first state: `init(x) := e`.
+    /// The first state: `init(x) := e`.
     First,
-    /// In each following state: `next(x) := e`.
+    /// Every following state: `next(x) := e`.
     Following,
 }
 
@@ -152,14 +157,14 @@ pub struct Assignment {
     pub body: Expr,
 }
 
-/// A section of a module's body (manual, 2.3).
+/// A section of a module's body (NuSMV 2.6 User Manual, 2.3).
 #[derive(Drop)]
 pub enum Element {
     /// `VAR`, `IVAR`, `FROZENVAR`
     Vars(VarKind, Items),
     /// `DEFINE`
     Defines(Definitions),
-    /// `CONSTANTS`: one or more symbols.
+    /// `CONSTANTS`: at least one symbol.
     Constants(Names),
     /// `ASSIGN`
     Assigns(Assignments),
@@ -169,7 +174,7 @@ pub enum Element {
     Trans(Expr),
     /// `INVAR`
     Invar(Expr),
-    /// `INVARSPEC`, with its `NAME` where it has one.
+    /// `INVARSPEC`, with its `NAME` if it has one.
     Spec(Option<Name>, Expr),
 }
 
@@ -180,8 +185,10 @@ pub struct Parameter {
     pub place: Place,
 }
 
-/// A module: its name, the name's place, its parameters, its body, and how many tokens the body has: those behind the
-/// module's name and parameters and before the next module, every bracket and sign included.
+/// A module: its name, the name's place, its parameters, its body, and the number of tokens of the body.
+///
+/// The body's tokens are those after the module's name and parameters and before the next module, with all brackets and
+/// separators.
 #[derive(Drop)]
 pub struct Module {
     pub name: Name,
@@ -191,7 +198,7 @@ pub struct Module {
     pub tokens: u32,
 }
 
-/// A model: its modules, and the place of its text's end.
+/// A model: its modules, and the place of the end of its text.
 #[derive(Drop)]
 pub struct Source {
     pub modules: Modules,

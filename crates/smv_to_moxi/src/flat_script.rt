@@ -1,4 +1,4 @@
-// The script of the flat form of a model.
+// The script of a model's flat form.
 ghost use Rattle.std.specs.Prelude.{◌≡◌, IfOk};
 ghost use Rattle.moxi_scripts.specs.ScriptView.{plain_script};
 ghost use Rattle.smv_flatten.specs.FlatModel.{flat_plain};
@@ -16,8 +16,9 @@ use smv_script_laws::{
 use std::alloc::Global;
 use text_core::NoMemory;
 
-/// The script of MoXI that stands for a flat form, its one system by itself, so that the system's formulas can be moved out of it.
-/// Only want of memory keeps it from being made.
+/// Returns the MoXI script of a flat form, with its only system by value so that the system's formulas can be moved.
+///
+/// It fails only if memory runs out.
 pub fn to_single(alloc: Global, flat: &Flat) -> Result<SingleScript, NoMemory>
     ensures { IfOk result (λ s. plain_single s ≡ script_of (flat_plain flat.now) flat.now.width) }
 {
@@ -34,9 +35,11 @@ pub fn to_single(alloc: Global, flat: &Flat) -> Result<SingleScript, NoMemory>
     single
 }
 
-/// The script of MoXI that stands for a flat form (MoXI, SPIN 2024): one system with a variable for each item, and for each invariant
-/// a query that a state which breaks it meets. It is linear in the model's weight, and neither high nor deep. Only want of memory
-/// keeps it from being made.
+/// Returns the MoXI script of a flat form (MoXI, SPIN 2024).
+///
+/// The script has one system with a variable for each item. For each invariant it has a query that is met by a state
+/// that breaks the invariant. Its size is linear in the model's weight; its terms are not high, and its brackets are
+/// not deep. It fails only if memory runs out.
 pub fn to_moxi(alloc: Global, flat: &Flat) -> Result<Script, NoMemory>
     ensures script { IfOk result (λ s. plain_script s ≡ script_of (flat_plain flat.now) flat.now.width) }
     ensures bounded { IfOk result (λ s. IsBounded flat.now.weight (plain_script s)) }

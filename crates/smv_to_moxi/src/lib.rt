@@ -1,4 +1,4 @@
-//! The script of MoXI that stands for a flat form, as code makes it.
+//! Translates the flat form of an SMV model to its MoXI script.
 #![tactic(auto)]
 
 mod flat_script;

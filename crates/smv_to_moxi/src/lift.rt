@@ -1,4 +1,4 @@
-// The run for which a trace of the script's system stands.
+// The run that a trace of the script's system encodes.
 ghost use Rattle.std.specs.Prelude.{◌≡◌, ◌≤◌, ◌<◌, ◌^◌, ◌-◌, map, length, IfOk};
 ghost use Rattle.std.specs.List.{AllByRecursion};
 ghost use Rattle.word_core.specs.Table.{signed_value};
@@ -19,7 +19,7 @@ use smv_meaning::{Given, Run, State, States, Value};
 use std::alloc::Global;
 use text_core::NoMemory;
 
-// What is read of a step: a state, or the label of the transition to the next one.
+// The part of a step that is read: the state, or the label of the transition to the next one.
 #[derive(Clone, Copy)]
 enum Part {
     State,
@@ -27,7 +27,7 @@ enum Part {
 }
 
 impl Part {
-    // A state gives a value to each state and frozen variable, a label to each input.
+    // A state has a value for each state and frozen variable, a label for each input.
     fn picks(self, kind: ItemKind) -> bool
         ensures { result ≡ picks self kind }
     {
@@ -39,7 +39,7 @@ impl Part {
     }
 }
 
-// The integer that so many bits are in two's complement.
+// The integer that the bits represent in two's complement.
 fn signed_value(width: u32, bits: u128) -> i64
     requires some { 1 ≤ width }
     requires bound { width ≤ 64 }
@@ -54,7 +54,7 @@ fn signed_value(width: u32, bits: u128) -> i64
     }
 }
 
-// The value of the type that has this datum.
+// The value of the type with this datum.
 fn value_of(alloc: Global, flat: &Flat, ty: Ty, datum: Datum) -> Result<Value, NoMemory>
     requires { IsOf (symbol_sort flat.now.symbols) (sort_of flat.now.width (seen ty)) datum }
     ensures { IfOk result (λ value. value ≡ value_of flat.now.symbols (seen ty) datum) }
@@ -83,7 +83,7 @@ fn given(alloc: Global, flat: &Flat, item: &FlatItem, datum: Datum) -> Result<Gi
     Ok(Given { name, value })
 }
 
-// The variables of the part stand one behind the other in the system, in flat order from the first on.
+// Reads the part's variables, which are consecutive in the system, in flat order from `first` on.
 fn read(
     alloc: Global,
     flat: &Flat,
@@ -143,9 +143,10 @@ fn count_inputs(items: &[FlatItem]) -> usize
     count
 }
 
-/// The run for which a trace of the system of the flat form's script stands (MoXI, SPIN 2024; which datum stands for which
-/// value is this translator's own): a state of each step, and a label of each step but the last. Each names its variables in
-/// flat order.
+/// Returns the run that a trace of the system of the flat form's script encodes (MoXI, SPIN 2024).
+///
+/// It has a state for each step, and a label for each step but the last. Each names its variables in flat order. (The
+/// encoding of values as data is this translator's own.)
 pub fn lift_states(alloc: Global, flat: &Flat, trace: &MoxiTrace) -> Result<Run, NoMemory>
     requires { IsTraceOf flat.now trace.now }
     ensures { IfOk result (λ run. run ≡ run_of (flat_plain flat.now) (coding_of (flat_plain flat.now) flat.now.width) (trace_of trace.now) (length trace.now - 1)) }

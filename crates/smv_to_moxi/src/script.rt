@@ -28,7 +28,7 @@ use std::alloc::Global;
 use std::mem;
 use text_core::{Name, Names, NoMemory, Numbers, Place, Text};
 
-/// The script of a flat form, whose one system stands by itself (MoXI, SPIN 2024).
+/// The script of a flat form, with its only system by value (MoXI, SPIN 2024).
 #[derive(Drop)]
 pub struct SingleScript {
     pub logic: Name,
@@ -48,7 +48,8 @@ fn constant_names(alloc: Global, symbols: &Names) -> Result<Names, NoMemory>
     Ok(all)
 }
 
-// Declares the one sort that has the symbols as constants, where there are any. More than 32 bits number stand in no accepted model.
+// Declares the one sort whose constants are the symbols, if there are any. No accepted model has more symbols than 32
+// bits can number.
 fn declare_symbols(alloc: Global, scope: &mut Scope, symbols: &Names) -> Result<(), NoMemory>
     requires { scope.old ≡ no_scope }
     ensures { OnOk result (scope.new ≡ symbol_scope symbols.now) }
@@ -68,7 +69,7 @@ fn declare_symbols(alloc: Global, scope: &mut Scope, symbols: &Names) -> Result<
     }
 }
 
-// The symbols by their numbers. The symbols of a flat form differ.
+// The symbols, by number. The symbols of a flat form are distinct.
 fn symbol_set(alloc: Global, symbols: &Names) -> Result<NameSet, NoMemory>
     ensures { IfOk result (λ s. s ≡ symbols.now) }
 {
@@ -119,7 +120,7 @@ fn system_of<'f>(alloc: Global, coding: &Coding, flat: &FlatParts<'f>) -> Result
     system_with(alloc, coding, flat, &chains)
 }
 
-// A letter with a dot, and a number.
+// The prefix `letter`, followed by a number.
 fn numbered(alloc: Global, letter: &[u8], number: usize) -> Result<Name, NoMemory>
     ensures { IfOk result (λ n. n ≡ letter.now ++ decimal number) }
 {
@@ -158,7 +159,7 @@ fn reachable_of(
     Ok(Formula { name, term })
 }
 
-// Is the formula an invariant?
+// Whether the formula is an invariant.
 fn is_invariant(form: &FlatFormula) -> bool
     ensures { result ≡ is_invariant form.now.role }
 {
@@ -168,7 +169,7 @@ fn is_invariant(form: &FlatFormula) -> bool
     }
 }
 
-// What is reached where an invariant is broken, for each.
+// The reachable formula of each invariant: the invariant is broken.
 fn reachables_of(
     alloc: Global,
     coding: &Coding,
@@ -186,7 +187,7 @@ fn reachables_of(
     Ok(all)
 }
 
-// The query for each invariant.
+// The query of each invariant.
 fn queries_of(alloc: Global, formulas: &[FlatFormula]) -> Result<Queries, NoMemory>
     ensures { IfOk result (λ qs. qs ≡ queries_from 0 (forms_invariants (map form_plain formulas.now))) }
 {
@@ -200,7 +201,7 @@ fn queries_of(alloc: Global, formulas: &[FlatFormula]) -> Result<Queries, NoMemo
     Ok(all)
 }
 
-// A variable once more.
+// A copy of a variable.
 fn variable_again(alloc: Global, variable: &Variable) -> Result<Variable, NoMemory>
     ensures { IfOk result (λ v. v ≡ variable.now) }
 {
@@ -211,7 +212,7 @@ fn variable_again(alloc: Global, variable: &Variable) -> Result<Variable, NoMemo
     })
 }
 
-// Variables once more.
+// A copy of the variables.
 fn variables_again(alloc: Global, variables: &Variables) -> Result<Variables, NoMemory>
     ensures { IfOk result (λ vs. vs ≡ variables.now) }
 {
@@ -223,7 +224,7 @@ fn variables_again(alloc: Global, variables: &Variables) -> Result<Variables, No
     Ok(all)
 }
 
-// The check, which has the variables of the system.
+// The check, which has copies of the system's variables.
 fn check_of<'f>(
     alloc: Global,
     coding: &Coding,
@@ -256,7 +257,7 @@ fn check_of<'f>(
     })
 }
 
-// The bits of integers, and the numbers of the items' variables.
+// The width of integers, and the numbers of the items' variables.
 fn coding_of(alloc: Global, width: u32, items: &[FlatItem]) -> Result<Coding, NoMemory>
     ensures width { IfOk result (λ c. c.width ≡ width) }
     ensures places { IfOk result (λ c. (λ k. place_at c.places.items k) ≡ place_of_item (map item_plain items.now)) }
@@ -265,7 +266,7 @@ fn coding_of(alloc: Global, width: u32, items: &[FlatItem]) -> Result<Coding, No
     Ok(Coding { width, places })
 }
 
-// The script of these parts; the scope is taken out.
+// The script of these parts; the scope is moved out.
 pub(crate) fn assembled(
     alloc: Global,
     logic: Name,
@@ -287,7 +288,7 @@ pub(crate) fn assembled(
     })
 }
 
-// These parts by themselves; the scope is taken out.
+// These parts as a script with its system by value; the scope is moved out.
 fn single_with(
     alloc: Global,
     logic: Name,
@@ -356,7 +357,7 @@ fn logic_of(alloc: Global) -> Result<Name, NoMemory>
     Name::of(alloc, b"QF_BV")
 }
 
-// The script of a flat form with this coding, given a scope of nothing.
+// The script of a flat form with this coding, given an empty scope.
 fn coded_single<'f>(
     alloc: Global,
     coding: &Coding,
@@ -374,7 +375,7 @@ fn coded_single<'f>(
     single_of_scope(alloc, coding, flat, logic, scope)
 }
 
-// The script of this flat, whose integers have so many bits.
+// The script of this flat form, whose integers have this width.
 fn single_from<'f>(
     alloc: Global,
     width: u32,
@@ -390,7 +391,9 @@ fn single_from<'f>(
     coded_single(alloc, &coding, flat, symbols, scope)
 }
 
-/// The script of a flat form of these items, symbols and formulas, whose integers have so many bits.
+/// Returns the script of a flat form with these items, symbols and formulas, whose integers have this width.
+///
+/// The scope must be empty.
 pub(crate) fn single_in(
     alloc: Global,
     width: u32,

@@ -1,4 +1,4 @@
-// Why a line with a value is refused.
+// Faults of a line with a value.
 ghost use Rattle.std.specs.Prelude.{◌≡◌};
 ghost use Rattle.smv_trace.specs.Answer.{end_at};
 
@@ -6,8 +6,10 @@ use crate::reader::refused;
 use text_core::kinds::trace;
 use text_core::{End, Place};
 
-/// Why a line with a value isn't taken: it doesn't look like one, the heading states no variable of the name, the value isn't spelled
-/// as one of the variable's kind, or memory is refused.
+/// The reason why a line with a value is refused.
+///
+/// The variants are in turn: it does not have the shape of such a line, the heading has no variable of this name, the
+/// value is not spelled like one of the variable's type, and out of memory.
 #[derive(Clone, Copy)]
 pub enum ValueFault {
     Shape,
@@ -17,7 +19,7 @@ pub enum ValueFault {
 }
 
 impl ValueFault {
-    /// How the reading ends, where the line is at this place.
+    /// Returns the failure of the reader, where the line is at this place.
     pub fn at(self, place: Place) -> End
         ensures { result ≡ end_at place self }
     {

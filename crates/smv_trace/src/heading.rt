@@ -1,10 +1,12 @@
-// What stands behind a heading.
+// The headings of a trace.
 ghost use Rattle.std.specs.Prelude.{◌≡◌};
 ghost use Rattle.smv_trace.specs.Runs.{picks};
 
 use smv_flatten::ItemKind;
 
-/// A heading of a trace: behind it stand the values of a state, or of the label that leads to the next state.
+/// A heading of a trace.
+///
+/// After it come the values of a state, or of the label that leads to the next state.
 #[derive(Clone, Copy)]
 pub enum Heading {
     State,
@@ -12,8 +14,9 @@ pub enum Heading {
 }
 
 impl Heading {
-    /// Is an item of this kind stated behind the heading? A state gives a value to each state and frozen variable, a label to
-    /// each input.
+    /// Returns whether an item of this kind has a value under the heading.
+    ///
+    /// A state has the values of state and frozen variables, a label those of inputs.
     pub fn picks(self, kind: ItemKind) -> bool
         ensures { result ≡ picks self kind }
     {

@@ -1,4 +1,4 @@
-//! Traces of SMV models: printed, and read against the flat form of a model.
+//! Traces of SMV models: the printer, and the reader against the flat form of a model.
 #![tactic(auto)]
 
 mod fault;

@@ -1,4 +1,4 @@
-// The reader of a whole text.
+// The reader of a whole trace text.
 ghost use Rattle.std.specs.Prelude.{◌≡◌, ◌≤◌, ◌<◌, ◌+◌, ◌^◌, length, true, IfOk};
 ghost use Rattle.text_core.specs.Places.{start, after};
 ghost use Rattle.smv_trace_text.specs.Lines.{lines_of, behind_line};
@@ -16,10 +16,10 @@ use std::alloc::Global;
 use text_core::kinds::trace;
 use text_core::{End, FIRST_PLACE, Place};
 
-/// Why a text is not read as a trace.
+/// The failure of the reader: a refusal, or out of memory.
 pub type TraceEnd = End;
 
-// The place of the line behind this one.
+// The place of the line after this one.
 fn behind_line(at: Place, line: &[u8]) -> Place
     requires line { at.line + 1 < 2 ^ 32 }
     requires offset { at.offset + length line.now + 1 < 2 ^ 32 }
@@ -54,7 +54,7 @@ fn read_lines(alloc: Global, table: &Table, text: &[u8], reader: &mut Reader) ->
     }
 }
 
-// The run of a text that is short enough, against what a model declares.
+// The run of a text within the byte limit, against the declarations of a model.
 fn read_against(alloc: Global, table: &Table, text: &[u8]) -> Result<Run, TraceEnd>
     requires { length text.now ≤ MOST_BYTES }
     ensures { Answers (trace_of table.now text.now) result }
@@ -64,7 +64,7 @@ fn read_against(alloc: Global, table: &Table, text: &[u8]) -> Result<Run, TraceE
     Ok(reader.run())
 }
 
-// The run of a text that is short enough.
+// The run of a text within the byte limit.
 fn read_text(alloc: Global, flat: &Flat, text: &[u8]) -> Result<Run, TraceEnd>
     requires { length text.now ≤ MOST_BYTES }
     ensures { Answers (trace_of (declarations_of flat.now) text.now) result }
@@ -73,19 +73,24 @@ fn read_text(alloc: Global, flat: &Flat, text: &[u8]) -> Result<Run, TraceEnd>
     read_against(alloc, &table, text)
 }
 
-/// The run that a text states for a model (the layout is this translator's own; headings and values look like those of NuSMV's
-/// counterexamples). Blanks around a line don't count. Blank lines, lines that begin with `--`, all lines before the first heading
-/// of a state and values of definitions are passed over. The first numbers of all headings are the same, the second count states
-/// from 1, and the heading of a label has the number of the state that follows. Values are carried forward, and a label behind
-/// the last state is dropped. A refusal is at a line: `Y1` where no shape fits or the numbering is wrong, `Y2` where the heading
-/// states no variable of the name, `Y3` where the value isn't spelled as one of the variable's kind, `Y4` at the heading of a
-/// variable that has no value, and `Y5` past a limit of states, of states times variables, or of bytes.
+/// Returns the run that a text states for a model.
+///
+/// Blanks around a line don't count. Blank lines, lines that begin with `--`, all lines before the first heading of a
+/// state, and values of definitions are skipped. The first numbers of all headings are the same; the second numbers
+/// count states from 1. The heading of a label has the number of the following state. Values are carried forward, and a
+/// label after the last state is dropped. (The layout is this translator's own; headings and values look like those of
+/// NuSMV's counterexamples.)
+///
+/// A refusal is at a line. `Y1`: the line has no known shape, or its numbers are wrong. `Y2`: the heading has no
+/// variable of this name. `Y3`: the value is not spelled like one of the variable's type, whatever its range. `Y4`: a
+/// variable has no value; the place is its heading. `Y5`: more states, more states times variables, or more bytes than
+/// the limit.
 pub fn read_trace(alloc: Global, flat: &Flat, text: &[u8]) -> Result<Run, TraceEnd>
-    // What the text states, or its first refusal.
+    // The result is the run that the text states, or its first refusal.
     ensures exact { Answers (trace_of (declarations_of flat.now) text.now) result }
     // The run names each variable, with values that a trace can state.
     ensures stated { IfOk result (IsStatedRun (declarations_of flat.now)) }
-    // It keeps the limits.
+    // The run is within the limits.
     ensures within { IfOk result (λ run. is_within (declarations_of flat.now) (length run.states) ≡ true) }
 {
     if text.len() > MOST_BYTES {

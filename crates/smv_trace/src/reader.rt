@@ -28,10 +28,10 @@ use text_core::{End, FIRST_PLACE, Kind, Name, NoMemory, Place, Refusal};
 pub const MOST_BYTES: usize = 67108864;
 /// The most states of a trace.
 pub const MOST_STATES: u64 = 100000;
-/// The most that the states of a trace times the variables may be, inputs among them.
+/// The most values of a trace: its states times its variables, including inputs.
 pub const MOST_VALUES: u64 = 4000000;
 
-/// Where the reading of a trace stands.
+/// The state of the reader of a trace.
 #[derive(Drop)]
 pub struct Reader {
     heading: Option<Heading>,
@@ -98,7 +98,7 @@ fn add_given(
     }
 }
 
-// The values of the variables of the heading, in order.
+// The values of the heading's variables, in order.
 #[tactic(auto, using(crate::proofs::Lists::values_end))]
 fn values_of(
     alloc: Global,
@@ -116,14 +116,14 @@ fn values_of(
     Ok(state)
 }
 
-// Is an item a variable of the heading that has no value yet?
+// Whether an item is a variable of the heading without a value.
 fn is_missing(heading: Heading, item: &FlatItem, stated: &Option<Value>) -> bool
     ensures { result ≡ (picks heading item.now.kind && is_none stated.now) }
 {
     heading.picks(item.kind) && stated.is_none()
 }
 
-// Has a variable of the heading no value yet?
+// Whether a variable of the heading has no value yet.
 #[tactic(auto, using(crate::proofs::Lists::lacks_end))]
 fn lacks(table: &Table, heading: Heading, stated: &[Option<Value>]) -> bool
     requires { length stated.now ≡ length table.now.items }
@@ -137,7 +137,7 @@ fn lacks(table: &Table, heading: Heading, stated: &[Option<Value>]) -> bool
     false
 }
 
-// No value for each item.
+// A list without a value for any item.
 fn nothing_stated(alloc: Global, table: &Table) -> Result<Vec<Option<Value>>, NoMemory>
     ensures { IfOk result (λ stated. stated.items ≡ nothing_stated table.now.items) }
 {
@@ -148,7 +148,7 @@ fn nothing_stated(alloc: Global, table: &Table) -> Result<Vec<Option<Value>>, No
     Ok(stated)
 }
 
-// Are the digits those of the number?
+// Whether the digits are those of the number.
 fn is_decimal(digits: &[u8], number: u128) -> bool
     ensures { result ≡ bytes_eq digits.now (decimal number) }
 {
@@ -156,7 +156,7 @@ fn is_decimal(digits: &[u8], number: u128) -> bool
     digits == buffer.format(number).as_bytes()
 }
 
-// May a trace have so many states?
+// Whether a trace may have this number of states.
 fn is_within(table: &Table, states: u128) -> bool
     requires { states < 2 ^ 64 + 1 }
     ensures { result ≡ is_within table.now states }
@@ -172,7 +172,7 @@ fn is_define(kind: ItemKind) -> bool
 }
 
 impl Reader {
-    /// A reader that has read nothing.
+    /// Creates a reader that has read nothing.
     pub fn new(alloc: Global, table: &Table) -> Result<Reader, NoMemory>
         ensures { IfOk result (λ r. r ≡ begin table.now) }
     {
@@ -191,7 +191,7 @@ impl Reader {
         })
     }
 
-    /// The run that was read.
+    /// Returns the run that was read.
     pub fn run(self) -> Run
         ensures { result ≡ record { states = self.states; labels = self.labels } }
     {
@@ -201,14 +201,14 @@ impl Reader {
         }
     }
 
-    // Has a heading been read?
+    // Whether a heading has been read.
     fn has_begun(&self) -> bool
         ensures { result ≡ is_some self.now.heading }
     {
         self.heading.is_some()
     }
 
-    // The number of the state that comes next, from 1 on.
+    // The number of the next state, counted from 1.
     fn number(&self) -> u128
         ensures value { result ≡ length self.now.states + 1 }
         ensures small { result < 2 ^ 64 + 1 }
@@ -224,7 +224,7 @@ impl Reader {
             || (self.states.len() != 0 && lacks(table, Heading::Input, &self.stated))
     }
 
-    // Adds the label that leads to the state, where the state isn't the first.
+    // Adds the label that leads to the state, unless the state is the first.
     fn add_label(&mut self, alloc: Global, table: &Table) -> Result<(), NoMemory>
         requires { length self.old.stated ≡ length table.now.items }
         ensures sized { length self.new.stated ≡ length self.old.stated }
@@ -247,7 +247,7 @@ impl Reader {
         self.states.push(state)
     }
 
-    // Ends the lines of the last heading, where nothing or a heading of this kind comes behind.
+    // Ends the lines of the last heading, before the end of the text or a heading of kind `next`.
     fn end(&mut self, alloc: Global, table: &Table, next: Heading) -> Result<(), End>
         requires { length self.old.stated ≡ length table.now.items }
         ensures sized { length self.new.stated ≡ length self.old.stated }
@@ -414,7 +414,7 @@ impl Reader {
         }
     }
 
-    // A line that doesn't begin like a heading.
+    // A line that does not begin like a heading.
     fn plain_line(
         &mut self,
         alloc: Global,
@@ -436,7 +436,7 @@ impl Reader {
         }
     }
 
-    // A line that is no heading of a state.
+    // A line that is not the heading of a state.
     fn other_line(
         &mut self,
         alloc: Global,
@@ -482,7 +482,7 @@ impl Reader {
         }
     }
 
-    /// Reads one line at this place, which has no blanks around it.
+    /// Reads one line at this place, without blanks around it.
     pub fn take_line(
         &mut self,
         alloc: Global,

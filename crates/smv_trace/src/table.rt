@@ -1,4 +1,4 @@
-// What a trace is read against, with its names found without a scan.
+// The declarations against which a trace is read, with a lookup table of their names.
 ghost use Rattle.std.specs.Prelude.{◌≡◌, ◌<◌, ◌++◌, Some, map, length, is_some, IfOk, IfSome, slice_get};
 ghost use Rattle.name_maps.specs.Names.{place_of};
 ghost use Rattle.smv_items.specs.FlatItemView.{item_plain};
@@ -12,7 +12,7 @@ use std::alloc::Global;
 use std::marker::Model;
 use text_core::NoMemory;
 
-/// The items and the symbols of a model, and how many variables there are.
+/// The items and symbols of a model, and the number of its variables.
 #[derive(Drop)]
 pub struct Table<'a> {
     items: &'a FlatItems,
@@ -34,7 +34,7 @@ impl<'a> Model for Table<'a> {
     ghost invariant = { λ t. (t.names ≡ map (λ m. m.name) (map item_plain t.items.now)) × (t.variables ≡ length (variables_of (map item_plain t.items.now))) };
 }
 
-// The names of the items, each of which an accepted model has once.
+// The names of the items, which are distinct in an accepted model.
 #[tactic(auto, using(crate::proofs::Lists::front_is, crate::proofs::Lists::end_is, crate::proofs::Lists::joined_on))]
 fn names_of(alloc: Global, items: &FlatItems) -> Result<NameTable, NoMemory>
     ensures { IfOk result (λ names. names ≡ map (λ m. m.name) (map item_plain items.now)) }
@@ -54,7 +54,7 @@ fn is_variable(item: &FlatItem) -> bool
     Heading::State.picks(item.kind) || Heading::Input.picks(item.kind)
 }
 
-// How many variables there are, inputs among them.
+// The number of variables, including inputs.
 #[tactic(auto, using(crate::proofs::Lists::front_is, crate::proofs::Lists::end_is))]
 fn variables_in(items: &FlatItems) -> usize
     ensures { result ≡ length (variables_of (map item_plain items.now)) }
@@ -68,7 +68,7 @@ fn variables_in(items: &FlatItems) -> usize
     count
 }
 
-// The symbols, each of which a flat form has once.
+// The symbols, which are distinct in a flat form.
 fn symbols_of(alloc: Global, flat: &Flat) -> Result<NameSet, NoMemory>
     ensures { IfOk result (λ symbols. symbols ≡ flat.now.symbols) }
 {
@@ -81,7 +81,7 @@ fn symbols_of(alloc: Global, flat: &Flat) -> Result<NameSet, NoMemory>
 }
 
 impl<'a> Table<'a> {
-    /// What a flat form declares.
+    /// Creates the table of a flat form's declarations.
     pub fn of(alloc: Global, flat: &'a Flat) -> Result<Table<'a>, NoMemory>
         ensures { IfOk result (λ table. table ≡ declarations_of flat.now) }
     {
@@ -97,14 +97,14 @@ impl<'a> Table<'a> {
         })
     }
 
-    /// How many items there are.
+    /// Returns the number of items.
     pub fn len(&self) -> usize
         ensures { result ≡ length self.now.items }
     {
         self.items.len()
     }
 
-    /// The item of this number.
+    /// Returns the item with this number.
     pub fn item(&self, k: usize) -> &FlatItem
         requires { k < length self.now.items }
         ensures { slice_get self.now.items k ≡ Some (item_plain result.now) }
@@ -112,14 +112,14 @@ impl<'a> Table<'a> {
         self.items.at(k)
     }
 
-    /// The names of the items.
+    /// Returns the names of the items.
     pub fn names(&self) -> &NameTable
         ensures { result.now ≡ map (λ m. m.name) self.now.items }
     {
         &self.names
     }
 
-    /// The number of the item of this name.
+    /// Returns the number of the item with this name, or None where there is none.
     pub fn place(&self, successors: &mut Successors, name: &[u8]) -> Option<usize>
         ensures place { result ≡ place_of (map (λ m. m.name) self.now.items) name.now }
         ensures within { IfSome result (λ k. k < length self.now.items) }
@@ -127,14 +127,14 @@ impl<'a> Table<'a> {
         successors.place(&self.names, name)
     }
 
-    /// Is there a symbol of this name?
+    /// Returns whether there is a symbol with this name.
     pub fn has_symbol(&self, name: &[u8]) -> bool
         ensures { result ≡ is_some (place_of self.now.symbols name.now) }
     {
         self.symbols.place(name).is_some()
     }
 
-    /// How many variables there are, inputs among them.
+    /// Returns the number of variables, including inputs.
     pub fn variables(&self) -> usize
         ensures { result ≡ length (variables_of self.now.items) }
     {

@@ -26,7 +26,7 @@ fn truth_of(text: &[u8]) -> Option<Value>
     }
 }
 
-// The integer that the digits behind a `-` spell, from -2^62 on.
+// The integer that the digits after a `-` spell, at least -2^62.
 fn negative_of(digits: &[u8]) -> Option<i64>
     ensures { result ≡ negative_of digits.now }
 {
@@ -38,7 +38,7 @@ fn negative_of(digits: &[u8]) -> Option<i64>
     Some(-(size as i64))
 }
 
-// The integer that digits spell, to 2^62 - 1.
+// The integer that the digits spell, at most 2^62 - 1.
 fn number_of(digits: &[u8]) -> Option<i64>
     ensures { result ≡ option_map pos (number_of digits.now) }
 {
@@ -92,8 +92,10 @@ fn word_of(alloc: Global, width: u32, text: &[u8]) -> Result<Option<Value>, NoMe
     }
 }
 
-/// The value that is spelled for a variable of a type, whatever its range or its symbols are: TRUE or FALSE, an integer from
-/// -2^62 to 2^62 - 1, a symbol of the model, or a literal of a word of the width.
+/// Parses the value of a variable of this type, or returns None where the text is not one.
+///
+/// A value is TRUE or FALSE, an integer from -2^62 to 2^62 - 1, a symbol of the model, or a word literal of the type's
+/// width. It need not be in the type's range or among its symbols.
 pub fn value_of(
     alloc: Global,
     table: &Table,

@@ -1,4 +1,4 @@
-//! Traces of SMV models as texts: the printed layout of a stated run, and what each line of a trace says by itself.
+//! Traces of SMV models as texts: the printed layout of a stated run, and the parts of a single line.
 #![tactic(auto)]
 
 mod lines;

@@ -1,4 +1,4 @@
-// Lines of a trace, and what each says by itself.
+// Lines of a trace, each parsed by itself.
 ghost use Rattle.std.specs.Prelude.{◌≡◌, ◌≤◌, ℕ, List, None, false, length};
 ghost use Rattle.std.specs.List.{list_all};
 ghost use Rattle.text_core.specs.Bytes.{is_digit};
@@ -9,7 +9,7 @@ ghost use Rattle.smv_trace_text.specs.Parts.{seen};
 use memchr::memchr;
 use text_core::is_digit;
 
-/// How many bytes stand before the first of this kind.
+/// Returns the number of bytes before the first byte `mark`.
 pub(crate) fn length_before(mark: u8, text: &[u8]) -> usize
     ensures value { result ≡ front_length (is_other mark) text.now }
     ensures within { result ≤ length text.now }
@@ -26,7 +26,7 @@ pub(crate) fn length_before(mark: u8, text: &[u8]) -> usize
     count
 }
 
-/// How many bytes stand before the end of the first line.
+/// Returns the number of bytes before the end of the first line.
 pub fn line_length(text: &[u8]) -> usize
     ensures value { result ≡ front_length (is_other 10) text.now }
     ensures within { result ≤ length text.now }
@@ -37,7 +37,7 @@ pub fn line_length(text: &[u8]) -> usize
     }
 }
 
-// What stands before the first byte of this kind, and what stands behind it, where there is one.
+// The text before the first byte `mark` and the text after it, if there is one.
 fn halves(mark: u8, text: &[u8]) -> Option<(&[u8], &[u8])>
     ensures { seen result ≡ halves mark text.now }
 {
@@ -46,7 +46,7 @@ fn halves(mark: u8, text: &[u8]) -> Option<(&[u8], &[u8])>
     Some((front, behind))
 }
 
-// A blank of SMV: tab, line feed, vertical tab, form feed, carriage return, or the space.
+// Whether it is a blank of SMV: tab, line feed, vertical tab, form feed, carriage return, or space.
 fn is_blank(b: u8) -> bool
     ensures { result ≡ is_blank b }
 {
@@ -79,7 +79,7 @@ fn without_end(line: &[u8]) -> &[u8]
     rest
 }
 
-/// A line without the blanks around it.
+/// Returns the line without the blanks around it.
 pub fn trim(line: &[u8]) -> &[u8]
     ensures { result.now ≡ trimmed line.now }
 {
@@ -97,7 +97,7 @@ fn all_digits(digits: &[u8]) -> bool
     true
 }
 
-// One or more decimal digits?
+// Whether it is one or more decimal digits.
 fn is_number(digits: &[u8]) -> bool
     ensures { result ≡ is_number digits.now }
 {
@@ -117,7 +117,7 @@ fn without_zeros(digits: &[u8]) -> &[u8]
     rest
 }
 
-/// Is a line passed over? Blank lines are, and those that begin with `--`.
+/// Returns whether a line is skipped: a blank line, or one that begins with `--`.
 pub fn is_passed(line: &[u8]) -> bool
     ensures { result ≡ is_passed line.now }
 {
@@ -165,10 +165,10 @@ fn numbers_behind<'t>(
     numbers_before_end(numbers, end)
 }
 
-/// Does a line begin like a heading or like a line that is passed over?
+/// Returns whether a line begins with `-`, as headings and comments do.
 pub fn begins_with_dash(line: &[u8]) -> bool
     ensures begins { result ≡ heads 45 line.now }
-    // Else it is no heading.
+    // If not, the line is not a heading.
     ensures plain { result ≡ false → (word : List ℕ) → heading_numbers word line.now ≡ None }
 {
     match line.split_first() {
@@ -177,7 +177,8 @@ pub fn begins_with_dash(line: &[u8]) -> bool
     }
 }
 
-/// The two numbers of `-> WORD A.B <-` without the zeros that they begin with, where the line is that.
+/// Returns the two numbers of a line `-> WORD A.B <-` without leading zeros, or None where the line is not of this
+/// form.
 pub fn heading_numbers<'t>(word: &[u8], line: &'t [u8]) -> Option<(&'t [u8], &'t [u8])>
     ensures { seen result ≡ heading_numbers word.now line.now }
 {
@@ -198,7 +199,7 @@ fn value_of_rest<'t>(name: &'t [u8], rest: &'t [u8]) -> Option<(&'t [u8], &'t [u
     }
 }
 
-/// The name and the value of `NAME = VALUE`, where the line is that.
+/// Returns the name and the value of a line `NAME = VALUE`, or None where the line is not of this form.
 pub fn value_parts(line: &[u8]) -> Option<(&[u8], &[u8])>
     ensures { seen result ≡ value_parts line.now }
 {

@@ -1,4 +1,4 @@
-// The printer.
+// The printer of traces.
 ghost use Rattle.std.specs.Prelude.{◌≡◌, ◌++◌, ◌∷◌, [], ◌<◌, ◌^◌, codes, map, OnOk, IfOk};
 ghost use Rattle.std.specs.List.{flat_map};
 ghost use Rattle.smv_items.specs.FlatItemView.{item_plain};
@@ -17,7 +17,7 @@ fn is_input(kind: ItemKind) -> bool
     matches!(kind, ItemKind::Input)
 }
 
-// Does the model have inputs?
+// Whether the model has inputs.
 #[tactic(auto, using(crate::proofs::Lists::front_is, crate::proofs::Lists::end_is))]
 fn has_inputs(items: &FlatItems) -> bool
     ensures { result ≡ has_inputs (map item_plain items.now) }
@@ -56,14 +56,14 @@ fn put_value(out: &mut Text, value: &Value) -> Result<(), NoMemory>
     }
 }
 
-// The blanks before a name, where a line follows.
+// The blanks before a name, if a line follows.
 fn margin(followed: bool) -> &'static [u8]
     ensures { result.now ≡ margin followed }
 {
     if followed { b"    " } else { b"" }
 }
 
-// What stands behind a name that has a truth value, to the next name.
+// The text from the end of a name with this truth value to the next name.
 fn equal_truth(truth: bool, followed: bool) -> &'static [u8]
     ensures { result.now ≡ codes " = " ++ (truth_text truth ++ 10 ∷ margin followed) }
 {
@@ -75,7 +75,8 @@ fn equal_truth(truth: bool, followed: bool) -> &'static [u8]
     }
 }
 
-// What stands behind a name, to the next name. A truth value is one piece, since most values are.
+// Prints the text from the end of a name to the next name. A truth value is one piece, since most values are truth
+// values.
 fn put_equal(out: &mut Text, value: &Value, followed: bool) -> Result<(), NoMemory>
     ensures { OnOk result (out.new ≡ out.old ++ (codes " = " ++ (value_text value.now ++ 10 ∷ margin followed))) }
 {
@@ -129,7 +130,7 @@ fn put_label(out: &mut Text, inputs: bool, number: u128, label: &State) -> Resul
     put_lines(out, label)
 }
 
-// The labels, each with the state that it leads to, from number 2 on.
+// Prints the labels, each with the state that it leads to, from number 2 on.
 fn put_following(
     out: &mut Text,
     inputs: bool,
@@ -180,9 +181,11 @@ fn put_claim_back(out: &mut Text, count: usize) -> Result<(), NoMemory>
     out.put(b"\n")
 }
 
-/// The printed form of a run that breaks the invariant of this number: a line that says so, then each state with its values in
-/// their order, behind its label where the model has inputs. States are counted from 1, and a label has the number of the state
-/// that it leads to. A word is written as `0ud`, its width, `_` and its decimal digits.
+/// Returns the printed form of a run that breaks invariant j.
+///
+/// The first line names the invariant. Then each state follows with its values in order, after its label where the
+/// model has inputs. States are counted from 1, and a label has the number of the state that it leads to. A word is
+/// `0ud`, its width, `_` and its decimal digits.
 pub fn print_trace(alloc: Global, flat: &Flat, j: u32, run: &Run) -> Result<Text, NoMemory>
     ensures { IfOk result (λ text. text ≡ trace_text (map item_plain flat.now.items) j run.now.states run.now.labels) }
 {

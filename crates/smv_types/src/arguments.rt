@@ -1,4 +1,4 @@
-// Operands whose text is read: divisors, amounts and widths are written numbers.
+// Operands that must be written numbers: divisors, shift amounts and widths.
 ghost use Rattle.std.specs.Prelude.{◌≡◌, map};
 ghost use Rattle.smv_text.specs.Tree.{trees_of};
 ghost use Rattle.smv_text.specs.View.{plain};
@@ -6,7 +6,7 @@ ghost use Rattle.smv_meaning.specs.Types.{divisor_of, is_nonzero, is_divisor, nu
 
 use smv_text::{Expr, Prefix, Shape};
 
-// The integer that a divisor's text stands for: a number, or one `-` and a number.
+// The integer of a divisor: a number, or one `-` and a number.
 pub(crate) fn divisor_of(expr: &Expr) -> Option<i128>
     ensures { result ≡ divisor_of (plain expr.now) }
 {
@@ -20,7 +20,7 @@ pub(crate) fn divisor_of(expr: &Expr) -> Option<i128>
     }
 }
 
-// The number that the text of an amount, a width or an argument is.
+// The number that is written as an amount, a width or an argument.
 pub(crate) fn number_of(expr: &Expr) -> Option<u64>
     ensures { result ≡ number_of (plain expr.now) }
 {
@@ -30,7 +30,7 @@ pub(crate) fn number_of(expr: &Expr) -> Option<u64>
     }
 }
 
-// Is it a number that isn't 0, one `-` and such a number, or a word literal that isn't 0?
+// Whether it is a nonzero number, one `-` and a nonzero number, or a nonzero word literal.
 pub(crate) fn is_divisor(expr: &Expr) -> bool
     ensures { result ≡ is_divisor (plain expr.now) }
 {

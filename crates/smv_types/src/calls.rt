@@ -1,4 +1,4 @@
-// Calls of functions.
+// Checks and types of function calls.
 ghost use Rattle.std.specs.Prelude.{◌≡◌, ◌≤◌, ◌-◌, ◌^◌, true, pos, [], map, Some, None, is_some, nat_lt, option_map, MatchResult};
 ghost use Rattle.smv_text.specs.Tree.{trees_of};
 ghost use Rattle.smv_text.specs.View.{plain};
@@ -21,10 +21,10 @@ use text_core::kinds::smv;
 use text_core::{Place, Refusal};
 use word_core::WIDEST;
 
-// The widest word whose numbers are within the limit of integers.
+// The widest word whose values are all within the limit of integers.
 const WIDEST_INTEGER: u32 = 62;
 
-// The type of an interval that is within the limit.
+// The integer type, or the refusal S17 where its interval exceeds the limit.
 fn bounded(place: Place, t: Option<Ty>) -> Result<Option<Ty>, Refusal>
     ensures { MatchResult result (λ o. (o ≡ t) × (is_some t ≡ true)) (λ why. (t ≡ None) × (why ≡ refusal_at 17 place)) }
 {
@@ -60,7 +60,7 @@ fn bit_of_truth(place: Place, types: &[Ty]) -> Result<Option<Ty>, Refusal>
     }
 }
 
-// The numbers that a word of this width can be.
+// The interval of the values of a word of this width.
 fn word_numbers(width: u32) -> Option<Ty>
     ensures { Kept result (integer_type (pos 0) (pos (2 ^ width - 1))) }
 {
@@ -84,7 +84,7 @@ fn number_of_word(place: Place, types: &[Ty]) -> Result<Option<Ty>, Refusal>
     }
 }
 
-// Is it a width of words?
+// Whether this is a valid width of a word.
 fn is_width(n: u128) -> bool
     ensures { result ≡ is_width n }
 {
@@ -117,7 +117,7 @@ fn word_of_numbers(place: Place, types: &[Ty], arguments: &[Expr]) -> Result<Opt
     }
 }
 
-// Has a word of n bits room for v?
+// Whether v fits a word of n bits.
 fn is_below(v: u64, n: u64) -> bool
     ensures { result ≡ nat_lt v (2 ^ n) }
 {
@@ -228,7 +228,7 @@ fn absolute(place: Place, types: &[Ty]) -> Result<Option<Ty>, Refusal>
     }
 }
 
-// A call whose arguments all have a type.
+// The checks and the type of a call whose arguments all have a type.
 fn applied(
     place: Place,
     function: Function,
@@ -251,7 +251,7 @@ fn applied(
     }
 }
 
-// A call, given what types of its arguments there are.
+// The checks and the type of a call, given the types of its arguments, if all have one.
 fn application(
     place: Place,
     function: Function,
@@ -266,7 +266,10 @@ fn application(
     }
 }
 
-/// The checks and the type of a call, given the types of its arguments.
+/// Returns the type of a call, or None where an argument has no type.
+///
+/// `types` are the types of the arguments. `Err` is the refusal of the call's own first failing check, or out of
+/// memory.
 pub fn check_call(
     alloc: Global,
     place: Place,

@@ -1,4 +1,4 @@
-// Chains that are read from the left: each front that ends with an operand is a node of its own.
+// Left-associative chains: each prefix that ends with an operand is checked as a node of its own.
 ghost use Rattle.std.specs.Prelude.{◌≡◌, false, map, None, Some, option_map};
 ghost use Rattle.smv_text.specs.Tree.{links_of};
 ghost use Rattle.smv_text.specs.View.{plain, plain_link};
@@ -31,7 +31,7 @@ fn number_fits(t: Ty, u: Ty) -> bool
     (t.is_integer() && u.is_integer()) || t.is_as_wide(u)
 }
 
-// Do the operands fit the operator?
+// Whether the operand types fit the operator.
 fn infix_fits(op: Infix, t: Ty, u: Ty) -> bool
     ensures { result ≡ infix_fits op (seen t) (seen u) }
 {
@@ -53,7 +53,7 @@ fn infix_fits(op: Infix, t: Ty, u: Ty) -> bool
     }
 }
 
-// The right operand of a division is a divisor.
+// The right operand of a division must be a divisor.
 fn divides(op: Infix, operand: &Expr) -> bool
     ensures { result ≡ divides op (plain operand.now) }
 {
@@ -63,7 +63,7 @@ fn divides(op: Infix, operand: &Expr) -> bool
     }
 }
 
-// The right operand of a shift is a number from 0 to the width.
+// The right operand of a shift must be a number from 0 to the width.
 fn shifts(op: Infix, t: Ty, operand: &Expr) -> bool
     ensures { result ≡ shifts op (seen t) (plain operand.now) }
 {
@@ -94,7 +94,7 @@ fn is_concat(op: Infix) -> bool
     }
 }
 
-// Words that are joined.
+// Concatenation of words.
 fn joined(at: Standing, place: Place, t: Ty, u: Ty, operand: &Expr) -> Result<Option<Ty>, Refusal>
     ensures { Answers result (front_step Infix.Concat (standing_seen at) place (Some (seen t)) (Some (seen u)) (plain operand.now)) }
 {
@@ -127,7 +127,7 @@ fn combined(
     }
 }
 
-// Where an operand has no type, the position of a set and the text of a divisor are checked alone.
+// Where an operand has no type, only the position of a set and the form of a divisor are checked.
 fn untyped(op: Infix, at: Standing, place: Place, operand: &Expr) -> Result<Option<Ty>, Refusal>
     ensures { Answers result (front_step op (standing_seen at) place None None (plain operand.now)) }
 {
@@ -136,8 +136,10 @@ fn untyped(op: Infix, at: Standing, place: Place, operand: &Expr) -> Result<Opti
     Ok(None)
 }
 
-/// The checks and the type of the front of a chain that ends with an operand, given the types of what stands before it and of the
-/// operand.
+/// Returns the type of a chain's prefix that ends with this operand, or None where it has no type.
+///
+/// `left` is the type of the part before the operator, `right` the type of the operand. `Err` is the refusal of the
+/// node's own first failing check.
 pub fn check_front(
     op: Infix,
     at: Standing,
@@ -163,7 +165,7 @@ pub fn check_front(
     }
 }
 
-/// Is the chain read from the right? A chain of `->` has no other operator.
+/// Returns whether the chain is right-associative: all its operators are `->`.
 pub fn is_from_right(links: &[Link]) -> bool
     ensures { result ≡ is_from_right (links_of (map plain_link links.now)) }
 {
@@ -193,7 +195,7 @@ fn is_implies(op: Infix) -> bool
     }
 }
 
-/// Are its operators all `union`?
+/// Returns whether all operators of the chain are `union`.
 pub fn are_unions(links: &[Link]) -> bool
     ensures { result ≡ are_unions (links_of (map plain_link links.now)) }
 {
@@ -205,7 +207,9 @@ pub fn are_unions(links: &[Link]) -> bool
     true
 }
 
-/// Where a chain's first operand stands: it may be a set in a chain of `union`, where the whole may be one.
+/// Returns the position of a chain's first operand.
+///
+/// In a chain of `union` it may be a set where the whole chain may be one.
 pub fn first_standing(links: &[Link], at: Standing) -> Standing
     ensures { standing_seen result ≡ across (links_of (map plain_link links.now)) (standing_seen at) }
 {
@@ -216,7 +220,7 @@ pub fn first_standing(links: &[Link], at: Standing) -> Standing
     }
 }
 
-/// Where the operand behind an operator stands: behind `in` a set may stand.
+/// Returns the position of the operand after an operator. After `in`, a set is allowed.
 pub fn operand_standing(op: Infix, at: Standing) -> Standing
     ensures { standing_seen result ≡ behind op (standing_seen at) }
 {

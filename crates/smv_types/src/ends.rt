@@ -1,4 +1,4 @@
-// Why an expression has no type.
+// Failures of the checks of an expression.
 ghost use Rattle.std.specs.Prelude.{◌≡◌, true, false, MatchResult};
 ghost use Rattle.smv_meaning.specs.Checks.{Typing};
 ghost use Rattle.smv_types.specs.Outcome.{Answers, Ends};
@@ -6,7 +6,7 @@ ghost use Rattle.smv_types.specs.Outcome.{Answers, Ends};
 use smv_intervals::Ty;
 use text_core::{End, Kind, Place, Refusal};
 
-/// Why the checks of an expression end early: one fails, with the refusal of the first that does, or memory runs out.
+/// The failure of an expression's checks: the refusal of the first failing check, or out of memory.
 pub type CheckEnd = End;
 
 pub(crate) fn refusal(kind: Kind, place: Place) -> Refusal
@@ -15,7 +15,7 @@ pub(crate) fn refusal(kind: Kind, place: Place) -> Refusal
     Refusal { kind, place }
 }
 
-// A check: the refusal where the test fails.
+// A check: returns the refusal where the test fails.
 pub(crate) fn check(kind: Kind, place: Place, test: bool) -> Result<(), Refusal>
     ensures { MatchResult result (λ _. test ≡ true) (λ why. (test ≡ false) × (why ≡ record { kind = kind; place = place })) }
 {
@@ -26,7 +26,7 @@ pub(crate) fn check(kind: Kind, place: Place, test: bool) -> Result<(), Refusal>
     }
 }
 
-// What a node's checks answer.
+// Converts the result of a node's checks.
 pub(crate) fn answered(answer: Result<Option<Ty>, Refusal>) -> Result<Option<Ty>, CheckEnd>
     ensures { (t : Typing) → Answers answer t → Ends result t }
 {

@@ -1,4 +1,4 @@
-//! The checks of SMV expressions in their order, and their types.
+//! The ordered checks of SMV expressions, and their types.
 #![tactic(auto)]
 
 mod arguments;

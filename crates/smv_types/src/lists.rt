@@ -1,4 +1,4 @@
-// The types of several operands.
+// Checks and types of nodes with several operands.
 ghost use Rattle.std.specs.Prelude.{◌≡◌, map, option_map, MatchResult};
 ghost use Rattle.std.specs.List.{list_all};
 ghost use Rattle.text_core.specs.declared.end.End.TheVariants as OfEnd;
@@ -17,7 +17,7 @@ use std::alloc::Global;
 use text_core::kinds::smv;
 use text_core::{Place, Refusal};
 
-// The types of operands that all have one.
+// The types of the operands, if all have one.
 pub(crate) fn all_types(alloc: Global, types: &[Option<Ty>]) -> Result<Option<Vec<Ty>>, CheckEnd>
     ensures { MatchResult result (λ o. option_map (λ v. map seen v.items) o ≡ all_types (map (option_map seen) types.now)) (λ e. e ≡ OfEnd.NoMemory) }
 {
@@ -42,7 +42,7 @@ pub(crate) fn are_truths(types: &[Ty]) -> bool
     true
 }
 
-// Are they all as this one?
+// Whether all types are the same as this one, regardless of intervals.
 fn are_as(t: Ty, types: &[Ty]) -> bool
     ensures { result ≡ list_all (type_same (seen t)) (map seen types.now) }
 {
@@ -54,7 +54,7 @@ fn are_as(t: Ty, types: &[Ty]) -> bool
     true
 }
 
-// Are there some, and have they one type?
+// Whether there is at least one type and all are the same, regardless of intervals.
 fn are_same(types: &[Ty]) -> bool
     ensures { result ≡ are_same (map seen types.now) }
 {
@@ -74,7 +74,7 @@ fn hull_with(t: Ty, types: &[Ty]) -> Ty
     all
 }
 
-// The type that holds all.
+// The smallest type that contains all.
 fn hull_of(types: &[Ty]) -> Ty
     ensures { seen result ≡ hull_of (map seen types.now) }
 {
@@ -84,7 +84,7 @@ fn hull_of(types: &[Ty]) -> Ty
     }
 }
 
-// Do all fit this one as the operands of a logical operator?
+// Whether all fit this one as operands of a logical operator.
 fn all_fit(t: Ty, types: &[Ty]) -> bool
     ensures { result ≡ list_all (logical_fits (seen t)) (map seen types.now) }
 {
@@ -150,7 +150,10 @@ fn gathering(place: Place, at: Standing, types: &Option<Vec<Ty>>) -> Result<Opti
     }
 }
 
-/// The checks and the type of a chain of `->`, given the types of its operands.
+/// Returns the type of a chain of `->`, or None where an operand has no type.
+///
+/// `types` are the types of the operands. `Err` is the refusal of the chain's own first failing check, or out of
+/// memory.
 pub fn check_implication(
     alloc: Global,
     place: Place,
@@ -169,7 +172,9 @@ pub struct BranchTypes {
     pub values: Vec<Option<Ty>>,
 }
 
-/// The checks and the type of a case or a choice.
+/// Returns the type of a case or a choice, or None where it has no type.
+///
+/// `Err` is the refusal of the node's own first failing check, or out of memory.
 pub fn check_branches(
     alloc: Global,
     place: Place,
@@ -182,7 +187,9 @@ pub fn check_branches(
     answered(branching(place, &conditions, &values))
 }
 
-/// The checks and the type of a set, given the types of its elements.
+/// Returns the type of a set, or None where an element has no type.
+///
+/// `types` are the types of the elements. `Err` is the refusal of the set's own first failing check, or out of memory.
 pub fn check_set(
     alloc: Global,
     place: Place,

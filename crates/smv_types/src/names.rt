@@ -1,4 +1,4 @@
-// What the names of expressions are.
+// The properties of names that the checks need.
 ghost use Rattle.std.specs.Prelude.{◌≡◌, Bool, IsTrue};
 ghost use Rattle.smv_text.specs.declared.tree.Path.{Path as PlainPath};
 ghost use Rattle.smv_meaning.specs.Checks.{Named as Meaning};
@@ -7,24 +7,26 @@ ghost use Rattle.smv_types.specs.View.{named_seen};
 use smv_intervals::Ty;
 use smv_text::Path;
 
-/// What a name is (NuSMV 2.6 User Manual, 2.3).
+/// The properties of a name (NuSMV 2.6 User Manual, 2.3).
 #[derive(Clone, Copy, PartialEq, Eq)]
 pub struct Named {
-    /// Its type. None for an instance, for a variable whose declared type fails a check, and for a definition or an actual
+    /// Its type.
+    ///
+    /// None for an instance, for a variable whose declared type fails a check, and for a definition or an actual
     /// parameter whose own check fails or that has no type.
     pub ty: Option<Ty>,
-    /// Is it an instance of a module?
+    /// Whether it is an instance of a module.
     pub is_instance: bool,
-    /// Is it an input, or a definition or an actual parameter that reaches one?
+    /// Whether it is an input, or a definition or an actual parameter that depends on one.
     pub reaches_input: bool,
 }
 
-/// What gives names their meaning: one meaning for each path that it knows.
+/// A scope of names: it gives each path that it knows one meaning.
 pub trait Scope {
-    /// What a known path is.
+    /// The meaning of a known path.
     ghost names: { Self → PlainPath → Meaning };
 
-    /// The paths that are known.
+    /// Whether a path is known.
     ghost knows: { Self → PlainPath → Bool };
 
     fn named(&self, path: &Path) -> Named

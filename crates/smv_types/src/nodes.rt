@@ -1,4 +1,4 @@
-// The checks and the types of single nodes, given the types of their operands.
+// Checks and types of single nodes, given the types of their operands.
 ghost use Rattle.std.specs.Prelude.{◌≡◌, MatchResult, Some, option_map, pos};
 ghost use Rattle.smv_meaning.specs.Types.{prefix_fits, prefix_type};
 ghost use Rattle.smv_intervals.specs.View.{seen};
@@ -17,7 +17,9 @@ use smv_text::Prefix;
 use text_core::kinds::smv;
 use text_core::{Place, Refusal};
 
-/// The checks and the type of a number.
+/// Returns the type of a number.
+///
+/// `Err` is the refusal of its first failing check.
 pub fn number(place: Place, n: u64) -> Result<Option<Ty>, Refusal>
     ensures { Answers result (number_step place n) }
 {
@@ -27,7 +29,9 @@ pub fn number(place: Place, n: u64) -> Result<Option<Ty>, Refusal>
     }
 }
 
-/// Those of a name, given what it is.
+/// Returns the type of a name, or None where it has none, given the name's properties.
+///
+/// `Err` is the refusal of its first failing check.
 pub fn name(place: Place, at: Standing, named: Named) -> Result<Option<Ty>, Refusal>
     ensures { Answers result (name_step place (standing_seen at) (named_seen named)) }
 {
@@ -36,7 +40,7 @@ pub fn name(place: Place, at: Standing, named: Named) -> Result<Option<Ty>, Refu
     Ok(named.ty)
 }
 
-// Does the sign fit the type?
+// Whether the prefix operator fits the type.
 fn sign_fits(sign: Prefix, t: Ty) -> bool
     ensures { result ≡ prefix_fits sign (seen t) }
 {
@@ -61,7 +65,10 @@ fn signed_type(sign: Prefix, count: u32, t: Ty) -> Option<Ty>
     }
 }
 
-/// Those of a sign that stands so many times before an operand of this type.
+/// Returns the type of an operand after `count` repetitions of a prefix operator, or None where the operand has no
+/// type.
+///
+/// `Err` is the refusal of the node's own first failing check.
 pub fn check_sign(
     place: Place,
     sign: Prefix,
@@ -82,7 +89,9 @@ pub fn check_sign(
     }
 }
 
-/// Those of the bits of a word from the high end to the low end.
+/// Returns the type of a bit selection from the high to the low end, or None where the operand has no type.
+///
+/// `Err` is the refusal of the node's own first failing check.
 pub fn check_selection(
     place: Place,
     operand: Option<Ty>,
@@ -105,7 +114,9 @@ pub fn check_selection(
     }
 }
 
-/// Those of `next`, given the type of its operand.
+/// Returns the type of `next`, given the type of its operand.
+///
+/// `Err` is the refusal where `next` is not allowed here.
 pub fn check_next(place: Place, at: Standing, operand: Option<Ty>) -> Result<Option<Ty>, Refusal>
     ensures { Answers result (next_step place (standing_seen at) (option_map seen operand)) }
 {
@@ -113,7 +124,9 @@ pub fn check_next(place: Place, at: Standing, operand: Option<Ty>) -> Result<Opt
     Ok(operand)
 }
 
-/// Those of a range in a set.
+/// Returns the type of a range in a set.
+///
+/// `Err` is the refusal of its first failing check.
 pub fn check_range(place: Place, at: Standing, low: i64, high: i64) -> Result<Option<Ty>, Refusal>
     ensures { Answers result (range_step place (standing_seen at) low high) }
 {

@@ -1,9 +1,11 @@
-// Where an expression stands.
+// The positions of expressions.
 ghost use Rattle.std.specs.Prelude.{◌≡◌};
 ghost use Rattle.smv_meaning.specs.Checks.{single, with_sets, under_next};
 ghost use Rattle.smv_types.specs.View.{position_seen, standing_seen};
 
-/// Where a whole expression stands (NuSMV 2.6 User Manual, 2.3): inputs, `next` and sets may stand in some places alone.
+/// The position of a whole expression (NuSMV 2.6 User Manual, 2.3).
+///
+/// Inputs, `next` and sets are each allowed only in some positions.
 #[derive(Clone, Copy, PartialEq, Eq)]
 pub enum Position {
     /// In INIT, INVAR or INVARSPEC: no input, no `next`, no set.
@@ -14,27 +16,27 @@ pub enum Position {
     Define,
     /// An actual parameter: inputs, no `next`, no set.
     Actual,
-    /// Behind `x :=`: sets, no input, no `next`.
+    /// The right side of `x :=`: sets, no input, no `next`.
     AssignNow,
-    /// Behind `init(x) :=`: sets, no input, no `next`.
+    /// The right side of `init(x) :=`: sets, no input, no `next`.
     AssignFirst,
-    /// Behind `next(x) :=`: inputs, `next` and sets.
+    /// The right side of `next(x) :=`: inputs, `next` and sets.
     AssignFollowing,
 }
 
-/// What may stand at a place within an expression.
+/// What is allowed at a position within an expression.
 #[derive(Clone, Copy, PartialEq, Eq)]
 pub struct Standing {
-    /// May inputs be reached?
+    /// Whether inputs are allowed.
     pub inputs: bool,
-    /// May `next` stand?
+    /// Whether `next` is allowed.
     pub nexts: bool,
-    /// May a set stand?
+    /// Whether a set is allowed.
     pub sets: bool,
 }
 
 impl Standing {
-    /// That of a whole expression.
+    /// Returns what is allowed at the top of a whole expression.
     pub fn of(position: Position) -> Standing
         ensures { standing_seen result ≡ position_seen position }
     {
@@ -52,7 +54,7 @@ impl Standing {
         }
     }
 
-    /// The same, where no set may stand.
+    /// Returns the same permissions without sets.
     pub fn without_sets(self) -> Standing
         ensures { standing_seen result ≡ single (standing_seen self) }
     {
@@ -62,14 +64,14 @@ impl Standing {
         }
     }
 
-    /// The same, where a set may stand.
+    /// Returns the same permissions with sets.
     pub fn with_sets(self) -> Standing
         ensures { standing_seen result ≡ with_sets (standing_seen self) }
     {
         Standing { sets: true, ..self }
     }
 
-    /// That under `next`.
+    /// Returns what is allowed under `next`: no input, no `next` and no set.
     pub fn under_next() -> Standing
         ensures { standing_seen result ≡ under_next }
     {

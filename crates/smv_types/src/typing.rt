@@ -1,4 +1,4 @@
-// The checks of an expression and its type, in one pass.
+// The checks and the type of an expression, in one pass.
 ghost use Rattle.std.specs.Prelude.{◌≡◌, [], ◌∷◌, IsTrue, IfOk, IfErr, None, map, option_map};
 ghost use Rattle.std.specs.List.{list_all};
 ghost use Rattle.smv_text.specs.Tree.{prefix, cases, select, call, next, set, links_of, branches_of, trees_of};
@@ -23,9 +23,12 @@ use smv_text::{Branch, Expr, Function, Link, Prefix, Shape};
 use std::alloc::Global;
 use text_core::Place;
 
-/// The type of an expression, with the interval of an integer, where all its checks hold; `Ok(None)` where they hold and it
-/// has no type. Otherwise the first refusal, with S16 to S20 and S23 to S26. Checks come in the order of the text, those of the
-/// operands before those of their node. (NuSMV 2.6 User Manual, 2.2; intervals and their limit are this translator's own.)
+/// Returns the type of an expression with an integer's interval, or None where it has no type though all its checks
+/// hold.
+///
+/// Otherwise `Err` is the first refusal, one of S16 to S20 and S23 to S26, or out of memory. Checks come in the order
+/// of the text, those of operands before those of their node. (NuSMV 2.6 User Manual, 2.2; the intervals and their
+/// limit are this translator's own.)
 pub fn type_of<C: Scope>(
     alloc: Global,
     scope: &C,
@@ -130,7 +133,7 @@ fn next_typed<C: Scope>(
     answered(check_next(place, at, t))
 }
 
-// A chain, given the type of its first operand.
+// The checks and the type of a chain, given the type of its first operand.
 #[cycle(typing)]
 fn chain_typed<C: Scope>(
     alloc: Global,
@@ -150,7 +153,7 @@ fn chain_typed<C: Scope>(
     }
 }
 
-// A chain of `->`, given the type of its first operand.
+// The checks and the type of a chain of `->`, given the type of its first operand.
 #[cycle(typing)]
 fn implications_typed<C: Scope>(
     alloc: Global,
@@ -167,7 +170,7 @@ fn implications_typed<C: Scope>(
     check_implication(alloc, place, &types)
 }
 
-// The fronts of a chain in turn, given the type of its first operand.
+// The checks of each prefix of a chain in turn, given the type of its first operand.
 #[cycle(typing)]
 fn fronts_typed<C: Scope>(
     alloc: Global,
@@ -188,7 +191,7 @@ fn fronts_typed<C: Scope>(
     Ok(whole)
 }
 
-// The types of the operands behind the operators of a chain, behind that of its first operand.
+// The types of a chain's operands: the given type of the first, then those after the operators.
 #[cycle(typing)]
 fn operand_types<C: Scope>(
     alloc: Global,
@@ -263,7 +266,7 @@ fn part_types<C: Scope>(
     Ok(types)
 }
 
-// A choice, given the types of its branches.
+// The checks and the type of a choice, given the types of its branches.
 #[cycle(typing)]
 fn choice_typed<C: Scope>(
     alloc: Global,

@@ -1,4 +1,5 @@
-// The intervals of the fronts of a chain that is read from the left; one that leaves the limit of integers counts nothing.
+// Intervals of the prefixes of a left-associative chain. A prefix whose interval exceeds the limit of integers counts
+// nothing.
 ghost use Rattle.std.specs.Prelude.{◌≡◌, option_map};
 ghost use Rattle.smv_meaning.specs.Types.{ExprType, infix_type_by};
 ghost use Rattle.smv_intervals.specs.View.{seen};
@@ -10,7 +11,7 @@ use smv_flat::{FlatExpr, FlatShape};
 use smv_intervals::{Ty, infix_type};
 use smv_text::{Infix, Prefix};
 
-// The type, where it is an integer's.
+// The type, if it is an integer type.
 fn integer(t: Option<Ty>) -> Option<Ty>
     ensures { (is : ExprType) → Kept t is → option_map seen result ≡ integer_within is }
 {
@@ -24,14 +25,16 @@ fn joined(op: Infix, t: Ty, u: Ty, divisor: Option<i128>) -> Option<Ty>
     ensures { option_map seen result ≡ integer_within (infix_type_by op (seen t) (seen u) divisor) }
 {
     match op {
-        // Words, which may be too wide here.
+        // Concatenations, which may be too wide here.
         Infix::Concat => None,
         _ => integer(infix_type(op, t, u, divisor)),
     }
 }
 
-/// The type of the front of a chain that ends with an operand, given the types of what stands before it and of the operand, and the
-/// operand's number where it is a divisor; none where it is no integer's, or where its interval leaves the limit.
+/// Returns the type of a chain's prefix that ends with this operand.
+///
+/// `left` is the type of the part before the operator, `right` that of the operand, and `divisor` the operand's value
+/// where it is a divisor. None is a type that is no integer type, or an interval that exceeds the limit.
 pub(crate) fn front(
     op: Infix,
     left: Option<Ty>,
@@ -58,7 +61,7 @@ fn number_of(expr: &FlatExpr) -> Option<u64>
     }
 }
 
-/// The integer that a divisor stands for: a number, or one `-` and a number.
+/// Returns the integer of a divisor: a number, or one `-` and a number. None is any other expression.
 pub(crate) fn divisor_of(expr: &FlatExpr) -> Option<i128>
     ensures { result ≡ flat_divisor (plain_flat expr.now) }
 {

@@ -1,4 +1,4 @@
-//! The width of the integers of flat forms.
+//! The width of the integers of a flat model.
 #![tactic(auto)]
 
 mod fronts;

@@ -1,4 +1,4 @@
-// The width of the integers of a flat form.
+// The width of the integers of a flat model.
 ghost use Rattle.std.specs.Prelude.{◌≡◌, ◌≤◌, ◌<◌, ◌^◌, map, max, option_map};
 ghost use Rattle.smv_intervals.specs.View.{seen};
 ghost use Rattle.smv_flat.specs.FlatTree.{flat_links_of, flat_branches_of, flat_trees_of};
@@ -24,7 +24,7 @@ fn digits(n: u64) -> u32
     64 - n.leading_zeros()
 }
 
-// The least width of two's complement that holds the integer.
+// The least width in which two's complement represents the integer.
 fn integer_width(z: i64) -> u32
     ensures value { result ≡ integer_width z }
     ensures bound { result ≤ 64 }
@@ -36,7 +36,7 @@ fn integer_width(z: i64) -> u32
     }
 }
 
-// Of two widths.
+// The greater of two widths.
 fn greater(a: u32, b: u32) -> u32
     requires first { a ≤ 64 }
     requires second { b ≤ 64 }
@@ -73,7 +73,7 @@ fn node_width(ty: Option<Ty>) -> u32
     }
 }
 
-// Also of what the expression denotes where it is never taken.
+// The width of an expression, which includes branches that are never taken.
 #[cycle(width)]
 fn expr_width(expr: &FlatExpr) -> u32
     ensures value { result ≡ tree_width (plain_flat expr.now) }
@@ -105,7 +105,7 @@ fn expr_width(expr: &FlatExpr) -> u32
     }
 }
 
-// What an operand of this width counts behind an operator: the amount of a shift doesn't.
+// The part of an operand's width that counts after an operator: the amount of a shift counts nothing.
 fn operand_width(op: Infix, width: u32) -> u32
     ensures value { result ≡ operand_width op width }
     ensures bound { result ≤ width }
@@ -116,7 +116,8 @@ fn operand_width(op: Infix, width: u32) -> u32
     }
 }
 
-// The operands of a chain behind its operators and the fronts that end with them, given the type of what stands before.
+// The width of a chain's operands after its operators, and of the prefixes that end with them. `first` is the type of
+// what comes before.
 #[cycle(width)]
 fn links_width(first: Option<Ty>, links: &[FlatLink]) -> u32
     ensures value { result ≡ links_width (option_map seen first) (flat_links_of (map plain_flat_link links.now)) }
@@ -145,7 +146,7 @@ fn branches_width(branches: &[FlatBranch]) -> u32
     width
 }
 
-// The arguments of a function; those that are numbers don't count.
+// The width of a function's arguments. Arguments that must be numbers don't count.
 #[cycle(width)]
 fn call_width(function: Function, arguments: &[FlatExpr]) -> u32
     ensures value { result ≡ arguments_width function (first_width (flat_trees_of (map plain_flat arguments.now))) (trees_width (flat_trees_of (map plain_flat arguments.now))) }
@@ -203,9 +204,11 @@ fn forms_width(formulas: &[FlatFormula]) -> u32
     width
 }
 
-/// The width of the integers of a flat form, from 1 to 64: the least in which two's complement holds the interval of every integer
-/// expression and type, also in branches that are never taken, and 1 where no integer occurs. Shift amounts and the number
-/// arguments of `uwconst`, `extend` and `resize` don't count. (NuSMV 2.6 User Manual, 2.2; the width is this translator's own.)
+/// Returns the width of the integers of a flat form, from 1 to 64.
+///
+/// It is the least width in which two's complement represents the interval of every integer expression and type.
+/// Branches that are never taken count too. It is 1 where no integer occurs. Shift amounts and the number arguments of
+/// `uwconst`, `extend` and `resize` don't count. (NuSMV 2.6 User Manual, 2.2; the width is this translator's own.)
 pub fn width_of(items: &[FlatItem], formulas: &[FlatFormula]) -> u32
     ensures some { 1 ≤ result }
     ensures bound { result ≤ 64 }

@@ -1,4 +1,4 @@
-// The frames that state rows of values.
+// Frames that state rows of values.
 ghost use Rattle.std.specs.Prelude.{◌≡◌, ◌<◌, ◌+◌, ◌^◌, length, map, IfOk, OnOk};
 ghost use Rattle.smv_items.specs.FlatItemView.{item_plain};
 ghost use Rattle.smv_flat_evaluation.specs.RowValues.{row_values};
@@ -15,7 +15,7 @@ use smv_script_terms::Group;
 use std::alloc::Global;
 use text_core::NoMemory;
 
-// Does the variable of an item of this kind stand in the list?
+// Whether the variable of an item of this kind is in the list.
 fn is_in(group: Group, kind: ItemKind) -> bool
     ensures { result ≡ same_group (group_plain group) (group_of kind) }
 {
@@ -26,7 +26,7 @@ fn is_in(group: Group, kind: ItemKind) -> bool
     }
 }
 
-// States the value of an item behind those before it, where its variable stands in this list.
+// Appends the value of an item, if its variable is in this list.
 fn state_item(
     items: &[FlatItem],
     group: Group,
@@ -49,7 +49,7 @@ fn state_item(
     Ok(())
 }
 
-// States the values of the items of one list behind those of the lists before it.
+// Appends the values of the items of one list after those of the lists before it.
 fn state_group(
     items: &[FlatItem],
     group: Group,
@@ -67,7 +67,7 @@ fn state_group(
     Ok(())
 }
 
-/// The frame that states the value of each item as the word of its variable's input, and no state.
+/// Returns the frame that states each item's value as the word of its variable's input, and no state.
 pub(crate) fn frame_of(
     alloc: Global,
     items: &[FlatItem],

@@ -1,4 +1,4 @@
-// Laws of lowered runs; these functions do nothing of their own.
+// Laws of lowered runs. These functions only cite other laws.
 ghost use Rattle.trace_lower.specs.Laws.{LoweredAreAccepted, LoweredComeBack};
 
 use moxi_flat::traces_have_flat_traces;
@@ -6,7 +6,8 @@ use moxi_lower::{lowered_are_judged, lowered_are_lifted, lowered_are_witnesses};
 use smv_laws::yes_is_run;
 use smv_script_laws::{scripts_are_whole, values_come_back};
 
-/// The witness of a run that breaks an invariant is one for all lines that lay the model's system out, and the judge accepts it.
+/// Proves that the judge accepts the witness of a run that breaks an invariant, for all lines that lay the model's
+/// system out.
 pub fn lowered_are_accepted()
     ensures { LoweredAreAccepted }
 {
@@ -17,7 +18,7 @@ pub fn lowered_are_accepted()
     lowered_are_judged();
 }
 
-/// The run to which it is lifted is the run itself.
+/// Proves that this witness is lifted to the same run.
 pub fn lowered_come_back()
     ensures { LoweredComeBack }
 {

@@ -29,10 +29,10 @@ use smv_text::Source;
 use std::alloc::Global;
 use text_core::{Clause, NoMemory, Verdict};
 
-/// Why a run is not lowered.
+/// The reason why a run is not lowered.
 #[derive(Clone, Copy, Debug, PartialEq, Eq)]
 pub enum LowerEnd {
-    /// The judge says No: the earliest step that fails, and the first clause that it fails.
+    /// The judge says No: the earliest failing step, and its first failing clause.
     No(u32, Clause),
     /// Out of memory.
     NoMemory,
@@ -71,7 +71,7 @@ fn lower_state<'a>(
     frame_of(alloc, flat.items, coder, row.values.as_slice())
 }
 
-// The first label and those behind it; where none is left, the last one.
+// The first label and those after it, or `last` where none is left.
 fn next_label<'a>(labels: &'a [State], last: &'a State) -> (&'a State, &'a [State])
     ensures first { result.0.now ≡ next_or last.now labels.now }
     ensures rest { result.1.now ≡ labels_left labels.now }
@@ -113,7 +113,7 @@ fn lower_states<'a>(
     Ok(frames)
 }
 
-// The frames of a run of whatever model the flat form is of.
+// The frames of a run, whatever model the flat form is of.
 fn lower_parts<'a>(
     alloc: Global,
     flat: &FlatParts<'a>,
@@ -155,11 +155,16 @@ fn lower_run(alloc: Global, flat: &Flat, run: &Run) -> Result<FrameList, NoMemor
     Ok(frames)
 }
 
-/// The witness that states a run of a model of which this is the flat form (NuSMV 2.6 User Manual, 2.3 and 2.4; BTOR2, CAV 2018): a
-/// frame for each state, with the word of each variable's value as that of its input, and with no state. A state or frozen variable
-/// has its value in the state, an input its value in the label of the transition that leaves it, and a definition or an actual its
-/// value under both. The last state has no such label: there each input has the first value of its type. Where the judge says No of
-/// the run and invariant j, that is the answer, with the step and the clause. In time and memory linear in the states times the items.
+/// Returns the witness that states a run of a model with this flat form (NuSMV 2.6 User Manual, 2.3 and 2.4; BTOR2, CAV
+/// 2018).
+///
+/// It has a frame for each state. The frame states the word of each variable's value as that of its input, and no
+/// state. A state or frozen variable has its value in the state, an input its value in the label of the transition that
+/// leaves it. A definition or an actual has its value under both. The last state has no such label: there each input
+/// has the first value of its type.
+///
+/// Where the judge says No to the run and invariant j, `Err` is its verdict, with the step and the clause; otherwise
+/// `Err` is out of memory. Time and memory are linear in the states times the items.
 pub fn lower_flat(alloc: Global, flat: &Flat, j: u32, run: &Run) -> Result<Witness, LowerEnd>
     requires model { HasForm flat.now }
     requires few { length run.now.states < 2 ^ 32 }
@@ -176,10 +181,12 @@ pub fn lower_flat(alloc: Global, flat: &Flat, j: u32, run: &Run) -> Result<Witne
     Ok(Witness { bad: j, frames })
 }
 
-/// The witness that states a run of a model, which the parser answers, as `lower_flat` does of the model's flat form. The laws of this
-/// crate say what it is worth: whichever lines lay the model's system out, the judge accepts it, and the run comes back from it.
+/// Returns the witness that states a run of a parsed model, as `lower_flat` does for the model's flat form.
+///
+/// The laws of this crate state what the witness proves: the judge accepts it for all lines that lay the model's system
+/// out, and it is lifted to the same run.
 pub fn lower_smv(alloc: Global, source: &Source, j: u32, run: &Run) -> Result<Witness, LowerEnd>
-    // A text spells the model, its checks hold, and it has the invariant.
+    // A text parses to the model, its checks hold, and it has the invariant.
     requires read { IsRead (plain_source source.now) }
     requires accepted { IsAccepted (plain_source source.now) j }
     requires few { length run.now.states < 2 ^ 32 }

@@ -15,7 +15,7 @@ use std::marker::Model;
 use text_core::{Names, NoMemory};
 use word_core::Word;
 
-/// What words are made with: the bits of an integer, the symbols, and the bits of a symbol's place.
+/// The data needed to encode values: the width of integers, the symbols, and the width of a symbol's place.
 #[derive(Drop)]
 pub struct Coder {
     width: u32,
@@ -35,7 +35,7 @@ impl Model for Coder {
     ghost invariant = { λ c. (1 ≤ c.width) × (c.width ≤ 64) × (length c.symbols < 2 ^ 64) × (c.symbol_width ≡ choice_width (length c.symbols)) };
 }
 
-// The symbols with their places. Each stands once.
+// The symbols with their places. They are distinct.
 fn symbol_set(alloc: Global, symbols: &Names) -> Result<NameSet, NoMemory>
     requires { are_fresh [] symbols.now ≡ true }
     ensures { IfOk result (λ s. s ≡ symbols.now) }
@@ -48,7 +48,7 @@ fn symbol_set(alloc: Global, symbols: &Names) -> Result<NameSet, NoMemory>
     }
 }
 
-// How many integers there are of so many bits.
+// The number of integers of this width.
 fn power(width: u32) -> u128
     requires { width ≤ 64 }
     ensures value { result ≡ 2 ^ width }
@@ -71,7 +71,7 @@ fn integer_bits(width: u32, z: i64) -> u128
     }
 }
 
-// An integer in two's complement of so many bits.
+// An integer as a word of this width in two's complement.
 fn integer_word(width: u32, z: i64) -> Word
     requires some { 1 ≤ width }
     requires bound { width ≤ 64 }
@@ -81,9 +81,9 @@ fn integer_word(width: u32, z: i64) -> Word
 }
 
 impl Coder {
-    /// The coder of a flat form.
+    /// Creates the coder of a flat form.
     pub fn of(alloc: Global, flat: &Flat) -> Result<Coder, NoMemory>
-        // Each symbol stands once.
+        // The symbols are distinct.
         requires { are_fresh [] flat.now.symbols ≡ true }
         ensures width { IfOk result (λ c. c.width ≡ flat.now.width) }
         ensures symbols { IfOk result (λ c. c.symbols ≡ flat.now.symbols) }
@@ -114,7 +114,7 @@ impl Coder {
         Word::of(self.symbol_width, self.symbol_place(symbol) as u128).unwrap()
     }
 
-    /// The word of a value.
+    /// Returns the word of a value.
     pub fn word_of(&self, value: &Seen) -> Word
         ensures { result ≡ word_of self.now (seen_value value.now) }
     {

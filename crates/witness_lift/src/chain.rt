@@ -19,8 +19,9 @@ use smv_text::Source;
 use std::alloc::Global;
 use std::marker::Model;
 
-/// The flat form of a model with the scope, the variables and the BTOR2 lines of its script's flat system (NuSMV 2.6 User Manual; MoXI,
-/// SPIN 2024; BTOR2, CAV 2018). It is seen as the flat form.
+/// The flat form of a model, with the scope, the variables and the BTOR2 lines of the flat system of its script.
+///
+/// Contracts see it as the flat form. (NuSMV 2.6 User Manual; MoXI, SPIN 2024; BTOR2, CAV 2018.)
 #[derive(Drop)]
 pub struct SmvChain {
     flat: Flat,
@@ -44,10 +45,12 @@ impl Model for SmvChain {
 }
 
 impl SmvChain {
-    /// The chain of a model, as the parser answers it, of which the invariant with this number is wanted, 0 where any will do. The
-    /// refusal is that of the first check that fails, as of the model's flat form.
+    /// Returns the chain of a parsed model, after all checks.
+    ///
+    /// `needed` is the number of the invariant that the model must have, 0 where any will do. `Err` is the refusal of
+    /// the first failing check, as for the model's flat form, or out of memory.
     pub fn of(alloc: Global, source: &Source, needed: u32) -> Result<SmvChain, FlatEnd>
-        // A text spells the model, and none of its expressions is too high.
+        // A text parses to the model, and none of its expressions is too high.
         requires read { IsRead (plain_source source.now) }
         ensures checks { Decides result (checks_of (plain_source source.now) needed) }
         ensures passes { IfOk result (λ c. IsAccepted (plain_source source.now) needed) }
@@ -61,35 +64,35 @@ impl SmvChain {
         Ok(SmvChain { flat, lines })
     }
 
-    /// The flat form of the model.
+    /// Returns the flat form of the model.
     pub fn flat(&self) -> &Flat
         ensures { result.now ≡ self.now }
     {
         &self.flat
     }
 
-    /// The scope of the flat form's script, which is that of the script's flat system.
+    /// Returns the scope of the flat form's script, which is that of the script's flat system.
     pub fn scope(&self) -> &Scope
         ensures { result.now ≡ (system_in self.now).scope }
     {
         &self.lines.scope
     }
 
-    /// The variables of the flat system of the flat form's script.
+    /// Returns the variables of the flat system of the flat form's script.
     pub fn variables(&self) -> &Variables
         ensures { result.now ≡ (system_in self.now).variables }
     {
         &self.lines.own.variables
     }
 
-    /// The lines of the flat form's script.
+    /// Returns the lines of the flat form's script.
     pub fn nodes(&self) -> &Nodes
         ensures { result.now ≡ lines_in self.now }
     {
         &self.lines.own.nodes
     }
 
-    /// The lines lay the flat system out, and are well formed; this function does nothing.
+    /// Proves that the lines lay the flat system out and are well formed.
     pub(crate) fn is_laid_out(&self)
         ensures { ∥ IsLaidOut (system_in self.now) (lines_in self.now) ∥₁ }
     {

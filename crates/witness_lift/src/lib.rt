@@ -1,5 +1,6 @@
-//! A model with its flat form and BTOR2 lines, and the run to which a witness of these lines is lifted; the law that the frames of
-//! an accepted model's lines are its runs.
+//! Lifts a witness of the BTOR2 lines of an SMV model to a run of the model.
+//!
+//! A law states that the frames of an accepted model's lines are its runs.
 #![tactic(auto)]
 
 mod chain;

@@ -1,4 +1,4 @@
-// The run for which a witness of a model's lines stands.
+// The run to which a witness of a model's lines is lifted.
 ghost use Rattle.std.specs.Prelude.{◌≡◌, IfOk, IfErr};
 ghost use Rattle.text_core.specs.declared.verdict.Verdict.TheVariants.{Yes};
 ghost use Rattle.btor_witness.specs.Judging.{judged_btor};
@@ -18,7 +18,7 @@ use smv_meaning::Run;
 use smv_to_moxi::lift_states;
 use std::alloc::Global;
 
-// The trace for which a witness of the chain's lines stands.
+// The trace to which a witness of the chain's lines is lifted.
 fn lift_trace(alloc: Global, chain: &SmvChain, witness: &Witness) -> Result<MoxiTrace, LiftEnd>
     requires { IsWitness (sizes_of (lines_in chain.now)) witness.now }
     ensures lifted { IfOk result (IsLiftedTrace (system_in chain.now) (lines_in chain.now) witness.now) }
@@ -31,9 +31,12 @@ fn lift_trace(alloc: Global, chain: &SmvChain, witness: &Witness) -> Result<Moxi
     lift_lines(alloc, scope, variables, nodes, witness)
 }
 
-/// The run of a model for which a witness of the chain's lines stands (NuSMV 2.6 User Manual; BTOR2, CAV 2018): the one for which the
-/// trace stands to which the witness is lifted. Where the judge says No of the witness, that is the answer, with the step and the
-/// clause; each witness that it accepts is lifted. The caller owes a witness for the lines.
+/// Returns the run of a model to which a witness of the chain's lines is lifted (NuSMV 2.6 User Manual; BTOR2, CAV
+/// 2018).
+///
+/// It is the run that the lifted trace encodes. Every witness that the judge accepts is lifted. Where the judge says
+/// No, `Err` is its verdict, with the step and the clause; otherwise `Err` is out of memory. The witness must be one
+/// for the lines.
 pub fn lift_smv(alloc: Global, chain: &SmvChain, witness: &Witness) -> Result<Run, LiftEnd>
     requires { IsWitness (sizes_of (lines_in chain.now)) witness.now }
     ensures accepted { IfOk result (λ _. judged_btor (lines_in chain.now) witness.now Yes) }

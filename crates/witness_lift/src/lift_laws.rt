@@ -1,11 +1,13 @@
-// The law of lifted runs; this function does nothing of its own.
+// The law of lifted runs. This function only cites other laws.
 ghost use Rattle.witness_lift.specs.Breaking.{TracesBreakInvariants};
 
 use moxi_flat::traces_have_flat_traces;
 use smv_script_laws::{runs_are_traces, scripts_are_whole};
 
-/// A trace of the flat system of a model's script that meets the query of an invariant at its last step stands for a run of the model
-/// whose last state breaks that invariant.
+/// Proves that a trace that meets the query of an invariant at its last step encodes a run whose last state breaks the
+/// invariant.
+///
+/// The trace is one of the flat system of the model's script.
 pub fn traces_break_invariants()
     ensures { TracesBreakInvariants }
 {

@@ -1,4 +1,4 @@
-// Laws of the lines of a model's script; these functions do nothing but cite what they follow from.
+// Laws of the lines of a model's script. These functions only cite other laws.
 ghost use Rattle.witness_lift.specs.LineLaws.{ModelLinesAreCounted, ModelLinesAreLaidOut, ModelLinesAreShared, ModelLinesAreSpelled, ModelsHaveFlatSystems, ModelsHaveFrames, SymbolsByWeight};
 
 use btor_tree::{one_reading, printed_spells};
@@ -11,12 +11,13 @@ use smv_script_laws::{
     counts_are_weighed, runs_are_traces, scripts_are_small, scripts_are_whole, sizes_are_weighed,
 };
 
-/// A model has at most as many symbols as its weight.
+/// Proves that a model has at most as many symbols as its weight.
 pub fn symbols_are_weighed()
     ensures { SymbolsByWeight }
 {}
 
-/// The script of an accepted model has a flat system: it passes no limit, and no two variables have one name.
+/// Proves that the script of an accepted model has a flat system: it is within all limits, and its variables have
+/// distinct names.
 pub fn models_have_flat_systems()
     ensures { ModelsHaveFlatSystems }
 {
@@ -25,7 +26,8 @@ pub fn models_have_flat_systems()
     single_systems_are_flat();
 }
 
-/// The lines of an accepted model lay out the flat system of its script, are well formed, and have ids enough.
+/// Proves that the lines of an accepted model lay out the flat system of its script, are well formed, and do not run
+/// out of ids.
 pub fn model_lines_are_laid_out()
     ensures { ModelLinesAreLaidOut }
 {
@@ -38,8 +40,12 @@ pub fn model_lines_are_laid_out()
     lines_lay_out();
 }
 
-/// The lines of an accepted model have a bad line for each invariant, and frames 0 to k with every constraint true and the bad line
-/// of an invariant true in the last one exactly where the model has a run of k transitions whose last state breaks the invariant.
+/// Proves that an accepted model can break an invariant after k steps exactly where its lines can reach the bad line at
+/// frame k.
+///
+/// The lines have a bad line for each invariant. They have frames 0 to k with every constraint true and the bad line
+/// true in the last one exactly where the model has such a run. Such a run has k transitions, and its last state breaks
+/// the invariant.
 pub fn models_have_frames()
     ensures { ModelsHaveFrames }
 {
@@ -51,7 +57,7 @@ pub fn models_have_frames()
     bads_are_queries();
 }
 
-/// An accepted model has at most sixteen lines for each token of its weight, and 200 more.
+/// Proves that an accepted model has at most sixteen lines for each token of its weight, plus 200.
 pub fn model_lines_are_counted()
     ensures { ModelLinesAreCounted }
 {
@@ -64,7 +70,7 @@ pub fn model_lines_are_counted()
     lines_are_counted();
 }
 
-/// No two sorts, constants or operators among the lines of an accepted model say the same.
+/// Proves that no two sorts, constants or operators among the lines of an accepted model are the same.
 pub fn model_lines_are_shared()
     ensures { ModelLinesAreShared }
 {
@@ -73,7 +79,7 @@ pub fn model_lines_are_shared()
     no_two_lines_alike();
 }
 
-/// The printed lines of an accepted model spell these lines, and no others.
+/// Proves that the printed lines of an accepted model spell these lines, and no others.
 pub fn model_lines_are_spelled()
     ensures { ModelLinesAreSpelled }
 {

@@ -1,4 +1,4 @@
-// What is kept of the flat system of a flat form's script, with the system's lines.
+// The flat system of a flat form's script, reduced to the parts that lifting needs, with the system's lines.
 ghost use Rattle.std.specs.Prelude.{◌≡◌, IfOk};
 ghost use Rattle.smv_flatten.specs.FlatModel.{flat_plain};
 ghost use Rattle.smv_script.specs.Script.{script_of};
@@ -58,7 +58,7 @@ fn own_lines(alloc: Global, system: &FlatSystem<'_>) -> Result<OwnLines, NoMemor
     Ok(OwnLines { variables, nodes })
 }
 
-// The variables and the lines of the script of this scope, this system and this check.
+// The variables and the lines of the script with this scope, this system and this check.
 fn single_lines(
     alloc: Global,
     scope: &Scope,
@@ -73,7 +73,7 @@ fn single_lines(
     own_lines(alloc, &flat)
 }
 
-// The script of a flat form is whole and has a flat system, and no other system stands in its one; this function does nothing.
+// Proves that the script of a flat form is well formed, has a flat system, and has only one system.
 fn is_single(flat: &Flat)
     ensures { ∥ IsSingle (script_of (flat_plain flat.now) flat.now.width) ∥₁ }
 {
@@ -82,7 +82,9 @@ fn is_single(flat: &Flat)
     models_have_flat_systems();
 }
 
-/// The scope, the variables and the lines of the flat system of a flat form's script. The script's formulas are not copied on the way.
+/// Returns the scope, the variables and the lines of the flat system of a flat form's script.
+///
+/// The script's formulas are not copied on the way.
 pub(crate) fn system_lines(alloc: Global, flat: &Flat) -> Result<SystemLines, NoMemory>
     ensures { IfOk result (λ lines. AreOfFlat flat.now lines.scope lines.own.variables lines.own.nodes) }
 {
