@@ -60,7 +60,7 @@ met_there s p q k trace m = record { behaves = m.behaves; assumptions = m.assump
 met_here : (s : PlainScript) (p : Place) (q : Query) (k : ℕ) (trace : Trace) → MeetsQuery s q k trace → MeetsQuery (with_place s p) q k trace
 met_here s p q k trace m = record { behaves = m.behaves; assumptions = m.assumptions; currents = m.currents; reached = m.reached; reached_last = m.reached_last }
 
-there : {T : Type 0} (xs : List T) (j : ℕ) → j < length xs → (x : T) × (slice_get xs j ≡ Some x)
+pub there : {T : Type 0} (xs : List T) (j : ℕ) → j < length xs → (x : T) × (slice_get xs j ≡ Some x)
 there [] j h = absurd (omega (arith, h))
 there (x ∷ xs) zero h = (x, refl)
 there (x ∷ xs) (suc j) h = there xs j (omega (arith, h))

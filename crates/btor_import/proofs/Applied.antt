@@ -1,6 +1,6 @@
 -- Applications whose arguments have their sorts can stand where nothing is declared.
 use Rattle.std.proofs.Common.{◌≡◌, ℕ, zero, suc, ◌+◌, ◌-◌, ◌^◌, ◌<◌, ◌≤◌, Bool, true, false, cond, nat_le, nat_lt, ◌==◌, if◌then◌else◌, List, [], ◌∷◌, length, Option, Some, None, Ok, Err, option_map, refl, sym, ap, ◌∙◌, subst, arith}
-use Rattle.std.proofs.lemmas.Bool.{and_from, eqb-true, eqb-false, eq-eqb, lt-ltb, le-leb}
+use Rattle.std.proofs.lemmas.Bool.{and_from, eqb-true, eqb-false, lt-ltb, le-leb}
 use Rattle.std.proofs.Math.Nat.{one-le-pow}
 use Rattle.std.specs.List.{list_all}
 use Rattle.text_core.specs.declared.place.Kind.TheVariants.{M}
@@ -12,7 +12,7 @@ use Rattle.word_core.specs.declared.kinds.Binary.TheVariants as OnWords
 use Rattle.btor_tree.proofs.Widths.{one_lt}
 use Rattle.word_core.specs.Table.{BinaryFits, binary_width, unary_width}
 use Rattle.moxi_terms.specs.declared.data.Sort.{Sort}
-use Rattle.moxi_terms.specs.declared.data.Sort.TheVariants.{Truth, Bits, Choice}
+use Rattle.moxi_terms.specs.declared.data.Sort.TheVariants.{Truth, Bits}
 use Rattle.moxi_terms.specs.declared.data.TermOp.{TermOp}
 use Rattle.moxi_terms.specs.declared.data.TermOp.TheVariants as op
 use Rattle.moxi_terms.specs.declared.data.Primes.{Primes}
@@ -20,25 +20,16 @@ use Rattle.moxi_terms.specs.declared.names.Head.TheVariants as heads
 use Rattle.moxi_terms.specs.Names.{no_scope}
 use Rattle.moxi_terms.specs.Words.{operators, operator_named}
 use Rattle.moxi_terms.specs.Meanings.{head_named}
-use Rattle.moxi_terms.specs.Sorts.{same_sort, common, count_fits, is_chain, logical, compared, chosen, calculated, fitting, op_sort}
+use Rattle.moxi_terms.specs.Sorts.{same_sort, common, count_fits, logical, compared, chosen, calculated, fitting, op_sort}
 use Rattle.moxi_terms.specs.Tree.{Tree, apply, Trees, no_trees, tree, trees_of}
 use Rattle.moxi_term_reading.specs.declared.locals.Local.{Local}
 use Rattle.moxi_term_reading.specs.Reading.{Context}
 use Rattle.moxi_term_print.specs.Terms.{operator_word, binary_word}
 use Rattle.moxi_term_print.specs.Standing.{Stands, StandEach, StandsOperator}
 use Rattle.btor_import.specs.Operators.{one, two, word_term, not_term, words_term, equal_term, choice_term, truth_term, falsity_term, is_one, bits_from, parity_term, unary_term, binary_term}
+use Rattle.moxi_term_print.proofs.SortedTerms.{copies, counted, same_self, two_fit}
 
 -- ---- sorts of applications
-
-same_self : (s : Sort) → same_sort s s ≡ true
-same_self Truth = refl
-same_self (Bits w) = eq-eqb w w refl
-same_self (Choice n) = eq-eqb n n refl
-
--- as many times as there are terms
-abbrev pub copies : Sort → Trees → List Sort
-copies s no_trees = []
-copies s (tree t ts) = s ∷ copies s ts
 
 all_same : (s : Sort) (ts : Trees) → list_all (same_sort s) (copies s ts) ≡ true
 all_same s no_trees = refl
@@ -49,16 +40,6 @@ common_copies s ts = ap (λ b. cond b (Some s) None) (all_same s ts)
 
 common_two : (s : Sort) → common (s ∷ s ∷ []) ≡ Some s
 common_two s = ap (λ b. cond b (Some s) None) (and_from (same_sort s s) true (same_self s) refl)
-
-counted : (o : TermOp) (ss : List Sort) (z : Sort) → count_fits o (length ss) ≡ true → fitting o ss ≡ Ok z → op_sort o ss ≡ Ok z
-counted o ss z c f = ap (λ b. if b then fitting o ss else Err (M 12)) c ∙ f
-
-two_fit : (b : Binary) → count_fits (op.BvBinary b) 2 ≡ true
-two_fit b = by (is_chain b)
-  where
-    by : (t : Bool) → (if t then nat_le 2 2 else (2 == 2)) ≡ true
-    by true = refl
-    by false = refl
 
 words_sort : (b : Binary) (m : ℕ) (z : Sort) → calculated b (Some (Bits m)) ≡ Ok z → op_sort (op.BvBinary b) (Bits m ∷ Bits m ∷ []) ≡ Ok z
 words_sort b m z e = counted (op.BvBinary b) (Bits m ∷ Bits m ∷ []) z (two_fit b) (ap (calculated b) (common_two (Bits m)) ∙ e)

@@ -6,5 +6,4 @@ pub mod LineVariables
 pub mod Applied
 pub mod Standing
 pub mod Whole
-pub mod Spelled
 pub mod SpellableNames

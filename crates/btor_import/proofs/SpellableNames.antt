@@ -13,7 +13,6 @@ use Rattle.btor_tree.specs.declared.lines.LineOp.{LineOp}
 use Rattle.btor_tree.specs.declared.lines.LineOp.TheVariants as line
 use Rattle.btor_tree.specs.Fits.{IsWellFormed, is_bad, is_constraint, is_init, is_input, is_next, is_state, sort_at, width_at}
 use Rattle.moxi_sexpr.specs.Bytes.{is_barred_byte}
-use Rattle.moxi_sexpr.specs.Atoms.{is_run}
 use Rattle.moxi_terms.specs.declared.data.TermOp.TheVariants as op
 use Rattle.moxi_terms.specs.declared.term.Variable.{Variable}
 use Rattle.moxi_terms.specs.Tree.{Tree, variable, apply, trees_of}
@@ -23,17 +22,15 @@ use Rattle.moxi_scripts.specs.declared.script.Query.{Query}
 use Rattle.moxi_script_print.specs.NamesOfScripts.{HasSpellableNames, VariablesAreSpellable, IsSpellableFormula}
 use Rattle.btor_import.specs.Operators.{argument, bits_from, binary_term, is_one, line_term, not_term, operand_term, parity_term, unary_term}
 use Rattle.btor_import.specs.Script.{all_term, equation_term, formula_of, import_of, init_part, inv_part, is_local, lines_in, number_of, parts_from, queries_from, reachables_from, trans_part, value_part}
-use Rattle.btor_import.proofs.Lists.{all_back, all_by, all_front}
-use Rattle.btor_import.proofs.Spelled.{all_bytes, barred_spellable, not_barred}
+use Rattle.btor_import.proofs.Lists.{all_by}
+use Rattle.moxi_script_print.proofs.SpelledCommands.{all_bytes, barred_spellable, not_barred}
 use Rattle.btor_import.proofs.Standing.{parts_all}
 use Rattle.btor_import.proofs.LineVariables.{all_variables, inputs_of, id_small, letter_by, line_of_variable, locals_in, outputs_of}
 use Rattle.btor_import.proofs.Whole.{bads_few}
+use Rattle.moxi_term_print.proofs.SpellableNames.{Named, run_all}
+use Rattle.name_maps.proofs.FreshNames.{all_back, all_front}
 
 -- ---- names with numbers
-
-run_all : (p : ℕ → Bool) (bs : List ℕ) → is_run p bs ≡ true → list_all p bs ≡ true
-run_all p [] h = refl
-run_all p (b ∷ bs) h = h
 
 number_barred : (n : ℕ) → n < 4294967296 → list_all is_barred_byte (decimal n) ≡ true
 number_barred n h = all_bytes is_digit is_barred_byte (λ b g. not_barred b is_digit g refl refl) (decimal n) (run_all is_digit (decimal n) (decimal_run n h))
@@ -102,9 +99,6 @@ line_named number width w (line.Sext n) args = (operand_named number (argument a
 line_named number width w o args = tt
 
 -- ---- formulas
-
-abbrev Named : List Tree → Type 0
-Named ts = AllByRecursion NamesAreSpellable ts
 
 list_named : (ts : List Tree) → Named ts → AllNamesAreSpellable (trees_of ts)
 list_named [] h = tt

@@ -38,9 +38,11 @@ use Rattle.moxi_term_print.specs.Standing.{StandEach, StandsPrime}
 use Rattle.btor_import.specs.Operators.{argument, is_one, line_term, not_term, operand_term}
 use Rattle.btor_import.specs.Script.{all_term, equation_term, formula_of, init_part, inv_part, is_local, lines_in, number_of, parts_from, reachables_from, trans_part, value_part}
 use Rattle.moxi_scripts.specs.Script.{PlainFormula}
-use Rattle.btor_import.proofs.Applied.{IsTerm, and_stands, binary_stands, choice_stands, context_of, copies, equal_stands, extract_stands, not_stands, one_stands, signs_stand, unary_stands, word_stands, zeros_stand}
-use Rattle.btor_import.proofs.Lists.{AllDiffer, Lacks, all_by, all_joined, differ_by, mapped_at, tells_apart}
+use Rattle.btor_import.proofs.Applied.{IsTerm, and_stands, binary_stands, choice_stands, context_of, equal_stands, extract_stands, not_stands, one_stands, signs_stand, unary_stands, word_stands, zeros_stand}
+use Rattle.btor_import.proofs.Lists.{all_by, differ_by, mapped_at}
 use Rattle.btor_import.proofs.LineVariables.{all_variables, letter_by, line_of_variable, local_word, one_name, picked, variable_for, variable_there}
+use Rattle.moxi_term_print.proofs.SortedTerms.{copies}
+use Rattle.name_maps.proofs.FreshNames.{AllDiffer, Lacks, all_joined, tells_apart}
 
 -- ---- names of variables mean them
 

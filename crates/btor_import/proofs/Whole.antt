@@ -15,9 +15,11 @@ use Rattle.moxi_terms.specs.Sorts.{IsSort}
 use Rattle.moxi_term_print.specs.Terms.{variable_names}
 use Rattle.moxi_scripts.specs.Whole.{AreVariables, IsWholeScope, IsWholeSystem, AreWholeSystems, formula_names, IsWholeQuery, query_names, IsWholeCheck, IsWhole}
 use Rattle.btor_import.specs.Script.{check_of, import_of, lines_in, number_of, queries_from, reachables_from, system_of}
-use Rattle.btor_import.proofs.Lists.{AllDiffer, Lacks, all_at, all_by, all_fresh, all_mapped}
+use Rattle.btor_import.proofs.Lists.{all_by}
 use Rattle.btor_import.proofs.Standing.{IsFree, all_free, sort_some, init_stands, inv_stands, names_differ, reachables_stand, trans_stands}
 use Rattle.btor_import.proofs.LineVariables.{all_variables, line_of_variable, lines_long}
+use Rattle.moxi_term_reading.specs.laws.AllLaws.{all_at}
+use Rattle.name_maps.proofs.FreshNames.{AllDiffer, Lacks, all_fresh, all_mapped}
 
 nothing_there : {X : Type 0} {Y : Type 0} (n : ℕ) (x : X) → slice_get (let e : List X = [] in e) n ≡ Some x → Y
 nothing_there n x h = cc

@@ -1,5 +1,5 @@
 -- Lists of lines: the arguments of lines of a kind, the parts of formulas, and the values of states.
-use Rattle.std.proofs.Common.{◌≡◌, ℕ, zero, suc, ◌+◌, Bool, true, false, cond, if◌then◌else◌, List, [], ◌∷◌, ◌++◌, map, take, drop, length, Option, Some, None, refl, sym, ap, ◌∙◌, subst, arith, inl, inr, eqb}
+use Rattle.std.proofs.Common.{◌≡◌, ℕ, zero, suc, ◌+◌, Bool, true, false, cond, if◌then◌else◌, List, [], ◌∷◌, ◌++◌, map, take, drop, length, Some, None, refl, sym, ap, ◌∙◌, subst, arith, inl, inr, eqb}
 use Rattle.std.specs.Prelude.{slice_get}
 use Rattle.std.specs.Option.{option_or}
 use Rattle.std.specs.List.{AllByRecursion}
@@ -17,8 +17,9 @@ use Rattle.moxi_scripts.specs.declared.script.Query.{Query}
 use Rattle.moxi_scripts.specs.Script.{formula_at}
 use Rattle.btor_import.specs.Operators.{argument, is_one, operand_term}
 use Rattle.btor_import.specs.Script.{lines_in, parts_from, queries_from, query_of, reachables_from}
-use Rattle.btor_import.proofs.Lists.{all_back, all_front, all_joined}
 use Rattle.btor_import.proofs.Steps.{drop_there}
+use Rattle.btor_tree.proofs.Literals.{cond_some}
+use Rattle.name_maps.proofs.FreshNames.{all_back, all_front, all_joined}
 
 -- ---- parts of formulas
 
@@ -78,10 +79,6 @@ queries_long n [] = refl
 queries_long n (l ∷ ls) = ap suc (queries_long (n + 1) ls)
 
 -- ---- values of states
-
-cond_some : {X : Type 0} (b : Bool) (o : Option X) (v : X) → cond b o None ≡ Some v → (b ≡ true) × (o ≡ Some v)
-cond_some true o v h = (refl, h)
-cond_some false o v h = absurd (none-some v h)
 
 pub value_for_facts : (args : List Arg) (s : ℕ) (v : Arg) → value_for args s ≡ Some v → (x : Arg) × (args ≡ x ∷ v ∷ []) × (x.line ≡ s)
 value_for_facts [] s v h = absurd (none-some v h)

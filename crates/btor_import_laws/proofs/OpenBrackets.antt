@@ -1,5 +1,5 @@
 -- How many brackets of the printed script stand open at most.
-use Rattle.std.proofs.Common.{◌≡◌, ℕ, zero, suc, ◌+◌, ◌-◌, ◌^◌, ◌≤◌, max, Bool, true, false, ◌==◌, if◌then◌else◌, List, [], ◌∷◌, ◌++◌, map, refl, arith}
+use Rattle.std.proofs.Common.{ℕ, zero, suc, ◌+◌, ◌-◌, ◌≤◌, max, Bool, true, false, ◌==◌, if◌then◌else◌, List, [], ◌∷◌, ◌++◌, arith}
 use Rattle.std.specs.Prelude.{codes}
 use Rattle.std.specs.List.{AllByRecursion}
 use Rattle.word_core.specs.declared.kinds.Unary.{Unary}
@@ -11,26 +11,22 @@ use Rattle.btor_tree.specs.declared.lines.Line.{Line}
 use Rattle.btor_tree.specs.declared.lines.LineOp.{LineOp}
 use Rattle.btor_tree.specs.declared.lines.LineOp.TheVariants as line
 use Rattle.btor_tree.specs.Fits.{is_bad, is_constraint, is_init, is_next, sort_at, width_at}
-use Rattle.moxi_terms.specs.declared.data.Sort.{Sort}
 use Rattle.moxi_terms.specs.declared.data.Sort.TheVariants as sort
-use Rattle.moxi_terms.specs.declared.data.Datum.{Datum}
 use Rattle.moxi_terms.specs.declared.data.Datum.TheVariants as datum
-use Rattle.moxi_terms.specs.declared.data.TermOp.{TermOp}
 use Rattle.moxi_terms.specs.declared.data.TermOp.TheVariants as op
-use Rattle.moxi_terms.specs.declared.term.Variable.{Variable}
 use Rattle.moxi_terms.specs.Names.{function_names}
 use Rattle.moxi_terms.specs.Tree.{Tree, constant, variable, bound, apply, binding, call, Trees, no_trees, tree, trees_of}
 use Rattle.moxi_terms.specs.View.{ScopeState}
-use Rattle.moxi_term_print.specs.Shown.{Showns, no_showns, shown, joined, shown_depth, shown_depths}
-use Rattle.moxi_term_print.specs.Terms.{name_at, shown_sort, shown_operator, shown_call, shown_term, shown_terms, shown_bindings, shown_variables, variable_names}
-use Rattle.moxi_term_print.specs.Declarations.{shown_symbols}
-use Rattle.moxi_scripts.specs.declared.script.Query.{Query}
-use Rattle.moxi_scripts.specs.Script.{PlainFormula, variables_in}
-use Rattle.moxi_script_print.specs.Printing.{attribute, query_names, shown_lists, shown_formulas, shown_labels, shown_queries, shown_conditions, shown_system, check_variables, shown_check, shown_script, system_names, formula_names}
-use Rattle.btor_import.specs.Operators.{argument, binary_term, bits_from, is_one, line_term, not_term, operand_term, one, parity_term, unary_term}
+use Rattle.moxi_term_print.specs.Shown.{no_showns, joined, shown_depth, shown_depths}
+use Rattle.moxi_term_print.specs.Terms.{name_at, shown_term, shown_terms, shown_bindings, variable_names}
+use Rattle.moxi_scripts.specs.Script.{variables_in}
+use Rattle.moxi_script_print.specs.Printing.{attribute, shown_lists, shown_formulas, shown_labels, shown_queries, shown_conditions, shown_system, shown_check, system_names}
+use Rattle.btor_import.specs.Operators.{argument, binary_term, bits_from, is_one, line_term, not_term, operand_term, parity_term, unary_term}
 use Rattle.btor_import.specs.Script.{all_term, check_of, equation_term, formula_of, import_of, init_part, inv_part, is_local, lines_in, number_of, parts_from, reachables_from, system_of, trans_part, value_part}
 use Rattle.btor_import.proofs.Standing.{parts_all}
 use Rattle.btor_import_laws.specs.Laws.{BracketsAreFew}
+use Rattle.moxi_script_print.proofs.Depths.{call_depth, joined_depths, lists_depth, operator_depth, queries_depth, value_depth}
+use Rattle.moxi_scripts.specs.Whole.{check_variables, formula_names}
 
 -- ---- how many brackets of a term stand open at most
 
@@ -46,31 +42,6 @@ abbrev mutual
   all_brackets : Trees → ℕ
   all_brackets no_trees = 0
   all_brackets (tree t ts) = max (open_brackets t) (all_brackets ts)
-
-value_depth : (s : ScopeState) (d : Datum) → shown_depth (shown_term s [] [] (constant d)) ≡ 0
-value_depth s (datum.Truth b) = refl
-value_depth s (datum.Bits w) = refl
-value_depth s (datum.Constant n i) = refl
-
-operator_depth : (o : TermOp) → shown_depth (shown_operator o) ≤ 1
-operator_depth (op.Extract high low) = omega arith
-operator_depth (op.ZeroExtend n) = omega arith
-operator_depth (op.SignExtend n) = omega arith
-operator_depth op.Not = omega arith
-operator_depth op.And = omega arith
-operator_depth op.Or = omega arith
-operator_depth op.Xor = omega arith
-operator_depth op.Implies = omega arith
-operator_depth op.Equal = omega arith
-operator_depth op.Distinct = omega arith
-operator_depth op.Ite = omega arith
-operator_depth op.Concat = omega arith
-operator_depth (op.BvUnary u) = omega arith
-operator_depth (op.BvBinary b) = omega arith
-
-call_depth : (name : List ℕ) (xs : Showns) → shown_depth (shown_call name xs) ≤ 1 + shown_depths xs
-call_depth name no_showns = omega arith
-call_depth name (shown x xs) = omega arith
 
 mutual
   term_depth : (s : ScopeState) (vars bounds : List (List ℕ)) (t : Tree) → shown_depth (shown_term s vars bounds t) ≤ open_brackets t
@@ -202,31 +173,6 @@ inv_low lines number i l =
 
 -- ---- lists of variables and names
 
-joined_depths : (xs ys : Showns) → shown_depths (joined xs ys) ≡ max (shown_depths xs) (shown_depths ys)
-joined_depths no_showns ys = omega arith
-joined_depths (shown x xs) ys = let i = joined_depths xs ys in omega (arith, i)
-
-sort_depth : (s : ScopeState) (x : Sort) → shown_depth (shown_sort s x) ≤ 1
-sort_depth s sort.Truth = omega arith
-sort_depth s (sort.Bits n) = omega arith
-sort_depth s (sort.Choice n) = omega arith
-
-variables_depth : (s : ScopeState) (vs : List Variable) → shown_depths (shown_variables s vs) ≤ 2
-variables_depth s [] = omega arith
-variables_depth s (v ∷ vs) = let a = sort_depth s v.sort in let r = variables_depth s vs in omega (arith, a, r)
-
-symbols_depth : (names : List (List ℕ)) → shown_depths (shown_symbols names) ≡ 0
-symbols_depth [] = refl
-symbols_depth (name ∷ names) = let r = symbols_depth names in omega (arith, r)
-
-lists_depth : (s : ScopeState) (x y z : List Variable) → shown_depths (shown_lists s x y z) ≤ 3
-unfolding shown_lists attribute
-lists_depth s x y z =
-    let a = variables_depth s x in
-    let b = variables_depth s y in
-    let c = variables_depth s z in
-    omega (arith, a, b, c)
-
 -- ---- the system and the check
 
 formulas_depth : (s : ScopeState) (vars : List (List ℕ)) (x y z : Tree) → open_brackets x ≤ 6 → open_brackets y ≤ 6 → open_brackets z ≤ 6 → shown_depths (shown_formulas s vars x y z) ≤ 6
@@ -256,14 +202,6 @@ labels_depth s vars name number j (l ∷ ls) =
     let b = true_low number (argument l.args 0) in
     let r = labels_depth s vars name number (j + 1) ls in
     omega (arith, a, b, r)
-
-queries_depth : (x y z : List (List ℕ)) (qs : List Query) → shown_depths (shown_queries x y z qs) ≤ 2
-unfolding attribute
-queries_depth x y z [] = omega arith
-queries_depth x y z (q ∷ qs) =
-    let a = symbols_depth (query_names x y z q) in
-    let r = queries_depth x y z qs in
-    omega (arith, a, r)
 
 conditions_depth : (s : ScopeState) (vars : List (List ℕ)) (lines : List Line) → shown_depths (shown_conditions s vars (check_of lines)) ≤ 6
 unfolding shown_conditions

@@ -1,13 +1,12 @@
 -- Each rule gives the word of its line.
-use Rattle.std.proofs.Common.{◌≡◌, ℕ, zero, suc, ◌+◌, ◌-◌, ◌*◌, ◌/◌, ◌%◌, ◌^◌, ◌<◌, ◌≤◌, min, Bool, true, false, cond, not, ◌&&◌, ◌||◌, eqb, List, [], ◌∷◌, Option, Some, None, refl, sym, ap, subst, arith, ◌∙◌, inl, inr, ◌⊎◌}
-use Rattle.std.specs.Prelude.{bit_and, bit_or, bit_xor, nat_lt, nat_le, IfSome, option_and_then}
+use Rattle.std.proofs.Common.{◌≡◌, ℕ, zero, suc, ◌+◌, ◌-◌, ◌*◌, ◌/◌, ◌%◌, ◌^◌, ◌<◌, min, Bool, true, false, cond, not, eqb, List, [], ◌∷◌, Option, Some, None, refl, sym, ap, subst, arith, ◌∙◌, inl, inr, ◌⊎◌}
+use Rattle.std.specs.Prelude.{bit_and, bit_or, bit_xor, nat_lt, IfSome, option_and_then}
 use Rattle.std.specs.Option.{option_map_or}
-use Rattle.std.proofs.lemmas.Bool.{eqb-true, eq-eqb, and_parts, cases_Bool, or_cases, or_parts}
+use Rattle.std.proofs.lemmas.Bool.{eqb-true, eq-eqb, and_parts, cases_Bool, or_cases}
 use Rattle.std.specs.Int.Bits.{and_self}
 use Rattle.std.proofs.lemmas.Nat.{and_comm, or_comm}
 use Rattle.std.proofs.Math.Nat.{mod-eq_of_lt, div-one}
 use Rattle.word_core.specs.Words.{BitVector, IsWord}
-use Rattle.word_core.specs.declared.word.TheConstants.{WIDEST}
 use Rattle.word_core.specs.Table.{unary_of, binary_of, ite_of, slice_of, uext_of, sext_of, bit_of, is_minus, BinaryFits}
 use Rattle.word_core.specs.declared.kinds.Unary.{Unary}
 use Rattle.word_core.specs.declared.kinds.Unary.TheVariants.{Not}
@@ -18,31 +17,20 @@ use Rattle.btor_tree.specs.declared.lines.Line.{Line}
 use Rattle.btor_tree.specs.declared.lines.LineOp.{LineOp}
 use Rattle.btor_tree.specs.declared.lines.LineOp.TheVariants as op
 use Rattle.btor_tree.specs.Frame.{Equation, operand, signed_word, word_at}
-use Rattle.btor_tree.specs.Sharing.{same_arg, same_sign}
 use Rattle.btor_rules.specs.declared.operand.Operand.{Operand}
 use Rattle.btor_rules.specs.declared.operand.Operands.{Operands}
 use Rattle.btor_rules.specs.declared.operand.Operands.TheVariants.{Empty, Single, Pair, Triple}
 use Rattle.btor_rules.specs.declared.operand.Outcome.{Outcome}
-use Rattle.btor_rules.specs.declared.operand.Outcome.TheVariants.{Stays, Constant, Argument}
-use Rattle.btor_rules.specs.Rules.{other_sign, is_number, is_ones, is_same, is_opposite, zeros, ones, one_bit, as_it_is, and_rule, or_rule, xor_rule, equal_rule, implies_rule, add_rule, sub_rule, shift_rule, pair_rule, ite_rule, kept_where, single_rule, on_pair, on_triple, rule, folded_single, both, all_three, folded_pair, folded_triple, folded, folded_or, outcome, args_of, OperandFits, TakesWidth, TakesWidths, OperandsFit}
+use Rattle.btor_rules.specs.Rules.{other_sign, is_number, is_ones, is_same, is_opposite, zeros, ones, one_bit, as_it_is, and_rule, or_rule, xor_rule, equal_rule, implies_rule, add_rule, sub_rule, shift_rule, pair_rule, ite_rule, single_rule, on_pair, on_triple, rule, folded_single, folded_pair, folded_triple, folded, folded_or, outcome, args_of, TakesWidths, OperandsFit}
 use Rattle.btor_rules.specs.Words.{IsRead, AreRead, Gives}
-use Rattle.btor_rules.proofs.WordLaws.{vector_is, not_not, not_small, and_not_zero, and_ones, and_zero, or_self, or_zero, or_ones, or_not, xor_self, xor_zero, zero_xor, xor_not, not_differs, less_nothing, less_itself, left_nothing, right_nothing, signed_nothing, extended_by_nothing, zero_add, add_zero}
+use Rattle.btor_rules.proofs.WordLaws.{not_not, not_small, and_not_zero, and_ones, and_zero, or_self, or_zero, or_ones, or_not, xor_self, xor_zero, zero_xor, xor_not, not_differs, less_nothing, less_itself, left_nothing, right_nothing, signed_nothing, extended_by_nothing, zero_add, add_zero}
+use Rattle.btor_tree.proofs.Alike.{arg_same}
+use Rattle.word_core.proofs.Laws.{vector_is}
 
 -- from tests to words
 choose : (b : Bool) (p q : Outcome) (row : List BitVector) (v : BitVector) → (b ≡ true → Gives p row v) → (b ≡ false → Gives q row v) → Gives (cond b p q) row v
 choose true p q row v h g = h refl
 choose false p q row v h g = g refl
-
-sign_same : (a b : Bool) → same_sign a b ≡ true → a ≡ b
-sign_same true true h = refl
-sign_same true false h = absurd (cc)
-sign_same false true h = absurd (cc)
-sign_same false false h = refl
-
-pub arg_same : (a b : Arg) → same_arg a b ≡ true → a ≡ b
-arg_same a b h =
-    let p = and_parts _ _ h in
-    ap (λ n. record { line = n; negated = a.negated }) (eqb-true a.line b.line p.0) ∙ ap (λ s. record { line = b.line; negated = s }) (sign_same a.negated b.negated p.1)
 
 not_word : (w : BitVector) → IsWord w → IsWord (unary_of Not w)
 not_word w h = (h.0, h.1, not_small w.width w.bits)
@@ -78,7 +66,7 @@ pub same_read : (row : List BitVector) (x y : Operand) → is_same x y ≡ true 
 same_read row x y h = ap (operand row) (arg_same x.arg y.arg h)
 
 -- the word of the other sign is the bitwise not
-other_word : (b : Bool) (w : BitVector) → IsWord w → signed_word (not b) w ≡ unary_of Not (signed_word b w)
+pub other_word : (b : Bool) (w : BitVector) → IsWord w → signed_word (not b) w ≡ unary_of Not (signed_word b w)
 other_word true w h = vector_is w.width w.width w.bits _ refl (sym (not_not w.width w.bits h.2))
 other_word false w h = refl
 

@@ -1,12 +1,12 @@
 -- What becomes of an operator line has the width of its word.
-use Rattle.std.proofs.Common.{◌≡◌, ℕ, ◌+◌, ◌-◌, ◌^◌, ◌/◌, ◌%◌, ◌<◌, ◌≤◌, Bool, true, false, cond, not, eqb, ◌||◌, Option, Some, None, refl, sym, ap, subst, arith, ◌∙◌, inl, inr, ◌⊎◌}
+use Rattle.std.proofs.Common.{◌≡◌, ℕ, ◌+◌, ◌-◌, ◌^◌, ◌/◌, ◌<◌, ◌≤◌, Bool, true, false, cond, not, eqb, Option, Some, None, refl, sym, ap, subst, arith, ◌∙◌, inl, inr}
 use Rattle.std.specs.Prelude.{IfSome, option_and_then}
 use Rattle.std.proofs.Math.Nat.{one-le-pow, mod-lt}
-use Rattle.std.proofs.lemmas.Bool.{eqb-true, and_parts, cases_Bool}
+use Rattle.std.proofs.lemmas.Bool.{eqb-true, and_parts}
 use Rattle.word_core.specs.Words.{BitVector, IsWord}
 use Rattle.word_core.specs.declared.word.TheConstants.{WIDEST}
-use Rattle.word_core.specs.Table.{unary_of, binary_of, ite_of, slice_of, uext_of, sext_of, bit_of, BinaryFits, unary_width, binary_width, is_minus}
-use Rattle.word_core.specs.laws.Rows.{unary_is_word, binary_is_word, uext_is_word, sext_is_word}
+use Rattle.word_core.specs.Table.{slice_of, BinaryFits, unary_width, binary_width, is_minus}
+use Rattle.word_core.specs.laws.Rows.{unary_is_word, binary_is_word, uext_is_word}
 use Rattle.word_core.specs.declared.kinds.Unary.{Unary}
 use Rattle.word_core.specs.declared.kinds.Unary.TheVariants.{Not}
 use Rattle.word_core.specs.declared.kinds.Binary.{Binary}
@@ -17,9 +17,10 @@ use Rattle.btor_rules.specs.declared.operand.Operand.{Operand}
 use Rattle.btor_rules.specs.declared.operand.Operands.{Operands}
 use Rattle.btor_rules.specs.declared.operand.Operands.TheVariants.{Empty, Single, Pair, Triple}
 use Rattle.btor_rules.specs.declared.operand.Outcome.{Outcome}
-use Rattle.btor_rules.specs.declared.operand.Outcome.TheVariants.{Stays, Constant, Argument}
-use Rattle.btor_rules.specs.Rules.{other_sign, is_number, is_ones, is_same, is_opposite, zeros, ones, one_bit, as_it_is, and_rule, or_rule, xor_rule, equal_rule, implies_rule, add_rule, sub_rule, shift_rule, pair_rule, ite_rule, kept_where, single_rule, on_pair, on_triple, rule, folded_single, both, all_three, folded_pair, folded_triple, folded, folded_or, outcome, OperandFits, TakesWidth, TakesWidths, OperandsFit}
-use Rattle.btor_rules.specs.Words.{HasOperand, GivesWidthOfOne, GivesWidthOfTwo, GivesWidth, OutcomeFits}
+use Rattle.btor_rules.specs.declared.operand.Outcome.TheVariants.{Stays}
+use Rattle.btor_rules.specs.Rules.{zeros, ones, one_bit, as_it_is, equal_rule, shift_rule, pair_rule, single_rule, on_pair, on_triple, rule, folded_single, folded_pair, folded_triple, folded, folded_or, outcome, OperandFits, TakesWidth, TakesWidths, OperandsFit}
+use Rattle.btor_rules.specs.Words.{GivesWidthOfOne, GivesWidthOfTwo, GivesWidth, OutcomeFits}
+use Rattle.btor_tree.proofs.Widths.{sext_choice}
 
 -- an outcome that fits, as a fact of its own
 record Sized (xs : Operands) (w : ℕ) (o : Outcome) : Type 0 where
@@ -123,10 +124,6 @@ slice_is_word : (a : BitVector) (high low : ℕ) → IsWord a → low ≤ high �
 slice_is_word a high low h o g =
     let top : 1 ≤ 2 ^ (high - low + 1) = one-le-pow (high - low + 1) 2 (omega arith) in
     (omega arith, omega (arith, o, g, h.1), mod-lt (a.bits / 2 ^ low) top)
-
-sext_choice : (b : Bool) (a : BitVector) (n : ℕ) → IsWord a → a.width + n ≤ WIDEST → IsWord (record { width = a.width + n; bits = cond b (a.bits + (2 ^ (a.width + n) - 2 ^ a.width)) a.bits })
-sext_choice true a n h f = sext_is_word a n h f
-sext_choice false a n h f = uext_is_word a n h f
 
 fold_one_fits : (o : LineOp) (c : BitVector) (v w : ℕ) → IsWord c → c.width ≡ v → TakesWidth o v → GivesWidthOfOne o v w → IsOfWidth (folded_single o c) w
 fold_one_fits (op.Unary u) c v w i e f h = (unary_is_word u c i, ap (unary_width u) e ∙ h)

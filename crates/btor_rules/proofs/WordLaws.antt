@@ -1,20 +1,11 @@
 -- Laws of words that the rules stand on.
-use Rattle.std.proofs.Common.{◌≡◌, ℕ, zero, suc, ◌+◌, ◌-◌, ◌*◌, ◌/◌, ◌%◌, ◌^◌, ◌<◌, ◌≤◌, min, Bool, true, false, cond, not, ◌==◌, refl, sym, ap, subst, arith, ◌∙◌}
-use Rattle.std.specs.Prelude.{bit_and, bit_or, bit_xor, nat_lt, nat_le}
+use Rattle.std.proofs.Common.{◌≡◌, ℕ, ◌+◌, ◌-◌, ◌*◌, ◌/◌, ◌%◌, ◌^◌, ◌<◌, ◌≤◌, min, Bool, true, false, cond, not, refl, ap, arith, ◌∙◌}
+use Rattle.std.specs.Prelude.{bit_and, bit_or, bit_xor, nat_lt}
 use Rattle.std.specs.Int.Bits.{and_self, or_add_and, xor_add_and}
-use Rattle.std.proofs.lemmas.Nat.{and_comm, or_comm, and-not, and_mask, pow-add}
-use Rattle.std.proofs.Math.Nat.{one-le-pow, mod-eq_of_lt, mod_self, div-one, add-mod_right}
+use Rattle.std.proofs.lemmas.Nat.{and_comm, and-not, and_mask, pow-add}
+use Rattle.std.proofs.Math.Nat.{mod-eq_of_lt, mod_self, div-one, add-mod_right}
 use Rattle.std.proofs.lemmas.Bool.{lt-ltb}
-use Rattle.word_core.specs.Words.{BitVector, IsWord}
-use Rattle.word_core.specs.Table.{unary_of, binary_of, slice_of, uext_of, sext_of, bit_of}
-use Rattle.word_core.specs.declared.kinds.Unary.TheVariants.{Not}
-use Rattle.word_core.specs.declared.kinds.Binary.TheVariants.{Iff, Implies, Eq, Neq, And, Or, Xor, Sll, Srl, Sra, Add, Sub}
-
-pub vector_is : (v w m n : ℕ) → v ≡ w → m ≡ n → (let a : BitVector = record { width = v; bits = m } in a) ≡ record { width = w; bits = n }
-vector_is v w m n e f = ap (λ (k : ℕ). let a : BitVector = record { width = k; bits = m } in a) e ∙ ap (λ (k : ℕ). let a : BitVector = record { width = w; bits = k } in a) f
-
-top : (w : ℕ) → 1 ≤ 2 ^ w
-top w = one-le-pow w 2 (omega arith)
+use Rattle.word_core.proofs.Masks.{top}
 
 -- numbers of w bits
 pub not_not : (w a : ℕ) → a < 2 ^ w → 2 ^ w - 1 - (2 ^ w - 1 - a) ≡ a

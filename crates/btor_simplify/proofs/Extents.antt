@@ -34,7 +34,7 @@ pub ok_one : {A E : Type 0} (r : Result A E) (P S : A → Type 0) → ((x : A) �
 ok_one (Ok x) P S f p = f x p
 ok_one (Err e) P S f p = tt
 
-sort_is : (o : LineOp) → is_sort o ≡ true → (w : ℕ) × (o ≡ op.Sort w)
+pub sort_is : (o : LineOp) → is_sort o ≡ true → (w : ℕ) × (o ≡ op.Sort w)
 sort_is (op.Sort w) h = (w, refl)
 sort_is o h = absurd (cc)
 

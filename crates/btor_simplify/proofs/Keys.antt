@@ -1,10 +1,9 @@
 -- What two lines say is told apart by its order.
-use Rattle.std.proofs.Common.{◌≡◌, ℕ, zero, suc, ◌<◌, true, false, List, [], ◌∷◌, length, refl, ap, ◌∙◌, arith}
+use Rattle.std.proofs.Common.{◌≡◌, ℕ, true, List, ap, ◌∙◌, arith}
 use Rattle.std.specs.Prelude.{slice_index_or}
-use Rattle.std.specs.declared.cmp.Ordering.{Ordering}
-use Rattle.std.specs.declared.cmp.Ordering.TheVariants.{Less, Equal, Greater}
-use Rattle.std.specs.Ordering.{ordering_then, nat_cmp, bool_cmp}
-use Rattle.std.specs.Cmp.{bool_cmp_total, Equal-is}
+use Rattle.std.specs.declared.cmp.Ordering.TheVariants.{Equal}
+use Rattle.std.specs.Ordering.{nat_cmp}
+use Rattle.std.specs.Cmp.{Equal-is}
 use Rattle.std.proofs.lemmas.Cmp.{nat_cmp_total, tied_itself}
 use Rattle.std.specs.BTreeMap.{is_at}
 use Rattle.std.proofs.lemmas.Map.Lookups.{CmpEqualImpliesEq, exact_unsigned}
@@ -16,28 +15,7 @@ use Rattle.btor_tree.specs.Sharing.{is_shared}
 use Rattle.btor_tree.proofs.Alike.{op_told}
 use Rattle.btor_simplify.specs.declared.contents.Content.{Content}
 use Rattle.btor_simplify.specs.Contents.{content_of, content_cmp}
-
-then_parts : (a b : Ordering) → ordering_then a b ≡ Equal → (a ≡ Equal) × (b ≡ Equal)
-then_parts Less b h = absurd (cc)
-then_parts Equal b h = (refl, h)
-then_parts Greater b h = absurd (cc)
-
-then_equal : (a b : Ordering) → a ≡ Equal → b ≡ Equal → ordering_then a b ≡ Equal
-then_equal a b h g = ap (λ o. ordering_then o b) h ∙ g
-
-bool_exact : CmpEqualImpliesEq bool_cmp
-bool_exact true true h = refl
-bool_exact true false h = absurd (cc)
-bool_exact false true h = absurd (cc)
-bool_exact false false h = refl
-
-arg_exact : CmpEqualImpliesEq arg_cmp
-arg_exact a b h =
-    let p = then_parts (nat_cmp a.line b.line) (bool_cmp a.negated b.negated) h in
-    ap (λ n. record { line = n; negated = a.negated }) (exact_unsigned a.line b.line p.0) ∙ ap (λ s. record { line = b.line; negated = s }) (bool_exact a.negated b.negated p.1)
-
-arg_self : (a : Arg) → arg_cmp a a ≡ Equal
-arg_self a = then_equal _ _ (tied_itself nat_cmp_total a.line) (tied_itself bool_cmp_total a.negated)
+use Rattle.btor_tree.proofs.Keyed.{arg_exact, arg_self, by_three, same_lists, then_equal, then_parts}
 
 content_exact : CmpEqualImpliesEq content_cmp
 content_exact a b h =
@@ -67,20 +45,6 @@ at_itself k = (Equal-is (content_cmp k k)).1 (content_self k)
 
 pub at_same : (k q : Content) → is_at (content_cmp k) q ≡ true → k ≡ q
 at_same k q h = content_exact k q ((Equal-is (content_cmp k q)).0 h)
-
--- lists as long as each other with the same elements
-same_lists : (xs ys : List Arg) (d : Arg) → length xs ≡ length ys → ((i : ℕ) → i < length xs → slice_index_or xs i d ≡ slice_index_or ys i d) → xs ≡ ys
-same_lists [] [] d e h = refl
-same_lists [] (y ∷ ys) d e h = absurd (omega (arith, e))
-same_lists (x ∷ xs) [] d e h = absurd (omega (arith, e))
-same_lists (x ∷ xs) (y ∷ ys) d e h =
-    ap (λ z. z ∷ xs) (h zero (omega arith)) ∙ ap (λ zs. y ∷ zs) (same_lists xs ys d (omega (arith, e)) (λ i lt. h (suc i) (omega (arith, lt))))
-
-by_three : (P : ℕ → Type 0) → P 0 → P 1 → P 2 → (i : ℕ) → i < 3 → P i
-by_three P a b c zero h = a
-by_three P a b c (suc zero) h = b
-by_three P a b c (suc (suc zero)) h = c
-by_three P a b c (suc (suc (suc i))) h = absurd (omega (arith, h))
 
 -- what says the same has the same word, sort and arguments
 pub record IsSame (o : LineOp) (sort : ℕ) (args : List Arg) (p : LineOp) (other : ℕ) (more : List Arg) : Type 0 where

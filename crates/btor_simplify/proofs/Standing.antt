@@ -28,6 +28,7 @@ use Rattle.btor_simplify.specs.Normal.{AreSameConstants, HasNoTwoSame, FitsNoRul
 use Rattle.btor_simplify.proofs.Keys.{content_same}
 use Rattle.btor_simplify.proofs.Ordering.{differ}
 use Rattle.btor_simplify.proofs.Normality.{sort_alone}
+use Rattle.btor_simplify.proofs.Extents.{sort_is}
 
 -- each line stays
 abbrev pub AllStay : List Outcome → Type 0
@@ -87,10 +88,6 @@ pub record SaysOperator (l : Line) (content : Content) : Type 0 where
 
 abbrev pub SaysOneOf : List Line → Line → Content → Type 0
 SaysOneOf lines l content = SaysSort l.op content ⊎ (SaysConstant lines l content ⊎ SaysOperator l content)
-
-sort_is : (o : LineOp) → is_sort o ≡ true → (w : ℕ) × (o ≡ op.Sort w)
-sort_is (op.Sort w) h = (w, refl)
-sort_is o h = absurd (cc)
 
 pub says_one_of : (lines : List Line) (fates : List Outcome) → AllStay fates → (l : Line) → SaysOneOf lines l (content_as_it_is lines fates l.op l.sort l.args)
 says_one_of lines fates all l =

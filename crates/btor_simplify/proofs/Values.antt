@@ -1,12 +1,11 @@
 -- In each frame, what becomes of a line has the word of the line.
-use Rattle.std.proofs.Common.{◌≡◌, ℕ, zero, suc, ◌<◌, ◌≤◌, Bool, true, false, not, List, [], ◌∷◌, length, take, drop, map, Option, Some, None, option_map, refl, sym, ap, subst, ◌∙◌, arith, inl, inr, ◌⊎◌}
+use Rattle.std.proofs.Common.{◌≡◌, ℕ, zero, suc, ◌<◌, ◌≤◌, Bool, true, false, List, [], ◌∷◌, length, take, drop, map, Option, Some, None, option_map, refl, sym, ap, subst, ◌∙◌, arith, inl, inr, ◌⊎◌}
 use Rattle.std.specs.Prelude.{slice_get, IfSome}
 use Rattle.std.proofs.lemmas.Bool.{cases_lt, cases_eq, cases_Bool}
 use Rattle.std.proofs.lemmas.List.{length-take, get_or-take, take-take, take-append-drop}
 use Rattle.std.proofs.lemmas.Option.{same_Some, slice_get-get_or}
 use Rattle.word_core.specs.Words.{BitVector, IsWord}
 use Rattle.word_core.specs.Table.{unary_of, binary_of, ite_of, slice_of, uext_of, sext_of}
-use Rattle.word_core.specs.declared.kinds.Unary.TheVariants.{Not}
 use Rattle.btor_tree.specs.declared.args.Arg.{Arg}
 use Rattle.btor_tree.specs.declared.lines.Line.{Line}
 use Rattle.btor_tree.specs.declared.lines.LineOp.{LineOp}
@@ -22,8 +21,7 @@ use Rattle.btor_rules.specs.declared.operand.Outcome.{Outcome}
 use Rattle.btor_rules.specs.declared.operand.Outcome.TheVariants.{Stays, Constant, Argument}
 use Rattle.btor_rules.specs.Rules.{outcome, args_of}
 use Rattle.btor_rules.specs.Words.{IsRead, AreRead, Gives}
-use Rattle.btor_rules.proofs.WordLaws.{vector_is, not_not}
-use Rattle.btor_rules.proofs.Holds.{rules_hold}
+use Rattle.btor_rules.proofs.Holds.{rules_hold, other_word}
 use Rattle.btor_simplify.specs.declared.contents.Content.{Content}
 use Rattle.btor_simplify.specs.Contents.{content_of}
 use Rattle.btor_simplify.specs.Fates.{fate_at, with_sign, replaced_by, replaced, sort_for, Lives, constant_of, constant_of_line, constant_by, constant_at, operand_as, operand_of, operands_of, content_of_word, content_as_it_is, content_by, Says, IsFateBy, IsFate, KeepsWidth, AreFates, IsNextLine, is_sort}
@@ -41,10 +39,6 @@ abbrev pub Holds : List BitVector → ℕ → Outcome → Type 0
 Holds row i Stays = Unit {0}
 Holds row i (Constant c) = word_at row i ≡ c
 Holds row i (Argument b) = word_at row i ≡ operand row b
-
-other_word : (b : Bool) (w : BitVector) → IsWord w → signed_word (not b) w ≡ unary_of Not (signed_word b w)
-other_word true w h = vector_is w.width w.width w.bits _ refl (sym (not_not w.width w.bits h.2))
-other_word false w h = refl
 
 sign_word : (row : List BitVector) (n : Bool) (b : Arg) → IsWord (word_at row b.line) → operand row (with_sign n b) ≡ signed_word n (operand row b)
 sign_word row true b h = other_word b.negated (word_at row b.line) h

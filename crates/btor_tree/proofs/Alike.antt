@@ -81,7 +81,7 @@ op_same a b h e =
     let q = and_parts _ _ p.1 in
     op_told a b h (eqb-true (op_kind a) (op_kind b) p.0) (eqb-true (op_number a) (op_number b) q.0) (eqb-true (op_second a) (op_second b) q.1)
 
-sign_same : (a b : Bool) → same_sign a b ≡ true → a ≡ b
+pub sign_same : (a b : Bool) → same_sign a b ≡ true → a ≡ b
 sign_same true true h = refl
 sign_same true false h = absurd (cc)
 sign_same false true h = absurd (cc)
@@ -91,7 +91,7 @@ sign_self : (a : Bool) → same_sign a a ≡ true
 sign_self true = refl
 sign_self false = refl
 
-arg_same : (a b : Arg) → same_arg a b ≡ true → a ≡ b
+pub arg_same : (a b : Arg) → same_arg a b ≡ true → a ≡ b
 arg_same a b h =
     let p = and_parts _ _ h in
     ap (λ n. record { line = n; negated = a.negated }) (eqb-true a.line b.line p.0) ∙ ap (λ s. record { line = b.line; negated = s }) (sign_same a.negated b.negated p.1)

@@ -23,26 +23,26 @@ use Rattle.btor_tree.specs.LineKeys.{IsShort, key_of, line_key, arg_cmp, key_cmp
 use Rattle.btor_tree.proofs.Alike.{alike_says, says_alike, op_told}
 
 -- the order of keys tells them apart
-then_parts : (a b : Ordering) → ordering_then a b ≡ Equal → (a ≡ Equal) × (b ≡ Equal)
+pub then_parts : (a b : Ordering) → ordering_then a b ≡ Equal → (a ≡ Equal) × (b ≡ Equal)
 then_parts Less b h = absurd (cc)
 then_parts Equal b h = (refl, h)
 then_parts Greater b h = absurd (cc)
 
-then_equal : (a b : Ordering) → a ≡ Equal → b ≡ Equal → ordering_then a b ≡ Equal
+pub then_equal : (a b : Ordering) → a ≡ Equal → b ≡ Equal → ordering_then a b ≡ Equal
 then_equal a b h g = ap (λ o. ordering_then o b) h ∙ g
 
-bool_exact : CmpEqualImpliesEq bool_cmp
+pub bool_exact : CmpEqualImpliesEq bool_cmp
 bool_exact true true h = refl
 bool_exact true false h = absurd (cc)
 bool_exact false true h = absurd (cc)
 bool_exact false false h = refl
 
-arg_exact : CmpEqualImpliesEq arg_cmp
+pub arg_exact : CmpEqualImpliesEq arg_cmp
 arg_exact a b h =
     let p = then_parts (nat_cmp a.line b.line) (bool_cmp a.negated b.negated) h in
     ap (λ n. record { line = n; negated = a.negated }) (exact_unsigned a.line b.line p.0) ∙ ap (λ s. record { line = b.line; negated = s }) (bool_exact a.negated b.negated p.1)
 
-arg_self : (a : Arg) → arg_cmp a a ≡ Equal
+pub arg_self : (a : Arg) → arg_cmp a a ≡ Equal
 arg_self a = then_equal _ _ (tied_itself nat_cmp_total a.line) (tied_itself bool_cmp_total a.negated)
 
 abbrev reverse : Arg → Reverse Arg
@@ -144,14 +144,14 @@ fits_short before s (op.Sext n) args h = one_long args _ h.1
 fits_short before s o args h = none_long args h.1
 
 -- lists as long as each other with the same elements
-same_lists : (xs ys : List Arg) (d : Arg) → length xs ≡ length ys → ((i : ℕ) → i < length xs → slice_index_or xs i d ≡ slice_index_or ys i d) → xs ≡ ys
+pub same_lists : (xs ys : List Arg) (d : Arg) → length xs ≡ length ys → ((i : ℕ) → i < length xs → slice_index_or xs i d ≡ slice_index_or ys i d) → xs ≡ ys
 same_lists [] [] d e h = refl
 same_lists [] (y ∷ ys) d e h = absurd (omega (arith, e))
 same_lists (x ∷ xs) [] d e h = absurd (omega (arith, e))
 same_lists (x ∷ xs) (y ∷ ys) d e h =
     ap (λ z. z ∷ xs) (h zero (omega arith)) ∙ ap (λ zs. y ∷ zs) (same_lists xs ys d (omega (arith, e)) (λ i lt. h (suc i) (omega (arith, lt))))
 
-by_three : (P : ℕ → Type 0) → P 0 → P 1 → P 2 → (i : ℕ) → i < 3 → P i
+pub by_three : (P : ℕ → Type 0) → P 0 → P 1 → P 2 → (i : ℕ) → i < 3 → P i
 by_three P a b c zero h = a
 by_three P a b c (suc zero) h = b
 by_three P a b c (suc (suc zero)) h = c

@@ -17,7 +17,7 @@ use Rattle.btor_tree.specs.Shapes.{Base, in_binary, in_decimal, in_hex, is_negat
 use Rattle.btor_tree.specs.Resolving.{minus_word, literal_word}
 use Rattle.btor_tree.proofs.Widths.{IsOfWidth}
 
-cond_some : {X : Type 0} (b : Bool) (o : Option X) (v : X) → cond b o None ≡ Some v → (b ≡ true) × (o ≡ Some v)
+pub cond_some : {X : Type 0} (b : Bool) (o : Option X) (v : X) → cond b o None ≡ Some v → (b ≡ true) × (o ≡ Some v)
 cond_some true o v h = (refl, h)
 cond_some false o v h = absurd (none-some v h)
 

@@ -21,10 +21,7 @@ use Rattle.btor_tree.proofs.Widths.{option_cases, line_at, width_front, sort_fro
 use Rattle.std.specs.List.{AllByRecursion}
 use Rattle.std.proofs.lemmas.Bool.{eqb-true}
 use Rattle.btor_tree.proofs.Rows.{Given, GivesWords, row_upto, frame_upto, upto_same, word_upto, slice_get_take}
-
-cond_some : {X : Type 0} (b : Bool) (o : Option X) (v : X) → cond b o None ≡ Some v → (b ≡ true) × (o ≡ Some v)
-cond_some true o v h = (refl, h)
-cond_some false o v h = absurd (none-some v h)
+use Rattle.btor_tree.proofs.Literals.{cond_some}
 
 value_for_facts : (args : List Arg) (s : ℕ) (v : Arg) → value_for args s ≡ Some v → (x : Arg) × (args ≡ x ∷ v ∷ []) × (x.line ≡ s)
 value_for_facts [] s v h = absurd (none-some v h)

@@ -101,7 +101,7 @@ uext_is a n v w h e t =
     let f : a.width + n ≡ w = ap (λ k. k + n) h.1 ∙ e in
     (uext_is_word a n h.0 (omega (arith, f, t)), f)
 
-sext_choice : (b : Bool) (a : BitVector) (n : ℕ) → IsWord a → a.width + n ≤ WIDEST → IsWord (record { width = a.width + n; bits = cond b (a.bits + (2 ^ (a.width + n) - 2 ^ a.width)) a.bits })
+pub sext_choice : (b : Bool) (a : BitVector) (n : ℕ) → IsWord a → a.width + n ≤ WIDEST → IsWord (record { width = a.width + n; bits = cond b (a.bits + (2 ^ (a.width + n) - 2 ^ a.width)) a.bits })
 sext_choice true a n h f = sext_is_word a n h f
 sext_choice false a n h f = uext_is_word a n h f
 

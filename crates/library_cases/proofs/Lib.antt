@@ -1,4 +1,3 @@
 pub mod Fitting
 pub mod Last
-pub mod Lists
 pub mod Read

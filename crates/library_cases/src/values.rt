@@ -113,7 +113,7 @@ fn is_instance(domain: &Domain) -> bool
     }
 }
 
-#[tactic(auto, using(crate::proofs::Lists::front_is, crate::proofs::Lists::end_is))]
+#[tactic(auto, using(smv_meaning::specs::laws::Lists::front_is, smv_meaning::specs::laws::Lists::end_is))]
 fn are_instances(items: &Items) -> bool
     ensures { result ≡ list_all is_free_item (map plain_item items.now) }
 {
@@ -140,7 +140,7 @@ fn is_free(element: &Element) -> bool
     }
 }
 
-#[tactic(auto, using(crate::proofs::Lists::front_is, crate::proofs::Lists::end_is))]
+#[tactic(auto, using(smv_meaning::specs::laws::Lists::front_is, smv_meaning::specs::laws::Lists::end_is))]
 fn elements_are_free(elements: &Elements) -> bool
     ensures { result ≡ list_all is_free_element (map plain_element elements.now) }
 {
@@ -153,7 +153,7 @@ fn elements_are_free(elements: &Elements) -> bool
 }
 
 // Whether each variable is an instance.
-#[tactic(auto, using(crate::proofs::Lists::front_is, crate::proofs::Lists::end_is))]
+#[tactic(auto, using(smv_meaning::specs::laws::Lists::front_is, smv_meaning::specs::laws::Lists::end_is))]
 fn are_free<'a>(parts: &[Instance<'a>]) -> bool
     ensures { result ≡ are_free (map instance_plain parts.now) }
 {

@@ -76,7 +76,7 @@ fn is_label(ls: &Labels, name: &[u8]) -> bool
 }
 
 // Adds a formula with a new name.
-#[tactic(auto, using(moxi_scripts::proofs::Forms::map_end))]
+#[tactic(auto, using(moxi_terms::proofs::ScopeLaws::map_end))]
 fn add_one(alloc: Global, l: &mut Labelled, name: &[u8], term: Term) -> Result<(), NoMemory>
     requires { has_name (plain_list l.old) name.now ≡ false }
     ensures { OnOk result (plain_list l.new ≡ with_one (plain_list l.old) (record { name = name.now; term = plain term })) }

@@ -1,5 +1,5 @@
 -- What is written for a script stands for it.
-use Rattle.std.proofs.Common.{◌≡◌, ℕ, zero, suc, [], ◌∷◌, ◌<◌, ◌≤◌, Bool, true, false, ◌||◌, List, length, Some, None, slice_get, refl, sym, cond, arith}
+use Rattle.std.proofs.Common.{◌≡◌, ℕ, ◌<◌, ◌≤◌, Bool, true, false, ◌||◌, List, length, Some, None, refl, sym, cond, arith}
 use Rattle.std.specs.Prelude.{◌^◌, nat_lt}
 use Rattle.word_core.specs.declared.word.TheConstants.{WIDEST}
 use Rattle.text_core.specs.declared.place.Kind.TheVariants.{M}
@@ -30,6 +30,7 @@ use Rattle.moxi_layout.specs.ConstantLaws.{CodesAreFew}
 use Rattle.moxi_commands.specs.Limits.{most_script_bytes}
 use Rattle.btor_commands.specs.Traces.{HasTrace}
 use Rattle.moxi_commands.specs.Translation.{IsInstantiated, ScriptLinesAreLaidOut, StandFor, WritesLines, btor_text}
+use Rattle.btor_commands.proofs.Imported.{there}
 
 -- ---- sizes
 
@@ -58,11 +59,6 @@ few s counted sizes whole sorted h =
     omega (arith, a, b, c)
 
 -- ---- both directions
-
-there : {T : Type 0} (xs : List T) (j : ℕ) → j < length xs → (x : T) × (slice_get xs j ≡ Some x)
-there [] j h = absurd (omega (arith, h))
-there (x ∷ xs) zero h = (x, refl)
-there (x ∷ xs) (suc j) h = there xs j (omega (arith, h))
 
 from_frames : (s : PlainScript) (lines : List Line) → TracesHaveFrames → TracesHaveFlatTraces → IsWhole s → IsLaidOut (flat_of s) lines → (j k : ℕ) → j < length s.check.queries → HasFrames lines j k → HasTrace s j k
 from_frames s lines framed flattened whole laid j k h frames =

@@ -274,7 +274,7 @@ where
 }
 
 // Appends a system to those with new names, or to those whose names are already in use.
-#[tactic(auto, using(moxi_scripts::proofs::Forms::map_end))]
+#[tactic(auto, using(moxi_terms::proofs::ScopeLaws::map_end))]
 fn add_system(
     new: bool,
     systems: &mut Vec<ReadSystem>,

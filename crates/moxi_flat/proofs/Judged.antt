@@ -1,11 +1,10 @@
 -- The judge says Yes of a trace with hidden values exactly where the flat trace with the same values meets the query.
-use Rattle.std.proofs.Common.{◌≡◌, ℕ, zero, suc, ◌+◌, ◌<◌, ◌≤◌, Bool, true, false, cond, Option, None, Some, List, [], ◌∷◌, refl, sym, ap, ◌∙◌, subst, arith}
+use Rattle.std.proofs.Common.{◌≡◌, ℕ, zero, suc, ◌+◌, ◌<◌, ◌≤◌, true, Option, None, Some, List, [], ◌∷◌, refl, sym, ap, ◌∙◌, subst, arith}
 use Rattle.std.specs.List.{AllByRecursion, list_all}
 use Rattle.std.proofs.lemmas.Bool.{and_parts}
 use Rattle.text_core.specs.declared.verdict.Clause.{Clause}
 use Rattle.text_core.specs.declared.verdict.Verdict.{Verdict}
 use Rattle.text_core.specs.declared.verdict.Verdict.TheVariants.{Yes}
-use Rattle.moxi_terms.specs.declared.data.Datum.{Datum}
 use Rattle.moxi_terms.specs.declared.data.Datum.TheVariants as datum
 use Rattle.moxi_terms.specs.Names.{or_else}
 use Rattle.moxi_terms.specs.Operators.{truth_of}
@@ -19,7 +18,7 @@ use Rattle.moxi_scripts.specs.Meeting.{Hiddens, all_hold, each_holds, first_fail
 use Rattle.moxi_scripts.specs.Whole.{IsWhole}
 use Rattle.moxi_scripts.specs.laws.WholeNames.{and_both}
 use Rattle.moxi_scripts.proofs.AskingLaws.{first_part}
-use Rattle.moxi_scripts.proofs.MeetingLaws.{asks, meets}
+use Rattle.moxi_scripts.proofs.MeetingLaws.{asks, meets, passed, passes, true_is}
 use Rattle.moxi_flat.specs.FlatSystem.{PlainPart, flat_of}
 use Rattle.moxi_flat.specs.FlatMeeting.{IsFlatTrace, MeetsFlat, PartHolds}
 use Rattle.moxi_flat.specs.FlatLaws.{AreTested, FlatTracesAreJudged, SuitsFlat, WritesOut}
@@ -28,7 +27,7 @@ use Rattle.moxi_flat.proofs.Tested.{parts_are_tested_law}
 
 -- VERDICTS
 
-verdict_yes : (j : ℕ) (o : Option Clause) (v : Verdict) → verdict_or j o v ≡ Yes → (o ≡ None) × (v ≡ Yes)
+pub verdict_yes : (j : ℕ) (o : Option Clause) (v : Verdict) → verdict_or j o v ≡ Yes → (o ≡ None) × (v ≡ Yes)
 verdict_yes j None v h = (refl, h)
 verdict_yes j (Some c) v h = absurd (cc)
 
@@ -53,22 +52,9 @@ module _ (s : PlainScript) (q : Query) (last : ℕ) (trace : Trace) (hs : Hidden
 
 -- TESTS
 
-passed : (b : Bool) (c : Clause) (o : Option Clause) → cond b o (Some c) ≡ None → (b ≡ true) × (o ≡ None)
-passed true c o h = (refl, h)
-passed false c o h = absurd (cc)
-
-passes : (b : Bool) (c : Clause) (o : Option Clause) → b ≡ true → o ≡ None → cond b o (Some c) ≡ None
-passes true c o e h = h
-passes false c o e h = absurd (cc)
-
-neither : (a b : Option Clause) → or_else a b ≡ None → (a ≡ None) × (b ≡ None)
+pub neither : (a b : Option Clause) → or_else a b ≡ None → (a ≡ None) × (b ≡ None)
 neither None b h = (refl, h)
 neither (Some c) b h = absurd (cc)
-
-true_is : (d : Datum) → truth_of d ≡ true → d ≡ datum.Truth true
-true_is (datum.Truth b) h = ap datum.Truth h
-true_is (datum.Bits w) h = absurd (cc)
-true_is (datum.Constant n i) h = absurd (cc)
 
 -- PARTS
 

@@ -10,11 +10,7 @@ use Rattle.moxi_terms.specs.declared.term.Function.{Function}
 use Rattle.moxi_flat.specs.Terms.{measured_upto}
 use Rattle.moxi_instantiate.specs.Counting.{AreCounted, capped, known}
 use Rattle.moxi_instantiate.proofs.Capping.{capped_twice}
-
-body_of : (fs : List Function) (n : ℕ) (d : Function) → n < length fs → body_at (map plain_function fs) n ≡ plain (slice_index_or fs n d).body
-body_of [] n d h = absurd (omega arith)
-body_of (f ∷ fs) zero d h = refl
-body_of (f ∷ fs) (suc n) d h = body_of fs n d (omega arith)
+use Rattle.moxi_terms.proofs.Plain.{body_of}
 
 last_known : (xs : List ℕ) (x n : ℕ) → n ≡ length xs → known (xs ++ x ∷ []) n ≡ x
 last_known [] x zero h = refl

@@ -46,7 +46,7 @@ list_of_trees : (ts : List Tree) → list_of (trees_of ts) ≡ ts
 list_of_trees [] = refl
 list_of_trees (t ∷ ts) = ap (λ us. t ∷ us) (list_of_trees ts)
 
-plain_apply : (op : TermOp) (ts : Vec Term Global) → plain (Apply op ts) ≡ apply op (trees_of (map plain ts.items))
+pub plain_apply : (op : TermOp) (ts : Vec Term Global) → plain (Apply op ts) ≡ apply op (trees_of (map plain ts.items))
 plain_apply op ts = search (rules, the_lemmas)
 
 pub apply_counted : (sizes : List ℕ) (t : Term) (op : TermOp) (ts : Vec Term Global) (slice : List Term) (n x y z : ℕ) → t ≡ Apply op ts → slice ≡ ts.items → n ≡ length ts.items

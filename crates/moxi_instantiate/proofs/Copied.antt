@@ -5,9 +5,7 @@ use Rattle.moxi_terms.specs.declared.term.Term.{Term, Apply, Let, Call, the_lemm
 use Rattle.moxi_terms.specs.Tree.{Tree, apply, binding, call, tree, trees_of}
 use Rattle.moxi_terms.specs.View.{plain}
 use Rattle.moxi_flat.specs.Renumbering.{all_renumbered, renumbered}
-
-plain_apply : (op : TermOp) (ts : Vec Term Global) → plain (Apply op ts) ≡ apply op (trees_of (map plain ts.items))
-plain_apply op ts = search (rules, the_lemmas)
+use Rattle.moxi_instantiate.proofs.Capping.{plain_apply}
 
 plain_let : (names : List (List ℕ)) (ts : Vec Term Global) (t : Box Term Global) → plain (Let names ts t) ≡ binding names (trees_of (map plain ts.items)) (plain t.value)
 plain_let names ts t = search (rules, the_lemmas)

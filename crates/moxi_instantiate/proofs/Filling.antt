@@ -88,7 +88,7 @@ levels_agree m c d a ss (suc n) i =
 
 -- THE ORDER
 
-both : (a b : Bool) → (a && b) ≡ true → (a ≡ true) × (b ≡ true)
+pub both : (a b : Bool) → (a && b) ≡ true → (a ≡ true) × (b ≡ true)
 both true b h = (refl, h)
 both false b h = absurd (cc)
 
@@ -104,7 +104,7 @@ all_at p [] k i h l e = absurd (omega arith)
 all_at p (x ∷ xs) zero i h l e = ap p e ∙ (both (p x) (list_all p xs) h).0
 all_at p (x ∷ xs) (suc k) i h l e = all_at p xs k i (both (p x) (list_all p xs) h).1 (omega arith) e
 
-append_nothing : (xs : List ℕ) → xs ++ [] ≡ xs
+pub append_nothing : (xs : List ℕ) → xs ++ [] ≡ xs
 append_nothing [] = refl
 append_nothing (x ∷ xs) = ap (λ ys. x ∷ ys) (append_nothing xs)
 
@@ -122,7 +122,7 @@ taken_one : (b c : Bool) (A : Type 0) → (b || c) ≡ true → (b ≡ true → 
 taken_one true c A h f g = f refl
 taken_one false c A h f g = g h
 
-same_number : (i j : ℕ) → (i == j) ≡ true → i ≡ j
+pub same_number : (i j : ℕ) → (i == j) ≡ true → i ≡ j
 same_number i j e = grind (arith, nat_tests)
 
 -- one that is among the first k + 1 is among the first k, or is the next

@@ -59,7 +59,7 @@ pub locals_whole : (ss : List PlainSystem) → ∥ AreRanked ss ∥₁ → (path
     → locals_each ss (locals_upto ss (length ss)) path (system_at ss i).subsystems ≡ locals_upto ss (length ss) path i
 locals_whole ss w path i l = ((ranked_held ss w).enough i l).locals path
 
-drop_past : (bs : List Subsystem) (k : ℕ) → length bs ≤ k → drop k bs ≡ []
+pub drop_past : (bs : List Subsystem) (k : ℕ) → length bs ≤ k → drop k bs ≡ []
 drop_past [] zero h = refl
 drop_past [] (suc k) h = refl
 drop_past (b ∷ bs) zero h = absurd (omega (arith, h))

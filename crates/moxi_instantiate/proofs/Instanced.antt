@@ -1,10 +1,11 @@
 -- The parts of one subsystem after another.
-use Rattle.std.proofs.Common.{◌≡◌, ℕ, zero, suc, ◌+◌, ◌<◌, ◌≤◌, List, [], ◌∷◌, ◌++◌, drop, drop-cons, add-one, append_assoc, length, refl, sym, ap, ◌∙◌, arith}
+use Rattle.std.proofs.Common.{◌≡◌, ℕ, suc, ◌+◌, ◌<◌, ◌≤◌, List, [], ◌∷◌, ◌++◌, drop, drop-cons, add-one, append_assoc, length, refl, sym, ap, ◌∙◌, arith}
 use Rattle.std.specs.Prelude.{slice_index_or, sum_by, Result, Ok, Err, OnOk}
 use Rattle.std.proofs.lemmas.List.Sums.{sum_by-cons}
 use Rattle.moxi_scripts.specs.declared.script.Subsystem.{Subsystem}
 use Rattle.moxi_scripts.specs.Script.{PlainSystem, system_at}
 use Rattle.moxi_flat.specs.FlatSystem.{PlainPart, parts_each, place_inside}
+use Rattle.moxi_instantiate.proofs.Held.{drop_past}
 
 -- what is counted of the subsystems from a place on
 sums_at : (f : Subsystem → ℕ) (bs : List Subsystem) (k : ℕ) (b : Subsystem) → k < length bs → b ≡ slice_index_or bs k b → sum_by f (drop k bs) ≡ f b + sum_by f (drop (k + 1) bs)
@@ -34,12 +35,6 @@ parts_on ss count parts place bs k b next after all more end l e counted grown b
     ∙ append_assoc all own (parts_each ss count parts place (next + locals + count b.system) (drop (suc k) bs))
     ∙ sym (ap (λ xs. all ++ parts_each ss count parts place next xs) (drop-cons bs k b l ∙ ap (λ x. x ∷ drop (suc k) bs) (sym e)))
     ∙ before
-
-drop_past : (bs : List Subsystem) (k : ℕ) → length bs ≤ k → drop k bs ≡ []
-drop_past [] zero h = refl
-drop_past [] (suc k) h = refl
-drop_past (b ∷ bs) zero h = absurd (omega (arith, h))
-drop_past (b ∷ bs) (suc k) h = drop_past bs k (omega (arith, h))
 
 append_nothing : (ps : List PlainPart) → ps ++ [] ≡ ps
 append_nothing [] = refl

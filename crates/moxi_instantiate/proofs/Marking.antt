@@ -10,6 +10,7 @@ use Rattle.moxi_instantiate.specs.declared.checks.FormulaKind.{FormulaKind}
 use Rattle.moxi_instantiate.specs.CheckCounts.{AreMarked, all_numbers, numbers_of, unnamed_sum}
 use Rattle.moxi_instantiate.specs.declared.counts.TheConstants.{MOST}
 use Rattle.moxi_instantiate.specs.Counting.{capped}
+use Rattle.moxi_instantiate.proofs.Filling.{append_nothing}
 
 or_last : (a : Bool) → (a || (true || false)) ≡ true
 or_last true = refl
@@ -47,10 +48,6 @@ marked_more marks named numbers k i d l e m =
 all_append : (kind : FormulaKind) (qs rs : List Query) → all_numbers kind (qs ++ rs) ≡ all_numbers kind qs ++ all_numbers kind rs
 all_append kind [] rs = refl
 all_append kind (q ∷ qs) rs = ap (λ xs. numbers_of kind q ++ xs) (all_append kind qs rs) ∙ sym (append_assoc (numbers_of kind q) (all_numbers kind qs) (all_numbers kind rs))
-
-append_nothing : (xs : List ℕ) → xs ++ [] ≡ xs
-append_nothing [] = refl
-append_nothing (x ∷ xs) = ap (λ ys. x ∷ ys) (append_nothing xs)
 
 -- one query more
 pub marked_query : (marks : List Bool) (kind : FormulaKind) (qs : List Query) (k : ℕ) (q : Query) → k < length qs → q ≡ slice_index_or qs k q

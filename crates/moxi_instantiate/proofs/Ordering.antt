@@ -2,7 +2,6 @@
 use Rattle.std.proofs.Common.{◌≡◌, ℕ, zero, suc, ◌<◌, ◌⊎◌, inl, inr, Bool, true, false, ◌&&◌, ◌||◌, ◌==◌, nat_lt, List, [], ◌∷◌, map, length, refl, sym, ap, ◌∙◌, subst, arith}
 use Rattle.std.specs.List.{AllByRecursion, list_all, list_any}
 use Rattle.std.proofs.lemmas.Bool.{or_cases, ltb-true}
-use Rattle.std.proofs.lemmas.Bool.Decides.{nat_tests}
 use Rattle.std.proofs.lemmas.List.{length-map}
 use Rattle.std.proofs.Math.Bool.{Bool-set}
 use Rattle.std.proofs.Math.Logic.{∥∥₁_elim}
@@ -11,11 +10,8 @@ use Rattle.moxi_scripts.specs.declared.script.Subsystem.{Subsystem}
 use Rattle.moxi_scripts.specs.Script.{PlainSystem, system_at}
 use Rattle.moxi_flat.specs.Systems.{nesting_upto}
 use Rattle.moxi_instantiate.specs.Amounts.{AreRanked, links_of, systems_inside}
-use Rattle.moxi_instantiate.proofs.Filling.{next_is}
-
-both : (a b : Bool) → (a && b) ≡ true → (a ≡ true) × (b ≡ true)
-both true b h = (refl, h)
-both false b h = absurd (cc)
+use Rattle.moxi_instantiate.proofs.Filling.{next_is, both, same_number}
+use Rattle.moxi_scripts.proofs.CycleLaws.{less}
 
 two : (a b : Bool) → a ≡ true → b ≡ true → (a && b) ≡ true
 two true b h g = g
@@ -23,12 +19,6 @@ two false b h g = absurd (cc)
 
 abbrev is_lower : ℕ → (ℕ → ℕ) → ℕ → ℕ → Bool
 is_lower n rank k m = nat_lt m n && nat_lt (rank m) (rank k)
-
-less : (m n : ℕ) → m < n → nat_lt m n ≡ true
-less m n h = grind (arith, nat_tests)
-
-same_number : (i j : ℕ) → (i == j) ≡ true → i ≡ j
-same_number i j e = grind (arith, nat_tests)
 
 each_lower : (n : ℕ) (rank : ℕ → ℕ) (k : ℕ) (bs : List Subsystem) → AllByRecursion (λ (b : Subsystem). b.system < n) bs → AllByRecursion (λ (b : Subsystem). rank b.system < rank k) bs
     → list_all (is_lower n rank k) (map (λ (b : Subsystem). b.system) bs) ≡ true

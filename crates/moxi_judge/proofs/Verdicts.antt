@@ -1,5 +1,5 @@
 -- The verdict by the parts is that by the systems with the hidden values, and Yes of it says that the trace meets the query.
-use Rattle.std.proofs.Common.{◌≡◌, ℕ, zero, suc, ◌+◌, ◌-◌, ◌<◌, ◌≤◌, ◌&&◌, Bool, true, false, cond, Option, None, Some, Result, Ok, Err, IfOk, List, [], ◌∷◌, length, refl, sym, ap, ◌∙◌, subst, arith}
+use Rattle.std.proofs.Common.{◌≡◌, ℕ, zero, suc, ◌+◌, ◌-◌, ◌<◌, ◌≤◌, ◌&&◌, Bool, true, false, Option, None, Some, Result, Ok, Err, IfOk, List, [], ◌∷◌, length, refl, sym, ap, ◌∙◌, subst, arith}
 use Rattle.std.specs.Prelude.{◌↔◌, slice_get, slice_index_or}
 use Rattle.std.specs.List.{AllByRecursion, list_all}
 use Rattle.std.proofs.Math.Bool.{Bool-set}
@@ -7,7 +7,6 @@ use Rattle.std.proofs.Math.Logic.{∥∥₁_elim}
 use Rattle.std.proofs.lemmas.Bool.{and_parts}
 use Rattle.text_core.specs.declared.verdict.Clause.{Clause}
 use Rattle.text_core.specs.declared.verdict.Clause.TheVariants.{InitFails, TransFails, InvarFails}
-use Rattle.text_core.specs.declared.verdict.Verdict.{Verdict}
 use Rattle.text_core.specs.declared.verdict.Verdict.TheVariants.{Yes}
 use Rattle.moxi_terms.specs.declared.data.Datum.{Datum}
 use Rattle.moxi_terms.specs.declared.data.Datum.TheVariants as datum
@@ -31,6 +30,8 @@ use Rattle.moxi_flat.specs.FlatLaws.{AreTested, HiddenValuesAreWritten, PartsAre
 use Rattle.moxi_judge.specs.FlatTests.{Fits, free_script, failing_at, judged_by_parts, part_tests}
 use Rattle.moxi_judge.specs.Judging.{IsStatedTrace, trace_of}
 use Rattle.moxi_judge.proofs.Elements.{all_at}
+use Rattle.moxi_flat.proofs.Judged.{neither, verdict_yes}
+use Rattle.moxi_scripts.proofs.MeetingLaws.{passed, passes, true_is}
 
 -- ---- steps
 
@@ -77,30 +78,9 @@ module _ (written : HiddenValuesAreWritten) (tested : PartsAreTested) (steps : S
 
 -- ---- Yes
 
-verdict_yes : (j : ℕ) (o : Option Clause) (v : Verdict) → verdict_or j o v ≡ Yes → (o ≡ None) × (v ≡ Yes)
-verdict_yes j None v h = (refl, h)
-verdict_yes j (Some c) v h = absurd (cc)
-
-neither : (a b : Option Clause) → or_else a b ≡ None → (a ≡ None) × (b ≡ None)
-neither None b h = (refl, h)
-neither (Some c) b h = absurd (cc)
-
 both_none : (a b : Option Clause) → a ≡ None → b ≡ None → or_else a b ≡ None
 both_none None b e h = h
 both_none (Some c) b e h = absurd (cc)
-
-passed : (b : Bool) (c : Clause) (o : Option Clause) → cond b o (Some c) ≡ None → (b ≡ true) × (o ≡ None)
-passed true c o h = (refl, h)
-passed false c o h = absurd (cc)
-
-passes : (b : Bool) (c : Clause) (o : Option Clause) → b ≡ true → o ≡ None → cond b o (Some c) ≡ None
-passes true c o e h = h
-passes false c o e h = absurd (cc)
-
-true_is : (d : Datum) → truth_of d ≡ true → d ≡ datum.Truth true
-true_is (datum.Truth b) h = ap datum.Truth h
-true_is (datum.Bits w) h = absurd (cc)
-true_is (datum.Constant n i) h = absurd (cc)
 
 module _ (f : PlainFlatSystem) (flat : Trace) where
   abbrev s : PlainScript

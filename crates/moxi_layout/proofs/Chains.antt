@@ -50,7 +50,7 @@ paired_counts b lines (x ∷ xs) =
     grows_more (1 + length xs) (suc (length xs)) lines (paired_lines b n.0 xs).0 (omega arith)
     (grows_then 1 (length xs) lines n.0 (paired_lines b n.0 xs).0 (binary_counts b lines x.0 x.1) (paired_counts b n.0 xs))
 
-paired_long : (b : Binary) (lines : List Line) (xs : List (ℕ × ℕ)) → length (paired_lines b lines xs).1 ≡ length xs
+pub paired_long : (b : Binary) (lines : List Line) (xs : List (ℕ × ℕ)) → length (paired_lines b lines xs).1 ≡ length xs
 paired_long b lines [] = refl
 paired_long b lines (x ∷ xs) = ap suc (paired_long b (with_binary b lines x.0 x.1).0 xs)
 

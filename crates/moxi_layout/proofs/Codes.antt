@@ -17,8 +17,8 @@ use Rattle.moxi_lines.specs.Decoding.{PlacesInside}
 use Rattle.moxi_lines.specs.Variables.{IsInside}
 use Rattle.moxi_layout.specs.Skeleton.{has_gap}
 use Rattle.moxi_layout.specs.Layout.{codes_inside, is_inside}
-use Rattle.moxi_layout.proofs.Lists.{all_both, all_first, all_second}
-use Rattle.moxi_layout.proofs.Values.{is_less, less_than}
+use Rattle.moxi_lines.proofs.Decoded.{is_less, less_than}
+use Rattle.moxi_lines.proofs.Extending.{all_both, all_first, all_second}
 
 abbrev pub AreSet : List Bool → Type 0
 AreSet bs = AllByRecursion (λ b. b ≡ true) bs

@@ -33,8 +33,9 @@ use Rattle.moxi_lines.proofs.Extending.{Extends, extends_long, extends_meets, ex
 use Rattle.moxi_lines.proofs.VariableLaws.{all_get}
 use Rattle.moxi_layout.proofs.QueryLines.{IsLatch, Latch, conditions_hold}
 use Rattle.moxi_layout.specs.Layout.{is_set}
-use Rattle.moxi_layout.proofs.Bits.{BitAt, BitMade, all_true, and_folded, bit_later, bits_later, gate, implies_bit, some_bit, zip_push}
+use Rattle.moxi_layout.proofs.Bits.{BitAt, BitMade, all_true, and_folded, bit_later, bits_later, gate, some_bit, zip_push}
 use Rattle.moxi_layout.proofs.LatchLines.{head_long, latch_closed, latch_extends, latch_opened, next_extends, open_later}
+use Rattle.moxi_lines.proofs.Parts.{implies_bit}
 
 -- ---- growth
 

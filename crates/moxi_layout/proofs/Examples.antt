@@ -8,9 +8,7 @@ use Rattle.moxi_terms.specs.Tree.{Tree, apply, constant, no_trees, tree, variabl
 use Rattle.moxi_flat.specs.FlatSystem.{PlainFlatSystem}
 use Rattle.moxi_lines.specs.Lines.{lines_of}
 use Rattle.moxi_layout.specs.Skeleton.{skeleton, skeleton_of}
-
-abbrev not_term : Tree → Tree
-not_term t = apply op.Not (tree t no_trees)
+use Rattle.moxi_lines.proofs.Examples.{not_term}
 
 abbrev equal : Tree → Tree → Tree
 equal a b = apply op.Equal (tree a (tree b no_trees))

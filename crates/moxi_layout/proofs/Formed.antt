@@ -27,12 +27,11 @@ use Rattle.moxi_scripts.specs.Script.{formula_at}
 use Rattle.moxi_flat.specs.FlatSorts.{IsSortedFlat}
 use Rattle.moxi_flat.specs.FlatSystem.{PlainFlatSystem}
 use Rattle.moxi_lines.specs.Codes.{sort_bits}
-use Rattle.moxi_lines.specs.TermLines.{Made, place_in}
+use Rattle.moxi_lines.specs.TermLines.{Made}
 use Rattle.moxi_lines.specs.TermLaws.{AreNumbered, HaveCodes, Makes, VariablesStand}
 use Rattle.moxi_lines.proofs.Growing.{wide_inside}
 use Rattle.moxi_lines.proofs.Terms.{whole_made}
 use Rattle.moxi_lines.specs.Lines.{first_place, has_conditions, head_lines, input_place, lines_of, state_place, symbol_of, variable_lines, with_bad, with_conditions, with_formula, with_goal, with_parts, with_queries, with_query}
-use Rattle.moxi_lines.specs.Variables.{AreVariablesAt}
 use Rattle.moxi_lines.specs.Constraints.{VariablesAreThere}
 use Rattle.moxi_lines.proofs.Extending.{Extends, extends_long, extends_variables, extends_width}
 use Rattle.moxi_lines.proofs.HeadLines.{variables_have_lines_law}
@@ -42,6 +41,7 @@ use Rattle.moxi_lines.proofs.VariableLaws.{all_get, sort_wide}
 use Rattle.moxi_lines.proofs.VariableLines.{symbol_is}
 use Rattle.moxi_layout.specs.Counts.{NamesOneFormula}
 use Rattle.moxi_layout.proofs.QueryCounts.{bad_counts, formula_sorted, none_given}
+use Rattle.moxi_lines.proofs.Decoded.{input_width, state_width}
 
 -- ---- some value of each sort
 
@@ -65,18 +65,6 @@ sort_at_place : (es : List Enumeration) (ss : List Sort) (v : ℕ) (s : Sort) �
 sort_at_place es [] v s a h = absurd (none-some s h)
 sort_at_place es (t ∷ ss) zero s a h = subst (IsSort es) (same_Some t s h) a.0
 sort_at_place es (t ∷ ss) (suc v) s a h = sort_at_place es ss v s a.1 h
-
-input_width : (es : List Enumeration) (lines : List Line) (vs : List Variable) (ps : List ℕ) (v : ℕ) (s : Sort) → AreVariablesAt es lines vs ps → slice_get (sorts_of vs) v ≡ Some s → width_at lines (place_in ps v) ≡ sort_bits es s
-input_width es lines [] ps v s a h = absurd (none-some s h)
-input_width es lines (x ∷ vs) [] v s a h = absurd a
-input_width es lines (x ∷ vs) (p ∷ ps) zero s a h = a.0.input_width ∙ ap (sort_bits es) (same_Some x.sort s h)
-input_width es lines (x ∷ vs) (p ∷ ps) (suc v) s a h = input_width es lines vs ps v s a.1 h
-
-state_width : (es : List Enumeration) (lines : List Line) (vs : List Variable) (ps : List ℕ) (v : ℕ) (s : Sort) → AreVariablesAt es lines vs ps → slice_get (sorts_of vs) v ≡ Some s → width_at lines (suc (place_in ps v)) ≡ sort_bits es s
-state_width es lines [] ps v s a h = absurd (none-some s h)
-state_width es lines (x ∷ vs) [] v s a h = absurd a
-state_width es lines (x ∷ vs) (p ∷ ps) zero s a h = a.0.state_width ∙ ap (sort_bits es) (same_Some x.sort s h)
-state_width es lines (x ∷ vs) (p ∷ ps) (suc v) s a h = state_width es lines vs ps v s a.1 h
 
 -- a row in which `first` is one
 first_row : List BitVector

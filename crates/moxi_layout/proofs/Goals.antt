@@ -30,6 +30,7 @@ use Rattle.moxi_layout.proofs.Bits.{BitAt, all_true, bit_later, some_true, zip_m
 use Rattle.moxi_layout.proofs.LatchLines.{latch_later, one_more}
 use Rattle.moxi_layout.proofs.Conditions.{Stands, conditions_extend, conditions_made, formula_grows, formula_is, formula_made, ok_latch, stands_later}
 use Rattle.moxi_layout.proofs.Reachables.{HeldAt, all_bits, all_met_made, one_met_made, reachables_extend, reachables_made, reached_bits, seen_latches}
+use Rattle.moxi_lines.proofs.Words.{or_false}
 
 abbrev pub nothing_reached : List Line → Reaching
 nothing_reached lines = record { lines = lines; formulas = []; seen = [] }
@@ -101,10 +102,6 @@ module _ (f : PlainFlatSystem) (inputs : List ℕ) where
       let n = with_query f inputs lines q in
       let e = query_extends lines q g in
       extends_then lines n (with_queries f inputs n qs) e (queries_extend n qs (extends_then head_lines lines n g e))
-
-or_false : (a : Bool) → a ≡ (a || false)
-or_false true = refl
-or_false false = refl
 
 some_mapped : {A : Type 0} (h : A → Bool) (xs : List A) → some_true (map h xs) ≡ list_any h xs
 some_mapped h [] = refl

@@ -44,7 +44,7 @@ or_none : (o : Option Arg) → option_or o None ≡ o
 or_none None = refl
 or_none (Some x) = refl
 
-shared_init : (o : LineOp) → is_shared o ≡ true → is_init o ≡ false
+pub shared_init : (o : LineOp) → is_shared o ≡ true → is_init o ≡ false
 shared_init line.Init h = absurd (cc)
 shared_init o h = refl
 

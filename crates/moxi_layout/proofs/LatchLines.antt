@@ -2,19 +2,18 @@
 use Rattle.std.proofs.Common.{◌≡◌, ℕ, ◌+◌, ◌<◌, ◌≤◌, Bool, true, false, cond, List, [], ◌∷◌, ◌++◌, length, Some, None, refl, sym, ap, ◌∙◌, subst, arith, inl}
 use Rattle.std.specs.Prelude.{slice_get}
 use Rattle.std.specs.Option.{option_or}
-use Rattle.std.specs.List.{AllByRecursion}
 use Rattle.std.proofs.lemmas.Bool.{eq-eqb}
 use Rattle.std.proofs.lemmas.List.{length_push}
 use Rattle.btor_tree.specs.declared.args.Arg.{Arg}
 use Rattle.btor_tree.specs.declared.lines.Line.{Line}
 use Rattle.btor_tree.specs.declared.lines.LineOp.{LineOp}
 use Rattle.btor_tree.specs.declared.lines.LineOp.TheVariants as line
-use Rattle.btor_tree.specs.Fits.{Suits, greatest_id, is_init, is_next, is_state, kind_at, plain_arg, sort_at, state_value, value_for, width_at}
-use Rattle.btor_tree.specs.Sharing.{GrowsQuietly, is_shared, next_line, pushed, with_sort}
+use Rattle.btor_tree.specs.Fits.{Suits, greatest_id, is_init, is_next, is_state, kind_at, plain_arg, sort_at, state_value, width_at}
+use Rattle.btor_tree.specs.Sharing.{GrowsQuietly, next_line, pushed, with_sort}
 use Rattle.btor_tree.proofs.AtPlaces.{is_kind, width_of_line}
 use Rattle.btor_tree.proofs.Equations.{pushed_fit}
 use Rattle.btor_tree.proofs.Grows.{slice_get_end}
-use Rattle.btor_tree.proofs.Paths.{fresh, kind_front, state_value_append}
+use Rattle.btor_tree.proofs.Paths.{fresh, state_value_append}
 use Rattle.moxi_lines.specs.TermLines.{Made}
 use Rattle.moxi_lines.specs.TermLaws.{AreNumbered}
 use Rattle.moxi_lines.proofs.Growing.{wide_inside}
@@ -22,6 +21,7 @@ use Rattle.moxi_lines.specs.Lines.{head_lines, symbol_of, with_free, with_given,
 use Rattle.moxi_lines.proofs.Extending.{Extends, extends_long, extends_then, extends_width, quietly}
 use Rattle.moxi_lines.proofs.VariableLines.{symbol_is}
 use Rattle.moxi_layout.proofs.QueryLines.{IsLatch, Latch}
+use Rattle.moxi_lines.proofs.VariableLaws.{kind_extends, quiet_next}
 
 -- ---- lines behind the head
 
@@ -69,18 +69,6 @@ pub record IsOpen (lines : List Line) (s v : ℕ) : Type 0 where
   pub width : width_at lines s ≡ 1
   pub begins : state_value is_init lines s ≡ Some (plain_arg v)
   pub no_next : state_value is_next lines s ≡ None
-
-shared_next : (o : LineOp) → is_shared o ≡ true → is_next o ≡ false
-shared_next line.Next h = absurd (cc)
-shared_next o h = refl
-
-quiet_next : (more : List Line) (s : ℕ) → AllByRecursion (λ l. is_shared l.op ≡ true) more → state_value is_next more s ≡ None
-quiet_next [] s a = refl
-quiet_next (l ∷ more) s a =
-    ap (λ b. option_or (cond b (value_for l.args s) None) (state_value is_next more s)) (shared_next l.op a.0) ∙ quiet_next more s a.1
-
-kind_extends : (kind : LineOp → Bool) (a b : List Line) (p : ℕ) → Extends a b → kind_at kind a p ≡ true → kind_at kind b p ≡ true
-kind_extends kind a b p g h = ap (λ ls. kind_at kind ls p) g.is ∙ kind_front kind a g.more p h
 
 pub value_extends : (kind : LineOp → Bool) (a b : List Line) (p : ℕ) (v : Arg) → Extends a b → state_value kind a p ≡ Some v → state_value kind b p ≡ Some v
 value_extends kind a b p v g h =

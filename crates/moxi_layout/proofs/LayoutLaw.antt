@@ -46,7 +46,9 @@ use Rattle.moxi_layout.proofs.PartAdditions.{StepsStand, of_constraints, parts_a
 use Rattle.moxi_layout.proofs.QueryLayout.{queries_laid}
 use Rattle.moxi_layout.proofs.QueryAdditions.{queries_add, queries_added, query_states}
 use Rattle.moxi_layout.proofs.VariableAdditions.{places_are, places_from, variables_add, variables_args, variables_words}
-use Rattle.moxi_layout.proofs.VariablePlaces.{input_width, inside_list, place_mapped, sorts_long, state_width, values_as, variable_at, variables_long, zero_values, zeros_stand}
+use Rattle.moxi_layout.proofs.VariablePlaces.{inside_list, place_mapped, values_as, variable_at, variables_long, zero_values, zeros_stand}
+use Rattle.moxi_layout.proofs.Entries.{sorts_long}
+use Rattle.moxi_lines.proofs.Decoded.{input_width, state_width}
 
 -- ---- the head
 

@@ -1,9 +1,12 @@
 -- Lists of facts, of truth values and of words.
-use Rattle.std.proofs.Common.{◌≡◌, ℕ, zero, suc, ◌<◌, Bool, true, false, ◌||◌, List, [], ◌∷◌, ◌++◌, map, length, Some, refl, sym, ap, ◌∙◌, subst, arith}
+use Rattle.std.proofs.Common.{◌≡◌, ℕ, zero, suc, ◌<◌, Bool, true, false, ◌||◌, List, [], ◌∷◌, map, length, Some, refl, sym, ap, ◌∙◌, subst, arith}
 use Rattle.std.specs.Prelude.{slice_get, slice_index_or, flat_map, Any}
 use Rattle.std.specs.List.{AllByRecursion, list_all, list_any}
 use Rattle.std.proofs.lemmas.Bool.{and_parts, and_from}
 use Rattle.std.proofs.lemmas.Option.{same_Some, none-some}
+use Rattle.moxi_lines.proofs.Extending.{all_both, all_first, all_second}
+use Rattle.moxi_scripts.proofs.MeetingLaws.{or_second}
+use Rattle.moxi_scripts.proofs.WholeWalks.{or_first}
 
 -- ---- facts of all elements
 
@@ -18,18 +21,6 @@ all_any P (x ∷ xs) g = (g x, all_any P xs g)
 pub all_with : {X : Type 0} (R P Q : X → Type 0) (xs : List X) → ((x : X) → R x → P x → Q x) → AllByRecursion R xs → AllByRecursion P xs → AllByRecursion Q xs
 all_with R P Q [] g r a = tt
 all_with R P Q (x ∷ xs) g r a = (g x r.0 a.0, all_with R P Q xs g r.1 a.1)
-
-pub all_both : {X : Type 0} (P : X → Type 0) (xs ys : List X) → AllByRecursion P xs → AllByRecursion P ys → AllByRecursion P (xs ++ ys)
-all_both P [] ys a b = b
-all_both P (x ∷ xs) ys a b = (a.0, all_both P xs ys a.1 b)
-
-pub all_first : {X : Type 0} (P : X → Type 0) (xs ys : List X) → AllByRecursion P (xs ++ ys) → AllByRecursion P xs
-all_first P [] ys a = tt
-all_first P (x ∷ xs) ys a = (a.0, all_first P xs ys a.1)
-
-pub all_second : {X : Type 0} (P : X → Type 0) (xs ys : List X) → AllByRecursion P (xs ++ ys) → AllByRecursion P ys
-all_second P [] ys a = a
-all_second P (x ∷ xs) ys a = all_second P xs ys a.1
 
 pub all_flat : {X Y : Type 0} (P : Y → Type 0) (g : X → List Y) (xs : List X) → AllByRecursion (λ x. AllByRecursion P (g x)) xs → AllByRecursion P (flat_map g xs)
 all_flat P g [] a = tt
@@ -66,14 +57,6 @@ all_tests test (x ∷ xs) a = and_from (test x) (list_all test xs) a.0 (all_test
 or_cases : (a b : Bool) (C : Type 0) → (a || b) ≡ true → (a ≡ true → C) → (b ≡ true → C) → C
 or_cases true b C h f g = f refl
 or_cases false b C h f g = g h
-
-or_first : (a b : Bool) → a ≡ true → (a || b) ≡ true
-or_first true b h = refl
-or_first false b h = absurd (cc)
-
-or_second : (a b : Bool) → b ≡ true → (a || b) ≡ true
-or_second true b h = refl
-or_second false b h = h
 
 pub tests_any : {X : Type 0} (test : X → Bool) (P : X → Type 0) (xs : List X) → ((x : X) → test x ≡ true → P x) → list_any test xs ≡ true → Any P xs
 tests_any test P [] g h = absurd (cc)

@@ -33,9 +33,10 @@ use Rattle.moxi_lines.proofs.Extending.{Extends, extends_long, extends_meets, ex
 use Rattle.moxi_layout.specs.Layout.{formula_values, part_values, truth_word}
 use Rattle.moxi_layout.specs.Skeleton.{Entry, constraint_if, part_entries}
 use Rattle.moxi_layout.proofs.Additions.{Added, Adds, adds_line, adds_none, adds_quietly, adds_then}
-use Rattle.moxi_layout.proofs.Bits.{BitAt, gate, implies_bit, or_bit, some_bit}
+use Rattle.moxi_layout.proofs.Bits.{BitAt, gate, some_bit}
 use Rattle.moxi_layout.proofs.LatchLines.{one_more}
 use Rattle.moxi_layout.proofs.Conditions.{Stands, first_at, formula_grows, formula_made, stands_later, stands_quietly}
+use Rattle.moxi_lines.proofs.Parts.{implies_bit, or_bit}
 
 -- ---- the first ones of numbered lines are numbered
 

@@ -12,8 +12,9 @@ use Rattle.moxi_lines.specs.Lines.{is_true_term}
 use Rattle.moxi_lines.specs.Constraints.{is_true}
 use Rattle.moxi_layout.specs.Layout.{formula_values, part_values, unless_true}
 use Rattle.moxi_layout.proofs.Codes.{AreSet}
-use Rattle.moxi_layout.proofs.Lists.{all_both, all_first, all_flat, all_second, all_weaken, flat_all}
+use Rattle.moxi_layout.proofs.Lists.{all_flat, all_weaken, flat_all}
 use Rattle.moxi_layout.proofs.Terms.{holds_from, holds_to}
+use Rattle.moxi_lines.proofs.Extending.{all_both, all_first, all_second}
 
 -- the term `true` is true
 true_holds : (s : ScopeState) (before now : Values) (t : Tree) → is_true_term t ≡ true → is_true s before now t ≡ true

@@ -14,9 +14,10 @@ use Rattle.moxi_layout.specs.Layout.{IsInRange, before_values, codes_inside, fir
 use Rattle.moxi_layout.specs.LayoutLaws.{IsLaidOut}
 use Rattle.moxi_layout.proofs.Codes.{AreSet, codes_set, set_codes}
 use Rattle.moxi_layout.proofs.Entries.{input_count}
-use Rattle.moxi_layout.proofs.Lists.{all_both, all_first, all_second, maps_all}
+use Rattle.moxi_layout.proofs.Lists.{maps_all}
 use Rattle.moxi_layout.proofs.Parts.{PartAt, parts_from, parts_to}
 use Rattle.moxi_layout.proofs.Values.{input_word}
+use Rattle.moxi_lines.proofs.Extending.{all_both, all_first, all_second}
 
 pub truth_true : (b : Bool) → truth_word b ≡ true_word → b ≡ true
 truth_true true h = refl

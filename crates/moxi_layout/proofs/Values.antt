@@ -2,8 +2,6 @@
 use Rattle.std.proofs.Common.{◌≡◌, ℕ, zero, suc, ◌<◌, ◌≤◌, Bool, true, false, cond, List, [], ◌∷◌, length, Some, refl, sym, ap, ◌∙◌, subst, arith}
 use Rattle.std.specs.Prelude.{nat_lt, slice_get}
 use Rattle.std.specs.List.{AllByRecursion}
-use Rattle.std.proofs.lemmas.Bool.Decides.{nat_tests}
-use Rattle.std.proofs.lemmas.Option.{same_Some, none-some}
 use Rattle.word_core.specs.Words.{BitVector, IsWord}
 use Rattle.btor_tree.specs.declared.lines.Line.{Line}
 use Rattle.btor_tree.specs.Frame.{Meets, word_at}
@@ -13,7 +11,6 @@ use Rattle.moxi_terms.specs.declared.data.Sort.TheVariants.{Truth, Bits, Choice}
 use Rattle.moxi_terms.specs.declared.data.Datum.{Datum}
 use Rattle.moxi_terms.specs.declared.data.Datum.TheVariants as datum
 use Rattle.moxi_terms.specs.declared.term.Enumeration.{Enumeration}
-use Rattle.moxi_terms.specs.Sorted.{AreSorts}
 use Rattle.moxi_terms.specs.Sorts.{IsOf, IsSort}
 use Rattle.moxi_terms.specs.Tree.{sorts_of}
 use Rattle.moxi_terms.specs.Value.{Values}
@@ -29,12 +26,7 @@ use Rattle.moxi_layout.specs.Layout.{input_at, now_values}
 use Rattle.moxi_layout.specs.LayoutLaws.{IsLaidOut}
 use Rattle.moxi_layout.proofs.Entries.{input_there}
 use Rattle.moxi_layout.proofs.Terms.{Agree}
-
-pub less_than : (a b : ℕ) → nat_lt a b ≡ true → a < b
-less_than a b h = grind (arith, nat_tests)
-
-pub is_less : (a b : ℕ) → a < b → nat_lt a b ≡ true
-is_less a b h = grind (arith, nat_tests)
+use Rattle.moxi_lines.proofs.Decoded.{is_less, less_than, sort_there}
 
 -- ---- the value of a word
 
@@ -71,11 +63,6 @@ decoded_back es (Choice n) (datum.Constant m i) h =
     ∙ ap (λ k. datum.Constant k i) (sym h.0)
 decoded_back es (Choice n) (datum.Truth b) h = absurd h
 decoded_back es (Choice n) (datum.Bits v) h = absurd h
-
-pub sort_there : (es : List Enumeration) (ss : List Sort) (v : ℕ) (s : Sort) → AreSorts es ss → slice_get ss v ≡ Some s → IsSort es s
-sort_there es [] v s a h = absurd (none-some s h)
-sort_there es (t ∷ ss) zero s a h = subst (IsSort es) (same_Some t s h) a.0
-sort_there es (t ∷ ss) (suc v) s a h = sort_there es ss v s a.1 h
 
 -- ---- inputs of lines that lay a system out
 

@@ -23,14 +23,12 @@ use Rattle.moxi_terms.specs.declared.term.Variable.{Variable}
 use Rattle.moxi_terms.specs.Sorted.{AreSorts}
 use Rattle.moxi_terms.specs.Tree.{sorts_of}
 use Rattle.moxi_lines.specs.Codes.{choice_width, constant_count, sort_bits}
-use Rattle.moxi_lines.specs.TermLines.{AllMade, Made, with_binary, with_constant}
+use Rattle.moxi_lines.specs.TermLines.{AllMade, Made}
 use Rattle.moxi_lines.specs.TermLaws.{HaveCodes}
 use Rattle.moxi_lines.proofs.Chains.{binary_grows}
-use Rattle.moxi_lines.proofs.Growing.{grown_then}
-use Rattle.moxi_lines.proofs.Steps.{word_grows}
 use Rattle.moxi_lines.specs.Lines.{symbol_of, with_code, with_constraint, with_free, with_given, with_variable, with_variables}
 use Rattle.moxi_lines.proofs.Extending.{Extends, extends_meets, extends_then, quietly}
-use Rattle.moxi_lines.proofs.VariableLaws.{sort_wide}
+use Rattle.moxi_lines.proofs.VariableLaws.{sort_wide, code_g, code_grows, code_m}
 use Rattle.moxi_lines.proofs.VariableLines.{sort_again}
 use Rattle.moxi_layout.specs.Layout.{codes_inside, is_inside, truth_word}
 use Rattle.moxi_layout.specs.Skeleton.{Entry, constraint_if, entry, has_gap, variable_entries}
@@ -40,7 +38,7 @@ use Rattle.moxi_layout.proofs.PartAdditions.{arg_unless, both_mapped, constraint
 
 -- ---- single lines
 
-sort_grows : (lines : List Line) (w : ℕ) → GrowsQuietly lines (with_sort lines w).0
+pub sort_grows : (lines : List Line) (w : ℕ) → GrowsQuietly lines (with_sort lines w).0
 sort_grows lines w = pushed_quiet lines (line.Sort w) 0 [] None refl
 
 sort_stays : (lines all : List Line) (w : ℕ) → 1 ≤ w → Extends (with_sort lines w).0 all → sort_at all (with_sort lines w).1 ≡ w
@@ -84,16 +82,6 @@ state_behind lines w name other =
     omega (arith, again, length_push s.0 l)
 
 -- ---- codes
-
-abbrev code_m : List Line → ℕ → Made
-code_m lines c = with_constant lines (record { width = choice_width c; bits = c })
-
-abbrev code_g : List Line → ℕ → ℕ → Made
-code_g lines p c = with_binary two.Ult (code_m lines c).0 p (code_m lines c).1
-
-code_grows : (lines : List Line) (p c : ℕ) → GrowsQuietly lines (code_g lines p c).0
-code_grows lines p c =
-    grown_then lines (code_m lines c).0 (code_g lines p c).0 (word_grows lines (line.Constant (record { width = choice_width c; bits = c })) (choice_width c) [] refl) (binary_grows two.Ult (code_m lines c).0 p (code_m lines c).1)
 
 -- the argument of the constraint on a code, unless there is none
 abbrev code_args : List Enumeration → Sort → List Line → ℕ → List Arg

@@ -1,8 +1,8 @@
 -- Places and values of variables, with a row and without one.
-use Rattle.std.proofs.Common.{◌≡◌, ℕ, zero, suc, ◌<◌, Bool, false, List, [], ◌∷◌, ◌++◌, length, map, Some, refl, sym, ap, ◌∙◌, subst, arith}
+use Rattle.std.proofs.Common.{◌≡◌, ℕ, zero, suc, ◌<◌, Bool, false, List, [], ◌∷◌, ◌++◌, length, map, Some, refl, sym, ap, subst, arith}
 use Rattle.std.specs.Prelude.{slice_get, slice_index_or}
 use Rattle.std.specs.List.{AllByRecursion}
-use Rattle.std.proofs.lemmas.Option.{none-some, same_Some}
+use Rattle.std.proofs.lemmas.Option.{none-some}
 use Rattle.word_core.specs.Words.{BitVector}
 use Rattle.btor_tree.specs.declared.lines.Line.{Line}
 use Rattle.btor_tree.specs.Fits.{width_at}
@@ -23,6 +23,7 @@ use Rattle.moxi_lines.specs.TermLines.{place_in}
 use Rattle.moxi_lines.specs.TermLaws.{HaveCodes, StandsFor, VariablesStand}
 use Rattle.moxi_lines.specs.Variables.{AreVariablesAt, IsVariableAt}
 use Rattle.moxi_lines.proofs.VariableLaws.{all_get, sort_wide}
+use Rattle.moxi_lines.proofs.Decoded.{sort_there}
 
 -- ---- places
 
@@ -35,10 +36,6 @@ pub inside_list : {A : Type 0} (xs : List A) (v : ℕ) (x : A) → slice_get xs 
 inside_list [] v x h = absurd (none-some x h)
 inside_list (y ∷ xs) zero x h = omega arith
 inside_list (y ∷ xs) (suc v) x h = omega (arith, inside_list xs v x h)
-
-pub sorts_long : (vs : List Variable) → length (sorts_of vs) ≡ length vs
-sorts_long [] = refl
-sorts_long (v ∷ vs) = ap suc (sorts_long vs)
 
 pub variables_long : (es : List Enumeration) (lines : List Line) (vs : List Variable) (ps : List ℕ) → AreVariablesAt es lines vs ps → length ps ≡ length vs
 variables_long es lines [] [] h = refl
@@ -65,23 +62,6 @@ abbrev zero_datum : Sort → Datum
 zero_datum Truth = datum.Truth false
 zero_datum (Bits w) = datum.Bits (record { width = w; bits = 0 })
 zero_datum (Choice n) = datum.Constant n 0
-
-sort_there : (es : List Enumeration) (ss : List Sort) (v : ℕ) (s : Sort) → AreSorts es ss → slice_get ss v ≡ Some s → IsSort es s
-sort_there es [] v s a h = absurd (none-some s h)
-sort_there es (t ∷ ss) zero s a h = subst (IsSort es) (same_Some t s h) a.0
-sort_there es (t ∷ ss) (suc v) s a h = sort_there es ss v s a.1 h
-
-pub input_width : (es : List Enumeration) (lines : List Line) (vs : List Variable) (ps : List ℕ) (v : ℕ) (s : Sort) → AreVariablesAt es lines vs ps → slice_get (sorts_of vs) v ≡ Some s → width_at lines (place_in ps v) ≡ sort_bits es s
-input_width es lines [] ps v s a h = absurd (none-some s h)
-input_width es lines (x ∷ vs) [] v s a h = absurd a
-input_width es lines (x ∷ vs) (p ∷ ps) zero s a h = a.0.input_width ∙ ap (sort_bits es) (same_Some x.sort s h)
-input_width es lines (x ∷ vs) (p ∷ ps) (suc v) s a h = input_width es lines vs ps v s a.1 h
-
-pub state_width : (es : List Enumeration) (lines : List Line) (vs : List Variable) (ps : List ℕ) (v : ℕ) (s : Sort) → AreVariablesAt es lines vs ps → slice_get (sorts_of vs) v ≡ Some s → width_at lines (suc (place_in ps v)) ≡ sort_bits es s
-state_width es lines [] ps v s a h = absurd (none-some s h)
-state_width es lines (x ∷ vs) [] v s a h = absurd a
-state_width es lines (x ∷ vs) (p ∷ ps) zero s a h = a.0.state_width ∙ ap (sort_bits es) (same_Some x.sort s h)
-state_width es lines (x ∷ vs) (p ∷ ps) (suc v) s a h = state_width es lines vs ps v s a.1 h
 
 zero_is : (es : List Enumeration) → AllByRecursion (λ (e : Enumeration). 0 < length e.constants) es → (s : Sort) → IsSort es s → IsOf es s (zero_datum s)
 zero_is es full Truth k = tt

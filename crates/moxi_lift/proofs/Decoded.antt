@@ -25,7 +25,7 @@ use Rattle.moxi_lift.specs.Laws.{LiftsAreDecoded}
 use Rattle.moxi_lift.proofs.Held.{word_held}
 use Rattle.moxi_lift.proofs.Upto.{upto_same}
 
-sort_get : (vs : List Variable) (v : ℕ) → v < length vs → slice_get (sorts_of vs) v ≡ Some (slice_index_or (sorts_of vs) v Truth)
+pub sort_get : (vs : List Variable) (v : ℕ) → v < length vs → slice_get (sorts_of vs) v ≡ Some (slice_index_or (sorts_of vs) v Truth)
 sort_get [] v h = absurd (omega (arith, h))
 sort_get (x ∷ vs) zero h = refl
 sort_get (x ∷ vs) (suc v) h = sort_get vs v (omega (arith, h))

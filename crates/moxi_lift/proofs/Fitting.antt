@@ -34,10 +34,10 @@ use Rattle.moxi_lines.specs.Decoding.{decoded_datum}
 use Rattle.moxi_lines.proofs.VariableLaws.{all_get, sort_wide}
 use Rattle.moxi_layout.specs.Layout.{LaysOut, input_at}
 use Rattle.moxi_layout.proofs.Entries.{input_there, sorts_long}
-use Rattle.moxi_layout.proofs.Values.{sort_there}
 use Rattle.moxi_lift.specs.Lifted.{lifted_step, lifted_values, stated_datum}
 use Rattle.moxi_lift.proofs.Held.{equal_held}
 use Rattle.moxi_lift.proofs.Upto.{at_upto, upto_long}
+use Rattle.moxi_lines.proofs.Decoded.{sort_there}
 
 -- ---- values of sorts
 

@@ -63,7 +63,7 @@ no_statements [] some e = some refl
 no_statements (x ∷ frames) some e = absurd (cc)
 
 -- the verdict is `Yes` exactly where the frames that a witness states pass
-abbrev YesWhereAccepted : Type 0
+abbrev pub YesWhereAccepted : Type 0
 YesWhereAccepted = (lines : List Line) (w : Witness) → w.frames ≢ [] → judged_btor lines w Yes ↔ ((rows : List (List BitVector)) × stated_frames lines w rows × PassAfter lines w.bad false (statements_of w) rows)
 
 pub lifts_meet_queries_law : LiftsAreDecoded → YesWhereAccepted → BadsAreQueries → FramesAreTraces → LiftsMeetQueries

@@ -10,7 +10,7 @@ pub upto_long : (values : Values) (n : ℕ) → length (values_upto values n) �
 upto_long values zero = refl
 upto_long values (suc n) = omega (arith, length-append (values_upto values n) (values n ∷ []), upto_long values n)
 
-below_cases : (v n : ℕ) → v < suc n → (v < n) ⊎ (v ≡ n)
+pub below_cases : (v n : ℕ) → v < suc n → (v < n) ⊎ (v ≡ n)
 below_cases zero zero h = inr refl
 below_cases zero (suc n) h = inl (omega arith)
 below_cases (suc v) zero h = absurd (omega (arith, h))

@@ -20,7 +20,7 @@ use Rattle.moxi_terms.proofs.ValueLaws.{read_at}
 use Rattle.moxi_lines.specs.Codes.{choice_width, code_of, constant_count, datum_of, sort_bits, width_upto}
 use Rattle.moxi_lines.specs.TermLaws.{HaveCodes}
 
-bool_cases : (b : Bool) → (b ≡ true) ⊎ (b ≡ false)
+pub bool_cases : (b : Bool) → (b ≡ true) ⊎ (b ≡ false)
 bool_cases true = inl refl
 bool_cases false = inr refl
 

@@ -27,10 +27,10 @@ use Rattle.moxi_lines.specs.Variables.{AreVariablesAt, IsInside}
 use Rattle.moxi_lines.specs.Decoding.{Decodes, PlacesInside, decoded, decoded_datum}
 use Rattle.moxi_lines.proofs.VariableLaws.{all_get, sort_wide}
 
-less_than : (a b : ℕ) → nat_lt a b ≡ true → a < b
+pub less_than : (a b : ℕ) → nat_lt a b ≡ true → a < b
 less_than a b h = grind (arith, nat_tests)
 
-is_less : (a b : ℕ) → a < b → nat_lt a b ≡ true
+pub is_less : (a b : ℕ) → a < b → nat_lt a b ≡ true
 is_less a b h = grind (arith, nat_tests)
 
 choice_is : (es : List Enumeration) (n : ℕ) (e : Enumeration) → slice_get es n ≡ Some e → 0 < length e.constants → (i : ℕ) (b : Bool) → (b ≡ true → i < constant_count es n) → IsOf es (Choice n) (cond b (datum.Constant n i) (datum.Constant n 0))
@@ -50,18 +50,18 @@ decoded_code es (Bits n) x w e i = refl
 decoded_code es (Choice n) x w e i =
     sym (goes_back es (Choice n) x w e) ∙ ap (λ b. code_of es (cond b (datum.Constant n x.bits) (datum.Constant n 0))) (sym (is_less x.bits (constant_count es n) i))
 
-sort_there : (es : List Enumeration) (ss : List Sort) (v : ℕ) (s : Sort) → AreSorts es ss → slice_get ss v ≡ Some s → IsSort es s
+pub sort_there : (es : List Enumeration) (ss : List Sort) (v : ℕ) (s : Sort) → AreSorts es ss → slice_get ss v ≡ Some s → IsSort es s
 sort_there es [] v s a h = absurd (none-some s h)
 sort_there es (t ∷ ss) zero s a h = subst (IsSort es) (same_Some t s h) a.0
 sort_there es (t ∷ ss) (suc v) s a h = sort_there es ss v s a.1 h
 
-input_width : (es : List Enumeration) (lines : List Line) (vs : List Variable) (ps : List ℕ) (v : ℕ) (s : Sort) → AreVariablesAt es lines vs ps → slice_get (sorts_of vs) v ≡ Some s → width_at lines (place_in ps v) ≡ sort_bits es s
+pub input_width : (es : List Enumeration) (lines : List Line) (vs : List Variable) (ps : List ℕ) (v : ℕ) (s : Sort) → AreVariablesAt es lines vs ps → slice_get (sorts_of vs) v ≡ Some s → width_at lines (place_in ps v) ≡ sort_bits es s
 input_width es lines [] ps v s a h = absurd (none-some s h)
 input_width es lines (x ∷ vs) [] v s a h = absurd a
 input_width es lines (x ∷ vs) (p ∷ ps) zero s a h = a.0.input_width ∙ ap (sort_bits es) (same_Some x.sort s h)
 input_width es lines (x ∷ vs) (p ∷ ps) (suc v) s a h = input_width es lines vs ps v s a.1 h
 
-state_width : (es : List Enumeration) (lines : List Line) (vs : List Variable) (ps : List ℕ) (v : ℕ) (s : Sort) → AreVariablesAt es lines vs ps → slice_get (sorts_of vs) v ≡ Some s → width_at lines (suc (place_in ps v)) ≡ sort_bits es s
+pub state_width : (es : List Enumeration) (lines : List Line) (vs : List Variable) (ps : List ℕ) (v : ℕ) (s : Sort) → AreVariablesAt es lines vs ps → slice_get (sorts_of vs) v ≡ Some s → width_at lines (suc (place_in ps v)) ≡ sort_bits es s
 state_width es lines [] ps v s a h = absurd (none-some s h)
 state_width es lines (x ∷ vs) [] v s a h = absurd a
 state_width es lines (x ∷ vs) (p ∷ ps) zero s a h = a.0.state_width ∙ ap (sort_bits es) (same_Some x.sort s h)

@@ -28,7 +28,7 @@ free id o name = record { id = id; op = o; sort = 0; args = []; symbol = Some na
 abbrev bad : ℕ → ℕ → List ℕ → Line
 bad id a name = record { id = id; op = line.Bad; sort = 0; args = plain_arg a ∷ []; symbol = Some name }
 
-abbrev not_term : Tree → Tree
+abbrev pub not_term : Tree → Tree
 not_term t = apply op.Not (tree t no_trees)
 
 abbrev no_names : ScopeState

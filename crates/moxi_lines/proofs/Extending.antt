@@ -70,7 +70,7 @@ pub quiet_constraints : (a b : List Line) → GrowsQuietly a b → operands is_c
 quiet_constraints a b g =
     ap (operands is_constraint) g.1 ∙ operands_append is_constraint a g.0 ∙ ap (λ z. operands is_constraint a ++ z) (quiet_operands g.0 g.2) ∙ append-nil (operands is_constraint a)
 
-all_both : {X : Type 0} (P : X → Type 0) (xs ys : List X) → AllByRecursion P xs → AllByRecursion P ys → AllByRecursion P (xs ++ ys)
+pub all_both : {X : Type 0} (P : X → Type 0) (xs ys : List X) → AllByRecursion P xs → AllByRecursion P ys → AllByRecursion P (xs ++ ys)
 all_both P [] ys a b = b
 all_both P (x ∷ xs) ys a b = (a.0, all_both P xs ys a.1 b)
 
@@ -78,7 +78,7 @@ pub all_first : {X : Type 0} (P : X → Type 0) (xs ys : List X) → AllByRecurs
 all_first P [] ys a = tt
 all_first P (x ∷ xs) ys a = (a.0, all_first P xs ys a.1)
 
-all_second : {X : Type 0} (P : X → Type 0) (xs ys : List X) → AllByRecursion P (xs ++ ys) → AllByRecursion P ys
+pub all_second : {X : Type 0} (P : X → Type 0) (xs ys : List X) → AllByRecursion P (xs ++ ys) → AllByRecursion P ys
 all_second P [] ys a = a
 all_second P (x ∷ xs) ys a = all_second P xs ys a.1
 

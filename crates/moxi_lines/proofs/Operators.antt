@@ -52,27 +52,27 @@ sorts xs = map sort_of xs
 abbrev pub data_of : List Operand → List Datum
 data_of xs = map datum_of xs
 
-logical_is : (o : Option Sort) (s : Sort) → logical o ≡ Ok s → (o ≡ Some Truth) × (s ≡ Truth)
+pub logical_is : (o : Option Sort) (s : Sort) → logical o ≡ Ok s → (o ≡ Some Truth) × (s ≡ Truth)
 logical_is None s h = absurd (cc)
 logical_is (Some Truth) s h = (refl, sym (same_ok Truth s h))
 logical_is (Some (Bits w)) s h = absurd (cc)
 logical_is (Some (Choice n)) s h = absurd (cc)
 
-compared_is : (o : Option Sort) (s : Sort) → compared o ≡ Ok s → (t : Sort) × (o ≡ Some t) × (s ≡ Truth)
+pub compared_is : (o : Option Sort) (s : Sort) → compared o ≡ Ok s → (t : Sort) × (o ≡ Some t) × (s ≡ Truth)
 compared_is None s h = absurd (cc)
 compared_is (Some t) s h = (t, refl, sym (same_ok Truth s h))
 
-exactly : (n k : ℕ) → eqb n k ≡ true → n ≡ k
+pub exactly : (n k : ℕ) → eqb n k ≡ true → n ≡ k
 exactly n k h = grind (arith, nat_tests)
 
-at_least : (k n : ℕ) → nat_le k n ≡ true → k ≤ n
+pub at_least : (k n : ℕ) → nat_le k n ≡ true → k ≤ n
 at_least k n h = grind (arith, nat_tests)
 
 same_long : (xs : List Operand) → length (data_of xs) ≡ length (sorts xs)
 same_long [] = refl
 same_long (a ∷ xs) = ap suc (same_long xs)
 
-negation_keeps : (u : Unary) (w : ℕ) → is_negation u ≡ true → unary_width u w ≡ w
+pub negation_keeps : (u : Unary) (w : ℕ) → is_negation u ≡ true → unary_width u w ≡ w
 negation_keeps one.Not w h = refl
 negation_keeps one.Neg w h = refl
 negation_keeps u w h = absurd (cc)

@@ -31,10 +31,6 @@ use Rattle.moxi_lines.specs.Lines.{first_place, input_place, is_true_term, state
 use Rattle.moxi_lines.specs.Constraints.{Constrains, VariablesAreThere, is_true, part_holds, parts_hold}
 use Rattle.moxi_lines.proofs.Extending.{Extends, Pushed, constraint_push, extends_long, extends_meets, extends_none, extends_then, extends_variables, extends_width, quietly}
 
-bool_cases : (b : Bool) → (b ≡ true) ⊎ (b ≡ false)
-bool_cases true = inl refl
-bool_cases false = inr refl
-
 true_bit : (b : Bool) → bit b ≡ true_word → b ≡ true
 true_bit true h = refl
 true_bit false h = absurd (omega (arith, ap (λ (w : BitVector). w.bits) h))
@@ -57,13 +53,13 @@ some_bit x w e =
       | inr h ↦ (false, one ∙ ap (λ n. let y : BitVector = record { width = 1; bits = n } in y) h)
     ]
 
-implies_bit : (a b : Bool) → binary_of two.Implies (bit a) (bit b) ≡ bit (not a || b)
+pub implies_bit : (a b : Bool) → binary_of two.Implies (bit a) (bit b) ≡ bit (not a || b)
 implies_bit true true = refl
 implies_bit true false = refl
 implies_bit false true = refl
 implies_bit false false = refl
 
-or_bit : (a b : Bool) → binary_of two.Or (bit a) (bit b) ≡ bit (a || b)
+pub or_bit : (a b : Bool) → binary_of two.Or (bit a) (bit b) ≡ bit (a || b)
 or_bit true true = refl
 or_bit true false = refl
 or_bit false true = refl

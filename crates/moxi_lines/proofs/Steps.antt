@@ -47,7 +47,7 @@ record Pushed (row : List BitVector) (lines : List Line) (o : LineOp) (w : ℕ) 
   equation : Meets m.0 row → Equation before row sort o args (word_at row m.1)
 
 -- a line fits wherever lines have grown to
-abbrev FitsLater : List Line → LineOp → ℕ → List Arg → Type 0
+abbrev pub FitsLater : List Line → LineOp → ℕ → List Arg → Type 0
 FitsLater lines o w args = (ls : List Line) (s : ℕ) → GrowsQuietly lines ls → sort_at ls s ≡ w → OpFits ls s o args
 
 pushed_word : (row : List BitVector) (lines : List Line) (o : LineOp) (w : ℕ) (args : List Arg) → is_shared o ≡ true → has_word o ≡ true → AreNumbered lines → 1 ≤ w → w ≤ WIDEST

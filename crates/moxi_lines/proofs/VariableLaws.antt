@@ -42,11 +42,11 @@ use Rattle.moxi_lines.proofs.VariableLines.{freed, sort_again, sorted}
 
 -- ---- the next value of a state
 
-shared_next : (o : LineOp) → is_shared o ≡ true → is_next o ≡ false
+pub shared_next : (o : LineOp) → is_shared o ≡ true → is_next o ≡ false
 shared_next line.Next h = absurd (cc)
 shared_next o h = refl
 
-quiet_next : (more : List Line) (s : ℕ) → AllByRecursion (λ l. is_shared l.op ≡ true) more → state_value is_next more s ≡ None
+pub quiet_next : (more : List Line) (s : ℕ) → AllByRecursion (λ l. is_shared l.op ≡ true) more → state_value is_next more s ≡ None
 quiet_next [] s a = refl
 quiet_next (l ∷ more) s a =
     ap (λ b. option_or (cond b (value_for l.args s) None) (state_value is_next more s)) (shared_next l.op a.0) ∙ quiet_next more s a.1
@@ -99,13 +99,13 @@ record CodeAdded (row : List BitVector) (es : List Enumeration) (s : Sort) (line
   numbered : AreNumbered new
   constraints : Meets new row → (ConstraintsHold new row → ConstraintsHold lines row × IsInside es s (word_at row p)) × (ConstraintsHold lines row → IsInside es s (word_at row p) → ConstraintsHold new row)
 
-abbrev code_m : List Line → ℕ → Made
+abbrev pub code_m : List Line → ℕ → Made
 code_m lines c = with_constant lines (record { width = choice_width c; bits = c })
 
-abbrev code_g : List Line → ℕ → ℕ → Made
+abbrev pub code_g : List Line → ℕ → ℕ → Made
 code_g lines p c = with_binary two.Ult (code_m lines c).0 p (code_m lines c).1
 
-code_grows : (lines : List Line) (p c : ℕ) → GrowsQuietly lines (code_g lines p c).0
+pub code_grows : (lines : List Line) (p c : ℕ) → GrowsQuietly lines (code_g lines p c).0
 code_grows lines p c =
     grown_then lines (code_m lines c).0 (code_g lines p c).0 (word_grows lines (line.Constant (record { width = choice_width c; bits = c })) (choice_width c) [] refl) (binary_grows two.Ult (code_m lines c).0 p (code_m lines c).1)
 
@@ -192,7 +192,7 @@ code_added row es codes (Choice i) k lines p n e room =
 
 -- ---- one variable
 
-kind_extends : (kind : LineOp → Bool) (a b : List Line) (p : ℕ) → Extends a b → kind_at kind a p ≡ true → kind_at kind b p ≡ true
+pub kind_extends : (kind : LineOp → Bool) (a b : List Line) (p : ℕ) → Extends a b → kind_at kind a p ≡ true → kind_at kind b p ≡ true
 kind_extends kind a b p g h = ap (λ ls. kind_at kind ls p) g.is ∙ kind_front kind a g.more p h
 
 next_extends : (a b : List Line) (p v : ℕ) → Extends a b → state_value is_next a p ≡ Some (plain_arg v) → state_value is_next b p ≡ Some (plain_arg v)

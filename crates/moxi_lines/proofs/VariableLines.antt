@@ -1,5 +1,5 @@
 -- The lines of variables.
-use Rattle.std.proofs.Common.{◌≡◌, ◌≢◌, ℕ, suc, ◌+◌, ◌<◌, ◌≤◌, Bool, true, false, not, ◌&&◌, cond, nat_le, eqb, List, [], ◌∷◌, ◌++◌, map, length, Some, None, refl, sym, ap, ◌∙◌, subst, arith, inl, inr, ◌⊎◌}
+use Rattle.std.proofs.Common.{◌≡◌, ◌≢◌, ℕ, suc, ◌+◌, ◌<◌, ◌≤◌, Bool, true, false, not, ◌&&◌, cond, nat_le, eqb, List, [], ◌∷◌, ◌++◌, map, length, Some, None, refl, sym, ap, ◌∙◌, subst, arith, inl, inr}
 use Rattle.std.specs.Prelude.{IfSome, slice_get}
 use Rattle.std.specs.Option.{option_or}
 use Rattle.std.specs.List.{AllByRecursion}
@@ -24,10 +24,6 @@ use Rattle.moxi_lines.specs.Lines.{symbol_byte, symbol_of, with_free}
 use Rattle.moxi_lines.proofs.Extending.{Extends, extends_then, quiet_constraints, quietly}
 
 -- ---- symbols
-
-bool_cases : (b : Bool) → (b ≡ true) ⊎ (b ≡ false)
-bool_cases true = inl refl
-bool_cases false = inr refl
 
 byte_is : (b : ℕ) (c : Bool) → (c ≡ true → (33 ≤ b) × (b ≢ 59)) → IsSymbolByte (cond c b 95)
 byte_is b true h = let p = h refl in (λ e. absurd (omega (arith, e, p.0)), λ e. absurd (omega (arith, e, p.0)), λ e. absurd (omega (arith, e, p.0)), λ e. absurd (omega (arith, e, p.0)), p.1)

@@ -19,6 +19,7 @@ use Rattle.moxi_terms.proofs.SortLaws.{AllOf}
 use Rattle.moxi_lines.specs.Codes.{code_of}
 use Rattle.moxi_lines.specs.TermLines.{neighbours, pairs_of}
 use Rattle.moxi_lines.proofs.Chains.{fold_all, fold_words, implied_word, pair_words}
+use Rattle.moxi_scripts.specs.laws.WholeParts.{map_append}
 
 -- the word of a truth value
 abbrev pub bit : Bool → BitVector
@@ -63,11 +64,11 @@ implies_bit true false = refl
 implies_bit false true = refl
 implies_bit false false = refl
 
-and_true : (a : Bool) → a ≡ (a && true)
+pub and_true : (a : Bool) → a ≡ (a && true)
 and_true true = refl
 and_true false = refl
 
-or_false : (a : Bool) → a ≡ (a || false)
+pub or_false : (a : Bool) → a ≡ (a || false)
 or_false true = refl
 or_false false = refl
 
@@ -169,10 +170,6 @@ each_words es s d [] h a = refl
 each_words es s d (e ∷ ds) h a =
     ap (λ b. bit (not b) ∷ pair_words two.Neq (map (λ y. (code_of es d, y)) (codes es ds))) (same_code es s d e h a.0)
     ∙ ap (λ xs. bit (differ d e) ∷ xs) (each_words es s d ds h a.1)
-
-map_append : {A B : Type 0} (f : A → B) (xs ys : List A) → map f (xs ++ ys) ≡ map f xs ++ map f ys
-map_append f [] ys = refl
-map_append f (x ∷ xs) ys = ap (λ zs. f x ∷ zs) (map_append f xs ys)
 
 pairs_words : (es : List Enumeration) (s : Sort) (ds : List Datum) → AllOf es s ds → pair_words two.Neq (pairs_of (codes es ds)) ≡ map bit (tests differ (pairs_of ds))
 pairs_words es s [] a = refl

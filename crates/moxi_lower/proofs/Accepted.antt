@@ -1,11 +1,10 @@
 -- The judge accepts the witness of a trace exactly where the trace meets the query: the frames that the witness states read the values
 -- of the trace, whatever the states of the step before are in frame 0, where they count for nothing.
-use Rattle.std.proofs.Common.{◌≡◌, ◌≢◌, ◌↔◌, ℕ, zero, suc, ◌+◌, ◌-◌, ◌<◌, ◌≤◌, Bool, true, false, List, [], ◌∷◌, length, map, Some, refl, ap, ◌∙◌, subst, arith}
+use Rattle.std.proofs.Common.{◌≡◌, ◌≢◌, ℕ, zero, suc, ◌+◌, ◌-◌, ◌<◌, ◌≤◌, Bool, true, false, List, [], ◌∷◌, length, map, Some, refl, ap, ◌∙◌, subst, arith}
 use Rattle.std.specs.Prelude.{slice_get, IsSomeAnd, IsTrue}
 use Rattle.std.specs.List.{AllByRecursion}
 use Rattle.std.proofs.lemmas.List.{length-map}
 use Rattle.std.proofs.lemmas.Option.{none-some}
-use Rattle.text_core.specs.declared.verdict.Verdict.TheVariants.{Yes}
 use Rattle.word_core.specs.Words.{BitVector}
 use Rattle.btor_tree.specs.declared.lines.Line.{Line}
 use Rattle.btor_tree.specs.Fits.{is_input, is_state, width_at}
@@ -13,8 +12,7 @@ use Rattle.btor_tree.specs.Frame.{ConstraintsHold, Follow, IsBad, IsFrame, IsPat
 use Rattle.btor_tree.proofs.Grows.{slice_get_inside}
 use Rattle.btor_frames.specs.Judged.{AreStatedAfter, IsStatedFrame, PassAfter, Statement, StatesAgree, stated_or}
 use Rattle.btor_witness.specs.declared.witness.Frame.{Frame}
-use Rattle.btor_witness.specs.declared.witness.Witness.{Witness}
-use Rattle.btor_witness.specs.Judging.{judged_btor, stated_frames, statement_of, statements_of}
+use Rattle.btor_witness.specs.Judging.{statement_of}
 use Rattle.btor_witness.specs.Printing.{IsPart, IsWitness, value_of}
 use Rattle.btor_witness.specs.Sizes.{sizes_of, widths_of}
 use Rattle.moxi_terms.specs.declared.data.Datum.{Datum}
@@ -40,6 +38,7 @@ use Rattle.moxi_lift.specs.Laws.{LiftsMeetQueries, MeetsQueryOf, trace_of}
 use Rattle.moxi_lower.specs.Laws.{AreSteps, LoweredAreJudged, LoweredAreLifted, LoweredAreWitnesses}
 use Rattle.moxi_lower.specs.Lowered.{codes_upto, lowered, lowered_step}
 use Rattle.moxi_lower.proofs.Codes.{code_stated}
+use Rattle.moxi_lift.proofs.Lifts.{YesWhereAccepted}
 
 -- ---- the frames that a witness states
 
@@ -143,10 +142,6 @@ module _ (f : PlainFlatSystem) (lines : List Line) (laid : IsLaidOut f lines) wh
       meets_same f laid.sorted k (trace_of envs) (decoded_trace f lines rows) (λ i l. agree_back (sorts_of f.variables) (decoded_trace f lines rows i) (trace_of envs i) (agree i l)) q whole m in
       let x = meet_frames f lines laid k (row_at rows) path j q g (λ i l. read_inside f lines laid (row_at rows i) (trace_of envs i) (suits i l) (reads i l)) same in
       frames_pass j false [] envs rows a (rows_all (ConstraintsHold lines) rows (λ i l. x.0 i (omega (arith, l, long)))) (get_last (λ row. IsBad lines row j) rows k long x.1)
-
--- the verdict is `Yes` exactly where the frames that a witness states pass
-abbrev YesWhereAccepted : Type 0
-YesWhereAccepted = (lines : List Line) (w : Witness) → w.frames ≢ [] → judged_btor lines w Yes ↔ ((rows : List (List BitVector)) × stated_frames lines w rows × PassAfter lines w.bad false (statements_of w) rows)
 
 met_at : (f : PlainFlatSystem) (j : ℕ) (envs : List (List Datum)) (q : Query) → slice_get f.queries j ≡ Some q → MeetsQueryOf f j envs → MeetsFlat f q (length envs - 1) (trace_of envs)
 met_at f j envs q e m = subst (λ o. IsSomeAnd o (λ x. MeetsFlat f x (length envs - 1) (trace_of envs))) e m

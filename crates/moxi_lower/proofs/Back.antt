@@ -1,6 +1,6 @@
 -- The witness of a trace is lifted to the trace again.
-use Rattle.std.proofs.Common.{◌≡◌, ℕ, zero, suc, ◌<◌, cond, List, [], ◌∷◌, ◌++◌, length, map, Some, refl, sym, ap, ◌∙◌, arith}
-use Rattle.std.specs.Prelude.{slice_get, slice_index_or}
+use Rattle.std.proofs.Common.{◌≡◌, ℕ, zero, suc, cond, List, [], ◌∷◌, ◌++◌, length, map, refl, sym, ap, ◌∙◌, arith}
+use Rattle.std.specs.Prelude.{slice_index_or}
 use Rattle.std.specs.List.{AllByRecursion}
 use Rattle.btor_frames.specs.Judged.{stated_or}
 use Rattle.btor_witness.specs.declared.witness.Frame.{Frame}
@@ -19,12 +19,13 @@ use Rattle.moxi_lines.specs.Codes.{code_of, constant_count, sort_bits}
 use Rattle.moxi_lines.specs.Decoding.{decoded_datum}
 use Rattle.moxi_lines.proofs.CodeLaws.{comes_back, count_is}
 use Rattle.moxi_layout.proofs.Entries.{sorts_long}
-use Rattle.moxi_layout.proofs.Values.{is_less}
 use Rattle.moxi_lift.specs.Lifted.{lifted_step, lifted_values, values_upto}
 use Rattle.moxi_lift.proofs.Upto.{upto_same}
 use Rattle.moxi_lower.specs.Laws.{LoweredAreLifted}
 use Rattle.moxi_lower.specs.Lowered.{codes_upto, lowered_step}
 use Rattle.moxi_lower.proofs.Codes.{code_stated}
+use Rattle.moxi_lift.proofs.Decoded.{sort_get}
+use Rattle.moxi_lines.proofs.Decoded.{is_less}
 
 -- a value of a sort comes back from its word
 pub decoded_back : (es : List Enumeration) (s : Sort) (d : Datum) → IsOf es s d → decoded_datum es s (code_of es d) ≡ d
@@ -35,11 +36,6 @@ decoded_back es (Choice n) (datum.Constant m i) h =
     ∙ ap (λ k. datum.Constant k i) (sym h.0)
 decoded_back es (Choice n) (datum.Truth b) h = absurd h
 decoded_back es (Choice n) (datum.Bits v) h = absurd h
-
-pub sort_get : (vs : List Variable) (v : ℕ) → v < length vs → slice_get (sorts_of vs) v ≡ Some (slice_index_or (sorts_of vs) v Truth)
-sort_get [] v h = absurd (omega (arith, h))
-sort_get (x ∷ vs) zero h = refl
-sort_get (x ∷ vs) (suc v) h = sort_get vs v (omega (arith, h))
 
 -- ---- the values of a list, one behind the other
 

@@ -1,5 +1,5 @@
 -- The words that are stated of the first variables: each is found by its number, and stated once.
-use Rattle.std.proofs.Common.{◌≡◌, ◌≢◌, ℕ, zero, suc, ◌<◌, ◌≤◌, false, eqb, List, [], ◌∷◌, ◌++◌, Some, refl, sym, ap, ◌∙◌, arith, inl, inr, ◌⊎◌}
+use Rattle.std.proofs.Common.{◌≡◌, ◌≢◌, ℕ, zero, suc, ◌<◌, ◌≤◌, false, eqb, List, [], ◌∷◌, ◌++◌, Some, refl, sym, ap, ◌∙◌, arith, inl, inr}
 use Rattle.std.specs.List.{AllByRecursion}
 use Rattle.std.proofs.lemmas.Bool.{eqb-false, eq-eqb, ne_eqb, cond-true, cond-false, or_parts}
 use Rattle.btor_witness.specs.declared.witness.Stated.{Stated}
@@ -9,14 +9,9 @@ use Rattle.btor_witness.proofs.Tables.{value_more}
 use Rattle.moxi_terms.specs.declared.term.Enumeration.{Enumeration}
 use Rattle.moxi_terms.specs.Value.{Values}
 use Rattle.moxi_lines.specs.Codes.{code_of}
-use Rattle.moxi_layout.proofs.Lists.{all_both}
 use Rattle.moxi_lower.specs.Lowered.{codes_upto, stated_code}
-
-below_cases : (v n : ℕ) → v < suc n → (v < n) ⊎ (v ≡ n)
-below_cases zero zero h = inr refl
-below_cases zero (suc n) h = inl (omega arith)
-below_cases (suc v) zero h = absurd (omega (arith, h))
-below_cases (suc v) (suc n) h = elim (below_cases v n (omega (arith, h))) [ inl l ↦ inl (omega (arith, l)) | inr e ↦ inr (ap suc e) ]
+use Rattle.moxi_lift.proofs.Upto.{below_cases}
+use Rattle.moxi_lines.proofs.Extending.{all_both}
 
 -- ---- one statement more
 

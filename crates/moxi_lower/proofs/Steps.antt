@@ -22,7 +22,7 @@ use Rattle.moxi_lines.proofs.CodeLaws.{choice_high, choice_holds, count_is, widt
 use Rattle.moxi_layout.proofs.Entries.{sorts_long}
 use Rattle.moxi_lift.proofs.Steps.{read_there}
 use Rattle.moxi_lower.specs.Lowered.{IsKnown, codes_upto}
-use Rattle.moxi_lower.proofs.Back.{sort_get}
+use Rattle.moxi_lift.proofs.Decoded.{sort_get}
 
 -- a list has fewer elements than there are words
 pub few_counts : (count : ℕ) → count < 2 ^ 64 → count ≤ 2 ^ WIDEST

@@ -22,8 +22,8 @@ use Rattle.moxi_layout.specs.Witnesses.{WitnessesNameQueries}
 use Rattle.moxi_layout.proofs.Entries.{input_there}
 use Rattle.moxi_lower.specs.Laws.{AreSteps, LoweredAreWitnesses}
 use Rattle.moxi_lower.specs.Lowered.{lowered_step, stated_code}
-use Rattle.moxi_lower.proofs.Back.{sort_get}
 use Rattle.moxi_lower.proofs.Codes.{codes_all, codes_once}
+use Rattle.moxi_lift.proofs.Decoded.{sort_get}
 
 some_frames : {X Y : Type 0} (g : X → Y) (xs : List X) → 1 ≤ length xs → map g xs ≢ []
 some_frames g [] some e = omega (arith, some)

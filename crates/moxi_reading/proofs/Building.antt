@@ -3,7 +3,8 @@ use Rattle.std.proofs.Common.{◌≡◌, ℕ, ◌+◌, ◌<◌, List, [], ◌∷
 use Rattle.std.proofs.lemmas.List.{reverse-append}
 use Rattle.std.specs.Prelude.{slice_index_or}
 use Rattle.moxi_attributes.specs.laws.Collecting.{list_step}
-use Rattle.moxi_scripts.proofs.Forms.{items_step, map_end}
+use Rattle.moxi_scripts.proofs.Forms.{items_step}
+use Rattle.moxi_terms.proofs.ScopeLaws.{map_end}
 
 -- the last element is taken away, and what is made of it put at the end
 pub taken_step : {A B C D : Type 0} (f : A → D) (g : C → D) (h : B → C) (all more : List A) (xs rest : List B) (y : A) (x : B) (total : List D)

@@ -1,5 +1,5 @@
 -- What the attributes of a system or a check give, one behind the other.
-use Rattle.std.proofs.Common.{◌≡◌, ◌==◌, ℕ, ◌+◌, nat_lt, Bool, true, false, cond, ◌&&◌, ◌||◌, is_none, Some, List, [], ◌++◌, refl, sym, ap, ◌∙◌, subst, arith}
+use Rattle.std.proofs.Common.{◌≡◌, ◌==◌, ℕ, ◌+◌, nat_lt, Bool, true, false, cond, ◌&&◌, is_none, Some, List, [], ◌++◌, refl, sym, ap, ◌∙◌, subst, arith}
 use Rattle.std.specs.Prelude.{codes, nat_le}
 use Rattle.std.proofs.lemmas.Bool.Decides.{nat_tests}
 use Rattle.text_core.specs.declared.place.Place.{Place}
@@ -22,6 +22,7 @@ use Rattle.moxi_scripts.specs.Lists.{entries_at, text_entries}
 use Rattle.moxi_script_print.specs.Printing.{formula_attribute, list_attribute, shown_formulas, shown_lists}
 use Rattle.moxi_script_print.proofs.AgainShapes.{is_attribute, joined_joined}
 use Rattle.moxi_scripts.specs.laws.WholeNames.{and_both}
+use Rattle.moxi_scripts.proofs.MeetingLaws.{or_second}
 
 abbrev pub attribute_forms : Place → List ℕ → Tree → Trees → Trees
 attribute_forms p name t ts = tree (atom p (Keyword name)) (tree t ts)
@@ -36,10 +37,6 @@ pub record IsTail (command : Command) (ts : Trees) : Type 0 where
   pub known : unknown_failures command AtKeyword ts ≡ []
   pub counts : (k : Key) → is_once k ≡ true → count_of command k AtKeyword ts ≡ 0
   pub lists : (l : Lists) → text_entries l command AtKeyword ts ≡ []
-
-or_second : (a b : Bool) → b ≡ true → (a || b) ≡ true
-or_second true b h = refl
-or_second false b h = h
 
 apart : (m n : ℕ) → nat_lt m 6 ≡ true → nat_lt n 6 ≡ false → (m == n) ≡ false
 apart m n h g = by_test (m == n) refl

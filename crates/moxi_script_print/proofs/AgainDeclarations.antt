@@ -41,6 +41,7 @@ use Rattle.moxi_script_print.proofs.AgainParts.{ReadsBack, both_nil, some_if}
 use Rattle.moxi_script_print.proofs.AgainShapes.{is_listed, named_form}
 use Rattle.moxi_script_print.proofs.AgainSystems.{command_form, is_command}
 use Rattle.moxi_scripts.specs.laws.WholeNames.{Absent, and_both, fresh_first, is_absent, or_both, or_parts}
+use Rattle.moxi_scripts.proofs.CycleLaws.{less}
 
 -- NAMES
 
@@ -103,9 +104,6 @@ pub record IsNewEnumeration (s : ScopeState) (names : List (List ℕ)) (e : Enum
 
 abbrev pub with_read_enumeration : Reading → Enumeration → Reading
 with_read_enumeration r e = record r { scope = with_enumeration r.scope e.name e.constants; term_names = r.term_names ++ e.constants }
-
-less : (m n : ℕ) → m < n → nat_lt m n ≡ true
-less m n h = grind (arith, nat_tests)
 
 abbrev one_form : form.Tree → form.Trees
 one_form t = form.tree t form.no_trees

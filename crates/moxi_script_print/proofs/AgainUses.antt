@@ -34,6 +34,7 @@ use Rattle.moxi_script_print.specs.Printing.{names_of, shown_subsystem, shown_su
 use Rattle.moxi_scripts.specs.Script.{PlainSystem, system_at}
 use Rattle.moxi_scripts.specs.Shapes.{HeadedForms, headed}
 use Rattle.moxi_scripts.specs.Spelling.{actual_numbers}
+use Rattle.moxi_scripts.specs.QueryReading.{names_with_named}
 use Rattle.moxi_scripts.specs.Uses as uses
 use Rattle.moxi_scripts.specs.Whole.{IsWholeSubsystem, subsystem_names}
 use Rattle.moxi_script_print.proofs.AgainAttributes.{IsTail, attribute_forms, tail_end, tail_more}
@@ -163,7 +164,7 @@ use_read names all vs b f fresh w h =
           ap (uses.named_failures before locals f) n.is ∙ ap (λ b. fails_if (not b) 9 n.place ++ uses.use_failures locals (place_in f) nf) new
           ∙ ap (uses.among_failures locals (place_in f) nf) l.is ∙ ap (uses.headed_failures locals (place_in n.form)) hd
           ∙ ap (λ xs. xs ++ fails_if (not (are_symbols m.1)) 12 (place_in n.form)) r.pass ∙ ap (λ b. fails_if (not b) 12 (place_in n.form)) r.symbols;
-      names_then = λ before new. ap (uses.names_with_named before) n.is ∙ ap (λ t. cond t (before ++ b.name ∷ []) before) new;
+      names_then = λ before new. ap (names_with_named before) n.is ∙ ap (λ t. cond t (before ++ b.name ∷ []) before) new;
       listed = n.listed;
     }
 

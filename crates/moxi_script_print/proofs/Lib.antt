@@ -20,3 +20,6 @@ pub mod AgainLinks
 pub mod AgainCycles
 pub mod AgainScript
 pub mod Pieces
+pub mod Depths
+pub mod SpelledCommands
+pub mod Assembled

@@ -1,10 +1,9 @@
 -- Names in forms that can be printed: what lists, terms and declarations take from them can be spelled.
-use Rattle.std.proofs.Common.{◌≡◌, ℕ, Bool, true, false, not, cond, ◌&&◌, Option, None, Some, List, [], ◌∷◌, refl, sym, ◌∙◌}
+use Rattle.std.proofs.Common.{ℕ, Bool, true, false, cond, Option, None, Some, List, [], ◌∷◌, sym, ◌∙◌}
 use Rattle.std.specs.List.{AllByRecursion}
 use Rattle.moxi_sexpr.specs.declared.form.Atom.TheVariants.{Symbol, Keyword, Numeral, Binary, Hex, Quote}
 use Rattle.moxi_sexpr.specs.declared.scan.Spelling.TheVariants as how
-use Rattle.moxi_sexpr.specs.Atoms.{is_simple, may_stand}
-use Rattle.moxi_sexpr.specs.Printing.{ArePrintable, IsPrintable, is_among, reserved_words, symbol_spelling}
+use Rattle.moxi_sexpr.specs.Printing.{ArePrintable, IsPrintable}
 use Rattle.moxi_sexpr.specs.Tree as form
 use Rattle.moxi_terms.specs.declared.data.Sort.{Sort}
 use Rattle.moxi_terms.specs.declared.term.Variable.{Variable}
@@ -22,18 +21,11 @@ use Rattle.moxi_scripts.specs.Lists.{entries_among, listed_entries}
 use Rattle.moxi_script_print.specs.NamesOfScripts.{VariablesAreSpellable}
 use Rattle.moxi_scripts.specs.Shapes.{HeadedForms, NamedForm, before_pair, headed, headed_by, named, named_by, named_in, parts_of, triple_of}
 use Rattle.moxi_scripts.specs.laws.WholeParts.{all_append}
+use Rattle.moxi_term_print.proofs.StandingSpelled.{primed_alike}
 
 pub chosen : {A : Type 0} (P : A → Type 0) (b : Bool) (x y : A) → P x → P y → P (cond b x y)
 chosen P true x y h g = h
 chosen P false x y h g = g
-
--- a prime doesn't change how a name can be spelled
-primed_alike : (name : List ℕ) (primed : Bool) → may_stand (symbol_spelling name primed) name ≡ may_stand (symbol_spelling name false) name
-primed_alike name primed = by_test (is_simple name && not (is_among name reserved_words))
-  where
-    by_test : (b : Bool) → may_stand (cond b (how.Bare primed) (how.Barred primed)) name ≡ may_stand (cond b (how.Bare false) (how.Barred false)) name
-    by_test true = refl
-    by_test false = refl
 
 -- THE PARTS OF FORMS
 

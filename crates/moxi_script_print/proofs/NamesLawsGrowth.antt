@@ -5,7 +5,6 @@ use Rattle.std.specs.Prelude.{slice_get, codes}
 use Rattle.std.specs.List.{AllByRecursion, list_any}
 use Rattle.std.specs.Str.{bytes_eq}
 use Rattle.std.proofs.lemmas.List.{take-append-drop}
-use Rattle.std.proofs.lemmas.Slice.Eq.{bytes_eq-Decides}
 use Rattle.moxi_terms.specs.declared.data.Primes.TheVariants.{Refused}
 use Rattle.moxi_terms.specs.declared.data.Sort.{Sort}
 use Rattle.moxi_term_reading.specs.declared.locals.Local.{Local}
@@ -23,6 +22,7 @@ use Rattle.moxi_scripts.specs.Whole.{IsWholeScope, before, is_fixed_sort, is_fix
 use Rattle.moxi_scripts.specs.laws.WholeNames.{Absent, absent_parts, fresh_first, fresh_split, is_absent, or_both, or_parts, other_way}
 use Rattle.moxi_scripts.specs.laws.WholeParts.{all_of, all_parts, map_append}
 use Rattle.moxi_scripts.specs.laws.WholeScopes.{term_new}
+use Rattle.moxi_scripts.proofs.WholeGrowth.{none_equal}
 
 -- a term that can stand in a scope can stand in one that has grown from it
 abbrev pub TermsStandOn : Type 0
@@ -41,15 +41,6 @@ fresh_absent front [] h = tt
 fresh_absent front (name ∷ names) h =
     let p = fresh_first front name names h in
     (p.0, all_of (Absent (front ++ name ∷ [])) (Absent front) names (λ x a. (absent_parts front (name ∷ []) x a).0) (fresh_absent (front ++ name ∷ []) names p.1))
-
--- no new name is one that the scope has
-none_equal : (s : ScopeState) (name : List ℕ) (names : List (List ℕ)) → is_term_name s name ≡ true → AllByRecursion (λ (other : List ℕ). is_term_name s other ≡ false) names → Absent names name
-none_equal s name [] h a = refl
-none_equal s name (other ∷ names) h a = or_both (bytes_eq name other) (list_any (bytes_eq name) names) (by_test (bytes_eq name other) refl) (none_equal s name names h a.1)
-  where
-    by_test : (b : Bool) → bytes_eq name other ≡ b → b ≡ false
-    by_test true e = let same : name ≡ other = (bytes_eq-Decides name other).0 e in let old : is_term_name s other ≡ true = subst (λ n. is_term_name s n ≡ true) same h in absurd (cc)
-    by_test false e = refl
 
 all_two : {A : Type 0} (P Q R : A → Type 0) (xs : List A) → ((x : A) → P x → Q x → R x) → AllByRecursion P xs → AllByRecursion Q xs → AllByRecursion R xs
 all_two P Q R [] f a b = tt

@@ -1,5 +1,5 @@
 -- What is shown of a whole script can be shown, where its names can be spelled.
-use Rattle.std.proofs.Common.{ℕ, zero, suc, IfSome, Option, None, Some, List, [], ◌∷◌, ◌++◌, map, refl, sym, subst}
+use Rattle.std.proofs.Common.{ℕ, IfSome, Option, None, Some, List, [], ◌∷◌, ◌++◌, map, refl, sym, subst}
 use Rattle.std.specs.Prelude.{IsTrue, codes}
 use Rattle.std.specs.List.{AllByRecursion}
 use Rattle.moxi_sexpr.specs.Atoms.{is_simple}
@@ -28,12 +28,13 @@ use Rattle.moxi_scripts.specs.declared.script.Query.{Query}
 use Rattle.moxi_scripts.specs.declared.script.Subsystem.{Subsystem}
 use Rattle.moxi_script_print.specs.NamesOfScripts.{HasSpellableNames, IsSpellableCheck, IsSpellableFormula, IsSpellableFunction, IsSpellableSystem, VariablesAreSpellable}
 use Rattle.moxi_script_print.specs.Printing as print
-use Rattle.moxi_script_print.specs.Printing.{all_queries, attribute, check_variables, formula_attribute, formula_names, list_attribute, names_of, query_names, shown_check, shown_command, shown_conditions, shown_enumerations, shown_formulas, shown_functions, shown_label, shown_labels, shown_lists, shown_logic, shown_names, shown_queries, shown_script, shown_sorts, shown_subsystem, shown_subsystems, shown_system, shown_systems}
+use Rattle.moxi_script_print.specs.Printing.{all_queries, attribute, formula_attribute, list_attribute, names_of, query_names, shown_check, shown_command, shown_conditions, shown_enumerations, shown_formulas, shown_functions, shown_label, shown_labels, shown_lists, shown_logic, shown_names, shown_queries, shown_script, shown_sorts, shown_subsystem, shown_subsystems, shown_system, shown_systems}
 use Rattle.moxi_scripts.specs.Script.{PlainCheck, PlainFormula, PlainScript, PlainSystem, variables_in}
-use Rattle.moxi_scripts.specs.Whole.{AreFormulas, IsFormula, IsWhole, IsWholeCheck, IsWholeSystem, over}
+use Rattle.moxi_scripts.specs.Whole.{AreFormulas, IsFormula, IsWhole, IsWholeCheck, IsWholeSystem, over, check_variables, formula_names}
 use Rattle.moxi_script_print.specs.laws.VariableNames.{names_of_locals}
 use Rattle.moxi_script_print.proofs.NamesLawsGrowth.{StandsInAll, TermsStandOn, functions_stand, has_sort_names}
 use Rattle.moxi_scripts.specs.laws.WholeParts.{all_append, all_map, all_of, all_parts}
+use Rattle.moxi_term_print.proofs.StandingShown.{name_spellable}
 
 abbrev pub TermsCanBeShown : Type 0
 TermsCanBeShown = (c : Context) (bounds : List Local) (t : Tree) (s : Sort) → IsSpellableScope c.scope → AreSpellable (reading.names_of c.variables) → AreSpellable (reading.names_of bounds) → Stands c bounds t s → NamesAreSpellable t
@@ -64,11 +65,6 @@ symbols_shown (name ∷ names) h = (h.0, symbols_shown names h.1)
 
 names_shown : (name : List ℕ) (names : List (List ℕ)) → IsSpellable name → AreSpellable names → CanBeShown (shown_names name names)
 names_shown name names h g = (h, (symbols_shown names g, tt))
-
-name_spellable : (names : List (List ℕ)) (i : ℕ) → AreSpellable names → IsSpellable (name_at names i)
-name_spellable [] i h = refl
-name_spellable (name ∷ names) zero h = h.0
-name_spellable (name ∷ names) (suc i) h = name_spellable names i h.1
 
 numbered_spellable : (names : List (List ℕ)) (ns : List ℕ) → AreSpellable names → AreSpellable (names_of names ns)
 numbered_spellable names [] h = tt

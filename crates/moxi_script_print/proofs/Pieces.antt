@@ -1,5 +1,5 @@
 -- Pieces of printed commands, one behind the other.
-use Rattle.std.proofs.Common.{◌≡◌, ◌<◌, ◌+◌, ℕ, suc, Result, Ok, Err, OnOk, List, [], ◌∷◌, ◌++◌, length, drop, refl, sym, ap, ◌∙◌, append_assoc, append-nil, drop-cons, add-one}
+use Rattle.std.proofs.Common.{◌≡◌, ◌<◌, ◌+◌, ℕ, suc, List, [], ◌∷◌, ◌++◌, length, drop, refl, sym, ap, ◌∙◌, append_assoc, append-nil, drop-cons, add-one}
 use Rattle.std.specs.Prelude.{slice_index_or}
 use Rattle.moxi_term_print.specs.Shown.{Shown, Showns, no_showns, shown, joined, text_of, parts_text, lines_text}
 use Rattle.moxi_term_print.specs.Terms.{symbol}
@@ -33,14 +33,6 @@ pub part_step : (out total : List ℕ) (xs ys whole : Showns) (new : List ℕ) �
 part_step out total xs ys whole new kept step e =
     ap (λ z. z ++ parts_text (32 ∷ []) ys) e ∙ append_assoc out (parts_text (32 ∷ []) xs) (parts_text (32 ∷ []) ys) ∙ ap (λ z. out ++ z) (sym (joined_text xs ys))
     ∙ ap (λ w. out ++ parts_text (32 ∷ []) w) (sym step) ∙ kept
-
--- two pieces more
-pub onto : (old x y a b : List ℕ) → x ≡ old ++ a → y ≡ x ++ b → y ≡ old ++ (a ++ b)
-onto old x y a b e f = f ∙ ap (λ z. z ++ b) e ∙ append_assoc old a b
-
-pub ok_same : {A E : Type 0} (r : Result A E) (z x y : List ℕ) → x ≡ y → OnOk r (z ≡ x) → OnOk r (z ≡ y)
-ok_same (Ok a) z x y e h = h ∙ e
-ok_same (Err a) z x y e h = h
 
 -- the line of a command without parts
 pub logic_end : (old w name n : List ℕ) → n ≡ old ++ 40 ∷ (w ++ 32 ∷ text_of (symbol name)) → n ++ 41 ∷ (10 ∷ []) ≡ old ++ lines_text (shown (shown_command w name no_showns) no_showns)

@@ -13,6 +13,7 @@ use Rattle.moxi_term_print.specs.Declarations.{shown_symbols, shown_enumeration,
 use Rattle.moxi_scripts.specs.declared.script.Subsystem.{Subsystem}
 use Rattle.moxi_scripts.specs.declared.script.Query.{Query}
 use Rattle.moxi_scripts.specs.Script.{PlainSystem, PlainFormula, PlainCheck, PlainScript, variables_in}
+use Rattle.moxi_scripts.specs.Whole.{check_variables, formula_names}
 
 -- a keyword and what stands behind it
 unfoldable pub attribute : List ℕ → Shown → Showns
@@ -65,9 +66,6 @@ shown_system s systems x =
 
 -- CHECKS
 
-abbrev pub check_variables : PlainCheck → List Variable
-check_variables c = c.inputs ++ (c.outputs ++ c.locals)
-
 -- `(name term)`
 abbrev pub shown_label : ScopeState → List (List ℕ) → PlainFormula → Shown
 shown_label s vars f = group (shown (symbol f.name) (shown (shown_term s vars [] f.term) no_showns))
@@ -76,9 +74,6 @@ shown_label s vars f = group (shown (symbol f.name) (shown (shown_term s vars []
 abbrev pub shown_labels : ScopeState → List (List ℕ) → List ℕ → List PlainFormula → Showns
 shown_labels s vars name [] = no_showns
 shown_labels s vars name (f ∷ fs) = joined (attribute name (shown_label s vars f)) (shown_labels s vars name fs)
-
-abbrev pub formula_names : List PlainFormula → List (List ℕ)
-formula_names fs = map (λ (f : PlainFormula). f.name) fs
 
 -- the names of a query, given those of all formulas: assumptions, currents, reachable formulas
 abbrev pub query_names : List (List ℕ) → List (List ℕ) → List (List ℕ) → Query → List (List ℕ)

@@ -11,17 +11,17 @@ use Rattle.moxi_scripts.specs.Collecting.{fails_if}
 use Rattle.moxi_scripts.specs.Cycles.{all_cycles, all_use_rows, count_uses, ends_at, nodes_from, system_rows, use_cycles, use_graph, use_rows}
 use Rattle.moxi_scripts.specs.Systems.{SystemReading}
 
-abbrev below : ℕ → List ℕ → Bool
+abbrev pub below : ℕ → List ℕ → Bool
 below n ends = list_all (λ m. nat_lt m n) ends
 
-abbrev within : ℕ → NodeLists → Bool
+abbrev pub within : ℕ → NodeLists → Bool
 within n g = list_all (below n) g
 
 and_true : (a b : Bool) → a ≡ true → b ≡ true → (a && b) ≡ true
 and_true true b e f = f
 and_true false b e f = e
 
-all_append : (n : ℕ) (g h : NodeLists) → within n g ≡ true → within n h ≡ true → within n (g ++ h) ≡ true
+pub all_append : (n : ℕ) (g h : NodeLists) → within n g ≡ true → within n h ≡ true → within n (g ++ h) ≡ true
 all_append n [] h e f = f
 all_append n (x ∷ xs) h e f = by_first (below n x) (within n xs) e (λ k. all_append n xs h k f)
   where
@@ -29,7 +29,7 @@ all_append n (x ∷ xs) h e f = by_first (below n x) (within n xs) e (λ k. all_
     by_first true b e k = k e
     by_first false b e k = e
 
-less : (m n : ℕ) → m < n → nat_lt m n ≡ true
+pub less : (m n : ℕ) → m < n → nat_lt m n ≡ true
 less m n h = grind (arith, nat_tests)
 
 ends_within : (t s n : ℕ) (o : Option ℕ) → t + s ≤ n → below n (ends_at t s o) ≡ true

@@ -35,7 +35,7 @@ some_held P Q (x ∷ xs) f h = by_first (P x) refl (some_held P Q xs f)
     by_first true e rest = (0, x, omega arith, refl, f x e)
     by_first false e rest = let r = rest (sym (ap (λ b. b || list_any P xs) e) ∙ h) in (suc r.0, r.1, omega (arith, r.2), r.3, r.4)
 
-or_second : (a b : Bool) → b ≡ true → (a || b) ≡ true
+pub or_second : (a b : Bool) → b ≡ true → (a || b) ≡ true
 or_second true b h = refl
 or_second false b h = h
 
@@ -46,7 +46,7 @@ true_at P (y ∷ ys) (suc k) x l e h = or_second (P y) (list_any P ys) (true_at 
 
 -- FORMULAS OF TRUTH VALUES
 
-true_is : (d : Datum) → truth_of d ≡ true → d ≡ datum.Truth true
+pub true_is : (d : Datum) → truth_of d ≡ true → d ≡ datum.Truth true
 true_is (datum.Truth b) h = ap datum.Truth h
 true_is (datum.Bits w) h = absurd (cc)
 true_is (datum.Constant n i) h = absurd (cc)
@@ -61,11 +61,11 @@ step_is_itself : (n : ℕ) → eqb n n ≡ true
 step_is_itself n = grind (arith, nat_tests)
 
 -- of three or four tests each passes
-passed : (b : Bool) (c : Clause) (o : Option Clause) → cond b o (Some c) ≡ None → (b ≡ true) × (o ≡ None)
+pub passed : (b : Bool) (c : Clause) (o : Option Clause) → cond b o (Some c) ≡ None → (b ≡ true) × (o ≡ None)
 passed true c o h = (refl, h)
 passed false c o h = absurd (cc)
 
-passes : (b : Bool) (c : Clause) (o : Option Clause) → b ≡ true → o ≡ None → cond b o (Some c) ≡ None
+pub passes : (b : Bool) (c : Clause) (o : Option Clause) → b ≡ true → o ≡ None → cond b o (Some c) ≡ None
 passes true c o e h = h
 passes false c o e h = absurd (cc)
 

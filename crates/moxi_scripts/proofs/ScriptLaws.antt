@@ -1,5 +1,5 @@
 -- Scripts: where no test fails the check is there, and the first of failing tests.
-use Rattle.std.proofs.Common.{◌≡◌, ◌<◌, ◌≤◌, inl, inr, Bool, true, false, cond, not, nat_lt, is_some, Option, None, Some, List, [], ◌∷◌, ◌++◌, map, refl, sym, ap, ◌∙◌, subst, arith}
+use Rattle.std.proofs.Common.{◌≡◌, ◌<◌, ◌≤◌, inl, inr, Bool, true, false, cond, not, is_some, Option, None, Some, List, [], ◌∷◌, ◌++◌, map, refl, sym, ap, ◌∙◌, subst, arith}
 use Rattle.std.specs.List.{AllByRecursion}
 use Rattle.std.proofs.lemmas.Bool.{cases_lt}
 use Rattle.std.proofs.lemmas.Bool.Decides.{nat_tests}
@@ -27,6 +27,7 @@ use Rattle.moxi_scripts.specs.Script.{PlainScript}
 use Rattle.moxi_scripts.specs.Shapes.{HeadedForms, headed}
 use Rattle.moxi_scripts.specs.Spelling.{SpellsScript, check_of, reading_of, script_failures, script_with, system_of}
 use Rattle.moxi_scripts.proofs.FunctionLaws.{none_in, least_found, some_fails}
+use Rattle.moxi_term_reading.specs.laws.Least.{pick_first, pick_other}
 
 -- a check that is read is there
 abbrev IsKept : Reading → Type 0
@@ -130,12 +131,6 @@ first_by_key r f h byte = elim (cases_lt r.place.offset f.place.offset) [
   | inl less ↦ inl less
   | inr le ↦ inr (omega arith, omega arith)
 ]
-
-pick_other : (a b : Refusal) → key b < key a → pick a b ≡ b
-pick_other a b h = let e : nat_lt (key b) (key a) ≡ true = grind (arith, nat_tests) in ap (λ t. cond t b a) e
-
-pick_first : (a b : Refusal) → key a ≤ key b → pick a b ≡ a
-pick_first a b h = let e : nat_lt (key b) (key a) ≡ false = grind (arith, nat_tests) in ap (λ t. cond t b a) e
 
 abbrev IsLeastOf : Refusal → List Refusal → Type 0
 IsLeastOf r fs = IsIn r fs × AllByRecursion (λ f. key r ≤ key f) fs

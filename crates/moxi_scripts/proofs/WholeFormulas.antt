@@ -49,7 +49,7 @@ no_clash a b p h = one_sort a b (not_not (same_sort a b) (no_failure _ 5 p h))
     not_not true h = refl
     not_not false h = absurd (cc)
 
-no_first : (n : ℕ) (vs : List Variable) (name : List ℕ) → AllByRecursion (λ (other : List ℕ). bytes_eq name other ≡ false) (variable_names vs) → first_of n (locals_of vs) name ≡ None
+pub no_first : (n : ℕ) (vs : List Variable) (name : List ℕ) → AllByRecursion (λ (other : List ℕ). bytes_eq name other ≡ false) (variable_names vs) → first_of n (locals_of vs) name ≡ None
 no_first n [] name a = refl
 no_first n (v ∷ vs) name a =
     ap (λ b. cond b (Some (let x : Found = record { number = n; sort = Some v.sort } in x)) (first_of (suc n) (locals_of vs) name)) a.0 ∙ no_first (suc n) vs name a.1

@@ -10,7 +10,7 @@ use Rattle.moxi_term_print.specs.StandingGrows.{Grows}
 use Rattle.moxi_scripts.specs.laws.WholeNames.{Absent, or_both}
 use Rattle.moxi_scripts.specs.laws.WholeScopes.{GrowsTo, absent_among}
 
-none_equal : (s : ScopeState) (name : List ℕ) (names : List (List ℕ)) → is_term_name s name ≡ true → AllByRecursion (λ (other : List ℕ). is_term_name s other ≡ false) names → Absent names name
+pub none_equal : (s : ScopeState) (name : List ℕ) (names : List (List ℕ)) → is_term_name s name ≡ true → AllByRecursion (λ (other : List ℕ). is_term_name s other ≡ false) names → Absent names name
 none_equal s name [] h a = refl
 none_equal s name (other ∷ names) h a = or_both (bytes_eq name other) (list_any (bytes_eq name) names) (by_test (bytes_eq name other) refl) (none_equal s name names h a.1)
   where

@@ -39,9 +39,9 @@ use Rattle.moxi_scripts.proofs.WholeEntries.{AreKnown, all_known, declared_sorts
 use Rattle.moxi_scripts.proofs.WholeFormulas.{no_clash}
 use Rattle.moxi_scripts.specs.laws.WholeNames.{or_parts}
 use Rattle.moxi_scripts.specs.laws.WholeParts.{all_append, all_at, get_map, get_there, index_get, no_failure}
-use Rattle.moxi_scripts.proofs.WholeQueries.{place_below}
 use Rattle.moxi_scripts.proofs.WholeSystems.{AreUntaken, IsCheckSoFar, IsSystemSoFar}
 use Rattle.moxi_scripts.proofs.WholeUses.{IsActual, IsUse}
+use Rattle.name_maps.specs.laws.Places.{place_below}
 
 pub untaken : (s : ScopeState) (names : List (List ℕ)) (ds : List Declared) → taken_failures s names ds ≡ [] → AreUntaken s ds
 untaken s names [] h = tt

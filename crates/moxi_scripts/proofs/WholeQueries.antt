@@ -1,7 +1,6 @@
 -- Queries of which no test fails: their names differ, each number is that of a formula, and those of reachable formulas differ.
-use Rattle.std.proofs.Common.{◌≡◌, ℕ, ◌<◌, Bool, true, false, not, cond, nat_lt, ◌&&◌, is_none, Option, None, Some, List, [], ◌∷◌, ◌++◌, length, refl, sym, ap, ◌∙◌, subst, arith, append_assoc, append-nil}
-use Rattle.std.specs.List.{AllByRecursion, position_or_len}
-use Rattle.std.specs.Str.{bytes_eq}
+use Rattle.std.proofs.Common.{◌≡◌, ℕ, ◌<◌, Bool, true, false, not, cond, ◌&&◌, is_none, Option, None, Some, List, [], ◌∷◌, ◌++◌, length, refl, sym, ap, ◌∙◌, subst, append_assoc, append-nil}
+use Rattle.std.specs.List.{AllByRecursion}
 use Rattle.text_core.specs.declared.place.Place.{Place}
 use Rattle.moxi_sexpr.specs.Lexing.{refusal}
 use Rattle.moxi_sexpr.specs.Tree as form
@@ -22,14 +21,7 @@ use Rattle.moxi_scripts.specs.Whole.{IsWholeQuery, query_names}
 use Rattle.moxi_scripts.proofs.FunctionLaws.{none_in, some_fails}
 use Rattle.moxi_scripts.specs.laws.WholeNames.{absent_is, fresh_join, fresh_more, or_both}
 use Rattle.moxi_scripts.specs.laws.WholeParts.{all_append, map_append, no_failure, not_false}
-
--- a place that was found is one of the list
-found_below : (b : Bool) (n m i : ℕ) → nat_lt n m ≡ b → cond b (Some n) None ≡ Some i → i < m
-found_below true n m i t e = let same : n ≡ i = cc in grind arith
-found_below false n m i t e = cc
-
-pub place_below : (names : List (List ℕ)) (name : List ℕ) (i : ℕ) → place_of names name ≡ Some i → i < length names
-place_below names name i e = found_below (nat_lt (position_or_len (bytes_eq name) names) (length names)) _ (length names) i refl e
+use Rattle.name_maps.specs.laws.Places.{place_below}
 
 no_prime : (b : Bool) (p : Place) → prime_failures b p ≡ [] → b ≡ false
 no_prime true p h = some_fails _ [] h

@@ -1,7 +1,7 @@
 -- Where no node leads to itself, a node leads to more nodes than those to which it has an edge: this is its rank.
 use Rattle.std.proofs.Common.{◌≡◌, ℕ, zero, suc, ◌+◌, ◌<◌, ◌≤◌, eqb, nat_lt, Bool, true, false, cond, ◌&&◌, Some, List, [], ◌∷◌, ◌++◌, length, refl, sym, ap, ◌∙◌, subst, arith}
 use Rattle.std.specs.Prelude.{slice_get, slice_index_or}
-use Rattle.std.specs.List.{AllByRecursion, list_all, list_any}
+use Rattle.std.specs.List.{AllByRecursion, list_any}
 use Rattle.std.proofs.lemmas.Bool.Decides.{nat_tests}
 use Rattle.std.proofs.lemmas.List.{length-append}
 use Rattle.std.proofs.lemmas.Option.{none-some, same_Some}
@@ -14,22 +14,24 @@ use Rattle.moxi_scripts.specs.Whole.{HasRanks, IsWhole, IsWholeSubsystem, IsWhol
 use Rattle.moxi_scripts.proofs.WholeCycles.{all_rows_long, index_right, rows_below}
 use Rattle.moxi_scripts.specs.laws.WholeNames.{and_both}
 use Rattle.moxi_scripts.specs.laws.WholeParts.{get_below}
-use Rattle.moxi_scripts.proofs.WholeWalks.{In, all_next, equal, leads_along, leads_short, or_first, or_second, walk_of}
+use Rattle.moxi_scripts.proofs.WholeWalks.{In, all_next, equal, leads_along, leads_short, or_first, walk_of}
+use Rattle.moxi_scripts.proofs.CycleLaws.{all_append, below, less, within}
+use Rattle.moxi_scripts.proofs.MeetingLaws.{or_second}
 
 -- COUNTS
 
 -- how many numbers below n pass
-count : (ℕ → Bool) → ℕ → ℕ
+pub count : (ℕ → Bool) → ℕ → ℕ
 count p zero = 0
 count p (suc n) = cond (p n) 1 0 + count p n
 
-bit : (a b : Bool) → (a ≡ true → b ≡ true) → (let n : ℕ = cond a 1 0 in n) ≤ cond b 1 0
+pub bit : (a b : Bool) → (a ≡ true → b ≡ true) → (let n : ℕ = cond a 1 0 in n) ≤ cond b 1 0
 bit true true f = omega arith
 bit true false f = let e = f refl in absurd (cc)
 bit false true f = omega arith
 bit false false f = omega arith
 
-count_most : (p q : ℕ → Bool) (n : ℕ) → ((m : ℕ) → q m ≡ true → p m ≡ true) → count q n ≤ count p n
+pub count_most : (p q : ℕ → Bool) (n : ℕ) → ((m : ℕ) → q m ≡ true → p m ≡ true) → count q n ≤ count p n
 unfolding count
 count_most p q zero f = omega arith
 count_most p q (suc n) f = let a = bit (q n) (p n) (f n) in let b = count_most p q n f in omega arith
@@ -65,23 +67,6 @@ rank_falls g a never k r i =
         leads_short g a (suc (length (w.0 ∷ w.1))) k m (leads_along g (suc (length (w.0 ∷ w.1))) k m r (w.0 ∷ w.1) (i, w.2) (omega arith))
 
 -- THE GRAPH OF SUBSYSTEMS
-
-abbrev below : ℕ → List ℕ → Bool
-below n ends = list_all (λ m. nat_lt m n) ends
-
-abbrev within : ℕ → NodeLists → Bool
-within n g = list_all (below n) g
-
-all_append : (n : ℕ) (g h : NodeLists) → within n g ≡ true → within n h ≡ true → within n (g ++ h) ≡ true
-all_append n [] h e f = f
-all_append n (x ∷ xs) h e f = by_first (below n x) (within n xs) e (λ k. all_append n xs h k f)
-  where
-    by_first : (a b : Bool) {c : Bool} → (a && b) ≡ true → (b ≡ true → c ≡ true) → (a && c) ≡ true
-    by_first true b e k = k e
-    by_first false b e k = e
-
-less : (m n : ℕ) → m < n → nat_lt m n ≡ true
-less m n h = grind (arith, nat_tests)
 
 nodes_within : (start c n : ℕ) → start + c ≤ n → below n (nodes_from start c) ≡ true
 nodes_within start zero n h = refl

@@ -22,6 +22,7 @@ use Rattle.moxi_scripts.specs.Collecting.{fails_if}
 use Rattle.moxi_scripts.specs.Declarations.{are_symbols}
 use Rattle.moxi_scripts.specs.Entries.{locals_among}
 use Rattle.moxi_scripts.specs.Shapes.{HeadedForms, NamedForm, headed, misshapen, named, parts_of}
+use Rattle.moxi_scripts.specs.QueryReading.{names_with_named}
 use Rattle.moxi_scripts.specs.Uses as uses
 use Rattle.moxi_scripts.proofs.FunctionLaws.{none_in, some_fails}
 use Rattle.moxi_scripts.proofs.WholeEntries.{declared_sorts}
@@ -96,7 +97,7 @@ module _ (ds : List Declared) where
     pub names_then : then ≡ names ++ use_names us
 
   named_is : (names : List (List ℕ)) (t : form.Tree) (o : Option NamedForm) → uses.named_failures names (locals_among ds) t o ≡ []
-      → IsNext names (uses.use_named (locals_among ds) o) (uses.names_with_named names o)
+      → IsNext names (uses.use_named (locals_among ds) o) (names_with_named names o)
   named_is names t None e = some_fails (misshapen (place_in t) t) [] e
   named_is names t (Some n) e =
       let f = none_in (prime_failures n.primed n.place ++ fails_if (not (is_none (place_of names n.name))) 9 n.place) _ e in

@@ -7,6 +7,7 @@ use Rattle.std.proofs.lemmas.Bool.Decides.{nat_tests}
 use Rattle.std.proofs.lemmas.Map.Steps.{length-le_from_distinct_below}
 use Rattle.digraph.specs.Graph.{NodeLists, is_graph, leads, next_of}
 use Rattle.moxi_scripts.specs.laws.WholeNames.{or_parts}
+use Rattle.moxi_scripts.proofs.MeetingLaws.{or_second}
 
 abbrev pub In : List ℕ → ℕ → Type 0
 In xs x = list_any (eqb x) xs ≡ true
@@ -20,10 +21,6 @@ equal_back a b h = grind (arith, nat_tests)
 pub or_first : (a b : Bool) → a ≡ true → (a || b) ≡ true
 or_first true b h = refl
 or_first false b h = absurd (cc)
-
-pub or_second : (a b : Bool) → b ≡ true → (a || b) ≡ true
-or_second true b h = refl
-or_second false b h = h
 
 any_some : (p : ℕ → Bool) (xs : List ℕ) → list_any p xs ≡ true → (x : ℕ) × In xs x × (p x ≡ true)
 any_some p [] h = absurd (cc)

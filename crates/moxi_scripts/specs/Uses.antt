@@ -17,8 +17,8 @@ use Rattle.moxi_scripts.specs.declared.parts.Use.{Use}
 use Rattle.moxi_scripts.specs.Attributes.{is_behind, turn_after}
 use Rattle.moxi_scripts.specs.Collecting.{fails_if}
 use Rattle.moxi_scripts.specs.Declarations.{are_symbols}
-use Rattle.moxi_scripts.specs.Entries.{names_with}
 use Rattle.moxi_scripts.specs.Shapes.{HeadedForms, NamedForm, headed, misshapen, named, parts_of}
+use Rattle.moxi_scripts.specs.QueryReading.{names_with_named}
 
 abbrev pub actual_at : Option Found → Place → Actual
 actual_at None p = record { number = 0; sort = None; place = p }
@@ -82,10 +82,6 @@ use_named locals (Some n) = use_in locals n
 -- the subsystem that a form spells
 abbrev pub use_of : List Local → Tree → List Use
 use_of locals t = use_named locals (named t)
-
-abbrev pub names_with_named : List (List ℕ) → Option NamedForm → List (List ℕ)
-names_with_named names None = names
-names_with_named names (Some n) = names_with names n.name
 
 abbrev pub names_with_use : List (List ℕ) → Tree → List (List ℕ)
 names_with_use names t = names_with_named names (named t)

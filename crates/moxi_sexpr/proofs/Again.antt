@@ -172,7 +172,7 @@ written_back text ts w room =
     }
 
 -- what is printed is written
-symbol_again : (name : List ℕ) (primed t : Bool) → atom_of (cond t (how.Bare primed) (how.Barred primed)) name ≡ kinds.Symbol name primed
+pub symbol_again : (name : List ℕ) (primed t : Bool) → atom_of (cond t (how.Bare primed) (how.Barred primed)) name ≡ kinds.Symbol name primed
 symbol_again name primed true = refl
 symbol_again name primed false = refl
 

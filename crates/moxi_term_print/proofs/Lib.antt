@@ -11,3 +11,5 @@ pub mod StandingSpelled
 pub mod StandingShown
 pub mod StandingAgain
 pub mod StandingAdded
+pub mod SortedTerms
+pub mod SpellableNames

@@ -1,5 +1,5 @@
 -- What is shown on lines is read again as forms that show it.
-use Rattle.std.proofs.Common.{◌≡◌, ◌≤◌, ℕ, suc, max, Bool, true, false, not, cond, ◌&&◌, List, [], ◌∷◌, refl, sym, ap, ◌∙◌, subst, append-nil}
+use Rattle.std.proofs.Common.{◌≡◌, ◌≤◌, ℕ, suc, max, false, not, ◌&&◌, List, [], ◌∷◌, refl, sym, ap, ◌∙◌, subst, append-nil}
 use Rattle.moxi_sexpr.specs.declared.form.Atom.{Atom}
 use Rattle.moxi_sexpr.specs.declared.form.Atom.TheVariants as kinds
 use Rattle.moxi_sexpr.specs.declared.scan.Spelling.TheVariants as how
@@ -10,6 +10,7 @@ use Rattle.moxi_sexpr.specs.Lexing.{limit}
 use Rattle.moxi_sexpr.specs.Writing.{Writes, word as written, brackets, WritesParts, no_parts, parts, WritesOthers, no_others, others, WritesLines, no_lines, lines}
 use Rattle.moxi_sexpr.specs.Printing.{reserved_words, is_among, spelling_of, name_of, printed_atom, ReadsBack}
 use Rattle.moxi_term_print.specs.Shown.{Shown, word, part, group, Showns, no_showns, shown, text_of, parts_text, lines_text, shown_depth, shown_depths, CanBeShown, AllCanBeShown, Shows, ShowEach, SpellsShown}
+use Rattle.moxi_sexpr.proofs.Again.{symbol_again}
 
 -- forms that are shown so
 abbrev mutual
@@ -31,10 +32,6 @@ mutual
   same_depths : (xs : Showns) → depths (forms_of xs) ≡ shown_depths xs
   same_depths no_showns = refl
   same_depths (shown x xs) = ap (λ n. max n (depths (forms_of xs))) (same_depth x) ∙ ap (max (shown_depth x)) (same_depths xs)
-
-symbol_again : (name : List ℕ) (primed t : Bool) → atom_of (cond t (how.Bare primed) (how.Barred primed)) name ≡ kinds.Symbol name primed
-symbol_again name primed true = refl
-symbol_again name primed false = refl
 
 atom_again : (a : Atom) → atom_of (spelling_of a) (name_of a) ≡ a
 atom_again (kinds.Symbol name primed) = symbol_again name primed (is_simple name && not (is_among name reserved_words))

@@ -33,6 +33,7 @@ use Rattle.moxi_term_print.specs.Terms.{name_at, constants_or_none, constant_nam
 use Rattle.moxi_term_print.specs.Standing.{bound_locals, StandsValue, StandsOperator, StandsCall, Stands, StandEach}
 use Rattle.moxi_term_print.specs.StandingGrows.{Grows, in_scope}
 use Rattle.moxi_term_print.specs.laws.StandingPlaces.{place_front, place_neither}
+use Rattle.moxi_terms.proofs.ScopeLaws.{numbered_long}
 
 -- LISTS
 
@@ -45,10 +46,6 @@ numbers_append n [] ys = ap (λ m. constant_numbers m ys) (let e : n ≡ n + 0 =
 numbers_append n (x ∷ xs) ys =
     ap (λ ns. numbered n 0 x.constants ++ ns) (numbers_append (suc n) xs ys ∙ ap (λ m. constant_numbers (suc n) xs ++ constant_numbers m ys) (let e : suc n + length xs ≡ n + suc (length xs) = omega arith in e))
     ∙ sym (append_assoc (numbered n 0 x.constants) (constant_numbers (suc n) xs) (constant_numbers (n + suc (length xs)) ys))
-
-numbered_long : (n i : ℕ) (cs : List (List ℕ)) → length (numbered n i cs) ≡ length cs
-numbered_long n i [] = refl
-numbered_long n i (c ∷ cs) = ap suc (numbered_long n (suc i) cs)
 
 numbers_long : (n : ℕ) (es : List Enumeration) → length (constant_numbers n es) ≡ length (all_constants es)
 numbers_long n [] = refl

@@ -46,6 +46,8 @@ use Rattle.moxi_term_print.specs.Standing.{bound_locals, StandsValue, StandsPrim
 use Rattle.moxi_term_print.specs.StandingReads.{whole}
 use Rattle.moxi_term_print.proofs.StandingNumbers.{word_again, index_again}
 use Rattle.moxi_term_print.specs.laws.StandingShapes as shape
+use Rattle.moxi_term_print.proofs.SortedTerms.{same_self}
+use Rattle.moxi_term_reading.proofs.ReadingLaws.{names_append}
 
 -- ATOMS
 
@@ -214,11 +216,6 @@ operator_read c bounds o us xs ss s f ih each sorted stands g =
 
 -- CALLS
 
-same_self : (s : Sort) → same_sort s s ≡ true
-same_self Truth = refl
-same_self (Bits w) = eq-eqb w w refl
-same_self (Choice n) = eq-eqb n n refl
-
 same_selves : (ss : List Sort) → same_sorts ss ss ≡ true
 same_selves [] = refl
 same_selves (s ∷ ss) = and_from (same_sort s s) (same_sorts ss ss) (same_self s) (same_selves ss)
@@ -267,10 +264,6 @@ bound_have_sorts : (names : List (List ℕ)) (ss : List Sort) → list_all readi
 bound_have_sorts [] ss = refl
 bound_have_sorts (name ∷ names) [] = refl
 bound_have_sorts (name ∷ names) (s ∷ ss) = bound_have_sorts names ss
-
-pub names_append : (xs ys : List Local) → names_of (xs ++ ys) ≡ names_of xs ++ names_of ys
-names_append [] ys = refl
-names_append (x ∷ xs) ys = ap (λ ns. x.name ∷ ns) (names_append xs ys)
 
 -- `(name term)`
 binding_read : (c : Context) (bounds : List Local) (q : Place) (name : List ℕ) (x : Shown) (t : Tree) (s : Sort) (b : form.Tree)

@@ -32,12 +32,13 @@ use Rattle.moxi_term_print.specs.Standing.{bound_locals, StandsValue, StandsOper
 use Rattle.moxi_term_print.specs.StandingReads.{StandsSort}
 use Rattle.moxi_term_print.specs.StandingNames.{IsSpellable, AreSpellable, NamesAreSpellable, AllNamesAreSpellable, IsSpellableScope}
 use Rattle.moxi_term_print.proofs.StandingNumbers.{digits_run, decimal_run}
-use Rattle.moxi_term_print.proofs.StandingRead.{bound_names, names_append}
+use Rattle.moxi_term_print.proofs.StandingRead.{bound_names}
 use Rattle.moxi_term_print.proofs.StandingSpelled.{primed_alike}
+use Rattle.moxi_term_reading.proofs.ReadingLaws.{names_append}
 
 -- NAMES
 
-name_spellable : (names : List (List ℕ)) (i : ℕ) → AreSpellable names → IsSpellable (name_at names i)
+pub name_spellable : (names : List (List ℕ)) (i : ℕ) → AreSpellable names → IsSpellable (name_at names i)
 name_spellable [] i h = refl
 name_spellable (name ∷ names) zero h = h.0
 name_spellable (name ∷ names) (suc i) h = name_spellable names i h.1

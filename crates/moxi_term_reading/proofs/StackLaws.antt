@@ -14,7 +14,8 @@ use Rattle.moxi_terms.specs.Names.{or_else}
 use Rattle.name_maps.specs.Names.{place_of}
 use Rattle.moxi_term_reading.specs.Finding.{Found, last_of, IsStacked, found_number, name_at, locals_in}
 use Rattle.moxi_terms.proofs.PlaceLaws.{place_append, place_within, get_kept, get_front, get_end, length_taken, take_whole, index_read}
-use Rattle.moxi_term_reading.proofs.FindingLaws.{name_there, found_at}
+use Rattle.moxi_term_reading.proofs.FindingLaws.{name_there, found_at, There}
+use Rattle.moxi_terms.proofs.ScopeLaws.{append_cases, take_front}
 
 -- the last of a name, with one more name behind
 last_more : (n m : ℕ) (t : Option Sort) (c : Bool) (o r : Option Found) (x : Option Found) → o ≡ cond c (Some (found_at (suc n + m) t)) r → or_else o x ≡ cond c (Some (found_at (n + suc m) t)) (or_else r x)
@@ -28,10 +29,6 @@ pub last_append : (n : ℕ) (xs : List Local) (x : Local) (q : List ℕ) → las
 last_append n [] x q = last_first n x.sort (bytes_eq q x.name)
 last_append n (y ∷ ys) x q =
     last_more n (length ys) x.sort (bytes_eq q x.name) (last_of (suc n) (ys ++ x ∷ []) q) (last_of (suc n) ys q) (cond (bytes_eq q y.name) (Some (found_at n y.sort)) None) (last_append (suc n) ys x q)
-
--- the sort of what was found stands at its number
-abbrev pub There : ℕ → List Local → Found → Type 0
-There n xs f = (k : ℕ) × (x : Local) × (f.number ≡ n + k) × (slice_get xs k ≡ Some x) × (f.sort ≡ x.sort)
 
 head_there : (n : ℕ) (x : Local) (xs : List Local) (f : Found) (b : Bool) → cond b (Some (found_at n x.sort)) None ≡ Some f → There n (x ∷ xs) f
 head_there n x xs f true e =
@@ -161,18 +158,6 @@ locals_long names (b ∷ bs) = ap suc (locals_long names bs)
 
 front_of : {A : Type 0} (xs : List A) (x : A) → take (length xs) (xs ++ x ∷ []) ≡ xs
 front_of xs x = take-append-le (length xs) xs (x ∷ []) (omega arith) ∙ take_whole xs
-
-append_cases : {A : Type 0} (xs : List A) (x y : A) (j : ℕ) → slice_get (xs ++ x ∷ []) j ≡ Some y → (slice_get xs j ≡ Some y × (j < length xs)) ⊎ ((j ≡ length xs) × (x ≡ y))
-append_cases [] x y zero h = inr (refl, same_Some x y h)
-append_cases [] x y (suc j) h = absurd (none-some y h)
-append_cases (z ∷ zs) x y zero h = inl (h, omega arith)
-append_cases (z ∷ zs) x y (suc j) h = elim (append_cases zs x y j h) [
-  | inl p ↦ inl (p.0, (let l : j < length zs = p.1 in omega arith))
-  | inr p ↦ inr (ap suc p.0, p.1)
-]
-
-take_front : {A : Type 0} (xs : List A) (x : A) (j : ℕ) → j ≤ length xs → take j (xs ++ x ∷ []) ≡ take j xs
-take_front xs x j h = take-append-le j xs (x ∷ []) h
 
 -- two names with one place are one
 same_name : (names : List (List ℕ)) (p q : List ℕ) (k : ℕ) → place_of names p ≡ Some k → place_of names q ≡ Some k → p ≡ q

@@ -8,6 +8,7 @@ use Rattle.std.proofs.lemmas.Slice.Eq.{bytes_eq-Decides}
 use Rattle.std.proofs.lemmas.Option.{same_Some, none-some, slice_get_within}
 use Rattle.moxi_terms.specs.Names.{or_else}
 use Rattle.name_maps.specs.Names.{place_of}
+use Rattle.name_maps.specs.laws.Places.{lt_more}
 
 -- the place of the first name equal to these bytes, counted from n
 abbrev pub place_from : ℕ → List (List ℕ) → List ℕ → Option ℕ
@@ -22,9 +23,6 @@ later n (Some k) = Some (n + k)
 later_zero : (o : Option ℕ) → later 0 o ≡ o
 later_zero None = refl
 later_zero (Some k) = ap Some (let e : 0 + k ≡ k = omega arith in e)
-
-lt_more : (a b : ℕ) → nat_lt (1 + a) (suc b) ≡ nat_lt a b
-lt_more a b = grind arith
 
 moved : (n k : ℕ) (c : Bool) → later (suc n) (cond c (Some k) None) ≡ later n (cond c (Some (1 + k)) None)
 moved n k true = ap Some (let e : suc n + k ≡ n + (1 + k) = omega arith in e)

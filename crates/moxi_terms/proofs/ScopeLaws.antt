@@ -33,7 +33,7 @@ all_of : {A : Type 0} (P Q : A → Type 0) (xs : List A) → ((x : A) → P x �
 all_of P Q [] f a = tt
 all_of P Q (x ∷ xs) f a = (f x a.0, all_of P Q xs f a.1)
 
-append_cases : {A : Type 0} (xs : List A) (x y : A) (j : ℕ) → slice_get (xs ++ x ∷ []) j ≡ Some y → (slice_get xs j ≡ Some y × (j < length xs)) ⊎ ((j ≡ length xs) × (x ≡ y))
+pub append_cases : {A : Type 0} (xs : List A) (x y : A) (j : ℕ) → slice_get (xs ++ x ∷ []) j ≡ Some y → (slice_get xs j ≡ Some y × (j < length xs)) ⊎ ((j ≡ length xs) × (x ≡ y))
 append_cases [] x y zero h = inr (refl, same_Some x y h)
 append_cases [] x y (suc j) h = absurd (none-some y h)
 append_cases (z ∷ zs) x y zero h = inl (h, omega arith)
@@ -42,7 +42,7 @@ append_cases (z ∷ zs) x y (suc j) h = elim (append_cases zs x y j h) [
   | inr p ↦ inr (ap suc p.0, p.1)
 ]
 
-take_front : {A : Type 0} (xs : List A) (x : A) (j : ℕ) → j ≤ length xs → take j (xs ++ x ∷ []) ≡ take j xs
+pub take_front : {A : Type 0} (xs : List A) (x : A) (j : ℕ) → j ≤ length xs → take j (xs ++ x ∷ []) ≡ take j xs
 take_front xs x j h = take-append-le j xs (x ∷ []) h
 
 functions_end : (es : List Enumeration) (fs : List PlainFunction) (f : PlainFunction) → AreFunctions es fs → IsFunction es fs f → AreFunctions es (fs ++ f ∷ [])

@@ -1,5 +1,5 @@
 -- The widths of chains, and when their lines may be put.
-use Rattle.std.proofs.Common.{◌≡◌, ℕ, suc, ◌<◌, ◌≤◌, List, [], ◌∷◌, ◌++◌, length, map, refl, ap, subst, arith}
+use Rattle.std.proofs.Common.{◌≡◌, ℕ, ◌<◌, ◌≤◌, List, [], ◌∷◌, ◌++◌, length, map, refl, subst, arith}
 use Rattle.std.specs.List.{AllByRecursion}
 use Rattle.word_core.specs.Table.{BinaryFits, binary_width}
 use Rattle.word_core.specs.declared.kinds.Binary.{Binary}
@@ -12,6 +12,8 @@ use Rattle.moxi_lines.proofs.Growing.{grown_long, grown_none, grown_then}
 use Rattle.moxi_lines.proofs.Chains.{binary_grows, chain_grows, folded_grows, paired_grows}
 use Rattle.moxi_to_btor.specs.TermPutting.{CanChain, CanCompare, CanFold, CanImply, CanImplyAll, CanPair, implied_onto}
 use Rattle.moxi_to_btor.proofs.Widths.{IsWide, binary_can, binary_wide, later_wide}
+use Rattle.moxi_layout.proofs.Chains.{paired_long}
+use Rattle.moxi_scripts.specs.laws.WholeParts.{all_append}
 
 abbrev pub AreWide : List Line → List ℕ → ℕ → Type 0
 AreWide lines ps w = AllByRecursion (λ p. IsWide lines p w) ps
@@ -26,10 +28,6 @@ later_all a b (p ∷ ps) w g h = (later_wide a b p w g h.0, later_all a b ps w g
 later_pairs : (a b : List Line) (xs : List (ℕ × ℕ)) (w : ℕ) → GrowsQuietly a b → PairsAreWide a xs w → PairsAreWide b xs w
 later_pairs a b [] w g h = tt
 later_pairs a b (x ∷ xs) w g h = ((later_wide a b x.0 w g h.0.0, later_wide a b x.1 w g h.0.1), later_pairs a b xs w g h.1)
-
-all_append : {A : Type 0} (P : A → Type 0) (xs ys : List A) → AllByRecursion P xs → AllByRecursion P ys → AllByRecursion P (xs ++ ys)
-all_append P [] ys a b = b
-all_append P (x ∷ xs) ys a b = (a.0, all_append P xs ys a.1 b)
 
 all_front : {A : Type 0} (P : A → Type 0) (xs : List A) (y : A) → AllByRecursion P (xs ++ y ∷ []) → AllByRecursion P xs × P y
 all_front P [] y a = (tt, a.0)
@@ -141,10 +139,6 @@ paired_can b w k lines (x ∷ xs) a room =
 
 and_keeps : Keeps two.And 1
 and_keeps = record { fits = refl; width = refl }
-
-paired_long : (b : Binary) (lines : List Line) (xs : List (ℕ × ℕ)) → length (paired_lines b lines xs).1 ≡ length xs
-paired_long b lines [] = refl
-paired_long b lines (x ∷ xs) = ap suc (paired_long b (with_binary b lines x.0 x.1).0 xs)
 
 pub comparison_wide : (b : Binary) (w : ℕ) → Compares b w → (lines : List Line) (xs : List (ℕ × ℕ)) → 1 ≤ length xs → PairsAreWide lines xs w → IsWide (compared_lines b lines xs).0 (compared_lines b lines xs).1 1
 comparison_wide b w k lines xs l a =

@@ -26,7 +26,7 @@ use Rattle.moxi_to_btor.specs.Putting.{CanPutFree, CanPutGiven, IsOpen, IsTruthO
 use Rattle.moxi_to_btor.specs.Queries.{CanPutAssumptions, CanPutConditions, CanPutCurrent, CanPutCurrents, CanPutLatch, CanPutNumbered, IsReady, current_lines}
 use Rattle.moxi_to_btor.proofs.Giving.{init_can, init_extends, init_gives, init_open, later_open, next_can, next_extends, next_gives, state_can, state_extends, state_open, state_place, state_wide}
 use Rattle.moxi_to_btor.proofs.PartSteps.{formula_grows, formula_wide, gate_can, gate_wide, implies_gate, setup_later}
-use Rattle.moxi_to_btor.proofs.VariableSteps.{all_made, made}
+use Rattle.moxi_to_btor.proofs.Stepping.{all_made, made}
 
 -- ---- latches
 

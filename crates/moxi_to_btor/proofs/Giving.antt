@@ -11,7 +11,7 @@ use Rattle.btor_tree.specs.declared.lines.LineOp.TheVariants as line
 use Rattle.btor_tree.specs.Fits.{IsWellFormed, Suits, greatest_id, is_init, is_next, is_state, kind_at, plain_arg, sort_at, state_value, value_for, width_at}
 use Rattle.btor_tree.specs.Sharing.{GrowsQuietly, is_shared, next_line, with_sort}
 use Rattle.btor_tree.proofs.AtPlaces.{is_kind, width_of_line}
-use Rattle.btor_tree.proofs.Alike.{pushed_quiet, pushed_sort}
+use Rattle.btor_tree.proofs.Alike.{pushed_sort}
 use Rattle.btor_tree.proofs.Grows.{slice_get_end}
 use Rattle.btor_tree.proofs.Paths.{fresh, kind_front, state_value_append}
 use Rattle.btor_tree.proofs.Widths.{sort_front, width_front}
@@ -21,9 +21,9 @@ use Rattle.moxi_lines.specs.TermLines.{Made}
 use Rattle.moxi_lines.proofs.VariableLines.{symbol_is}
 use Rattle.moxi_lines.proofs.Extending.{Extends, extends_then, quietly}
 use Rattle.moxi_to_btor.specs.Putting.{CanPutFree, CanPutGiven, CanPutTruth, IsOpen}
-
-pub sort_grows : (lines : List Line) (w : ℕ) → GrowsQuietly lines (with_sort lines w).0
-sort_grows lines w = pushed_quiet lines (line.Sort w) 0 [] None refl
+use Rattle.moxi_layout.proofs.Inits.{shared_init}
+use Rattle.moxi_layout.proofs.VariableAdditions.{sort_grows}
+use Rattle.moxi_lines.proofs.VariableLaws.{shared_next}
 
 pub input_extends : (lines : List Line) (w : ℕ) (name : List ℕ) → Extends lines (with_free lines line.Input w name).0
 input_extends lines w name = extends_then lines (with_sort lines w).0 _ (quietly lines _ (sort_grows lines w)) (record { more = _; is = refl })
@@ -63,14 +63,6 @@ state_wide lines w name low =
 pub record Gives (kind : LineOp → Bool) : Type 0 where
   pub quiet : (o : LineOp) → is_shared o ≡ true → kind o ≡ false
   pub state : kind line.State ≡ false
-
-shared_next : (o : LineOp) → is_shared o ≡ true → is_next o ≡ false
-shared_next line.Next h = absurd (cc)
-shared_next o h = refl
-
-shared_init : (o : LineOp) → is_shared o ≡ true → is_init o ≡ false
-shared_init line.Init h = absurd (cc)
-shared_init o h = refl
 
 pub next_gives : Gives is_next
 next_gives = record { quiet = shared_next; state = refl }

@@ -1,9 +1,7 @@
 -- The width of an operator's word, and when its lines may be put.
-use Rattle.std.proofs.Common.{◌≡◌, ℕ, suc, ◌+◌, ◌<◌, ◌≤◌, Bool, true, false, cond, nat_le, eqb, List, [], ◌∷◌, length, map, Option, Some, None, Ok, refl, sym, ap, ◌∙◌, subst, arith}
+use Rattle.std.proofs.Common.{◌≡◌, ℕ, suc, ◌+◌, ◌<◌, ◌≤◌, Bool, true, false, cond, nat_le, eqb, List, [], ◌∷◌, length, map, Ok, refl, sym, ap, ◌∙◌, subst, arith}
 use Rattle.std.specs.List.{AllByRecursion}
-use Rattle.std.proofs.lemmas.Bool.Decides.{nat_tests}
 use Rattle.text_core.specs.declared.place.Kind.TheVariants.{M}
-use Rattle.word_core.specs.Table.{unary_width}
 use Rattle.word_core.specs.declared.kinds.Unary.{Unary}
 use Rattle.word_core.specs.declared.kinds.Unary.TheVariants as one
 use Rattle.word_core.specs.declared.kinds.Binary.{Binary}
@@ -26,27 +24,7 @@ use Rattle.moxi_to_btor.specs.Standing.{AreAsWide, IsAsWide}
 use Rattle.moxi_to_btor.proofs.Folding.{implied_is}
 use Rattle.moxi_to_btor.proofs.Widths.{IsWide, binary_can, binary_wide, ite_can, ite_wide, signs_can, signs_wide, slice_can, slice_wide, unary_can, unary_wide, zeros_can, zeros_wide}
 use Rattle.moxi_to_btor.proofs.ChainWidths.{AreWide, Compares, Keeps, all_can, chain_can, chain_wide, compared_can, compared_wide, comparison_can, comparison_wide, implied_wide, neighbours_wide, pairs_wide}
-
-logical_is : (o : Option Sort) (s : Sort) → logical o ≡ Ok s → (o ≡ Some Truth) × (s ≡ Truth)
-logical_is None s h = absurd (cc)
-logical_is (Some Truth) s h = (refl, sym (same_ok Truth s h))
-logical_is (Some (Bits w)) s h = absurd (cc)
-logical_is (Some (Choice n)) s h = absurd (cc)
-
-compared_is : (o : Option Sort) (s : Sort) → compared o ≡ Ok s → (t : Sort) × (o ≡ Some t) × (s ≡ Truth)
-compared_is None s h = absurd (cc)
-compared_is (Some t) s h = (t, refl, sym (same_ok Truth s h))
-
-exactly : (n k : ℕ) → eqb n k ≡ true → n ≡ k
-exactly n k h = grind (arith, nat_tests)
-
-at_least : (k n : ℕ) → nat_le k n ≡ true → k ≤ n
-at_least k n h = grind (arith, nat_tests)
-
-negation_keeps : (u : Unary) (w : ℕ) → is_negation u ≡ true → unary_width u w ≡ w
-negation_keeps one.Not w h = refl
-negation_keeps one.Neg w h = refl
-negation_keeps u w h = absurd (cc)
+use Rattle.moxi_lines.proofs.Operators.{at_least, compared_is, exactly, logical_is, negation_keeps}
 
 comparison_keeps : (b : Binary) (w : ℕ) → is_comparison b ≡ true → Compares b w
 comparison_keeps two.Iff w h = absurd (cc)

@@ -46,7 +46,7 @@ variable_inside es lines vars places v s h e room =
     let l : places v < length lines = wide_inside lines (places v) _ i.wide i.width in
     omega (arith, l, room)
 
-abbrev made : List Line → ℕ → Made
+abbrev pub made : List Line → ℕ → Made
 made lines p = (lines, p)
 
 abbrev pub all_made : List Line → List ℕ → AllMade

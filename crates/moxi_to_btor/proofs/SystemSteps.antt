@@ -26,7 +26,7 @@ use Rattle.moxi_to_btor.proofs.ConditionSteps.{ready_later}
 use Rattle.moxi_to_btor.proofs.Giving.{init_can, next_can, state_can}
 use Rattle.moxi_to_btor.proofs.GoalSteps.{queries_extend}
 use Rattle.moxi_to_btor.proofs.PartSteps.{parts_extend}
-use Rattle.moxi_to_btor.proofs.VariableSteps.{all_made}
+use Rattle.moxi_to_btor.proofs.Stepping.{all_made}
 
 -- ---- codes
 

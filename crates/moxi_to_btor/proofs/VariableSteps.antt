@@ -26,15 +26,10 @@ use Rattle.moxi_lines.proofs.Extending.{Extends, extends_long, extends_none, ext
 use Rattle.moxi_lines.proofs.VariableLaws.{all_extend, sort_wide}
 use Rattle.moxi_to_btor.specs.Putting.{CanPutBelow, CanPutCode, CanPutFree, CanPutGiven, CanPutTruth, CanPutVariable, CanPutVariables, below_lines}
 use Rattle.moxi_to_btor.proofs.Giving.{free_wide, input_can, next_can, next_extends, next_gives, state_can, state_extends, state_open}
+use Rattle.moxi_to_btor.proofs.Stepping.{all_made, made}
 
 pub next_number : (xs : List ℕ) (i : ℕ) → i < length xs → drop i xs ≡ get_or xs i 0 ∷ drop (i + 1) xs
 next_number xs i h = drop-cons xs i 0 h ∙ ap (λ k. get_or xs i 0 ∷ drop k xs) (sym (add-one i))
-
-abbrev pub made : List Line → ℕ → Made
-made lines p = (lines, p)
-
-abbrev pub all_made : List Line → List ℕ → AllMade
-all_made lines ps = (lines, ps)
 
 -- the items that are left, one by one
 pub next_item : {A : Type 0} (xs : List A) (i : ℕ) (x : A) → i < length xs → x ≡ get_or xs i x → drop i xs ≡ x ∷ drop (i + 1) xs

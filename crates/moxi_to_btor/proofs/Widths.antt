@@ -9,13 +9,14 @@ use Rattle.btor_tree.specs.declared.args.Arg.{Arg}
 use Rattle.btor_tree.specs.declared.lines.Line.{Line}
 use Rattle.btor_tree.specs.declared.lines.LineOp.{LineOp}
 use Rattle.btor_tree.specs.declared.lines.LineOp.TheVariants as line
-use Rattle.btor_tree.specs.Fits.{AreEarlier, OpFits, greatest_id, has_word, plain_arg, sort_at, width_at}
+use Rattle.btor_tree.specs.Fits.{AreEarlier, greatest_id, has_word, plain_arg, sort_at, width_at}
 use Rattle.btor_tree.specs.Sharing.{GrowsQuietly, is_shared, with_sort}
 use Rattle.btor_tree.proofs.AtPlaces.{width_of_line}
 use Rattle.btor_tree.proofs.Alike.{pushed_quiet, pushed_says, pushed_sort}
 use Rattle.moxi_lines.specs.TermLines.{with_binary, with_ite, with_signs, with_slice, with_unary, with_word, with_zeros}
 use Rattle.moxi_lines.proofs.Growing.{earlier_more, grown_long, grown_sort, grown_width, wide_inside}
 use Rattle.moxi_to_btor.specs.TermPutting.{CanPut, CanPutBinary, CanPutConstant, CanPutIte, CanPutSigns, CanPutSlice, CanPutUnary, CanPutZeros}
+use Rattle.moxi_lines.proofs.Steps.{FitsLater}
 
 pub word_wide : (lines : List Line) (o : LineOp) (w : ℕ) (args : List Arg) → is_shared o ≡ true → has_word o ≡ true → 1 ≤ w
     → width_at (with_word lines o w args).0 (with_word lines o w args).1 ≡ w
@@ -26,10 +27,6 @@ word_wide lines o w args shared worded low =
     let l = says.0 in
     let sorted : sort_at m.0 s.1 ≡ w = grown_sort s.0 m.0 s.1 w low (pushed_quiet s.0 o s.1 args None shared) (pushed_sort lines w [] None) in
     ap (width_of_line m.0) says.1 ∙ ap (λ (b : LineOp). cond (has_word b) (sort_at m.0 l.sort) 0) says.2.0 ∙ ap (λ t. cond t (sort_at m.0 l.sort) 0) worded ∙ ap (sort_at m.0) says.2.1 ∙ sorted
-
--- a line fits wherever lines have grown to
-abbrev FitsLater : List Line → LineOp → ℕ → List Arg → Type 0
-FitsLater lines o w args = (ls : List Line) (s : ℕ) → GrowsQuietly lines ls → sort_at ls s ≡ w → OpFits ls s o args
 
 abbrev Room : List Line → LineOp → ℕ → List Arg → Type 0
 Room lines o w args = length (with_word lines o w args).0 < greatest_id

@@ -1,3 +1,4 @@
 pub mod KeyLaws
 mod Places
 pub mod RowLemmas
+pub mod FreshNames

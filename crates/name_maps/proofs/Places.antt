@@ -1,16 +1,14 @@
 -- Places of names, where one is put at the end.
-use Rattle.std.proofs.Common.{◌≡◌, ◌<◌, ◌+◌, ℕ, zero, suc, Bool, true, false, not, cond, nat_lt, if◌then◌else◌, List, [], ◌∷◌, ◌++◌, length, Option, Some, None, option_map, is_none, ◌⊎◌, inl, inr, refl, sym, ap, ◌∙◌, subst, arith}
-use Rattle.std.specs.List.{slice_get, position, position_or_len}
+use Rattle.std.proofs.Common.{◌≡◌, ◌+◌, ℕ, zero, suc, Bool, true, false, not, cond, nat_lt, if◌then◌else◌, List, [], ◌∷◌, ◌++◌, length, Option, Some, None, option_map, is_none, ◌⊎◌, inl, inr, refl, sym, ap, ◌∙◌, subst, arith}
+use Rattle.std.specs.List.{slice_get, position_or_len}
 use Rattle.std.specs.Str.{bytes_eq}
 use Rattle.std.proofs.lemmas.Slice.Eq.{bytes_eq-Decides}
 use Rattle.name_maps.specs.Names.{place_of}
 use Rattle.name_maps.specs.Tables.{StandOnce}
+use Rattle.name_maps.specs.laws.Places.{lt_more}
 
 first_place : (n : ℕ) → nat_lt 0 (suc n) ≡ true
 first_place n = grind arith
-
-lt_more : (a b : ℕ) → nat_lt (1 + a) (suc b) ≡ nat_lt a b
-lt_more a b = grind arith
 
 later : (n m : ℕ) → cond (nat_lt (1 + n) (suc m)) (Some (1 + n)) None ≡ option_map suc (cond (nat_lt n m) (Some n) None)
 later n m = ap (λ b. cond b (Some (1 + n)) None) (lt_more n m) ∙ by (nat_lt n m)

@@ -1,5 +1,5 @@
 -- The declarations of each instance of an accepted model differ.
-use Rattle.std.proofs.Common.{◌≡◌, ◌≢◌, ℕ, ◌+◌, Bool, true, false, not, ◌&&◌, ◌||◌, nat_le, nat_lt, List, [], ◌∷◌, ◌++◌, map, length, Some, refl, sym, ◌∙◌}
+use Rattle.std.proofs.Common.{◌≡◌, ◌≢◌, ℕ, ◌+◌, true, not, ◌&&◌, ◌||◌, nat_le, nat_lt, List, [], ◌∷◌, ◌++◌, map, length, Some, sym, ◌∙◌}
 use Rattle.std.specs.List.{AllByRecursion}
 use Rattle.std.proofs.lemmas.List.Folds.{list_all-append}
 use Rattle.smv_text.specs.Tree.{PlainModule, PlainSource}
@@ -7,16 +7,14 @@ use Rattle.smv_meaning.specs.Instances.{Instance, dotted, is_one_of, instances_o
 use Rattle.smv_meaning.specs.Checks.{Check, check, passes}
 use Rattle.smv_meaning.specs.Phases.{Declared, declared_in, declares_instance, longest_path, most_instances, item_checks, counted, declared_checks, counted_all, declaration_checks, module_checks, size_checks, later_checks, invariants_in, IsAccepted}
 use Rattle.smv_meaning.specs.laws.Booleans.{both_true}
-use Rattle.smv_accepted.proofs.Lists.{all_weaker, Lacks, AllDiffer}
+use Rattle.smv_accepted.proofs.Lists.{all_weaker}
 use Rattle.smv_accepted.proofs.Symbols.{one_of_lacks}
 use Rattle.smv_accepted.proofs.Grown.{name_of, DiffersInside}
+use Rattle.name_maps.proofs.FreshNames.{AllDiffer, Lacks}
+use Rattle.smv_laws.proofs.TypeLaws.{not_true}
 
 halves : (xs ys : List Check) → passes (xs ++ ys) ≡ true → (passes xs ≡ true) × (passes ys ≡ true)
 halves xs ys h = both_true (passes xs) (passes ys) (sym (list_all-append (λ (c : Check). c.holds) xs ys) ∙ h)
-
-not_true : (b : Bool) → not b ≡ true → b ≡ false
-not_true true h = cc
-not_true false h = refl
 
 -- a name that isn't among those seen before, with one more
 not_seen : (x : List ℕ) (seen : List (List ℕ)) (y : List ℕ) → Lacks (x ∷ seen) y → y ≢ x

@@ -8,9 +8,10 @@ use Rattle.smv_text.specs.Tree.{Trees, PlainDomain, boolean, members, between, b
 use Rattle.smv_meaning.specs.Instances.{Instance, dotted, module_named, placed, child_in, child_of, with_child, grow_items, grow_elements, grow, main_name, main_instance, grown_from, instances_of}
 use Rattle.smv_meaning.specs.Phases.{Declared, element_declares, declared_in}
 use Rattle.smv_accepted.specs.Names.{IsIdentifier}
-use Rattle.smv_accepted.proofs.Lists.{all_weaker, all_joined, all_mapped, all_unmapped, all_front, all_back, Lacks, AllDiffer, differ_joined, Within, none_left, kept, passed, within_joined, within_itself, none_within, all_within, differ_within}
+use Rattle.smv_accepted.proofs.Lists.{all_weaker, all_unmapped, differ_joined, Within, none_left, kept, passed, within_joined, within_itself, none_within, all_within, differ_within}
 use Rattle.smv_accepted.proofs.Dotted.{Tail, ended, onward, identifier_dotless, identifier_some, same_front, dotted_is, IsPath, dotted_path}
 use Rattle.smv_accepted.proofs.Spelled.{HasIdentifiers}
+use Rattle.name_maps.proofs.FreshNames.{AllDiffer, Lacks, all_back, all_front, all_joined, all_mapped}
 
 -- ---- instances in a module of which all is an identifier
 

@@ -16,12 +16,13 @@ use Rattle.smv_meaning.specs.Phases.{Declared, element_declares, declared_in, Is
 use Rattle.smv_items.specs.FlatItems.{Content, Origin, with_content, actual_content, actual_items, domain_content, variable_item, definition_item, element_items, items_here, path_of, element_symbols}
 use Rattle.smv_accepted.specs.Names.{IsIdentifier, IsDottedName}
 use Rattle.smv_accepted.specs.NameLaws.{item_names, NamesDiffer, NamesStandOnce, NamesAreWords, SymbolsAreWords}
-use Rattle.smv_accepted.proofs.Lists.{all_weaker, all_joined, all_mapped, Lacks, AllDiffer, differ_joined, differ_mapped, all_fresh, Within, none_left, kept, passed, within_joined, none_within, all_within, differ_within}
+use Rattle.smv_accepted.proofs.Lists.{all_weaker, differ_joined, differ_mapped, Within, none_left, kept, passed, within_joined, none_within, all_within, differ_within}
 use Rattle.smv_accepted.proofs.Dotted.{identifier_dotless, dotted_once, dotted_named}
 use Rattle.smv_accepted.proofs.Spelled.{tokens_named, modules_identifiers}
 use Rattle.smv_accepted.proofs.Symbols.{gathered_all, stands_once}
 use Rattle.smv_accepted.proofs.Grown.{IsWellNamed, name_of, declared_names, DiffersInside, path_at, are_instances}
 use Rattle.smv_accepted.proofs.Declared.{accepted_differ}
+use Rattle.name_maps.proofs.FreshNames.{AllDiffer, Lacks, all_fresh, all_joined, all_mapped}
 
 -- ---- the names of an instance's items are among its declarations
 

@@ -1,4 +1,3 @@
-pub mod Models
 pub mod Literals
 pub mod Lists
 pub mod Symbols
@@ -9,3 +8,4 @@ pub mod Declared
 pub mod ItemNames
 pub mod Limits
 pub mod Widths
+pub mod Fitting

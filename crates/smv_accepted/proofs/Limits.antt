@@ -20,6 +20,7 @@ use Rattle.smv_meaning.specs.Types.{ExprType, truth_type, integer_type, symbol_t
 use Rattle.smv_meaning.specs.Checks.{check, passes, Position, single, under_next, Named, Typing, on_type, all_types, on_all, both_types, front_checks, front, across, behind, branches_fit, branches_type, is_literal, typing, link_types, linked, condition_types, value_types, tree_types, variable_type}
 use Rattle.smv_meaning.specs.laws.Booleans.{both_true, two_true, absurd_bool}
 use Rattle.smv_laws.proofs.TypeLaws.{all_cons, two_tests, three_tests, six_true}
+use Rattle.smv_laws.proofs.FoundLaws.{four_true}
 
 -- ---- types
 
@@ -335,10 +336,6 @@ hull_with_ordered t (u ∷ us) h = hull_with_ordered (hull t u) us (hull_ordered
 hull_of_ordered : (us : List ExprType) → AreOrdered us → IsOrdered (hull_of us)
 hull_of_ordered [] h = tt
 hull_of_ordered (u ∷ us) h = hull_with_ordered u us h.0
-
-four_true : (a b c d : Bool) → (((a && b) && c) && d) ≡ true → (a ≡ true) × (b ≡ true) × (c ≡ true) × (d ≡ true)
-four_true a b c d h =
-    let x = both_true ((a && b) && c) d h in let y = both_true (a && b) c x.0 in let z = both_true a b y.0 in (z.0, z.1, y.1, x.1)
 
 pub variable_good : (d : PlainDomain) → IsGoodIf (variable_type d)
 variable_good boolean = (tt, refl)

@@ -25,7 +25,7 @@ use Rattle.smv_meaning.specs.Checks.{is_literal}
 use Rattle.smv_meaning.specs.Literals.{words_fit, link_words, branch_words, tree_words}
 use Rattle.smv_meaning.specs.laws.Booleans.{both_true, two_true}
 use Rattle.smv_accepted.specs.WordLaws.{WordsFit}
-use Rattle.smv_accepted.proofs.Models.{append_all, element_all, module_all, named_good}
+use Rattle.smv_width.proofs.SpelledWidths.{append_all, element_all, module_all, named_good}
 
 -- ---- tokens
 

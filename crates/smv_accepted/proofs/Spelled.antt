@@ -27,7 +27,7 @@ use Rattle.smv_meaning.specs.Phases.{Declared, element_declares, declared_in}
 use Rattle.smv_meaning.specs.laws.Booleans.{two_true}
 use Rattle.smv_items.specs.FlatItems.{member_symbols, domain_symbols, element_symbols}
 use Rattle.smv_accepted.specs.Names.{is_name_byte, IsIdentifier}
-use Rattle.smv_accepted.proofs.Lists.{all_joined, all_front, all_back, all_mapped}
+use Rattle.name_maps.proofs.FreshNames.{all_back, all_front, all_joined, all_mapped}
 
 -- ---- lexemes
 

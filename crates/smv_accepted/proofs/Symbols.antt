@@ -10,7 +10,8 @@ use Rattle.name_maps.specs.Names.{place_of}
 use Rattle.smv_meaning.specs.Instances.{Instance, is_one_of}
 use Rattle.smv_items.specs.FlatItems.{element_symbols, gathered, symbols_of}
 use Rattle.smv_accepted.specs.NameLaws.{SymbolsDiffer, SymbolsStandOnce}
-use Rattle.smv_accepted.proofs.Lists.{Lacks, AllDiffer, all_joined, differ_joined, tells_apart, apart_told, all_fresh}
+use Rattle.smv_accepted.proofs.Lists.{differ_joined, apart_told}
+use Rattle.name_maps.proofs.FreshNames.{AllDiffer, Lacks, all_fresh, all_joined, tells_apart}
 
 either_false : (a b : Bool) → (a || b) ≡ false → (a ≡ false) × (b ≡ false)
 either_false true b h = cc

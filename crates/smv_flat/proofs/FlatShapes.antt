@@ -110,7 +110,7 @@ parts_end names leaf at under xs k x l h g = record {
   types = finished (map (option_map seen) x.types.items) (map (part_type names at) xs) (part_type names at) xs k l g ∙ part_types_are names at xs;
 }
 
-or_false : (b : Bool) → (b || false) ≡ b
+pub or_false : (b : Bool) → (b || false) ≡ b
 or_false true = refl
 or_false false = refl
 

@@ -1,7 +1,5 @@
 -- What an expression whose checks hold denotes hangs on inputs and on the following state only where its position allows them.
 use Rattle.std.proofs.Common.{◌≡◌, ℕ, zero, suc, Bool, true, false, not, ◌&&◌, ◌||◌, if◌then◌else◌, List, [], ◌∷◌, ◌++◌, refl, sym, ap, ◌∙◌}
-use mathlib.Core.Logic.{inl, inr}
-use Rattle.std.specs.List.{list_any}
 use Rattle.text_core.specs.declared.place.Place.{Place}
 use Rattle.smv_text.specs.declared.tree.Path.{Path}
 use Rattle.smv_text.specs.declared.operators.Infix.{Infix}
@@ -19,9 +17,9 @@ use Rattle.smv_meaning.specs.Checks.{Position, single, under_next, Named, Typing
 use Rattle.smv_meaning.specs.Naming.{named_found, naming}
 use Rattle.smv_meaning.specs.laws.Booleans.{both_true}
 use Rattle.smv_meaning.specs.laws.Booleans.{absurd_bool}
-use Rattle.smv_laws.proofs.Cycles.{In}
 use Rattle.smv_laws.proofs.Agreeing.{denote_same}
 use Rattle.smv_laws.proofs.Typable.{split, Holds, linked_front, front_parts}
+use Rattle.smv_laws.proofs.SafeExpressions.{any_false}
 
 -- the paths that may be read have the same values
 abbrev pub SameWhere : (Path → Named) → Bool → (f h : Path → Value) → Type 0
@@ -155,19 +153,6 @@ mutual
       ∙ ap {B = Value → Bool} (λ o v. (denote h k e).permits v || o v) (permits_apart names f g h k inputs nexts s u at p q es a.1)
 
 -- ---- what reaches no input has its value whatever the label is
-
-any_false : (p : Path → Bool) (xs : List Path) → list_any p xs ≡ false → (q : Path) → In q xs → p q ≡ false
-any_false p [] h q i = absurd i
-any_false p (x ∷ xs) h q (inl s) = ap p s ∙ left_false (p x) (list_any p xs) h
-  where
-    left_false : (a b : Bool) → (a || b) ≡ false → a ≡ false
-    left_false true b k = k
-    left_false false b k = refl
-any_false p (x ∷ xs) h q (inr s) = any_false p xs (right_false (p x) (list_any p xs) h) q s
-  where
-    right_false : (a b : Bool) → (a || b) ≡ false → b ≡ false
-    right_false true b k = absurd_bool (sym k)
-    right_false false b k = k
 
 free_variable : (read other : ℕ → Path → Value) (state label more : Valuation) (x : List ℕ) (kind : VarKind) (d : PlainDomain) → is_input kind ≡ false
     → value_found read state label (variable_at x kind d) ≡ value_found other state more (variable_at x kind d)

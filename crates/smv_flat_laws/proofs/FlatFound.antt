@@ -16,6 +16,7 @@ use Rattle.smv_meaning.specs.Names.{Local, alias, body_of, variable_of, inner, n
 use Rattle.smv_meaning.specs.Phases.{over_instances}
 use Rattle.smv_items.specs.FlatItems.{Content, variable, definition, actual, Origin, with_content, actual_content, actual_items, domain_content, variable_item, definition_item, element_items, items_here, origins_of, member_symbols, domain_symbols, element_symbols, gathered, symbols_of, is_variable_as, is_body, path_of}
 use Rattle.smv_flat_laws.proofs.FlatPlaces.{first, At, first_at, first_left, first_right, any_left, any_right, none_joined, any_first}
+use Rattle.smv_laws.proofs.Cycles.{right_true}
 
 -- ---- bodies
 
@@ -37,7 +38,7 @@ is_body_of i x m = is_body m.content && (m.instance == i && bytes_eq m.name x)
 bytes_self : (x : List ℕ) → bytes_eq x x ≡ true
 bytes_self x = (bytes_eq-Decides x x).1 refl
 
-bytes_is : (x y : List ℕ) → bytes_eq x y ≡ true → x ≡ y
+pub bytes_is : (x y : List ℕ) → bytes_eq x y ≡ true → x ≡ y
 bytes_is x y h = (bytes_eq-Decides x y).0 h
 
 number_self : (i : ℕ) → (i == i) ≡ true
@@ -287,7 +288,7 @@ past_parameters j (q ∷ qs) (tree e es) x other kind d h = by (λ s. past_param
     by ih true s = here e s
     by ih false s = ih s
 
-past_definitions : (i : ℕ) (ds : List PlainDefinition) (x : List ℕ) (other : Local) (kind : VarKind) (d : PlainDomain)
+pub past_definitions : (i : ℕ) (ds : List PlainDefinition) (x : List ℕ) (other : Local) (kind : VarKind) (d : PlainDomain)
     → among_definitions i ds x other ≡ variable_of kind d → other ≡ variable_of kind d
 past_definitions i [] x other kind d h = h
 past_definitions i (c ∷ ds) x other kind d h = by (λ s. past_definitions i ds x other kind d s) (bytes_eq c.name x) h
@@ -508,13 +509,9 @@ kept x seen (y ∷ ys) h = kept x (if is_one_of seen y then seen else seen ++ y 
 bytes_swap : (x y : List ℕ) → bytes_eq y x ≡ true → bytes_eq x y ≡ true
 bytes_swap x y h = (bytes_eq-Decides x y).1 (sym ((bytes_eq-Decides y x).0 h))
 
-left_true : (a b : Bool) → a ≡ true → (a || b) ≡ true
+pub left_true : (a b : Bool) → a ≡ true → (a || b) ≡ true
 left_true true b h = refl
 left_true false b h = cc
-
-right_true : (a b : Bool) → b ≡ true → (a || b) ≡ true
-right_true true b h = refl
-right_true false b h = h
 
 any_swapped : (x : List ℕ) (ys : List (List ℕ)) → list_any (named_so x) ys ≡ true → list_any (bytes_eq x) ys ≡ true
 any_swapped x [] h = cc

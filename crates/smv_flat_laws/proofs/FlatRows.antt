@@ -176,7 +176,7 @@ variable_value t state label read v x y kind (variable k d) h e s = same_kind st
 variable_value t state label read v x y kind (definition j b) h e s = cc
 variable_value t state label read v x y kind (actual j b) h e s = cc
 
-pair_parts : (i j : ℕ) (b e : Tree) → Some (pair i b) ≡ Some (pair j e) → (i ≡ j) × (b ≡ e)
+pub pair_parts : (i j : ℕ) (b e : Tree) → Some (pair i b) ≡ Some (pair j e) → (i ≡ j) × (b ≡ e)
 pair_parts i j b e h = let s : pair i b ≡ pair j e = cc in (ap (λ (p : ℕ × Tree). p.0) s, ap (λ (p : ℕ × Tree). p.1) s)
 
 content_body : (t : List Instance) (state label : Valuation) (read : ℕ → Path → Value) (v : Value) (x : List ℕ) (c : Content) (j : ℕ) (e : Tree)

@@ -46,7 +46,7 @@ flat_value t state label following other now later r i at e =
     ∙ denote_same (row_reads t now i) (row_reads t later i) (values_in t state label i) (values_in t following other i) e []
     (λ q m. (row_values t r.acyclic state label now r.this i q, row_values t r.acyclic following other later r.next i q))
 
-not_true : (b : Bool) → not b ≡ true → b ≡ false
+pub not_true : (b : Bool) → not b ≡ true → b ≡ false
 not_true true h = absurd_bool h
 not_true false h = refl
 
@@ -167,7 +167,7 @@ assignments_same t when now later target meant value g i (a ∷ xs) c d =
     ap (λ b. b && list_all (holds_here t when target now later) (map (assignment_form t i) xs)) (assignment_same t when now later target meant value g i a s.0 u.0)
     ∙ ap (λ b. assignment_holds (meant i) (value i) when a && b) (assignments_same t when now later target meant value g i xs s.1 u.1)
 
-and_true : (b : Bool) → (b && true) ≡ b
+pub and_true : (b : Bool) → (b && true) ≡ b
 and_true true = refl
 and_true false = refl
 

@@ -112,7 +112,7 @@ pub then_dies : {A B : Type 0} {o : Reading A} {n : ℕ} (next : A → Option Pl
 then_dies next e = ap (λ o. and_then o next) e
 
 -- the pair, where the second is found
-abbrev paired : {A B : Type 0} → A → B → Option Place → List Token → Reading (A × B)
+abbrev pub paired : {A B : Type 0} → A → B → Option Place → List Token → Reading (A × B)
 paired a b k zs = found (a, b) k zs
 
 abbrev second : {A B : Type 0} → Reader B → A → Option Place → List Token → Reading (A × B)

@@ -48,7 +48,7 @@ abbrev pub Closed : List Token → Type 0
 Closed [] = Unit {0}
 Closed (x ∷ xs) = closes x.kind ≡ true
 
-abbrev no_value : Reader (Unit {0})
+abbrev pub no_value : Reader (Unit {0})
 no_value = nothing tt
 
 -- no section goes on with such a word

@@ -36,7 +36,7 @@ use Rattle.smv_flat_laws.proofs.FlatRows.{item_there}
 use Rattle.smv_judge.specs.Fits.{type_has, declared_has, item_fits, items_fit}
 use Rattle.smv_judge.specs.Labels.{first_value, given_first, first_label}
 use Rattle.smv_judge.proofs.Declared.{is_stated, IsDeclared, OriginDeclared, AllDeclared}
-use Rattle.smv_judge.proofs.Fitting.{content_fits, origin_fits, values_fit_so}
+use Rattle.smv_accepted.proofs.Fitting.{content_fits, origin_fits, values_fit_so}
 
 -- ---- one variable
 

@@ -1,4 +1,3 @@
-pub mod Fitting
 pub mod Declared
 pub mod FitLaws
 pub mod StepLaws

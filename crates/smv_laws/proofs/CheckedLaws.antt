@@ -70,7 +70,7 @@ Given t m = Unit {0}
 given_closed : (t : List Instance) → Closed (Given t)
 given_closed t = record { instances = λ i. tt; symbols = λ x. tt; circles = tt; missing = tt }
 
-four : (a b c d : Bool) → (a && (b && (c && (d && true)))) ≡ true → (((a && b) && c) && d) ≡ true
+pub four : (a b c d : Bool) → (a && (b && (c && (d && true)))) ≡ true → (((a && b) && c) && d) ≡ true
 four true true true true h = refl
 four true true true false h = absurd_bool h
 four true true false d h = absurd_bool h

@@ -25,7 +25,7 @@ same_is k m h =
 pub same_self : (k : Body) → body_same k k ≡ true
 same_self k = two_true (k.0 == k.0) (bytes_eq k.1 k.1) (eq-eqb k.0 k.0 refl) ((bytes_eq-Decides k.1 k.1).1 refl)
 
-right_true : (a b : Bool) → b ≡ true → (a || b) ≡ true
+pub right_true : (a b : Bool) → b ≡ true → (a || b) ≡ true
 right_true true b h = refl
 right_true false b h = h
 

@@ -117,7 +117,7 @@ if_lies : (b : Bool) (t : Option ExprType) (v : Value) → (b ≡ true → Lies 
 if_lies true t v h = h refl
 if_lies false t v h = tt
 
-four_true : (a b c d : Bool) → (((a && b) && c) && d) ≡ true → (a ≡ true) × (b ≡ true) × (c ≡ true) × (d ≡ true)
+pub four_true : (a b c d : Bool) → (((a && b) && c) && d) ≡ true → (a ≡ true) × (b ≡ true) × (c ≡ true) × (d ≡ true)
 four_true a b c d h =
     let x = both_true ((a && b) && c) d h in let y = both_true (a && b) c x.0 in let z = both_true a b y.0 in (z.0, z.1, y.1, x.1)
 

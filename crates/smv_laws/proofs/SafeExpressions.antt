@@ -58,7 +58,7 @@ placing t c w = all_given t (checked_at t c w)
 
 -- ---- where no input is reached, types are the same without a label
 
-any_false : (p : Path → Bool) (xs : List Path) → list_any p xs ≡ false → (q : Path) → In q xs → p q ≡ false
+pub any_false : (p : Path → Bool) (xs : List Path) → list_any p xs ≡ false → (q : Path) → In q xs → p q ≡ false
 any_false p [] h q i = absurd i
 any_false p (x ∷ xs) h q (inl s) = ap p s ∙ left_false (p x) (list_any p xs) h
   where

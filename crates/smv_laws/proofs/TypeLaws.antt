@@ -84,7 +84,7 @@ pub numbers_are : (f g : Path → Value) (es : Trees) → NumbersAre (numbers_of
 numbers_are f g no_trees = tt
 numbers_are f g (tree e es) = (number_is f g e, numbers_are f g es)
 
-not_true : (b : Bool) → not b ≡ true → b ≡ false
+pub not_true : (b : Bool) → not b ≡ true → b ≡ false
 not_true true h = cc
 not_true false h = refl
 

@@ -1,4 +1,3 @@
-pub mod Lists
 pub mod Above
 pub mod DeclaringLemmas
 pub mod Walks

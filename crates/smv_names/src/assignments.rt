@@ -164,7 +164,7 @@ fn add_elements<'a>(
 }
 
 // The assignments of a model: instances in preorder, in each in the order of the text.
-#[tactic(auto, using(crate::proofs::Lists::front_is, crate::proofs::Lists::end_is, crate::proofs::PathLemmas::joined))]
+#[tactic(auto, using(smv_meaning::specs::laws::Lists::front_is, smv_meaning::specs::laws::Lists::end_is, crate::proofs::PathLemmas::joined))]
 fn assignments_in<'a>(alloc: Global, table: &Table<'a>) -> Result<Vec<Assignment<'a>>, NoMemory>
     ensures { IfOk result (λ list. map (assigned_plain table.now) list.items ≡ over_instances (λ i at. flat_map (element_assigns (found_in (map instance_plain table.now)) i) at.module.elements) 0 (map instance_plain table.now)) }
 {

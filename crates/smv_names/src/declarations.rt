@@ -42,7 +42,7 @@ fn is_above(above: &[&[u8]], name: &[u8]) -> bool
 }
 
 // The module of an instance must exist, must not contain itself, and must take this number of actuals.
-#[tactic(auto, using(crate::specs::laws::Composing::trees_length))]
+#[tactic(auto, using(smv_instances::specs::laws::NameLemmas::trees_length))]
 fn item_failing(modules: &DeclaredModules, above: &[&[u8]], item: &Item) -> Option<Refusal>
     ensures { result ≡ first_failing (item_checks (map plain_module modules.now) (names_above above.now) (Some (plain_item item.now))) }
 {
@@ -138,7 +138,7 @@ fn stands_at(place: Option<usize>, k: usize) -> bool
 ///
 /// `above` are the names of the enclosing modules, `path` is the path of the instance, and `met` the number of
 /// instances before.
-#[tactic(auto, using(crate::proofs::Lists::front_is, crate::proofs::Lists::end_is))]
+#[tactic(auto, using(smv_meaning::specs::laws::Lists::front_is, smv_meaning::specs::laws::Lists::end_is))]
 pub(crate) fn declared_checked<'a>(
     modules: &DeclaredModules<'a>,
     above: &[&'a [u8]],

@@ -81,7 +81,7 @@ impl<'a> DeclaredModule<'a> {
 }
 
 // The place of the first declaration whose name was declared before.
-#[tactic(auto, using(crate::proofs::Lists::front_is, crate::proofs::Lists::end_is))]
+#[tactic(auto, using(smv_meaning::specs::laws::Lists::front_is, smv_meaning::specs::laws::Lists::end_is))]
 fn place_twice(alloc: Global, list: &[Declaration]) -> Result<Option<usize>, NoMemory>
     ensures { IfOk result (λ place. place ≡ first_twice 0 [] (map declared_plain list.now)) }
 {

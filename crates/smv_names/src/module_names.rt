@@ -15,7 +15,7 @@ use text_core::kinds::smv;
 use text_core::{Place, Refusal};
 
 // Module names must be distinct.
-#[tactic(auto, using(crate::proofs::Lists::front_is, crate::proofs::Lists::end_is))]
+#[tactic(auto, using(smv_meaning::specs::laws::Lists::front_is, smv_meaning::specs::laws::Lists::end_is))]
 fn names_checked(alloc: Global, modules: &Modules) -> Result<(), NamesEnd>
     ensures { Settles result (name_checks [] (map plain_module modules.now)) }
 {

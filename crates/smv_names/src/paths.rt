@@ -145,7 +145,7 @@ fn instance_checked<'a>(
 /// Checks that each path of an instantiated module has a target.
 ///
 /// Otherwise `Err` is S14 at the first path that has none.
-#[tactic(auto, using(crate::proofs::Lists::front_is, crate::proofs::Lists::end_is, crate::specs::laws::Composing::goes, crate::specs::laws::Composing::ends))]
+#[tactic(auto, using(smv_meaning::specs::laws::Lists::front_is, smv_meaning::specs::laws::Lists::end_is, crate::specs::laws::Composing::goes, crate::specs::laws::Composing::ends))]
 pub fn paths_checked<'a>(alloc: Global, table: &Table<'a>) -> Result<(), NamesEnd>
     ensures { Settles result (over_instances (path_checks (found_in (map instance_plain table.now))) 0 (map instance_plain table.now)) }
 {

@@ -22,7 +22,7 @@ use Rattle.smv_expressions.specs.Following.{Finds, Misses}
 use Rattle.smv_grammar.specs.Reading as reading
 use Rattle.smv_grammar.specs.Rules.{sign, word, number, number_of, name, name_of, mark, behind, listed}
 use Rattle.smv_grammar.proofs.Choices.{PickLaw, Unpicked, one_reads, one_dies, one_ends, either_picks}
-use Rattle.smv_grammar.proofs.Lawful.{Lawful, then_reads, then_dies, both_dies_first}
+use Rattle.smv_grammar.proofs.Lawful.{Lawful, then_reads, then_dies, both_dies_first, paired}
 use Rattle.smv_grammar.proofs.Loops.{loop_ends, loop_steps}
 use Rattle.smv_grammar.proofs.Mapped.{mapped_dies}
 use Rattle.smv_grammar.proofs.Tokens.{sign_is, word_is}
@@ -160,9 +160,6 @@ onto vs (died n) = died n
 
 abbrev pub closed_by : {A : Type 0} → Sign → Reading (List A) → Reading (List A)
 closed_by s o = and_then o (λ vs g zs. and_then (sign s g zs) (λ u k ws. found vs k ws))
-
-abbrev paired : {A B : Type 0} → A → B → Option Place → List Token → Reading (A × B)
-paired a b k zs = found (a, b) k zs
 
 abbrev joined : {A : Type 0} → A × (List A × (Unit {0} × Place)) → Option Place → List Token → Reading (List A)
 joined q g ys = found (q.0 ∷ q.1.0) g ys

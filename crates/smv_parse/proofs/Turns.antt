@@ -13,8 +13,7 @@ use Rattle.smv_text.specs.declared.tree.Member.TheVariants.{Symbol, Integer}
 use Rattle.smv_text.specs.declared.tree.Path.{Path}
 use Rattle.smv_text.specs.declared.tree.VarKind.{VarKind}
 use Rattle.smv_text.specs.declared.tree.When.{When}
-use Rattle.smv_text.specs.declared.tree.When.TheVariants.{Always}
-use Rattle.smv_text.specs.Tree.{PlainDomain, PlainAssignment, PlainElement}
+use Rattle.smv_text.specs.Tree.{PlainDomain, PlainElement}
 use Rattle.smv_text.specs.Tree.{Tree}
 use Rattle.smv_parse.specs.Answers.{first_is, is_name, begins_target, begins_section}
 use Rattle.smv_grammar.specs.Marks.{is_word}
@@ -25,6 +24,8 @@ use Rattle.smv_grammar.proofs.Choices.{Unpicked, either_picks, either_passes, on
 use Rattle.smv_grammar.proofs.Lawful.{found_same, not_both, died_count, both_reads, both_dies, both_dies_first}
 use Rattle.smv_parse.proofs.Leads.{after_found, word_found, not_first, not_first_word}
 use Rattle.smv_grammar.proofs.Mapped.{mapped_reads, mapped_dies}
+use Rattle.smv_grammar.proofs.Modules.{no_value}
+use Rattle.smv_grammar.proofs.Sections.{always_of, assignment_of}
 
 -- by a name
 pub name_ends : (h : Option Place) → name h [] ≡ died 0
@@ -121,9 +122,6 @@ bracketed_some {A} r h xs rest e d = bracketed_opens r h xs rest e ∙ either_pa
     go [] f = tt
     go (z ∷ zs) f = ap (λ b. cond b (Some (nothing {A = List A} [])) None) (not_first signs.Close z zs f)
 
-abbrev pub always_of : Path → When × Path
-always_of q = (Always, q)
-
 -- the left side of an assignment
 pub target_first : (w : Reserved) (r : Reader (When × Path)) → ((p : Place) → target_pick (kind.Reserved w) p ≡ Some r) → (h : Option Place) (xs rest : List Token) → after_word w xs ≡ Some rest
     → either target_pick fail h xs ≡ r h rest
@@ -153,9 +151,6 @@ target_path h (x ∷ xs) i n = go x.kind refl (not_first_word words.Initial x xs
     go (kind.Ident m) e a b = taken _ (ap (λ k. path_pick k x.place) e) (ap (λ k. target_pick k x.place) e)
     go (kind.Reserved words.Itself) e a b = taken _ (ap (λ k. path_pick k x.place) e) (ap (λ k. target_pick k x.place) e)
     go _ e a b = passed (ap (λ k. path_pick k x.place) e) (ap (λ k. target_pick k x.place) e)
-
-abbrev pub assignment_of : (When × Path) × Tree → PlainAssignment
-assignment_of q = record { when = q.0.0; target = q.0.1; body = q.1 }
 
 -- an assignment is its left side and what is assigned
 pub assignment_reads : (h g k : Option Place) (xs ys zs : List Token) (a : When × Path) (t : Tree) → either target_pick fail h xs ≡ found a g ys → body g ys ≡ found t k zs → either assignment_pick fail h xs ≡ found (assignment_of (a, t)) k zs
@@ -194,9 +189,6 @@ unfolding optional
 optional_taken h xs rest e =
     let f = after_found signs.Semicolon xs rest e in
     ap (either (behind signs.Semicolon (nothing tt)) (nothing tt) h) f.1 ∙ either_picks (behind signs.Semicolon (nothing tt)) (nothing tt) h f.0 rest (nothing tt) (ap (λ k. behind signs.Semicolon (nothing tt) k f.0.place) f.2)
-
-abbrev no_value : Reader (Unit {0})
-no_value = nothing tt
 
 pub optional_passed : (h : Option Place) (xs : List Token) → after signs.Semicolon xs ≡ None → optional h xs ≡ found tt h xs
 unfolding optional

@@ -1,6 +1,6 @@
 -- Applications whose arguments have their sorts can stand where nothing has an operator's name.
 use Rattle.std.proofs.Common.{◌≡◌, ℕ, zero, suc, ◌+◌, ◌-◌, ◌^◌, ◌<◌, ◌≤◌, Bool, true, false, cond, nat_le, nat_lt, ◌==◌, ◌&&◌, if◌then◌else◌, ℤ, pos, negsuc, List, [], ◌∷◌, length, Option, Some, None, Ok, Err, option_map, refl, ap, ◌∙◌, subst, arith}
-use Rattle.std.proofs.lemmas.Bool.{eqb-true, eq-eqb, lt-ltb, le-leb, ltb-true, ltb-false}
+use Rattle.std.proofs.lemmas.Bool.{eqb-true, lt-ltb, le-leb, ltb-true, ltb-false}
 use Rattle.std.proofs.lemmas.Nat.{pow_pos}
 use Rattle.std.proofs.Math.Nat.{mod-lt}
 use Rattle.std.specs.List.{list_all}
@@ -11,7 +11,7 @@ use Rattle.word_core.specs.declared.kinds.Binary.{Binary}
 use Rattle.word_core.specs.declared.kinds.Binary.TheVariants as OnWords
 use Rattle.smv_meaning.specs.laws.Booleans.{both_true, two_true, absurd_bool}
 use Rattle.moxi_terms.specs.declared.data.Sort.{Sort}
-use Rattle.moxi_terms.specs.declared.data.Sort.TheVariants.{Truth, Bits, Choice}
+use Rattle.moxi_terms.specs.declared.data.Sort.TheVariants.{Truth, Bits}
 use Rattle.moxi_terms.specs.declared.data.Datum.TheVariants as datum
 use Rattle.moxi_terms.specs.declared.data.TermOp.{TermOp}
 use Rattle.moxi_terms.specs.declared.data.TermOp.TheVariants as op
@@ -20,7 +20,7 @@ use Rattle.moxi_terms.specs.declared.term.Enumeration.{Enumeration}
 use Rattle.moxi_terms.specs.declared.names.Head.TheVariants as heads
 use Rattle.moxi_terms.specs.Words.{operators, operator_named}
 use Rattle.moxi_terms.specs.Meanings.{head_named}
-use Rattle.moxi_terms.specs.Sorts.{same_sort, common, count_fits, is_chain, logical, compared, chosen, calculated, fitting, op_sort}
+use Rattle.moxi_terms.specs.Sorts.{same_sort, common, count_fits, logical, compared, chosen, calculated, fitting, op_sort}
 use Rattle.moxi_terms.specs.Tree.{Tree, constant, apply, Trees, no_trees, tree}
 use Rattle.moxi_term_reading.specs.declared.locals.Local.{Local}
 use Rattle.moxi_term_reading.specs.Reading.{Context}
@@ -28,18 +28,9 @@ use Rattle.moxi_term_print.specs.Terms.{operator_word, binary_word}
 use Rattle.moxi_term_print.specs.Standing.{Stands, StandEach, StandsOperator}
 use Rattle.smv_script.specs.Codes.{integer_bits}
 use Rattle.smv_script.specs.Operators.{one, two, word_term, integer_term, equal_term, choice_term, words_term, any_term, not_term, extended_term, selected_term, resized_term, repeated, between_term}
+use Rattle.moxi_term_print.proofs.SortedTerms.{copies, counted, same_self, two_fit}
 
 -- ---- sorts of applications
-
-pub same_self : (s : Sort) → same_sort s s ≡ true
-same_self Truth = refl
-same_self (Bits w) = eq-eqb w w refl
-same_self (Choice n) = eq-eqb n n refl
-
--- as many times as there are terms
-abbrev pub copies : Sort → Trees → List Sort
-copies s no_trees = []
-copies s (tree t ts) = s ∷ copies s ts
 
 all_same : (s : Sort) (ts : Trees) → list_all (same_sort s) (copies s ts) ≡ true
 all_same s no_trees = refl
@@ -50,16 +41,6 @@ common_copies s ts = ap (λ b. cond b (Some s) None) (all_same s ts)
 
 pub common_two : (s : Sort) → common (s ∷ s ∷ []) ≡ Some s
 common_two s = ap (λ b. cond b (Some s) None) (two_true (same_sort s s) true (same_self s) refl)
-
-pub counted : (o : TermOp) (ss : List Sort) (z : Sort) → count_fits o (length ss) ≡ true → fitting o ss ≡ Ok z → op_sort o ss ≡ Ok z
-counted o ss z c f = ap (λ b. if b then fitting o ss else Err (M 12)) c ∙ f
-
-two_fit : (b : Binary) → count_fits (op.BvBinary b) 2 ≡ true
-two_fit b = by (is_chain b)
-  where
-    by : (t : Bool) → (if t then nat_le 2 2 else (2 == 2)) ≡ true
-    by true = refl
-    by false = refl
 
 pub words_sort : (b : Binary) (m : ℕ) (z : Sort) → calculated b (Some (Bits m)) ≡ Ok z → op_sort (op.BvBinary b) (Bits m ∷ Bits m ∷ []) ≡ Ok z
 words_sort b m z e = counted (op.BvBinary b) (Bits m ∷ Bits m ∷ []) z (two_fit b) (ap (calculated b) (common_two (Bits m)) ∙ e)

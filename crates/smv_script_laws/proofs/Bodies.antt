@@ -24,13 +24,13 @@ use Rattle.smv_laws.proofs.Cycles.{in_left, in_right}
 use Rattle.smv_laws.proofs.Agreeing.{more_paths, paths_before}
 use Rattle.smv_laws.proofs.FoundLaws.{there}
 use Rattle.smv_laws.proofs.Typable.{split}
-use Rattle.smv_laws.proofs.CheckedLaws.{Lead, Placed, Checked}
+use Rattle.smv_laws.proofs.CheckedLaws.{Lead, Placed, Checked, four}
 use Rattle.smv_items.specs.FlatItems.{Content, variable, definition, actual, Origin, with_content, actual_content, actual_items, domain_content, variable_item, definition_item, element_items, items_here, origins_of}
 use Rattle.smv_flat.specs.FlatForms.{Form, content_form, body_forms, element_forms, forms_here, forms_from, forms_of}
 use Rattle.smv_flat_laws.proofs.FlatRows.{AllFrom}
 use Rattle.smv_width.specs.FlatWidth.{tree_width, forms_width}
 use Rattle.smv_width.specs.SourceWidth.{has_operators}
-use Rattle.smv_script_laws.proofs.Fitting.{IsRest, rest_more, rest_first, rest_all}
+use Rattle.smv_accepted.proofs.Fitting.{IsRest, rest_more, rest_first, rest_all}
 
 -- ---- lists
 
@@ -65,13 +65,6 @@ IsGood t (actual j e) = IsBody t j e
 
 abbrev pub OriginIsGood : List Instance → Origin → Type 0
 OriginIsGood t m = IsGood t m.content
-
-four : (a b c d : Bool) → (a && (b && (c && (d && true)))) ≡ true → (((a && b) && c) && d) ≡ true
-four true true true true h = refl
-four true true true false h = absurd_bool h
-four true true false d h = absurd_bool h
-four true false c d h = absurd_bool h
-four false b c d h = absurd_bool h
 
 if_type : (b : Bool) (d : PlainDomain) → b ≡ true → HasType (domain_type d) → HasType (if b then domain_type d else None)
 if_type true d b h = h

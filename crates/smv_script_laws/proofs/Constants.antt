@@ -24,18 +24,19 @@ use Rattle.moxi_term_reading.specs.Answer.{locals_of}
 use Rattle.moxi_term_print.specs.Terms.{name_at, constant_name, variable_names}
 use Rattle.moxi_term_print.specs.Standing.{Stands}
 use Rattle.moxi_term_print.specs.laws.StandingPlaces.{place_front}
-use Rattle.smv_accepted.proofs.Lists.{AllDiffer, all_made, differ_mapped}
+use Rattle.smv_accepted.proofs.Lists.{differ_mapped}
 use Rattle.smv_accepted.proofs.Symbols.{symbols_stand_once_law}
 use Rattle.smv_script.specs.Script.{symbol_sort}
 use Rattle.smv_script_laws.specs.LetNames.{AreLetNames}
 use Rattle.smv_script_laws.proofs.Applied.{ctx}
 use Rattle.smv_script_laws.proofs.Bounds.{past_lets}
 use Rattle.smv_script_laws.proofs.SortedVariables.{IsFree, differ_by, value_or, no_variable, weaker}
+use Rattle.name_maps.proofs.FreshNames.{AllDiffer, all_made}
 
 abbrev pub constant_of : List ℕ → List ℕ
 constant_of s = codes "c." ++ s
 
-some_inj : {X : Type 0} (a b : X) → Some a ≡ Some b → a ≡ b
+pub some_inj : {X : Type 0} (a b : X) → Some a ≡ Some b → a ≡ b
 some_inj a b h = cc
 
 place_mapped : (xs : List (List ℕ)) (s : List ℕ) → place_of (map constant_of xs) (constant_of s) ≡ place_of xs s

@@ -6,17 +6,14 @@ use Rattle.smv_text.specs.declared.tree.Parameter.{Parameter}
 use Rattle.smv_text.specs.declared.tree.VarKind.{VarKind}
 use Rattle.smv_text.specs.declared.tree.Member.{Member}
 use Rattle.smv_text.specs.declared.tree.Member.TheVariants as OfMember
-use Rattle.smv_text.specs.Tree.{Tree, truth, number, literal, name, prefix, chain, choice, cases, select, call, next, set, range, Trees, no_trees, tree, PlainDomain, boolean, members, between, bits, instance, PlainItem, PlainDefinition, PlainElement, vars, defines, constants, assigns, init, trans, invar, spec}
+use Rattle.smv_text.specs.Tree.{Tree, truth, number, literal, name, prefix, chain, choice, cases, select, call, next, set, range, Trees, no_trees, tree, PlainDomain, boolean, members, between, bits, instance, PlainItem, PlainElement, vars, defines, constants, assigns, init, trans, invar, spec}
 use Rattle.smv_meaning.specs.Instances.{Instance}
-use Rattle.smv_meaning.specs.Names.{Local, body_of, variable_of, of_actual, of_domain, among_items, among_definitions, among_elements, among_parameters, parent_of, local_in, local, has_symbol, instance_has, element_has, item_has, domain_has, is_symbol}
+use Rattle.smv_meaning.specs.Names.{Local, variable_of, of_actual, of_domain, among_items, among_elements, among_parameters, parent_of, local_in, local, has_symbol, instance_has, element_has, item_has, domain_has, is_symbol}
 use Rattle.name_maps.specs.Names.{place_of}
 use Rattle.smv_laws.proofs.Cycles.{In, in_any, in_right, flat_in}
 use Rattle.smv_laws.proofs.Ranked.{over_in}
 use Rattle.smv_items.specs.FlatItems.{variable, Origin, with_content, domain_content, variable_item, element_items, actual_items, items_here, origins_of, symbols_of}
-use Rattle.smv_flat_laws.proofs.FlatFound.{symbol_at}
-
-bytes_is : (x y : List ℕ) → bytes_eq x y ≡ true → x ≡ y
-bytes_is x y h = (bytes_eq-Decides x y).0 h
+use Rattle.smv_flat_laws.proofs.FlatFound.{symbol_at, bytes_is, past_definitions}
 
 -- an item of this name and domain, among variables of this kind
 pub record IsDeclared (es : List PlainElement) (x : List ℕ) (kind : VarKind) (d : PlainDomain) : Type 0 where
@@ -52,16 +49,6 @@ past_parameters j (q ∷ qs) (tree e es) x other kind d h = by (λ s. past_param
     by : (among_parameters j qs es x other ≡ variable_of kind d → other ≡ variable_of kind d) → (b : Bool)
         → (if b then of_actual j e else among_parameters j qs es x other) ≡ variable_of kind d → other ≡ variable_of kind d
     by ih true s = here e s
-    by ih false s = ih s
-
-past_definitions : (i : ℕ) (ds : List PlainDefinition) (x : List ℕ) (other : Local) (kind : VarKind) (d : PlainDomain)
-    → among_definitions i ds x other ≡ variable_of kind d → other ≡ variable_of kind d
-past_definitions i [] x other kind d h = h
-past_definitions i (c ∷ ds) x other kind d h = by (λ s. past_definitions i ds x other kind d s) (bytes_eq c.name x) h
-  where
-    by : (among_definitions i ds x other ≡ variable_of kind d → other ≡ variable_of kind d) → (b : Bool)
-        → (if b then body_of i c.body else among_definitions i ds x other) ≡ variable_of kind d → other ≡ variable_of kind d
-    by ih true s = cc
     by ih false s = ih s
 
 domain_is : (kind k : VarKind) (c d : PlainDomain) → of_domain kind c ≡ variable_of k d → (kind ≡ k) × (c ≡ d)

@@ -34,7 +34,7 @@ use Rattle.smv_script_laws.specs.TermLaws.{IsDatum}
 use Rattle.smv_script_laws.proofs.ValueLaws.{data_come_back_law}
 use Rattle.smv_script_laws.specs.Decoding.{is_of_state, is_of_label, decoded_state, decoded_label}
 use Rattle.smv_script_laws.specs.EnvironmentLaws.{SuitsSystem, ItemsHold, IsEnvironmentOfDecoded}
-use Rattle.smv_script_laws.proofs.Fitting.{content_fits, origin_fits, values_fit_so}
+use Rattle.smv_accepted.proofs.Fitting.{content_fits, origin_fits, values_fit_so}
 use Rattle.smv_script_laws.proofs.Symbols.{symbol_there}
 use Rattle.smv_script_laws.proofs.Givens.{given_item}
 use Rattle.smv_script_laws.proofs.Domains.{datum_is, datum_kind, kind_known, of_domain}

@@ -24,8 +24,9 @@ use Rattle.smv_meaning.specs.Runs.{label_fits}
 use Rattle.smv_meaning.specs.laws.Booleans.{both_true, two_true, absurd_bool}
 use Rattle.smv_items.specs.FlatItems.{Content, variable, definition, actual, Origin, origins_of, path_of, content_type}
 use Rattle.smv_accepted.specs.NameLaws.{item_names}
-use Rattle.smv_script_laws.proofs.Fitting.{content_fits, origin_fits, values_fit_so}
+use Rattle.smv_accepted.proofs.Fitting.{content_fits, origin_fits, values_fit_so}
 use Rattle.smv_script_laws.proofs.Models.{Model, item_typed}
+use Rattle.smv_flat_laws.proofs.FlatFound.{left_true}
 
 -- ---- a value of each declared type
 
@@ -47,10 +48,6 @@ self_le z = by (int_le z z) refl
     by : (b : Bool) → int_le z z ≡ b → b ≡ true
     by true e = refl
     by false e = absurd (omega (arith, ints))
-
-left_true : (a b : Bool) → a ≡ true → (a || b) ≡ true
-left_true true b h = refl
-left_true false b h = cc
 
 member_itself : (m : Member) → value_same (member_value m) (member_value m) ≡ true
 member_itself (OfMember.Symbol s) = (bytes_eq-Decides s s).1 refl

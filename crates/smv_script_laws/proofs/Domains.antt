@@ -50,7 +50,8 @@ use Rattle.smv_script_laws.specs.Kinds.{IsKnown, IsOfKind}
 use Rattle.smv_script_laws.specs.TermLaws.{IsDatum, StandOnce}
 use Rattle.smv_script_laws.proofs.Integers.{bits_below, signed_back}
 use Rattle.smv_script_laws.proofs.Rows.{equal_row}
-use Rattle.smv_script_laws.proofs.Parts.{held_wider, known_kind, and_true, any_of, any_value}
+use Rattle.smv_script_laws.proofs.Parts.{held_wider, known_kind, any_of, any_value}
+use Rattle.smv_flat_laws.proofs.FlatTruths.{and_true}
 
 -- ---- sorts
 

@@ -33,7 +33,7 @@ use Rattle.smv_flat.specs.declared.forms.Role.TheVariants.{Body, Assign}
 use Rattle.smv_flat.specs.FlatForms.{Form, flat_in, content_form, body_forms, number_or_first, assignment_form, element_forms, forms_here, forms_from}
 use Rattle.smv_flat_laws.proofs.FlatTruths.{all_parts, assignable, assigned_here}
 use Rattle.smv_width.specs.SourceWidth.{expression_width, has_operators, greatest, element_widths, actual_width, actual_widths, instance_widths}
-use Rattle.smv_script_laws.proofs.Lists.{all_joined}
+use Rattle.smv_script_laws.proofs.Bodies.{all_joined}
 
 -- ---- small facts
 

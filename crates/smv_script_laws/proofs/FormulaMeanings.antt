@@ -38,7 +38,8 @@ use Rattle.smv_script_laws.proofs.ValueLaws.{terms_have_values_law}
 use Rattle.smv_script_laws.specs.Parts.{FormsHold}
 use Rattle.smv_script_laws.proofs.Forms.{Ready, Target, RoleGood, FormGood}
 use Rattle.smv_script_laws.proofs.Targets.{target_stands}
-use Rattle.smv_script_laws.proofs.Lists.{all_joined, all_at, all_of}
+use Rattle.smv_script_laws.proofs.Lists.{all_at, all_of}
+use Rattle.smv_script_laws.proofs.Bodies.{all_joined}
 
 truth_datum : (width : ℕ) (symbols : List (List ℕ)) (v : Value) → IsOfKind width symbols truth_type v → datum_of width symbols v ≡ datum.Truth (is_true v)
 truth_datum width symbols (Truth b) h = refl

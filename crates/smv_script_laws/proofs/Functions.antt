@@ -32,7 +32,8 @@ use Rattle.smv_script.specs.Codes.{integer_bits, integer_word, datum_of}
 use Rattle.smv_script.specs.Operators.{Arguments, one, words_term, integer_term, is_below, choice_term, counted_term, counted_terms, sum_term, extended_term, selected_term, resized_term, function_term}
 use Rattle.smv_script_laws.specs.Kinds.{IsOfKind}
 use Rattle.smv_script_laws.proofs.Integers.{bits_sum, bits_negated, signed_back}
-use Rattle.smv_script_laws.proofs.Rows.{pick_true}
+use Rattle.smv_flat_laws.proofs.FlatTruths.{and_true}
+use Rattle.smv_script_laws.proofs.Integers.{pick_true}
 
 -- ---- what a `let` binds
 
@@ -53,11 +54,7 @@ bit_is : (b : Bool) → (bit_of b == 1) ≡ b
 bit_is true = refl
 bit_is false = refl
 
-and_true : (b : Bool) → (b && true) ≡ b
-and_true true = refl
-and_true false = refl
-
-pick_false : {X : Type 0} (b : Bool) (x y : X) → b ≡ false → (if b then x else y) ≡ y
+pub pick_false : {X : Type 0} (b : Bool) (x y : X) → b ≡ false → (if b then x else y) ≡ y
 pick_false b x y e = ap (λ c. if c then x else y) e
 
 -- ---- words

@@ -21,11 +21,11 @@ use Rattle.smv_meaning.specs.Checks.{Position, Named, typing, variable_type}
 use Rattle.smv_meaning.specs.Naming.{in_body, named_found, naming, typed_variable}
 use Rattle.smv_meaning.specs.Settled.{types_in}
 use Rattle.smv_meaning.specs.Typed.{Lies}
-use Rattle.smv_meaning.specs.laws.Booleans.{both_true, absurd_bool}
+use Rattle.smv_meaning.specs.laws.Booleans.{absurd_bool}
 use Rattle.smv_laws.proofs.OperatorLaws.{width_of}
 use Rattle.smv_laws.proofs.TypeLaws.{NamesLie, fine}
 use Rattle.smv_laws.proofs.Cycles.{In}
-use Rattle.smv_laws.proofs.FoundLaws.{of_type_lies}
+use Rattle.smv_laws.proofs.FoundLaws.{of_type_lies, four_true}
 use Rattle.smv_items.specs.FlatItems.{symbols_of}
 use Rattle.smv_flat_laws.proofs.FlatFound.{Home, home_found}
 use Rattle.smv_script_laws.specs.Kinds.{IsKnown}
@@ -52,10 +52,6 @@ same_self (OfMember.Integer z) = by (int_le z z) refl
     by : (b : Bool) → int_le z z ≡ b → (b && b) ≡ true
     by true e = refl
     by false e = absurd (omega (arith, ints))
-
-four_true : (a b c d : Bool) → (((a && b) && c) && d) ≡ true → (a ≡ true) × (b ≡ true) × (c ≡ true) × (d ≡ true)
-four_true a b c d h =
-    let x = both_true ((a && b) && c) d h in let y = both_true (a && b) c x.0 in let z = both_true a b y.0 in (z.0, z.1, y.1, x.1)
 
 pub domain_value : (symbols : List (List ℕ)) (d : PlainDomain) → ((ms : List Member) (s : List ℕ) → d ≡ members ms → In (OfMember.Symbol s) ms → IsKnown symbols (Symbol s)) → HasValue symbols (variable_type d)
 domain_value symbols boolean h = record { value = Truth false; lies = tt; known = tt }

@@ -86,7 +86,7 @@ half : (w : ℕ) → 1 ≤ w → 2 ^ w ≡ 2 ^ (w - 1) + 2 ^ (w - 1)
 half zero h = absurd (omega arith)
 half (suc w) h = two-pow-succ w ∙ ap (λ v. 2 ^ v + 2 ^ v) (omega arith)
 
-pick_true : {X : Type 0} (b : Bool) (x y : X) → b ≡ true → (if b then x else y) ≡ x
+pub pick_true : {X : Type 0} (b : Bool) (x y : X) → b ≡ true → (if b then x else y) ≡ x
 pick_true b x y e = ap (λ c. if c then x else y) e
 
 pick_false : {X : Type 0} (b : Bool) (x y : X) → b ≡ false → (if b then x else y) ≡ y

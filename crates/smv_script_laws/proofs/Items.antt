@@ -30,12 +30,13 @@ use Rattle.smv_script_laws.specs.TermLaws.{HasRow}
 use Rattle.smv_script_laws.proofs.Rows.{same_codes}
 use Rattle.smv_script_laws.specs.Parts.{ItemsHold}
 use Rattle.smv_script_laws.proofs.Forms.{RoleGood, FormGood}
-use Rattle.smv_script_laws.proofs.Lists.{all_joined}
 use Rattle.smv_script_laws.proofs.FormulaMeanings.{form_says}
-use Rattle.smv_script_laws.proofs.Members.{same_self, and_true, domain_holds}
+use Rattle.smv_script_laws.proofs.Members.{same_self, domain_holds}
 use Rattle.smv_script_laws.proofs.Premises.{Known}
 use Rattle.smv_script_laws.proofs.Targets.{index_below, item_width, origin_there, is_variable, variable_fits_at, variable_kind}
 use Rattle.smv_script_laws.proofs.Variables.{Fits}
+use Rattle.smv_flat_laws.proofs.FlatTruths.{and_true}
+use Rattle.smv_script_laws.proofs.Bodies.{all_joined}
 
 -- ---- in each state
 

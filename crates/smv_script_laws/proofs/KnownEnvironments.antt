@@ -28,7 +28,7 @@ use Rattle.smv_flat_laws.proofs.FlatFound.{both, variable_at_item, Home, home_fo
 use Rattle.smv_script_laws.specs.Kinds.{IsKnown, IsOfKind}
 use Rattle.smv_script_laws.proofs.Known.{known_value}
 use Rattle.smv_script_laws.proofs.Parts.{known_kind}
-use Rattle.smv_script_laws.proofs.Fitting.{content_fits, origin_fits, values_fit_so}
+use Rattle.smv_accepted.proofs.Fitting.{content_fits, origin_fits, values_fit_so}
 use Rattle.smv_script_laws.proofs.Symbols.{variable_known}
 use Rattle.smv_script_laws.proofs.Models.{Model, item_typed, origin_at}
 use Rattle.smv_script_laws.proofs.Steps.{Fit}

@@ -22,8 +22,9 @@ use Rattle.name_maps.specs.Names.{place_of, are_fresh}
 use Rattle.moxi_term_print.specs.Terms.{name_at}
 use Rattle.moxi_term_print.specs.laws.StandingPlaces.{fresh_place}
 use Rattle.smv_script_laws.proofs.Declared.{origin_at, origin_in}
+use Rattle.smv_flat_laws.proofs.FlatRows.{pair_parts}
 
-some_inj : {X : Type 0} (a b : X) → Some a ≡ Some b → a ≡ b
+pub some_inj : {X : Type 0} (a b : X) → Some a ≡ Some b → a ≡ b
 some_inj a b h = cc
 
 -- an element stands at some place
@@ -72,9 +73,6 @@ variable_typed kind d = by (is_input kind)
     by : (b : Bool) → (if b && not true then None else variable_type d) ≡ variable_type d
     by true = refl
     by false = refl
-
-pair_parts : (i j : ℕ) (b e : Tree) → Some (pair i b) ≡ Some (pair j e) → (i ≡ j) × (b ≡ e)
-pair_parts i j b e h = let s : pair i b ≡ pair j e = cc in (ap (λ (p : ℕ × Tree). p.0) s, ap (λ (p : ℕ × Tree). p.1) s)
 
 body_typed : (t : List Instance) (c : Content) (j : ℕ) (e : Tree) → body_in c ≡ Some (pair j e) → content_type t c ≡ (typing (types_in true t j) in_body e).type
 body_typed t (variable k d) j e h = cc

@@ -19,7 +19,6 @@ pub mod Members
 pub mod Items
 pub mod FormulaOutcomes
 pub mod Trees
-pub mod Fitting
 pub mod Symbols
 pub mod Bodies
 pub mod Givens

@@ -1,5 +1,5 @@
 -- What is asked of an item's value holds in the row of a state of the declared types, and of a transition where frozen variables stay.
-use Rattle.std.proofs.Common.{◌≡◌, ℕ, ◌≤◌, Bool, true, false, ◌&&◌, ◌||◌, ◌==◌, if◌then◌else◌, ℤ, ◌≤ℤ◌, int_le, List, [], ◌∷◌, map, Option, None, refl, sym, ap, ◌∙◌, subst, arith}
+use Rattle.std.proofs.Common.{◌≡◌, ℕ, ◌≤◌, Bool, true, false, ◌&&◌, ◌==◌, if◌then◌else◌, ℤ, ◌≤ℤ◌, int_le, List, [], ◌∷◌, map, Option, None, refl, sym, ap, ◌∙◌, subst, arith}
 use Rattle.std.specs.List.{AllByRecursion}
 use Rattle.std.proofs.lemmas.Int.{ints}
 use Rattle.std.proofs.lemmas.Bool.{eq-eqb}
@@ -32,16 +32,15 @@ use Rattle.smv_script.specs.Operators.{between_term, any_term}
 use Rattle.smv_script.specs.Script.{member_term, domain_parts}
 use Rattle.smv_script_laws.proofs.Integers.{signed_back}
 use Rattle.smv_script_laws.proofs.Parts.{held_wider, any_of, any_value, joined_cons}
+use Rattle.smv_flat_laws.proofs.FlatFound.{left_true}
+use Rattle.smv_flat_laws.proofs.FlatTruths.{and_true}
+use Rattle.smv_laws.proofs.Cycles.{right_true}
 
 pub same_self : (d : Datum) → same d d ≡ true
 same_self (datum.Truth true) = refl
 same_self (datum.Truth false) = refl
 same_self (datum.Bits w) = two_true (w.width == w.width) (w.bits == w.bits) (eq-eqb w.width w.width refl) (eq-eqb w.bits w.bits refl)
 same_self (datum.Constant n i) = two_true (n == n) (i == i) (eq-eqb n n refl) (eq-eqb i i refl)
-
-pub and_true : (b : Bool) → (b && true) ≡ b
-and_true true = refl
-and_true false = refl
 
 int_le_is : (a b : ℤ) → int_le a b ≡ true → a ≤ℤ b
 int_le_is a b h = omega (arith, ints)
@@ -62,14 +61,6 @@ member_same (OfMember.Integer a) (Integer b) h =
 member_same (OfMember.Integer a) (Truth b) h = absurd_bool h
 member_same (OfMember.Integer a) (Symbol s) h = absurd_bool h
 member_same (OfMember.Integer a) (Bits w) h = absurd_bool h
-
-left_true : (a b : Bool) → a ≡ true → (a || b) ≡ true
-left_true true b h = refl
-left_true false b h = cc
-
-right_true : (a b : Bool) → b ≡ true → (a || b) ≡ true
-right_true true b h = refl
-right_true false b h = h
 
 module _ (width : ℕ) (symbols : List (List ℕ)) (some : 1 ≤ width) (calls : Calls) (env : Values) (p : ℕ) (v : Value) (coded : env p ≡ datum_of width symbols v) where
   abbrev is_member : Member → Bool

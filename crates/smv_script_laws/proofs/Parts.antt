@@ -1,5 +1,5 @@
 -- Kinds of values, chains of one sign, and what is said of an expression and its translation.
-use Rattle.std.proofs.Common.{◌≡◌, ℕ, ◌+◌, ◌-◌, ◌^◌, ◌≤◌, Bool, true, false, ◌&&◌, ◌||◌, if◌then◌else◌, ℤ, pos, ◌+ℤ◌, ◌-ℤ◌, ◌*ℤ◌, ◌≤ℤ◌, List, [], ◌∷◌, map, length, Option, Some, None, refl, sym, ap, ◌∙◌, subst, arith}
+use Rattle.std.proofs.Common.{◌≡◌, ℕ, ◌+◌, ◌-◌, ◌^◌, ◌≤◌, Bool, true, false, ◌||◌, if◌then◌else◌, ℤ, pos, ◌+ℤ◌, ◌-ℤ◌, ◌*ℤ◌, ◌≤ℤ◌, List, [], ◌∷◌, map, length, Option, Some, None, refl, sym, ap, ◌∙◌, subst, arith}
 use Rattle.std.proofs.lemmas.Int.{ints}
 use Rattle.std.proofs.lemmas.Bool.{eqb-true, eq-eqb, leb-true}
 use Rattle.std.proofs.Math.Pow.{pow_mono}
@@ -37,6 +37,7 @@ use Rattle.smv_script.specs.Terms.{amount_of, Translation}
 use Rattle.smv_script_laws.specs.Kinds.{IsKnown, IsOfKind}
 use Rattle.smv_script_laws.proofs.Integers.{bits_sum, bits_product}
 use Rattle.smv_script_laws.proofs.Rows.{words_are, IsNonzero, is_plain, kind_same}
+use Rattle.smv_flat.proofs.FlatShapes.{or_false}
 
 -- ---- kinds
 
@@ -105,14 +106,6 @@ leaf_datum place env of_nothing = datum.Truth false
 -- a path's leaf has the code of its value, which is known
 abbrev pub LeafStands : ℕ → List (List ℕ) → (ℕ → ℕ) → Values → Leaf → Value → Type 0
 LeafStands width symbols place env l v = (leaf_datum place env l ≡ datum_of width symbols v) × IsKnown symbols v
-
-pub and_true : (b : Bool) → (b && true) ≡ b
-and_true true = refl
-and_true false = refl
-
-pub or_false : (b : Bool) → (b || false) ≡ b
-or_false true = refl
-or_false false = refl
 
 pub truth_code : (width : ℕ) (symbols : List (List ℕ)) (v : Value) → truth_of (datum_of width symbols v) ≡ is_true v
 truth_code width symbols (Truth b) = refl

@@ -1,60 +1,27 @@
 -- How many brackets of the printed script stand open at most.
-use Rattle.std.proofs.Common.{◌≡◌, ℕ, ◌+◌, ◌≤◌, max, List, [], ◌∷◌, ◌++◌, map, refl, arith}
+use Rattle.std.proofs.Common.{ℕ, ◌+◌, ◌≤◌, List, [], ◌∷◌, ◌++◌, map, arith}
 use Rattle.std.specs.Prelude.{codes}
 use Rattle.smv_text.specs.declared.tree.When.TheVariants.{Always, First, Following}
 use Rattle.smv_meaning.specs.Instances.{instances_of}
 use Rattle.smv_flat.specs.FlatForms.{PlainFlat, flat_of}
-use Rattle.moxi_terms.specs.declared.data.Sort.{Sort}
 use Rattle.moxi_terms.specs.declared.data.Sort.TheVariants as sort
-use Rattle.moxi_terms.specs.declared.data.Datum.{Datum}
 use Rattle.moxi_terms.specs.declared.data.Datum.TheVariants as datum
-use Rattle.moxi_terms.specs.declared.data.TermOp.{TermOp}
 use Rattle.moxi_terms.specs.declared.data.TermOp.TheVariants as op
-use Rattle.moxi_terms.specs.declared.term.Variable.{Variable}
 use Rattle.moxi_terms.specs.Names.{function_names}
 use Rattle.moxi_terms.specs.Tree.{Tree, constant, variable, bound, apply, binding, call, Trees, no_trees, tree}
 use Rattle.moxi_terms.specs.View.{ScopeState}
-use Rattle.moxi_term_print.specs.Shown.{Showns, no_showns, shown, joined, shown_depth, shown_depths}
-use Rattle.moxi_term_print.specs.Terms.{name_at, shown_sort, shown_operator, shown_call, shown_term, shown_terms, shown_bindings, shown_variables, variable_names}
-use Rattle.moxi_term_print.specs.Declarations.{shown_symbols}
-use Rattle.moxi_scripts.specs.declared.script.Query.{Query}
+use Rattle.moxi_term_print.specs.Shown.{no_showns, shown, joined, shown_depth, shown_depths}
+use Rattle.moxi_term_print.specs.Terms.{name_at, shown_term, shown_terms, shown_bindings, variable_names}
 use Rattle.moxi_scripts.specs.Script.{PlainFormula, variables_in}
-use Rattle.moxi_script_print.specs.Printing.{attribute, query_names, shown_lists, shown_formulas, shown_labels, shown_queries, shown_conditions, shown_system, check_variables, shown_check, shown_enumerations, system_names, formula_names}
+use Rattle.moxi_script_print.specs.Printing.{attribute, shown_lists, shown_formulas, shown_labels, shown_queries, shown_conditions, shown_system, shown_check, shown_enumerations, system_names}
 use Rattle.smv_script.specs.Script.{coding_of, symbol_sort, system_of, check_of, script_of}
 use Rattle.smv_script_laws.specs.BoundLaws.{BracketsAreFew}
 use Rattle.smv_script_laws.proofs.Measures.{open_brackets, all_brackets}
 use Rattle.smv_script_laws.proofs.Lows.{FormsFit, FormulasLow, formula_low, all_reachables_low, source_forms_fit}
-
-joined_depths : (xs ys : Showns) → shown_depths (joined xs ys) ≡ max (shown_depths xs) (shown_depths ys)
-joined_depths no_showns ys = omega arith
-joined_depths (shown x xs) ys = let i = joined_depths xs ys in omega (arith, i)
+use Rattle.moxi_script_print.proofs.Depths.{call_depth, joined_depths, lists_depth, operator_depth, queries_depth, symbols_depth, value_depth}
+use Rattle.moxi_scripts.specs.Whole.{check_variables, formula_names}
 
 -- ---- terms
-
-value_depth : (s : ScopeState) (d : Datum) → shown_depth (shown_term s [] [] (constant d)) ≡ 0
-value_depth s (datum.Truth b) = refl
-value_depth s (datum.Bits w) = refl
-value_depth s (datum.Constant n i) = refl
-
-operator_depth : (o : TermOp) → shown_depth (shown_operator o) ≤ 1
-operator_depth (op.Extract high low) = omega arith
-operator_depth (op.ZeroExtend n) = omega arith
-operator_depth (op.SignExtend n) = omega arith
-operator_depth op.Not = omega arith
-operator_depth op.And = omega arith
-operator_depth op.Or = omega arith
-operator_depth op.Xor = omega arith
-operator_depth op.Implies = omega arith
-operator_depth op.Equal = omega arith
-operator_depth op.Distinct = omega arith
-operator_depth op.Ite = omega arith
-operator_depth op.Concat = omega arith
-operator_depth (op.BvUnary u) = omega arith
-operator_depth (op.BvBinary b) = omega arith
-
-call_depth : (name : List ℕ) (xs : Showns) → shown_depth (shown_call name xs) ≤ 1 + shown_depths xs
-call_depth name no_showns = omega arith
-call_depth name (shown x xs) = omega arith
 
 mutual
   term_depth : (s : ScopeState) (vars bounds : List (List ℕ)) (t : Tree) → shown_depth (shown_term s vars bounds t) ≤ open_brackets t
@@ -81,27 +48,6 @@ mutual
   bindings_depth s vars bounds (name ∷ names) (tree t ts) = let a = term_depth s vars bounds t in let r = bindings_depth s vars bounds names ts in omega (arith, a, r)
 
 -- ---- lists of variables and names
-
-sort_depth : (s : ScopeState) (x : Sort) → shown_depth (shown_sort s x) ≤ 1
-sort_depth s sort.Truth = omega arith
-sort_depth s (sort.Bits n) = omega arith
-sort_depth s (sort.Choice n) = omega arith
-
-variables_depth : (s : ScopeState) (vs : List Variable) → shown_depths (shown_variables s vs) ≤ 2
-variables_depth s [] = omega arith
-variables_depth s (v ∷ vs) = let a = sort_depth s v.sort in let r = variables_depth s vs in omega (arith, a, r)
-
-symbols_depth : (names : List (List ℕ)) → shown_depths (shown_symbols names) ≡ 0
-symbols_depth [] = refl
-symbols_depth (name ∷ names) = let r = symbols_depth names in omega (arith, r)
-
-lists_depth : (s : ScopeState) (x y z : List Variable) → shown_depths (shown_lists s x y z) ≤ 3
-unfolding shown_lists attribute
-lists_depth s x y z =
-    let a = variables_depth s x in
-    let b = variables_depth s y in
-    let c = variables_depth s z in
-    omega (arith, a, b, c)
 
 -- ---- systems
 
@@ -134,14 +80,6 @@ labels_depth s vars name (f ∷ fs) h =
     let b = h.0.brackets in
     let r = labels_depth s vars name fs h.1 in
     omega (arith, a, b, r)
-
-queries_depth : (x y z : List (List ℕ)) (qs : List Query) → shown_depths (shown_queries x y z qs) ≤ 2
-unfolding attribute
-queries_depth x y z [] = omega arith
-queries_depth x y z (q ∷ qs) =
-    let a = symbols_depth (query_names x y z q) in
-    let r = queries_depth x y z qs in
-    omega (arith, a, r)
 
 conditions_depth : (s : ScopeState) (vars : List (List ℕ)) (flat : PlainFlat) (w : ℕ) → FormsFit (coding_of flat w) flat.forms → shown_depths (shown_conditions s vars (check_of flat w)) ≤ 1142
 unfolding shown_conditions

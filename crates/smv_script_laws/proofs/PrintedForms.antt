@@ -35,9 +35,9 @@ use Rattle.smv_flat.specs.FlatForms.{Form, flat_in, content_form, body_forms, nu
 use Rattle.smv_flat_laws.proofs.FlatFound.{home_found}
 use Rattle.smv_flat_laws.proofs.FlatTruths.{leaf_placed, all_parts, assignable, assigned_here}
 use Rattle.smv_width.specs.SourceWidth.{has_operators}
-use Rattle.smv_accepted.proofs.Lists.{all_joined}
 use Rattle.smv_script_laws.proofs.SortedRows.{truth_case}
 use Rattle.smv_script_laws.proofs.Leaves.{ItemsDiffer, IsTypedLeaf, typed_leaf}
+use Rattle.name_maps.proofs.FreshNames.{all_joined}
 
 -- ---- what is known of an expression
 

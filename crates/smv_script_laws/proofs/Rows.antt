@@ -34,7 +34,7 @@ use Rattle.smv_width.specs.FlatWidth.{Holds}
 use Rattle.smv_script.specs.Codes.{integer_bits, integer_word, number_or_zero, datum_of}
 use Rattle.smv_script.specs.Operators.{sign_op, repeated, signed_op, infix_op, infix_term}
 use Rattle.smv_script_laws.specs.Kinds.{IsOfKind}
-use Rattle.smv_script_laws.proofs.Integers.{bits_below, bits_sum, bits_difference, bits_product, bits_negated, negated_twice, signed_back, same_integers, bits_quotient, bits_rest}
+use Rattle.smv_script_laws.proofs.Integers.{bits_below, bits_sum, bits_difference, bits_product, bits_negated, negated_twice, signed_back, same_integers, bits_quotient, bits_rest, pick_true}
 
 -- ---- tests
 
@@ -42,9 +42,6 @@ pub by_both : (a b : Bool) → (a ≡ true → b ≡ true) → (b ≡ true → a
 by_both true b f g = sym (f refl)
 by_both false true f g = g refl
 by_both false false f g = refl
-
-pub pick_true : {X : Type 0} (b : Bool) (x y : X) → b ≡ true → (if b then x else y) ≡ x
-pick_true b x y e = ap (λ c. if c then x else y) e
 
 bit_is : (b : Bool) → (bit_of b == 1) ≡ b
 bit_is true = refl

@@ -23,7 +23,7 @@ use Rattle.smv_flat.specs.FlatForms.{Form, flat_in, content_form, forms_of}
 use Rattle.smv_flat_laws.specs.FlatTruth.{Row}
 use Rattle.smv_flat_laws.specs.FlatLaws.{content_value, origin_value, row_of}
 use Rattle.smv_flat_laws.proofs.FlatFound.{body_in, pair, body_at_item}
-use Rattle.smv_flat_laws.proofs.FlatRows.{row_leaf, row_reads, row_values, row_is_there_law}
+use Rattle.smv_flat_laws.proofs.FlatRows.{row_leaf, row_reads, row_values, row_is_there_law, pair_parts}
 use Rattle.moxi_terms.specs.declared.data.Datum.{Datum}
 use Rattle.moxi_terms.specs.Operators.{same}
 use Rattle.moxi_terms.specs.Tree.{variable as moxi_variable}
@@ -76,9 +76,6 @@ abbrev ContentReads : List Instance → Row → Valuation → Valuation → Cont
 ContentReads t row state label (variable kind d) = Unit {0}
 ContentReads t row state label (definition j e) = Reads t row state label j e
 ContentReads t row state label (actual j e) = Reads t row state label j e
-
-pair_parts : (i j : ℕ) (b e : Tree) → Some (pair i b) ≡ Some (pair j e) → (i ≡ j) × (b ≡ e)
-pair_parts i j b e h = let s : pair i b ≡ pair j e = cc in (ap (λ (p : ℕ × Tree). p.0) s, ap (λ (p : ℕ × Tree). p.1) s)
 
 content_reads : (t : List Instance) (row : Row) (state label : Valuation) (c : Content) (j : ℕ) (e : Tree) → body_in c ≡ Some (pair j e) → Reads t row state label j e → ContentReads t row state label c
 content_reads t row state label (variable kind d) j e h r = tt

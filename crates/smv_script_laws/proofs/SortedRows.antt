@@ -28,7 +28,8 @@ use Rattle.moxi_term_print.specs.Standing.{Stands, StandEach}
 use Rattle.smv_script.specs.Codes.{sort_of}
 use Rattle.smv_script.specs.Operators.{one, two, words_term, equal_term, sign_op, repeated, infix_op, joins_with, infix_term}
 use Rattle.smv_script_laws.proofs.Rows.{is_plain}
-use Rattle.smv_script_laws.proofs.Applied.{ctx, copies, one_stand, two_stand, words_stand, equal_stands, not_stands, many_stand, repeated_stands, is_written, is_known}
+use Rattle.smv_script_laws.proofs.Applied.{ctx, one_stand, two_stand, words_stand, equal_stands, not_stands, many_stand, repeated_stands, is_written, is_known}
+use Rattle.moxi_term_print.proofs.SortedTerms.{copies}
 
 -- ---- types that fit, case by case
 

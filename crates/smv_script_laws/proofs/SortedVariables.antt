@@ -1,5 +1,5 @@
 -- The names of a script's variables and constants: they differ, and each means what it names.
-use Rattle.std.proofs.Common.{◌≡◌, ◌≢◌, ℕ, zero, suc, ◌+◌, Bool, true, false, cond, List, [], ◌∷◌, ◌++◌, map, drop, Option, Some, None, option_map, refl, sym, ap, ◌∙◌, subst, arith}
+use Rattle.std.proofs.Common.{◌≡◌, ◌≢◌, ℕ, zero, suc, ◌+◌, Bool, true, false, cond, List, [], ◌∷◌, ◌++◌, map, drop, Option, Some, option_map, refl, sym, ap, ◌∙◌, subst, arith}
 use Rattle.std.specs.Prelude.{slice_get, codes}
 use Rattle.std.specs.List.{AllByRecursion}
 use Rattle.std.specs.Str.{bytes_eq}
@@ -29,17 +29,15 @@ use Rattle.moxi_term_reading.specs.Reading.{Context, meaning_of, names_of}
 use Rattle.moxi_term_reading.specs.Answer.{locals_of}
 use Rattle.moxi_term_print.specs.Terms.{name_at, variable_names}
 use Rattle.moxi_term_print.specs.Standing.{Stands, StandsPrime}
-use Rattle.smv_accepted.proofs.Lists.{AllDiffer, Lacks, all_made, all_joined, all_mapped, tells_apart}
 use Rattle.smv_script.specs.Script.{Group, inputs, outputs, locals, items_in, kind_letter, variable_of, variables_in, place_of_item}
 use Rattle.smv_script_laws.specs.PlaceLaws.{all_variables}
 use Rattle.smv_script_laws.proofs.Places.{is_place_of_law}
 use Rattle.smv_script_laws.specs.LetNames.{AreLetNames}
 use Rattle.smv_script_laws.proofs.Applied.{ctx}
 use Rattle.smv_script_laws.proofs.Bounds.{past_lets}
-use Rattle.smv_script_laws.proofs.Leaves.{ItemsDiffer, one_item}
-
-some_inj : {X : Type 0} (a b : X) → Some a ≡ Some b → a ≡ b
-some_inj a b h = cc
+use Rattle.smv_script_laws.proofs.Leaves.{ItemsDiffer, one_item, some_inj}
+use Rattle.moxi_scripts.proofs.WholeFormulas.{no_first}
+use Rattle.name_maps.proofs.FreshNames.{AllDiffer, Lacks, all_joined, all_made, all_mapped, tells_apart}
 
 mapped_at : {X Y : Type 0} (f : X → Y) (xs : List X) (k : ℕ) (y : Y) → slice_get (map f xs) k ≡ Some y → (x : X) × (slice_get xs k ≡ Some x) × (y ≡ f x)
 mapped_at f [] k y h = cc
@@ -140,11 +138,6 @@ first_is n (y ∷ ys) (suc v) x d h =
     apart [] v h l = cc
     apart (z ∷ zs) zero h l = λ e. l.0 (ap (λ (v : Variable). v.name) (some_inj z x h) ∙ e)
     apart (z ∷ zs) (suc v) h l = apart zs v h l.1
-
-pub no_first : (n : ℕ) (vs : List Variable) (name : List ℕ) → AllByRecursion (λ (other : List ℕ). bytes_eq name other ≡ false) (variable_names vs) → first_of n (locals_of vs) name ≡ None
-no_first n [] name a = refl
-no_first n (v ∷ vs) name a =
-    ap (λ b. cond b (Some (let x : Found = record { number = n; sort = Some v.sort } in x)) (first_of (suc n) (locals_of vs) name)) a.0 ∙ no_first (suc n) vs name a.1
 
 name_of : (vs : List Variable) (v : ℕ) (x : Variable) → slice_get vs v ≡ Some x → name_at (names_of (locals_of vs)) v ≡ x.name
 name_of [] v x h = cc

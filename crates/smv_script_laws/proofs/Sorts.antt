@@ -24,13 +24,13 @@ use Rattle.moxi_terms.specs.declared.term.Variable.{Variable}
 use Rattle.moxi_terms.specs.Sorts.{IsSort}
 use Rattle.moxi_terms.specs.Sorted.{AreSorts}
 use Rattle.moxi_terms.specs.Tree.{sorts_of}
-use Rattle.smv_accepted.proofs.Lists.{all_joined, all_mapped}
 use Rattle.smv_script.specs.Codes.{sort_of}
 use Rattle.smv_script.specs.Script.{Group, inputs, outputs, locals, items_in, same_group, group_of, variable_of, variables_in, symbol_sort}
 use Rattle.smv_script_laws.specs.Kinds.{IsKnown}
 use Rattle.smv_script_laws.specs.PlaceLaws.{all_variables}
 use Rattle.smv_script_laws.proofs.Declared.{symbol_placed}
 use Rattle.smv_script_laws.proofs.Inhabited.{HasValue, domain_value, expression_value, names_have}
+use Rattle.name_maps.proofs.FreshNames.{all_joined, all_mapped}
 
 -- ---- a symbol of a variable's enumeration is one of the model's
 
@@ -38,9 +38,6 @@ content_in : (i : ℕ) (x : List ℕ) (o : Option Content) (m : Origin) → In m
 content_in i x None m h = absurd h
 content_in i x (Some c) m (inl e) = ap (λ (z : Origin). Some z.content) (sym e)
 content_in i x (Some c) m (inr h) = absurd h
-
-some_inj : {X : Type 0} (a b : X) → Some a ≡ Some b → a ≡ b
-some_inj a b h = cc
 
 no_actual : (j : ℕ) (e : Tree) (kind : VarKind) (d : PlainDomain) → actual_content j e ≡ Some (variable kind d) → ⊥
 no_actual j (name p x) kind d h = cc

@@ -23,10 +23,9 @@ use Rattle.smv_flat_laws.specs.FlatTruth.{forms_invariants}
 use Rattle.smv_width.specs.FlatWidth.{width_of}
 use Rattle.smv_accepted.specs.Names.{is_name_byte, is_dotted_byte, IsIdentifier, IsDottedName}
 use Rattle.smv_accepted.proofs.ItemNames.{names_are_words_law, symbols_are_words_law}
-use Rattle.smv_accepted.proofs.Lists.{all_joined, all_mapped, all_weaker}
+use Rattle.smv_accepted.proofs.Lists.{all_weaker}
 use Rattle.smv_text.specs.Bytes.{is_letter}
 use Rattle.moxi_sexpr.specs.Bytes.{is_barred_byte}
-use Rattle.moxi_sexpr.specs.Atoms.{is_run}
 use Rattle.moxi_terms.specs.declared.term.Variable.{Variable}
 use Rattle.moxi_terms.specs.Tree.{Tree, variable as var, trees_of}
 use Rattle.moxi_term_print.specs.StandingNames.{IsSpellable, AreSpellable, NamesAreSpellable, AllNamesAreSpellable, IsSpellableScope}
@@ -41,6 +40,8 @@ use Rattle.smv_script_laws.specs.WholeLaws.{NamesAreSpellable as AllNames}
 use Rattle.smv_script_laws.proofs.Spellable.{barred_spellable}
 use Rattle.smv_script_laws.proofs.SpellableTerms.{any_named, translation_named}
 use Rattle.smv_script_laws.proofs.WholeScripts.{few_invariants}
+use Rattle.moxi_term_print.proofs.SpellableNames.{Named, run_all}
+use Rattle.name_maps.proofs.FreshNames.{all_joined, all_mapped}
 
 -- ---- bytes that need no bar
 
@@ -81,10 +82,6 @@ identifier : (x : List ℕ) → IsIdentifier x → list_all is_barred_byte x ≡
 identifier [] h = absurd h
 identifier (b ∷ bs) h = two_true (is_barred_byte b) (list_all is_barred_byte bs) (dotted_barred b (letter_dotted b h.0)) (all_bytes is_name_byte is_barred_byte (λ c g. dotted_barred c (name_dotted c g)) bs h.1)
 
-run_all : (p : ℕ → Bool) (bs : List ℕ) → is_run p bs ≡ true → list_all p bs ≡ true
-run_all p [] h = refl
-run_all p (b ∷ bs) h = h
-
 number_barred : (n : ℕ) → n < 4294967296 → list_all is_barred_byte (decimal n) ≡ true
 number_barred n h = all_bytes is_digit is_barred_byte digit_barred (decimal n) (run_all is_digit (decimal n) (decimal_run n h))
 
@@ -104,9 +101,6 @@ all_flat P f (x ∷ xs) h = all_joined P (f x) (flat_map f xs) (h x) (all_flat P
 all_if : {X : Type 0} (P : X → Type 0) (b : Bool) (xs : List X) → AllByRecursion P xs → AllByRecursion P (if b then xs else [])
 all_if P true xs h = h
 all_if P false xs h = tt
-
-abbrev Named : List Tree → Type 0
-Named ts = AllByRecursion NamesAreSpellable ts
 
 trees_named : (ts : List Tree) → Named ts → AllNamesAreSpellable (trees_of ts)
 trees_named [] h = tt

@@ -16,7 +16,8 @@ use Rattle.moxi_scripts.specs.Behaviour.{Holds}
 use Rattle.smv_script.specs.Terms.{Coding}
 use Rattle.smv_script.specs.Script.{all_term, item_parts, form_parts, numbered_parts, instance_parts, parts_upto, above_items, above_forms, formula_of}
 use Rattle.smv_script_laws.specs.FormulaLaws.{FormulaSplits}
-use Rattle.smv_script_laws.proofs.Lists.{all_front, all_joined}
+use Rattle.smv_script_laws.proofs.Lists.{all_front}
+use Rattle.smv_script_laws.proofs.Bodies.{all_joined}
 
 -- ---- one term that says all parts
 

@@ -44,39 +44,40 @@ use Rattle.smv_script_laws.proofs.Typings.{call_typed, front_no_union, front_typ
 use Rattle.smv_script_laws.proofs.Parts.{IsAsWide, amount_is, extend_fits, extend_second, joins_plain, joins_same, logical_all, number_kept, pick_three, resize_fits, resize_second, toint_held, wide_kept, wide_of}
 use Rattle.smv_script_laws.specs.LetNames.{AreLetNames}
 use Rattle.smv_script_laws.specs.Standing.{CanStand}
-use Rattle.smv_script_laws.proofs.Applied.{ctx, copies, equal_stands, choice_stands, words_stand, word_stands, integer_stands, extended_stands, selected_stands, resized_stands, any_stands, between_stands, is_written}
+use Rattle.smv_script_laws.proofs.Applied.{ctx, equal_stands, choice_stands, words_stand, word_stands, integer_stands, extended_stands, selected_stands, resized_stands, any_stands, between_stands, is_written}
 use Rattle.smv_script_laws.proofs.Bounds.{one_bound, one_let, one_long, one_stands}
 use Rattle.smv_script_laws.proofs.SortedRows.{TypeFits, infix_kept, word_cases, truth_case, same_sort_of, hull_sort, hull_of_sorts, prefix_sort, joined_sort, joined_type, sign_stands, infix_stands, joined_stands}
 use Rattle.smv_script_laws.proofs.SortedFunctions.{bool_stands, word1_stands, toint_stands, count_stands, max_stands, min_stands, abs_stands}
 use Rattle.smv_script_laws.proofs.Typed.{prefix_whole, select_whole, branches_whole, literal_whole, select_bounds, behind_nexts, across_nexts, never_primed, type_fits}
+use Rattle.moxi_term_print.proofs.SortedTerms.{copies}
 
 -- ---- operators that aren't `in`, `union` or shifts
 
-plain_sets : (o : Infix) (q : Position) → is_plain o ≡ true → (behind o q).sets ≡ false
+pub plain_sets : (o : Infix) (q : Position) → is_plain o ≡ true → (behind o q).sets ≡ false
 plain_sets Member q h = absurd_bool h
 plain_sets Union q h = absurd_bool h
 plain_sets o q h = refl
 
-plain_width : (o : Infix) (w : ℕ) → is_plain o ≡ true → operand_width o w ≡ w
+pub plain_width : (o : Infix) (w : ℕ) → is_plain o ≡ true → operand_width o w ≡ w
 plain_width ShiftLeft w h = absurd_bool h
 plain_width ShiftRight w h = absurd_bool h
 plain_width o w h = refl
 
-plain_link : (o : Infix) (w : Bool) (m n : ℕ) (a b among : Tree) → is_plain o ≡ true → link_term o w m n a b among ≡ infix_term o w a b
+pub plain_link : (o : Infix) (w : Bool) (m n : ℕ) (a b among : Tree) → is_plain o ≡ true → link_term o w m n a b among ≡ infix_term o w a b
 plain_link Member w m n a b among h = absurd_bool h
 plain_link ShiftLeft w m n a b among h = absurd_bool h
 plain_link ShiftRight w m n a b among h = absurd_bool h
 plain_link o w m n a b among h = refl
 
-by_cases : {X : Type 0} (b : Bool) → (b ≡ true → X) → (b ≡ false → X) → X
+pub by_cases : {X : Type 0} (b : Bool) → (b ≡ true → X) → (b ≡ false → X) → X
 by_cases true f h = f refl
 by_cases false f h = h refl
 
-typed_if : (b : Bool) (x y : Typing) (t : ExprType) → (if b then x else y).type ≡ Some t → (b ≡ true → x.type ≡ Some t) × (b ≡ false → y.type ≡ Some t)
+pub typed_if : (b : Bool) (x y : Typing) (t : ExprType) → (if b then x else y).type ≡ Some t → (b ≡ true → x.type ≡ Some t) × (b ≡ false → y.type ≡ Some t)
 typed_if true x y t h = ((λ e. h), (λ e. absurd_bool (sym e)))
 typed_if false x y t h = ((λ e. absurd_bool e), (λ e. h))
 
-width_if : (b : Bool) (m n k w : ℕ) → max k (if b then m else n) ≤ w → (b ≡ true → m ≤ w) × (b ≡ false → n ≤ w)
+pub width_if : (b : Bool) (m n k w : ℕ) → max k (if b then m else n) ≤ w → (b ≡ true → m ≤ w) × (b ≡ false → n ≤ w)
 width_if true m n k w h = ((λ e. omega (arith, h)), (λ e. absurd_bool (sym e)))
 width_if false m n k w h = ((λ e. absurd_bool e), (λ e. omega (arith, h)))
 

@@ -41,29 +41,18 @@ use Rattle.smv_script.specs.Terms.{is_word_in, is_word, width_in, word_width, am
 use Rattle.smv_script_laws.specs.Kinds.{IsOfKind}
 use Rattle.smv_script_laws.specs.Meanings.{Says}
 use Rattle.smv_script_laws.proofs.Integers.{signed_back}
-use Rattle.smv_script_laws.proofs.Rows.{pick_true, same_codes, is_divided, IsNonzero, implies_row, is_plain, infix_at, kind_same, infix_row, shift_left_row, shift_right_row, sign_row}
+use Rattle.smv_script_laws.proofs.Rows.{same_codes, is_divided, IsNonzero, implies_row, is_plain, infix_at, kind_same, infix_row, shift_left_row, shift_right_row, sign_row}
 use Rattle.smv_script_laws.proofs.Functions.{at_front, AreOfKinds, AreCoded, select_row, bool_row, word1_row, toint_row, extend_one, resize_one, count_row, max_row, min_row, abs_row}
-use Rattle.smv_script_laws.proofs.Typings.{branches_typed, call_typed, front_no_union, front_typed, implies_flat, implies_typed, linked_typed, node_typed, not_true, or_first, pick_false, prefix_typed, range_typed, right_no_union, select_typed, set_typed, some_same, type_kept, unions_flat}
+use Rattle.smv_script_laws.proofs.Typings.{branches_typed, call_typed, front_no_union, front_typed, implies_flat, implies_typed, linked_typed, node_typed, or_first, prefix_typed, range_typed, right_no_union, select_typed, set_typed, some_same, type_kept, unions_flat}
 use Rattle.smv_script_laws.proofs.Known.{known_applied, known_value}
-use Rattle.smv_script_laws.proofs.Parts.{Front, IsAsWide, IsOfAll, LeafStands, SaysAll, amount_is, and_true, any_value, divisor_nonzero, extend_fits, extend_second, held_wider, hull_kind, hull_of_kind, implied_kind, joined_cons, joins_plain, joins_same, joined_end, joined_kept, joined_step, joined_word, known_kind, link_permits, logical_all, number_kept, number_value, or_false, permit_list, permits_any, pick_three, resize_fits, resize_second, toint_held, truth_code, unions_permit, wide_kept, wide_of, wide_word}
+use Rattle.smv_script_laws.proofs.Parts.{Front, IsAsWide, IsOfAll, LeafStands, SaysAll, amount_is, any_value, divisor_nonzero, extend_fits, extend_second, held_wider, hull_kind, hull_of_kind, implied_kind, joined_cons, joins_plain, joins_same, joined_end, joined_kept, joined_step, joined_word, known_kind, link_permits, logical_all, number_kept, number_value, permit_list, permits_any, pick_three, resize_fits, resize_second, toint_held, truth_code, unions_permit, wide_kept, wide_of, wide_word}
+use Rattle.smv_flat.proofs.FlatShapes.{or_false}
+use Rattle.smv_flat_laws.proofs.FlatTruths.{and_true, not_true}
+use Rattle.smv_script_laws.proofs.Functions.{pick_false}
+use Rattle.smv_script_laws.proofs.Integers.{pick_true}
+use Rattle.smv_script_laws.proofs.Translated.{by_cases, plain_link, plain_sets, plain_width, typed_if, width_if}
 
 -- ---- operators that aren't `in`, `union` or shifts
-
-plain_sets : (o : Infix) (q : Position) → is_plain o ≡ true → (behind o q).sets ≡ false
-plain_sets Member q h = absurd_bool h
-plain_sets Union q h = absurd_bool h
-plain_sets o q h = refl
-
-plain_width : (o : Infix) (w : ℕ) → is_plain o ≡ true → operand_width o w ≡ w
-plain_width ShiftLeft w h = absurd_bool h
-plain_width ShiftRight w h = absurd_bool h
-plain_width o w h = refl
-
-plain_link : (o : Infix) (w : Bool) (m n : ℕ) (a b among : Tree) → is_plain o ≡ true → link_term o w m n a b among ≡ infix_term o w a b
-plain_link Member w m n a b among h = absurd_bool h
-plain_link ShiftLeft w m n a b among h = absurd_bool h
-plain_link ShiftRight w m n a b among h = absurd_bool h
-plain_link o w m n a b among h = refl
 
 plain_joined : (o : Infix) (d e : Denotation) → is_plain o ≡ true → joined o d e ≡ alone (applied o d.value e.value)
 plain_joined Member d e h = absurd_bool h
@@ -81,18 +70,6 @@ or_true_right false = refl
 pick_code : {X : Type 0} (f : Denotation → X) (b : Bool) (d e : Denotation) → (if b then f d else f e) ≡ f (if b then d else e)
 pick_code f true d e = refl
 pick_code f false d e = refl
-
-by_cases : {X : Type 0} (b : Bool) → (b ≡ true → X) → (b ≡ false → X) → X
-by_cases true f h = f refl
-by_cases false f h = h refl
-
-typed_if : (b : Bool) (x y : Typing) (t : ExprType) → (if b then x else y).type ≡ Some t → (b ≡ true → x.type ≡ Some t) × (b ≡ false → y.type ≡ Some t)
-typed_if true x y t h = ((λ e. h), (λ e. absurd_bool (sym e)))
-typed_if false x y t h = ((λ e. absurd_bool e), (λ e. h))
-
-width_if : (b : Bool) (m n k w : ℕ) → max k (if b then m else n) ≤ w → (b ≡ true → m ≤ w) × (b ≡ false → n ≤ w)
-width_if true m n k w h = ((λ e. omega (arith, h)), (λ e. absurd_bool (sym e)))
-width_if false m n k w h = ((λ e. absurd_bool e), (λ e. omega (arith, h)))
 
 joined_alone : (o : Infix) (d e : Denotation) → is_union o ≡ false → joined o d e ≡ alone (joined o d e).value
 joined_alone Union d e h = absurd_bool (sym h)

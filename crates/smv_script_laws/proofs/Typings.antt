@@ -18,6 +18,8 @@ use Rattle.smv_flat.specs.FlatTree.{leaf_tree, unless_set, is_set, has_set, flat
 use Rattle.smv_width.specs.FlatWidth.{flat_type}
 use Rattle.smv_width.specs.SourceWidth.{has_link, has_operators, link_operators, branch_operators}
 use Rattle.smv_script.specs.Terms.{are_flat_unions}
+use Rattle.smv_flat_laws.proofs.FlatTruths.{not_true}
+use Rattle.smv_script_laws.proofs.Functions.{pick_false}
 
 pub node_typed : (b : Bool) (o : Option ExprType) (t : ExprType) → (if b then o else None) ≡ Some t → (b ≡ true) × (o ≡ Some t)
 node_typed true o t h = (refl, h)
@@ -122,13 +124,6 @@ implies_typed p (Some (u ∷ us)) t h =
     (u, us, refl, (both_true (list_all (logical_fits u) us) true b.0).0, some_same u t b.1)
 
 -- ---- what the flat form keeps
-
-pub pick_false : {X : Type 0} (b : Bool) (x y : X) → b ≡ false → (if b then x else y) ≡ y
-pick_false b x y e = ap (λ c. if c then x else y) e
-
-pub not_true : (b : Bool) → not b ≡ true → b ≡ false
-not_true true h = absurd_bool h
-not_true false h = refl
 
 pub or_first : (a b : Bool) → b ≡ false → (a || b) ≡ true → a ≡ true
 or_first true b e h = refl

@@ -1,5 +1,5 @@
 -- In the states and labels of a model whose checks hold, each variable has a value of its type.
-use Rattle.std.proofs.Common.{◌≡◌, ℕ, zero, suc, ◌+◌, Bool, true, false, not, ◌&&◌, if◌then◌else◌, List, [], ◌∷◌, map, flat_map, Option, Some, None, refl, sym, ap, ◌∙◌, subst, arith}
+use Rattle.std.proofs.Common.{◌≡◌, ℕ, zero, suc, ◌+◌, Bool, true, false, not, if◌then◌else◌, List, [], ◌∷◌, map, flat_map, Option, Some, None, refl, sym, ap, ◌∙◌, subst, arith}
 use Rattle.std.specs.Prelude.{slice_get}
 use Rattle.std.specs.List.{AllByRecursion, list_all}
 use Rattle.text_core.specs.declared.place.Place.{Place}
@@ -20,7 +20,9 @@ use Rattle.smv_meaning.specs.Settled.{types_in}
 use Rattle.smv_meaning.specs.laws.Booleans.{both_true, absurd_bool}
 use Rattle.smv_laws.proofs.Typable.{split}
 use Rattle.smv_items.specs.FlatItems.{Content, variable, definition, actual, Origin, with_content, actual_content, actual_items, domain_content, variable_item, definition_item, element_items, items_here, origins_of, path_of}
-use Rattle.smv_script_laws.proofs.Lists.{all_joined, all_at}
+use Rattle.smv_script_laws.proofs.Lists.{all_at}
+use Rattle.smv_laws.proofs.CheckedLaws.{four}
+use Rattle.smv_script_laws.proofs.Bodies.{all_joined}
 
 -- a variable's value, in the state, or as an input in the label
 abbrev pub value_at : Valuation → Valuation → VarKind → Valuation
@@ -38,13 +40,6 @@ abbrev AllFit : List Instance → Valuation → Valuation → List Origin → Ty
 AllFit t state label ms = AllByRecursion (OriginFits t state label) ms
 
 -- ---- a declared type
-
-four : (a b c d : Bool) → (a && (b && (c && (d && true)))) ≡ true → (((a && b) && c) && d) ≡ true
-four true true true true h = refl
-four true true true false h = absurd_bool h
-four true true false d h = absurd_bool h
-four true false c d h = absurd_bool h
-four false b c d h = absurd_bool h
 
 if_type : (b : Bool) (o : Option ExprType) → b ≡ true → HasType o → HasType (if b then o else None)
 if_type true o b h = h

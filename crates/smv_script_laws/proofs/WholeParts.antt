@@ -42,8 +42,6 @@ use Rattle.moxi_term_reading.specs.declared.locals.Local.{Local}
 use Rattle.moxi_term_reading.specs.Answer.{locals_of}
 use Rattle.moxi_term_print.specs.Standing.{Stands, StandEach, StandsPrime}
 use Rattle.moxi_scripts.specs.Script.{PlainFormula}
-use Rattle.moxi_scripts.proofs.WholeQueries.{place_below}
-use Rattle.smv_accepted.proofs.Lists.{all_joined}
 use Rattle.smv_script.specs.Codes.{sort_of, symbol_datum, number_or_zero}
 use Rattle.smv_script.specs.Operators.{equal_term, integer_term}
 use Rattle.smv_script.specs.Terms.{Coding, translation}
@@ -51,7 +49,7 @@ use Rattle.smv_script.specs.Script.{coding_of, all_term, member_term, interval_p
 use Rattle.smv_script_laws.specs.PlaceLaws.{all_variables}
 use Rattle.smv_script_laws.specs.Standing.{CanStand}
 use Rattle.smv_script_laws.specs.StandingLaws.{place_in_script}
-use Rattle.smv_script_laws.proofs.Applied.{copies, equal_stands, not_stands, integer_stands, between_stands, any_stands, and_stands}
+use Rattle.smv_script_laws.proofs.Applied.{equal_stands, not_stands, integer_stands, between_stands, any_stands, and_stands}
 use Rattle.smv_script_laws.proofs.SortedRows.{same_sort_of, hull_of_sorts}
 use Rattle.smv_script_laws.proofs.Typed.{never_primed}
 use Rattle.smv_script_laws.proofs.Declared.{symbol_placed}
@@ -60,6 +58,9 @@ use Rattle.smv_script_laws.proofs.Sorts.{instances_symbol}
 use Rattle.smv_script_laws.proofs.SortLaws.{item_stands, truth_can, symbol_can, expressions_stand}
 use Rattle.smv_script_laws.proofs.PrintedForms.{IsOfSound, IsTyped, AreTyped, HasItem, IsRole}
 use Rattle.smv_script_laws.proofs.Typings.{node_typed, some_same}
+use Rattle.moxi_term_print.proofs.SortedTerms.{copies}
+use Rattle.name_maps.proofs.FreshNames.{all_joined}
+use Rattle.name_maps.specs.laws.Places.{place_below}
 
 -- primes stand in transitions alone
 abbrev pub primes_of : When → Primes

@@ -34,7 +34,6 @@ use Rattle.smv_width.specs.FlatWidth.{tree_width, width_of}
 use Rattle.smv_width.specs.SourceWidth.{has_operators}
 use Rattle.smv_width.proofs.SpelledWidths.{instances_operators}
 use Rattle.smv_accepted.proofs.ItemNames.{names_differ_law}
-use Rattle.smv_accepted.proofs.Lists.{AllDiffer, Lacks, all_fresh, all_mapped, all_made}
 use Rattle.smv_accepted.proofs.Widths.{width_is_small_law}
 use Rattle.moxi_terms.specs.declared.term.Enumeration.{Enumeration}
 use Rattle.moxi_terms.specs.Words.{operators, indexed_operators, is_operator}
@@ -56,6 +55,7 @@ use Rattle.smv_script_laws.proofs.SortLaws.{width_some}
 use Rattle.smv_script_laws.specs.WholeLaws.{ScriptsAreWhole}
 use Rattle.smv_script_laws.proofs.PrintedForms.{AreTyped, IsRole, items_typed, forms_roles}
 use Rattle.smv_script_laws.proofs.WholeParts.{IsReady, formula_stands, reachables_formulas, forms_low, both_all}
+use Rattle.name_maps.proofs.FreshNames.{AllDiffer, Lacks, all_fresh, all_made, all_mapped}
 
 -- ---- the scope
 

@@ -1,5 +1,5 @@
 -- The queries of a script and what they reach.
-use Rattle.std.proofs.Common.{◌≡◌, ℕ, ◌+◌, ◌++◌, Bool, true, false, Result, Ok, Err, IfOk, List, [], ◌∷◌, codes, drop, get_or, if◌then◌else◌, length, map, refl, subst, sym, ap, ◌∙◌, arith}
+use Rattle.std.proofs.Common.{◌≡◌, ℕ, ◌+◌, ◌++◌, Bool, true, false, Result, Ok, Err, IfOk, List, [], ◌∷◌, codes, drop, get_or, if◌then◌else◌, length, map, refl, sym, ap, ◌∙◌, arith}
 use Rattle.smv_items.specs.declared.items.FlatItem.{FlatItem}
 use Rattle.smv_items.specs.FlatItemView.{item_plain}
 use Rattle.smv_flat.specs.declared.forms.Role.{Role}
@@ -11,12 +11,9 @@ use Rattle.smv_flat.specs.FlatView.{plain_flat}
 use Rattle.smv_flat_laws.specs.FlatTruth.{forms_invariants, role_invariant}
 use Rattle.moxi_scripts.specs.declared.script.Formula.{Formula}
 use Rattle.moxi_scripts.specs.declared.script.Query.{Query}
-use Rattle.moxi_terms.specs.declared.term.Variable.{Variable}
-use Rattle.moxi_terms.specs.Tree.{Tree}
 use Rattle.moxi_terms.specs.View.{ScopeState}
 use Rattle.moxi_terms.specs.Names.{no_scope, with_enumeration}
 use Rattle.moxi_terms.specs.declared.term.Enumeration.{Enumeration}
-use Rattle.moxi_scripts.specs.declared.script.Subsystem.{Subsystem}
 use Rattle.text_core.specs.declared.errors.NoMemory.{NoMemory}
 use Rattle.moxi_scripts.specs.Script.{PlainCheck, PlainFormula, PlainScript, PlainSystem, plain_formula}
 use Rattle.smv_flat.specs.FlatForms.{PlainFlat}
@@ -24,7 +21,6 @@ use Rattle.smv_script.specs.Terms.{Coding}
 use Rattle.smv_script.specs.Script.{check_of, coding_of, place_of_item, queries_from, query_of, reachables_from, script_of, symbol_sort, system_of}
 use Rattle.smv_script_terms.specs.FlatParts.{flat_in}
 use Rattle.smv_to_moxi.specs.Assembling.{symbol_scope, check_form, is_invariant, reachable_of, script_form, script_under, script_with, system_form}
-use Rattle.moxi_scripts.specs.Invariant.{IsSpelled}
 
 role_is : (r : Role) (e : FlatTree) → is_invariant r ≡ true → role_invariant r e ≡ e ∷ []
 role_is Invariant e h = refl
@@ -94,31 +90,9 @@ query_off xs i f all total h e k = ap (λ es. all ++ queries_from (length all) e
 
 -- ---- the parts of a script
 
-abbrev system_with : List ℕ → (ins outs locs : List Variable) → (init trans inv : Tree) → List Subsystem → PlainSystem
-system_with name ins outs locs init trans inv subsystems =
-    record { name = name; inputs = ins; outputs = outs; locals = locs; init = init; trans = trans; inv = inv; subsystems = subsystems }
-
-pub system_same : (n m : List ℕ) (i j o p l k : List Variable) (f g t u v w : Tree) (s r : List Subsystem) → n ≡ m → i ≡ j → o ≡ p → l ≡ k → f ≡ g → t ≡ u → v ≡ w → s ≡ r
-    → system_with n i o l f t v s ≡ system_with m j p k g u w r
-system_same n m i j o p l k f g t u v w s r a b c d e h q z =
-    ap (λ x. system_with x i o l f t v s) a ∙ ap (λ x. system_with m x o l f t v s) b ∙ ap (λ x. system_with m j x l f t v s) c ∙ ap (λ x. system_with m j p x f t v s) d
-    ∙ ap (λ x. system_with m j p k x t v s) e ∙ ap (λ x. system_with m j p k g x v s) h ∙ ap (λ x. system_with m j p k g u x s) q ∙ ap (λ x. system_with m j p k g u w x) z
-
-abbrev check_with : (ins outs locs : List Variable) → (assumptions currents reachables : List PlainFormula) → List Query → PlainCheck
-check_with ins outs locs assumptions currents reachables queries =
-    record { place = record { line = 1; column = 1; offset = 0 }; system = 0; inputs = ins; outputs = outs; locals = locs; assumptions = assumptions; currents = currents; reachables = reachables; queries = queries }
-
-pub check_same : (i j o p l k : List Variable) (f g t u v w : List PlainFormula) (s r : List Query) → i ≡ j → o ≡ p → l ≡ k → f ≡ g → t ≡ u → v ≡ w → s ≡ r → check_with i o l f t v s ≡ check_with j p k g u w r
-check_same i j o p l k f g t u v w s r b c d e h q z =
-    ap (λ x. check_with x o l f t v s) b ∙ ap (λ x. check_with j x l f t v s) c ∙ ap (λ x. check_with j p x f t v s) d
-    ∙ ap (λ x. check_with j p k x t v s) e ∙ ap (λ x. check_with j p k g x v s) h ∙ ap (λ x. check_with j p k g u x s) q ∙ ap (λ x. check_with j p k g u w x) z
-
 pub script_same : (l m : List ℕ) (o p : ScopeState) (s t : PlainSystem) (c d : PlainCheck) → l ≡ m → o ≡ p → s ≡ t → c ≡ d → script_with l o s c ≡ script_with m p t d
 script_same l m o p s t c d a b e f =
     ap (λ x. script_with x o s c) a ∙ ap (λ x. script_with m x s c) b ∙ ap (λ x. script_with m p x c) e ∙ ap (λ x. script_with m p t x) f
-
-pub spelled_by : (s t : PlainScript) → s ≡ t → ∥ IsSpelled t ∥₁ → ∥ IsSpelled s ∥₁
-spelled_by s t e h = subst (λ (x : PlainScript). ∥ IsSpelled x ∥₁) (sym e) h
 
 abbrev pub coding_with : ℕ → (ℕ → ℕ) → Coding
 coding_with width place = record { width = width; place = place }

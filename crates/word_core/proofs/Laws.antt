@@ -7,7 +7,7 @@ use Rattle.word_core.specs.Table.{unary_of, binary_of, slice_of}
 use Rattle.word_core.specs.declared.kinds.Unary.TheVariants.{Not, Inc, Neg}
 use Rattle.word_core.specs.declared.kinds.Binary.TheVariants.{Sgt, Sgte, Slt, Slte, Ugt, Ugte, Ult, Ulte, And, Or, Add, Sub, Mul, Concat}
 
-vector_is : (v w m n : ℕ) → v ≡ w → m ≡ n → (let a : BitVector = record { width = v; bits = m } in a) ≡ record { width = w; bits = n }
+pub vector_is : (v w m n : ℕ) → v ≡ w → m ≡ n → (let a : BitVector = record { width = v; bits = m } in a) ≡ record { width = w; bits = n }
 vector_is v w m n e f = ap (λ (k : ℕ). let a : BitVector = record { width = k; bits = m } in a) e ∙ ap (λ (k : ℕ). let a : BitVector = record { width = w; bits = k } in a) f
 
 pub and_commutes : (a b : BitVector) → a.width ≡ b.width → binary_of And a b ≡ binary_of And b a

@@ -5,7 +5,7 @@ use Rattle.std.specs.Prelude.{bit_and}
 use Rattle.std.proofs.Math.Pow.{high, mod-mod-pow, pow_mono}
 use Rattle.std.proofs.lemmas.Nat.{and_mask, mul-add-lt, pow-add}
 
-top : (w : ℕ) → 1 ≤ 2 ^ w
+pub top : (w : ℕ) → 1 ≤ 2 ^ w
 top w = one-le-pow w 2 (omega arith)
 
 all_but_one : (x y : ℕ) → 1 ≤ x → 1 ≤ y → (x - 1) * y + (y - 1) ≡ x * y - 1

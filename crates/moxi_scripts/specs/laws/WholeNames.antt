@@ -1,11 +1,12 @@
 -- Names that differ: lists put together, and names that are put between them.
-use Rattle.std.proofs.Common.{◌≡◌, ℕ, suc, ◌+◌, Bool, true, false, not, cond, nat_lt, ◌&&◌, ◌||◌, is_none, None, Some, List, [], ◌∷◌, ◌++◌, length, refl, sym, ap, ◌∙◌, arith, append_assoc, append-nil}
-use Rattle.std.specs.List.{AllByRecursion, position_or_len, list_any}
+use Rattle.std.proofs.Common.{◌≡◌, ℕ, ◌+◌, Bool, true, false, not, ◌&&◌, ◌||◌, is_none, List, [], ◌∷◌, ◌++◌, refl, sym, ap, ◌∙◌, append_assoc, append-nil}
+use Rattle.std.specs.List.{AllByRecursion, list_any}
 use Rattle.std.specs.Str.{bytes_eq}
 use Rattle.std.proofs.lemmas.Bool.{and_parts}
 use Rattle.std.proofs.lemmas.List.Folds.{list_any-append}
 use Rattle.std.proofs.lemmas.Slice.Eq.{bytes_eq-Decides}
 use Rattle.name_maps.specs.Names.{are_fresh, place_of}
+use Rattle.name_maps.specs.laws.Places.{placed}
 
 -- no name of the list is equal to this one
 abbrev pub Absent : List (List ℕ) → List ℕ → Type 0
@@ -26,24 +27,6 @@ and_both false b h g = h
 pub not_true : (b : Bool) → not b ≡ true → b ≡ false
 not_true true h = absurd (cc)
 not_true false h = refl
-
-lt_more : (a b : ℕ) → nat_lt (1 + a) (suc b) ≡ nat_lt a b
-lt_more a b = grind arith
-
-any_place : (p : List ℕ → Bool) (names : List (List ℕ)) → nat_lt (position_or_len p names) (length names) ≡ list_any p names
-any_place p [] = refl
-any_place p (name ∷ names) = go (p name) (any_place p names)
-  where
-    go : (b : Bool) → nat_lt (position_or_len p names) (length names) ≡ list_any p names → nat_lt (cond (not b) (1 + position_or_len p names) 0) (suc (length names)) ≡ (b || list_any p names)
-    go true ih = grind arith
-    go false ih = lt_more (position_or_len p names) (length names) ∙ ih
-
-pub placed : (names : List (List ℕ)) (name : List ℕ) → is_none (place_of names name) ≡ not (list_any (bytes_eq name) names)
-placed names name = go (nat_lt (position_or_len (bytes_eq name) names) (length names)) ∙ ap not (any_place (bytes_eq name) names)
-  where
-    go : (b : Bool) → is_none (cond b (Some (position_or_len (bytes_eq name) names)) None) ≡ not b
-    go true = refl
-    go false = refl
 
 pub absent_is : (names : List (List ℕ)) (name : List ℕ) → is_none (place_of names name) ≡ true → Absent names name
 absent_is names name h = not_true (list_any (bytes_eq name) names) (sym (placed names name) ∙ h)

@@ -21,8 +21,9 @@ use Rattle.moxi_terms.specs.View.{ScopeState}
 use Rattle.moxi_terms.specs.Words.{is_operator}
 use Rattle.moxi_scripts.specs.Whole.{AreNames, is_fixed_sort, is_fixed_term}
 use Rattle.moxi_scripts.specs.laws.ListLaws.{get_left}
-use Rattle.moxi_scripts.specs.laws.WholeNames.{Absent, absent_append, absent_is, absent_parts, absent_swap, fresh_between, fresh_more, fresh_end, not_true, or_both, or_parts, placed}
+use Rattle.moxi_scripts.specs.laws.WholeNames.{Absent, absent_append, absent_is, absent_parts, absent_swap, fresh_between, fresh_more, fresh_end, not_true, or_both, or_parts}
 use Rattle.moxi_scripts.specs.laws.WholeParts.{all_append, all_of, all_parts, get_below, map_append}
+use Rattle.name_maps.specs.laws.Places.{placed}
 
 -- THE NAMES OF A SCOPE
 

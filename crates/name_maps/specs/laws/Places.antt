@@ -5,7 +5,7 @@ use Rattle.std.specs.Str.{bytes_eq}
 use Rattle.name_maps.specs.Names.{place_of}
 
 -- a place that was found is one of the list
-found_below : (b : Bool) (n m i : ℕ) → nat_lt n m ≡ b → cond b (Some n) None ≡ Some i → i < m
+pub found_below : (b : Bool) (n m i : ℕ) → nat_lt n m ≡ b → cond b (Some n) None ≡ Some i → i < m
 found_below true n m i t e = let same : n ≡ i = cc in grind arith
 found_below false n m i t e = cc
 
@@ -13,10 +13,10 @@ pub place_below : (names : List (List ℕ)) (name : List ℕ) (i : ℕ) → plac
 place_below names name i e = found_below (nat_lt (position_or_len (bytes_eq name) names) (length names)) _ (length names) i refl e
 
 -- a name has a place where some name is equal to it
-lt_more : (a b : ℕ) → nat_lt (1 + a) (suc b) ≡ nat_lt a b
+pub lt_more : (a b : ℕ) → nat_lt (1 + a) (suc b) ≡ nat_lt a b
 lt_more a b = grind arith
 
-any_place : (p : List ℕ → Bool) (names : List (List ℕ)) → nat_lt (position_or_len p names) (length names) ≡ list_any p names
+pub any_place : (p : List ℕ → Bool) (names : List (List ℕ)) → nat_lt (position_or_len p names) (length names) ≡ list_any p names
 any_place p [] = refl
 any_place p (name ∷ names) = go (p name) (any_place p names)
   where

@@ -1,12 +1,9 @@
 -- Checks one after another: the first that fails refuses.
-use Rattle.std.proofs.Common.{◌≡◌, ℕ, ◌+◌, Bool, true, false, not, ◌&&◌, ◌||◌, nat_le, List, [], ◌∷◌, ◌++◌, map, length, Option, Some, None, is_some, if◌then◌else◌, bytes_eq, append_assoc, refl, sym, ◌∙◌, ap, arith}
+use Rattle.std.proofs.Common.{◌≡◌, ℕ, ◌+◌, Bool, true, false, not, ◌&&◌, ◌||◌, nat_le, List, [], ◌∷◌, ◌++◌, length, Option, Some, None, is_some, if◌then◌else◌, bytes_eq, append_assoc, refl, sym, ◌∙◌, ap}
 use Rattle.text_core.specs.declared.end.End.{End}
 use Rattle.text_core.specs.declared.end.End.TheVariants.{Bad, NoMemory}
 use Rattle.text_core.specs.declared.place.Refusal.{Refusal}
-use Rattle.smv_text.specs.declared.tree.Expr.{Expr}
-use Rattle.smv_text.specs.Tree.{trees_of, PlainModule}
-use Rattle.smv_text.specs.View.{plain}
-use Rattle.smv_meaning.specs.Names.{trees_in}
+use Rattle.smv_text.specs.Tree.{PlainModule}
 use Rattle.smv_meaning.specs.Checks.{Check, check, first_failing}
 use Rattle.smv_meaning.specs.Phases.{Declared, declares_instance, longest_path, most_instances, item_checks, counted, declared_checks}
 use Rattle.smv_meaning.specs.Instances.{dotted, is_one_of}
@@ -58,7 +55,3 @@ seen_more names name x was now e h = put_seen (bytes_eq name x) (is_one_of names
 
 pub counted_is : (b : Bool) (n met : ℕ) (d : Declared) → b ≡ declares_instance d.item → n ≡ (if b then met + 1 else met) → n ≡ counted met d
 counted_is b n met d e h = h ∙ ap (λ c. if c then met + 1 else met) e
-
-pub trees_length : (es : List Expr) → trees_in (trees_of (map plain es)) ≡ length es
-trees_length [] = refl
-trees_length (e ∷ es) = let h = trees_length es in omega arith

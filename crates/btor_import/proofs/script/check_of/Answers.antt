@@ -2,8 +2,9 @@ use Rattle.std.proofs.Common.{ap, ◌∙◌, map}
 use Rattle.btor_tree.specs.Fits.{is_bad}
 use Rattle.moxi_scripts.specs.Script.{plain_formula, plain_system}
 use Rattle.btor_import.specs.Script.{lines_in, reachables_from}
-use Rattle.btor_import.proofs.Scripts.{check_form_is, check_same, system_lists}
+use Rattle.btor_import.proofs.Scripts.{check_form_is, system_lists}
 use Rattle.btor_import.proofs.script.check_of.Goals as goal
+use Rattle.moxi_script_print.proofs.Assembled.{check_same}
 
 pub returns : goal.returns
 returns c =

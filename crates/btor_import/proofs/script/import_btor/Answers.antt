@@ -2,8 +2,9 @@ use Rattle.moxi_scripts.specs.Script.{plain_check, plain_system}
 use Rattle.moxi_scripts.specs.ScriptView.{plain_script}
 use Rattle.btor_import.specs.Assembling.{script_with}
 use Rattle.btor_import.specs.Script.{import_of}
-use Rattle.btor_import.proofs.Scripts.{made_is, script_is, spelled_by}
+use Rattle.btor_import.proofs.Scripts.{made_is, script_is}
 use Rattle.btor_import.proofs.script.import_btor.Goals as goal
+use Rattle.moxi_script_print.proofs.Assembled.{spelled_by}
 
 pub assembled-requires : goal.assembled-requires
 assembled-requires c =

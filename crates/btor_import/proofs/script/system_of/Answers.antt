@@ -2,8 +2,9 @@ use Rattle.std.proofs.Common.{ap, ◌∙◌}
 use Rattle.btor_import.specs.Assembling.{part_of}
 use Rattle.btor_import.specs.Script.{formula_of}
 use Rattle.btor_import.specs.declared.parts.Part.TheVariants.{Init, Trans, Inv}
-use Rattle.btor_import.proofs.Scripts.{system_form_is, system_same}
+use Rattle.btor_import.proofs.Scripts.{system_form_is}
 use Rattle.btor_import.proofs.script.system_of.Goals as goal
+use Rattle.moxi_script_print.proofs.Assembled.{system_same}
 
 pub returns : goal.returns
 returns c =

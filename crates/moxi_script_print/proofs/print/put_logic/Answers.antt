@@ -3,8 +3,9 @@ use Rattle.std.specs.Prelude.{codes}
 use Rattle.moxi_term_print.specs.Shown.{text_of, lines_text}
 use Rattle.moxi_term_print.specs.Terms.{symbol}
 use Rattle.moxi_script_print.specs.Printing.{shown_logic}
-use Rattle.moxi_script_print.proofs.Pieces.{ok_same, logic_end}
+use Rattle.moxi_script_print.proofs.Pieces.{logic_end}
 use Rattle.moxi_script_print.proofs.print.put_logic.Goals as goal
+use Rattle.moxi_term_print.proofs.TextLaws.{ok_same}
 
 pub returns-in_ok-put_head-in-Some : goal.returns-in_ok-put_head-in-Some
 returns-in_ok-put_head-in-Some c =

@@ -3,10 +3,12 @@ use Rattle.std.specs.Prelude.{codes}
 use Rattle.moxi_sexpr.specs.Printing.{bytes_behind}
 use Rattle.moxi_term_print.specs.Shown.{parts_text, text_of}
 use Rattle.moxi_term_print.specs.Terms.{name_at, symbol, variable_names}
-use Rattle.moxi_script_print.specs.Printing.{check_variables, shown_conditions, shown_lists}
+use Rattle.moxi_script_print.specs.Printing.{shown_conditions, shown_lists}
 use Rattle.moxi_scripts.specs.Script.{plain_check}
-use Rattle.moxi_script_print.proofs.Pieces.{ok_same, onto, check_end}
+use Rattle.moxi_script_print.proofs.Pieces.{check_end}
 use Rattle.moxi_script_print.proofs.print_checks.put_check.Goals as goal
+use Rattle.moxi_scripts.specs.Whole.{check_variables}
+use Rattle.moxi_term_print.proofs.TextLaws.{ok_same, onto}
 
 pub returns : goal.returns
 returns c =

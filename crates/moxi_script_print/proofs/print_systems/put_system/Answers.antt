@@ -6,8 +6,9 @@ use Rattle.moxi_term_print.specs.Shown.{parts_text, text_of}
 use Rattle.moxi_term_print.specs.Terms.{symbol, variable_names}
 use Rattle.moxi_script_print.specs.Printing.{shown_lists, shown_formulas, shown_subsystems}
 use Rattle.moxi_scripts.specs.Script.{plain_system, variables_in}
-use Rattle.moxi_script_print.proofs.Pieces.{ok_same, onto, system_end}
+use Rattle.moxi_script_print.proofs.Pieces.{system_end}
 use Rattle.moxi_script_print.proofs.print_systems.put_system.Goals as goal
+use Rattle.moxi_term_print.proofs.TextLaws.{ok_same, onto}
 
 pub returns : goal.returns
 returns c =

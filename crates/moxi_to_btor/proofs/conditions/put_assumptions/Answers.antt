@@ -3,8 +3,9 @@ use Rattle.moxi_scripts.specs.Script.{formula_at, plain_formula}
 use Rattle.moxi_lines.specs.Lines.{with_assumptions, with_formula}
 use Rattle.moxi_to_btor.specs.Queries.{CanPutNumbered, CanPutAssumptions}
 use Rattle.moxi_to_btor.proofs.ConditionSteps.{first_assumption, rest_assumptions, assumption_is}
-use Rattle.moxi_to_btor.proofs.VariableSteps.{all_made, next_number}
+use Rattle.moxi_to_btor.proofs.VariableSteps.{next_number}
 use Rattle.moxi_to_btor.proofs.conditions.put_assumptions.Goals as goal
+use Rattle.moxi_to_btor.proofs.Stepping.{all_made}
 
 pub put_numbered-requires : goal.put_numbered-requires
 put_numbered-requires c =

@@ -4,8 +4,8 @@ use Rattle.moxi_lines.specs.TermLines.{Made}
 use Rattle.moxi_lines.specs.Lines.{with_assumptions, with_currents}
 use Rattle.moxi_to_btor.specs.Queries.{CanPutAssumptions, CanPutCurrents}
 use Rattle.moxi_to_btor.proofs.ConditionSteps.{chain_same, conditions_are, conditions_assumptions, conditions_currents, conditions_fold, conditions_latch, conditions_next, latch_same}
-use Rattle.moxi_to_btor.proofs.VariableSteps.{all_made, made}
 use Rattle.moxi_to_btor.proofs.conditions.put_conditions.Goals as goal
+use Rattle.moxi_to_btor.proofs.Stepping.{all_made, made}
 
 pub put_latch-requires : goal.put_latch-requires
 put_latch-requires c =

@@ -3,8 +3,9 @@ use Rattle.moxi_scripts.specs.Script.{plain_formula}
 use Rattle.moxi_lines.specs.Lines.{with_currents}
 use Rattle.moxi_to_btor.specs.Queries.{CanPutCurrent, CanPutCurrents, current_lines}
 use Rattle.moxi_to_btor.proofs.ConditionSteps.{first_current, rest_currents, current_is}
-use Rattle.moxi_to_btor.proofs.VariableSteps.{all_made, next_number}
+use Rattle.moxi_to_btor.proofs.VariableSteps.{next_number}
 use Rattle.moxi_to_btor.proofs.conditions.put_currents.Goals as goal
+use Rattle.moxi_to_btor.proofs.Stepping.{all_made}
 
 pub put_current-requires : goal.put_current-requires
 put_current-requires c =

@@ -4,8 +4,8 @@ use Rattle.moxi_lines.specs.TermLines.{Made, chain_lines}
 use Rattle.moxi_to_btor.proofs.Stepping.{made_same}
 use Rattle.moxi_to_btor.specs.Queries.{reaching}
 use Rattle.moxi_to_btor.proofs.GoalSteps.{both_can, both_is, met_chain, some_chain}
-use Rattle.moxi_to_btor.proofs.VariableSteps.{made}
 use Rattle.moxi_to_btor.proofs.queries.put_all_met.Goals as goal
+use Rattle.moxi_to_btor.proofs.Stepping.{made}
 
 pub put_chain-requires : goal.put_chain-requires
 put_chain-requires c =

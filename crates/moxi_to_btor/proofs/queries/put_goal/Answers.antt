@@ -3,8 +3,8 @@ use Rattle.moxi_scripts.specs.Script.{formula_at, plain_formula}
 use Rattle.moxi_lines.specs.Lines.{with_formula}
 use Rattle.moxi_to_btor.specs.Queries.{CanPutNumbered}
 use Rattle.moxi_to_btor.proofs.GoalSteps.{goal_numbered, goal_one, goal_several_can, only_one}
-use Rattle.moxi_to_btor.proofs.VariableSteps.{made}
 use Rattle.moxi_to_btor.proofs.queries.put_goal.Goals as goal
+use Rattle.moxi_to_btor.proofs.Stepping.{made}
 
 pub put_numbered-requires : goal.put_numbered-requires
 put_numbered-requires c =

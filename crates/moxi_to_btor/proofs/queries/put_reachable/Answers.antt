@@ -5,8 +5,8 @@ use Rattle.moxi_lines.specs.TermLines.{Made}
 use Rattle.moxi_lines.specs.Lines.{formula_name, with_formula}
 use Rattle.moxi_to_btor.specs.Queries.{CanPutNumbered, reaching}
 use Rattle.moxi_to_btor.proofs.QuerySteps.{latch_here, met_here, name_is, reached_same, reachable_is, reachable_latch, reachable_met, reachable_next, reachable_numbered}
-use Rattle.moxi_to_btor.proofs.VariableSteps.{made}
 use Rattle.moxi_to_btor.proofs.queries.put_reachable.Goals as goal
+use Rattle.moxi_to_btor.proofs.Stepping.{made}
 
 pub put_latch-requires : goal.put_latch-requires
 put_latch-requires c =

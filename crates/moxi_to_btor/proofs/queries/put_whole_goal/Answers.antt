@@ -1,7 +1,7 @@
 use Rattle.std.proofs.Common.{◌∙◌, sym}
 use Rattle.moxi_to_btor.proofs.GoalSteps.{query_conditions, query_held}
-use Rattle.moxi_to_btor.proofs.VariableSteps.{made}
 use Rattle.moxi_to_btor.proofs.queries.put_whole_goal.Goals as goal
+use Rattle.moxi_to_btor.proofs.Stepping.{made}
 
 pub put_conditions-requires : goal.put_conditions-requires
 put_conditions-requires c =

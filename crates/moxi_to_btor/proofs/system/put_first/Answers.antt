@@ -1,7 +1,7 @@
 use Rattle.moxi_to_btor.proofs.Giving.{ok_same}
 use Rattle.moxi_to_btor.proofs.SystemSteps.{head_init, head_is, head_next, head_state}
-use Rattle.moxi_to_btor.proofs.VariableSteps.{made}
 use Rattle.moxi_to_btor.proofs.system.put_first.Goals as goal
+use Rattle.moxi_to_btor.proofs.Stepping.{made}
 
 pub put_free-requires : goal.put_free-requires
 put_free-requires c = head_state c.args.builder.now c.requires

@@ -7,8 +7,8 @@ use Rattle.moxi_lines.specs.Lines.{with_parts}
 use Rattle.moxi_to_btor.specs.Putting.{CanPutParts}
 use Rattle.moxi_to_btor.specs.Queries.{CanPutQueries}
 use Rattle.moxi_to_btor.proofs.SystemSteps.{parts_can, queries_can, variables_are, variables_can}
-use Rattle.moxi_to_btor.proofs.VariableSteps.{all_made}
 use Rattle.moxi_to_btor.proofs.system.to_btor.Goals as goal
+use Rattle.moxi_to_btor.proofs.Stepping.{all_made}
 
 pub put_variables-requires : goal.put_variables-requires
 put_variables-requires c =

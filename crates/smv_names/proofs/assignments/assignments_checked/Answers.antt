@@ -4,9 +4,9 @@ use Rattle.name_maps.specs.Rows.{row_named}
 use Rattle.smv_meaning.specs.Checks.{first_failing}
 use Rattle.smv_meaning.specs.Phases.{assigned_checks, clashes, is_assignable}
 use Rattle.smv_names.specs.Assigning.{assigned_plain, assigned_path, target_path, kinds_clash, kinds_or_none, with_kind}
-use Rattle.smv_names.proofs.Lists.{front_is}
 use Rattle.smv_names.proofs.AssignLemmas.{none_assigned, target_is, twice, once, assigned_more, mapped_at}
 use Rattle.smv_names.proofs.assignments.assignments_checked.Goals as goal
+use Rattle.smv_meaning.specs.laws.Lists.{front_is}
 
 pub loop-k-init : goal.loop-k-init
 loop-k-init c = ([], none_assigned c.in_ok-seen.seen c.in_ok-seen.ensures, refl)

@@ -5,11 +5,11 @@ use Rattle.smv_meaning.specs.Checks.{first_failing}
 use Rattle.smv_meaning.specs.Phases.{counted, declared_checks, counted_all}
 use Rattle.smv_names.specs.Declaring.{first_twice, is_place}
 use Rattle.smv_names.specs.View.{declared_plain, names_above}
-use Rattle.smv_names.proofs.Lists.{front_is}
 use Rattle.smv_names.proofs.DeclaringLemmas.{placed_here, twice_later, refused_twice}
 use Rattle.smv_names.specs.laws.Composing.{declared_next, counted_is}
 use Rattle.smv_names.proofs.declarations.declared_checked.Goals as goal
 use Rattle.smv_names.proofs.declarations.declared_checked.Goals.{then-is_instance, else-is_instance}
+use Rattle.smv_meaning.specs.laws.Lists.{front_is}
 
 pub loop-k-init : goal.loop-k-init
 loop-k-init c =

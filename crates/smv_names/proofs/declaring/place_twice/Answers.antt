@@ -3,10 +3,10 @@ use Rattle.smv_meaning.specs.Instances.{is_one_of}
 use Rattle.name_maps.specs.Rows.{row_named}
 use Rattle.smv_names.specs.View.{declared_plain}
 use Rattle.smv_names.specs.Declaring.{first_twice}
-use Rattle.smv_names.proofs.Lists.{front_is}
 use Rattle.smv_names.proofs.DeclaringLemmas.{twice_here, twice_later}
 use Rattle.smv_names.specs.laws.Composing.{seen_more}
 use Rattle.smv_names.proofs.declaring.place_twice.Goals as goal
+use Rattle.smv_meaning.specs.laws.Lists.{front_is}
 
 pub returns-then-is_some : goal.returns-then-is_some
 returns-then-is_some c =

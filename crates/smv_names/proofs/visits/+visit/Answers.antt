@@ -8,10 +8,10 @@ use Rattle.smv_meaning.specs.Checks.{first_failing}
 use Rattle.smv_names.specs.Outcome.{IsBad}
 use Rattle.smv_names.specs.View.{declared_plain, names_above}
 use Rattle.smv_names.specs.Visits.{item_visits, declared_visits, visits, visit_checks, visit_count}
-use Rattle.smv_names.proofs.Lists.{front_is}
 use Rattle.smv_names.proofs.Above.{one_above}
 use Rattle.smv_names.proofs.Visiting.{visits_none, begins_bad, begins_well, begins_count, goes_on, ends_in, count_append}
 use Rattle.smv_names.proofs.visits.+visit.Goals as goal
+use Rattle.smv_meaning.specs.laws.Lists.{front_is}
 
 pub visited-returns-then-deep-eq0-clause-counts : goal.visited-returns-then-deep-eq0-clause-counts
 visited-returns-then-deep-eq0-clause-counts t c =

@@ -7,8 +7,9 @@ use Rattle.smv_grammar.specs.Rules.{path, enclosed, target_pick}
 use Rattle.smv_grammar.proofs.Mapped.{mapped_reads, mapped_dies}
 use Rattle.smv_parse.proofs.Leads.{gives_exit}
 use Rattle.smv_parse.proofs.Numerals.{path_found, path_loses}
-use Rattle.smv_parse.proofs.Turns.{always_of, target_first, target_path}
+use Rattle.smv_parse.proofs.Turns.{target_first, target_path}
 use Rattle.smv_parse.proofs.module_sections.target.Goals as goal
+use Rattle.smv_grammar.proofs.Sections.{always_of}
 
 pub returns-in_err-target-clause-reads : goal.returns-in_err-target-clause-reads
 returns-in_err-target-clause-reads c h =

@@ -2,9 +2,10 @@ use Rattle.moxi_scripts.specs.ScriptView.{plain_script}
 use Rattle.smv_flatten.specs.FlatModel.{flat_plain}
 use Rattle.smv_script.specs.Script.{script_of}
 use Rattle.smv_to_moxi.proofs.SpelledScripts.{model_spelled}
-use Rattle.smv_to_moxi.proofs.Scripts.{made_is, spelled_by}
+use Rattle.smv_to_moxi.proofs.Scripts.{made_is}
 use Rattle.smv_to_moxi.proofs.Bounded.{made_bounded}
 use Rattle.smv_to_moxi.proofs.flat_script.to_moxi.Goals as goal
+use Rattle.moxi_script_print.proofs.Assembled.{spelled_by}
 
 pub assembled-script-requires : goal.assembled-script-requires
 assembled-script-requires c =

@@ -1,7 +1,7 @@
 use Rattle.std.proofs.Common.{◌∙◌, ◌++◌, ◌∷◌, [], ap, Some}
 use Rattle.moxi_scripts.specs.Invariant.{script_of}
-use Rattle.smv_to_moxi.proofs.Scripts.{spelled_by}
 use Rattle.smv_to_moxi.proofs.script.assembled.Goals as goal
+use Rattle.moxi_script_print.proofs.Assembled.{spelled_by}
 
 pub invariant_of-result : goal.invariant_of-result
 invariant_of-result c = record {

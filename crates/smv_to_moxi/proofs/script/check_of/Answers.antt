@@ -3,8 +3,9 @@ use Rattle.smv_flat_laws.specs.FlatTruth.{forms_invariants}
 use Rattle.moxi_scripts.specs.Script.{plain_formula, plain_system}
 use Rattle.smv_script.specs.Script.{reachables_from}
 use Rattle.smv_script_terms.specs.FlatParts.{plain_parts}
-use Rattle.smv_to_moxi.proofs.Scripts.{check_form_is, check_same, system_lists}
+use Rattle.smv_to_moxi.proofs.Scripts.{check_form_is, system_lists}
 use Rattle.smv_to_moxi.proofs.script.check_of.Goals as goal
+use Rattle.moxi_script_print.proofs.Assembled.{check_same}
 
 pub returns : goal.returns
 returns c =

@@ -2,8 +2,9 @@ use Rattle.std.proofs.Common.{◌∙◌, ap}
 use Rattle.smv_text.specs.declared.tree.When.TheVariants.{Always, First, Following}
 use Rattle.smv_script.specs.Script.{formula_of}
 use Rattle.smv_script_terms.specs.FlatParts.{plain_parts}
-use Rattle.smv_to_moxi.proofs.Scripts.{system_form_is, system_same}
+use Rattle.smv_to_moxi.proofs.Scripts.{system_form_is}
 use Rattle.smv_to_moxi.proofs.script.system_with.Goals as goal
+use Rattle.moxi_script_print.proofs.Assembled.{system_same}
 
 pub returns : goal.returns
 returns c =

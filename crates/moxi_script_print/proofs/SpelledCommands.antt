@@ -1,19 +1,10 @@
 -- Forms that are shown so, all at the start of a text, spell a whole script whose check stands there.
-use Rattle.std.proofs.Common.{◌≡◌, ℕ, Bool, true, false, not, ◌&&◌, ◌||◌, ◌==◌, if◌then◌else◌, IfSome, IsTrue, List, [], ◌∷◌, Option, Some, None, refl, sym, ap, ◌∙◌, subst}
-use Rattle.std.specs.List.{list_all}
-use Rattle.std.proofs.lemmas.Bool.{and_from, and_parts, eqb-true}
+use Rattle.std.proofs.Common.{◌≡◌, Bool, true, false, if◌then◌else◌, IfSome, Option, Some, None, refl, sym, ap, ◌∙◌, subst, ℕ, not, ◌&&◌, ◌||◌, ◌==◌, IsTrue, List, [], ◌∷◌}
 use Rattle.text_core.specs.declared.place.Place.{Place}
 use Rattle.text_core.specs.Places.{start}
-use Rattle.moxi_sexpr.specs.declared.form.Atom.TheVariants.{Symbol}
-use Rattle.moxi_sexpr.specs.Atoms.{is_simple, may_stand}
-use Rattle.moxi_sexpr.specs.Bytes.{is_symbol_byte, is_barred_byte}
-use Rattle.moxi_sexpr.specs.Printing.{IsPrintable, ArePrintable, is_among, reserved_words}
-use Rattle.moxi_sexpr.specs.Tree as form
 use Rattle.moxi_terms.specs.View.{ScopeState}
-use Rattle.moxi_term_print.specs.Shown.{Shown, word, part, group, Showns, no_showns, shown, CanBeShown, AllCanBeShown, Shows, ShowEach}
-use Rattle.moxi_term_print.specs.StandingNames.{IsSpellable}
+use Rattle.moxi_term_print.specs.Shown.{Shown, word, part, group, Showns, no_showns, shown, AllCanBeShown, ShowEach, CanBeShown, Shows}
 use Rattle.moxi_scripts.specs.declared.parts.CommandName.{CommandName}
-use Rattle.moxi_scripts.specs.declared.parts.CommandName.TheVariants as name
 use Rattle.moxi_scripts.specs.declared.parts.Command.TheVariants.{Check}
 use Rattle.moxi_scripts.specs.Attributes.{shape_holds}
 use Rattle.moxi_scripts.specs.Checks.{CheckReading, content_of, check_in, check_of}
@@ -26,6 +17,15 @@ use Rattle.moxi_script_print.specs.NamesOfScripts.{HasSpellableNames}
 use Rattle.moxi_script_print.specs.Printing.{shown_script}
 use Rattle.moxi_script_print.specs.Again.{with_place, ReadsAs}
 use Rattle.moxi_scripts.specs.Whole.{IsWhole}
+use Rattle.std.specs.List.{list_all}
+use Rattle.std.proofs.lemmas.Bool.{and_from, and_parts, eqb-true}
+use Rattle.moxi_sexpr.specs.declared.form.Atom.TheVariants.{Symbol}
+use Rattle.moxi_sexpr.specs.Atoms.{is_simple, may_stand}
+use Rattle.moxi_sexpr.specs.Bytes.{is_symbol_byte, is_barred_byte}
+use Rattle.moxi_sexpr.specs.Printing.{IsPrintable, ArePrintable, is_among, reserved_words}
+use Rattle.moxi_term_print.specs.StandingNames.{IsSpellable}
+use Rattle.moxi_sexpr.specs.Tree as form
+use Rattle.moxi_scripts.specs.declared.parts.CommandName.TheVariants as name
 
 -- ---- what has no bar and no backslash can be spelled
 
@@ -62,31 +62,31 @@ abbrev mutual
   all_formed (shown x xs) = form.tree (formed x) (all_formed xs)
 
 mutual
-  formed_shows : (x : Shown) → Shows (formed x) x
+  pub formed_shows : (x : Shown) → Shows (formed x) x
   formed_shows (word w) = refl
   formed_shows (part a) = refl
   formed_shows (group xs) = all_shown xs
 
-  all_shown : (xs : Showns) → ShowEach (all_formed xs) xs
+  pub all_shown : (xs : Showns) → ShowEach (all_formed xs) xs
   all_shown no_showns = tt
   all_shown (shown x xs) = (formed_shows x, all_shown xs)
 
 mutual
-  formed_printable : (x : Shown) → CanBeShown x → IsPrintable (formed x)
+  pub formed_printable : (x : Shown) → CanBeShown x → IsPrintable (formed x)
   formed_printable (word w) h = barred_spellable w (all_bytes is_symbol_byte is_barred_byte (λ b g. not_barred b is_symbol_byte g refl refl) w (and_parts _ (list_all is_symbol_byte w) h).1)
   formed_printable (part a) h = h
   formed_printable (group xs) h = all_printable xs h
 
-  all_printable : (xs : Showns) → AllCanBeShown xs → ArePrintable (all_formed xs)
+  pub all_printable : (xs : Showns) → AllCanBeShown xs → ArePrintable (all_formed xs)
   all_printable no_showns h = tt
   all_printable (shown x xs) h = (formed_printable x h.0, all_printable xs h.1)
 
 -- ---- the check that is read stands at the start
 
-abbrev StartsIf : Option CheckReading → Type 0
+abbrev pub StartsIf : Option CheckReading → Type 0
 StartsIf o = IfSome o (λ (c : CheckReading). c.place ≡ start)
 
-check_starts : (s : ScopeState) (o : Option HeadedForms) → StartsIf (check_in s start o)
+pub check_starts : (s : ScopeState) (o : Option HeadedForms) → StartsIf (check_in s start o)
 check_starts s None = tt
 check_starts s (Some h) = by (shape_holds Check h.rest)
   where
@@ -94,11 +94,11 @@ check_starts s (Some h) = by (shape_holds Check h.rest)
     by true = refl
     by false = tt
 
-first_starts : (old : Option CheckReading) (b : Bool) (new : Option CheckReading) → StartsIf old → StartsIf new → StartsIf (first_check old b new)
+pub first_starts : (old : Option CheckReading) (b : Bool) (new : Option CheckReading) → StartsIf old → StartsIf new → StartsIf (first_check old b new)
 first_starts old true new h k = h
 first_starts old false new h k = k
 
-command_starts : (c : CommandName) (r : Reading) (ts : form.Trees) → StartsIf r.check → StartsIf (with_command c r start ts).check
+pub command_starts : (c : CommandName) (r : Reading) (ts : form.Trees) → StartsIf r.check → StartsIf (with_command c r start ts).check
 command_starts name.Logic r ts h = h
 command_starts name.PassedOver r ts h = h
 command_starts name.Enumeration r ts h = h
@@ -107,24 +107,22 @@ command_starts name.Function r ts h = h
 command_starts name.System r ts h = h
 command_starts name.Check r ts h = first_starts r.check r.checked (check_of r.scope start ts) h (check_starts r.scope (headed ts))
 
-known_starts : (o : Option CommandName) (r : Reading) (ts : form.Trees) → StartsIf r.check → StartsIf (with_known o r start ts).check
+pub known_starts : (o : Option CommandName) (r : Reading) (ts : form.Trees) → StartsIf r.check → StartsIf (with_known o r start ts).check
 known_starts None r ts h = h
 known_starts (Some c) r ts h = command_starts c r ts h
 
-headed_starts : (o : Option HeadedForms) (r : Reading) → StartsIf r.check → StartsIf (with_headed r start o).check
+pub headed_starts : (o : Option HeadedForms) (r : Reading) → StartsIf r.check → StartsIf (with_headed r start o).check
 headed_starts None r h = h
 headed_starts (Some f) r h = known_starts (command_named f.name) r f.rest h
 
-form_starts : (r : Reading) (x : Shown) → StartsIf r.check → StartsIf (with_form r (formed x)).check
+pub form_starts : (r : Reading) (x : Shown) → StartsIf r.check → StartsIf (with_form r (formed x)).check
 form_starts r (word w) h = h
 form_starts r (part a) h = h
 form_starts r (group xs) h = headed_starts (headed (all_formed xs)) r h
 
-forms_start : (r : Reading) (xs : Showns) → StartsIf r.check → StartsIf (reading_after r (all_formed xs)).check
+pub forms_start : (r : Reading) (xs : Showns) → StartsIf r.check → StartsIf (reading_after r (all_formed xs)).check
 forms_start r no_showns h = h
 forms_start r (shown x xs) h = forms_start (with_form r (formed x)) xs (form_starts r x h)
-
--- ---- scripts
 
 -- what is known of scripts that are printed
 abbrev pub CanBePrinted : Type 0
