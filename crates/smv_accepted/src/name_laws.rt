@@ -6,7 +6,7 @@ pub fn names_differ()
     ensures { NamesDiffer }
 {}
 
-/// Proves that each dotted name occurs once.
+/// Proves that each dotted name occurs once, at the number of its item.
 pub fn names_stand_once()
     ensures { NamesStandOnce }
 {}

@@ -144,7 +144,7 @@ pub fn lower_smv_files<F: Shelf>(
 
 /// Proves that the witness that is written for an accepted model and a trace states the trace's run.
 ///
-/// If the judge says Yes to the trace, the judge of witnesses says Yes to the witness, and the witness is lifted to the
+/// Suppose the judge says Yes to the trace. Then the judge of witnesses says Yes to the witness, which is lifted to the
 /// same run.
 pub fn runs_are_lowered()
     ensures { RunsAreLowered }

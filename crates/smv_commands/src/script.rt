@@ -86,8 +86,8 @@ fn text_of(alloc: Global, flat: &Flat) -> Result<Text, NoMemory>
 
 /// Proves that the text written for an accepted model spells one script, which has the model's behavior.
 ///
-/// In the script, some trace meets query j at step k exactly where the model has a run of k transitions whose last
-/// state breaks invariant j.
+/// Some trace of the script meets query j at step k exactly where the model has a run that breaks invariant j. Such a
+/// run has k transitions, and its last state breaks the invariant.
 pub fn scripts_stand()
     ensures { ScriptsStand }
 {

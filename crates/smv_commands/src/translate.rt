@@ -86,9 +86,9 @@ fn chain_text(alloc: Global, chain: &SmvChain) -> Result<Text, End>
 
 /// Proves that the text written for an accepted model spells one list of lines, which has the model's behavior.
 ///
-/// Frames 0 to k with every constraint true have bad line j true in frame k exactly where the model has a run of k
-/// transitions whose last state breaks invariant j. The lines are few, and no two sorts, constants or operators among
-/// them are the same.
+/// Frames 0 to k with every constraint true reach bad line j at frame k exactly where a run breaks invariant j. Such a
+/// run has k transitions, and its last state breaks the invariant. The lines are few, and no two sorts, constants or
+/// operators among them are the same.
 pub fn translations_stand()
     ensures { TranslationsStand }
 {

@@ -1,5 +1,5 @@
-// Each word literal of a model is a word. The type of words says so; this pass over the model shows it to contracts,
-// which see only plain forms.
+// Each word literal of a model is a word, as its type ensures. This pass over the model proves it for contracts, which
+// see only plain forms.
 ghost use Rattle.std.specs.Prelude.{IsTrue, map};
 ghost use Rattle.std.specs.List.{list_all, flat_map};
 ghost use Rattle.smv_text.specs.Tree.{links_of, branches_of, trees_of};

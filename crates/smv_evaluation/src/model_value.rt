@@ -48,11 +48,10 @@ fn place_of<'a>(table: &[Instance<'a>], path: &[u8]) -> Option<usize>
 /// The model's paths, cycles and types are checked. The expression is one of the instance's module, or part of one. A
 /// set has no value, and neither has the name of an instance.
 ///
-/// The states give each variable a value of its type. A label is given where the expression reaches an input.
+/// The states have a value of its type for each variable. A label is given where the expression reaches an input.
 ///
-/// Each definition and actual that the expression reaches is evaluated once for the state and once for the following
-/// state, after those to which it refers. None is evaluated within another, so stack use is bounded by the nesting of a
-/// single expression.
+/// Each definition and actual that the expression reaches is evaluated once per state, after those to which it refers.
+/// None is evaluated within another, so stack use is bounded by the nesting of a single expression.
 pub fn value_at<'a>(
     alloc: Global,
     source: &'a Source,

@@ -113,8 +113,7 @@ fn put_constant(token: &Token, rest: &[Token], kept: &mut Kept) -> bool
     }
 }
 
-// The number of levels at which the first operand is read: 8 for a range, 4 or 2 for a prefix operator, and 0 for all
-// else.
+// The number of levels at which the first operand is read: 8 for a range, 4 or 2 for a prefix operator, or else 0.
 fn first_level(levels: usize, tokens: &[Token]) -> usize
     ensures { result ≡ first_level levels tokens.now }
 {
@@ -173,8 +172,8 @@ fn range<'a>(place: Place, tokens: &'a [Token], kept: &mut Kept) -> Result<&'a [
     Ok(rest)
 }
 
-// Continues an operand that was read at `level` levels: each time at the level that the next token continues, as long
-// as it is one of those between.
+// Continues an operand that was read at `level` levels. Each step takes the level that the next token continues, while
+// it is one of those between.
 #[cycle(read)]
 #[inline(always)]
 fn climb<'a>(

@@ -5,11 +5,11 @@ use std::alloc::{AllocError, AllocFailed};
 /// The reason why no expression was read.
 #[derive(Drop)]
 pub enum Stop {
-    /// No spelling continues with the next token.
+    /// The token with which no spelling continues.
     ///
-    /// The number is that of the remaining tokens, from that token on.
+    /// It is given by the number of remaining tokens, itself included.
     Dead(usize),
-    /// Memory ran out.
+    /// Out of memory.
     NoMemory,
 }
 

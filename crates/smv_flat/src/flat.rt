@@ -129,7 +129,7 @@ fn next_node(place: Place, at: Standing, operand: Typed) -> Typed
 
 /// Returns the flat form of an expression at this position in the instance with this number.
 ///
-/// `under` says whether it is under `next`.
+/// `under` is whether the expression is under `next`.
 #[cycle(flat_form)]
 pub(crate) fn flat<'s, 'a, 'n, N: Naming>(
     alloc: Global,

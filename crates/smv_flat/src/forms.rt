@@ -28,8 +28,8 @@ pub struct FlatFormula {
 
 /// A formula as written in the model.
 ///
-/// It has the number of its instance, its role, the number of the instance in which its expression is read, the
-/// expression, and the position of the expression.
+/// It has its role, the number of its instance, and its expression with its position. `reader` is the number of the
+/// instance in which the expression is read.
 #[derive(Clone, Copy)]
 pub struct SourceFormula<'a> {
     pub instance: usize,

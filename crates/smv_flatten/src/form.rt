@@ -65,7 +65,7 @@ impl Flat {
         &self.formulas
     }
 
-    /// Returns the bits of an integer, from 1 to 64.
+    /// Returns the width of an integer in bits, from 1 to 64.
     ///
     /// It is 1 where no integer occurs.
     pub fn width(&self) -> u32

@@ -6,8 +6,8 @@ use text_core::List;
 
 /// The results of the checks of an accepted model.
 ///
-/// They are its instances, its definitions and actuals, an order of these with each after those to which it refers, and
-/// the types of its names.
+/// They are its instances, its definitions and actuals, and the types of its names. `order` lists each definition and
+/// actual after those to which it refers.
 #[derive(Drop)]
 pub struct Accepted<'a> {
     pub table: Table<'a>,

@@ -161,7 +161,9 @@ pub fn first_rank(tokens: &[Token]) -> usize
     }
 }
 
-/// Returns the level with rank n + 1, so that level 0 binds the tightest.
+/// Returns the level above n others, so that level 0 binds the tightest.
+///
+/// Its rank is n + 1.
 pub fn level_at(n: usize) -> Level
     requires { n < 16 }
     ensures { result ≡ level_at n }

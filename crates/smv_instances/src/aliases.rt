@@ -1,4 +1,4 @@
-// The leads of all aliases.
+// Computing the leads of all aliases.
 ghost use Rattle.std.specs.Prelude.{◌≡◌, ◌<◌, ◌+◌, ◌-◌, ◌^◌, Some, None, true, false, length, map, slice_index_or, IfOk, OnOk};
 ghost use Rattle.name_maps.specs.Rows.{row_in};
 ghost use Rattle.smv_instances.specs.Leads.{Right, IsOpen, StaysClosed, KeyWalk, WaitsIfOpen, AllWait, IsClosed, AreAll, AreCounted, led};
@@ -12,7 +12,8 @@ use name_maps::{InstanceMap, add_row_in, no_rows_in, nothing_in, put_in, row_val
 use std::alloc::Global;
 use text_core::NoMemory;
 
-// There are fewer leads than parameters when one more is kept, so the depth stays within a number.
+// One more level of depth. Before a lead is added there are fewer leads than parameters, so the depth does not
+// overflow.
 fn deeper<'a>(lead: Lead<'a>) -> Lead<'a>
     requires { lead.depth < 2 ^ 64 - 1 }
     ensures depth { result.depth ≡ lead.entry.depth + 1 }
@@ -24,7 +25,7 @@ fn deeper<'a>(lead: Lead<'a>) -> Lead<'a>
     }
 }
 
-// The walk of a parameter that is an alias of which no lead is kept.
+// The walk of a parameter that is an alias without a stored lead.
 fn alias_walk<'a>(parts: &Parts<'a>, leads: &Leads<'a>, key: Key<'a>) -> Option<Walk<'a>>
     requires right { Right (map instance_plain parts.now) leads.now }
     requires new { row_in leads.now key.instance key.name.now ≡ None }
@@ -49,7 +50,7 @@ fn key_walk<'a>(parts: &Parts<'a>, leads: &Leads<'a>, key: Key<'a>) -> Option<Wa
     }
 }
 
-// Keeps the lead of a parameter, which is one of `keys`.
+// Stores the lead of a parameter, which is one of `keys`.
 fn keep_deeper<'a>(
     parts: &Parts<'a>,
     leads: &mut Leads<'a>,
@@ -72,7 +73,7 @@ fn keep_deeper<'a>(
     Ok(())
 }
 
-// Keeps the lead of a parameter that is an open alias, where its walk ends, and says whether it does.
+// Stores the lead of an open alias if its walk ends, and returns whether it does.
 fn retried<'a>(
     parts: &Parts<'a>,
     leads: &mut Leads<'a>,
@@ -233,7 +234,7 @@ pub fn leads_of<'a>(alloc: Global, parts: &Parts<'a>) -> Result<Leads<'a>, NoMem
     if all_searched(alloc, parts, &mut leads, keys.as_slice())? {
         return Ok(leads);
     }
-    // Each round but the last keeps a lead.
+    // Each round but the last stores a lead.
     while all_retried(parts, &mut leads, keys.as_slice())? {}
     Ok(leads)
 }

@@ -22,7 +22,7 @@ fn put_part<'a>(children: &mut Children<'a>, c: usize, part: &Instance<'a>) -> R
     }
 }
 
-/// Returns, for each instance and name in it, the first instance with that name.
+/// Returns the first instance with each name, by the enclosing instance and the name.
 #[tactic(auto, using(crate::specs::laws::ChildLemmas::with_part, crate::specs::laws::ChildLemmas::whole))]
 pub fn children_of<'a>(alloc: Global, table: &[Instance<'a>]) -> Result<Children<'a>, NoMemory>
     ensures { IfOk result (λ m. (i : ℕ) (x : List ℕ) → row_in m i x ≡ position (is_child i x) (map instance_plain table.now)) }

@@ -18,7 +18,7 @@ use text_core::NoMemory;
 /// The meaning of names in instances, by instance and name.
 pub type KnownNames<'a> = InstanceRows<'a, Known<'a>>;
 
-// The number of names that a module declares, or the greatest number if it is exceeded.
+// The number of names that a module declares, saturated at `usize::MAX`.
 fn names_in(module: &Module) -> usize
     ensures { result ≡ min (names_of (plain_module «module».now)) (2 ^ 64 - 1) }
 {
@@ -139,7 +139,7 @@ fn put_instance<'a>(
     Ok(())
 }
 
-/// Returns the number of names in all instances, or the greatest number if it is exceeded.
+/// Returns the number of names in all instances, saturated at `usize::MAX`.
 #[tactic(auto, using(crate::proofs::TableLemmas::names_on))]
 pub fn names_in_all<'a>(table: &[Instance<'a>]) -> usize
     ensures { result ≡ min (sum_by (λ at. names_of at.«module») (map instance_plain table.now)) (2 ^ 64 - 1) }
@@ -151,7 +151,7 @@ pub fn names_in_all<'a>(table: &[Instance<'a>]) -> usize
     count
 }
 
-// The number of names of a module that have rows, or the greatest number if it is exceeded.
+// The number of names of a module that have rows, saturated at `usize::MAX`.
 fn kept_names_in(module: &Module) -> usize
     ensures { result ≡ min (kept_names_of (plain_module «module».now)) (2 ^ 64 - 1) }
 {
@@ -162,7 +162,7 @@ fn kept_names_in(module: &Module) -> usize
     }
 }
 
-// The number of names that have rows, or the greatest number if it is exceeded.
+// The number of names that have rows, saturated at `usize::MAX`.
 #[tactic(auto, using(crate::proofs::TableLemmas::kept_names_on))]
 fn kept_names_in_all<'a>(table: &[Instance<'a>]) -> usize
     ensures { result ≡ min (sum_by (λ at. kept_names_of at.«module») (map instance_plain table.now)) (2 ^ 64 - 1) }

@@ -40,6 +40,7 @@ impl<'a> Model for ModuleTable<'a> {
 }
 
 impl<'a> ModuleTable<'a> {
+    /// Creates the table of a model's modules.
     pub fn of(alloc: Global, modules: &'a Modules) -> Result<ModuleTable<'a>, NoMemory>
         ensures { IfOk result (λ t. t ≡ modules.now) }
     {

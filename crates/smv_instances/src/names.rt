@@ -25,8 +25,7 @@ pub enum Known<'a> {
 pub enum Target<'a> {
     /// A variable: the number of its instance, its name there, its kind and its type.
     Variable(usize, &'a [u8], VarKind, &'a Domain),
-    /// A definition or an actual: the number of its instance, its name there, the number of the instance in which its
-    /// body is read, and the body.
+    /// A definition or an actual: its instance, its name there, the instance in which its body is read, and the body.
     Body(usize, &'a [u8], usize, &'a Expr),
     /// An instance, by its number.
     Instance(usize),

@@ -1,4 +1,4 @@
-// The instances of a model, with what single names are in them.
+// The instances of a model, with the meaning of single names in them.
 ghost use Rattle.std.specs.Prelude.{◌≡◌, ◌<◌, ◌-◌, ◌^◌, min, length, map, position, slice_index_or, sum_by, IfOk};
 ghost use Rattle.smv_text.specs.View.{plain_element};
 ghost use Rattle.smv_meaning.specs.Names.{definitions_in, bodies_in, steps_of, local, is_child, has_symbol};
@@ -117,8 +117,9 @@ impl<'a> Parts<'a> {
         value_under(&self.symbols, x).is_some()
     }
 
-    /// How many definitions and actuals there are, and one more, as far as a number can tell it: no more of them lead into one
-    /// another without a cycle.
+    /// Returns the number of definitions and actuals, plus one, saturated at `usize::MAX`.
+    ///
+    /// Without a cycle, no chain of them is longer.
     pub fn steps(&self) -> usize
         ensures { result ≡ min (steps_of (map instance_plain self.now)) (2 ^ 64 - 1) }
     {
@@ -126,7 +127,7 @@ impl<'a> Parts<'a> {
     }
 }
 
-// How many definitions and actuals there are, and one more, as far as a number can tell it.
+// The number of definitions and actuals, plus one, saturated at `usize::MAX`.
 #[tactic(auto, using(crate::proofs::TableLemmas::steps_on))]
 fn counted<'a>(table: &[Instance<'a>]) -> usize
     ensures { result ≡ min (steps_of (map instance_plain table.now)) (2 ^ 64 - 1) }

@@ -64,7 +64,7 @@ pub fn is_same_name(one: &Path, other: &Path) -> bool
     is_same_single(one, other)
 }
 
-// What is reached in as many steps as the instances allow.
+// The target of a lead, or a cycle where the lead needs more steps than the instances allow.
 fn reached<'a>(parts: &Parts<'a>, lead: Lead<'a>) -> Target<'a>
     ensures { (t : List Specified) → found_plain t result ≡ until lead.entry.depth (steps_of (map instance_plain parts.now)) (found_plain t lead.entry.target) }
 {

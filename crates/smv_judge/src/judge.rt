@@ -122,8 +122,8 @@ pub fn judge_flat(alloc: Global, flat: &Flat, j: u32, run: &Run) -> Result<Verdi
 /// Returns the verdict on a stated run for invariant j, counted from 0 (NuSMV 2.6 User Manual, 2.3 and 2.4).
 ///
 /// It is Yes exactly where the states and labels are a run of the model whose last state breaks the invariant.
-/// Otherwise it is the earliest step with its first failing clause. A label and a transition belong to the step to
-/// which they lead.
+/// Otherwise it is No, with the earliest failing step and its first failing clause. A label and a transition belong to
+/// the step to which they lead.
 pub fn judge_smv(alloc: Global, source: &Source, j: u32, run: &Run) -> Result<Verdict, NoMemory>
     // A text parses to the model, its checks hold, and it has the invariant.
     requires read { IsRead (plain_source source.now) }

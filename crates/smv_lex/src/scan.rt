@@ -8,6 +8,7 @@ ghost use Rattle.text_core.specs.Places.{Reaches, after};
 use crate::signs::heads;
 use text_core::{Place, is_digit};
 
+/// Returns whether a byte is an ASCII letter or `_`.
 pub fn is_letter(b: u8) -> bool
     ensures { result ≡ is_letter b }
 {

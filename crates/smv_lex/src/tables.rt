@@ -6,7 +6,7 @@ ghost use Rattle.smv_lex.specs.Reading.{first_of, row};
 
 use smv_text::Reserved;
 
-/// A word that is not an identifier, and the reserved word that it is where it is supported.
+/// A word that is not an identifier, and its reserved word if it is supported.
 pub type Keyword = (&'static [u8], Option<Reserved>);
 
 const UPPER_A: [Keyword; 7] = [

@@ -46,8 +46,9 @@ impl<'a> Types<'a> {
         Ok(Types { entries })
     }
 
-    /// Returns the properties of a path in the instance with this number: its type if any, whether it is an instance,
-    /// and whether it reaches an input.
+    /// Returns the properties of a path in the instance with this number.
+    ///
+    /// They are its type if any, whether it is an instance, and whether it reaches an input.
     pub fn named(&self, table: &Table<'a>, i: usize, path: &Path) -> Named
         requires { AreTypesOf (map instance_plain table.now) self.now }
         ensures { named_seen result ≡ types_in true (map instance_plain table.now) i path.now }

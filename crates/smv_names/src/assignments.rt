@@ -84,7 +84,7 @@ fn with_kind(kinds: Option<Kinds>, when: When) -> Kinds
     }
 }
 
-// Two assignments of the same kind clash, and one for every state clashes with each other one.
+// Two assignments of the same kind clash, and one for every state clashes with any other.
 fn clashes(kinds: Option<Kinds>, when: When) -> bool
     ensures { result ≡ kinds_clash (kinds_or_none kinds) when }
 {

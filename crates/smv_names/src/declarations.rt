@@ -41,7 +41,7 @@ fn is_above(above: &[&[u8]], name: &[u8]) -> bool
     is_among(above, name)
 }
 
-// The module of an instance must exist, must not contain itself, and must take this number of actuals.
+// The module of an instance must exist, must not contain itself, and must take as many actuals as are given.
 #[tactic(auto, using(smv_instances::specs::laws::NameLemmas::trees_length))]
 fn item_failing(modules: &DeclaredModules, above: &[&[u8]], item: &Item) -> Option<Refusal>
     ensures { result ≡ first_failing (item_checks (map plain_module modules.now) (names_above above.now) (Some (plain_item item.now))) }

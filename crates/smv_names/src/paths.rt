@@ -122,8 +122,8 @@ fn put_elements_paths<'a>(paths: &mut Vec<&'a Path>, elements: &'a Elements) -> 
     Ok(())
 }
 
-// Checks the paths of the actuals, read in the parent, then those of the instance's own elements. The list is reused
-// room for them.
+// Checks the paths of the actuals, read in the parent, then those of the instance's own elements. The list `paths` is
+// reused for both.
 #[tactic(auto, using(crate::specs::laws::Composing::both_pass, crate::specs::laws::Composing::ends, crate::specs::laws::Composing::ends_behind))]
 fn instance_checked<'a>(
     table: &Table<'a>,

@@ -103,7 +103,7 @@ fn compare_words(op: Binary, v: Word, w: Word) -> Plain
     }
 }
 
-/// `!`
+/// Returns the value of `!`.
 pub fn negate(value: &Seen) -> Plain
     ensures { plain_value result ≡ negation (seen_value value.now) }
 {
@@ -144,7 +144,7 @@ pub fn prefix_value(sign: Prefix, count: u32, value: &Seen) -> Plain
     }
 }
 
-/// `->`
+/// Returns the value of `->`.
 pub fn implication(a: &Seen, b: &Seen) -> Plain
     ensures { plain_value result ≡ implied (seen_value a.now) (seen_value b.now) }
 {

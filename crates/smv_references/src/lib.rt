@@ -1,4 +1,4 @@
-//! The definitions and actuals of a model and the paths in their bodies, in an order with each after those to which it
+//! The definitions and actuals of a model, the paths in their bodies, and an order with each after those to which it
 //! refers.
 #![tactic(auto)]
 

@@ -1,8 +1,8 @@
 // Laws of the formulas of scripts. These functions do nothing.
 ghost use Rattle.smv_script_laws.specs.FormulaLaws.{FormulaSplits, FormsSay, ItemsSay};
 
-/// Proves that a formula of a script holds exactly where each part does: the parts of the items and of the formulas of
-/// the flat form.
+/// Proves that a formula of a script holds exactly where each part of each item and each formula of the flat form
+/// holds.
 pub fn formula_splits()
     ensures { FormulaSplits }
 {}

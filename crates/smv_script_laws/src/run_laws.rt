@@ -5,8 +5,8 @@ ghost use Rattle.smv_script_laws.specs.RunLaws.{HasQueries, RunsHaveTraces, Trac
 /// Proves that a parsed and accepted model can break invariant j after k steps exactly where its script can meet query
 /// j at step k.
 ///
-/// That is, the model has a run of k transitions whose last state breaks invariant j exactly where some trace meets the
-/// query of invariant j at step k.
+/// The model breaks the invariant with a run of k transitions whose last state breaks it. The script meets the query
+/// with a trace that meets it at step k.
 pub fn runs_are_traces()
     // Where a trace meets the query at a step, the states and labels that it encodes are such a run.
     ensures decoded { TracesAreRuns }

@@ -5,7 +5,7 @@ use moxi_script_print::{printed_scripts_are_spelled, whole_scripts_can_be_shown}
 
 /// Proves that the script of a parsed and accepted model is well formed (MoXI, SPIN 2024).
 ///
-/// Its names are distinct and unambiguous, its terms have their sorts and are allowed in their places, numbers are in
+/// Its names are distinct and unambiguous. Its terms have their sorts and are allowed in their places. Numbers are in
 /// range, and its one system contains no other.
 pub fn scripts_are_whole()
     ensures { ScriptsAreWhole }

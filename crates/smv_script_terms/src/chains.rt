@@ -7,7 +7,7 @@ use text_core::NoMemory;
 
 /// For each number its first position, and for each position the next one with the same number.
 ///
-/// The length of the list stands for no position.
+/// The length of the list marks that there is none.
 #[derive(Drop)]
 pub(crate) struct Chains {
     firsts: Vec<usize>,

@@ -78,7 +78,7 @@ pub(crate) fn several(op: TermOp, empty: bool, terms: Terms) -> Term
     }
 }
 
-/// Returns the answer of an expression that is not a set, given the term of its value.
+/// Returns the term that answers the question for an expression that is not a set, given the term of its value.
 pub(crate) fn answer(alloc: Global, question: Question, value: Term) -> Result<Term, NoMemory>
     ensures { IfOk result (λ t. plain t ≡ answered_value question (plain value)) }
 {
@@ -112,7 +112,7 @@ fn tested(alloc: Global, subject: Subject) -> Result<Terms, NoMemory>
     Ok(terms)
 }
 
-/// Returns the answer of an expression that is this variable.
+/// Returns the term that answers the question for an expression that is this variable.
 pub(crate) fn answer_variable(
     alloc: Global,
     question: Question,
@@ -131,7 +131,7 @@ pub(crate) fn answer_variable(
     }
 }
 
-/// Returns the answer of an expression that is this constant.
+/// Returns the term that answers the question for an expression that is this constant.
 pub(crate) fn answer_constant(
     alloc: Global,
     question: Question,
@@ -153,7 +153,7 @@ pub(crate) fn answer_constant(
 
 /// Returns the MoXI operator of a prefix operator.
 ///
-/// `words` says whether the operand is a word.
+/// `words` is whether the operand is a word.
 pub(crate) fn sign_operator(sign: Prefix, words: bool) -> TermOp
     ensures { result ≡ sign_op sign words }
 {
@@ -196,7 +196,7 @@ fn signed(words: bool, signed: Binary, unsigned: Binary) -> TermOp
 
 /// Returns the MoXI operator of a binary operator, which also joins a chain of one operator.
 ///
-/// `words` says whether the operands are words.
+/// `words` is whether the operands are words.
 pub(crate) fn infix_operator(op: Infix, words: bool) -> TermOp
     ensures { result ≡ infix_op op words }
 {
@@ -258,7 +258,7 @@ fn exclusive_nor(alloc: Global, words: bool, a: Term, b: Term) -> Result<Term, N
 
 /// Returns the term of a binary operator.
 ///
-/// `words` says whether the operands are words. `in` and `union` have no meaning here.
+/// `words` is whether the operands are words. `in` and `union` have no meaning here.
 pub(crate) fn infix(
     alloc: Global,
     op: Infix,

@@ -14,8 +14,9 @@ use smv_text::Infix;
 
 /// The way to read a chain.
 ///
-/// It is a single operand, a set of unions, right-associative, one application of an operator (with whether it applies
-/// to words), or left-associative.
+/// `Single` is one operand and `Union` a set. `Implied` is a right-associative chain of `->`, and `Left` a
+/// left-associative chain. `OneOperator` is one application of an operator to all operands, with whether they are
+/// words.
 #[derive(Clone, Copy)]
 pub(crate) enum Reading {
     Single,

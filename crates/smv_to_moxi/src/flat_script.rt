@@ -38,8 +38,8 @@ pub fn to_single(alloc: Global, flat: &Flat) -> Result<SingleScript, NoMemory>
 /// Returns the MoXI script of a flat form (MoXI, SPIN 2024).
 ///
 /// The script has one system with a variable for each item. For each invariant it has a query that is met by a state
-/// that breaks the invariant. Its size is linear in the model's weight; its terms are not high, and its brackets are
-/// not deep. It fails only if memory runs out.
+/// that breaks the invariant. Its size is linear in the model's weight. The height of its terms and the nesting of its
+/// brackets are bounded by constants. It fails only if memory runs out.
 pub fn to_moxi(alloc: Global, flat: &Flat) -> Result<Script, NoMemory>
     ensures script { IfOk result (λ s. plain_script s ≡ script_of (flat_plain flat.now) flat.now.width) }
     ensures bounded { IfOk result (λ s. IsBounded flat.now.weight (plain_script s)) }

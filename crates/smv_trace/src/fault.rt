@@ -8,8 +8,8 @@ use text_core::{End, Place};
 
 /// The reason why a line with a value is refused.
 ///
-/// The variants are in turn: it does not have the shape of such a line, the heading has no variable of this name, the
-/// value is not spelled like one of the variable's type, and out of memory.
+/// `Shape`: it does not have the shape of such a line. `Name`: the heading has no variable of this name. `Value`: the
+/// value is not spelled like one of the variable's type. `NoMemory`: out of memory.
 #[derive(Clone, Copy)]
 pub enum ValueFault {
     Shape,

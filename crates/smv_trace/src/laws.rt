@@ -34,7 +34,7 @@ pub fn printed_reads_back()
 
 /// Proves that three small traces are printed and read back.
 ///
-/// They have a state and an input; no inputs; and an integer, a symbol and a word.
+/// One has a state and an input, one no inputs, and one an integer, a symbol and a word.
 pub fn small_traces()
     ensures light { PrintsAndReads light 0 light_run light_text }
     ensures count { PrintsAndReads count 12 count_run count_text }

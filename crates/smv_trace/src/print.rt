@@ -12,9 +12,9 @@ use text_core::{NoMemory, Text};
 
 /// Returns the printed form of a run that breaks invariant j.
 ///
-/// The first line names the invariant. Then each state follows with its values in order, after its label where the
-/// model has inputs. States are counted from 1, and a label has the number of the state that it leads to. (The layout
-/// is this translator's own; it is modelled on NuSMV's counterexamples.)
+/// The first line says that the invariant is false. Then each state follows with its values in order, after its label
+/// where the model has inputs. States are counted from 1, and a label has the number of the state that it leads to.
+/// (The layout is this translator's own; it is modelled on NuSMV's counterexamples.)
 pub fn print_trace(alloc: Global, flat: &Flat, j: u32, run: &Run) -> Result<Text, NoMemory>
     // The text is the printed form.
     ensures text { IfOk result (λ text. text ≡ trace_text (map item_plain flat.now.items) j run.now.states run.now.labels) }

@@ -94,8 +94,8 @@ fn word_of(alloc: Global, width: u32, text: &[u8]) -> Result<Option<Value>, NoMe
 
 /// Parses the value of a variable of this type, or returns None where the text is not one.
 ///
-/// A value is TRUE or FALSE, an integer from -2^62 to 2^62 - 1, a symbol of the model, or a word literal of the type's
-/// width. It need not be in the type's range or among its symbols.
+/// A value is TRUE or FALSE, an integer from -2^62 to 2^62 - 1, a symbol of the model, or a word literal. A word
+/// literal has the type's width. The value need not be in the type's range or enumeration.
 pub fn value_of(
     alloc: Global,
     table: &Table,

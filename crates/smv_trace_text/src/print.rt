@@ -183,9 +183,9 @@ fn put_claim_back(out: &mut Text, count: usize) -> Result<(), NoMemory>
 
 /// Returns the printed form of a run that breaks invariant j.
 ///
-/// The first line names the invariant. Then each state follows with its values in order, after its label where the
-/// model has inputs. States are counted from 1, and a label has the number of the state that it leads to. A word is
-/// `0ud`, its width, `_` and its decimal digits.
+/// The first line says that the invariant is false. Then each state follows with its values in order, after its label
+/// where the model has inputs. States are counted from 1, and a label has the number of the state that it leads to. A
+/// word is `0ud`, its width, `_` and its decimal digits.
 pub fn print_trace(alloc: Global, flat: &Flat, j: u32, run: &Run) -> Result<Text, NoMemory>
     ensures { IfOk result (λ text. text ≡ trace_text (map item_plain flat.now.items) j run.now.states run.now.labels) }
 {

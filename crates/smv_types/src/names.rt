@@ -12,8 +12,8 @@ use smv_text::Path;
 pub struct Named {
     /// Its type.
     ///
-    /// None for an instance, for a variable whose declared type fails a check, and for a definition or an actual
-    /// parameter whose own check fails or that has no type.
+    /// None for an instance, and for a variable whose declared type fails a check. Also None for a definition or an
+    /// actual parameter whose own check fails or that has no type.
     pub ty: Option<Ty>,
     /// Whether it is an instance of a module.
     pub is_instance: bool,
@@ -21,7 +21,7 @@ pub struct Named {
     pub reaches_input: bool,
 }
 
-/// A scope of names: it gives each path that it knows one meaning.
+/// A scope of names, with one meaning for each path that it knows.
 pub trait Scope {
     /// The meaning of a known path.
     ghost names: { Self → PlainPath → Meaning };
@@ -29,6 +29,7 @@ pub trait Scope {
     /// Whether a path is known.
     ghost knows: { Self → PlainPath → Bool };
 
+    /// Returns the properties of a known path.
     fn named(&self, path: &Path) -> Named
         requires { IsTrue (knows self.now path.now) }
         ensures { named_seen result ≡ names self.now path.now };

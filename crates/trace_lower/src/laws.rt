@@ -6,8 +6,9 @@ use moxi_lower::{lowered_are_judged, lowered_are_lifted, lowered_are_witnesses};
 use smv_laws::yes_is_run;
 use smv_script_laws::{scripts_are_whole, values_come_back};
 
-/// Proves that the judge accepts the witness of a run that breaks an invariant, for all lines that lay the model's
-/// system out.
+/// Proves that the judge accepts the witness of a run that breaks an invariant.
+///
+/// This holds for all lines that lay the model's system out; the witness is one for these lines.
 pub fn lowered_are_accepted()
     ensures { LoweredAreAccepted }
 {

@@ -163,7 +163,7 @@ fn lower_run(alloc: Global, flat: &Flat, run: &Run) -> Result<FrameList, NoMemor
 /// leaves it. A definition or an actual has its value under both. The last state has no such label: there each input
 /// has the first value of its type.
 ///
-/// Where the judge says No to the run and invariant j, `Err` is its verdict, with the step and the clause; otherwise
+/// `Err` is the judge's verdict where it says No to the run and invariant j, with the step and the clause. Otherwise
 /// `Err` is out of memory. Time and memory are linear in the states times the items.
 pub fn lower_flat(alloc: Global, flat: &Flat, j: u32, run: &Run) -> Result<Witness, LowerEnd>
     requires model { HasForm flat.now }
@@ -183,8 +183,8 @@ pub fn lower_flat(alloc: Global, flat: &Flat, j: u32, run: &Run) -> Result<Witne
 
 /// Returns the witness that states a run of a parsed model, as `lower_flat` does for the model's flat form.
 ///
-/// The laws of this crate state what the witness proves: the judge accepts it for all lines that lay the model's system
-/// out, and it is lifted to the same run.
+/// By the laws of this crate, the judge accepts the witness for all lines that lay the model's system out. The witness
+/// is lifted to the same run.
 pub fn lower_smv(alloc: Global, source: &Source, j: u32, run: &Run) -> Result<Witness, LowerEnd>
     // A text parses to the model, its checks hold, and it has the invariant.
     requires read { IsRead (plain_source source.now) }

@@ -26,8 +26,8 @@ pub fn models_have_flat_systems()
     single_systems_are_flat();
 }
 
-/// Proves that the lines of an accepted model lay out the flat system of its script, are well formed, and do not run
-/// out of ids.
+/// Proves that the lines of an accepted model lay out the flat system of its script, are well formed, and have enough
+/// ids.
 pub fn model_lines_are_laid_out()
     ensures { ModelLinesAreLaidOut }
 {
@@ -43,9 +43,9 @@ pub fn model_lines_are_laid_out()
 /// Proves that an accepted model can break an invariant after k steps exactly where its lines can reach the bad line at
 /// frame k.
 ///
-/// The lines have a bad line for each invariant. They have frames 0 to k with every constraint true and the bad line
-/// true in the last one exactly where the model has such a run. Such a run has k transitions, and its last state breaks
-/// the invariant.
+/// The lines have a bad line for each invariant. They reach it with frames 0 to k in which every constraint is true and
+/// the bad line is true in frame k. The model breaks the invariant with a run of k transitions whose last state breaks
+/// it.
 pub fn models_have_frames()
     ensures { ModelsHaveFrames }
 {
