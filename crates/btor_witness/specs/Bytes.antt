@@ -1,8 +1,10 @@
 -- Binary digits and lines of a witness's text.
-use Rattle.std.specs.Prelude.{◌==◌, ◌+◌, ◌-◌, ◌*◌, ℕ, Bool, true, ◌&&◌, ◌||◌, nat_le, if◌then◌else◌, Option, Some, None, List, [], ◌∷◌, length}
+use Rattle.std.specs.Prelude.{◌≡◌, ◌==◌, ◌+◌, ◌-◌, ◌*◌, ℕ, Bool, true, ◌&&◌, ◌||◌, nat_le, if◌then◌else◌, Option, Some, None, List, [], ◌∷◌, ◌++◌, length}
 use Rattle.word_core.specs.Words.{BitVector}
 use Rattle.word_core.specs.declared.word.TheConstants.{WIDEST}
 use Rattle.btor_tree.specs.Parts.{Parts, parts}
+use Rattle.btor_tree.specs.Bytes.{number_after}
+use Rattle.btor_tree.proofs.Numerals.{all_digits}
 
 -- a binary digit
 abbrev pub is_binary : ℕ → Bool
@@ -31,3 +33,10 @@ without_return (b ∷ c ∷ bs) = b ∷ without_return (c ∷ bs)
 -- the parts of a line
 abbrev pub line_parts : List ℕ → Parts
 line_parts raw = parts (without_return raw)
+
+-- the digits at the front of a line, and the number that they spell
+pub record IsNumberFront (line : List ℕ) (number : ℕ) (rest : List ℕ) : Type 0 where
+  pub digits : List ℕ
+  pub cut : line ≡ digits ++ rest
+  pub all : all_digits digits ≡ true
+  pub value : number_after 0 digits ≡ Some number

@@ -1,11 +1,13 @@
 // The shape of one line of a witness by itself.
-ghost use Rattle.std.specs.Prelude.{◌≡◌};
-ghost use Rattle.btor_tree.specs.Parts.{parts};
+ghost use Rattle.std.specs.Prelude.{◌≡◌, ◌≤◌, ◌+◌, ◌-◌, ◌*◌, min, Some, IfSome};
+ghost use Rattle.btor_tree.specs.Parts.{cap, parts};
 ghost use Rattle.btor_tree.specs.Parts as spec;
+ghost use Rattle.btor_witness.specs.Bytes.{IsNumberFront};
 ghost use Rattle.btor_witness.specs.Shapes.{number_shape, single_shape, assignment_shape, shape_of, is_passed, marked};
 
 use crate::bytes::{all_binary, word_of};
 use btor_tree::{first_part, numeral};
+use text_core::is_digit;
 use word_core::Word;
 
 /// The shape of a line of a witness.
@@ -66,8 +68,57 @@ fn assignment_shape(index: &[u8], digits: &[u8]) -> Option<Shape>
     Some(Shape::Assignment(index, word_of(digits)))
 }
 
+// A number, up to 2^31, with one digit more.
+fn with_digit(number: u32, digit: u8) -> u32
+    requires low { 48 ≤ digit }
+    requires high { digit ≤ 57 }
+    ensures { result ≡ min (10 * number + (digit - 48)) cap }
+{
+    let next = 10 * u64::from(number) + u64::from(digit - b'0');
+    next.min(1 << 31) as u32
+}
+
+// The number that the digits at the front of a line spell, and the bytes behind them.
+fn number_front(line: &[u8]) -> (u32, &[u8])
+    ensures { IsNumberFront line.now result.0 result.1.now }
+{
+    let mut number = 0;
+    let mut rest = line;
+    while let Some((b, more)) = rest.split_first() {
+        if !is_digit(*b) {
+            return (number, rest);
+        }
+        number = with_digit(number, *b);
+        rest = more;
+    }
+    (number, rest)
+}
+
+// The shape of a line that is a number, a blank and binary digits, as most lines are: each byte is read once or twice.
+fn statement_shape(line: &[u8]) -> Option<Shape>
+    ensures { IfSome result (λ shape. shape_of (parts line.now) ≡ Some shape) }
+{
+    let (index, rest) = number_front(line);
+    let (blank, digits) = rest.split_first()?;
+    if *blank != b' ' || rest.len() == line.len() || digits.is_empty() || !all_binary(digits) {
+        return None;
+    }
+    Some(Shape::Assignment(index, word_of(digits)))
+}
+
 /// Returns the shape of a line, or None where it has none.
 pub fn shape_of(line: &[u8]) -> Option<Shape>
+    ensures { result ≡ shape_of (parts line.now) }
+{
+    let statement = statement_shape(line);
+    if statement.is_some() {
+        return statement;
+    }
+    parted_shape(line)
+}
+
+// The same of any line, part by part.
+fn parted_shape(line: &[u8]) -> Option<Shape>
     ensures { result ≡ shape_of (parts line.now) }
 {
     let (first, rest) = first_part(line)?;
