@@ -5,5 +5,6 @@ pub mod KeptLaws
 pub mod Passing
 pub mod StandLaws
 pub mod Turns
+pub mod Fronts
 pub mod Pieces
 pub mod Ending

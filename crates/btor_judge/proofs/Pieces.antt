@@ -1,6 +1,6 @@
 -- A text that comes byte by byte is read as the whole text is.
 use Rattle.std.proofs.Common.{◌≡◌, ◌⊎◌, ◌<◌, ◌≤◌, ◌+◌, ◌-◌, ℕ, suc, Bool, true, false, not, eqb, List, [], ◌∷◌, ◌++◌, length, refl, sym, ap, ◌∙◌, subst, arith, inl, inr}
-use Rattle.std.proofs.lemmas.List.{append_assoc, length_push}
+use Rattle.std.proofs.lemmas.List.{append_assoc, length-append, length_push, nil_from_length}
 use Rattle.std.proofs.lemmas.Bool.{and_parts, and_from, not-true, ne_eqb}
 use Rattle.text_core.specs.declared.place.Kind.{Kind}
 use Rattle.btor_tree.specs.declared.lines.Line.{Line}
@@ -14,12 +14,13 @@ use Rattle.btor_witness.specs.Texts.{Reads, last, Refuses, here, ReadsText, Refu
 use Rattle.btor_witness.specs.laws.Laws.{next_from, reads_on}
 use Rattle.btor_witness.proofs.Kept.{next_fits, begin_fits}
 use Rattle.btor_judge.specs.declared.judge.Judge.{Judge}
+use Rattle.btor_judge.specs.declared.line.Line.{Line as ScannedLine}
 use Rattle.btor_judge.specs.declared.reader.Reader.{Reader}
 use Rattle.btor_judge.specs.declared.reader.Stage.{Stage}
 use Rattle.btor_judge.specs.declared.reader.Stage.TheVariants.{Going, Done, Refused, TooLong}
 use Rattle.btor_judge.specs.Scanning.{line_of, line_next}
 use Rattle.btor_judge.specs.Standing.{IsAt, Does}
-use Rattle.btor_judge.specs.Judging.{is_one_line, counted, MayCome, place_of, IsReading, StandsAt}
+use Rattle.btor_judge.specs.Judging.{is_one_line, counted, MayCome, place_of, IsReading, BeginsLine, StandsAt}
 use Rattle.btor_judge.proofs.ScanLaws.{line_push}
 
 -- bytes of one line
@@ -168,6 +169,67 @@ ends_line lines judge text reader (Refused kind) lt other h does =
       placed = λ more may. place_now lines judge text (10 ∷ more) h ∙ ap (λ x. line_place x (judge.lines + 1)) (sym (append_assoc text (10 ∷ []) more));
     }
 ends_line lines judge text reader TooLong lt other h does = absurd does
+
+-- the bytes of a line that come at once
+pub whole_goes_on : (lines : List Line) (judge : Judge) (text raw : List ℕ) → BeginsLine judge raw → is_one_line raw ≡ true → IsReading lines judge text → IsReading lines (record judge { line = line_of raw; bytes = judge.bytes + length raw }) (text ++ raw)
+whole_goes_on lines judge text raw start one h =
+    let sizes = sizes_of lines in
+    let long = length-append text raw in
+    let none : h.current ≡ [] = nil_from_length h.current (omega (arith, h.begins, h.counted, start.fresh)) in
+    record {
+      unended = h.unended;
+      going = h.going;
+      counted = omega (arith, h.counted, long);
+      short = omega (arith, start.short, h.counted, long);
+      reading = h.reading;
+      current = raw;
+      at = h.at;
+      fits = h.fits;
+      line = refl;
+      unbroken = one;
+      begins = omega (arith, start.fresh, h.counted, long);
+      numbered = h.numbered;
+      reads = λ more w r.
+          let from : Reads sizes h.reading (raw_lines (h.current ++ (raw ++ more))) w = subst (λ x. Reads sizes h.reading (raw_lines (x ++ (raw ++ more))) w) (sym none) r in
+          subst (λ x. ReadsText sizes x w) (sym (append_assoc text raw more)) (h.reads (raw ++ more) w from);
+      refuses = λ more kind to r.
+          let from : Refuses judge.lines sizes h.reading (raw_lines (h.current ++ (raw ++ more))) kind to = subst (λ x. Refuses judge.lines sizes h.reading (raw_lines (x ++ (raw ++ more))) kind to) (sym none) r in
+          subst (λ x. RefusesText sizes x kind to) (sym (append_assoc text raw more)) (h.refuses (raw ++ more) kind to from);
+      placed = λ more k. ap (λ x. bytes_before (judge.lines + k) (raw_lines x)) (append_assoc text raw more) ∙ h.placed (raw ++ more) k ∙ ap (λ x. judge.offset + bytes_before k (raw_lines (x ++ (raw ++ more)))) none;
+    }
+
+-- what is kept of the current line is not read behind its end
+line_aside : (lines : List Line) (judge : Judge) (line : ScannedLine) (text : List ℕ) (stage : Stage) → (stage ≡ Going → ⊥) → StandsAt lines (record judge { line = line }) text stage → StandsAt lines judge text stage
+line_aside lines judge line text Going other h = absurd (other refl)
+line_aside lines judge line text Done other h = record { counted = h.counted; short = h.short; witness = h.witness; judged = h.judged; reads = h.reads }
+line_aside lines judge line text (Refused kind) other h = record { counted = h.counted; short = h.short; numbered = h.numbered; within = h.within; refuses = h.refuses; placed = h.placed }
+line_aside lines judge line text TooLong other h = h
+
+fresh_line : (lines : List Line) (judge : Judge) (text raw : List ℕ) → BeginsLine judge raw → IsReading lines judge text → judge.line ≡ line_of []
+fresh_line lines judge text raw start h =
+    let none : h.current ≡ [] = nil_from_length h.current (omega (arith, h.begins, h.counted, start.fresh)) in
+    h.line ∙ ap line_of none
+
+pub whole_next : (lines : List Line) (judge : Judge) (text raw : List ℕ) (reader : Reader) → BeginsLine judge raw → is_one_line raw ≡ true → (h : IsReading lines judge text) → Does lines h.reading (next_of (sizes_of lines) h.reading (line_parts raw)) reader Going
+    → IsReading lines (counted (record judge { reader = reader; stage = Going; bytes = judge.bytes + length raw; lines = judge.lines + 1; offset = judge.bytes + length raw + 1 })) (text ++ (raw ++ 10 ∷ []))
+unfolding whole_goes_on
+whole_next lines judge text raw reader start one h does =
+    let at = whole_goes_on lines judge text raw start one h in
+    let lt : length (text ++ raw) < most_bytes = omega (arith, start.short, h.counted, length-append text raw) in
+    let on = next_line lines (record judge { line = line_of raw; bytes = judge.bytes + length raw }) (text ++ raw) reader lt at does in
+    let same = append_assoc text raw (10 ∷ []) in
+    subst (λ (l : ScannedLine). IsReading lines (counted (record judge { reader = reader; line = l; stage = Going; bytes = judge.bytes + length raw; lines = judge.lines + 1; offset = judge.bytes + length raw + 1 })) (text ++ (raw ++ 10 ∷ []))) (sym (fresh_line lines judge text raw start h))
+    (subst (IsReading lines (counted (record judge { reader = reader; line = line_of []; stage = Going; bytes = judge.bytes + length raw; lines = judge.lines + 1; offset = judge.bytes + length raw + 1 }))) same on)
+
+pub whole_ends : (lines : List Line) (judge : Judge) (text raw : List ℕ) (reader : Reader) (stage : Stage) → BeginsLine judge raw → is_one_line raw ≡ true → (stage ≡ Going → ⊥) → (h : IsReading lines judge text) → Does lines h.reading (next_of (sizes_of lines) h.reading (line_parts raw)) reader stage
+    → StandsAt lines (counted (record judge { reader = reader; stage = stage; bytes = judge.bytes + length raw })) (text ++ (raw ++ 10 ∷ [])) stage
+unfolding whole_goes_on
+whole_ends lines judge text raw reader stage start one other h does =
+    let at = whole_goes_on lines judge text raw start one h in
+    let lt : length (text ++ raw) < most_bytes = omega (arith, start.short, h.counted, length-append text raw) in
+    let on = ends_line lines (record judge { line = line_of raw; bytes = judge.bytes + length raw }) (text ++ raw) reader stage lt other at does in
+    line_aside lines (counted (record judge { reader = reader; stage = stage; bytes = judge.bytes + length raw })) (line_of raw) (text ++ (raw ++ 10 ∷ [])) stage other
+    (subst (λ (x : List ℕ). StandsAt lines (counted (record judge { reader = reader; line = line_of raw; stage = stage; bytes = judge.bytes + length raw })) x stage) (append_assoc text raw (10 ∷ [])) on)
 
 -- behind the end of the witness and behind a refusal
 pub not_yet : {e : Bool} {more : List ℕ} → e ≡ false → MayCome e more

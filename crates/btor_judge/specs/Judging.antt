@@ -64,6 +64,12 @@ pub record IsReading (lines : List Line) (judge : Judge) (text : List ℕ) : Typ
   pub refuses : (more : List ℕ) (kind : Kind) (at : ℕ) → Refuses judge.lines (sizes_of lines) reading (raw_lines (current ++ more)) kind at → RefusesText (sizes_of lines) (text ++ more) kind at
   pub placed : (more : List ℕ) (k : ℕ) → bytes_before (judge.lines + k) (raw_lines (text ++ more)) ≡ judge.offset + bytes_before k (raw_lines (current ++ more))
 
+-- nothing of the current line has come, and the text is within the limit behind a line of these bytes and its end
+pub record BeginsLine (judge : Judge) (raw : List ℕ) : Type 0 where
+  pub going : judge.stage ≡ Going
+  pub fresh : judge.offset ≡ judge.bytes
+  pub short : judge.bytes + length raw < most_bytes
+
 -- the witness is read and judged, whatever comes behind
 pub record IsDone (lines : List Line) (judge : Judge) (text : List ℕ) : Type 0 where
   pub counted : judge.bytes ≡ length text

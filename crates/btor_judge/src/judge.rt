@@ -1,12 +1,12 @@
 // The judge of a text that comes in pieces.
-ghost use Rattle.std.specs.Prelude.{◌≡◌, ◌<◌, ℕ, List, [], ◌∷◌, ◌++◌, length, true, false, IfOk};
+ghost use Rattle.std.specs.Prelude.{◌≡◌, ◌<◌, ℕ, List, [], ◌∷◌, ◌++◌, length, true, false, IfOk, IsTrue};
 ghost use Rattle.btor_tree.specs.declared.lines.Line.{Line as TreeLine};
 ghost use Rattle.btor_witness.specs.Sizes.{most_bytes};
-ghost use Rattle.btor_judge.specs.Judging.{Stands, StandsFor, IsReading, counted, closed, has_ended, Answers};
+ghost use Rattle.btor_judge.specs.Judging.{Stands, StandsFor, IsReading, BeginsLine, is_one_line, counted, closed, has_ended, Answers};
 
 use crate::line::Line;
 use crate::reader::{Reader, Stage};
-use btor_tree::Nodes;
+use btor_tree::{Nodes, line_length};
 use btor_witness::MOST_BYTES;
 use std::alloc::Global;
 use text_core::kinds::witness;
@@ -65,6 +65,76 @@ impl Judge {
         if self.ended {
             return;
         }
+        let mut rest = piece;
+        'lines: loop {
+            let (raw, more) = rest.split_at(line_length(rest));
+            let Some((_, last)) = more.split_first() else {
+                self.take_bytes(nodes, raw);
+                return;
+            };
+            self.take_line(nodes, raw);
+            rest = last;
+        }
+    }
+
+    // Takes the bytes of one line, and the byte at its end.
+    fn take_line(&mut self, nodes: &Nodes, raw: &[u8])
+        requires some { Stands nodes.now self.old }
+        requires unended { has_ended self.old ≡ false }
+        requires line { is_one_line raw.now ≡ true }
+        ensures stands { (text : List ℕ) → StandsFor nodes.now self.old text → StandsFor nodes.now self.new (text ++ (raw.now ++ 10 ∷ [])) }
+        ensures kept { has_ended self.new ≡ has_ended self.old }
+    {
+        if self.begins_line(raw) {
+            self.read_whole(nodes, raw);
+            self.bytes += 1;
+        } else {
+            self.take_bytes(nodes, raw);
+            self.take(nodes, b'\n');
+        }
+    }
+
+    // Has nothing of the current line come, and is the text within the limit behind this line and its end?
+    fn begins_line(&self, raw: &[u8]) -> bool
+        ensures { IsTrue result → BeginsLine self.now raw.now }
+    {
+        match self.stage {
+            Stage::Going => {
+                self.offset == self.bytes
+                    && raw.len() < MOST_BYTES.saturating_sub(self.bytes as usize)
+            }
+            _ => false,
+        }
+    }
+
+    // Reads one line whose bytes are all at hand. The byte at its end is counted behind it.
+    fn read_whole(&mut self, nodes: &Nodes, raw: &[u8])
+        requires some { Stands nodes.now self.old }
+        requires unended { has_ended self.old ≡ false }
+        requires line { is_one_line raw.now ≡ true }
+        requires begins { BeginsLine self.old raw.now }
+        ensures stands { (text : List ℕ) → StandsFor nodes.now self.old text → StandsFor nodes.now (counted self.new) (text ++ (raw.now ++ 10 ∷ [])) }
+        ensures kept { has_ended self.new ≡ has_ended self.old }
+        ensures bytes { self.new.bytes < most_bytes }
+    {
+        self.stage = self.reader.take_whole(nodes, raw);
+        self.bytes += raw.len() as u32;
+        match self.stage {
+            Stage::Going => {
+                self.lines += 1;
+                self.offset = self.bytes + 1;
+            }
+            _ => {}
+        }
+    }
+
+    // Takes bytes one by one.
+    fn take_bytes(&mut self, nodes: &Nodes, piece: &[u8])
+        requires some { Stands nodes.now self.old }
+        requires unended { has_ended self.old ≡ false }
+        ensures stands { (text : List ℕ) → StandsFor nodes.now self.old text → StandsFor nodes.now self.new (text ++ piece.now) }
+        ensures kept { has_ended self.new ≡ has_ended self.old }
+    {
         for b in piece {
             self.take(nodes, *b);
         }

@@ -20,7 +20,8 @@ use crate::part::Part;
 use btor_frames::Frames;
 use btor_tree::Nodes;
 use btor_witness::{
-    MOST_FRAMES, MOST_WORDS, Phase, Shape, input_widths, is_same, state_places, state_widths,
+    MOST_FRAMES, MOST_WORDS, Phase, Shape, input_widths, is_passed, is_same, shape_of,
+    state_places, state_widths, without_return,
 };
 use std::alloc::Global;
 use text_core::kinds::witness;
@@ -89,6 +90,25 @@ impl Reader {
         match line.shape() {
             Some(shape) => self.step(nodes, shape),
             None => Stage::Refused(witness::LINE),
+        }
+    }
+
+    /// Reads one line of which all bytes are at hand.
+    pub fn take_whole(&mut self, nodes: &Nodes, raw: &[u8]) -> Stage
+        requires { IsSomewhere nodes.now self.old }
+        ensures { (r : Reading) → StandsIn nodes.now self.old r → Does nodes.now r (next_of (sizes_of nodes.now) r (line_parts raw.now)) self.new result }
+    {
+        let line = without_return(raw);
+        // A line that has a shape isn't passed over, and nearly all lines have one.
+        match shape_of(line) {
+            Some(shape) => self.step(nodes, shape),
+            None => {
+                if is_passed(line) {
+                    Stage::Going
+                } else {
+                    Stage::Refused(witness::LINE)
+                }
+            }
         }
     }
 

@@ -1,9 +1,12 @@
-use Rattle.std.proofs.Common.{◌≡◌, ℕ, false, List, take, ◌++◌}
+use Rattle.std.proofs.Common.{◌≡◌, ℕ, false, List, length, ◌++◌}
 use Rattle.btor_judge.specs.Judging.{StandsFor, has_ended}
 use Rattle.btor_judge.proofs.judge.Judge.feed.Given as goal
 
-abbrev pub invariant-loop-b : goal.invariant-loop-b
-invariant-loop-b l = record {
-  stands : (text : List ℕ) → StandsFor l.nodes l.fn.self text → StandsFor l.nodes l.self (text ++ take l.b-index l.piece);
+abbrev pub invariant-lines : goal.invariant-lines
+invariant-lines l = record {
+  stands : (text : List ℕ) → StandsFor l.nodes l.fn.self text → (front : List ℕ) × (front ++ l.rest ≡ l.piece) × StandsFor l.nodes l.self (text ++ front);
   unended : has_ended l.self ≡ false;
 }
+
+abbrev pub decreases-lines : goal.decreases-lines
+decreases-lines l = length l.rest
