@@ -3,13 +3,13 @@ ghost use Rattle.std.specs.Prelude.{◌≡◌, ◌&&◌, None, IfOk};
 ghost use Rattle.smv_text.specs.Tree.{PlainSource};
 ghost use Rattle.smv_meaning.specs.Values.{given};
 ghost use Rattle.smv_meaning.specs.Instances.{instances_of};
-ghost use Rattle.smv_flat_laws.specs.FlatTruth.{flat_trans, flat_stay};
+ghost use Rattle.smv_flat_laws.specs.FlatTruth.{IsRow, flat_trans, flat_stay};
 ghost use Rattle.smv_flat_evaluation.specs.RowValues.{row_values};
 ghost use Rattle.smv_rows.specs.Held.{HoldsState};
 ghost use Rattle.smv_rows.specs.Parts.{parts_plain};
 ghost use Rattle.smv_rows.specs.RowOrders.{IsRowOrder};
 ghost use Rattle.smv_rows.specs.Truths.{AllSafe};
-ghost use Rattle.smv_judge.specs.Models.{IsFlatOf, HasModel, failing, first_clauses, step_clauses, LabelFits, StateFits, IsStateRow};
+ghost use Rattle.smv_judge.specs.Models.{IsFlatOf, HasModel, failing, first_clauses, step_clauses, LabelFits, IsStateRow};
 
 use crate::fits::items_fit;
 use smv_meaning::State;
@@ -57,7 +57,8 @@ fn step_holds<'a>(flat: &FlatParts<'a>, now: &Row<'a>, later: &Row<'a>) -> bool
 
 /// Returns the first clause that fails at the step from a state under a label to the following state, or None.
 ///
-/// `before` has the values of the state. With None, `row` has the values of the following state.
+/// `before` has the values of the state under some label. With None, it has them under this label, and `row` has the
+/// values of the following state.
 pub(crate) fn step_failure<'a>(
     flat: &FlatParts<'a>,
     order: &RowOrder,
@@ -69,19 +70,19 @@ pub(crate) fn step_failure<'a>(
 ) -> Result<Option<Clause>, NoMemory>
     requires model { HasModel flat.now }
     requires order { IsRowOrder flat.now order.now }
-    requires state { StateFits flat.now (given state.now) }
+    requires row { IsStateRow flat.now (given state.now) before.old.values.items }
     requires held { HoldsState order.now (given state.now) before.old }
     ensures clause { IfOk result (λ c. (source : PlainSource) → IsFlatOf source (parts_plain flat.now) → c ≡ failing (step_clauses (instances_of source) (given state.now) (given label.now) (given following.now))) }
     ensures row { IfOk result (λ c. c ≡ None → IsStateRow flat.now (given following.now) row.new.values.items) }
     ensures held { IfOk result (λ c. c ≡ None → HoldsState order.now (given following.now) row.new) }
+    ensures before { IfOk result (λ c. c ≡ None → IsRow (parts_plain flat.now) (given state.now) (given label.now) (row_values before.new.values.items)) }
 {
     row.give(order, following, label)?;
     if !items_fit(flat.items, row.values.as_slice()) {
         return Ok(Some(Clause::ValueOutside));
     }
-    before.give_again(order, row)?;
+    before.give_label(flat, order, row)?;
     row.evaluate(flat, order);
-    before.evaluate(flat, order);
     if !step_holds(flat, before, row) {
         return Ok(Some(Clause::TransFails));
     }

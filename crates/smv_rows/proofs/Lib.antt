@@ -11,4 +11,5 @@ pub mod Named
 pub mod ReadParts
 pub mod VariableRows
 pub mod RowLaw
+pub mod Relabelled
 pub mod FlatOrders

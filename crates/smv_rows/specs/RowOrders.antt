@@ -1,5 +1,5 @@
 -- How rows of a flat form are filled.
-use Rattle.std.specs.Prelude.{◌≡◌, ◌⊎◌, ℕ, ◌<◌, Bool, true, false, ◌&&◌, not, nat_lt, List, [], ◌∷◌, ◌++◌, map, length, Option, Some, None, slice_get}
+use Rattle.std.specs.Prelude.{◌≡◌, ◌⊎◌, ℕ, ◌<◌, Bool, true, false, ◌&&◌, ◌||◌, not, nat_lt, List, [], ◌∷◌, ◌++◌, map, length, Option, Some, None, slice_get}
 use Rattle.std.specs.Borrow.{Bor}
 use Rattle.std.specs.List.{list_all, AllByRecursion}
 use Rattle.digraph.specs.Graph.{NodeLists, is_in, are_distinct}
@@ -137,9 +137,22 @@ FlatIsOrderly = (source : PlainSource) (needed : ℕ) → IsAccepted source need
 
 -- ---- all
 
--- the bodies by the numbers of their items, an order in which each stands after the items that it reads, and the place of each
--- item's name
+abbrev pub is_input : ItemKind → Bool
+is_input State = false
+is_input Frozen = false
+is_input Input = true
+is_input Define = false
+is_input Actual = false
+
+-- one of the items is an input
+abbrev pub has_inputs : List FlatItem → Bool
+has_inputs [] = false
+has_inputs (m ∷ ms) = is_input m.kind || has_inputs ms
+
+-- the bodies by the numbers of their items, an order in which each stands after the items that it reads, the place of each item's
+-- name, and whether there are inputs
 pub record IsRowOrder (flat : FlatParts) (o : RowOrder) : Type 0 where
   pub bodies : AreItemBodies flat.items.now (parts_plain flat).forms o.bodies.items
   pub order : IsOrderOf o.bodies.items o.order
   pub places : HavePlaces o.names o.places.items flat.items.now
+  pub inputs : o.inputs ≡ has_inputs flat.items.now

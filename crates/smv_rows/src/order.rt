@@ -1,7 +1,7 @@
 // The data needed to fill rows of a flat form.
-ghost use Rattle.std.specs.Prelude.{IfOk};
+ghost use Rattle.std.specs.Prelude.{◌≡◌, IfOk};
 ghost use Rattle.smv_rows.specs.Parts.{parts_plain};
-ghost use Rattle.smv_rows.specs.RowOrders.{IsOrderly, IsRowOrder};
+ghost use Rattle.smv_rows.specs.RowOrders.{IsOrderly, IsRowOrder, has_inputs, is_input};
 
 use crate::bodies::bodies_of;
 use crate::parts::FlatParts;
@@ -9,19 +9,48 @@ use crate::places::{ItemPlace, name_all, places_of};
 use crate::references::order_of;
 use name_maps::NameTable;
 use smv_flat::FlatExpr;
+use smv_items::{FlatItem, ItemKind};
 use std::alloc::Global;
 use text_core::{List, NoMemory};
 
 /// The data needed to fill rows of a flat form.
 ///
 /// `bodies` has the body of each item, by number, and `order` is the order in which bodies are evaluated. `names` are
-/// the names of the items, and `places` has each item's kind and the place of its name.
+/// the names of the items, and `places` has each item's kind and the place of its name. `inputs` says whether there are
+/// inputs.
 #[derive(Drop)]
 pub struct RowOrder<'f> {
     pub bodies: Vec<Option<&'f FlatExpr>>,
     pub order: List<usize>,
     pub names: NameTable,
     pub places: Vec<ItemPlace>,
+    pub inputs: bool,
+}
+
+fn is_input(kind: ItemKind) -> bool
+    ensures { result ≡ is_input kind }
+{
+    match kind {
+        ItemKind::Input => true,
+        ItemKind::State => false,
+        ItemKind::Frozen => false,
+        ItemKind::Define => false,
+        ItemKind::Actual => false,
+    }
+}
+
+// Whether one of the items is an input.
+fn has_inputs(items: &[FlatItem]) -> bool
+    ensures { result ≡ has_inputs items.now }
+{
+    let mut rest = items;
+    while let Some((item, more)) = rest.split_first() {
+        if is_input(item.kind) {
+            return true;
+        }
+        rest = more;
+    }
+    false
 }
 
 /// Returns the data needed to fill rows of the flat form.
@@ -34,10 +63,12 @@ pub fn row_order<'f>(alloc: Global, flat: &FlatParts<'f>) -> Result<RowOrder<'f>
     let mut names = NameTable::new(alloc);
     name_all(alloc, flat.items, &mut names)?;
     let places = places_of(alloc, flat.items, &names)?;
+    let inputs = has_inputs(flat.items);
     Ok(RowOrder {
         bodies,
         order,
         names,
         places,
+        inputs,
     })
 }

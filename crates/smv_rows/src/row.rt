@@ -2,10 +2,11 @@
 ghost use Rattle.std.specs.Prelude.{◌≡◌, ◌<◌, true, length, nat_lt, OnOk};
 ghost use Rattle.std.specs.List.{list_all};
 ghost use Rattle.smv_meaning.specs.Values.{Valuation, given};
-ghost use Rattle.smv_flat_laws.specs.FlatTruth.{symbol_value};
+ghost use Rattle.smv_flat_laws.specs.FlatTruth.{IsRow, symbol_value};
 ghost use Rattle.smv_flat_evaluation.specs.RowValues.{row_values};
 ghost use Rattle.smv_rows.specs.Filling.{body_plain, bodies_in, with_body, filled, BodySafe, FillsSafely};
-ghost use Rattle.smv_rows.specs.Held.{HoldsState, HoldsLabel};
+ghost use Rattle.smv_rows.specs.Held.{HoldsState, HoldsLabel, CanRelabel};
+ghost use Rattle.smv_rows.specs.Parts.{parts_plain};
 ghost use Rattle.smv_rows.specs.RowOrders.{IsRowOrder};
 ghost use Rattle.smv_rows.specs.Truths.{Gives, CanFill, Fills};
 
@@ -86,8 +87,8 @@ impl<'a> Row<'a> {
         );
     }
 
-    /// Sets each variable to its value in this row's state, and each input to its value in the other row's label.
-    pub fn give_again(&mut self, order: &RowOrder, other: &Row<'a>) -> Result<(), NoMemory>
+    // Sets each variable to its value in this row's state, and each input to its value in the other row's label.
+    fn give_again(&mut self, order: &RowOrder, other: &Row<'a>) -> Result<(), NoMemory>
         ensures { OnOk result ((state label : Valuation) → HoldsState order.now state self.old → HoldsLabel order.now label other.now → Gives order.now state label self.new.values.items) }
     {
         give_variables(
@@ -96,6 +97,28 @@ impl<'a> Row<'a> {
             other.label.as_slice(),
             &mut self.values,
         )?;
+        Ok(())
+    }
+
+    /// Turns the row of a state under any label into its row under the other row's label.
+    ///
+    /// Without inputs nothing changes.
+    pub fn give_label(
+        &mut self,
+        flat: &FlatParts<'a>,
+        order: &RowOrder,
+        other: &Row<'a>,
+    ) -> Result<(), NoMemory>
+        requires order { IsRowOrder flat.now order.now }
+        // Each intermediate integer fits 64 bits.
+        requires safe { CanRelabel flat.now order.now self.old other.now }
+        ensures { OnOk result ((state label before : Valuation) → HoldsState order.now state self.old → HoldsLabel order.now label other.now → IsRow (parts_plain flat.now) state before (row_values self.old.values.items) → IsRow (parts_plain flat.now) state label (row_values self.new.values.items)) }
+    {
+        if !order.inputs {
+            return Ok(());
+        }
+        self.give_again(order, other)?;
+        self.evaluate(flat, order);
         Ok(())
     }
 }

@@ -35,8 +35,8 @@ evaluate-requires-clause-safe c =
     let fits = told flat values c.as_slice.result.now c.items_fit.result true c.as_slice.ensures.value c.items_fit.ensures c.if-not-items_fit.false in
     can_fill flat m u l values g fits
 
-pub evaluate-requires-2-clause-safe : goal.evaluate-requires-2-clause-safe
-evaluate-requires-2-clause-safe c =
+pub give_label-requires-clause-safe : goal.give_label-requires-clause-safe
+give_label-requires-clause-safe c =
     let flat = c.args.flat.now in
     let m = c.requires.model in
     let values = c.give.new.self.values.items in
@@ -45,8 +45,7 @@ evaluate-requires-2-clause-safe c =
     let l = given c.args.label.now in
     let u = given c.args.following.now in
     let fits = told flat values c.as_slice.result.now c.items_fit.result true c.as_slice.ensures.value c.items_fit.ensures c.if-not-items_fit.false in
-    let again = c.in_ok-give_again.ensures s l c.requires.held c.in_ok-give.ensures.label flat.items.now c.requires.order.places in
-    (s, l, again, all_safe flat m s l c.requires.state (λ source k. (both_fit flat source k u l values g fits).1))
+    (s, l, c.requires.held, c.in_ok-give.ensures.label, all_safe flat m s l c.requires.row.state_fits (λ source k. (both_fit flat source k u l values g fits).1))
 
 pub step_holds-requires : goal.step_holds-requires
 step_holds-requires c =
@@ -64,10 +63,9 @@ step_holds-requires c =
     let label : (source : PlainSource) → IsFlatOf source (parts_plain flat) → IsTrue (label_fits (instances_of source) l) = λ source k. (both_fit flat source k u l values g fits).1 in
     let values_fit : (source : PlainSource) → IsFlatOf source (parts_plain flat) → (state_fits (instances_of source) u && label_fits (instances_of source) l) ≡ true =
     λ source k. both_same _ _ true true (state source k) (label source k) in
-    let old = c.evaluate-2.new.self.values.items in
-    let again = c.in_ok-give_again.ensures s l c.requires.held c.in_ok-give.ensures.label flat.items.now c.requires.order.places in
-    let before = c.evaluate-2.ensures.values s l again in
-    rows_safe flat m.0 m.1 s l u l (c.requires.state m.0 m.1) (label m.0 m.1) (state m.0 m.1) (label m.0 m.1) (row_values old) (row_values new) before row
+    let old = c.give_label.new.self.values.items in
+    let before = c.in_ok-give_label.ensures s l c.requires.row.label c.requires.held c.in_ok-give.ensures.label c.requires.row.row in
+    rows_safe flat m.0 m.1 s l u l (c.requires.row.state_fits m.0 m.1) (label m.0 m.1) (state m.0 m.1) (label m.0 m.1) (row_values old) (row_values new) before row
 
 pub returns-then-not-step_holds-clause-clause : goal.returns-then-not-step_holds-clause-clause
 returns-then-not-step_holds-clause-clause c =
@@ -85,9 +83,8 @@ returns-then-not-step_holds-clause-clause c =
     let label : (source : PlainSource) → IsFlatOf source (parts_plain flat) → IsTrue (label_fits (instances_of source) l) = λ source k. (both_fit flat source k u l values g fits).1 in
     let values_fit : (source : PlainSource) → IsFlatOf source (parts_plain flat) → (state_fits (instances_of source) u && label_fits (instances_of source) l) ≡ true =
     λ source k. both_same _ _ true true (state source k) (label source k) in
-    let old = c.evaluate-2.new.self.values.items in
-    let again = c.in_ok-give_again.ensures s l c.requires.held c.in_ok-give.ensures.label flat.items.now c.requires.order.places in
-    let before = c.evaluate-2.ensures.values s l again in
+    let old = c.give_label.new.self.values.items in
+    let before = c.in_ok-give_label.ensures s l c.requires.row.label c.requires.held c.in_ok-give.ensures.label c.requires.row.row in
     let goes : (b : Bool) → c.step_holds.result ≡ b → (source : PlainSource) → IsFlatOf source (parts_plain flat) → step_holds (instances_of source) s l u ≡ b =
     λ b e source k.
     let h = rows_true flat source k s l u l (row_values old) (row_values new) before row in
@@ -128,9 +125,8 @@ returns-then-not-invar_holds-clause-clause c =
     let label : (source : PlainSource) → IsFlatOf source (parts_plain flat) → IsTrue (label_fits (instances_of source) l) = λ source k. (both_fit flat source k u l values g fits).1 in
     let values_fit : (source : PlainSource) → IsFlatOf source (parts_plain flat) → (state_fits (instances_of source) u && label_fits (instances_of source) l) ≡ true =
     λ source k. both_same _ _ true true (state source k) (label source k) in
-    let old = c.evaluate-2.new.self.values.items in
-    let again = c.in_ok-give_again.ensures s l c.requires.held c.in_ok-give.ensures.label flat.items.now c.requires.order.places in
-    let before = c.evaluate-2.ensures.values s l again in
+    let old = c.give_label.new.self.values.items in
+    let before = c.in_ok-give_label.ensures s l c.requires.row.label c.requires.held c.in_ok-give.ensures.label c.requires.row.row in
     let goes : (b : Bool) → c.step_holds.result ≡ b → (source : PlainSource) → IsFlatOf source (parts_plain flat) → step_holds (instances_of source) s l u ≡ b =
     λ b e source k.
     let h = rows_true flat source k s l u l (row_values old) (row_values new) before row in
@@ -157,9 +153,8 @@ returns-clause-clause c =
     let label : (source : PlainSource) → IsFlatOf source (parts_plain flat) → IsTrue (label_fits (instances_of source) l) = λ source k. (both_fit flat source k u l values g fits).1 in
     let values_fit : (source : PlainSource) → IsFlatOf source (parts_plain flat) → (state_fits (instances_of source) u && label_fits (instances_of source) l) ≡ true =
     λ source k. both_same _ _ true true (state source k) (label source k) in
-    let old = c.evaluate-2.new.self.values.items in
-    let again = c.in_ok-give_again.ensures s l c.requires.held c.in_ok-give.ensures.label flat.items.now c.requires.order.places in
-    let before = c.evaluate-2.ensures.values s l again in
+    let old = c.give_label.new.self.values.items in
+    let before = c.in_ok-give_label.ensures s l c.requires.row.label c.requires.held c.in_ok-give.ensures.label c.requires.row.row in
     let goes : (b : Bool) → c.step_holds.result ≡ b → (source : PlainSource) → IsFlatOf source (parts_plain flat) → step_holds (instances_of source) s l u ≡ b =
     λ b e source k.
     let h = rows_true flat source k s l u l (row_values old) (row_values new) before row in
@@ -187,3 +182,7 @@ returns-clause-row c =
     let values_fit : (source : PlainSource) → IsFlatOf source (parts_plain flat) → (state_fits (instances_of source) u && label_fits (instances_of source) l) ≡ true =
     λ source k. both_same _ _ true true (state source k) (label source k) in
     λ e. record { label = l; row = row; state_fits = state; label_fits = label }
+
+pub returns-clause-before : goal.returns-clause-before
+returns-clause-before c = λ e.
+    c.in_ok-give_label.ensures (given c.args.state.now) (given c.args.label.now) c.requires.row.label c.requires.held c.in_ok-give.ensures.label c.requires.row.row
