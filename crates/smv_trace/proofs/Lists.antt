@@ -1,8 +1,10 @@
 -- Lists from a place on.
-use Rattle.std.proofs.Common.{◌≡◌, ℕ, ◌+◌, ◌<◌, ◌≤◌, false, ◌&&◌, ◌||◌, Option, Some, is_none, List, [], ◌∷◌, ◌++◌, length, drop, sym, ap, ◌∙◌, append_assoc, arith}
+use Rattle.std.proofs.Common.{◌≡◌, ℕ, ◌+◌, ◌<◌, ◌≤◌, true, false, ◌&&◌, ◌||◌, Option, Some, is_none, List, [], ◌∷◌, ◌++◌, length, drop, sym, ap, ◌∙◌, append_assoc, arith}
 use Rattle.std.specs.Prelude.{slice_index_or, slice_get}
+use Rattle.std.proofs.lemmas.Bool.{and_parts}
 use Rattle.std.proofs.lemmas.List.{drop_more, drop_all}
 use Rattle.std.proofs.lemmas.Option.{slice_get_within, get_or_from_slice_get}
+use Rattle.name_maps.specs.Names.{are_fresh, place_of}
 use Rattle.smv_meaning.specs.declared.value.Value.{Value}
 use Rattle.smv_items.specs.FlatItems.{PlainFlatItem}
 use Rattle.smv_trace.specs.declared.heading.Heading.{Heading}
@@ -38,3 +40,10 @@ lacks_on h items stated k n m v at long l is =
 
 pub lacks_end : (h : Heading) (items : List PlainFlatItem) (stated : List (Option Value)) (k n : ℕ) → n ≡ length items → n ≤ k → lacks h (drop k items) (drop k stated) ≡ false
 lacks_end h items stated k n e l = ap (λ ms. lacks h ms (drop k stated)) (end_is items k n e l)
+
+-- the first of the names from one on is new, and those behind it are behind it
+pub first_fresh : (names rest : List (List ℕ)) (x : List ℕ) → are_fresh names (x ∷ rest) ≡ true → is_none (place_of names x) ≡ true
+first_fresh names rest x h = (and_parts (is_none (place_of names x)) (are_fresh (names ++ x ∷ []) rest) h).0
+
+pub rest_fresh : (names rest : List (List ℕ)) (x : List ℕ) → are_fresh names (x ∷ rest) ≡ true → are_fresh (names ++ x ∷ []) rest ≡ true
+rest_fresh names rest x h = (and_parts (is_none (place_of names x)) (are_fresh (names ++ x ∷ []) rest) h).1

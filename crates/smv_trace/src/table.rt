@@ -1,6 +1,6 @@
 // The declarations against which a trace is read, with a lookup table of their names.
-ghost use Rattle.std.specs.Prelude.{◌≡◌, ◌<◌, ◌++◌, Some, map, length, is_some, IfOk, IfSome, slice_get};
-ghost use Rattle.name_maps.specs.Names.{place_of};
+ghost use Rattle.std.specs.Prelude.{◌≡◌, ◌<◌, ◌++◌, [], true, Some, map, length, is_some, IfOk, IfSome, slice_get};
+ghost use Rattle.name_maps.specs.Names.{are_fresh, place_of};
 ghost use Rattle.smv_items.specs.FlatItemView.{item_plain};
 ghost use Rattle.smv_trace.specs.Reading.{is_variable, variables_of};
 ghost use Rattle.smv_trace.specs.Answer.{declarations_of};
@@ -34,15 +34,16 @@ impl<'a> Model for Table<'a> {
     ghost invariant = { λ t. (t.names ≡ map (λ m. m.name) (map item_plain t.items.now)) × (t.variables ≡ length (variables_of (map item_plain t.items.now))) };
 }
 
-// The names of the items, which are distinct in an accepted model.
-#[tactic(auto, using(crate::proofs::Lists::front_is, crate::proofs::Lists::end_is, crate::proofs::Lists::joined_on))]
+// The names of the items, which are distinct.
+#[tactic(auto, using(crate::proofs::Lists::front_is, crate::proofs::Lists::end_is, crate::proofs::Lists::joined_on, crate::proofs::Lists::first_fresh, crate::proofs::Lists::rest_fresh))]
 fn names_of(alloc: Global, items: &FlatItems) -> Result<NameTable, NoMemory>
+    requires { are_fresh [] (map (λ m. m.name) (map item_plain items.now)) ≡ true }
     ensures { IfOk result (λ names. names ≡ map (λ m. m.name) (map item_plain items.now)) }
 {
     let mut names = NameTable::new(alloc);
     for k in 0..items.len() {
         if !names.declare(alloc, items.at(k).name.bytes())? {
-            return Err(NoMemory);
+            unreachable!();
         }
     }
     Ok(names)
@@ -68,15 +69,16 @@ fn variables_in(items: &FlatItems) -> usize
     count
 }
 
-// The symbols, which are distinct in a flat form.
+// The symbols, which are distinct.
 fn symbols_of(alloc: Global, flat: &Flat) -> Result<NameSet, NoMemory>
+    requires { are_fresh [] flat.now.symbols ≡ true }
     ensures { IfOk result (λ symbols. symbols ≡ flat.now.symbols) }
 {
     let mut symbols = NameSet::new(alloc);
     if symbols.declare_all(alloc, flat.symbols())? {
         Ok(symbols)
     } else {
-        Err(NoMemory)
+        unreachable!()
     }
 }
 
@@ -85,6 +87,7 @@ impl<'a> Table<'a> {
     pub fn of(alloc: Global, flat: &'a Flat) -> Result<Table<'a>, NoMemory>
         ensures { IfOk result (λ table. table ≡ declarations_of flat.now) }
     {
+        flat.is_of_model();
         let items = flat.items();
         let names = names_of(alloc, items)?;
         let symbols = symbols_of(alloc, flat)?;
