@@ -1,3 +1,4 @@
 pub mod Declared
 pub mod FitLaws
 pub mod StepLaws
+pub mod Takes

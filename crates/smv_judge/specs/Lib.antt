@@ -1,3 +1,4 @@
 pub mod Fits
 pub mod Labels
 pub mod Models
+pub mod Taken

@@ -1,19 +1,24 @@
 // The judge of stated runs.
-ghost use Rattle.std.specs.Prelude.{◌≡◌, ◌<◌, ◌+◌, ◌^◌, length, map, IfOk};
+ghost use Rattle.std.specs.Prelude.{◌≡◌, ◌<◌, ◌+◌, ◌^◌, ◌++◌, [], ◌∷◌, List, length, map, IfOk, OnOk};
+ghost use Rattle.text_core.specs.declared.verdict.Verdict.TheVariants.{Yes};
 ghost use Rattle.smv_text.specs.Tree.{PlainSource};
 ghost use Rattle.smv_text.specs.View.{plain_source};
 ghost use Rattle.smv_meaning.specs.Values.{given};
 ghost use Rattle.smv_meaning.specs.Instances.{instances_of};
 ghost use Rattle.smv_meaning.specs.Phases.{IsAccepted};
 ghost use Rattle.smv_meaning.specs.Runs.{judged_after, judged_smv};
+ghost use Rattle.smv_flat_laws.specs.FlatTruth.{Row as PlainRow, IsRow};
 ghost use Rattle.smv_flatten.specs.FlatModel.{IsRead, flat_plain};
 ghost use Rattle.smv_rows.specs.Held.{HoldsState};
 ghost use Rattle.smv_rows.specs.Parts.{parts_plain};
 ghost use Rattle.smv_rows.specs.RowOrders.{IsRowOrder};
-ghost use Rattle.smv_judge.specs.Models.{IsFlatOf, HasModel, LabelFits, IsStateRow};
+ghost use Rattle.smv_judge.specs.Labels.{first_label as label_of};
+ghost use Rattle.smv_judge.specs.Models.{IsFlatOf, HasModel, LabelFits, StateFits, IsStateRow};
+ghost use Rattle.smv_judge.specs.Taken.{HasTaken};
 
 use crate::labels::first_label;
 use crate::steps::{first_failure, step_failure};
+use crate::taken::{NoRows, TakesRows};
 use smv_flatten::{Flat, FlatEnd, flatten};
 use smv_meaning::{Run, State};
 use smv_rows::{FlatParts, Row, RowOrder, is_broken, row_order};
@@ -22,8 +27,31 @@ use std::alloc::Global;
 use std::mem;
 use text_core::{Clause, NoMemory, Verdict};
 
-// The verdict on the states after a state whose values the row has.
-fn judge_steps<'a>(
+// Hands on the row of the last state under this label.
+fn take_last<'a, T: TakesRows>(
+    alloc: Global,
+    flat: &FlatParts<'a>,
+    order: &RowOrder,
+    state: &'a State,
+    label: &'a State,
+    row: &mut Row<'a>,
+    taker: &mut T,
+) -> Result<(), NoMemory>
+    requires model { HasModel flat.now }
+    requires order { IsRowOrder flat.now order.now }
+    requires state { StateFits flat.now (given state.now) }
+    requires label { LabelFits flat.now (given label.now) }
+    requires taken { (start : T) × (rows : List PlainRow) × T.took start rows taker.old }
+    ensures { OnOk result ((r : PlainRow) × IsRow (parts_plain flat.now) (given state.now) (given label.now) r × ((start : T) (rows : List PlainRow) → T.took start rows taker.old → T.took start (rows ++ r ∷ []) taker.new)) }
+{
+    row.give(order, state, label)?;
+    row.evaluate(flat, order);
+    taker.take_row(alloc, row.values.as_slice())?;
+    Ok(())
+}
+
+// The verdict on the states after a state whose values the row has. With Yes, the row of each state is handed on.
+fn judge_steps<'a, T: TakesRows>(
     alloc: Global,
     flat: &FlatParts<'a>,
     order: &RowOrder,
@@ -31,14 +59,19 @@ fn judge_steps<'a>(
     first: &'a State,
     following: &'a [State],
     labels: &'a [State],
+    last: &'a State,
     row: &mut Row<'a>,
+    taker: &mut T,
 ) -> Result<Verdict, NoMemory>
     requires model { HasModel flat.now }
     requires order { IsRowOrder flat.now order.now }
     requires row { IsStateRow flat.now (given first.now) row.old.values.items }
     requires held { HoldsState order.now (given first.now) row.old }
     requires few { length following.now + 1 < 2 ^ 32 }
-    ensures { IfOk result (λ v. (source : PlainSource) → IsFlatOf source (parts_plain flat.now) → v ≡ judged_after (instances_of source) j 0 (given first.now) (map given following.now) (map given labels.now)) }
+    requires last { LabelFits flat.now (given last.now) }
+    requires none { T.took taker.old [] taker.old }
+    ensures taken { IfOk result (λ v. v ≡ Yes → HasTaken (λ rows. T.took taker.old rows taker.new) (parts_plain flat.now) last.now (first.now ∷ following.now) labels.now) }
+    ensures verdict { IfOk result (λ v. (source : PlainSource) → IsFlatOf source (parts_plain flat.now) → v ≡ judged_after (instances_of source) j 0 (given first.now) (map given following.now) (map given labels.now)) }
 {
     let mut before = Row::new(alloc);
     let mut state = first;
@@ -54,6 +87,7 @@ fn judge_steps<'a>(
             Some(clause) => return Ok(Verdict::No(step + 1, clause)),
             None => {}
         }
+        taker.take_row(alloc, before.values.as_slice())?;
         state = next;
         states = others;
         labels = more;
@@ -62,6 +96,7 @@ fn judge_steps<'a>(
     if !labels.is_empty() {
         Ok(Verdict::No(step + 1, Clause::ValueOutside))
     } else if is_broken(flat, j, row) {
+        take_last(alloc, flat, order, state, last, row, taker)?;
         Ok(Verdict::Yes)
     } else {
         Ok(Verdict::No(step, Clause::NotBroken))
@@ -69,17 +104,20 @@ fn judge_steps<'a>(
 }
 
 // The verdict on a stated run, given a label whose values are of the declared types.
-fn judge_parts<'a>(
+fn judge_parts<'a, T: TakesRows>(
     alloc: Global,
     flat: &FlatParts<'a>,
     label: &'a State,
     j: u32,
     run: &'a Run,
+    taker: &mut T,
 ) -> Result<Verdict, NoMemory>
     requires model { HasModel flat.now }
     requires label { LabelFits flat.now (given label.now) }
     requires few { length run.now.states < 2 ^ 32 }
-    ensures { IfOk result (λ v. (source : PlainSource) → IsFlatOf source (parts_plain flat.now) → v ≡ judged_smv source j (map given run.now.states) (map given run.now.labels)) }
+    requires none { T.took taker.old [] taker.old }
+    ensures taken { IfOk result (λ v. v ≡ Yes → HasTaken (λ rows. T.took taker.old rows taker.new) (parts_plain flat.now) label.now run.now.states run.now.labels) }
+    ensures verdict { IfOk result (λ v. (source : PlainSource) → IsFlatOf source (parts_plain flat.now) → v ≡ judged_smv source j (map given run.now.states) (map given run.now.labels)) }
 {
     let order = row_order(alloc, flat)?;
     let Some((first, following)) = run.states.as_slice().split_first() else {
@@ -96,9 +134,38 @@ fn judge_parts<'a>(
             first,
             following,
             run.labels.as_slice(),
+            label,
             &mut row,
+            taker,
         ),
     }
+}
+
+/// Returns the verdict of `judge_flat`, and hands on the rows that it fills.
+///
+/// With Yes, the taker got one row for each state, in order, under the label of the transition that leaves the state. The
+/// label of the last state gives each input the first value of its type. With No, it may have got some rows.
+pub fn judge_rows<T: TakesRows>(
+    alloc: Global,
+    flat: &Flat,
+    j: u32,
+    run: &Run,
+    taker: &mut T,
+) -> Result<Verdict, NoMemory>
+    requires model { (source : PlainSource) × IsFlatOf source (flat_plain flat.now) }
+    requires few { length run.now.states < 2 ^ 32 }
+    requires none { T.took taker.old [] taker.old }
+    ensures verdict { IfOk result (λ v. (source : PlainSource) → IsFlatOf source (flat_plain flat.now) → v ≡ judged_smv source j (map given run.now.states) (map given run.now.labels)) }
+    // All rows were taken, where the verdict is Yes.
+    ensures taken { IfOk result (λ v. v ≡ Yes → HasTaken (λ rows. T.took taker.old rows taker.new) (flat_plain flat.now) (label_of (flat_plain flat.now).items) run.now.states run.now.labels) }
+{
+    let parts = FlatParts {
+        items: flat.items().as_slice(),
+        symbols: flat.symbols(),
+        formulas: flat.formulas().as_slice(),
+    };
+    let label = first_label(alloc, parts.items)?;
+    judge_parts(alloc, &parts, &label, j, run, taker)
 }
 
 /// Returns the verdict on a stated run for a flat form and invariant j, counted from 0.
@@ -110,13 +177,7 @@ pub fn judge_flat(alloc: Global, flat: &Flat, j: u32, run: &Run) -> Result<Verdi
     requires few { length run.now.states < 2 ^ 32 }
     ensures { IfOk result (λ v. (source : PlainSource) → IsFlatOf source (flat_plain flat.now) → v ≡ judged_smv source j (map given run.now.states) (map given run.now.labels)) }
 {
-    let parts = FlatParts {
-        items: flat.items().as_slice(),
-        symbols: flat.symbols(),
-        formulas: flat.formulas().as_slice(),
-    };
-    let label = first_label(alloc, parts.items)?;
-    judge_parts(alloc, &parts, &label, j, run)
+    judge_rows(alloc, flat, j, run, &mut NoRows)
 }
 
 /// Returns the verdict on a stated run for invariant j, counted from 0 (NuSMV 2.6 User Manual, 2.3 and 2.4).

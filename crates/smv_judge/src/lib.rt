@@ -5,6 +5,8 @@ mod fits;
 mod judge;
 mod labels;
 mod steps;
+mod taken;
 
-pub use judge::{judge_flat, judge_smv};
+pub use judge::{judge_flat, judge_rows, judge_smv};
 pub use labels::first_label;
+pub use taken::TakesRows;

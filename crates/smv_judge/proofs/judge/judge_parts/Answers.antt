@@ -1,12 +1,18 @@
-use Rattle.std.proofs.Common.{sym, ◌∙◌}
+use Rattle.std.proofs.Common.{◌∷◌, sym, ◌∙◌}
 use Rattle.smv_rows.specs.Parts.{parts_plain}
 use Rattle.smv_judge.proofs.StepLaws.{is_orderly, parts_told}
+use Rattle.smv_judge.proofs.Takes.{parts_taken}
 use Rattle.smv_judge.proofs.judge.judge_parts.Goals as goal
 
 pub row_order-requires : goal.row_order-requires
-row_order-requires c = is_orderly (parts_plain c.args.flat.now) c.requires.model.0 c.requires.model.1
+row_order-requires g c = is_orderly (parts_plain c.args.flat.now) c.requires.model.0 c.requires.model.1
 
-pub returns : goal.returns
-returns c =
+pub returns-clause-verdict : goal.returns-clause-verdict
+returns-clause-verdict g c =
     parts_told (parts_plain c.args.flat.now) c.judge_steps.result c.args.j c.in-Some.first.now c.in-Some.following.now c.as_slice-in-None.result.now c.args.run.now.states c.args.run.now.labels
-    (sym c.as_slice.ensures ∙ c.in-Some.ensures.cases.0) c.as_slice-in-None.ensures (λ source k. sym c.in-None.is ∙ c.in_ok-clause.ensures.clause source k) c.judge_steps.ensures
+    (sym c.as_slice.ensures ∙ c.in-Some.ensures.cases.0) c.as_slice-in-None.ensures (λ source k. sym c.in-None.is ∙ c.in_ok-clause.ensures.clause source k) c.judge_steps.ensures.verdict
+
+pub returns-clause-taken : goal.returns-clause-taken
+returns-clause-taken g c =
+    parts_taken (λ rows. g.T.TakesRows.took c.args.taker.now rows c.judge_steps.new.taker) (parts_plain c.args.flat.now) c.args.label.now c.judge_steps.result (c.in-Some.first.now ∷ c.in-Some.following.now) c.args.run.now.states c.as_slice-in-None.result.now c.args.run.now.labels
+    (sym c.as_slice.ensures ∙ c.in-Some.ensures.cases.0) c.as_slice-in-None.ensures c.judge_steps.ensures.taken

@@ -4,8 +4,8 @@ use Rattle.smv_meaning.specs.Values.{given}
 use Rattle.smv_meaning.specs.Instances.{instances_of}
 use Rattle.smv_meaning.specs.Runs.{label_fits}
 use Rattle.smv_judge.proofs.StepLaws.{own_label}
-use Rattle.smv_judge.proofs.judge.judge_flat.Goals as goal
+use Rattle.smv_judge.proofs.judge.judge_rows.Goals as goal
 
 pub judge_parts-requires-clause-label : goal.judge_parts-requires-clause-label
-judge_parts-requires-clause-label c = λ source k.
+judge_parts-requires-clause-label g c = λ source k.
     subst (λ (g : List Given). IsTrue (label_fits (instances_of source) (given g))) (sym c.in_ok-label.ensures) (own_label _ source k)
