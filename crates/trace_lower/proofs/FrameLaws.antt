@@ -1,8 +1,6 @@
 -- The frame of a row is that of the model's state and label.
-use Rattle.std.proofs.Common.{◌≡◌, ℕ, zero, suc, ◌+◌, ◌<◌, ◌==◌, if◌then◌else◌, List, [], ◌∷◌, ◌++◌, length, Result, Ok, Err, refl, sym, ap, ◌∙◌, subst, arith}
-use Rattle.std.specs.Prelude.{IfOk}
+use Rattle.std.proofs.Common.{◌≡◌, ℕ, zero, suc, ◌+◌, ◌<◌, ◌==◌, if◌then◌else◌, List, [], ◌∷◌, ◌++◌, length, refl, sym, ap, ◌∙◌, subst, arith}
 use Rattle.std.proofs.lemmas.List.{length-append, length-map}
-use Rattle.text_core.specs.declared.errors.NoMemory.{NoMemory}
 use Rattle.btor_witness.specs.declared.witness.Stated.{Stated}
 use Rattle.btor_witness.specs.declared.witness.Frame.{Frame}
 use Rattle.smv_text.specs.Tree.{PlainSource}
@@ -89,16 +87,10 @@ frame_in source needed accepted s l row r =
     ∙ sym (at_upto values n v h) in
     ap (λ k. frame_with (codes_upto es stated k)) (sym (model_count source)) ∙ ap frame_with (codes_same es stated (at (values_upto values n)) n same)
 
-frame_told : (source : PlainSource) (flat : PlainFlat) (c : Codes) → IsCodedOf source flat c → (s l : List Given) (row : Row) → IsRow flat (given s) (given l) row → frame_of c flat.items row ≡ model_frame source s l
+pub frame_told : (source : PlainSource) (flat : PlainFlat) (c : Codes) → IsCodedOf source flat c → (s l : List Given) (row : Row) → IsRow flat (given s) (given l) row → frame_of c flat.items row ≡ model_frame source s l
 frame_told source flat c m s l row r =
     let symbols : c.symbols ≡ (flat_smv source).symbols = m.symbols ∙ ap (λ (f : PlainFlat). f.symbols) m.form.form in
     ap (λ (f : PlainFlat). frame_of c f.items row) m.form.form
     ∙ ap (λ (w : ℕ). let d : Codes = record { width = w; symbols = c.symbols } in frame_of d (flat_smv source).items row) m.width
     ∙ ap (λ (xs : List (List ℕ)). let d : Codes = record { width = width_of (flat_smv source); symbols = xs } in frame_of d (flat_smv source).items row) symbols
     ∙ frame_in source m.form.needed m.form.accepted s l row (subst (λ (f : PlainFlat). IsRow f (given s) (given l) row) m.form.form r)
-
--- what is told of the row is told of the state and the label
-pub frame_of_state : (flat : PlainFlat) (c : Codes) (s l : List Given) (row : Row) (result : Result Frame NoMemory) → IsRow flat (given s) (given l) row → IfOk result (λ frame. frame ≡ frame_of c flat.items row)
-    → IfOk result (λ frame. (source : PlainSource) → IsCodedOf source flat c → frame ≡ model_frame source s l)
-frame_of_state flat c s l row (Ok frame) r h = λ source m. h ∙ frame_told source flat c m s l row r
-frame_of_state flat c s l row (Err e) r h = tt

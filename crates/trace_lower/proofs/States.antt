@@ -1,35 +1,29 @@
 -- Frames along the states of a run.
-use Rattle.std.proofs.Common.{◌≡◌, ℕ, ◌+◌, ◌<◌, ◌≤◌, ◌^◌, List, [], ◌∷◌, ◌++◌, length, map, true, refl, sym, ap, ◌∙◌, subst, arith}
-use Rattle.std.specs.Prelude.{IsTrue}
-use Rattle.std.specs.List.{AllByRecursion, list_all}
-use Rattle.std.proofs.lemmas.List.{append_assoc, length-append}
-use Rattle.text_core.specs.declared.verdict.Verdict.TheVariants.{Yes}
+use Rattle.std.proofs.Common.{◌≡◌, ◌+◌, ◌<◌, ◌≤◌, ◌^◌, List, [], ◌∷◌, ◌++◌, length, map, true, refl, sym, ap, ◌∙◌, subst, arith}
+use Rattle.std.proofs.lemmas.List.{length-append}
 use Rattle.name_maps.specs.Names.{are_fresh}
 use Rattle.btor_witness.specs.declared.witness.Frame.{Frame}
 use Rattle.smv_text.specs.Tree.{PlainSource}
 use Rattle.smv_meaning.specs.declared.value.Given.{Given}
-use Rattle.smv_meaning.specs.Values.{given}
 use Rattle.smv_meaning.specs.Instances.{instances_of, weight_of}
-use Rattle.smv_meaning.specs.Runs.{IsRun, judged_smv, label_fits, state_fits}
-use Rattle.smv_meaning.specs.Verdicts.{YesIsRun}
 use Rattle.smv_accepted.specs.NameLaws.{SymbolsDiffer}
-use Rattle.smv_meaning.specs.laws.Booleans.{both_true}
+use Rattle.smv_items.specs.FlatItems.{PlainFlatItem}
 use Rattle.smv_flat.specs.FlatForms.{PlainFlat, flat_smv}
+use Rattle.smv_flat_laws.specs.FlatTruth.{Row}
 use Rattle.smv_width.specs.FlatWidth.{width_of}
 use Rattle.smv_flatten.specs.FlatModel.{FlatModel, flat_plain}
-use Rattle.smv_rows.specs.declared.parts.FlatParts.{FlatParts}
-use Rattle.smv_rows.specs.Parts.{parts_plain}
 use Rattle.smv_judge.specs.Labels.{first_label}
-use Rattle.smv_judge.specs.Models.{IsFlatOf, LabelFits, StateFits}
+use Rattle.smv_judge.specs.Models.{IsFlatOf}
+use Rattle.smv_judge.specs.Taken.{AreRowsOf, labels_left, next_or}
 use Rattle.smv_script_laws.proofs.Weights.{counts_by_weight}
 use Rattle.smv_script.specs.Script.{check_of}
 use Rattle.moxi_scripts.specs.Whole.{check_variables}
 use Rattle.witness_lift.specs.Breaking.{IsFormOf}
 use Rattle.witness_lift.specs.LineLaws.{model_system}
 use Rattle.witness_lift.proofs.Models.{weight_fits}
-use Rattle.trace_lower.specs.Lowered.{labels_left, next_label}
-use Rattle.trace_lower.specs.Stating.{AreFitting, Codes, IsCodedOf, model_frame, model_frames, next_or, variable_count}
-use Rattle.trace_lower.proofs.FrameLaws.{model_count}
+use Rattle.trace_lower.specs.Lowered.{next_label}
+use Rattle.trace_lower.specs.Stating.{Codes, IsCodedOf, frame_of, model_frame, model_frames, variable_count}
+use Rattle.trace_lower.proofs.FrameLaws.{frame_told, model_count}
 
 -- ---- the label of a state
 
@@ -37,43 +31,16 @@ next_is : (source : PlainSource) (last : List Given) → last ≡ first_label (f
 next_is source last e [] = e
 next_is source last e (l ∷ labels) = refl
 
-pub label_fitting : (flat : FlatParts) (last : List Given) → LabelFits flat (given last) → (labels : List (List Given)) → AllByRecursion (λ l. LabelFits flat (given l)) labels → LabelFits flat (given (next_or last labels))
-label_fitting flat last fits [] all = fits
-label_fitting flat last fits (l ∷ labels) all = all.0
+-- ---- the frames of rows
 
-pub left_fitting : (flat : FlatParts) (labels : List (List Given)) → AllByRecursion (λ l. LabelFits flat (given l)) labels → AllByRecursion (λ l. LabelFits flat (given l)) (labels_left labels)
-left_fitting flat [] all = tt
-left_fitting flat (l ∷ labels) all = all.1
-
--- ---- one frame more
-
-pub frames_more : (source : PlainSource) (flat : PlainFlat) → flat ≡ flat_smv source → (last : List Given) → last ≡ first_label flat.items → (frames : List Frame) (frame : Frame) (s : List Given) (more labels : List (List Given))
-    → frame ≡ model_frame source s (next_or last labels) → (frames ++ frame ∷ []) ++ model_frames source more (labels_left labels) ≡ frames ++ model_frames source (s ∷ more) labels
-frames_more source flat form last first frames frame s more labels h =
-    let rest = model_frames source more (labels_left labels) in
-    let label : next_or last labels ≡ next_label source labels = next_is source last (first ∙ ap (λ (f : PlainFlat). first_label f.items) form) labels in
-    append_assoc frames (frame ∷ []) rest ∙ ap (λ (x : Frame). frames ++ x ∷ rest) (h ∙ ap (model_frame source s) label)
-
--- ---- the values of a run
-
-pub states_fitting : (flat : FlatParts) (states : List (List Given)) → ((source : PlainSource) → IsFlatOf source (parts_plain flat) → IsTrue (list_all (state_fits (instances_of source)) (map given states)))
-    → AllByRecursion (λ s. StateFits flat (given s)) states
-states_fitting flat [] h = tt
-states_fitting flat (s ∷ states) h = (
-  λ source m. (both_true (state_fits (instances_of source) (given s)) (list_all (state_fits (instances_of source)) (map given states)) (h source m)).0,
-  states_fitting flat states (λ source m. (both_true (state_fits (instances_of source) (given s)) (list_all (state_fits (instances_of source)) (map given states)) (h source m)).1),
-)
-
-pub labels_fitting : (flat : FlatParts) (labels : List (List Given)) → ((source : PlainSource) → IsFlatOf source (parts_plain flat) → IsTrue (list_all (label_fits (instances_of source)) (map given labels)))
-    → AllByRecursion (λ l. LabelFits flat (given l)) labels
-labels_fitting flat [] h = tt
-labels_fitting flat (l ∷ labels) h = (
-  λ source m. (both_true (label_fits (instances_of source) (given l)) (list_all (label_fits (instances_of source)) (map given labels)) (h source m)).0,
-  labels_fitting flat labels (λ source m. (both_true (label_fits (instances_of source) (given l)) (list_all (label_fits (instances_of source)) (map given labels)) (h source m)).1),
-)
-
-pub run_fitting : (flat : FlatParts) (states labels : List (List Given)) → ((source : PlainSource) → IsFlatOf source (parts_plain flat) → IsRun source (map given states) (map given labels)) → AreFitting flat states labels
-run_fitting flat states labels h = record { states = states_fitting flat states (λ source m. (h source m).values); labels = labels_fitting flat labels (λ source m. (h source m).inputs) }
+pub frames_are : (source : PlainSource) (flat : PlainFlat) (c : Codes) → IsCodedOf source flat c → (last : List Given) → last ≡ first_label (flat_smv source).items → (states labels : List (List Given)) (rows : List Row)
+    → AreRowsOf flat last states labels rows → map (frame_of c flat.items) rows ≡ model_frames source states labels
+frames_are source flat c m last first [] labels [] a = refl
+frames_are source flat c m last first [] labels (r ∷ rows) a = absurd a
+frames_are source flat c m last first (s ∷ states) labels [] a = absurd a
+frames_are source flat c m last first (s ∷ states) labels (r ∷ rows) a =
+    ap (λ (f : Frame). f ∷ map (frame_of c flat.items) rows) (frame_told source flat c m s (next_or last labels) r a.0 ∙ ap (model_frame source s) (next_is source last first labels))
+    ∙ ap (λ (fs : List Frame). model_frame source s (next_label source labels) ∷ fs) (frames_are source flat c m last first states (labels_left labels) rows a.1)
 
 -- ---- a model
 
@@ -98,13 +65,11 @@ form_is_coded source f c m width symbols = record { form = form_is_flat source f
 pub symbols_fresh : (f : FlatModel) (source : PlainSource) → IsFormOf source f → SymbolsDiffer → are_fresh [] f.symbols ≡ true
 symbols_fresh f source m differ = ap (λ (x : PlainFlat). are_fresh [] x.symbols) m.form ∙ differ (instances_of source)
 
--- ---- ends
-
--- no state is left
-pub none_left : (xs : List (List Given)) → length xs ≡ 0 → xs ≡ []
-none_left [] h = refl
-none_left (x ∷ xs) h = absurd (omega (arith, h))
-
-pub run_judged : YesIsRun → (flat : PlainFlat) (j : ℕ) (states labels : List (List Given)) → ((source : PlainSource) → IsFlatOf source flat → Yes ≡ judged_smv source j (map given states) (map given labels))
-    → (source : PlainSource) → IsFlatOf source flat → IsRun source (map given states) (map given labels)
-run_judged runs flat j states labels h source m = ((runs source j (map given states) (map given labels)).0 (sym (h source m))).0
+-- the frames of the rows that were taken are those of the run
+pub taken_are : (source : PlainSource) (f : FlatModel) (c : Codes) (states labels : List (List Given)) (none frames : List Frame) → IsFormOf source f → c.width ≡ f.width → c.symbols ≡ f.symbols → (items : List PlainFlatItem) → items ≡ (flat_plain f).items
+    → (rows : List Row) → none ≡ [] → frames ≡ none ++ map (frame_of c items) rows → AreRowsOf (flat_plain f) (first_label (flat_plain f).items) states labels rows → frames ≡ model_frames source states labels
+taken_are source f c states labels none frames m width symbols items same rows empty e a =
+    let first : first_label (flat_plain f).items ≡ first_label (flat_smv source).items = ap (λ (x : PlainFlat). first_label x.items) m.form in
+    e ∙ ap (λ (fs : List Frame). fs ++ map (frame_of c items) rows) empty
+    ∙ ap (λ (ms : List PlainFlatItem). map (frame_of c ms) rows) same
+    ∙ frames_are source (flat_plain f) c (form_is_coded source f c m width symbols) (first_label (flat_plain f).items) first states labels rows a

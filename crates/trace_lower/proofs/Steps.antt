@@ -19,7 +19,8 @@ use Rattle.moxi_terms.specs.Sorts.{Fit, IsOf}
 use Rattle.moxi_terms.specs.Value.{Values}
 use Rattle.moxi_lift.specs.Lifted.{values_upto}
 use Rattle.witness_lift.specs.LineLaws.{model_system}
-use Rattle.trace_lower.specs.Lowered.{labels_left, next_label, steps_in}
+use Rattle.smv_judge.specs.Taken.{labels_left}
+use Rattle.trace_lower.specs.Lowered.{next_label, steps_in}
 
 -- the value of this number, or the other one behind the list
 abbrev pub nth : List Valuation → Valuation → ℕ → Valuation

@@ -11,6 +11,7 @@ use Rattle.smv_meaning.specs.Runs.{judged_smv}
 use Rattle.smv_flat.specs.FlatForms.{flat_smv}
 use Rattle.smv_width.specs.FlatWidth.{width_of}
 use Rattle.smv_judge.specs.Labels.{first_label}
+use Rattle.smv_judge.specs.Taken.{labels_left}
 use Rattle.smv_script_laws.specs.EnvironmentLaws.{environment_in}
 use Rattle.moxi_terms.specs.declared.data.Datum.{Datum}
 use Rattle.moxi_lift.specs.Lifted.{values_upto}
@@ -27,10 +28,6 @@ step_in source state label =
 abbrev pub next_label : PlainSource → List (List Given) → List Given
 next_label source [] = first_label (flat_smv source).items
 next_label source (l ∷ labels) = l
-
-abbrev pub labels_left : List (List Given) → List (List Given)
-labels_left [] = []
-labels_left (l ∷ labels) = labels
 
 -- a step for each state, under the label of the transition that leaves it
 abbrev pub steps_in : PlainSource → List (List Given) → List (List Given) → List (List Datum)

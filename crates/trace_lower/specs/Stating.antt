@@ -1,19 +1,16 @@
 -- The frame that states a row of values, one for each item of a flat form.
-use Rattle.std.specs.Prelude.{◌≡◌, ℕ, ◌+◌, List, [], ◌∷◌, length, map, take}
-use Rattle.std.specs.List.{AllByRecursion}
+use Rattle.std.specs.Prelude.{◌≡◌, ℕ, ◌+◌, List, [], length, map, take}
 use Rattle.word_core.specs.Words.{BitVector}
 use Rattle.btor_witness.specs.declared.witness.Stated.{Stated}
 use Rattle.btor_witness.specs.declared.witness.Frame.{Frame}
 use Rattle.smv_text.specs.Tree.{PlainSource}
 use Rattle.smv_meaning.specs.declared.value.Given.{Given}
 use Rattle.smv_meaning.specs.declared.value.Value.{Value}
-use Rattle.smv_meaning.specs.Values.{given}
 use Rattle.smv_items.specs.FlatItems.{PlainFlatItem}
 use Rattle.smv_flat.specs.FlatForms.{PlainFlat, flat_smv}
 use Rattle.smv_flat_laws.specs.FlatTruth.{Row}
 use Rattle.smv_width.specs.FlatWidth.{width_of}
-use Rattle.smv_judge.specs.Models.{IsFlatOf, LabelFits, StateFits}
-use Rattle.smv_rows.specs.declared.parts.FlatParts.{FlatParts}
+use Rattle.smv_judge.specs.Models.{IsFlatOf}
 use Rattle.smv_script.specs.Codes.{datum_of}
 use Rattle.smv_script.specs.Script.{Group, locals, group_start, items_in, place_of_item, symbol_sort}
 use Rattle.smv_script_laws.specs.Decoding.{datum_from}
@@ -69,15 +66,3 @@ model_frame source state label = lowered_step (model_system source).scope.enumer
 -- those of a run's states under its labels
 abbrev pub model_frames : PlainSource → List (List Given) → List (List Given) → List Frame
 model_frames source states labels = map (lowered_step (model_system source).scope.enumerations (length (model_system source).variables)) (steps_in source states labels)
-
--- ---- along the states
-
--- the first label, or the last one of all where none is left
-abbrev pub next_or : List Given → List (List Given) → List Given
-next_or last [] = last
-next_or last (l ∷ labels) = l
-
--- whatever model the flat form is of, all values are of the declared types
-pub record AreFitting (flat : FlatParts) (ss ls : List (List Given)) : Type 0 where
-  pub states : AllByRecursion (λ s. StateFits flat (given s)) ss
-  pub labels : AllByRecursion (λ l. LabelFits flat (given l)) ls

@@ -1,11 +1,29 @@
-use Rattle.std.proofs.Common.{◌∙◌, sym}
+use Rattle.std.proofs.Common.{◌<◌, ◌^◌, List, map, refl, sym, ap, ◌∙◌, subst}
+use Rattle.std.proofs.lemmas.List.{append-nil}
+use Rattle.btor_witness.specs.declared.witness.Frame.{Frame}
+use Rattle.btor_witness.specs.declared.witness.Witness.{Witness}
+use Rattle.smv_items.specs.FlatItems.{PlainFlatItem}
+use Rattle.smv_items.specs.FlatItemView.{item_plain}
 use Rattle.smv_flatten.specs.FlatModel.{flat_plain}
-use Rattle.trace_lower.proofs.States.{form_is_flat, run_judged}
+use Rattle.trace_lower.specs.Stating.{variable_count}
+use Rattle.trace_lower.proofs.States.{few_items, form_is_flat, symbols_fresh, taken_are}
 use Rattle.trace_lower.proofs.lower.lower_flat.Goals as goal
 
-pub judge_flat-requires-clause-model : goal.judge_flat-requires-clause-model
-judge_flat-requires-clause-model c = (c.requires.model.0, form_is_flat c.requires.model.0 c.args.flat.now c.requires.model.1)
+pub of-requires : goal.of-requires
+of-requires c = symbols_fresh c.args.flat.now c.requires.model.0 c.requires.model.1 c.symbols_differ.ensures
 
-pub lower_run-requires-clause-run : goal.lower_run-requires-clause-run
-lower_run-requires-clause-run c =
-    run_judged c.yes_is_run.ensures (flat_plain c.args.flat.now) c.args.j c.args.run.now.states c.args.run.now.labels (λ source m. sym c.in-Yes.is ∙ c.in_ok-judge_flat.ensures source m)
+pub judge_rows-requires-clause-model : goal.judge_rows-requires-clause-model
+judge_rows-requires-clause-model c = (c.requires.model.0, form_is_flat c.requires.model.0 c.args.flat.now c.requires.model.1)
+
+pub judge_rows-requires-clause-none : goal.judge_rows-requires-clause-none
+judge_rows-requires-clause-none c =
+    let m = c.requires.model in
+    let same = ap (map item_plain) (c.as_slice.ensures ∙ c.items.ensures) in
+    (subst (λ (ms : List PlainFlatItem). variable_count ms < 2 ^ 32) (sym same) (few_items m.0 (flat_plain c.args.flat.now) (form_is_flat m.0 c.args.flat.now m.1)), refl, refl, sym (append-nil c.in_ok-frames.frames))
+
+pub returns-in-Yes-clause-lowered : goal.returns-in-Yes-clause-lowered
+returns-in-Yes-clause-lowered c = λ source m.
+    let h = c.in_ok-judge_rows.ensures.taken c.in-Yes.is in
+    ap (λ (fs : List Frame). let w : Witness = record { bad = c.args.j; frames = fs } in w)
+    (taken_are source c.args.flat.now c.in_ok-coder.coder c.args.run.now.states c.args.run.now.labels c.in_ok-frames.frames c.judge_rows.new.taker.frames m c.in_ok-coder.ensures.width c.in_ok-coder.ensures.symbols
+    (map item_plain c.as_slice.result.now) (ap (map item_plain) (c.as_slice.ensures ∙ c.items.ensures)) h.rows c.in_ok-frames.ensures h.taken.3 h.are)
